@@ -1,0 +1,8 @@
+//! The forms of TCP segments.
+#![tactic(auto)]
+
+pub mod seq_number;
+pub mod tcp;
+
+pub use seq_number::TcpSeqNumber;
+pub use tcp::{TcpControl, TcpRepr, TcpTimestampGenerator, TcpTimestampRepr};

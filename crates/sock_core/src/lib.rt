@@ -1,0 +1,2 @@
+//! What the sockets share: the context of a call, sequence number order, poll moments.
+#![tactic(auto)]
