@@ -5,6 +5,8 @@ use Rattle.ip_wire.specs.declared.address.IpAddress.TheVariants as address
 use Rattle.ip_wire.specs.declared.address.Ipv4Address.{Ipv4Address}
 use Rattle.ip_wire.specs.declared.address.Ipv6Address.{Ipv6Address}
 use Rattle.ip_wire.specs.declared.protocol.IpProtocol.{IpProtocol}
+use Rattle.ip_wire.specs.declared.protocol.IpVersion.{IpVersion}
+use Rattle.ip_wire.specs.declared.protocol.IpVersion.TheVariants as version
 use Rattle.ip_wire.specs.declared.repr.Ipv4Repr.{Ipv4Repr}
 use Rattle.ip_wire.specs.declared.repr.Ipv6Repr.{Ipv6Repr}
 use Rattle.ip_wire.specs.declared.repr.IpRepr.{IpRepr}
@@ -34,3 +36,25 @@ dst_addr_of (header.Ipv6 h) = address.Ipv6 h.dst_addr
 abbrev pub payload_len_of : IpRepr → ℕ
 payload_len_of (header.Ipv4 h) = h.payload_len
 payload_len_of (header.Ipv6 h) = h.payload_len
+
+abbrev pub next_header_of : IpRepr → IpProtocol
+next_header_of (header.Ipv4 h) = h.next_header
+next_header_of (header.Ipv6 h) = h.next_header
+
+abbrev pub hop_limit_of : IpRepr → ℕ
+hop_limit_of (header.Ipv4 h) = h.hop_limit
+hop_limit_of (header.Ipv6 h) = h.hop_limit
+
+-- the version of a header
+abbrev pub header_version : IpRepr → IpVersion
+header_version (header.Ipv4 h) = version.Ipv4
+header_version (header.Ipv6 h) = version.Ipv6
+
+-- a header's octets, without options (RFC 791, section 3.1; RFC 8200, section 3)
+abbrev pub header_len_of : IpRepr → ℕ
+header_len_of (header.Ipv4 h) = 20
+header_len_of (header.Ipv6 h) = 40
+
+abbrev pub with_payload_len : IpRepr → ℕ → IpRepr
+with_payload_len (header.Ipv4 h) len = header.Ipv4 (record h { payload_len = len })
+with_payload_len (header.Ipv6 h) len = header.Ipv6 (record h { payload_len = len })

@@ -1,2 +1,5 @@
 pub mod Address
+pub mod Checksum
+pub mod Endpoint
 pub mod IpHeader
+pub mod Protocol

@@ -1,4 +1,15 @@
 // Addresses of the two versions of IP.
+ghost use Rattle.std.specs.Prelude.{◌≡◌};
+ghost use Rattle.ip_wire.specs.Address.{
+  all_zero,
+  is_multicast,
+  is_multicast_v4,
+  is_multicast_v6,
+  is_unspecified,
+  version_of,
+};
+
+use crate::protocol::IpVersion;
 
 /// An IPv4 address, its four octets in network order (RFC 791).
 #[derive(Debug, Clone, Copy, PartialEq, Eq, PartialOrd, Ord)]
@@ -13,4 +24,68 @@ pub struct Ipv6Address(pub [u8; 16]);
 pub enum IpAddress {
     Ipv4(Ipv4Address),
     Ipv6(Ipv6Address),
+}
+
+impl Ipv4Address {
+    /// Whether all octets are zero.
+    pub fn is_unspecified(&self) -> bool
+        ensures { result ≡ all_zero self.now.0 }
+    {
+        self.0.iter().all(|octet| *octet == 0)
+    }
+
+    /// Whether the first octet is 224 to 239 (RFC 1112, section 4).
+    pub fn is_multicast(&self) -> bool
+        ensures { result ≡ is_multicast_v4 self.now.0 }
+    {
+        224 <= self.0[0] && self.0[0] <= 239
+    }
+}
+
+impl Ipv6Address {
+    /// Whether all octets are zero.
+    pub fn is_unspecified(&self) -> bool
+        ensures { result ≡ all_zero self.now.0 }
+    {
+        self.0.iter().all(|octet| *octet == 0)
+    }
+
+    /// Whether the first octet is 255 (RFC 4291, section 2.7).
+    pub fn is_multicast(&self) -> bool
+        ensures { result ≡ is_multicast_v6 self.now.0 }
+    {
+        self.0[0] == 255
+    }
+}
+
+impl IpAddress {
+    /// The version of IP that the address belongs to.
+    pub fn version(&self) -> IpVersion
+        ensures { result ≡ version_of self.now }
+    {
+        match self {
+            IpAddress::Ipv4(_) => IpVersion::Ipv4,
+            IpAddress::Ipv6(_) => IpVersion::Ipv6,
+        }
+    }
+
+    /// Whether all octets are zero.
+    pub fn is_unspecified(&self) -> bool
+        ensures { result ≡ is_unspecified self.now }
+    {
+        match self {
+            IpAddress::Ipv4(address) => address.is_unspecified(),
+            IpAddress::Ipv6(address) => address.is_unspecified(),
+        }
+    }
+
+    /// Whether the address stands for a group of hosts.
+    pub fn is_multicast(&self) -> bool
+        ensures { result ≡ is_multicast self.now }
+    {
+        match self {
+            IpAddress::Ipv4(address) => address.is_multicast(),
+            IpAddress::Ipv6(address) => address.is_multicast(),
+        }
+    }
 }

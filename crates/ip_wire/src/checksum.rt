@@ -1,4 +1,7 @@
 // Which checksums are computed and tested here, and which by the device.
+ghost use Rattle.std.specs.Prelude.{◌≡◌};
+ghost use Rattle.ip_wire.specs.Checksum.{all_checksums, is_received, is_sent};
+ghost use Rattle.ip_wire.specs.declared.checksum.Checksum.TheVariants.{Both};
 
 /// Whether a checksum is tested on receipt, computed before sending, both or neither.
 #[derive(Debug, Clone, Copy, PartialEq, Eq)]
@@ -9,6 +12,28 @@ pub enum Checksum {
     None,
 }
 
+impl Checksum {
+    /// Whether the checksum is tested on receipt.
+    pub fn rx(&self) -> bool
+        ensures { result ≡ is_received self.now }
+    {
+        match self {
+            Checksum::Both | Checksum::Rx => true,
+            Checksum::Tx | Checksum::None => false,
+        }
+    }
+
+    /// Whether the checksum is computed before sending.
+    pub fn tx(&self) -> bool
+        ensures { result ≡ is_sent self.now }
+    {
+        match self {
+            Checksum::Both | Checksum::Tx => true,
+            Checksum::Rx | Checksum::None => false,
+        }
+    }
+}
+
 /// What is done for the checksum of each protocol.
 #[derive(Debug, Clone, Copy, PartialEq, Eq)]
 pub struct ChecksumCapabilities {
@@ -17,4 +42,34 @@ pub struct ChecksumCapabilities {
     pub tcp: Checksum,
     pub icmpv4: Checksum,
     pub icmpv6: Checksum,
+}
+
+impl ChecksumCapabilities {
+    /// No checksum is tested or computed.
+    pub fn ignored() -> ChecksumCapabilities
+        ensures { result ≡ all_checksums Checksum.None }
+    {
+        ChecksumCapabilities {
+            ipv4: Checksum::None,
+            udp: Checksum::None,
+            tcp: Checksum::None,
+            icmpv4: Checksum::None,
+            icmpv6: Checksum::None,
+        }
+    }
+}
+
+impl Default for ChecksumCapabilities {
+    ghost is_default = { λ caps. caps ≡ all_checksums Both };
+
+    /// Every checksum is tested and computed.
+    fn default() -> ChecksumCapabilities {
+        ChecksumCapabilities {
+            ipv4: Checksum::Both,
+            udp: Checksum::Both,
+            tcp: Checksum::Both,
+            icmpv4: Checksum::Both,
+            icmpv6: Checksum::Both,
+        }
+    }
 }

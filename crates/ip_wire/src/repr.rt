@@ -1,6 +1,20 @@
 // The headers of IPv4 and IPv6 as values.
-use crate::address::{Ipv4Address, Ipv6Address};
-use crate::protocol::IpProtocol;
+ghost use Rattle.std.specs.Prelude.{◌≡◌};
+ghost use Rattle.ip_wire.specs.Address.{SameVersion};
+ghost use Rattle.ip_wire.specs.IpHeader.{
+  dst_addr_of,
+  header_len_of,
+  header_version,
+  hop_limit_of,
+  ip_header,
+  next_header_of,
+  payload_len_of,
+  src_addr_of,
+  with_payload_len,
+};
+
+use crate::address::{IpAddress, Ipv4Address, Ipv6Address};
+use crate::protocol::{IpProtocol, IpVersion};
 
 /// An IPv4 header without options (RFC 791, section 3.1).
 #[derive(Debug, Clone, Copy, PartialEq, Eq)]
@@ -27,4 +41,116 @@ pub struct Ipv6Repr {
 pub enum IpRepr {
     Ipv4(Ipv4Repr),
     Ipv6(Ipv6Repr),
+}
+
+impl IpRepr {
+    /// The header of a packet between two addresses of one version.
+    pub fn new(
+        src_addr: IpAddress,
+        dst_addr: IpAddress,
+        next_header: IpProtocol,
+        payload_len: usize,
+        hop_limit: u8,
+    ) -> IpRepr
+        requires { SameVersion src_addr dst_addr }
+        ensures { result ≡ ip_header src_addr dst_addr next_header payload_len hop_limit }
+    {
+        match (src_addr, dst_addr) {
+            (IpAddress::Ipv4(src_addr), IpAddress::Ipv4(dst_addr)) => IpRepr::Ipv4(Ipv4Repr {
+                src_addr,
+                dst_addr,
+                next_header,
+                payload_len,
+                hop_limit,
+            }),
+            (IpAddress::Ipv6(src_addr), IpAddress::Ipv6(dst_addr)) => IpRepr::Ipv6(Ipv6Repr {
+                src_addr,
+                dst_addr,
+                next_header,
+                payload_len,
+                hop_limit,
+            }),
+            _ => unreachable!(),
+        }
+    }
+
+    /// The version of IP.
+    pub fn version(&self) -> IpVersion
+        ensures { result ≡ header_version self.now }
+    {
+        match self {
+            IpRepr::Ipv4(_) => IpVersion::Ipv4,
+            IpRepr::Ipv6(_) => IpVersion::Ipv6,
+        }
+    }
+
+    /// The address that the packet comes from.
+    pub fn src_addr(&self) -> IpAddress
+        ensures { result ≡ src_addr_of self.now }
+    {
+        match self {
+            IpRepr::Ipv4(repr) => IpAddress::Ipv4(repr.src_addr),
+            IpRepr::Ipv6(repr) => IpAddress::Ipv6(repr.src_addr),
+        }
+    }
+
+    /// The address that the packet goes to.
+    pub fn dst_addr(&self) -> IpAddress
+        ensures { result ≡ dst_addr_of self.now }
+    {
+        match self {
+            IpRepr::Ipv4(repr) => IpAddress::Ipv4(repr.dst_addr),
+            IpRepr::Ipv6(repr) => IpAddress::Ipv6(repr.dst_addr),
+        }
+    }
+
+    /// The protocol of the payload.
+    pub fn next_header(&self) -> IpProtocol
+        ensures { result ≡ next_header_of self.now }
+    {
+        match self {
+            IpRepr::Ipv4(repr) => repr.next_header,
+            IpRepr::Ipv6(repr) => repr.next_header,
+        }
+    }
+
+    /// How many bytes the payload has.
+    pub fn payload_len(&self) -> usize
+        ensures { result ≡ payload_len_of self.now }
+    {
+        match self {
+            IpRepr::Ipv4(repr) => repr.payload_len,
+            IpRepr::Ipv6(repr) => repr.payload_len,
+        }
+    }
+
+    /// Sets how many bytes the payload has.
+    pub fn set_payload_len(&mut self, length: usize)
+        ensures { self.new ≡ with_payload_len self.old length }
+    {
+        match self {
+            IpRepr::Ipv4(repr) => repr.payload_len = length,
+            IpRepr::Ipv6(repr) => repr.payload_len = length,
+        }
+    }
+
+    /// How many routers the packet may still pass.
+    pub fn hop_limit(&self) -> u8
+        ensures { result ≡ hop_limit_of self.now }
+    {
+        match self {
+            IpRepr::Ipv4(repr) => repr.hop_limit,
+            IpRepr::Ipv6(repr) => repr.hop_limit,
+        }
+    }
+
+    /// How many bytes the header takes: 20 for IPv4, 40 for IPv6.
+    pub fn header_len(&self) -> usize
+        ensures { result ≡ header_len_of self.now }
+    {
+        match self {
+            IpRepr::Ipv4(_) => 20,
+            IpRepr::Ipv6(_) => 40,
+        }
+    }
 }
