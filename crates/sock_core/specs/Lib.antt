@@ -1,0 +1,4 @@
+pub mod Places
+pub mod Seq
+pub mod Bounds
+pub mod Facts

@@ -1,2 +1,7 @@
-//! What the sockets share: the context of a call, sequence number order, poll moments.
+//! What the sockets share: the context of a call, the order of sequence numbers, poll moments.
 #![tactic(auto)]
+
+pub mod context;
+pub mod seq;
+
+pub use context::{Context, PollAt};

@@ -1,0 +1,313 @@
+//! A queue over a lent slice, which goes around its end. As smoltcp's ring buffer.
+ghost use Rattle.std.specs.Prelude.{◌≡◌, ℕ, ◌+◌, ◌-◌, ◌<◌, ◌≤◌, ◌==◌, ◌⊎◌, List, [], ◌∷◌, ◌++◌, length, take, drop, min};
+ghost use Rattle.std.specs.Fn.{FnOnceReturnsAtMut, FnOnceReturnsAt};
+ghost use Rattle.net_base.specs.Ring.{ring, capacity_of, overwrite, cells_from, Restarted, Appends, Clears, DequeuesWith, EnqueuesWith, LeavesRun};
+
+use std::marker::Model;
+
+/// A queue of items in a lent slice. The places behind the queue are spare: they can be written before they join it.
+///
+/// The queue begins at a place of the slice and goes around its end, so what is lent in one piece may be shorter than
+/// what is there: each call says what it lends at least.
+#[derive(Debug, Drop)]
+pub struct RingBuffer<'a, T> {
+    storage: &'a mut [T],
+    read_at: usize,
+    length: usize,
+}
+
+impl<'a, T> Model for RingBuffer<'a, T> {
+    ghost use Rattle.std.specs.Prelude.{◌≤◌, length as length_of};
+    ghost use Rattle.net_base.specs.Ring.{Ring, ring_code, ring_of};
+
+    ghost Value = { Ring T };
+
+    ghost coded = { ring_code T.code };
+
+    ghost view = { λ r. ring_of r.read_at r.length r.storage.now };
+
+    ghost invariant = { λ r. (r.read_at ≤ length_of r.storage.now) × (r.length ≤ length_of r.storage.now) };
+}
+
+impl<'a, T: Copy> RingBuffer<'a, T> {
+    /// An empty queue, all of whose places are spare and hold what stood in `storage`.
+    pub fn new(storage: &'a mut [T]) -> Self
+        ensures { result ≡ ring [] storage.old }
+    {
+        RingBuffer {
+            storage,
+            read_at: 0,
+            length: 0,
+        }
+    }
+
+    /// How many items the queue can hold.
+    pub fn capacity(&self) -> usize
+        ensures { result ≡ capacity_of self.now }
+    {
+        self.storage.len()
+    }
+
+    /// How many items the queue holds.
+    pub fn len(&self) -> usize
+        ensures { result ≡ length self.now.queue }
+    {
+        self.length
+    }
+
+    /// Whether the queue holds no item.
+    pub fn is_empty(&self) -> bool
+        ensures { result ≡ (length self.now.queue == 0) }
+    {
+        self.length == 0
+    }
+
+    /// Whether no place is spare.
+    pub fn is_full(&self) -> bool
+        ensures { result ≡ (length self.now.spare == 0) }
+    {
+        self.length == self.storage.len()
+    }
+
+    /// How many places are spare: the capacity less the queue's length.
+    pub fn window(&self) -> usize
+        ensures { result ≡ length self.now.spare }
+    {
+        self.storage.len() - self.length
+    }
+
+    /// Empties the queue. It starts anew at the slice's first place.
+    pub fn clear(&mut self)
+        ensures { Clears self.old self.new }
+    {
+        self.read_at = 0;
+        self.length = 0;
+    }
+
+    /// Appends the longest beginning of `items` that fits, and answers its length.
+    pub fn enqueue_slice(&mut self, items: &[T]) -> usize
+        ensures count { result ≡ min (length items.now) (length self.old.spare) }
+        ensures after { Appends (take result items.now) self.old self.new }
+    {
+        self.restart_if_empty();
+        let count = items.len().min(self.storage.len() - self.length);
+        self.write_behind(&items[..count]);
+        count
+    }
+
+    /// Lends `f` a slice of the places behind the queue, which is empty only where none is spare. `f` answers how many items it wrote at the beginning of the slice, and these join the queue; its answer is passed on.
+    pub fn enqueue_many_with<R, F: FnOnce(&mut [T]) -> (usize, R)>(&mut self, f: F) -> (usize, R)
+        requires callable { F.IsAlwaysCallable f }
+        requires sized { (s : List T) (r : _) (s' : List T) → FnOnceReturnsAtMut F.FnOnce f s r s' → r.0 ≤ length s }
+        ensures { EnqueuesWith (FnOnceReturnsAtMut F.FnOnce f) self.old result self.new }
+    {
+        self.restart_if_empty();
+        let from = place(self.storage.len(), self.read_at, self.length);
+        let count = (self.storage.len() - self.length).min(self.storage.len() - from);
+        let (size, outcome) = lend(self.storage, from, count, f);
+        self.length += size;
+        (size, outcome)
+    }
+
+    /// Moves the first items into the beginning of `out`, as many as there are and fit, and answers their count. The rest of `out` stays as it was.
+    pub fn dequeue_slice(&mut self, out: &mut [T]) -> usize
+        ensures count { result ≡ min (length out.old) (length self.old.queue) }
+        ensures read { out.new ≡ take result self.old.queue ++ drop result out.old }
+        ensures after { self.new ≡ ring (drop result self.old.queue) (self.old.spare ++ take result self.old.queue) }
+    {
+        let count = self.read_allocated(0, out);
+        self.dequeue_allocated(count);
+        count
+    }
+
+    /// Lends `f` a beginning of the queue, which is empty only where the queue is. `f` answers how many of these items to remove; its answer is passed on.
+    pub fn dequeue_many_with<R, F: FnOnce(&[T]) -> (usize, R)>(&mut self, f: F) -> (usize, R)
+        requires callable { F.IsAlwaysCallable f }
+        requires sized { (s : List T) (r : _) → FnOnceReturnsAt F.FnOnce f s r → r.0 ≤ length s }
+        ensures { DequeuesWith (FnOnceReturnsAt F.FnOnce f) self.old result self.new }
+    {
+        let len = self.length;
+        let lent = self.get_allocated(0, len);
+        let (size, outcome) = show(lent, f);
+        self.dequeue_allocated(size);
+        (size, outcome)
+    }
+
+    /// The queue from `offset` on, as far as it stands in one piece, at most `count` items. Empty only where `count` is 0, or no item stands at `offset`.
+    pub fn get_allocated(&self, offset: usize, count: usize) -> &[T]
+        ensures beginning { result.now ≡ take (length result.now) (drop offset self.now.queue) }
+        ensures at_most { length result.now ≤ count }
+        ensures empty { length result.now ≡ 0 → (count ≡ 0) ⊎ (length self.now.queue ≤ offset) }
+    {
+        if self.length <= offset {
+            return &[];
+        }
+        let from = place(self.storage.len(), self.read_at, offset);
+        let count = count
+            .min(self.length - offset)
+            .min(self.storage.len() - from);
+        &self.storage[from..from + count]
+    }
+
+    /// Copies items from `offset` on into the beginning of `out`, as many as there are and fit, and answers their count. The rest of `out` stays as it was.
+    pub fn read_allocated(&self, offset: usize, out: &mut [T]) -> usize
+        ensures count { result ≡ min (length out.old) (length self.now.queue - offset) }
+        ensures read { out.new ≡ take result (drop offset self.now.queue) ++ drop result out.old }
+    {
+        if self.length <= offset {
+            return 0;
+        }
+        let count = out.len().min(self.length - offset);
+        read_cells(self.storage, self.read_at, offset, &mut out[..count]);
+        count
+    }
+
+    /// Removes the first `count` items, of which there are so many. Their places come behind the spare ones, which keep their offsets from the queue's end.
+    pub fn dequeue_allocated(&mut self, count: usize)
+        requires { count ≤ length self.old.queue }
+        ensures { self.new ≡ ring (drop count self.old.queue) (self.old.spare ++ take count self.old.queue) }
+    {
+        self.read_at = place(self.storage.len(), self.read_at, count);
+        self.length -= count;
+    }
+
+    /// Writes `items` to the spare places from `offset` on, counted from the queue's end, as far as these reach, and answers how many were written. The queue stays as it was.
+    pub fn write_unallocated(&mut self, offset: usize, items: &[T]) -> usize
+        ensures count { result ≡ min (length items.now) (length self.old.spare - offset) }
+        ensures after { self.new ≡ ring self.old.queue (overwrite self.old.spare offset (take result items.now)) }
+    {
+        let window = self.storage.len() - self.length;
+        if window <= offset {
+            return 0;
+        }
+        let count = items.len().min(window - offset);
+        write_cells(
+            self.storage,
+            self.read_at,
+            self.length + offset,
+            &items[..count],
+        );
+        count
+    }
+
+    /// The first `count` spare places, of which there are so many, join the queue with what stands in them. The offsets of the others fall by `count`.
+    pub fn enqueue_unallocated(&mut self, count: usize)
+        requires { count ≤ length self.old.spare }
+        ensures { self.new ≡ ring (self.old.queue ++ take count self.old.spare) (drop count self.old.spare) }
+    {
+        self.length += count;
+    }
+
+    // Appends one item.
+    pub(crate) fn enqueue_one(&mut self, item: T)
+        requires { 0 < length self.old.spare }
+        ensures { self.new ≡ ring (self.old.queue ++ item ∷ []) (drop 1 self.old.spare) }
+    {
+        let at = place(self.storage.len(), self.read_at, self.length);
+        self.storage[at] = item;
+        self.length += 1;
+    }
+
+    // The first item of a queue that is not empty.
+    pub(crate) fn front(&self) -> T
+        requires { 0 < length self.now.queue }
+        ensures { self.now.queue ≡ result ∷ drop 1 self.now.queue }
+    {
+        self.storage[place(self.storage.len(), self.read_at, 0)]
+    }
+
+    // An empty queue starts anew at the slice's first place, so that its items stand in one piece.
+    fn restart_if_empty(&mut self)
+        ensures { Restarted self.old self.new }
+    {
+        if self.length == 0 {
+            self.read_at = 0;
+        }
+    }
+
+    // Appends `items`, which fit.
+    fn write_behind(&mut self, items: &[T])
+        requires { length items.now ≤ length self.old.spare }
+        ensures { self.new ≡ ring (self.old.queue ++ items.now) (drop (length items.now) self.old.spare) }
+    {
+        write_cells(self.storage, self.read_at, self.length, items);
+        self.length += items.len();
+    }
+}
+
+// The place `offset` places on from `at`, around the end.
+pub(crate) fn place(capacity: usize, at: usize, offset: usize) -> usize
+    requires at_within { at ≤ capacity }
+    requires offset_within { offset ≤ capacity }
+    ensures within { result ≤ capacity }
+    ensures low { at + offset < capacity → result ≡ at + offset }
+    ensures high { capacity ≤ at + offset → result + capacity ≡ at + offset }
+{
+    let run = capacity - at;
+    if offset < run {
+        at + offset
+    } else {
+        offset - run
+    }
+}
+
+// Writes `items` over the places from `offset` on, counted from `at`.
+fn write_cells<T: Copy>(places: &mut [T], at: usize, offset: usize, items: &[T])
+    requires at_within { at ≤ length places.old }
+    requires fits { offset + length items.now ≤ length places.old }
+    ensures { cells_from at places.new ≡ overwrite (cells_from at places.old) offset items.now }
+{
+    let from = place(places.len(), at, offset);
+    let run = places.len() - from;
+    if items.len() <= run {
+        places[from..from + items.len()].copy_from_slice(items);
+    } else {
+        let (front, back) = items.split_at(run);
+        places[from..].copy_from_slice(front);
+        places[..back.len()].copy_from_slice(back);
+    }
+}
+
+// Copies the places from `offset` on, counted from `at`, into `out`.
+fn read_cells<T: Copy>(places: &[T], at: usize, offset: usize, out: &mut [T])
+    requires at_within { at ≤ length places.now }
+    requires fits { offset + length out.old ≤ length places.now }
+    ensures { out.new ≡ take (length out.old) (drop offset (cells_from at places.now)) }
+{
+    let from = place(places.len(), at, offset);
+    let run = places.len() - from;
+    let count = out.len();
+    if count <= run {
+        out.copy_from_slice(&places[from..from + count]);
+    } else {
+        let (front, back) = out.split_at_mut(run);
+        front.copy_from_slice(&places[from..]);
+        back.copy_from_slice(&places[..count - run]);
+    }
+}
+
+// Lends `count` places from `from` on.
+pub(crate) fn lend<T, R, F: FnOnce(&mut [T]) -> (usize, R)>(
+    places: &mut [T],
+    from: usize,
+    count: usize,
+    f: F,
+) -> (usize, R)
+    requires fits { from + count ≤ length places.old }
+    requires callable { F.IsAlwaysCallable f }
+    requires sized { (s : List T) (r : _) (s' : List T) → FnOnceReturnsAtMut F.FnOnce f s r s' → r.0 ≤ length s }
+    ensures size { result.0 ≤ count }
+    ensures left { LeavesRun (FnOnceReturnsAtMut F.FnOnce f) places.old from count result places.new }
+{
+    f(&mut places[from..from + count])
+}
+
+// Lends all of `places` for reading.
+fn show<T, R, F: FnOnce(&[T]) -> (usize, R)>(places: &[T], f: F) -> (usize, R)
+    requires callable { F.IsAlwaysCallable f }
+    requires sized { (s : List T) (r : _) → FnOnceReturnsAt F.FnOnce f s r → r.0 ≤ length s }
+    ensures size { result.0 ≤ length places.now }
+    ensures met { FnOnceReturnsAt F.FnOnce f places.now result }
+{
+    f(places)
+}
