@@ -1,5 +1,5 @@
 -- TCP segments by value, their payload as a list.
-use Rattle.std.specs.Prelude.{ℕ, ◌+◌, List, length, Option, Bool}
+use Rattle.std.specs.Prelude.{ℕ, ◌+◌, ◌*◌, ◌/◌, List, length, Option, Bool, true, false, is_some, if◌then◌else◌, ◌==◌, ◌&&◌, count_by}
 use Rattle.control_wire.specs.declared.seq_number.TcpSeqNumber.{TcpSeqNumber}
 use Rattle.control_wire.specs.declared.tcp.TcpControl.{TcpControl}
 use Rattle.control_wire.specs.declared.tcp.TcpControl.TheVariants as control
@@ -46,3 +46,33 @@ control_len _ = 0
 -- SEG.LEN: how much of the sequence space a segment takes
 abbrev pub segment_len : Segment → ℕ
 segment_len s = length s.payload + control_len s.control
+
+-- control None or PSH: neither a number of the sequence space nor a reset
+abbrev pub is_plain : TcpControl → Bool
+is_plain control.None = true
+is_plain control.Psh = true
+is_plain _ = false
+
+-- no payload, and nothing asked for
+abbrev pub is_empty_segment : Segment → Bool
+is_empty_segment s = (length s.payload == 0) && is_plain s.control
+
+-- the control without PSH
+abbrev pub without_psh : TcpControl → TcpControl
+without_psh control.Psh = control.None
+without_psh c = c
+
+-- a SACK option has 2 octets and 8 for each range; without ranges there is none (RFC 2018, section 3)
+abbrev pub sack_option_len : ℕ → ℕ
+sack_option_len ranges = if ranges == 0 then 0 else 2 + 8 * ranges
+
+-- the octets of a segment's options (RFC 9293, section 3.2; RFC 7323, sections 2.2 and 3.2; RFC 2018, sections 2 and 3)
+abbrev pub options_len : Segment → ℕ
+options_len s =
+    (if is_some s.max_seg_size then 4 else 0) + (if is_some s.window_scale then 3 else 0)
+    + (if s.sack_permitted then 2 else 0) + (if is_some s.timestamp then 10 else 0)
+    + sack_option_len (count_by is_some s.sack_ranges)
+
+-- a header takes 20 octets and its options, up to a multiple of 4
+abbrev pub segment_header_len : Segment → ℕ
+segment_header_len s = (20 + options_len s + 3) / 4 * 4

@@ -6,3 +6,6 @@ pub mod tcp;
 
 pub use seq_number::TcpSeqNumber;
 pub use tcp::{TcpControl, TcpRepr, TcpTimestampGenerator, TcpTimestampRepr};
+
+#[cfg(test)]
+mod tests;

@@ -1,4 +1,18 @@
 // TCP segments as values.
+ghost use Rattle.std.specs.Prelude.{◌≡◌, ◌+◌, ◌≤◌, None, IsSomeAnd, MatchOption, is_some, count_by, length};
+ghost use Rattle.std.specs.Option.{ForSome};
+ghost use Rattle.control_wire.specs.Segment.{
+  control_len,
+  is_empty_segment,
+  is_plain,
+  options_len,
+  sack_option_len,
+  segment_header_len,
+  segment_len,
+  segment_of,
+  without_psh,
+};
+
 use crate::seq_number::TcpSeqNumber;
 
 /// What a segment's control bits ask for: nothing, PSH, SYN, FIN or RST (RFC 9293, section 3.1).
@@ -11,11 +25,68 @@ pub enum TcpControl {
     Rst,
 }
 
+impl TcpControl {
+    /// The same control, but nothing in place of PSH.
+    pub fn quash_psh(self) -> TcpControl
+        ensures { result ≡ without_psh self }
+    {
+        match self {
+            TcpControl::Psh => TcpControl::None,
+            _ => self,
+        }
+    }
+
+    // How many numbers of the sequence space it takes.
+    fn len(self) -> usize
+        ensures { result ≡ control_len self }
+    {
+        match self {
+            TcpControl::Syn | TcpControl::Fin => 1,
+            _ => 0,
+        }
+    }
+
+    fn is_plain(self) -> bool
+        ensures { result ≡ is_plain self }
+    {
+        match self {
+            TcpControl::None | TcpControl::Psh => true,
+            _ => false,
+        }
+    }
+}
+
 /// The timestamp option (RFC 7323, section 3.2).
 #[derive(Debug, Clone, Copy, PartialEq, Eq)]
 pub struct TcpTimestampRepr {
     pub tsval: u32,
     pub tsecr: u32,
+}
+
+impl TcpTimestampRepr {
+    /// The option with these two values.
+    pub fn new(tsval: u32, tsecr: u32) -> TcpTimestampRepr
+        ensures value { result.tsval ≡ tsval }
+        ensures echo { result.tsecr ≡ tsecr }
+    {
+        TcpTimestampRepr { tsval, tsecr }
+    }
+
+    /// The option that answers this one: the generator's value, and the echo of the value that came.
+    ///
+    /// None where there is no generator.
+    pub fn generate_reply(
+        &self,
+        generator: Option<TcpTimestampGenerator>,
+    ) -> Option<TcpTimestampRepr>
+        requires { MatchOption generator (Unit {0}) (λ g. IsAlwaysCallable g) }
+        ensures { MatchOption generator (result ≡ None) (λ g. IsSomeAnd result (λ t. post g t.tsval × (t.tsecr ≡ self.now.tsval))) }
+    {
+        match generator {
+            None => None,
+            Some(generator) => Some(TcpTimestampRepr::new(generator(), self.tsval)),
+        }
+    }
 }
 
 /// Answers the value of the timestamp clock.
@@ -36,4 +107,67 @@ pub struct TcpRepr<'a> {
     pub sack_ranges: [Option<(u32, u32)>; 3],
     pub timestamp: Option<TcpTimestampRepr>,
     pub payload: &'a [u8],
+}
+
+impl TcpRepr<'_> {
+    /// How many bytes the header takes with its options, a multiple of 4 (RFC 9293, section 3.1).
+    pub fn header_len(&self) -> usize
+        ensures { result ≡ segment_header_len (segment_of self.now) }
+    {
+        self.unpadded_len().div_ceil(4) * 4
+    }
+
+    /// How many bytes the segment takes with its payload.
+    pub fn buffer_len(&self) -> usize
+        ensures { result ≡ segment_header_len (segment_of self.now) + length self.now.payload.now }
+    {
+        self.header_len() + self.payload.len()
+    }
+
+    /// How many numbers of the sequence space the segment takes: its payload, and one for SYN or FIN (RFC 9293, section 3.4).
+    pub fn segment_len(&self) -> usize
+        ensures { result ≡ segment_len (segment_of self.now) }
+    {
+        self.payload.len() + self.control.len()
+    }
+
+    /// Whether the segment has no payload, and no control but PSH.
+    pub fn is_empty(&self) -> bool
+        ensures { result ≡ is_empty_segment (segment_of self.now) }
+    {
+        self.payload.is_empty() && self.control.is_plain()
+    }
+
+    // The header and its options, before padding.
+    fn unpadded_len(&self) -> usize
+        ensures value { result ≡ 20 + options_len (segment_of self.now) }
+        ensures small { result ≤ 65 }
+    {
+        let mut length = 20 + self.sack_len();
+        if self.max_seg_size.is_some() {
+            length += 4;
+        }
+        if self.window_scale.is_some() {
+            length += 3;
+        }
+        if self.sack_permitted {
+            length += 2;
+        }
+        if self.timestamp.is_some() {
+            length += 10;
+        }
+        length
+    }
+
+    fn sack_len(&self) -> usize
+        ensures value { result ≡ sack_option_len (count_by is_some self.now.sack_ranges) }
+        ensures small { result ≤ 26 }
+    {
+        let ranges = self
+            .sack_ranges
+            .iter()
+            .filter(|range| range.is_some())
+            .count();
+        if ranges == 0 { 0 } else { 2 + 8 * ranges }
+    }
 }

@@ -1,5 +1,5 @@
 -- IP headers of either version.
-use Rattle.std.specs.Prelude.{ℕ, ◌+◌}
+use Rattle.std.specs.Prelude.{ℕ}
 use Rattle.ip_wire.specs.declared.address.IpAddress.{IpAddress}
 use Rattle.ip_wire.specs.declared.address.IpAddress.TheVariants as address
 use Rattle.ip_wire.specs.declared.address.Ipv4Address.{Ipv4Address}
@@ -7,8 +7,6 @@ use Rattle.ip_wire.specs.declared.address.Ipv6Address.{Ipv6Address}
 use Rattle.ip_wire.specs.declared.protocol.IpProtocol.{IpProtocol}
 use Rattle.ip_wire.specs.declared.protocol.IpVersion.{IpVersion}
 use Rattle.ip_wire.specs.declared.protocol.IpVersion.TheVariants as version
-use Rattle.ip_wire.specs.declared.repr.Ipv4Repr.{Ipv4Repr}
-use Rattle.ip_wire.specs.declared.repr.Ipv6Repr.{Ipv6Repr}
 use Rattle.ip_wire.specs.declared.repr.IpRepr.{IpRepr}
 use Rattle.ip_wire.specs.declared.repr.IpRepr.TheVariants as header
 

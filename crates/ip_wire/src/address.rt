@@ -26,12 +26,18 @@ pub enum IpAddress {
     Ipv6(Ipv6Address),
 }
 
+fn all_zero(octets: &[u8]) -> bool
+    ensures { result ≡ all_zero octets.now }
+{
+    octets.iter().all(|octet| *octet == 0)
+}
+
 impl Ipv4Address {
     /// Whether all octets are zero.
     pub fn is_unspecified(&self) -> bool
         ensures { result ≡ all_zero self.now.0 }
     {
-        self.0.iter().all(|octet| *octet == 0)
+        all_zero(&self.0)
     }
 
     /// Whether the first octet is 224 to 239 (RFC 1112, section 4).
@@ -47,7 +53,7 @@ impl Ipv6Address {
     pub fn is_unspecified(&self) -> bool
         ensures { result ≡ all_zero self.now.0 }
     {
-        self.0.iter().all(|octet| *octet == 0)
+        all_zero(&self.0)
     }
 
     /// Whether the first octet is 255 (RFC 4291, section 2.7).
