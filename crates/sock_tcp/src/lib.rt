@@ -16,6 +16,8 @@ pub mod tuple;
 pub mod verdict;
 pub mod window;
 
+pub use control_block::ControlBlock;
 pub use error::{ConnectError, ListenError, RecvError, SendError};
+pub use process::Reply;
 pub use socket::{Socket, SocketBuffer};
 pub use state::State;

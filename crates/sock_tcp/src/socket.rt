@@ -15,35 +15,21 @@ use crate::control_block::ControlBlock;
 use crate::error::{ConnectError, ListenError, RecvError, SendError};
 use crate::process::Reply;
 use crate::state::State;
-use control_wire::{TcpRepr, TcpTimestampGenerator};
+use control_wire::TcpRepr;
 use ip_wire::{IpEndpoint, IpListenEndpoint, IpRepr};
 use net_base::ring_buffer::RingBuffer;
 use sock_core::Context;
-use std::fmt;
 
 /// A buffer of bytes to send or to receive.
 pub type SocketBuffer<'a> = RingBuffer<'a, u8>;
 
 /// A TCP socket (RFC 9293): one end of one connection at a time, over two lent buffers.
 ///
-/// Contracts speak of its transmission control block; the source of timestamps stands beside it, and no call sets or
-/// asks it yet.
-#[derive(Drop)]
+/// Contracts speak of its transmission control block, beside which the source of timestamps will stand: a function pointer
+/// cannot be part of the value that contracts see.
+#[derive(Debug, Drop)]
 pub struct Socket<'a> {
     pub(crate) control_block: ControlBlock<'a>,
-    pub(crate) tsval_generator: Option<TcpTimestampGenerator>,
-}
-
-// By hand, so that no address of a function is shown.
-impl<'a> fmt::Debug for Socket<'a> {
-    fn fmt<W: fmt::Write>(&self, f: &mut fmt::Formatter<W>) -> fmt::Result {
-        let control_block = &self.control_block;
-        let timestamps = self.tsval_generator.is_some();
-        write!(
-            f,
-            "Socket {{ control_block: {control_block:?}, timestamps: {timestamps} }}"
-        )
-    }
 }
 
 impl<'a> Socket<'a> {
@@ -52,11 +38,9 @@ impl<'a> Socket<'a> {
         requires rx { length rx_buffer.queue + length rx_buffer.spare ≤ 2 ^ 30 }
         requires tx { length tx_buffer.queue + length tx_buffer.spare ≤ 2 ^ 30 }
         ensures control_block { result.control_block ≡ fresh (queue_of rx_buffer.entry) (queue_of tx_buffer.entry) }
-        ensures generator { result.tsval_generator ≡ None }
     {
         Socket {
             control_block: ControlBlock::new(rx_buffer, tx_buffer),
-            tsval_generator: None,
         }
     }
 
@@ -100,7 +84,6 @@ impl<'a> Socket<'a> {
     /// on this very endpoint, for which nothing changes. A refusal changes nothing.
     pub fn listen(&mut self, local_endpoint: IpListenEndpoint) -> Result<(), ListenError>
         ensures table { Listens self.old.control_block local_endpoint result self.new.control_block }
-        ensures generator { self.new.tsval_generator ≡ self.old.tsval_generator }
     {
         self.control_block.listen(local_endpoint)
     }
@@ -120,7 +103,6 @@ impl<'a> Socket<'a> {
         ensures answer { result ≡ connect_answer (endpoints self.old.control_block (C.facts cx.old) remote_endpoint local_endpoint) }
         ensures view { self.new.control_block ≡ after_connect (endpoints self.old.control_block (C.facts cx.old) remote_endpoint local_endpoint) self.old.control_block (C.word_at cx.old 0) }
         ensures context { Draws (is_ok result) C.facts C.word_at cx.old cx.new }
-        ensures generator { self.new.tsval_generator ≡ self.old.tsval_generator }
     {
         self.control_block
             .connect(cx, remote_endpoint, local_endpoint)
@@ -199,7 +181,6 @@ impl<'a> Socket<'a> {
     pub fn send_slice(&mut self, data: &[u8]) -> Result<usize, SendError>
         ensures answer { result ≡ (if may_send self.old.control_block.state then Ok (min (length «data».now) self.old.control_block.tx_buffer.window) else Err SendError.InvalidState) }
         ensures view { self.new.control_block ≡ (if may_send self.old.control_block.state then written self.old.control_block «data».now else self.old.control_block) }
-        ensures generator { self.new.tsval_generator ≡ self.old.tsval_generator }
     {
         self.control_block.send_slice(data)
     }
@@ -212,7 +193,6 @@ impl<'a> Socket<'a> {
         ensures view { self.new.control_block ≡ (if may_recv self.old.control_block then read_off self.old.control_block (min (length «data».old) (length self.old.control_block.rx_buffer.bytes)) else self.old.control_block) }
         ensures read { IfOk result (λ n. «data».new ≡ take n self.old.control_block.rx_buffer.bytes ++ drop n «data».old) }
         ensures refused { OnErr result («data».new ≡ «data».old) }
-        ensures generator { self.new.tsval_generator ≡ self.old.tsval_generator }
     {
         self.control_block.recv_slice(data)
     }
@@ -251,7 +231,6 @@ impl<'a> Socket<'a> {
         requires { Accepts self.old.control_block ip_repr.now (segment_of repr.now) }
         ensures table { record { view = self.new.control_block; reply = option_map (λ r. (r.0, segment_of r.1)) result } ≡ processed self.old.control_block (record { micros = (C.facts cx.old).now }) (C.word_at cx.old 0) ip_repr.now (segment_of repr.now) }
         ensures context { Draws (draws (verdict_of self.old.control_block repr.now.control repr.now.ack_number) self.old.control_block.state repr.now.control) C.facts C.word_at cx.old cx.new }
-        ensures generator { self.new.tsval_generator ≡ self.old.tsval_generator }
     {
         self.control_block.process(cx, ip_repr, repr)
     }
@@ -267,7 +246,6 @@ impl<'a> Socket<'a> {
     ) -> Result<(), E>
         requires callable { F.IsAlwaysCallable emit }
         ensures table { Dispatched F.FnOnce emit (readied self.old.control_block (C.facts cx.old)) (C.facts cx.old) cx.old result cx.new self.new.control_block }
-        ensures generator { self.new.tsval_generator ≡ self.old.tsval_generator }
     {
         self.control_block.dispatch(cx, emit)
     }

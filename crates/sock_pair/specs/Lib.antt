@@ -1,0 +1,9 @@
+pub mod Sides
+pub mod Moments
+pub mod PairTexts
+pub mod PairViews
+pub mod Holding
+pub mod Recording
+pub mod PairCalls
+pub mod PairSteps
+pub mod PairInvariant

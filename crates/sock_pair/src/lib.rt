@@ -1,0 +1,18 @@
+//! Two TCP sockets and every segment that they emitted.
+#![tactic(auto)]
+
+pub mod event;
+mod host;
+pub mod moment;
+pub mod outcome;
+//pub mod pair;
+mod recorder;
+pub mod segment;
+pub mod side;
+
+pub use event::Event;
+pub use moment::Moment;
+pub use outcome::{Outcome, PairError};
+//pub use pair::{Pair, Setup, too_old};
+pub use segment::Segment;
+pub use side::Side;
