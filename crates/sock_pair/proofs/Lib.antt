@@ -1,0 +1,4 @@
+pub mod StreamGrowth
+pub mod StreamHearing
+pub mod StreamSending
+pub mod StreamAcking

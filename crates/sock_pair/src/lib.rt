@@ -1,0 +1,4 @@
+//! Two sockets and the streams between them.
+#![tactic(auto)]
+
+pub mod streams;
