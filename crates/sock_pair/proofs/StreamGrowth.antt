@@ -2,7 +2,7 @@
 use Rattle.std.proofs.Common.{◌≡◌, ℕ, zero, suc, ◌+◌, ◌-◌, ◌<◌, ◌≤◌, ◌⊎◌, Bool, true, false, refl, sym, ap, subst, ◌∙◌, arith, List, [], ◌∷◌, ◌++◌, length, Some, None, slice_get, inl, inr, ⊎_elim}
 use Rattle.std.proofs.lemmas.Bool.{cases_lt}
 use Rattle.sock_core.specs.Streams.{ByteAt, IsPrefix, fin_length}
-use Rattle.sock_core.proofs.Streams.{le_from_at, prefix_at, prefix_back, prefix_from_at, prefix_le}
+use Rattle.sock_core.proofs.Streams.{byte_within, le_from_at, prefix_at, prefix_back, prefix_from_at, prefix_le, prefix_self}
 use Rattle.sock_pair.specs.StreamModel.{Grows, IsSound, IsTrueAck, IsTruePayload, MayCome, PlacedPayload, Stream, counted}
 
 pub fin_length_le : (b : Bool) → fin_length b ≤ 1
@@ -72,3 +72,16 @@ piece_kept f g p m t = record {
 -- the two headline facts
 pub sound_front : (f : Stream) → IsSound f → IsPrefix f.joined f.accepted
 sound_front f s = prefix_from_at f.joined f.accepted s.joined
+
+-- a stream that nothing happens to
+pub stays : (f : Stream) → Grows f f
+stays f = record {
+  accepted = prefix_self f.accepted;
+  closed = λ e. (e, refl);
+  released = inl refl;
+  joined = prefix_self f.joined;
+  taken = λ j b past h. absurd (omega (arith, byte_within f.joined j b h));
+  held = λ j b past h. inl h;
+  fin = λ e. inl e;
+  finished = λ e. (e, refl);
+}
