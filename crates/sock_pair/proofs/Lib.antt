@@ -1,7 +1,8 @@
 pub mod StreamGrowth
 pub mod StreamHearing
 pub mod StreamSending
-pub mod StreamAcking
 pub mod StreamMatches
+pub mod StreamAcking
+pub mod StreamFallBack
 pub mod NetworkPhases
 pub mod NetworkChanges

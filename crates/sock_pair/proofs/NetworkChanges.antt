@@ -9,14 +9,14 @@ use Rattle.sock_pair.specs.StreamEffects.{AcksBytes, AcksFin, AcksSyn, HearsAck}
 use Rattle.sock_pair.specs.StreamModel.{Grows, Stream}
 use Rattle.sock_pair.specs.StreamViews.{Dead, HasIss, HasNoIss, IsNonSynchronized, KnowsPeer, Sending, SocketView, StreamSegment, SynSent}
 use Rattle.sock_pair.proofs.NetworkPhases.{dec_dead, no_iss_not_iss, no_iss_not_sending}
-use Rattle.sock_pair.proofs.StreamGrowth.{ack_kept, counted_le, piece_kept, sound_kept, stays}
+use Rattle.sock_pair.proofs.StreamGrowth.{ack_kept, counted_le, payload_kept, sound_kept, stays}
 use Rattle.sock_pair.proofs.StreamMatches.{SameReceived, SameSent, received_nothing_same, received_self, receiving_same, sending_same, sent_nothing_same, sent_self}
 
 -- a true segment stays true, where the streams grow and a side that is CLOSED for good stays so
 pub segment_kept : (x y z u : Endpoint) (g : StreamSegment) (ox oy : ℕ) (f h f' h' : Stream) → Grows f f' → Grows h h' → ((x.view.phase ≡ Dead) ⊎ ((y.listener ≡ false) × (HasNoIss y.view.phase → ⊥)) → (z.view.phase ≡ Dead) ⊎ ((u.listener ≡ false) × (HasNoIss u.view.phase → ⊥))) → IsTrueSegment x y g ox oy f h → IsTrueSegment z u g ox oy f' h'
 segment_kept x y z u g ox oy f h f' h' mf mh dead t = record {
   reset = λ e. dead (t.reset e);
-  payload = λ e. let p = t.payload e in record { placed = p.placed; seq = p.seq; bytes = p.bytes; fin = p.fin; holds = piece_kept f f' p.placed mf p.holds; since = p.since };
+  payload = λ e. let p = t.payload e in record { placed = p.placed; seq = p.seq; bytes = p.bytes; fin = p.fin; holds = payload_kept f f' p.placed mf p.holds; since = p.since };
   ack = λ e. record { says = λ a is. let k = (t.ack e).says a is in (k.0, k.1, ack_kept h h' k.0 mh k.2, k.3) };
   syn = t.syn;
 }

@@ -1,4 +1,4 @@
--- A true acknowledgement that comes moves the stream.
+-- A true acknowledgement that comes releases only bytes that the receiver took.
 use Rattle.std.proofs.Common.{◌≡◌, ℕ, zero, suc, ◌+◌, ◌-◌, ◌%◌, ◌^◌, ◌<◌, ◌≤◌, ◌⊎◌, Bool, true, false, refl, sym, ap, subst, ◌∙◌, arith, List, [], ◌∷◌, ◌++◌, length, drop, Some, None, slice_get, inl, inr, ⊎_elim, length-append, append_assoc, length-drop}
 use Rattle.std.proofs.lemmas.List.{drop-drop, drop_all}
 use Rattle.sock_core.specs.Places.{number_at}
@@ -9,12 +9,14 @@ use Rattle.sock_pair.specs.StreamEffects.{AcksBytes, AcksFin, AcksSyn, HearsAck,
 use Rattle.sock_pair.specs.StreamModel.{Grows, IsSound, IsTrueAck, Stream}
 use Rattle.sock_pair.specs.StreamViews.{Closing, Dead, Listening, Phase, Sending, Silent, SocketView, StreamSegment, SynReceived, SynSent, Unopened}
 use Rattle.sock_pair.proofs.StreamGrowth.{fin_length_le}
+use Rattle.sock_pair.proofs.StreamMatches.{syn_empty, syn_unacked}
 use Rattle.sock_pair.proofs.StreamSending.{place_ge, place_le, queue_length}
 
 -- the stream once n more bytes were released
 abbrev pub released_more : Stream → ℕ → Stream
 released_more f n = record { accepted = f.accepted; closed = f.closed; released = f.released + n; joined = f.joined; held = f.held; fin_counted = f.fin_counted }
 
+-- more may be released up to a true acknowledgement
 pub released_grows : (f : Stream) (n k : ℕ) → IsTrueAck f k → f.released + n ≤ k → f.released + n ≤ length f.accepted → Grows f (released_more f n)
 released_grows f n k t below within = record {
   accepted = prefix_self f.accepted;
@@ -27,7 +29,7 @@ released_grows f n k t below within = record {
   finished = λ e. (e, refl);
 }
 
--- what the phase says, where the snd_una moved along the stream
+-- what the phase allows, where SND.UNA moved along the stream
 phase_released : (p : Phase) (f : Stream) (place n : ℕ) → place ≡ f.released + 2 → PhaseAllows p f place → PhaseAllows p (released_more f n) (f.released + n + 2)
 phase_released Unopened f place n e h = h
 phase_released Listening f place n e h = h
@@ -46,7 +48,7 @@ module _ (o : ℕ) (f : Stream) (x w : SocketView) (g : StreamSegment) (s : IsSo
       let c : number_at o (h.0 + 2) ≡ number_at o (t.place + m) = sym h.1 ∙ rel ∙ ap (λ n. (n + m) % 2 ^ 32) t.snd_una ∙ number_add o t.place m in
       (h.0, same_place o (h.0 + 2) (t.place + m) (omega (arith, h.2.taken, fits.room, le_from_at f.joined f.accepted s.joined, fin_length_le f.fin_counted, place_ge o f x s t)) (omega (arith, le, fits.room, young, h.3, s.released, queue_length o f x s t, place_le o f x s t)) c, h.2, h.1)
 
-  -- the halves after the acknowledgement of at k, with n bytes released_more
+  -- the sending half after the acknowledgement of at k, with n bytes released_more
   sending_after : (a k n : ℕ) → w.snd_una ≡ a → a ≡ number_at o (k + 2) → IsTrueAck f k → w.transmit_queue ≡ drop (f.released + n) f.accepted → SndNxtWithin w → SndUnaAt w (released_more f n) (k + 2) → PhaseAllows w.phase (released_more f n) (k + 2) → SendingMatches w o (released_more f n)
   sending_after a k n eb ea true_ack q nf at says = record {
     place = k + 2;
@@ -60,12 +62,11 @@ module _ (o : ℕ) (f : Stream) (x w : SocketView) (g : StreamSegment) (s : IsSo
     phase = says;
   }
 
+  -- what is left of the queue is what is left of the stream
   queue_after : (n : ℕ) → w.transmit_queue ≡ drop n x.transmit_queue → w.transmit_queue ≡ drop (f.released + n) f.accepted
   queue_after n q = q ∙ ap (drop n) t.queue ∙ drop-drop n f.released f.accepted
 
-  Result : Type 0
-  Result = (n : ℕ) × Grows f (released_more f n) × SendingMatches w o (released_more f n)
-
+  -- an acknowledgement of n bytes
   acks : (a n : ℕ) → g.ack ≡ Some a → n ≤ length x.transmit_queue → a ≡ (x.snd_una + n) % 2 ^ 32 → w.phase ≡ x.phase → w.snd_una ≡ a → w.transmit_queue ≡ drop n x.transmit_queue → SndNxtWithin w → (n : ℕ) × Grows f (released_more f n) × SendingMatches w o (released_more f n)
   acks a n e le rel ph b q nf =
       let k = ack_place a n e rel (omega arith) in
@@ -92,17 +93,15 @@ module _ (o : ℕ) (f : Stream) (x w : SocketView) (g : StreamSegment) (s : IsSo
   -- an unacknowledged SYN has an empty stream behind it
   on_syn : t.place ≡ 1 → (f.released ≡ 0) × (length x.transmit_queue ≡ 0) × (length f.accepted ≡ 0)
   on_syn e =
-      let none : length f.accepted ≡ 0 = ⊎_elim (λ p. ap length p.1) (λ r. ⊎_elim (λ p. absurd (omega (arith, p, e))) (λ p. absurd (omega (arith, p.0, e))) r) t.at in
+      let none : length f.accepted ≡ 0 = ap length (syn_empty x f t.place e t.at) in
       let len = queue_length o f x s t in
       (omega (arith, len, none), omega (arith, len, none), none)
 
-  asking : (x.phase ≡ SynSent) ⊎ (x.phase ≡ SynReceived) → (t.place ≡ 1) × (f.closed ≡ false)
-  asking h = ⊎_elim (λ e. subst (λ p. PhaseAllows p f t.place) e t.phase) (λ e. subst (λ p. PhaseAllows p f t.place) e t.phase) h
-
+  -- of the SYN
   opens : (a : ℕ) → g.ack ≡ Some a → a ≡ (x.snd_una + 1) % 2 ^ 32 → (x.phase ≡ SynSent) ⊎ (x.phase ≡ SynReceived) → w.phase ≡ Sending → w.snd_una ≡ a → w.transmit_queue ≡ x.transmit_queue → SndNxtWithin w → (n : ℕ) × Grows f (released_more f n) × SendingMatches w o (released_more f n)
   opens a e rel ph to b q nf =
       let k = ack_place a 1 e rel (omega arith) in
-      let says = asking ph in
+      let says = syn_unacked x.phase f t.place ph t.phase in
       let none = on_syn says.0 in
       let here : k.0 + 2 ≡ f.released + 0 + 2 = omega (arith, k.1, says.0, none.0) in (
         0,
@@ -110,6 +109,7 @@ module _ (o : ℕ) (f : Stream) (x w : SocketView) (g : StreamSegment) (s : IsSo
         sending_after a k.0 0 b k.3 k.2 (queue_after 0 q) nf (inr (inl here)) (subst (λ c. PhaseAllows w.phase (released_more f 0) c) (sym here) (subst (λ ph. PhaseAllows ph (released_more f 0) (f.released + 0 + 2)) (sym to) (refl, says.1))),
       )
 
+  -- of the FIN
   ends : (a : ℕ) → g.ack ≡ Some a → a ≡ (x.snd_una + length x.transmit_queue + 1) % 2 ^ 32 → x.phase ≡ Closing → w.phase ≡ Silent → w.snd_una ≡ a → w.transmit_queue ≡ [] → SndNxtWithin w → (n : ℕ) × Grows f (released_more f n) × SendingMatches w o (released_more f n)
   ends a e rel ph to b q nf =
       let n : ℕ = length x.transmit_queue in
@@ -132,6 +132,7 @@ module _ (o : ℕ) (f : Stream) (x w : SocketView) (g : StreamSegment) (s : IsSo
       ))
       (subst (λ p. PhaseAllows p f t.place) ph t.phase)
 
+  -- of any of the three
   pub ack_grows : HearsAck x w g → (n : ℕ) × Grows f (released_more f n) × SendingMatches w o (released_more f n)
   ack_grows (AcksBytes a n e le rel ph b q nf) = acks a n e le rel ph b q nf
   ack_grows (AcksSyn a e rel ph to b q nf) = opens a e rel ph to b q nf

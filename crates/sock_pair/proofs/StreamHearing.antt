@@ -1,4 +1,4 @@
--- A true segment that comes moves the stream.
+-- A true segment that comes makes the stream grow.
 use Rattle.std.proofs.Common.{◌≡◌, ℕ, zero, suc, ◌+◌, ◌-◌, ◌%◌, ◌^◌, ◌<◌, ◌≤◌, ◌⊎◌, Bool, true, false, refl, sym, ap, subst, ◌∙◌, arith, List, [], ◌∷◌, ◌++◌, length, Some, None, slice_get, inl, inr, ⊎_elim, length-append, append_assoc}
 use Rattle.std.proofs.lemmas.List.{append-nil}
 use Rattle.sock_core.specs.Places.{number_at}
@@ -48,9 +48,6 @@ module _ (o : ℕ) (f : Stream) (v w : SocketView) (g : StreamSegment) (hs : Lis
       h
 
   module _ (d : HearsData v w g) where
-    after : Stream
-    after = heard f w d.more
-
     -- nothing joins the queue past a counted FIN
     none_more : f.fin_counted ≡ true → d.more ≡ []
     none_more e = no_bytes d.more (λ k b h.

@@ -4,7 +4,7 @@ use Rattle.sock_core.specs.Places.{number_at}
 use Rattle.sock_core.specs.Streams.{fin_length}
 use Rattle.sock_core.proofs.Numbers.{number_add}
 use Rattle.sock_pair.specs.Network.{Endpoint}
-use Rattle.sock_pair.specs.NetworkInvariant.{HasReceivedNothing, HasSentNothing, PhaseAllows, ReceivingMatches, SendingMatches}
+use Rattle.sock_pair.specs.NetworkInvariant.{HasReceivedNothing, HasSentNothing, PhaseAllows, ReceivingMatches, SendingMatches, SndUnaAt}
 use Rattle.sock_pair.specs.StreamEffects.{SameReceiving, SameSending}
 use Rattle.sock_pair.specs.StreamModel.{Stream, counted}
 use Rattle.sock_pair.specs.StreamViews.{Closing, Dead, Listening, Phase, Sending, Silent, SocketView, StreamSegment, SynReceived, SynSent, Unopened}
@@ -104,3 +104,11 @@ syn_receiving x u o h g fresh seq l r e fin = record {
   held = λ k b is. absurd (fresh.held k b ((λ i. sym e i k) ∙ is));
   queue = (λ i. fresh.handed_out i ++ (r ∙ fresh.receive_queue) i) ∙ sym fresh.joined;
 }
+
+-- before the own SYN is acknowledged, SND.UNA stands on it and nothing is closed
+pub syn_unacked : (p : Phase) (f : Stream) (place : ℕ) → (p ≡ SynSent) ⊎ (p ≡ SynReceived) → PhaseAllows p f place → (place ≡ 1) × (f.closed ≡ false)
+syn_unacked p f place h says = ⊎_elim (λ e. subst (λ q. PhaseAllows q f place) e says) (λ e. subst (λ q. PhaseAllows q f place) e says) h
+
+-- and where SND.UNA stands on the SYN, nothing was accepted
+pub syn_empty : (v : SocketView) (f : Stream) (place : ℕ) → place ≡ 1 → SndUnaAt v f place → f.accepted ≡ []
+syn_empty v f place e = ⊎_elim (λ a. a.1) (λ r. absurd (⊎_elim (λ a. omega (arith, a, e)) (λ a. omega (arith, a.0, e)) r))
