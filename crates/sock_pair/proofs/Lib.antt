@@ -6,3 +6,5 @@ pub mod StreamAcking
 pub mod StreamFallBack
 pub mod NetworkPhases
 pub mod NetworkChanges
+pub mod NetworkOpening
+pub mod NetworkCalls

@@ -2,9 +2,11 @@
 use Rattle.std.proofs.Common.{◌≡◌, ℕ, zero, suc, ◌+◌, ◌-◌, ◌%◌, ◌^◌, ◌<◌, ◌≤◌, ◌⊎◌, Bool, true, false, refl, sym, ap, subst, ◌∙◌, arith, List, [], ◌∷◌, ◌++◌, length, drop, take, Some, None, slice_get, inl, inr, ⊎_elim}
 use Rattle.std.specs.List.{Contains}
 use Rattle.std.proofs.lemmas.List.Elements.{Contains-push_cases}
+use Rattle.std.specs.declared.option.Option.{Option}
 use Rattle.sock_core.specs.Streams.{IsPrefix}
-use Rattle.sock_pair.specs.Network.{Endpoint, IsWithin, Network, emitted, with_local}
-use Rattle.sock_pair.specs.NetworkInvariant.{HasFallenBack, HasReceivedNothing, HasSentNothing, IsInvariant, IsTrueSegment, QueueFits, ReceivingMatches, SameNumbers, SendingMatches, StreamInvariant}
+use Rattle.sock_core.proofs.Streams.{le_from_at}
+use Rattle.sock_pair.specs.Network.{Endpoint, IsWithin, IsYoung, MayArrive, Network, emitted, with_local}
+use Rattle.sock_pair.specs.NetworkInvariant.{HasFallenBack, HasReceivedNothing, HasSentNothing, IsInvariant, IsLimit, IsTrueSegment, QueueFits, ReceivingMatches, SameNumbers, SendingMatches, StreamInvariant}
 use Rattle.sock_pair.specs.StreamEffects.{AcksBytes, AcksFin, AcksSyn, HearsAck}
 use Rattle.sock_pair.specs.StreamModel.{Grows, Stream}
 use Rattle.sock_pair.specs.StreamViews.{Dead, HasIss, HasNoIss, IsNonSynchronized, KnowsPeer, Sending, SocketView, StreamSegment, SynSent}
@@ -255,3 +257,18 @@ emit_keep w i g t chosen knows = record {
       (λ d. inr d)
       (i.remote_unspoken u);
 }
+
+-- acknowledgements released only what was taken, and only what was accepted was taken
+pub counts_ordered : (x y : Endpoint) (o : ℕ) (f : Stream) → StreamInvariant x y o f → (x.released ≤ y.taken) × (y.taken ≤ length x.accepted)
+counts_ordered x y o f l = (omega (arith, l.released, l.taken, l.sound.released), omega (arith, l.taken, le_from_at f.joined f.accepted l.sound.joined, ap length l.accepted))
+
+-- a segment that may arrive is young: with a limit on the streams each is
+pub is_young : (w : Network) (i : IsInvariant w) (g : StreamSegment) → MayArrive w.limit g w.remote → IsYoung g w.remote.released w.remote.taken
+is_young w i g may = go w.limit i.limited i.local_within i.remote_within may
+  where
+    go : (l : Option ℕ) → IsLimit l → IsWithin l w.local.accepted → IsWithin l w.remote.accepted → MayArrive l g w.remote → IsYoung g w.remote.released w.remote.taken
+    go None limited here there may = may
+    go (Some n) limited here there may =
+        let p = counts_ordered w.local w.remote i.local_origin i.outgoing i.outgoing_holds in
+        let q = counts_ordered w.remote w.local i.remote_origin i.incoming i.incoming_holds in
+        record { released = omega (arith, q.0, q.1, there, limited); taken = omega (arith, p.1, here, limited) }

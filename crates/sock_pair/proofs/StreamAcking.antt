@@ -3,12 +3,12 @@ use Rattle.std.proofs.Common.{◌≡◌, ℕ, zero, suc, ◌+◌, ◌-◌, ◌%�
 use Rattle.std.proofs.lemmas.List.{drop-drop, drop_all}
 use Rattle.sock_core.specs.Places.{number_at}
 use Rattle.sock_core.proofs.Numbers.{number_add, same_place}
-use Rattle.sock_core.proofs.Streams.{byte_within, le_from_at, prefix_self}
+use Rattle.sock_core.proofs.Streams.{le_from_at, prefix_self}
 use Rattle.sock_pair.specs.NetworkInvariant.{HasTrueAck, PhaseAllows, QueueFits, SendingMatches, SndUnaAt}
 use Rattle.sock_pair.specs.StreamEffects.{AcksBytes, AcksFin, AcksSyn, HearsAck, SndNxtWithin}
 use Rattle.sock_pair.specs.StreamModel.{Grows, IsSound, IsTrueAck, Stream}
 use Rattle.sock_pair.specs.StreamViews.{Closing, Dead, Listening, Phase, Sending, Silent, SocketView, StreamSegment, SynReceived, SynSent, Unopened}
-use Rattle.sock_pair.proofs.StreamGrowth.{fin_length_le}
+use Rattle.sock_pair.proofs.StreamGrowth.{fin_length_le, sender_grows}
 use Rattle.sock_pair.proofs.StreamMatches.{syn_empty, syn_unacked}
 use Rattle.sock_pair.proofs.StreamSending.{place_ge, place_le, queue_length}
 
@@ -18,16 +18,7 @@ released_more f n = record { accepted = f.accepted; closed = f.closed; released 
 
 -- more may be released up to a true acknowledgement
 pub released_grows : (f : Stream) (n k : ℕ) → IsTrueAck f k → f.released + n ≤ k → f.released + n ≤ length f.accepted → Grows f (released_more f n)
-released_grows f n k t below within = record {
-  accepted = prefix_self f.accepted;
-  closed = λ e. (e, refl);
-  released = inr (k, t, below, within);
-  joined = prefix_self f.joined;
-  taken = λ j b past h. absurd (omega (arith, byte_within f.joined j b h));
-  held = λ j b past h. inl h;
-  fin = λ e. inl e;
-  finished = λ e. (e, refl);
-}
+released_grows f n k t below within = sender_grows f f.accepted f.closed (f.released + n) (prefix_self f.accepted) (λ e. (e, refl)) (inr (k, t, below, within))
 
 -- what the phase allows, where SND.UNA moved along the stream
 phase_released : (p : Phase) (f : Stream) (place n : ℕ) → place ≡ f.released + 2 → PhaseAllows p f place → PhaseAllows p (released_more f n) (f.released + n + 2)

@@ -81,15 +81,19 @@ payload_kept f g p m t = record {
 pub sound_front : (f : Stream) → IsSound f → IsPrefix f.joined f.accepted
 sound_front f s = prefix_from_at f.joined f.accepted s.joined
 
--- a stream that nothing happens to
-pub stays : (f : Stream) → Grows f f
-stays f = record {
-  accepted = prefix_self f.accepted;
-  closed = λ e. (e, refl);
-  released = inl refl;
+-- a stream grows where its sender accepts more, is closed, or releases what a true acknowledgement lets it
+pub sender_grows : (f : Stream) (accepted : List ℕ) (closed : Bool) (released : ℕ) → IsPrefix f.accepted accepted → (f.closed ≡ true → (closed ≡ true) × (accepted ≡ f.accepted)) → (released ≡ f.released) ⊎ ((a : ℕ) × IsTrueAck f a × (released ≤ a) × (released ≤ length f.accepted)) → Grows f (record f { accepted = accepted; closed = closed; released = released })
+sender_grows f accepted closed released longer ends frees = record {
+  accepted = longer;
+  closed = ends;
+  released = frees;
   joined = prefix_self f.joined;
   taken = λ j b past h. absurd (omega (arith, byte_within f.joined j b h));
   held = λ j b past h. inl h;
   fin = λ e. inl e;
   finished = λ e. (e, refl);
 }
+
+-- a stream that nothing happens to
+pub stays : (f : Stream) → Grows f f
+stays f = sender_grows f f.accepted f.closed f.released (prefix_self f.accepted) (λ e. (e, refl)) (inl refl)

@@ -1,5 +1,6 @@
 -- A stream's halves against a view of either side.
 use Rattle.std.proofs.Common.{◌≡◌, ℕ, zero, suc, ◌+◌, ◌-◌, ◌%◌, ◌^◌, ◌<◌, ◌≤◌, ◌⊎◌, Bool, true, false, refl, sym, ap, subst, ◌∙◌, arith, List, [], ◌∷◌, ◌++◌, length, drop, take, Some, None, slice_get, inl, inr, ⊎_elim}
+use Rattle.std.proofs.lemmas.List.{drop_all}
 use Rattle.sock_core.specs.Places.{number_at}
 use Rattle.sock_core.specs.Streams.{fin_length}
 use Rattle.sock_core.proofs.Numbers.{number_add}
@@ -96,6 +97,17 @@ receiving_view v u hs o f e r = record {
   queue = ap (λ xs. hs ++ xs) e.receive_queue ∙ r.queue;
 }
 
+-- a side with the receiving half of one that had nothing has nothing
+pub received_nothing_as : (x z : Endpoint) (f : Stream) → SameReceiving x.view z.view → z.handed_out ≡ x.handed_out → HasReceivedNothing x f → HasReceivedNothing z f
+received_nothing_as x z f e h r = record {
+  joined = r.joined;
+  stream_fin = r.stream_fin;
+  receive_queue = e.receive_queue ∙ r.receive_queue;
+  handed_out = h ∙ r.handed_out;
+  fin = e.fin ∙ r.fin;
+  held = λ k b is. r.held k b ((λ i. sym e.held i k) ∙ is);
+}
+
 -- a SYN makes the peer's numbers known
 pub syn_receiving : (x : Endpoint) (u : SocketView) (o : ℕ) (h : Stream) (g : StreamSegment) → HasReceivedNothing x h → g.seq ≡ number_at o 1 → u.rcv_nxt ≡ (g.seq + 1) % 2 ^ 32 → u.receive_queue ≡ x.view.receive_queue → u.held ≡ x.view.held → u.fin_counted ≡ x.view.fin_counted → ReceivingMatches u x.handed_out o h
 syn_receiving x u o h g fresh seq l r e fin = record {
@@ -112,3 +124,21 @@ syn_unacked p f place h says = ⊎_elim (λ e. subst (λ q. PhaseAllows q f plac
 -- and where SND.UNA stands on the SYN, nothing was accepted
 pub syn_empty : (v : SocketView) (f : Stream) (place : ℕ) → place ≡ 1 → SndUnaAt v f place → f.accepted ≡ []
 syn_empty v f place e = ⊎_elim (λ a. a.1) (λ r. absurd (⊎_elim (λ a. omega (arith, a, e)) (λ a. omega (arith, a.0, e)) r))
+
+-- the queue of a side that sent nothing is what is left of its stream
+pub unsent_queue : (x : Endpoint) (f : Stream) → HasSentNothing x f → x.view.transmit_queue ≡ drop f.released f.accepted
+unsent_queue x f r = r.transmit_queue ∙ sym (drop_all f.released f.accepted (omega (arith, ap length r.accepted)))
+
+-- with an initial sequence number just chosen, SND.UNA and SND.NXT stand on the SYN
+pub iss_sending : (x : Endpoint) (v : SocketView) (o iss : ℕ) (f : Stream) → HasSentNothing x f → iss ≡ number_at o 1 → v.snd_una ≡ iss → v.snd_nxt ≡ iss → v.transmit_queue ≡ x.view.transmit_queue → (v.phase ≡ SynSent) ⊎ (v.phase ≡ SynReceived) → SendingMatches v o f
+iss_sending x v o iss f unsent is una nxt queue ph = record {
+  place = 1;
+  snd_una = una ∙ is;
+  acked = omega arith;
+  flight = 0;
+  snd_nxt = nxt ∙ is;
+  flight_le = omega arith;
+  queue = queue ∙ unsent_queue x f unsent;
+  at = inl (refl, unsent.accepted);
+  phase = ⊎_elim (λ e. subst (λ p. PhaseAllows p f 1) (sym e) (refl, unsent.closed)) (λ e. subst (λ p. PhaseAllows p f 1) (sym e) (refl, unsent.closed)) ph;
+}

@@ -39,6 +39,40 @@ with_view e v = record { view = v; accepted = e.accepted; handed_out = e.handed_
 abbrev pub emitted : Network → StreamSegment → Network
 emitted w g = record { local = w.local; remote = w.remote; local_segments = w.local_segments ++ g ∷ []; remote_segments = w.remote_segments; limit = w.limit }
 
+-- what each call and each event leaves of the endpoint
+abbrev pub listened : Endpoint → Endpoint
+listened e = record e { view = record e.view { phase = Listening }; listener = true }
+
+abbrev pub connected : Endpoint → ℕ → Endpoint
+connected e iss = record e { view = record e.view { phase = SynSent; snd_una = iss; snd_nxt = iss }; listener = false }
+
+abbrev pub with_accepted : Endpoint → List ℕ → Endpoint
+with_accepted e bytes = record e { view = record e.view { transmit_queue = e.view.transmit_queue ++ bytes }; accepted = e.accepted ++ bytes }
+
+abbrev pub with_read : Endpoint → ℕ → Endpoint
+with_read e n = record e { view = record e.view { receive_queue = drop n e.view.receive_queue }; handed_out = e.handed_out ++ take n e.view.receive_queue }
+
+abbrev pub closed_after : Endpoint → Endpoint
+closed_after e = record e { view = record e.view { phase = Closing }; closed = true }
+
+-- a close before the SYN was acknowledged does not count as one that ends the stream
+abbrev pub closed_unacknowledged : Endpoint → Endpoint
+closed_unacknowledged e = with_view e (record e.view { phase = Closing })
+
+abbrev pub with_snd_nxt : Endpoint → ℕ → Endpoint
+with_snd_nxt e n = with_view e (record e.view { snd_nxt = n })
+
+abbrev pub fallen_back : Endpoint → Endpoint
+fallen_back e = with_view e (record e.view { phase = Listening })
+
+-- a SYN came in LISTEN, and iss was chosen
+abbrev pub synchronizing : Endpoint → StreamSegment → ℕ → Endpoint
+synchronizing e g iss = with_view e (record e.view { phase = SynReceived; snd_una = iss; snd_nxt = iss; rcv_nxt = (g.seq + 1) % 2 ^ 32 })
+
+-- a SYN without an acknowledgement came in SYN-SENT
+abbrev pub crossed : Endpoint → StreamSegment → ℕ → Endpoint
+crossed e g n = with_view e (record e.view { phase = SynReceived; snd_nxt = n; rcv_nxt = (g.seq + 1) % 2 ^ 32 })
+
 -- a segment came, with what it released of the transmit queue and added to the receive queue
 abbrev pub heard_by : Endpoint → SocketView → Endpoint
 heard_by e v = record e { view = v; released = e.released + (length e.view.transmit_queue - length v.transmit_queue); taken = e.taken + (length v.receive_queue - length e.view.receive_queue) }
@@ -78,29 +112,29 @@ pub record IsStamped (e : Endpoint) (g : StreamSegment) : Type 0 where
 pub data Step (old new : Network) : Type 0 where
   -- listen
   Listens : old.local.view.phase ≡ Unopened
-      → new ≡ with_local old (record old.local { view = record old.local.view { phase = Listening }; listener = true })
+      → new ≡ with_local old (listened old.local)
       → Step old new
   -- connect, with the initial sequence number iss
   Connects : (iss : ℕ) → iss < 2 ^ 32 → old.local.view.phase ≡ Unopened
-      → new ≡ with_local old (record old.local { view = record old.local.view { phase = SynSent; snd_una = iss; snd_nxt = iss }; listener = false })
+      → new ≡ with_local old (connected old.local iss)
       → Step old new
   -- send takes bytes, in ESTABLISHED and CLOSE-WAIT alone
   Accepts : (bytes : List ℕ) → old.local.view.phase ≡ Sending → length old.local.view.transmit_queue + length bytes ≤ 2 ^ 30 → IsWithin old.limit (old.local.accepted ++ bytes)
-      → new ≡ with_local old (record old.local { view = record old.local.view { transmit_queue = old.local.view.transmit_queue ++ bytes }; accepted = old.local.accepted ++ bytes })
+      → new ≡ with_local old (with_accepted old.local bytes)
       → Step old new
   -- recv gives out the first n bytes of the queue, in any state
   HandsOut : (n : ℕ)
-      → new ≡ with_local old (record old.local { view = record old.local.view { receive_queue = drop n old.local.view.receive_queue }; handed_out = old.local.handed_out ++ take n old.local.view.receive_queue })
+      → new ≡ with_local old (with_read old.local n)
       → Step old new
   -- recv answers Finished
   Finishes : AnswersFinished old.local → new ≡ old → Step old new
   -- close in ESTABLISHED or CLOSE-WAIT
   Closes : old.local.view.phase ≡ Sending
-      → new ≡ with_local old (record old.local { view = record old.local.view { phase = Closing }; closed = true })
+      → new ≡ with_local old (closed_after old.local)
       → Step old new
   -- close in SYN-RECEIVED
   ClosesUnacknowledged : old.local.view.phase ≡ SynReceived
-      → new ≡ with_local old (record old.local { view = record old.local.view { phase = Closing } })
+      → new ≡ with_local old (closed_unacknowledged old.local)
       → Step old new
   -- The connection is CLOSED: by an abort, a close before any SYN came, a timeout, an RST, a lost address or its end. The receive queue stays or
   -- is emptied, and a counted FIN is kept only with the queue
@@ -110,7 +144,7 @@ pub data Step (old new : Network) : Type 0 where
       → Step old new
   -- SND.NXT moves, forward by what was sent or back for a retransmission
   MovesSndNxt : (n : ℕ) → SndNxtWithin (record old.local.view { snd_nxt = n })
-      → new ≡ with_local old (with_view old.local (record old.local.view { snd_nxt = n }))
+      → new ≡ with_local old (with_snd_nxt old.local n)
       → Step old new
   -- a segment goes out that is no RST: data or none, an acknowledgement, a SYN at the initial number, a FIN, a keep-alive
   Emits : (g : StreamSegment) → g.rst ≡ false → IsStamped old.local g → HasIss old.local.view.phase → SendsPayload old.local.view g ⊎ SendsKeepAlive old.local.view g → AcksRcvNxt old.local.view g
@@ -129,7 +163,7 @@ pub data Step (old new : Network) : Type 0 where
       → Step old new
   -- an RST sends a listener from SYN-RECEIVED back to LISTEN
   FallsBack : (g : StreamSegment) → Contains old.remote_segments g → g.rst ≡ true → old.local.view.phase ≡ SynReceived → old.local.listener ≡ true
-      → new ≡ with_local old (with_view old.local (record old.local.view { phase = Listening }))
+      → new ≡ with_local old (fallen_back old.local)
       → Step old new
   -- a segment that the side does not accept, CLOSED or in LISTEN, is answered by an RST
   AnswersRefused : (g answer : StreamSegment) → Contains old.remote_segments g → g.rst ≡ false → HasNoIss old.local.view.phase ⊎ (old.local.view.phase ≡ Dead) → answer.rst ≡ true
@@ -143,11 +177,11 @@ pub data Step (old new : Network) : Type 0 where
       → Step old new
   -- a SYN comes in LISTEN, and the initial sequence number iss is chosen, anew after each fall-back
   HearsSyn : (g : StreamSegment) (iss : ℕ) → iss < 2 ^ 32 → Contains old.remote_segments g → g.rst ≡ false → g.syn ≡ true → old.local.view.phase ≡ Listening
-      → new ≡ with_local old (with_view old.local (record old.local.view { phase = SynReceived; snd_una = iss; snd_nxt = iss; rcv_nxt = (g.seq + 1) % 2 ^ 32 }))
+      → new ≡ with_local old (synchronizing old.local g iss)
       → Step old new
   -- a SYN comes in SYN-SENT without an acknowledgement: both sides connect at once
   HearsSynAlone : (g : StreamSegment) (n : ℕ) → SndNxtWithin (record old.local.view { snd_nxt = n }) → Contains old.remote_segments g → g.rst ≡ false → g.syn ≡ true → old.local.view.phase ≡ SynSent
-      → new ≡ with_local old (with_view old.local (record old.local.view { phase = SynReceived; snd_nxt = n; rcv_nxt = (g.seq + 1) % 2 ^ 32 }))
+      → new ≡ with_local old (crossed old.local g n)
       → Step old new
   -- a SYN comes in SYN-SENT that acknowledges the own one
   HearsSynAck : (g : StreamSegment) (v : SocketView) → Arrives old g → g.syn ≡ true → old.local.view.phase ≡ SynSent → HearsAck old.local.view v g → v.phase ≡ Sending → v.rcv_nxt ≡ (g.seq + 1) % 2 ^ 32
