@@ -8,3 +8,6 @@ pub mod NetworkPhases
 pub mod NetworkChanges
 pub mod NetworkOpening
 pub mod NetworkCalls
+pub mod NetworkSegments
+pub mod NetworkSteps
+pub mod NetworkRuns
