@@ -4,6 +4,8 @@ pub mod StreamSending
 pub mod StreamMatches
 pub mod StreamAcking
 pub mod StreamFallBack
+pub mod StreamCut
+pub mod StreamTables
 pub mod NetworkPhases
 pub mod NetworkChanges
 pub mod NetworkOpening
