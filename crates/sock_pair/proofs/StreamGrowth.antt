@@ -3,16 +3,20 @@ use Rattle.std.proofs.Common.{◌≡◌, ℕ, zero, suc, ◌+◌, ◌-◌, ◌<�
 use Rattle.std.proofs.lemmas.Bool.{cases_lt}
 use Rattle.sock_core.specs.Streams.{ByteAt, IsPrefix, fin_length}
 use Rattle.sock_core.proofs.Streams.{byte_within, le_from_at, prefix_at, prefix_back, prefix_from_at, prefix_le, prefix_self}
-use Rattle.sock_pair.specs.StreamModel.{Grows, IsSound, IsTrueAck, IsTruePayload, MayCome, PlacedPayload, Stream, counted}
+use Rattle.sock_pair.specs.StreamModel.{Carries, Grows, IsSound, IsTrueAck, IsTruePayload, MayCome, PlacedPayload, Stream, counted}
 
 -- a FIN takes at most one number
 pub fin_length_le : (b : Bool) → fin_length b ≤ 1
 fin_length_le true = omega arith
 fin_length_le false = omega arith
 
+-- a byte of a true payload that the receiver has not counted is the stream's
+pub true_byte : (f : Stream) (p : PlacedPayload) (j b : ℕ) → IsTruePayload f p → counted f ≤ j → Carries p j b → ByteAt f.accepted j b
+true_byte f p j b t past c = ⊎_elim (λ own. own j b c) (λ before. absurd (omega (arith, before j b c))) t.bytes
+
 -- what comes is the stream's
 pub comes_true : (f : Stream) (j b : ℕ) → IsSound f → length f.joined ≤ j → MayCome f j b → ByteAt f.accepted j b
-comes_true f j b s l c = ⊎_elim (λ h. s.held j b l h) (λ h. h.1.bytes j b h.2 h.3) c
+comes_true f j b s l c = ⊎_elim (λ h. s.held j b l h) (λ h. true_byte f h.0 j b h.1 h.2 h.3) c
 
 -- the receiver never counts less
 pub counted_le : (f g : Stream) → Grows f g → counted f ≤ counted g
@@ -72,7 +76,7 @@ ack_kept f g a m t = record { taken = omega (arith, counted_le f g m, t.taken) }
 -- a true payload stays true
 pub payload_kept : (f g : Stream) (p : PlacedPayload) → Grows f g → IsTruePayload f p → IsTruePayload g p
 payload_kept f g p m t = record {
-  bytes = λ j b l c. prefix_at f.accepted g.accepted j b m.accepted (t.bytes j b (omega (arith, counted_le f g m)) c);
+  bytes = ⊎_elim (λ own. inl (λ j b c. prefix_at f.accepted g.accepted j b m.accepted (own j b c))) (λ before. inr (λ j b c. omega (arith, before j b c, counted_le f g m))) t.bytes;
   fin = λ e. ⊎_elim (λ low. inl low) (λ h. inr ((m.closed h.0).0, h.1 ∙ ap (λ xs. length xs + 2) (sym (m.closed h.0).1))) (t.fin e);
   within = omega (arith, t.within, prefix_le f.accepted g.accepted m.accepted);
 }

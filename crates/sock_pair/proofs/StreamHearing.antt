@@ -10,7 +10,7 @@ use Rattle.sock_pair.specs.NetworkRuns.{start}
 use Rattle.sock_pair.specs.StreamEffects.{Brings, HearsData}
 use Rattle.sock_pair.specs.StreamModel.{Grows, IsSound, IsTruePayload, MayCome, PlacedPayload, Stream, counted}
 use Rattle.sock_pair.specs.StreamViews.{SocketView, StreamSegment}
-use Rattle.sock_pair.proofs.StreamGrowth.{comes_true, fin_length_le}
+use Rattle.sock_pair.proofs.StreamGrowth.{comes_true, fin_length_le, true_byte}
 
 -- the stream once the segment was heard
 abbrev pub heard : Stream → SocketView → List ℕ → Stream
@@ -35,7 +35,7 @@ module _ (o : ℕ) (f : Stream) (v w : SocketView) (g : StreamSegment) (hs : Lis
   new_comes : (i k b : ℕ) → ByteAt is.placed.bytes i b → is.placed.start + i ≡ counted f + 2 + k → (c : Bool) → f.fin_counted ≡ c → MayCome f (length f.joined + k) b
   new_comes i k b byte at true e =
       let j : ℕ = length f.joined + 1 + k in
-      let at_end : ByteAt f.accepted j b = is.holds.bytes j b (omega (arith, ap fin_length e)) (record { index = i; here = omega (arith, at, ap fin_length e); byte = byte }) in
+      let at_end : ByteAt f.accepted j b = true_byte f is.placed j b is.holds (omega (arith, ap fin_length e)) (record { index = i; here = omega (arith, at, ap fin_length e); byte = byte }) in
       absurd (omega (arith, byte_within f.accepted j b at_end, (s.fin e).1))
   new_comes i k b byte at false e = inr (is.placed, is.holds, omega (arith, ap fin_length e), record { index = i; here = omega (arith, at, ap fin_length e); byte = byte })
 

@@ -6,7 +6,7 @@ use Rattle.sock_core.proofs.Streams.{byte_drop, byte_within, le_from_at}
 use Rattle.sock_pair.specs.NetworkInvariant.{HasTruePayload, PhaseAllows, SendingMatches}
 use Rattle.sock_pair.specs.NetworkRuns.{start}
 use Rattle.sock_pair.specs.StreamEffects.{SendsKeepAlive, SendsPayload}
-use Rattle.sock_pair.specs.StreamModel.{IsSound, Stream, counted}
+use Rattle.sock_pair.specs.StreamModel.{IsSound, Stream}
 use Rattle.sock_pair.specs.StreamViews.{Closing, SocketView, StreamSegment}
 
 module _ (o : ℕ) (f : Stream) (x : SocketView) (s : IsSound f) (t : SendingMatches x o f) where
@@ -32,8 +32,8 @@ module _ (o : ℕ) (f : Stream) (x : SocketView) (s : IsSound f) (t : SendingMat
 
   module _ (g : StreamSegment) (d : SendsPayload x g) (now : g.released_at ≤ f.released) where
     -- the bytes are the stream's at their places
-    bytes_true : (j b : ℕ) → counted f ≤ j → (i : ℕ) → t.place + d.skip + i ≡ j + 2 → ByteAt g.payload i b → ByteAt f.accepted j b
-    bytes_true j b past i here h =
+    bytes_true : (j b : ℕ) (i : ℕ) → t.place + d.skip + i ≡ j + 2 → ByteAt g.payload i b → ByteAt f.accepted j b
+    bytes_true j b i here h =
         let inside : ByteAt x.transmit_queue (d.skip + i) b = d.bytes i b h in
         let stream : ByteAt f.accepted (f.released + (d.skip + i)) b = byte_drop f.accepted f.released (d.skip + i) b (subst (λ xs. ByteAt xs (d.skip + i) b) t.queue inside) in
         let under = byte_within f.accepted (f.released + (d.skip + i)) b stream in
@@ -66,7 +66,7 @@ module _ (o : ℕ) (f : Stream) (x : SocketView) (s : IsSound f) (t : SendingMat
       bytes = refl;
       fin = refl;
       holds = record {
-        bytes = λ j b past c. bytes_true j b past c.index c.here c.byte;
+        bytes = inl (λ j b c. bytes_true j b c.index c.here c.byte);
         fin = fin_true;
         within = omega (arith, d.within, place_le);
       };
@@ -82,7 +82,7 @@ module _ (o : ℕ) (f : Stream) (x : SocketView) (s : IsSound f) (t : SendingMat
       bytes = refl;
       fin = refl;
       holds = record {
-        bytes = λ j b past c. absurd (omega (arith, c.here, byte_within g.payload c.index b c.byte, d.bytes, t.acked, place_pos));
+        bytes = inr (λ j b c. omega (arith, c.here, byte_within g.payload c.index b c.byte, d.bytes, t.acked, place_pos));
         fin = λ e. let no : true ≡ false = sym e ∙ d.fin in cc;
         within = omega (arith, d.bytes, place_le, place_pos);
       };

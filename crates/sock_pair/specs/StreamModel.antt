@@ -28,10 +28,18 @@ pub record Carries (p : PlacedPayload) (j b : ℕ) : Type 0 where
   pub here : p.start + index ≡ j + 2
   pub byte : ByteAt p.bytes index b
 
--- True of the stream: each byte that the receiver has not counted yet is the stream's own (a keep-alive's byte lies before those). A FIN stands
--- at the end of a closed stream, where no byte will follow; or at the place of the SYN, where it is refused
+-- its bytes are the stream's own
+abbrev pub HasOwnBytes : Stream → PlacedPayload → Type 0
+HasOwnBytes f p = (j b : ℕ) → Carries p j b → ByteAt f.accepted j b
+
+-- its bytes, as a keep-alive's, lie before all that the receiver has not counted
+abbrev pub LiesBefore : Stream → PlacedPayload → Type 0
+LiesBefore f p = (j b : ℕ) → Carries p j b → j < counted f
+
+-- True of the stream: its bytes are the stream's own, or it is a keep-alive, whose byte the receiver never takes. A FIN stands at the end of a
+-- closed stream, where no byte will follow; or at the place of the SYN, where it is refused
 pub record IsTruePayload (f : Stream) (p : PlacedPayload) : Type 0 where
-  pub bytes : (j b : ℕ) → counted f ≤ j → Carries p j b → ByteAt f.accepted j b
+  pub bytes : HasOwnBytes f p ⊎ LiesBefore f p
   pub fin : p.fin ≡ true → (p.start + length p.bytes ≤ 1) ⊎ ((f.closed ≡ true) × (p.start + length p.bytes ≡ length f.accepted + 2))
   pub within : p.start + length p.bytes ≤ length f.accepted + 5
 
