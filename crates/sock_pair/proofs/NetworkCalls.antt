@@ -1,7 +1,6 @@
 -- The calls of one side: send, recv, close, and its death.
-use Rattle.std.proofs.Common.{◌≡◌, ℕ, zero, suc, ◌+◌, ◌-◌, ◌%◌, ◌^◌, ◌<◌, ◌≤◌, ◌⊎◌, Bool, true, false, refl, sym, ap, subst, ◌∙◌, arith, List, [], ◌∷◌, ◌++◌, length, drop, take, Some, None, slice_get, inl, inr, ⊎_elim, append_assoc, take-append-drop, length-append, add-zero}
-use Rattle.std.specs.List.{Contains}
-use Rattle.std.proofs.lemmas.List.{drop_all, drop-append-le, append-nil, nil_from_length}
+use Rattle.std.proofs.Common.{◌≡◌, ℕ, zero, suc, ◌+◌, ◌%◌, ◌^◌, ◌≤◌, ◌⊎◌, true, false, refl, sym, ap, subst, ◌∙◌, arith, List, [], ◌++◌, length, drop, take, inl, inr, ⊎_elim, append_assoc, take-append-drop, length-append}
+use Rattle.std.proofs.lemmas.List.{drop-append-le, append-nil}
 use Rattle.sock_core.proofs.Numbers.{number_add}
 use Rattle.sock_core.proofs.Streams.{prefix_self}
 use Rattle.sock_pair.specs.Network.{IsWithin, Network, closed_after, closed_unacknowledged, with_accepted, with_local, with_read, with_snd_nxt, with_view}
@@ -11,8 +10,6 @@ use Rattle.sock_pair.specs.StreamModel.{Stream}
 use Rattle.sock_pair.specs.StreamViews.{Closing, Dead, HasIss, HasNoIss, IsNonSynchronized, KnowsPeer, Sending, SocketView, SynReceived, SynSent}
 use Rattle.sock_pair.proofs.NetworkChanges.{changes_keep, keeps_keep, remote_has_iss}
 use Rattle.sock_pair.proofs.NetworkPhases.{no_iss_not_iss}
-use Rattle.sock_pair.proofs.StreamCut.{longer}
-use Rattle.sock_pair.proofs.StreamFallBack.{nothing_yet}
 use Rattle.sock_pair.proofs.StreamGrowth.{sender_grows, stays}
 use Rattle.sock_pair.proofs.StreamMatches.{received_nothing_as, receiving_view, sending_view, sent_self, syn_empty}
 use Rattle.sock_pair.proofs.StreamSending.{queue_length, released_le}

@@ -1,7 +1,7 @@
 -- A connection opens, and falls back to LISTEN.
-use Rattle.std.proofs.Common.{◌≡◌, ℕ, zero, suc, ◌+◌, ◌-◌, ◌%◌, ◌^◌, ◌<◌, ◌≤◌, ◌⊎◌, Bool, true, false, refl, sym, ap, subst, ◌∙◌, arith, List, [], ◌∷◌, ◌++◌, length, drop, take, Some, None, slice_get, inl, inr, ⊎_elim, append_assoc, take-append-drop, length-append, add-zero}
+use Rattle.std.proofs.Common.{◌≡◌, ℕ, ◌+◌, ◌-◌, ◌%◌, ◌^◌, ◌<◌, true, false, refl, sym, ap, subst, ◌∙◌, arith, [], ◌++◌, length, inl, inr, ⊎_elim}
 use Rattle.std.specs.List.{Contains}
-use Rattle.std.proofs.lemmas.List.{drop_all, drop-append-le, append-nil, nil_from_length}
+use Rattle.std.proofs.lemmas.List.{append-nil, nil_from_length}
 use Rattle.sock_core.specs.Places.{number_at}
 use Rattle.sock_core.proofs.Numbers.{number_add, origin_of}
 use Rattle.sock_pair.specs.Network.{Arrives, Network, connected, crossed, fallen_back, heard_by, listened, synchronizing, with_local}
@@ -10,7 +10,7 @@ use Rattle.sock_pair.specs.StreamEffects.{HearsAck, SndNxtWithin}
 use Rattle.sock_pair.specs.StreamViews.{Dead, HasIss, HasNoIss, IsNonSynchronized, Listening, Sending, SocketView, StreamSegment, SynReceived, SynSent, Unopened}
 use Rattle.sock_pair.proofs.NetworkChanges.{changes_keep, comes_here, is_young, keeps_keep, redraw}
 use Rattle.sock_pair.proofs.StreamAcking.{released_more}
-use Rattle.sock_pair.proofs.StreamFallBack.{any_ack, nothing_yet}
+use Rattle.sock_pair.proofs.StreamFallBack.{any_ack}
 use Rattle.sock_pair.proofs.StreamGrowth.{sound_kept, stays}
 use Rattle.sock_pair.proofs.StreamMatches.{iss_sending, received_nothing_as, sent_self, syn_empty, syn_receiving}
 use Rattle.sock_pair.proofs.StreamSending.{queue_length}

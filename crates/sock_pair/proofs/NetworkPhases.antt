@@ -1,5 +1,5 @@
 -- What the phases say of one another.
-use Rattle.std.proofs.Common.{◌≡◌, ℕ, zero, suc, ◌+◌, ◌-◌, ◌%◌, ◌^◌, ◌<◌, ◌≤◌, ◌⊎◌, Bool, true, false, refl, sym, ap, subst, ◌∙◌, arith, List, [], ◌∷◌, ◌++◌, length, drop, take, Some, None, slice_get, inl, inr, ⊎_elim}
+use Rattle.std.proofs.Common.{◌≡◌, ◌⊎◌, refl, subst, inl, inr}
 use Rattle.sock_pair.specs.StreamViews.{Closing, Dead, HasIss, HasNoIss, IsNonSynchronized, IsSynchronized, KnowsPeer, Listening, Phase, Sending, Silent, SynReceived, SynSent, Unopened}
 
 -- a side is CLOSED for good, or what follows from its being alive holds

@@ -1,5 +1,5 @@
 -- Every run delivers both streams.
-use Rattle.std.proofs.Common.{◌≡◌, ℕ, zero, suc, ◌+◌, ◌-◌, ◌%◌, ◌^◌, ◌<◌, ◌≤◌, ◌⊎◌, Bool, true, false, refl, sym, ap, subst, ◌∙◌, arith, List, [], ◌∷◌, ◌++◌, length, drop, take, Some, None, inl, inr, ⊎_elim, append_assoc, length-append}
+use Rattle.std.proofs.Common.{◌≡◌, ℕ, true, false, refl, sym, ap, subst, ◌∙◌, arith, List, [], ◌∷◌, ◌++◌, length, Some, None, inl, inr, ⊎_elim, append_assoc, length-append}
 use Rattle.std.specs.List.{Contains}
 use Rattle.std.specs.declared.option.Option.{Option}
 use Rattle.std.proofs.lemmas.List.Elements.{Contains-push_cases, Contains-append_cases}
@@ -8,10 +8,9 @@ use Rattle.sock_core.proofs.Streams.{prefix_take}
 use Rattle.sock_pair.specs.Network.{Endpoint, Finishes, IsWithin, Network, swapped}
 use Rattle.sock_pair.specs.NetworkInvariant.{IsInvariant, IsLimit, StreamInvariant}
 use Rattle.sock_pair.specs.NetworkRuns.{AlwaysCompletes, AlwaysDelivers, AlwaysEnds, AreDelivered, EitherSteps, HasEnded, IsDelivered, Run, start, unopened}
-use Rattle.sock_pair.specs.StreamModel.{IsSound, Stream, counted}
+use Rattle.sock_pair.specs.StreamModel.{IsSound, Stream}
 use Rattle.sock_pair.proofs.NetworkChanges.{counts_ordered, none_in}
 use Rattle.sock_pair.proofs.NetworkSteps.{closed_stays, either_keeps, remote_stays, swapped_keeps}
-use Rattle.sock_pair.proofs.StreamFallBack.{nothing_yet}
 use Rattle.sock_pair.proofs.StreamGrowth.{sound_front}
 
 -- a stream of which nothing has happened

@@ -1,7 +1,7 @@
 -- Segments go out, come and are answered.
-use Rattle.std.proofs.Common.{◌≡◌, ℕ, zero, suc, ◌+◌, ◌-◌, ◌%◌, ◌^◌, ◌<◌, ◌≤◌, ◌⊎◌, Bool, true, false, refl, sym, ap, subst, ◌∙◌, arith, List, [], ◌∷◌, ◌++◌, length, drop, take, Some, None, slice_get, inl, inr, ⊎_elim, append_assoc, take-append-drop, length-append, add-zero}
+use Rattle.std.proofs.Common.{◌≡◌, ℕ, ◌+◌, ◌-◌, ◌%◌, ◌^◌, ◌<◌, ◌⊎◌, true, false, refl, sym, ap, subst, ◌∙◌, arith, List, [], ◌++◌, length, Some, inl, inr, ⊎_elim, length-append, add-zero}
 use Rattle.std.specs.List.{Contains}
-use Rattle.std.proofs.lemmas.List.{drop_all, drop-append-le, append-nil, nil_from_length}
+use Rattle.std.proofs.lemmas.List.{append-nil}
 use Rattle.sock_core.specs.Places.{number_at}
 use Rattle.sock_core.proofs.Streams.{prefix_self}
 use Rattle.sock_pair.specs.Network.{Arrives, IsStamped, Network, emitted, heard_by, with_local}
@@ -13,7 +13,7 @@ use Rattle.sock_pair.proofs.NetworkChanges.{changes_keep, comes_here, emit_keep,
 use Rattle.sock_pair.proofs.NetworkOpening.{emitter_has_iss}
 use Rattle.sock_pair.proofs.NetworkPhases.{dec_dead, knows_iss, no_iss_not_iss, only_syn_sent, synchronized_knows, synchronized_not_early, synchronized_not_no_iss}
 use Rattle.sock_pair.proofs.StreamAcking.{released_more}
-use Rattle.sock_pair.proofs.StreamFallBack.{ack_by_same_numbers, any_ack, first_ack, nothing_yet}
+use Rattle.sock_pair.proofs.StreamFallBack.{ack_by_same_numbers, any_ack, first_ack}
 use Rattle.sock_pair.proofs.StreamGrowth.{sender_grows, sound_kept}
 use Rattle.sock_pair.proofs.StreamHearing.{heard, heard_grows, heard_receiving}
 use Rattle.sock_pair.proofs.StreamMatches.{sending_same, sending_view, syn_empty, syn_unacked}

@@ -1,7 +1,5 @@
 -- Each step of a side keeps the invariant, and a closed side accepts nothing more.
-use Rattle.std.proofs.Common.{◌≡◌, ℕ, zero, suc, ◌+◌, ◌-◌, ◌%◌, ◌^◌, ◌<◌, ◌≤◌, ◌⊎◌, Bool, true, false, refl, sym, ap, subst, ◌∙◌, arith, List, [], ◌∷◌, ◌++◌, length, drop, take, Some, None, slice_get, inl, inr, ⊎_elim, append_assoc, take-append-drop, length-append, add-zero}
-use Rattle.std.specs.List.{Contains}
-use Rattle.std.proofs.lemmas.List.{drop_all, drop-append-le, append-nil, nil_from_length}
+use Rattle.std.proofs.Common.{◌≡◌, ◌+◌, true, false, sym, ap, subst, ◌∙◌, inl, inr}
 use Rattle.sock_pair.specs.Network.{Accepts, AnswersRefused, AnswersWrongAck, Closes, ClosesUnacknowledged, Connects, Dies, Emits, EmitsReset, FallsBack, Finishes, HandsOut, HearsAcknowledgement, HearsSegment, HearsSyn, HearsSynAck, HearsSynAlone, Listens, MovesSndNxt, Network, Step, swapped}
 use Rattle.sock_pair.specs.NetworkInvariant.{IsInvariant, PhaseAllows}
 use Rattle.sock_pair.specs.NetworkRuns.{EitherSteps, HasEnded}

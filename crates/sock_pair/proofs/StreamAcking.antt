@@ -1,5 +1,5 @@
 -- A true acknowledgement that comes releases only bytes that the receiver took.
-use Rattle.std.proofs.Common.{◌≡◌, ℕ, zero, suc, ◌+◌, ◌-◌, ◌%◌, ◌^◌, ◌<◌, ◌≤◌, ◌⊎◌, Bool, true, false, refl, sym, ap, subst, ◌∙◌, arith, List, [], ◌∷◌, ◌++◌, length, drop, Some, None, slice_get, inl, inr, ⊎_elim, length-append, append_assoc, length-drop}
+use Rattle.std.proofs.Common.{◌≡◌, ℕ, ◌+◌, ◌%◌, ◌^◌, ◌<◌, ◌≤◌, ◌⊎◌, refl, sym, ap, subst, ◌∙◌, arith, [], length, drop, Some, inl, inr, ⊎_elim}
 use Rattle.std.proofs.lemmas.List.{drop-drop, drop_all}
 use Rattle.sock_core.specs.Places.{number_at}
 use Rattle.sock_core.proofs.Numbers.{number_add, same_place}

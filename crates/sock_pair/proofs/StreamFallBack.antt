@@ -1,6 +1,6 @@
 -- After a fall-back to LISTEN an acknowledgement speaks of an earlier initial number, and releases nothing.
-use Rattle.std.proofs.Common.{◌≡◌, ℕ, zero, suc, ◌+◌, ◌-◌, ◌%◌, ◌^◌, ◌<◌, ◌≤◌, ◌⊎◌, Bool, true, false, refl, sym, ap, subst, ◌∙◌, arith, List, [], ◌∷◌, ◌++◌, length, drop, Some, None, slice_get, inl, inr, ⊎_elim, length-append, append_assoc, length-drop, add-zero}
-use Rattle.std.proofs.lemmas.List.{drop-drop, drop_all}
+use Rattle.std.proofs.Common.{◌≡◌, ℕ, ◌+◌, ◌%◌, ◌^◌, ◌<◌, ◌≤◌, ◌⊎◌, Bool, true, false, refl, sym, ap, subst, ◌∙◌, arith, [], length, drop, Some, inl, inr, ⊎_elim, add-zero}
+use Rattle.std.proofs.lemmas.List.{drop_all}
 use Rattle.sock_core.specs.Places.{number_at}
 use Rattle.sock_core.specs.Streams.{fin_length}
 use Rattle.sock_core.proofs.Numbers.{number_add, same_origin}

@@ -1,5 +1,5 @@
 -- A stream that grows stays sound, and what is true of it stays true.
-use Rattle.std.proofs.Common.{◌≡◌, ℕ, zero, suc, ◌+◌, ◌-◌, ◌<◌, ◌≤◌, ◌⊎◌, Bool, true, false, refl, sym, ap, subst, ◌∙◌, arith, List, [], ◌∷◌, ◌++◌, length, Some, None, slice_get, inl, inr, ⊎_elim}
+use Rattle.std.proofs.Common.{◌≡◌, ℕ, ◌+◌, ◌≤◌, ◌⊎◌, Bool, true, false, refl, sym, ap, ◌∙◌, arith, List, length, inl, inr, ⊎_elim}
 use Rattle.std.proofs.lemmas.Bool.{cases_lt}
 use Rattle.sock_core.specs.Streams.{ByteAt, IsPrefix, fin_length}
 use Rattle.sock_core.proofs.Streams.{byte_within, le_from_at, prefix_at, prefix_back, prefix_from_at, prefix_le, prefix_self}

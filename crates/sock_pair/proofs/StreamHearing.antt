@@ -1,12 +1,11 @@
 -- A true segment that comes makes the stream grow.
-use Rattle.std.proofs.Common.{◌≡◌, ℕ, zero, suc, ◌+◌, ◌-◌, ◌%◌, ◌^◌, ◌<◌, ◌≤◌, ◌⊎◌, Bool, true, false, refl, sym, ap, subst, ◌∙◌, arith, List, [], ◌∷◌, ◌++◌, length, Some, None, slice_get, inl, inr, ⊎_elim, length-append, append_assoc}
+use Rattle.std.proofs.Common.{◌≡◌, ℕ, ◌+◌, ◌-◌, ◌%◌, ◌^◌, ◌<◌, ◌≤◌, ◌⊎◌, Bool, true, false, refl, sym, ap, subst, ◌∙◌, arith, List, [], ◌++◌, length, Some, inl, inr, ⊎_elim, length-append, append_assoc}
 use Rattle.std.proofs.lemmas.List.{append-nil}
 use Rattle.sock_core.specs.Places.{number_at}
 use Rattle.sock_core.specs.Streams.{ByteAt, fin_length}
 use Rattle.sock_core.proofs.Numbers.{number_add, same_place}
 use Rattle.sock_core.proofs.Streams.{byte_right, byte_within, le_from_at, no_bytes, prefix_self}
 use Rattle.sock_pair.specs.NetworkInvariant.{HasTruePayload, QueueFits, ReceivingMatches}
-use Rattle.sock_pair.specs.NetworkRuns.{start}
 use Rattle.sock_pair.specs.StreamEffects.{Brings, HearsData}
 use Rattle.sock_pair.specs.StreamModel.{Grows, IsSound, IsTruePayload, MayCome, PlacedPayload, Stream, counted}
 use Rattle.sock_pair.specs.StreamViews.{SocketView, StreamSegment}

@@ -1,5 +1,5 @@
 -- A stream's halves against a view of either side.
-use Rattle.std.proofs.Common.{◌≡◌, ℕ, zero, suc, ◌+◌, ◌-◌, ◌%◌, ◌^◌, ◌<◌, ◌≤◌, ◌⊎◌, Bool, true, false, refl, sym, ap, subst, ◌∙◌, arith, List, [], ◌∷◌, ◌++◌, length, drop, take, Some, None, slice_get, inl, inr, ⊎_elim}
+use Rattle.std.proofs.Common.{◌≡◌, ℕ, ◌+◌, ◌%◌, ◌^◌, ◌≤◌, ◌⊎◌, false, refl, sym, ap, subst, ◌∙◌, arith, List, [], ◌++◌, length, drop, inl, inr, ⊎_elim}
 use Rattle.std.proofs.lemmas.List.{drop_all}
 use Rattle.sock_core.specs.Places.{number_at}
 use Rattle.sock_core.specs.Streams.{fin_length}

@@ -1,10 +1,9 @@
 -- What a side sends is true of its stream.
-use Rattle.std.proofs.Common.{◌≡◌, ℕ, zero, suc, ◌+◌, ◌-◌, ◌%◌, ◌^◌, ◌<◌, ◌≤◌, ◌⊎◌, Bool, true, false, refl, sym, ap, subst, ◌∙◌, arith, List, [], ◌∷◌, ◌++◌, length, drop, Some, None, slice_get, inl, inr, ⊎_elim, length-append, append_assoc, length-drop}
+use Rattle.std.proofs.Common.{◌≡◌, ℕ, ◌+◌, ◌-◌, ◌%◌, ◌^◌, ◌≤◌, ◌⊎◌, true, false, refl, sym, ap, subst, ◌∙◌, arith, length, inl, inr, ⊎_elim, length-drop}
 use Rattle.sock_core.specs.Streams.{ByteAt}
 use Rattle.sock_core.proofs.Numbers.{number_add, number_back}
 use Rattle.sock_core.proofs.Streams.{byte_drop, byte_within, le_from_at}
 use Rattle.sock_pair.specs.NetworkInvariant.{HasTruePayload, PhaseAllows, SendingMatches}
-use Rattle.sock_pair.specs.NetworkRuns.{start}
 use Rattle.sock_pair.specs.StreamEffects.{SendsKeepAlive, SendsPayload}
 use Rattle.sock_pair.specs.StreamModel.{IsSound, Stream}
 use Rattle.sock_pair.specs.StreamViews.{Closing, SocketView, StreamSegment}

@@ -1,11 +1,10 @@
 -- Runs of a network, and what is promised of them.
-use Rattle.std.specs.Prelude.{ℕ, ◌≡◌, ◌≤◌, ◌⊎◌, Bool, true, false, List, [], ◌∷◌, ◌++◌, length, take}
+use Rattle.std.specs.Prelude.{ℕ, ◌≡◌, ◌≤◌, ◌⊎◌, true, false, List, [], ◌∷◌, ◌++◌, length, take}
 use Rattle.std.specs.List.{Contains}
 use Rattle.std.specs.declared.option.Option.{Option}
 use Rattle.std.specs.declared.option.Option.TheVariants.{None}
 use Rattle.sock_pair.specs.StreamViews.{Unopened}
-use Rattle.sock_pair.specs.StreamViews.{StreamSegment}
-use Rattle.sock_pair.specs.Network.{Endpoint, Network, swapped, Step, AnswersFinished, IsYoung}
+use Rattle.sock_pair.specs.Network.{Endpoint, Network, swapped, Step, AnswersFinished}
 
 -- either side takes a step
 abbrev pub EitherSteps : Network → Network → Type 0
