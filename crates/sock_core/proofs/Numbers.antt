@@ -54,24 +54,26 @@ order_agrees o p q near near' =
       | inr le ↦ rw (distance_up o p q le (omega arith), le-ltb p q le) (lt-leb (2 ^ 31) (p - q) (omega arith))
     ]
 
--- the later and the sooner number are those of the greater and the lesser place
+-- the later number is that of the greater place
 pub later_place : (o p q : ℕ) → p < q + 2 ^ 31 → q < p + 2 ^ 31 → later_number (number_at o p) (number_at o q) ≡ number_at o (max p q)
 later_place o p q a b = ⊎_elim
     (λ l. rw (order_agrees o p q a b, lt-ltb p q l) (ap (number_at o) (omega arith)))
     (λ l. rw (order_agrees o p q a b, le-ltb p q l) (ap (number_at o) (omega arith)))
     (cases_lt p q)
 
+-- and the sooner number is that of the lesser place
 pub sooner_place : (o p q : ℕ) → p < q + 2 ^ 31 → q < p + 2 ^ 31 → sooner_number (number_at o p) (number_at o q) ≡ number_at o (min p q)
 sooner_place o p q a b = ⊎_elim
     (λ l. rw (order_agrees o p q a b, lt-ltb p q l) (ap (number_at o) (omega arith)))
     (λ l. rw (order_agrees o p q a b, le-ltb p q l) (ap (number_at o) (omega arith)))
     (cases_lt p q)
 
--- what the test says of the distance
+-- what the test says of the distance, where it fails
 pub not_before : (a b : ℕ) → number_is_before a b ≡ false → (a + (2 ^ 32 - b)) % 2 ^ 32 < 2 ^ 31
 unfolding number_is_before number_distance
 not_before a b e = grind (arith, nat_tests)
 
+-- and where it holds
 pub is_before : (a b : ℕ) → number_is_before a b ≡ true → 2 ^ 31 ≤ (a + (2 ^ 32 - b)) % 2 ^ 32
 unfolding number_is_before number_distance
 is_before a b e = grind (arith, nat_tests)
@@ -81,6 +83,7 @@ pub distance_back : (a b : ℕ) → a < 2 ^ 32 → b < 2 ^ 32 → a ≡ (b + num
 unfolding number_distance
 distance_back a b l m = omega arith
 
+-- no number lies past itself
 pub distance_self : (a : ℕ) → a < 2 ^ 32 → number_distance a a ≡ 0
 unfolding number_distance
 distance_self a l = omega arith

@@ -20,10 +20,11 @@ byte_in_prefix [] ys j b l h = absurd (omega arith)
 byte_in_prefix (x ∷ xs) ys zero b l h = h
 byte_in_prefix (x ∷ xs) ys (suc j) b l h = byte_in_prefix xs ys j b (omega arith) h
 
--- the same two, of a prefix
+-- a byte of a prefix is a byte of the whole
 pub prefix_at : (xs ys : List ℕ) (j b : ℕ) → IsPrefix xs ys → ByteAt xs j b → ByteAt ys j b
 prefix_at xs ys j b f h = subst (λ zs. ByteAt zs j b) f.1 (byte_of_prefix xs f.0 j b h)
 
+-- and back, below its length
 pub prefix_back : (xs ys : List ℕ) (j b : ℕ) → IsPrefix xs ys → j < length xs → ByteAt ys j b → ByteAt xs j b
 prefix_back xs ys j b f l h = byte_in_prefix xs f.0 j b l (subst (λ zs. ByteAt zs j b) (sym f.1) h)
 

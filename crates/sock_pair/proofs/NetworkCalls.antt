@@ -10,6 +10,8 @@ use Rattle.sock_pair.specs.StreamModel.{Stream}
 use Rattle.sock_pair.specs.StreamViews.{Closing, Dead, HasIss, HasNoIss, IsNonSynchronized, KnowsPeer, Sending, SocketView, SynReceived, SynSent}
 use Rattle.sock_pair.proofs.NetworkChanges.{changes_keep, keeps_keep, remote_has_iss}
 use Rattle.sock_pair.proofs.NetworkPhases.{no_iss_not_iss}
+use Rattle.sock_pair.proofs.StreamCut.{longer}
+use Rattle.sock_pair.proofs.StreamFallBack.{nothing_yet}
 use Rattle.sock_pair.proofs.StreamGrowth.{sender_grows, stays}
 use Rattle.sock_pair.proofs.StreamMatches.{received_nothing_as, receiving_view, sending_view, sent_self, syn_empty}
 use Rattle.sock_pair.proofs.StreamSending.{queue_length, released_le}
@@ -61,11 +63,12 @@ accepts w bs e small within i =
       knows = λ m u. remote_has_iss w i m u;
     })
 
--- an empty queue gives nothing, and keeps nothing
+-- nothing is taken of an empty queue
 take_nil : (n : ℕ) (xs : List ℕ) → xs ≡ [] → take n xs ≡ []
 take_nil zero xs e = refl
 take_nil (suc n) xs e = ap (take (suc n)) e
 
+-- and nothing is left of it
 drop_nil : (n : ℕ) (xs : List ℕ) → xs ≡ [] → drop n xs ≡ []
 drop_nil zero xs e = e
 drop_nil (suc n) xs e = ap (drop (suc n)) e

@@ -7,9 +7,8 @@ use Rattle.sock_core.specs.Streams.{IsPrefix}
 use Rattle.sock_core.proofs.Streams.{le_from_at}
 use Rattle.sock_pair.specs.Network.{Endpoint, IsWithin, IsYoung, MayArrive, Network, emitted, with_local}
 use Rattle.sock_pair.specs.NetworkInvariant.{HasFallenBack, HasReceivedNothing, HasSentNothing, IsInvariant, IsLimit, IsTrueSegment, QueueFits, ReceivingMatches, SameNumbers, SendingMatches, StreamInvariant}
-use Rattle.sock_pair.specs.StreamEffects.{AcksBytes, AcksFin, AcksSyn, HearsAck}
 use Rattle.sock_pair.specs.StreamModel.{Grows, Stream}
-use Rattle.sock_pair.specs.StreamViews.{Dead, HasIss, HasNoIss, IsNonSynchronized, KnowsPeer, Sending, SocketView, StreamSegment, SynSent}
+use Rattle.sock_pair.specs.StreamViews.{Dead, HasIss, HasNoIss, IsNonSynchronized, KnowsPeer, Sending, StreamSegment, SynSent}
 use Rattle.sock_pair.proofs.NetworkPhases.{dec_dead, no_iss_not_iss, no_iss_not_sending}
 use Rattle.sock_pair.proofs.StreamGrowth.{ack_kept, counted_le, payload_kept, sound_kept, stays}
 use Rattle.sock_pair.proofs.StreamMatches.{SameReceived, SameSent, received_nothing_same, received_self, receiving_same, sending_same, sent_nothing_same, sent_self}
@@ -207,12 +206,6 @@ remote_has_iss w i m u = ⊎_elim (λ a. a.unknown m) (λ d. subst KnowsPeer d m
 -- a segment that comes to a living side is true
 pub comes_here : (w : Network) (i : IsInvariant w) (g : StreamSegment) → Contains w.remote_segments g → (w.local.view.phase ≡ Dead → ⊥) → IsTrueSegment w.remote w.local g i.remote_origin i.local_acked_origin i.incoming i.outgoing
 comes_here w i g m lives = ⊎_elim (λ d. absurd (lives d)) (λ t. t) (i.remote_true g m)
-
--- after an acknowledgement the peer's number is known as before
-pub acked_knows : (x u : SocketView) (g : StreamSegment) → HearsAck x u g → KnowsPeer x.phase → KnowsPeer u.phase
-acked_knows x u g (AcksBytes a n e le rel ph b q nf) m = subst KnowsPeer (sym ph) m
-acked_knows x u g (AcksSyn a e rel ph to b q nf) m = subst KnowsPeer (sym to) tt
-acked_knows x u g (AcksFin a e rel ph to b q nf) m = subst KnowsPeer (sym to) tt
 
 -- a true segment may go out, if it speaks of no initial number that is not chosen
 pub emit_keep : (w : Network) (i : IsInvariant w) (g : StreamSegment) → (w.remote.view.phase ≡ Dead) ⊎ IsTrueSegment w.local w.remote g i.local_origin i.remote_acked_origin i.outgoing i.incoming → (HasNoIss w.local.view.phase → g.rst ≡ true) → (g.rst ≡ false → (a : ℕ) → g.ack ≡ Some a → KnowsPeer w.local.view.phase) → IsInvariant (emitted w g)

@@ -8,15 +8,17 @@ use Rattle.sock_core.proofs.Streams.{prefix_take}
 use Rattle.sock_pair.specs.Network.{Endpoint, Finishes, IsWithin, Network, swapped}
 use Rattle.sock_pair.specs.NetworkInvariant.{IsInvariant, IsLimit, StreamInvariant}
 use Rattle.sock_pair.specs.NetworkRuns.{AlwaysCompletes, AlwaysDelivers, AlwaysEnds, AreDelivered, EitherSteps, HasEnded, IsDelivered, Run, start, unopened}
-use Rattle.sock_pair.specs.StreamModel.{IsSound, Stream}
+use Rattle.sock_pair.specs.StreamModel.{IsSound, Stream, counted}
 use Rattle.sock_pair.proofs.NetworkChanges.{counts_ordered, none_in}
-use Rattle.sock_pair.proofs.NetworkSteps.{closed_stays, either_keeps, remote_stays, swapped_keeps}
+use Rattle.sock_pair.proofs.NetworkSteps.{closed_stays, either_keeps, step_adds, swapped_keeps}
+use Rattle.sock_pair.proofs.StreamFallBack.{nothing_yet}
 use Rattle.sock_pair.proofs.StreamGrowth.{sound_front}
 
 -- a stream of which nothing has happened
 empty_stream : Stream
 empty_stream = record { accepted = []; closed = false; released = 0; joined = []; held = λ k. None; fin_counted = false }
 
+-- it is sound
 empty_sound : IsSound empty_stream
 unfolding empty_stream
 empty_sound = record {
@@ -26,6 +28,7 @@ empty_sound = record {
   fin = λ e. let c : false ≡ true = e in cc;
 }
 
+-- and it matches two sockets that were never opened
 empty_holds : StreamInvariant unopened unopened 0 empty_stream
 unfolding empty_stream
 empty_holds = record {
@@ -106,13 +109,14 @@ one_delivered x y o f l =
 pub both_delivered : (w : Network) → IsInvariant w → AreDelivered w
 both_delivered w i = record { outgoing = one_delivered w.local w.remote i.local_origin i.outgoing i.outgoing_holds; incoming = one_delivered w.remote w.local i.remote_origin i.incoming i.incoming_holds }
 
--- the three laws, whatever the limit
+-- every network that a run reaches delivers both streams
 pub always_delivers : (limit : Option ℕ) → IsLimit limit → AlwaysDelivers limit
 always_delivers limit bound = record {
   at_the_end = λ way end r. both_delivered end (run_keeps way (start limit) end r (starts limit bound));
   on_the_way = λ way end r w c. both_delivered w (way_keeps way (start limit) end w r c (starts limit bound));
 }
 
+-- a read that answers Finished changes nothing and finds the stream complete
 pub always_completes : (limit : Option ℕ) → IsLimit limit → AlwaysCompletes limit
 always_completes limit bound = record {
   is_step = λ old new read. Finishes read.finished read.same;
@@ -123,12 +127,14 @@ always_completes limit bound = record {
 -- a side's stream ends with its close, whichever side takes a step
 local_ends : (w v : Network) → EitherSteps w v → IsInvariant w → w.local.closed ≡ true → HasEnded w.local v.local
 local_ends w v (inl step) i c = closed_stays w v step i c
-local_ends w v (inr step) i c = let e = remote_stays (swapped w) (swapped v) step in record { closed = ap (λ (z : Endpoint). z.closed) e ∙ c; accepted = ap (λ (z : Endpoint). z.accepted) e }
+local_ends w v (inr step) i c = let e = (step_adds (swapped w) (swapped v) step).remote in record { closed = ap (λ (z : Endpoint). z.closed) e ∙ c; accepted = ap (λ (z : Endpoint). z.accepted) e }
 
+-- a step of either side is one as the other side sees it
 other : (w v : Network) → EitherSteps w v → EitherSteps (swapped w) (swapped v)
 other w v (inl step) = inr step
 other w v (inr step) = inl step
 
+-- a closed stream has ended
 pub always_ends : (limit : Option ℕ) → IsLimit limit → AlwaysEnds limit
 always_ends limit bound = record {
   local = λ way old new r step c. local_ends old new step (run_keeps way (start limit) old r (starts limit bound)) c;

@@ -1,9 +1,12 @@
--- Each step of a side keeps the invariant, and a closed side accepts nothing more.
-use Rattle.std.proofs.Common.{◌≡◌, ◌+◌, true, false, sym, ap, subst, ◌∙◌, inl, inr}
-use Rattle.sock_pair.specs.Network.{Accepts, AnswersRefused, AnswersWrongAck, Closes, ClosesUnacknowledged, Connects, Dies, Emits, EmitsReset, FallsBack, Finishes, HandsOut, HearsAcknowledgement, HearsSegment, HearsSyn, HearsSynAck, HearsSynAlone, Listens, MovesSndNxt, Network, Step, swapped}
+-- Each step of a side keeps the invariant and only adds, and a closed side accepts nothing more.
+use Rattle.std.proofs.Common.{◌≡◌, ℕ, zero, suc, ◌+◌, ◌-◌, ◌%◌, ◌^◌, ◌<◌, ◌≤◌, ◌⊎◌, Bool, true, false, refl, sym, ap, subst, ◌∙◌, arith, List, [], ◌∷◌, ◌++◌, length, drop, take, Some, None, inl, inr, ⊎_elim}
+use Rattle.std.proofs.lemmas.List.{append-nil}
+use Rattle.sock_core.specs.Streams.{IsPrefix}
+use Rattle.sock_core.proofs.Streams.{prefix_self}
+use Rattle.sock_pair.specs.Network.{Accepts, AnswersRefused, AnswersWrongAck, Closes, ClosesUnacknowledged, Connects, Dies, Emits, EmitsReset, Endpoint, FallsBack, Finishes, HandsOut, HearsAcknowledgement, HearsSegment, HearsSyn, HearsSynAck, HearsSynAlone, Listens, MovesSndNxt, Network, Step, closed_after, closed_unacknowledged, connected, crossed, emitted, fallen_back, heard_by, listened, swapped, synchronizing, with_accepted, with_local, with_read, with_snd_nxt, with_view}
 use Rattle.sock_pair.specs.NetworkInvariant.{IsInvariant, PhaseAllows}
-use Rattle.sock_pair.specs.NetworkRuns.{EitherSteps, HasEnded}
-use Rattle.sock_pair.specs.StreamViews.{HasIss}
+use Rattle.sock_pair.specs.NetworkRuns.{EitherSteps, HasEnded, OnlyAdds}
+use Rattle.sock_pair.specs.StreamViews.{HasIss, Sending, SocketView, StreamSegment}
 use Rattle.sock_pair.proofs.NetworkCalls.{accepts, closes, closes_unacknowledged, dies, hands_out, moves_snd_nxt}
 use Rattle.sock_pair.proofs.NetworkOpening.{connects, falls_back, hears_syn, hears_syn_ack, hears_syn_alone, listens}
 use Rattle.sock_pair.proofs.NetworkSegments.{answers_refused, answers_wrong_ack, emits, emits_reset, hears_acknowledgement, hears_segment}
@@ -59,53 +62,89 @@ pub either_keeps : (w v : Network) → EitherSteps w v → IsInvariant w → IsI
 either_keeps w v (inl step) i = step_keeps w v step i
 either_keeps w v (inr step) i = swapped_keeps (swapped v) (step_keeps (swapped w) (swapped v) step (swapped_keeps w i))
 
--- a step that keeps both keeps the end
-as_before : (w v : Network) → v.local.closed ≡ w.local.closed → v.local.accepted ≡ w.local.accepted → w.local.closed ≡ true → HasEnded w.local v.local
-as_before w v closed accepted c = record { closed = closed ∙ c; accepted = accepted }
+-- the local side changes in its view, its counts and what it handed out
+adds_counts : (w : Network) (e : Endpoint) → e.accepted ≡ w.local.accepted → e.closed ≡ w.local.closed → IsPrefix w.local.handed_out e.handed_out → w.local.released ≤ e.released → w.local.taken ≤ e.taken → OnlyAdds w (with_local w e)
+adds_counts w e accepted closed handed_out released taken = record {
+  remote = refl;
+  remote_segments = refl;
+  limit = refl;
+  local_segments = ([], sym (append-nil w.local_segments));
+  handed_out = handed_out;
+  released = released;
+  taken = taken;
+  accepted = inl accepted;
+  closed = inl closed;
+}
 
--- the local side's stream ends with its close
+-- it changes in its view alone
+adds_none : (w : Network) (e : Endpoint) → e.accepted ≡ w.local.accepted → e.closed ≡ w.local.closed → e.handed_out ≡ w.local.handed_out → e.released ≡ w.local.released → e.taken ≡ w.local.taken → OnlyAdds w (with_local w e)
+adds_none w e accepted closed handed_out released taken = adds_counts w e accepted closed ([], append-nil w.local.handed_out ∙ sym handed_out) (omega (arith, released)) (omega (arith, taken))
+
+-- a segment was heard
+adds_heard : (w : Network) (v : SocketView) → OnlyAdds w (with_local w (heard_by w.local v))
+adds_heard w v = adds_counts w (heard_by w.local v) refl refl (prefix_self w.local.handed_out) (omega arith) (omega arith)
+
+-- a segment went out
+adds_segment : (w : Network) (g : StreamSegment) → OnlyAdds w (emitted w g)
+adds_segment w g = record {
+  remote = refl;
+  remote_segments = refl;
+  limit = refl;
+  local_segments = (g ∷ [], refl);
+  handed_out = prefix_self w.local.handed_out;
+  released = omega arith;
+  taken = omega arith;
+  accepted = inl refl;
+  closed = inl refl;
+}
+
+-- the sending side accepts more, or is closed
+adds_stream : (w : Network) (e : Endpoint) → w.local.view.phase ≡ Sending → IsPrefix w.local.accepted e.accepted → (e.closed ≡ w.local.closed) ⊎ (e.closed ≡ true) → e.handed_out ≡ w.local.handed_out → e.released ≡ w.local.released → e.taken ≡ w.local.taken → OnlyAdds w (with_local w e)
+adds_stream w e sends more closes handed_out released taken = record {
+  remote = refl;
+  remote_segments = refl;
+  limit = refl;
+  local_segments = ([], sym (append-nil w.local_segments));
+  handed_out = ([], append-nil w.local.handed_out ∙ sym handed_out);
+  released = omega (arith, released);
+  taken = omega (arith, taken);
+  accepted = inr (sends, more);
+  closed = ⊎_elim (λ same. inl same) (λ closed. inr (sends, closed)) closes;
+}
+
+-- what each step adds
+pub step_adds : (w v : Network) → Step w v → OnlyAdds w v
+step_adds w v (Listens e is) = subst (OnlyAdds w) (sym is) (adds_none w (listened w.local) refl refl refl refl refl)
+step_adds w v (Connects iss small e is) = subst (OnlyAdds w) (sym is) (adds_none w (connected w.local iss) refl refl refl refl refl)
+step_adds w v (Accepts bytes e small within is) = subst (OnlyAdds w) (sym is) (adds_stream w (with_accepted w.local bytes) e (bytes, refl) (inl refl) refl refl refl)
+step_adds w v (HandsOut n is) = subst (OnlyAdds w) (sym is) (adds_counts w (with_read w.local n) refl refl (take n w.local.view.receive_queue, refl) (omega arith) (omega arith))
+step_adds w v (Finishes done is) = subst (OnlyAdds w) (sym is) (adds_none w w.local refl refl refl refl refl)
+step_adds w v (Closes e is) = subst (OnlyAdds w) (sym is) (adds_stream w (closed_after w.local) e (prefix_self w.local.accepted) (inr refl) refl refl refl)
+step_adds w v (ClosesUnacknowledged e is) = subst (OnlyAdds w) (sym is) (adds_none w (closed_unacknowledged w.local) refl refl refl refl refl)
+step_adds w v (Dies u e kept fin is) = subst (OnlyAdds w) (sym is) (adds_none w (with_view w.local u) refl refl refl refl refl)
+step_adds w v (MovesSndNxt n nf is) = subst (OnlyAdds w) (sym is) (adds_none w (with_snd_nxt w.local n) refl refl refl refl refl)
+step_adds w v (Emits g plain now d part acks syn is) = subst (OnlyAdds w) (sym is) (adds_segment w g)
+step_adds w v (EmitsReset g rst dead is) = subst (OnlyAdds w) (sym is) (adds_segment w g)
+step_adds w v (HearsSegment g u come live came same is) = subst (OnlyAdds w) (sym is) (adds_heard w u)
+step_adds w v (HearsAcknowledgement g u come m came ack mu is) = subst (OnlyAdds w) (sym is) (adds_heard w u)
+step_adds w v (FallsBack g sent reset e listener is) = subst (OnlyAdds w) (sym is) (adds_none w (fallen_back w.local) refl refl refl refl refl)
+step_adds w v (AnswersRefused g k sent plain ph reset is) = subst (OnlyAdds w) (sym is) (adds_segment w k)
+step_adds w v (AnswersWrongAck g k a sent plain ph ack wrong reset is) = subst (OnlyAdds w) (sym is) (adds_segment w k)
+step_adds w v (HearsSyn g iss small sent plain syn e is) = subst (OnlyAdds w) (sym is) (adds_none w (synchronizing w.local g iss) refl refl refl refl refl)
+step_adds w v (HearsSynAlone g n nf sent plain syn e is) = subst (OnlyAdds w) (sym is) (adds_none w (crossed w.local g n) refl refl refl refl refl)
+step_adds w v (HearsSynAck g u come syn e ack to nxt queue held fin is) = subst (OnlyAdds w) (sym is) (adds_heard w u)
+
+-- a side that was closed does not send, so its stream has ended
 pub closed_stays : (w v : Network) → Step w v → IsInvariant w → w.local.closed ≡ true → HasEnded w.local v.local
-closed_stays w v (Accepts bytes e small within is) i c =
-    let t = i.outgoing_holds.sending (subst HasIss (sym e) tt) in
-    let says : (t.place ≡ i.outgoing.released + 2) × (i.outgoing.closed ≡ false) = subst (λ p. PhaseAllows p i.outgoing t.place) e t.phase in
-    absurd (let no : true ≡ false = sym c ∙ sym i.outgoing_holds.closed ∙ says.1 in cc)
-closed_stays w v (Closes e is) i c = record { closed = ap (λ (z : Network). z.local.closed) is; accepted = ap (λ (z : Network). z.local.accepted) is }
-closed_stays w v (Listens e is) i c = as_before w v (ap (λ (z : Network). z.local.closed) is) (ap (λ (z : Network). z.local.accepted) is) c
-closed_stays w v (Connects iss small e is) i c = as_before w v (ap (λ (z : Network). z.local.closed) is) (ap (λ (z : Network). z.local.accepted) is) c
-closed_stays w v (HandsOut n is) i c = as_before w v (ap (λ (z : Network). z.local.closed) is) (ap (λ (z : Network). z.local.accepted) is) c
-closed_stays w v (Finishes done is) i c = as_before w v (ap (λ (z : Network). z.local.closed) is) (ap (λ (z : Network). z.local.accepted) is) c
-closed_stays w v (ClosesUnacknowledged e is) i c = as_before w v (ap (λ (z : Network). z.local.closed) is) (ap (λ (z : Network). z.local.accepted) is) c
-closed_stays w v (Dies u e kept fin is) i c = as_before w v (ap (λ (z : Network). z.local.closed) is) (ap (λ (z : Network). z.local.accepted) is) c
-closed_stays w v (MovesSndNxt n nf is) i c = as_before w v (ap (λ (z : Network). z.local.closed) is) (ap (λ (z : Network). z.local.accepted) is) c
-closed_stays w v (Emits g plain now d part acks syn is) i c = as_before w v (ap (λ (z : Network). z.local.closed) is) (ap (λ (z : Network). z.local.accepted) is) c
-closed_stays w v (EmitsReset g rst dead is) i c = as_before w v (ap (λ (z : Network). z.local.closed) is) (ap (λ (z : Network). z.local.accepted) is) c
-closed_stays w v (HearsSegment g u come live came same is) i c = as_before w v (ap (λ (z : Network). z.local.closed) is) (ap (λ (z : Network). z.local.accepted) is) c
-closed_stays w v (HearsAcknowledgement g u come m came ack mu is) i c = as_before w v (ap (λ (z : Network). z.local.closed) is) (ap (λ (z : Network). z.local.accepted) is) c
-closed_stays w v (FallsBack g sent reset e listener is) i c = as_before w v (ap (λ (z : Network). z.local.closed) is) (ap (λ (z : Network). z.local.accepted) is) c
-closed_stays w v (AnswersRefused g k sent plain ph reset is) i c = as_before w v (ap (λ (z : Network). z.local.closed) is) (ap (λ (z : Network). z.local.accepted) is) c
-closed_stays w v (AnswersWrongAck g k a sent plain ph ack wrong reset is) i c = as_before w v (ap (λ (z : Network). z.local.closed) is) (ap (λ (z : Network). z.local.accepted) is) c
-closed_stays w v (HearsSyn g iss small sent plain syn e is) i c = as_before w v (ap (λ (z : Network). z.local.closed) is) (ap (λ (z : Network). z.local.accepted) is) c
-closed_stays w v (HearsSynAlone g n nf sent plain syn e is) i c = as_before w v (ap (λ (z : Network). z.local.closed) is) (ap (λ (z : Network). z.local.accepted) is) c
-closed_stays w v (HearsSynAck g u come syn e ack to nxt queue held fin is) i c = as_before w v (ap (λ (z : Network). z.local.closed) is) (ap (λ (z : Network). z.local.accepted) is) c
-
--- no step of the remote side touches it
-pub remote_stays : (w v : Network) → Step w v → v.remote ≡ w.remote
-remote_stays w v (Accepts bytes e small within is) = ap (λ (z : Network). z.remote) is
-remote_stays w v (Closes e is) = ap (λ (z : Network). z.remote) is
-remote_stays w v (Listens e is) = ap (λ (z : Network). z.remote) is
-remote_stays w v (Connects iss small e is) = ap (λ (z : Network). z.remote) is
-remote_stays w v (HandsOut n is) = ap (λ (z : Network). z.remote) is
-remote_stays w v (Finishes done is) = ap (λ (z : Network). z.remote) is
-remote_stays w v (ClosesUnacknowledged e is) = ap (λ (z : Network). z.remote) is
-remote_stays w v (Dies u e kept fin is) = ap (λ (z : Network). z.remote) is
-remote_stays w v (MovesSndNxt n nf is) = ap (λ (z : Network). z.remote) is
-remote_stays w v (Emits g plain now d part acks syn is) = ap (λ (z : Network). z.remote) is
-remote_stays w v (EmitsReset g rst dead is) = ap (λ (z : Network). z.remote) is
-remote_stays w v (HearsSegment g u come live came same is) = ap (λ (z : Network). z.remote) is
-remote_stays w v (HearsAcknowledgement g u come m came ack mu is) = ap (λ (z : Network). z.remote) is
-remote_stays w v (FallsBack g sent reset e listener is) = ap (λ (z : Network). z.remote) is
-remote_stays w v (AnswersRefused g k sent plain ph reset is) = ap (λ (z : Network). z.remote) is
-remote_stays w v (AnswersWrongAck g k a sent plain ph ack wrong reset is) = ap (λ (z : Network). z.remote) is
-remote_stays w v (HearsSyn g iss small sent plain syn e is) = ap (λ (z : Network). z.remote) is
-remote_stays w v (HearsSynAlone g n nf sent plain syn e is) = ap (λ (z : Network). z.remote) is
-remote_stays w v (HearsSynAck g u come syn e ack to nxt queue held fin is) = ap (λ (z : Network). z.remote) is
+closed_stays w v step i c =
+    let adds = step_adds w v step in
+    record {
+      closed = ⊎_elim (λ same. same ∙ c) (λ closes. closes.1) adds.closed;
+      accepted = ⊎_elim (λ same. same) (λ more. absurd (silent more.0)) adds.accepted;
+    }
+  where
+    silent : w.local.view.phase ≡ Sending → ⊥
+    silent e =
+        let t = i.outgoing_holds.sending (subst HasIss (sym e) tt) in
+        let says : (t.place ≡ i.outgoing.released + 2) × (i.outgoing.closed ≡ false) = subst (λ p. PhaseAllows p i.outgoing t.place) e t.phase in
+        let no : true ≡ false = sym c ∙ sym i.outgoing_holds.closed ∙ says.1 in cc

@@ -11,7 +11,7 @@ use Rattle.sock_core.proofs.Numbers.{distance_back, distance_self, distance_up, 
 use Rattle.sock_core.proofs.Streams.{byte_drop, byte_take, byte_within, prefix_from_at}
 use Rattle.sock_pair.specs.StreamEffects.{Brings, HearsData}
 use Rattle.sock_pair.specs.StreamViews.{SocketView, StreamSegment}
-use Rattle.sock_pair.specs.StreamWindow.{Gathers, IsInside, JoinsAtOnce, TakesPayload, cut, cut_from, cut_offset, merged, segment_end}
+use Rattle.sock_pair.specs.StreamTables.{Gathers, IsInside, JoinsAtOnce, TakesPayload, cut, cut_from, cut_offset, merged, segment_end}
 
 -- the cut of a segment at the place s against the window from l up to r
 pub cut_places : (o l r s : ℕ) (g : StreamSegment) → g.seq ≡ number_at o s → l ≤ r → r < l + 2 ^ 30 → s < l + 2 ^ 30 → l < s + 2 ^ 30 → length g.payload ≤ 65535 → s ≤ r → l ≤ s + length g.payload

@@ -38,6 +38,7 @@ module _ (o : ℕ) (f : Stream) (v w : SocketView) (g : StreamSegment) (hs : Lis
       absurd (omega (arith, byte_within f.accepted j b at_end, (s.fin e).1))
   new_comes i k b byte at false e = inr (is.placed, is.holds, omega (arith, ap fin_length e), record { index = i; here = omega (arith, at, ap fin_length e); byte = byte })
 
+  -- each byte that the segment brings may come
   brings_comes : (k b : ℕ) → Brings v g k b → MayCome f (length f.joined + k) b
   brings_comes k b h = ⊎_elim
       (λ held. inl (r.held k b held))
@@ -53,6 +54,7 @@ module _ (o : ℕ) (f : Stream) (v w : SocketView) (g : StreamSegment) (hs : Lis
         let here = comes_true f (length f.joined + k) b s (omega arith) (brings_comes k b (d.joined k b h)) in
         omega (arith, byte_within f.accepted (length f.joined + k) b here, (s.fin e).1))
 
+    -- a FIN that is counted came of a true payload
     fin_comes : ((x : ℕ) × (g.fin ≡ true) × (x ≤ length d.more) × (x < 2 ^ 31) × ((g.seq + length g.payload) % 2 ^ 32 ≡ (v.rcv_nxt + x) % 2 ^ 32)) → (c : Bool) → f.fin_counted ≡ c
         → (f.fin_counted ≡ true) ⊎ ((p : PlacedPayload) × IsTruePayload f p × (p.fin ≡ true) × (2 ≤ p.start + length p.bytes) × (p.start + length p.bytes ≤ length (f.joined ++ d.more) + 2))
     fin_comes new true e = inl e
@@ -61,12 +63,14 @@ module _ (o : ℕ) (f : Stream) (v w : SocketView) (g : StreamSegment) (hs : Lis
         let n : length g.payload ≡ length is.placed.bytes = ap length is.bytes in
         inr (is.placed, is.holds, sym is.fin ∙ new.1, omega (arith, at, n), omega (arith, at, n, new.2, ap fin_length e, length-append f.joined d.more))
 
+    -- RCV.NXT stands past what was counted
     rcv_nxt_is : w.rcv_nxt ≡ number_at o (counted (heard f w d.more) + 2)
     rcv_nxt_is =
         let e : w.rcv_nxt ≡ (number_at o (counted f + 2) + (length d.more + d.fins)) % 2 ^ 32 = d.rcv_nxt ∙ ap (λ n. (n + length d.more + d.fins) % 2 ^ 32) r.rcv_nxt ∙ ap (λ n. n % 2 ^ 32) (omega arith) in
         let n : counted f + 2 + (length d.more + d.fins) ≡ counted (heard f w d.more) + 2 = omega (arith, length-append f.joined d.more, d.fin_counts, ap fin_length r.fin) in
         e ∙ number_add o (counted f + 2) (length d.more + d.fins) ∙ ap (number_at o) n
 
+    -- so the stream grows
     pub heard_grows : Grows f (heard f w d.more)
     heard_grows = record {
       accepted = prefix_self f.accepted;
@@ -88,6 +92,7 @@ module _ (o : ℕ) (f : Stream) (v w : SocketView) (g : StreamSegment) (hs : Lis
       finished = λ e. (d.kept (r.fin ∙ e), ap (λ xs. f.joined ++ xs) (none_more e) ∙ append-nil f.joined);
     }
 
+    -- and the receiving half matches it
     pub heard_receiving : ReceivingMatches w hs o (heard f w d.more)
     heard_receiving = record {
       rcv_nxt = rcv_nxt_is;

@@ -22,10 +22,11 @@ pub record SameSent (f g : Stream) : Type 0 where
   pub closed : g.closed ≡ f.closed
   pub released : g.released ≡ f.released
 
--- a stream is the same as itself
+-- a stream's receiving half is the same as itself
 pub received_self : (f : Stream) → SameReceived f f
 received_self f = record { joined = refl; held = refl; fin = refl }
 
+-- and so is its sending half
 pub sent_self : (f : Stream) → SameSent f f
 sent_self f = record { accepted = refl; closed = refl; released = refl }
 

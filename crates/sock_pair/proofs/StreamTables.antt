@@ -5,8 +5,8 @@ use Rattle.sock_core.specs.Streams.{ByteAt}
 use Rattle.sock_core.proofs.Numbers.{distance_back, not_before}
 use Rattle.sock_core.proofs.Streams.{byte_drop, prefix_at, prefix_le}
 use Rattle.sock_pair.specs.StreamEffects.{AcksBytes, AcksFin, AcksSyn, HearsAck, SendsKeepAlive, SendsPayload, SndNxtWithin}
+use Rattle.sock_pair.specs.StreamTables.{AckPasses, Bytes, Content, HasSendingBounds, KeepAlive, OfBytes, OfFin, OfSyn, Syn}
 use Rattle.sock_pair.specs.StreamViews.{SocketView, StreamSegment}
-use Rattle.sock_pair.specs.StreamWindow.{AckPasses, Bytes, Content, HasSendingBounds, KeepAlive, OfBytes, OfFin, OfSyn, Syn}
 
 -- an acknowledgement between SND.UNA and the end of what can have been sent lies that far past SND.UNA
 pub ack_distance : (a una len extra : ℕ) → a < 2 ^ 32 → una < 2 ^ 32 → len ≤ 2 ^ 30 → extra ≤ 1 → number_is_before a una ≡ false → number_is_before ((una + len + extra) % 2 ^ 32) a ≡ false → number_distance a una ≤ len + extra
@@ -35,6 +35,12 @@ snd_nxt_after snd_una fl m len sb a b c = go (number_is_before ((snd_una + fl) %
     go : (t : Bool) → number_is_before ((snd_una + fl) % 2 ^ 32) ((snd_una + m) % 2 ^ 32) ≡ t → (k : ℕ) × (k ≤ len + 1) × (later_number ((snd_una + fl) % 2 ^ 32) ((snd_una + m) % 2 ^ 32) ≡ (snd_una + k) % 2 ^ 32)
     go true e = (m, b, rw e refl)
     go false e = (fl, a, rw e refl)
+
+-- so it moves as SND.NXT may
+pub emit_moves : (v : SocketView) (m : ℕ) → HasSendingBounds v → m ≤ length v.transmit_queue + 1 → SndNxtWithin (record v { snd_nxt = later_number v.snd_nxt ((v.snd_una + m) % 2 ^ 32) })
+emit_moves v m b le =
+    let r = snd_nxt_after v.snd_una b.flight m (length v.transmit_queue) b.snd_una b.flight_le le b.room in
+    record { flight = r.0; is = ap (λ n. later_number n ((v.snd_una + m) % 2 ^ 32)) b.snd_nxt ∙ r.2; le = r.1 }
 
 module _ (v w : SocketView) (g : StreamSegment) (b : HasSendingBounds v) where
   -- where SND.NXT comes to stand

@@ -1,7 +1,7 @@
 pub mod StreamViews
 pub mod StreamEffects
 pub mod StreamModel
-pub mod StreamWindow
+pub mod StreamTables
 pub mod Network
 pub mod NetworkInvariant
 pub mod NetworkRuns

@@ -3,12 +3,26 @@ use Rattle.std.specs.Prelude.{ℕ, ◌≡◌, ◌≤◌, ◌⊎◌, true, false,
 use Rattle.std.specs.List.{Contains}
 use Rattle.std.specs.declared.option.Option.{Option}
 use Rattle.std.specs.declared.option.Option.TheVariants.{None}
-use Rattle.sock_pair.specs.StreamViews.{Unopened}
+use Rattle.sock_core.specs.Streams.{IsPrefix}
+use Rattle.sock_pair.specs.StreamViews.{Unopened, Sending, StreamSegment}
 use Rattle.sock_pair.specs.Network.{Endpoint, Network, swapped, Step, AnswersFinished}
 
 -- either side takes a step
 abbrev pub EitherSteps : Network → Network → Type 0
 EitherSteps old new = Step old new ⊎ Step (swapped old) (swapped new)
+
+-- A step touches nothing of the remote side. Of the local side it adds to the segments and to what was handed out, and the counts never fall. Bytes are
+-- accepted in ESTABLISHED and CLOSE-WAIT alone, and only a close there marks the side as closed
+pub record OnlyAdds (old new : Network) : Type 0 where
+  pub remote : new.remote ≡ old.remote
+  pub remote_segments : new.remote_segments ≡ old.remote_segments
+  pub limit : new.limit ≡ old.limit
+  pub local_segments : (more : List StreamSegment) × (new.local_segments ≡ old.local_segments ++ more)
+  pub handed_out : IsPrefix old.local.handed_out new.local.handed_out
+  pub released : old.local.released ≤ new.local.released
+  pub taken : old.local.taken ≤ new.local.taken
+  pub accepted : (new.local.accepted ≡ old.local.accepted) ⊎ ((old.local.view.phase ≡ Sending) × IsPrefix old.local.accepted new.local.accepted)
+  pub closed : (new.local.closed ≡ old.local.closed) ⊎ ((old.local.view.phase ≡ Sending) × (new.local.closed ≡ true))
 
 -- A run from the one network to the other: the list has each network on the way, one step after the one before it. Each beginning of a run is a run
 abbrev pub Run : Network → List Network → Network → Type 0

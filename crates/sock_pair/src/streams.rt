@@ -3,13 +3,13 @@
 ghost use Rattle.std.specs.Prelude.{◌≡◌, ℕ, ◌+◌, ◌-◌, ◌%◌, ◌<◌, ◌≤◌, ◌^◌, ◌⊎◌, false, List, length, take, drop, min, max};
 ghost use Rattle.std.specs.declared.option.Option.{Option};
 ghost use Rattle.std.specs.declared.option.Option.TheVariants.{Some, None};
-ghost use Rattle.sock_core.specs.Places.{number_at, number_distance, number_is_before};
+ghost use Rattle.sock_core.specs.Places.{number_at, number_distance, number_is_before, later_number};
 ghost use Rattle.sock_pair.specs.StreamViews.{SocketView, StreamSegment};
-ghost use Rattle.sock_pair.specs.StreamEffects.{HearsData, HearsAck, SendsPayload, SendsKeepAlive};
-ghost use Rattle.sock_pair.specs.StreamWindow.{cut, Gathers, JoinsAtOnce, TakesPayload, HasSendingBounds, AckPasses, Content};
+ghost use Rattle.sock_pair.specs.StreamEffects.{HearsData, HearsAck, SendsPayload, SendsKeepAlive, SndNxtWithin};
+ghost use Rattle.sock_pair.specs.StreamTables.{cut, Gathers, JoinsAtOnce, TakesPayload, HasSendingBounds, AckPasses, Content};
 ghost use Rattle.sock_pair.specs.Network.{Network, Step, swapped};
 ghost use Rattle.sock_pair.specs.NetworkInvariant.{IsLimit, IsInvariant};
-ghost use Rattle.sock_pair.specs.NetworkRuns.{start, AreDelivered, AlwaysDelivers, AlwaysCompletes, AlwaysEnds};
+ghost use Rattle.sock_pair.specs.NetworkRuns.{start, AreDelivered, AlwaysDelivers, AlwaysCompletes, AlwaysEnds, OnlyAdds};
 
 /// Streams with a limit below 2^29 bytes, over every list of steps, where any segment ever emitted may arrive at any time:
 /// what each side handed out, followed by its receive queue, is a prefix of what the other accepted, and acknowledgements
@@ -37,6 +37,12 @@ pub fn the_invariant_is_kept()
     ensures swapped { (w : Network) → IsInvariant w → IsInvariant (swapped w) }
     ensures delivers { (w : Network) → IsInvariant w → AreDelivered w }
 {}
+
+/// A step of one side leaves the other side as it was, and forgets no segment, no byte handed out and no count.
+pub fn a_step_only_adds()
+    ensures { (old new : Network) → Step old new → OnlyAdds old new }
+{
+}
 
 /// A segment that lies inside the receive window, and that is cut to it and taken as the case tables say, is heard.
 pub fn taken_segment_is_heard()
@@ -70,3 +76,10 @@ pub fn passing_acknowledgement_is_heard()
 pub fn content_may_be_sent()
     ensures { (v : SocketView) (g : StreamSegment) → v.snd_una < 2 ^ 32 → Content v g → SendsPayload v g ⊎ SendsKeepAlive v g }
 {}
+
+/// After an emit SND.NXT is the later of the old one and of the number that follows the segment, which ends at most one
+/// number past the transmit queue: so it moves as SND.NXT may.
+pub fn snd_nxt_after_an_emit()
+    ensures { (v : SocketView) (m : ℕ) → HasSendingBounds v → m ≤ length v.transmit_queue + 1 → SndNxtWithin (record v { snd_nxt = later_number v.snd_nxt ((v.snd_una + m) % 2 ^ 32) }) }
+{
+}
