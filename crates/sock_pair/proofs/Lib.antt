@@ -13,3 +13,4 @@ pub mod NetworkCalls
 pub mod NetworkSegments
 pub mod NetworkSteps
 pub mod NetworkRuns
+pub mod NetworkExample

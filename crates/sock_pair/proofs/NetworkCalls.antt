@@ -10,8 +10,6 @@ use Rattle.sock_pair.specs.StreamModel.{Stream}
 use Rattle.sock_pair.specs.StreamViews.{Closing, Dead, HasIss, HasNoIss, IsNonSynchronized, KnowsPeer, Sending, SocketView, SynReceived, SynSent}
 use Rattle.sock_pair.proofs.NetworkChanges.{changes_keep, keeps_keep, remote_has_iss}
 use Rattle.sock_pair.proofs.NetworkPhases.{no_iss_not_iss}
-use Rattle.sock_pair.proofs.StreamCut.{longer}
-use Rattle.sock_pair.proofs.StreamFallBack.{nothing_yet}
 use Rattle.sock_pair.proofs.StreamGrowth.{sender_grows, stays}
 use Rattle.sock_pair.proofs.StreamMatches.{received_nothing_as, receiving_view, sending_view, sent_self, syn_empty}
 use Rattle.sock_pair.proofs.StreamSending.{queue_length, released_le}

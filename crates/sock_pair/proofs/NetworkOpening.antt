@@ -10,7 +10,7 @@ use Rattle.sock_pair.specs.StreamEffects.{HearsAck, SndNxtWithin}
 use Rattle.sock_pair.specs.StreamViews.{Dead, HasIss, HasNoIss, IsNonSynchronized, Listening, Sending, SocketView, StreamSegment, SynReceived, SynSent, Unopened}
 use Rattle.sock_pair.proofs.NetworkChanges.{changes_keep, comes_here, is_young, keeps_keep, redraw}
 use Rattle.sock_pair.proofs.StreamAcking.{released_more}
-use Rattle.sock_pair.proofs.StreamFallBack.{any_ack, nothing_yet}
+use Rattle.sock_pair.proofs.StreamFallBack.{any_ack}
 use Rattle.sock_pair.proofs.StreamGrowth.{sound_kept, stays}
 use Rattle.sock_pair.proofs.StreamMatches.{iss_sending, received_nothing_as, sent_self, syn_empty, syn_receiving}
 use Rattle.sock_pair.proofs.StreamSending.{queue_length}

@@ -8,10 +8,9 @@ use Rattle.sock_core.proofs.Streams.{prefix_take}
 use Rattle.sock_pair.specs.Network.{Endpoint, Finishes, IsWithin, Network, swapped}
 use Rattle.sock_pair.specs.NetworkInvariant.{IsInvariant, IsLimit, StreamInvariant}
 use Rattle.sock_pair.specs.NetworkRuns.{AlwaysCompletes, AlwaysDelivers, AlwaysEnds, AreDelivered, EitherSteps, HasEnded, IsDelivered, Run, start, unopened}
-use Rattle.sock_pair.specs.StreamModel.{IsSound, Stream, counted}
+use Rattle.sock_pair.specs.StreamModel.{IsSound, Stream}
 use Rattle.sock_pair.proofs.NetworkChanges.{counts_ordered, none_in}
 use Rattle.sock_pair.proofs.NetworkSteps.{closed_stays, either_keeps, step_adds, swapped_keeps}
-use Rattle.sock_pair.proofs.StreamFallBack.{nothing_yet}
 use Rattle.sock_pair.proofs.StreamGrowth.{sound_front}
 
 -- a stream of which nothing has happened

@@ -1,15 +1,15 @@
 //! The theorem on two streams, as laws: functions whose contracts are the theorem and whose bodies are empty.
 //! The definitions stand in `specs/`, and docs/THEOREM.md explains them.
-ghost use Rattle.std.specs.Prelude.{◌≡◌, ℕ, ◌+◌, ◌-◌, ◌%◌, ◌<◌, ◌≤◌, ◌^◌, ◌⊎◌, false, List, length, take, drop, min, max};
+ghost use Rattle.std.specs.Prelude.{◌≡◌, ℕ, ◌+◌, ◌-◌, ◌%◌, ◌<◌, ◌≤◌, ◌^◌, ◌⊎◌, false, List, [], ◌∷◌, length, take, drop, min, max};
 ghost use Rattle.std.specs.declared.option.Option.{Option};
 ghost use Rattle.std.specs.declared.option.Option.TheVariants.{Some, None};
 ghost use Rattle.sock_core.specs.Places.{number_at, number_distance, number_is_before, later_number};
 ghost use Rattle.sock_pair.specs.StreamViews.{SocketView, StreamSegment};
 ghost use Rattle.sock_pair.specs.StreamEffects.{HearsData, HearsAck, SendsPayload, SendsKeepAlive, SndNxtWithin};
 ghost use Rattle.sock_pair.specs.StreamTables.{cut, Gathers, JoinsAtOnce, TakesPayload, HasSendingBounds, AckPasses, Content};
-ghost use Rattle.sock_pair.specs.Network.{Network, Step, swapped};
+ghost use Rattle.sock_pair.specs.Network.{Network, Step, swapped, AnswersFinished};
 ghost use Rattle.sock_pair.specs.NetworkInvariant.{IsLimit, IsInvariant};
-ghost use Rattle.sock_pair.specs.NetworkRuns.{start, AreDelivered, AlwaysDelivers, AlwaysCompletes, AlwaysEnds, OnlyAdds};
+ghost use Rattle.sock_pair.specs.NetworkRuns.{start, Run, AreDelivered, AlwaysDelivers, AlwaysCompletes, AlwaysEnds, OnlyAdds};
 
 /// Streams with a limit below 2^29 bytes, over every list of steps, where any segment ever emitted may arrive at any time:
 /// what each side handed out, followed by its receive queue, is a prefix of what the other accepted, and acknowledgements
@@ -41,8 +41,13 @@ pub fn the_invariant_is_kept()
 /// A step of one side leaves the other side as it was, and forgets no segment, no byte handed out and no count.
 pub fn a_step_only_adds()
     ensures { (old new : Network) → Step old new → OnlyAdds old new }
-{
-}
+{}
+
+/// The steps are not empty: an ordinary run, of a handshake, one byte, a close and a read, hands out the byte, and the next read
+/// answers `Finished`.
+pub fn an_ordinary_run()
+    ensures { (way : List Network) × (end : Network) × Run (start (Some 10)) way end × (end.remote.handed_out ≡ 7 ∷ []) × AnswersFinished end.remote }
+{}
 
 /// A segment that lies inside the receive window, and that is cut to it and taken as the case tables say, is heard.
 pub fn taken_segment_is_heard()
@@ -81,5 +86,4 @@ pub fn content_may_be_sent()
 /// number past the transmit queue: so it moves as SND.NXT may.
 pub fn snd_nxt_after_an_emit()
     ensures { (v : SocketView) (m : ℕ) → HasSendingBounds v → m ≤ length v.transmit_queue + 1 → SndNxtWithin (record v { snd_nxt = later_number v.snd_nxt ((v.snd_una + m) % 2 ^ 32) }) }
-{
-}
+{}
