@@ -119,7 +119,10 @@ pub data Step (old new : Network) : Type 0 where
       → new ≡ with_local old (connected old.local iss)
       → Step old new
   -- send takes bytes, in ESTABLISHED and CLOSE-WAIT alone
-  Accepts : (bytes : List ℕ) → old.local.view.phase ≡ Sending → length old.local.view.transmit_queue + length bytes ≤ 2 ^ 30 → IsWithin old.limit (old.local.accepted ++ bytes)
+  Accepts : (bytes : List ℕ)
+      → old.local.view.phase ≡ Sending
+      → length old.local.view.transmit_queue + length bytes ≤ 2 ^ 30
+      → IsWithin old.limit (old.local.accepted ++ bytes)
       → new ≡ with_local old (with_accepted old.local bytes)
       → Step old new
   -- recv gives out the first n bytes of the queue, in any state
@@ -147,44 +150,86 @@ pub data Step (old new : Network) : Type 0 where
       → new ≡ with_local old (with_snd_nxt old.local n)
       → Step old new
   -- a segment goes out that is no RST: data or none, an acknowledgement, a SYN at the initial number, a FIN, a keep-alive
-  Emits : (g : StreamSegment) → g.rst ≡ false → IsStamped old.local g → HasIss old.local.view.phase → SendsPayload old.local.view g ⊎ SendsKeepAlive old.local.view g → AcksRcvNxt old.local.view g
+  Emits : (g : StreamSegment)
+      → g.rst ≡ false
+      → IsStamped old.local g
+      → HasIss old.local.view.phase
+      → SendsPayload old.local.view g ⊎ SendsKeepAlive old.local.view g
+      → AcksRcvNxt old.local.view g
       → (g.syn ≡ true → ((old.local.view.phase ≡ SynSent) ⊎ (old.local.view.phase ≡ SynReceived)) × (g.seq ≡ old.local.view.snd_una))
       → new ≡ emitted old g
       → Step old new
   -- an RST goes out after an abort
   EmitsReset : (g : StreamSegment) → g.rst ≡ true → old.local.view.phase ≡ Dead → new ≡ emitted old g → Step old new
   -- a segment comes whose acknowledgement changes nothing
-  HearsSegment : (g : StreamSegment) (v : SocketView) → Arrives old g → IsSynchronized old.local.view.phase → HearsData old.local.view v g → SameSending old.local.view v
+  HearsSegment : (g : StreamSegment) (v : SocketView)
+      → Arrives old g
+      → IsSynchronized old.local.view.phase
+      → HearsData old.local.view v g
+      → SameSending old.local.view v
       → new ≡ with_local old (heard_by old.local v)
       → Step old new
   -- a segment comes that acknowledges, in a state that knows the peer's number
-  HearsAcknowledgement : (g : StreamSegment) (v : SocketView) → Arrives old g → KnowsPeer old.local.view.phase → HearsData old.local.view v g → HearsAck old.local.view v g → IsSynchronized v.phase
+  HearsAcknowledgement : (g : StreamSegment) (v : SocketView)
+      → Arrives old g
+      → KnowsPeer old.local.view.phase
+      → HearsData old.local.view v g
+      → HearsAck old.local.view v g
+      → IsSynchronized v.phase
       → new ≡ with_local old (heard_by old.local v)
       → Step old new
   -- an RST sends a listener from SYN-RECEIVED back to LISTEN
-  FallsBack : (g : StreamSegment) → Contains old.remote_segments g → g.rst ≡ true → old.local.view.phase ≡ SynReceived → old.local.listener ≡ true
+  FallsBack : (g : StreamSegment)
+      → Contains old.remote_segments g
+      → g.rst ≡ true
+      → old.local.view.phase ≡ SynReceived
+      → old.local.listener ≡ true
       → new ≡ with_local old (fallen_back old.local)
       → Step old new
   -- a segment that the side does not accept, CLOSED or in LISTEN, is answered by an RST
-  AnswersRefused : (g answer : StreamSegment) → Contains old.remote_segments g → g.rst ≡ false → HasNoIss old.local.view.phase ⊎ (old.local.view.phase ≡ Dead) → answer.rst ≡ true
+  AnswersRefused : (g answer : StreamSegment)
+      → Contains old.remote_segments g
+      → g.rst ≡ false
+      → HasNoIss old.local.view.phase ⊎ (old.local.view.phase ≡ Dead)
+      → answer.rst ≡ true
       → new ≡ emitted old answer
       → Step old new
   -- an acknowledgement of something other than the SYN, before the SYN is acknowledged, is answered by an RST
-  AnswersWrongAck : (g answer : StreamSegment) (a : ℕ) → Contains old.remote_segments g → g.rst ≡ false → (old.local.view.phase ≡ SynSent) ⊎ (old.local.view.phase ≡ SynReceived) → g.ack ≡ Some a
+  AnswersWrongAck : (g answer : StreamSegment) (a : ℕ)
+      → Contains old.remote_segments g
+      → g.rst ≡ false
+      → (old.local.view.phase ≡ SynSent) ⊎ (old.local.view.phase ≡ SynReceived)
+      → g.ack ≡ Some a
       → (a ≡ (old.local.view.snd_una + 1) % 2 ^ 32 → ⊥)
       → answer.rst ≡ true
       → new ≡ emitted old answer
       → Step old new
   -- a SYN comes in LISTEN, and the initial sequence number iss is chosen, anew after each fall-back
-  HearsSyn : (g : StreamSegment) (iss : ℕ) → iss < 2 ^ 32 → Contains old.remote_segments g → g.rst ≡ false → g.syn ≡ true → old.local.view.phase ≡ Listening
+  HearsSyn : (g : StreamSegment) (iss : ℕ)
+      → iss < 2 ^ 32
+      → Contains old.remote_segments g
+      → g.rst ≡ false
+      → g.syn ≡ true
+      → old.local.view.phase ≡ Listening
       → new ≡ with_local old (synchronizing old.local g iss)
       → Step old new
   -- a SYN comes in SYN-SENT without an acknowledgement: both sides connect at once
-  HearsSynAlone : (g : StreamSegment) (n : ℕ) → SndNxtWithin (record old.local.view { snd_nxt = n }) → Contains old.remote_segments g → g.rst ≡ false → g.syn ≡ true → old.local.view.phase ≡ SynSent
+  HearsSynAlone : (g : StreamSegment) (n : ℕ)
+      → SndNxtWithin (record old.local.view { snd_nxt = n })
+      → Contains old.remote_segments g
+      → g.rst ≡ false
+      → g.syn ≡ true
+      → old.local.view.phase ≡ SynSent
       → new ≡ with_local old (crossed old.local g n)
       → Step old new
   -- a SYN comes in SYN-SENT that acknowledges the own one
-  HearsSynAck : (g : StreamSegment) (v : SocketView) → Arrives old g → g.syn ≡ true → old.local.view.phase ≡ SynSent → HearsAck old.local.view v g → v.phase ≡ Sending → v.rcv_nxt ≡ (g.seq + 1) % 2 ^ 32
+  HearsSynAck : (g : StreamSegment) (v : SocketView)
+      → Arrives old g
+      → g.syn ≡ true
+      → old.local.view.phase ≡ SynSent
+      → HearsAck old.local.view v g
+      → v.phase ≡ Sending
+      → v.rcv_nxt ≡ (g.seq + 1) % 2 ^ 32
       → v.receive_queue ≡ old.local.view.receive_queue → v.held ≡ old.local.view.held → v.fin_counted ≡ old.local.view.fin_counted
       → new ≡ with_local old (heard_by old.local v)
       → Step old new

@@ -73,8 +73,14 @@ pub record FinishedRead (old new : Network) : Type 0 where
 -- other side's read the networks are swapped
 pub record AlwaysCompletes (limit : Option ℕ) : Type 0 where
   pub is_step : (old new : Network) → FinishedRead old new → Step old new
-  pub local_read : (way : List Network) (old new : Network) → Run (start limit) way old → FinishedRead old new → (new.remote.closed ≡ true) × (new.local.handed_out ≡ new.remote.accepted)
-  pub remote_read : (way : List Network) (old new : Network) → Run (start limit) way old → FinishedRead (swapped old) (swapped new) → (new.local.closed ≡ true) × (new.remote.handed_out ≡ new.local.accepted)
+  pub local_read : (way : List Network) (old new : Network)
+      → Run (start limit) way old
+      → FinishedRead old new
+      → (new.remote.closed ≡ true) × (new.local.handed_out ≡ new.remote.accepted)
+  pub remote_read : (way : List Network) (old new : Network)
+      → Run (start limit) way old
+      → FinishedRead (swapped old) (swapped new)
+      → (new.local.closed ≡ true) × (new.remote.handed_out ≡ new.local.accepted)
 
 -- what a closed side keeps for good
 pub record HasEnded (old new : Endpoint) : Type 0 where
@@ -83,5 +89,11 @@ pub record HasEnded (old new : Endpoint) : Type 0 where
 
 -- after any run, no step of either side adds to what a closed side accepted, or opens it again
 pub record AlwaysEnds (limit : Option ℕ) : Type 0 where
-  pub local : (way : List Network) (old new : Network) → Run (start limit) way old → EitherSteps old new → old.local.closed ≡ true → HasEnded old.local new.local
-  pub remote : (way : List Network) (old new : Network) → Run (start limit) way old → EitherSteps old new → old.remote.closed ≡ true → HasEnded old.remote new.remote
+  pub local : (way : List Network) (old new : Network)
+      → Run (start limit) way old
+      → EitherSteps old new
+      → old.local.closed ≡ true → HasEnded old.local new.local
+  pub remote : (way : List Network) (old new : Network)
+      → Run (start limit) way old
+      → EitherSteps old new
+      → old.remote.closed ≡ true → HasEnded old.remote new.remote

@@ -17,7 +17,9 @@ pub record HearsData (v w : SocketView) (g : StreamSegment) : Type 0 where
   pub receive_queue : w.receive_queue ≡ v.receive_queue ++ more
   pub joined : (k b : ℕ) → ByteAt more k b → Brings v g k b
   pub held : (k b : ℕ) → w.held k ≡ Some b → Brings v g (length more + k) b
-  pub fin : w.fin_counted ≡ true → (v.fin_counted ≡ true) ⊎ ((d : ℕ) × (g.fin ≡ true) × (d ≤ length more) × (d < 2 ^ 31) × ((g.seq + length g.payload) % 2 ^ 32 ≡ (v.rcv_nxt + d) % 2 ^ 32))
+  pub fin : w.fin_counted ≡ true
+      → (v.fin_counted ≡ true)
+      ⊎ ((d : ℕ) × (g.fin ≡ true) × (d ≤ length more) × (d < 2 ^ 31) × ((g.seq + length g.payload) % 2 ^ 32 ≡ (v.rcv_nxt + d) % 2 ^ 32))
   pub kept : v.fin_counted ≡ true → w.fin_counted ≡ true
   pub fins : ℕ
   pub fin_counts : fin_length w.fin_counted ≡ fin_length v.fin_counted + fins
@@ -48,9 +50,33 @@ pub record SndNxtWithin (w : SocketView) : Type 0 where
 -- What an acknowledgement may do to the sending half: release a beginning of the transmit queue, acknowledge the SYN, or acknowledge the FIN
 -- and with it the whole queue
 pub data HearsAck (v w : SocketView) (g : StreamSegment) : Type 0 where
-  AcksBytes : (a n : ℕ) → g.ack ≡ Some a → n ≤ length v.transmit_queue → a ≡ (v.snd_una + n) % 2 ^ 32 → w.phase ≡ v.phase → w.snd_una ≡ a → w.transmit_queue ≡ drop n v.transmit_queue → SndNxtWithin w → HearsAck v w g
-  AcksSyn : (a : ℕ) → g.ack ≡ Some a → a ≡ (v.snd_una + 1) % 2 ^ 32 → (v.phase ≡ SynSent) ⊎ (v.phase ≡ SynReceived) → w.phase ≡ Sending → w.snd_una ≡ a → w.transmit_queue ≡ v.transmit_queue → SndNxtWithin w → HearsAck v w g
-  AcksFin : (a : ℕ) → g.ack ≡ Some a → a ≡ (v.snd_una + length v.transmit_queue + 1) % 2 ^ 32 → v.phase ≡ Closing → w.phase ≡ Silent → w.snd_una ≡ a → w.transmit_queue ≡ [] → SndNxtWithin w → HearsAck v w g
+  AcksBytes : (a n : ℕ)
+      → g.ack ≡ Some a
+      → n ≤ length v.transmit_queue
+      → a ≡ (v.snd_una + n) % 2 ^ 32
+      → w.phase ≡ v.phase
+      → w.snd_una ≡ a
+      → w.transmit_queue ≡ drop n v.transmit_queue
+      → SndNxtWithin w
+      → HearsAck v w g
+  AcksSyn : (a : ℕ)
+      → g.ack ≡ Some a
+      → a ≡ (v.snd_una + 1) % 2 ^ 32
+      → (v.phase ≡ SynSent) ⊎ (v.phase ≡ SynReceived)
+      → w.phase ≡ Sending
+      → w.snd_una ≡ a
+      → w.transmit_queue ≡ v.transmit_queue
+      → SndNxtWithin w
+      → HearsAck v w g
+  AcksFin : (a : ℕ)
+      → g.ack ≡ Some a
+      → a ≡ (v.snd_una + length v.transmit_queue + 1) % 2 ^ 32
+      → v.phase ≡ Closing
+      → w.phase ≡ Silent
+      → w.snd_una ≡ a
+      → w.transmit_queue ≡ []
+      → SndNxtWithin w
+      → HearsAck v w g
 
 -- ---- sending
 

@@ -40,7 +40,9 @@ LiesBefore f p = (j b : ℕ) → Carries p j b → j < counted f
 -- closed stream, where no byte will follow; or at the place of the SYN, where it is refused
 pub record IsTruePayload (f : Stream) (p : PlacedPayload) : Type 0 where
   pub bytes : HasOwnBytes f p ⊎ LiesBefore f p
-  pub fin : p.fin ≡ true → (p.start + length p.bytes ≤ 1) ⊎ ((f.closed ≡ true) × (p.start + length p.bytes ≡ length f.accepted + 2))
+  pub fin : p.fin ≡ true
+      → (p.start + length p.bytes ≤ 1)
+      ⊎ ((f.closed ≡ true) × (p.start + length p.bytes ≡ length f.accepted + 2))
   pub within : p.start + length p.bytes ≤ length f.accepted + 5
 
 -- a true acknowledgement: the receiver has counted all that lies below it
@@ -59,7 +61,9 @@ pub record Grows (f g : Stream) : Type 0 where
   pub joined : IsPrefix f.joined g.joined
   pub taken : (j b : ℕ) → length f.joined ≤ j → ByteAt g.joined j b → MayCome f j b
   pub held : (j b : ℕ) → length g.joined ≤ j → g.held j ≡ Some b → MayCome f j b
-  pub fin : g.fin_counted ≡ true → (f.fin_counted ≡ true) ⊎ ((p : PlacedPayload) × IsTruePayload f p × (p.fin ≡ true) × (2 ≤ p.start + length p.bytes) × (p.start + length p.bytes ≤ length g.joined + 2))
+  pub fin : g.fin_counted ≡ true
+      → (f.fin_counted ≡ true)
+      ⊎ ((p : PlacedPayload) × IsTruePayload f p × (p.fin ≡ true) × (2 ≤ p.start + length p.bytes) × (p.start + length p.bytes ≤ length g.joined + 2))
   pub finished : f.fin_counted ≡ true → (g.fin_counted ≡ true) × (g.joined ≡ f.joined)
 
 -- what always holds of a stream

@@ -57,8 +57,12 @@ pub record TakesPayload (v w : SocketView) (g : StreamSegment) (win : ℕ) : Typ
   pub win_small : win ≤ 2 ^ 30
   pub payload : length g.payload ≤ 65535
   pub inside : IsInside v.rcv_nxt win g.seq (length g.payload)
-  pub joins : ((w.receive_queue ≡ v.receive_queue) × (w.held ≡ v.held) × ((cut v.rcv_nxt ((v.rcv_nxt + win) % 2 ^ 32) g ≡ []) ⊎ (0 < cut_offset v.rcv_nxt g))) ⊎ ((0 < length (cut v.rcv_nxt ((v.rcv_nxt + win) % 2 ^ 32) g)) × Gathers v w (cut_offset v.rcv_nxt g) (cut v.rcv_nxt ((v.rcv_nxt + win) % 2 ^ 32) g))
-  pub fin : w.fin_counted ≡ true → (v.fin_counted ≡ true) ⊎ ((g.fin ≡ true) × (number_is_before v.rcv_nxt g.seq ≡ false) × (number_is_before ((v.rcv_nxt + win) % 2 ^ 32) (segment_end g) ≡ false))
+  pub joins :
+      ((w.receive_queue ≡ v.receive_queue) × (w.held ≡ v.held) × ((cut v.rcv_nxt ((v.rcv_nxt + win) % 2 ^ 32) g ≡ []) ⊎ (0 < cut_offset v.rcv_nxt g)))
+      ⊎ ((0 < length (cut v.rcv_nxt ((v.rcv_nxt + win) % 2 ^ 32) g)) × Gathers v w (cut_offset v.rcv_nxt g) (cut v.rcv_nxt ((v.rcv_nxt + win) % 2 ^ 32) g))
+  pub fin : w.fin_counted ≡ true
+      → (v.fin_counted ≡ true)
+      ⊎ ((g.fin ≡ true) × (number_is_before v.rcv_nxt g.seq ≡ false) × (number_is_before ((v.rcv_nxt + win) % 2 ^ 32) (segment_end g) ≡ false))
   pub kept : v.fin_counted ≡ true → w.fin_counted ≡ true
   pub fins : ℕ
   pub fin_counts : fin_length w.fin_counted ≡ fin_length v.fin_counted + fins
@@ -76,13 +80,43 @@ pub record HasSendingBounds (v : SocketView) : Type 0 where
 
 -- An acknowledgement that the case tables let pass: it releases bytes, it acknowledges the SYN, or it acknowledges the FIN
 pub data AckPasses (v w : SocketView) (g : StreamSegment) : Type 0 where
-  OfBytes : (a : ℕ) → g.ack ≡ Some a → a < 2 ^ 32 → number_distance a v.snd_una ≤ length v.transmit_queue → w.phase ≡ v.phase → w.snd_una ≡ a → w.transmit_queue ≡ drop (number_distance a v.snd_una) v.transmit_queue → w.snd_nxt ≡ later_number v.snd_nxt a → AckPasses v w g
-  OfSyn : (a : ℕ) → g.ack ≡ Some a → a ≡ (v.snd_una + 1) % 2 ^ 32 → (v.phase ≡ SynSent) ⊎ (v.phase ≡ SynReceived) → w.phase ≡ Sending → w.snd_una ≡ a → w.transmit_queue ≡ v.transmit_queue → (w.snd_nxt ≡ later_number v.snd_nxt a) ⊎ (w.snd_nxt ≡ a) → AckPasses v w g
-  OfFin : (a : ℕ) → g.ack ≡ Some a → a < 2 ^ 32 → number_distance a v.snd_una ≡ length v.transmit_queue + 1 → v.phase ≡ Closing → w.phase ≡ Silent → w.snd_una ≡ a → w.transmit_queue ≡ [] → w.snd_nxt ≡ later_number v.snd_nxt a → AckPasses v w g
+  OfBytes : (a : ℕ)
+      → g.ack ≡ Some a
+      → a < 2 ^ 32
+      → number_distance a v.snd_una ≤ length v.transmit_queue
+      → w.phase ≡ v.phase
+      → w.snd_una ≡ a
+      → w.transmit_queue ≡ drop (number_distance a v.snd_una) v.transmit_queue
+      → w.snd_nxt ≡ later_number v.snd_nxt a
+      → AckPasses v w g
+  OfSyn : (a : ℕ)
+      → g.ack ≡ Some a
+      → a ≡ (v.snd_una + 1) % 2 ^ 32
+      → (v.phase ≡ SynSent) ⊎ (v.phase ≡ SynReceived)
+      → w.phase ≡ Sending
+      → w.snd_una ≡ a
+      → w.transmit_queue ≡ v.transmit_queue
+      → (w.snd_nxt ≡ later_number v.snd_nxt a) ⊎ (w.snd_nxt ≡ a)
+      → AckPasses v w g
+  OfFin : (a : ℕ)
+      → g.ack ≡ Some a
+      → a < 2 ^ 32
+      → number_distance a v.snd_una ≡ length v.transmit_queue + 1
+      → v.phase ≡ Closing
+      → w.phase ≡ Silent
+      → w.snd_una ≡ a
+      → w.transmit_queue ≡ []
+      → w.snd_nxt ≡ later_number v.snd_nxt a
+      → AckPasses v w g
 
 -- What a successful dispatch sends, of a socket that is not CLOSED: a SYN at the initial number, the first of the queue's bytes from offset o, with
 -- a FIN at their end while closing, or a keep-alive
 pub data Content (v : SocketView) (g : StreamSegment) : Type 0 where
   Syn : g.fin ≡ false → g.seq ≡ v.snd_una → g.payload ≡ [] → Content v g
-  Bytes : (o : ℕ) → g.seq ≡ (v.snd_una + o) % 2 ^ 32 → o ≤ length v.transmit_queue + 1 → IsPrefix g.payload (drop o v.transmit_queue) → (g.fin ≡ true → (v.phase ≡ Closing) × (o + length g.payload ≡ length v.transmit_queue)) → Content v g
+  Bytes : (o : ℕ)
+      → g.seq ≡ (v.snd_una + o) % 2 ^ 32
+      → o ≤ length v.transmit_queue + 1
+      → IsPrefix g.payload (drop o v.transmit_queue)
+      → (g.fin ≡ true → (v.phase ≡ Closing) × (o + length g.payload ≡ length v.transmit_queue))
+      → Content v g
   KeepAlive : g.fin ≡ false → g.seq ≡ (v.snd_una + (2 ^ 32 - 1)) % 2 ^ 32 → length g.payload ≤ 1 → Content v g
