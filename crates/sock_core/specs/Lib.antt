@@ -2,3 +2,4 @@ pub mod Places
 pub mod Seq
 pub mod Bounds
 pub mod Facts
+pub mod Streams

@@ -1,1 +1,17 @@
 pub mod Recordings
+pub mod StreamGrowth
+pub mod StreamHearing
+pub mod StreamSending
+pub mod StreamMatches
+pub mod StreamAcking
+pub mod StreamFallBack
+pub mod StreamCut
+pub mod StreamTables
+pub mod NetworkPhases
+pub mod NetworkChanges
+pub mod NetworkOpening
+pub mod NetworkCalls
+pub mod NetworkSegments
+pub mod NetworkSteps
+pub mod NetworkRuns
+pub mod NetworkExample

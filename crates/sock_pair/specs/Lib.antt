@@ -7,3 +7,10 @@ pub mod Recording
 pub mod PairCalls
 pub mod PairSteps
 pub mod PairInvariant
+pub mod StreamViews
+pub mod StreamEffects
+pub mod StreamModel
+pub mod StreamTables
+pub mod Network
+pub mod NetworkInvariant
+pub mod NetworkRuns

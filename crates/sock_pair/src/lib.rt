@@ -9,6 +9,7 @@ pub mod outcome;
 mod recorder;
 pub mod segment;
 pub mod side;
+pub mod streams;
 
 pub use event::Event;
 pub use moment::Moment;
