@@ -3,4 +3,6 @@
 
 pub mod assembler;
 pub mod ring_buffer;
+#[cfg(test)]
+mod tests;
 pub mod time;
