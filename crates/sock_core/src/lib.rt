@@ -1,0 +1,4 @@
+//! What the sockets share.
+#![tactic(auto)]
+
+pub mod ranges;
