@@ -1,13 +1,13 @@
 -- Lemmas on ranges that are kept as places.
-use Rattle.std.proofs.Common.{◌≡◌, ℕ, zero, suc, ◌+◌, ◌-◌, ◌%◌, ◌^◌, ◌<◌, ◌≤◌, Bool, true, false, cond, List, [], ◌∷◌, ◌++◌, length, take, drop, set, get_or, slice_get, min, max, refl, sym, ap, ap₂, subst, ◌∙◌, inl, inr, arith, append_assoc, length-take, length-drop}
+use Rattle.std.proofs.Common.{◌≡◌, ℕ, zero, suc, ◌+◌, ◌-◌, ◌%◌, ◌^◌, ◌<◌, ◌≤◌, Bool, true, false, cond, List, [], ◌∷◌, ◌++◌, length, take, drop, get_or, slice_get, min, max, refl, sym, ap, ap₂, subst, ◌∙◌, inl, inr, arith, length-take, length-drop}
 use Rattle.std.proofs.lemmas.Bool.{cases_lt}
 use Rattle.std.proofs.lemmas.List.{get_or-take, get_or-drop, same_lists, places}
-use Rattle.std.specs.Prelude.{Option, Some, None}
+use Rattle.std.specs.Prelude.{Some, None}
 use Rattle.net_base.specs.declared.assembler.Range.{Range}
-use Rattle.net_base.specs.Ranges.{range, Apart, insert_range, edges, lowered, front_end, behind_front, is_refused, run_after, ranges_after, IsTidy}
-use Rattle.net_base.proofs.Sets.{insert_range_behind, insert_range_before, insert_range_joined, Apart-insert_range, Apart-lowered, length-insert_range}
+use Rattle.net_base.specs.Ranges.{range, Apart, insert_range, edges, lowered, front_end, behind_front, is_refused, run_after, ranges_after}
+use Rattle.net_base.proofs.Sets.{insert_range_behind, insert_range_before, insert_range_joined, Apart-insert_range, Apart-lowered}
 use Rattle.sock_core.specs.declared.ranges.Places.{Places}
-use Rattle.sock_core.specs.HeldRanges.{HeldRanges, offset_of, place_at, offsets, AllNear, added, answered, held_after, table_answers, table_after, assembler_answers, assembler_after, taken, Agree}
+use Rattle.sock_core.specs.HeldRanges.{HeldRanges, offset_of, place_at, offsets, AllNear, added, table_answers, table_after, assembler_answers, assembler_after, taken, Agree}
 
 abbrev held_ranges : ℕ → List Range → HeldRanges
 held_ranges a l = record { front = a; ranges = l }

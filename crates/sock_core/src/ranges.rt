@@ -222,3 +222,6 @@ fn as_places(ranges: &[Range], front: u32) -> [Places; 4]
     }
     all
 }
+
+#[cfg(test)]
+mod tests;

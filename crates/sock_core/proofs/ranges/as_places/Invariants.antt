@@ -1,5 +1,4 @@
-use Rattle.std.proofs.Common.{◌≡◌, length, take, drop}
-use Rattle.net_base.specs.Ranges.{insert_range}
+use Rattle.std.proofs.Common.{◌≡◌, length, take}
 use Rattle.sock_core.specs.HeldRanges.{offsets}
 use Rattle.sock_core.proofs.ranges.as_places.Given as goal
 

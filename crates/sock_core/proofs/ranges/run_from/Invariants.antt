@@ -1,4 +1,4 @@
-use Rattle.std.proofs.Common.{◌≡◌, length, take, drop}
+use Rattle.std.proofs.Common.{◌≡◌, drop}
 use Rattle.net_base.specs.Ranges.{insert_range}
 use Rattle.sock_core.specs.HeldRanges.{offsets}
 use Rattle.sock_core.proofs.ranges.run_from.Given as goal

@@ -1,5 +1,5 @@
-use Rattle.std.proofs.Common.{arith, refl, ap, sym}
-use Rattle.sock_core.proofs.Tables.{table_run, table_run_is, table_invariant, table_after_is}
+use Rattle.std.proofs.Common.{arith, refl}
+use Rattle.sock_core.proofs.Tables.{table_run, table_invariant, table_after_is}
 use Rattle.sock_core.proofs.ranges.Ranges.take_front.Goals as goal
 
 pub overflow_cast-self : goal.overflow_cast-self
