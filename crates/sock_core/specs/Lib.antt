@@ -3,3 +3,4 @@ pub mod Seq
 pub mod Bounds
 pub mod Facts
 pub mod Streams
+pub mod HeldRanges
