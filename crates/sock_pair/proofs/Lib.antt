@@ -15,3 +15,4 @@ pub mod NetworkSegments
 pub mod NetworkSteps
 pub mod NetworkRuns
 pub mod NetworkExample
+pub mod PairKeeps

@@ -1,9 +1,11 @@
 -- What holds of every pair.
-use Rattle.std.specs.Prelude.{ℕ, ◌≡◌, ◌<◌, ◌^◌, [], Option, Some, None, false}
+use Rattle.std.specs.Prelude.{ℕ, ◌≡◌, ◌<◌, [], None, false}
 use Rattle.ip_wire.specs.Address.{SameVersion, is_unspecified}
 use Rattle.ip_wire.specs.declared.endpoint.IpEndpoint.{IpEndpoint}
 use Rattle.sock_tcp.specs.View.{View}
 use Rattle.sock_tcp.specs.declared.state.State.TheVariants as state
+use Rattle.sock_pair.specs.NetworkInvariant.{IsInvariant}
+use Rattle.sock_pair.specs.PairNetwork.{network_of}
 use Rattle.sock_pair.specs.PairViews.{HostView, PairView}
 use Rattle.sock_pair.specs.declared.host.Opening.TheVariants as opening
 
@@ -23,12 +25,9 @@ pub record IsHost (h : HostView) : Type 0 where
   pub reachable : IsReachable h.endpoint
   pub idle : h.opening ≡ opening.Unopened → IsIdle h.control_block
 
-abbrev pub IsLimit : Option ℕ → Type 0
-IsLimit None = Unit {0}
-IsLimit (Some limit) = limit < 2 ^ 29
-
+-- both sockets can be connected, and the network that the pair shows meets the invariant of the theorem on two streams
 pub record IsPair (p : PairView) : Type 0 where
   pub a : IsHost p.a
   pub b : IsHost p.b
   pub versions : SameVersion p.a.endpoint.addr p.b.endpoint.addr
-  pub limit : IsLimit p.limit
+  pub network : IsInvariant (network_of p)
