@@ -2,14 +2,13 @@
 use Rattle.std.proofs.Common.{◌≡◌, ℕ, ◌+◌, ◌<◌, ◌≤◌, ◌^◌, List, length, ◌++◌, Bool, true, false, Option, Some, None}
 use Rattle.std.specs.List.{Contains}
 use Rattle.ip_wire.specs.declared.endpoint.IpEndpoint.{IpEndpoint}
-use Rattle.sock_tcp.specs.Process.{Accepts}
 use Rattle.sock_tcp.specs.Queue.{capacity}
 use Rattle.sock_pair.specs.NetworkInvariant.{IsInvariant}
 use Rattle.sock_pair.specs.PairInvariant.{IsHost}
 use Rattle.sock_pair.specs.PairNetwork.{network_of, IsSmall}
 use Rattle.sock_pair.specs.PairViews.{HostView, StoredView, PairView, host_of, with_host}
 use Rattle.sock_pair.specs.PairCalls.{listening, connecting, OpensAs, Sends, Receives}
-use Rattle.sock_pair.specs.PairSteps.{HostDispatches, with_segments, stored_by, is_old, delivered}
+use Rattle.sock_pair.specs.PairSteps.{Dispatches, DeliversTo, is_old, exchanged}
 use Rattle.sock_pair.specs.Sides.{other_side}
 use Rattle.sock_pair.specs.declared.moment.Moment.{Moment}
 use Rattle.sock_pair.specs.declared.outcome.Outcome.{Outcome}
@@ -29,8 +28,10 @@ module _ (s : Side) (p : PairView) (host : IsHost (host_of s p)) (i : IsInvarian
   pub recv_keeps : (size : ℕ) (o : Outcome) (k : HostView) → Receives size (host_of s p) o k → IsInvariant (network_of (with_host s p k))
   recv_keeps size o k e = ?
 
-  pub dispatch_keeps : (m : Moment) (fail : Bool) (r : Sent) (k : HostView) → HostDispatches m fail (host_of s p) r k → IsInvariant (network_of (with_segments (with_host s p k) (stored_by s (host_of s p) r)))
-  dispatch_keeps m fail r k e = ?
+  pub dispatch_keeps : (m : Moment) (fail : Bool) (o : Outcome) (k : HostView) (ks : List StoredView) → Dispatches s m fail o (host_of s p) p.segments k ks → IsInvariant (network_of (exchanged s p k ks))
+  dispatch_keeps m fail o k ks e = ?
 
-  pub deliver_keeps : (m : Moment) (t : StoredView) → m.word < 2 ^ 32 → IsSmall t.segment → Contains p.segments t → t.emitter ≡ other_side s → is_old p t ≡ false → capacity (host_of s p).control_block.rx_buffer ≤ 2 ^ 30 → Accepts (host_of s p).control_block t.ip t.segment → IsInvariant (network_of (delivered s p m t))
-  deliver_keeps m t w small there from_other young room accepts = ?
+  -- t is a segment of the other side, and the receive buffer has at most 2^30 bytes
+  pub deliver_keeps : (m : Moment) (t : StoredView) (o : Outcome) (k : HostView) (ks : List StoredView) → m.word < 2 ^ 32 → IsSmall t.segment → Contains p.segments t → t.emitter ≡ other_side s → capacity (host_of s p).control_block.rx_buffer ≤ 2 ^ 30
+      → DeliversTo (is_old (host_of t.emitter p) t) s m t o (host_of s p) p.segments k ks → IsInvariant (network_of (exchanged s p k ks))
+  deliver_keeps m t o k ks w small there from_other room e = ?

@@ -6,6 +6,7 @@ pub mod Holding
 pub mod Recording
 pub mod PairCalls
 pub mod PairSteps
+pub mod Exchanges
 pub mod PairNetwork
 pub mod PairInvariant
 pub mod StreamViews

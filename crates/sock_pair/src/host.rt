@@ -6,13 +6,14 @@ ghost use Rattle.sock_pair.specs.Moments.{facts_of};
 ghost use Rattle.sock_pair.specs.Holding.{stored_of};
 ghost use Rattle.sock_pair.specs.Recording.{Holds, SocketDispatches};
 
+use crate::exchange::Counts;
 use crate::moment::Moment;
 use crate::outcome::{Outcome, PairError};
 use crate::recorder::{EmitFailed, Recorder, Sent};
 use crate::segment::Segment;
 use control_wire::TcpRepr;
 use ip_wire::{IpEndpoint, IpListenEndpoint, IpRepr};
-use sock_tcp::{Reply, Socket};
+use sock_tcp::{Reply, Socket, SocketBuffer};
 use std::alloc::Global;
 use std::marker::Model;
 
@@ -46,11 +47,45 @@ impl<'a> Model for Host<'a> {
 }
 
 impl<'a> Host<'a> {
-    ghost use Rattle.sock_tcp.specs.Process.{Outcome as Processed};
+    ghost use Rattle.sock_tcp.specs.View.{fresh};
+    ghost use Rattle.sock_tcp.specs.Queue.{queue_of};
+    ghost use Rattle.sock_pair.specs.PairViews.{new_host};
     ghost use Rattle.sock_pair.specs.PairCalls.{listening, connecting, OpensAs, Sends, Receives};
     ghost use Rattle.sock_pair.specs.PairSteps.{HostDispatches, delivered_to, processed_by};
     ghost use Rattle.sock_pair.specs.PairInvariant.{IsHost, IsReachable};
     ghost use Rattle.ip_wire.specs.Address.{SameVersion};
+
+    pub(crate) fn new(alloc: Global, rx: SocketBuffer<'a>, tx: SocketBuffer<'a>, endpoint: IpEndpoint) -> Host<'a>
+        requires rx { length rx.queue + length rx.spare ≤ 2 ^ 30 }
+        requires tx { length tx.queue + length tx.spare ≤ 2 ^ 30 }
+        ensures { result ≡ new_host (fresh (queue_of rx.entry) (queue_of tx.entry)) endpoint }
+    {
+        Host {
+            socket: Socket::new(rx, tx),
+            endpoint,
+            opening: Opening::Unopened,
+            accepted: Vec::new(alloc),
+            handed_out: Vec::new(alloc),
+            released: 0,
+            taken: 0,
+        }
+    }
+
+    pub(crate) fn endpoint(&self) -> IpEndpoint
+        ensures { result ≡ self.now.endpoint }
+    {
+        self.endpoint
+    }
+
+    pub(crate) fn counts(&self) -> Counts
+        ensures released { result.released ≡ self.now.released }
+        ensures taken { result.taken ≡ self.now.taken }
+    {
+        Counts {
+            released: self.released,
+            taken: self.taken,
+        }
+    }
 
     fn listen_endpoint(&self) -> IpListenEndpoint
         ensures addr { result.addr ≡ Some self.now.endpoint.addr }

@@ -2,10 +2,11 @@
 #![tactic(auto)]
 
 pub mod event;
+mod exchange;
 mod host;
 pub mod moment;
 pub mod outcome;
-//pub mod pair;
+pub mod pair;
 mod recorder;
 pub mod segment;
 pub mod side;
@@ -14,6 +15,7 @@ pub mod streams;
 pub use event::Event;
 pub use moment::Moment;
 pub use outcome::{Outcome, PairError};
-//pub use pair::{Pair, Setup, too_old};
+pub use exchange::too_old;
+pub use pair::{Pair, Setup};
 pub use segment::Segment;
 pub use side::Side;
