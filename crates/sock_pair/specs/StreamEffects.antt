@@ -2,7 +2,7 @@
 use Rattle.std.specs.Prelude.{ℕ, ◌≡◌, ◌+◌, ◌-◌, ◌%◌, ◌^◌, ◌<◌, ◌≤◌, ◌⊎◌, true, false, List, [], ◌++◌, length, drop}
 use Rattle.std.specs.declared.option.Option.TheVariants.{Some}
 use Rattle.sock_core.specs.Streams.{ByteAt, fin_length}
-use Rattle.sock_pair.specs.StreamViews.{SynSent, SynReceived, Sending, Closing, Silent, SocketView, StreamSegment, KnowsPeer}
+use Rattle.sock_pair.specs.StreamViews.{SynSent, SynReceived, Sending, Closing, Silent, SocketView, StreamSegment, HasIss, KnowsPeer}
 
 -- ---- receiving
 
@@ -98,3 +98,12 @@ pub record SendsKeepAlive (v : SocketView) (g : StreamSegment) : Type 0 where
 -- the only acknowledgement that a segment carries is RCV.NXT, once the peer's SYN has come
 pub record AcksRcvNxt (v : SocketView) (g : StreamSegment) : Type 0 where
   pub says : (a : ℕ) → g.ack ≡ Some a → KnowsPeer v.phase × (a ≡ v.rcv_nxt)
+
+-- A segment of a socket that is no RST: a part of the transmit queue or none, or a keep-alive; a SYN only at the initial number, before it is
+-- acknowledged
+pub record MaySend (v : SocketView) (g : StreamSegment) : Type 0 where
+  pub plain : g.rst ≡ false
+  pub iss : HasIss v.phase
+  pub content : SendsPayload v g ⊎ SendsKeepAlive v g
+  pub acks : AcksRcvNxt v g
+  pub opens : g.syn ≡ true → ((v.phase ≡ SynSent) ⊎ (v.phase ≡ SynReceived)) × (g.seq ≡ v.snd_una)
