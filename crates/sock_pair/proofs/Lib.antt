@@ -14,3 +14,4 @@ pub mod NetworkSegments
 pub mod NetworkSteps
 pub mod NetworkRuns
 pub mod NetworkExample
+pub mod NetworkDeliveries

@@ -4,7 +4,6 @@ use Rattle.sock_core.specs.Streams.{ByteAt}
 use Rattle.sock_pair.specs.Network.{Accepts, AnswersFinished, Closes, Connects, Emits, Endpoint, HandsOut, HearsAcknowledgement, HearsSyn, HearsSynAck, IsStamped, Listens, Network}
 use Rattle.sock_pair.specs.NetworkRuns.{Run, start, unopened}
 use Rattle.sock_pair.specs.StreamEffects.{AcksSyn, Brings, HearsData, SendsPayload}
-use Rattle.sock_pair.specs.StreamModel.{counted}
 use Rattle.sock_pair.specs.StreamViews.{Closing, Listening, Phase, Sending, SocketView, StreamSegment, SynReceived, SynSent}
 
 abbrev view : Phase → ℕ → ℕ → ℕ → List ℕ → List ℕ → Bool → SocketView

@@ -13,7 +13,7 @@ use Rattle.sock_pair.proofs.NetworkChanges.{changes_keep, comes_here, emit_keep,
 use Rattle.sock_pair.proofs.NetworkOpening.{emitter_has_iss}
 use Rattle.sock_pair.proofs.NetworkPhases.{dec_dead, knows_iss, no_iss_not_iss, only_syn_sent, synchronized_knows, synchronized_not_early, synchronized_not_no_iss}
 use Rattle.sock_pair.proofs.StreamAcking.{released_more}
-use Rattle.sock_pair.proofs.StreamFallBack.{ack_by_same_numbers, any_ack, first_ack, nothing_yet}
+use Rattle.sock_pair.proofs.StreamFallBack.{ack_by_same_numbers, any_ack, first_ack}
 use Rattle.sock_pair.proofs.StreamGrowth.{sender_grows, sound_kept}
 use Rattle.sock_pair.proofs.StreamHearing.{heard, heard_grows, heard_receiving}
 use Rattle.sock_pair.proofs.StreamMatches.{sending_same, sending_view, syn_empty, syn_unacked}

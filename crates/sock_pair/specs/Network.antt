@@ -3,7 +3,7 @@ use Rattle.std.specs.Prelude.{ℕ, ◌≡◌, ◌+◌, ◌-◌, ◌%◌, ◌^◌
 use Rattle.std.specs.List.{Contains}
 use Rattle.std.specs.declared.option.Option.{Option}
 use Rattle.std.specs.declared.option.Option.TheVariants.{Some, None}
-use Rattle.sock_pair.specs.StreamViews.{Unopened, Listening, SynSent, SynReceived, Sending, Closing, Dead, SocketView, StreamSegment, HasIss, HasNoIss, KnowsPeer, IsSynchronized}
+use Rattle.sock_pair.specs.StreamViews.{Unopened, Listening, SynSent, SynReceived, Sending, Closing, Dead, SocketView, StreamSegment, HasNoIss, KnowsPeer, IsSynchronized}
 use Rattle.sock_pair.specs.StreamEffects.{HearsData, HearsAck, SndNxtWithin, MaySend, SameSending}
 
 -- one side: its socket, and what was counted of it since the start
