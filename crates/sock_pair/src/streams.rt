@@ -7,7 +7,7 @@ ghost use Rattle.std.specs.declared.option.Option.TheVariants.{Some, None};
 ghost use Rattle.sock_core.specs.Places.{number_at, number_distance, number_is_before, later_number};
 ghost use Rattle.sock_pair.specs.StreamViews.{SocketView, StreamSegment, HasIss, IsNonSynchronized};
 ghost use Rattle.sock_pair.specs.StreamEffects.{HearsData, HearsAck, SendsPayload, SendsKeepAlive, SndNxtWithin};
-ghost use Rattle.sock_pair.specs.StreamTables.{cut, Gathers, JoinsAtOnce, TakesPayload, HasSendingBounds, AckPasses, Content};
+ghost use Rattle.sock_pair.specs.StreamTables.{cut, Gathers, JoinsAtOnce, TakesPayload, TakesWhole, HasSendingBounds, AckPasses, Content};
 ghost use Rattle.sock_pair.specs.StreamCalls.{ProcessEffect, ReplyEffect, BeginEffect, EmitEffect};
 ghost use Rattle.sock_pair.specs.Network.{Network, Step, swapped, AnswersFinished, MayArrive, IsStamped, with_local, with_view, heard_by, emitted};
 ghost use Rattle.sock_pair.specs.NetworkInvariant.{IsLimit, IsInvariant};
@@ -70,6 +70,11 @@ pub fn bounds_of_a_socket()
 /// A segment that lies inside the receive window, and that is cut to it and taken as the case tables say, is heard.
 pub fn taken_segment_is_heard()
     ensures { (v w : SocketView) (g : StreamSegment) (win : ℕ) → TakesPayload v w g win → HearsData v w g }
+{}
+
+/// A segment at RCV.NXT that is taken whole, by a socket that holds nothing out of order, is heard.
+pub fn whole_segment_is_heard()
+    ensures { (v w : SocketView) (g : StreamSegment) → TakesWhole v w g → HearsData v w g }
 {}
 
 /// Bytes that are taken in order join the receive queue at once, followed by the bytes that were held behind them.
