@@ -16,3 +16,4 @@ pub mod NetworkSteps
 pub mod NetworkRuns
 pub mod NetworkExample
 pub mod PairKeeps
+pub mod NetworkDeliveries

@@ -99,11 +99,11 @@ runs = (
   (
     inl (Connects 1000 (omega arith) refl refl),
     (
-      inl (Emits syn refl (stamped a1 syn refl refl) tt (inl (bare a1.view syn refl refl refl)) (record { says = λ a h. let e : None ≡ Some a = h in cc }) (λ e. (inl refl, refl)) refl),
+      inl (Emits syn (stamped a1 syn refl refl) (record { plain = refl; iss = tt; content = inl (bare a1.view syn refl refl refl); acks = record { says = λ a h. let e : None ≡ Some a = h in cc }; opens = λ e. (inl refl, refl) }) refl),
       (
         inr (HearsSyn syn 5000 (omega arith) (0, omega arith, refl) refl refl refl refl),
         (
-          inr (Emits syn_ack refl (stamped b2 syn_ack refl refl) tt (inl (bare b2.view syn_ack refl refl refl)) (record { says = λ a h. (tt, acked 1001 a h) }) (λ e. (inr refl, refl)) refl),
+          inr (Emits syn_ack (stamped b2 syn_ack refl refl) (record { plain = refl; iss = tt; content = inl (bare b2.view syn_ack refl refl refl); acks = record { says = λ a h. (tt, acked 1001 a h) }; opens = λ e. (inr refl, refl) }) refl),
           (
             inl (HearsSynAck syn_ack a2.view (record { sent = (0, omega arith, refl); plain = refl; may = tt }) refl refl (AcksSyn 1001 refl refl (inl refl) refl refl refl (record { flight = 0; is = refl; le = omega arith })) refl refl refl refl refl refl),
             (
@@ -111,7 +111,7 @@ runs = (
               (
                 inl (Closes refl refl),
                 (
-                  inl (Emits data_fin refl (stamped a4 data_fin refl refl) tt (inl (record { skip = 0; seq = refl; bytes = λ i b h. subst (λ n. ByteAt (7 ∷ []) n b) {x = i} {y = 0 + i} (omega arith) h; within = omega arith; fin = λ e. (refl, refl) })) (record { says = λ a h. (tt, acked 5001 a h) }) (λ e. let no : false ≡ true = e in cc) refl),
+                  inl (Emits data_fin (stamped a4 data_fin refl refl) (record { plain = refl; iss = tt; content = inl (record { skip = 0; seq = refl; bytes = λ i b h. subst (λ n. ByteAt (7 ∷ []) n b) {x = i} {y = 0 + i} (omega arith) h; within = omega arith; fin = λ e. (refl, refl) }); acks = record { says = λ a h. (tt, acked 5001 a h) }; opens = λ e. let no : false ≡ true = e in cc }) refl),
                   (
                     inr (HearsAcknowledgement data_fin b3.view (record { sent = (1, omega arith, refl); plain = refl; may = tt }) tt hears_byte (AcksSyn 5001 refl refl (inr refl) refl refl refl (record { flight = 0; is = refl; le = omega arith })) tt refl),
                     (

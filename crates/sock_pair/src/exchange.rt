@@ -80,8 +80,8 @@ pub(crate) fn dispatch(alloc: Global, host: &mut Host<'_>, side: Side, segments:
 fn store_reply(alloc: Global, segments: &mut Vec<Segment>, from: Side, reply: Option<Reply>, counts: Counts) -> Outcome
     requires room { vec_len segments.old < vec_capacity segments.old }
     requires empty { ForSome reply (λ r. r.1.payload.now ≡ []) }
-    ensures answer { result ≡ Outcome.Delivered (reply_index (length (map stored_of segments.old.items)) (option_map (λ r. (r.0, segment_of r.1)) reply)) }
-    ensures stored { map stored_of segments.new.items ≡ map stored_of segments.old.items ++ kept_at from (option_map (λ r. (r.0, segment_of r.1)) reply) counts.released counts.taken }
+    ensures answer { result ≡ Outcome.Delivered (reply_index (length (map stored_of segments.old.items)) (option_map (λ r. (r.0, segment_of r.1)) reply.entry)) }
+    ensures stored { map stored_of segments.new.items ≡ map stored_of segments.old.items ++ kept_at from (option_map (λ r. (r.0, segment_of r.1)) reply.entry) counts.released counts.taken }
 {
     match reply {
         None => Outcome::Delivered(None),
