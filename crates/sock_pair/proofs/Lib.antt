@@ -1,4 +1,5 @@
 pub mod Recordings
+pub mod Deliveries
 pub mod StreamGrowth
 pub mod StreamHearing
 pub mod StreamSending

@@ -1,5 +1,6 @@
 // One side of a pair: its socket, and what it accepted and handed out.
 ghost use Rattle.std.specs.Prelude.{◌≡◌, ◌+◌, ◌-◌, ◌≤◌, ◌<◌, ◌^◌, ◌++◌, ◌↔◌, IsTrue, length, option_map, Some, [], not, false, IfOk, OnOk, OnErr, vec_len, vec_capacity};
+ghost use Rattle.std.specs.Option.{ForSome};
 ghost use Rattle.control_wire.specs.Segment.{segment_of};
 ghost use Rattle.sock_tcp.specs.Process.{Accepts, processed};
 ghost use Rattle.sock_pair.specs.Moments.{facts_of};
@@ -203,6 +204,7 @@ impl<'a> Host<'a> {
         requires released { self.old.released < 2 ^ 63 }
         requires taken { self.old.taken < 2 ^ 63 }
         ensures view { self.new ≡ delivered_to self.old moment.entry.now (stored_of segment.now) }
+        ensures bare { ForSome result (λ r. r.1.payload.now ≡ []) }
         ensures reply { option_map (λ r. (r.0, segment_of r.1)) result ≡ (processed_by self.old moment.entry.now (stored_of segment.now)).reply }
     {
         let mut cx = *moment;

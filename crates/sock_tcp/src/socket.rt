@@ -1,5 +1,6 @@
 // The TCP socket as its users see it.
-ghost use Rattle.std.specs.Prelude.{◌≡◌, ◌≤◌, ◌^◌, ◌+◌, ◌++◌, ◌↔◌, IsTrue, length, take, drop, min, option_map, None, Ok, Err, IfOk, OnErr, is_ok, if◌then◌else◌};
+ghost use Rattle.std.specs.Prelude.{◌≡◌, ◌≤◌, ◌^◌, ◌+◌, ◌++◌, ◌↔◌, IsTrue, length, take, drop, min, option_map, [], Ok, Err, IfOk, OnErr, is_ok, if◌then◌else◌};
+ghost use Rattle.std.specs.Option.{ForSome};
 ghost use Rattle.control_wire.specs.Segment.{segment_of};
 ghost use Rattle.sock_tcp.specs.Queue.{queue_of, capacity};
 ghost use Rattle.sock_tcp.specs.View.{fresh};
@@ -221,7 +222,7 @@ impl<'a> Socket<'a> {
         self.control_block.accepts(ip_repr, repr)
     }
 
-    /// Takes a segment that `accepts` holds of, and gives the one that answers it, if any.
+    /// Takes a segment that `accepts` holds of, and gives the one that answers it, if any; that one has no payload.
     pub fn process<C: Context>(
         &mut self,
         cx: &mut C,
@@ -230,6 +231,7 @@ impl<'a> Socket<'a> {
     ) -> Option<Reply>
         requires { Accepts self.old.control_block ip_repr.now (segment_of repr.now) }
         ensures table { record { view = self.new.control_block; reply = option_map (λ r. (r.0, segment_of r.1)) result } ≡ processed self.old.control_block (record { micros = (C.facts cx.old).now }) (C.word_at cx.old 0) ip_repr.now (segment_of repr.now) }
+        ensures bare { ForSome result (λ r. r.1.payload.now ≡ []) }
         ensures context { Draws (draws (verdict_of self.old.control_block repr.now.control repr.now.ack_number) self.old.control_block.state repr.now.control) C.facts C.word_at cx.old cx.new }
     {
         self.control_block.process(cx, ip_repr, repr)
