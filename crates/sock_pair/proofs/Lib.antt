@@ -16,5 +16,6 @@ pub mod NetworkSegments
 pub mod NetworkSteps
 pub mod NetworkRuns
 pub mod NetworkExample
+pub mod PairHosts
 pub mod PairKeeps
 pub mod NetworkDeliveries
