@@ -5,7 +5,7 @@ ghost use Rattle.std.specs.List.{Contains};
 ghost use Rattle.std.specs.declared.option.Option.{Option};
 ghost use Rattle.std.specs.declared.option.Option.TheVariants.{Some, None};
 ghost use Rattle.sock_core.specs.Places.{number_at, number_distance, number_is_before, later_number};
-ghost use Rattle.sock_pair.specs.StreamViews.{SocketView, StreamSegment, HasIss, IsNonSynchronized};
+ghost use Rattle.sock_pair.specs.StreamViews.{Listening, Sending, SocketView, StreamSegment, HasIss, IsNonSynchronized};
 ghost use Rattle.sock_pair.specs.StreamEffects.{HearsData, HearsAck, SendsPayload, SendsKeepAlive, SndNxtWithin};
 ghost use Rattle.sock_pair.specs.StreamTables.{cut, Gathers, JoinsAtOnce, TakesPayload, TakesWhole, HasSendingBounds, AckPasses, Content};
 ghost use Rattle.sock_pair.specs.StreamCalls.{ProcessEffect, ReplyEffect, BeginEffect, EmitEffect};
@@ -45,10 +45,13 @@ pub fn a_step_only_adds()
     ensures { (old new : Network) → Step old new → OnlyAdds old new }
 {}
 
-/// The steps are not empty: an ordinary run, of a handshake, one byte, a close and a read, hands out the byte, and the next read
-/// answers `Finished`.
-pub fn an_ordinary_run()
-    ensures { (way : List Network) × (end : Network) × Run (start (Some 10)) way end × (end.remote.handed_out ≡ 7 ∷ []) × AnswersFinished end.remote }
+/// The steps are not empty. An ordinary run, of a handshake, one byte, a close and a read, hands out the byte, and the next read
+/// answers `Finished`. An abort of the connecting side sends the listener back to LISTEN. Two sides that connect at once both
+/// come to send.
+pub fn runs_exist()
+    ensures ordinary { (way : List Network) × (end : Network) × Run (start (Some 10)) way end × (end.remote.handed_out ≡ 7 ∷ []) × AnswersFinished end.remote }
+    ensures fall_back { (way : List Network) × (end : Network) × Run (start (Some 10)) way end × (end.remote.view.phase ≡ Listening) × (end.remote.view.snd_una ≡ 5000) }
+    ensures both_connect { (way : List Network) × (end : Network) × Run (start (Some 10)) way end × (end.local.view.phase ≡ Sending) × (end.remote.view.phase ≡ Sending) }
 {}
 
 /// Whole calls keep the invariant, by what they may do to one socket: a delivery, its reply, the beginning of a dispatch, and
