@@ -17,5 +17,7 @@ pub mod NetworkSteps
 pub mod NetworkRuns
 pub mod NetworkExample
 pub mod PairHosts
+pub mod PairReturns
 pub mod PairKeeps
+pub mod Running
 pub mod NetworkDeliveries

@@ -1,5 +1,5 @@
 // Two sockets, and every segment that they emitted.
-ghost use Rattle.std.specs.Prelude.{◌≡◌, ◌≤◌, ◌^◌, length, IfOk, OnOk, OnErr, [], None, slice_get};
+ghost use Rattle.std.specs.Prelude.{◌≡◌, ◌+◌, ◌<◌, ◌≤◌, ◌^◌, length, IfOk, OnOk, OnErr, [], None, slice_get};
 
 use crate::event::Event;
 use crate::exchange::{deliver, dispatch};
@@ -57,7 +57,7 @@ impl<'a> Pair<'a> {
     ghost use Rattle.sock_tcp.specs.View.{fresh};
     ghost use Rattle.sock_tcp.specs.Queue.{queue_of};
     ghost use Rattle.sock_pair.specs.PairViews.{new_host, new_pair, host_of};
-    ghost use Rattle.sock_pair.specs.PairCalls.{listening, connecting, OpensAs, Sends, Receives};
+    ghost use Rattle.sock_pair.specs.PairCalls.{listening, connecting, OpensAs, is_over, Sends, Receives};
     ghost use Rattle.sock_pair.specs.PairSteps.{OneSide, OneSideAndSegments, Dispatches, Delivers, Step, Done, HasStopped};
     ghost use Rattle.sock_pair.specs.PairInvariant.{IsReachable};
     ghost use Rattle.sock_pair.specs.NetworkInvariant.{IsLimit};
@@ -107,13 +107,31 @@ impl<'a> Pair<'a> {
         }
     }
 
+    // Whether so many more bytes of the side are more than the limit.
+    fn is_over_limit(&self, side: Side, count: usize) -> bool
+        requires { count < 2 ^ 63 }
+        ensures { result ≡ is_over self.now.limit (length (host_of side self.now).accepted + count) }
+    {
+        let accepted = match side {
+            Side::A => self.a.accepted_len(),
+            Side::B => self.b.accepted_len(),
+        };
+        match self.limit {
+            None => false,
+            Some(limit) => accepted + count > limit as usize,
+        }
+    }
+
     fn send(&mut self, side: Side, bytes: &[u8]) -> Result<Outcome, PairError>
         ensures step { IfOk result (λ o. OneSide side self.old self.new (λ h k. Sends self.old.limit bytes.now h o k)) }
         ensures memory { OnErr result (self.new ≡ self.old) }
     {
+        if self.is_over_limit(side, bytes.len()) {
+            return Ok(Outcome::StreamLimit);
+        }
         match side {
-            Side::A => self.a.send(self.limit, bytes),
-            Side::B => self.b.send(self.limit, bytes),
+            Side::A => self.a.send(bytes),
+            Side::B => self.b.send(bytes),
         }
     }
 
@@ -132,8 +150,8 @@ impl<'a> Pair<'a> {
         ensures memory { OnErr result (self.new ≡ self.old) }
     {
         match side {
-            Side::A => dispatch(self.alloc, &mut self.a, side, &mut self.segments, moment, fail),
-            Side::B => dispatch(self.alloc, &mut self.b, side, &mut self.segments, moment, fail),
+            Side::A => dispatch(self.alloc, &mut self.a, Side::A, &mut self.segments, moment, fail),
+            Side::B => dispatch(self.alloc, &mut self.b, Side::B, &mut self.segments, moment, fail),
         }
     }
 
@@ -144,7 +162,11 @@ impl<'a> Pair<'a> {
         if index >= self.segments.len() {
             return Ok(Outcome::NoSegment);
         }
-        match self.segments[index].from {
+        let segment = &self.segments[index];
+        segment.in_range();
+        self.a.in_range();
+        self.b.in_range();
+        match segment.from {
             Side::A => {
                 let counts = self.a.counts();
                 deliver(self.alloc, counts, &mut self.b, Side::B, &mut self.segments, index, moment)
