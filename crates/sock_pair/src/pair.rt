@@ -10,7 +10,7 @@ use crate::segment::Segment;
 use crate::side::Side;
 use control_wire::TcpTimestampGenerator;
 use ip_wire::IpEndpoint;
-use sock_tcp::SocketBuffer;
+use sock_tcp::{Socket, SocketBuffer};
 use std::alloc::Global;
 use std::marker::Model;
 
@@ -52,13 +52,14 @@ impl<'a> Model for Pair<'a> {
 }
 
 impl<'a> Pair<'a> {
-    ghost use Rattle.std.specs.Prelude.{MatchOption};
+    ghost use Rattle.std.specs.Prelude.{map};
     ghost use Rattle.ip_wire.specs.Address.{SameVersion};
     ghost use Rattle.sock_tcp.specs.View.{fresh};
     ghost use Rattle.sock_tcp.specs.Queue.{queue_of};
     ghost use Rattle.sock_pair.specs.PairViews.{new_host, new_pair, host_of};
     ghost use Rattle.sock_pair.specs.PairCalls.{listening, connecting, OpensAs, is_over, Sends, Receives};
     ghost use Rattle.sock_pair.specs.PairSteps.{OneSide, OneSideAndSegments, Dispatches, Delivers, Step, Done, HasStopped};
+    ghost use Rattle.sock_pair.specs.Holding.{stored_of};
     ghost use Rattle.sock_pair.specs.PairInvariant.{IsReachable};
     ghost use Rattle.sock_pair.specs.NetworkInvariant.{IsLimit};
     ghost use Rattle.sock_pair.specs.Sides.{other_side};
@@ -87,6 +88,57 @@ impl<'a> Pair<'a> {
             limit,
             alloc,
         }
+    }
+
+    fn host(&self, side: Side) -> &Host<'a>
+        ensures { result.now ≡ host_of side self.now }
+    {
+        match side {
+            Side::A => &self.a,
+            Side::B => &self.b,
+        }
+    }
+
+    /// All bytes that the side's socket took to send, in order.
+    pub fn accepted(&self, side: Side) -> &[u8]
+        ensures { result.now ≡ (host_of side self.now).accepted }
+    {
+        self.host(side).accepted.as_slice()
+    }
+
+    /// All bytes that the side's socket handed out, in order.
+    pub fn handed_out(&self, side: Side) -> &[u8]
+        ensures { result.now ≡ (host_of side self.now).handed_out }
+    {
+        self.host(side).handed_out.as_slice()
+    }
+
+    /// How many bytes left the side's transmit queue by acknowledgement.
+    pub fn released(&self, side: Side) -> u64
+        ensures { result ≡ (host_of side self.now).released }
+    {
+        self.host(side).released
+    }
+
+    /// How many bytes joined the side's receive queue.
+    pub fn taken(&self, side: Side) -> u64
+        ensures { result ≡ (host_of side self.now).taken }
+    {
+        self.host(side).taken
+    }
+
+    /// The side's socket.
+    pub fn socket(&self, side: Side) -> &Socket<'a>
+        ensures { result.now.control_block ≡ (host_of side self.now).control_block }
+    {
+        &self.host(side).socket
+    }
+
+    /// Every segment that was emitted, the first one first.
+    pub fn segments(&self) -> &[Segment]
+        ensures { map stored_of result.now ≡ self.now.segments }
+    {
+        self.segments.as_slice()
     }
 
     fn listen(&mut self, side: Side) -> Outcome
