@@ -17,5 +17,6 @@ pub mod NetworkSteps
 pub mod NetworkRuns
 pub mod NetworkExample
 pub mod PairHosts
+pub mod ShownProcess
 pub mod PairKeeps
 pub mod NetworkDeliveries

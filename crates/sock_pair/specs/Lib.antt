@@ -9,6 +9,7 @@ pub mod PairSteps
 pub mod Exchanges
 pub mod PairNetwork
 pub mod PairInvariant
+pub mod PairLaws
 pub mod StreamViews
 pub mod StreamEffects
 pub mod StreamModel
