@@ -18,5 +18,6 @@ pub mod NetworkRuns
 pub mod NetworkExample
 pub mod PairHosts
 pub mod ShownProcess
+pub mod ShownNetworks
 pub mod PairKeeps
 pub mod NetworkDeliveries
