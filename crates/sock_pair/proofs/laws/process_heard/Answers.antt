@@ -1,3 +1,4 @@
+use Rattle.sock_pair.proofs.ShownDispatch.{emission_plans}
 use Rattle.sock_pair.proofs.ShownProcess.{process_heard, process_silent}
 use Rattle.sock_pair.proofs.laws.process_heard.Goals as goal
 
