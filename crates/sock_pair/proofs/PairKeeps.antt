@@ -1,33 +1,45 @@
 -- What each event of a pair keeps of the network's invariant.
-use Rattle.std.proofs.Common.{◌≡◌, ℕ, ◌+◌, ◌<◌, ◌≤◌, ◌^◌, List, length, ◌++◌, Bool, true, false, Option, Some, None, refl, sym, ap, subst, ◌∙◌, arith}
-use Rattle.std.specs.Prelude.{IsTrue}
+use Rattle.std.proofs.Common.{◌≡◌, ℕ, ◌+◌, ◌<◌, ◌≤◌, ◌^◌, List, [], ◌∷◌, length, ◌++◌, Bool, true, false, Option, Some, None, refl, sym, ap, subst, ◌∙◌, arith}
+use Rattle.std.specs.Prelude.{IsTrue, not}
 use Rattle.std.proofs.lemmas.List.{append-nil}
 use Rattle.std.specs.List.{Contains}
 use Rattle.ip_wire.specs.declared.endpoint.IpEndpoint.{IpEndpoint}
 use Rattle.ip_wire.specs.declared.repr.IpRepr.{IpRepr}
 use Rattle.control_wire.specs.Segment.{Segment}
+use Rattle.sock_core.specs.Facts.{Facts}
 use Rattle.sock_tcp.specs.Queue.{capacity}
 use Rattle.sock_tcp.specs.View.{View}
+use Rattle.sock_tcp.specs.Due.{Begun, begun, begun_to, readied, readied_to}
+use Rattle.sock_tcp.specs.Content.{Sending, content}
+use Rattle.sock_tcp.specs.Dispatch.{left_by, end_of}
+use Rattle.sock_tcp.specs.declared.tuple.Tuple.{Tuple}
 use Rattle.sock_tcp.specs.Process.{Accepts, AcceptsIn}
 use Rattle.sock_tcp.specs.declared.state.State.TheVariants as state
-use Rattle.sock_pair.specs.Holding.{kept_at}
-use Rattle.sock_pair.specs.Network.{Network}
-use Rattle.sock_pair.specs.PairLaws.{IsBounded}
+use Rattle.sock_pair.specs.Holding.{kept_at, segment_at}
+use Rattle.sock_pair.specs.Moments.{facts_of}
+use Rattle.sock_pair.specs.Network.{Endpoint, Network, emitted, with_local, with_view}
+use Rattle.sock_pair.specs.PairLaws.{IsBounded, MayEmit}
 use Rattle.sock_pair.specs.declared.host.Opening.{Opening}
 use Rattle.sock_pair.specs.declared.host.Opening.TheVariants as opening
-use Rattle.sock_pair.proofs.NetworkDeliveries.{delivery_keeps, sending_bounds, nothing_received}
-use Rattle.sock_pair.proofs.ShownNetworks.{from_side, exchanged_from, with_from, stays_from, unchanged_from, stores, sent_has, may_arrive}
+use Rattle.sock_pair.proofs.NetworkDeliveries.{beginning_keeps, delivery_keeps, emission_keeps, sending_bounds, nothing_received}
+use Rattle.sock_pair.proofs.NetworkCalls.{moves_snd_nxt}
+use Rattle.sock_pair.proofs.ShownDispatch.{begun_shows, emission_plans, sent_shows}
+use Rattle.sock_pair.proofs.ShownNetworks.{between, from_side, exchanged_from, with_from, stays_from, unchanged_from, stores, sent_has, may_arrive}
 use Rattle.sock_pair.proofs.ShownProcess.{process_heard, process_silent}
 use Rattle.sock_pair.specs.NetworkInvariant.{IsInvariant}
-use Rattle.sock_pair.specs.PairInvariant.{IsHost}
-use Rattle.sock_pair.specs.PairNetwork.{shown, endpoint_of, shown_segment, network_at, network_of, IsSmall}
+use Rattle.sock_pair.specs.PairInvariant.{IsIdle, IsHost}
+use Rattle.sock_pair.specs.PairNetwork.{shown, stream_segment, endpoint_of, shown_segment, network_at, network_of, IsSmall}
 use Rattle.sock_pair.specs.PairViews.{HostView, StoredView, PairView, host_of, with_host}
 use Rattle.sock_pair.specs.PairCalls.{listening, connecting, OpensAs, Sends, Receives}
-use Rattle.sock_pair.specs.PairSteps.{Dispatches, DeliversTo, DeliversIf, is_old, exchanged, processed_by, delivered_to}
+use Rattle.sock_pair.specs.PairSteps.{Dispatches, stored_at, DeliversTo, DeliversIf, is_old, exchanged, processed_by, delivered_to}
+use Rattle.sock_pair.specs.Recording.{Records, SendsTo, SendsFrom, SocketDispatches}
+use Rattle.sock_pair.specs.StreamCalls.{Sends as MaySends}
+use Rattle.sock_pair.specs.StreamViews.{SocketView, StreamSegment}
 use Rattle.sock_pair.specs.Sides.{other_side}
 use Rattle.sock_pair.specs.declared.moment.Moment.{Moment}
 use Rattle.sock_pair.specs.declared.outcome.Outcome.{Outcome}
 use Rattle.sock_pair.specs.declared.recorder.Sent.{Sent}
+use Rattle.sock_pair.specs.declared.recorder.Sent.TheVariants as sent
 use Rattle.sock_pair.specs.declared.side.Side.{Side}
 
 -- nothing is stored where nothing was answered
@@ -36,9 +48,12 @@ stored_none s ts r released taken ks e n = e ∙ ap (λ x. ts ++ kept_at s x rel
 
 -- ---- deliveries
 
--- what the invariant says of an opened socket
+-- what an opened host shows, where its socket is v
+abbrev opened : HostView → Bool → View → Endpoint
+opened h b v = record (endpoint_of h) { view = shown v; listener = b }
+
 abbrev opened_network : Side → HostView → Bool → View → HostView → List StoredView → Option ℕ → Network
-opened_network s h b v o ks limit = record (network_at s h o ks limit) { local = record (endpoint_of h) { view = shown v; listener = b } }
+opened_network s h b v o ks limit = between s (opened h b v) (endpoint_of o) ks limit
 
 bounded : (s : Side) (h : HostView) (b : Bool) (v : View) (o : HostView) (ks : List StoredView) (limit : Option ℕ) → IsInvariant (opened_network s h b v o ks limit) → IsBounded v
 bounded s h b v o ks limit i = record { sending = λ d. sending_bounds _ i d; unread = λ e. nothing_received _ i e }
@@ -61,6 +76,69 @@ module _ (s : Side) (h o : HostView) (ks : List StoredView) (limit : Option ℕ)
 closed_accepts_none : (v : View) (t : StoredView) → v.state ≡ state.Closed → Accepts v t.ip t.segment → ⊥
 closed_accepts_none v t e a = subst (λ st. AcceptsIn st v t.ip t.segment) e a
 
+-- ---- dispatches
+
+-- what was stored of an emit
+records_stored : (s : Side) (c : Sending) (r : Sent) (released taken : ℕ) → Records false (Some c) r → stored_at s r released taken ≡ record { emitter = s; ip = c.ip; segment = c.segment; released_at = released; taken_at = taken } ∷ []
+records_stored s c sent.Quiet released taken e = absurd e
+records_stored s c sent.Failed released taken e = absurd e
+records_stored s c (sent.Emitted h bytes) released taken e = λ i. record { emitter = s; ip = (e.0 i).ip_repr; segment = segment_at (e.0 i) (e.1 i); released_at = released; taken_at = taken } ∷ []
+
+failed_stored : (s : Side) (c : Option Sending) (r : Sent) (released taken : ℕ) → Records true c r → stored_at s r released taken ≡ []
+failed_stored s None r released taken e = ap (λ x. stored_at s x released taken) e
+failed_stored s (Some c) r released taken e = ap (λ x. stored_at s x released taken) e
+
+module _ (s : Side) (h o : HostView) (ks : List StoredView) (limit : Option ℕ) (b : Bool) where
+  -- the same host, its socket as v
+  abbrev at_view : View → List StoredView → Type 0
+  at_view v ts = IsInvariant (opened_network s h b v o ts limit)
+
+  none_stored : (v : View) (xs : List StoredView) → xs ≡ [] → at_view v ks → at_view v (ks ++ xs)
+  none_stored v xs e i = subst (λ ts. at_view v ts) (sym (append-nil ks) ∙ ap (λ zs. ks ++ zs) (sym e)) i
+
+  -- a segment that may be emitted goes out, and SND.NXT moves
+  emits_one : (v : View) (c : Sending) → MayEmit v c.segment h.released h.taken → at_view v ks → at_view (left_by (Some c) v true) (ks ++ record { emitter = s; ip = c.ip; segment = c.segment; released_at = h.released; taken_at = h.taken } ∷ [])
+  emits_one v c may i =
+      let g : StreamSegment = stream_segment c.segment h.released h.taken in
+      let w : Network = emitted (opened_network s h b v o ks limit) g in
+      let out : IsInvariant w = emission_keeps (opened_network s h b v o ks limit) g (record { released = omega arith; taken = omega arith }) (MaySends may.sends) i in
+      stores s (opened h b (left_by (Some c) v true)) (endpoint_of o) ks (record { emitter = s; ip = c.ip; segment = c.segment; released_at = h.released; taken_at = h.taken }) limit refl
+      (subst (λ (z : SocketView). IsInvariant (with_local w (with_view w.local z))) (sym (sent_shows v (end_of c.segment) c.segment.ack_number c.segment.window_len)) (moves_snd_nxt w _ may.snd_nxt out))
+
+  sends_to : (v w : View) (t : Tuple) (f : Facts) (fail : Bool) (r : Sent) → SendsTo v t f fail r w → at_view v ks → at_view w (ks ++ stored_at s r h.released h.taken)
+  sends_to v w t f fail r d i = subst (λ u. at_view u (ks ++ stored_at s r h.released h.taken)) (sym d.view) (go fail (content v t f d.bytes) refl d.records)
+    where
+      go : (fail : Bool) (c : Option Sending) → content v t f d.bytes ≡ c → Records fail c r → at_view (left_by c v (not fail)) (ks ++ stored_at s r h.released h.taken)
+      go true None e x = none_stored v _ (failed_stored s None r h.released h.taken x) i
+      go true (Some c) e x = none_stored v _ (failed_stored s (Some c) r h.released h.taken x) i
+      go false None e x = none_stored v _ (ap (λ y. stored_at s y h.released h.taken) x) i
+      go false (Some c) e x = subst (λ xs. at_view (left_by (Some c) v true) (ks ++ xs)) (sym (records_stored s c r h.released h.taken x)) (emits_one v c (emission_plans v h.released h.taken (bounded s h b v o ks limit i) t f d.bytes d.lent c e) i)
+
+  sends_from : (peer : Option Tuple) (v w : View) (f : Facts) (fail : Bool) (r : Sent) → SendsFrom peer v f fail r w → at_view v ks → at_view w (ks ++ stored_at s r h.released h.taken)
+  sends_from None v w f fail r d i = subst (λ u. at_view u (ks ++ stored_at s r h.released h.taken)) (sym d.1) (none_stored v _ (ap (λ y. stored_at s y h.released h.taken) d.0) i)
+  sends_from (Some t) v w f fail r d i = sends_to v w t f fail r d i
+
+  dispatches_as : (w : View) (f : Facts) (fail : Bool) (r : Sent) → SocketDispatches h.control_block f fail r w → at_view h.control_block ks → at_view w (ks ++ stored_at s r h.released h.taken)
+  unfolding SocketDispatches
+  dispatches_as w f fail r d i =
+      sends_from (readied h.control_block f).peer (readied h.control_block f).view w f fail r d
+      (beginning_keeps (opened_network s h b h.control_block o ks limit) (shown (readied h.control_block f).view) (begun_shows h.control_block f) i)
+
+-- a dispatch of a socket without a peer stores nothing
+quiet_from : (b : Begun) (f : Facts) (fail : Bool) (r : Sent) (w : View) → b.peer ≡ None → SendsFrom b.peer b.view f fail r w → r ≡ sent.Quiet
+quiet_from b f fail r w e d = (subst (λ o. SendsFrom o b.view f fail r w) e d).0
+
+idle_stores : (v w : View) (f : Facts) (fail : Bool) (r : Sent) → v.tuple ≡ None → SocketDispatches v f fail r w → r ≡ sent.Quiet
+unfolding SocketDispatches readied begun
+idle_stores v w f fail r e d = quiet_from (readied v f) f fail r w (ap (λ o. (readied_to (begun_to o v f).peer (begun_to o v f).view).peer) e) d
+
+dispatches_in : (s : Side) (h o : HostView) (ks : List StoredView) (limit : Option ℕ) (w : View) (f : Facts) (fail : Bool) (r : Sent) → SocketDispatches h.control_block f fail r w → (e : Opening) → (e ≡ opening.Unopened → IsIdle h.control_block) → IsInvariant (network_at s (record h { opening = e }) o ks limit)
+    → IsInvariant (network_at s (record h { opening = e; control_block = w }) o (ks ++ stored_at s r h.released h.taken) limit)
+dispatches_in s h o ks limit w f fail r d opening.Unopened idle i =
+    subst (λ ts. IsInvariant (network_at s (record h { opening = opening.Unopened }) o ts limit)) (sym (append-nil ks) ∙ ap (λ x. ks ++ stored_at s x h.released h.taken) (sym (idle_stores h.control_block w f fail r (idle refl).tuple d))) i
+dispatches_in s h o ks limit w f fail r d opening.Listener idle i = dispatches_as s h o ks limit true w f fail r d i
+dispatches_in s h o ks limit w f fail r d opening.Connector idle i = dispatches_as s h o ks limit false w f fail r d i
+
 module _ (s : Side) (p : PairView) (host : IsHost (host_of s p)) (i : IsInvariant (network_of p)) where
   pub listen_keeps : (o : Outcome) (k : HostView) → OpensAs (host_of s p).opening (host_of s p) (listening (host_of s p)) o k → IsInvariant (network_of (with_host s p k))
   listen_keeps o k e = ?
@@ -75,7 +153,10 @@ module _ (s : Side) (p : PairView) (host : IsHost (host_of s p)) (i : IsInvarian
   recv_keeps size o k e = ?
 
   pub dispatch_keeps : (m : Moment) (fail : Bool) (o : Outcome) (k : HostView) (ks : List StoredView) → Dispatches s m fail o (host_of s p) p.segments k ks → IsInvariant (network_of (exchanged s p k ks))
-  dispatch_keeps m fail o k ks e = ?
+  dispatch_keeps m fail o k ks e =
+      exchanged_from s p k ks (subst (λ h. IsInvariant (network_at s h (host_of (other_side s) p) ks p.limit)) (sym e.does.same)
+      (subst (λ ts. IsInvariant (network_at s (record (host_of s p) { control_block = k.control_block }) (host_of (other_side s) p) ts p.limit)) (sym e.stored)
+      (dispatches_in s (host_of s p) (host_of (other_side s) p) p.segments p.limit k.control_block (facts_of m) fail e.sent e.does.socket (host_of s p).opening host.idle (from_side s p i))))
 
   -- t is a segment of the other side, and the receive buffer has at most 2^30 bytes
   pub deliver_keeps : (m : Moment) (t : StoredView) (o : Outcome) (k : HostView) (ks : List StoredView) → m.word < 2 ^ 32 → IsSmall t.segment → Contains p.segments t → t.emitter ≡ other_side s → capacity (host_of s p).control_block.rx_buffer ≤ 2 ^ 30

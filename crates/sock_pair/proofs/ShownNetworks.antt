@@ -4,7 +4,7 @@ use Rattle.std.specs.Prelude.{nat_le, ◌||◌, slice_index_or}
 use Rattle.std.specs.List.{Contains}
 use Rattle.std.proofs.lemmas.Bool.Decides.{nat_tests}
 use Rattle.std.proofs.lemmas.List.{append-nil}
-use Rattle.sock_pair.specs.Network.{Network, MayArrive, emitted, with_local}
+use Rattle.sock_pair.specs.Network.{Endpoint, Network, MayArrive, emitted, with_local}
 use Rattle.sock_pair.specs.NetworkInvariant.{IsInvariant}
 use Rattle.sock_pair.specs.PairNetwork.{endpoint_of, shown_segment, kept_if, sent_by, network_at, network_of}
 use Rattle.sock_pair.specs.PairSteps.{exchanged, is_too_old, is_old}
@@ -69,9 +69,13 @@ sent_others s k e = go s k.emitter e
     go A B e = cc
     go B A e = cc
 
+-- two endpoints, and the segments that each emitted
+abbrev pub between : Side → Endpoint → Endpoint → List StoredView → Option ℕ → Network
+between s x y ks limit = record { local = x; remote = y; local_segments = sent_by s ks; remote_segments = sent_by (other_side s) ks; limit = limit }
+
 -- a segment of the side s is stored
-pub stores : (s : Side) (h o : HostView) (ks : List StoredView) (k : StoredView) (limit : Option ℕ) → k.emitter ≡ s → IsInvariant (emitted (network_at s h o ks limit) (shown_segment k)) → IsInvariant (network_at s h o (ks ++ k ∷ []) limit)
-stores s h o ks k limit e i = subst IsInvariant (λ j. record (network_at s h o ks limit) { local_segments = own j; remote_segments = others j }) i
+pub stores : (s : Side) (x y : Endpoint) (ks : List StoredView) (k : StoredView) (limit : Option ℕ) → k.emitter ≡ s → IsInvariant (emitted (between s x y ks limit) (shown_segment k)) → IsInvariant (between s x y (ks ++ k ∷ []) limit)
+stores s x y ks k limit e i = subst IsInvariant (λ j. record { local = x; remote = y; local_segments = own j; remote_segments = others j; limit = limit }) i
   where
     own : sent_by s ks ++ shown_segment k ∷ [] ≡ sent_by s (ks ++ k ∷ [])
     own = ap (λ gs. sent_by s ks ++ gs) (sym (sent_own s k e)) ∙ sym (sent_append s ks (k ∷ []))

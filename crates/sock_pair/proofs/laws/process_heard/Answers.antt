@@ -1,4 +1,3 @@
-use Rattle.sock_pair.proofs.ShownDispatch.{emission_plans}
 use Rattle.sock_pair.proofs.ShownProcess.{process_heard, process_silent}
 use Rattle.sock_pair.proofs.laws.process_heard.Goals as goal
 
