@@ -18,6 +18,7 @@ pub mod NetworkRuns
 pub mod NetworkExample
 pub mod PairHosts
 pub mod ShownProcess
+pub mod ShownCalls
 pub mod ShownDispatch
 pub mod ShownNetworks
 pub mod PairKeeps

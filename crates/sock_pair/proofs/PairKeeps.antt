@@ -1,6 +1,7 @@
 -- What each event of a pair keeps of the network's invariant.
-use Rattle.std.proofs.Common.{◌≡◌, ℕ, ◌+◌, ◌<◌, ◌≤◌, ◌^◌, List, [], ◌∷◌, length, ◌++◌, Bool, true, false, Option, Some, None, refl, sym, ap, subst, ◌∙◌, arith}
-use Rattle.std.specs.Prelude.{IsTrue, not}
+use Rattle.std.proofs.Common.{◌≡◌, ℕ, ◌+◌, ◌<◌, ◌≤◌, ◌^◌, List, [], ◌∷◌, length, ◌++◌, Bool, true, false, Option, Some, None, refl, sym, ap, subst, ◌∙◌, arith, length-append, length-take}
+use Rattle.std.specs.Prelude.{IsTrue, not, min}
+use Rattle.std.proofs.lemmas.Bool.Decides.{nat_tests}
 use Rattle.std.proofs.lemmas.List.{append-nil}
 use Rattle.std.specs.List.{Contains}
 use Rattle.ip_wire.specs.declared.endpoint.IpEndpoint.{IpEndpoint}
@@ -9,6 +10,7 @@ use Rattle.control_wire.specs.Segment.{Segment}
 use Rattle.sock_core.specs.Facts.{Facts}
 use Rattle.sock_tcp.specs.Queue.{capacity}
 use Rattle.sock_tcp.specs.View.{View}
+use Rattle.sock_tcp.specs.Queues.{may_send, may_recv, written}
 use Rattle.sock_tcp.specs.Due.{Begun, begun, begun_to, readied, readied_to}
 use Rattle.sock_tcp.specs.Content.{Sending, content}
 use Rattle.sock_tcp.specs.Dispatch.{left_by, end_of}
@@ -17,20 +19,24 @@ use Rattle.sock_tcp.specs.Process.{Accepts, AcceptsIn}
 use Rattle.sock_tcp.specs.declared.state.State.TheVariants as state
 use Rattle.sock_pair.specs.Holding.{kept_at, segment_at}
 use Rattle.sock_pair.specs.Moments.{facts_of}
-use Rattle.sock_pair.specs.Network.{Endpoint, Network, emitted, with_local, with_view}
+use Rattle.sock_pair.specs.NetworkRuns.{unopened}
+use Rattle.sock_pair.specs.Network.{IsWithin, Endpoint, Network, emitted, with_local, with_view}
 use Rattle.sock_pair.specs.PairLaws.{IsBounded, MayEmit}
 use Rattle.sock_pair.specs.declared.host.Opening.{Opening}
 use Rattle.sock_pair.specs.declared.host.Opening.TheVariants as opening
 use Rattle.sock_pair.proofs.NetworkDeliveries.{beginning_keeps, delivery_keeps, emission_keeps, sending_bounds, nothing_received}
-use Rattle.sock_pair.proofs.NetworkCalls.{moves_snd_nxt}
+use Rattle.sock_pair.proofs.NetworkCalls.{accepts, hands_out, moves_snd_nxt}
+use Rattle.sock_pair.proofs.NetworkOpening.{listens, connects}
+use Rattle.sock_pair.proofs.PairHosts.{cannot_send, cannot_recv, closed_accepts_none}
+use Rattle.sock_pair.proofs.ShownCalls.{listened_shows, connected_shows, written_shows, read_shows, sends_open}
 use Rattle.sock_pair.proofs.ShownDispatch.{begun_shows, emission_plans, sent_shows}
 use Rattle.sock_pair.proofs.ShownNetworks.{between, from_side, exchanged_from, with_from, stays_from, unchanged_from, stores, sent_has, may_arrive}
 use Rattle.sock_pair.proofs.ShownProcess.{process_heard, process_silent}
 use Rattle.sock_pair.specs.NetworkInvariant.{IsInvariant}
 use Rattle.sock_pair.specs.PairInvariant.{IsIdle, IsHost}
-use Rattle.sock_pair.specs.PairNetwork.{shown, stream_segment, endpoint_of, shown_segment, network_at, network_of, IsSmall}
+use Rattle.sock_pair.specs.PairNetwork.{seen, is_listener, shown, stream_segment, endpoint_of, shown_segment, network_at, network_of, IsSmall}
 use Rattle.sock_pair.specs.PairViews.{HostView, StoredView, PairView, host_of, with_host}
-use Rattle.sock_pair.specs.PairCalls.{listening, connecting, OpensAs, Sends, Receives}
+use Rattle.sock_pair.specs.PairCalls.{listening, connecting, OpensAs, is_over, accepted_of, sending, Sends, SendsIf, SendsUnder, receiving, Receives, ReceivesIf}
 use Rattle.sock_pair.specs.PairSteps.{Dispatches, stored_at, DeliversTo, DeliversIf, is_old, exchanged, processed_by, delivered_to}
 use Rattle.sock_pair.specs.Recording.{Records, SendsTo, SendsFrom, SocketDispatches}
 use Rattle.sock_pair.specs.StreamCalls.{Sends as MaySends}
@@ -72,9 +78,6 @@ module _ (s : Side) (h o : HostView) (ks : List StoredView) (limit : Option ℕ)
 
   hears : (h.opening ≡ opening.Unopened → ⊥) → IsInvariant (network_at s h o ks limit) → IsInvariant (network_at s (delivered_to h m t) o ks limit)
   hears shut i = hears_in h.opening shut i
-
-closed_accepts_none : (v : View) (t : StoredView) → v.state ≡ state.Closed → Accepts v t.ip t.segment → ⊥
-closed_accepts_none v t e a = subst (λ st. AcceptsIn st v t.ip t.segment) e a
 
 -- ---- dispatches
 
@@ -139,18 +142,89 @@ dispatches_in s h o ks limit w f fail r d opening.Unopened idle i =
 dispatches_in s h o ks limit w f fail r d opening.Listener idle i = dispatches_as s h o ks limit true w f fail r d i
 dispatches_in s h o ks limit w f fail r d opening.Connector idle i = dispatches_as s h o ks limit false w f fail r d i
 
+-- ---- the calls of the application
+
+-- a side that was not opened before opens as k
+opens_in : (s : Side) (h k n : HostView) (oc : Outcome) (o : HostView) (ks : List StoredView) (limit : Option ℕ) (e : Opening) → OpensAs e h n oc k → IsInvariant (network_at s h o ks limit) → (e ≡ opening.Unopened → IsInvariant (network_at s n o ks limit)) → IsInvariant (network_at s k o ks limit)
+opens_in s h k n oc o ks limit opening.Unopened d i new = subst (λ x. IsInvariant (network_at s x o ks limit)) (sym d.1) (new refl)
+opens_in s h k n oc o ks limit opening.Listener d i new = subst (λ x. IsInvariant (network_at s x o ks limit)) (sym d.1) i
+opens_in s h k n oc o ks limit opening.Connector d i new = subst (λ x. IsInvariant (network_at s x o ks limit)) (sym d.1) i
+
+-- what an unopened side shows
+unopened_as : (s : Side) (h o : HostView) (ks : List StoredView) (limit : Option ℕ) → h.opening ≡ opening.Unopened → IsInvariant (network_at s h o ks limit) → IsInvariant (between s (record (endpoint_of h) { view = unopened.view; listener = false }) (endpoint_of o) ks limit)
+unopened_as s h o ks limit e i = subst (λ x. IsInvariant (between s (record (endpoint_of h) { view = seen x h.control_block; listener = is_listener x }) (endpoint_of o) ks limit)) e i
+
+module _ (s : Side) (h o : HostView) (ks : List StoredView) (limit : Option ℕ) where
+  listens_keep : h.opening ≡ opening.Unopened → IsInvariant (network_at s h o ks limit) → IsInvariant (network_at s (listening h) o ks limit)
+  listens_keep e i =
+      subst (λ (v : SocketView). IsInvariant (between s (record (endpoint_of h) { view = v; listener = true }) (endpoint_of o) ks limit)) (sym (listened_shows h.control_block _))
+      (listens (between s (record (endpoint_of h) { view = unopened.view; listener = false }) (endpoint_of o) ks limit) refl (unopened_as s h o ks limit e i))
+
+  connects_keep : (m : Moment) (remote : IpEndpoint) → m.word < 2 ^ 32 → h.opening ≡ opening.Unopened → IsInvariant (network_at s h o ks limit) → IsInvariant (network_at s (connecting h m remote) o ks limit)
+  connects_keep m remote w e i =
+      subst (λ (v : SocketView). IsInvariant (between s (record (endpoint_of h) { view = v; listener = false }) (endpoint_of o) ks limit)) (sym (connected_shows h.control_block _ m.word))
+      (connects (between s (record (endpoint_of h) { view = unopened.view; listener = false }) (endpoint_of o) ks limit) m.word w refl (unopened_as s h o ks limit e i))
+
+  -- ---- send
+
+  sends_as : (b : Bool) (bs : List ℕ) → may_send h.control_block.state ≡ true → length h.control_block.tx_buffer.bytes + length (accepted_of h bs) ≤ 2 ^ 30 → IsWithin limit (h.accepted ++ accepted_of h bs) → IsInvariant (between s (opened h b h.control_block) (endpoint_of o) ks limit) → IsInvariant (between s (opened (sending h bs) b (written h.control_block bs)) (endpoint_of o) ks limit)
+  sends_as b bs may room within i =
+      subst (λ (v : SocketView). IsInvariant (between s (record (endpoint_of (sending h bs)) { view = v; listener = b }) (endpoint_of o) ks limit)) (sym (written_shows h.control_block bs))
+      (accepts (between s (opened h b h.control_block) (endpoint_of o) ks limit) (accepted_of h bs) (sends_open h.control_block.state may) room within i)
+
+  sends_in : (e : Opening) (bs : List ℕ) → (e ≡ opening.Unopened → ⊥) → may_send h.control_block.state ≡ true → length h.control_block.tx_buffer.bytes + length (accepted_of h bs) ≤ 2 ^ 30 → IsWithin limit (h.accepted ++ accepted_of h bs) → IsInvariant (network_at s (record h { opening = e }) o ks limit) → IsInvariant (network_at s (record (sending h bs) { opening = e }) o ks limit)
+  sends_in opening.Unopened bs shut may room within i = absurd (shut refl)
+  sends_in opening.Listener bs shut may room within i = sends_as true bs may room within i
+  sends_in opening.Connector bs shut may room within i = sends_as false bs may room within i
+
+  -- ---- recv
+
+  reads_as : (b : Bool) (size : ℕ) → IsInvariant (between s (opened h b h.control_block) (endpoint_of o) ks limit) → IsInvariant (between s (opened (receiving h size) b (receiving h size).control_block) (endpoint_of o) ks limit)
+  reads_as b size i =
+      subst (λ (v : SocketView). IsInvariant (between s (record (endpoint_of (receiving h size)) { view = v; listener = b }) (endpoint_of o) ks limit)) (sym (read_shows h.control_block (min size (length h.control_block.rx_buffer.bytes)) (omega arith)))
+      (hands_out (between s (opened h b h.control_block) (endpoint_of o) ks limit) (min size (length h.control_block.rx_buffer.bytes)) i)
+
+  reads_in : (e : Opening) (size : ℕ) → (e ≡ opening.Unopened → ⊥) → IsInvariant (network_at s (record h { opening = e }) o ks limit) → IsInvariant (network_at s (record (receiving h size) { opening = e }) o ks limit)
+  reads_in opening.Unopened size shut i = absurd (shut refl)
+  reads_in opening.Listener size shut i = reads_as true size i
+  reads_in opening.Connector size shut i = reads_as false size i
+
+-- within the limit
+not_over : (limit : Option ℕ) (h : HostView) (bs : List ℕ) → is_over limit (length h.accepted + length bs) ≡ false → IsWithin limit (h.accepted ++ accepted_of h bs)
+not_over None h bs e = tt
+not_over (Some limit) h bs e =
+    let le : length h.accepted + length bs ≤ limit = grind (arith, nat_tests, e) in
+    omega (arith, le, length-append h.accepted (accepted_of h bs), length-take (min (length bs) h.control_block.tx_buffer.window) bs)
+
 module _ (s : Side) (p : PairView) (host : IsHost (host_of s p)) (i : IsInvariant (network_of p)) where
   pub listen_keeps : (o : Outcome) (k : HostView) → OpensAs (host_of s p).opening (host_of s p) (listening (host_of s p)) o k → IsInvariant (network_of (with_host s p k))
-  listen_keeps o k e = ?
+  listen_keeps o k e = with_from s p k (opens_in s (host_of s p) k (listening (host_of s p)) o (host_of (other_side s) p) p.segments p.limit (host_of s p).opening e (from_side s p i) (λ u. listens_keep s (host_of s p) (host_of (other_side s) p) p.segments p.limit u (from_side s p i)))
 
   pub connect_keeps : (m : Moment) (remote : IpEndpoint) (o : Outcome) (k : HostView) → m.word < 2 ^ 32 → OpensAs (host_of s p).opening (host_of s p) (connecting (host_of s p) m remote) o k → IsInvariant (network_of (with_host s p k))
-  connect_keeps m remote o k w e = ?
+  connect_keeps m remote o k w e = with_from s p k (opens_in s (host_of s p) k (connecting (host_of s p) m remote) o (host_of (other_side s) p) p.segments p.limit (host_of s p).opening e (from_side s p i) (λ u. connects_keep s (host_of s p) (host_of (other_side s) p) p.segments p.limit m remote w u (from_side s p i)))
 
   pub send_keeps : (bs : List ℕ) (o : Outcome) (k : HostView) → length k.control_block.tx_buffer.bytes ≤ 2 ^ 30 → Sends p.limit bs (host_of s p) o k → IsInvariant (network_of (with_host s p k))
-  send_keeps bs o k room e = ?
+  send_keeps bs o k room e = go (is_over p.limit (length (host_of s p).accepted + length bs)) refl e
+    where
+      take_some : (b : Bool) → may_send (host_of s p).control_block.state ≡ b → is_over p.limit (length (host_of s p).accepted + length bs) ≡ false → SendsIf b (host_of s p) bs o k → IsInvariant (network_of (with_host s p k))
+      take_some false may x d = stays_from s p k d.1 i
+      take_some true may x d =
+          let small : length k.control_block.tx_buffer.bytes ≡ length ((host_of s p).control_block.tx_buffer.bytes ++ accepted_of (host_of s p) bs) = ap (λ (z : HostView). length z.control_block.tx_buffer.bytes) d.1 ∙ ap (λ (z : SocketView). length z.transmit_queue) (written_shows (host_of s p).control_block bs) in
+          with_from s p k (subst (λ z. IsInvariant (network_at s z (host_of (other_side s) p) p.segments p.limit)) (sym d.1)
+          (sends_in s (host_of s p) (host_of (other_side s) p) p.segments p.limit (host_of s p).opening bs (cannot_send (host_of s p) host may) may (omega (arith, room, small, length-append (host_of s p).control_block.tx_buffer.bytes (accepted_of (host_of s p) bs))) (not_over p.limit (host_of s p) bs x) (from_side s p i)))
+
+      go : (b : Bool) → is_over p.limit (length (host_of s p).accepted + length bs) ≡ b → SendsUnder b (host_of s p) bs o k → IsInvariant (network_of (with_host s p k))
+      go true x d = stays_from s p k d.1 i
+      go false x d = take_some (may_send (host_of s p).control_block.state) refl x d
 
   pub recv_keeps : (size : ℕ) (o : Outcome) (k : HostView) → Receives size (host_of s p) o k → IsInvariant (network_of (with_host s p k))
-  recv_keeps size o k e = ?
+  recv_keeps size o k e = go (may_recv (host_of s p).control_block) refl e
+    where
+      go : (b : Bool) → may_recv (host_of s p).control_block ≡ b → ReceivesIf b (host_of s p) size o k → IsInvariant (network_of (with_host s p k))
+      go false may d = stays_from s p k d.1 i
+      go true may d =
+          with_from s p k (subst (λ z. IsInvariant (network_at s z (host_of (other_side s) p) p.segments p.limit)) (sym d.1)
+          (reads_in s (host_of s p) (host_of (other_side s) p) p.segments p.limit (host_of s p).opening size (cannot_recv (host_of s p) host may) (from_side s p i)))
 
   pub dispatch_keeps : (m : Moment) (fail : Bool) (o : Outcome) (k : HostView) (ks : List StoredView) → Dispatches s m fail o (host_of s p) p.segments k ks → IsInvariant (network_of (exchanged s p k ks))
   dispatch_keeps m fail o k ks e =
