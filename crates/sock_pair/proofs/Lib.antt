@@ -21,5 +21,7 @@ pub mod ShownProcess
 pub mod ShownCalls
 pub mod ShownDispatch
 pub mod ShownNetworks
+pub mod PairReturns
 pub mod PairKeeps
+pub mod Running
 pub mod NetworkDeliveries

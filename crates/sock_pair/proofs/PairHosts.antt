@@ -4,19 +4,20 @@ use Rattle.std.specs.Prelude.{IsTrue, not, ◌==◌, if◌then◌else◌, min}
 use Rattle.ip_wire.specs.Address.{SameVersion}
 use Rattle.ip_wire.specs.declared.endpoint.IpEndpoint.{IpEndpoint}
 use Rattle.sock_core.specs.Facts.{Facts}
-use Rattle.sock_tcp.specs.View.{View}
+use Rattle.sock_tcp.specs.Queue.{Queue}
+use Rattle.sock_tcp.specs.View.{View, fresh}
 use Rattle.sock_tcp.specs.Due.{Begun, begun, begun_to, readied, readied_to, ended}
 use Rattle.sock_tcp.specs.Process.{Accepts, AcceptsIn}
 use Rattle.sock_tcp.specs.Queues.{may_send, may_recv, receives, can_recv}
 use Rattle.sock_tcp.specs.declared.state.State.{State}
 use Rattle.sock_tcp.specs.declared.state.State.TheVariants as state
 use Rattle.sock_pair.specs.Moments.{facts_of}
-use Rattle.sock_pair.specs.NetworkInvariant.{IsInvariant}
+use Rattle.sock_pair.specs.NetworkInvariant.{IsInvariant, IsLimit}
 use Rattle.sock_pair.specs.PairCalls.{listening, connecting, OpensAs, Sends, SendsUnder, SendsIf, is_over, sending, Receives, ReceivesIf, receiving}
-use Rattle.sock_pair.specs.PairInvariant.{IsIdle, IsHost, IsPair}
+use Rattle.sock_pair.specs.PairInvariant.{IsIdle, IsReachable, IsHost, IsPair}
 use Rattle.sock_pair.specs.PairNetwork.{network_of}
 use Rattle.sock_pair.specs.PairSteps.{HostDispatches, Dispatches, DeliversTo, DeliversIf, exchanged}
-use Rattle.sock_pair.specs.PairViews.{HostView, StoredView, PairView, host_of, with_host}
+use Rattle.sock_pair.specs.PairViews.{HostView, StoredView, PairView, host_of, with_host, new_host}
 use Rattle.sock_pair.specs.Recording.{SocketDispatches, SendsFrom}
 use Rattle.sock_pair.specs.declared.host.Opening.{Opening}
 use Rattle.sock_pair.specs.declared.host.Opening.TheVariants as opening
@@ -25,6 +26,7 @@ use Rattle.sock_pair.specs.declared.outcome.Outcome.{Outcome}
 use Rattle.sock_pair.specs.declared.recorder.Sent.{Sent}
 use Rattle.sock_pair.specs.declared.side.Side.{Side}
 use Rattle.sock_pair.specs.declared.side.Side.TheVariants.{A, B}
+use Rattle.sock_pair.proofs.NetworkRuns.{starts}
 
 -- a host that is one still, on the same endpoint
 pub record StaysHost (h k : HostView) : Type 0 where
@@ -117,3 +119,19 @@ pair_exchanged B p k ts i s n = record { a = i.a; b = s.host; versions = subst (
 pub host_at : (s : Side) (p : PairView) → IsPair p → IsHost (host_of s p)
 host_at A p i = i.a
 host_at B p i = i.b
+
+-- ---- a new pair
+
+new_idle : (rx tx : Queue) → rx.bytes ≡ [] → tx.bytes ≡ [] → IsIdle (fresh rx tx)
+unfolding fresh
+new_idle rx tx r t = record { state = refl; tuple = refl; rx = r; tx = t }
+
+new_is_host : (rx tx : Queue) (e : IpEndpoint) → rx.bytes ≡ [] → tx.bytes ≡ [] → IsReachable e → IsHost (new_host (fresh rx tx) e)
+new_is_host rx tx e r t i = record { reachable = i; idle = λ u. new_idle rx tx r t }
+
+pub new_is_pair : (arx atx brx btx : Queue) (a b : IpEndpoint) (limit : Option ℕ) (ha hb : HostView) (ts : List StoredView) → ha ≡ new_host (fresh arx atx) a → hb ≡ new_host (fresh brx btx) b → ts ≡ [] → arx.bytes ≡ [] → atx.bytes ≡ [] → brx.bytes ≡ [] → btx.bytes ≡ [] → IsReachable a → IsReachable b → SameVersion a.addr b.addr → IsLimit limit → IsPair (record { a = ha; b = hb; segments = ts; limit = limit })
+new_is_pair arx atx brx btx a b limit ha hb ts ea eb et r1 t1 r2 t2 ia ib v l =
+    subst (λ h. IsPair (record { a = h; b = hb; segments = ts; limit = limit })) (sym ea)
+      (subst (λ h. IsPair (record { a = new_host (fresh arx atx) a; b = h; segments = ts; limit = limit })) (sym eb)
+        (subst (λ xs. IsPair (record { a = new_host (fresh arx atx) a; b = new_host (fresh brx btx) b; segments = xs; limit = limit })) (sym et)
+          (record { a = new_is_host arx atx a r1 t1 ia; b = new_is_host brx btx b r2 t2 ib; versions = v; network = starts limit l })))

@@ -6,6 +6,7 @@ ghost use Rattle.control_wire.specs.Segment.{segment_of};
 ghost use Rattle.sock_pair.specs.PairSteps.{is_too_old, dispatch_outcome, stored_at, Dispatches, reply_index, IsUnchanged};
 ghost use Rattle.sock_pair.specs.Exchanges.{DeliversAt};
 
+
 use crate::host::Host;
 use crate::moment::Moment;
 use crate::outcome::{Outcome, PairError};

@@ -49,9 +49,10 @@ impl<'a> Model for Host<'a> {
 
 impl<'a> Host<'a> {
     ghost use Rattle.sock_tcp.specs.View.{fresh};
-    ghost use Rattle.sock_tcp.specs.Queue.{queue_of};
+    ghost use Rattle.sock_tcp.specs.Queue.{queue_of, capacity};
+    ghost use Rattle.sock_tcp.specs.Queues.{may_send};
     ghost use Rattle.sock_pair.specs.PairViews.{new_host};
-    ghost use Rattle.sock_pair.specs.PairCalls.{listening, connecting, OpensAs, Sends, Receives};
+    ghost use Rattle.sock_pair.specs.PairCalls.{listening, connecting, OpensAs, SendsIf, Receives};
     ghost use Rattle.sock_pair.specs.PairSteps.{HostDispatches, delivered_to, processed_by};
     ghost use Rattle.sock_pair.specs.PairInvariant.{IsHost, IsReachable};
     ghost use Rattle.ip_wire.specs.Address.{SameVersion};
@@ -86,6 +87,15 @@ impl<'a> Host<'a> {
             released: self.released,
             taken: self.taken,
         }
+    }
+
+    // Says that its receive buffer has at most 2^30 bytes, and that the bytes accepted are fewer than 2^63.
+    pub(crate) fn in_range(&self)
+        ensures receive { capacity self.now.control_block.rx_buffer ≤ 2 ^ 30 }
+        ensures accepted { length self.now.accepted < 2 ^ 63 }
+    {
+        self.socket.recv_queue();
+        self.accepted.len();
     }
 
     fn listen_endpoint(&self) -> IpListenEndpoint
@@ -127,16 +137,18 @@ impl<'a> Host<'a> {
         Outcome::Opened
     }
 
+    pub(crate) fn accepted_len(&self) -> usize
+        ensures { result ≡ length self.now.accepted }
+    {
+        self.accepted.len()
+    }
+
     // What fits of the bytes, once there is room to keep all of them.
-    pub(crate) fn send(&mut self, limit: Option<u32>, bytes: &[u8]) -> Result<Outcome, PairError>
-        ensures step { IfOk result (λ o. Sends limit bytes.now self.old o self.new) }
+    pub(crate) fn send(&mut self, bytes: &[u8]) -> Result<Outcome, PairError>
+        ensures step { IfOk result (λ o. SendsIf (may_send self.old.control_block.state) self.old bytes.now o self.new) }
+        ensures small { IfOk result (λ _. length self.new.control_block.tx_buffer.bytes ≤ 2 ^ 30) }
         ensures memory { OnErr result (self.new ≡ self.old) }
     {
-        if let Some(limit) = limit {
-            if self.accepted.len() + bytes.len() > limit as usize {
-                return Ok(Outcome::StreamLimit);
-            }
-        }
         if let Err(_) = self.accepted.reserve(bytes.len()) {
             return Err(PairError::Memory);
         }

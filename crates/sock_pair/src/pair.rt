@@ -1,5 +1,5 @@
 // Two sockets, and every segment that they emitted.
-ghost use Rattle.std.specs.Prelude.{◌≡◌, ◌≤◌, ◌^◌, length, IfOk, OnOk, OnErr, [], None, slice_get};
+ghost use Rattle.std.specs.Prelude.{◌≡◌, ◌+◌, ◌<◌, ◌≤◌, ◌^◌, length, IfOk, OnOk, OnErr, [], None, slice_get};
 
 use crate::event::Event;
 use crate::exchange::{deliver, dispatch};
@@ -10,7 +10,7 @@ use crate::segment::Segment;
 use crate::side::Side;
 use control_wire::TcpTimestampGenerator;
 use ip_wire::IpEndpoint;
-use sock_tcp::SocketBuffer;
+use sock_tcp::{Socket, SocketBuffer};
 use std::alloc::Global;
 use std::marker::Model;
 
@@ -52,13 +52,14 @@ impl<'a> Model for Pair<'a> {
 }
 
 impl<'a> Pair<'a> {
-    ghost use Rattle.std.specs.Prelude.{MatchOption};
+    ghost use Rattle.std.specs.Prelude.{map};
     ghost use Rattle.ip_wire.specs.Address.{SameVersion};
     ghost use Rattle.sock_tcp.specs.View.{fresh};
     ghost use Rattle.sock_tcp.specs.Queue.{queue_of};
     ghost use Rattle.sock_pair.specs.PairViews.{new_host, new_pair, host_of};
-    ghost use Rattle.sock_pair.specs.PairCalls.{listening, connecting, OpensAs, Sends, Receives};
+    ghost use Rattle.sock_pair.specs.PairCalls.{listening, connecting, OpensAs, is_over, Sends, Receives};
     ghost use Rattle.sock_pair.specs.PairSteps.{OneSide, OneSideAndSegments, Dispatches, Delivers, Step, Done, HasStopped};
+    ghost use Rattle.sock_pair.specs.Holding.{stored_of};
     ghost use Rattle.sock_pair.specs.PairInvariant.{IsReachable};
     ghost use Rattle.sock_pair.specs.NetworkInvariant.{IsLimit};
     ghost use Rattle.sock_pair.specs.Sides.{other_side};
@@ -89,6 +90,57 @@ impl<'a> Pair<'a> {
         }
     }
 
+    fn host(&self, side: Side) -> &Host<'a>
+        ensures { result.now ≡ host_of side self.now }
+    {
+        match side {
+            Side::A => &self.a,
+            Side::B => &self.b,
+        }
+    }
+
+    /// All bytes that the side's socket took to send, in order.
+    pub fn accepted(&self, side: Side) -> &[u8]
+        ensures { result.now ≡ (host_of side self.now).accepted }
+    {
+        self.host(side).accepted.as_slice()
+    }
+
+    /// All bytes that the side's socket handed out, in order.
+    pub fn handed_out(&self, side: Side) -> &[u8]
+        ensures { result.now ≡ (host_of side self.now).handed_out }
+    {
+        self.host(side).handed_out.as_slice()
+    }
+
+    /// How many bytes left the side's transmit queue by acknowledgement.
+    pub fn released(&self, side: Side) -> u64
+        ensures { result ≡ (host_of side self.now).released }
+    {
+        self.host(side).released
+    }
+
+    /// How many bytes joined the side's receive queue.
+    pub fn taken(&self, side: Side) -> u64
+        ensures { result ≡ (host_of side self.now).taken }
+    {
+        self.host(side).taken
+    }
+
+    /// The side's socket.
+    pub fn socket(&self, side: Side) -> &Socket<'a>
+        ensures { result.now.control_block ≡ (host_of side self.now).control_block }
+    {
+        &self.host(side).socket
+    }
+
+    /// Every segment that was emitted, the first one first.
+    pub fn segments(&self) -> &[Segment]
+        ensures { map stored_of result.now ≡ self.now.segments }
+    {
+        self.segments.as_slice()
+    }
+
     fn listen(&mut self, side: Side) -> Outcome
         ensures { OneSide side self.old self.new (λ h k. OpensAs h.opening h (listening h) result k) }
     {
@@ -107,13 +159,31 @@ impl<'a> Pair<'a> {
         }
     }
 
+    // Whether so many more bytes of the side are more than the limit.
+    fn is_over_limit(&self, side: Side, count: usize) -> bool
+        requires { count < 2 ^ 63 }
+        ensures { result ≡ is_over self.now.limit (length (host_of side self.now).accepted + count) }
+    {
+        let accepted = match side {
+            Side::A => self.a.accepted_len(),
+            Side::B => self.b.accepted_len(),
+        };
+        match self.limit {
+            None => false,
+            Some(limit) => accepted + count > limit as usize,
+        }
+    }
+
     fn send(&mut self, side: Side, bytes: &[u8]) -> Result<Outcome, PairError>
         ensures step { IfOk result (λ o. OneSide side self.old self.new (λ h k. Sends self.old.limit bytes.now h o k)) }
         ensures memory { OnErr result (self.new ≡ self.old) }
     {
+        if self.is_over_limit(side, bytes.len()) {
+            return Ok(Outcome::StreamLimit);
+        }
         match side {
-            Side::A => self.a.send(self.limit, bytes),
-            Side::B => self.b.send(self.limit, bytes),
+            Side::A => self.a.send(bytes),
+            Side::B => self.b.send(bytes),
         }
     }
 
@@ -132,8 +202,8 @@ impl<'a> Pair<'a> {
         ensures memory { OnErr result (self.new ≡ self.old) }
     {
         match side {
-            Side::A => dispatch(self.alloc, &mut self.a, side, &mut self.segments, moment, fail),
-            Side::B => dispatch(self.alloc, &mut self.b, side, &mut self.segments, moment, fail),
+            Side::A => dispatch(self.alloc, &mut self.a, Side::A, &mut self.segments, moment, fail),
+            Side::B => dispatch(self.alloc, &mut self.b, Side::B, &mut self.segments, moment, fail),
         }
     }
 
@@ -144,7 +214,11 @@ impl<'a> Pair<'a> {
         if index >= self.segments.len() {
             return Ok(Outcome::NoSegment);
         }
-        match self.segments[index].from {
+        let segment = &self.segments[index];
+        segment.in_range();
+        self.a.in_range();
+        self.b.in_range();
+        match segment.from {
             Side::A => {
                 let counts = self.a.counts();
                 deliver(self.alloc, counts, &mut self.b, Side::B, &mut self.segments, index, moment)

@@ -182,6 +182,7 @@ impl<'a> Socket<'a> {
     pub fn send_slice(&mut self, data: &[u8]) -> Result<usize, SendError>
         ensures answer { result ≡ (if may_send self.old.control_block.state then Ok (min (length «data».now) self.old.control_block.tx_buffer.window) else Err SendError.InvalidState) }
         ensures view { self.new.control_block ≡ (if may_send self.old.control_block.state then written self.old.control_block «data».now else self.old.control_block) }
+        ensures small { length self.new.control_block.tx_buffer.bytes ≤ 2 ^ 30 }
     {
         self.control_block.send_slice(data)
     }
@@ -201,7 +202,7 @@ impl<'a> Socket<'a> {
     /// How many bytes were given to the socket and are not acknowledged: at most 2^30.
     pub fn send_queue(&self) -> usize
         ensures value { result ≡ length self.now.control_block.tx_buffer.bytes }
-        ensures small { result ≤ 2 ^ 30 }
+        ensures small { capacity self.now.control_block.tx_buffer ≤ 2 ^ 30 }
     {
         self.control_block.tx_buffer.len()
     }
@@ -209,7 +210,7 @@ impl<'a> Socket<'a> {
     /// How many bytes came and were not read: at most 2^30.
     pub fn recv_queue(&self) -> usize
         ensures value { result ≡ length self.now.control_block.rx_buffer.bytes }
-        ensures small { result ≤ 2 ^ 30 }
+        ensures small { capacity self.now.control_block.rx_buffer ≤ 2 ^ 30 }
     {
         self.control_block.rx_buffer.len()
     }
