@@ -23,5 +23,7 @@ pub mod ShownDispatch
 pub mod ShownNetworks
 pub mod PairReturns
 pub mod PairKeeps
+pub mod ShownPrompt
+pub mod PairPromises
 pub mod Running
 pub mod NetworkDeliveries

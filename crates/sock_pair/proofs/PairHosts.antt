@@ -81,7 +81,7 @@ recv_stays h k size o i e = go (may_recv h.control_block) refl e
 
 -- ---- dispatches and deliveries
 
-no_peer_readies : (v : View) (f : Facts) → v.tuple ≡ None → readied v f ≡ ended v
+pub no_peer_readies : (v : View) (f : Facts) → v.tuple ≡ None → readied v f ≡ ended v
 unfolding readied begun
 no_peer_readies v f e = ap (λ (b : Begun). readied_to b.peer b.view) (ap (λ o. begun_to o v f) e)
 

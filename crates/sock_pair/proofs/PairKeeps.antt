@@ -27,7 +27,7 @@ use Rattle.sock_pair.specs.declared.host.Opening.TheVariants as opening
 use Rattle.sock_pair.proofs.NetworkDeliveries.{beginning_keeps, delivery_keeps, emission_keeps, sending_bounds, nothing_received}
 use Rattle.sock_pair.proofs.NetworkCalls.{accepts, hands_out, moves_snd_nxt}
 use Rattle.sock_pair.proofs.NetworkOpening.{listens, connects}
-use Rattle.sock_pair.proofs.PairHosts.{cannot_send, cannot_recv, closed_accepts_none}
+use Rattle.sock_pair.proofs.PairHosts.{cannot_send, cannot_recv, closed_accepts_none, no_peer_readies}
 use Rattle.sock_pair.proofs.ShownCalls.{listened_shows, connected_shows, written_shows, read_shows, sends_open}
 use Rattle.sock_pair.proofs.ShownDispatch.{begun_shows, emission_plans, sent_shows}
 use Rattle.sock_pair.proofs.ShownNetworks.{between, from_side, exchanged_from, with_from, stays_from, unchanged_from, stores, sent_has, may_arrive}
@@ -128,12 +128,9 @@ module _ (s : Side) (h o : HostView) (ks : List StoredView) (limit : Option ℕ)
       (beginning_keeps (opened_network s h b h.control_block o ks limit) (shown (readied h.control_block f).view) (begun_shows h.control_block f) i)
 
 -- a dispatch of a socket without a peer stores nothing
-quiet_from : (b : Begun) (f : Facts) (fail : Bool) (r : Sent) (w : View) → b.peer ≡ None → SendsFrom b.peer b.view f fail r w → r ≡ sent.Quiet
-quiet_from b f fail r w e d = (subst (λ o. SendsFrom o b.view f fail r w) e d).0
-
 idle_stores : (v w : View) (f : Facts) (fail : Bool) (r : Sent) → v.tuple ≡ None → SocketDispatches v f fail r w → r ≡ sent.Quiet
-unfolding SocketDispatches readied begun
-idle_stores v w f fail r e d = quiet_from (readied v f) f fail r w (ap (λ o. (readied_to (begun_to o v f).peer (begun_to o v f).view).peer) e) d
+unfolding SocketDispatches
+idle_stores v w f fail r e d = (subst (λ (b : Begun). SendsFrom b.peer b.view f fail r w) (no_peer_readies v f e) d).0
 
 dispatches_in : (s : Side) (h o : HostView) (ks : List StoredView) (limit : Option ℕ) (w : View) (f : Facts) (fail : Bool) (r : Sent) → SocketDispatches h.control_block f fail r w → (e : Opening) → (e ≡ opening.Unopened → IsIdle h.control_block) → IsInvariant (network_at s (record h { opening = e }) o ks limit)
     → IsInvariant (network_at s (record h { opening = e; control_block = w }) o (ks ++ stored_at s r h.released h.taken) limit)

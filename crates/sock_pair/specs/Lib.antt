@@ -10,6 +10,7 @@ pub mod Exchanges
 pub mod PairNetwork
 pub mod PairInvariant
 pub mod PairLaws
+pub mod PairPromises
 pub mod StreamViews
 pub mod StreamEffects
 pub mod StreamModel
