@@ -17,7 +17,13 @@ pub mod NetworkSteps
 pub mod NetworkRuns
 pub mod NetworkExample
 pub mod PairHosts
+pub mod ShownProcess
+pub mod ShownCalls
+pub mod ShownDispatch
+pub mod ShownNetworks
 pub mod PairReturns
 pub mod PairKeeps
+pub mod ShownPrompt
+pub mod PairPromises
 pub mod Running
 pub mod NetworkDeliveries

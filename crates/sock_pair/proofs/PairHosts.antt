@@ -51,10 +51,10 @@ connect_stays h k m remote o i e = opens h.opening h (connecting h m remote) k o
 
 -- ---- sending and receiving
 
-cannot_send : (h : HostView) → IsHost h → may_send h.control_block.state ≡ true → h.opening ≡ opening.Unopened → ⊥
+pub cannot_send : (h : HostView) → IsHost h → may_send h.control_block.state ≡ true → h.opening ≡ opening.Unopened → ⊥
 cannot_send h i m u = let no : false ≡ true = sym (ap may_send (i.idle u).state) ∙ m in cc
 
-cannot_recv : (h : HostView) → IsHost h → may_recv h.control_block ≡ true → h.opening ≡ opening.Unopened → ⊥
+pub cannot_recv : (h : HostView) → IsHost h → may_recv h.control_block ≡ true → h.opening ≡ opening.Unopened → ⊥
 cannot_recv h i m u =
     let none : can_recv h.control_block ≡ false = ap (λ (q : List ℕ). not (length q == 0)) (i.idle u).rx in
     let closed : receives h.control_block.state ≡ false = ap receives (i.idle u).state in
@@ -81,7 +81,7 @@ recv_stays h k size o i e = go (may_recv h.control_block) refl e
 
 -- ---- dispatches and deliveries
 
-no_peer_readies : (v : View) (f : Facts) → v.tuple ≡ None → readied v f ≡ ended v
+pub no_peer_readies : (v : View) (f : Facts) → v.tuple ≡ None → readied v f ≡ ended v
 unfolding readied begun
 no_peer_readies v f e = ap (λ (b : Begun). readied_to b.peer b.view) (ap (λ o. begun_to o v f) e)
 
@@ -95,7 +95,7 @@ dispatch_stays s m fail o h k ts ts' i d = subst (StaysHost h) (sym d.does.same)
   endpoint = refl;
 })
 
-closed_accepts_none : (v : View) (t : StoredView) → v.state ≡ state.Closed → Accepts v t.ip t.segment → ⊥
+pub closed_accepts_none : (v : View) (t : StoredView) → v.state ≡ state.Closed → Accepts v t.ip t.segment → ⊥
 closed_accepts_none v t e a = subst (λ st. AcceptsIn st v t.ip t.segment) e a
 
 pub deliver_stays : (old : Bool) (s : Side) (m : Moment) (t : StoredView) (o : Outcome) (h k : HostView) (ts ts' : List StoredView) → IsHost h → DeliversTo old s m t o h ts k ts' → StaysHost h k

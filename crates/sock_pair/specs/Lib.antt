@@ -9,6 +9,8 @@ pub mod PairSteps
 pub mod Exchanges
 pub mod PairNetwork
 pub mod PairInvariant
+pub mod PairLaws
+pub mod PairPromises
 pub mod StreamViews
 pub mod StreamEffects
 pub mod StreamModel

@@ -4,6 +4,7 @@
 pub mod event;
 mod exchange;
 mod host;
+pub mod laws;
 pub mod moment;
 pub mod outcome;
 pub mod pair;
