@@ -1,0 +1,1 @@
+//! Events as text, a line an event.
