@@ -1,0 +1,2 @@
+pub mod ScriptNumbers
+pub mod ScriptTextLemmas
