@@ -1,5 +1,5 @@
 -- A script as lines, and a line as words.
-use Rattle.std.specs.Prelude.{ℕ, ◌+◌, List, [], ◌∷◌, length, Bool, false, ◌==◌, ◌||◌, nat_lt, filter, if◌then◌else◌}
+use Rattle.std.specs.Prelude.{ℕ, ◌+◌, List, [], ◌∷◌, length, Bool, true, false, ◌==◌, ◌||◌, nat_lt, filter, if◌then◌else◌}
 use Rattle.std.specs.List.{onto_first, slice_split}
 
 -- lines end with a line feed (10), which the last may lack
@@ -16,9 +16,13 @@ abbrev pub is_comment : List ℕ → Bool
 is_comment [] = false
 is_comment (b ∷ bs) = b == 35
 
+abbrev pub has_none : List (List ℕ) → Bool
+has_none [] = true
+has_none (word ∷ words) = false
+
 -- comments and lines without a word say nothing
 abbrev pub is_skipped : List ℕ → Bool
-is_skipped line = is_comment line || length (words_of line) == 0
+is_skipped line = is_comment line || has_none (words_of line)
 
 -- the words of each line that is not skipped, with its number, where the first line has number n
 unfoldable pub numbered_from : ℕ → List (List ℕ) → List (ℕ × List (List ℕ))

@@ -2,6 +2,7 @@
 
 mod error;
 mod keyword;
+mod lines;
 mod values;
 mod words;
 
