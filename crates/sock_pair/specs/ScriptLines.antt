@@ -47,23 +47,42 @@ abbrev pub by_words : {W V : Type 0} → ℕ → (W → Option V) → Option W �
 by_words n value None = Err (fault.WrongNumberOfWords n)
 by_words n value (Some words) = or_bad_word n (value words)
 
--- what line n means after its first word
-unfoldable pub values_mean : ℕ → Option Keyword → List Word → Result EventValue ScriptError
-values_mean n None values = Err (fault.UnknownEvent n)
-values_mean n (Some keyword.Listen) values = by_words n (λ side. listen_event (side_of side)) (one_of values)
-values_mean n (Some keyword.Connect) values =
+-- line n, by its form, from the words after the first
+unfoldable pub listen_line : ℕ → List Word → Result EventValue ScriptError
+listen_line n values = by_words n (λ side. listen_event (side_of side)) (one_of values)
+
+unfoldable pub connect_line : ℕ → List Word → Result EventValue ScriptError
+connect_line n values =
     by_words n (λ (side, word). connect_event (side_of side) (number_of 4294967295 word)) (two_of values)
-values_mean n (Some keyword.Send) values =
+
+unfoldable pub send_line : ℕ → List Word → Result EventValue ScriptError
+send_line n values =
     by_words n (λ (side, text). send_event (side_of side) (text_of text)) (one_and_text_of values)
-values_mean n (Some keyword.Recv) values =
+
+unfoldable pub recv_line : ℕ → List Word → Result EventValue ScriptError
+recv_line n values =
     by_words n (λ (side, size). recv_event (side_of side) (number_of 1048576 size)) (two_of values)
-values_mean n (Some keyword.Dispatch) values =
-    by_words n (λ (side, millis). dispatch_event false (side_of side) (number_of 1000000000 millis)) (two_of values)
-values_mean n (Some keyword.Fail) values =
-    by_words n (λ (side, millis). dispatch_event true (side_of side) (number_of 1000000000 millis)) (two_of values)
-values_mean n (Some keyword.Deliver) values =
-    by_words n (λ (index, millis, word). deliver_event (number_of 9999999999 index) (number_of 1000000000 millis) (number_of 4294967295 word))
+
+unfoldable pub dispatch_line : Bool → ℕ → List Word → Result EventValue ScriptError
+dispatch_line fail n values =
+    by_words n (λ (side, millis). dispatch_event fail (side_of side) (number_of 1000000000 millis)) (two_of values)
+
+unfoldable pub deliver_line : ℕ → List Word → Result EventValue ScriptError
+deliver_line n values =
+    by_words n
+    (λ (index, millis, word). deliver_event (number_of 9999999999 index) (number_of 1000000000 millis) (number_of 4294967295 word))
     (three_of values)
+
+-- what line n means
+abbrev pub values_mean : ℕ → Option Keyword → List Word → Result EventValue ScriptError
+values_mean n None values = Err (fault.UnknownEvent n)
+values_mean n (Some keyword.Listen) values = listen_line n values
+values_mean n (Some keyword.Connect) values = connect_line n values
+values_mean n (Some keyword.Send) values = send_line n values
+values_mean n (Some keyword.Recv) values = recv_line n values
+values_mean n (Some keyword.Dispatch) values = dispatch_line false n values
+values_mean n (Some keyword.Fail) values = dispatch_line true n values
+values_mean n (Some keyword.Deliver) values = deliver_line n values
 
 -- what line n with these words means; each line that is not skipped has a first word
 abbrev pub event_of : ℕ → List Word → Result EventValue ScriptError

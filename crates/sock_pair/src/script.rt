@@ -1,6 +1,7 @@
 //! Events as text, a line an event.
 
 mod error;
+mod forms;
 mod keyword;
 mod lines;
 mod values;
