@@ -1,2 +1,3 @@
+pub mod ScriptEvents
 pub mod ScriptNumbers
 pub mod ScriptTextLemmas

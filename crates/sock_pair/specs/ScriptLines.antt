@@ -4,6 +4,7 @@ use Rattle.sock_pair.specs.declared.script.error.ScriptError.{ScriptError}
 use Rattle.sock_pair.specs.declared.script.error.ScriptError.TheVariants as fault
 use Rattle.sock_pair.specs.declared.script.keyword.Keyword.{Keyword}
 use Rattle.sock_pair.specs.declared.script.keyword.Keyword.TheVariants as keyword
+use Rattle.sock_pair.specs.declared.script.header.Header.{Header}
 use Rattle.sock_pair.specs.declared.script.Script.{Script}
 use Rattle.sock_pair.specs.declared.side.Side.{Side}
 use Rattle.sock_pair.specs.EventValue.{MomentValue, EventValue, listen, connect, send_slice, recv_slice, dispatch, deliver, event_value}
@@ -90,32 +91,39 @@ event_of n [] = Err (fault.UnknownEvent n)
 event_of n (name ∷ values) = values_mean n (keyword_of name) values
 
 -- the sizes of a's and b's buffers, and the limit
-pub record Header : Type 0 where
+pub record HeaderValue : Type 0 where
   pub sizes : List ℕ
   pub limit : Option ℕ
 
-abbrev pub header_values : Option ℕ → Option ℕ → Option ℕ → Option ℕ → Option (Option ℕ) → Option Header
-header_values (Some arx) (Some atx) (Some brx) (Some btx) (Some limit) =
-    Some (record { sizes = arx ∷ atx ∷ brx ∷ btx ∷ []; limit = limit })
-header_values _ _ _ _ _ = None
+abbrev pub sizes_of : Option ℕ → Option ℕ → Option ℕ → Option ℕ → Option (List ℕ)
+sizes_of (Some arx) (Some atx) (Some brx) (Some btx) = Some (arx ∷ atx ∷ brx ∷ btx ∷ [])
+sizes_of _ _ _ _ = None
+
+abbrev pub header_values : Option (List ℕ) → Option (Option ℕ) → Option HeaderValue
+header_values (Some sizes) (Some limit) = Some (record { sizes = sizes; limit = limit })
+header_values _ _ = None
+
+unfoldable pub header_line : ℕ → List Word → Result HeaderValue ScriptError
+header_line n values =
+    by_words n
+    (λ (arx, atx, brx, btx, limit). header_values (sizes_of (number_of 65535 arx) (number_of 65535 atx) (number_of 65535 brx) (number_of 65535 btx)) (limit_of limit))
+    (five_of values)
 
 -- what the first line that is not skipped means
-abbrev pub header_of : ℕ → List Word → Result Header ScriptError
+abbrev pub header_of : ℕ → List Word → Result HeaderValue ScriptError
 header_of n [] = Err (fault.NoPairLine n)
 header_of n (name ∷ values) =
-    if bytes_eq name (codes "pair")
-    then by_words n (λ (arx, atx, brx, btx, limit). header_values (number_of 65535 arx) (number_of 65535 atx) (number_of 65535 brx) (number_of 65535 btx) (limit_of limit))
-    (five_of values)
-    else Err (fault.NoPairLine n)
+    if bytes_eq name (codes "pair") then header_line n values else Err (fault.NoPairLine n)
+
+abbrev pub first_and_rest : Result EventValue ScriptError → Result (List EventValue) ScriptError → Result (List EventValue) ScriptError
+first_and_rest (Err e) rest = Err e
+first_and_rest (Ok event) (Err e) = Err e
+first_and_rest (Ok event) (Ok events) = Ok (event ∷ events)
 
 -- the events of numbered lines, or the fault of the first line that has one
 unfoldable pub events_of : List (ℕ × List Word) → Result (List EventValue) ScriptError
 events_of [] = Ok []
-events_of (line ∷ rest) = first_and_rest (event_of line.0 line.1) (events_of rest) where
-  first_and_rest : Result EventValue ScriptError → Result (List EventValue) ScriptError → Result (List EventValue) ScriptError
-  first_and_rest (Err e) more = Err e
-  first_and_rest (Ok event) (Err e) = Err e
-  first_and_rest (Ok event) (Ok events) = Ok (event ∷ events)
+events_of (line ∷ rest) = first_and_rest (event_of line.0 line.1) (events_of rest)
 
 pub record ScriptValue : Type 0 where
   pub sizes : List ℕ
@@ -125,7 +133,7 @@ pub record ScriptValue : Type 0 where
 abbrev pub script_value : Script → ScriptValue
 script_value s = record { sizes = s.sizes; limit = s.limit; events = map event_value s.events.items }
 
-abbrev pub with_events : Result Header ScriptError → Result (List EventValue) ScriptError → Result ScriptValue ScriptError
+abbrev pub with_events : Result HeaderValue ScriptError → Result (List EventValue) ScriptError → Result ScriptValue ScriptError
 with_events (Err e) more = Err e
 with_events (Ok header) (Err e) = Err e
 with_events (Ok header) (Ok events) = Ok (record { sizes = header.sizes; limit = header.limit; events = events })
@@ -138,6 +146,9 @@ script_of_lines end (line ∷ rest) = with_events (header_of line.0 line.1) (eve
 -- what a text means as a script: its first line that is not skipped names the sizes, each later one an event
 unfoldable pub script_of : List ℕ → Result ScriptValue ScriptError
 script_of text = script_of_lines (length (lines_of text) + 1) (numbered_from 1 (lines_of text))
+
+abbrev pub header_value : Header → HeaderValue
+header_value h = record { sizes = h.sizes; limit = h.limit }
 
 -- the result is what is meant, its value seen by `value`, but where memory ran out
 abbrev pub Gives : {T V : Type 0} → (T → V) → Result V ScriptError → Result T ScriptError → Type 0

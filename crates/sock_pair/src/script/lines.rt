@@ -1,5 +1,5 @@
 // A script as lines.
-ghost use Rattle.std.specs.Prelude.{◌≡◌, ◌+◌, ◌<◌, ◌^◌, [], ◌∷◌, MatchOption, IfNone, length};
+ghost use Rattle.std.specs.Prelude.{◌≡◌, ◌+◌, ◌<◌, ◌^◌, [], ◌∷◌, MatchOption, IfNone, OnSome, length};
 ghost use Rattle.sock_pair.specs.ScriptText.{is_comment, lines_of, numbered_from, words_of};
 
 use crate::script::words::{len_before, split_word};
@@ -16,6 +16,7 @@ pub struct Line<'a> {
 }
 
 /// The lines of a text that are still to be read.
+#[derive(Drop)]
 pub struct Lines<'a> {
     /// The text from the next line on.
     pub rest: &'a [u8],
@@ -39,6 +40,7 @@ impl<'a> Lines<'a> {
     /// The next line that is not skipped; none where there is none.
     pub fn next(&mut self) -> Option<Line<'a>>
         ensures lines { MatchOption result (numbered_from self.old.number (lines_of self.old.rest.now) ≡ []) (λ l. numbered_from self.old.number (lines_of self.old.rest.now) ≡ (l.number, l.name.now ∷ words_of l.values.now) ∷ numbered_from self.new.number (lines_of self.new.rest.now)) }
+        ensures shorter { OnSome result (length self.new.rest.now < length self.old.rest.now) }
         ensures end { IfNone result (self.new.number ≡ self.old.number + length (lines_of self.old.rest.now)) }
     {
         while !self.rest.is_empty() {

@@ -12,6 +12,7 @@ loop-number-preserved-then-is_comment c =
     record {
       lines = c.loop-number.invariant.lines ∙ numbered-skip _ _ _ _ _ line number (skipped-comment c.take_line-line.result.now comment);
       count = count-line _ _ _ _ _ line number ∙ c.loop-number.invariant.count;
+      shorter = omega arith;
     }
 
 pub loop-number-preserved : goal.loop-number-preserved
@@ -23,6 +24,7 @@ loop-number-preserved c =
     record {
       lines = c.loop-number.invariant.lines ∙ numbered-skip _ _ _ _ _ line number (skipped-blank c.take_line-line.result.now plain blank);
       count = count-line _ _ _ _ _ line number ∙ c.loop-number.invariant.count;
+      shorter = omega arith;
     }
 
 pub returns-in-Some-clause-lines : goal.returns-in-Some-clause-lines
