@@ -1,1 +1,3 @@
 pub mod Cells
+pub mod Helds
+pub mod Sets

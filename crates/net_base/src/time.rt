@@ -26,9 +26,7 @@ impl Instant {
         requires { FitsSigned w64 (millis *ℤ pos 1000) }
         ensures { result ≡ record { micros = millis *ℤ pos 1000 } }
     {
-        Instant {
-            micros: millis * 1000,
-        }
+        Instant::from_micros(millis * 1000)
     }
 
     /// The moment so many seconds after the start, where it fits 64 bits in microseconds.
@@ -36,16 +34,14 @@ impl Instant {
         requires { FitsSigned w64 (secs *ℤ pos 1000000) }
         ensures { result ≡ record { micros = secs *ℤ pos 1000000 } }
     {
-        Instant {
-            micros: secs * 1_000_000,
-        }
+        Instant::from_micros(secs * 1_000_000)
     }
 
     /// The whole milliseconds after the start; what is left over is cut off, towards the start.
     pub const fn total_millis(&self) -> i64
         ensures { result ≡ int_div self.now.micros (pos 1000) }
     {
-        self.micros / 1000
+        self.micros / 1_000
     }
 }
 
@@ -71,9 +67,7 @@ impl Duration {
         requires { millis * 1000 < 2 ^ 64 }
         ensures { result ≡ record { micros = millis * 1000 } }
     {
-        Duration {
-            micros: millis * 1000,
-        }
+        Duration::from_micros(millis * 1000)
     }
 
     /// So many seconds, where they fit 64 bits in microseconds.
@@ -81,9 +75,7 @@ impl Duration {
         requires { secs * 1000000 < 2 ^ 64 }
         ensures { result ≡ record { micros = secs * 1000000 } }
     {
-        Duration {
-            micros: secs * 1_000_000,
-        }
+        Duration::from_micros(secs * 1_000_000)
     }
 
     /// The whole milliseconds of it; what is left over is cut off.

@@ -2,10 +2,19 @@
 #![tactic(auto)]
 
 pub mod event;
+mod host;
 pub mod moment;
+pub mod outcome;
+//pub mod pair;
+mod recorder;
 pub mod script;
+pub mod segment;
 pub mod side;
+pub mod streams;
 
 pub use event::Event;
 pub use moment::Moment;
+pub use outcome::{Outcome, PairError};
+//pub use pair::{Pair, Setup, too_old};
+pub use segment::Segment;
 pub use side::Side;

@@ -2,7 +2,9 @@
 ghost use Rattle.std.specs.Prelude.{◌≡◌};
 ghost use Rattle.sock_core.specs.Bounds.{IsMoment, IsMtu};
 
+use ip_wire::{ChecksumCapabilities, IpAddress, Ipv4Address, Ipv6Address};
 use net_base::time::Instant;
+use sock_core::Context;
 
 /// The context of one call: its moment, the random word, whether the address is there, and the largest IP packet.
 #[derive(Debug, Clone, Copy, PartialEq, Eq)]
@@ -31,5 +33,48 @@ impl Moment {
             has_address,
             ip_mtu,
         }
+    }
+}
+
+// A moment has no source address, and no address is a broadcast one: no call of a pair asks for them.
+impl Context for Moment {
+    ghost use Rattle.sock_pair.specs.Moments.{facts_of};
+    ghost facts = { facts_of };
+    ghost word_at = { λ m _. m.word };
+
+    fn now(&self) -> Instant {
+        self.now
+    }
+
+    fn has_ip_addr(&self, _addr: IpAddress) -> bool {
+        self.has_address
+    }
+
+    fn get_source_address(&self, _dst: &IpAddress) -> Option<IpAddress> {
+        None
+    }
+
+    fn get_source_address_ipv4(&self, _dst: &Ipv4Address) -> Option<Ipv4Address> {
+        None
+    }
+
+    fn get_source_address_ipv6(&self, _dst: &Ipv6Address) -> Ipv6Address {
+        Ipv6Address([0; 16])
+    }
+
+    fn is_broadcast(&self, _addr: &IpAddress) -> bool {
+        false
+    }
+
+    fn ip_mtu(&self) -> usize {
+        self.ip_mtu
+    }
+
+    fn checksum_caps(&self) -> ChecksumCapabilities {
+        ChecksumCapabilities::default()
+    }
+
+    fn rand_u32(&mut self) -> u32 {
+        self.word
     }
 }

@@ -1,0 +1,5 @@
+use Rattle.sock_core.proofs.Numbers.{order_agrees}
+use Rattle.sock_core.proofs.places.order_of_near_places.Goals as goal
+
+pub returns : goal.returns
+returns c = order_agrees

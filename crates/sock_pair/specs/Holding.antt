@@ -1,0 +1,55 @@
+-- Stored segments.
+use Rattle.std.specs.Prelude.{ℕ, List, [], ◌∷◌, Option, Some, None}
+use Rattle.ip_wire.specs.declared.repr.IpRepr.{IpRepr}
+use Rattle.control_wire.specs.Segment.{Segment}
+use Rattle.sock_pair.specs.declared.side.Side.{Side}
+use Rattle.sock_pair.specs.declared.segment.Header.{Header}
+use Rattle.sock_pair.specs.declared.segment.Segment.{Segment as Owned}
+use Rattle.sock_pair.specs.PairViews.{HostView, StoredView}
+
+abbrev pub segment_at : Header → List ℕ → Segment
+segment_at h payload =
+    record {
+      src_port = h.src_port;
+      dst_port = h.dst_port;
+      control = h.control;
+      seq_number = h.seq_number;
+      ack_number = h.ack_number;
+      window_len = h.window_len;
+      window_scale = h.window_scale;
+      max_seg_size = h.max_seg_size;
+      sack_permitted = h.sack_permitted;
+      sack_ranges = h.sack_ranges;
+      timestamp = h.timestamp;
+      payload = payload;
+    }
+
+abbrev pub header_of : IpRepr → Segment → Header
+header_of ip s =
+    record {
+      ip_repr = ip;
+      src_port = s.src_port;
+      dst_port = s.dst_port;
+      control = s.control;
+      seq_number = s.seq_number;
+      ack_number = s.ack_number;
+      window_len = s.window_len;
+      window_scale = s.window_scale;
+      max_seg_size = s.max_seg_size;
+      sack_permitted = s.sack_permitted;
+      sack_ranges = s.sack_ranges;
+      timestamp = s.timestamp;
+    }
+
+abbrev pub stored_segment : Side → Header → List ℕ → ℕ → ℕ → StoredView
+stored_segment from_side h payload released taken =
+    record { emitter = from_side; ip = h.ip_repr; segment = segment_at h payload; released_at = released; taken_at = taken }
+
+-- a stored segment by value
+abbrev pub stored_of : Owned → StoredView
+stored_of t = stored_segment t.from t.header t.payload.items t.released_at t.taken_at
+
+-- what the side s stores of a segment that it sends, with its counts
+abbrev pub kept_of : Side → HostView → Option (IpRepr × Segment) → List StoredView
+kept_of s h None = []
+kept_of s h (Some r) = record { emitter = s; ip = r.0; segment = r.1; released_at = h.released; taken_at = h.taken } ∷ []

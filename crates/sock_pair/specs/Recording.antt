@@ -1,0 +1,54 @@
+-- What a dispatch stores.
+use Rattle.std.specs.Prelude.{ℕ, ◌≡◌, ◌++◌, List, drop, Option, Some, None, Result, Ok, Err, Bool, true, false, not, Vec}
+use Rattle.std.specs.Global.{Global}
+use Rattle.ip_wire.specs.declared.repr.IpRepr.{IpRepr}
+use Rattle.control_wire.specs.Segment.{Segment}
+use Rattle.sock_core.specs.Facts.{Facts}
+use Rattle.sock_tcp.specs.Queue.{IsLent}
+use Rattle.sock_tcp.specs.View.{View}
+use Rattle.sock_tcp.specs.Due.{Begun, flight, readied}
+use Rattle.sock_tcp.specs.Content.{Sending, asked, content}
+use Rattle.sock_tcp.specs.Dispatch.{left_by}
+use Rattle.sock_tcp.specs.declared.tuple.Tuple.{Tuple}
+use Rattle.sock_pair.specs.declared.recorder.EmitFailed.{EmitFailed}
+use Rattle.sock_pair.specs.declared.recorder.Recorder.{Recorder}
+use Rattle.sock_pair.specs.declared.recorder.Sent.{Sent}
+use Rattle.sock_pair.specs.declared.recorder.Sent.TheVariants as sent
+use Rattle.sock_pair.specs.declared.segment.Header.{Header}
+use Rattle.sock_pair.specs.Holding.{header_of}
+
+-- the segment s was stored in new
+pub record Holds (old new : Recorder) (ip : IpRepr) (s : Segment) : Type 0 where
+  pub header : new.header ≡ Some (header_of ip s)
+  pub payload : new.payload.items ≡ old.payload.items ++ s.payload
+
+abbrev pub sent_with : Option Header → Vec ℕ Global → Sent
+sent_with None room = sent.Quiet
+sent_with (Some h) room = sent.Emitted h room
+
+-- what came of a dispatch whose emit answered so
+abbrev pub sent_of : Result (Unit {0}) EmitFailed → Recorder → Sent
+sent_of (Ok u) r = sent_with r.header r.payload
+sent_of (Err e) r = sent.Failed
+
+-- what is recorded of an emit
+abbrev pub Records : Bool → Option Sending → Sent → Type 0
+Records fail None r = r ≡ sent.Quiet
+Records true (Some s) r = r ≡ sent.Failed
+Records false (Some s) (sent.Emitted h p) = (h ≡ header_of s.ip s.segment) × (p.items ≡ s.segment.payload)
+Records false (Some s) _ = ⊥
+
+-- the socket sends to its peer, for some bytes that its ring lent
+pub record SendsTo (v : View) (t : Tuple) (f : Facts) (fail : Bool) (r : Sent) (w : View) : Type 0 where
+  pub bytes : List ℕ
+  pub lent : IsLent (asked v t f) (drop (flight v) v.tx_buffer.bytes) bytes
+  pub records : Records fail (content v t f bytes) r
+  pub view : w ≡ left_by (content v t f bytes) v (not fail)
+
+abbrev pub SendsFrom : Option Tuple → View → Facts → Bool → Sent → View → Type 0
+SendsFrom None v f fail r w = (r ≡ sent.Quiet) × (w ≡ v)
+SendsFrom (Some t) v f fail r w = SendsTo v t f fail r w
+
+-- a whole dispatch of the socket v
+unfoldable pub SocketDispatches : View → Facts → Bool → Sent → View → Type 0
+SocketDispatches v f fail r w = SendsFrom (readied v f).peer (readied v f).view f fail r w

@@ -1,0 +1,192 @@
+// One side of a pair: its socket, and what it accepted and handed out.
+ghost use Rattle.std.specs.Prelude.{◌≡◌, ◌+◌, ◌-◌, ◌≤◌, ◌<◌, ◌^◌, ◌++◌, ◌↔◌, IsTrue, length, option_map, Some, [], not, false, IfOk, OnOk, OnErr, vec_len, vec_capacity};
+ghost use Rattle.control_wire.specs.Segment.{segment_of};
+ghost use Rattle.sock_tcp.specs.Process.{Accepts, processed};
+ghost use Rattle.sock_pair.specs.Moments.{facts_of};
+ghost use Rattle.sock_pair.specs.Holding.{stored_of};
+ghost use Rattle.sock_pair.specs.Recording.{Holds, SocketDispatches};
+
+use crate::moment::Moment;
+use crate::outcome::{Outcome, PairError};
+use crate::recorder::{EmitFailed, Recorder, Sent};
+use crate::segment::Segment;
+use control_wire::TcpRepr;
+use ip_wire::{IpEndpoint, IpListenEndpoint, IpRepr};
+use sock_tcp::{Reply, Socket};
+use std::alloc::Global;
+use std::marker::Model;
+
+/// How a side was opened.
+#[derive(Debug, Clone, Copy, PartialEq, Eq)]
+pub enum Opening {
+    Unopened,
+    Listener,
+    Connector,
+}
+
+#[derive(Debug, Drop)]
+pub(crate) struct Host<'a> {
+    pub(crate) socket: Socket<'a>,
+    pub(crate) endpoint: IpEndpoint,
+    pub(crate) opening: Opening,
+    pub(crate) accepted: Vec<u8>,
+    pub(crate) handed_out: Vec<u8>,
+    pub(crate) released: u64,
+    pub(crate) taken: u64,
+}
+
+impl<'a> Model for Host<'a> {
+    ghost use Rattle.sock_pair.specs.PairViews.{HostView};
+
+    ghost Value = { HostView };
+
+    ghost view = { λ h. record {
+        control_block = h.socket.control_block; endpoint = h.endpoint; opening = h.opening; accepted = h.accepted.items; handed_out = h.handed_out.items;
+        released = h.released; taken = h.taken } };
+}
+
+impl<'a> Host<'a> {
+    ghost use Rattle.sock_tcp.specs.Process.{Outcome as Processed};
+    ghost use Rattle.sock_pair.specs.PairCalls.{listening, connecting, OpensAs, Sends, Receives};
+    ghost use Rattle.sock_pair.specs.PairSteps.{HostDispatches, delivered_to, processed_by};
+    ghost use Rattle.sock_pair.specs.PairInvariant.{IsHost, IsReachable};
+    ghost use Rattle.ip_wire.specs.Address.{SameVersion};
+
+    fn listen_endpoint(&self) -> IpListenEndpoint
+        ensures addr { result.addr ≡ Some self.now.endpoint.addr }
+        ensures port { result.port ≡ self.now.endpoint.port }
+    {
+        IpListenEndpoint {
+            addr: Some(self.endpoint.addr),
+            port: self.endpoint.port,
+        }
+    }
+
+    pub(crate) fn listen(&mut self) -> Outcome
+        requires { IsHost self.old }
+        ensures { OpensAs self.old.opening self.old (listening self.old) result self.new }
+    {
+        if self.opening != Opening::Unopened {
+            return Outcome::AlreadyOpened;
+        }
+        let endpoint = self.listen_endpoint();
+        let _ = self.socket.listen(endpoint);
+        self.opening = Opening::Listener;
+        Outcome::Opened
+    }
+
+    pub(crate) fn connect(&mut self, moment: &Moment, remote: IpEndpoint) -> Outcome
+        requires host { IsHost self.old }
+        requires remote { IsReachable remote }
+        requires versions { SameVersion self.old.endpoint.addr remote.addr }
+        ensures { OpensAs self.old.opening self.old (connecting self.old moment.entry.now remote) result self.new }
+    {
+        if self.opening != Opening::Unopened {
+            return Outcome::AlreadyOpened;
+        }
+        let endpoint = self.listen_endpoint();
+        let mut cx = *moment;
+        let _ = self.socket.connect(&mut cx, remote, endpoint);
+        self.opening = Opening::Connector;
+        Outcome::Opened
+    }
+
+    // What fits of the bytes, once there is room to keep all of them.
+    pub(crate) fn send(&mut self, limit: Option<u32>, bytes: &[u8]) -> Result<Outcome, PairError>
+        ensures step { IfOk result (λ o. Sends limit bytes.now self.old o self.new) }
+        ensures memory { OnErr result (self.new ≡ self.old) }
+    {
+        if let Some(limit) = limit {
+            if self.accepted.len() + bytes.len() > limit as usize {
+                return Ok(Outcome::StreamLimit);
+            }
+        }
+        if let Err(_) = self.accepted.reserve(bytes.len()) {
+            return Err(PairError::Memory);
+        }
+        match self.socket.send_slice(bytes) {
+            Err(e) => Ok(Outcome::SendRefused(e)),
+            Ok(count) => {
+                append(&mut self.accepted, &bytes[..count]);
+                Ok(Outcome::Accepted(count))
+            }
+        }
+    }
+
+    // At most so many bytes of the queue, once there is room to keep and to answer them.
+    pub(crate) fn recv(&mut self, alloc: Global, size: usize) -> Result<Outcome, PairError>
+        ensures step { IfOk result (λ o. Receives size self.old o self.new) }
+        ensures memory { OnErr result (self.new ≡ self.old) }
+    {
+        let count = size.min(self.socket.recv_queue());
+        if let Err(_) = self.handed_out.reserve(count) {
+            return Err(PairError::Memory);
+        }
+        let mut bytes = match vec![in alloc; 0u8; count] {
+            Err(_) => return Err(PairError::Memory),
+            Ok(bytes) => bytes,
+        };
+        match self.socket.recv_slice(bytes.as_mut_slice()) {
+            Err(e) => Ok(Outcome::RecvRefused(e)),
+            Ok(_) => {
+                append(&mut self.handed_out, bytes.as_slice());
+                Ok(Outcome::Read(bytes))
+            }
+        }
+    }
+
+    // One dispatch, into a room that was made before.
+    pub(crate) fn dispatch(&mut self, moment: &Moment, room: Vec<u8>, fail: bool) -> Sent
+        requires empty { room.items ≡ [] }
+        requires roomy { 65535 ≤ vec_capacity room }
+        ensures { HostDispatches moment.entry.now fail self.old result self.new }
+    {
+        let mut recorder = Recorder {
+            moment: *moment,
+            header: None,
+            payload: room,
+        };
+        let answer = self.socket.dispatch(&mut recorder, move |cx: &mut Recorder, sent: (IpRepr, TcpRepr<'_>)| -> Result<(), EmitFailed>
+            ensures kept { OnOk result (IsTrue (not fail) × Holds cx.entry.now cx.exit.now sent.entry.0 (segment_of sent.entry.1)) }
+            ensures err { OnErr result (fail ≡ false → vec_capacity cx.entry.now.payload < vec_len cx.entry.now.payload + length sent.entry.1.payload.now) }
+        {
+            if fail { Err(EmitFailed) } else { cx.store(sent.0, sent.1) }
+        });
+        recorder.into_sent(answer)
+    }
+
+    pub(crate) fn accepts(&self, moment: &Moment, segment: &Segment) -> bool
+        ensures { IsTrue result ↔ Accepts self.now.control_block (stored_of segment.now).ip (stored_of segment.now).segment }
+    {
+        let repr = segment.as_repr();
+        self.socket.accepts(moment, &segment.header.ip_repr, &repr)
+    }
+
+    // A delivery to this side.
+    pub(crate) fn deliver(&mut self, moment: &Moment, segment: &Segment) -> Option<Reply>
+        requires accepted { Accepts self.old.control_block (stored_of segment.now).ip (stored_of segment.now).segment }
+        requires released { self.old.released < 2 ^ 63 }
+        requires taken { self.old.taken < 2 ^ 63 }
+        ensures view { self.new ≡ delivered_to self.old moment.entry.now (stored_of segment.now) }
+        ensures reply { option_map (λ r. (r.0, segment_of r.1)) result ≡ (processed_by self.old moment.entry.now (stored_of segment.now)).reply }
+    {
+        let mut cx = *moment;
+        let repr = segment.as_repr();
+        let unacknowledged = self.socket.send_queue();
+        let queued = self.socket.recv_queue();
+        let reply = self.socket.process(&mut cx, &segment.header.ip_repr, &repr);
+        let left = self.socket.send_queue();
+        let joined = self.socket.recv_queue();
+        self.released += unacknowledged.saturating_sub(left) as u64;
+        self.taken += joined.saturating_sub(queued) as u64;
+        reply
+    }
+}
+
+// Adds bytes for which room was made.
+fn append(list: &mut Vec<u8>, bytes: &[u8])
+    requires { vec_len list.old + length bytes.now ≤ vec_capacity list.old }
+    ensures { list.new.items ≡ list.old.items ++ bytes.now }
+{
+    let _ = list.extend_from_slice(bytes);
+}

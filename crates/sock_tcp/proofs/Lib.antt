@@ -1,0 +1,3 @@
+pub mod Acking
+pub mod Windows
+pub mod Emitting

@@ -1,0 +1,15 @@
+pub mod Queue
+pub mod View
+pub mod Same
+pub mod Opening
+pub mod Queues
+pub mod Verdict
+pub mod Window
+pub mod Steps
+pub mod Process
+pub mod Draw
+pub mod Due
+pub mod Content
+pub mod Dispatch
+pub mod Texts
+pub mod Outgoing

@@ -1,0 +1,106 @@
+-- Opening calls: listen, connect, and the reset that both begin with.
+use Rattle.std.specs.Prelude.{ℕ, ◌≡◌, ◌<◌, Option, Some, None, Result, Ok, Err, Bool, true, false, ◌==◌, ◌||◌, if◌then◌else◌}
+use Rattle.ip_wire.specs.Address.{is_unspecified}
+use Rattle.ip_wire.specs.declared.address.IpAddress.{IpAddress}
+use Rattle.ip_wire.specs.declared.address.IpAddress.TheVariants as address
+use Rattle.ip_wire.specs.declared.endpoint.IpEndpoint.{IpEndpoint}
+use Rattle.ip_wire.specs.declared.endpoint.IpListenEndpoint.{IpListenEndpoint}
+use Rattle.control_wire.specs.Seq.{seq_of}
+use Rattle.sock_core.specs.Facts.{Facts}
+use Rattle.sock_tcp.specs.Queue.{capacity, emptied}
+use Rattle.sock_tcp.specs.View.{View, window_shift, no_endpoint}
+use Rattle.sock_tcp.specs.declared.state.State.{State}
+use Rattle.sock_tcp.specs.declared.state.State.TheVariants as state
+use Rattle.sock_tcp.specs.declared.tuple.Tuple.{Tuple}
+use Rattle.sock_tcp.specs.declared.error.ListenError.{ListenError}
+use Rattle.sock_tcp.specs.declared.error.ListenError.TheVariants as listen_error
+use Rattle.sock_tcp.specs.declared.error.ConnectError.{ConnectError}
+use Rattle.sock_tcp.specs.declared.error.ConnectError.TheVariants as connect_error
+
+abbrev pub is_listening : State → Bool
+is_listening state.Listen = true
+is_listening _ = false
+
+abbrev pub is_open : State → Bool
+is_open state.Closed = false
+is_open state.TimeWait = false
+is_open _ = true
+
+abbrev pub is_active : State → Bool
+is_active state.Closed = false
+is_active state.TimeWait = false
+is_active state.Listen = false
+is_active _ = true
+
+-- ---- reset: all but the SACK permission is as in a new socket
+
+unfoldable pub renewed : View → View
+renewed v =
+    record v {
+      state = state.Closed;
+      rx_buffer = emptied v.rx_buffer;
+      tx_buffer = emptied v.tx_buffer;
+      listen_endpoint = no_endpoint;
+      tuple = None;
+      local_seq_no = seq_of 0;
+      remote_seq_no = seq_of 0;
+      remote_last_seq = seq_of 0;
+      remote_last_ack = None;
+      remote_last_win = 0;
+      remote_win_shift = window_shift (capacity v.rx_buffer);
+      remote_win_len = 0;
+      remote_win_scale = None;
+      remote_mss = 536;
+      remote_last_ts = None;
+    }
+
+-- ---- listen
+
+unfoldable pub listened : View → IpListenEndpoint → View
+listened v e = record (renewed v) { state = state.Listen; listen_endpoint = e }
+
+-- port zero first, then an open socket, which may be asked again only for the endpoint on which it listens
+pub record Listens (v : View) (e : IpListenEndpoint) (result : Result (Unit {0}) ListenError) (w : View) : Type 0 where
+  pub no_port : e.port ≡ 0 → (result ≡ Err listen_error.Unaddressable) × (w ≡ v)
+  pub opens : 0 < e.port → is_open v.state ≡ false → (result ≡ Ok tt) × (w ≡ listened v e)
+  pub again : 0 < e.port → v.state ≡ state.Listen → v.listen_endpoint ≡ e → (result ≡ Ok tt) × (w ≡ v)
+  pub other : 0 < e.port → v.state ≡ state.Listen → (v.listen_endpoint ≡ e → ⊥) → (result ≡ Err listen_error.InvalidState) × (w ≡ v)
+  pub busy : 0 < e.port → is_open v.state ≡ true → (v.state ≡ state.Listen → ⊥) → (result ≡ Err listen_error.InvalidState) × (w ≡ v)
+
+-- ---- connect
+
+abbrev pub same_version : IpAddress → IpAddress → Bool
+same_version (address.Ipv4 a) (address.Ipv4 b) = true
+same_version (address.Ipv6 a) (address.Ipv6 b) = true
+same_version _ _ = false
+
+abbrev pub no_address : Result Tuple ConnectError
+no_address = Err connect_error.Unaddressable
+
+abbrev pub checked_source : Option IpAddress → IpEndpoint → ℕ → Result Tuple ConnectError
+checked_source None remote port = no_address
+checked_source (Some a) remote port =
+    if same_version a remote.addr then Ok (record { local = record { addr = a; port = port }; remote = remote }) else no_address
+
+abbrev pub checked_local : Option IpAddress → Facts → IpEndpoint → ℕ → Result Tuple ConnectError
+checked_local None f remote port = checked_source (f.source remote.addr) remote port
+checked_local (Some a) f remote port = if is_unspecified a then no_address else checked_source (Some a) remote port
+
+-- the endpoints of a connection, or what forbids one, in the order of the tests
+abbrev pub endpoints : View → Facts → IpEndpoint → IpListenEndpoint → Result Tuple ConnectError
+endpoints v f remote local =
+    if is_open v.state then Err connect_error.InvalidState
+    else (if (remote.port == 0) || is_unspecified remote.addr then no_address
+    else (if local.port == 0 then no_address else checked_local local.addr f remote local.port))
+
+unfoldable pub connected : View → Tuple → ℕ → View
+connected v t word = record (renewed v) { state = state.SynSent; tuple = Some t; local_seq_no = seq_of word; remote_last_seq = seq_of word }
+
+-- with a refusal nothing changes
+abbrev pub after_connect : Result Tuple ConnectError → View → ℕ → View
+after_connect (Ok t) v word = connected v t word
+after_connect (Err e) v word = v
+
+abbrev pub connect_answer : Result Tuple ConnectError → Result (Unit {0}) ConnectError
+connect_answer (Ok t) = Ok tt
+connect_answer (Err e) = Err e

@@ -1,0 +1,201 @@
+// Opening a connection: listen, connect, and the reset that both begin with (RFC 9293, section 3.10.1).
+ghost use Rattle.std.specs.Prelude.{◌≡◌, ◌+◌, ◌≤◌, ◌^◌, length, is_ok};
+ghost use Rattle.ip_wire.specs.Address.{SameVersion};
+ghost use Rattle.sock_tcp.specs.Queue.{queue_of};
+ghost use Rattle.sock_tcp.specs.View.{fresh};
+ghost use Rattle.sock_tcp.specs.Opening.{is_open, is_listening, renewed, listened, Listens, same_version, checked_source, checked_local, endpoints, connected, after_connect, connect_answer};
+ghost use Rattle.sock_tcp.specs.Draw.{Draws};
+
+use crate::control_block::ControlBlock;
+use crate::error::{ConnectError, ListenError};
+use crate::state::State;
+use crate::tuple::Tuple;
+use crate::window::window_shift;
+use control_wire::TcpSeqNumber;
+use ip_wire::{IpAddress, IpEndpoint, IpListenEndpoint};
+use net_base::ring_buffer::RingBuffer;
+use sock_core::Context;
+
+const NO_ENDPOINT: IpListenEndpoint = IpListenEndpoint {
+    addr: None,
+    port: 0,
+};
+
+// What a peer is taken to accept before it said more (RFC 9293, section 3.7.1).
+const DEFAULT_MSS: usize = 536;
+
+impl<'a> ControlBlock<'a> {
+    #[tactic(auto, unfolding(crate::specs::View::fresh))]
+    pub(crate) fn new(
+        rx_buffer: RingBuffer<'a, u8>,
+        tx_buffer: RingBuffer<'a, u8>,
+    ) -> ControlBlock<'a>
+        requires rx { length rx_buffer.queue + length rx_buffer.spare ≤ 2 ^ 30 }
+        requires tx { length tx_buffer.queue + length tx_buffer.spare ≤ 2 ^ 30 }
+        ensures { result ≡ fresh (queue_of rx_buffer.entry) (queue_of tx_buffer.entry) }
+    {
+        let shift = window_shift(rx_buffer.capacity());
+        ControlBlock {
+            state: State::Closed,
+            rx_buffer,
+            tx_buffer,
+            listen_endpoint: NO_ENDPOINT,
+            tuple: None,
+            local_seq_no: TcpSeqNumber(0),
+            remote_seq_no: TcpSeqNumber(0),
+            remote_last_seq: TcpSeqNumber(0),
+            remote_last_ack: None,
+            remote_last_win: 0,
+            remote_win_shift: shift,
+            remote_win_len: 0,
+            remote_win_scale: None,
+            remote_has_sack: false,
+            remote_mss: DEFAULT_MSS,
+            remote_last_ts: None,
+        }
+    }
+
+    #[tactic(auto, unfolding(crate::specs::Opening::renewed))]
+    pub(crate) fn reset(&mut self)
+        ensures { self.new ≡ renewed self.old }
+    {
+        self.state = State::Closed;
+        self.rx_buffer.clear();
+        self.tx_buffer.clear();
+        self.listen_endpoint = NO_ENDPOINT;
+        self.tuple = None;
+        self.local_seq_no = TcpSeqNumber(0);
+        self.remote_seq_no = TcpSeqNumber(0);
+        self.remote_last_seq = TcpSeqNumber(0);
+        self.remote_last_ack = None;
+        self.remote_last_win = 0;
+        self.remote_win_shift = window_shift(self.rx_buffer.capacity());
+        self.remote_win_len = 0;
+        self.remote_win_scale = None;
+        self.remote_mss = DEFAULT_MSS;
+        self.remote_last_ts = None;
+    }
+
+    pub(crate) fn is_open(&self) -> bool
+        ensures { result ≡ is_open self.now.state }
+    {
+        !matches!(self.state, State::Closed | State::TimeWait)
+    }
+
+    #[tactic(auto, unfolding(crate::specs::Opening::listened))]
+    fn begin_to_listen(&mut self, endpoint: IpListenEndpoint)
+        ensures { self.new ≡ listened self.old endpoint }
+    {
+        self.reset();
+        self.state = State::Listen;
+        self.listen_endpoint = endpoint;
+    }
+
+    pub(crate) fn listen(&mut self, endpoint: IpListenEndpoint) -> Result<(), ListenError>
+        ensures { Listens self.old endpoint result self.new }
+    {
+        if endpoint.port == 0 {
+            return Err(ListenError::Unaddressable);
+        }
+        if self.is_open() {
+            if matches!(self.state, State::Listen) && self.listen_endpoint == endpoint {
+                return Ok(());
+            }
+            return Err(ListenError::InvalidState);
+        }
+        self.begin_to_listen(endpoint);
+        Ok(())
+    }
+
+    // Both endpoints of a connection, or what forbids it.
+    fn endpoints<C: Context>(
+        &self,
+        cx: &C,
+        remote: IpEndpoint,
+        local: IpListenEndpoint,
+    ) -> Result<Tuple, ConnectError>
+        ensures { result ≡ endpoints self.now (C.facts cx.now) remote local }
+    {
+        if self.is_open() {
+            return Err(ConnectError::InvalidState);
+        }
+        if remote.port == 0 || remote.addr.is_unspecified() {
+            return Err(ConnectError::Unaddressable);
+        }
+        if local.port == 0 {
+            return Err(ConnectError::Unaddressable);
+        }
+        match local.addr {
+            None => checked_source(cx.get_source_address(&remote.addr), remote, local.port),
+            Some(addr) => {
+                if addr.is_unspecified() {
+                    return Err(ConnectError::Unaddressable);
+                }
+                checked_source(Some(addr), remote, local.port)
+            }
+        }
+    }
+
+    #[tactic(auto, unfolding(crate::specs::Opening::connected))]
+    fn begin_to_connect(&mut self, tuple: Tuple, word: u32)
+        requires { SameVersion tuple.local.addr tuple.remote.addr }
+        ensures { self.new ≡ connected self.old tuple word }
+    {
+        self.reset();
+        self.state = State::SynSent;
+        self.tuple = Some(tuple);
+        self.local_seq_no = TcpSeqNumber(word);
+        self.remote_last_seq = TcpSeqNumber(word);
+    }
+
+    pub(crate) fn connect<C: Context>(
+        &mut self,
+        cx: &mut C,
+        remote: IpEndpoint,
+        local: IpListenEndpoint,
+    ) -> Result<(), ConnectError>
+        ensures answer { result ≡ connect_answer (endpoints self.old (C.facts cx.old) remote local) }
+        ensures view { self.new ≡ after_connect (endpoints self.old (C.facts cx.old) remote local) self.old (C.word_at cx.old 0) }
+        ensures context { Draws (is_ok result) C.facts C.word_at cx.old cx.new }
+    {
+        match self.endpoints(cx, remote, local) {
+            Err(e) => Err(e),
+            Ok(tuple) => {
+                let word = cx.rand_u32();
+                self.begin_to_connect(tuple, word);
+                Ok(())
+            }
+        }
+    }
+}
+
+// The two endpoints, where there is an address of the remote one's version.
+fn checked_source(
+    source: Option<IpAddress>,
+    remote: IpEndpoint,
+    port: u16,
+) -> Result<Tuple, ConnectError>
+    ensures { result ≡ checked_source source remote port }
+{
+    match source {
+        None => Err(ConnectError::Unaddressable),
+        Some(addr) => {
+            if !is_same_version(&addr, &remote.addr) {
+                return Err(ConnectError::Unaddressable);
+            }
+            Ok(Tuple {
+                local: IpEndpoint { addr, port },
+                remote,
+            })
+        }
+    }
+}
+
+fn is_same_version(a: &IpAddress, b: &IpAddress) -> bool
+    ensures { result ≡ same_version a.now b.now }
+{
+    match (a, b) {
+        (IpAddress::Ipv4(_), IpAddress::Ipv4(_)) | (IpAddress::Ipv6(_), IpAddress::Ipv6(_)) => true,
+        _ => false,
+    }
+}

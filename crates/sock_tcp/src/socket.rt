@@ -1,0 +1,252 @@
+// The TCP socket as its users see it.
+ghost use Rattle.std.specs.Prelude.{◌≡◌, ◌≤◌, ◌^◌, ◌+◌, ◌++◌, ◌↔◌, IsTrue, length, take, drop, min, option_map, None, Ok, Err, IfOk, OnErr, is_ok, if◌then◌else◌};
+ghost use Rattle.control_wire.specs.Segment.{segment_of};
+ghost use Rattle.sock_tcp.specs.Queue.{queue_of, capacity};
+ghost use Rattle.sock_tcp.specs.View.{fresh};
+ghost use Rattle.sock_tcp.specs.Opening.{is_listening, is_open, is_active, Listens, endpoints, connect_answer, after_connect};
+ghost use Rattle.sock_tcp.specs.Queues.{may_send, can_send, may_recv, can_recv, written, read_off};
+ghost use Rattle.sock_tcp.specs.Verdict.{verdict_of};
+ghost use Rattle.sock_tcp.specs.Process.{Accepts, processed};
+ghost use Rattle.sock_tcp.specs.Draw.{draws, Draws};
+ghost use Rattle.sock_tcp.specs.Due.{readied};
+ghost use Rattle.sock_tcp.specs.Dispatch.{Dispatched};
+
+use crate::control_block::ControlBlock;
+use crate::error::{ConnectError, ListenError, RecvError, SendError};
+use crate::process::Reply;
+use crate::state::State;
+use control_wire::TcpRepr;
+use ip_wire::{IpEndpoint, IpListenEndpoint, IpRepr};
+use net_base::ring_buffer::RingBuffer;
+use sock_core::Context;
+
+/// A buffer of bytes to send or to receive.
+pub type SocketBuffer<'a> = RingBuffer<'a, u8>;
+
+/// A TCP socket (RFC 9293): one end of one connection at a time, over two lent buffers.
+///
+/// Contracts speak of its transmission control block, beside which the source of timestamps will stand: a function pointer
+/// cannot be part of the value that contracts see.
+#[derive(Debug, Drop)]
+pub struct Socket<'a> {
+    pub(crate) control_block: ControlBlock<'a>,
+}
+
+impl<'a> Socket<'a> {
+    /// A closed socket over these two buffers, each of at most 2^30 bytes and empty or not.
+    pub fn new(rx_buffer: SocketBuffer<'a>, tx_buffer: SocketBuffer<'a>) -> Socket<'a>
+        requires rx { length rx_buffer.queue + length rx_buffer.spare ≤ 2 ^ 30 }
+        requires tx { length tx_buffer.queue + length tx_buffer.spare ≤ 2 ^ 30 }
+        ensures control_block { result.control_block ≡ fresh (queue_of rx_buffer.entry) (queue_of tx_buffer.entry) }
+    {
+        Socket {
+            control_block: ControlBlock::new(rx_buffer, tx_buffer),
+        }
+    }
+
+    /// The endpoint on which the socket listens, or listened last; its port is 0 where there is none.
+    pub fn listen_endpoint(&self) -> IpListenEndpoint
+        ensures { result ≡ self.now.control_block.listen_endpoint }
+    {
+        self.control_block.listen_endpoint
+    }
+
+    /// The own endpoint, where there is a peer.
+    pub fn local_endpoint(&self) -> Option<IpEndpoint>
+        ensures { result ≡ option_map (λ t. t.local) self.now.control_block.tuple }
+    {
+        match self.control_block.tuple {
+            None => None,
+            Some(tuple) => Some(tuple.local),
+        }
+    }
+
+    /// The peer's endpoint, where there is a peer.
+    pub fn remote_endpoint(&self) -> Option<IpEndpoint>
+        ensures { result ≡ option_map (λ t. t.remote) self.now.control_block.tuple }
+    {
+        match self.control_block.tuple {
+            None => None,
+            Some(tuple) => Some(tuple.remote),
+        }
+    }
+
+    /// The state of the connection (RFC 9293, section 3.3.2).
+    pub fn state(&self) -> State
+        ensures { result ≡ self.now.control_block.state }
+    {
+        self.control_block.state
+    }
+
+    /// Waits for a peer on this endpoint.
+    ///
+    /// `Unaddressable` where the port is zero; else `InvalidState` where the socket is open, but for one that listens
+    /// on this very endpoint, for which nothing changes. A refusal changes nothing.
+    pub fn listen(&mut self, local_endpoint: IpListenEndpoint) -> Result<(), ListenError>
+        ensures table { Listens self.old.control_block local_endpoint result self.new.control_block }
+    {
+        self.control_block.listen(local_endpoint)
+    }
+
+    /// Opens a connection to `remote_endpoint`, from the local address given, else from the context's source address.
+    ///
+    /// `InvalidState` where the socket is open; else `Unaddressable`, tested in this order: the remote port is zero or
+    /// the remote address unspecified; the local port is zero; the local address is unspecified; none is given and the
+    /// context has none; the two addresses are of different versions. A refusal changes nothing and draws no random
+    /// word.
+    pub fn connect<C: Context>(
+        &mut self,
+        cx: &mut C,
+        remote_endpoint: IpEndpoint,
+        local_endpoint: IpListenEndpoint,
+    ) -> Result<(), ConnectError>
+        ensures answer { result ≡ connect_answer (endpoints self.old.control_block (C.facts cx.old) remote_endpoint local_endpoint) }
+        ensures view { self.new.control_block ≡ after_connect (endpoints self.old.control_block (C.facts cx.old) remote_endpoint local_endpoint) self.old.control_block (C.word_at cx.old 0) }
+        ensures context { Draws (is_ok result) C.facts C.word_at cx.old cx.new }
+    {
+        self.control_block
+            .connect(cx, remote_endpoint, local_endpoint)
+    }
+
+    /// Whether the socket waits for a peer.
+    pub fn is_listening(&self) -> bool
+        ensures { result ≡ is_listening self.now.control_block.state }
+    {
+        matches!(self.control_block.state, State::Listen)
+    }
+
+    /// Whether the socket is in any state but CLOSED and TIME-WAIT, so that it cannot be opened.
+    pub fn is_open(&self) -> bool
+        ensures { result ≡ is_open self.now.control_block.state }
+    {
+        self.control_block.is_open()
+    }
+
+    /// Whether the socket is open and has a peer.
+    pub fn is_active(&self) -> bool
+        ensures { result ≡ is_active self.now.control_block.state }
+    {
+        !matches!(
+            self.control_block.state,
+            State::Closed | State::TimeWait | State::Listen
+        )
+    }
+
+    /// Whether bytes may be given to `send_slice`: in ESTABLISHED and CLOSE-WAIT.
+    pub fn may_send(&self) -> bool
+        ensures { result ≡ may_send self.now.control_block.state }
+    {
+        self.control_block.may_send()
+    }
+
+    /// Whether bytes may come, or are there: in ESTABLISHED, FIN-WAIT-1 and FIN-WAIT-2, and with a receive queue that
+    /// is not empty.
+    pub fn may_recv(&self) -> bool
+        ensures { result ≡ may_recv self.now.control_block }
+    {
+        self.control_block.may_recv()
+    }
+
+    /// Whether `send_slice` would take at least one byte.
+    pub fn can_send(&self) -> bool
+        ensures { result ≡ can_send self.now.control_block }
+    {
+        self.control_block.can_send()
+    }
+
+    /// Whether the receive queue has a byte.
+    pub fn can_recv(&self) -> bool
+        ensures { result ≡ can_recv self.now.control_block }
+    {
+        self.control_block.can_recv()
+    }
+
+    /// How many bytes the receive buffer holds when it is full.
+    pub fn recv_capacity(&self) -> usize
+        ensures { result ≡ capacity self.now.control_block.rx_buffer }
+    {
+        self.control_block.rx_buffer.capacity()
+    }
+
+    /// How many bytes the transmit buffer holds when it is full.
+    pub fn send_capacity(&self) -> usize
+        ensures { result ≡ capacity self.now.control_block.tx_buffer }
+    {
+        self.control_block.tx_buffer.capacity()
+    }
+
+    /// Puts as many bytes of a beginning of `data` into the transmit queue as fit, and answers how many.
+    ///
+    /// `InvalidState` where `may_send` is false; nothing changes then.
+    pub fn send_slice(&mut self, data: &[u8]) -> Result<usize, SendError>
+        ensures answer { result ≡ (if may_send self.old.control_block.state then Ok (min (length «data».now) self.old.control_block.tx_buffer.window) else Err SendError.InvalidState) }
+        ensures view { self.new.control_block ≡ (if may_send self.old.control_block.state then written self.old.control_block «data».now else self.old.control_block) }
+    {
+        self.control_block.send_slice(data)
+    }
+
+    /// Moves as many bytes from the front of the receive queue into `data` as fit, and answers how many.
+    ///
+    /// `InvalidState` where `may_recv` is false; nothing changes then.
+    pub fn recv_slice(&mut self, data: &mut [u8]) -> Result<usize, RecvError>
+        ensures answer { result ≡ (if may_recv self.old.control_block then Ok (min (length «data».old) (length self.old.control_block.rx_buffer.bytes)) else Err RecvError.InvalidState) }
+        ensures view { self.new.control_block ≡ (if may_recv self.old.control_block then read_off self.old.control_block (min (length «data».old) (length self.old.control_block.rx_buffer.bytes)) else self.old.control_block) }
+        ensures read { IfOk result (λ n. «data».new ≡ take n self.old.control_block.rx_buffer.bytes ++ drop n «data».old) }
+        ensures refused { OnErr result («data».new ≡ «data».old) }
+    {
+        self.control_block.recv_slice(data)
+    }
+
+    /// How many bytes were given to the socket and are not acknowledged: at most 2^30.
+    pub fn send_queue(&self) -> usize
+        ensures value { result ≡ length self.now.control_block.tx_buffer.bytes }
+        ensures small { result ≤ 2 ^ 30 }
+    {
+        self.control_block.tx_buffer.len()
+    }
+
+    /// How many bytes came and were not read: at most 2^30.
+    pub fn recv_queue(&self) -> usize
+        ensures value { result ≡ length self.now.control_block.rx_buffer.bytes }
+        ensures small { result ≤ 2 ^ 30 }
+    {
+        self.control_block.rx_buffer.len()
+    }
+
+    /// Whether a segment is for this socket: to its endpoint from its peer, or, where it listens, a segment that can
+    /// open a connection on its endpoint.
+    pub fn accepts<C: Context>(&self, _cx: &C, ip_repr: &IpRepr, repr: &TcpRepr<'_>) -> bool
+        ensures { IsTrue result ↔ Accepts self.now.control_block ip_repr.now (segment_of repr.now) }
+    {
+        self.control_block.accepts(ip_repr, repr)
+    }
+
+    /// Takes a segment that `accepts` holds of, and gives the one that answers it, if any.
+    pub fn process<C: Context>(
+        &mut self,
+        cx: &mut C,
+        ip_repr: &IpRepr,
+        repr: &TcpRepr<'_>,
+    ) -> Option<Reply>
+        requires { Accepts self.old.control_block ip_repr.now (segment_of repr.now) }
+        ensures table { record { view = self.new.control_block; reply = option_map (λ r. (r.0, segment_of r.1)) result } ≡ processed self.old.control_block (record { micros = (C.facts cx.old).now }) (C.word_at cx.old 0) ip_repr.now (segment_of repr.now) }
+        ensures context { Draws (draws (verdict_of self.old.control_block repr.now.control repr.now.ack_number) self.old.control_block.state repr.now.control) C.facts C.word_at cx.old cx.new }
+    {
+        self.control_block.process(cx, ip_repr, repr)
+    }
+
+    /// Emits at most one segment: calls `emit` once with it, or does not call it where nothing is due.
+    ///
+    /// The error that `emit` answers is passed on; the socket then stands as it did before the emit, and the next
+    /// `dispatch` offers the segment again.
+    pub fn dispatch<C: Context, E, F: FnOnce(&mut C, (IpRepr, TcpRepr<'_>)) -> Result<(), E>>(
+        &mut self,
+        cx: &mut C,
+        emit: F,
+    ) -> Result<(), E>
+        requires callable { F.IsAlwaysCallable emit }
+        ensures table { Dispatched F.FnOnce emit (readied self.old.control_block (C.facts cx.old)) (C.facts cx.old) cx.old result cx.new self.new.control_block }
+    {
+        self.control_block.dispatch(cx, emit)
+    }
+}

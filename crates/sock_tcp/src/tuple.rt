@@ -1,0 +1,9 @@
+// Both ends of a connection.
+use ip_wire::IpEndpoint;
+
+/// Both ends of a connection.
+#[derive(Debug, Clone, Copy, PartialEq, Eq)]
+pub struct Tuple {
+    pub local: IpEndpoint,
+    pub remote: IpEndpoint,
+}

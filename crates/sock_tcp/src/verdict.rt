@@ -1,0 +1,101 @@
+// What a segment's acknowledgement says (RFC 9293, section 3.10.7; RFC 5961, section 5.2).
+ghost use Rattle.std.specs.Prelude.{◌≡◌, ◌+◌, ◌≤◌, ◌^◌, length};
+ghost use Rattle.sock_tcp.specs.Verdict.{verdict_of, open_verdict, fin_place};
+
+use crate::control_block::ControlBlock;
+use crate::state::State;
+use control_wire::{TcpControl, TcpSeqNumber};
+use sock_core::seq::before;
+
+/// What is done with a segment by its acknowledgement.
+#[derive(Debug, Clone, Copy, PartialEq, Eq)]
+pub enum Verdict {
+    Drop,
+    Pass,
+    /// It calls for an RST.
+    Reset,
+    /// It calls for a challenge ACK.
+    Challenge,
+}
+
+impl<'a> ControlBlock<'a> {
+    #[tactic(auto, unfolding(crate::specs::Verdict::verdict_at))]
+    pub(crate) fn verdict(&self, control: TcpControl, ack: Option<TcpSeqNumber>) -> Verdict
+        ensures { result ≡ verdict_of self.now control ack }
+    {
+        let next = self.local_seq_no.plus(1);
+        if control == TcpControl::Rst {
+            return match self.state {
+                State::SynSent => match ack {
+                    None => Verdict::Drop,
+                    Some(ack) => if ack == next {
+                        Verdict::Pass
+                    } else {
+                        Verdict::Drop
+                    },
+                },
+                _ => Verdict::Pass,
+            };
+        }
+        match self.state {
+            State::Listen => match ack {
+                None => Verdict::Pass,
+                Some(_) => Verdict::Drop,
+            },
+            State::SynSent => match (control, ack) {
+                (TcpControl::Syn, None) => Verdict::Pass,
+                (TcpControl::Syn, Some(ack)) => if ack == next {
+                    Verdict::Pass
+                } else {
+                    Verdict::Reset
+                },
+                (TcpControl::None, None) => Verdict::Drop,
+                (TcpControl::None, Some(ack)) => if ack == next {
+                    Verdict::Drop
+                } else {
+                    Verdict::Reset
+                },
+                _ => Verdict::Drop,
+            },
+            State::SynReceived => match ack {
+                None => Verdict::Drop,
+                Some(ack) => if ack == next {
+                    Verdict::Pass
+                } else {
+                    Verdict::Reset
+                },
+            },
+            _ => match ack {
+                None => Verdict::Drop,
+                Some(ack) => self.open_verdict(ack),
+            },
+        }
+    }
+
+    // 1 where a FIN of our own stands behind the transmit queue.
+    pub(crate) fn fin_place(&self) -> usize
+        ensures { result ≡ fin_place self.now.state }
+    {
+        match self.state {
+            State::FinWait1 | State::Closing | State::LastAck => 1,
+            _ => 0,
+        }
+    }
+
+    // The verdict in a state whose SYN is acknowledged.
+    fn open_verdict(&self, ack: TcpSeqNumber) -> Verdict
+        ensures { result ≡ open_verdict self.now.state self.now.local_seq_no (length self.now.tx_buffer.bytes) ack }
+    {
+        if before(ack, self.local_seq_no) {
+            Verdict::Drop
+        } else if before(
+            self.local_seq_no
+                .plus(self.tx_buffer.len() + self.fin_place()),
+            ack,
+        ) {
+            Verdict::Challenge
+        } else {
+            Verdict::Pass
+        }
+    }
+}

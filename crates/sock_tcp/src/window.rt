@@ -1,0 +1,107 @@
+// The receive window (RFC 9293, section 3.10.7.4; RFC 7323, section 2).
+ghost use Rattle.std.specs.Prelude.{◌≡◌, ◌≤◌, IsTrue};
+ghost use Rattle.control_wire.specs.Seq.{seq_sub};
+ghost use Rattle.sock_tcp.specs.View.{window_shift};
+ghost use Rattle.sock_tcp.specs.Window.{next_ack, kept_between, receive_window, is_in_order};
+
+use crate::control_block::ControlBlock;
+use control_wire::TcpSeqNumber;
+use sock_core::seq::before;
+
+/// The receive window: its left edge, and the number behind its last one.
+#[derive(Debug, Clone, Copy, PartialEq, Eq)]
+pub struct Window {
+    pub start: TcpSeqNumber,
+    pub end: TcpSeqNumber,
+}
+
+impl Window {
+    // Whether a segment starts at the left edge, and its `length` bytes end at or before the right edge.
+    #[tactic(auto, unfolding(crate::specs::Window::is_in_order))]
+    pub(crate) fn is_in_order(&self, number: TcpSeqNumber, length: usize) -> bool
+        ensures value { result ≡ is_in_order self.now number length }
+        ensures fits { IsTrue result → length ≤ seq_sub self.now.end self.now.start }
+    {
+        number == self.start && length <= self.end.since(self.start)
+    }
+}
+
+/// By how many bits a window field is shifted so that 16 bits hold the free space of a buffer: the bits that write
+/// `capacity`, less 16, at least 0 and at most 14 (RFC 7323, section 2.3).
+#[tactic(auto, unfolding(crate::specs::View::window_shift))]
+pub(crate) fn window_shift(capacity: usize) -> u8
+    ensures value { result ≡ window_shift capacity }
+    ensures small { result ≤ 14 }
+{
+    if capacity < 0x1_0000 {
+        0
+    } else if capacity < 0x2_0000 {
+        1
+    } else if capacity < 0x4_0000 {
+        2
+    } else if capacity < 0x8_0000 {
+        3
+    } else if capacity < 0x10_0000 {
+        4
+    } else if capacity < 0x20_0000 {
+        5
+    } else if capacity < 0x40_0000 {
+        6
+    } else if capacity < 0x80_0000 {
+        7
+    } else if capacity < 0x100_0000 {
+        8
+    } else if capacity < 0x200_0000 {
+        9
+    } else if capacity < 0x400_0000 {
+        10
+    } else if capacity < 0x800_0000 {
+        11
+    } else if capacity < 0x1000_0000 {
+        12
+    } else if capacity < 0x2000_0000 {
+        13
+    } else {
+        14
+    }
+}
+
+impl<'a> ControlBlock<'a> {
+    // RCV.NXT.
+    pub(crate) fn next_ack(&self) -> TcpSeqNumber
+        ensures { result ≡ next_ack self.now }
+    {
+        self.remote_seq_no.plus(self.rx_buffer.len())
+    }
+
+    // An edge, kept from `start` to `limit`.
+    fn kept_between(start: TcpSeqNumber, limit: TcpSeqNumber, edge: TcpSeqNumber) -> TcpSeqNumber
+        ensures { result ≡ kept_between start limit edge }
+    {
+        if before(edge, start) {
+            start
+        } else if before(limit, edge) {
+            limit
+        } else {
+            edge
+        }
+    }
+
+    #[tactic(auto, unfolding(crate::specs::Window::receive_window))]
+    pub(crate) fn receive_window(&self) -> Window
+        ensures window { result ≡ receive_window self.now }
+        ensures within { seq_sub result.end result.start ≤ self.now.rx_buffer.window }
+    {
+        let start = self.next_ack();
+        start.in_range();
+        let end = match self.remote_last_ack {
+            None => start,
+            Some(ack) => {
+                let edge = ack.plus((self.remote_last_win as usize) << self.remote_win_shift);
+                edge.in_range();
+                Self::kept_between(start, start.plus(self.rx_buffer.window()), edge)
+            }
+        };
+        Window { start, end }
+    }
+}
