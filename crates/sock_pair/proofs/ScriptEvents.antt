@@ -1,5 +1,5 @@
 -- The events of a script's lines, one line after another.
-use Rattle.std.proofs.Common.{ℕ, List, [], ◌∷◌, ◌++◌, Result, Ok, Err, ◌≡◌, refl, ap, sym, append_assoc, rules}
+use Rattle.std.proofs.Common.{ℕ, List, [], ◌∷◌, ◌++◌, Result, Ok, Err, ◌≡◌, refl, append_assoc}
 use Rattle.sock_pair.specs.declared.script.error.ScriptError.{ScriptError}
 use Rattle.sock_pair.specs.EventValue.{EventValue}
 use Rattle.sock_pair.specs.ScriptLines.{event_of, events_of, first_and_rest}

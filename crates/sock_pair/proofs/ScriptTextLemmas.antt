@@ -1,5 +1,5 @@
 -- How a script falls into lines, and a line into words, from the front.
-use Rattle.std.proofs.Common.{ℕ, ◌+◌, ◌<◌, ◌≡◌, ◌==◌, List, [], ◌∷◌, length, take, drop, filter, Bool, true, false, not, cond, nat_lt, suc, refl, sym, ◌∙◌, ap, arith, add-one}
+use Rattle.std.proofs.Common.{ℕ, ◌+◌, ◌<◌, ◌≡◌, ◌==◌, List, [], ◌∷◌, length, take, drop, filter, Bool, true, false, nat_lt, suc, refl, sym, ◌∙◌, ap, arith, add-one}
 use Rattle.std.specs.List.{onto_first, slice_split, position_or_len, prefix_len}
 use Rattle.std.proofs.lemmas.Bool.{lt-ltb}
 use Rattle.sock_pair.specs.ScriptText.{is_comment, is_skipped, lines_of, numbered_from, words_of}

@@ -61,3 +61,6 @@ fn events(alloc: Global, lines: &mut Lines<'_>) -> Result<Vec<Event>, ScriptErro
     }
     Ok(events)
 }
+
+#[cfg(test)]
+mod tests;

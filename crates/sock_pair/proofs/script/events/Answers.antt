@@ -1,4 +1,4 @@
-use Rattle.std.proofs.Common.{◌≡◌, map, List, [], ◌∷◌, ◌++◌, ◌∙◌, ap, sym, refl, append-nil}
+use Rattle.std.proofs.Common.{◌≡◌, map, [], ◌∷◌, ◌++◌, ◌∙◌, ap, sym, refl, append-nil}
 use Rattle.std.proofs.lemmas.List.{map-append}
 use Rattle.std.proofs.lemmas.Result.{err_from_is_err_and}
 use Rattle.sock_pair.specs.EventValue.{event_value}

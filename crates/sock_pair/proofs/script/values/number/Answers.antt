@@ -1,5 +1,4 @@
-use Rattle.std.proofs.Common.{◌≡◌, true, rules}
-use Rattle.sock_pair.specs.ScriptWords.{is_number}
+use Rattle.std.proofs.Common.{rules}
 use Rattle.sock_pair.proofs.ScriptNumbers.{number_parts}
 use Rattle.sock_pair.proofs.script.values.number.Goals as goal
 

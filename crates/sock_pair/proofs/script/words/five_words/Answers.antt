@@ -1,4 +1,4 @@
-use Rattle.std.proofs.Common.{◌≡◌, ℕ, List, [], ◌∷◌, Option, Some}
+use Rattle.std.proofs.Common.{◌≡◌, List, [], ◌∷◌, Some}
 use Rattle.sock_pair.specs.ScriptText.{words_of}
 use Rattle.sock_pair.specs.ScriptWords.{Word, five_of, three_of}
 use Rattle.sock_pair.proofs.script.words.five_words.Goals as goal

@@ -1,4 +1,4 @@
-use Rattle.std.proofs.Common.{rules, arith, ◌≡◌, ◌<◌, [], drop, refl}
+use Rattle.std.proofs.Common.{arith, drop, refl}
 use Rattle.std.proofs.lemmas.Grind.{common_steps}
 use Rattle.sock_pair.proofs.ScriptTextLemmas.{words-none, words-split}
 use Rattle.sock_pair.proofs.script.words.split_word.Goals as goal

@@ -1,6 +1,6 @@
-use Rattle.std.proofs.Common.{◌≡◌, ◌+◌, [], ◌∷◌, length, true, false, sym, ◌∙◌, ap, arith, rules}
+use Rattle.std.proofs.Common.{◌≡◌, [], length, true, false, sym, ◌∙◌, ap, arith, rules}
 use Rattle.std.proofs.lemmas.Grind.{common_steps}
-use Rattle.sock_pair.specs.ScriptText.{is_comment, lines_of, numbered_from, words_of}
+use Rattle.sock_pair.specs.ScriptText.{is_comment, numbered_from, words_of}
 use Rattle.sock_pair.proofs.ScriptTextLemmas.{count-line, lines-none, numbered-line, numbered-none, numbered-skip, skipped-blank, skipped-comment}
 use Rattle.sock_pair.proofs.script.lines.Lines.next.Goals as goal
 
