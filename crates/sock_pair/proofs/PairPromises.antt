@@ -1,17 +1,20 @@
 -- What the invariant of a pair promises.
 use Rattle.std.proofs.Common.{◌≡◌, ℕ, ◌≤◌, Bool, true, false, List, [], ◌++◌, length, take, Option, Some, None, refl, sym, ap, subst, ◌∙◌, arith}
-use Rattle.std.specs.Prelude.{slice_get}
+use Rattle.std.specs.Prelude.{slice_get, Result, Ok, Err, IfOk}
 use Rattle.sock_pair.specs.NetworkRuns as network
 use Rattle.sock_pair.specs.PairInvariant.{IsHost, IsPair}
 use Rattle.sock_pair.specs.PairNetwork.{seen, endpoint_of, network_of}
-use Rattle.sock_pair.specs.PairPromises.{delivered, IsDelivered, AreDelivered, IsPrompt, IsPromptAt}
+use Rattle.sock_pair.specs.PairPromises.{delivered, IsDelivered, AreDelivered, IsPrompt, IsPromptAt, IsPromptOn}
 use Rattle.sock_pair.specs.PairSteps.{DeliversTo, DeliversIf, Delivers, is_old, exchanged}
 use Rattle.sock_pair.specs.PairViews.{HostView, StoredView, PairView, host_of}
 use Rattle.sock_pair.specs.Sides.{other_side}
 use Rattle.sock_pair.specs.declared.host.Opening.{Opening}
 use Rattle.sock_pair.specs.declared.host.Opening.TheVariants as opening
 use Rattle.sock_pair.specs.declared.moment.Moment.{Moment}
+use Rattle.sock_pair.specs.declared.event.Event.{Event}
+use Rattle.sock_pair.specs.declared.event.Event.TheVariants as event
 use Rattle.sock_pair.specs.declared.outcome.Outcome.{Outcome}
+use Rattle.sock_pair.specs.declared.outcome.PairError.{PairError}
 use Rattle.sock_pair.specs.declared.outcome.Outcome.TheVariants as outcome
 use Rattle.sock_pair.specs.declared.side.Side.{Side}
 use Rattle.sock_pair.specs.declared.side.Side.TheVariants.{A, B}
@@ -61,3 +64,11 @@ delivers_promptly i m p q o d t reply at is =
     let x : Delivers (Some t) m p o q = subst (λ z. Delivers z m p o q) at d in
     subst (λ k. IsPrompt t (host_of (other_side t.emitter) p) k) (sym (ap (host_of (other_side t.emitter)) x.same ∙ exchanged_host (other_side t.emitter) p x.host x.segments))
     (prompt (is_old (host_of t.emitter p) t) (other_side t.emitter) m t o reply (host_of (other_side t.emitter) p) x.host p.segments x.segments is x.does)
+
+-- the event of a delivery, as a pair answers it
+pub prompt_delivery : (e : Event) (i : ℕ) (m : Moment) (p q : PairView) (r : Result Outcome PairError) → e ≡ event.Deliver i m → IfOk r (λ o. Delivers (slice_get p.segments i) m p o q) → IfOk r (λ o. IsPromptOn e p o q)
+prompt_delivery e i m p q r is d = subst (λ x. IfOk r (λ o. IsPromptOn x p o q)) (sym is) (go r d)
+  where
+    go : (x : Result Outcome PairError) → IfOk x (λ o. Delivers (slice_get p.segments i) m p o q) → IfOk x (λ o. IsPromptAt i p o q)
+    go (Ok o) y = delivers_promptly i m p q o y
+    go (Err x) y = tt

@@ -16,6 +16,7 @@ pub mod PairNetwork
 pub mod PairInvariant
 pub mod PairLaws
 pub mod PairPromises
+pub mod PairRuns
 pub mod StreamViews
 pub mod StreamEffects
 pub mod StreamModel

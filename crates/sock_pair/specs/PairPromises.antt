@@ -9,6 +9,8 @@ use Rattle.sock_tcp.specs.declared.state.State.TheVariants as state
 use Rattle.sock_tcp.specs.declared.verdict.Verdict.TheVariants as verdicts
 use Rattle.sock_pair.specs.PairViews.{HostView, StoredView, PairView, host_of}
 use Rattle.sock_pair.specs.Sides.{other_side}
+use Rattle.sock_pair.specs.declared.event.Event.{Event}
+use Rattle.sock_pair.specs.declared.event.Event.TheVariants as event
 use Rattle.sock_pair.specs.declared.outcome.Outcome.{Outcome}
 use Rattle.sock_pair.specs.declared.outcome.Outcome.TheVariants as outcome
 
@@ -48,3 +50,11 @@ pub record IsPrompt (t : StoredView) (old new : HostView) : Type 0 where
 -- so at each delivery of a pair that a side accepts
 abbrev pub IsPromptAt : ℕ → PairView → Outcome → PairView → Type 0
 IsPromptAt i p o q = (t : StoredView) (reply : Option ℕ) → slice_get p.segments i ≡ Some t → o ≡ outcome.Delivered reply → IsPrompt t (host_of (other_side t.emitter) p) (host_of (other_side t.emitter) q)
+
+abbrev pub IsPromptOn : Event → PairView → Outcome → PairView → Type 0
+IsPromptOn (event.Deliver i m) p o q = IsPromptAt i p o q
+IsPromptOn (event.Listen s) p o q = Unit {0}
+IsPromptOn (event.Connect s m) p o q = Unit {0}
+IsPromptOn (event.SendSlice s bytes) p o q = Unit {0}
+IsPromptOn (event.RecvSlice s size) p o q = Unit {0}
+IsPromptOn (event.Dispatch s m fail) p o q = Unit {0}

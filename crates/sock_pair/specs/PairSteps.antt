@@ -1,4 +1,4 @@
--- What an event does to a pair, and a run of events.
+-- What an event does to a pair.
 use Rattle.std.specs.Prelude.{ℕ, ◌≡◌, ◌+◌, ◌-◌, ◌^◌, ◌<◌, ◌++◌, ◌↔◌, IsTrue, List, [], ◌∷◌, length, take, slice_get, Option, Some, None, option_map, Bool, true, false, not, nat_le, ◌||◌}
 use Rattle.ip_wire.specs.declared.repr.IpRepr.{IpRepr}
 use Rattle.net_base.specs.declared.time.Instant.{Instant}
@@ -111,7 +111,7 @@ abbrev pub Delivers : Option StoredView → Moment → PairView → Outcome → 
 Delivers None m p o q = (o ≡ outcome.NoSegment) × (q ≡ p)
 Delivers (Some t) m p o q = OneSideAndSegments (other_side t.emitter) p q (DeliversTo (is_old (host_of t.emitter p) t) (other_side t.emitter) m t o)
 
--- ---- a step and a run
+-- ---- a step
 
 -- what an event does to a pair, with its outcome
 abbrev pub Step : Event → PairView → Outcome → PairView → Type 0
@@ -121,20 +121,3 @@ Step (event.SendSlice s bytes) p o q = OneSide s p q (λ h k. Sends p.limit byte
 Step (event.RecvSlice s size) p o q = OneSide s p q (λ h k. Receives size h o k)
 Step (event.Dispatch s m fail) p o q = OneSideAndSegments s p q (Dispatches s m fail o)
 Step (event.Deliver i m) p o q = Delivers (slice_get p.segments i) m p o q
-
-abbrev pub Run : List Event → PairView → List Outcome → PairView → Type 0
-Run [] p [] q = p ≡ q
-Run (e ∷ es) p (o ∷ os) q = (r : PairView) × Step e p o r × Run es r os q
-Run _ _ _ _ = ⊥
-
--- a run that added its outcomes to a list
-pub record Done (es : List Event) (p : PairView) (before after : List Outcome) (q : PairView) : Type 0 where
-  pub outcomes : List Outcome
-  pub are : after ≡ before ++ outcomes
-  pub run : Run es p outcomes q
-
--- a run that stopped before its event n
-pub record HasStopped (es : List Event) (p : PairView) (before after : List Outcome) (q : PairView) : Type 0 where
-  pub count : ℕ
-  pub within : count < length es
-  pub done : Done (take count es) p before after q

@@ -58,7 +58,9 @@ impl<'a> Pair<'a> {
     ghost use Rattle.sock_tcp.specs.Queue.{queue_of};
     ghost use Rattle.sock_pair.specs.PairViews.{new_host, new_pair, host_of};
     ghost use Rattle.sock_pair.specs.PairCalls.{listening, connecting, OpensAs, is_over, Sends, Receives};
-    ghost use Rattle.sock_pair.specs.PairSteps.{OneSide, OneSideAndSegments, Dispatches, Delivers, Step, Done, HasStopped};
+    ghost use Rattle.sock_pair.specs.PairSteps.{OneSide, OneSideAndSegments, Dispatches, Delivers, Step};
+    ghost use Rattle.sock_pair.specs.PairRuns.{Done, HasStopped};
+    ghost use Rattle.sock_pair.specs.PairPromises.{AreDelivered, IsPromptOn};
     ghost use Rattle.sock_pair.specs.Holding.{stored_of};
     ghost use Rattle.sock_pair.specs.PairInvariant.{IsReachable};
     ghost use Rattle.sock_pair.specs.NetworkInvariant.{IsLimit};
@@ -230,11 +232,16 @@ impl<'a> Pair<'a> {
         }
     }
 
-    /// Does one event.
-    ///
-    /// `Memory` where a growth was refused; the pair is then as it was.
-    pub fn step(&mut self, event: &Event) -> Result<Outcome, PairError>
+    // What every pair keeps.
+    fn keeps_order(&self)
+        ensures { AreDelivered self.now }
+    {
+        self.a.in_range();
+    }
+
+    fn perform(&mut self, event: &Event) -> Result<Outcome, PairError>
         ensures step { IfOk result (λ o. Step event.entry.now self.old o self.new) }
+        ensures prompt { IfOk result (λ o. IsPromptOn event.entry.now self.old o self.new) }
         ensures memory { OnErr result (self.new ≡ self.old) }
     {
         match event {
@@ -247,14 +254,30 @@ impl<'a> Pair<'a> {
         }
     }
 
+    /// Does one event.
+    ///
+    /// `Memory` where a growth was refused; the pair is then as it was.
+    pub fn step(&mut self, event: &Event) -> Result<Outcome, PairError>
+        ensures step { IfOk result (λ o. Step event.entry.now self.old o self.new) }
+        ensures delivered { AreDelivered self.new }
+        ensures prompt { IfOk result (λ o. IsPromptOn event.entry.now self.old o self.new) }
+        ensures memory { OnErr result (self.new ≡ self.old) }
+    {
+        let outcome = self.perform(event);
+        self.keeps_order();
+        outcome
+    }
+
     /// Does the events in turn, and adds an outcome for each to `outcomes`.
     ///
     /// `Memory` where a growth was refused; the events before that one were done, and `outcomes` has gained exactly their
     /// outcomes.
     pub fn run(&mut self, events: &[Event], outcomes: &mut Vec<Outcome>) -> Result<(), PairError>
+        ensures delivered { AreDelivered self.new }
         ensures done { OnOk result (Done events.now self.old outcomes.old.items outcomes.new.items self.new) }
         ensures memory { OnErr result (HasStopped events.now self.old outcomes.old.items outcomes.new.items self.new) }
     {
+        self.keeps_order();
         for event in events {
             if let Err(_) = outcomes.reserve(1) {
                 return Err(PairError::Memory);
