@@ -93,7 +93,6 @@ module _ (v : View) (released taken : ℕ) (bounds : IsBounded v) where
         snd_nxt = subst (λ n. SndNxtWithin (record (shown v) { snd_nxt = n })) (ap (later_number v.remote_last_seq.0) (sym end) ∙ sym (later_shown v.remote_last_seq (end_of s))) (emit_moves (shown v) 1 b (omega arith));
       }
 
-
   data_may_emit : (t : Tuple) (bytes : List ℕ) → HasIss (phase_of v.state) → KnowsPeer (phase_of v.state) → bytes ≡ take (length bytes) (drop (flight v) v.tx_buffer.bytes) → MayEmit v (with_data v bytes (plain_segment v t)) released taken
   unfolding plain_segment
   data_may_emit t bytes iss knows lent =
