@@ -1,3 +1,6 @@
+pub mod ScriptEvents
+pub mod ScriptNumbers
+pub mod ScriptTextLemmas
 pub mod Recordings
 pub mod Deliveries
 pub mod StreamGrowth

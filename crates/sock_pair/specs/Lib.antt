@@ -1,3 +1,8 @@
+pub mod EventValue
+pub mod ScriptFaults
+pub mod ScriptLines
+pub mod ScriptText
+pub mod ScriptWords
 pub mod Sides
 pub mod Moments
 pub mod PairTexts

@@ -16,9 +16,6 @@ use crate::side::Side;
 use sock_tcp::Reply;
 use std::alloc::Global;
 
-// A payload has at most so many bytes.
-const MAX_PAYLOAD: usize = 65535;
-
 // By how much a count of a segment's emitter may grow at most while the segment is young.
 const AGE_LIMIT: u64 = 0x2000_0000;
 
@@ -68,7 +65,7 @@ pub(crate) fn dispatch(alloc: Global, host: &mut Host<'_>, side: Side, segments:
     if let Err(_) = segments.reserve(1) {
         return Err(PairError::Memory);
     }
-    let room = match Vec::with_capacity(alloc, MAX_PAYLOAD) {
+    let room = match Vec::with_capacity(alloc, moment.ip_mtu) {
         Err(_) => return Err(PairError::Memory),
         Ok(room) => room,
     };

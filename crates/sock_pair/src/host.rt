@@ -183,10 +183,10 @@ impl<'a> Host<'a> {
         }
     }
 
-    // One dispatch, into a room that was made before.
+    // One dispatch, into a room that was made before: no payload is longer than the largest IP packet.
     pub(crate) fn dispatch(&mut self, moment: &Moment, room: Vec<u8>, fail: bool) -> Sent
         requires empty { room.items ≡ [] }
-        requires roomy { 65535 ≤ vec_capacity room }
+        requires roomy { moment.now.ip_mtu ≤ vec_capacity room }
         ensures { HostDispatches moment.entry.now fail self.old result self.new }
     {
         let mut recorder = Recorder {

@@ -9,6 +9,7 @@ pub mod moment;
 pub mod outcome;
 pub mod pair;
 mod recorder;
+pub mod script;
 pub mod segment;
 pub mod side;
 pub mod streams;

@@ -1,0 +1,155 @@
+-- What the lines of a script mean, and the first fault in line order.
+use Rattle.std.specs.Prelude.{ℕ, ◌+◌, ◌*◌, pos, List, [], ◌∷◌, length, map, Bool, true, false, Option, Some, None, Result, Ok, Err, bytes_eq, codes, if◌then◌else◌, MatchResult, ◌≡◌, ◌≢◌, option_map}
+use Rattle.sock_pair.specs.declared.script.error.ScriptError.{ScriptError}
+use Rattle.sock_pair.specs.declared.script.error.ScriptError.TheVariants as fault
+use Rattle.sock_pair.specs.declared.script.keyword.Keyword.{Keyword}
+use Rattle.sock_pair.specs.declared.script.keyword.Keyword.TheVariants as keyword
+use Rattle.sock_pair.specs.declared.script.header.Header.{Header}
+use Rattle.sock_pair.specs.declared.script.Script.{Script}
+use Rattle.sock_pair.specs.declared.side.Side.{Side}
+use Rattle.sock_pair.specs.EventValue.{MomentValue, EventValue, listen, connect, send_slice, recv_slice, dispatch, deliver, event_value}
+use Rattle.sock_pair.specs.ScriptText.{lines_of, numbered_from}
+use Rattle.sock_pair.specs.ScriptWords.{Word, side_of, number_of, limit_of, text_of, keyword_of, one_of, two_of, three_of, five_of, one_and_text_of}
+
+-- the context at so many milliseconds, with this word: the address is there, and the MTU is 1500
+abbrev pub moment_at : ℕ → ℕ → MomentValue
+moment_at millis word = record { now = pos (millis * 1000); word = word; has_address = true; ip_mtu = 1500 }
+
+-- events of values that may be bad
+abbrev pub listen_event : Option Side → Option EventValue
+listen_event side = option_map listen side
+
+abbrev pub connect_event : Option Side → Option ℕ → Option EventValue
+connect_event (Some side) (Some word) = Some (connect side (moment_at 0 word))
+connect_event _ _ = None
+
+abbrev pub send_event : Option Side → Option (List ℕ) → Option EventValue
+send_event (Some side) (Some bytes) = Some (send_slice side bytes)
+send_event _ _ = None
+
+abbrev pub recv_event : Option Side → Option ℕ → Option EventValue
+recv_event (Some side) (Some size) = Some (recv_slice side size)
+recv_event _ _ = None
+
+abbrev pub dispatch_event : Bool → Option Side → Option ℕ → Option EventValue
+dispatch_event fail (Some side) (Some millis) = Some (dispatch side (moment_at millis 0) fail)
+dispatch_event fail _ _ = None
+
+abbrev pub deliver_event : Option ℕ → Option ℕ → Option ℕ → Option EventValue
+deliver_event (Some index) (Some millis) (Some word) = Some (deliver index (moment_at millis word))
+deliver_event _ _ _ = None
+
+abbrev pub or_bad_word : {V : Type 0} → ℕ → Option V → Result V ScriptError
+or_bad_word n None = Err (fault.BadWord n)
+or_bad_word n (Some v) = Ok v
+
+-- line n with the words that it is to have, or without: first their count, then their values
+abbrev pub by_words : {W V : Type 0} → ℕ → (W → Option V) → Option W → Result V ScriptError
+by_words n value None = Err (fault.WrongNumberOfWords n)
+by_words n value (Some words) = or_bad_word n (value words)
+
+-- line n, by its form, from the words after the first
+unfoldable pub listen_line : ℕ → List Word → Result EventValue ScriptError
+listen_line n values = by_words n (λ side. listen_event (side_of side)) (one_of values)
+
+unfoldable pub connect_line : ℕ → List Word → Result EventValue ScriptError
+connect_line n values =
+    by_words n (λ (side, word). connect_event (side_of side) (number_of 4294967295 word)) (two_of values)
+
+unfoldable pub send_line : ℕ → List Word → Result EventValue ScriptError
+send_line n values =
+    by_words n (λ (side, text). send_event (side_of side) (text_of text)) (one_and_text_of values)
+
+unfoldable pub recv_line : ℕ → List Word → Result EventValue ScriptError
+recv_line n values =
+    by_words n (λ (side, size). recv_event (side_of side) (number_of 1048576 size)) (two_of values)
+
+unfoldable pub dispatch_line : Bool → ℕ → List Word → Result EventValue ScriptError
+dispatch_line fail n values =
+    by_words n (λ (side, millis). dispatch_event fail (side_of side) (number_of 1000000000 millis)) (two_of values)
+
+unfoldable pub deliver_line : ℕ → List Word → Result EventValue ScriptError
+deliver_line n values =
+    by_words n
+    (λ (index, millis, word). deliver_event (number_of 9999999999 index) (number_of 1000000000 millis) (number_of 4294967295 word))
+    (three_of values)
+
+-- what line n means
+abbrev pub values_mean : ℕ → Option Keyword → List Word → Result EventValue ScriptError
+values_mean n None values = Err (fault.UnknownEvent n)
+values_mean n (Some keyword.Listen) values = listen_line n values
+values_mean n (Some keyword.Connect) values = connect_line n values
+values_mean n (Some keyword.Send) values = send_line n values
+values_mean n (Some keyword.Recv) values = recv_line n values
+values_mean n (Some keyword.Dispatch) values = dispatch_line false n values
+values_mean n (Some keyword.Fail) values = dispatch_line true n values
+values_mean n (Some keyword.Deliver) values = deliver_line n values
+
+-- what line n with these words means; each line that is not skipped has a first word
+abbrev pub event_of : ℕ → List Word → Result EventValue ScriptError
+event_of n [] = Err (fault.UnknownEvent n)
+event_of n (name ∷ values) = values_mean n (keyword_of name) values
+
+-- the sizes of a's and b's buffers, and the limit
+pub record HeaderValue : Type 0 where
+  pub sizes : List ℕ
+  pub limit : Option ℕ
+
+abbrev pub sizes_of : Option ℕ → Option ℕ → Option ℕ → Option ℕ → Option (List ℕ)
+sizes_of (Some arx) (Some atx) (Some brx) (Some btx) = Some (arx ∷ atx ∷ brx ∷ btx ∷ [])
+sizes_of _ _ _ _ = None
+
+abbrev pub header_values : Option (List ℕ) → Option (Option ℕ) → Option HeaderValue
+header_values (Some sizes) (Some limit) = Some (record { sizes = sizes; limit = limit })
+header_values _ _ = None
+
+unfoldable pub header_line : ℕ → List Word → Result HeaderValue ScriptError
+header_line n values =
+    by_words n
+    (λ (arx, atx, brx, btx, limit). header_values (sizes_of (number_of 65535 arx) (number_of 65535 atx) (number_of 65535 brx) (number_of 65535 btx)) (limit_of limit))
+    (five_of values)
+
+-- what the first line that is not skipped means
+abbrev pub header_of : ℕ → List Word → Result HeaderValue ScriptError
+header_of n [] = Err (fault.NoPairLine n)
+header_of n (name ∷ values) =
+    if bytes_eq name (codes "pair") then header_line n values else Err (fault.NoPairLine n)
+
+abbrev pub first_and_rest : Result EventValue ScriptError → Result (List EventValue) ScriptError → Result (List EventValue) ScriptError
+first_and_rest (Err e) rest = Err e
+first_and_rest (Ok event) (Err e) = Err e
+first_and_rest (Ok event) (Ok events) = Ok (event ∷ events)
+
+-- the events of numbered lines, or the fault of the first line that has one
+unfoldable pub events_of : List (ℕ × List Word) → Result (List EventValue) ScriptError
+events_of [] = Ok []
+events_of (line ∷ rest) = first_and_rest (event_of line.0 line.1) (events_of rest)
+
+pub record ScriptValue : Type 0 where
+  pub sizes : List ℕ
+  pub limit : Option ℕ
+  pub events : List EventValue
+
+abbrev pub script_value : Script → ScriptValue
+script_value s = record { sizes = s.sizes; limit = s.limit; events = map event_value s.events.items }
+
+abbrev pub with_events : Result HeaderValue ScriptError → Result (List EventValue) ScriptError → Result ScriptValue ScriptError
+with_events (Err e) more = Err e
+with_events (Ok header) (Err e) = Err e
+with_events (Ok header) (Ok events) = Ok (record { sizes = header.sizes; limit = header.limit; events = events })
+
+-- the script of numbered lines; end is the number after the last line
+abbrev pub script_of_lines : ℕ → List (ℕ × List Word) → Result ScriptValue ScriptError
+script_of_lines end [] = Err (fault.NoPairLine end)
+script_of_lines end (line ∷ rest) = with_events (header_of line.0 line.1) (events_of rest)
+
+-- what a text means as a script: its first line that is not skipped names the sizes, each later one an event
+unfoldable pub script_of : List ℕ → Result ScriptValue ScriptError
+script_of text = script_of_lines (length (lines_of text) + 1) (numbered_from 1 (lines_of text))
+
+abbrev pub header_value : Header → HeaderValue
+header_value h = record { sizes = h.sizes; limit = h.limit }
+
+-- the result is what is meant, its value seen by `value`, but where memory ran out
+abbrev pub Gives : {T V : Type 0} → (T → V) → Result V ScriptError → Result T ScriptError → Type 0
+Gives value meant result = MatchResult result (λ x. meant ≡ Ok (value x)) (λ e. e ≢ fault.Memory → meant ≡ Err e)

@@ -1,0 +1,156 @@
+// What a line asks for, by its form.
+ghost use Rattle.std.specs.Prelude.{◌≡◌, ◌≤◌, ◌∷◌};
+ghost use Rattle.sock_pair.specs.EventValue.{event_value, moment_value};
+ghost use Rattle.sock_pair.specs.ScriptText.{words_of};
+ghost use Rattle.sock_pair.specs.ScriptLines.{
+  Gives,
+  connect_line,
+  deliver_line,
+  dispatch_line,
+  event_of,
+  listen_line,
+  moment_at,
+  recv_line,
+  send_line,
+};
+
+use crate::event::Event;
+use crate::moment::Moment;
+use crate::script::error::ScriptError;
+use crate::script::keyword::Keyword;
+use crate::script::lines::Line;
+use crate::script::values::{is_text, number, side};
+use crate::script::words::{one_word, one_word_and_text, three_words, two_words};
+use net_base::time::Instant;
+use std::alloc::Global;
+
+// The largest values of a line.
+const WORD: usize = 4_294_967_295;
+
+const MILLIS: usize = 1_000_000_000;
+
+const SIZE: usize = 1_048_576;
+
+const INDEX: usize = 9_999_999_999;
+
+const IP_MTU: usize = 1500;
+
+/// The event that a line asks for, or its fault: an unknown first word, else a wrong number of words, else a bad word.
+pub fn event(alloc: Global, line: &Line<'_>) -> Result<Event, ScriptError>
+    ensures { Gives event_value (event_of line.now.number (line.now.name.now ∷ words_of line.now.values.now)) result }
+{
+    let number = line.number;
+    let Some(keyword) = Keyword::of_word(line.name) else {
+        return Err(ScriptError::UnknownEvent { line: number });
+    };
+    match keyword {
+        Keyword::Listen => listen(number, line.values),
+        Keyword::Connect => connect(number, line.values),
+        Keyword::Send => send(alloc, number, line.values),
+        Keyword::Recv => recv(number, line.values),
+        Keyword::Dispatch => dispatch(number, line.values, false),
+        Keyword::Fail => dispatch(number, line.values, true),
+        Keyword::Deliver => deliver(number, line.values),
+    }
+}
+
+// `listen S`
+#[tactic(auto, unfolding(crate::specs::ScriptLines::listen_line))]
+fn listen(line: usize, values: &[u8]) -> Result<Event, ScriptError>
+    ensures { Gives event_value (listen_line line (words_of values.now)) result }
+{
+    let word = one_word(values).ok_or(ScriptError::WrongNumberOfWords { line })?;
+    match side(word) {
+        Some(side) => Ok(Event::Listen { side }),
+        None => Err(ScriptError::BadWord { line }),
+    }
+}
+
+// `connect S WORD`, at moment 0
+#[tactic(auto, unfolding(crate::specs::ScriptLines::connect_line))]
+fn connect(line: usize, values: &[u8]) -> Result<Event, ScriptError>
+    ensures { Gives event_value (connect_line line (words_of values.now)) result }
+{
+    let (who, word) = two_words(values).ok_or(ScriptError::WrongNumberOfWords { line })?;
+    match (side(who), number(word, WORD)) {
+        (Some(side), Some(word)) => Ok(Event::Connect {
+            side,
+            moment: moment(0, word),
+        }),
+        _ => Err(ScriptError::BadWord { line }),
+    }
+}
+
+// `send S TEXT`, or `send S` for nothing
+#[tactic(auto, unfolding(crate::specs::ScriptLines::send_line))]
+fn send(alloc: Global, line: usize, values: &[u8]) -> Result<Event, ScriptError>
+    ensures { Gives event_value (send_line line (words_of values.now)) result }
+{
+    let (who, text) = one_word_and_text(values).ok_or(ScriptError::WrongNumberOfWords { line })?;
+    match side(who) {
+        Some(side) if is_text(text) => {
+            let bytes = Vec::from_slice(alloc, text)?;
+            Ok(Event::SendSlice { side, bytes })
+        }
+        _ => Err(ScriptError::BadWord { line }),
+    }
+}
+
+// `recv S SIZE`
+#[tactic(auto, unfolding(crate::specs::ScriptLines::recv_line))]
+fn recv(line: usize, values: &[u8]) -> Result<Event, ScriptError>
+    ensures { Gives event_value (recv_line line (words_of values.now)) result }
+{
+    let (who, size) = two_words(values).ok_or(ScriptError::WrongNumberOfWords { line })?;
+    match (side(who), number(size, SIZE)) {
+        (Some(side), Some(size)) => Ok(Event::RecvSlice { side, size }),
+        _ => Err(ScriptError::BadWord { line }),
+    }
+}
+
+// `dispatch S MS`, and `fail S MS` where the emit is to fail
+#[tactic(auto, unfolding(crate::specs::ScriptLines::dispatch_line))]
+fn dispatch(line: usize, values: &[u8], fail: bool) -> Result<Event, ScriptError>
+    ensures { Gives event_value (dispatch_line fail line (words_of values.now)) result }
+{
+    let (who, millis) = two_words(values).ok_or(ScriptError::WrongNumberOfWords { line })?;
+    match (side(who), number(millis, MILLIS)) {
+        (Some(side), Some(millis)) => Ok(Event::Dispatch {
+            side,
+            moment: moment(millis, 0),
+            fail,
+        }),
+        _ => Err(ScriptError::BadWord { line }),
+    }
+}
+
+// `deliver INDEX MS WORD`
+#[tactic(auto, unfolding(crate::specs::ScriptLines::deliver_line))]
+fn deliver(line: usize, values: &[u8]) -> Result<Event, ScriptError>
+    ensures { Gives event_value (deliver_line line (words_of values.now)) result }
+{
+    let (index, millis, word) = three_words(values).ok_or(ScriptError::WrongNumberOfWords {
+        line,
+    })?;
+    match (
+        number(index, INDEX),
+        number(millis, MILLIS),
+        number(word, WORD),
+    ) {
+        (Some(index), Some(millis), Some(word)) => Ok(Event::Deliver {
+            index,
+            moment: moment(millis, word),
+        }),
+        _ => Err(ScriptError::BadWord { line }),
+    }
+}
+
+// The context at so many milliseconds: the address is there, and the next random word is `word`.
+fn moment(millis: usize, word: usize) -> Moment
+    requires millis { millis ≤ MILLIS }
+    requires word { word ≤ WORD }
+    ensures { moment_value result ≡ moment_at millis word }
+{
+    let now = Instant::from_millis(millis as i64);
+    Moment::new(now, word as u32, true, IP_MTU)
+}

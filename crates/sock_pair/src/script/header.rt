@@ -1,0 +1,53 @@
+// The line that names the buffers' sizes and the limit.
+ghost use Rattle.std.specs.Prelude.{◌≡◌, ◌∷◌};
+ghost use Rattle.sock_pair.specs.ScriptLines.{Gives, header_line, header_of, header_value, sizes_of};
+ghost use Rattle.sock_pair.specs.ScriptText.{words_of};
+ghost use Rattle.sock_pair.specs.ScriptWords.{number_of};
+
+use crate::script::error::ScriptError;
+use crate::script::lines::Line;
+use crate::script::values::{limit, number};
+use crate::script::words::five_words;
+
+// The largest size of a buffer.
+const BUFFER: usize = 65535;
+
+/// The sizes of a's receive and transmit buffer and of b's, and how many bytes each side may accept.
+#[derive(Clone, Copy)]
+pub struct Header {
+    pub sizes: [usize; 4],
+    pub limit: Option<u32>,
+}
+
+/// What the line `pair ARX ATX BRX BTX LIMIT` names, or its fault.
+pub fn read_header(line: &Line<'_>) -> Result<Header, ScriptError>
+    ensures { Gives header_value (header_of line.now.number (line.now.name.now ∷ words_of line.now.values.now)) result }
+{
+    if line.name != b"pair".as_slice() {
+        return Err(ScriptError::NoPairLine { line: line.number });
+    }
+    header_values(line.number, line.values)
+}
+
+#[tactic(auto, unfolding(crate::specs::ScriptLines::header_line))]
+fn header_values(line: usize, values: &[u8]) -> Result<Header, ScriptError>
+    ensures { Gives header_value (header_line line (words_of values.now)) result }
+{
+    let (arx, atx, brx, btx, last) = five_words(values).ok_or(ScriptError::WrongNumberOfWords {
+        line,
+    })?;
+    match (sizes(arx, atx, brx, btx), limit(last)) {
+        (Some(sizes), Some(limit)) => Ok(Header { sizes, limit }),
+        _ => Err(ScriptError::BadWord { line }),
+    }
+}
+
+fn sizes(arx: &[u8], atx: &[u8], brx: &[u8], btx: &[u8]) -> Option<[usize; 4]>
+    ensures { result ≡ sizes_of (number_of 65535 arx.now) (number_of 65535 atx.now) (number_of 65535 brx.now) (number_of 65535 btx.now) }
+{
+    let arx = number(arx, BUFFER)?;
+    let atx = number(atx, BUFFER)?;
+    let brx = number(brx, BUFFER)?;
+    let btx = number(btx, BUFFER)?;
+    Some([arx, atx, brx, btx])
+}

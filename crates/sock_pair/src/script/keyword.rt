@@ -1,0 +1,34 @@
+// The first word of a line.
+ghost use Rattle.std.specs.Prelude.{◌≡◌};
+ghost use Rattle.sock_pair.specs.ScriptWords.{keyword_of};
+
+/// What a line of a script asks for, as its first word names it.
+#[derive(Debug, Clone, Copy, PartialEq, Eq)]
+pub enum Keyword {
+    Listen,
+    Connect,
+    Send,
+    Recv,
+    Dispatch,
+    Fail,
+    Deliver,
+}
+
+impl Keyword {
+    /// The keyword that this word is; none where it is none.
+    #[tactic(auto, unfolding(crate::specs::ScriptWords::keyword_of))]
+    pub fn of_word(word: &[u8]) -> Option<Keyword>
+        ensures { result ≡ keyword_of word.now }
+    {
+        match word {
+            b"listen" => Some(Keyword::Listen),
+            b"connect" => Some(Keyword::Connect),
+            b"send" => Some(Keyword::Send),
+            b"recv" => Some(Keyword::Recv),
+            b"dispatch" => Some(Keyword::Dispatch),
+            b"fail" => Some(Keyword::Fail),
+            b"deliver" => Some(Keyword::Deliver),
+            _ => None,
+        }
+    }
+}

@@ -1,0 +1,84 @@
+// What single words of a line mean.
+ghost use Rattle.std.specs.Prelude.{◌≡◌, ◌≤◌, ◌^◌, ◌<◌, ◌&&◌, nat_le, length, IsTrue, IfSome};
+ghost use Rattle.std.specs.Char.{is_ascii_digit};
+ghost use Rattle.std.specs.List.{list_all};
+ghost use Rattle.sock_pair.specs.ScriptWords.{
+  is_number,
+  is_text,
+  limit_of,
+  number_of,
+  side_of,
+  value_of,
+};
+
+use crate::side::Side;
+
+/// `a` or `b`; none for any other word.
+#[tactic(auto, unfolding(crate::specs::ScriptWords::side_of))]
+pub fn side(word: &[u8]) -> Option<Side>
+    ensures { result ≡ side_of word.now }
+{
+    match word {
+        b"a" => Some(Side::A),
+        b"b" => Some(Side::B),
+        _ => None,
+    }
+}
+
+/// The number that 1 to 10 decimal digits write, where it is at most `most`; none for any other word.
+#[tactic(auto, unfolding(crate::specs::ScriptWords::number_of))]
+pub fn number(word: &[u8], most: usize) -> Option<usize>
+    ensures value { result ≡ number_of most word.now }
+    ensures within { IfSome result (λ n. n ≤ most) }
+{
+    if !is_number(word) {
+        return None;
+    }
+    let value = value(word);
+    if value <= most { Some(value) } else { None }
+}
+
+/// A limit of at most 536870911, or `-` for none.
+#[tactic(auto, unfolding(crate::specs::ScriptWords::limit_of))]
+pub fn limit(word: &[u8]) -> Option<Option<u32>>
+    ensures { result ≡ limit_of word.now }
+{
+    if word == b"-".as_slice() {
+        return Some(None);
+    }
+    let limit = number(word, 536_870_911)?;
+    Some(Some(limit as u32))
+}
+
+/// Whether a word has only bytes from 33 to 126.
+#[tactic(auto, unfolding(crate::specs::ScriptWords::is_text))]
+pub fn is_text(word: &[u8]) -> bool
+    ensures { result ≡ is_text word.now }
+{
+    word.iter().all(|b| 33 <= *b && *b <= 126)
+}
+
+#[tactic(auto, unfolding(crate::specs::ScriptWords::is_number))]
+fn is_number(word: &[u8]) -> bool
+    ensures { result ≡ is_number word.now }
+{
+    !word.is_empty() && word.len() <= 10 && all_digits(word)
+}
+
+fn all_digits(word: &[u8]) -> bool
+    ensures { result ≡ list_all is_ascii_digit word.now }
+{
+    word.iter().all(|b| b.is_ascii_digit())
+}
+
+fn value(digits: &[u8]) -> usize
+    requires few { length digits.now ≤ 10 }
+    requires digits { IsTrue (list_all is_ascii_digit digits.now) }
+    ensures { result ≡ value_of digits.now }
+{
+    let mut value = 0;
+    for digit in digits {
+        value = value * 10 + usize::from(*digit - b'0');
+    }
+    value
+}
