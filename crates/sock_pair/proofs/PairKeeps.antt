@@ -11,12 +11,11 @@ use Rattle.sock_core.specs.Facts.{Facts}
 use Rattle.sock_tcp.specs.Queue.{capacity}
 use Rattle.sock_tcp.specs.View.{View}
 use Rattle.sock_tcp.specs.Queues.{may_send, may_recv, written}
-use Rattle.sock_tcp.specs.Due.{Begun, begun, begun_to, readied, readied_to}
+use Rattle.sock_tcp.specs.Due.{Begun, readied}
 use Rattle.sock_tcp.specs.Content.{Sending, content}
 use Rattle.sock_tcp.specs.Dispatch.{left_by, end_of}
 use Rattle.sock_tcp.specs.declared.tuple.Tuple.{Tuple}
-use Rattle.sock_tcp.specs.Process.{Accepts, AcceptsIn}
-use Rattle.sock_tcp.specs.declared.state.State.TheVariants as state
+use Rattle.sock_tcp.specs.Process.{Accepts}
 use Rattle.sock_pair.specs.Holding.{kept_at, segment_at}
 use Rattle.sock_pair.specs.Moments.{facts_of}
 use Rattle.sock_pair.specs.NetworkRuns.{unopened}

@@ -1,5 +1,5 @@
 -- What the calls of the application do to a socket, as the two streams see it.
-use Rattle.std.proofs.Common.{◌≡◌, ℕ, ◌+◌, ◌-◌, ◌%◌, ◌^◌, ◌<◌, ◌≤◌, true, false, refl, sym, ap, subst, ◌∙◌, arith, List, [], ◌++◌, length, drop, take, length-drop}
+use Rattle.std.proofs.Common.{◌≡◌, ℕ, ◌+◌, ◌%◌, ◌^◌, ◌≤◌, true, false, refl, arith, List, ◌++◌, length, drop, take, length-drop}
 use Rattle.std.specs.Prelude.{min}
 use Rattle.ip_wire.specs.declared.endpoint.IpListenEndpoint.{IpListenEndpoint}
 use Rattle.sock_tcp.specs.View.{View}

@@ -1,10 +1,9 @@
 -- What a dispatch does to a socket, and what it emits, is allowed on the two streams.
-use Rattle.std.proofs.Common.{◌≡◌, ℕ, ◌+◌, ◌-◌, ◌%◌, ◌^◌, ◌<◌, ◌≤◌, ◌⊎◌, Bool, true, false, refl, sym, ap, subst, ◌∙◌, arith, List, [], ◌++◌, length, take, drop, length-drop, length-take, Option, Some, None, inl, inr, ⊎_elim}
-use Rattle.std.specs.Prelude.{min, option_map, not, ◌==◌, if◌then◌else◌}
+use Rattle.std.proofs.Common.{◌≡◌, ℕ, ◌+◌, ◌%◌, ◌^◌, ◌≤◌, ◌⊎◌, Bool, true, false, refl, sym, ap, subst, ◌∙◌, arith, List, [], ◌++◌, length, take, drop, length-drop, Option, Some, None, inl, inr, ⊎_elim}
+use Rattle.std.specs.Prelude.{option_map, ◌==◌, if◌then◌else◌}
 use Rattle.std.proofs.lemmas.List.{take-append-drop}
 use Rattle.net_base.specs.declared.time.Instant.{Instant}
 use Rattle.sock_core.specs.Facts.{Facts}
-use Rattle.control_wire.specs.Seq.{seq_add, seq_sub}
 use Rattle.control_wire.specs.Segment.{Segment, segment_len, control_len}
 use Rattle.control_wire.specs.declared.seq_number.TcpSeqNumber.{TcpSeqNumber}
 use Rattle.control_wire.specs.declared.tcp.TcpControl.{TcpControl}
@@ -16,18 +15,18 @@ use Rattle.sock_tcp.specs.Queue.{IsLent}
 use Rattle.sock_tcp.specs.View.{View}
 use Rattle.sock_tcp.specs.Window.{next_ack}
 use Rattle.sock_tcp.specs.Opening.{renewed}
-use Rattle.sock_tcp.specs.Due.{Begun, begun, begun_to, readied, readied_to, ended, last_dated, dated, moment_of, flight, is_due}
-use Rattle.sock_tcp.specs.Content.{Sending, asked, content, filled, plain_segment, with_syn, with_data, data_control, scale_back, sent_to}
-use Rattle.sock_tcp.specs.Dispatch.{sent, end_of, left_by}
+use Rattle.sock_tcp.specs.Due.{begun, begun_to, readied, readied_to, ended, last_dated, dated, moment_of, flight}
+use Rattle.sock_tcp.specs.Content.{Sending, asked, content, filled, plain_segment, with_data, data_control, sent_to}
+use Rattle.sock_tcp.specs.Dispatch.{sent, end_of}
 use Rattle.sock_tcp.specs.declared.state.State.{State}
 use Rattle.sock_tcp.specs.declared.state.State.TheVariants as state
 use Rattle.sock_tcp.specs.declared.tuple.Tuple.{Tuple}
 use Rattle.sock_pair.specs.PairLaws.{IsBounded, MayEmit}
-use Rattle.sock_pair.specs.PairNetwork.{phase_of, shown, stream_segment, is_rst, is_syn, is_fin}
+use Rattle.sock_pair.specs.PairNetwork.{phase_of, shown, is_rst, is_syn, is_fin}
 use Rattle.sock_pair.specs.StreamCalls.{BeginEffect, Same, IsReset}
-use Rattle.sock_pair.specs.StreamEffects.{MaySend, SndNxtWithin}
-use Rattle.sock_pair.specs.StreamTables.{HasSendingBounds, Content, Syn, Bytes}
-use Rattle.sock_pair.specs.StreamViews.{SynSent, SynReceived, SocketView, StreamSegment, HasIss, KnowsPeer}
+use Rattle.sock_pair.specs.StreamEffects.{SndNxtWithin}
+use Rattle.sock_pair.specs.StreamTables.{Syn, Bytes}
+use Rattle.sock_pair.specs.StreamViews.{HasIss, KnowsPeer}
 use Rattle.sock_core.proofs.Streams.{prefix_le}
 use Rattle.sock_pair.proofs.StreamTables.{content_sent, emit_moves}
 use Rattle.sock_pair.proofs.ShownProcess.{later_shown}
@@ -93,7 +92,6 @@ module _ (v : View) (released taken : ℕ) (bounds : IsBounded v) where
         };
         snd_nxt = subst (λ n. SndNxtWithin (record (shown v) { snd_nxt = n })) (ap (later_number v.remote_last_seq.0) (sym end) ∙ sym (later_shown v.remote_last_seq (end_of s))) (emit_moves (shown v) 1 b (omega arith));
       }
-
 
   data_may_emit : (t : Tuple) (bytes : List ℕ) → HasIss (phase_of v.state) → KnowsPeer (phase_of v.state) → bytes ≡ take (length bytes) (drop (flight v) v.tx_buffer.bytes) → MayEmit v (with_data v bytes (plain_segment v t)) released taken
   unfolding plain_segment

@@ -1,13 +1,13 @@
 -- The network that a pair shows, from either side, and the segments that each side emitted.
-use Rattle.std.proofs.Common.{◌≡◌, ℕ, zero, suc, ◌+◌, ◌-◌, ◌<◌, ◌≤◌, ◌^◌, Bool, true, false, refl, sym, ap, subst, ◌∙◌, arith, List, [], ◌∷◌, ◌++◌, length, Option, Some, None}
+use Rattle.std.proofs.Common.{◌≡◌, ℕ, zero, suc, ◌-◌, ◌<◌, ◌^◌, Bool, true, false, refl, sym, ap, subst, ◌∙◌, arith, List, [], ◌∷◌, ◌++◌, length, Option, Some, None}
 use Rattle.std.specs.Prelude.{nat_le, ◌||◌, slice_index_or}
 use Rattle.std.specs.List.{Contains}
 use Rattle.std.proofs.lemmas.Bool.Decides.{nat_tests}
 use Rattle.std.proofs.lemmas.List.{append-nil}
-use Rattle.sock_pair.specs.Network.{Endpoint, Network, MayArrive, emitted, with_local}
+use Rattle.sock_pair.specs.Network.{Endpoint, Network, MayArrive, emitted}
 use Rattle.sock_pair.specs.NetworkInvariant.{IsInvariant}
 use Rattle.sock_pair.specs.PairNetwork.{endpoint_of, shown_segment, kept_if, sent_by, network_at, network_of}
-use Rattle.sock_pair.specs.PairSteps.{exchanged, is_too_old, is_old}
+use Rattle.sock_pair.specs.PairSteps.{exchanged, is_old}
 use Rattle.sock_pair.specs.PairViews.{HostView, StoredView, PairView, host_of, with_host}
 use Rattle.sock_pair.specs.Sides.{other_side}
 use Rattle.sock_pair.specs.StreamViews.{StreamSegment}

@@ -1,7 +1,6 @@
 -- What `process` does to a socket is an effect of a segment on the two streams.
 use Rattle.std.proofs.Common.{◌≡◌, ℕ, ◌+◌, ◌-◌, ◌*◌, ◌%◌, ◌^◌, ◌<◌, ◌≤◌, Bool, true, false, refl, sym, ap, subst, ◌∙◌, arith, List, [], ◌++◌, length, drop, length-append, Option, Some, None, inl, inr}
-use Rattle.std.specs.Prelude.{◌&&◌, nat_eq, nat_le, option_map, if◌then◌else◌}
-use Rattle.std.specs.Option.{ForSome}
+use Rattle.std.specs.Prelude.{◌&&◌, nat_le, option_map, if◌then◌else◌}
 use Rattle.std.proofs.lemmas.Bool.{eqb-true}
 use Rattle.std.proofs.lemmas.Bool.Decides.{nat_tests}
 use Rattle.std.proofs.lemmas.List.{append-nil}
@@ -24,7 +23,6 @@ use Rattle.sock_tcp.specs.Steps.{Advance, acked_len, advanced, advance_by, goes,
 use Rattle.sock_tcp.specs.Process.{Outcome, stopped, tuple_of, has_window, after_advance, processed_inside, tested, by_verdict, processed}
 use Rattle.sock_tcp.specs.declared.state.State.{State}
 use Rattle.sock_tcp.specs.declared.state.State.TheVariants as state
-use Rattle.sock_tcp.specs.declared.tuple.Tuple.{Tuple}
 use Rattle.sock_tcp.specs.declared.verdict.Verdict.{Verdict}
 use Rattle.sock_tcp.specs.declared.verdict.Verdict.TheVariants as verdicts
 use Rattle.sock_tcp.proofs.Acking.{acked_fits}
@@ -32,12 +30,11 @@ use Rattle.sock_tcp.proofs.Windows.{kept_within}
 use Rattle.sock_pair.specs.PairLaws.{IsBounded}
 use Rattle.sock_pair.specs.PairNetwork.{phase_of, shown, stream_segment, is_rst, is_syn, IsSmall}
 use Rattle.sock_pair.specs.StreamCalls.{ProcessEffect, Nothing, Syn, SynAck, Acknowledgement}
-use Rattle.sock_pair.specs.StreamEffects.{HearsData, HearsAck}
+use Rattle.sock_pair.specs.StreamEffects.{HearsData}
 use Rattle.sock_pair.specs.StreamTables.{OfBytes, OfSyn}
 use Rattle.sock_pair.specs.StreamViews as phase
 use Rattle.sock_pair.specs.StreamViews.{SocketView, StreamSegment, HasIss, KnowsPeer, IsSynchronized, IsNonSynchronized}
 use Rattle.sock_pair.proofs.StreamTables.{passes_heard}
-use Rattle.sock_pair.proofs.StreamCut.{whole_hears}
 
 -- ---- numbers
 

@@ -1,10 +1,10 @@
 -- A segment in order is queued whole before `process` returns.
-use Rattle.std.proofs.Common.{◌≡◌, ℕ, ◌+◌, ◌-◌, ◌%◌, ◌^◌, ◌<◌, ◌≤◌, ◌⊎◌, Bool, true, false, refl, sym, ap, subst, ◌∙◌, arith, List, ◌++◌, length, Option, Some, None, inl, inr, ⊎_elim}
+use Rattle.std.proofs.Common.{◌≡◌, ℕ, Bool, true, false, refl, sym, ap, subst, ◌∙◌, arith, List, ◌++◌, length, Option, Some, None, ⊎_elim}
 use Rattle.std.specs.Prelude.{◌&&◌, nat_eq, nat_le, if◌then◌else◌}
 use Rattle.std.proofs.lemmas.Bool.Decides.{nat_tests}
 use Rattle.ip_wire.specs.declared.repr.IpRepr.{IpRepr}
 use Rattle.net_base.specs.declared.time.Instant.{Instant}
-use Rattle.control_wire.specs.Seq.{seq_eq, seq_sub}
+use Rattle.control_wire.specs.Seq.{seq_sub}
 use Rattle.control_wire.specs.Segment.{Segment, is_plain}
 use Rattle.control_wire.specs.declared.seq_number.TcpSeqNumber.{TcpSeqNumber}
 use Rattle.control_wire.specs.declared.tcp.TcpControl.{TcpControl}
@@ -14,7 +14,6 @@ use Rattle.sock_tcp.specs.View.{View}
 use Rattle.sock_tcp.specs.Window.{next_ack, window_end, receive_window, is_in_order}
 use Rattle.sock_tcp.specs.Steps.{Advance, acked_of, advanced, advance_by, goes, plain_advance, window_taken, released, noted, joined, heard}
 use Rattle.sock_tcp.specs.Process.{Outcome, stopped, tuple_of, has_window, after_advance, processed_inside, tested, by_verdict, processed}
-use Rattle.sock_tcp.specs.declared.state.State.{State}
 use Rattle.sock_tcp.specs.declared.state.State.TheVariants as state
 use Rattle.sock_pair.specs.PairPromises.{IsInOrder}
 

@@ -1,5 +1,5 @@
 -- What the laws of a socket's case tables speak of.
-use Rattle.std.specs.Prelude.{◌≡◌, ℕ, List, []}
+use Rattle.std.specs.Prelude.{◌≡◌, ℕ, []}
 use Rattle.control_wire.specs.Segment.{Segment}
 use Rattle.sock_core.specs.Seq.{later_of}
 use Rattle.sock_tcp.specs.Dispatch.{end_of}
