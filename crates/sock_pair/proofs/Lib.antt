@@ -2,6 +2,7 @@ pub mod ScriptEvents
 pub mod ScriptNumbers
 pub mod ScriptTextLemmas
 pub mod Recordings
+pub mod Deliveries
 pub mod StreamGrowth
 pub mod StreamHearing
 pub mod StreamSending
@@ -18,4 +19,14 @@ pub mod NetworkSegments
 pub mod NetworkSteps
 pub mod NetworkRuns
 pub mod NetworkExample
+pub mod PairHosts
+pub mod ShownProcess
+pub mod ShownCalls
+pub mod ShownDispatch
+pub mod ShownNetworks
+pub mod PairReturns
 pub mod PairKeeps
+pub mod ShownPrompt
+pub mod PairPromises
+pub mod Running
+pub mod NetworkDeliveries

@@ -1,10 +1,11 @@
--- An ordinary run: the handshake, a byte, a close, and a read that answers Finished. So the steps are not empty.
-use Rattle.std.proofs.Common.{◌≡◌, ℕ, zero, suc, ◌+◌, ◌%◌, ◌^◌, Bool, true, false, refl, sym, ap, subst, ◌∙◌, arith, List, [], ◌∷◌, length, Some, None, inl, inr}
-use Rattle.sock_core.specs.Streams.{ByteAt}
-use Rattle.sock_pair.specs.Network.{Accepts, AnswersFinished, Closes, Connects, Emits, Endpoint, HandsOut, HearsAcknowledgement, HearsSyn, HearsSynAck, IsStamped, Listens, Network}
+-- Three runs, so the steps are not empty: an ordinary one, a fall-back to LISTEN, and two sides that connect at once.
+use Rattle.std.proofs.Common.{◌≡◌, ℕ, zero, suc, ◌+◌, ◌%◌, ◌^◌, ◌<◌, Bool, true, false, refl, sym, ap, subst, ◌∙◌, arith, List, [], ◌∷◌, length, Some, None, inl, inr}
+use Rattle.std.proofs.lemmas.List.{append-nil}
+use Rattle.sock_core.specs.Streams.{ByteAt, fin_length}
+use Rattle.sock_pair.specs.Network.{Accepts, AnswersFinished, Closes, Connects, Dies, Emits, EmitsReset, Endpoint, FallsBack, HandsOut, HearsAcknowledgement, HearsSyn, HearsSynAck, HearsSynAlone, IsStamped, Listens, Network}
 use Rattle.sock_pair.specs.NetworkRuns.{Run, start, unopened}
-use Rattle.sock_pair.specs.StreamEffects.{AcksSyn, Brings, HearsData, SendsPayload}
-use Rattle.sock_pair.specs.StreamViews.{Closing, Listening, Phase, Sending, SocketView, StreamSegment, SynReceived, SynSent}
+use Rattle.sock_pair.specs.StreamEffects.{AcksSyn, Brings, HearsData, MaySend, SendsPayload}
+use Rattle.sock_pair.specs.StreamViews.{Closing, Dead, HasIss, KnowsPeer, Listening, Phase, Sending, SocketView, StreamSegment, SynReceived, SynSent}
 
 abbrev view : Phase → ℕ → ℕ → ℕ → List ℕ → List ℕ → Bool → SocketView
 view p una nxt rcv tx rx fin = record { phase = p; snd_una = una; snd_nxt = nxt; rcv_nxt = rcv; transmit_queue = tx; receive_queue = rx; held = λ k. None; fin_counted = fin }
@@ -61,6 +62,30 @@ bare v g seq none fin = record {
   fin = λ e. let no : true ≡ false = sym e ∙ fin in cc;
 }
 
+-- a segment acknowledges one number
+acked : (n a : ℕ) → Some n ≡ Some a → a ≡ n
+acked n a e = cc
+
+-- a first SYN may be sent
+first_syn : (v : SocketView) (g : StreamSegment) → g.rst ≡ false → g.fin ≡ false → g.payload ≡ [] → g.ack ≡ None → v.phase ≡ SynSent → g.seq ≡ v.snd_una → g.seq ≡ v.snd_una % 2 ^ 32 → MaySend v g
+first_syn v g plain fin none no_ack ph at small = record {
+  plain = plain;
+  iss = subst HasIss (sym ph) tt;
+  content = inl (bare v g small none fin);
+  acks = record { says = λ a h. let e : None ≡ Some a = sym no_ack ∙ h in cc };
+  opens = λ e. (inl ph, at);
+}
+
+-- so may a SYN that acknowledges the other
+second_syn : (v : SocketView) (g : StreamSegment) (n : ℕ) → g.rst ≡ false → g.fin ≡ false → g.payload ≡ [] → g.ack ≡ Some n → v.phase ≡ SynReceived → v.rcv_nxt ≡ n → g.seq ≡ v.snd_una → g.seq ≡ v.snd_una % 2 ^ 32 → MaySend v g
+second_syn v g n plain fin none ack ph nxt at small = record {
+  plain = plain;
+  iss = subst HasIss (sym ph) tt;
+  content = inl (bare v g small none fin);
+  acks = record { says = λ a h. (subst KnowsPeer (sym ph) tt, acked n a (sym ack ∙ h) ∙ sym nxt) };
+  opens = λ e. (inr ph, at);
+}
+
 -- the byte and the FIN are heard
 hears_byte : HearsData b2.view b3.view data_fin
 hears_byte = record {
@@ -99,11 +124,11 @@ runs = (
   (
     inl (Connects 1000 (omega arith) refl refl),
     (
-      inl (Emits syn refl (stamped a1 syn refl refl) tt (inl (bare a1.view syn refl refl refl)) (record { says = λ a h. let e : None ≡ Some a = h in cc }) (λ e. (inl refl, refl)) refl),
+      inl (Emits syn (stamped a1 syn refl refl) (first_syn a1.view syn refl refl refl refl refl refl refl) refl),
       (
         inr (HearsSyn syn 5000 (omega arith) (0, omega arith, refl) refl refl refl refl),
         (
-          inr (Emits syn_ack refl (stamped b2 syn_ack refl refl) tt (inl (bare b2.view syn_ack refl refl refl)) (record { says = λ a h. (tt, acked 1001 a h) }) (λ e. (inr refl, refl)) refl),
+          inr (Emits syn_ack (stamped b2 syn_ack refl refl) (second_syn b2.view syn_ack 1001 refl refl refl refl refl refl refl refl) refl),
           (
             inl (HearsSynAck syn_ack a2.view (record { sent = (0, omega arith, refl); plain = refl; may = tt }) refl refl (AcksSyn 1001 refl refl (inl refl) refl refl refl (record { flight = 0; is = refl; le = omega arith })) refl refl refl refl refl refl),
             (
@@ -111,7 +136,7 @@ runs = (
               (
                 inl (Closes refl refl),
                 (
-                  inl (Emits data_fin refl (stamped a4 data_fin refl refl) tt (inl (record { skip = 0; seq = refl; bytes = λ i b h. subst (λ n. ByteAt (7 ∷ []) n b) {x = i} {y = 0 + i} (omega arith) h; within = omega arith; fin = λ e. (refl, refl) })) (record { says = λ a h. (tt, acked 5001 a h) }) (λ e. let no : false ≡ true = e in cc) refl),
+                  inl (Emits data_fin (stamped a4 data_fin refl refl) (record { plain = refl; iss = tt; content = inl (record { skip = 0; seq = refl; bytes = λ i b h. subst (λ n. ByteAt (7 ∷ []) n b) {x = i} {y = 0 + i} (omega arith) h; within = omega arith; fin = λ e. (refl, refl) }); acks = record { says = λ a h. (tt, acked 5001 a h) }; opens = λ e. let no : false ≡ true = e in cc }) refl),
                   (
                     inr (HearsAcknowledgement data_fin b3.view (record { sent = (1, omega arith, refl); plain = refl; may = tt }) tt hears_byte (AcksSyn 5001 refl refl (inr refl) refl refl refl (record { flight = 0; is = refl; le = omega arith })) tt refl),
                     (
@@ -128,10 +153,132 @@ runs = (
     ),
   ),
 )
-  where
-    acked : (n a : ℕ) → Some n ≡ Some a → a ≡ n
-    acked n a e = cc
 
 -- at the end the listener handed out the byte, and its next read answers Finished
 pub ordinary_run : (way : List Network) × (end : Network) × Run (start (Some 10)) way end × (end.remote.handed_out ≡ 7 ∷ []) × AnswersFinished end.remote
 ordinary_run = (way, end, runs, refl, record { counted = refl; empty = refl })
+
+-- ---- a listener falls back
+
+abbrev rst : StreamSegment
+rst = record { syn = false; rst = true; fin = false; seq = 1001; payload = []; ack = None; released_at = 0; taken_at = 0 }
+
+-- the connecting side after its abort, and the listening side after the RST
+abbrev a5 : Endpoint
+a5 = side (view Dead 1000 1000 0 [] [] false) [] [] 0 false false
+
+abbrev b5 : Endpoint
+b5 = side (view Listening 5000 5000 1001 [] [] false) [] [] 0 false true
+
+-- each network on the way
+way_back : List Network
+way_back = net unopened b1 [] [] ∷ net a1 b1 [] [] ∷ net a1 b1 (syn ∷ []) [] ∷ net a1 b2 (syn ∷ []) [] ∷ net a5 b2 (syn ∷ []) [] ∷ net a5 b2 (syn ∷ rst ∷ []) [] ∷ net a5 b5 (syn ∷ rst ∷ []) [] ∷ []
+
+-- each is one step after the one before
+runs_back : Run (start (Some 10)) way_back (net a5 b5 (syn ∷ rst ∷ []) [])
+unfolding way_back
+runs_back = (
+  inr (Listens refl refl),
+  (
+    inl (Connects 1000 (omega arith) refl refl),
+    (
+      inl (Emits syn (stamped a1 syn refl refl) (first_syn a1.view syn refl refl refl refl refl refl refl) refl),
+      (
+        inr (HearsSyn syn 5000 (omega arith) (0, omega arith, refl) refl refl refl refl),
+        (
+          inl (Dies a5.view refl (inl refl) (λ e. let no : false ≡ true = e in cc) refl),
+          (
+            inl (EmitsReset rst refl refl refl),
+            (
+              inr (FallsBack rst (1, omega arith, refl) refl refl refl refl),
+              refl,
+            ),
+          ),
+        ),
+      ),
+    ),
+  ),
+)
+
+-- at the end the listener is in LISTEN again, with the number of its first life still there
+pub fall_back_run : (way : List Network) × (end : Network) × Run (start (Some 10)) way end × (end.remote.view.phase ≡ Listening) × (end.remote.view.snd_una ≡ 5000)
+fall_back_run = (way_back, net a5 b5 (syn ∷ rst ∷ []) [], runs_back, refl, refl)
+
+-- ---- both connect
+
+-- the other side's SYN, and the SYNs with an acknowledgement
+abbrev syn_back : StreamSegment
+syn_back = record { syn = true; rst = false; fin = false; seq = 5000; payload = []; ack = None; released_at = 0; taken_at = 0 }
+
+abbrev syn_ack_there : StreamSegment
+syn_ack_there = record { syn = true; rst = false; fin = false; seq = 1000; payload = []; ack = Some 5001; released_at = 0; taken_at = 0 }
+
+-- each side with its SYN sent, with the other's SYN heard, and with its own acknowledged
+abbrev c1 : Endpoint
+c1 = side (view SynSent 5000 5000 0 [] [] false) [] [] 0 false false
+
+abbrev a6 : Endpoint
+a6 = side (view SynReceived 1000 1001 5001 [] [] false) [] [] 0 false false
+
+abbrev c2 : Endpoint
+c2 = side (view SynReceived 5000 5001 1001 [] [] false) [] [] 0 false false
+
+abbrev c3 : Endpoint
+c3 = side (view Sending 5001 5001 1001 [] [] false) [] [] 0 false false
+
+-- a segment without bytes or a FIN brings nothing
+hears_nothing : (v w : SocketView) (g : StreamSegment) → w.receive_queue ≡ v.receive_queue → ((k b : ℕ) → w.held k ≡ Some b → ⊥) → v.fin_counted ≡ false → w.fin_counted ≡ false → v.rcv_nxt < 2 ^ 32 → w.rcv_nxt ≡ v.rcv_nxt → HearsData v w g
+hears_nothing v w g queue none before after small nxt = record {
+  more = [];
+  receive_queue = queue ∙ sym (append-nil v.receive_queue);
+  joined = λ k b h. let e : None ≡ Some b = h in cc;
+  held = λ k b h. absurd (none k b h);
+  fin = λ e. let no : true ≡ false = sym e ∙ after in cc;
+  kept = λ e. let no : true ≡ false = sym e ∙ before in cc;
+  fins = 0;
+  fin_counts = ap fin_length (after ∙ sym before) ∙ omega arith;
+  rcv_nxt = nxt ∙ omega (arith, small);
+}
+
+-- each network on the way
+way_crossed : List Network
+way_crossed = net a1 unopened [] [] ∷ net a1 c1 [] [] ∷ net a1 c1 (syn ∷ []) [] ∷ net a1 c1 (syn ∷ []) (syn_back ∷ []) ∷ net a6 c1 (syn ∷ []) (syn_back ∷ []) ∷ net a6 c2 (syn ∷ []) (syn_back ∷ []) ∷ net a6 c2 (syn ∷ syn_ack_there ∷ []) (syn_back ∷ []) ∷ net a6 c2 (syn ∷ syn_ack_there ∷ []) (syn_back ∷ syn_ack ∷ []) ∷ net a2 c2 (syn ∷ syn_ack_there ∷ []) (syn_back ∷ syn_ack ∷ []) ∷ net a2 c3 (syn ∷ syn_ack_there ∷ []) (syn_back ∷ syn_ack ∷ []) ∷ []
+
+-- each is one step after the one before
+runs_crossed : Run (start (Some 10)) way_crossed (net a2 c3 (syn ∷ syn_ack_there ∷ []) (syn_back ∷ syn_ack ∷ []))
+unfolding way_crossed
+runs_crossed = (
+  inl (Connects 1000 (omega arith) refl refl),
+  (
+    inr (Connects 5000 (omega arith) refl refl),
+    (
+      inl (Emits syn (stamped a1 syn refl refl) (first_syn a1.view syn refl refl refl refl refl refl refl) refl),
+      (
+        inr (Emits syn_back (stamped c1 syn_back refl refl) (first_syn c1.view syn_back refl refl refl refl refl refl refl) refl),
+        (
+          inl (HearsSynAlone syn_back 1001 (record { flight = 1; is = refl; le = omega arith }) (0, omega arith, refl) refl refl refl refl),
+          (
+            inr (HearsSynAlone syn 5001 (record { flight = 1; is = refl; le = omega arith }) (0, omega arith, refl) refl refl refl refl),
+            (
+              inl (Emits syn_ack_there (stamped a6 syn_ack_there refl refl) (second_syn a6.view syn_ack_there 5001 refl refl refl refl refl refl refl refl) refl),
+              (
+                inr (Emits syn_ack (stamped c2 syn_ack refl refl) (second_syn c2.view syn_ack 1001 refl refl refl refl refl refl refl refl) refl),
+                (
+                  inl (HearsAcknowledgement syn_ack a2.view (record { sent = (1, omega arith, refl); plain = refl; may = tt }) tt (hears_nothing a6.view a2.view syn_ack refl (λ k b h. let e : None ≡ Some b = h in cc) refl refl (omega arith) refl) (AcksSyn 1001 refl refl (inr refl) refl refl refl (record { flight = 0; is = refl; le = omega arith })) tt refl),
+                  (
+                    inr (HearsAcknowledgement syn_ack_there c3.view (record { sent = (1, omega arith, refl); plain = refl; may = tt }) tt (hears_nothing c2.view c3.view syn_ack_there refl (λ k b h. let e : None ≡ Some b = h in cc) refl refl (omega arith) refl) (AcksSyn 5001 refl refl (inr refl) refl refl refl (record { flight = 0; is = refl; le = omega arith })) tt refl),
+                    refl,
+                  ),
+                ),
+              ),
+            ),
+          ),
+        ),
+      ),
+    ),
+  ),
+)
+
+-- at the end both may send
+pub crossed_run : (way : List Network) × (end : Network) × Run (start (Some 10)) way end × (end.local.view.phase ≡ Sending) × (end.remote.view.phase ≡ Sending)
+crossed_run = (way_crossed, net a2 c3 (syn ∷ syn_ack_there ∷ []) (syn_back ∷ syn_ack ∷ []), runs_crossed, refl, refl)

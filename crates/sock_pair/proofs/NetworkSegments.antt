@@ -1,12 +1,12 @@
 -- Segments go out, come and are answered.
-use Rattle.std.proofs.Common.{◌≡◌, ℕ, ◌+◌, ◌-◌, ◌%◌, ◌^◌, ◌<◌, ◌⊎◌, true, false, refl, sym, ap, subst, ◌∙◌, arith, List, [], ◌++◌, length, Some, inl, inr, ⊎_elim, length-append, add-zero}
+use Rattle.std.proofs.Common.{◌≡◌, ◌≤◌, ℕ, ◌+◌, ◌-◌, ◌%◌, ◌^◌, ◌<◌, ◌⊎◌, true, false, refl, sym, ap, subst, ◌∙◌, arith, List, [], ◌++◌, length, Some, inl, inr, ⊎_elim, length-append, add-zero}
 use Rattle.std.specs.List.{Contains}
 use Rattle.std.proofs.lemmas.List.{append-nil}
 use Rattle.sock_core.specs.Places.{number_at}
 use Rattle.sock_core.proofs.Streams.{prefix_self}
 use Rattle.sock_pair.specs.Network.{Arrives, IsStamped, Network, emitted, heard_by, with_local}
 use Rattle.sock_pair.specs.NetworkInvariant.{HasFallenBack, IsInvariant, IsTrueSegment, SameNumbers, SendingMatches}
-use Rattle.sock_pair.specs.StreamEffects.{AcksRcvNxt, HearsAck, HearsData, SameSending, SendsKeepAlive, SendsPayload}
+use Rattle.sock_pair.specs.StreamEffects.{HearsAck, HearsData, MaySend, SameSending}
 use Rattle.sock_pair.specs.StreamModel.{Grows, counted}
 use Rattle.sock_pair.specs.StreamViews.{Dead, HasIss, HasNoIss, IsSynchronized, KnowsPeer, SocketView, StreamSegment, SynReceived, SynSent}
 use Rattle.sock_pair.proofs.NetworkChanges.{changes_keep, comes_here, emit_keep, is_young, remote_has_iss}
@@ -20,22 +20,23 @@ use Rattle.sock_pair.proofs.StreamMatches.{sending_same, sending_view, syn_empty
 use Rattle.sock_pair.proofs.StreamSending.{keep_alive_true, queue_length, sent_payload_true}
 
 -- a segment that is no RST goes out
-pub emits : (w : Network) (g : StreamSegment) → g.rst ≡ false → IsStamped w.local g → HasIss w.local.view.phase → SendsPayload w.local.view g ⊎ SendsKeepAlive w.local.view g → AcksRcvNxt w.local.view g → (g.syn ≡ true → ((w.local.view.phase ≡ SynSent) ⊎ (w.local.view.phase ≡ SynReceived)) × (g.seq ≡ w.local.view.snd_una)) → IsInvariant w → IsInvariant (emitted w g)
-emits w g plain now d part acks syn i =
-    let t = i.outgoing_holds.sending d in
-    let same : SameNumbers i.remote_acked_origin i.remote_origin = ⊎_elim (λ a. a) (λ o. absurd (subst HasIss o.dead d)) i.remote_numbers in
+pub emits : (w : Network) (g : StreamSegment) → IsStamped w.local g → MaySend w.local.view g → IsInvariant w → IsInvariant (emitted w g)
+emits w g now m i =
+    let t = i.outgoing_holds.sending m.iss in
+    let at : g.released_at ≤ i.outgoing.released = omega (arith, now.released, i.outgoing_holds.released) in
+    let same : SameNumbers i.remote_acked_origin i.remote_origin = ⊎_elim (λ a. a) (λ o. absurd (subst HasIss o.dead m.iss)) i.remote_numbers in
     emit_keep w i g
     (inr (record {
-      reset = λ e. let c : true ≡ false = sym e ∙ plain in cc;
-      payload = λ e. ⊎_elim (λ p. sent_payload_true i.local_origin i.outgoing w.local.view i.outgoing_holds.sound t g p (omega (arith, now.released, i.outgoing_holds.released))) (λ p. keep_alive_true i.local_origin i.outgoing w.local.view i.outgoing_holds.sound t g p (omega (arith, now.released, i.outgoing_holds.released))) part;
-      ack = λ e. record { says = λ a is. let s = acks.says a is in (counted i.incoming, s.1 ∙ (i.incoming_holds.receiving s.0).rcv_nxt ∙ sym (same (counted i.incoming + 2)), record { taken = omega arith }, omega (arith, now.taken, i.incoming_holds.taken)) };
+      reset = λ e. let c : true ≡ false = sym e ∙ m.plain in cc;
+      payload = λ e. ⊎_elim (λ p. sent_payload_true i.local_origin i.outgoing w.local.view i.outgoing_holds.sound t g p at) (λ p. keep_alive_true i.local_origin i.outgoing w.local.view i.outgoing_holds.sound t g p at) m.content;
+      ack = λ e. record { says = λ a is. let s = m.acks.says a is in (counted i.incoming, s.1 ∙ (i.incoming_holds.receiving s.0).rcv_nxt ∙ sym (same (counted i.incoming + 2)), record { taken = omega arith }, omega (arith, now.taken, i.incoming_holds.taken)) };
       syn = λ e is.
-          let s = syn is in
+          let s = m.opens is in
           let first : t.place ≡ 1 = (syn_unacked w.local.view.phase i.outgoing t.place s.0 t.phase).0 in
           s.1 ∙ t.snd_una ∙ ap (number_at i.local_origin) first;
     }))
-    (λ u. absurd (no_iss_not_iss w.local.view.phase u d))
-    (λ e a is. (acks.says a is).0)
+    (λ u. absurd (no_iss_not_iss w.local.view.phase u m.iss))
+    (λ e a is. (m.acks.says a is).0)
 
 -- an RST is true where its emitter may send one
 reset_true : (w : Network) (i : IsInvariant w) (k : StreamSegment) → k.rst ≡ true → (w.local.view.phase ≡ Dead) ⊎ ((w.remote.listener ≡ false) × (HasNoIss w.remote.view.phase → ⊥)) → IsTrueSegment w.local w.remote k i.local_origin i.remote_acked_origin i.outgoing i.incoming

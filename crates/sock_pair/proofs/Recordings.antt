@@ -63,28 +63,28 @@ content_len : (v : View) (t : Tuple) (f : Facts) (bytes : List ℕ) → payload_
 unfolding content
 content_len v t f bytes = filled_len v.state v t f bytes (plain_segment v t) (plain_len v t)
 
-asked_len : (v : View) (t : Tuple) (f : Facts) → f.mtu ≤ 65535 → asked v t f ≤ 65535
+asked_len : (v : View) (t : Tuple) (f : Facts) → asked v t f ≤ f.mtu
 unfolding asked
-asked_len v t f h = go (carries_data v.state)
+asked_len v t f = go (carries_data v.state)
   where
-    go : (b : Bool) → (if b then min (window_left v) (effective_mss v t f) else 0) ≤ 65535
-    go true = omega (arith, h)
+    go : (b : Bool) → (if b then min (window_left v) (effective_mss v t f) else 0) ≤ f.mtu
+    go true = omega arith
     go false = omega arith
 
-pub payload_at_most : (v : View) (t : Tuple) (f : Facts) (bytes : List ℕ) (s : Sending) → f.mtu ≤ 65535 → IsLent (asked v t f) (drop (flight v) v.tx_buffer.bytes) bytes → content v t f bytes ≡ Some s → length s.segment.payload ≤ 65535
-payload_at_most v t f bytes s mtu lent e = omega (arith, len_of (content v t f bytes) s e, content_len v t f bytes, asked_len v t f mtu, lent.at_most)
+pub payload_at_most : (v : View) (t : Tuple) (f : Facts) (bytes : List ℕ) (s : Sending) → IsLent (asked v t f) (drop (flight v) v.tx_buffer.bytes) bytes → content v t f bytes ≡ Some s → length s.segment.payload ≤ f.mtu
+payload_at_most v t f bytes s lent e = omega (arith, len_of (content v t f bytes) s e, content_len v t f bytes, asked_len v t f, lent.at_most)
 
 -- ---- the emit's answer
 
-module _ {F : Type 0} (g : Once F (MutBor Recorder × ((IpRepr × TcpRepr) × Unit {0})) (Result (Unit {0}) EmitFailed × (MutBor Recorder × Unit {0}))) (f : F) (fail : Bool) (says : (shown left : MutBor Recorder) (s : IpRepr × TcpRepr) (r : Result (Unit {0}) EmitFailed) → g.post f (shown, (s, tt)) (r, (left, tt)) → EmitSays fail shown.now left.now s r) where
+module _ {F : Type 0} (g : Once F (MutBor Recorder × ((IpRepr × TcpRepr) × Unit {0})) (Result (Unit {0}) EmitFailed × (MutBor Recorder × Unit {0}))) (f : F) (fail : Bool) (mtu : ℕ) (says : (shown left : MutBor Recorder) (s : IpRepr × TcpRepr) (r : Result (Unit {0}) EmitFailed) → g.post f (shown, (s, tt)) (r, (left, tt)) → EmitSays fail shown.now left.now s r) where
   -- the recorder as a dispatch finds it
   pub record IsReady (c : Recorder) : Type 0 where
     pub header : c.header ≡ None
     pub empty : c.payload.items ≡ []
     pub len : vec_len c.payload ≡ 0
-    pub room : 65535 ≤ vec_capacity c.payload
+    pub room : mtu ≤ vec_capacity c.payload
 
-  emitted : (c c' : Recorder) (s : Sending) (v new : View) (r : Result (Unit {0}) EmitFailed) → IsReady c → length s.segment.payload ≤ 65535 → EmitsAt g f c s r c' → new ≡ left_by (Some s) v (is_ok r) → Records fail (Some s) (sent_of r c') × (new ≡ left_by (Some s) v (not fail))
+  emitted : (c c' : Recorder) (s : Sending) (v new : View) (r : Result (Unit {0}) EmitFailed) → IsReady c → length s.segment.payload ≤ mtu → EmitsAt g f c s r c' → new ≡ left_by (Some s) v (is_ok r) → Records fail (Some s) (sent_of r c') × (new ≡ left_by (Some s) v (not fail))
   emitted c c' s v new r ready small e w = go fail refl r refl
     where
       said : EmitSays fail e.shown.now e.left.now e.sent r
@@ -126,9 +126,9 @@ module _ {F : Type 0} (g : Once F (MutBor Recorder × ((IpRepr × TcpRepr) × Un
           (went u x (held (kept_at (Ok u) x).1), left (Ok u) x)
       go false b (Err d) x = absurd (full b d x)
 
-  pub socket_dispatched : (c c' : Recorder) (v new : View) (facts : Facts) (r : Result (Unit {0}) EmitFailed) → IsReady c → facts.mtu ≤ 65535 → Dispatched g f (readied v facts) facts c r c' new → SocketDispatches v facts fail (sent_of r c') new
+  pub socket_dispatched : (c c' : Recorder) (v new : View) (facts : Facts) (r : Result (Unit {0}) EmitFailed) → IsReady c → facts.mtu ≤ mtu → Dispatched g f (readied v facts) facts c r c' new → SocketDispatches v facts fail (sent_of r c') new
   unfolding Dispatched SocketDispatches
-  socket_dispatched c c' v new facts r ready mtu h = to (readied v facts).peer h
+  socket_dispatched c c' v new facts r ready small h = to (readied v facts).peer h
     where
       quiet : (w : View) → r ≡ Ok tt → c' ≡ c → new ≡ w → (sent_of r c' ≡ sent.Quiet)
       quiet w a b d = ap (λ x. sent_of x c') a ∙ ap (λ x. sent_with x c'.payload) (ap (λ x. x.header) b ∙ ready.header)
@@ -142,7 +142,7 @@ module _ {F : Type 0} (g : Once F (MutBor Recorder × ((IpRepr × TcpRepr) × Un
 
           both : (o : Option Sending) → content w t facts d.bytes ≡ o → Emits g f o c r c' → new ≡ left_by o w (is_ok r) → Records fail o (sent_of r c') × (new ≡ left_by o w (not fail))
           both None x e y = (quiet w e.0 e.1 y, y)
-          both (Some s) x e y = emitted c c' s w new r ready (payload_at_most w t facts d.bytes s mtu d.lent x) e y
+          both (Some s) x e y = emitted c c' s w new r ready (omega (arith, small, payload_at_most w t facts d.bytes s d.lent x)) e y
 
 -- ---- the host around the socket
 

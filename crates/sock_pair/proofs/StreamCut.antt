@@ -10,8 +10,8 @@ use Rattle.sock_core.specs.Streams.{ByteAt, IsPrefix, fin_length}
 use Rattle.sock_core.proofs.Numbers.{distance_back, distance_self, distance_up, is_before, later_place, not_before, number_add, sooner_place, sooner_same}
 use Rattle.sock_core.proofs.Streams.{byte_drop, byte_take, byte_within, prefix_from_at}
 use Rattle.sock_pair.specs.StreamEffects.{Brings, HearsData}
+use Rattle.sock_pair.specs.StreamTables.{Gathers, IsInside, JoinsAtOnce, TakesPayload, TakesWhole, cut, cut_from, cut_offset, merged, segment_end}
 use Rattle.sock_pair.specs.StreamViews.{SocketView, StreamSegment}
-use Rattle.sock_pair.specs.StreamTables.{Gathers, IsInside, JoinsAtOnce, TakesPayload, cut, cut_from, cut_offset, merged, segment_end}
 
 -- the cut of a segment at the place s against the window from l up to r
 pub cut_places : (o l r s : ℕ) (g : StreamSegment) → g.seq ≡ number_at o s → l ≤ r → r < l + 2 ^ 30 → s < l + 2 ^ 30 → l < s + 2 ^ 30 → length g.payload ≤ 65535 → s ≤ r → l ≤ s + length g.payload
@@ -214,3 +214,20 @@ module _ (v w : SocketView) (g : StreamSegment) (win : ℕ) (t : TakesPayload v 
   -- so a segment that is taken is heard
   pub takes_hears : HearsData v w g
   takes_hears = ⊎_elim (λ h. none_joins h.0 h.1 h.2) (λ h. some_join h.0 h.1) t.joins
+
+-- a segment that is in order and comes whole, where nothing is held, is heard
+pub whole_hears : (v w : SocketView) (g : StreamSegment) → TakesWhole v w g → HearsData v w g
+whole_hears v w g t = record {
+  more = g.payload;
+  receive_queue = t.receive_queue;
+  joined = λ k b h. inr (k, near k b h, ap (λ n. (n + k) % 2 ^ 32) t.in_order, h);
+  held = λ k b h. absurd (t.none_held k b ((λ i. sym t.held i k) ∙ h));
+  fin = λ e. ⊎_elim (λ was. inl was) (λ new. inr (length g.payload, new, omega arith, omega (arith, t.short), ap (λ n. (n + length g.payload) % 2 ^ 32) t.in_order)) (t.fin e);
+  kept = t.kept;
+  fins = t.fins;
+  fin_counts = t.fin_counts;
+  rcv_nxt = t.rcv_nxt;
+}
+  where
+    near : (k b : ℕ) → ByteAt g.payload k b → k < 2 ^ 31
+    near k b h = omega (arith, byte_within g.payload k b h, t.short)

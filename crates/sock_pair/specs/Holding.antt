@@ -5,7 +5,7 @@ use Rattle.control_wire.specs.Segment.{Segment}
 use Rattle.sock_pair.specs.declared.side.Side.{Side}
 use Rattle.sock_pair.specs.declared.segment.Header.{Header}
 use Rattle.sock_pair.specs.declared.segment.Segment.{Segment as Owned}
-use Rattle.sock_pair.specs.PairViews.{HostView, StoredView}
+use Rattle.sock_pair.specs.PairViews.{StoredView}
 
 abbrev pub segment_at : Header → List ℕ → Segment
 segment_at h payload =
@@ -49,7 +49,7 @@ stored_segment from_side h payload released taken =
 abbrev pub stored_of : Owned → StoredView
 stored_of t = stored_segment t.from t.header t.payload.items t.released_at t.taken_at
 
--- what the side s stores of a segment that it sends, with its counts
-abbrev pub kept_of : Side → HostView → Option (IpRepr × Segment) → List StoredView
-kept_of s h None = []
-kept_of s h (Some r) = record { emitter = s; ip = r.0; segment = r.1; released_at = h.released; taken_at = h.taken } ∷ []
+-- what the side s stores of a reply, with its counts
+abbrev pub kept_at : Side → Option (IpRepr × Segment) → ℕ → ℕ → List StoredView
+kept_at s None released taken = []
+kept_at s (Some r) released taken = record { emitter = s; ip = r.0; segment = r.1; released_at = released; taken_at = taken } ∷ []

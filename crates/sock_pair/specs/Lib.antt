@@ -11,12 +11,16 @@ pub mod Holding
 pub mod Recording
 pub mod PairCalls
 pub mod PairSteps
+pub mod Exchanges
 pub mod PairNetwork
 pub mod PairInvariant
+pub mod PairLaws
+pub mod PairPromises
 pub mod StreamViews
 pub mod StreamEffects
 pub mod StreamModel
 pub mod StreamTables
+pub mod StreamCalls
 pub mod Network
 pub mod NetworkInvariant
 pub mod NetworkRuns

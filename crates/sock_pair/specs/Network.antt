@@ -3,8 +3,8 @@ use Rattle.std.specs.Prelude.{ℕ, ◌≡◌, ◌+◌, ◌-◌, ◌%◌, ◌^◌
 use Rattle.std.specs.List.{Contains}
 use Rattle.std.specs.declared.option.Option.{Option}
 use Rattle.std.specs.declared.option.Option.TheVariants.{Some, None}
-use Rattle.sock_pair.specs.StreamViews.{Unopened, Listening, SynSent, SynReceived, Sending, Closing, Dead, SocketView, StreamSegment, HasIss, HasNoIss, KnowsPeer, IsSynchronized}
-use Rattle.sock_pair.specs.StreamEffects.{HearsData, HearsAck, SndNxtWithin, SendsPayload, SendsKeepAlive, AcksRcvNxt, SameSending}
+use Rattle.sock_pair.specs.StreamViews.{Unopened, Listening, SynSent, SynReceived, Sending, Closing, Dead, SocketView, StreamSegment, HasNoIss, KnowsPeer, IsSynchronized}
+use Rattle.sock_pair.specs.StreamEffects.{HearsData, HearsAck, SndNxtWithin, MaySend, SameSending}
 
 -- one side: its socket, and what was counted of it since the start
 pub record Endpoint : Type 0 where
@@ -150,15 +150,7 @@ pub data Step (old new : Network) : Type 0 where
       → new ≡ with_local old (with_snd_nxt old.local n)
       → Step old new
   -- a segment goes out that is no RST: data or none, an acknowledgement, a SYN at the initial number, a FIN, a keep-alive
-  Emits : (g : StreamSegment)
-      → g.rst ≡ false
-      → IsStamped old.local g
-      → HasIss old.local.view.phase
-      → SendsPayload old.local.view g ⊎ SendsKeepAlive old.local.view g
-      → AcksRcvNxt old.local.view g
-      → (g.syn ≡ true → ((old.local.view.phase ≡ SynSent) ⊎ (old.local.view.phase ≡ SynReceived)) × (g.seq ≡ old.local.view.snd_una))
-      → new ≡ emitted old g
-      → Step old new
+  Emits : (g : StreamSegment) → IsStamped old.local g → MaySend old.local.view g → new ≡ emitted old g → Step old new
   -- an RST goes out after an abort
   EmitsReset : (g : StreamSegment) → g.rst ≡ true → old.local.view.phase ≡ Dead → new ≡ emitted old g → Step old new
   -- a segment comes whose acknowledgement changes nothing

@@ -6,7 +6,7 @@ use Rattle.control_wire.specs.Segment.{Segment}
 use Rattle.sock_tcp.specs.Process.{Accepts, Outcome as Processed, processed}
 use Rattle.sock_pair.specs.Moments.{facts_of}
 use Rattle.sock_pair.specs.PairViews.{HostView, StoredView, PairView, host_of, with_host}
-use Rattle.sock_pair.specs.Holding.{stored_segment, kept_of}
+use Rattle.sock_pair.specs.Holding.{stored_segment, kept_at}
 use Rattle.sock_pair.specs.PairCalls.{listening, connecting, OpensAs, Sends, Receives}
 use Rattle.sock_pair.specs.Recording.{SocketDispatches}
 use Rattle.sock_pair.specs.Sides.{other_side}
@@ -19,12 +19,23 @@ use Rattle.sock_pair.specs.declared.recorder.Sent.{Sent}
 use Rattle.sock_pair.specs.declared.recorder.Sent.TheVariants as sent
 use Rattle.sock_pair.specs.declared.side.Side.{Side}
 
--- ---- an event of one side: the other side and the segments stay as they were
+-- ---- an event of one side: the other side stays as it was
 
+-- and so do the segments
 pub record OneSide (s : Side) (p q : PairView) (Does : HostView → HostView → Type 0) : Type 0 where
   pub host : HostView
   pub does : Does (host_of s p) host
   pub same : q ≡ with_host s p host
+
+abbrev pub exchanged : Side → PairView → HostView → List StoredView → PairView
+exchanged s p h ks = record (with_host s p h) { segments = ks }
+
+-- the list of segments changes too
+pub record OneSideAndSegments (s : Side) (p q : PairView) (Does : HostView → List StoredView → HostView → List StoredView → Type 0) : Type 0 where
+  pub host : HostView
+  pub segments : List StoredView
+  pub does : Does (host_of s p) p.segments host segments
+  pub same : q ≡ exchanged s p host segments
 
 -- ---- dispatch
 
@@ -34,24 +45,20 @@ dispatch_outcome sent.Failed n = outcome.EmitFailed
 dispatch_outcome (sent.Emitted h bytes) n = outcome.Emitted n
 
 -- the segment that went out is stored with the counts of its emitter
-abbrev pub stored_by : Side → HostView → Sent → List StoredView
-stored_by s h sent.Quiet = []
-stored_by s h sent.Failed = []
-stored_by s h (sent.Emitted header bytes) = stored_segment s header bytes.items h.released h.taken ∷ []
-
-abbrev pub with_segments : PairView → List StoredView → PairView
-with_segments p ks = record p { segments = p.segments ++ ks }
+abbrev pub stored_at : Side → Sent → ℕ → ℕ → List StoredView
+stored_at s sent.Quiet released taken = []
+stored_at s sent.Failed released taken = []
+stored_at s (sent.Emitted header bytes) released taken = stored_segment s header bytes.items released taken ∷ []
 
 pub record HostDispatches (m : Moment) (fail : Bool) (h : HostView) (r : Sent) (k : HostView) : Type 0 where
   pub socket : SocketDispatches h.control_block (facts_of m) fail r k.control_block
   pub same : k ≡ record h { control_block = k.control_block }
 
-pub record Dispatches (s : Side) (m : Moment) (fail : Bool) (p : PairView) (o : Outcome) (q : PairView) : Type 0 where
+pub record Dispatches (s : Side) (m : Moment) (fail : Bool) (o : Outcome) (h : HostView) (ks : List StoredView) (h' : HostView) (ks' : List StoredView) : Type 0 where
   pub sent : Sent
-  pub host : HostView
-  pub does : HostDispatches m fail (host_of s p) sent host
-  pub answer : o ≡ dispatch_outcome sent (length p.segments)
-  pub left : q ≡ with_segments (with_host s p host) (stored_by s (host_of s p) sent)
+  pub does : HostDispatches m fail h sent h'
+  pub answer : o ≡ dispatch_outcome sent (length ks)
+  pub stored : ks' ≡ ks ++ stored_at s sent h.released h.taken
 
 -- ---- delivery, to the side that did not emit the segment
 
@@ -59,44 +66,50 @@ pub record Dispatches (s : Side) (m : Moment) (fail : Bool) (p : PairView) (o : 
 abbrev pub is_too_old : ℕ → ℕ → ℕ → ℕ → Bool
 is_too_old released_at released_now taken_at taken_now = nat_le (2 ^ 29) (released_now - released_at) || nat_le (2 ^ 29) (taken_now - taken_at)
 
-abbrev pub is_old : PairView → StoredView → Bool
-is_old p k = is_too_old k.released_at (host_of k.emitter p).released k.taken_at (host_of k.emitter p).taken
+abbrev pub is_old : HostView → StoredView → Bool
+is_old emitter t = is_too_old t.released_at emitter.released t.taken_at emitter.taken
 
 abbrev pub processed_by : HostView → Moment → StoredView → Processed
-processed_by h m k = processed h.control_block (record { micros = m.now.micros }) m.word k.ip k.segment
+processed_by h m t = processed h.control_block (record { micros = m.now.micros }) m.word t.ip t.segment
 
 -- the counts grow by the bytes that left the transmit queue and joined the receive queue
 abbrev pub delivered_to : HostView → Moment → StoredView → HostView
-delivered_to h m k =
+delivered_to h m t =
     record h {
-      control_block = (processed_by h m k).view;
-      released = h.released + (length h.control_block.tx_buffer.bytes - length (processed_by h m k).view.tx_buffer.bytes);
-      taken = h.taken + (length (processed_by h m k).view.rx_buffer.bytes - length h.control_block.rx_buffer.bytes);
+      control_block = (processed_by h m t).view;
+      released = h.released + (length h.control_block.tx_buffer.bytes - length (processed_by h m t).view.tx_buffer.bytes);
+      taken = h.taken + (length (processed_by h m t).view.rx_buffer.bytes - length h.control_block.rx_buffer.bytes);
     }
 
-abbrev pub delivered : Side → PairView → Moment → StoredView → PairView
-delivered s p m k = with_segments (with_host s p (delivered_to (host_of s p) m k)) (kept_of s (delivered_to (host_of s p) m k) (processed_by (host_of s p) m k).reply)
+abbrev pub reply_index : ℕ → Option (IpRepr × Segment) → Option ℕ
+reply_index n r = option_map (λ _. n) r
 
-abbrev pub reply_index : PairView → Option (IpRepr × Segment) → Option ℕ
-reply_index p r = option_map (λ _. length p.segments) r
+abbrev pub IsUnchanged : HostView → List StoredView → HostView → List StoredView → Type 0
+IsUnchanged h ks h' ks' = (h' ≡ h) × (ks' ≡ ks)
 
-abbrev pub DeliversIf : Bool → Side → PairView → Moment → StoredView → Outcome → PairView → Type 0
-DeliversIf true s p m k o q = (o ≡ outcome.Delivered (reply_index p (processed_by (host_of s p) m k).reply)) × (q ≡ delivered s p m k)
-DeliversIf false s p m k o q = (o ≡ outcome.NotAccepted None) × (q ≡ p)
+-- the segment is processed, and the reply is stored with the counts after that
+pub record IsDelivered (s : Side) (m : Moment) (t : StoredView) (o : Outcome) (h : HostView) (ks : List StoredView) (h' : HostView) (ks' : List StoredView) : Type 0 where
+  pub answer : o ≡ outcome.Delivered (reply_index (length ks) (processed_by h m t).reply)
+  pub host : h' ≡ delivered_to h m t
+  pub stored : ks' ≡ ks ++ kept_at s (processed_by h m t).reply (delivered_to h m t).released (delivered_to h m t).taken
+
+abbrev pub DeliversIf : Bool → Side → Moment → StoredView → Outcome → HostView → List StoredView → HostView → List StoredView → Type 0
+DeliversIf true s m t o h ks h' ks' = IsDelivered s m t o h ks h' ks'
+DeliversIf false s m t o h ks h' ks' = (o ≡ outcome.NotAccepted None) × IsUnchanged h ks h' ks'
 
 -- what `accepts` answers decides
-pub record DeliversTo (s : Side) (p : PairView) (m : Moment) (k : StoredView) (o : Outcome) (q : PairView) : Type 0 where
+pub record DeliversYoung (s : Side) (m : Moment) (t : StoredView) (o : Outcome) (h : HostView) (ks : List StoredView) (h' : HostView) (ks' : List StoredView) : Type 0 where
   pub accepted : Bool
-  pub says : IsTrue accepted ↔ Accepts (host_of s p).control_block k.ip k.segment
-  pub does : DeliversIf accepted s p m k o q
+  pub says : IsTrue accepted ↔ Accepts h.control_block t.ip t.segment
+  pub does : DeliversIf accepted s m t o h ks h' ks'
 
-abbrev pub DeliversYoung : Bool → PairView → Moment → StoredView → Outcome → PairView → Type 0
-DeliversYoung true p m k o q = (o ≡ outcome.TooOld) × (q ≡ p)
-DeliversYoung false p m k o q = DeliversTo (other_side k.emitter) p m k o q
+abbrev pub DeliversTo : Bool → Side → Moment → StoredView → Outcome → HostView → List StoredView → HostView → List StoredView → Type 0
+DeliversTo true s m t o h ks h' ks' = (o ≡ outcome.TooOld) × IsUnchanged h ks h' ks'
+DeliversTo false s m t o h ks h' ks' = DeliversYoung s m t o h ks h' ks'
 
 abbrev pub Delivers : Option StoredView → Moment → PairView → Outcome → PairView → Type 0
 Delivers None m p o q = (o ≡ outcome.NoSegment) × (q ≡ p)
-Delivers (Some k) m p o q = DeliversYoung (is_old p k) p m k o q
+Delivers (Some t) m p o q = OneSideAndSegments (other_side t.emitter) p q (DeliversTo (is_old (host_of t.emitter p) t) (other_side t.emitter) m t o)
 
 -- ---- a step and a run
 
@@ -106,7 +119,7 @@ Step (event.Listen s) p o q = OneSide s p q (λ h k. OpensAs h.opening h (listen
 Step (event.Connect s m) p o q = OneSide s p q (λ h k. OpensAs h.opening h (connecting h m (host_of (other_side s) p).endpoint) o k)
 Step (event.SendSlice s bytes) p o q = OneSide s p q (λ h k. Sends p.limit bytes.items h o k)
 Step (event.RecvSlice s size) p o q = OneSide s p q (λ h k. Receives size h o k)
-Step (event.Dispatch s m fail) p o q = Dispatches s m fail p o q
+Step (event.Dispatch s m fail) p o q = OneSideAndSegments s p q (Dispatches s m fail o)
 Step (event.Deliver i m) p o q = Delivers (slice_get p.segments i) m p o q
 
 abbrev pub Run : List Event → PairView → List Outcome → PairView → Type 0

@@ -2,7 +2,7 @@
 use Rattle.std.specs.Prelude.{ℕ, ◌≡◌, ◌+◌, ◌-◌, ◌%◌, ◌^◌, ◌<◌, ◌≤◌, ◌⊎◌, true, false, List, [], ◌++◌, length, drop}
 use Rattle.std.specs.declared.option.Option.TheVariants.{Some}
 use Rattle.sock_core.specs.Streams.{ByteAt, fin_length}
-use Rattle.sock_pair.specs.StreamViews.{SynSent, SynReceived, Sending, Closing, Silent, SocketView, StreamSegment, KnowsPeer}
+use Rattle.sock_pair.specs.StreamViews.{SynSent, SynReceived, Sending, Closing, Silent, SocketView, StreamSegment, HasIss, KnowsPeer}
 
 -- ---- receiving
 
@@ -13,7 +13,7 @@ Brings v g k b = (v.held k ≡ Some b) ⊎ ((i : ℕ) × (k < 2 ^ 31) × ((g.seq
 -- What a segment may do to the receiving half: bytes join the queue's end, each at its number; others are held at theirs; the FIN may be
 -- counted where the segment's end is reached; and RCV.NXT grows by what joined and by the FIN
 pub record HearsData (v w : SocketView) (g : StreamSegment) : Type 0 where
-  pub more : List ℕ
+  pub more : List ℕ  -- the bytes that join
   pub receive_queue : w.receive_queue ≡ v.receive_queue ++ more
   pub joined : (k b : ℕ) → ByteAt more k b → Brings v g k b
   pub held : (k b : ℕ) → w.held k ≡ Some b → Brings v g (length more + k) b
@@ -21,18 +21,18 @@ pub record HearsData (v w : SocketView) (g : StreamSegment) : Type 0 where
       → (v.fin_counted ≡ true)
       ⊎ ((d : ℕ) × (g.fin ≡ true) × (d ≤ length more) × (d < 2 ^ 31) × ((g.seq + length g.payload) % 2 ^ 32 ≡ (v.rcv_nxt + d) % 2 ^ 32))
   pub kept : v.fin_counted ≡ true → w.fin_counted ≡ true
-  pub fins : ℕ
+  pub fins : ℕ  -- 1 where this segment's FIN is counted, else 0
   pub fin_counts : fin_length w.fin_counted ≡ fin_length v.fin_counted + fins
   pub rcv_nxt : w.rcv_nxt ≡ (v.rcv_nxt + length more + fins) % 2 ^ 32
 
--- what a step of the sending half leaves
+-- the receiving half stays
 pub record SameReceiving (v w : SocketView) : Type 0 where
   pub rcv_nxt : w.rcv_nxt ≡ v.rcv_nxt
   pub receive_queue : w.receive_queue ≡ v.receive_queue
   pub held : w.held ≡ v.held
   pub fin : w.fin_counted ≡ v.fin_counted
 
--- what a step of the receiving half leaves
+-- the sending half stays
 pub record SameSending (v w : SocketView) : Type 0 where
   pub phase : w.phase ≡ v.phase
   pub snd_una : w.snd_una ≡ v.snd_una
@@ -43,7 +43,7 @@ pub record SameSending (v w : SocketView) : Type 0 where
 
 -- SND.NXT is at most one number, a FIN's or a SYN's, past the end of the transmit queue
 pub record SndNxtWithin (w : SocketView) : Type 0 where
-  pub flight : ℕ
+  pub flight : ℕ  -- how many numbers are in flight
   pub is : w.snd_nxt ≡ (w.snd_una + flight) % 2 ^ 32
   pub le : flight ≤ length w.transmit_queue + 1
 
@@ -83,7 +83,7 @@ pub data HearsAck (v w : SocketView) (g : StreamSegment) : Type 0 where
 -- A segment whose payload is a part of the transmit queue, which may be empty, at the number of that part. A FIN is sent only while closing, at
 -- the queue's end
 pub record SendsPayload (v : SocketView) (g : StreamSegment) : Type 0 where
-  pub skip : ℕ
+  pub skip : ℕ  -- where the part begins in the queue
   pub seq : g.seq ≡ (v.snd_una + skip) % 2 ^ 32
   pub bytes : (i b : ℕ) → ByteAt g.payload i b → ByteAt v.transmit_queue (skip + i) b
   pub within : skip + length g.payload ≤ length v.transmit_queue + 1
@@ -98,3 +98,12 @@ pub record SendsKeepAlive (v : SocketView) (g : StreamSegment) : Type 0 where
 -- the only acknowledgement that a segment carries is RCV.NXT, once the peer's SYN has come
 pub record AcksRcvNxt (v : SocketView) (g : StreamSegment) : Type 0 where
   pub says : (a : ℕ) → g.ack ≡ Some a → KnowsPeer v.phase × (a ≡ v.rcv_nxt)
+
+-- A segment of a socket that is no RST: a part of the transmit queue or none, or a keep-alive; a SYN only at the initial number, before it is
+-- acknowledged
+pub record MaySend (v : SocketView) (g : StreamSegment) : Type 0 where
+  pub plain : g.rst ≡ false
+  pub iss : HasIss v.phase
+  pub content : SendsPayload v g ⊎ SendsKeepAlive v g
+  pub acks : AcksRcvNxt v g
+  pub opens : g.syn ≡ true → ((v.phase ≡ SynSent) ⊎ (v.phase ≡ SynReceived)) × (g.seq ≡ v.snd_una)

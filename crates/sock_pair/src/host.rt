@@ -1,18 +1,20 @@
 // One side of a pair: its socket, and what it accepted and handed out.
 ghost use Rattle.std.specs.Prelude.{◌≡◌, ◌+◌, ◌-◌, ◌≤◌, ◌<◌, ◌^◌, ◌++◌, ◌↔◌, IsTrue, length, option_map, Some, [], not, false, IfOk, OnOk, OnErr, vec_len, vec_capacity};
+ghost use Rattle.std.specs.Option.{ForSome};
 ghost use Rattle.control_wire.specs.Segment.{segment_of};
 ghost use Rattle.sock_tcp.specs.Process.{Accepts, processed};
 ghost use Rattle.sock_pair.specs.Moments.{facts_of};
 ghost use Rattle.sock_pair.specs.Holding.{stored_of};
 ghost use Rattle.sock_pair.specs.Recording.{Holds, SocketDispatches};
 
+use crate::exchange::Counts;
 use crate::moment::Moment;
 use crate::outcome::{Outcome, PairError};
 use crate::recorder::{EmitFailed, Recorder, Sent};
 use crate::segment::Segment;
 use control_wire::TcpRepr;
 use ip_wire::{IpEndpoint, IpListenEndpoint, IpRepr};
-use sock_tcp::{Reply, Socket};
+use sock_tcp::{Reply, Socket, SocketBuffer};
 use std::alloc::Global;
 use std::marker::Model;
 
@@ -46,11 +48,55 @@ impl<'a> Model for Host<'a> {
 }
 
 impl<'a> Host<'a> {
-    ghost use Rattle.sock_tcp.specs.Process.{Outcome as Processed};
-    ghost use Rattle.sock_pair.specs.PairCalls.{listening, connecting, OpensAs, Sends, Receives};
+    ghost use Rattle.sock_tcp.specs.View.{fresh};
+    ghost use Rattle.sock_tcp.specs.Queue.{queue_of, capacity};
+    ghost use Rattle.sock_tcp.specs.Queues.{may_send};
+    ghost use Rattle.sock_pair.specs.PairViews.{new_host};
+    ghost use Rattle.sock_pair.specs.PairCalls.{listening, connecting, OpensAs, SendsIf, Receives};
     ghost use Rattle.sock_pair.specs.PairSteps.{HostDispatches, delivered_to, processed_by};
     ghost use Rattle.sock_pair.specs.PairInvariant.{IsHost, IsReachable};
     ghost use Rattle.ip_wire.specs.Address.{SameVersion};
+
+    pub(crate) fn new(alloc: Global, rx: SocketBuffer<'a>, tx: SocketBuffer<'a>, endpoint: IpEndpoint) -> Host<'a>
+        requires rx { length rx.queue + length rx.spare ≤ 2 ^ 30 }
+        requires tx { length tx.queue + length tx.spare ≤ 2 ^ 30 }
+        ensures { result ≡ new_host (fresh (queue_of rx.entry) (queue_of tx.entry)) endpoint }
+    {
+        Host {
+            socket: Socket::new(rx, tx),
+            endpoint,
+            opening: Opening::Unopened,
+            accepted: Vec::new(alloc),
+            handed_out: Vec::new(alloc),
+            released: 0,
+            taken: 0,
+        }
+    }
+
+    pub(crate) fn endpoint(&self) -> IpEndpoint
+        ensures { result ≡ self.now.endpoint }
+    {
+        self.endpoint
+    }
+
+    pub(crate) fn counts(&self) -> Counts
+        ensures released { result.released ≡ self.now.released }
+        ensures taken { result.taken ≡ self.now.taken }
+    {
+        Counts {
+            released: self.released,
+            taken: self.taken,
+        }
+    }
+
+    // Says that its receive buffer has at most 2^30 bytes, and that the bytes accepted are fewer than 2^63.
+    pub(crate) fn in_range(&self)
+        ensures receive { capacity self.now.control_block.rx_buffer ≤ 2 ^ 30 }
+        ensures accepted { length self.now.accepted < 2 ^ 63 }
+    {
+        self.socket.recv_queue();
+        self.accepted.len();
+    }
 
     fn listen_endpoint(&self) -> IpListenEndpoint
         ensures addr { result.addr ≡ Some self.now.endpoint.addr }
@@ -91,16 +137,18 @@ impl<'a> Host<'a> {
         Outcome::Opened
     }
 
+    pub(crate) fn accepted_len(&self) -> usize
+        ensures { result ≡ length self.now.accepted }
+    {
+        self.accepted.len()
+    }
+
     // What fits of the bytes, once there is room to keep all of them.
-    pub(crate) fn send(&mut self, limit: Option<u32>, bytes: &[u8]) -> Result<Outcome, PairError>
-        ensures step { IfOk result (λ o. Sends limit bytes.now self.old o self.new) }
+    pub(crate) fn send(&mut self, bytes: &[u8]) -> Result<Outcome, PairError>
+        ensures step { IfOk result (λ o. SendsIf (may_send self.old.control_block.state) self.old bytes.now o self.new) }
+        ensures small { IfOk result (λ _. length self.new.control_block.tx_buffer.bytes ≤ 2 ^ 30) }
         ensures memory { OnErr result (self.new ≡ self.old) }
     {
-        if let Some(limit) = limit {
-            if self.accepted.len() + bytes.len() > limit as usize {
-                return Ok(Outcome::StreamLimit);
-            }
-        }
         if let Err(_) = self.accepted.reserve(bytes.len()) {
             return Err(PairError::Memory);
         }
@@ -135,10 +183,10 @@ impl<'a> Host<'a> {
         }
     }
 
-    // One dispatch, into a room that was made before.
+    // One dispatch, into a room that was made before: no payload is longer than the largest IP packet.
     pub(crate) fn dispatch(&mut self, moment: &Moment, room: Vec<u8>, fail: bool) -> Sent
         requires empty { room.items ≡ [] }
-        requires roomy { 65535 ≤ vec_capacity room }
+        requires roomy { moment.now.ip_mtu ≤ vec_capacity room }
         ensures { HostDispatches moment.entry.now fail self.old result self.new }
     {
         let mut recorder = Recorder {
@@ -168,6 +216,7 @@ impl<'a> Host<'a> {
         requires released { self.old.released < 2 ^ 63 }
         requires taken { self.old.taken < 2 ^ 63 }
         ensures view { self.new ≡ delivered_to self.old moment.entry.now (stored_of segment.now) }
+        ensures bare { ForSome result (λ r. r.1.payload.now ≡ []) }
         ensures reply { option_map (λ r. (r.0, segment_of r.1)) result ≡ (processed_by self.old moment.entry.now (stored_of segment.now)).reply }
     {
         let mut cx = *moment;

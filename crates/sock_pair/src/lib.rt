@@ -2,10 +2,12 @@
 #![tactic(auto)]
 
 pub mod event;
+mod exchange;
 mod host;
+pub mod laws;
 pub mod moment;
 pub mod outcome;
-//pub mod pair;
+pub mod pair;
 mod recorder;
 pub mod script;
 pub mod segment;
@@ -15,6 +17,7 @@ pub mod streams;
 pub use event::Event;
 pub use moment::Moment;
 pub use outcome::{Outcome, PairError};
-//pub use pair::{Pair, Setup, too_old};
+pub use exchange::too_old;
+pub use pair::{Pair, Setup};
 pub use segment::Segment;
 pub use side::Side;

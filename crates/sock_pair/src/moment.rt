@@ -1,5 +1,5 @@
 // The context of one call.
-ghost use Rattle.std.specs.Prelude.{◌≡◌};
+ghost use Rattle.std.specs.Prelude.{◌≡◌, ◌<◌, ◌^◌};
 ghost use Rattle.sock_core.specs.Bounds.{IsMoment, IsMtu};
 
 use ip_wire::{ChecksumCapabilities, IpAddress, Ipv4Address, Ipv6Address};
@@ -15,6 +15,7 @@ pub struct Moment {
     pub ip_mtu: usize,
     pub ghost moment: { IsMoment now.micros },
     pub ghost mtu: { IsMtu ip_mtu },
+    pub ghost fits: { word < 2 ^ 32 },
 }
 
 impl Moment {

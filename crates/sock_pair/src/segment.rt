@@ -63,6 +63,7 @@ pub struct Segment {
 impl Segment {
     ghost use Rattle.control_wire.specs.Segment.{segment_of};
     ghost use Rattle.sock_pair.specs.Holding.{stored_of, stored_segment};
+    ghost use Rattle.sock_pair.specs.PairNetwork.{IsSmall};
 
     /// The form that a socket reads.
     pub fn as_repr(&self) -> TcpRepr<'_>
@@ -81,6 +82,17 @@ impl Segment {
             sack_ranges: self.header.sack_ranges,
             timestamp: self.header.timestamp,
             payload: self.payload.as_slice(),
+        }
+    }
+
+    // Says that its numbers have 32 bits.
+    pub(crate) fn in_range(&self)
+        ensures { IsSmall (stored_of self.now).segment }
+    {
+        self.header.seq_number.in_range();
+        match self.header.ack_number {
+            None => {}
+            Some(ack) => ack.in_range(),
         }
     }
 

@@ -1,13 +1,15 @@
 //! The theorem on two streams, as laws: functions whose contracts are the theorem and whose bodies are empty.
 //! The definitions stand in `specs/`, and docs/THEOREM.md explains them.
 ghost use Rattle.std.specs.Prelude.{◌≡◌, ℕ, ◌+◌, ◌-◌, ◌%◌, ◌<◌, ◌≤◌, ◌^◌, ◌⊎◌, false, List, [], ◌∷◌, length, take, drop, min, max};
+ghost use Rattle.std.specs.List.{Contains};
 ghost use Rattle.std.specs.declared.option.Option.{Option};
 ghost use Rattle.std.specs.declared.option.Option.TheVariants.{Some, None};
 ghost use Rattle.sock_core.specs.Places.{number_at, number_distance, number_is_before, later_number};
-ghost use Rattle.sock_pair.specs.StreamViews.{SocketView, StreamSegment};
+ghost use Rattle.sock_pair.specs.StreamViews.{Listening, Sending, SocketView, StreamSegment, HasIss, IsNonSynchronized};
 ghost use Rattle.sock_pair.specs.StreamEffects.{HearsData, HearsAck, SendsPayload, SendsKeepAlive, SndNxtWithin};
-ghost use Rattle.sock_pair.specs.StreamTables.{cut, Gathers, JoinsAtOnce, TakesPayload, HasSendingBounds, AckPasses, Content};
-ghost use Rattle.sock_pair.specs.Network.{Network, Step, swapped, AnswersFinished};
+ghost use Rattle.sock_pair.specs.StreamTables.{cut, Gathers, JoinsAtOnce, TakesPayload, TakesWhole, HasSendingBounds, AckPasses, Content};
+ghost use Rattle.sock_pair.specs.StreamCalls.{ProcessEffect, ReplyEffect, BeginEffect, EmitEffect};
+ghost use Rattle.sock_pair.specs.Network.{Network, Step, swapped, AnswersFinished, MayArrive, IsStamped, with_local, with_view, heard_by, emitted};
 ghost use Rattle.sock_pair.specs.NetworkInvariant.{IsLimit, IsInvariant};
 ghost use Rattle.sock_pair.specs.NetworkRuns.{start, Run, AreDelivered, AlwaysDelivers, AlwaysCompletes, AlwaysEnds, OnlyAdds};
 
@@ -43,15 +45,39 @@ pub fn a_step_only_adds()
     ensures { (old new : Network) → Step old new → OnlyAdds old new }
 {}
 
-/// The steps are not empty: an ordinary run, of a handshake, one byte, a close and a read, hands out the byte, and the next read
-/// answers `Finished`.
-pub fn an_ordinary_run()
-    ensures { (way : List Network) × (end : Network) × Run (start (Some 10)) way end × (end.remote.handed_out ≡ 7 ∷ []) × AnswersFinished end.remote }
+/// The steps are not empty. An ordinary run, of a handshake, one byte, a close and a read, hands out the byte, and the next read
+/// answers `Finished`. An abort of the connecting side sends the listener back to LISTEN. Two sides that connect at once both
+/// come to send.
+pub fn runs_exist()
+    ensures ordinary { (way : List Network) × (end : Network) × Run (start (Some 10)) way end × (end.remote.handed_out ≡ 7 ∷ []) × AnswersFinished end.remote }
+    ensures fall_back { (way : List Network) × (end : Network) × Run (start (Some 10)) way end × (end.remote.view.phase ≡ Listening) × (end.remote.view.snd_una ≡ 5000) }
+    ensures both_connect { (way : List Network) × (end : Network) × Run (start (Some 10)) way end × (end.local.view.phase ≡ Sending) × (end.remote.view.phase ≡ Sending) }
+{}
+
+/// Whole calls keep the invariant, by what they may do to one socket: a delivery, its reply, the beginning of a dispatch, and
+/// what that emits. The calls of the application are steps already.
+pub fn calls_keep_the_invariant()
+    ensures delivery { (w : Network) (g : StreamSegment) (v : SocketView) → Contains w.remote_segments g → MayArrive w.limit g w.remote → ProcessEffect w.local.listener w.local.view v g → IsInvariant w → IsInvariant (with_local w (heard_by w.local v)) }
+    ensures reply { (w : Network) (g answer : StreamSegment) → Contains w.remote_segments g → IsStamped w.local answer → ReplyEffect w.local.view g answer → IsInvariant w → IsInvariant (emitted w answer) }
+    ensures beginning { (w : Network) (v : SocketView) → BeginEffect w.local.view v → IsInvariant w → IsInvariant (with_local w (with_view w.local v)) }
+    ensures emission { (w : Network) (g : StreamSegment) → IsStamped w.local g → EmitEffect w.local.view g → IsInvariant w → IsInvariant (emitted w g) }
+{}
+
+/// What the invariant says of one socket: SND.UNA and SND.NXT are in their bounds once there is an initial sequence number, and
+/// before any byte can have come the receive queue is empty.
+pub fn bounds_of_a_socket()
+    ensures sending { (w : Network) → IsInvariant w → HasIss w.local.view.phase → HasSendingBounds w.local.view }
+    ensures receiving { (w : Network) → IsInvariant w → IsNonSynchronized w.local.view.phase → w.local.view.receive_queue ≡ [] }
 {}
 
 /// A segment that lies inside the receive window, and that is cut to it and taken as the case tables say, is heard.
 pub fn taken_segment_is_heard()
     ensures { (v w : SocketView) (g : StreamSegment) (win : ℕ) → TakesPayload v w g win → HearsData v w g }
+{}
+
+/// A segment at RCV.NXT that is taken whole, by a socket that holds nothing out of order, is heard.
+pub fn whole_segment_is_heard()
+    ensures { (v w : SocketView) (g : StreamSegment) → TakesWhole v w g → HearsData v w g }
 {}
 
 /// Bytes that are taken in order join the receive queue at once, followed by the bytes that were held behind them.

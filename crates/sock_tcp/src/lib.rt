@@ -21,3 +21,6 @@ pub use error::{ConnectError, ListenError, RecvError, SendError};
 pub use process::Reply;
 pub use socket::{Socket, SocketBuffer};
 pub use state::State;
+
+#[cfg(test)]
+mod tests;

@@ -1,7 +1,7 @@
 // `accepts` and `process` (RFC 9293, section 3.10.7).
-ghost use Rattle.std.specs.Prelude.{◌≡◌, ◌≤◌, ◌<◌, ◌^◌, ◌↔◌, IsTrue, length, option_map, Option};
-ghost use Rattle.ip_wire.specs.declared.repr.IpRepr.{IpRepr as Header};
-ghost use Rattle.control_wire.specs.Segment.{Segment, segment_of};
+ghost use Rattle.std.specs.Prelude.{◌≡◌, ◌≤◌, ◌↔◌, IsTrue, length, option_map, [], None};
+ghost use Rattle.std.specs.Option.{ForSome};
+ghost use Rattle.control_wire.specs.Segment.{segment_of};
 ghost use Rattle.sock_tcp.specs.Same.{SameQueues};
 ghost use Rattle.sock_tcp.specs.Verdict.{verdict_of};
 ghost use Rattle.sock_tcp.specs.Steps.{advanced};
@@ -175,6 +175,7 @@ impl<'a> ControlBlock<'a> {
         repr: &TcpRepr<'_>,
     ) -> Option<Reply>
         ensures table { record { view = self.new; reply = option_map (λ r. (r.0, segment_of r.1)) result } ≡ processed self.old (record { micros = (C.facts cx.old).now }) (C.word_at cx.old 0) ip_repr.now (segment_of repr.now) }
+        ensures bare { ForSome result (λ r. r.1.payload.now ≡ []) }
         ensures context { Draws (draws (verdict_of self.old repr.now.control repr.now.ack_number) self.old.state repr.now.control) C.facts C.word_at cx.old cx.new }
     {
         let now = cx.now();

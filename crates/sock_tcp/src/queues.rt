@@ -44,6 +44,7 @@ impl<'a> ControlBlock<'a> {
     pub(crate) fn send_slice(&mut self, data: &[u8]) -> Result<usize, SendError>
         ensures answer { result ≡ (if may_send self.old.state then Ok (min (length «data».now) self.old.tx_buffer.window) else Err SendError.InvalidState) }
         ensures view { self.new ≡ (if may_send self.old.state then written self.old «data».now else self.old) }
+        ensures small { length self.new.tx_buffer.bytes ≤ 2 ^ 30 }
     {
         if !self.may_send() {
             return Err(SendError::InvalidState);

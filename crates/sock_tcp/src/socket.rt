@@ -1,5 +1,6 @@
 // The TCP socket as its users see it.
-ghost use Rattle.std.specs.Prelude.{◌≡◌, ◌≤◌, ◌^◌, ◌+◌, ◌++◌, ◌↔◌, IsTrue, length, take, drop, min, option_map, None, Ok, Err, IfOk, OnErr, is_ok, if◌then◌else◌};
+ghost use Rattle.std.specs.Prelude.{◌≡◌, ◌≤◌, ◌^◌, ◌+◌, ◌++◌, ◌↔◌, IsTrue, length, take, drop, min, option_map, [], Ok, Err, IfOk, OnErr, is_ok, if◌then◌else◌};
+ghost use Rattle.std.specs.Option.{ForSome};
 ghost use Rattle.control_wire.specs.Segment.{segment_of};
 ghost use Rattle.sock_tcp.specs.Queue.{queue_of, capacity};
 ghost use Rattle.sock_tcp.specs.View.{fresh};
@@ -181,6 +182,7 @@ impl<'a> Socket<'a> {
     pub fn send_slice(&mut self, data: &[u8]) -> Result<usize, SendError>
         ensures answer { result ≡ (if may_send self.old.control_block.state then Ok (min (length «data».now) self.old.control_block.tx_buffer.window) else Err SendError.InvalidState) }
         ensures view { self.new.control_block ≡ (if may_send self.old.control_block.state then written self.old.control_block «data».now else self.old.control_block) }
+        ensures small { length self.new.control_block.tx_buffer.bytes ≤ 2 ^ 30 }
     {
         self.control_block.send_slice(data)
     }
@@ -200,7 +202,7 @@ impl<'a> Socket<'a> {
     /// How many bytes were given to the socket and are not acknowledged: at most 2^30.
     pub fn send_queue(&self) -> usize
         ensures value { result ≡ length self.now.control_block.tx_buffer.bytes }
-        ensures small { result ≤ 2 ^ 30 }
+        ensures small { capacity self.now.control_block.tx_buffer ≤ 2 ^ 30 }
     {
         self.control_block.tx_buffer.len()
     }
@@ -208,7 +210,7 @@ impl<'a> Socket<'a> {
     /// How many bytes came and were not read: at most 2^30.
     pub fn recv_queue(&self) -> usize
         ensures value { result ≡ length self.now.control_block.rx_buffer.bytes }
-        ensures small { result ≤ 2 ^ 30 }
+        ensures small { capacity self.now.control_block.rx_buffer ≤ 2 ^ 30 }
     {
         self.control_block.rx_buffer.len()
     }
@@ -221,7 +223,7 @@ impl<'a> Socket<'a> {
         self.control_block.accepts(ip_repr, repr)
     }
 
-    /// Takes a segment that `accepts` holds of, and gives the one that answers it, if any.
+    /// Takes a segment that `accepts` holds of, and gives the one that answers it, if any; that one has no payload.
     pub fn process<C: Context>(
         &mut self,
         cx: &mut C,
@@ -230,6 +232,7 @@ impl<'a> Socket<'a> {
     ) -> Option<Reply>
         requires { Accepts self.old.control_block ip_repr.now (segment_of repr.now) }
         ensures table { record { view = self.new.control_block; reply = option_map (λ r. (r.0, segment_of r.1)) result } ≡ processed self.old.control_block (record { micros = (C.facts cx.old).now }) (C.word_at cx.old 0) ip_repr.now (segment_of repr.now) }
+        ensures bare { ForSome result (λ r. r.1.payload.now ≡ []) }
         ensures context { Draws (draws (verdict_of self.old.control_block repr.now.control repr.now.ack_number) self.old.control_block.state repr.now.control) C.facts C.word_at cx.old cx.new }
     {
         self.control_block.process(cx, ip_repr, repr)

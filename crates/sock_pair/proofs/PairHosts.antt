@@ -1,0 +1,137 @@
+-- What each event keeps of a host, and of a pair but for its network.
+use Rattle.std.proofs.Common.{◌≡◌, ℕ, ◌<◌, ◌≤◌, Bool, true, false, List, [], length, Option, Some, None, refl, sym, ap, subst, ◌∙◌, arith}
+use Rattle.std.specs.Prelude.{IsTrue, not, ◌==◌, if◌then◌else◌, min}
+use Rattle.ip_wire.specs.Address.{SameVersion}
+use Rattle.ip_wire.specs.declared.endpoint.IpEndpoint.{IpEndpoint}
+use Rattle.sock_core.specs.Facts.{Facts}
+use Rattle.sock_tcp.specs.Queue.{Queue}
+use Rattle.sock_tcp.specs.View.{View, fresh}
+use Rattle.sock_tcp.specs.Due.{Begun, begun, begun_to, readied, readied_to, ended}
+use Rattle.sock_tcp.specs.Process.{Accepts, AcceptsIn}
+use Rattle.sock_tcp.specs.Queues.{may_send, may_recv, receives, can_recv}
+use Rattle.sock_tcp.specs.declared.state.State.{State}
+use Rattle.sock_tcp.specs.declared.state.State.TheVariants as state
+use Rattle.sock_pair.specs.Moments.{facts_of}
+use Rattle.sock_pair.specs.NetworkInvariant.{IsInvariant, IsLimit}
+use Rattle.sock_pair.specs.PairCalls.{listening, connecting, OpensAs, Sends, SendsUnder, SendsIf, is_over, sending, Receives, ReceivesIf, receiving}
+use Rattle.sock_pair.specs.PairInvariant.{IsIdle, IsReachable, IsHost, IsPair}
+use Rattle.sock_pair.specs.PairNetwork.{network_of}
+use Rattle.sock_pair.specs.PairSteps.{HostDispatches, Dispatches, DeliversTo, DeliversIf, exchanged}
+use Rattle.sock_pair.specs.PairViews.{HostView, StoredView, PairView, host_of, with_host, new_host}
+use Rattle.sock_pair.specs.Recording.{SocketDispatches, SendsFrom}
+use Rattle.sock_pair.specs.declared.host.Opening.{Opening}
+use Rattle.sock_pair.specs.declared.host.Opening.TheVariants as opening
+use Rattle.sock_pair.specs.declared.moment.Moment.{Moment}
+use Rattle.sock_pair.specs.declared.outcome.Outcome.{Outcome}
+use Rattle.sock_pair.specs.declared.recorder.Sent.{Sent}
+use Rattle.sock_pair.specs.declared.side.Side.{Side}
+use Rattle.sock_pair.specs.declared.side.Side.TheVariants.{A, B}
+use Rattle.sock_pair.proofs.NetworkRuns.{starts}
+
+-- a host that is one still, on the same endpoint
+pub record StaysHost (h k : HostView) : Type 0 where
+  pub host : IsHost k
+  pub endpoint : k.endpoint ≡ h.endpoint
+
+pub unchanged : (h k : HostView) → IsHost h → k ≡ h → StaysHost h k
+unchanged h k i e = record { host = subst IsHost (sym e) i; endpoint = ap (λ (x : HostView). x.endpoint) e }
+
+-- ---- opening
+
+opens : (w : Opening) (h n k : HostView) (o : Outcome) → IsHost h → StaysHost h n → OpensAs w h n o k → StaysHost h k
+opens opening.Unopened h n k o i s e = subst (StaysHost h) (sym e.1) s
+opens opening.Listener h n k o i s e = unchanged h k i e.1
+opens opening.Connector h n k o i s e = unchanged h k i e.1
+
+pub listen_stays : (h k : HostView) (o : Outcome) → IsHost h → OpensAs h.opening h (listening h) o k → StaysHost h k
+listen_stays h k o i e = opens h.opening h (listening h) k o i (record { host = record { reachable = i.reachable; idle = λ n. let no : opening.Listener ≡ opening.Unopened = n in cc }; endpoint = refl }) e
+
+pub connect_stays : (h k : HostView) (m : Moment) (remote : IpEndpoint) (o : Outcome) → IsHost h → OpensAs h.opening h (connecting h m remote) o k → StaysHost h k
+connect_stays h k m remote o i e = opens h.opening h (connecting h m remote) k o i (record { host = record { reachable = i.reachable; idle = λ n. let no : opening.Connector ≡ opening.Unopened = n in cc }; endpoint = refl }) e
+
+-- ---- sending and receiving
+
+pub cannot_send : (h : HostView) → IsHost h → may_send h.control_block.state ≡ true → h.opening ≡ opening.Unopened → ⊥
+cannot_send h i m u = let no : false ≡ true = sym (ap may_send (i.idle u).state) ∙ m in cc
+
+pub cannot_recv : (h : HostView) → IsHost h → may_recv h.control_block ≡ true → h.opening ≡ opening.Unopened → ⊥
+cannot_recv h i m u =
+    let none : can_recv h.control_block ≡ false = ap (λ (q : List ℕ). not (length q == 0)) (i.idle u).rx in
+    let closed : receives h.control_block.state ≡ false = ap receives (i.idle u).state in
+    let both : may_recv h.control_block ≡ false = ap (λ b. if b then true else can_recv h.control_block) closed ∙ none in
+    let no : false ≡ true = sym both ∙ m in cc
+
+pub send_stays : (h k : HostView) (limit : Option ℕ) (bs : List ℕ) (o : Outcome) → IsHost h → Sends limit bs h o k → StaysHost h k
+send_stays h k limit bs o i e = go (is_over limit _) e
+  where
+    take_some : (b : Bool) → may_send h.control_block.state ≡ b → SendsIf b h bs o k → StaysHost h k
+    take_some true m x = subst (StaysHost h) (sym x.1) (record { host = record { reachable = i.reachable; idle = λ u. absurd (cannot_send h i m u) }; endpoint = refl })
+    take_some false m x = unchanged h k i x.1
+
+    go : (b : Bool) → SendsUnder b h bs o k → StaysHost h k
+    go true x = unchanged h k i x.1
+    go false x = take_some (may_send h.control_block.state) refl x
+
+pub recv_stays : (h k : HostView) (size : ℕ) (o : Outcome) → IsHost h → Receives size h o k → StaysHost h k
+recv_stays h k size o i e = go (may_recv h.control_block) refl e
+  where
+    go : (b : Bool) → may_recv h.control_block ≡ b → ReceivesIf b h size o k → StaysHost h k
+    go true m x = subst (StaysHost h) (sym x.1) (record { host = record { reachable = i.reachable; idle = λ u. absurd (cannot_recv h i m u) }; endpoint = refl })
+    go false m x = unchanged h k i x.1
+
+-- ---- dispatches and deliveries
+
+pub no_peer_readies : (v : View) (f : Facts) → v.tuple ≡ None → readied v f ≡ ended v
+unfolding readied begun
+no_peer_readies v f e = ap (λ (b : Begun). readied_to b.peer b.view) (ap (λ o. begun_to o v f) e)
+
+pub idle_dispatches : (v w : View) (f : Facts) (fail : Bool) (r : Sent) → v.tuple ≡ None → SocketDispatches v f fail r w → w ≡ v
+unfolding SocketDispatches
+idle_dispatches v w f fail r e d = (subst (λ (b : Begun). SendsFrom b.peer b.view f fail r w) (no_peer_readies v f e) d).1
+
+pub dispatch_stays : (s : Side) (m : Moment) (fail : Bool) (o : Outcome) (h k : HostView) (ts ts' : List StoredView) → IsHost h → Dispatches s m fail o h ts k ts' → StaysHost h k
+dispatch_stays s m fail o h k ts ts' i d = subst (StaysHost h) (sym d.does.same) (record {
+  host = record { reachable = i.reachable; idle = λ u. subst IsIdle (sym (idle_dispatches h.control_block k.control_block (facts_of m) fail d.sent (i.idle u).tuple d.does.socket)) (i.idle u) };
+  endpoint = refl;
+})
+
+pub closed_accepts_none : (v : View) (t : StoredView) → v.state ≡ state.Closed → Accepts v t.ip t.segment → ⊥
+closed_accepts_none v t e a = subst (λ st. AcceptsIn st v t.ip t.segment) e a
+
+pub deliver_stays : (old : Bool) (s : Side) (m : Moment) (t : StoredView) (o : Outcome) (h k : HostView) (ts ts' : List StoredView) → IsHost h → DeliversTo old s m t o h ts k ts' → StaysHost h k
+deliver_stays true s m t o h k ts ts' i d = unchanged h k i d.1.0
+deliver_stays false s m t o h k ts ts' i d = go d.accepted d.says.0 d.does
+  where
+    go : (b : Bool) → (IsTrue b → Accepts h.control_block t.ip t.segment) → DeliversIf b s m t o h ts k ts' → StaysHost h k
+    go true a x = subst (StaysHost h) (sym x.host) (record { host = record { reachable = i.reachable; idle = λ u. absurd (closed_accepts_none h.control_block t (i.idle u).state (a refl)) }; endpoint = refl })
+    go false a x = unchanged h k i x.1.0
+
+-- ---- the pair
+
+pub pair_with : (s : Side) (p : PairView) (k : HostView) → IsPair p → StaysHost (host_of s p) k → IsInvariant (network_of (with_host s p k)) → IsPair (with_host s p k)
+pair_with A p k i s n = record { a = s.host; b = i.b; versions = subst (λ (e : IpEndpoint). SameVersion e.addr p.b.endpoint.addr) (sym s.endpoint) i.versions; network = n }
+pair_with B p k i s n = record { a = i.a; b = s.host; versions = subst (λ (e : IpEndpoint). SameVersion p.a.endpoint.addr e.addr) (sym s.endpoint) i.versions; network = n }
+
+pub pair_exchanged : (s : Side) (p : PairView) (k : HostView) (ts : List StoredView) → IsPair p → StaysHost (host_of s p) k → IsInvariant (network_of (exchanged s p k ts)) → IsPair (exchanged s p k ts)
+pair_exchanged A p k ts i s n = record { a = s.host; b = i.b; versions = subst (λ (e : IpEndpoint). SameVersion e.addr p.b.endpoint.addr) (sym s.endpoint) i.versions; network = n }
+pair_exchanged B p k ts i s n = record { a = i.a; b = s.host; versions = subst (λ (e : IpEndpoint). SameVersion p.a.endpoint.addr e.addr) (sym s.endpoint) i.versions; network = n }
+
+pub host_at : (s : Side) (p : PairView) → IsPair p → IsHost (host_of s p)
+host_at A p i = i.a
+host_at B p i = i.b
+
+-- ---- a new pair
+
+new_idle : (rx tx : Queue) → rx.bytes ≡ [] → tx.bytes ≡ [] → IsIdle (fresh rx tx)
+unfolding fresh
+new_idle rx tx r t = record { state = refl; tuple = refl; rx = r; tx = t }
+
+new_is_host : (rx tx : Queue) (e : IpEndpoint) → rx.bytes ≡ [] → tx.bytes ≡ [] → IsReachable e → IsHost (new_host (fresh rx tx) e)
+new_is_host rx tx e r t i = record { reachable = i; idle = λ u. new_idle rx tx r t }
+
+pub new_is_pair : (arx atx brx btx : Queue) (a b : IpEndpoint) (limit : Option ℕ) (ha hb : HostView) (ts : List StoredView) → ha ≡ new_host (fresh arx atx) a → hb ≡ new_host (fresh brx btx) b → ts ≡ [] → arx.bytes ≡ [] → atx.bytes ≡ [] → brx.bytes ≡ [] → btx.bytes ≡ [] → IsReachable a → IsReachable b → SameVersion a.addr b.addr → IsLimit limit → IsPair (record { a = ha; b = hb; segments = ts; limit = limit })
+new_is_pair arx atx brx btx a b limit ha hb ts ea eb et r1 t1 r2 t2 ia ib v l =
+    subst (λ h. IsPair (record { a = h; b = hb; segments = ts; limit = limit })) (sym ea)
+      (subst (λ h. IsPair (record { a = new_host (fresh arx atx) a; b = h; segments = ts; limit = limit })) (sym eb)
+        (subst (λ xs. IsPair (record { a = new_host (fresh arx atx) a; b = new_host (fresh brx btx) b; segments = xs; limit = limit })) (sym et)
+          (record { a = new_is_host arx atx a r1 t1 ia; b = new_is_host brx btx b r2 t2 ib; versions = v; network = starts limit l })))

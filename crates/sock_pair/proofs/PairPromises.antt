@@ -1,0 +1,63 @@
+-- What the invariant of a pair promises.
+use Rattle.std.proofs.Common.{◌≡◌, ℕ, ◌≤◌, Bool, true, false, List, [], ◌++◌, length, take, Option, Some, None, refl, sym, ap, subst, ◌∙◌, arith}
+use Rattle.std.specs.Prelude.{slice_get}
+use Rattle.sock_pair.specs.NetworkRuns as network
+use Rattle.sock_pair.specs.PairInvariant.{IsHost, IsPair}
+use Rattle.sock_pair.specs.PairNetwork.{seen, endpoint_of, network_of}
+use Rattle.sock_pair.specs.PairPromises.{delivered, IsDelivered, AreDelivered, IsPrompt, IsPromptAt}
+use Rattle.sock_pair.specs.PairSteps.{DeliversTo, DeliversIf, Delivers, is_old, exchanged}
+use Rattle.sock_pair.specs.PairViews.{HostView, StoredView, PairView, host_of}
+use Rattle.sock_pair.specs.Sides.{other_side}
+use Rattle.sock_pair.specs.declared.host.Opening.{Opening}
+use Rattle.sock_pair.specs.declared.host.Opening.TheVariants as opening
+use Rattle.sock_pair.specs.declared.moment.Moment.{Moment}
+use Rattle.sock_pair.specs.declared.outcome.Outcome.{Outcome}
+use Rattle.sock_pair.specs.declared.outcome.Outcome.TheVariants as outcome
+use Rattle.sock_pair.specs.declared.side.Side.{Side}
+use Rattle.sock_pair.specs.declared.side.Side.TheVariants.{A, B}
+use Rattle.sock_pair.proofs.NetworkRuns.{both_delivered}
+use Rattle.sock_pair.proofs.ShownPrompt.{queued_at_once}
+
+-- ---- the bytes of one side at the other
+
+-- the receive queue, also of a side that was never opened
+shows_queue : (h : HostView) → IsHost h → (endpoint_of h).view.receive_queue ≡ h.control_block.rx_buffer.bytes
+shows_queue h i = go h.opening refl
+  where
+    go : (e : Opening) → h.opening ≡ e → (seen e h.control_block).receive_queue ≡ h.control_block.rx_buffer.bytes
+    go opening.Unopened e = sym (i.idle e).rx
+    go opening.Listener e = refl
+    go opening.Connector e = refl
+
+is_delivered : (sender receiver : HostView) → IsHost receiver → network.IsDelivered (endpoint_of sender) (endpoint_of receiver) → IsDelivered sender receiver
+is_delivered sender receiver i d = record {
+  is_prefix = subst (λ q. receiver.handed_out ++ q ≡ take (length (receiver.handed_out ++ q)) sender.accepted) (shows_queue receiver i) d.is_prefix;
+  released = d.released;
+  taken = d.taken;
+}
+
+pub promises : (p : PairView) → IsPair p → AreDelivered p
+promises p i =
+    let d = both_delivered (network_of p) i.network in
+    record { to_b = is_delivered p.a p.b i.b d.outgoing; to_a = is_delivered p.b p.a i.a d.incoming }
+
+-- ---- a segment in order
+
+-- a delivery that was accepted
+pub prompt : (old : Bool) (s : Side) (m : Moment) (t : StoredView) (o : Outcome) (reply : Option ℕ) (h h' : HostView) (ks ks' : List StoredView) → o ≡ outcome.Delivered reply → DeliversTo old s m t o h ks h' ks' → IsPrompt t h h'
+prompt true s m t o reply h h' ks ks' is d = let no : outcome.TooOld ≡ outcome.Delivered reply = sym d.0 ∙ is in cc
+prompt false s m t o reply h h' ks ks' is d = go d.accepted d.does
+  where
+    go : (b : Bool) → DeliversIf b s m t o h ks h' ks' → IsPrompt t h h'
+    go false x = let no : outcome.NotAccepted None ≡ outcome.Delivered reply = sym x.0 ∙ is in cc
+    go true x = record { queued = λ i. ap (λ (k : HostView). k.control_block.rx_buffer.bytes) x.host ∙ queued_at_once h.control_block _ m.word t.ip t.segment i }
+
+exchanged_host : (s : Side) (p : PairView) (h : HostView) (ks : List StoredView) → host_of s (exchanged s p h ks) ≡ h
+exchanged_host A p h ks = refl
+exchanged_host B p h ks = refl
+
+pub delivers_promptly : (i : ℕ) (m : Moment) (p q : PairView) (o : Outcome) → Delivers (slice_get p.segments i) m p o q → IsPromptAt i p o q
+delivers_promptly i m p q o d t reply at is =
+    let x : Delivers (Some t) m p o q = subst (λ z. Delivers z m p o q) at d in
+    subst (λ k. IsPrompt t (host_of (other_side t.emitter) p) k) (sym (ap (host_of (other_side t.emitter)) x.same ∙ exchanged_host (other_side t.emitter) p x.host x.segments))
+    (prompt (is_old (host_of t.emitter p) t) (other_side t.emitter) m t o reply (host_of (other_side t.emitter) p) x.host p.segments x.segments is x.does)

@@ -1,0 +1,47 @@
+-- What the calls of the application do to a socket, as the two streams see it.
+use Rattle.std.proofs.Common.{◌≡◌, ℕ, ◌+◌, ◌-◌, ◌%◌, ◌^◌, ◌<◌, ◌≤◌, true, false, refl, sym, ap, subst, ◌∙◌, arith, List, [], ◌++◌, length, drop, take, length-drop}
+use Rattle.std.specs.Prelude.{min}
+use Rattle.ip_wire.specs.declared.endpoint.IpListenEndpoint.{IpListenEndpoint}
+use Rattle.sock_tcp.specs.View.{View}
+use Rattle.sock_tcp.specs.Opening.{listened, connected, renewed}
+use Rattle.sock_tcp.specs.Queues.{may_send, written, read_off}
+use Rattle.sock_tcp.specs.declared.state.State.{State}
+use Rattle.sock_tcp.specs.declared.state.State.TheVariants as state
+use Rattle.sock_tcp.specs.declared.tuple.Tuple.{Tuple}
+use Rattle.sock_pair.specs.NetworkRuns.{unopened}
+use Rattle.sock_pair.specs.PairNetwork.{phase_of, shown}
+use Rattle.sock_pair.specs.StreamViews.{Listening, SynSent, Sending}
+
+pub listened_shows : (v : View) (e : IpListenEndpoint) → shown (listened v e) ≡ record unopened.view { phase = Listening }
+unfolding listened renewed
+listened_shows v e = refl
+
+pub connected_shows : (v : View) (t : Tuple) (word : ℕ) → shown (connected v t word) ≡ record unopened.view { phase = SynSent; snd_una = word; snd_nxt = word }
+unfolding connected renewed
+connected_shows v t word = refl
+
+pub written_shows : (v : View) (bs : List ℕ) → shown (written v bs) ≡ record (shown v) { transmit_queue = v.tx_buffer.bytes ++ take (min (length bs) v.tx_buffer.window) bs }
+unfolding written
+written_shows v bs = refl
+
+-- RCV.NXT stays where it is
+pub read_shows : (v : View) (n : ℕ) → n ≤ length v.rx_buffer.bytes → shown (read_off v n) ≡ record (shown v) { receive_queue = drop n v.rx_buffer.bytes }
+unfolding read_off
+read_shows v n le = λ i. record (shown v) { rcv_nxt = same i; receive_queue = drop n v.rx_buffer.bytes }
+  where
+    same : ((v.remote_seq_no.0 + n) % 2 ^ 32 + length (drop n v.rx_buffer.bytes)) % 2 ^ 32 ≡ (v.remote_seq_no.0 + length v.rx_buffer.bytes) % 2 ^ 32
+    same = omega (arith, le, length-drop n v.rx_buffer.bytes)
+
+-- a state that sends is one of the phase
+pub sends_open : (st : State) → may_send st ≡ true → phase_of st ≡ Sending
+sends_open state.Established e = refl
+sends_open state.CloseWait e = refl
+sends_open state.Closed e = let no : false ≡ true = e in cc
+sends_open state.Listen e = let no : false ≡ true = e in cc
+sends_open state.SynSent e = let no : false ≡ true = e in cc
+sends_open state.SynReceived e = let no : false ≡ true = e in cc
+sends_open state.FinWait1 e = let no : false ≡ true = e in cc
+sends_open state.FinWait2 e = let no : false ≡ true = e in cc
+sends_open state.Closing e = let no : false ≡ true = e in cc
+sends_open state.LastAck e = let no : false ≡ true = e in cc
+sends_open state.TimeWait e = let no : false ≡ true = e in cc

@@ -1,0 +1,350 @@
+-- What `process` does to a socket is an effect of a segment on the two streams.
+use Rattle.std.proofs.Common.{◌≡◌, ℕ, ◌+◌, ◌-◌, ◌*◌, ◌%◌, ◌^◌, ◌<◌, ◌≤◌, Bool, true, false, refl, sym, ap, subst, ◌∙◌, arith, List, [], ◌++◌, length, drop, length-append, Option, Some, None, inl, inr}
+use Rattle.std.specs.Prelude.{◌&&◌, nat_eq, nat_le, option_map, if◌then◌else◌}
+use Rattle.std.specs.Option.{ForSome}
+use Rattle.std.proofs.lemmas.Bool.{eqb-true}
+use Rattle.std.proofs.lemmas.Bool.Decides.{nat_tests}
+use Rattle.std.proofs.lemmas.List.{append-nil}
+use Rattle.ip_wire.specs.declared.repr.IpRepr.{IpRepr}
+use Rattle.net_base.specs.declared.time.Instant.{Instant}
+use Rattle.control_wire.specs.Seq.{seq_add, seq_sub, seq_eq}
+use Rattle.control_wire.specs.Segment.{Segment}
+use Rattle.control_wire.specs.declared.seq_number.TcpSeqNumber.{TcpSeqNumber}
+use Rattle.control_wire.specs.declared.tcp.TcpControl.{TcpControl}
+use Rattle.control_wire.specs.declared.tcp.TcpControl.TheVariants as control
+use Rattle.sock_core.specs.Places.{number_distance, number_is_before, later_number}
+use Rattle.sock_core.specs.Seq.{is_before, later_of}
+use Rattle.sock_core.specs.Streams.{ByteAt}
+use Rattle.sock_core.proofs.Streams.{byte_within}
+use Rattle.sock_tcp.specs.Queue.{capacity}
+use Rattle.sock_tcp.specs.View.{View}
+use Rattle.sock_tcp.specs.Verdict.{verdict_at, verdict_of}
+use Rattle.sock_tcp.specs.Window.{next_ack, window_end, receive_window, is_in_order}
+use Rattle.sock_tcp.specs.Steps.{Advance, acked_len, advanced, advance_by, goes, halts, syn_received, syn_answered, answered_by, syn_advance, plain_advance, options_taken, window_taken, released, noted, joined, heard}
+use Rattle.sock_tcp.specs.Process.{Outcome, stopped, tuple_of, has_window, after_advance, processed_inside, tested, by_verdict, processed}
+use Rattle.sock_tcp.specs.declared.state.State.{State}
+use Rattle.sock_tcp.specs.declared.state.State.TheVariants as state
+use Rattle.sock_tcp.specs.declared.tuple.Tuple.{Tuple}
+use Rattle.sock_tcp.specs.declared.verdict.Verdict.{Verdict}
+use Rattle.sock_tcp.specs.declared.verdict.Verdict.TheVariants as verdicts
+use Rattle.sock_tcp.proofs.Acking.{acked_fits}
+use Rattle.sock_tcp.proofs.Windows.{kept_within}
+use Rattle.sock_pair.specs.PairLaws.{IsBounded}
+use Rattle.sock_pair.specs.PairNetwork.{phase_of, shown, stream_segment, is_rst, is_syn, IsSmall}
+use Rattle.sock_pair.specs.StreamCalls.{ProcessEffect, Nothing, Syn, SynAck, Acknowledgement}
+use Rattle.sock_pair.specs.StreamEffects.{HearsData, HearsAck}
+use Rattle.sock_pair.specs.StreamTables.{OfBytes, OfSyn}
+use Rattle.sock_pair.specs.StreamViews as phase
+use Rattle.sock_pair.specs.StreamViews.{SocketView, StreamSegment, HasIss, KnowsPeer, IsSynchronized, IsNonSynchronized}
+use Rattle.sock_pair.proofs.StreamTables.{passes_heard}
+use Rattle.sock_pair.proofs.StreamCut.{whole_hears}
+
+-- ---- numbers
+
+-- the later of two sequence numbers is that of the two numbers
+pub later_shown : (a b : TcpSeqNumber) → (later_of a b).0 ≡ later_number a.0 b.0
+unfolding later_of is_before
+later_shown a b = go (number_is_before a.0 b.0)
+  where
+    go : (t : Bool) → (if t then b else a).0 ≡ (if t then b.0 else a.0)
+    go true = refl
+    go false = refl
+
+pub same_number : (a b : TcpSeqNumber) → seq_eq a b ≡ true → a.0 ≡ b.0
+same_number a b e = eqb-true a.0 b.0 e
+
+-- the later of two equal numbers
+later_same : (a b : TcpSeqNumber) → a.0 ≡ b.0 → (later_of a b).0 ≡ b.0
+unfolding later_of
+later_same a b e = go (is_before a b)
+  where
+    go : (t : Bool) → (if t then b else a).0 ≡ b.0
+    go true = refl
+    go false = e
+
+both : (a b : Bool) → (a && b) ≡ true → (a ≡ true) × (b ≡ true)
+both true true e = (refl, refl)
+both true false e = cc
+both false b e = cc
+
+-- ---- the receive window
+
+-- the window is at most the free space
+end_within : (v : View) (o : Option TcpSeqNumber) → v.rx_buffer.window ≤ 2 ^ 30 → seq_sub (window_end v o) (next_ack v) ≤ 2 ^ 30
+end_within v None room = omega arith
+end_within v (Some ack) room =
+    let k : seq_sub (window_end v (Some ack)) (next_ack v) ≤ v.rx_buffer.window = kept_within (next_ack v) (seq_add ack (v.remote_last_win * 2 ^ v.remote_win_shift)) v.rx_buffer.window (omega arith) (omega arith) room in
+    omega (arith, k, room)
+
+-- what is in order starts at RCV.NXT, and is short
+pub record InOrder (v : View) (s : Segment) : Type 0 where
+  pub starts : s.seq_number.0 ≡ (next_ack v).0
+  pub short : length s.payload ≤ 2 ^ 30
+
+pub in_order : (v : View) (s : Segment) → capacity v.rx_buffer ≤ 2 ^ 30 → is_in_order (receive_window v) s.seq_number (length s.payload) ≡ true → InOrder v s
+unfolding receive_window is_in_order
+in_order v s room e =
+    let t : (seq_eq s.seq_number (next_ack v) ≡ true) × (nat_le (length s.payload) (seq_sub (window_end v v.remote_last_ack) (next_ack v)) ≡ true) = both _ _ e in
+    let w : seq_sub (window_end v v.remote_last_ack) (next_ack v) ≤ 2 ^ 30 = end_within v v.remote_last_ack (omega (arith, room)) in
+    let le : length s.payload ≤ seq_sub (window_end v v.remote_last_ack) (next_ack v) = grind (arith, nat_tests, t.1) in
+    record { starts = same_number s.seq_number (next_ack v) t.0; short = omega (arith, le, w) }
+
+-- a segment at RCV.NXT that is taken whole is heard, where nothing is held out of order and no FIN is counted
+heard_whole : (x y : SocketView) (g : StreamSegment) → g.seq ≡ x.rcv_nxt → length g.payload ≤ 2 ^ 30 → ((k b : ℕ) → y.held k ≡ Some b → ⊥) → y.receive_queue ≡ x.receive_queue ++ g.payload → x.fin_counted ≡ false → y.fin_counted ≡ false → y.rcv_nxt ≡ (x.rcv_nxt + length g.payload) % 2 ^ 32 → HearsData x y g
+heard_whole x y g start short none queue no_fin no_fin' nxt = record {
+  more = g.payload;
+  receive_queue = queue;
+  joined = λ k b h. inr (k, near k b h, ap (λ n. (n + k) % 2 ^ 32) start, h);
+  held = λ k b h. absurd (none k b h);
+  fin = λ e. let no : true ≡ false = sym e ∙ no_fin' in cc;
+  kept = λ e. let no : true ≡ false = sym e ∙ no_fin in cc;
+  fins = 0;
+  fin_counts = rw (no_fin, no_fin') refl;
+  rcv_nxt = nxt ∙ ap (λ n. n % 2 ^ 32) (omega arith);
+}
+  where
+    near : (k b : ℕ) → ByteAt g.payload k b → k < 2 ^ 31
+    near k b h = omega (arith, byte_within g.payload k b h, short)
+
+-- ---- process
+
+-- RCV.NXT moves by what joins
+nxt_joins : (r m n k : ℕ) → k ≡ m + n → (r + k) % 2 ^ 32 ≡ ((r + m) % 2 ^ 32 + n) % 2 ^ 32
+nxt_joins r m n k e = omega arith
+
+-- without bytes it stays
+nxt_alone : (r k : ℕ) → k ≡ 0 → ((r + 1) % 2 ^ 32 + k) % 2 ^ 32 ≡ (r + 1) % 2 ^ 32
+nxt_alone r k e = omega arith
+
+module _ (listener : Bool) (v : View) (now : Instant) (word : ℕ) (ip : IpRepr) (s : Segment) (at_release at_take : ℕ) (word_small : word < 2 ^ 32) (small : IsSmall s) (room : capacity v.rx_buffer ≤ 2 ^ 30) (bounds : IsBounded v) where
+  abbrev the_segment : StreamSegment
+  the_segment = stream_segment s at_release at_take
+
+  abbrev IsEffect : Outcome → Type 0
+  IsEffect o = ProcessEffect listener (shown v) (shown o.view) the_segment
+
+  abbrev next_to : TcpSeqNumber
+  next_to = seq_add v.local_seq_no 1
+
+  unmoved : IsEffect (stopped v)
+  unmoved = Nothing refl
+
+  two_unmoved : (b : Bool) → IsEffect (if b then stopped v else stopped v)
+  two_unmoved true = unmoved
+  two_unmoved false = unmoved
+
+  -- the state table, by state, control and acknowledgement
+  abbrev syn_at : State → Option TcpSeqNumber → Advance
+  syn_at state.Listen o = goes (syn_received v (tuple_of ip s) word s)
+  syn_at state.SynSent o = answered_by o v s
+  syn_at _ o = halts v
+
+  abbrev advance_at : TcpControl → State → Option TcpSeqNumber → Advance
+  advance_at control.Syn st o = syn_at st o
+  advance_at control.None st o = plain_advance st v
+  advance_at control.Psh st o = plain_advance st v
+  advance_at control.Fin st o = halts v
+  advance_at control.Rst st o = halts v
+
+  abbrev queued : ℕ
+  queued = length v.tx_buffer.bytes
+
+  abbrev inside : State → TcpControl → Option TcpSeqNumber → List ℕ → Outcome
+  inside st c o bs = after_advance (advance_at c st o) now (acked_len c st o v.local_seq_no queued) bs s
+
+  abbrev passes : State → TcpControl → Option TcpSeqNumber → Type 0
+  passes st c o = verdict_at c st o v.local_seq_no queued ≡ verdicts.Pass
+
+  -- what the acknowledgement o comes to is what the segment's comes to
+  by_ack : (u : View) (n : ℕ) (bs : List ℕ) (o : Option TcpSeqNumber) → s.ack_number ≡ o → IsEffect (stopped (joined (noted (released (window_taken u now s.control s.window_len) n) o) bs)) → IsEffect (stopped (heard u now n bs s))
+  unfolding heard
+  by_ack u n bs o e h = subst (λ o. IsEffect (stopped (joined (noted (released (window_taken u now s.control s.window_len) n) o) bs))) (sym e) h
+
+  acks : (o : TcpSeqNumber) → s.ack_number ≡ Some o → the_segment.ack ≡ Some o.0
+  acks a e = ap (λ (o : Option TcpSeqNumber). option_map (λ (x : TcpSeqNumber). x.0) o) e
+
+  -- ---- LISTEN
+
+  listen_heard : (c : TcpControl) (o : Option TcpSeqNumber) → v.state ≡ state.Listen → s.control ≡ c → s.ack_number ≡ o → passes state.Listen c o → IsEffect (inside state.Listen c o [])
+  unfolding verdict_at acked_len syn_received options_taken window_taken released noted joined
+  listen_heard control.Syn None es ec eo p =
+      let empty : v.rx_buffer.bytes ≡ [] = bounds.unread (subst (λ st. IsNonSynchronized (phase_of st)) (sym es) tt) in
+      let none : length (v.rx_buffer.bytes ++ []) ≡ 0 = ap length (append-nil v.rx_buffer.bytes ∙ empty) in
+      by_ack (syn_received v (tuple_of ip s) word s) 0 [] None eo (Syn word word_small (ap is_rst ec) (ap is_syn ec) (ap phase_of es)
+      (λ i. record (shown v) { phase = phase.SynReceived; snd_una = word; snd_nxt = word; rcv_nxt = nxt_alone s.seq_number.0 (length (v.rx_buffer.bytes ++ [])) none i; receive_queue = append-nil v.rx_buffer.bytes i }))
+  listen_heard control.Syn (Some a) es ec eo p = absurd cc
+  listen_heard control.None o es ec eo p = unmoved
+  listen_heard control.Psh o es ec eo p = unmoved
+  listen_heard control.Fin o es ec eo p = unmoved
+  listen_heard control.Rst o es ec eo p = unmoved
+
+  -- ---- SYN-SENT
+
+  passed : (b : Bool) (x : Verdict) → (x ≡ verdicts.Pass → ⊥) → (if b then verdicts.Pass else x) ≡ verdicts.Pass → b ≡ true
+  passed true x n e = refl
+  passed false x n e = absurd (n e)
+
+  one_past : (a : TcpSeqNumber) → v.local_seq_no.0 < 2 ^ 32 → seq_eq a next_to ≡ true → seq_sub a v.local_seq_no - 1 ≡ 0
+  one_past a hb e = let h : a.0 ≡ next_to.0 = same_number a next_to e in omega arith
+
+  syn_sent_heard : (c : TcpControl) (o : Option TcpSeqNumber) → v.state ≡ state.SynSent → s.control ≡ c → s.ack_number ≡ o → passes state.SynSent c o → IsEffect (inside state.SynSent c o [])
+  unfolding verdict_at acked_len syn_answered options_taken window_taken released noted joined
+  syn_sent_heard control.Syn (Some a) es ec eo p =
+      let empty : v.rx_buffer.bytes ≡ [] = bounds.unread (subst (λ st. IsNonSynchronized (phase_of st)) (sym es) tt) in
+      let none : length (v.rx_buffer.bytes ++ []) ≡ 0 = ap length (append-nil v.rx_buffer.bytes ∙ empty) in
+      let b = bounds.sending (subst (λ st. HasIss (phase_of st)) (sym es) tt) in
+      let is : a.0 ≡ next_to.0 = same_number a next_to (passed (seq_eq a next_to) verdicts.Reset (λ e. cc) p) in
+      let n : seq_sub a v.local_seq_no - 1 ≡ 0 = one_past a b.snd_una (passed (seq_eq a next_to) verdicts.Reset (λ e. cc) p) in
+      by_ack (syn_answered v s) (seq_sub a v.local_seq_no - 1) [] (Some a) eo (SynAck (ap is_rst ec) (ap is_syn ec) (ap phase_of es)
+      (passes_heard _ _ _ b (OfSyn a.0 (acks a eo) is (inl (ap phase_of es)) refl refl (ap (λ k. drop k v.tx_buffer.bytes) n) (inr (later_same next_to a (sym is)))))
+      refl (nxt_alone s.seq_number.0 (length (v.rx_buffer.bytes ++ [])) none) (append-nil v.rx_buffer.bytes) refl refl)
+  syn_sent_heard control.Syn None es ec eo p = unmoved
+  syn_sent_heard control.None o es ec eo p = unmoved
+  syn_sent_heard control.Psh o es ec eo p = unmoved
+  syn_sent_heard control.Fin o es ec eo p = unmoved
+  syn_sent_heard control.Rst o es ec eo p = unmoved
+
+  -- ---- SYN-RECEIVED and ESTABLISHED
+
+  -- the queue and RCV.NXT, where the payload joined
+  nxt_moved : (length (v.rx_buffer.bytes ++ s.payload) ≡ length v.rx_buffer.bytes + length s.payload) → (v.remote_seq_no.0 + length (v.rx_buffer.bytes ++ s.payload)) % 2 ^ 32 ≡ ((v.remote_seq_no.0 + length v.rx_buffer.bytes) % 2 ^ 32 + length s.payload) % 2 ^ 32
+  nxt_moved e = nxt_joins v.remote_seq_no.0 (length v.rx_buffer.bytes) (length s.payload) (length (v.rx_buffer.bytes ++ s.payload)) e
+
+  opened_heard : (n : ℕ) (a : TcpSeqNumber) → v.state ≡ state.SynReceived → is_rst s.control ≡ false → s.ack_number ≡ Some a → seq_eq a next_to ≡ true → n ≡ seq_sub a v.local_seq_no - 1 → InOrder v s → IsEffect (stopped (heard (record v { state = state.Established }) now n s.payload s))
+  unfolding window_taken released noted joined
+  opened_heard n a es plain eo x counts here =
+      let b = bounds.sending (subst (λ st. HasIss (phase_of st)) (sym es) tt) in
+      let none : n ≡ 0 = counts ∙ one_past a b.snd_una x in
+      by_ack (record v { state = state.Established }) n s.payload (Some a) eo (Acknowledgement plain (subst (λ st. KnowsPeer (phase_of st)) (sym es) tt)
+      (heard_whole _ _ _ here.starts here.short (λ k b h. let no : None ≡ Some b = h in cc) refl refl refl (nxt_moved (length-append v.rx_buffer.bytes s.payload)))
+      (passes_heard _ _ _ b (OfSyn a.0 (acks a eo) (same_number a next_to x) (inr (ap phase_of es)) refl refl (ap (λ k. drop k v.tx_buffer.bytes) none) (inl (later_shown v.remote_last_seq a))))
+      tt)
+
+  sent_heard : (n : ℕ) (a : TcpSeqNumber) → v.state ≡ state.Established → is_rst s.control ≡ false → s.ack_number ≡ Some a → n ≤ queued → n ≡ seq_sub a v.local_seq_no - 0 → InOrder v s → IsEffect (stopped (heard v now n s.payload s))
+  unfolding window_taken released noted joined number_distance
+  sent_heard n a es plain eo le counts here =
+      let b = bounds.sending (subst (λ st. HasIss (phase_of st)) (sym es) tt) in
+      let is : n ≡ number_distance a.0 v.local_seq_no.0 = omega (arith, counts) in
+      by_ack v n s.payload (Some a) eo (Acknowledgement plain (subst (λ st. KnowsPeer (phase_of st)) (sym es) tt)
+      (heard_whole _ _ _ here.starts here.short (λ k b h. let no : None ≡ Some b = h in cc) refl refl refl (nxt_moved (length-append v.rx_buffer.bytes s.payload)))
+      (passes_heard _ _ _ b (OfBytes a.0 (acks a eo) (small.ack a eo) (omega (arith, le, is)) refl refl (ap (λ k. drop k v.tx_buffer.bytes) is) (later_shown v.remote_last_seq a)))
+      (subst (λ st. IsSynchronized (phase_of st)) (sym es) tt))
+
+  abbrev in_window : Bool
+  in_window = is_in_order (receive_window v) s.seq_number (length s.payload)
+
+  syn_received_heard : (c : TcpControl) (o : Option TcpSeqNumber) (b : Bool) → v.state ≡ state.SynReceived → s.control ≡ c → s.ack_number ≡ o → passes state.SynReceived c o → in_window ≡ b → IsEffect (if b then inside state.SynReceived c o s.payload else stopped v)
+  unfolding verdict_at acked_len
+  syn_received_heard c o false es ec eo p w = unmoved
+  syn_received_heard control.None (Some a) true es ec eo p w = opened_heard (seq_sub a v.local_seq_no - 1) a es (ap is_rst ec) eo (passed (seq_eq a next_to) verdicts.Reset (λ e. cc) p) refl (in_order v s room w)
+  syn_received_heard control.Psh (Some a) true es ec eo p w = opened_heard (seq_sub a v.local_seq_no - 1) a es (ap is_rst ec) eo (passed (seq_eq a next_to) verdicts.Reset (λ e. cc) p) refl (in_order v s room w)
+  syn_received_heard control.None None true es ec eo p w = absurd cc
+  syn_received_heard control.Psh None true es ec eo p w = absurd cc
+  syn_received_heard control.Syn o true es ec eo p w = unmoved
+  syn_received_heard control.Fin o true es ec eo p w = unmoved
+  syn_received_heard control.Rst o true es ec eo p w = unmoved
+
+  established_fits : (c : TcpControl) (a : TcpSeqNumber) → v.state ≡ state.Established → s.ack_number ≡ Some a → passes state.Established c (Some a) → acked_len c state.Established (Some a) v.local_seq_no queued ≤ queued
+  established_fits c a es eo p =
+      let b = bounds.sending (subst (λ st. HasIss (phase_of st)) (sym es) tt) in
+      subst (λ st. acked_len c st (Some a) v.local_seq_no queued ≤ queued) es (acked_fits c v a b.snd_una (small.ack a eo) b.room (subst (λ st. passes st c (Some a)) (sym es) p))
+
+  established_heard : (c : TcpControl) (o : Option TcpSeqNumber) (b : Bool) → v.state ≡ state.Established → s.control ≡ c → s.ack_number ≡ o → passes state.Established c o → in_window ≡ b → IsEffect (if b then inside state.Established c o s.payload else stopped v)
+  unfolding verdict_at acked_len
+  established_heard c o false es ec eo p w = unmoved
+  established_heard control.None (Some a) true es ec eo p w = sent_heard (seq_sub a v.local_seq_no - 0) a es (ap is_rst ec) eo (established_fits control.None a es eo p) refl (in_order v s room w)
+  established_heard control.Psh (Some a) true es ec eo p w = sent_heard (seq_sub a v.local_seq_no - 0) a es (ap is_rst ec) eo (established_fits control.Psh a es eo p) refl (in_order v s room w)
+  established_heard control.None None true es ec eo p w = absurd cc
+  established_heard control.Psh None true es ec eo p w = absurd cc
+  established_heard control.Syn o true es ec eo p w = unmoved
+  established_heard control.Fin o true es ec eo p w = unmoved
+  established_heard control.Rst o true es ec eo p w = unmoved
+
+  -- ---- the other states, and the whole
+
+  halted : (st : State) (c : TcpControl) (o : Option TcpSeqNumber) → syn_at st o ≡ halts v → plain_advance st v ≡ halts v → (b : Bool) → IsEffect (if b then inside st c o s.payload else stopped v)
+  halted st c o x y false = unmoved
+  halted st control.Syn o x y true = subst (λ (a : Advance). IsEffect (after_advance a now (acked_len control.Syn st o v.local_seq_no queued) s.payload s)) (sym x) unmoved
+  halted st control.None o x y true = subst (λ (a : Advance). IsEffect (after_advance a now (acked_len control.None st o v.local_seq_no queued) s.payload s)) (sym y) unmoved
+  halted st control.Psh o x y true = subst (λ (a : Advance). IsEffect (after_advance a now (acked_len control.Psh st o v.local_seq_no queued) s.payload s)) (sym y) unmoved
+  halted st control.Fin o x y true = unmoved
+  halted st control.Rst o x y true = unmoved
+
+  at_state : (st : State) (c : TcpControl) (o : Option TcpSeqNumber) → v.state ≡ st → s.control ≡ c → s.ack_number ≡ o → passes st c o → IsEffect (if has_window st then (if in_window then inside st c o s.payload else stopped v) else inside st c o [])
+  at_state state.Listen c o es ec eo p = listen_heard c o es ec eo p
+  at_state state.SynSent c o es ec eo p = syn_sent_heard c o es ec eo p
+  at_state state.SynReceived c o es ec eo p = syn_received_heard c o in_window es ec eo p refl
+  at_state state.Established c o es ec eo p = established_heard c o in_window es ec eo p refl
+  at_state state.Closed c o es ec eo p = halted state.Closed c o refl refl in_window
+  at_state state.FinWait1 c o es ec eo p = halted state.FinWait1 c o refl refl in_window
+  at_state state.FinWait2 c o es ec eo p = halted state.FinWait2 c o refl refl in_window
+  at_state state.CloseWait c o es ec eo p = halted state.CloseWait c o refl refl in_window
+  at_state state.Closing c o es ec eo p = halted state.Closing c o refl refl in_window
+  at_state state.LastAck c o es ec eo p = halted state.LastAck c o refl refl in_window
+  at_state state.TimeWait c o es ec eo p = halted state.TimeWait c o refl refl in_window
+
+  same_syn : (st : State) → v.state ≡ st → syn_advance st v (tuple_of ip s) word s ≡ syn_at st s.ack_number
+  same_syn state.Listen e = refl
+  same_syn state.SynSent e = refl
+  same_syn state.SynReceived e = refl
+  same_syn state.Established e = refl
+  same_syn state.Closed e = refl
+  same_syn state.FinWait1 e = refl
+  same_syn state.FinWait2 e = refl
+  same_syn state.CloseWait e = refl
+  same_syn state.Closing e = refl
+  same_syn state.LastAck e = refl
+  same_syn state.TimeWait e = refl
+
+  same_advance : (c : TcpControl) → advance_by c v (tuple_of ip s) word s ≡ advance_at c v.state s.ack_number
+  same_advance control.Syn = same_syn v.state refl
+  same_advance control.None = refl
+  same_advance control.Psh = refl
+  same_advance control.Fin = refl
+  same_advance control.Rst = refl
+
+  same_inside : (bs : List ℕ) → processed_inside v now word bs ip s ≡ inside v.state s.control s.ack_number bs
+  unfolding processed_inside advanced
+  same_inside bs = ap (λ a. after_advance a now (acked_len s.control v.state s.ack_number v.local_seq_no queued) bs s) (same_advance s.control)
+
+  same_tested : (b : Bool) → tested b v now word ip s ≡ (if b then (if in_window then inside v.state s.control s.ack_number s.payload else stopped v) else inside v.state s.control s.ack_number [])
+  same_tested true = ap (λ o. if in_window then o else stopped v) (same_inside s.payload)
+  same_tested false = same_inside []
+
+  by_the_verdict : (x : Verdict) → verdict_of v s.control s.ack_number ≡ x → IsEffect (by_verdict x v now word ip s)
+  by_the_verdict verdicts.Drop e = unmoved
+  by_the_verdict verdicts.Reset e = unmoved
+  by_the_verdict verdicts.Challenge e = unmoved
+  by_the_verdict verdicts.Pass e = subst IsEffect (sym (same_tested (has_window v.state))) (at_state v.state s.control s.ack_number refl refl refl e)
+
+  pub process_heard : ProcessEffect listener (shown v) (shown (processed v now word ip s).view) (stream_segment s at_release at_take)
+  unfolding processed
+  process_heard = by_the_verdict (verdict_of v s.control s.ack_number) refl
+
+-- a segment gets no answer yet
+after_silent : (a : Advance) (now : Instant) (n : ℕ) (bs : List ℕ) (s : Segment) (b : Bool) → (if b then stopped (heard a.view now n bs s) else stopped a.view).reply ≡ None
+after_silent a now n bs s true = refl
+after_silent a now n bs s false = refl
+
+module _ (v : View) (now : Instant) (word : ℕ) (ip : IpRepr) (s : Segment) where
+  inside_silent : (bs : List ℕ) → (processed_inside v now word bs ip s).reply ≡ None
+  unfolding processed_inside
+  inside_silent bs = after_silent (advanced v (tuple_of ip s) word s) now _ bs s (advanced v (tuple_of ip s) word s).goes_on
+
+  tested_silent : (b : Bool) → (tested b v now word ip s).reply ≡ None
+  tested_silent false = inside_silent []
+  tested_silent true = go (is_in_order (receive_window v) s.seq_number (length s.payload))
+    where
+      go : (b : Bool) → (if b then processed_inside v now word s.payload ip s else stopped v).reply ≡ None
+      go true = inside_silent s.payload
+      go false = refl
+
+  verdict_silent : (x : Verdict) → (by_verdict x v now word ip s).reply ≡ None
+  verdict_silent verdicts.Drop = refl
+  verdict_silent verdicts.Reset = refl
+  verdict_silent verdicts.Challenge = refl
+  verdict_silent verdicts.Pass = tested_silent (has_window v.state)
+
+  pub process_silent : (processed v now word ip s).reply ≡ None
+  unfolding processed
+  process_silent = verdict_silent (verdict_of v s.control s.ack_number)

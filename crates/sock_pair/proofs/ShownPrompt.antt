@@ -1,0 +1,74 @@
+-- A segment in order is queued whole before `process` returns.
+use Rattle.std.proofs.Common.{◌≡◌, ℕ, ◌+◌, ◌-◌, ◌%◌, ◌^◌, ◌<◌, ◌≤◌, ◌⊎◌, Bool, true, false, refl, sym, ap, subst, ◌∙◌, arith, List, ◌++◌, length, Option, Some, None, inl, inr, ⊎_elim}
+use Rattle.std.specs.Prelude.{◌&&◌, nat_eq, nat_le, if◌then◌else◌}
+use Rattle.std.proofs.lemmas.Bool.Decides.{nat_tests}
+use Rattle.ip_wire.specs.declared.repr.IpRepr.{IpRepr}
+use Rattle.net_base.specs.declared.time.Instant.{Instant}
+use Rattle.control_wire.specs.Seq.{seq_eq, seq_sub}
+use Rattle.control_wire.specs.Segment.{Segment, is_plain}
+use Rattle.control_wire.specs.declared.seq_number.TcpSeqNumber.{TcpSeqNumber}
+use Rattle.control_wire.specs.declared.tcp.TcpControl.{TcpControl}
+use Rattle.control_wire.specs.declared.tcp.TcpControl.TheVariants as control
+use Rattle.sock_tcp.specs.Queue.{Queue}
+use Rattle.sock_tcp.specs.View.{View}
+use Rattle.sock_tcp.specs.Window.{next_ack, window_end, receive_window, is_in_order}
+use Rattle.sock_tcp.specs.Steps.{Advance, acked_of, advanced, advance_by, goes, plain_advance, window_taken, released, noted, joined, heard}
+use Rattle.sock_tcp.specs.Process.{Outcome, stopped, tuple_of, has_window, after_advance, processed_inside, tested, by_verdict, processed}
+use Rattle.sock_tcp.specs.declared.state.State.{State}
+use Rattle.sock_tcp.specs.declared.state.State.TheVariants as state
+use Rattle.sock_pair.specs.PairPromises.{IsInOrder}
+
+noted_queue : (w : View) (o : Option TcpSeqNumber) → (noted w o).rx_buffer ≡ w.rx_buffer
+unfolding noted
+noted_queue w None = refl
+noted_queue w (Some a) = refl
+
+heard_queue : (u : View) (now : Instant) (n : ℕ) (bs : List ℕ) (s : Segment) → (heard u now n bs s).rx_buffer.bytes ≡ u.rx_buffer.bytes ++ bs
+unfolding heard joined released window_taken
+heard_queue u now n bs s = ap (λ (q : Queue). q.bytes ++ bs) (noted_queue (released (window_taken u now s.control s.window_len) n) s.ack_number)
+
+true_both : (a b : Bool) → a ≡ true → b ≡ true → (a && b) ≡ true
+true_both true true x y = refl
+true_both true false x y = cc
+true_both false b x y = cc
+
+module _ (v : View) (now : Instant) (word : ℕ) (ip : IpRepr) (s : Segment) (i : IsInOrder v s) where
+  abbrev Queues : Outcome → Type 0
+  Queues o = o.view.rx_buffer.bytes ≡ v.rx_buffer.bytes ++ s.payload
+
+  -- with control None or PSH the state table goes on, and leaves the queue alone
+  plain_goes : (c : TcpControl) → is_plain c ≡ true → advance_by c v (tuple_of ip s) word s ≡ plain_advance v.state v
+  plain_goes control.None e = refl
+  plain_goes control.Psh e = refl
+  plain_goes control.Syn e = cc
+  plain_goes control.Fin e = cc
+  plain_goes control.Rst e = cc
+
+  joins : (a : Advance) (u : View) → u.rx_buffer ≡ v.rx_buffer → goes u ≡ a → Queues (after_advance a now (acked_of v s.control s.ack_number) s.payload s)
+  joins a u q e = subst (λ x. Queues (after_advance x now (acked_of v s.control s.ack_number) s.payload s)) e (heard_queue u now _ s.payload s ∙ ap (λ (z : Queue). z.bytes ++ s.payload) q)
+
+  inside : Queues (processed_inside v now word s.payload ip s)
+  unfolding processed_inside advanced
+  inside =
+      ⊎_elim
+      (λ e. joins (advance_by s.control v (tuple_of ip s) word s) (record v { state = state.Established }) refl (sym (plain_goes s.control i.plain ∙ ap (λ st. plain_advance st v) e)))
+      (λ e. joins (advance_by s.control v (tuple_of ip s) word s) v refl (sym (plain_goes s.control i.plain ∙ ap (λ st. plain_advance st v) e)))
+      i.state
+
+  in_window : is_in_order (receive_window v) s.seq_number (length s.payload) ≡ true
+  unfolding receive_window is_in_order
+  in_window =
+      let same : s.seq_number.0 ≡ (next_ack v).0 = ap (λ (n : TcpSeqNumber). n.0) i.starts in
+      let starts : nat_eq s.seq_number.0 (next_ack v).0 ≡ true = grind (arith, nat_tests, same) in
+      let ends : nat_le (length s.payload) (seq_sub (window_end v v.remote_last_ack) (next_ack v)) ≡ true = grind (arith, nat_tests, i.ends) in
+      true_both _ _ starts ends
+
+  has_queue : has_window v.state ≡ true
+  has_queue = ⊎_elim (λ e. ap has_window e) (λ e. ap has_window e) i.state
+
+  is_inside : tested (has_window v.state) v now word ip s ≡ processed_inside v now word s.payload ip s
+  is_inside = ap (λ b. tested b v now word ip s) has_queue ∙ ap (λ b. if b then processed_inside v now word s.payload ip s else stopped v) in_window
+
+  pub queued_at_once : (processed v now word ip s).view.rx_buffer.bytes ≡ v.rx_buffer.bytes ++ s.payload
+  unfolding processed
+  queued_at_once = subst Queues (sym (ap (λ x. by_verdict x v now word ip s) i.passes ∙ is_inside)) inside

@@ -1,0 +1,8 @@
+use Rattle.std.proofs.Common.{◌∷◌, [], ◌++◌, ap, ◌∙◌, arith}
+use Rattle.sock_pair.proofs.Running.{done_more}
+use Rattle.sock_pair.proofs.pair.Pair.run.Goals as goal
+
+pub loop-event-preserved : goal.loop-event-preserved
+loop-event-preserved c =
+    done_more c.args.events.now c.loop-event.event-index c.event-item.result c.args.self.now c.loop-event.self c.step.new.self c.args.outcomes.now.items c.loop-event.outcomes.items c.push_reserved.new.self.items c.in_ok-outcome.outcome
+      (omega (arith, c.loop-event-test.true)) c.event-item.is c.loop-event.invariant c.in_ok-outcome.ensures.step (c.push_reserved.ensures.items ∙ ap (λ xs. xs ++ c.in_ok-outcome.outcome ∷ []) c.reserve.ensures.items)

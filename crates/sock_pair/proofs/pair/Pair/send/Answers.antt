@@ -1,0 +1,48 @@
+use Rattle.std.proofs.Common.{◌≡◌, ◌∙◌, ◌≤◌, ◌^◌, sym, map, length, false}
+use Rattle.sock_pair.specs.Holding.{stored_of}
+use Rattle.sock_pair.specs.PairCalls.{Sends, is_over}
+use Rattle.sock_pair.specs.PairViews.{PairView, host_of}
+use Rattle.sock_pair.specs.declared.side.Side.TheVariants.{A, B}
+use Rattle.sock_pair.proofs.PairHosts.{host_at, send_stays, pair_with}
+use Rattle.sock_pair.proofs.PairKeeps.{send_keeps}
+use Rattle.sock_pair.proofs.PairReturns.{one_side_if, kept_if, if_both, over_as, sends_under, is_refused}
+use Rattle.sock_pair.proofs.pair.Pair.send.Goals as goal
+
+pub returns-then-is_over_limit-clause-step : goal.returns-then-is_over_limit-clause-step
+returns-then-is_over_limit-clause-step c = is_refused c.args.side c.args.self.now c.args.bytes.now (sym c.is_over_limit.ensures ∙ c.if-is_over_limit.true)
+
+pub invariant_of-self : goal.invariant_of-self
+invariant_of-self c =
+    let p : PairView = record { a = c.self.inside.a; b = c.self.inside.b; segments = map stored_of c.self.inside.segments.items; limit = c.self.inside.limit } in
+    let k = c.send.new.self in
+    let bs = c.args.bytes.now in
+    let under = over_as A c.args.side p c.args.self.now (length bs) c.is_over_limit.result false c.in-A.is c.self.view_is c.is_over_limit.ensures c.if-is_over_limit.false in
+    kept_if (λ o. Sends p.limit bs (host_of A p) o k × (length k.control_block.tx_buffer.bytes ≤ 2 ^ 30)) A p k c.send.result c.self.invariant
+      (if_both _ _ c.send.result (sends_under p.limit bs (host_of A p) k c.send.result under c.send.ensures.step) c.send.ensures.small) c.send.ensures.memory
+      (λ o d. pair_with A p k c.self.invariant (send_stays _ k p.limit bs o (host_at A p c.self.invariant) d.0) (send_keeps A p (host_at A p c.self.invariant) c.self.invariant.network bs o k d.1 d.0))
+
+pub returns-in-A-clause-step : goal.returns-in-A-clause-step
+returns-in-A-clause-step c =
+    let p : PairView = record { a = c.self.inside.a; b = c.self.inside.b; segments = map stored_of c.self.inside.segments.items; limit = c.self.inside.limit } in
+    let k = c.send.new.self in
+    let bs = c.args.bytes.now in
+    let under = over_as A c.args.side p c.args.self.now (length bs) c.is_over_limit.result false c.in-A.is c.self.view_is c.is_over_limit.ensures c.if-is_over_limit.false in
+    one_side_if (λ s v o h k. Sends v.limit bs h o k) A c.args.side p c.args.self.now k c.send.result c.in-A.is c.self.view_is (sends_under p.limit bs (host_of A p) k c.send.result under c.send.ensures.step)
+
+pub invariant_of-self-in-B : goal.invariant_of-self-in-B
+invariant_of-self-in-B c =
+    let p : PairView = record { a = c.self.inside.a; b = c.self.inside.b; segments = map stored_of c.self.inside.segments.items; limit = c.self.inside.limit } in
+    let k = c.send-in-B.new.self in
+    let bs = c.args.bytes.now in
+    let under = over_as B c.args.side p c.args.self.now (length bs) c.is_over_limit.result false c.in-B.is c.self.view_is c.is_over_limit.ensures c.if-is_over_limit.false in
+    kept_if (λ o. Sends p.limit bs (host_of B p) o k × (length k.control_block.tx_buffer.bytes ≤ 2 ^ 30)) B p k c.send-in-B.result c.self.invariant
+      (if_both _ _ c.send-in-B.result (sends_under p.limit bs (host_of B p) k c.send-in-B.result under c.send-in-B.ensures.step) c.send-in-B.ensures.small) c.send-in-B.ensures.memory
+      (λ o d. pair_with B p k c.self.invariant (send_stays _ k p.limit bs o (host_at B p c.self.invariant) d.0) (send_keeps B p (host_at B p c.self.invariant) c.self.invariant.network bs o k d.1 d.0))
+
+pub returns-in-B-clause-step : goal.returns-in-B-clause-step
+returns-in-B-clause-step c =
+    let p : PairView = record { a = c.self.inside.a; b = c.self.inside.b; segments = map stored_of c.self.inside.segments.items; limit = c.self.inside.limit } in
+    let k = c.send-in-B.new.self in
+    let bs = c.args.bytes.now in
+    let under = over_as B c.args.side p c.args.self.now (length bs) c.is_over_limit.result false c.in-B.is c.self.view_is c.is_over_limit.ensures c.if-is_over_limit.false in
+    one_side_if (λ s v o h k. Sends v.limit bs h o k) B c.args.side p c.args.self.now k c.send-in-B.result c.in-B.is c.self.view_is (sends_under p.limit bs (host_of B p) k c.send-in-B.result under c.send-in-B.ensures.step)

@@ -1,0 +1,50 @@
+-- What is promised of a pair.
+use Rattle.std.specs.Prelude.{ℕ, ◌≡◌, ◌≤◌, ◌⊎◌, true, List, ◌++◌, length, take, slice_get, Option, Some}
+use Rattle.control_wire.specs.Seq.{seq_sub}
+use Rattle.control_wire.specs.Segment.{Segment, is_plain}
+use Rattle.sock_tcp.specs.Verdict.{verdict_of}
+use Rattle.sock_tcp.specs.View.{View}
+use Rattle.sock_tcp.specs.Window.{next_ack, window_end}
+use Rattle.sock_tcp.specs.declared.state.State.TheVariants as state
+use Rattle.sock_tcp.specs.declared.verdict.Verdict.TheVariants as verdicts
+use Rattle.sock_pair.specs.PairViews.{HostView, StoredView, PairView, host_of}
+use Rattle.sock_pair.specs.Sides.{other_side}
+use Rattle.sock_pair.specs.declared.outcome.Outcome.{Outcome}
+use Rattle.sock_pair.specs.declared.outcome.Outcome.TheVariants as outcome
+
+-- ---- the bytes of one side at the other
+
+-- what a side handed out, followed by its receive queue
+abbrev pub delivered : HostView → List ℕ
+delivered h = h.handed_out ++ h.control_block.rx_buffer.bytes
+
+pub record IsDelivered (sender receiver : HostView) : Type 0 where
+  -- that is a prefix of what the sender accepted
+  pub is_prefix : delivered receiver ≡ take (length (delivered receiver)) sender.accepted
+  -- acknowledgements released only bytes that the receiver took, and it took only bytes that the sender accepted
+  pub released : sender.released ≤ receiver.taken
+  pub taken : receiver.taken ≤ length sender.accepted
+
+-- both ways
+pub record AreDelivered (p : PairView) : Type 0 where
+  pub to_b : IsDelivered p.a p.b
+  pub to_a : IsDelivered p.b p.a
+
+-- ---- a segment in order
+
+-- The segment s may bring bytes to the socket v: the state has a receive queue, the acknowledgement passes, and nothing but bytes is asked for. And it
+-- is in order: it starts at RCV.NXT, and ends at or before the right edge of the receive window
+pub record IsInOrder (v : View) (s : Segment) : Type 0 where
+  pub state : (v.state ≡ state.SynReceived) ⊎ (v.state ≡ state.Established)
+  pub passes : verdict_of v s.control s.ack_number ≡ verdicts.Pass
+  pub plain : is_plain s.control ≡ true
+  pub starts : s.seq_number ≡ next_ack v
+  pub ends : length s.payload ≤ seq_sub (window_end v v.remote_last_ack) (next_ack v)
+
+-- a delivery of the segment t found the receiver as old, and left it as new: the whole payload of a segment in order joined the receive queue
+pub record IsPrompt (t : StoredView) (old new : HostView) : Type 0 where
+  pub queued : IsInOrder old.control_block t.segment → new.control_block.rx_buffer.bytes ≡ old.control_block.rx_buffer.bytes ++ t.segment.payload
+
+-- so at each delivery of a pair that a side accepts
+abbrev pub IsPromptAt : ℕ → PairView → Outcome → PairView → Type 0
+IsPromptAt i p o q = (t : StoredView) (reply : Option ℕ) → slice_get p.segments i ≡ Some t → o ≡ outcome.Delivered reply → IsPrompt t (host_of (other_side t.emitter) p) (host_of (other_side t.emitter) q)

@@ -1,0 +1,115 @@
+// What goes between the two sides: the segments that a dispatch emits, and their delivery.
+ghost use Rattle.std.specs.Prelude.{◌≡◌, ◌<◌, ◌^◌, ◌++◌, [], length, map, IfOk, OnErr, slice_get, option_map, vec_len, vec_capacity};
+ghost use Rattle.sock_pair.specs.Holding.{stored_of, kept_at};
+ghost use Rattle.std.specs.Option.{ForSome};
+ghost use Rattle.control_wire.specs.Segment.{segment_of};
+ghost use Rattle.sock_pair.specs.PairSteps.{is_too_old, dispatch_outcome, stored_at, Dispatches, reply_index, IsUnchanged};
+ghost use Rattle.sock_pair.specs.Exchanges.{DeliversAt};
+
+
+use crate::host::Host;
+use crate::moment::Moment;
+use crate::outcome::{Outcome, PairError};
+use crate::recorder::Sent;
+use crate::segment::{Header, Segment};
+use crate::side::Side;
+use sock_tcp::Reply;
+use std::alloc::Global;
+
+// By how much a count of a segment's emitter may grow at most while the segment is young.
+const AGE_LIMIT: u64 = 0x2000_0000;
+
+/// How many bytes left a side's transmit queue, and joined its receive queue.
+#[derive(Debug, Clone, Copy, PartialEq, Eq)]
+pub(crate) struct Counts {
+    pub(crate) released: u64,
+    pub(crate) taken: u64,
+}
+
+/// Whether a segment is too old to be delivered: since it went out, one of its emitter's counts grew by 2^29 or more. No
+/// count falls.
+pub fn too_old(released_at: u64, released_now: u64, taken_at: u64, taken_now: u64) -> bool
+    ensures { result ≡ is_too_old released_at released_now taken_at taken_now }
+{
+    released_now.saturating_sub(released_at) >= AGE_LIMIT || taken_now.saturating_sub(taken_at) >= AGE_LIMIT
+}
+
+// What came of a dispatch, whose segment is stored where there is one; there is room for it.
+fn store(segments: &mut Vec<Segment>, from: Side, sent: Sent, counts: Counts) -> Outcome
+    requires { vec_len segments.old < vec_capacity segments.old }
+    ensures answer { result ≡ dispatch_outcome sent (length (map stored_of segments.old.items)) }
+    ensures stored { map stored_of segments.new.items ≡ map stored_of segments.old.items ++ stored_at from sent counts.released counts.taken }
+{
+    match sent {
+        Sent::Quiet => Outcome::Quiet,
+        Sent::Failed => Outcome::EmitFailed,
+        Sent::Emitted(header, payload) => {
+            let index = segments.len();
+            segments.push_reserved(Segment {
+                from,
+                header,
+                payload,
+                released_at: counts.released,
+                taken_at: counts.taken,
+            });
+            Outcome::Emitted(index)
+        }
+    }
+}
+
+// One dispatch of a side. The room is made first.
+pub(crate) fn dispatch(alloc: Global, host: &mut Host<'_>, side: Side, segments: &mut Vec<Segment>, moment: &Moment, fail: bool) -> Result<Outcome, PairError>
+    ensures step { IfOk result (λ o. Dispatches side moment.entry.now fail o host.old (map stored_of segments.old.items) host.new (map stored_of segments.new.items)) }
+    ensures memory { OnErr result (IsUnchanged host.old (map stored_of segments.old.items) host.new (map stored_of segments.new.items)) }
+{
+    if let Err(_) = segments.reserve(1) {
+        return Err(PairError::Memory);
+    }
+    let room = match Vec::with_capacity(alloc, moment.ip_mtu) {
+        Err(_) => return Err(PairError::Memory),
+        Ok(room) => room,
+    };
+    let counts = host.counts();
+    let sent = host.dispatch(moment, room, fail);
+    Ok(store(segments, side, sent, counts))
+}
+
+// The outcome of a delivery, whose reply is stored where there is one; there is room for it.
+fn store_reply(alloc: Global, segments: &mut Vec<Segment>, from: Side, reply: Option<Reply>, counts: Counts) -> Outcome
+    requires room { vec_len segments.old < vec_capacity segments.old }
+    requires empty { ForSome reply (λ r. r.1.payload.now ≡ []) }
+    ensures answer { result ≡ Outcome.Delivered (reply_index (length (map stored_of segments.old.items)) (option_map (λ r. (r.0, segment_of r.1)) reply.entry)) }
+    ensures stored { map stored_of segments.new.items ≡ map stored_of segments.old.items ++ kept_at from (option_map (λ r. (r.0, segment_of r.1)) reply.entry) counts.released counts.taken }
+{
+    match reply {
+        None => Outcome::Delivered(None),
+        Some((ip_repr, repr)) => {
+            let index = segments.len();
+            let header = Header::of(ip_repr, &repr);
+            segments.push_reserved(Segment::of_reply(alloc, from, header, counts.released, counts.taken));
+            Outcome::Delivered(Some(index))
+        }
+    }
+}
+
+// One delivery to a side. The room is made first.
+pub(crate) fn deliver(alloc: Global, emitter: Counts, host: &mut Host<'_>, side: Side, segments: &mut Vec<Segment>, index: usize, moment: &Moment) -> Result<Outcome, PairError>
+    requires there { index < length segments.old.items }
+    requires released { host.old.released < 2 ^ 63 }
+    requires taken { host.old.taken < 2 ^ 63 }
+    ensures step { IfOk result (λ o. DeliversAt (slice_get (map stored_of segments.old.items) index) emitter.released emitter.taken side moment.entry.now o host.old (map stored_of segments.old.items) host.new (map stored_of segments.new.items)) }
+    ensures memory { OnErr result (IsUnchanged host.old (map stored_of segments.old.items) host.new (map stored_of segments.new.items)) }
+{
+    let segment = &segments[index];
+    if too_old(segment.released_at, emitter.released, segment.taken_at, emitter.taken) {
+        return Ok(Outcome::TooOld);
+    }
+    if !host.accepts(moment, segment) {
+        return Ok(Outcome::NotAccepted(None));
+    }
+    if let Err(_) = segments.reserve(1) {
+        return Err(PairError::Memory);
+    }
+    let reply = host.deliver(moment, &segments[index]);
+    Ok(store_reply(alloc, segments, side, reply, host.counts()))
+}

@@ -1,0 +1,267 @@
+// Two sockets, and every segment that they emitted.
+ghost use Rattle.std.specs.Prelude.{◌≡◌, ◌+◌, ◌<◌, ◌≤◌, ◌^◌, length, IfOk, OnOk, OnErr, [], None, slice_get};
+
+use crate::event::Event;
+use crate::exchange::{deliver, dispatch};
+use crate::host::Host;
+use crate::moment::Moment;
+use crate::outcome::{Outcome, PairError};
+use crate::segment::Segment;
+use crate::side::Side;
+use control_wire::TcpTimestampGenerator;
+use ip_wire::IpEndpoint;
+use sock_tcp::{Socket, SocketBuffer};
+use std::alloc::Global;
+use std::marker::Model;
+
+/// What one side of a pair begins with.
+#[derive(Drop)]
+pub struct Setup<'a> {
+    /// The receive buffer: empty, of at most 2^30 bytes.
+    pub rx: SocketBuffer<'a>,
+    /// The transmit buffer: empty, of at most 2^30 bytes.
+    pub tx: SocketBuffer<'a>,
+    /// The side's address and port, neither of them zero.
+    pub endpoint: IpEndpoint,
+    /// The source of timestamps: none yet.
+    pub generator: Option<TcpTimestampGenerator>,
+}
+
+/// Two TCP sockets, A and B, and every segment that they ever emitted, which may be delivered at any time and any number
+/// of times.
+#[derive(Debug, Drop)]
+pub struct Pair<'a> {
+    a: Host<'a>,
+    b: Host<'a>,
+    segments: Vec<Segment>,
+    limit: Option<u32>,
+    alloc: Global,
+}
+
+impl<'a> Model for Pair<'a> {
+    ghost use Rattle.std.specs.Prelude.{map};
+    ghost use Rattle.sock_pair.specs.PairViews.{PairView};
+    ghost use Rattle.sock_pair.specs.Holding.{stored_of};
+    ghost use Rattle.sock_pair.specs.PairInvariant.{IsPair};
+
+    ghost Value = { PairView };
+
+    ghost view = { λ p. record { a = p.a; b = p.b; segments = map stored_of p.segments.items; limit = p.limit } };
+
+    ghost invariant = { λ p. IsPair (record { a = p.a; b = p.b; segments = map stored_of p.segments.items; limit = p.limit }) };
+}
+
+impl<'a> Pair<'a> {
+    ghost use Rattle.std.specs.Prelude.{map};
+    ghost use Rattle.ip_wire.specs.Address.{SameVersion};
+    ghost use Rattle.sock_tcp.specs.View.{fresh};
+    ghost use Rattle.sock_tcp.specs.Queue.{queue_of};
+    ghost use Rattle.sock_pair.specs.PairViews.{new_host, new_pair, host_of};
+    ghost use Rattle.sock_pair.specs.PairCalls.{listening, connecting, OpensAs, is_over, Sends, Receives};
+    ghost use Rattle.sock_pair.specs.PairSteps.{OneSide, OneSideAndSegments, Dispatches, Delivers, Step, Done, HasStopped};
+    ghost use Rattle.sock_pair.specs.Holding.{stored_of};
+    ghost use Rattle.sock_pair.specs.PairInvariant.{IsReachable};
+    ghost use Rattle.sock_pair.specs.NetworkInvariant.{IsLimit};
+    ghost use Rattle.sock_pair.specs.Sides.{other_side};
+
+    /// Two closed sockets and no segment.
+    ///
+    /// The buffers are empty and of at most 2^30 bytes each; the endpoints are different, specified, of one version, and
+    /// their ports not zero; `limit`, where there is one, is below 2^29 and bounds the bytes that each side accepts.
+    pub fn new(alloc: Global, a: Setup<'a>, b: Setup<'a>, limit: Option<u32>) -> Pair<'a>
+        requires a_rx { (a.rx.queue ≡ []) × (length a.rx.spare ≤ 2 ^ 30) }
+        requires a_tx { (a.tx.queue ≡ []) × (length a.tx.spare ≤ 2 ^ 30) }
+        requires b_rx { (b.rx.queue ≡ []) × (length b.rx.spare ≤ 2 ^ 30) }
+        requires b_tx { (b.tx.queue ≡ []) × (length b.tx.spare ≤ 2 ^ 30) }
+        requires a_reachable { IsReachable a.endpoint }
+        requires b_reachable { IsReachable b.endpoint }
+        requires versions { SameVersion a.endpoint.addr b.endpoint.addr }
+        requires different { a.endpoint ≡ b.endpoint → ⊥ }
+        requires generators { (a.generator ≡ None) × (b.generator ≡ None) }
+        requires limit { IsLimit limit }
+        ensures { result ≡ new_pair (new_host (fresh (queue_of a.entry.rx) (queue_of a.entry.tx)) a.entry.endpoint) (new_host (fresh (queue_of b.entry.rx) (queue_of b.entry.tx)) b.entry.endpoint) limit }
+    {
+        Pair {
+            a: Host::new(alloc, a.rx, a.tx, a.endpoint),
+            b: Host::new(alloc, b.rx, b.tx, b.endpoint),
+            segments: Vec::new(alloc),
+            limit,
+            alloc,
+        }
+    }
+
+    fn host(&self, side: Side) -> &Host<'a>
+        ensures { result.now ≡ host_of side self.now }
+    {
+        match side {
+            Side::A => &self.a,
+            Side::B => &self.b,
+        }
+    }
+
+    /// All bytes that the side's socket took to send, in order.
+    pub fn accepted(&self, side: Side) -> &[u8]
+        ensures { result.now ≡ (host_of side self.now).accepted }
+    {
+        self.host(side).accepted.as_slice()
+    }
+
+    /// All bytes that the side's socket handed out, in order.
+    pub fn handed_out(&self, side: Side) -> &[u8]
+        ensures { result.now ≡ (host_of side self.now).handed_out }
+    {
+        self.host(side).handed_out.as_slice()
+    }
+
+    /// How many bytes left the side's transmit queue by acknowledgement.
+    pub fn released(&self, side: Side) -> u64
+        ensures { result ≡ (host_of side self.now).released }
+    {
+        self.host(side).released
+    }
+
+    /// How many bytes joined the side's receive queue.
+    pub fn taken(&self, side: Side) -> u64
+        ensures { result ≡ (host_of side self.now).taken }
+    {
+        self.host(side).taken
+    }
+
+    /// The side's socket.
+    pub fn socket(&self, side: Side) -> &Socket<'a>
+        ensures { result.now.control_block ≡ (host_of side self.now).control_block }
+    {
+        &self.host(side).socket
+    }
+
+    /// Every segment that was emitted, the first one first.
+    pub fn segments(&self) -> &[Segment]
+        ensures { map stored_of result.now ≡ self.now.segments }
+    {
+        self.segments.as_slice()
+    }
+
+    fn listen(&mut self, side: Side) -> Outcome
+        ensures { OneSide side self.old self.new (λ h k. OpensAs h.opening h (listening h) result k) }
+    {
+        match side {
+            Side::A => self.a.listen(),
+            Side::B => self.b.listen(),
+        }
+    }
+
+    fn connect(&mut self, side: Side, moment: &Moment) -> Outcome
+        ensures { OneSide side self.old self.new (λ h k. OpensAs h.opening h (connecting h moment.entry.now (host_of (other_side side) self.old).endpoint) result k) }
+    {
+        match side {
+            Side::A => self.a.connect(moment, self.b.endpoint()),
+            Side::B => self.b.connect(moment, self.a.endpoint()),
+        }
+    }
+
+    // Whether so many more bytes of the side are more than the limit.
+    fn is_over_limit(&self, side: Side, count: usize) -> bool
+        requires { count < 2 ^ 63 }
+        ensures { result ≡ is_over self.now.limit (length (host_of side self.now).accepted + count) }
+    {
+        let accepted = match side {
+            Side::A => self.a.accepted_len(),
+            Side::B => self.b.accepted_len(),
+        };
+        match self.limit {
+            None => false,
+            Some(limit) => accepted + count > limit as usize,
+        }
+    }
+
+    fn send(&mut self, side: Side, bytes: &[u8]) -> Result<Outcome, PairError>
+        ensures step { IfOk result (λ o. OneSide side self.old self.new (λ h k. Sends self.old.limit bytes.now h o k)) }
+        ensures memory { OnErr result (self.new ≡ self.old) }
+    {
+        if self.is_over_limit(side, bytes.len()) {
+            return Ok(Outcome::StreamLimit);
+        }
+        match side {
+            Side::A => self.a.send(bytes),
+            Side::B => self.b.send(bytes),
+        }
+    }
+
+    fn recv(&mut self, side: Side, size: usize) -> Result<Outcome, PairError>
+        ensures step { IfOk result (λ o. OneSide side self.old self.new (λ h k. Receives size h o k)) }
+        ensures memory { OnErr result (self.new ≡ self.old) }
+    {
+        match side {
+            Side::A => self.a.recv(self.alloc, size),
+            Side::B => self.b.recv(self.alloc, size),
+        }
+    }
+
+    fn dispatch(&mut self, side: Side, moment: &Moment, fail: bool) -> Result<Outcome, PairError>
+        ensures step { IfOk result (λ o. OneSideAndSegments side self.old self.new (Dispatches side moment.entry.now fail o)) }
+        ensures memory { OnErr result (self.new ≡ self.old) }
+    {
+        match side {
+            Side::A => dispatch(self.alloc, &mut self.a, Side::A, &mut self.segments, moment, fail),
+            Side::B => dispatch(self.alloc, &mut self.b, Side::B, &mut self.segments, moment, fail),
+        }
+    }
+
+    fn deliver(&mut self, index: usize, moment: &Moment) -> Result<Outcome, PairError>
+        ensures step { IfOk result (λ o. Delivers (slice_get self.old.segments index) moment.entry.now self.old o self.new) }
+        ensures memory { OnErr result (self.new ≡ self.old) }
+    {
+        if index >= self.segments.len() {
+            return Ok(Outcome::NoSegment);
+        }
+        let segment = &self.segments[index];
+        segment.in_range();
+        self.a.in_range();
+        self.b.in_range();
+        match segment.from {
+            Side::A => {
+                let counts = self.a.counts();
+                deliver(self.alloc, counts, &mut self.b, Side::B, &mut self.segments, index, moment)
+            }
+            Side::B => {
+                let counts = self.b.counts();
+                deliver(self.alloc, counts, &mut self.a, Side::A, &mut self.segments, index, moment)
+            }
+        }
+    }
+
+    /// Does one event.
+    ///
+    /// `Memory` where a growth was refused; the pair is then as it was.
+    pub fn step(&mut self, event: &Event) -> Result<Outcome, PairError>
+        ensures step { IfOk result (λ o. Step event.entry.now self.old o self.new) }
+        ensures memory { OnErr result (self.new ≡ self.old) }
+    {
+        match event {
+            Event::Listen { side } => Ok(self.listen(*side)),
+            Event::Connect { side, moment } => Ok(self.connect(*side, moment)),
+            Event::SendSlice { side, bytes } => self.send(*side, bytes.as_slice()),
+            Event::RecvSlice { side, size } => self.recv(*side, *size),
+            Event::Dispatch { side, moment, fail } => self.dispatch(*side, moment, *fail),
+            Event::Deliver { index, moment } => self.deliver(*index, moment),
+        }
+    }
+
+    /// Does the events in turn, and adds an outcome for each to `outcomes`.
+    ///
+    /// `Memory` where a growth was refused; the events before that one were done, and `outcomes` has gained exactly their
+    /// outcomes.
+    pub fn run(&mut self, events: &[Event], outcomes: &mut Vec<Outcome>) -> Result<(), PairError>
+        ensures done { OnOk result (Done events.now self.old outcomes.old.items outcomes.new.items self.new) }
+        ensures memory { OnErr result (HasStopped events.now self.old outcomes.old.items outcomes.new.items self.new) }
+    {
+        for event in events {
+            if let Err(_) = outcomes.reserve(1) {
+                return Err(PairError::Memory);
+            }
+            let outcome = self.step(event)?;
+            outcomes.push_reserved(outcome);
+        }
+        Ok(())
+    }
+}
