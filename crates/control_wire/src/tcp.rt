@@ -80,7 +80,8 @@ impl TcpTimestampRepr {
         generator: Option<TcpTimestampGenerator>,
     ) -> Option<TcpTimestampRepr>
         requires { MatchOption generator (Unit {0}) (λ g. IsAlwaysCallable g) }
-        ensures { MatchOption generator (result ≡ None) (λ g. IsSomeAnd result (λ t. post g t.tsval × (t.tsecr ≡ self.now.tsval))) }
+        ensures { MatchOption generator (result ≡ None)
+            (λ g. IsSomeAnd result (λ t. post g t.tsval × (t.tsecr ≡ self.now.tsval))) }
     {
         match generator {
             None => None,
@@ -124,7 +125,8 @@ impl TcpRepr<'_> {
         self.header_len() + self.payload.len()
     }
 
-    /// How many numbers of the sequence space the segment takes: its payload, and one for SYN or FIN (RFC 9293, section 3.4).
+    /// How many numbers of the sequence space the segment takes: its payload, and one for SYN or FIN
+    /// (RFC 9293, section 3.4).
     pub fn segment_len(&self) -> usize
         ensures { result ≡ segment_len (segment_of self.now) }
     {

@@ -71,7 +71,8 @@ dispatch_line fail n values =
 unfoldable pub deliver_line : ℕ → List Word → Result EventValue ScriptError
 deliver_line n values =
     by_words n
-    (λ (index, millis, word). deliver_event (number_of 9999999999 index) (number_of 1000000000 millis) (number_of 4294967295 word))
+    (λ (index, millis, word).
+    deliver_event (number_of 9999999999 index) (number_of 1000000000 millis) (number_of 4294967295 word))
     (three_of values)
 
 -- what line n means
@@ -106,7 +107,9 @@ header_values _ _ = None
 unfoldable pub header_line : ℕ → List Word → Result HeaderValue ScriptError
 header_line n values =
     by_words n
-    (λ (arx, atx, brx, btx, limit). header_values (sizes_of (number_of 65535 arx) (number_of 65535 atx) (number_of 65535 brx) (number_of 65535 btx)) (limit_of limit))
+    (λ (arx, atx, brx, btx, limit).
+    let size = number_of 65535 in
+    header_values (sizes_of (size arx) (size atx) (size brx) (size btx)) (limit_of limit))
     (five_of values)
 
 -- what the first line that is not skipped means
@@ -115,7 +118,8 @@ header_of n [] = Err (fault.NoPairLine n)
 header_of n (name ∷ values) =
     if bytes_eq name (codes "pair") then header_line n values else Err (fault.NoPairLine n)
 
-abbrev pub first_and_rest : Result EventValue ScriptError → Result (List EventValue) ScriptError → Result (List EventValue) ScriptError
+abbrev pub first_and_rest
+    : Result EventValue ScriptError → Result (List EventValue) ScriptError → Result (List EventValue) ScriptError
 first_and_rest (Err e) rest = Err e
 first_and_rest (Ok event) (Err e) = Err e
 first_and_rest (Ok event) (Ok events) = Ok (event ∷ events)
@@ -133,7 +137,8 @@ pub record ScriptValue : Type 0 where
 abbrev pub script_value : Script → ScriptValue
 script_value s = record { sizes = s.sizes; limit = s.limit; events = map event_value s.events.items }
 
-abbrev pub with_events : Result HeaderValue ScriptError → Result (List EventValue) ScriptError → Result ScriptValue ScriptError
+abbrev pub with_events
+    : Result HeaderValue ScriptError → Result (List EventValue) ScriptError → Result ScriptValue ScriptError
 with_events (Err e) more = Err e
 with_events (Ok header) (Err e) = Err e
 with_events (Ok header) (Ok events) = Ok (record { sizes = header.sizes; limit = header.limit; events = events })
@@ -152,4 +157,5 @@ header_value h = record { sizes = h.sizes; limit = h.limit }
 
 -- the result is what is meant, its value seen by `value`, but where memory ran out
 abbrev pub Gives : {T V : Type 0} → (T → V) → Result V ScriptError → Result T ScriptError → Type 0
-Gives value meant result = MatchResult result (λ x. meant ≡ Ok (value x)) (λ e. e ≢ fault.Memory → meant ≡ Err e)
+Gives value meant result =
+    MatchResult result (λ x. meant ≡ Ok (value x)) (λ e. e ≢ fault.Memory → meant ≡ Err e)

@@ -1,6 +1,7 @@
 -- A script as lines, and a line as words.
 use Rattle.std.specs.Prelude.{ℕ, ◌+◌, List, [], ◌∷◌, length, Bool, true, false, ◌==◌, ◌||◌, nat_lt, filter, if◌then◌else◌}
 use Rattle.std.specs.List.{onto_first, slice_split}
+use Rattle.sock_pair.specs.declared.script.lines.Line.{Line}
 
 -- lines end with a line feed (10), which the last may lack
 unfoldable pub lines_of : List ℕ → List (List ℕ)
@@ -30,3 +31,10 @@ numbered_from n [] = []
 numbered_from n (line ∷ rest) =
     if is_skipped line then numbered_from (n + 1) rest
     else (n, words_of line) ∷ numbered_from (n + 1) rest
+
+-- the same of the lines of a text whose first line has number n
+abbrev pub lines_left : ℕ → List ℕ → List (ℕ × List (List ℕ))
+lines_left n text = numbered_from n (lines_of text)
+
+abbrev pub line_words : Line → List (List ℕ)
+line_words line = line.name.now ∷ words_of line.values.now

@@ -2,7 +2,7 @@
 ghost use Rattle.std.specs.Prelude.{◌≡◌, map};
 ghost use Rattle.sock_pair.specs.EventValue.{event_value};
 ghost use Rattle.sock_pair.specs.ScriptLines.{Gives, events_of, script_of, script_value};
-ghost use Rattle.sock_pair.specs.ScriptText.{lines_of, numbered_from};
+ghost use Rattle.sock_pair.specs.ScriptText.{lines_left};
 
 mod error;
 mod forms;
@@ -30,9 +30,11 @@ pub struct Script {
     pub events: Vec<Event>,
 }
 
-/// Reads a text as a script: its first line that is not skipped names the sizes, each later one an event.
+/// Reads a text as a script: its first line that is not skipped names the sizes, each later one an
+/// event.
 ///
-/// The error is the fault of the first line that has one, or `Memory` where memory ran out before that line.
+/// The error is the fault of the first line that has one, or `Memory` where memory ran out before
+/// that line.
 #[tactic(auto, unfolding(crate::specs::ScriptLines::script_of))]
 pub fn parse(alloc: Global, text: &[u8]) -> Result<Script, ScriptError>
     ensures { Gives script_value (script_of text.now) result }
@@ -52,7 +54,8 @@ pub fn parse(alloc: Global, text: &[u8]) -> Result<Script, ScriptError>
 
 // The events of the lines that are left.
 fn events(alloc: Global, lines: &mut Lines<'_>) -> Result<Vec<Event>, ScriptError>
-    ensures { Gives (λ v. map event_value v.items) (events_of (numbered_from lines.old.number (lines_of lines.old.rest.now))) result }
+    ensures { let left = lines_left lines.old.number lines.old.rest.now in
+        Gives (λ v. map event_value v.items) (events_of left) result }
 {
     let mut events = Vec::new(alloc);
     while let Some(line) = lines.next() {

@@ -1,7 +1,7 @@
 // What a line asks for, by its form.
 ghost use Rattle.std.specs.Prelude.{◌≡◌, ◌≤◌, ◌∷◌};
 ghost use Rattle.sock_pair.specs.EventValue.{event_value, moment_value};
-ghost use Rattle.sock_pair.specs.ScriptText.{words_of};
+ghost use Rattle.sock_pair.specs.ScriptText.{line_words, words_of};
 ghost use Rattle.sock_pair.specs.ScriptLines.{
   Gives,
   connect_line,
@@ -35,9 +35,10 @@ const INDEX: usize = 9_999_999_999;
 
 const IP_MTU: usize = 1500;
 
-/// The event that a line asks for, or its fault: an unknown first word, else a wrong number of words, else a bad word.
+/// The event that a line asks for, or its fault: an unknown first word, else a wrong number of
+/// words, else a bad word.
 pub fn event(alloc: Global, line: &Line<'_>) -> Result<Event, ScriptError>
-    ensures { Gives event_value (event_of line.now.number (line.now.name.now ∷ words_of line.now.values.now)) result }
+    ensures { Gives event_value (event_of line.now.number (line_words line.now)) result }
 {
     let number = line.number;
     let Some(keyword) = Keyword::of_word(line.name) else {

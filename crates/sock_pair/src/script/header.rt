@@ -1,7 +1,7 @@
 // The line that names the buffers' sizes and the limit.
 ghost use Rattle.std.specs.Prelude.{◌≡◌, ◌∷◌};
 ghost use Rattle.sock_pair.specs.ScriptLines.{Gives, header_line, header_of, header_value, sizes_of};
-ghost use Rattle.sock_pair.specs.ScriptText.{words_of};
+ghost use Rattle.sock_pair.specs.ScriptText.{line_words, words_of};
 ghost use Rattle.sock_pair.specs.ScriptWords.{number_of};
 
 use crate::script::error::ScriptError;
@@ -12,7 +12,8 @@ use crate::script::words::five_words;
 // The largest size of a buffer.
 const BUFFER: usize = 65535;
 
-/// The sizes of a's receive and transmit buffer and of b's, and how many bytes each side may accept.
+/// The sizes of a's receive and transmit buffer and of b's, and how many bytes each side may
+/// accept.
 #[derive(Clone, Copy)]
 pub struct Header {
     pub sizes: [usize; 4],
@@ -21,7 +22,7 @@ pub struct Header {
 
 /// What the line `pair ARX ATX BRX BTX LIMIT` names, or its fault.
 pub fn read_header(line: &Line<'_>) -> Result<Header, ScriptError>
-    ensures { Gives header_value (header_of line.now.number (line.now.name.now ∷ words_of line.now.values.now)) result }
+    ensures { Gives header_value (header_of line.now.number (line_words line.now)) result }
 {
     if line.name != b"pair".as_slice() {
         return Err(ScriptError::NoPairLine { line: line.number });
@@ -43,7 +44,8 @@ fn header_values(line: usize, values: &[u8]) -> Result<Header, ScriptError>
 }
 
 fn sizes(arx: &[u8], atx: &[u8], brx: &[u8], btx: &[u8]) -> Option<[usize; 4]>
-    ensures { result ≡ sizes_of (number_of 65535 arx.now) (number_of 65535 atx.now) (number_of 65535 brx.now) (number_of 65535 btx.now) }
+    ensures { let size = number_of 65535 in
+        result ≡ sizes_of (size arx.now) (size atx.now) (size brx.now) (size btx.now) }
 {
     let arx = number(arx, BUFFER)?;
     let atx = number(atx, BUFFER)?;

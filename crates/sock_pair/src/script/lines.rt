@@ -1,6 +1,6 @@
 // A script as lines.
 ghost use Rattle.std.specs.Prelude.{◌≡◌, ◌+◌, ◌<◌, ◌^◌, [], ◌∷◌, MatchOption, IfNone, OnSome, length};
-ghost use Rattle.sock_pair.specs.ScriptText.{is_comment, lines_of, numbered_from, words_of};
+ghost use Rattle.sock_pair.specs.ScriptText.{is_comment, line_words, lines_left, lines_of};
 
 use crate::script::words::{len_before, split_word};
 
@@ -39,7 +39,9 @@ impl<'a> Lines<'a> {
 
     /// The next line that is not skipped; none where there is none.
     pub fn next(&mut self) -> Option<Line<'a>>
-        ensures lines { MatchOption result (numbered_from self.old.number (lines_of self.old.rest.now) ≡ []) (λ l. numbered_from self.old.number (lines_of self.old.rest.now) ≡ (l.number, l.name.now ∷ words_of l.values.now) ∷ numbered_from self.new.number (lines_of self.new.rest.now)) }
+        ensures lines { let before = lines_left self.old.number self.old.rest.now in
+            let after = lines_left self.new.number self.new.rest.now in
+            MatchOption result (before ≡ []) (λ line. before ≡ (line.number, line_words line) ∷ after) }
         ensures shorter { OnSome result (length self.new.rest.now < length self.old.rest.now) }
         ensures end { IfNone result (self.new.number ≡ self.old.number + length (lines_of self.old.rest.now)) }
     {

@@ -25,7 +25,8 @@ pub fn side(word: &[u8]) -> Option<Side>
     }
 }
 
-/// The number that 1 to 10 decimal digits write, where it is at most `most`; none for any other word.
+/// The number that 1 to 10 decimal digits write, where it is at most `most`; none for any other
+/// word.
 #[tactic(auto, unfolding(crate::specs::ScriptWords::number_of))]
 pub fn number(word: &[u8], most: usize) -> Option<usize>
     ensures value { result ≡ number_of most word.now }

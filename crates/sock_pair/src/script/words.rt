@@ -28,7 +28,8 @@ fn spaces(line: &[u8]) -> usize
 
 /// The first word of a line, and what stands after it; none where there is no word.
 pub fn split_word(line: &[u8]) -> Option<(&[u8], &[u8])>
-    ensures { MatchOption result (words_of line.now ≡ []) (λ p. words_of line.now ≡ p.0.now ∷ words_of p.1.now) }
+    ensures { let words = words_of line.now in
+        MatchOption result (words ≡ []) (λ p. words ≡ p.0.now ∷ words_of p.1.now) }
 {
     let words = &line[spaces(line)..];
     if words.is_empty() {
@@ -51,7 +52,8 @@ pub fn one_word(line: &[u8]) -> Option<&[u8]>
 
 /// The words of a line that has just two.
 pub fn two_words(line: &[u8]) -> Option<(&[u8], &[u8])>
-    ensures { MatchOption result (two_of (words_of line.now) ≡ None) (λ p. two_of (words_of line.now) ≡ Some (p.0.now, p.1.now)) }
+    ensures { let words = two_of (words_of line.now) in
+        MatchOption result (words ≡ None) (λ w. words ≡ Some (w.0.now, w.1.now)) }
 {
     let (first, rest) = split_word(line)?;
     let second = one_word(rest)?;
@@ -60,7 +62,8 @@ pub fn two_words(line: &[u8]) -> Option<(&[u8], &[u8])>
 
 /// The words of a line that has just three.
 pub fn three_words(line: &[u8]) -> Option<(&[u8], &[u8], &[u8])>
-    ensures { MatchOption result (three_of (words_of line.now) ≡ None) (λ p. three_of (words_of line.now) ≡ Some (p.0.now, p.1.now, p.2.now)) }
+    ensures { let words = three_of (words_of line.now) in
+        MatchOption result (words ≡ None) (λ w. words ≡ Some (w.0.now, w.1.now, w.2.now)) }
 {
     let (first, rest) = split_word(line)?;
     let (second, third) = two_words(rest)?;
@@ -69,7 +72,8 @@ pub fn three_words(line: &[u8]) -> Option<(&[u8], &[u8], &[u8])>
 
 /// The words of a line that has just five.
 pub fn five_words(line: &[u8]) -> Option<(&[u8], &[u8], &[u8], &[u8], &[u8])>
-    ensures { MatchOption result (five_of (words_of line.now) ≡ None) (λ w. five_of (words_of line.now) ≡ Some (w.0.now, w.1.now, w.2.now, w.3.now, w.4.now)) }
+    ensures { let words = five_of (words_of line.now) in
+        MatchOption result (words ≡ None) (λ w. words ≡ Some (w.0.now, w.1.now, w.2.now, w.3.now, w.4.now)) }
 {
     let (first, rest) = split_word(line)?;
     let (second, rest) = split_word(rest)?;
@@ -79,7 +83,8 @@ pub fn five_words(line: &[u8]) -> Option<(&[u8], &[u8], &[u8], &[u8], &[u8])>
 
 /// The words of a line that has one or two; nothing in place of the second where there is one.
 pub fn one_word_and_text(line: &[u8]) -> Option<(&[u8], &[u8])>
-    ensures { MatchOption result (one_and_text_of (words_of line.now) ≡ None) (λ p. one_and_text_of (words_of line.now) ≡ Some (p.0.now, p.1.now)) }
+    ensures { let words = one_and_text_of (words_of line.now) in
+        MatchOption result (words ≡ None) (λ w. words ≡ Some (w.0.now, w.1.now)) }
 {
     let (first, rest) = split_word(line)?;
     let Some((text, rest)) = split_word(rest) else {
