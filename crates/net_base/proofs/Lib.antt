@@ -1,3 +1,4 @@
 pub mod Cells
+pub mod Entries
 pub mod Helds
 pub mod Sets
