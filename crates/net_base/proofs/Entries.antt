@@ -4,11 +4,15 @@ use Rattle.std.proofs.lemmas.Bool.{cases_lt, lt-ltb, le-ltb, false≢true}
 use Rattle.std.proofs.lemmas.Option.{none-some}
 use Rattle.std.proofs.lemmas.Bool.Decides.{nat_tests}
 use Rattle.std.specs.Prelude.{◌==◌, is_none, is_ok, Result}
-use Rattle.std.proofs.lemmas.List.{take-take, take_at, drop_at, take_all, take-append-le, drop-append-le, same_lists, places}
+use Rattle.std.proofs.lemmas.List.{take-take, drop-take, take_at, drop_at, take_all, take-append-le, drop-append-le, same_lists, places}
 use Rattle.net_base.specs.Ring.{Ring, ring, ring_of, cells_from, overwrite, capacity_of, LeavesRun}
 use Rattle.net_base.specs.Packets.{Packets, packets_with, taken, place_of, end_of, run_of, room_of, first_bytes, first_header, starts_padded, put_packet, packets, first_packet, Dequeues, SeesFirst, without_first, skipped_from, skipped, restarted, appended, AppendsWith}
 use Rattle.net_base.specs.PacketsInside.{cut, sizes, Laid, packets_of, IsLaid}
 use Rattle.net_base.specs.declared.packet_buffer.PacketMetadata.{PacketMetadata}
+use Rattle.net_base.specs.Packets.{recut, with_storage}
+use Rattle.net_base.specs.PacketLends.{with_all}
+use Rattle.std.specs.List.{refill}
+use Rattle.net_base.proofs.Refilled.{refill_same}
 use Rattle.net_base.proofs.Cells.{length-cells, run_joined, cells_more, ring_dequeued}
 
 pub place_of-low : (m k n : ℕ) → k + n < m → place_of m k n ≡ k + n
@@ -460,3 +464,37 @@ module _ {X : Type 0} where
             let start : at ≡ place_of (length p.storage) p.start (length (first_bytes p.entries)) =
             at_is ∙ ap₂ (λ (a b : ℕ). place_of a b m.size) (sym room-view) (sym start-view) ∙ ap (λ j. place_of (length p.storage) p.start j) (sym size_is) in
             same_packets entries places storage start
+
+-- ---- other payload bytes, as many as before
+
+module _ {X : Type 0} where
+  recut_cut : (ms : List (PacketMetadata X)) (bs cs : List ℕ) → sizes ms ≡ length bs → cut ms (take (length bs) cs) ≡ recut (cut ms bs) cs
+  recut_cut [] bs cs total = refl
+  recut_cut (m ∷ ms) bs cs total =
+      let fits : m.size ≤ length bs = omega (arith, total) in
+      let one : length (take m.size bs) ≡ m.size = length-take-le m.size bs fits in
+      let left : length (drop m.size bs) ≡ length bs - m.size = length-drop m.size bs in
+      let all : length bs ≡ m.size + length (drop m.size bs) = omega (arith, left) in
+      ap₂ ◌∷◌
+      (ap (λ l. (m.header, l)) (take-take m.size (length bs) cs fits ∙ ap (λ j. take j cs) (sym one)))
+      (ap (cut ms) (ap (λ j. drop m.size (take j cs)) all ∙ drop-take m.size (length (drop m.size bs)) cs)
+      ∙ recut_cut ms (drop m.size bs) (drop m.size cs) (omega (arith, left))
+      ∙ ap (λ j. recut (cut ms (drop m.size bs)) (drop j cs)) (sym one))
+
+  module _ (ms : Ring (PacketMetadata X)) (bytes : List ℕ) (k n : ℕ) (w : List ℕ) (laid : IsLaid ms bytes k n) (long : length w ≡ length bytes) where
+    pub laid_rewritten : IsLaid ms w k n
+    laid_rewritten = record {
+      start_within = omega (arith, laid.start_within, long);
+      length_within = omega (arith, laid.length_within, long);
+      total = laid.total;
+      laid = subst (λ j. Laid j k ms.queue) (sym long) laid.laid;
+    }
+
+    pub rewritten_view : packets_of ms w k n ≡ with_all (packets_of ms bytes k n) w
+    rewritten_view =
+        let within : k ≤ length bytes = omega (arith, laid.start_within) in
+        let cells = length-cells k bytes within in
+        let count : length (take n (cells_from k bytes)) ≡ n = length-take-le n (cells_from k bytes) (omega (arith, laid.length_within, cells)) in
+        let same : refill (length bytes) bytes w ≡ w = refill_same bytes w long in
+        (λ i. packets_with ((ap (λ j. cut ms.queue (take j (cells_from k w))) (sym count) ∙ recut_cut ms.queue (take n (cells_from k bytes)) (cells_from k w) (laid.total ∙ sym count)) i) (capacity_of ms) w k)
+        ∙ ap (with_storage (packets_of ms bytes k n)) (sym same)

@@ -111,6 +111,14 @@ module _ {X : Type 0} where
   unfoldable pub takes : ℕ → Packets X → Bool
   takes size p = not (length p.entries == p.places) && fits size (restarted p)
 
+-- other payload bytes, cut into the entries' parts as the old ones were
+abbrev pub recut : {X : Type 0} → List (Option X × List ℕ) → List ℕ → List (Option X × List ℕ)
+recut [] bs = []
+recut (e ∷ es) bs = (e.0, take (length e.1) bs) ∷ recut es (drop (length e.1) bs)
+
+abbrev pub with_storage : {X : Type 0} → Packets X → List ℕ → Packets X
+with_storage p bs = packets_with (recut p.entries (drop p.start bs ++ take p.start bs)) p.places bs p.start
+
 -- the first packet left, with the padding in front of it
 pub record Dequeues {X : Type 0} (old new : Packets X) : Type 0 where
   pub some : 0 < length (skipped old).entries → new ≡ without_first (skipped old)

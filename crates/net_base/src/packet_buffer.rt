@@ -36,8 +36,8 @@ pub struct Empty;
 /// A queue of packets, each a header and its bytes.
 #[derive(Debug, Drop)]
 pub struct PacketBuffer<'a, H> {
-    metadata: RingBuffer<'a, PacketMetadata<H>>,
     payload: &'a mut [u8],
+    metadata: RingBuffer<'a, PacketMetadata<H>>,
     start: usize,
     length: usize,
 }
@@ -54,6 +54,18 @@ impl<'a, H> Model for PacketBuffer<'a, H> {
     ghost view = { λ p. packets_of p.metadata p.payload.now p.start p.length };
 
     ghost invariant = { λ p. IsLaid p.metadata p.payload.now p.start p.length };
+}
+
+impl<'a, H> PacketBuffer<'a, H> {
+    ghost use Rattle.net_base.specs.PacketLends.{LendsAll};
+
+    // Lends all payload bytes.
+    fn all(&mut self) -> &mut [u8]
+        ensures* writes_back { sem 𝓛 (LendsAll H.row self.entry result) }
+        ensures value { result.now ≡ self.old.storage }
+    {
+        self.payload
+    }
 }
 
 impl<'a, H: Copy> PacketBuffer<'a, H> {
