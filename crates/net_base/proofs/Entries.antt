@@ -3,10 +3,10 @@ use Rattle.std.proofs.Common.{◌≡◌, ℕ, suc, ◌+◌, ◌-◌, ◌<◌, �
 use Rattle.std.proofs.lemmas.Bool.{cases_lt, lt-ltb, le-ltb, false≢true}
 use Rattle.std.proofs.lemmas.Option.{none-some}
 use Rattle.std.proofs.lemmas.Bool.Decides.{nat_tests}
-use Rattle.std.specs.Prelude.{◌==◌, is_none, is_ok, Result}
+use Rattle.std.specs.Prelude.{◌==◌, ◌&&◌, ◌||◌, not, nat_le, nat_lt, is_none, is_ok, Result}
 use Rattle.std.proofs.lemmas.List.{take-take, drop-take, take_at, drop_at, take_all, take-append-le, drop-append-le, same_lists, places}
 use Rattle.net_base.specs.Ring.{Ring, ring, ring_of, cells_from, overwrite, capacity_of, LeavesRun}
-use Rattle.net_base.specs.Packets.{Packets, packets_with, taken, place_of, end_of, run_of, room_of, first_bytes, first_header, starts_padded, put_packet, packets, first_packet, Dequeues, SeesFirst, without_first, skipped_from, skipped, restarted, appended, AppendsWith}
+use Rattle.net_base.specs.Packets.{Packets, packets_with, taken, place_of, end_of, run_of, room_of, first_bytes, first_header, starts_padded, put_packet, packets, first_packet, Dequeues, SeesFirst, Enqueues, without_first, skipped_from, skipped, restarted, fits_behind, fits_before, fits, padded_for, made_room, takes, appended, AppendsWith}
 use Rattle.net_base.specs.PacketsInside.{cut, sizes, Laid, packets_of, IsLaid}
 use Rattle.net_base.specs.declared.packet_buffer.PacketMetadata.{PacketMetadata}
 use Rattle.net_base.specs.Packets.{recut, with_storage}
@@ -109,6 +109,79 @@ module _ {X : Type 0} where
   pub restarted-places : (p : Packets X) → (restarted p).places ≡ p.places
   unfolding restarted
   restarted-places p = elim (taken p.entries == 0) as (λ b. (cond b (packets_with p.entries p.places p.storage 0) p).places ≡ p.places) [ true ↦ refl | false ↦ refl ]
+
+  pub restarted-storage : (p : Packets X) → (restarted p).storage ≡ p.storage
+  unfolding restarted
+  restarted-storage p = elim (taken p.entries == 0) as (λ b. (cond b (packets_with p.entries p.places p.storage 0) p).storage ≡ p.storage) [ true ↦ refl | false ↦ refl ]
+
+  -- making room changes no payload byte, and no packet
+  pub made_room-storage : (size : ℕ) (p : Packets X) → (made_room size p).storage ≡ p.storage
+  unfolding made_room padded_for
+  made_room-storage size p =
+      elim (length p.entries == p.places) as (λ b. (cond b p (cond (fits_behind size (restarted p)) (restarted p) (cond (fits_before size (restarted p)) (appended None (run_of (restarted p)) (restarted p)) (restarted p)))).storage ≡ p.storage) [
+        | true ↦ refl
+        | false ↦ elim (fits_behind size (restarted p)) as (λ b. (cond b (restarted p) (cond (fits_before size (restarted p)) (appended None (run_of (restarted p)) (restarted p)) (restarted p))).storage ≡ p.storage) [
+          | true ↦ restarted-storage p
+          | false ↦ elim (fits_before size (restarted p)) as (λ b. (cond b (appended None (run_of (restarted p)) (restarted p)) (restarted p)).storage ≡ p.storage) [ true ↦ restarted-storage p | false ↦ restarted-storage p ]
+        ]
+      ]
+
+  packets-padded : (es : List (Option X × List ℕ)) (bs : List ℕ) → packets (es ++ (None, bs) ∷ []) ≡ packets es
+  packets-padded [] bs = refl
+  packets-padded (e ∷ es) bs = ap (put_packet e.0 e.1) (packets-padded es bs)
+
+  put-append : (o : Option X) (bs : List ℕ) (ps qs : List (X × List ℕ)) → put_packet o bs (ps ++ qs) ≡ put_packet o bs ps ++ qs
+  put-append None bs ps qs = refl
+  put-append (Some h) bs ps qs = refl
+
+  pub packets-append : (es : List (Option X × List ℕ)) (h : X) (bs : List ℕ) → packets (es ++ (Some h, bs) ∷ []) ≡ packets es ++ (h, bs) ∷ []
+  packets-append [] h bs = refl
+  packets-append (e ∷ es) h bs = ap (put_packet e.0 e.1) (packets-append es h bs) ∙ put-append e.0 e.1 (packets es) ((h, bs) ∷ [])
+
+  pub made_room-packets : (size : ℕ) (p : Packets X) → packets (made_room size p).entries ≡ packets p.entries
+  unfolding made_room padded_for
+  made_room-packets size p =
+      let same : packets (restarted p).entries ≡ packets p.entries = ap (λ (es : List (Option X × List ℕ)). packets es) (restarted-entries p) in
+      elim (length p.entries == p.places) as (λ b. packets (cond b p (cond (fits_behind size (restarted p)) (restarted p) (cond (fits_before size (restarted p)) (appended None (run_of (restarted p)) (restarted p)) (restarted p)))).entries ≡ packets p.entries) [
+        | true ↦ refl
+        | false ↦ elim (fits_behind size (restarted p)) as (λ b. packets (cond b (restarted p) (cond (fits_before size (restarted p)) (appended None (run_of (restarted p)) (restarted p)) (restarted p))).entries ≡ packets p.entries) [
+          | true ↦ same
+          | false ↦ elim (fits_before size (restarted p)) as (λ b. packets (cond b (appended None (run_of (restarted p)) (restarted p)) (restarted p)).entries ≡ packets p.entries) [ true ↦ packets-padded (restarted p).entries _ ∙ same | false ↦ same ]
+        ]
+      ]
+
+  -- with a free place and no payload byte taken, exactly what the storage holds fits
+  pub takes_empty : (size : ℕ) (p : Packets X) → length p.entries < p.places → taken p.entries ≡ 0 → takes size p ≡ nat_le size (length p.storage)
+  unfolding takes
+  takes_empty size p free none =
+      let m = length p.storage in
+      let fresh : Packets X = packets_with p.entries p.places p.storage 0 in
+      let first : place_of m 0 (taken p.entries) ≡ 0 = ap (place_of m 0) none ∙ first_place m in
+      let run : run_of fresh ≡ m = omega (arith, none, first) in
+      let room : room_of fresh ≡ m = omega (arith, none) in
+      let open_place : (length p.entries == p.places) ≡ false = grind (arith, nat_tests) in
+      ap (λ b. not b && fits size (restarted p)) open_place ∙ ap (fits size) (restarted-none p none)
+      ∙ (λ i. nat_le size (run i) || (nat_le size (room i - run i) && nat_lt (length p.entries + 1) p.places))
+      ∙ only (nat_lt (length p.entries + 1) p.places)
+    where
+      first_place : (m : ℕ) → place_of m 0 0 ≡ 0
+      first_place m = elim (cases_lt (0 + 0) m) [ inl low ↦ place_of-low m 0 0 low | inr high ↦ place_of-high m 0 0 high ∙ omega arith ]
+
+      only : (b : Bool) → (nat_le size (length p.storage) || (nat_le size (length p.storage - length p.storage) && b)) ≡ nat_le size (length p.storage)
+      only b = grind (arith, nat_tests)
+
+  pub enqueues : (called : List ℕ → ℕ → List ℕ → Type 0) (size : ℕ) (h : X) (p q : Packets X) (kept : ℕ) → AppendsWith called size (Some h) (made_room size p) kept q → Enqueues called size h p kept q
+  enqueues called size h p q kept a = record {
+    appends = a;
+    packets = ap (λ (q : Packets X). packets q.entries) a.after ∙ packets-append (made_room size p).entries h (take kept a.left) ∙ ap (λ (l : List (X × List ℕ)). l ++ (h, take kept a.left) ∷ []) (made_room-packets size p);
+  }
+
+  pub lent_bytes : (size from : ℕ) (h : X) (p q : Packets X) (all : List ℕ) → from ≡ end_of (made_room size p) → q ≡ appended (Some h) size (made_room size p) → all ≡ q.storage
+      → take (from + size - from) (drop from all) ≡ take size (drop (end_of (made_room size p)) p.storage)
+  lent_bytes size from h p q all from_is q_is all_is =
+      let n : from + size - from ≡ size = omega arith in
+      let bytes : all ≡ p.storage = all_is ∙ ap (λ (q : Packets X). q.storage) q_is ∙ made_room-storage size p in
+      (λ i. take (n i) (drop (from_is i) (bytes i)))
 
   pub taken-append : (es : List (Option X × List ℕ)) (e : Option X × List ℕ) → taken (es ++ e ∷ []) ≡ taken es + length e.1
   taken-append [] e = omega arith

@@ -133,6 +133,11 @@ pub record AppendsWith {X : Type 0} (called : List ℕ → ℕ → List ℕ → 
   pub met : called (take size (drop (end_of old) old.storage)) kept left
   pub after : new ≡ packets_with (old.entries ++ (header, take kept left) ∷ []) old.places (overwrite old.storage (end_of old) left) old.start
 
+-- the same of a packet, once room was made for it
+pub record Enqueues {X : Type 0} (called : List ℕ → ℕ → List ℕ → Type 0) (size : ℕ) (header : X) (old : Packets X) (kept : ℕ) (new : Packets X) : Type 0 where
+  pub appends : AppendsWith called size (Some header) (made_room size old) kept new
+  pub packets : packets new.entries ≡ packets old.entries ++ (header, take kept appends.left) ∷ []
+
 -- the packet that stands first
 abbrev pub first_packet : {X : Type 0} → Packets X → Option (X × List ℕ)
 first_packet p = slice_get (packets p.entries) 0

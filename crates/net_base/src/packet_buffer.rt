@@ -1,11 +1,11 @@
 //! A queue of packets, each with a header, over lent places and lent bytes. As smoltcp's packet buffer.
 //!
 //! A packet's bytes stand in one piece. Where they don't fit before the end of the payload storage but fit at its beginning, the bytes up to the end become padding: an entry with no header, which is in no list of packets.
-ghost use Rattle.std.specs.Prelude.{◌≡◌, ℕ, ◌+◌, ◌-◌, ◌<◌, ◌≤◌, ◌==◌, ◌&&◌, ◌||◌, nat_lt, ◌⊎◌, ◌↔◌, List, [], ◌∷◌, ◌++◌, length, take, drop, min, true, false, Some, None, IfOk, IfSome, OnErr, IfNone, IsOk, IsSome, IsTrue, slice_get, if◌then◌else◌};
+ghost use Rattle.std.specs.Prelude.{◌≡◌, ℕ, ◌+◌, ◌-◌, ◌<◌, ◌≤◌, ◌==◌, ◌&&◌, ◌||◌, nat_lt, nat_le, ◌⊎◌, ◌↔◌, List, [], ◌∷◌, ◌++◌, length, take, drop, min, true, false, Some, None, IfOk, IfSome, OnErr, IfNone, IsOk, IsSome, IsTrue, slice_get, if◌then◌else◌};
 ghost use Rattle.std.specs.Fn.{FnOnceReturnsAtMut, FnOnceReturnsAt};
 ghost use Rattle.std.specs.Borrow.{sem};
 ghost use Rattle.net_base.specs.Ring.{LeavesRun};
-ghost use Rattle.net_base.specs.Packets.{packets_with, packets, taken, place_of, end_of, run_of, room_of, first_bytes, first_header, starts_padded, without_first, skipped, appended, restarted, fits_behind, fits_before, fits, padded_for, made_room, takes, first_packet, Dequeues, SeesBoth, SeesFirst, AppendsWith};
+ghost use Rattle.net_base.specs.Packets.{Packets, packets_with, packets, taken, place_of, end_of, run_of, room_of, first_bytes, first_header, starts_padded, without_first, skipped, appended, restarted, fits_behind, fits_before, fits, padded_for, made_room, takes, first_packet, Dequeues, SeesBoth, SeesFirst, AppendsWith, Enqueues};
 
 use crate::ring_buffer::{RingBuffer, place};
 use std::marker::Model;
@@ -214,6 +214,19 @@ impl<'a, H: Copy> PacketBuffer<'a, H> {
         Ok(self.append(size, Some(header)))
     }
 
+    /// Appends a packet, and lends its `size` bytes for writing. What stands in them as the borrow ends is the packet.
+    ///
+    /// `Full` where no place is left, or `size` bytes in one piece are not; the packets then stay as they were.
+    pub fn enqueue(&mut self, size: usize, header: H) -> Result<&mut [u8], Full>
+        ensures variant { IsOk result ↔ IsTrue (takes size self.old) }
+        ensures size { IfOk result (λ bytes. length bytes.now ≡ size) }
+        ensures value { IfOk result (λ bytes. bytes.now ≡ take size (drop (end_of (made_room size self.old)) self.old.storage)) }
+    {
+        let from = self.reserve(size, header)?;
+        let all = self.all();
+        Ok(&mut all[from..from + size])
+    }
+
     // Appends an entry of the first of the `size` bytes behind the others, as `f` leaves them.
     fn append_with<F: FnOnce(&mut [u8]) -> usize>(
         &mut self,
@@ -250,7 +263,8 @@ impl<'a, H: Copy> PacketBuffer<'a, H> {
         requires sized { (s : List ℕ) (r : _) (s' : List ℕ) → FnOnceReturnsAtMut F.FnOnce f s r s' → r ≤ length s }
         ensures variant { IsOk result ↔ IsTrue (takes max_size self.old) }
         ensures err { OnErr result (self.new ≡ made_room max_size self.old) }
-        ensures ok { IfOk result (λ kept. AppendsWith (FnOnceReturnsAtMut F.FnOnce f) max_size (Some header) (made_room max_size self.old) kept self.new) }
+        ensures kept { OnErr result (packets self.new.entries ≡ packets self.old.entries) }
+        ensures ok { IfOk result (λ kept. Enqueues (FnOnceReturnsAtMut F.FnOnce f) max_size header self.old kept self.new) }
     {
         if !self.make_room(max_size) {
             return Err(Full);
@@ -404,3 +418,18 @@ fn lend_bytes<F: FnOnce(&mut [u8]) -> usize>(
 {
     f(&mut places[from..from + count])
 }
+
+/// Making room for a packet adds padding at most, which is in no list of packets.
+pub fn room_keeps_packets<H: Copy>()
+    ensures { (size : ℕ) (p : Packets H) → packets (made_room size p).entries ≡ packets p.entries }
+{}
+
+/// The packets are the same once the padding in front of them is gone.
+pub fn skipping_keeps_packets<H: Copy>()
+    ensures { (p : Packets H) → packets (skipped p).entries ≡ packets p.entries }
+{}
+
+/// With a free place and no payload byte taken, a packet is taken exactly where it is at most as long as the payload storage.
+pub fn empty_payload_takes_all_that_fits<H: Copy>()
+    ensures { (size : ℕ) (p : Packets H) → length p.entries < p.places → taken p.entries ≡ 0 → takes size p ≡ nat_le size (length p.storage) }
+{}
