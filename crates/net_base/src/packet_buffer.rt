@@ -296,9 +296,10 @@ impl<'a, H: Copy> PacketBuffer<'a, H> {
         (first.header, (from, size))
     }
 
-    // Padding that stands first leaves.
-    fn drop_padding(&mut self)
+    /// Padding that stands first leaves. The first step of `peek`, `dequeue` and `dequeue_with`, for a caller that lends on what `first` lends.
+    pub fn skip_padding(&mut self)
         ensures after { self.new ≡ skipped self.old }
+        ensures same { packets self.new.entries ≡ packets self.old.entries }
         ensures packet { starts_padded self.new.entries ≡ false }
     {
         while self.starts_padded() {
@@ -306,28 +307,16 @@ impl<'a, H: Copy> PacketBuffer<'a, H> {
         }
     }
 
-    // The `size` payload bytes from `from` on.
-    fn run(&self, from: usize, size: usize) -> &[u8]
+    /// The `size` payload bytes from `from` on: the bytes of a packet that `take_first` took, until the next change.
+    pub fn part(&self, from: usize, size: usize) -> &[u8]
         requires { from + size ≤ length self.now.storage }
         ensures { result.now ≡ take size (drop from self.now.storage) }
     {
         &self.payload[from..from + size]
     }
 
-    // Takes the first entry, which is a packet. Answers its header, and where its bytes stand and how many.
-    fn drop_packet(&mut self) -> (H, (usize, usize))
-        requires some { 0 < length self.old.entries }
-        requires packet { starts_padded self.old.entries ≡ false }
-        ensures after { self.new ≡ without_first self.old }
-        ensures within { result.1.0 + result.1.1 ≤ length self.new.storage }
-        ensures packet { packets self.old.entries ≡ (result.0, take result.1.1 (drop result.1.0 self.new.storage)) ∷ packets self.new.entries }
-    {
-        let (header, place) = self.drop_first();
-        (header.unwrap(), place)
-    }
-
-    // The first packet.
-    fn first(&self) -> Result<(&H, &[u8]), Empty>
+    /// The header and the bytes of the first packet, where no padding stands first. `Empty` where there is none.
+    pub fn first(&self) -> Result<(&H, &[u8]), Empty>
         requires packet { starts_padded self.now.entries ≡ false }
         ensures variant { IsOk result ↔ (0 < length (packets self.now.entries)) }
         ensures value { IfOk result (λ r. first_packet self.now ≡ Some (r.0.now, r.1.now)) }
@@ -338,7 +327,7 @@ impl<'a, H: Copy> PacketBuffer<'a, H> {
                     size,
                     header: Some(header),
                 },
-            ) => Ok((header, self.run(self.start, *size))),
+            ) => Ok((header, self.part(self.start, *size))),
             _ => Err(Empty),
         }
     }
@@ -349,18 +338,20 @@ impl<'a, H: Copy> PacketBuffer<'a, H> {
         ensures variant { IsOk result ↔ (0 < length (packets self.old.entries)) }
         ensures value { IfOk result (λ r. first_packet self.old ≡ Some (r.0.now, r.1.now)) }
     {
-        self.drop_padding();
+        self.skip_padding();
         self.first()
     }
 
-    // Takes the first packet. Answers its header, and where its bytes stand and how many.
-    fn take_first(&mut self) -> Option<(H, (usize, usize))>
+    /// Takes the first packet. Answers its header, where in the payload storage its bytes stand, and how many they are; `part` lends them. `None` where there is no packet.
+    ///
+    /// The two steps of `dequeue`, for a caller that lends the bytes on and says what it then is.
+    pub fn take_first(&mut self) -> Option<(H, (usize, usize))>
         ensures variant { IsSome result ↔ (0 < length (packets self.old.entries)) }
         ensures after { Dequeues self.old self.new }
         ensures within { IfSome result (λ r. r.1.0 + r.1.1 ≤ length self.new.storage) }
         ensures some { IfSome result (λ r. first_packet self.old ≡ Some (r.0, take r.1.1 (drop r.1.0 self.new.storage))) }
     {
-        self.drop_padding();
+        self.skip_padding();
         if self.is_empty() {
             return None;
         }
@@ -374,7 +365,7 @@ impl<'a, H: Copy> PacketBuffer<'a, H> {
         ensures value { IfOk result (λ r. first_packet self.old ≡ Some (r.0, r.1.now)) }
     {
         match self.take_first() {
-            Some((header, (from, size))) => Ok((header, self.run(from, size))),
+            Some((header, (from, size))) => Ok((header, self.part(from, size))),
             None => Err(Empty),
         }
     }
@@ -391,7 +382,7 @@ impl<'a, H: Copy> PacketBuffer<'a, H> {
         ensures err { OnErr result (self.new ≡ skipped self.old) }
         ensures ok { IfOk result (λ outcome. SeesFirst (SeesBoth F.FnOnce f) self.old outcome self.new) }
     {
-        self.drop_padding();
+        self.skip_padding();
         let outcome = match self.first() {
             Ok((header, bytes)) => f(header, bytes),
             Err(empty) => return Err(empty),

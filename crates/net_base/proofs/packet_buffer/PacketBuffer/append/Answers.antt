@@ -1,5 +1,6 @@
 use Rattle.std.proofs.Common.{length, sym, ◌∙◌, arith}
-use Rattle.net_base.proofs.Entries.{place_is, end-view, free-view, run-view, room-view, laid_appended, appended_is}
+use Rattle.net_base.proofs.Around.{place_is}
+use Rattle.net_base.proofs.Entries.{end-view, free-view, run-view, room-view, laid_appended, appended_is}
 use Rattle.net_base.proofs.packet_buffer.PacketBuffer.append.Goals as goal
 
 pub enqueue_one-requires : goal.enqueue_one-requires

@@ -1,5 +1,6 @@
 use Rattle.std.proofs.Common.{length, arith}
-use Rattle.net_base.proofs.Entries.{place_is, run-view, free-view, laid_after, appended_after}
+use Rattle.net_base.proofs.Around.{place_is}
+use Rattle.net_base.proofs.Entries.{run-view, free-view, laid_after, appended_after}
 use Rattle.net_base.proofs.packet_buffer.PacketBuffer.append_with.Goals as goal
 
 pub lend_bytes-kept-requires-clause-fits : goal.lend_bytes-kept-requires-clause-fits

@@ -1,5 +1,6 @@
 use Rattle.std.proofs.Common.{length}
-use Rattle.net_base.proofs.Entries.{place_is, view_dropped}
+use Rattle.net_base.proofs.Around.{place_is}
+use Rattle.net_base.proofs.Entries.{view_dropped}
 use Rattle.net_base.proofs.packet_buffer.PacketBuffer.drop_first.Goals as goal
 
 pub returns-clause-after : goal.returns-clause-after

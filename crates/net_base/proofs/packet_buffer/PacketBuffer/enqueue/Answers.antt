@@ -1,4 +1,4 @@
-use Rattle.net_base.proofs.Entries.{lent_bytes}
+use Rattle.net_base.proofs.PacketLists.{lent_bytes}
 use Rattle.net_base.proofs.packet_buffer.PacketBuffer.enqueue.Goals as goal
 
 pub returns-clause-value : goal.returns-clause-value

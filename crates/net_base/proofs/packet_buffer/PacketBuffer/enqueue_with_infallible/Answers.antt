@@ -1,7 +1,7 @@
 use Rattle.std.proofs.Common.{ap, ◌∙◌, subst, Some}
 use Rattle.std.specs.Fn.{FnOnceReturnsAtMut}
 use Rattle.net_base.specs.Packets.{packets, AppendsWith}
-use Rattle.net_base.proofs.Entries.{made_room-packets, enqueues}
+use Rattle.net_base.proofs.PacketLists.{made_room-packets, enqueues}
 use Rattle.net_base.proofs.packet_buffer.PacketBuffer.enqueue_with_infallible.Goals as goal
 
 pub returns-then-not-make_room-clause-kept : goal.returns-then-not-make_room-clause-kept

@@ -1,5 +1,5 @@
 use Rattle.std.proofs.Common.{◌∙◌, sym}
-use Rattle.net_base.proofs.Entries.{restarted_free}
+use Rattle.net_base.proofs.PacketLists.{restarted_free}
 use Rattle.net_base.proofs.packet_buffer.PacketBuffer.make_room.Goals as goal
 
 pub pad_for-requires : goal.pad_for-requires

@@ -1,6 +1,6 @@
 use Rattle.std.proofs.Common.{arith}
 use Rattle.std.proofs.lemmas.Bool.Decides.{nat_tests}
-use Rattle.net_base.proofs.Entries.{padded_room}
+use Rattle.net_base.proofs.PacketLists.{padded_room}
 use Rattle.net_base.proofs.packet_buffer.PacketBuffer.pad_for.Goals as goal
 
 pub returns-clause-room : goal.returns-clause-room

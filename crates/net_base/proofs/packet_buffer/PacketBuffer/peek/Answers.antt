@@ -1,12 +1,12 @@
 use Rattle.std.proofs.Common.{refl, ap, sym, subst, length, ◌≡◌, ◌<◌}
 use Rattle.std.specs.Prelude.{IfOk, IsOk, Some, slice_get, ◌↔◌}
-use Rattle.net_base.proofs.Entries.{same_packets_left}
+use Rattle.net_base.proofs.PacketLists.{same_packets_left}
 use Rattle.net_base.proofs.packet_buffer.PacketBuffer.peek.Goals as goal
 
 pub returns : goal.returns
 returns g c =
-    let same = same_packets_left _ _ c.drop_padding.ensures.after in (
-      (refl, λ _. tt, c.drop_padding.ensures.after),
+    let same = same_packets_left _ _ c.skip_padding.ensures.after in (
+      (refl, λ _. tt, c.skip_padding.ensures.after),
       record {
         after = tt;
         variant = subst (λ l. IsOk c.first.result ↔ (0 < length l)) same c.first.ensures.variant;

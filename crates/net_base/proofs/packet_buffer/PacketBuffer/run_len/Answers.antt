@@ -1,5 +1,6 @@
 use Rattle.std.proofs.Common.{ℕ, min, length, sym, ap₂, ◌∙◌, arith}
-use Rattle.net_base.proofs.Entries.{place_is, taken-view, room-view, start-view, end-view}
+use Rattle.net_base.proofs.Around.{place_is}
+use Rattle.net_base.proofs.Entries.{taken-view, room-view, start-view, end-view}
 use Rattle.net_base.proofs.packet_buffer.PacketBuffer.run_len.Goals as goal
 
 pub returns-clause-run : goal.returns-clause-run
