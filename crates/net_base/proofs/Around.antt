@@ -1,19 +1,7 @@
 -- Lemmas on places counted around the end.
-use Rattle.std.proofs.Common.{◌≡◌, ℕ, suc, ◌+◌, ◌-◌, ◌<◌, ◌≤◌, Bool, true, false, cond, ltb, eq-eqb, eqb-true, min, List, [], ◌∷◌, ◌++◌, length, take, drop, slice_get, Option, None, Some, refl, sym, ap, ap₂, subst, ◌∙◌, inl, inr, arith, length-take, length-drop, length-append, length-take-le, append_assoc}
-use Rattle.std.proofs.lemmas.Bool.{cases_lt, lt-ltb, le-ltb, false≢true}
-use Rattle.std.proofs.lemmas.Option.{none-some}
-use Rattle.std.proofs.lemmas.Bool.Decides.{nat_tests}
-use Rattle.std.specs.Prelude.{◌==◌, ◌&&◌, ◌||◌, not, nat_le, nat_lt, is_none, is_ok, Result}
-use Rattle.std.proofs.lemmas.List.{take-take, drop-take, take_at, drop_at, take_all, take-append-le, drop-append-le, same_lists, places}
-use Rattle.net_base.specs.Ring.{Ring, ring, ring_of, cells_from, overwrite, capacity_of, LeavesRun}
-use Rattle.net_base.specs.Packets.{Packets, packets_with, taken, place_of, end_of, run_of, room_of, first_bytes, first_header, starts_padded, put_packet, packets, first_packet, Dequeues, SeesFirst, Enqueues, without_first, skipped_from, skipped, restarted, fits_behind, fits_before, fits, padded_for, made_room, takes, appended, AppendsWith}
-use Rattle.net_base.specs.PacketsInside.{cut, sizes, Laid, packets_of, IsLaid}
-use Rattle.net_base.specs.declared.packet_buffer.PacketMetadata.{PacketMetadata}
-use Rattle.net_base.specs.Packets.{recut, with_storage}
-use Rattle.net_base.specs.PacketLends.{with_all}
-use Rattle.std.specs.List.{refill}
-use Rattle.net_base.proofs.Refilled.{refill_same}
-use Rattle.net_base.proofs.Cells.{length-cells, run_joined, cells_more, ring_dequeued}
+use Rattle.std.proofs.Common.{◌≡◌, ℕ, ◌+◌, ◌-◌, ◌<◌, ◌≤◌, Bool, cond, ltb, sym, ap, ◌∙◌, inl, inr, arith}
+use Rattle.std.proofs.lemmas.Bool.{cases_lt, lt-ltb, le-ltb}
+use Rattle.net_base.specs.Packets.{place_of, fits}
 
 pub place_of-low : (m k n : ℕ) → k + n < m → place_of m k n ≡ k + n
 place_of-low m k n h = ap (λ (b : Bool). cond b (k + n) (k + n - m)) (lt-ltb (k + n) m h)

@@ -1,17 +1,17 @@
 -- `all` lends the slice that the struct holds. Assumes `Logic`.
 use mathlib.Core.Path.{◌≡◌, refl, sym, subst, ap, ◌∙◌}
-use Prim.Native.Nat.{ℕ, ◌^◌, ◌<◌, ◌≤◌}
+use Prim.Native.Nat.{ℕ}
 use mathlib.Core.List.{List, [], ◌∷◌, ◌++◌}
-use lib.ListN.{length, take, drop as drop_list, take-append-drop}
+use lib.ListN.{length}
 use seplogic.Ra.Ura.{Ura}
 use base.Fraction.{full_share}
 use base.Stored.{coded_list}
-use mir.Syntax.{Ty, Args, Fn, erased, named, w64, a_type}
+use mir.Syntax.{Ty, Args, Fn, erased, named, a_type}
 use mir.MapTy.{inst_fn}
 use contract.BorrowLft.{◌⊑◌}
 use denote.Param.{param, layouts}
 use mir.Val.{Val, vptr, vstruct, vcons, of_list}
-use base.Logic.{SProp, ent, sep, emp, ex, guard}
+use base.Logic.{SProp, ent, sep, emp, guard}
 use contract.Fact.{fact}
 use base.Fml.{Lft, Incl, GName, Share, Fml, ftrue, fsep, feq, fat, flft, fobs, fbor}
 use prog.Memory.{Memory}
@@ -25,7 +25,7 @@ use contract.Lifetimes.{AllOutlive}
 use contract.Monad.{Fun}
 use contract.Running.{tables, tables_of}
 use sound.WpLaws.{WpFn-mono}
-use types.Kit.{‵, ◌⊛◌, raw, given, some, later, ◌$◌, ◌∵◌, !, qed, by, move, keep, drop, split, split3, join, learn, check, fsplit, fsplit3, fjoin, fpick, fpack, feq_l, feq_i, use1, use2, group, await, pick, rewrite, suffices, frame, done}
+use types.Kit.{‵, ◌⊛◌, raw, some, later, ◌$◌, ◌∵◌, !, qed, by, move, keep, drop, split, split3, join, check, fsplit, fsplit3, fjoin, fpick, fpack, feq_l, feq_i, use1, use2, group, await, pick, rewrite, suffices, frame, done}
 use types.Part.{whole, sub, agg, look_in}
 use types.Run.{stop, fld, hop, load, of_opd, addr, and_then, no_more, returns, enter}
 use types.ByLocal.{alloc_all, pass_all, free_all, look_at, get, through, sets}
@@ -39,7 +39,7 @@ use denote.Struct.Struct.{layout}
 use denote.Struct.Declared.{shape}
 use denote.Signature.{plain, mut_ref_to, named_lft}
 use denote.Shadow.{pure_l}
-use denote.Slice.{MutSlice, Room, room, slice_val, mut_slice_vals}
+use denote.Slice.{MutSlice, Room, room, slice_val}
 use denote.Steps.{nothing, opens}
 use denote.Follow.{follows}
 use denote.FollowSlice.{heres_id, slice_of}

@@ -1,4 +1,4 @@
-use Rattle.std.proofs.Common.{refl, ap, sym, ◌∙◌, subst, cond, length, ◌<◌, ◌≡◌}
+use Rattle.std.proofs.Common.{refl, ap, sym, ◌∙◌, subst, cond, length, ◌<◌}
 use Rattle.std.proofs.lemmas.Bool.{false≢true}
 use Rattle.net_base.specs.Packets.{without_first, SeesBoth}
 use Rattle.net_base.proofs.PacketLists.{same_packets_left, sees}

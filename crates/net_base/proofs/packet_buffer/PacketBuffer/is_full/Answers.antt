@@ -1,4 +1,4 @@
-use Rattle.std.proofs.Common.{length, arith, ◌∙◌}
+use Rattle.std.proofs.Common.{arith, ◌∙◌}
 use Rattle.std.proofs.lemmas.Bool.Decides.{nat_tests}
 use Rattle.net_base.proofs.Entries.{count-view, places-view}
 use Rattle.net_base.proofs.packet_buffer.PacketBuffer.is_full.Goals as goal

@@ -1,4 +1,4 @@
-use Rattle.std.proofs.Common.{refl, ap, sym, subst, length, ◌≡◌, ◌<◌}
+use Rattle.std.proofs.Common.{refl, subst, length, ◌≡◌, ◌<◌}
 use Rattle.std.specs.Prelude.{IfOk, IsOk, Some, slice_get, ◌↔◌}
 use Rattle.net_base.proofs.PacketLists.{same_packets_left}
 use Rattle.net_base.proofs.packet_buffer.PacketBuffer.peek.Goals as goal
