@@ -63,9 +63,10 @@ impl Assembler {
         self.count == 0
     }
 
-    /// The ranges in order, each as its first offset and the offset behind its last.
+    /// The ranges in order, each as its first offset and the offset behind its last. They are apart by at least one offset, and the first begins at offset 1 or later.
     pub fn iter_data(&self) -> AssemblerIter<'_>
-        ensures { result ≡ edges self.now }
+        ensures ranges { result ≡ edges self.now }
+        ensures tidy { IsTidy self.now }
     {
         AssemblerIter {
             ranges: &self.ranges[..self.count],

@@ -2,6 +2,7 @@
 #![tactic(auto)]
 
 pub mod assembler;
+pub mod packet_buffer;
 pub mod ring_buffer;
 #[cfg(test)]
 mod tests;

@@ -4,7 +4,7 @@ use Rattle.std.proofs.lemmas.Bool.{cases_lt}
 use Rattle.std.proofs.lemmas.List.{get_or-take, get_or-drop, same_lists, places}
 use Rattle.std.specs.Prelude.{Some, None}
 use Rattle.net_base.specs.declared.assembler.Range.{Range}
-use Rattle.net_base.specs.Ranges.{range, Apart, insert_range, edges, lowered, front_end, behind_front, is_refused, run_after, ranges_after}
+use Rattle.net_base.specs.Ranges.{range, Apart, IsTidy, insert_range, edges, lowered, front_end, behind_front, is_refused, run_after, ranges_after}
 use Rattle.net_base.proofs.Sets.{insert_range_behind, insert_range_before, insert_range_joined, Apart-insert_range, Apart-lowered}
 use Rattle.sock_core.specs.declared.ranges.Places.{Places}
 use Rattle.sock_core.specs.HeldRanges.{HeldRanges, offset_of, place_at, offsets, AllNear, added, table_answers, table_after, assembler_answers, assembler_after, taken, Agree}
@@ -135,6 +135,9 @@ module _ (f first end : ℕ) (ps : List Places) (h : HeldRanges) (is : record { 
 
   pub count_view : length ps ≡ 4 → first ≤ end → end ≤ 4 → length h.ranges ≡ end - first
   count_view long order most = ap (λ (l : List Range). length l) ranges_is ∙ length-offsets f (take (end - first) (drop first ps)) ∙ omega (arith, length-take (end - first) (drop first ps), length-drop first ps)
+
+  pub tidy_view : length ps ≡ 4 → first ≤ end → end ≤ 4 → Apart 1 (offsets f (take (end - first) (drop first ps))) → IsTidy h.ranges
+  tidy_view long order most apart = record { apart = subst (λ (l : List Range). Apart 1 l) (sym ranges_is) apart; few = omega (arith, count_view long order most) }
 
   pub get_none : (i : ℕ) → length ps ≡ 4 → first ≤ end → end ≤ 4 → end - first ≤ i → None ≡ slice_get (edges h.ranges) i
   get_none i long order most past = edges_none h.ranges i (omega (arith, count_view long order most))

@@ -1,7 +1,7 @@
 //! Which bytes of a stream are held ahead of those that are still missing: at most four ranges in a fixed table.
 ghost use Rattle.std.specs.Prelude.{◌≡◌, ℕ, ◌+◌, ◌-◌, ◌<◌, ◌≤◌, ◌==◌, ◌%◌, ◌^◌, List, [], ◌∷◌, length, take, drop, slice_get, if◌then◌else◌};
 ghost use Rattle.net_base.specs.declared.assembler.Range.{Range};
-ghost use Rattle.net_base.specs.Ranges.{range, edges, insert_range, Apart, is_refused, run_after, ranges_after};
+ghost use Rattle.net_base.specs.Ranges.{range, edges, insert_range, Apart, IsTidy, is_refused, run_after, ranges_after};
 ghost use Rattle.sock_core.specs.HeldRanges.{HeldRanges, offset_of, place_at, offsets, AllNear, added, Agree};
 
 use net_base::assembler::{Range, with_range};
@@ -81,10 +81,10 @@ impl Ranges {
         self.front
     }
 
-    /// How many ranges are held, at most 4.
+    /// How many ranges are held, at most 4. They are in order, apart by at least one byte, and the first begins at least one byte behind the front.
     pub fn len(&self) -> usize
         ensures count { result ≡ length self.now.ranges }
-        ensures most { result ≤ 4 }
+        ensures tidy { IsTidy self.now.ranges }
     {
         self.end - self.first
     }

@@ -1,0 +1,242 @@
+-- Lemmas on what a contract sees of a packet buffer.
+use Rattle.std.proofs.Common.{◌≡◌, ℕ, ◌+◌, ◌-◌, ◌<◌, ◌≤◌, Bool, true, false, cond, eq-eqb, eqb-true, List, [], ◌∷◌, ◌++◌, length, take, drop, slice_get, Option, None, Some, refl, sym, ap, subst, ◌∙◌, inl, inr, arith, length-drop, length-take-le}
+use Rattle.std.proofs.lemmas.Bool.{cases_lt, false≢true}
+use Rattle.std.proofs.lemmas.Option.{none-some}
+use Rattle.std.proofs.lemmas.Bool.Decides.{nat_tests}
+use Rattle.std.specs.Prelude.{◌==◌, ◌&&◌, ◌||◌, not, nat_le, nat_lt, is_none, is_ok, Result}
+use Rattle.net_base.specs.Packets.{Packets, packets_with, taken, place_of, end_of, run_of, room_of, first_bytes, first_header, starts_padded, put_packet, packets, first_packet, Dequeues, SeesFirst, Enqueues, without_first, skipped_from, skipped, restarted, fits_behind, fits_before, fits, padded_for, made_room, takes, appended, AppendsWith}
+use Rattle.net_base.proofs.Around.{place_of-high, place_of-low, place_of-place_of, place_of-within}
+
+module _ {X : Type 0} where
+  pub restarted-none : (p : Packets X) → taken p.entries ≡ 0 → restarted p ≡ packets_with p.entries p.places p.storage 0
+  unfolding restarted
+  restarted-none p none = ap (λ b. cond b (packets_with p.entries p.places p.storage 0) p) (eq-eqb (taken p.entries) 0 none)
+
+  pub restarted-some : (p : Packets X) → (taken p.entries ≡ 0 → ⊥) → restarted p ≡ p
+  unfolding restarted
+  restarted-some p some = ap (λ b. cond b (packets_with p.entries p.places p.storage 0) p) {x = taken p.entries == 0} {y = false} (grind (arith, nat_tests, some))
+
+  pub restarted-entries : (p : Packets X) → (restarted p).entries ≡ p.entries
+  unfolding restarted
+  restarted-entries p = elim (taken p.entries == 0) as (λ b. (cond b (packets_with p.entries p.places p.storage 0) p).entries ≡ p.entries) [ true ↦ refl | false ↦ refl ]
+
+  pub restarted-places : (p : Packets X) → (restarted p).places ≡ p.places
+  unfolding restarted
+  restarted-places p = elim (taken p.entries == 0) as (λ b. (cond b (packets_with p.entries p.places p.storage 0) p).places ≡ p.places) [ true ↦ refl | false ↦ refl ]
+
+  pub restarted-storage : (p : Packets X) → (restarted p).storage ≡ p.storage
+  unfolding restarted
+  restarted-storage p = elim (taken p.entries == 0) as (λ b. (cond b (packets_with p.entries p.places p.storage 0) p).storage ≡ p.storage) [ true ↦ refl | false ↦ refl ]
+
+  -- making room changes no payload byte, and no packet
+  pub made_room-storage : (size : ℕ) (p : Packets X) → (made_room size p).storage ≡ p.storage
+  unfolding made_room padded_for
+  made_room-storage size p =
+      elim (length p.entries == p.places) as (λ b. (cond b p (cond (fits_behind size (restarted p)) (restarted p) (cond (fits_before size (restarted p)) (appended None (run_of (restarted p)) (restarted p)) (restarted p)))).storage ≡ p.storage) [
+        | true ↦ refl
+        | false ↦ elim (fits_behind size (restarted p)) as (λ b. (cond b (restarted p) (cond (fits_before size (restarted p)) (appended None (run_of (restarted p)) (restarted p)) (restarted p))).storage ≡ p.storage) [
+          | true ↦ restarted-storage p
+          | false ↦ elim (fits_before size (restarted p)) as (λ b. (cond b (appended None (run_of (restarted p)) (restarted p)) (restarted p)).storage ≡ p.storage) [ true ↦ restarted-storage p | false ↦ restarted-storage p ]
+        ]
+      ]
+
+  packets-padded : (es : List (Option X × List ℕ)) (bs : List ℕ) → packets (es ++ (None, bs) ∷ []) ≡ packets es
+  packets-padded [] bs = refl
+  packets-padded (e ∷ es) bs = ap (put_packet e.0 e.1) (packets-padded es bs)
+
+  put-append : (o : Option X) (bs : List ℕ) (ps qs : List (X × List ℕ)) → put_packet o bs (ps ++ qs) ≡ put_packet o bs ps ++ qs
+  put-append None bs ps qs = refl
+  put-append (Some h) bs ps qs = refl
+
+  pub packets-append : (es : List (Option X × List ℕ)) (h : X) (bs : List ℕ) → packets (es ++ (Some h, bs) ∷ []) ≡ packets es ++ (h, bs) ∷ []
+  packets-append [] h bs = refl
+  packets-append (e ∷ es) h bs = ap (put_packet e.0 e.1) (packets-append es h bs) ∙ put-append e.0 e.1 (packets es) ((h, bs) ∷ [])
+
+  pub made_room-packets : (size : ℕ) (p : Packets X) → packets (made_room size p).entries ≡ packets p.entries
+  unfolding made_room padded_for
+  made_room-packets size p =
+      let same : packets (restarted p).entries ≡ packets p.entries = ap (λ (es : List (Option X × List ℕ)). packets es) (restarted-entries p) in
+      elim (length p.entries == p.places) as (λ b. packets (cond b p (cond (fits_behind size (restarted p)) (restarted p) (cond (fits_before size (restarted p)) (appended None (run_of (restarted p)) (restarted p)) (restarted p)))).entries ≡ packets p.entries) [
+        | true ↦ refl
+        | false ↦ elim (fits_behind size (restarted p)) as (λ b. packets (cond b (restarted p) (cond (fits_before size (restarted p)) (appended None (run_of (restarted p)) (restarted p)) (restarted p))).entries ≡ packets p.entries) [
+          | true ↦ same
+          | false ↦ elim (fits_before size (restarted p)) as (λ b. packets (cond b (appended None (run_of (restarted p)) (restarted p)) (restarted p)).entries ≡ packets p.entries) [ true ↦ packets-padded (restarted p).entries _ ∙ same | false ↦ same ]
+        ]
+      ]
+
+  -- with a free place and no payload byte taken, exactly what the storage holds fits
+  pub takes_empty : (size : ℕ) (p : Packets X) → length p.entries < p.places → taken p.entries ≡ 0 → takes size p ≡ nat_le size (length p.storage)
+  unfolding takes
+  takes_empty size p free none =
+      let m = length p.storage in
+      let fresh : Packets X = packets_with p.entries p.places p.storage 0 in
+      let first : place_of m 0 (taken p.entries) ≡ 0 = ap (place_of m 0) none ∙ first_place m in
+      let run : run_of fresh ≡ m = omega (arith, none, first) in
+      let room : room_of fresh ≡ m = omega (arith, none) in
+      let open_place : (length p.entries == p.places) ≡ false = grind (arith, nat_tests) in
+      ap (λ b. not b && fits size (restarted p)) open_place ∙ ap (fits size) (restarted-none p none)
+      ∙ (λ i. nat_le size (run i) || (nat_le size (room i - run i) && nat_lt (length p.entries + 1) p.places))
+      ∙ only (nat_lt (length p.entries + 1) p.places)
+    where
+      first_place : (m : ℕ) → place_of m 0 0 ≡ 0
+      first_place m = elim (cases_lt (0 + 0) m) [ inl low ↦ place_of-low m 0 0 low | inr high ↦ place_of-high m 0 0 high ∙ omega arith ]
+
+      only : (b : Bool) → (nat_le size (length p.storage) || (nat_le size (length p.storage - length p.storage) && b)) ≡ nat_le size (length p.storage)
+      only b = grind (arith, nat_tests)
+
+  pub enqueues : (called : List ℕ → ℕ → List ℕ → Type 0) (size : ℕ) (h : X) (p q : Packets X) (kept : ℕ) → AppendsWith called size (Some h) (made_room size p) kept q → Enqueues called size h p kept q
+  enqueues called size h p q kept a = record {
+    appends = a;
+    packets = ap (λ (q : Packets X). packets q.entries) a.after ∙ packets-append (made_room size p).entries h (take kept a.left) ∙ ap (λ (l : List (X × List ℕ)). l ++ (h, take kept a.left) ∷ []) (made_room-packets size p);
+  }
+
+  pub lent_bytes : (size from : ℕ) (h : X) (p q : Packets X) (all : List ℕ) → from ≡ end_of (made_room size p) → q ≡ appended (Some h) size (made_room size p) → all ≡ q.storage
+      → take (from + size - from) (drop from all) ≡ take size (drop (end_of (made_room size p)) p.storage)
+  lent_bytes size from h p q all from_is q_is all_is =
+      let n : from + size - from ≡ size = omega arith in
+      let bytes : all ≡ p.storage = all_is ∙ ap (λ (q : Packets X). q.storage) q_is ∙ made_room-storage size p in
+      (λ i. take (n i) (drop (from_is i) (bytes i)))
+
+  pub taken-append : (es : List (Option X × List ℕ)) (e : Option X × List ℕ) → taken (es ++ e ∷ []) ≡ taken es + length e.1
+  taken-append [] e = omega arith
+  taken-append (x ∷ es) e = omega (arith, taken-append es e)
+
+  -- with the run behind the entries made padding, the other free places stand behind them
+  pub padded_run : (p : Packets X) (size : ℕ) → p.start ≤ length p.storage - 1 → taken p.entries ≤ length p.storage → run_of p < size → size ≤ room_of p - run_of p → size ≤ run_of (appended None (run_of p) p)
+  padded_run p size start within short room =
+      let m = length p.storage in
+      let t = taken p.entries in
+      let r = run_of p in
+      let e = end_of p in
+      let e_within : e ≤ m - 1 = place_of-within m p.start t start within in
+      let one : length (take r (drop e p.storage)) ≡ r = length-take-le r (drop e p.storage) (omega (arith, length-drop e p.storage)) in
+      let all : taken (p.entries ++ (None, take r (drop e p.storage)) ∷ []) ≡ t + r = taken-append p.entries (None, take r (drop e p.storage)) ∙ ap (λ n. t + n) one in
+      let first : place_of m p.start (t + r) ≡ 0 = sym (place_of-place_of m p.start t r start (omega arith)) ∙ place_of-high m e r (omega arith) ∙ omega arith in
+      let last : place_of m p.start (taken (p.entries ++ (None, take r (drop e p.storage)) ∷ [])) ≡ 0 = ap (place_of m p.start) all ∙ first in
+      omega (arith, all, last)
+
+  pub padded_room : (p q : Packets X) (size run room : ℕ) → q ≡ appended None run p → run ≡ run_of p → room ≡ room_of p → p.start ≤ length p.storage - 1 → taken p.entries ≤ length p.storage → run < size → size ≤ room - run → size ≤ run_of q
+  padded_room p q size run room q_is run_is room_is start within short left =
+      subst (λ (q : Packets X). size ≤ run_of q) (sym (q_is ∙ ap (λ r. appended None r p) run_is))
+      (padded_run p size start within (subst (λ r. r < size) run_is short) (subst (λ r. size ≤ room_of p - r) run_is (subst (λ r. size ≤ r - run) room_is left)))
+
+  pub restarted_free : (p q : Packets X) → q ≡ restarted p → (length p.entries == p.places) ≡ false → length p.entries ≤ p.places → length q.entries < q.places
+  restarted_free p q q_is some few =
+      subst (λ (q : Packets X). length q.entries < q.places) (sym q_is)
+      (omega (arith, ap (λ (es : List (Option X × List ℕ)). length es) (restarted-entries p), restarted-places p, free_from p some few))
+    where
+      free_from : (p : Packets X) → (length p.entries == p.places) ≡ false → length p.entries ≤ p.places → length p.entries < p.places
+      free_from p some few = grind (arith, nat_tests)
+
+  -- one entry of padding less leaves the same
+  step_from : (m k : ℕ) (es : List (Option X × List ℕ)) → starts_padded es ≡ true → skipped_from m (place_of m k (length (first_bytes es))) (drop 1 es) ≡ skipped_from m k es
+  step_from m k [] h = absurd (false≢true h)
+  step_from m k (e ∷ es) h = ap (λ b. cond b (skipped_from m (place_of m k (length e.1)) es) (e ∷ es, k)) (sym h)
+
+  stay_from : (m k : ℕ) (es : List (Option X × List ℕ)) → starts_padded es ≡ false → skipped_from m k es ≡ (es, k)
+  stay_from m k [] h = refl
+  stay_from m k (e ∷ es) h = ap (λ b. cond b (skipped_from m (place_of m k (length e.1)) es) (e ∷ es, k)) h
+
+  pub skipped_step : (p : Packets X) → starts_padded p.entries ≡ true → skipped (without_first p) ≡ skipped p
+  unfolding skipped
+  skipped_step p h = ap (λ (r : List (Option X × List ℕ) × ℕ). packets_with r.0 p.places p.storage r.1) (step_from (length p.storage) p.start p.entries h)
+
+  pub skipped_stays : (p : Packets X) → starts_padded p.entries ≡ false → skipped p ≡ p
+  unfolding skipped
+  skipped_stays p h = ap (λ (r : List (Option X × List ℕ) × ℕ). packets_with r.0 p.places p.storage r.1) (stay_from (length p.storage) p.start p.entries h)
+
+  -- padding is in no list of packets
+  skip_packets : (m k : ℕ) (h : Option X) (bs : List ℕ) (es : List (Option X × List ℕ)) → packets (skipped_from m (place_of m k (length bs)) es).0 ≡ packets es
+      → packets (cond (is_none h) (skipped_from m (place_of m k (length bs)) es) ((h, bs) ∷ es, k)).0 ≡ put_packet h bs (packets es)
+  skip_packets m k None bs es same = same
+  skip_packets m k (Some h) bs es same = refl
+
+  packets_from : (m k : ℕ) (es : List (Option X × List ℕ)) → packets (skipped_from m k es).0 ≡ packets es
+  packets_from m k [] = refl
+  packets_from m k (e ∷ es) = skip_packets m k e.0 e.1 es (packets_from m (place_of m k (length e.1)) es)
+
+  pub packets_skipped : (p : Packets X) → packets (skipped p).entries ≡ packets p.entries
+  unfolding skipped
+  packets_skipped p = packets_from (length p.storage) p.start p.entries
+
+  packets_some : (es : List (Option X × List ℕ)) (h : X) → first_header es ≡ Some h → packets es ≡ (h, first_bytes es) ∷ packets (drop 1 es)
+  packets_some [] h is = absurd (none-some h is)
+  packets_some (e ∷ es) h is = ap (λ o. put_packet o e.1 (packets es)) is
+
+  packets_none : (es : List (Option X × List ℕ)) → (length es == 0) ≡ true → packets es ≡ []
+  packets_none [] h = refl
+  packets_none (e ∷ es) h = absurd (grind (arith, nat_tests, h))
+
+  some_entry : (es : List (Option X × List ℕ)) (h : X) → first_header es ≡ Some h → 0 < length es
+  some_entry [] h is = absurd (none-some h is)
+  some_entry (e ∷ es) h is = omega arith
+
+  -- no packet is there once the padding is gone and no entry is left
+  module _ (p q : Packets X) (q_is : q ≡ skipped p) (none : (length q.entries == 0) ≡ true) where
+    pub no_packets : packets p.entries ≡ []
+    no_packets = sym (packets_skipped p) ∙ ap (λ (q : Packets X). packets q.entries) (sym q_is) ∙ packets_none q.entries none
+
+    pub dequeues_none : Dequeues p q
+    dequeues_none =
+        let empty : length (skipped p).entries ≡ 0 = ap (λ (q : Packets X). length q.entries) (sym q_is) ∙ eqb-true (length q.entries) 0 none in
+        record { some = λ h. absurd (omega (arith, h, empty)); none = λ h. q_is; packets = ap (λ (q : Packets X). packets q.entries) q_is ∙ packets_skipped p ∙ no_packets ∙ sym (ap (λ (l : List (X × List ℕ)). drop 1 l) no_packets) }
+
+  -- the first entry is a packet once the padding is gone
+  module _ (p q r : Packets X) (h : X) (q_is : q ≡ skipped p) (header : first_header q.entries ≡ Some h) (r_is : r ≡ without_first q) where
+    pub packets_first : packets p.entries ≡ (h, first_bytes q.entries) ∷ packets (drop 1 q.entries)
+    packets_first = sym (packets_skipped p) ∙ ap (λ (q : Packets X). packets q.entries) (sym q_is) ∙ packets_some q.entries h header
+
+    pub some_packets : 0 < length (packets p.entries)
+    some_packets = omega (arith, ap (λ (l : List (X × List ℕ)). length l) packets_first)
+
+    pub dequeues_some : Dequeues p r
+    dequeues_some =
+        let left : 0 < length (skipped p).entries = omega (arith, ap (λ (q : Packets X). length q.entries) q_is, some_entry q.entries h header) in
+        record { some = λ _. r_is ∙ ap without_first q_is; none = λ e. absurd (omega (arith, e, left)); packets = ap (λ (r : Packets X). packets r.entries) r_is ∙ sym (ap (λ (l : List (X × List ℕ)). drop 1 l) packets_first) }
+
+    pub first_is : (from size : ℕ) → first_bytes q.entries ≡ take size (drop from q.storage) → first_packet p ≡ Some (h, take size (drop from r.storage))
+    first_is from size bytes =
+        ap (λ (l : List (X × List ℕ)). slice_get l 0) packets_first
+        ∙ ap (λ bs. Some (h, bs)) (bytes ∙ ap (λ (s : List ℕ). take size (drop from s)) (sym (ap (λ (r : Packets X). r.storage) r_is)))
+
+  packet_there : (h : Option X) (bs : List ℕ) (ps : List (X × List ℕ)) → is_none h ≡ false → 0 < length (put_packet h bs ps)
+  packet_there None bs ps h = absurd (false≢true (sym h))
+  packet_there (Some x) bs ps h = omega arith
+
+  pub packets_there : (es : List (Option X × List ℕ)) → starts_padded es ≡ false → 0 < length es → 0 < length (packets es)
+  packets_there [] h some = absurd (omega (arith, some))
+  packets_there (e ∷ es) h some = packet_there e.0 e.1 (packets es) h
+
+  pub entries_there : (es : List (Option X × List ℕ)) → 0 < length (packets es) → 0 < length es
+  entries_there [] some = absurd (omega (arith, some))
+  entries_there (e ∷ es) some = omega arith
+
+  pub first_here : (es : List (Option X × List ℕ)) (h : X) (bs : List ℕ) → first_header es ≡ Some h → first_bytes es ≡ bs → slice_get (packets es) 0 ≡ Some (h, bs)
+  first_here es h bs is bytes = ap (λ (l : List (X × List ℕ)). slice_get l 0) (packets_some es h is) ∙ ap (λ bs. Some (h, bs)) bytes
+
+  pub same_packets_left : (p q : Packets X) → q ≡ skipped p → packets q.entries ≡ packets p.entries
+  same_packets_left p q is = ap (λ (q : Packets X). packets q.entries) is ∙ packets_skipped p
+
+  -- a call saw the first packet of q, which is p without the padding in front
+  pub sees : {R E : Type 0} (called : X → List ℕ → Result R E → Type 0) (p q r : Packets X) (outcome : Result R E) (header : X) (bytes : List ℕ)
+      → q ≡ skipped p → first_packet q ≡ Some (header, bytes) → called header bytes outcome → r ≡ cond (is_ok outcome) (without_first q) q → starts_padded q.entries ≡ false → SeesFirst called p outcome r
+  sees called p q r outcome header bytes q_is first met r_is packet = record {
+    header = header;
+    bytes = bytes;
+    first = sym (ap (λ (l : List (X × List ℕ)). slice_get l 0) (same_packets_left p q q_is)) ∙ first;
+    met = met;
+    after = r_is ∙ ap (λ (q : Packets X). cond (is_ok outcome) (without_first q) q) q_is;
+    packets = left (is_ok outcome) r_is;
+  }
+    where
+      rest : (es : List (Option X × List ℕ)) → starts_padded es ≡ false → packets (drop 1 es) ≡ drop 1 (packets es)
+      rest [] h = refl
+      rest (e ∷ es) h = of e.0 h
+        where
+          of : (o : Option X) → is_none o ≡ false → packets es ≡ drop 1 (put_packet o e.1 (packets es))
+          of None h = absurd (false≢true (sym h))
+          of (Some x) h = refl
+
+      left : (b : Bool) → r ≡ cond b (without_first q) q → packets r.entries ≡ cond b (drop 1 (packets p.entries)) (packets p.entries)
+      left true is = ap (λ (r : Packets X). packets r.entries) is ∙ rest q.entries packet ∙ ap (λ (l : List (X × List ℕ)). drop 1 l) (same_packets_left p q q_is)
+      left false is = ap (λ (r : Packets X). packets r.entries) is ∙ same_packets_left p q q_is

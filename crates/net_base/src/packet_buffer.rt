@@ -1,0 +1,426 @@
+//! A queue of packets, each with a header, over lent places and lent bytes. As smoltcp's packet buffer.
+//!
+//! A packet's bytes stand in one piece. Where they don't fit before the end of the payload storage but fit at its beginning, the bytes up to the end become padding: an entry with no header, which is in no list of packets.
+ghost use Rattle.std.specs.Prelude.{◌≡◌, ℕ, ◌+◌, ◌-◌, ◌<◌, ◌≤◌, ◌==◌, ◌&&◌, ◌||◌, nat_lt, nat_le, ◌⊎◌, ◌↔◌, List, [], ◌∷◌, ◌++◌, length, take, drop, min, true, false, Some, None, IfOk, IfSome, OnErr, IfNone, IsOk, IsSome, IsTrue, slice_get, if◌then◌else◌};
+ghost use Rattle.std.specs.Fn.{FnOnceReturnsAtMut, FnOnceReturnsAt};
+ghost use Rattle.std.specs.Borrow.{sem};
+ghost use Rattle.net_base.specs.Ring.{LeavesRun};
+ghost use Rattle.net_base.specs.Packets.{Packets, packets_with, packets, taken, place_of, end_of, run_of, room_of, first_bytes, first_header, starts_padded, without_first, skipped, appended, restarted, fits_behind, fits_before, fits, padded_for, made_room, takes, first_packet, Dequeues, SeesBoth, SeesFirst, AppendsWith, Enqueues};
+
+use crate::ring_buffer::{RingBuffer, place};
+use std::marker::Model;
+
+/// A place of a packet buffer.
+#[derive(Debug, Clone, Copy, PartialEq, Eq)]
+pub struct PacketMetadata<H> {
+    size: usize,
+    header: Option<H>,
+}
+
+impl<H> PacketMetadata<H> {
+    /// A place that nothing stands in, to make the storage of a new buffer of.
+    pub const EMPTY: PacketMetadata<H> = PacketMetadata {
+        size: 0,
+        header: None,
+    };
+}
+
+/// No place is left, or not enough bytes.
+#[derive(Debug, Clone, Copy, PartialEq, Eq)]
+pub struct Full;
+
+/// No packet is there.
+#[derive(Debug, Clone, Copy, PartialEq, Eq)]
+pub struct Empty;
+
+/// A queue of packets, each a header and its bytes.
+#[derive(Debug, Drop)]
+pub struct PacketBuffer<'a, H> {
+    payload: &'a mut [u8],
+    metadata: RingBuffer<'a, PacketMetadata<H>>,
+    start: usize,
+    length: usize,
+}
+
+impl<'a, H> Model for PacketBuffer<'a, H> {
+    ghost use Rattle.net_base.specs.Packets.{Packets, packets_code};
+
+    ghost Value = { Packets H };
+
+    ghost coded = { packets_code H.code };
+
+    ghost use Rattle.net_base.specs.PacketsInside.{packets_of, IsLaid};
+
+    ghost view = { λ p. packets_of p.metadata p.payload.now p.start p.length };
+
+    ghost invariant = { λ p. IsLaid p.metadata p.payload.now p.start p.length };
+}
+
+impl<'a, H> PacketBuffer<'a, H> {
+    ghost use Rattle.net_base.specs.PacketLends.{LendsAll};
+
+    // Lends all payload bytes.
+    fn all(&mut self) -> &mut [u8]
+        ensures* writes_back { sem 𝓛 (LendsAll H.row self.entry result) }
+        ensures value { result.now ≡ self.old.storage }
+    {
+        self.payload
+    }
+}
+
+impl<'a, H: Copy> PacketBuffer<'a, H> {
+    ghost use Rattle.net_base.specs.PacketLends.{ShowsFirst};
+
+    /// An empty buffer of as many places and payload bytes as the slices have.
+    pub fn new(metadata: &'a mut [PacketMetadata<H>], payload: &'a mut [u8]) -> Self
+        ensures { result ≡ packets_with [] (length metadata.old) payload.old 0 }
+    {
+        PacketBuffer {
+            metadata: RingBuffer::new(metadata),
+            payload,
+            start: 0,
+            length: 0,
+        }
+    }
+
+    /// Removes all packets.
+    pub fn reset(&mut self)
+        ensures { self.new ≡ packets_with [] self.old.places self.old.storage 0 }
+    {
+        self.metadata.clear();
+        self.start = 0;
+        self.length = 0;
+    }
+
+    /// How many places there are.
+    pub fn packet_capacity(&self) -> usize
+        ensures { result ≡ self.now.places }
+    {
+        self.metadata.capacity()
+    }
+
+    /// How many payload bytes there are.
+    pub fn payload_capacity(&self) -> usize
+        ensures { result ≡ length self.now.storage }
+    {
+        self.payload.len()
+    }
+
+    /// How many payload bytes are taken, padding included.
+    pub fn payload_bytes_count(&self) -> usize
+        ensures { result ≡ taken self.now.entries }
+    {
+        self.length
+    }
+
+    /// Whether no place is taken. Padding takes one.
+    pub fn is_empty(&self) -> bool
+        ensures { result ≡ (length self.now.entries == 0) }
+    {
+        self.metadata.is_empty()
+    }
+
+    /// Whether every place is taken. Padding takes one.
+    pub fn is_full(&self) -> bool
+        ensures full { result ≡ (length self.now.entries == self.now.places) }
+        ensures within { length self.now.entries ≤ self.now.places }
+    {
+        self.metadata.is_full()
+    }
+
+    // How many payload bytes are free.
+    fn room(&self) -> usize
+        ensures { result ≡ room_of self.now }
+    {
+        self.payload.len() - self.length
+    }
+
+    // How many of them stand behind the entries in one piece.
+    fn run_len(&self) -> usize
+        ensures run { result ≡ run_of self.now }
+        ensures start { self.now.start ≤ length self.now.storage - 1 }
+        ensures taken { taken self.now.entries ≤ length self.now.storage }
+    {
+        let end = place(self.payload.len(), self.start, self.length);
+        (self.payload.len() - self.length).min(self.payload.len() - end)
+    }
+
+    // An empty payload ring starts anew at the storage's first place.
+    fn restart(&mut self)
+        ensures { self.new ≡ restarted self.old }
+    {
+        if self.length == 0 {
+            self.start = 0;
+        }
+    }
+
+    // The `size` bytes that stand behind the entries become one more. Answers where they begin.
+    fn append(&mut self, size: usize, header: Option<H>) -> usize
+        requires place { length self.old.entries < self.old.places }
+        requires fits { size ≤ run_of self.old }
+        ensures from { result ≡ end_of self.old }
+        ensures within { result + size ≤ length self.old.storage }
+        ensures after { self.new ≡ appended header size self.old }
+    {
+        let from = place(self.payload.len(), self.start, self.length);
+        self.length += size;
+        self.metadata.enqueue_one(PacketMetadata { size, header });
+        from
+    }
+
+    // Where `size` bytes fit in the free places that are not behind the entries, the run behind them becomes padding. Answers whether `size` bytes now fit behind the entries, with a place for them.
+    #[tactic(auto, unfolding(crate::specs::Packets::padded_for))]
+    fn pad_for(&mut self, size: usize) -> bool
+        requires { length self.old.entries < self.old.places }
+        ensures after { self.new ≡ padded_for size self.old }
+        ensures fits { result ≡ fits size self.old }
+        ensures room { result ≡ true → (size ≤ run_of self.new) × (length self.new.entries < self.new.places) }
+    {
+        let run = self.run_len();
+        if size <= run {
+            return true;
+        }
+        if self.room() - run < size {
+            return false;
+        }
+        self.append(run, None);
+        !self.is_full()
+    }
+
+    // Makes room for an entry of `size` bytes behind the others. Answers whether there is room.
+    #[tactic(auto, unfolding(crate::specs::Packets::made_room, crate::specs::Packets::takes))]
+    fn make_room(&mut self, size: usize) -> bool
+        ensures after { self.new ≡ made_room size self.old }
+        ensures takes { result ≡ takes size self.old }
+        ensures room { result ≡ true → (size ≤ run_of self.new) × (length self.new.entries < self.new.places) }
+    {
+        if self.is_full() {
+            return false;
+        }
+        self.restart();
+        self.pad_for(size)
+    }
+
+    // Appends a packet of `size` bytes as they stand in the storage, and answers where they begin.
+    fn reserve(&mut self, size: usize, header: H) -> Result<usize, Full>
+        ensures variant { IsOk result ↔ IsTrue (takes size self.old) }
+        ensures err { OnErr result (self.new ≡ made_room size self.old) }
+        ensures ok { IfOk result (λ from. (from ≡ end_of (made_room size self.old)) × (self.new ≡ appended (Some header) size (made_room size self.old))) }
+        ensures within { IfOk result (λ from. from + size ≤ length self.new.storage) }
+    {
+        if !self.make_room(size) {
+            return Err(Full);
+        }
+        Ok(self.append(size, Some(header)))
+    }
+
+    /// Appends a packet, and lends its `size` bytes for writing. What stands in them as the borrow ends is the packet.
+    ///
+    /// `Full` where no place is left, or `size` bytes in one piece are not; the packets then stay as they were.
+    pub fn enqueue(&mut self, size: usize, header: H) -> Result<&mut [u8], Full>
+        ensures variant { IsOk result ↔ IsTrue (takes size self.old) }
+        ensures size { IfOk result (λ bytes. length bytes.now ≡ size) }
+        ensures value { IfOk result (λ bytes. bytes.now ≡ take size (drop (end_of (made_room size self.old)) self.old.storage)) }
+    {
+        let from = self.reserve(size, header)?;
+        let all = self.all();
+        Ok(&mut all[from..from + size])
+    }
+
+    // Appends an entry of the first of the `size` bytes behind the others, as `f` leaves them.
+    fn append_with<F: FnOnce(&mut [u8]) -> usize>(
+        &mut self,
+        size: usize,
+        header: Option<H>,
+        f: F,
+    ) -> usize
+        requires place { length self.old.entries < self.old.places }
+        requires fits { size ≤ run_of self.old }
+        requires callable { F.IsAlwaysCallable f }
+        requires sized { (s : List ℕ) (r : _) (s' : List ℕ) → FnOnceReturnsAtMut F.FnOnce f s r s' → r ≤ length s }
+        ensures { AppendsWith (FnOnceReturnsAtMut F.FnOnce f) size header self.old result self.new }
+    {
+        let from = place(self.payload.len(), self.start, self.length);
+        let kept = lend_bytes(self.payload, from, size, f);
+        self.length += kept;
+        self.metadata
+            .enqueue_one(PacketMetadata { size: kept, header });
+        kept
+    }
+
+    /// Appends a packet whose bytes `f` writes: it is lent `max_size` bytes and answers how many of them, from the first on, to keep. This count is answered.
+    ///
+    /// `Full` where no place is left, or `max_size` bytes in one piece are not; the packets then stay as they were.
+    pub fn enqueue_with_infallible<F: FnOnce(&mut [u8]) -> usize>(
+        &mut self,
+        max_size: usize,
+        header: H,
+        f: F,
+    ) -> Result<usize, Full>
+    where
+        F: Drop,
+        requires callable { F.IsAlwaysCallable f }
+        requires sized { (s : List ℕ) (r : _) (s' : List ℕ) → FnOnceReturnsAtMut F.FnOnce f s r s' → r ≤ length s }
+        ensures variant { IsOk result ↔ IsTrue (takes max_size self.old) }
+        ensures err { OnErr result (self.new ≡ made_room max_size self.old) }
+        ensures kept { OnErr result (packets self.new.entries ≡ packets self.old.entries) }
+        ensures ok { IfOk result (λ kept. Enqueues (FnOnceReturnsAtMut F.FnOnce f) max_size header self.old kept self.new) }
+    {
+        if !self.make_room(max_size) {
+            return Err(Full);
+        }
+        Ok(self.append_with(max_size, Some(header), f))
+    }
+
+    // Whether the first entry is padding.
+    fn starts_padded(&self) -> bool
+        ensures { result ≡ starts_padded self.now.entries }
+    {
+        !self.metadata.is_empty() && self.metadata.front().header.is_none()
+    }
+
+    // Takes the first entry. Answers its header, and where its bytes stand and how many.
+    fn drop_first(&mut self) -> (Option<H>, (usize, usize))
+        requires { 0 < length self.old.entries }
+        ensures after { self.new ≡ without_first self.old }
+        ensures header { result.0 ≡ first_header self.old.entries }
+        ensures place { result.1.0 + result.1.1 ≤ length self.old.storage }
+        ensures bytes { first_bytes self.old.entries ≡ take result.1.1 (drop result.1.0 self.old.storage) }
+    {
+        let first = self.metadata.front();
+        let size = first.size;
+        let from = self.start;
+        self.metadata.dequeue_allocated(1);
+        self.start = place(self.payload.len(), from, size);
+        self.length -= size;
+        (first.header, (from, size))
+    }
+
+    /// Padding that stands first leaves. The first step of `peek`, `dequeue` and `dequeue_with`, for a caller that lends on what `first` lends.
+    pub fn skip_padding(&mut self)
+        ensures after { self.new ≡ skipped self.old }
+        ensures same { packets self.new.entries ≡ packets self.old.entries }
+        ensures packet { starts_padded self.new.entries ≡ false }
+    {
+        while self.starts_padded() {
+            self.drop_first();
+        }
+    }
+
+    /// The `size` payload bytes from `from` on: the bytes of a packet that `take_first` took, until the next change.
+    pub fn part(&self, from: usize, size: usize) -> &[u8]
+        requires { from + size ≤ length self.now.storage }
+        ensures { result.now ≡ take size (drop from self.now.storage) }
+    {
+        &self.payload[from..from + size]
+    }
+
+    /// The header and the bytes of the first packet, where no padding stands first. `Empty` where there is none.
+    pub fn first(&self) -> Result<(&H, &[u8]), Empty>
+        requires packet { starts_padded self.now.entries ≡ false }
+        ensures variant { IsOk result ↔ (0 < length (packets self.now.entries)) }
+        ensures value { IfOk result (λ r. first_packet self.now ≡ Some (r.0.now, r.1.now)) }
+    {
+        match self.metadata.get_allocated(0, 1).first() {
+            Some(
+                PacketMetadata {
+                    size,
+                    header: Some(header),
+                },
+            ) => Ok((header, self.part(self.start, *size))),
+            _ => Err(Empty),
+        }
+    }
+
+    /// Lends the header and the bytes of the first packet, which stays. `Empty` where there is none.
+    pub fn peek(&mut self) -> Result<(&H, &[u8]), Empty>
+        ensures* after { sem 𝓛 (ShowsFirst H.row self.entry) }
+        ensures variant { IsOk result ↔ (0 < length (packets self.old.entries)) }
+        ensures value { IfOk result (λ r. first_packet self.old ≡ Some (r.0.now, r.1.now)) }
+    {
+        self.skip_padding();
+        self.first()
+    }
+
+    /// Takes the first packet. Answers its header, where in the payload storage its bytes stand, and how many they are; `part` lends them. `None` where there is no packet.
+    ///
+    /// The two steps of `dequeue`, for a caller that lends the bytes on and says what it then is.
+    pub fn take_first(&mut self) -> Option<(H, (usize, usize))>
+        ensures variant { IsSome result ↔ (0 < length (packets self.old.entries)) }
+        ensures after { Dequeues self.old self.new }
+        ensures within { IfSome result (λ r. r.1.0 + r.1.1 ≤ length self.new.storage) }
+        ensures some { IfSome result (λ r. first_packet self.old ≡ Some (r.0, take r.1.1 (drop r.1.0 self.new.storage))) }
+    {
+        self.skip_padding();
+        if self.is_empty() {
+            return None;
+        }
+        let (header, place) = self.drop_first();
+        Some((header?, place))
+    }
+
+    /// Takes the first packet, and lends its bytes. `Empty` where there is none.
+    pub fn dequeue(&mut self) -> Result<(H, &[u8]), Empty>
+        ensures variant { IsOk result ↔ (0 < length (packets self.old.entries)) }
+        ensures value { IfOk result (λ r. first_packet self.old ≡ Some (r.0, r.1.now)) }
+    {
+        match self.take_first() {
+            Some((header, (from, size))) => Ok((header, self.part(from, size))),
+            None => Err(Empty),
+        }
+    }
+
+    /// Shows `f` the header and the bytes of the first packet. Where `f` answers `Ok`, the packet leaves; where it answers `Err`, it stays first. `f`'s answer is passed on. `Empty` where there is no packet.
+    pub fn dequeue_with<R, E, F: FnOnce(&H, &[u8]) -> Result<R, E>>(
+        &mut self,
+        f: F,
+    ) -> Result<Result<R, E>, Empty>
+    where
+        F: Drop,
+        requires callable { F.IsAlwaysCallable f }
+        ensures variant { IsOk result ↔ (0 < length (packets self.old.entries)) }
+        ensures err { OnErr result (self.new ≡ skipped self.old) }
+        ensures ok { IfOk result (λ outcome. SeesFirst (SeesBoth F.FnOnce f) self.old outcome self.new) }
+    {
+        self.skip_padding();
+        let outcome = match self.first() {
+            Ok((header, bytes)) => f(header, bytes),
+            Err(empty) => return Err(empty),
+        };
+        if outcome.is_ok() {
+            self.drop_first();
+        }
+        Ok(outcome)
+    }
+}
+
+// Lends `count` bytes from `from` on.
+fn lend_bytes<F: FnOnce(&mut [u8]) -> usize>(
+    places: &mut [u8],
+    from: usize,
+    count: usize,
+    f: F,
+) -> usize
+    requires fits { from + count ≤ length places.old }
+    requires callable { F.IsAlwaysCallable f }
+    requires sized { (s : List ℕ) (r : _) (s' : List ℕ) → FnOnceReturnsAtMut F.FnOnce f s r s' → r ≤ length s }
+    ensures size { result ≤ count }
+    ensures left { LeavesRun (FnOnceReturnsAtMut F.FnOnce f) places.old from count result places.new }
+{
+    f(&mut places[from..from + count])
+}
+
+/// Making room for a packet adds padding at most, which is in no list of packets.
+pub fn room_keeps_packets<H: Copy>()
+    ensures { (size : ℕ) (p : Packets H) → packets (made_room size p).entries ≡ packets p.entries }
+{}
+
+/// The packets are the same once the padding in front of them is gone.
+pub fn skipping_keeps_packets<H: Copy>()
+    ensures { (p : Packets H) → packets (skipped p).entries ≡ packets p.entries }
+{}
+
+/// With a free place and no payload byte taken, a packet is taken exactly where it is at most as long as the payload storage.
+pub fn empty_payload_takes_all_that_fits<H: Copy>()
+    ensures { (size : ℕ) (p : Packets H) → length p.entries < p.places → taken p.entries ≡ 0 → takes size p ≡ nat_le size (length p.storage) }
+{}
