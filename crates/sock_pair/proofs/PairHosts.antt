@@ -132,6 +132,6 @@ new_is_host rx tx e r t i = record { reachable = i; idle = λ u. new_idle rx tx 
 pub new_is_pair : (arx atx brx btx : Queue) (a b : IpEndpoint) (limit : Option ℕ) (ha hb : HostView) (ts : List StoredView) → ha ≡ new_host (fresh arx atx) a → hb ≡ new_host (fresh brx btx) b → ts ≡ [] → arx.bytes ≡ [] → atx.bytes ≡ [] → brx.bytes ≡ [] → btx.bytes ≡ [] → IsReachable a → IsReachable b → SameVersion a.addr b.addr → IsLimit limit → IsPair (record { a = ha; b = hb; segments = ts; limit = limit })
 new_is_pair arx atx brx btx a b limit ha hb ts ea eb et r1 t1 r2 t2 ia ib v l =
     subst (λ h. IsPair (record { a = h; b = hb; segments = ts; limit = limit })) (sym ea)
-      (subst (λ h. IsPair (record { a = new_host (fresh arx atx) a; b = h; segments = ts; limit = limit })) (sym eb)
-        (subst (λ xs. IsPair (record { a = new_host (fresh arx atx) a; b = new_host (fresh brx btx) b; segments = xs; limit = limit })) (sym et)
-          (record { a = new_is_host arx atx a r1 t1 ia; b = new_is_host brx btx b r2 t2 ib; versions = v; network = starts limit l })))
+    (subst (λ h. IsPair (record { a = new_host (fresh arx atx) a; b = h; segments = ts; limit = limit })) (sym eb)
+    (subst (λ xs. IsPair (record { a = new_host (fresh arx atx) a; b = new_host (fresh brx btx) b; segments = xs; limit = limit })) (sym et)
+    (record { a = new_is_host arx atx a r1 t1 ia; b = new_is_host brx btx b r2 t2 ib; versions = v; network = starts limit l })))

@@ -11,13 +11,13 @@ use Rattle.sock_pair.specs.declared.host.Opening.TheVariants as opening
 
 -- one side
 pub record HostView : Type 0 where
-  pub control_block : View -- of its socket
+  pub control_block : View  -- of its socket
   pub endpoint : IpEndpoint
   pub opening : Opening
-  pub accepted : List ℕ -- the bytes that its calls of send took, in order
-  pub handed_out : List ℕ -- the bytes that its calls of recv gave out, in order
-  pub released : ℕ -- how many bytes left its transmit queue by acknowledgement
-  pub taken : ℕ -- how many bytes joined its receive queue
+  pub accepted : List ℕ  -- the bytes that its calls of send took, in order
+  pub handed_out : List ℕ  -- the bytes that its calls of recv gave out, in order
+  pub released : ℕ  -- how many bytes left its transmit queue by acknowledgement
+  pub taken : ℕ  -- how many bytes joined its receive queue
 
 -- a stored segment
 pub record StoredView : Type 0 where

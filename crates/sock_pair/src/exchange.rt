@@ -6,7 +6,6 @@ ghost use Rattle.control_wire.specs.Segment.{segment_of};
 ghost use Rattle.sock_pair.specs.PairSteps.{is_too_old, dispatch_outcome, stored_at, Dispatches, reply_index, IsUnchanged};
 ghost use Rattle.sock_pair.specs.Exchanges.{DeliversAt};
 
-
 use crate::host::Host;
 use crate::moment::Moment;
 use crate::outcome::{Outcome, PairError};
@@ -31,7 +30,8 @@ pub(crate) struct Counts {
 pub fn too_old(released_at: u64, released_now: u64, taken_at: u64, taken_now: u64) -> bool
     ensures { result ≡ is_too_old released_at released_now taken_at taken_now }
 {
-    released_now.saturating_sub(released_at) >= AGE_LIMIT || taken_now.saturating_sub(taken_at) >= AGE_LIMIT
+    released_now.saturating_sub(released_at) >= AGE_LIMIT
+        || taken_now.saturating_sub(taken_at) >= AGE_LIMIT
 }
 
 // What came of a dispatch, whose segment is stored where there is one; there is room for it.
@@ -58,7 +58,14 @@ fn store(segments: &mut Vec<Segment>, from: Side, sent: Sent, counts: Counts) ->
 }
 
 // One dispatch of a side. The room is made first.
-pub(crate) fn dispatch(alloc: Global, host: &mut Host<'_>, side: Side, segments: &mut Vec<Segment>, moment: &Moment, fail: bool) -> Result<Outcome, PairError>
+pub(crate) fn dispatch(
+    alloc: Global,
+    host: &mut Host<'_>,
+    side: Side,
+    segments: &mut Vec<Segment>,
+    moment: &Moment,
+    fail: bool,
+) -> Result<Outcome, PairError>
     ensures step { IfOk result (λ o. Dispatches side moment.entry.now fail o host.old (map stored_of segments.old.items) host.new (map stored_of segments.new.items)) }
     ensures memory { OnErr result (IsUnchanged host.old (map stored_of segments.old.items) host.new (map stored_of segments.new.items)) }
 {
@@ -75,7 +82,13 @@ pub(crate) fn dispatch(alloc: Global, host: &mut Host<'_>, side: Side, segments:
 }
 
 // The outcome of a delivery, whose reply is stored where there is one; there is room for it.
-fn store_reply(alloc: Global, segments: &mut Vec<Segment>, from: Side, reply: Option<Reply>, counts: Counts) -> Outcome
+fn store_reply(
+    alloc: Global,
+    segments: &mut Vec<Segment>,
+    from: Side,
+    reply: Option<Reply>,
+    counts: Counts,
+) -> Outcome
     requires room { vec_len segments.old < vec_capacity segments.old }
     requires empty { ForSome reply (λ r. r.1.payload.now ≡ []) }
     ensures answer { result ≡ Outcome.Delivered (reply_index (length (map stored_of segments.old.items)) (option_map (λ r. (r.0, segment_of r.1)) reply.entry)) }
@@ -86,14 +99,28 @@ fn store_reply(alloc: Global, segments: &mut Vec<Segment>, from: Side, reply: Op
         Some((ip_repr, repr)) => {
             let index = segments.len();
             let header = Header::of(ip_repr, &repr);
-            segments.push_reserved(Segment::of_reply(alloc, from, header, counts.released, counts.taken));
+            segments.push_reserved(Segment::of_reply(
+                alloc,
+                from,
+                header,
+                counts.released,
+                counts.taken,
+            ));
             Outcome::Delivered(Some(index))
         }
     }
 }
 
 // One delivery to a side. The room is made first.
-pub(crate) fn deliver(alloc: Global, emitter: Counts, host: &mut Host<'_>, side: Side, segments: &mut Vec<Segment>, index: usize, moment: &Moment) -> Result<Outcome, PairError>
+pub(crate) fn deliver(
+    alloc: Global,
+    emitter: Counts,
+    host: &mut Host<'_>,
+    side: Side,
+    segments: &mut Vec<Segment>,
+    index: usize,
+    moment: &Moment,
+) -> Result<Outcome, PairError>
     requires there { index < length segments.old.items }
     requires released { host.old.released < 2 ^ 63 }
     requires taken { host.old.taken < 2 ^ 63 }
@@ -101,7 +128,12 @@ pub(crate) fn deliver(alloc: Global, emitter: Counts, host: &mut Host<'_>, side:
     ensures memory { OnErr result (IsUnchanged host.old (map stored_of segments.old.items) host.new (map stored_of segments.new.items)) }
 {
     let segment = &segments[index];
-    if too_old(segment.released_at, emitter.released, segment.taken_at, emitter.taken) {
+    if too_old(
+        segment.released_at,
+        emitter.released,
+        segment.taken_at,
+        emitter.taken,
+    ) {
         return Ok(Outcome::TooOld);
     }
     if !host.accepts(moment, segment) {

@@ -43,8 +43,14 @@ impl<'a> Model for Host<'a> {
     ghost Value = { HostView };
 
     ghost view = { λ h. record {
-        control_block = h.socket.control_block; endpoint = h.endpoint; opening = h.opening; accepted = h.accepted.items; handed_out = h.handed_out.items;
-        released = h.released; taken = h.taken } };
+      control_block = h.socket.control_block;
+      endpoint = h.endpoint;
+      opening = h.opening;
+      accepted = h.accepted.items;
+      handed_out = h.handed_out.items;
+      released = h.released;
+      taken = h.taken;
+    } };
 }
 
 impl<'a> Host<'a> {
@@ -57,7 +63,12 @@ impl<'a> Host<'a> {
     ghost use Rattle.sock_pair.specs.PairInvariant.{IsHost, IsReachable};
     ghost use Rattle.ip_wire.specs.Address.{SameVersion};
 
-    pub(crate) fn new(alloc: Global, rx: SocketBuffer<'a>, tx: SocketBuffer<'a>, endpoint: IpEndpoint) -> Host<'a>
+    pub(crate) fn new(
+        alloc: Global,
+        rx: SocketBuffer<'a>,
+        tx: SocketBuffer<'a>,
+        endpoint: IpEndpoint,
+    ) -> Host<'a>
         requires rx { length rx.queue + length rx.spare ≤ 2 ^ 30 }
         requires tx { length tx.queue + length tx.spare ≤ 2 ^ 30 }
         ensures { result ≡ new_host (fresh (queue_of rx.entry) (queue_of tx.entry)) endpoint }
@@ -194,12 +205,19 @@ impl<'a> Host<'a> {
             header: None,
             payload: room,
         };
-        let answer = self.socket.dispatch(&mut recorder, move |cx: &mut Recorder, sent: (IpRepr, TcpRepr<'_>)| -> Result<(), EmitFailed>
-            ensures kept { OnOk result (IsTrue (not fail) × Holds cx.entry.now cx.exit.now sent.entry.0 (segment_of sent.entry.1)) }
-            ensures err { OnErr result (fail ≡ false → vec_capacity cx.entry.now.payload < vec_len cx.entry.now.payload + length sent.entry.1.payload.now) }
-        {
-            if fail { Err(EmitFailed) } else { cx.store(sent.0, sent.1) }
-        });
+        let answer = self.socket.dispatch(
+            &mut recorder,
+            move |cx: &mut Recorder, sent: (IpRepr, TcpRepr<'_>)| -> Result<(), EmitFailed>
+                ensures kept { OnOk result (IsTrue (not fail) × Holds cx.entry.now cx.exit.now sent.entry.0 (segment_of sent.entry.1)) }
+                ensures err { OnErr result (fail ≡ false → vec_capacity cx.entry.now.payload < vec_len cx.entry.now.payload + length sent.entry.1.payload.now) }
+            {
+                if fail {
+                    Err(EmitFailed)
+                } else {
+                    cx.store(sent.0, sent.1)
+                }
+            },
+        );
         recorder.into_sent(answer)
     }
 

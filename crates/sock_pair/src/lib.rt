@@ -15,9 +15,9 @@ pub mod side;
 pub mod streams;
 
 pub use event::Event;
+pub use exchange::too_old;
 pub use moment::Moment;
 pub use outcome::{Outcome, PairError};
-pub use exchange::too_old;
 pub use pair::{Pair, Setup};
 pub use segment::Segment;
 pub use side::Side;

@@ -40,7 +40,9 @@ impl Moment {
 // A moment has no source address, and no address is a broadcast one: no call of a pair asks for them.
 impl Context for Moment {
     ghost use Rattle.sock_pair.specs.Moments.{facts_of};
+
     ghost facts = { facts_of };
+
     ghost word_at = { λ m _. m.word };
 
     fn now(&self) -> Instant {

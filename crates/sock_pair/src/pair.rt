@@ -204,8 +204,22 @@ impl<'a> Pair<'a> {
         ensures memory { OnErr result (self.new ≡ self.old) }
     {
         match side {
-            Side::A => dispatch(self.alloc, &mut self.a, Side::A, &mut self.segments, moment, fail),
-            Side::B => dispatch(self.alloc, &mut self.b, Side::B, &mut self.segments, moment, fail),
+            Side::A => dispatch(
+                self.alloc,
+                &mut self.a,
+                Side::A,
+                &mut self.segments,
+                moment,
+                fail,
+            ),
+            Side::B => dispatch(
+                self.alloc,
+                &mut self.b,
+                Side::B,
+                &mut self.segments,
+                moment,
+                fail,
+            ),
         }
     }
 
@@ -223,11 +237,27 @@ impl<'a> Pair<'a> {
         match segment.from {
             Side::A => {
                 let counts = self.a.counts();
-                deliver(self.alloc, counts, &mut self.b, Side::B, &mut self.segments, index, moment)
+                deliver(
+                    self.alloc,
+                    counts,
+                    &mut self.b,
+                    Side::B,
+                    &mut self.segments,
+                    index,
+                    moment,
+                )
             }
             Side::B => {
                 let counts = self.b.counts();
-                deliver(self.alloc, counts, &mut self.a, Side::A, &mut self.segments, index, moment)
+                deliver(
+                    self.alloc,
+                    counts,
+                    &mut self.a,
+                    Side::A,
+                    &mut self.segments,
+                    index,
+                    moment,
+                )
             }
         }
     }

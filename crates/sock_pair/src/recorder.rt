@@ -19,6 +19,7 @@ pub(crate) struct Recorder {
 
 impl Context for Recorder {
     ghost facts = { λ r. ⟦<Moment as Context>⟧.facts r.moment };
+
     ghost word_at = { λ r. ⟦<Moment as Context>⟧.word_at r.moment };
 
     fn now(&self) -> Instant {

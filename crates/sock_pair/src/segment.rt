@@ -97,7 +97,13 @@ impl Segment {
     }
 
     /// A reply, which has no payload.
-    pub(crate) fn of_reply(alloc: Global, from: Side, header: Header, released_at: u64, taken_at: u64) -> Segment
+    pub(crate) fn of_reply(
+        alloc: Global,
+        from: Side,
+        header: Header,
+        released_at: u64,
+        taken_at: u64,
+    ) -> Segment
         ensures { stored_of result ≡ stored_segment from header [] released_at taken_at }
     {
         Segment {

@@ -5,7 +5,9 @@ ghost use Rattle.ip_wire.specs.declared.checksum.Checksum.TheVariants.{Both};
 use crate::window::window_shift;
 use crate::*;
 use control_wire::{TcpControl, TcpRepr, TcpSeqNumber};
-use ip_wire::{ChecksumCapabilities, IpAddress, IpEndpoint, IpListenEndpoint, IpRepr, Ipv4Address, Ipv6Address};
+use ip_wire::{
+    ChecksumCapabilities, IpAddress, IpEndpoint, IpListenEndpoint, IpRepr, Ipv4Address, Ipv6Address,
+};
 use net_base::ring_buffer::RingBuffer;
 use net_base::time::Instant;
 use sock_core::Context;
@@ -19,8 +21,16 @@ struct Interface {
 
 impl Context for Interface {
     ghost facts = { λ _. record {
-        now = pos 0; mtu = 1500; has_address = λ _. true; source = λ _. None; source_ipv4 = λ _. None; source_ipv6 = λ _. record { 0 = replicate 16 0 };
-        broadcast = λ _. false; checksums = record { ipv4 = Both; udp = Both; tcp = Both; icmpv4 = Both; icmpv6 = Both } } };
+      now = pos 0;
+      mtu = 1500;
+      has_address = λ _. true;
+      source = λ _. None;
+      source_ipv4 = λ _. None;
+      source_ipv6 = λ _. record { 0 = replicate 16 0 };
+      broadcast = λ _. false;
+      checksums = record { ipv4 = Both; udp = Both; tcp = Both; icmpv4 = Both; icmpv6 = Both };
+    } };
+
     ghost word_at = { λ h _. h.word };
 
     fn now(&self) -> Instant {
@@ -102,14 +112,29 @@ fn connect_validation(rt: HostRuntime) -> Result<(), Fail> {
     let mut tx = [0u8; 4];
     let mut socket = Socket::new(RingBuffer::new(&mut rx), RingBuffer::new(&mut tx));
     let mut cx = Interface { word: 1000 };
-    let nowhere = IpEndpoint { addr: B.addr, port: 0 };
-    assert_eq!(rt; socket.connect(&mut cx, nowhere, at(A)), Err(ConnectError::Unaddressable));
+    let nowhere = IpEndpoint {
+        addr: B.addr,
+        port: 0,
+    };
+    assert_eq!(rt;
+        socket.connect(&mut cx, nowhere, at(A)),
+        Err(ConnectError::Unaddressable)
+    );
     // no address is given, and the context has none
-    assert_eq!(rt; socket.connect(&mut cx, B, any(49152)), Err(ConnectError::Unaddressable));
+    assert_eq!(rt;
+        socket.connect(&mut cx, B, any(49152)),
+        Err(ConnectError::Unaddressable)
+    );
     assert_eq!(rt; socket.connect(&mut cx, B, at(A)), Ok(()));
-    assert_eq!(rt; socket.connect(&mut cx, nowhere, at(A)), Err(ConnectError::InvalidState));
+    assert_eq!(rt;
+        socket.connect(&mut cx, nowhere, at(A)),
+        Err(ConnectError::InvalidState)
+    );
     assert_eq!(rt; socket.state(), State::SynSent);
-    assert_eq!(rt; (socket.local_endpoint(), socket.remote_endpoint()), (Some(A), Some(B)));
+    assert_eq!(rt;
+        (socket.local_endpoint(), socket.remote_endpoint()),
+        (Some(A), Some(B))
+    );
     assert!(rt; socket.is_active() && !socket.may_send() && !socket.can_send());
     Ok(())
 }
@@ -140,7 +165,11 @@ fn answer<'a>(control: TcpControl, seq: u32, payload: &'a [u8]) -> TcpRepr<'a> {
 }
 
 // The sequence number and the payload of what is emitted.
-fn emitted(socket: &mut Socket<'_>, cx: &mut Interface, fail: bool) -> (Option<(u32, usize)>, bool) {
+fn emitted(
+    socket: &mut Socket<'_>,
+    cx: &mut Interface,
+    fail: bool,
+) -> (Option<(u32, usize)>, bool) {
     let mut seen = None;
     let answer = socket.dispatch(cx, |_: &mut Interface, sent: (IpRepr, TcpRepr<'_>)| {
         seen = Some((sent.1.seq_number.0, sent.1.payload.len()));
@@ -157,24 +186,53 @@ fn a_peer_sends_and_receives(rt: HostRuntime) -> Result<(), Fail> {
     let mut cx = Interface { word: 1000 };
     let ip_repr = IpRepr::new(B.addr, A.addr, ip_wire::IpProtocol::Tcp, 20, 64);
     assert_eq!(rt; socket.connect(&mut cx, B, at(A)), Ok(()));
-    assert_eq!(rt; emitted(&mut socket, &mut cx, true), (Some((1000, 0)), false));
-    assert_eq!(rt; emitted(&mut socket, &mut cx, false), (Some((1000, 0)), true));
+    assert_eq!(rt;
+        emitted(&mut socket, &mut cx, true),
+        (Some((1000, 0)), false)
+    );
+    assert_eq!(rt;
+        emitted(&mut socket, &mut cx, false),
+        (Some((1000, 0)), true)
+    );
     assert_eq!(rt; emitted(&mut socket, &mut cx, false), (None, true));
-    assert!(rt; hear(&mut socket, &mut cx, &ip_repr, &answer(TcpControl::Syn, 5000, &[])));
+    assert!(rt;
+        hear(
+            &mut socket,
+            &mut cx,
+            &ip_repr,
+            &answer(TcpControl::Syn, 5000, &[])
+        )
+    );
     assert_eq!(rt; socket.state(), State::Established);
-    assert_eq!(rt; emitted(&mut socket, &mut cx, false), (Some((1001, 0)), true));
+    assert_eq!(rt;
+        emitted(&mut socket, &mut cx, false),
+        (Some((1001, 0)), true)
+    );
     assert_eq!(rt; socket.send_slice(b"abcdef"), Ok(4));
     assert_eq!(rt; (socket.send_queue(), socket.send_capacity()), (4, 4));
     assert!(rt; socket.may_send() && !socket.can_send());
-    assert_eq!(rt; emitted(&mut socket, &mut cx, false), (Some((1001, 4)), true));
-    assert!(rt; hear(&mut socket, &mut cx, &ip_repr, &answer(TcpControl::Psh, 5001, b"xyz")));
+    assert_eq!(rt;
+        emitted(&mut socket, &mut cx, false),
+        (Some((1001, 4)), true)
+    );
+    assert!(rt;
+        hear(
+            &mut socket,
+            &mut cx,
+            &ip_repr,
+            &answer(TcpControl::Psh, 5001, b"xyz")
+        )
+    );
     assert!(rt; socket.may_recv() && socket.can_recv());
     assert_eq!(rt; (socket.recv_queue(), socket.recv_capacity()), (3, 4));
     let mut bytes = [0u8; 8];
     assert_eq!(rt; socket.recv_slice(&mut bytes), Ok(3));
     assert_eq!(rt; &bytes[..3], b"xyz".as_slice());
     // the acknowledgement of what was read, with the window free again
-    assert_eq!(rt; emitted(&mut socket, &mut cx, false), (Some((1005, 0)), true));
+    assert_eq!(rt;
+        emitted(&mut socket, &mut cx, false),
+        (Some((1005, 0)), true)
+    );
     Ok(())
 }
 
@@ -188,10 +246,22 @@ fn shifts_of_the_window(rt: HostRuntime) -> Result<(), Fail> {
 
 #[test]
 fn texts(rt: HostRuntime) -> Result<(), Fail> {
-    let text = format!(in rt.alloc(); "{}, {}, {}", State::FinWait1, State::SynReceived, State::Closed)?;
+    let text = format!(in rt.alloc();
+        "{}, {}, {}",
+        State::FinWait1,
+        State::SynReceived,
+        State::Closed
+    )?;
     assert_eq!(rt; text.as_str(), "FIN-WAIT-1, SYN-RECEIVED, CLOSED");
-    let opening = format!(in rt.alloc(); "{}, {}", ListenError::Unaddressable, ConnectError::InvalidState)?;
-    assert_eq!(rt; opening.as_str(), "unaddressable destination, invalid state");
+    let opening = format!(in rt.alloc();
+        "{}, {}",
+        ListenError::Unaddressable,
+        ConnectError::InvalidState
+    )?;
+    assert_eq!(rt;
+        opening.as_str(),
+        "unaddressable destination, invalid state"
+    );
     let moving = format!(in rt.alloc(); "{}, {}", SendError::InvalidState, RecvError::Finished)?;
     assert_eq!(rt; moving.as_str(), "invalid state, operation finished");
     Ok(())

@@ -19,11 +19,11 @@ returns-clause-step c =
     let same : c.index.result.now ≡ first = read_twice items c.reserve.new.self.items c.args.index first c.index.result.now c.requires.there c.reserve.ensures.items c.index-segment.ensures c.index.ensures in
     let yes : IsTrue c.accepts.result = search rules in
     delivers (map stored_of items) c.args.index (stored_of first) (get_map stored_of items c.args.index first c.requires.there ∙ ap (λ x. Some (stored_of x)) (sym c.index-segment.ensures))
-      c.args.emitter.released c.args.emitter.taken c.args.side m h c.store_reply.result c.deliver-reply.new.self (map stored_of c.store_reply.new.segments.items) r
-      (sym c.too_old.ensures ∙ c.if-too_old.false)
-      (c.accepts.ensures.0 yes)
-      (c.deliver-reply.ensures.view ∙ ap (λ (x : Owned). delivered_to h m (stored_of x)) same)
-      (c.deliver-reply.ensures.reply ∙ ap (λ (x : Owned). (processed_by h m (stored_of x)).reply) same)
-      (c.store_reply.ensures.answer ∙ ap (λ (xs : List Owned). outcome.Delivered (reply_index (length (map stored_of xs)) r)) c.reserve.ensures.items)
-      (c.store_reply.ensures.stored ∙ ap (λ (xs : List Owned). map stored_of xs ++ kept_at c.args.side r c.counts.result.released c.counts.result.taken) c.reserve.ensures.items
-        ∙ ap (λ n. map stored_of items ++ kept_at c.args.side r n c.counts.result.taken) c.counts.ensures.released ∙ ap (λ n. map stored_of items ++ kept_at c.args.side r c.deliver-reply.new.self.released n) c.counts.ensures.taken)
+    c.args.emitter.released c.args.emitter.taken c.args.side m h c.store_reply.result c.deliver-reply.new.self (map stored_of c.store_reply.new.segments.items) r
+    (sym c.too_old.ensures ∙ c.if-too_old.false)
+    (c.accepts.ensures.0 yes)
+    (c.deliver-reply.ensures.view ∙ ap (λ (x : Owned). delivered_to h m (stored_of x)) same)
+    (c.deliver-reply.ensures.reply ∙ ap (λ (x : Owned). (processed_by h m (stored_of x)).reply) same)
+    (c.store_reply.ensures.answer ∙ ap (λ (xs : List Owned). outcome.Delivered (reply_index (length (map stored_of xs)) r)) c.reserve.ensures.items)
+    (c.store_reply.ensures.stored ∙ ap (λ (xs : List Owned). map stored_of xs ++ kept_at c.args.side r c.counts.result.released c.counts.result.taken) c.reserve.ensures.items
+    ∙ ap (λ n. map stored_of items ++ kept_at c.args.side r n c.counts.result.taken) c.counts.ensures.released ∙ ap (λ n. map stored_of items ++ kept_at c.args.side r c.deliver-reply.new.self.released n) c.counts.ensures.taken)

@@ -13,7 +13,7 @@ invariant_of-self c =
     let p : PairView = record { a = c.self.inside.a; b = c.self.inside.b; segments = map stored_of c.self.inside.segments.items; limit = c.self.inside.limit } in
     let k = c.recv.new.self in
     kept_if (λ o. Receives c.args.size (host_of A p) o k) A p k c.recv.result c.self.invariant c.recv.ensures.step c.recv.ensures.memory
-      (λ o d. pair_with A p k c.self.invariant (recv_stays _ k c.args.size o (host_at A p c.self.invariant) d) (recv_keeps A p (host_at A p c.self.invariant) c.self.invariant.network c.args.size o k d))
+    (λ o d. pair_with A p k c.self.invariant (recv_stays _ k c.args.size o (host_at A p c.self.invariant) d) (recv_keeps A p (host_at A p c.self.invariant) c.self.invariant.network c.args.size o k d))
 
 pub returns-in-A-clause-step : goal.returns-in-A-clause-step
 returns-in-A-clause-step c =
@@ -25,7 +25,7 @@ invariant_of-self-in-B c =
     let p : PairView = record { a = c.self.inside.a; b = c.self.inside.b; segments = map stored_of c.self.inside.segments.items; limit = c.self.inside.limit } in
     let k = c.recv-in-B.new.self in
     kept_if (λ o. Receives c.args.size (host_of B p) o k) B p k c.recv-in-B.result c.self.invariant c.recv-in-B.ensures.step c.recv-in-B.ensures.memory
-      (λ o d. pair_with B p k c.self.invariant (recv_stays _ k c.args.size o (host_at B p c.self.invariant) d) (recv_keeps B p (host_at B p c.self.invariant) c.self.invariant.network c.args.size o k d))
+    (λ o d. pair_with B p k c.self.invariant (recv_stays _ k c.args.size o (host_at B p c.self.invariant) d) (recv_keeps B p (host_at B p c.self.invariant) c.self.invariant.network c.args.size o k d))
 
 pub returns-in-B-clause-step : goal.returns-in-B-clause-step
 returns-in-B-clause-step c =
