@@ -207,6 +207,10 @@ module _ {X : Type 0} where
   packets_there [] h some = absurd (omega (arith, some))
   packets_there (e ∷ es) h some = packet_there e.0 e.1 (packets es) h
 
+  pub no_items : (l m : List (X × List ℕ)) → m ≡ l → (0 < length l → false ≡ true) → (m ≡ []) × (l ≡ [])
+  no_items [] m same none = (same, refl)
+  no_items (x ∷ l) m same none = absurd (false≢true (none (omega arith)))
+
   pub entries_there : (es : List (Option X × List ℕ)) → 0 < length (packets es) → 0 < length es
   entries_there [] some = absurd (omega (arith, some))
   entries_there (e ∷ es) some = omega arith

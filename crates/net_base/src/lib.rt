@@ -1,4 +1,4 @@
-//! What the sockets stand on: time, rings over lent memory.
+//! What the sockets stand on: time, rings and packet buffers over lent memory, sets of offsets.
 #![tactic(auto)]
 
 pub mod assembler;

@@ -380,6 +380,7 @@ impl<'a, H: Copy> PacketBuffer<'a, H> {
         requires callable { F.IsAlwaysCallable f }
         ensures variant { IsOk result ↔ (0 < length (packets self.old.entries)) }
         ensures err { OnErr result (self.new ≡ skipped self.old) }
+        ensures empty { OnErr result ((packets self.old.entries ≡ []) × (packets self.new.entries ≡ [])) }
         ensures ok { IfOk result (λ outcome. SeesFirst (SeesBoth F.FnOnce f) self.old outcome self.new) }
     {
         self.skip_padding();

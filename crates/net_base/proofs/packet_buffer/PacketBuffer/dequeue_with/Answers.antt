@@ -1,7 +1,7 @@
 use Rattle.std.proofs.Common.{refl, ap, sym, ◌∙◌, subst, cond, length, ◌<◌}
 use Rattle.std.proofs.lemmas.Bool.{false≢true}
 use Rattle.net_base.specs.Packets.{without_first, SeesBoth}
-use Rattle.net_base.proofs.PacketLists.{same_packets_left, sees}
+use Rattle.net_base.proofs.PacketLists.{no_items, same_packets_left, sees}
 use Rattle.net_base.proofs.packet_buffer.PacketBuffer.dequeue_with.Goals as goal
 use Rattle.net_base.proofs.packet_buffer.PacketBuffer.dequeue_with.Goals.{then-is_ok, else-is_ok}
 
@@ -21,3 +21,6 @@ returns-clause-ok g c =
       | else-is_ok w ↦ w.self-is ∙ ap (λ b. cond b (without_first c.skip_padding.new.self) c.skip_padding.new.self) (sym w.if-is_ok.false ∙ c.is_ok.ensures.value)
     ])
     c.skip_padding.ensures.packet
+
+pub returns-in-Err-clause-empty : goal.returns-in-Err-clause-empty
+returns-in-Err-clause-empty g c = no_items _ _ (sym (same_packets_left _ _ c.skip_padding.ensures.after)) c.in-Err.ensures.variant.1
