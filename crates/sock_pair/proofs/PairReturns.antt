@@ -19,21 +19,21 @@ use Rattle.sock_pair.specs.declared.outcome.PairError.{PairError}
 use Rattle.sock_pair.specs.declared.side.Side.{Side}
 use Rattle.sock_pair.specs.declared.side.Side.TheVariants.{A, B}
 
-pub one_side : (Does : Side → PairView → HostView → HostView → Type 0) (s s' : Side) (p v : PairView) (k : HostView) → s' ≡ s → p ≡ v → Does s p (host_of s p) k → OneSide s' v (with_host s p k) (Does s' v)
-one_side Does s s' p v k e f d = subst (λ x. OneSide x v (with_host s p k) (Does x v)) (sym e) (subst (λ y. OneSide s y (with_host s p k) (Does s y)) f (record { host = k; does = d; same = refl }))
+pub one_side : (Changes : Side → PairView → HostView → HostView → Type 0) (s s' : Side) (p v : PairView) (k : HostView) → s' ≡ s → p ≡ v → Changes s p (host_of s p) k → OneSide s' v (with_host s p k) (Changes s' v)
+one_side Changes s s' p v k e f d = subst (λ x. OneSide x v (with_host s p k) (Changes x v)) (sym e) (subst (λ y. OneSide s y (with_host s p k) (Changes s y)) f (record { host = k; does = d; same = refl }))
 
-pub with_segments : (Does : Side → PairView → HostView → List StoredView → HostView → List StoredView → Type 0) (s s' : Side) (p v : PairView) (k : HostView) (ts : List StoredView) → s' ≡ s → p ≡ v → Does s p (host_of s p) p.segments k ts → OneSideAndSegments s' v (exchanged s p k ts) (Does s' v)
-with_segments Does s s' p v k ts e f d = subst (λ x. OneSideAndSegments x v (exchanged s p k ts) (Does x v)) (sym e) (subst (λ y. OneSideAndSegments s y (exchanged s p k ts) (Does s y)) f (record { host = k; segments = ts; does = d; same = refl }))
+pub with_segments : (Changes : Side → PairView → HostView → List StoredView → HostView → List StoredView → Type 0) (s s' : Side) (p v : PairView) (k : HostView) (ts : List StoredView) → s' ≡ s → p ≡ v → Changes s p (host_of s p) p.segments k ts → OneSideAndSegments s' v (exchanged s p k ts) (Changes s' v)
+with_segments Changes s s' p v k ts e f d = subst (λ x. OneSideAndSegments x v (exchanged s p k ts) (Changes x v)) (sym e) (subst (λ y. OneSideAndSegments s y (exchanged s p k ts) (Changes s y)) f (record { host = k; segments = ts; does = d; same = refl }))
 
 -- ---- of a call that may be refused for memory
 
-pub one_side_if : (Does : Side → PairView → Outcome → HostView → HostView → Type 0) (s s' : Side) (p v : PairView) (k : HostView) (r : Result Outcome PairError) → s' ≡ s → p ≡ v → IfOk r (λ o. Does s p o (host_of s p) k) → IfOk r (λ o. OneSide s' v (with_host s p k) (Does s' v o))
-one_side_if Does s s' p v k (Ok o) e f d = one_side (λ x y. Does x y o) s s' p v k e f d
-one_side_if Does s s' p v k (Err x) e f d = tt
+pub one_side_if : (Changes : Side → PairView → Outcome → HostView → HostView → Type 0) (s s' : Side) (p v : PairView) (k : HostView) (r : Result Outcome PairError) → s' ≡ s → p ≡ v → IfOk r (λ o. Changes s p o (host_of s p) k) → IfOk r (λ o. OneSide s' v (with_host s p k) (Changes s' v o))
+one_side_if Changes s s' p v k (Ok o) e f d = one_side (λ x y. Changes x y o) s s' p v k e f d
+one_side_if Changes s s' p v k (Err x) e f d = tt
 
-pub with_segments_if : (Does : Side → PairView → Outcome → HostView → List StoredView → HostView → List StoredView → Type 0) (s s' : Side) (p v : PairView) (k : HostView) (ts : List StoredView) (r : Result Outcome PairError) → s' ≡ s → p ≡ v → IfOk r (λ o. Does s p o (host_of s p) p.segments k ts) → IfOk r (λ o. OneSideAndSegments s' v (exchanged s p k ts) (Does s' v o))
-with_segments_if Does s s' p v k ts (Ok o) e f d = with_segments (λ x y. Does x y o) s s' p v k ts e f d
-with_segments_if Does s s' p v k ts (Err x) e f d = tt
+pub with_segments_if : (Changes : Side → PairView → Outcome → HostView → List StoredView → HostView → List StoredView → Type 0) (s s' : Side) (p v : PairView) (k : HostView) (ts : List StoredView) (r : Result Outcome PairError) → s' ≡ s → p ≡ v → IfOk r (λ o. Changes s p o (host_of s p) p.segments k ts) → IfOk r (λ o. OneSideAndSegments s' v (exchanged s p k ts) (Changes s' v o))
+with_segments_if Changes s s' p v k ts (Ok o) e f d = with_segments (λ x y. Changes x y o) s s' p v k ts e f d
+with_segments_if Changes s s' p v k ts (Err x) e f d = tt
 
 pub same_host : (s : Side) (p : PairView) → with_host s p (host_of s p) ≡ p
 same_host A p = refl

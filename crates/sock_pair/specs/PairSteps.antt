@@ -22,19 +22,19 @@ use Rattle.sock_pair.specs.declared.side.Side.{Side}
 -- ---- an event of one side: the other side stays as it was
 
 -- and so do the segments
-pub record OneSide (s : Side) (p q : PairView) (Does : HostView → HostView → Type 0) : Type 0 where
+pub record OneSide (s : Side) (p q : PairView) (Changes : HostView → HostView → Type 0) : Type 0 where
   pub host : HostView
-  pub does : Does (host_of s p) host
+  pub does : Changes (host_of s p) host
   pub same : q ≡ with_host s p host
 
 abbrev pub exchanged : Side → PairView → HostView → List StoredView → PairView
 exchanged s p h ks = record (with_host s p h) { segments = ks }
 
 -- the list of segments changes too
-pub record OneSideAndSegments (s : Side) (p q : PairView) (Does : HostView → List StoredView → HostView → List StoredView → Type 0) : Type 0 where
+pub record OneSideAndSegments (s : Side) (p q : PairView) (Changes : HostView → List StoredView → HostView → List StoredView → Type 0) : Type 0 where
   pub host : HostView
   pub segments : List StoredView
-  pub does : Does (host_of s p) p.segments host segments
+  pub does : Changes (host_of s p) p.segments host segments
   pub same : q ≡ exchanged s p host segments
 
 -- ---- dispatch

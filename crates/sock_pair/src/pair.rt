@@ -284,7 +284,7 @@ impl<'a> Pair<'a> {
         }
     }
 
-    /// Does one event.
+    /// Changes one event.
     ///
     /// `Memory` where a growth was refused; the pair is then as it was.
     pub fn step(&mut self, event: &Event) -> Result<Outcome, PairError>
@@ -298,7 +298,7 @@ impl<'a> Pair<'a> {
         outcome
     }
 
-    /// Does the events in turn, and adds an outcome for each to `outcomes`.
+    /// Changes the events in turn, and adds an outcome for each to `outcomes`.
     ///
     /// `Memory` where a growth was refused; the events before that one were done, and `outcomes` has gained exactly their
     /// outcomes.
