@@ -1,4 +1,7 @@
 pub mod EventValue
+pub mod ReplayEnds
+pub mod ReplayScripts
+pub mod ReplayStreams
 pub mod ScriptFaults
 pub mod ScriptLines
 pub mod ScriptText

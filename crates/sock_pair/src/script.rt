@@ -1,23 +1,31 @@
 //! Events as text, a line an event.
-ghost use Rattle.std.specs.Prelude.{◌≡◌, map};
+ghost use Rattle.std.specs.Prelude.{◌≡◌, map, IfOk};
 ghost use Rattle.sock_pair.specs.EventValue.{event_value};
+ghost use Rattle.sock_pair.specs.ReplayScripts.{IsPlayable};
 ghost use Rattle.sock_pair.specs.ScriptLines.{Gives, events_of, script_of, script_value};
 ghost use Rattle.sock_pair.specs.ScriptText.{lines_left};
 
+mod end;
 mod error;
 mod forms;
 mod header;
 mod keyword;
 mod lines;
+mod output;
+mod play;
+pub mod stream;
 mod values;
 mod words;
 
 use crate::event::Event;
+pub use end::End;
 pub use error::ScriptError;
 use forms::event;
 use header::{Header, read_header};
 use lines::Lines;
+use play::{play, read_all};
 use std::alloc::Global;
+pub use stream::{Sink, Source, StreamFault};
 
 /// What a script asks for.
 #[derive(Debug, PartialEq, Eq, Drop)]
@@ -37,7 +45,8 @@ pub struct Script {
 /// that line.
 #[tactic(auto, unfolding(crate::specs::ScriptLines::script_of))]
 pub fn parse(alloc: Global, text: &[u8]) -> Result<Script, ScriptError>
-    ensures { Gives script_value (script_of text.now) result }
+    ensures value { Gives script_value (script_of text.now) result }
+    ensures playable { IfOk result (λ s. IsPlayable s.sizes s.limit) }
 {
     let mut lines = Lines::new(text);
     let Some(first) = lines.next() else {
@@ -63,6 +72,23 @@ fn events(alloc: Global, lines: &mut Lines<'_>) -> Result<Vec<Event>, ScriptErro
         events.push(event)?;
     }
     Ok(events)
+}
+
+/// Reads all bytes up to the reader's end, runs them as a script, and writes a line for each outcome
+/// and a closing line for each side.
+///
+/// Where the text is no script, or the reader failed, nothing is written. Where memory ran out, the
+/// lines of the steps that were done are written, and no closing lines.
+pub fn replay<R: Source, W: Sink>(alloc: Global, reader: &mut R, writer: &mut W) -> End {
+    let text = match read_all(alloc, reader) {
+        Ok(text) => text,
+        Err(end) => return end,
+    };
+    match parse(alloc, text.as_slice()) {
+        Ok(script) => play(alloc, &script, writer),
+        Err(ScriptError::Memory) => End::Memory,
+        Err(error) => End::Script(error),
+    }
 }
 
 #[cfg(test)]

@@ -1,5 +1,6 @@
 // The line that names the buffers' sizes and the limit.
-ghost use Rattle.std.specs.Prelude.{◌≡◌, ◌∷◌};
+ghost use Rattle.std.specs.Prelude.{◌≡◌, ◌∷◌, IfOk, IfSome};
+ghost use Rattle.sock_pair.specs.ReplayScripts.{AreSizes, IsPlayable};
 ghost use Rattle.sock_pair.specs.ScriptLines.{Gives, header_line, header_of, header_value, sizes_of};
 ghost use Rattle.sock_pair.specs.ScriptText.{line_words, words_of};
 ghost use Rattle.sock_pair.specs.ScriptWords.{number_of};
@@ -22,7 +23,8 @@ pub struct Header {
 
 /// What the line `pair ARX ATX BRX BTX LIMIT` names, or its fault.
 pub fn read_header(line: &Line<'_>) -> Result<Header, ScriptError>
-    ensures { Gives header_value (header_of line.now.number (line_words line.now)) result }
+    ensures value { Gives header_value (header_of line.now.number (line_words line.now)) result }
+    ensures playable { IfOk result (λ h. IsPlayable h.sizes h.limit) }
 {
     if line.name != b"pair".as_slice() {
         return Err(ScriptError::NoPairLine { line: line.number });
@@ -32,7 +34,8 @@ pub fn read_header(line: &Line<'_>) -> Result<Header, ScriptError>
 
 #[tactic(auto, unfolding(crate::specs::ScriptLines::header_line))]
 fn header_values(line: usize, values: &[u8]) -> Result<Header, ScriptError>
-    ensures { Gives header_value (header_line line (words_of values.now)) result }
+    ensures value { Gives header_value (header_line line (words_of values.now)) result }
+    ensures playable { IfOk result (λ h. IsPlayable h.sizes h.limit) }
 {
     let (arx, atx, brx, btx, last) = five_words(values).ok_or(ScriptError::WrongNumberOfWords {
         line,
@@ -44,8 +47,9 @@ fn header_values(line: usize, values: &[u8]) -> Result<Header, ScriptError>
 }
 
 fn sizes(arx: &[u8], atx: &[u8], brx: &[u8], btx: &[u8]) -> Option<[usize; 4]>
-    ensures { let size = number_of 65535 in
+    ensures value { let size = number_of 65535 in
         result ≡ sizes_of (size arx.now) (size atx.now) (size brx.now) (size btx.now) }
+    ensures within { IfSome result AreSizes }
 {
     let arx = number(arx, BUFFER)?;
     let atx = number(atx, BUFFER)?;

@@ -2,6 +2,7 @@
 ghost use Rattle.std.specs.Prelude.{◌≡◌, ◌≤◌, ◌^◌, ◌<◌, ◌&&◌, nat_le, length, IsTrue, IfSome};
 ghost use Rattle.std.specs.Char.{is_ascii_digit};
 ghost use Rattle.std.specs.List.{list_all};
+ghost use Rattle.sock_pair.specs.NetworkInvariant.{IsLimit};
 ghost use Rattle.sock_pair.specs.ScriptWords.{
   is_number,
   is_text,
@@ -42,7 +43,8 @@ pub fn number(word: &[u8], most: usize) -> Option<usize>
 /// A limit of at most 536870911, or `-` for none.
 #[tactic(auto, unfolding(crate::specs::ScriptWords::limit_of))]
 pub fn limit(word: &[u8]) -> Option<Option<u32>>
-    ensures { result ≡ limit_of word.now }
+    ensures value { result ≡ limit_of word.now }
+    ensures within { IfSome result IsLimit }
 {
     if word == b"-".as_slice() {
         return Some(None);

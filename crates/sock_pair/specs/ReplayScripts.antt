@@ -1,0 +1,14 @@
+-- What is known of every script that was read.
+use Rattle.std.specs.Prelude.{ℕ, ◌≤◌, List, Option, slice_index}
+use Rattle.sock_pair.specs.NetworkInvariant.{IsLimit}
+
+-- the sizes of a's receive and transmit buffer, and of b's
+pub record AreSizes (sizes : List ℕ) : Type 0 where
+  pub arx : slice_index sizes 0 ≤ 65535
+  pub atx : slice_index sizes 1 ≤ 65535
+  pub brx : slice_index sizes 2 ≤ 65535
+  pub btx : slice_index sizes 3 ≤ 65535
+
+pub record IsPlayable (sizes : List ℕ) (limit : Option ℕ) : Type 0 where
+  pub buffers : AreSizes sizes
+  pub limited : IsLimit limit
