@@ -1,0 +1,2 @@
+pub mod Udp
+pub mod UdpTexts

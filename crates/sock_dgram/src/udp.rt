@@ -1,0 +1,10 @@
+//! UDP sockets (RFC 768): two queues of datagrams, each with the endpoint of the other side.
+
+pub mod error;
+mod process;
+mod queues;
+pub mod socket;
+mod store;
+
+pub use error::{BindError, RecvError, SendError};
+pub use socket::{PacketBuffer, PacketMetadata, Socket, UdpMetadata};
