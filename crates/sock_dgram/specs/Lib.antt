@@ -1,2 +1,3 @@
 pub mod Udp
+pub mod UdpDispatch
 pub mod UdpTexts

@@ -1,5 +1,6 @@
 //! UDP sockets (RFC 768): two queues of datagrams, each with the endpoint of the other side.
 
+mod dispatch;
 pub mod error;
 mod process;
 mod queues;
