@@ -1,5 +1,6 @@
 -- What contracts see of a UDP socket, and what its calls do to it.
 use Rattle.std.specs.Prelude.{ℕ, ◌≡◌, ◌⊎◌, ⊤, List, [], ◌∷◌, ◌++◌, length, nat_lt, Option, None, Some, Result, Ok, Err, Bool, true, false, not, ◌==◌, ◌&&◌, if◌then◌else◌}
+use Rattle.std.specs.Borrow.{Bor}
 use Rattle.ip_wire.specs.Address.{is_unspecified, is_multicast}
 use Rattle.ip_wire.specs.IpHeader.{src_addr_of, dst_addr_of}
 use Rattle.ip_wire.specs.declared.address.IpAddress.{IpAddress}
@@ -100,7 +101,25 @@ send_answer v m n =
 abbrev pub after_send : View → UdpMetadata → List ℕ → View
 after_send v m bs = if is_sendable v m then record v { tx_buffer = stored m bs v.tx_buffer } else v
 
+-- where it is refused for want of room, padding may have come to stand behind the datagrams
+abbrev pub refused_send : View → UdpMetadata → ℕ → View
+refused_send v m n = if is_sendable v m then record v { tx_buffer = made_room n v.tx_buffer } else v
+
 -- ---- receiving
+
+-- whether a call that lends is refused, and why
+abbrev pub answered : {X E : Type 0} → Result X E → Result (Unit {0}) E
+answered (Ok x) = Ok tt
+answered (Err e) = Err e
+
+abbrev pub take_answer : Option (UdpMetadata × List ℕ) → Result (Unit {0}) RecvError
+take_answer None = Err recv_error.Exhausted
+take_answer (Some d) = Ok tt
+
+-- an answer that lends the metadata, by value
+abbrev pub copied_of : Result (ℕ × Bor UdpMetadata) RecvError → Result (ℕ × UdpMetadata) RecvError
+copied_of (Ok r) = Ok (r.0, r.1.now)
+copied_of (Err e) = Err e
 
 -- the answer of a call that copies the first datagram into a slice of n bytes
 abbrev pub copy_answer : Option (UdpMetadata × List ℕ) → ℕ → Result (ℕ × UdpMetadata) RecvError

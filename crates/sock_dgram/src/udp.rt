@@ -2,6 +2,7 @@
 
 mod dispatch;
 pub mod error;
+mod lend;
 mod process;
 mod queues;
 pub mod socket;

@@ -40,7 +40,7 @@ impl<'a> Socket<'a> {
     }
 
     // Whether a datagram may be sent so, room apart.
-    fn is_sendable(&self, meta: &UdpMetadata) -> bool
+    pub(crate) fn is_sendable(&self, meta: &UdpMetadata) -> bool
         ensures { result ≡ is_sendable self.now meta.now }
     {
         self.is_open()
