@@ -7,6 +7,8 @@ mod process;
 mod queues;
 pub mod socket;
 mod store;
+#[cfg(test)]
+mod tests;
 
 pub use error::{BindError, RecvError, SendError};
 pub use socket::{PacketBuffer, PacketMetadata, Socket, UdpMetadata};
