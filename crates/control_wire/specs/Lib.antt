@@ -1,2 +1,3 @@
+pub mod Datagram
 pub mod Seq
 pub mod Segment

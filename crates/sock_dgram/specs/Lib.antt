@@ -1,0 +1,4 @@
+pub mod Udp
+pub mod UdpDispatch
+pub mod UdpLends
+pub mod UdpTexts

@@ -1,0 +1,84 @@
+-- `dispatch` of a UDP socket.
+use Rattle.std.specs.Prelude.{ℕ, ◌≡◌, ◌+◌, List, drop, length, cond, Option, None, Some, Result, Ok, is_ok, true, false, if◌then◌else◌}
+use Rattle.std.specs.Borrow.{MutBor, Bor}
+use Rattle.std.specs.Fn.{Once}
+use Rattle.ip_wire.specs.IpHeader.{ip_header}
+use Rattle.ip_wire.specs.declared.address.IpAddress.{IpAddress}
+use Rattle.ip_wire.specs.declared.protocol.IpProtocol.TheVariants as protocol
+use Rattle.ip_wire.specs.declared.repr.IpRepr.{IpRepr}
+use Rattle.control_wire.specs.Datagram.{udp_header_len}
+use Rattle.control_wire.specs.declared.udp.UdpRepr.{UdpRepr}
+use Rattle.net_base.specs.Packets.{first_packet, Dequeues, skipped}
+use Rattle.sock_core.specs.Facts.{Facts}
+use Rattle.sock_dgram.specs.Udp.{View, waiting, known_source, same_version}
+use Rattle.sock_dgram.specs.declared.udp.socket.UdpMetadata.{UdpMetadata}
+
+-- the hop limit where none is set (RFC 1122, section 3.2.1.7)
+abbrev pub hops_of : Option ℕ → ℕ
+hops_of None = 64
+hops_of (Some n) = n
+
+-- a datagram that goes out
+pub record Outgoing : Type 0 where
+  pub ip : IpRepr
+  pub udp : UdpRepr
+  pub payload : List ℕ
+
+-- the address that a datagram is sent from: the one given, else the bound one, else the context's
+abbrev pub chosen_source : Option IpAddress → Option IpAddress → Option IpAddress
+chosen_source (Some a) asked = Some a
+chosen_source None asked = asked
+
+abbrev pub source_of : View → Facts → UdpMetadata → Option IpAddress
+source_of v f m = chosen_source (known_source m.local_address v.endpoint.addr) (f.source m.endpoint.addr)
+
+-- a source of another version than the destination counts as none; `send` lets none of these into the queue
+abbrev pub from_source : View → UdpMetadata → List ℕ → Option IpAddress → Option Outgoing
+from_source v m bs None = None
+from_source v m bs (Some src) =
+    if same_version src m.endpoint.addr
+    then Some (record {
+      ip = ip_header src m.endpoint.addr protocol.Udp (udp_header_len + length bs) (hops_of v.hop_limit);
+      udp = record { src_port = v.endpoint.port; dst_port = m.endpoint.port };
+      payload = bs;
+    })
+    else None
+
+abbrev pub from_first : View → Facts → Option (UdpMetadata × List ℕ) → Option Outgoing
+from_first v f None = None
+from_first v f (Some d) = from_source v d.0 d.1 (source_of v f d.0)
+
+-- what is emitted: the first datagram of the queue, where it has a source
+abbrev pub outgoing : View → Facts → Option Outgoing
+outgoing v f = from_first v f (first_packet v.tx_buffer)
+
+abbrev pub outgoing_of : IpRepr × UdpRepr × Bor (List ℕ) → Outgoing
+outgoing_of s = record { ip = s.0; udp = s.1; payload = s.2.now }
+
+-- ---- the one call of emit
+
+abbrev pub Emit : Type 0 → Type 0 → Type 0 → Type 1
+Emit F C E = Once F (MutBor C × ((IpRepr × UdpRepr × Bor (List ℕ)) × Unit {0})) (Result (Unit {0}) E × (MutBor C × Unit {0}))
+
+-- a call of f at a `&mut` to c and the datagram s may answer r, and leave c'
+pub record EmitsAt {F C E : Type 0} (g : Emit F C E) (f : F) (c : C) (s : Outgoing) (r : Result (Unit {0}) E) (c' : C) : Type 0 where
+  pub shown : MutBor C
+  pub shows : shown.now ≡ c
+  pub sent : IpRepr × UdpRepr × Bor (List ℕ)
+  pub says : outgoing_of sent ≡ s
+  pub left : MutBor C
+  pub met : g.post f (shown, (sent, tt)) (r, (left, tt))
+  pub leaves : left.now ≡ c'
+
+-- emit is called once with this datagram, or it is not called and the context stays as it was
+abbrev pub Emits : {F C E : Type 0} → Emit F C E → F → Option Outgoing → C → Result (Unit {0}) E → C → Type 0
+Emits g f None c r c' = (r ≡ Ok tt) × (c' ≡ c)
+Emits g f (Some s) c r c' = EmitsAt g f c s r c'
+
+-- the whole: at Ok the first datagram leaves, at Err it stays first
+pub record Dispatched {F C E : Type 0} (g : Emit F C E) (f : F) (v : View) (facts : Facts) (c : C) (r : Result (Unit {0}) E) (c' : C) (w : View) : Type 0 where
+  pub emits : Emits g f (outgoing v facts) c r c'
+  pub queue : waiting w ≡ cond (is_ok r) (drop 1 (waiting v)) (waiting v)
+  pub sent : is_ok r ≡ true → Dequeues v.tx_buffer w.tx_buffer
+  pub failed : is_ok r ≡ false → w.tx_buffer ≡ skipped v.tx_buffer
+  pub same : w ≡ record v { tx_buffer = w.tx_buffer }

@@ -1,0 +1,4 @@
+//! The datagram sockets of smoltcp.
+#![tactic(auto)]
+
+pub mod udp;

@@ -1,0 +1,14 @@
+//! UDP sockets (RFC 768): two queues of datagrams, each with the endpoint of the other side.
+
+mod dispatch;
+pub mod error;
+mod lend;
+mod process;
+mod queues;
+pub mod socket;
+mod store;
+#[cfg(test)]
+mod tests;
+
+pub use error::{BindError, RecvError, SendError};
+pub use socket::{PacketBuffer, PacketMetadata, Socket, UdpMetadata};

@@ -1,0 +1,110 @@
+// Datagrams that go out.
+ghost use Rattle.std.specs.Prelude.{◌≡◌, ◌==◌, length, false, option_map, drop, cond, is_ok, if◌then◌else◌};
+ghost use Rattle.net_base.specs.Packets.{starts_padded, skipped};
+ghost use Rattle.sock_core.specs.declared.context.PollAt.TheVariants as PollAt;
+ghost use Rattle.sock_dgram.specs.Udp.{waiting};
+ghost use Rattle.sock_dgram.specs.UdpDispatch.{source_of, hops_of, outgoing, outgoing_of, Emits, Dispatched};
+
+use crate::udp::queues::is_same_version;
+use crate::udp::socket::{Socket, UdpMetadata};
+use control_wire::UdpRepr;
+use ip_wire::{IpAddress, IpProtocol, IpRepr};
+use sock_core::{Context, PollAt};
+
+// The hop limit where none is set (RFC 1122, section 3.2.1.7).
+const DEFAULT_HOP_LIMIT: u8 = 64;
+
+impl<'a> Socket<'a> {
+    // The address that a datagram is sent from.
+    fn source_of<C: Context>(&self, cx: &C, meta: &UdpMetadata) -> Option<IpAddress>
+        ensures { result ≡ source_of self.now (C.facts cx.now) meta.now }
+    {
+        match self.known_source(meta) {
+            Some(source) => Some(source),
+            None => cx.get_source_address(&meta.endpoint.addr),
+        }
+    }
+
+    fn hops(&self) -> u8
+        ensures { result ≡ hops_of self.now.hop_limit }
+    {
+        match self.hop_limit {
+            None => DEFAULT_HOP_LIMIT,
+            Some(hop_limit) => hop_limit,
+        }
+    }
+
+    // The first datagram, where it has a source.
+    fn outgoing<C: Context>(&self, cx: &C) -> Option<(IpRepr, UdpRepr, &[u8])>
+        requires packet { starts_padded self.now.tx_buffer.entries ≡ false }
+        ensures { option_map outgoing_of result ≡ outgoing self.now (C.facts cx.now) }
+    {
+        let (meta, payload) = match self.tx_buffer.first() {
+            Err(_) => return None,
+            Ok(first) => first,
+        };
+        let source = self.source_of(cx, meta)?;
+        if !is_same_version(source, meta.endpoint.addr) {
+            return None;
+        }
+        let repr = UdpRepr {
+            src_port: self.endpoint.port,
+            dst_port: meta.endpoint.port,
+        };
+        let ip_repr = IpRepr::new(
+            source,
+            meta.endpoint.addr,
+            IpProtocol::Udp,
+            repr.header_len() + payload.len(),
+            self.hops(),
+        );
+        Some((ip_repr, repr, payload))
+    }
+
+    // The one call of `emit`, if there is something to emit.
+    fn emit_first<C: Context, E, F: FnOnce(&mut C, (IpRepr, UdpRepr, &[u8])) -> Result<(), E>>(
+        &self,
+        cx: &mut C,
+        emit: F,
+    ) -> Result<(), E>
+        requires callable { F.IsAlwaysCallable emit }
+        requires packet { starts_padded self.now.tx_buffer.entries ≡ false }
+        ensures { Emits F.FnOnce emit (outgoing self.now (C.facts cx.old)) cx.old result cx.new }
+    {
+        match self.outgoing(cx) {
+            None => Ok(()),
+            Some(outgoing) => emit(cx, outgoing),
+        }
+    }
+
+    /// Emits the first datagram of the transmit queue: calls `emit` once with it. Where the queue is empty, nothing
+    /// happens; a datagram without a source address (none given, none bound, and the context has none) leaves the
+    /// queue without an emit.
+    ///
+    /// The error that `emit` answers is passed on; the datagram then stays first, and the next `dispatch` offers it
+    /// again.
+    pub fn dispatch<C: Context, E, F: FnOnce(&mut C, (IpRepr, UdpRepr, &[u8])) -> Result<(), E>>(
+        &mut self,
+        cx: &mut C,
+        emit: F,
+    ) -> Result<(), E>
+        requires callable { F.IsAlwaysCallable emit }
+        ensures table { Dispatched F.FnOnce emit self.old (C.facts cx.old) cx.old result cx.new self.new }
+    {
+        self.tx_buffer.skip_padding();
+        self.emit_first(cx, emit)?;
+        self.tx_buffer.take_first();
+        Ok(())
+    }
+
+    /// When the socket wants its next `dispatch`: `Ingress` where no place of the transmit buffer is taken, else `Now`.
+    pub fn poll_at<C: Context>(&self, _cx: &C) -> PollAt
+        ensures { result ≡ (if length self.now.tx_buffer.entries == 0 then PollAt.Ingress else PollAt.Now) }
+    {
+        if self.tx_buffer.is_empty() {
+            PollAt::Ingress
+        } else {
+            PollAt::Now
+        }
+    }
+}

@@ -1,0 +1,392 @@
+//! Worked examples, and each call once at a concrete type.
+ghost use Rattle.std.specs.Prelude.{None, false, pos, replicate};
+ghost use Rattle.ip_wire.specs.declared.checksum.Checksum.TheVariants.{Both};
+
+use crate::udp::*;
+use control_wire::UdpRepr;
+use ip_wire::{
+    ChecksumCapabilities, IpAddress, IpEndpoint, IpListenEndpoint, IpProtocol, IpRepr, Ipv4Address,
+    Ipv6Address,
+};
+use net_base::time::Instant;
+use sock_core::{Context, PollAt};
+use std::test::Fail;
+
+// A host that has no source address.
+#[derive(Drop)]
+struct Interface;
+
+impl Context for Interface {
+    ghost facts = { λ _. record {
+      now = pos 0;
+      mtu = 1500;
+      has_address = λ _. false;
+      source = λ _. None;
+      source_ipv4 = λ _. None;
+      source_ipv6 = λ _. record { 0 = replicate 16 0 };
+      broadcast = λ _. false;
+      checksums = record { ipv4 = Both; udp = Both; tcp = Both; icmpv4 = Both; icmpv6 = Both };
+    } };
+
+    ghost word_at = { λ _ _. 7 };
+
+    fn now(&self) -> Instant {
+        Instant::ZERO
+    }
+
+    fn has_ip_addr(&self, _addr: IpAddress) -> bool {
+        false
+    }
+
+    fn get_source_address(&self, _dst: &IpAddress) -> Option<IpAddress> {
+        None
+    }
+
+    fn get_source_address_ipv4(&self, _dst: &Ipv4Address) -> Option<Ipv4Address> {
+        None
+    }
+
+    fn get_source_address_ipv6(&self, _dst: &Ipv6Address) -> Ipv6Address {
+        Ipv6Address([0; 16])
+    }
+
+    fn is_broadcast(&self, _addr: &IpAddress) -> bool {
+        false
+    }
+
+    fn ip_mtu(&self) -> usize {
+        1500
+    }
+
+    fn checksum_caps(&self) -> ChecksumCapabilities {
+        ChecksumCapabilities::default()
+    }
+
+    fn rand_u32(&mut self) -> u32 {
+        7
+    }
+}
+
+const HERE: IpAddress = IpAddress::Ipv4(Ipv4Address([192, 168, 1, 1]));
+
+const THERE: IpAddress = IpAddress::Ipv4(Ipv4Address([192, 168, 1, 2]));
+
+const NEIGHBOUR: IpAddress = IpAddress::Ipv4(Ipv4Address([192, 168, 1, 3]));
+
+const NOWHERE: IpAddress = IpAddress::Ipv4(Ipv4Address([0; 4]));
+
+const REMOTE: IpEndpoint = IpEndpoint {
+    addr: THERE,
+    port: 49500,
+};
+
+const REPR: UdpRepr = UdpRepr {
+    src_port: 49500,
+    dst_port: 53,
+};
+
+fn any(port: u16) -> IpListenEndpoint {
+    IpListenEndpoint { addr: None, port }
+}
+
+fn here(port: u16) -> IpListenEndpoint {
+    IpListenEndpoint {
+        addr: Some(HERE),
+        port,
+    }
+}
+
+fn to(addr: IpAddress, port: u16) -> UdpMetadata {
+    UdpMetadata::from_endpoint(IpEndpoint { addr, port })
+}
+
+// Takes a datagram from the other side where the socket accepts it.
+fn hear(socket: &mut Socket<'_>, payload: &[u8]) -> bool {
+    let ip_repr = IpRepr::new(THERE, HERE, IpProtocol::Udp, 8, 64);
+    if !socket.accepts(&Interface, &ip_repr, &REPR) {
+        return false;
+    }
+    socket.process(&Interface, &ip_repr, &REPR, payload);
+    true
+}
+
+// The header and the ports of what is emitted, and whether the dispatch answered Ok.
+fn emitted(socket: &mut Socket<'_>, fail: bool) -> (Option<(IpRepr, UdpRepr)>, bool) {
+    let mut seen = None;
+    let answer = socket.dispatch(
+        &mut Interface,
+        |_: &mut Interface, sent: (IpRepr, UdpRepr, &[u8])| {
+            seen = Some((sent.0, sent.1));
+            if fail { Err(()) } else { Ok(()) }
+        },
+    );
+    (seen, answer.is_ok())
+}
+
+#[test]
+fn udp_bind_validation(rt: HostRuntime) -> Result<(), Fail> {
+    let mut socket = Socket::new(
+        PacketBuffer::new(&mut [], &mut []),
+        PacketBuffer::new(&mut [], &mut []),
+    );
+    assert_eq!(rt; socket.bind(any(0)), Err(BindError::Unaddressable));
+    assert!(rt; !socket.is_open());
+    assert_eq!(rt; socket.bind(any(1)), Ok(()));
+    assert_eq!(rt; socket.bind(any(2)), Err(BindError::InvalidState));
+    assert!(rt; socket.is_open());
+    assert_eq!(rt; socket.endpoint(), any(1));
+    socket.close();
+    assert_eq!(rt; socket.endpoint(), any(0));
+    Ok(())
+}
+
+#[test]
+fn udp_failed_emit_keeps_datagram(rt: HostRuntime) -> Result<(), Fail> {
+    let mut places = [PacketMetadata::EMPTY; 1];
+    let mut bytes = [0u8; 16];
+    let mut socket = Socket::new(
+        PacketBuffer::new(&mut [], &mut []),
+        PacketBuffer::new(&mut places, &mut bytes),
+    );
+    assert_eq!(rt; socket.bind(here(53)), Ok(()));
+    assert_eq!(rt; socket.poll_at(&Interface), PollAt::Ingress);
+    assert_eq!(rt; emitted(&mut socket, false), (None, true));
+    assert_eq!(rt; socket.send_slice(b"abcdef", to(THERE, 49500)), Ok(()));
+    assert_eq!(rt;
+        socket.send_slice(b"123456", to(THERE, 49500)),
+        Err(SendError::BufferFull)
+    );
+    assert_eq!(rt; socket.poll_at(&Interface), PollAt::Now);
+    let (failed, answer) = emitted(&mut socket, true);
+    assert!(rt; failed.is_some() && !answer && !socket.can_send());
+    assert_eq!(rt; emitted(&mut socket, false), (failed, true));
+    assert!(rt; socket.can_send());
+    Ok(())
+}
+
+#[test]
+fn udp_payload_capacity(rt: HostRuntime) -> Result<(), Fail> {
+    let mut places = [PacketMetadata::EMPTY; 4];
+    let mut bytes = [0u8; 64];
+    let mut socket = Socket::new(
+        PacketBuffer::new(&mut [], &mut []),
+        PacketBuffer::new(&mut places, &mut bytes),
+    );
+    assert_eq!(rt; socket.bind(any(53)), Ok(()));
+    assert_eq!(rt;
+        (
+            socket.packet_send_capacity(),
+            socket.payload_send_capacity()
+        ),
+        (4, 64)
+    );
+    assert_eq!(rt;
+        socket.send_slice(&[7; 65], to(THERE, 49500)),
+        Err(SendError::BufferFull)
+    );
+    assert_eq!(rt; socket.send_slice(&[7; 64], to(THERE, 49500)), Ok(()));
+    assert_eq!(rt; socket.send_queue(), 64);
+    Ok(())
+}
+
+#[test]
+fn udp_truncated_slices(rt: HostRuntime) -> Result<(), Fail> {
+    let mut places = [PacketMetadata::EMPTY; 2];
+    let mut bytes = [0u8; 16];
+    let mut socket = Socket::new(
+        PacketBuffer::new(&mut places, &mut bytes),
+        PacketBuffer::new(&mut [], &mut []),
+    );
+    assert_eq!(rt; socket.bind(any(53)), Ok(()));
+    assert!(rt; hear(&mut socket, b"abcdef"));
+    let mut short = [0u8; 4];
+    assert!(rt; matches!(socket.peek_slice(&mut short), Err(RecvError::Truncated)));
+    assert_eq!(rt; socket.recv_slice(&mut short), Err(RecvError::Truncated));
+    assert!(rt; matches!(socket.peek_slice(&mut short), Err(RecvError::Exhausted)));
+    assert!(rt; hear(&mut socket, b"xyz"));
+    assert!(rt; matches!(socket.peek_slice(&mut short), Ok((3, _))));
+    match socket.recv_slice(&mut short) {
+        Ok((count, meta)) => assert!(rt; count == 3 && meta.endpoint == REMOTE),
+        Err(_) => assert!(rt; false),
+    }
+    assert_eq!(rt; &short[..3], b"xyz".as_slice());
+    Ok(())
+}
+
+#[test]
+fn udp_source_of_another_version(rt: HostRuntime) -> Result<(), Fail> {
+    let mut places = [PacketMetadata::EMPTY; 1];
+    let mut bytes = [0u8; 16];
+    let mut socket = Socket::new(
+        PacketBuffer::new(&mut [], &mut []),
+        PacketBuffer::new(&mut places, &mut bytes),
+    );
+    assert_eq!(rt; socket.bind(here(53)), Ok(()));
+    let remote = IpAddress::Ipv6(Ipv6Address([1; 16]));
+    assert_eq!(rt;
+        socket.send_slice(b"abcdef", to(remote, 49500)),
+        Err(SendError::Unaddressable)
+    );
+    Ok(())
+}
+
+#[test]
+fn udp_empty_payload_without_room(rt: HostRuntime) -> Result<(), Fail> {
+    let mut places = [PacketMetadata::EMPTY; 1];
+    let mut socket = Socket::new(
+        PacketBuffer::new(&mut places, &mut []),
+        PacketBuffer::new(&mut [], &mut []),
+    );
+    assert_eq!(rt; socket.bind(any(53)), Ok(()));
+    assert!(rt; hear(&mut socket, b""));
+    match socket.recv() {
+        Ok((lent, meta)) => assert!(rt;
+            lent.is_empty() && meta.endpoint == REMOTE && meta.local_address == Some(HERE)
+        ),
+        Err(_) => assert!(rt; false),
+    }
+    Ok(())
+}
+
+#[test]
+fn udp_accepts_by_bound_address(rt: HostRuntime) -> Result<(), Fail> {
+    let ip_repr = IpRepr::new(THERE, NEIGHBOUR, IpProtocol::Udp, 8, 64);
+    for (bound, accepted) in [(any(53), true), (here(53), false), (any(54), false)] {
+        let mut socket = Socket::new(
+            PacketBuffer::new(&mut [], &mut []),
+            PacketBuffer::new(&mut [], &mut []),
+        );
+        assert_eq!(rt; socket.bind(bound), Ok(()));
+        assert_eq!(rt; socket.accepts(&Interface, &ip_repr, &REPR), accepted);
+    }
+    Ok(())
+}
+
+#[test]
+fn udp_send_validation(rt: HostRuntime) -> Result<(), Fail> {
+    let mut places = [PacketMetadata::EMPTY; 1];
+    let mut bytes = [0u8; 16];
+    let mut socket = Socket::new(
+        PacketBuffer::new(&mut [], &mut []),
+        PacketBuffer::new(&mut places, &mut bytes),
+    );
+    let refused = Err(SendError::Unaddressable);
+    assert_eq!(rt; socket.send_slice(b"abcdef", to(THERE, 49500)), refused);
+    assert_eq!(rt; socket.bind(any(53)), Ok(()));
+    assert_eq!(rt; socket.send_slice(b"abcdef", to(NOWHERE, 49500)), refused);
+    assert_eq!(rt; socket.send_slice(b"abcdef", to(THERE, 0)), refused);
+    assert_eq!(rt; socket.send_slice(b"abcdef", to(THERE, 49500)), Ok(()));
+    // no address is given, none bound, and the host has none
+    assert_eq!(rt; emitted(&mut socket, false), (None, true));
+    assert_eq!(rt; socket.poll_at(&Interface), PollAt::Ingress);
+    Ok(())
+}
+
+#[test]
+fn udp_hop_limit_and_source(rt: HostRuntime) -> Result<(), Fail> {
+    let mut places = [PacketMetadata::EMPTY; 1];
+    let mut bytes = [0u8; 16];
+    let mut socket = Socket::new(
+        PacketBuffer::new(&mut [], &mut []),
+        PacketBuffer::new(&mut places, &mut bytes),
+    );
+    assert_eq!(rt; socket.hop_limit(), None);
+    socket.set_hop_limit(Some(42));
+    assert_eq!(rt; socket.bind(here(53)), Ok(()));
+    assert_eq!(rt; socket.send_slice(b"abcdef", to(THERE, 49500)), Ok(()));
+    match emitted(&mut socket, false) {
+        (Some((ip_repr, repr)), true) => {
+            assert_eq!(rt; (ip_repr.src_addr(), ip_repr.dst_addr()), (HERE, THERE));
+            assert_eq!(rt; (ip_repr.payload_len(), ip_repr.hop_limit()), (14, 42));
+            assert_eq!(rt; (repr.src_port, repr.dst_port), (53, 49500));
+        }
+        _ => assert!(rt; false),
+    }
+    Ok(())
+}
+
+#[test]
+fn udp_full_receive_queue(rt: HostRuntime) -> Result<(), Fail> {
+    let mut places = [PacketMetadata::EMPTY; 1];
+    let mut bytes = [0u8; 16];
+    let mut socket = Socket::new(
+        PacketBuffer::new(&mut places, &mut bytes),
+        PacketBuffer::new(&mut [], &mut []),
+    );
+    assert_eq!(rt;
+        (
+            socket.packet_recv_capacity(),
+            socket.payload_recv_capacity()
+        ),
+        (1, 16)
+    );
+    assert_eq!(rt; socket.bind(any(53)), Ok(()));
+    assert!(rt; hear(&mut socket, b"abcdef") && hear(&mut socket, b"abcdef"));
+    assert_eq!(rt; socket.recv_queue(), 6);
+    match socket.peek() {
+        Ok((lent, _)) => assert_eq!(rt; lent, b"abcdef".as_slice()),
+        Err(_) => assert!(rt; false),
+    }
+    match socket.recv() {
+        Ok((lent, _)) => assert_eq!(rt; lent, b"abcdef".as_slice()),
+        Err(_) => assert!(rt; false),
+    }
+    assert!(rt; matches!(socket.recv(), Err(RecvError::Exhausted)) && !socket.can_recv());
+    Ok(())
+}
+
+// The bytes of what is emitted are those of `payload`.
+fn emits(socket: &mut Socket<'_>, payload: &[u8]) -> bool {
+    let mut same = false;
+    let answer = socket.dispatch(
+        &mut Interface,
+        |_: &mut Interface, sent: (IpRepr, UdpRepr, &[u8])| {
+            same = sent.2 == payload;
+            Ok::<(), ()>(())
+        },
+    );
+    same && answer.is_ok()
+}
+
+#[test]
+fn what_stands_in_the_lent_slice_is_sent(rt: HostRuntime) -> Result<(), Fail> {
+    let mut places = [PacketMetadata::EMPTY; 2];
+    let mut bytes = [0u8; 16];
+    let mut socket = Socket::new(
+        PacketBuffer::new(&mut [], &mut []),
+        PacketBuffer::new(&mut places, &mut bytes),
+    );
+    assert_eq!(rt; socket.bind(here(53)), Ok(()));
+    match socket.send(3, to(THERE, 49500)) {
+        Ok(lent) => lent.copy_from_slice(b"abc"),
+        Err(_) => assert!(rt; false),
+    }
+    let kept = socket.send_with(8, to(THERE, 49500), |lent| {
+        lent.fill(7);
+        lent.len().min(2)
+    });
+    assert_eq!(rt; kept, Ok(2));
+    assert!(rt; emits(&mut socket, b"abc") && emits(&mut socket, &[7, 7]));
+    Ok(())
+}
+
+#[test]
+fn texts(rt: HostRuntime) -> Result<(), Fail> {
+    let opening = format!(in rt.alloc();
+        "{}, {}",
+        BindError::Unaddressable,
+        BindError::InvalidState
+    )?;
+    assert_eq!(rt; opening.as_str(), "unaddressable, invalid state");
+    let sending = format!(in rt.alloc();
+        "{}, {}",
+        SendError::Unaddressable,
+        SendError::BufferFull
+    )?;
+    assert_eq!(rt; sending.as_str(), "unaddressable, buffer full");
+    let receiving = format!(in rt.alloc(); "{}, {}", RecvError::Exhausted, RecvError::Truncated)?;
+    assert_eq!(rt; receiving.as_str(), "exhausted, truncated");
+    let meta = format!(in rt.alloc(); "{}", UdpMetadata::from_endpoint(REMOTE))?;
+    assert_eq!(rt; meta.as_str(), "192.168.1.2:49500");
+    Ok(())
+}
