@@ -1,0 +1,217 @@
+use sock_pair::script::{End, ScriptError, Sink, Source, StreamFault, replay};
+use std::alloc::Global;
+use std::process::Abort;
+use std::test::Fail;
+
+// Bytes that are read in parts, with a fault at a call.
+#[derive(Drop)]
+struct Text<'a> {
+    left: &'a [u8],
+    calls_left: usize,
+    failed: bool,
+}
+
+impl Source for Text<'_> {
+    ghost has_failed = { λ s. s.failed };
+
+    fn read(&mut self, buf: &mut [u8]) -> Result<usize, StreamFault> {
+        if self.calls_left == 0 {
+            self.failed = true;
+            return Err(StreamFault);
+        }
+        self.calls_left -= 1;
+        let count = self.left.len().min(buf.len()).min(50);
+        let (bytes, left) = self.left.split_at(count);
+        buf[..count].copy_from_slice(bytes);
+        self.left = left;
+        Ok(count)
+    }
+
+    fn failed(&self) -> bool {
+        self.failed
+    }
+}
+
+// Bytes that were written, with a fault at a call.
+#[derive(Drop)]
+struct Page {
+    bytes: Vec<u8>,
+    calls_left: usize,
+    failed: bool,
+}
+
+impl Sink for Page {
+    ghost has_failed = { λ s. s.failed };
+
+    fn write_all(&mut self, bytes: &[u8]) -> Result<(), StreamFault> {
+        if self.calls_left == 0 {
+            self.failed = true;
+            return Err(StreamFault);
+        }
+        self.calls_left -= 1;
+        match self.bytes.extend_from_slice(bytes) {
+            Ok(()) => Ok(()),
+            Err(_) => {
+                self.failed = true;
+                Err(StreamFault)
+            }
+        }
+    }
+
+    fn failed(&self) -> bool {
+        self.failed
+    }
+}
+
+// How the replay of a text ends and what it writes, where the reader has so many calls before its
+// fault, and the writer too.
+fn replayed(alloc: Global, text: &[u8], reads: usize, writes: usize) -> (End, Vec<u8>) {
+    let mut reader = Text {
+        left: text,
+        calls_left: reads,
+        failed: false,
+    };
+    let mut writer = Page {
+        bytes: Vec::new(alloc),
+        calls_left: writes,
+        failed: false,
+    };
+    let end = replay(alloc, &mut reader, &mut writer);
+    let Page { bytes, .. } = writer;
+    (end, bytes)
+}
+
+const MANY: usize = 1_000_000;
+
+const OPENING: &str = "listen b\nconnect a 1000\ndispatch a 0\ndeliver 0 0 5000\ndispatch b 0\n\
+    deliver 1 0 0\ndispatch a 0\ndeliver 2 0 0\n";
+
+const OPENED: &str = "opened\nopened\nemitted 0 SYN seq 1000 ack - win 64 len 0\ndelivered\n\
+    emitted 1 SYN|ACK seq 5000 ack 1001 win 64 len 0\ndelivered\n\
+    emitted 2 ACK seq 1001 ack 5001 win 64 len 0\ndelivered\n";
+
+// The text of a script and its output, after the lines that open a connection.
+fn runs(
+    rt: &(impl Abort),
+    alloc: Global,
+    limit: &str,
+    lines: &str,
+    output: &str,
+) -> Result<(), Fail> {
+    let text = format!(in alloc; "pair 64 64 64 64 {limit}\n{OPENING}{lines}")?;
+    let want = format!(in alloc; "{OPENED}{output}")?;
+    let (end, got) = replayed(alloc, text.as_bytes(), MANY, MANY);
+    assert_eq!(rt; end, End::Done);
+    assert_eq!(rt; end.status(), 0);
+    assert_eq!(rt; got.as_slice(), want.as_bytes());
+    Ok(())
+}
+
+#[test]
+fn handshake_and_six_bytes(rt: HostRuntime) -> Result<(), Fail> {
+    runs(
+        &rt,
+        rt.alloc(),
+        "1000",
+        "send a abcdef\ndispatch a 0\ndeliver 3 0 0\n",
+        "accepted 6\nemitted 3 PSH|ACK seq 1001 ack 5001 win 64 len 6\ndelivered\n\
+        a ESTABLISHED accepted 6 handed-out 0 queued 0\n\
+        b ESTABLISHED accepted 0 handed-out 0 queued 6\n",
+    )
+}
+
+#[test]
+fn stream_limit_and_refusals(rt: HostRuntime) -> Result<(), Fail> {
+    runs(
+        &rt,
+        rt.alloc(),
+        "10",
+        "send a abcdef\nsend a abcde\nsend a abcd\nsend a\ndeliver 99 0 0\nconnect a 1\n",
+        "accepted 6\nstream-limit\naccepted 4\naccepted 0\nno-segment\nalready-opened\n\
+        a ESTABLISHED accepted 10 handed-out 0 queued 0\n\
+        b ESTABLISHED accepted 0 handed-out 0 queued 0\n",
+    )
+}
+
+#[test]
+fn failed_emit_then_retry(rt: HostRuntime) -> Result<(), Fail> {
+    runs(
+        &rt,
+        rt.alloc(),
+        "1000",
+        "send a abcdef\nfail a 0\ndispatch a 0\n",
+        "accepted 6\nemit-failed\nemitted 3 PSH|ACK seq 1001 ack 5001 win 64 len 6\n\
+        a ESTABLISHED accepted 6 handed-out 0 queued 0\n\
+        b ESTABLISHED accepted 0 handed-out 0 queued 0\n",
+    )
+}
+
+#[test]
+fn bytes_are_read(rt: HostRuntime) -> Result<(), Fail> {
+    runs(
+        &rt,
+        rt.alloc(),
+        "-",
+        "send a abcdef\ndispatch a 0\ndeliver 3 0 0\nrecv b 4\nrecv b 4\nrecv b 4\ndispatch a 0\n",
+        "accepted 6\nemitted 3 PSH|ACK seq 1001 ack 5001 win 64 len 6\ndelivered\n\
+        read 4 abcd\nread 2 ef\nread 0\nquiet\n\
+        a ESTABLISHED accepted 6 handed-out 0 queued 0\n\
+        b ESTABLISHED accepted 0 handed-out 6 queued 0\n",
+    )
+}
+
+fn is_refused(rt: &(impl Abort), alloc: Global, text: &[u8], want: ScriptError) {
+    let (end, got) = replayed(alloc, text, MANY, MANY);
+    assert_eq!(rt; end, End::Script(want));
+    assert_eq!(rt; end.status(), 1);
+    assert!(rt; got.is_empty());
+}
+
+#[test]
+fn malformed_scripts(rt: HostRuntime) -> Result<(), Fail> {
+    let alloc = rt.alloc();
+    is_refused(&rt, alloc, b"", ScriptError::NoPairLine { line: 1 });
+    is_refused(
+        &rt,
+        alloc,
+        b"\xff\x00\xfe\x80",
+        ScriptError::NoPairLine { line: 1 },
+    );
+    let unknown = b"pair 64 64 64 64 1000\njump a\n";
+    is_refused(&rt, alloc, unknown, ScriptError::UnknownEvent { line: 2 });
+    let side = b"pair 64 64 64 64 1000\nsend c x\n";
+    is_refused(&rt, alloc, side, ScriptError::BadWord { line: 2 });
+    let mut long = Vec::from_slice(alloc, b"pair 64 64 64 64 1000\n")?;
+    for _ in 0..10_000 {
+        long.push(b'x')?;
+    }
+    is_refused(
+        &rt,
+        alloc,
+        long.as_slice(),
+        ScriptError::UnknownEvent { line: 2 },
+    );
+    Ok(())
+}
+
+// The text of six bytes sent takes nine reads or fewer, and its output fewer than 300 writes.
+#[test]
+fn streams_that_fail(rt: HostRuntime) -> Result<(), Fail> {
+    let alloc = rt.alloc();
+    let text = format!(in alloc; "pair 64 64 64 64 1000\n{OPENING}send a abcdef\ndispatch a 0\n")?;
+    let (end, all) = replayed(alloc, text.as_bytes(), MANY, MANY);
+    assert_eq!(rt; end, End::Done);
+    for calls in 0..4 {
+        let (end, got) = replayed(alloc, text.as_bytes(), calls, MANY);
+        assert_eq!(rt; end, End::Read);
+        assert_eq!(rt; end.status(), 2);
+        assert!(rt; got.is_empty());
+    }
+    for calls in 0..60 {
+        let (end, got) = replayed(alloc, text.as_bytes(), MANY, calls);
+        assert_eq!(rt; end, End::Write);
+        assert_eq!(rt; end.status(), 2);
+        assert!(rt; all.as_slice().starts_with(got.as_slice()));
+    }
+    Ok(())
+}
