@@ -1,5 +1,5 @@
 // Datagrams that go out.
-ghost use Rattle.std.specs.Prelude.{◌≡◌, ◌==◌, length, false, option_map, drop, cond, is_ok, if◌then◌else◌};
+ghost use Rattle.std.specs.Prelude.{◌≡◌, ◌==◌, length, false, OnErr, option_map, drop, cond, is_ok, if◌then◌else◌};
 ghost use Rattle.net_base.specs.Packets.{starts_padded, skipped};
 ghost use Rattle.sock_core.specs.declared.context.PollAt.TheVariants as PollAt;
 ghost use Rattle.sock_dgram.specs.Udp.{waiting};
@@ -90,6 +90,7 @@ impl<'a> Socket<'a> {
     ) -> Result<(), E>
         requires callable { F.IsAlwaysCallable emit }
         ensures table { Dispatched F.FnOnce emit self.old (C.facts cx.old) cx.old result cx.new self.new }
+        ensures again { OnErr result (outgoing self.new (C.facts cx.old) ≡ outgoing self.old (C.facts cx.old)) }
     {
         self.tx_buffer.skip_padding();
         self.emit_first(cx, emit)?;
