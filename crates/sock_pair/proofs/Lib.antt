@@ -30,3 +30,5 @@ pub mod ShownPrompt
 pub mod PairPromises
 pub mod Running
 pub mod NetworkDeliveries
+pub mod ReplaySinks
+pub mod ReplaySources

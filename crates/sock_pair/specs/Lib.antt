@@ -1,5 +1,6 @@
 pub mod EventValue
 pub mod ReplayEnds
+pub mod ReplayLines
 pub mod ReplayScripts
 pub mod ReplayStreams
 pub mod ScriptFaults

@@ -1,22 +1,17 @@
 // The run of a script.
-ghost use Rattle.std.specs.Prelude.{◌≡◌, ◌≤◌, IfOk, [], None, vec_len, slice_index};
+ghost use Rattle.std.specs.Prelude.{◌≡◌, ◌≤◌, IfOk, IfSome, [], None, false, vec_len, slice_index};
 ghost use Rattle.net_base.specs.Ring.{ring};
+ghost use Rattle.sock_pair.specs.ReplayEnds.{Reads, StopsWriting};
 ghost use Rattle.sock_pair.specs.ReplayScripts.{AreSizes, IsPlayable};
 
-use crate::moment::Moment;
-use crate::outcome::Outcome;
 use crate::pair::{Pair, Setup};
 use crate::script::Script;
 use crate::script::end::End;
-use crate::script::error::ScriptError;
-use crate::script::output::{write_outcome, write_side};
+use crate::script::output::{write_outcomes, write_sides};
 use crate::script::stream::{Sink, Source};
-use crate::segment::Segment;
-use crate::side::Side;
 use ip_wire::{IpAddress, IpEndpoint, Ipv4Address};
 use sock_tcp::SocketBuffer;
 use std::alloc::{AllocError, Global};
-use std::fmt;
 
 const ENDPOINT_A: IpEndpoint = IpEndpoint {
     addr: IpAddress::Ipv4(Ipv4Address([10, 0, 0, 1])),
@@ -29,7 +24,11 @@ const ENDPOINT_B: IpEndpoint = IpEndpoint {
 };
 
 /// All bytes of a source. `Read` where the source failed, `Memory` where a growth was refused.
-pub fn read_all<R: Source>(alloc: Global, reader: &mut R) -> Result<Vec<u8>, End> {
+pub fn read_all<R: Source>(alloc: Global, reader: &mut R) -> Result<Vec<u8>, End>
+    requires { R.has_failed reader.old ≡ false }
+    ensures text { IfOk result (λ t. IfSome (R.remaining reader.old) (λ bytes. bytes ≡ t.items)) }
+    ensures failed { Reads result (R.has_failed reader.new) }
+{
     let mut text = Vec::new(alloc);
     let mut buf = [0u8; 4096];
     loop {
@@ -47,7 +46,9 @@ pub fn read_all<R: Source>(alloc: Global, reader: &mut R) -> Result<Vec<u8>, End
 
 /// Runs a script and writes its lines.
 pub fn play<W: Sink>(alloc: Global, script: &Script, writer: &mut W) -> End
-    requires { IsPlayable script.now.sizes script.now.limit }
+    requires fresh { W.has_failed writer.old ≡ false }
+    requires playable { IsPlayable script.now.sizes script.now.limit }
+    ensures failed { StopsWriting result (W.has_failed writer.new) }
 {
     let Ok(buffers) = Buffers::new(alloc, script.sizes) else {
         return End::Memory;
@@ -114,20 +115,4 @@ fn setup<'a>(rx: &'a mut [u8], tx: &'a mut [u8], endpoint: IpEndpoint) -> Setup<
         endpoint,
         generator: None,
     }
-}
-
-fn write_outcomes<W: Sink>(
-    writer: &mut W,
-    segments: &[Segment],
-    outcomes: &[Outcome],
-) -> fmt::Result {
-    for outcome in outcomes {
-        write_outcome(writer, segments, outcome)?;
-    }
-    Ok(())
-}
-
-fn write_sides<W: Sink>(writer: &mut W, pair: &Pair<'_>) -> fmt::Result {
-    write_side(writer, pair, Side::A)?;
-    write_side(writer, pair, Side::B)
 }
