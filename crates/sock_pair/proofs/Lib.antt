@@ -32,3 +32,4 @@ pub mod Running
 pub mod NetworkDeliveries
 pub mod ReplaySinks
 pub mod ReplaySources
+pub mod ReplayPlays

@@ -2,6 +2,7 @@
 ghost use Rattle.std.specs.Prelude.{◌≡◌, map, false, IfOk};
 ghost use Rattle.sock_pair.specs.EventValue.{event_value};
 ghost use Rattle.sock_pair.specs.ReplayEnds.{LeavesStreams};
+ghost use Rattle.sock_pair.specs.ReplayRuns.{Replays};
 ghost use Rattle.sock_pair.specs.ReplayScripts.{IsPlayable};
 ghost use Rattle.sock_pair.specs.ScriptLines.{Gives, events_of, script_of, script_value};
 ghost use Rattle.sock_pair.specs.ScriptText.{lines_left};
@@ -84,6 +85,7 @@ pub fn replay<R: Source, W: Sink>(alloc: Global, reader: &mut R, writer: &mut W)
     requires reader { R.has_failed reader.old ≡ false }
     requires writer { W.has_failed writer.old ≡ false }
     ensures failed { LeavesStreams result (R.has_failed reader.new) (W.has_failed writer.new) }
+    ensures written { Replays (R.remaining reader.old) result (W.contents writer.old) (W.contents writer.new) }
 {
     let text = match read_all(alloc, reader) {
         Ok(text) => text,
