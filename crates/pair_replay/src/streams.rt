@@ -1,4 +1,6 @@
 // A reader and a writer as streams of a replay.
+ghost use Rattle.std.specs.Prelude.{◌≡◌, false};
+
 use sock_pair::script::{Sink, Source, StreamFault};
 use std::io::{Read, Write};
 
@@ -10,7 +12,9 @@ pub struct Input<R> {
 }
 
 impl<R> Input<R> {
-    pub fn new(reader: R) -> Input<R> {
+    pub fn new(reader: R) -> Input<R>
+        ensures { result.failed ≡ false }
+    {
         Input {
             reader,
             failed: false,
@@ -46,7 +50,9 @@ pub struct Output<W> {
 }
 
 impl<W> Output<W> {
-    pub fn new(writer: W) -> Output<W> {
+    pub fn new(writer: W) -> Output<W>
+        ensures { result.failed ≡ false }
+    {
         Output {
             writer,
             failed: false,

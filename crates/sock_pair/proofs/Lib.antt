@@ -30,3 +30,6 @@ pub mod ShownPrompt
 pub mod PairPromises
 pub mod Running
 pub mod NetworkDeliveries
+pub mod ReplaySinks
+pub mod ReplaySources
+pub mod ReplayPlays

@@ -1,5 +1,7 @@
 pub mod EventValue
 pub mod ReplayEnds
+pub mod ReplayLines
+pub mod ReplayRuns
 pub mod ReplayScripts
 pub mod ReplayStreams
 pub mod ScriptFaults

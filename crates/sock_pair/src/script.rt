@@ -1,6 +1,8 @@
 //! Events as text, a line an event.
-ghost use Rattle.std.specs.Prelude.{◌≡◌, map, IfOk};
+ghost use Rattle.std.specs.Prelude.{◌≡◌, map, false, IfOk};
 ghost use Rattle.sock_pair.specs.EventValue.{event_value};
+ghost use Rattle.sock_pair.specs.ReplayEnds.{LeavesStreams};
+ghost use Rattle.sock_pair.specs.ReplayRuns.{Replays};
 ghost use Rattle.sock_pair.specs.ReplayScripts.{IsPlayable};
 ghost use Rattle.sock_pair.specs.ScriptLines.{Gives, events_of, script_of, script_value};
 ghost use Rattle.sock_pair.specs.ScriptText.{lines_left};
@@ -79,7 +81,12 @@ fn events(alloc: Global, lines: &mut Lines<'_>) -> Result<Vec<Event>, ScriptErro
 ///
 /// Where the text is no script, or the reader failed, nothing is written. Where memory ran out, the
 /// lines of the steps that were done are written, and no closing lines.
-pub fn replay<R: Source, W: Sink>(alloc: Global, reader: &mut R, writer: &mut W) -> End {
+pub fn replay<R: Source, W: Sink>(alloc: Global, reader: &mut R, writer: &mut W) -> End
+    requires reader { R.has_failed reader.old ≡ false }
+    requires writer { W.has_failed writer.old ≡ false }
+    ensures failed { LeavesStreams result (R.has_failed reader.new) (W.has_failed writer.new) }
+    ensures written { Replays (R.remaining reader.old) result (W.contents writer.old) (W.contents writer.new) }
+{
     let text = match read_all(alloc, reader) {
         Ok(text) => text,
         Err(end) => return end,

@@ -1,176 +1,304 @@
-// The lines that a replay prints.
-ghost use Rattle.std.specs.Prelude.{◌≡◌};
-ghost use Rattle.std.specs.Io.KnownBytes.{Appends};
+// The lines that a replay prints. They go to the sink piece by piece, so they take no memory.
+ghost use Rattle.std.specs.Prelude.{◌≡◌, ◌++◌, ◌∷◌, [], decimal, false, map};
+ghost use Rattle.sock_tcp.specs.Texts.{state_text, send_error_text, recv_error_text};
+ghost use Rattle.sock_pair.specs.Holding.{stored_of};
+ghost use Rattle.sock_pair.specs.ReplayLines.{ack_text, bytes_text, closing_text, flags_text, numbered_text, outcome_line, outcome_lines, outcome_text, reply_text, segment_text, side_line, side_lines, side_text};
+ghost use Rattle.sock_pair.specs.ReplayStreams.{Takes};
 
 use crate::outcome::Outcome;
 use crate::pair::Pair;
-use crate::script::stream::Sink;
+use crate::script::stream::{Sink, StreamFault};
 use crate::segment::Segment;
 use crate::side::Side;
 use control_wire::{TcpControl, TcpSeqNumber};
-use std::fmt;
-use std::fmt::Write;
+use sock_tcp::{RecvError, SendError, State};
 
-// A sink as a writer of text. What is written to it goes straight to the sink, so it takes no
-// memory.
-#[derive(Drop)]
-pub struct Printer<'a, W> {
-    pub sink: &'a mut W,
+fn put<W: Sink>(sink: &mut W, text: &str) -> Result<(), StreamFault>
+    requires { W.has_failed sink.old ≡ false }
+    ensures { Takes (W.contents sink.old) result text.now (W.contents sink.new) (W.has_failed sink.new) }
+{
+    sink.write_all(text.as_bytes())
 }
 
-impl<W: Sink> fmt::Write for Printer<'_, W> {
-    ghost write_str_gives = { λ s bs t. (t.sink.ghost_name ≡ s.sink.ghost_name)
-        × Appends (W.contents s.sink.now) (W.contents t.sink.now) bs };
+fn put_byte<W: Sink>(sink: &mut W, byte: u8) -> Result<(), StreamFault>
+    requires { W.has_failed sink.old ≡ false }
+    ensures { Takes (W.contents sink.old) result (byte ∷ []) (W.contents sink.new) (W.has_failed sink.new) }
+{
+    sink.write_all(&[byte])
+}
 
-    fn write_str(&mut self, s: &str) -> fmt::Result {
-        match self.sink.write_all(s.as_bytes()) {
-            Ok(()) => Ok(()),
-            Err(_) => Err(fmt::Error),
-        }
+// A number in decimal digits.
+fn put_number<W: Sink>(sink: &mut W, number: usize) -> Result<(), StreamFault>
+    requires { W.has_failed sink.old ≡ false }
+    ensures { Takes (W.contents sink.old) result (decimal number) (W.contents sink.new) (W.has_failed sink.new) }
+{
+    if number < 10 {
+        return put_byte(sink, b'0' + number as u8);
+    }
+    put_number(sink, number / 10)?;
+    put_byte(sink, b'0' + (number % 10) as u8)
+}
+
+// A label and a number.
+#[tactic(auto, using(crate::proofs::ReplaySinks::takes_after))]
+fn put_count<W: Sink>(sink: &mut W, label: &str, number: usize) -> Result<(), StreamFault>
+    requires { W.has_failed sink.old ≡ false }
+    ensures { Takes (W.contents sink.old) result (label.now ++ decimal number) (W.contents sink.new) (W.has_failed sink.new) }
+{
+    put(sink, label)?;
+    put_number(sink, number)
+}
+
+fn flags(control: TcpControl, has_ack: bool) -> &'static str
+    ensures { result.now ≡ flags_text control has_ack }
+{
+    match (control, has_ack) {
+        (TcpControl::None, _) => "ACK",
+        (TcpControl::Psh, _) => "PSH|ACK",
+        (TcpControl::Fin, _) => "FIN|ACK",
+        (TcpControl::Syn, true) => "SYN|ACK",
+        (TcpControl::Syn, false) => "SYN",
+        (TcpControl::Rst, true) => "RST|ACK",
+        (TcpControl::Rst, false) => "RST",
     }
 }
 
-// The name of a segment's control bits.
-#[derive(Drop)]
-struct Flags {
-    control: TcpControl,
-    has_ack: bool,
-}
-
-impl fmt::Display for Flags {
-    fn fmt<W: fmt::Write>(&self, f: &mut fmt::Formatter<W>) -> fmt::Result {
-        let text = match (self.control, self.has_ack) {
-            (TcpControl::None, _) => "ACK",
-            (TcpControl::Psh, _) => "PSH|ACK",
-            (TcpControl::Fin, _) => "FIN|ACK",
-            (TcpControl::Syn, true) => "SYN|ACK",
-            (TcpControl::Syn, false) => "SYN",
-            (TcpControl::Rst, true) => "RST|ACK",
-            (TcpControl::Rst, false) => "RST",
-        };
-        f.write_str(text)
+fn put_ack<W: Sink>(sink: &mut W, ack: Option<TcpSeqNumber>) -> Result<(), StreamFault>
+    requires { W.has_failed sink.old ≡ false }
+    ensures { Takes (W.contents sink.old) result (ack_text ack) (W.contents sink.new) (W.has_failed sink.new) }
+{
+    match ack {
+        None => put(sink, "-"),
+        Some(number) => put_number(sink, number.0 as usize),
     }
 }
 
-// An acknowledgement number, or `-` where there is none.
-#[derive(Drop)]
-struct Acknowledgement(Option<TcpSeqNumber>);
-
-impl fmt::Display for Acknowledgement {
-    fn fmt<W: fmt::Write>(&self, f: &mut fmt::Formatter<W>) -> fmt::Result {
-        match &self.0 {
-            None => f.write_str("-"),
-            Some(number) => {
-                let number = number.0;
-                write!(f, "{number}")
-            }
-        }
-    }
-}
-
-// The segment of an index as `K FLAGS seq N ack N win N len N`.
-#[derive(Drop)]
-struct Numbered<'a> {
-    index: usize,
-    segment: Option<&'a Segment>,
-}
-
-impl fmt::Display for Numbered<'_> {
-    fn fmt<W: fmt::Write>(&self, f: &mut fmt::Formatter<W>) -> fmt::Result {
-        let index = self.index;
-        write!(f, "{index}")?;
-        match self.segment {
-            None => Ok(()),
-            Some(segment) => write_segment(f, segment),
-        }
-    }
-}
-
-fn write_segment<W: fmt::Write>(f: &mut fmt::Formatter<W>, segment: &Segment) -> fmt::Result {
+// `FLAGS seq N ack N win N len N`
+#[tactic(auto, using(crate::proofs::ReplaySinks::takes_after))]
+fn put_segment<W: Sink>(sink: &mut W, segment: &Segment) -> Result<(), StreamFault>
+    requires { W.has_failed sink.old ≡ false }
+    ensures { Takes (W.contents sink.old) result (segment_text (stored_of segment.now).segment) (W.contents sink.new) (W.has_failed sink.new) }
+{
     let header = &segment.header;
-    let flags = Flags {
-        control: header.control,
-        has_ack: header.ack_number.is_some(),
-    };
-    let seq = header.seq_number.0;
-    let ack = Acknowledgement(header.ack_number);
-    let win = header.window_len;
-    let len = segment.payload.len();
-    write!(f, " {flags} seq {seq} ack {ack} win {win} len {len}")
+    put(sink, flags(header.control, header.ack_number.is_some()))?;
+    put_count(sink, " seq ", header.seq_number.0 as usize)?;
+    put(sink, " ack ")?;
+    put_ack(sink, header.ack_number)?;
+    put_count(sink, " win ", header.window_len as usize)?;
+    put_count(sink, " len ", segment.payload.len())
 }
 
-fn numbered_segment(segments: &[Segment], index: usize) -> Numbered<'_> {
-    Numbered {
-        index,
-        segment: segments.get(index),
+// A segment's index, and the segment.
+#[tactic(auto, using(crate::proofs::ReplaySinks::takes_after, crate::proofs::ReplaySinks::appends_nil))]
+fn put_numbered<W: Sink>(
+    sink: &mut W,
+    segments: &[Segment],
+    index: usize,
+) -> Result<(), StreamFault>
+    requires { W.has_failed sink.old ≡ false }
+    ensures { Takes (W.contents sink.old) result (numbered_text (map stored_of segments.now) index) (W.contents sink.new) (W.has_failed sink.new) }
+{
+    put_number(sink, index)?;
+    match segments.get(index) {
+        None => Ok(()),
+        Some(segment) => {
+            put(sink, " ")?;
+            put_segment(sink, segment)
+        }
     }
 }
 
-/// Writes the line of an outcome, whose segments stand in `segments`.
-pub fn write_outcome<W: Sink>(
+// ` reply K SEG`, or nothing.
+#[tactic(auto, using(crate::proofs::ReplaySinks::takes_after, crate::proofs::ReplaySinks::appends_nil))]
+fn put_reply<W: Sink>(
+    sink: &mut W,
+    segments: &[Segment],
+    reply: Option<usize>,
+) -> Result<(), StreamFault>
+    requires { W.has_failed sink.old ≡ false }
+    ensures { Takes (W.contents sink.old) result (reply_text (map stored_of segments.now) reply) (W.contents sink.new) (W.has_failed sink.new) }
+{
+    match reply {
+        None => Ok(()),
+        Some(index) => {
+            put(sink, " reply ")?;
+            put_numbered(sink, segments, index)
+        }
+    }
+}
+
+// ` BYTES`, or nothing.
+#[tactic(auto, using(crate::proofs::ReplaySinks::takes_after, crate::proofs::ReplaySinks::appends_nil))]
+fn put_bytes<W: Sink>(sink: &mut W, bytes: &[u8]) -> Result<(), StreamFault>
+    requires { W.has_failed sink.old ≡ false }
+    ensures { Takes (W.contents sink.old) result (bytes_text bytes.now) (W.contents sink.new) (W.has_failed sink.new) }
+{
+    match bytes {
+        [] => Ok(()),
+        _ => {
+            put(sink, " ")?;
+            sink.write_all(bytes)
+        }
+    }
+}
+
+fn send_error(error: &SendError) -> &'static str
+    ensures { result.now ≡ send_error_text error.now }
+{
+    match error {
+        SendError::InvalidState => "invalid state",
+    }
+}
+
+fn recv_error(error: &RecvError) -> &'static str
+    ensures { result.now ≡ recv_error_text error.now }
+{
+    match error {
+        RecvError::InvalidState => "invalid state",
+        RecvError::Finished => "operation finished",
+    }
+}
+
+fn state_name(state: State) -> &'static str
+    ensures { result.now ≡ state_text state }
+{
+    match state {
+        State::Closed => "CLOSED",
+        State::Listen => "LISTEN",
+        State::SynSent => "SYN-SENT",
+        State::SynReceived => "SYN-RECEIVED",
+        State::Established => "ESTABLISHED",
+        State::FinWait1 => "FIN-WAIT-1",
+        State::FinWait2 => "FIN-WAIT-2",
+        State::CloseWait => "CLOSE-WAIT",
+        State::Closing => "CLOSING",
+        State::LastAck => "LAST-ACK",
+        State::TimeWait => "TIME-WAIT",
+    }
+}
+
+// The line of an outcome without its line feed.
+#[tactic(auto, using(crate::proofs::ReplaySinks::takes_after))]
+fn put_outcome<W: Sink>(
     sink: &mut W,
     segments: &[Segment],
     outcome: &Outcome,
-) -> fmt::Result {
-    let mut out = Printer { sink };
+) -> Result<(), StreamFault>
+    requires { W.has_failed sink.old ≡ false }
+    ensures { Takes (W.contents sink.old) result (outcome_text (map stored_of segments.now) outcome.now) (W.contents sink.new) (W.has_failed sink.new) }
+{
     match outcome {
-        Outcome::Opened => out.write_str("opened\n"),
-        Outcome::Accepted(count) => writeln!(out, "accepted {count}"),
-        Outcome::SendRefused(error) => writeln!(out, "send-refused {error}"),
-        Outcome::Read(bytes) => write_read(&mut out, bytes.as_slice()),
-        Outcome::RecvRefused(error) => writeln!(out, "recv-refused {error}"),
-        Outcome::Quiet => out.write_str("quiet\n"),
-        Outcome::Emitted(index) => writeln!(out, "emitted {}", numbered_segment(segments, *index)),
-        Outcome::EmitFailed => out.write_str("emit-failed\n"),
-        Outcome::Delivered(reply) => write_reply(&mut out, "delivered", segments, *reply),
-        Outcome::AlreadyOpened => out.write_str("already-opened\n"),
-        Outcome::NoSegment => out.write_str("no-segment\n"),
-        Outcome::StreamLimit => out.write_str("stream-limit\n"),
-        Outcome::TooOld => out.write_str("too-old\n"),
-        Outcome::NotAccepted(reply) => write_reply(&mut out, "not-accepted", segments, *reply),
+        Outcome::Opened => put(sink, "opened"),
+        Outcome::Accepted(count) => put_count(sink, "accepted ", *count),
+        Outcome::SendRefused(error) => {
+            put(sink, "send-refused ")?;
+            put(sink, send_error(error))
+        }
+        Outcome::Read(bytes) => {
+            put_count(sink, "read ", bytes.len())?;
+            put_bytes(sink, bytes.as_slice())
+        }
+        Outcome::RecvRefused(error) => {
+            put(sink, "recv-refused ")?;
+            put(sink, recv_error(error))
+        }
+        Outcome::Quiet => put(sink, "quiet"),
+        Outcome::Emitted(index) => {
+            put(sink, "emitted ")?;
+            put_numbered(sink, segments, *index)
+        }
+        Outcome::EmitFailed => put(sink, "emit-failed"),
+        Outcome::Delivered(reply) => {
+            put(sink, "delivered")?;
+            put_reply(sink, segments, *reply)
+        }
+        Outcome::AlreadyOpened => put(sink, "already-opened"),
+        Outcome::NoSegment => put(sink, "no-segment"),
+        Outcome::StreamLimit => put(sink, "stream-limit"),
+        Outcome::TooOld => put(sink, "too-old"),
+        Outcome::NotAccepted(reply) => {
+            put(sink, "not-accepted")?;
+            put_reply(sink, segments, *reply)
+        }
     }
 }
 
-// `read N BYTES`, and `read 0` alone.
-fn write_read<W: Sink>(out: &mut Printer<'_, W>, bytes: &[u8]) -> fmt::Result {
-    let count = bytes.len();
-    if count == 0 {
-        return out.write_str("read 0\n");
-    }
-    write!(out, "read {count} ")?;
-    match out.sink.write_all(bytes) {
-        Ok(()) => out.write_str("\n"),
-        Err(_) => Err(fmt::Error),
-    }
-}
-
-// The name of an outcome, and its reply where there is one.
-fn write_reply<W: Sink>(
-    out: &mut Printer<'_, W>,
-    name: &str,
+#[tactic(auto, using(crate::proofs::ReplaySinks::takes_after))]
+fn write_outcome<W: Sink>(
+    sink: &mut W,
     segments: &[Segment],
-    reply: Option<usize>,
-) -> fmt::Result {
-    match reply {
-        None => writeln!(out, "{name}"),
-        Some(index) => writeln!(out, "{name} reply {}", numbered_segment(segments, index)),
+    outcome: &Outcome,
+) -> Result<(), StreamFault>
+    requires { W.has_failed sink.old ≡ false }
+    ensures { Takes (W.contents sink.old) result (outcome_line (map stored_of segments.now) outcome.now) (W.contents sink.new) (W.has_failed sink.new) }
+{
+    put_outcome(sink, segments, outcome)?;
+    put_byte(sink, b'\n')
+}
+
+fn side_name(side: Side) -> &'static str
+    ensures { result.now ≡ side_text side }
+{
+    match side {
+        Side::A => "a ",
+        Side::B => "b ",
     }
 }
 
-/// Writes the closing line of a side: its state and how many bytes it accepted, handed out and
-/// has in its receive queue.
-pub fn write_side<W: Sink>(sink: &mut W, pair: &Pair<'_>, side: Side) -> fmt::Result {
-    let name = match side {
-        Side::A => "a",
-        Side::B => "b",
-    };
-    let state = pair.socket(side).state();
+// `NAME STATE accepted N handed-out N queued N`, where the name ends with a space.
+fn put_closing<W: Sink>(
+    sink: &mut W,
+    name: &str,
+    state: &str,
+    accepted: usize,
+    handed_out: usize,
+    queued: usize,
+) -> Result<(), StreamFault>
+    requires { W.has_failed sink.old ≡ false }
+    ensures { Takes (W.contents sink.old) result (closing_text name.now state.now accepted handed_out queued) (W.contents sink.new) (W.has_failed sink.new) }
+{
+    put(sink, name)?;
+    put(sink, state)?;
+    put_count(sink, " accepted ", accepted)?;
+    put_count(sink, " handed-out ", handed_out)?;
+    put_count(sink, " queued ", queued)?;
+    put_byte(sink, b'\n')
+}
+
+// The closing line of a side: its state, and how many bytes it accepted, handed out and has in its
+// receive queue.
+fn write_side<W: Sink>(sink: &mut W, pair: &Pair<'_>, side: Side) -> Result<(), StreamFault>
+    requires { W.has_failed sink.old ≡ false }
+    ensures { Takes (W.contents sink.old) result (side_line side pair.now) (W.contents sink.new) (W.has_failed sink.new) }
+{
+    let state = state_name(pair.socket(side).state());
     let accepted = pair.accepted(side).len();
     let handed_out = pair.handed_out(side).len();
     let queued = pair.socket(side).recv_queue();
-    let mut out = Printer { sink };
-    writeln!(
-        out,
-        "{name} {state} accepted {accepted} handed-out {handed_out} queued {queued}"
-    )
+    put_closing(sink, side_name(side), state, accepted, handed_out, queued)
+}
+
+/// Writes the closing lines of a and of b.
+#[tactic(auto, using(crate::proofs::ReplaySinks::takes_after))]
+pub fn write_sides<W: Sink>(sink: &mut W, pair: &Pair<'_>) -> Result<(), StreamFault>
+    requires { W.has_failed sink.old ≡ false }
+    ensures { Takes (W.contents sink.old) result (side_lines pair.now) (W.contents sink.new) (W.has_failed sink.new) }
+{
+    write_side(sink, pair, Side::A)?;
+    write_side(sink, pair, Side::B)
+}
+
+/// Writes the lines of outcomes, whose segments stand in `segments`.
+pub fn write_outcomes<W: Sink>(
+    sink: &mut W,
+    segments: &[Segment],
+    outcomes: &[Outcome],
+) -> Result<(), StreamFault>
+    requires { W.has_failed sink.old ≡ false }
+    ensures { Takes (W.contents sink.old) result (outcome_lines (map stored_of segments.now) outcomes.now) (W.contents sink.new) (W.has_failed sink.new) }
+{
+    for outcome in outcomes {
+        write_outcome(sink, segments, outcome)?;
+    }
+    Ok(())
 }

@@ -1,22 +1,20 @@
 // The run of a script.
-ghost use Rattle.std.specs.Prelude.{◌≡◌, ◌≤◌, IfOk, [], None, vec_len, slice_index};
+ghost use Rattle.std.specs.Prelude.{◌≡◌, ◌≤◌, IfOk, IfSome, [], None, false, length, vec_len, slice_index};
 ghost use Rattle.net_base.specs.Ring.{ring};
+ghost use Rattle.sock_pair.specs.ReplayEnds.{Reads, StopsWriting};
+ghost use Rattle.sock_pair.specs.NetworkInvariant.{IsLimit};
+ghost use Rattle.sock_pair.specs.ReplayRuns.{Plays, begun, begun_of};
 ghost use Rattle.sock_pair.specs.ReplayScripts.{AreSizes, IsPlayable};
 
-use crate::moment::Moment;
-use crate::outcome::Outcome;
+use crate::event::Event;
 use crate::pair::{Pair, Setup};
 use crate::script::Script;
 use crate::script::end::End;
-use crate::script::error::ScriptError;
-use crate::script::output::{write_outcome, write_side};
+use crate::script::output::{write_outcomes, write_sides};
 use crate::script::stream::{Sink, Source};
-use crate::segment::Segment;
-use crate::side::Side;
 use ip_wire::{IpAddress, IpEndpoint, Ipv4Address};
 use sock_tcp::SocketBuffer;
 use std::alloc::{AllocError, Global};
-use std::fmt;
 
 const ENDPOINT_A: IpEndpoint = IpEndpoint {
     addr: IpAddress::Ipv4(Ipv4Address([10, 0, 0, 1])),
@@ -29,7 +27,11 @@ const ENDPOINT_B: IpEndpoint = IpEndpoint {
 };
 
 /// All bytes of a source. `Read` where the source failed, `Memory` where a growth was refused.
-pub fn read_all<R: Source>(alloc: Global, reader: &mut R) -> Result<Vec<u8>, End> {
+pub fn read_all<R: Source>(alloc: Global, reader: &mut R) -> Result<Vec<u8>, End>
+    requires { R.has_failed reader.old ≡ false }
+    ensures text { IfOk result (λ t. IfSome (R.remaining reader.old) (λ bytes. bytes ≡ t.items)) }
+    ensures failed { Reads result (R.has_failed reader.new) }
+{
     let mut text = Vec::new(alloc);
     let mut buf = [0u8; 4096];
     loop {
@@ -47,7 +49,10 @@ pub fn read_all<R: Source>(alloc: Global, reader: &mut R) -> Result<Vec<u8>, End
 
 /// Runs a script and writes its lines.
 pub fn play<W: Sink>(alloc: Global, script: &Script, writer: &mut W) -> End
-    requires { IsPlayable script.now.sizes script.now.limit }
+    requires fresh { W.has_failed writer.old ≡ false }
+    requires playable { IsPlayable script.now.sizes script.now.limit }
+    ensures failed { StopsWriting result (W.has_failed writer.new) }
+    ensures written { Plays script.now.events.items (begun_of script.now) result (W.contents writer.old) (W.contents writer.new) }
 {
     let Ok(buffers) = Buffers::new(alloc, script.sizes) else {
         return End::Memory;
@@ -58,18 +63,27 @@ pub fn play<W: Sink>(alloc: Global, script: &Script, writer: &mut W) -> End
         mut brx,
         mut btx,
     } = buffers;
-    let a = setup(arx.as_mut_slice(), atx.as_mut_slice(), ENDPOINT_A);
-    let b = setup(brx.as_mut_slice(), btx.as_mut_slice(), ENDPOINT_B);
-    let mut pair = Pair::new(alloc, a, b, script.limit);
+    let (arx, atx) = (arx.as_mut_slice(), atx.as_mut_slice());
+    let (brx, btx) = (brx.as_mut_slice(), btx.as_mut_slice());
+    let mut pair = begin(alloc, arx, atx, brx, btx, script.limit);
+    run_events(alloc, &mut pair, script.events.as_slice(), writer)
+}
+
+// Runs the events and writes their lines and, where all were done, the closing lines.
+fn run_events<W: Sink>(alloc: Global, pair: &mut Pair<'_>, events: &[Event], writer: &mut W) -> End
+    requires { W.has_failed writer.old ≡ false }
+    ensures failed { StopsWriting result (W.has_failed writer.new) }
+    ensures written { Plays events.now pair.old result (W.contents writer.old) (W.contents writer.new) }
+{
     let mut outcomes = Vec::new(alloc);
-    let ran = pair.run(script.events.as_slice(), &mut outcomes);
-    if write_outcomes(writer, pair.segments(), outcomes.as_slice()).is_err() {
+    let ran = pair.run(events, &mut outcomes);
+    if let Err(_) = write_outcomes(writer, pair.segments(), outcomes.as_slice()) {
         return End::Write;
     }
-    if ran.is_err() {
+    if let Err(_) = ran {
         return End::Memory;
     }
-    match write_sides(writer, &pair) {
+    match write_sides(writer, pair) {
         Ok(()) => End::Done,
         Err(_) => End::Write,
     }
@@ -87,10 +101,10 @@ struct Buffers {
 impl Buffers {
     fn new(alloc: Global, sizes: [usize; 4]) -> Result<Buffers, AllocError>
         requires { AreSizes sizes }
-        ensures arx { IfOk result (λ b. vec_len b.arx ≤ 65535) }
-        ensures atx { IfOk result (λ b. vec_len b.atx ≤ 65535) }
-        ensures brx { IfOk result (λ b. vec_len b.brx ≤ 65535) }
-        ensures btx { IfOk result (λ b. vec_len b.btx ≤ 65535) }
+        ensures arx { IfOk result (λ b. vec_len b.arx ≡ slice_index sizes 0) }
+        ensures atx { IfOk result (λ b. vec_len b.atx ≡ slice_index sizes 1) }
+        ensures brx { IfOk result (λ b. vec_len b.brx ≡ slice_index sizes 2) }
+        ensures btx { IfOk result (λ b. vec_len b.btx ≡ slice_index sizes 3) }
     {
         let [arx, atx, brx, btx] = sizes;
         Ok(Buffers {
@@ -100,6 +114,27 @@ impl Buffers {
             btx: vec![in alloc; 0u8; btx]?,
         })
     }
+}
+
+// Two closed sockets over these buffers.
+fn begin<'a>(
+    alloc: Global,
+    arx: &'a mut [u8],
+    atx: &'a mut [u8],
+    brx: &'a mut [u8],
+    btx: &'a mut [u8],
+    limit: Option<u32>,
+) -> Pair<'a>
+    requires arx { length arx.now ≤ 65535 }
+    requires atx { length atx.now ≤ 65535 }
+    requires brx { length brx.now ≤ 65535 }
+    requires btx { length btx.now ≤ 65535 }
+    requires limit { IsLimit limit }
+    ensures { result ≡ begun (length arx.entry.now) (length atx.entry.now) (length brx.entry.now) (length btx.entry.now) limit }
+{
+    let a = setup(arx, atx, ENDPOINT_A);
+    let b = setup(brx, btx, ENDPOINT_B);
+    Pair::new(alloc, a, b, limit)
 }
 
 fn setup<'a>(rx: &'a mut [u8], tx: &'a mut [u8], endpoint: IpEndpoint) -> Setup<'a>
@@ -114,20 +149,4 @@ fn setup<'a>(rx: &'a mut [u8], tx: &'a mut [u8], endpoint: IpEndpoint) -> Setup<
         endpoint,
         generator: None,
     }
-}
-
-fn write_outcomes<W: Sink>(
-    writer: &mut W,
-    segments: &[Segment],
-    outcomes: &[Outcome],
-) -> fmt::Result {
-    for outcome in outcomes {
-        write_outcome(writer, segments, outcome)?;
-    }
-    Ok(())
-}
-
-fn write_sides<W: Sink>(writer: &mut W, pair: &Pair<'_>) -> fmt::Result {
-    write_side(writer, pair, Side::A)?;
-    write_side(writer, pair, Side::B)
 }

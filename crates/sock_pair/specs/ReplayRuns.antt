@@ -1,0 +1,73 @@
+-- What a replay writes, by how it ends.
+use Rattle.std.specs.Prelude.{◌≡◌, ℕ, ◌≤◌, List, [], ◌∷◌, ◌++◌, length, take, Option, Ok, Err, IfSome, ◌⊎◌, slice_index}
+use Rattle.std.specs.Io.KnownBytes.{Appends}
+use Rattle.ip_wire.specs.declared.address.IpAddress.TheVariants as address
+use Rattle.ip_wire.specs.declared.endpoint.IpEndpoint.{IpEndpoint}
+use Rattle.sock_tcp.specs.Queue.{Queue}
+use Rattle.sock_tcp.specs.View.{fresh}
+use Rattle.sock_pair.specs.PairRuns.{Run}
+use Rattle.sock_pair.specs.PairViews.{HostView, PairView, new_host, new_pair}
+use Rattle.sock_pair.specs.ReplayLines.{outcome_lines, side_lines}
+use Rattle.sock_pair.specs.ScriptLines.{script_of, script_value}
+use Rattle.sock_pair.specs.declared.event.Event.{Event}
+use Rattle.sock_pair.specs.declared.outcome.Outcome.{Outcome}
+use Rattle.sock_pair.specs.declared.script.Script.{Script}
+use Rattle.sock_pair.specs.declared.script.end.End.{End}
+use Rattle.sock_pair.specs.declared.script.end.End.TheVariants as end
+
+-- 10.0.0.1:49152
+abbrev pub endpoint_a : IpEndpoint
+endpoint_a = record { addr = address.Ipv4 (record { 0 = 10 ∷ 0 ∷ 0 ∷ 1 ∷ [] }); port = 49152 }
+
+-- 10.0.0.2:80
+abbrev pub endpoint_b : IpEndpoint
+endpoint_b = record { addr = address.Ipv4 (record { 0 = 10 ∷ 0 ∷ 0 ∷ 2 ∷ [] }); port = 80 }
+
+abbrev pub empty_queue : ℕ → Queue
+empty_queue n = record { bytes = []; window = n }
+
+abbrev pub begun_host : ℕ → ℕ → IpEndpoint → HostView
+begun_host rx tx e = new_host (fresh (empty_queue rx) (empty_queue tx)) e
+
+-- two closed sockets with buffers of these sizes
+abbrev pub begun : ℕ → ℕ → ℕ → ℕ → Option ℕ → PairView
+begun arx atx brx btx limit = new_pair (begun_host arx atx endpoint_a) (begun_host brx btx endpoint_b) limit
+
+-- what a script begins with
+abbrev pub begun_of : Script → PairView
+begun_of s = begun (slice_index s.sizes 0) (slice_index s.sizes 1) (slice_index s.sizes 2) (slice_index s.sizes 3) s.limit
+
+-- every event was done, and a line for each outcome and the closing lines were written
+pub record IsPlayed (events : List Event) (p : PairView) (old new : Option (List ℕ)) : Type 0 where
+  pub outcomes : List Outcome
+  pub last : PairView
+  pub run : Run events p outcomes last
+  pub written : Appends old new (outcome_lines last.segments outcomes ++ side_lines last)
+
+-- some first events were done, and a line for each of their outcomes was written
+pub record IsPlayedInPart (events : List Event) (p : PairView) (old new : Option (List ℕ)) : Type 0 where
+  pub count : ℕ
+  pub within : count ≤ length events
+  pub outcomes : List Outcome
+  pub last : PairView
+  pub run : Run (take count events) p outcomes last
+  pub written : Appends old new (outcome_lines last.segments outcomes)
+
+-- what had gone out when a write failed is not said
+abbrev pub Plays : List Event → PairView → End → Option (List ℕ) → Option (List ℕ) → Type 0
+Plays events p end.Done old new = IsPlayed events p old new
+Plays events p end.Memory old new = IsPlayedInPart events p old new
+Plays events p _ old new = Unit {0}
+
+-- the script that the text is, where the reader tells it
+abbrev pub IsScript : Option (List ℕ) → Script → Type 0
+IsScript text s = IfSome text (λ t. script_of t ≡ Ok (script_value s))
+
+-- what a replay writes: nothing where the reader failed or the text is no script
+abbrev pub Replays : Option (List ℕ) → End → Option (List ℕ) → Option (List ℕ) → Type 0
+Replays text end.Done old new = (s : Script) × IsScript text s × IsPlayed s.events.items (begun_of s) old new
+Replays text (end.Script e) old new = IfSome text (λ t. script_of t ≡ Err e) × Appends old new []
+Replays text end.Read old new = Appends old new []
+Replays text end.Write old new = Unit {0}
+Replays text end.Memory old new =
+    Appends old new [] ⊎ ((s : Script) × IsScript text s × IsPlayedInPart s.events.items (begun_of s) old new)
