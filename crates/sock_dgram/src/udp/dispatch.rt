@@ -83,6 +83,7 @@ impl<'a> Socket<'a> {
     ///
     /// The error that `emit` answers is passed on; the datagram then stays first, and the next `dispatch` offers it
     /// again.
+    #[tactic(auto, using(crate::proofs::UdpEmitting::dequeues_skipped))]
     pub fn dispatch<C: Context, E, F: FnOnce(&mut C, (IpRepr, UdpRepr, &[u8])) -> Result<(), E>>(
         &mut self,
         cx: &mut C,
