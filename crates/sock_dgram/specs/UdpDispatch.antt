@@ -75,10 +75,11 @@ abbrev pub Emits : {F C E : Type 0} → Emit F C E → F → Option Outgoing →
 Emits g f None c r c' = (r ≡ Ok tt) × (c' ≡ c)
 Emits g f (Some s) c r c' = EmitsAt g f c s r c'
 
--- the whole: at Ok the first datagram leaves, at Err it stays first
+-- the whole: at Ok the first datagram leaves; at Err it stays first, and the next dispatch in the same context offers it again
 pub record Dispatched {F C E : Type 0} (g : Emit F C E) (f : F) (v : View) (facts : Facts) (c : C) (r : Result (Unit {0}) E) (c' : C) (w : View) : Type 0 where
   pub emits : Emits g f (outgoing v facts) c r c'
   pub queue : waiting w ≡ cond (is_ok r) (drop 1 (waiting v)) (waiting v)
   pub sent : is_ok r ≡ true → Dequeues v.tx_buffer w.tx_buffer
   pub failed : is_ok r ≡ false → w.tx_buffer ≡ skipped v.tx_buffer
+  pub again : is_ok r ≡ false → outgoing w facts ≡ outgoing v facts
   pub same : w ≡ record v { tx_buffer = w.tx_buffer }

