@@ -57,4 +57,6 @@ fn fault_of(end: End) -> Result<(), Fault> {
 }
 
 #[cfg(test)]
+mod script_tests;
+#[cfg(test)]
 mod tests;

@@ -160,6 +160,24 @@ fn bytes_are_read(rt: HostRuntime) -> Result<(), Fail> {
     )
 }
 
+// A receive buffer of 131072 bytes has a window shift of 2.
+#[test]
+fn scaled_window_field(rt: HostRuntime) -> Result<(), Fail> {
+    let alloc = rt.alloc();
+    let text = format!(in alloc; "pair 64 64 131072 64 1000\n{OPENING}send a abcdef\ndispatch a 0\ndeliver 3 0 0\ndispatch b 10\n")?;
+    let (end, got) = replayed(alloc, text.as_bytes(), MANY, MANY);
+    assert_eq!(rt; end, End::Done);
+    let want = "opened\nopened\nemitted 0 SYN seq 1000 ack - win 64 len 0\ndelivered\n\
+        emitted 1 SYN|ACK seq 5000 ack 1001 win 65535 len 0\ndelivered\n\
+        emitted 2 ACK seq 1001 ack 5001 win 64 len 0\ndelivered\n\
+        accepted 6\nemitted 3 PSH|ACK seq 1001 ack 5001 win 64 len 6\ndelivered\n\
+        emitted 4 ACK seq 5001 ack 1007 win 32766 len 0\n\
+        a ESTABLISHED accepted 6 handed-out 0 queued 0\n\
+        b ESTABLISHED accepted 0 handed-out 0 queued 6\n";
+    assert_eq!(rt; got.as_slice(), want.as_bytes());
+    Ok(())
+}
+
 fn is_refused(rt: &(impl Abort), alloc: Global, text: &[u8], want: ScriptError) {
     let (end, got) = replayed(alloc, text, MANY, MANY);
     assert_eq!(rt; end, End::Script(want));

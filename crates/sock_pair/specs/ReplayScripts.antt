@@ -4,10 +4,10 @@ use Rattle.sock_pair.specs.NetworkInvariant.{IsLimit}
 
 -- the sizes of a's receive and transmit buffer, and of b's
 pub record AreSizes (sizes : List ℕ) : Type 0 where
-  pub arx : slice_index sizes 0 ≤ 65535
-  pub atx : slice_index sizes 1 ≤ 65535
-  pub brx : slice_index sizes 2 ≤ 65535
-  pub btx : slice_index sizes 3 ≤ 65535
+  pub arx : slice_index sizes 0 ≤ 1048576
+  pub atx : slice_index sizes 1 ≤ 1048576
+  pub brx : slice_index sizes 2 ≤ 1048576
+  pub btx : slice_index sizes 3 ≤ 1048576
 
 pub record IsPlayable (sizes : List ℕ) (limit : Option ℕ) : Type 0 where
   pub buffers : AreSizes sizes

@@ -108,7 +108,7 @@ unfoldable pub header_line : ℕ → List Word → Result HeaderValue ScriptErro
 header_line n values =
     by_words n
     (λ (arx, atx, brx, btx, limit).
-    let size = number_of 65535 in
+    let size = number_of 1048576 in
     header_values (sizes_of (size arx) (size atx) (size brx) (size btx)) (limit_of limit))
     (five_of values)
 

@@ -97,6 +97,3 @@ pub fn replay<R: Source, W: Sink>(alloc: Global, reader: &mut R, writer: &mut W)
         Err(error) => End::Script(error),
     }
 }
-
-#[cfg(test)]
-mod tests;

@@ -11,7 +11,7 @@ use crate::script::values::{limit, number};
 use crate::script::words::five_words;
 
 // The largest size of a buffer.
-const BUFFER: usize = 65535;
+const BUFFER: usize = 1_048_576;
 
 /// The sizes of a's receive and transmit buffer and of b's, and how many bytes each side may
 /// accept.
@@ -47,7 +47,7 @@ fn header_values(line: usize, values: &[u8]) -> Result<Header, ScriptError>
 }
 
 fn sizes(arx: &[u8], atx: &[u8], brx: &[u8], btx: &[u8]) -> Option<[usize; 4]>
-    ensures value { let size = number_of 65535 in
+    ensures value { let size = number_of 1048576 in
         result ≡ sizes_of (size arx.now) (size atx.now) (size brx.now) (size btx.now) }
     ensures within { IfSome result AreSizes }
 {

@@ -125,10 +125,10 @@ fn begin<'a>(
     btx: &'a mut [u8],
     limit: Option<u32>,
 ) -> Pair<'a>
-    requires arx { length arx.now ≤ 65535 }
-    requires atx { length atx.now ≤ 65535 }
-    requires brx { length brx.now ≤ 65535 }
-    requires btx { length btx.now ≤ 65535 }
+    requires arx { length arx.now ≤ 1048576 }
+    requires atx { length atx.now ≤ 1048576 }
+    requires brx { length brx.now ≤ 1048576 }
+    requires btx { length btx.now ≤ 1048576 }
     requires limit { IsLimit limit }
     ensures { result ≡ begun (length arx.entry.now) (length atx.entry.now) (length brx.entry.now) (length btx.entry.now) limit }
 {
