@@ -1,1 +1,2 @@
 pub mod UdpEmitting
+pub mod UdpSources

@@ -2,6 +2,7 @@
 
 mod dispatch;
 pub mod error;
+pub mod laws;
 mod lend;
 mod process;
 mod queues;
