@@ -9,7 +9,6 @@ use crate::streams::{Input, Output};
 use sock_pair::script::{End, replay};
 use std::fs::File;
 use std::process::ExitCode;
-use std::rt::{Env, Files};
 use std::{env, io};
 
 fn main(rt: HostRuntime) -> ExitCode {
@@ -25,8 +24,9 @@ fn main(rt: HostRuntime) -> ExitCode {
 
 // Replays the file that the one argument names, or standard input where there is none.
 fn run(rt: &HostRuntime) -> Result<(), Fault> {
-    let Ok(mut args) = env::args(rt) else {
-        return Err(Fault::Read);
+    let mut args = match env::args(rt) {
+        Ok(args) => args,
+        Err(error) => return Err(fault_of_open(&error)),
     };
     let _program = args.next();
     let file = args.next();
@@ -37,13 +37,22 @@ fn run(rt: &HostRuntime) -> Result<(), Fault> {
     let end = match file {
         None => replay(rt.alloc(), &mut Input::new(rt.reader()), &mut output),
         Some(name) => {
-            let Ok(file) = File::open(rt, name.as_str()) else {
-                return Err(Fault::Read);
+            let file = match File::open(rt, name.as_str()) {
+                Ok(file) => file,
+                Err(error) => return Err(fault_of_open(&error)),
             };
             replay(rt.alloc(), &mut Input::new(file), &mut output)
         }
     };
     fault_of(end)
+}
+
+// Why the file's name or the file could not be had.
+fn fault_of_open(error: &io::Error) -> Fault {
+    match error.kind() {
+        io::ErrorKind::OutOfMemory => Fault::Memory,
+        _ => Fault::Read,
+    }
 }
 
 fn fault_of(end: End) -> Result<(), Fault> {
