@@ -1,7 +1,7 @@
 //! What the lines of a script mean, and what is printed of one that is none.
+use net_base::time::Instant;
 use sock_pair::script::parse;
 use sock_pair::{Event, Moment, Side};
-use net_base::time::Instant;
 use std::alloc::Global;
 use std::test::Fail;
 

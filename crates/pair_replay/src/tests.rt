@@ -164,7 +164,9 @@ fn bytes_are_read(rt: HostRuntime) -> Result<(), Fail> {
 #[test]
 fn scaled_window_field(rt: HostRuntime) -> Result<(), Fail> {
     let alloc = rt.alloc();
-    let text = format!(in alloc; "pair 64 64 131072 64 1000\n{OPENING}send a abcdef\ndispatch a 0\ndeliver 3 0 0\ndispatch b 10\n")?;
+    let text = format!(in alloc;
+        "pair 64 64 131072 64 1000\n{OPENING}send a abcdef\ndispatch a 0\ndeliver 3 0 0\ndispatch b 10\n"
+    )?;
     let (end, got) = replayed(alloc, text.as_bytes(), MANY, MANY);
     assert_eq!(rt; end, End::Done);
     let want = "opened\nopened\nemitted 0 SYN seq 1000 ack - win 64 len 0\ndelivered\n\

@@ -1,6 +1,6 @@
 -- What each event keeps of a host, and of a pair but for its network.
-use Rattle.std.proofs.Common.{◌≡◌, ℕ, ◌<◌, ◌≤◌, Bool, true, false, List, [], length, Option, Some, None, refl, sym, ap, subst, ◌∙◌, arith}
-use Rattle.std.specs.Prelude.{IsTrue, not, ◌==◌, if◌then◌else◌, min}
+use Rattle.std.proofs.Common.{◌≡◌, ℕ, Bool, true, false, List, [], length, Option, None, refl, sym, ap, subst, ◌∙◌}
+use Rattle.std.specs.Prelude.{IsTrue, not, ◌==◌, if◌then◌else◌}
 use Rattle.ip_wire.specs.Address.{SameVersion}
 use Rattle.ip_wire.specs.declared.endpoint.IpEndpoint.{IpEndpoint}
 use Rattle.sock_core.specs.Facts.{Facts}
@@ -9,14 +9,13 @@ use Rattle.sock_tcp.specs.View.{View, fresh}
 use Rattle.sock_tcp.specs.Due.{Begun, begun, begun_to, readied, readied_to, ended}
 use Rattle.sock_tcp.specs.Process.{Accepts, AcceptsIn}
 use Rattle.sock_tcp.specs.Queues.{may_send, may_recv, receives, can_recv}
-use Rattle.sock_tcp.specs.declared.state.State.{State}
 use Rattle.sock_tcp.specs.declared.state.State.TheVariants as state
 use Rattle.sock_pair.specs.Moments.{facts_of}
 use Rattle.sock_pair.specs.NetworkInvariant.{IsInvariant, IsLimit}
-use Rattle.sock_pair.specs.PairCalls.{listening, connecting, OpensAs, Sends, SendsUnder, SendsIf, is_over, sending, Receives, ReceivesIf, receiving}
+use Rattle.sock_pair.specs.PairCalls.{listening, connecting, OpensAs, Sends, SendsUnder, SendsIf, is_over, Receives, ReceivesIf}
 use Rattle.sock_pair.specs.PairInvariant.{IsIdle, IsReachable, IsHost, IsPair}
 use Rattle.sock_pair.specs.PairNetwork.{network_of}
-use Rattle.sock_pair.specs.PairSteps.{HostDispatches, Dispatches, DeliversTo, DeliversIf, exchanged}
+use Rattle.sock_pair.specs.PairSteps.{Dispatches, DeliversTo, DeliversIf, exchanged}
 use Rattle.sock_pair.specs.PairViews.{HostView, StoredView, PairView, host_of, with_host, new_host}
 use Rattle.sock_pair.specs.Recording.{SocketDispatches, SendsFrom}
 use Rattle.sock_pair.specs.declared.host.Opening.{Opening}

@@ -1,10 +1,10 @@
 -- What the invariant of a pair promises.
-use Rattle.std.proofs.Common.{◌≡◌, ℕ, ◌≤◌, Bool, true, false, List, [], ◌++◌, length, take, Option, Some, None, refl, sym, ap, subst, ◌∙◌, arith}
+use Rattle.std.proofs.Common.{◌≡◌, ℕ, Bool, true, false, List, ◌++◌, length, take, Option, Some, None, refl, sym, ap, subst, ◌∙◌}
 use Rattle.std.specs.Prelude.{slice_get, Result, Ok, Err, IfOk}
 use Rattle.sock_pair.specs.NetworkRuns as network
 use Rattle.sock_pair.specs.PairInvariant.{IsHost, IsPair}
 use Rattle.sock_pair.specs.PairNetwork.{seen, endpoint_of, network_of}
-use Rattle.sock_pair.specs.PairPromises.{delivered, IsDelivered, AreDelivered, IsPrompt, IsPromptAt, IsPromptOn}
+use Rattle.sock_pair.specs.PairPromises.{IsDelivered, AreDelivered, IsPrompt, IsPromptAt, IsPromptOn}
 use Rattle.sock_pair.specs.PairSteps.{DeliversTo, DeliversIf, Delivers, is_old, exchanged}
 use Rattle.sock_pair.specs.PairViews.{HostView, StoredView, PairView, host_of}
 use Rattle.sock_pair.specs.Sides.{other_side}

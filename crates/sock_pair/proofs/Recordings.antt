@@ -1,5 +1,5 @@
 -- From the one call of `emit` to what a host records of a dispatch.
-use Rattle.std.proofs.Common.{◌≡◌, ℕ, ◌+◌, ◌<◌, ◌≤◌, ◌^◌, List, [], ◌++◌, length, drop, min, Bool, true, false, Option, Some, None, refl, sym, ◌∙◌, ap, subst, arith}
+use Rattle.std.proofs.Common.{◌≡◌, ℕ, ◌+◌, ◌<◌, ◌≤◌, List, [], ◌++◌, length, drop, min, Bool, true, false, Option, Some, None, refl, sym, ◌∙◌, ap, subst, arith}
 use Rattle.std.specs.Prelude.{Result, Ok, Err, OnOk, OnErr, is_ok, not, IsTrue, vec_len, vec_capacity, if◌then◌else◌, option_map}
 use Rattle.std.specs.Borrow.{MutBor}
 use Rattle.std.specs.Fn.{Once}
@@ -9,14 +9,14 @@ use Rattle.control_wire.specs.declared.tcp.TcpRepr.{TcpRepr}
 use Rattle.sock_core.specs.Facts.{Facts}
 use Rattle.sock_tcp.specs.Queue.{IsLent}
 use Rattle.sock_tcp.specs.View.{View}
-use Rattle.sock_tcp.specs.Due.{Begun, flight, readied, effective_mss}
+use Rattle.sock_tcp.specs.Due.{flight, readied, effective_mss}
 use Rattle.sock_tcp.specs.Content.{Sending, asked, content, filled, sent_to, carries_data, window_left, plain_segment}
-use Rattle.sock_tcp.specs.Dispatch.{left_by, Emits, EmitsAt, EmitsDue, EmitsTo, IsQuiet, Dispatched}
+use Rattle.sock_tcp.specs.Dispatch.{left_by, Emits, EmitsAt, EmitsTo, Dispatched}
 use Rattle.sock_tcp.specs.declared.state.State.{State}
 use Rattle.sock_tcp.specs.declared.state.State.TheVariants as state
 use Rattle.sock_tcp.specs.declared.tuple.Tuple.{Tuple}
 use Rattle.sock_pair.specs.Holding.{header_of}
-use Rattle.sock_pair.specs.Recording.{Holds, sent_with, sent_of, Records, SendsTo, SendsFrom, SocketDispatches}
+use Rattle.sock_pair.specs.Recording.{Holds, sent_with, sent_of, Records, SendsFrom, SocketDispatches}
 use Rattle.sock_pair.specs.declared.recorder.EmitFailed.{EmitFailed}
 use Rattle.sock_pair.specs.declared.recorder.Recorder.{Recorder}
 use Rattle.sock_pair.specs.declared.recorder.Sent.{Sent}

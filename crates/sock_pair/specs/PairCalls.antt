@@ -1,7 +1,6 @@
 -- What opening, sending and receiving do to one side.
 use Rattle.std.specs.Prelude.{ℕ, ◌≡◌, ◌+◌, ◌++◌, List, length, min, take, Option, Some, None, Bool, true, false, nat_lt}
 use Rattle.ip_wire.specs.declared.endpoint.IpEndpoint.{IpEndpoint}
-use Rattle.sock_tcp.specs.View.{View}
 use Rattle.sock_tcp.specs.Opening.{listened, connected}
 use Rattle.sock_tcp.specs.Queues.{may_send, may_recv, written, read_off}
 use Rattle.sock_tcp.specs.declared.error.SendError.TheVariants as send_error

@@ -1,5 +1,5 @@
 -- What holds of every pair.
-use Rattle.std.specs.Prelude.{ℕ, ◌≡◌, ◌<◌, [], None, false}
+use Rattle.std.specs.Prelude.{◌≡◌, ◌<◌, [], None, false}
 use Rattle.ip_wire.specs.Address.{SameVersion, is_unspecified}
 use Rattle.ip_wire.specs.declared.endpoint.IpEndpoint.{IpEndpoint}
 use Rattle.sock_tcp.specs.View.{View}

@@ -1,7 +1,6 @@
 -- What an event does to a pair.
-use Rattle.std.specs.Prelude.{ℕ, ◌≡◌, ◌+◌, ◌-◌, ◌^◌, ◌<◌, ◌++◌, ◌↔◌, IsTrue, List, [], ◌∷◌, length, take, slice_get, Option, Some, None, option_map, Bool, true, false, not, nat_le, ◌||◌}
+use Rattle.std.specs.Prelude.{ℕ, ◌≡◌, ◌+◌, ◌-◌, ◌^◌, ◌++◌, ◌↔◌, IsTrue, List, [], ◌∷◌, length, slice_get, Option, Some, None, option_map, Bool, true, false, nat_le, ◌||◌}
 use Rattle.ip_wire.specs.declared.repr.IpRepr.{IpRepr}
-use Rattle.net_base.specs.declared.time.Instant.{Instant}
 use Rattle.control_wire.specs.Segment.{Segment}
 use Rattle.sock_tcp.specs.Process.{Accepts, Outcome as Processed, processed}
 use Rattle.sock_pair.specs.Moments.{facts_of}

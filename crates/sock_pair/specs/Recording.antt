@@ -6,7 +6,7 @@ use Rattle.control_wire.specs.Segment.{Segment}
 use Rattle.sock_core.specs.Facts.{Facts}
 use Rattle.sock_tcp.specs.Queue.{IsLent}
 use Rattle.sock_tcp.specs.View.{View}
-use Rattle.sock_tcp.specs.Due.{Begun, flight, readied}
+use Rattle.sock_tcp.specs.Due.{flight, readied}
 use Rattle.sock_tcp.specs.Content.{Sending, asked, content}
 use Rattle.sock_tcp.specs.Dispatch.{left_by}
 use Rattle.sock_tcp.specs.declared.tuple.Tuple.{Tuple}

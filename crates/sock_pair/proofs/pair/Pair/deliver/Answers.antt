@@ -1,4 +1,4 @@
-use Rattle.std.proofs.Common.{◌≡◌, ◌∙◌, ◌<◌, ℕ, Some, sym, ap, map, length, arith}
+use Rattle.std.proofs.Common.{◌≡◌, ◌∙◌, ◌<◌, Some, sym, ap, map, length, arith}
 use Rattle.std.specs.Prelude.{slice_get}
 use Rattle.sock_pair.specs.Holding.{stored_of}
 use Rattle.sock_pair.specs.Exchanges.{DeliversAt}

@@ -1,4 +1,4 @@
-use Rattle.std.proofs.Common.{map, sym, subst}
+use Rattle.std.proofs.Common.{map, subst}
 use Rattle.sock_pair.specs.Holding.{stored_of}
 use Rattle.sock_pair.specs.PairPromises.{AreDelivered}
 use Rattle.sock_pair.proofs.PairPromises.{promises}

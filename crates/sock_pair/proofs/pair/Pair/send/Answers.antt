@@ -1,6 +1,6 @@
-use Rattle.std.proofs.Common.{◌≡◌, ◌∙◌, ◌≤◌, ◌^◌, sym, map, length, false}
+use Rattle.std.proofs.Common.{◌∙◌, ◌≤◌, ◌^◌, sym, map, length, false}
 use Rattle.sock_pair.specs.Holding.{stored_of}
-use Rattle.sock_pair.specs.PairCalls.{Sends, is_over}
+use Rattle.sock_pair.specs.PairCalls.{Sends}
 use Rattle.sock_pair.specs.PairViews.{PairView, host_of}
 use Rattle.sock_pair.specs.declared.side.Side.TheVariants.{A, B}
 use Rattle.sock_pair.proofs.PairHosts.{host_at, send_stays, pair_with}
