@@ -91,9 +91,9 @@ module _ (m : Moment) (o : Outcome) (t : StoredView) where
 
   pub pair_delivers : (s : Side) (p v : PairView) (n : ℕ) (k : HostView) (ts : List StoredView) → slice_get p.segments n ≡ Some t → t.emitter ≡ other_side s → p ≡ v → DeliversTo (is_old (host_of t.emitter p) t) s m t o (host_of s p) p.segments k ts → Delivers (slice_get v.segments n) m v o (exchanged s p k ts)
   pair_delivers s p v n k ts at e f d =
-      let turned : s ≡ other_side t.emitter = sym (other_twice s) ∙ ap other_side (sym e) in
+      let flipped : s ≡ other_side t.emitter = sym (other_twice s) ∙ ap other_side (sym e) in
       let at_s : OneSideAndSegments s p (exchanged s p k ts) (DeliversTo (is_old (host_of t.emitter p) t) s m t o) = record { host = k; segments = ts; does = d; same = refl } in
-      let at_e : Delivers (Some t) m p o (exchanged s p k ts) = subst (λ x. OneSideAndSegments x p (exchanged s p k ts) (DeliversTo (is_old (host_of t.emitter p) t) x m t o)) turned at_s in
+      let at_e : Delivers (Some t) m p o (exchanged s p k ts) = subst (λ x. OneSideAndSegments x p (exchanged s p k ts) (DeliversTo (is_old (host_of t.emitter p) t) x m t o)) flipped at_s in
       subst (λ w. Delivers (slice_get w.segments n) m w o (exchanged s p k ts)) f (subst (λ x. Delivers x m p o (exchanged s p k ts)) (sym at) at_e)
 
 pub pair_delivers_if : (m : Moment) (t : StoredView) (s : Side) (p v : PairView) (n : ℕ) (k : HostView) (ts : List StoredView) (released taken : ℕ) (r : Result Outcome PairError) → slice_get p.segments n ≡ Some t → t.emitter ≡ other_side s → p ≡ v → released ≡ (host_of (other_side s) p).released → taken ≡ (host_of (other_side s) p).taken → IfOk r (λ o. DeliversAt (slice_get p.segments n) released taken s m o (host_of s p) p.segments k ts) → IfOk r (λ o. Delivers (slice_get v.segments n) m v o (exchanged s p k ts))
