@@ -1,6 +1,5 @@
 -- Bytes of a list, and prefixes.
-use Rattle.std.proofs.Common.{◌≡◌, ℕ, zero, suc, ◌+◌, ◌-◌, ◌<◌, ◌≤◌, refl, sym, ap, subst, ◌∙◌, arith, List, [], ◌∷◌, ◌++◌, length, drop, take, Some, None, length-append}
-use Rattle.std.proofs.lemmas.List.{take_at}
+use Rattle.std.proofs.Common.{◌≡◌, ℕ, zero, suc, ◌+◌, ◌-◌, ◌<◌, ◌≤◌, refl, sym, ap, subst, arith, List, [], ◌∷◌, ◌++◌, length, drop, take, Some, None, length-append}
 use Rattle.std.proofs.lemmas.Option.{slice_get_within}
 use Rattle.sock_core.specs.Streams.{ByteAt, IsPrefix}
 
@@ -73,7 +72,3 @@ byte_take xs zero j b h = let e : None ≡ Some b = h in cc
 byte_take [] (suc n) j b h = h
 byte_take (x ∷ xs) (suc n) zero b h = h
 byte_take (x ∷ xs) (suc n) (suc j) b h = byte_take xs n j b h
-
--- a prefix is what is taken of the whole
-pub prefix_take : (xs ys : List ℕ) → IsPrefix xs ys → xs ≡ take (length xs) ys
-prefix_take xs ys f = sym (ap (take (length xs)) (sym f.1) ∙ take_at xs f.0 (length xs) refl)

@@ -4,7 +4,6 @@ use Rattle.std.specs.List.{Contains}
 use Rattle.std.specs.declared.option.Option.{Option}
 use Rattle.std.proofs.lemmas.List.Elements.{Contains-push_cases, Contains-append_cases}
 use Rattle.std.proofs.lemmas.List.{append-nil, nil_from_length}
-use Rattle.sock_core.proofs.Streams.{prefix_take}
 use Rattle.sock_pair.specs.Network.{Endpoint, Finishes, IsWithin, Network, swapped}
 use Rattle.sock_pair.specs.NetworkInvariant.{IsInvariant, IsLimit, StreamInvariant}
 use Rattle.sock_pair.specs.NetworkRuns.{AlwaysCompletes, AlwaysDelivers, AlwaysEnds, AreDelivered, EitherSteps, HasEnded, IsDelivered, Run, start, unopened}
@@ -93,7 +92,7 @@ one_delivered x y o f l =
     let counts = counts_ordered x y o f l in
     let whole : (y.handed_out ++ y.view.receive_queue) ++ (l.delivered.0 ++ all.0) ≡ x.accepted = sym (append_assoc (y.handed_out ++ y.view.receive_queue) l.delivered.0 all.0) ∙ ap (λ xs. xs ++ all.0) l.delivered.1 ∙ all.1 ∙ l.accepted in
     record {
-      is_prefix = prefix_take (y.handed_out ++ y.view.receive_queue) x.accepted (l.delivered.0 ++ all.0, whole);
+      is_prefix = (l.delivered.0 ++ all.0, whole);
       released = counts.0;
       taken = counts.1;
       complete = λ read.

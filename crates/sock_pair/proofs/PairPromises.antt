@@ -1,10 +1,11 @@
 -- What the invariant of a pair promises.
-use Rattle.std.proofs.Common.{◌≡◌, ℕ, Bool, true, false, List, ◌++◌, length, take, Option, Some, None, refl, sym, ap, subst, ◌∙◌}
+use Rattle.std.proofs.Common.{◌≡◌, ℕ, Bool, true, false, List, ◌++◌, Option, Some, None, refl, sym, ap, subst, ◌∙◌}
 use Rattle.std.specs.Prelude.{slice_get, Result, Ok, Err, IfOk}
+use Rattle.sock_core.specs.Streams.{IsPrefix}
 use Rattle.sock_pair.specs.NetworkRuns as network
 use Rattle.sock_pair.specs.PairInvariant.{IsHost, IsPair}
 use Rattle.sock_pair.specs.PairNetwork.{seen, endpoint_of, network_of}
-use Rattle.sock_pair.specs.PairPromises.{IsDelivered, AreDelivered, IsPrompt, IsPromptAt, IsPromptOn}
+use Rattle.sock_pair.specs.PairPromises.{delivered, Prefix, IsReleased, Release, IsPrompt, IsPromptAt, Prompt}
 use Rattle.sock_pair.specs.PairSteps.{DeliversTo, DeliversIf, Delivers, is_old, exchanged}
 use Rattle.sock_pair.specs.PairViews.{HostView, StoredView, PairView, host_of}
 use Rattle.sock_pair.specs.Sides.{other_side}
@@ -21,9 +22,9 @@ use Rattle.sock_pair.specs.declared.side.Side.TheVariants.{A, B}
 use Rattle.sock_pair.proofs.NetworkRuns.{both_delivered}
 use Rattle.sock_pair.proofs.ShownPrompt.{queued_at_once}
 
--- ---- the bytes of one side at the other
+-- ---- the receive queue
 
--- the receive queue, also of a side that was never opened
+-- also of a side that was never opened
 shows_queue : (h : HostView) → IsHost h → (endpoint_of h).view.receive_queue ≡ h.control_block.rx_buffer.bytes
 shows_queue h i = go h.opening refl
   where
@@ -32,19 +33,27 @@ shows_queue h i = go h.opening refl
     go opening.Listener e = refl
     go opening.Connector e = refl
 
-is_delivered : (sender receiver : HostView) → IsHost receiver → network.IsDelivered (endpoint_of sender) (endpoint_of receiver) → IsDelivered sender receiver
-is_delivered sender receiver i d = record {
-  is_prefix = subst (λ q. receiver.handed_out ++ q ≡ take (length (receiver.handed_out ++ q)) sender.accepted) (shows_queue receiver i) d.is_prefix;
-  released = d.released;
-  taken = d.taken;
-}
+has_prefix : (sender receiver : HostView) → IsHost receiver → network.IsDelivered (endpoint_of sender) (endpoint_of receiver) → IsPrefix (delivered receiver) sender.accepted
+has_prefix sender receiver i d = subst (λ q. IsPrefix (receiver.handed_out ++ q) sender.accepted) (shows_queue receiver i) d.is_prefix
 
-pub promises : (p : PairView) → IsPair p → AreDelivered p
-promises p i =
+-- ---- Prefix
+
+pub keeps_prefix : (p : PairView) → IsPair p → Prefix p
+keeps_prefix p i =
     let d = both_delivered (network_of p) i.network in
-    record { to_b = is_delivered p.a p.b i.b d.outgoing; to_a = is_delivered p.b p.a i.a d.incoming }
+    record { to_b = has_prefix p.a p.b i.b d.outgoing; to_a = has_prefix p.b p.a i.a d.incoming }
 
--- ---- a segment in order
+-- ---- Release
+
+is_released : (sender receiver : HostView) → network.IsDelivered (endpoint_of sender) (endpoint_of receiver) → IsReleased sender receiver
+is_released sender receiver d = record { released = d.released; taken = d.taken }
+
+pub keeps_release : (p : PairView) → IsPair p → Release p
+keeps_release p i =
+    let d = both_delivered (network_of p) i.network in
+    record { of_a = is_released p.a p.b d.outgoing; of_b = is_released p.b p.a d.incoming }
+
+-- ---- Prompt
 
 -- a delivery that was accepted
 pub prompt : (old : Bool) (s : Side) (m : Moment) (t : StoredView) (o : Outcome) (reply : Option ℕ) (h h' : HostView) (ks ks' : List StoredView) → o ≡ outcome.Delivered reply → DeliversTo old s m t o h ks h' ks' → IsPrompt t h h'
@@ -66,8 +75,8 @@ delivers_promptly i m p q o d t reply at is =
     (prompt (is_old (host_of t.emitter p) t) (other_side t.emitter) m t o reply (host_of (other_side t.emitter) p) x.host p.segments x.segments is x.does)
 
 -- the event of a delivery, as a pair answers it
-pub prompt_delivery : (e : Event) (i : ℕ) (m : Moment) (p q : PairView) (r : Result Outcome PairError) → e ≡ event.Deliver i m → IfOk r (λ o. Delivers (slice_get p.segments i) m p o q) → IfOk r (λ o. IsPromptOn e p o q)
-prompt_delivery e i m p q r is d = subst (λ x. IfOk r (λ o. IsPromptOn x p o q)) (sym is) (go r d)
+pub prompt_delivery : (e : Event) (i : ℕ) (m : Moment) (p q : PairView) (r : Result Outcome PairError) → e ≡ event.Deliver i m → IfOk r (λ o. Delivers (slice_get p.segments i) m p o q) → IfOk r (λ o. Prompt e p o q)
+prompt_delivery e i m p q r is d = subst (λ x. IfOk r (λ o. Prompt x p o q)) (sym is) (go r d)
   where
     go : (x : Result Outcome PairError) → IfOk x (λ o. Delivers (slice_get p.segments i) m p o q) → IfOk x (λ o. IsPromptAt i p o q)
     go (Ok o) y = delivers_promptly i m p q o y

@@ -1,5 +1,5 @@
 -- Runs of a network, and what is promised of them.
-use Rattle.std.specs.Prelude.{ℕ, ◌≡◌, ◌≤◌, ◌⊎◌, true, false, List, [], ◌∷◌, ◌++◌, length, take}
+use Rattle.std.specs.Prelude.{ℕ, ◌≡◌, ◌≤◌, ◌⊎◌, true, false, List, [], ◌∷◌, ◌++◌, length}
 use Rattle.std.specs.List.{Contains}
 use Rattle.std.specs.declared.option.Option.{Option}
 use Rattle.std.specs.declared.option.Option.TheVariants.{None}
@@ -47,7 +47,7 @@ start limit = record { local = unopened; remote = unopened; local_segments = [];
 -- what is promised of the stream from one endpoint to the other, in each network
 pub record IsDelivered (sender receiver : Endpoint) : Type 0 where
   -- what the receiver handed out, followed by its receive queue, is a prefix of what the sender accepted
-  pub is_prefix : receiver.handed_out ++ receiver.view.receive_queue ≡ take (length (receiver.handed_out ++ receiver.view.receive_queue)) sender.accepted
+  pub is_prefix : IsPrefix (receiver.handed_out ++ receiver.view.receive_queue) sender.accepted
   -- acknowledgements released only bytes that the receiver took, and it took only bytes that the sender accepted
   pub released : sender.released ≤ receiver.taken
   pub taken : receiver.taken ≤ length sender.accepted

@@ -1,5 +1,6 @@
 -- What is promised of a pair.
-use Rattle.std.specs.Prelude.{ℕ, ◌≡◌, ◌≤◌, ◌⊎◌, true, List, ◌++◌, length, take, slice_get, Option, Some}
+use Rattle.std.specs.Prelude.{ℕ, ◌≡◌, ◌≤◌, ◌⊎◌, true, List, ◌++◌, length, slice_get, Option, Some}
+use Rattle.sock_core.specs.Streams.{IsPrefix}
 use Rattle.control_wire.specs.Seq.{seq_sub}
 use Rattle.control_wire.specs.Segment.{Segment, is_plain}
 use Rattle.sock_tcp.specs.Verdict.{verdict_of}
@@ -14,25 +15,29 @@ use Rattle.sock_pair.specs.declared.event.Event.TheVariants as event
 use Rattle.sock_pair.specs.declared.outcome.Outcome.{Outcome}
 use Rattle.sock_pair.specs.declared.outcome.Outcome.TheVariants as outcome
 
--- ---- the bytes of one side at the other
+-- ---- Prefix
 
 -- what a side handed out, followed by its receive queue
 abbrev pub delivered : HostView → List ℕ
 delivered h = h.handed_out ++ h.control_block.rx_buffer.bytes
 
-pub record IsDelivered (sender receiver : HostView) : Type 0 where
-  -- that is a prefix of what the sender accepted
-  pub is_prefix : delivered receiver ≡ take (length (delivered receiver)) sender.accepted
-  -- acknowledgements released only bytes that the receiver took, and it took only bytes that the sender accepted
+-- that is a prefix of what the other side accepted
+pub record Prefix (p : PairView) : Type 0 where
+  pub to_b : IsPrefix (delivered p.b) p.a.accepted
+  pub to_a : IsPrefix (delivered p.a) p.b.accepted
+
+-- ---- Release
+
+-- acknowledgements released only bytes that the receiver took, and it took only bytes that the sender accepted
+pub record IsReleased (sender receiver : HostView) : Type 0 where
   pub released : sender.released ≤ receiver.taken
   pub taken : receiver.taken ≤ length sender.accepted
 
--- both ways
-pub record AreDelivered (p : PairView) : Type 0 where
-  pub to_b : IsDelivered p.a p.b
-  pub to_a : IsDelivered p.b p.a
+pub record Release (p : PairView) : Type 0 where
+  pub of_a : IsReleased p.a p.b
+  pub of_b : IsReleased p.b p.a
 
--- ---- a segment in order
+-- ---- Prompt
 
 -- The segment s may bring bytes to the socket v: the state has a receive queue, the acknowledgement passes, and nothing but bytes is asked for. And it
 -- is in order: it starts at RCV.NXT, and ends at or before the right edge of the receive window
@@ -51,10 +56,10 @@ pub record IsPrompt (t : StoredView) (old new : HostView) : Type 0 where
 abbrev pub IsPromptAt : ℕ → PairView → Outcome → PairView → Type 0
 IsPromptAt i p o q = (t : StoredView) (reply : Option ℕ) → slice_get p.segments i ≡ Some t → o ≡ outcome.Delivered reply → IsPrompt t (host_of (other_side t.emitter) p) (host_of (other_side t.emitter) q)
 
-abbrev pub IsPromptOn : Event → PairView → Outcome → PairView → Type 0
-IsPromptOn (event.Deliver i m) p o q = IsPromptAt i p o q
-IsPromptOn (event.Listen s) p o q = Unit {0}
-IsPromptOn (event.Connect s m) p o q = Unit {0}
-IsPromptOn (event.SendSlice s bytes) p o q = Unit {0}
-IsPromptOn (event.RecvSlice s size) p o q = Unit {0}
-IsPromptOn (event.Dispatch s m fail) p o q = Unit {0}
+abbrev pub Prompt : Event → PairView → Outcome → PairView → Type 0
+Prompt (event.Deliver i m) p o q = IsPromptAt i p o q
+Prompt (event.Listen s) p o q = Unit {0}
+Prompt (event.Connect s m) p o q = Unit {0}
+Prompt (event.SendSlice s bytes) p o q = Unit {0}
+Prompt (event.RecvSlice s size) p o q = Unit {0}
+Prompt (event.Dispatch s m fail) p o q = Unit {0}

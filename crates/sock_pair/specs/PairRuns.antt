@@ -1,22 +1,27 @@
 -- A run of events, and what holds at each of its steps.
-use Rattle.std.specs.Prelude.{ℕ, ◌≡◌, ◌<◌, ◌++◌, List, [], ◌∷◌, length, take}
-use Rattle.sock_pair.specs.PairPromises.{AreDelivered, IsPromptOn}
+use Rattle.std.specs.Prelude.{ℕ, ◌≡◌, ◌<◌, ◌++◌, List, [], ◌∷◌, length, take, drop}
+use Rattle.sock_pair.specs.PairPromises.{Prefix, Release, Prompt}
 use Rattle.sock_pair.specs.PairSteps.{Step}
 use Rattle.sock_pair.specs.PairViews.{PairView}
 use Rattle.sock_pair.specs.declared.event.Event.{Event}
 use Rattle.sock_pair.specs.declared.outcome.Outcome.{Outcome}
 
--- a step that meets its table, and what is promised of it
+-- every event in turn, each with its outcome and with the pair that it leaves
+abbrev pub InTurn : (Event → PairView → Outcome → PairView → Type 0) → List Event → PairView → List Outcome → PairView → Type 0
+InTurn Does [] p [] q = p ≡ q
+InTurn Does (e ∷ es) p (o ∷ os) q = (r : PairView) × Does e p o r × InTurn Does es r os q
+InTurn Does _ _ _ _ = ⊥
+
+-- ---- each step meets its table, and what is promised of it
+
 pub record Happens (e : Event) (p : PairView) (o : Outcome) (q : PairView) : Type 0 where
   pub step : Step e p o q
-  pub delivered : AreDelivered q
-  pub prompt : IsPromptOn e p o q
+  pub prefix : Prefix q
+  pub release : Release q
+  pub prompt : Prompt e p o q
 
--- every event in turn
 abbrev pub Run : List Event → PairView → List Outcome → PairView → Type 0
-Run [] p [] q = p ≡ q
-Run (e ∷ es) p (o ∷ os) q = (r : PairView) × Happens e p o r × Run es r os q
-Run _ _ _ _ = ⊥
+Run es p os q = InTurn Happens es p os q
 
 -- a run that added its outcomes to a list
 pub record Done (es : List Event) (p : PairView) (before after : List Outcome) (q : PairView) : Type 0 where
@@ -29,3 +34,17 @@ pub record HasStopped (es : List Event) (p : PairView) (before after : List Outc
   pub count : ℕ
   pub within : count < length es
   pub done : Done (take count es) p before after q
+
+-- ---- Prompt alone
+
+pub record IsPromptStep (e : Event) (p : PairView) (o : Outcome) (q : PairView) : Type 0 where
+  pub step : Step e p o q
+  pub prompt : Prompt e p o q
+
+-- the outcomes that a run added to a list
+abbrev pub added : List Outcome → List Outcome → List Outcome
+added before after = drop (length before) after
+
+-- as many steps as there are outcomes, each of them prompt
+abbrev pub PromptRun : List Event → PairView → List Outcome → PairView → Type 0
+PromptRun es p os q = InTurn IsPromptStep (take (length os) es) p os q

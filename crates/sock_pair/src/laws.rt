@@ -22,7 +22,7 @@ ghost use Rattle.sock_pair.specs.NetworkRuns.{unopened};
 ghost use Rattle.sock_pair.specs.PairInvariant.{IsPair};
 ghost use Rattle.sock_pair.specs.PairLaws.{IsBounded, MayEmit};
 ghost use Rattle.sock_pair.specs.PairNetwork.{shown, stream_segment, IsSmall};
-ghost use Rattle.sock_pair.specs.PairPromises.{AreDelivered, IsPromptAt};
+ghost use Rattle.sock_pair.specs.PairPromises.{Prefix, Release, IsPromptAt};
 ghost use Rattle.sock_pair.specs.PairSteps.{Step};
 ghost use Rattle.sock_pair.specs.PairViews.{PairView};
 ghost use Rattle.sock_pair.specs.StreamCalls.{ProcessEffect, BeginEffect};
@@ -72,7 +72,8 @@ pub fn read_shows()
 /// Of every pair, both ways: what one side handed out, followed by its receive queue, is a prefix of what the other accepted;
 /// acknowledgements released only bytes that the other took, and it took only bytes that were accepted.
 pub fn pairs_deliver_in_order()
-    ensures { (p : PairView) → IsPair p → AreDelivered p }
+    ensures prefix { (p : PairView) → IsPair p → Prefix p }
+    ensures release { (p : PairView) → IsPair p → Release p }
 {}
 
 /// A delivery that a side accepts, of a segment in order, appends the whole payload to the receive queue before it returns.

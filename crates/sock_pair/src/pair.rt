@@ -59,8 +59,8 @@ impl<'a> Pair<'a> {
     ghost use Rattle.sock_pair.specs.PairViews.{new_host, new_pair, host_of};
     ghost use Rattle.sock_pair.specs.PairCalls.{listening, connecting, OpensAs, is_over, Sends, Receives};
     ghost use Rattle.sock_pair.specs.PairSteps.{OneSide, OneSideAndSegments, Dispatches, Delivers, Step};
-    ghost use Rattle.sock_pair.specs.PairRuns.{Done, HasStopped};
-    ghost use Rattle.sock_pair.specs.PairPromises.{AreDelivered, IsPromptOn};
+    ghost use Rattle.sock_pair.specs.PairRuns.{Done, HasStopped, PromptRun, added};
+    ghost use Rattle.sock_pair.specs.PairPromises.{Prefix, Release, Prompt};
     ghost use Rattle.sock_pair.specs.Holding.{stored_of};
     ghost use Rattle.sock_pair.specs.PairInvariant.{IsReachable};
     ghost use Rattle.sock_pair.specs.NetworkInvariant.{IsLimit};
@@ -264,14 +264,15 @@ impl<'a> Pair<'a> {
 
     // What every pair keeps.
     fn keeps_order(&self)
-        ensures { AreDelivered self.now }
+        ensures prefix { Prefix self.now }
+        ensures release { Release self.now }
     {
         self.a.in_range();
     }
 
     fn perform(&mut self, event: &Event) -> Result<Outcome, PairError>
         ensures step { IfOk result (λ o. Step event.entry.now self.old o self.new) }
-        ensures prompt { IfOk result (λ o. IsPromptOn event.entry.now self.old o self.new) }
+        ensures prompt { IfOk result (λ o. Prompt event.entry.now self.old o self.new) }
         ensures memory { OnErr result (self.new ≡ self.old) }
     {
         match event {
@@ -289,8 +290,9 @@ impl<'a> Pair<'a> {
     /// `Memory` where a growth was refused; the pair is then as it was.
     pub fn step(&mut self, event: &Event) -> Result<Outcome, PairError>
         ensures step { IfOk result (λ o. Step event.entry.now self.old o self.new) }
-        ensures delivered { AreDelivered self.new }
-        ensures prompt { IfOk result (λ o. IsPromptOn event.entry.now self.old o self.new) }
+        ensures prefix { Prefix self.new }
+        ensures release { Release self.new }
+        ensures prompt { IfOk result (λ o. Prompt event.entry.now self.old o self.new) }
         ensures memory { OnErr result (self.new ≡ self.old) }
     {
         let outcome = self.perform(event);
@@ -303,7 +305,9 @@ impl<'a> Pair<'a> {
     /// `Memory` where a growth was refused; the events before that one were done, and `outcomes` has gained exactly their
     /// outcomes.
     pub fn run(&mut self, events: &[Event], outcomes: &mut Vec<Outcome>) -> Result<(), PairError>
-        ensures delivered { AreDelivered self.new }
+        ensures prefix { Prefix self.new }
+        ensures release { Release self.new }
+        ensures prompt { PromptRun events.now self.old (added outcomes.old.items outcomes.new.items) self.new }
         ensures done { OnOk result (Done events.now self.old outcomes.old.items outcomes.new.items self.new) }
         ensures memory { OnErr result (HasStopped events.now self.old outcomes.old.items outcomes.new.items self.new) }
     {
