@@ -28,6 +28,7 @@ pub mod PairReturns
 pub mod PairKeeps
 pub mod ShownPrompt
 pub mod PairPromises
+pub mod PairCompletes
 pub mod Running
 pub mod NetworkDeliveries
 pub mod ReplaySinks

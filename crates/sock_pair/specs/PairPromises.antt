@@ -6,6 +6,7 @@ use Rattle.control_wire.specs.Segment.{Segment, is_plain}
 use Rattle.sock_tcp.specs.Verdict.{verdict_of}
 use Rattle.sock_tcp.specs.View.{View}
 use Rattle.sock_tcp.specs.Window.{next_ack, window_end}
+use Rattle.sock_tcp.specs.declared.error.RecvError.TheVariants as recv_error
 use Rattle.sock_tcp.specs.declared.state.State.TheVariants as state
 use Rattle.sock_tcp.specs.declared.verdict.Verdict.TheVariants as verdicts
 use Rattle.sock_pair.specs.PairViews.{HostView, StoredView, PairView, host_of}
@@ -36,6 +37,13 @@ pub record IsReleased (sender receiver : HostView) : Type 0 where
 pub record Release (p : PairView) : Type 0 where
   pub of_a : IsReleased p.a p.b
   pub of_b : IsReleased p.b p.a
+
+-- ---- Complete
+
+-- no read answers Finished, as no side can be closed yet
+abbrev pub Complete : Outcome → Type 0
+Complete (outcome.RecvRefused recv_error.Finished) = ⊥
+Complete _ = Unit {0}
 
 -- ---- Prompt
 

@@ -1,6 +1,6 @@
 -- A run of events, and what holds at each of its steps.
 use Rattle.std.specs.Prelude.{ℕ, ◌≡◌, ◌<◌, ◌++◌, List, [], ◌∷◌, length, take, drop}
-use Rattle.sock_pair.specs.PairPromises.{Prefix, Release, Prompt}
+use Rattle.sock_pair.specs.PairPromises.{Prefix, Release, Complete, Prompt}
 use Rattle.sock_pair.specs.PairSteps.{Step}
 use Rattle.sock_pair.specs.PairViews.{PairView}
 use Rattle.sock_pair.specs.declared.event.Event.{Event}
@@ -18,6 +18,7 @@ pub record Happens (e : Event) (p : PairView) (o : Outcome) (q : PairView) : Typ
   pub step : Step e p o q
   pub prefix : Prefix q
   pub release : Release q
+  pub complete : Complete o
   pub prompt : Prompt e p o q
 
 abbrev pub Run : List Event → PairView → List Outcome → PairView → Type 0

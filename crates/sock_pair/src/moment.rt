@@ -9,9 +9,13 @@ use sock_core::Context;
 /// The context of one call: its moment, the random word, whether the address is there, and the largest IP packet.
 #[derive(Debug, Clone, Copy, PartialEq, Eq)]
 pub struct Moment {
+    /// The time, within 2^61 microseconds of zero.
     pub now: Instant,
+    /// What a random word is, however often one is drawn.
     pub word: u32,
+    /// Whether the interface has the socket's local address.
     pub has_address: bool,
+    /// The length of the largest IP packet in bytes, from 576 to 65535.
     pub ip_mtu: usize,
     pub ghost moment: { IsMoment now.micros },
     pub ghost mtu: { IsMtu ip_mtu },
@@ -19,7 +23,7 @@ pub struct Moment {
 }
 
 impl Moment {
-    /// The context of a call at `now`.
+    /// The context of a call at `now`, which is within 2^61 microseconds of zero; `ip_mtu` is from 576 to 65535 bytes.
     pub fn new(now: Instant, word: u32, has_address: bool, ip_mtu: usize) -> Moment
         requires moment { IsMoment now.micros }
         requires mtu { IsMtu ip_mtu }

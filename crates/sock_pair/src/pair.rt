@@ -60,7 +60,7 @@ impl<'a> Pair<'a> {
     ghost use Rattle.sock_pair.specs.PairCalls.{listening, connecting, OpensAs, is_over, Sends, Receives};
     ghost use Rattle.sock_pair.specs.PairSteps.{OneSide, OneSideAndSegments, Dispatches, Delivers, Step};
     ghost use Rattle.sock_pair.specs.PairRuns.{Done, HasStopped, PromptRun, added};
-    ghost use Rattle.sock_pair.specs.PairPromises.{Prefix, Release, Prompt};
+    ghost use Rattle.sock_pair.specs.PairPromises.{Prefix, Release, Complete, Prompt};
     ghost use Rattle.sock_pair.specs.Holding.{stored_of};
     ghost use Rattle.sock_pair.specs.PairInvariant.{IsReachable};
     ghost use Rattle.sock_pair.specs.NetworkInvariant.{IsLimit};
@@ -285,13 +285,14 @@ impl<'a> Pair<'a> {
         }
     }
 
-    /// Changes one event.
+    /// Does one event, and answers its outcome.
     ///
     /// `Memory` where a growth was refused; the pair is then as it was.
     pub fn step(&mut self, event: &Event) -> Result<Outcome, PairError>
         ensures step { IfOk result (λ o. Step event.entry.now self.old o self.new) }
         ensures prefix { Prefix self.new }
         ensures release { Release self.new }
+        ensures complete { IfOk result (λ o. Complete o) }
         ensures prompt { IfOk result (λ o. Prompt event.entry.now self.old o self.new) }
         ensures memory { OnErr result (self.new ≡ self.old) }
     {
@@ -300,7 +301,7 @@ impl<'a> Pair<'a> {
         outcome
     }
 
-    /// Changes the events in turn, and adds an outcome for each to `outcomes`.
+    /// Does the events in turn, and adds the outcome of each to `outcomes`.
     ///
     /// `Memory` where a growth was refused; the events before that one were done, and `outcomes` has gained exactly their
     /// outcomes.

@@ -1,5 +1,5 @@
 // Why a call is refused.
-ghost use Rattle.std.specs.Prelude.{Some};
+ghost use Rattle.std.specs.Prelude.{◌≡◌, Some};
 ghost use Rattle.sock_tcp.specs.Texts.{listen_error_text, connect_error_text, send_error_text, recv_error_text};
 
 use std::error::Error;
@@ -56,13 +56,22 @@ pub enum SendError {
     InvalidState,
 }
 
+impl SendError {
+    /// What the error prints.
+    pub fn text(self) -> &'static str
+        ensures { result.now ≡ send_error_text self }
+    {
+        match self {
+            SendError::InvalidState => "invalid state",
+        }
+    }
+}
+
 impl fmt::Display for SendError {
     ghost output = { λ e. Some (send_error_text e) };
 
     fn fmt<W: fmt::Write>(&self, f: &mut fmt::Formatter<W>) -> fmt::Result {
-        match self {
-            SendError::InvalidState => write!(f, "invalid state"),
-        }
+        write!(f, "{}", self.text())
     }
 }
 
@@ -77,14 +86,23 @@ pub enum RecvError {
     Finished,
 }
 
+impl RecvError {
+    /// What the error prints.
+    pub fn text(self) -> &'static str
+        ensures { result.now ≡ recv_error_text self }
+    {
+        match self {
+            RecvError::InvalidState => "invalid state",
+            RecvError::Finished => "operation finished",
+        }
+    }
+}
+
 impl fmt::Display for RecvError {
     ghost output = { λ e. Some (recv_error_text e) };
 
     fn fmt<W: fmt::Write>(&self, f: &mut fmt::Formatter<W>) -> fmt::Result {
-        match self {
-            RecvError::InvalidState => write!(f, "invalid state"),
-            RecvError::Finished => write!(f, "operation finished"),
-        }
+        write!(f, "{}", self.text())
     }
 }
 

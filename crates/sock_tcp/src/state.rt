@@ -1,5 +1,5 @@
 // The states of a connection (RFC 9293, section 3.3.2).
-ghost use Rattle.std.specs.Prelude.{Some};
+ghost use Rattle.std.specs.Prelude.{◌≡◌, Some};
 ghost use Rattle.sock_tcp.specs.Texts.{state_text};
 
 use std::fmt;
@@ -20,12 +20,12 @@ pub enum State {
     TimeWait,
 }
 
-/// The name that RFC 9293 gives the state.
-impl fmt::Display for State {
-    ghost output = { λ s. Some (state_text s) };
-
-    fn fmt<W: fmt::Write>(&self, f: &mut fmt::Formatter<W>) -> fmt::Result {
-        let text = match self {
+impl State {
+    /// The name that RFC 9293 gives the state, as `SYN-SENT`.
+    pub fn name(self) -> &'static str
+        ensures { result.now ≡ state_text self }
+    {
+        match self {
             State::Closed => "CLOSED",
             State::Listen => "LISTEN",
             State::SynSent => "SYN-SENT",
@@ -37,7 +37,15 @@ impl fmt::Display for State {
             State::Closing => "CLOSING",
             State::LastAck => "LAST-ACK",
             State::TimeWait => "TIME-WAIT",
-        };
-        write!(f, "{text}")
+        }
+    }
+}
+
+/// The state's name.
+impl fmt::Display for State {
+    ghost output = { λ s. Some (state_text s) };
+
+    fn fmt<W: fmt::Write>(&self, f: &mut fmt::Formatter<W>) -> fmt::Result {
+        write!(f, "{}", self.name())
     }
 }

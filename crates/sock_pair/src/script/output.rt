@@ -1,6 +1,5 @@
 // The lines that a replay prints. They go to the sink piece by piece, so they take no memory.
 ghost use Rattle.std.specs.Prelude.{◌≡◌, ◌++◌, ◌∷◌, [], decimal, false, map};
-ghost use Rattle.sock_tcp.specs.Texts.{state_text, send_error_text, recv_error_text};
 ghost use Rattle.sock_pair.specs.Holding.{stored_of};
 ghost use Rattle.sock_pair.specs.ReplayLines.{ack_text, bytes_text, closing_text, flags_text, numbered_text, outcome_line, outcome_lines, outcome_text, reply_text, segment_text, side_line, side_lines, side_text};
 ghost use Rattle.sock_pair.specs.ReplayStreams.{Takes};
@@ -11,7 +10,6 @@ use crate::script::stream::{Sink, StreamFault};
 use crate::segment::Segment;
 use crate::side::Side;
 use control_wire::{TcpControl, TcpSeqNumber};
-use sock_tcp::{RecvError, SendError, State};
 
 fn put<W: Sink>(sink: &mut W, text: &str) -> Result<(), StreamFault>
     requires { W.has_failed sink.old ≡ false }
@@ -142,41 +140,6 @@ fn put_bytes<W: Sink>(sink: &mut W, bytes: &[u8]) -> Result<(), StreamFault>
     }
 }
 
-fn send_error(error: &SendError) -> &'static str
-    ensures { result.now ≡ send_error_text error.now }
-{
-    match error {
-        SendError::InvalidState => "invalid state",
-    }
-}
-
-fn recv_error(error: &RecvError) -> &'static str
-    ensures { result.now ≡ recv_error_text error.now }
-{
-    match error {
-        RecvError::InvalidState => "invalid state",
-        RecvError::Finished => "operation finished",
-    }
-}
-
-fn state_name(state: State) -> &'static str
-    ensures { result.now ≡ state_text state }
-{
-    match state {
-        State::Closed => "CLOSED",
-        State::Listen => "LISTEN",
-        State::SynSent => "SYN-SENT",
-        State::SynReceived => "SYN-RECEIVED",
-        State::Established => "ESTABLISHED",
-        State::FinWait1 => "FIN-WAIT-1",
-        State::FinWait2 => "FIN-WAIT-2",
-        State::CloseWait => "CLOSE-WAIT",
-        State::Closing => "CLOSING",
-        State::LastAck => "LAST-ACK",
-        State::TimeWait => "TIME-WAIT",
-    }
-}
-
 // The line of an outcome without its line feed.
 #[tactic(auto, using(crate::proofs::ReplaySinks::takes_after))]
 fn put_outcome<W: Sink>(
@@ -192,7 +155,7 @@ fn put_outcome<W: Sink>(
         Outcome::Accepted(count) => put_count(sink, "accepted ", *count),
         Outcome::SendRefused(error) => {
             put(sink, "send-refused ")?;
-            put(sink, send_error(error))
+            put(sink, error.text())
         }
         Outcome::Read(bytes) => {
             put_count(sink, "read ", bytes.len())?;
@@ -200,7 +163,7 @@ fn put_outcome<W: Sink>(
         }
         Outcome::RecvRefused(error) => {
             put(sink, "recv-refused ")?;
-            put(sink, recv_error(error))
+            put(sink, error.text())
         }
         Outcome::Quiet => put(sink, "quiet"),
         Outcome::Emitted(index) => {
@@ -271,7 +234,7 @@ fn write_side<W: Sink>(sink: &mut W, pair: &Pair<'_>, side: Side) -> Result<(), 
     requires { W.has_failed sink.old ≡ false }
     ensures { Takes (W.contents sink.old) result (side_line side pair.now) (W.contents sink.new) (W.has_failed sink.new) }
 {
-    let state = state_name(pair.socket(side).state());
+    let state = pair.socket(side).state().name();
     let accepted = pair.accepted(side).len();
     let handed_out = pair.handed_out(side).len();
     let queued = pair.socket(side).recv_queue();

@@ -15,5 +15,5 @@ loop-event-preserved c = (
     more =
         done_more c.args.events.now c.loop-event.event-index c.event-item.result c.args.self.now c.loop-event.self c.step.new.self c.args.outcomes.now.items c.loop-event.outcomes.items c.push_reserved.new.self.items c.in_ok-outcome.outcome
         (omega (arith, c.loop-event-test.true)) c.event-item.is c.loop-event.invariant.3
-        (record { step = c.in_ok-outcome.ensures.step; prefix = c.in_ok-outcome.ensures.prefix; release = c.in_ok-outcome.ensures.release; prompt = c.in_ok-outcome.ensures.prompt })
+        (record { step = c.in_ok-outcome.ensures.step; prefix = c.in_ok-outcome.ensures.prefix; release = c.in_ok-outcome.ensures.release; complete = c.in_ok-outcome.ensures.complete; prompt = c.in_ok-outcome.ensures.prompt })
         (c.push_reserved.ensures.items ∙ ap (λ xs. xs ++ c.in_ok-outcome.outcome ∷ []) c.reserve.ensures.items)
