@@ -59,7 +59,9 @@ impl TcpControl {
 /// The timestamp option (RFC 7323, section 3.2).
 #[derive(Debug, Clone, Copy, PartialEq, Eq)]
 pub struct TcpTimestampRepr {
+    /// The sender's clock.
     pub tsval: u32,
+    /// The value that is echoed.
     pub tsecr: u32,
 }
 
@@ -96,17 +98,29 @@ pub type TcpTimestampGenerator = fn() -> u32;
 /// A TCP segment: its header, its options and its payload.
 #[derive(Debug, Clone, Copy, PartialEq, Eq)]
 pub struct TcpRepr<'a> {
+    /// The sender's port.
     pub src_port: u16,
+    /// The receiver's port.
     pub dst_port: u16,
+    /// What the control bits ask for.
     pub control: TcpControl,
+    /// SEG.SEQ: the number of the SYN where there is one, else of the first byte.
     pub seq_number: TcpSeqNumber,
+    /// SEG.ACK, where there is an acknowledgement.
     pub ack_number: Option<TcpSeqNumber>,
+    /// The window field: in a SYN in bytes, else in units of 2 to the power of the sender's window scale (RFC 7323, section 2.2).
     pub window_len: u16,
+    /// The window scale option, in bits: a SYN alone has one.
     pub window_scale: Option<u8>,
+    /// The option with the largest payload that the sender takes, in bytes (RFC 9293, section 3.7.1).
     pub max_seg_size: Option<u16>,
+    /// Whether there is the option that permits SACK (RFC 2018, section 2).
     pub sack_permitted: bool,
+    /// The blocks of the SACK option: the number of the first byte, and that behind the last (RFC 2018, section 3).
     pub sack_ranges: [Option<(u32, u32)>; 3],
+    /// The timestamp option.
     pub timestamp: Option<TcpTimestampRepr>,
+    /// The bytes that the segment carries.
     pub payload: &'a [u8],
 }
 

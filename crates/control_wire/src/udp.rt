@@ -5,7 +5,9 @@ ghost use Rattle.control_wire.specs.Datagram.{udp_header_len};
 /// A UDP header: the ports that the datagram comes from and goes to (RFC 768).
 #[derive(Debug, Clone, Copy, PartialEq, Eq)]
 pub struct UdpRepr {
+    /// The sender's port.
     pub src_port: u16,
+    /// The receiver's port.
     pub dst_port: u16,
 }
 

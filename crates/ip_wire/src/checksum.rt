@@ -37,10 +37,15 @@ impl Checksum {
 /// What is done for the checksum of each protocol.
 #[derive(Debug, Clone, Copy, PartialEq, Eq)]
 pub struct ChecksumCapabilities {
+    /// Of IPv4 headers.
     pub ipv4: Checksum,
+    /// Of UDP datagrams.
     pub udp: Checksum,
+    /// Of TCP segments.
     pub tcp: Checksum,
+    /// Of ICMPv4 messages.
     pub icmpv4: Checksum,
+    /// Of ICMPv6 messages.
     pub icmpv6: Checksum,
 }
 

@@ -17,14 +17,18 @@ use std::fmt;
 /// An address and a port.
 #[derive(Debug, Clone, Copy, PartialEq, Eq, PartialOrd, Ord)]
 pub struct IpEndpoint {
+    /// The address.
     pub addr: IpAddress,
+    /// The port, or 0 for none.
     pub port: u16,
 }
 
 /// A port, and an address where only segments to that one are wanted.
 #[derive(Debug, Clone, Copy, PartialEq, Eq, PartialOrd, Ord)]
 pub struct IpListenEndpoint {
+    /// The address, or None for any.
     pub addr: Option<IpAddress>,
+    /// The port, or 0 for none.
     pub port: u16,
 }
 

@@ -19,20 +19,30 @@ use crate::protocol::{IpProtocol, IpVersion};
 /// An IPv4 header without options (RFC 791, section 3.1).
 #[derive(Debug, Clone, Copy, PartialEq, Eq)]
 pub struct Ipv4Repr {
+    /// Where the packet comes from.
     pub src_addr: Ipv4Address,
+    /// Where it goes.
     pub dst_addr: Ipv4Address,
+    /// The protocol of the payload.
     pub next_header: IpProtocol,
+    /// How many bytes the payload has.
     pub payload_len: usize,
+    /// How many hops the packet may still take.
     pub hop_limit: u8,
 }
 
 /// An IPv6 header without extension headers (RFC 8200, section 3).
 #[derive(Debug, Clone, Copy, PartialEq, Eq)]
 pub struct Ipv6Repr {
+    /// Where the packet comes from.
     pub src_addr: Ipv6Address,
+    /// Where it goes.
     pub dst_addr: Ipv6Address,
+    /// The protocol of the payload.
     pub next_header: IpProtocol,
+    /// How many bytes the payload has.
     pub payload_len: usize,
+    /// How many hops the packet may still take.
     pub hop_limit: u8,
 }
 

@@ -14,7 +14,9 @@ const MOST: usize = 4;
 /// The offsets from `start` on that are below `end`.
 #[derive(Debug, Clone, Copy, PartialEq, Eq)]
 pub struct Range {
+    /// The first offset.
     pub start: usize,
+    /// The offset behind the last.
     pub end: usize,
 }
 
@@ -168,7 +170,9 @@ fn lowered(ranges: &[Range], by: usize) -> [Range; 4]
 /// Ranges that a new one was joined with.
 #[derive(Debug, Drop)]
 pub struct Joined {
+    /// The ranges in order; those past `count` say nothing.
     pub ranges: [Range; 5],
+    /// How many there are.
     pub count: usize,
 }
 

@@ -7,6 +7,7 @@ use std::ops::{Add, Mul, Sub};
 /// A moment: so many microseconds after a start that the caller chooses, or before it.
 #[derive(Debug, Clone, Copy, PartialEq, Eq, PartialOrd, Ord)]
 pub struct Instant {
+    /// Microseconds after the start; below zero before it.
     pub micros: i64,
 }
 
@@ -48,6 +49,7 @@ impl Instant {
 /// A length of time, in microseconds.
 #[derive(Debug, Clone, Copy, PartialEq, Eq, PartialOrd, Ord)]
 pub struct Duration {
+    /// How many microseconds.
     pub micros: u64,
 }
 

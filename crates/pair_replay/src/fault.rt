@@ -2,6 +2,7 @@
 use sock_pair::script::{End, ScriptError};
 use thiserror::Error;
 
+/// Why the program failed: wrong arguments, or how the replay ended.
 #[derive(Debug, Drop, Error)]
 pub enum Fault {
     #[error("usage: pair_replay [FILE]")]

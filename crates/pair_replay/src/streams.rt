@@ -12,6 +12,7 @@ pub struct Input<R> {
 }
 
 impl<R> Input<R> {
+    /// A reader that has not failed.
     pub fn new(reader: R) -> Input<R>
         ensures { result.failed ≡ false }
     {
@@ -50,6 +51,7 @@ pub struct Output<W> {
 }
 
 impl<W> Output<W> {
+    /// A writer that has not failed.
     pub fn new(writer: W) -> Output<W>
         ensures { result.failed ≡ false }
     {

@@ -2,7 +2,7 @@
 use Rattle.std.proofs.Common.{◌≡◌, ℕ, ◌+◌, ◌%◌, ◌^◌, ◌≤◌, true, false, refl, arith, List, ◌++◌, length, drop, take, length-drop}
 use Rattle.std.specs.Prelude.{min}
 use Rattle.ip_wire.specs.declared.endpoint.IpListenEndpoint.{IpListenEndpoint}
-use Rattle.sock_tcp.specs.View.{View}
+use Rattle.sock_tcp.specs.View.{View, fresh}
 use Rattle.sock_tcp.specs.Opening.{listened, connected, renewed}
 use Rattle.sock_tcp.specs.Queues.{may_send, written, read_off}
 use Rattle.sock_tcp.specs.declared.state.State.{State}
@@ -13,11 +13,11 @@ use Rattle.sock_pair.specs.PairNetwork.{phase_of, shown}
 use Rattle.sock_pair.specs.StreamViews.{Listening, SynSent, Sending}
 
 pub listened_shows : (v : View) (e : IpListenEndpoint) → shown (listened v e) ≡ record unopened.view { phase = Listening }
-unfolding listened renewed
+unfolding listened renewed fresh
 listened_shows v e = refl
 
 pub connected_shows : (v : View) (t : Tuple) (word : ℕ) → shown (connected v t word) ≡ record unopened.view { phase = SynSent; snd_una = word; snd_nxt = word }
-unfolding connected renewed
+unfolding connected renewed fresh
 connected_shows v t word = refl
 
 pub written_shows : (v : View) (bs : List ℕ) → shown (written v bs) ≡ record (shown v) { transmit_queue = v.tx_buffer.bytes ++ take (min (length bs) v.tx_buffer.window) bs }

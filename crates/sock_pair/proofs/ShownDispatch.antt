@@ -12,7 +12,7 @@ use Rattle.sock_core.specs.Places.{later_number}
 use Rattle.sock_core.specs.Seq.{later_of}
 use Rattle.sock_core.specs.Streams.{IsPrefix}
 use Rattle.sock_tcp.specs.Queue.{IsLent}
-use Rattle.sock_tcp.specs.View.{View}
+use Rattle.sock_tcp.specs.View.{View, fresh}
 use Rattle.sock_tcp.specs.Window.{next_ack}
 use Rattle.sock_tcp.specs.Opening.{renewed}
 use Rattle.sock_tcp.specs.Due.{begun, begun_to, readied, readied_to, ended, last_dated, dated, moment_of, flight}
@@ -39,7 +39,7 @@ dated_shows v now (Some t) = refl
 
 -- the beginning changes nothing that is seen, or the socket is reset
 begins_to : (v : View) (f : Facts) (o : Option Tuple) → BeginEffect (shown v) (shown (begun_to o v f).view)
-unfolding renewed last_dated
+unfolding renewed fresh last_dated
 begins_to v f None = Same refl
 begins_to v f (Some t) = two (f.has_address t.local.addr)
   where

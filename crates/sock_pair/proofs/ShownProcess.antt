@@ -13,8 +13,6 @@ use Rattle.control_wire.specs.declared.tcp.TcpControl.{TcpControl}
 use Rattle.control_wire.specs.declared.tcp.TcpControl.TheVariants as control
 use Rattle.sock_core.specs.Places.{number_distance, number_is_before, later_number}
 use Rattle.sock_core.specs.Seq.{is_before, later_of}
-use Rattle.sock_core.specs.Streams.{ByteAt}
-use Rattle.sock_core.proofs.Streams.{byte_within}
 use Rattle.sock_tcp.specs.Queue.{capacity}
 use Rattle.sock_tcp.specs.View.{View}
 use Rattle.sock_tcp.specs.Verdict.{verdict_at, verdict_of}
@@ -34,6 +32,7 @@ use Rattle.sock_pair.specs.StreamEffects.{HearsData}
 use Rattle.sock_pair.specs.StreamTables.{OfBytes, OfSyn}
 use Rattle.sock_pair.specs.StreamViews as phase
 use Rattle.sock_pair.specs.StreamViews.{SocketView, StreamSegment, HasIss, KnowsPeer, IsSynchronized, IsNonSynchronized}
+use Rattle.sock_pair.proofs.StreamCut.{whole_hears}
 use Rattle.sock_pair.proofs.StreamTables.{passes_heard}
 
 -- ---- numbers
@@ -86,22 +85,20 @@ in_order v s room e =
     let le : length s.payload ≤ seq_sub (window_end v v.remote_last_ack) (next_ack v) = grind (arith, nat_tests, t.1) in
     record { starts = same_number s.seq_number (next_ack v) t.0; short = omega (arith, le, w) }
 
--- a segment at RCV.NXT that is taken whole is heard, where nothing is held out of order and no FIN is counted
-heard_whole : (x y : SocketView) (g : StreamSegment) → g.seq ≡ x.rcv_nxt → length g.payload ≤ 2 ^ 30 → ((k b : ℕ) → y.held k ≡ Some b → ⊥) → y.receive_queue ≡ x.receive_queue ++ g.payload → x.fin_counted ≡ false → y.fin_counted ≡ false → y.rcv_nxt ≡ (x.rcv_nxt + length g.payload) % 2 ^ 32 → HearsData x y g
-heard_whole x y g start short none queue no_fin no_fin' nxt = record {
-  more = g.payload;
+-- the same of a socket that holds nothing out of order and counted no FIN
+heard_whole : (x y : SocketView) (g : StreamSegment) → g.seq ≡ x.rcv_nxt → length g.payload ≤ 2 ^ 30 → ((k b : ℕ) → x.held k ≡ Some b → ⊥) → y.held ≡ x.held → y.receive_queue ≡ x.receive_queue ++ g.payload → x.fin_counted ≡ false → y.fin_counted ≡ false → y.rcv_nxt ≡ (x.rcv_nxt + length g.payload) % 2 ^ 32 → HearsData x y g
+heard_whole x y g start short none held queue no_fin no_fin' nxt = whole_hears x y g (record {
+  in_order = start;
+  short = short;
+  none_held = none;
   receive_queue = queue;
-  joined = λ k b h. inr (k, near k b h, ap (λ n. (n + k) % 2 ^ 32) start, h);
-  held = λ k b h. absurd (none k b h);
+  held = held;
   fin = λ e. let no : true ≡ false = sym e ∙ no_fin' in cc;
   kept = λ e. let no : true ≡ false = sym e ∙ no_fin in cc;
   fins = 0;
   fin_counts = rw (no_fin, no_fin') refl;
   rcv_nxt = nxt ∙ ap (λ n. n % 2 ^ 32) (omega arith);
-}
-  where
-    near : (k b : ℕ) → ByteAt g.payload k b → k < 2 ^ 31
-    near k b h = omega (arith, byte_within g.payload k b h, short)
+})
 
 -- ---- process
 
@@ -213,7 +210,7 @@ module _ (listener : Bool) (v : View) (now : Instant) (word : ℕ) (ip : IpRepr)
       let b = bounds.sending (subst (λ st. HasIss (phase_of st)) (sym es) tt) in
       let none : n ≡ 0 = counts ∙ one_past a b.snd_una x in
       by_ack (record v { state = state.Established }) n s.payload (Some a) eo (Acknowledgement plain (subst (λ st. KnowsPeer (phase_of st)) (sym es) tt)
-      (heard_whole _ _ _ here.starts here.short (λ k b h. let no : None ≡ Some b = h in cc) refl refl refl (nxt_moved (length-append v.rx_buffer.bytes s.payload)))
+      (heard_whole _ _ _ here.starts here.short (λ k b h. let no : None ≡ Some b = h in cc) refl refl refl refl (nxt_moved (length-append v.rx_buffer.bytes s.payload)))
       (passes_heard _ _ _ b (OfSyn a.0 (acks a eo) (same_number a next_to x) (inr (ap phase_of es)) refl refl (ap (λ k. drop k v.tx_buffer.bytes) none) (inl (later_shown v.remote_last_seq a))))
       tt)
 
@@ -223,7 +220,7 @@ module _ (listener : Bool) (v : View) (now : Instant) (word : ℕ) (ip : IpRepr)
       let b = bounds.sending (subst (λ st. HasIss (phase_of st)) (sym es) tt) in
       let is : n ≡ number_distance a.0 v.local_seq_no.0 = omega (arith, counts) in
       by_ack v n s.payload (Some a) eo (Acknowledgement plain (subst (λ st. KnowsPeer (phase_of st)) (sym es) tt)
-      (heard_whole _ _ _ here.starts here.short (λ k b h. let no : None ≡ Some b = h in cc) refl refl refl (nxt_moved (length-append v.rx_buffer.bytes s.payload)))
+      (heard_whole _ _ _ here.starts here.short (λ k b h. let no : None ≡ Some b = h in cc) refl refl refl refl (nxt_moved (length-append v.rx_buffer.bytes s.payload)))
       (passes_heard _ _ _ b (OfBytes a.0 (acks a eo) (small.ack a eo) (omega (arith, le, is)) refl refl (ap (λ k. drop k v.tx_buffer.bytes) is) (later_shown v.remote_last_seq a)))
       (subst (λ st. IsSynchronized (phase_of st)) (sym es) tt))
 

@@ -71,7 +71,7 @@ pub record TakesPayload (v w : SocketView) (g : StreamSegment) (win : ℕ) : Typ
 -- A segment at RCV.NXT is taken whole, by a socket that holds nothing out of order
 pub record TakesWhole (v w : SocketView) (g : StreamSegment) : Type 0 where
   pub in_order : g.seq ≡ v.rcv_nxt
-  pub short : length g.payload ≤ 65535
+  pub short : length g.payload ≤ 2 ^ 30
   pub none_held : (k b : ℕ) → v.held k ≡ Some b → ⊥
   pub receive_queue : w.receive_queue ≡ v.receive_queue ++ g.payload
   pub held : w.held ≡ v.held

@@ -287,6 +287,10 @@ impl<'a> Pair<'a> {
 
     /// Does one event, and answers its outcome.
     ///
+    /// The event meets the case table of its call, and the other side's socket stays as it was. Afterwards what each side
+    /// handed out, followed by its receive queue, is a prefix of what the other accepted, and acknowledgements have
+    /// released only bytes that the other took. A segment in order is queued before its delivery returns.
+    ///
     /// `Memory` where a growth was refused; the pair is then as it was.
     pub fn step(&mut self, event: &Event) -> Result<Outcome, PairError>
         ensures step { IfOk result (λ o. Step event.entry.now self.old o self.new) }
@@ -302,6 +306,8 @@ impl<'a> Pair<'a> {
     }
 
     /// Does the events in turn, and adds the outcome of each to `outcomes`.
+    ///
+    /// What `step` promises holds of each event and after each of them.
     ///
     /// `Memory` where a growth was refused; the events before that one were done, and `outcomes` has gained exactly their
     /// outcomes.

@@ -6,9 +6,10 @@ use control_wire::{TcpControl, TcpRepr, TcpSeqNumber, TcpTimestampRepr};
 use ip_wire::IpRepr;
 use std::alloc::Global;
 
-/// The headers of a segment: all of it but its payload.
+/// The headers of a segment: all of it but its payload. The fields after the first are those of `TcpRepr`.
 #[derive(Debug, Clone, Copy, PartialEq, Eq)]
 pub struct Header {
+    /// The IP header.
     pub ip_repr: IpRepr,
     pub src_port: u16,
     pub dst_port: u16,
@@ -52,7 +53,9 @@ impl Header {
 pub struct Segment {
     /// The side that emitted it.
     pub from: Side,
+    /// All of it but its payload.
     pub header: Header,
+    /// The bytes that it carries.
     pub payload: Vec<u8>,
     /// How many bytes had left the emitter's transmit queue by acknowledgement.
     pub released_at: u64,

@@ -7,8 +7,8 @@ use Rattle.ip_wire.specs.declared.endpoint.IpEndpoint.{IpEndpoint}
 use Rattle.ip_wire.specs.declared.endpoint.IpListenEndpoint.{IpListenEndpoint}
 use Rattle.control_wire.specs.Seq.{seq_of}
 use Rattle.sock_core.specs.Facts.{Facts}
-use Rattle.sock_tcp.specs.Queue.{capacity, emptied}
-use Rattle.sock_tcp.specs.View.{View, window_shift, no_endpoint}
+use Rattle.sock_tcp.specs.Queue.{emptied}
+use Rattle.sock_tcp.specs.View.{View, fresh}
 use Rattle.sock_tcp.specs.declared.state.State.{State}
 use Rattle.sock_tcp.specs.declared.state.State.TheVariants as state
 use Rattle.sock_tcp.specs.declared.tuple.Tuple.{Tuple}
@@ -35,24 +35,7 @@ is_active _ = true
 -- ---- reset: all but the SACK permission is as in a new socket
 
 unfoldable pub renewed : View → View
-renewed v =
-    record v {
-      state = state.Closed;
-      rx_buffer = emptied v.rx_buffer;
-      tx_buffer = emptied v.tx_buffer;
-      listen_endpoint = no_endpoint;
-      tuple = None;
-      local_seq_no = seq_of 0;
-      remote_seq_no = seq_of 0;
-      remote_last_seq = seq_of 0;
-      remote_last_ack = None;
-      remote_last_win = 0;
-      remote_win_shift = window_shift (capacity v.rx_buffer);
-      remote_win_len = 0;
-      remote_win_scale = None;
-      remote_mss = 536;
-      remote_last_ts = None;
-    }
+renewed v = record (fresh (emptied v.rx_buffer) (emptied v.tx_buffer)) { remote_has_sack = v.remote_has_sack }
 
 -- ---- listen
 

@@ -55,7 +55,7 @@ impl<'a> ControlBlock<'a> {
         }
     }
 
-    #[tactic(auto, unfolding(crate::specs::Opening::renewed))]
+    #[tactic(auto, unfolding(crate::specs::Opening::renewed, crate::specs::View::fresh))]
     pub(crate) fn reset(&mut self)
         ensures { self.new ≡ renewed self.old }
     {

@@ -11,7 +11,9 @@ use sock_core::seq::before;
 /// The receive window: its left edge, and the number behind its last one.
 #[derive(Debug, Clone, Copy, PartialEq, Eq)]
 pub struct Window {
+    /// The left edge, RCV.NXT.
     pub start: TcpSeqNumber,
+    /// The number behind the last one.
     pub end: TcpSeqNumber,
 }
 

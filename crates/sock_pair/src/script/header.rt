@@ -13,11 +13,12 @@ use crate::script::words::five_words;
 // The largest size of a buffer.
 const BUFFER: usize = 1_048_576;
 
-/// The sizes of a's receive and transmit buffer and of b's, and how many bytes each side may
-/// accept.
+/// What the line that begins a script says.
 #[derive(Clone, Copy)]
 pub struct Header {
+    /// The sizes in bytes of a's receive and transmit buffer, and of b's.
     pub sizes: [usize; 4],
+    /// How many bytes each side may accept, or None for any number.
     pub limit: Option<u32>,
 }
 
