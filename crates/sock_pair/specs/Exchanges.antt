@@ -1,5 +1,6 @@
 -- A delivery, where the counts of the emitter are given.
-use Rattle.std.specs.Prelude.{ℕ, List, Option, Some, None}
+use Rattle.std.specs.Prelude.{ℕ, ◌≡◌, List, Option, Some, None, false}
+use Rattle.sock_tcp.specs.Process.{Accepts}
 use Rattle.sock_pair.specs.PairViews.{HostView, StoredView}
 use Rattle.sock_pair.specs.PairSteps.{is_too_old, DeliversTo}
 use Rattle.sock_pair.specs.declared.moment.Moment.{Moment}
@@ -9,3 +10,7 @@ use Rattle.sock_pair.specs.declared.side.Side.{Side}
 abbrev pub DeliversAt : Option StoredView → ℕ → ℕ → Side → Moment → Outcome → HostView → List StoredView → HostView → List StoredView → Type 0
 DeliversAt None released taken s m o h ks h' ks' = ⊥
 DeliversAt (Some t) released taken s m o h ks h' ks' = DeliversTo (is_too_old t.released_at released t.taken_at taken) s m t o h ks h' ks'
+
+abbrev pub GrowsAt : Option StoredView → ℕ → ℕ → HostView → Type 0
+GrowsAt None released taken h = ⊥
+GrowsAt (Some t) released taken h = (is_too_old t.released_at released t.taken_at taken ≡ false) × Accepts h.control_block t.ip t.segment

@@ -6,7 +6,7 @@ use Rattle.sock_tcp.specs.Process.{Accepts, Outcome as Processed, processed}
 use Rattle.sock_pair.specs.Moments.{facts_of}
 use Rattle.sock_pair.specs.PairViews.{HostView, StoredView, PairView, host_of, with_host}
 use Rattle.sock_pair.specs.Holding.{stored_segment, kept_at}
-use Rattle.sock_pair.specs.PairCalls.{listening, connecting, OpensAs, Sends, Receives}
+use Rattle.sock_pair.specs.PairCalls.{listening, connecting, OpensAs, is_over, Sends, Receives}
 use Rattle.sock_pair.specs.Recording.{SocketDispatches}
 use Rattle.sock_pair.specs.Sides.{other_side}
 use Rattle.sock_pair.specs.declared.event.Event.{Event}
@@ -109,6 +109,21 @@ DeliversTo false s m t o h ks h' ks' = DeliversYoung s m t o h ks h' ks'
 abbrev pub Delivers : Option StoredView → Moment → PairView → Outcome → PairView → Type 0
 Delivers None m p o q = (o ≡ outcome.NoSegment) × (q ≡ p)
 Delivers (Some t) m p o q = OneSideAndSegments (other_side t.emitter) p q (DeliversTo (is_old (host_of t.emitter p) t) (other_side t.emitter) m t o)
+
+-- ---- which events take memory
+
+abbrev pub DeliveryGrows : Option StoredView → PairView → Type 0
+DeliveryGrows None p = ⊥
+DeliveryGrows (Some t) p = (is_old (host_of t.emitter p) t ≡ false) × Accepts (host_of (other_side t.emitter) p).control_block t.ip t.segment
+
+-- the others are done, or refused by an outcome, without any
+abbrev pub Grows : Event → PairView → Type 0
+Grows (event.Listen s) p = ⊥
+Grows (event.Connect s m) p = ⊥
+Grows (event.SendSlice s bytes) p = is_over p.limit (length (host_of s p).accepted + length bytes.items) ≡ false
+Grows (event.RecvSlice s size) p = Unit {0}
+Grows (event.Dispatch s m fail) p = Unit {0}
+Grows (event.Deliver i m) p = DeliveryGrows (slice_get p.segments i) p
 
 -- ---- a step
 

@@ -4,7 +4,7 @@ ghost use Rattle.sock_pair.specs.Holding.{stored_of, kept_at};
 ghost use Rattle.std.specs.Option.{ForSome};
 ghost use Rattle.control_wire.specs.Segment.{segment_of};
 ghost use Rattle.sock_pair.specs.PairSteps.{is_too_old, dispatch_outcome, stored_at, Dispatches, reply_index, IsUnchanged};
-ghost use Rattle.sock_pair.specs.Exchanges.{DeliversAt};
+ghost use Rattle.sock_pair.specs.Exchanges.{DeliversAt, GrowsAt};
 
 use crate::host::Host;
 use crate::moment::Moment;
@@ -126,6 +126,7 @@ pub(crate) fn deliver(
     requires taken { host.old.taken < 2 ^ 63 }
     ensures step { IfOk result (λ o. DeliversAt (slice_get (map stored_of segments.old.items) index) emitter.released emitter.taken side moment.entry.now o host.old (map stored_of segments.old.items) host.new (map stored_of segments.new.items)) }
     ensures memory { OnErr result (IsUnchanged host.old (map stored_of segments.old.items) host.new (map stored_of segments.new.items)) }
+    ensures grows { OnErr result (GrowsAt (slice_get (map stored_of segments.old.items) index) emitter.released emitter.taken host.old) }
 {
     let segment = &segments[index];
     if too_old(

@@ -1,5 +1,5 @@
 // Two sockets, and every segment that they emitted.
-ghost use Rattle.std.specs.Prelude.{◌≡◌, ◌+◌, ◌<◌, ◌≤◌, ◌^◌, length, IfOk, OnOk, OnErr, [], None, slice_get};
+ghost use Rattle.std.specs.Prelude.{◌≡◌, ◌+◌, ◌<◌, ◌≤◌, ◌^◌, length, IfOk, OnOk, OnErr, [], None, false, slice_get};
 
 use crate::event::Event;
 use crate::exchange::{deliver, dispatch};
@@ -58,7 +58,7 @@ impl<'a> Pair<'a> {
     ghost use Rattle.sock_tcp.specs.Queue.{queue_of};
     ghost use Rattle.sock_pair.specs.PairViews.{new_host, new_pair, host_of};
     ghost use Rattle.sock_pair.specs.PairCalls.{listening, connecting, OpensAs, is_over, Sends, Receives};
-    ghost use Rattle.sock_pair.specs.PairSteps.{OneSide, OneSideAndSegments, Dispatches, Delivers, Step};
+    ghost use Rattle.sock_pair.specs.PairSteps.{OneSide, OneSideAndSegments, Dispatches, Delivers, DeliveryGrows, Grows, Step};
     ghost use Rattle.sock_pair.specs.PairRuns.{Done, HasStopped, PromptRun, added};
     ghost use Rattle.sock_pair.specs.PairPromises.{Prefix, Release, Complete, Prompt};
     ghost use Rattle.sock_pair.specs.Holding.{stored_of};
@@ -179,6 +179,7 @@ impl<'a> Pair<'a> {
     fn send(&mut self, side: Side, bytes: &[u8]) -> Result<Outcome, PairError>
         ensures step { IfOk result (λ o. OneSide side self.old self.new (λ h k. Sends self.old.limit bytes.now h o k)) }
         ensures memory { OnErr result (self.new ≡ self.old) }
+        ensures grows { OnErr result (is_over self.old.limit (length (host_of side self.old).accepted + length bytes.now) ≡ false) }
     {
         if self.is_over_limit(side, bytes.len()) {
             return Ok(Outcome::StreamLimit);
@@ -226,6 +227,7 @@ impl<'a> Pair<'a> {
     fn deliver(&mut self, index: usize, moment: &Moment) -> Result<Outcome, PairError>
         ensures step { IfOk result (λ o. Delivers (slice_get self.old.segments index) moment.entry.now self.old o self.new) }
         ensures memory { OnErr result (self.new ≡ self.old) }
+        ensures grows { OnErr result (DeliveryGrows (slice_get self.old.segments index) self.old) }
     {
         if index >= self.segments.len() {
             return Ok(Outcome::NoSegment);
@@ -274,6 +276,7 @@ impl<'a> Pair<'a> {
         ensures step { IfOk result (λ o. Step event.entry.now self.old o self.new) }
         ensures prompt { IfOk result (λ o. Prompt event.entry.now self.old o self.new) }
         ensures memory { OnErr result (self.new ≡ self.old) }
+        ensures grows { OnErr result (Grows event.entry.now self.old) }
     {
         match event {
             Event::Listen { side } => Ok(self.listen(*side)),
@@ -291,7 +294,8 @@ impl<'a> Pair<'a> {
     /// handed out, followed by its receive queue, is a prefix of what the other accepted, and acknowledgements have
     /// released only bytes that the other took. A segment in order is queued before its delivery returns.
     ///
-    /// `Memory` where a growth was refused; the pair is then as it was.
+    /// `Memory` where a growth was refused; the pair is then as it was. `Listen` and `Connect` take no memory, nor does an
+    /// event that comes to one of the last five outcomes.
     pub fn step(&mut self, event: &Event) -> Result<Outcome, PairError>
         ensures step { IfOk result (λ o. Step event.entry.now self.old o self.new) }
         ensures prefix { Prefix self.new }
@@ -299,6 +303,7 @@ impl<'a> Pair<'a> {
         ensures complete { IfOk result (λ o. Complete o) }
         ensures prompt { IfOk result (λ o. Prompt event.entry.now self.old o self.new) }
         ensures memory { OnErr result (self.new ≡ self.old) }
+        ensures grows { OnErr result (Grows event.entry.now self.old) }
     {
         let outcome = self.perform(event);
         self.keeps_order();
