@@ -8,9 +8,9 @@ use Rattle.sock_pair.specs.declared.outcome.Outcome.{Outcome}
 
 -- every event in turn, each with its outcome and with the pair that it leaves
 abbrev pub InTurn : (Event → PairView → Outcome → PairView → Type 0) → List Event → PairView → List Outcome → PairView → Type 0
-InTurn Does [] p [] q = p ≡ q
-InTurn Does (e ∷ es) p (o ∷ os) q = (r : PairView) × Does e p o r × InTurn Does es r os q
-InTurn Does _ _ _ _ = ⊥
+InTurn Each [] p [] q = p ≡ q
+InTurn Each (e ∷ es) p (o ∷ os) q = (r : PairView) × Each e p o r × InTurn Each es r os q
+InTurn Each _ _ _ _ = ⊥
 
 -- ---- each step meets its table, and what is promised of it
 

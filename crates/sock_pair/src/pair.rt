@@ -288,7 +288,7 @@ impl<'a> Pair<'a> {
         }
     }
 
-    /// Does one event, and answers its outcome.
+    /// Performs one event and answers its outcome.
     ///
     /// The event meets the case table of its call, and the other side's socket stays as it was. Afterwards what each side
     /// handed out, followed by its receive queue, is a prefix of what the other accepted, and acknowledgements have
@@ -310,7 +310,7 @@ impl<'a> Pair<'a> {
         outcome
     }
 
-    /// Does the events in turn, and adds the outcome of each to `outcomes`.
+    /// Performs the events in turn, and adds the outcome of each to `outcomes`.
     ///
     /// What `step` promises holds of each event and after each of them.
     ///
