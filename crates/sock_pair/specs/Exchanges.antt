@@ -1,8 +1,7 @@
 -- A delivery, where the counts of the emitter are given.
-use Rattle.std.specs.Prelude.{ℕ, ◌≡◌, List, Option, Some, None, false}
-use Rattle.sock_tcp.specs.Process.{Accepts}
+use Rattle.std.specs.Prelude.{ℕ, List, Option, Some, None}
 use Rattle.sock_pair.specs.PairViews.{HostView, StoredView}
-use Rattle.sock_pair.specs.PairSteps.{is_too_old, DeliversTo}
+use Rattle.sock_pair.specs.PairSteps.{is_too_old, DeliversTo, GrowsTo}
 use Rattle.sock_pair.specs.declared.moment.Moment.{Moment}
 use Rattle.sock_pair.specs.declared.outcome.Outcome.{Outcome}
 use Rattle.sock_pair.specs.declared.side.Side.{Side}
@@ -13,4 +12,4 @@ DeliversAt (Some t) released taken s m o h ks h' ks' = DeliversTo (is_too_old t.
 
 abbrev pub GrowsAt : Option StoredView → ℕ → ℕ → HostView → Type 0
 GrowsAt None released taken h = ⊥
-GrowsAt (Some t) released taken h = (is_too_old t.released_at released t.taken_at taken ≡ false) × Accepts h.control_block t.ip t.segment
+GrowsAt (Some t) released taken h = GrowsTo (is_too_old t.released_at released t.taken_at taken) h t

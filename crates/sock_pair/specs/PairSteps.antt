@@ -112,9 +112,13 @@ Delivers (Some t) m p o q = OneSideAndSegments (other_side t.emitter) p q (Deliv
 
 -- ---- which events take memory
 
+-- a delivery of a young segment that the side accepts
+abbrev pub GrowsTo : Bool → HostView → StoredView → Type 0
+GrowsTo old h t = (old ≡ false) × Accepts h.control_block t.ip t.segment
+
 abbrev pub DeliveryGrows : Option StoredView → PairView → Type 0
 DeliveryGrows None p = ⊥
-DeliveryGrows (Some t) p = (is_old (host_of t.emitter p) t ≡ false) × Accepts (host_of (other_side t.emitter) p).control_block t.ip t.segment
+DeliveryGrows (Some t) p = GrowsTo (is_old (host_of t.emitter p) t) (host_of (other_side t.emitter) p) t
 
 -- the others are done, or refused by an outcome, without any
 abbrev pub Grows : Event → PairView → Type 0

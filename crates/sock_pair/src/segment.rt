@@ -53,7 +53,7 @@ impl Header {
 pub struct Segment {
     /// The side that emitted it.
     pub from: Side,
-    /// All of it but its payload.
+    /// Its headers.
     pub header: Header,
     /// The bytes that it carries.
     pub payload: Vec<u8>,

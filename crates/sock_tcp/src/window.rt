@@ -13,7 +13,7 @@ use sock_core::seq::before;
 pub struct Window {
     /// The left edge, RCV.NXT.
     pub start: TcpSeqNumber,
-    /// The number behind the last one.
+    /// The number behind the window's last.
     pub end: TcpSeqNumber,
 }
 
