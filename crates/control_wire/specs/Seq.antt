@@ -8,8 +8,9 @@ seq_of n = record { 0 = n }
 abbrev pub seq_add : TcpSeqNumber → ℕ → TcpSeqNumber
 seq_add a n = seq_of ((a.0 + n) % 2 ^ 32)
 
-abbrev pub seq_less : TcpSeqNumber → ℕ → TcpSeqNumber
-seq_less a n = seq_of ((a.0 + (2 ^ 32 - n)) % 2 ^ 32)
+-- the number n places before a
+abbrev pub seq_minus : TcpSeqNumber → ℕ → TcpSeqNumber
+seq_minus a n = seq_of ((a.0 + (2 ^ 32 - n)) % 2 ^ 32)
 
 -- how many places a stands after b, counted round the circle
 abbrev pub seq_sub : TcpSeqNumber → TcpSeqNumber → ℕ

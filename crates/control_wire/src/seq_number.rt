@@ -1,6 +1,6 @@
 // Sequence numbers, which wrap at 2^32.
 ghost use Rattle.std.specs.Prelude.{◌≡◌, ◌+◌, ◌<◌, ◌^◌};
-ghost use Rattle.control_wire.specs.Seq.{seq_add, seq_less, seq_sub};
+ghost use Rattle.control_wire.specs.Seq.{seq_add, seq_minus, seq_sub};
 
 /// A sequence number of TCP, which wraps at 2^32 (RFC 9293, section 3.4).
 #[derive(Debug, Clone, Copy, PartialEq, Eq)]
@@ -18,7 +18,7 @@ impl TcpSeqNumber {
     /// The number `count` places before this one.
     pub fn minus(self, count: usize) -> TcpSeqNumber
         requires { count < 2 ^ 32 }
-        ensures { result ≡ seq_less self count }
+        ensures { result ≡ seq_minus self count }
     {
         TcpSeqNumber(self.0.wrapping_sub(count as u32))
     }

@@ -1,5 +1,5 @@
 -- Addresses: their octets, their version, and what is asked of them.
-use Rattle.std.specs.Prelude.{ℕ, ◌≡◌, List, Bool, slice_index, nat_le, ◌==◌, ◌&&◌}
+use Rattle.std.specs.Prelude.{ℕ, ◌≡◌, List, Bool, true, false, slice_index, nat_le, ◌==◌, ◌&&◌}
 use Rattle.std.specs.List.{list_all}
 use Rattle.ip_wire.specs.declared.address.IpAddress.{IpAddress}
 use Rattle.ip_wire.specs.declared.address.IpAddress.TheVariants as address
@@ -12,6 +12,11 @@ version_of (address.Ipv6 a) = version.Ipv6
 
 abbrev pub SameVersion : IpAddress → IpAddress → Type 0
 SameVersion a b = version_of a ≡ version_of b
+
+abbrev pub same_version : IpAddress → IpAddress → Bool
+same_version (address.Ipv4 a) (address.Ipv4 b) = true
+same_version (address.Ipv6 a) (address.Ipv6 b) = true
+same_version _ _ = false
 
 -- the octets of an address, the first on the wire first
 abbrev pub octets_of : IpAddress → List ℕ

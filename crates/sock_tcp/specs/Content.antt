@@ -1,5 +1,5 @@
 -- What a dispatch emits.
-use Rattle.std.specs.Prelude.{ℕ, ◌+◌, ◌-◌, ◌/◌, ◌^◌, List, [], ◌∷◌, length, min, Option, Some, None, Bool, true, false, ◌==◌, if◌then◌else◌, option_map}
+use Rattle.std.specs.Prelude.{ℕ, ◌+◌, ◌-◌, ◌/◌, ◌^◌, List, [], ◌∷◌, length, min, Option, Some, None, Bool, true, false, not, ◌&&◌, ◌==◌, if◌then◌else◌, option_map}
 use Rattle.ip_wire.specs.IpHeader.{ip_header}
 use Rattle.ip_wire.specs.declared.protocol.IpProtocol.TheVariants as protocol
 use Rattle.ip_wire.specs.declared.repr.IpRepr.{IpRepr}
@@ -54,7 +54,13 @@ plain_segment v t =
 
 -- a SYN stands at SND.UNA, and its window is not shifted
 abbrev pub with_syn : View → Tuple → Facts → Segment → Segment
-with_syn v t f s = record s { control = control.Syn; seq_number = v.local_seq_no; window_len = min v.rx_buffer.window 65535; max_seg_size = Some (own_mss f t) }
+with_syn v t f s =
+    record s {
+      control = control.Syn;
+      seq_number = v.local_seq_no;
+      window_len = min v.rx_buffer.window 65535;
+      max_seg_size = Some (own_mss f t);
+    }
 
 -- the own scale is told only where the peer told its own
 abbrev pub scale_back : Option ℕ → ℕ → Option ℕ
@@ -63,14 +69,27 @@ scale_back (Some n) shift = Some shift
 
 -- PSH where the payload ends the queue
 abbrev pub data_control : View → ℕ → TcpControl
-data_control v n = if n == 0 then control.None else (if flight v + n == length v.tx_buffer.bytes then control.Psh else control.None)
+data_control v n =
+    if not (n == 0) && (flight v + n == length v.tx_buffer.bytes) then control.Psh else control.None
 
 abbrev pub with_data : View → List ℕ → Segment → Segment
 with_data v bytes s = record s { control = data_control v (length bytes); payload = bytes }
 
+abbrev pub syn : View → Tuple → Facts → Segment → Segment
+syn v t f s =
+    record (with_syn v t f s) { ack_number = None; window_scale = Some v.remote_win_shift; sack_permitted = true }
+
+abbrev pub syn_ack : View → Tuple → Facts → Segment → Segment
+syn_ack v t f s =
+    record (with_syn v t f s) {
+      window_scale = scale_back v.remote_win_scale v.remote_win_shift;
+      sack_permitted = v.remote_has_sack;
+    }
+
+-- by state
 abbrev pub filled : State → View → Tuple → Facts → List ℕ → Segment → Option Segment
-filled state.SynSent v t f bytes s = Some (record (with_syn v t f s) { ack_number = None; window_scale = Some v.remote_win_shift; sack_permitted = true })
-filled state.SynReceived v t f bytes s = Some (record (with_syn v t f s) { window_scale = scale_back v.remote_win_scale v.remote_win_shift; sack_permitted = v.remote_has_sack })
+filled state.SynSent v t f bytes s = Some (syn v t f s)
+filled state.SynReceived v t f bytes s = Some (syn_ack v t f s)
 filled state.Established v t f bytes s = Some (with_data v bytes s)
 filled state.CloseWait v t f bytes s = Some (with_data v bytes s)
 filled _ v t f bytes s = None

@@ -7,7 +7,7 @@ use Rattle.control_wire.specs.Seq.{seq_sub}
 use Rattle.control_wire.specs.declared.seq_number.TcpSeqNumber.{TcpSeqNumber}
 use Rattle.sock_core.specs.Facts.{Facts}
 use Rattle.sock_core.specs.Seq.{is_before}
-use Rattle.sock_tcp.specs.View.{View}
+use Rattle.sock_tcp.specs.View.{View, moment_of}
 use Rattle.sock_tcp.specs.Opening.{renewed}
 use Rattle.sock_tcp.specs.Window.{next_ack}
 use Rattle.sock_tcp.specs.declared.state.State.{State}
@@ -24,22 +24,19 @@ pub record Begun : Type 0 where
 abbrev pub ended : View → Begun
 ended v = record { view = v; peer = None }
 
-abbrev pub moment_of : Facts → Instant
-moment_of f = record { micros = f.now }
-
-abbrev pub dated : Option Instant → View → Instant → View
-dated None v now = record v { remote_last_ts = Some now }
-dated (Some last) v now = v
+abbrev pub last_ts_set_at : Option Instant → View → Instant → View
+last_ts_set_at None v now = record v { remote_last_ts = Some now }
+last_ts_set_at (Some last) v now = v
 
 -- the moment of the last segment is now where it was forgotten
-unfoldable pub last_dated : View → Instant → View
-last_dated v now = dated v.remote_last_ts v now
+unfoldable pub last_ts_set : View → Instant → View
+last_ts_set v now = last_ts_set_at v.remote_last_ts v now
 
 -- no peer: nothing; the local address is gone: the socket is reset
 abbrev pub begun_to : Option Tuple → View → Facts → Begun
 begun_to None v f = ended v
 begun_to (Some t) v f =
-    if f.has_address t.local.addr then record { view = last_dated v (moment_of f); peer = Some t }
+    if f.has_address t.local.addr then record { view = last_ts_set v (moment_of f); peer = Some t }
     else ended (renewed v)
 
 unfoldable pub begun : View → Facts → Begun
@@ -88,10 +85,10 @@ ack_due v = is_ack_after v.remote_last_ack (next_ack v)
 unfoldable pub is_due : View → Bool
 is_due v = data_due v || ack_due v
 
--- the beginning and the reasons: with a peer, the segment of the state goes out
-abbrev pub readied_to : Option Tuple → View → Begun
-readied_to None v = ended v
-readied_to (Some t) v = record { view = v; peer = if is_due v then Some t else None }
+-- the beginning and the reasons: the socket before the emit, and the peer to whom the segment of the state goes
+abbrev pub before_emit_to : Option Tuple → View → Begun
+before_emit_to None v = ended v
+before_emit_to (Some t) v = record { view = v; peer = if is_due v then Some t else None }
 
-unfoldable pub readied : View → Facts → Begun
-readied v f = readied_to (begun v f).peer (begun v f).view
+unfoldable pub before_emit : View → Facts → Begun
+before_emit v f = before_emit_to (begun v f).peer (begun v f).view

@@ -1,12 +1,12 @@
 -- Opening calls: listen, connect, and the reset that both begin with.
-use Rattle.std.specs.Prelude.{ℕ, ◌≡◌, ◌<◌, Option, Some, None, Result, Ok, Err, Bool, true, false, ◌==◌, ◌||◌, if◌then◌else◌}
-use Rattle.ip_wire.specs.Address.{is_unspecified}
+use Rattle.std.specs.Prelude.{ℕ, ◌≡◌, ◌<◌, Option, Some, None, Result, Ok, Err, is_ok, Bool, true, false, ◌==◌, ◌||◌, if◌then◌else◌}
+use Rattle.ip_wire.specs.Address.{is_unspecified, same_version}
 use Rattle.ip_wire.specs.declared.address.IpAddress.{IpAddress}
-use Rattle.ip_wire.specs.declared.address.IpAddress.TheVariants as address
 use Rattle.ip_wire.specs.declared.endpoint.IpEndpoint.{IpEndpoint}
 use Rattle.ip_wire.specs.declared.endpoint.IpListenEndpoint.{IpListenEndpoint}
 use Rattle.control_wire.specs.Seq.{seq_of}
 use Rattle.sock_core.specs.Facts.{Facts}
+use Rattle.sock_tcp.specs.Draw.{Draws}
 use Rattle.sock_tcp.specs.Queue.{emptied}
 use Rattle.sock_tcp.specs.View.{View, fresh}
 use Rattle.sock_tcp.specs.declared.state.State.{State}
@@ -47,15 +47,12 @@ pub record Listens (v : View) (e : IpListenEndpoint) (result : Result (Unit {0})
   pub no_port : e.port ≡ 0 → (result ≡ Err listen_error.Unaddressable) × (w ≡ v)
   pub opens : 0 < e.port → is_open v.state ≡ false → (result ≡ Ok tt) × (w ≡ listened v e)
   pub again : 0 < e.port → v.state ≡ state.Listen → v.listen_endpoint ≡ e → (result ≡ Ok tt) × (w ≡ v)
-  pub other : 0 < e.port → v.state ≡ state.Listen → (v.listen_endpoint ≡ e → ⊥) → (result ≡ Err listen_error.InvalidState) × (w ≡ v)
-  pub busy : 0 < e.port → is_open v.state ≡ true → (v.state ≡ state.Listen → ⊥) → (result ≡ Err listen_error.InvalidState) × (w ≡ v)
+  pub other : 0 < e.port → v.state ≡ state.Listen → (v.listen_endpoint ≡ e → ⊥)
+      → (result ≡ Err listen_error.InvalidState) × (w ≡ v)
+  pub busy : 0 < e.port → is_open v.state ≡ true → (v.state ≡ state.Listen → ⊥)
+      → (result ≡ Err listen_error.InvalidState) × (w ≡ v)
 
 -- ---- connect
-
-abbrev pub same_version : IpAddress → IpAddress → Bool
-same_version (address.Ipv4 a) (address.Ipv4 b) = true
-same_version (address.Ipv6 a) (address.Ipv6 b) = true
-same_version _ _ = false
 
 abbrev pub no_address : Result Tuple ConnectError
 no_address = Err connect_error.Unaddressable
@@ -77,7 +74,8 @@ endpoints v f remote local =
     else (if local.port == 0 then no_address else checked_local local.addr f remote local.port))
 
 unfoldable pub connected : View → Tuple → ℕ → View
-connected v t word = record (renewed v) { state = state.SynSent; tuple = Some t; local_seq_no = seq_of word; remote_last_seq = seq_of word }
+connected v t word =
+    record (renewed v) { state = state.SynSent; tuple = Some t; local_seq_no = seq_of word; remote_last_seq = seq_of word }
 
 -- with a refusal nothing changes
 abbrev pub after_connect : Result Tuple ConnectError → View → ℕ → View
@@ -87,3 +85,10 @@ after_connect (Err e) v word = v
 abbrev pub connect_answer : Result Tuple ConnectError → Result (Unit {0}) ConnectError
 connect_answer (Ok t) = Ok tt
 connect_answer (Err e) = Err e
+
+-- the answer, the socket and the context after a call; the socket's number is the next random word
+pub record Connects {C : Type 0} (facts : C → Facts) (word_at : C → ℕ → ℕ) (v : View) (cx : C)
+    (remote : IpEndpoint) (local : IpListenEndpoint) (r : Result (Unit {0}) ConnectError) (w : View) (cx' : C) : Type 0 where
+  pub answer : r ≡ connect_answer (endpoints v (facts cx) remote local)
+  pub view : w ≡ after_connect (endpoints v (facts cx) remote local) v (word_at cx 0)
+  pub context : Draws (is_ok r) facts word_at cx cx'

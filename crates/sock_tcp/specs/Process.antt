@@ -1,16 +1,19 @@
 -- `accepts` and `process` whole.
-use Rattle.std.specs.Prelude.{ℕ, ◌≡◌, ◌<◌, List, [], length, Option, Some, None, Bool, true, false, if◌then◌else◌}
+use Rattle.std.specs.Prelude.{ℕ, ◌≡◌, ◌<◌, List, [], length, Option, Some, None, Bool, true, false, if◌then◌else◌, option_map}
 use Rattle.std.specs.Option.{ForSome}
 use Rattle.ip_wire.specs.IpHeader.{src_addr_of, dst_addr_of}
 use Rattle.ip_wire.specs.declared.endpoint.IpListenEndpoint.{IpListenEndpoint}
 use Rattle.ip_wire.specs.declared.repr.IpRepr.{IpRepr}
 use Rattle.net_base.specs.declared.time.Instant.{Instant}
-use Rattle.control_wire.specs.Segment.{Segment}
+use Rattle.control_wire.specs.Segment.{Segment, segment_of}
 use Rattle.control_wire.specs.declared.tcp.TcpControl.TheVariants as control
-use Rattle.sock_tcp.specs.View.{View}
+use Rattle.control_wire.specs.declared.tcp.TcpRepr.{TcpRepr}
+use Rattle.sock_core.specs.Facts.{Facts}
+use Rattle.sock_tcp.specs.Draw.{draws, Draws}
+use Rattle.sock_tcp.specs.View.{View, moment_of}
 use Rattle.sock_tcp.specs.Verdict.{verdict_of}
-use Rattle.sock_tcp.specs.Window.{receive_window, is_in_order}
-use Rattle.sock_tcp.specs.Steps.{Advance, acked_of, advanced, heard}
+use Rattle.sock_tcp.specs.Window.{receive_window, is_next_in_window}
+use Rattle.sock_tcp.specs.Steps.{Advance, acked_of, advanced, segment_taken}
 use Rattle.sock_tcp.specs.declared.state.State.{State}
 use Rattle.sock_tcp.specs.declared.state.State.TheVariants as state
 use Rattle.sock_tcp.specs.declared.tuple.Tuple.{Tuple}
@@ -61,7 +64,11 @@ abbrev pub stopped : View → Outcome
 stopped v = record { view = v; reply = None }
 
 abbrev pub tuple_of : IpRepr → Segment → Tuple
-tuple_of ip s = record { local = record { addr = dst_addr_of ip; port = s.dst_port }; remote = record { addr = src_addr_of ip; port = s.src_port } }
+tuple_of ip s =
+    record {
+      local = record { addr = dst_addr_of ip; port = s.dst_port };
+      remote = record { addr = src_addr_of ip; port = s.src_port };
+    }
 
 -- LISTEN and SYN-SENT have no receive window, and take no bytes
 abbrev pub has_window : State → Bool
@@ -70,16 +77,18 @@ has_window state.SynSent = false
 has_window _ = true
 
 abbrev pub after_advance : Advance → Instant → ℕ → List ℕ → Segment → Outcome
-after_advance a now n bs s = if a.goes_on then stopped (heard a.view now n bs s) else stopped a.view
+after_advance a now n bs s = stopped (if a.goes_on then segment_taken a.view now n bs s else a.view)
 
 -- the steps after the window test, for the bytes that the window takes
 unfoldable pub processed_inside : View → Instant → ℕ → List ℕ → IpRepr → Segment → Outcome
-processed_inside v now word bs ip s = after_advance (advanced v (tuple_of ip s) word s) now (acked_of v s.control s.ack_number) bs s
+processed_inside v now word bs ip s =
+    after_advance (advanced v (tuple_of ip s) word s) now (acked_of v s.control s.ack_number) bs s
 
 abbrev pub tested : Bool → View → Instant → ℕ → IpRepr → Segment → Outcome
 tested false v now word ip s = processed_inside v now word [] ip s
 tested true v now word ip s =
-    if is_in_order (receive_window v) s.seq_number (length s.payload) then processed_inside v now word s.payload ip s
+    if is_next_in_window (receive_window v) s.seq_number (length s.payload)
+    then processed_inside v now word s.payload ip s
     else stopped v
 
 -- a segment whose acknowledgement does not pass is dropped
@@ -91,3 +100,14 @@ by_verdict verdicts.Pass v now word ip s = tested (has_window v.state) v now wor
 
 unfoldable pub processed : View → Instant → ℕ → IpRepr → Segment → Outcome
 processed v now word ip s = by_verdict (verdict_of v s.control s.ack_number) v now word ip s
+
+-- a reply by value
+abbrev pub reply_of : IpRepr × TcpRepr → IpRepr × Segment
+reply_of r = (r.0, segment_of r.1)
+
+-- the socket, the reply and the context after a segment: only a SYN in LISTEN draws a random word
+pub record Processes {C : Type 0} (facts : C → Facts) (word_at : C → ℕ → ℕ) (v : View) (cx : C)
+    (ip : IpRepr) (s : Segment) (reply : Option (IpRepr × TcpRepr)) (w : View) (cx' : C) : Type 0 where
+  pub table : record { view = w; reply = option_map reply_of reply } ≡ processed v (moment_of (facts cx)) (word_at cx 0) ip s
+  pub bare : ForSome reply (λ r. r.1.payload.now ≡ [])
+  pub context : Draws (draws (verdict_of v s.control s.ack_number) v.state s.control) facts word_at cx cx'

@@ -26,17 +26,14 @@ syn_place _ = 0
 abbrev pub without_fin : State → ℕ → ℕ → ℕ
 without_fin st queue n = if (fin_place st == 1) && (n == queue + 1) then n - 1 else n
 
-abbrev pub acked_places : TcpControl → State → Option TcpSeqNumber → TcpSeqNumber → ℕ → ℕ
-acked_places control.Rst st ack una queue = 0
-acked_places _ st None una queue = 0
-acked_places _ st (Some ack) una queue = without_fin st queue (seq_sub ack una - syn_place st)
-
 -- an RST releases nothing
-unfoldable pub acked_len : TcpControl → State → Option TcpSeqNumber → TcpSeqNumber → ℕ → ℕ
-acked_len c st ack una queue = acked_places c st ack una queue
+unfoldable pub acked_len : State → TcpControl → Option TcpSeqNumber → TcpSeqNumber → ℕ → ℕ
+acked_len st control.Rst ack una n = 0
+acked_len st c None una n = 0
+acked_len st c (Some ack) una n = without_fin st n (seq_sub ack una - syn_place st)
 
 abbrev pub acked_of : View → TcpControl → Option TcpSeqNumber → ℕ
-acked_of v c ack = acked_len c v.state ack v.local_seq_no (length v.tx_buffer.bytes)
+acked_of v c ack = acked_len v.state c ack v.local_seq_no (length v.tx_buffer.bytes)
 
 -- ---- the state table
 
@@ -70,13 +67,13 @@ pub record Advance : Type 0 where
   pub view : View
   pub goes_on : Bool
 
-abbrev pub goes : View → Advance
-goes v = record { view = v; goes_on = true }
+abbrev pub continues : View → Advance
+continues v = record { view = v; goes_on = true }
 
-abbrev pub halts : View → Advance
-halts v = record { view = v; goes_on = false }
+abbrev pub stops : View → Advance
+stops v = record { view = v; goes_on = false }
 
--- a SYN in LISTEN: the peer is known, and the own number is the word that was drawn
+-- a SYN in LISTEN: the peer is known, and the own initial number is the word that was drawn
 unfoldable pub syn_received : View → Tuple → ℕ → Segment → View
 syn_received v t word s =
     record (options_taken v s) {
@@ -95,29 +92,23 @@ syn_answered v s =
       remote_last_ack = Some s.seq_number;
     }
 
-abbrev pub answered_by : Option TcpSeqNumber → View → Segment → Advance
-answered_by None v s = halts v
-answered_by (Some ack) v s = goes (syn_answered v s)
+-- a SYN in SYN-SENT, with an acknowledgement of the own SYN, or without
+abbrev pub syn_sent_advance : Option TcpSeqNumber → View → Segment → Advance
+syn_sent_advance None v s = stops v
+syn_sent_advance (Some ack) v s = continues (syn_answered v s)
 
-abbrev pub syn_advance : State → View → Tuple → ℕ → Segment → Advance
-syn_advance state.Listen v t word s = goes (syn_received v t word s)
-syn_advance state.SynSent v t word s = answered_by s.ack_number v s
-syn_advance _ v t word s = halts v
-
-abbrev pub plain_advance : State → View → Advance
-plain_advance state.SynReceived v = goes (record v { state = state.Established })
-plain_advance state.Established v = goes v
-plain_advance _ v = halts v
-
-abbrev pub advance_by : TcpControl → View → Tuple → ℕ → Segment → Advance
-advance_by control.Syn v t word s = syn_advance v.state v t word s
-advance_by control.None v t word s = plain_advance v.state v
-advance_by control.Psh v t word s = plain_advance v.state v
-advance_by control.Fin v t word s = halts v
-advance_by control.Rst v t word s = halts v
+-- the state table: by state, then by control
+abbrev pub advance_in : State → TcpControl → View → Tuple → ℕ → Segment → Advance
+advance_in state.Listen control.Syn v t word s = continues (syn_received v t word s)
+advance_in state.SynSent control.Syn v t word s = syn_sent_advance s.ack_number v s
+advance_in state.SynReceived control.None v t word s = continues (record v { state = state.Established })
+advance_in state.SynReceived control.Psh v t word s = continues (record v { state = state.Established })
+advance_in state.Established control.None v t word s = continues v
+advance_in state.Established control.Psh v t word s = continues v
+advance_in _ _ v t word s = stops v
 
 unfoldable pub advanced : View → Tuple → ℕ → Segment → Advance
-advanced v t word s = advance_by s.control v t word s
+advanced v t word s = advance_in v.state s.control v t word s
 
 -- ---- the peer's window
 
@@ -131,26 +122,28 @@ window_of control.Syn w scale = w
 window_of _ w scale = w * 2 ^ scale_of scale
 
 unfoldable pub window_taken : View → Instant → TcpControl → ℕ → View
-window_taken v now c w = record v { remote_last_ts = Some now; remote_win_len = window_of c w v.remote_win_scale }
+window_taken v now c w =
+    record v { remote_last_ts = Some now; remote_win_len = window_of c w v.remote_win_scale }
 
 -- ---- the acknowledged bytes leave, and SND.UNA moves
 
 unfoldable pub released : View → ℕ → View
 released v n = record v { tx_buffer = shortened v.tx_buffer n }
 
-abbrev pub noted_at : View → Option TcpSeqNumber → View
-noted_at v None = v
-noted_at v (Some ack) = record v { local_seq_no = ack; remote_last_seq = later_of v.remote_last_seq ack }
+abbrev pub una_advanced_to : View → Option TcpSeqNumber → View
+una_advanced_to v None = v
+una_advanced_to v (Some ack) = record v { local_seq_no = ack; remote_last_seq = later_of v.remote_last_seq ack }
 
-unfoldable pub noted : View → Option TcpSeqNumber → View
-noted v ack = noted_at v ack
+unfoldable pub una_advanced : View → Option TcpSeqNumber → View
+una_advanced v ack = una_advanced_to v ack
 
 -- ---- the bytes join the queue
 
 unfoldable pub joined : View → List ℕ → View
 joined v bs = record v { rx_buffer = appended v.rx_buffer bs }
 
--- ---- from the peer's window on: n bytes are acknowledged, and bs came
+-- ---- the steps behind the state table: n bytes are acknowledged, and bs came
 
-unfoldable pub heard : View → Instant → ℕ → List ℕ → Segment → View
-heard v now n bs s = joined (noted (released (window_taken v now s.control s.window_len) n) s.ack_number) bs
+unfoldable pub segment_taken : View → Instant → ℕ → List ℕ → Segment → View
+segment_taken v now n bs s =
+    joined (una_advanced (released (window_taken v now s.control s.window_len) n) s.ack_number) bs

@@ -18,39 +18,28 @@ fin_place state.Closing = 1
 fin_place state.LastAck = 1
 fin_place _ = 0
 
-abbrev pub reset_verdict : State → Option TcpSeqNumber → TcpSeqNumber → Verdict
-reset_verdict state.SynSent None next = verdicts.Drop
-reset_verdict state.SynSent (Some ack) next = if seq_eq ack next then verdicts.Pass else verdicts.Drop
-reset_verdict _ ack next = verdicts.Pass
-
-abbrev pub syn_sent_verdict : TcpControl → Option TcpSeqNumber → TcpSeqNumber → Verdict
-syn_sent_verdict control.Syn None next = verdicts.Pass
-syn_sent_verdict control.Syn (Some ack) next = if seq_eq ack next then verdicts.Pass else verdicts.Reset
-syn_sent_verdict control.None None next = verdicts.Drop
-syn_sent_verdict control.None (Some ack) next = if seq_eq ack next then verdicts.Drop else verdicts.Reset
-syn_sent_verdict _ ack next = verdicts.Drop
-
-abbrev pub open_verdict : State → TcpSeqNumber → ℕ → TcpSeqNumber → Verdict
-open_verdict st una queue ack =
+-- in a state whose SYN is acknowledged: before SND.UNA, behind all that was given to the socket, or between
+abbrev pub open_verdict : State → TcpSeqNumber → TcpSeqNumber → ℕ → Verdict
+open_verdict st ack una n =
     if is_before ack una then verdicts.Drop
-    else (if is_before (seq_add una (queue + fin_place st)) ack then verdicts.Challenge else verdicts.Pass)
+    else (if is_before (seq_add una (n + fin_place st)) ack then verdicts.Challenge else verdicts.Pass)
 
-abbrev pub state_verdict : State → TcpControl → Option TcpSeqNumber → TcpSeqNumber → ℕ → Verdict
-state_verdict state.Listen c None una queue = verdicts.Pass
-state_verdict state.Listen c (Some ack) una queue = verdicts.Drop
-state_verdict state.SynSent c ack una queue = syn_sent_verdict c ack (seq_add una 1)
-state_verdict state.SynReceived c None una queue = verdicts.Drop
-state_verdict state.SynReceived c (Some ack) una queue = if seq_eq ack (seq_add una 1) then verdicts.Pass else verdicts.Reset
-state_verdict _ c None una queue = verdicts.Drop
-state_verdict st c (Some ack) una queue = open_verdict st una queue ack
-
-abbrev pub control_verdict : TcpControl → State → Option TcpSeqNumber → TcpSeqNumber → ℕ → Verdict
-control_verdict control.Rst st ack una queue = reset_verdict st ack (seq_add una 1)
-control_verdict c st ack una queue = state_verdict st c ack una queue
-
-unfoldable pub verdict_at : TcpControl → State → Option TcpSeqNumber → TcpSeqNumber → ℕ → Verdict
-verdict_at c st ack una queue = control_verdict c st ack una queue
+-- the verdict, where SND.UNA is una and n bytes wait in the transmit queue; the first row that fits
+unfoldable pub verdict_at : State → TcpControl → Option TcpSeqNumber → TcpSeqNumber → ℕ → Verdict
+verdict_at state.SynSent control.Rst None una n = verdicts.Drop
+verdict_at state.SynSent control.Rst (Some ack) una n = if seq_eq ack (seq_add una 1) then verdicts.Pass else verdicts.Drop
+verdict_at _ control.Rst ack una n = verdicts.Pass
+verdict_at state.Listen c None una n = verdicts.Pass
+verdict_at state.Listen c (Some ack) una n = verdicts.Drop
+verdict_at state.SynSent control.Syn None una n = verdicts.Pass
+verdict_at state.SynSent control.Syn (Some ack) una n = if seq_eq ack (seq_add una 1) then verdicts.Pass else verdicts.Reset
+verdict_at state.SynSent control.None None una n = verdicts.Drop
+verdict_at state.SynSent control.None (Some ack) una n = if seq_eq ack (seq_add una 1) then verdicts.Drop else verdicts.Reset
+verdict_at state.SynSent c ack una n = verdicts.Drop
+verdict_at st c None una n = verdicts.Drop
+verdict_at state.SynReceived c (Some ack) una n = if seq_eq ack (seq_add una 1) then verdicts.Pass else verdicts.Reset
+verdict_at st c (Some ack) una n = open_verdict st ack una n
 
 -- the verdict on a segment, which reads the state, SND.UNA and the transmit queue alone
 abbrev pub verdict_of : View → TcpControl → Option TcpSeqNumber → Verdict
-verdict_of v c ack = verdict_at c v.state ack v.local_seq_no (length v.tx_buffer.bytes)
+verdict_of v c ack = verdict_at v.state c ack v.local_seq_no (length v.tx_buffer.bytes)

@@ -6,6 +6,7 @@ use Rattle.ip_wire.specs.declared.endpoint.IpListenEndpoint.{IpListenEndpoint}
 use Rattle.net_base.specs.declared.time.Instant.{Instant}
 use Rattle.control_wire.specs.declared.seq_number.TcpSeqNumber.{TcpSeqNumber}
 use Rattle.control_wire.specs.Seq.{seq_of}
+use Rattle.sock_core.specs.Facts.{Facts}
 use Rattle.sock_tcp.specs.Queue.{Queue, capacity}
 use Rattle.sock_tcp.specs.declared.state.State.{State}
 use Rattle.sock_tcp.specs.declared.state.State.TheVariants as state
@@ -28,6 +29,10 @@ pub record View : Type 0 where
   pub remote_has_sack : Bool
   pub remote_mss : ℕ
   pub remote_last_ts : Option Instant  -- when the last segment came
+
+-- the moment that a context tells
+abbrev pub moment_of : Facts → Instant
+moment_of f = record { micros = f.now }
 
 -- the bits that write a capacity, less 16, at most 14
 abbrev pub shift_of : ℕ → ℕ

@@ -17,11 +17,13 @@ kept_between start limit edge = if is_before edge start then start else (if is_b
 -- the right edge: the last acknowledgement sent plus the last window sent, but neither before the left edge nor past the free space
 abbrev pub window_end : View → Option TcpSeqNumber → TcpSeqNumber
 window_end v None = next_ack v
-window_end v (Some ack) = kept_between (next_ack v) (seq_add (next_ack v) v.rx_buffer.window) (seq_add ack (v.remote_last_win * 2 ^ v.remote_win_shift))
+window_end v (Some ack) =
+    kept_between (next_ack v) (seq_add (next_ack v) v.rx_buffer.window)
+    (seq_add ack (v.remote_last_win * 2 ^ v.remote_win_shift))
 
 unfoldable pub receive_window : View → Window
 receive_window v = record { start = next_ack v; end = window_end v v.remote_last_ack }
 
 -- a segment starts at the left edge, and its n bytes end at or before the right edge
-unfoldable pub is_in_order : Window → TcpSeqNumber → ℕ → Bool
-is_in_order w number n = seq_eq number w.start && nat_le n (seq_sub w.end w.start)
+unfoldable pub is_next_in_window : Window → TcpSeqNumber → ℕ → Bool
+is_next_in_window w number n = seq_eq number w.start && nat_le n (seq_sub w.end w.start)

@@ -1,10 +1,10 @@
-// What a dispatch emits (RFC 9293, sections 3.1, 3.7 and 3.8).
+//! What a dispatch emits (RFC 9293, sections 3.1, 3.7 and 3.8).
 ghost use Rattle.std.specs.Prelude.{◌≡◌, ℕ, ◌≤◌, ◌<◌, ◌^◌, false, List, length, drop, min, option_map, IfSome};
 ghost use Rattle.ip_wire.specs.Address.{SameVersion};
 ghost use Rattle.control_wire.specs.Segment.{segment_of};
 ghost use Rattle.sock_tcp.specs.Queue.{IsLent};
 ghost use Rattle.sock_tcp.specs.Due.{flight};
-ghost use Rattle.sock_tcp.specs.Content.{carries_data, window_left, asked, window_field, plain_segment, filled, data_control, with_data, ip_of, content};
+ghost use Rattle.sock_tcp.specs.Content.{carries_data, window_left, asked, window_field, plain_segment, filled, data_control, with_syn, syn, syn_ack, with_data, ip_of, content};
 ghost use Rattle.sock_tcp.specs.Outgoing.{sending_of};
 
 use crate::control_block::ControlBlock;
@@ -58,7 +58,7 @@ impl<'a> ControlBlock<'a> {
     }
 
     #[tactic(auto, unfolding(crate::specs::Content::plain_segment))]
-    fn plain(&self, tuple: &Tuple) -> TcpRepr<'static>
+    fn plain<'s>(&self, tuple: &Tuple) -> TcpRepr<'s>
         ensures segment { segment_of result ≡ plain_segment self.now tuple.now }
         ensures empty { length result.payload.now ≡ 0 }
     {
@@ -110,41 +110,43 @@ impl<'a> ControlBlock<'a> {
         }
     }
 
-    // A segment of a state that sends no data.
-    fn without_data<C: Context>(
-        &self,
-        cx: &C,
-        tuple: &Tuple,
-        plain: &TcpRepr<'static>,
-    ) -> Option<TcpRepr<'static>>
-        requires state { carries_data self.now.state ≡ false }
-        requires small { length plain.now.payload.now ≤ 65535 }
-        ensures segment { (bytes : List ℕ) → option_map segment_of result ≡ filled self.now.state self.now tuple.now (C.facts cx.now) bytes (segment_of plain.now) }
-        ensures small { IfSome result (λ r. length r.payload.now ≤ 65535) }
+    fn with_syn<'s, C: Context>(&self, cx: &C, tuple: &Tuple, plain: &TcpRepr<'s>) -> TcpRepr<'s>
+        ensures segment { segment_of result ≡ with_syn self.now tuple.now (C.facts cx.now) (segment_of plain.now) }
+        ensures payload { length result.payload.now ≡ length plain.now.payload.now }
     {
         let mut repr = *plain;
         repr.control = TcpControl::Syn;
         repr.seq_number = self.local_seq_no;
         repr.window_len = self.unscaled_window();
         repr.max_seg_size = Some(own_mss(cx, tuple) as u16);
-        match self.state {
-            State::SynSent => {
-                repr.ack_number = None;
-                repr.window_scale = Some(self.remote_win_shift);
-                repr.sack_permitted = true;
-            }
-            State::SynReceived => {
-                repr.window_scale = match self.remote_win_scale {
-                    None => None,
-                    Some(_) => Some(self.remote_win_shift),
-                };
-                repr.sack_permitted = self.remote_has_sack;
-            }
-            _ => return None,
-        }
-        Some(repr)
+        repr
     }
 
+    fn syn<'s, C: Context>(&self, cx: &C, tuple: &Tuple, plain: &TcpRepr<'s>) -> TcpRepr<'s>
+        ensures segment { segment_of result ≡ syn self.now tuple.now (C.facts cx.now) (segment_of plain.now) }
+        ensures payload { length result.payload.now ≡ length plain.now.payload.now }
+    {
+        let mut repr = self.with_syn(cx, tuple, plain);
+        repr.ack_number = None;
+        repr.window_scale = Some(self.remote_win_shift);
+        repr.sack_permitted = true;
+        repr
+    }
+
+    fn syn_ack<'s, C: Context>(&self, cx: &C, tuple: &Tuple, plain: &TcpRepr<'s>) -> TcpRepr<'s>
+        ensures segment { segment_of result ≡ syn_ack self.now tuple.now (C.facts cx.now) (segment_of plain.now) }
+        ensures payload { length result.payload.now ≡ length plain.now.payload.now }
+    {
+        let mut repr = self.with_syn(cx, tuple, plain);
+        repr.window_scale = match self.remote_win_scale {
+            None => None,
+            Some(_) => Some(self.remote_win_shift),
+        };
+        repr.sack_permitted = self.remote_has_sack;
+        repr
+    }
+
+    // The segment of the state.
     fn filled<'s, C: Context>(
         &self,
         cx: &C,
@@ -156,10 +158,12 @@ impl<'a> ControlBlock<'a> {
         ensures small { IfSome result (λ r. length r.payload.now ≤ 65535) }
     {
         let plain = self.plain(tuple);
-        if self.carries_data() {
-            return Some(self.with_data(&plain, payload));
+        match self.state {
+            State::SynSent => Some(self.syn(cx, tuple, &plain)),
+            State::SynReceived => Some(self.syn_ack(cx, tuple, &plain)),
+            State::Established | State::CloseWait => Some(self.with_data(&plain, payload)),
+            _ => None,
         }
-        self.without_data(cx, tuple, &plain)
     }
 
     // The segment of the state, with this payload.

@@ -1,9 +1,8 @@
-// `dispatch`.
+//! `dispatch` (RFC 9293, section 3.8).
 ghost use Rattle.std.specs.Prelude.{◌≡◌, ◌≤◌, ◌<◌, ◌^◌, length};
 ghost use Rattle.control_wire.specs.Segment.{segment_of};
 ghost use Rattle.ip_wire.specs.Address.{SameVersion};
-ghost use Rattle.sock_tcp.specs.Due.{readied};
-ghost use Rattle.sock_tcp.specs.Dispatch.{sent, end_of, EmitsDue, Dispatched};
+ghost use Rattle.sock_tcp.specs.Dispatch.{sent, after_emit, end_of, EmitsDue, Dispatches};
 
 use crate::control_block::ControlBlock;
 use crate::tuple::Tuple;
@@ -21,14 +20,16 @@ fn end_of(repr: &TcpRepr<'_>) -> TcpSeqNumber
 }
 
 impl<'a> ControlBlock<'a> {
-    // What an emit that answered Ok changes.
+    // What an emit leaves: where it failed, the socket is as it was.
     #[tactic(auto, unfolding(crate::specs::Dispatch::sent))]
-    fn note_sent(&mut self, end: TcpSeqNumber, ack: Option<TcpSeqNumber>, window: u16)
-        ensures { self.new ≡ sent self.old end ack window }
+    fn after_emit(&mut self, ok: bool, end: TcpSeqNumber, ack: Option<TcpSeqNumber>, window: u16)
+        ensures { self.new ≡ after_emit ok self.old end ack window }
     {
-        self.remote_last_seq = later(self.remote_last_seq, end);
-        self.remote_last_ack = ack;
-        self.remote_last_win = window;
+        if ok {
+            self.remote_last_seq = later(self.remote_last_seq, end);
+            self.remote_last_ack = ack;
+            self.remote_last_win = window;
+        }
     }
 
     // The one call of `emit`, if the state emits at all.
@@ -40,7 +41,7 @@ impl<'a> ControlBlock<'a> {
     ) -> Result<(), E>
         requires callable { F.IsAlwaysCallable emit }
         requires versions { SameVersion tuple.now.local.addr tuple.now.remote.addr }
-        ensures { EmitsDue F.FnOnce emit self.old tuple.now (C.facts cx.old) cx.old result cx.new self.new }
+        ensures { EmitsDue F.FnOnce emit (C.facts cx.old) tuple.now self.old cx.old result self.new cx.new }
     {
         let payload = self.payload(cx, tuple);
         let outgoing = match self.content(cx, tuple, payload) {
@@ -50,24 +51,21 @@ impl<'a> ControlBlock<'a> {
         let end = end_of(&outgoing.1);
         let ack = outgoing.1.ack_number;
         let window = outgoing.1.window_len;
-        match emit(cx, outgoing) {
-            Ok(()) => {
-                self.note_sent(end, ack, window);
-                Ok(())
-            }
-            Err(e) => Err(e),
-        }
+        let result = emit(cx, outgoing);
+        self.after_emit(result.is_ok(), end, ack, window);
+        result
     }
 
+    #[tactic(auto, using(crate::proofs::Emitting::quiet))]
     pub(crate) fn dispatch<
         C: Context,
         E,
         F: FnOnce(&mut C, (IpRepr, TcpRepr<'_>)) -> Result<(), E>,
     >(&mut self, cx: &mut C, emit: F) -> Result<(), E>
         requires callable { F.IsAlwaysCallable emit }
-        ensures { Dispatched F.FnOnce emit (readied self.old (C.facts cx.old)) (C.facts cx.old) cx.old result cx.new self.new }
+        ensures { Dispatches F.FnOnce emit (C.facts cx.old) self.old cx.old result self.new cx.new }
     {
-        match self.ready(cx) {
+        match self.before_emit(cx) {
             None => Ok(()),
             Some(tuple) => self.emit_due(cx, &tuple, emit),
         }

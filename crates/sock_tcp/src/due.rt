@@ -1,8 +1,8 @@
-// How a dispatch begins, and whether it has anything to send (RFC 9293, section 3.8).
+//! How a dispatch begins, and whether it has anything to send (RFC 9293, section 3.8).
 ghost use Rattle.std.specs.Prelude.{◌≡◌, ◌≤◌, ◌<◌, ◌^◌, length};
 ghost use Rattle.std.specs.Option.{ForSome};
 ghost use Rattle.ip_wire.specs.Address.{SameVersion};
-ghost use Rattle.sock_tcp.specs.Due.{begun, last_dated, own_mss, effective_mss, flight, sendable, is_opening, data_due, ack_due, is_due, readied};
+ghost use Rattle.sock_tcp.specs.Due.{begun, last_ts_set, own_mss, effective_mss, flight, sendable, is_opening, data_due, ack_due, is_due, before_emit};
 
 use crate::control_block::ControlBlock;
 use crate::state::State;
@@ -78,9 +78,9 @@ impl<'a> ControlBlock<'a> {
         self.data_due() || self.ack_due()
     }
 
-    #[tactic(auto, unfolding(crate::specs::Due::last_dated))]
-    fn date_last(&mut self, now: Instant)
-        ensures { self.new ≡ last_dated self.old now }
+    #[tactic(auto, unfolding(crate::specs::Due::last_ts_set))]
+    fn set_last_ts(&mut self, now: Instant)
+        ensures { self.new ≡ last_ts_set self.old now }
     {
         if self.remote_last_ts.is_none() {
             self.remote_last_ts = Some(now);
@@ -101,14 +101,14 @@ impl<'a> ControlBlock<'a> {
             self.reset();
             return None;
         }
-        self.date_last(cx.now());
+        self.set_last_ts(cx.now());
         Some(tuple)
     }
 
     // The beginning and the reasons: the peer, where a segment goes out.
-    #[tactic(auto, unfolding(crate::specs::Due::readied))]
-    pub(crate) fn ready<C: Context>(&mut self, cx: &C) -> Option<Tuple>
-        ensures table { record { view = self.new; peer = result } ≡ readied self.old (C.facts cx.now) }
+    #[tactic(auto, unfolding(crate::specs::Due::before_emit))]
+    pub(crate) fn before_emit<C: Context>(&mut self, cx: &C) -> Option<Tuple>
+        ensures table { record { view = self.new; peer = result } ≡ before_emit self.old (C.facts cx.now) }
         ensures versions { ForSome result (λ t. SameVersion t.local.addr t.remote.addr) }
     {
         match self.begin(cx) {

@@ -1,10 +1,9 @@
 // Opening a connection: listen, connect, and the reset that both begin with (RFC 9293, section 3.10.1).
-ghost use Rattle.std.specs.Prelude.{◌≡◌, ◌+◌, ◌≤◌, ◌^◌, length, is_ok};
-ghost use Rattle.ip_wire.specs.Address.{SameVersion};
+ghost use Rattle.std.specs.Prelude.{◌≡◌, ◌+◌, ◌≤◌, ◌^◌, length};
+ghost use Rattle.ip_wire.specs.Address.{SameVersion, same_version};
 ghost use Rattle.sock_tcp.specs.Queue.{queue_of};
 ghost use Rattle.sock_tcp.specs.View.{fresh};
-ghost use Rattle.sock_tcp.specs.Opening.{is_open, is_listening, renewed, listened, Listens, same_version, checked_source, checked_local, endpoints, connected, after_connect, connect_answer};
-ghost use Rattle.sock_tcp.specs.Draw.{Draws};
+ghost use Rattle.sock_tcp.specs.Opening.{is_open, is_listening, renewed, listened, Listens, checked_source, checked_local, endpoints, connected, after_connect, connect_answer, Connects};
 
 use crate::control_block::ControlBlock;
 use crate::error::{ConnectError, ListenError};
@@ -15,11 +14,6 @@ use control_wire::TcpSeqNumber;
 use ip_wire::{IpAddress, IpEndpoint, IpListenEndpoint};
 use net_base::ring_buffer::RingBuffer;
 use sock_core::Context;
-
-const NO_ENDPOINT: IpListenEndpoint = IpListenEndpoint {
-    addr: None,
-    port: 0,
-};
 
 // What a peer is taken to accept before it said more (RFC 9293, section 3.7.1).
 const DEFAULT_MSS: usize = 536;
@@ -39,7 +33,7 @@ impl<'a> ControlBlock<'a> {
             state: State::Closed,
             rx_buffer,
             tx_buffer,
-            listen_endpoint: NO_ENDPOINT,
+            listen_endpoint: IpListenEndpoint::default(),
             tuple: None,
             local_seq_no: TcpSeqNumber(0),
             remote_seq_no: TcpSeqNumber(0),
@@ -62,7 +56,7 @@ impl<'a> ControlBlock<'a> {
         self.state = State::Closed;
         self.rx_buffer.clear();
         self.tx_buffer.clear();
-        self.listen_endpoint = NO_ENDPOINT;
+        self.listen_endpoint = IpListenEndpoint::default();
         self.tuple = None;
         self.local_seq_no = TcpSeqNumber(0);
         self.remote_seq_no = TcpSeqNumber(0);
@@ -154,9 +148,7 @@ impl<'a> ControlBlock<'a> {
         remote: IpEndpoint,
         local: IpListenEndpoint,
     ) -> Result<(), ConnectError>
-        ensures answer { result ≡ connect_answer (endpoints self.old (C.facts cx.old) remote local) }
-        ensures view { self.new ≡ after_connect (endpoints self.old (C.facts cx.old) remote local) self.old (C.word_at cx.old 0) }
-        ensures context { Draws (is_ok result) C.facts C.word_at cx.old cx.new }
+        ensures { Connects C.facts C.word_at self.old cx.old remote local result self.new cx.new }
     {
         match self.endpoints(cx, remote, local) {
             Err(e) => Err(e),
@@ -180,7 +172,7 @@ fn checked_source(
     match source {
         None => Err(ConnectError::Unaddressable),
         Some(addr) => {
-            if !is_same_version(&addr, &remote.addr) {
+            if addr.version() != remote.addr.version() {
                 return Err(ConnectError::Unaddressable);
             }
             Ok(Tuple {
@@ -188,14 +180,5 @@ fn checked_source(
                 remote,
             })
         }
-    }
-}
-
-fn is_same_version(a: &IpAddress, b: &IpAddress) -> bool
-    ensures { result ≡ same_version a.now b.now }
-{
-    match (a, b) {
-        (IpAddress::Ipv4(_), IpAddress::Ipv4(_)) | (IpAddress::Ipv6(_), IpAddress::Ipv6(_)) => true,
-        _ => false,
     }
 }

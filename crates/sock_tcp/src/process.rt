@@ -1,4 +1,4 @@
-// `accepts` and `process` (RFC 9293, section 3.10.7).
+//! `accepts` and `process` (RFC 9293, section 3.10.7).
 ghost use Rattle.std.specs.Prelude.{◌≡◌, ◌≤◌, ◌↔◌, IsTrue, length, option_map, [], None};
 ghost use Rattle.std.specs.Option.{ForSome};
 ghost use Rattle.control_wire.specs.Segment.{segment_of};
@@ -6,7 +6,7 @@ ghost use Rattle.sock_tcp.specs.Same.{SameQueues};
 ghost use Rattle.sock_tcp.specs.Verdict.{verdict_of};
 ghost use Rattle.sock_tcp.specs.Steps.{advanced};
 ghost use Rattle.sock_tcp.specs.declared.verdict.Verdict.TheVariants.{Pass};
-ghost use Rattle.sock_tcp.specs.Process.{IsBetween, IsToListener, IsAddressed, Opens, Accepts, tuple_of, has_window, processed_inside, tested, processed};
+ghost use Rattle.sock_tcp.specs.Process.{IsBetween, IsToListener, IsAddressed, Opens, Accepts, tuple_of, has_window, stopped, processed_inside, tested, processed, Processes};
 ghost use Rattle.sock_tcp.specs.Draw.{draws, Draws};
 
 use crate::control_block::ControlBlock;
@@ -100,24 +100,24 @@ impl<'a> ControlBlock<'a> {
         ensures queues { SameQueues self.old self.new }
         ensures context { Draws (draws Pass self.old.state repr.now.control) C.facts C.word_at cx.old cx.new }
     {
-        match (repr.control, self.state) {
-            (TcpControl::Syn, State::Listen) => {
+        match (self.state, repr.control) {
+            (State::Listen, TcpControl::Syn) => {
                 let word = cx.rand_u32();
                 self.receive_syn(Tuple::of_segment(ip_repr, repr), word, repr);
                 true
             }
-            (TcpControl::Syn, State::SynSent) => {
-                if repr.ack_number.is_none() {
-                    return false;
+            (State::SynSent, TcpControl::Syn) => match repr.ack_number {
+                None => false,
+                Some(_) => {
+                    self.take_syn_answer(repr);
+                    true
                 }
-                self.take_syn_answer(repr);
-                true
-            }
-            (TcpControl::None | TcpControl::Psh, State::SynReceived) => {
+            },
+            (State::SynReceived, TcpControl::None | TcpControl::Psh) => {
                 self.state = State::Established;
                 true
             }
-            (TcpControl::None | TcpControl::Psh, State::Established) => true,
+            (State::Established, TcpControl::None | TcpControl::Psh) => true,
             _ => false,
         }
     }
@@ -134,12 +134,12 @@ impl<'a> ControlBlock<'a> {
     )
         requires passed { verdict_of self.old repr.now.control repr.now.ack_number ≡ Pass }
         requires fits { length bytes.now ≤ self.old.rx_buffer.window }
-        ensures table { record { view = self.new; reply = None } ≡ processed_inside self.old now (C.word_at cx.old 0) bytes.now ip_repr.now (segment_of repr.now) }
+        ensures table { stopped self.new ≡ processed_inside self.old now (C.word_at cx.old 0) bytes.now ip_repr.now (segment_of repr.now) }
         ensures context { Draws (draws Pass self.old.state repr.now.control) C.facts C.word_at cx.old cx.new }
     {
         let count = self.passed_len(repr.control, repr.ack_number);
         if self.advance(cx, ip_repr, repr) {
-            self.hear(now, count, bytes, repr);
+            self.take_segment(now, count, bytes, repr);
         }
     }
 
@@ -152,7 +152,7 @@ impl<'a> ControlBlock<'a> {
         repr: &TcpRepr<'_>,
     )
         requires passed { verdict_of self.old repr.now.control repr.now.ack_number ≡ Pass }
-        ensures table { record { view = self.new; reply = None } ≡ tested (has_window self.old.state) self.old now (C.word_at cx.old 0) ip_repr.now (segment_of repr.now) }
+        ensures table { stopped self.new ≡ tested (has_window self.old.state) self.old now (C.word_at cx.old 0) ip_repr.now (segment_of repr.now) }
         ensures context { Draws (draws Pass self.old.state repr.now.control) C.facts C.word_at cx.old cx.new }
     {
         if !self.has_window() {
@@ -161,7 +161,7 @@ impl<'a> ControlBlock<'a> {
         }
         if self
             .receive_window()
-            .is_in_order(repr.seq_number, repr.payload.len())
+            .is_next_in_window(repr.seq_number, repr.payload.len())
         {
             self.process_inside(cx, now, repr.payload, ip_repr, repr);
         }
@@ -174,9 +174,7 @@ impl<'a> ControlBlock<'a> {
         ip_repr: &IpRepr,
         repr: &TcpRepr<'_>,
     ) -> Option<Reply>
-        ensures table { record { view = self.new; reply = option_map (λ r. (r.0, segment_of r.1)) result } ≡ processed self.old (record { micros = (C.facts cx.old).now }) (C.word_at cx.old 0) ip_repr.now (segment_of repr.now) }
-        ensures bare { ForSome result (λ r. r.1.payload.now ≡ []) }
-        ensures context { Draws (draws (verdict_of self.old repr.now.control repr.now.ack_number) self.old.state repr.now.control) C.facts C.word_at cx.old cx.new }
+        ensures { Processes C.facts C.word_at self.old cx.old ip_repr.now (segment_of repr.now) result self.new cx.new }
     {
         let now = cx.now();
         match self.verdict(repr.control, repr.ack_number) {

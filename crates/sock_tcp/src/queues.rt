@@ -1,6 +1,6 @@
-// Reading and writing the byte queues (RFC 9293, sections 3.10.2 and 3.10.3).
-ghost use Rattle.std.specs.Prelude.{◌≡◌, ◌≤◌, ◌^◌, ◌++◌, length, take, drop, min, IfOk, OnErr, Ok, Err, if◌then◌else◌};
-ghost use Rattle.sock_tcp.specs.Queues.{may_send, can_send, receives, may_recv, can_recv, written, read_off};
+//! Reading and writing the byte queues (RFC 9293, sections 3.10.2 and 3.10.3).
+ghost use Rattle.std.specs.Prelude.{◌≡◌, ◌≤◌, ◌^◌, length};
+ghost use Rattle.sock_tcp.specs.Queues.{may_send, can_send, receives, may_recv, can_recv, written, Sends, read_off, Reads};
 
 use crate::control_block::ControlBlock;
 use crate::error::{RecvError, SendError};
@@ -42,22 +42,23 @@ impl<'a> ControlBlock<'a> {
 
     #[tactic(auto, unfolding(crate::specs::Queues::written))]
     pub(crate) fn send_slice(&mut self, data: &[u8]) -> Result<usize, SendError>
-        ensures answer { result ≡ (if may_send self.old.state then Ok (min (length «data».now) self.old.tx_buffer.window) else Err SendError.InvalidState) }
-        ensures view { self.new ≡ (if may_send self.old.state then written self.old «data».now else self.old) }
+        ensures table { Sends self.old «data».now result self.new }
         ensures small { length self.new.tx_buffer.bytes ≤ 2 ^ 30 }
     {
         if !self.may_send() {
             return Err(SendError::InvalidState);
         }
-        Ok(self.tx_buffer.enqueue_slice(data))
+        let was_empty = self.tx_buffer.is_empty();
+        let count = self.tx_buffer.enqueue_slice(data);
+        if was_empty && count != 0 {
+            self.remote_last_ts = None;
+        }
+        Ok(count)
     }
 
     #[tactic(auto, unfolding(crate::specs::Queues::read_off))]
     pub(crate) fn recv_slice(&mut self, data: &mut [u8]) -> Result<usize, RecvError>
-        ensures answer { result ≡ (if may_recv self.old then Ok (min (length «data».old) (length self.old.rx_buffer.bytes)) else Err RecvError.InvalidState) }
-        ensures view { self.new ≡ (if may_recv self.old then read_off self.old (min (length «data».old) (length self.old.rx_buffer.bytes)) else self.old) }
-        ensures read { IfOk result (λ n. «data».new ≡ take n self.old.rx_buffer.bytes ++ drop n «data».old) }
-        ensures refused { OnErr result («data».new ≡ «data».old) }
+        ensures { Reads self.old «data».old result self.new «data».new }
     {
         if !self.may_recv() {
             return Err(RecvError::InvalidState);

@@ -1,16 +1,12 @@
-// The TCP socket as its users see it.
-ghost use Rattle.std.specs.Prelude.{◌≡◌, ◌≤◌, ◌^◌, ◌+◌, ◌++◌, ◌↔◌, IsTrue, length, take, drop, min, option_map, [], Ok, Err, IfOk, OnErr, is_ok, if◌then◌else◌};
-ghost use Rattle.std.specs.Option.{ForSome};
+//! The TCP socket as its users see it.
+ghost use Rattle.std.specs.Prelude.{◌≡◌, ◌≤◌, ◌^◌, ◌+◌, ◌↔◌, IsTrue, length, option_map};
 ghost use Rattle.control_wire.specs.Segment.{segment_of};
 ghost use Rattle.sock_tcp.specs.Queue.{queue_of, capacity};
 ghost use Rattle.sock_tcp.specs.View.{fresh};
-ghost use Rattle.sock_tcp.specs.Opening.{is_listening, is_open, is_active, Listens, endpoints, connect_answer, after_connect};
-ghost use Rattle.sock_tcp.specs.Queues.{may_send, can_send, may_recv, can_recv, written, read_off};
-ghost use Rattle.sock_tcp.specs.Verdict.{verdict_of};
-ghost use Rattle.sock_tcp.specs.Process.{Accepts, processed};
-ghost use Rattle.sock_tcp.specs.Draw.{draws, Draws};
-ghost use Rattle.sock_tcp.specs.Due.{readied};
-ghost use Rattle.sock_tcp.specs.Dispatch.{Dispatched};
+ghost use Rattle.sock_tcp.specs.Opening.{is_listening, is_open, is_active, Listens, Connects};
+ghost use Rattle.sock_tcp.specs.Queues.{may_send, can_send, may_recv, can_recv, Sends, Reads};
+ghost use Rattle.sock_tcp.specs.Process.{Accepts, Processes};
+ghost use Rattle.sock_tcp.specs.Dispatch.{Dispatches};
 
 use crate::control_block::ControlBlock;
 use crate::error::{ConnectError, ListenError, RecvError, SendError};
@@ -26,8 +22,8 @@ pub type SocketBuffer<'a> = RingBuffer<'a, u8>;
 
 /// A TCP socket (RFC 9293): one end of one connection at a time, over two lent buffers.
 ///
-/// Contracts speak of its transmission control block, beside which the source of timestamps will stand: a function pointer
-/// cannot be part of the value that contracts see.
+/// Contracts speak of its transmission control block, beside which the source of timestamps will stand: a function
+/// pointer cannot be part of the value that contracts see.
 #[derive(Debug, Drop)]
 pub struct Socket<'a> {
     pub(crate) control_block: ControlBlock<'a>,
@@ -56,20 +52,14 @@ impl<'a> Socket<'a> {
     pub fn local_endpoint(&self) -> Option<IpEndpoint>
         ensures { result ≡ option_map (λ t. t.local) self.now.control_block.tuple }
     {
-        match self.control_block.tuple {
-            None => None,
-            Some(tuple) => Some(tuple.local),
-        }
+        self.control_block.tuple.map(|tuple| tuple.local)
     }
 
     /// The peer's endpoint, where there is a peer.
     pub fn remote_endpoint(&self) -> Option<IpEndpoint>
         ensures { result ≡ option_map (λ t. t.remote) self.now.control_block.tuple }
     {
-        match self.control_block.tuple {
-            None => None,
-            Some(tuple) => Some(tuple.remote),
-        }
+        self.control_block.tuple.map(|tuple| tuple.remote)
     }
 
     /// The state of the connection (RFC 9293, section 3.3.2).
@@ -101,9 +91,7 @@ impl<'a> Socket<'a> {
         remote_endpoint: IpEndpoint,
         local_endpoint: IpListenEndpoint,
     ) -> Result<(), ConnectError>
-        ensures answer { result ≡ connect_answer (endpoints self.old.control_block (C.facts cx.old) remote_endpoint local_endpoint) }
-        ensures view { self.new.control_block ≡ after_connect (endpoints self.old.control_block (C.facts cx.old) remote_endpoint local_endpoint) self.old.control_block (C.word_at cx.old 0) }
-        ensures context { Draws (is_ok result) C.facts C.word_at cx.old cx.new }
+        ensures table { Connects C.facts C.word_at self.old.control_block cx.old remote_endpoint local_endpoint result self.new.control_block cx.new }
     {
         self.control_block
             .connect(cx, remote_endpoint, local_endpoint)
@@ -180,8 +168,7 @@ impl<'a> Socket<'a> {
     ///
     /// `InvalidState` where `may_send` is false; nothing changes then.
     pub fn send_slice(&mut self, data: &[u8]) -> Result<usize, SendError>
-        ensures answer { result ≡ (if may_send self.old.control_block.state then Ok (min (length «data».now) self.old.control_block.tx_buffer.window) else Err SendError.InvalidState) }
-        ensures view { self.new.control_block ≡ (if may_send self.old.control_block.state then written self.old.control_block «data».now else self.old.control_block) }
+        ensures table { Sends self.old.control_block «data».now result self.new.control_block }
         ensures small { length self.new.control_block.tx_buffer.bytes ≤ 2 ^ 30 }
     {
         self.control_block.send_slice(data)
@@ -191,10 +178,7 @@ impl<'a> Socket<'a> {
     ///
     /// `InvalidState` where `may_recv` is false; nothing changes then.
     pub fn recv_slice(&mut self, data: &mut [u8]) -> Result<usize, RecvError>
-        ensures answer { result ≡ (if may_recv self.old.control_block then Ok (min (length «data».old) (length self.old.control_block.rx_buffer.bytes)) else Err RecvError.InvalidState) }
-        ensures view { self.new.control_block ≡ (if may_recv self.old.control_block then read_off self.old.control_block (min (length «data».old) (length self.old.control_block.rx_buffer.bytes)) else self.old.control_block) }
-        ensures read { IfOk result (λ n. «data».new ≡ take n self.old.control_block.rx_buffer.bytes ++ drop n «data».old) }
-        ensures refused { OnErr result («data».new ≡ «data».old) }
+        ensures table { Reads self.old.control_block «data».old result self.new.control_block «data».new }
     {
         self.control_block.recv_slice(data)
     }
@@ -223,17 +207,17 @@ impl<'a> Socket<'a> {
         self.control_block.accepts(ip_repr, repr)
     }
 
-    /// Takes a segment that `accepts` holds of, and gives the one that answers it, if any; that one has no payload.
+    /// Takes a segment that `accepts` holds of, with a payload of at most 65535 bytes, and gives the one that answers it, if
+    /// any; that one has no payload.
     pub fn process<C: Context>(
         &mut self,
         cx: &mut C,
         ip_repr: &IpRepr,
         repr: &TcpRepr<'_>,
     ) -> Option<Reply>
-        requires { Accepts self.old.control_block ip_repr.now (segment_of repr.now) }
-        ensures table { record { view = self.new.control_block; reply = option_map (λ r. (r.0, segment_of r.1)) result } ≡ processed self.old.control_block (record { micros = (C.facts cx.old).now }) (C.word_at cx.old 0) ip_repr.now (segment_of repr.now) }
-        ensures bare { ForSome result (λ r. r.1.payload.now ≡ []) }
-        ensures context { Draws (draws (verdict_of self.old.control_block repr.now.control repr.now.ack_number) self.old.control_block.state repr.now.control) C.facts C.word_at cx.old cx.new }
+        requires accepted { Accepts self.old.control_block ip_repr.now (segment_of repr.now) }
+        requires small { length repr.now.payload.now ≤ 65535 }
+        ensures table { Processes C.facts C.word_at self.old.control_block cx.old ip_repr.now (segment_of repr.now) result self.new.control_block cx.new }
     {
         self.control_block.process(cx, ip_repr, repr)
     }
@@ -248,7 +232,7 @@ impl<'a> Socket<'a> {
         emit: F,
     ) -> Result<(), E>
         requires callable { F.IsAlwaysCallable emit }
-        ensures table { Dispatched F.FnOnce emit (readied self.old.control_block (C.facts cx.old)) (C.facts cx.old) cx.old result cx.new self.new.control_block }
+        ensures table { Dispatches F.FnOnce emit (C.facts cx.old) self.old.control_block cx.old result self.new.control_block cx.new }
     {
         self.control_block.dispatch(cx, emit)
     }

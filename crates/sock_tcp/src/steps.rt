@@ -1,11 +1,11 @@
-// The steps of `process`, one method each (RFC 9293, section 3.10.7).
+//! The steps of `process`, one method each (RFC 9293, section 3.10.7).
 ghost use Rattle.std.specs.Prelude.{◌≡◌, ◌≤◌, ◌^◌, length};
 ghost use Rattle.ip_wire.specs.Address.{SameVersion};
 ghost use Rattle.control_wire.specs.Segment.{segment_of};
 ghost use Rattle.sock_tcp.specs.Same.{SameQueues};
 ghost use Rattle.sock_tcp.specs.Verdict.{verdict_of};
 ghost use Rattle.sock_tcp.specs.declared.verdict.Verdict.TheVariants.{Pass};
-ghost use Rattle.sock_tcp.specs.Steps.{syn_place, acked_of, options_taken, syn_received, syn_answered, window_taken, released, noted, joined, heard};
+ghost use Rattle.sock_tcp.specs.Steps.{syn_place, acked_of, options_taken, syn_received, syn_answered, window_taken, released, una_advanced, joined, segment_taken};
 
 use crate::control_block::ControlBlock;
 use crate::state::State;
@@ -116,10 +116,7 @@ impl<'a> ControlBlock<'a> {
         ensures view { self.new ≡ window_taken self.old now control field }
         ensures queues { SameQueues self.old self.new }
     {
-        let scale = match self.remote_win_scale {
-            None => 0,
-            Some(scale) => scale,
-        };
+        let scale = self.remote_win_scale.unwrap_or(0);
         self.remote_last_ts = Some(now);
         self.remote_win_len = match control {
             TcpControl::Syn => field as usize,
@@ -135,9 +132,9 @@ impl<'a> ControlBlock<'a> {
         self.tx_buffer.dequeue_allocated(count);
     }
 
-    #[tactic(auto, unfolding(crate::specs::Steps::noted))]
-    fn note_ack(&mut self, ack: Option<TcpSeqNumber>)
-        ensures { self.new ≡ noted self.old ack }
+    #[tactic(auto, unfolding(crate::specs::Steps::una_advanced))]
+    fn advance_una(&mut self, ack: Option<TcpSeqNumber>)
+        ensures { self.new ≡ una_advanced self.old ack }
     {
         let ack = match ack {
             None => return,
@@ -155,16 +152,22 @@ impl<'a> ControlBlock<'a> {
         self.rx_buffer.enqueue_slice(bytes);
     }
 
-    // From the peer's window on.
-    #[tactic(auto, unfolding(crate::specs::Steps::heard, crate::specs::Steps::window_taken, crate::specs::Steps::released, crate::specs::Steps::noted))]
-    pub(crate) fn hear(&mut self, now: Instant, count: usize, bytes: &[u8], repr: &TcpRepr<'_>)
+    // The steps behind the state table.
+    #[tactic(auto, unfolding(crate::specs::Steps::segment_taken, crate::specs::Steps::window_taken, crate::specs::Steps::released, crate::specs::Steps::una_advanced))]
+    pub(crate) fn take_segment(
+        &mut self,
+        now: Instant,
+        count: usize,
+        bytes: &[u8],
+        repr: &TcpRepr<'_>,
+    )
         requires acked { count ≤ length self.old.tx_buffer.bytes }
         requires fits { length bytes.now ≤ self.old.rx_buffer.window }
-        ensures { self.new ≡ heard self.old now count bytes.now (segment_of repr.now) }
+        ensures { self.new ≡ segment_taken self.old now count bytes.now (segment_of repr.now) }
     {
         self.take_window(now, repr.control, repr.window_len);
         self.release(count);
-        self.note_ack(repr.ack_number);
+        self.advance_una(repr.ack_number);
         self.join(bytes);
     }
 }

@@ -19,56 +19,26 @@ pub enum Verdict {
 }
 
 impl<'a> ControlBlock<'a> {
+    // The first row that fits.
     #[tactic(auto, unfolding(crate::specs::Verdict::verdict_at))]
     pub(crate) fn verdict(&self, control: TcpControl, ack: Option<TcpSeqNumber>) -> Verdict
         ensures { result ≡ verdict_of self.now control ack }
     {
         let next = self.local_seq_no.plus(1);
-        if control == TcpControl::Rst {
-            return match self.state {
-                State::SynSent => match ack {
-                    None => Verdict::Drop,
-                    Some(ack) => if ack == next {
-                        Verdict::Pass
-                    } else {
-                        Verdict::Drop
-                    },
-                },
-                _ => Verdict::Pass,
-            };
-        }
-        match self.state {
-            State::Listen => match ack {
-                None => Verdict::Pass,
-                Some(_) => Verdict::Drop,
-            },
-            State::SynSent => match (control, ack) {
-                (TcpControl::Syn, None) => Verdict::Pass,
-                (TcpControl::Syn, Some(ack)) => if ack == next {
-                    Verdict::Pass
-                } else {
-                    Verdict::Reset
-                },
-                (TcpControl::None, None) => Verdict::Drop,
-                (TcpControl::None, Some(ack)) => if ack == next {
-                    Verdict::Drop
-                } else {
-                    Verdict::Reset
-                },
-                _ => Verdict::Drop,
-            },
-            State::SynReceived => match ack {
-                None => Verdict::Drop,
-                Some(ack) => if ack == next {
-                    Verdict::Pass
-                } else {
-                    Verdict::Reset
-                },
-            },
-            _ => match ack {
-                None => Verdict::Drop,
-                Some(ack) => self.open_verdict(ack),
-            },
+        match (self.state, control, ack) {
+            (State::SynSent, TcpControl::Rst, Some(ack)) if ack == next => Verdict::Pass,
+            (State::SynSent, TcpControl::Rst, _) => Verdict::Drop,
+            (_, TcpControl::Rst, _) => Verdict::Pass,
+            (State::Listen, _, None) => Verdict::Pass,
+            (State::Listen, _, Some(_)) => Verdict::Drop,
+            (State::SynSent, TcpControl::Syn, Some(ack)) if ack != next => Verdict::Reset,
+            (State::SynSent, TcpControl::Syn, _) => Verdict::Pass,
+            (State::SynSent, TcpControl::None, Some(ack)) if ack != next => Verdict::Reset,
+            (State::SynSent, _, _) => Verdict::Drop,
+            (_, _, None) => Verdict::Drop,
+            (State::SynReceived, _, Some(ack)) if ack != next => Verdict::Reset,
+            (State::SynReceived, _, Some(_)) => Verdict::Pass,
+            (_, _, Some(ack)) => self.open_verdict(ack),
         }
     }
 
@@ -84,7 +54,7 @@ impl<'a> ControlBlock<'a> {
 
     // The verdict in a state whose SYN is acknowledged.
     fn open_verdict(&self, ack: TcpSeqNumber) -> Verdict
-        ensures { result ≡ open_verdict self.now.state self.now.local_seq_no (length self.now.tx_buffer.bytes) ack }
+        ensures { result ≡ open_verdict self.now.state ack self.now.local_seq_no (length self.now.tx_buffer.bytes) }
     {
         if before(ack, self.local_seq_no) {
             Verdict::Drop

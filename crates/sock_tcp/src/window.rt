@@ -1,14 +1,14 @@
-// The receive window (RFC 9293, section 3.10.7.4; RFC 7323, section 2).
+//! The receive window (RFC 9293, section 3.10.7.4; RFC 7323, section 2).
 ghost use Rattle.std.specs.Prelude.{◌≡◌, ◌≤◌, IsTrue};
 ghost use Rattle.control_wire.specs.Seq.{seq_sub};
 ghost use Rattle.sock_tcp.specs.View.{window_shift};
-ghost use Rattle.sock_tcp.specs.Window.{next_ack, kept_between, receive_window, is_in_order};
+ghost use Rattle.sock_tcp.specs.Window.{next_ack, kept_between, receive_window, is_next_in_window};
 
 use crate::control_block::ControlBlock;
 use control_wire::TcpSeqNumber;
 use sock_core::seq::before;
 
-/// The receive window: its left edge, and the number behind its last one.
+///! The receive window: its left edge, and the number behind its last one.
 #[derive(Debug, Clone, Copy, PartialEq, Eq)]
 pub struct Window {
     /// The left edge, RCV.NXT.
@@ -19,9 +19,9 @@ pub struct Window {
 
 impl Window {
     // Whether a segment starts at the left edge, and its `length` bytes end at or before the right edge.
-    #[tactic(auto, unfolding(crate::specs::Window::is_in_order))]
-    pub(crate) fn is_in_order(&self, number: TcpSeqNumber, length: usize) -> bool
-        ensures value { result ≡ is_in_order self.now number length }
+    #[tactic(auto, unfolding(crate::specs::Window::is_next_in_window))]
+    pub(crate) fn is_next_in_window(&self, number: TcpSeqNumber, length: usize) -> bool
+        ensures value { result ≡ is_next_in_window self.now number length }
         ensures fits { IsTrue result → length ≤ seq_sub self.now.end self.now.start }
     {
         number == self.start && length <= self.end.since(self.start)
