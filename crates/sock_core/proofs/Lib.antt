@@ -1,3 +1,4 @@
 pub mod Numbers
 pub mod Streams
 pub mod Tables
+pub mod Shifts

@@ -8,3 +8,4 @@ pub mod seq;
 
 pub use context::{Context, PollAt};
 pub use ranges::{Ranges, TooManyRanges};
+pub use seq::{before, later, not_after, window_shift};
