@@ -2,3 +2,5 @@ pub mod Numbers
 pub mod Streams
 pub mod Tables
 pub mod Shifts
+pub mod Receiving
+pub mod ReceiveBuffers

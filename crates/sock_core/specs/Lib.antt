@@ -7,3 +7,4 @@ pub mod PollOrder
 pub mod Emission
 pub mod Streams
 pub mod HeldRanges
+pub mod Received
