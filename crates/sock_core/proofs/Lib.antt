@@ -1,3 +1,6 @@
 pub mod Numbers
 pub mod Streams
 pub mod Tables
+pub mod Shifts
+pub mod Receiving
+pub mod ReceiveBuffers

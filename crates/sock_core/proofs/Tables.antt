@@ -7,7 +7,7 @@ use Rattle.net_base.specs.declared.assembler.Range.{Range}
 use Rattle.net_base.specs.Ranges.{range, Apart, IsTidy, insert_range, edges, lowered, front_end, behind_front, is_refused, run_after, ranges_after}
 use Rattle.net_base.proofs.Sets.{insert_range_behind, insert_range_before, insert_range_joined, Apart-insert_range, Apart-lowered}
 use Rattle.sock_core.specs.declared.ranges.Places.{Places}
-use Rattle.sock_core.specs.HeldRanges.{HeldRanges, offset_of, place_at, offsets, AllNear, added, table_answers, table_after, assembler_answers, assembler_after, taken, Agree}
+use Rattle.sock_core.specs.HeldRanges.{HeldRanges, offset_of, place_at, offsets, AllNear, added, run_removed, table_answers, table_after, assembler_answers, assembler_after, taken, Agree}
 
 abbrev held_ranges : ℕ → List Range → HeldRanges
 held_ranges a l = record { front = a; ranges = l }
@@ -108,7 +108,7 @@ agree (c ∷ cs) h = let p = step (is_refused c.0 c.1 h.ranges) (agree cs (added
     rest = ranges_after c.0 c.1 h.ranges
 
     moved : HeldRanges
-    moved = record { front = place_at h.front run; ranges = rest }
+    moved = run_removed c.0 c.1 h
 
     step : (b : Bool) → Agree cs (cond b h moved)
         → (cond b None (Some run) ∷ table_answers cs (cond b h moved) ≡ cond b None (Some run) ∷ assembler_answers cs (cond b h.ranges rest))
@@ -174,13 +174,13 @@ module _ (f first end reached run len : ℕ) (ps : List Places) (h : HeldRanges)
   )
 
   pub table_after_is : (a : ℕ) (l : List Range) → a ≡ place_at f run → l ≡ offsets (place_at f run) (take (end - (first + reached)) (drop (first + reached) ps))
-      → (b : ℕ) (m : List Range) → b ≡ place_at h.front run → m ≡ ranges_after 0 len h.ranges → held_ranges a l ≡ held_ranges b m
-  table_after_is a l a_is l_is b m b_is m_is =
+      → held_ranges a l ≡ run_removed 0 len h
+  table_after_is a l a_is l_is =
       ap₂ held_ranges
-      (a_is ∙ ap (λ (h : HeldRanges). place_at h.front run) is ∙ sym b_is)
+      (a_is ∙ ap (λ (h : HeldRanges). place_at h.front run) is ∙ ap (place_at h.front) table_run_is)
       (l_is ∙ ap (λ (l : List Places). offsets (place_at f run) l) left_is
       ∙ rest_is f len run (take (end - first) (drop first ps)) (drop reached (take (end - first) (drop first ps))) small some short inv.3 inv.4 joined
-      ∙ ap (λ (h : HeldRanges). ranges_after 0 len h.ranges) is ∙ sym m_is)
+      ∙ ap (λ (h : HeldRanges). ranges_after 0 len h.ranges) is)
 
 -- an addition behind the front, from the ranges as offsets
 module _ (o n : ℕ) (rs joined : List Range) (far : 0 < o) (some : 0 < n) (short : o + n ≤ 2 ^ 30) (apart : Apart 1 rs) (near : AllNear rs) (is : joined ≡ insert_range o (o + n) rs) where

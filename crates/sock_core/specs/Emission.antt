@@ -8,7 +8,8 @@ abbrev pub Emit : Type 0 → Type 0 → Type 0 → Type 0 → Type 1
 Emit F C S E = Once F (MutBor C × (S × Unit {0})) (Result (Unit {0}) E × (MutBor C × Unit {0}))
 
 -- a call of f at a `&mut` to c and at what means s may answer r, and leave c'
-pub record EmitsAt {F C S E V : Type 0} (g : Emit F C S E) (meaning : S → V) (f : F) (c : C) (s : V) (r : Result (Unit {0}) E) (c' : C) : Type 0 where
+pub record EmitsAt {F C S E V : Type 0}
+    (g : Emit F C S E) (meaning : S → V) (f : F) (c : C) (s : V) (r : Result (Unit {0}) E) (c' : C) : Type 0 where
   pub shown : MutBor C
   pub shows : shown.now ≡ c
   pub sent : S
@@ -18,6 +19,7 @@ pub record EmitsAt {F C S E V : Type 0} (g : Emit F C S E) (meaning : S → V) (
   pub leaves : left.now ≡ c'
 
 -- emit is called once with what means s, or it is not called and the context stays as it was
-abbrev pub Emits : {F C S E V : Type 0} → Emit F C S E → (S → V) → F → Option V → C → Result (Unit {0}) E → C → Type 0
+abbrev pub Emits : {F C S E V : Type 0}
+    → Emit F C S E → (S → V) → F → Option V → C → Result (Unit {0}) E → C → Type 0
 Emits g meaning f None c r c' = (r ≡ Ok tt) × (c' ≡ c)
 Emits g meaning f (Some s) c r c' = EmitsAt g meaning f c s r c'

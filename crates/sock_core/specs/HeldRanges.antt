@@ -1,8 +1,10 @@
 -- A set of offsets counted from a place that moves, as ranges that are kept as places modulo 2^32.
-use Rattle.std.specs.Prelude.{ℕ, ◌≡◌, ◌+◌, ◌-◌, ◌≤◌, ◌%◌, ◌^◌, List, [], ◌∷◌, Option, Some, None, if◌then◌else◌}
+use Rattle.std.specs.Prelude.{ℕ, ◌≡◌, ◌+◌, ◌-◌, ◌≤◌, ◌%◌, ◌^◌, if◌then◌else◌}
+use Rattle.std.specs.Prelude.{List, [], ◌∷◌, length, take, drop, Option, Some, None, Result, Ok, Err}
 use Rattle.sock_core.specs.declared.ranges.Places.{Places}
+use Rattle.sock_core.specs.declared.ranges.TooManyRanges.{TooManyRanges}
 use Rattle.net_base.specs.declared.assembler.Range.{Range}
-use Rattle.net_base.specs.Ranges.{range, is_refused, run_after, ranges_after}
+use Rattle.net_base.specs.Ranges.{range, Apart, insert_range, is_refused, run_after, ranges_after}
 
 -- the place of the next byte to be taken, and the ranges held behind it, as offsets from there
 pub record HeldRanges : Type 0 where
@@ -26,11 +28,32 @@ abbrev pub AllNear : List Range → Type 0
 AllNear [] = Unit {0}
 AllNear (r ∷ rs) = (r.end ≤ 2 ^ 30) × AllNear rs
 
+-- a run of n offsets from 0 on, with those of the ranges that it reaches, is a run of `run` offsets; the rest stays
+abbrev pub JoinsRun : ℕ → List Range → ℕ → List Range → Type 0
+JoinsRun n rs run rest = insert_range 0 n rs ≡ range 0 run ∷ rest
+
+-- ---- the table: the ranges stand from `first` on, before `end`
+
+abbrev pub table_offsets : ℕ → ℕ → ℕ → List Places → List Range
+table_offsets front first end places = offsets front (take (end - first) (drop first places))
+
+abbrev pub IsTable : ℕ → ℕ → ℕ → List Places → Type 0
+IsTable front first end places =
+    (length places ≡ 4) × (first ≤ end) × (end ≤ 4)
+    × Apart 1 (table_offsets front first end places) × AllNear (table_offsets front first end places)
+
 -- ---- what an addition does, as to the assembler's set
 
 -- the run from offset 0 leaves, and the front moves to its end
+abbrev pub run_removed : ℕ → ℕ → HeldRanges → HeldRanges
+run_removed o n h = record { front = place_at h.front (run_after o n h.ranges); ranges = ranges_after o n h.ranges }
+
 abbrev pub added : ℕ → ℕ → HeldRanges → HeldRanges
-added o n h = if is_refused o n h.ranges then h else record { front = place_at h.front (run_after o n h.ranges); ranges = ranges_after o n h.ranges }
+added o n h = if is_refused o n h.ranges then h else run_removed o n h
+
+-- refused, or the run
+abbrev pub refused_or : ℕ → ℕ → List Range → ℕ → Result ℕ TooManyRanges
+refused_or o n rs run = if is_refused o n rs then Err (record {}) else Ok run
 
 -- ---- the same list of additions, each an offset and a length, on the table and on the assembler
 

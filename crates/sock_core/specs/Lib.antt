@@ -1,7 +1,10 @@
 pub mod Places
 pub mod Seq
+pub mod WindowShift
 pub mod Bounds
 pub mod Facts
+pub mod PollOrder
 pub mod Emission
 pub mod Streams
 pub mod HeldRanges
+pub mod Received

@@ -1,8 +1,11 @@
-// What a socket asks of the interface that holds it.
-ghost use Rattle.std.specs.Prelude.{◌≡◌, ℕ, ◌+◌, Bool, Option};
+//! What a socket asks of the interface that holds it, and when it wants to be served next.
+ghost use Rattle.std.specs.Prelude.{◌≡◌, ◌↔◌, ℕ, ◌+◌, Bool, Option};
 ghost use Rattle.std.specs.Option.{ForSome};
 ghost use Rattle.ip_wire.specs.Address.{SameVersion};
+ghost use Rattle.std.specs.declared.cmp.Ordering.TheVariants.{Equal};
+ghost use Rattle.std.specs.Cmp.{IsTotalOrder};
 ghost use Rattle.sock_core.specs.Facts.{Facts, IsLawful};
+ghost use Rattle.sock_core.specs.PollOrder.{poll_order};
 
 use ip_wire::{ChecksumCapabilities, IpAddress, Ipv4Address, Ipv6Address};
 use net_base::time::Instant;
@@ -64,7 +67,21 @@ pub trait Context {
 /// Ordered so: `Now`, then `Time` by its moment, then `Ingress`.
 #[derive(Debug, Clone, Copy, PartialEq, Eq, PartialOrd, Ord)]
 pub enum PollAt {
+    /// At once.
     Now,
+    /// At the moment.
     Time(Instant),
+    /// After the next packet that comes in, and not before.
     Ingress,
 }
+
+/// Poll moments stand in one total order: `Now`, then `Time` by its moment, then `Ingress`. Only equal ones are ordered
+/// as equal.
+pub fn poll_moments_are_ordered()
+    ensures order { (p q : PollAt) → ⟦<PollAt as Ord>⟧.cmp p q ≡ poll_order p q }
+    ensures total { IsTotalOrder poll_order }
+    ensures equal { (p q : PollAt) → (poll_order p q ≡ Equal) ↔ (p ≡ q) }
+{}
+
+#[cfg(test)]
+mod tests;

@@ -1,10 +1,14 @@
-//! What the sockets share: the context of a call, places and the order of sequence numbers, held ranges, poll moments.
+//! What the sockets share: the context of a call and poll moments, the order of sequence numbers, held ranges, the
+//! receive buffer.
 #![tactic(auto)]
 
 pub mod context;
 pub mod places;
 pub mod ranges;
+pub mod receive_buffer;
 pub mod seq;
 
 pub use context::{Context, PollAt};
 pub use ranges::{Ranges, TooManyRanges};
+pub use receive_buffer::ReceiveBuffer;
+pub use seq::{before, later, not_after, window_shift};

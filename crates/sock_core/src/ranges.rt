@@ -1,8 +1,8 @@
 //! Which bytes of a stream are held ahead of those that are still missing: at most four ranges in a fixed table.
-ghost use Rattle.std.specs.Prelude.{◌≡◌, ℕ, ◌+◌, ◌-◌, ◌<◌, ◌≤◌, ◌==◌, ◌%◌, ◌^◌, List, [], ◌∷◌, length, take, drop, slice_get, if◌then◌else◌};
-ghost use Rattle.net_base.specs.declared.assembler.Range.{Range};
-ghost use Rattle.net_base.specs.Ranges.{range, edges, insert_range, Apart, IsTidy, is_refused, run_after, ranges_after};
-ghost use Rattle.sock_core.specs.HeldRanges.{HeldRanges, offset_of, place_at, offsets, AllNear, added, Agree};
+ghost use Rattle.std.specs.Prelude.{◌≡◌, ℕ, ◌+◌, ◌<◌, ◌≤◌, ◌==◌, ◌^◌, List, [], length, take, drop, slice_get};
+ghost use Rattle.net_base.specs.Ranges.{edges, Apart, IsTidy, run_after};
+ghost use Rattle.sock_core.specs.HeldRanges.{HeldRanges, offset_of, place_at, offsets, AllNear, JoinsRun};
+ghost use Rattle.sock_core.specs.HeldRanges.{refused_or, run_removed, added, Agree};
 
 use net_base::assembler::{Range, with_range};
 use std::marker::Model;
@@ -19,7 +19,8 @@ struct Places {
 
 const NONE: Places = Places { start: 0, end: 0 };
 
-/// The ranges of bytes that are held behind the next byte to be taken, the front: at most four, in order, apart by at least one byte, the first at least one byte behind the front.
+/// The ranges of bytes that are held behind the next byte to be taken, the front: at most four, in order, apart by at
+/// least one byte, the first at least one byte behind the front.
 ///
 /// Places count bytes modulo 2^32. What is held reaches at most 2^30 bytes behind the front.
 #[derive(Debug, Drop)]
@@ -36,15 +37,13 @@ pub struct Ranges {
 pub struct TooManyRanges;
 
 impl Model for Ranges {
-    ghost use Rattle.std.specs.Prelude.{◌≡◌, ◌≤◌, ◌-◌, length, take, drop};
-    ghost use Rattle.net_base.specs.Ranges.{Apart};
-    ghost use Rattle.sock_core.specs.HeldRanges.{HeldRanges, offsets, AllNear};
+    ghost use Rattle.sock_core.specs.HeldRanges.{HeldRanges, table_offsets, IsTable};
 
     ghost Value = { HeldRanges };
 
-    ghost view = { λ t. record { front = t.front; ranges = offsets t.front (take (t.end - t.first) (drop t.first t.places)) } };
+    ghost view = { λ t. record { front = t.front; ranges = table_offsets t.front t.first t.end t.places } };
 
-    ghost invariant = { λ t. (length t.places ≡ 4) × (t.first ≤ t.end) × (t.end ≤ 4) × Apart 1 (offsets t.front (take (t.end - t.first) (drop t.first t.places))) × AllNear (offsets t.front (take (t.end - t.first) (drop t.first t.places))) };
+    ghost invariant = { λ t. IsTable t.front t.first t.end t.places };
 }
 
 impl Ranges {
@@ -81,7 +80,8 @@ impl Ranges {
         self.front
     }
 
-    /// How many ranges are held, at most 4. They are in order, apart by at least one byte, and the first begins at least one byte behind the front.
+    /// How many ranges are held, at most 4. They are in order, apart by at least one byte, and the first begins at least
+    /// one byte behind the front.
     pub fn len(&self) -> usize
         ensures count { result ≡ length self.now.ranges }
         ensures tidy { IsTidy self.now.ranges }
@@ -89,7 +89,8 @@ impl Ranges {
         self.end - self.first
     }
 
-    /// The range that stands at `index` in their order, counted from 0: its first offset from the front, and the offset behind its last.
+    /// The range that stands at `index` in their order, counted from 0: its first offset from the front, and the offset
+    /// behind its last.
     pub fn get(&self, index: usize) -> Option<(usize, usize)>
         ensures { result ≡ slice_get (edges self.now.ranges) index }
     {
@@ -100,7 +101,8 @@ impl Ranges {
         Some((offset(self.front, held.start), offset(self.front, held.end)))
     }
 
-    /// Adds the `len` offsets from `offset` on, counted from the front. Then the run of offsets from 0 on is taken out: the front moves behind it, and its length is answered. The length is 0 where offset 0 was not added.
+    /// Adds the `len` offsets from `offset` on, counted from the front. Then the run of offsets from 0 on is taken out: the
+    /// front moves behind it, and its length is answered. The length is 0 where offset 0 was not added.
     ///
     /// Refused exactly where `offset` is not 0 and the addition would make a fifth range; then nothing changes.
     pub fn add_then_remove_front(
@@ -110,7 +112,7 @@ impl Ranges {
     ) -> Result<usize, TooManyRanges>
         requires some { 0 < len }
         requires small { offset + len ≤ 2 ^ 30 }
-        ensures answer { result ≡ (if is_refused offset len self.old.ranges then Err (record {}) else Ok (run_after offset len self.old.ranges)) }
+        ensures answer { result ≡ refused_or offset len self.old.ranges (run_after offset len self.old.ranges) }
         ensures after { self.new ≡ added offset len self.old }
     {
         if offset == 0 {
@@ -119,12 +121,13 @@ impl Ranges {
         self.add_behind(offset, len)
     }
 
-    // The first `len` offsets come: the run from the front leaves with the ranges that it reaches. The others stay as they are kept.
+    // The first `len` offsets come: the run from the front leaves with the ranges that it reaches. The others stay as
+    // they are kept.
     fn take_front(&mut self, len: usize) -> usize
         requires some { 0 < len }
         requires small { len ≤ 2 ^ 30 }
         ensures answer { result ≡ run_after 0 len self.old.ranges }
-        ensures after { self.new ≡ record { front = place_at self.old.front result; ranges = ranges_after 0 len self.old.ranges } }
+        ensures after { self.new ≡ run_removed 0 len self.old }
     {
         let (reached, run) = run_from(&self.places[self.first..self.end], self.front, len);
         self.first += reached;
@@ -137,7 +140,7 @@ impl Ranges {
         requires behind { 0 < offset }
         requires some { 0 < len }
         requires small { offset + len ≤ 2 ^ 30 }
-        ensures answer { result ≡ (if is_refused offset len self.old.ranges then Err (record {}) else Ok 0) }
+        ensures answer { result ≡ refused_or offset len self.old.ranges 0 }
         ensures after { self.new ≡ added offset len self.old }
     {
         let held = &self.places[self.first..self.end];
@@ -177,7 +180,7 @@ fn place(front: u32, offset: usize) -> u32
 // How many of the ranges a run of `len` offsets from the front reaches, one after the other, and how long it then is.
 fn run_from(held: &[Places], front: u32, len: usize) -> (usize, usize)
     ensures within { result.0 ≤ length held.now }
-    ensures joined { insert_range 0 len (offsets front held.now) ≡ range 0 result.1 ∷ offsets front (drop result.0 held.now) }
+    ensures joined { JoinsRun len (offsets front held.now) result.1 (offsets front (drop result.0 held.now)) }
 {
     let mut run = len;
     for (index, range) in held.iter().enumerate() {

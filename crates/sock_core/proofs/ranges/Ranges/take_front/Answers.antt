@@ -10,4 +10,4 @@ invariant_of-self c = table_invariant _ _ _ _ _ _ _ _ c.self.view_is c.self.inva
 
 pub returns-clause-after : goal.returns-clause-after
 returns-clause-after c =
-    table_after_is _ _ _ _ _ _ _ _ c.self.view_is c.self.invariant (omega (arith, c.self.ranges)) c.requires.some c.requires.small c.run_from-reached.ensures.within c.run_from-reached.ensures.joined _ _ refl refl _ _ refl refl
+    table_after_is _ _ _ _ _ _ _ _ c.self.view_is c.self.invariant (omega (arith, c.self.ranges)) c.requires.some c.requires.small c.run_from-reached.ensures.within c.run_from-reached.ensures.joined _ _ refl refl
