@@ -60,7 +60,9 @@ no_address = Err connect_error.Unaddressable
 abbrev pub checked_source : Option IpAddress → IpEndpoint → ℕ → Result Tuple ConnectError
 checked_source None remote port = no_address
 checked_source (Some a) remote port =
-    if same_version a remote.addr then Ok (record { local = record { addr = a; port = port }; remote = remote }) else no_address
+    if same_version a remote.addr
+    then Ok (record { local = record { addr = a; port = port }; remote = remote })
+    else no_address
 
 abbrev pub checked_local : Option IpAddress → Facts → IpEndpoint → ℕ → Result Tuple ConnectError
 checked_local None f remote port = checked_source (f.source remote.addr) remote port
@@ -75,7 +77,12 @@ endpoints v f remote local =
 
 unfoldable pub connected : View → Tuple → ℕ → View
 connected v t word =
-    record (renewed v) { state = state.SynSent; tuple = Some t; local_seq_no = seq_of word; remote_last_seq = seq_of word }
+    record (renewed v) {
+      state = state.SynSent;
+      tuple = Some t;
+      local_seq_no = seq_of word;
+      remote_last_seq = seq_of word;
+    }
 
 -- with a refusal nothing changes
 abbrev pub after_connect : Result Tuple ConnectError → View → ℕ → View
@@ -88,7 +95,8 @@ connect_answer (Err e) = Err e
 
 -- the answer, the socket and the context after a call; the socket's number is the next random word
 pub record Connects {C : Type 0} (facts : C → Facts) (word_at : C → ℕ → ℕ) (v : View) (cx : C)
-    (remote : IpEndpoint) (local : IpListenEndpoint) (r : Result (Unit {0}) ConnectError) (w : View) (cx' : C) : Type 0 where
+    (remote : IpEndpoint) (local : IpListenEndpoint)
+    (r : Result (Unit {0}) ConnectError) (w : View) (cx' : C) : Type 0 where
   pub answer : r ≡ connect_answer (endpoints v (facts cx) remote local)
   pub view : w ≡ after_connect (endpoints v (facts cx) remote local) v (word_at cx 0)
   pub context : Draws (is_ok r) facts word_at cx cx'

@@ -108,6 +108,7 @@ reply_of r = (r.0, segment_of r.1)
 -- the socket, the reply and the context after a segment: only a SYN in LISTEN draws a random word
 pub record Processes {C : Type 0} (facts : C → Facts) (word_at : C → ℕ → ℕ) (v : View) (cx : C)
     (ip : IpRepr) (s : Segment) (reply : Option (IpRepr × TcpRepr)) (w : View) (cx' : C) : Type 0 where
-  pub table : record { view = w; reply = option_map reply_of reply } ≡ processed v (moment_of (facts cx)) (word_at cx 0) ip s
+  pub table : record { view = w; reply = option_map reply_of reply }
+      ≡ processed v (moment_of (facts cx)) (word_at cx 0) ip s
   pub bare : ForSome reply (λ r. r.1.payload.now ≡ [])
   pub context : Draws (draws (verdict_of v s.control s.ack_number) v.state s.control) facts word_at cx cx'

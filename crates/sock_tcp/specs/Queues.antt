@@ -37,7 +37,8 @@ may_recv v = if receives v.state then true else can_recv v
 abbrev pub fitting : View → ℕ → ℕ
 fitting v n = min n v.tx_buffer.window
 
--- at least one byte into an empty queue forgets when the last segment came: the user's timeout runs from the next dispatch on
+-- at least one byte into an empty queue forgets when the last segment came: the user's timeout then runs from the next
+-- dispatch on
 abbrev pub last_ts_after : View → ℕ → Option Instant
 last_ts_after v n = if (length v.tx_buffer.bytes == 0) && not (n == 0) then None else v.remote_last_ts
 

@@ -1,5 +1,5 @@
 -- What contracts see of a socket.
-use Rattle.std.specs.Prelude.{ℕ, ◌≤◌, ◌^◌, nat_lt, Option, None, Bool, false, if◌then◌else◌}
+use Rattle.std.specs.Prelude.{ℕ, ◌≤◌, ◌^◌, Option, None, Bool, false}
 use Rattle.std.specs.Option.{ForSome}
 use Rattle.ip_wire.specs.Address.{SameVersion}
 use Rattle.ip_wire.specs.declared.endpoint.IpListenEndpoint.{IpListenEndpoint}
@@ -7,6 +7,7 @@ use Rattle.net_base.specs.declared.time.Instant.{Instant}
 use Rattle.control_wire.specs.declared.seq_number.TcpSeqNumber.{TcpSeqNumber}
 use Rattle.control_wire.specs.Seq.{seq_of}
 use Rattle.sock_core.specs.Facts.{Facts}
+use Rattle.sock_core.specs.WindowShift.{window_shift}
 use Rattle.sock_tcp.specs.Queue.{Queue, capacity}
 use Rattle.sock_tcp.specs.declared.state.State.{State}
 use Rattle.sock_tcp.specs.declared.state.State.TheVariants as state
@@ -33,16 +34,6 @@ pub record View : Type 0 where
 -- the moment that a context tells
 abbrev pub moment_of : Facts → Instant
 moment_of f = record { micros = f.now }
-
--- the bits that write a capacity, less 16, at most 14
-abbrev pub shift_of : ℕ → ℕ
-shift_of n =
-    if nat_lt n (2 ^ 16) then 0 else (if nat_lt n (2 ^ 17) then 1 else (if nat_lt n (2 ^ 18) then 2 else (if nat_lt n (2 ^ 19) then 3 else (if nat_lt n (2 ^ 20) then 4
-    else (if nat_lt n (2 ^ 21) then 5 else (if nat_lt n (2 ^ 22) then 6 else (if nat_lt n (2 ^ 23) then 7 else (if nat_lt n (2 ^ 24) then 8 else (if nat_lt n (2 ^ 25) then 9
-    else (if nat_lt n (2 ^ 26) then 10 else (if nat_lt n (2 ^ 27) then 11 else (if nat_lt n (2 ^ 28) then 12 else (if nat_lt n (2 ^ 29) then 13 else 14)))))))))))))
-
-unfoldable pub window_shift : ℕ → ℕ
-window_shift n = shift_of n
 
 -- what holds of every socket
 pub record IsSound (rx tx : Queue) (tuple : Option Tuple) (shift : ℕ) (scale : Option ℕ) (mss : ℕ) : Type 0 where

@@ -14,7 +14,8 @@ next_ack v = seq_add v.remote_seq_no (length v.rx_buffer.bytes)
 abbrev pub kept_between : TcpSeqNumber → TcpSeqNumber → TcpSeqNumber → TcpSeqNumber
 kept_between start limit edge = if is_before edge start then start else (if is_before limit edge then limit else edge)
 
--- the right edge: the last acknowledgement sent plus the last window sent, but neither before the left edge nor past the free space
+-- the right edge: the last acknowledgement sent plus the last window sent, but neither before the left edge nor past
+-- the free space
 abbrev pub window_end : View → Option TcpSeqNumber → TcpSeqNumber
 window_end v None = next_ack v
 window_end v (Some ack) =

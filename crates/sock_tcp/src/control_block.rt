@@ -1,4 +1,4 @@
-// The transmission control block (RFC 9293, section 3.3.1), and the value that contracts see.
+//! The transmission control block (RFC 9293, section 3.3.1), and the value that contracts see.
 
 use crate::state::State;
 use crate::tuple::Tuple;
@@ -54,5 +54,6 @@ impl<'a> Model for ControlBlock<'a> {
       remote_last_ts = s.remote_last_ts;
     } };
 
-    ghost invariant = { λ s. IsSound (queue_of s.rx_buffer) (queue_of s.tx_buffer) s.tuple s.remote_win_shift s.remote_win_scale s.remote_mss };
+    ghost invariant = { λ s. IsSound (queue_of s.rx_buffer) (queue_of s.tx_buffer) s.tuple s.remote_win_shift s.remote_win_scale
+        s.remote_mss };
 }

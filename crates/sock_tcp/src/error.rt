@@ -1,4 +1,4 @@
-// Why a call is refused.
+//! Why a call is refused.
 ghost use Rattle.std.specs.Prelude.{◌≡◌, Some};
 ghost use Rattle.sock_tcp.specs.Texts.{listen_error_text, connect_error_text, send_error_text, recv_error_text};
 

@@ -1,4 +1,4 @@
-// Opening a connection: listen, connect, and the reset that both begin with (RFC 9293, section 3.10.1).
+//! Opening a connection: listen, connect, and the reset that both begin with (RFC 9293, section 3.10.1).
 ghost use Rattle.std.specs.Prelude.{◌≡◌, ◌+◌, ◌≤◌, ◌^◌, length};
 ghost use Rattle.ip_wire.specs.Address.{SameVersion, same_version};
 ghost use Rattle.sock_tcp.specs.Queue.{queue_of};
@@ -9,11 +9,10 @@ use crate::control_block::ControlBlock;
 use crate::error::{ConnectError, ListenError};
 use crate::state::State;
 use crate::tuple::Tuple;
-use crate::window::window_shift;
 use control_wire::TcpSeqNumber;
 use ip_wire::{IpAddress, IpEndpoint, IpListenEndpoint};
 use net_base::ring_buffer::RingBuffer;
-use sock_core::Context;
+use sock_core::{Context, window_shift};
 
 // What a peer is taken to accept before it said more (RFC 9293, section 3.7.1).
 const DEFAULT_MSS: usize = 536;

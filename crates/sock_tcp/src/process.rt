@@ -96,7 +96,8 @@ impl<'a> ControlBlock<'a> {
     #[tactic(auto, unfolding(crate::specs::Steps::advanced))]
     fn advance<C: Context>(&mut self, cx: &mut C, ip_repr: &IpRepr, repr: &TcpRepr<'_>) -> bool
         requires { verdict_of self.old repr.now.control repr.now.ack_number ≡ Pass }
-        ensures table { record { view = self.new; goes_on = result } ≡ advanced self.old (tuple_of ip_repr.now (segment_of repr.now)) (C.word_at cx.old 0) (segment_of repr.now) }
+        ensures table { record { view = self.new; goes_on = result }
+            ≡ advanced self.old (tuple_of ip_repr.now (segment_of repr.now)) (C.word_at cx.old 0) (segment_of repr.now) }
         ensures queues { SameQueues self.old self.new }
         ensures context { Draws (draws Pass self.old.state repr.now.control) C.facts C.word_at cx.old cx.new }
     {
@@ -134,7 +135,8 @@ impl<'a> ControlBlock<'a> {
     )
         requires passed { verdict_of self.old repr.now.control repr.now.ack_number ≡ Pass }
         requires fits { length bytes.now ≤ self.old.rx_buffer.window }
-        ensures table { stopped self.new ≡ processed_inside self.old now (C.word_at cx.old 0) bytes.now ip_repr.now (segment_of repr.now) }
+        ensures table { stopped self.new
+            ≡ processed_inside self.old now (C.word_at cx.old 0) bytes.now ip_repr.now (segment_of repr.now) }
         ensures context { Draws (draws Pass self.old.state repr.now.control) C.facts C.word_at cx.old cx.new }
     {
         let count = self.passed_len(repr.control, repr.ack_number);
@@ -152,7 +154,8 @@ impl<'a> ControlBlock<'a> {
         repr: &TcpRepr<'_>,
     )
         requires passed { verdict_of self.old repr.now.control repr.now.ack_number ≡ Pass }
-        ensures table { stopped self.new ≡ tested (has_window self.old.state) self.old now (C.word_at cx.old 0) ip_repr.now (segment_of repr.now) }
+        ensures table { stopped self.new
+            ≡ tested (has_window self.old.state) self.old now (C.word_at cx.old 0) ip_repr.now (segment_of repr.now) }
         ensures context { Draws (draws Pass self.old.state repr.now.control) C.facts C.word_at cx.old cx.new }
     {
         if !self.has_window() {

@@ -91,7 +91,8 @@ impl<'a> Socket<'a> {
         remote_endpoint: IpEndpoint,
         local_endpoint: IpListenEndpoint,
     ) -> Result<(), ConnectError>
-        ensures table { Connects C.facts C.word_at self.old.control_block cx.old remote_endpoint local_endpoint result self.new.control_block cx.new }
+        ensures table { Connects C.facts C.word_at self.old.control_block cx.old remote_endpoint local_endpoint
+            result self.new.control_block cx.new }
     {
         self.control_block
             .connect(cx, remote_endpoint, local_endpoint)
@@ -207,8 +208,8 @@ impl<'a> Socket<'a> {
         self.control_block.accepts(ip_repr, repr)
     }
 
-    /// Takes a segment that `accepts` holds of, with a payload of at most 65535 bytes, and gives the one that answers it, if
-    /// any; that one has no payload.
+    /// Takes a segment that `accepts` holds of, with a payload of at most 65535 bytes, and gives the one that answers
+    /// it, if any; that one has no payload.
     pub fn process<C: Context>(
         &mut self,
         cx: &mut C,
@@ -217,7 +218,8 @@ impl<'a> Socket<'a> {
     ) -> Option<Reply>
         requires accepted { Accepts self.old.control_block ip_repr.now (segment_of repr.now) }
         requires small { length repr.now.payload.now ≤ 65535 }
-        ensures table { Processes C.facts C.word_at self.old.control_block cx.old ip_repr.now (segment_of repr.now) result self.new.control_block cx.new }
+        ensures table { Processes C.facts C.word_at self.old.control_block cx.old ip_repr.now (segment_of repr.now)
+            result self.new.control_block cx.new }
     {
         self.control_block.process(cx, ip_repr, repr)
     }

@@ -1,4 +1,4 @@
-// The states of a connection (RFC 9293, section 3.3.2).
+//! The states of a connection (RFC 9293, section 3.3.2).
 ghost use Rattle.std.specs.Prelude.{◌≡◌, Some};
 ghost use Rattle.sock_tcp.specs.Texts.{state_text};
 

@@ -1,4 +1,4 @@
-// Both ends of a connection.
+//! Both ends of a connection.
 use ip_wire::IpEndpoint;
 
 /// Both ends of a connection.

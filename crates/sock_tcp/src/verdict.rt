@@ -1,4 +1,4 @@
-// What a segment's acknowledgement says (RFC 9293, section 3.10.7; RFC 5961, section 5.2).
+//! What a segment's acknowledgement says (RFC 9293, section 3.10.7; RFC 5961, section 5.2).
 ghost use Rattle.std.specs.Prelude.{◌≡◌, ◌+◌, ◌≤◌, ◌^◌, length};
 ghost use Rattle.sock_tcp.specs.Verdict.{verdict_of, open_verdict, fin_place};
 

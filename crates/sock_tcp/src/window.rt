@@ -1,7 +1,6 @@
 //! The receive window (RFC 9293, section 3.10.7.4; RFC 7323, section 2).
 ghost use Rattle.std.specs.Prelude.{◌≡◌, ◌≤◌, IsTrue};
 ghost use Rattle.control_wire.specs.Seq.{seq_sub};
-ghost use Rattle.sock_tcp.specs.View.{window_shift};
 ghost use Rattle.sock_tcp.specs.Window.{next_ack, kept_between, receive_window, is_next_in_window};
 
 use crate::control_block::ControlBlock;
@@ -25,46 +24,6 @@ impl Window {
         ensures fits { IsTrue result → length ≤ seq_sub self.now.end self.now.start }
     {
         number == self.start && length <= self.end.since(self.start)
-    }
-}
-
-/// By how many bits a window field is shifted so that 16 bits hold the free space of a buffer: the bits that write
-/// `capacity`, less 16, at least 0 and at most 14 (RFC 7323, section 2.3).
-#[tactic(auto, unfolding(crate::specs::View::window_shift))]
-pub(crate) fn window_shift(capacity: usize) -> u8
-    ensures value { result ≡ window_shift capacity }
-    ensures small { result ≤ 14 }
-{
-    if capacity < 0x1_0000 {
-        0
-    } else if capacity < 0x2_0000 {
-        1
-    } else if capacity < 0x4_0000 {
-        2
-    } else if capacity < 0x8_0000 {
-        3
-    } else if capacity < 0x10_0000 {
-        4
-    } else if capacity < 0x20_0000 {
-        5
-    } else if capacity < 0x40_0000 {
-        6
-    } else if capacity < 0x80_0000 {
-        7
-    } else if capacity < 0x100_0000 {
-        8
-    } else if capacity < 0x200_0000 {
-        9
-    } else if capacity < 0x400_0000 {
-        10
-    } else if capacity < 0x800_0000 {
-        11
-    } else if capacity < 0x1000_0000 {
-        12
-    } else if capacity < 0x2000_0000 {
-        13
-    } else {
-        14
     }
 }
 
