@@ -4,3 +4,5 @@ pub mod Tables
 pub mod Shifts
 pub mod Receiving
 pub mod ReceiveBuffers
+pub mod Estimators
+pub mod Renos

@@ -264,3 +264,6 @@ reaches_in_wire_numbers nxt last lo hi a b c d = elim (cases_lt (number_distance
     by : (x : Bool) → (x && false) ≡ false
     by true = refl
     by false = refl
+
+-- what `ReceiveBuffer::keeps_bounds` rests on
+pub ruleset bounds = (room_is, few_is, first_is)

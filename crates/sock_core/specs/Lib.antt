@@ -8,3 +8,6 @@ pub mod Emission
 pub mod Streams
 pub mod HeldRanges
 pub mod Received
+pub mod Estimator
+pub mod Reno
+pub mod Congestion

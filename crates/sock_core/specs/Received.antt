@@ -101,9 +101,9 @@ merged hs o ys k = if is_within o (o + length ys) k then slice_get ys (k - o) el
 abbrev pub IsLetIn : Received → ℕ → List ℕ → Type 0
 IsLetIn b o ys = (o + length ys ≤ length b.held) × (is_turned_away b o ys ≡ false)
 
--- The queue grows by a run, and no byte of it changes. The run has at each offset the byte that came there, else the one
--- that was held; it goes on to the first offset with neither; and what is held then is what came or was held that far
--- behind it
+-- The queue grows by a run, and no byte of it changes. The run has at each offset the byte that came there, else the
+-- one that was held; it goes on to the first offset with neither; and what is held then is what came or was held that
+-- far behind it
 pub record TakesIn (old new : Received) (o : ℕ) (ys : List ℕ) : Type 0 where
   pub run : List ℕ
   pub queue : new.bytes ≡ old.bytes ++ run
@@ -148,7 +148,8 @@ wire nxt offset = (nxt + offset) % 2 ^ 32
 -- the range begins not after a number, and ends not before it
 abbrev pub reaches_number : ℕ → ℕ → ℕ → ℕ → Bool
 reaches_number nxt lo hi number =
-    (number_is_before (wire nxt lo) number || nat_eq (wire nxt lo) number) && not (number_is_before (wire nxt hi) number)
+    (number_is_before (wire nxt lo) number || nat_eq (wire nxt lo) number)
+    && not (number_is_before (wire nxt hi) number)
 
 abbrev pub IsWireRange : ℕ → ℕ → ℕ → ℕ → Type 0
 IsWireRange nxt number lo hi = (nxt < 2 ^ 32) × (number < 2 ^ 32) × (lo < hi) × (hi ≤ 2 ^ 30)

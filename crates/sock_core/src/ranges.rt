@@ -80,8 +80,8 @@ impl Ranges {
         self.front
     }
 
-    /// How many ranges are held, at most 4. They are in order, apart by at least one byte, and the first begins at least
-    /// one byte behind the front.
+    /// How many ranges are held, at most 4. They are in order, apart by at least one byte, and the first begins at
+    /// least one byte behind the front.
     pub fn len(&self) -> usize
         ensures count { result ≡ length self.now.ranges }
         ensures tidy { IsTidy self.now.ranges }
@@ -101,8 +101,8 @@ impl Ranges {
         Some((offset(self.front, held.start), offset(self.front, held.end)))
     }
 
-    /// Adds the `len` offsets from `offset` on, counted from the front. Then the run of offsets from 0 on is taken out: the
-    /// front moves behind it, and its length is answered. The length is 0 where offset 0 was not added.
+    /// Adds the `len` offsets from `offset` on, counted from the front. Then the run of offsets from 0 on is taken out:
+    /// the front moves behind it, and its length is answered. The length is 0 where offset 0 was not added.
     ///
     /// Refused exactly where `offset` is not 0 and the addition would make a fifth range; then nothing changes.
     pub fn add_then_remove_front(

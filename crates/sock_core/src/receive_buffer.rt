@@ -58,8 +58,8 @@ pub fn ranges_are_held()
     ensures held { (hs : List (Option ℕ)) (k : ℕ) → is_held (ranges_of hs) k ≡ is_some (byte_at hs k) }
 {}
 
-/// A range lies around a number, as wire numbers compare, exactly where its offsets lie around the number's distance past
-/// the queue's end, RCV.NXT.
+/// A range lies around a number, as wire numbers compare, exactly where its offsets lie around the number's distance
+/// past the queue's end, RCV.NXT.
 pub fn reaches_in_wire_numbers()
     ensures { (nxt number lo hi : ℕ) → IsWireRange nxt number lo hi → ReachesAsOffsets nxt number lo hi }
 {}
@@ -78,7 +78,7 @@ impl<'a> ReceiveBuffer<'a> {
     }
 
     /// What is always so: there are at most 2^30 places and four ranges, and the place behind the queue is free.
-    #[tactic(auto, using(crate::proofs::ReceiveBuffers::room_is, crate::proofs::ReceiveBuffers::few_is, crate::proofs::ReceiveBuffers::first_is))]
+    #[tactic(auto, using(crate::proofs::ReceiveBuffers::bounds))]
     pub fn keeps_bounds(&self)
         ensures size { room_of self.now ≤ 2 ^ 30 }
         ensures few { length (ranges_of self.now.held) ≤ 4 }
@@ -136,7 +136,8 @@ impl<'a> ReceiveBuffer<'a> {
         self.ranges = Ranges::new();
     }
 
-    /// Takes bytes that lie in the window, the first of them at the offset from the queue's end, and answers whether it did.
+    /// Takes bytes that lie in the window, the first of them at the offset from the queue's end, and answers whether it
+    /// did.
     ///
     /// They replace what was held there. Then the run of held bytes from the queue's end on joins the queue. They are
     /// turned away exactly where they lie behind the queue's end and would make a fifth range; then nothing changes.
@@ -157,7 +158,7 @@ impl<'a> ReceiveBuffer<'a> {
         }
     }
 
-    /// Moves the queue's first bytes into the beginning of `out`, as many as there are and fit, and answers their count.
+    /// Moves the queue's first bytes into the beginning of `out`, as many as there are and fit, and answers how many.
     /// The rest of `out` stays as it was.
     #[tactic(auto, using(crate::proofs::ReceiveBuffers::is_handed_out, crate::proofs::ReceiveBuffers::handed_out_room))]
     pub fn dequeue_slice(&mut self, out: &mut [u8]) -> usize
@@ -169,8 +170,8 @@ impl<'a> ReceiveBuffer<'a> {
         self.ring.dequeue_slice(out)
     }
 
-    /// Lends `f` a beginning of the queue, which is empty only where the queue is. `f` answers how many of these bytes to
-    /// remove; its answer is passed on.
+    /// Lends `f` a beginning of the queue, which is empty only where the queue is. `f` answers how many of these bytes
+    /// to remove; its answer is passed on.
     #[tactic(auto, using(crate::proofs::ReceiveBuffers::reads_with, crate::proofs::ReceiveBuffers::handed_out_room))]
     pub fn dequeue_many_with<R, F: FnOnce(&[u8]) -> (usize, R)>(&mut self, f: F) -> (usize, R)
         requires callable { F.IsAlwaysCallable f }
@@ -191,7 +192,7 @@ impl<'a> ReceiveBuffer<'a> {
         self.ring.get_allocated(0, size)
     }
 
-    /// Copies the queue's first bytes into the beginning of `out`, as many as there are and fit, and answers their count.
+    /// Copies the queue's first bytes into the beginning of `out`, as many as there are and fit, and answers how many.
     /// The rest of `out` stays as it was, and so does the queue.
     pub fn peek_slice(&self, out: &mut [u8]) -> usize
         ensures count { result ≡ min (length out.old) (length self.now.bytes) }

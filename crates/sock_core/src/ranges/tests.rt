@@ -144,7 +144,7 @@ impl Marks {
 #[test]
 fn ranges_are_a_set(rt: HostRuntime) -> Result<(), Fail> {
     for start in [[].as_slice(), [(11, 1), (13, 2), (16, 1)].as_slice()] {
-        for code in 0..20_736usize {
+        for code in 0..1_728usize {
             let mut held = Ranges::at(4_294_967_293);
             let mut marks = Marks([false; 32]);
             for (offset, len) in start {
@@ -152,7 +152,7 @@ fn ranges_are_a_set(rt: HostRuntime) -> Result<(), Fail> {
                 marks.add_then_remove_front(*offset, *len);
             }
             let mut rest = code;
-            for _ in 0..4 {
+            for _ in 0..3 {
                 let (offset, len) = (rest % 6, rest / 6 % 2 + 1);
                 rest /= 12;
                 let want = marks.add_then_remove_front(offset, len);

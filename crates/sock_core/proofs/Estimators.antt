@@ -1,0 +1,66 @@
+-- The estimator of the retransmission timeout.
+use Rattle.std.proofs.Common.{◌≡◌, ℕ, ◌^◌, Bool, true, false, cond, List, [], ◌∷◌, Option, Some, None, ap, arith}
+use Rattle.std.specs.Prelude.{min}
+use Rattle.net_base.specs.declared.time.Instant.{Instant}
+use Rattle.control_wire.specs.declared.seq_number.TcpSeqNumber.{TcpSeqNumber}
+use Rattle.sock_core.specs.declared.rtte.Smoothed.{Smoothed}
+use Rattle.sock_core.specs.declared.rtte.Timing.{Timing}
+use Rattle.sock_core.specs.Seq.{is_before}
+use Rattle.sock_core.specs.Estimator.{Estimator, fresh_estimator, IsTimeout, timeout_of, smoothed_by, sampled, is_highest, timed_from, sent, millis_between, acked_at, acked, backed_off, retransmitted, Call, Sample, OnSend, OnAck, OnRto, OnRetransmit, after_call, after_calls}
+
+-- a sample that is cut before is cut to the same
+pub sampled_cut : (e : Estimator) (x : ℕ) → sampled e (min x 268435456) ≡ sampled e x
+unfolding sampled
+sampled_cut e x =
+    let same : min (min x 268435456) 268435456 ≡ min x 268435456 = omega arith in
+    ap (λ n. let s = smoothed_by e.smoothed n in record e { smoothed = Some s; rto = timeout_of s; backoffs = 0 }) same
+
+in_range : (s : Smoothed) → IsTimeout (timeout_of s)
+in_range s = (omega arith, omega arith)
+
+after_sample : (e : Estimator) (x : ℕ) → IsTimeout (sampled e x).rto
+unfolding sampled
+after_sample e x = in_range (smoothed_by e.smoothed (min x (2 ^ 28)))
+
+after_send : (e : Estimator) (now : Instant) (n : TcpSeqNumber) → IsTimeout e.rto → IsTimeout (sent e now n).rto
+unfolding sent
+after_send e now n h = go (is_highest e.highest n)
+  where
+    go : (t : Bool) → IsTimeout (cond t (record e { highest = Some n; timing = timed_from e.timing now n }) e).rto
+    go true = h
+    go false = h
+
+after_ack : (e : Estimator) (now : Instant) (n : TcpSeqNumber) → IsTimeout e.rto → IsTimeout (acked e now n).rto
+unfolding acked
+after_ack e now n h = timed e.timing
+  where
+    timed : (t : Option Timing) → IsTimeout (acked_at t e now n).rto
+    timed None = h
+    timed (Some t) = go (is_before n t.number)
+      where
+        go : (b : Bool) → IsTimeout (cond b e (record (sampled e (millis_between now t.at)) { timing = None })).rto
+        go true = h
+        go false = after_sample e (millis_between now t.at)
+
+after_backoff : (e : Estimator) → IsTimeout e.rto → IsTimeout (backed_off e).rto
+unfolding backed_off
+after_backoff e h = (omega (arith, h.0), omega arith)
+
+after_retransmit : (e : Estimator) → IsTimeout e.rto → IsTimeout (retransmitted e).rto
+unfolding retransmitted
+after_retransmit e h = h
+
+after_one : (c : Call) (e : Estimator) → IsTimeout e.rto → IsTimeout (after_call c e).rto
+after_one (Sample x) e h = after_sample e x
+after_one (OnSend now n) e h = after_send e now n h
+after_one (OnAck now n) e h = after_ack e now n h
+after_one OnRto e h = after_backoff e h
+after_one OnRetransmit e h = after_retransmit e h
+
+-- from any estimator whose timeout is in range
+pub stays_in_range : (calls : List Call) (e : Estimator) → IsTimeout e.rto → IsTimeout (after_calls calls e).rto
+stays_in_range [] e h = h
+stays_in_range (c ∷ cs) e h = stays_in_range cs (after_call c e) (after_one c e h)
+
+pub fresh_stays_in_range : (calls : List Call) → IsTimeout (after_calls calls fresh_estimator).rto
+fresh_stays_in_range calls = stays_in_range calls fresh_estimator (omega arith, omega arith)

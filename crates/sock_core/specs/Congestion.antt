@@ -1,0 +1,132 @@
+-- The congestion controllers: what each call leaves, as functions on numbers. Counts are bytes.
+use Rattle.std.specs.Prelude.{ℕ, ◌≡◌, ◌+◌, ◌-◌, ◌*◌, ◌/◌, ◌^◌, ◌==◌, nat_lt, max, min}
+use Rattle.std.specs.Prelude.{true, false, List, [], ◌∷◌, if◌then◌else◌}
+use Rattle.sock_core.specs.Reno.{RenoNumbers}
+use Rattle.sock_core.specs.declared.congestion.AnyController.{AnyController}
+use Rattle.sock_core.specs.declared.congestion.AnyController.TheVariants as controller
+
+-- what does not fit a `usize` is cut to the greatest
+abbrev pub capped : ℕ → ℕ
+capped n = min n (2 ^ 64 - 1)
+
+-- ---- Reno (RFC 5681)
+
+abbrev pub fresh_reno : RenoNumbers
+fresh_reno =
+    record {
+      cwnd = 2048;
+      mss = 1024;
+      rwnd = 65536;
+      ssthresh = 2 ^ 64 - 1;
+      in_timeout = false;
+      in_recovery = false;
+    }
+
+-- at most the greatest window of the peer, and at least a segment
+abbrev pub bounded : RenoNumbers → ℕ → ℕ
+bounded r n = max r.mss (min (capped n) r.rwnd)
+
+-- how far an acknowledgement of n bytes opens the window: in slow start by a segment, then by a segment in a round trip
+abbrev pub growth : RenoNumbers → ℕ → ℕ
+growth r n = if nat_lt r.cwnd r.ssthresh then min n r.mss else max 1 (capped (r.mss * r.mss) / max 1 r.cwnd)
+
+-- half of what is in flight, and at least two segments
+abbrev pub halved : RenoNumbers → ℕ → ℕ
+halved r flight = max (flight / 2) (capped (r.mss * 2))
+
+-- n bytes are acknowledged. This ends a time of timeouts and a fast recovery
+abbrev pub reno_gains : RenoNumbers → ℕ → RenoNumbers
+reno_gains r n =
+    record r {
+      in_timeout = false;
+      in_recovery = false;
+      cwnd = if r.in_recovery then r.ssthresh else bounded r (r.cwnd + growth r n);
+    }
+
+unfoldable pub reno_acked : RenoNumbers → ℕ → RenoNumbers
+reno_acked r n = if n == 0 then r else reno_gains r n
+
+unfoldable pub reno_dup_acked : RenoNumbers → ℕ → RenoNumbers
+reno_dup_acked r n = if r.in_recovery then record r { cwnd = bounded r (r.cwnd + n) } else r
+
+unfoldable pub reno_lost : RenoNumbers → ℕ → RenoNumbers
+reno_lost r flight =
+    if r.in_recovery then r
+    else record r {
+      ssthresh = halved r flight;
+      cwnd = capped (min (halved r flight) r.rwnd + capped (r.mss * 3));
+      in_recovery = true;
+    }
+
+unfoldable pub reno_timed_out : RenoNumbers → ℕ → RenoNumbers
+reno_timed_out r flight =
+    record r {
+      ssthresh = if r.in_timeout then r.ssthresh else halved r flight;
+      cwnd = r.mss;
+      in_timeout = true;
+      in_recovery = false;
+    }
+
+abbrev pub reno_with_mss : RenoNumbers → ℕ → RenoNumbers
+reno_with_mss r mss = record r { mss = mss }
+
+abbrev pub reno_with_remote_window : RenoNumbers → ℕ → RenoNumbers
+reno_with_remote_window r window = record r { rwnd = max r.rwnd window }
+
+-- ---- any controller
+
+abbrev pub congestion_window : AnyController → ℕ
+congestion_window (controller.None n) = 2 ^ 64 - 1
+congestion_window (controller.Reno r) = r.cwnd
+
+abbrev pub acked : AnyController → ℕ → AnyController
+acked (controller.None n) _ = controller.None n
+acked (controller.Reno r) len = controller.Reno (reno_acked r len)
+
+abbrev pub dup_acked : AnyController → ℕ → AnyController
+dup_acked (controller.None n) _ = controller.None n
+dup_acked (controller.Reno r) len = controller.Reno (reno_dup_acked r len)
+
+abbrev pub lost : AnyController → ℕ → AnyController
+lost (controller.None n) _ = controller.None n
+lost (controller.Reno r) flight = controller.Reno (reno_lost r flight)
+
+abbrev pub timed_out : AnyController → ℕ → AnyController
+timed_out (controller.None n) _ = controller.None n
+timed_out (controller.Reno r) flight = controller.Reno (reno_timed_out r flight)
+
+abbrev pub with_mss : AnyController → ℕ → AnyController
+with_mss (controller.None n) _ = controller.None n
+with_mss (controller.Reno r) mss = controller.Reno (reno_with_mss r mss)
+
+abbrev pub with_remote_window : AnyController → ℕ → AnyController
+with_remote_window (controller.None n) _ = controller.None n
+with_remote_window (controller.Reno r) window = controller.Reno (reno_with_remote_window r window)
+
+-- ---- lists of calls of Reno
+
+pub data Call : Type 0 where
+  SetRemoteWindow OnAck OnDupAck OnRto OnLoss SetMss : ℕ → Call
+
+abbrev pub after_call : Call → RenoNumbers → RenoNumbers
+after_call (SetRemoteWindow n) r = reno_with_remote_window r n
+after_call (OnAck n) r = reno_acked r n
+after_call (OnDupAck n) r = reno_dup_acked r n
+after_call (OnRto n) r = reno_timed_out r n
+after_call (OnLoss n) r = reno_lost r n
+after_call (SetMss n) r = reno_with_mss r n
+
+abbrev pub after_calls : List Call → RenoNumbers → RenoNumbers
+after_calls [] r = r
+after_calls (c ∷ cs) r = after_calls cs (after_call c r)
+
+-- no call acknowledges new data
+abbrev pub AcksNothing : List Call → Type 0
+AcksNothing [] = Unit {0}
+AcksNothing (OnAck n ∷ cs) = (n ≡ 0) × AcksNothing cs
+AcksNothing (c ∷ cs) = AcksNothing cs
+
+-- a timeout, these calls and another timeout, which keeps the threshold
+abbrev pub KeepsThreshold : RenoNumbers → ℕ → List Call → ℕ → Type 0
+KeepsThreshold r flight calls later =
+    let before = after_calls calls (reno_timed_out r flight) in (reno_timed_out before later).ssthresh ≡ before.ssthresh

@@ -1,0 +1,119 @@
+-- The estimator of round-trip times and of the retransmission timeout (RFC 6298), in milliseconds.
+use Rattle.std.specs.Prelude.{ℕ, ◌+◌, ◌*◌, ◌/◌, ◌^◌, ◌≤◌, ◌==◌, max, min, Bool, true, if◌then◌else◌}
+use Rattle.std.specs.Prelude.{List, [], ◌∷◌, Option, None, Some, ◌-ℤ◌, unsigned_abs}
+use Rattle.std.specs.Int.{div_ceil, abs_diff}
+use Rattle.net_base.specs.declared.time.Instant.{Instant}
+use Rattle.control_wire.specs.declared.seq_number.TcpSeqNumber.{TcpSeqNumber}
+use Rattle.sock_core.specs.declared.rtte.Smoothed.{Smoothed}
+use Rattle.sock_core.specs.declared.rtte.Timing.{Timing}
+use Rattle.sock_core.specs.Seq.{is_before}
+
+pub record Estimator : Type 0 where
+  pub smoothed : Option Smoothed  -- SRTT and RTTVAR, once there was a sample
+  pub rto : ℕ  -- the retransmission timeout
+  pub timing : Option Timing  -- the number whose acknowledgement is waited for, and when it was sent
+  pub highest : Option TcpSeqNumber  -- the highest number that was sent
+  pub backoffs : ℕ  -- the timeouts since the last sample, or since the measurement was cleared
+
+-- a second, and no measurement
+abbrev pub fresh_estimator : Estimator
+fresh_estimator = record { smoothed = None; rto = 1000; timing = None; highest = None; backoffs = 0 }
+
+-- between a second and a minute
+abbrev pub IsTimeout : ℕ → Type 0
+IsTimeout n = (1000 ≤ n) × (n ≤ 60000)
+
+-- at most 2 ^ 28 milliseconds, which is three days
+abbrev pub AreSmall : Option Smoothed → Type 0
+AreSmall None = Unit {0}
+AreSmall (Some s) = (s.srtt ≤ 2 ^ 28) × (s.rttvar ≤ 2 ^ 28)
+
+pub record IsEstimator (smoothed : Option Smoothed) (rto backoffs : ℕ) : Type 0 where
+  pub small : AreSmall smoothed
+  pub timeout : IsTimeout rto
+  pub few : backoffs ≤ 2
+
+-- ---- a sample of x milliseconds
+
+abbrev pub smoothed_by : Option Smoothed → ℕ → Smoothed
+smoothed_by None x = record { srtt = x; rttvar = x / 2 }
+smoothed_by (Some s) x =
+    record { srtt = div_ceil (7 * s.srtt + x) 8; rttvar = div_ceil (3 * s.rttvar + abs_diff s.srtt x) 4 }
+
+abbrev pub timeout_of : Smoothed → ℕ
+timeout_of s = max 1000 (min (s.srtt + max 5 (4 * s.rttvar)) 60000)
+
+-- cut at 2 ^ 28
+unfoldable pub sampled : Estimator → ℕ → Estimator
+sampled e x =
+    let s = smoothed_by e.smoothed (min x (2 ^ 28)) in record e { smoothed = Some s; rto = timeout_of s; backoffs = 0 }
+
+-- ---- the other calls
+
+-- the numbers before n are sent at a moment
+abbrev pub is_highest : Option TcpSeqNumber → TcpSeqNumber → Bool
+is_highest None n = true
+is_highest (Some m) n = is_before m n
+
+abbrev pub timed_from : Option Timing → Instant → TcpSeqNumber → Option Timing
+timed_from None now n = Some (record { at = now; number = n })
+timed_from (Some t) now n = Some t
+
+-- a new highest number is kept, and starts a timing where none runs
+unfoldable pub sent : Estimator → Instant → TcpSeqNumber → Estimator
+sent e now n =
+    if is_highest e.highest n then record e { highest = Some n; timing = timed_from e.timing now n } else e
+
+-- whole milliseconds between two moments
+abbrev pub millis_between : Instant → Instant → ℕ
+millis_between a b = unsigned_abs (a.micros -ℤ b.micros) / 1000
+
+-- the number n is acknowledged: at or after the timed number, the timing ends with a sample
+abbrev pub acked_at : Option Timing → Estimator → Instant → TcpSeqNumber → Estimator
+acked_at None e now n = e
+acked_at (Some t) e now n =
+    if is_before n t.number then e else record (sampled e (millis_between now t.at)) { timing = None }
+
+unfoldable pub acked : Estimator → Instant → TcpSeqNumber → Estimator
+acked e now n = acked_at e.timing e now n
+
+-- the retransmission timer ran out: the timeout doubles, to a minute at most. The third time without a sample between
+-- clears the measurement
+unfoldable pub backed_off : Estimator → Estimator
+backed_off e =
+    record e {
+      rto = min (2 * e.rto) 60000;
+      backoffs = if e.backoffs == 2 then 0 else e.backoffs + 1;
+      smoothed = if e.backoffs == 2 then None else e.smoothed;
+    }
+
+-- what is sent again is not timed (Karn's algorithm, RFC 6298, section 3)
+unfoldable pub retransmitted : Estimator → Estimator
+retransmitted e = record e { timing = None }
+
+-- what the getters answer: 0 without a measurement
+abbrev pub srtt_of : Option Smoothed → ℕ
+srtt_of None = 0
+srtt_of (Some s) = s.srtt
+
+abbrev pub rttvar_of : Option Smoothed → ℕ
+rttvar_of None = 0
+rttvar_of (Some s) = s.rttvar
+
+-- ---- lists of calls
+
+pub data Call : Type 0 where
+  Sample : ℕ → Call
+  OnSend OnAck : Instant → TcpSeqNumber → Call
+  OnRto OnRetransmit : Call
+
+abbrev pub after_call : Call → Estimator → Estimator
+after_call (Sample x) e = sampled e x
+after_call (OnSend now n) e = sent e now n
+after_call (OnAck now n) e = acked e now n
+after_call OnRto e = backed_off e
+after_call OnRetransmit e = retransmitted e
+
+abbrev pub after_calls : List Call → Estimator → Estimator
+after_calls [] e = e
+after_calls (c ∷ cs) e = after_calls cs (after_call c e)

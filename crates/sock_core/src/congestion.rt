@@ -1,0 +1,383 @@
+//! Congestion control: how many bytes may be in flight (RFC 5681). As smoltcp's Reno, or none.
+ghost use Rattle.std.specs.Prelude.{◌≡◌, ℕ, ◌-◌, ◌^◌, ◌<◌, ◌≤◌, List};
+ghost use Rattle.sock_core.specs.Reno.{RenoNumbers};
+ghost use Rattle.sock_core.specs.Congestion.{fresh_reno, bounded, growth, halved, capped};
+ghost use Rattle.sock_core.specs.Congestion.{reno_acked, reno_dup_acked, reno_lost, reno_timed_out};
+ghost use Rattle.sock_core.specs.Congestion.{reno_with_mss, reno_with_remote_window};
+ghost use Rattle.sock_core.specs.Congestion.{congestion_window, acked, dup_acked, lost, timed_out};
+ghost use Rattle.sock_core.specs.Congestion.{with_mss, with_remote_window, Call, AcksNothing, KeepsThreshold};
+
+use crate::rtte::RttEstimator;
+use net_base::time::Instant;
+use std::marker::Model;
+
+/// Decides how many bytes may be in flight. Counts are bytes.
+///
+/// What each call leaves depends on the numbers named here alone. As smoltcp's trait, the calls also take the moment,
+/// what is in flight and the estimator.
+pub trait Controller {
+    // the window, and what each call leaves
+    ghost window_of: { Self → ℕ };
+
+    ghost after_remote_window: { Self → ℕ → Self };
+
+    ghost after_ack: { Self → ℕ → Self };
+
+    ghost after_dup_ack: { Self → ℕ → Self };
+
+    ghost after_rto: { Self → ℕ → Self };
+
+    ghost after_loss: { Self → ℕ → Self };
+
+    ghost after_mss: { Self → ℕ → Self };
+
+    /// How many bytes may be in flight.
+    fn window(&self) -> usize
+        ensures { result ≡ window_of self.now };
+
+    /// The peer gave this window.
+    fn set_remote_window(&mut self, remote_window: usize)
+        ensures { self.new ≡ after_remote_window self.old remote_window };
+
+    /// An acknowledgement that is no duplicate came, of `len` bytes, after which `in_flight` are unacknowledged.
+    fn on_ack(&mut self, now: Instant, len: usize, in_flight: usize, rtt: &RttEstimator)
+        ensures { self.new ≡ after_ack self.old len };
+
+    /// A duplicate acknowledgement came, which tells that `len` bytes, a segment, left the network.
+    fn on_dup_ack(&mut self, now: Instant, len: usize, in_flight: usize)
+        ensures { self.new ≡ after_dup_ack self.old len };
+
+    /// The retransmission timer ran out.
+    fn on_rto(&mut self, now: Instant, in_flight: usize)
+        ensures { self.new ≡ after_rto self.old in_flight };
+
+    /// Duplicate acknowledgements tell that a segment was lost.
+    fn on_loss(&mut self, now: Instant, in_flight: usize)
+        ensures { self.new ≡ after_loss self.old in_flight };
+
+    /// A segment may go out.
+    fn pre_transmit(&mut self, now: Instant)
+        ensures { self.new ≡ self.old };
+
+    /// A segment that takes `len` sequence numbers went out.
+    fn post_transmit(&mut self, now: Instant, len: usize)
+        ensures { self.new ≡ self.old };
+
+    /// The peer's maximum segment size.
+    fn set_mss(&mut self, mss: usize)
+        ensures { self.new ≡ after_mss self.old mss };
+}
+
+/// No congestion control: any number of bytes may be in flight.
+#[derive(Debug, Clone, Copy)]
+pub struct NoControl;
+
+/// Reno: slow start, congestion avoidance, fast retransmit and fast recovery (RFC 5681).
+#[derive(Debug, Clone, Copy)]
+pub struct Reno {
+    cwnd: usize,
+    mss: usize,
+    rwnd: usize,
+    ssthresh: usize,
+    in_timeout: bool,
+    in_recovery: bool,
+}
+
+impl Model for Reno {
+    ghost use Rattle.sock_core.specs.Reno.{RenoNumbers};
+
+    ghost Value = { RenoNumbers };
+
+    ghost view = { λ r. record {
+      cwnd = r.cwnd;
+      mss = r.mss;
+      rwnd = r.rwnd;
+      ssthresh = r.ssthresh;
+      in_timeout = r.in_timeout;
+      in_recovery = r.in_recovery;
+    } };
+
+    ghost inverse = { λ r. record {
+      cwnd = r.cwnd;
+      mss = r.mss;
+      rwnd = r.rwnd;
+      ssthresh = r.ssthresh;
+      in_timeout = r.in_timeout;
+      in_recovery = r.in_recovery;
+    } };
+}
+
+/// A controller of either kind.
+#[derive(Debug, Clone, Copy)]
+pub enum AnyController {
+    /// No congestion control.
+    None(NoControl),
+    /// Reno.
+    Reno(Reno),
+}
+
+impl AnyController {
+    /// Reno.
+    pub fn new() -> AnyController
+        ensures { result ≡ AnyController.Reno fresh_reno }
+    {
+        AnyController::Reno(Reno::new())
+    }
+}
+
+/// An acknowledgement of zero bytes changes nothing.
+pub fn ack_of_nothing_changes_nothing()
+    ensures { (c : AnyController) → acked c 0 ≡ c }
+{}
+
+/// A second timeout keeps Reno's threshold, unless new data was acknowledged since the first.
+pub fn second_timeout_keeps_threshold()
+    ensures { (r : RenoNumbers) (f l : ℕ) (calls : List Call) → AcksNothing calls → KeepsThreshold r f calls l }
+{}
+
+/// After an acknowledgement of new data Reno's window is at least a segment, where its threshold is.
+pub fn window_holds_a_segment()
+    ensures { (r : RenoNumbers) (n : ℕ) → 0 < n → r.mss ≤ r.ssthresh → r.mss ≤ (reno_acked r n).cwnd }
+{}
+
+impl Reno {
+    /// A window of 2048 bytes, segments of 1024, and no threshold yet.
+    pub fn new() -> Reno
+        ensures { result ≡ fresh_reno }
+    {
+        Reno {
+            cwnd: 2048,
+            mss: 1024,
+            rwnd: 65536,
+            ssthresh: usize::MAX,
+            in_timeout: false,
+            in_recovery: false,
+        }
+    }
+
+    /// The window, in bytes, at which slow start ends.
+    pub fn ssthresh(&self) -> usize
+        ensures { result ≡ self.now.ssthresh }
+    {
+        self.ssthresh
+    }
+
+    // At most the peer's window, and at least a segment.
+    fn bounded(&self, window: usize) -> usize
+        ensures { result ≡ bounded self.now window }
+    {
+        window.min(self.rwnd).max(self.mss)
+    }
+
+    // How far an acknowledgement of `len` bytes opens the window.
+    fn growth(&self, len: usize) -> usize
+        ensures { result ≡ growth self.now len }
+    {
+        if self.cwnd < self.ssthresh {
+            len.min(self.mss)
+        } else {
+            (self.mss.saturating_mul(self.mss) / self.cwnd.max(1)).max(1)
+        }
+    }
+
+    // Half of what is in flight, and at least two segments.
+    fn halved(&self, in_flight: usize) -> usize
+        ensures { result ≡ halved self.now in_flight }
+    {
+        (in_flight / 2).max(self.mss.saturating_mul(2))
+    }
+}
+
+impl Controller for Reno {
+    ghost window_of = { λ r. r.cwnd };
+
+    ghost after_remote_window = { reno_with_remote_window };
+
+    ghost after_ack = { reno_acked };
+
+    ghost after_dup_ack = { reno_dup_acked };
+
+    ghost after_rto = { reno_timed_out };
+
+    ghost after_loss = { reno_lost };
+
+    ghost after_mss = { reno_with_mss };
+
+    fn window(&self) -> usize {
+        self.cwnd
+    }
+
+    fn set_remote_window(&mut self, remote_window: usize) {
+        self.rwnd = self.rwnd.max(remote_window);
+    }
+
+    #[tactic(auto, unfolding(crate::specs::Congestion::reno_acked))]
+    fn on_ack(&mut self, _now: Instant, len: usize, _in_flight: usize, _rtt: &RttEstimator) {
+        if len == 0 {
+            return;
+        }
+        self.cwnd = if self.in_recovery {
+            self.ssthresh
+        } else {
+            self.bounded(self.cwnd.saturating_add(self.growth(len)))
+        };
+        self.in_timeout = false;
+        self.in_recovery = false;
+    }
+
+    #[tactic(auto, unfolding(crate::specs::Congestion::reno_dup_acked))]
+    fn on_dup_ack(&mut self, _now: Instant, len: usize, _in_flight: usize) {
+        if self.in_recovery {
+            self.cwnd = self.bounded(self.cwnd.saturating_add(len));
+        }
+    }
+
+    #[tactic(auto, unfolding(crate::specs::Congestion::reno_timed_out))]
+    fn on_rto(&mut self, _now: Instant, in_flight: usize) {
+        if !self.in_timeout {
+            self.ssthresh = self.halved(in_flight);
+        }
+        self.cwnd = self.mss;
+        self.in_timeout = true;
+        self.in_recovery = false;
+    }
+
+    #[tactic(auto, unfolding(crate::specs::Congestion::reno_lost))]
+    fn on_loss(&mut self, _now: Instant, in_flight: usize) {
+        if self.in_recovery {
+            return;
+        }
+        let ssthresh = self.halved(in_flight);
+        self.ssthresh = ssthresh;
+        self.cwnd = ssthresh
+            .min(self.rwnd)
+            .saturating_add(self.mss.saturating_mul(3));
+        self.in_recovery = true;
+    }
+
+    fn pre_transmit(&mut self, _now: Instant) {}
+
+    fn post_transmit(&mut self, _now: Instant, _len: usize) {}
+
+    fn set_mss(&mut self, mss: usize) {
+        self.mss = mss;
+    }
+}
+
+impl Controller for NoControl {
+    ghost window_of = { λ c. 2 ^ 64 - 1 };
+
+    ghost after_remote_window = { λ c n. c };
+
+    ghost after_ack = { λ c n. c };
+
+    ghost after_dup_ack = { λ c n. c };
+
+    ghost after_rto = { λ c n. c };
+
+    ghost after_loss = { λ c n. c };
+
+    ghost after_mss = { λ c n. c };
+
+    fn window(&self) -> usize {
+        usize::MAX
+    }
+
+    fn set_remote_window(&mut self, _remote_window: usize) {}
+
+    fn on_ack(&mut self, _now: Instant, _len: usize, _in_flight: usize, _rtt: &RttEstimator) {}
+
+    fn on_dup_ack(&mut self, _now: Instant, _len: usize, _in_flight: usize) {}
+
+    fn on_rto(&mut self, _now: Instant, _in_flight: usize) {}
+
+    fn on_loss(&mut self, _now: Instant, _in_flight: usize) {}
+
+    fn pre_transmit(&mut self, _now: Instant) {}
+
+    fn post_transmit(&mut self, _now: Instant, _len: usize) {}
+
+    fn set_mss(&mut self, _mss: usize) {}
+}
+
+impl Controller for AnyController {
+    ghost window_of = { congestion_window };
+
+    ghost after_remote_window = { with_remote_window };
+
+    ghost after_ack = { acked };
+
+    ghost after_dup_ack = { dup_acked };
+
+    ghost after_rto = { timed_out };
+
+    ghost after_loss = { lost };
+
+    ghost after_mss = { with_mss };
+
+    fn window(&self) -> usize {
+        match self {
+            AnyController::None(none) => none.window(),
+            AnyController::Reno(reno) => reno.window(),
+        }
+    }
+
+    fn set_remote_window(&mut self, remote_window: usize) {
+        match self {
+            AnyController::None(none) => none.set_remote_window(remote_window),
+            AnyController::Reno(reno) => reno.set_remote_window(remote_window),
+        }
+    }
+
+    fn on_ack(&mut self, now: Instant, len: usize, in_flight: usize, rtt: &RttEstimator) {
+        match self {
+            AnyController::None(none) => none.on_ack(now, len, in_flight, rtt),
+            AnyController::Reno(reno) => reno.on_ack(now, len, in_flight, rtt),
+        }
+    }
+
+    fn on_dup_ack(&mut self, now: Instant, len: usize, in_flight: usize) {
+        match self {
+            AnyController::None(none) => none.on_dup_ack(now, len, in_flight),
+            AnyController::Reno(reno) => reno.on_dup_ack(now, len, in_flight),
+        }
+    }
+
+    fn on_rto(&mut self, now: Instant, in_flight: usize) {
+        match self {
+            AnyController::None(none) => none.on_rto(now, in_flight),
+            AnyController::Reno(reno) => reno.on_rto(now, in_flight),
+        }
+    }
+
+    fn on_loss(&mut self, now: Instant, in_flight: usize) {
+        match self {
+            AnyController::None(none) => none.on_loss(now, in_flight),
+            AnyController::Reno(reno) => reno.on_loss(now, in_flight),
+        }
+    }
+
+    fn pre_transmit(&mut self, now: Instant) {
+        match self {
+            AnyController::None(none) => none.pre_transmit(now),
+            AnyController::Reno(reno) => reno.pre_transmit(now),
+        }
+    }
+
+    fn post_transmit(&mut self, now: Instant, len: usize) {
+        match self {
+            AnyController::None(none) => none.post_transmit(now, len),
+            AnyController::Reno(reno) => reno.post_transmit(now, len),
+        }
+    }
+
+    fn set_mss(&mut self, mss: usize) {
+        match self {
+            AnyController::None(none) => none.set_mss(mss),
+            AnyController::Reno(reno) => reno.set_mss(mss),
+        }
+    }
+}
+
+#[cfg(test)]
+mod tests;

@@ -1,0 +1,224 @@
+//! The estimator of round-trip times and of the retransmission timeout (RFC 6298).
+ghost use Rattle.std.specs.Prelude.{◌≡◌, ◌*◌, ◌≤◌, List};
+ghost use Rattle.sock_core.specs.Estimator.{fresh_estimator, sampled, sent, acked, backed_off, retransmitted};
+ghost use Rattle.sock_core.specs.Estimator.{smoothed_by, timeout_of, AreSmall, IsTimeout, srtt_of, rttvar_of};
+ghost use Rattle.sock_core.specs.Estimator.{Call, after_calls};
+
+use crate::seq::before;
+use control_wire::TcpSeqNumber;
+use net_base::time::{Duration, Instant};
+use std::marker::Model;
+
+// All in milliseconds.
+const INITIAL_TIMEOUT: u32 = 1_000;
+
+const LEAST_TIMEOUT: u32 = 1_000;
+
+const LONGEST_TIMEOUT: u32 = 60_000;
+
+const LEAST_MARGIN: u32 = 5;
+
+const LONGEST_SAMPLE: u32 = 1 << 28;
+
+// How many timeouts without a sample between them clear the measurement.
+const TIMEOUTS_TO_CLEAR: u8 = 3;
+
+// The smoothed round-trip time (SRTT) and its variation (RTTVAR), in milliseconds.
+#[derive(Debug, Clone, Copy)]
+struct Smoothed {
+    srtt: u32,
+    rttvar: u32,
+}
+
+// A number whose acknowledgement is waited for, and when what lies before it was sent.
+#[derive(Debug, Clone, Copy)]
+struct Timing {
+    at: Instant,
+    number: TcpSeqNumber,
+}
+
+/// Estimates how long a segment and its acknowledgement travel, and from that how long to wait for an acknowledgement
+/// before a segment is sent again (RFC 6298).
+///
+/// The timeout is between 1,000 and 60,000 milliseconds. One number at a time is timed, and none that was sent again.
+#[derive(Debug, Clone, Copy)]
+pub struct RttEstimator {
+    smoothed: Option<Smoothed>,
+    rto: u32,
+    timing: Option<Timing>,
+    highest: Option<TcpSeqNumber>,
+    backoffs: u8,
+}
+
+impl Model for RttEstimator {
+    ghost use Rattle.sock_core.specs.Estimator.{Estimator, IsEstimator};
+
+    ghost Value = { Estimator };
+
+    ghost view = { λ e. record {
+      smoothed = e.smoothed;
+      rto = e.rto;
+      timing = e.timing;
+      highest = e.highest;
+      backoffs = e.backoffs;
+    } };
+
+    ghost invariant = { λ e. IsEstimator e.smoothed e.rto e.backoffs };
+
+    ghost inverse = { λ e. record {
+      smoothed = e.smoothed;
+      rto = e.rto;
+      timing = e.timing;
+      highest = e.highest;
+      backoffs = e.backoffs;
+    } };
+}
+
+impl Default for RttEstimator {
+    ghost is_default = { λ e. e ≡ fresh_estimator };
+
+    /// No measurement, and a timeout of a second.
+    fn default() -> Self {
+        RttEstimator {
+            smoothed: None,
+            rto: INITIAL_TIMEOUT,
+            timing: None,
+            highest: None,
+            backoffs: 0,
+        }
+    }
+}
+
+/// After any calls of a fresh estimator the timeout is between 1,000 and 60,000 milliseconds.
+pub fn timeout_stays_in_range()
+    ensures { (calls : List Call) → IsTimeout (after_calls calls fresh_estimator).rto }
+{}
+
+impl RttEstimator {
+    /// How long to wait for an acknowledgement.
+    pub fn retransmission_timeout(&self) -> Duration
+        ensures value { result.micros ≡ self.now.rto * 1000 }
+        ensures range { IsTimeout self.now.rto }
+    {
+        Duration::from_millis(self.rto as u64)
+    }
+
+    /// The smoothed round-trip time (SRTT), in milliseconds. 0 without a measurement.
+    pub fn srtt(&self) -> u32
+        ensures { result ≡ srtt_of self.now.smoothed }
+    {
+        match self.smoothed {
+            None => 0,
+            Some(smoothed) => smoothed.srtt,
+        }
+    }
+
+    /// The variation of the round-trip time (RTTVAR), in milliseconds. 0 without a measurement.
+    pub fn rttvar(&self) -> u32
+        ensures { result ≡ rttvar_of self.now.smoothed }
+    {
+        match self.smoothed {
+            None => 0,
+            Some(smoothed) => smoothed.rttvar,
+        }
+    }
+
+    /// Takes a round-trip time, in milliseconds, of which at most 2^28 count (RFC 6298, section 2).
+    #[tactic(auto, unfolding(crate::specs::Estimator::sampled))]
+    pub fn sample(&mut self, new_rtt: u32)
+        ensures { self.new ≡ sampled self.old new_rtt }
+    {
+        let smoothed = smoothed_by(self.smoothed, new_rtt.min(LONGEST_SAMPLE));
+        self.smoothed = Some(smoothed);
+        self.rto = timeout_of(smoothed);
+        self.backoffs = 0;
+    }
+
+    /// The numbers before `number` are sent. A new highest one is timed where none is.
+    #[tactic(auto, unfolding(crate::specs::Estimator::sent))]
+    pub fn on_send(&mut self, now: Instant, number: TcpSeqNumber)
+        ensures { self.new ≡ sent self.old now number }
+    {
+        let is_highest = match self.highest {
+            None => true,
+            Some(highest) => before(highest, number),
+        };
+        if is_highest {
+            self.highest = Some(number);
+            if self.timing.is_none() {
+                self.timing = Some(Timing { at: now, number });
+            }
+        }
+    }
+
+    /// The numbers before `number` are acknowledged. Where the timed one is among them, the time since it was sent, in
+    /// whole milliseconds, is a sample.
+    #[tactic(auto, using(crate::proofs::Estimators::sampled_cut), unfolding(crate::specs::Estimator::acked))]
+    pub fn on_ack(&mut self, now: Instant, number: TcpSeqNumber)
+        ensures { self.new ≡ acked self.old now number }
+    {
+        let Some(timing) = self.timing else {
+            return;
+        };
+        if before(number, timing.number) {
+            return;
+        }
+        let elapsed = (now - timing.at).total_millis();
+        self.sample(elapsed.min(LONGEST_SAMPLE as u64) as u32);
+        self.timing = None;
+    }
+
+    /// The retransmission timer ran out: the timeout doubles (RFC 6298, section 5.5), and each third time without a
+    /// sample between the measurement is cleared.
+    #[tactic(auto, unfolding(crate::specs::Estimator::backed_off))]
+    pub fn on_rto(&mut self)
+        ensures { self.new ≡ backed_off self.old }
+    {
+        self.rto = (self.rto * 2).min(LONGEST_TIMEOUT);
+        self.backoffs += 1;
+        if self.backoffs == TIMEOUTS_TO_CLEAR {
+            self.backoffs = 0;
+            self.smoothed = None;
+        }
+    }
+
+    /// What was sent is sent again, so that no acknowledgement tells a round-trip time: nothing is timed any more.
+    #[tactic(auto, unfolding(crate::specs::Estimator::retransmitted))]
+    pub fn on_retransmit(&mut self)
+        ensures { self.new ≡ retransmitted self.old }
+    {
+        self.timing = None;
+    }
+}
+
+// The measurement with one more sample.
+fn smoothed_by(smoothed: Option<Smoothed>, sample: u32) -> Smoothed
+    requires small { AreSmall smoothed }
+    requires cut { sample ≤ 268435456 }
+    ensures value { result ≡ smoothed_by smoothed sample }
+    ensures small { AreSmall (Some result) }
+{
+    match smoothed {
+        None => Smoothed {
+            srtt: sample,
+            rttvar: sample / 2,
+        },
+        Some(Smoothed { srtt, rttvar }) => Smoothed {
+            srtt: (7 * srtt + sample).div_ceil(8),
+            rttvar: (3 * rttvar + srtt.abs_diff(sample)).div_ceil(4),
+        },
+    }
+}
+
+// The timeout of a measurement.
+fn timeout_of(smoothed: Smoothed) -> u32
+    requires { AreSmall (Some smoothed) }
+    ensures value { result ≡ timeout_of smoothed }
+    ensures range { IsTimeout result }
+{
+    let margin = LEAST_MARGIN.max(4 * smoothed.rttvar);
+    (smoothed.srtt + margin).clamp(LEAST_TIMEOUT, LONGEST_TIMEOUT)
+}
+
+#[cfg(test)]
+mod tests;

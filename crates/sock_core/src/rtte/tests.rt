@@ -1,0 +1,58 @@
+//! Samples and backoffs, in milliseconds.
+use crate::rtte::RttEstimator;
+use control_wire::TcpSeqNumber;
+use net_base::time::Instant;
+use std::test::Fail;
+
+fn timeout(estimator: &RttEstimator) -> u64 {
+    estimator.retransmission_timeout().total_millis()
+}
+
+#[test]
+fn estimator_numbers(rt: HostRuntime) -> Result<(), Fail> {
+    let mut estimator = RttEstimator::default();
+    assert_eq!(rt;
+        (timeout(&estimator), estimator.srtt(), estimator.rttvar()),
+        (1000, 0, 0)
+    );
+    estimator.sample(100);
+    assert_eq!(rt; timeout(&estimator), 1000);
+    estimator.sample(3000);
+    assert_eq!(rt;
+        (estimator.srtt(), estimator.rttvar(), timeout(&estimator)),
+        (463, 763, 3515)
+    );
+    Ok(())
+}
+
+#[test]
+fn six_backoffs(rt: HostRuntime) -> Result<(), Fail> {
+    let mut estimator = RttEstimator::default();
+    for doubled in [2000, 4000, 8000, 16000, 32000, 60000] {
+        estimator.on_rto();
+        assert_eq!(rt; timeout(&estimator), doubled);
+    }
+    Ok(())
+}
+
+// A number is timed once, from its first sending to the acknowledgement that reaches it, unless it is sent again.
+#[test]
+fn one_number_is_timed(rt: HostRuntime) -> Result<(), Fail> {
+    let mut estimator = RttEstimator::default();
+    let [first, second] = [TcpSeqNumber(10), TcpSeqNumber(20)];
+    estimator.on_send(Instant::ZERO, first);
+    estimator.on_send(Instant::from_micros(1_000_000), second);
+    estimator.on_ack(Instant::from_micros(2_000_000), TcpSeqNumber(9));
+    assert_eq!(rt; estimator.srtt(), 0);
+    estimator.on_ack(Instant::from_micros(3_000_999), second);
+    assert_eq!(rt; (estimator.srtt(), estimator.rttvar()), (3000, 1500));
+    estimator.on_send(Instant::from_micros(4_000_000), TcpSeqNumber(30));
+    estimator.on_retransmit();
+    estimator.on_ack(Instant::from_micros(4_000_001), TcpSeqNumber(30));
+    assert_eq!(rt; estimator.srtt(), 3000);
+    for _ in 0..3 {
+        estimator.on_rto();
+    }
+    assert_eq!(rt; (estimator.srtt(), estimator.rttvar()), (0, 0));
+    Ok(())
+}
