@@ -23,7 +23,7 @@ ghost use Rattle.sock_pair.specs.PairInvariant.{IsPair};
 ghost use Rattle.sock_pair.specs.PairLaws.{IsBounded, MayEmit};
 ghost use Rattle.sock_pair.specs.PairNetwork.{shown, stream_segment, IsSmall};
 ghost use Rattle.sock_pair.specs.PairPromises.{Prefix, Release, IsPromptAt};
-ghost use Rattle.sock_pair.specs.PairSteps.{Step};
+ghost use Rattle.sock_pair.specs.PairSteps.{EventStep};
 ghost use Rattle.sock_pair.specs.PairViews.{PairView};
 ghost use Rattle.sock_pair.specs.StreamCalls.{ProcessEffect, BeginEffect};
 ghost use Rattle.sock_pair.specs.StreamViews.{Listening, SynSent};
@@ -78,5 +78,5 @@ pub fn pairs_deliver_in_order()
 
 /// A delivery that a side accepts, of a segment in order, appends the whole payload to the receive queue before it returns.
 pub fn pairs_deliver_at_once()
-    ensures { (i : ℕ) (m : Moment) (p q : PairView) (o : Outcome) → Step (Deliver i m) p o q → IsPromptAt i p o q }
+    ensures { (i : ℕ) (m : Moment) (p q : PairView) (o : Outcome) → EventStep (Deliver i m) p o q → IsPromptAt i p o q }
 {}
