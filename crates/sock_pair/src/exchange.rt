@@ -4,6 +4,7 @@ ghost use Rattle.sock_pair.specs.Holding.{stored_of, kept_at};
 ghost use Rattle.std.specs.Option.{ForSome};
 ghost use Rattle.control_wire.specs.Segment.{segment_of};
 ghost use Rattle.sock_pair.specs.PairSteps.{is_too_old, dispatch_outcome, stored_at, Dispatches, reply_index, IsUnchanged};
+ghost use Rattle.sock_pair.specs.Recording.{IsShort};
 ghost use Rattle.sock_pair.specs.Exchanges.{DeliversAt, ReachesSocketAt};
 
 use crate::host::Host;
@@ -37,7 +38,8 @@ pub fn too_old(released_at: u64, released_now: u64, taken_at: u64, taken_now: u6
 // What came of a dispatch, whose segment is stored where there is one; there is room for it. Of the room for its payload
 // it keeps no more than it needs.
 fn store(segments: &mut Vec<Segment>, from: Side, sent: Sent, counts: Counts) -> Outcome
-    requires { vec_len segments.old < vec_capacity segments.old }
+    requires room { vec_len segments.old < vec_capacity segments.old }
+    requires short { IsShort sent }
     ensures answer { result ≡ dispatch_outcome sent (length (map stored_of segments.old.items)) }
     ensures stored { map stored_of segments.new.items ≡ map stored_of segments.old.items ++ stored_at from sent counts.released counts.taken }
 {

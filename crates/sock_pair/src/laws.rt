@@ -14,7 +14,7 @@ ghost use Rattle.sock_tcp.specs.View.{View};
 ghost use Rattle.sock_tcp.specs.Opening.{listened, connected};
 ghost use Rattle.sock_tcp.specs.Queues.{written, read_off};
 ghost use Rattle.sock_tcp.specs.Process.{processed};
-ghost use Rattle.sock_tcp.specs.Due.{flight, readied};
+ghost use Rattle.sock_tcp.specs.Due.{flight, before_emit};
 ghost use Rattle.sock_tcp.specs.Content.{Sending, asked, content};
 ghost use Rattle.sock_tcp.specs.Dispatch.{sent};
 ghost use Rattle.sock_tcp.specs.declared.tuple.Tuple.{Tuple};
@@ -40,7 +40,7 @@ pub fn process_heard()
 
 /// What a dispatch does before it emits anything changes nothing that the streams see, or resets the socket, whose address is gone.
 pub fn begun_shows()
-    ensures { (v : View) (f : Facts) → BeginEffect (shown v) (shown (readied v f).view) }
+    ensures { (v : View) (f : Facts) → BeginEffect (shown v) (shown (before_emit v f).view) }
 {}
 
 /// What a dispatch emits, with any bytes that the ring lent, may be sent; and an emit that succeeds moves SND.NXT alone.

@@ -1,4 +1,4 @@
-use Rattle.std.proofs.Common.{◌≡◌, ◌∷◌, [], ◌++◌, ◌+◌, length, ap, ◌∙◌, arith, length-append}
+use Rattle.std.proofs.Common.{◌≡◌, ◌∷◌, [], ◌++◌, length, ap, ◌∙◌, arith, length-append}
 use Rattle.sock_pair.proofs.Running.{ran_more, ran_none}
 use Rattle.sock_pair.proofs.pair.Pair.run.Goals as goal
 
