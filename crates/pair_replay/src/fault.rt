@@ -1,4 +1,4 @@
-// Why the program failed.
+//! Why the program failed.
 use sock_pair::script::{End, ScriptError};
 use thiserror::Error;
 

@@ -8,6 +8,7 @@ use crate::fault::Fault;
 use crate::streams::{Input, Output};
 use sock_pair::script::{End, replay};
 use std::fs::File;
+use std::io::BufWriter;
 use std::process::ExitCode;
 use std::{env, io};
 
@@ -33,7 +34,11 @@ fn run(rt: &HostRuntime) -> Result<(), Fault> {
     if args.next().is_some() {
         return Err(Fault::Usage);
     }
-    let mut output = Output::new(io::writer(rt));
+    let writer = match BufWriter::new(rt.alloc(), io::writer(rt)) {
+        Ok(writer) => writer,
+        Err(_) => return Err(Fault::Memory),
+    };
+    let mut output = Output::new(writer);
     let end = match file {
         None => replay(rt.alloc(), &mut Input::new(rt.reader()), &mut output),
         Some(name) => {
@@ -44,7 +49,10 @@ fn run(rt: &HostRuntime) -> Result<(), Fault> {
             replay(rt.alloc(), &mut Input::new(file), &mut output)
         }
     };
-    fault_of(end)
+    match output.flush() {
+        Ok(()) => fault_of(end),
+        Err(_) => Err(Fault::Write),
+    }
 }
 
 // Why the file's name or the file could not be had.

@@ -1,5 +1,7 @@
-// A reader and a writer as streams of a replay.
+//! A reader and a writer as streams of a replay.
 ghost use Rattle.std.specs.Prelude.{◌≡◌, false};
+ghost use Rattle.std.specs.Io.KnownBytes.{Keeps};
+ghost use Rattle.sock_pair.specs.ReplayStreams.{NotesFault};
 
 use sock_pair::script::{Sink, Source, StreamFault};
 use std::io::{Read, Write};
@@ -58,6 +60,22 @@ impl<W> Output<W> {
         Output {
             writer,
             failed: false,
+        }
+    }
+}
+
+impl<W: Write> Output<W> {
+    /// Writes out what the writer holds back.
+    pub fn flush(&mut self) -> Result<(), StreamFault>
+        ensures bytes { Keeps (W.contents self.old.writer) (W.contents self.new.writer) }
+        ensures failed { NotesFault self.old.failed result self.new.failed }
+    {
+        match self.writer.flush() {
+            Ok(()) => Ok(()),
+            Err(_) => {
+                self.failed = true;
+                Err(StreamFault)
+            }
         }
     }
 }

@@ -29,6 +29,7 @@ pub mod PairKeeps
 pub mod ShownPrompt
 pub mod PairPromises
 pub mod PairCompletes
+pub mod PairAdding
 pub mod Running
 pub mod NetworkDeliveries
 pub mod ReplaySinks

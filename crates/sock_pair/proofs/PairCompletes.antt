@@ -4,7 +4,7 @@ use Rattle.std.specs.Prelude.{slice_get, Result, Ok, Err, IfOk, length}
 use Rattle.sock_tcp.specs.Queues.{may_send, may_recv}
 use Rattle.sock_pair.specs.PairCalls.{listening, connecting, OpensAs, SendsIf, SendsUnder, IsRead, ReceivesIf, is_over, read_of}
 use Rattle.sock_pair.specs.PairPromises.{Complete}
-use Rattle.sock_pair.specs.PairSteps.{Step, dispatch_outcome, DeliversTo, DeliversIf, Delivers, is_old}
+use Rattle.sock_pair.specs.PairSteps.{EventStep, dispatch_outcome, DeliversTo, DeliversIf, Delivers, is_old}
 use Rattle.sock_pair.specs.PairViews.{HostView, StoredView, PairView, host_of}
 use Rattle.sock_pair.specs.Sides.{other_side}
 use Rattle.sock_pair.specs.declared.event.Event.{Event}
@@ -57,7 +57,7 @@ delivers : (t : Option StoredView) (m : Moment) (p q : PairView) (o : Outcome) �
 delivers None m p q o x = subst Complete (sym x.0) tt
 delivers (Some t) m p q o x = delivers_to (is_old (host_of t.emitter p) t) (other_side t.emitter) m t o (host_of (other_side t.emitter) p) x.host p.segments x.segments x.does
 
-pub never_finished : (e : Event) (p : PairView) (o : Outcome) (q : PairView) → Step e p o q → Complete o
+pub never_finished : (e : Event) (p : PairView) (o : Outcome) (q : PairView) → EventStep e p o q → Complete o
 never_finished (event.Listen s) p o q x = opens (host_of s p).opening (host_of s p) (listening (host_of s p)) x.host o x.does
 never_finished (event.Connect s m) p o q x = opens (host_of s p).opening (host_of s p) (connecting (host_of s p) m (host_of (other_side s) p).endpoint) x.host o x.does
 never_finished (event.SendSlice s bytes) p o q x = sends (is_over p.limit (length (host_of s p).accepted + length bytes.items)) (host_of s p) bytes.items o x.host x.does
@@ -66,6 +66,6 @@ never_finished (event.Dispatch s m fail) p o q x = subst Complete (sym x.does.an
 never_finished (event.Deliver i m) p o q x = delivers (slice_get p.segments i) m p q o x
 
 -- as a pair answers it
-pub completes : (e : Event) (p q : PairView) (r : Result Outcome PairError) → IfOk r (λ o. Step e p o q) → IfOk r (λ o. Complete o)
+pub completes : (e : Event) (p q : PairView) (r : Result Outcome PairError) → IfOk r (λ o. EventStep e p o q) → IfOk r (λ o. Complete o)
 completes e p q (Ok o) x = never_finished e p o q x
 completes e p q (Err x) y = tt

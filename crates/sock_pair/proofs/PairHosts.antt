@@ -6,7 +6,7 @@ use Rattle.ip_wire.specs.declared.endpoint.IpEndpoint.{IpEndpoint}
 use Rattle.sock_core.specs.Facts.{Facts}
 use Rattle.sock_tcp.specs.Queue.{Queue}
 use Rattle.sock_tcp.specs.View.{View, fresh}
-use Rattle.sock_tcp.specs.Due.{Begun, begun, begun_to, readied, readied_to, ended}
+use Rattle.sock_tcp.specs.Due.{Begun, begun, begun_to, before_emit, before_emit_to, ended}
 use Rattle.sock_tcp.specs.Process.{Accepts, AcceptsIn}
 use Rattle.sock_tcp.specs.Queues.{may_send, may_recv, receives, can_recv}
 use Rattle.sock_tcp.specs.declared.state.State.TheVariants as state
@@ -80,9 +80,9 @@ recv_stays h k size o i e = go (may_recv h.control_block) refl e
 
 -- ---- dispatches and deliveries
 
-pub no_peer_readies : (v : View) (f : Facts) → v.tuple ≡ None → readied v f ≡ ended v
-unfolding readied begun
-no_peer_readies v f e = ap (λ (b : Begun). readied_to b.peer b.view) (ap (λ o. begun_to o v f) e)
+pub no_peer_readies : (v : View) (f : Facts) → v.tuple ≡ None → before_emit v f ≡ ended v
+unfolding before_emit begun
+no_peer_readies v f e = ap (λ (b : Begun). before_emit_to b.peer b.view) (ap (λ o. begun_to o v f) e)
 
 pub idle_dispatches : (v w : View) (f : Facts) (fail : Bool) (r : Sent) → v.tuple ≡ None → SocketDispatches v f fail r w → w ≡ v
 unfolding SocketDispatches

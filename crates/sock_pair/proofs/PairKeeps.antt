@@ -11,7 +11,7 @@ use Rattle.sock_core.specs.Facts.{Facts}
 use Rattle.sock_tcp.specs.Queue.{capacity}
 use Rattle.sock_tcp.specs.View.{View}
 use Rattle.sock_tcp.specs.Queues.{may_send, may_recv, written}
-use Rattle.sock_tcp.specs.Due.{Begun, readied}
+use Rattle.sock_tcp.specs.Due.{Begun, before_emit}
 use Rattle.sock_tcp.specs.Content.{Sending, content}
 use Rattle.sock_tcp.specs.Dispatch.{left_by, end_of}
 use Rattle.sock_tcp.specs.declared.tuple.Tuple.{Tuple}
@@ -123,8 +123,8 @@ module _ (s : Side) (h o : HostView) (ks : List StoredView) (limit : Option ℕ)
   dispatches_as : (w : View) (f : Facts) (fail : Bool) (r : Sent) → SocketDispatches h.control_block f fail r w → at_view h.control_block ks → at_view w (ks ++ stored_at s r h.released h.taken)
   unfolding SocketDispatches
   dispatches_as w f fail r d i =
-      sends_from (readied h.control_block f).peer (readied h.control_block f).view w f fail r d
-      (beginning_keeps (opened_network s h b h.control_block o ks limit) (shown (readied h.control_block f).view) (begun_shows h.control_block f) i)
+      sends_from (before_emit h.control_block f).peer (before_emit h.control_block f).view w f fail r d
+      (beginning_keeps (opened_network s h b h.control_block o ks limit) (shown (before_emit h.control_block f).view) (begun_shows h.control_block f) i)
 
 -- a dispatch of a socket without a peer stores nothing
 idle_stores : (v w : View) (f : Facts) (fail : Bool) (r : Sent) → v.tuple ≡ None → SocketDispatches v f fail r w → r ≡ sent.Quiet

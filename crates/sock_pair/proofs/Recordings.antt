@@ -9,14 +9,16 @@ use Rattle.control_wire.specs.declared.tcp.TcpRepr.{TcpRepr}
 use Rattle.sock_core.specs.Facts.{Facts}
 use Rattle.sock_tcp.specs.Queue.{IsLent}
 use Rattle.sock_tcp.specs.View.{View}
-use Rattle.sock_tcp.specs.Due.{flight, readied, effective_mss}
+use Rattle.sock_tcp.specs.Due.{flight, before_emit, effective_mss}
 use Rattle.sock_tcp.specs.Content.{Sending, asked, content, filled, sent_to, carries_data, window_left, plain_segment}
-use Rattle.sock_tcp.specs.Dispatch.{left_by, Emits, EmitsAt, EmitsTo, Dispatched}
+use Rattle.sock_core.specs.Emission.{Emits, EmitsAt}
+use Rattle.sock_tcp.specs.Outgoing.{sending_of}
+use Rattle.sock_tcp.specs.Dispatch.{left_by, EmitsTo, Dispatches}
 use Rattle.sock_tcp.specs.declared.state.State.{State}
 use Rattle.sock_tcp.specs.declared.state.State.TheVariants as state
 use Rattle.sock_tcp.specs.declared.tuple.Tuple.{Tuple}
 use Rattle.sock_pair.specs.Holding.{header_of}
-use Rattle.sock_pair.specs.Recording.{Holds, sent_with, sent_of, Records, SendsFrom, SocketDispatches}
+use Rattle.sock_pair.specs.Recording.{Holds, IsShort, sent_with, sent_of, Records, SendsFrom, SocketDispatches}
 use Rattle.sock_pair.specs.declared.recorder.EmitFailed.{EmitFailed}
 use Rattle.sock_pair.specs.declared.recorder.Recorder.{Recorder}
 use Rattle.sock_pair.specs.declared.recorder.Sent.{Sent}
@@ -84,7 +86,7 @@ module _ {F : Type 0} (g : Once F (MutBor Recorder × ((IpRepr × TcpRepr) × Un
     pub len : vec_len c.payload ≡ 0
     pub room : mtu ≤ vec_capacity c.payload
 
-  emitted : (c c' : Recorder) (s : Sending) (v new : View) (r : Result (Unit {0}) EmitFailed) → IsReady c → length s.segment.payload ≤ mtu → EmitsAt g f c s r c' → new ≡ left_by (Some s) v (is_ok r) → Records fail (Some s) (sent_of r c') × (new ≡ left_by (Some s) v (not fail))
+  emitted : (c c' : Recorder) (s : Sending) (v new : View) (r : Result (Unit {0}) EmitFailed) → IsReady c → length s.segment.payload ≤ mtu → EmitsAt g sending_of f c s r c' → new ≡ left_by (Some s) v (is_ok r) → Records fail (Some s) (sent_of r c') × (new ≡ left_by (Some s) v (not fail))
   emitted c c' s v new r ready small e w = go fail refl r refl
     where
       said : EmitSays fail e.shown.now e.left.now e.sent r
@@ -92,7 +94,7 @@ module _ {F : Type 0} (g : Once F (MutBor Recorder × ((IpRepr × TcpRepr) × Un
 
       held : Holds e.shown.now e.left.now e.sent.0 (segment_of e.sent.1) → Holds c c' s.ip s.segment
       held h =
-          let to : Holds e.shown.now e.left.now s.ip s.segment = subst (λ (p : IpRepr × Segment). Holds e.shown.now e.left.now p.0 p.1) e.says h in
+          let to : Holds e.shown.now e.left.now s.ip s.segment = subst (λ (p : Sending). Holds e.shown.now e.left.now p.ip p.segment) e.says h in
           subst (λ y. Holds c y s.ip s.segment) e.leaves (subst (λ y. Holds y e.left.now s.ip s.segment) e.shows to)
 
       went : (u : Unit {0}) → r ≡ Ok u → Holds c c' s.ip s.segment → Records false (Some s) (sent_of r c')
@@ -112,7 +114,7 @@ module _ {F : Type 0} (g : Once F (MutBor Recorder × ((IpRepr × TcpRepr) × Un
 
       full : fail ≡ false → (d : EmitFailed) → r ≡ Err d → ⊥
       full b d x =
-          let n : length e.sent.1.payload.now ≡ length s.segment.payload = ap (λ (p : IpRepr × Segment). length p.1.payload) e.says in
+          let n : length e.sent.1.payload.now ≡ length s.segment.payload = ap (λ (p : Sending). length p.segment.payload) e.says in
           let m : vec_capacity e.shown.now.payload < vec_len e.shown.now.payload + length e.sent.1.payload.now = err_at (Err d) x b in
           let i : vec_capacity e.shown.now.payload ≡ vec_capacity c.payload = ap (λ (y : Recorder). vec_capacity y.payload) e.shows in
           let j : vec_len e.shown.now.payload ≡ vec_len c.payload = ap (λ (y : Recorder). vec_len y.payload) e.shows in
@@ -126,23 +128,39 @@ module _ {F : Type 0} (g : Once F (MutBor Recorder × ((IpRepr × TcpRepr) × Un
           (went u x (held (kept_at (Ok u) x).1), left (Ok u) x)
       go false b (Err d) x = absurd (full b d x)
 
-  pub socket_dispatched : (c c' : Recorder) (v new : View) (facts : Facts) (r : Result (Unit {0}) EmitFailed) → IsReady c → facts.mtu ≤ mtu → Dispatched g f (readied v facts) facts c r c' new → SocketDispatches v facts fail (sent_of r c') new
-  unfolding Dispatched SocketDispatches
-  socket_dispatched c c' v new facts r ready small h = to (readied v facts).peer h
+  pub socket_dispatched : (c c' : Recorder) (v new : View) (facts : Facts) (r : Result (Unit {0}) EmitFailed) → IsReady c → facts.mtu ≤ mtu → Dispatches g f facts v c r new c' → SocketDispatches v facts fail (sent_of r c') new
+  unfolding Dispatches SocketDispatches
+  socket_dispatched c c' v new facts r ready small h = to (before_emit v facts).peer h
     where
       quiet : (w : View) → r ≡ Ok tt → c' ≡ c → new ≡ w → (sent_of r c' ≡ sent.Quiet)
       quiet w a b d = ap (λ x. sent_of x c') a ∙ ap (λ x. sent_with x c'.payload) (ap (λ x. x.header) b ∙ ready.header)
 
-      to : (o : Option Tuple) → EmitsTo g f o (readied v facts).view facts c r c' new → SendsFrom o (readied v facts).view facts fail (sent_of r c') new
-      to None q = (quiet (readied v facts).view q.answer q.context q.view, q.view)
+      to : (o : Option Tuple) → EmitsTo g f facts o (before_emit v facts).view c r new c' → SendsFrom o (before_emit v facts).view facts fail (sent_of r c') new
+      to None q = (quiet (before_emit v facts).view q.answer q.context q.view, q.view)
       to (Some t) d = record { bytes = d.bytes; lent = d.lent; records = (both (content w t facts d.bytes) refl d.emits d.view).0; view = (both (content w t facts d.bytes) refl d.emits d.view).1 }
         where
           w : View
-          w = (readied v facts).view
+          w = (before_emit v facts).view
 
-          both : (o : Option Sending) → content w t facts d.bytes ≡ o → Emits g f o c r c' → new ≡ left_by o w (is_ok r) → Records fail o (sent_of r c') × (new ≡ left_by o w (not fail))
+          both : (o : Option Sending) → content w t facts d.bytes ≡ o → Emits g sending_of f o c r c' → new ≡ left_by o w (is_ok r) → Records fail o (sent_of r c') × (new ≡ left_by o w (not fail))
           both None x e y = (quiet w e.0 e.1 y, y)
           both (Some s) x e y = emitted c c' s w new r ready (omega (arith, small, payload_at_most w t facts d.bytes s d.lent x)) e y
+
+-- what is stored of a dispatch is short
+recorded_short : (fail : Bool) (c : Option Sending) (r : Sent) → Records fail c r → ((s : Sending) → c ≡ Some s → length s.segment.payload ≤ 65535) → IsShort r
+recorded_short fail None r e small = subst IsShort (sym e) tt
+recorded_short true (Some s) r e small = subst IsShort (sym e) tt
+recorded_short false (Some s) sent.Quiet e small = absurd e
+recorded_short false (Some s) sent.Failed e small = absurd e
+recorded_short false (Some s) (sent.Emitted h p) e small = let n : length p.items ≡ length s.segment.payload = ap length e.1 in omega (arith, n, small s refl)
+
+sent_short : (o : Option Tuple) (v w : View) (f : Facts) (fail : Bool) (r : Sent) → f.mtu ≤ 65535 → SendsFrom o v f fail r w → IsShort r
+sent_short None v w f fail r m d = subst IsShort (sym d.0) tt
+sent_short (Some t) v w f fail r m d = recorded_short fail (content v t f d.bytes) r d.records (λ s e. omega (arith, m, payload_at_most v t f d.bytes s d.lent e))
+
+pub dispatch_short : (v w : View) (f : Facts) (fail : Bool) (r : Sent) → f.mtu ≤ 65535 → SocketDispatches v f fail r w → IsShort r
+unfolding SocketDispatches
+dispatch_short v w f fail r m d = sent_short (before_emit v f).peer (before_emit v f).view w f fail r m d
 
 -- ---- the host around the socket
 

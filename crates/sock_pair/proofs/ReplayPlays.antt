@@ -1,18 +1,21 @@
 -- What was written of a run.
-use Rattle.std.proofs.Common.{◌≡◌, ℕ, List, [], Option, None, Some, IfSome, Ok, Bool, inr, ◌∙◌, sym, subst, refl, arith}
-use Rattle.sock_pair.proofs.ReplaySinks.{appends_no_line}
+use Rattle.std.proofs.Common.{◌≡◌, ℕ, List, Option, None, Some, IfSome, Ok, Bool, inr, ◌∙◌, sym, subst}
 use Rattle.sock_pair.specs.PairViews.{PairView}
 use Rattle.sock_pair.specs.ReplayEnds.{StopsWriting}
-use Rattle.sock_pair.specs.ReplayRuns.{IsPlayedInPart, IsScript, Plays, Replays, begun_of}
+use Rattle.sock_pair.specs.ReplayRuns.{IsScript, Plays, PlaysTo, Replays, begun_of}
 use Rattle.sock_pair.specs.ScriptLines.{script_of, script_value}
 use Rattle.sock_pair.specs.declared.event.Event.{Event}
 use Rattle.sock_pair.specs.declared.script.Script.{Script}
 use Rattle.sock_pair.specs.declared.script.end.End.{End}
 use Rattle.sock_pair.specs.declared.script.end.End.TheVariants as end
 
--- no event was done
-pub played_none : (es : List Event) (p : PairView) (a : Option (List ℕ)) → IsPlayedInPart es p a a
-played_none es p a = record { count = 0; within = omega arith; outcomes = []; last = p; run = refl; written = appends_no_line p.segments a }
+-- the buffers were there, and the run ended so
+pub plays : (es : List Event) (p q : PairView) (e : End) (old new : Option (List ℕ)) → PlaysTo es p q e old new → Plays es p e old new
+plays es p q end.Done old new x = (q, x)
+plays es p q end.Memory old new x = inr (q, x)
+plays es p q end.Write old new x = tt
+plays es p q end.Read old new x = tt
+plays es p q (end.Script e) old new x = tt
 
 -- a text that was read is the script that was parsed
 script_read : (text : Option (List ℕ)) (read given : List ℕ) (s : Script) → IfSome text (λ t. t ≡ read) → given ≡ read → script_of given ≡ Ok (script_value s) → IsScript text s

@@ -1,6 +1,6 @@
 -- What a dispatch does to a socket, and what it emits, is allowed on the two streams.
 use Rattle.std.proofs.Common.{◌≡◌, ℕ, ◌+◌, ◌%◌, ◌^◌, ◌≤◌, ◌⊎◌, Bool, true, false, refl, sym, ap, subst, ◌∙◌, arith, List, [], ◌++◌, length, take, drop, length-drop, Option, Some, None, inl, inr, ⊎_elim}
-use Rattle.std.specs.Prelude.{option_map, ◌==◌, if◌then◌else◌}
+use Rattle.std.specs.Prelude.{option_map, not, ◌&&◌, ◌==◌, if◌then◌else◌}
 use Rattle.std.proofs.lemmas.List.{take-append-drop}
 use Rattle.net_base.specs.declared.time.Instant.{Instant}
 use Rattle.sock_core.specs.Facts.{Facts}
@@ -12,10 +12,10 @@ use Rattle.sock_core.specs.Places.{later_number}
 use Rattle.sock_core.specs.Seq.{later_of}
 use Rattle.sock_core.specs.Streams.{IsPrefix}
 use Rattle.sock_tcp.specs.Queue.{IsLent}
-use Rattle.sock_tcp.specs.View.{View, fresh}
+use Rattle.sock_tcp.specs.View.{View, moment_of, fresh}
 use Rattle.sock_tcp.specs.Window.{next_ack}
 use Rattle.sock_tcp.specs.Opening.{renewed}
-use Rattle.sock_tcp.specs.Due.{begun, begun_to, readied, readied_to, ended, last_dated, dated, moment_of, flight}
+use Rattle.sock_tcp.specs.Due.{begun, begun_to, before_emit, before_emit_to, ended, last_ts_set, last_ts_set_at, flight}
 use Rattle.sock_tcp.specs.Content.{Sending, asked, content, filled, plain_segment, with_data, data_control, sent_to}
 use Rattle.sock_tcp.specs.Dispatch.{sent, end_of}
 use Rattle.sock_tcp.specs.declared.state.State.{State}
@@ -33,27 +33,27 @@ use Rattle.sock_pair.proofs.ShownProcess.{later_shown}
 
 -- ---- the beginning
 
-dated_shows : (v : View) (now : Instant) (o : Option Instant) → shown (dated o v now) ≡ shown v
+dated_shows : (v : View) (now : Instant) (o : Option Instant) → shown (last_ts_set_at o v now) ≡ shown v
 dated_shows v now None = refl
 dated_shows v now (Some t) = refl
 
 -- the beginning changes nothing that is seen, or the socket is reset
 begins_to : (v : View) (f : Facts) (o : Option Tuple) → BeginEffect (shown v) (shown (begun_to o v f).view)
-unfolding renewed fresh last_dated
+unfolding renewed fresh last_ts_set
 begins_to v f None = Same refl
 begins_to v f (Some t) = two (f.has_address t.local.addr)
   where
-    two : (b : Bool) → BeginEffect (shown v) (shown (if b then record { view = last_dated v (moment_of f); peer = Some t } else ended (renewed v)).view)
+    two : (b : Bool) → BeginEffect (shown v) (shown (if b then record { view = last_ts_set v (moment_of f); peer = Some t } else ended (renewed v)).view)
     two true = Same (dated_shows v (moment_of f) v.remote_last_ts)
     two false = IsReset refl refl refl
 
-readied_same : (o : Option Tuple) (v : View) → (readied_to o v).view ≡ v
-readied_same None v = refl
-readied_same (Some t) v = refl
+before_emit_same : (o : Option Tuple) (v : View) → (before_emit_to o v).view ≡ v
+before_emit_same None v = refl
+before_emit_same (Some t) v = refl
 
-pub begun_shows : (v : View) (f : Facts) → BeginEffect (shown v) (shown (readied v f).view)
-unfolding readied begun
-begun_shows v f = subst (λ (w : View). BeginEffect (shown v) (shown w)) (sym (readied_same (begun v f).peer (begun v f).view)) (begins_to v f v.tuple)
+pub begun_shows : (v : View) (f : Facts) → BeginEffect (shown v) (shown (before_emit v f).view)
+unfolding before_emit begun
+begun_shows v f = subst (λ (w : View). BeginEffect (shown v) (shown w)) (sym (before_emit_same (begun v f).peer (begun v f).view)) (begins_to v f v.tuple)
 
 -- ---- what goes out
 
@@ -67,10 +67,9 @@ record IsPlain (c : TcpControl) : Type 0 where
   syn : is_syn c ≡ false
   len : control_len c ≡ 0
 
-data_plain : (a b : Bool) → IsPlain (if a then control.None else (if b then control.Psh else control.None))
-data_plain true b = record { rst = refl; fin = refl; syn = refl; len = refl }
-data_plain false true = record { rst = refl; fin = refl; syn = refl; len = refl }
-data_plain false false = record { rst = refl; fin = refl; syn = refl; len = refl }
+data_plain : (b : Bool) → IsPlain (if b then control.Psh else control.None)
+data_plain true = record { rst = refl; fin = refl; syn = refl; len = refl }
+data_plain false = record { rst = refl; fin = refl; syn = refl; len = refl }
 
 -- what was lent begins the rest
 lent_prefix : (xs ys : List ℕ) → xs ≡ take (length xs) ys → IsPrefix xs ys
@@ -97,7 +96,7 @@ module _ (v : View) (released taken : ℕ) (bounds : IsBounded v) where
   unfolding plain_segment
   data_may_emit t bytes iss knows lent =
       let b = bounds.sending iss in
-      let c : IsPlain (data_control v (length bytes)) = data_plain (length bytes == 0) (flight v + length bytes == length v.tx_buffer.bytes) in
+      let c : IsPlain (data_control v (length bytes)) = data_plain (not (length bytes == 0) && (flight v + length bytes == length v.tx_buffer.bytes)) in
       let is : flight v ≡ b.flight = omega (arith, b.snd_nxt, b.snd_una, b.flight_le, b.room) in
       let part : IsPrefix bytes (drop b.flight v.tx_buffer.bytes) = lent_prefix bytes _ (subst (λ n. bytes ≡ take (length bytes) (drop n v.tx_buffer.bytes)) is lent) in
       let within : b.flight + length bytes ≤ length v.tx_buffer.bytes + 1 = omega (arith, prefix_le bytes (drop b.flight v.tx_buffer.bytes) part, length-drop b.flight v.tx_buffer.bytes, b.flight_le) in

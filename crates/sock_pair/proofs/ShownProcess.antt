@@ -16,8 +16,8 @@ use Rattle.sock_core.specs.Seq.{is_before, later_of}
 use Rattle.sock_tcp.specs.Queue.{capacity}
 use Rattle.sock_tcp.specs.View.{View}
 use Rattle.sock_tcp.specs.Verdict.{verdict_at, verdict_of}
-use Rattle.sock_tcp.specs.Window.{next_ack, window_end, receive_window, is_in_order}
-use Rattle.sock_tcp.specs.Steps.{Advance, acked_len, advanced, advance_by, goes, halts, syn_received, syn_answered, answered_by, syn_advance, plain_advance, options_taken, window_taken, released, noted, joined, heard}
+use Rattle.sock_tcp.specs.Window.{next_ack, window_end, receive_window, is_next_in_window}
+use Rattle.sock_tcp.specs.Steps.{Advance, acked_len, advanced, advance_in, stops, syn_received, syn_answered, syn_sent_advance, options_taken, window_taken, released, una_advanced, joined, segment_taken}
 use Rattle.sock_tcp.specs.Process.{Outcome, stopped, tuple_of, has_window, after_advance, processed_inside, tested, by_verdict, processed}
 use Rattle.sock_tcp.specs.declared.state.State.{State}
 use Rattle.sock_tcp.specs.declared.state.State.TheVariants as state
@@ -77,8 +77,8 @@ pub record InOrder (v : View) (s : Segment) : Type 0 where
   pub starts : s.seq_number.0 ≡ (next_ack v).0
   pub short : length s.payload ≤ 2 ^ 30
 
-pub in_order : (v : View) (s : Segment) → capacity v.rx_buffer ≤ 2 ^ 30 → is_in_order (receive_window v) s.seq_number (length s.payload) ≡ true → InOrder v s
-unfolding receive_window is_in_order
+pub in_order : (v : View) (s : Segment) → capacity v.rx_buffer ≤ 2 ^ 30 → is_next_in_window (receive_window v) s.seq_number (length s.payload) ≡ true → InOrder v s
+unfolding receive_window is_next_in_window
 in_order v s room e =
     let t : (seq_eq s.seq_number (next_ack v) ≡ true) × (nat_le (length s.payload) (seq_sub (window_end v v.remote_last_ack) (next_ack v)) ≡ true) = both _ _ e in
     let w : seq_sub (window_end v v.remote_last_ack) (next_ack v) ≤ 2 ^ 30 = end_within v v.remote_last_ack (omega (arith, room)) in
@@ -127,32 +127,24 @@ module _ (listener : Bool) (v : View) (now : Instant) (word : ℕ) (ip : IpRepr)
   two_unmoved true = unmoved
   two_unmoved false = unmoved
 
-  -- the state table, by state, control and acknowledgement
-  abbrev syn_at : State → Option TcpSeqNumber → Advance
-  syn_at state.Listen o = goes (syn_received v (tuple_of ip s) word s)
-  syn_at state.SynSent o = answered_by o v s
-  syn_at _ o = halts v
-
-  abbrev advance_at : TcpControl → State → Option TcpSeqNumber → Advance
-  advance_at control.Syn st o = syn_at st o
-  advance_at control.None st o = plain_advance st v
-  advance_at control.Psh st o = plain_advance st v
-  advance_at control.Fin st o = halts v
-  advance_at control.Rst st o = halts v
+  -- the state table, with the acknowledgement apart
+  abbrev advance_at : State → TcpControl → Option TcpSeqNumber → Advance
+  advance_at state.SynSent control.Syn o = syn_sent_advance o v s
+  advance_at st c o = advance_in st c v (tuple_of ip s) word s
 
   abbrev queued : ℕ
   queued = length v.tx_buffer.bytes
 
   abbrev inside : State → TcpControl → Option TcpSeqNumber → List ℕ → Outcome
-  inside st c o bs = after_advance (advance_at c st o) now (acked_len c st o v.local_seq_no queued) bs s
+  inside st c o bs = after_advance (advance_at st c o) now (acked_len st c o v.local_seq_no queued) bs s
 
   abbrev passes : State → TcpControl → Option TcpSeqNumber → Type 0
-  passes st c o = verdict_at c st o v.local_seq_no queued ≡ verdicts.Pass
+  passes st c o = verdict_at st c o v.local_seq_no queued ≡ verdicts.Pass
 
   -- what the acknowledgement o comes to is what the segment's comes to
-  by_ack : (u : View) (n : ℕ) (bs : List ℕ) (o : Option TcpSeqNumber) → s.ack_number ≡ o → IsEffect (stopped (joined (noted (released (window_taken u now s.control s.window_len) n) o) bs)) → IsEffect (stopped (heard u now n bs s))
-  unfolding heard
-  by_ack u n bs o e h = subst (λ o. IsEffect (stopped (joined (noted (released (window_taken u now s.control s.window_len) n) o) bs))) (sym e) h
+  by_ack : (u : View) (n : ℕ) (bs : List ℕ) (o : Option TcpSeqNumber) → s.ack_number ≡ o → IsEffect (stopped (joined (una_advanced (released (window_taken u now s.control s.window_len) n) o) bs)) → IsEffect (stopped (segment_taken u now n bs s))
+  unfolding segment_taken
+  by_ack u n bs o e h = subst (λ o. IsEffect (stopped (joined (una_advanced (released (window_taken u now s.control s.window_len) n) o) bs))) (sym e) h
 
   acks : (o : TcpSeqNumber) → s.ack_number ≡ Some o → the_segment.ack ≡ Some o.0
   acks a e = ap (λ (o : Option TcpSeqNumber). option_map (λ (x : TcpSeqNumber). x.0) o) e
@@ -160,7 +152,7 @@ module _ (listener : Bool) (v : View) (now : Instant) (word : ℕ) (ip : IpRepr)
   -- ---- LISTEN
 
   listen_heard : (c : TcpControl) (o : Option TcpSeqNumber) → v.state ≡ state.Listen → s.control ≡ c → s.ack_number ≡ o → passes state.Listen c o → IsEffect (inside state.Listen c o [])
-  unfolding verdict_at acked_len syn_received options_taken window_taken released noted joined
+  unfolding verdict_at acked_len syn_received options_taken window_taken released una_advanced joined
   listen_heard control.Syn None es ec eo p =
       let empty : v.rx_buffer.bytes ≡ [] = bounds.unread (subst (λ st. IsNonSynchronized (phase_of st)) (sym es) tt) in
       let none : length (v.rx_buffer.bytes ++ []) ≡ 0 = ap length (append-nil v.rx_buffer.bytes ∙ empty) in
@@ -182,7 +174,7 @@ module _ (listener : Bool) (v : View) (now : Instant) (word : ℕ) (ip : IpRepr)
   one_past a hb e = let h : a.0 ≡ next_to.0 = same_number a next_to e in omega arith
 
   syn_sent_heard : (c : TcpControl) (o : Option TcpSeqNumber) → v.state ≡ state.SynSent → s.control ≡ c → s.ack_number ≡ o → passes state.SynSent c o → IsEffect (inside state.SynSent c o [])
-  unfolding verdict_at acked_len syn_answered options_taken window_taken released noted joined
+  unfolding verdict_at acked_len syn_answered options_taken window_taken released una_advanced joined
   syn_sent_heard control.Syn (Some a) es ec eo p =
       let empty : v.rx_buffer.bytes ≡ [] = bounds.unread (subst (λ st. IsNonSynchronized (phase_of st)) (sym es) tt) in
       let none : length (v.rx_buffer.bytes ++ []) ≡ 0 = ap length (append-nil v.rx_buffer.bytes ∙ empty) in
@@ -204,8 +196,8 @@ module _ (listener : Bool) (v : View) (now : Instant) (word : ℕ) (ip : IpRepr)
   nxt_moved : (length (v.rx_buffer.bytes ++ s.payload) ≡ length v.rx_buffer.bytes + length s.payload) → (v.remote_seq_no.0 + length (v.rx_buffer.bytes ++ s.payload)) % 2 ^ 32 ≡ ((v.remote_seq_no.0 + length v.rx_buffer.bytes) % 2 ^ 32 + length s.payload) % 2 ^ 32
   nxt_moved e = nxt_joins v.remote_seq_no.0 (length v.rx_buffer.bytes) (length s.payload) (length (v.rx_buffer.bytes ++ s.payload)) e
 
-  opened_heard : (n : ℕ) (a : TcpSeqNumber) → v.state ≡ state.SynReceived → is_rst s.control ≡ false → s.ack_number ≡ Some a → seq_eq a next_to ≡ true → n ≡ seq_sub a v.local_seq_no - 1 → InOrder v s → IsEffect (stopped (heard (record v { state = state.Established }) now n s.payload s))
-  unfolding window_taken released noted joined
+  opened_heard : (n : ℕ) (a : TcpSeqNumber) → v.state ≡ state.SynReceived → is_rst s.control ≡ false → s.ack_number ≡ Some a → seq_eq a next_to ≡ true → n ≡ seq_sub a v.local_seq_no - 1 → InOrder v s → IsEffect (stopped (segment_taken (record v { state = state.Established }) now n s.payload s))
+  unfolding window_taken released una_advanced joined
   opened_heard n a es plain eo x counts here =
       let b = bounds.sending (subst (λ st. HasIss (phase_of st)) (sym es) tt) in
       let none : n ≡ 0 = counts ∙ one_past a b.snd_una x in
@@ -214,8 +206,8 @@ module _ (listener : Bool) (v : View) (now : Instant) (word : ℕ) (ip : IpRepr)
       (passes_heard _ _ _ b (OfSyn a.0 (acks a eo) (same_number a next_to x) (inr (ap phase_of es)) refl refl (ap (λ k. drop k v.tx_buffer.bytes) none) (inl (later_shown v.remote_last_seq a))))
       tt)
 
-  sent_heard : (n : ℕ) (a : TcpSeqNumber) → v.state ≡ state.Established → is_rst s.control ≡ false → s.ack_number ≡ Some a → n ≤ queued → n ≡ seq_sub a v.local_seq_no - 0 → InOrder v s → IsEffect (stopped (heard v now n s.payload s))
-  unfolding window_taken released noted joined number_distance
+  sent_heard : (n : ℕ) (a : TcpSeqNumber) → v.state ≡ state.Established → is_rst s.control ≡ false → s.ack_number ≡ Some a → n ≤ queued → n ≡ seq_sub a v.local_seq_no - 0 → InOrder v s → IsEffect (stopped (segment_taken v now n s.payload s))
+  unfolding window_taken released una_advanced joined number_distance
   sent_heard n a es plain eo le counts here =
       let b = bounds.sending (subst (λ st. HasIss (phase_of st)) (sym es) tt) in
       let is : n ≡ number_distance a.0 v.local_seq_no.0 = omega (arith, counts) in
@@ -225,7 +217,7 @@ module _ (listener : Bool) (v : View) (now : Instant) (word : ℕ) (ip : IpRepr)
       (subst (λ st. IsSynchronized (phase_of st)) (sym es) tt))
 
   abbrev in_window : Bool
-  in_window = is_in_order (receive_window v) s.seq_number (length s.payload)
+  in_window = is_next_in_window (receive_window v) s.seq_number (length s.payload)
 
   syn_received_heard : (c : TcpControl) (o : Option TcpSeqNumber) (b : Bool) → v.state ≡ state.SynReceived → s.control ≡ c → s.ack_number ≡ o → passes state.SynReceived c o → in_window ≡ b → IsEffect (if b then inside state.SynReceived c o s.payload else stopped v)
   unfolding verdict_at acked_len
@@ -238,10 +230,10 @@ module _ (listener : Bool) (v : View) (now : Instant) (word : ℕ) (ip : IpRepr)
   syn_received_heard control.Fin o true es ec eo p w = unmoved
   syn_received_heard control.Rst o true es ec eo p w = unmoved
 
-  established_fits : (c : TcpControl) (a : TcpSeqNumber) → v.state ≡ state.Established → s.ack_number ≡ Some a → passes state.Established c (Some a) → acked_len c state.Established (Some a) v.local_seq_no queued ≤ queued
+  established_fits : (c : TcpControl) (a : TcpSeqNumber) → v.state ≡ state.Established → s.ack_number ≡ Some a → passes state.Established c (Some a) → acked_len state.Established c (Some a) v.local_seq_no queued ≤ queued
   established_fits c a es eo p =
       let b = bounds.sending (subst (λ st. HasIss (phase_of st)) (sym es) tt) in
-      subst (λ st. acked_len c st (Some a) v.local_seq_no queued ≤ queued) es (acked_fits c v a b.snd_una (small.ack a eo) b.room (subst (λ st. passes st c (Some a)) (sym es) p))
+      subst (λ st. acked_len st c (Some a) v.local_seq_no queued ≤ queued) es (acked_fits c v a b.snd_una (small.ack a eo) b.room (subst (λ st. passes st c (Some a)) (sym es) p))
 
   established_heard : (c : TcpControl) (o : Option TcpSeqNumber) (b : Bool) → v.state ≡ state.Established → s.control ≡ c → s.ack_number ≡ o → passes state.Established c o → in_window ≡ b → IsEffect (if b then inside state.Established c o s.payload else stopped v)
   unfolding verdict_at acked_len
@@ -256,50 +248,30 @@ module _ (listener : Bool) (v : View) (now : Instant) (word : ℕ) (ip : IpRepr)
 
   -- ---- the other states, and the whole
 
-  halted : (st : State) (c : TcpControl) (o : Option TcpSeqNumber) → syn_at st o ≡ halts v → plain_advance st v ≡ halts v → (b : Bool) → IsEffect (if b then inside st c o s.payload else stopped v)
-  halted st c o x y false = unmoved
-  halted st control.Syn o x y true = subst (λ (a : Advance). IsEffect (after_advance a now (acked_len control.Syn st o v.local_seq_no queued) s.payload s)) (sym x) unmoved
-  halted st control.None o x y true = subst (λ (a : Advance). IsEffect (after_advance a now (acked_len control.None st o v.local_seq_no queued) s.payload s)) (sym y) unmoved
-  halted st control.Psh o x y true = subst (λ (a : Advance). IsEffect (after_advance a now (acked_len control.Psh st o v.local_seq_no queued) s.payload s)) (sym y) unmoved
-  halted st control.Fin o x y true = unmoved
-  halted st control.Rst o x y true = unmoved
+  halted : (a : Advance) (n : ℕ) (b : Bool) → a ≡ stops v → IsEffect (if b then after_advance a now n s.payload s else stopped v)
+  halted a n false e = unmoved
+  halted a n true e = subst (λ (a : Advance). IsEffect (after_advance a now n s.payload s)) (sym e) unmoved
 
   at_state : (st : State) (c : TcpControl) (o : Option TcpSeqNumber) → v.state ≡ st → s.control ≡ c → s.ack_number ≡ o → passes st c o → IsEffect (if has_window st then (if in_window then inside st c o s.payload else stopped v) else inside st c o [])
   at_state state.Listen c o es ec eo p = listen_heard c o es ec eo p
   at_state state.SynSent c o es ec eo p = syn_sent_heard c o es ec eo p
   at_state state.SynReceived c o es ec eo p = syn_received_heard c o in_window es ec eo p refl
   at_state state.Established c o es ec eo p = established_heard c o in_window es ec eo p refl
-  at_state state.Closed c o es ec eo p = halted state.Closed c o refl refl in_window
-  at_state state.FinWait1 c o es ec eo p = halted state.FinWait1 c o refl refl in_window
-  at_state state.FinWait2 c o es ec eo p = halted state.FinWait2 c o refl refl in_window
-  at_state state.CloseWait c o es ec eo p = halted state.CloseWait c o refl refl in_window
-  at_state state.Closing c o es ec eo p = halted state.Closing c o refl refl in_window
-  at_state state.LastAck c o es ec eo p = halted state.LastAck c o refl refl in_window
-  at_state state.TimeWait c o es ec eo p = halted state.TimeWait c o refl refl in_window
+  at_state state.Closed c o es ec eo p = halted (advance_at state.Closed c o) (acked_len state.Closed c o v.local_seq_no queued) in_window refl
+  at_state state.FinWait1 c o es ec eo p = halted (advance_at state.FinWait1 c o) (acked_len state.FinWait1 c o v.local_seq_no queued) in_window refl
+  at_state state.FinWait2 c o es ec eo p = halted (advance_at state.FinWait2 c o) (acked_len state.FinWait2 c o v.local_seq_no queued) in_window refl
+  at_state state.CloseWait c o es ec eo p = halted (advance_at state.CloseWait c o) (acked_len state.CloseWait c o v.local_seq_no queued) in_window refl
+  at_state state.Closing c o es ec eo p = halted (advance_at state.Closing c o) (acked_len state.Closing c o v.local_seq_no queued) in_window refl
+  at_state state.LastAck c o es ec eo p = halted (advance_at state.LastAck c o) (acked_len state.LastAck c o v.local_seq_no queued) in_window refl
+  at_state state.TimeWait c o es ec eo p = halted (advance_at state.TimeWait c o) (acked_len state.TimeWait c o v.local_seq_no queued) in_window refl
 
-  same_syn : (st : State) → v.state ≡ st → syn_advance st v (tuple_of ip s) word s ≡ syn_at st s.ack_number
-  same_syn state.Listen e = refl
-  same_syn state.SynSent e = refl
-  same_syn state.SynReceived e = refl
-  same_syn state.Established e = refl
-  same_syn state.Closed e = refl
-  same_syn state.FinWait1 e = refl
-  same_syn state.FinWait2 e = refl
-  same_syn state.CloseWait e = refl
-  same_syn state.Closing e = refl
-  same_syn state.LastAck e = refl
-  same_syn state.TimeWait e = refl
-
-  same_advance : (c : TcpControl) → advance_by c v (tuple_of ip s) word s ≡ advance_at c v.state s.ack_number
-  same_advance control.Syn = same_syn v.state refl
-  same_advance control.None = refl
-  same_advance control.Psh = refl
-  same_advance control.Fin = refl
-  same_advance control.Rst = refl
+  same_advance : (st : State) (c : TcpControl) → advance_in st c v (tuple_of ip s) word s ≡ advance_at st c s.ack_number
+  same_advance state.SynSent control.Syn = refl
+  same_advance _ _ = refl
 
   same_inside : (bs : List ℕ) → processed_inside v now word bs ip s ≡ inside v.state s.control s.ack_number bs
   unfolding processed_inside advanced
-  same_inside bs = ap (λ a. after_advance a now (acked_len s.control v.state s.ack_number v.local_seq_no queued) bs s) (same_advance s.control)
+  same_inside bs = ap (λ a. after_advance a now (acked_len v.state s.control s.ack_number v.local_seq_no queued) bs s) (same_advance v.state s.control)
 
   same_tested : (b : Bool) → tested b v now word ip s ≡ (if b then (if in_window then inside v.state s.control s.ack_number s.payload else stopped v) else inside v.state s.control s.ack_number [])
   same_tested true = ap (λ o. if in_window then o else stopped v) (same_inside s.payload)
@@ -316,18 +288,14 @@ module _ (listener : Bool) (v : View) (now : Instant) (word : ℕ) (ip : IpRepr)
   process_heard = by_the_verdict (verdict_of v s.control s.ack_number) refl
 
 -- a segment gets no answer yet
-after_silent : (a : Advance) (now : Instant) (n : ℕ) (bs : List ℕ) (s : Segment) (b : Bool) → (if b then stopped (heard a.view now n bs s) else stopped a.view).reply ≡ None
-after_silent a now n bs s true = refl
-after_silent a now n bs s false = refl
-
 module _ (v : View) (now : Instant) (word : ℕ) (ip : IpRepr) (s : Segment) where
   inside_silent : (bs : List ℕ) → (processed_inside v now word bs ip s).reply ≡ None
   unfolding processed_inside
-  inside_silent bs = after_silent (advanced v (tuple_of ip s) word s) now _ bs s (advanced v (tuple_of ip s) word s).goes_on
+  inside_silent bs = refl
 
   tested_silent : (b : Bool) → (tested b v now word ip s).reply ≡ None
   tested_silent false = inside_silent []
-  tested_silent true = go (is_in_order (receive_window v) s.seq_number (length s.payload))
+  tested_silent true = go (is_next_in_window (receive_window v) s.seq_number (length s.payload))
     where
       go : (b : Bool) → (if b then processed_inside v now word s.payload ip s else stopped v).reply ≡ None
       go true = inside_silent s.payload

@@ -11,19 +11,19 @@ use Rattle.control_wire.specs.declared.tcp.TcpControl.{TcpControl}
 use Rattle.control_wire.specs.declared.tcp.TcpControl.TheVariants as control
 use Rattle.sock_tcp.specs.Queue.{Queue}
 use Rattle.sock_tcp.specs.View.{View}
-use Rattle.sock_tcp.specs.Window.{next_ack, window_end, receive_window, is_in_order}
-use Rattle.sock_tcp.specs.Steps.{Advance, acked_of, advanced, advance_by, goes, plain_advance, window_taken, released, noted, joined, heard}
+use Rattle.sock_tcp.specs.Window.{next_ack, window_end, receive_window, is_next_in_window}
+use Rattle.sock_tcp.specs.Steps.{Advance, acked_of, advanced, advance_in, continues, window_taken, released, una_advanced, joined, segment_taken}
 use Rattle.sock_tcp.specs.Process.{Outcome, stopped, tuple_of, has_window, after_advance, processed_inside, tested, by_verdict, processed}
 use Rattle.sock_tcp.specs.declared.state.State.TheVariants as state
 use Rattle.sock_pair.specs.PairPromises.{IsInOrder}
 
-noted_queue : (w : View) (o : Option TcpSeqNumber) → (noted w o).rx_buffer ≡ w.rx_buffer
-unfolding noted
+noted_queue : (w : View) (o : Option TcpSeqNumber) → (una_advanced w o).rx_buffer ≡ w.rx_buffer
+unfolding una_advanced
 noted_queue w None = refl
 noted_queue w (Some a) = refl
 
-heard_queue : (u : View) (now : Instant) (n : ℕ) (bs : List ℕ) (s : Segment) → (heard u now n bs s).rx_buffer.bytes ≡ u.rx_buffer.bytes ++ bs
-unfolding heard joined released window_taken
+heard_queue : (u : View) (now : Instant) (n : ℕ) (bs : List ℕ) (s : Segment) → (segment_taken u now n bs s).rx_buffer.bytes ≡ u.rx_buffer.bytes ++ bs
+unfolding segment_taken joined released window_taken
 heard_queue u now n bs s = ap (λ (q : Queue). q.bytes ++ bs) (noted_queue (released (window_taken u now s.control s.window_len) n) s.ack_number)
 
 true_both : (a b : Bool) → a ≡ true → b ≡ true → (a && b) ≡ true
@@ -36,26 +36,33 @@ module _ (v : View) (now : Instant) (word : ℕ) (ip : IpRepr) (s : Segment) (i 
   Queues o = o.view.rx_buffer.bytes ≡ v.rx_buffer.bytes ++ s.payload
 
   -- with control None or PSH the state table goes on, and leaves the queue alone
-  plain_goes : (c : TcpControl) → is_plain c ≡ true → advance_by c v (tuple_of ip s) word s ≡ plain_advance v.state v
-  plain_goes control.None e = refl
-  plain_goes control.Psh e = refl
-  plain_goes control.Syn e = cc
-  plain_goes control.Fin e = cc
-  plain_goes control.Rst e = cc
+  opens : (c : TcpControl) → is_plain c ≡ true → advance_in state.SynReceived c v (tuple_of ip s) word s ≡ continues (record v { state = state.Established })
+  opens control.None e = refl
+  opens control.Psh e = refl
+  opens control.Syn e = cc
+  opens control.Fin e = cc
+  opens control.Rst e = cc
 
-  joins : (a : Advance) (u : View) → u.rx_buffer ≡ v.rx_buffer → goes u ≡ a → Queues (after_advance a now (acked_of v s.control s.ack_number) s.payload s)
+  stays_open : (c : TcpControl) → is_plain c ≡ true → advance_in state.Established c v (tuple_of ip s) word s ≡ continues v
+  stays_open control.None e = refl
+  stays_open control.Psh e = refl
+  stays_open control.Syn e = cc
+  stays_open control.Fin e = cc
+  stays_open control.Rst e = cc
+
+  joins : (a : Advance) (u : View) → u.rx_buffer ≡ v.rx_buffer → continues u ≡ a → Queues (after_advance a now (acked_of v s.control s.ack_number) s.payload s)
   joins a u q e = subst (λ x. Queues (after_advance x now (acked_of v s.control s.ack_number) s.payload s)) e (heard_queue u now _ s.payload s ∙ ap (λ (z : Queue). z.bytes ++ s.payload) q)
 
   inside : Queues (processed_inside v now word s.payload ip s)
   unfolding processed_inside advanced
   inside =
       ⊎_elim
-      (λ e. joins (advance_by s.control v (tuple_of ip s) word s) (record v { state = state.Established }) refl (sym (plain_goes s.control i.plain ∙ ap (λ st. plain_advance st v) e)))
-      (λ e. joins (advance_by s.control v (tuple_of ip s) word s) v refl (sym (plain_goes s.control i.plain ∙ ap (λ st. plain_advance st v) e)))
+      (λ e. joins (advance_in v.state s.control v (tuple_of ip s) word s) (record v { state = state.Established }) refl (sym (ap (λ st. advance_in st s.control v (tuple_of ip s) word s) e ∙ opens s.control i.plain)))
+      (λ e. joins (advance_in v.state s.control v (tuple_of ip s) word s) v refl (sym (ap (λ st. advance_in st s.control v (tuple_of ip s) word s) e ∙ stays_open s.control i.plain)))
       i.state
 
-  in_window : is_in_order (receive_window v) s.seq_number (length s.payload) ≡ true
-  unfolding receive_window is_in_order
+  in_window : is_next_in_window (receive_window v) s.seq_number (length s.payload) ≡ true
+  unfolding receive_window is_next_in_window
   in_window =
       let same : s.seq_number.0 ≡ (next_ack v).0 = ap (λ (n : TcpSeqNumber). n.0) i.starts in
       let starts : nat_eq s.seq_number.0 (next_ack v).0 ≡ true = grind (arith, nat_tests, same) in

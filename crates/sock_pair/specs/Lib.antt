@@ -21,6 +21,7 @@ pub mod PairNetwork
 pub mod PairInvariant
 pub mod PairLaws
 pub mod PairPromises
+pub mod PairStreams
 pub mod PairRuns
 pub mod StreamViews
 pub mod StreamEffects

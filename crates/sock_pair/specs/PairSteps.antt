@@ -87,13 +87,13 @@ abbrev pub IsUnchanged : HostView → List StoredView → HostView → List Stor
 IsUnchanged h ks h' ks' = (h' ≡ h) × (ks' ≡ ks)
 
 -- the segment is processed, and the reply is stored with the counts after that
-pub record IsDelivered (s : Side) (m : Moment) (t : StoredView) (o : Outcome) (h : HostView) (ks : List StoredView) (h' : HostView) (ks' : List StoredView) : Type 0 where
+pub record IsProcessed (s : Side) (m : Moment) (t : StoredView) (o : Outcome) (h : HostView) (ks : List StoredView) (h' : HostView) (ks' : List StoredView) : Type 0 where
   pub answer : o ≡ outcome.Delivered (reply_index (length ks) (processed_by h m t).reply)
   pub host : h' ≡ delivered_to h m t
   pub stored : ks' ≡ ks ++ kept_at s (processed_by h m t).reply (delivered_to h m t).released (delivered_to h m t).taken
 
 abbrev pub DeliversIf : Bool → Side → Moment → StoredView → Outcome → HostView → List StoredView → HostView → List StoredView → Type 0
-DeliversIf true s m t o h ks h' ks' = IsDelivered s m t o h ks h' ks'
+DeliversIf true s m t o h ks h' ks' = IsProcessed s m t o h ks h' ks'
 DeliversIf false s m t o h ks h' ks' = (o ≡ outcome.NotAccepted None) × IsUnchanged h ks h' ks'
 
 -- what `accepts` answers decides
@@ -113,29 +113,29 @@ Delivers (Some t) m p o q = OneSideAndSegments (other_side t.emitter) p q (Deliv
 -- ---- which events take memory
 
 -- a delivery of a young segment that the side accepts
-abbrev pub GrowsTo : Bool → HostView → StoredView → Type 0
-GrowsTo old h t = (old ≡ false) × Accepts h.control_block t.ip t.segment
+abbrev pub ReachesSocket : Bool → HostView → StoredView → Type 0
+ReachesSocket old h t = (old ≡ false) × Accepts h.control_block t.ip t.segment
 
-abbrev pub DeliveryGrows : Option StoredView → PairView → Type 0
-DeliveryGrows None p = ⊥
-DeliveryGrows (Some t) p = GrowsTo (is_old (host_of t.emitter p) t) (host_of (other_side t.emitter) p) t
+abbrev pub DeliveryTakesMemory : Option StoredView → PairView → Type 0
+DeliveryTakesMemory None p = ⊥
+DeliveryTakesMemory (Some t) p = ReachesSocket (is_old (host_of t.emitter p) t) (host_of (other_side t.emitter) p) t
 
 -- the others are done, or refused by an outcome, without any
-abbrev pub Grows : Event → PairView → Type 0
-Grows (event.Listen s) p = ⊥
-Grows (event.Connect s m) p = ⊥
-Grows (event.SendSlice s bytes) p = is_over p.limit (length (host_of s p).accepted + length bytes.items) ≡ false
-Grows (event.RecvSlice s size) p = Unit {0}
-Grows (event.Dispatch s m fail) p = Unit {0}
-Grows (event.Deliver i m) p = DeliveryGrows (slice_get p.segments i) p
+abbrev pub TakesMemory : Event → PairView → Type 0
+TakesMemory (event.Listen s) p = ⊥
+TakesMemory (event.Connect s m) p = ⊥
+TakesMemory (event.SendSlice s bytes) p = is_over p.limit (length (host_of s p).accepted + length bytes.items) ≡ false
+TakesMemory (event.RecvSlice s size) p = Unit {0}
+TakesMemory (event.Dispatch s m fail) p = Unit {0}
+TakesMemory (event.Deliver i m) p = DeliveryTakesMemory (slice_get p.segments i) p
 
 -- ---- a step
 
 -- what an event does to a pair, with its outcome
-abbrev pub Step : Event → PairView → Outcome → PairView → Type 0
-Step (event.Listen s) p o q = OneSide s p q (λ h k. OpensAs h.opening h (listening h) o k)
-Step (event.Connect s m) p o q = OneSide s p q (λ h k. OpensAs h.opening h (connecting h m (host_of (other_side s) p).endpoint) o k)
-Step (event.SendSlice s bytes) p o q = OneSide s p q (λ h k. Sends p.limit bytes.items h o k)
-Step (event.RecvSlice s size) p o q = OneSide s p q (λ h k. Receives size h o k)
-Step (event.Dispatch s m fail) p o q = OneSideAndSegments s p q (Dispatches s m fail o)
-Step (event.Deliver i m) p o q = Delivers (slice_get p.segments i) m p o q
+abbrev pub EventStep : Event → PairView → Outcome → PairView → Type 0
+EventStep (event.Listen s) p o q = OneSide s p q (λ h k. OpensAs h.opening h (listening h) o k)
+EventStep (event.Connect s m) p o q = OneSide s p q (λ h k. OpensAs h.opening h (connecting h m (host_of (other_side s) p).endpoint) o k)
+EventStep (event.SendSlice s bytes) p o q = OneSide s p q (λ h k. Sends p.limit bytes.items h o k)
+EventStep (event.RecvSlice s size) p o q = OneSide s p q (λ h k. Receives size h o k)
+EventStep (event.Dispatch s m fail) p o q = OneSideAndSegments s p q (Dispatches s m fail o)
+EventStep (event.Deliver i m) p o q = Delivers (slice_get p.segments i) m p o q

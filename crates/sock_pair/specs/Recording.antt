@@ -1,12 +1,12 @@
 -- What a dispatch stores.
-use Rattle.std.specs.Prelude.{ℕ, ◌≡◌, ◌++◌, List, drop, Option, Some, None, Result, Ok, Err, Bool, true, false, not, Vec}
+use Rattle.std.specs.Prelude.{ℕ, ◌≡◌, ◌≤◌, ◌++◌, ⊤, List, length, drop, Option, Some, None, Result, Ok, Err, Bool, true, false, not, Vec}
 use Rattle.std.specs.Global.{Global}
 use Rattle.ip_wire.specs.declared.repr.IpRepr.{IpRepr}
 use Rattle.control_wire.specs.Segment.{Segment}
 use Rattle.sock_core.specs.Facts.{Facts}
 use Rattle.sock_tcp.specs.Queue.{IsLent}
 use Rattle.sock_tcp.specs.View.{View}
-use Rattle.sock_tcp.specs.Due.{flight, readied}
+use Rattle.sock_tcp.specs.Due.{flight, before_emit}
 use Rattle.sock_tcp.specs.Content.{Sending, asked, content}
 use Rattle.sock_tcp.specs.Dispatch.{left_by}
 use Rattle.sock_tcp.specs.declared.tuple.Tuple.{Tuple}
@@ -31,6 +31,11 @@ abbrev pub sent_of : Result (Unit {0}) EmitFailed → Recorder → Sent
 sent_of (Ok u) r = sent_with r.header r.payload
 sent_of (Err e) r = sent.Failed
 
+-- what was emitted has a payload of at most 65535 bytes
+abbrev pub IsShort : Sent → Type 0
+IsShort (sent.Emitted h p) = length p.items ≤ 65535
+IsShort _ = ⊤
+
 -- what is recorded of an emit
 abbrev pub Records : Bool → Option Sending → Sent → Type 0
 Records fail None r = r ≡ sent.Quiet
@@ -51,4 +56,4 @@ SendsFrom (Some t) v f fail r w = SendsTo v t f fail r w
 
 -- a whole dispatch of the socket v
 unfoldable pub SocketDispatches : View → Facts → Bool → Sent → View → Type 0
-SocketDispatches v f fail r w = SendsFrom (readied v f).peer (readied v f).view f fail r w
+SocketDispatches v f fail r w = SendsFrom (before_emit v f).peer (before_emit v f).view f fail r w

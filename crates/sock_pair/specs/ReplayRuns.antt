@@ -1,11 +1,11 @@
 -- What a replay writes, by how it ends.
-use Rattle.std.specs.Prelude.{◌≡◌, ℕ, ◌≤◌, List, [], ◌∷◌, ◌++◌, length, take, Option, Ok, Err, IfSome, ◌⊎◌, slice_index}
+use Rattle.std.specs.Prelude.{◌≡◌, ℕ, ◌<◌, List, [], ◌∷◌, ◌++◌, length, Option, Ok, Err, IfSome, ◌⊎◌, slice_index}
 use Rattle.std.specs.Io.KnownBytes.{Appends}
 use Rattle.ip_wire.specs.declared.address.IpAddress.TheVariants as address
 use Rattle.ip_wire.specs.declared.endpoint.IpEndpoint.{IpEndpoint}
 use Rattle.sock_tcp.specs.Queue.{Queue}
 use Rattle.sock_tcp.specs.View.{fresh}
-use Rattle.sock_pair.specs.PairRuns.{Run}
+use Rattle.sock_pair.specs.PairRuns.{Ran}
 use Rattle.sock_pair.specs.PairViews.{HostView, PairView, new_host, new_pair}
 use Rattle.sock_pair.specs.ReplayLines.{outcome_lines, side_lines}
 use Rattle.sock_pair.specs.ScriptLines.{script_of, script_value}
@@ -37,37 +37,42 @@ begun arx atx brx btx limit = new_pair (begun_host arx atx endpoint_a) (begun_ho
 abbrev pub begun_of : Script → PairView
 begun_of s = begun (slice_index s.sizes 0) (slice_index s.sizes 1) (slice_index s.sizes 2) (slice_index s.sizes 3) s.limit
 
--- every event was done, and a line for each outcome and the closing lines were written
-pub record IsPlayed (events : List Event) (p : PairView) (old new : Option (List ℕ)) : Type 0 where
+-- every event was done, the pair is q then, and a line for each outcome and the closing lines were written
+pub record IsPlayed (events : List Event) (p q : PairView) (old new : Option (List ℕ)) : Type 0 where
   pub outcomes : List Outcome
-  pub last : PairView
-  pub run : Run events p outcomes last
-  pub written : Appends old new (outcome_lines last.segments outcomes ++ side_lines last)
+  pub ran : Ran events p [] outcomes q
+  pub all : length outcomes ≡ length events
+  pub written : Appends old new (outcome_lines q.segments outcomes ++ side_lines q)
 
--- some first events were done, and a line for each of their outcomes was written
-pub record IsPlayedInPart (events : List Event) (p : PairView) (old new : Option (List ℕ)) : Type 0 where
-  pub count : ℕ
-  pub within : count ≤ length events
+-- some first events were done, the pair is q then, and a line for each of their outcomes was written
+pub record IsPlayedInPart (events : List Event) (p q : PairView) (old new : Option (List ℕ)) : Type 0 where
   pub outcomes : List Outcome
-  pub last : PairView
-  pub run : Run (take count events) p outcomes last
-  pub written : Appends old new (outcome_lines last.segments outcomes)
+  pub ran : Ran events p [] outcomes q
+  pub fewer : length outcomes < length events
+  pub written : Appends old new (outcome_lines q.segments outcomes)
 
--- what had gone out when a write failed is not said
+-- what a run wrote that ended so, and left the pair as q. What had gone out when a write failed is not said
+abbrev pub PlaysTo : List Event → PairView → PairView → End → Option (List ℕ) → Option (List ℕ) → Type 0
+PlaysTo events p q end.Done old new = IsPlayed events p q old new
+PlaysTo events p q end.Memory old new = IsPlayedInPart events p q old new
+PlaysTo events p q _ old new = Unit {0}
+
+-- the same with the room for the buffers, where memory may run out first
 abbrev pub Plays : List Event → PairView → End → Option (List ℕ) → Option (List ℕ) → Type 0
-Plays events p end.Done old new = IsPlayed events p old new
-Plays events p end.Memory old new = IsPlayedInPart events p old new
+Plays events p end.Done old new = (q : PairView) × IsPlayed events p q old new
+Plays events p end.Memory old new = Appends old new [] ⊎ ((q : PairView) × IsPlayedInPart events p q old new)
 Plays events p _ old new = Unit {0}
 
 -- the script that the text is, where the reader tells it
 abbrev pub IsScript : Option (List ℕ) → Script → Type 0
 IsScript text s = IfSome text (λ t. script_of t ≡ Ok (script_value s))
 
--- what a replay writes: nothing where the reader failed or the text is no script
+-- What a replay writes: nothing where the reader failed or the text is no script. Where memory ran out, nothing if that was
+-- before the run, and else the lines of the events that the run did
 abbrev pub Replays : Option (List ℕ) → End → Option (List ℕ) → Option (List ℕ) → Type 0
-Replays text end.Done old new = (s : Script) × IsScript text s × IsPlayed s.events.items (begun_of s) old new
+Replays text end.Done old new = (s : Script) × IsScript text s × Plays s.events.items (begun_of s) end.Done old new
 Replays text (end.Script e) old new = IfSome text (λ t. script_of t ≡ Err e) × Appends old new []
 Replays text end.Read old new = Appends old new []
 Replays text end.Write old new = Unit {0}
 Replays text end.Memory old new =
-    Appends old new [] ⊎ ((s : Script) × IsScript text s × IsPlayedInPart s.events.items (begun_of s) old new)
+    Appends old new [] ⊎ ((s : Script) × IsScript text s × Plays s.events.items (begun_of s) end.Memory old new)

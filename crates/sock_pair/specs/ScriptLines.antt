@@ -1,14 +1,14 @@
 -- What the lines of a script mean, and the first fault in line order.
-use Rattle.std.specs.Prelude.{ℕ, ◌+◌, ◌*◌, pos, List, [], ◌∷◌, length, map, Bool, true, false, Option, Some, None, Result, Ok, Err, bytes_eq, codes, if◌then◌else◌, MatchResult, ◌≡◌, ◌≢◌, option_map}
+use Rattle.std.specs.Prelude.{ℕ, ◌+◌, ◌*◌, pos, List, [], ◌∷◌, length, map, Bool, true, false, Option, Some, None, Result, Ok, Err, bytes_eq, codes, if◌then◌else◌, MatchResult, IsOk, ◌≡◌, ◌<◌, ◌++◌, option_map}
 use Rattle.sock_pair.specs.declared.script.error.ScriptError.{ScriptError}
 use Rattle.sock_pair.specs.declared.script.error.ScriptError.TheVariants as fault
 use Rattle.sock_pair.specs.declared.script.keyword.Keyword.{Keyword}
 use Rattle.sock_pair.specs.declared.script.keyword.Keyword.TheVariants as keyword
-use Rattle.sock_pair.specs.declared.script.header.Header.{Header}
+use Rattle.sock_pair.specs.declared.script.pair_line.PairLine.{PairLine}
 use Rattle.sock_pair.specs.declared.script.Script.{Script}
 use Rattle.sock_pair.specs.declared.side.Side.{Side}
 use Rattle.sock_pair.specs.EventValue.{MomentValue, EventValue, listen, connect, send_slice, recv_slice, dispatch, deliver, event_value}
-use Rattle.sock_pair.specs.ScriptText.{lines_of, numbered_from}
+use Rattle.sock_pair.specs.ScriptText.{lines_left, lines_of, numbered_from}
 use Rattle.sock_pair.specs.ScriptWords.{Word, side_of, number_of, limit_of, text_of, keyword_of, one_of, two_of, three_of, five_of, one_and_text_of}
 
 -- the context at so many milliseconds, with this word: the address is there, and the MTU is 1500
@@ -91,32 +91,27 @@ abbrev pub event_of : ℕ → List Word → Result EventValue ScriptError
 event_of n [] = Err (fault.UnknownEvent n)
 event_of n (name ∷ values) = values_mean n (keyword_of name) values
 
--- the sizes of a's and b's buffers, and the limit
-pub record HeaderValue : Type 0 where
-  pub sizes : List ℕ
-  pub limit : Option ℕ
-
 abbrev pub sizes_of : Option ℕ → Option ℕ → Option ℕ → Option ℕ → Option (List ℕ)
 sizes_of (Some arx) (Some atx) (Some brx) (Some btx) = Some (arx ∷ atx ∷ brx ∷ btx ∷ [])
 sizes_of _ _ _ _ = None
 
-abbrev pub header_values : Option (List ℕ) → Option (Option ℕ) → Option HeaderValue
-header_values (Some sizes) (Some limit) = Some (record { sizes = sizes; limit = limit })
-header_values _ _ = None
+abbrev pub pair_line_of : Option (List ℕ) → Option (Option ℕ) → Option PairLine
+pair_line_of (Some sizes) (Some limit) = Some (record { sizes = sizes; limit = limit })
+pair_line_of _ _ = None
 
-unfoldable pub header_line : ℕ → List Word → Result HeaderValue ScriptError
-header_line n values =
+unfoldable pub pair_line : ℕ → List Word → Result PairLine ScriptError
+pair_line n values =
     by_words n
     (λ (arx, atx, brx, btx, limit).
     let size = number_of 1048576 in
-    header_values (sizes_of (size arx) (size atx) (size brx) (size btx)) (limit_of limit))
+    pair_line_of (sizes_of (size arx) (size atx) (size brx) (size btx)) (limit_of limit))
     (five_of values)
 
 -- what the first line that is not skipped means
-abbrev pub header_of : ℕ → List Word → Result HeaderValue ScriptError
-header_of n [] = Err (fault.NoPairLine n)
-header_of n (name ∷ values) =
-    if bytes_eq name (codes "pair") then header_line n values else Err (fault.NoPairLine n)
+abbrev pub first_line : ℕ → List Word → Result PairLine ScriptError
+first_line n [] = Err (fault.NoPairLine n)
+first_line n (name ∷ values) =
+    if bytes_eq name (codes "pair") then pair_line n values else Err (fault.NoPairLine n)
 
 abbrev pub first_and_rest
     : Result EventValue ScriptError → Result (List EventValue) ScriptError → Result (List EventValue) ScriptError
@@ -129,33 +124,58 @@ unfoldable pub events_of : List (ℕ × List Word) → Result (List EventValue) 
 events_of [] = Ok []
 events_of (line ∷ rest) = first_and_rest (event_of line.0 line.1) (events_of rest)
 
-pub record ScriptValue : Type 0 where
-  pub sizes : List ℕ
-  pub limit : Option ℕ
-  pub events : List EventValue
+-- a script by value: its first line, and its events
+abbrev pub ScriptValue : Type 0
+ScriptValue = PairLine × List EventValue
 
 abbrev pub script_value : Script → ScriptValue
-script_value s = record { sizes = s.sizes; limit = s.limit; events = map event_value s.events.items }
+script_value s = (record { sizes = s.sizes; limit = s.limit }, map event_value s.events.items)
 
 abbrev pub with_events
-    : Result HeaderValue ScriptError → Result (List EventValue) ScriptError → Result ScriptValue ScriptError
+    : Result PairLine ScriptError → Result (List EventValue) ScriptError → Result ScriptValue ScriptError
 with_events (Err e) more = Err e
-with_events (Ok header) (Err e) = Err e
-with_events (Ok header) (Ok events) = Ok (record { sizes = header.sizes; limit = header.limit; events = events })
+with_events (Ok line) (Err e) = Err e
+with_events (Ok line) (Ok events) = Ok (line, events)
 
 -- the script of numbered lines; end is the number after the last line
 abbrev pub script_of_lines : ℕ → List (ℕ × List Word) → Result ScriptValue ScriptError
 script_of_lines end [] = Err (fault.NoPairLine end)
-script_of_lines end (line ∷ rest) = with_events (header_of line.0 line.1) (events_of rest)
+script_of_lines end (line ∷ rest) = with_events (first_line line.0 line.1) (events_of rest)
 
 -- what a text means as a script: its first line that is not skipped names the sizes, each later one an event
 unfoldable pub script_of : List ℕ → Result ScriptValue ScriptError
 script_of text = script_of_lines (length (lines_of text) + 1) (numbered_from 1 (lines_of text))
 
-abbrev pub header_value : Header → HeaderValue
-header_value h = record { sizes = h.sizes; limit = h.limit }
+-- ---- what is answered
 
--- the result is what is meant, its value seen by `value`, but where memory ran out
+-- the fault e of what is meant; where memory ran out, there is none
+abbrev pub IsFault : {V : Type 0} → Result V ScriptError → ScriptError → Type 0
+IsFault meant fault.Memory = IsOk meant
+IsFault meant e = meant ≡ Err e
+
+-- the result is what is meant, its value seen by `value`
 abbrev pub Gives : {T V : Type 0} → (T → V) → Result V ScriptError → Result T ScriptError → Type 0
-Gives value meant result =
-    MatchResult result (λ x. meant ≡ Ok (value x)) (λ e. e ≢ fault.Memory → meant ≡ Err e)
+Gives value meant result = MatchResult result (λ x. meant ≡ Ok (value x)) (IsFault meant)
+
+-- some first lines, at least one, have no fault
+pub record ReadsFirst (lines : List (ℕ × List Word)) : Type 0 where
+  pub first : List (ℕ × List Word)
+  pub others : List (ℕ × List Word)
+  pub are : lines ≡ first ++ others
+  pub some : 0 < length first
+  pub read : IsOk (events_of first)
+
+-- the fault e of the events of these lines; where memory ran out, that was at a line that has none, nor have those before
+abbrev pub EventsFault : List (ℕ × List Word) → ScriptError → Type 0
+EventsFault lines fault.Memory = ReadsFirst lines
+EventsFault lines e = events_of lines ≡ Err e
+
+-- the same of the lines of a script
+abbrev pub LinesRead : List (ℕ × List Word) → Type 0
+LinesRead [] = ⊥
+LinesRead (line ∷ others) = IsOk (first_line line.0 line.1) × ReadsFirst others
+
+-- and of a text
+abbrev pub ScriptFault : List ℕ → ScriptError → Type 0
+ScriptFault text fault.Memory = LinesRead (lines_left 1 text)
+ScriptFault text e = script_of text ≡ Err e

@@ -4,7 +4,8 @@ ghost use Rattle.sock_pair.specs.Holding.{stored_of, kept_at};
 ghost use Rattle.std.specs.Option.{ForSome};
 ghost use Rattle.control_wire.specs.Segment.{segment_of};
 ghost use Rattle.sock_pair.specs.PairSteps.{is_too_old, dispatch_outcome, stored_at, Dispatches, reply_index, IsUnchanged};
-ghost use Rattle.sock_pair.specs.Exchanges.{DeliversAt, GrowsAt};
+ghost use Rattle.sock_pair.specs.Recording.{IsShort};
+ghost use Rattle.sock_pair.specs.Exchanges.{DeliversAt, ReachesSocketAt};
 
 use crate::host::Host;
 use crate::moment::Moment;
@@ -34,16 +35,19 @@ pub fn too_old(released_at: u64, released_now: u64, taken_at: u64, taken_now: u6
         || taken_now.saturating_sub(taken_at) >= AGE_LIMIT
 }
 
-// What came of a dispatch, whose segment is stored where there is one; there is room for it.
+// What came of a dispatch, whose segment is stored where there is one; there is room for it. Of the room for its payload
+// it keeps no more than it needs.
 fn store(segments: &mut Vec<Segment>, from: Side, sent: Sent, counts: Counts) -> Outcome
-    requires { vec_len segments.old < vec_capacity segments.old }
+    requires room { vec_len segments.old < vec_capacity segments.old }
+    requires short { IsShort sent }
     ensures answer { result ≡ dispatch_outcome sent (length (map stored_of segments.old.items)) }
     ensures stored { map stored_of segments.new.items ≡ map stored_of segments.old.items ++ stored_at from sent counts.released counts.taken }
 {
     match sent {
         Sent::Quiet => Outcome::Quiet,
         Sent::Failed => Outcome::EmitFailed,
-        Sent::Emitted(header, payload) => {
+        Sent::Emitted(header, mut payload) => {
+            payload.shrink_to_fit();
             let index = segments.len();
             segments.push_reserved(Segment {
                 from,
@@ -126,7 +130,7 @@ pub(crate) fn deliver(
     requires taken { host.old.taken < 2 ^ 63 }
     ensures step { IfOk result (λ o. DeliversAt (slice_get (map stored_of segments.old.items) index) emitter.released emitter.taken side moment.entry.now o host.old (map stored_of segments.old.items) host.new (map stored_of segments.new.items)) }
     ensures memory { OnErr result (IsUnchanged host.old (map stored_of segments.old.items) host.new (map stored_of segments.new.items)) }
-    ensures grows { OnErr result (GrowsAt (slice_get (map stored_of segments.old.items) index) emitter.released emitter.taken host.old) }
+    ensures takes_memory { OnErr result (ReachesSocketAt (slice_get (map stored_of segments.old.items) index) emitter.released emitter.taken host.old) }
 {
     let segment = &segments[index];
     if too_old(

@@ -5,7 +5,7 @@ ghost use Rattle.control_wire.specs.Segment.{segment_of};
 ghost use Rattle.sock_tcp.specs.Process.{Accepts, processed};
 ghost use Rattle.sock_pair.specs.Moments.{facts_of};
 ghost use Rattle.sock_pair.specs.Holding.{stored_of};
-ghost use Rattle.sock_pair.specs.Recording.{Holds, SocketDispatches};
+ghost use Rattle.sock_pair.specs.Recording.{Holds, IsShort, SocketDispatches};
 
 use crate::exchange::Counts;
 use crate::moment::Moment;
@@ -198,7 +198,8 @@ impl<'a> Host<'a> {
     pub(crate) fn dispatch(&mut self, moment: &Moment, room: Vec<u8>, fail: bool) -> Sent
         requires empty { room.items ≡ [] }
         requires roomy { moment.now.ip_mtu ≤ vec_capacity room }
-        ensures { HostDispatches moment.entry.now fail self.old result self.new }
+        ensures table { HostDispatches moment.entry.now fail self.old result self.new }
+        ensures short { IsShort result }
     {
         let mut recorder = Recorder {
             moment: *moment,
@@ -237,6 +238,7 @@ impl<'a> Host<'a> {
         ensures bare { ForSome result (λ r. r.1.payload.now ≡ []) }
         ensures reply { option_map (λ r. (r.0, segment_of r.1)) result ≡ (processed_by self.old moment.entry.now (stored_of segment.now)).reply }
     {
+        segment.in_range();
         let mut cx = *moment;
         let repr = segment.as_repr();
         let unacknowledged = self.socket.send_queue();

@@ -14,7 +14,7 @@ ghost use Rattle.sock_tcp.specs.View.{View};
 ghost use Rattle.sock_tcp.specs.Opening.{listened, connected};
 ghost use Rattle.sock_tcp.specs.Queues.{written, read_off};
 ghost use Rattle.sock_tcp.specs.Process.{processed};
-ghost use Rattle.sock_tcp.specs.Due.{flight, readied};
+ghost use Rattle.sock_tcp.specs.Due.{flight, before_emit};
 ghost use Rattle.sock_tcp.specs.Content.{Sending, asked, content};
 ghost use Rattle.sock_tcp.specs.Dispatch.{sent};
 ghost use Rattle.sock_tcp.specs.declared.tuple.Tuple.{Tuple};
@@ -23,7 +23,7 @@ ghost use Rattle.sock_pair.specs.PairInvariant.{IsPair};
 ghost use Rattle.sock_pair.specs.PairLaws.{IsBounded, MayEmit};
 ghost use Rattle.sock_pair.specs.PairNetwork.{shown, stream_segment, IsSmall};
 ghost use Rattle.sock_pair.specs.PairPromises.{Prefix, Release, IsPromptAt};
-ghost use Rattle.sock_pair.specs.PairSteps.{Step};
+ghost use Rattle.sock_pair.specs.PairSteps.{EventStep};
 ghost use Rattle.sock_pair.specs.PairViews.{PairView};
 ghost use Rattle.sock_pair.specs.StreamCalls.{ProcessEffect, BeginEffect};
 ghost use Rattle.sock_pair.specs.StreamViews.{Listening, SynSent};
@@ -40,7 +40,7 @@ pub fn process_heard()
 
 /// What a dispatch does before it emits anything changes nothing that the streams see, or resets the socket, whose address is gone.
 pub fn begun_shows()
-    ensures { (v : View) (f : Facts) → BeginEffect (shown v) (shown (readied v f).view) }
+    ensures { (v : View) (f : Facts) → BeginEffect (shown v) (shown (before_emit v f).view) }
 {}
 
 /// What a dispatch emits, with any bytes that the ring lent, may be sent; and an emit that succeeds moves SND.NXT alone.
@@ -78,5 +78,5 @@ pub fn pairs_deliver_in_order()
 
 /// A delivery that a side accepts, of a segment in order, appends the whole payload to the receive queue before it returns.
 pub fn pairs_deliver_at_once()
-    ensures { (i : ℕ) (m : Moment) (p q : PairView) (o : Outcome) → Step (Deliver i m) p o q → IsPromptAt i p o q }
+    ensures { (i : ℕ) (m : Moment) (p q : PairView) (o : Outcome) → EventStep (Deliver i m) p o q → IsPromptAt i p o q }
 {}

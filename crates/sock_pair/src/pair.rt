@@ -58,8 +58,9 @@ impl<'a> Pair<'a> {
     ghost use Rattle.sock_tcp.specs.Queue.{queue_of};
     ghost use Rattle.sock_pair.specs.PairViews.{new_host, new_pair, host_of};
     ghost use Rattle.sock_pair.specs.PairCalls.{listening, connecting, OpensAs, is_over, Sends, Receives};
-    ghost use Rattle.sock_pair.specs.PairSteps.{OneSide, OneSideAndSegments, Dispatches, Delivers, DeliveryGrows, Grows, Step};
-    ghost use Rattle.sock_pair.specs.PairRuns.{Done, HasStopped, PromptRun, added};
+    ghost use Rattle.sock_pair.specs.PairSteps.{OneSide, OneSideAndSegments, Dispatches, Delivers, DeliveryTakesMemory, TakesMemory, EventStep};
+    ghost use Rattle.sock_pair.specs.PairRuns.{Ran};
+    ghost use Rattle.sock_pair.specs.PairStreams.{AddsUp, accepted_by, handed_out_by};
     ghost use Rattle.sock_pair.specs.PairPromises.{Prefix, Release, Complete, Prompt};
     ghost use Rattle.sock_pair.specs.Holding.{stored_of};
     ghost use Rattle.sock_pair.specs.PairInvariant.{IsReachable};
@@ -179,7 +180,7 @@ impl<'a> Pair<'a> {
     fn send(&mut self, side: Side, bytes: &[u8]) -> Result<Outcome, PairError>
         ensures step { IfOk result (λ o. OneSide side self.old self.new (λ h k. Sends self.old.limit bytes.now h o k)) }
         ensures memory { OnErr result (self.new ≡ self.old) }
-        ensures grows { OnErr result (is_over self.old.limit (length (host_of side self.old).accepted + length bytes.now) ≡ false) }
+        ensures takes_memory { OnErr result (is_over self.old.limit (length (host_of side self.old).accepted + length bytes.now) ≡ false) }
     {
         if self.is_over_limit(side, bytes.len()) {
             return Ok(Outcome::StreamLimit);
@@ -227,7 +228,7 @@ impl<'a> Pair<'a> {
     fn deliver(&mut self, index: usize, moment: &Moment) -> Result<Outcome, PairError>
         ensures step { IfOk result (λ o. Delivers (slice_get self.old.segments index) moment.entry.now self.old o self.new) }
         ensures memory { OnErr result (self.new ≡ self.old) }
-        ensures grows { OnErr result (DeliveryGrows (slice_get self.old.segments index) self.old) }
+        ensures takes_memory { OnErr result (DeliveryTakesMemory (slice_get self.old.segments index) self.old) }
     {
         if index >= self.segments.len() {
             return Ok(Outcome::NoSegment);
@@ -273,10 +274,10 @@ impl<'a> Pair<'a> {
     }
 
     fn perform(&mut self, event: &Event) -> Result<Outcome, PairError>
-        ensures step { IfOk result (λ o. Step event.entry.now self.old o self.new) }
+        ensures step { IfOk result (λ o. EventStep event.entry.now self.old o self.new) }
         ensures prompt { IfOk result (λ o. Prompt event.entry.now self.old o self.new) }
         ensures memory { OnErr result (self.new ≡ self.old) }
-        ensures grows { OnErr result (Grows event.entry.now self.old) }
+        ensures takes_memory { OnErr result (TakesMemory event.entry.now self.old) }
     {
         match event {
             Event::Listen { side } => Ok(self.listen(*side)),
@@ -297,13 +298,15 @@ impl<'a> Pair<'a> {
     /// `Memory` where a growth was refused; the pair is then as it was. `Listen` and `Connect` take no memory, nor does an
     /// event that comes to one of the last five outcomes.
     pub fn step(&mut self, event: &Event) -> Result<Outcome, PairError>
-        ensures step { IfOk result (λ o. Step event.entry.now self.old o self.new) }
+        ensures step { IfOk result (λ o. EventStep event.entry.now self.old o self.new) }
+        ensures adds { IfOk result (λ o. AddsUp self.old self.new (λ s. accepted_by s event.entry.now o)
+            (λ s. handed_out_by s event.entry.now o)) }
         ensures prefix { Prefix self.new }
         ensures release { Release self.new }
         ensures complete { IfOk result (λ o. Complete o) }
         ensures prompt { IfOk result (λ o. Prompt event.entry.now self.old o self.new) }
         ensures memory { OnErr result (self.new ≡ self.old) }
-        ensures grows { OnErr result (Grows event.entry.now self.old) }
+        ensures takes_memory { OnErr result (TakesMemory event.entry.now self.old) }
     {
         let outcome = self.perform(event);
         self.keeps_order();
@@ -312,16 +315,17 @@ impl<'a> Pair<'a> {
 
     /// Performs the events in turn, and adds the outcome of each to `outcomes`.
     ///
-    /// What `step` promises holds of each event and after each of them.
+    /// What `step` promises holds of each event and after each of them. So what each side accepted and handed out is what
+    /// it had before, followed by what the added outcomes say in turn.
     ///
     /// `Memory` where a growth was refused; the events before that one were done, and `outcomes` has gained exactly their
     /// outcomes.
     pub fn run(&mut self, events: &[Event], outcomes: &mut Vec<Outcome>) -> Result<(), PairError>
         ensures prefix { Prefix self.new }
         ensures release { Release self.new }
-        ensures prompt { PromptRun events.now self.old (added outcomes.old.items outcomes.new.items) self.new }
-        ensures done { OnOk result (Done events.now self.old outcomes.old.items outcomes.new.items self.new) }
-        ensures memory { OnErr result (HasStopped events.now self.old outcomes.old.items outcomes.new.items self.new) }
+        ensures done { Ran events.now self.old outcomes.old.items outcomes.new.items self.new }
+        ensures all { OnOk result (length outcomes.new.items ≡ length outcomes.old.items + length events.now) }
+        ensures memory { OnErr result (length outcomes.new.items < length outcomes.old.items + length events.now) }
     {
         self.keeps_order();
         for event in events {

@@ -1,19 +1,19 @@
 //! Events as text, a line an event.
-ghost use Rattle.std.specs.Prelude.{◌≡◌, map, false, IfOk};
+ghost use Rattle.std.specs.Prelude.{◌≡◌, map, false, Ok, IfOk, MatchResult};
 ghost use Rattle.sock_pair.specs.EventValue.{event_value};
 ghost use Rattle.sock_pair.specs.ReplayEnds.{LeavesStreams};
 ghost use Rattle.sock_pair.specs.ReplayRuns.{Replays};
 ghost use Rattle.sock_pair.specs.ReplayScripts.{IsPlayable};
-ghost use Rattle.sock_pair.specs.ScriptLines.{Gives, events_of, script_of, script_value};
+ghost use Rattle.sock_pair.specs.ScriptLines.{EventsFault, ScriptFault, events_of, script_of, script_value};
 ghost use Rattle.sock_pair.specs.ScriptText.{lines_left};
 
 mod end;
 mod error;
 mod forms;
-mod header;
 mod keyword;
 mod lines;
 mod output;
+mod pair_line;
 mod play;
 pub mod stream;
 mod values;
@@ -23,8 +23,8 @@ use crate::event::Event;
 pub use end::End;
 pub use error::ScriptError;
 use forms::event;
-use header::{Header, read_header};
 use lines::Lines;
+use pair_line::{PairLine, read_pair_line};
 use play::{play, read_all};
 use std::alloc::Global;
 pub use stream::{Sink, Source, StreamFault};
@@ -43,18 +43,18 @@ pub struct Script {
 /// Reads a text as a script: its first line that is not skipped names the sizes, each later one an
 /// event.
 ///
-/// The error is the fault of the first line that has one, or `Memory` where memory ran out before
-/// that line.
+/// The error is the fault of the first line that has one, or `Memory` where memory ran out at a line of an event: that line
+/// and all before it have no fault.
 #[tactic(auto, unfolding(crate::specs::ScriptLines::script_of))]
 pub fn parse(alloc: Global, text: &[u8]) -> Result<Script, ScriptError>
-    ensures value { Gives script_value (script_of text.now) result }
+    ensures value { MatchResult result (λ s. script_of text.now ≡ Ok (script_value s)) (ScriptFault text.now) }
     ensures playable { IfOk result (λ s. IsPlayable s.sizes s.limit) }
 {
     let mut lines = Lines::new(text);
     let Some(first) = lines.next() else {
         return Err(ScriptError::NoPairLine { line: lines.number });
     };
-    let Header { sizes, limit } = read_header(&first)?;
+    let PairLine { sizes, limit } = read_pair_line(&first)?;
     let events = events(alloc, &mut lines)?;
     Ok(Script {
         sizes,
@@ -66,7 +66,7 @@ pub fn parse(alloc: Global, text: &[u8]) -> Result<Script, ScriptError>
 // The events of the lines that are left.
 fn events(alloc: Global, lines: &mut Lines<'_>) -> Result<Vec<Event>, ScriptError>
     ensures { let left = lines_left lines.old.number lines.old.rest.now in
-        Gives (λ v. map event_value v.items) (events_of left) result }
+        MatchResult result (λ v. events_of left ≡ Ok (map event_value v.items)) (EventsFault left) }
 {
     let mut events = Vec::new(alloc);
     while let Some(line) = lines.next() {

@@ -61,6 +61,7 @@ pub struct Segment {
     pub released_at: u64,
     /// How many bytes had joined the emitter's receive queue.
     pub taken_at: u64,
+    pub ghost short: { length payload.items ≤ 65535 },
 }
 
 impl Segment {
@@ -88,9 +89,10 @@ impl Segment {
         }
     }
 
-    // Says that its numbers have 32 bits.
+    // Says that its numbers have 32 bits, and its payload at most 65535 bytes.
     pub(crate) fn in_range(&self)
-        ensures { IsSmall (stored_of self.now).segment }
+        ensures numbers { IsSmall (stored_of self.now).segment }
+        ensures short { length (stored_of self.now).segment.payload ≤ 65535 }
     {
         self.header.seq_number.in_range();
         match self.header.ack_number {

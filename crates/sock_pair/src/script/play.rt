@@ -3,7 +3,7 @@ ghost use Rattle.std.specs.Prelude.{◌≡◌, ◌≤◌, IfOk, IfSome, [], None
 ghost use Rattle.net_base.specs.Ring.{ring};
 ghost use Rattle.sock_pair.specs.ReplayEnds.{Reads, StopsWriting};
 ghost use Rattle.sock_pair.specs.NetworkInvariant.{IsLimit};
-ghost use Rattle.sock_pair.specs.ReplayRuns.{Plays, begun, begun_of};
+ghost use Rattle.sock_pair.specs.ReplayRuns.{Plays, PlaysTo, begun, begun_of};
 ghost use Rattle.sock_pair.specs.ReplayScripts.{AreSizes, IsPlayable};
 
 use crate::event::Event;
@@ -73,7 +73,7 @@ pub fn play<W: Sink>(alloc: Global, script: &Script, writer: &mut W) -> End
 fn run_events<W: Sink>(alloc: Global, pair: &mut Pair<'_>, events: &[Event], writer: &mut W) -> End
     requires { W.has_failed writer.old ≡ false }
     ensures failed { StopsWriting result (W.has_failed writer.new) }
-    ensures written { Plays events.now pair.old result (W.contents writer.old) (W.contents writer.new) }
+    ensures written { PlaysTo events.now pair.old pair.new result (W.contents writer.old) (W.contents writer.new) }
 {
     let mut outcomes = Vec::new(alloc);
     let ran = pair.run(events, &mut outcomes);

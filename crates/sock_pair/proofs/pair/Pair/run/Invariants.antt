@@ -1,9 +1,9 @@
-use Rattle.std.proofs.Common.{take}
+use Rattle.std.proofs.Common.{◌≡◌, ◌+◌, length}
 use Rattle.sock_pair.specs.PairPromises.{Prefix, Release}
-use Rattle.sock_pair.specs.PairRuns.{Done, PromptRun, added}
+use Rattle.sock_pair.specs.PairRuns.{Ran}
 use Rattle.sock_pair.proofs.pair.Pair.run.Given as goal
 
 abbrev pub invariant-loop-event : goal.invariant-loop-event
 invariant-loop-event l =
-    Prefix l.self × Release l.self × PromptRun l.events l.fn.self (added l.fn.outcomes.items l.outcomes.items) l.self
-    × Done (take l.event-index l.events) l.fn.self l.fn.outcomes.items l.outcomes.items l.self
+    Prefix l.self × Release l.self × Ran l.events l.fn.self l.fn.outcomes.items l.outcomes.items l.self
+    × (length l.outcomes.items ≡ length l.fn.outcomes.items + l.event-index)

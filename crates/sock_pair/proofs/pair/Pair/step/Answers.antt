@@ -1,5 +1,9 @@
+use Rattle.sock_pair.proofs.PairAdding.{adds_up_if}
 use Rattle.sock_pair.proofs.PairCompletes.{completes}
 use Rattle.sock_pair.proofs.pair.Pair.step.Goals as goal
 
 pub returns-clause-complete : goal.returns-clause-complete
 returns-clause-complete c = completes c.args.event.now c.args.self.now c.perform-outcome.new.self c.perform-outcome.result c.perform-outcome.ensures.step
+
+pub returns-clause-adds : goal.returns-clause-adds
+returns-clause-adds c = adds_up_if c.args.event.now c.args.self.now c.perform-outcome.new.self c.perform-outcome.result c.perform-outcome.ensures.step

@@ -1,7 +1,7 @@
-// The line that names the buffers' sizes and the limit.
+//! The line that names the buffers' sizes and the limit.
 ghost use Rattle.std.specs.Prelude.{◌≡◌, ◌∷◌, IfOk, IfSome};
 ghost use Rattle.sock_pair.specs.ReplayScripts.{AreSizes, IsPlayable};
-ghost use Rattle.sock_pair.specs.ScriptLines.{Gives, header_line, header_of, header_value, sizes_of};
+ghost use Rattle.sock_pair.specs.ScriptLines.{first_line, pair_line, sizes_of};
 ghost use Rattle.sock_pair.specs.ScriptText.{line_words, words_of};
 ghost use Rattle.sock_pair.specs.ScriptWords.{number_of};
 
@@ -15,7 +15,7 @@ const BUFFER: usize = 1_048_576;
 
 /// What the line that begins a script says.
 #[derive(Clone, Copy)]
-pub struct Header {
+pub struct PairLine {
     /// The sizes in bytes of a's receive and transmit buffer, and of b's.
     pub sizes: [usize; 4],
     /// How many bytes each side may accept, or None for any number.
@@ -23,26 +23,26 @@ pub struct Header {
 }
 
 /// What the line `pair ARX ATX BRX BTX LIMIT` names, or its fault.
-pub fn read_header(line: &Line<'_>) -> Result<Header, ScriptError>
-    ensures value { Gives header_value (header_of line.now.number (line_words line.now)) result }
+pub fn read_pair_line(line: &Line<'_>) -> Result<PairLine, ScriptError>
+    ensures value { result ≡ first_line line.now.number (line_words line.now) }
     ensures playable { IfOk result (λ h. IsPlayable h.sizes h.limit) }
 {
     if line.name != b"pair".as_slice() {
         return Err(ScriptError::NoPairLine { line: line.number });
     }
-    header_values(line.number, line.values)
+    pair_line(line.number, line.values)
 }
 
-#[tactic(auto, unfolding(crate::specs::ScriptLines::header_line))]
-fn header_values(line: usize, values: &[u8]) -> Result<Header, ScriptError>
-    ensures value { Gives header_value (header_line line (words_of values.now)) result }
+#[tactic(auto, unfolding(crate::specs::ScriptLines::pair_line))]
+fn pair_line(line: usize, values: &[u8]) -> Result<PairLine, ScriptError>
+    ensures value { result ≡ pair_line line (words_of values.now) }
     ensures playable { IfOk result (λ h. IsPlayable h.sizes h.limit) }
 {
     let (arx, atx, brx, btx, last) = five_words(values).ok_or(ScriptError::WrongNumberOfWords {
         line,
     })?;
     match (sizes(arx, atx, brx, btx), limit(last)) {
-        (Some(sizes), Some(limit)) => Ok(Header { sizes, limit }),
+        (Some(sizes), Some(limit)) => Ok(PairLine { sizes, limit }),
         _ => Err(ScriptError::BadWord { line }),
     }
 }
