@@ -1,3 +1,4 @@
 pub mod Acking
 pub mod Windows
 pub mod Emitting
+pub mod Sending

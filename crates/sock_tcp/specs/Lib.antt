@@ -2,7 +2,10 @@ pub mod Queue
 pub mod View
 pub mod Same
 pub mod Opening
+pub mod Settings
+pub mod Closing
 pub mod Queues
+pub mod Replies
 pub mod Verdict
 pub mod Window
 pub mod Steps

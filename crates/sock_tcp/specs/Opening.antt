@@ -8,6 +8,7 @@ use Rattle.control_wire.specs.Seq.{seq_of}
 use Rattle.sock_core.specs.Facts.{Facts}
 use Rattle.sock_tcp.specs.Draw.{Draws}
 use Rattle.sock_tcp.specs.Queue.{emptied}
+use Rattle.sock_tcp.specs.Settings.{kind_of, of_kind}
 use Rattle.sock_tcp.specs.View.{View, fresh}
 use Rattle.sock_tcp.specs.declared.state.State.{State}
 use Rattle.sock_tcp.specs.declared.state.State.TheVariants as state
@@ -32,10 +33,23 @@ is_active state.TimeWait = false
 is_active state.Listen = false
 is_active _ = true
 
--- ---- reset: all but the SACK permission is as in a new socket
+-- ---- reset: a new socket, but for the settings of the user and a few memories
 
 unfoldable pub renewed : View → View
-renewed v = record (fresh (emptied v.rx_buffer) (emptied v.tx_buffer)) { remote_has_sack = v.remote_has_sack }
+renewed v =
+    record (fresh (emptied v.rx_buffer) (emptied v.tx_buffer)) {
+      timeout = v.timeout;
+      keep_alive = v.keep_alive;
+      hop_limit = v.hop_limit;
+      ack_delay = v.ack_delay;
+      nagle = v.nagle;
+      synack_paused = v.synack_paused;
+      congestion_controller = of_kind (kind_of v.congestion_controller);
+      remote_has_sack = v.remote_has_sack;
+      local_rx_last_seq = v.local_rx_last_seq;
+      local_rx_last_ack = v.local_rx_last_ack;
+      last_remote_tsval = v.last_remote_tsval;
+    }
 
 -- ---- listen
 

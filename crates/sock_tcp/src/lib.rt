@@ -1,6 +1,7 @@
 //! The TCP socket of smoltcp: so far one connection whose segments come in order.
 #![tactic(auto)]
 
+mod close;
 mod content;
 pub mod control_block;
 mod dispatch;
@@ -9,16 +10,20 @@ pub mod error;
 mod open;
 mod process;
 mod queues;
+mod reply;
+pub mod settings;
 pub mod socket;
 pub mod state;
 mod steps;
+pub mod timer;
 pub mod tuple;
 pub mod verdict;
 pub mod window;
 
 pub use control_block::ControlBlock;
 pub use error::{ConnectError, ListenError, RecvError, SendError};
-pub use process::Reply;
+pub use reply::Reply;
+pub use settings::CongestionControl;
 pub use socket::{Socket, SocketBuffer};
 pub use state::State;
 

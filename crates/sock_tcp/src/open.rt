@@ -8,14 +8,25 @@ ghost use Rattle.sock_tcp.specs.Opening.{is_open, is_listening, renewed, listene
 use crate::control_block::ControlBlock;
 use crate::error::{ConnectError, ListenError};
 use crate::state::State;
+use crate::timer::{AckDelayTimer, Timer};
 use crate::tuple::Tuple;
 use control_wire::TcpSeqNumber;
 use ip_wire::{IpAddress, IpEndpoint, IpListenEndpoint};
 use net_base::ring_buffer::RingBuffer;
+use net_base::time::{Duration, Instant};
+use sock_core::congestion::AnyController;
+use sock_core::rtte::RttEstimator;
 use sock_core::{Context, window_shift};
 
 // What a peer is taken to accept before it said more (RFC 9293, section 3.7.1).
 const DEFAULT_MSS: usize = 536;
+
+// How long an acknowledgement waits for data to go with, where the user says nothing (RFC 1122, section 4.2.3.2).
+const ACK_DELAY: Duration = Duration { micros: 10_000 };
+
+const IDLE: Timer = Timer::Idle {
+    keep_alive_at: None,
+};
 
 impl<'a> ControlBlock<'a> {
     #[tactic(auto, unfolding(crate::specs::View::fresh))]
@@ -30,8 +41,14 @@ impl<'a> ControlBlock<'a> {
         let shift = window_shift(rx_buffer.capacity());
         ControlBlock {
             state: State::Closed,
+            timer: IDLE,
+            rtte: RttEstimator::default(),
             rx_buffer,
+            rx_fin_received: false,
             tx_buffer,
+            timeout: None,
+            keep_alive: None,
+            hop_limit: None,
             listen_endpoint: IpListenEndpoint::default(),
             tuple: None,
             local_seq_no: TcpSeqNumber(0),
@@ -45,6 +62,17 @@ impl<'a> ControlBlock<'a> {
             remote_has_sack: false,
             remote_mss: DEFAULT_MSS,
             remote_last_ts: None,
+            local_rx_last_seq: None,
+            local_rx_last_ack: None,
+            local_rx_dup_acks: 0,
+            pending_fast_retransmit: false,
+            ack_delay: Some(ACK_DELAY),
+            ack_delay_timer: AckDelayTimer::Idle,
+            challenge_ack_timer: Instant::ZERO,
+            nagle: true,
+            congestion_controller: AnyController::new(),
+            last_remote_tsval: 0,
+            synack_paused: false,
         }
     }
 
@@ -53,7 +81,10 @@ impl<'a> ControlBlock<'a> {
         ensures { self.new ≡ renewed self.old }
     {
         self.state = State::Closed;
+        self.timer = IDLE;
+        self.rtte = RttEstimator::default();
         self.rx_buffer.clear();
+        self.rx_fin_received = false;
         self.tx_buffer.clear();
         self.listen_endpoint = IpListenEndpoint::default();
         self.tuple = None;
@@ -67,6 +98,11 @@ impl<'a> ControlBlock<'a> {
         self.remote_win_scale = None;
         self.remote_mss = DEFAULT_MSS;
         self.remote_last_ts = None;
+        self.local_rx_dup_acks = 0;
+        self.pending_fast_retransmit = false;
+        self.ack_delay_timer = AckDelayTimer::Idle;
+        self.challenge_ack_timer = Instant::ZERO;
+        self.congestion_controller = self.congestion_control().controller();
     }
 
     pub(crate) fn is_open(&self) -> bool

@@ -10,6 +10,7 @@ ghost use Rattle.sock_tcp.specs.Process.{IsBetween, IsToListener, IsAddressed, O
 ghost use Rattle.sock_tcp.specs.Draw.{draws, Draws};
 
 use crate::control_block::ControlBlock;
+use crate::reply::Reply;
 use crate::state::State;
 use crate::tuple::Tuple;
 use crate::verdict::Verdict;
@@ -17,9 +18,6 @@ use control_wire::{TcpControl, TcpRepr};
 use ip_wire::{IpEndpoint, IpListenEndpoint, IpRepr};
 use net_base::time::Instant;
 use sock_core::Context;
-
-/// A segment that answers another, with its IP header.
-pub type Reply = (IpRepr, TcpRepr<'static>);
 
 impl Tuple {
     // The tuple of the side that a segment goes to.

@@ -1,21 +1,24 @@
 //! The TCP socket as its users see it.
-ghost use Rattle.std.specs.Prelude.{◌≡◌, ◌≤◌, ◌^◌, ◌+◌, ◌↔◌, IsTrue, length, option_map};
+ghost use Rattle.std.specs.Prelude.{◌≡◌, ◌≤◌, ◌^◌, ◌+◌, ◌↔◌, ℕ, List, IsTrue, IsOk, is_ok, true, length, option_map};
+ghost use Rattle.std.specs.Fn.{FnOnceReturnsAt, FnOnceReturnsAtMut};
 ghost use Rattle.control_wire.specs.Segment.{segment_of};
 ghost use Rattle.sock_tcp.specs.Queue.{queue_of, capacity};
 ghost use Rattle.sock_tcp.specs.View.{fresh};
 ghost use Rattle.sock_tcp.specs.Opening.{is_listening, is_open, is_active, Listens, Connects};
-ghost use Rattle.sock_tcp.specs.Queues.{may_send, can_send, may_recv, can_recv, Sends, Reads};
+ghost use Rattle.sock_tcp.specs.Queues.{may_send, can_send, may_recv, can_recv};
+ghost use Rattle.sock_tcp.specs.Queues.{written, Sends, SendsWith, Writes, Reads, ReadsWith, lent_bytes, Peeks, PeeksInto};
 ghost use Rattle.sock_tcp.specs.Process.{Accepts, Processes};
 ghost use Rattle.sock_tcp.specs.Dispatch.{Dispatches};
 
 use crate::control_block::ControlBlock;
 use crate::error::{ConnectError, ListenError, RecvError, SendError};
-use crate::process::Reply;
+use crate::reply::Reply;
 use crate::state::State;
 use control_wire::TcpRepr;
 use ip_wire::{IpEndpoint, IpListenEndpoint, IpRepr};
 use net_base::ring_buffer::RingBuffer;
 use sock_core::Context;
+use std::fmt;
 
 /// A buffer of bytes to send or to receive.
 pub type SocketBuffer<'a> = RingBuffer<'a, u8>;
@@ -175,13 +178,56 @@ impl<'a> Socket<'a> {
         self.control_block.send_slice(data)
     }
 
+    /// Lends `f` a slice of the free places behind the transmit queue, in one piece and empty only where there are none. `f`
+    /// answers how many bytes it put at the slice's beginning, at most its length, and these join the queue; beside that it
+    /// answers what this call answers.
+    ///
+    /// `InvalidState` where `may_send` is false; `f` is not called then, and nothing changes.
+    pub fn send<R, F: FnOnce(&mut [u8]) -> (usize, R)>(&mut self, f: F) -> Result<R, SendError>
+        requires callable { F.IsAlwaysCallable f }
+        requires sized { (s : List ℕ) (r : _) (s' : List ℕ) → FnOnceReturnsAtMut F.FnOnce f s r s' → r.0 ≤ length s }
+        ensures table { SendsWith (FnOnceReturnsAtMut F.FnOnce f) self.old.control_block result self.new.control_block }
+        ensures small { length self.new.control_block.tx_buffer.bytes ≤ 2 ^ 30 }
+    {
+        self.control_block.send(f)
+    }
+
     /// Moves as many bytes from the front of the receive queue into `data` as fit, and answers how many.
     ///
-    /// `InvalidState` where `may_recv` is false; nothing changes then.
+    /// Where `may_recv` is false nothing changes: `Finished` where the peer's FIN has come, else `InvalidState`.
     pub fn recv_slice(&mut self, data: &mut [u8]) -> Result<usize, RecvError>
         ensures table { Reads self.old.control_block «data».old result self.new.control_block «data».new }
     {
         self.control_block.recv_slice(data)
+    }
+
+    /// Lends `f` a beginning of the receive queue, in one piece and empty only where the queue is. `f` answers how many of
+    /// these bytes leave the queue; beside that it answers what this call answers.
+    ///
+    /// Where `may_recv` is false `f` is not called and nothing changes: `Finished` where the peer's FIN has come, else
+    /// `InvalidState`.
+    pub fn recv<R, F: FnOnce(&[u8]) -> (usize, R)>(&mut self, f: F) -> Result<R, RecvError>
+        requires callable { F.IsAlwaysCallable f }
+        requires sized { (s : List ℕ) (r : _) → FnOnceReturnsAt F.FnOnce f s r → r.0 ≤ length s }
+        ensures table { ReadsWith (FnOnceReturnsAt F.FnOnce f) self.old.control_block result self.new.control_block }
+    {
+        self.control_block.recv(f)
+    }
+
+    /// Lends a beginning of the receive queue, in one piece, of at most `size` bytes and empty only where there are none.
+    /// The bytes stay. Refused as `recv`.
+    pub fn peek(&self, size: usize) -> Result<&[u8], RecvError>
+        ensures { Peeks self.now.control_block size (lent_bytes result) }
+    {
+        self.control_block.peek(size)
+    }
+
+    /// Copies as many bytes from the front of the receive queue into `data` as fit, and answers how many. The bytes stay.
+    /// Refused as `recv`; `data` is then as it was.
+    pub fn peek_slice(&self, data: &mut [u8]) -> Result<usize, RecvError>
+        ensures { PeeksInto self.now.control_block «data».old result «data».new }
+    {
+        self.control_block.peek_slice(data)
     }
 
     /// How many bytes were given to the socket and are not acknowledged: at most 2^30.
@@ -237,5 +283,21 @@ impl<'a> Socket<'a> {
         ensures table { Dispatches F.FnOnce emit (C.facts cx.old) self.old.control_block cx.old result self.new.control_block cx.new }
     {
         self.control_block.dispatch(cx, emit)
+    }
+}
+
+/// Text goes into the transmit queue as by `send_slice`.
+impl<'a> fmt::Write for Socket<'a> {
+    ghost write_str_gives = { λ old bytes new. Writes old.control_block bytes true new.control_block };
+
+    /// Refused where `may_send` is false, and where not all of the text fits; what fits then stays in the queue.
+    fn write_str(&mut self, s: &str) -> fmt::Result
+        ensures ok { IsOk result → Writes self.old.control_block s.now true self.new.control_block }
+        ensures table { Writes self.old.control_block s.now (is_ok result) self.new.control_block }
+    {
+        match self.send_slice(s.as_bytes()) {
+            Ok(count) if count == s.len() => Ok(()),
+            _ => Err(fmt::Error),
+        }
     }
 }

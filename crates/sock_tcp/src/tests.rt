@@ -2,15 +2,15 @@
 ghost use Rattle.std.specs.Prelude.{None, false, true, pos, replicate};
 ghost use Rattle.ip_wire.specs.declared.checksum.Checksum.TheVariants.{Both};
 
-use crate::window::window_shift;
 use crate::*;
 use control_wire::{TcpControl, TcpRepr, TcpSeqNumber};
 use ip_wire::{
     ChecksumCapabilities, IpAddress, IpEndpoint, IpListenEndpoint, IpRepr, Ipv4Address, Ipv6Address,
 };
 use net_base::ring_buffer::RingBuffer;
-use net_base::time::Instant;
+use net_base::time::{Duration, Instant};
 use sock_core::Context;
+use std::fmt::Write;
 use std::test::Fail;
 
 // A host that has every address, whose clock stands at 0 and whose next word is always the same.
@@ -236,11 +236,158 @@ fn a_peer_sends_and_receives(rt: HostRuntime) -> Result<(), Fail> {
     Ok(())
 }
 
+// A connection over these buffers, established by hand.
+fn established<'a>(rx: &'a mut [u8], tx: &'a mut [u8], cx: &mut Interface) -> Socket<'a> {
+    let mut socket = Socket::new(RingBuffer::new(rx), RingBuffer::new(tx));
+    let ip_repr = IpRepr::new(B.addr, A.addr, ip_wire::IpProtocol::Tcp, 20, 64);
+    let _ = socket.connect(cx, B, at(A));
+    let _ = emitted(&mut socket, cx, false);
+    let _ = hear(
+        &mut socket,
+        cx,
+        &ip_repr,
+        &answer(TcpControl::Syn, 5000, &[]),
+    );
+    socket
+}
+
 #[test]
-fn shifts_of_the_window(rt: HostRuntime) -> Result<(), Fail> {
-    for (capacity, shift) in [(64, 0), (65535, 0), (65536, 1), (1 << 30, 14)] {
-        assert_eq!(rt; window_shift(capacity), shift, "of {capacity}");
-    }
+fn tcp_defaults(rt: HostRuntime) -> Result<(), Fail> {
+    let mut rx = [0u8; 4];
+    let mut tx = [0u8; 4];
+    let mut socket = Socket::new(RingBuffer::new(&mut rx), RingBuffer::new(&mut tx));
+    assert_eq!(rt; socket.timeout(), None);
+    assert_eq!(rt; socket.ack_delay(), Some(Duration::from_millis(10)));
+    assert!(rt; socket.nagle_enabled());
+    assert_eq!(rt; socket.keep_alive(), None);
+    assert_eq!(rt; socket.hop_limit(), None);
+    assert_eq!(rt; socket.congestion_control(), CongestionControl::Reno);
+    let second = Some(Duration::from_secs(1));
+    socket.set_timeout(second);
+    socket.set_ack_delay(None);
+    socket.set_nagle_enabled(false);
+    socket.set_keep_alive(second);
+    socket.set_hop_limit(Some(42));
+    socket.set_congestion_control(CongestionControl::None);
+    socket.pause_synack(true);
+    // a reset keeps what the user set
+    assert_eq!(rt; socket.listen(any(80)), Ok(()));
+    assert_eq!(rt; (socket.timeout(), socket.keep_alive()), (second, second));
+    assert_eq!(rt; (socket.ack_delay(), socket.hop_limit()), (None, Some(42)));
+    assert!(rt; !socket.nagle_enabled());
+    assert_eq!(rt; socket.congestion_control(), CongestionControl::None);
+    Ok(())
+}
+
+#[test]
+fn write_str_keeps_what_fits(rt: HostRuntime) -> Result<(), Fail> {
+    let mut rx = [0u8; 4];
+    let mut tx = [0u8; 4];
+    let mut cx = Interface { word: 1000 };
+    let mut socket = established(&mut rx, &mut tx, &mut cx);
+    assert!(rt; socket.write_str("").is_ok());
+    assert!(rt; socket.write_str("hello").is_err());
+    assert_eq!(rt; socket.send_queue(), 4);
+    Ok(())
+}
+
+#[test]
+fn closures_that_take_nothing(rt: HostRuntime) -> Result<(), Fail> {
+    let mut rx = [0u8; 4];
+    let mut tx = [0u8; 4];
+    let mut cx = Interface { word: 1000 };
+    let mut socket = established(&mut rx, &mut tx, &mut cx);
+    assert_eq!(rt; socket.send(|free| (0, free.len())), Ok(4));
+    assert_eq!(rt; socket.recv(|queue| (0, queue.len())), Ok(0));
+    assert_eq!(rt; (socket.send_queue(), socket.recv_queue()), (0, 0));
+    Ok(())
+}
+
+#[test]
+fn closures_and_peeks(rt: HostRuntime) -> Result<(), Fail> {
+    let mut rx = [0u8; 4];
+    let mut tx = [0u8; 4];
+    let mut cx = Interface { word: 1000 };
+    let mut socket = established(&mut rx, &mut tx, &mut cx);
+    let ip_repr = IpRepr::new(B.addr, A.addr, ip_wire::IpProtocol::Tcp, 20, 64);
+    let sent = socket.send(|free| {
+        free[..2].copy_from_slice(b"hi");
+        (2, ())
+    });
+    assert_eq!(rt; sent, Ok(()));
+    assert_eq!(rt;
+        emitted(&mut socket, &mut cx, false),
+        (Some((1001, 2)), true)
+    );
+    let heard = hear(
+        &mut socket,
+        &mut cx,
+        &ip_repr,
+        &answer(TcpControl::Psh, 5001, b"xyz"),
+    );
+    assert!(rt; heard);
+    assert_eq!(rt; socket.peek(2), Ok(b"xy".as_slice()));
+    let mut bytes = [0u8; 8];
+    assert_eq!(rt; socket.peek_slice(&mut bytes), Ok(3));
+    assert_eq!(rt; &bytes[..3], b"xyz".as_slice());
+    assert_eq!(rt;
+        socket.recv(|queue| (1, queue.first().copied())),
+        Ok(Some(b'x'))
+    );
+    assert_eq!(rt; socket.recv_queue(), 2);
+    Ok(())
+}
+
+#[test]
+fn close_and_abort_by_state(rt: HostRuntime) -> Result<(), Fail> {
+    let mut rx = [0u8; 4];
+    let mut tx = [0u8; 4];
+    let mut cx = Interface { word: 1000 };
+    let mut socket = established(&mut rx, &mut tx, &mut cx);
+    socket.close();
+    assert_eq!(rt; socket.state(), State::FinWait1);
+    assert_eq!(rt; socket.send_slice(b"late"), Err(SendError::InvalidState));
+    socket.close();
+    assert_eq!(rt; socket.state(), State::FinWait1);
+    socket.abort();
+    assert_eq!(rt; socket.state(), State::Closed);
+    assert_eq!(rt;
+        socket.recv(|queue| (0, queue.len())),
+        Err(RecvError::InvalidState)
+    );
+    assert_eq!(rt; socket.listen(any(80)), Ok(()));
+    socket.close();
+    assert_eq!(rt; socket.state(), State::Closed);
+    assert_eq!(rt; socket.connect(&mut cx, B, at(A)), Ok(()));
+    socket.close();
+    assert_eq!(rt; socket.state(), State::Closed);
+    Ok(())
+}
+
+#[test]
+fn replies_turn_the_segment_round(rt: HostRuntime) -> Result<(), Fail> {
+    let ip_repr = IpRepr::new(B.addr, A.addr, ip_wire::IpProtocol::Tcp, 24, 255);
+    let mut syn = answer(TcpControl::Syn, 5000, &[]);
+    syn.ack_number = None;
+    let (ip_reply, rst) = Socket::rst_reply(&ip_repr, &syn);
+    assert_eq!(rt;
+        (ip_reply.src_addr(), ip_reply.dst_addr()),
+        (A.addr, B.addr)
+    );
+    assert_eq!(rt; (ip_reply.payload_len(), ip_reply.hop_limit()), (20, 64));
+    assert_eq!(rt; (rst.src_port, rst.dst_port), (A.port, B.port));
+    assert_eq!(rt; rst.control, TcpControl::Rst);
+    assert_eq!(rt;
+        (rst.seq_number.0, rst.ack_number),
+        (0, Some(TcpSeqNumber(5001)))
+    );
+    let (_, rst) = Socket::rst_reply(&ip_repr, &answer(TcpControl::None, 5001, b"x"));
+    assert_eq!(rt; (rst.seq_number.0, rst.ack_number), (1001, None));
+    let (_, reply) = Socket::reply(&ip_repr, &syn);
+    assert_eq!(rt;
+        (reply.control, reply.ack_number, reply.window_len),
+        (TcpControl::None, None, 0)
+    );
     Ok(())
 }
 

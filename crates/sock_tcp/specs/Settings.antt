@@ -1,0 +1,28 @@
+-- What a user may set, and what is seen of it.
+use Rattle.std.specs.Prelude.{pos, Option, Some, None}
+use Rattle.net_base.specs.declared.time.Duration.{Duration}
+use Rattle.sock_core.specs.Congestion.{fresh_reno}
+use Rattle.sock_core.specs.declared.congestion.AnyController.{AnyController}
+use Rattle.sock_core.specs.declared.congestion.AnyController.TheVariants as controller
+use Rattle.sock_tcp.specs.declared.settings.CongestionControl.{CongestionControl}
+use Rattle.sock_tcp.specs.declared.settings.CongestionControl.TheVariants as kind
+use Rattle.sock_tcp.specs.declared.timer.Timer.{Timer}
+use Rattle.sock_tcp.specs.declared.timer.Timer.TheVariants as timer
+
+-- ---- congestion control
+
+abbrev pub kind_of : AnyController → CongestionControl
+kind_of (controller.None c) = kind.None
+kind_of (controller.Reno r) = kind.Reno
+
+-- a new controller of the kind
+abbrev pub of_kind : CongestionControl → AnyController
+of_kind kind.None = controller.None (record {})
+of_kind kind.Reno = controller.Reno fresh_reno
+
+-- ---- keep-alives
+
+-- an interval set while no keep-alive is to come starts the first at once
+abbrev pub keep_alive_timer : Option Duration → Timer → Timer
+keep_alive_timer (Some interval) (timer.Idle None) = timer.Idle (Some (record { micros = pos 0 }))
+keep_alive_timer interval t = t

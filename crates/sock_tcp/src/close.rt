@@ -1,0 +1,48 @@
+//! Closing a connection (RFC 9293, sections 3.10.4 and 3.10.5).
+ghost use Rattle.std.specs.Prelude.{◌≡◌};
+ghost use Rattle.sock_tcp.specs.Closing.{closed, aborted};
+
+use crate::control_block::ControlBlock;
+use crate::socket::Socket;
+use crate::state::State;
+
+impl<'a> ControlBlock<'a> {
+    pub(crate) fn close(&mut self)
+        ensures { self.new ≡ closed self.old }
+    {
+        self.state = match self.state {
+            State::Listen => State::Closed,
+            State::SynSent => State::Closed,
+            State::SynReceived => State::FinWait1,
+            State::Established => State::FinWait1,
+            State::CloseWait => State::LastAck,
+            state => state,
+        };
+    }
+
+    pub(crate) fn abort(&mut self)
+        ensures { self.new ≡ aborted self.old }
+    {
+        self.state = State::Closed;
+    }
+}
+
+impl<'a> Socket<'a> {
+    /// Closes the transmit half: nothing more can be sent, and a FIN follows what was. Bytes that come can still be read.
+    ///
+    /// LISTEN and SYN-SENT go to CLOSED, SYN-RECEIVED and ESTABLISHED to FIN-WAIT-1, CLOSE-WAIT to LAST-ACK; in the other
+    /// states nothing changes (RFC 9293, section 3.10.4).
+    pub fn close(&mut self)
+        ensures { self.new.control_block ≡ closed self.old.control_block }
+    {
+        self.control_block.close();
+    }
+
+    /// Ends the connection at once: the socket is CLOSED. Where it has a peer, the next dispatch sends an RST
+    /// (RFC 9293, section 3.10.5).
+    pub fn abort(&mut self)
+        ensures { self.new.control_block ≡ aborted self.old.control_block }
+    {
+        self.control_block.abort();
+    }
+}

@@ -1,0 +1,160 @@
+//! What a user may set.
+ghost use Rattle.std.specs.Prelude.{◌≡◌, Some};
+ghost use Rattle.sock_tcp.specs.Settings.{kind_of, of_kind, keep_alive_timer};
+ghost use Rattle.sock_tcp.specs.Closing.{keep_alive_set};
+ghost use Rattle.sock_tcp.specs.View.{IsShort};
+
+use crate::control_block::ControlBlock;
+use crate::socket::Socket;
+use crate::timer::Timer;
+use net_base::time::{Duration, Instant};
+use sock_core::congestion::{AnyController, NoControl, Reno};
+
+/// The kinds of congestion control.
+#[derive(Debug, Clone, Copy, PartialEq, Eq)]
+pub enum CongestionControl {
+    /// None: any number of bytes may be in flight.
+    None,
+    /// Reno (RFC 5681).
+    Reno,
+}
+
+impl CongestionControl {
+    // A new controller of the kind.
+    pub(crate) fn controller(self) -> AnyController
+        ensures { result ≡ of_kind self }
+    {
+        match self {
+            CongestionControl::None => AnyController::None(NoControl),
+            CongestionControl::Reno => AnyController::Reno(Reno::new()),
+        }
+    }
+}
+
+impl<'a> ControlBlock<'a> {
+    pub(crate) fn congestion_control(&self) -> CongestionControl
+        ensures { result ≡ kind_of self.now.congestion_controller }
+    {
+        match self.congestion_controller {
+            AnyController::None(_) => CongestionControl::None,
+            AnyController::Reno(_) => CongestionControl::Reno,
+        }
+    }
+
+    pub(crate) fn set_keep_alive(&mut self, interval: Option<Duration>)
+        requires { IsShort interval }
+        ensures { self.new ≡ keep_alive_set self.old interval }
+    {
+        self.keep_alive = interval;
+        if let (
+            Some(_),
+            Timer::Idle {
+                keep_alive_at: None,
+            },
+        ) = (interval, self.timer)
+        {
+            self.timer = Timer::Idle {
+                keep_alive_at: Some(Instant::ZERO),
+            };
+        }
+    }
+}
+
+impl<'a> Socket<'a> {
+    /// The kind of congestion control; Reno in a new socket.
+    pub fn congestion_control(&self) -> CongestionControl
+        ensures { result ≡ kind_of self.now.control_block.congestion_controller }
+    {
+        self.control_block.congestion_control()
+    }
+
+    /// Puts in a new controller of this kind, also where there is one of the kind.
+    pub fn set_congestion_control(&mut self, congestion_control: CongestionControl)
+        ensures { self.new.control_block ≡ record self.old.control_block { congestion_controller = of_kind congestion_control } }
+    {
+        self.control_block.congestion_controller = congestion_control.controller();
+    }
+
+    /// How long the peer may be silent while it owes something before the connection is aborted; for ever where there is
+    /// none, as in a new socket (RFC 9293, section 3.9.1).
+    pub fn timeout(&self) -> Option<Duration>
+        ensures { result ≡ self.now.control_block.timeout }
+    {
+        self.control_block.timeout
+    }
+
+    /// Sets the user timeout, of at most 2^61 microseconds.
+    pub fn set_timeout(&mut self, duration: Option<Duration>)
+        requires { IsShort duration }
+        ensures { self.new.control_block ≡ record self.old.control_block { timeout = duration } }
+    {
+        self.control_block.timeout = duration;
+    }
+
+    /// How long an acknowledgement may wait for data to go with: 10 milliseconds in a new socket.
+    pub fn ack_delay(&self) -> Option<Duration>
+        ensures { result ≡ self.now.control_block.ack_delay }
+    {
+        self.control_block.ack_delay
+    }
+
+    /// Sets how long an acknowledgement may wait, at most 2^61 microseconds, or lets none wait.
+    pub fn set_ack_delay(&mut self, duration: Option<Duration>)
+        requires { IsShort duration }
+        ensures { self.new.control_block ≡ record self.old.control_block { ack_delay = duration } }
+    {
+        self.control_block.ack_delay = duration;
+    }
+
+    /// Whether small segments wait while bytes are in flight (RFC 9293, section 3.7.4); they do in a new socket.
+    pub fn nagle_enabled(&self) -> bool
+        ensures { result ≡ self.now.control_block.nagle }
+    {
+        self.control_block.nagle
+    }
+
+    /// Sets whether small segments wait while bytes are in flight.
+    pub fn set_nagle_enabled(&mut self, enabled: bool)
+        ensures { self.new.control_block ≡ record self.old.control_block { nagle = enabled } }
+    {
+        self.control_block.nagle = enabled;
+    }
+
+    /// How long a connection is idle before a keep-alive goes out; none does in a new socket (RFC 9293, section 3.8.4).
+    pub fn keep_alive(&self) -> Option<Duration>
+        ensures { result ≡ self.now.control_block.keep_alive }
+    {
+        self.control_block.keep_alive
+    }
+
+    /// Sets the interval of keep-alives, of at most 2^61 microseconds, or lets none go out. Where none is to come and nothing
+    /// else is waited for, the first goes out at the next dispatch.
+    pub fn set_keep_alive(&mut self, interval: Option<Duration>)
+        requires { IsShort interval }
+        ensures { self.new.control_block ≡ keep_alive_set self.old.control_block interval }
+    {
+        self.control_block.set_keep_alive(interval);
+    }
+
+    /// The hop limit of what is sent, where one is set; 64 where none is, as in a new socket.
+    pub fn hop_limit(&self) -> Option<u8>
+        ensures { result ≡ self.now.control_block.hop_limit }
+    {
+        self.control_block.hop_limit
+    }
+
+    /// Sets the hop limit of what is sent, 1 to 255, or none for 64 (RFC 1122, section 3.2.1.7). Replies always have 64.
+    pub fn set_hop_limit(&mut self, hop_limit: Option<u8>)
+        requires { hop_limit ≡ Some 0 → ⊥ }
+        ensures { self.new.control_block ≡ record self.old.control_block { hop_limit = hop_limit } }
+    {
+        self.control_block.hop_limit = hop_limit;
+    }
+
+    /// Lets a SYN|ACK wait, or go out, as smoltcp.
+    pub fn pause_synack(&mut self, pause: bool)
+        ensures { self.new.control_block ≡ record self.old.control_block { synack_paused = pause } }
+    {
+        self.control_block.synack_paused = pause;
+    }
+}
