@@ -50,7 +50,6 @@ sampled e x =
 
 -- ---- the other calls
 
--- the numbers before n are sent at a moment
 abbrev pub is_highest : Option TcpSeqNumber → TcpSeqNumber → Bool
 is_highest None n = true
 is_highest (Some m) n = is_before m n
@@ -59,7 +58,7 @@ abbrev pub timed_from : Option Timing → Instant → TcpSeqNumber → Option Ti
 timed_from None now n = Some (record { at = now; number = n })
 timed_from (Some t) now n = Some t
 
--- a new highest number is kept, and starts a timing where none runs
+-- the numbers before n are sent at a moment. Where n is a new highest number, it is kept, and timed where none is
 unfoldable pub sent : Estimator → Instant → TcpSeqNumber → Estimator
 sent e now n =
     if is_highest e.highest n then record e { highest = Some n; timing = timed_from e.timing now n } else e

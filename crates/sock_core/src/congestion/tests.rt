@@ -1,4 +1,4 @@
-//! Reno's windows and thresholds.
+//! Timeouts in milliseconds, and Reno's windows and thresholds.
 use crate::congestion::{AnyController, Controller, Reno};
 use crate::rtte::RttEstimator;
 use net_base::time::Instant;
@@ -10,8 +10,25 @@ fn ack<C: Controller>(controller: &mut C, len: usize) {
     controller.on_ack(NOW, len, 0, &RttEstimator::default());
 }
 
+fn timeout(estimator: &RttEstimator) -> u64 {
+    estimator.retransmission_timeout().total_millis()
+}
+
 #[test]
-fn reno_timeouts(rt: HostRuntime) -> Result<(), Fail> {
+fn estimator_and_reno_numbers(rt: HostRuntime) -> Result<(), Fail> {
+    let mut estimator = RttEstimator::default();
+    estimator.sample(100);
+    assert_eq!(rt; timeout(&estimator), 1000);
+    estimator.sample(3000);
+    assert_eq!(rt;
+        (estimator.srtt(), estimator.rttvar(), timeout(&estimator)),
+        (463, 763, 3515)
+    );
+    let mut estimator = RttEstimator::default();
+    for doubled in [2000, 4000, 8000, 16000, 32000, 60000] {
+        estimator.on_rto();
+        assert_eq!(rt; timeout(&estimator), doubled);
+    }
     let mut reno = Reno::new();
     reno.set_mss(1024);
     reno.on_rto(NOW, 32768);

@@ -1,39 +1,8 @@
-//! Samples and backoffs, in milliseconds.
+//! What is timed.
 use crate::rtte::RttEstimator;
 use control_wire::TcpSeqNumber;
 use net_base::time::Instant;
 use std::test::Fail;
-
-fn timeout(estimator: &RttEstimator) -> u64 {
-    estimator.retransmission_timeout().total_millis()
-}
-
-#[test]
-fn estimator_numbers(rt: HostRuntime) -> Result<(), Fail> {
-    let mut estimator = RttEstimator::default();
-    assert_eq!(rt;
-        (timeout(&estimator), estimator.srtt(), estimator.rttvar()),
-        (1000, 0, 0)
-    );
-    estimator.sample(100);
-    assert_eq!(rt; timeout(&estimator), 1000);
-    estimator.sample(3000);
-    assert_eq!(rt;
-        (estimator.srtt(), estimator.rttvar(), timeout(&estimator)),
-        (463, 763, 3515)
-    );
-    Ok(())
-}
-
-#[test]
-fn six_backoffs(rt: HostRuntime) -> Result<(), Fail> {
-    let mut estimator = RttEstimator::default();
-    for doubled in [2000, 4000, 8000, 16000, 32000, 60000] {
-        estimator.on_rto();
-        assert_eq!(rt; timeout(&estimator), doubled);
-    }
-    Ok(())
-}
 
 // A number is timed once, from its first sending to the acknowledgement that reaches it, unless it is sent again.
 #[test]
