@@ -10,7 +10,7 @@ use Rattle.sock_tcp.specs.declared.state.State.TheVariants as state
 use Rattle.sock_tcp.specs.declared.tuple.Tuple.{Tuple}
 use Rattle.sock_pair.specs.NetworkRuns.{unopened}
 use Rattle.sock_pair.specs.PairNetwork.{phase_of, shown}
-use Rattle.sock_pair.specs.StreamViews.{Listening, SynSent, Sending}
+use Rattle.sock_pair.specs.StreamViews.{Listening, SynSent, Open}
 
 pub listened_shows : (v : View) (e : IpListenEndpoint) → shown (listened v e) ≡ record unopened.view { phase = Listening }
 unfolding listened renewed fresh
@@ -33,7 +33,7 @@ read_shows v n le = λ i. record (shown v) { rcv_nxt = same i; receive_queue = d
     same = omega (arith, le, length-drop n v.rx_buffer.bytes)
 
 -- a state that sends is one of the phase
-pub sends_open : (st : State) → may_send st ≡ true → phase_of st ≡ Sending
+pub sends_open : (st : State) → may_send st ≡ true → phase_of st ≡ Open
 sends_open state.Established e = refl
 sends_open state.CloseWait e = refl
 sends_open state.Closed e = let no : false ≡ true = e in cc

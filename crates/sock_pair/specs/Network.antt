@@ -3,8 +3,8 @@ use Rattle.std.specs.Prelude.{ℕ, ◌≡◌, ◌+◌, ◌-◌, ◌%◌, ◌^◌
 use Rattle.std.specs.List.{Contains}
 use Rattle.std.specs.declared.option.Option.{Option}
 use Rattle.std.specs.declared.option.Option.TheVariants.{Some, None}
-use Rattle.sock_pair.specs.StreamViews.{Unopened, Listening, SynSent, SynReceived, Sending, Closing, Dead, SocketView, StreamSegment, HasNoIss, KnowsPeer, IsSynchronized}
-use Rattle.sock_pair.specs.StreamEffects.{HearsData, HearsAck, SndNxtWithin, MaySend, SameSending}
+use Rattle.sock_pair.specs.StreamViews.{Unopened, Listening, SynSent, SynReceived, Open, FinQueued, Dead, SocketView, StreamSegment, HasNoIss}
+use Rattle.sock_pair.specs.StreamCalls.{Ends, HearEffect, ReplyEffect, DispatchEffect, EmitEffect}
 
 -- one side: its socket, and what was counted of it since the start
 pub record Endpoint : Type 0 where
@@ -53,25 +53,11 @@ abbrev pub with_read : Endpoint → ℕ → Endpoint
 with_read e n = record e { view = record e.view { receive_queue = drop n e.view.receive_queue }; handed_out = e.handed_out ++ take n e.view.receive_queue }
 
 abbrev pub closed_after : Endpoint → Endpoint
-closed_after e = record e { view = record e.view { phase = Closing }; closed = true }
+closed_after e = record e { view = record e.view { phase = FinQueued }; closed = true }
 
 -- a close before the SYN was acknowledged does not count as one that ends the stream
 abbrev pub closed_unacknowledged : Endpoint → Endpoint
-closed_unacknowledged e = with_view e (record e.view { phase = Closing })
-
-abbrev pub with_snd_nxt : Endpoint → ℕ → Endpoint
-with_snd_nxt e n = with_view e (record e.view { snd_nxt = n })
-
-abbrev pub fallen_back : Endpoint → Endpoint
-fallen_back e = with_view e (record e.view { phase = Listening })
-
--- a SYN came in LISTEN, and iss was chosen
-abbrev pub synchronizing : Endpoint → StreamSegment → ℕ → Endpoint
-synchronizing e g iss = with_view e (record e.view { phase = SynReceived; snd_una = iss; snd_nxt = iss; rcv_nxt = (g.seq + 1) % 2 ^ 32 })
-
--- a SYN without an acknowledgement came in SYN-SENT
-abbrev pub crossed : Endpoint → StreamSegment → ℕ → Endpoint
-crossed e g n = with_view e (record e.view { phase = SynReceived; snd_nxt = n; rcv_nxt = (g.seq + 1) % 2 ^ 32 })
+closed_unacknowledged e = with_view e (record e.view { phase = FinQueued })
 
 -- a segment came, with what it released of the transmit queue and added to the receive queue
 abbrev pub heard_by : Endpoint → SocketView → Endpoint
@@ -92,11 +78,14 @@ abbrev pub IsWithin : Option ℕ → List ℕ → Type 0
 IsWithin None bytes = Unit {0}
 IsWithin (Some limit) bytes = length bytes ≤ limit
 
--- a segment that is no RST arrives at the local side
+-- An RST, any segment in LISTEN, and in SYN-SENT one without an acknowledgement: no number of theirs is compared with one of the socket
+abbrev pub IsOfAnyAge : SocketView → StreamSegment → Type 0
+IsOfAnyAge v g = (g.rst ≡ true) ⊎ (v.phase ≡ Listening) ⊎ ((v.phase ≡ SynSent) × (g.ack ≡ None))
+
+-- the segment g of the remote side arrives at the local one
 pub record Arrives (w : Network) (g : StreamSegment) : Type 0 where
   pub sent : Contains w.remote_segments g
-  pub plain : g.rst ≡ false
-  pub may : MayArrive w.limit g w.remote
+  pub may : IsOfAnyAge w.local.view g ⊎ MayArrive w.limit g w.remote
 
 -- a read has nothing more to give: the queue is empty and the FIN counted, so the read answers Finished
 pub record AnswersFinished (reader : Endpoint) : Type 0 where
@@ -108,7 +97,8 @@ pub record IsStamped (e : Endpoint) (g : StreamSegment) : Type 0 where
   pub released : g.released_at ≤ e.released
   pub taken : g.taken_at ≤ e.taken
 
--- What one call on the local side may do to the network. A call may be several steps; one that does nothing is none
+-- What one call on the local side may do to the network: the calls of the application, and the effects of a delivery and of a dispatch. A call may be
+-- several steps; one that does nothing is none
 pub data Step (old new : Network) : Type 0 where
   -- listen
   Listens : old.local.view.phase ≡ Unopened
@@ -120,7 +110,7 @@ pub data Step (old new : Network) : Type 0 where
       → Step old new
   -- send takes bytes, in ESTABLISHED and CLOSE-WAIT alone
   Accepts : (bytes : List ℕ)
-      → old.local.view.phase ≡ Sending
+      → old.local.view.phase ≡ Open
       → length old.local.view.transmit_queue + length bytes ≤ 2 ^ 30
       → IsWithin old.limit (old.local.accepted ++ bytes)
       → new ≡ with_local old (with_accepted old.local bytes)
@@ -132,51 +122,30 @@ pub data Step (old new : Network) : Type 0 where
   -- recv answers Finished
   Finishes : AnswersFinished old.local → new ≡ old → Step old new
   -- close in ESTABLISHED or CLOSE-WAIT
-  Closes : old.local.view.phase ≡ Sending
+  Closes : old.local.view.phase ≡ Open
       → new ≡ with_local old (closed_after old.local)
       → Step old new
   -- close in SYN-RECEIVED
   ClosesUnacknowledged : old.local.view.phase ≡ SynReceived
       → new ≡ with_local old (closed_unacknowledged old.local)
       → Step old new
-  -- The connection is CLOSED: by an abort, a close before any SYN came, a timeout, an RST, a lost address or its end. The receive queue stays or
-  -- is emptied, and a counted FIN is kept only with the queue
-  Dies : (v : SocketView) → v.phase ≡ Dead → (v.receive_queue ≡ old.local.view.receive_queue) ⊎ (v.receive_queue ≡ [])
-      → (v.fin_counted ≡ true → (old.local.view.fin_counted ≡ true) × (v.receive_queue ≡ old.local.view.receive_queue))
+  -- an abort, or a close before any SYN came; and where a delivery or a dispatch ends the connection
+  Dies : (v : SocketView)
+      → Ends old.local.view v
       → new ≡ with_local old (with_view old.local v)
       → Step old new
-  -- SND.NXT moves, forward by what was sent or back for a retransmission
-  MovesSndNxt : (n : ℕ) → SndNxtWithin (record old.local.view { snd_nxt = n })
-      → new ≡ with_local old (with_snd_nxt old.local n)
-      → Step old new
-  -- a segment goes out that is no RST: data or none, an acknowledgement, a SYN at the initial number, a FIN, a keep-alive
-  Emits : (g : StreamSegment) → IsStamped old.local g → MaySend old.local.view g → new ≡ emitted old g → Step old new
-  -- an RST goes out after an abort
-  EmitsReset : (g : StreamSegment) → g.rst ≡ true → old.local.view.phase ≡ Dead → new ≡ emitted old g → Step old new
-  -- a segment comes whose acknowledgement changes nothing
-  HearsSegment : (g : StreamSegment) (v : SocketView)
+  -- a segment comes, and is heard
+  Hears : (g : StreamSegment) (v : SocketView)
       → Arrives old g
-      → IsSynchronized old.local.view.phase
-      → HearsData old.local.view v g
-      → SameSending old.local.view v
+      → HearEffect old.local.listener old.local.view v g
       → new ≡ with_local old (heard_by old.local v)
       → Step old new
-  -- a segment comes that acknowledges, in a state that knows the peer's number
-  HearsAcknowledgement : (g : StreamSegment) (v : SocketView)
-      → Arrives old g
-      → KnowsPeer old.local.view.phase
-      → HearsData old.local.view v g
-      → HearsAck old.local.view v g
-      → IsSynchronized v.phase
-      → new ≡ with_local old (heard_by old.local v)
-      → Step old new
-  -- an RST sends a listener from SYN-RECEIVED back to LISTEN
-  FallsBack : (g : StreamSegment)
+  -- a segment that was heard is answered
+  Replies : (g answer : StreamSegment)
       → Contains old.remote_segments g
-      → g.rst ≡ true
-      → old.local.view.phase ≡ SynReceived
-      → old.local.listener ≡ true
-      → new ≡ with_local old (fallen_back old.local)
+      → IsStamped old.local answer
+      → ReplyEffect old.local.view g answer
+      → new ≡ emitted old answer
       → Step old new
   -- a segment that the side does not accept, CLOSED or in LISTEN, is answered by an RST
   AnswersRefused : (g answer : StreamSegment)
@@ -186,42 +155,14 @@ pub data Step (old new : Network) : Type 0 where
       → answer.rst ≡ true
       → new ≡ emitted old answer
       → Step old new
-  -- an acknowledgement of something other than the SYN, before the SYN is acknowledged, is answered by an RST
-  AnswersWrongAck : (g answer : StreamSegment) (a : ℕ)
-      → Contains old.remote_segments g
-      → g.rst ≡ false
-      → (old.local.view.phase ≡ SynSent) ⊎ (old.local.view.phase ≡ SynReceived)
-      → g.ack ≡ Some a
-      → (a ≡ (old.local.view.snd_una + 1) % 2 ^ 32 → ⊥)
-      → answer.rst ≡ true
-      → new ≡ emitted old answer
+  -- a dispatch, before it emits and after that
+  Dispatches : (v : SocketView)
+      → DispatchEffect old.local.view v
+      → new ≡ with_local old (with_view old.local v)
       → Step old new
-  -- a SYN comes in LISTEN, and the initial sequence number iss is chosen, anew after each fall-back
-  HearsSyn : (g : StreamSegment) (iss : ℕ)
-      → iss < 2 ^ 32
-      → Contains old.remote_segments g
-      → g.rst ≡ false
-      → g.syn ≡ true
-      → old.local.view.phase ≡ Listening
-      → new ≡ with_local old (synchronizing old.local g iss)
-      → Step old new
-  -- a SYN comes in SYN-SENT without an acknowledgement: both sides connect at once
-  HearsSynAlone : (g : StreamSegment) (n : ℕ)
-      → SndNxtWithin (record old.local.view { snd_nxt = n })
-      → Contains old.remote_segments g
-      → g.rst ≡ false
-      → g.syn ≡ true
-      → old.local.view.phase ≡ SynSent
-      → new ≡ with_local old (crossed old.local g n)
-      → Step old new
-  -- a SYN comes in SYN-SENT that acknowledges the own one
-  HearsSynAck : (g : StreamSegment) (v : SocketView)
-      → Arrives old g
-      → g.syn ≡ true
-      → old.local.view.phase ≡ SynSent
-      → HearsAck old.local.view v g
-      → v.phase ≡ Sending
-      → v.rcv_nxt ≡ (g.seq + 1) % 2 ^ 32
-      → v.receive_queue ≡ old.local.view.receive_queue → v.held ≡ old.local.view.held → v.fin_counted ≡ old.local.view.fin_counted
-      → new ≡ with_local old (heard_by old.local v)
+  -- a segment goes out: data or none, an acknowledgement, a SYN, a FIN, a keep-alive, or an RST
+  Emits : (g : StreamSegment)
+      → IsStamped old.local g
+      → EmitEffect old.local.view g
+      → new ≡ emitted old g
       → Step old new

@@ -5,7 +5,7 @@ use Rattle.std.specs.declared.option.Option.{Option}
 use Rattle.std.specs.declared.option.Option.TheVariants.{Some, None}
 use Rattle.sock_core.specs.Places.{number_at}
 use Rattle.sock_core.specs.Streams.{IsPrefix}
-use Rattle.sock_pair.specs.StreamViews.{Phase, Unopened, Listening, SynSent, SynReceived, Sending, Closing, Silent, Dead, SocketView, StreamSegment, HasIss, HasNoIss, KnowsPeer, IsNonSynchronized}
+use Rattle.sock_pair.specs.StreamViews.{Phase, Unopened, Listening, SynSent, SynReceived, Open, FinQueued, Silent, Dead, SocketView, StreamSegment, HasIss, HasNoIss, KnowsPeer, IsNonSynchronized}
 use Rattle.sock_pair.specs.StreamModel.{Stream, counted, PlacedPayload, IsTruePayload, IsTrueAck, IsSound}
 use Rattle.sock_pair.specs.Network.{Endpoint, Network, IsWithin}
 
@@ -22,14 +22,14 @@ pub record ReceivingMatches (v : SocketView) (hs : List ℕ) (o : ℕ) (f : Stre
 abbrev pub SndUnaAt : SocketView → Stream → ℕ → Type 0
 SndUnaAt v f place = ((place ≡ 1) × (f.accepted ≡ [])) ⊎ (place ≡ f.released + 2) ⊎ ((place ≡ f.released + 3) × (f.released ≡ length f.accepted) × (v.phase ≡ Silent))
 
--- What the phase says of the place of SND.UNA and of close. Closing with SND.UNA on the SYN comes of a close in SYN-RECEIVED
+-- What the phase says of the place of SND.UNA and of close. FinQueued with SND.UNA on the SYN comes of a close in SYN-RECEIVED
 abbrev pub PhaseAllows : Phase → Stream → ℕ → Type 0
 PhaseAllows Unopened f place = ⊥
 PhaseAllows Listening f place = ⊥
 PhaseAllows SynSent f place = (place ≡ 1) × (f.closed ≡ false)
 PhaseAllows SynReceived f place = (place ≡ 1) × (f.closed ≡ false)
-PhaseAllows Sending f place = (place ≡ f.released + 2) × (f.closed ≡ false)
-PhaseAllows Closing f place = (place ≡ 1) ⊎ ((place ≡ f.released + 2) × (f.closed ≡ true))
+PhaseAllows Open f place = (place ≡ f.released + 2) × (f.closed ≡ false)
+PhaseAllows FinQueued f place = (place ≡ 1) ⊎ ((place ≡ f.released + 2) × (f.closed ≡ true))
 PhaseAllows Silent f place = Unit {0}
 PhaseAllows Dead f place = ⊥
 
@@ -113,7 +113,7 @@ pub record HasFallenBack (side peer : Endpoint) (f : Stream) : Type 0 where
   pub dead : peer.view.phase ≡ Dead
   pub accepted : f.accepted ≡ []
   pub closed : f.closed ≡ false
-  pub not_sending : side.view.phase ≡ Sending → ⊥
+  pub not_sending : side.view.phase ≡ Open → ⊥
 
 -- no segment speaks of an initial number that is not chosen yet
 pub record IsUnspoken (own peers : List StreamSegment) (peer : Endpoint) : Type 0 where

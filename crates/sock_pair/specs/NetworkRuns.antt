@@ -2,10 +2,10 @@
 use Rattle.std.specs.Prelude.{ℕ, ◌≡◌, ◌≤◌, ◌⊎◌, true, false, List, [], ◌∷◌, ◌++◌, length}
 use Rattle.std.specs.List.{Contains}
 use Rattle.std.specs.declared.option.Option.{Option}
-use Rattle.std.specs.declared.option.Option.TheVariants.{None}
+use Rattle.std.specs.declared.option.Option.TheVariants.{Some, None}
 use Rattle.sock_core.specs.Streams.{IsPrefix}
-use Rattle.sock_pair.specs.StreamViews.{Unopened, Sending, StreamSegment}
-use Rattle.sock_pair.specs.Network.{Endpoint, Network, swapped, Step, AnswersFinished}
+use Rattle.sock_pair.specs.StreamViews.{Unopened, Open, StreamSegment}
+use Rattle.sock_pair.specs.Network.{Endpoint, Network, emitted, swapped, Step, AnswersFinished}
 
 -- either side takes a step
 abbrev pub EitherSteps : Network → Network → Type 0
@@ -21,13 +21,22 @@ pub record OnlyAdds (old new : Network) : Type 0 where
   pub handed_out : IsPrefix old.local.handed_out new.local.handed_out
   pub released : old.local.released ≤ new.local.released
   pub taken : old.local.taken ≤ new.local.taken
-  pub accepted : (new.local.accepted ≡ old.local.accepted) ⊎ ((old.local.view.phase ≡ Sending) × IsPrefix old.local.accepted new.local.accepted)
-  pub closed : (new.local.closed ≡ old.local.closed) ⊎ ((old.local.view.phase ≡ Sending) × (new.local.closed ≡ true))
+  pub accepted : (new.local.accepted ≡ old.local.accepted) ⊎ ((old.local.view.phase ≡ Open) × IsPrefix old.local.accepted new.local.accepted)
+  pub closed : (new.local.closed ≡ old.local.closed) ⊎ ((old.local.view.phase ≡ Open) × (new.local.closed ≡ true))
 
 -- A run from the one network to the other: the list has each network on the way, one step after the one before it. Each beginning of a run is a run
 abbrev pub Run : Network → List Network → Network → Type 0
 Run w [] v = w ≡ v
 Run w (u ∷ us) v = EitherSteps w u × Run u us v
+
+-- some run leads from the one network to the other
+abbrev pub Reaches : Network → Network → Type 0
+Reaches w v = (way : List Network) × Run w way v
+
+-- the local side answered, or did not
+abbrev pub answered : Network → Option StreamSegment → Network
+answered w None = w
+answered w (Some answer) = emitted w answer
 
 abbrev pub unopened : Endpoint
 unopened = record {

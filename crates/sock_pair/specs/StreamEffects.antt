@@ -2,7 +2,7 @@
 use Rattle.std.specs.Prelude.{ℕ, ◌≡◌, ◌+◌, ◌-◌, ◌%◌, ◌^◌, ◌<◌, ◌≤◌, ◌⊎◌, true, false, List, [], ◌++◌, length, drop}
 use Rattle.std.specs.declared.option.Option.TheVariants.{Some}
 use Rattle.sock_core.specs.Streams.{ByteAt, fin_length}
-use Rattle.sock_pair.specs.StreamViews.{SynSent, SynReceived, Sending, Closing, Silent, SocketView, StreamSegment, HasIss, KnowsPeer}
+use Rattle.sock_pair.specs.StreamViews.{SynSent, SynReceived, Open, FinQueued, Silent, SocketView, StreamSegment, HasIss, KnowsPeer}
 
 -- ---- receiving
 
@@ -63,7 +63,7 @@ pub data HearsAck (v w : SocketView) (g : StreamSegment) : Type 0 where
       → g.ack ≡ Some a
       → a ≡ (v.snd_una + 1) % 2 ^ 32
       → (v.phase ≡ SynSent) ⊎ (v.phase ≡ SynReceived)
-      → w.phase ≡ Sending
+      → w.phase ≡ Open
       → w.snd_una ≡ a
       → w.transmit_queue ≡ v.transmit_queue
       → SndNxtWithin w
@@ -71,7 +71,7 @@ pub data HearsAck (v w : SocketView) (g : StreamSegment) : Type 0 where
   AcksFin : (a : ℕ)
       → g.ack ≡ Some a
       → a ≡ (v.snd_una + length v.transmit_queue + 1) % 2 ^ 32
-      → v.phase ≡ Closing
+      → v.phase ≡ FinQueued
       → w.phase ≡ Silent
       → w.snd_una ≡ a
       → w.transmit_queue ≡ []
@@ -87,7 +87,7 @@ pub record SendsPayload (v : SocketView) (g : StreamSegment) : Type 0 where
   pub seq : g.seq ≡ (v.snd_una + skip) % 2 ^ 32
   pub bytes : (i b : ℕ) → ByteAt g.payload i b → ByteAt v.transmit_queue (skip + i) b
   pub within : skip + length g.payload ≤ length v.transmit_queue + 1
-  pub fin : g.fin ≡ true → (v.phase ≡ Closing) × (skip + length g.payload ≡ length v.transmit_queue)
+  pub fin : g.fin ≡ true → (v.phase ≡ FinQueued) × (skip + length g.payload ≡ length v.transmit_queue)
 
 -- A keep-alive: at most one byte, of any value, at the number before SND.UNA
 pub record SendsKeepAlive (v : SocketView) (g : StreamSegment) : Type 0 where

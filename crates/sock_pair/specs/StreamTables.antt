@@ -4,7 +4,7 @@ use Rattle.std.specs.declared.option.Option.{Option}
 use Rattle.std.specs.declared.option.Option.TheVariants.{Some, None}
 use Rattle.sock_core.specs.Places.{number_distance, number_is_before, later_number, sooner_number}
 use Rattle.sock_core.specs.Streams.{IsPrefix, fin_length}
-use Rattle.sock_pair.specs.StreamViews.{SynSent, SynReceived, Sending, Closing, Silent, SocketView, StreamSegment}
+use Rattle.sock_pair.specs.StreamViews.{SynSent, SynReceived, Open, FinQueued, Silent, SocketView, StreamSegment}
 
 -- ---- the receive window: l is its left edge RCV.NXT, r its right edge, win its size
 
@@ -106,7 +106,7 @@ pub data AckPasses (v w : SocketView) (g : StreamSegment) : Type 0 where
       → g.ack ≡ Some a
       → a ≡ (v.snd_una + 1) % 2 ^ 32
       → (v.phase ≡ SynSent) ⊎ (v.phase ≡ SynReceived)
-      → w.phase ≡ Sending
+      → w.phase ≡ Open
       → w.snd_una ≡ a
       → w.transmit_queue ≡ v.transmit_queue
       → (w.snd_nxt ≡ later_number v.snd_nxt a) ⊎ (w.snd_nxt ≡ a)
@@ -115,7 +115,7 @@ pub data AckPasses (v w : SocketView) (g : StreamSegment) : Type 0 where
       → g.ack ≡ Some a
       → a < 2 ^ 32
       → number_distance a v.snd_una ≡ length v.transmit_queue + 1
-      → v.phase ≡ Closing
+      → v.phase ≡ FinQueued
       → w.phase ≡ Silent
       → w.snd_una ≡ a
       → w.transmit_queue ≡ []
@@ -130,6 +130,6 @@ pub data Content (v : SocketView) (g : StreamSegment) : Type 0 where
       → g.seq ≡ (v.snd_una + o) % 2 ^ 32
       → o ≤ length v.transmit_queue + 1
       → IsPrefix g.payload (drop o v.transmit_queue)
-      → (g.fin ≡ true → (v.phase ≡ Closing) × (o + length g.payload ≡ length v.transmit_queue))
+      → (g.fin ≡ true → (v.phase ≡ FinQueued) × (o + length g.payload ≡ length v.transmit_queue))
       → Content v g
   KeepAlive : g.fin ≡ false → g.seq ≡ (v.snd_una + (2 ^ 32 - 1)) % 2 ^ 32 → length g.payload ≤ 1 → Content v g

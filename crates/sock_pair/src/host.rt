@@ -55,12 +55,12 @@ impl<'a> Model for Host<'a> {
 
 impl<'a> Host<'a> {
     ghost use Rattle.sock_tcp.specs.View.{fresh};
-    ghost use Rattle.sock_tcp.specs.Queue.{queue_of, capacity};
+    ghost use Rattle.sock_tcp.specs.Queue.{queue_of};
     ghost use Rattle.sock_tcp.specs.Queues.{may_send};
     ghost use Rattle.sock_pair.specs.PairViews.{new_host};
     ghost use Rattle.sock_pair.specs.PairCalls.{listening, connecting, OpensAs, SendsIf, Receives};
     ghost use Rattle.sock_pair.specs.PairSteps.{HostDispatches, delivered_to, processed_by};
-    ghost use Rattle.sock_pair.specs.PairInvariant.{IsHost, IsReachable};
+    ghost use Rattle.sock_pair.specs.PairInvariant.{HasSmallBuffers, IsHost, IsReachable};
     ghost use Rattle.ip_wire.specs.Address.{SameVersion};
 
     pub(crate) fn new(
@@ -100,12 +100,13 @@ impl<'a> Host<'a> {
         }
     }
 
-    // Says that its receive buffer has at most 2^30 bytes, and that the bytes accepted are fewer than 2^63.
+    // Says that its buffers have at most 2^30 bytes, and that the bytes accepted are fewer than 2^63.
     pub(crate) fn in_range(&self)
-        ensures receive { capacity self.now.control_block.rx_buffer ≤ 2 ^ 30 }
+        ensures buffers { HasSmallBuffers self.now.control_block }
         ensures accepted { length self.now.accepted < 2 ^ 63 }
     {
         self.socket.recv_queue();
+        self.socket.send_queue();
         self.accepted.len();
     }
 
@@ -157,7 +158,6 @@ impl<'a> Host<'a> {
     // What fits of the bytes, once there is room to keep all of them.
     pub(crate) fn send(&mut self, bytes: &[u8]) -> Result<Outcome, PairError>
         ensures step { IfOk result (λ o. SendsIf (may_send self.old.control_block.state) self.old bytes.now o self.new) }
-        ensures small { IfOk result (λ _. length self.new.control_block.tx_buffer.bytes ≤ 2 ^ 30) }
         ensures memory { OnErr result (self.new ≡ self.old) }
     {
         if let Err(_) = self.accepted.reserve(bytes.len()) {

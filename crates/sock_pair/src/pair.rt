@@ -185,6 +185,8 @@ impl<'a> Pair<'a> {
         if self.is_over_limit(side, bytes.len()) {
             return Ok(Outcome::StreamLimit);
         }
+        self.a.in_range();
+        self.b.in_range();
         match side {
             Side::A => self.a.send(bytes),
             Side::B => self.b.send(bytes),

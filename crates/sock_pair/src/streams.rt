@@ -5,13 +5,13 @@ ghost use Rattle.std.specs.List.{Contains};
 ghost use Rattle.std.specs.declared.option.Option.{Option};
 ghost use Rattle.std.specs.declared.option.Option.TheVariants.{Some, None};
 ghost use Rattle.sock_core.specs.Places.{number_at, number_distance, number_is_before, later_number};
-ghost use Rattle.sock_pair.specs.StreamViews.{Listening, Sending, SocketView, StreamSegment, HasIss, IsNonSynchronized};
+ghost use Rattle.sock_pair.specs.StreamViews.{Listening, Open, SocketView, StreamSegment, HasIss, IsNonSynchronized};
 ghost use Rattle.sock_pair.specs.StreamEffects.{HearsData, HearsAck, SendsPayload, SendsKeepAlive, SndNxtWithin};
 ghost use Rattle.sock_pair.specs.StreamTables.{cut, Gathers, JoinsAtOnce, TakesPayload, TakesWhole, HasSendingBounds, AckPasses, Content};
-ghost use Rattle.sock_pair.specs.StreamCalls.{ProcessEffect, ReplyEffect, BeginEffect, EmitEffect};
-ghost use Rattle.sock_pair.specs.Network.{Network, Step, swapped, AnswersFinished, MayArrive, IsStamped, with_local, with_view, heard_by, emitted};
+ghost use Rattle.sock_pair.specs.StreamCalls.{ProcessEffect, DispatchEffect, EmitEffect};
+ghost use Rattle.sock_pair.specs.Network.{Network, Step, swapped, AnswersFinished, Arrives, IsStamped, with_local, with_view, heard_by, emitted};
 ghost use Rattle.sock_pair.specs.NetworkInvariant.{IsLimit, IsInvariant};
-ghost use Rattle.sock_pair.specs.NetworkRuns.{start, Run, AreDelivered, AlwaysDelivers, AlwaysCompletes, AlwaysEnds, OnlyAdds};
+ghost use Rattle.sock_pair.specs.NetworkRuns.{start, Run, Reaches, answered, AreDelivered, AlwaysDelivers, AlwaysCompletes, AlwaysEnds, OnlyAdds};
 
 /// Streams with a limit below 2^29 bytes, over every list of steps, where any segment ever emitted may arrive at any time:
 /// what each side handed out, followed by its receive queue, is a prefix of what the other accepted, and acknowledgements
@@ -51,16 +51,20 @@ pub fn a_step_only_adds()
 pub fn runs_exist()
     ensures ordinary { (way : List Network) × (end : Network) × Run (start (Some 10)) way end × (end.remote.handed_out ≡ 7 ∷ []) × AnswersFinished end.remote }
     ensures fall_back { (way : List Network) × (end : Network) × Run (start (Some 10)) way end × (end.remote.view.phase ≡ Listening) × (end.remote.view.snd_una ≡ 5000) }
-    ensures both_connect { (way : List Network) × (end : Network) × Run (start (Some 10)) way end × (end.local.view.phase ≡ Sending) × (end.remote.view.phase ≡ Sending) }
+    ensures both_connect { (way : List Network) × (end : Network) × Run (start (Some 10)) way end × (end.local.view.phase ≡ Open) × (end.remote.view.phase ≡ Open) }
 {}
 
-/// Whole calls keep the invariant, by what they may do to one socket: a delivery, its reply, the beginning of a dispatch, and
-/// what that emits. The calls of the application are steps already.
-pub fn calls_keep_the_invariant()
-    ensures delivery { (w : Network) (g : StreamSegment) (v : SocketView) → Contains w.remote_segments g → MayArrive w.limit g w.remote → ProcessEffect w.local.listener w.local.view v g → IsInvariant w → IsInvariant (with_local w (heard_by w.local v)) }
-    ensures reply { (w : Network) (g answer : StreamSegment) → Contains w.remote_segments g → IsStamped w.local answer → ReplyEffect w.local.view g answer → IsInvariant w → IsInvariant (emitted w answer) }
-    ensures beginning { (w : Network) (v : SocketView) → BeginEffect w.local.view v → IsInvariant w → IsInvariant (with_local w (with_view w.local v)) }
-    ensures emission { (w : Network) (g : StreamSegment) → IsStamped w.local g → EmitEffect w.local.view g → IsInvariant w → IsInvariant (emitted w g) }
+/// Whole calls are runs of steps, by what they may do to one socket: a delivery with its answer, the beginning of a dispatch,
+/// and what that emits and leaves. The calls of the application are steps already.
+pub fn calls_are_runs()
+    ensures delivery { (w : Network) (g : StreamSegment) (v : SocketView) (answer : Option StreamSegment) → Arrives w g
+        → ProcessEffect w.local.listener w.local.view v g answer
+        → ((a : StreamSegment) → answer ≡ Some a → IsStamped (heard_by w.local v) a)
+        → Reaches w (answered (with_local w (heard_by w.local v)) answer) }
+    ensures beginning { (w : Network) (v : SocketView) → DispatchEffect w.local.view v
+        → Reaches w (with_local w (with_view w.local v)) }
+    ensures emission { (w : Network) (v : SocketView) (g : StreamSegment) → IsStamped w.local g → EmitEffect w.local.view g
+        → DispatchEffect w.local.view v → Reaches w (emitted (with_local w (with_view w.local v)) g) }
 {}
 
 /// What the invariant says of one socket: SND.UNA and SND.NXT are in their bounds once there is an initial sequence number, and
