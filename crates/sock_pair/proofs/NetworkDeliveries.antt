@@ -1,10 +1,10 @@
 -- The effects of a delivery and of a dispatch keep the invariant.
-use Rattle.std.proofs.Common.{◌≡◌, ◌+◌, ◌-◌, ◌%◌, ◌^◌, ◌<◌, ◌⊎◌, refl, sym, ap, subst, ◌∙◌, arith, [], length, length-drop}
+use Rattle.std.proofs.Common.{◌≡◌, ◌+◌, ◌-◌, ◌%◌, ◌^◌, ◌<◌, refl, sym, ap, subst, ◌∙◌, arith, [], length, length-drop}
 use Rattle.std.specs.List.{Contains}
 use Rattle.sock_core.proofs.Numbers.{number_add, number_below}
 use Rattle.sock_pair.specs.Network.{Arrives, IsStamped, Network, emitted, heard_by, with_local, with_view}
 use Rattle.sock_pair.specs.NetworkInvariant.{IsInvariant}
-use Rattle.sock_pair.specs.StreamCalls.{Acknowledgement, Data, DispatchEffect, EmitEffect, Ends, FallBack, HearEffect, IsOver, MovesSndNxt, Nothing, ReplyEffect, ResetReply, Same, Segment, Sends, SendsReset, Syn, SynAck, SynAlone}
+use Rattle.sock_pair.specs.StreamCalls.{Acknowledgement, Data, DispatchEffect, EmitEffect, Ends, FallBack, HearEffect, IsOver, MovesSndNxt, Nothing, ReplyEffect, ResetReply, Same, Segment, EmitsSegment, EmitsReset, Syn, SynAck, SynAlone}
 use Rattle.sock_pair.specs.StreamTables.{HasSendingBounds}
 use Rattle.sock_pair.specs.StreamViews.{HasIss, IsNonSynchronized, SocketView, StreamSegment}
 use Rattle.sock_pair.proofs.NetworkCalls.{dies, moves_snd_nxt}
@@ -53,8 +53,8 @@ dispatch_keeps w v (IsOver e) i = ends_keep w v e i
 
 -- what it emits
 pub emission_keeps : (w : Network) (g : StreamSegment) → IsStamped w.local g → EmitEffect w.local.view g → IsInvariant w → IsInvariant (emitted w g)
-emission_keeps w g stamps (Sends may) i = emits w g stamps may i
-emission_keeps w g stamps (SendsReset reset dead) i = emits_reset w g reset dead i
+emission_keeps w g stamps (EmitsSegment may) i = emits w g stamps may i
+emission_keeps w g stamps (EmitsReset reset dead) i = emits_reset w g reset dead i
 
 -- the numbers of a socket with an initial sequence number
 pub sending_bounds : (w : Network) → IsInvariant w → HasIss w.local.view.phase → HasSendingBounds w.local.view

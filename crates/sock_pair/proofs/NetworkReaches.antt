@@ -1,11 +1,11 @@
 -- Runs of steps, one after the other and as the other side sees them; and whole calls as runs.
-use Rattle.std.proofs.Common.{◌≡◌, ◌+◌, ◌-◌, refl, sym, ap, subst, ◌∙◌, arith, List, [], ◌∷◌, ◌++◌, length, map, inl, inr, ◌⊎◌}
+use Rattle.std.proofs.Common.{◌≡◌, ◌+◌, ◌-◌, refl, sym, ap, subst, arith, List, [], ◌∷◌, ◌++◌, length, map, inl, inr, ◌⊎◌}
 use Rattle.std.specs.declared.option.Option.{Option}
 use Rattle.std.specs.declared.option.Option.TheVariants.{Some, None}
 use Rattle.sock_pair.specs.Network.{Arrives, Dies, Dispatches, Emits, Hears, IsStamped, Network, Replies, Step, emitted, heard_by, swapped, with_local, with_view}
 use Rattle.sock_pair.specs.NetworkInvariant.{IsInvariant}
-use Rattle.sock_pair.specs.NetworkRuns.{EitherSteps, Reaches, Run, answered}
-use Rattle.sock_pair.specs.StreamCalls.{Answers, DispatchEffect, EmitEffect, EndsWithQueues, HearEffect, ProcessEffect}
+use Rattle.sock_pair.specs.NetworkRuns.{Reaches, Run, answered}
+use Rattle.sock_pair.specs.StreamCalls.{Answers, DispatchEffect, EmitEffect, EndsWithQueues, ProcessEffect}
 use Rattle.sock_pair.specs.StreamViews.{SocketView, StreamSegment}
 use Rattle.sock_pair.proofs.NetworkRuns.{other, run_keeps}
 

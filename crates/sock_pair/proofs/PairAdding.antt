@@ -1,13 +1,13 @@
 -- What events added to the streams of a pair.
-use Rattle.std.proofs.Common.{◌≡◌, ℕ, ◌+◌, Bool, true, false, refl, sym, ap, subst, ◌∙◌, List, [], ◌∷◌, ◌++◌, length, take, Option, Some, None, append_assoc, suc}
+use Rattle.std.proofs.Common.{◌≡◌, ℕ, ◌+◌, Bool, true, false, refl, sym, ap, subst, ◌∙◌, List, [], ◌∷◌, ◌++◌, length, take, Option, Some, None, append_assoc}
 use Rattle.std.specs.Prelude.{slice_get, min, Vec, Result, Ok, Err, IfOk}
 use Rattle.std.specs.Global.{Global}
 use Rattle.std.proofs.lemmas.List.{append-nil}
 use Rattle.sock_tcp.specs.Queues.{may_send, may_recv}
 use Rattle.sock_tcp.specs.declared.error.SendError.TheVariants as send_error
-use Rattle.sock_pair.specs.PairCalls.{listening, connecting, OpensAs, SendsIf, SendsUnder, IsRead, ReceivesIf, is_over, read_of, sending, receiving, accepted_of}
+use Rattle.sock_pair.specs.PairCalls.{listening, connecting, OpensAs, SendsIf, SendsUnder, IsRead, ReceivesIf, is_over, read_of, sending, receiving}
 use Rattle.sock_pair.specs.PairRuns.{EventRun}
-use Rattle.sock_pair.specs.PairSteps.{EventStep, OneSide, DeliversTo, DeliversIf, Delivers, exchanged, is_old}
+use Rattle.sock_pair.specs.PairSteps.{EventStep, DeliversTo, DeliversIf, Delivers, exchanged, is_old}
 use Rattle.sock_pair.specs.PairStreams.{AddsUp, accepted_by, accepted_in, handed_out_by, handed_out_in, where_same}
 use Rattle.sock_pair.specs.PairViews.{HostView, StoredView, PairView, host_of, with_host}
 use Rattle.sock_pair.specs.Sides.{other_side}

@@ -3,7 +3,6 @@ use Rattle.std.proofs.Common.{◌≡◌, ℕ, ◌<◌, Bool, true, false, refl, 
 use Rattle.std.specs.Prelude.{not, ◌==◌, if◌then◌else◌}
 use Rattle.std.proofs.lemmas.Bool.{eqb-true}
 use Rattle.ip_wire.specs.declared.endpoint.IpListenEndpoint.{IpListenEndpoint}
-use Rattle.ip_wire.specs.declared.endpoint.IpEndpoint.{IpEndpoint}
 use Rattle.ip_wire.specs.declared.repr.IpRepr.{IpRepr}
 use Rattle.net_base.specs.declared.time.Instant.{Instant}
 use Rattle.control_wire.specs.Segment.{Segment}
@@ -17,8 +16,8 @@ use Rattle.sock_tcp.specs.Queues.{written, read_off}
 use Rattle.sock_tcp.specs.Due.{begun, begun_to, readied, readied_to, ended, last_dated, dated, moment_of}
 use Rattle.sock_tcp.specs.Content.{Sending, content}
 use Rattle.sock_tcp.specs.Dispatch.{left_by, sent}
-use Rattle.sock_tcp.specs.Steps.{Advance, acked_of, advanced, advance_by, answered_by, syn_received, syn_answered, syn_advance, plain_advance, options_taken, window_taken, released, noted, joined, heard}
-use Rattle.sock_tcp.specs.Process.{Outcome, stopped, tuple_of, has_window, after_advance, processed_inside, tested, by_verdict, processed}
+use Rattle.sock_tcp.specs.Steps.{Advance, advanced, advance_by, answered_by, syn_received, syn_answered, syn_advance, plain_advance, options_taken, window_taken, released, noted, joined, heard}
+use Rattle.sock_tcp.specs.Process.{stopped, tuple_of, has_window, processed_inside, tested, by_verdict, processed}
 use Rattle.sock_tcp.specs.Window.{receive_window, is_in_order}
 use Rattle.sock_tcp.specs.Verdict.{verdict_of}
 use Rattle.sock_tcp.specs.declared.state.State.{State}
@@ -29,7 +28,7 @@ use Rattle.sock_tcp.specs.declared.verdict.Verdict.TheVariants as verdicts
 use Rattle.sock_pair.specs.PairInvariant.{IsHost}
 use Rattle.sock_pair.specs.PairNetwork.{is_listener, is_passive}
 use Rattle.sock_pair.specs.PairViews.{HostView}
-use Rattle.sock_pair.specs.Recording.{SendsTo, SendsFrom, SocketDispatches}
+use Rattle.sock_pair.specs.Recording.{SendsFrom, SocketDispatches}
 use Rattle.sock_pair.specs.declared.host.Opening.TheVariants as opening
 use Rattle.sock_pair.specs.declared.recorder.Sent.{Sent}
 

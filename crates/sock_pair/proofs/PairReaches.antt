@@ -1,6 +1,6 @@
 -- Each event of a pair is a run of steps of the theorem on two streams.
 use Rattle.std.proofs.Common.{◌≡◌, ℕ, ◌+◌, ◌<◌, ◌≤◌, ◌^◌, List, [], ◌∷◌, length, ◌++◌, Bool, true, false, Option, Some, None, refl, sym, ap, subst, ◌∙◌, arith, inr, length-append, length-take}
-use Rattle.std.specs.Prelude.{IsTrue, not, min, option_map, slice_get}
+use Rattle.std.specs.Prelude.{IsTrue, not, min, option_map, slice_get, Result, Ok, Err, IfOk, OnErr}
 use Rattle.std.proofs.lemmas.Bool.Decides.{nat_tests}
 use Rattle.std.proofs.lemmas.List.{append-nil}
 use Rattle.std.specs.List.{Contains}
@@ -15,12 +15,11 @@ use Rattle.sock_tcp.specs.Due.{Begun, readied}
 use Rattle.sock_tcp.specs.Content.{Sending, content}
 use Rattle.sock_tcp.specs.Dispatch.{left_by}
 use Rattle.sock_tcp.specs.Process.{Accepts}
-use Rattle.sock_tcp.specs.declared.state.State.TheVariants as state
 use Rattle.sock_tcp.specs.declared.tuple.Tuple.{Tuple}
 use Rattle.sock_pair.specs.Holding.{kept_at, segment_at}
 use Rattle.sock_pair.specs.Moments.{facts_of}
 use Rattle.sock_pair.specs.NetworkRuns.{Reaches, answered, start, unopened}
-use Rattle.sock_pair.specs.Network.{Accepts as TakesBytes, Arrives, Connects, HandsOut, IsStamped, IsWithin, Listens, Endpoint, Network, connected, heard_by, listened, with_accepted, with_local, with_read}
+use Rattle.sock_pair.specs.Network.{Accepts as TakesBytes, Arrives, Connects, HandsOut, IsStamped, IsWithin, Listens, Endpoint, Network}
 use Rattle.sock_pair.specs.PairLaws.{IsBounded, MayEmit}
 use Rattle.sock_pair.specs.declared.event.Event.{Event}
 use Rattle.sock_pair.specs.declared.event.Event.TheVariants as event
@@ -46,6 +45,7 @@ use Rattle.sock_pair.specs.StreamViews.{SocketView, StreamSegment}
 use Rattle.sock_pair.specs.Sides.{other_side}
 use Rattle.sock_pair.specs.declared.moment.Moment.{Moment}
 use Rattle.sock_pair.specs.declared.outcome.Outcome.{Outcome}
+use Rattle.sock_pair.specs.declared.outcome.PairError.{PairError}
 use Rattle.sock_pair.specs.declared.recorder.Sent.{Sent}
 use Rattle.sock_pair.specs.declared.recorder.Sent.TheVariants as sent
 use Rattle.sock_pair.specs.declared.side.Side.{Side}
@@ -321,6 +321,11 @@ event_reaches (event.SendSlice s bytes) p o q i z x = to_q p q (with_host s p x.
 event_reaches (event.RecvSlice s size) p o q i z x = to_q p q (with_host s p x.host) x.same (recv_reaches s p (host_at s p i) i.network size o x.host x.does)
 event_reaches (event.Dispatch s m fail) p o q i z x = to_q p q (exchanged s p x.host x.segments) x.same (dispatch_reaches s p (host_at s p i) i.network m fail o x.host x.segments x.does)
 event_reaches (event.Deliver j m) p o q i z x = delivers_reach j (slice_get p.segments j) m p q o i z refl x
+
+-- as a pair answers it
+pub event_reaches_if : (e : Event) (p q : PairView) (r : Result Outcome PairError) → IsPair p → IsSized e p → IfOk r (λ o. EventStep e p o q) → OnErr r (q ≡ p) → Reaches (network_of p) (network_of q)
+event_reaches_if e p q (Ok o) i z x same = event_reaches e p o q i z x
+event_reaches_if e p q (Err x) i z y same = stays_there _ _ (ap network_of (sym same))
 
 -- a new pair
 pub new_shows : (v w : View) (a b : IpEndpoint) (limit : Option ℕ) → network_of (new_pair (new_host v a) (new_host w b) limit) ≡ start limit

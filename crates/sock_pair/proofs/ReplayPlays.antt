@@ -1,5 +1,5 @@
 -- What was written of a run.
-use Rattle.std.proofs.Common.{◌≡◌, ℕ, List, [], Option, None, Some, IfSome, Ok, Bool, inr, ◌∙◌, sym, subst, refl, arith}
+use Rattle.std.proofs.Common.{◌≡◌, ℕ, List, Option, None, Some, IfSome, Ok, Bool, inr, ◌∙◌, sym, subst}
 use Rattle.sock_pair.specs.PairViews.{PairView}
 use Rattle.sock_pair.specs.ReplayEnds.{StopsWriting}
 use Rattle.sock_pair.specs.ReplayRuns.{IsScript, Plays, PlaysTo, Replays, begun_of}

@@ -1,5 +1,5 @@
 -- The events of a script's lines, one line after another.
-use Rattle.std.proofs.Common.{ℕ, ◌+◌, ◌<◌, List, [], ◌∷◌, ◌++◌, length, true, false, Result, Ok, Err, ◌≡◌, ◌∙◌, refl, sym, ap, subst, arith, append_assoc, length-append}
+use Rattle.std.proofs.Common.{ℕ, ◌+◌, List, [], ◌∷◌, ◌++◌, length, true, false, Result, Ok, Err, ◌≡◌, ◌∙◌, refl, sym, ap, subst, arith, append_assoc, length-append}
 use Rattle.std.specs.Prelude.{IsOk, Bool, Option, Some, None, bytes_eq, codes, if◌then◌else◌}
 use Rattle.std.proofs.lemmas.List.{append-nil}
 use Rattle.sock_pair.specs.declared.script.error.ScriptError.{ScriptError}

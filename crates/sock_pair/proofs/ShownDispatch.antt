@@ -23,7 +23,7 @@ use Rattle.sock_tcp.specs.declared.state.State.TheVariants as state
 use Rattle.sock_tcp.specs.declared.tuple.Tuple.{Tuple}
 use Rattle.sock_pair.specs.PairLaws.{IsBounded, MayEmit}
 use Rattle.sock_pair.specs.PairNetwork.{phase_of, shown, stream_segment, is_rst, is_syn, is_fin}
-use Rattle.sock_pair.specs.StreamCalls.{DispatchEffect, Same, MovesSndNxt, IsOver, EmitEffect, Sends}
+use Rattle.sock_pair.specs.StreamCalls.{DispatchEffect, Same, MovesSndNxt, IsOver, EmitsSegment}
 use Rattle.sock_pair.specs.StreamEffects.{MaySend, SndNxtWithin}
 use Rattle.sock_pair.specs.StreamTables.{Syn, Bytes}
 use Rattle.sock_pair.specs.StreamViews.{HasIss, KnowsPeer}
@@ -151,6 +151,6 @@ module _ (v : View) (released taken : ℕ) (bounds : IsBounded v) where
   emission_plans t f bytes lent c e =
       let m = may_emit_in t f bytes lent.beginning v.state refl c e in
       record {
-        sends = Sends m.sends;
+        sends = EmitsSegment m.sends;
         leaves = MovesSndNxt (later_of v.remote_last_seq (end_of c.segment)).0 (λ iss. m.snd_nxt) (sent_shows v (end_of c.segment) c.segment.ack_number c.segment.window_len);
       }

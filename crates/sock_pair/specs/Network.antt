@@ -1,5 +1,5 @@
 -- Two endpoints and every segment that they ever emitted, and what one call on one endpoint may do.
-use Rattle.std.specs.Prelude.{ℕ, ◌≡◌, ◌+◌, ◌-◌, ◌%◌, ◌^◌, ◌<◌, ◌≤◌, ◌⊎◌, Bool, true, false, List, [], ◌∷◌, ◌++◌, length, take, drop}
+use Rattle.std.specs.Prelude.{ℕ, ◌≡◌, ◌+◌, ◌-◌, ◌^◌, ◌<◌, ◌≤◌, ◌⊎◌, Bool, true, false, List, [], ◌∷◌, ◌++◌, length, take, drop}
 use Rattle.std.specs.List.{Contains}
 use Rattle.std.specs.declared.option.Option.{Option}
 use Rattle.std.specs.declared.option.Option.TheVariants.{Some, None}
@@ -16,8 +16,9 @@ pub record Endpoint : Type 0 where
   pub closed : Bool  -- a close found it in ESTABLISHED or CLOSE-WAIT
   pub listener : Bool  -- it was opened by listen, and not by connect
 
--- Local is the side that acts, remote the other. Of the segments each side ever emitted none is forgotten and any may arrive at any time, so
--- loss, delay, repetition and reordering are all there. The limit, where there is one, bounds the length of each stream
+-- Local is the side that acts, remote the other. Of the segments each side ever emitted none is forgotten and any may
+-- arrive at any time, so loss, delay, repetition and reordering are all there. The limit, where there is one, bounds
+-- the length of each stream
 pub record Network : Type 0 where
   pub local : Endpoint
   pub remote : Endpoint
@@ -27,17 +28,47 @@ pub record Network : Type 0 where
 
 -- the same network, as the other side sees it
 abbrev pub swapped : Network → Network
-swapped w = record { local = w.remote; remote = w.local; local_segments = w.remote_segments; remote_segments = w.local_segments; limit = w.limit }
+swapped w =
+    record {
+      local = w.remote;
+      remote = w.local;
+      local_segments = w.remote_segments;
+      remote_segments = w.local_segments;
+      limit = w.limit;
+    }
 
 abbrev pub with_local : Network → Endpoint → Network
-with_local w e = record { local = e; remote = w.remote; local_segments = w.local_segments; remote_segments = w.remote_segments; limit = w.limit }
+with_local w e =
+    record {
+      local = e;
+      remote = w.remote;
+      local_segments = w.local_segments;
+      remote_segments = w.remote_segments;
+      limit = w.limit;
+    }
 
 abbrev pub with_view : Endpoint → SocketView → Endpoint
-with_view e v = record { view = v; accepted = e.accepted; handed_out = e.handed_out; released = e.released; taken = e.taken; closed = e.closed; listener = e.listener }
+with_view e v =
+    record {
+      view = v;
+      accepted = e.accepted;
+      handed_out = e.handed_out;
+      released = e.released;
+      taken = e.taken;
+      closed = e.closed;
+      listener = e.listener;
+    }
 
 -- one more segment of the local side
 abbrev pub emitted : Network → StreamSegment → Network
-emitted w g = record { local = w.local; remote = w.remote; local_segments = w.local_segments ++ g ∷ []; remote_segments = w.remote_segments; limit = w.limit }
+emitted w g =
+    record {
+      local = w.local;
+      remote = w.remote;
+      local_segments = w.local_segments ++ g ∷ [];
+      remote_segments = w.remote_segments;
+      limit = w.limit;
+    }
 
 -- what each call and each event leaves of the endpoint
 abbrev pub listened : Endpoint → Endpoint
@@ -47,10 +78,18 @@ abbrev pub connected : Endpoint → ℕ → Endpoint
 connected e iss = record e { view = record e.view { phase = SynSent; snd_una = iss; snd_nxt = iss }; listener = false }
 
 abbrev pub with_accepted : Endpoint → List ℕ → Endpoint
-with_accepted e bytes = record e { view = record e.view { transmit_queue = e.view.transmit_queue ++ bytes }; accepted = e.accepted ++ bytes }
+with_accepted e bytes =
+    record e {
+      view = record e.view { transmit_queue = e.view.transmit_queue ++ bytes };
+      accepted = e.accepted ++ bytes;
+    }
 
 abbrev pub with_read : Endpoint → ℕ → Endpoint
-with_read e n = record e { view = record e.view { receive_queue = drop n e.view.receive_queue }; handed_out = e.handed_out ++ take n e.view.receive_queue }
+with_read e n =
+    record e {
+      view = record e.view { receive_queue = drop n e.view.receive_queue };
+      handed_out = e.handed_out ++ take n e.view.receive_queue;
+    }
 
 abbrev pub closed_after : Endpoint → Endpoint
 closed_after e = record e { view = record e.view { phase = FinQueued }; closed = true }
@@ -61,7 +100,12 @@ closed_unacknowledged e = with_view e (record e.view { phase = FinQueued })
 
 -- a segment came, with what it released of the transmit queue and added to the receive queue
 abbrev pub heard_by : Endpoint → SocketView → Endpoint
-heard_by e v = record e { view = v; released = e.released + (length e.view.transmit_queue - length v.transmit_queue); taken = e.taken + (length v.receive_queue - length e.view.receive_queue) }
+heard_by e v =
+    record e {
+      view = v;
+      released = e.released + (length e.view.transmit_queue - length v.transmit_queue);
+      taken = e.taken + (length v.receive_queue - length e.view.receive_queue);
+    }
 
 -- Since the segment went out neither count of its emitter grew by 2^29 or more. The counts are those of now
 pub record IsYoung (g : StreamSegment) (released_now taken_now : ℕ) : Type 0 where
@@ -78,7 +122,8 @@ abbrev pub IsWithin : Option ℕ → List ℕ → Type 0
 IsWithin None bytes = Unit {0}
 IsWithin (Some limit) bytes = length bytes ≤ limit
 
--- An RST, any segment in LISTEN, and in SYN-SENT one without an acknowledgement: no number of theirs is compared with one of the socket
+-- An RST, any segment in LISTEN, and in SYN-SENT one without an acknowledgement: no number of theirs is compared with
+-- one of the socket
 abbrev pub IsOfAnyAge : SocketView → StreamSegment → Type 0
 IsOfAnyAge v g = (g.rst ≡ true) ⊎ (v.phase ≡ Listening) ⊎ ((v.phase ≡ SynSent) × (g.ack ≡ None))
 
@@ -97,8 +142,8 @@ pub record IsStamped (e : Endpoint) (g : StreamSegment) : Type 0 where
   pub released : g.released_at ≤ e.released
   pub taken : g.taken_at ≤ e.taken
 
--- What one call on the local side may do to the network: the calls of the application, and the effects of a delivery and of a dispatch. A call may be
--- several steps; one that does nothing is none
+-- What one call on the local side may do to the network: the calls of the application, and the effects of a delivery
+-- and of a dispatch. A call may be several steps; one that does nothing is none
 pub data Step (old new : Network) : Type 0 where
   -- listen
   Listens : old.local.view.phase ≡ Unopened

@@ -29,7 +29,8 @@ pub record IsHost (h : HostView) : Type 0 where
   pub reachable : IsReachable h.endpoint
   pub idle : h.opening ≡ opening.Unopened → IsIdle h.control_block
   -- a socket that is not CLOSED listens on a port exactly where it was opened by listen
-  pub passive : (h.opening ≡ opening.Unopened → ⊥) → (h.control_block.state ≡ state.Closed → ⊥) → is_passive h.control_block ≡ is_listener h.opening
+  pub passive : (h.opening ≡ opening.Unopened → ⊥) → (h.control_block.state ≡ state.Closed → ⊥)
+      → is_passive h.control_block ≡ is_listener h.opening
 
 -- both sockets can be connected, and the network that the pair shows meets the invariant of the theorem on two streams
 pub record IsPair (p : PairView) : Type 0 where

@@ -128,7 +128,13 @@ sent_by s (k ∷ ks) = kept_if s k.emitter (shown_segment k) (sent_by s ks)
 
 abbrev pub network_at : Side → HostView → HostView → List StoredView → Option ℕ → Network
 network_at s h o ks limit =
-    record { local = endpoint_of h; remote = endpoint_of o; local_segments = sent_by s ks; remote_segments = sent_by (other_side s) ks; limit = limit }
+    record {
+      local = endpoint_of h;
+      remote = endpoint_of o;
+      local_segments = sent_by s ks;
+      remote_segments = sent_by (other_side s) ks;
+      limit = limit;
+    }
 
 -- as side A sees it
 abbrev pub network_of : PairView → Network

@@ -85,9 +85,10 @@ abbrev pub Answers : SocketView → StreamSegment → Option StreamSegment → T
 Answers v g None = Unit {0}
 Answers v g (Some answer) = ReplyEffect v g answer
 
--- What process may do with the segment g: the socket hears it, may answer it as it then is, and with that the connection may be over: by an RST, or
--- since the FIN is acknowledged in LAST-ACK
-pub record ProcessEffect (listener : Bool) (v w : SocketView) (g : StreamSegment) (answer : Option StreamSegment) : Type 0 where
+-- What process may do with the segment g: the socket hears it, may answer it as it then is, and with that the
+-- connection may be over: by an RST, or since the FIN is acknowledged in LAST-ACK
+pub record ProcessEffect (listener : Bool) (v w : SocketView) (g : StreamSegment)
+    (answer : Option StreamSegment) : Type 0 where
   pub heard : SocketView
   pub hears : HearEffect listener v heard g
   pub answers : Answers heard g answer
@@ -95,14 +96,15 @@ pub record ProcessEffect (listener : Bool) (v w : SocketView) (g : StreamSegment
 
 -- ---- dispatch
 
--- What a dispatch may do before it emits and after that: nothing, SND.NXT moves forward by what was sent or back for a retransmission, or the
--- connection is over, by a timeout, for want of an address or with an RST
+-- What a dispatch may do before it emits and after that: nothing, SND.NXT moves forward by what was sent or back for a
+-- retransmission, or the connection is over, by a timeout, for want of an address or with an RST
 pub data DispatchEffect (v w : SocketView) : Type 0 where
   Same : w ≡ v → DispatchEffect v w
-  MovesSndNxt : (n : ℕ) → (HasIss v.phase → SndNxtWithin (record v { snd_nxt = n })) → w ≡ record v { snd_nxt = n } → DispatchEffect v w
+  MovesSndNxt : (n : ℕ) → (HasIss v.phase → SndNxtWithin (record v { snd_nxt = n })) → w ≡ record v { snd_nxt = n }
+      → DispatchEffect v w
   IsOver : Ends v w → DispatchEffect v w
 
 -- What a dispatch may emit, once the socket is as v shows: a segment, or an RST after an abort
 pub data EmitEffect (v : SocketView) (g : StreamSegment) : Type 0 where
-  Sends : MaySend v g → EmitEffect v g
-  SendsReset : g.rst ≡ true → v.phase ≡ Dead → EmitEffect v g
+  EmitsSegment : MaySend v g → EmitEffect v g
+  EmitsReset : g.rst ≡ true → v.phase ≡ Dead → EmitEffect v g

@@ -1,4 +1,4 @@
-// One side of a pair: its socket, and what it accepted and handed out.
+//! One side of a pair: its socket, and what it accepted and handed out.
 ghost use Rattle.std.specs.Prelude.{◌≡◌, ◌+◌, ◌-◌, ◌≤◌, ◌<◌, ◌^◌, ◌++◌, ◌↔◌, IsTrue, length, option_map, Some, [], not, false, IfOk, OnOk, OnErr, vec_len, vec_capacity};
 ghost use Rattle.std.specs.Option.{ForSome};
 ghost use Rattle.control_wire.specs.Segment.{segment_of};
@@ -157,7 +157,8 @@ impl<'a> Host<'a> {
 
     // What fits of the bytes, once there is room to keep all of them.
     pub(crate) fn send(&mut self, bytes: &[u8]) -> Result<Outcome, PairError>
-        ensures step { IfOk result (λ o. SendsIf (may_send self.old.control_block.state) self.old bytes.now o self.new) }
+        ensures step { IfOk result
+            (λ o. SendsIf (may_send self.old.control_block.state) self.old bytes.now o self.new) }
         ensures memory { OnErr result (self.new ≡ self.old) }
     {
         if let Err(_) = self.accepted.reserve(bytes.len()) {
@@ -208,8 +209,11 @@ impl<'a> Host<'a> {
         let answer = self.socket.dispatch(
             &mut recorder,
             move |cx: &mut Recorder, sent: (IpRepr, TcpRepr<'_>)| -> Result<(), EmitFailed>
-                ensures kept { OnOk result (IsTrue (not fail) × Holds cx.entry.now cx.exit.now sent.entry.0 (segment_of sent.entry.1)) }
-                ensures err { OnErr result (fail ≡ false → vec_capacity cx.entry.now.payload < vec_len cx.entry.now.payload + length sent.entry.1.payload.now) }
+                ensures kept { OnOk result
+                    (IsTrue (not fail) × Holds cx.entry.now cx.exit.now sent.entry.0 (segment_of sent.entry.1)) }
+                ensures err { OnErr result
+                    (fail ≡ false → vec_capacity cx.entry.now.payload
+                    < vec_len cx.entry.now.payload + length sent.entry.1.payload.now) }
             {
                 if fail {
                     Err(EmitFailed)
@@ -222,7 +226,8 @@ impl<'a> Host<'a> {
     }
 
     pub(crate) fn accepts(&self, moment: &Moment, segment: &Segment) -> bool
-        ensures { IsTrue result ↔ Accepts self.now.control_block (stored_of segment.now).ip (stored_of segment.now).segment }
+        ensures { IsTrue result ↔ Accepts self.now.control_block (stored_of segment.now).ip
+            (stored_of segment.now).segment }
     {
         let repr = segment.as_repr();
         self.socket.accepts(moment, &segment.header.ip_repr, &repr)
@@ -235,7 +240,8 @@ impl<'a> Host<'a> {
         requires taken { self.old.taken < 2 ^ 63 }
         ensures view { self.new ≡ delivered_to self.old moment.entry.now (stored_of segment.now) }
         ensures bare { ForSome result (λ r. r.1.payload.now ≡ []) }
-        ensures reply { option_map (λ r. (r.0, segment_of r.1)) result ≡ (processed_by self.old moment.entry.now (stored_of segment.now)).reply }
+        ensures reply { option_map (λ r. (r.0, segment_of r.1)) result
+            ≡ (processed_by self.old moment.entry.now (stored_of segment.now)).reply }
     {
         let mut cx = *moment;
         let repr = segment.as_repr();

@@ -1,6 +1,6 @@
-//! What the case tables of a socket come to for the theorem on two streams, as laws: functions whose contracts are the laws
-//! and whose bodies are empty. What is proved of a pair stands on them, and looks into no case table of a socket itself.
-//! And what is promised of a pair.
+//! What the case tables of a socket come to for the theorem on two streams, as laws: functions whose contracts are the
+//! laws and whose bodies are empty. What is proved of a pair stands on them, and looks into no case table of a socket
+//! itself. And what is promised of a pair.
 ghost use Rattle.std.specs.Prelude.{◌≡◌, ℕ, ◌<◌, ◌≤◌, ◌^◌, ◌++◌, List, length, min, take, drop, Option, Some, option_map};
 ghost use Rattle.ip_wire.specs.declared.endpoint.IpEndpoint.{IpEndpoint};
 ghost use Rattle.ip_wire.specs.declared.endpoint.IpListenEndpoint.{IpListenEndpoint};
@@ -32,22 +32,25 @@ ghost use Rattle.sock_pair.specs.declared.event.Event.TheVariants.{Deliver};
 ghost use Rattle.sock_pair.specs.declared.moment.Moment.{Moment};
 ghost use Rattle.sock_pair.specs.declared.outcome.Outcome.{Outcome};
 
-/// What `process` does with a segment that the socket accepts, and what it answers, is one of its effects on the streams. The
-/// answer has any stamps.
+/// What `process` does with a segment that the socket accepts, and what it answers, is one of its effects on the
+/// streams. The answer has any stamps.
 pub fn process_heard()
-    ensures { (v : View) (now : Instant) (word : ℕ) (ip : IpRepr) (s : Segment) (released taken released_then taken_then : ℕ)
+    ensures { (v : View) (now : Instant) (word : ℕ) (ip : IpRepr) (s : Segment)
+        (released taken released_then taken_then : ℕ)
         → word < 2 ^ 32 → IsSmall s → capacity v.rx_buffer ≤ 2 ^ 30 → IsBounded v → Accepts v ip s
-        → ProcessEffect (is_passive v) (shown v) (shown (processed v now word ip s).view) (stream_segment s released taken)
-            (option_map (λ r. stream_segment r.1 released_then taken_then) (processed v now word ip s).reply) }
+        → ProcessEffect (is_passive v) (shown v) (shown (processed v now word ip s).view)
+        (stream_segment s released taken)
+        (option_map (λ r. stream_segment r.1 released_then taken_then) (processed v now word ip s).reply) }
 {}
 
-/// What a dispatch does before it emits anything changes nothing that the streams see, or resets the socket, whose address is
-/// gone.
+/// What a dispatch does before it emits anything changes nothing that the streams see, or resets the socket, whose
+/// address is gone.
 pub fn begun_shows()
     ensures { (v : View) (f : Facts) → IsBounded v → DispatchEffect (shown v) (shown (readied v f).view) }
 {}
 
-/// What a dispatch emits, with any bytes that the ring lent, may be emitted; and an emit that succeeds leaves what may be left.
+/// What a dispatch emits, with any bytes that the ring lent, may be emitted; and an emit that succeeds leaves what may
+/// be left.
 pub fn emission_plans()
     ensures { (v : View) (released taken : ℕ) → IsBounded v → (t : Tuple) (f : Facts) (bytes : List ℕ)
         → IsLent (asked v t f) (drop (flight v) v.tx_buffer.bytes) bytes
@@ -61,33 +64,38 @@ pub fn listened_shows()
 
 /// A socket that `connect` opened shows its initial sequence number, the word that was drawn.
 pub fn connected_shows()
-    ensures { (v : View) (t : Tuple) (word : ℕ) → shown (connected v t word) ≡ record unopened.view { phase = SynSent; snd_una = word; snd_nxt = word } }
+    ensures { (v : View) (t : Tuple) (word : ℕ)
+        → shown (connected v t word) ≡ record unopened.view { phase = SynSent; snd_una = word; snd_nxt = word } }
 {}
 
 /// `send_slice` appends to the transmit queue, and changes nothing else that the streams see.
 pub fn written_shows()
-    ensures { (v : View) (bs : List ℕ) → shown (written v bs) ≡ record (shown v) { transmit_queue = v.tx_buffer.bytes ++ take (min (length bs) v.tx_buffer.window) bs } }
+    ensures { (v : View) (bs : List ℕ)
+        → shown (written v bs)
+        ≡ record (shown v) { transmit_queue = v.tx_buffer.bytes ++ take (min (length bs) v.tx_buffer.window) bs } }
 {}
 
 /// `recv_slice` takes off the front of the receive queue, and RCV.NXT stays where it is.
 pub fn read_shows()
-    ensures { (v : View) (n : ℕ) → n ≤ length v.rx_buffer.bytes → shown (read_off v n) ≡ record (shown v) { receive_queue = drop n v.rx_buffer.bytes } }
+    ensures { (v : View) (n : ℕ) → n ≤ length v.rx_buffer.bytes
+        → shown (read_off v n) ≡ record (shown v) { receive_queue = drop n v.rx_buffer.bytes } }
 {}
 
-/// Of every pair, both ways: what one side handed out, followed by its receive queue, is a prefix of what the other accepted;
-/// acknowledgements released only bytes that the other took, and it took only bytes that were accepted.
+/// Of every pair, both ways: what one side handed out, followed by its receive queue, is a prefix of what the other
+/// accepted; acknowledgements released only bytes that the other took, and it took only bytes that were accepted.
 pub fn pairs_deliver_in_order()
     ensures prefix { (p : PairView) → IsPair p → Prefix p }
     ensures release { (p : PairView) → IsPair p → Release p }
 {}
 
-/// A delivery that a side accepts, of a segment in order, appends the whole payload to the receive queue before it returns.
+/// A delivery that a side accepts, of a segment in order, appends the whole payload to the receive queue before it
+/// returns.
 pub fn pairs_deliver_at_once()
     ensures { (i : ℕ) (m : Moment) (p q : PairView) (o : Outcome) → EventStep (Deliver i m) p o q → IsPromptAt i p o q }
 {}
 
-/// Each event of a pair is a run of steps of the theorem on two streams, from the network that the pair shows to the one that it
-/// shows afterwards; and a new pair shows the network of two sockets that were never opened.
+/// Each event of a pair is a run of steps of the theorem on two streams, from the network that the pair shows to the
+/// one that it shows afterwards; and a new pair shows the network of two sockets that were never opened.
 pub fn events_are_runs()
     ensures begins { (v w : View) (a b : IpEndpoint) (limit : Option ℕ)
         → network_of (new_pair (new_host v a) (new_host w b) limit) ≡ start limit }
@@ -95,8 +103,8 @@ pub fn events_are_runs()
         → Reaches (network_of p) (network_of q) }
 {}
 
-/// What an event adds to the streams of each side is what its outcome says: `Accepted(n)` the first n bytes of a send, `Read`
-/// its bytes, any other outcome nothing. So it is with events in turn.
+/// What an event adds to the streams of each side is what its outcome says: `Accepted(n)` the first n bytes of a send,
+/// `Read` its bytes, any other outcome nothing. So it is with events in turn.
 pub fn outcomes_add_up()
     ensures step { (e : Event) (p : PairView) (o : Outcome) (q : PairView) → EventStep e p o q
         → AddsUp p q (λ s. accepted_by s e o) (λ s. handed_out_by s e o) }

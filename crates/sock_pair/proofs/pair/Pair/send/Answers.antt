@@ -1,4 +1,4 @@
-use Rattle.std.proofs.Common.{◌∙◌, ◌≤◌, ◌^◌, sym, map, length, false}
+use Rattle.std.proofs.Common.{◌∙◌, sym, map, length, false}
 use Rattle.sock_pair.specs.Holding.{stored_of}
 use Rattle.sock_pair.specs.PairCalls.{Sends}
 use Rattle.sock_pair.specs.PairViews.{PairView, host_of}

@@ -1,5 +1,4 @@
 use Rattle.std.proofs.Common.{inl}
-use Rattle.sock_pair.proofs.ReplayPlays.{plays}
 use Rattle.sock_pair.proofs.ReplaySinks.{appends_nil}
 use Rattle.sock_pair.proofs.script.play.play.Goals as goal
 
