@@ -1,5 +1,5 @@
 -- The effects of a delivery and of a dispatch keep the invariant.
-use Rattle.std.proofs.Common.{◌≡◌, ◌+◌, ◌-◌, ◌%◌, ◌^◌, ◌<◌, refl, sym, ap, subst, ◌∙◌, arith, [], length, length-drop}
+use Rattle.std.proofs.Common.{◌≡◌, ◌+◌, ◌-◌, ◌%◌, ◌^◌, ◌<◌, false, refl, sym, ap, subst, ◌∙◌, arith, [], length, length-drop}
 use Rattle.std.specs.List.{Contains}
 use Rattle.sock_core.proofs.Numbers.{number_add, number_below}
 use Rattle.sock_pair.specs.Network.{Arrives, IsStamped, Network, emitted, heard_by, with_local, with_view}
@@ -37,8 +37,8 @@ hear_keeps w g v come (SynAlone n within plain syn ph is) i = by_view w (crossed
 hear_keeps w g v come (SynAck plain syn ph ack to nxt queue held fin) i = hears_syn_ack w g v (record { sent = come.sent; plain = plain; may = acked_young w.local.view g _ v ph ack plain come.may }) syn ph ack to nxt queue held fin i
 
 -- its answer
-pub reply_keeps : (w : Network) (g answer : StreamSegment) → Contains w.remote_segments g → IsStamped w.local answer → ReplyEffect w.local.view g answer → IsInvariant w → IsInvariant (emitted w answer)
-reply_keeps w g answer sent stamps (Segment may) i = emits w answer stamps may i
+pub reply_keeps : (w : Network) (g answer : StreamSegment) → Contains w.remote_segments g → (answer.rst ≡ false → IsStamped w.local answer) → ReplyEffect w.local.view g answer → IsInvariant w → IsInvariant (emitted w answer)
+reply_keeps w g answer sent stamps (Segment may) i = emits w answer (stamps may.plain) may i
 reply_keeps w g answer sent stamps (ResetReply a reset plain ph ack wrong) i = answers_wrong_ack w g answer a sent plain ph ack wrong reset i
 
 -- the end of a connection
@@ -52,8 +52,8 @@ dispatch_keeps w v (MovesSndNxt n within is) i = subst (λ (z : SocketView). IsI
 dispatch_keeps w v (IsOver e) i = ends_keep w v e i
 
 -- what it emits
-pub emission_keeps : (w : Network) (g : StreamSegment) → IsStamped w.local g → EmitEffect w.local.view g → IsInvariant w → IsInvariant (emitted w g)
-emission_keeps w g stamps (EmitsSegment may) i = emits w g stamps may i
+pub emission_keeps : (w : Network) (g : StreamSegment) → (g.rst ≡ false → IsStamped w.local g) → EmitEffect w.local.view g → IsInvariant w → IsInvariant (emitted w g)
+emission_keeps w g stamps (EmitsSegment may) i = emits w g (stamps may.plain) may i
 emission_keeps w g stamps (EmitsReset reset dead) i = emits_reset w g reset dead i
 
 -- the numbers of a socket with an initial sequence number

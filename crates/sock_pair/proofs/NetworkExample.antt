@@ -125,11 +125,11 @@ runs = (
   (
     inl (Connects 1000 (omega arith) refl refl),
     (
-      inl (Emits syn (stamped a1 syn refl refl) (EmitsSegment (first_syn a1.view syn refl refl refl refl refl refl refl)) refl),
+      inl (Emits syn (λ plain. stamped a1 syn refl refl) (EmitsSegment (first_syn a1.view syn refl refl refl refl refl refl refl)) refl),
       (
         inr (Hears syn b2.view (record { sent = (0, omega arith, refl); may = inr tt }) (Syn 5000 (omega arith) refl refl refl refl) refl),
         (
-          inr (Emits syn_ack (stamped b2 syn_ack refl refl) (EmitsSegment (second_syn b2.view syn_ack 1001 refl refl refl refl refl refl refl refl)) refl),
+          inr (Emits syn_ack (λ plain. stamped b2 syn_ack refl refl) (EmitsSegment (second_syn b2.view syn_ack 1001 refl refl refl refl refl refl refl refl)) refl),
           (
             inl (Hears syn_ack a2.view (record { sent = (0, omega arith, refl); may = inr tt }) (SynAck refl refl refl (AcksSyn 1001 refl refl (inl refl) refl refl refl (record { flight = 0; is = refl; le = omega arith })) refl refl refl refl refl) refl),
             (
@@ -137,7 +137,7 @@ runs = (
               (
                 inl (Closes refl refl),
                 (
-                  inl (Emits data_fin (stamped a4 data_fin refl refl) (EmitsSegment (record { plain = refl; iss = tt; content = inl (record { skip = 0; seq = refl; bytes = λ i b h. subst (λ n. ByteAt (7 ∷ []) n b) {x = i} {y = 0 + i} (omega arith) h; within = omega arith; fin = λ e. (refl, refl) }); acks = record { says = λ a h. (tt, acked 5001 a h) }; opens = λ e. let no : false ≡ true = e in cc })) refl),
+                  inl (Emits data_fin (λ plain. stamped a4 data_fin refl refl) (EmitsSegment (record { plain = refl; iss = tt; content = inl (record { skip = 0; seq = refl; bytes = λ i b h. subst (λ n. ByteAt (7 ∷ []) n b) {x = i} {y = 0 + i} (omega arith) h; within = omega arith; fin = λ e. (refl, refl) }); acks = record { says = λ a h. (tt, acked 5001 a h) }; opens = λ e. let no : false ≡ true = e in cc })) refl),
                   (
                     inr (Hears data_fin b3.view (record { sent = (1, omega arith, refl); may = inr tt }) (Acknowledgement refl tt hears_byte (AcksSyn 5001 refl refl (inr refl) refl refl refl (record { flight = 0; is = refl; le = omega arith })) tt) refl),
                     (
@@ -183,13 +183,13 @@ runs_back = (
   (
     inl (Connects 1000 (omega arith) refl refl),
     (
-      inl (Emits syn (stamped a1 syn refl refl) (EmitsSegment (first_syn a1.view syn refl refl refl refl refl refl refl)) refl),
+      inl (Emits syn (λ plain. stamped a1 syn refl refl) (EmitsSegment (first_syn a1.view syn refl refl refl refl refl refl refl)) refl),
       (
         inr (Hears syn b2.view (record { sent = (0, omega arith, refl); may = inr tt }) (Syn 5000 (omega arith) refl refl refl refl) refl),
         (
           inl (Dies a5.view (record { phase = refl; receive_queue = inl refl; fin = λ e. let no : false ≡ true = e in cc }) refl),
           (
-            inl (Emits rst (stamped a5 rst refl refl) (EmitsReset refl refl) refl),
+            inl (Emits rst (λ plain. stamped a5 rst refl refl) (EmitsReset refl refl) refl),
             (
               inr (Hears rst b5.view (record { sent = (1, omega arith, refl); may = inr tt }) (FallBack refl refl refl refl) refl),
               refl,
@@ -253,17 +253,17 @@ runs_crossed = (
   (
     inr (Connects 5000 (omega arith) refl refl),
     (
-      inl (Emits syn (stamped a1 syn refl refl) (EmitsSegment (first_syn a1.view syn refl refl refl refl refl refl refl)) refl),
+      inl (Emits syn (λ plain. stamped a1 syn refl refl) (EmitsSegment (first_syn a1.view syn refl refl refl refl refl refl refl)) refl),
       (
-        inr (Emits syn_back (stamped c1 syn_back refl refl) (EmitsSegment (first_syn c1.view syn_back refl refl refl refl refl refl refl)) refl),
+        inr (Emits syn_back (λ plain. stamped c1 syn_back refl refl) (EmitsSegment (first_syn c1.view syn_back refl refl refl refl refl refl refl)) refl),
         (
           inl (Hears syn_back a6.view (record { sent = (0, omega arith, refl); may = inr tt }) (SynAlone 1001 (record { flight = 1; is = refl; le = omega arith }) refl refl refl refl) refl),
           (
             inr (Hears syn c2.view (record { sent = (0, omega arith, refl); may = inr tt }) (SynAlone 5001 (record { flight = 1; is = refl; le = omega arith }) refl refl refl refl) refl),
             (
-              inl (Emits syn_ack_there (stamped a6 syn_ack_there refl refl) (EmitsSegment (second_syn a6.view syn_ack_there 5001 refl refl refl refl refl refl refl refl)) refl),
+              inl (Emits syn_ack_there (λ plain. stamped a6 syn_ack_there refl refl) (EmitsSegment (second_syn a6.view syn_ack_there 5001 refl refl refl refl refl refl refl refl)) refl),
               (
-                inr (Emits syn_ack (stamped c2 syn_ack refl refl) (EmitsSegment (second_syn c2.view syn_ack 1001 refl refl refl refl refl refl refl refl)) refl),
+                inr (Emits syn_ack (λ plain. stamped c2 syn_ack refl refl) (EmitsSegment (second_syn c2.view syn_ack 1001 refl refl refl refl refl refl refl refl)) refl),
                 (
                   inl (Hears syn_ack a2.view (record { sent = (1, omega arith, refl); may = inr tt }) (Acknowledgement refl tt (hears_nothing a6.view a2.view syn_ack refl (λ k b h. let e : None ≡ Some b = h in cc) refl refl (omega arith) refl) (AcksSyn 1001 refl refl (inr refl) refl refl refl (record { flight = 0; is = refl; le = omega arith })) tt) refl),
                   (

@@ -51,7 +51,7 @@ module _ (w : Network) (g : StreamSegment) (come : Arrives w g) where
 
   answers_at : (u : SocketView) (answer : Option StreamSegment) → Answers u g answer → ((a : StreamSegment) → answer ≡ Some a → IsStamped (heard_by w.local u) a) → Reaches (with_local w (heard_by w.local u)) (answered (with_local w (heard_by w.local u)) answer)
   answers_at u None may stamps = stays_there _ _ refl
-  answers_at u (Some a) may stamps = one_step _ _ (Replies g a come.sent (stamps a refl) may refl)
+  answers_at u (Some a) may stamps = one_step _ _ (Replies g a come.sent (λ plain. stamps a refl) may refl)
 
   same_stamps : (u v : SocketView) (a : StreamSegment) → (v ≡ u) ⊎ EndsWithQueues u v → IsStamped (heard_by w.local v) a → IsStamped (heard_by w.local u) a
   same_stamps u v a (inl is) s = subst (λ (z : SocketView). IsStamped (heard_by w.local z) a) is s
@@ -72,4 +72,4 @@ begins_reach w v e = one_step _ _ (Dispatches v e refl)
 
 -- it emits the segment g, and leaves the socket as v
 pub emission_reaches : (w : Network) (v : SocketView) (g : StreamSegment) → IsStamped w.local g → EmitEffect w.local.view g → DispatchEffect w.local.view v → Reaches w (emitted (with_local w (with_view w.local v)) g)
-emission_reaches w v g stamps may leaves = reach_then w (emitted w g) _ (one_step _ _ (Emits g stamps may refl)) (one_step _ _ (Dispatches v leaves refl))
+emission_reaches w v g stamps may leaves = reach_then w (emitted w g) _ (one_step _ _ (Emits g (λ plain. stamps) may refl)) (one_step _ _ (Dispatches v leaves refl))

@@ -188,7 +188,7 @@ pub data Step (old new : Network) : Type 0 where
   -- a segment that was heard is answered
   Replies : (g answer : StreamSegment)
       → Contains old.remote_segments g
-      → IsStamped old.local answer
+      → (answer.rst ≡ false → IsStamped old.local answer)
       → ReplyEffect old.local.view g answer
       → new ≡ emitted old answer
       → Step old new
@@ -207,7 +207,7 @@ pub data Step (old new : Network) : Type 0 where
       → Step old new
   -- a segment goes out: data or none, an acknowledgement, a SYN, a FIN, a keep-alive, or an RST
   Emits : (g : StreamSegment)
-      → IsStamped old.local g
+      → (g.rst ≡ false → IsStamped old.local g)
       → EmitEffect old.local.view g
       → new ≡ emitted old g
       → Step old new
