@@ -1,3 +1,4 @@
+//! What a replay prints and how it ends, of worked examples, of bad scripts and of streams that fail.
 use sock_pair::script::{End, ScriptError, Sink, Source, StreamFault, replay};
 use std::alloc::Global;
 use std::process::Abort;

@@ -3,11 +3,12 @@ use Rattle.std.proofs.Common.{◌≡◌, ℕ, zero, suc, ◌+◌, ◌%◌, ◌^�
 use Rattle.std.proofs.lemmas.List.{drop-append-le, append-nil}
 use Rattle.sock_core.proofs.Numbers.{number_add}
 use Rattle.sock_core.proofs.Streams.{prefix_self}
-use Rattle.sock_pair.specs.Network.{IsWithin, Network, closed_after, closed_unacknowledged, with_accepted, with_local, with_read, with_snd_nxt, with_view}
+use Rattle.sock_pair.specs.Network.{IsWithin, Network, closed_after, closed_unacknowledged, with_accepted, with_local, with_read, with_view}
+use Rattle.sock_pair.proofs.NetworkEndpoints.{with_snd_nxt}
 use Rattle.sock_pair.specs.NetworkInvariant.{IsInvariant, PhaseAllows}
 use Rattle.sock_pair.specs.StreamEffects.{SndNxtWithin}
 use Rattle.sock_pair.specs.StreamModel.{Stream}
-use Rattle.sock_pair.specs.StreamViews.{Closing, Dead, HasIss, HasNoIss, IsNonSynchronized, KnowsPeer, Sending, SocketView, SynReceived, SynSent}
+use Rattle.sock_pair.specs.StreamViews.{FinQueued, Dead, HasIss, HasNoIss, IsNonSynchronized, KnowsPeer, Open, SocketView, SynReceived, SynSent}
 use Rattle.sock_pair.proofs.NetworkChanges.{changes_keep, keeps_keep, remote_has_iss}
 use Rattle.sock_pair.proofs.NetworkPhases.{no_iss_not_iss}
 use Rattle.sock_pair.proofs.StreamGrowth.{sender_grows, stays}
@@ -15,7 +16,7 @@ use Rattle.sock_pair.proofs.StreamMatches.{received_nothing_as, receiving_view, 
 use Rattle.sock_pair.proofs.StreamSending.{queue_length, released_le}
 
 -- send takes bytes
-pub accepts : (w : Network) (bs : List ℕ) → w.local.view.phase ≡ Sending → length w.local.view.transmit_queue + length bs ≤ 2 ^ 30 → IsWithin w.limit (w.local.accepted ++ bs) → IsInvariant w → IsInvariant (with_local w (with_accepted w.local bs))
+pub accepts : (w : Network) (bs : List ℕ) → w.local.view.phase ≡ Open → length w.local.view.transmit_queue + length bs ≤ 2 ^ 30 → IsWithin w.limit (w.local.accepted ++ bs) → IsInvariant w → IsInvariant (with_local w (with_accepted w.local bs))
 accepts w bs e small within i =
     let d : HasIss w.local.view.phase = subst HasIss (sym e) tt in
     let t = i.outgoing_holds.sending d in
@@ -96,7 +97,7 @@ hands_out w n i =
     })
 
 -- close ends the stream
-pub closes : (w : Network) → w.local.view.phase ≡ Sending → IsInvariant w → IsInvariant (with_local w (closed_after w.local))
+pub closes : (w : Network) → w.local.view.phase ≡ Open → IsInvariant w → IsInvariant (with_local w (closed_after w.local))
 closes w e i =
     let d : HasIss w.local.view.phase = subst HasIss (sym e) tt in
     let m : KnowsPeer w.local.view.phase = subst KnowsPeer (sym e) tt in
@@ -122,7 +123,7 @@ closes w e i =
       finished = i.incoming_holds.finished;
       taken = i.incoming_holds.taken;
       numbers = ⊎_elim (λ a. inl a) (λ o. absurd (o.not_sending e)) i.local_numbers;
-      connects_only = λ c. let no : Closing ≡ SynSent = c in cc;
+      connects_only = λ c. let no : FinQueued ≡ SynSent = c in cc;
       listener = inl refl;
       dead = λ k. cc;
       had_no_iss = λ k. absurd k;
@@ -147,8 +148,8 @@ closes_unacknowledged w e i =
       delivered = i.incoming_holds.delivered;
       nothing_yet = λ k. absurd k;
       finished = i.incoming_holds.finished;
-      sends = λ c. let no : Closing ≡ Sending = c in cc;
-      connects_only = λ c. let no : Closing ≡ SynSent = c in cc;
+      sends = λ c. let no : FinQueued ≡ Open = c in cc;
+      connects_only = λ c. let no : FinQueued ≡ SynSent = c in cc;
       listener = inl refl;
       dead = λ k. cc;
       had_no_iss = λ k. absurd k;
@@ -172,7 +173,7 @@ dies w u e kept fin i =
           kept;
       nothing_yet = λ d. absurd (subst IsNonSynchronized e d);
       finished = λ c. let k = fin c in let r = i.incoming_holds.finished k.0 in (r.0, ap (λ xs. w.local.handed_out ++ xs) k.1 ∙ r.1);
-      sends = λ c. let no : Dead ≡ Sending = sym e ∙ c in cc;
+      sends = λ c. let no : Dead ≡ Open = sym e ∙ c in cc;
       connects_only = λ c. let no : Dead ≡ SynSent = sym e ∙ c in cc;
       listener = inl refl;
       dead = λ d. e;
@@ -181,14 +182,14 @@ dies w u e kept fin i =
     })
 
 -- SND.NXT moves
-pub moves_snd_nxt : (w : Network) (n : ℕ) → SndNxtWithin (record w.local.view { snd_nxt = n }) → IsInvariant w → IsInvariant (with_local w (with_snd_nxt w.local n))
-moves_snd_nxt w n nf i =
+pub moves_snd_nxt : (w : Network) (n : ℕ) → (HasIss w.local.view.phase → SndNxtWithin (record w.local.view { snd_nxt = n })) → IsInvariant w → IsInvariant (with_local w (with_snd_nxt w.local n))
+moves_snd_nxt w n within i =
     keeps_keep w i (with_snd_nxt w.local n) (record {
       accepted = refl;
       closed = refl;
       released = refl;
       taken = refl;
-      sending = λ d. let t = i.outgoing_holds.sending d in record { place = t.place; snd_una = t.snd_una; acked = t.acked; flight = nf.flight; snd_nxt = nf.is ∙ ap (λ m. (m + nf.flight) % 2 ^ 32) t.snd_una ∙ number_add i.local_origin t.place nf.flight; flight_le = nf.le; queue = t.queue; at = t.at; phase = t.phase };
+      sending = λ d. let t = i.outgoing_holds.sending d in let nf = within d in record { place = t.place; snd_una = t.snd_una; acked = t.acked; flight = nf.flight; snd_nxt = nf.is ∙ ap (λ m. (m + nf.flight) % 2 ^ 32) t.snd_una ∙ number_add i.local_origin t.place nf.flight; flight_le = nf.le; queue = t.queue; at = t.at; phase = t.phase };
       unsent = λ d. let r = i.outgoing_holds.unsent d in record { accepted = r.accepted; closed = r.closed; released = r.released; transmit_queue = r.transmit_queue };
       receiving = λ m. receiving_view w.local.view (with_snd_nxt w.local n).view w.local.handed_out i.remote_origin i.incoming (record { rcv_nxt = refl; receive_queue = refl; held = refl; fin = refl }) (i.incoming_holds.receiving m);
       delivered = i.incoming_holds.delivered;

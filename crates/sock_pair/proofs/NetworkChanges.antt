@@ -8,7 +8,7 @@ use Rattle.sock_core.proofs.Streams.{le_from_at}
 use Rattle.sock_pair.specs.Network.{Endpoint, IsWithin, IsYoung, MayArrive, Network, emitted, with_local}
 use Rattle.sock_pair.specs.NetworkInvariant.{HasFallenBack, HasReceivedNothing, HasSentNothing, IsInvariant, IsLimit, IsTrueSegment, QueueFits, ReceivingMatches, SameNumbers, SendingMatches, StreamInvariant}
 use Rattle.sock_pair.specs.StreamModel.{Grows, Stream}
-use Rattle.sock_pair.specs.StreamViews.{Dead, HasIss, HasNoIss, IsNonSynchronized, KnowsPeer, Sending, StreamSegment, SynSent}
+use Rattle.sock_pair.specs.StreamViews.{Dead, HasIss, HasNoIss, IsNonSynchronized, KnowsPeer, Open, StreamSegment, SynSent}
 use Rattle.sock_pair.proofs.NetworkPhases.{dec_dead, no_iss_not_iss, no_iss_not_sending}
 use Rattle.sock_pair.proofs.StreamGrowth.{ack_kept, counted_le, payload_kept, sound_kept, stays}
 use Rattle.sock_pair.proofs.StreamMatches.{SameReceived, SameSent, received_nothing_same, received_self, receiving_same, sending_same, sent_nothing_same, sent_self}
@@ -114,7 +114,7 @@ pub record Keeps (w : Network) (i : IsInvariant w) (z : Endpoint) : Type 0 where
   pub delivered : IsPrefix (z.handed_out ++ z.view.receive_queue) i.incoming.joined
   pub nothing_yet : IsNonSynchronized z.view.phase → HasReceivedNothing z i.incoming
   pub finished : z.view.fin_counted ≡ true → (i.incoming.fin_counted ≡ true) × (z.handed_out ++ z.view.receive_queue ≡ i.incoming.joined)
-  pub sends : z.view.phase ≡ Sending → w.local.view.phase ≡ Sending
+  pub sends : z.view.phase ≡ Open → w.local.view.phase ≡ Open
   pub dead : w.local.view.phase ≡ Dead → z.view.phase ≡ Dead
   pub had_no_iss : HasNoIss z.view.phase → HasNoIss w.local.view.phase ⊎ (w.remote.view.phase ≡ Dead)
   pub knows : KnowsPeer z.view.phase → HasNoIss w.remote.view.phase → ⊥
@@ -122,7 +122,7 @@ pub record Keeps (w : Network) (i : IsInvariant w) (z : Endpoint) : Type 0 where
   pub listener : (z.listener ≡ w.local.listener) ⊎ HasNoIss w.local.view.phase
 
 -- the side of a fall-back may change as long as it does not begin to send
-pub fallen_back_keeps : (x y z : Endpoint) (f : Stream) (a o : ℕ) → (z.view.phase ≡ Sending → x.view.phase ≡ Sending) → SameNumbers a o ⊎ HasFallenBack x y f → SameNumbers a o ⊎ HasFallenBack z y f
+pub fallen_back_keeps : (x y z : Endpoint) (f : Stream) (a o : ℕ) → (z.view.phase ≡ Open → x.view.phase ≡ Open) → SameNumbers a o ⊎ HasFallenBack x y f → SameNumbers a o ⊎ HasFallenBack z y f
 fallen_back_keeps x y z f a o sends = ⊎_elim (λ same. inl same) (λ b. inr (record { dead = b.dead; accepted = b.accepted; closed = b.closed; not_sending = λ c. b.not_sending (sends c) }))
 
 -- then the invariant is kept

@@ -2,10 +2,11 @@
 use Rattle.std.proofs.Common.{◌≡◌, ℕ, zero, suc, ◌+◌, ◌%◌, ◌^◌, ◌<◌, Bool, true, false, refl, sym, ap, subst, ◌∙◌, arith, List, [], ◌∷◌, length, Some, None, inl, inr}
 use Rattle.std.proofs.lemmas.List.{append-nil}
 use Rattle.sock_core.specs.Streams.{ByteAt, fin_length}
-use Rattle.sock_pair.specs.Network.{Accepts, AnswersFinished, Closes, Connects, Dies, Emits, EmitsReset, Endpoint, FallsBack, HandsOut, HearsAcknowledgement, HearsSyn, HearsSynAck, HearsSynAlone, IsStamped, Listens, Network}
+use Rattle.sock_pair.specs.Network.{Accepts, AnswersFinished, Closes, Connects, Dies, Emits, Endpoint, HandsOut, Hears, IsStamped, Listens, Network}
 use Rattle.sock_pair.specs.NetworkRuns.{Run, start, unopened}
+use Rattle.sock_pair.specs.StreamCalls.{Acknowledgement, FallBack, EmitsSegment, EmitsReset, Syn, SynAck, SynAlone}
 use Rattle.sock_pair.specs.StreamEffects.{AcksSyn, Brings, HearsData, MaySend, SendsPayload}
-use Rattle.sock_pair.specs.StreamViews.{Closing, Dead, HasIss, KnowsPeer, Listening, Phase, Sending, SocketView, StreamSegment, SynReceived, SynSent}
+use Rattle.sock_pair.specs.StreamViews.{FinQueued, Dead, HasIss, KnowsPeer, Listening, Phase, Open, SocketView, StreamSegment, SynReceived, SynSent}
 
 abbrev view : Phase → ℕ → ℕ → ℕ → List ℕ → List ℕ → Bool → SocketView
 view p una nxt rcv tx rx fin = record { phase = p; snd_una = una; snd_nxt = nxt; rcv_nxt = rcv; transmit_queue = tx; receive_queue = rx; held = λ k. None; fin_counted = fin }
@@ -31,13 +32,13 @@ abbrev a1 : Endpoint
 a1 = side (view SynSent 1000 1000 0 [] [] false) [] [] 0 false false
 
 abbrev a2 : Endpoint
-a2 = side (view Sending 1001 1001 5001 [] [] false) [] [] 0 false false
+a2 = side (view Open 1001 1001 5001 [] [] false) [] [] 0 false false
 
 abbrev a3 : Endpoint
-a3 = side (view Sending 1001 1001 5001 (7 ∷ []) [] false) (7 ∷ []) [] 0 false false
+a3 = side (view Open 1001 1001 5001 (7 ∷ []) [] false) (7 ∷ []) [] 0 false false
 
 abbrev a4 : Endpoint
-a4 = side (view Closing 1001 1001 5001 (7 ∷ []) [] false) (7 ∷ []) [] 0 true false
+a4 = side (view FinQueued 1001 1001 5001 (7 ∷ []) [] false) (7 ∷ []) [] 0 true false
 
 -- the listening side: after listen, the SYN, the data with the FIN, and the read
 abbrev b1 : Endpoint
@@ -47,10 +48,10 @@ abbrev b2 : Endpoint
 b2 = side (view SynReceived 5000 5000 1001 [] [] false) [] [] 0 false true
 
 abbrev b3 : Endpoint
-b3 = side (view Sending 5001 5001 1003 [] (7 ∷ []) true) [] [] 1 false true
+b3 = side (view Open 5001 5001 1003 [] (7 ∷ []) true) [] [] 1 false true
 
 abbrev b4 : Endpoint
-b4 = side (view Sending 5001 5001 1003 [] [] true) [] (7 ∷ []) 1 false true
+b4 = side (view Open 5001 5001 1003 [] [] true) [] (7 ∷ []) 1 false true
 
 -- a segment with no bytes at SND.UNA
 bare : (v : SocketView) (g : StreamSegment) → g.seq ≡ v.snd_una % 2 ^ 32 → g.payload ≡ [] → g.fin ≡ false → SendsPayload v g
@@ -124,21 +125,21 @@ runs = (
   (
     inl (Connects 1000 (omega arith) refl refl),
     (
-      inl (Emits syn (stamped a1 syn refl refl) (first_syn a1.view syn refl refl refl refl refl refl refl) refl),
+      inl (Emits syn (λ plain. stamped a1 syn refl refl) (EmitsSegment (first_syn a1.view syn refl refl refl refl refl refl refl)) refl),
       (
-        inr (HearsSyn syn 5000 (omega arith) (0, omega arith, refl) refl refl refl refl),
+        inr (Hears syn b2.view (record { sent = (0, omega arith, refl); may = inr tt }) (Syn 5000 (omega arith) refl refl refl refl) refl),
         (
-          inr (Emits syn_ack (stamped b2 syn_ack refl refl) (second_syn b2.view syn_ack 1001 refl refl refl refl refl refl refl refl) refl),
+          inr (Emits syn_ack (λ plain. stamped b2 syn_ack refl refl) (EmitsSegment (second_syn b2.view syn_ack 1001 refl refl refl refl refl refl refl refl)) refl),
           (
-            inl (HearsSynAck syn_ack a2.view (record { sent = (0, omega arith, refl); plain = refl; may = tt }) refl refl (AcksSyn 1001 refl refl (inl refl) refl refl refl (record { flight = 0; is = refl; le = omega arith })) refl refl refl refl refl refl),
+            inl (Hears syn_ack a2.view (record { sent = (0, omega arith, refl); may = inr tt }) (SynAck refl refl refl (AcksSyn 1001 refl refl (inl refl) refl refl refl (record { flight = 0; is = refl; le = omega arith })) refl refl refl refl refl) refl),
             (
               inl (Accepts (7 ∷ []) refl (omega arith) (omega arith) refl),
               (
                 inl (Closes refl refl),
                 (
-                  inl (Emits data_fin (stamped a4 data_fin refl refl) (record { plain = refl; iss = tt; content = inl (record { skip = 0; seq = refl; bytes = λ i b h. subst (λ n. ByteAt (7 ∷ []) n b) {x = i} {y = 0 + i} (omega arith) h; within = omega arith; fin = λ e. (refl, refl) }); acks = record { says = λ a h. (tt, acked 5001 a h) }; opens = λ e. let no : false ≡ true = e in cc }) refl),
+                  inl (Emits data_fin (λ plain. stamped a4 data_fin refl refl) (EmitsSegment (record { plain = refl; iss = tt; content = inl (record { skip = 0; seq = refl; bytes = λ i b h. subst (λ n. ByteAt (7 ∷ []) n b) {x = i} {y = 0 + i} (omega arith) h; within = omega arith; fin = λ e. (refl, refl) }); acks = record { says = λ a h. (tt, acked 5001 a h) }; opens = λ e. let no : false ≡ true = e in cc })) refl),
                   (
-                    inr (HearsAcknowledgement data_fin b3.view (record { sent = (1, omega arith, refl); plain = refl; may = tt }) tt hears_byte (AcksSyn 5001 refl refl (inr refl) refl refl refl (record { flight = 0; is = refl; le = omega arith })) tt refl),
+                    inr (Hears data_fin b3.view (record { sent = (1, omega arith, refl); may = inr tt }) (Acknowledgement refl tt hears_byte (AcksSyn 5001 refl refl (inr refl) refl refl refl (record { flight = 0; is = refl; le = omega arith })) tt) refl),
                     (
                       inr (HandsOut 1 refl),
                       refl,
@@ -182,15 +183,15 @@ runs_back = (
   (
     inl (Connects 1000 (omega arith) refl refl),
     (
-      inl (Emits syn (stamped a1 syn refl refl) (first_syn a1.view syn refl refl refl refl refl refl refl) refl),
+      inl (Emits syn (λ plain. stamped a1 syn refl refl) (EmitsSegment (first_syn a1.view syn refl refl refl refl refl refl refl)) refl),
       (
-        inr (HearsSyn syn 5000 (omega arith) (0, omega arith, refl) refl refl refl refl),
+        inr (Hears syn b2.view (record { sent = (0, omega arith, refl); may = inr tt }) (Syn 5000 (omega arith) refl refl refl refl) refl),
         (
-          inl (Dies a5.view refl (inl refl) (λ e. let no : false ≡ true = e in cc) refl),
+          inl (Dies a5.view (record { phase = refl; receive_queue = inl refl; fin = λ e. let no : false ≡ true = e in cc }) refl),
           (
-            inl (EmitsReset rst refl refl refl),
+            inl (Emits rst (λ plain. stamped a5 rst refl refl) (EmitsReset refl refl) refl),
             (
-              inr (FallsBack rst (1, omega arith, refl) refl refl refl refl),
+              inr (Hears rst b5.view (record { sent = (1, omega arith, refl); may = inr tt }) (FallBack refl refl refl refl) refl),
               refl,
             ),
           ),
@@ -224,7 +225,7 @@ abbrev c2 : Endpoint
 c2 = side (view SynReceived 5000 5001 1001 [] [] false) [] [] 0 false false
 
 abbrev c3 : Endpoint
-c3 = side (view Sending 5001 5001 1001 [] [] false) [] [] 0 false false
+c3 = side (view Open 5001 5001 1001 [] [] false) [] [] 0 false false
 
 -- a segment without bytes or a FIN brings nothing
 hears_nothing : (v w : SocketView) (g : StreamSegment) → w.receive_queue ≡ v.receive_queue → ((k b : ℕ) → w.held k ≡ Some b → ⊥) → v.fin_counted ≡ false → w.fin_counted ≡ false → v.rcv_nxt < 2 ^ 32 → w.rcv_nxt ≡ v.rcv_nxt → HearsData v w g
@@ -252,21 +253,21 @@ runs_crossed = (
   (
     inr (Connects 5000 (omega arith) refl refl),
     (
-      inl (Emits syn (stamped a1 syn refl refl) (first_syn a1.view syn refl refl refl refl refl refl refl) refl),
+      inl (Emits syn (λ plain. stamped a1 syn refl refl) (EmitsSegment (first_syn a1.view syn refl refl refl refl refl refl refl)) refl),
       (
-        inr (Emits syn_back (stamped c1 syn_back refl refl) (first_syn c1.view syn_back refl refl refl refl refl refl refl) refl),
+        inr (Emits syn_back (λ plain. stamped c1 syn_back refl refl) (EmitsSegment (first_syn c1.view syn_back refl refl refl refl refl refl refl)) refl),
         (
-          inl (HearsSynAlone syn_back 1001 (record { flight = 1; is = refl; le = omega arith }) (0, omega arith, refl) refl refl refl refl),
+          inl (Hears syn_back a6.view (record { sent = (0, omega arith, refl); may = inr tt }) (SynAlone 1001 (record { flight = 1; is = refl; le = omega arith }) refl refl refl refl) refl),
           (
-            inr (HearsSynAlone syn 5001 (record { flight = 1; is = refl; le = omega arith }) (0, omega arith, refl) refl refl refl refl),
+            inr (Hears syn c2.view (record { sent = (0, omega arith, refl); may = inr tt }) (SynAlone 5001 (record { flight = 1; is = refl; le = omega arith }) refl refl refl refl) refl),
             (
-              inl (Emits syn_ack_there (stamped a6 syn_ack_there refl refl) (second_syn a6.view syn_ack_there 5001 refl refl refl refl refl refl refl refl) refl),
+              inl (Emits syn_ack_there (λ plain. stamped a6 syn_ack_there refl refl) (EmitsSegment (second_syn a6.view syn_ack_there 5001 refl refl refl refl refl refl refl refl)) refl),
               (
-                inr (Emits syn_ack (stamped c2 syn_ack refl refl) (second_syn c2.view syn_ack 1001 refl refl refl refl refl refl refl refl) refl),
+                inr (Emits syn_ack (λ plain. stamped c2 syn_ack refl refl) (EmitsSegment (second_syn c2.view syn_ack 1001 refl refl refl refl refl refl refl refl)) refl),
                 (
-                  inl (HearsAcknowledgement syn_ack a2.view (record { sent = (1, omega arith, refl); plain = refl; may = tt }) tt (hears_nothing a6.view a2.view syn_ack refl (λ k b h. let e : None ≡ Some b = h in cc) refl refl (omega arith) refl) (AcksSyn 1001 refl refl (inr refl) refl refl refl (record { flight = 0; is = refl; le = omega arith })) tt refl),
+                  inl (Hears syn_ack a2.view (record { sent = (1, omega arith, refl); may = inr tt }) (Acknowledgement refl tt (hears_nothing a6.view a2.view syn_ack refl (λ k b h. let e : None ≡ Some b = h in cc) refl refl (omega arith) refl) (AcksSyn 1001 refl refl (inr refl) refl refl refl (record { flight = 0; is = refl; le = omega arith })) tt) refl),
                   (
-                    inr (HearsAcknowledgement syn_ack_there c3.view (record { sent = (1, omega arith, refl); plain = refl; may = tt }) tt (hears_nothing c2.view c3.view syn_ack_there refl (λ k b h. let e : None ≡ Some b = h in cc) refl refl (omega arith) refl) (AcksSyn 5001 refl refl (inr refl) refl refl refl (record { flight = 0; is = refl; le = omega arith })) tt refl),
+                    inr (Hears syn_ack_there c3.view (record { sent = (1, omega arith, refl); may = inr tt }) (Acknowledgement refl tt (hears_nothing c2.view c3.view syn_ack_there refl (λ k b h. let e : None ≡ Some b = h in cc) refl refl (omega arith) refl) (AcksSyn 5001 refl refl (inr refl) refl refl refl (record { flight = 0; is = refl; le = omega arith })) tt) refl),
                     refl,
                   ),
                 ),
@@ -280,5 +281,5 @@ runs_crossed = (
 )
 
 -- at the end both may send
-pub crossed_run : (way : List Network) × (end : Network) × Run (start (Some 10)) way end × (end.local.view.phase ≡ Sending) × (end.remote.view.phase ≡ Sending)
+pub crossed_run : (way : List Network) × (end : Network) × Run (start (Some 10)) way end × (end.local.view.phase ≡ Open) × (end.remote.view.phase ≡ Open)
 crossed_run = (way_crossed, net a2 c3 (syn ∷ syn_ack_there ∷ []) (syn_back ∷ syn_ack ∷ []), runs_crossed, refl, refl)

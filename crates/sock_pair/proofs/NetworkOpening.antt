@@ -4,10 +4,11 @@ use Rattle.std.specs.List.{Contains}
 use Rattle.std.proofs.lemmas.List.{append-nil, nil_from_length}
 use Rattle.sock_core.specs.Places.{number_at}
 use Rattle.sock_core.proofs.Numbers.{number_add, origin_of}
-use Rattle.sock_pair.specs.Network.{Arrives, Network, connected, crossed, fallen_back, heard_by, listened, synchronizing, with_local}
+use Rattle.sock_pair.specs.Network.{Network, connected, heard_by, listened, with_local}
+use Rattle.sock_pair.proofs.NetworkEndpoints.{ArrivesYoung, crossed, fallen_back, synchronizing}
 use Rattle.sock_pair.specs.NetworkInvariant.{IsInvariant, PhaseAllows}
 use Rattle.sock_pair.specs.StreamEffects.{HearsAck, SndNxtWithin}
-use Rattle.sock_pair.specs.StreamViews.{Dead, HasIss, HasNoIss, IsNonSynchronized, Listening, Sending, SocketView, StreamSegment, SynReceived, SynSent, Unopened}
+use Rattle.sock_pair.specs.StreamViews.{Dead, HasIss, HasNoIss, IsNonSynchronized, Listening, Open, SocketView, StreamSegment, SynReceived, SynSent, Unopened}
 use Rattle.sock_pair.proofs.NetworkChanges.{changes_keep, comes_here, is_young, keeps_keep, redraw}
 use Rattle.sock_pair.proofs.StreamAcking.{released_more}
 use Rattle.sock_pair.proofs.StreamFallBack.{any_ack}
@@ -33,7 +34,7 @@ listens w e i =
       delivered = i.incoming_holds.delivered;
       nothing_yet = λ d. received_nothing_as w.local (listened w.local) i.incoming (record { rcv_nxt = refl; receive_queue = refl; held = refl; fin = refl }) refl fresh;
       finished = i.incoming_holds.finished;
-      sends = λ c. let no : Listening ≡ Sending = c in cc;
+      sends = λ c. let no : Listening ≡ Open = c in cc;
       connects_only = λ c. let no : Listening ≡ SynSent = c in cc;
       listener = inr u;
       dead = λ d. cc;
@@ -61,7 +62,7 @@ connects w iss small e i =
       delivered = j.incoming_holds.delivered;
       nothing_yet = λ d. received_nothing_as w.local (connected w.local iss) j.incoming (record { rcv_nxt = refl; receive_queue = refl; held = refl; fin = refl }) refl fresh;
       finished = j.incoming_holds.finished;
-      sends = λ c. let no : SynSent ≡ Sending = c in cc;
+      sends = λ c. let no : SynSent ≡ Open = c in cc;
       connects_only = λ c. refl;
       listener = inr u;
       dead = λ d. cc;
@@ -92,7 +93,7 @@ hears_syn w g iss small there plain syn e i =
       delivered = j.0.incoming_holds.delivered;
       nothing_yet = λ d. record { joined = fresh.joined; stream_fin = fresh.stream_fin; receive_queue = fresh.receive_queue; handed_out = fresh.handed_out; fin = fresh.fin; held = fresh.held };
       finished = j.0.incoming_holds.finished;
-      sends = λ c. let no : SynReceived ≡ Sending = c in cc;
+      sends = λ c. let no : SynReceived ≡ Open = c in cc;
       connects_only = λ c. let no : SynReceived ≡ SynSent = c in cc;
       listener = inl refl;
       dead = λ d. cc;
@@ -128,7 +129,7 @@ hears_syn_alone w g m nf there plain syn e i =
       delivered = i.incoming_holds.delivered;
       nothing_yet = λ d. record { joined = fresh.joined; stream_fin = fresh.stream_fin; receive_queue = fresh.receive_queue; handed_out = fresh.handed_out; fin = fresh.fin; held = fresh.held };
       finished = i.incoming_holds.finished;
-      sends = λ c. let no : SynReceived ≡ Sending = c in cc;
+      sends = λ c. let no : SynReceived ≡ Open = c in cc;
       connects_only = λ c. let no : SynReceived ≡ SynSent = c in cc;
       listener = inl refl;
       dead = λ d. cc;
@@ -137,7 +138,7 @@ hears_syn_alone w g m nf there plain syn e i =
     })
 
 -- a SYN comes that acknowledges the own one
-pub hears_syn_ack : (w : Network) (g : StreamSegment) (u : SocketView) → Arrives w g → g.syn ≡ true → w.local.view.phase ≡ SynSent → HearsAck w.local.view u g → u.phase ≡ Sending → u.rcv_nxt ≡ (g.seq + 1) % 2 ^ 32 → u.receive_queue ≡ w.local.view.receive_queue → u.held ≡ w.local.view.held → u.fin_counted ≡ w.local.view.fin_counted → IsInvariant w → IsInvariant (with_local w (heard_by w.local u))
+pub hears_syn_ack : (w : Network) (g : StreamSegment) (u : SocketView) → ArrivesYoung w g → g.syn ≡ true → w.local.view.phase ≡ SynSent → HearsAck w.local.view u g → u.phase ≡ Open → u.rcv_nxt ≡ (g.seq + 1) % 2 ^ 32 → u.receive_queue ≡ w.local.view.receive_queue → u.held ≡ w.local.view.held → u.fin_counted ≡ w.local.view.fin_counted → IsInvariant w → IsInvariant (with_local w (heard_by w.local u))
 hears_syn_ack w g u come syn e ack to l r k fin i =
     let n : IsNonSynchronized w.local.view.phase = subst IsNonSynchronized (sym e) tt in
     let fresh = i.incoming_holds.nothing_yet n in
@@ -167,7 +168,7 @@ hears_syn_ack w g u come syn e ack to l r k fin i =
       finished = λ d. let no : true ≡ false = sym d ∙ fin ∙ fresh.fin in cc;
       taken = omega (arith, i.incoming_holds.taken, ap length r);
       numbers = a.3;
-      connects_only = λ c. let no : Sending ≡ SynSent = sym to ∙ c in cc;
+      connects_only = λ c. let no : Open ≡ SynSent = sym to ∙ c in cc;
       listener = inl refl;
       dead = λ d. let no : SynSent ≡ Dead = sym e ∙ d in cc;
       had_no_iss = λ d. absurd (subst HasNoIss to d);
@@ -196,7 +197,7 @@ falls_back w g there reset e listens i =
       delivered = i.incoming_holds.delivered;
       nothing_yet = λ d. received_nothing_as w.local (fallen_back w.local) i.incoming (record { rcv_nxt = refl; receive_queue = refl; held = refl; fin = refl }) refl fresh;
       finished = i.incoming_holds.finished;
-      sends = λ c. let no : Listening ≡ Sending = c in cc;
+      sends = λ c. let no : Listening ≡ Open = c in cc;
       connects_only = λ c. let no : Listening ≡ SynSent = c in cc;
       listener = inl refl;
       dead = λ d. let no : SynReceived ≡ Dead = sym e ∙ d in cc;

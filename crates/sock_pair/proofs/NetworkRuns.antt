@@ -128,7 +128,7 @@ local_ends w v (inl step) i c = closed_stays w v step i c
 local_ends w v (inr step) i c = let e = (step_adds (swapped w) (swapped v) step).remote in record { closed = ap (λ (z : Endpoint). z.closed) e ∙ c; accepted = ap (λ (z : Endpoint). z.accepted) e }
 
 -- a step of either side is one as the other side sees it
-other : (w v : Network) → EitherSteps w v → EitherSteps (swapped w) (swapped v)
+pub other : (w v : Network) → EitherSteps w v → EitherSteps (swapped w) (swapped v)
 other w v (inl step) = inr step
 other w v (inr step) = inl step
 

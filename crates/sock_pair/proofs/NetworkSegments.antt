@@ -4,7 +4,8 @@ use Rattle.std.specs.List.{Contains}
 use Rattle.std.proofs.lemmas.List.{append-nil}
 use Rattle.sock_core.specs.Places.{number_at}
 use Rattle.sock_core.proofs.Streams.{prefix_self}
-use Rattle.sock_pair.specs.Network.{Arrives, IsStamped, Network, emitted, heard_by, with_local}
+use Rattle.sock_pair.specs.Network.{IsStamped, Network, emitted, heard_by, with_local}
+use Rattle.sock_pair.proofs.NetworkEndpoints.{ArrivesYoung}
 use Rattle.sock_pair.specs.NetworkInvariant.{HasFallenBack, IsInvariant, IsTrueSegment, SameNumbers, SendingMatches}
 use Rattle.sock_pair.specs.StreamEffects.{HearsAck, HearsData, MaySend, SameSending}
 use Rattle.sock_pair.specs.StreamModel.{Grows, counted}
@@ -93,7 +94,7 @@ abbrev Acknowledged : (w : Network) → IsInvariant w → SocketView → Type 0
 Acknowledged w i u = (n : ℕ) × Grows i.outgoing (released_more i.outgoing n) × SendingMatches u i.local_origin (released_more i.outgoing n) × (SameNumbers i.local_acked_origin i.local_origin ⊎ HasFallenBack (heard_by w.local u) w.remote (released_more i.outgoing n))
 
 -- a true segment is heard, whatever its acknowledgement released
-heard_keeps : (w : Network) (g : StreamSegment) (u : SocketView) (i : IsInvariant w) → Arrives w g → KnowsPeer w.local.view.phase → HearsData w.local.view u g → IsSynchronized u.phase → Acknowledged w i u → IsInvariant (with_local w (heard_by w.local u))
+heard_keeps : (w : Network) (g : StreamSegment) (u : SocketView) (i : IsInvariant w) → ArrivesYoung w g → KnowsPeer w.local.view.phase → HearsData w.local.view u g → IsSynchronized u.phase → Acknowledged w i u → IsInvariant (with_local w (heard_by w.local u))
 heard_keeps w g u i come m came mu a =
     let r = i.incoming_holds.receiving m in
     let t = i.outgoing_holds.sending (knows_iss w.local.view.phase m) in
@@ -129,7 +130,7 @@ heard_keeps w g u i come m came mu a =
     })
 
 -- a segment comes whose acknowledgement changes nothing
-pub hears_segment : (w : Network) (g : StreamSegment) (u : SocketView) → Arrives w g → IsSynchronized w.local.view.phase → HearsData w.local.view u g → SameSending w.local.view u → IsInvariant w → IsInvariant (with_local w (heard_by w.local u))
+pub hears_segment : (w : Network) (g : StreamSegment) (u : SocketView) → ArrivesYoung w g → IsSynchronized w.local.view.phase → HearsData w.local.view u g → SameSending w.local.view u → IsInvariant w → IsInvariant (with_local w (heard_by w.local u))
 hears_segment w g u come live came same i =
     let m = synchronized_knows w.local.view.phase live in
     heard_keeps w g u i come m came (subst IsSynchronized (sym same.phase) live) (
@@ -140,7 +141,7 @@ hears_segment w g u come live came same i =
     )
 
 -- a segment comes that acknowledges
-pub hears_acknowledgement : (w : Network) (g : StreamSegment) (u : SocketView) → Arrives w g → KnowsPeer w.local.view.phase → HearsData w.local.view u g → HearsAck w.local.view u g → IsSynchronized u.phase → IsInvariant w → IsInvariant (with_local w (heard_by w.local u))
+pub hears_acknowledgement : (w : Network) (g : StreamSegment) (u : SocketView) → ArrivesYoung w g → KnowsPeer w.local.view.phase → HearsData w.local.view u g → HearsAck w.local.view u g → IsSynchronized u.phase → IsInvariant w → IsInvariant (with_local w (heard_by w.local u))
 hears_acknowledgement w g u come m came ack mu i =
     let seg = comes_here w i g come.sent (λ c. subst KnowsPeer c m) in
     heard_keeps w g u i come m came mu (any_ack i.local_origin i.local_acked_origin i.outgoing w.local w.remote (heard_by w.local u) g i.outgoing_holds.sound i.outgoing_holds.fits (i.outgoing_holds.sending (knows_iss w.local.view.phase m)) (seg.ack come.plain) (omega (arith, (is_young w i g come.may).taken, i.outgoing_holds.taken)) i.local_numbers ack)

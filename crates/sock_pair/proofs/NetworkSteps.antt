@@ -3,13 +3,14 @@ use Rattle.std.proofs.Common.{◌≡◌, ◌+◌, ◌≤◌, ◌⊎◌, true, fa
 use Rattle.std.proofs.lemmas.List.{append-nil}
 use Rattle.sock_core.specs.Streams.{IsPrefix}
 use Rattle.sock_core.proofs.Streams.{prefix_self}
-use Rattle.sock_pair.specs.Network.{Accepts, AnswersRefused, AnswersWrongAck, Closes, ClosesUnacknowledged, Connects, Dies, Emits, EmitsReset, Endpoint, FallsBack, Finishes, HandsOut, HearsAcknowledgement, HearsSegment, HearsSyn, HearsSynAck, HearsSynAlone, Listens, MovesSndNxt, Network, Step, closed_after, closed_unacknowledged, connected, crossed, emitted, fallen_back, heard_by, listened, swapped, synchronizing, with_accepted, with_local, with_read, with_snd_nxt, with_view}
+use Rattle.sock_pair.specs.Network.{Accepts, AnswersRefused, Closes, ClosesUnacknowledged, Connects, Dies, Dispatches, Emits, Endpoint, Finishes, HandsOut, Hears, Listens, Network, Replies, Step, closed_after, closed_unacknowledged, connected, emitted, heard_by, listened, swapped, with_accepted, with_local, with_read, with_view}
 use Rattle.sock_pair.specs.NetworkInvariant.{IsInvariant, PhaseAllows}
 use Rattle.sock_pair.specs.NetworkRuns.{EitherSteps, HasEnded, OnlyAdds}
-use Rattle.sock_pair.specs.StreamViews.{HasIss, Sending, SocketView, StreamSegment}
-use Rattle.sock_pair.proofs.NetworkCalls.{accepts, closes, closes_unacknowledged, dies, hands_out, moves_snd_nxt}
-use Rattle.sock_pair.proofs.NetworkOpening.{connects, falls_back, hears_syn, hears_syn_ack, hears_syn_alone, listens}
-use Rattle.sock_pair.proofs.NetworkSegments.{answers_refused, answers_wrong_ack, emits, emits_reset, hears_acknowledgement, hears_segment}
+use Rattle.sock_pair.specs.StreamViews.{HasIss, Open, SocketView, StreamSegment}
+use Rattle.sock_pair.proofs.NetworkCalls.{accepts, closes, closes_unacknowledged, hands_out}
+use Rattle.sock_pair.proofs.NetworkDeliveries.{dispatch_keeps, emission_keeps, ends_keep, hear_keeps, reply_keeps}
+use Rattle.sock_pair.proofs.NetworkOpening.{connects, listens}
+use Rattle.sock_pair.proofs.NetworkSegments.{answers_refused}
 
 -- a step of the local side
 pub step_keeps : (w v : Network) → Step w v → IsInvariant w → IsInvariant v
@@ -20,18 +21,12 @@ step_keeps w v (HandsOut n is) i = subst IsInvariant (sym is) (hands_out w n i)
 step_keeps w v (Finishes done is) i = subst IsInvariant (sym is) i
 step_keeps w v (Closes e is) i = subst IsInvariant (sym is) (closes w e i)
 step_keeps w v (ClosesUnacknowledged e is) i = subst IsInvariant (sym is) (closes_unacknowledged w e i)
-step_keeps w v (Dies u e kept fin is) i = subst IsInvariant (sym is) (dies w u e kept fin i)
-step_keeps w v (MovesSndNxt n nf is) i = subst IsInvariant (sym is) (moves_snd_nxt w n nf i)
-step_keeps w v (Emits g now may is) i = subst IsInvariant (sym is) (emits w g now may i)
-step_keeps w v (EmitsReset g rst dead is) i = subst IsInvariant (sym is) (emits_reset w g rst dead i)
-step_keeps w v (HearsSegment g u come live came same is) i = subst IsInvariant (sym is) (hears_segment w g u come live came same i)
-step_keeps w v (HearsAcknowledgement g u come m came ack mu is) i = subst IsInvariant (sym is) (hears_acknowledgement w g u come m came ack mu i)
-step_keeps w v (FallsBack g sent reset e listener is) i = subst IsInvariant (sym is) (falls_back w g sent reset e listener i)
+step_keeps w v (Dies u ends is) i = subst IsInvariant (sym is) (ends_keep w u ends i)
+step_keeps w v (Hears g u come heard is) i = subst IsInvariant (sym is) (hear_keeps w g u come heard i)
+step_keeps w v (Replies g answer sent stamps reply is) i = subst IsInvariant (sym is) (reply_keeps w g answer sent stamps reply i)
 step_keeps w v (AnswersRefused g k sent plain ph reset is) i = subst IsInvariant (sym is) (answers_refused w g k sent plain ph reset i)
-step_keeps w v (AnswersWrongAck g k a sent plain ph ack wrong reset is) i = subst IsInvariant (sym is) (answers_wrong_ack w g k a sent plain ph ack wrong reset i)
-step_keeps w v (HearsSyn g iss small sent plain syn e is) i = subst IsInvariant (sym is) (hears_syn w g iss small sent plain syn e i)
-step_keeps w v (HearsSynAlone g n nf sent plain syn e is) i = subst IsInvariant (sym is) (hears_syn_alone w g n nf sent plain syn e i)
-step_keeps w v (HearsSynAck g u come syn e ack to nxt queue held fin is) i = subst IsInvariant (sym is) (hears_syn_ack w g u come syn e ack to nxt queue held fin i)
+step_keeps w v (Dispatches u does is) i = subst IsInvariant (sym is) (dispatch_keeps w u does i)
+step_keeps w v (Emits g stamps may is) i = subst IsInvariant (sym is) (emission_keeps w g stamps may i)
 
 -- the network as the other side sees it
 pub swapped_keeps : (w : Network) → IsInvariant w → IsInvariant (swapped w)
@@ -99,7 +94,7 @@ adds_segment w g = record {
 }
 
 -- the sending side accepts more, or is closed
-adds_stream : (w : Network) (e : Endpoint) → w.local.view.phase ≡ Sending → IsPrefix w.local.accepted e.accepted → (e.closed ≡ w.local.closed) ⊎ (e.closed ≡ true) → e.handed_out ≡ w.local.handed_out → e.released ≡ w.local.released → e.taken ≡ w.local.taken → OnlyAdds w (with_local w e)
+adds_stream : (w : Network) (e : Endpoint) → w.local.view.phase ≡ Open → IsPrefix w.local.accepted e.accepted → (e.closed ≡ w.local.closed) ⊎ (e.closed ≡ true) → e.handed_out ≡ w.local.handed_out → e.released ≡ w.local.released → e.taken ≡ w.local.taken → OnlyAdds w (with_local w e)
 adds_stream w e sends more closes handed_out released taken = record {
   remote = refl;
   remote_segments = refl;
@@ -121,18 +116,12 @@ step_adds w v (HandsOut n is) = subst (OnlyAdds w) (sym is) (adds_counts w (with
 step_adds w v (Finishes done is) = subst (OnlyAdds w) (sym is) (adds_none w w.local refl refl refl refl refl)
 step_adds w v (Closes e is) = subst (OnlyAdds w) (sym is) (adds_stream w (closed_after w.local) e (prefix_self w.local.accepted) (inr refl) refl refl refl)
 step_adds w v (ClosesUnacknowledged e is) = subst (OnlyAdds w) (sym is) (adds_none w (closed_unacknowledged w.local) refl refl refl refl refl)
-step_adds w v (Dies u e kept fin is) = subst (OnlyAdds w) (sym is) (adds_none w (with_view w.local u) refl refl refl refl refl)
-step_adds w v (MovesSndNxt n nf is) = subst (OnlyAdds w) (sym is) (adds_none w (with_snd_nxt w.local n) refl refl refl refl refl)
-step_adds w v (Emits g now may is) = subst (OnlyAdds w) (sym is) (adds_segment w g)
-step_adds w v (EmitsReset g rst dead is) = subst (OnlyAdds w) (sym is) (adds_segment w g)
-step_adds w v (HearsSegment g u come live came same is) = subst (OnlyAdds w) (sym is) (adds_heard w u)
-step_adds w v (HearsAcknowledgement g u come m came ack mu is) = subst (OnlyAdds w) (sym is) (adds_heard w u)
-step_adds w v (FallsBack g sent reset e listener is) = subst (OnlyAdds w) (sym is) (adds_none w (fallen_back w.local) refl refl refl refl refl)
+step_adds w v (Dies u ends is) = subst (OnlyAdds w) (sym is) (adds_none w (with_view w.local u) refl refl refl refl refl)
+step_adds w v (Hears g u come heard is) = subst (OnlyAdds w) (sym is) (adds_heard w u)
+step_adds w v (Replies g answer sent stamps reply is) = subst (OnlyAdds w) (sym is) (adds_segment w answer)
 step_adds w v (AnswersRefused g k sent plain ph reset is) = subst (OnlyAdds w) (sym is) (adds_segment w k)
-step_adds w v (AnswersWrongAck g k a sent plain ph ack wrong reset is) = subst (OnlyAdds w) (sym is) (adds_segment w k)
-step_adds w v (HearsSyn g iss small sent plain syn e is) = subst (OnlyAdds w) (sym is) (adds_none w (synchronizing w.local g iss) refl refl refl refl refl)
-step_adds w v (HearsSynAlone g n nf sent plain syn e is) = subst (OnlyAdds w) (sym is) (adds_none w (crossed w.local g n) refl refl refl refl refl)
-step_adds w v (HearsSynAck g u come syn e ack to nxt queue held fin is) = subst (OnlyAdds w) (sym is) (adds_heard w u)
+step_adds w v (Dispatches u does is) = subst (OnlyAdds w) (sym is) (adds_none w (with_view w.local u) refl refl refl refl refl)
+step_adds w v (Emits g stamps may is) = subst (OnlyAdds w) (sym is) (adds_segment w g)
 
 -- a side that was closed does not send, so its stream has ended
 pub closed_stays : (w v : Network) → Step w v → IsInvariant w → w.local.closed ≡ true → HasEnded w.local v.local
@@ -143,7 +132,7 @@ closed_stays w v step i c =
       accepted = ⊎_elim (λ same. same) (λ more. absurd (silent more.0)) adds.accepted;
     }
   where
-    silent : w.local.view.phase ≡ Sending → ⊥
+    silent : w.local.view.phase ≡ Open → ⊥
     silent e =
         let t = i.outgoing_holds.sending (subst HasIss (sym e) tt) in
         let says : (t.place ≡ i.outgoing.released + 2) × (i.outgoing.closed ≡ false) = subst (λ p. PhaseAllows p i.outgoing t.place) e t.phase in

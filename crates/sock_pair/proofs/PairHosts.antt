@@ -1,6 +1,6 @@
 -- What each event keeps of a host, and of a pair but for its network.
-use Rattle.std.proofs.Common.{◌≡◌, ℕ, Bool, true, false, List, [], length, Option, None, refl, sym, ap, subst, ◌∙◌}
-use Rattle.std.specs.Prelude.{IsTrue, not, ◌==◌, if◌then◌else◌}
+use Rattle.std.proofs.Common.{◌≡◌, ℕ, Bool, true, false, List, [], length, Option, Some, None, refl, sym, ap, subst, ◌∙◌}
+use Rattle.std.specs.Prelude.{IsTrue, not, min, ◌==◌, if◌then◌else◌}
 use Rattle.ip_wire.specs.Address.{SameVersion}
 use Rattle.ip_wire.specs.declared.endpoint.IpEndpoint.{IpEndpoint}
 use Rattle.sock_core.specs.Facts.{Facts}
@@ -12,10 +12,10 @@ use Rattle.sock_tcp.specs.Queues.{may_send, may_recv, receives, can_recv}
 use Rattle.sock_tcp.specs.declared.state.State.TheVariants as state
 use Rattle.sock_pair.specs.Moments.{facts_of}
 use Rattle.sock_pair.specs.NetworkInvariant.{IsInvariant, IsLimit}
-use Rattle.sock_pair.specs.PairCalls.{listening, connecting, OpensAs, Sends, SendsUnder, SendsIf, is_over, Receives, ReceivesIf}
+use Rattle.sock_pair.specs.PairCalls.{listening, connecting, OpensAs, sending, Sends, SendsUnder, SendsIf, is_over, receiving, Receives, ReceivesIf}
 use Rattle.sock_pair.specs.PairInvariant.{IsIdle, IsReachable, IsHost, IsPair}
 use Rattle.sock_pair.specs.PairNetwork.{network_of}
-use Rattle.sock_pair.specs.PairSteps.{Dispatches, DeliversTo, DeliversIf, exchanged}
+use Rattle.sock_pair.specs.PairSteps.{Dispatches, DeliversTo, DeliversIf, delivered_to, exchanged}
 use Rattle.sock_pair.specs.PairViews.{HostView, StoredView, PairView, host_of, with_host, new_host}
 use Rattle.sock_pair.specs.Recording.{SocketDispatches, SendsFrom}
 use Rattle.sock_pair.specs.declared.host.Opening.{Opening}
@@ -26,6 +26,8 @@ use Rattle.sock_pair.specs.declared.recorder.Sent.{Sent}
 use Rattle.sock_pair.specs.declared.side.Side.{Side}
 use Rattle.sock_pair.specs.declared.side.Side.TheVariants.{A, B}
 use Rattle.sock_pair.proofs.NetworkRuns.{starts}
+use Rattle.sock_pair.proofs.PairFins.{connected_fin, dispatch_fin, listened_fin, process_fin, read_fin, written_fin}
+use Rattle.sock_pair.proofs.PairListeners.{connected_active, dispatch_listens, listened_passive, passive_kept, process_listens, read_listens, written_listens}
 
 -- a host that is one still, on the same endpoint
 pub record StaysHost (h k : HostView) : Type 0 where
@@ -43,10 +45,10 @@ opens opening.Listener h n k o i s e = unchanged h k i e.1
 opens opening.Connector h n k o i s e = unchanged h k i e.1
 
 pub listen_stays : (h k : HostView) (o : Outcome) → IsHost h → OpensAs h.opening h (listening h) o k → StaysHost h k
-listen_stays h k o i e = opens h.opening h (listening h) k o i (record { host = record { reachable = i.reachable; idle = λ n. let no : opening.Listener ≡ opening.Unopened = n in cc }; endpoint = refl }) e
+listen_stays h k o i e = opens h.opening h (listening h) k o i (record { host = record { reachable = i.reachable; idle = λ n. let no : opening.Listener ≡ opening.Unopened = n in cc; passive = λ shut live. listened_passive h.control_block (record { addr = Some h.endpoint.addr; port = h.endpoint.port }) i.reachable.port; no_fin = listened_fin h.control_block (record { addr = Some h.endpoint.addr; port = h.endpoint.port }) }; endpoint = refl }) e
 
 pub connect_stays : (h k : HostView) (m : Moment) (remote : IpEndpoint) (o : Outcome) → IsHost h → OpensAs h.opening h (connecting h m remote) o k → StaysHost h k
-connect_stays h k m remote o i e = opens h.opening h (connecting h m remote) k o i (record { host = record { reachable = i.reachable; idle = λ n. let no : opening.Connector ≡ opening.Unopened = n in cc }; endpoint = refl }) e
+connect_stays h k m remote o i e = opens h.opening h (connecting h m remote) k o i (record { host = record { reachable = i.reachable; idle = λ n. let no : opening.Connector ≡ opening.Unopened = n in cc; passive = λ shut live. connected_active h.control_block (record { local = h.endpoint; remote = remote }) m.word; no_fin = connected_fin h.control_block (record { local = h.endpoint; remote = remote }) m.word }; endpoint = refl }) e
 
 -- ---- sending and receiving
 
@@ -64,7 +66,7 @@ pub send_stays : (h k : HostView) (limit : Option ℕ) (bs : List ℕ) (o : Outc
 send_stays h k limit bs o i e = go (is_over limit _) e
   where
     take_some : (b : Bool) → may_send h.control_block.state ≡ b → SendsIf b h bs o k → StaysHost h k
-    take_some true m x = subst (StaysHost h) (sym x.1) (record { host = record { reachable = i.reachable; idle = λ u. absurd (cannot_send h i m u) }; endpoint = refl })
+    take_some true m x = subst (StaysHost h) (sym x.1) (record { host = record { reachable = i.reachable; idle = λ u. absurd (cannot_send h i m u); passive = passive_kept h (sending h bs) i refl (written_listens h.control_block bs); no_fin = written_fin h.control_block bs i.no_fin }; endpoint = refl })
     take_some false m x = unchanged h k i x.1
 
     go : (b : Bool) → SendsUnder b h bs o k → StaysHost h k
@@ -75,7 +77,7 @@ pub recv_stays : (h k : HostView) (size : ℕ) (o : Outcome) → IsHost h → Re
 recv_stays h k size o i e = go (may_recv h.control_block) refl e
   where
     go : (b : Bool) → may_recv h.control_block ≡ b → ReceivesIf b h size o k → StaysHost h k
-    go true m x = subst (StaysHost h) (sym x.1) (record { host = record { reachable = i.reachable; idle = λ u. absurd (cannot_recv h i m u) }; endpoint = refl })
+    go true m x = subst (StaysHost h) (sym x.1) (record { host = record { reachable = i.reachable; idle = λ u. absurd (cannot_recv h i m u); passive = passive_kept h (receiving h size) i refl (read_listens h.control_block (min size (length h.control_block.rx_buffer.bytes))); no_fin = read_fin h.control_block (min size (length h.control_block.rx_buffer.bytes)) i.no_fin }; endpoint = refl })
     go false m x = unchanged h k i x.1
 
 -- ---- dispatches and deliveries
@@ -90,7 +92,7 @@ idle_dispatches v w f fail r e d = (subst (λ (b : Begun). SendsFrom b.peer b.vi
 
 pub dispatch_stays : (s : Side) (m : Moment) (fail : Bool) (o : Outcome) (h k : HostView) (ts ts' : List StoredView) → IsHost h → Dispatches s m fail o h ts k ts' → StaysHost h k
 dispatch_stays s m fail o h k ts ts' i d = subst (StaysHost h) (sym d.does.same) (record {
-  host = record { reachable = i.reachable; idle = λ u. subst IsIdle (sym (idle_dispatches h.control_block k.control_block (facts_of m) fail d.sent (i.idle u).tuple d.does.socket)) (i.idle u) };
+  host = record { reachable = i.reachable; idle = λ u. subst IsIdle (sym (idle_dispatches h.control_block k.control_block (facts_of m) fail d.sent (i.idle u).tuple d.does.socket)) (i.idle u); passive = passive_kept h (record h { control_block = k.control_block }) i refl (dispatch_listens h.control_block k.control_block (facts_of m) fail d.sent d.does.socket); no_fin = dispatch_fin h.control_block k.control_block (facts_of m) fail d.sent d.does.socket i.no_fin };
   endpoint = refl;
 })
 
@@ -102,7 +104,7 @@ deliver_stays true s m t o h k ts ts' i d = unchanged h k i d.1.0
 deliver_stays false s m t o h k ts ts' i d = go d.accepted d.says.0 d.does
   where
     go : (b : Bool) → (IsTrue b → Accepts h.control_block t.ip t.segment) → DeliversIf b s m t o h ts k ts' → StaysHost h k
-    go true a x = subst (StaysHost h) (sym x.host) (record { host = record { reachable = i.reachable; idle = λ u. absurd (closed_accepts_none h.control_block t (i.idle u).state (a refl)) }; endpoint = refl })
+    go true a x = subst (StaysHost h) (sym x.host) (record { host = record { reachable = i.reachable; idle = λ u. absurd (closed_accepts_none h.control_block t (i.idle u).state (a refl)); passive = passive_kept h (delivered_to h m t) i refl (λ live. ((λ c. closed_accepts_none h.control_block t c (a refl)), process_listens h.control_block _ m.word t.ip t.segment)); no_fin = process_fin h.control_block _ m.word t.ip t.segment i.no_fin }; endpoint = refl })
     go false a x = unchanged h k i x.1.0
 
 -- ---- the pair
@@ -125,8 +127,12 @@ new_idle : (rx tx : Queue) → rx.bytes ≡ [] → tx.bytes ≡ [] → IsIdle (f
 unfolding fresh
 new_idle rx tx r t = record { state = refl; tuple = refl; rx = r; tx = t }
 
+new_fin : (rx tx : Queue) → (fresh rx tx).rx_fin_received ≡ false
+unfolding fresh
+new_fin rx tx = refl
+
 new_is_host : (rx tx : Queue) (e : IpEndpoint) → rx.bytes ≡ [] → tx.bytes ≡ [] → IsReachable e → IsHost (new_host (fresh rx tx) e)
-new_is_host rx tx e r t i = record { reachable = i; idle = λ u. new_idle rx tx r t }
+new_is_host rx tx e r t i = record { reachable = i; idle = λ u. new_idle rx tx r t; passive = λ shut live. absurd (shut refl); no_fin = new_fin rx tx }
 
 pub new_is_pair : (arx atx brx btx : Queue) (a b : IpEndpoint) (limit : Option ℕ) (ha hb : HostView) (ts : List StoredView) → ha ≡ new_host (fresh arx atx) a → hb ≡ new_host (fresh brx btx) b → ts ≡ [] → arx.bytes ≡ [] → atx.bytes ≡ [] → brx.bytes ≡ [] → btx.bytes ≡ [] → IsReachable a → IsReachable b → SameVersion a.addr b.addr → IsLimit limit → IsPair (record { a = ha; b = hb; segments = ts; limit = limit })
 new_is_pair arx atx brx btx a b limit ha hb ts ea eb et r1 t1 r2 t2 ia ib v l =

@@ -52,10 +52,6 @@ pub kept_with_segments_if : (D : Outcome → Type 0) (s : Side) (p : PairView) (
 kept_with_segments_if D s p k ts (Ok o) i d e f = f o d
 kept_with_segments_if D s p k ts (Err x) i d e f = subst IsPair (sym (ap (λ h. exchanged s p h ts) e.0 ∙ ap (exchanged s p (host_of s p)) e.1 ∙ same_exchange s p)) i
 
-pub if_both : (P Q : Outcome → Type 0) (r : Result Outcome PairError) → IfOk r P → IfOk r Q → IfOk r (λ o. P o × Q o)
-if_both P Q (Ok o) p q = (p, q)
-if_both P Q (Err x) p q = tt
-
 -- ---- the limit
 
 -- whether the bytes are over the limit, as the pair was

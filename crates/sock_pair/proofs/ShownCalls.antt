@@ -4,13 +4,13 @@ use Rattle.std.specs.Prelude.{min}
 use Rattle.ip_wire.specs.declared.endpoint.IpListenEndpoint.{IpListenEndpoint}
 use Rattle.sock_tcp.specs.View.{View, fresh}
 use Rattle.sock_tcp.specs.Opening.{listened, connected, renewed}
-use Rattle.sock_tcp.specs.Queues.{may_send, written, read_off}
+use Rattle.sock_tcp.specs.Queues.{may_send, queued, written, read_off}
 use Rattle.sock_tcp.specs.declared.state.State.{State}
 use Rattle.sock_tcp.specs.declared.state.State.TheVariants as state
 use Rattle.sock_tcp.specs.declared.tuple.Tuple.{Tuple}
 use Rattle.sock_pair.specs.NetworkRuns.{unopened}
 use Rattle.sock_pair.specs.PairNetwork.{phase_of, shown}
-use Rattle.sock_pair.specs.StreamViews.{Listening, SynSent, Sending}
+use Rattle.sock_pair.specs.StreamViews.{Listening, SynSent, Open}
 
 pub listened_shows : (v : View) (e : IpListenEndpoint) → shown (listened v e) ≡ record unopened.view { phase = Listening }
 unfolding listened renewed fresh
@@ -21,7 +21,7 @@ unfolding connected renewed fresh
 connected_shows v t word = refl
 
 pub written_shows : (v : View) (bs : List ℕ) → shown (written v bs) ≡ record (shown v) { transmit_queue = v.tx_buffer.bytes ++ take (min (length bs) v.tx_buffer.window) bs }
-unfolding written
+unfolding queued
 written_shows v bs = refl
 
 -- RCV.NXT stays where it is
@@ -33,7 +33,7 @@ read_shows v n le = λ i. record (shown v) { rcv_nxt = same i; receive_queue = d
     same = omega (arith, le, length-drop n v.rx_buffer.bytes)
 
 -- a state that sends is one of the phase
-pub sends_open : (st : State) → may_send st ≡ true → phase_of st ≡ Sending
+pub sends_open : (st : State) → may_send st ≡ true → phase_of st ≡ Open
 sends_open state.Established e = refl
 sends_open state.CloseWait e = refl
 sends_open state.Closed e = let no : false ≡ true = e in cc

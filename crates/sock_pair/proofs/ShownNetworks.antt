@@ -13,31 +13,34 @@ use Rattle.sock_pair.specs.Sides.{other_side}
 use Rattle.sock_pair.specs.StreamViews.{StreamSegment}
 use Rattle.sock_pair.specs.declared.side.Side.{Side}
 use Rattle.sock_pair.specs.declared.side.Side.TheVariants.{A, B}
+use Rattle.sock_pair.specs.NetworkRuns.{Reaches}
+use Rattle.sock_pair.proofs.NetworkReaches.{reach_swapped, stays_there}
 use Rattle.sock_pair.proofs.NetworkSteps.{swapped_keeps}
 
 -- ---- either side
 
--- as the side s sees it
-pub from_side : (s : Side) (p : PairView) → IsInvariant (network_of p) → IsInvariant (network_at s (host_of s p) (host_of (other_side s) p) p.segments p.limit)
+-- the pair as the side s sees it, with its host as k and these segments
+abbrev pub side_network : Side → PairView → HostView → List StoredView → Network
+side_network s p k ks = network_at s k (host_of (other_side s) p) ks p.limit
+
+pub from_side : (s : Side) (p : PairView) → IsInvariant (network_of p) → IsInvariant (side_network s p (host_of s p) p.segments)
 from_side A p i = i
 from_side B p i = swapped_keeps (network_of p) i
 
-pub exchanged_from : (s : Side) (p : PairView) (k : HostView) (ks : List StoredView) → IsInvariant (network_at s k (host_of (other_side s) p) ks p.limit) → IsInvariant (network_of (exchanged s p k ks))
-exchanged_from A p k ks i = i
-exchanged_from B p k ks i = swapped_keeps (network_at B k p.a ks p.limit) i
+pub exchanged_reached : (s : Side) (p : PairView) (k : HostView) (ks : List StoredView) → Reaches (side_network s p (host_of s p) p.segments) (side_network s p k ks) → Reaches (network_of p) (network_of (exchanged s p k ks))
+exchanged_reached A p k ks r = r
+exchanged_reached B p k ks r = reach_swapped (side_network B p p.b p.segments) (side_network B p k ks) r
 
-pub with_from : (s : Side) (p : PairView) (k : HostView) → IsInvariant (network_at s k (host_of (other_side s) p) p.segments p.limit) → IsInvariant (network_of (with_host s p k))
-with_from A p k i = i
-with_from B p k i = swapped_keeps (network_at B k p.a p.segments p.limit) i
+pub with_reached : (s : Side) (p : PairView) (k : HostView) → Reaches (side_network s p (host_of s p) p.segments) (side_network s p k p.segments) → Reaches (network_of p) (network_of (with_host s p k))
+with_reached A p k r = r
+with_reached B p k r = reach_swapped (side_network B p p.b p.segments) (side_network B p k p.segments) r
 
 -- nothing happened
-pub stays_from : (s : Side) (p : PairView) (k : HostView) → k ≡ host_of s p → IsInvariant (network_of p) → IsInvariant (network_of (with_host s p k))
-stays_from s p k e i = with_from s p k (subst (λ h. IsInvariant (network_at s h (host_of (other_side s) p) p.segments p.limit)) (sym e) (from_side s p i))
+pub stays_reached : (s : Side) (p : PairView) (k : HostView) → k ≡ host_of s p → Reaches (network_of p) (network_of (with_host s p k))
+stays_reached s p k e = with_reached s p k (stays_there _ _ (ap (λ h. side_network s p h p.segments) (sym e)))
 
-pub unchanged_from : (s : Side) (p : PairView) (k : HostView) (ks : List StoredView) → k ≡ host_of s p → ks ≡ p.segments → IsInvariant (network_of p) → IsInvariant (network_of (exchanged s p k ks))
-unchanged_from s p k ks e f i =
-    exchanged_from s p k ks (subst (λ h. IsInvariant (network_at s h (host_of (other_side s) p) ks p.limit)) (sym e)
-    (subst (λ ts. IsInvariant (network_at s (host_of s p) (host_of (other_side s) p) ts p.limit)) (sym f) (from_side s p i)))
+pub unchanged_reached : (s : Side) (p : PairView) (k : HostView) (ks : List StoredView) → k ≡ host_of s p → ks ≡ p.segments → Reaches (network_of p) (network_of (exchanged s p k ks))
+unchanged_reached s p k ks e f = exchanged_reached s p k ks (stays_there _ _ (ap (λ h. side_network s p h p.segments) (sym e) ∙ ap (side_network s p k) (sym f)))
 
 -- ---- what each side emitted
 
@@ -74,8 +77,8 @@ abbrev pub between : Side → Endpoint → Endpoint → List StoredView → Opti
 between s x y ks limit = record { local = x; remote = y; local_segments = sent_by s ks; remote_segments = sent_by (other_side s) ks; limit = limit }
 
 -- a segment of the side s is stored
-pub stores : (s : Side) (x y : Endpoint) (ks : List StoredView) (k : StoredView) (limit : Option ℕ) → k.emitter ≡ s → IsInvariant (emitted (between s x y ks limit) (shown_segment k)) → IsInvariant (between s x y (ks ++ k ∷ []) limit)
-stores s x y ks k limit e i = subst IsInvariant (λ j. record { local = x; remote = y; local_segments = own j; remote_segments = others j; limit = limit }) i
+pub stored_is : (s : Side) (x y : Endpoint) (ks : List StoredView) (k : StoredView) (limit : Option ℕ) → k.emitter ≡ s → emitted (between s x y ks limit) (shown_segment k) ≡ between s x y (ks ++ k ∷ []) limit
+stored_is s x y ks k limit e = λ j. record { local = x; remote = y; local_segments = own j; remote_segments = others j; limit = limit }
   where
     own : sent_by s ks ++ shown_segment k ∷ [] ≡ sent_by s (ks ++ k ∷ [])
     own = ap (λ gs. sent_by s ks ++ gs) (sym (sent_own s k e)) ∙ sym (sent_append s ks (k ∷ []))

@@ -18,7 +18,7 @@ use Rattle.sock_tcp.specs.View.{View}
 use Rattle.sock_tcp.specs.Verdict.{verdict_at, verdict_of}
 use Rattle.sock_tcp.specs.Window.{next_ack, window_end, receive_window, is_next_in_window}
 use Rattle.sock_tcp.specs.Steps.{Advance, acked_len, advanced, advance_in, stops, syn_received, syn_answered, syn_sent_advance, options_taken, window_taken, released, una_advanced, joined, segment_taken}
-use Rattle.sock_tcp.specs.Process.{Outcome, stopped, tuple_of, has_window, after_advance, processed_inside, tested, by_verdict, processed}
+use Rattle.sock_tcp.specs.Process.{Outcome, stopped, tuple_of, has_window, after_advance, processed_inside, tested, by_verdict, processed, Accepts}
 use Rattle.sock_tcp.specs.declared.state.State.{State}
 use Rattle.sock_tcp.specs.declared.state.State.TheVariants as state
 use Rattle.sock_tcp.specs.declared.verdict.Verdict.{Verdict}
@@ -26,8 +26,8 @@ use Rattle.sock_tcp.specs.declared.verdict.Verdict.TheVariants as verdicts
 use Rattle.sock_tcp.proofs.Acking.{acked_fits}
 use Rattle.sock_tcp.proofs.Windows.{kept_within}
 use Rattle.sock_pair.specs.PairLaws.{IsBounded}
-use Rattle.sock_pair.specs.PairNetwork.{phase_of, shown, stream_segment, is_rst, is_syn, IsSmall}
-use Rattle.sock_pair.specs.StreamCalls.{ProcessEffect, Nothing, Syn, SynAck, Acknowledgement}
+use Rattle.sock_pair.specs.PairNetwork.{phase_of, shown, stream_segment, is_passive, is_rst, is_syn, IsSmall}
+use Rattle.sock_pair.specs.StreamCalls.{HearEffect, ProcessEffect, Nothing, Syn, SynAck, Acknowledgement}
 use Rattle.sock_pair.specs.StreamEffects.{HearsData}
 use Rattle.sock_pair.specs.StreamTables.{OfBytes, OfSyn}
 use Rattle.sock_pair.specs.StreamViews as phase
@@ -115,7 +115,7 @@ module _ (listener : Bool) (v : View) (now : Instant) (word : ℕ) (ip : IpRepr)
   the_segment = stream_segment s at_release at_take
 
   abbrev IsEffect : Outcome → Type 0
-  IsEffect o = ProcessEffect listener (shown v) (shown o.view) the_segment
+  IsEffect o = HearEffect listener (shown v) (shown o.view) the_segment
 
   abbrev next_to : TcpSeqNumber
   next_to = seq_add v.local_seq_no 1
@@ -283,9 +283,9 @@ module _ (listener : Bool) (v : View) (now : Instant) (word : ℕ) (ip : IpRepr)
   by_the_verdict verdicts.Challenge e = unmoved
   by_the_verdict verdicts.Pass e = subst IsEffect (sym (same_tested (has_window v.state))) (at_state v.state s.control s.ack_number refl refl refl e)
 
-  pub process_heard : ProcessEffect listener (shown v) (shown (processed v now word ip s).view) (stream_segment s at_release at_take)
+  pub hears : HearEffect listener (shown v) (shown (processed v now word ip s).view) (stream_segment s at_release at_take)
   unfolding processed
-  process_heard = by_the_verdict (verdict_of v s.control s.ack_number) refl
+  hears = by_the_verdict (verdict_of v s.control s.ack_number) refl
 
 -- a segment gets no answer yet
 module _ (v : View) (now : Instant) (word : ℕ) (ip : IpRepr) (s : Segment) where
@@ -310,3 +310,15 @@ module _ (v : View) (now : Instant) (word : ℕ) (ip : IpRepr) (s : Segment) whe
   pub process_silent : (processed v now word ip s).reply ≡ None
   unfolding processed
   process_silent = verdict_silent (verdict_of v s.control s.ack_number)
+
+  -- what is heard, and what is answered
+  pub process_effect : (listener : Bool) (released taken released_then taken_then : ℕ) → HearEffect listener (shown v) (shown (processed v now word ip s).view) (stream_segment s released taken)
+      → ProcessEffect listener (shown v) (shown (processed v now word ip s).view) (stream_segment s released taken) (option_map (λ (r : IpRepr × Segment). stream_segment r.1 released_then taken_then) (processed v now word ip s).reply)
+  process_effect listener released taken released_then taken_then h =
+      subst (λ r. ProcessEffect listener (shown v) (shown (processed v now word ip s).view) (stream_segment s released taken) (option_map (λ (x : IpRepr × Segment). stream_segment x.1 released_then taken_then) r)) (sym process_silent)
+      (record { heard = shown (processed v now word ip s).view; hears = h; answers = tt; ends = inl refl })
+
+pub process_heard : (v : View) (now : Instant) (word : ℕ) (ip : IpRepr) (s : Segment) (released taken released_then taken_then : ℕ) → word < 2 ^ 32 → IsSmall s → capacity v.rx_buffer ≤ 2 ^ 30 → IsBounded v → Accepts v ip s
+    → ProcessEffect (is_passive v) (shown v) (shown (processed v now word ip s).view) (stream_segment s released taken) (option_map (λ (r : IpRepr × Segment). stream_segment r.1 released_then taken_then) (processed v now word ip s).reply)
+process_heard v now word ip s released taken released_then taken_then word_small small room bounds accepted =
+    process_effect v now word ip s (is_passive v) released taken released_then taken_then (hears (is_passive v) v now word ip s released taken word_small small room bounds)

@@ -15,7 +15,7 @@ use Rattle.sock_tcp.specs.Window.{next_ack, window_end, receive_window, is_next_
 use Rattle.sock_tcp.specs.Steps.{Advance, acked_of, advanced, advance_in, continues, window_taken, released, una_advanced, joined, segment_taken}
 use Rattle.sock_tcp.specs.Process.{Outcome, stopped, tuple_of, has_window, after_advance, processed_inside, tested, by_verdict, processed}
 use Rattle.sock_tcp.specs.declared.state.State.TheVariants as state
-use Rattle.sock_pair.specs.PairPromises.{IsInOrder}
+use Rattle.sock_pair.specs.PairPromises.{IsNextExpected}
 
 noted_queue : (w : View) (o : Option TcpSeqNumber) → (una_advanced w o).rx_buffer ≡ w.rx_buffer
 unfolding una_advanced
@@ -31,7 +31,7 @@ true_both true true x y = refl
 true_both true false x y = cc
 true_both false b x y = cc
 
-module _ (v : View) (now : Instant) (word : ℕ) (ip : IpRepr) (s : Segment) (i : IsInOrder v s) where
+module _ (v : View) (now : Instant) (word : ℕ) (ip : IpRepr) (s : Segment) (i : IsNextExpected v s) where
   abbrev Queues : Outcome → Type 0
   Queues o = o.view.rx_buffer.bytes ≡ v.rx_buffer.bytes ++ s.payload
 

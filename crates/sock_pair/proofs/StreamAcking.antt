@@ -7,7 +7,7 @@ use Rattle.sock_core.proofs.Streams.{le_from_at, prefix_self}
 use Rattle.sock_pair.specs.NetworkInvariant.{HasTrueAck, PhaseAllows, QueueFits, SendingMatches, SndUnaAt}
 use Rattle.sock_pair.specs.StreamEffects.{AcksBytes, AcksFin, AcksSyn, HearsAck, SndNxtWithin}
 use Rattle.sock_pair.specs.StreamModel.{Grows, IsSound, IsTrueAck, Stream}
-use Rattle.sock_pair.specs.StreamViews.{Closing, Dead, Listening, Phase, Sending, Silent, SocketView, StreamSegment, SynReceived, SynSent, Unopened}
+use Rattle.sock_pair.specs.StreamViews.{FinQueued, Dead, Listening, Phase, Open, Silent, SocketView, StreamSegment, SynReceived, SynSent, Unopened}
 use Rattle.sock_pair.proofs.StreamGrowth.{fin_length_le, sender_grows}
 use Rattle.sock_pair.proofs.StreamMatches.{syn_empty, syn_unacked}
 use Rattle.sock_pair.proofs.StreamSending.{place_ge, place_le, queue_length}
@@ -26,8 +26,8 @@ phase_released Unopened f place n e h = h
 phase_released Listening f place n e h = h
 phase_released SynSent f place n e h = absurd (omega (arith, h.0))
 phase_released SynReceived f place n e h = absurd (omega (arith, h.0))
-phase_released Sending f place n e h = (refl, h.1)
-phase_released Closing f place n e h = ⊎_elim (λ a. absurd (omega (arith, a))) (λ a. inr (refl, a.1)) h
+phase_released Open f place n e h = (refl, h.1)
+phase_released FinQueued f place n e h = ⊎_elim (λ a. absurd (omega (arith, a))) (λ a. inr (refl, a.1)) h
 phase_released Silent f place n e h = tt
 phase_released Dead f place n e h = h
 
@@ -89,7 +89,7 @@ module _ (o : ℕ) (f : Stream) (x w : SocketView) (g : StreamSegment) (s : IsSo
       (omega (arith, len, none), omega (arith, len, none), none)
 
   -- of the SYN
-  opens : (a : ℕ) → g.ack ≡ Some a → a ≡ (x.snd_una + 1) % 2 ^ 32 → (x.phase ≡ SynSent) ⊎ (x.phase ≡ SynReceived) → w.phase ≡ Sending → w.snd_una ≡ a → w.transmit_queue ≡ x.transmit_queue → SndNxtWithin w → (n : ℕ) × Grows f (released_more f n) × SendingMatches w o (released_more f n)
+  opens : (a : ℕ) → g.ack ≡ Some a → a ≡ (x.snd_una + 1) % 2 ^ 32 → (x.phase ≡ SynSent) ⊎ (x.phase ≡ SynReceived) → w.phase ≡ Open → w.snd_una ≡ a → w.transmit_queue ≡ x.transmit_queue → SndNxtWithin w → (n : ℕ) × Grows f (released_more f n) × SendingMatches w o (released_more f n)
   opens a e rel ph to b q nf =
       let k = ack_place a 1 e rel (omega arith) in
       let says = syn_unacked x.phase f t.place ph t.phase in
@@ -101,7 +101,7 @@ module _ (o : ℕ) (f : Stream) (x w : SocketView) (g : StreamSegment) (s : IsSo
       )
 
   -- of the FIN
-  ends : (a : ℕ) → g.ack ≡ Some a → a ≡ (x.snd_una + length x.transmit_queue + 1) % 2 ^ 32 → x.phase ≡ Closing → w.phase ≡ Silent → w.snd_una ≡ a → w.transmit_queue ≡ [] → SndNxtWithin w → (n : ℕ) × Grows f (released_more f n) × SendingMatches w o (released_more f n)
+  ends : (a : ℕ) → g.ack ≡ Some a → a ≡ (x.snd_una + length x.transmit_queue + 1) % 2 ^ 32 → x.phase ≡ FinQueued → w.phase ≡ Silent → w.snd_una ≡ a → w.transmit_queue ≡ [] → SndNxtWithin w → (n : ℕ) × Grows f (released_more f n) × SendingMatches w o (released_more f n)
   ends a e rel ph to b q nf =
       let n : ℕ = length x.transmit_queue in
       let rel' : a ≡ (x.snd_una + (length x.transmit_queue + 1)) % 2 ^ 32 = rel ∙ ap (λ m. m % 2 ^ 32) (omega arith) in

@@ -9,7 +9,7 @@ use Rattle.sock_pair.specs.Network.{Endpoint}
 use Rattle.sock_pair.specs.NetworkInvariant.{HasFallenBack, HasTrueAck, PhaseAllows, QueueFits, SameNumbers, SendingMatches}
 use Rattle.sock_pair.specs.StreamEffects.{AcksBytes, AcksFin, AcksSyn, HearsAck, SndNxtWithin}
 use Rattle.sock_pair.specs.StreamModel.{Grows, IsSound, Stream, counted}
-use Rattle.sock_pair.specs.StreamViews.{Sending, Silent, SocketView, StreamSegment}
+use Rattle.sock_pair.specs.StreamViews.{Open, Silent, SocketView, StreamSegment}
 use Rattle.sock_pair.proofs.StreamAcking.{ack_grows, released_grows, released_more}
 use Rattle.sock_pair.proofs.StreamMatches.{SameSent, sending_same, syn_unacked}
 use Rattle.sock_pair.proofs.StreamSending.{queue_length}
@@ -82,7 +82,7 @@ module _ (o ax : ℕ) (f : Stream) (x w : SocketView) (g : StreamSegment) (s : I
       same_origin ax o 2 (sym (k.1 ∙ ap (λ m. number_at ax (m + 2)) none) ∙ is_two)
 
   -- each acknowledgement leaves a sender that matches, and sends only where the numbers agree
-  pub fallen_back_ack : HearsAck x w g → SendingMatches w o (released_more f 0) × (SameNumbers ax o ⊎ ((x.phase ≡ Sending → ⊥) → w.phase ≡ Sending → ⊥))
+  pub fallen_back_ack : HearsAck x w g → SendingMatches w o (released_more f 0) × (SameNumbers ax o ⊎ ((x.phase ≡ Open → ⊥) → w.phase ≡ Open → ⊥))
   fallen_back_ack (AcksBytes a n e le rel ph b q nf) = (released_zero (acks a n le rel ph b q nf), inr (λ no c. no (sym ph ∙ c)))
   fallen_back_ack (AcksSyn a e rel ph to b q nf) =
       let two = second a (syn_unacked x.phase f t.place ph t.phase).0 rel in
@@ -91,7 +91,7 @@ module _ (o ax : ℕ) (f : Stream) (x w : SocketView) (g : StreamSegment) (s : I
       let says : (t.place ≡ 1) ⊎ ((t.place ≡ f.released + 2) × (f.closed ≡ true)) = subst (λ p. PhaseAllows p f t.place) ph t.phase in
       let rel' : a ≡ (x.snd_una + 1) % 2 ^ 32 = rel ∙ ap (λ m. m % 2 ^ 32) (omega (arith, nothing_yet.2)) in
       let one_code : t.place ≡ 1 = ⊎_elim (λ c. c) (λ c. let no : true ≡ false = sym c.1 ∙ open_yet in cc) says in
-      (released_zero (to_two a (second a one_code rel') b (q ∙ sym (drop_all f.released f.accepted (omega (arith, ap length empty)))) nf (subst (λ p. PhaseAllows p f 2) (sym to) tt)), inr (λ no c. let bad : Silent ≡ Sending = sym to ∙ c in cc))
+      (released_zero (to_two a (second a one_code rel') b (q ∙ sym (drop_all f.released f.accepted (omega (arith, ap length empty)))) nf (subst (λ p. PhaseAllows p f 2) (sym to) tt)), inr (λ no c. let bad : Silent ≡ Open = sym to ∙ c in cc))
 
 -- an acknowledgement that comes, whatever number it speaks of
 pub any_ack : (o ax : ℕ) (f : Stream) (x y z : Endpoint) (g : StreamSegment) → IsSound f → QueueFits f → SendingMatches x.view o f → HasTrueAck g ax f → (young : length f.joined < g.taken_at + 2 ^ 29) → SameNumbers ax o ⊎ HasFallenBack x y f → HearsAck x.view z.view g

@@ -8,7 +8,7 @@ use Rattle.sock_pair.specs.Network.{Endpoint}
 use Rattle.sock_pair.specs.NetworkInvariant.{HasReceivedNothing, HasSentNothing, PhaseAllows, ReceivingMatches, SendingMatches, SndUnaAt}
 use Rattle.sock_pair.specs.StreamEffects.{SameReceiving, SameSending}
 use Rattle.sock_pair.specs.StreamModel.{Stream, counted}
-use Rattle.sock_pair.specs.StreamViews.{Closing, Dead, Listening, Phase, Sending, Silent, SocketView, StreamSegment, SynReceived, SynSent, Unopened}
+use Rattle.sock_pair.specs.StreamViews.{FinQueued, Dead, Listening, Phase, Open, Silent, SocketView, StreamSegment, SynReceived, SynSent, Unopened}
 
 -- the receiving half of the stream stays
 pub record SameReceived (f g : Stream) : Type 0 where
@@ -53,8 +53,8 @@ phase_same Unopened f g place e h = h
 phase_same Listening f g place e h = h
 phase_same SynSent f g place e h = (h.0, e.closed ∙ h.1)
 phase_same SynReceived f g place e h = (h.0, e.closed ∙ h.1)
-phase_same Sending f g place e h = (omega (arith, h.0, e.released), e.closed ∙ h.1)
-phase_same Closing f g place e h = ⊎_elim (λ a. inl a) (λ a. inr (omega (arith, a.0, e.released), e.closed ∙ a.1)) h
+phase_same Open f g place e h = (omega (arith, h.0, e.released), e.closed ∙ h.1)
+phase_same FinQueued f g place e h = ⊎_elim (λ a. inl a) (λ a. inr (omega (arith, a.0, e.released), e.closed ∙ a.1)) h
 phase_same Silent f g place e h = tt
 phase_same Dead f g place e h = h
 

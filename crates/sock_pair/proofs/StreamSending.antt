@@ -6,7 +6,7 @@ use Rattle.sock_core.proofs.Streams.{byte_drop, byte_within, le_from_at}
 use Rattle.sock_pair.specs.NetworkInvariant.{HasTruePayload, PhaseAllows, SendingMatches}
 use Rattle.sock_pair.specs.StreamEffects.{SendsKeepAlive, SendsPayload}
 use Rattle.sock_pair.specs.StreamModel.{IsSound, Stream}
-use Rattle.sock_pair.specs.StreamViews.{Closing, SocketView, StreamSegment}
+use Rattle.sock_pair.specs.StreamViews.{FinQueued, SocketView, StreamSegment}
 
 module _ (o : ℕ) (f : Stream) (x : SocketView) (s : IsSound f) (t : SendingMatches x o f) where
   -- what is released was accepted
@@ -48,7 +48,7 @@ module _ (o : ℕ) (f : Stream) (x : SocketView) (s : IsSound f) (t : SendingMat
     fin_true : g.fin ≡ true → (t.place + d.skip + length g.payload ≤ 1) ⊎ ((f.closed ≡ true) × (t.place + d.skip + length g.payload ≡ length f.accepted + 2))
     fin_true e =
         let at_end : d.skip + length g.payload ≡ length x.transmit_queue = (d.fin e).1 in
-        let says : PhaseAllows Closing f t.place = subst (λ p. PhaseAllows p f t.place) (d.fin e).0 t.phase in
+        let says : PhaseAllows FinQueued f t.place = subst (λ p. PhaseAllows p f t.place) (d.fin e).0 t.phase in
         ⊎_elim
         (λ a. ⊎_elim
         (λ b. inl (omega (arith, at_end, a, ap length b.1, queue_length)))

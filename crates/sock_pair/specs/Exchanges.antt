@@ -6,9 +6,11 @@ use Rattle.sock_pair.specs.declared.moment.Moment.{Moment}
 use Rattle.sock_pair.specs.declared.outcome.Outcome.{Outcome}
 use Rattle.sock_pair.specs.declared.side.Side.{Side}
 
-abbrev pub DeliversAt : Option StoredView → ℕ → ℕ → Side → Moment → Outcome → HostView → List StoredView → HostView → List StoredView → Type 0
+abbrev pub DeliversAt : Option StoredView → ℕ → ℕ → Side → Moment → Outcome → HostView → List StoredView → HostView
+    → List StoredView → Type 0
 DeliversAt None released taken s m o h ks h' ks' = ⊥
-DeliversAt (Some t) released taken s m o h ks h' ks' = DeliversTo (is_too_old t.released_at released t.taken_at taken) s m t o h ks h' ks'
+DeliversAt (Some t) released taken s m o h ks h' ks' =
+    DeliversTo (is_too_old t.released_at released t.taken_at taken) s m t o h ks h' ks'
 
 abbrev pub ReachesSocketAt : Option StoredView → ℕ → ℕ → HostView → Type 0
 ReachesSocketAt None released taken h = ⊥

@@ -43,7 +43,13 @@ header_of ip s =
 
 abbrev pub stored_segment : Side → Header → List ℕ → ℕ → ℕ → StoredView
 stored_segment from_side h payload released taken =
-    record { emitter = from_side; ip = h.ip_repr; segment = segment_at h payload; released_at = released; taken_at = taken }
+    record {
+      emitter = from_side;
+      ip = h.ip_repr;
+      segment = segment_at h payload;
+      released_at = released;
+      taken_at = taken;
+    }
 
 -- a stored segment by value
 abbrev pub stored_of : Owned → StoredView
@@ -52,4 +58,5 @@ stored_of t = stored_segment t.from t.header t.payload.items t.released_at t.tak
 -- what the side s stores of a reply, with its counts
 abbrev pub kept_at : Side → Option (IpRepr × Segment) → ℕ → ℕ → List StoredView
 kept_at s None released taken = []
-kept_at s (Some r) released taken = record { emitter = s; ip = r.0; segment = r.1; released_at = released; taken_at = taken } ∷ []
+kept_at s (Some r) released taken =
+    record { emitter = s; ip = r.0; segment = r.1; released_at = released; taken_at = taken } ∷ []

@@ -14,5 +14,12 @@ facts_of m =
       source_ipv4 = λ _. None;
       source_ipv6 = λ _. record { 0 = replicate 16 0 };
       broadcast = λ _. false;
-      checksums = record { ipv4 = checksum.Both; udp = checksum.Both; tcp = checksum.Both; icmpv4 = checksum.Both; icmpv6 = checksum.Both };
+      checksums =
+          record {
+            ipv4 = checksum.Both;
+            udp = checksum.Both;
+            tcp = checksum.Both;
+            icmpv4 = checksum.Both;
+            icmpv6 = checksum.Both;
+          };
     }

@@ -1,11 +1,12 @@
--- What always holds of a network: each side's numbers stand at places of the two streams, and every segment ever emitted is true.
+-- What always holds of a network: each side's numbers stand at places of the two streams, and every segment ever
+-- emitted is true.
 use Rattle.std.specs.Prelude.{ℕ, ◌≡◌, ◌+◌, ◌^◌, ◌<◌, ◌≤◌, ◌⊎◌, true, false, List, [], ◌++◌, length, drop}
 use Rattle.std.specs.List.{Contains}
 use Rattle.std.specs.declared.option.Option.{Option}
 use Rattle.std.specs.declared.option.Option.TheVariants.{Some, None}
 use Rattle.sock_core.specs.Places.{number_at}
 use Rattle.sock_core.specs.Streams.{IsPrefix}
-use Rattle.sock_pair.specs.StreamViews.{Phase, Unopened, Listening, SynSent, SynReceived, Sending, Closing, Silent, Dead, SocketView, StreamSegment, HasIss, HasNoIss, KnowsPeer, IsNonSynchronized}
+use Rattle.sock_pair.specs.StreamViews.{Phase, Unopened, Listening, SynSent, SynReceived, Open, FinQueued, Silent, Dead, SocketView, StreamSegment, HasIss, HasNoIss, KnowsPeer, IsNonSynchronized}
 use Rattle.sock_pair.specs.StreamModel.{Stream, counted, PlacedPayload, IsTruePayload, IsTrueAck, IsSound}
 use Rattle.sock_pair.specs.Network.{Endpoint, Network, IsWithin}
 
@@ -20,16 +21,18 @@ pub record ReceivingMatches (v : SocketView) (hs : List ℕ) (o : ℕ) (f : Stre
 
 -- where SND.UNA stands: on the SYN, on the first byte not released, or past an acknowledged FIN
 abbrev pub SndUnaAt : SocketView → Stream → ℕ → Type 0
-SndUnaAt v f place = ((place ≡ 1) × (f.accepted ≡ [])) ⊎ (place ≡ f.released + 2) ⊎ ((place ≡ f.released + 3) × (f.released ≡ length f.accepted) × (v.phase ≡ Silent))
+SndUnaAt v f place = ((place ≡ 1) × (f.accepted ≡ [])) ⊎ (place ≡ f.released + 2)
+    ⊎ ((place ≡ f.released + 3) × (f.released ≡ length f.accepted) × (v.phase ≡ Silent))
 
--- What the phase says of the place of SND.UNA and of close. Closing with SND.UNA on the SYN comes of a close in SYN-RECEIVED
+-- What the phase says of the place of SND.UNA and of close. FinQueued with SND.UNA on the SYN comes of a close in
+-- SYN-RECEIVED
 abbrev pub PhaseAllows : Phase → Stream → ℕ → Type 0
 PhaseAllows Unopened f place = ⊥
 PhaseAllows Listening f place = ⊥
 PhaseAllows SynSent f place = (place ≡ 1) × (f.closed ≡ false)
 PhaseAllows SynReceived f place = (place ≡ 1) × (f.closed ≡ false)
-PhaseAllows Sending f place = (place ≡ f.released + 2) × (f.closed ≡ false)
-PhaseAllows Closing f place = (place ≡ 1) ⊎ ((place ≡ f.released + 2) × (f.closed ≡ true))
+PhaseAllows Open f place = (place ≡ f.released + 2) × (f.closed ≡ false)
+PhaseAllows FinQueued f place = (place ≡ 1) ⊎ ((place ≡ f.released + 2) × (f.closed ≡ true))
 PhaseAllows Silent f place = Unit {0}
 PhaseAllows Dead f place = ⊥
 
@@ -76,7 +79,8 @@ pub record StreamInvariant (sender receiver : Endpoint) (o : ℕ) (f : Stream) :
   pub receiving : KnowsPeer receiver.view.phase → ReceivingMatches receiver.view receiver.handed_out o f
   pub delivered : IsPrefix (receiver.handed_out ++ receiver.view.receive_queue) f.joined
   pub nothing_yet : IsNonSynchronized receiver.view.phase → HasReceivedNothing receiver f
-  pub finished : receiver.view.fin_counted ≡ true → (f.fin_counted ≡ true) × (receiver.handed_out ++ receiver.view.receive_queue ≡ f.joined)
+  pub finished : receiver.view.fin_counted ≡ true → (f.fin_counted ≡ true)
+      × (receiver.handed_out ++ receiver.view.receive_queue ≡ f.joined)
   pub taken : receiver.taken ≡ length f.joined
   pub unsent : HasNoIss sender.view.phase → HasSentNothing sender f
 
@@ -95,10 +99,11 @@ pub record HasTruePayload (g : StreamSegment) (o : ℕ) (f : Stream) : Type 0 wh
 pub record HasTrueAck (g : StreamSegment) (o : ℕ) (f : Stream) : Type 0 where
   pub says : (a : ℕ) → g.ack ≡ Some a → (k : ℕ) × (a ≡ number_at o (k + 2)) × IsTrueAck f k × (g.taken_at ≤ k)
 
--- A segment that the emitter sent to the receiver, where f is the stream from the emitter and h the one to it. An RST comes of a side that is
--- CLOSED for good, or goes to a side that connected
+-- A segment that the emitter sent to the receiver, where f is the stream from the emitter and h the one to it. An RST
+-- comes of a side that is CLOSED for good, or goes to a side that connected
 pub record IsTrueSegment (emitter receiver : Endpoint) (g : StreamSegment) (of oh : ℕ) (f h : Stream) : Type 0 where
-  pub reset : g.rst ≡ true → (emitter.view.phase ≡ Dead) ⊎ ((receiver.listener ≡ false) × (HasNoIss receiver.view.phase → ⊥))
+  pub reset : g.rst ≡ true → (emitter.view.phase ≡ Dead)
+      ⊎ ((receiver.listener ≡ false) × (HasNoIss receiver.view.phase → ⊥))
   pub payload : g.rst ≡ false → HasTruePayload g of f
   pub ack : g.rst ≡ false → HasTrueAck g oh h
   pub syn : g.rst ≡ false → g.syn ≡ true → g.seq ≡ number_at of 1
@@ -107,13 +112,13 @@ pub record IsTrueSegment (emitter receiver : Endpoint) (g : StreamSegment) (of o
 abbrev pub SameNumbers : ℕ → ℕ → Type 0
 SameNumbers a o = (place : ℕ) → number_at a place ≡ number_at o place
 
--- The side fell back to LISTEN. Then its peer is CLOSED for good, all its acknowledgements are of an earlier initial number of the side, and in
--- the side's stream nothing was sent
+-- The side fell back to LISTEN. Then its peer is CLOSED for good, all its acknowledgements are of an earlier initial
+-- number of the side, and in the side's stream nothing was sent
 pub record HasFallenBack (side peer : Endpoint) (f : Stream) : Type 0 where
   pub dead : peer.view.phase ≡ Dead
   pub accepted : f.accepted ≡ []
   pub closed : f.closed ≡ false
-  pub not_sending : side.view.phase ≡ Sending → ⊥
+  pub not_sending : side.view.phase ≡ Open → ⊥
 
 -- no segment speaks of an initial number that is not chosen yet
 pub record IsUnspoken (own peers : List StreamSegment) (peer : Endpoint) : Type 0 where
@@ -128,8 +133,8 @@ abbrev pub IsLimit : Option ℕ → Type 0
 IsLimit None = Unit {0}
 IsLimit (Some limit) = limit < 2 ^ 29
 
--- What always holds. The outgoing stream is that from the local side to the remote one, and the incoming one the other. A stream's acked origin is
--- the one by which its receiver's segments acknowledge it
+-- What always holds. The outgoing stream is that from the local side to the remote one, and the incoming one the other.
+-- A stream's acked origin is the one by which its receiver's segments acknowledge it
 pub record IsInvariant (w : Network) : Type 0 where
   pub local_origin : ℕ
   pub remote_origin : ℕ
@@ -139,14 +144,18 @@ pub record IsInvariant (w : Network) : Type 0 where
   pub incoming : Stream
   pub outgoing_holds : StreamInvariant w.local w.remote local_origin outgoing
   pub incoming_holds : StreamInvariant w.remote w.local remote_origin incoming
-  pub local_true : (g : StreamSegment) → Contains w.local_segments g → (w.remote.view.phase ≡ Dead) ⊎ IsTrueSegment w.local w.remote g local_origin remote_acked_origin outgoing incoming
-  pub remote_true : (g : StreamSegment) → Contains w.remote_segments g → (w.local.view.phase ≡ Dead) ⊎ IsTrueSegment w.remote w.local g remote_origin local_acked_origin incoming outgoing
+  pub local_true : (g : StreamSegment) → Contains w.local_segments g → (w.remote.view.phase ≡ Dead)
+      ⊎ IsTrueSegment w.local w.remote g local_origin remote_acked_origin outgoing incoming
+  pub remote_true : (g : StreamSegment) → Contains w.remote_segments g → (w.local.view.phase ≡ Dead)
+      ⊎ IsTrueSegment w.remote w.local g remote_origin local_acked_origin incoming outgoing
   pub local_numbers : SameNumbers local_acked_origin local_origin ⊎ HasFallenBack w.local w.remote outgoing
   pub remote_numbers : SameNumbers remote_acked_origin remote_origin ⊎ HasFallenBack w.remote w.local incoming
   pub local_connects : w.local.view.phase ≡ SynSent → w.local.listener ≡ false
   pub remote_connects : w.remote.view.phase ≡ SynSent → w.remote.listener ≡ false
-  pub local_unspoken : HasNoIss w.local.view.phase → IsUnspoken w.local_segments w.remote_segments w.remote ⊎ (w.remote.view.phase ≡ Dead)
-  pub remote_unspoken : HasNoIss w.remote.view.phase → IsUnspoken w.remote_segments w.local_segments w.local ⊎ (w.local.view.phase ≡ Dead)
+  pub local_unspoken : HasNoIss w.local.view.phase → IsUnspoken w.local_segments w.remote_segments w.remote
+      ⊎ (w.remote.view.phase ≡ Dead)
+  pub remote_unspoken : HasNoIss w.remote.view.phase → IsUnspoken w.remote_segments w.local_segments w.local
+      ⊎ (w.local.view.phase ≡ Dead)
   pub limited : IsLimit w.limit
   pub local_within : IsWithin w.limit w.local.accepted
   pub remote_within : IsWithin w.limit w.remote.accepted

@@ -2,17 +2,18 @@
 use Rattle.std.specs.Prelude.{ℕ, ◌≡◌, ◌≤◌, ◌⊎◌, true, false, List, [], ◌∷◌, ◌++◌, length}
 use Rattle.std.specs.List.{Contains}
 use Rattle.std.specs.declared.option.Option.{Option}
-use Rattle.std.specs.declared.option.Option.TheVariants.{None}
+use Rattle.std.specs.declared.option.Option.TheVariants.{Some, None}
 use Rattle.sock_core.specs.Streams.{IsPrefix}
-use Rattle.sock_pair.specs.StreamViews.{Unopened, Sending, StreamSegment}
-use Rattle.sock_pair.specs.Network.{Endpoint, Network, swapped, Step, AnswersFinished}
+use Rattle.sock_pair.specs.StreamViews.{Unopened, Open, StreamSegment}
+use Rattle.sock_pair.specs.Network.{Endpoint, Network, emitted, swapped, Step, AnswersFinished}
 
 -- either side takes a step
 abbrev pub EitherSteps : Network → Network → Type 0
 EitherSteps old new = Step old new ⊎ Step (swapped old) (swapped new)
 
--- A step touches nothing of the remote side. Of the local side it adds to the segments and to what was handed out, and the counts never fall. Bytes are
--- accepted in ESTABLISHED and CLOSE-WAIT alone, and only a close there marks the side as closed
+-- A step touches nothing of the remote side. Of the local side it adds to the segments and to what was handed out, and
+-- the counts never fall. Bytes are accepted in ESTABLISHED and CLOSE-WAIT alone, and only a close there marks the side
+-- as closed
 pub record OnlyAdds (old new : Network) : Type 0 where
   pub remote : new.remote ≡ old.remote
   pub remote_segments : new.remote_segments ≡ old.remote_segments
@@ -21,17 +22,38 @@ pub record OnlyAdds (old new : Network) : Type 0 where
   pub handed_out : IsPrefix old.local.handed_out new.local.handed_out
   pub released : old.local.released ≤ new.local.released
   pub taken : old.local.taken ≤ new.local.taken
-  pub accepted : (new.local.accepted ≡ old.local.accepted) ⊎ ((old.local.view.phase ≡ Sending) × IsPrefix old.local.accepted new.local.accepted)
-  pub closed : (new.local.closed ≡ old.local.closed) ⊎ ((old.local.view.phase ≡ Sending) × (new.local.closed ≡ true))
+  pub accepted : (new.local.accepted ≡ old.local.accepted)
+      ⊎ ((old.local.view.phase ≡ Open) × IsPrefix old.local.accepted new.local.accepted)
+  pub closed : (new.local.closed ≡ old.local.closed) ⊎ ((old.local.view.phase ≡ Open) × (new.local.closed ≡ true))
 
--- A run from the one network to the other: the list has each network on the way, one step after the one before it. Each beginning of a run is a run
+-- A run from the one network to the other: the list has each network on the way, one step after the one before it. Each
+-- beginning of a run is a run
 abbrev pub Run : Network → List Network → Network → Type 0
 Run w [] v = w ≡ v
 Run w (u ∷ us) v = EitherSteps w u × Run u us v
 
+-- some run leads from the one network to the other
+abbrev pub Reaches : Network → Network → Type 0
+Reaches w v = (way : List Network) × Run w way v
+
+-- the local side answered, or did not
+abbrev pub answered : Network → Option StreamSegment → Network
+answered w None = w
+answered w (Some answer) = emitted w answer
+
 abbrev pub unopened : Endpoint
 unopened = record {
-  view = record { phase = Unopened; snd_una = 0; snd_nxt = 0; rcv_nxt = 0; transmit_queue = []; receive_queue = []; held = λ k. None; fin_counted = false };
+  view =
+      record {
+        phase = Unopened;
+        snd_una = 0;
+        snd_nxt = 0;
+        rcv_nxt = 0;
+        transmit_queue = [];
+        receive_queue = [];
+        held = λ k. None;
+        fin_counted = false;
+      };
   accepted = [];
   handed_out = [];
   released = 0;
@@ -62,15 +84,16 @@ pub record AreDelivered (w : Network) : Type 0 where
 -- the promise holds after every run, and in every network on its way
 pub record AlwaysDelivers (limit : Option ℕ) : Type 0 where
   pub at_the_end : (way : List Network) (end : Network) → Run (start limit) way end → AreDelivered end
-  pub on_the_way : (way : List Network) (end : Network) → Run (start limit) way end → (w : Network) → Contains way w → AreDelivered w
+  pub on_the_way : (way : List Network) (end : Network) → Run (start limit) way end → (w : Network) → Contains way w
+      → AreDelivered w
 
 -- a read of the local side that answers Finished
 pub record FinishedRead (old new : Network) : Type 0 where
   pub finished : AnswersFinished old.local
   pub same : new ≡ old
 
--- After any run, a read that answers Finished finds the other side closed and all its bytes handed out. The step is the reader's: for the
--- other side's read the networks are swapped
+-- After any run, a read that answers Finished finds the other side closed and all its bytes handed out. The step is the
+-- reader's: for the other side's read the networks are swapped
 pub record AlwaysCompletes (limit : Option ℕ) : Type 0 where
   pub is_step : (old new : Network) → FinishedRead old new → Step old new
   pub local_read : (way : List Network) (old new : Network)

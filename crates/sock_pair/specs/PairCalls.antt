@@ -15,10 +15,18 @@ use Rattle.sock_pair.specs.PairViews.{HostView}
 -- ---- opening: each side once
 
 abbrev pub listening : HostView → HostView
-listening h = record h { control_block = listened h.control_block (record { addr = Some h.endpoint.addr; port = h.endpoint.port }); opening = opening.Listener }
+listening h =
+    record h {
+      control_block = listened h.control_block (record { addr = Some h.endpoint.addr; port = h.endpoint.port });
+      opening = opening.Listener;
+    }
 
 abbrev pub connecting : HostView → Moment → IpEndpoint → HostView
-connecting h m remote = record h { control_block = connected h.control_block (record { local = h.endpoint; remote = remote }) m.word; opening = opening.Connector }
+connecting h m remote =
+    record h {
+      control_block = connected h.control_block (record { local = h.endpoint; remote = remote }) m.word;
+      opening = opening.Connector;
+    }
 
 -- h opens as k, or was opened before
 abbrev pub OpensAs : Opening → HostView → HostView → Outcome → HostView → Type 0
@@ -35,7 +43,8 @@ abbrev pub sending : HostView → List ℕ → HostView
 sending h bs = record h { control_block = written h.control_block bs; accepted = h.accepted ++ accepted_of h bs }
 
 abbrev pub SendsIf : Bool → HostView → List ℕ → Outcome → HostView → Type 0
-SendsIf true h bs o new = (o ≡ outcome.Accepted (min (length bs) h.control_block.tx_buffer.window)) × (new ≡ sending h bs)
+SendsIf true h bs o new = (o ≡ outcome.Accepted (min (length bs) h.control_block.tx_buffer.window))
+    × (new ≡ sending h bs)
 SendsIf false h bs o new = (o ≡ outcome.SendRefused send_error.InvalidState) × (new ≡ h)
 
 -- the limit is tested before the socket is asked
@@ -56,7 +65,11 @@ abbrev pub read_of : HostView → ℕ → List ℕ
 read_of h size = take (min size (length h.control_block.rx_buffer.bytes)) h.control_block.rx_buffer.bytes
 
 abbrev pub receiving : HostView → ℕ → HostView
-receiving h size = record h { control_block = read_off h.control_block (min size (length h.control_block.rx_buffer.bytes)); handed_out = h.handed_out ++ read_of h size }
+receiving h size =
+    record h {
+      control_block = read_off h.control_block (min size (length h.control_block.rx_buffer.bytes));
+      handed_out = h.handed_out ++ read_of h size;
+    }
 
 abbrev pub IsRead : Outcome → List ℕ → Type 0
 IsRead (outcome.Read v) bs = v.items ≡ bs

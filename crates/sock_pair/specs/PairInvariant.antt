@@ -1,12 +1,16 @@
 -- What holds of every pair.
-use Rattle.std.specs.Prelude.{◌≡◌, ◌<◌, [], None, false}
+use Rattle.std.specs.Prelude.{◌≡◌, ◌<◌, ◌≤◌, ◌^◌, [], None, false, slice_get}
+use Rattle.std.specs.Option.{ForSome}
 use Rattle.ip_wire.specs.Address.{SameVersion, is_unspecified}
 use Rattle.ip_wire.specs.declared.endpoint.IpEndpoint.{IpEndpoint}
+use Rattle.sock_tcp.specs.Queue.{capacity}
 use Rattle.sock_tcp.specs.View.{View}
 use Rattle.sock_tcp.specs.declared.state.State.TheVariants as state
 use Rattle.sock_pair.specs.NetworkInvariant.{IsInvariant}
-use Rattle.sock_pair.specs.PairNetwork.{network_of}
+use Rattle.sock_pair.specs.PairNetwork.{is_listener, is_passive, network_of, IsSmall}
 use Rattle.sock_pair.specs.PairViews.{HostView, PairView}
+use Rattle.sock_pair.specs.declared.event.Event.{Event}
+use Rattle.sock_pair.specs.declared.event.Event.TheVariants as event
 use Rattle.sock_pair.specs.declared.host.Opening.TheVariants as opening
 
 -- a socket that was never opened
@@ -24,6 +28,11 @@ pub record IsReachable (e : IpEndpoint) : Type 0 where
 pub record IsHost (h : HostView) : Type 0 where
   pub reachable : IsReachable h.endpoint
   pub idle : h.opening ≡ opening.Unopened → IsIdle h.control_block
+  -- a socket that is not CLOSED listens on a port exactly where it was opened by listen
+  pub passive : (h.opening ≡ opening.Unopened → ⊥) → (h.control_block.state ≡ state.Closed → ⊥)
+      → is_passive h.control_block ≡ is_listener h.opening
+  -- no FIN is counted yet
+  pub no_fin : h.control_block.rx_fin_received ≡ false
 
 -- both sockets can be connected, and the network that the pair shows meets the invariant of the theorem on two streams
 pub record IsPair (p : PairView) : Type 0 where
@@ -31,3 +40,20 @@ pub record IsPair (p : PairView) : Type 0 where
   pub b : IsHost p.b
   pub versions : SameVersion p.a.endpoint.addr p.b.endpoint.addr
   pub network : IsInvariant (network_of p)
+
+-- ---- what the types of a pair say of its numbers
+
+-- a segment that is delivered has numbers of 32 bits
+abbrev pub DeliversSmall : Event → PairView → Type 0
+DeliversSmall (event.Deliver i m) p = ForSome (slice_get p.segments i) (λ t. IsSmall t.segment)
+DeliversSmall _ p = Unit {0}
+
+pub record HasSmallBuffers (v : View) : Type 0 where
+  pub receive : capacity v.rx_buffer ≤ 2 ^ 30
+  pub transmit : capacity v.tx_buffer ≤ 2 ^ 30
+
+-- buffers have at most 2^30 bytes
+pub record IsSized (e : Event) (p : PairView) : Type 0 where
+  pub a : HasSmallBuffers p.a.control_block
+  pub b : HasSmallBuffers p.b.control_block
+  pub delivered : DeliversSmall e p

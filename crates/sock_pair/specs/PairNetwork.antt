@@ -1,5 +1,5 @@
 -- The network of the theorem on two streams that a pair shows.
-use Rattle.std.specs.Prelude.{ℕ, ◌<◌, ◌^◌, List, [], ◌∷◌, Bool, true, false, option_map}
+use Rattle.std.specs.Prelude.{ℕ, ◌<◌, ◌^◌, List, [], ◌∷◌, Bool, true, false, not, ◌==◌, option_map}
 use Rattle.std.specs.declared.option.Option.{Option}
 use Rattle.std.specs.declared.option.Option.TheVariants.{None}
 use Rattle.std.specs.Option.{ForSome}
@@ -28,15 +28,26 @@ phase_of state.Closed = phase.Dead
 phase_of state.Listen = phase.Listening
 phase_of state.SynSent = phase.SynSent
 phase_of state.SynReceived = phase.SynReceived
-phase_of state.Established = phase.Sending
-phase_of state.CloseWait = phase.Sending
-phase_of state.FinWait1 = phase.Closing
-phase_of state.Closing = phase.Closing
-phase_of state.LastAck = phase.Closing
+phase_of state.Established = phase.Open
+phase_of state.CloseWait = phase.Open
+phase_of state.FinWait1 = phase.FinQueued
+phase_of state.Closing = phase.FinQueued
+phase_of state.LastAck = phase.FinQueued
 phase_of state.FinWait2 = phase.Silent
 phase_of state.TimeWait = phase.Silent
 
--- no byte is held out of order yet, and no FIN counted
+-- the bytes that the socket holds out of order, by their offset from the receive queue's end: it holds none yet
+abbrev pub held_bytes : View → ℕ → Option ℕ
+held_bytes v = λ k. None
+
+-- whether it counted the peer's FIN: it counts none yet
+abbrev pub counted_fin : View → Bool
+counted_fin v = false
+
+-- it was opened by listen: exactly then the port that it listens on is not zero
+abbrev pub is_passive : View → Bool
+is_passive v = not (v.listen_endpoint.port == 0)
+
 abbrev pub shown : View → SocketView
 shown v =
     record {
@@ -46,8 +57,8 @@ shown v =
       rcv_nxt = (next_ack v).0;
       transmit_queue = v.tx_buffer.bytes;
       receive_queue = v.rx_buffer.bytes;
-      held = λ k. None;
-      fin_counted = false;
+      held = held_bytes v;
+      fin_counted = counted_fin v;
     }
 
 abbrev pub seen : Opening → View → SocketView
@@ -117,7 +128,13 @@ sent_by s (k ∷ ks) = kept_if s k.emitter (shown_segment k) (sent_by s ks)
 
 abbrev pub network_at : Side → HostView → HostView → List StoredView → Option ℕ → Network
 network_at s h o ks limit =
-    record { local = endpoint_of h; remote = endpoint_of o; local_segments = sent_by s ks; remote_segments = sent_by (other_side s) ks; limit = limit }
+    record {
+      local = endpoint_of h;
+      remote = endpoint_of o;
+      local_segments = sent_by s ks;
+      remote_segments = sent_by (other_side s) ks;
+      limit = limit;
+    }
 
 -- as side A sees it
 abbrev pub network_of : PairView → Network

@@ -47,22 +47,27 @@ Complete _ = Unit {0}
 
 -- ---- Prompt
 
--- The segment s may bring bytes to the socket v: the state has a receive queue, the acknowledgement passes, and nothing but bytes is asked for. And it
--- is in order: it starts at RCV.NXT, and ends at or before the right edge of the receive window
-pub record IsInOrder (v : View) (s : Segment) : Type 0 where
+-- The segment s may bring bytes to the socket v: the state has a receive queue, the acknowledgement passes, and nothing
+-- but bytes is asked for. It starts at RCV.NXT, the next number expected, and ends at or before the right edge of the
+-- receive window. (Segments in order are those that start at RCV.NXT or before it; the socket takes no others of them
+-- yet)
+pub record IsNextExpected (v : View) (s : Segment) : Type 0 where
   pub state : (v.state ≡ state.SynReceived) ⊎ (v.state ≡ state.Established)
   pub passes : verdict_of v s.control s.ack_number ≡ verdicts.Pass
   pub plain : is_plain s.control ≡ true
   pub starts : s.seq_number ≡ next_ack v
   pub ends : length s.payload ≤ seq_sub (window_end v v.remote_last_ack) (next_ack v)
 
--- a delivery of the segment t found the receiver as old, and left it as new: the whole payload of a segment in order joined the receive queue
+-- a delivery of the segment t found the receiver as old, and left it as new: the whole payload of a segment in order
+-- joined the receive queue
 pub record IsPrompt (t : StoredView) (old new : HostView) : Type 0 where
-  pub queued : IsInOrder old.control_block t.segment → new.control_block.rx_buffer.bytes ≡ old.control_block.rx_buffer.bytes ++ t.segment.payload
+  pub queued : IsNextExpected old.control_block t.segment
+      → new.control_block.rx_buffer.bytes ≡ old.control_block.rx_buffer.bytes ++ t.segment.payload
 
 -- so at each delivery of a pair that a side accepts
 abbrev pub IsPromptAt : ℕ → PairView → Outcome → PairView → Type 0
-IsPromptAt i p o q = (t : StoredView) (reply : Option ℕ) → slice_get p.segments i ≡ Some t → o ≡ outcome.Delivered reply → IsPrompt t (host_of (other_side t.emitter) p) (host_of (other_side t.emitter) q)
+IsPromptAt i p o q = (t : StoredView) (reply : Option ℕ) → slice_get p.segments i ≡ Some t
+    → o ≡ outcome.Delivered reply → IsPrompt t (host_of (other_side t.emitter) p) (host_of (other_side t.emitter) q)
 
 abbrev pub Prompt : Event → PairView → Outcome → PairView → Type 0
 Prompt (event.Deliver i m) p o q = IsPromptAt i p o q

@@ -21,8 +21,8 @@ EventRun [] p [] q = p ≡ q
 EventRun (e ∷ es) p (o ∷ os) q = (r : PairView) × Happens e p o r × EventRun es r os q
 EventRun _ _ _ _ = ⊥
 
--- A run that did as many of the first events as it added outcomes to the list before. What each side accepted and handed out
--- is what it had, followed by what these outcomes say
+-- A run that did as many of the first events as it added outcomes to the list before. What each side accepted and
+-- handed out is what it had, followed by what these outcomes say
 pub record Ran (es : List Event) (p : PairView) (before after : List Outcome) (q : PairView) : Type 0 where
   pub outcomes : List Outcome
   pub are : after ≡ before ++ outcomes

@@ -30,7 +30,8 @@ abbrev pub exchanged : Side → PairView → HostView → List StoredView → Pa
 exchanged s p h ks = record (with_host s p h) { segments = ks }
 
 -- the list of segments changes too
-pub record OneSideAndSegments (s : Side) (p q : PairView) (Changes : HostView → List StoredView → HostView → List StoredView → Type 0) : Type 0 where
+pub record OneSideAndSegments (s : Side) (p q : PairView)
+    (Changes : HostView → List StoredView → HostView → List StoredView → Type 0) : Type 0 where
   pub host : HostView
   pub segments : List StoredView
   pub does : Changes (host_of s p) p.segments host segments
@@ -53,7 +54,8 @@ pub record HostDispatches (m : Moment) (fail : Bool) (h : HostView) (r : Sent) (
   pub socket : SocketDispatches h.control_block (facts_of m) fail r k.control_block
   pub same : k ≡ record h { control_block = k.control_block }
 
-pub record Dispatches (s : Side) (m : Moment) (fail : Bool) (o : Outcome) (h : HostView) (ks : List StoredView) (h' : HostView) (ks' : List StoredView) : Type 0 where
+pub record Dispatches (s : Side) (m : Moment) (fail : Bool) (o : Outcome) (h : HostView) (ks : List StoredView)
+    (h' : HostView) (ks' : List StoredView) : Type 0 where
   pub sent : Sent
   pub does : HostDispatches m fail h sent h'
   pub answer : o ≡ dispatch_outcome sent (length ks)
@@ -63,7 +65,8 @@ pub record Dispatches (s : Side) (m : Moment) (fail : Bool) (o : Outcome) (h : H
 
 -- one of the emitter's counts grew by 2^29 or more since
 abbrev pub is_too_old : ℕ → ℕ → ℕ → ℕ → Bool
-is_too_old released_at released_now taken_at taken_now = nat_le (2 ^ 29) (released_now - released_at) || nat_le (2 ^ 29) (taken_now - taken_at)
+is_too_old released_at released_now taken_at taken_now =
+    nat_le (2 ^ 29) (released_now - released_at) || nat_le (2 ^ 29) (taken_now - taken_at)
 
 abbrev pub is_old : HostView → StoredView → Bool
 is_old emitter t = is_too_old t.released_at emitter.released t.taken_at emitter.taken
@@ -76,7 +79,8 @@ abbrev pub delivered_to : HostView → Moment → StoredView → HostView
 delivered_to h m t =
     record h {
       control_block = (processed_by h m t).view;
-      released = h.released + (length h.control_block.tx_buffer.bytes - length (processed_by h m t).view.tx_buffer.bytes);
+      released = h.released +
+          (length h.control_block.tx_buffer.bytes - length (processed_by h m t).view.tx_buffer.bytes);
       taken = h.taken + (length (processed_by h m t).view.rx_buffer.bytes - length h.control_block.rx_buffer.bytes);
     }
 
@@ -87,28 +91,34 @@ abbrev pub IsUnchanged : HostView → List StoredView → HostView → List Stor
 IsUnchanged h ks h' ks' = (h' ≡ h) × (ks' ≡ ks)
 
 -- the segment is processed, and the reply is stored with the counts after that
-pub record IsProcessed (s : Side) (m : Moment) (t : StoredView) (o : Outcome) (h : HostView) (ks : List StoredView) (h' : HostView) (ks' : List StoredView) : Type 0 where
+pub record IsProcessed (s : Side) (m : Moment) (t : StoredView) (o : Outcome) (h : HostView) (ks : List StoredView)
+    (h' : HostView) (ks' : List StoredView) : Type 0 where
   pub answer : o ≡ outcome.Delivered (reply_index (length ks) (processed_by h m t).reply)
   pub host : h' ≡ delivered_to h m t
   pub stored : ks' ≡ ks ++ kept_at s (processed_by h m t).reply (delivered_to h m t).released (delivered_to h m t).taken
 
-abbrev pub DeliversIf : Bool → Side → Moment → StoredView → Outcome → HostView → List StoredView → HostView → List StoredView → Type 0
+abbrev pub DeliversIf : Bool → Side → Moment → StoredView → Outcome → HostView → List StoredView → HostView
+    → List StoredView → Type 0
 DeliversIf true s m t o h ks h' ks' = IsProcessed s m t o h ks h' ks'
 DeliversIf false s m t o h ks h' ks' = (o ≡ outcome.NotAccepted None) × IsUnchanged h ks h' ks'
 
 -- what `accepts` answers decides
-pub record DeliversYoung (s : Side) (m : Moment) (t : StoredView) (o : Outcome) (h : HostView) (ks : List StoredView) (h' : HostView) (ks' : List StoredView) : Type 0 where
+pub record DeliversYoung (s : Side) (m : Moment) (t : StoredView) (o : Outcome) (h : HostView) (ks : List StoredView)
+    (h' : HostView) (ks' : List StoredView) : Type 0 where
   pub accepted : Bool
   pub says : IsTrue accepted ↔ Accepts h.control_block t.ip t.segment
   pub does : DeliversIf accepted s m t o h ks h' ks'
 
-abbrev pub DeliversTo : Bool → Side → Moment → StoredView → Outcome → HostView → List StoredView → HostView → List StoredView → Type 0
+abbrev pub DeliversTo : Bool → Side → Moment → StoredView → Outcome → HostView → List StoredView → HostView
+    → List StoredView → Type 0
 DeliversTo true s m t o h ks h' ks' = (o ≡ outcome.TooOld) × IsUnchanged h ks h' ks'
 DeliversTo false s m t o h ks h' ks' = DeliversYoung s m t o h ks h' ks'
 
 abbrev pub Delivers : Option StoredView → Moment → PairView → Outcome → PairView → Type 0
 Delivers None m p o q = (o ≡ outcome.NoSegment) × (q ≡ p)
-Delivers (Some t) m p o q = OneSideAndSegments (other_side t.emitter) p q (DeliversTo (is_old (host_of t.emitter p) t) (other_side t.emitter) m t o)
+Delivers (Some t) m p o q =
+    OneSideAndSegments (other_side t.emitter) p q
+    (DeliversTo (is_old (host_of t.emitter p) t) (other_side t.emitter) m t o)
 
 -- ---- which events take memory
 
@@ -134,7 +144,8 @@ TakesMemory (event.Deliver i m) p = DeliveryTakesMemory (slice_get p.segments i)
 -- what an event does to a pair, with its outcome
 abbrev pub EventStep : Event → PairView → Outcome → PairView → Type 0
 EventStep (event.Listen s) p o q = OneSide s p q (λ h k. OpensAs h.opening h (listening h) o k)
-EventStep (event.Connect s m) p o q = OneSide s p q (λ h k. OpensAs h.opening h (connecting h m (host_of (other_side s) p).endpoint) o k)
+EventStep (event.Connect s m) p o q =
+    OneSide s p q (λ h k. OpensAs h.opening h (connecting h m (host_of (other_side s) p).endpoint) o k)
 EventStep (event.SendSlice s bytes) p o q = OneSide s p q (λ h k. Sends p.limit bytes.items h o k)
 EventStep (event.RecvSlice s size) p o q = OneSide s p q (λ h k. Receives size h o k)
 EventStep (event.Dispatch s m fail) p o q = OneSideAndSegments s p q (Dispatches s m fail o)

@@ -15,7 +15,8 @@ where_same B B bytes = bytes
 where_same A B bytes = []
 where_same B A bytes = []
 
--- what the side accepted by an event with its outcome: the first n bytes of a send of its own that answered `Accepted(n)`
+-- what the side accepted by an event with its outcome: the first n bytes of a send of its own that answered
+-- `Accepted(n)`
 abbrev pub accepted_by : Side → Event → Outcome → List ℕ
 accepted_by s (event.SendSlice t bytes) (outcome.Accepted n) = where_same s t (take n bytes.items)
 accepted_by s _ _ = []

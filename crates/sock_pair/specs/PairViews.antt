@@ -42,7 +42,16 @@ with_host A p h = record p { a = h }
 with_host B p h = record p { b = h }
 
 abbrev pub new_host : View → IpEndpoint → HostView
-new_host v e = record { control_block = v; endpoint = e; opening = opening.Unopened; accepted = []; handed_out = []; released = 0; taken = 0 }
+new_host v e =
+    record {
+      control_block = v;
+      endpoint = e;
+      opening = opening.Unopened;
+      accepted = [];
+      handed_out = [];
+      released = 0;
+      taken = 0;
+    }
 
 abbrev pub new_pair : HostView → HostView → Option ℕ → PairView
 new_pair a b limit = record { a = a; b = b; segments = []; limit = limit }

@@ -88,7 +88,8 @@ closing_text name state accepted handed_out queued =
 abbrev pub side_line : Side → PairView → List ℕ
 side_line s p =
     let host = host_of s p in
-    closing_text (side_text s) (state_text host.control_block.state) (length host.accepted) (length host.handed_out) (length host.control_block.rx_buffer.bytes)
+    closing_text (side_text s) (state_text host.control_block.state) (length host.accepted) (length host.handed_out)
+    (length host.control_block.rx_buffer.bytes)
 
 abbrev pub side_lines : PairView → List ℕ
 side_lines p = side_line A p ++ side_line B p

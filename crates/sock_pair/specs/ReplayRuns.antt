@@ -35,7 +35,8 @@ begun arx atx brx btx limit = new_pair (begun_host arx atx endpoint_a) (begun_ho
 
 -- what a script begins with
 abbrev pub begun_of : Script → PairView
-begun_of s = begun (slice_index s.sizes 0) (slice_index s.sizes 1) (slice_index s.sizes 2) (slice_index s.sizes 3) s.limit
+begun_of s = begun (slice_index s.sizes 0) (slice_index s.sizes 1) (slice_index s.sizes 2)
+    (slice_index s.sizes 3) s.limit
 
 -- every event was done, the pair is q then, and a line for each outcome and the closing lines were written
 pub record IsPlayed (events : List Event) (p q : PairView) (old new : Option (List ℕ)) : Type 0 where
@@ -67,8 +68,8 @@ Plays events p _ old new = Unit {0}
 abbrev pub IsScript : Option (List ℕ) → Script → Type 0
 IsScript text s = IfSome text (λ t. script_of t ≡ Ok (script_value s))
 
--- What a replay writes: nothing where the reader failed or the text is no script. Where memory ran out, nothing if that was
--- before the run, and else the lines of the events that the run did
+-- What a replay writes: nothing where the reader failed or the text is no script. Where memory ran out, nothing if that
+-- was before the run, and else the lines of the events that the run did
 abbrev pub Replays : Option (List ℕ) → End → Option (List ℕ) → Option (List ℕ) → Type 0
 Replays text end.Done old new = (s : Script) × IsScript text s × Plays s.events.items (begun_of s) end.Done old new
 Replays text (end.Script e) old new = IfSome text (λ t. script_of t ≡ Err e) × Appends old new []

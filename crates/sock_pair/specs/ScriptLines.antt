@@ -165,7 +165,8 @@ pub record ReadsFirst (lines : List (ℕ × List Word)) : Type 0 where
   pub some : 0 < length first
   pub read : IsOk (events_of first)
 
--- the fault e of the events of these lines; where memory ran out, that was at a line that has none, nor have those before
+-- the fault e of the events of these lines; where memory ran out, that was at a line that has none, nor have those
+-- before
 abbrev pub EventsFault : List (ℕ × List Word) → ScriptError → Type 0
 EventsFault lines fault.Memory = ReadsFirst lines
 EventsFault lines e = events_of lines ≡ Err e

@@ -36,8 +36,8 @@ HasOwnBytes f p = (j b : ℕ) → Carries p j b → ByteAt f.accepted j b
 abbrev pub LiesBefore : Stream → PlacedPayload → Type 0
 LiesBefore f p = (j b : ℕ) → Carries p j b → j < counted f
 
--- True of the stream: its bytes are the stream's own, or it is a keep-alive, whose byte the receiver never takes. A FIN stands at the end of a
--- closed stream, where no byte will follow; or at the place of the SYN, where it is refused
+-- True of the stream: its bytes are the stream's own, or it is a keep-alive, whose byte the receiver never takes. A FIN
+-- stands at the end of a closed stream, where no byte will follow; or at the place of the SYN, where it is refused
 pub record IsTruePayload (f : Stream) (p : PlacedPayload) : Type 0 where
   pub bytes : HasOwnBytes f p ⊎ LiesBefore f p
   pub fin : p.fin ≡ true
@@ -57,13 +57,15 @@ MayCome f j b = (f.held j ≡ Some b) ⊎ ((p : PlacedPayload) × IsTruePayload 
 pub record Grows (f g : Stream) : Type 0 where
   pub accepted : IsPrefix f.accepted g.accepted
   pub closed : f.closed ≡ true → (g.closed ≡ true) × (g.accepted ≡ f.accepted)
-  pub released : (g.released ≡ f.released) ⊎ ((a : ℕ) × IsTrueAck f a × (g.released ≤ a) × (g.released ≤ length f.accepted))
+  pub released : (g.released ≡ f.released)
+      ⊎ ((a : ℕ) × IsTrueAck f a × (g.released ≤ a) × (g.released ≤ length f.accepted))
   pub joined : IsPrefix f.joined g.joined
   pub taken : (j b : ℕ) → length f.joined ≤ j → ByteAt g.joined j b → MayCome f j b
   pub held : (j b : ℕ) → length g.joined ≤ j → g.held j ≡ Some b → MayCome f j b
   pub fin : g.fin_counted ≡ true
       → (f.fin_counted ≡ true)
-      ⊎ ((p : PlacedPayload) × IsTruePayload f p × (p.fin ≡ true) × (2 ≤ p.start + length p.bytes) × (p.start + length p.bytes ≤ length g.joined + 2))
+      ⊎ ((p : PlacedPayload) × IsTruePayload f p × (p.fin ≡ true) × (2 ≤ p.start + length p.bytes)
+      × (p.start + length p.bytes ≤ length g.joined + 2))
   pub finished : f.fin_counted ≡ true → (g.fin_counted ≡ true) × (g.joined ≡ f.joined)
 
 -- what always holds of a stream

@@ -1,4 +1,4 @@
-// What may happen to a pair of sockets.
+//! What may happen to a pair of sockets.
 use crate::moment::Moment;
 use crate::side::Side;
 

@@ -1,4 +1,4 @@
-// What goes between the two sides: the segments that a dispatch emits, and their delivery.
+//! What goes between the two sides: the segments that a dispatch emits, and their delivery.
 ghost use Rattle.std.specs.Prelude.{◌≡◌, ◌<◌, ◌^◌, ◌++◌, [], length, map, IfOk, OnErr, slice_get, option_map, vec_len, vec_capacity};
 ghost use Rattle.sock_pair.specs.Holding.{stored_of, kept_at};
 ghost use Rattle.std.specs.Option.{ForSome};
@@ -26,8 +26,8 @@ pub(crate) struct Counts {
     pub(crate) taken: u64,
 }
 
-/// Whether a segment is too old to be delivered: since it went out, one of its emitter's counts grew by 2^29 or more. No
-/// count falls.
+/// Whether a segment is too old to be delivered: since it went out, one of its emitter's counts grew by 2^29 or more.
+/// No count falls.
 pub fn too_old(released_at: u64, released_now: u64, taken_at: u64, taken_now: u64) -> bool
     ensures { result ≡ is_too_old released_at released_now taken_at taken_now }
 {
@@ -35,13 +35,14 @@ pub fn too_old(released_at: u64, released_now: u64, taken_at: u64, taken_now: u6
         || taken_now.saturating_sub(taken_at) >= AGE_LIMIT
 }
 
-// What came of a dispatch, whose segment is stored where there is one; there is room for it. Of the room for its payload
-// it keeps no more than it needs.
+// What came of a dispatch, whose segment is stored where there is one; there is room for it. Of the room for its
+// payload it keeps no more than it needs.
 fn store(segments: &mut Vec<Segment>, from: Side, sent: Sent, counts: Counts) -> Outcome
     requires room { vec_len segments.old < vec_capacity segments.old }
     requires short { IsShort sent }
     ensures answer { result ≡ dispatch_outcome sent (length (map stored_of segments.old.items)) }
-    ensures stored { map stored_of segments.new.items ≡ map stored_of segments.old.items ++ stored_at from sent counts.released counts.taken }
+    ensures stored { map stored_of segments.new.items ≡ map stored_of segments.old.items
+        ++ stored_at from sent counts.released counts.taken }
 {
     match sent {
         Sent::Quiet => Outcome::Quiet,
@@ -70,8 +71,11 @@ pub(crate) fn dispatch(
     moment: &Moment,
     fail: bool,
 ) -> Result<Outcome, PairError>
-    ensures step { IfOk result (λ o. Dispatches side moment.entry.now fail o host.old (map stored_of segments.old.items) host.new (map stored_of segments.new.items)) }
-    ensures memory { OnErr result (IsUnchanged host.old (map stored_of segments.old.items) host.new (map stored_of segments.new.items)) }
+    ensures step { IfOk result
+        (λ o. Dispatches side moment.entry.now fail o host.old (map stored_of segments.old.items) host.new
+        (map stored_of segments.new.items)) }
+    ensures memory { OnErr result
+        (IsUnchanged host.old (map stored_of segments.old.items) host.new (map stored_of segments.new.items)) }
 {
     if let Err(_) = segments.reserve(1) {
         return Err(PairError::Memory);
@@ -95,8 +99,11 @@ fn store_reply(
 ) -> Outcome
     requires room { vec_len segments.old < vec_capacity segments.old }
     requires empty { ForSome reply (λ r. r.1.payload.now ≡ []) }
-    ensures answer { result ≡ Outcome.Delivered (reply_index (length (map stored_of segments.old.items)) (option_map (λ r. (r.0, segment_of r.1)) reply.entry)) }
-    ensures stored { map stored_of segments.new.items ≡ map stored_of segments.old.items ++ kept_at from (option_map (λ r. (r.0, segment_of r.1)) reply.entry) counts.released counts.taken }
+    ensures answer { result
+        ≡ Outcome.Delivered (reply_index (length (map stored_of segments.old.items))
+        (option_map (λ r. (r.0, segment_of r.1)) reply.entry)) }
+    ensures stored { map stored_of segments.new.items ≡ map stored_of segments.old.items
+        ++ kept_at from (option_map (λ r. (r.0, segment_of r.1)) reply.entry) counts.released counts.taken }
 {
     match reply {
         None => Outcome::Delivered(None),
@@ -128,9 +135,13 @@ pub(crate) fn deliver(
     requires there { index < length segments.old.items }
     requires released { host.old.released < 2 ^ 63 }
     requires taken { host.old.taken < 2 ^ 63 }
-    ensures step { IfOk result (λ o. DeliversAt (slice_get (map stored_of segments.old.items) index) emitter.released emitter.taken side moment.entry.now o host.old (map stored_of segments.old.items) host.new (map stored_of segments.new.items)) }
-    ensures memory { OnErr result (IsUnchanged host.old (map stored_of segments.old.items) host.new (map stored_of segments.new.items)) }
-    ensures takes_memory { OnErr result (ReachesSocketAt (slice_get (map stored_of segments.old.items) index) emitter.released emitter.taken host.old) }
+    ensures step { IfOk result (λ o. DeliversAt (slice_get (map stored_of segments.old.items) index)
+        emitter.released emitter.taken side moment.entry.now o host.old (map stored_of segments.old.items)
+        host.new (map stored_of segments.new.items)) }
+    ensures memory { OnErr result
+        (IsUnchanged host.old (map stored_of segments.old.items) host.new (map stored_of segments.new.items)) }
+    ensures takes_memory { OnErr result
+        (ReachesSocketAt (slice_get (map stored_of segments.old.items) index) emitter.released emitter.taken host.old) }
 {
     let segment = &segments[index];
     if too_old(

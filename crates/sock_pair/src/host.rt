@@ -1,4 +1,4 @@
-// One side of a pair: its socket, and what it accepted and handed out.
+//! One side of a pair: its socket, and what it accepted and handed out.
 ghost use Rattle.std.specs.Prelude.{◌≡◌, ◌+◌, ◌-◌, ◌≤◌, ◌<◌, ◌^◌, ◌++◌, ◌↔◌, IsTrue, length, option_map, Some, [], not, false, IfOk, OnOk, OnErr, vec_len, vec_capacity};
 ghost use Rattle.std.specs.Option.{ForSome};
 ghost use Rattle.control_wire.specs.Segment.{segment_of};
@@ -55,12 +55,12 @@ impl<'a> Model for Host<'a> {
 
 impl<'a> Host<'a> {
     ghost use Rattle.sock_tcp.specs.View.{fresh};
-    ghost use Rattle.sock_tcp.specs.Queue.{queue_of, capacity};
+    ghost use Rattle.sock_tcp.specs.Queue.{queue_of};
     ghost use Rattle.sock_tcp.specs.Queues.{may_send};
     ghost use Rattle.sock_pair.specs.PairViews.{new_host};
     ghost use Rattle.sock_pair.specs.PairCalls.{listening, connecting, OpensAs, SendsIf, Receives};
     ghost use Rattle.sock_pair.specs.PairSteps.{HostDispatches, delivered_to, processed_by};
-    ghost use Rattle.sock_pair.specs.PairInvariant.{IsHost, IsReachable};
+    ghost use Rattle.sock_pair.specs.PairInvariant.{HasSmallBuffers, IsHost, IsReachable};
     ghost use Rattle.ip_wire.specs.Address.{SameVersion};
 
     pub(crate) fn new(
@@ -100,12 +100,13 @@ impl<'a> Host<'a> {
         }
     }
 
-    // Says that its receive buffer has at most 2^30 bytes, and that the bytes accepted are fewer than 2^63.
+    // Says that its buffers have at most 2^30 bytes, and that the bytes accepted are fewer than 2^63.
     pub(crate) fn in_range(&self)
-        ensures receive { capacity self.now.control_block.rx_buffer ≤ 2 ^ 30 }
+        ensures buffers { HasSmallBuffers self.now.control_block }
         ensures accepted { length self.now.accepted < 2 ^ 63 }
     {
         self.socket.recv_queue();
+        self.socket.send_queue();
         self.accepted.len();
     }
 
@@ -156,8 +157,8 @@ impl<'a> Host<'a> {
 
     // What fits of the bytes, once there is room to keep all of them.
     pub(crate) fn send(&mut self, bytes: &[u8]) -> Result<Outcome, PairError>
-        ensures step { IfOk result (λ o. SendsIf (may_send self.old.control_block.state) self.old bytes.now o self.new) }
-        ensures small { IfOk result (λ _. length self.new.control_block.tx_buffer.bytes ≤ 2 ^ 30) }
+        ensures step { IfOk result
+            (λ o. SendsIf (may_send self.old.control_block.state) self.old bytes.now o self.new) }
         ensures memory { OnErr result (self.new ≡ self.old) }
     {
         if let Err(_) = self.accepted.reserve(bytes.len()) {
@@ -174,6 +175,7 @@ impl<'a> Host<'a> {
 
     // At most so many bytes of the queue, once there is room to keep and to answer them.
     pub(crate) fn recv(&mut self, alloc: Global, size: usize) -> Result<Outcome, PairError>
+        requires { self.old.control_block.rx_fin_received ≡ false }
         ensures step { IfOk result (λ o. Receives size self.old o self.new) }
         ensures memory { OnErr result (self.new ≡ self.old) }
     {
@@ -209,8 +211,11 @@ impl<'a> Host<'a> {
         let answer = self.socket.dispatch(
             &mut recorder,
             move |cx: &mut Recorder, sent: (IpRepr, TcpRepr<'_>)| -> Result<(), EmitFailed>
-                ensures kept { OnOk result (IsTrue (not fail) × Holds cx.entry.now cx.exit.now sent.entry.0 (segment_of sent.entry.1)) }
-                ensures err { OnErr result (fail ≡ false → vec_capacity cx.entry.now.payload < vec_len cx.entry.now.payload + length sent.entry.1.payload.now) }
+                ensures kept { OnOk result
+                    (IsTrue (not fail) × Holds cx.entry.now cx.exit.now sent.entry.0 (segment_of sent.entry.1)) }
+                ensures err { OnErr result
+                    (fail ≡ false → vec_capacity cx.entry.now.payload
+                    < vec_len cx.entry.now.payload + length sent.entry.1.payload.now) }
             {
                 if fail {
                     Err(EmitFailed)
@@ -223,7 +228,8 @@ impl<'a> Host<'a> {
     }
 
     pub(crate) fn accepts(&self, moment: &Moment, segment: &Segment) -> bool
-        ensures { IsTrue result ↔ Accepts self.now.control_block (stored_of segment.now).ip (stored_of segment.now).segment }
+        ensures { IsTrue result ↔ Accepts self.now.control_block (stored_of segment.now).ip
+            (stored_of segment.now).segment }
     {
         let repr = segment.as_repr();
         self.socket.accepts(moment, &segment.header.ip_repr, &repr)
@@ -236,7 +242,8 @@ impl<'a> Host<'a> {
         requires taken { self.old.taken < 2 ^ 63 }
         ensures view { self.new ≡ delivered_to self.old moment.entry.now (stored_of segment.now) }
         ensures bare { ForSome result (λ r. r.1.payload.now ≡ []) }
-        ensures reply { option_map (λ r. (r.0, segment_of r.1)) result ≡ (processed_by self.old moment.entry.now (stored_of segment.now)).reply }
+        ensures reply { option_map (λ r. (r.0, segment_of r.1)) result
+            ≡ (processed_by self.old moment.entry.now (stored_of segment.now)).reply }
     {
         segment.in_range();
         let mut cx = *moment;

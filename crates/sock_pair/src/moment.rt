@@ -1,4 +1,4 @@
-// The context of one call.
+//! The context of one call.
 ghost use Rattle.std.specs.Prelude.{◌≡◌, ◌<◌, ◌^◌};
 ghost use Rattle.sock_core.specs.Bounds.{IsMoment, IsMtu};
 

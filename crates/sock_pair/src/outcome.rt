@@ -1,4 +1,4 @@
-// What an event comes to.
+//! What an event comes to.
 ghost use Rattle.std.specs.Prelude.{Some};
 ghost use Rattle.sock_pair.specs.PairTexts.{pair_error_text};
 

@@ -1,4 +1,4 @@
-// Two sockets, and every segment that they emitted.
+//! Two sockets, and every segment that they emitted.
 ghost use Rattle.std.specs.Prelude.{◌≡◌, ◌+◌, ◌<◌, ◌≤◌, ◌^◌, length, IfOk, OnOk, OnErr, [], None, false, slice_get};
 
 use crate::event::Event;
@@ -27,8 +27,8 @@ pub struct Setup<'a> {
     pub generator: Option<TcpTimestampGenerator>,
 }
 
-/// Two TCP sockets, A and B, and every segment that they ever emitted, which may be delivered at any time and any number
-/// of times.
+/// Two TCP sockets, A and B, and every segment that they ever emitted, which may be delivered at any time and any
+/// number of times.
 #[derive(Debug, Drop)]
 pub struct Pair<'a> {
     a: Host<'a>,
@@ -48,7 +48,8 @@ impl<'a> Model for Pair<'a> {
 
     ghost view = { λ p. record { a = p.a; b = p.b; segments = map stored_of p.segments.items; limit = p.limit } };
 
-    ghost invariant = { λ p. IsPair (record { a = p.a; b = p.b; segments = map stored_of p.segments.items; limit = p.limit }) };
+    ghost invariant = { λ p. IsPair
+        (record { a = p.a; b = p.b; segments = map stored_of p.segments.items; limit = p.limit }) };
 }
 
 impl<'a> Pair<'a> {
@@ -63,14 +64,18 @@ impl<'a> Pair<'a> {
     ghost use Rattle.sock_pair.specs.PairStreams.{AddsUp, accepted_by, handed_out_by};
     ghost use Rattle.sock_pair.specs.PairPromises.{Prefix, Release, Complete, Prompt};
     ghost use Rattle.sock_pair.specs.Holding.{stored_of};
-    ghost use Rattle.sock_pair.specs.PairInvariant.{IsReachable};
+    ghost use Rattle.std.specs.Option.{ForSome};
+    ghost use Rattle.sock_pair.specs.PairInvariant.{DeliversSmall, HasSmallBuffers, IsPair, IsReachable};
+    ghost use Rattle.sock_pair.specs.PairNetwork.{IsSmall, network_of};
+    ghost use Rattle.sock_pair.specs.NetworkRuns.{Reaches};
     ghost use Rattle.sock_pair.specs.NetworkInvariant.{IsLimit};
     ghost use Rattle.sock_pair.specs.Sides.{other_side};
 
     /// Two closed sockets and no segment.
     ///
-    /// The buffers are empty and of at most 2^30 bytes each; the endpoints are different, specified, of one version, and
-    /// their ports not zero; `limit`, where there is one, is below 2^29 and bounds the bytes that each side accepts.
+    /// The buffers are empty and of at most 2^30 bytes each; the endpoints are different, specified, of one version,
+    /// and their ports not zero; `limit`, where there is one, is below 2^29 and bounds the bytes that each side
+    /// accepts.
     pub fn new(alloc: Global, a: Setup<'a>, b: Setup<'a>, limit: Option<u32>) -> Pair<'a>
         requires a_rx { (a.rx.queue ≡ []) × (length a.rx.spare ≤ 2 ^ 30) }
         requires a_tx { (a.tx.queue ≡ []) × (length a.tx.spare ≤ 2 ^ 30) }
@@ -82,7 +87,8 @@ impl<'a> Pair<'a> {
         requires different { a.endpoint ≡ b.endpoint → ⊥ }
         requires generators { (a.generator ≡ None) × (b.generator ≡ None) }
         requires limit { IsLimit limit }
-        ensures { result ≡ new_pair (new_host (fresh (queue_of a.entry.rx) (queue_of a.entry.tx)) a.entry.endpoint) (new_host (fresh (queue_of b.entry.rx) (queue_of b.entry.tx)) b.entry.endpoint) limit }
+        ensures { result ≡ new_pair (new_host (fresh (queue_of a.entry.rx) (queue_of a.entry.tx)) a.entry.endpoint)
+            (new_host (fresh (queue_of b.entry.rx) (queue_of b.entry.tx)) b.entry.endpoint) limit }
     {
         Pair {
             a: Host::new(alloc, a.rx, a.tx, a.endpoint),
@@ -154,7 +160,9 @@ impl<'a> Pair<'a> {
     }
 
     fn connect(&mut self, side: Side, moment: &Moment) -> Outcome
-        ensures { OneSide side self.old self.new (λ h k. OpensAs h.opening h (connecting h moment.entry.now (host_of (other_side side) self.old).endpoint) result k) }
+        ensures { OneSide side self.old self.new
+            (λ h k. OpensAs h.opening h
+            (connecting h moment.entry.now (host_of (other_side side) self.old).endpoint) result k) }
     {
         match side {
             Side::A => self.a.connect(moment, self.b.endpoint()),
@@ -180,11 +188,14 @@ impl<'a> Pair<'a> {
     fn send(&mut self, side: Side, bytes: &[u8]) -> Result<Outcome, PairError>
         ensures step { IfOk result (λ o. OneSide side self.old self.new (λ h k. Sends self.old.limit bytes.now h o k)) }
         ensures memory { OnErr result (self.new ≡ self.old) }
-        ensures takes_memory { OnErr result (is_over self.old.limit (length (host_of side self.old).accepted + length bytes.now) ≡ false) }
+        ensures takes_memory { OnErr result
+            (is_over self.old.limit (length (host_of side self.old).accepted + length bytes.now) ≡ false) }
     {
         if self.is_over_limit(side, bytes.len()) {
             return Ok(Outcome::StreamLimit);
         }
+        self.a.in_range();
+        self.b.in_range();
         match side {
             Side::A => self.a.send(bytes),
             Side::B => self.b.send(bytes),
@@ -202,7 +213,8 @@ impl<'a> Pair<'a> {
     }
 
     fn dispatch(&mut self, side: Side, moment: &Moment, fail: bool) -> Result<Outcome, PairError>
-        ensures step { IfOk result (λ o. OneSideAndSegments side self.old self.new (Dispatches side moment.entry.now fail o)) }
+        ensures step { IfOk result
+            (λ o. OneSideAndSegments side self.old self.new (Dispatches side moment.entry.now fail o)) }
         ensures memory { OnErr result (self.new ≡ self.old) }
     {
         match side {
@@ -226,7 +238,8 @@ impl<'a> Pair<'a> {
     }
 
     fn deliver(&mut self, index: usize, moment: &Moment) -> Result<Outcome, PairError>
-        ensures step { IfOk result (λ o. Delivers (slice_get self.old.segments index) moment.entry.now self.old o self.new) }
+        ensures step { IfOk result
+            (λ o. Delivers (slice_get self.old.segments index) moment.entry.now self.old o self.new) }
         ensures memory { OnErr result (self.new ≡ self.old) }
         ensures takes_memory { OnErr result (DeliveryTakesMemory (slice_get self.old.segments index) self.old) }
     {
@@ -265,7 +278,35 @@ impl<'a> Pair<'a> {
         }
     }
 
-    // What every pair keeps.
+    // Says what every pair keeps, and that its buffers have at most 2^30 bytes.
+    fn is_pair(&self)
+        ensures pair { IsPair self.now }
+        ensures a { HasSmallBuffers self.now.a.control_block }
+        ensures b { HasSmallBuffers self.now.b.control_block }
+    {
+        self.a.in_range();
+        self.b.in_range();
+    }
+
+    // Says that the segment of this index, where there is one, has numbers of 32 bits.
+    fn segment_in_range(&self, index: usize)
+        ensures { ForSome (slice_get self.now.segments index) (λ t. IsSmall t.segment) }
+    {
+        if index < self.segments.len() {
+            self.segments[index].in_range();
+        }
+    }
+
+    fn event_in_range(&self, event: &Event)
+        ensures { DeliversSmall event.now self.now }
+    {
+        match event {
+            Event::Deliver { index, .. } => self.segment_in_range(*index),
+            _ => {}
+        }
+    }
+
+    // So its promises hold.
     fn keeps_order(&self)
         ensures prefix { Prefix self.now }
         ensures release { Release self.now }
@@ -291,16 +332,18 @@ impl<'a> Pair<'a> {
 
     /// Performs one event and answers its outcome.
     ///
-    /// The event meets the case table of its call, and the other side's socket stays as it was. Afterwards what each side
-    /// handed out, followed by its receive queue, is a prefix of what the other accepted, and acknowledgements have
-    /// released only bytes that the other took. A segment in order is queued before its delivery returns.
+    /// The event meets the case table of its call, and the other side's socket stays as it was. Afterwards what each
+    /// side handed out, followed by its receive queue, is a prefix of what the other accepted, and acknowledgements
+    /// have released only bytes that the other took. A segment in order is queued before its delivery returns. The event is
+    /// a run of steps of the theorem on two streams, and adds to the streams what its outcome says.
     ///
-    /// `Memory` where a growth was refused; the pair is then as it was. `Listen` and `Connect` take no memory, nor does an
-    /// event that comes to one of the last five outcomes.
+    /// `Memory` where a growth was refused; the pair is then as it was. `Listen` and `Connect` take no memory, nor does
+    /// an event that comes to one of the last five outcomes.
     pub fn step(&mut self, event: &Event) -> Result<Outcome, PairError>
         ensures step { IfOk result (λ o. EventStep event.entry.now self.old o self.new) }
         ensures adds { IfOk result (λ o. AddsUp self.old self.new (λ s. accepted_by s event.entry.now o)
             (λ s. handed_out_by s event.entry.now o)) }
+        ensures streams { Reaches (network_of self.old) (network_of self.new) }
         ensures prefix { Prefix self.new }
         ensures release { Release self.new }
         ensures complete { IfOk result (λ o. Complete o) }
@@ -308,6 +351,8 @@ impl<'a> Pair<'a> {
         ensures memory { OnErr result (self.new ≡ self.old) }
         ensures takes_memory { OnErr result (TakesMemory event.entry.now self.old) }
     {
+        self.is_pair();
+        self.event_in_range(event);
         let outcome = self.perform(event);
         self.keeps_order();
         outcome
@@ -315,12 +360,13 @@ impl<'a> Pair<'a> {
 
     /// Performs the events in turn, and adds the outcome of each to `outcomes`.
     ///
-    /// What `step` promises holds of each event and after each of them. So what each side accepted and handed out is what
-    /// it had before, followed by what the added outcomes say in turn.
+    /// What `step` promises holds of each event and after each of them. So what each side accepted and handed out is
+    /// what it had before, followed by what the added outcomes say in turn.
     ///
-    /// `Memory` where a growth was refused; the events before that one were done, and `outcomes` has gained exactly their
-    /// outcomes.
+    /// `Memory` where a growth was refused; the events before that one were done, and `outcomes` has gained exactly
+    /// their outcomes.
     pub fn run(&mut self, events: &[Event], outcomes: &mut Vec<Outcome>) -> Result<(), PairError>
+        ensures streams { Reaches (network_of self.old) (network_of self.new) }
         ensures prefix { Prefix self.new }
         ensures release { Release self.new }
         ensures done { Ran events.now self.old outcomes.old.items outcomes.new.items self.new }

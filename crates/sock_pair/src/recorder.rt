@@ -1,4 +1,4 @@
-// The context of one dispatch, which keeps what is emitted.
+//! The context of one dispatch, which keeps what is emitted.
 ghost use Rattle.std.specs.Prelude.{◌≡◌, ◌+◌, ◌<◌, length, OnOk, OnErr, vec_len, vec_capacity};
 ghost use Rattle.control_wire.specs.Segment.{segment_of};
 
@@ -69,7 +69,8 @@ impl Recorder {
     /// Keeps a segment, in the room that was made before.
     pub(crate) fn store(&mut self, ip_repr: IpRepr, repr: TcpRepr<'_>) -> Result<(), EmitFailed>
         ensures kept { OnOk result (Holds self.old self.new ip_repr (segment_of repr.entry)) }
-        ensures full { OnErr result (vec_capacity self.old.payload < vec_len self.old.payload + length repr.entry.payload.now) }
+        ensures full { OnErr result
+            (vec_capacity self.old.payload < vec_len self.old.payload + length repr.entry.payload.now) }
     {
         match self.payload.extend_from_slice(repr.payload) {
             Ok(()) => {

@@ -43,8 +43,8 @@ pub struct Script {
 /// Reads a text as a script: its first line that is not skipped names the sizes, each later one an
 /// event.
 ///
-/// The error is the fault of the first line that has one, or `Memory` where memory ran out at a line of an event: that line
-/// and all before it have no fault.
+/// The error is the fault of the first line that has one, or `Memory` where memory ran out at a line of an event: that
+/// line and all before it have no fault.
 #[tactic(auto, unfolding(crate::specs::ScriptLines::script_of))]
 pub fn parse(alloc: Global, text: &[u8]) -> Result<Script, ScriptError>
     ensures value { MatchResult result (λ s. script_of text.now ≡ Ok (script_value s)) (ScriptFault text.now) }

@@ -1,4 +1,4 @@
-// A stored segment, which owns its payload.
+//! A stored segment, which owns its payload.
 ghost use Rattle.std.specs.Prelude.{◌≡◌, ◌+◌, ◌<◌, ◌≤◌, ◌^◌, length, vec_len, []};
 
 use crate::side::Side;

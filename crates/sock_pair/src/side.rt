@@ -1,4 +1,4 @@
-// The two sides of a connection.
+//! The two sides of a connection.
 ghost use Rattle.std.specs.Prelude.{◌≡◌};
 ghost use Rattle.sock_pair.specs.Sides.{other_side};
 

@@ -1,4 +1,4 @@
-// How a replay ended.
+//! How a replay ended.
 ghost use Rattle.std.specs.Prelude.{◌≡◌};
 ghost use Rattle.sock_pair.specs.ReplayEnds.{status_of};
 

@@ -1,4 +1,4 @@
-// Why a text is no script.
+//! Why a text is no script.
 ghost use Rattle.std.specs.Prelude.{◌≡◌, Some};
 ghost use Rattle.std.specs.Fmt.{WritesOnOk};
 ghost use Rattle.sock_pair.specs.ScriptFaults.{at_line, fault_text};

@@ -1,4 +1,4 @@
-// What a line asks for, by its form.
+//! What a line asks for, by its form.
 ghost use Rattle.std.specs.Prelude.{◌≡◌, ◌≤◌, ◌∷◌};
 ghost use Rattle.sock_pair.specs.EventValue.{event_value, moment_value};
 ghost use Rattle.sock_pair.specs.ScriptText.{line_words, words_of};

@@ -1,4 +1,4 @@
-// The first word of a line.
+//! The first word of a line.
 ghost use Rattle.std.specs.Prelude.{◌≡◌};
 ghost use Rattle.sock_pair.specs.ScriptWords.{keyword_of};
 

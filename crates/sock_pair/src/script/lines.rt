@@ -1,4 +1,4 @@
-// A script as lines.
+//! A script as lines.
 ghost use Rattle.std.specs.Prelude.{◌≡◌, ◌+◌, ◌<◌, ◌^◌, [], ◌∷◌, MatchOption, IfNone, OnSome, length};
 ghost use Rattle.sock_pair.specs.ScriptText.{is_comment, line_words, lines_left, lines_of};
 

@@ -1,4 +1,4 @@
-// The lines that a replay prints. They go to the sink piece by piece, so they take no memory.
+//! The lines that a replay prints. They go to the sink piece by piece, so they take no memory.
 ghost use Rattle.std.specs.Prelude.{◌≡◌, ◌++◌, ◌∷◌, [], decimal, false, map};
 ghost use Rattle.sock_pair.specs.Holding.{stored_of};
 ghost use Rattle.sock_pair.specs.ReplayLines.{ack_text, bytes_text, closing_text, flags_text, numbered_text, outcome_line, outcome_lines, outcome_text, reply_text, segment_text, side_line, side_lines, side_text};
@@ -41,7 +41,8 @@ fn put_number<W: Sink>(sink: &mut W, number: usize) -> Result<(), StreamFault>
 #[tactic(auto, using(crate::proofs::ReplaySinks::takes_after))]
 fn put_count<W: Sink>(sink: &mut W, label: &str, number: usize) -> Result<(), StreamFault>
     requires { W.has_failed sink.old ≡ false }
-    ensures { Takes (W.contents sink.old) result (label.now ++ decimal number) (W.contents sink.new) (W.has_failed sink.new) }
+    ensures { Takes (W.contents sink.old) result (label.now ++ decimal number) (W.contents sink.new)
+        (W.has_failed sink.new) }
 {
     put(sink, label)?;
     put_number(sink, number)
@@ -75,7 +76,8 @@ fn put_ack<W: Sink>(sink: &mut W, ack: Option<TcpSeqNumber>) -> Result<(), Strea
 #[tactic(auto, using(crate::proofs::ReplaySinks::takes_after))]
 fn put_segment<W: Sink>(sink: &mut W, segment: &Segment) -> Result<(), StreamFault>
     requires { W.has_failed sink.old ≡ false }
-    ensures { Takes (W.contents sink.old) result (segment_text (stored_of segment.now).segment) (W.contents sink.new) (W.has_failed sink.new) }
+    ensures { Takes (W.contents sink.old) result (segment_text (stored_of segment.now).segment) (W.contents sink.new)
+        (W.has_failed sink.new) }
 {
     let header = &segment.header;
     put(sink, flags(header.control, header.ack_number.is_some()))?;
@@ -94,7 +96,8 @@ fn put_numbered<W: Sink>(
     index: usize,
 ) -> Result<(), StreamFault>
     requires { W.has_failed sink.old ≡ false }
-    ensures { Takes (W.contents sink.old) result (numbered_text (map stored_of segments.now) index) (W.contents sink.new) (W.has_failed sink.new) }
+    ensures { Takes (W.contents sink.old) result (numbered_text (map stored_of segments.now) index)
+        (W.contents sink.new) (W.has_failed sink.new) }
 {
     put_number(sink, index)?;
     match segments.get(index) {
@@ -114,7 +117,8 @@ fn put_reply<W: Sink>(
     reply: Option<usize>,
 ) -> Result<(), StreamFault>
     requires { W.has_failed sink.old ≡ false }
-    ensures { Takes (W.contents sink.old) result (reply_text (map stored_of segments.now) reply) (W.contents sink.new) (W.has_failed sink.new) }
+    ensures { Takes (W.contents sink.old) result (reply_text (map stored_of segments.now) reply) (W.contents sink.new)
+        (W.has_failed sink.new) }
 {
     match reply {
         None => Ok(()),
@@ -148,7 +152,8 @@ fn put_outcome<W: Sink>(
     outcome: &Outcome,
 ) -> Result<(), StreamFault>
     requires { W.has_failed sink.old ≡ false }
-    ensures { Takes (W.contents sink.old) result (outcome_text (map stored_of segments.now) outcome.now) (W.contents sink.new) (W.has_failed sink.new) }
+    ensures { Takes (W.contents sink.old) result (outcome_text (map stored_of segments.now) outcome.now)
+        (W.contents sink.new) (W.has_failed sink.new) }
 {
     match outcome {
         Outcome::Opened => put(sink, "opened"),
@@ -193,7 +198,8 @@ fn write_outcome<W: Sink>(
     outcome: &Outcome,
 ) -> Result<(), StreamFault>
     requires { W.has_failed sink.old ≡ false }
-    ensures { Takes (W.contents sink.old) result (outcome_line (map stored_of segments.now) outcome.now) (W.contents sink.new) (W.has_failed sink.new) }
+    ensures { Takes (W.contents sink.old) result (outcome_line (map stored_of segments.now) outcome.now)
+        (W.contents sink.new) (W.has_failed sink.new) }
 {
     put_outcome(sink, segments, outcome)?;
     put_byte(sink, b'\n')
@@ -218,7 +224,8 @@ fn put_closing<W: Sink>(
     queued: usize,
 ) -> Result<(), StreamFault>
     requires { W.has_failed sink.old ≡ false }
-    ensures { Takes (W.contents sink.old) result (closing_text name.now state.now accepted handed_out queued) (W.contents sink.new) (W.has_failed sink.new) }
+    ensures { Takes (W.contents sink.old) result (closing_text name.now state.now accepted handed_out queued)
+        (W.contents sink.new) (W.has_failed sink.new) }
 {
     put(sink, name)?;
     put(sink, state)?;
@@ -232,7 +239,8 @@ fn put_closing<W: Sink>(
 // receive queue.
 fn write_side<W: Sink>(sink: &mut W, pair: &Pair<'_>, side: Side) -> Result<(), StreamFault>
     requires { W.has_failed sink.old ≡ false }
-    ensures { Takes (W.contents sink.old) result (side_line side pair.now) (W.contents sink.new) (W.has_failed sink.new) }
+    ensures { Takes (W.contents sink.old) result (side_line side pair.now) (W.contents sink.new)
+        (W.has_failed sink.new) }
 {
     let state = pair.socket(side).state().name();
     let accepted = pair.accepted(side).len();
@@ -258,7 +266,8 @@ pub fn write_outcomes<W: Sink>(
     outcomes: &[Outcome],
 ) -> Result<(), StreamFault>
     requires { W.has_failed sink.old ≡ false }
-    ensures { Takes (W.contents sink.old) result (outcome_lines (map stored_of segments.now) outcomes.now) (W.contents sink.new) (W.has_failed sink.new) }
+    ensures { Takes (W.contents sink.old) result (outcome_lines (map stored_of segments.now) outcomes.now)
+        (W.contents sink.new) (W.has_failed sink.new) }
 {
     for outcome in outcomes {
         write_outcome(sink, segments, outcome)?;

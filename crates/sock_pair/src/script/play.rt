@@ -1,4 +1,4 @@
-// The run of a script.
+//! The run of a script.
 ghost use Rattle.std.specs.Prelude.{◌≡◌, ◌≤◌, IfOk, IfSome, [], None, false, length, vec_len, slice_index};
 ghost use Rattle.net_base.specs.Ring.{ring};
 ghost use Rattle.sock_pair.specs.ReplayEnds.{Reads, StopsWriting};
@@ -52,7 +52,8 @@ pub fn play<W: Sink>(alloc: Global, script: &Script, writer: &mut W) -> End
     requires fresh { W.has_failed writer.old ≡ false }
     requires playable { IsPlayable script.now.sizes script.now.limit }
     ensures failed { StopsWriting result (W.has_failed writer.new) }
-    ensures written { Plays script.now.events.items (begun_of script.now) result (W.contents writer.old) (W.contents writer.new) }
+    ensures written { Plays script.now.events.items (begun_of script.now) result (W.contents writer.old)
+        (W.contents writer.new) }
 {
     let Ok(buffers) = Buffers::new(alloc, script.sizes) else {
         return End::Memory;
@@ -130,7 +131,8 @@ fn begin<'a>(
     requires brx { length brx.now ≤ 1048576 }
     requires btx { length btx.now ≤ 1048576 }
     requires limit { IsLimit limit }
-    ensures { result ≡ begun (length arx.entry.now) (length atx.entry.now) (length brx.entry.now) (length btx.entry.now) limit }
+    ensures { result ≡ begun (length arx.entry.now) (length atx.entry.now) (length brx.entry.now)
+        (length btx.entry.now) limit }
 {
     let a = setup(arx, atx, ENDPOINT_A);
     let b = setup(brx, btx, ENDPOINT_B);

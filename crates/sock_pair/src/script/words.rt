@@ -1,4 +1,4 @@
-// A line as words.
+//! A line as words.
 ghost use Rattle.std.specs.Prelude.{◌≡◌, ◌==◌, ◌≤◌, ◌<◌, [], ◌∷◌, None, Some, MatchOption, IfSome, length, option_copied};
 ghost use Rattle.std.specs.List.{position_or_len, prefix_len};
 ghost use Rattle.sock_pair.specs.ScriptText.{words_of};

@@ -6,7 +6,7 @@ use Rattle.sock_pair.specs.PairViews.{PairView, host_of}
 use Rattle.sock_pair.specs.Sides.{other_side}
 use Rattle.sock_pair.specs.declared.side.Side.TheVariants.{A, B}
 use Rattle.sock_pair.proofs.PairHosts.{host_at, connect_stays, pair_with}
-use Rattle.sock_pair.proofs.PairKeeps.{connect_keeps}
+use Rattle.sock_pair.proofs.PairReaches.{connect_keeps}
 use Rattle.sock_pair.proofs.PairReturns.{one_side}
 use Rattle.sock_pair.proofs.pair.Pair.connect.Goals as goal
 

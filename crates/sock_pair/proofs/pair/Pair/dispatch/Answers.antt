@@ -4,7 +4,7 @@ use Rattle.sock_pair.specs.PairSteps.{Dispatches}
 use Rattle.sock_pair.specs.PairViews.{PairView, host_of}
 use Rattle.sock_pair.specs.declared.side.Side.TheVariants.{A, B}
 use Rattle.sock_pair.proofs.PairHosts.{host_at, dispatch_stays, pair_exchanged}
-use Rattle.sock_pair.proofs.PairKeeps.{dispatch_keeps}
+use Rattle.sock_pair.proofs.PairReaches.{dispatch_keeps}
 use Rattle.sock_pair.proofs.PairReturns.{with_segments_if, kept_with_segments_if}
 use Rattle.sock_pair.proofs.pair.Pair.dispatch.Goals as goal
 

@@ -4,7 +4,7 @@ use Rattle.sock_pair.specs.PairCalls.{listening, OpensAs}
 use Rattle.sock_pair.specs.PairViews.{PairView}
 use Rattle.sock_pair.specs.declared.side.Side.TheVariants.{A, B}
 use Rattle.sock_pair.proofs.PairHosts.{host_at, listen_stays, pair_with}
-use Rattle.sock_pair.proofs.PairKeeps.{listen_keeps}
+use Rattle.sock_pair.proofs.PairReaches.{listen_keeps}
 use Rattle.sock_pair.proofs.PairReturns.{one_side}
 use Rattle.sock_pair.proofs.pair.Pair.listen.Goals as goal
 

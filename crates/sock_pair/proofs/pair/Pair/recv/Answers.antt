@@ -4,7 +4,7 @@ use Rattle.sock_pair.specs.PairCalls.{Receives}
 use Rattle.sock_pair.specs.PairViews.{PairView, host_of}
 use Rattle.sock_pair.specs.declared.side.Side.TheVariants.{A, B}
 use Rattle.sock_pair.proofs.PairHosts.{host_at, recv_stays, pair_with}
-use Rattle.sock_pair.proofs.PairKeeps.{recv_keeps}
+use Rattle.sock_pair.proofs.PairReaches.{recv_keeps}
 use Rattle.sock_pair.proofs.PairReturns.{one_side_if, kept_if}
 use Rattle.sock_pair.proofs.pair.Pair.recv.Goals as goal
 

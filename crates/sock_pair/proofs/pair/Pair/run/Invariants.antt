@@ -1,9 +1,11 @@
 use Rattle.std.proofs.Common.{◌≡◌, ◌+◌, length}
+use Rattle.sock_pair.specs.NetworkRuns.{Reaches}
+use Rattle.sock_pair.specs.PairNetwork.{network_of}
 use Rattle.sock_pair.specs.PairPromises.{Prefix, Release}
 use Rattle.sock_pair.specs.PairRuns.{Ran}
 use Rattle.sock_pair.proofs.pair.Pair.run.Given as goal
 
 abbrev pub invariant-loop-event : goal.invariant-loop-event
 invariant-loop-event l =
-    Prefix l.self × Release l.self × Ran l.events l.fn.self l.fn.outcomes.items l.outcomes.items l.self
+    Reaches (network_of l.fn.self) (network_of l.self) × Prefix l.self × Release l.self × Ran l.events l.fn.self l.fn.outcomes.items l.outcomes.items l.self
     × (length l.outcomes.items ≡ length l.fn.outcomes.items + l.event-index)

@@ -1,11 +1,11 @@
-use Rattle.std.proofs.Common.{◌∙◌, ◌≤◌, ◌^◌, sym, map, length, false}
+use Rattle.std.proofs.Common.{◌∙◌, sym, map, length, false}
 use Rattle.sock_pair.specs.Holding.{stored_of}
 use Rattle.sock_pair.specs.PairCalls.{Sends}
 use Rattle.sock_pair.specs.PairViews.{PairView, host_of}
 use Rattle.sock_pair.specs.declared.side.Side.TheVariants.{A, B}
 use Rattle.sock_pair.proofs.PairHosts.{host_at, send_stays, pair_with}
-use Rattle.sock_pair.proofs.PairKeeps.{send_keeps}
-use Rattle.sock_pair.proofs.PairReturns.{one_side_if, kept_if, if_both, over_as, sends_under, is_refused}
+use Rattle.sock_pair.proofs.PairReaches.{send_keeps}
+use Rattle.sock_pair.proofs.PairReturns.{one_side_if, kept_if, over_as, sends_under, is_refused}
 use Rattle.sock_pair.proofs.pair.Pair.send.Goals as goal
 
 pub returns-then-is_over_limit-clause-step : goal.returns-then-is_over_limit-clause-step
@@ -17,9 +17,8 @@ invariant_of-self c =
     let k = c.send.new.self in
     let bs = c.args.bytes.now in
     let under = over_as A c.args.side p c.args.self.now (length bs) c.is_over_limit.result false c.in-A.is c.self.view_is c.is_over_limit.ensures c.if-is_over_limit.false in
-    kept_if (λ o. Sends p.limit bs (host_of A p) o k × (length k.control_block.tx_buffer.bytes ≤ 2 ^ 30)) A p k c.send.result c.self.invariant
-    (if_both _ _ c.send.result (sends_under p.limit bs (host_of A p) k c.send.result under c.send.ensures.step) c.send.ensures.small) c.send.ensures.memory
-    (λ o d. pair_with A p k c.self.invariant (send_stays _ k p.limit bs o (host_at A p c.self.invariant) d.0) (send_keeps A p (host_at A p c.self.invariant) c.self.invariant.network bs o k d.1 d.0))
+    kept_if (λ o. Sends p.limit bs (host_of A p) o k) A p k c.send.result c.self.invariant (sends_under p.limit bs (host_of A p) k c.send.result under c.send.ensures.step) c.send.ensures.memory
+    (λ o d. pair_with A p k c.self.invariant (send_stays _ k p.limit bs o (host_at A p c.self.invariant) d) (send_keeps A p (host_at A p c.self.invariant) c.self.invariant.network bs o k c.in_range.ensures.buffers.transmit d))
 
 pub returns-in-A-clause-step : goal.returns-in-A-clause-step
 returns-in-A-clause-step c =
@@ -35,9 +34,8 @@ invariant_of-self-in-B c =
     let k = c.send-in-B.new.self in
     let bs = c.args.bytes.now in
     let under = over_as B c.args.side p c.args.self.now (length bs) c.is_over_limit.result false c.in-B.is c.self.view_is c.is_over_limit.ensures c.if-is_over_limit.false in
-    kept_if (λ o. Sends p.limit bs (host_of B p) o k × (length k.control_block.tx_buffer.bytes ≤ 2 ^ 30)) B p k c.send-in-B.result c.self.invariant
-    (if_both _ _ c.send-in-B.result (sends_under p.limit bs (host_of B p) k c.send-in-B.result under c.send-in-B.ensures.step) c.send-in-B.ensures.small) c.send-in-B.ensures.memory
-    (λ o d. pair_with B p k c.self.invariant (send_stays _ k p.limit bs o (host_at B p c.self.invariant) d.0) (send_keeps B p (host_at B p c.self.invariant) c.self.invariant.network bs o k d.1 d.0))
+    kept_if (λ o. Sends p.limit bs (host_of B p) o k) B p k c.send-in-B.result c.self.invariant (sends_under p.limit bs (host_of B p) k c.send-in-B.result under c.send-in-B.ensures.step) c.send-in-B.ensures.memory
+    (λ o d. pair_with B p k c.self.invariant (send_stays _ k p.limit bs o (host_at B p c.self.invariant) d) (send_keeps B p (host_at B p c.self.invariant) c.self.invariant.network bs o k c.in_range-2.ensures.buffers.transmit d))
 
 pub returns-in-B-clause-step : goal.returns-in-B-clause-step
 returns-in-B-clause-step c =

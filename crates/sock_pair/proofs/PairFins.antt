@@ -1,0 +1,136 @@
+-- No table counts a FIN yet.
+use Rattle.std.proofs.Common.{◌≡◌, ℕ, Bool, true, false, refl, sym, subst, List, [], length, Option, Some, None}
+use Rattle.std.specs.Prelude.{not, if◌then◌else◌}
+use Rattle.ip_wire.specs.declared.endpoint.IpListenEndpoint.{IpListenEndpoint}
+use Rattle.ip_wire.specs.declared.repr.IpRepr.{IpRepr}
+use Rattle.net_base.specs.declared.time.Instant.{Instant}
+use Rattle.control_wire.specs.Segment.{Segment}
+use Rattle.control_wire.specs.declared.seq_number.TcpSeqNumber.{TcpSeqNumber}
+use Rattle.control_wire.specs.declared.tcp.TcpControl.{TcpControl}
+use Rattle.control_wire.specs.declared.tcp.TcpControl.TheVariants as control
+use Rattle.sock_core.specs.Facts.{Facts}
+use Rattle.sock_tcp.specs.View.{View, moment_of, fresh}
+use Rattle.sock_tcp.specs.Opening.{listened, connected, renewed}
+use Rattle.sock_tcp.specs.Queues.{queued, written, read_off}
+use Rattle.sock_tcp.specs.Due.{begun, begun_to, before_emit, before_emit_to, ended, last_ts_set, last_ts_set_at}
+use Rattle.sock_tcp.specs.Content.{Sending, content}
+use Rattle.sock_tcp.specs.Dispatch.{left_by, sent}
+use Rattle.sock_tcp.specs.Steps.{Advance, advanced, advance_in, syn_sent_advance, syn_received, syn_answered, options_taken, window_taken, released, una_advanced, joined, segment_taken}
+use Rattle.sock_tcp.specs.Process.{stopped, tuple_of, has_window, processed_inside, tested, by_verdict, processed}
+use Rattle.sock_tcp.specs.Window.{receive_window, is_next_in_window}
+use Rattle.sock_tcp.specs.Verdict.{verdict_of}
+use Rattle.sock_tcp.specs.declared.state.State.{State}
+use Rattle.sock_tcp.specs.declared.state.State.TheVariants as state
+use Rattle.sock_tcp.specs.declared.tuple.Tuple.{Tuple}
+use Rattle.sock_tcp.specs.declared.verdict.Verdict.{Verdict}
+use Rattle.sock_tcp.specs.declared.verdict.Verdict.TheVariants as verdicts
+use Rattle.sock_pair.specs.Recording.{SendsFrom, SocketDispatches}
+use Rattle.sock_pair.specs.declared.recorder.Sent.{Sent}
+
+-- where no FIN was counted before, none is afterwards
+abbrev pub CountsNoFin : View → View → Type 0
+CountsNoFin v w = v.rx_fin_received ≡ false → w.rx_fin_received ≡ false
+
+-- ---- the calls of the application
+
+pub listened_fin : (v : View) (e : IpListenEndpoint) → (listened v e).rx_fin_received ≡ false
+unfolding listened renewed fresh
+listened_fin v e = refl
+
+pub connected_fin : (v : View) (t : Tuple) (word : ℕ) → (connected v t word).rx_fin_received ≡ false
+unfolding connected renewed fresh
+connected_fin v t word = refl
+
+pub written_fin : (v : View) (bs : List ℕ) → CountsNoFin v (written v bs)
+unfolding queued
+written_fin v bs = λ e. e
+
+pub read_fin : (v : View) (n : ℕ) → CountsNoFin v (read_off v n)
+unfolding read_off
+read_fin v n = λ e. e
+
+-- ---- dispatch
+
+last_ts_fin : (v : View) (now : Instant) (o : Option Instant) → CountsNoFin v (last_ts_set_at o v now)
+last_ts_fin v now None = λ e. e
+last_ts_fin v now (Some t) = λ e. e
+
+begins_to : (v : View) (f : Facts) (o : Option Tuple) → CountsNoFin v (begun_to o v f).view
+unfolding renewed fresh last_ts_set
+begins_to v f None = λ e. e
+begins_to v f (Some t) = two (f.has_address t.local.addr)
+  where
+    two : (b : Bool) → CountsNoFin v (if b then record { view = last_ts_set v (moment_of f); peer = Some t } else ended (renewed v)).view
+    two true = last_ts_fin v (moment_of f) v.remote_last_ts
+    two false = λ e. refl
+
+before_emit_same : (o : Option Tuple) (v : View) → (before_emit_to o v).view ≡ v
+before_emit_same None v = refl
+before_emit_same (Some t) v = refl
+
+before_emit_fin : (v : View) (f : Facts) → CountsNoFin v (before_emit v f).view
+unfolding before_emit begun
+before_emit_fin v f = subst (λ (w : View). CountsNoFin v w) (sym (before_emit_same (begun v f).peer (begun v f).view)) (begins_to v f v.tuple)
+
+left_fin : (o : Option Sending) (v : View) (ok : Bool) → CountsNoFin v (left_by o v ok)
+unfolding sent
+left_fin None v ok = λ e. e
+left_fin (Some c) v true = λ e. e
+left_fin (Some c) v false = λ e. e
+
+pub dispatch_fin : (v w : View) (f : Facts) (fail : Bool) (r : Sent) → SocketDispatches v f fail r w → CountsNoFin v w
+unfolding SocketDispatches
+dispatch_fin v w f fail r d = λ e. from (before_emit v f).peer (before_emit v f).view d (before_emit_fin v f e)
+  where
+    from : (peer : Option Tuple) (u : View) → SendsFrom peer u f fail r w → CountsNoFin u w
+    from None u d = subst (CountsNoFin u) (sym d.1) (λ e. e)
+    from (Some t) u d = subst (CountsNoFin u) (sym d.view) (left_fin (content u t f d.bytes) u (not fail))
+
+-- ---- process
+
+una_fin : (v : View) (o : Option TcpSeqNumber) → CountsNoFin v (una_advanced v o)
+unfolding una_advanced
+una_fin v None = λ e. e
+una_fin v (Some a) = λ e. e
+
+taken_fin : (v : View) (now : Instant) (n : ℕ) (bs : List ℕ) (s : Segment) → CountsNoFin v (segment_taken v now n bs s)
+unfolding segment_taken joined released window_taken
+taken_fin v now n bs s = una_fin (released (window_taken v now s.control s.window_len) n) s.ack_number
+
+module _ (v : View) (now : Instant) (word : ℕ) (ip : IpRepr) (s : Segment) where
+  answered_fin : (o : Option TcpSeqNumber) → CountsNoFin v (syn_sent_advance o v s).view
+  unfolding syn_answered options_taken
+  answered_fin None = λ e. e
+  answered_fin (Some a) = λ e. e
+
+  advance_fin : (st : State) (c : TcpControl) → CountsNoFin v (advance_in st c v (tuple_of ip s) word s).view
+  unfolding syn_received options_taken
+  advance_fin state.Listen control.Syn = λ e. e
+  advance_fin state.SynSent control.Syn = answered_fin s.ack_number
+  advance_fin state.SynReceived control.None = λ e. e
+  advance_fin state.Established control.None = λ e. e
+  advance_fin _ _ = λ e. e
+
+  after_fin : (a : Advance) (n : ℕ) (bs : List ℕ) (b : Bool) → CountsNoFin v a.view → CountsNoFin v (stopped (if b then segment_taken a.view now n bs s else a.view)).view
+  after_fin a n bs true h = λ e. taken_fin a.view now n bs s (h e)
+  after_fin a n bs false h = h
+
+  inside_fin : (bs : List ℕ) → CountsNoFin v (processed_inside v now word bs ip s).view
+  unfolding processed_inside advanced
+  inside_fin bs = after_fin (advance_in v.state s.control v (tuple_of ip s) word s) _ bs (advance_in v.state s.control v (tuple_of ip s) word s).goes_on (advance_fin v.state s.control)
+
+  tested_fin : (b : Bool) → CountsNoFin v (tested b v now word ip s).view
+  tested_fin false = inside_fin []
+  tested_fin true = go (is_next_in_window (receive_window v) s.seq_number (length s.payload))
+    where
+      go : (b : Bool) → CountsNoFin v (if b then processed_inside v now word s.payload ip s else stopped v).view
+      go true = inside_fin s.payload
+      go false = λ e. e
+
+  verdict_fin : (x : Verdict) → CountsNoFin v (by_verdict x v now word ip s).view
+  verdict_fin verdicts.Pass = tested_fin (has_window v.state)
+  verdict_fin _ = λ e. e
+
+  pub process_fin : CountsNoFin v (processed v now word ip s).view
+  unfolding processed
+  process_fin = verdict_fin (verdict_of v s.control s.ack_number)

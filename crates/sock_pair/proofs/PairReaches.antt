@@ -1,0 +1,332 @@
+-- Each event of a pair is a run of steps of the theorem on two streams.
+use Rattle.std.proofs.Common.{◌≡◌, ℕ, ◌+◌, ◌<◌, ◌≤◌, ◌^◌, List, [], ◌∷◌, length, ◌++◌, Bool, true, false, Option, Some, None, refl, sym, ap, subst, ◌∙◌, arith, inr, length-append, length-take}
+use Rattle.std.specs.Prelude.{IsTrue, not, min, option_map, slice_get, Result, Ok, Err, IfOk, OnErr}
+use Rattle.std.proofs.lemmas.Bool.Decides.{nat_tests}
+use Rattle.std.proofs.lemmas.List.{append-nil}
+use Rattle.std.specs.List.{Contains}
+use Rattle.ip_wire.specs.declared.endpoint.IpEndpoint.{IpEndpoint}
+use Rattle.ip_wire.specs.declared.repr.IpRepr.{IpRepr}
+use Rattle.control_wire.specs.Segment.{Segment}
+use Rattle.sock_core.specs.Facts.{Facts}
+use Rattle.sock_tcp.specs.Queue.{capacity}
+use Rattle.sock_tcp.specs.View.{View}
+use Rattle.sock_tcp.specs.Queues.{may_send, may_recv, written}
+use Rattle.sock_tcp.specs.Due.{Begun, before_emit}
+use Rattle.sock_tcp.specs.Content.{Sending, content}
+use Rattle.sock_tcp.specs.Dispatch.{left_by}
+use Rattle.sock_tcp.specs.Process.{Accepts}
+use Rattle.sock_tcp.specs.declared.tuple.Tuple.{Tuple}
+use Rattle.sock_pair.specs.Holding.{kept_at, segment_at}
+use Rattle.sock_pair.specs.Moments.{facts_of}
+use Rattle.sock_pair.specs.NetworkRuns.{Reaches, answered, start, unopened}
+use Rattle.sock_pair.specs.Network.{Accepts as TakesBytes, Arrives, Connects, HandsOut, IsStamped, IsWithin, Listens, Endpoint, Network}
+use Rattle.sock_pair.specs.PairLaws.{IsBounded, MayEmit}
+use Rattle.sock_pair.specs.declared.event.Event.{Event}
+use Rattle.sock_pair.specs.declared.event.Event.TheVariants as event
+use Rattle.sock_pair.specs.declared.host.Opening.{Opening}
+use Rattle.sock_pair.specs.declared.host.Opening.TheVariants as opening
+use Rattle.sock_pair.proofs.NetworkDeliveries.{sending_bounds, nothing_received}
+use Rattle.sock_pair.proofs.NetworkReaches.{begins_reach, delivery_reaches, emission_reaches, one_step, reach_keeps, reach_then, stays_there}
+use Rattle.sock_pair.proofs.PairHosts.{cannot_send, cannot_recv, closed_accepts_none, host_at, no_peer_readies}
+use Rattle.sock_pair.proofs.PairReturns.{contains_at}
+use Rattle.sock_pair.proofs.ShownCalls.{listened_shows, connected_shows, written_shows, read_shows, sends_open}
+use Rattle.sock_pair.proofs.ShownDispatch.{begun_shows, emission_plans}
+use Rattle.sock_pair.proofs.ShownNetworks.{between, side_network, from_side, exchanged_reached, with_reached, stays_reached, unchanged_reached, stored_is, sent_has, may_arrive}
+use Rattle.sock_pair.proofs.ShownProcess.{process_heard}
+use Rattle.sock_pair.specs.NetworkInvariant.{IsInvariant}
+use Rattle.sock_pair.specs.PairInvariant.{HasSmallBuffers, IsIdle, IsHost, IsPair, IsSized}
+use Rattle.sock_pair.specs.PairNetwork.{seen, is_listener, is_passive, shown, stream_segment, endpoint_of, shown_segment, network_at, network_of, IsSmall}
+use Rattle.sock_pair.specs.PairViews.{HostView, StoredView, PairView, host_of, with_host, new_host, new_pair}
+use Rattle.sock_pair.specs.PairCalls.{listening, connecting, OpensAs, is_over, accepted_of, sending, Sends, SendsIf, SendsUnder, receiving, Receives, ReceivesIf}
+use Rattle.sock_pair.specs.PairSteps.{EventStep, Delivers, Dispatches, stored_at, DeliversTo, DeliversIf, is_old, exchanged, processed_by, delivered_to}
+use Rattle.sock_pair.specs.Recording.{Records, SendsTo, SendsFrom, SocketDispatches}
+use Rattle.sock_pair.specs.StreamCalls.{ProcessEffect}
+use Rattle.sock_pair.specs.StreamViews.{SocketView, StreamSegment}
+use Rattle.sock_pair.specs.Sides.{other_side}
+use Rattle.sock_pair.specs.declared.moment.Moment.{Moment}
+use Rattle.sock_pair.specs.declared.outcome.Outcome.{Outcome}
+use Rattle.sock_pair.specs.declared.outcome.PairError.{PairError}
+use Rattle.sock_pair.specs.declared.recorder.Sent.{Sent}
+use Rattle.sock_pair.specs.declared.recorder.Sent.TheVariants as sent
+use Rattle.sock_pair.specs.declared.side.Side.{Side}
+use Rattle.sock_pair.specs.declared.side.Side.TheVariants.{A, B}
+
+-- ---- deliveries
+
+-- what an opened host shows, where its socket is v
+abbrev opened : HostView → Bool → View → Endpoint
+opened h b v = record (endpoint_of h) { view = shown v; listener = b }
+
+abbrev opened_network : Side → HostView → Bool → View → HostView → List StoredView → Option ℕ → Network
+opened_network s h b v o ks limit = between s (opened h b v) (endpoint_of o) ks limit
+
+bounded : (s : Side) (h : HostView) (b : Bool) (v : View) (o : HostView) (ks : List StoredView) (limit : Option ℕ) → IsInvariant (opened_network s h b v o ks limit) → IsBounded v
+bounded s h b v o ks limit i = record { sending = λ d. sending_bounds _ i d; unread = λ e. nothing_received _ i e }
+
+-- a reply as the other side sees it
+abbrev shown_reply : ℕ → ℕ → Option (IpRepr × Segment) → Option StreamSegment
+shown_reply released taken r = option_map (λ (x : IpRepr × Segment). stream_segment x.1 released taken) r
+
+stored_reply : (s : Side) (x y : Endpoint) (ks : List StoredView) (limit : Option ℕ) (r : Option (IpRepr × Segment)) (released taken : ℕ) → answered (between s x y ks limit) (shown_reply released taken r) ≡ between s x y (ks ++ kept_at s r released taken) limit
+stored_reply s x y ks limit None released taken = ap (λ ts. between s x y ts limit) (sym (append-nil ks))
+stored_reply s x y ks limit (Some r) released taken = stored_is s x y ks (record { emitter = s; ip = r.0; segment = r.1; released_at = released; taken_at = taken }) limit refl
+
+reply_stamped : (e : Endpoint) (r : Option (IpRepr × Segment)) (a : StreamSegment) → shown_reply e.released e.taken r ≡ Some a → IsStamped e a
+reply_stamped e None a is = let no : None ≡ Some a = is in cc
+reply_stamped e (Some x) a is =
+    let same : stream_segment x.1 e.released e.taken ≡ a = cc in
+    subst (IsStamped e) same (record { released = omega arith; taken = omega arith })
+
+module _ (s : Side) (h o : HostView) (ks : List StoredView) (limit : Option ℕ) (m : Moment) (t : StoredView) (w : m.word < 2 ^ 32) (small : IsSmall t.segment) (there : Contains ks t) (from_other : t.emitter ≡ other_side s) (room : capacity h.control_block.rx_buffer ≤ 2 ^ 30) (young : is_old o t ≡ false) (accepted : Accepts h.control_block t.ip t.segment) where
+  -- the segments, once the reply is stored
+  abbrev with_reply : List StoredView
+  with_reply = ks ++ kept_at s (processed_by h m t).reply (delivered_to h m t).released (delivered_to h m t).taken
+
+  -- an opened side hears it
+  hears_as : (b : Bool) → is_passive h.control_block ≡ b → IsInvariant (opened_network s h b h.control_block o ks limit) → Reaches (opened_network s h b h.control_block o ks limit) (opened_network s (delivered_to h m t) b (processed_by h m t).view o with_reply limit)
+  hears_as b e i =
+      let k : HostView = delivered_to h m t in
+      let n : Network = opened_network s h b h.control_block o ks limit in
+      let come : Arrives n (shown_segment t) = record { sent = sent_has (other_side s) ks t there from_other; may = inr (may_arrive limit o t young) } in
+      let does : ProcessEffect b (shown h.control_block) (shown (processed_by h m t).view) (shown_segment t) (shown_reply k.released k.taken (processed_by h m t).reply) = subst (λ x. ProcessEffect x (shown h.control_block) (shown (processed_by h m t).view) (shown_segment t) (shown_reply k.released k.taken (processed_by h m t).reply)) e
+      (process_heard h.control_block (record { micros = m.now.micros }) m.word t.ip t.segment t.released_at t.taken_at k.released k.taken w small room (bounded s h b h.control_block o ks limit i) accepted) in
+      subst (Reaches n) (stored_reply s (opened k b (processed_by h m t).view) (endpoint_of o) ks limit (processed_by h m t).reply k.released k.taken)
+      (delivery_reaches n (shown_segment t) come (shown (processed_by h m t).view) (shown_reply k.released k.taken (processed_by h m t).reply) does
+      (λ a is. reply_stamped (opened k b (processed_by h m t).view) (processed_by h m t).reply a is))
+
+  hears_in : (e : Opening) → (e ≡ opening.Unopened → ⊥) → is_passive h.control_block ≡ is_listener e → IsInvariant (network_at s (record h { opening = e }) o ks limit) → Reaches (network_at s (record h { opening = e }) o ks limit) (network_at s (record (delivered_to h m t) { opening = e }) o with_reply limit)
+  hears_in opening.Unopened shut p i = absurd (shut refl)
+  hears_in opening.Listener shut p i = hears_as true p i
+  hears_in opening.Connector shut p i = hears_as false p i
+
+  hears : (h.opening ≡ opening.Unopened → ⊥) → is_passive h.control_block ≡ is_listener h.opening → IsInvariant (network_at s h o ks limit) → Reaches (network_at s h o ks limit) (network_at s (delivered_to h m t) o with_reply limit)
+  hears shut p i = hears_in h.opening shut p i
+
+-- ---- dispatches
+
+-- what was stored of an emit
+records_stored : (s : Side) (c : Sending) (r : Sent) (released taken : ℕ) → Records false (Some c) r → stored_at s r released taken ≡ record { emitter = s; ip = c.ip; segment = c.segment; released_at = released; taken_at = taken } ∷ []
+records_stored s c sent.Quiet released taken e = absurd e
+records_stored s c sent.Failed released taken e = absurd e
+records_stored s c (sent.Emitted h bytes) released taken e = λ i. record { emitter = s; ip = (e.0 i).ip_repr; segment = segment_at (e.0 i) (e.1 i); released_at = released; taken_at = taken } ∷ []
+
+failed_stored : (s : Side) (c : Option Sending) (r : Sent) (released taken : ℕ) → Records true c r → stored_at s r released taken ≡ []
+failed_stored s None r released taken e = ap (λ x. stored_at s x released taken) e
+failed_stored s (Some c) r released taken e = ap (λ x. stored_at s x released taken) e
+
+module _ (s : Side) (h o : HostView) (ks : List StoredView) (limit : Option ℕ) (b : Bool) where
+  -- the same host, its socket as v
+  abbrev at_view : View → List StoredView → Network
+  at_view v ts = opened_network s h b v o ts limit
+
+  none_stored : (v : View) (xs : List StoredView) → xs ≡ [] → Reaches (at_view v ks) (at_view v (ks ++ xs))
+  none_stored v xs e = stays_there _ _ (ap (at_view v) (sym (append-nil ks) ∙ ap (λ zs. ks ++ zs) (sym e)))
+
+  -- a segment that may be emitted goes out
+  emits_one : (v : View) (c : Sending) → MayEmit v c h.released h.taken → Reaches (at_view v ks) (at_view (left_by (Some c) v true) (ks ++ record { emitter = s; ip = c.ip; segment = c.segment; released_at = h.released; taken_at = h.taken } ∷ []))
+  emits_one v c may =
+      subst (Reaches (at_view v ks)) (stored_is s (opened h b (left_by (Some c) v true)) (endpoint_of o) ks (record { emitter = s; ip = c.ip; segment = c.segment; released_at = h.released; taken_at = h.taken }) limit refl)
+      (emission_reaches (at_view v ks) (shown (left_by (Some c) v true)) (stream_segment c.segment h.released h.taken) (record { released = omega arith; taken = omega arith }) may.sends may.leaves)
+
+  sends_to : (v w : View) (t : Tuple) (f : Facts) (fail : Bool) (r : Sent) → SendsTo v t f fail r w → IsInvariant (at_view v ks) → Reaches (at_view v ks) (at_view w (ks ++ stored_at s r h.released h.taken))
+  sends_to v w t f fail r d i = subst (λ u. Reaches (at_view v ks) (at_view u (ks ++ stored_at s r h.released h.taken))) (sym d.view) (go fail (content v t f d.bytes) refl d.records)
+    where
+      go : (fail : Bool) (c : Option Sending) → content v t f d.bytes ≡ c → Records fail c r → Reaches (at_view v ks) (at_view (left_by c v (not fail)) (ks ++ stored_at s r h.released h.taken))
+      go true None e x = none_stored v _ (failed_stored s None r h.released h.taken x)
+      go true (Some c) e x = none_stored v _ (failed_stored s (Some c) r h.released h.taken x)
+      go false None e x = none_stored v _ (ap (λ y. stored_at s y h.released h.taken) x)
+      go false (Some c) e x = subst (λ xs. Reaches (at_view v ks) (at_view (left_by (Some c) v true) (ks ++ xs))) (sym (records_stored s c r h.released h.taken x)) (emits_one v c (emission_plans v h.released h.taken (bounded s h b v o ks limit i) t f d.bytes d.lent c e))
+
+  sends_from : (peer : Option Tuple) (v w : View) (f : Facts) (fail : Bool) (r : Sent) → SendsFrom peer v f fail r w → IsInvariant (at_view v ks) → Reaches (at_view v ks) (at_view w (ks ++ stored_at s r h.released h.taken))
+  sends_from None v w f fail r d i = subst (λ u. Reaches (at_view v ks) (at_view u (ks ++ stored_at s r h.released h.taken))) (sym d.1) (none_stored v _ (ap (λ y. stored_at s y h.released h.taken) d.0))
+  sends_from (Some t) v w f fail r d i = sends_to v w t f fail r d i
+
+  dispatches_as : (w : View) (f : Facts) (fail : Bool) (r : Sent) → SocketDispatches h.control_block f fail r w → IsInvariant (at_view h.control_block ks) → Reaches (at_view h.control_block ks) (at_view w (ks ++ stored_at s r h.released h.taken))
+  unfolding SocketDispatches
+  dispatches_as w f fail r d i =
+      let u : View = (before_emit h.control_block f).view in
+      let begins : Reaches (at_view h.control_block ks) (at_view u ks) = begins_reach (at_view h.control_block ks) (shown u) (begun_shows h.control_block f (bounded s h b h.control_block o ks limit i)) in
+      reach_then _ (at_view u ks) _ begins (sends_from (before_emit h.control_block f).peer u w f fail r d (reach_keeps _ _ begins i))
+
+-- a dispatch of a socket without a peer stores nothing
+idle_stores : (v w : View) (f : Facts) (fail : Bool) (r : Sent) → v.tuple ≡ None → SocketDispatches v f fail r w → r ≡ sent.Quiet
+unfolding SocketDispatches
+idle_stores v w f fail r e d = (subst (λ (b : Begun). SendsFrom b.peer b.view f fail r w) (no_peer_readies v f e) d).0
+
+dispatches_in : (s : Side) (h o : HostView) (ks : List StoredView) (limit : Option ℕ) (w : View) (f : Facts) (fail : Bool) (r : Sent) → SocketDispatches h.control_block f fail r w → (e : Opening) → (e ≡ opening.Unopened → IsIdle h.control_block) → IsInvariant (network_at s (record h { opening = e }) o ks limit)
+    → Reaches (network_at s (record h { opening = e }) o ks limit) (network_at s (record h { opening = e; control_block = w }) o (ks ++ stored_at s r h.released h.taken) limit)
+dispatches_in s h o ks limit w f fail r d opening.Unopened idle i =
+    stays_there _ _ (ap (λ ts. network_at s (record h { opening = opening.Unopened }) o ts limit) (sym (append-nil ks) ∙ ap (λ x. ks ++ stored_at s x h.released h.taken) (sym (idle_stores h.control_block w f fail r (idle refl).tuple d))))
+dispatches_in s h o ks limit w f fail r d opening.Listener idle i = dispatches_as s h o ks limit true w f fail r d i
+dispatches_in s h o ks limit w f fail r d opening.Connector idle i = dispatches_as s h o ks limit false w f fail r d i
+
+-- ---- the calls of the application
+
+-- a side that was not opened before opens as k
+opens_in : (s : Side) (h k n : HostView) (oc : Outcome) (o : HostView) (ks : List StoredView) (limit : Option ℕ) (e : Opening) → OpensAs e h n oc k → (e ≡ opening.Unopened → Reaches (network_at s h o ks limit) (network_at s n o ks limit)) → Reaches (network_at s h o ks limit) (network_at s k o ks limit)
+opens_in s h k n oc o ks limit opening.Unopened d new = subst (λ x. Reaches (network_at s h o ks limit) (network_at s x o ks limit)) (sym d.1) (new refl)
+opens_in s h k n oc o ks limit opening.Listener d new = stays_there _ _ (ap (λ x. network_at s x o ks limit) (sym d.1))
+opens_in s h k n oc o ks limit opening.Connector d new = stays_there _ _ (ap (λ x. network_at s x o ks limit) (sym d.1))
+
+-- what an unopened side shows
+abbrev unopened_network : Side → HostView → HostView → List StoredView → Option ℕ → Network
+unopened_network s h o ks limit = between s (record (endpoint_of h) { view = unopened.view; listener = false }) (endpoint_of o) ks limit
+
+unopened_as : (s : Side) (h o : HostView) (ks : List StoredView) (limit : Option ℕ) → h.opening ≡ opening.Unopened → network_at s h o ks limit ≡ unopened_network s h o ks limit
+unopened_as s h o ks limit e = ap (λ x. between s (record (endpoint_of h) { view = seen x h.control_block; listener = is_listener x }) (endpoint_of o) ks limit) e
+
+module _ (s : Side) (h o : HostView) (ks : List StoredView) (limit : Option ℕ) where
+  opened_by : (n : HostView) → h.opening ≡ opening.Unopened → Reaches (unopened_network s h o ks limit) (network_at s n o ks limit) → Reaches (network_at s h o ks limit) (network_at s n o ks limit)
+  opened_by n e r = subst (λ z. Reaches z (network_at s n o ks limit)) (sym (unopened_as s h o ks limit e)) r
+
+  listens_reach : h.opening ≡ opening.Unopened → Reaches (network_at s h o ks limit) (network_at s (listening h) o ks limit)
+  listens_reach e =
+      opened_by (listening h) e
+      (one_step _ _ (Listens refl (ap (λ (v : SocketView). between s (record (endpoint_of h) { view = v; listener = true }) (endpoint_of o) ks limit) (listened_shows h.control_block _))))
+
+  connects_reach : (m : Moment) (remote : IpEndpoint) → m.word < 2 ^ 32 → h.opening ≡ opening.Unopened → Reaches (network_at s h o ks limit) (network_at s (connecting h m remote) o ks limit)
+  connects_reach m remote w e =
+      opened_by (connecting h m remote) e
+      (one_step _ _ (Connects m.word w refl (ap (λ (v : SocketView). between s (record (endpoint_of h) { view = v; listener = false }) (endpoint_of o) ks limit) (connected_shows h.control_block _ m.word))))
+
+  -- ---- send
+
+  sends_as : (b : Bool) (bs : List ℕ) → may_send h.control_block.state ≡ true → length h.control_block.tx_buffer.bytes + length (accepted_of h bs) ≤ 2 ^ 30 → IsWithin limit (h.accepted ++ accepted_of h bs) → Reaches (between s (opened h b h.control_block) (endpoint_of o) ks limit) (between s (opened (sending h bs) b (written h.control_block bs)) (endpoint_of o) ks limit)
+  sends_as b bs may room within =
+      one_step _ _ (TakesBytes (accepted_of h bs) (sends_open h.control_block.state may) room within
+      (ap (λ (v : SocketView). between s (record (endpoint_of (sending h bs)) { view = v; listener = b }) (endpoint_of o) ks limit) (written_shows h.control_block bs)))
+
+  sends_in : (e : Opening) (bs : List ℕ) → (e ≡ opening.Unopened → ⊥) → may_send h.control_block.state ≡ true → length h.control_block.tx_buffer.bytes + length (accepted_of h bs) ≤ 2 ^ 30 → IsWithin limit (h.accepted ++ accepted_of h bs) → Reaches (network_at s (record h { opening = e }) o ks limit) (network_at s (record (sending h bs) { opening = e }) o ks limit)
+  sends_in opening.Unopened bs shut may room within = absurd (shut refl)
+  sends_in opening.Listener bs shut may room within = sends_as true bs may room within
+  sends_in opening.Connector bs shut may room within = sends_as false bs may room within
+
+  -- ---- recv
+
+  reads_as : (b : Bool) (size : ℕ) → Reaches (between s (opened h b h.control_block) (endpoint_of o) ks limit) (between s (opened (receiving h size) b (receiving h size).control_block) (endpoint_of o) ks limit)
+  reads_as b size =
+      one_step _ _ (HandsOut (min size (length h.control_block.rx_buffer.bytes))
+      (ap (λ (v : SocketView). between s (record (endpoint_of (receiving h size)) { view = v; listener = b }) (endpoint_of o) ks limit) (read_shows h.control_block (min size (length h.control_block.rx_buffer.bytes)) (omega arith))))
+
+  reads_in : (e : Opening) (size : ℕ) → (e ≡ opening.Unopened → ⊥) → Reaches (network_at s (record h { opening = e }) o ks limit) (network_at s (record (receiving h size) { opening = e }) o ks limit)
+  reads_in opening.Unopened size shut = absurd (shut refl)
+  reads_in opening.Listener size shut = reads_as true size
+  reads_in opening.Connector size shut = reads_as false size
+
+-- within the limit
+not_over : (limit : Option ℕ) (h : HostView) (bs : List ℕ) → is_over limit (length h.accepted + length bs) ≡ false → IsWithin limit (h.accepted ++ accepted_of h bs)
+not_over None h bs e = tt
+not_over (Some limit) h bs e =
+    let le : length h.accepted + length bs ≤ limit = grind (arith, nat_tests, e) in
+    omega (arith, le, length-append h.accepted (accepted_of h bs), length-take (min (length bs) h.control_block.tx_buffer.window) bs)
+
+module _ (s : Side) (p : PairView) (host : IsHost (host_of s p)) (i : IsInvariant (network_of p)) where
+  pub listen_reaches : (o : Outcome) (k : HostView) → OpensAs (host_of s p).opening (host_of s p) (listening (host_of s p)) o k → Reaches (network_of p) (network_of (with_host s p k))
+  listen_reaches o k e = with_reached s p k (opens_in s (host_of s p) k (listening (host_of s p)) o (host_of (other_side s) p) p.segments p.limit (host_of s p).opening e (λ u. listens_reach s (host_of s p) (host_of (other_side s) p) p.segments p.limit u))
+
+  pub connect_reaches : (m : Moment) (remote : IpEndpoint) (o : Outcome) (k : HostView) → m.word < 2 ^ 32 → OpensAs (host_of s p).opening (host_of s p) (connecting (host_of s p) m remote) o k → Reaches (network_of p) (network_of (with_host s p k))
+  connect_reaches m remote o k w e = with_reached s p k (opens_in s (host_of s p) k (connecting (host_of s p) m remote) o (host_of (other_side s) p) p.segments p.limit (host_of s p).opening e (λ u. connects_reach s (host_of s p) (host_of (other_side s) p) p.segments p.limit m remote w u))
+
+  -- the transmit buffer has at most 2^30 bytes
+  pub send_reaches : (bs : List ℕ) (o : Outcome) (k : HostView) → capacity (host_of s p).control_block.tx_buffer ≤ 2 ^ 30 → Sends p.limit bs (host_of s p) o k → Reaches (network_of p) (network_of (with_host s p k))
+  send_reaches bs o k room e = go (is_over p.limit (length (host_of s p).accepted + length bs)) refl e
+    where
+      take_some : (b : Bool) → may_send (host_of s p).control_block.state ≡ b → is_over p.limit (length (host_of s p).accepted + length bs) ≡ false → SendsIf b (host_of s p) bs o k → Reaches (network_of p) (network_of (with_host s p k))
+      take_some false may x d = stays_reached s p k d.1
+      take_some true may x d =
+          with_reached s p k (subst (λ z. Reaches (side_network s p (host_of s p) p.segments) (side_network s p z p.segments)) (sym d.1)
+          (sends_in s (host_of s p) (host_of (other_side s) p) p.segments p.limit (host_of s p).opening bs (cannot_send (host_of s p) host may) may (omega (arith, room, length-take (min (length bs) (host_of s p).control_block.tx_buffer.window) bs)) (not_over p.limit (host_of s p) bs x)))
+
+      go : (b : Bool) → is_over p.limit (length (host_of s p).accepted + length bs) ≡ b → SendsUnder b (host_of s p) bs o k → Reaches (network_of p) (network_of (with_host s p k))
+      go true x d = stays_reached s p k d.1
+      go false x d = take_some (may_send (host_of s p).control_block.state) refl x d
+
+  pub recv_reaches : (size : ℕ) (o : Outcome) (k : HostView) → Receives size (host_of s p) o k → Reaches (network_of p) (network_of (with_host s p k))
+  recv_reaches size o k e = go (may_recv (host_of s p).control_block) refl e
+    where
+      go : (b : Bool) → may_recv (host_of s p).control_block ≡ b → ReceivesIf b (host_of s p) size o k → Reaches (network_of p) (network_of (with_host s p k))
+      go false may d = stays_reached s p k d.1
+      go true may d =
+          with_reached s p k (subst (λ z. Reaches (side_network s p (host_of s p) p.segments) (side_network s p z p.segments)) (sym d.1)
+          (reads_in s (host_of s p) (host_of (other_side s) p) p.segments p.limit (host_of s p).opening size (cannot_recv (host_of s p) host may)))
+
+  pub dispatch_reaches : (m : Moment) (fail : Bool) (o : Outcome) (k : HostView) (ks : List StoredView) → Dispatches s m fail o (host_of s p) p.segments k ks → Reaches (network_of p) (network_of (exchanged s p k ks))
+  dispatch_reaches m fail o k ks e =
+      exchanged_reached s p k ks (subst (λ h. Reaches (side_network s p (host_of s p) p.segments) (side_network s p h ks)) (sym e.does.same)
+      (subst (λ ts. Reaches (side_network s p (host_of s p) p.segments) (side_network s p (record (host_of s p) { control_block = k.control_block }) ts)) (sym e.stored)
+      (dispatches_in s (host_of s p) (host_of (other_side s) p) p.segments p.limit k.control_block (facts_of m) fail e.sent e.does.socket (host_of s p).opening host.idle (from_side s p i))))
+
+  -- t is a segment of the other side, and the receive buffer has at most 2^30 bytes
+  pub deliver_reaches : (m : Moment) (t : StoredView) (o : Outcome) (k : HostView) (ks : List StoredView) → m.word < 2 ^ 32 → IsSmall t.segment → Contains p.segments t → t.emitter ≡ other_side s → capacity (host_of s p).control_block.rx_buffer ≤ 2 ^ 30
+      → DeliversTo (is_old (host_of t.emitter p) t) s m t o (host_of s p) p.segments k ks → Reaches (network_of p) (network_of (exchanged s p k ks))
+  deliver_reaches m t o k ks w small there from_other room e = go (is_old (host_of t.emitter p) t) refl e
+    where
+      go : (old : Bool) → is_old (host_of t.emitter p) t ≡ old → DeliversTo old s m t o (host_of s p) p.segments k ks → Reaches (network_of p) (network_of (exchanged s p k ks))
+      go true x d = unchanged_reached s p k ks d.1.0 d.1.1
+      go false x d = by_accepts d.accepted d.says.0 d.does
+        where
+          by_accepts : (b : Bool) → (IsTrue b → Accepts (host_of s p).control_block t.ip t.segment) → DeliversIf b s m t o (host_of s p) p.segments k ks → Reaches (network_of p) (network_of (exchanged s p k ks))
+          by_accepts false a y = unchanged_reached s p k ks y.1.0 y.1.1
+          by_accepts true a y =
+              let shut : (host_of s p).opening ≡ opening.Unopened → ⊥ = (λ u. closed_accepts_none (host_of s p).control_block t (host.idle u).state (a refl)) in
+              exchanged_reached s p k ks (subst (λ h. Reaches (side_network s p (host_of s p) p.segments) (side_network s p h ks)) (sym y.host)
+              (subst (λ ts. Reaches (side_network s p (host_of s p) p.segments) (side_network s p (delivered_to (host_of s p) m t) ts)) (sym y.stored)
+              (hears s (host_of s p) (host_of (other_side s) p) p.segments p.limit m t w small there from_other room (subst (λ r. is_old (host_of r p) t ≡ false) from_other x) (a refl) shut
+              (host.passive shut (λ c. closed_accepts_none (host_of s p).control_block t c (a refl))) (from_side s p i))))
+
+  -- ---- so each keeps the invariant
+
+  pub listen_keeps : (o : Outcome) (k : HostView) → OpensAs (host_of s p).opening (host_of s p) (listening (host_of s p)) o k → IsInvariant (network_of (with_host s p k))
+  listen_keeps o k e = reach_keeps _ _ (listen_reaches o k e) i
+
+  pub connect_keeps : (m : Moment) (remote : IpEndpoint) (o : Outcome) (k : HostView) → m.word < 2 ^ 32 → OpensAs (host_of s p).opening (host_of s p) (connecting (host_of s p) m remote) o k → IsInvariant (network_of (with_host s p k))
+  connect_keeps m remote o k w e = reach_keeps _ _ (connect_reaches m remote o k w e) i
+
+  pub send_keeps : (bs : List ℕ) (o : Outcome) (k : HostView) → capacity (host_of s p).control_block.tx_buffer ≤ 2 ^ 30 → Sends p.limit bs (host_of s p) o k → IsInvariant (network_of (with_host s p k))
+  send_keeps bs o k room e = reach_keeps _ _ (send_reaches bs o k room e) i
+
+  pub recv_keeps : (size : ℕ) (o : Outcome) (k : HostView) → Receives size (host_of s p) o k → IsInvariant (network_of (with_host s p k))
+  recv_keeps size o k e = reach_keeps _ _ (recv_reaches size o k e) i
+
+  pub dispatch_keeps : (m : Moment) (fail : Bool) (o : Outcome) (k : HostView) (ks : List StoredView) → Dispatches s m fail o (host_of s p) p.segments k ks → IsInvariant (network_of (exchanged s p k ks))
+  dispatch_keeps m fail o k ks e = reach_keeps _ _ (dispatch_reaches m fail o k ks e) i
+
+  pub deliver_keeps : (m : Moment) (t : StoredView) (o : Outcome) (k : HostView) (ks : List StoredView) → m.word < 2 ^ 32 → IsSmall t.segment → Contains p.segments t → t.emitter ≡ other_side s → capacity (host_of s p).control_block.rx_buffer ≤ 2 ^ 30
+      → DeliversTo (is_old (host_of t.emitter p) t) s m t o (host_of s p) p.segments k ks → IsInvariant (network_of (exchanged s p k ks))
+  deliver_keeps m t o k ks w small there from_other room e = reach_keeps _ _ (deliver_reaches m t o k ks w small there from_other room e) i
+
+-- ---- any event
+
+buffers_at : (s : Side) (p : PairView) (e : Event) → IsSized e p → HasSmallBuffers (host_of s p).control_block
+buffers_at A p e z = z.a
+buffers_at B p e z = z.b
+
+to_q : (p q r : PairView) → q ≡ r → Reaches (network_of p) (network_of r) → Reaches (network_of p) (network_of q)
+to_q p q r e d = subst (λ z. Reaches (network_of p) (network_of z)) (sym e) d
+
+emitter_twice : (s : Side) → s ≡ other_side (other_side s)
+emitter_twice A = refl
+emitter_twice B = refl
+
+delivers_reach : (j : ℕ) (t : Option StoredView) (m : Moment) (p q : PairView) (o : Outcome) → IsPair p → IsSized (event.Deliver j m) p → slice_get p.segments j ≡ t → Delivers t m p o q → Reaches (network_of p) (network_of q)
+delivers_reach j None m p q o i z at x = to_q p q p x.1 (stays_there _ _ refl)
+delivers_reach j (Some t) m p q o i z at x =
+    to_q p q (exchanged (other_side t.emitter) p x.host x.segments) x.same
+    (deliver_reaches (other_side t.emitter) p (host_at (other_side t.emitter) p i) i.network m t o x.host x.segments m.fits (z.delivered t at) (contains_at p.segments j t at) (emitter_twice t.emitter) (buffers_at (other_side t.emitter) p (event.Deliver j m) z).receive x.does)
+
+pub event_reaches : (e : Event) (p : PairView) (o : Outcome) (q : PairView) → IsPair p → IsSized e p → EventStep e p o q → Reaches (network_of p) (network_of q)
+event_reaches (event.Listen s) p o q i z x = to_q p q (with_host s p x.host) x.same (listen_reaches s p (host_at s p i) i.network o x.host x.does)
+event_reaches (event.Connect s m) p o q i z x = to_q p q (with_host s p x.host) x.same (connect_reaches s p (host_at s p i) i.network m (host_of (other_side s) p).endpoint o x.host m.fits x.does)
+event_reaches (event.SendSlice s bytes) p o q i z x = to_q p q (with_host s p x.host) x.same (send_reaches s p (host_at s p i) i.network bytes.items o x.host (buffers_at s p (event.SendSlice s bytes) z).transmit x.does)
+event_reaches (event.RecvSlice s size) p o q i z x = to_q p q (with_host s p x.host) x.same (recv_reaches s p (host_at s p i) i.network size o x.host x.does)
+event_reaches (event.Dispatch s m fail) p o q i z x = to_q p q (exchanged s p x.host x.segments) x.same (dispatch_reaches s p (host_at s p i) i.network m fail o x.host x.segments x.does)
+event_reaches (event.Deliver j m) p o q i z x = delivers_reach j (slice_get p.segments j) m p q o i z refl x
+
+-- as a pair answers it
+pub event_reaches_if : (e : Event) (p q : PairView) (r : Result Outcome PairError) → IsPair p → IsSized e p → IfOk r (λ o. EventStep e p o q) → OnErr r (q ≡ p) → Reaches (network_of p) (network_of q)
+event_reaches_if e p q (Ok o) i z x same = event_reaches e p o q i z x
+event_reaches_if e p q (Err x) i z y same = stays_there _ _ (ap network_of (sym same))
+
+-- a new pair
+pub new_shows : (v w : View) (a b : IpEndpoint) (limit : Option ℕ) → network_of (new_pair (new_host v a) (new_host w b) limit) ≡ start limit
+new_shows v w a b limit = refl
