@@ -144,4 +144,7 @@ pub record Accepts (v : View) (f : Facts) (ip : IpRepr) (udp : UdpRepr) : Type 0
 
 -- where it came from, and where it went to
 abbrev pub metadata_of : IpRepr → UdpRepr → UdpMetadata
-metadata_of ip udp = record { endpoint = record { addr = src_addr_of ip; port = udp.src_port }; local_address = Some (dst_addr_of ip) }
+metadata_of ip udp = record {
+  endpoint = record { addr = src_addr_of ip; port = udp.src_port };
+  local_address = Some (dst_addr_of ip);
+}

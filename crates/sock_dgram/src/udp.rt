@@ -3,9 +3,9 @@
 mod dispatch;
 pub mod error;
 pub mod laws;
-mod lend;
 mod process;
-mod queues;
+mod receive;
+mod send;
 pub mod socket;
 mod store;
 #[cfg(test)]

@@ -1,4 +1,4 @@
-// Why a call is refused.
+//! Why a call is refused.
 ghost use Rattle.std.specs.Prelude.{Some};
 ghost use Rattle.sock_dgram.specs.UdpTexts.{bind_error_text, send_error_text, recv_error_text};
 

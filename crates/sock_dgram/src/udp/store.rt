@@ -1,4 +1,4 @@
-// Adding a datagram to a buffer.
+//! Adding a datagram to a buffer.
 ghost use Rattle.std.specs.Prelude.{◌≡◌, ◌++◌, [], ◌∷◌, length, take, drop, min, cond};
 ghost use Rattle.net_base.specs.Packets.{packets, takes};
 ghost use Rattle.sock_dgram.specs.Udp.{stored};
@@ -19,7 +19,8 @@ fn filled(lent: &mut [u8], data: &[u8]) -> usize
 pub(crate) fn store(buffer: &mut PacketBuffer<'_>, meta: UdpMetadata, data: &[u8]) -> bool
     ensures takes { result ≡ takes (length «data».now) buffer.old }
     ensures after { buffer.new ≡ stored meta «data».now buffer.old }
-    ensures packets { packets buffer.new.entries ≡ cond result (packets buffer.old.entries ++ (meta, «data».now) ∷ []) (packets buffer.old.entries) }
+    ensures packets { packets buffer.new.entries
+        ≡ cond result (packets buffer.old.entries ++ (meta, «data».now) ∷ []) (packets buffer.old.entries) }
 {
     buffer
         .enqueue_with_infallible(data.len(), meta, |lent| filled(lent, data))

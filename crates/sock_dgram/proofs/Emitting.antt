@@ -1,17 +1,16 @@
--- From the one call of `emit` to what a dispatch of a UDP socket does.
+-- From the one call of `emit` to what a dispatch does.
 use Rattle.std.proofs.Common.{◌≡◌, ◌<◌, ℕ, List, length, drop, Some, refl, ap, ◌∙◌, subst}
 use Rattle.std.specs.Prelude.{Result, Option, option_map, false}
-use Rattle.std.specs.Borrow.{MutBor, Bor}
-use Rattle.ip_wire.specs.declared.repr.IpRepr.{IpRepr}
-use Rattle.control_wire.specs.declared.udp.UdpRepr.{UdpRepr}
+use Rattle.std.specs.Borrow.{MutBor}
 use Rattle.net_base.specs.Packets.{Packets, packets, starts_padded, Dequeues, skipped, without_first}
 use Rattle.net_base.proofs.PacketLists.{skipped_stays}
-use Rattle.sock_dgram.specs.UdpDispatch.{Outgoing, Emit, Emits, outgoing_of}
+use Rattle.sock_core.specs.Emission.{Emit, Emits}
 
 -- emit was called, and answered r
-pub emitted : {F C E : Type 0} (g : Emit F C E) (f : F) (planned : Option Outgoing) (sent : IpRepr × UdpRepr × Bor (List ℕ)) (shown left : MutBor C) (r : Result (Unit {0}) E) → option_map outgoing_of (Some sent) ≡ planned → g.post f (shown, (sent, tt)) (r, (left, tt)) → Emits g f planned shown.now r left.now
-emitted g f planned sent shown left r e h =
-    subst (λ x. Emits g f x shown.now r left.now) e (record { shown = shown; shows = refl; sent = sent; says = refl; left = left; met = h; leaves = refl })
+pub emitted : {F C S E V : Type 0} (g : Emit F C S E) (meaning : S → V) (f : F) (planned : Option V) (sent : S) (shown left : MutBor C) (r : Result (Unit {0}) E)
+    → option_map meaning (Some sent) ≡ planned → g.post f (shown, (sent, tt)) (r, (left, tt)) → Emits g meaning f planned shown.now r left.now
+emitted g meaning f planned sent shown left r e h =
+    subst (λ x. Emits g meaning f x shown.now r left.now) e (record { shown = shown; shows = refl; sent = sent; says = refl; left = left; met = h; leaves = refl })
 
 module _ {X : Type 0} where
   -- to take the first packet once the padding in front is gone is to take it
