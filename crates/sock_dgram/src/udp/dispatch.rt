@@ -1,8 +1,7 @@
 //! Datagrams that go out.
-ghost use Rattle.std.specs.Prelude.{◌≡◌, ◌==◌, length, false, option_map, drop, cond, is_ok, if◌then◌else◌};
-ghost use Rattle.net_base.specs.Packets.{starts_padded, skipped};
-ghost use Rattle.sock_core.specs.declared.context.PollAt.TheVariants as PollAt;
-ghost use Rattle.sock_dgram.specs.Udp.{waiting};
+ghost use Rattle.std.specs.Prelude.{◌≡◌, false, option_map, if◌then◌else◌};
+ghost use Rattle.net_base.specs.Packets.{starts_padded};
+ghost use Rattle.sock_dgram.specs.Datagrams.{poll_moment};
 ghost use Rattle.sock_dgram.specs.UdpDispatch.{source_of, hops_of, outgoing, outgoing_of, Dispatched};
 ghost use Rattle.sock_core.specs.Emission.{Emits};
 
@@ -92,7 +91,7 @@ impl<'a> Socket<'a> {
 
     /// When the socket wants its next `dispatch`: `Ingress` where no place of the transmit buffer is taken, else `Now`.
     pub fn poll_at<C: Context>(&self, _cx: &C) -> PollAt
-        ensures { result ≡ (if length self.now.tx_buffer.entries == 0 then PollAt.Ingress else PollAt.Now) }
+        ensures { result ≡ poll_moment self.now.tx_buffer }
     {
         if self.tx_buffer.is_empty() {
             PollAt::Ingress

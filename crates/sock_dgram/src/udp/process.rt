@@ -1,10 +1,11 @@
 //! Datagrams that come in.
 ghost use Rattle.std.specs.Prelude.{◌≡◌, ◌↔◌, ◌++◌, [], ◌∷◌, IsTrue, length, cond};
 ghost use Rattle.net_base.specs.Packets.{takes};
-ghost use Rattle.sock_dgram.specs.Udp.{received, IsAddressed, Accepts, metadata_of, stored};
+ghost use Rattle.sock_dgram.specs.Datagrams.{stored};
+ghost use Rattle.sock_dgram.specs.Udp.{received, IsAddressed, Accepts, metadata_of};
 
+use crate::queue::store;
 use crate::udp::socket::{Socket, UdpMetadata};
-use crate::udp::store::store;
 use control_wire::UdpRepr;
 use ip_wire::{IpAddress, IpEndpoint, IpRepr};
 use sock_core::Context;

@@ -2,9 +2,10 @@
 ghost use Rattle.std.specs.Prelude.{◌≡◌, length, Some, IfOk};
 ghost use Rattle.std.specs.Borrow.{sem};
 ghost use Rattle.net_base.specs.Packets.{first_packet, Dequeues};
-ghost use Rattle.sock_dgram.specs.Udp.{answered, take_answer, copy_answer, copied, copied_of};
+ghost use Rattle.sock_dgram.specs.Datagrams.{answered, take_answer, copy_answer, copied, copied_of};
 
-use crate::udp::error::RecvError;
+use crate::error::RecvError;
+use crate::queue::{copy_first, take_into};
 use crate::udp::socket::{Socket, UdpMetadata};
 
 impl<'a> Socket<'a> {
@@ -41,12 +42,7 @@ impl<'a> Socket<'a> {
         ensures bytes { «data».new ≡ copied (first_packet self.old.rx_buffer) «data».old }
     {
         self.rx_buffer.skip_padding();
-        let (meta, bytes) = self.rx_buffer.first().map_err(|_| RecvError::Exhausted)?;
-        if data.len() < bytes.len() {
-            return Err(RecvError::Truncated);
-        }
-        data[..bytes.len()].copy_from_slice(bytes);
-        Ok((bytes.len(), meta))
+        copy_first(&self.rx_buffer, data)
     }
 
     /// Takes the first datagram of the receive queue and copies its bytes into `data`. Answers how many they are, and
@@ -60,11 +56,6 @@ impl<'a> Socket<'a> {
         ensures queue { Dequeues self.old.rx_buffer self.new.rx_buffer }
         ensures same { self.new ≡ record self.old { rx_buffer = self.new.rx_buffer } }
     {
-        let (meta, (from, size)) = self.rx_buffer.take_first().ok_or(RecvError::Exhausted)?;
-        if data.len() < size {
-            return Err(RecvError::Truncated);
-        }
-        data[..size].copy_from_slice(self.rx_buffer.part(from, size));
-        Ok((size, meta))
+        take_into(&mut self.rx_buffer, data)
     }
 }

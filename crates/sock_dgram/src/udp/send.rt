@@ -2,11 +2,12 @@
 ghost use Rattle.std.specs.Prelude.{◌≡◌, ◌≤◌, ◌++◌, ℕ, List, [], ◌∷◌, length, take, drop, cond, is_ok, IfOk, OnErr};
 ghost use Rattle.std.specs.Fn.{FnOnceReturnsAtMut};
 ghost use Rattle.net_base.specs.Packets.{made_room, end_of, Enqueues};
-ghost use Rattle.sock_dgram.specs.Udp.{waiting, answered, is_possible_source, known_source, is_sendable, send_answer, after_send, refused_send};
+ghost use Rattle.sock_dgram.specs.Datagrams.{answered};
+ghost use Rattle.sock_dgram.specs.Udp.{waiting, is_possible_source, known_source, is_sendable, send_answer, after_send, refused_send};
 
-use crate::udp::error::SendError;
+use crate::error::SendError;
+use crate::queue::store;
 use crate::udp::socket::{Socket, UdpMetadata};
-use crate::udp::store::store;
 use ip_wire::IpAddress;
 
 // Whether a source that is known is of the destination's version.
@@ -56,8 +57,7 @@ impl<'a> Socket<'a> {
     }
 
     /// Puts a datagram whose bytes `f` writes into the transmit queue: `f` is lent `max_size` bytes and answers how
-    /// many
-    /// of them, from the first on, are the payload. This count is answered.
+    /// many of them, from the first on, are the payload. This count is answered.
     ///
     /// `Unaddressable` and `BufferFull` as `send_slice`, for a datagram of `max_size` bytes; the queue then stays as it
     /// was.

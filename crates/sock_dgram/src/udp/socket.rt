@@ -1,11 +1,11 @@
 //! The UDP socket: what it is bound to, and its two queues.
-ghost use Rattle.std.specs.Prelude.{◌≡◌, ◌≤◌, ◌==◌, not, length, Some, None};
-ghost use Rattle.std.specs.Result.{result_ok};
+ghost use Rattle.std.specs.Prelude.{◌≡◌, length, Some, None};
 ghost use Rattle.net_base.specs.Packets.{taken};
 ghost use Rattle.ip_wire.specs.Endpoint.{endpoint_text};
+ghost use Rattle.sock_dgram.specs.Datagrams.{has_place, has_entry};
 ghost use Rattle.sock_dgram.specs.Udp.{fresh, is_open, bind_answer, after_bind, closed};
 
-use crate::udp::error::BindError;
+use crate::error::BindError;
 use ip_wire::{IpAddress, IpEndpoint, IpListenEndpoint};
 use std::fmt;
 use std::marker::Model;
@@ -141,14 +141,14 @@ impl<'a> Socket<'a> {
 
     /// Whether the transmit buffer has a free place.
     pub fn can_send(&self) -> bool
-        ensures { result ≡ not (length self.now.tx_buffer.entries == self.now.tx_buffer.places) }
+        ensures { result ≡ has_place self.now.tx_buffer }
     {
         !self.tx_buffer.is_full()
     }
 
     /// Whether a place of the receive buffer is taken.
     pub fn can_recv(&self) -> bool
-        ensures { result ≡ not (length self.now.rx_buffer.entries == 0) }
+        ensures { result ≡ has_entry self.now.rx_buffer }
     {
         !self.rx_buffer.is_empty()
     }

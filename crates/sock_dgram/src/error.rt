@@ -1,6 +1,6 @@
-//! Why a call is refused.
+//! Why a call of a datagram socket is refused.
 ghost use Rattle.std.specs.Prelude.{Some};
-ghost use Rattle.sock_dgram.specs.UdpTexts.{bind_error_text, send_error_text, recv_error_text};
+ghost use Rattle.sock_dgram.specs.Texts.{bind_error_text, send_error_text, recv_error_text};
 
 use std::error::Error;
 use std::fmt;
