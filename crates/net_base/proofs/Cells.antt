@@ -117,6 +117,11 @@ module _ {X : Type 0} where
       ∙ ap₂ ring (same_lists (take n (overwrite cs (n + o) ys)) (take n cs) (grind (arith, places)) (λ i d h. grind (arith, places))) (same_lists (drop n (overwrite cs (n + o) ys)) (overwrite (drop n cs) o ys) (grind (arith, places)) (λ i d h. grind (arith, places)))
       ∙ ap (λ (r : Ring X). ring r.queue (overwrite r.spare o ys)) is
 
+  -- the same of as many of some items as fit
+  pub items_written : (k n o c : ℕ) (xs zs items : List X) (r : Ring X) → ring_of k n xs ≡ r → (k ≤ length xs) × (n ≤ length xs) → (length xs - n ≤ o → ⊥) → c ≡ min (length items) (length xs - n - o)
+      → cells_from k zs ≡ overwrite (cells_from k xs) (n + o) (take c items) → ring_of k n zs ≡ ring r.queue (overwrite r.spare o (take c items))
+  items_written k n o c xs zs items r is inv some c_is written = spare_written k n o xs zs (take c items) r is inv (omega (arith, some, c_is, length-take c items)) written
+
   pub appended : (k n c : ℕ) (xs zs ys : List X) (r : Ring X) → ring_of k n xs ≡ r → (k ≤ length xs) × (n ≤ length xs) → c ≡ length ys → n + c ≤ length xs
       → cells_from k zs ≡ overwrite (cells_from k xs) n ys → ring_of k (n + c) zs ≡ ring (r.queue ++ ys) (drop c r.spare)
   appended k n c xs zs ys r is inv c_is fits written =
@@ -246,6 +251,11 @@ module _ {X : Type 0} where
       ap (λ (l : List X). l ++ rest)
       (out_is ∙ same_lists (take c (drop o (cells_from k xs))) (take c (drop o (take n (cells_from k xs)))) (grind (arith, places)) (λ i d h. grind (arith, places))
       ∙ ap (λ (r : Ring X). take c (drop o r.queue)) is)
+
+  pub items_read : (k n o c : ℕ) (xs out given : List X) (r : Ring X) → ring_of k n xs ≡ r → (k ≤ length xs) × (n ≤ length xs) → (n ≤ o → ⊥) → c ≡ min (length given) (n - o)
+      → out ≡ take (length (take c given)) (drop o (cells_from k xs)) → out ++ drop c given ≡ take c (drop o r.queue) ++ drop c given
+  items_read k n o c xs out given r is inv some c_is read =
+      queue_read k n o c xs out (drop c given) r is inv (omega (arith, some, c_is)) (read ∙ ap (λ j. take j (drop o (cells_from k xs))) (length-take-le c given (omega (arith, c_is))))
 
   pub dequeued_with : {R : Type 0} (called : List X → ℕ × R → Type 0) (m : ℕ) (lent : List X) (result : ℕ × R) (r s : Ring X) → lent ≡ take (length lent) (drop 0 r.queue) → (length lent ≡ 0 → length r.queue ≡ 0)
       → called lent result → result.0 ≤ length lent → s ≡ ring (drop result.0 r.queue) (r.spare ++ take result.0 r.queue)

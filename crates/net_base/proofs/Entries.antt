@@ -1,9 +1,11 @@
 -- Lemmas about the entries of a packet buffer.
 use Rattle.std.proofs.Common.{◌≡◌, ℕ, suc, ◌+◌, ◌-◌, ◌<◌, ◌≤◌, List, [], ◌∷◌, ◌++◌, length, take, drop, Option, refl, sym, ap, ap₂, subst, ◌∙◌, inl, inr, arith, length-take, length-drop, length-append, length-take-le}
 use Rattle.std.proofs.lemmas.Bool.{cases_lt}
-use Rattle.std.proofs.lemmas.List.{take-take, drop-take, take_all, take-append-le, drop-append-le, same_lists, places}
+use Rattle.std.proofs.lemmas.Bool.Decides.{nat_tests}
+use Rattle.std.specs.Prelude.{◌==◌}
+use Rattle.std.proofs.lemmas.List.{take-take, drop-take, take_all, drop_all, take-append-le, drop-append-le, same_lists, places}
 use Rattle.net_base.specs.Ring.{Ring, ring, ring_of, cells_from, overwrite, capacity_of, LeavesRun}
-use Rattle.net_base.specs.Packets.{Packets, packets_with, taken, place_of, end_of, run_of, room_of, first_bytes, without_first, restarted, fits, appended, AppendsWith}
+use Rattle.net_base.specs.Packets.{Packets, packets_with, taken, place_of, end_of, run_of, room_of, first_bytes, first_header, with_first, WritesFirst, without_first, restarted, fits, appended, AppendsWith}
 use Rattle.net_base.specs.PacketsInside.{cut, sizes, Laid, packets_of, IsLaid}
 use Rattle.net_base.specs.declared.packet_buffer.PacketMetadata.{PacketMetadata}
 use Rattle.net_base.specs.Packets.{recut, with_storage}
@@ -70,8 +72,8 @@ module _ {X : Type 0} where
     length-bytes : length (take n (cells_from k bytes)) ≡ n
     length-bytes = let long = length-cells k bytes within in length-take-le n (cells_from k bytes) (omega (arith, laid.length_within))
 
-    pub taken-view : taken p.entries ≡ n
-    taken-view = ap (λ (p : Packets X). taken p.entries) (sym is) ∙ taken-cut ms.queue (take n (cells_from k bytes)) (laid.total ∙ sym length-bytes) ∙ length-bytes
+    pub taken_view : taken p.entries ≡ n
+    taken_view = ap (λ (p : Packets X). taken p.entries) (sym is) ∙ taken-cut ms.queue (take n (cells_from k bytes)) (laid.total ∙ sym length-bytes) ∙ length-bytes
 
     pub room-view : length p.storage ≡ length bytes
     room-view = ap (λ (p : Packets X). length p.storage) (sym is)
@@ -86,13 +88,22 @@ module _ {X : Type 0} where
     count-view = ap (λ (p : Packets X). length p.entries) (sym is) ∙ length-cut ms.queue (take n (cells_from k bytes))
 
     pub end-view : end_of p ≡ place_of (length bytes) k n
-    end-view = ap (λ j. place_of j p.start (taken p.entries)) room-view ∙ ap₂ (λ (j l : ℕ). place_of (length bytes) j l) start-view taken-view
+    end-view = ap (λ j. place_of j p.start (taken p.entries)) room-view ∙ ap₂ (λ (j l : ℕ). place_of (length bytes) j l) start-view taken_view
 
     pub run-view : (size : ℕ) → size ≤ run_of p → (n + size ≤ length bytes) × (place_of (length bytes) k n + size ≤ length bytes)
     run-view size fits =
-        let e = end-view in let t = taken-view in let r = room-view in let l = laid.length_within in
+        let e = end-view in let t = taken_view in let r = room-view in let l = laid.length_within in
         let w = place_of-within (length bytes) k n laid.start_within laid.length_within in
         (omega arith, omega arith)
+
+    pub empty_view : (length ms.queue == 0) ≡ (length p.entries == 0)
+    empty_view = ap (λ j. j == 0) (sym count-view)
+
+    pub full_view : (length ms.spare == 0) ≡ (length p.entries == p.places)
+    full_view = grind (arith, nat_tests, count-view, places-view)
+
+    pub places_within : length p.entries ≤ p.places
+    places_within = omega (arith, count-view, places-view)
 
     pub free-view : length p.entries < p.places → 0 < length ms.spare
     free-view free = let c = count-view in let l = places-view in omega arith
@@ -206,13 +217,13 @@ module _ {X : Type 0} where
       restarted_is =
           same_packets (ap (λ j. cut ms.queue (take j (cells_from 0 bytes))) none ∙ sym (ap (λ j. cut ms.queue (take j (cells_from k bytes))) none) ∙ ap (λ (p : Packets X). p.entries) is)
           (sym places-view) (ap (λ (p : Packets X). p.storage) is) refl
-          ∙ sym (restarted-none p (taken-view ∙ none))
+          ∙ sym (restarted-none p (taken_view ∙ none))
 
     pub not_restarted_is : (n ≡ 0 → ⊥) → p ≡ restarted p
-    not_restarted_is some = sym (restarted-some p (λ none. some (sym taken-view ∙ none)))
+    not_restarted_is some = sym (restarted-some p (λ none. some (sym taken_view ∙ none)))
 
-    pub room-free : length bytes - n ≡ room_of p
-    room-free = omega (arith, room-view, taken-view)
+    pub room_free : length bytes - n ≡ room_of p
+    room_free = omega (arith, room-view, taken_view)
 
     module _ (m : PacketMetadata X) (rest : List (PacketMetadata X)) (starts : ms.queue ≡ m ∷ rest) where
       entries-view : p.entries ≡ (m.header, take m.size (take n (cells_from k bytes))) ∷ cut rest (drop m.size (take n (cells_from k bytes)))
@@ -307,3 +318,56 @@ module _ {X : Type 0} where
         let same : refill (length bytes) bytes w ≡ w = refill_same bytes w long in
         (λ i. packets_with ((ap (λ j. cut ms.queue (take j (cells_from k w))) (sym count) ∙ recut_cut ms.queue (take n (cells_from k bytes)) (cells_from k w) (laid.total ∙ sym count)) i) (capacity_of ms) w k)
         ∙ ap (with_storage (packets_of ms bytes k n)) (sym same)
+
+-- ---- other bytes of the first entry
+
+module _ {X R : Type 0} (ms : Ring (PacketMetadata X)) (bytes : List ℕ) (k n : ℕ) (p : Packets X) (is : packets_of ms bytes k n ≡ p) (laid : IsLaid ms bytes k n)
+    (m : PacketMetadata X) (rest : List (PacketMetadata X)) (starts : ms.queue ≡ m ∷ rest) (called : List ℕ → R → List ℕ → Type 0) (r : R) (ys : List ℕ) (lent : LeavesRun called bytes k m.size r ys) where
+  run : k + m.size ≤ length bytes
+  run = (laid_is ms bytes k n p is laid m rest starts).0
+
+  total : m.size + sizes rest ≡ n
+  total = total_is ms bytes k n p is laid m rest starts
+
+  long : length ys ≡ length bytes
+  long =
+      let e = lent.left_length in let f = run in
+      let a = length-take-le k bytes (omega (arith, f)) in
+      let b = length-drop (k + length lent.left) bytes in
+      ap (λ (l : List ℕ). length l) lent.after ∙ simp (length-append) (omega (arith, f))
+
+  pub laid_written : IsLaid ms ys k n
+  laid_written = laid_rewritten ms bytes k n ys laid long
+
+  whole : length lent.left ≤ m.size
+  whole = omega (arith, lent.left_length)
+
+  cells_written : cells_from k ys ≡ lent.left ++ drop m.size (cells_from k bytes)
+  cells_written =
+      let e = lent.left_length in let f = run in
+      ap (λ (l : List ℕ). cells_from k l) lent.after ∙ same_lists _ _ (grind (arith, places)) (λ i d h. grind (arith, places))
+
+  queue_written : take n (cells_from k ys) ≡ lent.left ++ drop m.size (take n (cells_from k bytes))
+  queue_written =
+      let e = lent.left_length in let f = run in let t = total in let w = laid.length_within in
+      ap (λ (l : List ℕ). take n l) cells_written ∙ same_lists _ _ (grind (arith, places)) (λ i d h. grind (arith, places))
+
+  pub view_written : packets_of ms ys k n ≡ with_first lent.left p
+  view_written =
+      let e = lent.left_length in
+      let entries = entries-view ms bytes k n p is laid m rest starts in
+      same_packets
+      (ap₂ (λ (l : List (PacketMetadata X)) (bs : List ℕ). cut l bs) starts queue_written
+      ∙ ap₂ (λ (a c : List ℕ). (m.header, a) ∷ cut rest c) (take-append-le m.size lent.left _ (omega (arith, e)) ∙ take_all m.size lent.left whole) (drop-append-le m.size lent.left _ (omega (arith, e)) ∙ ap (λ (l : List ℕ). l ++ drop m.size (take n (cells_from k bytes))) (drop_all m.size lent.left whole))
+      ∙ ap (λ (es : List (Option X × List ℕ)). (first_header es, lent.left) ∷ drop 1 es) (sym entries))
+      (sym (places-view ms bytes k n p is laid))
+      (lent.after ∙ (λ i. overwrite (ap (λ (p : Packets X). p.storage) is i) (sym (start-view ms bytes k n p is laid) i) lent.left))
+      (sym (start-view ms bytes k n p is laid))
+
+  pub writes_first : WritesFirst called p r (packets_of ms ys k n)
+  writes_first = record {
+    left = lent.left;
+    left_length = lent.left_length ∙ sym (size_is ms bytes k n p is laid m rest starts);
+    met = subst (λ (bs : List ℕ). called bs r lent.left) (sym (first-view ms bytes k n p is laid m rest starts ∙ (λ i. take m.size (drop (start-view ms bytes k n p is laid i) (sym (ap (λ (p : Packets X). p.storage) is) i))))) lent.met;
+    after = view_written;
+  }

@@ -4,7 +4,7 @@ use Rattle.std.proofs.lemmas.Bool.{cases_lt, false≢true}
 use Rattle.std.proofs.lemmas.Option.{none-some}
 use Rattle.std.proofs.lemmas.Bool.Decides.{nat_tests}
 use Rattle.std.specs.Prelude.{◌==◌, ◌&&◌, ◌||◌, not, nat_le, nat_lt, is_none, is_ok, Result}
-use Rattle.net_base.specs.Packets.{Packets, packets_with, taken, place_of, end_of, run_of, room_of, first_bytes, first_header, starts_padded, put_packet, packets, first_packet, Dequeues, SeesFirst, Enqueues, without_first, skipped_from, skipped, restarted, fits_behind, fits_before, fits, padded_for, made_room, takes, appended, AppendsWith}
+use Rattle.net_base.specs.Packets.{Packets, packets_with, taken, place_of, end_of, run_of, room_of, first_bytes, first_header, starts_padded, put_packet, packets, first_packet, Dequeues, Enqueues, without_first, skipped_from, skipped, restarted, fits_behind, fits_before, fits, padded_for, made_room, takes, appended, AppendsWith}
 use Rattle.net_base.proofs.Around.{place_of-high, place_of-low, place_of-place_of, place_of-within}
 
 module _ {X : Type 0} where
@@ -52,9 +52,9 @@ module _ {X : Type 0} where
   packets-append [] h bs = refl
   packets-append (e ∷ es) h bs = ap (put_packet e.0 e.1) (packets-append es h bs) ∙ put-append e.0 e.1 (packets es) ((h, bs) ∷ [])
 
-  pub made_room-packets : (size : ℕ) (p : Packets X) → packets (made_room size p).entries ≡ packets p.entries
+  pub made_room_packets : (size : ℕ) (p : Packets X) → packets (made_room size p).entries ≡ packets p.entries
   unfolding made_room padded_for
-  made_room-packets size p =
+  made_room_packets size p =
       let same : packets (restarted p).entries ≡ packets p.entries = ap (λ (es : List (Option X × List ℕ)). packets es) (restarted-entries p) in
       elim (length p.entries == p.places) as (λ b. packets (cond b p (cond (fits_behind size (restarted p)) (restarted p) (cond (fits_before size (restarted p)) (appended None (run_of (restarted p)) (restarted p)) (restarted p)))).entries ≡ packets p.entries) [
         | true ↦ refl
@@ -87,7 +87,7 @@ module _ {X : Type 0} where
   pub enqueues : (called : List ℕ → ℕ → List ℕ → Type 0) (size : ℕ) (h : X) (p q : Packets X) (kept : ℕ) → AppendsWith called size (Some h) (made_room size p) kept q → Enqueues called size h p kept q
   enqueues called size h p q kept a = record {
     appends = a;
-    packets = ap (λ (q : Packets X). packets q.entries) a.after ∙ packets-append (made_room size p).entries h (take kept a.left) ∙ ap (λ (l : List (X × List ℕ)). l ++ (h, take kept a.left) ∷ []) (made_room-packets size p);
+    packets = ap (λ (q : Packets X). packets q.entries) a.after ∙ packets-append (made_room size p).entries h (take kept a.left) ∙ ap (λ (l : List (X × List ℕ)). l ++ (h, take kept a.left) ∷ []) (made_room_packets size p);
   }
 
   pub lent_bytes : (size from : ℕ) (h : X) (p q : Packets X) (all : List ℕ) → from ≡ end_of (made_room size p) → q ≡ appended (Some h) size (made_room size p) → all ≡ q.storage
@@ -220,27 +220,3 @@ module _ {X : Type 0} where
 
   pub same_packets_left : (p q : Packets X) → q ≡ skipped p → packets q.entries ≡ packets p.entries
   same_packets_left p q is = ap (λ (q : Packets X). packets q.entries) is ∙ packets_skipped p
-
-  -- a call saw the first packet of q, which is p without the padding in front
-  pub sees : {R E : Type 0} (called : X → List ℕ → Result R E → Type 0) (p q r : Packets X) (outcome : Result R E) (header : X) (bytes : List ℕ)
-      → q ≡ skipped p → first_packet q ≡ Some (header, bytes) → called header bytes outcome → r ≡ cond (is_ok outcome) (without_first q) q → starts_padded q.entries ≡ false → SeesFirst called p outcome r
-  sees called p q r outcome header bytes q_is first met r_is packet = record {
-    header = header;
-    bytes = bytes;
-    first = sym (ap (λ (l : List (X × List ℕ)). slice_get l 0) (same_packets_left p q q_is)) ∙ first;
-    met = met;
-    after = r_is ∙ ap (λ (q : Packets X). cond (is_ok outcome) (without_first q) q) q_is;
-    packets = left (is_ok outcome) r_is;
-  }
-    where
-      rest : (es : List (Option X × List ℕ)) → starts_padded es ≡ false → packets (drop 1 es) ≡ drop 1 (packets es)
-      rest [] h = refl
-      rest (e ∷ es) h = of e.0 h
-        where
-          of : (o : Option X) → is_none o ≡ false → packets es ≡ drop 1 (put_packet o e.1 (packets es))
-          of None h = absurd (false≢true (sym h))
-          of (Some x) h = refl
-
-      left : (b : Bool) → r ≡ cond b (without_first q) q → packets r.entries ≡ cond b (drop 1 (packets p.entries)) (packets p.entries)
-      left true is = ap (λ (r : Packets X). packets r.entries) is ∙ rest q.entries packet ∙ ap (λ (l : List (X × List ℕ)). drop 1 l) (same_packets_left p q q_is)
-      left false is = ap (λ (r : Packets X). packets r.entries) is ∙ same_packets_left p q q_is

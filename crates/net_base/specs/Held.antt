@@ -18,8 +18,10 @@ pub record IsKept (rs : List Range) (m : ℕ) : Type 0 where
   pub tidy : IsTidy rs
   pub within : (k : ℕ) → is_held rs k ≡ true → k < m
 
--- The bytes ys came at the offset o: they replace what was held there, the run from offset 0 joins the queue, and what stays held is counted from its end
-pub record Joins {X : Type 0} (rs : List Range) (spare : List X) (o : ℕ) (ys : List X) (run : ℕ) (rest : List Range) (left : List X) : Type 0 where
+-- The bytes ys came at the offset o: they replace what was held there, the run from offset 0 joins the queue, and what
+-- stays held is counted from its end
+pub record Joins {X : Type 0} (rs : List Range) (spare : List X) (o : ℕ) (ys : List X) (run : ℕ) (rest : List Range)
+    (left : List X) : Type 0 where
   pub fits : run ≤ length spare
   pub kept : IsKept rest (length left)
   pub joined : (k : ℕ) → k < run → slice_get (take run (overwrite spare o ys)) k ≡ replaced (held_at rs spare) o ys k

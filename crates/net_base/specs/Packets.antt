@@ -1,11 +1,13 @@
 -- What a contract sees of a packet buffer.
 use Rattle.std.specs.Prelude.{ℕ, ◌+◌, ◌-◌, ◌≡◌, ◌≤◌, ◌<◌, ◌==◌, Bool, false, not, ◌&&◌, ◌||◌, List, [], ◌∷◌, ◌++◌, length, take, drop, cond, nat_lt, nat_le, min, Option, Some, None, is_none, slice_get, Result, is_ok, refl, if◌then◌else◌}
-use Rattle.std.specs.Fn.{Once, FnOnceReturns}
-use Rattle.std.specs.Borrow.{Bor}
+use Rattle.std.specs.Fn.{Once}
+use Rattle.std.specs.Borrow.{Bor, MutBor}
 use Rattle.std.specs.Coded.{Coded, code_by, coded×, coded_list, coded_ℕ, coded_option}
 use Rattle.net_base.specs.Ring.{overwrite}
 
--- The entries in order, each with its header (none where it is padding) and its bytes; how many places there are for entries; what stands in the payload storage, and where in it the first entry's bytes begin. An entry's bytes stand behind those of the one before it, around the storage's end
+-- The entries in order, each with its header (none where it is padding) and its bytes; how many places there are for
+-- entries; what stands in the payload storage, and where in it the first entry's bytes begin. An entry's bytes stand
+-- behind those of the one before it, around the storage's end
 pub record Packets (X : Type 0) : Type 0 where
   pub entries : List (Option X × List ℕ)
   pub places : ℕ
@@ -22,7 +24,9 @@ module _ {X : Type 0} where
 
   abbrev pub packets_code : Coded X → Coded (Packets X)
   packets_code c =
-      code_by (List (Option X × List ℕ) × (ℕ × (List ℕ × ℕ))) (coded× (coded_list (coded× (coded_option c) (coded_list coded_ℕ))) (coded× coded_ℕ (coded× (coded_list coded_ℕ) coded_ℕ)))
+      code_by (List (Option X × List ℕ) × (ℕ × (List ℕ × ℕ)))
+      (coded× (coded_list (coded× (coded_option c) (coded_list coded_ℕ)))
+      (coded× coded_ℕ (coded× (coded_list coded_ℕ) coded_ℕ)))
       (λ p. (p.entries, (p.places, (p.storage, p.start)))) (λ q. packets_with q.0 q.1.0 q.1.1.0 q.1.1.1) (λ _. refl)
 
   -- ---- the packets among the entries
@@ -69,7 +73,8 @@ module _ {X : Type 0} where
   first_header (e ∷ es) = e.0
 
   abbrev pub without_first : Packets X → Packets X
-  without_first p = packets_with (drop 1 p.entries) p.places p.storage (place_of (length p.storage) p.start (length (first_bytes p.entries)))
+  without_first p = packets_with (drop 1 p.entries) p.places p.storage
+      (place_of (length p.storage) p.start (length (first_bytes p.entries)))
 
   -- the entries without the padding in front, and where they begin
   abbrev pub skipped_from : ℕ → ℕ → List (Option X × List ℕ) → List (Option X × List ℕ) × ℕ
@@ -77,13 +82,15 @@ module _ {X : Type 0} where
   skipped_from m k (e ∷ es) = cond (is_none e.0) (skipped_from m (place_of m k (length e.1)) es) (e ∷ es, k)
 
   unfoldable pub skipped : Packets X → Packets X
-  skipped p = packets_with (skipped_from (length p.storage) p.start p.entries).0 p.places p.storage (skipped_from (length p.storage) p.start p.entries).1
+  skipped p = packets_with (skipped_from (length p.storage) p.start p.entries).0 p.places p.storage
+      (skipped_from (length p.storage) p.start p.entries).1
 
   -- ---- adding an entry
 
   -- the bytes that stand behind the entries become one more
   abbrev pub appended : Option X → ℕ → Packets X → Packets X
-  appended header size p = packets_with (p.entries ++ (header, take size (drop (end_of p) p.storage)) ∷ []) p.places p.storage p.start
+  appended header size p = packets_with (p.entries
+      ++ (header, take size (drop (end_of p) p.storage)) ∷ []) p.places p.storage p.start
 
   -- where no payload byte is taken, the entries begin anew at the storage's first place
   unfoldable pub restarted : Packets X → Packets X
@@ -125,16 +132,20 @@ pub record Dequeues {X : Type 0} (old new : Packets X) : Type 0 where
   pub none : length (skipped old).entries ≡ 0 → new ≡ skipped old
   pub packets : packets new.entries ≡ drop 1 (packets old.entries)
 
--- a call that was lent the size bytes behind the entries left `left` there, and of these the first `kept` became an entry
-pub record AppendsWith {X : Type 0} (called : List ℕ → ℕ → List ℕ → Type 0) (size : ℕ) (header : Option X) (old : Packets X) (kept : ℕ) (new : Packets X) : Type 0 where
+-- a call that was lent the size bytes behind the entries left `left` there, and of these the first `kept` became an
+-- entry
+pub record AppendsWith {X : Type 0} (called : List ℕ → ℕ → List ℕ → Type 0) (size : ℕ) (header : Option X)
+    (old : Packets X) (kept : ℕ) (new : Packets X) : Type 0 where
   pub left : List ℕ
   pub left_length : length left ≡ size
   pub kept_within : kept ≤ size
   pub met : called (take size (drop (end_of old) old.storage)) kept left
-  pub after : new ≡ packets_with (old.entries ++ (header, take kept left) ∷ []) old.places (overwrite old.storage (end_of old) left) old.start
+  pub after : new ≡ packets_with (old.entries ++ (header, take kept left) ∷ []) old.places
+      (overwrite old.storage (end_of old) left) old.start
 
 -- the same of a packet, once room was made for it
-pub record Enqueues {X : Type 0} (called : List ℕ → ℕ → List ℕ → Type 0) (size : ℕ) (header : X) (old : Packets X) (kept : ℕ) (new : Packets X) : Type 0 where
+pub record Enqueues {X : Type 0} (called : List ℕ → ℕ → List ℕ → Type 0) (size : ℕ) (header : X) (old : Packets X)
+    (kept : ℕ) (new : Packets X) : Type 0 where
   pub appends : AppendsWith called size (Some header) (made_room size old) kept new
   pub packets : packets new.entries ≡ packets old.entries ++ (header, take kept appends.left) ∷ []
 
@@ -142,15 +153,40 @@ pub record Enqueues {X : Type 0} (called : List ℕ → ℕ → List ℕ → Typ
 abbrev pub first_packet : {X : Type 0} → Packets X → Option (X × List ℕ)
 first_packet p = slice_get (packets p.entries) 0
 
--- f was called at references to a header and to bytes, and gave r
-abbrev pub SeesBoth : {F X R : Type 0} → Once F (Bor X × (Bor (List ℕ) × Unit {0})) R → F → X → List ℕ → R → Type 0
-SeesBoth {F} {X} g f header bytes r = (p : Bor X) × (q : Bor (List ℕ)) × FnOnceReturns g f (p, (q, tt)) r × (p.now ≡ header) × (q.now ≡ bytes)
+-- f was called at a `&` to a header and a `&mut` to bytes, gave r, and left other bytes there
+pub record WritesBoth {F X R : Type 0} (g : Once F (Bor X × (MutBor (List ℕ) × Unit {0}))
+    (R × (MutBor (List ℕ) × Unit {0}))) (f : F) (header : X) (bytes : List ℕ) (r : R) (left : List ℕ) : Type 0 where
+  pub header_shown : Bor X
+  pub header_shows : header_shown.now ≡ header
+  pub shown : MutBor (List ℕ)
+  pub shows : shown.now ≡ bytes
+  pub end : MutBor (List ℕ)
+  pub met : g.post f (header_shown, (shown, tt)) (r, (end, tt))
+  pub leaves : end.now ≡ left
 
--- a call saw the first packet; at Ok it left, at Err it stands first
-pub record SeesFirst {X R E : Type 0} (called : X → List ℕ → Result R E → Type 0) (old : Packets X) (outcome : Result R E) (new : Packets X) : Type 0 where
+-- other bytes of the first entry, as many as it had
+abbrev pub with_first : {X : Type 0} → List ℕ → Packets X → Packets X
+with_first bs p = packets_with ((first_header p.entries, bs) ∷ drop 1 p.entries) p.places
+    (overwrite p.storage p.start bs) p.start
+
+-- a call that was lent the first entry's bytes left others there
+pub record WritesFirst {X R : Type 0} (called : List ℕ → R → List ℕ → Type 0) (old : Packets X) (result : R)
+    (new : Packets X) : Type 0 where
+  pub left : List ℕ
+  pub left_length : length left ≡ length (first_bytes old.entries)
+  pub met : called (first_bytes old.entries) result left
+  pub after : new ≡ with_first left old
+
+-- a call that was lent the first packet left other bytes there; at Ok the packet left, at Err it stands first with
+-- these bytes
+pub record TakesFirst {X R E : Type 0} (called : X → List ℕ → Result R E → List ℕ → Type 0) (old : Packets X)
+    (outcome : Result R E) (new : Packets X) : Type 0 where
   pub header : X
   pub bytes : List ℕ
+  pub left : List ℕ
   pub first : first_packet old ≡ Some (header, bytes)
-  pub met : called header bytes outcome
-  pub after : new ≡ cond (is_ok outcome) (without_first (skipped old)) (skipped old)
-  pub packets : packets new.entries ≡ cond (is_ok outcome) (drop 1 (packets old.entries)) (packets old.entries)
+  pub left_length : length left ≡ length bytes
+  pub met : called header bytes outcome left
+  pub after : new ≡ cond (is_ok outcome) (without_first (with_first left (skipped old))) (with_first left (skipped old))
+  pub packets : packets new.entries ≡ cond (is_ok outcome) (drop 1 (packets old.entries))
+      ((header, left) ∷ drop 1 (packets old.entries))

@@ -21,7 +21,8 @@ Apart b (r ∷ rs) = (b ≤ r.start) × (r.start < r.end) × Apart (r.end + 1) r
 -- the ranges with lo to hi added, joined with those that it touches
 abbrev pub insert_range : ℕ → ℕ → List Range → List Range
 insert_range lo hi [] = range lo hi ∷ []
-insert_range lo hi (r ∷ rs) = cond (nat_lt r.end lo) (r ∷ insert_range lo hi rs) (cond (nat_lt hi r.start) (range lo hi ∷ (r ∷ rs)) (insert_range (min lo r.start) (max hi r.end) rs))
+insert_range lo hi (r ∷ rs) = cond (nat_lt r.end lo) (r ∷ insert_range lo hi rs)
+    (cond (nat_lt hi r.start) (range lo hi ∷ (r ∷ rs)) (insert_range (min lo r.start) (max hi r.end) rs))
 
 -- the first offset of each range, and the offset behind its last
 abbrev pub edges : List Range → List (ℕ × ℕ)
@@ -48,7 +49,8 @@ abbrev pub run_after : ℕ → ℕ → List Range → ℕ
 run_after o n rs = if o == 0 then front_end (insert_range o (o + n) rs) else 0
 
 abbrev pub ranges_after : ℕ → ℕ → List Range → List Range
-ranges_after o n rs = if o == 0 then lowered (front_end (insert_range o (o + n) rs)) (behind_front (insert_range o (o + n) rs)) else insert_range o (o + n) rs
+ranges_after o n rs = if o == 0 then lowered (front_end (insert_range o (o + n) rs))
+    (behind_front (insert_range o (o + n) rs)) else insert_range o (o + n) rs
 
 -- an addition elsewhere than at 0 is refused where it would make a fifth range
 abbrev pub is_refused : ℕ → ℕ → List Range → Bool

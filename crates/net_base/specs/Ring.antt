@@ -12,7 +12,8 @@ module _ {X : Type 0} where
   ring q s = record { queue = q; spare = s }
 
   abbrev pub ring_code : Coded X → Coded (Ring X)
-  ring_code c = code_by (List X × List X) (coded× (coded_list c) (coded_list c)) (λ r. (r.queue, r.spare)) (λ p. ring p.0 p.1) (λ _. refl)
+  ring_code c = code_by (List X × List X) (coded× (coded_list c) (coded_list c)) (λ r. (r.queue, r.spare))
+      (λ p. ring p.0 p.1) (λ _. refl)
 
   -- how many items the ring has places for
   abbrev pub capacity_of : Ring X → ℕ
@@ -31,7 +32,8 @@ module _ {X : Type 0} where
   ring_of k n xs = ring (take n (cells_from k xs)) (drop n (cells_from k xs))
 
 -- a call that was lent a beginning of the queue, which is empty only where the queue is, and took size items of it
-pub record DequeuesWith {X R : Type 0} (called : List X → ℕ × R → Type 0) (old : Ring X) (result : ℕ × R) (new : Ring X) : Type 0 where
+pub record DequeuesWith {X R : Type 0} (called : List X → ℕ × R → Type 0) (old : Ring X) (result : ℕ × R)
+    (new : Ring X) : Type 0 where
   pub count : ℕ
   pub count_within : count ≤ length old.queue
   pub count_zero : count ≡ 0 → length old.queue ≡ 0
@@ -39,7 +41,8 @@ pub record DequeuesWith {X R : Type 0} (called : List X → ℕ × R → Type 0)
   pub size_within : result.0 ≤ count
   pub after : new ≡ ring (drop result.0 old.queue) (old.spare ++ take result.0 old.queue)
 
--- the spare places as a call that appends finds them: those of an empty queue may be counted from another one of them on
+-- the spare places as a call that appends finds them: those of an empty queue may be counted from another one of them
+-- on
 pub record Restarts {X : Type 0} (old : Ring X) (spare : List X) : Type 0 where
   pub turn : ℕ
   pub turn_within : turn ≤ length old.spare
@@ -58,8 +61,10 @@ pub record Appends {X : Type 0} (ys : List X) (old new : Ring X) : Type 0 where
   pub restarts : Restarts old spare
   pub after : new ≡ ring (old.queue ++ ys) (drop (length ys) spare)
 
--- a call that was lent a beginning of the spare places, which is empty only where no place is spare, left `left` there, and of these the first size joined the queue
-pub record EnqueuesWith {X R : Type 0} (called : List X → ℕ × R → List X → Type 0) (old : Ring X) (result : ℕ × R) (new : Ring X) : Type 0 where
+-- a call that was lent a beginning of the spare places, which is empty only where no place is spare, left `left` there,
+-- and of these the first size joined the queue
+pub record EnqueuesWith {X R : Type 0} (called : List X → ℕ × R → List X → Type 0) (old : Ring X) (result : ℕ × R)
+    (new : Ring X) : Type 0 where
   pub spare : List X
   pub restarts : Restarts old spare
   pub left : List X
@@ -77,7 +82,8 @@ pub record Clears {X : Type 0} (old new : Ring X) : Type 0 where
   pub after : new ≡ ring [] (cells_from turn (old.queue ++ old.spare))
 
 -- a call that was lent count items from `from` on left others there, and nothing else changed
-pub record LeavesRun {X R : Type 0} (called : List X → R → List X → Type 0) (old : List X) (from count : ℕ) (result : R) (new : List X) : Type 0 where
+pub record LeavesRun {X R : Type 0} (called : List X → R → List X → Type 0) (old : List X) (from count : ℕ)
+    (result : R) (new : List X) : Type 0 where
   pub left : List X
   pub left_length : length left ≡ count
   pub met : called (take count (drop from old)) result left

@@ -22,7 +22,8 @@ pub struct Range {
 
 const NONE: Range = Range { start: 0, end: 0 };
 
-/// A set of offsets counted from a front, as at most four separate ranges: which bytes of a stream came ahead of those that are still missing.
+/// A set of offsets counted from a front, as at most four separate ranges: which bytes of a stream came ahead of those
+/// that are still missing.
 ///
 /// Offset 0 is never in it: a run of offsets from 0 on is taken out at once, and the front moves to its end.
 #[derive(Debug, Drop)]
@@ -65,7 +66,8 @@ impl Assembler {
         self.count == 0
     }
 
-    /// The ranges in order, each as its first offset and the offset behind its last. They are apart by at least one offset, and the first begins at offset 1 or later.
+    /// The ranges in order, each as its first offset and the offset behind its last. They are apart by at least one
+    /// offset, and the first begins at offset 1 or later.
     pub fn iter_data(&self) -> AssemblerIter<'_>
         ensures ranges { result ≡ edges self.now }
         ensures tidy { IsTidy self.now }
@@ -75,7 +77,8 @@ impl Assembler {
         }
     }
 
-    /// Adds the `size` offsets from `offset` on. Then the run of offsets from 0 on is taken out and its length answered, and the other offsets fall by this length. The length is 0 where offset 0 was not added.
+    /// Adds the `size` offsets from `offset` on. Then the run of offsets from 0 on is taken out and its length
+    /// answered, and the other offsets fall by this length. The length is 0 where offset 0 was not added.
     ///
     /// Refused exactly where `offset` is not 0 and the addition would make a fifth range; then nothing changes.
     pub fn add_then_remove_front(
@@ -85,8 +88,10 @@ impl Assembler {
     ) -> Result<usize, TooManyHoles>
         requires some { 0 < size }
         requires small { offset + size ≤ 2 ^ 30 }
-        ensures answer { result ≡ (if is_refused offset size self.old then Err (record {}) else Ok (run_after offset size self.old)) }
-        ensures after { self.new ≡ (if is_refused offset size self.old then self.old else ranges_after offset size self.old) }
+        ensures answer { result ≡ (if is_refused offset size self.old then Err (record {})
+            else Ok (run_after offset size self.old)) }
+        ensures after { self.new ≡ (if is_refused offset size self.old then self.old
+            else ranges_after offset size self.old) }
     {
         let joined = with_range(&self.ranges[..self.count], offset, offset + size);
         if offset == 0 {
@@ -133,19 +138,26 @@ impl<'a> Iterator for AssemblerIter<'a> {
     }
 }
 
-/// What an addition that is not refused does to the set: exactly the offsets that were in it or are added are held after it, counted from the end of the run; the run reaches from 0 to the first offset that is not held; the ranges after it are in order, apart, at most four, and none begins at 0.
+/// What an addition that is not refused does to the set: exactly the offsets that were in it or are added are held
+/// after it, counted from the end of the run; the run reaches from 0 to the first offset that is not held; the ranges
+/// after it are in order, apart, at most four, and none begins at 0.
 pub fn adds()
-    ensures { (o n : ℕ) (rs : List Range) → IsTidy rs → 0 < n → is_refused o n rs ≡ false → Adds o n rs (run_after o n rs) (ranges_after o n rs) }
+    ensures { (o n : ℕ) (rs : List Range) → IsTidy rs → 0 < n → is_refused o n rs ≡ false
+        → Adds o n rs (run_after o n rs) (ranges_after o n rs) }
 {}
 
-/// When an addition is refused: exactly where its offset is not 0, and the offsets that are in the set or added make more than four separate ranges.
+/// When an addition is refused: exactly where its offset is not 0, and the offsets that are in the set or added make
+/// more than four separate ranges.
 pub fn refuses_a_fifth_range()
-    ensures { (o n : ℕ) (rs qs : List Range) → IsTidy rs → 0 < n → Apart 0 qs → ((k : ℕ) → is_held qs k ≡ (is_within o (o + n) k || is_held rs k)) → is_refused o n rs ≡ (not (o == 0) && nat_lt 4 (length qs)) }
+    ensures { (o n : ℕ) (rs qs : List Range) → IsTidy rs → 0 < n → Apart 0 qs
+        → ((k : ℕ) → is_held qs k ≡ (is_within o (o + n) k || is_held rs k)) → is_refused o n rs
+        ≡ (not (o == 0) && nat_lt 4 (length qs)) }
 {}
 
 /// What the bytes written at an offset do to the bytes held.
 pub fn joins()
-    ensures { (rs : List Range) (spare ys : List ℕ) (o : ℕ) → IsKept rs (length spare) → 0 < length ys → o + length ys ≤ length spare → is_refused o (length ys) rs ≡ false
+    ensures { (rs : List Range) (spare ys : List ℕ) (o : ℕ) → IsKept rs (length spare) → 0 < length ys
+        → o + length ys ≤ length spare → is_refused o (length ys) rs ≡ false
         → Joins rs spare o ys (run_after o (length ys) rs) (ranges_after o (length ys) rs) (drop (run_after o (length ys) rs) (overwrite spare o ys)) }
 {}
 
@@ -176,7 +188,8 @@ pub struct Joined {
     pub count: usize,
 }
 
-/// The at most four `ranges` with the offsets from `start` to `end` added, in order and apart: the first `count` of the answer's ranges.
+/// The at most four `ranges` with the offsets from `start` to `end` added, in order and apart: the first `count` of the
+/// answer's ranges.
 pub fn with_range(ranges: &[Range], start: usize, end: usize) -> Joined
     requires { length ranges.now ≤ 4 }
     ensures count { result.count ≤ 5 }

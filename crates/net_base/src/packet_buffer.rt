@@ -1,11 +1,12 @@
 //! A queue of packets, each with a header, over lent places and lent bytes. As smoltcp's packet buffer.
 //!
-//! A packet's bytes stand in one piece. Where they don't fit before the end of the payload storage but fit at its beginning, the bytes up to the end become padding: an entry with no header, which is in no list of packets.
+//! A packet's bytes stand in one piece. Where they don't fit before the end of the payload storage but fit at its
+//! beginning, the bytes up to the end become padding: an entry with no header, which is in no list of packets.
 ghost use Rattle.std.specs.Prelude.{◌≡◌, ℕ, ◌+◌, ◌-◌, ◌<◌, ◌≤◌, ◌==◌, ◌&&◌, ◌||◌, nat_lt, nat_le, ◌⊎◌, ◌↔◌, List, [], ◌∷◌, ◌++◌, length, take, drop, min, true, false, Some, None, IfOk, IfSome, OnErr, IfNone, IsOk, IsSome, IsTrue, slice_get, if◌then◌else◌};
 ghost use Rattle.std.specs.Fn.{FnOnceReturnsAtMut, FnOnceReturnsAt};
 ghost use Rattle.std.specs.Borrow.{sem};
 ghost use Rattle.net_base.specs.Ring.{LeavesRun};
-ghost use Rattle.net_base.specs.Packets.{Packets, packets_with, packets, taken, place_of, end_of, run_of, room_of, first_bytes, first_header, starts_padded, without_first, skipped, appended, restarted, fits_behind, fits_before, fits, padded_for, made_room, takes, first_packet, Dequeues, SeesBoth, SeesFirst, AppendsWith, Enqueues};
+ghost use Rattle.net_base.specs.Packets.{Packets, packets_with, packets, taken, place_of, end_of, run_of, room_of, first_bytes, first_header, starts_padded, without_first, skipped, appended, restarted, fits_behind, fits_before, fits, padded_for, made_room, takes, first_packet, Dequeues, WritesBoth, WritesFirst, TakesFirst, AppendsWith, Enqueues};
 
 use crate::ring_buffer::{RingBuffer, place};
 use std::marker::Model;
@@ -107,6 +108,7 @@ impl<'a, H: Copy> PacketBuffer<'a, H> {
     }
 
     /// How many payload bytes are taken, padding included.
+    #[tactic(auto, using(crate::proofs::Entries::taken_view))]
     pub fn payload_bytes_count(&self) -> usize
         ensures { result ≡ taken self.now.entries }
     {
@@ -114,6 +116,7 @@ impl<'a, H: Copy> PacketBuffer<'a, H> {
     }
 
     /// Whether no place is taken. Padding takes one.
+    #[tactic(auto, using(crate::proofs::Entries::empty_view))]
     pub fn is_empty(&self) -> bool
         ensures { result ≡ (length self.now.entries == 0) }
     {
@@ -121,6 +124,7 @@ impl<'a, H: Copy> PacketBuffer<'a, H> {
     }
 
     /// Whether every place is taken. Padding takes one.
+    #[tactic(auto, using(crate::proofs::Entries::full_view, crate::proofs::Entries::places_within))]
     pub fn is_full(&self) -> bool
         ensures full { result ≡ (length self.now.entries == self.now.places) }
         ensures within { length self.now.entries ≤ self.now.places }
@@ -129,6 +133,7 @@ impl<'a, H: Copy> PacketBuffer<'a, H> {
     }
 
     // How many payload bytes are free.
+    #[tactic(auto, using(crate::proofs::Entries::room_free))]
     fn room(&self) -> usize
         ensures { result ≡ room_of self.now }
     {
@@ -146,6 +151,7 @@ impl<'a, H: Copy> PacketBuffer<'a, H> {
     }
 
     // An empty payload ring starts anew at the storage's first place.
+    #[tactic(auto, using(crate::proofs::Entries::laid_restarted, crate::proofs::Entries::restarted_is, crate::proofs::Entries::not_restarted_is))]
     fn restart(&mut self)
         ensures { self.new ≡ restarted self.old }
     {
@@ -168,7 +174,8 @@ impl<'a, H: Copy> PacketBuffer<'a, H> {
         from
     }
 
-    // Where `size` bytes fit in the free places that are not behind the entries, the run behind them becomes padding. Answers whether `size` bytes now fit behind the entries, with a place for them.
+    // Where `size` bytes fit in the free places that are not behind the entries, the run behind them becomes padding.
+    // Answers whether `size` bytes now fit behind the entries, with a place for them.
     #[tactic(auto, unfolding(crate::specs::Packets::padded_for))]
     fn pad_for(&mut self, size: usize) -> bool
         requires { length self.old.entries < self.old.places }
@@ -188,7 +195,7 @@ impl<'a, H: Copy> PacketBuffer<'a, H> {
     }
 
     // Makes room for an entry of `size` bytes behind the others. Answers whether there is room.
-    #[tactic(auto, unfolding(crate::specs::Packets::made_room, crate::specs::Packets::takes))]
+    #[tactic(auto, using(crate::proofs::PacketLists::restarted_free), unfolding(crate::specs::Packets::made_room, crate::specs::Packets::takes))]
     fn make_room(&mut self, size: usize) -> bool
         ensures after { self.new ≡ made_room size self.old }
         ensures takes { result ≡ takes size self.old }
@@ -205,7 +212,8 @@ impl<'a, H: Copy> PacketBuffer<'a, H> {
     fn reserve(&mut self, size: usize, header: H) -> Result<usize, Full>
         ensures variant { IsOk result ↔ IsTrue (takes size self.old) }
         ensures err { OnErr result (self.new ≡ made_room size self.old) }
-        ensures ok { IfOk result (λ from. (from ≡ end_of (made_room size self.old)) × (self.new ≡ appended (Some header) size (made_room size self.old))) }
+        ensures ok { IfOk result (λ from. (from ≡ end_of (made_room size self.old))
+            × (self.new ≡ appended (Some header) size (made_room size self.old))) }
         ensures within { IfOk result (λ from. from + size ≤ length self.new.storage) }
     {
         if !self.make_room(size) {
@@ -217,10 +225,12 @@ impl<'a, H: Copy> PacketBuffer<'a, H> {
     /// Appends a packet, and lends its `size` bytes for writing. What stands in them as the borrow ends is the packet.
     ///
     /// `Full` where no place is left, or `size` bytes in one piece are not; the packets then stay as they were.
+    #[tactic(auto, using(crate::proofs::PacketLists::lent_bytes))]
     pub fn enqueue(&mut self, size: usize, header: H) -> Result<&mut [u8], Full>
         ensures variant { IsOk result ↔ IsTrue (takes size self.old) }
         ensures size { IfOk result (λ bytes. length bytes.now ≡ size) }
-        ensures value { IfOk result (λ bytes. bytes.now ≡ take size (drop (end_of (made_room size self.old)) self.old.storage)) }
+        ensures value { IfOk result (λ bytes. bytes.now
+            ≡ take size (drop (end_of (made_room size self.old)) self.old.storage)) }
     {
         let from = self.reserve(size, header)?;
         let all = self.all();
@@ -248,7 +258,8 @@ impl<'a, H: Copy> PacketBuffer<'a, H> {
         kept
     }
 
-    /// Appends a packet whose bytes `f` writes: it is lent `max_size` bytes and answers how many of them, from the first on, to keep. This count is answered.
+    /// Appends a packet whose bytes `f` writes: it is lent `max_size` bytes and answers how many of them, from the
+    /// first on, to keep. This count is answered.
     ///
     /// `Full` where no place is left, or `max_size` bytes in one piece are not; the packets then stay as they were.
     pub fn enqueue_with_infallible<F: FnOnce(&mut [u8]) -> usize>(
@@ -257,14 +268,13 @@ impl<'a, H: Copy> PacketBuffer<'a, H> {
         header: H,
         f: F,
     ) -> Result<usize, Full>
-    where
-        F: Drop,
         requires callable { F.IsAlwaysCallable f }
         requires sized { (s : List ℕ) (r : _) (s' : List ℕ) → FnOnceReturnsAtMut F.FnOnce f s r s' → r ≤ length s }
         ensures variant { IsOk result ↔ IsTrue (takes max_size self.old) }
         ensures err { OnErr result (self.new ≡ made_room max_size self.old) }
         ensures kept { OnErr result (packets self.new.entries ≡ packets self.old.entries) }
-        ensures ok { IfOk result (λ kept. Enqueues (FnOnceReturnsAtMut F.FnOnce f) max_size header self.old kept self.new) }
+        ensures ok { IfOk result (λ kept. Enqueues
+            (FnOnceReturnsAtMut F.FnOnce f) max_size header self.old kept self.new) }
     {
         if !self.make_room(max_size) {
             return Err(Full);
@@ -296,7 +306,8 @@ impl<'a, H: Copy> PacketBuffer<'a, H> {
         (first.header, (from, size))
     }
 
-    /// Padding that stands first leaves. The first step of `peek`, `dequeue` and `dequeue_with`, for a caller that lends on what `first` lends.
+    /// Padding that stands first leaves. The first step of `peek`, `dequeue` and `dequeue_with`, for a caller that
+    /// lends on what `first` lends.
     pub fn skip_padding(&mut self)
         ensures after { self.new ≡ skipped self.old }
         ensures same { packets self.new.entries ≡ packets self.old.entries }
@@ -342,14 +353,16 @@ impl<'a, H: Copy> PacketBuffer<'a, H> {
         self.first()
     }
 
-    /// Takes the first packet. Answers its header, where in the payload storage its bytes stand, and how many they are; `part` lends them. `None` where there is no packet.
+    /// Takes the first packet. Answers its header, where in the payload storage its bytes stand, and how many they are;
+    /// `part` lends them. `None` where there is no packet.
     ///
     /// The two steps of `dequeue`, for a caller that lends the bytes on and says what it then is.
     pub fn take_first(&mut self) -> Option<(H, (usize, usize))>
         ensures variant { IsSome result ↔ (0 < length (packets self.old.entries)) }
         ensures after { Dequeues self.old self.new }
         ensures within { IfSome result (λ r. r.1.0 + r.1.1 ≤ length self.new.storage) }
-        ensures some { IfSome result (λ r. first_packet self.old ≡ Some (r.0, take r.1.1 (drop r.1.0 self.new.storage))) }
+        ensures some { IfSome result (λ r. first_packet self.old
+            ≡ Some (r.0, take r.1.1 (drop r.1.0 self.new.storage))) }
     {
         self.skip_padding();
         if self.is_empty() {
@@ -370,24 +383,45 @@ impl<'a, H: Copy> PacketBuffer<'a, H> {
         }
     }
 
-    /// Shows `f` the header and the bytes of the first packet. Where `f` answers `Ok`, the packet leaves; where it answers `Err`, it stays first. `f`'s answer is passed on. `Empty` where there is no packet.
-    pub fn dequeue_with<R, E, F: FnOnce(&H, &[u8]) -> Result<R, E>>(
+    // The header of the first entry, where that is a packet.
+    fn first_header(&self) -> Option<H>
+        ensures { result ≡ first_header self.now.entries }
+    {
+        if self.metadata.is_empty() {
+            return None;
+        }
+        self.metadata.front().header
+    }
+
+    // Lends `f` this header and the bytes of the first entry.
+    fn write_first<R, F: FnOnce(&H, &mut [u8]) -> R>(&mut self, header: &H, f: F) -> R
+        requires some { 0 < length self.old.entries }
+        requires callable { F.IsAlwaysCallable f }
+        ensures { WritesFirst (WritesBoth F.FnOnce f header.now) self.old result self.new }
+    {
+        let size = self.metadata.front().size;
+        lend_packet(self.payload, self.start, size, header, f)
+    }
+
+    /// Lends `f` the header and the bytes of the first packet, these for writing. Where `f` answers `Ok`, the packet
+    /// leaves; where it answers `Err`, it stays first, with its bytes as `f` left them. `f`'s answer is passed on.
+    ///
+    /// `Empty` where there is no packet.
+    pub fn dequeue_with<R, E, F: FnOnce(&H, &mut [u8]) -> Result<R, E>>(
         &mut self,
         f: F,
     ) -> Result<Result<R, E>, Empty>
-    where
-        F: Drop,
         requires callable { F.IsAlwaysCallable f }
         ensures variant { IsOk result ↔ (0 < length (packets self.old.entries)) }
         ensures err { OnErr result (self.new ≡ skipped self.old) }
         ensures empty { OnErr result ((packets self.old.entries ≡ []) × (packets self.new.entries ≡ [])) }
-        ensures ok { IfOk result (λ outcome. SeesFirst (SeesBoth F.FnOnce f) self.old outcome self.new) }
+        ensures ok { IfOk result (λ outcome. TakesFirst (WritesBoth F.FnOnce f) self.old outcome self.new) }
     {
         self.skip_padding();
-        let outcome = match self.first() {
-            Ok((header, bytes)) => f(header, bytes),
-            Err(empty) => return Err(empty),
+        let Some(header) = self.first_header() else {
+            return Err(Empty);
         };
+        let outcome = self.write_first(&header, f);
         if outcome.is_ok() {
             self.drop_first();
         }
@@ -411,17 +445,37 @@ fn lend_bytes<F: FnOnce(&mut [u8]) -> usize>(
     f(&mut places[from..from + count])
 }
 
+// Lends `count` bytes from `from` on, beside a header.
+fn lend_packet<H, R, F: FnOnce(&H, &mut [u8]) -> R>(
+    places: &mut [u8],
+    from: usize,
+    count: usize,
+    header: &H,
+    f: F,
+) -> R
+    requires fits { from + count ≤ length places.old }
+    requires callable { F.IsAlwaysCallable f }
+    ensures { LeavesRun (WritesBoth F.FnOnce f header.now) places.old from count result places.new }
+{
+    f(header, &mut places[from..from + count])
+}
+
 /// Making room for a packet adds padding at most, which is in no list of packets.
+#[tactic(auto, using(crate::proofs::PacketLists::made_room_packets))]
 pub fn room_keeps_packets<H: Copy>()
     ensures { (size : ℕ) (p : Packets H) → packets (made_room size p).entries ≡ packets p.entries }
 {}
 
 /// The packets are the same once the padding in front of them is gone.
+#[tactic(auto, using(crate::proofs::PacketLists::packets_skipped))]
 pub fn skipping_keeps_packets<H: Copy>()
     ensures { (p : Packets H) → packets (skipped p).entries ≡ packets p.entries }
 {}
 
-/// With a free place and no payload byte taken, a packet is taken exactly where it is at most as long as the payload storage.
+/// With a free place and no payload byte taken, a packet is taken exactly where it is at most as long as the payload
+/// storage.
+#[tactic(auto, using(crate::proofs::PacketLists::takes_empty))]
 pub fn empty_payload_takes_all_that_fits<H: Copy>()
-    ensures { (size : ℕ) (p : Packets H) → length p.entries < p.places → taken p.entries ≡ 0 → takes size p ≡ nat_le size (length p.storage) }
+    ensures { (size : ℕ) (p : Packets H) → length p.entries < p.places → taken p.entries ≡ 0 → takes size p
+        ≡ nat_le size (length p.storage) }
 {}

@@ -77,6 +77,7 @@ impl<'a, T: Copy> RingBuffer<'a, T> {
     }
 
     /// Empties the queue. It starts anew at the slice's first place.
+    #[tactic(auto, using(crate::proofs::Cells::cleared))]
     pub fn clear(&mut self)
         ensures { Clears self.old self.new }
     {
@@ -95,7 +96,8 @@ impl<'a, T: Copy> RingBuffer<'a, T> {
         count
     }
 
-    /// Lends `f` a slice of the places behind the queue, which is empty only where none is spare. `f` answers how many items it wrote at the beginning of the slice, and these join the queue; its answer is passed on.
+    /// Lends `f` a slice of the places behind the queue, which is empty only where none is spare. `f` answers how many
+    /// items it wrote at the beginning of the slice, and these join the queue; its answer is passed on.
     pub fn enqueue_many_with<R, F: FnOnce(&mut [T]) -> (usize, R)>(&mut self, f: F) -> (usize, R)
         requires callable { F.IsAlwaysCallable f }
         requires sized { (s : List T) (r : _) (s' : List T) → FnOnceReturnsAtMut F.FnOnce f s r s' → r.0 ≤ length s }
@@ -109,7 +111,8 @@ impl<'a, T: Copy> RingBuffer<'a, T> {
         (size, outcome)
     }
 
-    /// Moves the first items into the beginning of `out`, as many as there are and fit, and answers their count. The rest of `out` stays as it was.
+    /// Moves the first items into the beginning of `out`, as many as there are and fit, and answers their count. The
+    /// rest of `out` stays as it was.
     pub fn dequeue_slice(&mut self, out: &mut [T]) -> usize
         ensures count { result ≡ min (length out.old) (length self.old.queue) }
         ensures read { out.new ≡ take result self.old.queue ++ drop result out.old }
@@ -120,7 +123,8 @@ impl<'a, T: Copy> RingBuffer<'a, T> {
         count
     }
 
-    /// Lends `f` a beginning of the queue, which is empty only where the queue is. `f` answers how many of these items to remove; its answer is passed on.
+    /// Lends `f` a beginning of the queue, which is empty only where the queue is. `f` answers how many of these items
+    /// to remove; its answer is passed on.
     pub fn dequeue_many_with<R, F: FnOnce(&[T]) -> (usize, R)>(&mut self, f: F) -> (usize, R)
         requires callable { F.IsAlwaysCallable f }
         requires sized { (s : List T) (r : _) → FnOnceReturnsAt F.FnOnce f s r → r.0 ≤ length s }
@@ -133,7 +137,9 @@ impl<'a, T: Copy> RingBuffer<'a, T> {
         (size, outcome)
     }
 
-    /// The queue from `offset` on, as far as it stands in one piece, at most `count` items. Empty only where `count` is 0, or no item stands at `offset`.
+    /// The queue from `offset` on, as far as it stands in one piece, at most `count` items. Empty only where `count` is
+    /// 0, or no item stands at `offset`.
+    #[tactic(auto, using(crate::proofs::Cells::queue_run_read))]
     pub fn get_allocated(&self, offset: usize, count: usize) -> &[T]
         ensures beginning { result.now ≡ take (length result.now) (drop offset self.now.queue) }
         ensures at_most { length result.now ≤ count }
@@ -149,7 +155,9 @@ impl<'a, T: Copy> RingBuffer<'a, T> {
         &self.storage[from..from + count]
     }
 
-    /// Copies items from `offset` on into the beginning of `out`, as many as there are and fit, and answers their count. The rest of `out` stays as it was.
+    /// Copies items from `offset` on into the beginning of `out`, as many as there are and fit, and answers their
+    /// count. The rest of `out` stays as it was.
+    #[tactic(auto, using(crate::proofs::Cells::items_read))]
     pub fn read_allocated(&self, offset: usize, out: &mut [T]) -> usize
         ensures count { result ≡ min (length out.old) (length self.now.queue - offset) }
         ensures read { out.new ≡ take result (drop offset self.now.queue) ++ drop result out.old }
@@ -162,7 +170,9 @@ impl<'a, T: Copy> RingBuffer<'a, T> {
         count
     }
 
-    /// Removes the first `count` items, of which there are so many. Their places come behind the spare ones, which keep their offsets from the queue's end.
+    /// Removes the first `count` items, of which there are so many. Their places come behind the spare ones, which keep
+    /// their offsets from the queue's end.
+    #[tactic(auto, using(crate::proofs::Cells::dequeued))]
     pub fn dequeue_allocated(&mut self, count: usize)
         requires { count ≤ length self.old.queue }
         ensures { self.new ≡ ring (drop count self.old.queue) (self.old.spare ++ take count self.old.queue) }
@@ -171,7 +181,9 @@ impl<'a, T: Copy> RingBuffer<'a, T> {
         self.length -= count;
     }
 
-    /// Writes `items` to the spare places from `offset` on, counted from the queue's end, as far as these reach, and answers how many were written. The queue stays as it was.
+    /// Writes `items` to the spare places from `offset` on, counted from the queue's end, as far as these reach, and
+    /// answers how many were written. The queue stays as it was.
+    #[tactic(auto, using(crate::proofs::Cells::items_written))]
     pub fn write_unallocated(&mut self, offset: usize, items: &[T]) -> usize
         ensures count { result ≡ min (length items.now) (length self.old.spare - offset) }
         ensures after { self.new ≡ ring self.old.queue (overwrite self.old.spare offset (take result items.now)) }
@@ -190,7 +202,9 @@ impl<'a, T: Copy> RingBuffer<'a, T> {
         count
     }
 
-    /// The first `count` spare places, of which there are so many, join the queue with what stands in them. The offsets of the others fall by `count`.
+    /// The first `count` spare places, of which there are so many, join the queue with what stands in them. The offsets
+    /// of the others fall by `count`.
+    #[tactic(auto, using(crate::proofs::Cells::enqueued))]
     pub fn enqueue_unallocated(&mut self, count: usize)
         requires { count ≤ length self.old.spare }
         ensures { self.new ≡ ring (self.old.queue ++ take count self.old.spare) (drop count self.old.spare) }
@@ -226,6 +240,7 @@ impl<'a, T: Copy> RingBuffer<'a, T> {
     }
 
     // Appends `items`, which fit.
+    #[tactic(auto, using(crate::proofs::Cells::appended, crate::proofs::Cells::spare_fits))]
     fn write_behind(&mut self, items: &[T])
         requires { length items.now ≤ length self.old.spare }
         ensures { self.new ≡ ring (self.old.queue ++ items.now) (drop (length items.now) self.old.spare) }

@@ -119,12 +119,15 @@ fn packets_go_around_the_end_with_padding(rt: HostRuntime) -> Result<(), Fail> {
         Ok((header, lent)) => assert!(rt; *header == 2 && lent == b"123456".as_slice()),
         Err(Empty) => return Ok(assert!(rt; false)),
     }
-    let refused = packets.dequeue_with(|header, lent| if lent.len() == 6 {
-        Err(*header)
-    } else {
-        Ok(())
+    let refused = packets.dequeue_with(|header, lent| {
+        lent.fill(b'0');
+        Err::<(), u16>(*header)
     });
     assert_eq!(rt; refused, Ok(Err(2)));
+    match packets.peek() {
+        Ok((_, lent)) => assert_eq!(rt; lent, b"000000".as_slice()),
+        Err(Empty) => return Ok(assert!(rt; false)),
+    }
     assert_eq!(rt;
         packets.dequeue_with(|header, _| if *header == 2 { Ok(7u8) } else { Err(()) }),
         Ok(Ok(7))

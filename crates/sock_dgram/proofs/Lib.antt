@@ -1,2 +1,2 @@
-pub mod UdpEmitting
+pub mod Emitting
 pub mod UdpSources

@@ -1,4 +1,9 @@
+pub mod Datagrams
+pub mod Icmp
+pub mod IcmpLends
+pub mod Raw
+pub mod RawLends
+pub mod Texts
 pub mod Udp
 pub mod UdpDispatch
 pub mod UdpLends
-pub mod UdpTexts

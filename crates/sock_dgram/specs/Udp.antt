@@ -1,6 +1,5 @@
 -- What contracts see of a UDP socket, and what its calls do to it.
-use Rattle.std.specs.Prelude.{ℕ, ◌≡◌, ◌⊎◌, ⊤, List, [], ◌∷◌, ◌++◌, length, nat_lt, Option, None, Some, Result, Ok, Err, Bool, true, false, not, ◌==◌, ◌&&◌, if◌then◌else◌}
-use Rattle.std.specs.Borrow.{Bor}
+use Rattle.std.specs.Prelude.{ℕ, ◌≡◌, ◌⊎◌, ⊤, List, Option, None, Some, Result, Ok, Err, Bool, true, false, not, ◌==◌, ◌&&◌, if◌then◌else◌}
 use Rattle.ip_wire.specs.Address.{is_unspecified, is_multicast}
 use Rattle.ip_wire.specs.IpHeader.{src_addr_of, dst_addr_of}
 use Rattle.ip_wire.specs.declared.address.IpAddress.{IpAddress}
@@ -8,16 +7,14 @@ use Rattle.ip_wire.specs.declared.address.IpAddress.TheVariants as address
 use Rattle.ip_wire.specs.declared.endpoint.IpListenEndpoint.{IpListenEndpoint}
 use Rattle.ip_wire.specs.declared.repr.IpRepr.{IpRepr}
 use Rattle.control_wire.specs.declared.udp.UdpRepr.{UdpRepr}
-use Rattle.net_base.specs.Ring.{overwrite}
-use Rattle.net_base.specs.Packets.{Packets, packets_with, packets, end_of, made_room, takes}
+use Rattle.net_base.specs.Packets.{Packets, packets, made_room, takes}
 use Rattle.sock_core.specs.Facts.{Facts}
+use Rattle.sock_dgram.specs.Datagrams.{emptied, stored}
 use Rattle.sock_dgram.specs.declared.udp.socket.UdpMetadata.{UdpMetadata}
-use Rattle.sock_dgram.specs.declared.udp.error.BindError.{BindError}
-use Rattle.sock_dgram.specs.declared.udp.error.BindError.TheVariants as bind_error
-use Rattle.sock_dgram.specs.declared.udp.error.SendError.{SendError}
-use Rattle.sock_dgram.specs.declared.udp.error.SendError.TheVariants as send_error
-use Rattle.sock_dgram.specs.declared.udp.error.RecvError.{RecvError}
-use Rattle.sock_dgram.specs.declared.udp.error.RecvError.TheVariants as recv_error
+use Rattle.sock_dgram.specs.declared.error.BindError.{BindError}
+use Rattle.sock_dgram.specs.declared.error.BindError.TheVariants as bind_error
+use Rattle.sock_dgram.specs.declared.error.SendError.{SendError}
+use Rattle.sock_dgram.specs.declared.error.SendError.TheVariants as send_error
 
 pub record View : Type 0 where
   pub endpoint : IpListenEndpoint  -- what the socket is bound to; port 0 where it is not open
@@ -54,20 +51,8 @@ abbrev pub after_bind : Result (Unit {0}) BindError → View → IpListenEndpoin
 after_bind (Ok u) v e = record v { endpoint = e }
 after_bind (Err x) v e = v
 
-abbrev pub emptied : Packets UdpMetadata → Packets UdpMetadata
-emptied p = packets_with [] p.places p.storage 0
-
 abbrev pub closed : View → View
 closed v = record v { endpoint = no_endpoint; rx_buffer = emptied v.rx_buffer; tx_buffer = emptied v.tx_buffer }
-
--- ---- adding a datagram to a buffer
-
--- behind the others; where it does not fit, the buffer has the same datagrams as before
-abbrev pub put : UdpMetadata → List ℕ → Packets UdpMetadata → Packets UdpMetadata
-put m bs p = packets_with (p.entries ++ (Some m, bs) ∷ []) p.places (overwrite p.storage (end_of p) bs) p.start
-
-abbrev pub stored : UdpMetadata → List ℕ → Packets UdpMetadata → Packets UdpMetadata
-stored m bs p = if takes (length bs) p then put m bs (made_room (length bs) p) else made_room (length bs) p
 
 -- ---- sending
 
@@ -105,32 +90,6 @@ after_send v m bs = if is_sendable v m then record v { tx_buffer = stored m bs v
 abbrev pub refused_send : View → UdpMetadata → ℕ → View
 refused_send v m n = if is_sendable v m then record v { tx_buffer = made_room n v.tx_buffer } else v
 
--- ---- receiving
-
--- whether a call that lends is refused, and why
-abbrev pub answered : {X E : Type 0} → Result X E → Result (Unit {0}) E
-answered (Ok x) = Ok tt
-answered (Err e) = Err e
-
-abbrev pub take_answer : Option (UdpMetadata × List ℕ) → Result (Unit {0}) RecvError
-take_answer None = Err recv_error.Exhausted
-take_answer (Some d) = Ok tt
-
--- an answer that lends the metadata, by value
-abbrev pub copied_of : Result (ℕ × Bor UdpMetadata) RecvError → Result (ℕ × UdpMetadata) RecvError
-copied_of (Ok r) = Ok (r.0, r.1.now)
-copied_of (Err e) = Err e
-
--- the answer of a call that copies the first datagram into a slice of n bytes
-abbrev pub copy_answer : Option (UdpMetadata × List ℕ) → ℕ → Result (ℕ × UdpMetadata) RecvError
-copy_answer None n = Err recv_error.Exhausted
-copy_answer (Some d) n = if nat_lt n (length d.1) then Err recv_error.Truncated else Ok (length d.1, d.0)
-
--- what the slice then holds: a datagram that does not fit leaves it as it was
-abbrev pub copied : Option (UdpMetadata × List ℕ) → List ℕ → List ℕ
-copied None bs = bs
-copied (Some d) bs = if nat_lt (length bs) (length d.1) then bs else overwrite bs 0 d.1
-
 -- ---- the filter and what is queued of an accepted datagram
 
 -- the bound address is absent, or equal to the destination, or the destination is broadcast or multicast
@@ -144,4 +103,7 @@ pub record Accepts (v : View) (f : Facts) (ip : IpRepr) (udp : UdpRepr) : Type 0
 
 -- where it came from, and where it went to
 abbrev pub metadata_of : IpRepr → UdpRepr → UdpMetadata
-metadata_of ip udp = record { endpoint = record { addr = src_addr_of ip; port = udp.src_port }; local_address = Some (dst_addr_of ip) }
+metadata_of ip udp = record {
+  endpoint = record { addr = src_addr_of ip; port = udp.src_port };
+  local_address = Some (dst_addr_of ip);
+}

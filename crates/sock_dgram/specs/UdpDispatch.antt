@@ -1,7 +1,6 @@
 -- `dispatch` of a UDP socket.
-use Rattle.std.specs.Prelude.{ℕ, ◌≡◌, ◌+◌, List, drop, length, cond, Option, None, Some, Result, Ok, is_ok, true, false, if◌then◌else◌}
-use Rattle.std.specs.Borrow.{MutBor, Bor}
-use Rattle.std.specs.Fn.{Once}
+use Rattle.std.specs.Prelude.{ℕ, ◌≡◌, ◌+◌, List, drop, length, cond, Option, None, Some, Result, is_ok, true, false, if◌then◌else◌}
+use Rattle.std.specs.Borrow.{Bor}
 use Rattle.ip_wire.specs.IpHeader.{ip_header}
 use Rattle.ip_wire.specs.declared.address.IpAddress.{IpAddress}
 use Rattle.ip_wire.specs.declared.protocol.IpProtocol.TheVariants as protocol
@@ -10,6 +9,7 @@ use Rattle.control_wire.specs.Datagram.{udp_header_len}
 use Rattle.control_wire.specs.declared.udp.UdpRepr.{UdpRepr}
 use Rattle.net_base.specs.Packets.{first_packet, Dequeues, skipped}
 use Rattle.sock_core.specs.Facts.{Facts}
+use Rattle.sock_core.specs.Emission.{Emit, Emits}
 use Rattle.sock_dgram.specs.Udp.{View, waiting, known_source, same_version}
 use Rattle.sock_dgram.specs.declared.udp.socket.UdpMetadata.{UdpMetadata}
 
@@ -55,29 +55,11 @@ outgoing v f = from_first v f (first_packet v.tx_buffer)
 abbrev pub outgoing_of : IpRepr × UdpRepr × Bor (List ℕ) → Outgoing
 outgoing_of s = record { ip = s.0; udp = s.1; payload = s.2.now }
 
--- ---- the one call of emit
-
-abbrev pub Emit : Type 0 → Type 0 → Type 0 → Type 1
-Emit F C E = Once F (MutBor C × ((IpRepr × UdpRepr × Bor (List ℕ)) × Unit {0})) (Result (Unit {0}) E × (MutBor C × Unit {0}))
-
--- a call of f at a `&mut` to c and the datagram s may answer r, and leave c'
-pub record EmitsAt {F C E : Type 0} (g : Emit F C E) (f : F) (c : C) (s : Outgoing) (r : Result (Unit {0}) E) (c' : C) : Type 0 where
-  pub shown : MutBor C
-  pub shows : shown.now ≡ c
-  pub sent : IpRepr × UdpRepr × Bor (List ℕ)
-  pub says : outgoing_of sent ≡ s
-  pub left : MutBor C
-  pub met : g.post f (shown, (sent, tt)) (r, (left, tt))
-  pub leaves : left.now ≡ c'
-
--- emit is called once with this datagram, or it is not called and the context stays as it was
-abbrev pub Emits : {F C E : Type 0} → Emit F C E → F → Option Outgoing → C → Result (Unit {0}) E → C → Type 0
-Emits g f None c r c' = (r ≡ Ok tt) × (c' ≡ c)
-Emits g f (Some s) c r c' = EmitsAt g f c s r c'
-
--- the whole: at Ok the first datagram leaves; at Err it stays first, and the next dispatch in the same context offers it again
-pub record Dispatched {F C E : Type 0} (g : Emit F C E) (f : F) (v : View) (facts : Facts) (c : C) (r : Result (Unit {0}) E) (c' : C) (w : View) : Type 0 where
-  pub emits : Emits g f (outgoing v facts) c r c'
+-- the whole: at Ok the first datagram leaves; at Err it stays first, and the next dispatch in the same context offers
+-- it again
+pub record Dispatched {F C E : Type 0} (g : Emit F C (IpRepr × UdpRepr × Bor (List ℕ)) E) (f : F) (v : View)
+    (facts : Facts) (c : C) (r : Result (Unit {0}) E) (c' : C) (w : View) : Type 0 where
+  pub emits : Emits g outgoing_of f (outgoing v facts) c r c'
   pub queue : waiting w ≡ cond (is_ok r) (drop 1 (waiting v)) (waiting v)
   pub sent : is_ok r ≡ true → Dequeues v.tx_buffer w.tx_buffer
   pub failed : is_ok r ≡ false → w.tx_buffer ≡ skipped v.tx_buffer

@@ -1,15 +1,13 @@
 //! UDP sockets (RFC 768): two queues of datagrams, each with the endpoint of the other side.
 
 mod dispatch;
-pub mod error;
 pub mod laws;
-mod lend;
 mod process;
-mod queues;
+mod receive;
+mod send;
 pub mod socket;
-mod store;
 #[cfg(test)]
 mod tests;
 
-pub use error::{BindError, RecvError, SendError};
+pub use crate::error::{BindError, RecvError, SendError};
 pub use socket::{PacketBuffer, PacketMetadata, Socket, UdpMetadata};

@@ -1,11 +1,10 @@
-// Datagrams that go out.
-ghost use Rattle.std.specs.Prelude.{◌≡◌, ◌==◌, length, false, option_map, drop, cond, is_ok, if◌then◌else◌};
-ghost use Rattle.net_base.specs.Packets.{starts_padded, skipped};
-ghost use Rattle.sock_core.specs.declared.context.PollAt.TheVariants as PollAt;
-ghost use Rattle.sock_dgram.specs.Udp.{waiting};
-ghost use Rattle.sock_dgram.specs.UdpDispatch.{source_of, hops_of, outgoing, outgoing_of, Emits, Dispatched};
+//! Datagrams that go out.
+ghost use Rattle.std.specs.Prelude.{◌≡◌, false, option_map, if◌then◌else◌};
+ghost use Rattle.net_base.specs.Packets.{starts_padded};
+ghost use Rattle.sock_dgram.specs.Datagrams.{poll_moment};
+ghost use Rattle.sock_dgram.specs.UdpDispatch.{source_of, hops_of, outgoing, outgoing_of, Dispatched};
+ghost use Rattle.sock_core.specs.Emission.{Emits};
 
-use crate::udp::queues::is_same_version;
 use crate::udp::socket::{Socket, UdpMetadata};
 use control_wire::UdpRepr;
 use ip_wire::{IpAddress, IpProtocol, IpRepr};
@@ -19,19 +18,14 @@ impl<'a> Socket<'a> {
     fn source_of<C: Context>(&self, cx: &C, meta: &UdpMetadata) -> Option<IpAddress>
         ensures { result ≡ source_of self.now (C.facts cx.now) meta.now }
     {
-        match self.known_source(meta) {
-            Some(source) => Some(source),
-            None => cx.get_source_address(&meta.endpoint.addr),
-        }
+        self.known_source(meta)
+            .or_else(|| cx.get_source_address(&meta.endpoint.addr))
     }
 
     fn hops(&self) -> u8
         ensures { result ≡ hops_of self.now.hop_limit }
     {
-        match self.hop_limit {
-            None => DEFAULT_HOP_LIMIT,
-            Some(hop_limit) => hop_limit,
-        }
+        self.hop_limit.unwrap_or(DEFAULT_HOP_LIMIT)
     }
 
     // The first datagram, where it has a source.
@@ -39,12 +33,9 @@ impl<'a> Socket<'a> {
         requires packet { starts_padded self.now.tx_buffer.entries ≡ false }
         ensures { option_map outgoing_of result ≡ outgoing self.now (C.facts cx.now) }
     {
-        let (meta, payload) = match self.tx_buffer.first() {
-            Err(_) => return None,
-            Ok(first) => first,
-        };
+        let (meta, payload) = self.tx_buffer.first().ok()?;
         let source = self.source_of(cx, meta)?;
-        if !is_same_version(source, meta.endpoint.addr) {
+        if source.version() != meta.endpoint.addr.version() {
             return None;
         }
         let repr = UdpRepr {
@@ -69,7 +60,7 @@ impl<'a> Socket<'a> {
     ) -> Result<(), E>
         requires callable { F.IsAlwaysCallable emit }
         requires packet { starts_padded self.now.tx_buffer.entries ≡ false }
-        ensures { Emits F.FnOnce emit (outgoing self.now (C.facts cx.old)) cx.old result cx.new }
+        ensures { Emits F.FnOnce outgoing_of emit (outgoing self.now (C.facts cx.old)) cx.old result cx.new }
     {
         match self.outgoing(cx) {
             None => Ok(()),
@@ -83,7 +74,7 @@ impl<'a> Socket<'a> {
     ///
     /// The error that `emit` answers is passed on; the datagram then stays first, and the next `dispatch` offers it
     /// again.
-    #[tactic(auto, using(crate::proofs::UdpEmitting::dequeues_skipped))]
+    #[tactic(auto, using(crate::proofs::Emitting::dequeues_skipped))]
     pub fn dispatch<C: Context, E, F: FnOnce(&mut C, (IpRepr, UdpRepr, &[u8])) -> Result<(), E>>(
         &mut self,
         cx: &mut C,
@@ -100,7 +91,7 @@ impl<'a> Socket<'a> {
 
     /// When the socket wants its next `dispatch`: `Ingress` where no place of the transmit buffer is taken, else `Now`.
     pub fn poll_at<C: Context>(&self, _cx: &C) -> PollAt
-        ensures { result ≡ (if length self.now.tx_buffer.entries == 0 then PollAt.Ingress else PollAt.Now) }
+        ensures { result ≡ poll_moment self.now.tx_buffer }
     {
         if self.tx_buffer.is_empty() {
             PollAt::Ingress

@@ -12,5 +12,7 @@ ghost use Rattle.sock_dgram.specs.declared.udp.socket.UdpMetadata.{UdpMetadata};
 /// destination's version, in every context whose own sources are.
 #[tactic(auto, using(crate::proofs::UdpSources::sources))]
 pub fn sources_of_what_was_taken()
-    ensures { (v : View) (m : UdpMetadata) (f : Facts) (s : IpAddress) → is_sendable v m ≡ true → ForSome (f.source m.endpoint.addr) (λ a. SameVersion a m.endpoint.addr) → source_of v f m ≡ Some s → same_version s m.endpoint.addr ≡ true }
+    ensures { (v : View) (m : UdpMetadata) (f : Facts) (s : IpAddress) → is_sendable v m ≡ true
+        → ForSome (f.source m.endpoint.addr) (λ a. SameVersion a m.endpoint.addr) → source_of v f m ≡ Some s
+        → same_version s m.endpoint.addr ≡ true }
 {}

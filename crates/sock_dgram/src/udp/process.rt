@@ -1,10 +1,11 @@
-// Datagrams that come in.
+//! Datagrams that come in.
 ghost use Rattle.std.specs.Prelude.{◌≡◌, ◌↔◌, ◌++◌, [], ◌∷◌, IsTrue, length, cond};
 ghost use Rattle.net_base.specs.Packets.{takes};
-ghost use Rattle.sock_dgram.specs.Udp.{received, IsAddressed, Accepts, metadata_of, stored};
+ghost use Rattle.sock_dgram.specs.Datagrams.{stored};
+ghost use Rattle.sock_dgram.specs.Udp.{received, IsAddressed, Accepts, metadata_of};
 
+use crate::queue::store;
 use crate::udp::socket::{Socket, UdpMetadata};
-use crate::udp::store::store;
 use control_wire::UdpRepr;
 use ip_wire::{IpAddress, IpEndpoint, IpRepr};
 use sock_core::Context;
@@ -32,8 +33,12 @@ impl<'a> Socket<'a> {
     /// Puts a datagram that `accepts` holds of into the receive queue, with the endpoint it came from and the address
     /// it went to. Where the receive buffer has no room for it, it is dropped.
     pub fn process<C: Context>(&mut self, _cx: &C, ip_repr: &IpRepr, repr: &UdpRepr, payload: &[u8])
-        ensures view { self.new ≡ record self.old { rx_buffer = stored (metadata_of ip_repr.now repr.now) payload.now self.old.rx_buffer } }
-        ensures queue { received self.new ≡ cond (takes (length payload.now) self.old.rx_buffer) (received self.old ++ (metadata_of ip_repr.now repr.now, payload.now) ∷ []) (received self.old) }
+        ensures view { self.new ≡ record self.old {
+          rx_buffer = stored
+              (metadata_of ip_repr.now repr.now) payload.now self.old.rx_buffer;
+        } }
+        ensures queue { received self.new ≡ cond (takes (length payload.now) self.old.rx_buffer)
+            (received self.old ++ (metadata_of ip_repr.now repr.now, payload.now) ∷ []) (received self.old) }
     {
         let meta = UdpMetadata {
             endpoint: IpEndpoint {

@@ -1,11 +1,11 @@
-// The UDP socket: what it is bound to, and its two queues.
-ghost use Rattle.std.specs.Prelude.{◌≡◌, ◌≤◌, ◌==◌, not, length, Some, None};
-ghost use Rattle.std.specs.Result.{result_ok};
+//! The UDP socket: what it is bound to, and its two queues.
+ghost use Rattle.std.specs.Prelude.{◌≡◌, length, Some, None};
 ghost use Rattle.net_base.specs.Packets.{taken};
 ghost use Rattle.ip_wire.specs.Endpoint.{endpoint_text};
+ghost use Rattle.sock_dgram.specs.Datagrams.{has_place, has_entry};
 ghost use Rattle.sock_dgram.specs.Udp.{fresh, is_open, bind_answer, after_bind, closed};
 
-use crate::udp::error::BindError;
+use crate::error::BindError;
 use ip_wire::{IpAddress, IpEndpoint, IpListenEndpoint};
 use std::fmt;
 use std::marker::Model;
@@ -15,7 +15,8 @@ use std::marker::Model;
 pub struct UdpMetadata {
     /// The other side.
     pub endpoint: IpEndpoint,
-    /// Of a datagram that came, the address that it was sent to. Of one to send, the address to send it from; where there is none, the bound address, else one that the context chooses.
+    /// Of a datagram that came, the address that it was sent to. Of one to send, the address to send it from; where
+    /// there is none, the bound address, else one that the context chooses.
     pub local_address: Option<IpAddress>,
 }
 
@@ -62,7 +63,12 @@ impl<'a> Model for Socket<'a> {
 
     ghost Value = { View };
 
-    ghost view = { λ s. record { endpoint = s.endpoint; rx_buffer = s.rx_buffer; tx_buffer = s.tx_buffer; hop_limit = s.hop_limit } };
+    ghost view = { λ s. record {
+      endpoint = s.endpoint;
+      rx_buffer = s.rx_buffer;
+      tx_buffer = s.tx_buffer;
+      hop_limit = s.hop_limit;
+    } };
 }
 
 impl<'a> Socket<'a> {
@@ -71,10 +77,7 @@ impl<'a> Socket<'a> {
         ensures { result ≡ fresh rx_buffer.entry tx_buffer.entry }
     {
         Socket {
-            endpoint: IpListenEndpoint {
-                addr: None,
-                port: 0,
-            },
+            endpoint: IpListenEndpoint::default(),
             rx_buffer,
             tx_buffer,
             hop_limit: None,
@@ -102,10 +105,7 @@ impl<'a> Socket<'a> {
     pub fn close(&mut self)
         ensures { self.new ≡ closed self.old }
     {
-        self.endpoint = IpListenEndpoint {
-            addr: None,
-            port: 0,
-        };
+        self.endpoint = IpListenEndpoint::default();
         self.rx_buffer.reset();
         self.tx_buffer.reset();
     }
@@ -141,14 +141,14 @@ impl<'a> Socket<'a> {
 
     /// Whether the transmit buffer has a free place.
     pub fn can_send(&self) -> bool
-        ensures { result ≡ not (length self.now.tx_buffer.entries == self.now.tx_buffer.places) }
+        ensures { result ≡ has_place self.now.tx_buffer }
     {
         !self.tx_buffer.is_full()
     }
 
     /// Whether a place of the receive buffer is taken.
     pub fn can_recv(&self) -> bool
-        ensures { result ≡ not (length self.now.rx_buffer.entries == 0) }
+        ensures { result ≡ has_entry self.now.rx_buffer }
     {
         !self.rx_buffer.is_empty()
     }

@@ -1,7 +1,6 @@
 //! Worked examples, and each call once at a concrete type.
-ghost use Rattle.std.specs.Prelude.{None, false, pos, replicate};
-ghost use Rattle.ip_wire.specs.declared.checksum.Checksum.TheVariants.{Both};
 
+use crate::interface::Interface;
 use crate::udp::*;
 use control_wire::UdpRepr;
 use ip_wire::{
@@ -11,61 +10,6 @@ use ip_wire::{
 use net_base::time::Instant;
 use sock_core::{Context, PollAt};
 use std::test::Fail;
-
-// A host that has no source address.
-#[derive(Drop)]
-struct Interface;
-
-impl Context for Interface {
-    ghost facts = { λ _. record {
-      now = pos 0;
-      mtu = 1500;
-      has_address = λ _. false;
-      source = λ _. None;
-      source_ipv4 = λ _. None;
-      source_ipv6 = λ _. record { 0 = replicate 16 0 };
-      broadcast = λ _. false;
-      checksums = record { ipv4 = Both; udp = Both; tcp = Both; icmpv4 = Both; icmpv6 = Both };
-    } };
-
-    ghost word_at = { λ _ _. 7 };
-
-    fn now(&self) -> Instant {
-        Instant::ZERO
-    }
-
-    fn has_ip_addr(&self, _addr: IpAddress) -> bool {
-        false
-    }
-
-    fn get_source_address(&self, _dst: &IpAddress) -> Option<IpAddress> {
-        None
-    }
-
-    fn get_source_address_ipv4(&self, _dst: &Ipv4Address) -> Option<Ipv4Address> {
-        None
-    }
-
-    fn get_source_address_ipv6(&self, _dst: &Ipv6Address) -> Ipv6Address {
-        Ipv6Address([0; 16])
-    }
-
-    fn is_broadcast(&self, _addr: &IpAddress) -> bool {
-        false
-    }
-
-    fn ip_mtu(&self) -> usize {
-        1500
-    }
-
-    fn checksum_caps(&self) -> ChecksumCapabilities {
-        ChecksumCapabilities::default()
-    }
-
-    fn rand_u32(&mut self) -> u32 {
-        7
-    }
-}
 
 const HERE: IpAddress = IpAddress::Ipv4(Ipv4Address([192, 168, 1, 1]));
 
@@ -367,6 +311,72 @@ fn what_stands_in_the_lent_slice_is_sent(rt: HostRuntime) -> Result<(), Fail> {
     });
     assert_eq!(rt; kept, Ok(2));
     assert!(rt; emits(&mut socket, b"abc") && emits(&mut socket, &[7, 7]));
+    Ok(())
+}
+
+// Whether the socket is bound here with this hop limit, and each queue holds one datagram of these bytes.
+fn holds(socket: &mut Socket<'_>, hop_limit: Option<u8>, came: &[u8], waits: &[u8]) -> bool {
+    let heard =
+        matches!(socket.peek(), Ok((lent, meta)) if lent == came && meta.endpoint == REMOTE);
+    socket.endpoint() == here(53)
+        && socket.hop_limit() == hop_limit
+        && socket.recv_queue() == came.len()
+        && heard
+        && emits(socket, waits)
+}
+
+#[test]
+fn send_changes_the_transmit_queue_alone(rt: HostRuntime) -> Result<(), Fail> {
+    let mut rx_places = [PacketMetadata::EMPTY; 1];
+    let mut rx_bytes = [0u8; 8];
+    let mut tx_places = [PacketMetadata::EMPTY; 3];
+    let mut tx_bytes = [0u8; 8];
+    let mut socket = Socket::new(
+        PacketBuffer::new(&mut rx_places, &mut rx_bytes),
+        PacketBuffer::new(&mut tx_places, &mut tx_bytes),
+    );
+    assert_eq!(rt; socket.bind(here(53)), Ok(()));
+    socket.set_hop_limit(Some(9));
+    assert!(rt; hear(&mut socket, b"came"));
+    assert_eq!(rt; socket.send_slice(b"first", to(THERE, 49500)), Ok(()));
+    // refused for its destination, refused for want of room, and taken
+    assert!(rt;
+        matches!(
+            socket.send(1, to(NOWHERE, 49500)),
+            Err(SendError::Unaddressable)
+        )
+    );
+    assert!(rt; matches!(socket.send(4, to(THERE, 49500)), Err(SendError::BufferFull)));
+    assert_eq!(rt; socket.send_queue(), 5);
+    match socket.send(3, to(NEIGHBOUR, 7)) {
+        Ok(lent) => lent.copy_from_slice(b"new"),
+        Err(_) => assert!(rt; false),
+    }
+    assert_eq!(rt; socket.send_queue(), 8);
+    assert!(rt; holds(&mut socket, Some(9), b"came", b"first"));
+    assert!(rt; holds(&mut socket, Some(9), b"came", b"new"));
+    assert_eq!(rt; socket.poll_at(&Interface), PollAt::Ingress);
+    Ok(())
+}
+
+#[test]
+fn a_refused_send_keeps_what_waits(rt: HostRuntime) -> Result<(), Fail> {
+    for (size, remote) in [(1, NOWHERE), (4, THERE)] {
+        let mut rx_places = [PacketMetadata::EMPTY; 1];
+        let mut rx_bytes = [0u8; 8];
+        let mut tx_places = [PacketMetadata::EMPTY; 3];
+        let mut tx_bytes = [0u8; 8];
+        let mut socket = Socket::new(
+            PacketBuffer::new(&mut rx_places, &mut rx_bytes),
+            PacketBuffer::new(&mut tx_places, &mut tx_bytes),
+        );
+        assert_eq!(rt; socket.bind(here(53)), Ok(()));
+        assert!(rt; hear(&mut socket, b"came"));
+        assert_eq!(rt; socket.send_slice(b"first", to(THERE, 49500)), Ok(()));
+        assert!(rt; socket.send(size, to(remote, 49500)).is_err());
+        assert!(rt; holds(&mut socket, None, b"came", b"first"));
+        assert_eq!(rt; emitted(&mut socket, false), (None, true));
+    }
     Ok(())
 }
 

@@ -1,0 +1,68 @@
+-- What contracts see of an ICMP socket, and what its calls do to it.
+use Rattle.std.specs.Prelude.{ℕ, List, Option, None, Result, Ok, Err, Bool, true, false, not, ◌==◌, if◌then◌else◌}
+use Rattle.ip_wire.specs.Address.{is_unspecified}
+use Rattle.ip_wire.specs.declared.address.IpAddress.{IpAddress}
+use Rattle.net_base.specs.Packets.{Packets, packets, made_room, takes}
+use Rattle.sock_dgram.specs.Datagrams.{stored}
+use Rattle.sock_dgram.specs.declared.error.BindError.{BindError}
+use Rattle.sock_dgram.specs.declared.error.BindError.TheVariants as bind_error
+use Rattle.sock_dgram.specs.declared.error.SendError.{SendError}
+use Rattle.sock_dgram.specs.declared.error.SendError.TheVariants as send_error
+use Rattle.sock_dgram.specs.declared.icmp.endpoint.Endpoint.{Endpoint}
+use Rattle.sock_dgram.specs.declared.icmp.endpoint.Endpoint.TheVariants as endpoint
+
+pub record View : Type 0 where
+  pub endpoint : Endpoint  -- what the socket is bound to; `Unspecified` where it is not open
+  pub rx_buffer : Packets IpAddress
+  pub tx_buffer : Packets IpAddress
+  pub hop_limit : Option ℕ
+
+abbrev pub fresh : Packets IpAddress → Packets IpAddress → View
+fresh rx tx = record { endpoint = endpoint.Unspecified; rx_buffer = rx; tx_buffer = tx; hop_limit = None }
+
+-- the messages that were sent and not emitted yet, the oldest first
+abbrev pub waiting : View → List (IpAddress × List ℕ)
+waiting v = packets v.tx_buffer.entries
+
+-- ---- opening
+
+abbrev pub is_specified : Endpoint → Bool
+is_specified endpoint.Unspecified = false
+is_specified (endpoint.Ident n) = true
+is_specified (endpoint.Tcp e) = not (e.port == 0)
+is_specified (endpoint.Udp e) = not (e.port == 0)
+
+abbrev pub is_bound : Endpoint → Bool
+is_bound endpoint.Unspecified = false
+is_bound (endpoint.Ident n) = true
+is_bound (endpoint.Tcp e) = true
+is_bound (endpoint.Udp e) = true
+
+abbrev pub is_open : View → Bool
+is_open v = is_bound v.endpoint
+
+-- what cannot be bound to first, then an open socket
+abbrev pub bind_answer : View → Endpoint → Result (Unit {0}) BindError
+bind_answer v e =
+    if is_specified e then (if is_open v then Err bind_error.InvalidState else Ok tt)
+    else Err bind_error.Unaddressable
+
+-- a refusal changes nothing
+abbrev pub after_bind : Result (Unit {0}) BindError → View → Endpoint → View
+after_bind (Ok u) v e = record v { endpoint = e }
+after_bind (Err x) v e = v
+
+-- ---- sending
+
+-- a message of n bytes: first the destination, then the room
+abbrev pub send_answer : View → IpAddress → ℕ → Result (Unit {0}) SendError
+send_answer v dst n =
+    if is_unspecified dst then Err send_error.Unaddressable
+    else (if takes n v.tx_buffer then Ok tt else Err send_error.BufferFull)
+
+abbrev pub after_send : View → IpAddress → List ℕ → View
+after_send v dst bs = if is_unspecified dst then v else record v { tx_buffer = stored dst bs v.tx_buffer }
+
+-- where it is refused for want of room, padding may have come to stand behind the messages
+abbrev pub refused_send : View → IpAddress → ℕ → View
+refused_send v dst n = if is_unspecified dst then v else record v { tx_buffer = made_room n v.tx_buffer }

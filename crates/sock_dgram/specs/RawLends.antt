@@ -1,0 +1,25 @@
+-- What a raw socket ends as, where a call lends a part of it for reading.
+use Rattle.std.specs.Prelude.{◌≡◌, ⊤}
+use Rattle.std.specs.Borrow.{follows_so, MutBor, Fml}
+use Rattle.net_base.specs.Packets.{Dequeues, skipped}
+use Rattle.sock_dgram.specs.Raw.{View}
+use Rattle.sock_dgram.specs.contracts.raw.socket.Socket.{the_row}
+use mir.Syntax.{named}
+use mathlib.Core.List.{[]}
+use mathlib.Core.Option.{none}
+
+-- the first packet of the receive queue left, if there was one
+pub record Takes (old new : View) : Type 0 where
+  pub queue : Dequeues old.rx_buffer new.rx_buffer
+  pub same : new ≡ record old { rx_buffer = new.rx_buffer }
+
+abbrev pub TakesFirst : MutBor View → Fml
+TakesFirst s =
+    let row = the_row (record { mir = named 1; lft = [] }) in
+    follows_so row row s.ghost_name none (λ _ _. ⊤) (Takes s.now)
+
+-- only padding in front of the receive queue left
+abbrev pub KeepsFirst : MutBor View → Fml
+KeepsFirst s =
+    let row = the_row (record { mir = named 1; lft = [] }) in
+    follows_so row row s.ghost_name none (λ _ _. ⊤) (λ v. v ≡ record s.now { rx_buffer = skipped s.now.rx_buffer })

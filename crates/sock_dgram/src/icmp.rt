@@ -1,0 +1,12 @@
+//! ICMP sockets (RFC 792, RFC 4443): two queues of ICMP messages, each with the address of the other side.
+
+pub mod endpoint;
+mod receive;
+mod send;
+pub mod socket;
+#[cfg(test)]
+mod tests;
+
+pub use crate::error::{BindError, RecvError, SendError};
+pub use endpoint::Endpoint;
+pub use socket::{PacketBuffer, PacketMetadata, Socket};

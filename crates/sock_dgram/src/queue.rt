@@ -1,0 +1,68 @@
+//! What the datagram sockets share: adding a packet to a queue, and copying its first one.
+ghost use Rattle.std.specs.Prelude.{◌≡◌, ◌++◌, [], ◌∷◌, length, take, drop, min, cond, false};
+ghost use Rattle.net_base.specs.Packets.{packets, takes, first_packet, starts_padded, Dequeues};
+ghost use Rattle.sock_dgram.specs.Datagrams.{stored, copied_of, copy_answer, copied};
+
+use crate::error::RecvError;
+use net_base::packet_buffer::PacketBuffer;
+
+// Writes as many bytes of a beginning of `data` as fit to the beginning of `lent`, and answers how many.
+fn filled(lent: &mut [u8], data: &[u8]) -> usize
+    ensures count { result ≡ min (length lent.old) (length «data».now) }
+    ensures bytes { lent.new ≡ take result «data».now ++ drop result lent.old }
+{
+    let count = lent.len().min(data.len());
+    lent[..count].copy_from_slice(&data[..count]);
+    count
+}
+
+// Appends a packet, where there is room for it. Answers whether there was.
+pub(crate) fn store<M: Copy>(buffer: &mut PacketBuffer<'_, M>, meta: M, data: &[u8]) -> bool
+    ensures takes { result ≡ takes (length «data».now) buffer.old }
+    ensures after { buffer.new ≡ stored meta «data».now buffer.old }
+    ensures packets { packets buffer.new.entries ≡ cond result (packets buffer.old.entries
+        ++ (meta, «data».now) ∷ []) (packets buffer.old.entries) }
+{
+    buffer
+        .enqueue_with_infallible(data.len(), meta, |lent| filled(lent, data))
+        .is_ok()
+}
+
+// Takes the first packet and copies its bytes into `data`. Answers how many they are, and the metadata.
+//
+// `Exhausted` where there is none; `Truncated` where `data` is too short: the packet is gone then, and `data` stays as
+// it was.
+pub(crate) fn take_into<M: Copy>(
+    buffer: &mut PacketBuffer<'_, M>,
+    data: &mut [u8],
+) -> Result<(usize, M), RecvError>
+    ensures answer { result ≡ copy_answer (first_packet buffer.old) (length «data».old) }
+    ensures bytes { «data».new ≡ copied (first_packet buffer.old) «data».old }
+    ensures queue { Dequeues buffer.old buffer.new }
+{
+    let (meta, (from, size)) = buffer.take_first().ok_or(RecvError::Exhausted)?;
+    if data.len() < size {
+        return Err(RecvError::Truncated);
+    }
+    data[..size].copy_from_slice(buffer.part(from, size));
+    Ok((size, meta))
+}
+
+// Copies the bytes of the first packet into `data`. Answers how many they are, and the metadata.
+//
+// `Exhausted` where there is none; `Truncated` where `data` is too short, which then stays as it was.
+pub(crate) fn copy_first<'b, M: Copy>(
+    buffer: &'b PacketBuffer<'_, M>,
+    data: &mut [u8],
+) -> Result<(usize, &'b M), RecvError>
+    requires packet { starts_padded buffer.now.entries ≡ false }
+    ensures answer { copied_of result ≡ copy_answer (first_packet buffer.now) (length «data».old) }
+    ensures bytes { «data».new ≡ copied (first_packet buffer.now) «data».old }
+{
+    let (meta, bytes) = buffer.first().map_err(|_| RecvError::Exhausted)?;
+    if data.len() < bytes.len() {
+        return Err(RecvError::Truncated);
+    }
+    data[..bytes.len()].copy_from_slice(bytes);
+    Ok((bytes.len(), meta))
+}

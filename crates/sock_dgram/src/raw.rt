@@ -1,0 +1,13 @@
+//! Raw sockets: two queues of whole IP packets, of one version or any and of one protocol or any.
+
+pub mod error;
+mod process;
+mod receive;
+mod send;
+pub mod socket;
+#[cfg(test)]
+mod tests;
+
+pub use crate::error::{BindError, RecvError};
+pub use error::SendError;
+pub use socket::{PacketBuffer, PacketMetadata, Socket};

@@ -1,0 +1,106 @@
+//! Datagrams that the program sends.
+ghost use Rattle.std.specs.Prelude.{◌≡◌, ◌≤◌, ◌++◌, ℕ, List, [], ◌∷◌, length, take, drop, cond, is_ok, IfOk, OnErr};
+ghost use Rattle.std.specs.Fn.{FnOnceReturnsAtMut};
+ghost use Rattle.net_base.specs.Packets.{made_room, end_of, Enqueues};
+ghost use Rattle.sock_dgram.specs.Datagrams.{answered};
+ghost use Rattle.sock_dgram.specs.Udp.{waiting, is_possible_source, known_source, is_sendable, send_answer, after_send, refused_send};
+
+use crate::error::SendError;
+use crate::queue::store;
+use crate::udp::socket::{Socket, UdpMetadata};
+use ip_wire::IpAddress;
+
+// Whether a source that is known is of the destination's version.
+fn is_possible_source(source: Option<IpAddress>, dst: IpAddress) -> bool
+    ensures { result ≡ is_possible_source source dst }
+{
+    match source {
+        None => true,
+        Some(source) => source.version() == dst.version(),
+    }
+}
+
+impl<'a> Socket<'a> {
+    // The address given, else the bound one.
+    pub(crate) fn known_source(&self, meta: &UdpMetadata) -> Option<IpAddress>
+        ensures { result ≡ known_source meta.now.local_address self.now.endpoint.addr }
+    {
+        meta.local_address.or(self.endpoint.addr)
+    }
+
+    // Whether a datagram may be sent so, room apart.
+    fn is_sendable(&self, meta: &UdpMetadata) -> bool
+        ensures { result ≡ is_sendable self.now meta.now }
+    {
+        self.is_open()
+            && !meta.endpoint.addr.is_unspecified()
+            && meta.endpoint.port != 0
+            && is_possible_source(self.known_source(meta), meta.endpoint.addr)
+    }
+
+    /// Puts a datagram of `size` bytes into the transmit queue, and lends its bytes. What stands in them as the borrow
+    /// ends is the payload.
+    ///
+    /// `Unaddressable` and `BufferFull` as `send_slice`; the queue then stays as it was.
+    pub fn send(&mut self, size: usize, meta: UdpMetadata) -> Result<&mut [u8], SendError>
+        ensures answer { answered result ≡ send_answer self.old meta size }
+        ensures size { IfOk result (λ bytes. length bytes.now ≡ size) }
+        ensures value { IfOk result (λ bytes. bytes.now
+            ≡ take size (drop (end_of (made_room size self.old.tx_buffer)) self.old.tx_buffer.storage)) }
+    {
+        if !self.is_sendable(&meta) {
+            return Err(SendError::Unaddressable);
+        }
+        self.tx_buffer
+            .enqueue(size, meta)
+            .map_err(|_| SendError::BufferFull)
+    }
+
+    /// Puts a datagram whose bytes `f` writes into the transmit queue: `f` is lent `max_size` bytes and answers how
+    /// many of them, from the first on, are the payload. This count is answered.
+    ///
+    /// `Unaddressable` and `BufferFull` as `send_slice`, for a datagram of `max_size` bytes; the queue then stays as it
+    /// was.
+    pub fn send_with<F: FnOnce(&mut [u8]) -> usize>(
+        &mut self,
+        max_size: usize,
+        meta: UdpMetadata,
+        f: F,
+    ) -> Result<usize, SendError>
+        requires callable { F.IsAlwaysCallable f }
+        requires sized { (s : List ℕ) (r : _) (s' : List ℕ) → FnOnceReturnsAtMut F.FnOnce f s r s' → r ≤ length s }
+        ensures answer { answered result ≡ send_answer self.old meta max_size }
+        ensures ok { IfOk result (λ kept. Enqueues
+            (FnOnceReturnsAtMut F.FnOnce f) max_size meta self.old.tx_buffer kept self.new.tx_buffer) }
+        ensures refused { OnErr result (self.new ≡ refused_send self.old meta max_size) }
+        ensures kept { OnErr result (waiting self.new ≡ waiting self.old) }
+        ensures same { self.new ≡ record self.old { tx_buffer = self.new.tx_buffer } }
+    {
+        if !self.is_sendable(&meta) {
+            return Err(SendError::Unaddressable);
+        }
+        self.tx_buffer
+            .enqueue_with_infallible(max_size, meta, f)
+            .map_err(|_| SendError::BufferFull)
+    }
+
+    /// Puts a datagram of these bytes into the transmit queue.
+    ///
+    /// `Unaddressable` where the socket is not open, the destination's address is unspecified or its port zero, or the
+    /// source (the address given, else the bound one) is of another version of IP than the destination; else
+    /// `BufferFull` where the transmit buffer has no room for it. A refusal leaves the queue as it was.
+    pub fn send_slice(&mut self, data: &[u8], meta: UdpMetadata) -> Result<(), SendError>
+        ensures answer { result ≡ send_answer self.old meta (length «data».now) }
+        ensures view { self.new ≡ after_send self.old meta «data».now }
+        ensures queue { waiting self.new ≡ cond (is_ok result) (waiting self.old ++ (meta, «data».now) ∷ [])
+            (waiting self.old) }
+    {
+        if !self.is_sendable(&meta) {
+            return Err(SendError::Unaddressable);
+        }
+        if !store(&mut self.tx_buffer, meta, data) {
+            return Err(SendError::BufferFull);
+        }
+        Ok(())
+    }
+}
