@@ -108,7 +108,7 @@ module _ (s : Side) (h o : HostView) (ks : List StoredView) (limit : Option ℕ)
 records_stored : (s : Side) (c : Sending) (r : Sent) (released taken : ℕ) → Records false (Some c) r → stored_at s r released taken ≡ record { emitter = s; ip = c.ip; segment = c.segment; released_at = released; taken_at = taken } ∷ []
 records_stored s c sent.Quiet released taken e = absurd e
 records_stored s c sent.Failed released taken e = absurd e
-records_stored s c (sent.Emitted h bytes) released taken e = λ i. record { emitter = s; ip = (e.0 i).ip_repr; segment = segment_at (e.0 i) (e.1 i); released_at = released; taken_at = taken } ∷ []
+records_stored s c (sent.Emitted h bytes) released taken e = λ i. record { emitter = s; ip = e.0.ip_repr i; segment = (ap (segment_at h) e.1 ∙ e.0.fields) i; released_at = released; taken_at = taken } ∷ []
 
 failed_stored : (s : Side) (c : Option Sending) (r : Sent) (released taken : ℕ) → Records true c r → stored_at s r released taken ≡ []
 failed_stored s None r released taken e = ap (λ x. stored_at s x released taken) e

@@ -1,6 +1,6 @@
 -- From the one call of `emit` to what a host records of a dispatch.
 use Rattle.std.proofs.Common.{◌≡◌, ℕ, ◌+◌, ◌<◌, ◌≤◌, List, [], ◌++◌, length, drop, min, Bool, true, false, Option, Some, None, refl, sym, ◌∙◌, ap, subst, arith}
-use Rattle.std.specs.Prelude.{Result, Ok, Err, OnOk, OnErr, is_ok, not, IsTrue, vec_len, vec_capacity, if◌then◌else◌, option_map}
+use Rattle.std.specs.Prelude.{Result, Ok, Err, OnOk, OnErr, is_ok, not, IsTrue, vec_len, vec_capacity, if◌then◌else◌, option_map, IsSomeAnd}
 use Rattle.std.specs.Borrow.{MutBor}
 use Rattle.std.specs.Fn.{Once}
 use Rattle.ip_wire.specs.declared.repr.IpRepr.{IpRepr}
@@ -17,7 +17,8 @@ use Rattle.sock_tcp.specs.Dispatch.{left_by, EmitsTo, Dispatches}
 use Rattle.sock_tcp.specs.declared.state.State.{State}
 use Rattle.sock_tcp.specs.declared.state.State.TheVariants as state
 use Rattle.sock_tcp.specs.declared.tuple.Tuple.{Tuple}
-use Rattle.sock_pair.specs.Holding.{header_of}
+use Rattle.sock_pair.specs.Holding.{IsHeaderOf}
+use Rattle.sock_pair.specs.declared.segment.Header.{Header}
 use Rattle.sock_pair.specs.Recording.{Holds, IsShort, sent_with, sent_of, Records, SendsFrom, SocketDispatches}
 use Rattle.sock_pair.specs.declared.recorder.EmitFailed.{EmitFailed}
 use Rattle.sock_pair.specs.declared.recorder.Recorder.{Recorder}
@@ -78,6 +79,10 @@ payload_at_most v t f bytes s lent e = omega (arith, len_of (content v t f bytes
 
 -- ---- the emit's answer
 
+the_header : (o : Option Header) (ip : IpRepr) (s : Segment) → IsSomeAnd o (λ h. IsHeaderOf h ip s) → (h : Header) × (o ≡ Some h) × IsHeaderOf h ip s
+the_header None ip s x = absurd x
+the_header (Some h) ip s x = (h, refl, x)
+
 module _ {F : Type 0} (g : Once F (MutBor Recorder × ((IpRepr × TcpRepr) × Unit {0})) (Result (Unit {0}) EmitFailed × (MutBor Recorder × Unit {0}))) (f : F) (fail : Bool) (mtu : ℕ) (says : (shown left : MutBor Recorder) (s : IpRepr × TcpRepr) (r : Result (Unit {0}) EmitFailed) → g.post f (shown, (s, tt)) (r, (left, tt)) → EmitSays fail shown.now left.now s r) where
   -- the recorder as a dispatch finds it
   pub record IsReady (c : Recorder) : Type 0 where
@@ -99,9 +104,10 @@ module _ {F : Type 0} (g : Once F (MutBor Recorder × ((IpRepr × TcpRepr) × Un
 
       went : (u : Unit {0}) → r ≡ Ok u → Holds c c' s.ip s.segment → Records false (Some s) (sent_of r c')
       went u x h =
-          let is : sent_of r c' ≡ sent.Emitted (header_of s.ip s.segment) c'.payload = ap (λ y. sent_of y c') x ∙ ap (λ y. sent_with y c'.payload) h.header in
+          let k = the_header c'.header s.ip s.segment h.header in
+          let is : sent_of r c' ≡ sent.Emitted k.0 c'.payload = ap (λ y. sent_of y c') x ∙ ap (λ y. sent_with y c'.payload) k.1 in
           let bytes : c'.payload.items ≡ s.segment.payload = h.payload ∙ ap (λ y. y ++ s.segment.payload) ready.empty in
-          subst (Records false (Some s)) (sym is) (refl, bytes)
+          subst (Records false (Some s)) (sym is) (k.2, bytes)
 
       left : (x : Result (Unit {0}) EmitFailed) → r ≡ x → new ≡ left_by (Some s) v (is_ok x)
       left x q = w ∙ ap (λ y. left_by (Some s) v (is_ok y)) q

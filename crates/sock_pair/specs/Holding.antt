@@ -1,5 +1,5 @@
 -- Stored segments.
-use Rattle.std.specs.Prelude.{ℕ, List, [], ◌∷◌, Option, Some, None}
+use Rattle.std.specs.Prelude.{ℕ, ◌≡◌, List, [], ◌∷◌, Option, Some, None}
 use Rattle.ip_wire.specs.declared.repr.IpRepr.{IpRepr}
 use Rattle.control_wire.specs.Segment.{Segment}
 use Rattle.sock_pair.specs.declared.side.Side.{Side}
@@ -24,22 +24,10 @@ segment_at h payload =
       payload = payload;
     }
 
-abbrev pub header_of : IpRepr → Segment → Header
-header_of ip s =
-    record {
-      ip_repr = ip;
-      src_port = s.src_port;
-      dst_port = s.dst_port;
-      control = s.control;
-      seq_number = s.seq_number;
-      ack_number = s.ack_number;
-      window_len = s.window_len;
-      window_scale = s.window_scale;
-      max_seg_size = s.max_seg_size;
-      sack_permitted = s.sack_permitted;
-      sack_ranges = s.sack_ranges;
-      timestamp = s.timestamp;
-    }
+-- h has all of the segment s but its payload, and this IP header
+pub record IsHeaderOf (h : Header) (ip : IpRepr) (s : Segment) : Type 0 where
+  pub ip_repr : h.ip_repr ≡ ip
+  pub fields : segment_at h s.payload ≡ s
 
 abbrev pub stored_segment : Side → Header → List ℕ → ℕ → ℕ → StoredView
 stored_segment from_side h payload released taken =

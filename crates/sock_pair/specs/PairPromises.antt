@@ -58,8 +58,8 @@ pub record IsNextExpected (v : View) (s : Segment) : Type 0 where
   pub starts : s.seq_number ≡ next_ack v
   pub ends : length s.payload ≤ seq_sub (window_end v v.remote_last_ack) (next_ack v)
 
--- a delivery of the segment t found the receiver as old, and left it as new: the whole payload of a segment in order
--- joined the receive queue
+-- a delivery of the segment t found the receiver as old, and left it as new: the whole payload of such a segment joined
+-- the receive queue
 pub record IsPrompt (t : StoredView) (old new : HostView) : Type 0 where
   pub queued : IsNextExpected old.control_block t.segment
       → new.control_block.rx_buffer.bytes ≡ old.control_block.rx_buffer.bytes ++ t.segment.payload

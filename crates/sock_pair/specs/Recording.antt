@@ -1,5 +1,5 @@
 -- What a dispatch stores.
-use Rattle.std.specs.Prelude.{ℕ, ◌≡◌, ◌≤◌, ◌++◌, ⊤, List, length, drop, Option, Some, None, Result, Ok, Err, Bool, true, false, not, Vec}
+use Rattle.std.specs.Prelude.{ℕ, ◌≡◌, ◌≤◌, ◌++◌, ⊤, List, length, drop, Option, Some, None, IsSomeAnd, Result, Ok, Err, Bool, true, false, not, Vec}
 use Rattle.std.specs.Global.{Global}
 use Rattle.ip_wire.specs.declared.repr.IpRepr.{IpRepr}
 use Rattle.control_wire.specs.Segment.{Segment}
@@ -15,11 +15,11 @@ use Rattle.sock_pair.specs.declared.recorder.Recorder.{Recorder}
 use Rattle.sock_pair.specs.declared.recorder.Sent.{Sent}
 use Rattle.sock_pair.specs.declared.recorder.Sent.TheVariants as sent
 use Rattle.sock_pair.specs.declared.segment.Header.{Header}
-use Rattle.sock_pair.specs.Holding.{header_of}
+use Rattle.sock_pair.specs.Holding.{IsHeaderOf}
 
 -- the segment s was stored in new
 pub record Holds (old new : Recorder) (ip : IpRepr) (s : Segment) : Type 0 where
-  pub header : new.header ≡ Some (header_of ip s)
+  pub header : IsSomeAnd new.header (λ h. IsHeaderOf h ip s)
   pub payload : new.payload.items ≡ old.payload.items ++ s.payload
 
 abbrev pub sent_with : Option Header → Vec ℕ Global → Sent
@@ -40,7 +40,7 @@ IsShort _ = ⊤
 abbrev pub Records : Bool → Option Sending → Sent → Type 0
 Records fail None r = r ≡ sent.Quiet
 Records true (Some s) r = r ≡ sent.Failed
-Records false (Some s) (sent.Emitted h p) = (h ≡ header_of s.ip s.segment) × (p.items ≡ s.segment.payload)
+Records false (Some s) (sent.Emitted h p) = IsHeaderOf h s.ip s.segment × (p.items ≡ s.segment.payload)
 Records false (Some s) _ = ⊥
 
 -- the socket sends to its peer, for some bytes that its ring lent

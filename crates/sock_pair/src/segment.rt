@@ -26,10 +26,10 @@ pub struct Header {
 
 impl Header {
     ghost use Rattle.control_wire.specs.Segment.{segment_of};
-    ghost use Rattle.sock_pair.specs.Holding.{header_of};
+    ghost use Rattle.sock_pair.specs.Holding.{IsHeaderOf};
 
     pub(crate) fn of(ip_repr: IpRepr, repr: &TcpRepr<'_>) -> Header
-        ensures { result ≡ header_of ip_repr (segment_of repr.now) }
+        ensures { IsHeaderOf result ip_repr (segment_of repr.now) }
     {
         Header {
             ip_repr,
