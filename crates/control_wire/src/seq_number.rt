@@ -1,4 +1,4 @@
-// Sequence numbers, which wrap at 2^32.
+//! Sequence numbers, which wrap at 2^32.
 ghost use Rattle.std.specs.Prelude.{◌≡◌, ◌+◌, ◌<◌, ◌^◌};
 ghost use Rattle.control_wire.specs.Seq.{seq_add, seq_minus, seq_sub};
 

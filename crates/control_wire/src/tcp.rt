@@ -1,4 +1,4 @@
-// TCP segments as values.
+//! TCP segments as values.
 ghost use Rattle.std.specs.Prelude.{◌≡◌, ◌+◌, ◌≤◌, None, IsSomeAnd, MatchOption, is_some, count_by, length};
 ghost use Rattle.std.specs.Option.{ForSome};
 ghost use Rattle.control_wire.specs.Segment.{
@@ -108,7 +108,8 @@ pub struct TcpRepr<'a> {
     pub seq_number: TcpSeqNumber,
     /// SEG.ACK, where there is an acknowledgement.
     pub ack_number: Option<TcpSeqNumber>,
-    /// The window field: in a SYN in bytes, else in units of 2 to the power of the sender's window scale (RFC 7323, section 2.2).
+    /// The window field: in a SYN in bytes, else in units of 2 to the power of the sender's window scale (RFC 7323,
+    /// section 2.2).
     pub window_len: u16,
     /// The window scale option, in bits: a SYN alone has one.
     pub window_scale: Option<u8>,

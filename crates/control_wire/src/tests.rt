@@ -1,3 +1,5 @@
+//! Worked examples.
+
 use crate::*;
 
 fn syn(payload: &[u8]) -> TcpRepr<'_> {

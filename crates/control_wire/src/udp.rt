@@ -1,4 +1,4 @@
-// UDP headers as values.
+//! UDP headers as values.
 ghost use Rattle.std.specs.Prelude.{◌≡◌};
 ghost use Rattle.control_wire.specs.Datagram.{udp_header_len};
 

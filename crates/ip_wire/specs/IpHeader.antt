@@ -11,10 +11,12 @@ use Rattle.ip_wire.specs.declared.repr.IpRepr.{IpRepr}
 use Rattle.ip_wire.specs.declared.repr.IpRepr.TheVariants as header
 
 abbrev pub ipv4_header : Ipv4Address → Ipv4Address → IpProtocol → ℕ → ℕ → IpRepr
-ipv4_header src dst protocol len hops = header.Ipv4 (record { src_addr = src; dst_addr = dst; next_header = protocol; payload_len = len; hop_limit = hops })
+ipv4_header src dst protocol len hops =
+    header.Ipv4 (record { src_addr = src; dst_addr = dst; next_header = protocol; payload_len = len; hop_limit = hops })
 
 abbrev pub ipv6_header : Ipv6Address → Ipv6Address → IpProtocol → ℕ → ℕ → IpRepr
-ipv6_header src dst protocol len hops = header.Ipv6 (record { src_addr = src; dst_addr = dst; next_header = protocol; payload_len = len; hop_limit = hops })
+ipv6_header src dst protocol len hops =
+    header.Ipv6 (record { src_addr = src; dst_addr = dst; next_header = protocol; payload_len = len; hop_limit = hops })
 
 -- the header between two addresses of one version; between two of different versions no call makes one
 abbrev pub ip_header : IpAddress → IpAddress → IpProtocol → ℕ → ℕ → IpRepr

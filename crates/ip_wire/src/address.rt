@@ -1,4 +1,4 @@
-// Addresses of the two versions of IP.
+//! Addresses of the two versions of IP.
 ghost use Rattle.std.specs.Prelude.{◌≡◌};
 ghost use Rattle.ip_wire.specs.Address.{
   all_zero,

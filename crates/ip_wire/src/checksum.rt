@@ -1,4 +1,4 @@
-// Which checksums are computed and tested here, and which by the device.
+//! Which checksums are computed and tested here, and which by the device.
 ghost use Rattle.std.specs.Prelude.{◌≡◌};
 ghost use Rattle.ip_wire.specs.Checksum.{all_checksums, is_received, is_sent};
 ghost use Rattle.ip_wire.specs.declared.checksum.Checksum.TheVariants.{Both};

@@ -1,4 +1,4 @@
-// What a packet is refused with.
+//! What a packet is refused with.
 ghost use Rattle.std.specs.Prelude.{Some, codes};
 
 use std::fmt;

@@ -1,4 +1,4 @@
-// Versions of IP, and the protocols above it.
+//! Versions of IP, and the protocols above it.
 ghost use Rattle.std.specs.Prelude.{◌≡◌};
 ghost use Rattle.std.specs.Result.{result_ok};
 ghost use Rattle.ip_wire.specs.Protocol.{number_of, protocol_of, version_of_packet};

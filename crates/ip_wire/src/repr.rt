@@ -1,4 +1,4 @@
-// The headers of IPv4 and IPv6 as values.
+//! The headers of IPv4 and IPv6 as values.
 ghost use Rattle.std.specs.Prelude.{◌≡◌};
 ghost use Rattle.ip_wire.specs.Address.{SameVersion};
 ghost use Rattle.ip_wire.specs.IpHeader.{

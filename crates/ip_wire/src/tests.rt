@@ -1,3 +1,5 @@
+//! Worked examples.
+
 use crate::*;
 use std::test::Fail;
 

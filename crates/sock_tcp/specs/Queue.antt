@@ -24,8 +24,8 @@ appended q bs = record { bytes = q.bytes ++ bs; window = q.window - length bs }
 abbrev pub shortened : Queue → ℕ → Queue
 shortened q n = record { bytes = drop n q.bytes; window = q.window + n }
 
--- a contiguous beginning of these bytes, as long as the ring chose: at most so many, and none only where none were asked
--- for or none are there
+-- a contiguous beginning of these bytes, as long as the ring chose: at most so many, and none only where none were
+-- asked for or none are there
 pub record IsLent (asked : ℕ) (rest given : List ℕ) : Type 0 where
   pub beginning : given ≡ take (length given) rest
   pub at_most : length given ≤ min asked (length rest)

@@ -80,7 +80,8 @@ pub record Sends (v : View) (bs : List ℕ) (r : Result ℕ SendError) (w : View
 
 -- f was lent free places behind the transmit queue, in one piece and empty only where there are none; of what it left
 -- there as many bytes join the queue as it answered
-pub record FillsFree {R : Type 0} (called : List ℕ → ℕ × R → List ℕ → Type 0) (v : View) (x : R) (w : View) : Type 0 where
+pub record FillsFree {R : Type 0} (called : List ℕ → ℕ × R → List ℕ → Type 0)
+    (v : View) (x : R) (w : View) : Type 0 where
   pub lent : List ℕ
   pub left : List ℕ
   pub size : ℕ
@@ -92,7 +93,8 @@ pub record FillsFree {R : Type 0} (called : List ℕ → ℕ × R → List ℕ �
   pub view : w ≡ queued v size left
 
 -- refused without a call of f where nothing may be sent
-abbrev pub SendsWithIf : {R : Type 0} → Bool → (List ℕ → ℕ × R → List ℕ → Type 0) → View → Result R SendError → View → Type 0
+abbrev pub SendsWithIf : {R : Type 0} → Bool → (List ℕ → ℕ × R → List ℕ → Type 0)
+    → View → Result R SendError → View → Type 0
 SendsWithIf true called v (Ok x) w = FillsFree called v x w
 SendsWithIf false called v (Err e) w = (e ≡ send_error.InvalidState) × (w ≡ v)
 SendsWithIf _ called v r w = ⊥
@@ -129,8 +131,8 @@ pub record Reads (v : View) (bs : List ℕ) (r : Result ℕ RecvError) (w : View
   pub read : IfOk r (λ n. bs' ≡ take n v.rx_buffer.bytes ++ drop n bs)
   pub refused : OnErr r (bs' ≡ bs)
 
--- f was lent a beginning of the receive queue, in one piece and empty only where the queue is; as many bytes leave as it
--- answered
+-- f was lent a beginning of the receive queue, in one piece and empty only where the queue is; as many bytes leave as
+-- it answered
 pub record TakesQueued {R : Type 0} (called : List ℕ → ℕ × R → Type 0) (v : View) (x : R) (w : View) : Type 0 where
   pub count : ℕ
   pub size : ℕ

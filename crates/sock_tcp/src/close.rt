@@ -28,10 +28,11 @@ impl<'a> ControlBlock<'a> {
 }
 
 impl<'a> Socket<'a> {
-    /// Closes the transmit half: nothing more can be sent, and a FIN follows what was. Bytes that come can still be read.
+    /// Closes the transmit half: nothing more can be sent, and a FIN follows what was. Bytes that come can still be
+    /// read.
     ///
-    /// LISTEN and SYN-SENT go to CLOSED, SYN-RECEIVED and ESTABLISHED to FIN-WAIT-1, CLOSE-WAIT to LAST-ACK; in the other
-    /// states nothing changes (RFC 9293, section 3.10.4).
+    /// LISTEN and SYN-SENT go to CLOSED, SYN-RECEIVED and ESTABLISHED to FIN-WAIT-1, CLOSE-WAIT to LAST-ACK; in the
+    /// other states nothing changes (RFC 9293, section 3.10.4).
     pub fn close(&mut self)
         ensures { self.new.control_block ≡ closed self.old.control_block }
     {

@@ -33,8 +33,8 @@ impl<'a> ControlBlock<'a> {
     // The bytes of the transmit queue that go out, as far as the ring lends them.
     #[tactic(auto, unfolding(crate::specs::Content::asked))]
     pub(crate) fn payload<C: Context>(&self, cx: &C, tuple: &Tuple) -> &[u8]
-        ensures lent { IsLent (asked self.now tuple.now (C.facts cx.now)) (drop (flight self.now) self.now.tx_buffer.bytes)
-            result.now }
+        ensures lent { IsLent (asked self.now tuple.now (C.facts cx.now))
+            (drop (flight self.now) self.now.tx_buffer.bytes) result.now }
         ensures small { length result.now ≤ 65535 }
     {
         let size = if self.carries_data() {

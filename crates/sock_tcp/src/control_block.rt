@@ -91,6 +91,7 @@ impl<'a> Model for ControlBlock<'a> {
       synack_paused = s.synack_paused;
     } };
 
-    ghost invariant = { λ s. IsSound (queue_of s.rx_buffer) (queue_of s.tx_buffer) s.tuple s.remote_win_shift s.remote_win_scale
+    ghost invariant = { λ s. IsSound (queue_of s.rx_buffer) (queue_of s.tx_buffer) s.tuple
+        s.remote_win_shift s.remote_win_scale
         s.remote_mss s.timeout s.keep_alive s.ack_delay };
 }

@@ -66,7 +66,8 @@ fn opens(repr: &TcpRepr<'_>) -> bool
 
 impl<'a> ControlBlock<'a> {
     fn is_addressed(&self, ip_repr: &IpRepr, repr: &TcpRepr<'_>) -> bool
-        ensures { IsTrue result ↔ IsAddressed self.now.tuple self.now.listen_endpoint ip_repr.now (segment_of repr.now) }
+        ensures { IsTrue result
+            ↔ IsAddressed self.now.tuple self.now.listen_endpoint ip_repr.now (segment_of repr.now) }
     {
         match &self.tuple {
             Some(tuple) => tuple.is_of_segment(ip_repr, repr),
@@ -95,7 +96,8 @@ impl<'a> ControlBlock<'a> {
     fn advance<C: Context>(&mut self, cx: &mut C, ip_repr: &IpRepr, repr: &TcpRepr<'_>) -> bool
         requires { verdict_of self.old repr.now.control repr.now.ack_number ≡ Pass }
         ensures table { record { view = self.new; goes_on = result }
-            ≡ advanced self.old (tuple_of ip_repr.now (segment_of repr.now)) (C.word_at cx.old 0) (segment_of repr.now) }
+            ≡ advanced self.old (tuple_of ip_repr.now (segment_of repr.now)) (C.word_at cx.old 0)
+            (segment_of repr.now) }
         ensures queues { SameQueues self.old self.new }
         ensures context { Draws (draws Pass self.old.state repr.now.control) C.facts C.word_at cx.old cx.new }
     {

@@ -70,8 +70,8 @@ pub(crate) fn rst_segment(repr: &TcpRepr<'_>) -> TcpRepr<'static>
 }
 
 impl<'a> Socket<'a> {
-    /// A segment that answers this one, with its header: the addresses and ports the other way round, and nothing else. It
-    /// has no control, the number 0, no acknowledgement, window, options or payload. As smoltcp.
+    /// A segment that answers this one, with its header: the addresses and ports the other way round, and nothing
+    /// else. It has no control, the number 0, no acknowledgement, window, options or payload. As smoltcp.
     pub fn reply(ip_repr: &IpRepr, repr: &TcpRepr<'_>) -> Reply
         ensures reply { reply_of result ≡ with_header ip_repr.now (bare_reply (segment_of repr.now)) }
         ensures bare { result.1.payload.now ≡ [] }
@@ -79,8 +79,8 @@ impl<'a> Socket<'a> {
         with_header(ip_repr, bare_reply(repr))
     }
 
-    /// The RST that answers a segment which is for no socket, and is no RST itself (RFC 9293, section 3.10.7.1). The payload
-    /// is at most 65535 bytes.
+    /// The RST that answers a segment which is for no socket, and is no RST itself (RFC 9293, section 3.10.7.1). The
+    /// payload is at most 65535 bytes.
     ///
     /// Its number is what the segment acknowledges, or 0; it acknowledges a SYN that has no acknowledgement.
     pub fn rst_reply(ip_repr: &IpRepr, repr: &TcpRepr<'_>) -> Reply

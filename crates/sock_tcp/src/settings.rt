@@ -70,13 +70,14 @@ impl<'a> Socket<'a> {
 
     /// Puts in a new controller of this kind, also where there is one of the kind.
     pub fn set_congestion_control(&mut self, congestion_control: CongestionControl)
-        ensures { self.new.control_block ≡ record self.old.control_block { congestion_controller = of_kind congestion_control } }
+        ensures { self.new.control_block
+            ≡ record self.old.control_block { congestion_controller = of_kind congestion_control } }
     {
         self.control_block.congestion_controller = congestion_control.controller();
     }
 
-    /// How long the peer may be silent while it owes something before the connection is aborted; for ever where there is
-    /// none, as in a new socket (RFC 9293, section 3.9.1).
+    /// How long the peer may be silent while it owes something before the connection is aborted; for ever where there
+    /// is none, as in a new socket (RFC 9293, section 3.9.1).
     pub fn timeout(&self) -> Option<Duration>
         ensures { result ≡ self.now.control_block.timeout }
     {
@@ -127,8 +128,8 @@ impl<'a> Socket<'a> {
         self.control_block.keep_alive
     }
 
-    /// Sets the interval of keep-alives, of at most 2^61 microseconds, or lets none go out. Where none is to come and nothing
-    /// else is waited for, the first goes out at the next dispatch.
+    /// Sets the interval of keep-alives, of at most 2^61 microseconds, or lets none go out. Where none is to come and
+    /// nothing else is waited for, the first goes out at the next dispatch.
     pub fn set_keep_alive(&mut self, interval: Option<Duration>)
         requires { IsShort interval }
         ensures { self.new.control_block ≡ keep_alive_set self.old.control_block interval }
@@ -143,7 +144,8 @@ impl<'a> Socket<'a> {
         self.control_block.hop_limit
     }
 
-    /// Sets the hop limit of what is sent, 1 to 255, or none for 64 (RFC 1122, section 3.2.1.7). Replies always have 64.
+    /// Sets the hop limit of what is sent, 1 to 255, or none for 64 (RFC 1122, section 3.2.1.7). Replies always have
+    /// 64.
     pub fn set_hop_limit(&mut self, hop_limit: Option<u8>)
         requires { hop_limit ≡ Some 0 → ⊥ }
         ensures { self.new.control_block ≡ record self.old.control_block { hop_limit = hop_limit } }

@@ -178,9 +178,9 @@ impl<'a> Socket<'a> {
         self.control_block.send_slice(data)
     }
 
-    /// Lends `f` a slice of the free places behind the transmit queue, in one piece and empty only where there are none. `f`
-    /// answers how many bytes it put at the slice's beginning, at most its length, and these join the queue; beside that it
-    /// answers what this call answers.
+    /// Lends `f` a slice of the free places behind the transmit queue, in one piece and empty only where there are
+    /// none. `f` answers how many bytes it put at the slice's beginning, at most its length, and these join the
+    /// queue; beside that it answers what this call answers.
     ///
     /// `InvalidState` where `may_send` is false; `f` is not called then, and nothing changes.
     pub fn send<R, F: FnOnce(&mut [u8]) -> (usize, R)>(&mut self, f: F) -> Result<R, SendError>
@@ -201,11 +201,11 @@ impl<'a> Socket<'a> {
         self.control_block.recv_slice(data)
     }
 
-    /// Lends `f` a beginning of the receive queue, in one piece and empty only where the queue is. `f` answers how many of
-    /// these bytes leave the queue; beside that it answers what this call answers.
+    /// Lends `f` a beginning of the receive queue, in one piece and empty only where the queue is. `f` answers how
+    /// many of these bytes leave the queue; beside that it answers what this call answers.
     ///
-    /// Where `may_recv` is false `f` is not called and nothing changes: `Finished` where the peer's FIN has come, else
-    /// `InvalidState`.
+    /// Where `may_recv` is false `f` is not called and nothing changes: `Finished` where the peer's FIN has come,
+    /// else `InvalidState`.
     pub fn recv<R, F: FnOnce(&[u8]) -> (usize, R)>(&mut self, f: F) -> Result<R, RecvError>
         requires callable { F.IsAlwaysCallable f }
         requires sized { (s : List ℕ) (r : _) → FnOnceReturnsAt F.FnOnce f s r → r.0 ≤ length s }
@@ -214,16 +214,16 @@ impl<'a> Socket<'a> {
         self.control_block.recv(f)
     }
 
-    /// Lends a beginning of the receive queue, in one piece, of at most `size` bytes and empty only where there are none.
-    /// The bytes stay. Refused as `recv`.
+    /// Lends a beginning of the receive queue, in one piece, of at most `size` bytes and empty only where there are
+    /// none. The bytes stay. Refused as `recv`.
     pub fn peek(&self, size: usize) -> Result<&[u8], RecvError>
         ensures { Peeks self.now.control_block size (lent_bytes result) }
     {
         self.control_block.peek(size)
     }
 
-    /// Copies as many bytes from the front of the receive queue into `data` as fit, and answers how many. The bytes stay.
-    /// Refused as `recv`; `data` is then as it was.
+    /// Copies as many bytes from the front of the receive queue into `data` as fit, and answers how many. The bytes
+    /// stay. Refused as `recv`; `data` is then as it was.
     pub fn peek_slice(&self, data: &mut [u8]) -> Result<usize, RecvError>
         ensures { PeeksInto self.now.control_block «data».old result «data».new }
     {
@@ -280,7 +280,8 @@ impl<'a> Socket<'a> {
         emit: F,
     ) -> Result<(), E>
         requires callable { F.IsAlwaysCallable emit }
-        ensures table { Dispatches F.FnOnce emit (C.facts cx.old) self.old.control_block cx.old result self.new.control_block cx.new }
+        ensures table { Dispatches F.FnOnce emit (C.facts cx.old) self.old.control_block cx.old
+            result self.new.control_block cx.new }
     {
         self.control_block.dispatch(cx, emit)
     }
