@@ -3,7 +3,7 @@ use Rattle.std.proofs.Common.{◌≡◌, ℕ, ◌+◌, ◌-◌, ◌<◌, ◌≤�
 use Rattle.std.proofs.lemmas.Bool.{cases_lt, false≢true}
 use Rattle.std.proofs.lemmas.Option.{none-some}
 use Rattle.std.proofs.lemmas.Bool.Decides.{nat_tests}
-use Rattle.std.specs.Prelude.{◌==◌, ◌&&◌, ◌||◌, not, nat_le, nat_lt, is_none, is_ok, Result}
+use Rattle.std.specs.Prelude.{◌==◌, ◌&&◌, ◌||◌, not, nat_le, nat_lt, is_none}
 use Rattle.net_base.specs.Packets.{Packets, packets_with, taken, place_of, end_of, run_of, room_of, first_bytes, first_header, starts_padded, put_packet, packets, first_packet, Dequeues, Enqueues, without_first, skipped_from, skipped, restarted, fits_behind, fits_before, fits, padded_for, made_room, takes, appended, AppendsWith}
 use Rattle.net_base.proofs.Around.{place_of-high, place_of-low, place_of-place_of, place_of-within}
 
