@@ -3,7 +3,7 @@ use Rattle.std.proofs.Common.{◌≡◌, ℕ, suc, ◌+◌, ◌-◌, ◌<◌, �
 use Rattle.std.proofs.lemmas.List.{same_lists, set_split, get_or-drop, get_or-take, get_or_append_left, get_or-append_right, places, drop-drop, take-append-drop, append-nil}
 use Rattle.std.proofs.lemmas.Bool.{cases_lt}
 use borrow.Rule.Slice.PartMut.{put_mid}
-use Rattle.net_base.specs.Ring.{Ring, ring, ring_of, cells_from, overwrite, capacity_of, Restarted, Appends, Clears, EnqueuesWith, DequeuesWith, LeavesRun}
+use Rattle.net_base.specs.Ring.{Ring, ring, ring_of, cells_from, overwrite, capacity_of, Restarted, Appends, Clears, EnqueuesWith, LeavesRun}
 
 module _ {X : Type 0} where
   pub length-cells : (k : ℕ) (xs : List X) → k ≤ length xs → length (cells_from k xs) ≡ length xs
@@ -209,12 +209,6 @@ module _ {X : Type 0} where
         };
       }
 
-  pub not_restarted : (r s : Ring X) → s ≡ r → Restarted r s
-  not_restarted r s is = record {
-    queue = ap (λ (r : Ring X). r.queue) is;
-    spare = record { turn = 0; turn_within = omega arith; turn_only_empty = λ some. refl; spare_is = ap (λ (r : Ring X). r.spare) is ∙ sym (cells_none r.spare); same_length = ap (λ (r : Ring X). length r.spare) is };
-  }
-
   pub appended_after : (ys : List X) (r s t : Ring X) → Restarted r s → t ≡ ring (s.queue ++ ys) (drop (length ys) s.spare) → Appends ys r t
   appended_after ys r s t from is = record { spare = s.spare; restarts = from.spare; after = is ∙ ap (λ (q : List X). ring (q ++ ys) (drop (length ys) s.spare)) from.queue }
 
@@ -256,18 +250,6 @@ module _ {X : Type 0} where
       → out ≡ take (length (take c given)) (drop o (cells_from k xs)) → out ++ drop c given ≡ take c (drop o r.queue) ++ drop c given
   items_read k n o c xs out given r is inv some c_is read =
       queue_read k n o c xs out (drop c given) r is inv (omega (arith, some, c_is)) (read ∙ ap (λ j. take j (drop o (cells_from k xs))) (length-take-le c given (omega (arith, c_is))))
-
-  pub dequeued_with : {R : Type 0} (called : List X → ℕ × R → Type 0) (m : ℕ) (lent : List X) (result : ℕ × R) (r s : Ring X) → lent ≡ take (length lent) (drop 0 r.queue) → (length lent ≡ 0 → length r.queue ≡ 0)
-      → called lent result → result.0 ≤ length lent → s ≡ ring (drop result.0 r.queue) (r.spare ++ take result.0 r.queue)
-      → DequeuesWith called r result s
-  dequeued_with called m lent result r s is nothing met within after = record {
-    count = length lent;
-    count_within = omega (arith, ap length is, length-take (length lent) r.queue);
-    count_zero = nothing;
-    met = subst (λ (zs : List X). called zs result) is met;
-    size_within = within;
-    after = after;
-  }
 
   -- one item written behind the queue
   pub one_appended : (k n p : ℕ) (xs : List X) (x : X) (r : Ring X) → ring_of k n xs ≡ r → (k ≤ length xs) × (n ≤ length xs)

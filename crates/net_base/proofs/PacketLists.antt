@@ -1,10 +1,9 @@
 -- Lemmas on what a contract sees of a packet buffer.
-use Rattle.std.proofs.Common.{◌≡◌, ℕ, ◌+◌, ◌-◌, ◌<◌, ◌≤◌, Bool, true, false, cond, eq-eqb, eqb-true, List, [], ◌∷◌, ◌++◌, length, take, drop, slice_get, Option, None, Some, refl, sym, ap, subst, ◌∙◌, inl, inr, arith, length-drop, length-take-le}
+use Rattle.std.proofs.Common.{◌≡◌, ℕ, ◌+◌, ◌-◌, ◌<◌, ◌≤◌, Bool, true, false, cond, eq-eqb, List, [], ◌∷◌, ◌++◌, length, take, drop, Option, None, Some, refl, sym, ap, subst, ◌∙◌, inl, inr, arith, length-drop, length-take-le}
 use Rattle.std.proofs.lemmas.Bool.{cases_lt, false≢true}
-use Rattle.std.proofs.lemmas.Option.{none-some}
 use Rattle.std.proofs.lemmas.Bool.Decides.{nat_tests}
-use Rattle.std.specs.Prelude.{◌==◌, ◌&&◌, ◌||◌, not, nat_le, nat_lt, is_none, is_ok, Result}
-use Rattle.net_base.specs.Packets.{Packets, packets_with, taken, place_of, end_of, run_of, room_of, first_bytes, first_header, starts_padded, put_packet, packets, first_packet, Dequeues, Enqueues, without_first, skipped_from, skipped, restarted, fits_behind, fits_before, fits, padded_for, made_room, takes, appended, AppendsWith}
+use Rattle.std.specs.Prelude.{◌==◌, ◌&&◌, ◌||◌, not, nat_le, nat_lt, is_none}
+use Rattle.net_base.specs.Packets.{Packets, packets_with, taken, place_of, end_of, run_of, room_of, first_bytes, starts_padded, put_packet, packets, Enqueues, without_first, skipped_from, skipped, restarted, fits_behind, fits_before, fits, padded_for, made_room, takes, appended, AppendsWith}
 use Rattle.net_base.proofs.Around.{place_of-high, place_of-low, place_of-place_of, place_of-within}
 
 module _ {X : Type 0} where
@@ -158,65 +157,3 @@ module _ {X : Type 0} where
   pub packets_skipped : (p : Packets X) → packets (skipped p).entries ≡ packets p.entries
   unfolding skipped
   packets_skipped p = packets_from (length p.storage) p.start p.entries
-
-  packets_some : (es : List (Option X × List ℕ)) (h : X) → first_header es ≡ Some h → packets es ≡ (h, first_bytes es) ∷ packets (drop 1 es)
-  packets_some [] h is = absurd (none-some h is)
-  packets_some (e ∷ es) h is = ap (λ o. put_packet o e.1 (packets es)) is
-
-  packets_none : (es : List (Option X × List ℕ)) → (length es == 0) ≡ true → packets es ≡ []
-  packets_none [] h = refl
-  packets_none (e ∷ es) h = absurd (grind (arith, nat_tests, h))
-
-  some_entry : (es : List (Option X × List ℕ)) (h : X) → first_header es ≡ Some h → 0 < length es
-  some_entry [] h is = absurd (none-some h is)
-  some_entry (e ∷ es) h is = omega arith
-
-  -- no packet is there once the padding is gone and no entry is left
-  module _ (p q : Packets X) (q_is : q ≡ skipped p) (none : (length q.entries == 0) ≡ true) where
-    pub no_packets : packets p.entries ≡ []
-    no_packets = sym (packets_skipped p) ∙ ap (λ (q : Packets X). packets q.entries) (sym q_is) ∙ packets_none q.entries none
-
-    pub dequeues_none : Dequeues p q
-    dequeues_none =
-        let empty : length (skipped p).entries ≡ 0 = ap (λ (q : Packets X). length q.entries) (sym q_is) ∙ eqb-true (length q.entries) 0 none in
-        record { some = λ h. absurd (omega (arith, h, empty)); none = λ h. q_is; packets = ap (λ (q : Packets X). packets q.entries) q_is ∙ packets_skipped p ∙ no_packets ∙ sym (ap (λ (l : List (X × List ℕ)). drop 1 l) no_packets) }
-
-  -- the first entry is a packet once the padding is gone
-  module _ (p q r : Packets X) (h : X) (q_is : q ≡ skipped p) (header : first_header q.entries ≡ Some h) (r_is : r ≡ without_first q) where
-    pub packets_first : packets p.entries ≡ (h, first_bytes q.entries) ∷ packets (drop 1 q.entries)
-    packets_first = sym (packets_skipped p) ∙ ap (λ (q : Packets X). packets q.entries) (sym q_is) ∙ packets_some q.entries h header
-
-    pub some_packets : 0 < length (packets p.entries)
-    some_packets = omega (arith, ap (λ (l : List (X × List ℕ)). length l) packets_first)
-
-    pub dequeues_some : Dequeues p r
-    dequeues_some =
-        let left : 0 < length (skipped p).entries = omega (arith, ap (λ (q : Packets X). length q.entries) q_is, some_entry q.entries h header) in
-        record { some = λ _. r_is ∙ ap without_first q_is; none = λ e. absurd (omega (arith, e, left)); packets = ap (λ (r : Packets X). packets r.entries) r_is ∙ sym (ap (λ (l : List (X × List ℕ)). drop 1 l) packets_first) }
-
-    pub first_is : (from size : ℕ) → first_bytes q.entries ≡ take size (drop from q.storage) → first_packet p ≡ Some (h, take size (drop from r.storage))
-    first_is from size bytes =
-        ap (λ (l : List (X × List ℕ)). slice_get l 0) packets_first
-        ∙ ap (λ bs. Some (h, bs)) (bytes ∙ ap (λ (s : List ℕ). take size (drop from s)) (sym (ap (λ (r : Packets X). r.storage) r_is)))
-
-  packet_there : (h : Option X) (bs : List ℕ) (ps : List (X × List ℕ)) → is_none h ≡ false → 0 < length (put_packet h bs ps)
-  packet_there None bs ps h = absurd (false≢true (sym h))
-  packet_there (Some x) bs ps h = omega arith
-
-  pub packets_there : (es : List (Option X × List ℕ)) → starts_padded es ≡ false → 0 < length es → 0 < length (packets es)
-  packets_there [] h some = absurd (omega (arith, some))
-  packets_there (e ∷ es) h some = packet_there e.0 e.1 (packets es) h
-
-  pub no_items : (l m : List (X × List ℕ)) → m ≡ l → (0 < length l → false ≡ true) → (m ≡ []) × (l ≡ [])
-  no_items [] m same none = (same, refl)
-  no_items (x ∷ l) m same none = absurd (false≢true (none (omega arith)))
-
-  pub entries_there : (es : List (Option X × List ℕ)) → 0 < length (packets es) → 0 < length es
-  entries_there [] some = absurd (omega (arith, some))
-  entries_there (e ∷ es) some = omega arith
-
-  pub first_here : (es : List (Option X × List ℕ)) (h : X) (bs : List ℕ) → first_header es ≡ Some h → first_bytes es ≡ bs → slice_get (packets es) 0 ≡ Some (h, bs)
-  first_here es h bs is bytes = ap (λ (l : List (X × List ℕ)). slice_get l 0) (packets_some es h is) ∙ ap (λ bs. Some (h, bs)) bytes
-
-  pub same_packets_left : (p q : Packets X) → q ≡ skipped p → packets q.entries ≡ packets p.entries
-  same_packets_left p q is = ap (λ (q : Packets X). packets q.entries) is ∙ packets_skipped p

@@ -3,8 +3,9 @@ use Rattle.std.proofs.Common.{◌≡◌, ℕ, zero, suc, ◌+◌, ◌-◌, ◌<�
 use Rattle.std.proofs.lemmas.Bool.{cases_lt, lt-ltb, le-ltb, ltb-true, eqb-true, false≢true}
 use Rattle.std.proofs.lemmas.List.{take_more_set, append_assoc, drop_more, drop_all, length-set, append-nil}
 use Rattle.std.proofs.lemmas.Bool.Decides.{nat_tests}
-use Rattle.std.specs.Prelude.{nat_lt, ◌==◌, not}
+use Rattle.std.specs.Prelude.{Result, Ok, Err, nat_lt, ◌==◌, not}
 use Rattle.net_base.specs.declared.assembler.Range.{Range}
+use Rattle.net_base.specs.declared.assembler.TooManyHoles.{TooManyHoles}
 use Rattle.net_base.specs.Ranges.{range, is_within, is_held, Apart, insert_range, lowered, front_end, behind_front, run_after, ranges_after, is_refused, IsTidy, Adds}
 
 -- an offset is in the union of two ranges that touch exactly where it is in one of them
@@ -316,3 +317,36 @@ take_of_take (suc k) (suc m) (x ∷ xs) h = ap (λ (l : List Range). x ∷ l) (t
 
 pub length-part : (k m : ℕ) (xs : List Range) → length xs ≡ 5 → m ≤ 5 → length (take (m - 1) (drop 1 xs)) ≡ m - 1
 length-part k m xs long few = length-take (m - 1) (drop 1 xs) ∙ omega (arith, length-drop 1 xs, long, few)
+
+abbrev pub ok : ℕ → Result ℕ TooManyHoles
+ok k = Ok k
+
+-- the same in the words of the call: the ranges held are the first count of an array, and with the addition they are the first m of `all`
+module _ (o n : ℕ) (ranges all : List Range) (count m : ℕ) (rs : List Range) (view : take count ranges ≡ rs) (inv : (length ranges ≡ 4) × (count ≤ 4) × Apart 1 (take count ranges)) (some : 0 < n)
+    (few : m ≤ 5) (first : 0 < m) (long : length all ≡ 5) (is : take m all ≡ insert_range o (o + n) (take count ranges)) where
+  held_tidy : IsTidy rs
+  held_tidy = record { apart = subst (λ (l : List Range). Apart 1 l) view inv.2; few = omega (arith, ap length (sym view), length-take count ranges, inv.0, inv.1) }
+
+  with_added : take m all ≡ insert_range o (o + n) rs
+  with_added = is ∙ ap (insert_range o (o + n)) view
+
+  module _ (zero_o : o ≡ 0) where
+    pub front_answered : ok (get_or all 0 (range 0 0)).end ≡ cond (is_refused o n rs) (Err (record {})) (ok (run_after o n rs))
+    front_answered = ap (λ (k : ℕ). ok k) (run_is o n rs held_tidy some all m with_added first long few zero_o (range 0 0)) ∙ ap (λ b. cond b (Err (record {})) (ok (run_after o n rs))) (sym (not_refused o n rs held_tidy some all m with_added first long few zero_o))
+
+    pub front_apart : (left : List Range) → take (length (take (m - 1) (drop 1 all))) left ≡ lowered (get_or all 0 (range 0 0)).end (take (m - 1) (drop 1 all)) → Apart 1 (take (m - 1) left)
+    front_apart left low =
+        lowered_apart o n rs held_tidy some all m with_added first long few zero_o left (m - 1)
+        (lowered_is o n rs held_tidy some all m with_added first long few zero_o (range 0 0) _ left (length-part 0 m all long few) low)
+
+  module _ (far : o ≡ 0 → ⊥) (fits : m ≤ 4) (left : List Range) (left_is : left ≡ take 4 all) where
+    same_first : take m left ≡ take m all
+    same_first = ap (λ (l : List Range). take m l) left_is ∙ take_of_take m 4 all fits
+
+    pub added_apart : Apart 1 (take m left)
+    added_apart = subst (λ (l : List Range). Apart 1 l) (sym same_first) (joined_apart o n rs held_tidy some all m with_added first long few far)
+
+    pub added : take m left ≡ cond (is_refused o n rs) rs (ranges_after o n rs)
+    added =
+        same_first ∙ sym (joined_is o n rs held_tidy some all m with_added first long few far)
+        ∙ ap (λ b. cond b rs (ranges_after o n rs)) (sym (refused_is o n rs held_tidy some all m with_added first long few far ∙ le-ltb 4 m fits))

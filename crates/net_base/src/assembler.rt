@@ -81,6 +81,7 @@ impl Assembler {
     /// answered, and the other offsets fall by this length. The length is 0 where offset 0 was not added.
     ///
     /// Refused exactly where `offset` is not 0 and the addition would make a fifth range; then nothing changes.
+    #[tactic(auto, using(crate::proofs::Sets::front_answered, crate::proofs::Sets::front_apart, crate::proofs::Sets::added_apart, crate::proofs::Sets::added))]
     pub fn add_then_remove_front(
         &mut self,
         offset: usize,
@@ -158,7 +159,8 @@ pub fn refuses_a_fifth_range()
 pub fn joins()
     ensures { (rs : List Range) (spare ys : List ℕ) (o : ℕ) → IsKept rs (length spare) → 0 < length ys
         → o + length ys ≤ length spare → is_refused o (length ys) rs ≡ false
-        → Joins rs spare o ys (run_after o (length ys) rs) (ranges_after o (length ys) rs) (drop (run_after o (length ys) rs) (overwrite spare o ys)) }
+        → Joins rs spare o ys (run_after o (length ys) rs) (ranges_after o (length ys) rs) (drop
+        (run_after o (length ys) rs) (overwrite spare o ys)) }
 {}
 
 // The ranges counted from the offset `by`.

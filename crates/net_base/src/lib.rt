@@ -7,3 +7,8 @@ pub mod ring_buffer;
 #[cfg(test)]
 mod tests;
 pub mod time;
+
+pub use assembler::{Assembler, TooManyHoles};
+pub use packet_buffer::{PacketBuffer, PacketMetadata};
+pub use ring_buffer::RingBuffer;
+pub use time::{Duration, Instant};

@@ -2,11 +2,11 @@
 //!
 //! A packet's bytes stand in one piece. Where they don't fit before the end of the payload storage but fit at its
 //! beginning, the bytes up to the end become padding: an entry with no header, which is in no list of packets.
-ghost use Rattle.std.specs.Prelude.{◌≡◌, ℕ, ◌+◌, ◌-◌, ◌<◌, ◌≤◌, ◌==◌, ◌&&◌, ◌||◌, nat_lt, nat_le, ◌⊎◌, ◌↔◌, List, [], ◌∷◌, ◌++◌, length, take, drop, min, true, false, Some, None, IfOk, IfSome, OnErr, IfNone, IsOk, IsSome, IsTrue, slice_get, if◌then◌else◌};
-ghost use Rattle.std.specs.Fn.{FnOnceReturnsAtMut, FnOnceReturnsAt};
+ghost use Rattle.std.specs.Prelude.{◌≡◌, ℕ, ◌+◌, ◌-◌, ◌<◌, ◌≤◌, ◌==◌, ◌&&◌, nat_le, ◌↔◌, List, [], length, take, drop, min, true, false, Some, None, IfOk, IfSome, OnErr, IsOk, IsSome, IsTrue, if◌then◌else◌};
+ghost use Rattle.std.specs.Fn.{FnOnceReturnsAtMut};
 ghost use Rattle.std.specs.Borrow.{sem};
 ghost use Rattle.net_base.specs.Ring.{LeavesRun};
-ghost use Rattle.net_base.specs.Packets.{Packets, packets_with, packets, taken, place_of, end_of, run_of, room_of, first_bytes, first_header, starts_padded, without_first, skipped, appended, restarted, fits_behind, fits_before, fits, padded_for, made_room, takes, first_packet, Dequeues, WritesBoth, WritesFirst, TakesFirst, AppendsWith, Enqueues};
+ghost use Rattle.net_base.specs.Packets.{Packets, packets_with, packets, taken, end_of, run_of, room_of, first_bytes, first_header, starts_padded, without_first, skipped, appended, restarted, fits, padded_for, made_room, takes, first_packet, Dequeues, WritesBoth, WritesFirst, TakesFirst, AppendsWith, Enqueues};
 
 use crate::ring_buffer::{RingBuffer, place};
 use std::marker::Model;

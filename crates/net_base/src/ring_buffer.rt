@@ -1,5 +1,5 @@
 //! A queue over a lent slice, which goes around its end. As smoltcp's ring buffer.
-ghost use Rattle.std.specs.Prelude.{◌≡◌, ℕ, ◌+◌, ◌-◌, ◌<◌, ◌≤◌, ◌==◌, ◌⊎◌, List, [], ◌∷◌, ◌++◌, length, take, drop, min};
+ghost use Rattle.std.specs.Prelude.{◌≡◌, ◌+◌, ◌-◌, ◌<◌, ◌≤◌, ◌==◌, ◌⊎◌, List, [], ◌∷◌, ◌++◌, length, take, drop, min};
 ghost use Rattle.std.specs.Fn.{FnOnceReturnsAtMut, FnOnceReturnsAt};
 ghost use Rattle.net_base.specs.Ring.{ring, capacity_of, overwrite, cells_from, Restarted, Appends, Clears, DequeuesWith, EnqueuesWith, LeavesRun};
 
