@@ -10,7 +10,8 @@ use Rattle.ip_wire.specs.declared.address.IpAddress.TheVariants as address
 use Rattle.ip_wire.specs.declared.protocol.IpVersion.{IpVersion}
 use Rattle.ip_wire.specs.declared.protocol.IpVersion.TheVariants as version
 use Rattle.sock_core.specs.Facts.{Facts}
-use Rattle.sock_dgram.specs.Udp.{View, is_open, known_source, is_possible_source, is_sendable, same_version}
+use Rattle.ip_wire.specs.Address.{same_version}
+use Rattle.sock_dgram.specs.Udp.{View, is_open, known_source, is_possible_source, is_sendable}
 use Rattle.sock_dgram.specs.UdpDispatch.{chosen_source, source_of}
 use Rattle.sock_dgram.specs.declared.udp.socket.UdpMetadata.{UdpMetadata}
 

@@ -1,9 +1,8 @@
 -- What contracts see of a UDP socket, and what its calls do to it.
-use Rattle.std.specs.Prelude.{ℕ, ◌≡◌, ◌⊎◌, ⊤, List, Option, None, Some, Result, Ok, Err, Bool, true, false, not, ◌==◌, ◌&&◌, if◌then◌else◌}
-use Rattle.ip_wire.specs.Address.{is_unspecified, is_multicast}
+use Rattle.std.specs.Prelude.{ℕ, ◌≡◌, ◌⊎◌, ⊤, List, Option, None, Some, Result, Ok, Err, Bool, true, not, ◌==◌, ◌&&◌, if◌then◌else◌}
+use Rattle.ip_wire.specs.Address.{is_unspecified, is_multicast, same_version}
 use Rattle.ip_wire.specs.IpHeader.{src_addr_of, dst_addr_of}
 use Rattle.ip_wire.specs.declared.address.IpAddress.{IpAddress}
-use Rattle.ip_wire.specs.declared.address.IpAddress.TheVariants as address
 use Rattle.ip_wire.specs.declared.endpoint.IpListenEndpoint.{IpListenEndpoint}
 use Rattle.ip_wire.specs.declared.repr.IpRepr.{IpRepr}
 use Rattle.control_wire.specs.declared.udp.UdpRepr.{UdpRepr}
@@ -55,11 +54,6 @@ abbrev pub closed : View → View
 closed v = record v { endpoint = no_endpoint; rx_buffer = emptied v.rx_buffer; tx_buffer = emptied v.tx_buffer }
 
 -- ---- sending
-
-abbrev pub same_version : IpAddress → IpAddress → Bool
-same_version (address.Ipv4 a) (address.Ipv4 b) = true
-same_version (address.Ipv6 a) (address.Ipv6 b) = true
-same_version _ _ = false
 
 -- the source that is known before the context is asked: the address given, else the bound one
 abbrev pub known_source : Option IpAddress → Option IpAddress → Option IpAddress

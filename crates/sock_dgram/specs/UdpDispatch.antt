@@ -10,7 +10,8 @@ use Rattle.control_wire.specs.declared.udp.UdpRepr.{UdpRepr}
 use Rattle.net_base.specs.Packets.{first_packet, Dequeues, skipped}
 use Rattle.sock_core.specs.Facts.{Facts}
 use Rattle.sock_core.specs.Emission.{Emit, Emits}
-use Rattle.sock_dgram.specs.Udp.{View, waiting, known_source, same_version}
+use Rattle.ip_wire.specs.Address.{same_version}
+use Rattle.sock_dgram.specs.Udp.{View, waiting, known_source}
 use Rattle.sock_dgram.specs.declared.udp.socket.UdpMetadata.{UdpMetadata}
 
 -- the hop limit where none is set (RFC 1122, section 3.2.1.7)

@@ -4,7 +4,8 @@ ghost use Rattle.std.specs.Option.{ForSome};
 ghost use Rattle.ip_wire.specs.Address.{SameVersion};
 ghost use Rattle.ip_wire.specs.declared.address.IpAddress.{IpAddress};
 ghost use Rattle.sock_core.specs.Facts.{Facts};
-ghost use Rattle.sock_dgram.specs.Udp.{View, is_sendable, same_version};
+ghost use Rattle.ip_wire.specs.Address.{same_version};
+ghost use Rattle.sock_dgram.specs.Udp.{View, is_sendable};
 ghost use Rattle.sock_dgram.specs.UdpDispatch.{source_of};
 ghost use Rattle.sock_dgram.specs.declared.udp.socket.UdpMetadata.{UdpMetadata};
 
