@@ -91,8 +91,12 @@ fn raw_truncated_slices(rt: HostRuntime) -> Result<(), Fail> {
     let mut received = PacketBuffer::new(&mut places, &mut bytes);
     for packet in [b"abcdef".as_slice(), b"xyz".as_slice()] {
         match received.enqueue(packet.len(), ()) {
-            Ok(lent) if lent.len() == packet.len() => lent.copy_from_slice(packet),
-            _ => assert!(rt; false),
+            Ok(lent) => {
+                if lent.len() == packet.len() {
+                    lent.copy_from_slice(packet);
+                }
+            }
+            Err(_) => assert!(rt; false),
         }
     }
     let mut socket = Socket::new(None, None, received, PacketBuffer::new(&mut [], &mut []));
