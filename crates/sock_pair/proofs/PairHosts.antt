@@ -4,6 +4,7 @@ use Rattle.std.specs.Prelude.{IsTrue, not, min, ◌==◌, if◌then◌else◌}
 use Rattle.ip_wire.specs.Address.{SameVersion}
 use Rattle.ip_wire.specs.declared.endpoint.IpEndpoint.{IpEndpoint}
 use Rattle.sock_core.specs.Facts.{Facts}
+use Rattle.sock_core.specs.Received.{Received}
 use Rattle.sock_tcp.specs.Queue.{Queue}
 use Rattle.sock_tcp.specs.View.{View, fresh}
 use Rattle.sock_tcp.specs.Due.{Begun, begun, begun_to, before_emit, before_emit_to, ended}
@@ -123,18 +124,18 @@ host_at B p i = i.b
 
 -- ---- a new pair
 
-new_idle : (rx tx : Queue) → rx.bytes ≡ [] → tx.bytes ≡ [] → IsIdle (fresh rx tx)
+new_idle : (rx : Received) (tx : Queue) → rx.bytes ≡ [] → tx.bytes ≡ [] → IsIdle (fresh rx tx)
 unfolding fresh
 new_idle rx tx r t = record { state = refl; tuple = refl; rx = r; tx = t }
 
-new_fin : (rx tx : Queue) → (fresh rx tx).rx_fin_received ≡ false
+new_fin : (rx : Received) (tx : Queue) → (fresh rx tx).rx_fin_received ≡ false
 unfolding fresh
 new_fin rx tx = refl
 
-new_is_host : (rx tx : Queue) (e : IpEndpoint) → rx.bytes ≡ [] → tx.bytes ≡ [] → IsReachable e → IsHost (new_host (fresh rx tx) e)
+new_is_host : (rx : Received) (tx : Queue) (e : IpEndpoint) → rx.bytes ≡ [] → tx.bytes ≡ [] → IsReachable e → IsHost (new_host (fresh rx tx) e)
 new_is_host rx tx e r t i = record { reachable = i; idle = λ u. new_idle rx tx r t; passive = λ shut live. absurd (shut refl); no_fin = new_fin rx tx }
 
-pub new_is_pair : (arx atx brx btx : Queue) (a b : IpEndpoint) (limit : Option ℕ) (ha hb : HostView) (ts : List StoredView) → ha ≡ new_host (fresh arx atx) a → hb ≡ new_host (fresh brx btx) b → ts ≡ [] → arx.bytes ≡ [] → atx.bytes ≡ [] → brx.bytes ≡ [] → btx.bytes ≡ [] → IsReachable a → IsReachable b → SameVersion a.addr b.addr → IsLimit limit → IsPair (record { a = ha; b = hb; segments = ts; limit = limit })
+pub new_is_pair : (arx : Received) (atx : Queue) (brx : Received) (btx : Queue) (a b : IpEndpoint) (limit : Option ℕ) (ha hb : HostView) (ts : List StoredView) → ha ≡ new_host (fresh arx atx) a → hb ≡ new_host (fresh brx btx) b → ts ≡ [] → arx.bytes ≡ [] → atx.bytes ≡ [] → brx.bytes ≡ [] → btx.bytes ≡ [] → IsReachable a → IsReachable b → SameVersion a.addr b.addr → IsLimit limit → IsPair (record { a = ha; b = hb; segments = ts; limit = limit })
 new_is_pair arx atx brx btx a b limit ha hb ts ea eb et r1 t1 r2 t2 ia ib v l =
     subst (λ h. IsPair (record { a = h; b = hb; segments = ts; limit = limit })) (sym ea)
     (subst (λ h. IsPair (record { a = new_host (fresh arx atx) a; b = h; segments = ts; limit = limit })) (sym eb)

@@ -1,6 +1,7 @@
 -- What the invariant of a pair promises.
 use Rattle.std.proofs.Common.{◌≡◌, ℕ, Bool, true, false, List, ◌++◌, Option, Some, None, refl, sym, ap, subst, ◌∙◌}
 use Rattle.std.specs.Prelude.{slice_get, Result, Ok, Err, IfOk}
+use Rattle.sock_core.specs.Received.{JoinsAtOnce}
 use Rattle.sock_core.specs.Streams.{IsPrefix}
 use Rattle.sock_pair.specs.NetworkRuns as network
 use Rattle.sock_pair.specs.PairInvariant.{IsHost, IsPair}
@@ -62,7 +63,7 @@ prompt false s m t o reply h h' ks ks' is d = go d.accepted d.does
   where
     go : (b : Bool) → DeliversIf b s m t o h ks h' ks' → IsPrompt t h h'
     go false x = let no : outcome.NotAccepted None ≡ outcome.Delivered reply = sym x.0 ∙ is in cc
-    go true x = record { queued = λ i. ap (λ (k : HostView). k.control_block.rx_buffer.bytes) x.host ∙ queued_at_once h.control_block _ m.word t.ip t.segment i }
+    go true x = record { queued = λ i some. subst (λ (k : HostView). JoinsAtOnce h.control_block.rx_buffer k.control_block.rx_buffer t.segment.payload) (sym x.host) (queued_at_once h.control_block _ m.word t.ip t.segment i some) }
 
 exchanged_host : (s : Side) (p : PairView) (h : HostView) (ks : List StoredView) → host_of s (exchanged s p h ks) ≡ h
 exchanged_host A p h ks = refl

@@ -8,6 +8,7 @@ use Rattle.ip_wire.specs.declared.endpoint.IpEndpoint.{IpEndpoint}
 use Rattle.ip_wire.specs.declared.repr.IpRepr.{IpRepr}
 use Rattle.control_wire.specs.Segment.{Segment}
 use Rattle.sock_core.specs.Facts.{Facts}
+use Rattle.sock_core.specs.Received.{room_of}
 use Rattle.sock_tcp.specs.Queue.{capacity}
 use Rattle.sock_tcp.specs.View.{View}
 use Rattle.sock_tcp.specs.Queues.{may_send, may_recv, written}
@@ -77,7 +78,7 @@ reply_stamped e (Some x) a is =
     let same : stream_segment x.1 e.released e.taken ≡ a = cc in
     subst (IsStamped e) same (record { released = omega arith; taken = omega arith })
 
-module _ (s : Side) (h o : HostView) (ks : List StoredView) (limit : Option ℕ) (m : Moment) (t : StoredView) (w : m.word < 2 ^ 32) (small : IsSmall t.segment) (there : Contains ks t) (from_other : t.emitter ≡ other_side s) (room : capacity h.control_block.rx_buffer ≤ 2 ^ 30) (young : is_old o t ≡ false) (accepted : Accepts h.control_block t.ip t.segment) where
+module _ (s : Side) (h o : HostView) (ks : List StoredView) (limit : Option ℕ) (m : Moment) (t : StoredView) (w : m.word < 2 ^ 32) (small : IsSmall t.segment) (there : Contains ks t) (from_other : t.emitter ≡ other_side s) (room : room_of h.control_block.rx_buffer ≤ 2 ^ 30) (young : is_old o t ≡ false) (accepted : Accepts h.control_block t.ip t.segment) where
   -- the segments, once the reply is stored
   abbrev with_reply : List StoredView
   with_reply = ks ++ kept_at s (processed_by h m t).reply (delivered_to h m t).released (delivered_to h m t).taken
@@ -257,7 +258,7 @@ module _ (s : Side) (p : PairView) (host : IsHost (host_of s p)) (i : IsInvarian
       (dispatches_in s (host_of s p) (host_of (other_side s) p) p.segments p.limit k.control_block (facts_of m) fail e.sent e.does.socket (host_of s p).opening host.idle (from_side s p i))))
 
   -- t is a segment of the other side, and the receive buffer has at most 2^30 bytes
-  pub deliver_reaches : (m : Moment) (t : StoredView) (o : Outcome) (k : HostView) (ks : List StoredView) → m.word < 2 ^ 32 → IsSmall t.segment → Contains p.segments t → t.emitter ≡ other_side s → capacity (host_of s p).control_block.rx_buffer ≤ 2 ^ 30
+  pub deliver_reaches : (m : Moment) (t : StoredView) (o : Outcome) (k : HostView) (ks : List StoredView) → m.word < 2 ^ 32 → IsSmall t.segment → Contains p.segments t → t.emitter ≡ other_side s → room_of (host_of s p).control_block.rx_buffer ≤ 2 ^ 30
       → DeliversTo (is_old (host_of t.emitter p) t) s m t o (host_of s p) p.segments k ks → Reaches (network_of p) (network_of (exchanged s p k ks))
   deliver_reaches m t o k ks w small there from_other room e = go (is_old (host_of t.emitter p) t) refl e
     where
@@ -291,7 +292,7 @@ module _ (s : Side) (p : PairView) (host : IsHost (host_of s p)) (i : IsInvarian
   pub dispatch_keeps : (m : Moment) (fail : Bool) (o : Outcome) (k : HostView) (ks : List StoredView) → Dispatches s m fail o (host_of s p) p.segments k ks → IsInvariant (network_of (exchanged s p k ks))
   dispatch_keeps m fail o k ks e = reach_keeps _ _ (dispatch_reaches m fail o k ks e) i
 
-  pub deliver_keeps : (m : Moment) (t : StoredView) (o : Outcome) (k : HostView) (ks : List StoredView) → m.word < 2 ^ 32 → IsSmall t.segment → Contains p.segments t → t.emitter ≡ other_side s → capacity (host_of s p).control_block.rx_buffer ≤ 2 ^ 30
+  pub deliver_keeps : (m : Moment) (t : StoredView) (o : Outcome) (k : HostView) (ks : List StoredView) → m.word < 2 ^ 32 → IsSmall t.segment → Contains p.segments t → t.emitter ≡ other_side s → room_of (host_of s p).control_block.rx_buffer ≤ 2 ^ 30
       → DeliversTo (is_old (host_of t.emitter p) t) s m t o (host_of s p) p.segments k ks → IsInvariant (network_of (exchanged s p k ks))
   deliver_keeps m t o k ks w small there from_other room e = reach_keeps _ _ (deliver_reaches m t o k ks w small there from_other room e) i
 

@@ -2,6 +2,8 @@
 use Rattle.std.proofs.Common.{◌≡◌, ℕ, ◌+◌, ◌%◌, ◌^◌, ◌≤◌, true, false, refl, arith, List, ◌++◌, length, drop, take, length-drop}
 use Rattle.std.specs.Prelude.{min}
 use Rattle.ip_wire.specs.declared.endpoint.IpListenEndpoint.{IpListenEndpoint}
+use Rattle.sock_core.proofs.Receiving.{held_stays, none_held}
+use Rattle.sock_core.specs.Received.{handed_out, cleared}
 use Rattle.sock_tcp.specs.View.{View, fresh}
 use Rattle.sock_tcp.specs.Opening.{listened, connected, renewed}
 use Rattle.sock_tcp.specs.Queues.{may_send, queued, written, read_off}
@@ -13,12 +15,12 @@ use Rattle.sock_pair.specs.PairNetwork.{phase_of, shown}
 use Rattle.sock_pair.specs.StreamViews.{Listening, SynSent, Open}
 
 pub listened_shows : (v : View) (e : IpListenEndpoint) → shown (listened v e) ≡ record unopened.view { phase = Listening }
-unfolding listened renewed fresh
-listened_shows v e = refl
+unfolding listened renewed fresh cleared
+listened_shows v e = λ i. record unopened.view { phase = Listening; held = λ k. none_held v.rx_buffer k i }
 
 pub connected_shows : (v : View) (t : Tuple) (word : ℕ) → shown (connected v t word) ≡ record unopened.view { phase = SynSent; snd_una = word; snd_nxt = word }
-unfolding connected renewed fresh
-connected_shows v t word = refl
+unfolding connected renewed fresh cleared
+connected_shows v t word = λ i. record unopened.view { phase = SynSent; snd_una = word; snd_nxt = word; held = λ k. none_held v.rx_buffer k i }
 
 pub written_shows : (v : View) (bs : List ℕ) → shown (written v bs) ≡ record (shown v) { transmit_queue = v.tx_buffer.bytes ++ take (min (length bs) v.tx_buffer.window) bs }
 unfolding queued
@@ -26,8 +28,8 @@ written_shows v bs = refl
 
 -- RCV.NXT stays where it is
 pub read_shows : (v : View) (n : ℕ) → n ≤ length v.rx_buffer.bytes → shown (read_off v n) ≡ record (shown v) { receive_queue = drop n v.rx_buffer.bytes }
-unfolding read_off
-read_shows v n le = λ i. record (shown v) { rcv_nxt = same i; receive_queue = drop n v.rx_buffer.bytes }
+unfolding read_off handed_out
+read_shows v n le = λ i. record (shown v) { rcv_nxt = same i; receive_queue = drop n v.rx_buffer.bytes; held = λ k. held_stays v.rx_buffer n k i }
   where
     same : ((v.remote_seq_no.0 + n) % 2 ^ 32 + length (drop n v.rx_buffer.bytes)) % 2 ^ 32 ≡ (v.remote_seq_no.0 + length v.rx_buffer.bytes) % 2 ^ 32
     same = omega (arith, le, length-drop n v.rx_buffer.bytes)

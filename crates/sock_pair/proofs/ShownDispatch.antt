@@ -10,6 +10,7 @@ use Rattle.control_wire.specs.declared.tcp.TcpControl.{TcpControl}
 use Rattle.control_wire.specs.declared.tcp.TcpControl.TheVariants as control
 use Rattle.sock_core.specs.Places.{later_number}
 use Rattle.sock_core.specs.Seq.{later_of}
+use Rattle.sock_core.specs.Received.{cleared}
 use Rattle.sock_core.specs.Streams.{IsPrefix}
 use Rattle.sock_tcp.specs.Queue.{IsLent}
 use Rattle.sock_tcp.specs.View.{View, moment_of, fresh}
@@ -39,7 +40,7 @@ dated_shows v now (Some t) = refl
 
 -- the beginning changes nothing that is seen, or the socket is reset
 begins_to : (v : View) (f : Facts) (o : Option Tuple) → DispatchEffect (shown v) (shown (begun_to o v f).view)
-unfolding renewed fresh last_ts_set
+unfolding renewed fresh last_ts_set cleared
 begins_to v f None = Same refl
 begins_to v f (Some t) = two (f.has_address t.local.addr)
   where

@@ -1,6 +1,6 @@
 -- What `process` does to a socket is an effect of a segment on the two streams.
-use Rattle.std.proofs.Common.{◌≡◌, ℕ, ◌+◌, ◌-◌, ◌*◌, ◌%◌, ◌^◌, ◌<◌, ◌≤◌, Bool, true, false, refl, sym, ap, subst, ◌∙◌, arith, List, [], ◌++◌, length, drop, length-append, Option, Some, None, inl, inr}
-use Rattle.std.specs.Prelude.{◌&&◌, nat_le, option_map, if◌then◌else◌}
+use Rattle.std.proofs.Common.{◌≡◌, ℕ, ◌+◌, ◌-◌, ◌*◌, ◌%◌, ◌^◌, ◌<◌, ◌≤◌, Bool, true, false, refl, sym, ap, subst, ◌∙◌, arith, List, [], ◌∷◌, ◌++◌, length, drop, length-append, Option, Some, None, inl, inr}
+use Rattle.std.specs.Prelude.{◌==◌, ◌&&◌, ◌⊎◌, nat_le, option_map, if◌then◌else◌}
 use Rattle.std.proofs.lemmas.Bool.{eqb-true}
 use Rattle.std.proofs.lemmas.Bool.Decides.{nat_tests}
 use Rattle.std.proofs.lemmas.List.{append-nil}
@@ -13,11 +13,13 @@ use Rattle.control_wire.specs.declared.tcp.TcpControl.{TcpControl}
 use Rattle.control_wire.specs.declared.tcp.TcpControl.TheVariants as control
 use Rattle.sock_core.specs.Places.{number_distance, number_is_before, later_number}
 use Rattle.sock_core.specs.Seq.{is_before, later_of}
-use Rattle.sock_tcp.specs.Queue.{capacity}
+use Rattle.sock_core.proofs.Receiving.{takes_in_all}
+use Rattle.sock_core.specs.Received.{Received, room_of, taken_in, byte_at, is_turned_away, TakesIn}
+use Rattle.sock_core.specs.Streams.{fin_length}
 use Rattle.sock_tcp.specs.View.{View}
 use Rattle.sock_tcp.specs.Verdict.{verdict_at, verdict_of}
 use Rattle.sock_tcp.specs.Window.{next_ack, window_end, receive_window, is_next_in_window}
-use Rattle.sock_tcp.specs.Steps.{Advance, acked_len, advanced, advance_in, stops, syn_received, syn_answered, syn_sent_advance, options_taken, window_taken, released, una_advanced, joined, segment_taken}
+use Rattle.sock_tcp.specs.Steps.{Advance, acked_len, advanced, advance_in, stops, syn_received, syn_answered, syn_sent_advance, options_taken, window_taken, released, una_advanced, brought, joined, segment_taken}
 use Rattle.sock_tcp.specs.Process.{Outcome, stopped, tuple_of, has_window, after_advance, processed_inside, tested, by_verdict, processed, Accepts}
 use Rattle.sock_tcp.specs.declared.state.State.{State}
 use Rattle.sock_tcp.specs.declared.state.State.TheVariants as state
@@ -29,7 +31,7 @@ use Rattle.sock_pair.specs.PairLaws.{IsBounded}
 use Rattle.sock_pair.specs.PairNetwork.{phase_of, shown, stream_segment, is_passive, is_rst, is_syn, IsSmall}
 use Rattle.sock_pair.specs.StreamCalls.{HearEffect, ProcessEffect, Nothing, Syn, SynAck, Acknowledgement}
 use Rattle.sock_pair.specs.StreamEffects.{HearsData}
-use Rattle.sock_pair.specs.StreamTables.{OfBytes, OfSyn}
+use Rattle.sock_pair.specs.StreamTables.{Gathers, GathersNothing, OfBytes, OfSyn}
 use Rattle.sock_pair.specs.StreamViews as phase
 use Rattle.sock_pair.specs.StreamViews.{SocketView, StreamSegment, HasIss, KnowsPeer, IsSynchronized, IsNonSynchronized}
 use Rattle.sock_pair.proofs.StreamCut.{whole_hears}
@@ -66,51 +68,80 @@ both false b e = cc
 -- ---- the receive window
 
 -- the window is at most the free space
-end_within : (v : View) (o : Option TcpSeqNumber) → v.rx_buffer.window ≤ 2 ^ 30 → seq_sub (window_end v o) (next_ack v) ≤ 2 ^ 30
+end_within : (v : View) (o : Option TcpSeqNumber) → length v.rx_buffer.held ≤ 2 ^ 30 → seq_sub (window_end v o) (next_ack v) ≤ length v.rx_buffer.held
 end_within v None room = omega arith
-end_within v (Some ack) room =
-    let k : seq_sub (window_end v (Some ack)) (next_ack v) ≤ v.rx_buffer.window = kept_within (next_ack v) (seq_add ack (v.remote_last_win * 2 ^ v.remote_win_shift)) v.rx_buffer.window (omega arith) (omega arith) room in
-    omega (arith, k, room)
+end_within v (Some ack) room = kept_within (next_ack v) (seq_add ack (v.remote_last_win * 2 ^ v.remote_win_shift)) (length v.rx_buffer.held) (omega arith) (omega arith) room
 
--- what is in order starts at RCV.NXT, and is short
+-- what is in order starts at RCV.NXT, and fits
 pub record InOrder (v : View) (s : Segment) : Type 0 where
   pub starts : s.seq_number.0 ≡ (next_ack v).0
-  pub short : length s.payload ≤ 2 ^ 30
+  pub fits : length s.payload ≤ length v.rx_buffer.held
 
-pub in_order : (v : View) (s : Segment) → capacity v.rx_buffer ≤ 2 ^ 30 → is_next_in_window (receive_window v) s.seq_number (length s.payload) ≡ true → InOrder v s
+pub in_order : (v : View) (s : Segment) → room_of v.rx_buffer ≤ 2 ^ 30 → is_next_in_window (receive_window v) s.seq_number (length s.payload) ≡ true → InOrder v s
 unfolding receive_window is_next_in_window
 in_order v s room e =
     let t : (seq_eq s.seq_number (next_ack v) ≡ true) × (nat_le (length s.payload) (seq_sub (window_end v v.remote_last_ack) (next_ack v)) ≡ true) = both _ _ e in
-    let w : seq_sub (window_end v v.remote_last_ack) (next_ack v) ≤ 2 ^ 30 = end_within v v.remote_last_ack (omega (arith, room)) in
+    let w : seq_sub (window_end v v.remote_last_ack) (next_ack v) ≤ length v.rx_buffer.held = end_within v v.remote_last_ack (omega (arith, room)) in
     let le : length s.payload ≤ seq_sub (window_end v v.remote_last_ack) (next_ack v) = grind (arith, nat_tests, t.1) in
-    record { starts = same_number s.seq_number (next_ack v) t.0; short = omega (arith, le, w) }
+    record { starts = same_number s.seq_number (next_ack v) t.0; fits = omega (arith, le, w) }
 
--- the same of a socket that holds nothing out of order and counted no FIN
-heard_whole : (x y : SocketView) (g : StreamSegment) → g.seq ≡ x.rcv_nxt → length g.payload ≤ 2 ^ 30 → ((k b : ℕ) → x.held k ≡ Some b → ⊥) → y.held ≡ x.held → y.receive_queue ≡ x.receive_queue ++ g.payload → x.fin_counted ≡ false → y.fin_counted ≡ false → y.rcv_nxt ≡ (x.rcv_nxt + length g.payload) % 2 ^ 32 → HearsData x y g
-heard_whole x y g start short none held queue no_fin no_fin' nxt = whole_hears x y g (record {
+-- ---- what joins at RCV.NXT
+
+-- nothing comes, or bytes come that join with what was held behind them
+pub data Comes (b c : Received) (bs : List ℕ) : Type 0 where
+  NoBytes : bs ≡ [] → c ≡ b → Comes b c bs
+  Joins : TakesIn b c 0 bs → Comes b c bs
+
+in_front : (b : Received) (bs : List ℕ) → length bs ≤ length b.held → TakesIn b (taken_in b 0 bs) 0 bs
+unfolding is_turned_away
+in_front b bs fits = takes_in_all b 0 bs (omega (arith, fits)) refl
+
+empty_list : (bs : List ℕ) → (length bs == 0) ≡ true → bs ≡ []
+empty_list [] e = refl
+empty_list (x ∷ bs) e = absurd (omega (arith, eqb-true (length (x ∷ bs)) 0 e))
+
+comes : (b : Received) (bs : List ℕ) → length bs ≤ length b.held → Comes b (brought b 0 bs) bs
+comes b bs fits = go (length bs == 0) refl
+  where
+    go : (t : Bool) → (length bs == 0) ≡ t → Comes b (if t then b else taken_in b 0 bs) bs
+    go true e = NoBytes (empty_list bs e) refl
+    go false e = Joins (in_front b bs fits)
+
+grows : (b c : Received) (bs : List ℕ) → Comes b c bs → length b.bytes ≤ length c.bytes
+grows b c bs (NoBytes e same) = omega (arith, ap (λ (z : Received). length z.bytes) same)
+grows b c bs (Joins t) = omega (arith, ap length t.queue, length-append b.bytes t.run)
+
+abbrev with_received : SocketView → Received → SocketView
+with_received x b = record x { receive_queue = b.bytes; held = byte_at b.held }
+
+-- so a segment at RCV.NXT is heard, with no FIN counted
+heard_whole : (x y : SocketView) (g : StreamSegment) (b c : Received) → Comes b c g.payload → g.seq ≡ x.rcv_nxt → length g.payload ≤ 2 ^ 30 → y.fin_counted ≡ x.fin_counted → y.rcv_nxt ≡ (x.rcv_nxt + (length c.bytes - length b.bytes) + 0) % 2 ^ 32 → HearsData (with_received x b) (with_received y c) g
+heard_whole x y g b c come start short fin nxt = whole_hears (with_received x b) (with_received y c) g (record {
   in_order = start;
   short = short;
-  none_held = none;
-  receive_queue = queue;
-  held = held;
-  fin = λ e. let no : true ≡ false = sym e ∙ no_fin' in cc;
-  kept = λ e. let no : true ≡ false = sym e ∙ no_fin in cc;
+  joins = joins come;
+  fin = λ e. inl (sym fin ∙ e);
+  kept = λ e. fin ∙ e;
   fins = 0;
-  fin_counts = rw (no_fin, no_fin') refl;
-  rcv_nxt = nxt ∙ ap (λ n. n % 2 ^ 32) (omega arith);
+  fin_counts = omega (arith, ap fin_length fin);
+  rcv_nxt = nxt;
 })
+  where
+    joins : Comes b c g.payload → GathersNothing (with_received x b) (with_received y c) g.payload ⊎ Gathers (with_received x b) (with_received y c) 0 g.payload
+    joins (NoBytes e same) = inl (record { none = e; receive_queue = ap (λ (z : Received). z.bytes) same; held = ap (λ (z : Received). byte_at z.held) same })
+    joins (Joins t) = inr (record { more = t.run; receive_queue = t.queue; run = t.joined; stops = t.stops; held = t.held })
 
 -- ---- process
 
 -- RCV.NXT moves by what joins
-nxt_joins : (r m n k : ℕ) → k ≡ m + n → (r + k) % 2 ^ 32 ≡ ((r + m) % 2 ^ 32 + n) % 2 ^ 32
-nxt_joins r m n k e = omega arith
+nxt_joins : (r m k : ℕ) → m ≤ k → (r + k) % 2 ^ 32 ≡ ((r + m) % 2 ^ 32 + (k - m) + 0) % 2 ^ 32
+nxt_joins r m k e = omega arith
 
 -- without bytes it stays
 nxt_alone : (r k : ℕ) → k ≡ 0 → ((r + 1) % 2 ^ 32 + k) % 2 ^ 32 ≡ (r + 1) % 2 ^ 32
 nxt_alone r k e = omega arith
 
-module _ (listener : Bool) (v : View) (now : Instant) (word : ℕ) (ip : IpRepr) (s : Segment) (at_release at_take : ℕ) (word_small : word < 2 ^ 32) (small : IsSmall s) (room : capacity v.rx_buffer ≤ 2 ^ 30) (bounds : IsBounded v) where
+module _ (listener : Bool) (v : View) (now : Instant) (word : ℕ) (ip : IpRepr) (s : Segment) (at_release at_take : ℕ) (word_small : word < 2 ^ 32) (small : IsSmall s) (room : room_of v.rx_buffer ≤ 2 ^ 30) (bounds : IsBounded v) where
   abbrev the_segment : StreamSegment
   the_segment = stream_segment s at_release at_take
 
@@ -142,9 +173,9 @@ module _ (listener : Bool) (v : View) (now : Instant) (word : ℕ) (ip : IpRepr)
   passes st c o = verdict_at st c o v.local_seq_no queued ≡ verdicts.Pass
 
   -- what the acknowledgement o comes to is what the segment's comes to
-  by_ack : (u : View) (n : ℕ) (bs : List ℕ) (o : Option TcpSeqNumber) → s.ack_number ≡ o → IsEffect (stopped (joined (una_advanced (released (window_taken u now s.control s.window_len) n) o) bs)) → IsEffect (stopped (segment_taken u now n bs s))
+  by_ack : (u : View) (n : ℕ) (bs : List ℕ) (o : Option TcpSeqNumber) → s.ack_number ≡ o → IsEffect (stopped (joined (una_advanced (released (window_taken u now s.control s.window_len) n) o) 0 bs)) → IsEffect (stopped (segment_taken u now n bs s))
   unfolding segment_taken
-  by_ack u n bs o e h = subst (λ o. IsEffect (stopped (joined (una_advanced (released (window_taken u now s.control s.window_len) n) o) bs))) (sym e) h
+  by_ack u n bs o e h = subst (λ o. IsEffect (stopped (joined (una_advanced (released (window_taken u now s.control s.window_len) n) o) 0 bs))) (sym e) h
 
   acks : (o : TcpSeqNumber) → s.ack_number ≡ Some o → the_segment.ack ≡ Some o.0
   acks a e = ap (λ (o : Option TcpSeqNumber). option_map (λ (x : TcpSeqNumber). x.0) o) e
@@ -155,9 +186,9 @@ module _ (listener : Bool) (v : View) (now : Instant) (word : ℕ) (ip : IpRepr)
   unfolding verdict_at acked_len syn_received options_taken window_taken released una_advanced joined
   listen_heard control.Syn None es ec eo p =
       let empty : v.rx_buffer.bytes ≡ [] = bounds.unread (subst (λ st. IsNonSynchronized (phase_of st)) (sym es) tt) in
-      let none : length (v.rx_buffer.bytes ++ []) ≡ 0 = ap length (append-nil v.rx_buffer.bytes ∙ empty) in
+      let none : length v.rx_buffer.bytes ≡ 0 = ap length empty in
       by_ack (syn_received v (tuple_of ip s) word s) 0 [] None eo (Syn word word_small (ap is_rst ec) (ap is_syn ec) (ap phase_of es)
-      (λ i. record (shown v) { phase = phase.SynReceived; snd_una = word; snd_nxt = word; rcv_nxt = nxt_alone s.seq_number.0 (length (v.rx_buffer.bytes ++ [])) none i; receive_queue = append-nil v.rx_buffer.bytes i }))
+      (λ i. record (shown v) { phase = phase.SynReceived; snd_una = word; snd_nxt = word; rcv_nxt = nxt_alone s.seq_number.0 (length v.rx_buffer.bytes) none i }))
   listen_heard control.Syn (Some a) es ec eo p = absurd cc
   listen_heard control.None o es ec eo p = unmoved
   listen_heard control.Psh o es ec eo p = unmoved
@@ -177,13 +208,13 @@ module _ (listener : Bool) (v : View) (now : Instant) (word : ℕ) (ip : IpRepr)
   unfolding verdict_at acked_len syn_answered options_taken window_taken released una_advanced joined
   syn_sent_heard control.Syn (Some a) es ec eo p =
       let empty : v.rx_buffer.bytes ≡ [] = bounds.unread (subst (λ st. IsNonSynchronized (phase_of st)) (sym es) tt) in
-      let none : length (v.rx_buffer.bytes ++ []) ≡ 0 = ap length (append-nil v.rx_buffer.bytes ∙ empty) in
+      let none : length v.rx_buffer.bytes ≡ 0 = ap length empty in
       let b = bounds.sending (subst (λ st. HasIss (phase_of st)) (sym es) tt) in
       let is : a.0 ≡ next_to.0 = same_number a next_to (passed (seq_eq a next_to) verdicts.Reset (λ e. cc) p) in
       let n : seq_sub a v.local_seq_no - 1 ≡ 0 = one_past a b.snd_una (passed (seq_eq a next_to) verdicts.Reset (λ e. cc) p) in
       by_ack (syn_answered v s) (seq_sub a v.local_seq_no - 1) [] (Some a) eo (SynAck (ap is_rst ec) (ap is_syn ec) (ap phase_of es)
       (passes_heard _ _ _ b (OfSyn a.0 (acks a eo) is (inl (ap phase_of es)) refl refl (ap (λ k. drop k v.tx_buffer.bytes) n) (inr (later_same next_to a (sym is)))))
-      refl (nxt_alone s.seq_number.0 (length (v.rx_buffer.bytes ++ [])) none) (append-nil v.rx_buffer.bytes) refl refl)
+      refl (nxt_alone s.seq_number.0 (length v.rx_buffer.bytes) none) refl refl refl)
   syn_sent_heard control.Syn None es ec eo p = unmoved
   syn_sent_heard control.None o es ec eo p = unmoved
   syn_sent_heard control.Psh o es ec eo p = unmoved
@@ -192,9 +223,13 @@ module _ (listener : Bool) (v : View) (now : Instant) (word : ℕ) (ip : IpRepr)
 
   -- ---- SYN-RECEIVED and ESTABLISHED
 
-  -- the queue and RCV.NXT, where the payload joined
-  nxt_moved : (length (v.rx_buffer.bytes ++ s.payload) ≡ length v.rx_buffer.bytes + length s.payload) → (v.remote_seq_no.0 + length (v.rx_buffer.bytes ++ s.payload)) % 2 ^ 32 ≡ ((v.remote_seq_no.0 + length v.rx_buffer.bytes) % 2 ^ 32 + length s.payload) % 2 ^ 32
-  nxt_moved e = nxt_joins v.remote_seq_no.0 (length v.rx_buffer.bytes) (length s.payload) (length (v.rx_buffer.bytes ++ s.payload)) e
+  -- the payload joins
+  module _ (here : InOrder v s) where
+    joined_heard : (y : SocketView) → y.fin_counted ≡ v.rx_fin_received → y.rcv_nxt ≡ (v.remote_seq_no.0 + length (brought v.rx_buffer 0 s.payload).bytes) % 2 ^ 32 → HearsData (shown v) (with_received y (brought v.rx_buffer 0 s.payload)) the_segment
+    joined_heard y fin nxt =
+        let come = comes v.rx_buffer s.payload here.fits in
+        heard_whole (shown v) y the_segment v.rx_buffer (brought v.rx_buffer 0 s.payload) come here.starts (omega (arith, here.fits, room)) fin
+        (nxt ∙ nxt_joins v.remote_seq_no.0 (length v.rx_buffer.bytes) (length (brought v.rx_buffer 0 s.payload).bytes) (grows _ _ _ come))
 
   opened_heard : (n : ℕ) (a : TcpSeqNumber) → v.state ≡ state.SynReceived → is_rst s.control ≡ false → s.ack_number ≡ Some a → seq_eq a next_to ≡ true → n ≡ seq_sub a v.local_seq_no - 1 → InOrder v s → IsEffect (stopped (segment_taken (record v { state = state.Established }) now n s.payload s))
   unfolding window_taken released una_advanced joined
@@ -202,7 +237,7 @@ module _ (listener : Bool) (v : View) (now : Instant) (word : ℕ) (ip : IpRepr)
       let b = bounds.sending (subst (λ st. HasIss (phase_of st)) (sym es) tt) in
       let none : n ≡ 0 = counts ∙ one_past a b.snd_una x in
       by_ack (record v { state = state.Established }) n s.payload (Some a) eo (Acknowledgement plain (subst (λ st. KnowsPeer (phase_of st)) (sym es) tt)
-      (heard_whole _ _ _ here.starts here.short (λ k b h. let no : None ≡ Some b = h in cc) refl refl refl refl (nxt_moved (length-append v.rx_buffer.bytes s.payload)))
+      (joined_heard here (shown (joined (una_advanced (released (window_taken (record v { state = state.Established }) now s.control s.window_len) n) (Some a)) 0 s.payload)) refl refl)
       (passes_heard _ _ _ b (OfSyn a.0 (acks a eo) (same_number a next_to x) (inr (ap phase_of es)) refl refl (ap (λ k. drop k v.tx_buffer.bytes) none) (inl (later_shown v.remote_last_seq a))))
       tt)
 
@@ -212,7 +247,7 @@ module _ (listener : Bool) (v : View) (now : Instant) (word : ℕ) (ip : IpRepr)
       let b = bounds.sending (subst (λ st. HasIss (phase_of st)) (sym es) tt) in
       let is : n ≡ number_distance a.0 v.local_seq_no.0 = omega (arith, counts) in
       by_ack v n s.payload (Some a) eo (Acknowledgement plain (subst (λ st. KnowsPeer (phase_of st)) (sym es) tt)
-      (heard_whole _ _ _ here.starts here.short (λ k b h. let no : None ≡ Some b = h in cc) refl refl refl refl (nxt_moved (length-append v.rx_buffer.bytes s.payload)))
+      (joined_heard here (shown (joined (una_advanced (released (window_taken v now s.control s.window_len) n) (Some a)) 0 s.payload)) refl refl)
       (passes_heard _ _ _ b (OfBytes a.0 (acks a eo) (small.ack a eo) (omega (arith, le, is)) refl refl (ap (λ k. drop k v.tx_buffer.bytes) is) (later_shown v.remote_last_seq a)))
       (subst (λ st. IsSynchronized (phase_of st)) (sym es) tt))
 
@@ -318,7 +353,7 @@ module _ (v : View) (now : Instant) (word : ℕ) (ip : IpRepr) (s : Segment) whe
       subst (λ r. ProcessEffect listener (shown v) (shown (processed v now word ip s).view) (stream_segment s released taken) (option_map (λ (x : IpRepr × Segment). stream_segment x.1 released_then taken_then) r)) (sym process_silent)
       (record { heard = shown (processed v now word ip s).view; hears = h; answers = tt; ends = inl refl })
 
-pub process_heard : (v : View) (now : Instant) (word : ℕ) (ip : IpRepr) (s : Segment) (released taken released_then taken_then : ℕ) → word < 2 ^ 32 → IsSmall s → capacity v.rx_buffer ≤ 2 ^ 30 → IsBounded v → Accepts v ip s
+pub process_heard : (v : View) (now : Instant) (word : ℕ) (ip : IpRepr) (s : Segment) (released taken released_then taken_then : ℕ) → word < 2 ^ 32 → IsSmall s → room_of v.rx_buffer ≤ 2 ^ 30 → IsBounded v → Accepts v ip s
     → ProcessEffect (is_passive v) (shown v) (shown (processed v now word ip s).view) (stream_segment s released taken) (option_map (λ (r : IpRepr × Segment). stream_segment r.1 released_then taken_then) (processed v now word ip s).reply)
 process_heard v now word ip s released taken released_then taken_then word_small small room bounds accepted =
     process_effect v now word ip s (is_passive v) released taken released_then taken_then (hears (is_passive v) v now word ip s released taken word_small small room bounds)

@@ -10,7 +10,7 @@ use Rattle.sock_core.specs.Streams.{ByteAt, IsPrefix, fin_length}
 use Rattle.sock_core.proofs.Numbers.{distance_back, distance_self, distance_up, is_before, later_place, not_before, number_add, sooner_place, sooner_same}
 use Rattle.sock_core.proofs.Streams.{byte_drop, byte_take, byte_within, prefix_from_at}
 use Rattle.sock_pair.specs.StreamEffects.{Brings, HearsData}
-use Rattle.sock_pair.specs.StreamTables.{Gathers, IsInside, JoinsAtOnce, TakesPayload, TakesWhole, cut, cut_from, cut_offset, merged, segment_end}
+use Rattle.sock_pair.specs.StreamTables.{Gathers, GathersNothing, IsInside, JoinsAtOnce, TakesPayload, TakesWhole, cut, cut_from, cut_offset, merged, segment_end}
 use Rattle.sock_pair.specs.StreamViews.{SocketView, StreamSegment}
 
 -- the cut of a segment at the place s against the window from l up to r
@@ -215,19 +215,31 @@ module _ (v w : SocketView) (g : StreamSegment) (win : ℕ) (t : TakesPayload v 
   pub takes_hears : HearsData v w g
   takes_hears = ⊎_elim (λ h. none_joins h.0 h.1 h.2) (λ h. some_join h.0 h.1) t.joins
 
--- a segment that is in order and comes whole, where nothing is held, is heard
-pub whole_hears : (v w : SocketView) (g : StreamSegment) → TakesWhole v w g → HearsData v w g
-whole_hears v w g t = record {
-  more = g.payload;
-  receive_queue = t.receive_queue;
-  joined = λ k b h. inr (k, near k b h, ap (λ n. (n + k) % 2 ^ 32) t.in_order, h);
-  held = λ k b h. absurd (t.none_held k b ((λ i. sym t.held i k) ∙ h));
-  fin = λ e. ⊎_elim (λ was. inl was) (λ new. inr (length g.payload, new, omega arith, omega (arith, t.short), ap (λ n. (n + length g.payload) % 2 ^ 32) t.in_order)) (t.fin e);
-  kept = t.kept;
-  fins = t.fins;
-  fin_counts = t.fin_counts;
-  rcv_nxt = t.rcv_nxt;
-}
-  where
-    near : (k b : ℕ) → ByteAt g.payload k b → k < 2 ^ 31
-    near k b h = omega (arith, byte_within g.payload k b h, t.short)
+-- a segment that is in order and comes whole is heard
+module _ (v w : SocketView) (g : StreamSegment) (t : TakesWhole v w g) where
+  -- a FIN ends it
+  whole_fin : (m : ℕ) → length g.payload ≤ m → w.fin_counted ≡ true → (v.fin_counted ≡ true) ⊎ ((n : ℕ) × (g.fin ≡ true) × (n ≤ m) × (n < 2 ^ 31) × ((g.seq + length g.payload) % 2 ^ 32 ≡ (v.rcv_nxt + n) % 2 ^ 32))
+  whole_fin m le e = ⊎_elim (λ was. inl was) (λ new. inr (length g.payload, new, le, omega (arith, t.short), ap (λ n. (n + length g.payload) % 2 ^ 32) t.in_order)) (t.fin e)
+
+  whole_none : GathersNothing v w g.payload → HearsData v w g
+  whole_none h = record {
+    more = [];
+    receive_queue = h.receive_queue ∙ sym (append-nil v.receive_queue);
+    joined = λ k b x. let e : None ≡ Some b = x in cc;
+    held = λ k b x. inl (subst (λ n. v.held n ≡ Some b) {x = k} {y = 0 + k} (omega arith) ((λ i. sym h.held i k) ∙ x));
+    fin = whole_fin 0 (omega (arith, ap length h.none));
+    kept = t.kept;
+    fins = t.fins;
+    fin_counts = t.fin_counts;
+    rcv_nxt = t.rcv_nxt ∙ ap (λ n. (v.rcv_nxt + n + t.fins) % 2 ^ 32) (omega (arith, ap length h.receive_queue));
+  }
+
+  whole_some : Gathers v w 0 g.payload → HearsData v w g
+  whole_some d =
+      let more : length w.receive_queue - length v.receive_queue ≡ length d.more = omega (arith, ap length d.receive_queue, length-append v.receive_queue d.more) in
+      gathers_hears v w g 0 g.payload (omega (arith, t.short)) (λ i b h. (i, ap (λ n. (n + i) % 2 ^ 32) t.in_order ∙ ap (λ n. (v.rcv_nxt + n) % 2 ^ 32) (omega arith), h)) d t.fins t.fin_counts t.kept
+      (t.rcv_nxt ∙ ap (λ n. (v.rcv_nxt + n + t.fins) % 2 ^ 32) more)
+      (whole_fin (length d.more) (longer v w 0 g.payload refl d))
+
+  pub whole_hears : HearsData v w g
+  whole_hears = ⊎_elim whole_none whole_some t.joins

@@ -3,6 +3,7 @@ use Rattle.std.specs.Prelude.{◌≡◌, ◌<◌, ◌≤◌, ◌^◌, [], None, 
 use Rattle.std.specs.Option.{ForSome}
 use Rattle.ip_wire.specs.Address.{SameVersion, is_unspecified}
 use Rattle.ip_wire.specs.declared.endpoint.IpEndpoint.{IpEndpoint}
+use Rattle.sock_core.specs.Received.{room_of}
 use Rattle.sock_tcp.specs.Queue.{capacity}
 use Rattle.sock_tcp.specs.View.{View}
 use Rattle.sock_tcp.specs.declared.state.State.TheVariants as state
@@ -49,7 +50,7 @@ DeliversSmall (event.Deliver i m) p = ForSome (slice_get p.segments i) (λ t. Is
 DeliversSmall _ p = Unit {0}
 
 pub record HasSmallBuffers (v : View) : Type 0 where
-  pub receive : capacity v.rx_buffer ≤ 2 ^ 30
+  pub receive : room_of v.rx_buffer ≤ 2 ^ 30
   pub transmit : capacity v.tx_buffer ≤ 2 ^ 30
 
 -- buffers have at most 2^30 bytes

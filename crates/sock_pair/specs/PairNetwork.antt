@@ -6,6 +6,7 @@ use Rattle.std.specs.Option.{ForSome}
 use Rattle.control_wire.specs.Segment.{Segment}
 use Rattle.control_wire.specs.declared.tcp.TcpControl.{TcpControl}
 use Rattle.control_wire.specs.declared.tcp.TcpControl.TheVariants as control
+use Rattle.sock_core.specs.Received.{byte_at}
 use Rattle.sock_tcp.specs.View.{View}
 use Rattle.sock_tcp.specs.Window.{next_ack}
 use Rattle.sock_tcp.specs.declared.state.State.{State}
@@ -36,14 +37,6 @@ phase_of state.LastAck = phase.FinQueued
 phase_of state.FinWait2 = phase.Silent
 phase_of state.TimeWait = phase.Silent
 
--- the bytes that the socket holds out of order, by their offset from the receive queue's end: it holds none yet
-abbrev pub held_bytes : View → ℕ → Option ℕ
-held_bytes v = λ k. None
-
--- whether it counted the peer's FIN: it counts none yet
-abbrev pub counted_fin : View → Bool
-counted_fin v = false
-
 -- it was opened by listen: exactly then the port that it listens on is not zero
 abbrev pub is_passive : View → Bool
 is_passive v = not (v.listen_endpoint.port == 0)
@@ -57,8 +50,8 @@ shown v =
       rcv_nxt = (next_ack v).0;
       transmit_queue = v.tx_buffer.bytes;
       receive_queue = v.rx_buffer.bytes;
-      held = held_bytes v;
-      fin_counted = counted_fin v;
+      held = byte_at v.rx_buffer.held;
+      fin_counted = v.rx_fin_received;
     }
 
 abbrev pub seen : Opening → View → SocketView

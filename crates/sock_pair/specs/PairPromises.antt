@@ -1,5 +1,6 @@
 -- What is promised of a pair.
-use Rattle.std.specs.Prelude.{ℕ, ◌≡◌, ◌≤◌, ◌⊎◌, true, List, ◌++◌, length, slice_get, Option, Some}
+use Rattle.std.specs.Prelude.{ℕ, ◌≡◌, ◌≤◌, ◌<◌, ◌⊎◌, true, List, ◌++◌, length, slice_get, Option, Some}
+use Rattle.sock_core.specs.Received.{JoinsAtOnce}
 use Rattle.sock_core.specs.Streams.{IsPrefix}
 use Rattle.control_wire.specs.Seq.{seq_sub}
 use Rattle.control_wire.specs.Segment.{Segment, is_plain}
@@ -59,10 +60,10 @@ pub record IsNextExpected (v : View) (s : Segment) : Type 0 where
   pub ends : length s.payload ≤ seq_sub (window_end v v.remote_last_ack) (next_ack v)
 
 -- a delivery of the segment t found the receiver as old, and left it as new: the whole payload of such a segment joined
--- the receive queue
+-- the receive queue, and behind it what was held there
 pub record IsPrompt (t : StoredView) (old new : HostView) : Type 0 where
-  pub queued : IsNextExpected old.control_block t.segment
-      → new.control_block.rx_buffer.bytes ≡ old.control_block.rx_buffer.bytes ++ t.segment.payload
+  pub queued : IsNextExpected old.control_block t.segment → 0 < length t.segment.payload
+      → JoinsAtOnce old.control_block.rx_buffer new.control_block.rx_buffer t.segment.payload
 
 -- so at each delivery of a pair that a side accepts
 abbrev pub IsPromptAt : ℕ → PairView → Outcome → PairView → Type 0

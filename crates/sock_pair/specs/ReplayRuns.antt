@@ -1,8 +1,9 @@
 -- What a replay writes, by how it ends.
-use Rattle.std.specs.Prelude.{◌≡◌, ℕ, ◌<◌, List, [], ◌∷◌, ◌++◌, length, Option, Ok, Err, IfSome, ◌⊎◌, slice_index}
+use Rattle.std.specs.Prelude.{◌≡◌, ℕ, ◌<◌, List, [], ◌∷◌, ◌++◌, length, replicate, Option, None, Ok, Err, IfSome, ◌⊎◌, slice_index}
 use Rattle.std.specs.Io.KnownBytes.{Appends}
 use Rattle.ip_wire.specs.declared.address.IpAddress.TheVariants as address
 use Rattle.ip_wire.specs.declared.endpoint.IpEndpoint.{IpEndpoint}
+use Rattle.sock_core.specs.Received.{Received, received}
 use Rattle.sock_tcp.specs.Queue.{Queue}
 use Rattle.sock_tcp.specs.View.{fresh}
 use Rattle.sock_pair.specs.PairRuns.{Ran}
@@ -23,11 +24,14 @@ endpoint_a = record { addr = address.Ipv4 (record { 0 = 10 ∷ 0 ∷ 0 ∷ 1 ∷
 abbrev pub endpoint_b : IpEndpoint
 endpoint_b = record { addr = address.Ipv4 (record { 0 = 10 ∷ 0 ∷ 0 ∷ 2 ∷ [] }); port = 80 }
 
+abbrev pub empty_receiver : ℕ → Received
+empty_receiver n = received [] (replicate n None)
+
 abbrev pub empty_queue : ℕ → Queue
 empty_queue n = record { bytes = []; window = n }
 
 abbrev pub begun_host : ℕ → ℕ → IpEndpoint → HostView
-begun_host rx tx e = new_host (fresh (empty_queue rx) (empty_queue tx)) e
+begun_host rx tx e = new_host (fresh (empty_receiver rx) (empty_queue tx)) e
 
 -- two closed sockets with buffers of these sizes
 abbrev pub begun : ℕ → ℕ → ℕ → ℕ → Option ℕ → PairView

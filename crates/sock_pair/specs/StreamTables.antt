@@ -76,18 +76,22 @@ pub record TakesPayload (v w : SocketView) (g : StreamSegment) (win : ℕ) : Typ
   pub fin_counts : fin_length w.fin_counted ≡ fin_length v.fin_counted + fins
   pub rcv_nxt : w.rcv_nxt ≡ (v.rcv_nxt + (length w.receive_queue - length v.receive_queue) + fins) % 2 ^ 32
 
--- A segment at RCV.NXT is taken whole, by a socket that holds nothing out of order
+-- nothing comes
+pub record GathersNothing (v w : SocketView) (bytes : List ℕ) : Type 0 where
+  pub none : bytes ≡ []
+  pub receive_queue : w.receive_queue ≡ v.receive_queue
+  pub held : w.held ≡ v.held
+
+-- A segment at RCV.NXT is taken whole
 pub record TakesWhole (v w : SocketView) (g : StreamSegment) : Type 0 where
   pub in_order : g.seq ≡ v.rcv_nxt
   pub short : length g.payload ≤ 2 ^ 30
-  pub none_held : (k b : ℕ) → v.held k ≡ Some b → ⊥
-  pub receive_queue : w.receive_queue ≡ v.receive_queue ++ g.payload
-  pub held : w.held ≡ v.held
+  pub joins : GathersNothing v w g.payload ⊎ Gathers v w 0 g.payload
   pub fin : w.fin_counted ≡ true → (v.fin_counted ≡ true) ⊎ (g.fin ≡ true)
   pub kept : v.fin_counted ≡ true → w.fin_counted ≡ true
   pub fins : ℕ
   pub fin_counts : fin_length w.fin_counted ≡ fin_length v.fin_counted + fins
-  pub rcv_nxt : w.rcv_nxt ≡ (v.rcv_nxt + length g.payload + fins) % 2 ^ 32
+  pub rcv_nxt : w.rcv_nxt ≡ (v.rcv_nxt + (length w.receive_queue - length v.receive_queue) + fins) % 2 ^ 32
 
 -- ---- the sending half
 

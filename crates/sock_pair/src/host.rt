@@ -54,6 +54,7 @@ impl<'a> Model for Host<'a> {
 }
 
 impl<'a> Host<'a> {
+    ghost use Rattle.sock_core.specs.Received.{receiving};
     ghost use Rattle.sock_tcp.specs.View.{fresh};
     ghost use Rattle.sock_tcp.specs.Queue.{queue_of};
     ghost use Rattle.sock_tcp.specs.Queues.{may_send};
@@ -71,7 +72,7 @@ impl<'a> Host<'a> {
     ) -> Host<'a>
         requires rx { length rx.queue + length rx.spare ≤ 2 ^ 30 }
         requires tx { length tx.queue + length tx.spare ≤ 2 ^ 30 }
-        ensures { result ≡ new_host (fresh (queue_of rx.entry) (queue_of tx.entry)) endpoint }
+        ensures { result ≡ new_host (fresh (receiving rx.entry) (queue_of tx.entry)) endpoint }
     {
         Host {
             socket: Socket::new(rx, tx),

@@ -8,7 +8,8 @@ ghost use Rattle.ip_wire.specs.declared.repr.IpRepr.{IpRepr};
 ghost use Rattle.net_base.specs.declared.time.Instant.{Instant};
 ghost use Rattle.control_wire.specs.Segment.{Segment};
 ghost use Rattle.sock_core.specs.Facts.{Facts};
-ghost use Rattle.sock_tcp.specs.Queue.{capacity, IsLent};
+ghost use Rattle.sock_core.specs.Received.{room_of};
+ghost use Rattle.sock_tcp.specs.Queue.{IsLent};
 ghost use Rattle.sock_tcp.specs.View.{View};
 ghost use Rattle.sock_tcp.specs.Opening.{listened, connected};
 ghost use Rattle.sock_tcp.specs.Queues.{written, read_off};
@@ -37,7 +38,7 @@ ghost use Rattle.sock_pair.specs.declared.outcome.Outcome.{Outcome};
 pub fn process_heard()
     ensures { (v : View) (now : Instant) (word : ℕ) (ip : IpRepr) (s : Segment)
         (released taken released_then taken_then : ℕ)
-        → word < 2 ^ 32 → IsSmall s → capacity v.rx_buffer ≤ 2 ^ 30 → IsBounded v → Accepts v ip s
+        → word < 2 ^ 32 → IsSmall s → room_of v.rx_buffer ≤ 2 ^ 30 → IsBounded v → Accepts v ip s
         → ProcessEffect (is_passive v) (shown v) (shown (processed v now word ip s).view)
         (stream_segment s released taken)
         (option_map (λ r. stream_segment r.1 released_then taken_then) (processed v now word ip s).reply) }

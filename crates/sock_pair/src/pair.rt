@@ -55,6 +55,7 @@ impl<'a> Model for Pair<'a> {
 impl<'a> Pair<'a> {
     ghost use Rattle.std.specs.Prelude.{map};
     ghost use Rattle.ip_wire.specs.Address.{SameVersion};
+    ghost use Rattle.sock_core.specs.Received.{receiving};
     ghost use Rattle.sock_tcp.specs.View.{fresh};
     ghost use Rattle.sock_tcp.specs.Queue.{queue_of};
     ghost use Rattle.sock_pair.specs.PairViews.{new_host, new_pair, host_of};
@@ -87,8 +88,8 @@ impl<'a> Pair<'a> {
         requires different { a.endpoint ≡ b.endpoint → ⊥ }
         requires generators { (a.generator ≡ None) × (b.generator ≡ None) }
         requires limit { IsLimit limit }
-        ensures { result ≡ new_pair (new_host (fresh (queue_of a.entry.rx) (queue_of a.entry.tx)) a.entry.endpoint)
-            (new_host (fresh (queue_of b.entry.rx) (queue_of b.entry.tx)) b.entry.endpoint) limit }
+        ensures { result ≡ new_pair (new_host (fresh (receiving a.entry.rx) (queue_of a.entry.tx)) a.entry.endpoint)
+            (new_host (fresh (receiving b.entry.rx) (queue_of b.entry.tx)) b.entry.endpoint) limit }
     {
         Pair {
             a: Host::new(alloc, a.rx, a.tx, a.endpoint),

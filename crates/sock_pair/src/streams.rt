@@ -84,7 +84,7 @@ pub fn taken_segment_is_heard()
     ensures { (v w : SocketView) (g : StreamSegment) (win : ℕ) → TakesPayload v w g win → HearsData v w g }
 {}
 
-/// A segment at RCV.NXT that is taken whole, by a socket that holds nothing out of order, is heard.
+/// A segment at RCV.NXT that is taken whole is heard.
 pub fn whole_segment_is_heard()
     ensures { (v w : SocketView) (g : StreamSegment) → TakesWhole v w g → HearsData v w g }
 {}

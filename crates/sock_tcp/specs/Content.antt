@@ -33,7 +33,7 @@ asked v t f = if carries_data v.state then min (window_left v) (effective_mss v 
 
 -- the window field of every segment but a SYN
 abbrev pub window_field : View → ℕ
-window_field v = min (v.rx_buffer.window / 2 ^ v.remote_win_shift) 65535
+window_field v = min (length v.rx_buffer.held / 2 ^ v.remote_win_shift) 65535
 
 unfoldable pub plain_segment : View → Tuple → Segment
 plain_segment v t =
@@ -58,7 +58,7 @@ with_syn v t f s =
     record s {
       control = control.Syn;
       seq_number = v.local_seq_no;
-      window_len = min v.rx_buffer.window 65535;
+      window_len = min (length v.rx_buffer.held) 65535;
       max_seg_size = Some (own_mss f t);
     }
 

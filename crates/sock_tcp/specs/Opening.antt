@@ -6,6 +6,7 @@ use Rattle.ip_wire.specs.declared.endpoint.IpEndpoint.{IpEndpoint}
 use Rattle.ip_wire.specs.declared.endpoint.IpListenEndpoint.{IpListenEndpoint}
 use Rattle.control_wire.specs.Seq.{seq_of}
 use Rattle.sock_core.specs.Facts.{Facts}
+use Rattle.sock_core.specs.Received.{cleared}
 use Rattle.sock_tcp.specs.Draw.{Draws}
 use Rattle.sock_tcp.specs.Queue.{emptied}
 use Rattle.sock_tcp.specs.Settings.{kind_of, of_kind}
@@ -37,7 +38,7 @@ is_active _ = true
 
 unfoldable pub renewed : View → View
 renewed v =
-    record (fresh (emptied v.rx_buffer) (emptied v.tx_buffer)) {
+    record (fresh (cleared v.rx_buffer) (emptied v.tx_buffer)) {
       timeout = v.timeout;
       keep_alive = v.keep_alive;
       hop_limit = v.hop_limit;

@@ -4,7 +4,8 @@ use Rattle.std.specs.Borrow.{Bor}
 use Rattle.net_base.specs.declared.time.Instant.{Instant}
 use Rattle.control_wire.specs.Seq.{seq_add}
 use Rattle.sock_core.specs.Estimator.{Estimator}
-use Rattle.sock_tcp.specs.Queue.{appended, shortened, IsLent}
+use Rattle.sock_core.specs.Received.{handed_out}
+use Rattle.sock_tcp.specs.Queue.{appended, IsLent}
 use Rattle.sock_tcp.specs.View.{View}
 use Rattle.sock_tcp.specs.declared.error.RecvError.{RecvError}
 use Rattle.sock_tcp.specs.declared.error.RecvError.TheVariants as recv_error
@@ -122,7 +123,7 @@ readable v n = min n (length v.rx_buffer.bytes)
 
 -- the first n bytes of the receive queue leave; the next acknowledgement stays
 unfoldable pub read_off : View → ℕ → View
-read_off v n = record v { rx_buffer = shortened v.rx_buffer n; remote_seq_no = seq_add v.remote_seq_no n }
+read_off v n = record v { rx_buffer = handed_out v.rx_buffer n; remote_seq_no = seq_add v.remote_seq_no n }
 
 -- the slice bs becomes bs': what was read, and behind it what stood there
 pub record Reads (v : View) (bs : List ℕ) (r : Result ℕ RecvError) (w : View) (bs' : List ℕ) : Type 0 where

@@ -7,7 +7,8 @@ use Rattle.control_wire.specs.declared.seq_number.TcpSeqNumber.{TcpSeqNumber}
 use Rattle.control_wire.specs.declared.tcp.TcpControl.{TcpControl}
 use Rattle.control_wire.specs.declared.tcp.TcpControl.TheVariants as control
 use Rattle.sock_core.specs.Seq.{later_of}
-use Rattle.sock_tcp.specs.Queue.{appended, shortened}
+use Rattle.sock_core.specs.Received.{Received, taken_in}
+use Rattle.sock_tcp.specs.Queue.{shortened}
 use Rattle.sock_tcp.specs.View.{View}
 use Rattle.sock_tcp.specs.Verdict.{fin_place}
 use Rattle.sock_tcp.specs.declared.state.State.{State}
@@ -139,11 +140,15 @@ una_advanced v ack = una_advanced_to v ack
 
 -- ---- the bytes join the queue
 
-unfoldable pub joined : View → List ℕ → View
-joined v bs = record v { rx_buffer = appended v.rx_buffer bs }
+-- bs, whose first byte lies o past RCV.NXT
+abbrev pub brought : Received → ℕ → List ℕ → Received
+brought b o bs = if length bs == 0 then b else taken_in b o bs
+
+unfoldable pub joined : View → ℕ → List ℕ → View
+joined v o bs = record v { rx_buffer = brought v.rx_buffer o bs }
 
 -- ---- the steps behind the state table: n bytes are acknowledged, and bs came
 
 unfoldable pub segment_taken : View → Instant → ℕ → List ℕ → Segment → View
 segment_taken v now n bs s =
-    joined (una_advanced (released (window_taken v now s.control s.window_len) n) s.ack_number) bs
+    joined (una_advanced (released (window_taken v now s.control s.window_len) n) s.ack_number) 0 bs

@@ -8,6 +8,7 @@ use Rattle.net_base.specs.declared.time.Instant.{Instant}
 use Rattle.control_wire.specs.declared.seq_number.TcpSeqNumber.{TcpSeqNumber}
 use Rattle.control_wire.specs.Seq.{seq_of}
 use Rattle.sock_core.specs.Facts.{Facts}
+use Rattle.sock_core.specs.Received.{Received, room_of}
 use Rattle.sock_core.specs.WindowShift.{window_shift}
 use Rattle.sock_core.specs.Congestion.{fresh_reno}
 use Rattle.sock_core.specs.Estimator.{Estimator, fresh_estimator}
@@ -27,7 +28,7 @@ pub record View : Type 0 where
   pub state : State
   pub timer : Timer
   pub rtte : Estimator
-  pub rx_buffer : Queue  -- the receive queue
+  pub rx_buffer : Received  -- the receive queue, and what is held behind it
   pub rx_fin_received : Bool  -- a FIN of the peer was counted
   pub tx_buffer : Queue  -- the transmit queue, which is the retransmission queue too
   pub timeout : Option Duration  -- the user's timeout
@@ -67,9 +68,9 @@ abbrev pub IsShort : Option Duration → Type 0
 IsShort d = ForSome d (λ t. t.micros ≤ 2 ^ 61)
 
 -- what holds of every socket
-pub record IsSound (rx tx : Queue) (tuple : Option Tuple) (shift : ℕ) (scale : Option ℕ) (mss : ℕ)
+pub record IsSound (rx : Received) (tx : Queue) (tuple : Option Tuple) (shift : ℕ) (scale : Option ℕ) (mss : ℕ)
     (timeout keep_alive ack_delay : Option Duration) : Type 0 where
-  pub rx_size : capacity rx ≤ 2 ^ 30
+  pub rx_size : room_of rx ≤ 2 ^ 30
   pub tx_size : capacity tx ≤ 2 ^ 30
   pub versions : ForSome tuple (λ t. SameVersion t.local.addr t.remote.addr)
   pub shift_at_most : shift ≤ 14
@@ -83,7 +84,7 @@ abbrev pub no_endpoint : IpListenEndpoint
 no_endpoint = record { addr = None; port = 0 }
 
 -- a new socket
-unfoldable pub fresh : Queue → Queue → View
+unfoldable pub fresh : Received → Queue → View
 fresh rx tx =
     record {
       state = state.Closed;
@@ -102,7 +103,7 @@ fresh rx tx =
       remote_last_seq = seq_of 0;
       remote_last_ack = None;
       remote_last_win = 0;
-      remote_win_shift = window_shift (capacity rx);
+      remote_win_shift = window_shift (room_of rx);
       remote_win_len = 0;
       remote_win_scale = None;
       remote_has_sack = false;

@@ -19,7 +19,7 @@ kept_between start limit edge = if is_before edge start then start else (if is_b
 abbrev pub window_end : View → Option TcpSeqNumber → TcpSeqNumber
 window_end v None = next_ack v
 window_end v (Some ack) =
-    kept_between (next_ack v) (seq_add (next_ack v) v.rx_buffer.window)
+    kept_between (next_ack v) (seq_add (next_ack v) (length v.rx_buffer.held))
     (seq_add ack (v.remote_last_win * 2 ^ v.remote_win_shift))
 
 unfoldable pub receive_window : View → Window

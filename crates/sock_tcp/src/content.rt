@@ -53,7 +53,7 @@ impl<'a> ControlBlock<'a> {
 
     // The window field of a SYN.
     fn unscaled_window(&self) -> u16
-        ensures { result ≡ min self.now.rx_buffer.window 65535 }
+        ensures { result ≡ min (length self.now.rx_buffer.held) 65535 }
     {
         self.rx_buffer.window().min(65535) as u16
     }

@@ -9,6 +9,7 @@ use net_base::ring_buffer::RingBuffer;
 use net_base::time::{Duration, Instant};
 use sock_core::congestion::AnyController;
 use sock_core::rtte::RttEstimator;
+use sock_core::receive_buffer::ReceiveBuffer;
 use std::marker::Model;
 
 /// All that a socket keeps but its source of timestamps: the transmission control block (RFC 9293, section 3.3.1).
@@ -17,7 +18,7 @@ pub struct ControlBlock<'a> {
     pub(crate) state: State,
     pub(crate) timer: Timer,
     pub(crate) rtte: RttEstimator,
-    pub(crate) rx_buffer: RingBuffer<'a, u8>,
+    pub(crate) rx_buffer: ReceiveBuffer<'a>,
     pub(crate) rx_fin_received: bool,
     pub(crate) tx_buffer: RingBuffer<'a, u8>,
     pub(crate) timeout: Option<Duration>,
@@ -59,7 +60,7 @@ impl<'a> Model for ControlBlock<'a> {
       state = s.state;
       timer = s.timer;
       rtte = s.rtte;
-      rx_buffer = queue_of s.rx_buffer;
+      rx_buffer = s.rx_buffer;
       rx_fin_received = s.rx_fin_received;
       tx_buffer = queue_of s.tx_buffer;
       timeout = s.timeout;
@@ -91,7 +92,7 @@ impl<'a> Model for ControlBlock<'a> {
       synack_paused = s.synack_paused;
     } };
 
-    ghost invariant = { λ s. IsSound (queue_of s.rx_buffer) (queue_of s.tx_buffer) s.tuple
+    ghost invariant = { λ s. IsSound s.rx_buffer (queue_of s.tx_buffer) s.tuple
         s.remote_win_shift s.remote_win_scale
         s.remote_mss s.timeout s.keep_alive s.ack_delay };
 }

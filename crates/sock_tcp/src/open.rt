@@ -1,6 +1,7 @@
 //! Opening a connection: listen, connect, and the reset that both begin with (RFC 9293, section 3.10.1).
 ghost use Rattle.std.specs.Prelude.{◌≡◌, ◌+◌, ◌≤◌, ◌^◌, length};
 ghost use Rattle.ip_wire.specs.Address.{SameVersion, same_version};
+ghost use Rattle.sock_core.specs.Received.{receiving};
 ghost use Rattle.sock_tcp.specs.Queue.{queue_of};
 ghost use Rattle.sock_tcp.specs.View.{fresh};
 ghost use Rattle.sock_tcp.specs.Opening.{is_open, is_listening, renewed, listened, Listens, checked_source, checked_local, endpoints, connected, after_connect, connect_answer, Connects};
@@ -15,6 +16,7 @@ use ip_wire::{IpAddress, IpEndpoint, IpListenEndpoint};
 use net_base::ring_buffer::RingBuffer;
 use net_base::time::{Duration, Instant};
 use sock_core::congestion::AnyController;
+use sock_core::receive_buffer::ReceiveBuffer;
 use sock_core::rtte::RttEstimator;
 use sock_core::{Context, window_shift};
 
@@ -36,14 +38,14 @@ impl<'a> ControlBlock<'a> {
     ) -> ControlBlock<'a>
         requires rx { length rx_buffer.queue + length rx_buffer.spare ≤ 2 ^ 30 }
         requires tx { length tx_buffer.queue + length tx_buffer.spare ≤ 2 ^ 30 }
-        ensures { result ≡ fresh (queue_of rx_buffer.entry) (queue_of tx_buffer.entry) }
+        ensures { result ≡ fresh (receiving rx_buffer.entry) (queue_of tx_buffer.entry) }
     {
         let shift = window_shift(rx_buffer.capacity());
         ControlBlock {
             state: State::Closed,
             timer: IDLE,
             rtte: RttEstimator::default(),
-            rx_buffer,
+            rx_buffer: ReceiveBuffer::new(rx_buffer),
             rx_fin_received: false,
             tx_buffer,
             timeout: None,

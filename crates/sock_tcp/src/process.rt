@@ -134,7 +134,7 @@ impl<'a> ControlBlock<'a> {
         repr: &TcpRepr<'_>,
     )
         requires passed { verdict_of self.old repr.now.control repr.now.ack_number ≡ Pass }
-        requires fits { length bytes.now ≤ self.old.rx_buffer.window }
+        requires fits { length bytes.now ≤ length self.old.rx_buffer.held }
         ensures table { stopped self.new
             ≡ processed_inside self.old now (C.word_at cx.old 0) bytes.now ip_repr.now (segment_of repr.now) }
         ensures context { Draws (draws Pass self.old.state repr.now.control) C.facts C.word_at cx.old cx.new }

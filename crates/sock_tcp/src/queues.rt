@@ -139,13 +139,13 @@ impl<'a> ControlBlock<'a> {
         ensures { Peeks self.now size (lent_bytes result) }
     {
         self.check_recv()?;
-        Ok(self.rx_buffer.get_allocated(0, size))
+        Ok(self.rx_buffer.peek(size))
     }
 
     pub(crate) fn peek_slice(&self, data: &mut [u8]) -> Result<usize, RecvError>
         ensures { PeeksInto self.now «data».old result «data».new }
     {
         self.check_recv()?;
-        Ok(self.rx_buffer.read_allocated(0, data))
+        Ok(self.rx_buffer.peek_slice(data))
     }
 }

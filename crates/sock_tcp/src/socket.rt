@@ -2,6 +2,7 @@
 ghost use Rattle.std.specs.Prelude.{◌≡◌, ◌≤◌, ◌^◌, ◌+◌, ◌↔◌, ℕ, List, IsTrue, IsOk, is_ok, true, length, option_map};
 ghost use Rattle.std.specs.Fn.{FnOnceReturnsAt, FnOnceReturnsAtMut};
 ghost use Rattle.control_wire.specs.Segment.{segment_of};
+ghost use Rattle.sock_core.specs.Received.{receiving, room_of};
 ghost use Rattle.sock_tcp.specs.Queue.{queue_of, capacity};
 ghost use Rattle.sock_tcp.specs.View.{fresh};
 ghost use Rattle.sock_tcp.specs.Opening.{is_listening, is_open, is_active, Listens, Connects};
@@ -37,7 +38,7 @@ impl<'a> Socket<'a> {
     pub fn new(rx_buffer: SocketBuffer<'a>, tx_buffer: SocketBuffer<'a>) -> Socket<'a>
         requires rx { length rx_buffer.queue + length rx_buffer.spare ≤ 2 ^ 30 }
         requires tx { length tx_buffer.queue + length tx_buffer.spare ≤ 2 ^ 30 }
-        ensures control_block { result.control_block ≡ fresh (queue_of rx_buffer.entry) (queue_of tx_buffer.entry) }
+        ensures control_block { result.control_block ≡ fresh (receiving rx_buffer.entry) (queue_of tx_buffer.entry) }
     {
         Socket {
             control_block: ControlBlock::new(rx_buffer, tx_buffer),
@@ -156,7 +157,7 @@ impl<'a> Socket<'a> {
 
     /// How many bytes the receive buffer holds when it is full.
     pub fn recv_capacity(&self) -> usize
-        ensures { result ≡ capacity self.now.control_block.rx_buffer }
+        ensures { result ≡ room_of self.now.control_block.rx_buffer }
     {
         self.control_block.rx_buffer.capacity()
     }
@@ -241,7 +242,7 @@ impl<'a> Socket<'a> {
     /// How many bytes came and were not read: at most 2^30.
     pub fn recv_queue(&self) -> usize
         ensures value { result ≡ length self.now.control_block.rx_buffer.bytes }
-        ensures small { capacity self.now.control_block.rx_buffer ≤ 2 ^ 30 }
+        ensures small { room_of self.now.control_block.rx_buffer ≤ 2 ^ 30 }
     {
         self.control_block.rx_buffer.len()
     }

@@ -1,5 +1,5 @@
 //! The steps of `process`, one method each (RFC 9293, section 3.10.7).
-ghost use Rattle.std.specs.Prelude.{◌≡◌, ◌≤◌, ◌^◌, length};
+ghost use Rattle.std.specs.Prelude.{◌≡◌, ◌≤◌, ◌+◌, ◌^◌, length};
 ghost use Rattle.ip_wire.specs.Address.{SameVersion};
 ghost use Rattle.control_wire.specs.Segment.{segment_of};
 ghost use Rattle.sock_tcp.specs.Same.{SameQueues};
@@ -145,11 +145,13 @@ impl<'a> ControlBlock<'a> {
     }
 
     #[tactic(auto, unfolding(crate::specs::Steps::joined))]
-    fn join(&mut self, bytes: &[u8])
-        requires { length bytes.now ≤ self.old.rx_buffer.window }
-        ensures { self.new ≡ joined self.old bytes.now }
+    fn join(&mut self, offset: usize, bytes: &[u8])
+        requires { offset + length bytes.now ≤ length self.old.rx_buffer.held }
+        ensures { self.new ≡ joined self.old offset bytes.now }
     {
-        self.rx_buffer.enqueue_slice(bytes);
+        if !bytes.is_empty() {
+            self.rx_buffer.take_in(offset, bytes);
+        }
     }
 
     // The steps behind the state table.
@@ -162,12 +164,12 @@ impl<'a> ControlBlock<'a> {
         repr: &TcpRepr<'_>,
     )
         requires acked { count ≤ length self.old.tx_buffer.bytes }
-        requires fits { length bytes.now ≤ self.old.rx_buffer.window }
+        requires fits { length bytes.now ≤ length self.old.rx_buffer.held }
         ensures { self.new ≡ segment_taken self.old now count bytes.now (segment_of repr.now) }
     {
         self.take_window(now, repr.control, repr.window_len);
         self.release(count);
         self.advance_una(repr.ack_number);
-        self.join(bytes);
+        self.join(0, bytes);
     }
 }

@@ -1,5 +1,5 @@
 //! The receive window (RFC 9293, section 3.10.7.4; RFC 7323, section 2).
-ghost use Rattle.std.specs.Prelude.{◌≡◌, ◌≤◌, IsTrue};
+ghost use Rattle.std.specs.Prelude.{◌≡◌, ◌≤◌, IsTrue, length};
 ghost use Rattle.control_wire.specs.Seq.{seq_sub};
 ghost use Rattle.sock_tcp.specs.Window.{next_ack, kept_between, receive_window, is_next_in_window};
 
@@ -51,7 +51,7 @@ impl<'a> ControlBlock<'a> {
     #[tactic(auto, unfolding(crate::specs::Window::receive_window))]
     pub(crate) fn receive_window(&self) -> Window
         ensures window { result ≡ receive_window self.now }
-        ensures within { seq_sub result.end result.start ≤ self.now.rx_buffer.window }
+        ensures within { seq_sub result.end result.start ≤ length self.now.rx_buffer.held }
     {
         let start = self.next_ack();
         start.in_range();

@@ -1,4 +1,5 @@
 use Rattle.std.proofs.Common.{ap, map}
+use Rattle.sock_core.specs.Received.{receiving}
 use Rattle.sock_tcp.specs.Queue.{queue_of}
 use Rattle.sock_pair.specs.Holding.{stored_of}
 use Rattle.sock_pair.proofs.PairHosts.{new_is_pair}
@@ -6,5 +7,5 @@ use Rattle.sock_pair.proofs.pair.Pair.new.Goals as goal
 
 pub invariant_of-result : goal.invariant_of-result
 invariant_of-result g c =
-    new_is_pair (queue_of c.args.a.rx) (queue_of c.args.a.tx) (queue_of c.args.b.rx) (queue_of c.args.b.tx) c.args.a.endpoint c.args.b.endpoint c.args.limit _ _ _ c.new.ensures c.new-2.ensures (ap (map stored_of) c.new-3.ensures.items)
+    new_is_pair (receiving c.args.a.rx) (queue_of c.args.a.tx) (receiving c.args.b.rx) (queue_of c.args.b.tx) c.args.a.endpoint c.args.b.endpoint c.args.limit _ _ _ c.new.ensures c.new-2.ensures (ap (map stored_of) c.new-3.ensures.items)
     c.requires.a_rx.0 c.requires.a_tx.0 c.requires.b_rx.0 c.requires.b_tx.0 c.requires.a_reachable c.requires.b_reachable c.requires.versions c.requires.limit

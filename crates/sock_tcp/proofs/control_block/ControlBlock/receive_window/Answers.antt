@@ -5,7 +5,7 @@ use Rattle.sock_tcp.proofs.control_block.ControlBlock.receive_window.Goals as go
 
 pub returns-in-Some-clause-within : goal.returns-in-Some-clause-within
 returns-in-Some-clause-within c =
-    let s : length c.self.inside.rx_buffer.spare ≡ c.args.self.now.rx_buffer.window = ap (λ (w : View). w.rx_buffer.window) c.self.view_is in
+    let s : length c.self.inside.rx_buffer.held ≡ length c.args.self.now.rx_buffer.held = ap (λ (w : View). length w.rx_buffer.held) c.self.view_is in
     let n : c.window.result ≤ 2 ^ 30 = omega (arith, c.window.ensures, c.self.invariant.rx_size) in
     let k = kept_within c.next_ack-start.result c.plus-edge.result c.window.result c.in_range.ensures c.in_range-in-Some.ensures n in
     rw (c.kept_between-end.ensures, c.plus.ensures) (omega (arith, k, c.window.ensures, s))
