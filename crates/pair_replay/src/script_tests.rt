@@ -1,7 +1,7 @@
 //! What the lines of a script mean, and what is printed of one that is none.
 use net_base::time::Instant;
 use sock_pair::script::parse;
-use sock_pair::{Event, Moment, Side};
+use sock_pair::{Event, Moment, Setting, Side};
 use std::alloc::Global;
 use std::test::Fail;
 
@@ -50,6 +50,30 @@ fn forms_of_lines(rt: HostRuntime) -> Result<(), Fail> {
         fail: true,
     };
     assert_eq!(rt; script.events[3], event);
+    Ok(())
+}
+
+#[test]
+fn nagle_is_on_or_off(rt: HostRuntime) -> Result<(), Fail> {
+    let alloc = rt.alloc();
+    let script = parse(alloc, b"pair 1 1 1 1 -\nnagle a on\nnagle b off")?;
+    assert_eq!(rt; script.events.len(), 2);
+    assert_eq!(rt;
+        script.events[0],
+        Event::Set {
+            side: Side::A,
+            setting: Setting::Nagle(true),
+        }
+    );
+    assert_eq!(rt;
+        script.events[1],
+        Event::Set {
+            side: Side::B,
+            setting: Setting::Nagle(false),
+        }
+    );
+    assert_eq!(rt; fault_on_line_two(alloc, "nagle a")?.as_str(), "line 2: wrong number of words");
+    assert_eq!(rt; fault_on_line_two(alloc, "nagle a yes")?.as_str(), "line 2: bad word");
     Ok(())
 }
 

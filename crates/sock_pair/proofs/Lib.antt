@@ -15,6 +15,7 @@ pub mod NetworkPhases
 pub mod NetworkChanges
 pub mod NetworkEndpoints
 pub mod NetworkOpening
+pub mod HostPieces
 pub mod NetworkCalls
 pub mod NetworkSegments
 pub mod NetworkDeliveries
@@ -35,6 +36,7 @@ pub mod ShownPrompt
 pub mod PairPromises
 pub mod PairCompletes
 pub mod PairAdding
+pub mod PairAmounts
 pub mod Running
 pub mod ReplaySinks
 pub mod ReplaySources

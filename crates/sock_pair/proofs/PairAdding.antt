@@ -1,11 +1,13 @@
 -- What events added to the streams of a pair.
 use Rattle.std.proofs.Common.{◌≡◌, ℕ, ◌+◌, Bool, true, false, refl, sym, ap, subst, ◌∙◌, List, [], ◌∷◌, ◌++◌, length, take, Option, Some, None, append_assoc}
-use Rattle.std.specs.Prelude.{slice_get, min, Vec, Result, Ok, Err, IfOk}
+use Rattle.std.specs.Prelude.{slice_get, Vec, Result, Ok, Err, IfOk}
 use Rattle.std.specs.Global.{Global}
 use Rattle.std.proofs.lemmas.List.{append-nil}
 use Rattle.sock_tcp.specs.Queues.{may_send, may_recv}
+use Rattle.sock_tcp.specs.declared.error.RecvError.TheVariants as recv_error
 use Rattle.sock_tcp.specs.declared.error.SendError.TheVariants as send_error
-use Rattle.sock_pair.specs.PairCalls.{listening, connecting, OpensAs, SendsIf, SendsUnder, IsRead, ReceivesIf, is_over, read_of, sending, receiving}
+use Rattle.sock_pair.specs.PairCalls.{listening, connecting, OpensAs, SendsIf, SendsUnder, IsRead, ReceivesIf, is_over, sending, receiving}
+use Rattle.sock_pair.proofs.PairAmounts.{takes_some, hands_some}
 use Rattle.sock_pair.specs.PairRuns.{EventRun}
 use Rattle.sock_pair.specs.PairSteps.{EventStep, DeliversTo, DeliversIf, Delivers, exchanged, is_old}
 use Rattle.sock_pair.specs.PairStreams.{AddsUp, accepted_by, accepted_in, handed_out_by, handed_out_in, where_same}
@@ -69,47 +71,48 @@ none_elsewhere : (t : Side) (bytes : List ℕ) → where_same (other_side t) t b
 none_elsewhere A bytes = refl
 none_elsewhere B bytes = refl
 
--- what the outcome of a send adds
-module _ (t : Side) (p : PairView) (bytes : Vec ℕ Global) (k : HostView) where
+-- what the outcome of a send adds, by whichever event
+module _ (t : Side) (p : PairView) (bs : List ℕ) (k : HostView) (by : Side → Outcome → List ℕ) where
   abbrev SendAdds : Outcome → Type 0
-  SendAdds o = AddsUp p (exchanged t p k p.segments) (λ s. accepted_by s (event.SendSlice t bytes) o) (λ s. [])
+  SendAdds o = AddsUp p (exchanged t p k p.segments) (λ s. by s o) (λ s. [])
 
-  refused : (o : Outcome) → ((s : Side) → accepted_by s (event.SendSlice t bytes) o ≡ []) → k ≡ host_of t p → SendAdds o
-  refused o n e = on_side t p k p.segments (λ s. accepted_by s (event.SendSlice t bytes) o) (λ s. []) (subst (λ xs. HostAdds (host_of t p) k xs []) (sym (n t)) (same (host_of t p) k e)) (n (other_side t)) refl
+  refused : (o : Outcome) → ((s : Side) → by s o ≡ []) → k ≡ host_of t p → SendAdds o
+  refused o n e = on_side t p k p.segments (λ s. by s o) (λ s. []) (subst (λ xs. HostAdds (host_of t p) k xs []) (sym (n t)) (same (host_of t p) k e)) (n (other_side t)) refl
 
-  accepted_some : (n : ℕ) → n ≡ min (length bytes.items) (host_of t p).control_block.tx_buffer.window → k ≡ sending (host_of t p) bytes.items → SendAdds (outcome.Accepted n)
-  accepted_some n is e = on_side t p k p.segments (λ s. where_same s t (take n bytes.items)) (λ s. [])
-      (record {
-        accepted_bytes = ap (λ (x : HostView). x.accepted) e ∙ ap (λ m. (host_of t p).accepted ++ take m bytes.items) (sym is) ∙ ap (λ xs. (host_of t p).accepted ++ xs) (sym (same_there t (take n bytes.items)));
-        handed_out_bytes = ap (λ (x : HostView). x.handed_out) e ∙ sym (append-nil (host_of t p).handed_out);
-      })
-      (none_elsewhere t (take n bytes.items)) refl
+  module _ (some : (s : Side) (n : ℕ) → by s (outcome.Accepted n) ≡ where_same s t (take n bs)) (none : (s : Side) → by s outcome.StreamLimit ≡ []) (shut : (s : Side) → by s (outcome.SendRefused send_error.InvalidState) ≡ []) where
+    accepted_some : (n : ℕ) → k ≡ sending (host_of t p) n bs → SendAdds (outcome.Accepted n)
+    accepted_some n e = on_side t p k p.segments (λ s. by s (outcome.Accepted n)) (λ s. [])
+        (record {
+          accepted_bytes = ap (λ (x : HostView). x.accepted) e ∙ ap (λ xs. (host_of t p).accepted ++ xs) (sym (some t n ∙ same_there t (take n bs)));
+          handed_out_bytes = ap (λ (x : HostView). x.handed_out) e ∙ sym (append-nil (host_of t p).handed_out);
+        })
+        (some (other_side t) n ∙ none_elsewhere t (take n bs)) refl
 
-  sends_if : (b : Bool) (o : Outcome) → SendsIf b (host_of t p) bytes.items o k → SendAdds o
-  sends_if true o x = subst SendAdds (sym x.0) (accepted_some (min (length bytes.items) (host_of t p).control_block.tx_buffer.window) refl x.1)
-  sends_if false o x = subst SendAdds (sym x.0) (refused (outcome.SendRefused send_error.InvalidState) (λ s. refl) x.1)
+    sends_if : (b : Bool) (size : Option ℕ) (o : Outcome) → SendsIf b size bs (host_of t p) o k → SendAdds o
+    sends_if true size o x = let s = takes_some size bs (host_of t p) o k x in subst SendAdds (sym s.answer) (accepted_some s.count s.host)
+    sends_if false size o x = subst SendAdds (sym x.0) (refused (outcome.SendRefused send_error.InvalidState) shut x.1)
 
-  sends : (over : Bool) (o : Outcome) → SendsUnder over (host_of t p) bytes.items o k → SendAdds o
-  sends true o x = subst SendAdds (sym x.0) (refused outcome.StreamLimit (λ s. refl) x.1)
-  sends false o x = sends_if (may_send (host_of t p).control_block.state) o x
+    sends : (over : Bool) (size : Option ℕ) (o : Outcome) → SendsUnder over size bs (host_of t p) o k → SendAdds o
+    sends true size o x = subst SendAdds (sym x.0) (refused outcome.StreamLimit none x.1)
+    sends false size o x = sends_if (may_send (host_of t p).control_block.state) size o x
 
--- what the outcome of a read adds
-module _ (t : Side) (p : PairView) (size : ℕ) (k : HostView) where
+-- what the outcome of a read adds, by whichever event
+module _ (t : Side) (p : PairView) (k : HostView) (by : Side → Outcome → List ℕ) (some : (s : Side) (v : Vec ℕ Global) → by s (outcome.Read v) ≡ where_same s t v.items) (shut : (s : Side) → by s (outcome.RecvRefused recv_error.InvalidState) ≡ []) where
   abbrev ReadAdds : Outcome → Type 0
-  ReadAdds o = AddsUp p (exchanged t p k p.segments) (λ s. []) (λ s. handed_out_by s (event.RecvSlice t size) o)
+  ReadAdds o = AddsUp p (exchanged t p k p.segments) (λ s. []) (λ s. by s o)
 
-  reads : (o : Outcome) → IsRead o (read_of (host_of t p) size) → k ≡ receiving (host_of t p) size → ReadAdds o
-  reads (outcome.Read v) x e = on_side t p k p.segments (λ s. []) (λ s. where_same s t v.items)
+  reads : (n : ℕ) (o : Outcome) → IsRead o (take n (host_of t p).control_block.rx_buffer.bytes) → k ≡ receiving (host_of t p) n → ReadAdds o
+  reads n (outcome.Read v) x e = on_side t p k p.segments (λ s. []) (λ s. by s (outcome.Read v))
       (record {
         accepted_bytes = ap (λ (y : HostView). y.accepted) e ∙ sym (append-nil (host_of t p).accepted);
-        handed_out_bytes = ap (λ (y : HostView). y.handed_out) e ∙ ap (λ xs. (host_of t p).handed_out ++ xs) (sym x ∙ sym (same_there t v.items));
+        handed_out_bytes = ap (λ (y : HostView). y.handed_out) e ∙ ap (λ xs. (host_of t p).handed_out ++ xs) (sym x ∙ sym (some t v ∙ same_there t v.items));
       })
-      refl (none_elsewhere t v.items)
-  reads _ x e = absurd x
+      refl (some (other_side t) v ∙ none_elsewhere t v.items)
+  reads n _ x e = absurd x
 
-  reads_if : (b : Bool) (o : Outcome) → ReceivesIf b (host_of t p) size o k → ReadAdds o
-  reads_if true o x = reads o x.0 x.1
-  reads_if false o x = subst ReadAdds (sym x.0) (on_side t p k p.segments (λ s. []) (λ s. []) (same (host_of t p) k x.1) refl refl)
+  reads_if : (b piece : Bool) (size : ℕ) (o : Outcome) → ReceivesIf b piece size (host_of t p) o k → ReadAdds o
+  reads_if true piece size o x = let s = hands_some piece size (host_of t p) o k x in reads s.count o s.does.answer s.does.host
+  reads_if false piece size o x = subst ReadAdds (sym x.0) (on_side t p k p.segments (λ s. []) (λ s. by s (outcome.RecvRefused recv_error.InvalidState)) (subst (λ xs. HostAdds (host_of t p) k [] xs) (sym (shut t)) (same (host_of t p) k x.1)) refl (shut (other_side t)))
 
 -- a delivery
 delivers_to : (old : Bool) (s : Side) (m : Moment) (t : StoredView) (o : Outcome) (h h' : HostView) (ks ks' : List StoredView) → DeliversTo old s m t o h ks h' ks' → HostAdds h h' [] []
@@ -142,8 +145,11 @@ with_is_exchanged B p k = refl
 pub step_adds_up : (e : Event) (p : PairView) (o : Outcome) (q : PairView) → EventStep e p o q → AddsUp p q (λ s. accepted_by s e o) (λ s. handed_out_by s e o)
 step_adds_up (event.Listen t) p o q x = one_side t p q x.host _ _ (x.same ∙ with_is_exchanged t p x.host) (on_side t p x.host p.segments (λ s. []) (λ s. []) (opens (host_of t p).opening (host_of t p) (listening (host_of t p)) x.host o (nothing _ _ refl refl) x.does) refl refl)
 step_adds_up (event.Connect t m) p o q x = one_side t p q x.host _ _ (x.same ∙ with_is_exchanged t p x.host) (on_side t p x.host p.segments (λ s. []) (λ s. []) (opens (host_of t p).opening (host_of t p) (connecting (host_of t p) m (host_of (other_side t) p).endpoint) x.host o (nothing _ _ refl refl) x.does) refl refl)
-step_adds_up (event.SendSlice t bytes) p o q x = one_side t p q x.host _ _ (x.same ∙ with_is_exchanged t p x.host) (sends t p bytes x.host (is_over p.limit (length (host_of t p).accepted + length bytes.items)) o x.does)
-step_adds_up (event.RecvSlice t size) p o q x = one_side t p q x.host _ _ (x.same ∙ with_is_exchanged t p x.host) (reads_if t p size x.host (may_recv (host_of t p).control_block) o x.does)
+step_adds_up (event.SendSlice t bytes) p o q x = one_side t p q x.host _ _ (x.same ∙ with_is_exchanged t p x.host) (sends t p bytes.items x.host (λ s o. accepted_by s (event.SendSlice t bytes) o) (λ s n. refl) (λ s. refl) (λ s. refl) (is_over p.limit (length (host_of t p).accepted + length bytes.items)) None o x.does)
+step_adds_up (event.Send t bytes size) p o q x = one_side t p q x.host _ _ (x.same ∙ with_is_exchanged t p x.host) (sends t p bytes.items x.host (λ s o. accepted_by s (event.Send t bytes size) o) (λ s n. refl) (λ s. refl) (λ s. refl) (is_over p.limit (length (host_of t p).accepted + length bytes.items)) (Some size) o x.does)
+step_adds_up (event.RecvSlice t size) p o q x = one_side t p q x.host _ _ (x.same ∙ with_is_exchanged t p x.host) (reads_if t p x.host (λ s o. handed_out_by s (event.RecvSlice t size) o) (λ s v. refl) (λ s. refl) (may_recv (host_of t p).control_block) false size o x.does)
+step_adds_up (event.Recv t size) p o q x = one_side t p q x.host _ _ (x.same ∙ with_is_exchanged t p x.host) (reads_if t p x.host (λ s o. handed_out_by s (event.Recv t size) o) (λ s v. refl) (λ s. refl) (may_recv (host_of t p).control_block) true size o x.does)
+step_adds_up (event.Set t x) p o q d = one_side t p q d.host _ _ (d.same ∙ with_is_exchanged t p d.host) (on_side t p d.host p.segments (λ s. []) (λ s. []) (nothing (host_of t p) d.host (ap (λ (h : HostView). h.accepted) d.does.1) (ap (λ (h : HostView). h.handed_out) d.does.1)) refl refl)
 step_adds_up (event.Dispatch t m fail) p o q x = subst (λ z. AddsUp p z (λ s. []) (λ s. [])) (sym x.same) (on_side t p x.host x.segments (λ s. []) (λ s. []) (nothing (host_of t p) x.host (ap (λ (z : HostView). z.accepted) x.does.does.same) (ap (λ (z : HostView). z.handed_out) x.does.does.same)) refl refl)
 step_adds_up (event.Deliver i m) p o q x = delivers (slice_get p.segments i) m p q o x
 

@@ -11,7 +11,7 @@ use Rattle.control_wire.specs.declared.tcp.TcpControl.TheVariants as control
 use Rattle.sock_core.specs.Facts.{Facts}
 use Rattle.sock_tcp.specs.View.{View, moment_of, fresh}
 use Rattle.sock_tcp.specs.Opening.{listened, connected, renewed}
-use Rattle.sock_tcp.specs.Queues.{queued, written, read_off}
+use Rattle.sock_tcp.specs.Queues.{queued, read_off}
 use Rattle.sock_tcp.specs.Due.{begun, begun_to, before_emit, before_emit_to, ended, last_ts_set, last_ts_set_at}
 use Rattle.sock_tcp.specs.Content.{Sending, content}
 use Rattle.sock_tcp.specs.Dispatch.{left_by, sent}
@@ -41,9 +41,9 @@ pub connected_fin : (v : View) (t : Tuple) (word : ℕ) → (connected v t word)
 unfolding connected renewed fresh
 connected_fin v t word = refl
 
-pub written_fin : (v : View) (bs : List ℕ) → CountsNoFin v (written v bs)
+pub queued_fin : (v : View) (n : ℕ) (bs : List ℕ) → CountsNoFin v (queued v n bs)
 unfolding queued
-written_fin v bs = λ e. e
+queued_fin v n bs = λ e. e
 
 pub read_fin : (v : View) (n : ℕ) → CountsNoFin v (read_off v n)
 unfolding read_off

@@ -1,6 +1,6 @@
 -- What each event keeps of a host, and of a pair but for its network.
 use Rattle.std.proofs.Common.{◌≡◌, ℕ, Bool, true, false, List, [], length, Option, Some, None, refl, sym, ap, subst, ◌∙◌}
-use Rattle.std.specs.Prelude.{IsTrue, not, min, ◌==◌, if◌then◌else◌}
+use Rattle.std.specs.Prelude.{IsTrue, not, ◌==◌, if◌then◌else◌}
 use Rattle.ip_wire.specs.Address.{SameVersion}
 use Rattle.ip_wire.specs.declared.endpoint.IpEndpoint.{IpEndpoint}
 use Rattle.sock_core.specs.Facts.{Facts}
@@ -13,7 +13,10 @@ use Rattle.sock_tcp.specs.Queues.{may_send, may_recv, receives, can_recv}
 use Rattle.sock_tcp.specs.declared.state.State.TheVariants as state
 use Rattle.sock_pair.specs.Moments.{facts_of}
 use Rattle.sock_pair.specs.NetworkInvariant.{IsInvariant, IsLimit}
-use Rattle.sock_pair.specs.PairCalls.{listening, connecting, OpensAs, sending, Sends, SendsUnder, SendsIf, is_over, receiving, Receives, ReceivesIf}
+use Rattle.sock_pair.specs.PairCalls.{listening, connecting, OpensAs, sending, Sends, SendsUnder, SendsIf, is_over, receiving, Receives, ReceivesIf, setting as setting_host, Sets}
+use Rattle.sock_pair.specs.Settings.{set_in}
+use Rattle.sock_pair.specs.declared.setting.Setting.{Setting}
+use Rattle.sock_pair.specs.declared.setting.Setting.TheVariants as setting
 use Rattle.sock_pair.specs.PairInvariant.{IsIdle, IsReachable, IsHost, IsPair}
 use Rattle.sock_pair.specs.PairNetwork.{network_of}
 use Rattle.sock_pair.specs.PairSteps.{Dispatches, DeliversTo, DeliversIf, delivered_to, exchanged}
@@ -27,8 +30,9 @@ use Rattle.sock_pair.specs.declared.recorder.Sent.{Sent}
 use Rattle.sock_pair.specs.declared.side.Side.{Side}
 use Rattle.sock_pair.specs.declared.side.Side.TheVariants.{A, B}
 use Rattle.sock_pair.proofs.NetworkRuns.{starts}
-use Rattle.sock_pair.proofs.PairFins.{connected_fin, dispatch_fin, listened_fin, process_fin, read_fin, written_fin}
-use Rattle.sock_pair.proofs.PairListeners.{connected_active, dispatch_listens, listened_passive, passive_kept, process_listens, read_listens, written_listens}
+use Rattle.sock_pair.proofs.PairFins.{connected_fin, dispatch_fin, listened_fin, process_fin, queued_fin, read_fin}
+use Rattle.sock_pair.proofs.PairListeners.{connected_active, dispatch_listens, listened_passive, passive_kept, process_listens, queued_listens, read_listens, KeepsListener}
+use Rattle.sock_pair.proofs.PairAmounts.{takes_some, hands_some}
 
 -- a host that is one still, on the same endpoint
 pub record StaysHost (h k : HostView) : Type 0 where
@@ -63,23 +67,44 @@ cannot_recv h i m u =
     let both : may_recv h.control_block ≡ false = ap (λ b. if b then true else can_recv h.control_block) closed ∙ none in
     let no : false ≡ true = sym both ∙ m in cc
 
-pub send_stays : (h k : HostView) (limit : Option ℕ) (bs : List ℕ) (o : Outcome) → IsHost h → Sends limit bs h o k → StaysHost h k
-send_stays h k limit bs o i e = go (is_over limit _) e
+pub send_stays : (h k : HostView) (limit size : Option ℕ) (bs : List ℕ) (o : Outcome) → IsHost h → Sends limit size bs h o k → StaysHost h k
+send_stays h k limit size bs o i e = go (is_over limit _) e
   where
-    take_some : (b : Bool) → may_send h.control_block.state ≡ b → SendsIf b h bs o k → StaysHost h k
-    take_some true m x = subst (StaysHost h) (sym x.1) (record { host = record { reachable = i.reachable; idle = λ u. absurd (cannot_send h i m u); passive = passive_kept h (sending h bs) i refl (written_listens h.control_block bs); no_fin = written_fin h.control_block bs i.no_fin }; endpoint = refl })
+    take_some : (b : Bool) → may_send h.control_block.state ≡ b → SendsIf b size bs h o k → StaysHost h k
+    take_some true m x =
+        let s = takes_some size bs h o k x in
+        subst (StaysHost h) (sym s.host) (record { host = record { reachable = i.reachable; idle = λ u. absurd (cannot_send h i m u); passive = passive_kept h (sending h s.count bs) i refl (queued_listens h.control_block s.count bs); no_fin = queued_fin h.control_block s.count bs i.no_fin }; endpoint = refl })
     take_some false m x = unchanged h k i x.1
 
-    go : (b : Bool) → SendsUnder b h bs o k → StaysHost h k
+    go : (b : Bool) → SendsUnder b size bs h o k → StaysHost h k
     go true x = unchanged h k i x.1
     go false x = take_some (may_send h.control_block.state) refl x
 
-pub recv_stays : (h k : HostView) (size : ℕ) (o : Outcome) → IsHost h → Receives size h o k → StaysHost h k
-recv_stays h k size o i e = go (may_recv h.control_block) refl e
+pub recv_stays : (h k : HostView) (piece : Bool) (size : ℕ) (o : Outcome) → IsHost h → Receives piece size h o k → StaysHost h k
+recv_stays h k piece size o i e = go (may_recv h.control_block) refl e
   where
-    go : (b : Bool) → may_recv h.control_block ≡ b → ReceivesIf b h size o k → StaysHost h k
-    go true m x = subst (StaysHost h) (sym x.1) (record { host = record { reachable = i.reachable; idle = λ u. absurd (cannot_recv h i m u); passive = passive_kept h (receiving h size) i refl (read_listens h.control_block (min size (length h.control_block.rx_buffer.bytes))); no_fin = read_fin h.control_block (min size (length h.control_block.rx_buffer.bytes)) i.no_fin }; endpoint = refl })
+    go : (b : Bool) → may_recv h.control_block ≡ b → ReceivesIf b piece size h o k → StaysHost h k
+    go true m x =
+        let s = hands_some piece size h o k x in
+        subst (StaysHost h) (sym s.does.host) (record { host = record { reachable = i.reachable; idle = λ u. absurd (cannot_recv h i m u); passive = passive_kept h (receiving h s.count) i refl (read_listens h.control_block s.count); no_fin = read_fin h.control_block s.count i.no_fin }; endpoint = refl })
     go false m x = unchanged h k i x.1
+
+-- ---- settings
+
+set_idle : (s : Setting) (v : View) → IsIdle v → IsIdle (set_in s v)
+set_idle (setting.KeepAlive t) v i = record { state = i.state; tuple = i.tuple; rx = i.rx; tx = i.tx }
+set_idle _ v i = record { state = i.state; tuple = i.tuple; rx = i.rx; tx = i.tx }
+
+set_listens : (s : Setting) (v : View) → KeepsListener v (set_in s v)
+set_listens (setting.KeepAlive t) v = λ n. (n, refl)
+set_listens _ v = λ n. (n, refl)
+
+set_fin : (s : Setting) (v : View) → v.rx_fin_received ≡ false → (set_in s v).rx_fin_received ≡ false
+set_fin (setting.KeepAlive t) v e = e
+set_fin _ v e = e
+
+pub set_stays : (h k : HostView) (s : Setting) (o : Outcome) → IsHost h → Sets s h o k → StaysHost h k
+set_stays h k s o i e = subst (StaysHost h) (sym e.1) (record { host = record { reachable = i.reachable; idle = λ u. set_idle s h.control_block (i.idle u); passive = passive_kept h (setting_host h s) i refl (set_listens s h.control_block); no_fin = set_fin s h.control_block i.no_fin }; endpoint = refl })
 
 -- ---- dispatches and deliveries
 

@@ -12,7 +12,7 @@ use Rattle.control_wire.specs.declared.tcp.TcpControl.TheVariants as control
 use Rattle.sock_core.specs.Facts.{Facts}
 use Rattle.sock_tcp.specs.View.{View, moment_of, fresh}
 use Rattle.sock_tcp.specs.Opening.{listened, connected, renewed}
-use Rattle.sock_tcp.specs.Queues.{queued, written, read_off}
+use Rattle.sock_tcp.specs.Queues.{queued, read_off}
 use Rattle.sock_tcp.specs.Due.{begun, begun_to, before_emit, before_emit_to, ended, last_ts_set, last_ts_set_at}
 use Rattle.sock_tcp.specs.Content.{Sending, content}
 use Rattle.sock_tcp.specs.Dispatch.{left_by, sent}
@@ -59,9 +59,9 @@ pub connected_active : (v : View) (t : Tuple) (word : ℕ) → is_passive (conne
 unfolding connected renewed fresh
 connected_active v t word = refl
 
-pub written_listens : (v : View) (bs : List ℕ) → KeepsListener v (written v bs)
+pub queued_listens : (v : View) (k : ℕ) (bs : List ℕ) → KeepsListener v (queued v k bs)
 unfolding queued
-written_listens v bs = λ n. (n, refl)
+queued_listens v k bs = λ n. (n, refl)
 
 pub read_listens : (v : View) (n : ℕ) → KeepsListener v (read_off v n)
 unfolding read_off

@@ -1,6 +1,6 @@
 -- Each event of a pair is a run of steps of the theorem on two streams.
-use Rattle.std.proofs.Common.{◌≡◌, ℕ, ◌+◌, ◌<◌, ◌≤◌, ◌^◌, List, [], ◌∷◌, length, ◌++◌, Bool, true, false, Option, Some, None, refl, sym, ap, subst, ◌∙◌, arith, inr, length-append, length-take}
-use Rattle.std.specs.Prelude.{IsTrue, not, min, option_map, slice_get, Result, Ok, Err, IfOk, OnErr}
+use Rattle.std.proofs.Common.{◌≡◌, ℕ, ◌+◌, ◌<◌, ◌≤◌, ◌^◌, List, [], ◌∷◌, length, take, ◌++◌, Bool, true, false, Option, Some, None, refl, sym, ap, subst, ◌∙◌, arith, inr, length-append, length-take}
+use Rattle.std.specs.Prelude.{IsTrue, not, option_map, slice_get, Result, Ok, Err, IfOk, OnErr}
 use Rattle.std.proofs.lemmas.Bool.Decides.{nat_tests}
 use Rattle.std.proofs.lemmas.List.{append-nil}
 use Rattle.std.specs.List.{Contains}
@@ -11,7 +11,7 @@ use Rattle.sock_core.specs.Facts.{Facts}
 use Rattle.sock_core.specs.Received.{room_of}
 use Rattle.sock_tcp.specs.Queue.{capacity}
 use Rattle.sock_tcp.specs.View.{View}
-use Rattle.sock_tcp.specs.Queues.{may_send, may_recv, written}
+use Rattle.sock_tcp.specs.Queues.{may_send, may_recv, queued}
 use Rattle.sock_tcp.specs.Due.{Begun, before_emit}
 use Rattle.sock_tcp.specs.Content.{Sending, content}
 use Rattle.sock_tcp.specs.Dispatch.{left_by}
@@ -30,7 +30,7 @@ use Rattle.sock_pair.proofs.NetworkDeliveries.{sending_bounds, nothing_received}
 use Rattle.sock_pair.proofs.NetworkReaches.{begins_reach, delivery_reaches, emission_reaches, one_step, reach_keeps, reach_then, stays_there}
 use Rattle.sock_pair.proofs.PairHosts.{cannot_send, cannot_recv, closed_accepts_none, host_at, no_peer_readies}
 use Rattle.sock_pair.proofs.PairReturns.{contains_at}
-use Rattle.sock_pair.proofs.ShownCalls.{listened_shows, connected_shows, written_shows, read_shows, sends_open}
+use Rattle.sock_pair.proofs.ShownCalls.{listened_shows, connected_shows, queued_shows, read_shows, sends_open, set_shows}
 use Rattle.sock_pair.proofs.ShownDispatch.{begun_shows, emission_plans}
 use Rattle.sock_pair.proofs.ShownNetworks.{between, side_network, from_side, exchanged_reached, with_reached, stays_reached, unchanged_reached, stored_is, sent_has, may_arrive}
 use Rattle.sock_pair.proofs.ShownProcess.{process_heard}
@@ -38,7 +38,9 @@ use Rattle.sock_pair.specs.NetworkInvariant.{IsInvariant}
 use Rattle.sock_pair.specs.PairInvariant.{HasSmallBuffers, IsIdle, IsHost, IsPair, IsSized}
 use Rattle.sock_pair.specs.PairNetwork.{seen, is_listener, is_passive, shown, stream_segment, endpoint_of, shown_segment, network_at, network_of, IsSmall}
 use Rattle.sock_pair.specs.PairViews.{HostView, StoredView, PairView, host_of, with_host, new_host, new_pair}
-use Rattle.sock_pair.specs.PairCalls.{listening, connecting, OpensAs, is_over, accepted_of, sending, Sends, SendsIf, SendsUnder, receiving, Receives, ReceivesIf}
+use Rattle.sock_pair.specs.PairCalls.{listening, connecting, OpensAs, is_over, sending, Sends, SendsIf, SendsUnder, receiving, Receives, ReceivesIf, setting, Sets}
+use Rattle.sock_pair.specs.declared.setting.Setting.{Setting}
+use Rattle.sock_pair.proofs.PairAmounts.{takes_some, hands_some}
 use Rattle.sock_pair.specs.PairSteps.{EventStep, Delivers, Dispatches, stored_at, DeliversTo, DeliversIf, is_old, exchanged, processed_by, delivered_to}
 use Rattle.sock_pair.specs.Recording.{Records, SendsTo, SendsFrom, SocketDispatches}
 use Rattle.sock_pair.specs.StreamCalls.{ProcessEffect}
@@ -192,34 +194,41 @@ module _ (s : Side) (h o : HostView) (ks : List StoredView) (limit : Option ℕ)
 
   -- ---- send
 
-  sends_as : (b : Bool) (bs : List ℕ) → may_send h.control_block.state ≡ true → length h.control_block.tx_buffer.bytes + length (accepted_of h bs) ≤ 2 ^ 30 → IsWithin limit (h.accepted ++ accepted_of h bs) → Reaches (between s (opened h b h.control_block) (endpoint_of o) ks limit) (between s (opened (sending h bs) b (written h.control_block bs)) (endpoint_of o) ks limit)
-  sends_as b bs may room within =
-      one_step _ _ (TakesBytes (accepted_of h bs) (sends_open h.control_block.state may) room within
-      (ap (λ (v : SocketView). between s (record (endpoint_of (sending h bs)) { view = v; listener = b }) (endpoint_of o) ks limit) (written_shows h.control_block bs)))
+  sends_as : (b : Bool) (n : ℕ) (bs : List ℕ) → may_send h.control_block.state ≡ true → length h.control_block.tx_buffer.bytes + length (take n bs) ≤ 2 ^ 30 → IsWithin limit (h.accepted ++ take n bs) → Reaches (between s (opened h b h.control_block) (endpoint_of o) ks limit) (between s (opened (sending h n bs) b (queued h.control_block n bs)) (endpoint_of o) ks limit)
+  sends_as b n bs may room within =
+      one_step _ _ (TakesBytes (take n bs) (sends_open h.control_block.state may) room within
+      (ap (λ (v : SocketView). between s (record (endpoint_of (sending h n bs)) { view = v; listener = b }) (endpoint_of o) ks limit) (queued_shows h.control_block n bs)))
 
-  sends_in : (e : Opening) (bs : List ℕ) → (e ≡ opening.Unopened → ⊥) → may_send h.control_block.state ≡ true → length h.control_block.tx_buffer.bytes + length (accepted_of h bs) ≤ 2 ^ 30 → IsWithin limit (h.accepted ++ accepted_of h bs) → Reaches (network_at s (record h { opening = e }) o ks limit) (network_at s (record (sending h bs) { opening = e }) o ks limit)
-  sends_in opening.Unopened bs shut may room within = absurd (shut refl)
-  sends_in opening.Listener bs shut may room within = sends_as true bs may room within
-  sends_in opening.Connector bs shut may room within = sends_as false bs may room within
+  sends_in : (e : Opening) (n : ℕ) (bs : List ℕ) → (e ≡ opening.Unopened → ⊥) → may_send h.control_block.state ≡ true → length h.control_block.tx_buffer.bytes + length (take n bs) ≤ 2 ^ 30 → IsWithin limit (h.accepted ++ take n bs) → Reaches (network_at s (record h { opening = e }) o ks limit) (network_at s (record (sending h n bs) { opening = e }) o ks limit)
+  sends_in opening.Unopened n bs shut may room within = absurd (shut refl)
+  sends_in opening.Listener n bs shut may room within = sends_as true n bs may room within
+  sends_in opening.Connector n bs shut may room within = sends_as false n bs may room within
 
   -- ---- recv
 
-  reads_as : (b : Bool) (size : ℕ) → Reaches (between s (opened h b h.control_block) (endpoint_of o) ks limit) (between s (opened (receiving h size) b (receiving h size).control_block) (endpoint_of o) ks limit)
-  reads_as b size =
-      one_step _ _ (HandsOut (min size (length h.control_block.rx_buffer.bytes))
-      (ap (λ (v : SocketView). between s (record (endpoint_of (receiving h size)) { view = v; listener = b }) (endpoint_of o) ks limit) (read_shows h.control_block (min size (length h.control_block.rx_buffer.bytes)) (omega arith))))
+  reads_as : (b : Bool) (n : ℕ) → n ≤ length h.control_block.rx_buffer.bytes → Reaches (between s (opened h b h.control_block) (endpoint_of o) ks limit) (between s (opened (receiving h n) b (receiving h n).control_block) (endpoint_of o) ks limit)
+  reads_as b n within =
+      one_step _ _ (HandsOut n
+      (ap (λ (v : SocketView). between s (record (endpoint_of (receiving h n)) { view = v; listener = b }) (endpoint_of o) ks limit) (read_shows h.control_block n within)))
 
-  reads_in : (e : Opening) (size : ℕ) → (e ≡ opening.Unopened → ⊥) → Reaches (network_at s (record h { opening = e }) o ks limit) (network_at s (record (receiving h size) { opening = e }) o ks limit)
-  reads_in opening.Unopened size shut = absurd (shut refl)
-  reads_in opening.Listener size shut = reads_as true size
-  reads_in opening.Connector size shut = reads_as false size
+  reads_in : (e : Opening) (n : ℕ) → n ≤ length h.control_block.rx_buffer.bytes → (e ≡ opening.Unopened → ⊥) → Reaches (network_at s (record h { opening = e }) o ks limit) (network_at s (record (receiving h n) { opening = e }) o ks limit)
+  reads_in opening.Unopened n within shut = absurd (shut refl)
+  reads_in opening.Listener n within shut = reads_as true n within
+  reads_in opening.Connector n within shut = reads_as false n within
+
+  -- ---- settings
+
+  sets_in : (e : Opening) (x : Setting) → network_at s (record h { opening = e }) o ks limit ≡ network_at s (record (setting h x) { opening = e }) o ks limit
+  sets_in opening.Unopened x = refl
+  sets_in opening.Listener x = ap (λ (v : SocketView). between s (record (endpoint_of h) { view = v; listener = true }) (endpoint_of o) ks limit) (sym (set_shows x h.control_block))
+  sets_in opening.Connector x = ap (λ (v : SocketView). between s (record (endpoint_of h) { view = v; listener = false }) (endpoint_of o) ks limit) (sym (set_shows x h.control_block))
 
 -- within the limit
-not_over : (limit : Option ℕ) (h : HostView) (bs : List ℕ) → is_over limit (length h.accepted + length bs) ≡ false → IsWithin limit (h.accepted ++ accepted_of h bs)
-not_over None h bs e = tt
-not_over (Some limit) h bs e =
+not_over : (limit : Option ℕ) (h : HostView) (n : ℕ) (bs : List ℕ) → is_over limit (length h.accepted + length bs) ≡ false → IsWithin limit (h.accepted ++ take n bs)
+not_over None h n bs e = tt
+not_over (Some limit) h n bs e =
     let le : length h.accepted + length bs ≤ limit = grind (arith, nat_tests, e) in
-    omega (arith, le, length-append h.accepted (accepted_of h bs), length-take (min (length bs) h.control_block.tx_buffer.window) bs)
+    omega (arith, le, length-append h.accepted (take n bs), length-take n bs)
 
 module _ (s : Side) (p : PairView) (host : IsHost (host_of s p)) (i : IsInvariant (network_of p)) where
   pub listen_reaches : (o : Outcome) (k : HostView) → OpensAs (host_of s p).opening (host_of s p) (listening (host_of s p)) o k → Reaches (network_of p) (network_of (with_host s p k))
@@ -229,27 +238,34 @@ module _ (s : Side) (p : PairView) (host : IsHost (host_of s p)) (i : IsInvarian
   connect_reaches m remote o k w e = with_reached s p k (opens_in s (host_of s p) k (connecting (host_of s p) m remote) o (host_of (other_side s) p) p.segments p.limit (host_of s p).opening e (λ u. connects_reach s (host_of s p) (host_of (other_side s) p) p.segments p.limit m remote w u))
 
   -- the transmit buffer has at most 2^30 bytes
-  pub send_reaches : (bs : List ℕ) (o : Outcome) (k : HostView) → capacity (host_of s p).control_block.tx_buffer ≤ 2 ^ 30 → Sends p.limit bs (host_of s p) o k → Reaches (network_of p) (network_of (with_host s p k))
-  send_reaches bs o k room e = go (is_over p.limit (length (host_of s p).accepted + length bs)) refl e
+  pub send_reaches : (size : Option ℕ) (bs : List ℕ) (o : Outcome) (k : HostView) → capacity (host_of s p).control_block.tx_buffer ≤ 2 ^ 30 → Sends p.limit size bs (host_of s p) o k → Reaches (network_of p) (network_of (with_host s p k))
+  send_reaches size bs o k room e = go (is_over p.limit (length (host_of s p).accepted + length bs)) refl e
     where
-      take_some : (b : Bool) → may_send (host_of s p).control_block.state ≡ b → is_over p.limit (length (host_of s p).accepted + length bs) ≡ false → SendsIf b (host_of s p) bs o k → Reaches (network_of p) (network_of (with_host s p k))
+      take_some : (b : Bool) → may_send (host_of s p).control_block.state ≡ b → is_over p.limit (length (host_of s p).accepted + length bs) ≡ false → SendsIf b size bs (host_of s p) o k → Reaches (network_of p) (network_of (with_host s p k))
       take_some false may x d = stays_reached s p k d.1
       take_some true may x d =
-          with_reached s p k (subst (λ z. Reaches (side_network s p (host_of s p) p.segments) (side_network s p z p.segments)) (sym d.1)
-          (sends_in s (host_of s p) (host_of (other_side s) p) p.segments p.limit (host_of s p).opening bs (cannot_send (host_of s p) host may) may (omega (arith, room, length-take (min (length bs) (host_of s p).control_block.tx_buffer.window) bs)) (not_over p.limit (host_of s p) bs x)))
+          let t = takes_some size bs (host_of s p) o k d in
+          with_reached s p k (subst (λ z. Reaches (side_network s p (host_of s p) p.segments) (side_network s p z p.segments)) (sym t.host)
+          (sends_in s (host_of s p) (host_of (other_side s) p) p.segments p.limit (host_of s p).opening t.count bs (cannot_send (host_of s p) host may) may (omega (arith, room, t.fits, length-take t.count bs)) (not_over p.limit (host_of s p) t.count bs x)))
 
-      go : (b : Bool) → is_over p.limit (length (host_of s p).accepted + length bs) ≡ b → SendsUnder b (host_of s p) bs o k → Reaches (network_of p) (network_of (with_host s p k))
+      go : (b : Bool) → is_over p.limit (length (host_of s p).accepted + length bs) ≡ b → SendsUnder b size bs (host_of s p) o k → Reaches (network_of p) (network_of (with_host s p k))
       go true x d = stays_reached s p k d.1
       go false x d = take_some (may_send (host_of s p).control_block.state) refl x d
 
-  pub recv_reaches : (size : ℕ) (o : Outcome) (k : HostView) → Receives size (host_of s p) o k → Reaches (network_of p) (network_of (with_host s p k))
-  recv_reaches size o k e = go (may_recv (host_of s p).control_block) refl e
+  pub recv_reaches : (piece : Bool) (size : ℕ) (o : Outcome) (k : HostView) → Receives piece size (host_of s p) o k → Reaches (network_of p) (network_of (with_host s p k))
+  recv_reaches piece size o k e = go (may_recv (host_of s p).control_block) refl e
     where
-      go : (b : Bool) → may_recv (host_of s p).control_block ≡ b → ReceivesIf b (host_of s p) size o k → Reaches (network_of p) (network_of (with_host s p k))
+      go : (b : Bool) → may_recv (host_of s p).control_block ≡ b → ReceivesIf b piece size (host_of s p) o k → Reaches (network_of p) (network_of (with_host s p k))
       go false may d = stays_reached s p k d.1
       go true may d =
-          with_reached s p k (subst (λ z. Reaches (side_network s p (host_of s p) p.segments) (side_network s p z p.segments)) (sym d.1)
-          (reads_in s (host_of s p) (host_of (other_side s) p) p.segments p.limit (host_of s p).opening size (cannot_recv (host_of s p) host may)))
+          let t = hands_some piece size (host_of s p) o k d in
+          with_reached s p k (subst (λ z. Reaches (side_network s p (host_of s p) p.segments) (side_network s p z p.segments)) (sym t.does.host)
+          (reads_in s (host_of s p) (host_of (other_side s) p) p.segments p.limit (host_of s p).opening t.count t.within (cannot_recv (host_of s p) host may)))
+
+  pub set_reaches : (x : Setting) (o : Outcome) (k : HostView) → Sets x (host_of s p) o k → Reaches (network_of p) (network_of (with_host s p k))
+  set_reaches x o k e =
+      with_reached s p k (subst (λ z. Reaches (side_network s p (host_of s p) p.segments) (side_network s p z p.segments)) (sym e.1)
+      (stays_there _ _ (sets_in s (host_of s p) (host_of (other_side s) p) p.segments p.limit (host_of s p).opening x)))
 
   pub dispatch_reaches : (m : Moment) (fail : Bool) (o : Outcome) (k : HostView) (ks : List StoredView) → Dispatches s m fail o (host_of s p) p.segments k ks → Reaches (network_of p) (network_of (exchanged s p k ks))
   dispatch_reaches m fail o k ks e =
@@ -283,11 +299,14 @@ module _ (s : Side) (p : PairView) (host : IsHost (host_of s p)) (i : IsInvarian
   pub connect_keeps : (m : Moment) (remote : IpEndpoint) (o : Outcome) (k : HostView) → m.word < 2 ^ 32 → OpensAs (host_of s p).opening (host_of s p) (connecting (host_of s p) m remote) o k → IsInvariant (network_of (with_host s p k))
   connect_keeps m remote o k w e = reach_keeps _ _ (connect_reaches m remote o k w e) i
 
-  pub send_keeps : (bs : List ℕ) (o : Outcome) (k : HostView) → capacity (host_of s p).control_block.tx_buffer ≤ 2 ^ 30 → Sends p.limit bs (host_of s p) o k → IsInvariant (network_of (with_host s p k))
-  send_keeps bs o k room e = reach_keeps _ _ (send_reaches bs o k room e) i
+  pub send_keeps : (size : Option ℕ) (bs : List ℕ) (o : Outcome) (k : HostView) → capacity (host_of s p).control_block.tx_buffer ≤ 2 ^ 30 → Sends p.limit size bs (host_of s p) o k → IsInvariant (network_of (with_host s p k))
+  send_keeps size bs o k room e = reach_keeps _ _ (send_reaches size bs o k room e) i
 
-  pub recv_keeps : (size : ℕ) (o : Outcome) (k : HostView) → Receives size (host_of s p) o k → IsInvariant (network_of (with_host s p k))
-  recv_keeps size o k e = reach_keeps _ _ (recv_reaches size o k e) i
+  pub recv_keeps : (piece : Bool) (size : ℕ) (o : Outcome) (k : HostView) → Receives piece size (host_of s p) o k → IsInvariant (network_of (with_host s p k))
+  recv_keeps piece size o k e = reach_keeps _ _ (recv_reaches piece size o k e) i
+
+  pub set_keeps : (x : Setting) (o : Outcome) (k : HostView) → Sets x (host_of s p) o k → IsInvariant (network_of (with_host s p k))
+  set_keeps x o k e = reach_keeps _ _ (set_reaches x o k e) i
 
   pub dispatch_keeps : (m : Moment) (fail : Bool) (o : Outcome) (k : HostView) (ks : List StoredView) → Dispatches s m fail o (host_of s p) p.segments k ks → IsInvariant (network_of (exchanged s p k ks))
   dispatch_keeps m fail o k ks e = reach_keeps _ _ (dispatch_reaches m fail o k ks e) i
@@ -318,8 +337,11 @@ delivers_reach j (Some t) m p q o i z at x =
 pub event_reaches : (e : Event) (p : PairView) (o : Outcome) (q : PairView) → IsPair p → IsSized e p → EventStep e p o q → Reaches (network_of p) (network_of q)
 event_reaches (event.Listen s) p o q i z x = to_q p q (with_host s p x.host) x.same (listen_reaches s p (host_at s p i) i.network o x.host x.does)
 event_reaches (event.Connect s m) p o q i z x = to_q p q (with_host s p x.host) x.same (connect_reaches s p (host_at s p i) i.network m (host_of (other_side s) p).endpoint o x.host m.fits x.does)
-event_reaches (event.SendSlice s bytes) p o q i z x = to_q p q (with_host s p x.host) x.same (send_reaches s p (host_at s p i) i.network bytes.items o x.host (buffers_at s p (event.SendSlice s bytes) z).transmit x.does)
-event_reaches (event.RecvSlice s size) p o q i z x = to_q p q (with_host s p x.host) x.same (recv_reaches s p (host_at s p i) i.network size o x.host x.does)
+event_reaches (event.SendSlice s bytes) p o q i z x = to_q p q (with_host s p x.host) x.same (send_reaches s p (host_at s p i) i.network None bytes.items o x.host (buffers_at s p (event.SendSlice s bytes) z).transmit x.does)
+event_reaches (event.Send s bytes size) p o q i z x = to_q p q (with_host s p x.host) x.same (send_reaches s p (host_at s p i) i.network (Some size) bytes.items o x.host (buffers_at s p (event.Send s bytes size) z).transmit x.does)
+event_reaches (event.RecvSlice s size) p o q i z x = to_q p q (with_host s p x.host) x.same (recv_reaches s p (host_at s p i) i.network false size o x.host x.does)
+event_reaches (event.Recv s size) p o q i z x = to_q p q (with_host s p x.host) x.same (recv_reaches s p (host_at s p i) i.network true size o x.host x.does)
+event_reaches (event.Set s y) p o q i z x = to_q p q (with_host s p x.host) x.same (set_reaches s p (host_at s p i) i.network y o x.host x.does)
 event_reaches (event.Dispatch s m fail) p o q i z x = to_q p q (exchanged s p x.host x.segments) x.same (dispatch_reaches s p (host_at s p i) i.network m fail o x.host x.segments x.does)
 event_reaches (event.Deliver j m) p o q i z x = delivers_reach j (slice_get p.segments j) m p q o i z refl x
 

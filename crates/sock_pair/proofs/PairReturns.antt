@@ -61,12 +61,12 @@ over_as s s' p v n b x e f d is =
     let c : is_over p.limit (length (host_of s p).accepted + n) ≡ is_over v.limit (length (host_of s v).accepted + n) = ap (λ (y : PairView). is_over y.limit (length (host_of s y).accepted + n)) f in
     c ∙ sym a ∙ sym d ∙ is
 
-pub sends_under : (limit : Option ℕ) (bs : List ℕ) (h k : HostView) (r : Result Outcome PairError) → is_over limit (length h.accepted + length bs) ≡ false → IfOk r (λ o. SendsIf (may_send h.control_block.state) h bs o k) → IfOk r (λ o. Sends limit bs h o k)
-sends_under limit bs h k (Ok o) e d = subst (λ b. SendsUnder b h bs o k) (sym e) d
-sends_under limit bs h k (Err x) e d = tt
+pub sends_under : (limit size : Option ℕ) (bs : List ℕ) (h k : HostView) (r : Result Outcome PairError) → is_over limit (length h.accepted + length bs) ≡ false → IfOk r (λ o. SendsIf (may_send h.control_block.state) size bs h o k) → IfOk r (λ o. Sends limit size bs h o k)
+sends_under limit size bs h k (Ok o) e d = subst (λ b. SendsUnder b size bs h o k) (sym e) d
+sends_under limit size bs h k (Err x) e d = tt
 
-pub is_refused : (s : Side) (v : PairView) (bs : List ℕ) → is_over v.limit (length (host_of s v).accepted + length bs) ≡ true → OneSide s v v (λ h k. Sends v.limit bs h outcome.StreamLimit k)
-is_refused s v bs e = record { host = host_of s v; does = subst (λ b. SendsUnder b (host_of s v) bs outcome.StreamLimit (host_of s v)) (sym e) (refl, refl); same = sym (same_host s v) }
+pub is_refused : (s : Side) (v : PairView) (size : Option ℕ) (bs : List ℕ) → is_over v.limit (length (host_of s v).accepted + length bs) ≡ true → OneSide s v v (λ h k. Sends v.limit size bs h outcome.StreamLimit k)
+is_refused s v size bs e = record { host = host_of s v; does = subst (λ b. SendsUnder b size bs (host_of s v) outcome.StreamLimit (host_of s v)) (sym e) (refl, refl); same = sym (same_host s v) }
 
 -- ---- deliveries
 

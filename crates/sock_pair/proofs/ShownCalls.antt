@@ -1,18 +1,20 @@
 -- What the calls of the application do to a socket, as the two streams see it.
 use Rattle.std.proofs.Common.{◌≡◌, ℕ, ◌+◌, ◌%◌, ◌^◌, ◌≤◌, true, false, refl, arith, List, ◌++◌, length, drop, take, length-drop}
-use Rattle.std.specs.Prelude.{min}
 use Rattle.ip_wire.specs.declared.endpoint.IpListenEndpoint.{IpListenEndpoint}
 use Rattle.sock_core.proofs.Receiving.{held_stays, none_held}
 use Rattle.sock_core.specs.Received.{handed_out, cleared}
 use Rattle.sock_tcp.specs.View.{View, fresh}
 use Rattle.sock_tcp.specs.Opening.{listened, connected, renewed}
-use Rattle.sock_tcp.specs.Queues.{may_send, queued, written, read_off}
+use Rattle.sock_tcp.specs.Queues.{may_send, queued, read_off}
 use Rattle.sock_tcp.specs.declared.state.State.{State}
 use Rattle.sock_tcp.specs.declared.state.State.TheVariants as state
 use Rattle.sock_tcp.specs.declared.tuple.Tuple.{Tuple}
 use Rattle.sock_pair.specs.NetworkRuns.{unopened}
 use Rattle.sock_pair.specs.PairNetwork.{phase_of, shown}
+use Rattle.sock_pair.specs.Settings.{set_in}
 use Rattle.sock_pair.specs.StreamViews.{Listening, SynSent, Open}
+use Rattle.sock_pair.specs.declared.setting.Setting.{Setting}
+use Rattle.sock_pair.specs.declared.setting.Setting.TheVariants as setting
 
 pub listened_shows : (v : View) (e : IpListenEndpoint) → shown (listened v e) ≡ record unopened.view { phase = Listening }
 unfolding listened renewed fresh cleared
@@ -22,9 +24,13 @@ pub connected_shows : (v : View) (t : Tuple) (word : ℕ) → shown (connected v
 unfolding connected renewed fresh cleared
 connected_shows v t word = λ i. record unopened.view { phase = SynSent; snd_una = word; snd_nxt = word; held = λ k. none_held v.rx_buffer k i }
 
-pub written_shows : (v : View) (bs : List ℕ) → shown (written v bs) ≡ record (shown v) { transmit_queue = v.tx_buffer.bytes ++ take (min (length bs) v.tx_buffer.window) bs }
+pub queued_shows : (v : View) (n : ℕ) (bs : List ℕ) → shown (queued v n bs) ≡ record (shown v) { transmit_queue = v.tx_buffer.bytes ++ take n bs }
 unfolding queued
-written_shows v bs = refl
+queued_shows v n bs = refl
+
+pub set_shows : (s : Setting) (v : View) → shown (set_in s v) ≡ shown v
+set_shows (setting.KeepAlive t) v = refl
+set_shows _ v = refl
 
 -- RCV.NXT stays where it is
 pub read_shows : (v : View) (n : ℕ) → n ≤ length v.rx_buffer.bytes → shown (read_off v n) ≡ record (shown v) { receive_queue = drop n v.rx_buffer.bytes }

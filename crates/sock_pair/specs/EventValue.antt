@@ -3,6 +3,7 @@ use Rattle.std.specs.Prelude.{ℕ, ℤ, Bool, List}
 use Rattle.sock_pair.specs.declared.event.Event.{Event}
 use Rattle.sock_pair.specs.declared.event.Event.TheVariants as event
 use Rattle.sock_pair.specs.declared.moment.Moment.{Moment}
+use Rattle.sock_pair.specs.declared.setting.Setting.{Setting}
 use Rattle.sock_pair.specs.declared.side.Side.{Side}
 
 -- the context of one call, its moment in microseconds
@@ -19,7 +20,10 @@ pub data EventValue : Type 0 where
   listen : Side → EventValue
   connect : Side → MomentValue → EventValue
   send_slice : Side → List ℕ → EventValue
+  send : Side → List ℕ → ℕ → EventValue
   recv_slice : Side → ℕ → EventValue
+  recv : Side → ℕ → EventValue
+  set : Side → Setting → EventValue
   dispatch : Side → MomentValue → Bool → EventValue
   deliver : ℕ → MomentValue → EventValue
 
@@ -27,6 +31,9 @@ abbrev pub event_value : Event → EventValue
 event_value (event.Listen side) = listen side
 event_value (event.Connect side moment) = connect side (moment_value moment)
 event_value (event.SendSlice side bytes) = send_slice side bytes.items
+event_value (event.Send side bytes take) = send side bytes.items take
 event_value (event.RecvSlice side size) = recv_slice side size
+event_value (event.Recv side take) = recv side take
+event_value (event.Set side setting) = set side setting
 event_value (event.Dispatch side moment fail) = dispatch side (moment_value moment) fail
 event_value (event.Deliver index moment) = deliver index (moment_value moment)

@@ -1,4 +1,5 @@
 pub mod EventValue
+pub mod Pieces
 pub mod ReplayEnds
 pub mod ReplayLines
 pub mod ReplayRuns
@@ -8,6 +9,7 @@ pub mod ScriptFaults
 pub mod ScriptLines
 pub mod ScriptText
 pub mod ScriptWords
+pub mod Settings
 pub mod Sides
 pub mod Moments
 pub mod PairTexts

@@ -6,7 +6,7 @@ use Rattle.sock_tcp.specs.Process.{Accepts, Outcome as Processed, processed}
 use Rattle.sock_pair.specs.Moments.{facts_of}
 use Rattle.sock_pair.specs.PairViews.{HostView, StoredView, PairView, host_of, with_host}
 use Rattle.sock_pair.specs.Holding.{stored_segment, kept_at}
-use Rattle.sock_pair.specs.PairCalls.{listening, connecting, OpensAs, is_over, Sends, Receives}
+use Rattle.sock_pair.specs.PairCalls.{listening, connecting, OpensAs, is_over, Sends, Receives, Sets}
 use Rattle.sock_pair.specs.Recording.{SocketDispatches}
 use Rattle.sock_pair.specs.Sides.{other_side}
 use Rattle.sock_pair.specs.declared.event.Event.{Event}
@@ -135,7 +135,10 @@ abbrev pub TakesMemory : Event → PairView → Type 0
 TakesMemory (event.Listen s) p = ⊥
 TakesMemory (event.Connect s m) p = ⊥
 TakesMemory (event.SendSlice s bytes) p = is_over p.limit (length (host_of s p).accepted + length bytes.items) ≡ false
+TakesMemory (event.Send s bytes size) p = is_over p.limit (length (host_of s p).accepted + length bytes.items) ≡ false
 TakesMemory (event.RecvSlice s size) p = Unit {0}
+TakesMemory (event.Recv s size) p = Unit {0}
+TakesMemory (event.Set s x) p = ⊥
 TakesMemory (event.Dispatch s m fail) p = Unit {0}
 TakesMemory (event.Deliver i m) p = DeliveryTakesMemory (slice_get p.segments i) p
 
@@ -146,7 +149,10 @@ abbrev pub EventStep : Event → PairView → Outcome → PairView → Type 0
 EventStep (event.Listen s) p o q = OneSide s p q (λ h k. OpensAs h.opening h (listening h) o k)
 EventStep (event.Connect s m) p o q =
     OneSide s p q (λ h k. OpensAs h.opening h (connecting h m (host_of (other_side s) p).endpoint) o k)
-EventStep (event.SendSlice s bytes) p o q = OneSide s p q (λ h k. Sends p.limit bytes.items h o k)
-EventStep (event.RecvSlice s size) p o q = OneSide s p q (λ h k. Receives size h o k)
+EventStep (event.SendSlice s bytes) p o q = OneSide s p q (λ h k. Sends p.limit None bytes.items h o k)
+EventStep (event.Send s bytes size) p o q = OneSide s p q (λ h k. Sends p.limit (Some size) bytes.items h o k)
+EventStep (event.RecvSlice s size) p o q = OneSide s p q (λ h k. Receives false size h o k)
+EventStep (event.Recv s size) p o q = OneSide s p q (λ h k. Receives true size h o k)
+EventStep (event.Set s x) p o q = OneSide s p q (λ h k. Sets x h o k)
 EventStep (event.Dispatch s m fail) p o q = OneSideAndSegments s p q (Dispatches s m fail o)
 EventStep (event.Deliver i m) p o q = Delivers (slice_get p.segments i) m p o q

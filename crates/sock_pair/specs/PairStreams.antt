@@ -19,11 +19,13 @@ where_same B A bytes = []
 -- `Accepted(n)`
 abbrev pub accepted_by : Side → Event → Outcome → List ℕ
 accepted_by s (event.SendSlice t bytes) (outcome.Accepted n) = where_same s t (take n bytes.items)
+accepted_by s (event.Send t bytes size) (outcome.Accepted n) = where_same s t (take n bytes.items)
 accepted_by s _ _ = []
 
 -- what the side handed out by it: the bytes of a read of its own
 abbrev pub handed_out_by : Side → Event → Outcome → List ℕ
 handed_out_by s (event.RecvSlice t size) (outcome.Read bytes) = where_same s t bytes.items
+handed_out_by s (event.Recv t size) (outcome.Read bytes) = where_same s t bytes.items
 handed_out_by s _ _ = []
 
 -- the same of events in turn, as far as there are outcomes

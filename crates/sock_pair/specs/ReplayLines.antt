@@ -52,6 +52,7 @@ bytes_text (b ∷ bs) = codes " " ++ (b ∷ bs)
 -- what an outcome prints of itself
 abbrev pub outcome_text : List StoredView → Outcome → List ℕ
 outcome_text segments outcome.Opened = codes "opened"
+outcome_text segments outcome.Done = codes "done"
 outcome_text segments (outcome.Accepted n) = codes "accepted " ++ decimal n
 outcome_text segments (outcome.SendRefused e) = codes "send-refused " ++ send_error_text e
 outcome_text segments (outcome.Read bytes) = (codes "read " ++ decimal (length bytes.items)) ++ bytes_text bytes.items

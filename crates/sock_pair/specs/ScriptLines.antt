@@ -6,10 +6,11 @@ use Rattle.sock_pair.specs.declared.script.keyword.Keyword.{Keyword}
 use Rattle.sock_pair.specs.declared.script.keyword.Keyword.TheVariants as keyword
 use Rattle.sock_pair.specs.declared.script.pair_line.PairLine.{PairLine}
 use Rattle.sock_pair.specs.declared.script.Script.{Script}
+use Rattle.sock_pair.specs.declared.setting.Setting.TheVariants as setting
 use Rattle.sock_pair.specs.declared.side.Side.{Side}
-use Rattle.sock_pair.specs.EventValue.{MomentValue, EventValue, listen, connect, send_slice, recv_slice, dispatch, deliver, event_value}
+use Rattle.sock_pair.specs.EventValue.{MomentValue, EventValue, listen, connect, send_slice, recv_slice, set, dispatch, deliver, event_value}
 use Rattle.sock_pair.specs.ScriptText.{lines_left, lines_of, numbered_from}
-use Rattle.sock_pair.specs.ScriptWords.{Word, side_of, number_of, limit_of, text_of, keyword_of, one_of, two_of, three_of, five_of, one_and_text_of}
+use Rattle.sock_pair.specs.ScriptWords.{Word, side_of, switch_of, number_of, limit_of, text_of, keyword_of, one_of, two_of, three_of, five_of, one_and_text_of}
 
 -- the context at so many milliseconds, with this word: the address is there, and the MTU is 1500
 abbrev pub moment_at : ℕ → ℕ → MomentValue
@@ -30,6 +31,10 @@ send_event _ _ = None
 abbrev pub recv_event : Option Side → Option ℕ → Option EventValue
 recv_event (Some side) (Some size) = Some (recv_slice side size)
 recv_event _ _ = None
+
+abbrev pub nagle_event : Option Side → Option Bool → Option EventValue
+nagle_event (Some side) (Some on) = Some (set side (setting.Nagle on))
+nagle_event _ _ = None
 
 abbrev pub dispatch_event : Bool → Option Side → Option ℕ → Option EventValue
 dispatch_event fail (Some side) (Some millis) = Some (dispatch side (moment_at millis 0) fail)
@@ -64,6 +69,10 @@ unfoldable pub recv_line : ℕ → List Word → Result EventValue ScriptError
 recv_line n values =
     by_words n (λ (side, size). recv_event (side_of side) (number_of 1048576 size)) (two_of values)
 
+unfoldable pub nagle_line : ℕ → List Word → Result EventValue ScriptError
+nagle_line n values =
+    by_words n (λ (side, switch). nagle_event (side_of side) (switch_of switch)) (two_of values)
+
 unfoldable pub dispatch_line : Bool → ℕ → List Word → Result EventValue ScriptError
 dispatch_line fail n values =
     by_words n (λ (side, millis). dispatch_event fail (side_of side) (number_of 1000000000 millis)) (two_of values)
@@ -82,6 +91,7 @@ values_mean n (Some keyword.Listen) values = listen_line n values
 values_mean n (Some keyword.Connect) values = connect_line n values
 values_mean n (Some keyword.Send) values = send_line n values
 values_mean n (Some keyword.Recv) values = recv_line n values
+values_mean n (Some keyword.Nagle) values = nagle_line n values
 values_mean n (Some keyword.Dispatch) values = dispatch_line false n values
 values_mean n (Some keyword.Fail) values = dispatch_line true n values
 values_mean n (Some keyword.Deliver) values = deliver_line n values

@@ -1,5 +1,5 @@
 -- What single words of a script mean, and how many words a line has.
-use Rattle.std.specs.Prelude.{ℕ, ◌+◌, ◌-◌, ◌*◌, fold, List, [], ◌∷◌, length, Bool, ◌&&◌, nat_lt, nat_le, Option, Some, None, bytes_eq, codes, if◌then◌else◌}
+use Rattle.std.specs.Prelude.{ℕ, ◌+◌, ◌-◌, ◌*◌, fold, List, [], ◌∷◌, length, Bool, true, false, ◌&&◌, nat_lt, nat_le, Option, Some, None, bytes_eq, codes, if◌then◌else◌}
 use Rattle.std.specs.List.{list_all}
 use Rattle.std.specs.Char.{is_ascii_digit}
 use Rattle.sock_pair.specs.declared.side.Side.{Side}
@@ -15,6 +15,12 @@ unfoldable pub side_of : Word → Option Side
 side_of word =
     if bytes_eq word (codes "a") then Some side.A
     else (if bytes_eq word (codes "b") then Some side.B else None)
+
+-- `on` or `off`
+unfoldable pub switch_of : Word → Option Bool
+switch_of word =
+    if bytes_eq word (codes "on") then Some true
+    else (if bytes_eq word (codes "off") then Some false else None)
 
 -- 1 to 10 decimal digits
 unfoldable pub is_number : Word → Bool
@@ -51,9 +57,10 @@ keyword_of word =
     else (if bytes_eq word (codes "connect") then Some keyword.Connect
     else (if bytes_eq word (codes "send") then Some keyword.Send
     else (if bytes_eq word (codes "recv") then Some keyword.Recv
+    else (if bytes_eq word (codes "nagle") then Some keyword.Nagle
     else (if bytes_eq word (codes "dispatch") then Some keyword.Dispatch
     else (if bytes_eq word (codes "fail") then Some keyword.Fail
-    else (if bytes_eq word (codes "deliver") then Some keyword.Deliver else None))))))
+    else (if bytes_eq word (codes "deliver") then Some keyword.Deliver else None)))))))
 
 -- the words, where there are just so many
 abbrev pub one_of : List Word → Option Word

@@ -1,5 +1,6 @@
 //! What may happen to a pair of sockets.
 use crate::moment::Moment;
+use crate::setting::Setting;
 use crate::side::Side;
 
 /// One call on a pair of sockets.
@@ -19,10 +20,27 @@ pub enum Event {
         side: Side,
         bytes: Vec<u8>,
     },
+    /// `send`, whose closure writes as many of these bytes as the free places that it is lent hold, and lets the
+    /// smaller of `take` and their count join the queue.
+    Send {
+        side: Side,
+        bytes: Vec<u8>,
+        take: usize,
+    },
     /// `recv_slice` of at most so many bytes.
     RecvSlice {
         side: Side,
         size: usize,
+    },
+    /// `recv`, whose closure takes the smaller of `take` and the count of bytes that it is lent.
+    Recv {
+        side: Side,
+        take: usize,
+    },
+    /// The setter of this setting.
+    Set {
+        side: Side,
+        setting: Setting,
     },
     /// `dispatch`, whose emit fails where `fail` says so.
     Dispatch {

@@ -1,10 +1,11 @@
 //! One side of a pair: its socket, and what it accepted and handed out.
-ghost use Rattle.std.specs.Prelude.{◌≡◌, ◌+◌, ◌-◌, ◌≤◌, ◌<◌, ◌^◌, ◌++◌, ◌↔◌, IsTrue, length, option_map, Some, [], not, false, IfOk, OnOk, OnErr, vec_len, vec_capacity};
+ghost use Rattle.std.specs.Prelude.{◌≡◌, ◌+◌, ◌-◌, ◌≤◌, ◌<◌, ◌^◌, ◌++◌, ◌↔◌, IsTrue, length, option_map, Some, [], not, false, IfOk, OnOk, OnErr, vec_len, vec_capacity, min, take, true};
 ghost use Rattle.std.specs.Option.{ForSome};
 ghost use Rattle.control_wire.specs.Segment.{segment_of};
 ghost use Rattle.sock_tcp.specs.Process.{Accepts, processed};
 ghost use Rattle.sock_pair.specs.Moments.{facts_of};
 ghost use Rattle.sock_pair.specs.Holding.{stored_of};
+ghost use Rattle.sock_pair.specs.Pieces.{SendsPiece, ReceivesPiece};
 ghost use Rattle.sock_pair.specs.Recording.{Holds, IsShort, SocketDispatches};
 
 use crate::exchange::Counts;
@@ -12,9 +13,10 @@ use crate::moment::Moment;
 use crate::outcome::{Outcome, PairError};
 use crate::recorder::{EmitFailed, Recorder, Sent};
 use crate::segment::Segment;
+use crate::setting::Setting;
 use control_wire::TcpRepr;
 use ip_wire::{IpEndpoint, IpListenEndpoint, IpRepr};
-use sock_tcp::{Reply, Socket, SocketBuffer};
+use sock_tcp::{RecvError, Reply, SendError, Socket, SocketBuffer};
 use std::alloc::Global;
 use std::marker::Model;
 
@@ -59,7 +61,7 @@ impl<'a> Host<'a> {
     ghost use Rattle.sock_tcp.specs.Queue.{queue_of};
     ghost use Rattle.sock_tcp.specs.Queues.{may_send};
     ghost use Rattle.sock_pair.specs.PairViews.{new_host};
-    ghost use Rattle.sock_pair.specs.PairCalls.{listening, connecting, OpensAs, SendsIf, Receives};
+    ghost use Rattle.sock_pair.specs.PairCalls.{listening, connecting, OpensAs, SendsIf, Receives, Sets};
     ghost use Rattle.sock_pair.specs.PairSteps.{HostDispatches, delivered_to, processed_by};
     ghost use Rattle.sock_pair.specs.PairInvariant.{HasSmallBuffers, IsHost, IsReachable};
     ghost use Rattle.ip_wire.specs.Address.{SameVersion};
@@ -156,16 +158,21 @@ impl<'a> Host<'a> {
         self.accepted.len()
     }
 
-    // What fits of the bytes, once there is room to keep all of them.
-    pub(crate) fn send(&mut self, bytes: &[u8]) -> Result<Outcome, PairError>
+    // What fits of the bytes, once there is room to keep all of them: by `send_slice`, or by `send` where the closure
+    // takes at most so many.
+    pub(crate) fn send(&mut self, bytes: &[u8], take: Option<usize>) -> Result<Outcome, PairError>
         ensures step { IfOk result
-            (λ o. SendsIf (may_send self.old.control_block.state) self.old bytes.now o self.new) }
+            (λ o. SendsIf (may_send self.old.control_block.state) take bytes.now self.old o self.new) }
         ensures memory { OnErr result (self.new ≡ self.old) }
     {
         if let Err(_) = self.accepted.reserve(bytes.len()) {
             return Err(PairError::Memory);
         }
-        match self.socket.send_slice(bytes) {
+        let sent = match take {
+            None => self.socket.send_slice(bytes),
+            Some(size) => send_piece(&mut self.socket, bytes, size),
+        };
+        match sent {
             Err(e) => Ok(Outcome::SendRefused(e)),
             Ok(count) => {
                 append(&mut self.accepted, &bytes[..count]);
@@ -174,10 +181,28 @@ impl<'a> Host<'a> {
         }
     }
 
-    // At most so many bytes of the queue, once there is room to keep and to answer them.
-    pub(crate) fn recv(&mut self, alloc: Global, size: usize) -> Result<Outcome, PairError>
+    // At most so many bytes of the queue, once there is room to keep and to answer them: by `recv`, which takes one
+    // piece, or by `recv_slice`.
+    pub(crate) fn recv(
+        &mut self,
+        alloc: Global,
+        size: usize,
+        piece: bool,
+    ) -> Result<Outcome, PairError>
         requires { self.old.control_block.rx_fin_received ≡ false }
-        ensures step { IfOk result (λ o. Receives size self.old o self.new) }
+        ensures step { IfOk result (λ o. Receives piece size self.old o self.new) }
+        ensures memory { OnErr result (self.new ≡ self.old) }
+    {
+        if piece {
+            self.recv_piece(alloc, size)
+        } else {
+            self.recv_slice(alloc, size)
+        }
+    }
+
+    fn recv_slice(&mut self, alloc: Global, size: usize) -> Result<Outcome, PairError>
+        requires { self.old.control_block.rx_fin_received ≡ false }
+        ensures step { IfOk result (λ o. Receives false size self.old o self.new) }
         ensures memory { OnErr result (self.new ≡ self.old) }
     {
         let count = size.min(self.socket.recv_queue());
@@ -195,6 +220,43 @@ impl<'a> Host<'a> {
                 Ok(Outcome::Read(bytes))
             }
         }
+    }
+
+    fn recv_piece(&mut self, alloc: Global, size: usize) -> Result<Outcome, PairError>
+        requires { self.old.control_block.rx_fin_received ≡ false }
+        ensures step { IfOk result (λ o. Receives true size self.old o self.new) }
+        ensures memory { OnErr result (self.new ≡ self.old) }
+    {
+        let count = size.min(self.socket.recv_queue());
+        if let Err(_) = self.handed_out.reserve(count) {
+            return Err(PairError::Memory);
+        }
+        let room = match vec![in alloc; 0u8; count] {
+            Err(_) => return Err(PairError::Memory),
+            Ok(room) => room,
+        };
+        match take_piece(&mut self.socket, room) {
+            Err(e) => Ok(Outcome::RecvRefused(e)),
+            Ok(bytes) => {
+                append(&mut self.handed_out, bytes.as_slice());
+                Ok(Outcome::Read(bytes))
+            }
+        }
+    }
+
+    pub(crate) fn set(&mut self, setting: Setting) -> Outcome
+        ensures { Sets setting self.old result self.new }
+    {
+        match setting {
+            Setting::Timeout(t) => self.socket.set_timeout(t.duration),
+            Setting::AckDelay(t) => self.socket.set_ack_delay(t.duration),
+            Setting::KeepAlive(t) => self.socket.set_keep_alive(t.duration),
+            Setting::Nagle(on) => self.socket.set_nagle_enabled(on),
+            Setting::HopLimit(n) => self.socket.set_hop_limit(n.hop_limit),
+            Setting::Congestion(kind) => self.socket.set_congestion_control(kind),
+            Setting::Pause(on) => self.socket.pause_synack(on),
+        }
+        Outcome::Done
     }
 
     // One dispatch, into a room that was made before: no payload is longer than the largest IP packet.
@@ -258,6 +320,42 @@ impl<'a> Host<'a> {
         self.taken += joined.saturating_sub(queued) as u64;
         reply
     }
+}
+
+// `send`, whose closure writes what fits of the bytes into the places that it is lent, and takes at most so many.
+fn send_piece(socket: &mut Socket<'_>, bytes: &[u8], size: usize) -> Result<usize, SendError>
+    ensures { SendsPiece size bytes.now socket.old.control_block result socket.new.control_block }
+{
+    socket.send(
+        move |free: &mut [u8]| -> (usize, usize)
+            ensures count { result.0 ≡ min size (min (length bytes.entry.now) (length free.old)) }
+            ensures same { result.1 ≡ result.0 }
+            ensures written { take result.0 free.new ≡ take result.0 bytes.entry.now }
+        {
+            let count = bytes.len().min(free.len());
+            free[..count].copy_from_slice(&bytes[..count]);
+            let taken = size.min(count);
+            (taken, taken)
+        },
+    )
+}
+
+// `recv`, whose closure copies what fits of the bytes that it is lent into a room that was made before, and takes them.
+fn take_piece(socket: &mut Socket<'_>, room: Vec<u8>) -> Result<Vec<u8>, RecvError>
+    ensures { ReceivesPiece (vec_len room) socket.old.control_block result socket.new.control_block }
+{
+    socket.recv(
+        move |lent: &[u8]| -> (usize, Vec<u8>)
+            ensures count { result.0 ≡ min (vec_len room) (length lent.now) }
+            ensures read { result.1.items ≡ take result.0 lent.now }
+        {
+            let count = room.len().min(lent.len());
+            let mut bytes = room;
+            bytes.truncate(count);
+            bytes.as_mut_slice().copy_from_slice(&lent[..count]);
+            (count, bytes)
+        },
+    )
 }
 
 // Adds bytes for which room was made.

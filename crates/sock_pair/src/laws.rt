@@ -12,7 +12,9 @@ ghost use Rattle.sock_core.specs.Received.{room_of};
 ghost use Rattle.sock_tcp.specs.Queue.{IsLent};
 ghost use Rattle.sock_tcp.specs.View.{View};
 ghost use Rattle.sock_tcp.specs.Opening.{listened, connected};
-ghost use Rattle.sock_tcp.specs.Queues.{written, read_off};
+ghost use Rattle.sock_tcp.specs.Queues.{queued, read_off};
+ghost use Rattle.sock_pair.specs.Settings.{set_in};
+ghost use Rattle.sock_pair.specs.declared.setting.Setting.{Setting};
 ghost use Rattle.sock_tcp.specs.Process.{Accepts, processed};
 ghost use Rattle.sock_tcp.specs.Due.{flight, before_emit};
 ghost use Rattle.sock_tcp.specs.Content.{Sending, asked, content};
@@ -69,14 +71,18 @@ pub fn connected_shows()
         → shown (connected v t word) ≡ record unopened.view { phase = SynSent; snd_una = word; snd_nxt = word } }
 {}
 
-/// `send_slice` appends to the transmit queue, and changes nothing else that the streams see.
-pub fn written_shows()
-    ensures { (v : View) (bs : List ℕ)
-        → shown (written v bs)
-        ≡ record (shown v) { transmit_queue = v.tx_buffer.bytes ++ take (min (length bs) v.tx_buffer.window) bs } }
+/// `send_slice` and `send` append to the transmit queue, and change nothing else that the streams see.
+pub fn queued_shows()
+    ensures { (v : View) (n : ℕ) (bs : List ℕ)
+        → shown (queued v n bs) ≡ record (shown v) { transmit_queue = v.tx_buffer.bytes ++ take n bs } }
 {}
 
-/// `recv_slice` takes off the front of the receive queue, and RCV.NXT stays where it is.
+/// The streams see no setting.
+pub fn settings_show_nothing()
+    ensures { (s : Setting) (v : View) → shown (set_in s v) ≡ shown v }
+{}
+
+/// `recv_slice` and `recv` take off the front of the receive queue, and RCV.NXT stays where it is.
 pub fn read_shows()
     ensures { (v : View) (n : ℕ) → n ≤ length v.rx_buffer.bytes
         → shown (read_off v n) ≡ record (shown v) { receive_queue = drop n v.rx_buffer.bytes } }

@@ -11,6 +11,7 @@ pub mod pair;
 mod recorder;
 pub mod script;
 pub mod segment;
+pub mod setting;
 pub mod side;
 pub mod streams;
 
@@ -20,4 +21,5 @@ pub use moment::Moment;
 pub use outcome::{Outcome, PairError};
 pub use pair::{Pair, Setup};
 pub use segment::Segment;
+pub use setting::{HopLimit, Interval, Setting};
 pub use side::Side;

@@ -11,6 +11,8 @@ use std::fmt;
 pub enum Outcome {
     /// `listen` or `connect` was called.
     Opened,
+    /// The setting was set.
+    Done,
     /// So many of the bytes were accepted.
     Accepted(usize),
     /// The socket refused to take bytes.

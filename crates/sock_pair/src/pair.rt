@@ -7,6 +7,7 @@ use crate::host::Host;
 use crate::moment::Moment;
 use crate::outcome::{Outcome, PairError};
 use crate::segment::Segment;
+use crate::setting::Setting;
 use crate::side::Side;
 use control_wire::TcpTimestampGenerator;
 use ip_wire::IpEndpoint;
@@ -59,7 +60,7 @@ impl<'a> Pair<'a> {
     ghost use Rattle.sock_tcp.specs.View.{fresh};
     ghost use Rattle.sock_tcp.specs.Queue.{queue_of};
     ghost use Rattle.sock_pair.specs.PairViews.{new_host, new_pair, host_of};
-    ghost use Rattle.sock_pair.specs.PairCalls.{listening, connecting, OpensAs, is_over, Sends, Receives};
+    ghost use Rattle.sock_pair.specs.PairCalls.{listening, connecting, OpensAs, is_over, Sends, Receives, Sets};
     ghost use Rattle.sock_pair.specs.PairSteps.{OneSide, OneSideAndSegments, Dispatches, Delivers, DeliveryTakesMemory, TakesMemory, EventStep};
     ghost use Rattle.sock_pair.specs.PairRuns.{Ran};
     ghost use Rattle.sock_pair.specs.PairStreams.{AddsUp, accepted_by, handed_out_by};
@@ -186,8 +187,10 @@ impl<'a> Pair<'a> {
         }
     }
 
-    fn send(&mut self, side: Side, bytes: &[u8]) -> Result<Outcome, PairError>
-        ensures step { IfOk result (λ o. OneSide side self.old self.new (λ h k. Sends self.old.limit bytes.now h o k)) }
+    // By `send_slice`, or by `send` where the closure takes at most so many.
+    fn send(&mut self, side: Side, bytes: &[u8], take: Option<usize>) -> Result<Outcome, PairError>
+        ensures step { IfOk result
+            (λ o. OneSide side self.old self.new (λ h k. Sends self.old.limit take bytes.now h o k)) }
         ensures memory { OnErr result (self.new ≡ self.old) }
         ensures takes_memory { OnErr result
             (is_over self.old.limit (length (host_of side self.old).accepted + length bytes.now) ≡ false) }
@@ -198,18 +201,28 @@ impl<'a> Pair<'a> {
         self.a.in_range();
         self.b.in_range();
         match side {
-            Side::A => self.a.send(bytes),
-            Side::B => self.b.send(bytes),
+            Side::A => self.a.send(bytes, take),
+            Side::B => self.b.send(bytes, take),
         }
     }
 
-    fn recv(&mut self, side: Side, size: usize) -> Result<Outcome, PairError>
-        ensures step { IfOk result (λ o. OneSide side self.old self.new (λ h k. Receives size h o k)) }
+    // By `recv_slice`, or by `recv`, which takes one piece.
+    fn recv(&mut self, side: Side, size: usize, piece: bool) -> Result<Outcome, PairError>
+        ensures step { IfOk result (λ o. OneSide side self.old self.new (λ h k. Receives piece size h o k)) }
         ensures memory { OnErr result (self.new ≡ self.old) }
     {
         match side {
-            Side::A => self.a.recv(self.alloc, size),
-            Side::B => self.b.recv(self.alloc, size),
+            Side::A => self.a.recv(self.alloc, size, piece),
+            Side::B => self.b.recv(self.alloc, size, piece),
+        }
+    }
+
+    fn set(&mut self, side: Side, setting: Setting) -> Outcome
+        ensures { OneSide side self.old self.new (λ h k. Sets setting h result k) }
+    {
+        match side {
+            Side::A => self.a.set(setting),
+            Side::B => self.b.set(setting),
         }
     }
 
@@ -324,8 +337,11 @@ impl<'a> Pair<'a> {
         match event {
             Event::Listen { side } => Ok(self.listen(*side)),
             Event::Connect { side, moment } => Ok(self.connect(*side, moment)),
-            Event::SendSlice { side, bytes } => self.send(*side, bytes.as_slice()),
-            Event::RecvSlice { side, size } => self.recv(*side, *size),
+            Event::SendSlice { side, bytes } => self.send(*side, bytes.as_slice(), None),
+            Event::Send { side, bytes, take } => self.send(*side, bytes.as_slice(), Some(*take)),
+            Event::RecvSlice { side, size } => self.recv(*side, *size, false),
+            Event::Recv { side, take } => self.recv(*side, *take, true),
+            Event::Set { side, setting } => Ok(self.set(*side, *setting)),
             Event::Dispatch { side, moment, fail } => self.dispatch(*side, moment, *fail),
             Event::Deliver { index, moment } => self.deliver(*index, moment),
         }
@@ -339,7 +355,7 @@ impl<'a> Pair<'a> {
     /// window is queued before its delivery returns. The event is a run of steps of the theorem on two streams, and
     /// adds to the streams what its outcome says.
     ///
-    /// `Memory` where a growth was refused; the pair is then as it was. `Listen` and `Connect` take no memory, nor
+    /// `Memory` where a growth was refused; the pair is then as it was. `Listen`, `Connect` and `Set` take no memory, nor
     /// does an event that comes to one of the last five outcomes.
     pub fn step(&mut self, event: &Event) -> Result<Outcome, PairError>
         ensures step { IfOk result (λ o. EventStep event.entry.now self.old o self.new) }

@@ -8,8 +8,8 @@ use ip_wire::IpListenEndpoint;
 use net_base::ring_buffer::RingBuffer;
 use net_base::time::{Duration, Instant};
 use sock_core::congestion::AnyController;
-use sock_core::rtte::RttEstimator;
 use sock_core::receive_buffer::ReceiveBuffer;
+use sock_core::rtte::RttEstimator;
 use std::marker::Model;
 
 /// All that a socket keeps but its source of timestamps: the transmission control block (RFC 9293, section 3.3.1).

@@ -10,6 +10,7 @@ ghost use Rattle.sock_pair.specs.ScriptLines.{
   event_of,
   listen_line,
   moment_at,
+  nagle_line,
   recv_line,
   send_line,
 };
@@ -19,8 +20,9 @@ use crate::moment::Moment;
 use crate::script::error::ScriptError;
 use crate::script::keyword::Keyword;
 use crate::script::lines::Line;
-use crate::script::values::{is_text, number, side};
+use crate::script::values::{is_text, number, side, switch};
 use crate::script::words::{one_word, one_word_and_text, three_words, two_words};
+use crate::setting::Setting;
 use net_base::time::Instant;
 use std::alloc::Global;
 
@@ -49,6 +51,7 @@ pub fn event(alloc: Global, line: &Line<'_>) -> Result<Event, ScriptError>
         Keyword::Connect => connect(number, line.values),
         Keyword::Send => send(alloc, number, line.values),
         Keyword::Recv => recv(number, line.values),
+        Keyword::Nagle => nagle(number, line.values),
         Keyword::Dispatch => dispatch(number, line.values, false),
         Keyword::Fail => dispatch(number, line.values, true),
         Keyword::Deliver => deliver(number, line.values),
@@ -105,6 +108,21 @@ fn recv(line: usize, values: &[u8]) -> Result<Event, ScriptError>
     let (who, size) = two_words(values).ok_or(ScriptError::WrongNumberOfWords { line })?;
     match (side(who), number(size, SIZE)) {
         (Some(side), Some(size)) => Ok(Event::RecvSlice { side, size }),
+        _ => Err(ScriptError::BadWord { line }),
+    }
+}
+
+// `nagle S on`, or `nagle S off`
+#[tactic(auto, unfolding(crate::specs::ScriptLines::nagle_line))]
+fn nagle(line: usize, values: &[u8]) -> Result<Event, ScriptError>
+    ensures { Gives event_value (nagle_line line (words_of values.now)) result }
+{
+    let (who, word) = two_words(values).ok_or(ScriptError::WrongNumberOfWords { line })?;
+    match (side(who), switch(word)) {
+        (Some(side), Some(on)) => Ok(Event::Set {
+            side,
+            setting: Setting::Nagle(on),
+        }),
         _ => Err(ScriptError::BadWord { line }),
     }
 }

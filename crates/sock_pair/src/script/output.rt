@@ -157,6 +157,7 @@ fn put_outcome<W: Sink>(
 {
     match outcome {
         Outcome::Opened => put(sink, "opened"),
+        Outcome::Done => put(sink, "done"),
         Outcome::Accepted(count) => put_count(sink, "accepted ", *count),
         Outcome::SendRefused(error) => {
             put(sink, "send-refused ")?;

@@ -9,6 +9,7 @@ ghost use Rattle.sock_pair.specs.ScriptWords.{
   limit_of,
   number_of,
   side_of,
+  switch_of,
   value_of,
 };
 
@@ -22,6 +23,18 @@ pub fn side(word: &[u8]) -> Option<Side>
     match word {
         b"a" => Some(Side::A),
         b"b" => Some(Side::B),
+        _ => None,
+    }
+}
+
+/// Whether a word is `on`; none for any other word than `on` and `off`.
+#[tactic(auto, unfolding(crate::specs::ScriptWords::switch_of))]
+pub fn switch(word: &[u8]) -> Option<bool>
+    ensures { result ≡ switch_of word.now }
+{
+    match word {
+        b"on" => Some(true),
+        b"off" => Some(false),
         _ => None,
     }
 }
