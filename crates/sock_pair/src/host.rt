@@ -1,5 +1,5 @@
 //! One side of a pair: its socket, and what it accepted and handed out.
-ghost use Rattle.std.specs.Prelude.{◌≡◌, ◌+◌, ◌-◌, ◌≤◌, ◌<◌, ◌^◌, ◌++◌, ◌↔◌, IsTrue, length, option_map, Some, [], not, false, IfOk, OnOk, OnErr, vec_len, vec_capacity};
+ghost use Rattle.std.specs.Prelude.{◌≡◌, ◌+◌, ◌-◌, ◌≤◌, ◌<◌, ◌^◌, ◌++◌, ◌↔◌, IsTrue, length, option_map, Some, [], not, false, IfOk, OnOk, OnErr, vec_len, vec_capacity, MatchOption};
 ghost use Rattle.std.specs.Option.{ForSome};
 ghost use Rattle.control_wire.specs.Segment.{segment_of};
 ghost use Rattle.sock_tcp.specs.Process.{Accepts, processed};
@@ -12,9 +12,9 @@ use crate::moment::Moment;
 use crate::outcome::{Outcome, PairError};
 use crate::recorder::{EmitFailed, Recorder, Sent};
 use crate::segment::Segment;
-use control_wire::TcpRepr;
+use control_wire::{TcpRepr, TcpTimestampGenerator};
 use ip_wire::{IpEndpoint, IpListenEndpoint, IpRepr};
-use sock_tcp::{Reply, Socket, SocketBuffer};
+use sock_tcp::{Generator, Reply, Socket, SocketBuffer};
 use std::alloc::Global;
 use std::marker::Model;
 
@@ -26,9 +26,11 @@ pub enum Opening {
     Connector,
 }
 
+// The type parameter is the socket's: so a source of timestamps, which is a function pointer, stands outside the value
+// that contracts see.
 #[derive(Debug, Drop)]
-pub(crate) struct Host<'a> {
-    pub(crate) socket: Socket<'a>,
+pub(crate) struct Host<'a, G = Generator> {
+    pub(crate) socket: Socket<'a, G>,
     pub(crate) endpoint: IpEndpoint,
     pub(crate) opening: Opening,
     pub(crate) accepted: Vec<u8>,
@@ -37,7 +39,7 @@ pub(crate) struct Host<'a> {
     pub(crate) taken: u64,
 }
 
-impl<'a> Model for Host<'a> {
+impl<'a, G> Model for Host<'a, G> {
     ghost use Rattle.sock_pair.specs.PairViews.{HostView};
 
     ghost Value = { HostView };
@@ -68,13 +70,17 @@ impl<'a> Host<'a> {
         rx: SocketBuffer<'a>,
         tx: SocketBuffer<'a>,
         endpoint: IpEndpoint,
+        generator: Option<TcpTimestampGenerator>,
     ) -> Host<'a>
         requires rx { length rx.queue + length rx.spare ≤ 2 ^ 30 }
         requires tx { length tx.queue + length tx.spare ≤ 2 ^ 30 }
+        requires generator { MatchOption generator (Unit {0}) (λ g. IsAlwaysCallable g) }
         ensures { result ≡ new_host (fresh (queue_of rx.entry) (queue_of tx.entry)) endpoint }
     {
+        let mut socket = Socket::new(rx, tx);
+        socket.set_tsval_generator(generator);
         Host {
-            socket: Socket::new(rx, tx),
+            socket,
             endpoint,
             opening: Opening::Unopened,
             accepted: Vec::new(alloc),

@@ -1,5 +1,5 @@
 //! Two sockets, and every segment that they emitted.
-ghost use Rattle.std.specs.Prelude.{◌≡◌, ◌+◌, ◌<◌, ◌≤◌, ◌^◌, length, IfOk, OnOk, OnErr, [], None, false, slice_get};
+ghost use Rattle.std.specs.Prelude.{◌≡◌, ◌+◌, ◌<◌, ◌≤◌, ◌^◌, length, IfOk, OnOk, OnErr, [], None, false, slice_get, MatchOption};
 
 use crate::event::Event;
 use crate::exchange::{deliver, dispatch};
@@ -10,7 +10,7 @@ use crate::segment::Segment;
 use crate::side::Side;
 use control_wire::TcpTimestampGenerator;
 use ip_wire::IpEndpoint;
-use sock_tcp::{Socket, SocketBuffer};
+use sock_tcp::{Generator, Socket, SocketBuffer};
 use std::alloc::Global;
 use std::marker::Model;
 
@@ -23,22 +23,22 @@ pub struct Setup<'a> {
     pub tx: SocketBuffer<'a>,
     /// The side's address and port, neither of them zero.
     pub endpoint: IpEndpoint,
-    /// The source of timestamps: none yet.
+    /// The source of timestamps, where there is one: a function that may always be called.
     pub generator: Option<TcpTimestampGenerator>,
 }
 
 /// Two TCP sockets, A and B, and every segment that they ever emitted, which may be delivered at any time and any
 /// number of times.
 #[derive(Debug, Drop)]
-pub struct Pair<'a> {
-    a: Host<'a>,
-    b: Host<'a>,
+pub struct Pair<'a, G = Generator> {
+    a: Host<'a, G>,
+    b: Host<'a, G>,
     segments: Vec<Segment>,
     limit: Option<u32>,
     alloc: Global,
 }
 
-impl<'a> Model for Pair<'a> {
+impl<'a, G> Model for Pair<'a, G> {
     ghost use Rattle.std.specs.Prelude.{map};
     ghost use Rattle.sock_pair.specs.PairViews.{PairView};
     ghost use Rattle.sock_pair.specs.Holding.{stored_of};
@@ -85,14 +85,15 @@ impl<'a> Pair<'a> {
         requires b_reachable { IsReachable b.endpoint }
         requires versions { SameVersion a.endpoint.addr b.endpoint.addr }
         requires different { a.endpoint ≡ b.endpoint → ⊥ }
-        requires generators { (a.generator ≡ None) × (b.generator ≡ None) }
+        requires a_generator { MatchOption a.generator (Unit {0}) (λ g. IsAlwaysCallable g) }
+        requires b_generator { MatchOption b.generator (Unit {0}) (λ g. IsAlwaysCallable g) }
         requires limit { IsLimit limit }
         ensures { result ≡ new_pair (new_host (fresh (queue_of a.entry.rx) (queue_of a.entry.tx)) a.entry.endpoint)
             (new_host (fresh (queue_of b.entry.rx) (queue_of b.entry.tx)) b.entry.endpoint) limit }
     {
         Pair {
-            a: Host::new(alloc, a.rx, a.tx, a.endpoint),
-            b: Host::new(alloc, b.rx, b.tx, b.endpoint),
+            a: Host::new(alloc, a.rx, a.tx, a.endpoint, a.generator),
+            b: Host::new(alloc, b.rx, b.tx, b.endpoint, b.generator),
             segments: Vec::new(alloc),
             limit,
             alloc,
