@@ -58,12 +58,7 @@ impl<'a, G> Model for Host<'a, G> {
 impl<'a> Host<'a> {
     ghost use Rattle.sock_tcp.specs.View.{fresh};
     ghost use Rattle.sock_tcp.specs.Queue.{queue_of};
-    ghost use Rattle.sock_tcp.specs.Queues.{may_send};
     ghost use Rattle.sock_pair.specs.PairViews.{new_host};
-    ghost use Rattle.sock_pair.specs.PairCalls.{listening, connecting, OpensAs, SendsIf, Receives};
-    ghost use Rattle.sock_pair.specs.PairSteps.{HostDispatches, delivered_to, processed_by};
-    ghost use Rattle.sock_pair.specs.PairInvariant.{HasSmallBuffers, IsHost, IsReachable};
-    ghost use Rattle.ip_wire.specs.Address.{SameVersion};
 
     pub(crate) fn new(
         alloc: Global,
@@ -89,6 +84,14 @@ impl<'a> Host<'a> {
             taken: 0,
         }
     }
+}
+
+impl<'a, G> Host<'a, G> {
+    ghost use Rattle.sock_tcp.specs.Queues.{may_send};
+    ghost use Rattle.sock_pair.specs.PairCalls.{listening, connecting, OpensAs, SendsIf, Receives};
+    ghost use Rattle.sock_pair.specs.PairSteps.{HostDispatches, delivered_to, processed_by};
+    ghost use Rattle.sock_pair.specs.PairInvariant.{HasSmallBuffers, IsHost, IsReachable};
+    ghost use Rattle.ip_wire.specs.Address.{SameVersion};
 
     pub(crate) fn endpoint(&self) -> IpEndpoint
         ensures { result ≡ self.now.endpoint }

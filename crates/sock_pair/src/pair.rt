@@ -53,23 +53,12 @@ impl<'a, G> Model for Pair<'a, G> {
 }
 
 impl<'a> Pair<'a> {
-    ghost use Rattle.std.specs.Prelude.{map};
     ghost use Rattle.ip_wire.specs.Address.{SameVersion};
     ghost use Rattle.sock_tcp.specs.View.{fresh};
     ghost use Rattle.sock_tcp.specs.Queue.{queue_of};
-    ghost use Rattle.sock_pair.specs.PairViews.{new_host, new_pair, host_of};
-    ghost use Rattle.sock_pair.specs.PairCalls.{listening, connecting, OpensAs, is_over, Sends, Receives};
-    ghost use Rattle.sock_pair.specs.PairSteps.{OneSide, OneSideAndSegments, Dispatches, Delivers, DeliveryTakesMemory, TakesMemory, EventStep};
-    ghost use Rattle.sock_pair.specs.PairRuns.{Ran};
-    ghost use Rattle.sock_pair.specs.PairStreams.{AddsUp, accepted_by, handed_out_by};
-    ghost use Rattle.sock_pair.specs.PairPromises.{Prefix, Release, Complete, Prompt};
-    ghost use Rattle.sock_pair.specs.Holding.{stored_of};
-    ghost use Rattle.std.specs.Option.{ForSome};
-    ghost use Rattle.sock_pair.specs.PairInvariant.{DeliversSmall, HasSmallBuffers, IsPair, IsReachable};
-    ghost use Rattle.sock_pair.specs.PairNetwork.{IsSmall, network_of};
-    ghost use Rattle.sock_pair.specs.NetworkRuns.{Reaches};
+    ghost use Rattle.sock_pair.specs.PairViews.{new_host, new_pair};
+    ghost use Rattle.sock_pair.specs.PairInvariant.{IsReachable};
     ghost use Rattle.sock_pair.specs.NetworkInvariant.{IsLimit};
-    ghost use Rattle.sock_pair.specs.Sides.{other_side};
 
     /// Two closed sockets and no segment.
     ///
@@ -99,8 +88,24 @@ impl<'a> Pair<'a> {
             alloc,
         }
     }
+}
 
-    fn host(&self, side: Side) -> &Host<'a>
+impl<'a, G> Pair<'a, G> {
+    ghost use Rattle.std.specs.Prelude.{map};
+    ghost use Rattle.sock_pair.specs.PairViews.{host_of};
+    ghost use Rattle.sock_pair.specs.PairCalls.{listening, connecting, OpensAs, is_over, Sends, Receives};
+    ghost use Rattle.sock_pair.specs.PairSteps.{OneSide, OneSideAndSegments, Dispatches, Delivers, DeliveryTakesMemory, TakesMemory, EventStep};
+    ghost use Rattle.sock_pair.specs.PairRuns.{Ran};
+    ghost use Rattle.sock_pair.specs.PairStreams.{AddsUp, accepted_by, handed_out_by};
+    ghost use Rattle.sock_pair.specs.PairPromises.{Prefix, Release, Complete, Prompt};
+    ghost use Rattle.sock_pair.specs.Holding.{stored_of};
+    ghost use Rattle.std.specs.Option.{ForSome};
+    ghost use Rattle.sock_pair.specs.PairInvariant.{DeliversSmall, HasSmallBuffers, IsPair};
+    ghost use Rattle.sock_pair.specs.PairNetwork.{IsSmall, network_of};
+    ghost use Rattle.sock_pair.specs.NetworkRuns.{Reaches};
+    ghost use Rattle.sock_pair.specs.Sides.{other_side};
+
+    fn host(&self, side: Side) -> &Host<'a, G>
         ensures { result.now ≡ host_of side self.now }
     {
         match side {
@@ -138,7 +143,7 @@ impl<'a> Pair<'a> {
     }
 
     /// The side's socket.
-    pub fn socket(&self, side: Side) -> &Socket<'a>
+    pub fn socket(&self, side: Side) -> &Socket<'a, G>
         ensures { result.now.control_block ≡ (host_of side self.now).control_block }
     {
         &self.host(side).socket
