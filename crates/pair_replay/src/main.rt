@@ -74,6 +74,8 @@ fn fault_of(end: End) -> Result<(), Fault> {
 }
 
 #[cfg(test)]
+mod pair_tests;
+#[cfg(test)]
 mod script_tests;
 #[cfg(test)]
 mod tests;

@@ -63,9 +63,9 @@ fn store(segments: &mut Vec<Segment>, from: Side, sent: Sent, counts: Counts) ->
 }
 
 // One dispatch of a side. The room is made first.
-pub(crate) fn dispatch(
+pub(crate) fn dispatch<G>(
     alloc: Global,
-    host: &mut Host<'_>,
+    host: &mut Host<'_, G>,
     side: Side,
     segments: &mut Vec<Segment>,
     moment: &Moment,
@@ -123,10 +123,10 @@ fn store_reply(
 }
 
 // One delivery to a side. The room is made first.
-pub(crate) fn deliver(
+pub(crate) fn deliver<G>(
     alloc: Global,
     emitter: Counts,
-    host: &mut Host<'_>,
+    host: &mut Host<'_, G>,
     side: Side,
     segments: &mut Vec<Segment>,
     index: usize,

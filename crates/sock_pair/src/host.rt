@@ -1,5 +1,5 @@
 //! One side of a pair: its socket, and what it accepted and handed out.
-ghost use Rattle.std.specs.Prelude.{◌≡◌, ◌+◌, ◌-◌, ◌≤◌, ◌<◌, ◌^◌, ◌++◌, ◌↔◌, IsTrue, length, option_map, Some, [], not, false, IfOk, OnOk, OnErr, vec_len, vec_capacity, min, take, true};
+ghost use Rattle.std.specs.Prelude.{◌≡◌, ◌+◌, ◌-◌, ◌≤◌, ◌<◌, ◌^◌, ◌++◌, ◌↔◌, IsTrue, length, option_map, Some, [], not, false, IfOk, OnOk, OnErr, vec_len, vec_capacity, min, take, true, MatchOption};
 ghost use Rattle.std.specs.Option.{ForSome};
 ghost use Rattle.control_wire.specs.Segment.{segment_of};
 ghost use Rattle.sock_tcp.specs.Process.{Accepts, processed};
@@ -14,9 +14,9 @@ use crate::outcome::{Outcome, PairError};
 use crate::recorder::{EmitFailed, Recorder, Sent};
 use crate::segment::Segment;
 use crate::setting::Setting;
-use control_wire::TcpRepr;
+use control_wire::{TcpRepr, TcpTimestampGenerator};
 use ip_wire::{IpEndpoint, IpListenEndpoint, IpRepr};
-use sock_tcp::{RecvError, Reply, SendError, Socket, SocketBuffer};
+use sock_tcp::{Generator, RecvError, Reply, SendError, Socket, SocketBuffer};
 use std::alloc::Global;
 use std::marker::Model;
 
@@ -28,9 +28,11 @@ pub enum Opening {
     Connector,
 }
 
+// The type parameter is the socket's: so a source of timestamps, which is a function pointer, stands outside the value
+// that contracts see.
 #[derive(Debug, Drop)]
-pub(crate) struct Host<'a> {
-    pub(crate) socket: Socket<'a>,
+pub(crate) struct Host<'a, G = Generator> {
+    pub(crate) socket: Socket<'a, G>,
     pub(crate) endpoint: IpEndpoint,
     pub(crate) opening: Opening,
     pub(crate) accepted: Vec<u8>,
@@ -39,7 +41,7 @@ pub(crate) struct Host<'a> {
     pub(crate) taken: u64,
 }
 
-impl<'a> Model for Host<'a> {
+impl<'a, G> Model for Host<'a, G> {
     ghost use Rattle.sock_pair.specs.PairViews.{HostView};
 
     ghost Value = { HostView };
@@ -59,25 +61,24 @@ impl<'a> Host<'a> {
     ghost use Rattle.sock_core.specs.Received.{receiving};
     ghost use Rattle.sock_tcp.specs.View.{fresh};
     ghost use Rattle.sock_tcp.specs.Queue.{queue_of};
-    ghost use Rattle.sock_tcp.specs.Queues.{may_send};
     ghost use Rattle.sock_pair.specs.PairViews.{new_host};
-    ghost use Rattle.sock_pair.specs.PairCalls.{listening, connecting, OpensAs, SendsIf, Receives, Sets};
-    ghost use Rattle.sock_pair.specs.PairSteps.{HostDispatches, delivered_to, processed_by};
-    ghost use Rattle.sock_pair.specs.PairInvariant.{HasSmallBuffers, IsHost, IsReachable};
-    ghost use Rattle.ip_wire.specs.Address.{SameVersion};
 
     pub(crate) fn new(
         alloc: Global,
         rx: SocketBuffer<'a>,
         tx: SocketBuffer<'a>,
         endpoint: IpEndpoint,
+        generator: Option<TcpTimestampGenerator>,
     ) -> Host<'a>
         requires rx { length rx.queue + length rx.spare ≤ 2 ^ 30 }
         requires tx { length tx.queue + length tx.spare ≤ 2 ^ 30 }
+        requires generator { MatchOption generator (Unit {0}) (λ g. IsAlwaysCallable g) }
         ensures { result ≡ new_host (fresh (receiving rx.entry) (queue_of tx.entry)) endpoint }
     {
+        let mut socket = Socket::new(rx, tx);
+        socket.set_tsval_generator(generator);
         Host {
-            socket: Socket::new(rx, tx),
+            socket,
             endpoint,
             opening: Opening::Unopened,
             accepted: Vec::new(alloc),
@@ -86,6 +87,14 @@ impl<'a> Host<'a> {
             taken: 0,
         }
     }
+}
+
+impl<'a, G> Host<'a, G> {
+    ghost use Rattle.sock_tcp.specs.Queues.{may_send};
+    ghost use Rattle.sock_pair.specs.PairCalls.{listening, connecting, OpensAs, SendsIf, Receives, Sets};
+    ghost use Rattle.sock_pair.specs.PairSteps.{HostDispatches, delivered_to, processed_by};
+    ghost use Rattle.sock_pair.specs.PairInvariant.{HasSmallBuffers, IsHost, IsReachable};
+    ghost use Rattle.ip_wire.specs.Address.{SameVersion};
 
     pub(crate) fn endpoint(&self) -> IpEndpoint
         ensures { result ≡ self.now.endpoint }
@@ -323,7 +332,7 @@ impl<'a> Host<'a> {
 }
 
 // `send`, whose closure writes what fits of the bytes into the places that it is lent, and takes at most so many.
-fn send_piece(socket: &mut Socket<'_>, bytes: &[u8], size: usize) -> Result<usize, SendError>
+fn send_piece<G>(socket: &mut Socket<'_, G>, bytes: &[u8], size: usize) -> Result<usize, SendError>
     ensures { SendsPiece size bytes.now socket.old.control_block result socket.new.control_block }
 {
     socket.send(
@@ -341,7 +350,7 @@ fn send_piece(socket: &mut Socket<'_>, bytes: &[u8], size: usize) -> Result<usiz
 }
 
 // `recv`, whose closure copies what fits of the bytes that it is lent into a room that was made before, and takes them.
-fn take_piece(socket: &mut Socket<'_>, room: Vec<u8>) -> Result<Vec<u8>, RecvError>
+fn take_piece<G>(socket: &mut Socket<'_, G>, room: Vec<u8>) -> Result<Vec<u8>, RecvError>
     ensures { ReceivesPiece (vec_len room) socket.old.control_block result socket.new.control_block }
 {
     socket.recv(

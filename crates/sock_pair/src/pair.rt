@@ -1,5 +1,5 @@
 //! Two sockets, and every segment that they emitted.
-ghost use Rattle.std.specs.Prelude.{◌≡◌, ◌+◌, ◌<◌, ◌≤◌, ◌^◌, length, IfOk, OnOk, OnErr, [], None, false, slice_get};
+ghost use Rattle.std.specs.Prelude.{◌≡◌, ◌+◌, ◌<◌, ◌≤◌, ◌^◌, length, IfOk, OnOk, OnErr, [], None, false, slice_get, MatchOption};
 
 use crate::event::Event;
 use crate::exchange::{deliver, dispatch};
@@ -11,7 +11,7 @@ use crate::setting::Setting;
 use crate::side::Side;
 use control_wire::TcpTimestampGenerator;
 use ip_wire::IpEndpoint;
-use sock_tcp::{Socket, SocketBuffer};
+use sock_tcp::{Generator, Socket, SocketBuffer};
 use std::alloc::Global;
 use std::marker::Model;
 
@@ -24,22 +24,22 @@ pub struct Setup<'a> {
     pub tx: SocketBuffer<'a>,
     /// The side's address and port, neither of them zero.
     pub endpoint: IpEndpoint,
-    /// The source of timestamps: none yet.
+    /// The source of timestamps, where there is one: a function that may always be called.
     pub generator: Option<TcpTimestampGenerator>,
 }
 
 /// Two TCP sockets, A and B, and every segment that they ever emitted, which may be delivered at any time and any
 /// number of times.
 #[derive(Debug, Drop)]
-pub struct Pair<'a> {
-    a: Host<'a>,
-    b: Host<'a>,
+pub struct Pair<'a, G = Generator> {
+    a: Host<'a, G>,
+    b: Host<'a, G>,
     segments: Vec<Segment>,
     limit: Option<u32>,
     alloc: Global,
 }
 
-impl<'a> Model for Pair<'a> {
+impl<'a, G> Model for Pair<'a, G> {
     ghost use Rattle.std.specs.Prelude.{map};
     ghost use Rattle.sock_pair.specs.PairViews.{PairView};
     ghost use Rattle.sock_pair.specs.Holding.{stored_of};
@@ -54,24 +54,13 @@ impl<'a> Model for Pair<'a> {
 }
 
 impl<'a> Pair<'a> {
-    ghost use Rattle.std.specs.Prelude.{map};
     ghost use Rattle.ip_wire.specs.Address.{SameVersion};
     ghost use Rattle.sock_core.specs.Received.{receiving};
     ghost use Rattle.sock_tcp.specs.View.{fresh};
     ghost use Rattle.sock_tcp.specs.Queue.{queue_of};
-    ghost use Rattle.sock_pair.specs.PairViews.{new_host, new_pair, host_of};
-    ghost use Rattle.sock_pair.specs.PairCalls.{listening, connecting, OpensAs, is_over, Sends, Receives, Sets};
-    ghost use Rattle.sock_pair.specs.PairSteps.{OneSide, OneSideAndSegments, Dispatches, Delivers, DeliveryTakesMemory, TakesMemory, EventStep};
-    ghost use Rattle.sock_pair.specs.PairRuns.{Ran};
-    ghost use Rattle.sock_pair.specs.PairStreams.{AddsUp, accepted_by, handed_out_by};
-    ghost use Rattle.sock_pair.specs.PairPromises.{Prefix, Release, Complete, Prompt};
-    ghost use Rattle.sock_pair.specs.Holding.{stored_of};
-    ghost use Rattle.std.specs.Option.{ForSome};
-    ghost use Rattle.sock_pair.specs.PairInvariant.{DeliversSmall, HasSmallBuffers, IsPair, IsReachable};
-    ghost use Rattle.sock_pair.specs.PairNetwork.{IsSmall, network_of};
-    ghost use Rattle.sock_pair.specs.NetworkRuns.{Reaches};
+    ghost use Rattle.sock_pair.specs.PairViews.{new_host, new_pair};
+    ghost use Rattle.sock_pair.specs.PairInvariant.{IsReachable};
     ghost use Rattle.sock_pair.specs.NetworkInvariant.{IsLimit};
-    ghost use Rattle.sock_pair.specs.Sides.{other_side};
 
     /// Two closed sockets and no segment.
     ///
@@ -87,21 +76,38 @@ impl<'a> Pair<'a> {
         requires b_reachable { IsReachable b.endpoint }
         requires versions { SameVersion a.endpoint.addr b.endpoint.addr }
         requires different { a.endpoint ≡ b.endpoint → ⊥ }
-        requires generators { (a.generator ≡ None) × (b.generator ≡ None) }
+        requires a_generator { MatchOption a.generator (Unit {0}) (λ g. IsAlwaysCallable g) }
+        requires b_generator { MatchOption b.generator (Unit {0}) (λ g. IsAlwaysCallable g) }
         requires limit { IsLimit limit }
         ensures { result ≡ new_pair (new_host (fresh (receiving a.entry.rx) (queue_of a.entry.tx)) a.entry.endpoint)
             (new_host (fresh (receiving b.entry.rx) (queue_of b.entry.tx)) b.entry.endpoint) limit }
     {
         Pair {
-            a: Host::new(alloc, a.rx, a.tx, a.endpoint),
-            b: Host::new(alloc, b.rx, b.tx, b.endpoint),
+            a: Host::new(alloc, a.rx, a.tx, a.endpoint, a.generator),
+            b: Host::new(alloc, b.rx, b.tx, b.endpoint, b.generator),
             segments: Vec::new(alloc),
             limit,
             alloc,
         }
     }
+}
 
-    fn host(&self, side: Side) -> &Host<'a>
+impl<'a, G> Pair<'a, G> {
+    ghost use Rattle.std.specs.Prelude.{map};
+    ghost use Rattle.sock_pair.specs.PairViews.{host_of};
+    ghost use Rattle.sock_pair.specs.PairCalls.{listening, connecting, OpensAs, is_over, Sends, Receives, Sets};
+    ghost use Rattle.sock_pair.specs.PairSteps.{OneSide, OneSideAndSegments, Dispatches, Delivers, DeliveryTakesMemory, TakesMemory, EventStep};
+    ghost use Rattle.sock_pair.specs.PairRuns.{Ran};
+    ghost use Rattle.sock_pair.specs.PairStreams.{AddsUp, accepted_by, handed_out_by};
+    ghost use Rattle.sock_pair.specs.PairPromises.{Prefix, Release, Complete, Prompt};
+    ghost use Rattle.sock_pair.specs.Holding.{stored_of};
+    ghost use Rattle.std.specs.Option.{ForSome};
+    ghost use Rattle.sock_pair.specs.PairInvariant.{DeliversSmall, HasSmallBuffers, IsPair};
+    ghost use Rattle.sock_pair.specs.PairNetwork.{IsSmall, network_of};
+    ghost use Rattle.sock_pair.specs.NetworkRuns.{Reaches};
+    ghost use Rattle.sock_pair.specs.Sides.{other_side};
+
+    fn host(&self, side: Side) -> &Host<'a, G>
         ensures { result.now ≡ host_of side self.now }
     {
         match side {
@@ -139,7 +145,7 @@ impl<'a> Pair<'a> {
     }
 
     /// The side's socket.
-    pub fn socket(&self, side: Side) -> &Socket<'a>
+    pub fn socket(&self, side: Side) -> &Socket<'a, G>
         ensures { result.now.control_block ≡ (host_of side self.now).control_block }
     {
         &self.host(side).socket

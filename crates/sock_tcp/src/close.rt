@@ -27,14 +27,15 @@ impl<'a> ControlBlock<'a> {
     }
 }
 
-impl<'a> Socket<'a> {
+impl<'a, G> Socket<'a, G> {
     /// Closes the transmit half: nothing more can be sent, and a FIN follows what was. Bytes that come can still be
     /// read.
     ///
     /// LISTEN and SYN-SENT go to CLOSED, SYN-RECEIVED and ESTABLISHED to FIN-WAIT-1, CLOSE-WAIT to LAST-ACK; in the
     /// other states nothing changes (RFC 9293, section 3.10.4).
     pub fn close(&mut self)
-        ensures { self.new.control_block ≡ closed self.old.control_block }
+        ensures control_block { self.new.control_block ≡ closed self.old.control_block }
+        ensures generator { self.new.tsval_generator ≡ self.old.tsval_generator }
     {
         self.control_block.close();
     }
@@ -42,7 +43,8 @@ impl<'a> Socket<'a> {
     /// Ends the connection at once: the socket is CLOSED. Where it has a peer, the next dispatch sends an RST
     /// (RFC 9293, section 3.10.5).
     pub fn abort(&mut self)
-        ensures { self.new.control_block ≡ aborted self.old.control_block }
+        ensures control_block { self.new.control_block ≡ aborted self.old.control_block }
+        ensures generator { self.new.tsval_generator ≡ self.old.tsval_generator }
     {
         self.control_block.abort();
     }

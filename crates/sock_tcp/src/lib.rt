@@ -7,6 +7,7 @@ pub mod control_block;
 mod dispatch;
 mod due;
 pub mod error;
+pub mod generator;
 mod open;
 mod process;
 mod queues;
@@ -22,6 +23,7 @@ pub mod window;
 
 pub use control_block::ControlBlock;
 pub use error::{ConnectError, ListenError, RecvError, SendError};
+pub use generator::Generator;
 pub use reply::Reply;
 pub use settings::CongestionControl;
 pub use socket::{Socket, SocketBuffer};

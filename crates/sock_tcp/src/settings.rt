@@ -60,7 +60,7 @@ impl<'a> ControlBlock<'a> {
     }
 }
 
-impl<'a> Socket<'a> {
+impl<'a, G> Socket<'a, G> {
     /// The kind of congestion control; Reno in a new socket.
     pub fn congestion_control(&self) -> CongestionControl
         ensures { result ≡ kind_of self.now.control_block.congestion_controller }
@@ -70,8 +70,9 @@ impl<'a> Socket<'a> {
 
     /// Puts in a new controller of this kind, also where there is one of the kind.
     pub fn set_congestion_control(&mut self, congestion_control: CongestionControl)
-        ensures { self.new.control_block
+        ensures control_block { self.new.control_block
             ≡ record self.old.control_block { congestion_controller = of_kind congestion_control } }
+        ensures generator { self.new.tsval_generator ≡ self.old.tsval_generator }
     {
         self.control_block.congestion_controller = congestion_control.controller();
     }
@@ -87,7 +88,8 @@ impl<'a> Socket<'a> {
     /// Sets the user timeout, of at most 2^61 microseconds.
     pub fn set_timeout(&mut self, duration: Option<Duration>)
         requires { IsShort duration }
-        ensures { self.new.control_block ≡ record self.old.control_block { timeout = duration } }
+        ensures control_block { self.new.control_block ≡ record self.old.control_block { timeout = duration } }
+        ensures generator { self.new.tsval_generator ≡ self.old.tsval_generator }
     {
         self.control_block.timeout = duration;
     }
@@ -102,7 +104,8 @@ impl<'a> Socket<'a> {
     /// Sets how long an acknowledgement may wait, at most 2^61 microseconds, or lets none wait.
     pub fn set_ack_delay(&mut self, duration: Option<Duration>)
         requires { IsShort duration }
-        ensures { self.new.control_block ≡ record self.old.control_block { ack_delay = duration } }
+        ensures control_block { self.new.control_block ≡ record self.old.control_block { ack_delay = duration } }
+        ensures generator { self.new.tsval_generator ≡ self.old.tsval_generator }
     {
         self.control_block.ack_delay = duration;
     }
@@ -116,7 +119,8 @@ impl<'a> Socket<'a> {
 
     /// Sets whether small segments wait while bytes are in flight.
     pub fn set_nagle_enabled(&mut self, enabled: bool)
-        ensures { self.new.control_block ≡ record self.old.control_block { nagle = enabled } }
+        ensures control_block { self.new.control_block ≡ record self.old.control_block { nagle = enabled } }
+        ensures generator { self.new.tsval_generator ≡ self.old.tsval_generator }
     {
         self.control_block.nagle = enabled;
     }
@@ -132,7 +136,8 @@ impl<'a> Socket<'a> {
     /// nothing else is waited for, the first goes out at the next dispatch.
     pub fn set_keep_alive(&mut self, interval: Option<Duration>)
         requires { IsShort interval }
-        ensures { self.new.control_block ≡ keep_alive_set self.old.control_block interval }
+        ensures control_block { self.new.control_block ≡ keep_alive_set self.old.control_block interval }
+        ensures generator { self.new.tsval_generator ≡ self.old.tsval_generator }
     {
         self.control_block.set_keep_alive(interval);
     }
@@ -148,14 +153,16 @@ impl<'a> Socket<'a> {
     /// 64.
     pub fn set_hop_limit(&mut self, hop_limit: Option<u8>)
         requires { hop_limit ≡ Some 0 → ⊥ }
-        ensures { self.new.control_block ≡ record self.old.control_block { hop_limit = hop_limit } }
+        ensures control_block { self.new.control_block ≡ record self.old.control_block { hop_limit = hop_limit } }
+        ensures generator { self.new.tsval_generator ≡ self.old.tsval_generator }
     {
         self.control_block.hop_limit = hop_limit;
     }
 
     /// Lets a SYN|ACK wait, or go out, as smoltcp.
     pub fn pause_synack(&mut self, pause: bool)
-        ensures { self.new.control_block ≡ record self.old.control_block { synack_paused = pause } }
+        ensures control_block { self.new.control_block ≡ record self.old.control_block { synack_paused = pause } }
+        ensures generator { self.new.tsval_generator ≡ self.old.tsval_generator }
     {
         self.control_block.synack_paused = pause;
     }

@@ -1,5 +1,5 @@
 //! The TCP socket as its users see it.
-ghost use Rattle.std.specs.Prelude.{◌≡◌, ◌≤◌, ◌^◌, ◌+◌, ◌↔◌, ℕ, List, IsTrue, IsOk, is_ok, true, length, option_map};
+ghost use Rattle.std.specs.Prelude.{◌≡◌, ◌≤◌, ◌^◌, ◌+◌, ◌↔◌, ℕ, List, IsTrue, IsOk, is_ok, true, length, option_map, None};
 ghost use Rattle.std.specs.Fn.{FnOnceReturnsAt, FnOnceReturnsAtMut};
 ghost use Rattle.control_wire.specs.Segment.{segment_of};
 ghost use Rattle.sock_core.specs.Received.{receiving, room_of};
@@ -13,6 +13,7 @@ ghost use Rattle.sock_tcp.specs.Dispatch.{Dispatches};
 
 use crate::control_block::ControlBlock;
 use crate::error::{ConnectError, ListenError, RecvError, SendError};
+use crate::generator::Generator;
 use crate::reply::Reply;
 use crate::state::State;
 use control_wire::TcpRepr;
@@ -26,25 +27,32 @@ pub type SocketBuffer<'a> = RingBuffer<'a, u8>;
 
 /// A TCP socket (RFC 9293): one end of one connection at a time, over two lent buffers.
 ///
-/// Contracts speak of its transmission control block, beside which the source of timestamps will stand: a function
-/// pointer cannot be part of the value that contracts see.
+/// Contracts speak of its transmission control block. The source of timestamps, `G`, stands beside it: a function
+/// pointer cannot be part of a value that contracts see. It is a parameter so that a struct around a socket can have
+/// such a value.
 #[derive(Debug, Drop)]
-pub struct Socket<'a> {
+pub struct Socket<'a, G = Generator> {
     pub(crate) control_block: ControlBlock<'a>,
+    pub(crate) tsval_generator: Option<G>,
 }
 
 impl<'a> Socket<'a> {
-    /// A closed socket over these two buffers, each of at most 2^30 bytes and empty or not.
+    /// A closed socket over these two buffers, each of at most 2^30 bytes and empty or not, with no source of
+    /// timestamps.
     pub fn new(rx_buffer: SocketBuffer<'a>, tx_buffer: SocketBuffer<'a>) -> Socket<'a>
         requires rx { length rx_buffer.queue + length rx_buffer.spare ≤ 2 ^ 30 }
         requires tx { length tx_buffer.queue + length tx_buffer.spare ≤ 2 ^ 30 }
         ensures control_block { result.control_block ≡ fresh (receiving rx_buffer.entry) (queue_of tx_buffer.entry) }
+        ensures generator { result.tsval_generator ≡ None }
     {
         Socket {
             control_block: ControlBlock::new(rx_buffer, tx_buffer),
+            tsval_generator: None,
         }
     }
+}
 
+impl<'a, G> Socket<'a, G> {
     /// The endpoint on which the socket listens, or listened last; its port is 0 where there is none.
     pub fn listen_endpoint(&self) -> IpListenEndpoint
         ensures { result ≡ self.now.control_block.listen_endpoint }
@@ -79,6 +87,7 @@ impl<'a> Socket<'a> {
     /// on this very endpoint, for which nothing changes. A refusal changes nothing.
     pub fn listen(&mut self, local_endpoint: IpListenEndpoint) -> Result<(), ListenError>
         ensures table { Listens self.old.control_block local_endpoint result self.new.control_block }
+        ensures generator { self.new.tsval_generator ≡ self.old.tsval_generator }
     {
         self.control_block.listen(local_endpoint)
     }
@@ -97,6 +106,7 @@ impl<'a> Socket<'a> {
     ) -> Result<(), ConnectError>
         ensures table { Connects C.facts C.word_at self.old.control_block cx.old remote_endpoint local_endpoint
             result self.new.control_block cx.new }
+        ensures generator { self.new.tsval_generator ≡ self.old.tsval_generator }
     {
         self.control_block
             .connect(cx, remote_endpoint, local_endpoint)
@@ -175,6 +185,7 @@ impl<'a> Socket<'a> {
     pub fn send_slice(&mut self, data: &[u8]) -> Result<usize, SendError>
         ensures table { Sends self.old.control_block «data».now result self.new.control_block }
         ensures small { length self.new.control_block.tx_buffer.bytes ≤ 2 ^ 30 }
+        ensures generator { self.new.tsval_generator ≡ self.old.tsval_generator }
     {
         self.control_block.send_slice(data)
     }
@@ -189,6 +200,7 @@ impl<'a> Socket<'a> {
         requires sized { (s : List ℕ) (r : _) (s' : List ℕ) → FnOnceReturnsAtMut F.FnOnce f s r s' → r.0 ≤ length s }
         ensures table { SendsWith (FnOnceReturnsAtMut F.FnOnce f) self.old.control_block result self.new.control_block }
         ensures small { length self.new.control_block.tx_buffer.bytes ≤ 2 ^ 30 }
+        ensures generator { self.new.tsval_generator ≡ self.old.tsval_generator }
     {
         self.control_block.send(f)
     }
@@ -198,6 +210,7 @@ impl<'a> Socket<'a> {
     /// Where `may_recv` is false nothing changes: `Finished` where the peer's FIN has come, else `InvalidState`.
     pub fn recv_slice(&mut self, data: &mut [u8]) -> Result<usize, RecvError>
         ensures table { Reads self.old.control_block «data».old result self.new.control_block «data».new }
+        ensures generator { self.new.tsval_generator ≡ self.old.tsval_generator }
     {
         self.control_block.recv_slice(data)
     }
@@ -211,6 +224,7 @@ impl<'a> Socket<'a> {
         requires callable { F.IsAlwaysCallable f }
         requires sized { (s : List ℕ) (r : _) → FnOnceReturnsAt F.FnOnce f s r → r.0 ≤ length s }
         ensures table { ReadsWith (FnOnceReturnsAt F.FnOnce f) self.old.control_block result self.new.control_block }
+        ensures generator { self.new.tsval_generator ≡ self.old.tsval_generator }
     {
         self.control_block.recv(f)
     }
@@ -267,6 +281,7 @@ impl<'a> Socket<'a> {
         requires small { length repr.now.payload.now ≤ 65535 }
         ensures table { Processes C.facts C.word_at self.old.control_block cx.old ip_repr.now (segment_of repr.now)
             result self.new.control_block cx.new }
+        ensures generator { self.new.tsval_generator ≡ self.old.tsval_generator }
     {
         self.control_block.process(cx, ip_repr, repr)
     }
@@ -283,19 +298,21 @@ impl<'a> Socket<'a> {
         requires callable { F.IsAlwaysCallable emit }
         ensures table { Dispatches F.FnOnce emit (C.facts cx.old) self.old.control_block cx.old
             result self.new.control_block cx.new }
+        ensures generator { self.new.tsval_generator ≡ self.old.tsval_generator }
     {
         self.control_block.dispatch(cx, emit)
     }
 }
 
 /// Text goes into the transmit queue as by `send_slice`.
-impl<'a> fmt::Write for Socket<'a> {
+impl<'a, G> fmt::Write for Socket<'a, G> {
     ghost write_str_gives = { λ old bytes new. Writes old.control_block bytes true new.control_block };
 
     /// Refused where `may_send` is false, and where not all of the text fits; what fits then stays in the queue.
     fn write_str(&mut self, s: &str) -> fmt::Result
         ensures ok { IsOk result → Writes self.old.control_block s.now true self.new.control_block }
         ensures table { Writes self.old.control_block s.now (is_ok result) self.new.control_block }
+        ensures generator { self.new.tsval_generator ≡ self.old.tsval_generator }
     {
         match self.send_slice(s.as_bytes()) {
             Ok(count) if count == s.len() => Ok(()),

@@ -431,3 +431,22 @@ fn texts(rt: HostRuntime) -> Result<(), Fail> {
     assert_eq!(rt; moving.as_str(), "invalid state, operation finished");
     Ok(())
 }
+
+fn clock() -> u32 {
+    7
+}
+
+#[test]
+fn timestamps_are_enabled_by_a_generator(rt: HostRuntime) -> Result<(), Fail> {
+    let mut rx = [0u8; 4];
+    let mut tx = [0u8; 4];
+    let mut socket = Socket::new(RingBuffer::new(&mut rx), RingBuffer::new(&mut tx));
+    assert!(rt; !socket.timestamp_enabled());
+    socket.set_tsval_generator(Some(clock));
+    assert!(rt; socket.timestamp_enabled());
+    assert_eq!(rt; socket.listen(any(80)), Ok(()));
+    assert!(rt; socket.timestamp_enabled());
+    socket.set_tsval_generator(None);
+    assert!(rt; !socket.timestamp_enabled());
+    Ok(())
+}

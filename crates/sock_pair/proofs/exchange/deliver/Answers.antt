@@ -10,7 +10,7 @@ use Rattle.sock_pair.proofs.Deliveries.{get_map, read_twice, delivers}
 use Rattle.sock_pair.proofs.exchange.deliver.Goals as goal
 
 pub returns-clause-step : goal.returns-clause-step
-returns-clause-step c =
+returns-clause-step g c =
     let items = c.args.segments.now.items in
     let first = c.index-segment.result.now in
     let h = c.args.host.now in

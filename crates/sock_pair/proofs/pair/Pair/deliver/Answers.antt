@@ -11,27 +11,27 @@ use Rattle.sock_pair.proofs.PairReturns.{bounded, contains_at, delivers_to, pair
 use Rattle.sock_pair.proofs.pair.Pair.deliver.Goals as goal
 
 pub deliver-requires-clause-released : goal.deliver-requires-clause-released
-deliver-requires-clause-released c =
+deliver-requires-clause-released g c =
     let p : PairView = record { a = c.self.inside.a; b = c.self.inside.b; segments = map stored_of c.self.inside.segments.items; limit = c.self.inside.limit } in
     omega (arith, (bounded p c.self.invariant).b_released, c.in_range-3.ensures.accepted)
 
 pub deliver-requires-clause-taken : goal.deliver-requires-clause-taken
-deliver-requires-clause-taken c =
+deliver-requires-clause-taken g c =
     let p : PairView = record { a = c.self.inside.a; b = c.self.inside.b; segments = map stored_of c.self.inside.segments.items; limit = c.self.inside.limit } in
     omega (arith, (bounded p c.self.invariant).b_taken, c.in_range-2.ensures.accepted)
 
 pub deliver-requires-in-B-clause-released : goal.deliver-requires-in-B-clause-released
-deliver-requires-in-B-clause-released c =
+deliver-requires-in-B-clause-released g c =
     let p : PairView = record { a = c.self.inside.a; b = c.self.inside.b; segments = map stored_of c.self.inside.segments.items; limit = c.self.inside.limit } in
     omega (arith, (bounded p c.self.invariant).a_released, c.in_range-2.ensures.accepted)
 
 pub deliver-requires-in-B-clause-taken : goal.deliver-requires-in-B-clause-taken
-deliver-requires-in-B-clause-taken c =
+deliver-requires-in-B-clause-taken g c =
     let p : PairView = record { a = c.self.inside.a; b = c.self.inside.b; segments = map stored_of c.self.inside.segments.items; limit = c.self.inside.limit } in
     omega (arith, (bounded p c.self.invariant).a_taken, c.in_range-3.ensures.accepted)
 
 pub invariant_of-self : goal.invariant_of-self
-invariant_of-self c =
+invariant_of-self g c =
     let p : PairView = record { a = c.self.inside.a; b = c.self.inside.b; segments = map stored_of c.self.inside.segments.items; limit = c.self.inside.limit } in
     let items = c.self.inside.segments.items in
     let t = stored_of c.index-segment.result.now in
@@ -47,7 +47,7 @@ invariant_of-self c =
     (deliver_keeps B p (host_at B p c.self.invariant) c.self.invariant.network m t o k ts m.fits c.in_range.ensures.numbers (contains_at p.segments c.args.index t at) c.in-A.is c.in_range-3.ensures.buffers.receive e))
 
 pub returns-in-A-clause-step : goal.returns-in-A-clause-step
-returns-in-A-clause-step c =
+returns-in-A-clause-step g c =
     let p : PairView = record { a = c.self.inside.a; b = c.self.inside.b; segments = map stored_of c.self.inside.segments.items; limit = c.self.inside.limit } in
     let items = c.self.inside.segments.items in
     let t = stored_of c.index-segment.result.now in
@@ -59,7 +59,7 @@ returns-in-A-clause-step c =
     pair_delivers_if m t B p c.args.self.now c.args.index k ts c.counts-counts.result.released c.counts-counts.result.taken c.deliver.result at c.in-A.is c.self.view_is c.counts-counts.ensures.released c.counts-counts.ensures.taken c.deliver.ensures.step
 
 pub invariant_of-self-in-B : goal.invariant_of-self-in-B
-invariant_of-self-in-B c =
+invariant_of-self-in-B g c =
     let p : PairView = record { a = c.self.inside.a; b = c.self.inside.b; segments = map stored_of c.self.inside.segments.items; limit = c.self.inside.limit } in
     let items = c.self.inside.segments.items in
     let t = stored_of c.index-segment.result.now in
@@ -75,7 +75,7 @@ invariant_of-self-in-B c =
     (deliver_keeps A p (host_at A p c.self.invariant) c.self.invariant.network m t o k ts m.fits c.in_range.ensures.numbers (contains_at p.segments c.args.index t at) c.in-B.is c.in_range-2.ensures.buffers.receive e))
 
 pub returns-in-B-clause-step : goal.returns-in-B-clause-step
-returns-in-B-clause-step c =
+returns-in-B-clause-step g c =
     let p : PairView = record { a = c.self.inside.a; b = c.self.inside.b; segments = map stored_of c.self.inside.segments.items; limit = c.self.inside.limit } in
     let items = c.self.inside.segments.items in
     let t = stored_of c.index-segment.result.now in

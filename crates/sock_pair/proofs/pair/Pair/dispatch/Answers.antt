@@ -9,7 +9,7 @@ use Rattle.sock_pair.proofs.PairReturns.{with_segments_if, kept_with_segments_if
 use Rattle.sock_pair.proofs.pair.Pair.dispatch.Goals as goal
 
 pub invariant_of-self : goal.invariant_of-self
-invariant_of-self c =
+invariant_of-self g c =
     let p : PairView = record { a = c.self.inside.a; b = c.self.inside.b; segments = map stored_of c.self.inside.segments.items; limit = c.self.inside.limit } in
     let k = c.dispatch.new.host in
     let ts = map stored_of c.dispatch.new.segments.items in
@@ -18,12 +18,12 @@ invariant_of-self c =
     (λ o d. pair_exchanged A p k ts c.self.invariant (dispatch_stays A m c.args.fail o _ k p.segments ts (host_at A p c.self.invariant) d) (dispatch_keeps A p (host_at A p c.self.invariant) c.self.invariant.network m c.args.fail o k ts d))
 
 pub returns-in-A-clause-step : goal.returns-in-A-clause-step
-returns-in-A-clause-step c =
+returns-in-A-clause-step g c =
     let p : PairView = record { a = c.self.inside.a; b = c.self.inside.b; segments = map stored_of c.self.inside.segments.items; limit = c.self.inside.limit } in
     with_segments_if (λ s v o. Dispatches s c.args.moment.now c.args.fail o) A c.args.side p c.args.self.now c.dispatch.new.host (map stored_of c.dispatch.new.segments.items) c.dispatch.result c.in-A.is c.self.view_is c.dispatch.ensures.step
 
 pub invariant_of-self-in-B : goal.invariant_of-self-in-B
-invariant_of-self-in-B c =
+invariant_of-self-in-B g c =
     let p : PairView = record { a = c.self.inside.a; b = c.self.inside.b; segments = map stored_of c.self.inside.segments.items; limit = c.self.inside.limit } in
     let k = c.dispatch-in-B.new.host in
     let ts = map stored_of c.dispatch-in-B.new.segments.items in
@@ -32,6 +32,6 @@ invariant_of-self-in-B c =
     (λ o d. pair_exchanged B p k ts c.self.invariant (dispatch_stays B m c.args.fail o _ k p.segments ts (host_at B p c.self.invariant) d) (dispatch_keeps B p (host_at B p c.self.invariant) c.self.invariant.network m c.args.fail o k ts d))
 
 pub returns-in-B-clause-step : goal.returns-in-B-clause-step
-returns-in-B-clause-step c =
+returns-in-B-clause-step g c =
     let p : PairView = record { a = c.self.inside.a; b = c.self.inside.b; segments = map stored_of c.self.inside.segments.items; limit = c.self.inside.limit } in
     with_segments_if (λ s v o. Dispatches s c.args.moment.now c.args.fail o) B c.args.side p c.args.self.now c.dispatch-in-B.new.host (map stored_of c.dispatch-in-B.new.segments.items) c.dispatch-in-B.result c.in-B.is c.self.view_is c.dispatch-in-B.ensures.step

@@ -5,7 +5,7 @@ use Rattle.sock_pair.proofs.PairPromises.{keeps_prefix, keeps_release}
 use Rattle.sock_pair.proofs.pair.Pair.keeps_order.Goals as goal
 
 pub returns-clause-prefix : goal.returns-clause-prefix
-returns-clause-prefix c = subst Prefix c.self.view_is (keeps_prefix (record { a = c.self.inside.a; b = c.self.inside.b; segments = map stored_of c.self.inside.segments.items; limit = c.self.inside.limit }) c.self.invariant)
+returns-clause-prefix g c = subst Prefix c.self.view_is (keeps_prefix (record { a = c.self.inside.a; b = c.self.inside.b; segments = map stored_of c.self.inside.segments.items; limit = c.self.inside.limit }) c.self.invariant)
 
 pub returns-clause-release : goal.returns-clause-release
-returns-clause-release c = subst Release c.self.view_is (keeps_release (record { a = c.self.inside.a; b = c.self.inside.b; segments = map stored_of c.self.inside.segments.items; limit = c.self.inside.limit }) c.self.invariant)
+returns-clause-release g c = subst Release c.self.view_is (keeps_release (record { a = c.self.inside.a; b = c.self.inside.b; segments = map stored_of c.self.inside.segments.items; limit = c.self.inside.limit }) c.self.invariant)

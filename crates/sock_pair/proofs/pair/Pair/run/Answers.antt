@@ -5,10 +5,10 @@ use Rattle.sock_pair.proofs.Running.{ran_more, ran_none}
 use Rattle.sock_pair.proofs.pair.Pair.run.Goals as goal
 
 pub loop-event-init : goal.loop-event-init
-loop-event-init c = (stays_there _ _ refl, c.keeps_order.ensures.prefix, c.keeps_order.ensures.release, ran_none _ _ _, omega arith)
+loop-event-init g c = (stays_there _ _ refl, c.keeps_order.ensures.prefix, c.keeps_order.ensures.release, ran_none _ _ _, omega arith)
 
 pub loop-event-preserved : goal.loop-event-preserved
-loop-event-preserved c = (
+loop-event-preserved g c = (
   reach_then (network_of c.args.self.now) (network_of c.loop-event.self) (network_of c.step.new.self) c.loop-event.invariant.0 c.in_ok-outcome.ensures.streams,
   c.in_ok-outcome.ensures.prefix,
   c.in_ok-outcome.ensures.release,

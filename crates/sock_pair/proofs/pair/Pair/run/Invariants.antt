@@ -6,6 +6,6 @@ use Rattle.sock_pair.specs.PairRuns.{Ran}
 use Rattle.sock_pair.proofs.pair.Pair.run.Given as goal
 
 abbrev pub invariant-loop-event : goal.invariant-loop-event
-invariant-loop-event l =
+invariant-loop-event g l =
     Reaches (network_of l.fn.self) (network_of l.self) × Prefix l.self × Release l.self × Ran l.events l.fn.self l.fn.outcomes.items l.outcomes.items l.self
     × (length l.outcomes.items ≡ length l.fn.outcomes.items + l.event-index)
