@@ -17,6 +17,10 @@ put_next front piece xs ys zs n l y z =
     ∙ ap (λ us. front ++ (piece ++ us)) (drop_further front (drop n xs) n (length piece) l ∙ drop-drop (length piece) n xs)
     ∙ sym (append_assoc front piece (drop (n + length piece) xs))
 
+-- a head and a piece
+pub put_two : (head a ws xs ys : List ℕ) → xs ≡ head ++ drop (length head) ws → ys ≡ take (length head) xs ++ (a ++ drop (length head + length a) xs) → ys ≡ (head ++ a) ++ drop (length head + length a) ws
+put_two head a ws xs ys x y = put_next head a ws xs ys (length head) refl x y
+
 -- a head and two pieces
 pub put_three : (head a b ws xs ys zs : List ℕ) → xs ≡ head ++ drop (length head) ws → ys ≡ take (length head) xs ++ (a ++ drop (length head + length a) xs) → zs ≡ take (length head + length a) ys ++ (b ++ drop ((length head + length a) + length b) ys) → zs ≡ (head ++ (a ++ b)) ++ drop ((length head + length a) + length b) ws
 put_three head a b ws xs ys zs x y z =

@@ -66,31 +66,33 @@ checksum_holds packet = sum_after 0 (take (ipv4_header_len packet) packet) == al
 abbrev pub version_number : List ℕ → ℕ
 version_number packet = slice_index packet 0 / 16
 
--- the fields of an IPv4 packet, whatever its version
-abbrev pub ipv4_fields : List ℕ → Ipv4Repr
-ipv4_fields packet =
+-- what stands in an IPv4 header, whatever its version, with a payload length
+abbrev pub ipv4_fields : List ℕ → ℕ → Ipv4Repr
+ipv4_fields packet len =
     record {
       src_addr = record { 0 = take 4 (drop 12 packet) };
       dst_addr = record { 0 = take 4 (drop 16 packet) };
       next_header = protocol_of (slice_index packet 9);
-      payload_len = ipv4_total_len packet - ipv4_header_len packet;
+      payload_len = len;
       hop_limit = slice_index packet 8;
     }
 
-abbrev pub ipv6_fields : List ℕ → Ipv6Repr
-ipv6_fields packet =
+abbrev pub ipv6_fields : List ℕ → ℕ → Ipv6Repr
+ipv6_fields packet len =
     record {
       src_addr = record { 0 = take 16 (drop 8 packet) };
       dst_addr = record { 0 = take 16 (drop 24 packet) };
       next_header = protocol_of (slice_index packet 6);
-      payload_len = be16_at packet 4;
+      payload_len = len;
       hop_limit = slice_index packet 7;
     }
 
 -- another version is refused, and where checksums are tested one that fails
 abbrev pub ipv4_parsed : Bool → List ℕ → Option Ipv4Repr
 ipv4_parsed tested packet =
-    if (version_number packet == 4) && (not tested || checksum_holds packet) then Some (ipv4_fields packet) else None
+    if (version_number packet == 4) && (not tested || checksum_holds packet)
+    then Some (ipv4_fields packet (ipv4_total_len packet - ipv4_header_len packet))
+    else None
 
 abbrev pub ipv6_parsed : List ℕ → Option Ipv6Repr
-ipv6_parsed packet = if version_number packet == 6 then Some (ipv6_fields packet) else None
+ipv6_parsed packet = if version_number packet == 6 then Some (ipv6_fields packet (be16_at packet 4)) else None

@@ -32,3 +32,27 @@ pub fn put(buffer: &mut [u8], at: usize, bytes: &[u8])
 {
     buffer[at..at + bytes.len()].copy_from_slice(bytes);
 }
+
+/// Writes two pieces one behind the other, at the beginning.
+#[tactic(auto, using(crate::proofs::Written::put_two))]
+pub fn put_two(buffer: &mut [u8], head: &[u8], rest: &[u8])
+    requires { length head.now + length rest.now ≤ length buffer.old }
+    ensures value { buffer.new ≡ (head.now ++ rest.now) ++ drop (length head.now + length rest.now) buffer.old }
+    ensures length { length buffer.new ≡ length buffer.old }
+{
+    put(buffer, 0, head);
+    put(buffer, head.len(), rest);
+}
+
+/// Writes three pieces one behind the other, at the beginning.
+#[tactic(auto, using(crate::proofs::Written::put_three))]
+pub fn put_three(buffer: &mut [u8], head: &[u8], second: &[u8], third: &[u8])
+    requires { length head.now + length second.now + length third.now ≤ length buffer.old }
+    ensures value { buffer.new ≡ (head.now ++ (second.now ++ third.now))
+        ++ drop (length head.now + length second.now + length third.now) buffer.old }
+    ensures length { length buffer.new ≡ length buffer.old }
+{
+    put(buffer, 0, head);
+    put(buffer, head.len(), second);
+    put(buffer, head.len() + second.len(), third);
+}

@@ -30,23 +30,10 @@ ghost use Rattle.ip_wire.specs.Packet.{
 use crate::address::{Ipv4Address, Ipv6Address};
 use crate::checksum::ChecksumCapabilities;
 use crate::malformed::Error;
-use crate::octets::{be16, be16_at, put};
+use crate::octets::{be16, be16_at, put, put_three};
 use crate::protocol::IpProtocol;
 use crate::repr::{IpRepr, Ipv4Repr, Ipv6Repr};
 use crate::sum::{checksum_after, sum_after};
-
-// Writes three pieces one behind the other.
-#[tactic(auto, using(crate::proofs::Written::put_three))]
-fn put_three(buffer: &mut [u8], head: &[u8], src: &[u8], dst: &[u8])
-    requires { length head.now + length src.now + length dst.now ≤ length buffer.old }
-    ensures value { buffer.new ≡ (head.now ++ (src.now ++ dst.now))
-        ++ drop (length head.now + length src.now + length dst.now) buffer.old }
-    ensures length { length buffer.new ≡ length buffer.old }
-{
-    put(buffer, 0, head);
-    put(buffer, head.len(), src);
-    put(buffer, head.len() + src.len(), dst);
-}
 
 fn emit_ipv6(repr: &Ipv6Repr, buffer: &mut [u8])
     requires { 40 ≤ length buffer.old }
@@ -209,13 +196,22 @@ impl Ipv4Repr {
         if bytes[0] / 16 != 4 || (caps.ipv4.rx() && !verifies(packet)) {
             return Err(Error);
         }
-        Ok(Ipv4Repr {
+        let payload_len = be16_at(bytes, 2) - packet.header_len();
+        Ok(Ipv4Repr::of_fields(bytes, payload_len))
+    }
+
+    /// The addresses, the protocol and the hop limit that stand in an IPv4 header, with this payload length.
+    pub fn of_fields(bytes: &[u8], payload_len: usize) -> Ipv4Repr
+        requires { 20 ≤ length bytes.now }
+        ensures { result ≡ ipv4_fields bytes.now payload_len }
+    {
+        Ipv4Repr {
             src_addr: Ipv4Address(four_at(bytes, 12)),
             dst_addr: Ipv4Address(four_at(bytes, 16)),
-            next_header: packet.next_header(),
-            payload_len: be16_at(bytes, 2) - packet.header_len(),
+            next_header: IpProtocol::from(bytes[9]),
+            payload_len,
             hop_limit: bytes[8],
-        })
+        }
     }
 }
 
@@ -234,13 +230,21 @@ impl Ipv6Repr {
         if bytes[0] / 16 != 6 {
             return Err(Error);
         }
-        Ok(Ipv6Repr {
+        Ok(Ipv6Repr::of_fields(bytes, be16_at(bytes, 4)))
+    }
+
+    /// The addresses, the protocol and the hop limit that stand in an IPv6 header, with this payload length.
+    pub fn of_fields(bytes: &[u8], payload_len: usize) -> Ipv6Repr
+        requires { 40 ≤ length bytes.now }
+        ensures { result ≡ ipv6_fields bytes.now payload_len }
+    {
+        Ipv6Repr {
             src_addr: Ipv6Address(sixteen_at(bytes, 8)),
             dst_addr: Ipv6Address(sixteen_at(bytes, 24)),
-            next_header: packet.next_header(),
-            payload_len: be16_at(bytes, 4),
+            next_header: IpProtocol::from(bytes[6]),
+            payload_len,
             hop_limit: bytes[7],
-        })
+        }
     }
 }
 

@@ -1,9 +1,11 @@
 //! Checksums: ones' complement sums of 16-bit words (RFC 1071).
 ghost use Rattle.std.specs.Prelude.{◌≡◌, ◌+◌, ◌*◌, ℕ, List, ◌∷◌, ◌++◌, ◌<◌, ◌^◌, length};
 ghost use Rattle.ip_wire.specs.Octets.{IsOctets, be16};
-ghost use Rattle.ip_wire.specs.Sum.{IsEven, all_ones, complement, ones_add, sum_after};
+ghost use Rattle.ip_wire.specs.Address.{octets_of};
+ghost use Rattle.ip_wire.specs.Sum.{IsEven, all_ones, complement, ones_add, pseudo_sum, sum_after};
 
-use crate::octets::word;
+use crate::address::IpAddress;
+use crate::octets::{be16, word};
 
 /// The sum of two words, a carry out of the sixteen bits added at the other end.
 pub fn ones_add(a: u16, b: u16) -> u16
@@ -40,6 +42,26 @@ pub fn checksum_after(start: u16, bytes: &[u8]) -> u16
     ensures { result ≡ complement (sum_after start bytes.now) }
 {
     0xffff - sum_after(start, bytes)
+}
+
+/// The sum of the pseudo header of a packet whose payload has `length` bytes, of this protocol (RFC 8200, section 8.1;
+/// for IPv4 RFC 9293, section 3.1).
+pub fn pseudo_sum(src: &IpAddress, dst: &IpAddress, protocol: u8, length: usize) -> u16
+    ensures { result ≡ pseudo_sum src.now dst.now protocol length }
+{
+    let [a, b] = be16(length / 65536);
+    let [c, d] = be16(length);
+    let addresses = add_address(add_address(0, src), dst);
+    sum_after(addresses, &[a, b, c, d, 0, 0, 0, protocol])
+}
+
+fn add_address(start: u16, address: &IpAddress) -> u16
+    ensures { result ≡ sum_after start (octets_of address.now) }
+{
+    match address {
+        IpAddress::Ipv4(address) => sum_after(start, &address.0),
+        IpAddress::Ipv6(address) => sum_after(start, &address.0),
+    }
 }
 
 /// A sum over two pieces of which the first has an even length is that of both.
