@@ -1,3 +1,4 @@
 pub mod Datagram
 pub mod Seq
 pub mod Segment
+pub mod Source

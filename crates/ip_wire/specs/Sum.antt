@@ -26,8 +26,8 @@ all_ones = 65535
 abbrev pub IsEven : ℕ → Type 0
 IsEven n = n % 2 ≡ 0
 
--- The sum of a pseudo header (RFC 8200, section 8.1): the addresses, the length, three zeros, the protocol. That of IPv4
--- (RFC 9293, section 3.1) has the same words but for those that are 0, so the same sum.
+-- The sum of a pseudo header (RFC 8200, section 8.1): the addresses, the length, three zeros, the protocol. That of
+-- IPv4 (RFC 9293, section 3.1) has the same words but for those that are 0, so the same sum.
 abbrev pub pseudo_sum : IpAddress → IpAddress → ℕ → ℕ → ℕ
 pseudo_sum src dst protocol len =
     sum_after (sum_after (sum_after 0 (octets_of src)) (octets_of dst)) (be32 len ++ (0 ∷ 0 ∷ 0 ∷ protocol ∷ []))
