@@ -1,6 +1,6 @@
 -- Options are stepped over one by one.
 use Rattle.std.proofs.Common.{ℕ, suc, zero, ◌+◌, ◌-◌, ◌<◌, ◌≤◌, Bool, true, false, List, [], ◌∷◌, ◌≡◌, ◌≢◌, length, drop, get_or, refl, ap, sym, ◌∙◌, arith}
-use Rattle.std.specs.Prelude.{Option, Some, None, nat_le, ◌==◌, ◌&&◌, if◌then◌else◌}
+use Rattle.std.specs.Prelude.{Option, Some, None, nat_le, ◌==◌}
 use Rattle.std.proofs.lemmas.Bool.Decides.{nat_tests}
 use Rattle.std.proofs.lemmas.List.{drop-drop, drop_more, length-drop}
 use Rattle.control_wire.specs.Source.{is_option, option_len, options_after}
@@ -51,7 +51,7 @@ some_case kind len n rest z false false f eo ei ef h =
 
 none_case : (kind len : ℕ) (rest : List ℕ) → (kind == 0) ≡ false → (o i f : Bool) → (kind == 1) ≡ o → is_option kind len ≡ i → nat_le len (length (kind ∷ len ∷ rest)) ≡ f → option_len kind len (length (kind ∷ len ∷ rest)) ≡ None → options_after 0 (kind ∷ len ∷ rest) ≡ false
 none_case kind len rest z true i f eo ei ef h =
-    let g : Some 1 ≡ None = rw eo at h in
+    let g : ◌≡◌ {A = Option ℕ} (Some 1) None = rw eo at h in
     absurd (cc)
 none_case kind len rest z false true true eo ei ef h =
     let g : Some len ≡ None = rw (eo, ei, ef) at h in

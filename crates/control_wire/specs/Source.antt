@@ -1,5 +1,5 @@
 -- Which UDP datagrams and TCP segments are whole, so that their source port is read.
-use Rattle.std.specs.Prelude.{ℕ, ◌+◌, ◌-◌, ◌*◌, ◌/◌, ◌%◌, ◌==◌, ◌&&◌, ◌||◌, nat_le, not, Bool, true, false, zero, suc}
+use Rattle.std.specs.Prelude.{ℕ, ◌-◌, ◌*◌, ◌/◌, ◌%◌, ◌==◌, ◌&&◌, ◌||◌, nat_le, not, Bool, true, false, zero, suc}
 use Rattle.std.specs.Prelude.{List, [], ◌∷◌, length, take, drop, slice_index, Option, Some, None, if◌then◌else◌}
 use Rattle.ip_wire.specs.Octets.{be16_at}
 use Rattle.ip_wire.specs.Sum.{all_ones, pseudo_sum, sum_after}

@@ -24,9 +24,12 @@ pub record IsIpv4Header (h : Ipv4Repr) : Type 0 where
 
 pub record IsIpv6Header (h : Ipv6Repr) : Type 0 where
   pub src : length h.src_addr.0 ≡ 16
+  pub src_octets : IsOctets h.src_addr.0
   pub dst : length h.dst_addr.0 ≡ 16
+  pub dst_octets : IsOctets h.dst_addr.0
   pub protocol : IsNamed h.next_header
   pub payload : h.payload_len < 2 ^ 16
+  pub hops : h.hop_limit < 256
 
 -- a packet is whole, and its header and its payload are these
 pub record ReadsIpv4 (tested : Bool) (packet : List ℕ) (h : Ipv4Repr) (bytes : List ℕ) : Type 0 where

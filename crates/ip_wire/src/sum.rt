@@ -76,3 +76,8 @@ pub fn checksums_verify()
         → IsEven (length front) → sum_after start (front
         ++ (be16 (complement (sum_after start (front ++ 0 ∷ 0 ∷ back))) ++ back)) ≡ all_ones }
 {}
+
+/// A sum of bytes is a word.
+pub fn sums_are_words()
+    ensures { (start : ℕ) (octets : List ℕ) → start < 2 ^ 16 → IsOctets octets → sum_after start octets < 2 ^ 16 }
+{}
