@@ -1,3 +1,6 @@
 pub mod Datagram
+pub mod Icmp
+pub mod IcmpRoundTrip
 pub mod Seq
 pub mod Segment
+pub mod Source

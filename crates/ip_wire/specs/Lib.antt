@@ -2,4 +2,8 @@ pub mod Address
 pub mod Checksum
 pub mod Endpoint
 pub mod IpHeader
+pub mod Octets
+pub mod Packet
 pub mod Protocol
+pub mod RoundTrip
+pub mod Sum

@@ -55,3 +55,93 @@ fn defaults(rt: HostRuntime) {
     assert!(rt; caps.tcp.tx() && caps.icmpv6.rx());
     assert!(rt; !ChecksumCapabilities::ignored().ipv4.tx());
 }
+
+// The example of RFC 1071, section 3, and the header of a packet whose checksum is known.
+const SUMMED: [u8; 8] = [0x00, 0x01, 0xf2, 0x03, 0xf4, 0xf5, 0xf6, 0xf7];
+
+const KNOWN: [u8; 20] = [
+    0x45, 0, 0, 0x73, 0, 0, 0x40, 0, 0x40, 0x11, 0xb8, 0x61, 0xc0, 0xa8, 0, 1, 0xc0, 0xa8, 0, 0xc7,
+];
+
+#[test]
+fn known_checksums(rt: HostRuntime) {
+    assert_eq!(rt; sum::sum_after(0, &SUMMED), 0xddf2);
+    assert_eq!(rt; sum::checksum_after(0, &SUMMED), 0x220d);
+    // an odd last byte is the high half of a word
+    assert_eq!(rt; sum::sum_after(0, &[0x12, 0x34, 0x56]), 0x6834);
+    // the carry comes in at the other end
+    assert_eq!(rt; sum::ones_add(0xffff, 1), 1);
+    assert_eq!(rt; octets::word(1, 2), 0x0102);
+    assert_eq!(rt; sum::sum_after(0, &KNOWN), 0xffff);
+}
+
+#[test]
+fn checksums_are_filled(rt: HostRuntime) {
+    let mut bytes = [0; 115];
+    bytes[..20].copy_from_slice(&KNOWN);
+    // what the length field says is there
+    assert!(rt; Ipv4Packet::new_checked(&bytes[..114]).is_err());
+    if Ipv4Packet::new_checked(&bytes).is_ok() {
+        Ipv4Packet::set_checksum(&mut bytes, 0x1234);
+    }
+    assert_eq!(rt; (bytes[10], bytes[11]), (0x12, 0x34));
+    if Ipv4Packet::new_checked(&bytes).is_ok() {
+        Ipv4Packet::fill_checksum(&mut bytes);
+    }
+    assert_eq!(rt; bytes[..20], KNOWN[..]);
+}
+
+#[test]
+fn headers_are_written_and_read(rt: HostRuntime) -> Result<(), Fail> {
+    let caps = ChecksumCapabilities::default();
+    let to = IpAddress::Ipv4(Ipv4Address([10, 0, 0, 2]));
+    let repr = IpRepr::new(A, to, IpProtocol::Unknown(63), 4, 64);
+    let mut bytes = [1; 24];
+    repr.emit(&mut bytes, &caps);
+    let want = [
+        0x45, 0, 0, 0x18, 0, 0, 0x40, 0, 0x40, 0x3f, 0x26, 0xa5, 10, 0, 0, 1, 10, 0, 0, 2, 1, 1, 1,
+        1,
+    ];
+    assert_eq!(rt; bytes, want);
+    let packet = Ipv4Packet::new_checked(&bytes)?;
+    assert_eq!(rt; packet.next_header(), IpProtocol::Unknown(63));
+    assert_eq!(rt; packet.payload(), &[1; 4][..]);
+    assert_eq!(rt; Ipv4Repr::parse(&packet, &caps).map(IpRepr::Ipv4), Ok(repr));
+    // a byte that changed is seen only where checksums are tested
+    bytes[8] = 63;
+    let packet = Ipv4Packet::new_checked(&bytes)?;
+    assert!(rt; Ipv4Repr::parse(&packet, &caps).is_err());
+    assert!(rt; Ipv4Repr::parse(&packet, &ChecksumCapabilities::ignored()).is_ok());
+    Ok(())
+}
+
+#[test]
+fn ipv6_headers(rt: HostRuntime) -> Result<(), Fail> {
+    let repr = IpRepr::new(B, B, IpProtocol::Icmpv6, 2, 255);
+    let mut bytes = [7; 42];
+    repr.emit(&mut bytes, &ChecksumCapabilities::default());
+    assert_eq!(rt; bytes[..8], [0x60, 0, 0, 0, 0, 2, 58, 255][..]);
+    let packet = Ipv6Packet::new_checked(&bytes)?;
+    assert_eq!(rt; packet.next_header(), IpProtocol::Icmpv6);
+    assert_eq!(rt; packet.payload(), &[7, 7][..]);
+    assert_eq!(rt; Ipv6Repr::parse(&packet).map(IpRepr::Ipv6), Ok(repr));
+    assert!(rt; Ipv6Packet::new_checked(&bytes[..41]).is_err());
+    assert!(rt; Ipv6Packet::new_checked(&[0; 39]).is_err());
+    // the version is tested by parse alone
+    assert!(rt; Ipv6Repr::parse(&Ipv6Packet::new_checked(&[0; 40])?).is_err());
+    Ok(())
+}
+
+#[test]
+fn shortest_ipv4(rt: HostRuntime) {
+    let mut bytes = [0; 20];
+    bytes[0] = 0x45;
+    bytes[3] = 20;
+    assert!(rt; Ipv4Packet::new_checked(&bytes).is_ok());
+    assert!(rt; Ipv4Packet::new_checked(&bytes[..19]).is_err());
+    // a header of 16 bytes, and a total length below that of the header
+    bytes[0] = 0x44;
+    assert!(rt; Ipv4Packet::new_checked(&bytes).is_err());
+    bytes[0] = 0x46;
+    assert!(rt; Ipv4Packet::new_checked(&bytes).is_err());
+}

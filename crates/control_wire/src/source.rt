@@ -1,0 +1,160 @@
+//! The source ports of UDP datagrams and TCP segments that are whole.
+ghost use Rattle.std.specs.Prelude.{◌≡◌, ◌+◌, ◌≤◌, IsTrue, length};
+ghost use Rattle.ip_wire.specs.Checksum.{is_received};
+ghost use Rattle.ip_wire.specs.Octets.{be16_at};
+ghost use Rattle.control_wire.specs.Source.{
+  at_most_one,
+  both_ipv4,
+  is_datagram,
+  is_option,
+  is_segment,
+  option_len,
+  options_after,
+  sum_holds,
+  tcp_source,
+  udp_source,
+  udp_sum_holds,
+};
+
+use ip_wire::octets::{be16_at, word};
+use ip_wire::sum::{pseudo_sum, sum_after};
+use ip_wire::{ChecksumCapabilities, IpAddress};
+
+/// The source port of a UDP datagram (RFC 768).
+///
+/// None unless its length is from 8 to the bytes that there are, its destination port is not 0, and, where received
+/// checksums are tested, its checksum over as many bytes as its length verifies. A checksum of 0 is not tested over
+/// IPv4.
+pub fn udp_source(
+    bytes: &[u8],
+    src: &IpAddress,
+    dst: &IpAddress,
+    caps: &ChecksumCapabilities,
+) -> Option<u16>
+    ensures { result ≡ udp_source (is_received caps.now.udp) src.now dst.now bytes.now }
+{
+    if !is_datagram(bytes) || (caps.udp.rx() && !udp_sum_holds(bytes, src, dst)) {
+        return None;
+    }
+    Some(word(bytes[0], bytes[1]))
+}
+
+fn is_datagram(bytes: &[u8]) -> bool
+    ensures value { result ≡ is_datagram bytes.now }
+    ensures room { IsTrue result → be16_at bytes.now 4 ≤ length bytes.now }
+    ensures header { IsTrue result → 8 ≤ length bytes.now }
+{
+    if bytes.len() < 8 {
+        return false;
+    }
+    let length = be16_at(bytes, 4);
+    8 <= length && length <= bytes.len() && be16_at(bytes, 2) != 0
+}
+
+fn udp_sum_holds(bytes: &[u8], src: &IpAddress, dst: &IpAddress) -> bool
+    requires header { 8 ≤ length bytes.now }
+    requires room { be16_at bytes.now 4 ≤ length bytes.now }
+    ensures { result ≡ udp_sum_holds src.now dst.now bytes.now }
+{
+    (both_ipv4(src, dst) && be16_at(bytes, 6) == 0)
+        || sum_holds(&bytes[..be16_at(bytes, 4)], src, dst, 17)
+}
+
+fn both_ipv4(src: &IpAddress, dst: &IpAddress) -> bool
+    ensures { result ≡ both_ipv4 src.now dst.now }
+{
+    match (src, dst) {
+        (IpAddress::Ipv4(_), IpAddress::Ipv4(_)) => true,
+        _ => false,
+    }
+}
+
+fn sum_holds(bytes: &[u8], src: &IpAddress, dst: &IpAddress, protocol: u8) -> bool
+    ensures { result ≡ sum_holds src.now dst.now protocol bytes.now }
+{
+    sum_after(pseudo_sum(src, dst, protocol, bytes.len()), bytes) == 0xffff
+}
+
+/// The source port of a TCP segment (RFC 9293, section 3.1).
+///
+/// None unless its header has at least 20 bytes and no more than there are, no port is 0, at most one of FIN, SYN and
+/// RST is set, the options are well formed up to the one that ends them, and, where received checksums are tested, the
+/// checksum verifies.
+pub fn tcp_source(
+    bytes: &[u8],
+    src: &IpAddress,
+    dst: &IpAddress,
+    caps: &ChecksumCapabilities,
+) -> Option<u16>
+    ensures { result ≡ tcp_source (is_received caps.now.tcp) src.now dst.now bytes.now }
+{
+    if !is_segment(bytes) || (caps.tcp.rx() && !sum_holds(bytes, src, dst, 6)) {
+        return None;
+    }
+    Some(word(bytes[0], bytes[1]))
+}
+
+fn is_segment(bytes: &[u8]) -> bool
+    ensures value { result ≡ is_segment bytes.now }
+    ensures header { IsTrue result → 20 ≤ length bytes.now }
+{
+    if bytes.len() < 20 {
+        return false;
+    }
+    let header = (bytes[12] / 16) as usize * 4;
+    if header < 20 || bytes.len() < header {
+        return false;
+    }
+    be16_at(bytes, 0) != 0
+        && be16_at(bytes, 2) != 0
+        && at_most_one(bytes[13] % 8)
+        && options_are_well_formed(&bytes[20..header])
+}
+
+fn at_most_one(control: u8) -> bool
+    ensures { result ≡ at_most_one control }
+{
+    control == 0 || control == 1 || control == 2 || control == 4
+}
+
+fn options_are_well_formed(options: &[u8]) -> bool
+    ensures { result ≡ options_after 0 options.now }
+{
+    let mut at = 0;
+    while at + 1 < options.len() {
+        if options[at] == 0 {
+            return true;
+        }
+        let Some(length) = option_len(options[at], options[at + 1], options.len() - at) else {
+            return false;
+        };
+        at += length;
+    }
+    at == options.len() || options[at] <= 1
+}
+
+// How many bytes the option takes that begins with these two, of `room` bytes that are left.
+fn option_len(kind: u8, length: u8, room: usize) -> Option<usize>
+    ensures { result ≡ option_len kind length room }
+{
+    if kind == 1 {
+        Some(1)
+    } else if is_option(kind, length) && length as usize <= room {
+        Some(length as usize)
+    } else {
+        None
+    }
+}
+
+fn is_option(kind: u8, length: u8) -> bool
+    ensures { result ≡ is_option kind length }
+{
+    match kind {
+        2 => length == 4,
+        3 => length == 3,
+        4 => length == 2,
+        8 => length == 10,
+        5 => length == 10 || length == 18 || length == 26 || length == 34,
+        _ => 2 <= length,
+    }
+}

@@ -1,0 +1,13 @@
+use Rattle.std.proofs.Common.{length, drop, ◌-◌, ◌≡◌, ◌≤◌}
+use Rattle.ip_wire.specs.Sum.{sum_after}
+use Rattle.ip_wire.proofs.sum.sum_after.Given as goal
+
+abbrev pub invariant-loop-at : goal.invariant-loop-at
+invariant-loop-at l =
+    record {
+      within : l.at ≤ length l.bytes;
+      rest : sum_after l.sum (drop l.at l.bytes) ≡ sum_after l.fn.start l.bytes;
+    }
+
+abbrev pub decreases-loop-at : goal.decreases-loop-at
+decreases-loop-at l = length l.bytes - l.at

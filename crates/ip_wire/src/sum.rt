@@ -1,0 +1,83 @@
+//! Checksums: ones' complement sums of 16-bit words (RFC 1071).
+ghost use Rattle.std.specs.Prelude.{◌≡◌, ◌+◌, ◌*◌, ℕ, List, ◌∷◌, ◌++◌, ◌<◌, ◌^◌, length};
+ghost use Rattle.ip_wire.specs.Octets.{IsOctets, be16};
+ghost use Rattle.ip_wire.specs.Address.{octets_of};
+ghost use Rattle.ip_wire.specs.Sum.{IsEven, all_ones, complement, ones_add, pseudo_sum, sum_after};
+
+use crate::address::IpAddress;
+use crate::octets::{be16, word};
+
+/// The sum of two words, a carry out of the sixteen bits added at the other end.
+pub fn ones_add(a: u16, b: u16) -> u16
+    ensures { result ≡ ones_add a b }
+{
+    let total = a as u32 + b as u32;
+    if total < 0x10000 {
+        total as u16
+    } else {
+        (total - 0xffff) as u16
+    }
+}
+
+/// Adds the 16-bit words of `bytes` to a sum, in one pass. An odd last byte is padded with 0.
+///
+/// A sum over pieces is worked out piece by piece, where all but the last have an even length.
+pub fn sum_after(start: u16, bytes: &[u8]) -> u16
+    ensures { result ≡ sum_after start bytes.now }
+{
+    let mut sum = start;
+    let mut at = 0;
+    while at + 1 < bytes.len() {
+        sum = ones_add(sum, word(bytes[at], bytes[at + 1]));
+        at += 2;
+    }
+    if at < bytes.len() {
+        sum = ones_add(sum, word(bytes[at], 0));
+    }
+    sum
+}
+
+/// The checksum of `bytes`, and of what was summed before: the complement of the sum.
+pub fn checksum_after(start: u16, bytes: &[u8]) -> u16
+    ensures { result ≡ complement (sum_after start bytes.now) }
+{
+    0xffff - sum_after(start, bytes)
+}
+
+/// The sum of the pseudo header of a packet whose payload has `length` bytes, of this protocol (RFC 8200, section 8.1;
+/// for IPv4 RFC 9293, section 3.1).
+pub fn pseudo_sum(src: &IpAddress, dst: &IpAddress, protocol: u8, length: usize) -> u16
+    ensures { result ≡ pseudo_sum src.now dst.now protocol length }
+{
+    let [a, b] = be16(length / 65536);
+    let [c, d] = be16(length);
+    let addresses = add_address(add_address(0, src), dst);
+    sum_after(addresses, &[a, b, c, d, 0, 0, 0, protocol])
+}
+
+fn add_address(start: u16, address: &IpAddress) -> u16
+    ensures { result ≡ sum_after start (octets_of address.now) }
+{
+    match address {
+        IpAddress::Ipv4(address) => sum_after(start, &address.0),
+        IpAddress::Ipv6(address) => sum_after(start, &address.0),
+    }
+}
+
+/// A sum over two pieces of which the first has an even length is that of both.
+pub fn sums_continue()
+    ensures { (start : ℕ) (front back : List ℕ) → IsEven (length front)
+        → sum_after start (front ++ back) ≡ sum_after (sum_after start front) back }
+{}
+
+/// With the checksum in place of a word that was 0, the sum is the word of only ones.
+pub fn checksums_verify()
+    ensures { (start : ℕ) (front back : List ℕ) → start < 2 ^ 16 → IsOctets front → IsOctets back
+        → IsEven (length front) → sum_after start (front
+        ++ (be16 (complement (sum_after start (front ++ 0 ∷ 0 ∷ back))) ++ back)) ≡ all_ones }
+{}
+
+/// A sum of bytes is a word.
+pub fn sums_are_words()
+    ensures { (start : ℕ) (octets : List ℕ) → start < 2 ^ 16 → IsOctets octets → sum_after start octets < 2 ^ 16 }
+{}
