@@ -41,3 +41,4 @@ pub mod Running
 pub mod ReplaySinks
 pub mod ReplaySources
 pub mod ReplayPlays
+pub mod ShownWindow

@@ -16,8 +16,8 @@ use Rattle.sock_tcp.specs.Due.{begun, begun_to, before_emit, before_emit_to, end
 use Rattle.sock_tcp.specs.Content.{Sending, content}
 use Rattle.sock_tcp.specs.Dispatch.{left_by, sent}
 use Rattle.sock_tcp.specs.Steps.{Advance, advanced, advance_in, syn_sent_advance, syn_received, syn_answered, options_taken, window_taken, released, una_advanced, joined, segment_taken}
-use Rattle.sock_tcp.specs.Process.{stopped, tuple_of, has_window, processed_inside, tested, by_verdict, processed}
-use Rattle.sock_tcp.specs.Window.{receive_window, is_next_in_window}
+use Rattle.sock_tcp.specs.Process.{stopped, tuple_of, has_window, processed_inside, cut_inside, tested, by_verdict, processed}
+use Rattle.sock_tcp.specs.Window.{receive_window, is_inside, cut_of}
 use Rattle.sock_tcp.specs.Verdict.{verdict_of}
 use Rattle.sock_tcp.specs.declared.state.State.{State}
 use Rattle.sock_tcp.specs.declared.state.State.TheVariants as state
@@ -93,9 +93,9 @@ unfolding una_advanced
 una_fin v None = λ e. e
 una_fin v (Some a) = λ e. e
 
-taken_fin : (v : View) (now : Instant) (n : ℕ) (bs : List ℕ) (s : Segment) → CountsNoFin v (segment_taken v now n bs s)
+taken_fin : (v : View) (now : Instant) (n o : ℕ) (bs : List ℕ) (s : Segment) → CountsNoFin v (segment_taken v now n o bs s)
 unfolding segment_taken joined released window_taken
-taken_fin v now n bs s = una_fin (released (window_taken v now s.control s.window_len) n) s.ack_number
+taken_fin v now n o bs s = una_fin (released (window_taken v now s.control s.window_len) n) s.ack_number
 
 module _ (v : View) (now : Instant) (word : ℕ) (ip : IpRepr) (s : Segment) where
   answered_fin : (o : Option TcpSeqNumber) → CountsNoFin v (syn_sent_advance o v s).view
@@ -111,20 +111,21 @@ module _ (v : View) (now : Instant) (word : ℕ) (ip : IpRepr) (s : Segment) whe
   advance_fin state.Established control.None = λ e. e
   advance_fin _ _ = λ e. e
 
-  after_fin : (a : Advance) (n : ℕ) (bs : List ℕ) (b : Bool) → CountsNoFin v a.view → CountsNoFin v (stopped (if b then segment_taken a.view now n bs s else a.view)).view
-  after_fin a n bs true h = λ e. taken_fin a.view now n bs s (h e)
-  after_fin a n bs false h = h
+  after_fin : (a : Advance) (n o : ℕ) (bs : List ℕ) (b : Bool) → CountsNoFin v a.view → CountsNoFin v (stopped (if b then segment_taken a.view now n o bs s else a.view)).view
+  after_fin a n o bs true h = λ e. taken_fin a.view now n o bs s (h e)
+  after_fin a n o bs false h = h
 
-  inside_fin : (bs : List ℕ) → CountsNoFin v (processed_inside v now word bs ip s).view
+  inside_fin : (o : ℕ) (bs : List ℕ) → CountsNoFin v (processed_inside v now word o bs ip s).view
   unfolding processed_inside advanced
-  inside_fin bs = after_fin (advance_in v.state s.control v (tuple_of ip s) word s) _ bs (advance_in v.state s.control v (tuple_of ip s) word s).goes_on (advance_fin v.state s.control)
+  inside_fin o bs = after_fin (advance_in v.state s.control v (tuple_of ip s) word s) _ o bs (advance_in v.state s.control v (tuple_of ip s) word s).goes_on (advance_fin v.state s.control)
 
+module _ (v : View) (now : Instant) (word : ℕ) (ip : IpRepr) (s : Segment) where
   tested_fin : (b : Bool) → CountsNoFin v (tested b v now word ip s).view
-  tested_fin false = inside_fin []
-  tested_fin true = go (is_next_in_window (receive_window v) s.seq_number (length s.payload))
+  tested_fin false = inside_fin v now word ip s 0 []
+  tested_fin true = go (is_inside (receive_window v) s.seq_number (length s.payload))
     where
-      go : (b : Bool) → CountsNoFin v (if b then processed_inside v now word s.payload ip s else stopped v).view
-      go true = inside_fin s.payload
+      go : (b : Bool) → CountsNoFin v (if b then cut_inside (cut_of (receive_window v) s.seq_number (length s.payload)) v now word ip s else stopped v).view
+      go true = inside_fin (record v { local_rx_last_seq = Some s.seq_number }) now word ip s _ _
       go false = λ e. e
 
   verdict_fin : (x : Verdict) → CountsNoFin v (by_verdict x v now word ip s).view

@@ -17,8 +17,8 @@ use Rattle.sock_tcp.specs.Due.{begun, begun_to, before_emit, before_emit_to, end
 use Rattle.sock_tcp.specs.Content.{Sending, content}
 use Rattle.sock_tcp.specs.Dispatch.{left_by, sent}
 use Rattle.sock_tcp.specs.Steps.{Advance, advanced, advance_in, syn_sent_advance, syn_received, syn_answered, options_taken, window_taken, released, una_advanced, joined, segment_taken}
-use Rattle.sock_tcp.specs.Process.{stopped, tuple_of, has_window, processed_inside, tested, by_verdict, processed}
-use Rattle.sock_tcp.specs.Window.{receive_window, is_next_in_window}
+use Rattle.sock_tcp.specs.Process.{stopped, tuple_of, has_window, processed_inside, cut_inside, tested, by_verdict, processed}
+use Rattle.sock_tcp.specs.Window.{receive_window, is_inside, cut_of}
 use Rattle.sock_tcp.specs.Verdict.{verdict_of}
 use Rattle.sock_tcp.specs.declared.state.State.{State}
 use Rattle.sock_tcp.specs.declared.state.State.TheVariants as state
@@ -114,9 +114,9 @@ unfolding una_advanced
 noted_listens v None = refl
 noted_listens v (Some a) = refl
 
-heard_listens : (v : View) (now : Instant) (n : ℕ) (bs : List ℕ) (s : Segment) → SameListener v (segment_taken v now n bs s)
+heard_listens : (v : View) (now : Instant) (n o : ℕ) (bs : List ℕ) (s : Segment) → SameListener v (segment_taken v now n o bs s)
 unfolding segment_taken joined released window_taken
-heard_listens v now n bs s = noted_listens (released (window_taken v now s.control s.window_len) n) s.ack_number
+heard_listens v now n o bs s = noted_listens (released (window_taken v now s.control s.window_len) n) s.ack_number
 
 module _ (v : View) (now : Instant) (word : ℕ) (ip : IpRepr) (s : Segment) where
   answered_listens : (o : Option TcpSeqNumber) → SameListener v (syn_sent_advance o v s).view
@@ -132,20 +132,21 @@ module _ (v : View) (now : Instant) (word : ℕ) (ip : IpRepr) (s : Segment) whe
   advance_listens state.Established control.None = refl
   advance_listens _ _ = refl
 
-  after_listens : (a : Advance) (n : ℕ) (bs : List ℕ) (b : Bool) → SameListener v a.view → SameListener v (stopped (if b then segment_taken a.view now n bs s else a.view)).view
-  after_listens a n bs true e = heard_listens a.view now n bs s ∙ e
-  after_listens a n bs false e = e
+  after_listens : (a : Advance) (n o : ℕ) (bs : List ℕ) (b : Bool) → SameListener v a.view → SameListener v (stopped (if b then segment_taken a.view now n o bs s else a.view)).view
+  after_listens a n o bs true e = heard_listens a.view now n o bs s ∙ e
+  after_listens a n o bs false e = e
 
-  inside_listens : (bs : List ℕ) → SameListener v (processed_inside v now word bs ip s).view
+  inside_listens : (o : ℕ) (bs : List ℕ) → SameListener v (processed_inside v now word o bs ip s).view
   unfolding processed_inside advanced
-  inside_listens bs = after_listens (advance_in v.state s.control v (tuple_of ip s) word s) _ bs (advance_in v.state s.control v (tuple_of ip s) word s).goes_on (advance_listens v.state s.control)
+  inside_listens o bs = after_listens (advance_in v.state s.control v (tuple_of ip s) word s) _ o bs (advance_in v.state s.control v (tuple_of ip s) word s).goes_on (advance_listens v.state s.control)
 
+module _ (v : View) (now : Instant) (word : ℕ) (ip : IpRepr) (s : Segment) where
   tested_listens : (b : Bool) → SameListener v (tested b v now word ip s).view
-  tested_listens false = inside_listens []
-  tested_listens true = go (is_next_in_window (receive_window v) s.seq_number (length s.payload))
+  tested_listens false = inside_listens v now word ip s 0 []
+  tested_listens true = go (is_inside (receive_window v) s.seq_number (length s.payload))
     where
-      go : (b : Bool) → SameListener v (if b then processed_inside v now word s.payload ip s else stopped v).view
-      go true = inside_listens s.payload
+      go : (b : Bool) → SameListener v (if b then cut_inside (cut_of (receive_window v) s.seq_number (length s.payload)) v now word ip s else stopped v).view
+      go true = inside_listens (record v { local_rx_last_seq = Some s.seq_number }) now word ip s _ _
       go false = refl
 
   verdict_listens : (x : Verdict) → SameListener v (by_verdict x v now word ip s).view

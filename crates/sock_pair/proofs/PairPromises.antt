@@ -6,7 +6,7 @@ use Rattle.sock_core.specs.Streams.{IsPrefix}
 use Rattle.sock_pair.specs.NetworkRuns as network
 use Rattle.sock_pair.specs.PairInvariant.{IsHost, IsPair}
 use Rattle.sock_pair.specs.PairNetwork.{seen, endpoint_of, network_of}
-use Rattle.sock_pair.specs.PairPromises.{delivered, Prefix, IsReleased, Release, IsPrompt, IsPromptAt, Prompt}
+use Rattle.sock_pair.specs.PairPromises.{delivered, Prefix, IsReleased, Release, IsPrompt, IsPromptAt, Prompt, in_window}
 use Rattle.sock_pair.specs.PairSteps.{DeliversTo, DeliversIf, Delivers, is_old, exchanged}
 use Rattle.sock_pair.specs.PairViews.{HostView, StoredView, PairView, host_of}
 use Rattle.sock_pair.specs.Sides.{other_side}
@@ -63,7 +63,7 @@ prompt false s m t o reply h h' ks ks' is d = go d.accepted d.does
   where
     go : (b : Bool) → DeliversIf b s m t o h ks h' ks' → IsPrompt t h h'
     go false x = let no : outcome.NotAccepted None ≡ outcome.Delivered reply = sym x.0 ∙ is in cc
-    go true x = record { queued = λ i some. subst (λ (k : HostView). JoinsAtOnce h.control_block.rx_buffer k.control_block.rx_buffer t.segment.payload) (sym x.host) (queued_at_once h.control_block _ m.word t.ip t.segment i some) }
+    go true x = record { queued = λ i some. subst (λ (k : HostView). JoinsAtOnce h.control_block.rx_buffer k.control_block.rx_buffer (in_window h.control_block t.segment)) (sym x.host) (queued_at_once h.control_block _ m.word t.ip t.segment i some) }
 
 exchanged_host : (s : Side) (p : PairView) (h : HostView) (ks : List StoredView) → host_of s (exchanged s p h ks) ≡ h
 exchanged_host A p h ks = refl

@@ -30,7 +30,7 @@ use Rattle.sock_pair.specs.StreamTables.{Syn, Bytes}
 use Rattle.sock_pair.specs.StreamViews.{HasIss, KnowsPeer}
 use Rattle.sock_core.proofs.Streams.{prefix_le}
 use Rattle.sock_pair.proofs.StreamTables.{content_sent, emit_moves}
-use Rattle.sock_pair.proofs.ShownProcess.{later_shown}
+use Rattle.sock_pair.proofs.ShownWindow.{later_shown}
 
 -- ---- the beginning
 

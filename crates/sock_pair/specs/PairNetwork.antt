@@ -1,5 +1,5 @@
 -- The network of the theorem on two streams that a pair shows.
-use Rattle.std.specs.Prelude.{ℕ, ◌<◌, ◌^◌, List, [], ◌∷◌, Bool, true, false, not, ◌==◌, option_map}
+use Rattle.std.specs.Prelude.{ℕ, ◌<◌, ◌≤◌, ◌^◌, length, List, [], ◌∷◌, Bool, true, false, not, ◌==◌, option_map}
 use Rattle.std.specs.declared.option.Option.{Option}
 use Rattle.std.specs.Option.{ForSome}
 use Rattle.control_wire.specs.Segment.{Segment}
@@ -132,7 +132,8 @@ network_at s h o ks limit =
 abbrev pub network_of : PairView → Network
 network_of p = network_at A p.a p.b p.segments p.limit
 
--- the numbers of a segment have 32 bits
+-- the numbers of a segment have 32 bits, and its payload has at most 65535 bytes
 pub record IsSmall (s : Segment) : Type 0 where
+  pub payload : length s.payload ≤ 65535
   pub seq : s.seq_number.0 < 2 ^ 32
   pub ack : ForSome s.ack_number (λ a. a.0 < 2 ^ 32)

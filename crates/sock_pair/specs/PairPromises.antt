@@ -1,12 +1,12 @@
 -- What is promised of a pair.
-use Rattle.std.specs.Prelude.{ℕ, ◌≡◌, ◌≤◌, ◌<◌, ◌⊎◌, true, List, ◌++◌, length, slice_get, Option, Some}
+use Rattle.std.specs.Prelude.{ℕ, ◌≡◌, ◌≤◌, ◌<◌, ◌⊎◌, true, false, List, ◌++◌, length, slice_get, Option, Some}
 use Rattle.sock_core.specs.Received.{JoinsAtOnce}
+use Rattle.sock_core.specs.Seq.{is_before}
 use Rattle.sock_core.specs.Streams.{IsPrefix}
-use Rattle.control_wire.specs.Seq.{seq_sub}
 use Rattle.control_wire.specs.Segment.{Segment, is_plain}
 use Rattle.sock_tcp.specs.Verdict.{verdict_of}
 use Rattle.sock_tcp.specs.View.{View}
-use Rattle.sock_tcp.specs.Window.{next_ack, window_end}
+use Rattle.sock_tcp.specs.Window.{next_ack, receive_window, is_inside, cut_of, cut_bytes}
 use Rattle.sock_tcp.specs.declared.error.RecvError.TheVariants as recv_error
 use Rattle.sock_tcp.specs.declared.state.State.TheVariants as state
 use Rattle.sock_tcp.specs.declared.verdict.Verdict.TheVariants as verdicts
@@ -48,22 +48,24 @@ Complete _ = Unit {0}
 
 -- ---- Prompt
 
--- The segment s may bring bytes to the socket v: the state has a receive queue, the acknowledgement passes, and nothing
--- but bytes is asked for. It starts at RCV.NXT, the next number expected, and ends at or before the right edge of the
--- receive window. (Segments in order are those that start at RCV.NXT or before it; the socket takes no others of them
--- yet)
-pub record IsNextExpected (v : View) (s : Segment) : Type 0 where
+-- The segment s is in order for the socket v: the state has a receive queue, the acknowledgement passes, nothing but
+-- bytes is asked for, it lies inside the receive window, and it starts at RCV.NXT, the next number expected, or before it
+pub record IsInOrder (v : View) (s : Segment) : Type 0 where
   pub state : (v.state ≡ state.SynReceived) ⊎ (v.state ≡ state.Established)
   pub passes : verdict_of v s.control s.ack_number ≡ verdicts.Pass
   pub plain : is_plain s.control ≡ true
-  pub starts : s.seq_number ≡ next_ack v
-  pub ends : length s.payload ≤ seq_sub (window_end v v.remote_last_ack) (next_ack v)
+  pub inside : is_inside (receive_window v) s.seq_number (length s.payload) ≡ true
+  pub starts : is_before (next_ack v) s.seq_number ≡ false
 
--- a delivery of the segment t found the receiver as old, and left it as new: the whole payload of such a segment joined
--- the receive queue, and behind it what was held there
+-- the bytes of the segment that lie in the window
+abbrev pub in_window : View → Segment → List ℕ
+in_window v s = cut_bytes (cut_of (receive_window v) s.seq_number (length s.payload)) s.payload
+
+-- a delivery of the segment t found the receiver as old, and left it as new: the in-window bytes of such a segment joined
+-- the receive queue, and behind them what was held there
 pub record IsPrompt (t : StoredView) (old new : HostView) : Type 0 where
-  pub queued : IsNextExpected old.control_block t.segment → 0 < length t.segment.payload
-      → JoinsAtOnce old.control_block.rx_buffer new.control_block.rx_buffer t.segment.payload
+  pub queued : IsInOrder old.control_block t.segment → 0 < length (in_window old.control_block t.segment)
+      → JoinsAtOnce old.control_block.rx_buffer new.control_block.rx_buffer (in_window old.control_block t.segment)
 
 -- so at each delivery of a pair that a side accepts
 abbrev pub IsPromptAt : ℕ → PairView → Outcome → PairView → Type 0

@@ -12,7 +12,8 @@ use Rattle.sock_core.specs.Facts.{Facts}
 use Rattle.sock_tcp.specs.Draw.{draws, Draws}
 use Rattle.sock_tcp.specs.View.{View, moment_of}
 use Rattle.sock_tcp.specs.Verdict.{verdict_of}
-use Rattle.sock_tcp.specs.Window.{receive_window, is_next_in_window}
+use Rattle.sock_tcp.specs.Window.{receive_window, is_inside, cut_of, cut_bytes}
+use Rattle.sock_tcp.specs.declared.window.Cut.{Cut}
 use Rattle.sock_tcp.specs.Steps.{Advance, acked_of, advanced, segment_taken}
 use Rattle.sock_tcp.specs.declared.state.State.{State}
 use Rattle.sock_tcp.specs.declared.state.State.TheVariants as state
@@ -76,19 +77,25 @@ has_window state.Listen = false
 has_window state.SynSent = false
 has_window _ = true
 
-abbrev pub after_advance : Advance → Instant → ℕ → List ℕ → Segment → Outcome
-after_advance a now n bs s = stopped (if a.goes_on then segment_taken a.view now n bs s else a.view)
+abbrev pub after_advance : Advance → Instant → ℕ → ℕ → List ℕ → Segment → Outcome
+after_advance a now n o bs s = stopped (if a.goes_on then segment_taken a.view now n o bs s else a.view)
 
--- the steps after the window test, for the bytes that the window takes
-unfoldable pub processed_inside : View → Instant → ℕ → List ℕ → IpRepr → Segment → Outcome
-processed_inside v now word bs ip s =
-    after_advance (advanced v (tuple_of ip s) word s) now (acked_of v s.control s.ack_number) bs s
+-- the steps after the window test, for the bytes that the window takes, o past RCV.NXT
+unfoldable pub processed_inside : View → Instant → ℕ → ℕ → List ℕ → IpRepr → Segment → Outcome
+processed_inside v now word o bs ip s =
+    after_advance (advanced v (tuple_of ip s) word s) now (acked_of v s.control s.ack_number) o bs s
+
+-- a segment inside the window is cut to it, and its number is remembered
+abbrev pub cut_inside : Cut → View → Instant → ℕ → IpRepr → Segment → Outcome
+cut_inside cut v now word ip s =
+    processed_inside (record v { local_rx_last_seq = Some s.seq_number }) now word cut.offset
+    (cut_bytes cut s.payload) ip s
 
 abbrev pub tested : Bool → View → Instant → ℕ → IpRepr → Segment → Outcome
-tested false v now word ip s = processed_inside v now word [] ip s
+tested false v now word ip s = processed_inside v now word 0 [] ip s
 tested true v now word ip s =
-    if is_next_in_window (receive_window v) s.seq_number (length s.payload)
-    then processed_inside v now word s.payload ip s
+    if is_inside (receive_window v) s.seq_number (length s.payload)
+    then cut_inside (cut_of (receive_window v) s.seq_number (length s.payload)) v now word ip s
     else stopped v
 
 -- a segment whose acknowledgement does not pass is dropped

@@ -138,7 +138,7 @@ una_advanced_to v (Some ack) = record v { local_seq_no = ack; remote_last_seq = 
 unfoldable pub una_advanced : View → Option TcpSeqNumber → View
 una_advanced v ack = una_advanced_to v ack
 
--- ---- the bytes join the queue
+-- ---- the bytes join the queue, or are held
 
 -- bs, whose first byte lies o past RCV.NXT
 abbrev pub brought : Received → ℕ → List ℕ → Received
@@ -147,8 +147,8 @@ brought b o bs = if length bs == 0 then b else taken_in b o bs
 unfoldable pub joined : View → ℕ → List ℕ → View
 joined v o bs = record v { rx_buffer = brought v.rx_buffer o bs }
 
--- ---- the steps behind the state table: n bytes are acknowledged, and bs came
+-- ---- the steps behind the state table: n bytes are acknowledged, and bs came, o past RCV.NXT
 
-unfoldable pub segment_taken : View → Instant → ℕ → List ℕ → Segment → View
-segment_taken v now n bs s =
-    joined (una_advanced (released (window_taken v now s.control s.window_len) n) s.ack_number) 0 bs
+unfoldable pub segment_taken : View → Instant → ℕ → ℕ → List ℕ → Segment → View
+segment_taken v now n o bs s =
+    joined (una_advanced (released (window_taken v now s.control s.window_len) n) s.ack_number) o bs

@@ -1,8 +1,9 @@
 -- The receive window.
-use Rattle.std.specs.Prelude.{ℕ, ◌*◌, ◌^◌, length, Option, Some, None, Bool, ◌&&◌, nat_le, if◌then◌else◌}
-use Rattle.control_wire.specs.Seq.{seq_add, seq_sub, seq_eq}
+use Rattle.std.specs.Prelude.{ℕ, ◌*◌, ◌^◌, List, length, take, drop, Option, Some, None, Bool, false, ◌==◌, ◌&&◌, ◌||◌, if◌then◌else◌}
+use Rattle.control_wire.specs.Seq.{seq_add, seq_sub, seq_minus, seq_eq}
 use Rattle.control_wire.specs.declared.seq_number.TcpSeqNumber.{TcpSeqNumber}
-use Rattle.sock_core.specs.Seq.{is_before}
+use Rattle.sock_core.specs.Seq.{is_before, is_not_after, later_of}
+use Rattle.sock_tcp.specs.declared.window.Cut.{Cut}
 use Rattle.sock_tcp.specs.declared.window.Window.{Window}
 use Rattle.sock_tcp.specs.View.{View}
 
@@ -25,6 +26,43 @@ window_end v (Some ack) =
 unfoldable pub receive_window : View → Window
 receive_window v = record { start = next_ack v; end = window_end v v.remote_last_ack }
 
--- a segment starts at the left edge, and its n bytes end at or before the right edge
-unfoldable pub is_next_in_window : Window → TcpSeqNumber → ℕ → Bool
-is_next_in_window w number n = seq_eq number w.start && nat_le n (seq_sub w.end w.start)
+-- ---- the window test
+
+-- a number lies from the left edge on, and before the right one
+abbrev pub starts_inside : Window → TcpSeqNumber → Bool
+starts_inside w number = is_not_after w.start number && is_before number w.end
+
+-- a segment without bytes, at this number
+abbrev pub empty_inside : Window → TcpSeqNumber → Bool
+empty_inside w number =
+    if seq_eq number (seq_minus w.start 1) then false
+    else (if seq_eq w.start w.end then seq_eq number w.start else starts_inside w number)
+
+-- a segment with bytes, from this number up to the end behind its last
+abbrev pub full_inside : Window → TcpSeqNumber → TcpSeqNumber → Bool
+full_inside w number end =
+    if seq_eq w.start w.end then false
+    else (starts_inside w number || (is_before w.start end && is_not_after end w.end))
+
+-- a segment of n bytes
+unfoldable pub is_inside : Window → TcpSeqNumber → ℕ → Bool
+is_inside w number n = if n == 0 then empty_inside w number else full_inside w number (seq_add number n)
+
+-- ---- the cut of a segment to the window
+
+-- the sooner of the segment's end and the right edge
+abbrev pub cut_end : Window → TcpSeqNumber → TcpSeqNumber
+cut_end w end = if is_before end w.end then end else w.end
+
+-- from the later of the left edge and the segment's number up to there
+unfoldable pub cut_of : Window → TcpSeqNumber → ℕ → Cut
+cut_of w number n =
+    record {
+      skip = seq_sub (later_of w.start number) number;
+      count = seq_sub (cut_end w (seq_add number n)) (later_of w.start number);
+      offset = seq_sub (later_of w.start number) w.start;
+    }
+
+-- the part of a payload that a cut names
+abbrev pub cut_bytes : Cut → List ℕ → List ℕ
+cut_bytes cut bs = take cut.count (drop cut.skip bs)

@@ -1,5 +1,5 @@
 //! `accepts` and `process` (RFC 9293, section 3.10.7).
-ghost use Rattle.std.specs.Prelude.{◌≡◌, ◌≤◌, ◌↔◌, IsTrue, length, option_map, [], None};
+ghost use Rattle.std.specs.Prelude.{◌≡◌, ◌+◌, ◌≤◌, ◌↔◌, IsTrue, length, option_map, [], None};
 ghost use Rattle.std.specs.Option.{ForSome};
 ghost use Rattle.control_wire.specs.Segment.{segment_of};
 ghost use Rattle.sock_tcp.specs.Same.{SameQueues};
@@ -123,29 +123,30 @@ impl<'a> ControlBlock<'a> {
         }
     }
 
-    // The steps after the window test, for the bytes that the window takes.
+    // The steps after the window test, for the bytes that the window takes, the first of them so far past RCV.NXT.
     #[tactic(auto, unfolding(crate::specs::Process::processed_inside))]
     fn process_inside<C: Context>(
         &mut self,
         cx: &mut C,
         now: Instant,
+        offset: usize,
         bytes: &[u8],
         ip_repr: &IpRepr,
         repr: &TcpRepr<'_>,
     )
         requires passed { verdict_of self.old repr.now.control repr.now.ack_number ≡ Pass }
-        requires fits { length bytes.now ≤ length self.old.rx_buffer.held }
+        requires fits { offset + length bytes.now ≤ length self.old.rx_buffer.held }
         ensures table { stopped self.new
-            ≡ processed_inside self.old now (C.word_at cx.old 0) bytes.now ip_repr.now (segment_of repr.now) }
+            ≡ processed_inside self.old now (C.word_at cx.old 0) offset bytes.now ip_repr.now (segment_of repr.now) }
         ensures context { Draws (draws Pass self.old.state repr.now.control) C.facts C.word_at cx.old cx.new }
     {
         let count = self.passed_len(repr.control, repr.ack_number);
         if self.advance(cx, ip_repr, repr) {
-            self.take_segment(now, count, bytes, repr);
+            self.take_segment(now, count, offset, bytes, repr);
         }
     }
 
-    // The window test.
+    // The window test, and the cut.
     fn process_passed<C: Context>(
         &mut self,
         cx: &mut C,
@@ -154,20 +155,24 @@ impl<'a> ControlBlock<'a> {
         repr: &TcpRepr<'_>,
     )
         requires passed { verdict_of self.old repr.now.control repr.now.ack_number ≡ Pass }
+        requires small { length repr.now.payload.now ≤ 65535 }
         ensures table { stopped self.new
             ≡ tested (has_window self.old.state) self.old now (C.word_at cx.old 0) ip_repr.now (segment_of repr.now) }
         ensures context { Draws (draws Pass self.old.state repr.now.control) C.facts C.word_at cx.old cx.new }
     {
         if !self.has_window() {
-            self.process_inside(cx, now, &[], ip_repr, repr);
+            self.process_inside(cx, now, 0, &[], ip_repr, repr);
             return;
         }
-        if self
-            .receive_window()
-            .is_next_in_window(repr.seq_number, repr.payload.len())
-        {
-            self.process_inside(cx, now, repr.payload, ip_repr, repr);
+        repr.seq_number.in_range();
+        let window = self.receive_window();
+        if !window.is_inside(repr.seq_number, repr.payload.len()) {
+            return;
         }
+        let cut = window.cut(repr.seq_number, repr.payload.len());
+        let bytes = cut.of(repr.payload);
+        self.local_rx_last_seq = Some(repr.seq_number);
+        self.process_inside(cx, now, cut.offset, bytes, ip_repr, repr);
     }
 
     #[tactic(auto, unfolding(crate::specs::Process::processed))]
@@ -177,6 +182,7 @@ impl<'a> ControlBlock<'a> {
         ip_repr: &IpRepr,
         repr: &TcpRepr<'_>,
     ) -> Option<Reply>
+        requires { length repr.now.payload.now ≤ 65535 }
         ensures { Processes C.facts C.word_at self.old cx.old ip_repr.now (segment_of repr.now) result self.new cx.new }
     {
         let now = cx.now();

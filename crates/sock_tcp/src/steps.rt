@@ -160,16 +160,17 @@ impl<'a> ControlBlock<'a> {
         &mut self,
         now: Instant,
         count: usize,
+        offset: usize,
         bytes: &[u8],
         repr: &TcpRepr<'_>,
     )
         requires acked { count ≤ length self.old.tx_buffer.bytes }
-        requires fits { length bytes.now ≤ length self.old.rx_buffer.held }
-        ensures { self.new ≡ segment_taken self.old now count bytes.now (segment_of repr.now) }
+        requires fits { offset + length bytes.now ≤ length self.old.rx_buffer.held }
+        ensures { self.new ≡ segment_taken self.old now count offset bytes.now (segment_of repr.now) }
     {
         self.take_window(now, repr.control, repr.window_len);
         self.release(count);
         self.advance_una(repr.ack_number);
-        self.join(0, bytes);
+        self.join(offset, bytes);
     }
 }

@@ -1,13 +1,13 @@
 //! The receive window (RFC 9293, section 3.10.7.4; RFC 7323, section 2).
-ghost use Rattle.std.specs.Prelude.{◌≡◌, ◌≤◌, IsTrue, length};
+ghost use Rattle.std.specs.Prelude.{◌≡◌, ◌≤◌, ◌<◌, ◌^◌, length};
 ghost use Rattle.control_wire.specs.Seq.{seq_sub};
-ghost use Rattle.sock_tcp.specs.Window.{next_ack, kept_between, receive_window, is_next_in_window};
+ghost use Rattle.sock_tcp.specs.Window.{next_ack, kept_between, receive_window, starts_inside, is_inside, cut_of, cut_bytes};
 
 use crate::control_block::ControlBlock;
 use control_wire::TcpSeqNumber;
-use sock_core::seq::before;
+use sock_core::seq::{before, later, not_after};
 
-///! The receive window: its left edge, and the number behind its last one.
+/// The receive window: its left edge, and the number behind its last one.
 #[derive(Debug, Clone, Copy, PartialEq, Eq)]
 pub struct Window {
     /// The left edge, RCV.NXT.
@@ -16,14 +16,72 @@ pub struct Window {
     pub end: TcpSeqNumber,
 }
 
-impl Window {
-    // Whether a segment starts at the left edge, and its `length` bytes end at or before the right edge.
-    #[tactic(auto, unfolding(crate::specs::Window::is_next_in_window))]
-    pub(crate) fn is_next_in_window(&self, number: TcpSeqNumber, length: usize) -> bool
-        ensures value { result ≡ is_next_in_window self.now number length }
-        ensures fits { IsTrue result → length ≤ seq_sub self.now.end self.now.start }
+/// A part of a segment's payload.
+#[derive(Debug, Clone, Copy, PartialEq, Eq)]
+pub struct Cut {
+    /// How many bytes stand before it.
+    pub skip: usize,
+    /// How many bytes it has, where the payload has so many.
+    pub count: usize,
+    /// How far its first byte lies past RCV.NXT.
+    pub offset: usize,
+}
+
+impl Cut {
+    // The part of a payload that the cut names.
+    pub(crate) fn of(self, payload: &[u8]) -> &[u8]
+        ensures { result.now ≡ cut_bytes self payload.now }
     {
-        number == self.start && length <= self.end.since(self.start)
+        let from = self.skip.min(payload.len());
+        let count = self.count.min(payload.len() - from);
+        &payload[from..from + count]
+    }
+}
+
+impl Window {
+    // Whether a number lies from the left edge on, and before the right one.
+    fn starts_inside(&self, number: TcpSeqNumber) -> bool
+        ensures { result ≡ starts_inside self.now number }
+    {
+        not_after(self.start, number) && before(number, self.end)
+    }
+
+    // Whether a segment of `length` bytes lies inside (RFC 9293, section 3.10.7.4).
+    #[tactic(auto, unfolding(crate::specs::Window::is_inside))]
+    pub(crate) fn is_inside(&self, number: TcpSeqNumber, length: usize) -> bool
+        requires { length < 2 ^ 32 }
+        ensures { result ≡ is_inside self.now number length }
+    {
+        match (length, self.start == self.end) {
+            (0, _) if number == self.start.minus(1) => false,
+            (0, true) => number == self.start,
+            (0, false) => self.starts_inside(number),
+            (_, true) => false,
+            (_, false) => {
+                let end = number.plus(length);
+                self.starts_inside(number) || before(self.start, end) && not_after(end, self.end)
+            }
+        }
+    }
+
+    // The part of such a segment that lies in the window.
+    #[tactic(auto, unfolding(crate::specs::Window::cut_of))]
+    pub(crate) fn cut(&self, number: TcpSeqNumber, length: usize) -> Cut
+        requires { length < 2 ^ 32 }
+        ensures { result ≡ cut_of self.now number length }
+    {
+        let start = later(self.start, number);
+        let end = number.plus(length);
+        let end = if before(end, self.end) {
+            end
+        } else {
+            self.end
+        };
+        Cut {
+            skip: start.since(number),
+            count: end.since(start),
+            offset: start.since(self.start),
+        }
     }
 }
 
