@@ -1,8 +1,9 @@
-//! Two sockets, one of them with a source of timestamps.
+//! Two sockets of a pair: a source of timestamps, closures that take nothing, settings.
 use ip_wire::{IpAddress, IpEndpoint, Ipv4Address};
 use net_base::ring_buffer::RingBuffer;
-use net_base::time::Instant;
-use sock_pair::{Event, Moment, Outcome, Pair, Setup, Side};
+use net_base::time::{Duration, Instant};
+use sock_pair::{Event, HopLimit, Interval, Moment, Outcome, Pair, Setting, Setup, Side};
+use sock_tcp::CongestionControl;
 use std::process::Abort;
 use std::test::Fail;
 
@@ -97,5 +98,103 @@ fn six_bytes_from_a_side_with_a_generator(rt: HostRuntime) -> Result<(), Fail> {
     happens(&rt, &mut pair, &recv, read);
     assert_eq!(rt; pair.handed_out(Side::B), b"abcdef".as_slice());
     assert!(rt; pair.socket(Side::A).timestamp_enabled());
+    Ok(())
+}
+
+fn set(side: Side, setting: Setting) -> Event {
+    Event::Set { side, setting }
+}
+
+#[test]
+fn closures_that_take_nothing(rt: HostRuntime) -> Result<(), Fail> {
+    let alloc = rt.alloc();
+    let mut arx = [0u8; 64];
+    let mut atx = [0u8; 64];
+    let mut brx = [0u8; 64];
+    let mut btx = [0u8; 64];
+    let a = Setup {
+        rx: RingBuffer::new(&mut arx),
+        tx: RingBuffer::new(&mut atx),
+        endpoint: A,
+        generator: None,
+    };
+    let b = Setup {
+        rx: RingBuffer::new(&mut brx),
+        tx: RingBuffer::new(&mut btx),
+        endpoint: B,
+        generator: None,
+    };
+    let mut pair = Pair::new(alloc, a, b, Some(1000));
+    opens(&rt, &mut pair);
+    let none = Event::Send {
+        side: Side::A,
+        bytes: Vec::from_slice(alloc, b"abc")?,
+        take: 0,
+    };
+    happens(&rt, &mut pair, &none, Outcome::Accepted(0));
+    assert_eq!(rt; pair.socket(Side::A).send_queue(), 0);
+    let some = Event::Send {
+        side: Side::A,
+        bytes: Vec::from_slice(alloc, b"abc")?,
+        take: 2,
+    };
+    happens(&rt, &mut pair, &some, Outcome::Accepted(2));
+    happens(&rt, &mut pair, &dispatch(Side::A), Outcome::Emitted(3));
+    happens(&rt, &mut pair, &deliver(3), Outcome::Delivered(None));
+    let none = Event::Recv {
+        side: Side::B,
+        take: 0,
+    };
+    happens(&rt, &mut pair, &none, Outcome::Read(Vec::new(alloc)));
+    let some = Event::Recv {
+        side: Side::B,
+        take: 64,
+    };
+    let read = Outcome::Read(Vec::from_slice(alloc, b"ab")?);
+    happens(&rt, &mut pair, &some, read);
+    Ok(())
+}
+
+#[test]
+fn settings_of_a_pair(rt: HostRuntime) -> Result<(), Fail> {
+    let alloc = rt.alloc();
+    let mut arx = [0u8; 1];
+    let mut atx = [0u8; 1];
+    let mut brx = [0u8; 1];
+    let mut btx = [0u8; 1];
+    let a = Setup {
+        rx: RingBuffer::new(&mut arx),
+        tx: RingBuffer::new(&mut atx),
+        endpoint: A,
+        generator: None,
+    };
+    let b = Setup {
+        rx: RingBuffer::new(&mut brx),
+        tx: RingBuffer::new(&mut btx),
+        endpoint: B,
+        generator: None,
+    };
+    let mut pair = Pair::new(alloc, a, b, None);
+    let second = Interval::new(Some(Duration::from_secs(1)));
+    let hops = HopLimit::new(Some(9));
+    for setting in [
+        Setting::Timeout(second),
+        Setting::AckDelay(Interval::new(None)),
+        Setting::KeepAlive(second),
+        Setting::Nagle(false),
+        Setting::HopLimit(hops),
+        Setting::Congestion(CongestionControl::None),
+        Setting::Pause(true),
+    ] {
+        happens(&rt, &mut pair, &set(Side::B, setting), Outcome::Done);
+    }
+    let socket = pair.socket(Side::B);
+    assert_eq!(rt; socket.timeout(), second.duration);
+    assert_eq!(rt; socket.ack_delay(), None);
+    assert_eq!(rt; socket.keep_alive(), second.duration);
+    assert!(rt; !socket.nagle_enabled());
+    assert_eq!(rt; socket.hop_limit(), Some(9));
+    assert_eq!(rt; socket.congestion_control(), CongestionControl::None);
+    assert!(rt; pair.socket(Side::A).nagle_enabled());
     Ok(())
 }

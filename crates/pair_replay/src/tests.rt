@@ -161,6 +161,22 @@ fn bytes_are_read(rt: HostRuntime) -> Result<(), Fail> {
     )
 }
 
+#[test]
+fn bytes_ahead_of_a_gap_are_held(rt: HostRuntime) -> Result<(), Fail> {
+    runs(
+        &rt,
+        rt.alloc(),
+        "1000",
+        "nagle a off\nsend a abc\ndispatch a 0\nsend a def\ndispatch a 0\ndeliver 4 0 0\nrecv b 6\n\
+        deliver 3 0 0\nrecv b 6\n",
+        "done\naccepted 3\nemitted 3 PSH|ACK seq 1001 ack 5001 win 64 len 3\n\
+        accepted 3\nemitted 4 PSH|ACK seq 1004 ack 5001 win 64 len 3\ndelivered\nread 0\n\
+        delivered\nread 6 abcdef\n\
+        a ESTABLISHED accepted 6 handed-out 0 queued 0\n\
+        b ESTABLISHED accepted 0 handed-out 6 queued 0\n",
+    )
+}
+
 // A receive buffer of 131072 bytes has a window shift of 2.
 #[test]
 fn scaled_window_field(rt: HostRuntime) -> Result<(), Fail> {

@@ -1,8 +1,7 @@
 -- What `process` does to a socket is an effect of a segment on the two streams.
-use Rattle.std.proofs.Common.{◌≡◌, ℕ, ◌+◌, ◌-◌, ◌*◌, ◌%◌, ◌^◌, ◌<◌, ◌≤◌, Bool, true, false, refl, sym, ap, subst, ◌∙◌, arith, List, [], ◌∷◌, length, drop, length-append, Option, Some, None, inl, inr}
-use Rattle.std.specs.Prelude.{◌==◌, ◌&&◌, ◌⊎◌, nat_le, option_map, if◌then◌else◌}
+use Rattle.std.proofs.Common.{◌≡◌, ℕ, ◌+◌, ◌-◌, ◌%◌, ◌^◌, ◌<◌, ◌≤◌, Bool, true, false, refl, sym, ap, subst, ◌∙◌, arith, List, [], length, drop, Option, Some, None, inl, inr}
+use Rattle.std.specs.Prelude.{option_map, if◌then◌else◌}
 use Rattle.std.proofs.lemmas.Bool.{eqb-true}
-use Rattle.std.proofs.lemmas.Bool.Decides.{nat_tests}
 use Rattle.ip_wire.specs.declared.repr.IpRepr.{IpRepr}
 use Rattle.net_base.specs.declared.time.Instant.{Instant}
 use Rattle.control_wire.specs.Seq.{seq_add, seq_sub, seq_eq}
@@ -10,7 +9,7 @@ use Rattle.control_wire.specs.Segment.{Segment}
 use Rattle.control_wire.specs.declared.seq_number.TcpSeqNumber.{TcpSeqNumber}
 use Rattle.control_wire.specs.declared.tcp.TcpControl.{TcpControl}
 use Rattle.control_wire.specs.declared.tcp.TcpControl.TheVariants as control
-use Rattle.sock_core.specs.Places.{number_distance, number_is_before, later_number}
+use Rattle.sock_core.specs.Places.{number_distance}
 use Rattle.sock_core.specs.Seq.{is_before, later_of}
 use Rattle.sock_core.specs.Received.{room_of}
 use Rattle.sock_tcp.specs.View.{View}

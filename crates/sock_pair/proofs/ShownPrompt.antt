@@ -1,8 +1,7 @@
 -- A segment in order is queued whole before `process` returns.
 use Rattle.std.proofs.Common.{◌≡◌, ℕ, ◌^◌, Bool, true, false, refl, sym, ap, subst, ◌∙◌, arith, List, length, Option, Some, None, ⊎_elim}
 use Rattle.std.proofs.lemmas.Bool.{eqb-true}
-use Rattle.std.specs.Prelude.{◌==◌, ◌<◌, ◌&&◌, nat_eq, nat_le, if◌then◌else◌}
-use Rattle.std.proofs.lemmas.Bool.Decides.{nat_tests}
+use Rattle.std.specs.Prelude.{◌==◌, ◌<◌, if◌then◌else◌}
 use Rattle.ip_wire.specs.declared.repr.IpRepr.{IpRepr}
 use Rattle.net_base.specs.declared.time.Instant.{Instant}
 use Rattle.sock_core.proofs.Receiving.{joins_all_at_once}
@@ -16,7 +15,7 @@ use Rattle.sock_tcp.specs.View.{View}
 use Rattle.sock_core.specs.Seq.{is_before, later_of}
 use Rattle.sock_tcp.specs.Window.{next_ack, receive_window, cut_of}
 use Rattle.sock_tcp.specs.declared.window.Cut.{Cut}
-use Rattle.sock_tcp.specs.Steps.{Advance, acked_of, advanced, advance_in, continues, window_taken, released, una_advanced, brought, joined, segment_taken}
+use Rattle.sock_tcp.specs.Steps.{Advance, advanced, advance_in, continues, window_taken, released, una_advanced, brought, joined, segment_taken}
 use Rattle.sock_tcp.specs.Process.{Outcome, stopped, tuple_of, has_window, after_advance, processed_inside, cut_inside, tested, by_verdict, processed}
 use Rattle.sock_tcp.specs.declared.state.State.TheVariants as state
 use Rattle.sock_pair.specs.PairPromises.{IsInOrder, in_window}

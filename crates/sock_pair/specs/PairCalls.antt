@@ -47,8 +47,8 @@ abbrev pub TakesSlice : List ℕ → HostView → Outcome → HostView → Type 
 TakesSlice bs h o new = (o ≡ outcome.Accepted (fitting h.control_block (length bs)))
     × (new ≡ sending h (fitting h.control_block (length bs)) bs)
 
--- `send`: the ring lends free places in one piece, and none only where there are none. As many of the bytes as they hold
--- are written there, and the smaller of their count and `size` is accepted
+-- `send`: the ring lends free places in one piece, and none only where there are none. As many of the bytes as they
+-- hold are written there, and the smaller of their count and `size` is accepted
 pub record TakesPiece (size : ℕ) (bs : List ℕ) (h : HostView) (o : Outcome) (new : HostView) : Type 0 where
   pub lent : ℕ
   pub within : lent ≤ h.control_block.tx_buffer.window
@@ -95,8 +95,8 @@ pub record HandsOut (n : ℕ) (h : HostView) (o : Outcome) (new : HostView) : Ty
   pub answer : IsRead o (take n h.control_block.rx_buffer.bytes)
   pub host : new ≡ receiving h n
 
--- `recv`: the queue lends a beginning in one piece, and none only where it is empty; the smaller of its length and `size`
--- is handed out
+-- `recv`: the queue lends a beginning in one piece, and none only where it is empty; the smaller of its length and
+-- `size` is handed out
 pub record HandsOutPiece (size : ℕ) (h : HostView) (o : Outcome) (new : HostView) : Type 0 where
   pub lent : ℕ
   pub within : lent ≤ length h.control_block.rx_buffer.bytes

@@ -49,7 +49,8 @@ Complete _ = Unit {0}
 -- ---- Prompt
 
 -- The segment s is in order for the socket v: the state has a receive queue, the acknowledgement passes, nothing but
--- bytes is asked for, it lies inside the receive window, and it starts at RCV.NXT, the next number expected, or before it
+-- bytes is asked for, it lies inside the receive window, and it starts at RCV.NXT, the next number expected, or before
+-- it
 pub record IsInOrder (v : View) (s : Segment) : Type 0 where
   pub state : (v.state ≡ state.SynReceived) ⊎ (v.state ≡ state.Established)
   pub passes : verdict_of v s.control s.ack_number ≡ verdicts.Pass
@@ -61,8 +62,8 @@ pub record IsInOrder (v : View) (s : Segment) : Type 0 where
 abbrev pub in_window : View → Segment → List ℕ
 in_window v s = cut_bytes (cut_of (receive_window v) s.seq_number (length s.payload)) s.payload
 
--- a delivery of the segment t found the receiver as old, and left it as new: the in-window bytes of such a segment joined
--- the receive queue, and behind them what was held there
+-- a delivery of the segment t found the receiver as old, and left it as new: the in-window bytes of such a segment
+-- joined the receive queue, and behind them what was held there
 pub record IsPrompt (t : StoredView) (old new : HostView) : Type 0 where
   pub queued : IsInOrder old.control_block t.segment → 0 < length (in_window old.control_block t.segment)
       → JoinsAtOnce old.control_block.rx_buffer new.control_block.rx_buffer (in_window old.control_block t.segment)

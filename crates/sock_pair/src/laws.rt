@@ -95,8 +95,8 @@ pub fn pairs_deliver_in_order()
     ensures release { (p : PairView) → IsPair p → Release p }
 {}
 
-/// A delivery that a side accepts, of a segment that starts at RCV.NXT and fits into the receive window, appends the
-/// whole payload to the receive queue before it returns.
+/// A delivery that a side accepts, of a segment in order, appends the bytes of it that lie in the receive window to the
+/// receive queue before it returns, and behind them what was held there.
 pub fn pairs_deliver_at_once()
     ensures { (i : ℕ) (m : Moment) (p q : PairView) (o : Outcome) → EventStep (Deliver i m) p o q → IsPromptAt i p o q }
 {}

@@ -357,12 +357,12 @@ impl<'a, G> Pair<'a, G> {
     ///
     /// The event meets the case table of its call, and the other side's socket stays as it was. Afterwards what each
     /// side handed out, followed by its receive queue, is a prefix of what the other accepted, and acknowledgements
-    /// have released only bytes that the other took. A segment that starts at RCV.NXT and fits into the receive
-    /// window is queued before its delivery returns. The event is a run of steps of the theorem on two streams, and
-    /// adds to the streams what its outcome says.
+    /// have released only bytes that the other took. The bytes of a segment in order that lie in the receive window
+    /// are queued before its delivery returns, and behind them what was held there. The event is a run of steps of the
+    /// theorem on two streams, and adds to the streams what its outcome says.
     ///
-    /// `Memory` where a growth was refused; the pair is then as it was. `Listen`, `Connect` and `Set` take no memory, nor
-    /// does an event that comes to one of the last five outcomes.
+    /// `Memory` where a growth was refused; the pair is then as it was. `Listen`, `Connect` and `Set` take no memory,
+    /// nor does an event that comes to one of the last five outcomes.
     pub fn step(&mut self, event: &Event) -> Result<Outcome, PairError>
         ensures step { IfOk result (λ o. EventStep event.entry.now self.old o self.new) }
         ensures adds { IfOk result (λ o. AddsUp self.old self.new (λ s. accepted_by s event.entry.now o)

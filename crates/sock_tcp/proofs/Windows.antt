@@ -1,5 +1,5 @@
 -- The receive window lies within the free space, and so does what is cut to it.
-use Rattle.std.proofs.Common.{◌≡◌, ℕ, ◌+◌, ◌-◌, ◌*◌, ◌^◌, ◌<◌, ◌≤◌, ◌⊎◌, Bool, true, false, cond, ◌&&◌, ◌||◌, List, length, take, drop, min, Option, Some, None, refl, ap, sym, ◌∙◌, arith, inl, inr, ⊎_elim, length-drop, length-take}
+use Rattle.std.proofs.Common.{◌≡◌, ℕ, ◌+◌, ◌-◌, ◌*◌, ◌^◌, ◌<◌, ◌≤◌, ◌⊎◌, Bool, true, false, cond, ◌&&◌, ◌||◌, List, length, drop, min, Option, Some, None, refl, ap, sym, ◌∙◌, arith, inl, inr, ⊎_elim, length-drop, length-take}
 use Rattle.std.specs.Prelude.{if◌then◌else◌, ◌==◌}
 use Rattle.std.proofs.lemmas.Bool.{leb-true, leb-false, eqb-true}
 use Rattle.std.proofs.lemmas.Bool.Decides.{nat_tests}
@@ -97,9 +97,9 @@ module _ (w : Window) (s : TcpSeqNumber) (n : ℕ) (ls : w.start.0 < 2 ^ 32) (le
           let apart : (w.start.0 ≡ w.end.0 → ⊥) = λ h. grind (arith, nat_tests, e, h) in
           let open_ : (starts_inside w s || (is_before w.start (seq_add s n) && is_not_after (seq_add s n) w.end)) ≡ true = ap (λ b. cond b false (starts_inside w s || (is_before w.start (seq_add s n) && is_not_after (seq_add s n) w.end))) (sym e) ∙ inside in
           fits apart (⊎_elim
-            (λ h. let p = both _ _ h in inl (not_after w.start s p.0, far s w.end p.1))
-            (λ h. let p = both _ _ h in inr (far w.start (seq_add s n) p.0, not_after (seq_add s n) w.end p.1))
-            (either (starts_inside w s) _ open_)) (is_before w.start s) refl (is_before (seq_add s n) w.end) refl
+          (λ h. let p = both _ _ h in inl (not_after w.start s p.0, far s w.end p.1))
+          (λ h. let p = both _ _ h in inr (far w.start (seq_add s n) p.0, not_after (seq_add s n) w.end p.1))
+          (either (starts_inside w s) _ open_)) (is_before w.start s) refl (is_before (seq_add s n) w.end) refl
 
   -- an empty one
   pub empty_cut : empty_inside w s ≡ true → (cut_of w s n).offset ≤ seq_sub w.end w.start

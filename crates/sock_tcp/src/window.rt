@@ -72,11 +72,7 @@ impl Window {
     {
         let start = later(self.start, number);
         let end = number.plus(length);
-        let end = if before(end, self.end) {
-            end
-        } else {
-            self.end
-        };
+        let end = if before(end, self.end) { end } else { self.end };
         Cut {
             skip: start.since(number),
             count: end.since(start),

@@ -3,4 +3,4 @@ use Rattle.sock_pair.specs.PairInvariant.{DeliversSmall}
 use Rattle.sock_pair.proofs.pair.Pair.event_in_range.Goals as goal
 
 pub returns-in-Deliver : goal.returns-in-Deliver
-returns-in-Deliver c = subst (λ e. DeliversSmall e c.args.self.now) (sym c.in-Deliver.is) c.segment_in_range.ensures
+returns-in-Deliver g c = subst (λ e. DeliversSmall e c.args.self.now) (sym c.in-Deliver.is) c.segment_in_range.ensures
