@@ -1,2 +1,4 @@
 pub mod Emitting
+pub mod Filling
+pub mod Storing
 pub mod UdpSources

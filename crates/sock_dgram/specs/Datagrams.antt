@@ -39,6 +39,10 @@ module _ {M : Type 0} where
   abbrev pub stored : M → List ℕ → Packets M → Packets M
   stored m bs p = if takes (length bs) p then put m bs (made_room (length bs) p) else made_room (length bs) p
 
+  -- the same of n bytes
+  abbrev pub stored_as : ℕ → M → List ℕ → Packets M → Packets M
+  stored_as n m bs p = if takes n p then put m bs (made_room n p) else made_room n p
+
   -- ---- reading the first packet
 
   abbrev pub take_answer : Option (M × List ℕ) → Result (Unit {0}) RecvError

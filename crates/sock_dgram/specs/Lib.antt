@@ -1,9 +1,14 @@
 pub mod Datagrams
 pub mod Icmp
+pub mod IcmpDispatch
+pub mod IcmpFilter
+pub mod IcmpKinds
 pub mod IcmpLends
 pub mod Raw
+pub mod RawDispatch
 pub mod RawLends
 pub mod Texts
 pub mod Udp
 pub mod UdpDispatch
 pub mod UdpLends
+pub mod Writing

@@ -1,6 +1,9 @@
 -- What contracts see of a raw socket, and what its calls do to it.
-use Rattle.std.specs.Prelude.{ℕ, ◌≡◌, ⊤, List, Option, None, Some, Result, Ok, Err, if◌then◌else◌}
+use Rattle.std.specs.Prelude.{ℕ, ◌≡◌, ⊤, ◌++◌, List, Option, None, Some, Result, Ok, Err, if◌then◌else◌}
+use Rattle.ip_wire.specs.Checksum.{is_sent}
 use Rattle.ip_wire.specs.IpHeader.{header_version, next_header_of}
+use Rattle.ip_wire.specs.Packet.{header_octets}
+use Rattle.ip_wire.specs.declared.checksum.ChecksumCapabilities.{ChecksumCapabilities}
 use Rattle.ip_wire.specs.declared.protocol.IpVersion.{IpVersion}
 use Rattle.ip_wire.specs.declared.protocol.IpProtocol.{IpProtocol}
 use Rattle.ip_wire.specs.declared.repr.IpRepr.{IpRepr}
@@ -24,6 +27,12 @@ waiting v = packets v.tx_buffer.entries
 -- a packet of n bytes
 abbrev pub send_answer : View → ℕ → Result (Unit {0}) SendError
 send_answer v n = if takes n v.tx_buffer then Ok tt else Err send_error.BufferFull
+
+-- ---- packets that come in
+
+-- the header as it is emitted, and the payload
+abbrev pub whole_packet : ChecksumCapabilities → IpRepr → List ℕ → List ℕ
+whole_packet caps ip payload = header_octets (is_sent caps.ipv4) ip ++ payload
 
 -- ---- the filter
 

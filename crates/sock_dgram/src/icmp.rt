@@ -1,6 +1,9 @@
 //! ICMP sockets (RFC 792, RFC 4443): two queues of ICMP messages, each with the address of the other side.
 
+mod dispatch;
 pub mod endpoint;
+mod kind;
+mod process;
 mod receive;
 mod send;
 pub mod socket;

@@ -1,5 +1,5 @@
 //! What the datagram sockets share: adding a packet to a queue, and copying its first one.
-ghost use Rattle.std.specs.Prelude.{◌≡◌, ◌++◌, [], ◌∷◌, length, take, drop, min, cond, false};
+ghost use Rattle.std.specs.Prelude.{◌≡◌, ◌+◌, ◌++◌, [], ◌∷◌, length, take, drop, min, cond, false};
 ghost use Rattle.net_base.specs.Packets.{packets, takes, first_packet, starts_padded, Dequeues};
 ghost use Rattle.sock_dgram.specs.Datagrams.{stored, copied_of, copy_answer, copied};
 
@@ -26,6 +26,30 @@ pub(crate) fn store<M: Copy>(buffer: &mut PacketBuffer<'_, M>, meta: M, data: &[
     buffer
         .enqueue_with_infallible(data.len(), meta, |lent| filled(lent, data))
         .is_ok()
+}
+
+// Writes as many bytes of a beginning of `head` and `data` behind it as fit to the beginning of `lent`, and answers how
+// many.
+fn filled_twice(lent: &mut [u8], head: &[u8], data: &[u8]) -> usize
+    ensures count { result ≡ min (length lent.old) (length head.now + length «data».now) }
+    ensures bytes { lent.new ≡ take result (head.now ++ «data».now) ++ drop result lent.old }
+{
+    let first = filled(lent, head);
+    let second = filled(&mut lent[first..], data);
+    first + second
+}
+
+// Appends a packet that is given in two pieces, where there is room for it.
+pub(crate) fn store_both<M: Copy>(
+    buffer: &mut PacketBuffer<'_, M>,
+    meta: M,
+    head: &[u8],
+    data: &[u8],
+)
+    ensures after { buffer.new ≡ stored meta (head.now ++ «data».now) buffer.old }
+{
+    let size = head.len() + data.len();
+    let _ = buffer.enqueue_with_infallible(size, meta, |lent| filled_twice(lent, head, data));
 }
 
 // Takes the first packet and copies its bytes into `data`. Answers how many they are, and the metadata.

@@ -1,5 +1,6 @@
 //! Raw sockets: two queues of whole IP packets, of one version or any and of one protocol or any.
 
+mod dispatch;
 pub mod error;
 mod process;
 mod receive;

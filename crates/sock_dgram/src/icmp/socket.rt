@@ -19,10 +19,10 @@ pub type PacketBuffer<'a> = net_base::packet_buffer::PacketBuffer<'a, IpAddress>
 /// An ICMP socket over two lent buffers.
 #[derive(Debug, Drop)]
 pub struct Socket<'a> {
-    endpoint: Endpoint,
+    pub(crate) endpoint: Endpoint,
     pub(crate) rx_buffer: PacketBuffer<'a>,
     pub(crate) tx_buffer: PacketBuffer<'a>,
-    hop_limit: Option<u8>,
+    pub(crate) hop_limit: Option<u8>,
 }
 
 impl<'a> Model for Socket<'a> {

@@ -1,9 +1,14 @@
 //! Packets that come in.
-ghost use Rattle.std.specs.Prelude.{◌↔◌, IsTrue};
-ghost use Rattle.sock_dgram.specs.Raw.{Accepts};
+ghost use Rattle.std.specs.Prelude.{◌≡◌, ◌↔◌, IsTrue};
+ghost use Rattle.ip_wire.specs.Checksum.{is_sent};
+ghost use Rattle.ip_wire.specs.Packet.{header_octets};
+ghost use Rattle.sock_dgram.specs.Datagrams.{stored};
+ghost use Rattle.sock_dgram.specs.Raw.{Accepts, whole_packet};
 
+use crate::queue::store_both;
 use crate::raw::socket::Socket;
-use ip_wire::IpRepr;
+use ip_wire::{ChecksumCapabilities, IpRepr};
+use sock_core::Context;
 
 impl<'a> Socket<'a> {
     /// Whether a packet is for this socket: its version of IP and its protocol are those asked for, where any are.
@@ -16,4 +21,26 @@ impl<'a> Socket<'a> {
                 .ip_protocol()
                 .is_none_or(|protocol| protocol == ip_repr.next_header())
     }
+
+    /// Puts a packet into the receive queue: its header as `IpRepr::emit` writes it with the checksum settings of the
+    /// context, and its payload. Where the receive buffer has no room for it, it is dropped.
+    pub fn process<C: Context>(&mut self, cx: &C, ip_repr: &IpRepr, payload: &[u8])
+        ensures { self.new ≡ record self.old {
+          rx_buffer = stored tt (whole_packet (C.facts cx.now).checksums ip_repr.now payload.now) self.old.rx_buffer;
+        } }
+    {
+        let caps = cx.checksum_caps();
+        let mut octets = [0; 40];
+        let header = written(ip_repr, &caps, &mut octets);
+        store_both(&mut self.rx_buffer, (), header, payload);
+    }
+}
+
+// The header, written to the beginning of these octets.
+fn written<'o>(ip_repr: &IpRepr, caps: &ChecksumCapabilities, octets: &'o mut [u8; 40]) -> &'o [u8]
+    ensures { result.now ≡ header_octets (is_sent caps.now.ipv4) ip_repr.now }
+{
+    let len = ip_repr.header_len();
+    ip_repr.emit(octets.as_mut_slice(), caps);
+    &octets[..len]
 }

@@ -1,7 +1,9 @@
 //! Worked examples, and each call once at a concrete type.
-use crate::interface::Interface;
+use crate::interface::{Host, Interface};
 use crate::raw::*;
-use ip_wire::{IpAddress, IpProtocol, IpRepr, IpVersion, Ipv4Address};
+use ip_wire::{
+    Checksum, ChecksumCapabilities, IpAddress, IpProtocol, IpRepr, IpVersion, Ipv4Address,
+};
 use sock_core::PollAt;
 use std::test::Fail;
 
@@ -123,5 +125,133 @@ fn raw_truncated_slices(rt: HostRuntime) -> Result<(), Fail> {
 fn texts(rt: HostRuntime) -> Result<(), Fail> {
     let text = format!(in rt.alloc(); "{}", SendError::BufferFull)?;
     assert_eq!(rt; text.as_str(), "buffer full");
+    Ok(())
+}
+
+// 10.0.0.1 to 10.0.0.2, protocol 63, hop limit 64, and four bytes; the checksum is not filled.
+const PACKET: [u8; 24] = [
+    0x45, 0, 0, 0x18, 0, 0, 0x40, 0, 0x40, 0x3f, 0, 0, 10, 0, 0, 1, 10, 0, 0, 2, 0xaa, 0, 0, 0xff,
+];
+
+const PAYLOAD: [u8; 4] = [0xaa, 0, 0, 0xff];
+
+fn host(ipv4: Checksum) -> Host {
+    let mut caps = ChecksumCapabilities::default();
+    caps.ipv4 = ipv4;
+    Host {
+        addr: Ipv4Address([10, 0, 0, 1]),
+        caps,
+    }
+}
+
+// The header of what is emitted, and whether the dispatch answered Ok.
+fn emitted(socket: &mut Socket<'_>, cx: &mut Host, fail: bool) -> (Option<IpRepr>, bool) {
+    let mut seen = None;
+    let answer = socket.dispatch(cx, |_: &mut Host, sent: (IpRepr, &[u8])| {
+        seen = Some(sent.0);
+        if fail { Err(()) } else { Ok(()) }
+    });
+    (seen, answer.is_ok())
+}
+
+#[test]
+fn raw_process_and_peek(rt: HostRuntime) -> Result<(), Fail> {
+    let mut places = [PacketMetadata::EMPTY; 1];
+    let mut bytes = [0u8; 48];
+    let mut socket = Socket::new(
+        Some(IpVersion::Ipv4),
+        Some(EXPERIMENT),
+        PacketBuffer::new(&mut places, &mut bytes),
+        PacketBuffer::new(&mut [], &mut []),
+    );
+    let header = IpRepr::new(HERE, THERE, EXPERIMENT, 4, 64);
+    socket.process(&Interface, &header, &PAYLOAD);
+    socket.process(&Interface, &header, &[1, 2, 3, 4]);
+    let mut whole = PACKET;
+    whole[10] = 0x26;
+    whole[11] = 0xa5;
+    assert_eq!(rt; socket.peek(), Ok(whole.as_slice()));
+    assert_eq!(rt; socket.recv(), Ok(whole.as_slice()));
+    assert!(rt; matches!(socket.peek(), Err(RecvError::Exhausted)));
+    Ok(())
+}
+
+#[test]
+fn raw_malformed_or_foreign_dropped(rt: HostRuntime) -> Result<(), Fail> {
+    let mut places = [PacketMetadata::EMPTY; 1];
+    let mut bytes = [0u8; 48];
+    let mut socket = Socket::new(
+        Some(IpVersion::Ipv4),
+        Some(EXPERIMENT),
+        PacketBuffer::new(&mut [], &mut []),
+        PacketBuffer::new(&mut places, &mut bytes),
+    );
+    let mut cx = host(Checksum::Both);
+    for (at, byte) in [(0usize, 0x65u8), (9, 6), (0, 0x44), (3, 0x19)] {
+        let mut packet = PACKET;
+        if at < 24 {
+            packet[at] = byte;
+        }
+        assert_eq!(rt; socket.send_slice(&packet), Ok(()));
+        assert_eq!(rt; emitted(&mut socket, &mut cx, false), (None, true));
+        assert_eq!(rt; socket.send_queue(), 0);
+    }
+    Ok(())
+}
+
+#[test]
+fn raw_other_version_dropped(rt: HostRuntime) -> Result<(), Fail> {
+    let mut places = [PacketMetadata::EMPTY; 1];
+    let mut bytes = [0u8; 48];
+    let mut socket = Socket::new(
+        Some(IpVersion::Ipv6),
+        None,
+        PacketBuffer::new(&mut [], &mut []),
+        PacketBuffer::new(&mut places, &mut bytes),
+    );
+    assert_eq!(rt; socket.send_slice(&PACKET), Ok(()));
+    let mut cx = host(Checksum::Both);
+    assert_eq!(rt; emitted(&mut socket, &mut cx, false), (None, true));
+    Ok(())
+}
+
+#[test]
+fn raw_zero_checksum_where_not_sent(rt: HostRuntime) -> Result<(), Fail> {
+    let mut places = [PacketMetadata::EMPTY; 1];
+    let mut bytes = [0u8; 48];
+    let mut socket = Socket::new(
+        Some(IpVersion::Ipv4),
+        Some(EXPERIMENT),
+        PacketBuffer::new(&mut [], &mut []),
+        PacketBuffer::new(&mut places, &mut bytes),
+    );
+    assert_eq!(rt; socket.send_slice(&PACKET), Ok(()));
+    let mut cx = host(Checksum::Rx);
+    let header = IpRepr::new(HERE, THERE, EXPERIMENT, 4, 64);
+    assert_eq!(rt; emitted(&mut socket, &mut cx, false), (Some(header), true));
+    assert_eq!(rt; emitted(&mut socket, &mut cx, false), (None, true));
+    Ok(())
+}
+
+#[test]
+fn raw_failed_emits_keep_the_packet(rt: HostRuntime) -> Result<(), Fail> {
+    let mut places = [PacketMetadata::EMPTY; 1];
+    let mut bytes = [0u8; 48];
+    let mut socket = Socket::new(
+        None,
+        None,
+        PacketBuffer::new(&mut [], &mut []),
+        PacketBuffer::new(&mut places, &mut bytes),
+    );
+    let mut cx = host(Checksum::Both);
+    let header = IpRepr::new(HERE, THERE, EXPERIMENT, 4, 64);
+    for fails in 0..4 {
+        assert_eq!(rt; socket.send_slice(&PACKET), Ok(()));
+        for _ in 0..fails {
+            assert_eq!(rt; emitted(&mut socket, &mut cx, true), (Some(header), false));
+        }
+        assert_eq!(rt; emitted(&mut socket, &mut cx, false), (Some(header), true));
+        assert_eq!(rt; socket.send_queue(), 0);
+    }
     Ok(())
 }

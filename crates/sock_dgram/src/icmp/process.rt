@@ -1,0 +1,190 @@
+//! Messages that come in.
+ghost use Rattle.std.specs.Prelude.{◌≡◌, ◌≤◌, ◌↔◌, IsTrue, length};
+ghost use Rattle.std.specs.Option.{ForSome};
+ghost use Rattle.control_wire.specs.Icmp.{message_v4, message_v6};
+ghost use Rattle.ip_wire.specs.declared.address.IpAddress.TheVariants as address;
+ghost use Rattle.sock_dgram.specs.IcmpKinds.{with_body};
+ghost use Rattle.sock_dgram.specs.IcmpFilter.{Accepts, Ends, TakesError, TakesIdent, WritesV4, WritesV6, ends_v4, ends_v6, queued_v4, queued_v6};
+
+use crate::icmp::endpoint::Endpoint;
+use crate::icmp::kind::{apart_v4, apart_v6, whole_v4, whole_v6};
+use crate::icmp::socket::{PacketBuffer, Socket};
+use control_wire::{Icmpv4Repr, Icmpv6Repr, tcp_source, udp_source};
+use ip_wire::{ChecksumCapabilities, IpAddress, IpListenEndpoint, Ipv4Repr, Ipv6Repr};
+use sock_core::Context;
+
+// Whether an address is the bound one, where one is bound.
+fn is_to(endpoint: &IpListenEndpoint, to: IpAddress) -> bool
+    ensures { IsTrue result ↔ ForSome endpoint.now.addr (λ a. to ≡ a) }
+{
+    match endpoint.addr {
+        None => true,
+        Some(addr) => to == addr,
+    }
+}
+
+impl<'a> Socket<'a> {
+    fn takes_ident(&self, ident: u16) -> bool
+        ensures { IsTrue result ↔ TakesIdent self.now.endpoint ident }
+    {
+        matches!(self.endpoint, Endpoint::Ident(bound) if bound == ident)
+    }
+
+    // Whether an error that came to `to` is for this socket: it quotes a packet between these addresses.
+    fn takes_error<C: Context>(
+        &self,
+        cx: &C,
+        to: IpAddress,
+        src: IpAddress,
+        dst: IpAddress,
+        body: &[u8],
+    ) -> bool
+        ensures { IsTrue result
+            ↔ TakesError self.now.endpoint (C.facts cx.now) to (record { src = src; dst = dst }) body.now }
+    {
+        let caps = cx.checksum_caps();
+        match self.endpoint {
+            Endpoint::Udp(endpoint) => {
+                is_to(&endpoint, to) && udp_source(body, &src, &dst, &caps) == Some(endpoint.port)
+            }
+            Endpoint::Tcp(endpoint) => {
+                is_to(&endpoint, to) && tcp_source(body, &src, &dst, &caps) == Some(endpoint.port)
+            }
+            Endpoint::Unspecified | Endpoint::Ident(_) => false,
+        }
+    }
+
+    /// Whether a message over IPv4 is for this socket: an echo with the bound identifier, or an error that quotes a
+    /// UDP datagram or a TCP segment which parses whole and was sent from the bound port, and which came to the bound
+    /// address, where one is bound.
+    pub fn accepts_v4<C: Context>(
+        &self,
+        cx: &C,
+        ip_repr: &Ipv4Repr,
+        icmp_repr: &Icmpv4Repr<'_>,
+    ) -> bool
+        ensures { IsTrue result ↔ Accepts ends_v4 self.now.endpoint (C.facts cx.now)
+            (address.Ipv4 ip_repr.now.dst_addr) (message_v4 icmp_repr.now) }
+    {
+        match icmp_repr {
+            Icmpv4Repr::EchoRequest { ident, .. } | Icmpv4Repr::EchoReply { ident, .. } => {
+                self.takes_ident(*ident)
+            }
+            Icmpv4Repr::DstUnreachable { header, body, .. }
+            | Icmpv4Repr::TimeExceeded { header, body, .. } => self.takes_error(
+                cx,
+                IpAddress::Ipv4(ip_repr.dst_addr),
+                IpAddress::Ipv4(header.src_addr),
+                IpAddress::Ipv4(header.dst_addr),
+                body,
+            ),
+        }
+    }
+
+    /// The same of a message over IPv6.
+    pub fn accepts_v6<C: Context>(
+        &self,
+        cx: &C,
+        ip_repr: &Ipv6Repr,
+        icmp_repr: &Icmpv6Repr<'_>,
+    ) -> bool
+        ensures { IsTrue result ↔ Accepts ends_v6 self.now.endpoint (C.facts cx.now)
+            (address.Ipv6 ip_repr.now.dst_addr) (message_v6 icmp_repr.now) }
+    {
+        match icmp_repr {
+            Icmpv6Repr::EchoRequest { ident, .. } | Icmpv6Repr::EchoReply { ident, .. } => {
+                self.takes_ident(*ident)
+            }
+            Icmpv6Repr::DstUnreachable { header, body, .. }
+            | Icmpv6Repr::TimeExceeded { header, body, .. } => self.takes_error(
+                cx,
+                IpAddress::Ipv6(ip_repr.dst_addr),
+                IpAddress::Ipv6(header.src_addr),
+                IpAddress::Ipv6(header.dst_addr),
+                body,
+            ),
+        }
+    }
+
+    /// Puts a message over IPv4 that `accepts_v4` holds of into the receive queue, with its checksum and with the
+    /// address that it came from. Where the receive buffer has no room for it, it is dropped.
+    pub fn process_v4<C: Context>(
+        &mut self,
+        _cx: &C,
+        ip_repr: &Ipv4Repr,
+        icmp_repr: &Icmpv4Repr<'_>,
+    )
+        ensures { self.new ≡ record self.old {
+          rx_buffer = queued_v4 ip_repr.now (message_v4 icmp_repr.now) self.old.rx_buffer;
+        } }
+    {
+        store_v4(&mut self.rx_buffer, ip_repr, icmp_repr);
+    }
+
+    /// The same of a message over IPv6.
+    pub fn process_v6<C: Context>(
+        &mut self,
+        _cx: &C,
+        ip_repr: &Ipv6Repr,
+        icmp_repr: &Icmpv6Repr<'_>,
+    )
+        ensures { self.new ≡ record self.old {
+          rx_buffer = queued_v6 ip_repr.now (message_v6 icmp_repr.now) self.old.rx_buffer;
+        } }
+    {
+        store_v6(&mut self.rx_buffer, ip_repr, icmp_repr);
+    }
+}
+
+fn store_v4(buffer: &mut PacketBuffer<'_>, ip_repr: &Ipv4Repr, icmp_repr: &Icmpv4Repr<'_>)
+    ensures { buffer.new ≡ queued_v4 ip_repr.now (message_v4 icmp_repr.now) buffer.old }
+{
+    let remote = IpAddress::Ipv4(ip_repr.src_addr);
+    let (kind, body) = apart_v4(icmp_repr);
+    let _ = buffer.enqueue_with_infallible(
+        icmp_repr.buffer_len(),
+        remote,
+        move |lent: &mut [u8]| -> usize
+            ensures within { result ≤ length lent.old }
+            ensures written { WritesV4 (with_body kind body.entry.now) lent.old result lent.new }
+        { write_v4(lent, &whole_v4(&kind, body)) },
+    );
+}
+
+// Writes the message where there are as many bytes as it has, and answers how many.
+fn write_v4(lent: &mut [u8], icmp_repr: &Icmpv4Repr<'_>) -> usize
+    ensures { WritesV4 (message_v4 icmp_repr.now) lent.old result lent.new }
+{
+    if lent.len() != icmp_repr.buffer_len() {
+        return 0;
+    }
+    icmp_repr.emit(lent, &ChecksumCapabilities::default());
+    lent.len()
+}
+
+fn store_v6(buffer: &mut PacketBuffer<'_>, ip_repr: &Ipv6Repr, icmp_repr: &Icmpv6Repr<'_>)
+    ensures { buffer.new ≡ queued_v6 ip_repr.now (message_v6 icmp_repr.now) buffer.old }
+{
+    let remote = IpAddress::Ipv6(ip_repr.src_addr);
+    let ip = *ip_repr;
+    let (kind, body) = apart_v6(icmp_repr);
+    let _ = buffer.enqueue_with_infallible(
+        icmp_repr.buffer_len(),
+        remote,
+        move |lent: &mut [u8]| -> usize
+            ensures within { result ≤ length lent.old }
+            ensures written { WritesV6 ip (with_body kind body.entry.now) lent.old result lent.new }
+        { write_v6(lent, &ip, &whole_v6(&kind, body)) },
+    );
+}
+
+fn write_v6(lent: &mut [u8], ip_repr: &Ipv6Repr, icmp_repr: &Icmpv6Repr<'_>) -> usize
+    ensures { WritesV6 ip_repr.now (message_v6 icmp_repr.now) lent.old result lent.new }
+{
+    if lent.len() != icmp_repr.buffer_len() {
+        return 0;
+    }
+    let caps = ChecksumCapabilities::default();
+    icmp_repr.emit(&ip_repr.src_addr, &ip_repr.dst_addr, lent, &caps);
+    lent.len()
+}
