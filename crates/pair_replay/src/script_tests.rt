@@ -72,8 +72,14 @@ fn nagle_is_on_or_off(rt: HostRuntime) -> Result<(), Fail> {
             setting: Setting::Nagle(false),
         }
     );
-    assert_eq!(rt; fault_on_line_two(alloc, "nagle a")?.as_str(), "line 2: wrong number of words");
-    assert_eq!(rt; fault_on_line_two(alloc, "nagle a yes")?.as_str(), "line 2: bad word");
+    assert_eq!(rt;
+        fault_on_line_two(alloc, "nagle a")?.as_str(),
+        "line 2: wrong number of words"
+    );
+    assert_eq!(rt;
+        fault_on_line_two(alloc, "nagle a yes")?.as_str(),
+        "line 2: bad word"
+    );
     Ok(())
 }
 
