@@ -112,8 +112,8 @@ module _ (r : Ring ℕ) (h : HeldRanges) (b : Received) (is : received r.queue (
       pub taken_in_room : (c : Received) → c ≡ taken_in b o ys → room_of c ≡ room_of b
       taken_in_room c is = ap (λ (b : Received). room_of b) is ∙ room_taken_in b o ys fits
 
-      turned : is_turned_away b o ys ≡ is_refused o (length ys) h.ranges
-      turned = ap (λ (b : Received). is_turned_away b o ys) (sym is) ∙ sym (refused_is_turned_away h.ranges r.spare ys o kept some fits_spare r.queue)
+      same_refusal : is_turned_away b o ys ≡ is_refused o (length ys) h.ranges
+      same_refusal = ap (λ (b : Received). is_turned_away b o ys) (sym is) ∙ sym (refused_is_turned_away h.ranges r.spare ys o kept some fits_spare r.queue)
 
       module _ (h' : HeldRanges) (f : TooManyRanges) (answer : Result ℕ TooManyRanges) (after : h' ≡ added o (length ys) h) (answer_is : answer ≡ cond (is_refused o (length ys) h.ranges) (Err f) (Ok (run_after o (length ys) h.ranges))) where
         module _ (e : TooManyRanges) (err : answer ≡ Err e) where
@@ -121,13 +121,13 @@ module _ (r : Ring ℕ) (h : HeldRanges) (b : Received) (is : received r.queue (
           refused = err_means (is_refused o (length ys) h.ranges) _ e f answer answer_is err
 
           pub is_refused_answer : false ≡ not (is_turned_away b o ys)
-          is_refused_answer = sym (ap not (turned ∙ refused))
+          is_refused_answer = sym (ap not (same_refusal ∙ refused))
 
           pub stays : received r.queue (shown h'.ranges r.spare) ≡ taken_in b o ys
           unfolding taken_in
           stays =
               ap (λ (h : HeldRanges). received r.queue (shown h.ranges r.spare)) (after ∙ ap (λ t. cond t h (run_removed o (length ys) h)) refused)
-              ∙ is ∙ ap (λ t. cond t b (gathered (received b.bytes (written b.held o ys)))) (sym (turned ∙ refused))
+              ∙ is ∙ ap (λ t. cond t b (gathered (received b.bytes (written b.held o ys)))) (sym (same_refusal ∙ refused))
 
         module _ (run : ℕ) (ok : answer ≡ Ok run) where
           passes : is_refused o (length ys) h.ranges ≡ false
@@ -137,7 +137,7 @@ module _ (r : Ring ℕ) (h : HeldRanges) (b : Received) (is : received r.queue (
           run_is = (ok_means (is_refused o (length ys) h.ranges) (run_after o (length ys) h.ranges) run f answer answer_is ok).1
 
           pub is_taken_answer : true ≡ not (is_turned_away b o ys)
-          is_taken_answer = sym (ap not (turned ∙ passes))
+          is_taken_answer = sym (ap not (same_refusal ∙ passes))
 
           ranges_then : h'.ranges ≡ ranges_after o (length ys) h.ranges
           ranges_then = ap (λ (h : HeldRanges). h.ranges) (after ∙ ap (λ t. cond t h (run_removed o (length ys) h)) passes)
@@ -182,7 +182,7 @@ module _ (r : Ring ℕ) (h : HeldRanges) (b : Received) (is : received r.queue (
                   ap (λ (x : Ring ℕ). received x.queue (shown h'.ranges x.spare)) then_is
                   ∙ gathers h.ranges r.spare ys o kept some fits_spare run h'.ranges joins r.queue
                   ∙ ap (λ (b : Received). gathered (received b.bytes (written b.held o ys))) is
-                  ∙ ap (λ t. cond t b (gathered (received b.bytes (written b.held o ys)))) (sym (turned ∙ passes))
+                  ∙ ap (λ t. cond t b (gathered (received b.bytes (written b.held o ys)))) (sym (same_refusal ∙ passes))
 
 -- ---- the search for a range
 
