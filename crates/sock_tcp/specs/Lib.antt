@@ -1,4 +1,5 @@
 pub mod Queue
+pub mod Timers
 pub mod View
 pub mod Same
 pub mod Opening

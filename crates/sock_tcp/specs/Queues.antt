@@ -6,6 +6,7 @@ use Rattle.control_wire.specs.Seq.{seq_add}
 use Rattle.sock_core.specs.Estimator.{Estimator}
 use Rattle.sock_core.specs.Received.{handed_out}
 use Rattle.sock_tcp.specs.Queue.{appended, IsLent}
+use Rattle.sock_tcp.specs.Timers.{rto_of, is_idle}
 use Rattle.sock_tcp.specs.View.{View}
 use Rattle.sock_tcp.specs.declared.error.RecvError.{RecvError}
 use Rattle.sock_tcp.specs.declared.error.RecvError.TheVariants as recv_error
@@ -50,13 +51,9 @@ last_ts_from was_empty v n = if was_empty && not (n == 0) then None else v.remot
 abbrev pub last_ts_after : View → ℕ → Option Instant
 last_ts_after v n = last_ts_from (length v.tx_buffer.bytes == 0) v n
 
-abbrev pub is_idle : Timer → Bool
-is_idle (timer.Idle at) = true
-is_idle t = false
-
 -- a retransmission timeout after the moment zero, and as long between probes
 abbrev pub first_probe : Estimator → Timer
-first_probe e = timer.ZeroWindowProbe (record { micros = pos (e.rto * 1000) }) (record { micros = e.rto * 1000 })
+first_probe e = timer.ZeroWindowProbe (record { micros = pos (e.rto * 1000) }) (rto_of e)
 
 -- at least one byte, while the peer has no window and nothing is waited for, lets probes begin
 abbrev pub timer_after : View → ℕ → Timer

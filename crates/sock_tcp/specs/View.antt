@@ -15,6 +15,7 @@ use Rattle.sock_core.specs.Estimator.{Estimator, fresh_estimator}
 use Rattle.sock_core.specs.declared.congestion.AnyController.{AnyController}
 use Rattle.sock_core.specs.declared.congestion.AnyController.TheVariants as controller
 use Rattle.sock_tcp.specs.Queue.{Queue, capacity}
+use Rattle.sock_tcp.specs.Timers.{IsLastTs, IsTimer}
 use Rattle.sock_tcp.specs.declared.timer.AckDelayTimer.{AckDelayTimer}
 use Rattle.sock_tcp.specs.declared.timer.AckDelayTimer.TheVariants as ack_delay
 use Rattle.sock_tcp.specs.declared.timer.Timer.{Timer}
@@ -69,7 +70,7 @@ IsShort d = ForSome d (λ t. t.micros ≤ 2 ^ 61)
 
 -- what holds of every socket
 pub record IsSound (rx : Received) (tx : Queue) (tuple : Option Tuple) (shift : ℕ) (scale : Option ℕ) (mss : ℕ)
-    (timeout keep_alive ack_delay : Option Duration) : Type 0 where
+    (timeout keep_alive ack_delay : Option Duration) (last_ts : Option Instant) (timer : Timer) : Type 0 where
   pub rx_size : room_of rx ≤ 2 ^ 30
   pub tx_size : capacity tx ≤ 2 ^ 30
   pub versions : ForSome tuple (λ t. SameVersion t.local.addr t.remote.addr)
@@ -79,6 +80,8 @@ pub record IsSound (rx : Received) (tx : Queue) (tuple : Option Tuple) (shift : 
   pub timeout_short : IsShort timeout
   pub keep_alive_short : IsShort keep_alive
   pub ack_delay_short : IsShort ack_delay
+  pub last_ts_lawful : IsLastTs last_ts
+  pub timer_lawful : IsTimer timer
 
 abbrev pub no_endpoint : IpListenEndpoint
 no_endpoint = record { addr = None; port = 0 }

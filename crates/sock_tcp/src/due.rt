@@ -2,6 +2,7 @@
 ghost use Rattle.std.specs.Prelude.{◌≡◌, ◌≤◌, ◌<◌, ◌^◌, length};
 ghost use Rattle.std.specs.Option.{ForSome};
 ghost use Rattle.ip_wire.specs.Address.{SameVersion};
+ghost use Rattle.sock_core.specs.Bounds.{IsMoment};
 ghost use Rattle.sock_tcp.specs.Due.{begun, last_ts_set, own_mss, effective_mss, flight, sendable, is_opening, data_due, ack_due, is_due, before_emit};
 
 use crate::control_block::ControlBlock;
@@ -80,6 +81,7 @@ impl<'a> ControlBlock<'a> {
 
     #[tactic(auto, unfolding(crate::specs::Due::last_ts_set))]
     fn set_last_ts(&mut self, now: Instant)
+        requires { IsMoment now.micros }
         ensures { self.new ≡ last_ts_set self.old now }
     {
         if self.remote_last_ts.is_none() {

@@ -2,6 +2,7 @@
 ghost use Rattle.std.specs.Prelude.{◌≡◌, ◌+◌, ◌≤◌, ◌↔◌, IsTrue, length, option_map, [], None};
 ghost use Rattle.std.specs.Option.{ForSome};
 ghost use Rattle.control_wire.specs.Segment.{segment_of};
+ghost use Rattle.sock_core.specs.Bounds.{IsMoment};
 ghost use Rattle.sock_tcp.specs.Same.{SameQueues};
 ghost use Rattle.sock_tcp.specs.Verdict.{verdict_of};
 ghost use Rattle.sock_tcp.specs.Steps.{advanced};
@@ -134,6 +135,7 @@ impl<'a> ControlBlock<'a> {
         ip_repr: &IpRepr,
         repr: &TcpRepr<'_>,
     )
+        requires moment { IsMoment now.micros }
         requires passed { verdict_of self.old repr.now.control repr.now.ack_number ≡ Pass }
         requires fits { offset + length bytes.now ≤ length self.old.rx_buffer.held }
         ensures table { stopped self.new
@@ -154,6 +156,7 @@ impl<'a> ControlBlock<'a> {
         ip_repr: &IpRepr,
         repr: &TcpRepr<'_>,
     )
+        requires moment { IsMoment now.micros }
         requires passed { verdict_of self.old repr.now.control repr.now.ack_number ≡ Pass }
         requires small { length repr.now.payload.now ≤ 65535 }
         ensures table { stopped self.new

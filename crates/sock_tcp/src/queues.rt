@@ -58,7 +58,7 @@ impl<'a> ControlBlock<'a> {
         if was_empty {
             self.remote_last_ts = None;
         }
-        if self.remote_win_len == 0 && matches!(self.timer, Timer::Idle { .. }) {
+        if self.remote_win_len == 0 && self.timer.is_idle() {
             let delay = self.rtte.retransmission_timeout();
             self.timer = Timer::ZeroWindowProbe {
                 expires_at: Instant::ZERO + delay,

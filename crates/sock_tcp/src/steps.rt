@@ -2,6 +2,7 @@
 ghost use Rattle.std.specs.Prelude.{◌≡◌, ◌≤◌, ◌+◌, ◌^◌, length};
 ghost use Rattle.ip_wire.specs.Address.{SameVersion};
 ghost use Rattle.control_wire.specs.Segment.{segment_of};
+ghost use Rattle.sock_core.specs.Bounds.{IsMoment};
 ghost use Rattle.sock_tcp.specs.Same.{SameQueues};
 ghost use Rattle.sock_tcp.specs.Verdict.{verdict_of};
 ghost use Rattle.sock_tcp.specs.declared.verdict.Verdict.TheVariants.{Pass};
@@ -113,6 +114,7 @@ impl<'a> ControlBlock<'a> {
 
     #[tactic(auto, unfolding(crate::specs::Steps::window_taken))]
     fn take_window(&mut self, now: Instant, control: TcpControl, field: u16)
+        requires { IsMoment now.micros }
         ensures view { self.new ≡ window_taken self.old now control field }
         ensures queues { SameQueues self.old self.new }
     {
@@ -164,6 +166,7 @@ impl<'a> ControlBlock<'a> {
         bytes: &[u8],
         repr: &TcpRepr<'_>,
     )
+        requires moment { IsMoment now.micros }
         requires acked { count ≤ length self.old.tx_buffer.bytes }
         requires fits { offset + length bytes.now ≤ length self.old.rx_buffer.held }
         ensures { self.new ≡ segment_taken self.old now count offset bytes.now (segment_of repr.now) }
