@@ -1,5 +1,5 @@
 //! The source of timestamps (RFC 7323, section 3).
-ghost use Rattle.std.specs.Prelude.{◌≡◌, MatchOption, None, Some, is_some, option_map};
+ghost use Rattle.std.specs.Prelude.{◌≡◌, ℕ, MatchOption, IsSomeAnd, None, Some, is_some, option_map};
 
 use crate::socket::Socket;
 use control_wire::TcpTimestampGenerator;
@@ -23,6 +23,24 @@ impl Generator {
     }
 }
 
+/// Tells the value of a timestamp clock.
+pub trait TsvalSource {
+    // the values that it may tell
+    ghost tells: { Self → ℕ → Type 0 };
+
+    /// The value of the clock.
+    fn tsval(&self) -> u32
+        ensures { tells self.now result };
+}
+
+impl TsvalSource for Generator {
+    ghost tells = { λ g t. post g.call t };
+
+    fn tsval(&self) -> u32 {
+        (self.call)()
+    }
+}
+
 impl fmt::Debug for Generator {
     fn fmt<W: fmt::Write>(&self, f: &mut fmt::Formatter<W>) -> fmt::Result {
         f.write_str("Generator")
@@ -41,6 +59,18 @@ impl<'a> Socket<'a> {
             None => None,
             Some(call) => Some(Generator::new(call)),
         };
+    }
+}
+
+impl<'a, G: TsvalSource> Socket<'a, G> {
+    // The value of the socket's clock, where it has one.
+    pub(crate) fn tsval(&self) -> Option<u32>
+        ensures { MatchOption self.now.tsval_generator (result ≡ None) (λ g. IsSomeAnd result (λ t. G.tells g t)) }
+    {
+        match &self.tsval_generator {
+            None => None,
+            Some(generator) => Some(generator.tsval()),
+        }
     }
 }
 
