@@ -6,9 +6,11 @@ pub mod Opening
 pub mod Settings
 pub mod Closing
 pub mod Queues
-pub mod Replies
 pub mod Verdict
 pub mod Window
+pub mod Replies
+pub mod Acked
+pub mod Advance
 pub mod Steps
 pub mod Process
 pub mod Draw

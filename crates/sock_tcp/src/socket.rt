@@ -8,12 +8,13 @@ ghost use Rattle.sock_tcp.specs.View.{fresh};
 ghost use Rattle.sock_tcp.specs.Opening.{is_listening, is_open, is_active, Listens, Connects};
 ghost use Rattle.sock_tcp.specs.Queues.{may_send, can_send, may_recv, can_recv};
 ghost use Rattle.sock_tcp.specs.Queues.{written, Sends, SendsWith, Writes, Reads, ReadsWith, lent_bytes, Peeks, PeeksInto};
-ghost use Rattle.sock_tcp.specs.Process.{Accepts, Processes};
+ghost use Rattle.sock_tcp.specs.Process.{Accepts, Processes, generator_after};
+ghost use Rattle.sock_tcp.specs.Replies.{IsStamp};
 ghost use Rattle.sock_tcp.specs.Dispatch.{Dispatches};
 
 use crate::control_block::ControlBlock;
 use crate::error::{ConnectError, ListenError, RecvError, SendError};
-use crate::generator::Generator;
+use crate::generator::{Generator, TsvalSource};
 use crate::reply::Reply;
 use crate::state::State;
 use control_wire::TcpRepr;
@@ -269,23 +270,6 @@ impl<'a, G> Socket<'a, G> {
         self.control_block.accepts(ip_repr, repr)
     }
 
-    /// Takes a segment that `accepts` holds of, with a payload of at most 65535 bytes, and gives the one that answers
-    /// it, if any; that one has no payload.
-    pub fn process<C: Context>(
-        &mut self,
-        cx: &mut C,
-        ip_repr: &IpRepr,
-        repr: &TcpRepr<'_>,
-    ) -> Option<Reply>
-        requires accepted { Accepts self.old.control_block ip_repr.now (segment_of repr.now) }
-        requires small { length repr.now.payload.now ≤ 65535 }
-        ensures table { Processes C.facts C.word_at self.old.control_block cx.old ip_repr.now (segment_of repr.now)
-            result self.new.control_block cx.new }
-        ensures generator { self.new.tsval_generator ≡ self.old.tsval_generator }
-    {
-        self.control_block.process(cx, ip_repr, repr)
-    }
-
     /// Emits at most one segment: calls `emit` once with it, or does not call it where nothing is due.
     ///
     /// The error that `emit` answers is passed on; the socket then stands as it did before the emit, and the next
@@ -301,6 +285,35 @@ impl<'a, G> Socket<'a, G> {
         ensures generator { self.new.tsval_generator ≡ self.old.tsval_generator }
     {
         self.control_block.dispatch(cx, emit)
+    }
+}
+
+impl<'a, G: TsvalSource> Socket<'a, G> {
+    /// Takes a segment that `accepts` holds of, with a payload of at most 65535 bytes, and gives the one that answers
+    /// it, if any; that one has no payload (RFC 9293, section 3.10.7).
+    ///
+    /// A SYN without a timestamp that opens a connection takes the source of timestamps away.
+    pub fn process<C: Context>(
+        &mut self,
+        cx: &mut C,
+        ip_repr: &IpRepr,
+        repr: &TcpRepr<'_>,
+    ) -> Option<Reply>
+        requires accepted { Accepts self.old.control_block ip_repr.now (segment_of repr.now) }
+        requires small { length repr.now.payload.now ≤ 65535 }
+        ensures table { Processes C.facts C.word_at
+            (IsStamp G.tells self.new.tsval_generator repr.now.timestamp) self.old.control_block cx.old
+            ip_repr.now (segment_of repr.now) result self.new.control_block cx.new }
+        ensures generator { self.new.tsval_generator
+            ≡ generator_after self.old.control_block (segment_of repr.now) self.old.tsval_generator }
+    {
+        if self.control_block.drops_generator(repr) {
+            self.tsval_generator = None;
+        }
+        match self.control_block.process(cx, ip_repr, repr) {
+            None => None,
+            Some(reply) => Some(self.answer(ip_repr, repr, reply)),
+        }
     }
 }
 

@@ -10,6 +10,9 @@ use sock_core::rtte::RttEstimator;
 // How long TIME-WAIT lasts, as smoltcp.
 const CLOSE_DELAY: Duration = Duration { micros: 10_000_000 };
 
+// How long after a challenge ACK none goes out, as smoltcp.
+pub(crate) const CHALLENGE_INTERVAL: Duration = Duration { micros: 1_000_000 };
+
 // The moment so long after `now`.
 pub(crate) fn after(now: Instant, delay: Duration) -> Instant
     requires moment { IsMoment now.micros }
