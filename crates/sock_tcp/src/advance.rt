@@ -1,5 +1,5 @@
 //! The state table of `process` (RFC 9293, section 3.10.7).
-ghost use Rattle.std.specs.Prelude.{◌≡◌, ◌<◌, ◌^◌, length};
+ghost use Rattle.std.specs.Prelude.{◌≡◌, ◌<◌, ◌^◌, length, true, false};
 ghost use Rattle.ip_wire.specs.Address.{SameVersion};
 ghost use Rattle.control_wire.specs.Segment.{segment_of};
 ghost use Rattle.sock_core.specs.Bounds.{IsMoment};
@@ -8,6 +8,7 @@ ghost use Rattle.sock_tcp.specs.Advance.{counted_control, options_taken, fallen_
 ghost use Rattle.sock_tcp.specs.declared.state.State.TheVariants.{TimeWait};
 ghost use Rattle.sock_tcp.specs.Process.{tuple_of};
 ghost use Rattle.sock_tcp.specs.Same.{SameQueues};
+ghost use Rattle.sock_tcp.specs.View.{FinSays};
 ghost use Rattle.sock_tcp.specs.Verdict.{verdict_of};
 ghost use Rattle.sock_tcp.specs.declared.verdict.Verdict.TheVariants.{Pass};
 
@@ -92,6 +93,7 @@ impl<'a> ControlBlock<'a> {
     // An RST in SYN-RECEIVED: a listener listens again.
     #[tactic(auto, unfolding(crate::specs::Advance::fallen_back))]
     fn fall_back(&mut self) -> Next
+        requires { self.old.rx_fin_received ≡ false }
         ensures table { record { view = self.new; next = result } ≡ stops (fallen_back self.old) }
         ensures queues { SameQueues self.old self.new }
     {
@@ -116,6 +118,7 @@ impl<'a> ControlBlock<'a> {
     fn receive_syn(&mut self, now: Instant, tuple: Tuple, word: u32, repr: &TcpRepr<'_>) -> Next
         requires moment { IsMoment now.micros }
         requires versions { SameVersion tuple.local.addr tuple.remote.addr }
+        requires no_fin { self.old.rx_fin_received ≡ false }
         ensures table { record { view = self.new; next = result }
             ≡ continues (syn_received self.old now tuple word (segment_of repr.now)) }
         ensures queues { SameQueues self.old self.new }
@@ -131,6 +134,7 @@ impl<'a> ControlBlock<'a> {
 
     #[tactic(auto, unfolding(crate::specs::Advance::syn_answered, crate::specs::Advance::options_taken))]
     fn take_syn_answer(&mut self, repr: &TcpRepr<'_>) -> Next
+        requires { self.old.rx_fin_received ≡ false }
         ensures table { record { view = self.new; next = result }
             ≡ continues (syn_answered self.old (segment_of repr.now)) }
         ensures queues { SameQueues self.old self.new }
@@ -146,6 +150,7 @@ impl<'a> ControlBlock<'a> {
     }
 
     fn move_to(&mut self, state: State) -> Next
+        requires { FinSays state self.old.rx_fin_received }
         ensures { record { view = self.new; next = result } ≡ continues (moved_to state self.old) }
     {
         self.state = state;
@@ -155,6 +160,7 @@ impl<'a> ControlBlock<'a> {
     // The FIN of the peer takes a number.
     #[tactic(auto, unfolding(crate::specs::Advance::fin_counted))]
     fn count_fin(&mut self, state: State) -> Next
+        requires { FinSays state true }
         ensures table { record { view = self.new; next = result } ≡ continues (fin_counted state self.old) }
         ensures queues { SameQueues self.old self.new }
     {

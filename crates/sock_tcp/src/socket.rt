@@ -4,7 +4,7 @@ ghost use Rattle.std.specs.Fn.{FnOnceReturnsAt, FnOnceReturnsAtMut};
 ghost use Rattle.control_wire.specs.Segment.{segment_of};
 ghost use Rattle.sock_core.specs.Received.{receiving, room_of};
 ghost use Rattle.sock_tcp.specs.Queue.{queue_of, capacity};
-ghost use Rattle.sock_tcp.specs.View.{fresh};
+ghost use Rattle.sock_tcp.specs.View.{fresh, FinSays};
 ghost use Rattle.sock_tcp.specs.Opening.{is_listening, is_open, is_active, Listens, Connects};
 ghost use Rattle.sock_tcp.specs.Queues.{may_send, can_send, may_recv, can_recv};
 ghost use Rattle.sock_tcp.specs.Queues.{written, Sends, SendsWith, Writes, Reads, ReadsWith, lent_bytes, Peeks, PeeksInto};
@@ -75,9 +75,11 @@ impl<'a, G> Socket<'a, G> {
         self.control_block.tuple.map(|tuple| tuple.remote)
     }
 
-    /// The state of the connection (RFC 9293, section 3.3.2).
+    /// The state of the connection (RFC 9293, section 3.3.2). The peer's FIN has come only in CLOSE-WAIT, CLOSING,
+    /// LAST-ACK and TIME-WAIT, and maybe before the socket was CLOSED.
     pub fn state(&self) -> State
-        ensures { result ≡ self.now.control_block.state }
+        ensures value { result ≡ self.now.control_block.state }
+        ensures fin { FinSays result self.now.control_block.rx_fin_received }
     {
         self.control_block.state
     }
