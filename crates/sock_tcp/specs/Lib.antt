@@ -19,3 +19,4 @@ pub mod Content
 pub mod Dispatch
 pub mod Texts
 pub mod Outgoing
+pub mod Laws

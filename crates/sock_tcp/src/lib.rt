@@ -10,6 +10,7 @@ mod dispatch;
 mod due;
 pub mod error;
 pub mod generator;
+pub mod laws;
 mod open;
 mod process;
 mod queues;
