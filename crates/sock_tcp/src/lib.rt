@@ -1,6 +1,7 @@
 //! The TCP socket of smoltcp: so far one connection whose segments come in order.
 #![tactic(auto)]
 
+mod begin;
 mod close;
 mod content;
 pub mod control_block;
@@ -9,6 +10,7 @@ mod due;
 pub mod error;
 pub mod generator;
 mod open;
+pub mod poll;
 mod process;
 mod queues;
 mod reply;

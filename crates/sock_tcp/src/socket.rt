@@ -9,7 +9,6 @@ ghost use Rattle.sock_tcp.specs.Opening.{is_listening, is_open, is_active, Liste
 ghost use Rattle.sock_tcp.specs.Queues.{may_send, can_send, may_recv, can_recv};
 ghost use Rattle.sock_tcp.specs.Queues.{written, Sends, SendsWith, Writes, Reads, ReadsWith, lent_bytes, Peeks, PeeksInto};
 ghost use Rattle.sock_tcp.specs.Process.{Accepts, Processes};
-ghost use Rattle.sock_tcp.specs.Dispatch.{Dispatches};
 
 use crate::control_block::ControlBlock;
 use crate::error::{ConnectError, ListenError, RecvError, SendError};
@@ -284,23 +283,6 @@ impl<'a, G> Socket<'a, G> {
         ensures generator { self.new.tsval_generator ≡ self.old.tsval_generator }
     {
         self.control_block.process(cx, ip_repr, repr)
-    }
-
-    /// Emits at most one segment: calls `emit` once with it, or does not call it where nothing is due.
-    ///
-    /// The error that `emit` answers is passed on; the socket then stands as it did before the emit, and the next
-    /// `dispatch` offers the segment again.
-    pub fn dispatch<C: Context, E, F: FnOnce(&mut C, (IpRepr, TcpRepr<'_>)) -> Result<(), E>>(
-        &mut self,
-        cx: &mut C,
-        emit: F,
-    ) -> Result<(), E>
-        requires callable { F.IsAlwaysCallable emit }
-        ensures table { Dispatches F.FnOnce emit (C.facts cx.old) self.old.control_block cx.old
-            result self.new.control_block cx.new }
-        ensures generator { self.new.tsval_generator ≡ self.old.tsval_generator }
-    {
-        self.control_block.dispatch(cx, emit)
     }
 }
 
