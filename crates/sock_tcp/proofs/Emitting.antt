@@ -14,7 +14,7 @@ use Rattle.sock_tcp.specs.Queue.{IsLent}
 use Rattle.sock_tcp.specs.Sent.{emitted_as, after_emit, left_by}
 use Rattle.sock_tcp.specs.View.{View, moment_of}
 use Rattle.sock_tcp.specs.declared.content.Outgoing.{Outgoing}
-use Rattle.sock_tcp.specs.declared.dispatch.Emitted.{Emitted}
+use Rattle.sock_tcp.specs.declared.emission.Emitted.{Emitted}
 use Rattle.sock_tcp.specs.declared.tuple.Tuple.{Tuple}
 
 module _ {F C E : Type 0} (g : EmitTcp F C E) (f : F) (facts : Facts) where

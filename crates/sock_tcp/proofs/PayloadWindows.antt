@@ -6,8 +6,8 @@ use Rattle.sock_core.specs.Facts.{Facts}
 use Rattle.sock_tcp.specs.Queue.{IsLent}
 use Rattle.sock_tcp.specs.declared.state.State.{State}
 use Rattle.sock_tcp.specs.declared.state.State.TheVariants as state
-use Rattle.sock_tcp.specs.declared.content.Kind.{Kind}
-use Rattle.sock_tcp.specs.declared.content.Kind.TheVariants as kind
+use Rattle.sock_tcp.specs.declared.emission.Kind.{Kind}
+use Rattle.sock_tcp.specs.declared.emission.Kind.TheVariants as kind
 use Rattle.sock_tcp.specs.declared.tuple.Tuple.{Tuple}
 use Rattle.sock_tcp.specs.View.{View, moment_of}
 use Rattle.control_wire.specs.Segment.{Segment}

@@ -14,8 +14,8 @@ use Rattle.sock_tcp.specs.Due.{is_closing, own_mss, effective_mss, flight, conge
 use Rattle.sock_tcp.specs.Timers.{is_keep_alive_over, is_probe_over}
 use Rattle.sock_tcp.specs.View.{View, moment_of}
 use Rattle.sock_tcp.specs.Window.{next_ack}
-use Rattle.sock_tcp.specs.declared.content.Kind.{Kind}
-use Rattle.sock_tcp.specs.declared.content.Kind.TheVariants as kind
+use Rattle.sock_tcp.specs.declared.emission.Kind.{Kind}
+use Rattle.sock_tcp.specs.declared.emission.Kind.TheVariants as kind
 use Rattle.sock_tcp.specs.declared.state.State.{State}
 use Rattle.sock_tcp.specs.declared.state.State.TheVariants as state
 use Rattle.sock_tcp.specs.declared.tuple.Tuple.{Tuple}

@@ -9,7 +9,7 @@ use Rattle.sock_tcp.specs.Due.{flight, congestion_left, data_due, ack_poll, wind
 use Rattle.sock_tcp.specs.Polls.{earlier, timer_poll, timeout_poll, IsLater}
 use Rattle.sock_tcp.specs.Queue.{IsLent}
 use Rattle.sock_tcp.specs.View.{View, moment_of}
-use Rattle.sock_tcp.specs.declared.content.Kind.TheVariants as kind
+use Rattle.sock_tcp.specs.declared.emission.Kind.TheVariants as kind
 use Rattle.sock_tcp.specs.declared.tuple.Tuple.{Tuple}
 
 -- ---- `poll_at`

@@ -9,9 +9,9 @@ use Rattle.sock_tcp.specs.Content.{carries_data, Sending}
 use Rattle.sock_tcp.specs.Due.{is_closed}
 use Rattle.sock_tcp.specs.Timers.{keep_alive_renewed, probe_doubled, retransmit_unless_set}
 use Rattle.sock_tcp.specs.View.{View}
-use Rattle.sock_tcp.specs.declared.content.Kind.{Kind}
-use Rattle.sock_tcp.specs.declared.content.Kind.TheVariants as kind
-use Rattle.sock_tcp.specs.declared.dispatch.Emitted.{Emitted}
+use Rattle.sock_tcp.specs.declared.emission.Kind.{Kind}
+use Rattle.sock_tcp.specs.declared.emission.Kind.TheVariants as kind
+use Rattle.sock_tcp.specs.declared.emission.Emitted.{Emitted}
 use Rattle.sock_tcp.specs.declared.timer.AckDelayTimer.TheVariants as ack_delay
 
 -- what is kept of a segment once it went out

@@ -17,6 +17,13 @@ use net_base::time::Instant;
 use sock_core::Context;
 use sock_core::congestion::Controller;
 
+// Whether the interface still has the local address of the connection.
+fn has_local_address<C: Context>(cx: &C, tuple: &Tuple) -> bool
+    ensures { result ≡ (C.facts cx.now).has_address tuple.now.local.addr }
+{
+    cx.has_ip_addr(tuple.local.addr)
+}
+
 impl<'a> ControlBlock<'a> {
     #[tactic(auto, unfolding(crate::specs::Begin::last_ts_set))]
     fn set_last_ts(&mut self, now: Instant)
@@ -111,7 +118,7 @@ impl<'a> ControlBlock<'a> {
             None => return None,
             Some(tuple) => tuple,
         };
-        if !cx.has_ip_addr(tuple.local.addr) {
+        if !has_local_address(cx, &tuple) {
             self.reset();
             return None;
         }

@@ -11,6 +11,7 @@ ghost use Rattle.sock_tcp.specs.Outgoing.{sending_of};
 
 use crate::control_block::ControlBlock;
 use crate::due::own_mss;
+use crate::emission::Kind;
 use crate::state::State;
 use crate::tuple::Tuple;
 use control_wire::{TcpControl, TcpRepr, TcpTimestampRepr};
@@ -19,17 +20,6 @@ use net_base::time::Instant;
 use sock_core::Context;
 
 const HOP_LIMIT: u8 = 64;
-
-// What a dispatch emits a segment for.
-#[derive(Debug, Clone, Copy, PartialEq, Eq)]
-pub(crate) enum Kind {
-    // Data, a SYN, a FIN, an acknowledgement or an RST.
-    Plain,
-    // A byte into a window that leaves nothing.
-    Probe,
-    // A byte that the peer has acknowledged before.
-    KeepAlive,
-}
 
 // A segment that goes out.
 #[derive(Clone, Copy)]

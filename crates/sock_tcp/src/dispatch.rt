@@ -7,29 +7,19 @@ ghost use Rattle.sock_tcp.specs.Sent.{emitted_as, after_any, after_probe, snd_nx
 ghost use Rattle.sock_tcp.specs.Sent.{after_sending, after_emit};
 ghost use Rattle.sock_tcp.specs.Dispatch.{EmitsDue, Dispatches};
 
-use crate::content::{Kind, Outgoing};
+use crate::content::Outgoing;
 use crate::control_block::ControlBlock;
+use crate::emission::{Emitted, Kind};
 use crate::generator::TsvalSource;
 use crate::socket::Socket;
 use crate::timer::AckDelayTimer;
 use crate::tuple::Tuple;
-use control_wire::{TcpRepr, TcpSeqNumber};
+use control_wire::TcpRepr;
 use ip_wire::IpRepr;
 use net_base::time::Instant;
 use sock_core::Context;
 use sock_core::congestion::Controller;
 use sock_core::seq::later;
-
-// What is kept of a segment once it went out.
-#[derive(Debug, Clone, Copy, PartialEq, Eq)]
-pub(crate) struct Emitted {
-    pub kind: Kind,
-    // How many sequence numbers it takes, and the number behind them.
-    pub len: usize,
-    pub end: TcpSeqNumber,
-    pub ack_number: Option<TcpSeqNumber>,
-    pub window_len: u16,
-}
 
 impl<'s> Outgoing<'s> {
     fn emitted(&self) -> Emitted

@@ -7,6 +7,7 @@ mod content;
 pub mod control_block;
 mod dispatch;
 mod due;
+pub mod emission;
 pub mod error;
 pub mod generator;
 mod open;
