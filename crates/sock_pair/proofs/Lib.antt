@@ -25,9 +25,11 @@ pub mod NetworkReaches
 pub mod NetworkExample
 pub mod PairFins
 pub mod PairListeners
+pub mod DispatchKeeps
 pub mod PairHosts
 pub mod ShownProcess
 pub mod ShownCalls
+pub mod ShownSending
 pub mod ShownDispatch
 pub mod ShownNetworks
 pub mod PairReturns

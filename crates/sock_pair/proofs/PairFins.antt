@@ -1,6 +1,6 @@
 -- No table counts a FIN yet.
-use Rattle.std.proofs.Common.{◌≡◌, ℕ, Bool, true, false, refl, sym, subst, List, [], length, Option, Some, None}
-use Rattle.std.specs.Prelude.{not, if◌then◌else◌}
+use Rattle.std.proofs.Common.{◌≡◌, ℕ, Bool, true, false, refl, List, [], length, Option, Some, None}
+use Rattle.std.specs.Prelude.{if◌then◌else◌}
 use Rattle.ip_wire.specs.declared.endpoint.IpListenEndpoint.{IpListenEndpoint}
 use Rattle.ip_wire.specs.declared.repr.IpRepr.{IpRepr}
 use Rattle.net_base.specs.declared.time.Instant.{Instant}
@@ -8,13 +8,9 @@ use Rattle.control_wire.specs.Segment.{Segment}
 use Rattle.control_wire.specs.declared.seq_number.TcpSeqNumber.{TcpSeqNumber}
 use Rattle.control_wire.specs.declared.tcp.TcpControl.{TcpControl}
 use Rattle.control_wire.specs.declared.tcp.TcpControl.TheVariants as control
-use Rattle.sock_core.specs.Facts.{Facts}
-use Rattle.sock_tcp.specs.View.{View, moment_of, fresh}
+use Rattle.sock_tcp.specs.View.{View, fresh}
 use Rattle.sock_tcp.specs.Opening.{listened, connected, renewed}
 use Rattle.sock_tcp.specs.Queues.{queued, read_off}
-use Rattle.sock_tcp.specs.Due.{begun, begun_to, before_emit, before_emit_to, ended, last_ts_set, last_ts_set_at}
-use Rattle.sock_tcp.specs.Content.{Sending, content}
-use Rattle.sock_tcp.specs.Dispatch.{left_by, sent}
 use Rattle.sock_tcp.specs.Steps.{Advance, advanced, advance_in, syn_sent_advance, syn_received, syn_answered, options_taken, window_taken, released, una_advanced, joined, segment_taken}
 use Rattle.sock_tcp.specs.Process.{stopped, tuple_of, has_window, processed_inside, cut_inside, tested, by_verdict, processed}
 use Rattle.sock_tcp.specs.Window.{receive_window, is_inside, cut_of}
@@ -24,8 +20,6 @@ use Rattle.sock_tcp.specs.declared.state.State.TheVariants as state
 use Rattle.sock_tcp.specs.declared.tuple.Tuple.{Tuple}
 use Rattle.sock_tcp.specs.declared.verdict.Verdict.{Verdict}
 use Rattle.sock_tcp.specs.declared.verdict.Verdict.TheVariants as verdicts
-use Rattle.sock_pair.specs.Recording.{SendsFrom, SocketDispatches}
-use Rattle.sock_pair.specs.declared.recorder.Sent.{Sent}
 
 -- where no FIN was counted before, none is afterwards
 abbrev pub CountsNoFin : View → View → Type 0
@@ -48,43 +42,6 @@ queued_fin v n bs = λ e. e
 pub read_fin : (v : View) (n : ℕ) → CountsNoFin v (read_off v n)
 unfolding read_off
 read_fin v n = λ e. e
-
--- ---- dispatch
-
-last_ts_fin : (v : View) (now : Instant) (o : Option Instant) → CountsNoFin v (last_ts_set_at o v now)
-last_ts_fin v now None = λ e. e
-last_ts_fin v now (Some t) = λ e. e
-
-begins_to : (v : View) (f : Facts) (o : Option Tuple) → CountsNoFin v (begun_to o v f).view
-unfolding renewed fresh last_ts_set
-begins_to v f None = λ e. e
-begins_to v f (Some t) = two (f.has_address t.local.addr)
-  where
-    two : (b : Bool) → CountsNoFin v (if b then record { view = last_ts_set v (moment_of f); peer = Some t } else ended (renewed v)).view
-    two true = last_ts_fin v (moment_of f) v.remote_last_ts
-    two false = λ e. refl
-
-before_emit_same : (o : Option Tuple) (v : View) → (before_emit_to o v).view ≡ v
-before_emit_same None v = refl
-before_emit_same (Some t) v = refl
-
-before_emit_fin : (v : View) (f : Facts) → CountsNoFin v (before_emit v f).view
-unfolding before_emit begun
-before_emit_fin v f = subst (λ (w : View). CountsNoFin v w) (sym (before_emit_same (begun v f).peer (begun v f).view)) (begins_to v f v.tuple)
-
-left_fin : (o : Option Sending) (v : View) (ok : Bool) → CountsNoFin v (left_by o v ok)
-unfolding sent
-left_fin None v ok = λ e. e
-left_fin (Some c) v true = λ e. e
-left_fin (Some c) v false = λ e. e
-
-pub dispatch_fin : (v w : View) (f : Facts) (fail : Bool) (r : Sent) → SocketDispatches v f fail r w → CountsNoFin v w
-unfolding SocketDispatches
-dispatch_fin v w f fail r d = λ e. from (before_emit v f).peer (before_emit v f).view d (before_emit_fin v f e)
-  where
-    from : (peer : Option Tuple) (u : View) → SendsFrom peer u f fail r w → CountsNoFin u w
-    from None u d = subst (CountsNoFin u) (sym d.1) (λ e. e)
-    from (Some t) u d = subst (CountsNoFin u) (sym d.view) (left_fin (content u t f d.bytes) u (not fail))
 
 -- ---- process
 

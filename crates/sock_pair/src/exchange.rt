@@ -14,6 +14,7 @@ use crate::recorder::Sent;
 use crate::segment::{Header, Segment};
 use crate::side::Side;
 use sock_tcp::Reply;
+use sock_tcp::generator::TsvalSource;
 use std::alloc::Global;
 
 // By how much a count of a segment's emitter may grow at most while the segment is young.
@@ -63,7 +64,7 @@ fn store(segments: &mut Vec<Segment>, from: Side, sent: Sent, counts: Counts) ->
 }
 
 // One dispatch of a side. The room is made first.
-pub(crate) fn dispatch<G>(
+pub(crate) fn dispatch<G: TsvalSource>(
     alloc: Global,
     host: &mut Host<'_, G>,
     side: Side,
@@ -123,7 +124,7 @@ fn store_reply(
 }
 
 // One delivery to a side. The room is made first.
-pub(crate) fn deliver<G>(
+pub(crate) fn deliver<G: TsvalSource>(
     alloc: Global,
     emitter: Counts,
     host: &mut Host<'_, G>,

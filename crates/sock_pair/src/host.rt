@@ -16,6 +16,7 @@ use crate::segment::Segment;
 use crate::setting::Setting;
 use control_wire::{TcpRepr, TcpTimestampGenerator};
 use ip_wire::{IpEndpoint, IpListenEndpoint, IpRepr};
+use sock_tcp::generator::TsvalSource;
 use sock_tcp::{Generator, RecvError, Reply, SendError, Socket, SocketBuffer};
 use std::alloc::Global;
 use std::marker::Model;
@@ -89,7 +90,7 @@ impl<'a> Host<'a> {
     }
 }
 
-impl<'a, G> Host<'a, G> {
+impl<'a, G: TsvalSource> Host<'a, G> {
     ghost use Rattle.sock_tcp.specs.Queues.{may_send};
     ghost use Rattle.sock_pair.specs.PairCalls.{listening, connecting, OpensAs, SendsIf, Receives, Sets};
     ghost use Rattle.sock_pair.specs.PairSteps.{HostDispatches, delivered_to, processed_by};

@@ -11,6 +11,7 @@ use crate::setting::Setting;
 use crate::side::Side;
 use control_wire::TcpTimestampGenerator;
 use ip_wire::IpEndpoint;
+use sock_tcp::generator::TsvalSource;
 use sock_tcp::{Generator, Socket, SocketBuffer};
 use std::alloc::Global;
 use std::marker::Model;
@@ -92,7 +93,7 @@ impl<'a> Pair<'a> {
     }
 }
 
-impl<'a, G> Pair<'a, G> {
+impl<'a, G: TsvalSource> Pair<'a, G> {
     ghost use Rattle.std.specs.Prelude.{map};
     ghost use Rattle.sock_pair.specs.PairViews.{host_of};
     ghost use Rattle.sock_pair.specs.PairCalls.{listening, connecting, OpensAs, is_over, Sends, Receives, Sets};
