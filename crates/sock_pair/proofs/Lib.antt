@@ -24,11 +24,13 @@ pub mod NetworkRuns
 pub mod NetworkReaches
 pub mod NetworkExample
 pub mod PairListeners
+pub mod DispatchKeeps
 pub mod PairHosts
 pub mod ShownReplies
 pub mod ShownSteps
 pub mod ShownProcess
 pub mod ShownCalls
+pub mod ShownSending
 pub mod ShownDispatch
 pub mod ShownNetworks
 pub mod PairReturns

@@ -7,7 +7,7 @@ use Rattle.sock_core.specs.Facts.{Facts}
 use Rattle.sock_core.specs.Received.{Received}
 use Rattle.sock_tcp.specs.Queue.{Queue}
 use Rattle.sock_tcp.specs.View.{View, fresh}
-use Rattle.sock_tcp.specs.Due.{Begun, begun, begun_to, before_emit, before_emit_to, ended}
+use Rattle.sock_tcp.specs.Begin.{Begun, begun, begun_to, before_emit, before_emit_to, ended}
 use Rattle.sock_tcp.specs.Process.{Accepts, AcceptsIn}
 use Rattle.sock_tcp.specs.Closing.{closed, aborted, closed_from}
 use Rattle.sock_tcp.specs.Queues.{may_send, may_recv, receives, can_recv}
@@ -20,7 +20,7 @@ use Rattle.sock_pair.specs.declared.setting.Setting.{Setting}
 use Rattle.sock_pair.specs.declared.setting.Setting.TheVariants as setting
 use Rattle.sock_pair.specs.PairInvariant.{IsIdle, IsReachable, IsHost, IsPair}
 use Rattle.sock_pair.specs.PairNetwork.{network_of}
-use Rattle.sock_pair.specs.PairSteps.{Dispatches, DeliversTo, DeliversIf, delivered_to, exchanged}
+use Rattle.sock_pair.specs.PairSteps.{HostDispatches, Dispatches, DeliversTo, DeliversIf, delivered_to, exchanged}
 use Rattle.sock_pair.specs.PairViews.{HostView, StoredView, PairView, host_of, with_host, new_host}
 use Rattle.sock_pair.specs.Recording.{SocketDispatches, SendsFrom}
 use Rattle.sock_pair.specs.declared.host.Opening.{Opening}
@@ -31,7 +31,8 @@ use Rattle.sock_pair.specs.declared.recorder.Sent.{Sent}
 use Rattle.sock_pair.specs.declared.side.Side.{Side}
 use Rattle.sock_pair.specs.declared.side.Side.TheVariants.{A, B}
 use Rattle.sock_pair.proofs.NetworkRuns.{starts}
-use Rattle.sock_pair.proofs.PairListeners.{aborted_listens, closed_listens, connected_active, dispatch_listens, listened_passive, passive_kept, process_listens, queued_listens, read_listens, KeepsListener}
+use Rattle.sock_pair.proofs.DispatchKeeps.{Keeps, keeps_in_dispatch}
+use Rattle.sock_pair.proofs.PairListeners.{aborted_listens, closed_listens, connected_active, listened_passive, passive_kept, process_listens, queued_listens, read_listens, KeepsListener}
 use Rattle.sock_pair.proofs.PairAmounts.{takes_some, hands_some}
 
 -- a host that is one still, on the same endpoint
@@ -118,19 +119,22 @@ set_stays h k s o i e = subst (StaysHost h) (sym e.1) (record { host = record { 
 
 -- ---- dispatches and deliveries
 
-pub no_peer_readies : (v : View) (f : Facts) → v.tuple ≡ None → before_emit v f ≡ ended v
+pub no_peer_readies : (v : View) (f : Facts) (stamps : Bool) → v.tuple ≡ None → before_emit v f stamps ≡ ended v
 unfolding before_emit begun
-no_peer_readies v f e = ap (λ (b : Begun). before_emit_to b.peer b.view) (ap (λ o. begun_to o v f) e)
+no_peer_readies v f stamps e = ap (λ (b : Begun). before_emit_to b.peer b.view f stamps) (ap (λ o. begun_to o v f) e)
 
-pub idle_dispatches : (v w : View) (f : Facts) (fail : Bool) (r : Sent) → v.tuple ≡ None → SocketDispatches v f fail r w → w ≡ v
+pub idle_dispatches : (v w : View) (f : Facts) (stamps fail : Bool) (r : Sent) → v.tuple ≡ None → SocketDispatches v f stamps fail r w → w ≡ v
 unfolding SocketDispatches
-idle_dispatches v w f fail r e d = (subst (λ (b : Begun). SendsFrom b.peer b.view f fail r w) (no_peer_readies v f e) d).1
+idle_dispatches v w f stamps fail r e d = (subst (λ (b : Begun). SendsFrom b.peer b.view f stamps fail r w) (no_peer_readies v f stamps e) d).1
 
 pub dispatch_stays : (s : Side) (m : Moment) (fail : Bool) (o : Outcome) (h k : HostView) (ts ts' : List StoredView) → IsHost h → Dispatches s m fail o h ts k ts' → StaysHost h k
-dispatch_stays s m fail o h k ts ts' i d = subst (StaysHost h) (sym d.does.same) (record {
-  host = record { reachable = i.reachable; idle = λ u. subst IsIdle (sym (idle_dispatches h.control_block k.control_block (facts_of m) fail d.sent (i.idle u).tuple d.does.socket)) (i.idle u); passive = passive_kept h (record h { control_block = k.control_block }) i refl (dispatch_listens h.control_block k.control_block (facts_of m) fail d.sent d.does.socket) };
-  endpoint = refl;
-})
+dispatch_stays s m fail o h k ts ts' i d =
+    let x : HostDispatches m fail h d.sent k = d.does in
+    let keeps : Keeps h.control_block k.control_block = keeps_in_dispatch h.control_block k.control_block (facts_of m) x.stamps fail d.sent x.socket in
+    subst (StaysHost h) (sym x.same) (record {
+      host = record { reachable = i.reachable; idle = λ u. subst IsIdle (sym (idle_dispatches h.control_block k.control_block (facts_of m) x.stamps fail d.sent (i.idle u).tuple x.socket)) (i.idle u); passive = passive_kept h (record h { control_block = k.control_block }) i refl keeps.listener };
+      endpoint = refl;
+    })
 
 pub closed_accepts_none : (v : View) (t : StoredView) → v.state ≡ state.Closed → Accepts v t.ip t.segment → ⊥
 closed_accepts_none v t e a = subst (λ st. AcceptsIn st v t.ip t.segment) e a

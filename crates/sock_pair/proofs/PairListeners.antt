@@ -1,5 +1,5 @@
 -- Where a socket listens: no table changes it, but a reset.
-use Rattle.std.proofs.Common.{◌≡◌, ℕ, ◌<◌, Bool, true, false, refl, sym, ap, subst, ◌∙◌, arith, List, [], length, Option, Some, None}
+use Rattle.std.proofs.Common.{◌≡◌, ℕ, ◌<◌, Bool, true, false, refl, sym, ap, ◌∙◌, arith, List, [], length, Option, Some, None}
 use Rattle.std.specs.Prelude.{not, ◌==◌, if◌then◌else◌}
 use Rattle.std.proofs.lemmas.Bool.{eqb-true}
 use Rattle.ip_wire.specs.declared.endpoint.IpListenEndpoint.{IpListenEndpoint}
@@ -7,15 +7,11 @@ use Rattle.ip_wire.specs.declared.repr.IpRepr.{IpRepr}
 use Rattle.net_base.specs.declared.time.Instant.{Instant}
 use Rattle.control_wire.specs.Segment.{Segment}
 use Rattle.control_wire.specs.declared.seq_number.TcpSeqNumber.{TcpSeqNumber}
-use Rattle.sock_core.specs.Facts.{Facts}
-use Rattle.sock_tcp.specs.View.{View, moment_of, fresh}
+use Rattle.sock_tcp.specs.View.{View, fresh}
 use Rattle.sock_tcp.specs.Opening.{listened, connected, renewed}
 use Rattle.sock_tcp.specs.Closing.{closed, aborted, closed_from}
 use Rattle.sock_tcp.specs.Queues.{queued, read_off}
 use Rattle.sock_tcp.proofs.Frames.{process_brings}
-use Rattle.sock_tcp.specs.Due.{begun, begun_to, before_emit, before_emit_to, ended, last_ts_set, last_ts_set_at}
-use Rattle.sock_tcp.specs.Content.{Sending, content}
-use Rattle.sock_tcp.specs.Dispatch.{left_by, sent}
 use Rattle.sock_tcp.specs.Process.{processed}
 use Rattle.sock_tcp.specs.declared.state.State.{State}
 use Rattle.sock_tcp.specs.declared.state.State.TheVariants as state
@@ -23,9 +19,7 @@ use Rattle.sock_tcp.specs.declared.tuple.Tuple.{Tuple}
 use Rattle.sock_pair.specs.PairInvariant.{IsHost}
 use Rattle.sock_pair.specs.PairNetwork.{is_listener, is_passive}
 use Rattle.sock_pair.specs.PairViews.{HostView}
-use Rattle.sock_pair.specs.Recording.{SendsFrom, SocketDispatches}
 use Rattle.sock_pair.specs.declared.host.Opening.TheVariants as opening
-use Rattle.sock_pair.specs.declared.recorder.Sent.{Sent}
 
 -- a socket that is not CLOSED afterwards was not before, and listens where it did
 abbrev pub KeepsListener : View → View → Type 0
@@ -61,43 +55,6 @@ queued_listens v k bs = λ n. (n, refl)
 pub read_listens : (v : View) (n : ℕ) → KeepsListener v (read_off v n)
 unfolding read_off
 read_listens v k = λ n. (n, refl)
-
--- ---- dispatch
-
-dated_listens : (v : View) (now : Instant) (o : Option Instant) → KeepsListener v (last_ts_set_at o v now)
-dated_listens v now None = λ n. (n, refl)
-dated_listens v now (Some t) = λ n. (n, refl)
-
-begins_to : (v : View) (f : Facts) (o : Option Tuple) → KeepsListener v (begun_to o v f).view
-unfolding renewed fresh last_ts_set
-begins_to v f None = λ n. (n, refl)
-begins_to v f (Some t) = two (f.has_address t.local.addr)
-  where
-    two : (b : Bool) → KeepsListener v (if b then record { view = last_ts_set v (moment_of f); peer = Some t } else ended (renewed v)).view
-    two true = dated_listens v (moment_of f) v.remote_last_ts
-    two false = λ n. absurd (n refl)
-
-readied_same : (o : Option Tuple) (v : View) → (before_emit_to o v).view ≡ v
-readied_same None v = refl
-readied_same (Some t) v = refl
-
-readied_listens : (v : View) (f : Facts) → KeepsListener v (before_emit v f).view
-unfolding before_emit begun
-readied_listens v f = subst (λ (w : View). KeepsListener v w) (sym (readied_same (begun v f).peer (begun v f).view)) (begins_to v f v.tuple)
-
-left_listens : (o : Option Sending) (v : View) (ok : Bool) → KeepsListener v (left_by o v ok)
-unfolding sent
-left_listens None v ok = λ n. (n, refl)
-left_listens (Some c) v true = λ n. (n, refl)
-left_listens (Some c) v false = λ n. (n, refl)
-
-pub dispatch_listens : (v w : View) (f : Facts) (fail : Bool) (r : Sent) → SocketDispatches v f fail r w → KeepsListener v w
-unfolding SocketDispatches
-dispatch_listens v w f fail r d = λ live. let x = from (before_emit v f).peer (before_emit v f).view d live in let y = readied_listens v f x.0 in (y.0, x.1 ∙ y.1)
-  where
-    from : (peer : Option Tuple) (u : View) → SendsFrom peer u f fail r w → KeepsListener u w
-    from None u d = subst (KeepsListener u) (sym d.1) (λ n. (n, refl))
-    from (Some t) u d = subst (KeepsListener u) (sym d.view) (left_listens (content u t f d.bytes) u (not fail))
 
 -- ---- closing
 

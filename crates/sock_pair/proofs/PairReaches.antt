@@ -6,15 +6,16 @@ use Rattle.std.proofs.lemmas.List.{append-nil}
 use Rattle.std.specs.List.{Contains}
 use Rattle.ip_wire.specs.declared.endpoint.IpEndpoint.{IpEndpoint}
 use Rattle.ip_wire.specs.declared.repr.IpRepr.{IpRepr}
+use Rattle.net_base.specs.declared.time.Instant.{Instant}
 use Rattle.control_wire.specs.Segment.{Segment}
 use Rattle.sock_core.specs.Facts.{Facts}
 use Rattle.sock_core.specs.Received.{room_of}
 use Rattle.sock_tcp.specs.Queue.{capacity}
-use Rattle.sock_tcp.specs.View.{View}
+use Rattle.sock_tcp.specs.View.{View, moment_of}
 use Rattle.sock_tcp.specs.Queues.{may_send, may_recv, queued}
-use Rattle.sock_tcp.specs.Due.{Begun, before_emit}
+use Rattle.sock_tcp.specs.Begin.{Begun, before_emit}
 use Rattle.sock_tcp.specs.Content.{Sending, content}
-use Rattle.sock_tcp.specs.Dispatch.{left_by}
+use Rattle.sock_tcp.specs.Sent.{left_by}
 use Rattle.control_wire.specs.declared.tcp.TcpControl.{TcpControl}
 use Rattle.control_wire.specs.declared.tcp.TcpTimestampRepr.{TcpTimestampRepr}
 use Rattle.sock_tcp.specs.Closing.{closed_from}
@@ -141,42 +142,42 @@ module _ (s : Side) (h o : HostView) (ks : List StoredView) (limit : Option ℕ)
   none_stored v xs e = stays_there _ _ (ap (at_view v) (sym (append-nil ks) ∙ ap (λ zs. ks ++ zs) (sym e)))
 
   -- a segment that may be emitted goes out
-  emits_one : (v : View) (c : Sending) → MayEmit v c h.released h.taken → Reaches (at_view v ks) (at_view (left_by (Some c) v true) (ks ++ record { emitter = s; ip = c.ip; segment = c.segment; released_at = h.released; taken_at = h.taken } ∷ []))
-  emits_one v c may =
-      subst (Reaches (at_view v ks)) (stored_is s (opened h b (left_by (Some c) v true)) (endpoint_of o) ks (record { emitter = s; ip = c.ip; segment = c.segment; released_at = h.released; taken_at = h.taken }) limit refl)
-      (emission_reaches (at_view v ks) (shown (left_by (Some c) v true)) (stream_segment c.segment h.released h.taken) (record { released = omega arith; taken = omega arith }) may.sends may.leaves)
+  emits_one : (v : View) (c : Sending) (now : Instant) → MayEmit v c now h.released h.taken → Reaches (at_view v ks) (at_view (left_by (Some c) v now true) (ks ++ record { emitter = s; ip = c.ip; segment = c.segment; released_at = h.released; taken_at = h.taken } ∷ []))
+  emits_one v c now may =
+      subst (Reaches (at_view v ks)) (stored_is s (opened h b (left_by (Some c) v now true)) (endpoint_of o) ks (record { emitter = s; ip = c.ip; segment = c.segment; released_at = h.released; taken_at = h.taken }) limit refl)
+      (emission_reaches (at_view v ks) (shown (left_by (Some c) v now true)) (stream_segment c.segment h.released h.taken) (record { released = omega arith; taken = omega arith }) may.sends may.leaves)
 
-  sends_to : (v w : View) (t : Tuple) (f : Facts) (fail : Bool) (r : Sent) → SendsTo v t f fail r w → IsInvariant (at_view v ks) → Reaches (at_view v ks) (at_view w (ks ++ stored_at s r h.released h.taken))
-  sends_to v w t f fail r d i = subst (λ u. Reaches (at_view v ks) (at_view u (ks ++ stored_at s r h.released h.taken))) (sym d.view) (go fail (content v t f d.bytes) refl d.records)
+  sends_to : (v w : View) (t : Tuple) (f : Facts) (stamps fail : Bool) (r : Sent) → SendsTo v t f stamps fail r w → IsInvariant (at_view v ks) → Reaches (at_view v ks) (at_view w (ks ++ stored_at s r h.released h.taken))
+  sends_to v w t f stamps fail r d i = subst (λ u. Reaches (at_view v ks) (at_view u (ks ++ stored_at s r h.released h.taken))) (sym d.view) (go fail (content v t f d.stamp d.bytes) refl d.records)
     where
-      go : (fail : Bool) (c : Option Sending) → content v t f d.bytes ≡ c → Records fail c r → Reaches (at_view v ks) (at_view (left_by c v (not fail)) (ks ++ stored_at s r h.released h.taken))
+      go : (fail : Bool) (c : Option Sending) → content v t f d.stamp d.bytes ≡ c → Records fail c r → Reaches (at_view v ks) (at_view (left_by c v (moment_of f) (not fail)) (ks ++ stored_at s r h.released h.taken))
       go true None e x = none_stored v _ (failed_stored s None r h.released h.taken x)
       go true (Some c) e x = none_stored v _ (failed_stored s (Some c) r h.released h.taken x)
       go false None e x = none_stored v _ (ap (λ y. stored_at s y h.released h.taken) x)
-      go false (Some c) e x = subst (λ xs. Reaches (at_view v ks) (at_view (left_by (Some c) v true) (ks ++ xs))) (sym (records_stored s c r h.released h.taken x)) (emits_one v c (emission_plans v h.released h.taken (bounded s h b v o ks limit i) t f d.bytes d.lent c e))
+      go false (Some c) e x = subst (λ xs. Reaches (at_view v ks) (at_view (left_by (Some c) v (moment_of f) true) (ks ++ xs))) (sym (records_stored s c r h.released h.taken x)) (emits_one v c (moment_of f) (emission_plans v h.released h.taken (bounded s h b v o ks limit i) t f d.stamp d.bytes d.lent c e))
 
-  sends_from : (peer : Option Tuple) (v w : View) (f : Facts) (fail : Bool) (r : Sent) → SendsFrom peer v f fail r w → IsInvariant (at_view v ks) → Reaches (at_view v ks) (at_view w (ks ++ stored_at s r h.released h.taken))
-  sends_from None v w f fail r d i = subst (λ u. Reaches (at_view v ks) (at_view u (ks ++ stored_at s r h.released h.taken))) (sym d.1) (none_stored v _ (ap (λ y. stored_at s y h.released h.taken) d.0))
-  sends_from (Some t) v w f fail r d i = sends_to v w t f fail r d i
+  sends_from : (peer : Option Tuple) (v w : View) (f : Facts) (stamps fail : Bool) (r : Sent) → SendsFrom peer v f stamps fail r w → IsInvariant (at_view v ks) → Reaches (at_view v ks) (at_view w (ks ++ stored_at s r h.released h.taken))
+  sends_from None v w f stamps fail r d i = subst (λ u. Reaches (at_view v ks) (at_view u (ks ++ stored_at s r h.released h.taken))) (sym d.1) (none_stored v _ (ap (λ y. stored_at s y h.released h.taken) d.0))
+  sends_from (Some t) v w f stamps fail r d i = sends_to v w t f stamps fail r d i
 
-  dispatches_as : (w : View) (f : Facts) (fail : Bool) (r : Sent) → SocketDispatches h.control_block f fail r w → IsInvariant (at_view h.control_block ks) → Reaches (at_view h.control_block ks) (at_view w (ks ++ stored_at s r h.released h.taken))
+  dispatches_as : (w : View) (f : Facts) (stamps fail : Bool) (r : Sent) → SocketDispatches h.control_block f stamps fail r w → IsInvariant (at_view h.control_block ks) → Reaches (at_view h.control_block ks) (at_view w (ks ++ stored_at s r h.released h.taken))
   unfolding SocketDispatches
-  dispatches_as w f fail r d i =
-      let u : View = (before_emit h.control_block f).view in
-      let begins : Reaches (at_view h.control_block ks) (at_view u ks) = begins_reach (at_view h.control_block ks) (shown u) (begun_shows h.control_block f (bounded s h b h.control_block o ks limit i)) in
-      reach_then _ (at_view u ks) _ begins (sends_from (before_emit h.control_block f).peer u w f fail r d (reach_keeps _ _ begins i))
+  dispatches_as w f stamps fail r d i =
+      let u : View = (before_emit h.control_block f stamps).view in
+      let begins : Reaches (at_view h.control_block ks) (at_view u ks) = begins_reach (at_view h.control_block ks) (shown u) (begun_shows h.control_block f stamps (bounded s h b h.control_block o ks limit i)) in
+      reach_then _ (at_view u ks) _ begins (sends_from (before_emit h.control_block f stamps).peer u w f stamps fail r d (reach_keeps _ _ begins i))
 
 -- a dispatch of a socket without a peer stores nothing
-idle_stores : (v w : View) (f : Facts) (fail : Bool) (r : Sent) → v.tuple ≡ None → SocketDispatches v f fail r w → r ≡ sent.Quiet
+idle_stores : (v w : View) (f : Facts) (stamps fail : Bool) (r : Sent) → v.tuple ≡ None → SocketDispatches v f stamps fail r w → r ≡ sent.Quiet
 unfolding SocketDispatches
-idle_stores v w f fail r e d = (subst (λ (b : Begun). SendsFrom b.peer b.view f fail r w) (no_peer_readies v f e) d).0
+idle_stores v w f stamps fail r e d = (subst (λ (b : Begun). SendsFrom b.peer b.view f stamps fail r w) (no_peer_readies v f stamps e) d).0
 
-dispatches_in : (s : Side) (h o : HostView) (ks : List StoredView) (limit : Option ℕ) (w : View) (f : Facts) (fail : Bool) (r : Sent) → SocketDispatches h.control_block f fail r w → (e : Opening) → (e ≡ opening.Unopened → IsIdle h.control_block) → IsInvariant (network_at s (record h { opening = e }) o ks limit)
+dispatches_in : (s : Side) (h o : HostView) (ks : List StoredView) (limit : Option ℕ) (w : View) (f : Facts) (stamps fail : Bool) (r : Sent) → SocketDispatches h.control_block f stamps fail r w → (e : Opening) → (e ≡ opening.Unopened → IsIdle h.control_block) → IsInvariant (network_at s (record h { opening = e }) o ks limit)
     → Reaches (network_at s (record h { opening = e }) o ks limit) (network_at s (record h { opening = e; control_block = w }) o (ks ++ stored_at s r h.released h.taken) limit)
-dispatches_in s h o ks limit w f fail r d opening.Unopened idle i =
-    stays_there _ _ (ap (λ ts. network_at s (record h { opening = opening.Unopened }) o ts limit) (sym (append-nil ks) ∙ ap (λ x. ks ++ stored_at s x h.released h.taken) (sym (idle_stores h.control_block w f fail r (idle refl).tuple d))))
-dispatches_in s h o ks limit w f fail r d opening.Listener idle i = dispatches_as s h o ks limit true w f fail r d i
-dispatches_in s h o ks limit w f fail r d opening.Connector idle i = dispatches_as s h o ks limit false w f fail r d i
+dispatches_in s h o ks limit w f stamps fail r d opening.Unopened idle i =
+    stays_there _ _ (ap (λ ts. network_at s (record h { opening = opening.Unopened }) o ts limit) (sym (append-nil ks) ∙ ap (λ x. ks ++ stored_at s x h.released h.taken) (sym (idle_stores h.control_block w f stamps fail r (idle refl).tuple d))))
+dispatches_in s h o ks limit w f stamps fail r d opening.Listener idle i = dispatches_as s h o ks limit true w f stamps fail r d i
+dispatches_in s h o ks limit w f stamps fail r d opening.Connector idle i = dispatches_as s h o ks limit false w f stamps fail r d i
 
 -- ---- the calls of the application
 
@@ -332,7 +333,7 @@ module _ (s : Side) (p : PairView) (host : IsHost (host_of s p)) (i : IsInvarian
   dispatch_reaches m fail o k ks e =
       exchanged_reached s p k ks (subst (λ h. Reaches (side_network s p (host_of s p) p.segments) (side_network s p h ks)) (sym e.does.same)
       (subst (λ ts. Reaches (side_network s p (host_of s p) p.segments) (side_network s p (record (host_of s p) { control_block = k.control_block }) ts)) (sym e.stored)
-      (dispatches_in s (host_of s p) (host_of (other_side s) p) p.segments p.limit k.control_block (facts_of m) fail e.sent e.does.socket (host_of s p).opening host.idle (from_side s p i))))
+      (dispatches_in s (host_of s p) (host_of (other_side s) p) p.segments p.limit k.control_block (facts_of m) e.does.stamps fail e.sent e.does.socket (host_of s p).opening host.idle (from_side s p i))))
 
   -- t is a segment of the other side
   pub deliver_reaches : (m : Moment) (t : StoredView) (o : Outcome) (k : HostView) (ks : List StoredView) → m.word < 2 ^ 32 → IsSmall t.segment → Contains p.segments t → t.emitter ≡ other_side s → IsSocket (host_of s p).control_block

@@ -54,8 +54,10 @@ stored_at s sent.Quiet released taken = []
 stored_at s sent.Failed released taken = []
 stored_at s (sent.Emitted header bytes) released taken = stored_segment s header bytes.items released taken ∷ []
 
+-- stamps: the socket has a source of timestamps
 pub record HostDispatches (m : Moment) (fail : Bool) (h : HostView) (r : Sent) (k : HostView) : Type 0 where
-  pub socket : SocketDispatches h.control_block (facts_of m) fail r k.control_block
+  pub stamps : Bool
+  pub socket : SocketDispatches h.control_block (facts_of m) stamps fail r k.control_block
   pub same : k ≡ record h { control_block = k.control_block }
 
 pub record Dispatches (s : Side) (m : Moment) (fail : Bool) (o : Outcome) (h : HostView) (ks : List StoredView)

@@ -1,14 +1,14 @@
 -- What a dispatch stores.
-use Rattle.std.specs.Prelude.{ℕ, ◌≡◌, ◌≤◌, ◌++◌, ⊤, List, length, drop, Option, Some, None, IsSomeAnd, Result, Ok, Err, Bool, true, false, not, Vec}
+use Rattle.std.specs.Prelude.{ℕ, ◌≡◌, ◌≤◌, ◌++◌, ⊤, List, length, drop, Option, Some, None, is_some, IsSomeAnd, Result, Ok, Err, Bool, true, false, not, Vec}
 use Rattle.std.specs.Global.{Global}
 use Rattle.ip_wire.specs.declared.repr.IpRepr.{IpRepr}
 use Rattle.control_wire.specs.Segment.{Segment}
 use Rattle.sock_core.specs.Facts.{Facts}
 use Rattle.sock_tcp.specs.Queue.{IsLent}
-use Rattle.sock_tcp.specs.View.{View}
-use Rattle.sock_tcp.specs.Due.{flight, before_emit}
-use Rattle.sock_tcp.specs.Content.{Sending, asked, content}
-use Rattle.sock_tcp.specs.Dispatch.{left_by}
+use Rattle.sock_tcp.specs.View.{View, moment_of}
+use Rattle.sock_tcp.specs.Begin.{before_emit}
+use Rattle.sock_tcp.specs.Content.{Sending, asked, offset_of, content}
+use Rattle.sock_tcp.specs.Sent.{left_by}
 use Rattle.sock_tcp.specs.declared.tuple.Tuple.{Tuple}
 use Rattle.sock_pair.specs.declared.recorder.EmitFailed.{EmitFailed}
 use Rattle.sock_pair.specs.declared.recorder.Recorder.{Recorder}
@@ -43,17 +43,21 @@ Records true (Some s) r = r ≡ sent.Failed
 Records false (Some s) (sent.Emitted h p) = IsHeaderOf h s.ip s.segment × (p.items ≡ s.segment.payload)
 Records false (Some s) _ = ⊥
 
--- the socket sends to its peer, for some bytes that its ring lent
-pub record SendsTo (v : View) (t : Tuple) (f : Facts) (fail : Bool) (r : Sent) (w : View) : Type 0 where
+-- the socket sends to its peer, with a timestamp where it has a source of them (stamps), and for some bytes that its
+-- ring lent
+pub record SendsTo (v : View) (t : Tuple) (f : Facts) (stamps fail : Bool) (r : Sent) (w : View) : Type 0 where
+  pub stamp : Option ℕ
+  pub stamped : is_some stamp ≡ stamps
   pub bytes : List ℕ
-  pub lent : IsLent (asked v t f) (drop (flight v) v.tx_buffer.bytes) bytes
-  pub records : Records fail (content v t f bytes) r
-  pub view : w ≡ left_by (content v t f bytes) v (not fail)
+  pub lent : IsLent (asked v t f (is_some stamp)) (drop (offset_of v) v.tx_buffer.bytes) bytes
+  pub records : Records fail (content v t f stamp bytes) r
+  pub view : w ≡ left_by (content v t f stamp bytes) v (moment_of f) (not fail)
 
-abbrev pub SendsFrom : Option Tuple → View → Facts → Bool → Sent → View → Type 0
-SendsFrom None v f fail r w = (r ≡ sent.Quiet) × (w ≡ v)
-SendsFrom (Some t) v f fail r w = SendsTo v t f fail r w
+abbrev pub SendsFrom : Option Tuple → View → Facts → Bool → Bool → Sent → View → Type 0
+SendsFrom None v f stamps fail r w = (r ≡ sent.Quiet) × (w ≡ v)
+SendsFrom (Some t) v f stamps fail r w = SendsTo v t f stamps fail r w
 
 -- a whole dispatch of the socket v
-unfoldable pub SocketDispatches : View → Facts → Bool → Sent → View → Type 0
-SocketDispatches v f fail r w = SendsFrom (before_emit v f).peer (before_emit v f).view f fail r w
+unfoldable pub SocketDispatches : View → Facts → Bool → Bool → Sent → View → Type 0
+SocketDispatches v f stamps fail r w =
+    SendsFrom (before_emit v f stamps).peer (before_emit v f stamps).view f stamps fail r w

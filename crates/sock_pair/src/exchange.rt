@@ -63,7 +63,7 @@ fn store(segments: &mut Vec<Segment>, from: Side, sent: Sent, counts: Counts) ->
 }
 
 // One dispatch of a side. The room is made first.
-pub(crate) fn dispatch<G>(
+pub(crate) fn dispatch<G: TsvalSource>(
     alloc: Global,
     host: &mut Host<'_, G>,
     side: Side,

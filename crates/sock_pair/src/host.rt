@@ -93,7 +93,7 @@ impl<'a> Host<'a> {
     }
 }
 
-impl<'a, G> Host<'a, G> {
+impl<'a, G: TsvalSource> Host<'a, G> {
     ghost use Rattle.sock_tcp.specs.Queues.{may_send};
     ghost use Rattle.sock_pair.specs.PairCalls.{listening, connecting, OpensAs, SendsIf, Receives, Closes, Aborts, Sets};
     ghost use Rattle.sock_pair.specs.PairSteps.{HostDispatches};

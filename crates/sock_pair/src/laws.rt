@@ -1,7 +1,7 @@
 //! What the case tables of a socket come to for the theorem on two streams, as laws: functions whose contracts are the
 //! laws and whose bodies are empty. What is proved of a pair stands on them, and looks into no case table of a socket
 //! itself. And what is promised of a pair.
-ghost use Rattle.std.specs.Prelude.{◌≡◌, ℕ, ◌<◌, ◌≤◌, ◌^◌, ◌++◌, List, length, min, take, drop, Option, Some, option_map};
+ghost use Rattle.std.specs.Prelude.{◌≡◌, ℕ, ◌<◌, ◌≤◌, ◌^◌, ◌++◌, List, length, min, take, drop, Option, Some, option_map, is_some, Bool};
 ghost use Rattle.ip_wire.specs.declared.endpoint.IpEndpoint.{IpEndpoint};
 ghost use Rattle.ip_wire.specs.declared.endpoint.IpListenEndpoint.{IpListenEndpoint};
 ghost use Rattle.ip_wire.specs.declared.repr.IpRepr.{IpRepr};
@@ -10,14 +10,14 @@ ghost use Rattle.control_wire.specs.Segment.{Segment};
 ghost use Rattle.sock_core.specs.Facts.{Facts};
 ghost use Rattle.sock_core.specs.Received.{room_of};
 ghost use Rattle.sock_tcp.specs.Queue.{IsLent};
-ghost use Rattle.sock_tcp.specs.View.{View, FinSays};
+ghost use Rattle.sock_tcp.specs.View.{View, FinSays, moment_of};
 ghost use Rattle.sock_tcp.specs.Opening.{listened, connected};
 ghost use Rattle.sock_tcp.specs.Queues.{queued, read_off};
 ghost use Rattle.sock_pair.specs.Settings.{set_in};
 ghost use Rattle.sock_pair.specs.declared.setting.Setting.{Setting};
 ghost use Rattle.sock_tcp.specs.Process.{Accepts, processed};
-ghost use Rattle.sock_tcp.specs.Due.{flight, before_emit};
-ghost use Rattle.sock_tcp.specs.Content.{Sending, asked, content};
+ghost use Rattle.sock_tcp.specs.Begin.{before_emit};
+ghost use Rattle.sock_tcp.specs.Content.{Sending, asked, offset_of, content};
 ghost use Rattle.sock_tcp.specs.declared.tuple.Tuple.{Tuple};
 ghost use Rattle.sock_pair.specs.NetworkRuns.{Reaches, start, unopened};
 ghost use Rattle.sock_pair.specs.PairInvariant.{IsPair, IsSized};
@@ -47,18 +47,20 @@ pub fn process_heard()
         (option_map (λ r. stream_segment r released_then taken_then) (processed v now word ip s).reply) }
 {}
 
-/// What a dispatch does before it emits anything changes nothing that the streams see, or resets the socket, whose
-/// address is gone.
+/// What a dispatch does before it emits anything changes nothing that the streams see, moves SND.NXT back to SND.UNA
+/// for a retransmission, or ends the connection: the user timeout is over, TIME-WAIT is, or the socket's address is
+/// gone.
 pub fn begun_shows()
-    ensures { (v : View) (f : Facts) → IsBounded v → DispatchEffect (shown v) (shown (before_emit v f).view) }
+    ensures { (v : View) (f : Facts) (stamps : Bool) → IsBounded v
+        → DispatchEffect (shown v) (shown (before_emit v f stamps).view) }
 {}
 
-/// What a dispatch emits, with any bytes that the ring lent, may be emitted; and an emit that succeeds leaves what may
-/// be left.
+/// What a dispatch emits, with any timestamp and any bytes that the ring lent, may be emitted; and an emit that succeeds
+/// leaves what may be left.
 pub fn emission_plans()
-    ensures { (v : View) (released taken : ℕ) → IsBounded v → (t : Tuple) (f : Facts) (bytes : List ℕ)
-        → IsLent (asked v t f) (drop (flight v) v.tx_buffer.bytes) bytes
-        → (c : Sending) → content v t f bytes ≡ Some c → MayEmit v c released taken }
+    ensures { (v : View) (released taken : ℕ) → IsBounded v → (t : Tuple) (f : Facts) (stamp : Option ℕ)
+        (bytes : List ℕ) → IsLent (asked v t f (is_some stamp)) (drop (offset_of v) v.tx_buffer.bytes) bytes
+        → (c : Sending) → content v t f stamp bytes ≡ Some c → MayEmit v c (moment_of f) released taken }
 {}
 
 /// A socket that `listen` opened shows no more than that it listens.

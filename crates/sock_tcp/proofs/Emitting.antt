@@ -1,38 +1,47 @@
 -- From the one call of `emit` to what a dispatch does.
-use Rattle.std.proofs.Common.{◌≡◌, List, ℕ, Bool, Some, None, refl, subst, drop}
+use Rattle.std.proofs.Common.{◌≡◌, ◌∙◌, ap, List, ℕ, Bool, Option, Some, None, is_some, refl, subst, drop}
 use Rattle.std.specs.Prelude.{Result, Ok, is_ok, option_map}
 use Rattle.std.specs.Borrow.{MutBor}
-use Rattle.ip_wire.specs.declared.repr.IpRepr.{IpRepr}
+use Rattle.net_base.specs.declared.time.Instant.{Instant}
 use Rattle.control_wire.specs.Segment.{segment_of}
-use Rattle.control_wire.specs.declared.seq_number.TcpSeqNumber.{TcpSeqNumber}
-use Rattle.control_wire.specs.declared.tcp.TcpRepr.{TcpRepr}
 use Rattle.sock_core.specs.Emission.{Emits}
 use Rattle.sock_core.specs.Facts.{Facts}
+use Rattle.sock_tcp.specs.Begin.{Begun, before_emit}
+use Rattle.sock_tcp.specs.Content.{Sending, asked, offset_of, content}
+use Rattle.sock_tcp.specs.Dispatch.{EmitTcp, packet_in, EmitsDue, IsStamp, IsQuiet, EmitsTo, Dispatches}
+use Rattle.sock_tcp.specs.Outgoing.{sending_of, packet_of}
 use Rattle.sock_tcp.specs.Queue.{IsLent}
-use Rattle.sock_tcp.specs.View.{View}
-use Rattle.sock_tcp.specs.Due.{Begun, before_emit, flight}
-use Rattle.sock_tcp.specs.Content.{asked, content}
-use Rattle.sock_tcp.specs.Outgoing.{sending_of}
-use Rattle.sock_tcp.specs.Dispatch.{end_of, after_emit, left_by, EmitTcp, EmitsDue, EmitsTo, Dispatches}
+use Rattle.sock_tcp.specs.Sent.{emitted_as, after_emit, left_by}
+use Rattle.sock_tcp.specs.View.{View, moment_of}
+use Rattle.sock_tcp.specs.declared.content.Outgoing.{Outgoing}
+use Rattle.sock_tcp.specs.declared.emission.Emitted.{Emitted}
 use Rattle.sock_tcp.specs.declared.tuple.Tuple.{Tuple}
 
 module _ {F C E : Type 0} (g : EmitTcp F C E) (f : F) (facts : Facts) where
   -- emit was called, and answered r
-  pub emitted : (t : Tuple) (v : View) (bytes : List ℕ) (sent : IpRepr × TcpRepr) (end : TcpSeqNumber) (ok : Bool) (shown left : MutBor C) (r : Result (Unit {0}) E) (w : View) → IsLent (asked v t facts) (drop (flight v) v.tx_buffer.bytes) bytes → option_map sending_of (Some sent) ≡ content v t facts bytes → end ≡ end_of (segment_of sent.1) → ok ≡ is_ok r → w ≡ after_emit ok v end sent.1.ack_number sent.1.window_len → g.post f (shown, (sent, tt)) (r, (left, tt)) → EmitsDue g f facts t v shown.now r w left.now
-  emitted t v bytes sent end ok shown left r w lent e behind is h p =
+  pub emitted : (t : Tuple) (stamp : Option ℕ) (v : View) (bytes : List ℕ) (stamps : Bool) (o : Outgoing) (now : Instant) (e : Emitted) (ok : Bool) (shown left : MutBor C) (r : Result (Unit {0}) E) (w : View) → IsLent (asked v t facts stamps) (drop (offset_of v) v.tx_buffer.bytes) bytes → stamps ≡ is_some stamp → option_map sending_of (Some o) ≡ content v t facts stamp bytes → now.micros ≡ facts.now → e ≡ emitted_as o.kind (segment_of o.packet.1) → ok ≡ is_ok r → w ≡ after_emit ok v now e → g.post f (shown, (o.packet, tt)) (r, (left, tt)) → EmitsDue g f facts t stamp v shown.now r w left.now
+  emitted t stamp v bytes stamps o now e ok shown left r w lent some is moment kept answer h p =
+      let m : now ≡ moment_of facts = ap (λ x. record { micros = x }) moment in
+      let a : after_emit ok v now e ≡ after_emit (is_ok r) v (moment_of facts) (emitted_as o.kind (segment_of o.packet.1)) = (λ i. after_emit (answer i) v (m i) (kept i)) in
       record {
         bytes = bytes;
-        lent = lent;
-        emits = subst (λ x. Emits g sending_of f x shown.now r left.now) e (record { shown = shown; shows = refl; sent = sent; says = refl; left = left; met = p; leaves = refl });
-        view = subst (λ x. w ≡ left_by x v (is_ok r)) e (subst (λ b. w ≡ after_emit b v (end_of (segment_of sent.1)) sent.1.ack_number sent.1.window_len) is (subst (λ n. w ≡ after_emit ok v n sent.1.ack_number sent.1.window_len) behind h));
+        lent = subst (λ b. IsLent (asked v t facts b) (drop (offset_of v) v.tx_buffer.bytes) bytes) some lent;
+        emits = subst (λ (x : Option Sending). Emits g packet_of f (option_map packet_in x) shown.now r left.now) is (record { shown = shown; shows = refl; sent = o.packet; says = refl; left = left; met = p; leaves = refl });
+        view = subst (λ x. w ≡ left_by x v (moment_of facts) (is_ok r)) is (h ∙ a);
       }
 
-  -- nobody to emit to
-  pub quiet : (u : View) (c : C) (v : View) → record { view = v; peer = None } ≡ before_emit u facts → Dispatches g f facts u c (Ok tt) v c
-  unfolding Dispatches
-  quiet u c v e = subst (λ (b : Begun). EmitsTo g f facts b.peer b.view c (Ok tt) v c) e (record { answer = refl; context = refl; view = refl })
+  module _ {G : Type 0} (tells : G → ℕ → Type 0) (clock : Option G) where
+    -- nobody to emit to
+    pub quiet : (u : View) (c : C) (v : View) → record { view = v; peer = None } ≡ before_emit u facts (is_some clock) → Dispatches g f facts tells clock u c (Ok tt) v c
+    unfolding Dispatches
+    quiet u c v e = subst (λ (b : Begun). EmitsTo g f facts tells clock b.peer b.view c (Ok tt) v c) e (record { answer = refl; context = refl; view = refl })
 
-  -- somebody to emit to
-  pub due : (u : View) (c c' : C) (v : View) (t : Tuple) (r : Result (Unit {0}) E) (w : View) → record { view = v; peer = Some t } ≡ before_emit u facts → EmitsDue g f facts t v c r w c' → Dispatches g f facts u c r w c'
-  unfolding Dispatches
-  due u c c' v t r w e h = subst (λ (b : Begun). EmitsTo g f facts b.peer b.view c r w c') e h
+    -- somebody to emit to
+    pub due : (u : View) (c c' : C) (v : View) (t : Tuple) (stamp : Option ℕ) (r : Result (Unit {0}) E) (w : View) → record { view = v; peer = Some t } ≡ before_emit u facts (is_some clock) → IsStamp tells clock stamp → EmitsDue g f facts t stamp v c r w c' → Dispatches g f facts tells clock u c r w c'
+    unfolding Dispatches
+    due u c c' v t stamp r w e told h = subst (λ (b : Begun). EmitsTo g f facts tells clock b.peer b.view c r w c') e (record { stamp = stamp; told = told; emits = h })
+
+    -- a dispatch with nobody to emit to
+    pub is_quiet : (u : View) (c c' : C) (r : Result (Unit {0}) E) (w : View) → (before_emit u facts (is_some clock)).peer ≡ None → Dispatches g f facts tells clock u c r w c' → IsQuiet (before_emit u facts (is_some clock)).view c r w c'
+    unfolding Dispatches
+    is_quiet u c c' r w e h = subst (λ o. EmitsTo g f facts tells clock o (before_emit u facts (is_some clock)).view c r w c') e h

@@ -1,42 +1,66 @@
 -- What a dispatch emits.
-use Rattle.std.specs.Prelude.{ℕ, ◌+◌, ◌-◌, ◌/◌, ◌^◌, List, [], ◌∷◌, length, min, Option, Some, None, Bool, true, false, not, ◌&&◌, ◌==◌, if◌then◌else◌, option_map}
+use Rattle.std.specs.Prelude.{ℕ, ◌+◌, ◌-◌, List, [], ◌∷◌, length, min, Option, Some, None, Bool, true, false, not, ◌&&◌, ◌==◌, if◌then◌else◌, option_map}
 use Rattle.ip_wire.specs.IpHeader.{ip_header}
 use Rattle.ip_wire.specs.declared.protocol.IpProtocol.TheVariants as protocol
 use Rattle.ip_wire.specs.declared.repr.IpRepr.{IpRepr}
-use Rattle.control_wire.specs.Segment.{Segment, segment_header_len}
+use Rattle.net_base.specs.declared.time.Instant.{Instant}
+use Rattle.control_wire.specs.Segment.{Segment, segment_header_len, is_empty_segment}
+use Rattle.control_wire.specs.Seq.{seq_minus}
 use Rattle.control_wire.specs.declared.tcp.TcpControl.{TcpControl}
 use Rattle.control_wire.specs.declared.tcp.TcpControl.TheVariants as control
+use Rattle.control_wire.specs.declared.tcp.TcpTimestampRepr.{TcpTimestampRepr}
 use Rattle.sock_core.specs.Facts.{Facts}
-use Rattle.sock_tcp.specs.View.{View}
+use Rattle.sock_tcp.specs.Due.{is_closing, own_mss, effective_mss, flight, congestion_left}
+use Rattle.sock_tcp.specs.Timers.{is_keep_alive_over, is_probe_over}
+use Rattle.sock_tcp.specs.View.{View, moment_of}
 use Rattle.sock_tcp.specs.Window.{next_ack}
-use Rattle.sock_tcp.specs.Due.{own_mss, effective_mss, flight}
+use Rattle.sock_tcp.specs.declared.emission.Kind.{Kind}
+use Rattle.sock_tcp.specs.declared.emission.Kind.TheVariants as kind
 use Rattle.sock_tcp.specs.declared.state.State.{State}
 use Rattle.sock_tcp.specs.declared.state.State.TheVariants as state
 use Rattle.sock_tcp.specs.declared.tuple.Tuple.{Tuple}
+pub use Rattle.sock_tcp.specs.Due.{window_field}
 
 -- ---- the payload
 
 abbrev pub carries_data : State → Bool
 carries_data state.Established = true
 carries_data state.CloseWait = true
-carries_data _ = false
+carries_data st = is_closing st
 
 -- what the peer's window leaves behind SND.NXT
 abbrev pub window_left : View → ℕ
 window_left v = v.remote_win_len - flight v
 
--- how much of the transmit queue, from the flight on, is asked of the ring
-unfoldable pub asked : View → Tuple → Facts → ℕ
-asked v t f = if carries_data v.state then min (window_left v) (effective_mss v t f) else 0
+-- a byte goes into a window that leaves nothing (RFC 9293, section 3.8.6.1)
+abbrev pub is_probing : View → Instant → Bool
+is_probing v now =
+    carries_data v.state && not v.pending_fast_retransmit && (window_left v == 0) && is_probe_over v.timer now
+
+-- a fast retransmission keeps to neither window, a probe is one byte, and other data keeps to both windows
+abbrev pub size_of : View → Tuple → Facts → Bool → ℕ
+size_of v t f stamps =
+    if v.pending_fast_retransmit then effective_mss v t f stamps
+    else (if is_probing v (moment_of f) then min 1 (effective_mss v t f stamps)
+    else min (min (window_left v) (effective_mss v t f stamps)) (congestion_left v))
+
+-- where in the transmit queue the payload begins: at SND.UNA in a fast retransmission, else at SND.NXT
+abbrev pub offset_of : View → ℕ
+offset_of v = if v.pending_fast_retransmit then 0 else flight v
+
+-- how much of the transmit queue, from there on, is asked of the ring
+unfoldable pub asked : View → Tuple → Facts → Bool → ℕ
+asked v t f stamps = if carries_data v.state then size_of v t f stamps else 0
 
 -- ---- the segment, with the payload that the ring lent
 
--- the window field of every segment but a SYN
-abbrev pub window_field : View → ℕ
-window_field v = min (length v.rx_buffer.held / 2 ^ v.remote_win_shift) 65535
+-- the own clock's value, and the last one that the peer sent (RFC 7323, section 3.2)
+abbrev pub timestamp_of : Option ℕ → ℕ → Option TcpTimestampRepr
+timestamp_of None last = None
+timestamp_of (Some tsval) last = Some (record { tsval = tsval; tsecr = last })
 
-unfoldable pub plain_segment : View → Tuple → Segment
-plain_segment v t =
+unfoldable pub plain_segment : View → Tuple → Option ℕ → Segment
+plain_segment v t stamp =
     record {
       src_port = t.local.port;
       dst_port = t.remote.port;
@@ -48,7 +72,7 @@ plain_segment v t =
       max_seg_size = None;
       sack_permitted = false;
       sack_ranges = None ∷ None ∷ None ∷ [];
-      timestamp = None;
+      timestamp = timestamp_of stamp v.last_remote_tsval;
       payload = [];
     }
 
@@ -67,13 +91,20 @@ abbrev pub scale_back : Option ℕ → ℕ → Option ℕ
 scale_back None shift = None
 scale_back (Some n) shift = Some shift
 
--- PSH where the payload ends the queue
+-- FIN behind the end of the queue, where the socket was closed; PSH where the payload ends the queue
 abbrev pub data_control : View → ℕ → TcpControl
 data_control v n =
-    if not (n == 0) && (flight v + n == length v.tx_buffer.bytes) then control.Psh else control.None
+    if offset_of v + n == length v.tx_buffer.bytes
+    then (if is_closing v.state then control.Fin else (if n == 0 then control.None else control.Psh))
+    else control.None
 
 abbrev pub with_data : View → List ℕ → Segment → Segment
-with_data v bytes s = record s { control = data_control v (length bytes); payload = bytes }
+with_data v bytes s =
+    record s {
+      seq_number = if v.pending_fast_retransmit then v.local_seq_no else v.remote_last_seq;
+      control = data_control v (length bytes);
+      payload = bytes;
+    }
 
 abbrev pub syn : View → Tuple → Facts → Segment → Segment
 syn v t f s =
@@ -88,24 +119,46 @@ syn_ack v t f s =
 
 -- by state
 abbrev pub filled : State → View → Tuple → Facts → List ℕ → Segment → Option Segment
+filled state.Closed v t f bytes s = Some (record s { control = control.Rst })
+filled state.Listen v t f bytes s = None
 filled state.SynSent v t f bytes s = Some (syn v t f s)
 filled state.SynReceived v t f bytes s = Some (syn_ack v t f s)
-filled state.Established v t f bytes s = Some (with_data v bytes s)
-filled state.CloseWait v t f bytes s = Some (with_data v bytes s)
-filled _ v t f bytes s = None
+filled state.FinWait2 v t f bytes s = Some s
+filled state.TimeWait v t f bytes s = Some s
+filled _ v t f bytes s = Some (with_data v bytes s)
+
+-- ---- probes and keep-alives
+
+abbrev pub kind_of : View → Instant → Segment → Kind
+kind_of v now s =
+    if is_probing v now then kind.Probe
+    else (if is_keep_alive_over v.timer now && is_empty_segment s then kind.KeepAlive else kind.Plain)
+
+-- a keep-alive is one zero byte before SND.UNA (RFC 1122, section 4.2.3.6)
+abbrev pub of_kind : Kind → View → Segment → Segment
+of_kind kind.KeepAlive v s = record s { seq_number = seq_minus v.local_seq_no 1; payload = 0 ∷ [] }
+of_kind _ v s = s
 
 -- ---- the whole
+
+-- 64, where the user sets none
+abbrev pub hop_limit_of : Option ℕ → ℕ
+hop_limit_of None = 64
+hop_limit_of (Some n) = n
 
 -- what goes out
 pub record Sending : Type 0 where
   pub ip : IpRepr
   pub segment : Segment
+  pub kind : Kind
 
-abbrev pub ip_of : Tuple → Segment → IpRepr
-ip_of t s = ip_header t.local.addr t.remote.addr protocol.Tcp (segment_header_len s + length s.payload) 64
+abbrev pub ip_of : View → Tuple → Segment → IpRepr
+ip_of v t s =
+    ip_header t.local.addr t.remote.addr protocol.Tcp (segment_header_len s + length s.payload) (hop_limit_of v.hop_limit)
 
-abbrev pub sent_to : Tuple → Segment → Sending
-sent_to t s = record { ip = ip_of t s; segment = s }
+abbrev pub sent_as : View → Tuple → Kind → Segment → Sending
+sent_as v t k s = record { ip = ip_of v t (of_kind k v s); segment = of_kind k v s; kind = k }
 
-unfoldable pub content : View → Tuple → Facts → List ℕ → Option Sending
-content v t f bytes = option_map (sent_to t) (filled v.state v t f bytes (plain_segment v t))
+unfoldable pub content : View → Tuple → Facts → Option ℕ → List ℕ → Option Sending
+content v t f stamp bytes =
+    option_map (λ s. sent_as v t (kind_of v (moment_of f) s) s) (filled v.state v t f bytes (plain_segment v t stamp))

@@ -1,46 +1,48 @@
--- How a dispatch begins, and whether it has anything to send.
-use Rattle.std.specs.Prelude.{ℕ, ◌-◌, length, min, Option, Some, None, Bool, true, false, not, ◌==◌, ◌&&◌, ◌||◌, if◌then◌else◌}
+-- Whether a dispatch has anything to send.
+use Rattle.std.specs.Prelude.{ℕ, ◌-◌, ◌*◌, ◌/◌, ◌^◌, nat_lt, nat_le, length, min, Option, Some, None, Bool, true, false, not, ◌==◌, ◌&&◌, ◌||◌, if◌then◌else◌}
 use Rattle.ip_wire.specs.declared.address.IpAddress.{IpAddress}
 use Rattle.ip_wire.specs.declared.address.IpAddress.TheVariants as address
-use Rattle.net_base.specs.declared.time.Instant.{Instant}
-use Rattle.control_wire.specs.Seq.{seq_sub}
+use Rattle.control_wire.specs.Seq.{seq_add, seq_sub, seq_eq}
 use Rattle.control_wire.specs.declared.seq_number.TcpSeqNumber.{TcpSeqNumber}
+use Rattle.sock_core.specs.Congestion.{congestion_window}
 use Rattle.sock_core.specs.Facts.{Facts}
 use Rattle.sock_core.specs.Seq.{is_before}
+use Rattle.sock_core.specs.declared.context.PollAt.{PollAt}
+use Rattle.sock_core.specs.declared.context.PollAt.TheVariants as poll
+use Rattle.sock_tcp.specs.Polls.{is_reached, delay_poll}
+use Rattle.sock_tcp.specs.Timers.{is_keep_alive_over, is_probe_over}
 use Rattle.sock_tcp.specs.View.{View, moment_of}
-use Rattle.sock_tcp.specs.Opening.{renewed}
 use Rattle.sock_tcp.specs.Window.{next_ack}
 use Rattle.sock_tcp.specs.declared.state.State.{State}
 use Rattle.sock_tcp.specs.declared.state.State.TheVariants as state
 use Rattle.sock_tcp.specs.declared.tuple.Tuple.{Tuple}
 
--- ---- the beginning
+-- ---- states
 
--- a socket after a part of a dispatch, and the peer where the dispatch goes on
-pub record Begun : Type 0 where
-  pub view : View
-  pub peer : Option Tuple
+abbrev pub is_opening : State → Bool
+is_opening state.SynSent = true
+is_opening state.SynReceived = true
+is_opening _ = false
 
-abbrev pub ended : View → Begun
-ended v = record { view = v; peer = None }
+-- a FIN is to be sent, or was sent and is not acknowledged
+abbrev pub is_closing : State → Bool
+is_closing state.FinWait1 = true
+is_closing state.Closing = true
+is_closing state.LastAck = true
+is_closing _ = false
 
-abbrev pub last_ts_set_at : Option Instant → View → Instant → View
-last_ts_set_at None v now = record v { remote_last_ts = Some now }
-last_ts_set_at (Some last) v now = v
+abbrev pub is_closed : State → Bool
+is_closed state.Closed = true
+is_closed _ = false
 
--- the moment of the last segment is now where it was forgotten
-unfoldable pub last_ts_set : View → Instant → View
-last_ts_set v now = last_ts_set_at v.remote_last_ts v now
-
--- no peer: nothing; the local address is gone: the socket is reset
-abbrev pub begun_to : Option Tuple → View → Facts → Begun
-begun_to None v f = ended v
-begun_to (Some t) v f =
-    if f.has_address t.local.addr then record { view = last_ts_set v (moment_of f); peer = Some t }
-    else ended (renewed v)
-
-unfoldable pub begun : View → Facts → Begun
-begun v f = begun_to v.tuple v f
+-- the peer is told of a larger window
+abbrev pub tells_window : State → Bool
+tells_window state.SynSent = true
+tells_window state.SynReceived = true
+tells_window state.Established = true
+tells_window state.FinWait1 = true
+tells_window state.FinWait2 = true
+tells_window _ = false
 
 -- ---- sizes
 
@@ -52,27 +54,41 @@ ip_header_len (address.Ipv6 a) = 40
 abbrev pub own_mss : Facts → Tuple → ℕ
 own_mss f t = f.mtu - ip_header_len t.local.addr - 20
 
-abbrev pub effective_mss : View → Tuple → Facts → ℕ
-effective_mss v t f = min (own_mss f t) v.remote_mss
+-- a timestamp option takes 12 octets of each segment
+abbrev pub timestamp_room : Bool → ℕ
+timestamp_room stamps = if stamps then 12 else 0
+
+-- how many bytes a segment carries; stamps: it has a timestamp
+abbrev pub effective_mss : View → Tuple → Facts → Bool → ℕ
+effective_mss v t f stamps = min (own_mss f t) v.remote_mss - timestamp_room stamps
 
 -- how much was sent and is not acknowledged
 abbrev pub flight : View → ℕ
 flight v = seq_sub v.remote_last_seq v.local_seq_no
 
--- what of the transmit queue may be sent behind SND.NXT
+-- what the congestion window leaves
+abbrev pub congestion_left : View → ℕ
+congestion_left v = congestion_window v.congestion_controller - flight v
+
+-- what of the transmit queue both windows let go out behind SND.NXT
 abbrev pub sendable : View → ℕ
-sendable v = min v.remote_win_len (length v.tx_buffer.bytes) - flight v
+sendable v = min (min v.remote_win_len (length v.tx_buffer.bytes) - flight v) (congestion_left v)
 
--- ---- the reasons
+-- ---- data, a SYN or a FIN
 
-abbrev pub is_opening : State → Bool
-is_opening state.SynSent = true
-is_opening state.SynReceived = true
-is_opening _ = false
+-- Nagle: while bytes are in flight, less than a full segment waits; nothing waits behind a close
+abbrev pub is_held_back : View → ℕ → Bool
+is_held_back v mss = v.nagle && not (flight v == 0) && nat_lt (sendable v) mss && not (is_closing v.state)
 
--- data or a SYN to send
-unfoldable pub data_due : View → Bool
-data_due v = (is_opening v.state && (flight v == 0)) || not (sendable v == 0)
+-- a fast retransmission, a SYN, data, or a FIN
+unfoldable pub data_due : View → Tuple → Facts → Bool → Bool
+data_due v t f stamps =
+    (v.pending_fast_retransmit && not (length v.tx_buffer.bytes == 0))
+    || (is_opening v.state && (flight v == 0))
+    || (not (sendable v == 0) && not (is_held_back v (effective_mss v t f stamps)))
+    || (is_closing v.state && seq_eq v.remote_last_seq (seq_add v.local_seq_no (length v.tx_buffer.bytes)))
+
+-- ---- an acknowledgement
 
 abbrev pub is_ack_after : Option TcpSeqNumber → TcpSeqNumber → Bool
 is_ack_after None next = false
@@ -82,13 +98,40 @@ is_ack_after (Some ack) next = is_before ack next
 unfoldable pub ack_due : View → Bool
 ack_due v = is_ack_after v.remote_last_ack (next_ack v)
 
-unfoldable pub is_due : View → Bool
-is_due v = data_due v || ack_due v
+-- from when on it goes out
+abbrev pub ack_poll : View → PollAt
+ack_poll v = if ack_due v then delay_poll v.ack_delay_timer else poll.Ingress
 
--- the beginning and the reasons: the socket before the emit, and the peer to whom the segment of the state goes
-abbrev pub before_emit_to : Option Tuple → View → Begun
-before_emit_to None v = ended v
-before_emit_to (Some t) v = record { view = v; peer = if is_due v then Some t else None }
+-- ---- a larger window
 
-unfoldable pub before_emit : View → Facts → Begun
-before_emit v f = before_emit_to (begun v f).peer (begun v f).view
+-- the window field of every segment but a SYN
+abbrev pub window_field : View → ℕ
+window_field v = min (length v.rx_buffer.held / 2 ^ v.remote_win_shift) 65535
+
+-- the window field that would tell what is left of the window sent last, up to this edge
+abbrev pub field_left : View → TcpSeqNumber → ℕ
+field_left v edge =
+    if is_before edge (next_ack v) then 0 else min (seq_sub edge (next_ack v) / 2 ^ v.remote_win_shift) 65535
+
+abbrev pub edge_sent : View → TcpSeqNumber → TcpSeqNumber
+edge_sent v ack = seq_add ack (v.remote_last_win * 2 ^ v.remote_win_shift)
+
+abbrev pub is_doubled : View → Option TcpSeqNumber → Bool
+is_doubled v None = false
+is_doubled v (Some ack) = not (window_field v == 0) && nat_le (field_left v (edge_sent v ack)) (window_field v / 2)
+
+-- the window has at least doubled since it was sent
+unfoldable pub window_doubled : View → Bool
+window_doubled v = tells_window v.state && is_doubled v v.remote_last_ack
+
+-- ---- the reasons in their order
+
+-- data; an acknowledgement whose delay is over; a larger window; the RST of a closed socket; a keep-alive; a probe
+unfoldable pub is_due : View → Tuple → Facts → Bool → Bool
+is_due v t f stamps =
+    data_due v t f stamps
+    || is_reached (ack_poll v) (moment_of f)
+    || window_doubled v
+    || is_closed v.state
+    || is_keep_alive_over v.timer (moment_of f)
+    || is_probe_over v.timer (moment_of f)

@@ -1,5 +1,6 @@
 pub mod Queue
 pub mod Timers
+pub mod Polls
 pub mod View
 pub mod Same
 pub mod Opening
@@ -15,8 +16,11 @@ pub mod Steps
 pub mod Process
 pub mod Draw
 pub mod Due
+pub mod Begin
 pub mod Content
+pub mod Sent
 pub mod Dispatch
+pub mod Poll
 pub mod Texts
 pub mod Outgoing
 pub mod Laws

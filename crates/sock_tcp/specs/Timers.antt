@@ -1,5 +1,5 @@
 -- Moments and timers.
-use Rattle.std.specs.Prelude.{◌*◌, ◌≤◌, pos, ◌+ℤ◌, int_le, Option, Some, None, Bool, true, false}
+use Rattle.std.specs.Prelude.{◌*◌, ◌≤◌, min, pos, ◌+ℤ◌, int_le, Option, Some, None, Bool, true, false}
 use Rattle.std.specs.Option.{ForSome}
 use Rattle.net_base.specs.declared.time.Duration.{Duration}
 use Rattle.net_base.specs.declared.time.Instant.{Instant}
@@ -56,6 +56,47 @@ close_from now = timer.Close (after now close_delay)
 abbrev pub is_idle : Timer → Bool
 is_idle (timer.Idle at) = true
 is_idle t = false
+
+-- ---- the moments that a dispatch asks for
+
+-- a keep-alive is to go out
+abbrev pub is_keep_alive_over : Timer → Instant → Bool
+is_keep_alive_over (timer.Idle (Some t)) now = is_over t now
+is_keep_alive_over _ now = false
+
+-- a window is to be probed for
+abbrev pub is_probe_over : Timer → Instant → Bool
+is_probe_over (timer.ZeroWindowProbe t delay) now = is_over t now
+is_probe_over _ now = false
+
+-- TIME-WAIT ends
+abbrev pub is_close_over : Timer → Instant → Bool
+is_close_over (timer.Close t) now = is_over t now
+is_close_over _ now = false
+
+-- ---- what an emit does to the timer
+
+-- the next keep-alive is one interval from now
+abbrev pub keep_alive_renewed : Timer → Instant → Option Duration → Timer
+keep_alive_renewed (timer.Idle at) now interval = idle_from now interval
+keep_alive_renewed t now interval = t
+
+-- twice as long, and at most the longest
+abbrev pub twice : Duration → Duration
+twice d = record { micros = min (d.micros * 2) longest_probe.micros }
+
+-- the next probe comes after twice the delay, from now
+abbrev pub probe_doubled : Timer → Instant → Timer
+probe_doubled (timer.ZeroWindowProbe t delay) now = timer.ZeroWindowProbe (after now (twice delay)) (twice delay)
+probe_doubled t now = t
+
+-- a segment that takes sequence numbers went out: where nothing is sent again yet, it will be. TIME-WAIT stays
+abbrev pub retransmit_unless_set : Timer → Instant → Estimator → Timer
+retransmit_unless_set (timer.Idle at) now e = retransmit_from now e
+retransmit_unless_set (timer.ZeroWindowProbe t delay) now e = retransmit_from now e
+retransmit_unless_set t now e = t
+
+-- ---- bounds
 
 -- probes are at most a minute apart
 abbrev pub IsTimer : Timer → Type 0

@@ -3,46 +3,95 @@ ghost use Rattle.std.specs.Prelude.{◌≡◌, ℕ, ◌≤◌, ◌<◌, ◌^◌,
 ghost use Rattle.ip_wire.specs.Address.{SameVersion};
 ghost use Rattle.control_wire.specs.Segment.{segment_of};
 ghost use Rattle.sock_tcp.specs.Queue.{IsLent};
-ghost use Rattle.sock_tcp.specs.Due.{flight};
-ghost use Rattle.sock_tcp.specs.Content.{carries_data, window_left, asked, window_field, plain_segment, filled, data_control, with_syn, syn, syn_ack, with_data, ip_of, content};
+ghost use Rattle.sock_tcp.specs.Due.{flight, window_field};
+ghost use Rattle.sock_tcp.specs.Content.{carries_data, window_left, is_probing, size_of, offset_of, asked};
+ghost use Rattle.sock_tcp.specs.Content.{timestamp_of, plain_segment, with_syn, syn, syn_ack, data_control, with_data};
+ghost use Rattle.sock_tcp.specs.Content.{filled, kind_of, of_kind, hop_limit_of, ip_of, content};
 ghost use Rattle.sock_tcp.specs.Outgoing.{sending_of};
 
 use crate::control_block::ControlBlock;
 use crate::due::own_mss;
+use crate::emission::Kind;
 use crate::state::State;
 use crate::tuple::Tuple;
-use control_wire::{TcpControl, TcpRepr};
+use control_wire::{TcpControl, TcpRepr, TcpTimestampRepr};
 use ip_wire::{IpProtocol, IpRepr};
+use net_base::time::Instant;
 use sock_core::Context;
 
 const HOP_LIMIT: u8 = 64;
 
-impl<'a> ControlBlock<'a> {
-    fn carries_data(&self) -> bool
-        ensures { result ≡ carries_data self.now.state }
-    {
-        matches!(self.state, State::Established | State::CloseWait)
-    }
+// A segment that goes out.
+#[derive(Clone, Copy)]
+pub(crate) struct Outgoing<'s> {
+    pub kind: Kind,
+    pub packet: (IpRepr, TcpRepr<'s>),
+}
 
+impl State {
+    pub(crate) fn carries_data(self) -> bool
+        ensures { result ≡ carries_data self }
+    {
+        matches!(self, State::Established | State::CloseWait) || self.is_closing()
+    }
+}
+
+impl<'a> ControlBlock<'a> {
     fn window_left(&self) -> usize
         ensures { result ≡ window_left self.now }
     {
         self.remote_win_len.saturating_sub(self.flight())
     }
 
+    fn is_probing(&self, now: Instant) -> bool
+        ensures { result ≡ is_probing self.now now }
+    {
+        self.state.carries_data()
+            && !self.pending_fast_retransmit
+            && self.window_left() == 0
+            && self.timer.is_probe_over(now)
+    }
+
+    // How many bytes of the transmit queue are to go out.
+    fn size<C: Context>(&self, cx: &C, tuple: &Tuple, stamps: bool) -> usize
+        ensures value { result ≡ size_of self.now tuple.now (C.facts cx.now) stamps }
+        ensures small { result ≤ 65535 }
+    {
+        let mss = self.effective_mss(cx, tuple, stamps);
+        if self.pending_fast_retransmit {
+            mss
+        } else if self.is_probing(cx.now()) {
+            mss.min(1)
+        } else {
+            self.window_left().min(mss).min(self.congestion_left())
+        }
+    }
+
+    // Where in the transmit queue they begin.
+    fn offset(&self) -> usize
+        ensures value { result ≡ offset_of self.now }
+        ensures small { result < 2 ^ 32 }
+    {
+        if self.pending_fast_retransmit {
+            0
+        } else {
+            self.flight()
+        }
+    }
+
     // The bytes of the transmit queue that go out, as far as the ring lends them.
     #[tactic(auto, unfolding(crate::specs::Content::asked))]
-    pub(crate) fn payload<C: Context>(&self, cx: &C, tuple: &Tuple) -> &[u8]
-        ensures lent { IsLent (asked self.now tuple.now (C.facts cx.now))
-            (drop (flight self.now) self.now.tx_buffer.bytes) result.now }
+    pub(crate) fn payload<C: Context>(&self, cx: &C, tuple: &Tuple, stamps: bool) -> &[u8]
+        ensures lent { IsLent (asked self.now tuple.now (C.facts cx.now) stamps)
+            (drop (offset_of self.now) self.now.tx_buffer.bytes) result.now }
         ensures small { length result.now ≤ 65535 }
     {
-        let size = if self.carries_data() {
-            self.window_left().min(self.effective_mss(cx, tuple))
+        let size = if self.state.carries_data() {
+            self.size(cx, tuple, stamps)
         } else {
             0
         };
-        self.tx_buffer.get_allocated(self.flight(), size)
+        self.tx_buffer.get_allocated(self.offset(), size)
     }
 
     pub(crate) fn window_field(&self) -> u16
@@ -58,9 +107,19 @@ impl<'a> ControlBlock<'a> {
         self.rx_buffer.window().min(65535) as u16
     }
 
+    // The timestamp option with the own clock's value.
+    fn timestamp(&self, stamp: Option<u32>) -> Option<TcpTimestampRepr>
+        ensures { result ≡ timestamp_of stamp self.now.last_remote_tsval }
+    {
+        match stamp {
+            None => None,
+            Some(tsval) => Some(TcpTimestampRepr::new(tsval, self.last_remote_tsval)),
+        }
+    }
+
     #[tactic(auto, unfolding(crate::specs::Content::plain_segment))]
-    fn plain<'s>(&self, tuple: &Tuple) -> TcpRepr<'s>
-        ensures segment { segment_of result ≡ plain_segment self.now tuple.now }
+    fn plain<'s>(&self, tuple: &Tuple, stamp: Option<u32>) -> TcpRepr<'s>
+        ensures segment { segment_of result ≡ plain_segment self.now tuple.now stamp }
         ensures empty { length result.payload.now ≡ 0 }
     {
         TcpRepr {
@@ -74,7 +133,7 @@ impl<'a> ControlBlock<'a> {
             max_seg_size: None,
             sack_permitted: false,
             sack_ranges: [None, None, None],
-            timestamp: None,
+            timestamp: self.timestamp(stamp),
             payload: &[],
         }
     }
@@ -83,10 +142,14 @@ impl<'a> ControlBlock<'a> {
         requires { count ≤ 65535 }
         ensures { result ≡ data_control self.now count }
     {
-        if count != 0 && self.flight() + count == self.tx_buffer.len() {
-            TcpControl::Psh
-        } else {
+        if self.offset() + count != self.tx_buffer.len() {
             TcpControl::None
+        } else if self.state.is_closing() {
+            TcpControl::Fin
+        } else if count == 0 {
+            TcpControl::None
+        } else {
+            TcpControl::Psh
         }
     }
 
@@ -95,11 +158,16 @@ impl<'a> ControlBlock<'a> {
         ensures segment { segment_of result ≡ with_data self.now payload.now (segment_of plain.now) }
         ensures payload { length result.payload.now ≡ length payload.now }
     {
+        let seq_number = if self.pending_fast_retransmit {
+            self.local_seq_no
+        } else {
+            self.remote_last_seq
+        };
         TcpRepr {
             src_port: plain.src_port,
             dst_port: plain.dst_port,
             control: self.data_control(payload.len()),
-            seq_number: plain.seq_number,
+            seq_number,
             ack_number: plain.ack_number,
             window_len: plain.window_len,
             window_scale: plain.window_scale,
@@ -152,52 +220,121 @@ impl<'a> ControlBlock<'a> {
         &self,
         cx: &C,
         tuple: &Tuple,
+        stamp: Option<u32>,
         payload: &'s [u8],
     ) -> Option<TcpRepr<'s>>
         requires { length payload.now ≤ 65535 }
-        ensures segment { option_map segment_of result
-            ≡ filled self.now.state self.now tuple.now (C.facts cx.now) payload.now (plain_segment self.now tuple.now) }
+        ensures segment { option_map segment_of result ≡ filled self.now.state self.now tuple.now
+            (C.facts cx.now) payload.now (plain_segment self.now tuple.now stamp) }
         ensures small { IfSome result (λ r. length r.payload.now ≤ 65535) }
     {
-        let plain = self.plain(tuple);
+        let mut plain = self.plain(tuple, stamp);
         match self.state {
+            State::Closed => {
+                plain.control = TcpControl::Rst;
+                Some(plain)
+            }
+            State::Listen => None,
             State::SynSent => Some(self.syn(cx, tuple, &plain)),
             State::SynReceived => Some(self.syn_ack(cx, tuple, &plain)),
-            State::Established | State::CloseWait => Some(self.with_data(&plain, payload)),
-            _ => None,
+            State::FinWait2 | State::TimeWait => Some(plain),
+            _ => Some(self.with_data(&plain, payload)),
         }
     }
 
-    // The segment of the state, with this payload.
+    // What the segment is emitted for.
+    fn kind(&self, now: Instant, repr: &TcpRepr<'_>) -> Kind
+        ensures { result ≡ kind_of self.now now (segment_of repr.now) }
+    {
+        if self.is_probing(now) {
+            Kind::Probe
+        } else if self.timer.is_keep_alive_over(now) && repr.is_empty() {
+            Kind::KeepAlive
+        } else {
+            Kind::Plain
+        }
+    }
+
+    // One zero byte before SND.UNA.
+    fn keep_alive_of<'s>(&self, repr: &TcpRepr<'_>) -> TcpRepr<'s>
+        ensures segment { segment_of result ≡ of_kind Kind.KeepAlive self.now (segment_of repr.now) }
+        ensures payload { length result.payload.now ≡ 1 }
+    {
+        TcpRepr {
+            src_port: repr.src_port,
+            dst_port: repr.dst_port,
+            control: repr.control,
+            seq_number: self.local_seq_no.minus(1),
+            ack_number: repr.ack_number,
+            window_len: repr.window_len,
+            window_scale: repr.window_scale,
+            max_seg_size: repr.max_seg_size,
+            sack_permitted: repr.sack_permitted,
+            sack_ranges: repr.sack_ranges,
+            timestamp: repr.timestamp,
+            payload: &[0],
+        }
+    }
+
+    fn of_kind<'s>(&self, kind: Kind, repr: &TcpRepr<'s>) -> TcpRepr<'s>
+        requires { length repr.now.payload.now ≤ 65535 }
+        ensures segment { segment_of result ≡ of_kind kind self.now (segment_of repr.now) }
+        ensures small { length result.payload.now ≤ 65535 }
+    {
+        match kind {
+            Kind::KeepAlive => self.keep_alive_of(repr),
+            Kind::Plain | Kind::Probe => *repr,
+        }
+    }
+
+    fn hop_limit_or_default(&self) -> u8
+        ensures { result ≡ hop_limit_of self.now.hop_limit }
+    {
+        match self.hop_limit {
+            None => HOP_LIMIT,
+            Some(limit) => limit,
+        }
+    }
+
+    fn ip_header(&self, tuple: &Tuple, repr: &TcpRepr<'_>) -> IpRepr
+        requires small { length repr.now.payload.now ≤ 65535 }
+        requires versions { SameVersion tuple.now.local.addr tuple.now.remote.addr }
+        ensures { result ≡ ip_of self.now tuple.now (segment_of repr.now) }
+    {
+        IpRepr::new(
+            tuple.local.addr,
+            tuple.remote.addr,
+            IpProtocol::Tcp,
+            repr.buffer_len(),
+            self.hop_limit_or_default(),
+        )
+    }
+
+    // The segment of the state, with this payload and the own clock's value.
     #[tactic(auto, unfolding(crate::specs::Content::content))]
     pub(crate) fn content<'s, C: Context>(
         &self,
         cx: &C,
         tuple: &Tuple,
+        stamp: Option<u32>,
         payload: &'s [u8],
-    ) -> Option<(IpRepr, TcpRepr<'s>)>
+    ) -> Option<Outgoing<'s>>
         requires small { length payload.now ≤ 65535 }
         requires versions { SameVersion tuple.now.local.addr tuple.now.remote.addr }
-        ensures segment { option_map sending_of result ≡ content self.now tuple.now (C.facts cx.now) payload.now }
-        ensures small { IfSome result (λ r. length r.1.payload.now ≤ 65535) }
+        ensures segment { option_map sending_of result
+            ≡ content self.now tuple.now (C.facts cx.now) stamp payload.now }
+        ensures small { IfSome result (λ o. length o.packet.1.payload.now ≤ 65535) }
     {
-        match self.filled(cx, tuple, payload) {
-            None => None,
-            Some(repr) => Some((ip_header(tuple, &repr), repr)),
-        }
+        let filled = match self.filled(cx, tuple, stamp, payload) {
+            None => return None,
+            Some(filled) => filled,
+        };
+        let kind = self.kind(cx.now(), &filled);
+        let repr = self.of_kind(kind, &filled);
+        let ip_repr = self.ip_header(tuple, &repr);
+        Some(Outgoing {
+            kind,
+            packet: (ip_repr, repr),
+        })
     }
-}
-
-fn ip_header(tuple: &Tuple, repr: &TcpRepr<'_>) -> IpRepr
-    requires small { length repr.now.payload.now ≤ 65535 }
-    requires versions { SameVersion tuple.now.local.addr tuple.now.remote.addr }
-    ensures { result ≡ ip_of tuple.now (segment_of repr.now) }
-{
-    IpRepr::new(
-        tuple.local.addr,
-        tuple.remote.addr,
-        IpProtocol::Tcp,
-        repr.buffer_len(),
-        HOP_LIMIT,
-    )
 }

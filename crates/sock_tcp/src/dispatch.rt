@@ -1,73 +1,168 @@
 //! `dispatch` (RFC 9293, section 3.8).
-ghost use Rattle.std.specs.Prelude.{◌≡◌, ◌≤◌, ◌<◌, ◌^◌, length};
+ghost use Rattle.std.specs.Prelude.{◌≡◌, ◌≤◌, ◌<◌, ◌^◌, length, is_some};
 ghost use Rattle.control_wire.specs.Segment.{segment_of};
 ghost use Rattle.ip_wire.specs.Address.{SameVersion};
-ghost use Rattle.sock_tcp.specs.Dispatch.{sent, after_emit, end_of, EmitsDue, Dispatches};
+ghost use Rattle.sock_core.specs.Bounds.{IsMoment};
+ghost use Rattle.sock_tcp.specs.Sent.{emitted_as, after_any, after_probe, snd_nxt_moved, sending_timed};
+ghost use Rattle.sock_tcp.specs.Sent.{after_sending, after_emit};
+ghost use Rattle.sock_tcp.specs.Dispatch.{EmitsDue, Dispatches};
 
+use crate::content::Outgoing;
 use crate::control_block::ControlBlock;
+use crate::emission::{Emitted, Kind};
+use crate::generator::TsvalSource;
+use crate::socket::Socket;
+use crate::timer::AckDelayTimer;
 use crate::tuple::Tuple;
-use control_wire::{TcpRepr, TcpSeqNumber};
+use control_wire::TcpRepr;
 use ip_wire::IpRepr;
+use net_base::time::Instant;
 use sock_core::Context;
+use sock_core::congestion::Controller;
 use sock_core::seq::later;
 
-// The number behind a segment.
-fn end_of(repr: &TcpRepr<'_>) -> TcpSeqNumber
-    requires { length repr.now.payload.now ≤ 65535 }
-    ensures { result ≡ end_of (segment_of repr.now) }
-{
-    repr.seq_number.plus(repr.segment_len())
+impl<'s> Outgoing<'s> {
+    fn emitted(&self) -> Emitted
+        requires { length self.now.packet.1.payload.now ≤ 65535 }
+        ensures { result ≡ emitted_as self.now.kind (segment_of self.now.packet.1) }
+    {
+        let repr = &self.packet.1;
+        let len = repr.segment_len();
+        Emitted {
+            kind: self.kind,
+            len,
+            end: repr.seq_number.plus(len),
+            ack_number: repr.ack_number,
+            window_len: repr.window_len,
+        }
+    }
 }
 
 impl<'a> ControlBlock<'a> {
+    // What any segment changes.
+    #[tactic(auto, unfolding(crate::specs::Sent::after_any))]
+    fn after_any(&mut self, now: Instant)
+        requires { IsMoment now.micros }
+        ensures { self.new ≡ after_any self.old now }
+    {
+        self.timer = self.timer.keep_alive_renewed(now, self.keep_alive);
+        self.ack_delay_timer = AckDelayTimer::Idle;
+        self.pending_fast_retransmit = self.pending_fast_retransmit && !self.state.carries_data();
+    }
+
+    #[tactic(auto, unfolding(crate::specs::Sent::after_probe))]
+    fn after_probe(&mut self, now: Instant)
+        requires { IsMoment now.micros }
+        ensures { self.new ≡ after_probe self.old now }
+    {
+        self.timer = self.timer.probe_doubled(now);
+    }
+
+    #[tactic(auto, unfolding(crate::specs::Sent::snd_nxt_moved))]
+    fn move_snd_nxt(&mut self, emitted: Emitted)
+        ensures { self.new ≡ snd_nxt_moved self.old emitted }
+    {
+        self.remote_last_seq = later(self.remote_last_seq, emitted.end);
+        self.remote_last_ack = emitted.ack_number;
+        self.remote_last_win = emitted.window_len;
+        if self.state.is_closed() {
+            self.tuple = None;
+        }
+    }
+
+    // What takes sequence numbers is timed, and waited for.
+    #[tactic(auto, unfolding(crate::specs::Sent::sending_timed))]
+    fn time_sending(&mut self, now: Instant, emitted: Emitted)
+        requires { IsMoment now.micros }
+        ensures { self.new ≡ sending_timed self.old now emitted }
+    {
+        if emitted.len == 0 {
+            return;
+        }
+        self.timer = self.timer.retransmit_unless_set(now, &self.rtte);
+        self.rtte.on_send(now, emitted.end);
+        self.congestion_controller.post_transmit(now, emitted.len);
+    }
+
+    #[tactic(auto, unfolding(crate::specs::Sent::after_sending))]
+    fn after_sending(&mut self, now: Instant, emitted: Emitted)
+        requires { IsMoment now.micros }
+        ensures { self.new ≡ after_sending self.old now emitted }
+    {
+        self.after_any(now);
+        match emitted.kind {
+            Kind::Plain => {
+                self.move_snd_nxt(emitted);
+                self.time_sending(now, emitted);
+            }
+            Kind::Probe => self.after_probe(now),
+            Kind::KeepAlive => {}
+        }
+    }
+
     // What an emit leaves: where it failed, the socket is as it was.
-    #[tactic(auto, unfolding(crate::specs::Dispatch::sent))]
-    fn after_emit(&mut self, ok: bool, end: TcpSeqNumber, ack: Option<TcpSeqNumber>, window: u16)
-        ensures { self.new ≡ after_emit ok self.old end ack window }
+    fn after_emit(&mut self, ok: bool, now: Instant, emitted: Emitted)
+        requires { IsMoment now.micros }
+        ensures { self.new ≡ after_emit ok self.old now emitted }
     {
         if ok {
-            self.remote_last_seq = later(self.remote_last_seq, end);
-            self.remote_last_ack = ack;
-            self.remote_last_win = window;
+            self.after_sending(now, emitted);
         }
     }
 
     // The one call of `emit`, if the state emits at all.
-    fn emit_due<C: Context, E, F: FnOnce(&mut C, (IpRepr, TcpRepr<'_>)) -> Result<(), E>>(
-        &mut self,
-        cx: &mut C,
-        tuple: &Tuple,
-        emit: F,
-    ) -> Result<(), E>
-        requires callable { F.IsAlwaysCallable emit }
-        requires versions { SameVersion tuple.now.local.addr tuple.now.remote.addr }
-        ensures { EmitsDue F.FnOnce emit (C.facts cx.old) tuple.now self.old cx.old result self.new cx.new }
-    {
-        let payload = self.payload(cx, tuple);
-        let outgoing = match self.content(cx, tuple, payload) {
-            None => return Ok(()),
-            Some(outgoing) => outgoing,
-        };
-        let end = end_of(&outgoing.1);
-        let ack = outgoing.1.ack_number;
-        let window = outgoing.1.window_len;
-        let result = emit(cx, outgoing);
-        self.after_emit(result.is_ok(), end, ack, window);
-        result
-    }
-
-    #[tactic(auto, using(crate::proofs::Emitting::quiet))]
-    pub(crate) fn dispatch<
+    pub(crate) fn emit_due<
         C: Context,
         E,
         F: FnOnce(&mut C, (IpRepr, TcpRepr<'_>)) -> Result<(), E>,
-    >(&mut self, cx: &mut C, emit: F) -> Result<(), E>
+    >(&mut self, cx: &mut C, tuple: &Tuple, stamp: Option<u32>, emit: F) -> Result<(), E>
         requires callable { F.IsAlwaysCallable emit }
-        ensures { Dispatches F.FnOnce emit (C.facts cx.old) self.old cx.old result self.new cx.new }
+        requires versions { SameVersion tuple.now.local.addr tuple.now.remote.addr }
+        ensures { EmitsDue F.FnOnce emit (C.facts cx.old) tuple.now stamp self.old cx.old result self.new cx.new }
     {
-        match self.before_emit(cx) {
+        let now = cx.now();
+        let payload = self.payload(cx, tuple, stamp.is_some());
+        let outgoing = match self.content(cx, tuple, stamp, payload) {
+            None => return Ok(()),
+            Some(outgoing) => outgoing,
+        };
+        let emitted = outgoing.emitted();
+        let result = emit(cx, outgoing.packet);
+        self.after_emit(result.is_ok(), now, emitted);
+        result
+    }
+}
+
+impl<'a, G: TsvalSource> Socket<'a, G> {
+    /// Emits at most one segment: calls `emit` once with it, or does not call it where nothing is due. The source of
+    /// timestamps is asked where a segment goes out.
+    ///
+    /// First what the moments that have passed ask for: with the local address gone, the socket is reset; the user
+    /// timeout closes it; the retransmission timer lets all behind SND.UNA go out again. The reasons to emit are, in
+    /// this order: data, a SYN or a FIN; an acknowledgement whose delay is over; a window that has doubled; the RST of
+    /// a closed socket; a keep-alive; a probe. Without one, TIME-WAIT may end.
+    ///
+    /// The error that `emit` answers is passed on; the socket then stands as it did before the emit, and the next
+    /// `dispatch` offers the segment again.
+    pub fn dispatch<C: Context, E, F: FnOnce(&mut C, (IpRepr, TcpRepr<'_>)) -> Result<(), E>>(
+        &mut self,
+        cx: &mut C,
+        emit: F,
+    ) -> Result<(), E>
+        requires callable { F.IsAlwaysCallable emit }
+        ensures table { Dispatches F.FnOnce emit (C.facts cx.old) G.tells self.old.tsval_generator
+            self.old.control_block cx.old result self.new.control_block cx.new }
+        ensures generator { self.new.tsval_generator ≡ self.old.tsval_generator }
+    {
+        match self
+            .control_block
+            .before_emit(cx, self.tsval_generator.is_some())
+        {
             None => Ok(()),
-            Some(tuple) => self.emit_due(cx, &tuple, emit),
+            Some(tuple) => {
+                let stamp = self.tsval();
+                self.control_block.emit_due(cx, &tuple, stamp, emit)
+            }
         }
     }
 }

@@ -1,17 +1,56 @@
-//! How a dispatch begins, and whether it has anything to send (RFC 9293, section 3.8).
-ghost use Rattle.std.specs.Prelude.{◌≡◌, ◌≤◌, ◌<◌, ◌^◌, length};
-ghost use Rattle.std.specs.Option.{ForSome};
-ghost use Rattle.ip_wire.specs.Address.{SameVersion};
+//! Whether a dispatch has anything to send (RFC 9293, section 3.8).
+ghost use Rattle.std.specs.Prelude.{◌≡◌, ◌≤◌, ◌<◌, ◌^◌};
 ghost use Rattle.sock_core.specs.Bounds.{IsMoment};
-ghost use Rattle.sock_tcp.specs.Due.{begun, last_ts_set, own_mss, effective_mss, flight, sendable, is_opening, data_due, ack_due, is_due, before_emit};
+ghost use Rattle.sock_tcp.specs.View.{moment_of};
+ghost use Rattle.sock_tcp.specs.Due.{is_opening, is_closing, is_closed, tells_window, own_mss, effective_mss};
+ghost use Rattle.sock_tcp.specs.Due.{flight, congestion_left, sendable, is_held_back, data_due, ack_due, ack_poll};
+ghost use Rattle.sock_tcp.specs.Due.{edge_sent, field_left, is_doubled, window_doubled, is_due};
 
 use crate::control_block::ControlBlock;
+use crate::poll::is_reached;
 use crate::state::State;
 use crate::tuple::Tuple;
+use control_wire::TcpSeqNumber;
 use ip_wire::IpAddress;
-use net_base::time::Instant;
-use sock_core::Context;
+use sock_core::congestion::Controller;
 use sock_core::seq::before;
+use sock_core::{Context, PollAt};
+
+// How much of each segment a timestamp takes.
+const TIMESTAMP_ROOM: usize = 12;
+
+impl State {
+    fn is_opening(self) -> bool
+        ensures { result ≡ is_opening self }
+    {
+        matches!(self, State::SynSent | State::SynReceived)
+    }
+
+    pub(crate) fn is_closing(self) -> bool
+        ensures { result ≡ is_closing self }
+    {
+        matches!(self, State::FinWait1 | State::Closing | State::LastAck)
+    }
+
+    pub(crate) fn is_closed(self) -> bool
+        ensures { result ≡ is_closed self }
+    {
+        matches!(self, State::Closed)
+    }
+
+    fn tells_window(self) -> bool
+        ensures { result ≡ tells_window self }
+    {
+        matches!(
+            self,
+            State::SynSent
+                | State::SynReceived
+                | State::Established
+                | State::FinWait1
+                | State::FinWait2
+        )
+    }
+}
 
 // The MSS that this side may receive (RFC 6691).
 pub(crate) fn own_mss<C: Context>(cx: &C, tuple: &Tuple) -> usize
@@ -26,11 +65,12 @@ pub(crate) fn own_mss<C: Context>(cx: &C, tuple: &Tuple) -> usize
 }
 
 impl<'a> ControlBlock<'a> {
-    pub(crate) fn effective_mss<C: Context>(&self, cx: &C, tuple: &Tuple) -> usize
-        ensures value { result ≡ effective_mss self.now tuple.now (C.facts cx.now) }
+    pub(crate) fn effective_mss<C: Context>(&self, cx: &C, tuple: &Tuple, stamps: bool) -> usize
+        ensures value { result ≡ effective_mss self.now tuple.now (C.facts cx.now) stamps }
         ensures small { result ≤ 65535 }
     {
-        own_mss(cx, tuple).min(self.remote_mss)
+        let room = if stamps { TIMESTAMP_ROOM } else { 0 };
+        own_mss(cx, tuple).min(self.remote_mss).saturating_sub(room)
     }
 
     // How much was sent and is not acknowledged.
@@ -41,25 +81,43 @@ impl<'a> ControlBlock<'a> {
         self.remote_last_seq.since(self.local_seq_no)
     }
 
+    // What the congestion window leaves.
+    pub(crate) fn congestion_left(&self) -> usize
+        ensures { result ≡ congestion_left self.now }
+    {
+        self.congestion_controller
+            .window()
+            .saturating_sub(self.flight())
+    }
+
+    // What of the transmit queue both windows let go out.
     fn sendable(&self) -> usize
         ensures { result ≡ sendable self.now }
     {
         self.remote_win_len
             .min(self.tx_buffer.len())
             .saturating_sub(self.flight())
+            .min(self.congestion_left())
     }
 
-    fn is_opening(&self) -> bool
-        ensures { result ≡ is_opening self.now.state }
+    // Nagle: a small segment waits while bytes are in flight (RFC 9293, section 3.7.4).
+    fn is_held_back(&self, mss: usize) -> bool
+        ensures { result ≡ is_held_back self.now mss }
     {
-        matches!(self.state, State::SynSent | State::SynReceived)
+        self.nagle && self.flight() != 0 && self.sendable() < mss && !self.state.is_closing()
     }
 
     #[tactic(auto, unfolding(crate::specs::Due::data_due))]
-    fn data_due(&self) -> bool
-        ensures { result ≡ data_due self.now }
+    pub(crate) fn data_due<C: Context>(&self, cx: &C, tuple: &Tuple, stamps: bool) -> bool
+        ensures { result ≡ data_due self.now tuple.now (C.facts cx.now) stamps }
     {
-        self.is_opening() && self.flight() == 0 || self.sendable() != 0
+        let marked = self.pending_fast_retransmit && self.tx_buffer.len() != 0;
+        let syn = self.state.is_opening() && self.flight() == 0;
+        let some = self.sendable() != 0
+            && !self.is_held_back(self.effective_mss(cx, tuple, stamps));
+        let end = self.local_seq_no.plus(self.tx_buffer.len());
+        let fin = self.state.is_closing() && self.remote_last_seq == end;
+        marked || syn || some || fin
     }
 
     #[tactic(auto, unfolding(crate::specs::Due::ack_due))]
@@ -72,50 +130,60 @@ impl<'a> ControlBlock<'a> {
         }
     }
 
-    #[tactic(auto, unfolding(crate::specs::Due::is_due))]
-    fn is_due(&self) -> bool
-        ensures { result ≡ is_due self.now }
+    // From when on an acknowledgement goes out.
+    pub(crate) fn ack_poll(&self) -> PollAt
+        ensures { result ≡ ack_poll self.now }
     {
-        self.data_due() || self.ack_due()
-    }
-
-    #[tactic(auto, unfolding(crate::specs::Due::last_ts_set))]
-    fn set_last_ts(&mut self, now: Instant)
-        requires { IsMoment now.micros }
-        ensures { self.new ≡ last_ts_set self.old now }
-    {
-        if self.remote_last_ts.is_none() {
-            self.remote_last_ts = Some(now);
+        if self.ack_due() {
+            self.ack_delay_timer.poll_at()
+        } else {
+            PollAt::Ingress
         }
     }
 
-    // What comes before the reasons: the peer, where the dispatch goes on.
-    #[tactic(auto, unfolding(crate::specs::Due::begun))]
-    fn begin<C: Context>(&mut self, cx: &C) -> Option<Tuple>
-        ensures table { record { view = self.new; peer = result } ≡ begun self.old (C.facts cx.now) }
-        ensures versions { ForSome result (λ t. SameVersion t.local.addr t.remote.addr) }
+    // The window field that would tell what is left of the window sent last, up to this edge.
+    fn field_left(&self, edge: TcpSeqNumber) -> usize
+        ensures { result ≡ field_left self.now edge }
     {
-        let tuple = match self.tuple {
-            None => return None,
-            Some(tuple) => tuple,
+        let next = self.next_ack();
+        if before(edge, next) {
+            0
+        } else {
+            (edge.since(next) >> self.remote_win_shift).min(65535)
+        }
+    }
+
+    fn is_doubled(&self) -> bool
+        ensures { result ≡ is_doubled self.now self.now.remote_last_ack }
+    {
+        let ack = match self.remote_last_ack {
+            None => return false,
+            Some(ack) => ack,
         };
-        if !cx.has_ip_addr(tuple.local.addr) {
-            self.reset();
-            return None;
-        }
-        self.set_last_ts(cx.now());
-        Some(tuple)
+        let edge = ack.plus((self.remote_last_win as usize) << self.remote_win_shift);
+        let field = self.window_field() as usize;
+        field != 0 && field / 2 >= self.field_left(edge)
     }
 
-    // The beginning and the reasons: the peer, where a segment goes out.
-    #[tactic(auto, unfolding(crate::specs::Due::before_emit))]
-    pub(crate) fn before_emit<C: Context>(&mut self, cx: &C) -> Option<Tuple>
-        ensures table { record { view = self.new; peer = result } ≡ before_emit self.old (C.facts cx.now) }
-        ensures versions { ForSome result (λ t. SameVersion t.local.addr t.remote.addr) }
+    // Whether the window has at least doubled since it was sent.
+    #[tactic(auto, unfolding(crate::specs::Due::window_doubled))]
+    pub(crate) fn window_doubled(&self) -> bool
+        ensures { result ≡ window_doubled self.now }
     {
-        match self.begin(cx) {
-            None => None,
-            Some(tuple) => if self.is_due() { Some(tuple) } else { None },
-        }
+        self.state.tells_window() && self.is_doubled()
+    }
+
+    // The reasons to send, in their order.
+    #[tactic(auto, unfolding(crate::specs::Due::is_due))]
+    pub(crate) fn is_due<C: Context>(&self, cx: &C, tuple: &Tuple, stamps: bool) -> bool
+        ensures { result ≡ is_due self.now tuple.now (C.facts cx.now) stamps }
+    {
+        let now = cx.now();
+        self.data_due(cx, tuple, stamps)
+            || is_reached(self.ack_poll(), now)
+            || self.window_doubled()
+            || self.state.is_closed()
+            || self.timer.is_keep_alive_over(now)
+            || self.timer.is_probe_over(now)
     }
 }

@@ -3,15 +3,18 @@
 
 pub mod acked;
 pub mod advance;
+mod begin;
 mod close;
 mod content;
 pub mod control_block;
 mod dispatch;
 mod due;
+pub mod emission;
 pub mod error;
 pub mod generator;
 pub mod laws;
 mod open;
+pub mod poll;
 mod process;
 mod queues;
 mod reply;

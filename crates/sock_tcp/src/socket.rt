@@ -10,7 +10,6 @@ ghost use Rattle.sock_tcp.specs.Queues.{may_send, can_send, may_recv, can_recv};
 ghost use Rattle.sock_tcp.specs.Queues.{written, Sends, SendsWith, Writes, Reads, ReadsWith, lent_bytes, Peeks, PeeksInto};
 ghost use Rattle.sock_tcp.specs.Process.{Accepts, Processes, generator_after};
 ghost use Rattle.sock_tcp.specs.Replies.{IsStamp};
-ghost use Rattle.sock_tcp.specs.Dispatch.{Dispatches};
 
 use crate::control_block::ControlBlock;
 use crate::error::{ConnectError, ListenError, RecvError, SendError};
@@ -270,23 +269,6 @@ impl<'a, G> Socket<'a, G> {
         ensures { IsTrue result ↔ Accepts self.now.control_block ip_repr.now (segment_of repr.now) }
     {
         self.control_block.accepts(ip_repr, repr)
-    }
-
-    /// Emits at most one segment: calls `emit` once with it, or does not call it where nothing is due.
-    ///
-    /// The error that `emit` answers is passed on; the socket then stands as it did before the emit, and the next
-    /// `dispatch` offers the segment again.
-    pub fn dispatch<C: Context, E, F: FnOnce(&mut C, (IpRepr, TcpRepr<'_>)) -> Result<(), E>>(
-        &mut self,
-        cx: &mut C,
-        emit: F,
-    ) -> Result<(), E>
-        requires callable { F.IsAlwaysCallable emit }
-        ensures table { Dispatches F.FnOnce emit (C.facts cx.old) self.old.control_block cx.old
-            result self.new.control_block cx.new }
-        ensures generator { self.new.tsval_generator ≡ self.old.tsval_generator }
-    {
-        self.control_block.dispatch(cx, emit)
     }
 }
 

@@ -3,8 +3,12 @@ ghost use Rattle.std.specs.Prelude.{◌≡◌, ◌≤◌, ◌^◌, Option};
 ghost use Rattle.sock_core.specs.Bounds.{IsMoment};
 ghost use Rattle.sock_tcp.specs.View.{IsShort};
 ghost use Rattle.sock_tcp.specs.Timers.{after, is_over, idle_from, retransmit_from, probe_from, close_from, is_idle, IsTimer};
+ghost use Rattle.sock_tcp.specs.Timers.{is_keep_alive_over, is_probe_over, is_close_over};
+ghost use Rattle.sock_tcp.specs.Timers.{keep_alive_renewed, twice, probe_doubled, retransmit_unless_set};
+ghost use Rattle.sock_tcp.specs.Polls.{timer_poll, delay_poll};
 
 use net_base::time::{Duration, Instant};
+use sock_core::PollAt;
 use sock_core::rtte::RttEstimator;
 
 // How long TIME-WAIT lasts, as smoltcp.
@@ -12,6 +16,9 @@ const CLOSE_DELAY: Duration = Duration { micros: 10_000_000 };
 
 // How long after a challenge ACK none goes out, as smoltcp.
 pub(crate) const CHALLENGE_INTERVAL: Duration = Duration { micros: 1_000_000 };
+
+// The longest time between two probes, as smoltcp.
+const LONGEST_PROBE: u64 = 60_000_000;
 
 // The moment so long after `now`.
 pub(crate) fn after(now: Instant, delay: Duration) -> Instant
@@ -109,6 +116,113 @@ impl Timer {
     {
         matches!(self, Timer::Idle { .. })
     }
+
+    // Whether a keep-alive is to go out.
+    pub(crate) fn is_keep_alive_over(self, now: Instant) -> bool
+        ensures { result ≡ is_keep_alive_over self now }
+    {
+        match self {
+            Timer::Idle {
+                keep_alive_at: Some(at),
+            } => is_over(at, now),
+            _ => false,
+        }
+    }
+
+    // Whether a window is to be probed for.
+    pub(crate) fn is_probe_over(self, now: Instant) -> bool
+        ensures { result ≡ is_probe_over self now }
+    {
+        match self {
+            Timer::ZeroWindowProbe { expires_at, .. } => is_over(expires_at, now),
+            _ => false,
+        }
+    }
+
+    // Whether TIME-WAIT ends.
+    pub(crate) fn is_close_over(self, now: Instant) -> bool
+        ensures { result ≡ is_close_over self now }
+    {
+        match self {
+            Timer::Close { expires_at } => is_over(expires_at, now),
+            _ => false,
+        }
+    }
+
+    // The next keep-alive is one interval from now.
+    pub(crate) fn keep_alive_renewed(self, now: Instant, interval: Option<Duration>) -> Timer
+        requires moment { IsMoment now.micros }
+        requires short { IsShort interval }
+        requires lawful { IsTimer self }
+        ensures value { result ≡ keep_alive_renewed self now interval }
+        ensures lawful { IsTimer result }
+    {
+        match self {
+            Timer::Idle { .. } => Timer::idle(now, interval),
+            _ => self,
+        }
+    }
+
+    // The next probe comes after twice the delay, from now.
+    pub(crate) fn probe_doubled(self, now: Instant) -> Timer
+        requires moment { IsMoment now.micros }
+        requires lawful { IsTimer self }
+        ensures value { result ≡ probe_doubled self now }
+        ensures lawful { IsTimer result }
+    {
+        match self {
+            Timer::ZeroWindowProbe { delay, .. } => {
+                let delay = twice(delay);
+                Timer::ZeroWindowProbe {
+                    expires_at: after(now, delay),
+                    delay,
+                }
+            }
+            _ => self,
+        }
+    }
+
+    // Sequence numbers went out, which are sent again where they are not acknowledged.
+    pub(crate) fn retransmit_unless_set(self, now: Instant, rtte: &RttEstimator) -> Timer
+        requires moment { IsMoment now.micros }
+        requires lawful { IsTimer self }
+        ensures value { result ≡ retransmit_unless_set self now rtte.now }
+        ensures lawful { IsTimer result }
+    {
+        match self {
+            Timer::Idle { .. } | Timer::ZeroWindowProbe { .. } => Timer::retransmit(now, rtte),
+            _ => self,
+        }
+    }
+
+    // What the timer waits for.
+    pub(crate) fn poll_at(self) -> PollAt
+        ensures { result ≡ timer_poll self }
+    {
+        match self {
+            Timer::Idle {
+                keep_alive_at: None,
+            } => PollAt::Ingress,
+            Timer::Idle {
+                keep_alive_at: Some(at),
+            } => PollAt::Time(at),
+            Timer::Retransmit { expires_at } => PollAt::Time(expires_at),
+            Timer::FastRetransmit => PollAt::Now,
+            Timer::ZeroWindowProbe { expires_at, .. } => PollAt::Time(expires_at),
+            Timer::Close { expires_at } => PollAt::Time(expires_at),
+        }
+    }
+}
+
+// Twice as long, and at most the longest time between probes.
+fn twice(delay: Duration) -> Duration
+    requires { delay.micros ≤ 60000000 }
+    ensures value { result ≡ twice delay }
+    ensures small { result.micros ≤ 60000000 }
+{
+    Duration {
+        micros: (delay.micros * 2).min(LONGEST_PROBE),
+    }
 }
 
 /// How long an acknowledgement may still wait for data to go with (RFC 9293, section 3.8.6.3).
@@ -120,4 +234,16 @@ pub enum AckDelayTimer {
     Waiting(Instant),
     /// One is due at once.
     Immediate,
+}
+
+impl AckDelayTimer {
+    // How long an acknowledgement that is due may wait.
+    pub(crate) fn poll_at(self) -> PollAt
+        ensures { result ≡ delay_poll self }
+    {
+        match self {
+            AckDelayTimer::Waiting(at) => PollAt::Time(at),
+            AckDelayTimer::Idle | AckDelayTimer::Immediate => PollAt::Now,
+        }
+    }
 }

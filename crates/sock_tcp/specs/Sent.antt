@@ -1,0 +1,75 @@
+-- What an emit that answered Ok changes.
+use Rattle.std.specs.Prelude.{Option, Some, None, Bool, true, false, not, ◌==◌, ◌&&◌, if◌then◌else◌}
+use Rattle.net_base.specs.declared.time.Instant.{Instant}
+use Rattle.control_wire.specs.Seq.{seq_add}
+use Rattle.control_wire.specs.Segment.{Segment, segment_len}
+use Rattle.sock_core.specs.Estimator.{sent}
+use Rattle.sock_core.specs.Seq.{later_of}
+use Rattle.sock_tcp.specs.Content.{carries_data, Sending}
+use Rattle.sock_tcp.specs.Due.{is_closed}
+use Rattle.sock_tcp.specs.Timers.{keep_alive_renewed, probe_doubled, retransmit_unless_set}
+use Rattle.sock_tcp.specs.View.{View}
+use Rattle.sock_tcp.specs.declared.emission.Kind.{Kind}
+use Rattle.sock_tcp.specs.declared.emission.Kind.TheVariants as kind
+use Rattle.sock_tcp.specs.declared.emission.Emitted.{Emitted}
+use Rattle.sock_tcp.specs.declared.timer.AckDelayTimer.TheVariants as ack_delay
+
+-- what is kept of a segment once it went out
+abbrev pub emitted_as : Kind → Segment → Emitted
+emitted_as k s =
+    record {
+      kind = k;
+      len = segment_len s;
+      end = seq_add s.seq_number (segment_len s);
+      ack_number = s.ack_number;
+      window_len = s.window_len;
+    }
+
+-- any segment: the next keep-alive moves, no acknowledgement waits, and a fast retransmission is done
+unfoldable pub after_any : View → Instant → View
+after_any v now =
+    record v {
+      timer = keep_alive_renewed v.timer now v.keep_alive;
+      ack_delay_timer = ack_delay.Idle;
+      pending_fast_retransmit = v.pending_fast_retransmit && not (carries_data v.state);
+    }
+
+-- a probe: the next one comes later
+unfoldable pub after_probe : View → Instant → View
+after_probe v now = record v { timer = probe_doubled v.timer now }
+
+-- SND.NXT moves behind the segment, its acknowledgement and window are the last sent, and the RST of a closed socket
+-- ends it
+unfoldable pub snd_nxt_moved : View → Emitted → View
+snd_nxt_moved v s =
+    record v {
+      remote_last_seq = later_of v.remote_last_seq s.end;
+      remote_last_ack = s.ack_number;
+      remote_last_win = s.window_len;
+      tuple = if is_closed v.state then None else v.tuple;
+    }
+
+-- what takes sequence numbers is timed, and waited for
+unfoldable pub sending_timed : View → Instant → Emitted → View
+sending_timed v now s =
+    if s.len == 0 then v
+    else record v { rtte = sent v.rtte now s.end; timer = retransmit_unless_set v.timer now v.rtte }
+
+-- by kind; an acknowledgement that a probe or a keep-alive carries does not count as sent
+abbrev pub after_kind : Kind → View → Instant → Emitted → View
+after_kind kind.Plain v now s = sending_timed (snd_nxt_moved v s) now s
+after_kind kind.Probe v now s = after_probe v now
+after_kind kind.KeepAlive v now s = v
+
+unfoldable pub after_sending : View → Instant → Emitted → View
+after_sending v now s = after_kind s.kind (after_any v now) now s
+
+-- where the emit failed, nothing
+abbrev pub after_emit : Bool → View → Instant → Emitted → View
+after_emit true v now s = after_sending v now s
+after_emit false v now s = v
+
+-- the socket after the emit of what was to go out; ok: the emit answered Ok
+abbrev pub left_by : Option Sending → View → Instant → Bool → View
+left_by None v now ok = v
+left_by (Some s) v now ok = after_emit ok v now (emitted_as s.kind s.segment)
