@@ -1,0 +1,3 @@
+//! Queues over lent memory, which sockets are made of.
+
+pub use net_base::{Assembler, PacketBuffer, PacketMetadata, RingBuffer, TooManyHoles};
