@@ -1,3 +1,7 @@
 //! Worked examples of single sockets, and each call once at a concrete type.
 
+mod host;
+mod icmp;
 mod kinds;
+mod raw;
+mod udp;
