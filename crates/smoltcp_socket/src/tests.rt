@@ -4,4 +4,5 @@ mod host;
 mod icmp;
 mod kinds;
 mod raw;
+mod texts;
 mod udp;

@@ -56,11 +56,11 @@ fn udp_among_kinds(rt: HostRuntime) -> Result<(), Fail> {
         Some(lent) => assert_eq!(rt; lent.bind(endpoint), Ok(())),
         None => assert!(rt; false),
     }
+    assert!(rt; tcp::Socket::downcast_mut(&mut socket).is_none());
     match udp::Socket::downcast(&socket) {
         Some(lent) => assert_eq!(rt; lent.endpoint(), endpoint),
         None => assert!(rt; false),
     }
-    assert!(rt; tcp::Socket::downcast_mut(&mut socket).is_none());
     Ok(())
 }
 

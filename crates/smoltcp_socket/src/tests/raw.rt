@@ -119,13 +119,6 @@ fn raw_truncated_slices(rt: HostRuntime) -> Result<(), Fail> {
     Ok(())
 }
 
-#[test]
-fn texts(rt: HostRuntime) -> Result<(), Fail> {
-    let text = format!(in rt.alloc(); "{}", SendError::BufferFull)?;
-    assert_eq!(rt; text.as_str(), "buffer full");
-    Ok(())
-}
-
 // 10.0.0.1 to 10.0.0.2, protocol 63, hop limit 64, and four bytes; the checksum is not filled.
 const PACKET: [u8; 24] = [
     0x45, 0, 0, 0x18, 0, 0, 0x40, 0, 0x40, 0x3f, 0, 0, 10, 0, 0, 1, 10, 0, 0, 2, 0xaa, 0, 0, 0xff,

@@ -375,24 +375,3 @@ fn a_refused_send_keeps_what_waits(rt: HostRuntime) -> Result<(), Fail> {
     }
     Ok(())
 }
-
-#[test]
-fn texts(rt: HostRuntime) -> Result<(), Fail> {
-    let opening = format!(in rt.alloc();
-        "{}, {}",
-        BindError::Unaddressable,
-        BindError::InvalidState
-    )?;
-    assert_eq!(rt; opening.as_str(), "unaddressable, invalid state");
-    let sending = format!(in rt.alloc();
-        "{}, {}",
-        SendError::Unaddressable,
-        SendError::BufferFull
-    )?;
-    assert_eq!(rt; sending.as_str(), "unaddressable, buffer full");
-    let receiving = format!(in rt.alloc(); "{}, {}", RecvError::Exhausted, RecvError::Truncated)?;
-    assert_eq!(rt; receiving.as_str(), "exhausted, truncated");
-    let meta = format!(in rt.alloc(); "{}", UdpMetadata::from_endpoint(REMOTE))?;
-    assert_eq!(rt; meta.as_str(), "192.168.1.2:49500");
-    Ok(())
-}
