@@ -4,6 +4,8 @@ use crate::socket::Socket;
 use sock_dgram::{icmp, raw, udp};
 
 /// A kind of socket, or the enum of all kinds.
+///
+/// `G` is that of the enum `Socket<'a, G>`: the type of a TCP socket's source of timestamps.
 pub trait AnySocket<'a, G>: Sized {
     ghost use Rattle.std.specs.Prelude.{◌≡◌, Option, Some, option_map};
     ghost use Rattle.smoltcp_socket.specs.declared.socket.Socket.{Socket};
@@ -22,7 +24,7 @@ pub trait AnySocket<'a, G>: Sized {
     fn downcast<'c>(socket: &'c Socket<'a, G>) -> Option<&'c Self>
         ensures { option_map (λ s. s.now) result ≡ of_kind socket.now };
 
-    /// The same, lent for writing.
+    /// The same, lent for writing; what is written is in the enum afterwards.
     fn downcast_mut<'c>(socket: &'c mut Socket<'a, G>) -> Option<&'c mut Self>
         ensures { option_map (λ s. s.now) result ≡ of_kind socket.old };
 

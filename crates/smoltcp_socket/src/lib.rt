@@ -15,6 +15,6 @@ pub mod time;
 pub mod wire;
 
 pub use any_socket::AnySocket;
-pub use sock_core::{Context, PollAt};
+pub use sock_core::{Context, PollAt, context, ranges};
 pub use sock_dgram::{icmp, raw, udp};
 pub use socket::Socket;

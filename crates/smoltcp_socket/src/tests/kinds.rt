@@ -1,4 +1,5 @@
 //! From each kind of socket to the enum, and back.
+ghost use Rattle.std.specs.Prelude.{IsTrue};
 
 use crate::storage::{PacketBuffer, RingBuffer};
 use crate::wire::IpListenEndpoint;
@@ -14,6 +15,14 @@ fn kinds(socket: &Socket<'_>) -> [bool; 5] {
         tcp::Socket::downcast(socket).is_some(),
         Socket::downcast(socket).is_some(),
     ]
+}
+
+// A socket that goes into the enum comes back out of it, whatever its kind.
+fn comes_back<'a, G: Drop, T: AnySocket<'a, G>>(socket: T) -> bool
+    ensures { IsTrue result }
+{
+    let whole = socket.upcast();
+    T::downcast(&whole).is_some()
 }
 
 #[test]
@@ -69,5 +78,6 @@ fn tcp_among_kinds(rt: HostRuntime) -> Result<(), Fail> {
     let socket = tcp::Socket::new(RingBuffer::new(&mut []), RingBuffer::new(&mut []));
     let socket = socket.upcast();
     assert_eq!(rt; kinds(&socket), [false, false, false, true, true]);
+    assert!(rt; comes_back(socket));
     Ok(())
 }
