@@ -1,4 +1,5 @@
 pub mod Emitting
 pub mod Filling
+pub mod RawTwice
 pub mod Storing
 pub mod UdpSources

@@ -1,5 +1,5 @@
 -- `dispatch` of a raw socket.
-use Rattle.std.specs.Prelude.{ℕ, ◌≡◌, ◌+◌, ◌-◌, ◌↔◌, ◌&&◌, nat_le, IsTrue, List, [], ◌∷◌, drop, length, cond, Bool, Option, None, Some, Result, is_ok, if◌then◌else◌}
+use Rattle.std.specs.Prelude.{ℕ, ◌≡◌, ◌+◌, ◌-◌, ◌↔◌, ◌&&◌, nat_le, IsTrue, List, [], ◌∷◌, drop, length, cond, Bool, Option, None, Some, Result, is_ok, false, if◌then◌else◌}
 use Rattle.std.specs.Borrow.{Bor}
 use Rattle.ip_wire.specs.Octets.{be16_at}
 use Rattle.ip_wire.specs.Packet.{checksum_filled, ipv4_fields, ipv4_header_len, ipv4_payload, ipv4_total_len, ipv6_fields, ipv6_payload, with_checksum}
@@ -84,11 +84,13 @@ abbrev pub offered : Bool → Option (Unit {0} × List ℕ) → Option Outgoing
 offered sent None = None
 offered sent (Some d) = parsed (prepared sent d.1)
 
--- the whole: at Ok the first packet leaves; at Err it stays first, with its checksum as it was set
+-- the whole: at Ok the first packet leaves; at Err it stays first, with its checksum as it was set, and the next
+-- dispatch in the same context offers it again
 pub record Dispatched {F C E : Type 0} (g : Emit F C (IpRepr × Bor (List ℕ)) E) (f : F) (sent : Bool) (v : View)
     (c : C) (r : Result (Unit {0}) E) (c' : C) (w : View) : Type 0 where
   pub planned : Option Outgoing
   pub plans : Plans v (offered sent (first_packet v.tx_buffer)) planned
   pub emits : Emits g outgoing_of f planned c r c'
   pub queue : waiting w ≡ cond (is_ok r) (drop 1 (waiting v)) (first_prepared sent (waiting v))
+  pub again : is_ok r ≡ false → offered sent (first_packet w.tx_buffer) ≡ offered sent (first_packet v.tx_buffer)
   pub same : w ≡ record v { tx_buffer = w.tx_buffer }

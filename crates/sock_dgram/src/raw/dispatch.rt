@@ -4,7 +4,7 @@ ghost use Rattle.net_base.specs.Packets.{first_packet, starts_padded};
 ghost use Rattle.ip_wire.specs.Checksum.{is_sent};
 ghost use Rattle.ip_wire.specs.Packet.{IsIpv4};
 ghost use Rattle.sock_dgram.specs.Raw.{waiting};
-ghost use Rattle.sock_dgram.specs.RawDispatch.{outgoing_of, Plans, parsed_first, is_sound_ipv4, prepared, parsed, EmitsFirst, first_prepared, Dispatched};
+ghost use Rattle.sock_dgram.specs.RawDispatch.{outgoing_of, Plans, parsed_first, is_sound_ipv4, prepared, parsed, EmitsFirst, first_prepared, offered, Dispatched};
 
 use crate::raw::socket::Socket;
 use ip_wire::{
@@ -14,9 +14,8 @@ use sock_core::Context;
 
 impl<'a> Socket<'a> {
     // Sets the checksum of the first packet.
-    fn prepare_first(&mut self, sent: bool)
+    fn set_checksum(&mut self, sent: bool)
         ensures queue { waiting self.new ≡ first_prepared sent (waiting self.old) }
-        ensures packet { starts_padded self.new.tx_buffer.entries ≡ false }
         ensures same { self.new ≡ record self.old { tx_buffer = self.new.tx_buffer } }
     {
         let _ = self.tx_buffer.dequeue_with(
@@ -28,6 +27,17 @@ impl<'a> Socket<'a> {
                 Err(())
             },
         );
+    }
+
+    // The first step of a dispatch: to take it twice is to take it once.
+    fn prepare_first(&mut self, sent: bool)
+        ensures queue { waiting self.new ≡ first_prepared sent (waiting self.old) }
+        ensures again { offered sent (first_packet self.new.tx_buffer)
+            ≡ offered sent (first_packet self.old.tx_buffer) }
+        ensures packet { starts_padded self.new.tx_buffer.entries ≡ false }
+        ensures same { self.new ≡ record self.old { tx_buffer = self.new.tx_buffer } }
+    {
+        self.set_checksum(sent);
         self.tx_buffer.skip_padding();
     }
 
