@@ -1,5 +1,9 @@
 pub mod Emitting
 pub mod Filling
+pub mod IcmpOrders
+pub mod Orders
+pub mod RawOrders
 pub mod RawTwice
 pub mod Storing
+pub mod UdpOrders
 pub mod UdpSources
