@@ -3,6 +3,7 @@ pub mod Filling
 pub mod IcmpOrders
 pub mod Orders
 pub mod RawOrders
+pub mod RawSetting
 pub mod RawTwice
 pub mod Storing
 pub mod UdpOrders
