@@ -21,8 +21,9 @@ use Rattle.sock_dgram.specs.declared.error.RecvError.{RecvError}
 use Rattle.sock_dgram.specs.declared.error.SendError.{SendError}
 use Rattle.sock_dgram.specs.declared.icmp.endpoint.Endpoint.{Endpoint}
 
--- a call with what it is given and what it answers. C, E and F are the context, the error and the closure of `dispatch`,
--- and G is the closure of `send_with`; a slice stands as it was before and after the call, and so does a context
+-- a call with what it is given and what it answers. C, E and F are the context, the error and the closure of
+-- `dispatch`, and G is the closure of `send_with`; a slice stands as it was before and after the call, and so does a
+-- context
 pub data Call (C E F G : Type 0) : Type 0 where
   Look : Call C E F G  -- any call on `&self`
   Bind : Endpoint → Call C E F G

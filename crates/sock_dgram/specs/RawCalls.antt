@@ -1,5 +1,6 @@
 -- The calls of a raw socket, each with its effect on it: the clauses of the call's own contract.
-use Rattle.std.specs.Prelude.{ℕ, ◌≡◌, List, [], ◌∷◌, ◌++◌, length, map, take, cond, Some, Result, Ok, Err, IfOk, is_ok, true, false}
+use Rattle.std.specs.Prelude.{ℕ, ◌≡◌, List, [], ◌∷◌, ◌++◌, length, map, take, cond, Some, Result, Ok, Err}
+use Rattle.std.specs.Prelude.{IfOk, is_ok, true, false}
 use Rattle.std.specs.Borrow.{Bor, MutBor}
 use Rattle.std.specs.Fn.{Once, FnOnceReturnsAtMut}
 use Rattle.ip_wire.specs.Checksum.{is_sent}
@@ -15,8 +16,9 @@ use Rattle.sock_dgram.specs.Traffic.{Traffic, nothing, sends, departs, queues, r
 use Rattle.sock_dgram.specs.declared.error.RecvError.{RecvError}
 use Rattle.sock_dgram.specs.declared.raw.error.SendError.{SendError}
 
--- a call with what it is given and what it answers. C, E and F are the context, the error and the closure of `dispatch`,
--- and G is the closure of `send_with`; a slice stands as it was before and after the call, and so does a context
+-- a call with what it is given and what it answers. C, E and F are the context, the error and the closure of
+-- `dispatch`, and G is the closure of `send_with`; a slice stands as it was before and after the call, and so does a
+-- context
 pub data Call (C E F G : Type 0) : Type 0 where
   Look : Call C E F G  -- any call on `&self`
   SendSlice : List ℕ → Result (Unit {0}) SendError → Call C E F G

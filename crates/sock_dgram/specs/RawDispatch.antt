@@ -1,5 +1,6 @@
 -- `dispatch` of a raw socket.
-use Rattle.std.specs.Prelude.{ℕ, ◌≡◌, ◌+◌, ◌-◌, ◌↔◌, ◌&&◌, nat_le, IsTrue, List, [], ◌∷◌, drop, length, cond, Bool, Option, None, Some, Result, is_ok, true, false, if◌then◌else◌}
+use Rattle.std.specs.Prelude.{ℕ, ◌≡◌, ◌+◌, ◌-◌, ◌↔◌, ◌&&◌, nat_le, IsTrue, List, [], ◌∷◌, drop, length, cond}
+use Rattle.std.specs.Prelude.{Bool, Option, None, Some, Result, is_ok, true, false, if◌then◌else◌}
 use Rattle.std.specs.Borrow.{Bor}
 use Rattle.ip_wire.specs.Octets.{be16_at}
 use Rattle.ip_wire.specs.Packet.{checksum_filled, ipv4_fields, ipv4_header_len, ipv4_payload, ipv4_total_len, ipv6_fields, ipv6_payload, with_checksum}

@@ -1,5 +1,6 @@
 -- Lists of calls of a datagram socket: what they put into its two queues, and what leaves these.
-use Rattle.std.specs.Prelude.{ℕ, ◌≡◌, List, [], ◌∷◌, ◌++◌, length, map, take, cond, Bool, Option, None, Some, Result, Ok, Err, IfOk}
+use Rattle.std.specs.Prelude.{ℕ, ◌≡◌, List, [], ◌∷◌, ◌++◌, length, map, take, cond, Bool, Option, None, Some}
+use Rattle.std.specs.Prelude.{Result, Ok, Err, IfOk}
 use Rattle.net_base.specs.Packets.{Packets, first_packet}
 use Rattle.sock_dgram.specs.Datagrams.{answered, take_answer, copy_answer, copied}
 use Rattle.sock_dgram.specs.declared.error.RecvError.{RecvError}
@@ -84,7 +85,8 @@ module _ {M O : Type 0} where
 
   -- what left the front of a queue, followed by what stands in it after, is what stood in it before, followed by what
   -- came behind it
-  pub record InOrder (t : Traffic M O) (waiting received waiting_after received_after : List (M × List ℕ)) : Type 0 where
+  pub record InOrder (t : Traffic M O)
+      (waiting received waiting_after received_after : List (M × List ℕ)) : Type 0 where
     pub transmit : map (λ d. d.0) t.departed ++ waiting_after ≡ waiting ++ t.sent
     pub receive : map (λ d. d.0) t.taken ++ received_after ≡ received ++ t.queued
 

@@ -10,15 +10,17 @@ use Rattle.sock_core.specs.Emission.{Emit}
 use Rattle.sock_core.specs.Facts.{Facts}
 use Rattle.sock_dgram.specs.Datagrams.{stored}
 use Rattle.sock_dgram.specs.Traffic.{Traffic, nothing, sends, departs, queues, reads, copies_out, clears, Reads, Copies}
-use Rattle.sock_dgram.specs.Udp.{View, received, waiting, bind_answer, after_bind, closed, send_answer, after_send, metadata_of}
+use Rattle.sock_dgram.specs.Udp.{View, received, waiting, bind_answer, after_bind, closed}
+use Rattle.sock_dgram.specs.Udp.{send_answer, after_send, metadata_of}
 use Rattle.sock_dgram.specs.UdpDispatch.{Outgoing, outgoing, Dispatched}
 use Rattle.sock_dgram.specs.UdpLends.{Takes}
 use Rattle.sock_dgram.specs.declared.error.RecvError.{RecvError}
 use Rattle.sock_dgram.specs.declared.error.SendError.{SendError}
 use Rattle.sock_dgram.specs.declared.udp.socket.UdpMetadata.{UdpMetadata}
 
--- a call with what it is given and what it answers. C, E and F are the context, the error and the closure of `dispatch`,
--- and G is the closure of `send_with`; a slice stands as it was before and after the call, and so does a context
+-- a call with what it is given and what it answers. C, E and F are the context, the error and the closure of
+-- `dispatch`, and G is the closure of `send_with`; a slice stands as it was before and after the call, and so does a
+-- context
 pub data Call (C E F G : Type 0) : Type 0 where
   Look : Call C E F G  -- any call on `&self`
   Bind : IpListenEndpoint → Call C E F G

@@ -141,7 +141,8 @@ impl<'a> Socket<'a> {
         } }
         ensures queue { received self.new
             ≡ cond (takes (message_len 40 (message_v6 icmp_repr.now)) self.old.rx_buffer)
-            (received self.old ++ (address.Ipv6 ip_repr.now.src_addr, octets_v6 ip_repr.now (message_v6 icmp_repr.now)) ∷ [])
+            (received self.old
+            ++ (address.Ipv6 ip_repr.now.src_addr, octets_v6 ip_repr.now (message_v6 icmp_repr.now)) ∷ [])
             (received self.old) }
     {
         store_v6(&mut self.rx_buffer, ip_repr, icmp_repr);
