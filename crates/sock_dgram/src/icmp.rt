@@ -3,6 +3,7 @@
 mod dispatch;
 pub mod endpoint;
 mod kind;
+pub mod laws;
 mod process;
 mod receive;
 mod send;

@@ -2,6 +2,7 @@
 
 mod dispatch;
 pub mod error;
+pub mod laws;
 mod process;
 mod receive;
 mod send;
