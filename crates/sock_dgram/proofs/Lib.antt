@@ -1,4 +1,10 @@
 pub mod Emitting
 pub mod Filling
+pub mod IcmpOrders
+pub mod Orders
+pub mod RawOrders
+pub mod RawSetting
+pub mod RawTwice
 pub mod Storing
+pub mod UdpOrders
 pub mod UdpSources

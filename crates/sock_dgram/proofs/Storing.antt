@@ -1,8 +1,9 @@
 -- A message that is stored by a closure which writes it.
-use Rattle.std.proofs.Common.{◌≡◌, ℕ, List, [], ◌∷◌, ◌++◌, length, take, drop, Bool, true, false, Some, refl, sym, ap, ◌∙◌, arith}
+use Rattle.std.proofs.Common.{◌≡◌, ℕ, List, [], ◌∷◌, ◌++◌, length, take, drop, Bool, true, false, cond, Some, refl, sym, ap, ◌∙◌, arith}
 use Rattle.std.specs.Prelude.{◌↔◌, IsTrue, Result, Ok, Err, IsOk, IfOk, OnErr, if◌then◌else◌}
 use Rattle.std.proofs.lemmas.List.{take_all}
-use Rattle.net_base.specs.Packets.{Packets, packets_with, end_of, made_room, takes, Enqueues}
+use Rattle.net_base.specs.Packets.{Packets, packets, packets_with, end_of, made_room, takes, Enqueues}
+use Rattle.net_base.proofs.PacketLists.{made_room_packets, packets-append}
 use Rattle.net_base.specs.Ring.{overwrite}
 use Rattle.net_base.specs.declared.packet_buffer.Full.{Full}
 use Rattle.sock_dgram.specs.Datagrams.{put, stored_as}
@@ -26,3 +27,13 @@ module _ {M : Type 0} (size : ℕ) (meta : M) (octets : List ℕ) (old new : Pac
       go true t (Err e) v err ok = let no : false ≡ true = v.1 t in cc
       go false t (Ok k) v err ok = let no : false ≡ true = sym t ∙ v.0 refl in cc
       go false t (Err e) v err ok = err ∙ sym (ap (λ b. if b then put meta octets (made_room size old) else made_room size old) t)
+
+-- what waits after a packet is stored: what waited before, then the packet, where there was room for it
+pub stored_queue : {M : Type 0} (size : ℕ) (meta : M) (octets : List ℕ) (old new : Packets M) → new ≡ stored_as size meta octets old → packets new.entries ≡ cond (takes size old) (packets old.entries ++ (meta, octets) ∷ []) (packets old.entries)
+stored_queue {M} size meta octets old new is =
+    let room : packets (made_room size old).entries ≡ packets old.entries = made_room_packets size old in
+    ap (λ (p : Packets M). packets p.entries) is
+    ∙ elim (takes size old) as (λ b. packets (if b then put meta octets (made_room size old) else made_room size old).entries ≡ cond b (packets old.entries ++ (meta, octets) ∷ []) (packets old.entries)) [
+      | true ↦ packets-append (made_room size old).entries meta octets ∙ ap (λ (l : List (M × List ℕ)). l ++ (meta, octets) ∷ []) room
+      | false ↦ room
+    ]

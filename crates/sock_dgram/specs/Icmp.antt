@@ -20,7 +20,10 @@ pub record View : Type 0 where
 abbrev pub fresh : Packets IpAddress → Packets IpAddress → View
 fresh rx tx = record { endpoint = endpoint.Unspecified; rx_buffer = rx; tx_buffer = tx; hop_limit = None }
 
--- the messages that were sent and not emitted yet, the oldest first
+-- the messages that came and were not read, and those that were not emitted yet, the oldest first
+abbrev pub received : View → List (IpAddress × List ℕ)
+received v = packets v.rx_buffer.entries
+
 abbrev pub waiting : View → List (IpAddress × List ℕ)
 waiting v = packets v.tx_buffer.entries
 

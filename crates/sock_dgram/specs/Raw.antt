@@ -20,7 +20,10 @@ pub record View : Type 0 where
 abbrev pub fresh : Option IpVersion → Option IpProtocol → Packets (Unit {0}) → Packets (Unit {0}) → View
 fresh version protocol rx tx = record { ip_version = version; ip_protocol = protocol; rx_buffer = rx; tx_buffer = tx }
 
--- the packets that were sent and not emitted yet, the oldest first
+-- the packets that came and were not read, and those that were not emitted yet, the oldest first
+abbrev pub received : View → List (Unit {0} × List ℕ)
+received v = packets v.rx_buffer.entries
+
 abbrev pub waiting : View → List (Unit {0} × List ℕ)
 waiting v = packets v.tx_buffer.entries
 

@@ -1,5 +1,6 @@
 -- `dispatch` of a raw socket.
-use Rattle.std.specs.Prelude.{ℕ, ◌≡◌, ◌+◌, ◌-◌, ◌↔◌, ◌&&◌, nat_le, IsTrue, List, [], ◌∷◌, drop, length, cond, Bool, Option, None, Some, Result, is_ok, if◌then◌else◌}
+use Rattle.std.specs.Prelude.{ℕ, ◌≡◌, ◌+◌, ◌-◌, ◌↔◌, ◌&&◌, nat_le, IsTrue, List, [], ◌∷◌, drop, length, cond}
+use Rattle.std.specs.Prelude.{Bool, Option, None, Some, Result, is_ok, true, false, if◌then◌else◌}
 use Rattle.std.specs.Borrow.{Bor}
 use Rattle.ip_wire.specs.Octets.{be16_at}
 use Rattle.ip_wire.specs.Packet.{checksum_filled, ipv4_fields, ipv4_header_len, ipv4_payload, ipv4_total_len, ipv6_fields, ipv6_payload, with_checksum}
@@ -8,7 +9,7 @@ use Rattle.ip_wire.specs.declared.protocol.IpVersion.{IpVersion}
 use Rattle.ip_wire.specs.declared.protocol.IpVersion.TheVariants as version
 use Rattle.ip_wire.specs.declared.repr.IpRepr.{IpRepr}
 use Rattle.ip_wire.specs.declared.repr.IpRepr.TheVariants as header
-use Rattle.net_base.specs.Packets.{first_packet}
+use Rattle.net_base.specs.Packets.{Packets, first_packet, skipped, with_first, Dequeues}
 use Rattle.sock_core.specs.Emission.{Emit, Emits}
 use Rattle.sock_dgram.specs.Raw.{View, waiting, Accepts}
 
@@ -80,15 +81,27 @@ abbrev pub first_prepared : Bool → List (Unit {0} × List ℕ) → List (Unit 
 first_prepared sent [] = []
 first_prepared sent (d ∷ ds) = (d.0, prepared sent d.1) ∷ ds
 
+-- the buffer without the padding in front, and with the checksum of its first packet set
+abbrev pub set_first : Bool → Packets (Unit {0}) → List (Option (Unit {0}) × List ℕ) → Packets (Unit {0})
+set_first sent p [] = p
+set_first sent p (e ∷ es) = with_first (prepared sent e.1) p
+
+unfoldable pub prepared_buffer : Bool → Packets (Unit {0}) → Packets (Unit {0})
+prepared_buffer sent p = set_first sent (skipped p) (skipped p).entries
+
 abbrev pub offered : Bool → Option (Unit {0} × List ℕ) → Option Outgoing
 offered sent None = None
 offered sent (Some d) = parsed (prepared sent d.1)
 
--- the whole: at Ok the first packet leaves; at Err it stays first, with its checksum as it was set
+-- the whole: at Ok the first packet leaves; at Err it stays first, with its checksum as it was set, and the next
+-- dispatch in the same context offers it again
 pub record Dispatched {F C E : Type 0} (g : Emit F C (IpRepr × Bor (List ℕ)) E) (f : F) (sent : Bool) (v : View)
     (c : C) (r : Result (Unit {0}) E) (c' : C) (w : View) : Type 0 where
   pub planned : Option Outgoing
   pub plans : Plans v (offered sent (first_packet v.tx_buffer)) planned
   pub emits : Emits g outgoing_of f planned c r c'
   pub queue : waiting w ≡ cond (is_ok r) (drop 1 (waiting v)) (first_prepared sent (waiting v))
+  pub emitted : is_ok r ≡ true → Dequeues (prepared_buffer sent v.tx_buffer) w.tx_buffer
+  pub failed : is_ok r ≡ false → w.tx_buffer ≡ prepared_buffer sent v.tx_buffer
+  pub again : is_ok r ≡ false → offered sent (first_packet w.tx_buffer) ≡ offered sent (first_packet v.tx_buffer)
   pub same : w ≡ record v { tx_buffer = w.tx_buffer }

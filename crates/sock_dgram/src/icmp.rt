@@ -3,12 +3,11 @@
 mod dispatch;
 pub mod endpoint;
 mod kind;
+pub mod laws;
 mod process;
 mod receive;
 mod send;
 pub mod socket;
-#[cfg(test)]
-mod tests;
 
 pub use crate::error::{BindError, RecvError, SendError};
 pub use endpoint::Endpoint;

@@ -3,8 +3,6 @@
 
 pub mod error;
 pub mod icmp;
-#[cfg(test)]
-mod interface;
 mod queue;
 pub mod raw;
 pub mod udp;

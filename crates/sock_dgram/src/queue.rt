@@ -40,6 +40,7 @@ fn filled_twice(lent: &mut [u8], head: &[u8], data: &[u8]) -> usize
 }
 
 // Appends a packet that is given in two pieces, where there is room for it.
+#[tactic(auto, using(crate::proofs::Storing::stored_queue))]
 pub(crate) fn store_both<M: Copy>(
     buffer: &mut PacketBuffer<'_, M>,
     meta: M,
@@ -47,6 +48,8 @@ pub(crate) fn store_both<M: Copy>(
     data: &[u8],
 )
     ensures after { buffer.new ≡ stored meta (head.now ++ «data».now) buffer.old }
+    ensures packets { packets buffer.new.entries ≡ cond (takes (length (head.now ++ «data».now)) buffer.old)
+        (packets buffer.old.entries ++ (meta, head.now ++ «data».now) ∷ []) (packets buffer.old.entries) }
 {
     let size = head.len() + data.len();
     let _ = buffer.enqueue_with_infallible(size, meta, |lent| filled_twice(lent, head, data));

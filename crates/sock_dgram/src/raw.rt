@@ -2,12 +2,11 @@
 
 mod dispatch;
 pub mod error;
+pub mod laws;
 mod process;
 mod receive;
 mod send;
 pub mod socket;
-#[cfg(test)]
-mod tests;
 
 pub use crate::error::{BindError, RecvError};
 pub use error::SendError;

@@ -6,8 +6,6 @@ mod process;
 mod receive;
 mod send;
 pub mod socket;
-#[cfg(test)]
-mod tests;
 
 pub use crate::error::{BindError, RecvError, SendError};
 pub use socket::{PacketBuffer, PacketMetadata, Socket, UdpMetadata};

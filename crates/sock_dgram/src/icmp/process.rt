@@ -1,10 +1,12 @@
 //! Messages that come in.
-ghost use Rattle.std.specs.Prelude.{◌≡◌, ◌≤◌, ◌↔◌, IsTrue, length};
+ghost use Rattle.std.specs.Prelude.{◌≡◌, ◌≤◌, ◌↔◌, ◌++◌, [], ◌∷◌, IsTrue, length, cond};
 ghost use Rattle.std.specs.Option.{ForSome};
-ghost use Rattle.control_wire.specs.Icmp.{message_v4, message_v6};
+ghost use Rattle.control_wire.specs.Icmp.{message_len, message_v4, message_v6};
+ghost use Rattle.net_base.specs.Packets.{takes};
 ghost use Rattle.ip_wire.specs.declared.address.IpAddress.TheVariants as address;
+ghost use Rattle.sock_dgram.specs.Icmp.{received};
 ghost use Rattle.sock_dgram.specs.IcmpKinds.{with_body};
-ghost use Rattle.sock_dgram.specs.IcmpFilter.{Accepts, Ends, TakesError, TakesIdent, WritesV4, WritesV6, ends_v4, ends_v6, queued_v4, queued_v6};
+ghost use Rattle.sock_dgram.specs.IcmpFilter.{Accepts, Ends, TakesError, TakesIdent, WritesV4, WritesV6, ends_v4, ends_v6, octets_v4, octets_v6, queued_v4, queued_v6};
 
 use crate::icmp::endpoint::Endpoint;
 use crate::icmp::kind::{apart_v4, apart_v6, whole_v4, whole_v6};
@@ -108,29 +110,40 @@ impl<'a> Socket<'a> {
 
     /// Puts a message over IPv4 that `accepts_v4` holds of into the receive queue, with its checksum and with the
     /// address that it came from. Where the receive buffer has no room for it, it is dropped.
+    #[tactic(auto, using(crate::proofs::Storing::stored_queue))]
     pub fn process_v4<C: Context>(
         &mut self,
         _cx: &C,
         ip_repr: &Ipv4Repr,
         icmp_repr: &Icmpv4Repr<'_>,
     )
-        ensures { self.new ≡ record self.old {
+        ensures view { self.new ≡ record self.old {
           rx_buffer = queued_v4 ip_repr.now (message_v4 icmp_repr.now) self.old.rx_buffer;
         } }
+        ensures queue { received self.new
+            ≡ cond (takes (message_len 20 (message_v4 icmp_repr.now)) self.old.rx_buffer)
+            (received self.old ++ (address.Ipv4 ip_repr.now.src_addr, octets_v4 (message_v4 icmp_repr.now)) ∷ [])
+            (received self.old) }
     {
         store_v4(&mut self.rx_buffer, ip_repr, icmp_repr);
     }
 
     /// The same of a message over IPv6.
+    #[tactic(auto, using(crate::proofs::Storing::stored_queue))]
     pub fn process_v6<C: Context>(
         &mut self,
         _cx: &C,
         ip_repr: &Ipv6Repr,
         icmp_repr: &Icmpv6Repr<'_>,
     )
-        ensures { self.new ≡ record self.old {
+        ensures view { self.new ≡ record self.old {
           rx_buffer = queued_v6 ip_repr.now (message_v6 icmp_repr.now) self.old.rx_buffer;
         } }
+        ensures queue { received self.new
+            ≡ cond (takes (message_len 40 (message_v6 icmp_repr.now)) self.old.rx_buffer)
+            (received self.old
+            ++ (address.Ipv6 ip_repr.now.src_addr, octets_v6 ip_repr.now (message_v6 icmp_repr.now)) ∷ [])
+            (received self.old) }
     {
         store_v6(&mut self.rx_buffer, ip_repr, icmp_repr);
     }

@@ -4,7 +4,7 @@ ghost use Rattle.net_base.specs.Packets.{first_packet, starts_padded};
 ghost use Rattle.ip_wire.specs.Checksum.{is_sent};
 ghost use Rattle.ip_wire.specs.Packet.{IsIpv4};
 ghost use Rattle.sock_dgram.specs.Raw.{waiting};
-ghost use Rattle.sock_dgram.specs.RawDispatch.{outgoing_of, Plans, parsed_first, is_sound_ipv4, prepared, parsed, EmitsFirst, first_prepared, Dispatched};
+ghost use Rattle.sock_dgram.specs.RawDispatch.{outgoing_of, Plans, parsed_first, is_sound_ipv4, prepared, parsed, EmitsFirst, first_prepared, offered, prepared_buffer, Dispatched};
 
 use crate::raw::socket::Socket;
 use ip_wire::{
@@ -13,11 +13,14 @@ use ip_wire::{
 use sock_core::Context;
 
 impl<'a> Socket<'a> {
-    // Sets the checksum of the first packet.
+    // Sets the checksum of the first packet, and drops the padding in front of it. To do so again changes nothing of
+    // what is offered.
     fn prepare_first(&mut self, sent: bool)
+        ensures after { self.new ≡ record self.old { tx_buffer = prepared_buffer sent self.old.tx_buffer } }
         ensures queue { waiting self.new ≡ first_prepared sent (waiting self.old) }
+        ensures again { offered sent (first_packet self.new.tx_buffer)
+            ≡ offered sent (first_packet self.old.tx_buffer) }
         ensures packet { starts_padded self.new.tx_buffer.entries ≡ false }
-        ensures same { self.new ≡ record self.old { tx_buffer = self.new.tx_buffer } }
     {
         let _ = self.tx_buffer.dequeue_with(
             move |_header: &(), bytes: &mut [u8]| -> Result<(), ()>
@@ -28,7 +31,6 @@ impl<'a> Socket<'a> {
                 Err(())
             },
         );
-        self.tx_buffer.skip_padding();
     }
 
     // The first packet, where it is one that the socket sends.

@@ -1,9 +1,10 @@
 //! Packets that come in.
-ghost use Rattle.std.specs.Prelude.{◌≡◌, ◌↔◌, IsTrue};
+ghost use Rattle.std.specs.Prelude.{◌≡◌, ◌↔◌, ◌++◌, [], ◌∷◌, IsTrue, length, cond};
+ghost use Rattle.net_base.specs.Packets.{takes};
 ghost use Rattle.ip_wire.specs.Checksum.{is_sent};
 ghost use Rattle.ip_wire.specs.Packet.{header_octets};
 ghost use Rattle.sock_dgram.specs.Datagrams.{stored};
-ghost use Rattle.sock_dgram.specs.Raw.{Accepts, whole_packet};
+ghost use Rattle.sock_dgram.specs.Raw.{received, Accepts, whole_packet};
 
 use crate::queue::store_both;
 use crate::raw::socket::Socket;
@@ -25,9 +26,12 @@ impl<'a> Socket<'a> {
     /// Puts a packet into the receive queue: its header as `IpRepr::emit` writes it with the checksum settings of the
     /// context, and its payload. Where the receive buffer has no room for it, it is dropped.
     pub fn process<C: Context>(&mut self, cx: &C, ip_repr: &IpRepr, payload: &[u8])
-        ensures { self.new ≡ record self.old {
+        ensures view { self.new ≡ record self.old {
           rx_buffer = stored tt (whole_packet (C.facts cx.now).checksums ip_repr.now payload.now) self.old.rx_buffer;
         } }
+        ensures queue { let packet = whole_packet (C.facts cx.now).checksums ip_repr.now payload.now in
+            received self.new ≡ cond (takes (length packet) self.old.rx_buffer)
+            (received self.old ++ (tt, packet) ∷ []) (received self.old) }
     {
         let caps = cx.checksum_caps();
         let mut octets = [0; 40];

@@ -1,11 +1,10 @@
-//! Worked examples, and each call once at a concrete type.
+//! Worked examples of ICMP sockets.
+use super::host::Host;
+use crate::PollAt;
 use crate::icmp::*;
-use crate::interface::{Host, Interface};
-use control_wire::{IcmpRepr, Icmpv4Repr};
-use ip_wire::{
-    ChecksumCapabilities, IpAddress, IpListenEndpoint, IpProtocol, IpRepr, Ipv4Address, Ipv4Repr,
+use crate::wire::{
+    IcmpRepr, Icmpv4Repr, IpAddress, IpListenEndpoint, IpProtocol, IpRepr, Ipv4Address, Ipv4Repr,
 };
-use sock_core::PollAt;
 use std::test::Fail;
 
 const THERE: IpAddress = IpAddress::Ipv4(Ipv4Address([10, 0, 0, 2]));
@@ -62,9 +61,9 @@ fn icmp_send_limits(rt: HostRuntime) -> Result<(), Fail> {
         socket.send_slice(b"abcdef", NOWHERE),
         Err(SendError::Unaddressable)
     );
-    assert_eq!(rt; socket.poll_at(&Interface), PollAt::Ingress);
+    assert_eq!(rt; socket.poll_at(&Host::new(None)), PollAt::Ingress);
     assert_eq!(rt; socket.send_slice(&[7; 66], THERE), Ok(()));
-    assert_eq!(rt; socket.poll_at(&Interface), PollAt::Now);
+    assert_eq!(rt; socket.poll_at(&Host::new(None)), PollAt::Now);
     assert!(rt; !socket.can_send() && socket.send_queue() == 66);
     assert!(rt; matches!(socket.send(1, NOWHERE), Err(SendError::Unaddressable)));
     assert!(rt; matches!(socket.send(0, THERE), Err(SendError::BufferFull)));
@@ -131,10 +130,7 @@ fn echo(ident: u16) -> Icmpv4Repr<'static> {
 
 // The header of what is emitted, and whether the dispatch answered Ok.
 fn emitted(socket: &mut Socket<'_>, fail: bool) -> (Option<IpRepr>, bool) {
-    let mut cx = Host {
-        addr: HERE,
-        caps: ChecksumCapabilities::default(),
-    };
+    let mut cx = Host::new(Some(HERE));
     let mut seen = None;
     let answer = socket.dispatch(&mut cx, |_: &mut Host, sent: (IpRepr, IcmpRepr<'_>)| {
         seen = Some(sent.0);
@@ -152,9 +148,9 @@ fn icmp_accepts_identifier(rt: HostRuntime) -> Result<(), Fail> {
         PacketBuffer::new(&mut [], &mut []),
     );
     assert_eq!(rt; socket.bind(Endpoint::Ident(0x1234)), Ok(()));
-    assert!(rt; socket.accepts_v4(&Interface, &TO_HERE, &echo(0x1234)));
-    assert!(rt; !socket.accepts_v4(&Interface, &TO_HERE, &echo(0x4321)));
-    socket.process_v4(&Interface, &TO_HERE, &echo(0x1234));
+    assert!(rt; socket.accepts_v4(&Host::new(None), &TO_HERE, &echo(0x1234)));
+    assert!(rt; !socket.accepts_v4(&Host::new(None), &TO_HERE, &echo(0x4321)));
+    socket.process_v4(&Host::new(None), &TO_HERE, &echo(0x1234));
     // The sum of the words 0800, 1234, 0001, 7069 and 6e67 is f905.
     let want = [8, 0, 0x06, 0xfa, 0x12, 0x34, 0, 1, b'p', b'i', b'n', b'g'];
     assert_eq!(rt; socket.recv(), Ok((want.as_slice(), THERE)));
@@ -180,7 +176,10 @@ fn icmp_errors_go_to_the_port_that_sent(rt: HostRuntime) -> Result<(), Fail> {
             header: TO_HERE,
             body: &body,
         };
-        assert_eq!(rt; socket.accepts_v4(&Interface, &TO_HERE, &message), accepted);
+        assert_eq!(rt;
+            socket.accepts_v4(&Host::new(None), &TO_HERE, &message),
+            accepted
+        );
     }
     Ok(())
 }

@@ -1,10 +1,8 @@
-//! Worked examples, and each call once at a concrete type.
-use crate::interface::{Host, Interface};
+//! Worked examples of raw sockets.
+use super::host::Host;
+use crate::PollAt;
 use crate::raw::*;
-use ip_wire::{
-    Checksum, ChecksumCapabilities, IpAddress, IpProtocol, IpRepr, IpVersion, Ipv4Address,
-};
-use sock_core::PollAt;
+use crate::wire::{Checksum, IpAddress, IpProtocol, IpRepr, IpVersion, Ipv4Address};
 use std::test::Fail;
 
 const HERE: IpAddress = IpAddress::Ipv4(Ipv4Address([10, 0, 0, 1]));
@@ -35,9 +33,9 @@ fn raw_buffer_full(rt: HostRuntime) -> Result<(), Fail> {
         (Some(IpVersion::Ipv4), Some(EXPERIMENT))
     );
     assert_eq!(rt; socket.send_slice(&[7; 56]), Err(SendError::BufferFull));
-    assert_eq!(rt; socket.poll_at(&Interface), PollAt::Ingress);
+    assert_eq!(rt; socket.poll_at(&Host::new(None)), PollAt::Ingress);
     assert_eq!(rt; socket.send_slice(&[7; 48]), Ok(()));
-    assert_eq!(rt; socket.poll_at(&Interface), PollAt::Now);
+    assert_eq!(rt; socket.poll_at(&Host::new(None)), PollAt::Now);
     assert!(rt; socket.send_queue() == 48 && !socket.can_send());
     assert!(rt; socket.send(0).is_err());
     assert_eq!(rt;
@@ -121,13 +119,6 @@ fn raw_truncated_slices(rt: HostRuntime) -> Result<(), Fail> {
     Ok(())
 }
 
-#[test]
-fn texts(rt: HostRuntime) -> Result<(), Fail> {
-    let text = format!(in rt.alloc(); "{}", SendError::BufferFull)?;
-    assert_eq!(rt; text.as_str(), "buffer full");
-    Ok(())
-}
-
 // 10.0.0.1 to 10.0.0.2, protocol 63, hop limit 64, and four bytes; the checksum is not filled.
 const PACKET: [u8; 24] = [
     0x45, 0, 0, 0x18, 0, 0, 0x40, 0, 0x40, 0x3f, 0, 0, 10, 0, 0, 1, 10, 0, 0, 2, 0xaa, 0, 0, 0xff,
@@ -136,12 +127,9 @@ const PACKET: [u8; 24] = [
 const PAYLOAD: [u8; 4] = [0xaa, 0, 0, 0xff];
 
 fn host(ipv4: Checksum) -> Host {
-    let mut caps = ChecksumCapabilities::default();
-    caps.ipv4 = ipv4;
-    Host {
-        addr: Ipv4Address([10, 0, 0, 1]),
-        caps,
-    }
+    let mut host = Host::new(None);
+    host.caps.ipv4 = ipv4;
+    host
 }
 
 // The header of what is emitted, and whether the dispatch answered Ok.
@@ -165,8 +153,8 @@ fn raw_process_and_peek(rt: HostRuntime) -> Result<(), Fail> {
         PacketBuffer::new(&mut [], &mut []),
     );
     let header = IpRepr::new(HERE, THERE, EXPERIMENT, 4, 64);
-    socket.process(&Interface, &header, &PAYLOAD);
-    socket.process(&Interface, &header, &[1, 2, 3, 4]);
+    socket.process(&Host::new(None), &header, &PAYLOAD);
+    socket.process(&Host::new(None), &header, &[1, 2, 3, 4]);
     let mut whole = PACKET;
     whole[10] = 0x26;
     whole[11] = 0xa5;

@@ -1,14 +1,10 @@
-//! Worked examples, and each call once at a concrete type.
-
-use crate::interface::Interface;
+//! Worked examples of UDP sockets.
+use super::host::Host;
+use crate::PollAt;
 use crate::udp::*;
-use control_wire::UdpRepr;
-use ip_wire::{
-    ChecksumCapabilities, IpAddress, IpEndpoint, IpListenEndpoint, IpProtocol, IpRepr, Ipv4Address,
-    Ipv6Address,
+use crate::wire::{
+    IpAddress, IpEndpoint, IpListenEndpoint, IpProtocol, IpRepr, Ipv4Address, Ipv6Address, UdpRepr,
 };
-use net_base::time::Instant;
-use sock_core::{Context, PollAt};
 use std::test::Fail;
 
 const HERE: IpAddress = IpAddress::Ipv4(Ipv4Address([192, 168, 1, 1]));
@@ -47,10 +43,10 @@ fn to(addr: IpAddress, port: u16) -> UdpMetadata {
 // Takes a datagram from the other side where the socket accepts it.
 fn hear(socket: &mut Socket<'_>, payload: &[u8]) -> bool {
     let ip_repr = IpRepr::new(THERE, HERE, IpProtocol::Udp, 8, 64);
-    if !socket.accepts(&Interface, &ip_repr, &REPR) {
+    if !socket.accepts(&Host::new(None), &ip_repr, &REPR) {
         return false;
     }
-    socket.process(&Interface, &ip_repr, &REPR, payload);
+    socket.process(&Host::new(None), &ip_repr, &REPR, payload);
     true
 }
 
@@ -58,8 +54,8 @@ fn hear(socket: &mut Socket<'_>, payload: &[u8]) -> bool {
 fn emitted(socket: &mut Socket<'_>, fail: bool) -> (Option<(IpRepr, UdpRepr)>, bool) {
     let mut seen = None;
     let answer = socket.dispatch(
-        &mut Interface,
-        |_: &mut Interface, sent: (IpRepr, UdpRepr, &[u8])| {
+        &mut Host::new(None),
+        |_: &mut Host, sent: (IpRepr, UdpRepr, &[u8])| {
             seen = Some((sent.0, sent.1));
             if fail { Err(()) } else { Ok(()) }
         },
@@ -93,14 +89,14 @@ fn udp_failed_emit_keeps_datagram(rt: HostRuntime) -> Result<(), Fail> {
         PacketBuffer::new(&mut places, &mut bytes),
     );
     assert_eq!(rt; socket.bind(here(53)), Ok(()));
-    assert_eq!(rt; socket.poll_at(&Interface), PollAt::Ingress);
+    assert_eq!(rt; socket.poll_at(&Host::new(None)), PollAt::Ingress);
     assert_eq!(rt; emitted(&mut socket, false), (None, true));
     assert_eq!(rt; socket.send_slice(b"abcdef", to(THERE, 49500)), Ok(()));
     assert_eq!(rt;
         socket.send_slice(b"123456", to(THERE, 49500)),
         Err(SendError::BufferFull)
     );
-    assert_eq!(rt; socket.poll_at(&Interface), PollAt::Now);
+    assert_eq!(rt; socket.poll_at(&Host::new(None)), PollAt::Now);
     let (failed, answer) = emitted(&mut socket, true);
     assert!(rt; failed.is_some() && !answer && !socket.can_send());
     assert_eq!(rt; emitted(&mut socket, false), (failed, true));
@@ -201,7 +197,7 @@ fn udp_accepts_by_bound_address(rt: HostRuntime) -> Result<(), Fail> {
             PacketBuffer::new(&mut [], &mut []),
         );
         assert_eq!(rt; socket.bind(bound), Ok(()));
-        assert_eq!(rt; socket.accepts(&Interface, &ip_repr, &REPR), accepted);
+        assert_eq!(rt; socket.accepts(&Host::new(None), &ip_repr, &REPR), accepted);
     }
     Ok(())
 }
@@ -222,7 +218,7 @@ fn udp_send_validation(rt: HostRuntime) -> Result<(), Fail> {
     assert_eq!(rt; socket.send_slice(b"abcdef", to(THERE, 49500)), Ok(()));
     // no address is given, none bound, and the host has none
     assert_eq!(rt; emitted(&mut socket, false), (None, true));
-    assert_eq!(rt; socket.poll_at(&Interface), PollAt::Ingress);
+    assert_eq!(rt; socket.poll_at(&Host::new(None)), PollAt::Ingress);
     Ok(())
 }
 
@@ -283,8 +279,8 @@ fn udp_full_receive_queue(rt: HostRuntime) -> Result<(), Fail> {
 fn emits(socket: &mut Socket<'_>, payload: &[u8]) -> bool {
     let mut same = false;
     let answer = socket.dispatch(
-        &mut Interface,
-        |_: &mut Interface, sent: (IpRepr, UdpRepr, &[u8])| {
+        &mut Host::new(None),
+        |_: &mut Host, sent: (IpRepr, UdpRepr, &[u8])| {
             same = sent.2 == payload;
             Ok::<(), ()>(())
         },
@@ -355,7 +351,7 @@ fn send_changes_the_transmit_queue_alone(rt: HostRuntime) -> Result<(), Fail> {
     assert_eq!(rt; socket.send_queue(), 8);
     assert!(rt; holds(&mut socket, Some(9), b"came", b"first"));
     assert!(rt; holds(&mut socket, Some(9), b"came", b"new"));
-    assert_eq!(rt; socket.poll_at(&Interface), PollAt::Ingress);
+    assert_eq!(rt; socket.poll_at(&Host::new(None)), PollAt::Ingress);
     Ok(())
 }
 
@@ -377,26 +373,5 @@ fn a_refused_send_keeps_what_waits(rt: HostRuntime) -> Result<(), Fail> {
         assert!(rt; holds(&mut socket, None, b"came", b"first"));
         assert_eq!(rt; emitted(&mut socket, false), (None, true));
     }
-    Ok(())
-}
-
-#[test]
-fn texts(rt: HostRuntime) -> Result<(), Fail> {
-    let opening = format!(in rt.alloc();
-        "{}, {}",
-        BindError::Unaddressable,
-        BindError::InvalidState
-    )?;
-    assert_eq!(rt; opening.as_str(), "unaddressable, invalid state");
-    let sending = format!(in rt.alloc();
-        "{}, {}",
-        SendError::Unaddressable,
-        SendError::BufferFull
-    )?;
-    assert_eq!(rt; sending.as_str(), "unaddressable, buffer full");
-    let receiving = format!(in rt.alloc(); "{}, {}", RecvError::Exhausted, RecvError::Truncated)?;
-    assert_eq!(rt; receiving.as_str(), "exhausted, truncated");
-    let meta = format!(in rt.alloc(); "{}", UdpMetadata::from_endpoint(REMOTE))?;
-    assert_eq!(rt; meta.as_str(), "192.168.1.2:49500");
     Ok(())
 }

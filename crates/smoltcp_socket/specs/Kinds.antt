@@ -1,0 +1,32 @@
+-- The socket that the enum of all kinds holds, where it is of the kind asked for.
+use Rattle.std.specs.Prelude.{Option, Some, None}
+use Rattle.sock_dgram.specs.Raw as raw
+use Rattle.sock_dgram.specs.Icmp as icmp
+use Rattle.sock_dgram.specs.Udp as udp
+use Rattle.sock_tcp.specs.declared.socket.Socket as tcp
+use Rattle.smoltcp_socket.specs.declared.socket.Socket.{Socket}
+use Rattle.smoltcp_socket.specs.declared.socket.Socket.TheVariants.{Raw, Icmp, Udp, Tcp}
+
+abbrev pub raw_of : {G : Type 0} → Socket G → Option raw.View
+raw_of (Raw s) = Some s
+raw_of (Icmp s) = None
+raw_of (Udp s) = None
+raw_of (Tcp s) = None
+
+abbrev pub icmp_of : {G : Type 0} → Socket G → Option icmp.View
+icmp_of (Raw s) = None
+icmp_of (Icmp s) = Some s
+icmp_of (Udp s) = None
+icmp_of (Tcp s) = None
+
+abbrev pub udp_of : {G : Type 0} → Socket G → Option udp.View
+udp_of (Raw s) = None
+udp_of (Icmp s) = None
+udp_of (Udp s) = Some s
+udp_of (Tcp s) = None
+
+abbrev pub tcp_of : {G : Type 0} → Socket G → Option (tcp.Socket G)
+tcp_of (Raw s) = None
+tcp_of (Icmp s) = None
+tcp_of (Udp s) = None
+tcp_of (Tcp s) = Some s

@@ -1,0 +1,8 @@
+//! Worked examples of single sockets, and each call once at a concrete type.
+
+mod host;
+mod icmp;
+mod kinds;
+mod raw;
+mod texts;
+mod udp;

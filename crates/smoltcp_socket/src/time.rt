@@ -1,0 +1,3 @@
+//! Moments and lengths of time.
+
+pub use net_base::{Duration, Instant};

@@ -1,0 +1,122 @@
+-- Packets leave a queue in the order in which they came into it.
+use Rattle.std.proofs.Common.{◌≡◌, ℕ, List, [], ◌∷◌, ◌++◌, length, map, take, drop, Bool, true, false, cond, Option, Some, Result, Ok, Err, refl, sym, ap, subst, ◌∙◌, append_assoc, append-nil}
+use Rattle.std.proofs.lemmas.Bool.{false≢true}
+use Rattle.std.proofs.lemmas.List.{map-append, take_at}
+use Rattle.std.proofs.lemmas.Option.{none-some, same_Some}
+use Rattle.std.specs.Prelude.{◌+◌, IfOk, is_ok, nat_lt, slice_get, if◌then◌else◌}
+use Rattle.net_base.specs.Packets.{Packets, packets}
+use Rattle.net_base.specs.Ring.{overwrite}
+use Rattle.sock_dgram.specs.Datagrams.{answered, take_answer, copy_answer, copied}
+use Rattle.sock_dgram.specs.Traffic.{Cleared, Traffic, nothing, followed_by, sends, exit_of, departs, queues, read, reads, copied_out, copies_out, clears, InOrder, Reads, Copies, Runs}
+use Rattle.sock_dgram.specs.declared.error.RecvError.{RecvError}
+use Rattle.sock_dgram.specs.declared.error.RecvError.TheVariants as recv_error
+
+-- ---- one queue: `outs` left it and `ins` came behind it, from x to y
+
+module _ {P : Type 0} where
+  pub still : (x y : List P) → y ≡ x → y ≡ x ++ []
+  still x y e = e ∙ sym (append-nil x)
+
+  pub added : (ok : Bool) (d : P) (x y : List P) → y ≡ cond ok (x ++ d ∷ []) x → y ≡ x ++ cond ok (d ∷ []) []
+  added true d x y e = e
+  added false d x y e = still x y e
+
+module _ {P Q : Type 0} where
+  abbrev pub Moves : List (P × Q) → List P → List P → List P → Type 0
+  Moves outs ins x y = map (λ d. d.0) outs ++ y ≡ x ++ ins
+
+  pub removed : (ok : Bool) (e : Q) (x y : List P) → y ≡ cond ok (drop 1 x) x → Moves (cond ok (map (λ d. (d, e)) (take 1 x)) []) [] x y
+  removed true e [] y is = is
+  removed true e (d ∷ ds) y is = ap (λ (l : List P). d ∷ l) (is ∙ sym (append-nil ds))
+  removed false e x y is = still x y is
+
+  pub cleared : (e : Q) (x : List P) → Moves (map (λ d. (d, e)) x) [] x []
+  cleared e [] = refl
+  cleared e (d ∷ ds) = ap (λ (l : List P). d ∷ l) (cleared e ds)
+
+  pub chain : (o p : List (P × Q)) (i j x y z : List P) → Moves o i x y → Moves p j y z → Moves (o ++ p) (i ++ j) x z
+  chain o p i j x y z first second =
+      let firsts : List (P × Q) → List P = map (λ d. d.0) in
+      ap (λ (l : List P). l ++ z) (map-append (λ (d : P × Q). d.0) o p) ∙ append_assoc (firsts o) (firsts p) z
+      ∙ ap (λ (l : List P). firsts o ++ l) second ∙ sym (append_assoc (firsts o) y j)
+      ∙ ap (λ (l : List P). l ++ j) first ∙ append_assoc x i j
+
+-- ---- what is received
+
+module _ {M : Type 0} where
+  -- of a queue that stands so
+  read_first : (ps qs : List (M × List ℕ)) (r : Result (M × List ℕ) RecvError) → answered r ≡ take_answer (slice_get ps 0) → IfOk r (λ d. slice_get ps 0 ≡ Some d) → qs ≡ drop 1 ps → Moves (read r) [] ps qs
+  read_first [] qs (Ok d) a v e = absurd (none-some d v)
+  read_first [] qs (Err x) a v e = e
+  read_first (p ∷ ps) qs (Ok d) a v e = (λ i. sym (same_Some p d v) i ∷ (e ∙ sym (append-nil ps)) i)
+  read_first (p ∷ ps) qs (Err x) a v e = absurd (false≢true (ap (λ o. is_ok o) a))
+
+  pub reading : (p q : Packets M) (r : Result (M × List ℕ) RecvError) → Reads p r → packets q.entries ≡ drop 1 (packets p.entries) → Moves (read r) [] (packets p.entries) (packets q.entries)
+  reading p q r h e = read_first (packets p.entries) (packets q.entries) r h.answer h.value e
+
+  copy_first : (ps qs : List (M × List ℕ)) (slice left : List ℕ) → left ≡ copied (slice_get ps 0) slice → qs ≡ drop 1 ps → Moves (copied_out (copy_answer (slice_get ps 0) (length slice)) left (slice_get ps 0)) [] ps qs
+  copy_first [] qs slice left l e = e
+  copy_first (p ∷ ps) qs slice left l e = go (nat_lt (length slice) (length p.1)) l
+    where
+      rest : qs ≡ ps ++ []
+      rest = e ∙ sym (append-nil ps)
+
+      go : (b : Bool) → left ≡ (if b then slice else overwrite slice 0 p.1) → Moves (copied_out (if b then Err recv_error.Truncated else Ok (length p.1, p.0)) left (Some p)) [] (p ∷ ps) qs
+      go true l = ap (λ (l : List (M × List ℕ)). p ∷ l) rest
+      go false l =
+          let whole : take (length p.1) left ≡ p.1 = ap (take (length p.1)) l ∙ take_at p.1 (drop (0 + length p.1) slice) (length p.1) refl in
+          (λ i. (p.0, whole i) ∷ rest i)
+
+  pub copying : (p q : Packets M) (slice left : List ℕ) (r : Result (ℕ × M) RecvError) → Copies p slice left r → packets q.entries ≡ drop 1 (packets p.entries)
+      → Moves (copied_out r left (slice_get (packets p.entries) 0)) [] (packets p.entries) (packets q.entries)
+  copying p q slice left r h e =
+      subst (λ x. Moves (copied_out x left (slice_get (packets p.entries) 0)) [] (packets p.entries) (packets q.entries)) (sym h.answer)
+      (copy_first (packets p.entries) (packets q.entries) slice left h.bytes e)
+
+-- ---- both queues
+
+module _ {M O : Type 0} where
+  pub idle : (t : Traffic M O) (x r y q : List (M × List ℕ)) → t ≡ nothing → y ≡ x → q ≡ r → InOrder t x r y q
+  idle t x r y q e transmit receive = subst (λ (s : Traffic M O). InOrder s x r y q) (sym e) (record { transmit = still x y transmit; receive = still r q receive })
+
+  pub sending : (t : Traffic M O) (ok : Bool) (d : M × List ℕ) (x r y q : List (M × List ℕ)) → t ≡ sends ok d → y ≡ cond ok (x ++ d ∷ []) x → q ≡ r → InOrder t x r y q
+  sending t ok d x r y q e transmit receive = subst (λ (s : Traffic M O). InOrder s x r y q) (sym e) (record { transmit = added ok d x y transmit; receive = still r q receive })
+
+  pub departing : (t : Traffic M O) (ok : Bool) (out : Option O) (x r y q : List (M × List ℕ)) → t ≡ departs ok out x → y ≡ cond ok (drop 1 x) x → q ≡ r → InOrder t x r y q
+  departing t ok out x r y q e transmit receive = subst (λ (s : Traffic M O). InOrder s x r y q) (sym e) (record { transmit = removed ok (exit_of out) x y transmit; receive = still r q receive })
+
+  pub queueing : (t : Traffic M O) (ok : Bool) (d : M × List ℕ) (x r y q : List (M × List ℕ)) → t ≡ queues ok d → y ≡ x → q ≡ cond ok (r ++ d ∷ []) r → InOrder t x r y q
+  queueing t ok d x r y q e transmit receive = subst (λ (s : Traffic M O). InOrder s x r y q) (sym e) (record { transmit = still x y transmit; receive = added ok d r q receive })
+
+  pub clearing : (t : Traffic M O) (x r : List (M × List ℕ)) → t ≡ clears x r → InOrder t x r [] []
+  clearing t x r e = subst (λ (s : Traffic M O). InOrder s x r [] []) (sym e) (record { transmit = cleared Cleared x; receive = cleared Cleared r })
+
+  pub receiving : (t : Traffic M O) (r : Result (M × List ℕ) RecvError) (p q : Packets M) (x y : List (M × List ℕ)) → t ≡ reads r → Reads p r → packets q.entries ≡ drop 1 (packets p.entries) → y ≡ x
+      → InOrder t x (packets p.entries) y (packets q.entries)
+  receiving t r p q x y e h receive transmit =
+      subst (λ (s : Traffic M O). InOrder s x (packets p.entries) y (packets q.entries)) (sym e) (record { transmit = still x y transmit; receive = reading p q r h receive })
+
+  pub copying_out : (t : Traffic M O) (slice left : List ℕ) (r : Result (ℕ × M) RecvError) (p q : Packets M) (x y : List (M × List ℕ)) → t ≡ copies_out r left (slice_get (packets p.entries) 0) → Copies p slice left r
+      → packets q.entries ≡ drop 1 (packets p.entries) → y ≡ x → InOrder t x (packets p.entries) y (packets q.entries)
+  copying_out t slice left r p q x y e h receive transmit =
+      subst (λ (s : Traffic M O). InOrder s x (packets p.entries) y (packets q.entries)) (sym e) (record { transmit = still x y transmit; receive = copying p q slice left r h receive })
+
+  pub in_turn : (a b : Traffic M O) (x r y q z s : List (M × List ℕ)) → InOrder a x r y q → InOrder b y q z s → InOrder (followed_by a b) x r z s
+  in_turn a b x r y q z s first second = record {
+    transmit = chain a.departed b.departed a.sent b.sent x y z first.transmit second.transmit;
+    receive = chain a.taken b.taken a.queued b.queued r q s first.receive second.receive;
+  }
+
+-- ---- lists of calls, whose packets are seen in some way
+
+module _ {V K M O : Type 0} (effect : K → V → Traffic M O → V → Type 0) (waiting received : V → List (M × List ℕ)) (see : Traffic M O → Traffic M O) (none : see nothing ≡ nothing)
+    (both : (a b : Traffic M O) → see (followed_by a b) ≡ followed_by (see a) (see b))
+    (step : (k : K) (v : V) (t : Traffic M O) (w : V) → effect k v t w → InOrder (see t) (waiting v) (received v) (waiting w) (received w)) where
+  pub runs : (ks : List K) (v : V) (t : Traffic M O) (w : V) → Runs effect ks v t w → InOrder (see t) (waiting v) (received v) (waiting w) (received w)
+  runs [] v t w h = idle (see t) (waiting v) (received v) (waiting w) (received w) (ap see h.0 ∙ none) (ap waiting h.1) (ap received h.1)
+  runs (k ∷ ks) v t w h =
+      let u = h.0 in
+      let a = h.1 in
+      let b = h.2 in
+      subst (λ (s : Traffic M O). InOrder s (waiting v) (received v) (waiting w) (received w)) (sym (ap see h.5 ∙ both a b))
+      (in_turn (see a) (see b) (waiting v) (received v) (waiting u) (received u) (waiting w) (received w) (step k v a u h.3) (runs ks u b w h.4))
