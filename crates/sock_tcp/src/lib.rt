@@ -33,4 +33,6 @@ pub use socket::{Socket, SocketBuffer};
 pub use state::State;
 
 #[cfg(test)]
+mod poll_tests;
+#[cfg(test)]
 mod tests;
