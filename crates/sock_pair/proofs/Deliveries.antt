@@ -1,12 +1,16 @@
 -- What the code of a delivery shows, against its table.
-use Rattle.std.proofs.Common.{◌≡◌, ℕ, zero, suc, ◌<◌, true, false, List, [], ◌∷◌, ◌++◌, length, map, get_or, Option, Some, refl, sym, ap, subst, ◌∙◌, arith}
+use Rattle.std.proofs.Common.{◌≡◌, ℕ, zero, suc, ◌<◌, true, false, List, [], ◌∷◌, ◌++◌, length, map, get_or, Option, Some, None, refl, sym, ap, subst, ◌∙◌, arith}
 use Rattle.std.specs.Prelude.{slice_get}
 use Rattle.ip_wire.specs.declared.repr.IpRepr.{IpRepr}
 use Rattle.control_wire.specs.Segment.{Segment}
 use Rattle.sock_tcp.specs.Process.{Accepts}
+use Rattle.control_wire.specs.declared.tcp.TcpControl.{TcpControl}
+use Rattle.control_wire.specs.declared.tcp.TcpControl.TheVariants as control
+use Rattle.control_wire.specs.declared.tcp.TcpTimestampRepr.{TcpTimestampRepr}
+use Rattle.sock_tcp.specs.Replies.{Answers, IsStamp}
 use Rattle.sock_pair.specs.Exchanges.{DeliversAt}
 use Rattle.sock_pair.specs.Holding.{kept_at}
-use Rattle.sock_pair.specs.PairSteps.{is_too_old, processed_by, delivered_to, reply_index, DeliversTo}
+use Rattle.sock_pair.specs.PairSteps.{is_too_old, IsAnyStamp, processed_by, delivered_to, reply_index, DeliversTo}
 use Rattle.sock_pair.specs.PairViews.{HostView, StoredView}
 use Rattle.sock_pair.specs.declared.moment.Moment.{Moment}
 use Rattle.sock_pair.specs.declared.outcome.Outcome.{Outcome}
@@ -29,15 +33,30 @@ get_same (x ∷ xs) (suc n) d e l = get_same xs n d e (omega arith)
 pub read_twice : {X : Type 0} (xs ys : List X) (n : ℕ) (a b : X) → n < length xs → ys ≡ xs → a ≡ get_or xs n a → b ≡ get_or ys n b → b ≡ a
 read_twice xs ys n a b l e p q = q ∙ ap (λ zs. get_or zs n b) e ∙ get_same xs n b a l ∙ sym p
 
+-- whatever the source of timestamps
+any_stamp_at : {G : Type 0} (tells : G → ℕ → Type 0) (source : Option G) (came : Option TcpTimestampRepr) (c : TcpControl) (t : Option TcpTimestampRepr) → IsStamp tells source came c t → IsAnyStamp c t
+any_stamp_at tells source came control.None t x = tt
+any_stamp_at tells None came _ t x = x
+any_stamp_at tells (Some g) None _ t x = x
+any_stamp_at tells (Some g) (Some u) _ t x = x
+
+pub any_stamp : {G : Type 0} (tells : G → ℕ → Type 0) (source : Option G) (came : Option TcpTimestampRepr) (ip : IpRepr) (x : Option Segment) (r : Option (IpRepr × Segment)) → Answers (IsStamp tells source came) ip x r → Answers IsAnyStamp ip x r
+any_stamp tells source came ip None None a = tt
+any_stamp tells source came ip None (Some r) a = absurd a
+any_stamp tells source came ip (Some x) None a = absurd a
+any_stamp tells source came ip (Some x) (Some r) a = record { stamp = a.stamp; is_stamp = any_stamp_at tells source came x.control a.stamp a.is_stamp; is = a.is }
+
 module _ (ts : List StoredView) (n : ℕ) (t : StoredView) (at : slice_get ts n ≡ Some t) (released taken : ℕ) (s : Side) (m : Moment) (h : HostView) where
-  pub delivers : (o : Outcome) (h' : HostView) (ts' : List StoredView) (r : Option (IpRepr × Segment)) → is_too_old t.released_at released t.taken_at taken ≡ false → Accepts h.control_block t.ip t.segment → h' ≡ delivered_to h m t → r ≡ (processed_by h m t).reply → o ≡ outcome.Delivered (reply_index (length ts) r) → ts' ≡ ts ++ kept_at s r h'.released h'.taken → DeliversAt (slice_get ts n) released taken s m o h ts h' ts'
+  pub delivers : (o : Outcome) (h' : HostView) (ts' : List StoredView) (r : Option (IpRepr × Segment)) → is_too_old t.released_at released t.taken_at taken ≡ false → Accepts h.control_block t.ip t.segment → h' ≡ delivered_to h m t → Answers IsAnyStamp t.ip (processed_by h m t).reply r → o ≡ outcome.Delivered (reply_index (length ts) r) → ts' ≡ ts ++ kept_at s r h'.released h'.taken → DeliversAt (slice_get ts n) released taken s m o h ts h' ts'
   delivers o h' ts' r young ok is answers says stored =
       subst (λ x. DeliversAt x released taken s m o h ts h' ts') (sym at) (subst (λ b. DeliversTo b s m t o h ts h' ts') (sym young) (record {
         accepted = true;
         says = (λ x. ok, λ x. refl);
         does = record {
-          answer = says ∙ ap (λ x. outcome.Delivered (reply_index (length ts) x)) answers;
+          reply = r;
+          is_reply = answers;
+          answer = says;
           host = is;
-          stored = stored ∙ ap (λ x. ts ++ kept_at s x h'.released h'.taken) answers ∙ ap (λ (k : HostView). ts ++ kept_at s (processed_by h m t).reply k.released k.taken) is;
+          stored = stored ∙ ap (λ (k : HostView). ts ++ kept_at s r k.released k.taken) is;
         };
       }))

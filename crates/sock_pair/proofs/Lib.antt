@@ -23,10 +23,11 @@ pub mod NetworkSteps
 pub mod NetworkRuns
 pub mod NetworkReaches
 pub mod NetworkExample
-pub mod PairFins
 pub mod PairListeners
 pub mod DispatchKeeps
 pub mod PairHosts
+pub mod ShownReplies
+pub mod ShownSteps
 pub mod ShownProcess
 pub mod ShownCalls
 pub mod ShownSending

@@ -123,7 +123,7 @@ always_completes limit bound = record {
 }
 
 -- a side's stream ends with its close, whichever side takes a step
-local_ends : (w v : Network) → EitherSteps w v → IsInvariant w → w.local.closed ≡ true → HasEnded w.local v.local
+pub local_ends : (w v : Network) → EitherSteps w v → IsInvariant w → w.local.closed ≡ true → HasEnded w.local v.local
 local_ends w v (inl step) i c = closed_stays w v step i c
 local_ends w v (inr step) i c = let e = (step_adds (swapped w) (swapped v) step).remote in record { closed = ap (λ (z : Endpoint). z.closed) e ∙ c; accepted = ap (λ (z : Endpoint). z.accepted) e }
 

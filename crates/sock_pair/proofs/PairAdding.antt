@@ -3,8 +3,8 @@ use Rattle.std.proofs.Common.{◌≡◌, ℕ, ◌+◌, Bool, true, false, refl, 
 use Rattle.std.specs.Prelude.{slice_get, Vec, Result, Ok, Err, IfOk}
 use Rattle.std.specs.Global.{Global}
 use Rattle.std.proofs.lemmas.List.{append-nil}
-use Rattle.sock_tcp.specs.Queues.{may_send, may_recv}
-use Rattle.sock_tcp.specs.declared.error.RecvError.TheVariants as recv_error
+use Rattle.sock_tcp.specs.Queues.{may_send, may_recv, recv_refusal}
+use Rattle.sock_tcp.specs.declared.error.RecvError.{RecvError}
 use Rattle.sock_tcp.specs.declared.error.SendError.TheVariants as send_error
 use Rattle.sock_pair.specs.PairCalls.{listening, connecting, OpensAs, SendsIf, SendsUnder, IsRead, ReceivesIf, is_over, sending, receiving}
 use Rattle.sock_pair.proofs.PairAmounts.{takes_some, hands_some}
@@ -97,7 +97,7 @@ module _ (t : Side) (p : PairView) (bs : List ℕ) (k : HostView) (by : Side →
     sends false size o x = sends_if (may_send (host_of t p).control_block.state) size o x
 
 -- what the outcome of a read adds, by whichever event
-module _ (t : Side) (p : PairView) (k : HostView) (by : Side → Outcome → List ℕ) (some : (s : Side) (v : Vec ℕ Global) → by s (outcome.Read v) ≡ where_same s t v.items) (shut : (s : Side) → by s (outcome.RecvRefused recv_error.InvalidState) ≡ []) where
+module _ (t : Side) (p : PairView) (k : HostView) (by : Side → Outcome → List ℕ) (some : (s : Side) (v : Vec ℕ Global) → by s (outcome.Read v) ≡ where_same s t v.items) (shut : (s : Side) (e : RecvError) → by s (outcome.RecvRefused e) ≡ []) where
   abbrev ReadAdds : Outcome → Type 0
   ReadAdds o = AddsUp p (exchanged t p k p.segments) (λ s. []) (λ s. by s o)
 
@@ -112,7 +112,9 @@ module _ (t : Side) (p : PairView) (k : HostView) (by : Side → Outcome → Lis
 
   reads_if : (b piece : Bool) (size : ℕ) (o : Outcome) → ReceivesIf b piece size (host_of t p) o k → ReadAdds o
   reads_if true piece size o x = let s = hands_some piece size (host_of t p) o k x in reads s.count o s.does.answer s.does.host
-  reads_if false piece size o x = subst ReadAdds (sym x.0) (on_side t p k p.segments (λ s. []) (λ s. by s (outcome.RecvRefused recv_error.InvalidState)) (subst (λ xs. HostAdds (host_of t p) k [] xs) (sym (shut t)) (same (host_of t p) k x.1)) refl (shut (other_side t)))
+  reads_if false piece size o x =
+      let e = recv_refusal (host_of t p).control_block in
+      subst ReadAdds (sym x.0) (on_side t p k p.segments (λ s. []) (λ s. by s (outcome.RecvRefused e)) (subst (λ xs. HostAdds (host_of t p) k [] xs) (sym (shut t e)) (same (host_of t p) k x.1)) refl (shut (other_side t) e))
 
 -- a delivery
 delivers_to : (old : Bool) (s : Side) (m : Moment) (t : StoredView) (o : Outcome) (h h' : HostView) (ks ks' : List StoredView) → DeliversTo old s m t o h ks h' ks' → HostAdds h h' [] []
@@ -142,14 +144,20 @@ with_is_exchanged : (t : Side) (p : PairView) (k : HostView) → with_host t p k
 with_is_exchanged A p k = refl
 with_is_exchanged B p k = refl
 
+-- a call that adds nothing
+calls_none : (t : Side) (p q : PairView) (k : HostView) → q ≡ exchanged t p k p.segments → k.accepted ≡ (host_of t p).accepted → k.handed_out ≡ (host_of t p).handed_out → AddsUp p q (λ s. []) (λ s. [])
+calls_none t p q k e a d = one_side t p q k _ _ e (on_side t p k p.segments (λ s. []) (λ s. []) (nothing (host_of t p) k a d) refl refl)
+
 pub step_adds_up : (e : Event) (p : PairView) (o : Outcome) (q : PairView) → EventStep e p o q → AddsUp p q (λ s. accepted_by s e o) (λ s. handed_out_by s e o)
 step_adds_up (event.Listen t) p o q x = one_side t p q x.host _ _ (x.same ∙ with_is_exchanged t p x.host) (on_side t p x.host p.segments (λ s. []) (λ s. []) (opens (host_of t p).opening (host_of t p) (listening (host_of t p)) x.host o (nothing _ _ refl refl) x.does) refl refl)
 step_adds_up (event.Connect t m) p o q x = one_side t p q x.host _ _ (x.same ∙ with_is_exchanged t p x.host) (on_side t p x.host p.segments (λ s. []) (λ s. []) (opens (host_of t p).opening (host_of t p) (connecting (host_of t p) m (host_of (other_side t) p).endpoint) x.host o (nothing _ _ refl refl) x.does) refl refl)
 step_adds_up (event.SendSlice t bytes) p o q x = one_side t p q x.host _ _ (x.same ∙ with_is_exchanged t p x.host) (sends t p bytes.items x.host (λ s o. accepted_by s (event.SendSlice t bytes) o) (λ s n. refl) (λ s. refl) (λ s. refl) (is_over p.limit (length (host_of t p).accepted + length bytes.items)) None o x.does)
 step_adds_up (event.Send t bytes size) p o q x = one_side t p q x.host _ _ (x.same ∙ with_is_exchanged t p x.host) (sends t p bytes.items x.host (λ s o. accepted_by s (event.Send t bytes size) o) (λ s n. refl) (λ s. refl) (λ s. refl) (is_over p.limit (length (host_of t p).accepted + length bytes.items)) (Some size) o x.does)
-step_adds_up (event.RecvSlice t size) p o q x = one_side t p q x.host _ _ (x.same ∙ with_is_exchanged t p x.host) (reads_if t p x.host (λ s o. handed_out_by s (event.RecvSlice t size) o) (λ s v. refl) (λ s. refl) (may_recv (host_of t p).control_block) false size o x.does)
-step_adds_up (event.Recv t size) p o q x = one_side t p q x.host _ _ (x.same ∙ with_is_exchanged t p x.host) (reads_if t p x.host (λ s o. handed_out_by s (event.Recv t size) o) (λ s v. refl) (λ s. refl) (may_recv (host_of t p).control_block) true size o x.does)
-step_adds_up (event.Set t x) p o q d = one_side t p q d.host _ _ (d.same ∙ with_is_exchanged t p d.host) (on_side t p d.host p.segments (λ s. []) (λ s. []) (nothing (host_of t p) d.host (ap (λ (h : HostView). h.accepted) d.does.1) (ap (λ (h : HostView). h.handed_out) d.does.1)) refl refl)
+step_adds_up (event.RecvSlice t size) p o q x = one_side t p q x.host _ _ (x.same ∙ with_is_exchanged t p x.host) (reads_if t p x.host (λ s o. handed_out_by s (event.RecvSlice t size) o) (λ s v. refl) (λ s e. refl) (may_recv (host_of t p).control_block) false size o x.does)
+step_adds_up (event.Recv t size) p o q x = one_side t p q x.host _ _ (x.same ∙ with_is_exchanged t p x.host) (reads_if t p x.host (λ s o. handed_out_by s (event.Recv t size) o) (λ s v. refl) (λ s e. refl) (may_recv (host_of t p).control_block) true size o x.does)
+step_adds_up (event.Close t) p o q d = calls_none t p q d.host (d.same ∙ with_is_exchanged t p d.host) (ap (λ (h : HostView). h.accepted) d.does.1) (ap (λ (h : HostView). h.handed_out) d.does.1)
+step_adds_up (event.Abort t) p o q d = calls_none t p q d.host (d.same ∙ with_is_exchanged t p d.host) (ap (λ (h : HostView). h.accepted) d.does.1) (ap (λ (h : HostView). h.handed_out) d.does.1)
+step_adds_up (event.Set t x) p o q d = calls_none t p q d.host (d.same ∙ with_is_exchanged t p d.host) (ap (λ (h : HostView). h.accepted) d.does.1) (ap (λ (h : HostView). h.handed_out) d.does.1)
 step_adds_up (event.Dispatch t m fail) p o q x = subst (λ z. AddsUp p z (λ s. []) (λ s. [])) (sym x.same) (on_side t p x.host x.segments (λ s. []) (λ s. []) (nothing (host_of t p) x.host (ap (λ (z : HostView). z.accepted) x.does.does.same) (ap (λ (z : HostView). z.handed_out) x.does.does.same)) refl refl)
 step_adds_up (event.Deliver i m) p o q x = delivers (slice_get p.segments i) m p q o x
 

@@ -9,11 +9,12 @@ use Rattle.sock_tcp.specs.Queue.{Queue}
 use Rattle.sock_tcp.specs.View.{View, fresh}
 use Rattle.sock_tcp.specs.Begin.{Begun, begun, begun_to, before_emit, before_emit_to, ended}
 use Rattle.sock_tcp.specs.Process.{Accepts, AcceptsIn}
+use Rattle.sock_tcp.specs.Closing.{closed, aborted, closed_from}
 use Rattle.sock_tcp.specs.Queues.{may_send, may_recv, receives, can_recv}
 use Rattle.sock_tcp.specs.declared.state.State.TheVariants as state
 use Rattle.sock_pair.specs.Moments.{facts_of}
 use Rattle.sock_pair.specs.NetworkInvariant.{IsInvariant, IsLimit}
-use Rattle.sock_pair.specs.PairCalls.{listening, connecting, OpensAs, sending, Sends, SendsUnder, SendsIf, is_over, receiving, Receives, ReceivesIf, setting as setting_host, Sets}
+use Rattle.sock_pair.specs.PairCalls.{listening, connecting, OpensAs, sending, Sends, SendsUnder, SendsIf, is_over, receiving, Receives, ReceivesIf, closing, Closes, aborting, Aborts, setting as setting_host, Sets}
 use Rattle.sock_pair.specs.Settings.{set_in}
 use Rattle.sock_pair.specs.declared.setting.Setting.{Setting}
 use Rattle.sock_pair.specs.declared.setting.Setting.TheVariants as setting
@@ -31,8 +32,7 @@ use Rattle.sock_pair.specs.declared.side.Side.{Side}
 use Rattle.sock_pair.specs.declared.side.Side.TheVariants.{A, B}
 use Rattle.sock_pair.proofs.NetworkRuns.{starts}
 use Rattle.sock_pair.proofs.DispatchKeeps.{Keeps, keeps_in_dispatch}
-use Rattle.sock_pair.proofs.PairFins.{connected_fin, listened_fin, process_fin, queued_fin, read_fin}
-use Rattle.sock_pair.proofs.PairListeners.{connected_active, listened_passive, passive_kept, process_listens, queued_listens, read_listens, KeepsListener}
+use Rattle.sock_pair.proofs.PairListeners.{aborted_listens, closed_listens, connected_active, listened_passive, passive_kept, process_listens, queued_listens, read_listens, KeepsListener}
 use Rattle.sock_pair.proofs.PairAmounts.{takes_some, hands_some}
 
 -- a host that is one still, on the same endpoint
@@ -51,10 +51,10 @@ opens opening.Listener h n k o i s e = unchanged h k i e.1
 opens opening.Connector h n k o i s e = unchanged h k i e.1
 
 pub listen_stays : (h k : HostView) (o : Outcome) → IsHost h → OpensAs h.opening h (listening h) o k → StaysHost h k
-listen_stays h k o i e = opens h.opening h (listening h) k o i (record { host = record { reachable = i.reachable; idle = λ n. let no : opening.Listener ≡ opening.Unopened = n in cc; passive = λ shut live. listened_passive h.control_block (record { addr = Some h.endpoint.addr; port = h.endpoint.port }) i.reachable.port; no_fin = listened_fin h.control_block (record { addr = Some h.endpoint.addr; port = h.endpoint.port }) }; endpoint = refl }) e
+listen_stays h k o i e = opens h.opening h (listening h) k o i (record { host = record { reachable = i.reachable; idle = λ n. let no : opening.Listener ≡ opening.Unopened = n in cc; passive = λ shut live. listened_passive h.control_block (record { addr = Some h.endpoint.addr; port = h.endpoint.port }) i.reachable.port }; endpoint = refl }) e
 
 pub connect_stays : (h k : HostView) (m : Moment) (remote : IpEndpoint) (o : Outcome) → IsHost h → OpensAs h.opening h (connecting h m remote) o k → StaysHost h k
-connect_stays h k m remote o i e = opens h.opening h (connecting h m remote) k o i (record { host = record { reachable = i.reachable; idle = λ n. let no : opening.Connector ≡ opening.Unopened = n in cc; passive = λ shut live. connected_active h.control_block (record { local = h.endpoint; remote = remote }) m.word; no_fin = connected_fin h.control_block (record { local = h.endpoint; remote = remote }) m.word }; endpoint = refl }) e
+connect_stays h k m remote o i e = opens h.opening h (connecting h m remote) k o i (record { host = record { reachable = i.reachable; idle = λ n. let no : opening.Connector ≡ opening.Unopened = n in cc; passive = λ shut live. connected_active h.control_block (record { local = h.endpoint; remote = remote }) m.word }; endpoint = refl }) e
 
 -- ---- sending and receiving
 
@@ -74,7 +74,7 @@ send_stays h k limit size bs o i e = go (is_over limit _) e
     take_some : (b : Bool) → may_send h.control_block.state ≡ b → SendsIf b size bs h o k → StaysHost h k
     take_some true m x =
         let s = takes_some size bs h o k x in
-        subst (StaysHost h) (sym s.host) (record { host = record { reachable = i.reachable; idle = λ u. absurd (cannot_send h i m u); passive = passive_kept h (sending h s.count bs) i refl (queued_listens h.control_block s.count bs); no_fin = queued_fin h.control_block s.count bs i.no_fin }; endpoint = refl })
+        subst (StaysHost h) (sym s.host) (record { host = record { reachable = i.reachable; idle = λ u. absurd (cannot_send h i m u); passive = passive_kept h (sending h s.count bs) i refl (queued_listens h.control_block s.count bs) }; endpoint = refl })
     take_some false m x = unchanged h k i x.1
 
     go : (b : Bool) → SendsUnder b size bs h o k → StaysHost h k
@@ -87,25 +87,35 @@ recv_stays h k piece size o i e = go (may_recv h.control_block) refl e
     go : (b : Bool) → may_recv h.control_block ≡ b → ReceivesIf b piece size h o k → StaysHost h k
     go true m x =
         let s = hands_some piece size h o k x in
-        subst (StaysHost h) (sym s.does.host) (record { host = record { reachable = i.reachable; idle = λ u. absurd (cannot_recv h i m u); passive = passive_kept h (receiving h s.count) i refl (read_listens h.control_block s.count); no_fin = read_fin h.control_block s.count i.no_fin }; endpoint = refl })
+        subst (StaysHost h) (sym s.does.host) (record { host = record { reachable = i.reachable; idle = λ u. absurd (cannot_recv h i m u); passive = passive_kept h (receiving h s.count) i refl (read_listens h.control_block s.count) }; endpoint = refl })
     go false m x = unchanged h k i x.1
+
+-- ---- closing
+
+closed_idle : (v : View) → IsIdle v → IsIdle (closed v)
+closed_idle v i = record { state = ap closed_from i.state; tuple = i.tuple; rx = i.rx; tx = i.tx; no_fin = i.no_fin }
+
+aborted_idle : (v : View) → IsIdle v → IsIdle (aborted v)
+aborted_idle v i = record { state = refl; tuple = i.tuple; rx = i.rx; tx = i.tx; no_fin = i.no_fin }
+
+pub close_stays : (h k : HostView) (o : Outcome) → IsHost h → Closes h o k → StaysHost h k
+close_stays h k o i e = subst (StaysHost h) (sym e.1) (record { host = record { reachable = i.reachable; idle = λ u. closed_idle h.control_block (i.idle u); passive = passive_kept h (closing h) i refl (closed_listens h.control_block) }; endpoint = refl })
+
+pub abort_stays : (h k : HostView) (o : Outcome) → IsHost h → Aborts h o k → StaysHost h k
+abort_stays h k o i e = subst (StaysHost h) (sym e.1) (record { host = record { reachable = i.reachable; idle = λ u. aborted_idle h.control_block (i.idle u); passive = passive_kept h (aborting h) i refl (aborted_listens h.control_block) }; endpoint = refl })
 
 -- ---- settings
 
 set_idle : (s : Setting) (v : View) → IsIdle v → IsIdle (set_in s v)
-set_idle (setting.KeepAlive t) v i = record { state = i.state; tuple = i.tuple; rx = i.rx; tx = i.tx }
-set_idle _ v i = record { state = i.state; tuple = i.tuple; rx = i.rx; tx = i.tx }
+set_idle (setting.KeepAlive t) v i = record { state = i.state; tuple = i.tuple; rx = i.rx; tx = i.tx; no_fin = i.no_fin }
+set_idle _ v i = record { state = i.state; tuple = i.tuple; rx = i.rx; tx = i.tx; no_fin = i.no_fin }
 
 set_listens : (s : Setting) (v : View) → KeepsListener v (set_in s v)
 set_listens (setting.KeepAlive t) v = λ n. (n, refl)
 set_listens _ v = λ n. (n, refl)
 
-set_fin : (s : Setting) (v : View) → v.rx_fin_received ≡ false → (set_in s v).rx_fin_received ≡ false
-set_fin (setting.KeepAlive t) v e = e
-set_fin _ v e = e
-
 pub set_stays : (h k : HostView) (s : Setting) (o : Outcome) → IsHost h → Sets s h o k → StaysHost h k
-set_stays h k s o i e = subst (StaysHost h) (sym e.1) (record { host = record { reachable = i.reachable; idle = λ u. set_idle s h.control_block (i.idle u); passive = passive_kept h (setting_host h s) i refl (set_listens s h.control_block); no_fin = set_fin s h.control_block i.no_fin }; endpoint = refl })
+set_stays h k s o i e = subst (StaysHost h) (sym e.1) (record { host = record { reachable = i.reachable; idle = λ u. set_idle s h.control_block (i.idle u); passive = passive_kept h (setting_host h s) i refl (set_listens s h.control_block) }; endpoint = refl })
 
 -- ---- dispatches and deliveries
 
@@ -122,7 +132,7 @@ dispatch_stays s m fail o h k ts ts' i d =
     let x : HostDispatches m fail h d.sent k = d.does in
     let keeps : Keeps h.control_block k.control_block = keeps_in_dispatch h.control_block k.control_block (facts_of m) x.stamps fail d.sent x.socket in
     subst (StaysHost h) (sym x.same) (record {
-      host = record { reachable = i.reachable; idle = λ u. subst IsIdle (sym (idle_dispatches h.control_block k.control_block (facts_of m) x.stamps fail d.sent (i.idle u).tuple x.socket)) (i.idle u); passive = passive_kept h (record h { control_block = k.control_block }) i refl keeps.listener; no_fin = keeps.fin i.no_fin };
+      host = record { reachable = i.reachable; idle = λ u. subst IsIdle (sym (idle_dispatches h.control_block k.control_block (facts_of m) x.stamps fail d.sent (i.idle u).tuple x.socket)) (i.idle u); passive = passive_kept h (record h { control_block = k.control_block }) i refl keeps.listener };
       endpoint = refl;
     })
 
@@ -134,7 +144,7 @@ deliver_stays true s m t o h k ts ts' i d = unchanged h k i d.1.0
 deliver_stays false s m t o h k ts ts' i d = go d.accepted d.says.0 d.does
   where
     go : (b : Bool) → (IsTrue b → Accepts h.control_block t.ip t.segment) → DeliversIf b s m t o h ts k ts' → StaysHost h k
-    go true a x = subst (StaysHost h) (sym x.host) (record { host = record { reachable = i.reachable; idle = λ u. absurd (closed_accepts_none h.control_block t (i.idle u).state (a refl)); passive = passive_kept h (delivered_to h m t) i refl (λ live. ((λ c. closed_accepts_none h.control_block t c (a refl)), process_listens h.control_block _ m.word t.ip t.segment)); no_fin = process_fin h.control_block _ m.word t.ip t.segment i.no_fin }; endpoint = refl })
+    go true a x = subst (StaysHost h) (sym x.host) (record { host = record { reachable = i.reachable; idle = λ u. absurd (closed_accepts_none h.control_block t (i.idle u).state (a refl)); passive = passive_kept h (delivered_to h m t) i refl (λ live. ((λ c. closed_accepts_none h.control_block t c (a refl)), process_listens h.control_block _ m.word t.ip t.segment)) }; endpoint = refl })
     go false a x = unchanged h k i x.1.0
 
 -- ---- the pair
@@ -155,14 +165,10 @@ host_at B p i = i.b
 
 new_idle : (rx : Received) (tx : Queue) → rx.bytes ≡ [] → tx.bytes ≡ [] → IsIdle (fresh rx tx)
 unfolding fresh
-new_idle rx tx r t = record { state = refl; tuple = refl; rx = r; tx = t }
-
-new_fin : (rx : Received) (tx : Queue) → (fresh rx tx).rx_fin_received ≡ false
-unfolding fresh
-new_fin rx tx = refl
+new_idle rx tx r t = record { state = refl; tuple = refl; rx = r; tx = t; no_fin = refl }
 
 new_is_host : (rx : Received) (tx : Queue) (e : IpEndpoint) → rx.bytes ≡ [] → tx.bytes ≡ [] → IsReachable e → IsHost (new_host (fresh rx tx) e)
-new_is_host rx tx e r t i = record { reachable = i; idle = λ u. new_idle rx tx r t; passive = λ shut live. absurd (shut refl); no_fin = new_fin rx tx }
+new_is_host rx tx e r t i = record { reachable = i; idle = λ u. new_idle rx tx r t; passive = λ shut live. absurd (shut refl) }
 
 pub new_is_pair : (arx : Received) (atx : Queue) (brx : Received) (btx : Queue) (a b : IpEndpoint) (limit : Option ℕ) (ha hb : HostView) (ts : List StoredView) → ha ≡ new_host (fresh arx atx) a → hb ≡ new_host (fresh brx btx) b → ts ≡ [] → arx.bytes ≡ [] → atx.bytes ≡ [] → brx.bytes ≡ [] → btx.bytes ≡ [] → IsReachable a → IsReachable b → SameVersion a.addr b.addr → IsLimit limit → IsPair (record { a = ha; b = hb; segments = ts; limit = limit })
 new_is_pair arx atx brx btx a b limit ha hb ts ea eb et r1 t1 r2 t2 ia ib v l =

@@ -57,11 +57,11 @@ keeps_release p i =
 -- ---- Prompt
 
 -- a delivery that was accepted
-pub prompt : (old : Bool) (s : Side) (m : Moment) (t : StoredView) (o : Outcome) (reply : Option ℕ) (h h' : HostView) (ks ks' : List StoredView) → o ≡ outcome.Delivered reply → DeliversTo old s m t o h ks h' ks' → IsPrompt t h h'
+pub prompt : (old : Bool) (s : Side) (m : Moment) (t : StoredView) (o : Outcome) (reply : Option ℕ) (h h' : HostView) (ks ks' : List StoredView) → o ≡ outcome.Delivered reply → DeliversTo old s m t o h ks h' ks' → IsPrompt m t h h'
 prompt true s m t o reply h h' ks ks' is d = let no : outcome.TooOld ≡ outcome.Delivered reply = sym d.0 ∙ is in cc
 prompt false s m t o reply h h' ks ks' is d = go d.accepted d.does
   where
-    go : (b : Bool) → DeliversIf b s m t o h ks h' ks' → IsPrompt t h h'
+    go : (b : Bool) → DeliversIf b s m t o h ks h' ks' → IsPrompt m t h h'
     go false x = let no : outcome.NotAccepted None ≡ outcome.Delivered reply = sym x.0 ∙ is in cc
     go true x = record { queued = λ i some. subst (λ (k : HostView). JoinsAtOnce h.control_block.rx_buffer k.control_block.rx_buffer (in_window h.control_block t.segment)) (sym x.host) (queued_at_once h.control_block _ m.word t.ip t.segment i some) }
 
@@ -69,16 +69,16 @@ exchanged_host : (s : Side) (p : PairView) (h : HostView) (ks : List StoredView)
 exchanged_host A p h ks = refl
 exchanged_host B p h ks = refl
 
-pub delivers_promptly : (i : ℕ) (m : Moment) (p q : PairView) (o : Outcome) → Delivers (slice_get p.segments i) m p o q → IsPromptAt i p o q
+pub delivers_promptly : (i : ℕ) (m : Moment) (p q : PairView) (o : Outcome) → Delivers (slice_get p.segments i) m p o q → IsPromptAt i m p o q
 delivers_promptly i m p q o d t reply at is =
     let x : Delivers (Some t) m p o q = subst (λ z. Delivers z m p o q) at d in
-    subst (λ k. IsPrompt t (host_of (other_side t.emitter) p) k) (sym (ap (host_of (other_side t.emitter)) x.same ∙ exchanged_host (other_side t.emitter) p x.host x.segments))
+    subst (λ k. IsPrompt m t (host_of (other_side t.emitter) p) k) (sym (ap (host_of (other_side t.emitter)) x.same ∙ exchanged_host (other_side t.emitter) p x.host x.segments))
     (prompt (is_old (host_of t.emitter p) t) (other_side t.emitter) m t o reply (host_of (other_side t.emitter) p) x.host p.segments x.segments is x.does)
 
 -- the event of a delivery, as a pair answers it
 pub prompt_delivery : (e : Event) (i : ℕ) (m : Moment) (p q : PairView) (r : Result Outcome PairError) → e ≡ event.Deliver i m → IfOk r (λ o. Delivers (slice_get p.segments i) m p o q) → IfOk r (λ o. Prompt e p o q)
 prompt_delivery e i m p q r is d = subst (λ x. IfOk r (λ o. Prompt x p o q)) (sym is) (go r d)
   where
-    go : (x : Result Outcome PairError) → IfOk x (λ o. Delivers (slice_get p.segments i) m p o q) → IfOk x (λ o. IsPromptAt i p o q)
+    go : (x : Result Outcome PairError) → IfOk x (λ o. Delivers (slice_get p.segments i) m p o q) → IfOk x (λ o. IsPromptAt i m p o q)
     go (Ok o) y = delivers_promptly i m p q o y
     go (Err x) y = tt

@@ -1,6 +1,6 @@
 -- Each event of a pair is a run of steps of the theorem on two streams.
-use Rattle.std.proofs.Common.{◌≡◌, ℕ, ◌+◌, ◌<◌, ◌≤◌, ◌^◌, List, [], ◌∷◌, length, take, ◌++◌, Bool, true, false, Option, Some, None, refl, sym, ap, subst, ◌∙◌, arith, inr, length-append, length-take}
-use Rattle.std.specs.Prelude.{IsTrue, not, option_map, slice_get, Result, Ok, Err, IfOk, OnErr}
+use Rattle.std.proofs.Common.{◌≡◌, ℕ, ◌+◌, ◌<◌, ◌≤◌, ◌^◌, List, [], ◌∷◌, length, take, ◌++◌, Bool, true, false, Option, Some, None, refl, sym, ap, subst, ◌∙◌, arith, inl, inr, length-append, length-take}
+use Rattle.std.specs.Prelude.{IsTrue, not, if◌then◌else◌, option_map, slice_get, Result, Ok, Err, IfOk, OnErr}
 use Rattle.std.proofs.lemmas.Bool.Decides.{nat_tests}
 use Rattle.std.proofs.lemmas.List.{append-nil}
 use Rattle.std.specs.List.{Contains}
@@ -16,12 +16,18 @@ use Rattle.sock_tcp.specs.Queues.{may_send, may_recv, queued}
 use Rattle.sock_tcp.specs.Begin.{Begun, before_emit}
 use Rattle.sock_tcp.specs.Content.{Sending, content}
 use Rattle.sock_tcp.specs.Sent.{left_by}
+use Rattle.control_wire.specs.declared.tcp.TcpControl.{TcpControl}
+use Rattle.control_wire.specs.declared.tcp.TcpTimestampRepr.{TcpTimestampRepr}
+use Rattle.sock_tcp.specs.Closing.{closed_from}
 use Rattle.sock_tcp.specs.Process.{Accepts}
+use Rattle.sock_tcp.specs.Replies.{Answers}
+use Rattle.sock_tcp.specs.declared.state.State.{State}
+use Rattle.sock_tcp.specs.declared.state.State.TheVariants as state
 use Rattle.sock_tcp.specs.declared.tuple.Tuple.{Tuple}
 use Rattle.sock_pair.specs.Holding.{kept_at, segment_at}
 use Rattle.sock_pair.specs.Moments.{facts_of}
 use Rattle.sock_pair.specs.NetworkRuns.{Reaches, answered, start, unopened}
-use Rattle.sock_pair.specs.Network.{Accepts as TakesBytes, Arrives, Connects, HandsOut, IsStamped, IsWithin, Listens, Endpoint, Network}
+use Rattle.sock_pair.specs.Network.{Accepts as TakesBytes, Arrives, Closes as EndsStream, ClosesUnacknowledged, Connects, Dies, HandsOut, IsStamped, IsWithin, Listens, Endpoint, Network}
 use Rattle.sock_pair.specs.PairLaws.{IsBounded, MayEmit}
 use Rattle.sock_pair.specs.declared.event.Event.{Event}
 use Rattle.sock_pair.specs.declared.event.Event.TheVariants as event
@@ -36,16 +42,16 @@ use Rattle.sock_pair.proofs.ShownDispatch.{begun_shows, emission_plans}
 use Rattle.sock_pair.proofs.ShownNetworks.{between, side_network, from_side, exchanged_reached, with_reached, stays_reached, unchanged_reached, stored_is, sent_has, may_arrive}
 use Rattle.sock_pair.proofs.ShownProcess.{process_heard}
 use Rattle.sock_pair.specs.NetworkInvariant.{IsInvariant}
-use Rattle.sock_pair.specs.PairInvariant.{HasSmallBuffers, IsIdle, IsHost, IsPair, IsSized}
-use Rattle.sock_pair.specs.PairNetwork.{seen, is_listener, is_passive, shown, stream_segment, endpoint_of, shown_segment, network_at, network_of, IsSmall}
+use Rattle.sock_pair.specs.PairInvariant.{IsSocket, IsIdle, IsHost, IsPair, IsSized}
+use Rattle.sock_pair.specs.PairNetwork.{phase_of, seen, is_listener, is_passive, shown, stream_segment, endpoint_of, shown_segment, network_at, network_of, IsSmall}
 use Rattle.sock_pair.specs.PairViews.{HostView, StoredView, PairView, host_of, with_host, new_host, new_pair}
-use Rattle.sock_pair.specs.PairCalls.{listening, connecting, OpensAs, is_over, sending, Sends, SendsIf, SendsUnder, receiving, Receives, ReceivesIf, setting, Sets}
+use Rattle.sock_pair.specs.PairCalls.{listening, connecting, OpensAs, is_over, sending, Sends, SendsIf, SendsUnder, receiving, Receives, ReceivesIf, closing, Closes, aborting, Aborts, setting, Sets}
 use Rattle.sock_pair.specs.declared.setting.Setting.{Setting}
 use Rattle.sock_pair.proofs.PairAmounts.{takes_some, hands_some}
-use Rattle.sock_pair.specs.PairSteps.{EventStep, Delivers, Dispatches, stored_at, DeliversTo, DeliversIf, is_old, exchanged, processed_by, delivered_to}
+use Rattle.sock_pair.specs.PairSteps.{EventStep, IsAnyStamp, Delivers, Dispatches, stored_at, DeliversTo, DeliversIf, is_old, exchanged, processed_by, delivered_to}
 use Rattle.sock_pair.specs.Recording.{Records, SendsTo, SendsFrom, SocketDispatches}
 use Rattle.sock_pair.specs.StreamCalls.{ProcessEffect}
-use Rattle.sock_pair.specs.StreamViews.{SocketView, StreamSegment}
+use Rattle.sock_pair.specs.StreamViews.{Dead, SocketView, StreamSegment}
 use Rattle.sock_pair.specs.Sides.{other_side}
 use Rattle.sock_pair.specs.declared.moment.Moment.{Moment}
 use Rattle.sock_pair.specs.declared.outcome.Outcome.{Outcome}
@@ -67,6 +73,13 @@ opened_network s h b v o ks limit = between s (opened h b v) (endpoint_of o) ks 
 bounded : (s : Side) (h : HostView) (b : Bool) (v : View) (o : HostView) (ks : List StoredView) (limit : Option ℕ) → IsInvariant (opened_network s h b v o ks limit) → IsBounded v
 bounded s h b v o ks limit i = record { sending = λ d. sending_bounds _ i d; unread = λ e. nothing_received _ i e }
 
+-- header and timestamp of a reply are not seen
+reply_shows : (stamped : TcpControl → Option TcpTimestampRepr → Type 0) (ip : IpRepr) (x : Option Segment) (r : Option (IpRepr × Segment)) (released taken : ℕ) → Answers stamped ip x r → option_map (λ (z : Segment). stream_segment z released taken) x ≡ option_map (λ (z : IpRepr × Segment). stream_segment z.1 released taken) r
+reply_shows stamped ip None None released taken a = refl
+reply_shows stamped ip None (Some r) released taken a = absurd a
+reply_shows stamped ip (Some x) None released taken a = absurd a
+reply_shows stamped ip (Some x) (Some r) released taken a = ap (λ (z : IpRepr × Segment). Some (stream_segment z.1 released taken)) (sym a.is)
+
 -- a reply as the other side sees it
 abbrev shown_reply : ℕ → ℕ → Option (IpRepr × Segment) → Option StreamSegment
 shown_reply released taken r = option_map (λ (x : IpRepr × Segment). stream_segment x.1 released taken) r
@@ -81,10 +94,10 @@ reply_stamped e (Some x) a is =
     let same : stream_segment x.1 e.released e.taken ≡ a = cc in
     subst (IsStamped e) same (record { released = omega arith; taken = omega arith })
 
-module _ (s : Side) (h o : HostView) (ks : List StoredView) (limit : Option ℕ) (m : Moment) (t : StoredView) (w : m.word < 2 ^ 32) (small : IsSmall t.segment) (there : Contains ks t) (from_other : t.emitter ≡ other_side s) (room : room_of h.control_block.rx_buffer ≤ 2 ^ 30) (young : is_old o t ≡ false) (accepted : Accepts h.control_block t.ip t.segment) where
+module _ (s : Side) (h o : HostView) (ks : List StoredView) (limit : Option ℕ) (m : Moment) (t : StoredView) (w : m.word < 2 ^ 32) (small : IsSmall t.segment) (there : Contains ks t) (from_other : t.emitter ≡ other_side s) (sock : IsSocket h.control_block) (young : is_old o t ≡ false) (accepted : Accepts h.control_block t.ip t.segment) (reply : Option (IpRepr × Segment)) (is_reply : Answers IsAnyStamp t.ip (processed_by h m t).reply reply) where
   -- the segments, once the reply is stored
   abbrev with_reply : List StoredView
-  with_reply = ks ++ kept_at s (processed_by h m t).reply (delivered_to h m t).released (delivered_to h m t).taken
+  with_reply = ks ++ kept_at s reply (delivered_to h m t).released (delivered_to h m t).taken
 
   -- an opened side hears it
   hears_as : (b : Bool) → is_passive h.control_block ≡ b → IsInvariant (opened_network s h b h.control_block o ks limit) → Reaches (opened_network s h b h.control_block o ks limit) (opened_network s (delivered_to h m t) b (processed_by h m t).view o with_reply limit)
@@ -92,11 +105,13 @@ module _ (s : Side) (h o : HostView) (ks : List StoredView) (limit : Option ℕ)
       let k : HostView = delivered_to h m t in
       let n : Network = opened_network s h b h.control_block o ks limit in
       let come : Arrives n (shown_segment t) = record { sent = sent_has (other_side s) ks t there from_other; may = inr (may_arrive limit o t young) } in
-      let does : ProcessEffect b (shown h.control_block) (shown (processed_by h m t).view) (shown_segment t) (shown_reply k.released k.taken (processed_by h m t).reply) = subst (λ x. ProcessEffect x (shown h.control_block) (shown (processed_by h m t).view) (shown_segment t) (shown_reply k.released k.taken (processed_by h m t).reply)) e
-      (process_heard h.control_block (record { micros = m.now.micros }) m.word t.ip t.segment t.released_at t.taken_at k.released k.taken w small room (bounded s h b h.control_block o ks limit i) accepted) in
-      subst (Reaches n) (stored_reply s (opened k b (processed_by h m t).view) (endpoint_of o) ks limit (processed_by h m t).reply k.released k.taken)
-      (delivery_reaches n (shown_segment t) come (shown (processed_by h m t).view) (shown_reply k.released k.taken (processed_by h m t).reply) does
-      (λ a is. reply_stamped (opened k b (processed_by h m t).view) (processed_by h m t).reply a is))
+      let does : ProcessEffect b (shown h.control_block) (shown (processed_by h m t).view) (shown_segment t) (shown_reply k.released k.taken reply) =
+      subst (λ x. ProcessEffect x (shown h.control_block) (shown (processed_by h m t).view) (shown_segment t) (shown_reply k.released k.taken reply)) e
+      (subst (λ r. ProcessEffect (is_passive h.control_block) (shown h.control_block) (shown (processed_by h m t).view) (shown_segment t) r) (reply_shows IsAnyStamp t.ip (processed_by h m t).reply reply k.released k.taken is_reply)
+      (process_heard h.control_block (record { micros = m.now.micros }) m.word t.ip t.segment t.released_at t.taken_at k.released k.taken w small sock.receive sock.fin (bounded s h b h.control_block o ks limit i) accepted)) in
+      subst (Reaches n) (stored_reply s (opened k b (processed_by h m t).view) (endpoint_of o) ks limit reply k.released k.taken)
+      (delivery_reaches n (shown_segment t) come (shown (processed_by h m t).view) (shown_reply k.released k.taken reply) does
+      (λ a is. reply_stamped (opened k b (processed_by h m t).view) reply a is))
 
   hears_in : (e : Opening) → (e ≡ opening.Unopened → ⊥) → is_passive h.control_block ≡ is_listener e → IsInvariant (network_at s (record h { opening = e }) o ks limit) → Reaches (network_at s (record h { opening = e }) o ks limit) (network_at s (record (delivered_to h m t) { opening = e }) o with_reply limit)
   hears_in opening.Unopened shut p i = absurd (shut refl)
@@ -217,6 +232,42 @@ module _ (s : Side) (h o : HostView) (ks : List StoredView) (limit : Option ℕ)
   reads_in opening.Listener n within shut = reads_as true n within
   reads_in opening.Connector n within shut = reads_as false n within
 
+  -- ---- close and abort
+
+  -- what a close leaves of a socket in the state st
+  abbrev closed_in : Bool → State → Network
+  closed_in b st = between s (record (endpoint_of h) { view = record (shown h.control_block) { phase = phase_of (closed_from st) }; listener = b; closed = if may_send st then true else h.closed }) (endpoint_of o) ks limit
+
+  abbrev open_in : Bool → State → Network
+  open_in b st = between s (record (endpoint_of h) { view = record (shown h.control_block) { phase = phase_of st }; listener = b }) (endpoint_of o) ks limit
+
+  -- the connection ends, with its queues as they are
+  ends_there : (b : Bool) (st : State) → Reaches (open_in b st) (open_in b state.Closed)
+  ends_there b st = one_step _ _ (Dies (record (shown h.control_block) { phase = Dead }) (record { phase = refl; receive_queue = inl refl; fin = λ f. (f, refl) }) refl)
+
+  closes_as : (b : Bool) (st : State) → Reaches (open_in b st) (closed_in b st)
+  closes_as b state.Established = one_step _ _ (EndsStream refl refl)
+  closes_as b state.CloseWait = one_step _ _ (EndsStream refl refl)
+  closes_as b state.SynReceived = one_step _ _ (ClosesUnacknowledged refl refl)
+  closes_as b state.Listen = ends_there b state.Listen
+  closes_as b state.SynSent = ends_there b state.SynSent
+  closes_as b state.Closed = stays_there _ _ refl
+  closes_as b state.FinWait1 = stays_there _ _ refl
+  closes_as b state.FinWait2 = stays_there _ _ refl
+  closes_as b state.Closing = stays_there _ _ refl
+  closes_as b state.LastAck = stays_there _ _ refl
+  closes_as b state.TimeWait = stays_there _ _ refl
+
+  closes_in : (e : Opening) → (e ≡ opening.Unopened → h.control_block.state ≡ state.Closed) → Reaches (network_at s (record h { opening = e }) o ks limit) (network_at s (record (closing h) { opening = e }) o ks limit)
+  closes_in opening.Unopened idle = stays_there _ _ (ap (λ st. network_at s (record h { opening = opening.Unopened; closed = if may_send st then true else h.closed }) o ks limit) (sym (idle refl)))
+  closes_in opening.Listener idle = closes_as true h.control_block.state
+  closes_in opening.Connector idle = closes_as false h.control_block.state
+
+  aborts_in : (e : Opening) → Reaches (network_at s (record h { opening = e }) o ks limit) (network_at s (record (aborting h) { opening = e }) o ks limit)
+  aborts_in opening.Unopened = stays_there _ _ refl
+  aborts_in opening.Listener = ends_there true h.control_block.state
+  aborts_in opening.Connector = ends_there false h.control_block.state
+
   -- ---- settings
 
   sets_in : (e : Opening) (x : Setting) → network_at s (record h { opening = e }) o ks limit ≡ network_at s (record (setting h x) { opening = e }) o ks limit
@@ -263,6 +314,16 @@ module _ (s : Side) (p : PairView) (host : IsHost (host_of s p)) (i : IsInvarian
           with_reached s p k (subst (λ z. Reaches (side_network s p (host_of s p) p.segments) (side_network s p z p.segments)) (sym t.does.host)
           (reads_in s (host_of s p) (host_of (other_side s) p) p.segments p.limit (host_of s p).opening t.count t.within (cannot_recv (host_of s p) host may)))
 
+  pub close_reaches : (o : Outcome) (k : HostView) → Closes (host_of s p) o k → Reaches (network_of p) (network_of (with_host s p k))
+  close_reaches o k e =
+      with_reached s p k (subst (λ z. Reaches (side_network s p (host_of s p) p.segments) (side_network s p z p.segments)) (sym e.1)
+      (closes_in s (host_of s p) (host_of (other_side s) p) p.segments p.limit (host_of s p).opening (λ u. (host.idle u).state)))
+
+  pub abort_reaches : (o : Outcome) (k : HostView) → Aborts (host_of s p) o k → Reaches (network_of p) (network_of (with_host s p k))
+  abort_reaches o k e =
+      with_reached s p k (subst (λ z. Reaches (side_network s p (host_of s p) p.segments) (side_network s p z p.segments)) (sym e.1)
+      (aborts_in s (host_of s p) (host_of (other_side s) p) p.segments p.limit (host_of s p).opening))
+
   pub set_reaches : (x : Setting) (o : Outcome) (k : HostView) → Sets x (host_of s p) o k → Reaches (network_of p) (network_of (with_host s p k))
   set_reaches x o k e =
       with_reached s p k (subst (λ z. Reaches (side_network s p (host_of s p) p.segments) (side_network s p z p.segments)) (sym e.1)
@@ -274,10 +335,10 @@ module _ (s : Side) (p : PairView) (host : IsHost (host_of s p)) (i : IsInvarian
       (subst (λ ts. Reaches (side_network s p (host_of s p) p.segments) (side_network s p (record (host_of s p) { control_block = k.control_block }) ts)) (sym e.stored)
       (dispatches_in s (host_of s p) (host_of (other_side s) p) p.segments p.limit k.control_block (facts_of m) e.does.stamps fail e.sent e.does.socket (host_of s p).opening host.idle (from_side s p i))))
 
-  -- t is a segment of the other side, and the receive buffer has at most 2^30 bytes
-  pub deliver_reaches : (m : Moment) (t : StoredView) (o : Outcome) (k : HostView) (ks : List StoredView) → m.word < 2 ^ 32 → IsSmall t.segment → Contains p.segments t → t.emitter ≡ other_side s → room_of (host_of s p).control_block.rx_buffer ≤ 2 ^ 30
+  -- t is a segment of the other side
+  pub deliver_reaches : (m : Moment) (t : StoredView) (o : Outcome) (k : HostView) (ks : List StoredView) → m.word < 2 ^ 32 → IsSmall t.segment → Contains p.segments t → t.emitter ≡ other_side s → IsSocket (host_of s p).control_block
       → DeliversTo (is_old (host_of t.emitter p) t) s m t o (host_of s p) p.segments k ks → Reaches (network_of p) (network_of (exchanged s p k ks))
-  deliver_reaches m t o k ks w small there from_other room e = go (is_old (host_of t.emitter p) t) refl e
+  deliver_reaches m t o k ks w small there from_other sock e = go (is_old (host_of t.emitter p) t) refl e
     where
       go : (old : Bool) → is_old (host_of t.emitter p) t ≡ old → DeliversTo old s m t o (host_of s p) p.segments k ks → Reaches (network_of p) (network_of (exchanged s p k ks))
       go true x d = unchanged_reached s p k ks d.1.0 d.1.1
@@ -289,7 +350,7 @@ module _ (s : Side) (p : PairView) (host : IsHost (host_of s p)) (i : IsInvarian
               let shut : (host_of s p).opening ≡ opening.Unopened → ⊥ = (λ u. closed_accepts_none (host_of s p).control_block t (host.idle u).state (a refl)) in
               exchanged_reached s p k ks (subst (λ h. Reaches (side_network s p (host_of s p) p.segments) (side_network s p h ks)) (sym y.host)
               (subst (λ ts. Reaches (side_network s p (host_of s p) p.segments) (side_network s p (delivered_to (host_of s p) m t) ts)) (sym y.stored)
-              (hears s (host_of s p) (host_of (other_side s) p) p.segments p.limit m t w small there from_other room (subst (λ r. is_old (host_of r p) t ≡ false) from_other x) (a refl) shut
+              (hears s (host_of s p) (host_of (other_side s) p) p.segments p.limit m t w small there from_other sock (subst (λ r. is_old (host_of r p) t ≡ false) from_other x) (a refl) y.reply y.is_reply shut
               (host.passive shut (λ c. closed_accepts_none (host_of s p).control_block t c (a refl))) (from_side s p i))))
 
   -- ---- so each keeps the invariant
@@ -306,19 +367,25 @@ module _ (s : Side) (p : PairView) (host : IsHost (host_of s p)) (i : IsInvarian
   pub recv_keeps : (piece : Bool) (size : ℕ) (o : Outcome) (k : HostView) → Receives piece size (host_of s p) o k → IsInvariant (network_of (with_host s p k))
   recv_keeps piece size o k e = reach_keeps _ _ (recv_reaches piece size o k e) i
 
+  pub close_keeps : (o : Outcome) (k : HostView) → Closes (host_of s p) o k → IsInvariant (network_of (with_host s p k))
+  close_keeps o k e = reach_keeps _ _ (close_reaches o k e) i
+
+  pub abort_keeps : (o : Outcome) (k : HostView) → Aborts (host_of s p) o k → IsInvariant (network_of (with_host s p k))
+  abort_keeps o k e = reach_keeps _ _ (abort_reaches o k e) i
+
   pub set_keeps : (x : Setting) (o : Outcome) (k : HostView) → Sets x (host_of s p) o k → IsInvariant (network_of (with_host s p k))
   set_keeps x o k e = reach_keeps _ _ (set_reaches x o k e) i
 
   pub dispatch_keeps : (m : Moment) (fail : Bool) (o : Outcome) (k : HostView) (ks : List StoredView) → Dispatches s m fail o (host_of s p) p.segments k ks → IsInvariant (network_of (exchanged s p k ks))
   dispatch_keeps m fail o k ks e = reach_keeps _ _ (dispatch_reaches m fail o k ks e) i
 
-  pub deliver_keeps : (m : Moment) (t : StoredView) (o : Outcome) (k : HostView) (ks : List StoredView) → m.word < 2 ^ 32 → IsSmall t.segment → Contains p.segments t → t.emitter ≡ other_side s → room_of (host_of s p).control_block.rx_buffer ≤ 2 ^ 30
+  pub deliver_keeps : (m : Moment) (t : StoredView) (o : Outcome) (k : HostView) (ks : List StoredView) → m.word < 2 ^ 32 → IsSmall t.segment → Contains p.segments t → t.emitter ≡ other_side s → IsSocket (host_of s p).control_block
       → DeliversTo (is_old (host_of t.emitter p) t) s m t o (host_of s p) p.segments k ks → IsInvariant (network_of (exchanged s p k ks))
-  deliver_keeps m t o k ks w small there from_other room e = reach_keeps _ _ (deliver_reaches m t o k ks w small there from_other room e) i
+  deliver_keeps m t o k ks w small there from_other sock e = reach_keeps _ _ (deliver_reaches m t o k ks w small there from_other sock e) i
 
 -- ---- any event
 
-buffers_at : (s : Side) (p : PairView) (e : Event) → IsSized e p → HasSmallBuffers (host_of s p).control_block
+buffers_at : (s : Side) (p : PairView) (e : Event) → IsSized e p → IsSocket (host_of s p).control_block
 buffers_at A p e z = z.a
 buffers_at B p e z = z.b
 
@@ -333,7 +400,7 @@ delivers_reach : (j : ℕ) (t : Option StoredView) (m : Moment) (p q : PairView)
 delivers_reach j None m p q o i z at x = to_q p q p x.1 (stays_there _ _ refl)
 delivers_reach j (Some t) m p q o i z at x =
     to_q p q (exchanged (other_side t.emitter) p x.host x.segments) x.same
-    (deliver_reaches (other_side t.emitter) p (host_at (other_side t.emitter) p i) i.network m t o x.host x.segments m.fits (z.delivered t at) (contains_at p.segments j t at) (emitter_twice t.emitter) (buffers_at (other_side t.emitter) p (event.Deliver j m) z).receive x.does)
+    (deliver_reaches (other_side t.emitter) p (host_at (other_side t.emitter) p i) i.network m t o x.host x.segments m.fits (z.delivered t at) (contains_at p.segments j t at) (emitter_twice t.emitter) (buffers_at (other_side t.emitter) p (event.Deliver j m) z) x.does)
 
 pub event_reaches : (e : Event) (p : PairView) (o : Outcome) (q : PairView) → IsPair p → IsSized e p → EventStep e p o q → Reaches (network_of p) (network_of q)
 event_reaches (event.Listen s) p o q i z x = to_q p q (with_host s p x.host) x.same (listen_reaches s p (host_at s p i) i.network o x.host x.does)
@@ -342,6 +409,8 @@ event_reaches (event.SendSlice s bytes) p o q i z x = to_q p q (with_host s p x.
 event_reaches (event.Send s bytes size) p o q i z x = to_q p q (with_host s p x.host) x.same (send_reaches s p (host_at s p i) i.network (Some size) bytes.items o x.host (buffers_at s p (event.Send s bytes size) z).transmit x.does)
 event_reaches (event.RecvSlice s size) p o q i z x = to_q p q (with_host s p x.host) x.same (recv_reaches s p (host_at s p i) i.network false size o x.host x.does)
 event_reaches (event.Recv s size) p o q i z x = to_q p q (with_host s p x.host) x.same (recv_reaches s p (host_at s p i) i.network true size o x.host x.does)
+event_reaches (event.Close s) p o q i z x = to_q p q (with_host s p x.host) x.same (close_reaches s p (host_at s p i) i.network o x.host x.does)
+event_reaches (event.Abort s) p o q i z x = to_q p q (with_host s p x.host) x.same (abort_reaches s p (host_at s p i) i.network o x.host x.does)
 event_reaches (event.Set s y) p o q i z x = to_q p q (with_host s p x.host) x.same (set_reaches s p (host_at s p i) i.network y o x.host x.does)
 event_reaches (event.Dispatch s m fail) p o q i z x = to_q p q (exchanged s p x.host x.segments) x.same (dispatch_reaches s p (host_at s p i) i.network m fail o x.host x.segments x.does)
 event_reaches (event.Deliver j m) p o q i z x = delivers_reach j (slice_get p.segments j) m p q o i z refl x

@@ -10,8 +10,8 @@ use Rattle.sock_core.specs.Places.{later_number, number_distance, number_is_befo
 use Rattle.sock_core.specs.Received.{Received, received, written, gathered, taken_in, byte_at, is_turned_away, TakesIn}
 use Rattle.sock_core.specs.Seq.{is_before, is_not_after, later_of}
 use Rattle.sock_core.specs.Streams.{fin_length}
+use Rattle.sock_tcp.proofs.Frames.{brought}
 use Rattle.sock_tcp.proofs.Windows.{far, not_after}
-use Rattle.sock_tcp.specs.Steps.{brought}
 use Rattle.sock_tcp.specs.Window.{starts_inside, empty_inside, full_inside, is_inside, cut_end, cut_of, cut_bytes}
 use Rattle.sock_tcp.specs.declared.window.Window.{Window}
 use Rattle.sock_pair.specs.StreamEffects.{HearsData}
@@ -43,7 +43,7 @@ end_shown w e = go (number_is_before e.0 w.end.0)
     go false = refl
 
 -- the right edge is the left one and the window's size
-edge_shown : (a b : TcpSeqNumber) → a.0 < 2 ^ 32 → b.0 < 2 ^ 32 → (a.0 + seq_sub b a) % 2 ^ 32 ≡ b.0
+pub edge_shown : (a b : TcpSeqNumber) → a.0 < 2 ^ 32 → b.0 < 2 ^ 32 → (a.0 + seq_sub b a) % 2 ^ 32 ≡ b.0
 edge_shown a b p q = omega arith
 
 -- ---- the cut
@@ -134,7 +134,7 @@ not_at_zero : (b : Received) (o : ℕ) (bs : List ℕ) → is_turned_away b o bs
 unfolding is_turned_away
 not_at_zero b o bs e = let t = both (not (o == 0)) _ e in grind (arith, nat_tests, t.0)
 
-stays_so : (b : Received) (o : ℕ) (bs : List ℕ) → is_turned_away b o bs ≡ true → taken_in b o bs ≡ b
+pub stays_so : (b : Received) (o : ℕ) (bs : List ℕ) → is_turned_away b o bs ≡ true → taken_in b o bs ≡ b
 unfolding taken_in
 stays_so b o bs e = ap (λ t. cond t b (gathered (received b.bytes (written b.held o bs)))) e
 
@@ -161,20 +161,29 @@ with_received x b = record x { receive_queue = b.bytes; held = byte_at b.held }
 abbrev CutJoins : SocketView → SocketView → Received → Received → ℕ → List ℕ → Type 0
 CutJoins x y b c o bs = ((c.bytes ≡ b.bytes) × (byte_at c.held ≡ byte_at b.held) × ((bs ≡ []) ⊎ (0 < o))) ⊎ ((0 < length bs) × Gathers (with_received x b) (with_received y c) o bs)
 
--- so a segment inside the window is heard, with no FIN counted
+-- whether y has counted the segment's FIN, where x had not
+pub record FinCounts (x y : SocketView) (g : StreamSegment) (r : ℕ) : Type 0 where
+  pub fin : y.fin_counted ≡ true
+      → (x.fin_counted ≡ true)
+      ⊎ ((g.fin ≡ true) × (number_is_before x.rcv_nxt g.seq ≡ false) × (number_is_before r (segment_end g) ≡ false))
+  pub kept : x.fin_counted ≡ true → y.fin_counted ≡ true
+  pub fins : ℕ
+  pub counts : fin_length y.fin_counted ≡ fin_length x.fin_counted + fins
+
+-- so a segment inside the window is heard
 pub cut_heard : (x y : SocketView) (g : StreamSegment) (win o : ℕ) (bs : List ℕ) (b c : Received) → Comes b c o bs → x.rcv_nxt < 2 ^ 32 → g.seq < 2 ^ 32 → win ≤ 2 ^ 30 → length g.payload ≤ 65535 → IsInside x.rcv_nxt win g.seq (length g.payload)
-    → cut x.rcv_nxt ((x.rcv_nxt + win) % 2 ^ 32) g ≡ bs → cut_offset x.rcv_nxt g ≡ o → y.fin_counted ≡ x.fin_counted → y.rcv_nxt ≡ (x.rcv_nxt + (length c.bytes - length b.bytes) + 0) % 2 ^ 32 → HearsData (with_received x b) (with_received y c) g
-cut_heard x y g win o bs b c come nxt_small seq_small win_small short inside cut_is offset_is fin nxt = takes_hears (with_received x b) (with_received y c) g win (record {
+    → cut x.rcv_nxt ((x.rcv_nxt + win) % 2 ^ 32) g ≡ bs → cut_offset x.rcv_nxt g ≡ o → (f : FinCounts x y g ((x.rcv_nxt + win) % 2 ^ 32)) → y.rcv_nxt ≡ (x.rcv_nxt + (length c.bytes - length b.bytes) + f.fins) % 2 ^ 32 → HearsData (with_received x b) (with_received y c) g
+cut_heard x y g win o bs b c come nxt_small seq_small win_small short inside cut_is offset_is f nxt = takes_hears (with_received x b) (with_received y c) g win (record {
   rcv_nxt_small = nxt_small;
   seq_small = seq_small;
   win_small = win_small;
   payload = short;
   inside = inside;
   joins = joins come;
-  fin = λ e. inl (sym fin ∙ e);
-  kept = λ e. fin ∙ e;
-  fins = 0;
-  fin_counts = omega (arith, ap fin_length fin);
+  fin = f.fin;
+  kept = f.kept;
+  fins = f.fins;
+  fin_counts = f.counts;
   rcv_nxt = nxt;
 })
   where

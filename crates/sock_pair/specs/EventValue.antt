@@ -23,6 +23,8 @@ pub data EventValue : Type 0 where
   send : Side → List ℕ → ℕ → EventValue
   recv_slice : Side → ℕ → EventValue
   recv : Side → ℕ → EventValue
+  close : Side → EventValue
+  abort : Side → EventValue
   set : Side → Setting → EventValue
   dispatch : Side → MomentValue → Bool → EventValue
   deliver : ℕ → MomentValue → EventValue
@@ -34,6 +36,8 @@ event_value (event.SendSlice side bytes) = send_slice side bytes.items
 event_value (event.Send side bytes take) = send side bytes.items take
 event_value (event.RecvSlice side size) = recv_slice side size
 event_value (event.Recv side take) = recv side take
+event_value (event.Close side) = close side
+event_value (event.Abort side) = abort side
 event_value (event.Set side setting) = set side setting
 event_value (event.Dispatch side moment fail) = dispatch side (moment_value moment) fail
 event_value (event.Deliver index moment) = deliver index (moment_value moment)

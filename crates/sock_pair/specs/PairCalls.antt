@@ -1,10 +1,10 @@
 -- What opening, sending and receiving do to one side.
-use Rattle.std.specs.Prelude.{ℕ, ◌≡◌, ◌≤◌, ◌+◌, ◌++◌, List, length, min, take, Option, Some, None, Bool, true, false, nat_lt}
+use Rattle.std.specs.Prelude.{ℕ, ◌≡◌, ◌≤◌, ◌+◌, ◌++◌, List, length, min, take, Option, Some, None, Bool, true, false, if◌then◌else◌, nat_lt}
 use Rattle.ip_wire.specs.declared.endpoint.IpEndpoint.{IpEndpoint}
 use Rattle.sock_tcp.specs.Opening.{listened, connected}
-use Rattle.sock_tcp.specs.Queues.{may_send, may_recv, fitting, queued, readable, read_off}
+use Rattle.sock_tcp.specs.Closing.{closed, aborted}
+use Rattle.sock_tcp.specs.Queues.{may_send, may_recv, fitting, queued, readable, read_off, recv_refusal}
 use Rattle.sock_tcp.specs.declared.error.SendError.TheVariants as send_error
-use Rattle.sock_tcp.specs.declared.error.RecvError.TheVariants as recv_error
 use Rattle.sock_pair.specs.declared.host.Opening.{Opening}
 use Rattle.sock_pair.specs.declared.host.Opening.TheVariants as opening
 use Rattle.sock_pair.specs.declared.moment.Moment.{Moment}
@@ -110,10 +110,29 @@ HandsOutBytes false size h o new = HandsOut (readable h.control_block size) h o 
 
 abbrev pub ReceivesIf : Bool → Bool → ℕ → HostView → Outcome → HostView → Type 0
 ReceivesIf true piece size h o new = HandsOutBytes piece size h o new
-ReceivesIf false piece size h o new = (o ≡ outcome.RecvRefused recv_error.InvalidState) × (new ≡ h)
+ReceivesIf false piece size h o new = (o ≡ outcome.RecvRefused (recv_refusal h.control_block)) × (new ≡ h)
 
 abbrev pub Receives : Bool → ℕ → HostView → Outcome → HostView → Type 0
 Receives piece size h o new = ReceivesIf (may_recv h.control_block) piece size h o new
+
+-- ---- closing
+
+-- the side's stream ends where bytes could be sent, in ESTABLISHED and CLOSE-WAIT
+abbrev pub closing : HostView → HostView
+closing h =
+    record h {
+      control_block = closed h.control_block;
+      closed = if may_send h.control_block.state then true else h.closed;
+    }
+
+abbrev pub Closes : HostView → Outcome → HostView → Type 0
+Closes h o new = (o ≡ outcome.Done) × (new ≡ closing h)
+
+abbrev pub aborting : HostView → HostView
+aborting h = record h { control_block = aborted h.control_block }
+
+abbrev pub Aborts : HostView → Outcome → HostView → Type 0
+Aborts h o new = (o ≡ outcome.Done) × (new ≡ aborting h)
 
 -- ---- settings
 

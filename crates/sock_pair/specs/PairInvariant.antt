@@ -5,7 +5,7 @@ use Rattle.ip_wire.specs.Address.{SameVersion, is_unspecified}
 use Rattle.ip_wire.specs.declared.endpoint.IpEndpoint.{IpEndpoint}
 use Rattle.sock_core.specs.Received.{room_of}
 use Rattle.sock_tcp.specs.Queue.{capacity}
-use Rattle.sock_tcp.specs.View.{View}
+use Rattle.sock_tcp.specs.View.{View, FinSays}
 use Rattle.sock_tcp.specs.declared.state.State.TheVariants as state
 use Rattle.sock_pair.specs.NetworkInvariant.{IsInvariant}
 use Rattle.sock_pair.specs.PairNetwork.{is_listener, is_passive, network_of, IsSmall}
@@ -20,6 +20,7 @@ pub record IsIdle (v : View) : Type 0 where
   pub tuple : v.tuple ≡ None
   pub rx : v.rx_buffer.bytes ≡ []
   pub tx : v.tx_buffer.bytes ≡ []
+  pub no_fin : v.rx_fin_received ≡ false
 
 -- an endpoint that can be listened on and connected to
 pub record IsReachable (e : IpEndpoint) : Type 0 where
@@ -32,8 +33,6 @@ pub record IsHost (h : HostView) : Type 0 where
   -- a socket that is not CLOSED listens on a port exactly where it was opened by listen
   pub passive : (h.opening ≡ opening.Unopened → ⊥) → (h.control_block.state ≡ state.Closed → ⊥)
       → is_passive h.control_block ≡ is_listener h.opening
-  -- no FIN is counted yet
-  pub no_fin : h.control_block.rx_fin_received ≡ false
 
 -- both sockets can be connected, and the network that the pair shows meets the invariant of the theorem on two streams
 pub record IsPair (p : PairView) : Type 0 where
@@ -49,12 +48,14 @@ abbrev pub DeliversSmall : Event → PairView → Type 0
 DeliversSmall (event.Deliver i m) p = ForSome (slice_get p.segments i) (λ t. IsSmall t.segment)
 DeliversSmall _ p = Unit {0}
 
-pub record HasSmallBuffers (v : View) : Type 0 where
+-- buffers have at most 2^30 bytes, and a FIN is counted only in a state that tells of one
+pub record IsSocket (v : View) : Type 0 where
   pub receive : room_of v.rx_buffer ≤ 2 ^ 30
   pub transmit : capacity v.tx_buffer ≤ 2 ^ 30
+  pub fin : FinSays v.state v.rx_fin_received
 
--- buffers have at most 2^30 bytes
+-- what the types say of a pair and of an event of it
 pub record IsSized (e : Event) (p : PairView) : Type 0 where
-  pub a : HasSmallBuffers p.a.control_block
-  pub b : HasSmallBuffers p.b.control_block
+  pub a : IsSocket p.a.control_block
+  pub b : IsSocket p.b.control_block
   pub delivered : DeliversSmall e p

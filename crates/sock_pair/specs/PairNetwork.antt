@@ -63,7 +63,6 @@ is_listener opening.Unopened = false
 is_listener opening.Listener = true
 is_listener opening.Connector = false
 
--- no call closes a socket yet
 abbrev pub endpoint_of : HostView → Endpoint
 endpoint_of h =
     record {
@@ -72,7 +71,7 @@ endpoint_of h =
       handed_out = h.handed_out;
       released = h.released;
       taken = h.taken;
-      closed = false;
+      closed = h.closed;
       listener = is_listener h.opening;
     }
 

@@ -12,7 +12,7 @@ pub record Happens (e : Event) (p : PairView) (o : Outcome) (q : PairView) : Typ
   pub step : EventStep e p o q
   pub prefix : Prefix q
   pub release : Release q
-  pub complete : Complete o
+  pub complete : Complete e p o q
   pub prompt : Prompt e p o q
 
 -- every event in turn, each with its outcome and with the pair that it leaves

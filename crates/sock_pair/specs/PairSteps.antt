@@ -2,11 +2,15 @@
 use Rattle.std.specs.Prelude.{ℕ, ◌≡◌, ◌+◌, ◌-◌, ◌^◌, ◌++◌, ◌↔◌, IsTrue, List, [], ◌∷◌, length, slice_get, Option, Some, None, option_map, Bool, true, false, nat_le, ◌||◌}
 use Rattle.ip_wire.specs.declared.repr.IpRepr.{IpRepr}
 use Rattle.control_wire.specs.Segment.{Segment}
+use Rattle.control_wire.specs.declared.tcp.TcpControl.{TcpControl}
+use Rattle.control_wire.specs.declared.tcp.TcpControl.TheVariants as control
+use Rattle.control_wire.specs.declared.tcp.TcpTimestampRepr.{TcpTimestampRepr}
 use Rattle.sock_tcp.specs.Process.{Accepts, Outcome as Processed, processed}
+use Rattle.sock_tcp.specs.Replies.{Answers}
 use Rattle.sock_pair.specs.Moments.{facts_of}
 use Rattle.sock_pair.specs.PairViews.{HostView, StoredView, PairView, host_of, with_host}
 use Rattle.sock_pair.specs.Holding.{stored_segment, kept_at}
-use Rattle.sock_pair.specs.PairCalls.{listening, connecting, OpensAs, is_over, Sends, Receives, Sets}
+use Rattle.sock_pair.specs.PairCalls.{listening, connecting, OpensAs, is_over, Sends, Receives, Closes, Aborts, Sets}
 use Rattle.sock_pair.specs.Recording.{SocketDispatches}
 use Rattle.sock_pair.specs.Sides.{other_side}
 use Rattle.sock_pair.specs.declared.event.Event.{Event}
@@ -92,12 +96,19 @@ reply_index n r = option_map (λ _. n) r
 abbrev pub IsUnchanged : HostView → List StoredView → HostView → List StoredView → Type 0
 IsUnchanged h ks h' ks' = (h' ≡ h) × (ks' ≡ ks)
 
+-- an acknowledgement may have a timestamp
+abbrev pub IsAnyStamp : TcpControl → Option TcpTimestampRepr → Type 0
+IsAnyStamp control.None stamp = Unit {0}
+IsAnyStamp c stamp = stamp ≡ None
+
 -- the segment is processed, and the reply is stored with the counts after that
 pub record IsProcessed (s : Side) (m : Moment) (t : StoredView) (o : Outcome) (h : HostView) (ks : List StoredView)
     (h' : HostView) (ks' : List StoredView) : Type 0 where
-  pub answer : o ≡ outcome.Delivered (reply_index (length ks) (processed_by h m t).reply)
+  pub reply : Option (IpRepr × Segment)
+  pub is_reply : Answers IsAnyStamp t.ip (processed_by h m t).reply reply
+  pub answer : o ≡ outcome.Delivered (reply_index (length ks) reply)
   pub host : h' ≡ delivered_to h m t
-  pub stored : ks' ≡ ks ++ kept_at s (processed_by h m t).reply (delivered_to h m t).released (delivered_to h m t).taken
+  pub stored : ks' ≡ ks ++ kept_at s reply (delivered_to h m t).released (delivered_to h m t).taken
 
 abbrev pub DeliversIf : Bool → Side → Moment → StoredView → Outcome → HostView → List StoredView → HostView
     → List StoredView → Type 0
@@ -140,6 +151,8 @@ TakesMemory (event.SendSlice s bytes) p = is_over p.limit (length (host_of s p).
 TakesMemory (event.Send s bytes size) p = is_over p.limit (length (host_of s p).accepted + length bytes.items) ≡ false
 TakesMemory (event.RecvSlice s size) p = Unit {0}
 TakesMemory (event.Recv s size) p = Unit {0}
+TakesMemory (event.Close s) p = ⊥
+TakesMemory (event.Abort s) p = ⊥
 TakesMemory (event.Set s x) p = ⊥
 TakesMemory (event.Dispatch s m fail) p = Unit {0}
 TakesMemory (event.Deliver i m) p = DeliveryTakesMemory (slice_get p.segments i) p
@@ -155,6 +168,8 @@ EventStep (event.SendSlice s bytes) p o q = OneSide s p q (λ h k. Sends p.limit
 EventStep (event.Send s bytes size) p o q = OneSide s p q (λ h k. Sends p.limit (Some size) bytes.items h o k)
 EventStep (event.RecvSlice s size) p o q = OneSide s p q (λ h k. Receives false size h o k)
 EventStep (event.Recv s size) p o q = OneSide s p q (λ h k. Receives true size h o k)
+EventStep (event.Close s) p o q = OneSide s p q (λ h k. Closes h o k)
+EventStep (event.Abort s) p o q = OneSide s p q (λ h k. Aborts h o k)
 EventStep (event.Set s x) p o q = OneSide s p q (λ h k. Sets x h o k)
 EventStep (event.Dispatch s m fail) p o q = OneSideAndSegments s p q (Dispatches s m fail o)
 EventStep (event.Deliver i m) p o q = Delivers (slice_get p.segments i) m p o q

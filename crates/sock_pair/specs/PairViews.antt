@@ -1,5 +1,5 @@
 -- A pair by value.
-use Rattle.std.specs.Prelude.{ℕ, List, [], Option}
+use Rattle.std.specs.Prelude.{ℕ, List, [], Option, Bool, false}
 use Rattle.ip_wire.specs.declared.endpoint.IpEndpoint.{IpEndpoint}
 use Rattle.ip_wire.specs.declared.repr.IpRepr.{IpRepr}
 use Rattle.control_wire.specs.Segment.{Segment}
@@ -18,6 +18,7 @@ pub record HostView : Type 0 where
   pub handed_out : List ℕ  -- the bytes that its calls of recv gave out, in order
   pub released : ℕ  -- how many bytes left its transmit queue by acknowledgement
   pub taken : ℕ  -- how many bytes joined its receive queue
+  pub closed : Bool  -- a close found it in ESTABLISHED or CLOSE-WAIT
 
 -- a stored segment
 pub record StoredView : Type 0 where
@@ -51,6 +52,7 @@ new_host v e =
       handed_out = [];
       released = 0;
       taken = 0;
+      closed = false;
     }
 
 abbrev pub new_pair : HostView → HostView → Option ℕ → PairView

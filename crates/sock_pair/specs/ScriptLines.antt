@@ -8,20 +8,21 @@ use Rattle.sock_pair.specs.declared.script.pair_line.PairLine.{PairLine}
 use Rattle.sock_pair.specs.declared.script.Script.{Script}
 use Rattle.sock_pair.specs.declared.setting.Setting.TheVariants as setting
 use Rattle.sock_pair.specs.declared.side.Side.{Side}
-use Rattle.sock_pair.specs.EventValue.{MomentValue, EventValue, listen, connect, send_slice, recv_slice, set, dispatch, deliver, event_value}
+use Rattle.sock_pair.specs.EventValue.{MomentValue, EventValue, listen, connect, close, abort, send_slice, recv_slice, set, dispatch, deliver, event_value}
 use Rattle.sock_pair.specs.ScriptText.{lines_left, lines_of, numbered_from}
 use Rattle.sock_pair.specs.ScriptWords.{Word, side_of, switch_of, number_of, limit_of, text_of, keyword_of, one_of, two_of, three_of, five_of, one_and_text_of}
 
--- the context at so many milliseconds, with this word: the address is there, and the MTU is 1500
-abbrev pub moment_at : ℕ → ℕ → MomentValue
-moment_at millis word = record { now = pos (millis * 1000); word = word; has_address = true; ip_mtu = 1500 }
+-- the context at so many milliseconds, with this word and with the own address or without; the MTU is 1500
+abbrev pub moment_at : Bool → ℕ → ℕ → MomentValue
+moment_at has_address millis word =
+    record { now = pos (millis * 1000); word = word; has_address = has_address; ip_mtu = 1500 }
 
 -- events of values that may be bad
 abbrev pub listen_event : Option Side → Option EventValue
 listen_event side = option_map listen side
 
 abbrev pub connect_event : Option Side → Option ℕ → Option EventValue
-connect_event (Some side) (Some word) = Some (connect side (moment_at 0 word))
+connect_event (Some side) (Some word) = Some (connect side (moment_at true 0 word))
 connect_event _ _ = None
 
 abbrev pub send_event : Option Side → Option (List ℕ) → Option EventValue
@@ -36,12 +37,13 @@ abbrev pub nagle_event : Option Side → Option Bool → Option EventValue
 nagle_event (Some side) (Some on) = Some (set side (setting.Nagle on))
 nagle_event _ _ = None
 
-abbrev pub dispatch_event : Bool → Option Side → Option ℕ → Option EventValue
-dispatch_event fail (Some side) (Some millis) = Some (dispatch side (moment_at millis 0) fail)
-dispatch_event fail _ _ = None
+abbrev pub dispatch_event : Bool → Bool → Option Side → Option ℕ → Option EventValue
+dispatch_event has_address fail (Some side) (Some millis) =
+    Some (dispatch side (moment_at has_address millis 0) fail)
+dispatch_event has_address fail _ _ = None
 
 abbrev pub deliver_event : Option ℕ → Option ℕ → Option ℕ → Option EventValue
-deliver_event (Some index) (Some millis) (Some word) = Some (deliver index (moment_at millis word))
+deliver_event (Some index) (Some millis) (Some word) = Some (deliver index (moment_at true millis word))
 deliver_event _ _ _ = None
 
 abbrev pub or_bad_word : {V : Type 0} → ℕ → Option V → Result V ScriptError
@@ -56,6 +58,12 @@ by_words n value (Some words) = or_bad_word n (value words)
 -- line n, by its form, from the words after the first
 unfoldable pub listen_line : ℕ → List Word → Result EventValue ScriptError
 listen_line n values = by_words n (λ side. listen_event (side_of side)) (one_of values)
+
+unfoldable pub close_line : ℕ → List Word → Result EventValue ScriptError
+close_line n values = by_words n (λ side. option_map close (side_of side)) (one_of values)
+
+unfoldable pub abort_line : ℕ → List Word → Result EventValue ScriptError
+abort_line n values = by_words n (λ side. option_map abort (side_of side)) (one_of values)
 
 unfoldable pub connect_line : ℕ → List Word → Result EventValue ScriptError
 connect_line n values =
@@ -73,9 +81,10 @@ unfoldable pub nagle_line : ℕ → List Word → Result EventValue ScriptError
 nagle_line n values =
     by_words n (λ (side, switch). nagle_event (side_of side) (switch_of switch)) (two_of values)
 
-unfoldable pub dispatch_line : Bool → ℕ → List Word → Result EventValue ScriptError
-dispatch_line fail n values =
-    by_words n (λ (side, millis). dispatch_event fail (side_of side) (number_of 1000000000 millis)) (two_of values)
+unfoldable pub dispatch_line : Bool → Bool → ℕ → List Word → Result EventValue ScriptError
+dispatch_line has_address fail n values =
+    by_words n (λ (side, millis). dispatch_event has_address fail (side_of side) (number_of 1000000000 millis))
+    (two_of values)
 
 unfoldable pub deliver_line : ℕ → List Word → Result EventValue ScriptError
 deliver_line n values =
@@ -89,11 +98,14 @@ abbrev pub values_mean : ℕ → Option Keyword → List Word → Result EventVa
 values_mean n None values = Err (fault.UnknownEvent n)
 values_mean n (Some keyword.Listen) values = listen_line n values
 values_mean n (Some keyword.Connect) values = connect_line n values
+values_mean n (Some keyword.Close) values = close_line n values
+values_mean n (Some keyword.Abort) values = abort_line n values
 values_mean n (Some keyword.Send) values = send_line n values
 values_mean n (Some keyword.Recv) values = recv_line n values
 values_mean n (Some keyword.Nagle) values = nagle_line n values
-values_mean n (Some keyword.Dispatch) values = dispatch_line false n values
-values_mean n (Some keyword.Fail) values = dispatch_line true n values
+values_mean n (Some keyword.Dispatch) values = dispatch_line true false n values
+values_mean n (Some keyword.Fail) values = dispatch_line true true n values
+values_mean n (Some keyword.Gone) values = dispatch_line false false n values
 values_mean n (Some keyword.Deliver) values = deliver_line n values
 
 -- what line n with these words means; each line that is not skipped has a first word

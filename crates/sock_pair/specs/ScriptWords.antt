@@ -55,12 +55,15 @@ unfoldable pub keyword_of : Word → Option Keyword
 keyword_of word =
     if bytes_eq word (codes "listen") then Some keyword.Listen
     else (if bytes_eq word (codes "connect") then Some keyword.Connect
+    else (if bytes_eq word (codes "close") then Some keyword.Close
+    else (if bytes_eq word (codes "abort") then Some keyword.Abort
     else (if bytes_eq word (codes "send") then Some keyword.Send
     else (if bytes_eq word (codes "recv") then Some keyword.Recv
     else (if bytes_eq word (codes "nagle") then Some keyword.Nagle
     else (if bytes_eq word (codes "dispatch") then Some keyword.Dispatch
     else (if bytes_eq word (codes "fail") then Some keyword.Fail
-    else (if bytes_eq word (codes "deliver") then Some keyword.Deliver else None)))))))
+    else (if bytes_eq word (codes "gone") then Some keyword.Gone
+    else (if bytes_eq word (codes "deliver") then Some keyword.Deliver else None))))))))))
 
 -- the words, where there are just so many
 abbrev pub one_of : List Word → Option Word

@@ -37,6 +37,14 @@ pub enum Event {
         side: Side,
         take: usize,
     },
+    /// `close`.
+    Close {
+        side: Side,
+    },
+    /// `abort`.
+    Abort {
+        side: Side,
+    },
     /// The setter of this setting.
     Set {
         side: Side,

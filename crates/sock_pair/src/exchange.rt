@@ -2,7 +2,7 @@
 ghost use Rattle.std.specs.Prelude.{◌≡◌, ◌<◌, ◌^◌, ◌++◌, [], length, map, IfOk, OnErr, slice_get, option_map, vec_len, vec_capacity};
 ghost use Rattle.sock_pair.specs.Holding.{stored_of, kept_at};
 ghost use Rattle.std.specs.Option.{ForSome};
-ghost use Rattle.control_wire.specs.Segment.{segment_of};
+ghost use Rattle.sock_tcp.specs.Process.{reply_of};
 ghost use Rattle.sock_pair.specs.PairSteps.{is_too_old, dispatch_outcome, stored_at, Dispatches, reply_index, IsUnchanged};
 ghost use Rattle.sock_pair.specs.Recording.{IsShort};
 ghost use Rattle.sock_pair.specs.Exchanges.{DeliversAt, ReachesSocketAt};
@@ -13,8 +13,7 @@ use crate::outcome::{Outcome, PairError};
 use crate::recorder::Sent;
 use crate::segment::{Header, Segment};
 use crate::side::Side;
-use sock_tcp::Reply;
-use sock_tcp::generator::TsvalSource;
+use sock_tcp::{Reply, TsvalSource};
 use std::alloc::Global;
 
 // By how much a count of a segment's emitter may grow at most while the segment is young.
@@ -102,9 +101,9 @@ fn store_reply(
     requires empty { ForSome reply (λ r. r.1.payload.now ≡ []) }
     ensures answer { result
         ≡ Outcome.Delivered (reply_index (length (map stored_of segments.old.items))
-        (option_map (λ r. (r.0, segment_of r.1)) reply.entry)) }
+        (option_map reply_of reply.entry)) }
     ensures stored { map stored_of segments.new.items ≡ map stored_of segments.old.items
-        ++ kept_at from (option_map (λ r. (r.0, segment_of r.1)) reply.entry) counts.released counts.taken }
+        ++ kept_at from (option_map reply_of reply.entry) counts.released counts.taken }
 {
     match reply {
         None => Outcome::Delivered(None),

@@ -2,7 +2,8 @@
 ghost use Rattle.std.specs.Prelude.{◌≡◌, ◌+◌, ◌-◌, ◌≤◌, ◌<◌, ◌^◌, ◌++◌, ◌↔◌, IsTrue, length, option_map, Some, [], not, false, IfOk, OnOk, OnErr, vec_len, vec_capacity, min, take, true, MatchOption};
 ghost use Rattle.std.specs.Option.{ForSome};
 ghost use Rattle.control_wire.specs.Segment.{segment_of};
-ghost use Rattle.sock_tcp.specs.Process.{Accepts, processed};
+ghost use Rattle.sock_tcp.specs.Process.{Accepts, processed, reply_of};
+ghost use Rattle.sock_tcp.specs.Replies.{Answers};
 ghost use Rattle.sock_pair.specs.Moments.{facts_of};
 ghost use Rattle.sock_pair.specs.Holding.{stored_of};
 ghost use Rattle.sock_pair.specs.Pieces.{SendsPiece, ReceivesPiece};
@@ -16,8 +17,7 @@ use crate::segment::Segment;
 use crate::setting::Setting;
 use control_wire::{TcpRepr, TcpTimestampGenerator};
 use ip_wire::{IpEndpoint, IpListenEndpoint, IpRepr};
-use sock_tcp::generator::TsvalSource;
-use sock_tcp::{Generator, RecvError, Reply, SendError, Socket, SocketBuffer};
+use sock_tcp::{Generator, RecvError, Reply, SendError, Socket, SocketBuffer, TsvalSource};
 use std::alloc::Global;
 use std::marker::Model;
 
@@ -40,6 +40,7 @@ pub(crate) struct Host<'a, G = Generator> {
     pub(crate) handed_out: Vec<u8>,
     pub(crate) released: u64,
     pub(crate) taken: u64,
+    pub(crate) closed: bool,
 }
 
 impl<'a, G> Model for Host<'a, G> {
@@ -55,6 +56,7 @@ impl<'a, G> Model for Host<'a, G> {
       handed_out = h.handed_out.items;
       released = h.released;
       taken = h.taken;
+      closed = h.closed;
     } };
 }
 
@@ -86,15 +88,16 @@ impl<'a> Host<'a> {
             handed_out: Vec::new(alloc),
             released: 0,
             taken: 0,
+            closed: false,
         }
     }
 }
 
 impl<'a, G: TsvalSource> Host<'a, G> {
     ghost use Rattle.sock_tcp.specs.Queues.{may_send};
-    ghost use Rattle.sock_pair.specs.PairCalls.{listening, connecting, OpensAs, SendsIf, Receives, Sets};
-    ghost use Rattle.sock_pair.specs.PairSteps.{HostDispatches, delivered_to, processed_by};
-    ghost use Rattle.sock_pair.specs.PairInvariant.{HasSmallBuffers, IsHost, IsReachable};
+    ghost use Rattle.sock_pair.specs.PairCalls.{listening, connecting, OpensAs, SendsIf, Receives, Closes, Aborts, Sets};
+    ghost use Rattle.sock_pair.specs.PairSteps.{HostDispatches};
+    ghost use Rattle.sock_pair.specs.PairInvariant.{IsSocket, IsHost, IsReachable};
     ghost use Rattle.ip_wire.specs.Address.{SameVersion};
 
     pub(crate) fn endpoint(&self) -> IpEndpoint
@@ -113,13 +116,14 @@ impl<'a, G: TsvalSource> Host<'a, G> {
         }
     }
 
-    // Says that its buffers have at most 2^30 bytes, and that the bytes accepted are fewer than 2^63.
+    // Says what its socket keeps, and that the bytes accepted are fewer than 2^63.
     pub(crate) fn in_range(&self)
-        ensures buffers { HasSmallBuffers self.now.control_block }
+        ensures socket { IsSocket self.now.control_block }
         ensures accepted { length self.now.accepted < 2 ^ 63 }
     {
         self.socket.recv_queue();
         self.socket.send_queue();
+        self.socket.state();
         self.accepted.len();
     }
 
@@ -199,7 +203,6 @@ impl<'a, G: TsvalSource> Host<'a, G> {
         size: usize,
         piece: bool,
     ) -> Result<Outcome, PairError>
-        requires { self.old.control_block.rx_fin_received ≡ false }
         ensures step { IfOk result (λ o. Receives piece size self.old o self.new) }
         ensures memory { OnErr result (self.new ≡ self.old) }
     {
@@ -211,7 +214,6 @@ impl<'a, G: TsvalSource> Host<'a, G> {
     }
 
     fn recv_slice(&mut self, alloc: Global, size: usize) -> Result<Outcome, PairError>
-        requires { self.old.control_block.rx_fin_received ≡ false }
         ensures step { IfOk result (λ o. Receives false size self.old o self.new) }
         ensures memory { OnErr result (self.new ≡ self.old) }
     {
@@ -233,7 +235,6 @@ impl<'a, G: TsvalSource> Host<'a, G> {
     }
 
     fn recv_piece(&mut self, alloc: Global, size: usize) -> Result<Outcome, PairError>
-        requires { self.old.control_block.rx_fin_received ≡ false }
         ensures step { IfOk result (λ o. Receives true size self.old o self.new) }
         ensures memory { OnErr result (self.new ≡ self.old) }
     {
@@ -252,6 +253,24 @@ impl<'a, G: TsvalSource> Host<'a, G> {
                 Ok(Outcome::Read(bytes))
             }
         }
+    }
+
+    // A close in ESTABLISHED or CLOSE-WAIT is what ends the side's stream.
+    pub(crate) fn close(&mut self) -> Outcome
+        ensures { Closes self.old result self.new }
+    {
+        if self.socket.may_send() {
+            self.closed = true;
+        }
+        self.socket.close();
+        Outcome::Done
+    }
+
+    pub(crate) fn abort(&mut self) -> Outcome
+        ensures { Aborts self.old result self.new }
+    {
+        self.socket.abort();
+        Outcome::Done
     }
 
     pub(crate) fn set(&mut self, setting: Setting) -> Outcome
@@ -307,6 +326,10 @@ impl<'a, G: TsvalSource> Host<'a, G> {
         let repr = segment.as_repr();
         self.socket.accepts(moment, &segment.header.ip_repr, &repr)
     }
+}
+
+impl<'a, G: TsvalSource> Host<'a, G> {
+    ghost use Rattle.sock_pair.specs.PairSteps.{delivered_to, processed_by, IsAnyStamp};
 
     // A delivery to this side.
     pub(crate) fn deliver(&mut self, moment: &Moment, segment: &Segment) -> Option<Reply>
@@ -315,8 +338,8 @@ impl<'a, G: TsvalSource> Host<'a, G> {
         requires taken { self.old.taken < 2 ^ 63 }
         ensures view { self.new ≡ delivered_to self.old moment.entry.now (stored_of segment.now) }
         ensures bare { ForSome result (λ r. r.1.payload.now ≡ []) }
-        ensures reply { option_map (λ r. (r.0, segment_of r.1)) result
-            ≡ (processed_by self.old moment.entry.now (stored_of segment.now)).reply }
+        ensures reply { Answers IsAnyStamp (stored_of segment.now).ip
+            (processed_by self.old moment.entry.now (stored_of segment.now)).reply (option_map reply_of result) }
     {
         segment.in_range();
         let mut cx = *moment;

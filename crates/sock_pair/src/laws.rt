@@ -10,7 +10,7 @@ ghost use Rattle.control_wire.specs.Segment.{Segment};
 ghost use Rattle.sock_core.specs.Facts.{Facts};
 ghost use Rattle.sock_core.specs.Received.{room_of};
 ghost use Rattle.sock_tcp.specs.Queue.{IsLent};
-ghost use Rattle.sock_tcp.specs.View.{View, moment_of};
+ghost use Rattle.sock_tcp.specs.View.{View, FinSays, moment_of};
 ghost use Rattle.sock_tcp.specs.Opening.{listened, connected};
 ghost use Rattle.sock_tcp.specs.Queues.{queued, read_off};
 ghost use Rattle.sock_pair.specs.Settings.{set_in};
@@ -40,10 +40,11 @@ ghost use Rattle.sock_pair.specs.declared.outcome.Outcome.{Outcome};
 pub fn process_heard()
     ensures { (v : View) (now : Instant) (word : ℕ) (ip : IpRepr) (s : Segment)
         (released taken released_then taken_then : ℕ)
-        → word < 2 ^ 32 → IsSmall s → room_of v.rx_buffer ≤ 2 ^ 30 → IsBounded v → Accepts v ip s
+        → word < 2 ^ 32 → IsSmall s → room_of v.rx_buffer ≤ 2 ^ 30 → FinSays v.state v.rx_fin_received → IsBounded v
+        → Accepts v ip s
         → ProcessEffect (is_passive v) (shown v) (shown (processed v now word ip s).view)
         (stream_segment s released taken)
-        (option_map (λ r. stream_segment r.1 released_then taken_then) (processed v now word ip s).reply) }
+        (option_map (λ r. stream_segment r released_then taken_then) (processed v now word ip s).reply) }
 {}
 
 /// What a dispatch does before it emits anything changes nothing that the streams see, moves SND.NXT back to SND.UNA
@@ -100,7 +101,7 @@ pub fn pairs_deliver_in_order()
 /// A delivery that a side accepts, of a segment in order, appends the bytes of it that lie in the receive window to the
 /// receive queue before it returns, and behind them what was held there.
 pub fn pairs_deliver_at_once()
-    ensures { (i : ℕ) (m : Moment) (p q : PairView) (o : Outcome) → EventStep (Deliver i m) p o q → IsPromptAt i p o q }
+    ensures { (i : ℕ) (m : Moment) (p q : PairView) (o : Outcome) → EventStep (Deliver i m) p o q → IsPromptAt i m p o q }
 {}
 
 /// Each event of a pair is a run of steps of the theorem on two streams, from the network that the pair shows to the

@@ -11,7 +11,7 @@ use std::fmt;
 pub enum Outcome {
     /// `listen` or `connect` was called.
     Opened,
-    /// The setting was set.
+    /// The side was closed or aborted, or the setting was set.
     Done,
     /// So many of the bytes were accepted.
     Accepted(usize),

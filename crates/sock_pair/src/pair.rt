@@ -11,8 +11,7 @@ use crate::setting::Setting;
 use crate::side::Side;
 use control_wire::TcpTimestampGenerator;
 use ip_wire::IpEndpoint;
-use sock_tcp::generator::TsvalSource;
-use sock_tcp::{Generator, Socket, SocketBuffer};
+use sock_tcp::{Generator, Socket, SocketBuffer, TsvalSource};
 use std::alloc::Global;
 use std::marker::Model;
 
@@ -96,14 +95,14 @@ impl<'a> Pair<'a> {
 impl<'a, G: TsvalSource> Pair<'a, G> {
     ghost use Rattle.std.specs.Prelude.{map};
     ghost use Rattle.sock_pair.specs.PairViews.{host_of};
-    ghost use Rattle.sock_pair.specs.PairCalls.{listening, connecting, OpensAs, is_over, Sends, Receives, Sets};
+    ghost use Rattle.sock_pair.specs.PairCalls.{listening, connecting, OpensAs, is_over, Sends, Receives, Closes, Aborts, Sets};
     ghost use Rattle.sock_pair.specs.PairSteps.{OneSide, OneSideAndSegments, Dispatches, Delivers, DeliveryTakesMemory, TakesMemory, EventStep};
     ghost use Rattle.sock_pair.specs.PairRuns.{Ran};
     ghost use Rattle.sock_pair.specs.PairStreams.{AddsUp, accepted_by, handed_out_by};
     ghost use Rattle.sock_pair.specs.PairPromises.{Prefix, Release, Complete, Prompt};
     ghost use Rattle.sock_pair.specs.Holding.{stored_of};
     ghost use Rattle.std.specs.Option.{ForSome};
-    ghost use Rattle.sock_pair.specs.PairInvariant.{DeliversSmall, HasSmallBuffers, IsPair};
+    ghost use Rattle.sock_pair.specs.PairInvariant.{DeliversSmall, IsSocket, IsPair};
     ghost use Rattle.sock_pair.specs.PairNetwork.{IsSmall, network_of};
     ghost use Rattle.sock_pair.specs.NetworkRuns.{Reaches};
     ghost use Rattle.sock_pair.specs.Sides.{other_side};
@@ -143,6 +142,13 @@ impl<'a, G: TsvalSource> Pair<'a, G> {
         ensures { result ≡ (host_of side self.now).taken }
     {
         self.host(side).taken
+    }
+
+    /// Whether a `Close` found the side in ESTABLISHED or CLOSE-WAIT, so that it accepts nothing more.
+    pub fn closed(&self, side: Side) -> bool
+        ensures { result ≡ (host_of side self.now).closed }
+    {
+        self.host(side).closed
     }
 
     /// The side's socket.
@@ -224,6 +230,24 @@ impl<'a, G: TsvalSource> Pair<'a, G> {
         }
     }
 
+    fn close(&mut self, side: Side) -> Outcome
+        ensures { OneSide side self.old self.new (λ h k. Closes h result k) }
+    {
+        match side {
+            Side::A => self.a.close(),
+            Side::B => self.b.close(),
+        }
+    }
+
+    fn abort(&mut self, side: Side) -> Outcome
+        ensures { OneSide side self.old self.new (λ h k. Aborts h result k) }
+    {
+        match side {
+            Side::A => self.a.abort(),
+            Side::B => self.b.abort(),
+        }
+    }
+
     fn set(&mut self, side: Side, setting: Setting) -> Outcome
         ensures { OneSide side self.old self.new (λ h k. Sets setting h result k) }
     {
@@ -299,11 +323,11 @@ impl<'a, G: TsvalSource> Pair<'a, G> {
         }
     }
 
-    // Says what every pair keeps, and that its buffers have at most 2^30 bytes.
+    // Says what every pair keeps, and each socket.
     fn is_pair(&self)
         ensures pair { IsPair self.now }
-        ensures a { HasSmallBuffers self.now.a.control_block }
-        ensures b { HasSmallBuffers self.now.b.control_block }
+        ensures a { IsSocket self.now.a.control_block }
+        ensures b { IsSocket self.now.b.control_block }
     {
         self.a.in_range();
         self.b.in_range();
@@ -348,6 +372,8 @@ impl<'a, G: TsvalSource> Pair<'a, G> {
             Event::Send { side, bytes, take } => self.send(*side, bytes.as_slice(), Some(*take)),
             Event::RecvSlice { side, size } => self.recv(*side, *size, false),
             Event::Recv { side, take } => self.recv(*side, *take, true),
+            Event::Close { side } => Ok(self.close(*side)),
+            Event::Abort { side } => Ok(self.abort(*side)),
             Event::Set { side, setting } => Ok(self.set(*side, *setting)),
             Event::Dispatch { side, moment, fail } => self.dispatch(*side, moment, *fail),
             Event::Deliver { index, moment } => self.deliver(*index, moment),
@@ -362,8 +388,11 @@ impl<'a, G: TsvalSource> Pair<'a, G> {
     /// are queued before its delivery returns, and behind them what was held there. The event is a run of steps of the
     /// theorem on two streams, and adds to the streams what its outcome says.
     ///
-    /// `Memory` where a growth was refused; the pair is then as it was. `Listen`, `Connect` and `Set` take no memory,
-    /// nor does an event that comes to one of the last five outcomes.
+    /// A read that answers `Finished` found the other side closed and all its bytes handed out, and what a closed side
+    /// accepted stays as it is.
+    ///
+    /// `Memory` where a growth was refused; the pair is then as it was. `Listen`, `Connect`, `Close`, `Abort` and
+    /// `Set` take no memory, nor does an event that comes to one of the last five outcomes.
     pub fn step(&mut self, event: &Event) -> Result<Outcome, PairError>
         ensures step { IfOk result (λ o. EventStep event.entry.now self.old o self.new) }
         ensures adds { IfOk result (λ o. AddsUp self.old self.new (λ s. accepted_by s event.entry.now o)
@@ -371,7 +400,7 @@ impl<'a, G: TsvalSource> Pair<'a, G> {
         ensures streams { Reaches (network_of self.old) (network_of self.new) }
         ensures prefix { Prefix self.new }
         ensures release { Release self.new }
-        ensures complete { IfOk result (λ o. Complete o) }
+        ensures complete { IfOk result (λ o. Complete event.entry.now self.old o self.new) }
         ensures prompt { IfOk result (λ o. Prompt event.entry.now self.old o self.new) }
         ensures memory { OnErr result (self.new ≡ self.old) }
         ensures takes_memory { OnErr result (TakesMemory event.entry.now self.old) }

@@ -14,7 +14,7 @@ use Rattle.sock_tcp.specs.declared.state.State.TheVariants as state
 use Rattle.sock_tcp.specs.declared.verdict.Verdict.TheVariants as verdicts
 use Rattle.sock_tcp.specs.View.{View}
 use Rattle.sock_tcp.specs.Verdict.{fin_place, open_verdict, verdict_at, verdict_of}
-use Rattle.sock_tcp.specs.Steps.{without_fin, acked_len, acked_of}
+use Rattle.sock_tcp.specs.Acked.{acked_places, acked_at, acked_of}
 
 -- a number between una and k places after it
 pub between : (una ack : TcpSeqNumber) (k : ℕ) → una.0 < 2 ^ 32 → ack.0 < 2 ^ 32 → k < 2 ^ 31 → is_before ack una ≡ false → is_before (seq_add una k) ack ≡ false → seq_sub ack una ≤ k
@@ -47,30 +47,30 @@ one_place una a hu e = let h : a.0 ≡ (seq_add una 1).0 = eqb-true a.0 (seq_add
 syn_fits : (una a : TcpSeqNumber) (n : ℕ) → una.0 < 2 ^ 32 → cond (seq_eq a (seq_add una 1)) verdicts.Pass verdicts.Reset ≡ verdicts.Pass → seq_sub a una - 1 ≤ n
 syn_fits una a n hu e = let h = one_place una a hu (passes (seq_eq a (seq_add una 1)) e) in omega (arith, h)
 
-open_fits : (st : State) (k : ℕ) (una a : TcpSeqNumber) (n : ℕ) → una.0 < 2 ^ 32 → a.0 < 2 ^ 32 → n ≤ 2 ^ 30 → open_verdict st a una n ≡ verdicts.Pass → without_fin st n (seq_sub a una - k) ≤ n
-open_fits st k una a n hu ha hn e =
+open_fits : (st : State) (k : ℕ) (una a nxt : TcpSeqNumber) (n : ℕ) → una.0 < 2 ^ 32 → a.0 < 2 ^ 32 → n ≤ 2 ^ 30 → open_verdict st a una n ≡ verdicts.Pass → (acked_places st a nxt n (seq_sub a una - k)).len ≤ n
+open_fits st k una a nxt n hu ha hn e =
     let g = two_guards (is_before a una) (is_before (seq_add una (n + fin_place st)) a) e in
     let f : fin_place st ≤ 1 = fin_place_le st in
     let h : seq_sub a una ≤ n + fin_place st = between una a (n + fin_place st) hu ha (omega arith) g.0 g.1 in
     lowered (fin_place st) (seq_sub a una - k) n (omega (arith, h)) f
 
-some_fits : (st : State) (c : TcpControl) (una a : TcpSeqNumber) (n : ℕ) → una.0 < 2 ^ 32 → a.0 < 2 ^ 32 → n ≤ 2 ^ 30 → verdict_at st c (Some a) una n ≡ verdicts.Pass → acked_len st c (Some a) una n ≤ n
-unfolding verdict_at acked_len
-some_fits _ control.Rst una a n hu ha hn e = omega arith
-some_fits state.Listen _ una a n hu ha hn e = absurd cc
-some_fits state.SynSent control.Syn una a n hu ha hn e = syn_fits una a n hu e
-some_fits state.SynSent control.None una a n hu ha hn e = elim (seq_eq a (seq_add una 1)) as (λ b. cond b verdicts.Drop verdicts.Reset ≡ verdicts.Pass → seq_sub a una - 1 ≤ n) [ true ↦ λ e. absurd cc | false ↦ λ e. absurd cc ] e
-some_fits state.SynSent _ una a n hu ha hn e = absurd cc
-some_fits state.SynReceived _ una a n hu ha hn e = syn_fits una a n hu e
-some_fits st _ una a n hu ha hn e = open_fits st 0 una a n hu ha hn e
+some_fits : (st : State) (c : TcpControl) (una a nxt : TcpSeqNumber) (n : ℕ) → una.0 < 2 ^ 32 → a.0 < 2 ^ 32 → n ≤ 2 ^ 30 → verdict_at st c (Some a) una n ≡ verdicts.Pass → (acked_at st c (Some a) una nxt n).len ≤ n
+unfolding verdict_at acked_at
+some_fits _ control.Rst una a nxt n hu ha hn e = omega arith
+some_fits state.Listen _ una a nxt n hu ha hn e = absurd cc
+some_fits state.SynSent control.Syn una a nxt n hu ha hn e = syn_fits una a n hu e
+some_fits state.SynSent control.None una a nxt n hu ha hn e = elim (seq_eq a (seq_add una 1)) as (λ b. cond b verdicts.Drop verdicts.Reset ≡ verdicts.Pass → seq_sub a una - 1 ≤ n) [ true ↦ λ e. absurd cc | false ↦ λ e. absurd cc ] e
+some_fits state.SynSent _ una a nxt n hu ha hn e = absurd cc
+some_fits state.SynReceived _ una a nxt n hu ha hn e = syn_fits una a n hu e
+some_fits st _ una a nxt n hu ha hn e = open_fits st 0 una a nxt n hu ha hn e
 
-none_fits : (st : State) (c : TcpControl) (una : TcpSeqNumber) (n : ℕ) → acked_len st c None una n ≤ n
-unfolding acked_len
-none_fits _ control.Rst una n = omega arith
-none_fits _ _ una n = omega arith
+none_fits : (st : State) (c : TcpControl) (una nxt : TcpSeqNumber) (n : ℕ) → (acked_at st c None una nxt n).len ≤ n
+unfolding acked_at
+none_fits _ control.Rst una nxt n = omega arith
+none_fits _ _ una nxt n = omega arith
 
-pub acked_fits : (c : TcpControl) (v : View) (a : TcpSeqNumber) → v.local_seq_no.0 < 2 ^ 32 → a.0 < 2 ^ 32 → length v.tx_buffer.bytes ≤ 2 ^ 30 → verdict_of v c (Some a) ≡ verdicts.Pass → acked_of v c (Some a) ≤ length v.tx_buffer.bytes
-acked_fits c v a hu ha hn e = some_fits v.state c v.local_seq_no a (length v.tx_buffer.bytes) hu ha hn e
+pub acked_fits : (c : TcpControl) (v : View) (a : TcpSeqNumber) → v.local_seq_no.0 < 2 ^ 32 → a.0 < 2 ^ 32 → length v.tx_buffer.bytes ≤ 2 ^ 30 → verdict_of v c (Some a) ≡ verdicts.Pass → (acked_of v c (Some a)).len ≤ length v.tx_buffer.bytes
+acked_fits c v a hu ha hn e = some_fits v.state c v.local_seq_no a v.remote_last_seq (length v.tx_buffer.bytes) hu ha hn e
 
-pub none_acked : (c : TcpControl) (v : View) → acked_of v c None ≤ length v.tx_buffer.bytes
-none_acked c v = none_fits v.state c v.local_seq_no (length v.tx_buffer.bytes)
+pub none_acked : (c : TcpControl) (v : View) → (acked_of v c None).len ≤ length v.tx_buffer.bytes
+none_acked c v = none_fits v.state c v.local_seq_no v.remote_last_seq (length v.tx_buffer.bytes)

@@ -5,3 +5,5 @@ pub mod Polling
 pub mod PayloadWindows
 pub mod Emitting
 pub mod Sending
+pub mod Frames
+pub mod Receiving

@@ -7,9 +7,11 @@ pub mod Opening
 pub mod Settings
 pub mod Closing
 pub mod Queues
-pub mod Replies
 pub mod Verdict
 pub mod Window
+pub mod Replies
+pub mod Acked
+pub mod Advance
 pub mod Steps
 pub mod Process
 pub mod Draw
@@ -21,3 +23,4 @@ pub mod Dispatch
 pub mod Poll
 pub mod Texts
 pub mod Outgoing
+pub mod Laws

@@ -1,20 +1,32 @@
 -- `accepts` and `process` whole.
-use Rattle.std.specs.Prelude.{ℕ, ◌≡◌, ◌<◌, List, [], length, Option, Some, None, Bool, true, false, if◌then◌else◌, option_map}
+use Rattle.std.specs.Prelude.{ℕ, ◌≡◌, ◌<◌, List, [], length, int_lt, Option, Some, None, is_none, Bool, true, false, ◌==◌, ◌&&◌, if◌then◌else◌, option_map}
 use Rattle.std.specs.Option.{ForSome}
 use Rattle.ip_wire.specs.IpHeader.{src_addr_of, dst_addr_of}
 use Rattle.ip_wire.specs.declared.endpoint.IpListenEndpoint.{IpListenEndpoint}
 use Rattle.ip_wire.specs.declared.repr.IpRepr.{IpRepr}
 use Rattle.net_base.specs.declared.time.Instant.{Instant}
 use Rattle.control_wire.specs.Segment.{Segment, segment_of}
+use Rattle.control_wire.specs.declared.tcp.TcpControl.{TcpControl}
 use Rattle.control_wire.specs.declared.tcp.TcpControl.TheVariants as control
 use Rattle.control_wire.specs.declared.tcp.TcpRepr.{TcpRepr}
+use Rattle.control_wire.specs.declared.tcp.TcpTimestampRepr.{TcpTimestampRepr}
 use Rattle.sock_core.specs.Facts.{Facts}
+use Rattle.sock_core.specs.Received.{is_turned_away, holds_nothing}
+use Rattle.sock_tcp.specs.Acked.{acked_of}
+use Rattle.sock_tcp.specs.Advance.{Advance, advanced, counted_control}
 use Rattle.sock_tcp.specs.Draw.{draws, Draws}
 use Rattle.sock_tcp.specs.View.{View, moment_of}
 use Rattle.sock_tcp.specs.Verdict.{verdict_of}
 use Rattle.sock_tcp.specs.Window.{receive_window, is_inside, cut_of, cut_bytes}
 use Rattle.sock_tcp.specs.declared.window.Cut.{Cut}
-use Rattle.sock_tcp.specs.Steps.{Advance, acked_of, advanced, segment_taken}
+use Rattle.sock_tcp.specs.declared.window.Window.{Window}
+use Rattle.sock_tcp.specs.Replies.{rst_segment, ack_segment, ack_kept, Answers}
+use Rattle.sock_tcp.specs.Steps.{heard, joined, ack_delayed}
+use Rattle.sock_tcp.specs.Timers.{after, close_from, challenge_interval}
+use Rattle.sock_tcp.specs.declared.acked.Acked.{Acked}
+use Rattle.sock_tcp.specs.declared.advance.Next.{Next}
+use Rattle.sock_tcp.specs.declared.advance.Next.TheVariants as next
+use Rattle.sock_tcp.specs.declared.timer.Timer.{Timer}
 use Rattle.sock_tcp.specs.declared.state.State.{State}
 use Rattle.sock_tcp.specs.declared.state.State.TheVariants as state
 use Rattle.sock_tcp.specs.declared.tuple.Tuple.{Tuple}
@@ -59,10 +71,41 @@ Accepts v ip s = AcceptsIn v.state v ip s
 -- a socket after a segment, and the reply
 pub record Outcome : Type 0 where
   pub view : View
-  pub reply : Option (IpRepr × Segment)
+  pub reply : Option Segment
 
 abbrev pub stopped : View → Outcome
 stopped v = record { view = v; reply = None }
+
+abbrev pub acked : View → Segment → Outcome
+acked v s = record { view = ack_kept v; reply = Some (ack_segment v s) }
+
+-- an ACK, at most one a second
+unfoldable pub challenged : View → Instant → Segment → Outcome
+challenged v now s =
+    if int_lt now.micros v.challenge_ack_timer.micros then stopped v
+    else acked (record v { challenge_ack_timer = after now challenge_interval }) s
+
+-- ---- a segment outside of the window
+
+abbrev pub timer_restarted : State → Timer → Instant → Timer
+timer_restarted state.TimeWait t now = close_from now
+timer_restarted _ t now = t
+
+-- TIME-WAIT begins anew
+unfoldable pub close_restarted : View → Instant → View
+close_restarted v now = record v { timer = timer_restarted v.state v.timer now }
+
+-- an RST says nothing; n bytes are acknowledged again; all else is challenged
+abbrev pub outside_by : TcpControl → ℕ → View → Instant → Segment → Outcome
+outside_by control.Rst n v now s = stopped v
+outside_by control.Syn n v now s = challenged (close_restarted v now) now s
+outside_by c n v now s =
+    if n == 0 then challenged (close_restarted v now) now s else acked (close_restarted v now) s
+
+unfoldable pub outside : View → Instant → Segment → Outcome
+outside v now s = outside_by s.control (length s.payload) v now s
+
+-- ---- a segment inside
 
 abbrev pub tuple_of : IpRepr → Segment → Tuple
 tuple_of ip s =
@@ -71,51 +114,88 @@ tuple_of ip s =
       remote = record { addr = src_addr_of ip; port = s.src_port };
     }
 
+-- v is the socket before the bytes came, w after: an ACK tells of a gap, and that one is closed
+abbrev pub gap_answered : View → View → Segment → Outcome
+gap_answered v w s =
+    if holds_nothing v.rx_buffer.held && holds_nothing w.rx_buffer.held then stopped w else acked w s
+
+-- the bytes bs came, o past RCV.NXT; where they are turned away, nothing more is done
+unfoldable pub bytes_taken : View → Instant → ℕ → List ℕ → Segment → Outcome
+bytes_taken v now o bs s =
+    if length bs == 0 then stopped v
+    else (if is_turned_away v.rx_buffer o bs then stopped v else gap_answered v (ack_delayed (joined v o bs) now) s)
+
+abbrev pub after_advance : Next → View → Instant → Acked → ℕ → List ℕ → Segment → Outcome
+after_advance next.Stop v now a o bs s = stopped v
+after_advance next.Challenge v now a o bs s = challenged v now s
+after_advance next.Continue v now a o bs s = bytes_taken (heard v now a s) now o bs s
+
+abbrev pub after_table : Advance → Instant → Acked → ℕ → List ℕ → Segment → Outcome
+after_table t now a o bs s = after_advance t.next t.view now a o bs s
+
+-- with the control bit that counts, and the bytes that the window takes
+unfoldable pub processed_inside : View → Instant → ℕ → TcpControl → ℕ → List ℕ → IpRepr → Segment → Outcome
+processed_inside v now word c o bs ip s =
+    after_table (advanced v c now (tuple_of ip s) word (acked_of v s.control s.ack_number) s) now
+    (acked_of v s.control s.ack_number) o bs s
+
+-- ---- the whole
+
 -- LISTEN and SYN-SENT have no receive window, and take no bytes
 abbrev pub has_window : State → Bool
 has_window state.Listen = false
 has_window state.SynSent = false
 has_window _ = true
 
-abbrev pub after_advance : Advance → Instant → ℕ → ℕ → List ℕ → Segment → Outcome
-after_advance a now n o bs s = stopped (if a.goes_on then segment_taken a.view now n o bs s else a.view)
-
--- the steps after the window test, for the bytes that the window takes, o past RCV.NXT
-unfoldable pub processed_inside : View → Instant → ℕ → ℕ → List ℕ → IpRepr → Segment → Outcome
-processed_inside v now word o bs ip s =
-    after_advance (advanced v (tuple_of ip s) word s) now (acked_of v s.control s.ack_number) o bs s
-
 -- a segment inside the window is cut to it, and its number is remembered
-abbrev pub cut_inside : Cut → View → Instant → ℕ → IpRepr → Segment → Outcome
-cut_inside cut v now word ip s =
-    processed_inside (record v { local_rx_last_seq = Some s.seq_number }) now word cut.offset
-    (cut_bytes cut s.payload) ip s
+abbrev pub cut_inside : Window → Cut → View → Instant → ℕ → IpRepr → Segment → Outcome
+cut_inside w cut v now word ip s =
+    processed_inside (record v { local_rx_last_seq = Some s.seq_number }) now word
+    (counted_control s.control w s.seq_number (length s.payload)) cut.offset (cut_bytes cut s.payload) ip s
 
 abbrev pub tested : Bool → View → Instant → ℕ → IpRepr → Segment → Outcome
-tested false v now word ip s = processed_inside v now word 0 [] ip s
+tested false v now word ip s = processed_inside v now word s.control 0 [] ip s
 tested true v now word ip s =
     if is_inside (receive_window v) s.seq_number (length s.payload)
-    then cut_inside (cut_of (receive_window v) s.seq_number (length s.payload)) v now word ip s
-    else stopped v
+    then cut_inside (receive_window v) (cut_of (receive_window v) s.seq_number (length s.payload)) v now word ip s
+    else outside v now s
 
--- a segment whose acknowledgement does not pass is dropped
 abbrev pub by_verdict : Verdict → View → Instant → ℕ → IpRepr → Segment → Outcome
 by_verdict verdicts.Drop v now word ip s = stopped v
-by_verdict verdicts.Reset v now word ip s = stopped v
-by_verdict verdicts.Challenge v now word ip s = stopped v
+by_verdict verdicts.Reset v now word ip s = record { view = v; reply = Some (rst_segment s) }
+by_verdict verdicts.Challenge v now word ip s = challenged v now s
 by_verdict verdicts.Pass v now word ip s = tested (has_window v.state) v now word ip s
 
 unfoldable pub processed : View → Instant → ℕ → IpRepr → Segment → Outcome
 processed v now word ip s = by_verdict (verdict_of v s.control s.ack_number) v now word ip s
+
+-- ---- the source of timestamps
+
+-- a SYN whose options are taken
+abbrev pub takes_options : Verdict → State → TcpControl → Bool
+takes_options verdicts.Pass state.Listen control.Syn = true
+takes_options verdicts.Pass state.SynSent control.Syn = true
+takes_options _ _ _ = false
+
+-- one without a timestamp takes the own source away for good
+abbrev pub drops_generator : View → Segment → Bool
+drops_generator v s = takes_options (verdict_of v s.control s.ack_number) v.state s.control && is_none s.timestamp
+
+abbrev pub generator_after : {G : Type 0} → View → Segment → Option G → Option G
+generator_after v s g = if drops_generator v s then None else g
+
+-- ---- the call
 
 -- a reply by value
 abbrev pub reply_of : IpRepr × TcpRepr → IpRepr × Segment
 reply_of r = (r.0, segment_of r.1)
 
 -- the socket, the reply and the context after a segment: only a SYN in LISTEN draws a random word
-pub record Processes {C : Type 0} (facts : C → Facts) (word_at : C → ℕ → ℕ) (v : View) (cx : C)
+pub record Processes {C : Type 0} (facts : C → Facts) (word_at : C → ℕ → ℕ)
+    (stamped : TcpControl → Option TcpTimestampRepr → Type 0) (v : View) (cx : C)
     (ip : IpRepr) (s : Segment) (reply : Option (IpRepr × TcpRepr)) (w : View) (cx' : C) : Type 0 where
-  pub table : record { view = w; reply = option_map reply_of reply }
-      ≡ processed v (moment_of (facts cx)) (word_at cx 0) ip s
+  pub view : w ≡ (processed v (moment_of (facts cx)) (word_at cx 0) ip s).view
+  pub answer : Answers stamped ip (processed v (moment_of (facts cx)) (word_at cx 0) ip s).reply
+      (option_map reply_of reply)
   pub bare : ForSome reply (λ r. r.1.payload.now ≡ [])
   pub context : Draws (draws (verdict_of v s.control s.ack_number) v.state s.control) facts word_at cx cx'

@@ -1,13 +1,19 @@
 -- The segments that answer others.
-use Rattle.std.specs.Prelude.{[], ◌∷◌, ◌+◌, length, Option, Some, None, false}
+use Rattle.std.specs.Prelude.{ℕ, ◌≡◌, ⊤, [], ◌∷◌, ◌+◌, List, length, slice_get, Option, Some, None, option_map, false, if◌then◌else◌}
 use Rattle.ip_wire.specs.IpHeader.{ip_header, src_addr_of, dst_addr_of}
 use Rattle.ip_wire.specs.declared.protocol.IpProtocol.TheVariants as protocol
 use Rattle.ip_wire.specs.declared.repr.IpRepr.{IpRepr}
 use Rattle.control_wire.specs.Segment.{Segment, segment_header_len, segment_len}
-use Rattle.control_wire.specs.Seq.{seq_of, seq_add}
+use Rattle.control_wire.specs.Seq.{seq_of, seq_add, seq_sub}
 use Rattle.control_wire.specs.declared.seq_number.TcpSeqNumber.{TcpSeqNumber}
 use Rattle.control_wire.specs.declared.tcp.TcpControl.{TcpControl}
 use Rattle.control_wire.specs.declared.tcp.TcpControl.TheVariants as control
+use Rattle.control_wire.specs.declared.tcp.TcpTimestampRepr.{TcpTimestampRepr}
+use Rattle.net_base.specs.Ranges.{edges}
+use Rattle.sock_core.specs.Received.{ranges_of, range_around}
+use Rattle.sock_tcp.specs.Content.{window_field}
+use Rattle.sock_tcp.specs.View.{View}
+use Rattle.sock_tcp.specs.Window.{next_ack}
 
 -- the header of a reply: the addresses the other way round, and as many octets as the reply takes
 abbrev pub reply_ip : IpRepr → Segment → IpRepr
@@ -52,3 +58,62 @@ rst_segment s =
 
 abbrev pub with_header : IpRepr → Segment → IpRepr × Segment
 with_header ip s = (reply_ip ip s, s)
+
+-- ---- an acknowledgement
+
+abbrev pub first_of : Option (ℕ × ℕ) → Option (ℕ × ℕ) → Option (ℕ × ℕ)
+first_of None r = r
+first_of (Some r) s = Some r
+
+-- of the ranges held behind a number, the first around the last number in the window, else the first
+abbrev pub chosen_range : List (ℕ × ℕ) → TcpSeqNumber → Option TcpSeqNumber → Option (ℕ × ℕ)
+chosen_range rs next None = slice_get rs 0
+chosen_range rs next (Some number) = first_of (range_around rs (seq_sub number next)) (slice_get rs 0)
+
+-- a range's edges on the wire
+abbrev pub wire_edges : TcpSeqNumber → ℕ × ℕ → ℕ × ℕ
+wire_edges next r = ((seq_add next r.0).0, (seq_add next r.1).0)
+
+-- the range that tells a peer which permits it what is held
+unfoldable pub sack_range : View → Option (ℕ × ℕ)
+sack_range v =
+    if v.remote_has_sack
+    then option_map (wire_edges (next_ack v))
+    (chosen_range (edges (ranges_of v.rx_buffer.held)) (next_ack v) v.local_rx_last_seq)
+    else None
+
+unfoldable pub ack_segment : View → Segment → Segment
+ack_segment v s =
+    record (bare_reply s) {
+      seq_number = v.remote_last_seq;
+      ack_number = Some (next_ack v);
+      window_len = window_field v;
+      sack_ranges = sack_range v ∷ None ∷ None ∷ [];
+    }
+
+-- its acknowledgement and window are the last sent
+unfoldable pub ack_kept : View → View
+ack_kept v = record v { remote_last_ack = Some (next_ack v); remote_last_win = window_field v }
+
+-- ---- the reply as it goes out
+
+-- an acknowledgement has a timestamp where the segment had one and the socket has a clock: the clock's value, and the
+-- one that came. An RST has none
+abbrev pub IsStamp : {G : Type 0} → (G → ℕ → Type 0) → Option G → Option TcpTimestampRepr
+    → TcpControl → Option TcpTimestampRepr → Type 0
+IsStamp tells (Some g) (Some came) control.None (Some t) = tells g t.tsval × (t.tsecr ≡ came.tsval)
+IsStamp tells (Some g) (Some came) control.None None = ⊥
+IsStamp tells g came c stamp = stamp ≡ None
+
+-- with its header, and with a timestamp or none
+pub record IsSentAs (stamped : TcpControl → Option TcpTimestampRepr → Type 0) (ip : IpRepr) (s : Segment)
+    (out : IpRepr × Segment) : Type 0 where
+  pub stamp : Option TcpTimestampRepr
+  pub is_stamp : stamped s.control stamp
+  pub is : out ≡ with_header ip (record s { timestamp = stamp })
+
+abbrev pub Answers : (TcpControl → Option TcpTimestampRepr → Type 0) → IpRepr
+    → Option Segment → Option (IpRepr × Segment) → Type 0
+Answers stamped ip None None = ⊤
+Answers stamped ip (Some s) (Some out) = IsSentAs stamped ip s out
+Answers stamped ip _ _ = ⊥

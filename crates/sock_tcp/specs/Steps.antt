@@ -1,115 +1,26 @@
--- What the steps of `process` change, in their order.
-use Rattle.std.specs.Prelude.{ℕ, ◌+◌, ◌-◌, ◌*◌, ◌^◌, List, length, max, min, Option, Some, None, Bool, true, false, ◌==◌, ◌&&◌, if◌then◌else◌}
+-- What the steps of `process` behind the state table change, in their order.
+use Rattle.std.specs.Prelude.{ℕ, ◌+◌, ◌-◌, ◌*◌, ◌^◌, List, length, min, Option, Some, None, Bool, true, false, not, ◌==◌, ◌&&◌, ◌||◌, if◌then◌else◌}
+use Rattle.net_base.specs.declared.time.Duration.{Duration}
 use Rattle.net_base.specs.declared.time.Instant.{Instant}
-use Rattle.control_wire.specs.Seq.{seq_of, seq_add, seq_sub}
+use Rattle.control_wire.specs.Seq.{seq_add, seq_sub, seq_eq}
 use Rattle.control_wire.specs.Segment.{Segment}
 use Rattle.control_wire.specs.declared.seq_number.TcpSeqNumber.{TcpSeqNumber}
 use Rattle.control_wire.specs.declared.tcp.TcpControl.{TcpControl}
 use Rattle.control_wire.specs.declared.tcp.TcpControl.TheVariants as control
-use Rattle.sock_core.specs.Seq.{later_of}
+use Rattle.control_wire.specs.declared.tcp.TcpTimestampRepr.{TcpTimestampRepr}
+use Rattle.sock_core.specs.Congestion as congestion
+use Rattle.sock_core.specs.Estimator as estimator
+use Rattle.sock_core.specs.Seq.{is_before, later_of}
 use Rattle.sock_core.specs.Received.{Received, taken_in}
 use Rattle.sock_tcp.specs.Queue.{shortened}
+use Rattle.sock_tcp.specs.Timers.{after, idle_from, retransmit_from, probe_from, is_idle}
 use Rattle.sock_tcp.specs.View.{View}
-use Rattle.sock_tcp.specs.Verdict.{fin_place}
-use Rattle.sock_tcp.specs.declared.state.State.{State}
-use Rattle.sock_tcp.specs.declared.state.State.TheVariants as state
-use Rattle.sock_tcp.specs.declared.tuple.Tuple.{Tuple}
-
--- ---- how many bytes an acknowledgement releases
-
--- 1 where a SYN of our own is unacknowledged
-abbrev pub syn_place : State → ℕ
-syn_place state.SynSent = 1
-syn_place state.SynReceived = 1
-syn_place _ = 0
-
--- the places acknowledged, without those of a SYN and of a FIN behind the queue
-abbrev pub without_fin : State → ℕ → ℕ → ℕ
-without_fin st queue n = if (fin_place st == 1) && (n == queue + 1) then n - 1 else n
-
--- an RST releases nothing
-unfoldable pub acked_len : State → TcpControl → Option TcpSeqNumber → TcpSeqNumber → ℕ → ℕ
-acked_len st control.Rst ack una n = 0
-acked_len st c None una n = 0
-acked_len st c (Some ack) una n = without_fin st n (seq_sub ack una - syn_place st)
-
-abbrev pub acked_of : View → TcpControl → Option TcpSeqNumber → ℕ
-acked_of v c ack = acked_len v.state c ack v.local_seq_no (length v.tx_buffer.bytes)
-
--- ---- the state table
-
--- an MSS of zero counts as absent
-abbrev pub mss_taken : ℕ → Option ℕ → ℕ
-mss_taken old None = old
-mss_taken old (Some n) = if n == 0 then old else max n 48
-
-abbrev pub scale_taken : Option ℕ → Option ℕ
-scale_taken None = None
-scale_taken (Some n) = Some (min n 14)
-
--- with no scale from the peer the own window is not shifted either
-abbrev pub shift_taken : ℕ → Option ℕ → ℕ
-shift_taken old None = 0
-shift_taken old (Some n) = old
-
--- the options of a SYN, and its number
-unfoldable pub options_taken : View → Segment → View
-options_taken v s =
-    record v {
-      remote_seq_no = seq_add s.seq_number 1;
-      remote_mss = mss_taken v.remote_mss s.max_seg_size;
-      remote_has_sack = s.sack_permitted;
-      remote_win_scale = scale_taken s.window_scale;
-      remote_win_shift = shift_taken v.remote_win_shift s.window_scale;
-    }
-
--- a socket after the state table, and whether the steps go on
-pub record Advance : Type 0 where
-  pub view : View
-  pub goes_on : Bool
-
-abbrev pub continues : View → Advance
-continues v = record { view = v; goes_on = true }
-
-abbrev pub stops : View → Advance
-stops v = record { view = v; goes_on = false }
-
--- a SYN in LISTEN: the peer is known, and the own initial number is the word that was drawn
-unfoldable pub syn_received : View → Tuple → ℕ → Segment → View
-syn_received v t word s =
-    record (options_taken v s) {
-      state = state.SynReceived;
-      tuple = Some t;
-      local_seq_no = seq_of word;
-      remote_last_seq = seq_of word;
-    }
-
--- a SYN in SYN-SENT that acknowledges the own one
-unfoldable pub syn_answered : View → Segment → View
-syn_answered v s =
-    record (options_taken v s) {
-      state = state.Established;
-      remote_last_seq = seq_add v.local_seq_no 1;
-      remote_last_ack = Some s.seq_number;
-    }
-
--- a SYN in SYN-SENT, with an acknowledgement of the own SYN, or without
-abbrev pub syn_sent_advance : Option TcpSeqNumber → View → Segment → Advance
-syn_sent_advance None v s = stops v
-syn_sent_advance (Some ack) v s = continues (syn_answered v s)
-
--- the state table: by state, then by control
-abbrev pub advance_in : State → TcpControl → View → Tuple → ℕ → Segment → Advance
-advance_in state.Listen control.Syn v t word s = continues (syn_received v t word s)
-advance_in state.SynSent control.Syn v t word s = syn_sent_advance s.ack_number v s
-advance_in state.SynReceived control.None v t word s = continues (record v { state = state.Established })
-advance_in state.SynReceived control.Psh v t word s = continues (record v { state = state.Established })
-advance_in state.Established control.None v t word s = continues v
-advance_in state.Established control.Psh v t word s = continues v
-advance_in _ _ v t word s = stops v
-
-unfoldable pub advanced : View → Tuple → ℕ → Segment → Advance
-advanced v t word s = advance_in v.state s.control v t word s
+use Rattle.sock_tcp.specs.Window.{next_ack}
+use Rattle.sock_tcp.specs.declared.acked.Acked.{Acked}
+use Rattle.sock_tcp.specs.declared.timer.AckDelayTimer.{AckDelayTimer}
+use Rattle.sock_tcp.specs.declared.timer.AckDelayTimer.TheVariants as ack_delay
+use Rattle.sock_tcp.specs.declared.timer.Timer.{Timer}
+use Rattle.sock_tcp.specs.declared.timer.Timer.TheVariants as timer
 
 -- ---- the peer's window
 
@@ -124,31 +35,143 @@ window_of _ w scale = w * 2 ^ scale_of scale
 
 unfoldable pub window_taken : View → Instant → TcpControl → ℕ → View
 window_taken v now c w =
-    record v { remote_last_ts = Some now; remote_win_len = window_of c w v.remote_win_scale }
+    record v {
+      remote_last_ts = Some now;
+      remote_win_len = window_of c w v.remote_win_scale;
+      congestion_controller =
+          congestion.with_remote_window v.congestion_controller (window_of c w v.remote_win_scale);
+    }
 
--- ---- the acknowledged bytes leave, and SND.UNA moves
+-- whether a segment's window is another than the one that was known
+abbrev pub is_window_changed : View → TcpControl → ℕ → Bool
+is_window_changed v c w = not (window_of c w v.remote_win_scale == v.remote_win_len)
+
+-- ---- the acknowledged bytes leave
 
 unfoldable pub released : View → ℕ → View
 released v n = record v { tx_buffer = shortened v.tx_buffer n }
 
-abbrev pub una_advanced_to : View → Option TcpSeqNumber → View
-una_advanced_to v None = v
-una_advanced_to v (Some ack) = record v { local_seq_no = ack; remote_last_seq = later_of v.remote_last_seq ack }
+-- ---- duplicates, and SND.UNA
 
-unfoldable pub una_advanced : View → Option TcpSeqNumber → View
-una_advanced v ack = una_advanced_to v ack
+abbrev pub is_last_ack : Option TcpSeqNumber → TcpSeqNumber → Bool
+is_last_ack None ack = false
+is_last_ack (Some last) ack = seq_eq last ack
+
+-- the acknowledgement says nothing new: the last one again, with no payload of n bytes and the same window, while
+-- something is in flight
+abbrev pub is_duplicate : View → TcpSeqNumber → ℕ → Bool → Bool
+is_duplicate v ack n changed =
+    is_last_ack v.local_rx_last_ack ack && (is_before ack v.remote_last_seq && ((n == 0) && not changed))
+
+-- the third calls for a fast retransmission
+unfoldable pub duplicate_counted : View → View
+duplicate_counted v =
+    record v {
+      local_rx_dup_acks = min (v.local_rx_dup_acks + 1) 255;
+      timer = if v.local_rx_dup_acks == 2 then timer.FastRetransmit else v.timer;
+      congestion_controller = congestion.dup_acked v.congestion_controller v.remote_mss;
+    }
+
+-- n bytes are acknowledged
+unfoldable pub ack_counted : View → Instant → TcpSeqNumber → ℕ → View
+ack_counted v now ack n =
+    record v {
+      local_rx_dup_acks = 0;
+      local_rx_last_ack = Some ack;
+      rtte = estimator.acked v.rtte now ack;
+      congestion_controller = congestion.acked v.congestion_controller n;
+    }
+
+unfoldable pub una_advanced : View → TcpSeqNumber → View
+una_advanced v ack = record v { local_seq_no = ack; remote_last_seq = later_of v.remote_last_seq ack }
+
+abbrev pub ack_heard : Bool → View → Instant → TcpSeqNumber → ℕ → View
+ack_heard true v now ack n = una_advanced (duplicate_counted v) ack
+ack_heard false v now ack n = una_advanced (ack_counted v now ack n) ack
+
+-- an acknowledgement of n bytes, on a segment with so many bytes of payload
+abbrev pub acknowledged_by : Option TcpSeqNumber → View → Instant → ℕ → ℕ → Bool → View
+acknowledged_by None v now n payload changed = v
+acknowledged_by (Some ack) v now n payload changed = ack_heard (is_duplicate v ack payload changed) v now ack n
+
+unfoldable pub acknowledged : View → Option TcpSeqNumber → Instant → ℕ → ℕ → Bool → View
+acknowledged v ack now n payload changed = acknowledged_by ack v now n payload changed
+
+-- ---- the timestamp
+
+abbrev pub tsval_of : ℕ → Option TcpTimestampRepr → ℕ
+tsval_of old None = old
+tsval_of old (Some t) = t.tsval
+
+unfoldable pub timestamp_taken : View → Option TcpTimestampRepr → View
+timestamp_taken v t = record v { last_remote_tsval = tsval_of v.last_remote_tsval t }
+
+-- ---- the timer
+
+-- the acknowledgement of all that was sent ends a retransmission, that of some of it starts it anew
+abbrev pub retransmission_acked : Timer → View → Instant → Acked → Timer
+retransmission_acked t v now a =
+    if a.all then idle_from now v.keep_alive else (if a.len == 0 then t else retransmit_from now v.rtte)
+
+abbrev pub timer_acked : Timer → View → Instant → Acked → Timer
+timer_acked (timer.Idle at) v now a = idle_from now v.keep_alive
+timer_acked (timer.Retransmit at) v now a = retransmission_acked (timer.Retransmit at) v now a
+timer_acked timer.FastRetransmit v now a = retransmission_acked timer.FastRetransmit v now a
+timer_acked t v now a = t
+
+-- while the peer has no window, probes begin
+abbrev pub begins_probe : Timer → View → Acked → Bool
+begins_probe t v a = not (length v.tx_buffer.bytes == 0) && (is_idle t || not (a.len == 0))
+
+-- a window ends the probes
+abbrev pub probe_ended : Timer → View → Instant → Timer
+probe_ended (timer.ZeroWindowProbe at delay) v now = idle_from now v.keep_alive
+probe_ended t v now = t
+
+abbrev pub probe_set : Timer → View → Instant → Acked → Timer
+probe_set t v now a =
+    if v.remote_win_len == 0 then (if begins_probe t v a then probe_from now v.rtte else t)
+    else probe_ended t v now
+
+unfoldable pub timer_set : View → Instant → Acked → View
+timer_set v now a = record v { timer = probe_set (timer_acked v.timer v now a) v now a }
+
+-- ---- the steps behind the state table, up to the timer
+
+-- the last three: once the acknowledged bytes have left
+abbrev pub counted : View → Bool → Instant → Acked → Segment → View
+counted v changed now a s =
+    timer_set (timestamp_taken (acknowledged v s.ack_number now a.len (length s.payload) changed) s.timestamp) now a
+
+unfoldable pub heard : View → Instant → Acked → Segment → View
+heard v now a s =
+    counted (released (window_taken v now s.control s.window_len) a.len) (is_window_changed v s.control s.window_len)
+    now a s
 
 -- ---- the bytes join the queue, or are held
 
 -- bs, whose first byte lies o past RCV.NXT
-abbrev pub brought : Received → ℕ → List ℕ → Received
-brought b o bs = if length bs == 0 then b else taken_in b o bs
-
 unfoldable pub joined : View → ℕ → List ℕ → View
-joined v o bs = record v { rx_buffer = brought v.rx_buffer o bs }
+joined v o bs = record v { rx_buffer = taken_in v.rx_buffer o bs }
 
--- ---- the steps behind the state table: n bytes are acknowledged, and bs came, o past RCV.NXT
+-- ---- the delayed acknowledgement
 
-unfoldable pub segment_taken : View → Instant → ℕ → ℕ → List ℕ → Segment → View
-segment_taken v now n o bs s =
-    joined (una_advanced (released (window_taken v now s.control s.window_len) n) s.ack_number) o bs
+-- the last acknowledgement sent, and n bytes behind it, lie before RCV.NXT
+abbrev pub is_ack_owed : Option TcpSeqNumber → ℕ → TcpSeqNumber → Bool
+is_ack_owed None n next = false
+is_ack_owed (Some ack) n next = is_before (seq_add ack n) next
+
+-- an acknowledgement may wait so long, but not once more than a segment is unacknowledged
+abbrev pub next_delay : AckDelayTimer → View → Instant → Duration → AckDelayTimer
+next_delay ack_delay.Idle v now d = ack_delay.Waiting (after now d)
+next_delay (ack_delay.Waiting at) v now d =
+    if is_ack_owed v.remote_last_ack v.remote_mss (next_ack v) then ack_delay.Immediate else ack_delay.Waiting at
+next_delay ack_delay.Immediate v now d = ack_delay.Immediate
+
+abbrev pub delay_of : Option Duration → View → Instant → AckDelayTimer
+delay_of None v now = v.ack_delay_timer
+delay_of (Some d) v now =
+    if is_ack_owed v.remote_last_ack 0 (next_ack v) then next_delay v.ack_delay_timer v now d else v.ack_delay_timer
+
+unfoldable pub ack_delayed : View → Instant → View
+ack_delayed v now = record v { ack_delay_timer = delay_of v.ack_delay v now }

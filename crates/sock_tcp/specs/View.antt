@@ -1,5 +1,5 @@
 -- What contracts see of a socket.
-use Rattle.std.specs.Prelude.{ℕ, pos, ◌≤◌, ◌^◌, Option, Some, None, Bool, true, false}
+use Rattle.std.specs.Prelude.{ℕ, pos, ◌≡◌, ◌≤◌, ◌^◌, Option, Some, None, Bool, true, false}
 use Rattle.std.specs.Option.{ForSome}
 use Rattle.ip_wire.specs.Address.{SameVersion}
 use Rattle.ip_wire.specs.declared.endpoint.IpListenEndpoint.{IpListenEndpoint}
@@ -68,9 +68,19 @@ moment_of f = record { micros = f.now }
 abbrev pub IsShort : Option Duration → Type 0
 IsShort d = ForSome d (λ t. t.micros ≤ 2 ^ 61)
 
+-- only a state behind the peer's FIN, or CLOSED, has counted it
+abbrev pub FinSays : State → Bool → Type 0
+FinSays state.CloseWait fin = Unit {0}
+FinSays state.Closing fin = Unit {0}
+FinSays state.LastAck fin = Unit {0}
+FinSays state.TimeWait fin = Unit {0}
+FinSays state.Closed fin = Unit {0}
+FinSays _ fin = fin ≡ false
+
 -- what holds of every socket
 pub record IsSound (rx : Received) (tx : Queue) (tuple : Option Tuple) (shift : ℕ) (scale : Option ℕ) (mss : ℕ)
-    (timeout keep_alive ack_delay : Option Duration) (last_ts : Option Instant) (timer : Timer) : Type 0 where
+    (timeout keep_alive ack_delay : Option Duration) (last_ts : Option Instant) (timer : Timer)
+    (st : State) (fin : Bool) : Type 0 where
   pub rx_size : room_of rx ≤ 2 ^ 30
   pub tx_size : capacity tx ≤ 2 ^ 30
   pub versions : ForSome tuple (λ t. SameVersion t.local.addr t.remote.addr)
@@ -82,6 +92,7 @@ pub record IsSound (rx : Received) (tx : Queue) (tuple : Option Tuple) (shift : 
   pub ack_delay_short : IsShort ack_delay
   pub last_ts_lawful : IsLastTs last_ts
   pub timer_lawful : IsTimer timer
+  pub fin_says : FinSays st fin
 
 abbrev pub no_endpoint : IpListenEndpoint
 no_endpoint = record { addr = None; port = 0 }

@@ -94,5 +94,5 @@ impl<'a> Model for ControlBlock<'a> {
 
     ghost invariant = { λ s. IsSound s.rx_buffer (queue_of s.tx_buffer) s.tuple
         s.remote_win_shift s.remote_win_scale
-        s.remote_mss s.timeout s.keep_alive s.ack_delay s.remote_last_ts s.timer };
+        s.remote_mss s.timeout s.keep_alive s.ack_delay s.remote_last_ts s.timer s.state s.rx_fin_received };
 }

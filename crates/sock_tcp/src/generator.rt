@@ -24,7 +24,7 @@ impl Generator {
 }
 
 /// Tells the value of a timestamp clock.
-pub trait TsvalSource {
+pub trait TsvalSource: Copy {
     // the values that it may tell
     ghost tells: { Self → ℕ → Type 0 };
 

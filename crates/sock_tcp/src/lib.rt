@@ -1,6 +1,8 @@
-//! The TCP socket of smoltcp: so far one connection whose segments come in order.
+//! The TCP socket of smoltcp. `process` is whole; `dispatch` has no timers yet.
 #![tactic(auto)]
 
+pub mod acked;
+pub mod advance;
 mod begin;
 mod close;
 mod content;
@@ -10,6 +12,7 @@ mod due;
 pub mod emission;
 pub mod error;
 pub mod generator;
+pub mod laws;
 mod open;
 pub mod poll;
 mod process;
@@ -26,7 +29,7 @@ pub mod window;
 
 pub use control_block::ControlBlock;
 pub use error::{ConnectError, ListenError, RecvError, SendError};
-pub use generator::Generator;
+pub use generator::{Generator, TsvalSource};
 pub use reply::Reply;
 pub use settings::CongestionControl;
 pub use socket::{Socket, SocketBuffer};

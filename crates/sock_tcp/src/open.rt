@@ -1,5 +1,5 @@
 //! Opening a connection: listen, connect, and the reset that both begin with (RFC 9293, section 3.10.1).
-ghost use Rattle.std.specs.Prelude.{◌≡◌, ◌+◌, ◌≤◌, ◌^◌, length};
+ghost use Rattle.std.specs.Prelude.{◌≡◌, ◌+◌, ◌≤◌, ◌^◌, length, false};
 ghost use Rattle.ip_wire.specs.Address.{SameVersion, same_version};
 ghost use Rattle.sock_core.specs.Received.{receiving};
 ghost use Rattle.sock_tcp.specs.Queue.{queue_of};
@@ -80,7 +80,8 @@ impl<'a> ControlBlock<'a> {
 
     #[tactic(auto, unfolding(crate::specs::Opening::renewed, crate::specs::View::fresh))]
     pub(crate) fn reset(&mut self)
-        ensures { self.new ≡ renewed self.old }
+        ensures view { self.new ≡ renewed self.old }
+        ensures no_fin { self.new.rx_fin_received ≡ false }
     {
         self.state = State::Closed;
         self.timer = IDLE;

@@ -3,16 +3,18 @@ ghost use Rattle.std.specs.Prelude.{◌≡◌, ◌+◌, ◌≤◌, ◌↔◌, Is
 ghost use Rattle.std.specs.Option.{ForSome};
 ghost use Rattle.control_wire.specs.Segment.{segment_of};
 ghost use Rattle.sock_core.specs.Bounds.{IsMoment};
-ghost use Rattle.sock_tcp.specs.Same.{SameQueues};
 ghost use Rattle.sock_tcp.specs.Verdict.{verdict_of};
-ghost use Rattle.sock_tcp.specs.Steps.{advanced};
 ghost use Rattle.sock_tcp.specs.declared.verdict.Verdict.TheVariants.{Pass};
-ghost use Rattle.sock_tcp.specs.Process.{IsBetween, IsToListener, IsAddressed, Opens, Accepts, tuple_of, has_window, stopped, processed_inside, tested, processed, Processes};
+ghost use Rattle.sock_tcp.specs.View.{moment_of};
+ghost use Rattle.sock_tcp.specs.Process.{IsBetween, IsToListener, IsAddressed, Opens, Accepts, tuple_of, has_window, drops_generator};
+ghost use Rattle.sock_tcp.specs.Process.{challenged, close_restarted, outside, bytes_taken, processed_inside, tested, processed};
 ghost use Rattle.sock_tcp.specs.Draw.{draws, Draws};
 
+use crate::advance::Next;
 use crate::control_block::ControlBlock;
-use crate::reply::Reply;
+use crate::reply::rst_segment;
 use crate::state::State;
+use crate::timer::{CHALLENGE_INTERVAL, Timer, after};
 use crate::tuple::Tuple;
 use crate::verdict::Verdict;
 use control_wire::{TcpControl, TcpRepr};
@@ -92,59 +94,111 @@ impl<'a> ControlBlock<'a> {
         !matches!(self.state, State::Listen | State::SynSent)
     }
 
-    // The state table: whether the steps go on.
-    #[tactic(auto, unfolding(crate::specs::Steps::advanced))]
-    fn advance<C: Context>(&mut self, cx: &mut C, ip_repr: &IpRepr, repr: &TcpRepr<'_>) -> bool
-        requires { verdict_of self.old repr.now.control repr.now.ack_number ≡ Pass }
-        ensures table { record { view = self.new; goes_on = result }
-            ≡ advanced self.old (tuple_of ip_repr.now (segment_of repr.now)) (C.word_at cx.old 0)
-            (segment_of repr.now) }
-        ensures queues { SameQueues self.old self.new }
-        ensures context { Draws (draws Pass self.old.state repr.now.control) C.facts C.word_at cx.old cx.new }
+    // An ACK, at most one a second.
+    #[tactic(auto, unfolding(crate::specs::Process::challenged))]
+    fn challenge(&mut self, now: Instant, repr: &TcpRepr<'_>) -> Option<TcpRepr<'static>>
+        requires { IsMoment now.micros }
+        ensures table { record { view = self.new; reply = option_map segment_of result }
+            ≡ challenged self.old now (segment_of repr.now) }
+        ensures bare { ForSome result (λ r. r.payload.now ≡ []) }
     {
-        match (self.state, repr.control) {
-            (State::Listen, TcpControl::Syn) => {
-                let word = cx.rand_u32();
-                self.receive_syn(Tuple::of_segment(ip_repr, repr), word, repr);
-                true
-            }
-            (State::SynSent, TcpControl::Syn) => match repr.ack_number {
-                None => false,
-                Some(_) => {
-                    self.take_syn_answer(repr);
-                    true
-                }
-            },
-            (State::SynReceived, TcpControl::None | TcpControl::Psh) => {
-                self.state = State::Established;
-                true
-            }
-            (State::Established, TcpControl::None | TcpControl::Psh) => true,
-            _ => false,
+        if now.micros < self.challenge_ack_timer.micros {
+            return None;
+        }
+        self.challenge_ack_timer = after(now, CHALLENGE_INTERVAL);
+        Some(self.ack_reply(repr))
+    }
+
+    // In TIME-WAIT its time begins anew.
+    #[tactic(auto, unfolding(crate::specs::Process::close_restarted))]
+    fn restart_close(&mut self, now: Instant)
+        requires { IsMoment now.micros }
+        ensures { self.new ≡ close_restarted self.old now }
+    {
+        if let State::TimeWait = self.state {
+            self.timer = Timer::close(now);
         }
     }
 
-    // The steps after the window test, for the bytes that the window takes, the first of them so far past RCV.NXT.
+    // The answer to a segment outside of the window.
+    #[tactic(auto, unfolding(crate::specs::Process::outside))]
+    fn answer_outside(&mut self, now: Instant, repr: &TcpRepr<'_>) -> Option<TcpRepr<'static>>
+        requires { IsMoment now.micros }
+        ensures table { record { view = self.new; reply = option_map segment_of result }
+            ≡ outside self.old now (segment_of repr.now) }
+        ensures bare { ForSome result (λ r. r.payload.now ≡ []) }
+    {
+        match (repr.control, repr.payload.len()) {
+            (TcpControl::Rst, _) => None,
+            (TcpControl::Syn, _) | (_, 0) => {
+                self.restart_close(now);
+                self.challenge(now, repr)
+            }
+            _ => {
+                self.restart_close(now);
+                Some(self.ack_reply(repr))
+            }
+        }
+    }
+
+    // The bytes that the window takes, the first of them so far past RCV.NXT; an ACK tells of a gap.
+    #[tactic(auto, unfolding(crate::specs::Process::bytes_taken))]
+    fn take_bytes(
+        &mut self,
+        now: Instant,
+        offset: usize,
+        bytes: &[u8],
+        repr: &TcpRepr<'_>,
+    ) -> Option<TcpRepr<'static>>
+        requires moment { IsMoment now.micros }
+        requires fits { offset + length bytes.now ≤ length self.old.rx_buffer.held }
+        ensures table { record { view = self.new; reply = option_map segment_of result }
+            ≡ bytes_taken self.old now offset bytes.now (segment_of repr.now) }
+        ensures bare { ForSome result (λ r. r.payload.now ≡ []) }
+    {
+        if bytes.is_empty() {
+            return None;
+        }
+        let had_no_gap = self.rx_buffer.holds_nothing();
+        if !self.join(offset, bytes) {
+            return None;
+        }
+        self.delay_ack(now);
+        if had_no_gap && self.rx_buffer.holds_nothing() {
+            return None;
+        }
+        Some(self.ack_reply(repr))
+    }
+
+    // The state table, and the steps behind it.
     #[tactic(auto, unfolding(crate::specs::Process::processed_inside))]
     fn process_inside<C: Context>(
         &mut self,
         cx: &mut C,
         now: Instant,
+        control: TcpControl,
         offset: usize,
         bytes: &[u8],
         ip_repr: &IpRepr,
         repr: &TcpRepr<'_>,
-    )
+    ) -> Option<TcpRepr<'static>>
         requires moment { IsMoment now.micros }
         requires passed { verdict_of self.old repr.now.control repr.now.ack_number ≡ Pass }
         requires fits { offset + length bytes.now ≤ length self.old.rx_buffer.held }
-        ensures table { stopped self.new
-            ≡ processed_inside self.old now (C.word_at cx.old 0) offset bytes.now ip_repr.now (segment_of repr.now) }
-        ensures context { Draws (draws Pass self.old.state repr.now.control) C.facts C.word_at cx.old cx.new }
+        ensures table { record { view = self.new; reply = option_map segment_of result }
+            ≡ processed_inside self.old now (C.word_at cx.old 0) control offset bytes.now ip_repr.now
+            (segment_of repr.now) }
+        ensures bare { ForSome result (λ r. r.payload.now ≡ []) }
+        ensures context { Draws (draws Pass self.old.state control) C.facts C.word_at cx.old cx.new }
     {
-        let count = self.passed_len(repr.control, repr.ack_number);
-        if self.advance(cx, ip_repr, repr) {
-            self.take_segment(now, count, offset, bytes, repr);
+        let acked = self.passed(repr.control, repr.ack_number);
+        match self.advance(cx, now, control, acked, ip_repr, repr) {
+            Next::Stop => None,
+            Next::Challenge => self.challenge(now, repr),
+            Next::Continue => {
+                self.hear(now, acked, repr);
+                self.take_bytes(now, offset, bytes, repr)
+            }
         }
     }
 
@@ -155,27 +209,29 @@ impl<'a> ControlBlock<'a> {
         now: Instant,
         ip_repr: &IpRepr,
         repr: &TcpRepr<'_>,
-    )
+    ) -> Option<TcpRepr<'static>>
         requires moment { IsMoment now.micros }
         requires passed { verdict_of self.old repr.now.control repr.now.ack_number ≡ Pass }
         requires small { length repr.now.payload.now ≤ 65535 }
-        ensures table { stopped self.new
+        ensures table { record { view = self.new; reply = option_map segment_of result }
             ≡ tested (has_window self.old.state) self.old now (C.word_at cx.old 0) ip_repr.now (segment_of repr.now) }
+        ensures bare { ForSome result (λ r. r.payload.now ≡ []) }
         ensures context { Draws (draws Pass self.old.state repr.now.control) C.facts C.word_at cx.old cx.new }
     {
         if !self.has_window() {
-            self.process_inside(cx, now, 0, &[], ip_repr, repr);
-            return;
+            return self.process_inside(cx, now, repr.control, 0, &[], ip_repr, repr);
         }
-        repr.seq_number.in_range();
+        let (number, length) = (repr.seq_number, repr.payload.len());
+        number.in_range();
         let window = self.receive_window();
-        if !window.is_inside(repr.seq_number, repr.payload.len()) {
-            return;
+        if !window.is_inside(number, length) {
+            return self.answer_outside(now, repr);
         }
-        let cut = window.cut(repr.seq_number, repr.payload.len());
+        let control = window.counted_control(repr.control, number, length);
+        let cut = window.cut(number, length);
         let bytes = cut.of(repr.payload);
-        self.local_rx_last_seq = Some(repr.seq_number);
-        self.process_inside(cx, now, cut.offset, bytes, ip_repr, repr);
+        self.local_rx_last_seq = Some(number);
+        self.process_inside(cx, now, control, cut.offset, bytes, ip_repr, repr)
     }
 
     #[tactic(auto, unfolding(crate::specs::Process::processed))]
@@ -184,15 +240,32 @@ impl<'a> ControlBlock<'a> {
         cx: &mut C,
         ip_repr: &IpRepr,
         repr: &TcpRepr<'_>,
-    ) -> Option<Reply>
+    ) -> Option<TcpRepr<'static>>
         requires { length repr.now.payload.now ≤ 65535 }
-        ensures { Processes C.facts C.word_at self.old cx.old ip_repr.now (segment_of repr.now) result self.new cx.new }
+        ensures table { record { view = self.new; reply = option_map segment_of result }
+            ≡ processed self.old (moment_of (C.facts cx.old)) (C.word_at cx.old 0) ip_repr.now (segment_of repr.now) }
+        ensures bare { ForSome result (λ r. r.payload.now ≡ []) }
+        ensures context { Draws (draws (verdict_of self.old repr.now.control repr.now.ack_number) self.old.state
+            repr.now.control) C.facts C.word_at cx.old cx.new }
     {
         let now = cx.now();
         match self.verdict(repr.control, repr.ack_number) {
+            Verdict::Drop => None,
+            Verdict::Reset => Some(rst_segment(repr)),
+            Verdict::Challenge => self.challenge(now, repr),
             Verdict::Pass => self.process_passed(cx, now, ip_repr, repr),
-            Verdict::Drop | Verdict::Reset | Verdict::Challenge => {}
         }
-        None
+    }
+
+    // Whether the segment is a SYN whose options are taken, and it has no timestamp.
+    pub(crate) fn drops_generator(&self, repr: &TcpRepr<'_>) -> bool
+        ensures { result ≡ drops_generator self.now (segment_of repr.now) }
+    {
+        match (self.state, repr.control) {
+            (State::Listen | State::SynSent, TcpControl::Syn) if repr.timestamp.is_none() => {
+                self.verdict(repr.control, repr.ack_number) == Verdict::Pass
+            }
+            _ => false,
+        }
     }
 }

@@ -2,10 +2,17 @@
 ghost use Rattle.std.specs.Prelude.{◌≡◌, ◌≤◌, length, []};
 ghost use Rattle.control_wire.specs.Segment.{segment_of};
 ghost use Rattle.sock_tcp.specs.Process.{reply_of};
+ghost use Rattle.control_wire.specs.Seq.{seq_add, seq_sub};
+ghost use Rattle.sock_core.specs.Received.{ranges_of};
+ghost use Rattle.net_base.specs.Ranges.{edges};
+ghost use Rattle.sock_tcp.specs.Window.{next_ack};
 ghost use Rattle.sock_tcp.specs.Replies.{reply_ip, bare_reply, rst_ack, rst_number, rst_segment, with_header};
+ghost use Rattle.sock_tcp.specs.Replies.{chosen_range, wire_edges, sack_range, ack_segment, ack_kept, IsStamp, IsSentAs};
 
+use crate::control_block::ControlBlock;
+use crate::generator::TsvalSource;
 use crate::socket::Socket;
-use control_wire::{TcpControl, TcpRepr, TcpSeqNumber};
+use control_wire::{TcpControl, TcpRepr, TcpSeqNumber, TcpTimestampRepr};
 use ip_wire::{IpProtocol, IpRepr};
 
 /// A segment that answers another, with its IP header.
@@ -13,6 +20,9 @@ pub type Reply = (IpRepr, TcpRepr<'static>);
 
 // Replies have this hop limit whatever the user sets, as smoltcp.
 const HOP_LIMIT: u8 = 64;
+
+// How many sequence numbers there are.
+const SEQUENCE_SPACE: usize = 0x1_0000_0000;
 
 // The reply with its header.
 pub(crate) fn with_header(ip_repr: &IpRepr, reply: TcpRepr<'static>) -> Reply
@@ -67,6 +77,99 @@ pub(crate) fn rst_segment(repr: &TcpRepr<'_>) -> TcpRepr<'static>
         (_, None) => {}
     }
     reply
+}
+
+// The number so far behind `next`.
+fn wire_number(next: TcpSeqNumber, offset: usize) -> u32
+    ensures { result ≡ (seq_add next offset).0 }
+{
+    next.plus(offset % SEQUENCE_SPACE).0
+}
+
+// A range's edges on the wire.
+fn wire_edges(next: TcpSeqNumber, range: (usize, usize)) -> (u32, u32)
+    ensures { result ≡ wire_edges next range }
+{
+    (wire_number(next, range.0), wire_number(next, range.1))
+}
+
+impl<'a> ControlBlock<'a> {
+    // The range around the last segment in the window, else the first.
+    fn chosen_range(&self) -> Option<(usize, usize)>
+        ensures { result ≡ chosen_range (edges (ranges_of self.now.rx_buffer.held)) (next_ack self.now)
+            self.now.local_rx_last_seq }
+    {
+        let around = match self.local_rx_last_seq {
+            None => None,
+            Some(number) => self.rx_buffer.range_around(number.since(self.next_ack())),
+        };
+        match around {
+            None => self.rx_buffer.range_at(0),
+            Some(range) => Some(range),
+        }
+    }
+
+    // The range that tells a peer which permits it what is held (RFC 2018, section 4).
+    #[tactic(auto, unfolding(crate::specs::Replies::sack_range))]
+    fn sack_range(&self) -> Option<(u32, u32)>
+        ensures { result ≡ sack_range self.now }
+    {
+        if !self.remote_has_sack {
+            return None;
+        }
+        match self.chosen_range() {
+            None => None,
+            Some(range) => Some(wire_edges(self.next_ack(), range)),
+        }
+    }
+
+    // An acknowledgement, which becomes the last sent.
+    #[tactic(auto, unfolding(crate::specs::Replies::ack_segment, crate::specs::Replies::ack_kept))]
+    pub(crate) fn ack_reply(&mut self, repr: &TcpRepr<'_>) -> TcpRepr<'static>
+        ensures view { self.new ≡ ack_kept self.old }
+        ensures segment { segment_of result ≡ ack_segment self.old (segment_of repr.now) }
+        ensures bare { result.payload.now ≡ [] }
+    {
+        let mut reply = bare_reply(repr);
+        reply.seq_number = self.remote_last_seq;
+        reply.ack_number = Some(self.next_ack());
+        reply.window_len = self.window_field();
+        reply.sack_ranges = [self.sack_range(), None, None];
+        self.remote_last_ack = reply.ack_number;
+        self.remote_last_win = reply.window_len;
+        reply
+    }
+}
+
+impl<'a, G: TsvalSource> Socket<'a, G> {
+    // The timestamp of a reply to this segment.
+    fn stamp(&self, control: TcpControl, repr: &TcpRepr<'_>) -> Option<TcpTimestampRepr>
+        ensures { IsStamp G.tells self.now.tsval_generator repr.now.timestamp control result }
+    {
+        match (control, repr.timestamp, &self.tsval_generator) {
+            (TcpControl::None, Some(came), Some(generator)) => {
+                Some(TcpTimestampRepr::new(generator.tsval(), came.tsval))
+            }
+            _ => None,
+        }
+    }
+
+    // The reply as it goes out.
+    pub(crate) fn answer(
+        &self,
+        ip_repr: &IpRepr,
+        repr: &TcpRepr<'_>,
+        reply: TcpRepr<'static>,
+    ) -> Reply
+        requires { reply.payload.now ≡ [] }
+        ensures sent { IsSentAs (IsStamp G.tells self.now.tsval_generator repr.now.timestamp) ip_repr.now
+            (segment_of reply.entry) (reply_of result) }
+        ensures bare { result.1.payload.now ≡ [] }
+    {
+        let mut reply = reply;
+        reply.timestamp = self.stamp(reply.control, repr);
+        with_header(ip_repr, reply)
+    }
 }
 
 impl<'a> Socket<'a> {

@@ -4,15 +4,16 @@ ghost use Rattle.std.specs.Fn.{FnOnceReturnsAt, FnOnceReturnsAtMut};
 ghost use Rattle.control_wire.specs.Segment.{segment_of};
 ghost use Rattle.sock_core.specs.Received.{receiving, room_of};
 ghost use Rattle.sock_tcp.specs.Queue.{queue_of, capacity};
-ghost use Rattle.sock_tcp.specs.View.{fresh};
+ghost use Rattle.sock_tcp.specs.View.{fresh, FinSays};
 ghost use Rattle.sock_tcp.specs.Opening.{is_listening, is_open, is_active, Listens, Connects};
 ghost use Rattle.sock_tcp.specs.Queues.{may_send, can_send, may_recv, can_recv};
 ghost use Rattle.sock_tcp.specs.Queues.{written, Sends, SendsWith, Writes, Reads, ReadsWith, lent_bytes, Peeks, PeeksInto};
-ghost use Rattle.sock_tcp.specs.Process.{Accepts, Processes};
+ghost use Rattle.sock_tcp.specs.Process.{Accepts, Processes, generator_after};
+ghost use Rattle.sock_tcp.specs.Replies.{IsStamp};
 
 use crate::control_block::ControlBlock;
 use crate::error::{ConnectError, ListenError, RecvError, SendError};
-use crate::generator::Generator;
+use crate::generator::{Generator, TsvalSource};
 use crate::reply::Reply;
 use crate::state::State;
 use control_wire::TcpRepr;
@@ -73,9 +74,11 @@ impl<'a, G> Socket<'a, G> {
         self.control_block.tuple.map(|tuple| tuple.remote)
     }
 
-    /// The state of the connection (RFC 9293, section 3.3.2).
+    /// The state of the connection (RFC 9293, section 3.3.2). The peer's FIN has come only in CLOSE-WAIT, CLOSING,
+    /// LAST-ACK and TIME-WAIT, and maybe before the socket was CLOSED.
     pub fn state(&self) -> State
-        ensures { result ≡ self.now.control_block.state }
+        ensures value { result ≡ self.now.control_block.state }
+        ensures fin { FinSays result self.now.control_block.rx_fin_received }
     {
         self.control_block.state
     }
@@ -267,9 +270,13 @@ impl<'a, G> Socket<'a, G> {
     {
         self.control_block.accepts(ip_repr, repr)
     }
+}
 
+impl<'a, G: TsvalSource> Socket<'a, G> {
     /// Takes a segment that `accepts` holds of, with a payload of at most 65535 bytes, and gives the one that answers
-    /// it, if any; that one has no payload.
+    /// it, if any; that one has no payload (RFC 9293, section 3.10.7).
+    ///
+    /// A SYN without a timestamp that opens a connection takes the source of timestamps away.
     pub fn process<C: Context>(
         &mut self,
         cx: &mut C,
@@ -278,11 +285,19 @@ impl<'a, G> Socket<'a, G> {
     ) -> Option<Reply>
         requires accepted { Accepts self.old.control_block ip_repr.now (segment_of repr.now) }
         requires small { length repr.now.payload.now ≤ 65535 }
-        ensures table { Processes C.facts C.word_at self.old.control_block cx.old ip_repr.now (segment_of repr.now)
-            result self.new.control_block cx.new }
-        ensures generator { self.new.tsval_generator ≡ self.old.tsval_generator }
+        ensures table { Processes C.facts C.word_at
+            (IsStamp G.tells self.new.tsval_generator repr.now.timestamp) self.old.control_block cx.old
+            ip_repr.now (segment_of repr.now) result self.new.control_block cx.new }
+        ensures generator { self.new.tsval_generator
+            ≡ generator_after self.old.control_block (segment_of repr.now) self.old.tsval_generator }
     {
-        self.control_block.process(cx, ip_repr, repr)
+        if self.control_block.drops_generator(repr) {
+            self.tsval_generator = None;
+        }
+        match self.control_block.process(cx, ip_repr, repr) {
+            None => None,
+            Some(reply) => Some(self.answer(ip_repr, repr, reply)),
+        }
     }
 }
 

@@ -1,179 +1,248 @@
-//! The steps of `process`, one method each (RFC 9293, section 3.10.7).
-ghost use Rattle.std.specs.Prelude.{◌≡◌, ◌≤◌, ◌+◌, ◌^◌, length};
-ghost use Rattle.ip_wire.specs.Address.{SameVersion};
+//! The steps of `process` behind the state table, one method each (RFC 9293, section 3.10.7.4).
+ghost use Rattle.std.specs.Prelude.{◌≡◌, ◌≤◌, ◌<◌, ◌+◌, ◌^◌, length, not, false};
 ghost use Rattle.control_wire.specs.Segment.{segment_of};
 ghost use Rattle.sock_core.specs.Bounds.{IsMoment};
+ghost use Rattle.sock_core.specs.Received.{is_turned_away};
 ghost use Rattle.sock_tcp.specs.Same.{SameQueues};
-ghost use Rattle.sock_tcp.specs.Verdict.{verdict_of};
-ghost use Rattle.sock_tcp.specs.declared.verdict.Verdict.TheVariants.{Pass};
-ghost use Rattle.sock_tcp.specs.Steps.{syn_place, acked_of, options_taken, syn_received, syn_answered, window_taken, released, una_advanced, joined, segment_taken};
+ghost use Rattle.sock_tcp.specs.Window.{next_ack};
+ghost use Rattle.sock_tcp.specs.Steps.{window_taken, is_window_changed, released, is_duplicate, duplicate_counted, ack_counted, una_advanced, acknowledged, timestamp_taken};
+ghost use Rattle.sock_tcp.specs.Steps.{timer_acked, begins_probe, probe_set, timer_set, heard, joined, is_ack_owed, ack_delayed};
+ghost use Rattle.sock_tcp.specs.Timers.{IsTimer};
 
+use crate::acked::Acked;
 use crate::control_block::ControlBlock;
-use crate::state::State;
-use crate::tuple::Tuple;
-use control_wire::{TcpControl, TcpRepr, TcpSeqNumber};
+use crate::timer::{AckDelayTimer, Timer, after};
+use control_wire::{TcpControl, TcpRepr, TcpSeqNumber, TcpTimestampRepr};
 use net_base::time::Instant;
-use sock_core::seq::later;
+use sock_core::congestion::Controller;
+use sock_core::seq::{before, later};
 
-// The smallest MSS that a peer is taken to have.
-const MIN_MSS: usize = 48;
-
-// The largest shift of a window (RFC 7323, section 2.3).
-const MAX_SCALE: u8 = 14;
+// As many duplicates of an acknowledgement call for a fast retransmission (RFC 5681, section 3.2).
+const DUPLICATES: u8 = 3;
 
 impl<'a> ControlBlock<'a> {
-    // 1 where a SYN of our own is unacknowledged.
-    fn syn_place(&self) -> usize
-        ensures { result ≡ syn_place self.now.state }
-    {
-        match self.state {
-            State::SynSent | State::SynReceived => 1,
-            _ => 0,
-        }
-    }
-
-    // How many bytes the acknowledgement releases.
-    #[tactic(auto, unfolding(crate::specs::Steps::acked_len))]
-    fn acked_len(&self, control: TcpControl, ack: Option<TcpSeqNumber>) -> usize
-        ensures { result ≡ acked_of self.now control ack }
-    {
-        let ack = match (control, ack) {
-            (TcpControl::Rst, _) | (_, None) => return 0,
-            (_, Some(ack)) => ack,
-        };
-        let count = ack
-            .since(self.local_seq_no)
-            .saturating_sub(self.syn_place());
-        if self.fin_place() == 1 && count == self.tx_buffer.len() + 1 {
-            count - 1
-        } else {
-            count
-        }
-    }
-
-    // The same, where the verdict is known: no more than is there.
-    pub(crate) fn passed_len(&self, control: TcpControl, ack: Option<TcpSeqNumber>) -> usize
-        requires { verdict_of self.now control ack ≡ Pass }
-        ensures value { result ≡ acked_of self.now control ack }
-        ensures fits { result ≤ length self.now.tx_buffer.bytes }
-    {
-        self.local_seq_no.in_range();
-        match ack {
-            None => self.acked_len(control, None),
-            Some(number) => {
-                number.in_range();
-                self.acked_len(control, Some(number))
-            }
-        }
-    }
-
-    // The options of a SYN (RFC 9293, section 3.2; RFC 7323, section 2.2; RFC 2018, section 2).
-    #[tactic(auto, unfolding(crate::specs::Steps::options_taken))]
-    fn take_options(&mut self, repr: &TcpRepr<'_>)
-        ensures view { self.new ≡ options_taken self.old (segment_of repr.now) }
-        ensures queues { SameQueues self.old self.new }
-    {
-        self.remote_seq_no = repr.seq_number.plus(1);
-        match repr.max_seg_size {
-            Some(size) if size != 0 => self.remote_mss = (size as usize).max(MIN_MSS),
-            _ => {}
-        }
-        self.remote_has_sack = repr.sack_permitted;
-        match repr.window_scale {
-            Some(scale) => self.remote_win_scale = Some(scale.min(MAX_SCALE)),
-            None => {
-                self.remote_win_scale = None;
-                self.remote_win_shift = 0;
-            }
-        }
-    }
-
-    #[tactic(auto, unfolding(crate::specs::Steps::syn_received, crate::specs::Steps::options_taken))]
-    pub(crate) fn receive_syn(&mut self, tuple: Tuple, word: u32, repr: &TcpRepr<'_>)
-        requires { SameVersion tuple.local.addr tuple.remote.addr }
-        ensures view { self.new ≡ syn_received self.old tuple word (segment_of repr.now) }
-        ensures queues { SameQueues self.old self.new }
-    {
-        self.take_options(repr);
-        self.state = State::SynReceived;
-        self.tuple = Some(tuple);
-        self.local_seq_no = TcpSeqNumber(word);
-        self.remote_last_seq = TcpSeqNumber(word);
-    }
-
-    #[tactic(auto, unfolding(crate::specs::Steps::syn_answered, crate::specs::Steps::options_taken))]
-    pub(crate) fn take_syn_answer(&mut self, repr: &TcpRepr<'_>)
-        ensures view { self.new ≡ syn_answered self.old (segment_of repr.now) }
-        ensures queues { SameQueues self.old self.new }
-    {
-        self.take_options(repr);
-        self.state = State::Established;
-        self.remote_last_seq = self.local_seq_no.plus(1);
-        self.remote_last_ack = Some(repr.seq_number);
-    }
-
+    // The peer's window: whether it is another than before.
     #[tactic(auto, unfolding(crate::specs::Steps::window_taken))]
-    fn take_window(&mut self, now: Instant, control: TcpControl, field: u16)
+    fn take_window(&mut self, now: Instant, control: TcpControl, field: u16) -> bool
         requires { IsMoment now.micros }
         ensures view { self.new ≡ window_taken self.old now control field }
+        ensures changed { result ≡ is_window_changed self.old control field }
         ensures queues { SameQueues self.old self.new }
     {
         let scale = self.remote_win_scale.unwrap_or(0);
-        self.remote_last_ts = Some(now);
-        self.remote_win_len = match control {
+        let window = match control {
             TcpControl::Syn => field as usize,
             _ => (field as usize) << scale,
         };
+        let changed = window != self.remote_win_len;
+        self.remote_last_ts = Some(now);
+        self.remote_win_len = window;
+        self.congestion_controller.set_remote_window(window);
+        changed
     }
 
     #[tactic(auto, unfolding(crate::specs::Steps::released))]
     fn release(&mut self, count: usize)
         requires { count ≤ length self.old.tx_buffer.bytes }
-        ensures { self.new ≡ released self.old count }
+        ensures view { self.new ≡ released self.old count }
+        ensures received { self.new.rx_buffer ≡ self.old.rx_buffer }
     {
         self.tx_buffer.dequeue_allocated(count);
     }
 
+    fn is_duplicate(&self, ack: TcpSeqNumber, length: usize, changed: bool) -> bool
+        ensures { result ≡ is_duplicate self.now ack length changed }
+    {
+        let is_last = match self.local_rx_last_ack {
+            None => false,
+            Some(last) => last == ack,
+        };
+        is_last && before(ack, self.remote_last_seq) && length == 0 && !changed
+    }
+
+    #[tactic(auto, unfolding(crate::specs::Steps::duplicate_counted))]
+    fn count_duplicate(&mut self, now: Instant)
+        ensures view { self.new ≡ duplicate_counted self.old }
+        ensures received { self.new.rx_buffer ≡ self.old.rx_buffer }
+    {
+        self.local_rx_dup_acks = self.local_rx_dup_acks.saturating_add(1);
+        if self.local_rx_dup_acks == DUPLICATES {
+            self.timer = Timer::FastRetransmit;
+        }
+        let flight = self.flight();
+        self.congestion_controller
+            .on_dup_ack(now, self.remote_mss, flight);
+    }
+
+    #[tactic(auto, unfolding(crate::specs::Steps::ack_counted))]
+    fn count_ack(&mut self, now: Instant, ack: TcpSeqNumber, count: usize)
+        ensures view { self.new ≡ ack_counted self.old now ack count }
+        ensures received { self.new.rx_buffer ≡ self.old.rx_buffer }
+    {
+        self.local_rx_dup_acks = 0;
+        self.local_rx_last_ack = Some(ack);
+        self.rtte.on_ack(now, ack);
+        let flight = self.flight().saturating_sub(count);
+        self.congestion_controller
+            .on_ack(now, count, flight, &self.rtte);
+    }
+
     #[tactic(auto, unfolding(crate::specs::Steps::una_advanced))]
-    fn advance_una(&mut self, ack: Option<TcpSeqNumber>)
-        ensures { self.new ≡ una_advanced self.old ack }
+    fn advance_una(&mut self, ack: TcpSeqNumber)
+        ensures view { self.new ≡ una_advanced self.old ack }
+        ensures received { self.new.rx_buffer ≡ self.old.rx_buffer }
+    {
+        self.local_seq_no = ack;
+        self.remote_last_seq = later(self.remote_last_seq, ack);
+    }
+
+    // The acknowledgement of `count` bytes, on a segment with `length` bytes of payload.
+    #[tactic(auto, unfolding(crate::specs::Steps::acknowledged))]
+    fn acknowledge(
+        &mut self,
+        ack: Option<TcpSeqNumber>,
+        now: Instant,
+        count: usize,
+        length: usize,
+        changed: bool,
+    )
+        ensures view { self.new ≡ acknowledged self.old ack now count length changed }
+        ensures received { self.new.rx_buffer ≡ self.old.rx_buffer }
     {
         let ack = match ack {
             None => return,
             Some(ack) => ack,
         };
-        self.local_seq_no = ack;
-        self.remote_last_seq = later(self.remote_last_seq, ack);
+        if self.is_duplicate(ack, length, changed) {
+            self.count_duplicate(now);
+        } else {
+            self.count_ack(now, ack, count);
+        }
+        self.advance_una(ack);
     }
 
-    #[tactic(auto, unfolding(crate::specs::Steps::joined))]
-    fn join(&mut self, offset: usize, bytes: &[u8])
-        requires { offset + length bytes.now ≤ length self.old.rx_buffer.held }
-        ensures { self.new ≡ joined self.old offset bytes.now }
+    #[tactic(auto, unfolding(crate::specs::Steps::timestamp_taken))]
+    fn take_timestamp(&mut self, timestamp: Option<TcpTimestampRepr>)
+        ensures view { self.new ≡ timestamp_taken self.old timestamp }
+        ensures received { self.new.rx_buffer ≡ self.old.rx_buffer }
     {
-        if !bytes.is_empty() {
-            self.rx_buffer.take_in(offset, bytes);
+        if let Some(timestamp) = timestamp {
+            self.last_remote_tsval = timestamp.tsval;
         }
     }
 
-    // The steps behind the state table.
-    #[tactic(auto, unfolding(crate::specs::Steps::segment_taken, crate::specs::Steps::window_taken, crate::specs::Steps::released, crate::specs::Steps::una_advanced))]
-    pub(crate) fn take_segment(
-        &mut self,
-        now: Instant,
-        count: usize,
-        offset: usize,
-        bytes: &[u8],
-        repr: &TcpRepr<'_>,
-    )
-        requires moment { IsMoment now.micros }
-        requires acked { count ≤ length self.old.tx_buffer.bytes }
-        requires fits { offset + length bytes.now ≤ length self.old.rx_buffer.held }
-        ensures { self.new ≡ segment_taken self.old now count offset bytes.now (segment_of repr.now) }
+    // The timer after an acknowledgement.
+    fn timer_acked(&self, now: Instant, acked: Acked) -> Timer
+        requires { IsMoment now.micros }
+        ensures value { result ≡ timer_acked self.now.timer self.now now acked }
+        ensures lawful { IsTimer result }
     {
-        self.take_window(now, repr.control, repr.window_len);
-        self.release(count);
-        self.advance_una(repr.ack_number);
-        self.join(offset, bytes);
+        match self.timer {
+            Timer::Idle { .. } => Timer::idle(now, self.keep_alive),
+            Timer::Retransmit { .. } | Timer::FastRetransmit => {
+                if acked.all {
+                    Timer::idle(now, self.keep_alive)
+                } else if acked.len == 0 {
+                    self.timer
+                } else {
+                    Timer::retransmit(now, &self.rtte)
+                }
+            }
+            Timer::ZeroWindowProbe { .. } | Timer::Close { .. } => self.timer,
+        }
+    }
+
+    fn begins_probe(&self, timer: Timer, acked: Acked) -> bool
+        ensures { result ≡ begins_probe timer self.now acked }
+    {
+        !self.tx_buffer.is_empty() && (timer.is_idle() || acked.len != 0)
+    }
+
+    // Probes begin while the peer has no window, and end when it has one.
+    fn probe_set(&self, timer: Timer, now: Instant, acked: Acked) -> Timer
+        requires moment { IsMoment now.micros }
+        requires lawful { IsTimer timer }
+        ensures value { result ≡ probe_set timer self.now now acked }
+        ensures lawful { IsTimer result }
+    {
+        match (self.remote_win_len, timer) {
+            (0, _) if self.begins_probe(timer, acked) => Timer::probe(now, &self.rtte),
+            (0, _) => timer,
+            (_, Timer::ZeroWindowProbe { .. }) => Timer::idle(now, self.keep_alive),
+            _ => timer,
+        }
+    }
+
+    #[tactic(auto, unfolding(crate::specs::Steps::timer_set))]
+    fn set_timer(&mut self, now: Instant, acked: Acked)
+        requires { IsMoment now.micros }
+        ensures view { self.new ≡ timer_set self.old now acked }
+        ensures received { self.new.rx_buffer ≡ self.old.rx_buffer }
+    {
+        let timer = self.timer_acked(now, acked);
+        self.timer = self.probe_set(timer, now, acked);
+    }
+
+    // The steps behind the state table, up to the timer.
+    #[tactic(auto, unfolding(crate::specs::Steps::heard, crate::specs::Steps::window_taken))]
+    pub(crate) fn hear(&mut self, now: Instant, acked: Acked, repr: &TcpRepr<'_>)
+        requires moment { IsMoment now.micros }
+        requires acked { acked.len ≤ length self.old.tx_buffer.bytes }
+        ensures view { self.new ≡ heard self.old now acked (segment_of repr.now) }
+        ensures received { self.new.rx_buffer ≡ self.old.rx_buffer }
+    {
+        let changed = self.take_window(now, repr.control, repr.window_len);
+        self.release(acked.len);
+        self.acknowledge(repr.ack_number, now, acked.len, repr.payload.len(), changed);
+        self.take_timestamp(repr.timestamp);
+        self.set_timer(now, acked);
+    }
+
+    // The bytes join the queue, or are held, or are turned away: whether they were taken.
+    #[tactic(auto, unfolding(crate::specs::Steps::joined, sock_core::specs::Received::taken_in))]
+    pub(crate) fn join(&mut self, offset: usize, bytes: &[u8]) -> bool
+        requires some { 0 < length bytes.now }
+        requires fits { offset + length bytes.now ≤ length self.old.rx_buffer.held }
+        ensures view { self.new ≡ joined self.old offset bytes.now }
+        ensures answer { result ≡ not (is_turned_away self.old.rx_buffer offset bytes.now) }
+        ensures refused { result ≡ false → self.new ≡ self.old }
+    {
+        self.rx_buffer.take_in(offset, bytes)
+    }
+
+    // Whether the last acknowledgement sent, and `count` bytes behind it, lie before RCV.NXT.
+    fn is_ack_owed(&self, count: usize) -> bool
+        requires { count < 2 ^ 32 }
+        ensures { result ≡ is_ack_owed self.now.remote_last_ack count (next_ack self.now) }
+    {
+        match self.remote_last_ack {
+            None => false,
+            Some(ack) => before(ack.plus(count), self.next_ack()),
+        }
+    }
+
+    #[tactic(auto, unfolding(crate::specs::Steps::ack_delayed))]
+    pub(crate) fn delay_ack(&mut self, now: Instant)
+        requires { IsMoment now.micros }
+        ensures { self.new ≡ ack_delayed self.old now }
+    {
+        let delay = match self.ack_delay {
+            None => return,
+            Some(delay) => delay,
+        };
+        if !self.is_ack_owed(0) {
+            return;
+        }
+        match self.ack_delay_timer {
+            AckDelayTimer::Idle => {
+                self.ack_delay_timer = AckDelayTimer::Waiting(after(now, delay));
+            }
+            AckDelayTimer::Waiting(_) => {
+                if self.is_ack_owed(self.remote_mss) {
+                    self.ack_delay_timer = AckDelayTimer::Immediate;
+                }
+            }
+            AckDelayTimer::Immediate => {}
+        }
     }
 }

@@ -14,6 +14,9 @@ use sock_core::rtte::RttEstimator;
 // How long TIME-WAIT lasts, as smoltcp.
 const CLOSE_DELAY: Duration = Duration { micros: 10_000_000 };
 
+// How long after a challenge ACK none goes out, as smoltcp.
+pub(crate) const CHALLENGE_INTERVAL: Duration = Duration { micros: 1_000_000 };
+
 // The longest time between two probes, as smoltcp.
 const LONGEST_PROBE: u64 = 60_000_000;
 

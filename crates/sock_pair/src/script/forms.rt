@@ -4,6 +4,8 @@ ghost use Rattle.sock_pair.specs.EventValue.{event_value, moment_value};
 ghost use Rattle.sock_pair.specs.ScriptText.{line_words, words_of};
 ghost use Rattle.sock_pair.specs.ScriptLines.{
   Gives,
+  abort_line,
+  close_line,
   connect_line,
   deliver_line,
   dispatch_line,
@@ -49,11 +51,14 @@ pub fn event(alloc: Global, line: &Line<'_>) -> Result<Event, ScriptError>
     match keyword {
         Keyword::Listen => listen(number, line.values),
         Keyword::Connect => connect(number, line.values),
+        Keyword::Close => close(number, line.values),
+        Keyword::Abort => abort(number, line.values),
         Keyword::Send => send(alloc, number, line.values),
         Keyword::Recv => recv(number, line.values),
         Keyword::Nagle => nagle(number, line.values),
-        Keyword::Dispatch => dispatch(number, line.values, false),
-        Keyword::Fail => dispatch(number, line.values, true),
+        Keyword::Dispatch => dispatch(number, line.values, true, false),
+        Keyword::Fail => dispatch(number, line.values, true, true),
+        Keyword::Gone => dispatch(number, line.values, false, false),
         Keyword::Deliver => deliver(number, line.values),
     }
 }
@@ -70,6 +75,30 @@ fn listen(line: usize, values: &[u8]) -> Result<Event, ScriptError>
     }
 }
 
+// `close S`
+#[tactic(auto, unfolding(crate::specs::ScriptLines::close_line))]
+fn close(line: usize, values: &[u8]) -> Result<Event, ScriptError>
+    ensures { Gives event_value (close_line line (words_of values.now)) result }
+{
+    let word = one_word(values).ok_or(ScriptError::WrongNumberOfWords { line })?;
+    match side(word) {
+        Some(side) => Ok(Event::Close { side }),
+        None => Err(ScriptError::BadWord { line }),
+    }
+}
+
+// `abort S`
+#[tactic(auto, unfolding(crate::specs::ScriptLines::abort_line))]
+fn abort(line: usize, values: &[u8]) -> Result<Event, ScriptError>
+    ensures { Gives event_value (abort_line line (words_of values.now)) result }
+{
+    let word = one_word(values).ok_or(ScriptError::WrongNumberOfWords { line })?;
+    match side(word) {
+        Some(side) => Ok(Event::Abort { side }),
+        None => Err(ScriptError::BadWord { line }),
+    }
+}
+
 // `connect S WORD`, at moment 0
 #[tactic(auto, unfolding(crate::specs::ScriptLines::connect_line))]
 fn connect(line: usize, values: &[u8]) -> Result<Event, ScriptError>
@@ -79,7 +108,7 @@ fn connect(line: usize, values: &[u8]) -> Result<Event, ScriptError>
     match (side(who), number(word, WORD)) {
         (Some(side), Some(word)) => Ok(Event::Connect {
             side,
-            moment: moment(0, word),
+            moment: moment(true, 0, word),
         }),
         _ => Err(ScriptError::BadWord { line }),
     }
@@ -127,16 +156,16 @@ fn nagle(line: usize, values: &[u8]) -> Result<Event, ScriptError>
     }
 }
 
-// `dispatch S MS`, and `fail S MS` where the emit is to fail
+// `dispatch S MS`, `fail S MS` where the emit is to fail, and `gone S MS` where the address is gone
 #[tactic(auto, unfolding(crate::specs::ScriptLines::dispatch_line))]
-fn dispatch(line: usize, values: &[u8], fail: bool) -> Result<Event, ScriptError>
-    ensures { Gives event_value (dispatch_line fail line (words_of values.now)) result }
+fn dispatch(line: usize, values: &[u8], has_address: bool, fail: bool) -> Result<Event, ScriptError>
+    ensures { Gives event_value (dispatch_line has_address fail line (words_of values.now)) result }
 {
     let (who, millis) = two_words(values).ok_or(ScriptError::WrongNumberOfWords { line })?;
     match (side(who), number(millis, MILLIS)) {
         (Some(side), Some(millis)) => Ok(Event::Dispatch {
             side,
-            moment: moment(millis, 0),
+            moment: moment(has_address, millis, 0),
             fail,
         }),
         _ => Err(ScriptError::BadWord { line }),
@@ -158,18 +187,18 @@ fn deliver(line: usize, values: &[u8]) -> Result<Event, ScriptError>
     ) {
         (Some(index), Some(millis), Some(word)) => Ok(Event::Deliver {
             index,
-            moment: moment(millis, word),
+            moment: moment(true, millis, word),
         }),
         _ => Err(ScriptError::BadWord { line }),
     }
 }
 
-// The context at so many milliseconds: the address is there, and the next random word is `word`.
-fn moment(millis: usize, word: usize) -> Moment
+// The context at so many milliseconds, with the own address or without; the next random word is `word`.
+fn moment(has_address: bool, millis: usize, word: usize) -> Moment
     requires millis { millis ≤ MILLIS }
     requires word { word ≤ WORD }
-    ensures { moment_value result ≡ moment_at millis word }
+    ensures { moment_value result ≡ moment_at has_address millis word }
 {
     let now = Instant::from_millis(millis as i64);
-    Moment::new(now, word as u32, true, IP_MTU)
+    Moment::new(now, word as u32, has_address, IP_MTU)
 }

@@ -7,11 +7,14 @@ ghost use Rattle.sock_pair.specs.ScriptWords.{keyword_of};
 pub enum Keyword {
     Listen,
     Connect,
+    Close,
+    Abort,
     Send,
     Recv,
     Nagle,
     Dispatch,
     Fail,
+    Gone,
     Deliver,
 }
 
@@ -24,11 +27,14 @@ impl Keyword {
         match word {
             b"listen" => Some(Keyword::Listen),
             b"connect" => Some(Keyword::Connect),
+            b"close" => Some(Keyword::Close),
+            b"abort" => Some(Keyword::Abort),
             b"send" => Some(Keyword::Send),
             b"recv" => Some(Keyword::Recv),
             b"nagle" => Some(Keyword::Nagle),
             b"dispatch" => Some(Keyword::Dispatch),
             b"fail" => Some(Keyword::Fail),
+            b"gone" => Some(Keyword::Gone),
             b"deliver" => Some(Keyword::Deliver),
             _ => None,
         }

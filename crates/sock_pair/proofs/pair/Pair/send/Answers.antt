@@ -18,7 +18,7 @@ invariant_of-self g c =
     let bs = c.args.bytes.now in
     let under = over_as A c.args.side p c.args.self.now (length bs) c.is_over_limit.result false c.in-A.is c.self.view_is c.is_over_limit.ensures c.if-is_over_limit.false in
     kept_if (λ o. Sends p.limit c.args.take bs (host_of A p) o k) A p k c.send.result c.self.invariant (sends_under p.limit c.args.take bs (host_of A p) k c.send.result under c.send.ensures.step) c.send.ensures.memory
-    (λ o d. pair_with A p k c.self.invariant (send_stays _ k p.limit c.args.take bs o (host_at A p c.self.invariant) d) (send_keeps A p (host_at A p c.self.invariant) c.self.invariant.network c.args.take bs o k c.in_range.ensures.buffers.transmit d))
+    (λ o d. pair_with A p k c.self.invariant (send_stays _ k p.limit c.args.take bs o (host_at A p c.self.invariant) d) (send_keeps A p (host_at A p c.self.invariant) c.self.invariant.network c.args.take bs o k c.in_range.ensures.socket.transmit d))
 
 pub returns-in-A-clause-step : goal.returns-in-A-clause-step
 returns-in-A-clause-step g c =
@@ -35,7 +35,7 @@ invariant_of-self-in-B g c =
     let bs = c.args.bytes.now in
     let under = over_as B c.args.side p c.args.self.now (length bs) c.is_over_limit.result false c.in-B.is c.self.view_is c.is_over_limit.ensures c.if-is_over_limit.false in
     kept_if (λ o. Sends p.limit c.args.take bs (host_of B p) o k) B p k c.send-in-B.result c.self.invariant (sends_under p.limit c.args.take bs (host_of B p) k c.send-in-B.result under c.send-in-B.ensures.step) c.send-in-B.ensures.memory
-    (λ o d. pair_with B p k c.self.invariant (send_stays _ k p.limit c.args.take bs o (host_at B p c.self.invariant) d) (send_keeps B p (host_at B p c.self.invariant) c.self.invariant.network c.args.take bs o k c.in_range-2.ensures.buffers.transmit d))
+    (λ o d. pair_with B p k c.self.invariant (send_stays _ k p.limit c.args.take bs o (host_at B p c.self.invariant) d) (send_keeps B p (host_at B p c.self.invariant) c.self.invariant.network c.args.take bs o k c.in_range-2.ensures.socket.transmit d))
 
 pub returns-in-B-clause-step : goal.returns-in-B-clause-step
 returns-in-B-clause-step g c =

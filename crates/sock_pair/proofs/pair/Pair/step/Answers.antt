@@ -4,7 +4,7 @@ use Rattle.sock_pair.proofs.PairReaches.{event_reaches_if}
 use Rattle.sock_pair.proofs.pair.Pair.step.Goals as goal
 
 pub returns-clause-complete : goal.returns-clause-complete
-returns-clause-complete g c = completes c.args.event.now c.args.self.now c.perform-outcome.new.self c.perform-outcome.result c.perform-outcome.ensures.step
+returns-clause-complete g c = completes c.args.event.now c.args.self.now c.perform-outcome.new.self c.perform-outcome.result c.is_pair.ensures.pair (record { a = c.is_pair.ensures.a; b = c.is_pair.ensures.b; delivered = c.event_in_range.ensures }) c.perform-outcome.ensures.step
 
 pub returns-clause-streams : goal.returns-clause-streams
 returns-clause-streams g c =

@@ -1,0 +1,17 @@
+-- What is promised of one socket beyond its case tables.
+use Rattle.std.specs.Prelude.{ℕ, ◌≡◌, ◌⊎◌, length, true}
+use Rattle.control_wire.specs.Segment.{Segment}
+use Rattle.sock_core.specs.Received.{TakesIn}
+use Rattle.sock_tcp.specs.View.{View}
+use Rattle.sock_tcp.specs.Window.{receive_window, is_inside, cut_of, cut_bytes}
+
+-- The segment lies inside the receive window, and the bytes of it that lie there come at their offset from RCV.NXT: the
+-- receive queue is appended to, and no byte of it changes; what was held stays so until it joins or is replaced
+pub record TakesSegment (v : View) (s : Segment) (w : View) : Type 0 where
+  pub inside : is_inside (receive_window v) s.seq_number (length s.payload) ≡ true
+  pub takes : TakesIn v.rx_buffer w.rx_buffer (cut_of (receive_window v) s.seq_number (length s.payload)).offset
+      (cut_bytes (cut_of (receive_window v) s.seq_number (length s.payload)) s.payload)
+
+-- what a segment may do to the receive buffer: nothing, or it is taken
+abbrev pub MayTake : View → Segment → View → Type 0
+MayTake v s w = (w.rx_buffer ≡ v.rx_buffer) ⊎ TakesSegment v s w
