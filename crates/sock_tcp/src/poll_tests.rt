@@ -59,7 +59,7 @@ fn rest(control_block: &mut ControlBlock<'_>) {
 }
 
 #[test]
-fn keep_alive_zero_byte(rt: HostRuntime) -> Result<(), Fail> {
+fn a_keep_alive_stands_before_snd_una(rt: HostRuntime) -> Result<(), Fail> {
     let mut rx = [0u8; 4];
     let mut tx = [0u8; 4];
     let mut cx = Interface { word: 1000 };
