@@ -1,5 +1,5 @@
 -- What the code of a delivery shows, against its table.
-use Rattle.std.proofs.Common.{◌≡◌, ℕ, zero, suc, ◌<◌, true, false, List, [], ◌∷◌, ◌++◌, length, map, get_or, Option, Some, None, refl, sym, ap, subst, ◌∙◌, arith}
+use Rattle.std.proofs.Common.{◌≡◌, ℕ, zero, suc, ◌<◌, true, false, List, [], ◌∷◌, ◌++◌, length, map, get_or, Option, Some, None, refl, sym, ap, subst, ◌∙◌, ◌⊎◌, arith}
 use Rattle.std.specs.Prelude.{slice_get}
 use Rattle.ip_wire.specs.declared.repr.IpRepr.{IpRepr}
 use Rattle.control_wire.specs.Segment.{Segment}
@@ -8,9 +8,9 @@ use Rattle.control_wire.specs.declared.tcp.TcpControl.{TcpControl}
 use Rattle.control_wire.specs.declared.tcp.TcpControl.TheVariants as control
 use Rattle.control_wire.specs.declared.tcp.TcpTimestampRepr.{TcpTimestampRepr}
 use Rattle.sock_tcp.specs.Replies.{Answers, IsStamp}
-use Rattle.sock_pair.specs.Exchanges.{DeliversAt}
+use Rattle.sock_pair.specs.Exchanges.{DeliversAt, TakesRoomAt}
 use Rattle.sock_pair.specs.Holding.{kept_at}
-use Rattle.sock_pair.specs.PairSteps.{is_too_old, IsAnyStamp, processed_by, delivered_to, reply_index, DeliversTo}
+use Rattle.sock_pair.specs.PairSteps.{is_too_old, IsAnyStamp, processed_by, delivered_to, refusal_of, refusal_reply, reply_index, DeliversTo}
 use Rattle.sock_pair.specs.PairViews.{HostView, StoredView}
 use Rattle.sock_pair.specs.declared.moment.Moment.{Moment}
 use Rattle.sock_pair.specs.declared.outcome.Outcome.{Outcome}
@@ -46,6 +46,10 @@ any_stamp tells source came ip None (Some r) a = absurd a
 any_stamp tells source came ip (Some x) None a = absurd a
 any_stamp tells source came ip (Some x) (Some r) a = record { stamp = a.stamp; is_stamp = any_stamp_at tells source came x.control a.stamp a.is_stamp; is = a.is }
 
+-- the refusal of a segment with this control
+pub refused_by : (c : TcpControl) (t : StoredView) → t.segment.control ≡ c → refusal_of t ≡ refusal_reply c t
+refused_by c t e = ap (λ x. refusal_reply x t) e
+
 module _ (ts : List StoredView) (n : ℕ) (t : StoredView) (at : slice_get ts n ≡ Some t) (released taken : ℕ) (s : Side) (m : Moment) (h : HostView) where
   pub delivers : (o : Outcome) (h' : HostView) (ts' : List StoredView) (r : Option (IpRepr × Segment)) → is_too_old t.released_at released t.taken_at taken ≡ false → Accepts h.control_block t.ip t.segment → h' ≡ delivered_to h m t → Answers IsAnyStamp t.ip (processed_by h m t).reply r → o ≡ outcome.Delivered (reply_index (length ts) r) → ts' ≡ ts ++ kept_at s r h'.released h'.taken → DeliversAt (slice_get ts n) released taken s m o h ts h' ts'
   delivers o h' ts' r young ok is answers says stored =
@@ -59,4 +63,15 @@ module _ (ts : List StoredView) (n : ℕ) (t : StoredView) (at : slice_get ts n 
           host = is;
           stored = stored ∙ ap (λ (k : HostView). ts ++ kept_at s r k.released k.taken) is;
         };
+      }))
+
+  pub takes_room : is_too_old t.released_at released t.taken_at taken ≡ false → Accepts h.control_block t.ip t.segment ⊎ (t.segment.control ≡ control.Rst → ⊥) → TakesRoomAt (slice_get ts n) released taken h
+  takes_room young x = subst (λ z. TakesRoomAt z released taken h) (sym at) (young, x)
+
+  pub refuses : (o : Outcome) (h' : HostView) (ts' : List StoredView) → is_too_old t.released_at released t.taken_at taken ≡ false → (Accepts h.control_block t.ip t.segment → ⊥) → h' ≡ h → o ≡ outcome.NotAccepted (reply_index (length ts) (refusal_of t)) → ts' ≡ ts ++ kept_at s (refusal_of t) h.released h.taken → DeliversAt (slice_get ts n) released taken s m o h ts h' ts'
+  refuses o h' ts' young shut is answer stored =
+      subst (λ x. DeliversAt x released taken s m o h ts h' ts') (sym at) (subst (λ b. DeliversTo b s m t o h ts h' ts') (sym young) (record {
+        accepted = false;
+        says = ((λ x. let no : false ≡ true = x in cc), λ x. absurd (shut x));
+        does = record { answer = answer; host = is; stored = stored };
       }))

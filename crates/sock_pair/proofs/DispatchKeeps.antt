@@ -1,5 +1,5 @@
 -- What a dispatch leaves alone: where the socket listens, unless it is CLOSED then, and its peer.
-use Rattle.std.proofs.Common.{Bool, true, false, cond, refl, sym, subst, ◌∙◌, Option, Some, None, inl, inr, ◌⊎◌}
+use Rattle.std.proofs.Common.{Bool, true, false, cond, refl, sym, subst, ◌∙◌, Option, Some, None, inl, inr}
 use Rattle.std.specs.Prelude.{not, ◌==◌, if◌then◌else◌}
 use Rattle.net_base.specs.declared.time.Instant.{Instant}
 use Rattle.sock_core.specs.Estimator.{sent}
@@ -20,7 +20,7 @@ use Rattle.sock_tcp.specs.declared.state.State.TheVariants as state
 use Rattle.sock_tcp.specs.declared.timer.Timer.{Timer}
 use Rattle.sock_tcp.specs.declared.timer.Timer.TheVariants as timer
 use Rattle.sock_tcp.specs.declared.tuple.Tuple.{Tuple}
-use Rattle.sock_tcp.proofs.Frames.{IsPeered}
+use Rattle.sock_tcp.specs.Laws.{IsPeered}
 use Rattle.sock_pair.specs.Recording.{SendsFrom, SocketDispatches}
 use Rattle.sock_pair.specs.declared.recorder.Sent.{Sent}
 use Rattle.sock_pair.proofs.PairListeners.{KeepsListener}

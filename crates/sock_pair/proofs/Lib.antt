@@ -25,7 +25,9 @@ pub mod NetworkReaches
 pub mod NetworkExample
 pub mod PairListeners
 pub mod DispatchKeeps
+pub mod Addresses
 pub mod PairHosts
+pub mod PairGoes
 pub mod ShownReplies
 pub mod ShownSteps
 pub mod ShownProcess

@@ -123,7 +123,7 @@ delivers_to false s m t o h h' ks ks' x = go x.accepted x.does
   where
     go : (b : Bool) → DeliversIf b s m t o h ks h' ks' → HostAdds h h' [] []
     go true y = nothing h h' (ap (λ (z : HostView). z.accepted) y.host) (ap (λ (z : HostView). z.handed_out) y.host)
-    go false y = same h h' y.1.0
+    go false y = same h h' y.host
 
 unchanged : (p q : PairView) → q ≡ p → AddsUp p q (λ s. []) (λ s. [])
 unchanged p q e = record {

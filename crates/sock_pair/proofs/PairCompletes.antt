@@ -1,6 +1,6 @@
 -- A read that answers Finished has all bytes of a closed side, and a closed side accepts nothing more.
-use Rattle.std.proofs.Common.{◌≡◌, ℕ, ◌+◌, Bool, true, false, refl, sym, ap, subst, ◌∙◌, arith, List, [], ◌∷◌, length, Option, Some, None, inl, inr}
-use Rattle.std.specs.Prelude.{not, ◌==◌, if◌then◌else◌, Result, Ok, Err, IfOk, OnErr}
+use Rattle.std.proofs.Common.{◌≡◌, ℕ, Bool, true, false, refl, sym, ap, subst, ◌∙◌, arith, List, [], ◌∷◌, length}
+use Rattle.std.specs.Prelude.{not, ◌==◌, if◌then◌else◌, Result, Ok, Err, IfOk}
 use Rattle.std.proofs.lemmas.Bool.{eqb-true}
 use Rattle.sock_tcp.specs.Queues.{may_recv, receives, can_recv, recv_refusal}
 use Rattle.sock_tcp.specs.View.{View}

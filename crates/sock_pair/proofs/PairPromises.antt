@@ -1,5 +1,5 @@
 -- What the invariant of a pair promises.
-use Rattle.std.proofs.Common.{◌≡◌, ℕ, Bool, true, false, List, ◌++◌, Option, Some, None, refl, sym, ap, subst, ◌∙◌}
+use Rattle.std.proofs.Common.{◌≡◌, ℕ, Bool, true, false, List, ◌++◌, Option, Some, refl, sym, ap, subst, ◌∙◌}
 use Rattle.std.specs.Prelude.{slice_get, Result, Ok, Err, IfOk}
 use Rattle.sock_core.specs.Received.{JoinsAtOnce}
 use Rattle.sock_core.specs.Streams.{IsPrefix}
@@ -62,7 +62,7 @@ prompt true s m t o reply h h' ks ks' is d = let no : outcome.TooOld ≡ outcome
 prompt false s m t o reply h h' ks ks' is d = go d.accepted d.does
   where
     go : (b : Bool) → DeliversIf b s m t o h ks h' ks' → IsPrompt m t h h'
-    go false x = let no : outcome.NotAccepted None ≡ outcome.Delivered reply = sym x.0 ∙ is in cc
+    go false x = let no : outcome.NotAccepted _ ≡ outcome.Delivered reply = sym x.answer ∙ is in cc
     go true x = record { queued = λ i some. subst (λ (k : HostView). JoinsAtOnce h.control_block.rx_buffer k.control_block.rx_buffer (in_window h.control_block t.segment)) (sym x.host) (queued_at_once h.control_block _ m.word t.ip t.segment i some) }
 
 exchanged_host : (s : Side) (p : PairView) (h : HostView) (ks : List StoredView) → host_of s (exchanged s p h ks) ≡ h

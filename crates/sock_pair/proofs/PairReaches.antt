@@ -1,5 +1,5 @@
 -- Each event of a pair is a run of steps of the theorem on two streams.
-use Rattle.std.proofs.Common.{◌≡◌, ℕ, ◌+◌, ◌<◌, ◌≤◌, ◌^◌, List, [], ◌∷◌, length, take, ◌++◌, Bool, true, false, Option, Some, None, refl, sym, ap, subst, ◌∙◌, arith, inl, inr, length-append, length-take}
+use Rattle.std.proofs.Common.{◌≡◌, ℕ, ◌+◌, ◌<◌, ◌≤◌, ◌^◌, List, [], ◌∷◌, length, take, ◌++◌, Bool, true, false, Option, Some, None, refl, sym, ap, subst, ◌∙◌, arith, inl, inr, ◌⊎◌, length-append, length-take}
 use Rattle.std.specs.Prelude.{IsTrue, not, if◌then◌else◌, option_map, slice_get, Result, Ok, Err, IfOk, OnErr}
 use Rattle.std.proofs.lemmas.Bool.Decides.{nat_tests}
 use Rattle.std.proofs.lemmas.List.{append-nil}
@@ -9,7 +9,6 @@ use Rattle.ip_wire.specs.declared.repr.IpRepr.{IpRepr}
 use Rattle.net_base.specs.declared.time.Instant.{Instant}
 use Rattle.control_wire.specs.Segment.{Segment}
 use Rattle.sock_core.specs.Facts.{Facts}
-use Rattle.sock_core.specs.Received.{room_of}
 use Rattle.sock_tcp.specs.Queue.{capacity}
 use Rattle.sock_tcp.specs.View.{View, moment_of}
 use Rattle.sock_tcp.specs.Queues.{may_send, may_recv, queued}
@@ -17,17 +16,18 @@ use Rattle.sock_tcp.specs.Begin.{Begun, before_emit}
 use Rattle.sock_tcp.specs.Content.{Sending, content}
 use Rattle.sock_tcp.specs.Sent.{left_by}
 use Rattle.control_wire.specs.declared.tcp.TcpControl.{TcpControl}
+use Rattle.control_wire.specs.declared.tcp.TcpControl.TheVariants as control
 use Rattle.control_wire.specs.declared.tcp.TcpTimestampRepr.{TcpTimestampRepr}
 use Rattle.sock_tcp.specs.Closing.{closed_from}
 use Rattle.sock_tcp.specs.Process.{Accepts}
-use Rattle.sock_tcp.specs.Replies.{Answers}
+use Rattle.sock_tcp.specs.Replies.{Answers, rst_segment, with_header}
 use Rattle.sock_tcp.specs.declared.state.State.{State}
 use Rattle.sock_tcp.specs.declared.state.State.TheVariants as state
 use Rattle.sock_tcp.specs.declared.tuple.Tuple.{Tuple}
 use Rattle.sock_pair.specs.Holding.{kept_at, segment_at}
 use Rattle.sock_pair.specs.Moments.{facts_of}
 use Rattle.sock_pair.specs.NetworkRuns.{Reaches, answered, start, unopened}
-use Rattle.sock_pair.specs.Network.{Accepts as TakesBytes, Arrives, Closes as EndsStream, ClosesUnacknowledged, Connects, Dies, HandsOut, IsStamped, IsWithin, Listens, Endpoint, Network}
+use Rattle.sock_pair.specs.Network.{Accepts as TakesBytes, AnswersRefused, Arrives, Closes as EndsStream, ClosesUnacknowledged, Connects, Dies, HandsOut, IsStamped, IsWithin, Listens, Endpoint, Network}
 use Rattle.sock_pair.specs.PairLaws.{IsBounded, MayEmit}
 use Rattle.sock_pair.specs.declared.event.Event.{Event}
 use Rattle.sock_pair.specs.declared.event.Event.TheVariants as event
@@ -35,23 +35,25 @@ use Rattle.sock_pair.specs.declared.host.Opening.{Opening}
 use Rattle.sock_pair.specs.declared.host.Opening.TheVariants as opening
 use Rattle.sock_pair.proofs.NetworkDeliveries.{sending_bounds, nothing_received}
 use Rattle.sock_pair.proofs.NetworkReaches.{begins_reach, delivery_reaches, emission_reaches, one_step, reach_keeps, reach_then, stays_there}
-use Rattle.sock_pair.proofs.PairHosts.{cannot_send, cannot_recv, closed_accepts_none, host_at, no_peer_readies}
+use Rattle.sock_pair.proofs.Addresses.{accepted_in, one_goes}
+use Rattle.sock_pair.proofs.PairHosts.{cannot_send, cannot_recv, closed_accepts_none, host_at, no_peer_readies, peer_at}
 use Rattle.sock_pair.proofs.PairReturns.{contains_at}
 use Rattle.sock_pair.proofs.ShownCalls.{listened_shows, connected_shows, queued_shows, read_shows, sends_open, set_shows}
 use Rattle.sock_pair.proofs.ShownDispatch.{begun_shows, emission_plans}
 use Rattle.sock_pair.proofs.ShownNetworks.{between, side_network, from_side, exchanged_reached, with_reached, stays_reached, unchanged_reached, stored_is, sent_has, may_arrive}
 use Rattle.sock_pair.proofs.ShownProcess.{process_heard}
 use Rattle.sock_pair.specs.NetworkInvariant.{IsInvariant}
+use Rattle.sock_pair.specs.PairAddresses.{GoesFrom, HasPeer, endpoint_at}
 use Rattle.sock_pair.specs.PairInvariant.{IsSocket, IsIdle, IsHost, IsPair, IsSized}
-use Rattle.sock_pair.specs.PairNetwork.{phase_of, seen, is_listener, is_passive, shown, stream_segment, endpoint_of, shown_segment, network_at, network_of, IsSmall}
+use Rattle.sock_pair.specs.PairNetwork.{phase_of, seen, is_listener, is_rst, is_passive, shown, stream_segment, endpoint_of, shown_segment, network_at, network_of, IsSmall}
 use Rattle.sock_pair.specs.PairViews.{HostView, StoredView, PairView, host_of, with_host, new_host, new_pair}
 use Rattle.sock_pair.specs.PairCalls.{listening, connecting, OpensAs, is_over, sending, Sends, SendsIf, SendsUnder, receiving, Receives, ReceivesIf, closing, Closes, aborting, Aborts, setting, Sets}
 use Rattle.sock_pair.specs.declared.setting.Setting.{Setting}
 use Rattle.sock_pair.proofs.PairAmounts.{takes_some, hands_some}
-use Rattle.sock_pair.specs.PairSteps.{EventStep, IsAnyStamp, Delivers, Dispatches, stored_at, DeliversTo, DeliversIf, is_old, exchanged, processed_by, delivered_to}
+use Rattle.sock_pair.specs.PairSteps.{EventStep, IsAnyStamp, refusal_of, refusal_reply, Delivers, Dispatches, stored_at, DeliversTo, DeliversIf, is_old, exchanged, processed_by, delivered_to}
 use Rattle.sock_pair.specs.Recording.{Records, SendsTo, SendsFrom, SocketDispatches}
 use Rattle.sock_pair.specs.StreamCalls.{ProcessEffect}
-use Rattle.sock_pair.specs.StreamViews.{Dead, SocketView, StreamSegment}
+use Rattle.sock_pair.specs.StreamViews.{Dead, HasNoIss, SocketView, StreamSegment}
 use Rattle.sock_pair.specs.Sides.{other_side}
 use Rattle.sock_pair.specs.declared.moment.Moment.{Moment}
 use Rattle.sock_pair.specs.declared.outcome.Outcome.{Outcome}
@@ -120,6 +122,46 @@ module _ (s : Side) (h o : HostView) (ks : List StoredView) (limit : Option ℕ)
 
   hears : (h.opening ≡ opening.Unopened → ⊥) → is_passive h.control_block ≡ is_listener h.opening → IsInvariant (network_at s h o ks limit) → Reaches (network_at s h o ks limit) (network_at s (delivered_to h m t) o with_reply limit)
   hears shut p i = hears_in h.opening shut p i
+
+-- ---- segments that are refused
+
+-- a side that refuses a segment of the other is CLOSED or in LISTEN
+refused_phase : (h : HostView) (remote : IpEndpoint) (t : StoredView) → HasPeer h remote → GoesFrom t remote h.endpoint → (Accepts h.control_block t.ip t.segment → ⊥) → HasNoIss (endpoint_of h).view.phase ⊎ ((endpoint_of h).view.phase ≡ Dead)
+refused_phase h remote t p g shut = go h.opening
+  where
+    by : (st : State) → h.control_block.state ≡ st → HasNoIss (phase_of st) ⊎ (phase_of st ≡ Dead)
+    by state.Closed e = inr refl
+    by state.Listen e = inl tt
+    by state.SynSent e = absurd (shut (accepted_in h.control_block.state h.control_block t h.endpoint remote (λ c. let no : state.SynSent ≡ state.Closed = sym e ∙ c in cc) (λ l. let no : state.SynSent ≡ state.Listen = sym e ∙ l in cc) p g))
+    by state.SynReceived e = absurd (shut (accepted_in h.control_block.state h.control_block t h.endpoint remote (λ c. let no : state.SynReceived ≡ state.Closed = sym e ∙ c in cc) (λ l. let no : state.SynReceived ≡ state.Listen = sym e ∙ l in cc) p g))
+    by state.Established e = absurd (shut (accepted_in h.control_block.state h.control_block t h.endpoint remote (λ c. let no : state.Established ≡ state.Closed = sym e ∙ c in cc) (λ l. let no : state.Established ≡ state.Listen = sym e ∙ l in cc) p g))
+    by state.FinWait1 e = absurd (shut (accepted_in h.control_block.state h.control_block t h.endpoint remote (λ c. let no : state.FinWait1 ≡ state.Closed = sym e ∙ c in cc) (λ l. let no : state.FinWait1 ≡ state.Listen = sym e ∙ l in cc) p g))
+    by state.FinWait2 e = absurd (shut (accepted_in h.control_block.state h.control_block t h.endpoint remote (λ c. let no : state.FinWait2 ≡ state.Closed = sym e ∙ c in cc) (λ l. let no : state.FinWait2 ≡ state.Listen = sym e ∙ l in cc) p g))
+    by state.CloseWait e = absurd (shut (accepted_in h.control_block.state h.control_block t h.endpoint remote (λ c. let no : state.CloseWait ≡ state.Closed = sym e ∙ c in cc) (λ l. let no : state.CloseWait ≡ state.Listen = sym e ∙ l in cc) p g))
+    by state.Closing e = absurd (shut (accepted_in h.control_block.state h.control_block t h.endpoint remote (λ c. let no : state.Closing ≡ state.Closed = sym e ∙ c in cc) (λ l. let no : state.Closing ≡ state.Listen = sym e ∙ l in cc) p g))
+    by state.LastAck e = absurd (shut (accepted_in h.control_block.state h.control_block t h.endpoint remote (λ c. let no : state.LastAck ≡ state.Closed = sym e ∙ c in cc) (λ l. let no : state.LastAck ≡ state.Listen = sym e ∙ l in cc) p g))
+    by state.TimeWait e = absurd (shut (accepted_in h.control_block.state h.control_block t h.endpoint remote (λ c. let no : state.TimeWait ≡ state.Closed = sym e ∙ c in cc) (λ l. let no : state.TimeWait ≡ state.Listen = sym e ∙ l in cc) p g))
+
+    go : (e : Opening) → HasNoIss (seen e h.control_block).phase ⊎ ((seen e h.control_block).phase ≡ Dead)
+    go opening.Unopened = inl tt
+    go opening.Listener = by h.control_block.state refl
+    go opening.Connector = by h.control_block.state refl
+
+refuses : (s : Side) (h o : HostView) (ks : List StoredView) (limit : Option ℕ) (t : StoredView) → Contains ks t → t.emitter ≡ other_side s → HasNoIss (endpoint_of h).view.phase ⊎ ((endpoint_of h).view.phase ≡ Dead) → Reaches (network_at s h o ks limit) (network_at s h o (ks ++ kept_at s (refusal_of t) h.released h.taken) limit)
+refuses s h o ks limit t there from_other ph = go t.segment.control refl
+  where
+    answers : (c : TcpControl) → t.segment.control ≡ c → is_rst c ≡ false → refusal_reply c t ≡ Some (with_header t.ip (rst_segment t.segment)) → Reaches (network_at s h o ks limit) (network_at s h o (ks ++ kept_at s (refusal_of t) h.released h.taken) limit)
+    answers c e plain is =
+        subst (λ r. Reaches (network_at s h o ks limit) (network_at s h o (ks ++ kept_at s r h.released h.taken) limit)) (sym (ap (λ x. refusal_reply x t) e ∙ is))
+        (subst (Reaches (network_at s h o ks limit)) (stored_is s (endpoint_of h) (endpoint_of o) ks (record { emitter = s; ip = (with_header t.ip (rst_segment t.segment)).0; segment = rst_segment t.segment; released_at = h.released; taken_at = h.taken }) limit refl)
+        (one_step _ _ (AnswersRefused (shown_segment t) (stream_segment (rst_segment t.segment) h.released h.taken) (sent_has (other_side s) ks t there from_other) (ap is_rst e ∙ plain) ph refl refl)))
+
+    go : (c : TcpControl) → t.segment.control ≡ c → Reaches (network_at s h o ks limit) (network_at s h o (ks ++ kept_at s (refusal_of t) h.released h.taken) limit)
+    go control.Rst e = stays_there _ _ (ap (λ ts. network_at s h o ts limit) (sym (append-nil ks) ∙ ap (λ r. ks ++ kept_at s r h.released h.taken) (sym (ap (λ x. refusal_reply x t) e))))
+    go control.None e = answers control.None e refl refl
+    go control.Psh e = answers control.Psh e refl refl
+    go control.Syn e = answers control.Syn e refl refl
+    go control.Fin e = answers control.Fin e refl refl
 
 -- ---- dispatches
 
@@ -336,17 +378,20 @@ module _ (s : Side) (p : PairView) (host : IsHost (host_of s p)) (i : IsInvarian
       (dispatches_in s (host_of s p) (host_of (other_side s) p) p.segments p.limit k.control_block (facts_of m) e.does.stamps fail e.sent e.does.socket (host_of s p).opening host.idle (from_side s p i))))
 
   -- t is a segment of the other side
-  pub deliver_reaches : (m : Moment) (t : StoredView) (o : Outcome) (k : HostView) (ks : List StoredView) → m.word < 2 ^ 32 → IsSmall t.segment → Contains p.segments t → t.emitter ≡ other_side s → IsSocket (host_of s p).control_block
+  pub deliver_reaches : (m : Moment) (t : StoredView) (o : Outcome) (k : HostView) (ks : List StoredView) → m.word < 2 ^ 32 → IsSmall t.segment → Contains p.segments t → t.emitter ≡ other_side s → IsSocket (host_of s p).control_block → HasPeer (host_of s p) (host_of (other_side s) p).endpoint → GoesFrom t (host_of (other_side s) p).endpoint (host_of s p).endpoint
       → DeliversTo (is_old (host_of t.emitter p) t) s m t o (host_of s p) p.segments k ks → Reaches (network_of p) (network_of (exchanged s p k ks))
-  deliver_reaches m t o k ks w small there from_other sock e = go (is_old (host_of t.emitter p) t) refl e
+  deliver_reaches m t o k ks w small there from_other sock peer goes e = go (is_old (host_of t.emitter p) t) refl e
     where
       go : (old : Bool) → is_old (host_of t.emitter p) t ≡ old → DeliversTo old s m t o (host_of s p) p.segments k ks → Reaches (network_of p) (network_of (exchanged s p k ks))
       go true x d = unchanged_reached s p k ks d.1.0 d.1.1
-      go false x d = by_accepts d.accepted d.says.0 d.does
+      go false x d = by_accepts d.accepted d.says.0 d.says.1 d.does
         where
-          by_accepts : (b : Bool) → (IsTrue b → Accepts (host_of s p).control_block t.ip t.segment) → DeliversIf b s m t o (host_of s p) p.segments k ks → Reaches (network_of p) (network_of (exchanged s p k ks))
-          by_accepts false a y = unchanged_reached s p k ks y.1.0 y.1.1
-          by_accepts true a y =
+          by_accepts : (b : Bool) → (IsTrue b → Accepts (host_of s p).control_block t.ip t.segment) → (Accepts (host_of s p).control_block t.ip t.segment → IsTrue b) → DeliversIf b s m t o (host_of s p) p.segments k ks → Reaches (network_of p) (network_of (exchanged s p k ks))
+          by_accepts false a says y =
+              exchanged_reached s p k ks (subst (λ h. Reaches (side_network s p (host_of s p) p.segments) (side_network s p h ks)) (sym y.host)
+              (subst (λ ts. Reaches (side_network s p (host_of s p) p.segments) (side_network s p (host_of s p) ts)) (sym y.stored)
+              (refuses s (host_of s p) (host_of (other_side s) p) p.segments p.limit t there from_other (refused_phase (host_of s p) (host_of (other_side s) p).endpoint t peer goes (λ yes. let no : false ≡ true = says yes in cc)))))
+          by_accepts true a says y =
               let shut : (host_of s p).opening ≡ opening.Unopened → ⊥ = (λ u. closed_accepts_none (host_of s p).control_block t (host.idle u).state (a refl)) in
               exchanged_reached s p k ks (subst (λ h. Reaches (side_network s p (host_of s p) p.segments) (side_network s p h ks)) (sym y.host)
               (subst (λ ts. Reaches (side_network s p (host_of s p) p.segments) (side_network s p (delivered_to (host_of s p) m t) ts)) (sym y.stored)
@@ -379,9 +424,9 @@ module _ (s : Side) (p : PairView) (host : IsHost (host_of s p)) (i : IsInvarian
   pub dispatch_keeps : (m : Moment) (fail : Bool) (o : Outcome) (k : HostView) (ks : List StoredView) → Dispatches s m fail o (host_of s p) p.segments k ks → IsInvariant (network_of (exchanged s p k ks))
   dispatch_keeps m fail o k ks e = reach_keeps _ _ (dispatch_reaches m fail o k ks e) i
 
-  pub deliver_keeps : (m : Moment) (t : StoredView) (o : Outcome) (k : HostView) (ks : List StoredView) → m.word < 2 ^ 32 → IsSmall t.segment → Contains p.segments t → t.emitter ≡ other_side s → IsSocket (host_of s p).control_block
+  pub deliver_keeps : (m : Moment) (t : StoredView) (o : Outcome) (k : HostView) (ks : List StoredView) → m.word < 2 ^ 32 → IsSmall t.segment → Contains p.segments t → t.emitter ≡ other_side s → IsSocket (host_of s p).control_block → HasPeer (host_of s p) (host_of (other_side s) p).endpoint → GoesFrom t (host_of (other_side s) p).endpoint (host_of s p).endpoint
       → DeliversTo (is_old (host_of t.emitter p) t) s m t o (host_of s p) p.segments k ks → IsInvariant (network_of (exchanged s p k ks))
-  deliver_keeps m t o k ks w small there from_other sock e = reach_keeps _ _ (deliver_reaches m t o k ks w small there from_other sock e) i
+  deliver_keeps m t o k ks w small there from_other sock peer goes e = reach_keeps _ _ (deliver_reaches m t o k ks w small there from_other sock peer goes e) i
 
 -- ---- any event
 
@@ -396,11 +441,14 @@ emitter_twice : (s : Side) → s ≡ other_side (other_side s)
 emitter_twice A = refl
 emitter_twice B = refl
 
+goes_to : (p : PairView) → IsPair p → (j : ℕ) (t : StoredView) → slice_get p.segments j ≡ Some t → GoesFrom t (host_of (other_side (other_side t.emitter)) p).endpoint (host_of (other_side t.emitter) p).endpoint
+goes_to p i j t at = subst (λ x. GoesFrom t (host_of x p).endpoint (host_of (other_side t.emitter) p).endpoint) (emitter_twice t.emitter) (one_goes (endpoint_at p) p.segments j t i.segments at)
+
 delivers_reach : (j : ℕ) (t : Option StoredView) (m : Moment) (p q : PairView) (o : Outcome) → IsPair p → IsSized (event.Deliver j m) p → slice_get p.segments j ≡ t → Delivers t m p o q → Reaches (network_of p) (network_of q)
 delivers_reach j None m p q o i z at x = to_q p q p x.1 (stays_there _ _ refl)
 delivers_reach j (Some t) m p q o i z at x =
     to_q p q (exchanged (other_side t.emitter) p x.host x.segments) x.same
-    (deliver_reaches (other_side t.emitter) p (host_at (other_side t.emitter) p i) i.network m t o x.host x.segments m.fits (z.delivered t at) (contains_at p.segments j t at) (emitter_twice t.emitter) (buffers_at (other_side t.emitter) p (event.Deliver j m) z) x.does)
+    (deliver_reaches (other_side t.emitter) p (host_at (other_side t.emitter) p i) i.network m t o x.host x.segments m.fits (z.delivered t at) (contains_at p.segments j t at) (emitter_twice t.emitter) (buffers_at (other_side t.emitter) p (event.Deliver j m) z) (peer_at (other_side t.emitter) p i) (goes_to p i j t at) x.does)
 
 pub event_reaches : (e : Event) (p : PairView) (o : Outcome) (q : PairView) → IsPair p → IsSized e p → EventStep e p o q → Reaches (network_of p) (network_of q)
 event_reaches (event.Listen s) p o q i z x = to_q p q (with_host s p x.host) x.same (listen_reaches s p (host_at s p i) i.network o x.host x.does)

@@ -17,10 +17,9 @@ use Rattle.sock_core.specs.Seq.{is_before, is_not_after, later_of}
 use Rattle.sock_core.specs.Streams.{fin_length}
 use Rattle.sock_tcp.specs.View.{View, FinSays}
 use Rattle.sock_tcp.specs.Verdict.{verdict_at, verdict_of}
-use Rattle.sock_tcp.specs.Replies.{rst_segment}
 use Rattle.sock_tcp.specs.Window.{receive_window, is_inside, cut_of, cut_bytes}
 use Rattle.sock_tcp.specs.Acked.{syn_place, acked_places, acked_at, acked_of, nothing_acked}
-use Rattle.sock_tcp.specs.Advance.{advanced, advance_in, counted_control, dropped, fallen_back, fin_counted, last_ack_waits, moved_to, opened_state, options_taken, syn_answered, syn_received, waiting}
+use Rattle.sock_tcp.specs.Advance.{advanced, advance_in, counted_control, dropped, fallen_back, fin_counted, moved_to, opened_state, options_taken, syn_answered, syn_received, waiting}
 use Rattle.sock_tcp.specs.Process.{Outcome, stopped, tuple_of, after_table, after_advance, has_window, challenged, outside, bytes_taken, processed_inside, cut_inside, tested, by_verdict, processed, Accepts, AcceptsIn}
 use Rattle.sock_tcp.specs.Steps.{heard}
 use Rattle.sock_tcp.specs.declared.acked.Acked.{Acked}
@@ -35,7 +34,7 @@ use Rattle.sock_tcp.proofs.Acking.{acked_fits}
 use Rattle.sock_tcp.proofs.Frames.{brought}
 use Rattle.sock_tcp.proofs.Windows.{start_small, end_small, window_width, cut_fits}
 use Rattle.sock_pair.specs.PairLaws.{IsBounded}
-use Rattle.sock_pair.specs.PairNetwork.{phase_of, shown, stream_segment, is_passive, is_fin, is_rst, is_syn, IsSmall}
+use Rattle.sock_pair.specs.PairNetwork.{phase_of, shown, stream_segment, is_passive, is_rst, is_syn, IsSmall}
 use Rattle.sock_pair.specs.StreamCalls.{HearEffect, ProcessEffect, Nothing, Acknowledgement, FallBack, ResetReply, Syn, SynAck, SynAlone}
 use Rattle.sock_pair.specs.StreamEffects.{AcksBytes, AcksFin, AcksSyn, HearsAck, HearsData, SndNxtWithin}
 use Rattle.sock_pair.specs.StreamTables.{OfBytes, OfFin, OfSyn, segment_end}

@@ -1,5 +1,5 @@
 -- What a socket answers is what it may send once the segment is heard.
-use Rattle.std.proofs.Common.{◌≡◌, ℕ, ◌+◌, ◌%◌, ◌^◌, ◌<◌, ◌≤◌, ◌⊎◌, Bool, true, false, refl, sym, ap, subst, ◌∙◌, arith, List, [], length, Option, Some, None, inl, inr}
+use Rattle.std.proofs.Common.{◌≡◌, ℕ, ◌⊎◌, Bool, true, false, refl, sym, ap, subst, ◌∙◌, arith, List, length, Option, Some, None, inl, inr}
 use Rattle.std.specs.Prelude.{option_map, int_lt, ◌==◌, ◌&&◌, if◌then◌else◌}
 use Rattle.net_base.specs.declared.time.Instant.{Instant}
 use Rattle.control_wire.specs.Segment.{Segment}

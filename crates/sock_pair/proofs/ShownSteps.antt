@@ -1,21 +1,21 @@
 -- What the steps of `process` come to: the verdict, the control bit that counts, what is acknowledged, and what the
 -- steps behind the state table leave.
-use Rattle.std.proofs.Common.{◌≡◌, ℕ, ◌+◌, ◌-◌, ◌%◌, ◌^◌, ◌<◌, ◌≤◌, ◌⊎◌, Bool, true, false, cond, ◌||◌, refl, sym, ap, subst, ◌∙◌, arith, List, length, Option, Some, None, inl, inr}
-use Rattle.std.specs.Prelude.{◌==◌, if◌then◌else◌}
+use Rattle.std.proofs.Common.{◌≡◌, ℕ, ◌+◌, ◌-◌, ◌⊎◌, Bool, true, false, cond, ◌||◌, refl, ap, ◌∙◌, List, length, Option, Some, None, inl, inr}
+use Rattle.std.specs.Prelude.{if◌then◌else◌}
 use Rattle.net_base.specs.declared.time.Instant.{Instant}
 use Rattle.control_wire.specs.Seq.{seq_add, seq_sub, seq_eq}
 use Rattle.control_wire.specs.Segment.{Segment}
 use Rattle.control_wire.specs.declared.seq_number.TcpSeqNumber.{TcpSeqNumber}
 use Rattle.control_wire.specs.declared.tcp.TcpControl.{TcpControl}
 use Rattle.control_wire.specs.declared.tcp.TcpControl.TheVariants as control
-use Rattle.sock_core.specs.Seq.{is_before, is_not_after, later_of}
+use Rattle.sock_core.specs.Seq.{is_before, later_of}
 use Rattle.sock_tcp.specs.Queue.{shortened}
 use Rattle.sock_tcp.specs.View.{View}
-use Rattle.sock_tcp.specs.Verdict.{fin_place, open_verdict, verdict_at}
+use Rattle.sock_tcp.specs.Verdict.{fin_place, verdict_at}
 use Rattle.sock_tcp.specs.Acked.{syn_place, acked_places, acked_at, nothing_acked}
 use Rattle.sock_tcp.specs.Advance.{counted_control}
 use Rattle.sock_tcp.specs.Process.{has_window}
-use Rattle.sock_tcp.specs.Steps.{window_taken, is_window_changed, released, is_duplicate, duplicate_counted, ack_counted, una_advanced, ack_heard, acknowledged, timestamp_taken, timer_set, counted, heard}
+use Rattle.sock_tcp.specs.Steps.{window_taken, is_window_changed, released, is_duplicate, duplicate_counted, ack_counted, una_advanced, ack_heard, acknowledged, timestamp_taken, timer_set, heard}
 use Rattle.sock_tcp.specs.declared.acked.Acked.{Acked}
 use Rattle.sock_tcp.specs.declared.state.State.{State}
 use Rattle.sock_tcp.specs.declared.state.State.TheVariants as state

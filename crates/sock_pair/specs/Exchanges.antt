@@ -1,7 +1,7 @@
 -- A delivery, where the counts of the emitter are given.
 use Rattle.std.specs.Prelude.{ℕ, List, Option, Some, None}
 use Rattle.sock_pair.specs.PairViews.{HostView, StoredView}
-use Rattle.sock_pair.specs.PairSteps.{is_too_old, DeliversTo, ReachesSocket}
+use Rattle.sock_pair.specs.PairSteps.{is_too_old, DeliversTo, TakesRoom}
 use Rattle.sock_pair.specs.declared.moment.Moment.{Moment}
 use Rattle.sock_pair.specs.declared.outcome.Outcome.{Outcome}
 use Rattle.sock_pair.specs.declared.side.Side.{Side}
@@ -12,6 +12,6 @@ DeliversAt None released taken s m o h ks h' ks' = ⊥
 DeliversAt (Some t) released taken s m o h ks h' ks' =
     DeliversTo (is_too_old t.released_at released t.taken_at taken) s m t o h ks h' ks'
 
-abbrev pub ReachesSocketAt : Option StoredView → ℕ → ℕ → HostView → Type 0
-ReachesSocketAt None released taken h = ⊥
-ReachesSocketAt (Some t) released taken h = ReachesSocket (is_too_old t.released_at released t.taken_at taken) h t
+abbrev pub TakesRoomAt : Option StoredView → ℕ → ℕ → HostView → Type 0
+TakesRoomAt None released taken h = ⊥
+TakesRoomAt (Some t) released taken h = TakesRoom (is_too_old t.released_at released t.taken_at taken) h t

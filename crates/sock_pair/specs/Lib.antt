@@ -20,6 +20,7 @@ pub mod PairCalls
 pub mod PairSteps
 pub mod Exchanges
 pub mod PairNetwork
+pub mod PairAddresses
 pub mod PairInvariant
 pub mod PairLaws
 pub mod PairPromises

@@ -8,6 +8,7 @@ use Rattle.sock_tcp.specs.Queue.{capacity}
 use Rattle.sock_tcp.specs.View.{View, FinSays}
 use Rattle.sock_tcp.specs.declared.state.State.TheVariants as state
 use Rattle.sock_pair.specs.NetworkInvariant.{IsInvariant}
+use Rattle.sock_pair.specs.PairAddresses.{AllGo, HasPeer, endpoint_at}
 use Rattle.sock_pair.specs.PairNetwork.{is_listener, is_passive, network_of, IsSmall}
 use Rattle.sock_pair.specs.PairViews.{HostView, PairView}
 use Rattle.sock_pair.specs.declared.event.Event.{Event}
@@ -34,11 +35,15 @@ pub record IsHost (h : HostView) : Type 0 where
   pub passive : (h.opening ≡ opening.Unopened → ⊥) → (h.control_block.state ≡ state.Closed → ⊥)
       → is_passive h.control_block ≡ is_listener h.opening
 
--- both sockets can be connected, and the network that the pair shows meets the invariant of the theorem on two streams
+-- both sockets can be connected, and each to the other alone; segments go from the one to the other; and the network
+-- that the pair shows meets the invariant of the theorem on two streams
 pub record IsPair (p : PairView) : Type 0 where
   pub a : IsHost p.a
   pub b : IsHost p.b
   pub versions : SameVersion p.a.endpoint.addr p.b.endpoint.addr
+  pub peer_of_a : HasPeer p.a p.b.endpoint
+  pub peer_of_b : HasPeer p.b p.a.endpoint
+  pub segments : AllGo (endpoint_at p) p.segments
   pub network : IsInvariant (network_of p)
 
 -- ---- what the types of a pair say of its numbers

@@ -1,12 +1,12 @@
 -- What an event does to a pair.
-use Rattle.std.specs.Prelude.{ℕ, ◌≡◌, ◌+◌, ◌-◌, ◌^◌, ◌++◌, ◌↔◌, IsTrue, List, [], ◌∷◌, length, slice_get, Option, Some, None, option_map, Bool, true, false, nat_le, ◌||◌}
+use Rattle.std.specs.Prelude.{ℕ, ◌≡◌, ◌+◌, ◌-◌, ◌^◌, ◌++◌, ◌↔◌, ◌⊎◌, IsTrue, List, [], ◌∷◌, length, slice_get, Option, Some, None, option_map, Bool, true, false, nat_le, ◌||◌}
 use Rattle.ip_wire.specs.declared.repr.IpRepr.{IpRepr}
 use Rattle.control_wire.specs.Segment.{Segment}
 use Rattle.control_wire.specs.declared.tcp.TcpControl.{TcpControl}
 use Rattle.control_wire.specs.declared.tcp.TcpControl.TheVariants as control
 use Rattle.control_wire.specs.declared.tcp.TcpTimestampRepr.{TcpTimestampRepr}
 use Rattle.sock_tcp.specs.Process.{Accepts, Outcome as Processed, processed}
-use Rattle.sock_tcp.specs.Replies.{Answers}
+use Rattle.sock_tcp.specs.Replies.{Answers, rst_segment, with_header}
 use Rattle.sock_pair.specs.Moments.{facts_of}
 use Rattle.sock_pair.specs.PairViews.{HostView, StoredView, PairView, host_of, with_host}
 use Rattle.sock_pair.specs.Holding.{stored_segment, kept_at}
@@ -110,10 +110,25 @@ pub record IsProcessed (s : Side) (m : Moment) (t : StoredView) (o : Outcome) (h
   pub host : h' ≡ delivered_to h m t
   pub stored : ks' ≡ ks ++ kept_at s reply (delivered_to h m t).released (delivered_to h m t).taken
 
+-- the RST that answers a segment which the side refuses, unless that is an RST itself
+abbrev pub refusal_reply : TcpControl → StoredView → Option (IpRepr × Segment)
+refusal_reply control.Rst t = None
+refusal_reply c t = Some (with_header t.ip (rst_segment t.segment))
+
+abbrev pub refusal_of : StoredView → Option (IpRepr × Segment)
+refusal_of t = refusal_reply t.segment.control t
+
+-- the side stays as it was, and the reply is stored with its counts
+pub record IsRefused (s : Side) (t : StoredView) (o : Outcome) (h : HostView) (ks : List StoredView)
+    (h' : HostView) (ks' : List StoredView) : Type 0 where
+  pub answer : o ≡ outcome.NotAccepted (reply_index (length ks) (refusal_of t))
+  pub host : h' ≡ h
+  pub stored : ks' ≡ ks ++ kept_at s (refusal_of t) h.released h.taken
+
 abbrev pub DeliversIf : Bool → Side → Moment → StoredView → Outcome → HostView → List StoredView → HostView
     → List StoredView → Type 0
 DeliversIf true s m t o h ks h' ks' = IsProcessed s m t o h ks h' ks'
-DeliversIf false s m t o h ks h' ks' = (o ≡ outcome.NotAccepted None) × IsUnchanged h ks h' ks'
+DeliversIf false s m t o h ks h' ks' = IsRefused s t o h ks h' ks'
 
 -- what `accepts` answers decides
 pub record DeliversYoung (s : Side) (m : Moment) (t : StoredView) (o : Outcome) (h : HostView) (ks : List StoredView)
@@ -135,13 +150,14 @@ Delivers (Some t) m p o q =
 
 -- ---- which events take memory
 
--- a delivery of a young segment that the side accepts
-abbrev pub ReachesSocket : Bool → HostView → StoredView → Type 0
-ReachesSocket old h t = (old ≡ false) × Accepts h.control_block t.ip t.segment
+-- a delivery of a young segment that the side accepts, or that it refuses and that is no RST
+abbrev pub TakesRoom : Bool → HostView → StoredView → Type 0
+TakesRoom old h t =
+    (old ≡ false) × (Accepts h.control_block t.ip t.segment ⊎ (t.segment.control ≡ control.Rst → ⊥))
 
 abbrev pub DeliveryTakesMemory : Option StoredView → PairView → Type 0
 DeliveryTakesMemory None p = ⊥
-DeliveryTakesMemory (Some t) p = ReachesSocket (is_old (host_of t.emitter p) t) (host_of (other_side t.emitter) p) t
+DeliveryTakesMemory (Some t) p = TakesRoom (is_old (host_of t.emitter p) t) (host_of (other_side t.emitter) p) t
 
 -- the others are done, or refused by an outcome, without any
 abbrev pub TakesMemory : Event → PairView → Type 0

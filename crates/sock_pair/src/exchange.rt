@@ -3,9 +3,9 @@ ghost use Rattle.std.specs.Prelude.{◌≡◌, ◌<◌, ◌^◌, ◌++◌, [], l
 ghost use Rattle.sock_pair.specs.Holding.{stored_of, kept_at};
 ghost use Rattle.std.specs.Option.{ForSome};
 ghost use Rattle.sock_tcp.specs.Process.{reply_of};
-ghost use Rattle.sock_pair.specs.PairSteps.{is_too_old, dispatch_outcome, stored_at, Dispatches, reply_index, IsUnchanged};
+ghost use Rattle.sock_pair.specs.PairSteps.{is_too_old, dispatch_outcome, stored_at, Dispatches, refusal_of, reply_index, IsUnchanged};
 ghost use Rattle.sock_pair.specs.Recording.{IsShort};
-ghost use Rattle.sock_pair.specs.Exchanges.{DeliversAt, ReachesSocketAt};
+ghost use Rattle.sock_pair.specs.Exchanges.{DeliversAt, TakesRoomAt};
 
 use crate::host::Host;
 use crate::moment::Moment;
@@ -13,7 +13,8 @@ use crate::outcome::{Outcome, PairError};
 use crate::recorder::Sent;
 use crate::segment::{Header, Segment};
 use crate::side::Side;
-use sock_tcp::{Reply, TsvalSource};
+use control_wire::TcpControl;
+use sock_tcp::{Reply, Socket, TsvalSource};
 use std::alloc::Global;
 
 // By how much a count of a segment's emitter may grow at most while the segment is young.
@@ -89,24 +90,23 @@ pub(crate) fn dispatch<G: TsvalSource>(
     Ok(store(segments, side, sent, counts))
 }
 
-// The outcome of a delivery, whose reply is stored where there is one; there is room for it.
+// Stores a reply, where there is one, and answers its index; there is room for it.
 fn store_reply(
     alloc: Global,
     segments: &mut Vec<Segment>,
     from: Side,
     reply: Option<Reply>,
     counts: Counts,
-) -> Outcome
+) -> Option<usize>
     requires room { vec_len segments.old < vec_capacity segments.old }
     requires empty { ForSome reply (λ r. r.1.payload.now ≡ []) }
     ensures answer { result
-        ≡ Outcome.Delivered (reply_index (length (map stored_of segments.old.items))
-        (option_map reply_of reply.entry)) }
+        ≡ reply_index (length (map stored_of segments.old.items)) (option_map reply_of reply.entry) }
     ensures stored { map stored_of segments.new.items ≡ map stored_of segments.old.items
         ++ kept_at from (option_map reply_of reply.entry) counts.released counts.taken }
 {
     match reply {
-        None => Outcome::Delivered(None),
+        None => None,
         Some((ip_repr, repr)) => {
             let index = segments.len();
             let header = Header::of(ip_repr, &repr);
@@ -117,8 +117,21 @@ fn store_reply(
                 counts.released,
                 counts.taken,
             ));
-            Outcome::Delivered(Some(index))
+            Some(index)
         }
+    }
+}
+
+// The RST that answers a refused segment, unless that is an RST itself.
+#[tactic(auto, using(crate::proofs::Deliveries::refused_by))]
+fn refusal(segment: &Segment) -> Option<Reply>
+    ensures reply { option_map reply_of result ≡ refusal_of (stored_of segment.now) }
+    ensures bare { ForSome result (λ r. r.1.payload.now ≡ []) }
+{
+    segment.in_range();
+    match segment.header.control {
+        TcpControl::Rst => None,
+        _ => Some(Socket::rst_reply(&segment.header.ip_repr, &segment.as_repr())),
     }
 }
 
@@ -141,7 +154,7 @@ pub(crate) fn deliver<G: TsvalSource>(
     ensures memory { OnErr result
         (IsUnchanged host.old (map stored_of segments.old.items) host.new (map stored_of segments.new.items)) }
     ensures takes_memory { OnErr result
-        (ReachesSocketAt (slice_get (map stored_of segments.old.items) index) emitter.released emitter.taken host.old) }
+        (TakesRoomAt (slice_get (map stored_of segments.old.items) index) emitter.released emitter.taken host.old) }
 {
     let segment = &segments[index];
     if too_old(
@@ -152,12 +165,18 @@ pub(crate) fn deliver<G: TsvalSource>(
     ) {
         return Ok(Outcome::TooOld);
     }
-    if !host.accepts(moment, segment) {
+    let accepted = host.accepts(moment, segment);
+    if !accepted && segment.header.control == TcpControl::Rst {
         return Ok(Outcome::NotAccepted(None));
     }
     if let Err(_) = segments.reserve(1) {
         return Err(PairError::Memory);
     }
-    let reply = host.deliver(moment, &segments[index]);
-    Ok(store_reply(alloc, segments, side, reply, host.counts()))
+    if accepted {
+        let reply = host.deliver(moment, &segments[index]);
+        Ok(Outcome::Delivered(store_reply(alloc, segments, side, reply, host.counts())))
+    } else {
+        let reply = refusal(&segments[index]);
+        Ok(Outcome::NotAccepted(store_reply(alloc, segments, side, reply, host.counts())))
+    }
 }

@@ -14,7 +14,8 @@ use Rattle.sock_tcp.specs.Verdict.{verdict_of}
 use Rattle.sock_tcp.specs.Window.{receive_window, is_inside, cut_of, cut_bytes}
 use Rattle.sock_tcp.specs.Acked.{acked_of}
 use Rattle.sock_tcp.specs.Advance.{Advance, advance_in, advanced, counted_control, fallen_back, fin_counted, last_ack_waits, opened_state, options_taken, syn_answered, syn_received}
-use Rattle.sock_tcp.specs.Replies.{ack_kept}
+use Rattle.sock_tcp.specs.Laws.{IsPeered}
+use Rattle.sock_tcp.specs.Replies.{ack_kept, ack_segment}
 use Rattle.sock_tcp.specs.Timers.{after, challenge_interval}
 use Rattle.sock_tcp.specs.Steps.{window_taken, released, is_duplicate, ack_heard, duplicate_counted, ack_counted, una_advanced, acknowledged, timestamp_taken, timer_set, counted, heard, joined, ack_delayed}
 use Rattle.sock_tcp.specs.Process.{Outcome, stopped, acked, challenged, close_restarted, outside_by, outside, gap_answered, bytes_taken, tuple_of, after_advance, after_table, processed_inside, has_window, cut_inside, tested, by_verdict, processed}
@@ -50,11 +51,10 @@ pub record TableKeeps (v w : View) : Type 0 where
   pub rx : w.rx_buffer ≡ v.rx_buffer
   pub listen : w.listen_endpoint ≡ v.listen_endpoint
 
--- every state but CLOSED and LISTEN has the peer t, and CLOSED may have it still
-abbrev pub IsPeered : State → Option Tuple → Tuple → Type 0
-IsPeered state.Closed o t = (o ≡ None) ⊎ (o ≡ Some t)
-IsPeered state.Listen o t = o ≡ None
-IsPeered _ o t = o ≡ Some t
+-- a reply goes back: its ports are the segment's, the other way round
+abbrev pub GoesBack : Segment → Option Segment → Type 0
+GoesBack s None = Unit {0}
+GoesBack s (Some r) = (r.src_port ≡ s.dst_port) × (r.dst_port ≡ s.src_port)
 
 module _ (s : Segment) (now : Instant) where
   -- ---- steps that take no bytes
@@ -91,6 +91,57 @@ module _ (s : Segment) (now : Instant) where
       go : (b : Bool) → Keeps w (if b then stopped w else acked (record w { challenge_ack_timer = after now challenge_interval }) s).view w.rx_buffer
       go true = same w
       go false = record { rx = refl; listen = refl; tuple = refl; state = refl }
+
+  acked_back : (w : View) → GoesBack s (acked w s).reply
+  unfolding ack_segment
+  acked_back w = (refl, refl)
+
+  pub challenged_back : (w : View) → GoesBack s (challenged w now s).reply
+  unfolding challenged
+  challenged_back w = go (int_lt now.micros w.challenge_ack_timer.micros)
+    where
+      go : (b : Bool) → GoesBack s (if b then stopped w else acked (record w { challenge_ack_timer = after now challenge_interval }) s).reply
+      go true = tt
+      go false = acked_back (record w { challenge_ack_timer = after now challenge_interval })
+
+  pub outside_back : (w : View) → GoesBack s (outside w now s).reply
+  unfolding outside
+  outside_back w = by s.control
+    where
+      bytes_or_none : (b : Bool) → GoesBack s (if b then challenged (close_restarted w now) now s else acked (close_restarted w now) s).reply
+      bytes_or_none true = challenged_back (close_restarted w now)
+      bytes_or_none false = acked_back (close_restarted w now)
+
+      by : (c : TcpControl) → GoesBack s (outside_by c (length s.payload) w now s).reply
+      by control.Rst = tt
+      by control.Syn = challenged_back (close_restarted w now)
+      by control.None = bytes_or_none (length s.payload == 0)
+      by control.Psh = bytes_or_none (length s.payload == 0)
+      by control.Fin = bytes_or_none (length s.payload == 0)
+
+  bytes_back : (w : View) (o : ℕ) (bs : List ℕ) → GoesBack s (bytes_taken w now o bs s).reply
+  unfolding bytes_taken
+  bytes_back w o bs = go (length bs == 0)
+    where
+      u : View
+      u = ack_delayed (joined w o bs) now
+
+      gap : (b : Bool) → GoesBack s (if b then stopped u else acked u s).reply
+      gap true = tt
+      gap false = acked_back u
+
+      away : (b : Bool) → GoesBack s (if b then stopped w else gap_answered w u s).reply
+      away true = tt
+      away false = gap (holds_nothing w.rx_buffer.held && holds_nothing u.rx_buffer.held)
+
+      go : (b : Bool) → GoesBack s (if b then stopped w else (if is_turned_away w.rx_buffer o bs then stopped w else gap_answered w u s)).reply
+      go true = tt
+      go false = away (is_turned_away w.rx_buffer o bs)
+
+  pub after_back : (x : Next) (u : View) (a : Acked) (o : ℕ) (bs : List ℕ) → GoesBack s (after_advance x u now a o bs s).reply
+  after_back next.Stop u a o bs = tt
+  after_back next.Challenge u a o bs = challenged_back u
+  after_back next.Continue u a o bs = bytes_back (heard u now a s) o bs
 
   restarted_challenged : (w : View) → Keeps w (challenged (close_restarted w now) now s).view w.rx_buffer
   unfolding close_restarted
@@ -306,3 +357,27 @@ module _ (v : View) (now : Instant) (word : ℕ) (ip : IpRepr) (s : Segment) whe
   pub process_peers : Peered v → Peered (processed v now word ip s).view
   unfolding processed
   process_peers p = by_verdict_peers (verdict_of v s.control s.ack_number) p
+
+  -- ---- the reply
+
+  inside_back : (u : View) (c : TcpControl) (o : ℕ) (bs : List ℕ) → GoesBack s (processed_inside u now word c o bs ip s).reply
+  unfolding processed_inside
+  inside_back u c o bs = after_back s now _ _ _ o bs
+
+  tested_back : (b : Bool) → GoesBack s (tested b v now word ip s).reply
+  tested_back false = inside_back v s.control 0 []
+  tested_back true = go (is_inside (receive_window v) s.seq_number (length s.payload))
+    where
+      go : (b : Bool) → GoesBack s (if b then cut_inside (receive_window v) (cut_of (receive_window v) s.seq_number (length s.payload)) v now word ip s else outside v now s).reply
+      go false = outside_back s now v
+      go true = inside_back numbered (counted_control s.control (receive_window v) s.seq_number (length s.payload)) offset_in bytes_in
+
+  by_verdict_back : (x : Verdict) → GoesBack s (by_verdict x v now word ip s).reply
+  by_verdict_back verdicts.Drop = tt
+  by_verdict_back verdicts.Reset = (refl, refl)
+  by_verdict_back verdicts.Challenge = challenged_back s now v
+  by_verdict_back verdicts.Pass = tested_back (has_window v.state)
+
+  pub process_back : GoesBack s (processed v now word ip s).reply
+  unfolding processed
+  process_back = by_verdict_back (verdict_of v s.control s.ack_number)

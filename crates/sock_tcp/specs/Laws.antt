@@ -1,9 +1,12 @@
 -- What is promised of one socket beyond its case tables.
-use Rattle.std.specs.Prelude.{ℕ, ◌≡◌, ◌⊎◌, length, true}
+use Rattle.std.specs.Prelude.{ℕ, ◌≡◌, ◌⊎◌, length, Option, Some, None, true}
 use Rattle.control_wire.specs.Segment.{Segment}
 use Rattle.sock_core.specs.Received.{TakesIn}
 use Rattle.sock_tcp.specs.View.{View}
 use Rattle.sock_tcp.specs.Window.{receive_window, is_inside, cut_of, cut_bytes}
+use Rattle.sock_tcp.specs.declared.state.State.{State}
+use Rattle.sock_tcp.specs.declared.state.State.TheVariants as state
+use Rattle.sock_tcp.specs.declared.tuple.Tuple.{Tuple}
 
 -- The segment lies inside the receive window, and the bytes of it that lie there come at their offset from RCV.NXT: the
 -- receive queue is appended to, and no byte of it changes; what was held stays so until it joins or is replaced
@@ -15,3 +18,9 @@ pub record TakesSegment (v : View) (s : Segment) (w : View) : Type 0 where
 -- what a segment may do to the receive buffer: nothing, or it is taken
 abbrev pub MayTake : View → Segment → View → Type 0
 MayTake v s w = (w.rx_buffer ≡ v.rx_buffer) ⊎ TakesSegment v s w
+
+-- every state but CLOSED and LISTEN has the peer t, and CLOSED may have it still
+abbrev pub IsPeered : State → Option Tuple → Tuple → Type 0
+IsPeered state.Closed o t = (o ≡ None) ⊎ (o ≡ Some t)
+IsPeered state.Listen o t = o ≡ None
+IsPeered _ o t = o ≡ Some t

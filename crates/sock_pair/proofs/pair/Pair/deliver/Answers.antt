@@ -5,7 +5,8 @@ use Rattle.sock_pair.specs.Exchanges.{DeliversAt}
 use Rattle.sock_pair.specs.PairViews.{PairView, host_of}
 use Rattle.sock_pair.specs.declared.side.Side.TheVariants.{A, B}
 use Rattle.sock_pair.proofs.Deliveries.{get_map}
-use Rattle.sock_pair.proofs.PairHosts.{host_at, deliver_stays, pair_exchanged}
+use Rattle.sock_pair.proofs.PairGoes.{deliver_all, goes_at}
+use Rattle.sock_pair.proofs.PairHosts.{host_at, peer_at, deliver_stays, pair_exchanged}
 use Rattle.sock_pair.proofs.PairReaches.{deliver_keeps}
 use Rattle.sock_pair.proofs.PairReturns.{bounded, contains_at, delivers_to, pair_delivers_if, kept_with_segments_if}
 use Rattle.sock_pair.proofs.pair.Pair.deliver.Goals as goal
@@ -43,8 +44,9 @@ invariant_of-self g c =
     kept_with_segments_if (λ o. DeliversAt (slice_get p.segments c.args.index) c.counts-counts.result.released c.counts-counts.result.taken B m o (host_of B p) p.segments k ts) B p k ts c.deliver.result c.self.invariant c.deliver.ensures.step c.deliver.ensures.memory
     (λ o d.
     let e = delivers_to m o t B p c.args.index k ts c.counts-counts.result.released c.counts-counts.result.taken at c.in-A.is c.counts-counts.ensures.released c.counts-counts.ensures.taken d in
-    pair_exchanged B p k ts c.self.invariant (deliver_stays _ B m t o (host_of B p) k p.segments ts (host_at B p c.self.invariant) e)
-    (deliver_keeps B p (host_at B p c.self.invariant) c.self.invariant.network m t o k ts m.fits c.in_range.ensures.numbers (contains_at p.segments c.args.index t at) c.in-A.is c.in_range-3.ensures.socket e))
+    let goes = goes_at B p c.args.index t c.self.invariant at c.in-A.is in
+    pair_exchanged B p k ts c.self.invariant (deliver_stays _ B m t o (host_of B p) k p.segments ts (host_at B p c.self.invariant) goes e) (deliver_all _ B p m t o k ts c.self.invariant goes e)
+    (deliver_keeps B p (host_at B p c.self.invariant) c.self.invariant.network m t o k ts m.fits c.in_range.ensures.numbers (contains_at p.segments c.args.index t at) c.in-A.is c.in_range-3.ensures.socket (peer_at B p c.self.invariant) goes e))
 
 pub returns-in-A-clause-step : goal.returns-in-A-clause-step
 returns-in-A-clause-step g c =
@@ -71,8 +73,9 @@ invariant_of-self-in-B g c =
     kept_with_segments_if (λ o. DeliversAt (slice_get p.segments c.args.index) c.counts-counts-in-B.result.released c.counts-counts-in-B.result.taken A m o (host_of A p) p.segments k ts) A p k ts c.deliver-in-B.result c.self.invariant c.deliver-in-B.ensures.step c.deliver-in-B.ensures.memory
     (λ o d.
     let e = delivers_to m o t A p c.args.index k ts c.counts-counts-in-B.result.released c.counts-counts-in-B.result.taken at c.in-B.is c.counts-counts-in-B.ensures.released c.counts-counts-in-B.ensures.taken d in
-    pair_exchanged A p k ts c.self.invariant (deliver_stays _ A m t o (host_of A p) k p.segments ts (host_at A p c.self.invariant) e)
-    (deliver_keeps A p (host_at A p c.self.invariant) c.self.invariant.network m t o k ts m.fits c.in_range.ensures.numbers (contains_at p.segments c.args.index t at) c.in-B.is c.in_range-2.ensures.socket e))
+    let goes = goes_at A p c.args.index t c.self.invariant at c.in-B.is in
+    pair_exchanged A p k ts c.self.invariant (deliver_stays _ A m t o (host_of A p) k p.segments ts (host_at A p c.self.invariant) goes e) (deliver_all _ A p m t o k ts c.self.invariant goes e)
+    (deliver_keeps A p (host_at A p c.self.invariant) c.self.invariant.network m t o k ts m.fits c.in_range.ensures.numbers (contains_at p.segments c.args.index t at) c.in-B.is c.in_range-2.ensures.socket (peer_at A p c.self.invariant) goes e))
 
 pub returns-in-B-clause-step : goal.returns-in-B-clause-step
 returns-in-B-clause-step g c =

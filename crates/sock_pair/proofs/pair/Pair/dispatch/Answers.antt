@@ -3,6 +3,7 @@ use Rattle.sock_pair.specs.Holding.{stored_of}
 use Rattle.sock_pair.specs.PairSteps.{Dispatches}
 use Rattle.sock_pair.specs.PairViews.{PairView, host_of}
 use Rattle.sock_pair.specs.declared.side.Side.TheVariants.{A, B}
+use Rattle.sock_pair.proofs.PairGoes.{dispatch_all}
 use Rattle.sock_pair.proofs.PairHosts.{host_at, dispatch_stays, pair_exchanged}
 use Rattle.sock_pair.proofs.PairReaches.{dispatch_keeps}
 use Rattle.sock_pair.proofs.PairReturns.{with_segments_if, kept_with_segments_if}
@@ -15,7 +16,7 @@ invariant_of-self g c =
     let ts = map stored_of c.dispatch.new.segments.items in
     let m = c.args.moment.now in
     kept_with_segments_if (λ o. Dispatches A m c.args.fail o (host_of A p) p.segments k ts) A p k ts c.dispatch.result c.self.invariant c.dispatch.ensures.step c.dispatch.ensures.memory
-    (λ o d. pair_exchanged A p k ts c.self.invariant (dispatch_stays A m c.args.fail o _ k p.segments ts (host_at A p c.self.invariant) d) (dispatch_keeps A p (host_at A p c.self.invariant) c.self.invariant.network m c.args.fail o k ts d))
+    (λ o d. pair_exchanged A p k ts c.self.invariant (dispatch_stays A m c.args.fail o _ k p.segments ts (host_at A p c.self.invariant) d) (dispatch_all A p m c.args.fail o k ts c.self.invariant d) (dispatch_keeps A p (host_at A p c.self.invariant) c.self.invariant.network m c.args.fail o k ts d))
 
 pub returns-in-A-clause-step : goal.returns-in-A-clause-step
 returns-in-A-clause-step g c =
@@ -29,7 +30,7 @@ invariant_of-self-in-B g c =
     let ts = map stored_of c.dispatch-in-B.new.segments.items in
     let m = c.args.moment.now in
     kept_with_segments_if (λ o. Dispatches B m c.args.fail o (host_of B p) p.segments k ts) B p k ts c.dispatch-in-B.result c.self.invariant c.dispatch-in-B.ensures.step c.dispatch-in-B.ensures.memory
-    (λ o d. pair_exchanged B p k ts c.self.invariant (dispatch_stays B m c.args.fail o _ k p.segments ts (host_at B p c.self.invariant) d) (dispatch_keeps B p (host_at B p c.self.invariant) c.self.invariant.network m c.args.fail o k ts d))
+    (λ o d. pair_exchanged B p k ts c.self.invariant (dispatch_stays B m c.args.fail o _ k p.segments ts (host_at B p c.self.invariant) d) (dispatch_all B p m c.args.fail o k ts c.self.invariant d) (dispatch_keeps B p (host_at B p c.self.invariant) c.self.invariant.network m c.args.fail o k ts d))
 
 pub returns-in-B-clause-step : goal.returns-in-B-clause-step
 returns-in-B-clause-step g c =
