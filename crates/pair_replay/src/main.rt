@@ -79,3 +79,5 @@ mod pair_tests;
 mod script_tests;
 #[cfg(test)]
 mod tests;
+#[cfg(test)]
+mod timer_tests;

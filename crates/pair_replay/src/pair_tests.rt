@@ -1,4 +1,5 @@
 //! Two sockets of a pair: a source of timestamps, closures that take nothing, settings.
+use control_wire::TcpControl;
 use ip_wire::{IpAddress, IpEndpoint, Ipv4Address};
 use net_base::ring_buffer::RingBuffer;
 use net_base::time::{Duration, Instant};
@@ -7,12 +8,12 @@ use sock_tcp::CongestionControl;
 use std::process::Abort;
 use std::test::Fail;
 
-const A: IpEndpoint = IpEndpoint {
+pub(crate) const A: IpEndpoint = IpEndpoint {
     addr: IpAddress::Ipv4(Ipv4Address([10, 0, 0, 1])),
     port: 49152,
 };
 
-const B: IpEndpoint = IpEndpoint {
+pub(crate) const B: IpEndpoint = IpEndpoint {
     addr: IpAddress::Ipv4(Ipv4Address([10, 0, 0, 2])),
     port: 80,
 };
@@ -25,7 +26,7 @@ fn moment() -> Moment {
     Moment::new(Instant::ZERO, 1000, true, 1500)
 }
 
-fn dispatch(side: Side) -> Event {
+pub(crate) fn dispatch(side: Side) -> Event {
     Event::Dispatch {
         side,
         moment: moment(),
@@ -33,14 +34,14 @@ fn dispatch(side: Side) -> Event {
     }
 }
 
-fn deliver(index: usize) -> Event {
+pub(crate) fn deliver(index: usize) -> Event {
     Event::Deliver {
         index,
         moment: moment(),
     }
 }
 
-fn happens(rt: &(impl Abort), pair: &mut Pair<'_>, event: &Event, outcome: Outcome) {
+pub(crate) fn happens(rt: &(impl Abort), pair: &mut Pair<'_>, event: &Event, outcome: Outcome) {
     assert_eq!(rt; pair.step(event), Ok(outcome));
 }
 
@@ -101,7 +102,46 @@ fn six_bytes_from_a_side_with_a_generator(rt: HostRuntime) -> Result<(), Fail> {
     Ok(())
 }
 
-fn set(side: Side, setting: Setting) -> Event {
+// A timestamp takes 12 bytes of each segment, and Nagle holds the rest back.
+#[test]
+fn timestamps_shrink_the_segment(rt: HostRuntime) -> Result<(), Fail> {
+    let alloc = rt.alloc();
+    let mut arx = [0u8; 2000];
+    let mut atx = [0u8; 2000];
+    let mut brx = [0u8; 2000];
+    let mut btx = [0u8; 2000];
+    let a = Setup {
+        rx: RingBuffer::new(&mut arx),
+        tx: RingBuffer::new(&mut atx),
+        endpoint: A,
+        generator: Some(clock),
+    };
+    let b = Setup {
+        rx: RingBuffer::new(&mut brx),
+        tx: RingBuffer::new(&mut btx),
+        endpoint: B,
+        generator: Some(clock),
+    };
+    let mut pair = Pair::new(alloc, a, b, Some(2000));
+    opens(&rt, &mut pair);
+    let send = Event::SendSlice {
+        side: Side::A,
+        bytes: Vec::from_slice(alloc, &[b'x'; 1500])?,
+    };
+    happens(&rt, &mut pair, &send, Outcome::Accepted(1500));
+    happens(&rt, &mut pair, &dispatch(Side::A), Outcome::Emitted(3));
+    let Some(stored) = pair.segments().get(3) else {
+        return Err(Fail::new("no bytes are stored"));
+    };
+    let repr = stored.as_repr();
+    assert_eq!(rt; (repr.seq_number.0, repr.payload.len()), (1001, 1448));
+    assert_eq!(rt; repr.control, TcpControl::None);
+    assert!(rt; repr.timestamp.is_some());
+    happens(&rt, &mut pair, &dispatch(Side::A), Outcome::Quiet);
+    Ok(())
+}
+
+pub(crate) fn set(side: Side, setting: Setting) -> Event {
     Event::Set { side, setting }
 }
 

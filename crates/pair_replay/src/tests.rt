@@ -66,7 +66,7 @@ impl Sink for Page {
 
 // How the replay of a text ends and what it writes, where the reader has so many calls before its
 // fault, and the writer too.
-fn replayed(alloc: Global, text: &[u8], reads: usize, writes: usize) -> (End, Vec<u8>) {
+pub(crate) fn replayed(alloc: Global, text: &[u8], reads: usize, writes: usize) -> (End, Vec<u8>) {
     let mut reader = Text {
         left: text,
         calls_left: reads,
@@ -82,7 +82,7 @@ fn replayed(alloc: Global, text: &[u8], reads: usize, writes: usize) -> (End, Ve
     (end, bytes)
 }
 
-const MANY: usize = 1_000_000;
+pub(crate) const MANY: usize = 1_000_000;
 
 const OPENING: &str = "listen b\nconnect a 1000\ndispatch a 0\ndeliver 0 0 5000\ndispatch b 0\n\
     deliver 1 0 0\ndispatch a 0\ndeliver 2 0 0\n";
@@ -92,7 +92,7 @@ const OPENED: &str = "opened\nopened\nemitted 0 SYN seq 1000 ack - win 64 len 0\
     emitted 2 ACK seq 1001 ack 5001 win 64 len 0\ndelivered\n";
 
 // The text of a script and its output, after the lines that open a connection.
-fn runs(
+pub(crate) fn runs(
     rt: &(impl Abort),
     alloc: Global,
     limit: &str,

@@ -55,8 +55,8 @@ pub fn begun_shows()
         → DispatchEffect (shown v) (shown (before_emit v f stamps).view) }
 {}
 
-/// What a dispatch emits, with any timestamp and any bytes that the ring lent, may be emitted; and an emit that succeeds
-/// leaves what may be left.
+/// What a dispatch emits, with any timestamp and any bytes that the ring lent, may be emitted; and an emit that
+/// succeeds leaves what may be left.
 pub fn emission_plans()
     ensures { (v : View) (released taken : ℕ) → IsBounded v → (t : Tuple) (f : Facts) (stamp : Option ℕ)
         (bytes : List ℕ) → IsLent (asked v t f (is_some stamp)) (drop (offset_of v) v.tx_buffer.bytes) bytes

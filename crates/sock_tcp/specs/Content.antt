@@ -154,7 +154,8 @@ pub record Sending : Type 0 where
 
 abbrev pub ip_of : View → Tuple → Segment → IpRepr
 ip_of v t s =
-    ip_header t.local.addr t.remote.addr protocol.Tcp (segment_header_len s + length s.payload) (hop_limit_of v.hop_limit)
+    ip_header t.local.addr t.remote.addr protocol.Tcp (segment_header_len s + length s.payload)
+    (hop_limit_of v.hop_limit)
 
 abbrev pub sent_as : View → Tuple → Kind → Segment → Sending
 sent_as v t k s = record { ip = ip_of v t (of_kind k v s); segment = of_kind k v s; kind = k }

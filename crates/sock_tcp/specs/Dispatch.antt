@@ -55,4 +55,5 @@ EmitsTo g f facts tells clock (Some t) v c r w c' = EmitsStamped g f facts tells
 unfoldable pub Dispatches : {F C E G : Type 0} → EmitTcp F C E → F → Facts → (G → ℕ → Type 0) → Option G
     → View → C → Result (Unit {0}) E → View → C → Type 0
 Dispatches g f facts tells clock v c r w c' =
-    EmitsTo g f facts tells clock (before_emit v facts (is_some clock)).peer (before_emit v facts (is_some clock)).view c r w c'
+    EmitsTo g f facts tells clock (before_emit v facts (is_some clock)).peer
+    (before_emit v facts (is_some clock)).view c r w c'

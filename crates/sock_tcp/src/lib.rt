@@ -36,4 +36,6 @@ pub use socket::{Socket, SocketBuffer};
 pub use state::State;
 
 #[cfg(test)]
+mod poll_tests;
+#[cfg(test)]
 mod tests;

@@ -3,6 +3,7 @@ ghost use Rattle.std.specs.Prelude.{◌≡◌, Ok, is_some};
 ghost use Rattle.sock_tcp.specs.View.{IsShort, moment_of};
 ghost use Rattle.sock_tcp.specs.Timers.{IsLastTs};
 ghost use Rattle.sock_tcp.specs.Polls.{is_reached, earlier, timeout_poll, IsLater};
+ghost use Rattle.sock_tcp.specs.Dispatch.{Dispatches};
 ghost use Rattle.sock_tcp.specs.Poll.{is_due_now, poll_moment, PollHidesNothing, PayloadKeepsToWindows};
 
 use crate::control_block::ControlBlock;
@@ -97,7 +98,7 @@ pub fn poll_at_hides_nothing()
     ensures { PollHidesNothing }
 {}
 
-/// A `dispatch` before the moment that `poll_at` answered emits nothing and leaves the context as it was.
+/// A `dispatch` before the moment that `poll_at` answered: it emits nothing and leaves the context as it was.
 pub fn dispatch_early<
     G: TsvalSource,
     C: Context,
@@ -110,6 +111,8 @@ pub fn dispatch_early<
         (moment_of (C.facts cx.old)) }
     ensures answer { result ≡ Ok tt }
     ensures context { cx.new ≡ cx.old }
+    ensures table { Dispatches F.FnOnce emit (C.facts cx.old) G.tells socket.old.tsval_generator
+        socket.old.control_block cx.old result socket.new.control_block cx.new }
 {
     socket.dispatch(cx, emit)
 }

@@ -15,8 +15,8 @@ use std::test::Fail;
 
 // A host that has every address, whose clock stands at 0 and whose next word is always the same.
 #[derive(Drop)]
-struct Interface {
-    word: u32,
+pub(crate) struct Interface {
+    pub word: u32,
 }
 
 impl Context for Interface {
@@ -70,17 +70,17 @@ impl Context for Interface {
     }
 }
 
-const A: IpEndpoint = IpEndpoint {
+pub(crate) const A: IpEndpoint = IpEndpoint {
     addr: IpAddress::Ipv4(Ipv4Address([10, 0, 0, 1])),
     port: 49152,
 };
 
-const B: IpEndpoint = IpEndpoint {
+pub(crate) const B: IpEndpoint = IpEndpoint {
     addr: IpAddress::Ipv4(Ipv4Address([10, 0, 0, 2])),
     port: 80,
 };
 
-fn at(endpoint: IpEndpoint) -> IpListenEndpoint {
+pub(crate) fn at(endpoint: IpEndpoint) -> IpListenEndpoint {
     IpListenEndpoint {
         addr: Some(endpoint.addr),
         port: endpoint.port,
@@ -165,7 +165,7 @@ fn answer<'a>(control: TcpControl, seq: u32, payload: &'a [u8]) -> TcpRepr<'a> {
 }
 
 // The sequence number and the payload of what is emitted.
-fn emitted(
+pub(crate) fn emitted(
     socket: &mut Socket<'_>,
     cx: &mut Interface,
     fail: bool,
@@ -237,7 +237,11 @@ fn a_peer_sends_and_receives(rt: HostRuntime) -> Result<(), Fail> {
 }
 
 // A connection over these buffers, established by hand.
-fn established<'a>(rx: &'a mut [u8; 4], tx: &'a mut [u8; 4], cx: &mut Interface) -> Socket<'a> {
+pub(crate) fn established<'a>(
+    rx: &'a mut [u8; 4],
+    tx: &'a mut [u8; 4],
+    cx: &mut Interface,
+) -> Socket<'a> {
     let mut socket = Socket::new(RingBuffer::new(rx), RingBuffer::new(tx));
     let ip_repr = IpRepr::new(B.addr, A.addr, ip_wire::IpProtocol::Tcp, 20, 64);
     let _ = socket.connect(cx, B, at(A));
@@ -432,7 +436,7 @@ fn texts(rt: HostRuntime) -> Result<(), Fail> {
     Ok(())
 }
 
-fn clock() -> u32 {
+pub(crate) fn clock() -> u32 {
     7
 }
 

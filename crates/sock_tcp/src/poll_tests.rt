@@ -1,0 +1,104 @@
+//! When a socket wants its next dispatch, and what it emits for a keep-alive or a clock.
+use crate::poll::{dispatch_early, payload_keeps_to_windows, poll_at_hides_nothing};
+use crate::tests::{A, B, Interface, at, clock, emitted, established};
+use crate::timer::Timer;
+use crate::*;
+use control_wire::{TcpRepr, TcpTimestampRepr};
+use ip_wire::IpRepr;
+use net_base::ring_buffer::RingBuffer;
+use net_base::time::{Duration, Instant};
+use sock_core::PollAt;
+use std::test::Fail;
+
+#[test]
+fn a_dispatch_before_its_moment_emits_nothing(rt: HostRuntime) -> Result<(), Fail> {
+    let mut rx = [0u8; 4];
+    let mut tx = [0u8; 4];
+    let mut cx = Interface { word: 1000 };
+    let mut socket = Socket::new(RingBuffer::new(&mut rx), RingBuffer::new(&mut tx));
+    let early = match socket.poll_at(&cx) {
+        PollAt::Ingress => dispatch_early(
+            &mut socket,
+            &mut cx,
+            |_: &mut Interface, _sent: (IpRepr, TcpRepr<'_>)| -> Result<(), u8> { Err(1) },
+        ),
+        _ => Err(2),
+    };
+    assert_eq!(rt; early, Ok(()));
+    poll_at_hides_nothing();
+    payload_keeps_to_windows();
+    Ok(())
+}
+
+#[test]
+fn poll_moments_of_a_syn(rt: HostRuntime) -> Result<(), Fail> {
+    let mut rx = [0u8; 4];
+    let mut tx = [0u8; 4];
+    let mut cx = Interface { word: 1000 };
+    let mut socket = Socket::new(RingBuffer::new(&mut rx), RingBuffer::new(&mut tx));
+    assert_eq!(rt; socket.connect(&mut cx, B, at(A)), Ok(()));
+    assert_eq!(rt; socket.poll_at(&cx), PollAt::Now);
+    assert_eq!(rt;
+        emitted(&mut socket, &mut cx, false),
+        (Some((1000, 0)), true)
+    );
+    // the retransmission timeout of a new socket is a second
+    let second = Instant::from_secs(1);
+    assert_eq!(rt; socket.poll_at(&cx), PollAt::Time(second));
+    socket.set_timeout(Some(Duration::from_millis(500)));
+    let timeout = PollAt::Time(Instant::from_millis(500));
+    assert_eq!(rt; socket.poll_at(&cx), timeout);
+    Ok(())
+}
+
+// Nothing is waited for.
+fn rest(control_block: &mut ControlBlock<'_>) {
+    control_block.timer = Timer::Idle {
+        keep_alive_at: None,
+    };
+}
+
+#[test]
+fn a_keep_alive_stands_before_snd_una(rt: HostRuntime) -> Result<(), Fail> {
+    let mut rx = [0u8; 4];
+    let mut tx = [0u8; 4];
+    let mut cx = Interface { word: 1000 };
+    let mut socket = established(&mut rx, &mut tx, &mut cx);
+    assert_eq!(rt;
+        emitted(&mut socket, &mut cx, false),
+        (Some((1001, 0)), true)
+    );
+    rest(&mut socket.control_block);
+    assert_eq!(rt; socket.poll_at(&cx), PollAt::Ingress);
+    socket.set_keep_alive(Some(Duration::from_secs(1)));
+    assert_eq!(rt;
+        emitted(&mut socket, &mut cx, false),
+        (Some((1000, 1)), true)
+    );
+    assert_eq!(rt; emitted(&mut socket, &mut cx, false), (None, true));
+    let second = Instant::from_secs(1);
+    assert_eq!(rt; socket.poll_at(&cx), PollAt::Time(second));
+    Ok(())
+}
+
+#[test]
+fn a_syn_carries_a_timestamp(rt: HostRuntime) -> Result<(), Fail> {
+    let mut rx = [0u8; 4];
+    let mut tx = [0u8; 4];
+    let mut cx = Interface { word: 1000 };
+    let mut socket = Socket::new(RingBuffer::new(&mut rx), RingBuffer::new(&mut tx));
+    socket.set_tsval_generator(Some(clock));
+    assert_eq!(rt; socket.connect(&mut cx, B, at(A)), Ok(()));
+    let mut seen = None;
+    let answer = socket.dispatch(&mut cx, |_: &mut Interface, sent: (IpRepr, TcpRepr<'_>)| {
+        seen = sent.1.timestamp;
+        if sent.1.payload.is_empty() {
+            Ok(())
+        } else {
+            Err(())
+        }
+    });
+    assert_eq!(rt; answer, Ok(()));
+    assert_eq!(rt; seen, Some(TcpTimestampRepr::new(7, 0)));
+    Ok(())
+}
