@@ -98,11 +98,37 @@ fn six_bytes_from_a_side_with_a_generator(rt: HostRuntime) -> Result<(), Fail> {
     let read = Outcome::Read(Vec::from_slice(alloc, b"abcdef")?);
     happens(&rt, &mut pair, &recv, read);
     assert_eq!(rt; pair.handed_out(Side::B), b"abcdef".as_slice());
-    assert!(rt; pair.socket(Side::A).timestamp_enabled());
+    // the SYN|ACK had no timestamp
+    assert!(rt; !pair.socket(Side::A).timestamp_enabled());
     Ok(())
 }
 
-// A timestamp takes 12 bytes of each segment, and Nagle holds the rest back.
+// A sends 1500 bytes after the handshake, of which so many go out, and Nagle holds the rest back.
+fn sends_a_full_segment(
+    rt: &(impl Abort),
+    pair: &mut Pair<'_>,
+    bytes: Vec<u8>,
+    want: usize,
+) -> Result<(), Fail> {
+    opens(rt, pair);
+    let send = Event::SendSlice {
+        side: Side::A,
+        bytes,
+    };
+    happens(rt, pair, &send, Outcome::Accepted(1500));
+    happens(rt, pair, &dispatch(Side::A), Outcome::Emitted(3));
+    let Some(stored) = pair.segments().get(3) else {
+        return Err(Fail::new("no bytes are stored"));
+    };
+    let repr = stored.as_repr();
+    assert_eq!(rt; (repr.seq_number.0, repr.payload.len()), (1001, want));
+    assert_eq!(rt; repr.control, TcpControl::None);
+    assert_eq!(rt; repr.timestamp.is_some(), want < 1460);
+    happens(rt, pair, &dispatch(Side::A), Outcome::Quiet);
+    Ok(())
+}
+
+// A timestamp takes 12 bytes of each segment.
 #[test]
 fn timestamps_shrink_the_segment(rt: HostRuntime) -> Result<(), Fail> {
     let alloc = rt.alloc();
@@ -123,21 +149,33 @@ fn timestamps_shrink_the_segment(rt: HostRuntime) -> Result<(), Fail> {
         generator: Some(clock),
     };
     let mut pair = Pair::new(alloc, a, b, Some(2000));
-    opens(&rt, &mut pair);
-    let send = Event::SendSlice {
-        side: Side::A,
-        bytes: Vec::from_slice(alloc, &[b'x'; 1500])?,
+    let bytes = Vec::from_slice(alloc, &[b'x'; 1500])?;
+    sends_a_full_segment(&rt, &mut pair, bytes, 1448)
+}
+
+#[test]
+fn timestamps_need_both_sides(rt: HostRuntime) -> Result<(), Fail> {
+    let alloc = rt.alloc();
+    let mut arx = [0u8; 2000];
+    let mut atx = [0u8; 2000];
+    let mut brx = [0u8; 2000];
+    let mut btx = [0u8; 2000];
+    let a = Setup {
+        rx: RingBuffer::new(&mut arx),
+        tx: RingBuffer::new(&mut atx),
+        endpoint: A,
+        generator: Some(clock),
     };
-    happens(&rt, &mut pair, &send, Outcome::Accepted(1500));
-    happens(&rt, &mut pair, &dispatch(Side::A), Outcome::Emitted(3));
-    let Some(stored) = pair.segments().get(3) else {
-        return Err(Fail::new("no bytes are stored"));
+    let b = Setup {
+        rx: RingBuffer::new(&mut brx),
+        tx: RingBuffer::new(&mut btx),
+        endpoint: B,
+        generator: None,
     };
-    let repr = stored.as_repr();
-    assert_eq!(rt; (repr.seq_number.0, repr.payload.len()), (1001, 1448));
-    assert_eq!(rt; repr.control, TcpControl::None);
-    assert!(rt; repr.timestamp.is_some());
-    happens(&rt, &mut pair, &dispatch(Side::A), Outcome::Quiet);
+    let mut pair = Pair::new(alloc, a, b, Some(2000));
+    let bytes = Vec::from_slice(alloc, &[b'x'; 1500])?;
+    sends_a_full_segment(&rt, &mut pair, bytes, 1460)?;
+    assert!(rt; !pair.socket(Side::A).timestamp_enabled());
     Ok(())
 }
 

@@ -91,7 +91,7 @@ fn faults_are_printed(rt: HostRuntime) -> Result<(), Fail> {
     for (line, want) in [
         ("jump a", "line 2: unknown event"),
         (PAIR, "line 2: unknown event"),
-        ("close a", "line 2: unknown event"),
+        ("close", "line 2: wrong number of words"),
         ("deliver 0 0", "line 2: wrong number of words"),
         ("send c x", "line 2: bad word"),
         ("recv a 1048577", "line 2: bad word"),

@@ -170,8 +170,9 @@ fn bytes_ahead_of_a_gap_are_held(rt: HostRuntime) -> Result<(), Fail> {
         "nagle a off\nsend a abc\ndispatch a 0\nsend a def\ndispatch a 0\ndeliver 4 0 0\nrecv b 6\n\
         deliver 3 0 0\nrecv b 6\n",
         "done\naccepted 3\nemitted 3 PSH|ACK seq 1001 ack 5001 win 64 len 3\n\
-        accepted 3\nemitted 4 PSH|ACK seq 1004 ack 5001 win 64 len 3\ndelivered\nread 0\n\
-        delivered\nread 6 abcdef\n\
+        accepted 3\nemitted 4 PSH|ACK seq 1004 ack 5001 win 64 len 3\n\
+        delivered reply 5 ACK seq 5001 ack 1001 win 64 len 0\nread 0\n\
+        delivered reply 6 ACK seq 5001 ack 1007 win 58 len 0\nread 6 abcdef\n\
         a ESTABLISHED accepted 6 handed-out 0 queued 0\n\
         b ESTABLISHED accepted 0 handed-out 6 queued 0\n",
     )
