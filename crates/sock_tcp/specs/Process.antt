@@ -26,6 +26,8 @@ use Rattle.sock_tcp.specs.Timers.{after, close_from, challenge_interval}
 use Rattle.sock_tcp.specs.declared.acked.Acked.{Acked}
 use Rattle.sock_tcp.specs.declared.advance.Next.{Next}
 use Rattle.sock_tcp.specs.declared.advance.Next.TheVariants as next
+use Rattle.sock_tcp.specs.declared.process.Answer.{Answer}
+use Rattle.sock_tcp.specs.declared.process.Answer.TheVariants as answers
 use Rattle.sock_tcp.specs.declared.timer.Timer.{Timer}
 use Rattle.sock_tcp.specs.declared.state.State.{State}
 use Rattle.sock_tcp.specs.declared.state.State.TheVariants as state
@@ -78,6 +80,14 @@ stopped v = record { view = v; reply = None }
 
 abbrev pub acked : View → Segment → Outcome
 acked v s = record { view = ack_kept v; reply = Some (ack_segment v s) }
+
+abbrev pub rst_sent : View → Segment → Outcome
+rst_sent v s = record { view = v; reply = Some (rst_segment s) }
+
+abbrev pub answered : Answer → View → Segment → Outcome
+answered answers.Nothing v s = stopped v
+answered answers.Ack v s = acked v s
+answered answers.Rst v s = rst_sent v s
 
 -- an ACK, at most one a second
 unfoldable pub challenged : View → Instant → Segment → Outcome
@@ -162,7 +172,7 @@ tested true v now word ip s =
 
 abbrev pub by_verdict : Verdict → View → Instant → ℕ → IpRepr → Segment → Outcome
 by_verdict verdicts.Drop v now word ip s = stopped v
-by_verdict verdicts.Reset v now word ip s = record { view = v; reply = Some (rst_segment s) }
+by_verdict verdicts.Reset v now word ip s = rst_sent v s
 by_verdict verdicts.Challenge v now word ip s = challenged v now s
 by_verdict verdicts.Pass v now word ip s = tested (has_window v.state) v now word ip s
 

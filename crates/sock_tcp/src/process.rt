@@ -1,18 +1,17 @@
 //! `accepts` and `process` (RFC 9293, section 3.10.7).
 ghost use Rattle.std.specs.Prelude.{◌≡◌, ◌+◌, ◌≤◌, ◌↔◌, IsTrue, length, option_map, [], None};
 ghost use Rattle.std.specs.Option.{ForSome};
-ghost use Rattle.control_wire.specs.Segment.{segment_of};
+ghost use Rattle.control_wire.specs.Segment.{Segment, segment_of};
 ghost use Rattle.sock_core.specs.Bounds.{IsMoment};
 ghost use Rattle.sock_tcp.specs.Verdict.{verdict_of};
 ghost use Rattle.sock_tcp.specs.declared.verdict.Verdict.TheVariants.{Pass};
 ghost use Rattle.sock_tcp.specs.View.{moment_of};
 ghost use Rattle.sock_tcp.specs.Process.{IsBetween, IsToListener, IsAddressed, Opens, Accepts, tuple_of, has_window, drops_generator};
-ghost use Rattle.sock_tcp.specs.Process.{challenged, close_restarted, outside, bytes_taken, processed_inside, tested, processed};
+ghost use Rattle.sock_tcp.specs.Process.{answered, challenged, close_restarted, outside, bytes_taken, processed_inside, tested, processed};
 ghost use Rattle.sock_tcp.specs.Draw.{draws, Draws};
 
 use crate::advance::Next;
 use crate::control_block::ControlBlock;
-use crate::reply::rst_segment;
 use crate::state::State;
 use crate::timer::{CHALLENGE_INTERVAL, Timer, after};
 use crate::tuple::Tuple;
@@ -21,6 +20,17 @@ use control_wire::{TcpControl, TcpRepr};
 use ip_wire::{IpEndpoint, IpListenEndpoint, IpRepr};
 use net_base::time::Instant;
 use sock_core::Context;
+
+/// How a segment is answered.
+#[derive(Debug, Clone, Copy, PartialEq, Eq)]
+pub enum Answer {
+    /// Not at all.
+    Nothing,
+    /// By an acknowledgement.
+    Ack,
+    /// By an RST.
+    Rst,
+}
 
 impl Tuple {
     // The tuple of the side that a segment goes to.
@@ -96,17 +106,15 @@ impl<'a> ControlBlock<'a> {
 
     // An ACK, at most one a second.
     #[tactic(auto, unfolding(crate::specs::Process::challenged))]
-    fn challenge(&mut self, now: Instant, repr: &TcpRepr<'_>) -> Option<TcpRepr<'static>>
+    fn challenge(&mut self, now: Instant) -> Answer
         requires { IsMoment now.micros }
-        ensures table { record { view = self.new; reply = option_map segment_of result }
-            ≡ challenged self.old now (segment_of repr.now) }
-        ensures bare { ForSome result (λ r. r.payload.now ≡ []) }
+        ensures { (s : Segment) → answered result self.new s ≡ challenged self.old now s }
     {
         if now.micros < self.challenge_ack_timer.micros {
-            return None;
+            return Answer::Nothing;
         }
         self.challenge_ack_timer = after(now, CHALLENGE_INTERVAL);
-        Some(self.ack_reply(repr))
+        Answer::Ack
     }
 
     // In TIME-WAIT its time begins anew.
@@ -122,52 +130,43 @@ impl<'a> ControlBlock<'a> {
 
     // The answer to a segment outside of the window.
     #[tactic(auto, unfolding(crate::specs::Process::outside))]
-    fn answer_outside(&mut self, now: Instant, repr: &TcpRepr<'_>) -> Option<TcpRepr<'static>>
+    fn answer_outside(&mut self, now: Instant, repr: &TcpRepr<'_>) -> Answer
         requires { IsMoment now.micros }
-        ensures table { record { view = self.new; reply = option_map segment_of result }
+        ensures table { answered result self.new (segment_of repr.now)
             ≡ outside self.old now (segment_of repr.now) }
-        ensures bare { ForSome result (λ r. r.payload.now ≡ []) }
     {
         match (repr.control, repr.payload.len()) {
-            (TcpControl::Rst, _) => None,
+            (TcpControl::Rst, _) => Answer::Nothing,
             (TcpControl::Syn, _) | (_, 0) => {
                 self.restart_close(now);
-                self.challenge(now, repr)
+                self.challenge(now)
             }
             _ => {
                 self.restart_close(now);
-                Some(self.ack_reply(repr))
+                Answer::Ack
             }
         }
     }
 
     // The bytes that the window takes, the first of them so far past RCV.NXT; an ACK tells of a gap.
     #[tactic(auto, unfolding(crate::specs::Process::bytes_taken))]
-    fn take_bytes(
-        &mut self,
-        now: Instant,
-        offset: usize,
-        bytes: &[u8],
-        repr: &TcpRepr<'_>,
-    ) -> Option<TcpRepr<'static>>
+    fn take_bytes(&mut self, now: Instant, offset: usize, bytes: &[u8]) -> Answer
         requires moment { IsMoment now.micros }
         requires fits { offset + length bytes.now ≤ length self.old.rx_buffer.held }
-        ensures table { record { view = self.new; reply = option_map segment_of result }
-            ≡ bytes_taken self.old now offset bytes.now (segment_of repr.now) }
-        ensures bare { ForSome result (λ r. r.payload.now ≡ []) }
+        ensures table { (s : Segment) → answered result self.new s ≡ bytes_taken self.old now offset bytes.now s }
     {
         if bytes.is_empty() {
-            return None;
+            return Answer::Nothing;
         }
         let had_no_gap = self.rx_buffer.holds_nothing();
         if !self.join(offset, bytes) {
-            return None;
+            return Answer::Nothing;
         }
         self.delay_ack(now);
         if had_no_gap && self.rx_buffer.holds_nothing() {
-            return None;
+            return Answer::Nothing;
         }
-        Some(self.ack_reply(repr))
+        Answer::Ack
     }
 
     // The state table, and the steps behind it.
@@ -181,23 +180,22 @@ impl<'a> ControlBlock<'a> {
         bytes: &[u8],
         ip_repr: &IpRepr,
         repr: &TcpRepr<'_>,
-    ) -> Option<TcpRepr<'static>>
+    ) -> Answer
         requires moment { IsMoment now.micros }
         requires passed { verdict_of self.old repr.now.control repr.now.ack_number ≡ Pass }
         requires fits { offset + length bytes.now ≤ length self.old.rx_buffer.held }
-        ensures table { record { view = self.new; reply = option_map segment_of result }
+        ensures table { answered result self.new (segment_of repr.now)
             ≡ processed_inside self.old now (C.word_at cx.old 0) control offset bytes.now ip_repr.now
             (segment_of repr.now) }
-        ensures bare { ForSome result (λ r. r.payload.now ≡ []) }
         ensures context { Draws (draws Pass self.old.state control) C.facts C.word_at cx.old cx.new }
     {
         let acked = self.passed(repr.control, repr.ack_number);
         match self.advance(cx, now, control, acked, ip_repr, repr) {
-            Next::Stop => None,
-            Next::Challenge => self.challenge(now, repr),
+            Next::Stop => Answer::Nothing,
+            Next::Challenge => self.challenge(now),
             Next::Continue => {
                 self.hear(now, acked, repr);
-                self.take_bytes(now, offset, bytes, repr)
+                self.take_bytes(now, offset, bytes)
             }
         }
     }
@@ -209,13 +207,12 @@ impl<'a> ControlBlock<'a> {
         now: Instant,
         ip_repr: &IpRepr,
         repr: &TcpRepr<'_>,
-    ) -> Option<TcpRepr<'static>>
+    ) -> Answer
         requires moment { IsMoment now.micros }
         requires passed { verdict_of self.old repr.now.control repr.now.ack_number ≡ Pass }
         requires small { length repr.now.payload.now ≤ 65535 }
-        ensures table { record { view = self.new; reply = option_map segment_of result }
+        ensures table { answered result self.new (segment_of repr.now)
             ≡ tested (has_window self.old.state) self.old now (C.word_at cx.old 0) ip_repr.now (segment_of repr.now) }
-        ensures bare { ForSome result (λ r. r.payload.now ≡ []) }
         ensures context { Draws (draws Pass self.old.state repr.now.control) C.facts C.word_at cx.old cx.new }
     {
         if !self.has_window() {
@@ -240,19 +237,18 @@ impl<'a> ControlBlock<'a> {
         cx: &mut C,
         ip_repr: &IpRepr,
         repr: &TcpRepr<'_>,
-    ) -> Option<TcpRepr<'static>>
+    ) -> Answer
         requires { length repr.now.payload.now ≤ 65535 }
-        ensures table { record { view = self.new; reply = option_map segment_of result }
+        ensures table { answered result self.new (segment_of repr.now)
             ≡ processed self.old (moment_of (C.facts cx.old)) (C.word_at cx.old 0) ip_repr.now (segment_of repr.now) }
-        ensures bare { ForSome result (λ r. r.payload.now ≡ []) }
         ensures context { Draws (draws (verdict_of self.old repr.now.control repr.now.ack_number) self.old.state
             repr.now.control) C.facts C.word_at cx.old cx.new }
     {
         let now = cx.now();
         match self.verdict(repr.control, repr.ack_number) {
-            Verdict::Drop => None,
-            Verdict::Reset => Some(rst_segment(repr)),
-            Verdict::Challenge => self.challenge(now, repr),
+            Verdict::Drop => Answer::Nothing,
+            Verdict::Reset => Answer::Rst,
+            Verdict::Challenge => self.challenge(now),
             Verdict::Pass => self.process_passed(cx, now, ip_repr, repr),
         }
     }

@@ -14,7 +14,8 @@ ghost use Rattle.sock_tcp.specs.Replies.{IsStamp};
 use crate::control_block::ControlBlock;
 use crate::error::{ConnectError, ListenError, RecvError, SendError};
 use crate::generator::{Generator, TsvalSource};
-use crate::reply::Reply;
+use crate::process::Answer;
+use crate::reply::{Reply, rst_segment};
 use crate::state::State;
 use control_wire::TcpRepr;
 use ip_wire::{IpEndpoint, IpListenEndpoint, IpRepr};
@@ -295,8 +296,12 @@ impl<'a, G: TsvalSource> Socket<'a, G> {
             self.tsval_generator = None;
         }
         match self.control_block.process(cx, ip_repr, repr) {
-            None => None,
-            Some(reply) => Some(self.answer(ip_repr, repr, reply)),
+            Answer::Nothing => None,
+            Answer::Ack => {
+                let reply = self.control_block.ack_reply(repr);
+                Some(self.answer(ip_repr, repr, reply))
+            }
+            Answer::Rst => Some(self.answer(ip_repr, repr, rst_segment(repr))),
         }
     }
 }
