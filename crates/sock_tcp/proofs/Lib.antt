@@ -7,3 +7,8 @@ pub mod Emitting
 pub mod Sending
 pub mod Frames
 pub mod Receiving
+pub mod Releasing
+pub mod DispatchFrames
+pub mod PayloadParts
+pub mod SocketSteps
+pub mod CallsAsSteps

@@ -24,3 +24,4 @@ pub mod Poll
 pub mod Texts
 pub mod Outgoing
 pub mod Laws
+pub mod SocketRun
