@@ -12,3 +12,4 @@ pub mod DispatchFrames
 pub mod PayloadParts
 pub mod SocketSteps
 pub mod CallsAsSteps
+pub mod BytesAtPlaces

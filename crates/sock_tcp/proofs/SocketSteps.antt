@@ -180,7 +180,7 @@ connect_kept (Err x) v w k word small c e = unchanged v w k c e
 
 -- ---- listen
 
-same_number : (a b : ℕ) → ((a ≡ b → ⊥) → ⊥) → a ≡ b
+pub same_number : (a b : ℕ) → ((a ≡ b → ⊥) → ⊥) → a ≡ b
 same_number a b h = go (eqb a b) refl
   where
     go : (t : Bool) → eqb a b ≡ t → a ≡ b
@@ -213,11 +213,11 @@ not_changed v w k c h =
       receive_queue = c.receive_queue ∙ ap (λ x. k.handed ++ x) (sym rx);
     }
 
-listening_is : (st : State) → is_listening st ≡ true → st ≡ state.Listen
+pub listening_is : (st : State) → is_listening st ≡ true → st ≡ state.Listen
 listening_is state.Listen e = refl
 listening_is _ e = absurd cc
 
-not_zero : (n : ℕ) → (n == 0) ≡ false → 0 < n
+pub not_zero : (n : ℕ) → (n == 0) ≡ false → 0 < n
 not_zero zero e = absurd cc
 not_zero (suc n) e = omega arith
 
@@ -351,9 +351,12 @@ promises v k c = record {
         go true e = absurd (none-some out (sym (subst (λ (b : Begun). SendsTo b.peer f stamps b.view (Some out) w) (before_resets f stamps v e).is h).0))
         go false e = sends_part (before_emit v f stamps).peer f stamps k v (before_emit v f stamps).view w out c.transmit_queue (before_keeps f stamps v e) c.una_small h n
 
-pub keeps_its_streams : (rx tx : Ring ℕ) (w : View) (j : Counts) → length rx.queue + length rx.spare ≤ 2 ^ 30 → Run (fresh (receiving rx) (queue_of tx)) (starting (fresh (receiving rx) (queue_of tx))) w j → Promised w j
+pub holds_after : (rx tx : Ring ℕ) (w : View) (j : Counts) → length rx.queue + length rx.spare ≤ 2 ^ 30 → Run (fresh (receiving rx) (queue_of tx)) (starting (fresh (receiving rx) (queue_of tx))) w j → Holds w j
 unfolding fresh
-keeps_its_streams rx tx w j room r =
+holds_after rx tx w j room r =
     let v = fresh (receiving rx) (queue_of tx) in
     let long = length-replicate {A = Option ℕ} (length rx.spare) None in
-    promises w j (run_keeps v w (starting v) j r (starts v (omega arith) (omega (arith, room, long)) (none_first (length rx.spare))))
+    run_keeps v w (starting v) j r (starts v (omega arith) (omega (arith, room, long)) (none_first (length rx.spare)))
+
+pub keeps_its_streams : (rx tx : Ring ℕ) (w : View) (j : Counts) → length rx.queue + length rx.spare ≤ 2 ^ 30 → Run (fresh (receiving rx) (queue_of tx)) (starting (fresh (receiving rx) (queue_of tx))) w j → Promised w j
+keeps_its_streams rx tx w j room r = promises w j (holds_after rx tx w j room r)

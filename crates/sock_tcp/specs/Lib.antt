@@ -25,3 +25,4 @@ pub mod Texts
 pub mod Outgoing
 pub mod Laws
 pub mod SocketRun
+pub mod SocketBytes

@@ -1,5 +1,7 @@
 -- One socket over any list of calls: what it was given and what came, and what is promised of both.
-use Rattle.std.specs.Prelude.{ℕ, ◌≡◌, ◌+◌, ◌-◌, ◌<◌, ◌≤◌, ◌^◌, List, [], ◌++◌, length, take, drop, Option, Some, None, is_some, Result, Ok, Err, is_ok, Bool, true, false, not, ◌==◌, ◌&&◌, ◌||◌, if◌then◌else◌, option_map}
+use Rattle.std.specs.Prelude.{ℕ, ◌≡◌, ◌+◌, ◌-◌, ◌<◌, ◌≤◌, ◌^◌, List, [], ◌++◌, length, take, drop}
+use Rattle.std.specs.Prelude.{Option, Some, None, is_some, option_map, Result, Ok, Err, is_ok}
+use Rattle.std.specs.Prelude.{Bool, true, false, not, ◌==◌, ◌&&◌, ◌||◌, if◌then◌else◌}
 use Rattle.std.specs.Option.{ForSome}
 use Rattle.ip_wire.specs.declared.endpoint.IpEndpoint.{IpEndpoint}
 use Rattle.ip_wire.specs.declared.endpoint.IpListenEndpoint.{IpListenEndpoint}
@@ -21,7 +23,8 @@ use Rattle.sock_tcp.specs.Opening.{after_connect, endpoints, is_listening, is_op
 use Rattle.sock_tcp.specs.Process.{processed}
 use Rattle.sock_tcp.specs.Outgoing.{packet_of}
 use Rattle.sock_tcp.specs.Queue.{IsLent}
-use Rattle.sock_tcp.specs.Queues.{fitting, may_recv, may_send, Sends, SendsWithIf, SendsWith, Writes, Reads, ReadsWithIf, ReadsWith}
+use Rattle.sock_tcp.specs.Queues.{fitting, may_send, Sends, SendsWithIf, SendsWith, Writes}
+use Rattle.sock_tcp.specs.Queues.{may_recv, Reads, ReadsWithIf, ReadsWith}
 use Rattle.sock_tcp.specs.Sent.{left_by}
 use Rattle.sock_tcp.specs.Settings.{of_kind}
 use Rattle.sock_tcp.specs.Timers.{is_close_over}

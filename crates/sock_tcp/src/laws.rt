@@ -1,6 +1,6 @@
-//! What is promised of one socket beyond its case tables, as laws: functions whose contracts are the laws and whose bodies
-//! are empty.
-ghost use Rattle.std.specs.Prelude.{ℕ, ◌+◌, ◌≤◌, ◌<◌, ◌^◌, List, length, is_some};
+//! What is promised of one socket beyond its case tables, as laws: functions whose contracts are the laws. Their bodies
+//! are empty, or the one call that the law speaks of.
+ghost use Rattle.std.specs.Prelude.{ℕ, ◌≡◌, ◌+◌, ◌≤◌, ◌<◌, ◌^◌, List, length, is_some, false};
 ghost use Rattle.std.specs.Fn.{FnOnceReturnsAt, FnOnceReturnsAtMut};
 ghost use Rattle.ip_wire.specs.declared.repr.IpRepr.{IpRepr};
 ghost use Rattle.net_base.specs.Ring.{Ring};
@@ -11,7 +11,8 @@ ghost use Rattle.sock_tcp.specs.Laws.{MayTake};
 ghost use Rattle.sock_tcp.specs.Process.{processed};
 ghost use Rattle.sock_tcp.specs.Queue.{queue_of};
 ghost use Rattle.sock_tcp.specs.Queues.{SendsWith, ReadsWith};
-ghost use Rattle.sock_tcp.specs.SocketRun.{Counts, Run, Promised, starting, DispatchesOut};
+ghost use Rattle.sock_tcp.specs.SocketBytes.{begins, KeepsPlaces};
+ghost use Rattle.sock_tcp.specs.SocketRun.{Counts, Step, Run, Promised, starting, DispatchesOut};
 ghost use Rattle.sock_tcp.specs.SocketRun.{any_filling, answer_of, any_taking, read_answer_of};
 ghost use Rattle.sock_tcp.specs.View.{View, fresh};
 
@@ -22,8 +23,8 @@ use control_wire::TcpRepr;
 use ip_wire::IpRepr;
 use sock_core::Context;
 
-/// A segment, whichever it is, does nothing to the receive buffer but that its in-window bytes come at their offset from
-/// RCV.NXT: the receive queue is only appended to.
+/// A segment, whichever it is, does nothing to the receive buffer but that its in-window bytes come at their offset
+/// from RCV.NXT: the receive queue is only appended to.
 pub fn process_only_appends()
     ensures { (v : View) (now : Instant) (word : ℕ) (ip : IpRepr) (s : Segment)
         → room_of v.rx_buffer ≤ 2 ^ 30 → s.seq_number.0 < 2 ^ 32 → length s.payload ≤ 65535
@@ -32,11 +33,12 @@ pub fn process_only_appends()
 
 /// The promise of one socket. After any list of calls on a new socket over any two buffers, with any segments, those of
 /// a hostile peer too, and while its connection lasts (from `listen`, `connect` or a return to LISTEN up to the next
-/// reset or such return, where all counts begin anew with what then stands in the queues):
+/// reset or such return; all counts then begin anew, with what stands in the queues: nothing after a reset, and what
+/// the connection left after a return to LISTEN, which empties neither queue):
 ///
 /// - the transmit queue is what the sending calls accepted, less the bytes that were released from its beginning;
-/// - what joined the receive queue is what the receiving calls handed out, followed by the receive queue, and behind
-///   that there is a gap;
+/// - what joined the receive queue is what the receiving calls handed out, followed by the receive queue, and the place
+///   behind it holds no byte, so that the queue is all of what came without a gap;
 /// - whatever segment comes next, the receive queue is only appended to, and no byte of it changes;
 /// - whatever the next `dispatch` sends, a keep-alive aside: a payload at the number n is the part of what was accepted
 ///   that begins n - SND.UNA bytes behind the released ones.
@@ -45,6 +47,19 @@ pub fn one_socket_keeps_its_streams()
         → length rx.queue + length rx.spare ≤ 2 ^ 30
         → Run (fresh (receiving rx) (queue_of tx)) (starting (fresh (receiving rx) (queue_of tx))) w j
         → Promised w j }
+{}
+
+/// The bytes of the peer's stream by their places, counted from the first that joined the receive queue, at any call
+/// after any list of calls on a new socket, while its connection lasts: each byte that joined stays at its place, and
+/// each that is held behind a gap stays at its own until it joins, but where a segment brings a later copy. Only a
+/// segment brings bytes: the part of it that lies inside the receive window, or none of it.
+pub fn bytes_stay_at_their_places()
+    ensures { (rx tx : Ring ℕ) (v w : View) (k j : Counts)
+        → length rx.queue + length rx.spare ≤ 2 ^ 30
+        → Run (fresh (receiving rx) (queue_of tx)) (starting (fresh (receiving rx) (queue_of tx))) v k
+        → (s : Step v k w j)
+        → begins v k w j s ≡ false
+        → KeepsPlaces v k w j s }
 {}
 
 /// A `dispatch` in the words of the law on lists of calls: there is a segment, or none, that the socket sends, and
