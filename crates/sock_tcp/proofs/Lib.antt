@@ -7,3 +7,9 @@ pub mod Emitting
 pub mod Sending
 pub mod Frames
 pub mod Receiving
+pub mod Releasing
+pub mod DispatchFrames
+pub mod PayloadParts
+pub mod SocketSteps
+pub mod CallsAsSteps
+pub mod BytesAtPlaces

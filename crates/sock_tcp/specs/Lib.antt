@@ -24,3 +24,5 @@ pub mod Poll
 pub mod Texts
 pub mod Outgoing
 pub mod Laws
+pub mod SocketRun
+pub mod SocketBytes
