@@ -6,7 +6,7 @@ use sock_tcp::{RecvError, SendError};
 use std::error::Error;
 use std::fmt;
 
-/// What an event came to. The last five change nothing.
+/// What an event came to. The last five leave both sides as they were; of these `NotAccepted` may store a segment.
 #[derive(Debug, PartialEq, Eq, Drop)]
 pub enum Outcome {
     /// `listen` or `connect` was called.

@@ -1,4 +1,4 @@
-//! The TCP socket of smoltcp. `process` is whole; `dispatch` has no timers yet.
+//! The TCP socket of smoltcp (RFC 9293).
 #![tactic(auto)]
 
 pub mod acked;
