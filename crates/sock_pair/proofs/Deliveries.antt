@@ -1,16 +1,17 @@
 -- What the code of a delivery shows, against its table.
-use Rattle.std.proofs.Common.{◌≡◌, ℕ, zero, suc, ◌<◌, true, false, List, [], ◌∷◌, ◌++◌, length, map, get_or, Option, Some, None, refl, sym, ap, subst, ◌∙◌, ◌⊎◌, arith}
-use Rattle.std.specs.Prelude.{slice_get}
+use Rattle.std.proofs.Common.{◌≡◌, ℕ, ◌+◌, ◌-◌, zero, suc, ◌<◌, true, false, List, [], ◌∷◌, ◌++◌, length, map, get_or, Option, Some, None, refl, sym, ap, subst, ◌∙◌, ◌⊎◌, arith}
+use Rattle.std.specs.Prelude.{slice_get, is_some, Bool, if◌then◌else◌}
 use Rattle.ip_wire.specs.declared.repr.IpRepr.{IpRepr}
 use Rattle.control_wire.specs.Segment.{Segment}
-use Rattle.sock_tcp.specs.Process.{Accepts}
+use Rattle.sock_tcp.specs.Process.{Accepts, drops_generator, generator_after}
+use Rattle.sock_tcp.specs.View.{View}
 use Rattle.control_wire.specs.declared.tcp.TcpControl.{TcpControl}
 use Rattle.control_wire.specs.declared.tcp.TcpControl.TheVariants as control
 use Rattle.control_wire.specs.declared.tcp.TcpTimestampRepr.{TcpTimestampRepr}
 use Rattle.sock_tcp.specs.Replies.{Answers, IsStamp}
 use Rattle.sock_pair.specs.Exchanges.{DeliversAt, TakesRoomAt}
 use Rattle.sock_pair.specs.Holding.{kept_at}
-use Rattle.sock_pair.specs.PairSteps.{is_too_old, IsAnyStamp, processed_by, delivered_to, refusal_of, refusal_reply, reply_index, DeliversTo}
+use Rattle.sock_pair.specs.PairSteps.{is_too_old, IsStampOf, processed_by, delivered_to, stamps_after, refusal_of, refusal_reply, reply_index, DeliversTo}
 use Rattle.sock_pair.specs.PairViews.{HostView, StoredView}
 use Rattle.sock_pair.specs.declared.moment.Moment.{Moment}
 use Rattle.sock_pair.specs.declared.outcome.Outcome.{Outcome}
@@ -33,25 +34,49 @@ get_same (x ∷ xs) (suc n) d e l = get_same xs n d e (omega arith)
 pub read_twice : {X : Type 0} (xs ys : List X) (n : ℕ) (a b : X) → n < length xs → ys ≡ xs → a ≡ get_or xs n a → b ≡ get_or ys n b → b ≡ a
 read_twice xs ys n a b l e p q = q ∙ ap (λ zs. get_or zs n b) e ∙ get_same xs n b a l ∙ sym p
 
--- whatever the source of timestamps
-any_stamp_at : {G : Type 0} (tells : G → ℕ → Type 0) (source : Option G) (came : Option TcpTimestampRepr) (c : TcpControl) (t : Option TcpTimestampRepr) → IsStamp tells source came c t → IsAnyStamp c t
-any_stamp_at tells source came control.None t x = tt
-any_stamp_at tells None came _ t x = x
-any_stamp_at tells (Some g) None _ t x = x
-any_stamp_at tells (Some g) (Some u) _ t x = x
+-- the timestamp of a reply, by whether there is a source of them
+stamp_at : {G : Type 0} (tells : G → ℕ → Type 0) (source : Option G) (came : Option TcpTimestampRepr) (c : TcpControl) (t : Option TcpTimestampRepr) → IsStamp tells source came c t → IsStampOf (is_some source) came c t
+stamp_at tells None came c t x = x
+stamp_at tells (Some g) None c t x = x
+stamp_at tells (Some g) (Some u) control.None (Some t) x = x.1
+stamp_at tells (Some g) (Some u) control.None None x = absurd x
+stamp_at tells (Some g) (Some u) control.Psh t x = x
+stamp_at tells (Some g) (Some u) control.Syn t x = x
+stamp_at tells (Some g) (Some u) control.Fin t x = x
+stamp_at tells (Some g) (Some u) control.Rst t x = x
 
-pub any_stamp : {G : Type 0} (tells : G → ℕ → Type 0) (source : Option G) (came : Option TcpTimestampRepr) (ip : IpRepr) (x : Option Segment) (r : Option (IpRepr × Segment)) → Answers (IsStamp tells source came) ip x r → Answers IsAnyStamp ip x r
-any_stamp tells source came ip None None a = tt
-any_stamp tells source came ip None (Some r) a = absurd a
-any_stamp tells source came ip (Some x) None a = absurd a
-any_stamp tells source came ip (Some x) (Some r) a = record { stamp = a.stamp; is_stamp = any_stamp_at tells source came x.control a.stamp a.is_stamp; is = a.is }
+pub stamps_of : {G : Type 0} (tells : G → ℕ → Type 0) (source : Option G) (came : Option TcpTimestampRepr) (ip : IpRepr) (x : Option Segment) (r : Option (IpRepr × Segment)) → Answers (IsStamp tells source came) ip x r → Answers (IsStampOf (is_some source) came) ip x r
+stamps_of tells source came ip None None a = tt
+stamps_of tells source came ip None (Some r) a = absurd a
+stamps_of tells source came ip (Some x) None a = absurd a
+stamps_of tells source came ip (Some x) (Some r) a = record { stamp = a.stamp; is_stamp = stamp_at tells source came x.control a.stamp a.is_stamp; is = a.is }
+
+-- whether there is a source of them after a segment
+pub source_after : {G : Type 0} (source : Option G) (w : Option G) (v : View) (s : Segment) → w ≡ generator_after v s source → is_some w ≡ stamps_after (is_some source) v s
+source_after source w v s e = ap is_some e ∙ go (drops_generator v s)
+  where
+    go : (b : Bool) → is_some (if b then None else source) ≡ (if b then false else is_some source)
+    go true = refl
+    go false = refl
+
+-- the side after a delivery, from what its fields then are
+pub delivered_as : (h u : HostView) (m : Moment) (t : StoredView) (w : View) (released taken : ℕ) (stamps : Bool) → u ≡ h → w ≡ (processed_by u m t).view
+    → released ≡ u.released + (length u.control_block.tx_buffer.bytes - length w.tx_buffer.bytes)
+    → taken ≡ u.taken + (length w.rx_buffer.bytes - length u.control_block.rx_buffer.bytes)
+    → stamps ≡ stamps_after u.stamps u.control_block t.segment
+    → record u { control_block = w; released = released; taken = taken; stamps = stamps } ≡ delivered_to h m t
+delivered_as h u m t w released taken stamps e view out came source =
+    let out_of : released ≡ u.released + (length u.control_block.tx_buffer.bytes - length (processed_by u m t).view.tx_buffer.bytes) = out ∙ ap (λ (v : View). u.released + (length u.control_block.tx_buffer.bytes - length v.tx_buffer.bytes)) view in
+    let came_of : taken ≡ u.taken + (length (processed_by u m t).view.rx_buffer.bytes - length u.control_block.rx_buffer.bytes) = came ∙ ap (λ (v : View). u.taken + (length v.rx_buffer.bytes - length u.control_block.rx_buffer.bytes)) view in
+    let same : record u { control_block = w; released = released; taken = taken; stamps = stamps } ≡ delivered_to u m t = λ i. record u { control_block = view i; released = out_of i; taken = came_of i; stamps = source i } in
+    same ∙ ap (λ k. delivered_to k m t) e
 
 -- the refusal of a segment with this control
 pub refused_by : (c : TcpControl) (t : StoredView) → t.segment.control ≡ c → refusal_of t ≡ refusal_reply c t
 refused_by c t e = ap (λ x. refusal_reply x t) e
 
 module _ (ts : List StoredView) (n : ℕ) (t : StoredView) (at : slice_get ts n ≡ Some t) (released taken : ℕ) (s : Side) (m : Moment) (h : HostView) where
-  pub delivers : (o : Outcome) (h' : HostView) (ts' : List StoredView) (r : Option (IpRepr × Segment)) → is_too_old t.released_at released t.taken_at taken ≡ false → Accepts h.control_block t.ip t.segment → h' ≡ delivered_to h m t → Answers IsAnyStamp t.ip (processed_by h m t).reply r → o ≡ outcome.Delivered (reply_index (length ts) r) → ts' ≡ ts ++ kept_at s r h'.released h'.taken → DeliversAt (slice_get ts n) released taken s m o h ts h' ts'
+  pub delivers : (o : Outcome) (h' : HostView) (ts' : List StoredView) (r : Option (IpRepr × Segment)) → is_too_old t.released_at released t.taken_at taken ≡ false → Accepts h.control_block t.ip t.segment → h' ≡ delivered_to h m t → Answers (IsStampOf (delivered_to h m t).stamps t.segment.timestamp) t.ip (processed_by h m t).reply r → o ≡ outcome.Delivered (reply_index (length ts) r) → ts' ≡ ts ++ kept_at s r h'.released h'.taken → DeliversAt (slice_get ts n) released taken s m o h ts h' ts'
   delivers o h' ts' r young ok is answers says stored =
       subst (λ x. DeliversAt x released taken s m o h ts h' ts') (sym at) (subst (λ b. DeliversTo b s m t o h ts h' ts') (sym young) (record {
         accepted = true;

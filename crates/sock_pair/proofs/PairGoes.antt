@@ -9,7 +9,7 @@ use Rattle.sock_pair.specs.Holding.{kept_at}
 use Rattle.sock_pair.specs.Moments.{facts_of}
 use Rattle.sock_pair.specs.PairAddresses.{AllGo, GoesFrom, endpoint_at}
 use Rattle.sock_pair.specs.PairInvariant.{IsPair}
-use Rattle.sock_pair.specs.PairSteps.{DeliversIf, DeliversTo, Dispatches, IsAnyStamp, delivered_to, processed_by, refusal_reply, stored_at}
+use Rattle.sock_pair.specs.PairSteps.{DeliversIf, DeliversTo, Dispatches, IsStampOf, delivered_to, processed_by, refusal_reply, stored_at}
 use Rattle.sock_pair.specs.PairViews.{HostView, PairView, StoredView, host_of}
 use Rattle.sock_pair.specs.Sides.{other_side}
 use Rattle.sock_pair.specs.declared.moment.Moment.{Moment}
@@ -22,7 +22,7 @@ use Rattle.sock_pair.proofs.PairHosts.{peer_at, version_at}
 pub dispatch_all : (s : Side) (p : PairView) (m : Moment) (fail : Bool) (o : Outcome) (k : HostView) (ts : List StoredView) → IsPair p → Dispatches s m fail o (host_of s p) p.segments k ts → AllGo (endpoint_at p) ts
 dispatch_all s p m fail o k ts i d =
     subst (AllGo (endpoint_at p)) (sym d.stored) (all_append (endpoint_at p) p.segments (stored_at s d.sent (host_of s p).released (host_of s p).taken) i.segments
-    (dispatch_goes (endpoint_at p) s (host_of s p).released (host_of s p).taken (host_of s p).control_block k.control_block (facts_of m) d.does.stamps fail d.sent (version_at s p i) (peer_at s p i) d.does.socket))
+    (dispatch_goes (endpoint_at p) s (host_of s p).released (host_of s p).taken (host_of s p).control_block k.control_block (facts_of m) (host_of s p).stamps fail d.sent (version_at s p i) (peer_at s p i) d.does.socket))
 
 -- the RST that answers a refused segment
 refusal_goes : (s : Side) (p : PairView) (t : StoredView) (c : TcpControl) (released taken : ℕ) → IsPair p → GoesFrom t (endpoint_at p (other_side s)) (endpoint_at p s) → AllGo (endpoint_at p) (kept_at s (refusal_reply c t) released taken)
@@ -41,7 +41,7 @@ deliver_all false s p m t o k ts i g d = go d.accepted d.does
 
     go : (b : Bool) → DeliversIf b s m t o h p.segments k ts → AllGo (endpoint_at p) ts
     go true x = subst (AllGo (endpoint_at p)) (sym x.stored) (all_append (endpoint_at p) p.segments _ i.segments
-        (reply_goes (endpoint_at p) s t (version_at s p i) g IsAnyStamp (processed_by h m t).reply x.reply (delivered_to h m t).released (delivered_to h m t).taken (process_back h.control_block (record { micros = m.now.micros }) m.word t.ip t.segment) x.is_reply))
+        (reply_goes (endpoint_at p) s t (version_at s p i) g (IsStampOf (delivered_to h m t).stamps t.segment.timestamp) (processed_by h m t).reply x.reply (delivered_to h m t).released (delivered_to h m t).taken (process_back h.control_block (record { micros = m.now.micros }) m.word t.ip t.segment) x.is_reply))
     go false x = subst (AllGo (endpoint_at p)) (sym x.stored) (all_append (endpoint_at p) p.segments _ i.segments (refusal_goes s p t t.segment.control h.released h.taken i g))
 
 -- a segment of the other side goes to this one

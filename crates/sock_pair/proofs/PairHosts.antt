@@ -175,9 +175,9 @@ idle_dispatches v w f stamps fail r e d = (subst (λ (b : Begun). SendsFrom b.pe
 pub dispatch_stays : {remote : IpEndpoint} (s : Side) (m : Moment) (fail : Bool) (o : Outcome) (h k : HostView) (ts ts' : List StoredView) → IsHost h → Dispatches s m fail o h ts k ts' → StaysHost remote h k
 dispatch_stays {remote} s m fail o h k ts ts' i d =
     let x : HostDispatches m fail h d.sent k = d.does in
-    let keeps : Keeps h.control_block k.control_block = keeps_in_dispatch h.control_block k.control_block (facts_of m) x.stamps fail d.sent x.socket in
+    let keeps : Keeps h.control_block k.control_block = keeps_in_dispatch h.control_block k.control_block (facts_of m) h.stamps fail d.sent x.socket in
     subst (StaysHost remote h) (sym x.same) (record {
-      host = record { reachable = i.reachable; idle = λ u. subst IsIdle (sym (idle_dispatches h.control_block k.control_block (facts_of m) x.stamps fail d.sent (i.idle u).tuple x.socket)) (i.idle u); passive = passive_kept h (record h { control_block = k.control_block }) i refl keeps.listener };
+      host = record { reachable = i.reachable; idle = λ u. subst IsIdle (sym (idle_dispatches h.control_block k.control_block (facts_of m) h.stamps fail d.sent (i.idle u).tuple x.socket)) (i.idle u); passive = passive_kept h (record h { control_block = k.control_block }) i refl keeps.listener };
       endpoint = refl;
       peer = λ p. keeps.peer (tuple_to h _) p;
     })
@@ -268,12 +268,12 @@ new_peer : (rx : Received) (tx : Queue) (t : Tuple) → IsPeered (fresh rx tx).s
 unfolding fresh
 new_peer rx tx t = inl refl
 
-new_is_host : (rx : Received) (tx : Queue) (e : IpEndpoint) → rx.bytes ≡ [] → tx.bytes ≡ [] → IsReachable e → IsHost (new_host (fresh rx tx) e)
-new_is_host rx tx e r t i = record { reachable = i; idle = λ u. new_idle rx tx r t; passive = λ shut live. absurd (shut refl) }
+new_is_host : (rx : Received) (tx : Queue) (e : IpEndpoint) (x : Bool) → rx.bytes ≡ [] → tx.bytes ≡ [] → IsReachable e → IsHost (new_host (fresh rx tx) e x)
+new_is_host rx tx e x r t i = record { reachable = i; idle = λ u. new_idle rx tx r t; passive = λ shut live. absurd (shut refl) }
 
-pub new_is_pair : (arx : Received) (atx : Queue) (brx : Received) (btx : Queue) (a b : IpEndpoint) (limit : Option ℕ) (ha hb : HostView) (ts : List StoredView) → ha ≡ new_host (fresh arx atx) a → hb ≡ new_host (fresh brx btx) b → ts ≡ [] → arx.bytes ≡ [] → atx.bytes ≡ [] → brx.bytes ≡ [] → btx.bytes ≡ [] → IsReachable a → IsReachable b → SameVersion a.addr b.addr → IsLimit limit → IsPair (record { a = ha; b = hb; segments = ts; limit = limit })
-new_is_pair arx atx brx btx a b limit ha hb ts ea eb et r1 t1 r2 t2 ia ib v l =
+pub new_is_pair : (arx : Received) (atx : Queue) (brx : Received) (btx : Queue) (a b : IpEndpoint) (x y : Bool) (limit : Option ℕ) (ha hb : HostView) (ts : List StoredView) → ha ≡ new_host (fresh arx atx) a x → hb ≡ new_host (fresh brx btx) b y → ts ≡ [] → arx.bytes ≡ [] → atx.bytes ≡ [] → brx.bytes ≡ [] → btx.bytes ≡ [] → IsReachable a → IsReachable b → SameVersion a.addr b.addr → IsLimit limit → IsPair (record { a = ha; b = hb; segments = ts; limit = limit })
+new_is_pair arx atx brx btx a b x y limit ha hb ts ea eb et r1 t1 r2 t2 ia ib v l =
     subst (λ h. IsPair (record { a = h; b = hb; segments = ts; limit = limit })) (sym ea)
-    (subst (λ h. IsPair (record { a = new_host (fresh arx atx) a; b = h; segments = ts; limit = limit })) (sym eb)
-    (subst (λ xs. IsPair (record { a = new_host (fresh arx atx) a; b = new_host (fresh brx btx) b; segments = xs; limit = limit })) (sym et)
-    (record { a = new_is_host arx atx a r1 t1 ia; b = new_is_host brx btx b r2 t2 ib; versions = v; peer_of_a = new_peer arx atx _; peer_of_b = new_peer brx btx _; segments = tt; network = starts limit l })))
+    (subst (λ h. IsPair (record { a = new_host (fresh arx atx) a x; b = h; segments = ts; limit = limit })) (sym eb)
+    (subst (λ xs. IsPair (record { a = new_host (fresh arx atx) a x; b = new_host (fresh brx btx) b y; segments = xs; limit = limit })) (sym et)
+    (record { a = new_is_host arx atx a x r1 t1 ia; b = new_is_host brx btx b y r2 t2 ib; versions = v; peer_of_a = new_peer arx atx _; peer_of_b = new_peer brx btx _; segments = tt; network = starts limit l })))

@@ -50,7 +50,7 @@ use Rattle.sock_pair.specs.PairViews.{HostView, StoredView, PairView, host_of, w
 use Rattle.sock_pair.specs.PairCalls.{listening, connecting, OpensAs, is_over, sending, Sends, SendsIf, SendsUnder, receiving, Receives, ReceivesIf, closing, Closes, aborting, Aborts, setting, Sets}
 use Rattle.sock_pair.specs.declared.setting.Setting.{Setting}
 use Rattle.sock_pair.proofs.PairAmounts.{takes_some, hands_some}
-use Rattle.sock_pair.specs.PairSteps.{EventStep, IsAnyStamp, refusal_of, refusal_reply, Delivers, Dispatches, stored_at, DeliversTo, DeliversIf, is_old, exchanged, processed_by, delivered_to}
+use Rattle.sock_pair.specs.PairSteps.{EventStep, IsStampOf, refusal_of, refusal_reply, Delivers, Dispatches, stored_at, DeliversTo, DeliversIf, is_old, exchanged, processed_by, delivered_to}
 use Rattle.sock_pair.specs.Recording.{Records, SendsTo, SendsFrom, SocketDispatches}
 use Rattle.sock_pair.specs.StreamCalls.{ProcessEffect}
 use Rattle.sock_pair.specs.StreamViews.{Dead, HasNoIss, SocketView, StreamSegment}
@@ -96,7 +96,7 @@ reply_stamped e (Some x) a is =
     let same : stream_segment x.1 e.released e.taken ≡ a = cc in
     subst (IsStamped e) same (record { released = omega arith; taken = omega arith })
 
-module _ (s : Side) (h o : HostView) (ks : List StoredView) (limit : Option ℕ) (m : Moment) (t : StoredView) (w : m.word < 2 ^ 32) (small : IsSmall t.segment) (there : Contains ks t) (from_other : t.emitter ≡ other_side s) (sock : IsSocket h.control_block) (young : is_old o t ≡ false) (accepted : Accepts h.control_block t.ip t.segment) (reply : Option (IpRepr × Segment)) (is_reply : Answers IsAnyStamp t.ip (processed_by h m t).reply reply) where
+module _ (s : Side) (h o : HostView) (ks : List StoredView) (limit : Option ℕ) (m : Moment) (t : StoredView) (w : m.word < 2 ^ 32) (small : IsSmall t.segment) (there : Contains ks t) (from_other : t.emitter ≡ other_side s) (sock : IsSocket h.control_block) (young : is_old o t ≡ false) (accepted : Accepts h.control_block t.ip t.segment) (reply : Option (IpRepr × Segment)) (is_reply : Answers (IsStampOf (delivered_to h m t).stamps t.segment.timestamp) t.ip (processed_by h m t).reply reply) where
   -- the segments, once the reply is stored
   abbrev with_reply : List StoredView
   with_reply = ks ++ kept_at s reply (delivered_to h m t).released (delivered_to h m t).taken
@@ -109,7 +109,7 @@ module _ (s : Side) (h o : HostView) (ks : List StoredView) (limit : Option ℕ)
       let come : Arrives n (shown_segment t) = record { sent = sent_has (other_side s) ks t there from_other; may = inr (may_arrive limit o t young) } in
       let does : ProcessEffect b (shown h.control_block) (shown (processed_by h m t).view) (shown_segment t) (shown_reply k.released k.taken reply) =
       subst (λ x. ProcessEffect x (shown h.control_block) (shown (processed_by h m t).view) (shown_segment t) (shown_reply k.released k.taken reply)) e
-      (subst (λ r. ProcessEffect (is_passive h.control_block) (shown h.control_block) (shown (processed_by h m t).view) (shown_segment t) r) (reply_shows IsAnyStamp t.ip (processed_by h m t).reply reply k.released k.taken is_reply)
+      (subst (λ r. ProcessEffect (is_passive h.control_block) (shown h.control_block) (shown (processed_by h m t).view) (shown_segment t) r) (reply_shows (IsStampOf (delivered_to h m t).stamps t.segment.timestamp) t.ip (processed_by h m t).reply reply k.released k.taken is_reply)
       (process_heard h.control_block (record { micros = m.now.micros }) m.word t.ip t.segment t.released_at t.taken_at k.released k.taken w small sock.receive sock.fin (bounded s h b h.control_block o ks limit i) accepted)) in
       subst (Reaches n) (stored_reply s (opened k b (processed_by h m t).view) (endpoint_of o) ks limit reply k.released k.taken)
       (delivery_reaches n (shown_segment t) come (shown (processed_by h m t).view) (shown_reply k.released k.taken reply) does
@@ -375,7 +375,7 @@ module _ (s : Side) (p : PairView) (host : IsHost (host_of s p)) (i : IsInvarian
   dispatch_reaches m fail o k ks e =
       exchanged_reached s p k ks (subst (λ h. Reaches (side_network s p (host_of s p) p.segments) (side_network s p h ks)) (sym e.does.same)
       (subst (λ ts. Reaches (side_network s p (host_of s p) p.segments) (side_network s p (record (host_of s p) { control_block = k.control_block }) ts)) (sym e.stored)
-      (dispatches_in s (host_of s p) (host_of (other_side s) p) p.segments p.limit k.control_block (facts_of m) e.does.stamps fail e.sent e.does.socket (host_of s p).opening host.idle (from_side s p i))))
+      (dispatches_in s (host_of s p) (host_of (other_side s) p) p.segments p.limit k.control_block (facts_of m) (host_of s p).stamps fail e.sent e.does.socket (host_of s p).opening host.idle (from_side s p i))))
 
   -- t is a segment of the other side
   pub deliver_reaches : (m : Moment) (t : StoredView) (o : Outcome) (k : HostView) (ks : List StoredView) → m.word < 2 ^ 32 → IsSmall t.segment → Contains p.segments t → t.emitter ≡ other_side s → IsSocket (host_of s p).control_block → HasPeer (host_of s p) (host_of (other_side s) p).endpoint → GoesFrom t (host_of (other_side s) p).endpoint (host_of s p).endpoint
@@ -469,5 +469,5 @@ event_reaches_if e p q (Ok o) i z x same = event_reaches e p o q i z x
 event_reaches_if e p q (Err x) i z y same = stays_there _ _ (ap network_of (sym same))
 
 -- a new pair
-pub new_shows : (v w : View) (a b : IpEndpoint) (limit : Option ℕ) → network_of (new_pair (new_host v a) (new_host w b) limit) ≡ start limit
-new_shows v w a b limit = refl
+pub new_shows : (v w : View) (a b : IpEndpoint) (x y : Bool) (limit : Option ℕ) → network_of (new_pair (new_host v a x) (new_host w b y) limit) ≡ start limit
+new_shows v w a b x y limit = refl

@@ -188,6 +188,6 @@ dispatch_short v w f stamps fail r one m d = sent_short (before_emit v f stamps)
 
 -- ---- the host around the socket
 
-pub host_dispatched : (m : Moment) (stamps fail : Bool) (u h : HostView) (r r' : Sent) (w : View) → u ≡ h → r' ≡ r → SocketDispatches u.control_block (facts_of m) stamps fail r w → HostDispatches m fail h r' (record u { control_block = w })
-host_dispatched m stamps fail u h r r' w e s x =
-    subst (λ y. HostDispatches m fail y r' (record u { control_block = w })) e (record { stamps = stamps; socket = subst (λ y. SocketDispatches u.control_block (facts_of m) stamps fail y w) (sym s) x; same = refl })
+pub host_dispatched : (m : Moment) (fail : Bool) (u h : HostView) (r r' : Sent) (w : View) (stamps : Bool) → u ≡ h → stamps ≡ u.stamps → r' ≡ r → SocketDispatches u.control_block (facts_of m) u.stamps fail r w → HostDispatches m fail h r' (record u { control_block = w; stamps = stamps })
+host_dispatched m fail u h r r' w stamps e b s x =
+    subst (λ y. HostDispatches m fail y r' (record u { control_block = w; stamps = stamps })) e (record { socket = subst (λ y. SocketDispatches u.control_block (facts_of m) u.stamps fail y w) (sym s) x; same = ap (λ (y : Bool). record u { control_block = w; stamps = y }) b })

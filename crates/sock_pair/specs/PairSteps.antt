@@ -1,11 +1,12 @@
 -- What an event does to a pair.
-use Rattle.std.specs.Prelude.{ℕ, ◌≡◌, ◌+◌, ◌-◌, ◌^◌, ◌++◌, ◌↔◌, ◌⊎◌, IsTrue, List, [], ◌∷◌, length, slice_get, Option, Some, None, option_map, Bool, true, false, nat_le, ◌||◌}
+use Rattle.std.specs.Prelude.{ℕ, ◌≡◌, ◌+◌, ◌-◌, ◌^◌, ◌++◌, ◌↔◌, ◌⊎◌, IsTrue, List, [], ◌∷◌, length, slice_get, Option, Some, None, option_map, Bool, true, false, nat_le, ◌||◌, if◌then◌else◌}
 use Rattle.ip_wire.specs.declared.repr.IpRepr.{IpRepr}
 use Rattle.control_wire.specs.Segment.{Segment}
 use Rattle.control_wire.specs.declared.tcp.TcpControl.{TcpControl}
 use Rattle.control_wire.specs.declared.tcp.TcpControl.TheVariants as control
 use Rattle.control_wire.specs.declared.tcp.TcpTimestampRepr.{TcpTimestampRepr}
-use Rattle.sock_tcp.specs.Process.{Accepts, Outcome as Processed, processed}
+use Rattle.sock_tcp.specs.Process.{Accepts, Outcome as Processed, drops_generator, processed}
+use Rattle.sock_tcp.specs.View.{View}
 use Rattle.sock_tcp.specs.Replies.{Answers, rst_segment, with_header}
 use Rattle.sock_pair.specs.Moments.{facts_of}
 use Rattle.sock_pair.specs.PairViews.{HostView, StoredView, PairView, host_of, with_host}
@@ -54,10 +55,8 @@ stored_at s sent.Quiet released taken = []
 stored_at s sent.Failed released taken = []
 stored_at s (sent.Emitted header bytes) released taken = stored_segment s header bytes.items released taken ∷ []
 
--- stamps: the socket has a source of timestamps
 pub record HostDispatches (m : Moment) (fail : Bool) (h : HostView) (r : Sent) (k : HostView) : Type 0 where
-  pub stamps : Bool
-  pub socket : SocketDispatches h.control_block (facts_of m) stamps fail r k.control_block
+  pub socket : SocketDispatches h.control_block (facts_of m) h.stamps fail r k.control_block
   pub same : k ≡ record h { control_block = k.control_block }
 
 pub record Dispatches (s : Side) (m : Moment) (fail : Bool) (o : Outcome) (h : HostView) (ks : List StoredView)
@@ -80,6 +79,10 @@ is_old emitter t = is_too_old t.released_at emitter.released t.taken_at emitter.
 abbrev pub processed_by : HostView → Moment → StoredView → Processed
 processed_by h m t = processed h.control_block (record { micros = m.now.micros }) m.word t.ip t.segment
 
+-- a SYN without a timestamp takes the source of them away
+abbrev pub stamps_after : Bool → View → Segment → Bool
+stamps_after stamps v s = if drops_generator v s then false else stamps
+
 -- the counts grow by the bytes that left the transmit queue and joined the receive queue
 abbrev pub delivered_to : HostView → Moment → StoredView → HostView
 delivered_to h m t =
@@ -88,6 +91,7 @@ delivered_to h m t =
       released = h.released +
           (length h.control_block.tx_buffer.bytes - length (processed_by h m t).view.tx_buffer.bytes);
       taken = h.taken + (length (processed_by h m t).view.rx_buffer.bytes - length h.control_block.rx_buffer.bytes);
+      stamps = stamps_after h.stamps h.control_block t.segment;
     }
 
 abbrev pub reply_index : ℕ → Option (IpRepr × Segment) → Option ℕ
@@ -96,16 +100,18 @@ reply_index n r = option_map (λ _. n) r
 abbrev pub IsUnchanged : HostView → List StoredView → HostView → List StoredView → Type 0
 IsUnchanged h ks h' ks' = (h' ≡ h) × (ks' ≡ ks)
 
--- an acknowledgement may have a timestamp
-abbrev pub IsAnyStamp : TcpControl → Option TcpTimestampRepr → Type 0
-IsAnyStamp control.None stamp = Unit {0}
-IsAnyStamp c stamp = stamp ≡ None
+-- an acknowledgement has a timestamp where the segment had one and the socket has a source of them: with any value of
+-- that, and with the one that came. An RST has none
+abbrev pub IsStampOf : Bool → Option TcpTimestampRepr → TcpControl → Option TcpTimestampRepr → Type 0
+IsStampOf true (Some came) control.None (Some t) = t.tsecr ≡ came.tsval
+IsStampOf true (Some came) control.None None = ⊥
+IsStampOf stamps came c stamp = stamp ≡ None
 
 -- the segment is processed, and the reply is stored with the counts after that
 pub record IsProcessed (s : Side) (m : Moment) (t : StoredView) (o : Outcome) (h : HostView) (ks : List StoredView)
     (h' : HostView) (ks' : List StoredView) : Type 0 where
   pub reply : Option (IpRepr × Segment)
-  pub is_reply : Answers IsAnyStamp t.ip (processed_by h m t).reply reply
+  pub is_reply : Answers (IsStampOf (delivered_to h m t).stamps t.segment.timestamp) t.ip (processed_by h m t).reply reply
   pub answer : o ≡ outcome.Delivered (reply_index (length ks) reply)
   pub host : h' ≡ delivered_to h m t
   pub stored : ks' ≡ ks ++ kept_at s reply (delivered_to h m t).released (delivered_to h m t).taken

@@ -19,6 +19,7 @@ pub record HostView : Type 0 where
   pub released : ℕ  -- how many bytes left its transmit queue by acknowledgement
   pub taken : ℕ  -- how many bytes joined its receive queue
   pub closed : Bool  -- a close found it in ESTABLISHED or CLOSE-WAIT
+  pub stamps : Bool  -- its socket has a source of timestamps
 
 -- a stored segment
 pub record StoredView : Type 0 where
@@ -42,8 +43,8 @@ abbrev pub with_host : Side → PairView → HostView → PairView
 with_host A p h = record p { a = h }
 with_host B p h = record p { b = h }
 
-abbrev pub new_host : View → IpEndpoint → HostView
-new_host v e =
+abbrev pub new_host : View → IpEndpoint → Bool → HostView
+new_host v e stamps =
     record {
       control_block = v;
       endpoint = e;
@@ -53,6 +54,7 @@ new_host v e =
       released = 0;
       taken = 0;
       closed = false;
+      stamps = stamps;
     }
 
 abbrev pub new_pair : HostView → HostView → Option ℕ → PairView

@@ -1,5 +1,5 @@
 -- What a replay writes, by how it ends.
-use Rattle.std.specs.Prelude.{◌≡◌, ℕ, ◌<◌, List, [], ◌∷◌, ◌++◌, length, replicate, Option, None, Ok, Err, IfSome, ◌⊎◌, slice_index}
+use Rattle.std.specs.Prelude.{false, ◌≡◌, ℕ, ◌<◌, List, [], ◌∷◌, ◌++◌, length, replicate, Option, None, Ok, Err, IfSome, ◌⊎◌, slice_index}
 use Rattle.std.specs.Io.KnownBytes.{Appends}
 use Rattle.ip_wire.specs.declared.address.IpAddress.TheVariants as address
 use Rattle.ip_wire.specs.declared.endpoint.IpEndpoint.{IpEndpoint}
@@ -31,7 +31,7 @@ abbrev pub empty_queue : ℕ → Queue
 empty_queue n = record { bytes = []; window = n }
 
 abbrev pub begun_host : ℕ → ℕ → IpEndpoint → HostView
-begun_host rx tx e = new_host (fresh (empty_receiver rx) (empty_queue tx)) e
+begun_host rx tx e = new_host (fresh (empty_receiver rx) (empty_queue tx)) e false
 
 -- two closed sockets with buffers of these sizes
 abbrev pub begun : ℕ → ℕ → ℕ → ℕ → Option ℕ → PairView

@@ -1,5 +1,5 @@
 //! One side of a pair: its socket, and what it accepted and handed out.
-ghost use Rattle.std.specs.Prelude.{◌≡◌, ◌+◌, ◌-◌, ◌≤◌, ◌<◌, ◌^◌, ◌++◌, ◌↔◌, IsTrue, length, option_map, Some, [], not, false, IfOk, OnOk, OnErr, vec_len, vec_capacity, min, take, true, MatchOption};
+ghost use Rattle.std.specs.Prelude.{◌≡◌, ◌+◌, ◌-◌, ◌≤◌, ◌<◌, ◌^◌, ◌++◌, ◌↔◌, IsTrue, length, option_map, Some, [], not, false, IfOk, OnOk, OnErr, vec_len, vec_capacity, min, take, true, MatchOption, is_some};
 ghost use Rattle.std.specs.Option.{ForSome};
 ghost use Rattle.control_wire.specs.Segment.{segment_of};
 ghost use Rattle.sock_tcp.specs.Process.{Accepts, processed, reply_of};
@@ -44,6 +44,7 @@ pub(crate) struct Host<'a, G = Generator> {
 }
 
 impl<'a, G> Model for Host<'a, G> {
+    ghost use Rattle.std.specs.Prelude.{is_some};
     ghost use Rattle.sock_pair.specs.PairViews.{HostView};
 
     ghost Value = { HostView };
@@ -57,6 +58,7 @@ impl<'a, G> Model for Host<'a, G> {
       released = h.released;
       taken = h.taken;
       closed = h.closed;
+      stamps = is_some h.socket.tsval_generator;
     } };
 }
 
@@ -76,7 +78,7 @@ impl<'a> Host<'a> {
         requires rx { length rx.queue + length rx.spare ≤ 2 ^ 30 }
         requires tx { length tx.queue + length tx.spare ≤ 2 ^ 30 }
         requires generator { MatchOption generator (Unit {0}) (λ g. IsAlwaysCallable g) }
-        ensures { result ≡ new_host (fresh (receiving rx.entry) (queue_of tx.entry)) endpoint }
+        ensures { result ≡ new_host (fresh (receiving rx.entry) (queue_of tx.entry)) endpoint (is_some generator) }
     {
         let mut socket = Socket::new(rx, tx);
         socket.set_tsval_generator(generator);
@@ -329,7 +331,7 @@ impl<'a, G: TsvalSource> Host<'a, G> {
 }
 
 impl<'a, G: TsvalSource> Host<'a, G> {
-    ghost use Rattle.sock_pair.specs.PairSteps.{delivered_to, processed_by, IsAnyStamp};
+    ghost use Rattle.sock_pair.specs.PairSteps.{delivered_to, processed_by, IsStampOf};
 
     // A delivery to this side.
     pub(crate) fn deliver(&mut self, moment: &Moment, segment: &Segment) -> Option<Reply>
@@ -338,8 +340,9 @@ impl<'a, G: TsvalSource> Host<'a, G> {
         requires taken { self.old.taken < 2 ^ 63 }
         ensures view { self.new ≡ delivered_to self.old moment.entry.now (stored_of segment.now) }
         ensures bare { ForSome result (λ r. r.1.payload.now ≡ []) }
-        ensures reply { Answers IsAnyStamp (stored_of segment.now).ip
-            (processed_by self.old moment.entry.now (stored_of segment.now)).reply (option_map reply_of result) }
+        ensures reply { Answers (IsStampOf self.new.stamps (stored_of segment.now).segment.timestamp)
+            (stored_of segment.now).ip (processed_by self.old moment.entry.now (stored_of segment.now)).reply
+            (option_map reply_of result) }
     {
         segment.in_range();
         let mut cx = *moment;
@@ -357,7 +360,8 @@ impl<'a, G: TsvalSource> Host<'a, G> {
 
 // `send`, whose closure writes what fits of the bytes into the places that it is lent, and takes at most so many.
 fn send_piece<G>(socket: &mut Socket<'_, G>, bytes: &[u8], size: usize) -> Result<usize, SendError>
-    ensures { SendsPiece size bytes.now socket.old.control_block result socket.new.control_block }
+    ensures call { SendsPiece size bytes.now socket.old.control_block result socket.new.control_block }
+    ensures generator { socket.new.tsval_generator ≡ socket.old.tsval_generator }
 {
     socket.send(
         move |free: &mut [u8]| -> (usize, usize)
@@ -375,7 +379,8 @@ fn send_piece<G>(socket: &mut Socket<'_, G>, bytes: &[u8], size: usize) -> Resul
 
 // `recv`, whose closure copies what fits of the bytes that it is lent into a room that was made before, and takes them.
 fn take_piece<G>(socket: &mut Socket<'_, G>, room: Vec<u8>) -> Result<Vec<u8>, RecvError>
-    ensures { ReceivesPiece (vec_len room) socket.old.control_block result socket.new.control_block }
+    ensures call { ReceivesPiece (vec_len room) socket.old.control_block result socket.new.control_block }
+    ensures generator { socket.new.tsval_generator ≡ socket.old.tsval_generator }
 {
     socket.recv(
         move |lent: &[u8]| -> (usize, Vec<u8>)

@@ -107,8 +107,8 @@ pub fn pairs_deliver_at_once()
 /// Each event of a pair is a run of steps of the theorem on two streams, from the network that the pair shows to the
 /// one that it shows afterwards; and a new pair shows the network of two sockets that were never opened.
 pub fn events_are_runs()
-    ensures begins { (v w : View) (a b : IpEndpoint) (limit : Option ℕ)
-        → network_of (new_pair (new_host v a) (new_host w b) limit) ≡ start limit }
+    ensures begins { (v w : View) (a b : IpEndpoint) (x y : Bool) (limit : Option ℕ)
+        → network_of (new_pair (new_host v a x) (new_host w b y) limit) ≡ start limit }
     ensures step { (e : Event) (p : PairView) (o : Outcome) (q : PairView) → IsPair p → IsSized e p → EventStep e p o q
         → Reaches (network_of p) (network_of q) }
 {}

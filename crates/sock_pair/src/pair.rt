@@ -1,5 +1,5 @@
 //! Two sockets, and every segment that they emitted.
-ghost use Rattle.std.specs.Prelude.{◌≡◌, ◌+◌, ◌<◌, ◌≤◌, ◌^◌, length, IfOk, OnOk, OnErr, [], None, false, slice_get, MatchOption};
+ghost use Rattle.std.specs.Prelude.{◌≡◌, ◌+◌, ◌<◌, ◌≤◌, ◌^◌, length, IfOk, OnOk, OnErr, [], None, false, slice_get, MatchOption, is_some};
 
 use crate::event::Event;
 use crate::exchange::{deliver, dispatch};
@@ -79,8 +79,10 @@ impl<'a> Pair<'a> {
         requires a_generator { MatchOption a.generator (Unit {0}) (λ g. IsAlwaysCallable g) }
         requires b_generator { MatchOption b.generator (Unit {0}) (λ g. IsAlwaysCallable g) }
         requires limit { IsLimit limit }
-        ensures { result ≡ new_pair (new_host (fresh (receiving a.entry.rx) (queue_of a.entry.tx)) a.entry.endpoint)
-            (new_host (fresh (receiving b.entry.rx) (queue_of b.entry.tx)) b.entry.endpoint) limit }
+        ensures { result ≡ new_pair
+            (new_host (fresh (receiving a.entry.rx) (queue_of a.entry.tx)) a.entry.endpoint (is_some a.entry.generator))
+            (new_host (fresh (receiving b.entry.rx) (queue_of b.entry.tx)) b.entry.endpoint (is_some b.entry.generator))
+            limit }
     {
         Pair {
             a: Host::new(alloc, a.rx, a.tx, a.endpoint, a.generator),

@@ -8,7 +8,8 @@ use Rattle.sock_tcp.specs.Replies.{Answers}
 use Rattle.sock_pair.specs.declared.outcome.Outcome.TheVariants as outcome
 use Rattle.sock_pair.specs.declared.segment.Segment.{Segment as Owned}
 use Rattle.sock_pair.specs.Holding.{stored_of, kept_at}
-use Rattle.sock_pair.specs.PairSteps.{delivered_to, processed_by, refusal_of, reply_index, IsAnyStamp}
+use Rattle.sock_pair.specs.PairSteps.{delivered_to, processed_by, refusal_of, reply_index, IsStampOf}
+use Rattle.sock_pair.specs.PairViews.{HostView}
 use Rattle.sock_pair.proofs.Deliveries.{get_map, read_twice, delivers, refused_by, refuses, takes_room}
 use Rattle.sock_pair.proofs.exchange.deliver.Goals.{else-not-accepted-via-then-not-accepted+else-eq, else-not-accepted-via-else-not-accepted}
 use Rattle.sock_pair.proofs.exchange.deliver.Goals as goal
@@ -55,7 +56,7 @@ returns-then-accepted-clause-step g c =
     (sym c.too_old.ensures ∙ c.if-too_old.false)
     (c.accepts-accepted.ensures.0 c.if-accepted.true)
     (c.deliver-reply.ensures.view ∙ ap (λ (x : Owned). delivered_to h m (stored_of x)) same)
-    (subst (λ (x : Owned). Answers IsAnyStamp (stored_of x).ip (processed_by h m (stored_of x)).reply r) same c.deliver-reply.ensures.reply)
+    (subst (λ (x : Owned). Answers (IsStampOf (delivered_to h m (stored_of x)).stamps (stored_of x).segment.timestamp) (stored_of x).ip (processed_by h m (stored_of x)).reply r) same (subst (λ b. Answers (IsStampOf b (stored_of c.index.result.now).segment.timestamp) (stored_of c.index.result.now).ip (processed_by h m (stored_of c.index.result.now)).reply r) (ap (λ (k : HostView). k.stamps) c.deliver-reply.ensures.view) c.deliver-reply.ensures.reply))
     (ap outcome.Delivered c.store_reply.ensures.answer ∙ ap (λ (xs : List Owned). outcome.Delivered (reply_index (length (map stored_of xs)) r)) c.reserve.ensures.items)
     (c.store_reply.ensures.stored ∙ ap (λ (xs : List Owned). map stored_of xs ++ kept_at c.args.side r c.counts.result.released c.counts.result.taken) c.reserve.ensures.items
     ∙ ap (λ n. map stored_of items ++ kept_at c.args.side r n c.counts.result.taken) c.counts.ensures.released ∙ ap (λ n. map stored_of items ++ kept_at c.args.side r c.deliver-reply.new.self.released n) c.counts.ensures.taken)

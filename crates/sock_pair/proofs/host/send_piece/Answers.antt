@@ -3,8 +3,8 @@ use Rattle.std.specs.Prelude.{min}
 use Rattle.sock_pair.proofs.HostPieces.{sends_piece}
 use Rattle.sock_pair.proofs.host.send_piece.Goals as goal
 
-pub returns : goal.returns
-returns g c =
+pub returns-clause-call : goal.returns-clause-call
+returns-clause-call g c =
     sends_piece _ c.args.size c.args.bytes.now c.args.socket.now.control_block c.send.result c.send.new.self.control_block
     (λ lent x left h. record {
       count = h.met.0 ∙ ap (λ l. min c.args.size (min (length c.args.bytes.now) (length l))) h.shows;

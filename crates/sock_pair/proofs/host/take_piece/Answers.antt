@@ -3,8 +3,8 @@ use Rattle.std.specs.Prelude.{min}
 use Rattle.sock_pair.proofs.HostPieces.{receives_piece}
 use Rattle.sock_pair.proofs.host.take_piece.Goals as goal
 
-pub returns : goal.returns
-returns g c =
+pub returns-clause-call : goal.returns-clause-call
+returns-clause-call g c =
     receives_piece _ (vec_len c.args.room) c.args.socket.now.control_block c.recv.result c.recv.new.self.control_block
     (λ lent x h. record {
       count = h.1.0 ∙ ap (λ l. min (vec_len c.args.room) (length l)) h.2;

@@ -1,4 +1,4 @@
-use Rattle.std.proofs.Common.{ap, map}
+use Rattle.std.proofs.Common.{ap, map, is_some}
 use Rattle.sock_core.specs.Received.{receiving}
 use Rattle.sock_tcp.specs.Queue.{queue_of}
 use Rattle.sock_pair.specs.Holding.{stored_of}
@@ -7,5 +7,5 @@ use Rattle.sock_pair.proofs.pair.Pair.new.Goals as goal
 
 pub invariant_of-result : goal.invariant_of-result
 invariant_of-result g c =
-    new_is_pair (receiving c.args.a.rx) (queue_of c.args.a.tx) (receiving c.args.b.rx) (queue_of c.args.b.tx) c.args.a.endpoint c.args.b.endpoint c.args.limit _ _ _ c.new.ensures c.new-2.ensures (ap (map stored_of) c.new-3.ensures.items)
+    new_is_pair (receiving c.args.a.rx) (queue_of c.args.a.tx) (receiving c.args.b.rx) (queue_of c.args.b.tx) c.args.a.endpoint c.args.b.endpoint (is_some c.args.a.generator) (is_some c.args.b.generator) c.args.limit _ _ _ c.new.ensures c.new-2.ensures (ap (map stored_of) c.new-3.ensures.items)
     c.requires.a_rx.0 c.requires.a_tx.0 c.requires.b_rx.0 c.requires.b_tx.0 c.requires.a_reachable c.requires.b_reachable c.requires.versions c.requires.limit
