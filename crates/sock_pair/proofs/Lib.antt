@@ -29,6 +29,7 @@ pub mod Addresses
 pub mod PairHosts
 pub mod PairGoes
 pub mod ShownReplies
+pub mod ShownRows
 pub mod ShownSteps
 pub mod ShownProcess
 pub mod ShownCalls

@@ -13,7 +13,7 @@ use Rattle.control_wire.specs.declared.tcp.TcpControl.{TcpControl}
 use Rattle.control_wire.specs.declared.tcp.TcpControl.TheVariants as control
 use Rattle.sock_core.specs.Places.{number_distance, number_is_before}
 use Rattle.sock_core.specs.Received.{Received, room_of}
-use Rattle.sock_core.specs.Seq.{is_before, is_not_after, later_of}
+use Rattle.sock_core.specs.Seq.{is_not_after, later_of}
 use Rattle.sock_core.specs.Streams.{fin_length}
 use Rattle.sock_tcp.specs.View.{View, FinSays}
 use Rattle.sock_tcp.specs.Verdict.{verdict_at, verdict_of}
@@ -36,55 +36,15 @@ use Rattle.sock_tcp.proofs.Windows.{start_small, end_small, window_width, cut_fi
 use Rattle.sock_pair.specs.PairLaws.{IsBounded}
 use Rattle.sock_pair.specs.PairNetwork.{phase_of, shown, stream_segment, is_passive, is_rst, is_syn, IsSmall}
 use Rattle.sock_pair.specs.StreamCalls.{HearEffect, ProcessEffect, Nothing, Acknowledgement, FallBack, ResetReply, Syn, SynAck, SynAlone}
-use Rattle.sock_pair.specs.StreamEffects.{AcksBytes, AcksFin, AcksSyn, HearsAck, HearsData, SndNxtWithin}
+use Rattle.sock_pair.specs.StreamEffects.{HearsAck, HearsData}
 use Rattle.sock_pair.specs.StreamTables.{OfBytes, OfFin, OfSyn, segment_end}
 use Rattle.sock_pair.specs.StreamViews as phase
 use Rattle.sock_pair.specs.StreamViews.{Phase, SocketView, StreamSegment, HasIss, KnowsPeer, IsNonSynchronized, IsSynchronized}
 use Rattle.sock_pair.proofs.ShownReplies.{Answered, IsAnswer, answers_as, bytes_there, challenged_there, outside_there}
+use Rattle.sock_pair.proofs.ShownRows.{answer_in, heard_within, knows_iss, later_same, nxt_alone, nxt_joins, nxt_past_fin}
 use Rattle.sock_pair.proofs.ShownSteps.{FinInside, acked_none, acked_some, acked_view, acked_when, challenge_says, counted_fin, counted_plain, counted_rst, heard_shown, knows_peer, passes_syn, passes_with, reset_says}
 use Rattle.sock_pair.proofs.ShownWindow.{FinCounts, before_shown, comes, cut_heard, cut_shown, edge_shown, grows, inside_shown, later_shown, offset_shown}
 use Rattle.sock_pair.proofs.StreamTables.{passes_heard}
-
--- RCV.NXT moves by what joins, and by a FIN
-nxt_joins : (r m k f : ℕ) → m ≤ k → (r + k + f) % 2 ^ 32 ≡ ((r + m) % 2 ^ 32 + (k - m) + f) % 2 ^ 32
-nxt_joins r m k f e = omega arith
-
--- without bytes it is behind the SYN
-nxt_alone : (r k : ℕ) → k ≡ 0 → ((r + 1) % 2 ^ 32 + k) % 2 ^ 32 ≡ (r + 1) % 2 ^ 32
-nxt_alone r k e = omega arith
-
--- the later of two equal numbers
-later_same : (a b : TcpSeqNumber) → a.0 ≡ b.0 → (later_of a b).0 ≡ b.0
-unfolding later_of
-later_same a b e = go (is_before a b)
-  where
-    go : (t : Bool) → (if t then b else a).0 ≡ b.0
-    go true = refl
-    go false = e
-
-nxt_past_fin : (r m : ℕ) → ((r + 1) % 2 ^ 32 + m) % 2 ^ 32 ≡ (r + m + 1) % 2 ^ 32
-nxt_past_fin r m = omega arith
-
-knows_iss : (p : Phase) → KnowsPeer p → HasIss p
-knows_iss phase.SynReceived k = tt
-knows_iss phase.Open k = tt
-knows_iss phase.FinQueued k = tt
-knows_iss phase.Silent k = tt
-knows_iss phase.Unopened k = absurd k
-knows_iss phase.Listening k = absurd k
-knows_iss phase.SynSent k = absurd k
-knows_iss phase.Dead k = absurd k
-
--- SND.NXT is within its bounds once an acknowledgement is heard
-heard_within : (v w : SocketView) (g : StreamSegment) → HearsAck v w g → SndNxtWithin w
-heard_within v w g (AcksBytes a n ack le is ph una queue nxt) = nxt
-heard_within v w g (AcksSyn a ack is from ph una queue nxt) = nxt
-heard_within v w g (AcksFin a ack is from ph una queue nxt) = nxt
-
--- the same reply, in another phase
-answer_in : (s : Segment) (z : SocketView) (p : Phase) (r : Option Segment) → IsAnswer s z r → IsAnswer s (record z { phase = p }) r
-answer_in s z p r (inl e) = inl e
-answer_in s z p r (inr h) = inr (h.0, h.1, record { seq = h.2.seq; nxt = h.2.nxt })
 
 module _ (v : View) (now : Instant) (word : ℕ) (ip : IpRepr) (s : Segment) (at_release at_take then_release then_take : ℕ) (small : IsSmall s) (room : room_of v.rx_buffer ≤ 2 ^ 30) (says : FinSays v.state v.rx_fin_received) (bounds : IsBounded v) (accepted : Accepts v ip s) where
   abbrev the_segment : StreamSegment
@@ -493,10 +453,8 @@ module _ (v : View) (now : Instant) (word : ℕ) (ip : IpRepr) (s : Segment) (at
       go : (b : Bool) → (if b then verdicts.Pass else verdicts.Reset) ≡ verdicts.Pass → b ≡ true
       go true e = refl
       go false e = cc
-  syn_sent_rows control.None o es ec ek p = silent v refl
-  syn_sent_rows control.Psh o es ec ek p = silent v refl
-  syn_sent_rows control.Fin o es ec ek p = silent v refl
   syn_sent_rows control.Rst o es ec ek p = dies_alone
+  syn_sent_rows _ o es ec ek p = silent v refl
 
   -- ---- the whole
 
@@ -505,15 +463,7 @@ module _ (v : View) (now : Instant) (word : ℕ) (ip : IpRepr) (s : Segment) (at
       let opens = (subst (λ st. AcceptsIn st v ip s) es accepted).0 in
       subst (λ a. IsEffect (alone_of state.Listen s.control a)) (sym (acked_none s.control state.Listen s.ack_number v.local_seq_no v.remote_last_seq queued opens.no_ack)) (listen_rows s.control es refl opens.no_ack opens.no_reset small_word)
   alone_rows state.SynSent es w p small_word = syn_sent_rows s.control s.ack_number es refl refl (ap (λ st. verdict_at st s.control s.ack_number v.local_seq_no queued) (sym es) ∙ p)
-  alone_rows state.Closed es w p small_word = cc
-  alone_rows state.SynReceived es w p small_word = cc
-  alone_rows state.Established es w p small_word = cc
-  alone_rows state.FinWait1 es w p small_word = cc
-  alone_rows state.FinWait2 es w p small_word = cc
-  alone_rows state.CloseWait es w p small_word = cc
-  alone_rows state.Closing es w p small_word = cc
-  alone_rows state.LastAck es w p small_word = cc
-  alone_rows state.TimeWait es w p small_word = cc
+  alone_rows _ es w p small_word = cc
 
   unwindowed : has_window v.state ≡ false → verdict_of v s.control s.ack_number ≡ verdicts.Pass → word < 2 ^ 32 → IsEffect (processed_inside v now word s.control 0 [] ip s)
   unfolding processed_inside advanced
