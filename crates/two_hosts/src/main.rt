@@ -76,7 +76,7 @@ fn run<'a>(
     a: (tcp::Socket<'a>, &'a mut Memory),
     b: (tcp::Socket<'a>, &'a mut Memory),
 ) -> Result<Trace, AllocError> {
-    let mut world: World<'a> = World {
+    let mut simulation: Simulation<'a> = Simulation {
         a: Host::new(alloc, A, 1000),
         b: Host::new(alloc, B, 5000),
         client: Client::new(alloc),
@@ -85,10 +85,10 @@ fn run<'a>(
         trace: Trace::new(alloc),
         now: 0,
     };
-    client::open(&mut world.a, a.0, a.1)?;
-    server::open(&mut world.b, b.0, b.1)?;
-    world.run()?;
-    Ok(world.trace)
+    client::open(&mut simulation.a, a.0, a.1)?;
+    server::open(&mut simulation.b, b.0, b.1)?;
+    simulation.run()?;
+    Ok(simulation.trace)
 }
 
 // The first whole millisecond that is not before the moment.
@@ -99,7 +99,7 @@ fn millis_of(at: Instant) -> u32 {
 
 /// The two hosts with what runs on them, and the wire between them.
 #[derive(Debug, Drop)]
-struct World<'a> {
+struct Simulation<'a> {
     a: Host<'a>,
     b: Host<'a>,
     client: Client,
@@ -110,7 +110,7 @@ struct World<'a> {
     now: u32,
 }
 
-impl World<'_> {
+impl Simulation<'_> {
     // Goes from one moment at which something happens to the next, until nothing is left to do.
     fn run(&mut self) -> Result<(), AllocError> {
         for _ in 0..ROUNDS {
@@ -162,7 +162,7 @@ impl World<'_> {
     // Puts packets on the wire.
     fn send(&mut self, packets: Vec<Packet>) -> Result<(), AllocError> {
         for packet in packets {
-            let arrival = self.wire.fate(self.now);
+            let arrival = self.wire.arrival(self.now);
             self.trace.packet(self.now, &packet, arrival)?;
             if let Some(arrival) = arrival {
                 self.wire.carry(packet, arrival)?;

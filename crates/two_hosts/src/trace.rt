@@ -51,7 +51,7 @@ impl Trace {
                 write!(self.text, "{src} > {dst}: protocol {protocol} len {len}")?;
             }
         }
-        self.fate(arrival)
+        self.arrival(arrival)
     }
 
     fn segment(
@@ -89,7 +89,7 @@ impl Trace {
         }
     }
 
-    fn fate(&mut self, arrival: Option<u32>) -> Result<(), AllocError> {
+    fn arrival(&mut self, arrival: Option<u32>) -> Result<(), AllocError> {
         match arrival {
             None => writeln!(self.text, ", lost"),
             Some(arrival) => {

@@ -39,7 +39,7 @@ impl Wire {
     }
 
     /// When a packet that is sent now, in milliseconds, will arrive; none where it gets lost.
-    pub fn fate(&mut self, now: u32) -> Option<u32> {
+    pub fn arrival(&mut self, now: u32) -> Option<u32> {
         if self.random(100) < self.loss {
             return None;
         }

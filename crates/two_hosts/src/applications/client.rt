@@ -82,7 +82,7 @@ pub struct Client {
     pings: u16,
     next_ping: u32,
     // whether the raw packet went out
-    knocked: bool,
+    raw_sent: bool,
 }
 
 impl Client {
@@ -96,7 +96,7 @@ impl Client {
             next_question: Some(0),
             pings: 0,
             next_ping: 0,
-            knocked: false,
+            raw_sent: false,
         }
     }
 
@@ -119,17 +119,17 @@ impl Client {
     pub fn run(&mut self, host: &mut Host<'_>, trace: &mut Trace) -> Result<(), AllocError> {
         for socket in &mut host.sockets {
             match socket {
-                Socket::Tcp(socket) => self.talk(socket, &host.interface, trace)?,
-                Socket::Udp(socket) => self.ask(socket, &host.interface, trace)?,
+                Socket::Tcp(socket) => self.run_tcp(socket, &host.interface, trace)?,
+                Socket::Udp(socket) => self.ask_name(socket, &host.interface, trace)?,
                 Socket::Icmp(socket) => self.ping(socket, &host.interface, trace)?,
-                Socket::Raw(socket) => self.knock(socket),
+                Socket::Raw(socket) => self.send_raw(socket),
             }
         }
         Ok(())
     }
 
     // Sends the text, reads what comes back, and closes when all of it is there.
-    fn talk(
+    fn run_tcp(
         &mut self,
         socket: &mut tcp::Socket<'_>,
         interface: &Interface,
@@ -177,7 +177,7 @@ impl Client {
     }
 
     // Asks for the name until there is an answer.
-    fn ask(
+    fn ask_name(
         &mut self,
         socket: &mut udp::Socket<'_>,
         interface: &Interface,
@@ -236,8 +236,8 @@ impl Client {
     }
 
     // Sends one packet of a protocol of its own: a raw socket is given the IP header too.
-    fn knock(&mut self, socket: &mut raw::Socket<'_>) {
-        if self.knocked {
+    fn send_raw(&mut self, socket: &mut raw::Socket<'_>) {
+        if self.raw_sent {
             return;
         }
         let header = IpRepr::Ipv4(Ipv4Repr {
@@ -249,8 +249,8 @@ impl Client {
         });
         let mut packet = [0u8; 25];
         header.emit(&mut packet, &ChecksumCapabilities::default());
-        packet[20..].copy_from_slice(b"knock");
-        self.knocked = socket.send_slice(&packet).is_ok();
+        packet[20..].copy_from_slice(b"hello");
+        self.raw_sent = socket.send_slice(&packet).is_ok();
     }
 }
 
