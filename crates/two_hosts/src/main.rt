@@ -121,10 +121,11 @@ impl Simulation<'_> {
                 PollAt::Ingress => break,
             }
         }
-        self.run_applications()
+        Ok(())
     }
 
-    // What happens now: packets arrive, the applications read and write, and the sockets emit what is due.
+    // What happens now: packets arrive, the applications read and write, and the sockets emit what is due. A dispatch may
+    // end a connection, so the applications then look again.
     fn round(&mut self) -> Result<(), AllocError> {
         self.a.interface.set_time(self.now);
         self.b.interface.set_time(self.now);
@@ -140,7 +141,8 @@ impl Simulation<'_> {
         let from_a = self.a.interface.take_outbox();
         self.send(from_a)?;
         let from_b = self.b.interface.take_outbox();
-        self.send(from_b)
+        self.send(from_b)?;
+        self.run_applications()
     }
 
     fn run_applications(&mut self) -> Result<(), AllocError> {
