@@ -124,8 +124,8 @@ impl Simulation<'_> {
         Ok(())
     }
 
-    // What happens now: packets arrive, the applications read and write, and the sockets emit what is due. A dispatch may
-    // end a connection, so the applications then look again.
+    // What happens now: packets arrive, the applications read and write, and the sockets emit what is due. A dispatch
+    // may end a connection, so the applications then look again.
     fn round(&mut self) -> Result<(), AllocError> {
         self.a.interface.set_time(self.now);
         self.b.interface.set_time(self.now);

@@ -28,7 +28,8 @@ pub struct Wire {
 }
 
 impl Wire {
-    /// An empty wire that loses so many of a hundred packets. The seed decides which ones, and how long the others take.
+    /// An empty wire that loses so many of a hundred packets. The seed decides which ones, and how long the others are on
+    /// their way.
     pub fn new(alloc: Global, seed: u32, loss: u32) -> Wire {
         Wire {
             packets: BTreeMap::new(alloc),
