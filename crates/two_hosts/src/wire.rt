@@ -28,8 +28,7 @@ pub struct Wire {
 }
 
 impl Wire {
-    /// An empty wire that loses so many of a hundred packets. The seed decides which ones, and how long the others are on
-    /// their way.
+    /// An empty wire that loses so many of a hundred packets. The seed decides which, and how long the others take.
     pub fn new(alloc: Global, seed: u32, loss: u32) -> Wire {
         Wire {
             packets: BTreeMap::new(alloc),
