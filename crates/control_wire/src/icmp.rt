@@ -123,7 +123,6 @@ impl<'a> Icmpv4Repr<'a> {
 
     /// Writes the message into `buffer_len` bytes. The checksum is 0 where it is not computed before sending; that of a
     /// quoted header too.
-
     pub fn emit(&self, buffer: &mut [u8], caps: &ChecksumCapabilities)
         requires { length buffer.old ≡ message_len 20 (message_v4 self.now) }
         ensures { buffer.new ≡ icmpv4_octets caps.now (message_v4 self.now) }
@@ -262,7 +261,6 @@ impl<'a> Icmpv6Repr<'a> {
 
     /// Writes the message into `buffer_len` bytes. The checksum, which also sums the addresses of the packet, is 0
     /// where it is not computed before sending.
-
     pub fn emit(
         &self,
         src: &Ipv6Address,

@@ -1,8 +1,12 @@
--- The socket that the enum of all kinds holds, where it is of the kind asked for.
-use Rattle.std.specs.Prelude.{Option, Some, None}
+-- The socket that the enum of all kinds holds, where it is of the kind asked for, and when it wants its next dispatch.
+use Rattle.std.specs.Prelude.{Option, Some, None, is_some}
+use Rattle.sock_core.specs.Facts.{Facts}
+use Rattle.sock_core.specs.declared.context.PollAt.{PollAt}
+use Rattle.sock_dgram.specs.Datagrams as datagrams
 use Rattle.sock_dgram.specs.Raw as raw
 use Rattle.sock_dgram.specs.Icmp as icmp
 use Rattle.sock_dgram.specs.Udp as udp
+use Rattle.sock_tcp.specs.Poll as segments
 use Rattle.sock_tcp.specs.declared.socket.Socket as tcp
 use Rattle.smoltcp_socket.specs.declared.socket.Socket.{Socket}
 use Rattle.smoltcp_socket.specs.declared.socket.Socket.TheVariants.{Raw, Icmp, Udp, Tcp}
@@ -30,3 +34,10 @@ tcp_of (Raw s) = None
 tcp_of (Icmp s) = None
 tcp_of (Udp s) = None
 tcp_of (Tcp s) = Some s
+
+-- when a socket wants its next dispatch: as its kind does
+abbrev pub polls : {G : Type 0} → Socket G → Facts → PollAt
+polls (Raw s) f = datagrams.poll_moment s.tx_buffer
+polls (Icmp s) f = datagrams.poll_moment s.tx_buffer
+polls (Udp s) f = datagrams.poll_moment s.tx_buffer
+polls (Tcp s) f = segments.poll_moment s.control_block f (is_some s.tsval_generator)

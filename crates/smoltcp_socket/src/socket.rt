@@ -1,5 +1,8 @@
 //! One socket of any kind.
+ghost use Rattle.std.specs.Prelude.{◌≡◌};
+ghost use Rattle.smoltcp_socket.specs.Kinds.{polls};
 
+use sock_core::{Context, PollAt};
 use sock_dgram::{icmp, raw, udp};
 use sock_tcp::Generator;
 
@@ -16,4 +19,19 @@ pub enum Socket<'a, G = Generator> {
     Udp(udp::Socket<'a>),
     /// One end of a TCP connection.
     Tcp(sock_tcp::Socket<'a, G>),
+}
+
+impl<'a, G> Socket<'a, G> {
+    /// When the socket wants its next `dispatch`, in this context, as its kind says: at once, at a moment, or after the
+    /// next packet that comes in.
+    pub fn poll_at<C: Context>(&self, cx: &C) -> PollAt
+        ensures { result ≡ polls self.now (C.facts cx.now) }
+    {
+        match self {
+            Socket::Raw(socket) => socket.poll_at(cx),
+            Socket::Icmp(socket) => socket.poll_at(cx),
+            Socket::Udp(socket) => socket.poll_at(cx),
+            Socket::Tcp(socket) => socket.poll_at(cx),
+        }
+    }
 }

@@ -1,9 +1,10 @@
 //! From each kind of socket to the enum, and back.
 ghost use Rattle.std.specs.Prelude.{IsTrue};
 
+use super::host::Host;
 use crate::storage::{PacketBuffer, RingBuffer};
 use crate::wire::IpListenEndpoint;
-use crate::{AnySocket, Socket, icmp, raw, tcp, udp};
+use crate::{AnySocket, PollAt, Socket, icmp, raw, tcp, udp};
 use std::test::Fail;
 
 // Which downcasts give a socket: to raw, ICMP, UDP, TCP, and to the enum.
@@ -78,6 +79,7 @@ fn tcp_among_kinds(rt: HostRuntime) -> Result<(), Fail> {
     let socket = tcp::Socket::new(RingBuffer::new(&mut []), RingBuffer::new(&mut []));
     let socket = socket.upcast();
     assert_eq!(rt; kinds(&socket), [false, false, false, true, true]);
+    assert_eq!(rt; socket.poll_at(&Host::new(None)), PollAt::Ingress);
     assert!(rt; comes_back(socket));
     Ok(())
 }

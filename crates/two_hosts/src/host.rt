@@ -1,0 +1,202 @@
+//! A host: a list of sockets, and the interface layer that serves them.
+ghost use Rattle.std.specs.Prelude.{◌≤◌, length};
+
+use crate::context::{Interface, MTU};
+use crate::packet::{Body, Packet, with_payload};
+use smoltcp_socket::wire::{
+    IcmpRepr, Icmpv4Repr, IpRepr, Ipv4Address, TcpControl, TcpRepr, UdpRepr,
+};
+use smoltcp_socket::{Context, PollAt, Socket, icmp, raw, tcp, udp};
+use std::alloc::{AllocError, Global};
+
+// How many packets one socket may emit before the next one has its turn.
+const TURN: usize = 8;
+
+/// A host with one interface.
+#[derive(Debug, Drop)]
+pub struct Host<'a> {
+    /// Its sockets, of any kind.
+    pub sockets: Vec<Socket<'a>>,
+    /// Its interface.
+    pub interface: Interface,
+}
+
+impl<'a> Host<'a> {
+    /// A host without sockets at this address. Its connections number their bytes from `word` on.
+    pub fn new(alloc: Global, addr: Ipv4Address, word: u32) -> Host<'a> {
+        Host {
+            sockets: Vec::new(alloc),
+            interface: Interface {
+                alloc,
+                addr,
+                now: 0,
+                word,
+                outbox: Vec::new(alloc),
+            },
+        }
+    }
+
+    /// When the host wants to be served: the earliest of what its sockets say.
+    pub fn poll_at(&self) -> PollAt {
+        let mut earliest = PollAt::Ingress;
+        for socket in &self.sockets {
+            earliest = earliest.min(socket.poll_at(&self.interface));
+        }
+        earliest
+    }
+
+    /// Lets each socket emit what is due now, into the outbox.
+    pub fn dispatch(&mut self) -> Result<(), AllocError> {
+        for socket in &mut self.sockets {
+            for _ in 0..TURN {
+                if !is_due(socket, &self.interface) {
+                    break;
+                }
+                dispatch_one(socket, &mut self.interface)?;
+            }
+        }
+        Ok(())
+    }
+
+    /// Hands a packet that has arrived to the sockets that it is for.
+    pub fn receive(&mut self, packet: &Packet) -> Result<(), AllocError> {
+        match &packet.body {
+            Body::Tcp(header, payload) => {
+                self.receive_tcp(&packet.ip, &with_payload(header, payload.as_slice()))?;
+            }
+            Body::Udp(repr, payload) => self.receive_udp(&packet.ip, repr, payload.as_slice()),
+            Body::Icmp(message) => self.receive_icmp(&packet.ip, message.as_slice()),
+            Body::Raw(payload) => self.receive_raw(&packet.ip, payload.as_slice()),
+        }
+        Ok(())
+    }
+}
+
+// Each kind of packet goes to the sockets of its kind.
+impl<'a> Host<'a> {
+    // A segment that no socket takes is answered by an RST, unless it is one.
+    fn receive_tcp(&mut self, ip: &IpRepr, repr: &TcpRepr<'_>) -> Result<(), AllocError> {
+        // no packet of the wire is longer; a socket wants to know that
+        if repr.payload.len() > MTU {
+            return Ok(());
+        }
+        for socket in &mut self.sockets {
+            if let Socket::Tcp(socket) = socket {
+                if take_segment(socket, &mut self.interface, ip, repr)? {
+                    return Ok(());
+                }
+            }
+        }
+        if repr.control == TcpControl::Rst {
+            return Ok(());
+        }
+        let (ip, reset) = tcp::Socket::rst_reply(ip, repr);
+        self.interface.emit_tcp(ip, &reset)
+    }
+
+    // The first socket that a datagram is for takes it.
+    fn receive_udp(&mut self, ip: &IpRepr, repr: &UdpRepr, payload: &[u8]) {
+        for socket in &mut self.sockets {
+            if let Socket::Udp(socket) = socket {
+                if socket.accepts(&self.interface, ip, repr) {
+                    socket.process(&self.interface, ip, repr, payload);
+                    return;
+                }
+            }
+        }
+    }
+
+    // Every socket that a message is for takes it.
+    fn receive_icmp(&mut self, ip: &IpRepr, message: &[u8]) {
+        let caps = self.interface.checksum_caps();
+        let (IpRepr::Ipv4(ip), Ok(repr)) = (ip, Icmpv4Repr::parse(message, &caps)) else {
+            return;
+        };
+        for socket in &mut self.sockets {
+            if let Socket::Icmp(socket) = socket {
+                if socket.accepts_v4(&self.interface, ip, &repr) {
+                    socket.process_v4(&self.interface, ip, &repr);
+                }
+            }
+        }
+    }
+
+    // Every socket that a packet is for takes it. A raw socket could be for the other protocols too; here none is.
+    fn receive_raw(&mut self, ip: &IpRepr, payload: &[u8]) {
+        for socket in &mut self.sockets {
+            if let Socket::Raw(socket) = socket {
+                if socket.accepts(ip) {
+                    socket.process(&self.interface, ip, payload);
+                }
+            }
+        }
+    }
+}
+
+// Gives a segment to the socket if it is for it, and says whether it was. What the socket answers goes out.
+fn take_segment(
+    socket: &mut tcp::Socket<'_>,
+    interface: &mut Interface,
+    ip: &IpRepr,
+    repr: &TcpRepr<'_>,
+) -> Result<bool, AllocError>
+    requires { length repr.now.payload.now ≤ 65535 }
+{
+    if !socket.accepts(interface, ip, repr) {
+        return Ok(false);
+    }
+    if let Some((ip, reply)) = socket.process(interface, ip, repr) {
+        interface.emit_tcp(ip, &reply)?;
+    }
+    Ok(true)
+}
+
+// Whether the socket wants a dispatch now.
+fn is_due(socket: &Socket<'_>, interface: &Interface) -> bool {
+    match socket.poll_at(interface) {
+        PollAt::Now => true,
+        PollAt::Time(at) => at <= interface.now(),
+        PollAt::Ingress => false,
+    }
+}
+
+// One dispatch: at most one packet goes into the outbox.
+fn dispatch_one(socket: &mut Socket<'_>, interface: &mut Interface) -> Result<(), AllocError> {
+    match socket {
+        Socket::Tcp(socket) => dispatch_tcp(socket, interface),
+        Socket::Udp(socket) => dispatch_udp(socket, interface),
+        Socket::Icmp(socket) => dispatch_icmp(socket, interface),
+        Socket::Raw(socket) => dispatch_raw(socket, interface),
+    }
+}
+
+fn dispatch_tcp(socket: &mut tcp::Socket<'_>, interface: &mut Interface) -> Result<(), AllocError> {
+    socket.dispatch(
+        interface,
+        |cx: &mut Interface, sent: (IpRepr, TcpRepr<'_>)| cx.emit_tcp(sent.0, &sent.1),
+    )
+}
+
+fn dispatch_udp(socket: &mut udp::Socket<'_>, interface: &mut Interface) -> Result<(), AllocError> {
+    socket.dispatch(
+        interface,
+        |cx: &mut Interface, sent: (IpRepr, UdpRepr, &[u8])| cx.emit_udp(sent.0, sent.1, sent.2),
+    )
+}
+
+fn dispatch_icmp(
+    socket: &mut icmp::Socket<'_>,
+    interface: &mut Interface,
+) -> Result<(), AllocError> {
+    socket.dispatch(
+        interface,
+        |cx: &mut Interface, sent: (IpRepr, IcmpRepr<'_>)| cx.emit_icmp(sent.0, &sent.1),
+    )
+}
+
+fn dispatch_raw(socket: &mut raw::Socket<'_>, interface: &mut Interface) -> Result<(), AllocError> {
+    socket.dispatch(
+        interface,
+        |cx: &mut Interface, sent: (IpRepr, &[u8])| cx.emit_raw(sent.0, sent.1),
+    )
+}

@@ -1,0 +1,181 @@
+//! Two hosts in memory, each with a socket of every kind, over a wire that loses packets and lets some overtake
+//! others. Host a talks to an echo server over TCP, asks for a name over UDP, pings, and sends a raw packet. All is
+//! printed line by line.
+//!
+//! `two_hosts [SEED [LOSS]]`: another seed, and how many packets of a hundred get lost.
+#![tactic(auto)]
+
+mod applications;
+mod context;
+mod host;
+mod memory;
+mod packet;
+mod trace;
+mod wire;
+
+use crate::applications::client::Client;
+use crate::applications::server::Server;
+use crate::applications::{client, server};
+use crate::context::{A, B};
+use crate::host::Host;
+use crate::memory::Memory;
+use crate::packet::Packet;
+use crate::trace::Trace;
+use crate::wire::Wire;
+use smoltcp_socket::storage::RingBuffer;
+use smoltcp_socket::time::Instant;
+use smoltcp_socket::wire::IpAddress;
+use smoltcp_socket::{PollAt, tcp};
+use std::alloc::{AllocError, Global};
+use std::{env, io};
+
+// The seed where no argument gives one.
+const SEED: u32 = 2565;
+
+// How many packets of a hundred get lost where no argument says so.
+const LOSS: u32 = 20;
+
+// The run ends after so many rounds, whatever is left to do.
+const ROUNDS: u32 = 10_000;
+
+// At most so many packets arrive at one host and the other in a round; the rest arrive in the next.
+const ARRIVALS: u32 = 100;
+
+fn main(rt: HostRuntime) -> io::Result<()> {
+    let mut args = env::args(&rt)?;
+    let _program = args.next();
+    let seed = number(args.next(), SEED);
+    let loss = number(args.next(), LOSS);
+    let trace = simulate(rt.alloc(), seed, loss)?;
+    rt.print(trace.text.as_str())
+}
+
+// The number that an argument gives; where there is none, or it is no number, the other.
+fn number(arg: Option<String>, otherwise: u32) -> u32 {
+    match arg {
+        None => otherwise,
+        Some(text) => text.as_str().parse::<u32>().unwrap_or(otherwise),
+    }
+}
+
+// Makes the sockets of both hosts, and runs the hosts. The buffers outlive the sockets.
+fn simulate(alloc: Global, seed: u32, loss: u32) -> Result<Trace, AllocError> {
+    let (mut rx_a, mut tx_a) = ([0u8; 256], [0u8; 256]);
+    let (mut rx_b, mut tx_b) = ([0u8; 256], [0u8; 256]);
+    let (mut memory_a, mut memory_b) = (Memory::new(), Memory::new());
+    let tcp_a = tcp::Socket::new(RingBuffer::new(&mut rx_a), RingBuffer::new(&mut tx_a));
+    let tcp_b = tcp::Socket::new(RingBuffer::new(&mut rx_b), RingBuffer::new(&mut tx_b));
+    let wire = Wire::new(alloc, seed, loss);
+    run(alloc, wire, (tcp_a, &mut memory_a), (tcp_b, &mut memory_b))
+}
+
+// Opens the sockets, and goes on until nothing is left to do.
+fn run<'a>(
+    alloc: Global,
+    wire: Wire,
+    a: (tcp::Socket<'a>, &'a mut Memory),
+    b: (tcp::Socket<'a>, &'a mut Memory),
+) -> Result<Trace, AllocError> {
+    let mut simulation: Simulation<'a> = Simulation {
+        a: Host::new(alloc, A, 1000),
+        b: Host::new(alloc, B, 5000),
+        client: Client::new(alloc),
+        server: Server::new(),
+        wire,
+        trace: Trace::new(alloc),
+        now: 0,
+    };
+    client::open(&mut simulation.a, a.0, a.1)?;
+    server::open(&mut simulation.b, b.0, b.1)?;
+    simulation.run()?;
+    Ok(simulation.trace)
+}
+
+// The first whole millisecond that is not before the moment.
+fn millis_of(at: Instant) -> u32 {
+    let millis = at.micros.max(0).saturating_add(999) / 1000;
+    u32::try_from(millis).unwrap_or(u32::MAX)
+}
+
+/// The two hosts with what runs on them, and the wire between them.
+#[derive(Debug, Drop)]
+struct Simulation<'a> {
+    a: Host<'a>,
+    b: Host<'a>,
+    client: Client,
+    server: Server,
+    wire: Wire,
+    trace: Trace,
+    // The time, in milliseconds.
+    now: u32,
+}
+
+impl Simulation<'_> {
+    // Goes from one moment at which something happens to the next, until nothing is left to do.
+    fn run(&mut self) -> Result<(), AllocError> {
+        for _ in 0..ROUNDS {
+            self.round()?;
+            match self.poll_at() {
+                PollAt::Now => {}
+                PollAt::Time(at) => self.now = self.now.max(millis_of(at)),
+                PollAt::Ingress => break,
+            }
+        }
+        Ok(())
+    }
+
+    // What happens now: packets arrive, the applications read and write, and the sockets emit what is due. A dispatch
+    // may end a connection, so the applications then look again.
+    fn round(&mut self) -> Result<(), AllocError> {
+        self.a.interface.set_time(self.now);
+        self.b.interface.set_time(self.now);
+        for _ in 0..ARRIVALS {
+            match self.wire.arrived(self.now) {
+                Some(packet) => self.deliver(&packet)?,
+                None => break,
+            }
+        }
+        self.run_applications()?;
+        self.a.dispatch()?;
+        self.b.dispatch()?;
+        let from_a = self.a.interface.take_outbox();
+        self.send(from_a)?;
+        let from_b = self.b.interface.take_outbox();
+        self.send(from_b)?;
+        self.run_applications()
+    }
+
+    fn run_applications(&mut self) -> Result<(), AllocError> {
+        self.client.run(&mut self.a, &mut self.trace)?;
+        self.server.run(&mut self.b, &mut self.trace)
+    }
+
+    fn deliver(&mut self, packet: &Packet) -> Result<(), AllocError> {
+        let dst = packet.ip.dst_addr();
+        if dst == IpAddress::Ipv4(A) {
+            self.a.receive(packet)
+        } else if dst == IpAddress::Ipv4(B) {
+            self.b.receive(packet)
+        } else {
+            Ok(())
+        }
+    }
+
+    // Puts packets on the wire.
+    fn send(&mut self, packets: Vec<Packet>) -> Result<(), AllocError> {
+        for packet in packets {
+            let arrival = self.wire.arrival(self.now);
+            self.trace.packet(self.now, &packet, arrival)?;
+            if let Some(arrival) = arrival {
+                self.wire.carry(packet, arrival)?;
+            }
+        }
+        Ok(())
+    }
+
+    // When something happens next.
+    fn poll_at(&self) -> PollAt {
+        let hosts = self.a.poll_at().min(self.b.poll_at());
+        hosts.min(self.client.poll_at()).min(self.wire.poll_at())
+    }
+}

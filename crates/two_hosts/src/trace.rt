@@ -1,0 +1,123 @@
+//! What happened, line by line: the packets as tcpdump shows them, and what the applications saw.
+
+use crate::context::{A, B};
+use crate::packet::{Body, Packet};
+use smoltcp_socket::wire::{ChecksumCapabilities, Icmpv4Repr, IpAddress, TcpControl, TcpRepr};
+use std::alloc::{AllocError, Global};
+use std::fmt::Write;
+
+/// The lines so far.
+#[derive(Debug, Drop)]
+pub struct Trace {
+    /// The text of all lines.
+    pub text: String,
+}
+
+impl Trace {
+    /// No lines yet.
+    pub fn new(alloc: Global) -> Trace {
+        Trace {
+            text: String::new(alloc),
+        }
+    }
+
+    /// Begins a line with the time, given in milliseconds and shown in seconds, and lends the text for the rest of it.
+    pub fn at(&mut self, now: u32) -> Result<&mut String, AllocError> {
+        let seconds = now / 1000;
+        let millis = now % 1000;
+        write!(self.text, "{seconds:>3}.{millis:03} ")?;
+        Ok(&mut self.text)
+    }
+
+    /// A line for a packet: when it was sent, by which host to which, what it carries, and when it arrives, if it does.
+    pub fn packet(
+        &mut self,
+        now: u32,
+        packet: &Packet,
+        arrival: Option<u32>,
+    ) -> Result<(), AllocError> {
+        self.at(now)?;
+        let (src, dst) = (name(&packet.ip.src_addr()), name(&packet.ip.dst_addr()));
+        match &packet.body {
+            Body::Tcp(header, payload) => self.segment(src, dst, header, payload.len())?,
+            Body::Udp(repr, payload) => {
+                let (from, to, len) = (repr.src_port, repr.dst_port, payload.len());
+                write!(self.text, "{src}:{from} > {dst}:{to}: UDP len {len}")?;
+            }
+            Body::Icmp(message) => self.message(src, dst, message.as_slice())?,
+            Body::Raw(payload) => {
+                let protocol = u8::from(packet.ip.next_header());
+                let len = payload.len();
+                write!(self.text, "{src} > {dst}: protocol {protocol} len {len}")?;
+            }
+        }
+        self.arrival(arrival)
+    }
+
+    fn segment(
+        &mut self,
+        src: &str,
+        dst: &str,
+        header: &TcpRepr<'_>,
+        len: usize,
+    ) -> Result<(), AllocError> {
+        let (from, to) = (header.src_port, header.dst_port);
+        let (flags, seq) = (flags(header), header.seq_number.0);
+        write!(self.text, "{src}:{from} > {dst}:{to}: {flags} seq {seq}")?;
+        if let Some(ack) = header.ack_number {
+            let ack = ack.0;
+            write!(self.text, " ack {ack}")?;
+        }
+        let win = header.window_len;
+        write!(self.text, " win {win} len {len}")?;
+        if let Some((left, right)) = header.sack_ranges[0] {
+            write!(self.text, " sack {left}-{right}")?;
+        }
+        Ok(())
+    }
+
+    fn message(&mut self, src: &str, dst: &str, message: &[u8]) -> Result<(), AllocError> {
+        write!(self.text, "{src} > {dst}: ICMP ")?;
+        match Icmpv4Repr::parse(message, &ChecksumCapabilities::default()) {
+            Ok(Icmpv4Repr::EchoRequest { ident, seq_no, .. }) => {
+                write!(self.text, "echo request id {ident} seq {seq_no}")
+            }
+            Ok(Icmpv4Repr::EchoReply { ident, seq_no, .. }) => {
+                write!(self.text, "echo reply id {ident} seq {seq_no}")
+            }
+            _ => write!(self.text, "error"),
+        }
+    }
+
+    fn arrival(&mut self, arrival: Option<u32>) -> Result<(), AllocError> {
+        match arrival {
+            None => writeln!(self.text, ", lost"),
+            Some(arrival) => {
+                let seconds = arrival / 1000;
+                let millis = arrival % 1000;
+                writeln!(self.text, ", arrives {seconds}.{millis:03}")
+            }
+        }
+    }
+}
+
+// The name of the host that has the address.
+fn name(addr: &IpAddress) -> &'static str {
+    match addr {
+        IpAddress::Ipv4(addr) if *addr == A => "a",
+        IpAddress::Ipv4(addr) if *addr == B => "b",
+        _ => "?",
+    }
+}
+
+fn flags(header: &TcpRepr<'_>) -> &'static str {
+    match (header.control, header.ack_number) {
+        (TcpControl::Syn, None) => "SYN",
+        (TcpControl::Syn, Some(_)) => "SYN|ACK",
+        (TcpControl::Fin, _) => "FIN|ACK",
+        (TcpControl::Psh, _) => "PSH|ACK",
+        (TcpControl::Rst, None) => "RST",
+        (TcpControl::Rst, Some(_)) => "RST|ACK",
+        (TcpControl::None, _) => "ACK",
+    }
+}
