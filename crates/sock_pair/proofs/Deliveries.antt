@@ -1,5 +1,5 @@
 -- What the code of a delivery shows, against its table.
-use Rattle.std.proofs.Common.{◌≡◌, ℕ, ◌+◌, ◌-◌, zero, suc, ◌<◌, true, false, List, [], ◌∷◌, ◌++◌, length, map, get_or, Option, Some, None, refl, sym, ap, subst, ◌∙◌, ◌⊎◌, arith}
+use Rattle.std.proofs.Common.{◌≡◌, ℕ, zero, suc, ◌<◌, true, false, List, [], ◌∷◌, ◌++◌, length, map, get_or, Option, Some, None, refl, sym, ap, subst, ◌∙◌, ◌⊎◌, arith}
 use Rattle.std.specs.Prelude.{slice_get, is_some, Bool, if◌then◌else◌}
 use Rattle.ip_wire.specs.declared.repr.IpRepr.{IpRepr}
 use Rattle.control_wire.specs.Segment.{Segment}
@@ -58,18 +58,6 @@ source_after source w v s e = ap is_some e ∙ go (drops_generator v s)
     go : (b : Bool) → is_some (if b then None else source) ≡ (if b then false else is_some source)
     go true = refl
     go false = refl
-
--- the side after a delivery, from what its fields then are
-pub delivered_as : (h u : HostView) (m : Moment) (t : StoredView) (w : View) (released taken : ℕ) (stamps : Bool) → u ≡ h → w ≡ (processed_by u m t).view
-    → released ≡ u.released + (length u.control_block.tx_buffer.bytes - length w.tx_buffer.bytes)
-    → taken ≡ u.taken + (length w.rx_buffer.bytes - length u.control_block.rx_buffer.bytes)
-    → stamps ≡ stamps_after u.stamps u.control_block t.segment
-    → record u { control_block = w; released = released; taken = taken; stamps = stamps } ≡ delivered_to h m t
-delivered_as h u m t w released taken stamps e view out came source =
-    let out_of : released ≡ u.released + (length u.control_block.tx_buffer.bytes - length (processed_by u m t).view.tx_buffer.bytes) = out ∙ ap (λ (v : View). u.released + (length u.control_block.tx_buffer.bytes - length v.tx_buffer.bytes)) view in
-    let came_of : taken ≡ u.taken + (length (processed_by u m t).view.rx_buffer.bytes - length u.control_block.rx_buffer.bytes) = came ∙ ap (λ (v : View). u.taken + (length v.rx_buffer.bytes - length u.control_block.rx_buffer.bytes)) view in
-    let same : record u { control_block = w; released = released; taken = taken; stamps = stamps } ≡ delivered_to u m t = λ i. record u { control_block = view i; released = out_of i; taken = came_of i; stamps = source i } in
-    same ∙ ap (λ k. delivered_to k m t) e
 
 -- the refusal of a segment with this control
 pub refused_by : (c : TcpControl) (t : StoredView) → t.segment.control ≡ c → refusal_of t ≡ refusal_reply c t

@@ -76,8 +76,11 @@ is_too_old released_at released_now taken_at taken_now =
 abbrev pub is_old : HostView → StoredView → Bool
 is_old emitter t = is_too_old t.released_at emitter.released t.taken_at emitter.taken
 
+abbrev pub processed_at : View → Moment → StoredView → Processed
+processed_at v m t = processed v (record { micros = m.now.micros }) m.word t.ip t.segment
+
 abbrev pub processed_by : HostView → Moment → StoredView → Processed
-processed_by h m t = processed h.control_block (record { micros = m.now.micros }) m.word t.ip t.segment
+processed_by h m t = processed_at h.control_block m t
 
 -- a SYN without a timestamp takes the source of them away
 abbrev pub stamps_after : Bool → View → Segment → Bool

@@ -6,6 +6,7 @@ ghost use Rattle.sock_tcp.specs.Process.{Accepts, processed, reply_of};
 ghost use Rattle.sock_tcp.specs.Replies.{Answers};
 ghost use Rattle.sock_pair.specs.Moments.{facts_of};
 ghost use Rattle.sock_pair.specs.Holding.{stored_of};
+ghost use Rattle.sock_pair.specs.PairSteps.{IsStampOf, processed_at, stamps_after};
 ghost use Rattle.sock_pair.specs.Pieces.{SendsPiece, ReceivesPiece};
 ghost use Rattle.sock_pair.specs.Recording.{Holds, IsShort, SocketDispatches};
 
@@ -331,7 +332,7 @@ impl<'a, G: TsvalSource> Host<'a, G> {
 }
 
 impl<'a, G: TsvalSource> Host<'a, G> {
-    ghost use Rattle.sock_pair.specs.PairSteps.{delivered_to, processed_by, IsStampOf};
+    ghost use Rattle.sock_pair.specs.PairSteps.{delivered_to, processed_by};
 
     // A delivery to this side.
     pub(crate) fn deliver(&mut self, moment: &Moment, segment: &Segment) -> Option<Reply>
@@ -344,18 +345,39 @@ impl<'a, G: TsvalSource> Host<'a, G> {
             (stored_of segment.now).ip (processed_by self.old moment.entry.now (stored_of segment.now)).reply
             (option_map reply_of result) }
     {
-        segment.in_range();
-        let mut cx = *moment;
-        let repr = segment.as_repr();
         let unacknowledged = self.socket.send_queue();
         let queued = self.socket.recv_queue();
-        let reply = self.socket.process(&mut cx, &segment.header.ip_repr, &repr);
+        let reply = process(&mut self.socket, moment, segment);
         let left = self.socket.send_queue();
         let joined = self.socket.recv_queue();
         self.released += unacknowledged.saturating_sub(left) as u64;
         self.taken += joined.saturating_sub(queued) as u64;
         reply
     }
+}
+
+// A stored segment is processed.
+fn process<G: TsvalSource>(
+    socket: &mut Socket<'_, G>,
+    moment: &Moment,
+    segment: &Segment,
+) -> Option<Reply>
+    requires { Accepts socket.old.control_block (stored_of segment.now).ip (stored_of segment.now).segment }
+    ensures view { socket.new.control_block
+        ≡ (processed_at socket.old.control_block moment.entry.now (stored_of segment.now)).view }
+    ensures stamps { is_some socket.new.tsval_generator
+        ≡ stamps_after (is_some socket.old.tsval_generator) socket.old.control_block (stored_of segment.now).segment }
+    ensures bare { ForSome result (λ r. r.1.payload.now ≡ []) }
+    ensures reply { Answers
+        (IsStampOf (is_some socket.new.tsval_generator) (stored_of segment.now).segment.timestamp)
+        (stored_of segment.now).ip
+        (processed_at socket.old.control_block moment.entry.now (stored_of segment.now)).reply
+        (option_map reply_of result) }
+{
+    segment.in_range();
+    let mut cx = *moment;
+    let repr = segment.as_repr();
+    socket.process(&mut cx, &segment.header.ip_repr, &repr)
 }
 
 // `send`, whose closure writes what fits of the bytes into the places that it is lent, and takes at most so many.
