@@ -3,8 +3,10 @@ use control_wire::TcpControl;
 use ip_wire::{IpAddress, IpEndpoint, Ipv4Address};
 use net_base::ring_buffer::RingBuffer;
 use net_base::time::{Duration, Instant};
+use sock_pair::script::parse;
 use sock_pair::{Event, HopLimit, Interval, Moment, Outcome, Pair, Setting, Setup, Side};
 use sock_tcp::CongestionControl;
+use std::alloc::Global;
 use std::process::Abort;
 use std::test::Fail;
 
@@ -43,6 +45,14 @@ pub(crate) fn deliver(index: usize) -> Event {
 
 pub(crate) fn happens(rt: &(impl Abort), pair: &mut Pair<'_>, event: &Event, outcome: Outcome) {
     assert_eq!(rt; pair.step(event), Ok(outcome));
+}
+
+// What the events of a script come to.
+pub(crate) fn plays(pair: &mut Pair<'_>, alloc: Global, text: &str) -> Result<Vec<Outcome>, Fail> {
+    let script = parse(alloc, text.as_bytes())?;
+    let mut outcomes = Vec::new(alloc);
+    pair.run(script.events.as_slice(), &mut outcomes)?;
+    Ok(outcomes)
 }
 
 // B listens, A connects, and the three segments of the handshake are delivered.
