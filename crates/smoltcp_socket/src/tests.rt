@@ -4,5 +4,7 @@ mod host;
 mod icmp;
 mod kinds;
 mod raw;
+mod tcp;
+mod tcp_poll;
 mod texts;
 mod udp;
