@@ -6,5 +6,6 @@ mod kinds;
 mod raw;
 mod tcp;
 mod tcp_poll;
+mod tcp_process;
 mod texts;
 mod udp;
