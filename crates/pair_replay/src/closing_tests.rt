@@ -15,30 +15,31 @@ const LAST_PRINTED: &str = "done\nemitted 4 FIN|ACK seq 5001 ack 1004 win 64 len
     emitted 5 ACK seq 1004 ack 5002 win 64 len 0\ndelivered\n";
 
 #[test]
-fn closing(rt: HostRuntime) -> Result<(), Fail> {
+fn closing_one_side(rt: HostRuntime) -> Result<(), Fail> {
     let alloc = rt.alloc();
-    let lines = format!(in alloc; "{OPENING}{FIN_LINES}")?;
-    let printed = format!(in alloc; "{OPENED}{FIN_PRINTED}")?;
     prints(
         &rt,
         alloc,
-        lines.as_str(),
-        printed.as_str(),
+        format!(in alloc; "{OPENING}{FIN_LINES}")?.as_str(),
+        format!(in alloc; "{OPENED}{FIN_PRINTED}")?.as_str(),
         &[(
             "fin_and_finished",
             "deliver 3 0 0\n",
             "delivered reply 4 ACK seq 5001 ack 1004 win 64 len 0\n\
-                a FIN-WAIT-1 accepted 2 handed-out 0 queued 0\n\
-                b CLOSE-WAIT accepted 0 handed-out 2 queued 0\n",
+            a FIN-WAIT-1 accepted 2 handed-out 0 queued 0\n\
+            b CLOSE-WAIT accepted 0 handed-out 2 queued 0\n",
         )],
-    )?;
-    let lines = format!(in alloc; "{lines}{LAST_LINES}")?;
-    let printed = format!(in alloc; "{printed}{LAST_PRINTED}")?;
+    )
+}
+
+#[test]
+fn closing_both_sides(rt: HostRuntime) -> Result<(), Fail> {
+    let alloc = rt.alloc();
     prints(
         &rt,
         alloc,
-        lines.as_str(),
-        printed.as_str(),
+        format!(in alloc; "{OPENING}{FIN_LINES}{LAST_LINES}")?.as_str(),
+        format!(in alloc; "{OPENED}{FIN_PRINTED}{LAST_PRINTED}")?.as_str(),
         &[
             (
                 "close_both_ways_and_time_wait",

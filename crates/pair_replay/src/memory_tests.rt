@@ -1,9 +1,8 @@
 //! Runs and replays in which a growth may be refused: `rt try --test --fail-alloc 1..` refuses each in turn.
-use crate::pair_tests::{A, B};
+use crate::pair_tests::{A, B, plain};
 use crate::tests::{MANY, replayed};
-use net_base::ring_buffer::RingBuffer;
 use sock_pair::script::{End, ScriptError, parse};
-use sock_pair::{Event, Outcome, Pair, Setup};
+use sock_pair::{Event, Outcome, Pair};
 use std::alloc::Global;
 use std::process::Abort;
 use std::test::Fail;
@@ -37,18 +36,8 @@ fn comes_to(rt: &(impl Abort), alloc: Global, text: &str, want: &[Outcome]) -> R
     let mut atx = [0u8; 64];
     let mut brx = [0u8; 64];
     let mut btx = [0u8; 64];
-    let a = Setup {
-        rx: RingBuffer::new(&mut arx),
-        tx: RingBuffer::new(&mut atx),
-        endpoint: A,
-        generator: None,
-    };
-    let b = Setup {
-        rx: RingBuffer::new(&mut brx),
-        tx: RingBuffer::new(&mut btx),
-        endpoint: B,
-        generator: None,
-    };
+    let a = plain(&mut arx, &mut atx, A);
+    let b = plain(&mut brx, &mut btx, B);
     let script = match parse(alloc, text.as_bytes()) {
         Err(ScriptError::Memory) => parse(alloc, text.as_bytes())?,
         answer => answer?,
@@ -79,7 +68,11 @@ fn refused_growths_of_a_run(rt: HostRuntime) -> Result<(), Fail> {
             Outcome::Emitted(3),
             Outcome::Delivered(None),
         ],
-    )?;
+    )
+}
+
+#[test]
+fn refused_growths_of_replies(rt: HostRuntime) -> Result<(), Fail> {
     comes_to(
         &rt,
         rt.alloc(),
@@ -135,6 +128,7 @@ fn refused_growths_of_a_replay(rt: HostRuntime) -> Result<(), Fail> {
     assert_eq!(rt; end, End::Memory);
     assert_eq!(rt; end.status(), 3);
     assert!(rt; STEPS.starts_with(got.as_slice()));
+    assert!(rt; got.is_empty() || got.ends_with(b"\n"));
     let (end, got) = replayed(alloc, SIX_BYTES.as_bytes(), MANY, MANY);
     assert!(rt; end == End::Done && is_whole(got.as_slice()));
     Ok(())

@@ -1,4 +1,6 @@
 //! Two sockets of a pair: a source of timestamps, closures that take nothing, settings.
+ghost use Rattle.std.specs.Prelude.{◌≡◌, ◌≤◌, ◌^◌, [], None, length};
+
 use control_wire::TcpControl;
 use ip_wire::{IpAddress, IpEndpoint, Ipv4Address};
 use net_base::ring_buffer::RingBuffer;
@@ -19,6 +21,25 @@ pub(crate) const B: IpEndpoint = IpEndpoint {
     addr: IpAddress::Ipv4(Ipv4Address([10, 0, 0, 2])),
     port: 80,
 };
+
+// A side with empty buffers and no source of timestamps.
+pub(crate) fn plain<'a>(
+    rx: &'a mut [u8; 64],
+    tx: &'a mut [u8; 64],
+    endpoint: IpEndpoint,
+) -> Setup<'a>
+    ensures rx { (result.rx.queue ≡ []) × (length result.rx.spare ≤ 2 ^ 30) }
+    ensures tx { (result.tx.queue ≡ []) × (length result.tx.spare ≤ 2 ^ 30) }
+    ensures endpoint { result.endpoint ≡ endpoint }
+    ensures generator { result.generator ≡ None }
+{
+    Setup {
+        rx: RingBuffer::new(rx),
+        tx: RingBuffer::new(tx),
+        endpoint,
+        generator: None,
+    }
+}
 
 fn clock() -> u32 {
     7

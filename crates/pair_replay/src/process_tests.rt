@@ -1,9 +1,8 @@
 //! What a delivery brings: segments that come again, out of order, or after the numbers wrapped.
-use crate::pair_tests::{A, B, plays};
+use crate::pair_tests::{A, B, plain, plays};
 use crate::tests::{OPENED, OPENING, prints};
 use control_wire::TcpSeqNumber;
-use net_base::ring_buffer::RingBuffer;
-use sock_pair::{Outcome, Pair, Setup, Side, too_old};
+use sock_pair::{Outcome, Pair, too_old};
 use std::test::Fail;
 
 #[test]
@@ -79,18 +78,8 @@ fn reordered_segments_and_sack(rt: HostRuntime) -> Result<(), Fail> {
     let mut atx = [0u8; 64];
     let mut brx = [0u8; 64];
     let mut btx = [0u8; 64];
-    let a = Setup {
-        rx: RingBuffer::new(&mut arx),
-        tx: RingBuffer::new(&mut atx),
-        endpoint: A,
-        generator: None,
-    };
-    let b = Setup {
-        rx: RingBuffer::new(&mut brx),
-        tx: RingBuffer::new(&mut btx),
-        endpoint: B,
-        generator: None,
-    };
+    let a = plain(&mut arx, &mut atx, A);
+    let b = plain(&mut brx, &mut btx, B);
     let mut pair = Pair::new(alloc, a, b, Some(1000));
     let lines = "nagle a off\nsend a abc\ndispatch a 0\nsend a def\ndispatch a 0\n\
         deliver 4 0 0\nrecv b 6\ndeliver 3 0 0\nrecv b 6\n";
