@@ -104,12 +104,7 @@ fn six_bytes_from_a_side_with_a_generator(rt: HostRuntime) -> Result<(), Fail> {
         endpoint: A,
         generator: Some(clock),
     };
-    let b = Setup {
-        rx: RingBuffer::new(&mut brx),
-        tx: RingBuffer::new(&mut btx),
-        endpoint: B,
-        generator: None,
-    };
+    let b = plain(&mut brx, &mut btx, B);
     let mut pair = Pair::new(alloc, a, b, Some(1000));
     assert!(rt; pair.socket(Side::A).timestamp_enabled());
     assert!(rt; !pair.socket(Side::B).timestamp_enabled());
@@ -221,18 +216,8 @@ fn closures_that_take_nothing(rt: HostRuntime) -> Result<(), Fail> {
     let mut atx = [0u8; 64];
     let mut brx = [0u8; 64];
     let mut btx = [0u8; 64];
-    let a = Setup {
-        rx: RingBuffer::new(&mut arx),
-        tx: RingBuffer::new(&mut atx),
-        endpoint: A,
-        generator: None,
-    };
-    let b = Setup {
-        rx: RingBuffer::new(&mut brx),
-        tx: RingBuffer::new(&mut btx),
-        endpoint: B,
-        generator: None,
-    };
+    let a = plain(&mut arx, &mut atx, A);
+    let b = plain(&mut brx, &mut btx, B);
     let mut pair = Pair::new(alloc, a, b, Some(1000));
     opens(&rt, &mut pair);
     let none = Event::Send {
@@ -267,22 +252,12 @@ fn closures_that_take_nothing(rt: HostRuntime) -> Result<(), Fail> {
 #[test]
 fn settings_of_a_pair(rt: HostRuntime) -> Result<(), Fail> {
     let alloc = rt.alloc();
-    let mut arx = [0u8; 1];
-    let mut atx = [0u8; 1];
-    let mut brx = [0u8; 1];
-    let mut btx = [0u8; 1];
-    let a = Setup {
-        rx: RingBuffer::new(&mut arx),
-        tx: RingBuffer::new(&mut atx),
-        endpoint: A,
-        generator: None,
-    };
-    let b = Setup {
-        rx: RingBuffer::new(&mut brx),
-        tx: RingBuffer::new(&mut btx),
-        endpoint: B,
-        generator: None,
-    };
+    let mut arx = [0u8; 64];
+    let mut atx = [0u8; 64];
+    let mut brx = [0u8; 64];
+    let mut btx = [0u8; 64];
+    let a = plain(&mut arx, &mut atx, A);
+    let b = plain(&mut brx, &mut btx, B);
     let mut pair = Pair::new(alloc, a, b, None);
     let second = Interval::new(Some(Duration::from_secs(1)));
     let hops = HopLimit::new(Some(9));

@@ -85,6 +85,11 @@ fn reordered_segments_and_sack(rt: HostRuntime) -> Result<(), Fail> {
         deliver 4 0 0\nrecv b 6\ndeliver 3 0 0\nrecv b 6\n";
     let text = format!(in alloc; "pair 64 64 64 64 1000\n{OPENING}{lines}")?;
     let outcomes = plays(&mut pair, alloc, text.as_str())?;
+    let both_offer = pair.segments().iter().take(2).all(|stored| {
+        let repr = stored.as_repr();
+        repr.sack_permitted && repr.window_scale == Some(0) && repr.max_seg_size == Some(1460)
+    });
+    assert!(rt; both_offer);
     assert!(rt; is_read(outcomes.as_slice(), 14, b""));
     assert!(rt; is_read(outcomes.as_slice(), 16, b"abcdef"));
     let Some(ahead) = pair.segments().get(5) else {
