@@ -74,7 +74,13 @@ fn fault_of(end: End) -> Result<(), Fault> {
 }
 
 #[cfg(test)]
+mod closing_tests;
+#[cfg(test)]
+mod memory_tests;
+#[cfg(test)]
 mod pair_tests;
+#[cfg(test)]
+mod process_tests;
 #[cfg(test)]
 mod script_tests;
 #[cfg(test)]

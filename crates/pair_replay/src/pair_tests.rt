@@ -1,10 +1,14 @@
 //! Two sockets of a pair: a source of timestamps, closures that take nothing, settings.
+ghost use Rattle.std.specs.Prelude.{◌≡◌, ◌≤◌, ◌^◌, [], None, length};
+
 use control_wire::TcpControl;
 use ip_wire::{IpAddress, IpEndpoint, Ipv4Address};
 use net_base::ring_buffer::RingBuffer;
 use net_base::time::{Duration, Instant};
+use sock_pair::script::parse;
 use sock_pair::{Event, HopLimit, Interval, Moment, Outcome, Pair, Setting, Setup, Side};
 use sock_tcp::CongestionControl;
+use std::alloc::Global;
 use std::process::Abort;
 use std::test::Fail;
 
@@ -17,6 +21,25 @@ pub(crate) const B: IpEndpoint = IpEndpoint {
     addr: IpAddress::Ipv4(Ipv4Address([10, 0, 0, 2])),
     port: 80,
 };
+
+// A side with empty buffers and no source of timestamps.
+pub(crate) fn plain<'a>(
+    rx: &'a mut [u8; 64],
+    tx: &'a mut [u8; 64],
+    endpoint: IpEndpoint,
+) -> Setup<'a>
+    ensures rx { (result.rx.queue ≡ []) × (length result.rx.spare ≤ 2 ^ 30) }
+    ensures tx { (result.tx.queue ≡ []) × (length result.tx.spare ≤ 2 ^ 30) }
+    ensures endpoint { result.endpoint ≡ endpoint }
+    ensures generator { result.generator ≡ None }
+{
+    Setup {
+        rx: RingBuffer::new(rx),
+        tx: RingBuffer::new(tx),
+        endpoint,
+        generator: None,
+    }
+}
 
 fn clock() -> u32 {
     7
@@ -43,6 +66,14 @@ pub(crate) fn deliver(index: usize) -> Event {
 
 pub(crate) fn happens(rt: &(impl Abort), pair: &mut Pair<'_>, event: &Event, outcome: Outcome) {
     assert_eq!(rt; pair.step(event), Ok(outcome));
+}
+
+// What the events of a script come to.
+pub(crate) fn plays(pair: &mut Pair<'_>, alloc: Global, text: &str) -> Result<Vec<Outcome>, Fail> {
+    let script = parse(alloc, text.as_bytes())?;
+    let mut outcomes = Vec::new(alloc);
+    pair.run(script.events.as_slice(), &mut outcomes)?;
+    Ok(outcomes)
 }
 
 // B listens, A connects, and the three segments of the handshake are delivered.
@@ -73,12 +104,7 @@ fn six_bytes_from_a_side_with_a_generator(rt: HostRuntime) -> Result<(), Fail> {
         endpoint: A,
         generator: Some(clock),
     };
-    let b = Setup {
-        rx: RingBuffer::new(&mut brx),
-        tx: RingBuffer::new(&mut btx),
-        endpoint: B,
-        generator: None,
-    };
+    let b = plain(&mut brx, &mut btx, B);
     let mut pair = Pair::new(alloc, a, b, Some(1000));
     assert!(rt; pair.socket(Side::A).timestamp_enabled());
     assert!(rt; !pair.socket(Side::B).timestamp_enabled());
@@ -190,18 +216,8 @@ fn closures_that_take_nothing(rt: HostRuntime) -> Result<(), Fail> {
     let mut atx = [0u8; 64];
     let mut brx = [0u8; 64];
     let mut btx = [0u8; 64];
-    let a = Setup {
-        rx: RingBuffer::new(&mut arx),
-        tx: RingBuffer::new(&mut atx),
-        endpoint: A,
-        generator: None,
-    };
-    let b = Setup {
-        rx: RingBuffer::new(&mut brx),
-        tx: RingBuffer::new(&mut btx),
-        endpoint: B,
-        generator: None,
-    };
+    let a = plain(&mut arx, &mut atx, A);
+    let b = plain(&mut brx, &mut btx, B);
     let mut pair = Pair::new(alloc, a, b, Some(1000));
     opens(&rt, &mut pair);
     let none = Event::Send {
@@ -236,22 +252,12 @@ fn closures_that_take_nothing(rt: HostRuntime) -> Result<(), Fail> {
 #[test]
 fn settings_of_a_pair(rt: HostRuntime) -> Result<(), Fail> {
     let alloc = rt.alloc();
-    let mut arx = [0u8; 1];
-    let mut atx = [0u8; 1];
-    let mut brx = [0u8; 1];
-    let mut btx = [0u8; 1];
-    let a = Setup {
-        rx: RingBuffer::new(&mut arx),
-        tx: RingBuffer::new(&mut atx),
-        endpoint: A,
-        generator: None,
-    };
-    let b = Setup {
-        rx: RingBuffer::new(&mut brx),
-        tx: RingBuffer::new(&mut btx),
-        endpoint: B,
-        generator: None,
-    };
+    let mut arx = [0u8; 64];
+    let mut atx = [0u8; 64];
+    let mut brx = [0u8; 64];
+    let mut btx = [0u8; 64];
+    let a = plain(&mut arx, &mut atx, A);
+    let b = plain(&mut brx, &mut btx, B);
     let mut pair = Pair::new(alloc, a, b, None);
     let second = Interval::new(Some(Duration::from_secs(1)));
     let hops = HopLimit::new(Some(9));

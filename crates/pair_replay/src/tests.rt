@@ -64,6 +64,14 @@ impl Sink for Page {
     }
 }
 
+// Room for the output of one script, so that a growth that is refused is one of the replay.
+fn room_for_output(alloc: Global) -> Vec<u8> {
+    match Vec::with_capacity(alloc, 4096) {
+        Ok(bytes) => bytes,
+        Err(_) => Vec::new(alloc),
+    }
+}
+
 // How the replay of a text ends and what it writes, where the reader has so many calls before its
 // fault, and the writer too.
 pub(crate) fn replayed(alloc: Global, text: &[u8], reads: usize, writes: usize) -> (End, Vec<u8>) {
@@ -73,7 +81,7 @@ pub(crate) fn replayed(alloc: Global, text: &[u8], reads: usize, writes: usize) 
         failed: false,
     };
     let mut writer = Page {
-        bytes: Vec::new(alloc),
+        bytes: room_for_output(alloc),
         calls_left: writes,
         failed: false,
     };
@@ -84,10 +92,12 @@ pub(crate) fn replayed(alloc: Global, text: &[u8], reads: usize, writes: usize) 
 
 pub(crate) const MANY: usize = 1_000_000;
 
-const OPENING: &str = "listen b\nconnect a 1000\ndispatch a 0\ndeliver 0 0 5000\ndispatch b 0\n\
+pub(crate) const OPENING: &str =
+    "listen b\nconnect a 1000\ndispatch a 0\ndeliver 0 0 5000\ndispatch b 0\n\
     deliver 1 0 0\ndispatch a 0\ndeliver 2 0 0\n";
 
-const OPENED: &str = "opened\nopened\nemitted 0 SYN seq 1000 ack - win 64 len 0\ndelivered\n\
+pub(crate) const OPENED: &str =
+    "opened\nopened\nemitted 0 SYN seq 1000 ack - win 64 len 0\ndelivered\n\
     emitted 1 SYN|ACK seq 5000 ack 1001 win 64 len 0\ndelivered\n\
     emitted 2 ACK seq 1001 ack 5001 win 64 len 0\ndelivered\n";
 
@@ -108,17 +118,38 @@ pub(crate) fn runs(
     Ok(())
 }
 
+// Each example's name, its lines and what they print, after the lines that all begin with.
+pub(crate) fn prints(
+    rt: &(impl Abort),
+    alloc: Global,
+    first_lines: &str,
+    first_output: &str,
+    examples: &[(&str, &str, &str)],
+) -> Result<(), Fail> {
+    for (name, lines, output) in examples {
+        let text = format!(in alloc; "pair 64 64 64 64 1000\n{first_lines}{lines}")?;
+        let want = format!(in alloc; "{first_output}{output}")?;
+        let (end, got) = replayed(alloc, text.as_bytes(), MANY, MANY);
+        assert_eq!(rt; end, End::Done, "{name}");
+        assert_eq!(rt; got.as_slice(), want.as_bytes(), "{name}");
+    }
+    Ok(())
+}
+
+const SIX_BYTES: &str = "send a abcdef\ndispatch a 0\ndeliver 3 0 0\n";
+
+const SIX_BYTES_SENT: &str = "accepted 6\nemitted 3 PSH|ACK seq 1001 ack 5001 win 64 len 6\n\
+    delivered\na ESTABLISHED accepted 6 handed-out 0 queued 0\n\
+    b ESTABLISHED accepted 0 handed-out 0 queued 6\n";
+
 #[test]
 fn handshake_and_six_bytes(rt: HostRuntime) -> Result<(), Fail> {
-    runs(
-        &rt,
-        rt.alloc(),
-        "1000",
-        "send a abcdef\ndispatch a 0\ndeliver 3 0 0\n",
-        "accepted 6\nemitted 3 PSH|ACK seq 1001 ack 5001 win 64 len 6\ndelivered\n\
-        a ESTABLISHED accepted 6 handed-out 0 queued 0\n\
-        b ESTABLISHED accepted 0 handed-out 0 queued 6\n",
-    )
+    runs(&rt, rt.alloc(), "1000", SIX_BYTES, SIX_BYTES_SENT)
+}
+
+#[test]
+fn script_without_limit(rt: HostRuntime) -> Result<(), Fail> {
+    runs(&rt, rt.alloc(), "-", SIX_BYTES, SIX_BYTES_SENT)
 }
 
 #[test]
@@ -156,23 +187,6 @@ fn bytes_are_read(rt: HostRuntime) -> Result<(), Fail> {
         "send a abcdef\ndispatch a 0\ndeliver 3 0 0\nrecv b 4\nrecv b 4\nrecv b 4\ndispatch a 0\n",
         "accepted 6\nemitted 3 PSH|ACK seq 1001 ack 5001 win 64 len 6\ndelivered\n\
         read 4 abcd\nread 2 ef\nread 0\nquiet\n\
-        a ESTABLISHED accepted 6 handed-out 0 queued 0\n\
-        b ESTABLISHED accepted 0 handed-out 6 queued 0\n",
-    )
-}
-
-#[test]
-fn bytes_ahead_of_a_gap_are_held(rt: HostRuntime) -> Result<(), Fail> {
-    runs(
-        &rt,
-        rt.alloc(),
-        "1000",
-        "nagle a off\nsend a abc\ndispatch a 0\nsend a def\ndispatch a 0\ndeliver 4 0 0\nrecv b 6\n\
-        deliver 3 0 0\nrecv b 6\n",
-        "done\naccepted 3\nemitted 3 PSH|ACK seq 1001 ack 5001 win 64 len 3\n\
-        accepted 3\nemitted 4 PSH|ACK seq 1004 ack 5001 win 64 len 3\n\
-        delivered reply 5 ACK seq 5001 ack 1001 win 64 len 0\nread 0\n\
-        delivered reply 6 ACK seq 5001 ack 1007 win 58 len 0\nread 6 abcdef\n\
         a ESTABLISHED accepted 6 handed-out 0 queued 0\n\
         b ESTABLISHED accepted 0 handed-out 6 queued 0\n",
     )
@@ -232,24 +246,65 @@ fn malformed_scripts(rt: HostRuntime) -> Result<(), Fail> {
     Ok(())
 }
 
-// The text of six bytes sent takes nine reads or fewer, and its output fewer than 300 writes.
+// The script of six bytes, ended behind any of its bytes, runs, or its last line alone has a fault.
+#[test]
+fn cut_scripts(rt: HostRuntime) -> Result<(), Fail> {
+    let alloc = rt.alloc();
+    let text = format!(in alloc; "pair 64 64 64 64 1000\n{OPENING}{SIX_BYTES}")?;
+    for cut in 0..text.len() {
+        let (bytes, _) = text.as_bytes().split_at(cut);
+        let line = 1 + bytes.iter().filter(|byte| **byte == b'\n').count();
+        let (end, got) = replayed(alloc, bytes, MANY, MANY);
+        assert_eq!(rt; end == End::Done, !got.is_empty());
+        let faults = [
+            End::Script(ScriptError::NoPairLine { line }),
+            End::Script(ScriptError::UnknownEvent { line }),
+            End::Script(ScriptError::WrongNumberOfWords { line }),
+        ];
+        assert!(rt; end == End::Done || faults.contains(&end), "at {cut}");
+    }
+    is_refused(&rt, alloc, b"pai", ScriptError::NoPairLine { line: 1 });
+    let side = b"pair 64 64 64 64 1000\nlisten b\nconnect a";
+    is_refused(
+        &rt,
+        alloc,
+        side,
+        ScriptError::WrongNumberOfWords { line: 3 },
+    );
+    let words = b"pair 64 64 64 64 1000\nlisten b\nconnect a 1000\ndispatch a 0\ndeliver 0 0";
+    is_refused(
+        &rt,
+        alloc,
+        words,
+        ScriptError::WrongNumberOfWords { line: 5 },
+    );
+    Ok(())
+}
+
+// The reader, and then the writer, fails at each of its calls in turn.
 #[test]
 fn streams_that_fail(rt: HostRuntime) -> Result<(), Fail> {
     let alloc = rt.alloc();
-    let text = format!(in alloc; "pair 64 64 64 64 1000\n{OPENING}send a abcdef\ndispatch a 0\n")?;
-    let (end, all) = replayed(alloc, text.as_bytes(), MANY, MANY);
-    assert_eq!(rt; end, End::Done);
-    for calls in 0..4 {
+    let text = format!(in alloc; "pair 64 64 64 64 1000\n{OPENING}{SIX_BYTES}")?;
+    let want = format!(in alloc; "{OPENED}{SIX_BYTES_SENT}")?;
+    for calls in 0..300 {
         let (end, got) = replayed(alloc, text.as_bytes(), calls, MANY);
+        if end == End::Done {
+            break;
+        }
         assert_eq!(rt; end, End::Read);
         assert_eq!(rt; end.status(), 2);
-        assert!(rt; got.is_empty());
+        assert!(rt; got.is_empty() && calls < 299);
     }
-    for calls in 0..60 {
+    for calls in 0..300 {
         let (end, got) = replayed(alloc, text.as_bytes(), MANY, calls);
+        assert!(rt; want.as_bytes().starts_with(got.as_slice()));
+        if end == End::Done {
+            break;
+        }
         assert_eq!(rt; end, End::Write);
         assert_eq!(rt; end.status(), 2);
-        assert!(rt; all.as_slice().starts_with(got.as_slice()));
+        assert!(rt; calls < 299);
     }
     Ok(())
 }

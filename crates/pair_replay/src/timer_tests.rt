@@ -1,12 +1,11 @@
 //! What moments do to a pair: segments that are sent again, held back or sent for a timeout.
-use crate::pair_tests::{A, B, deliver, dispatch, happens, set};
+use crate::pair_tests::{A, B, deliver, dispatch, happens, plain, set};
 use crate::tests::{MANY, replayed, runs};
 use control_wire::{TcpControl, TcpSeqNumber};
-use net_base::ring_buffer::RingBuffer;
 use net_base::time::{Duration, Instant};
 use sock_core::PollAt;
 use sock_pair::script::End;
-use sock_pair::{Event, Interval, Moment, Outcome, Pair, Setting, Setup, Side};
+use sock_pair::{Event, Interval, Moment, Outcome, Pair, Setting, Side};
 use sock_tcp::State;
 use std::alloc::Global;
 use std::process::Abort;
@@ -211,18 +210,8 @@ fn user_timeout_of_syn(rt: HostRuntime) -> Result<(), Fail> {
     let mut atx = [0u8; 64];
     let mut brx = [0u8; 64];
     let mut btx = [0u8; 64];
-    let a = Setup {
-        rx: RingBuffer::new(&mut arx),
-        tx: RingBuffer::new(&mut atx),
-        endpoint: A,
-        generator: None,
-    };
-    let b = Setup {
-        rx: RingBuffer::new(&mut brx),
-        tx: RingBuffer::new(&mut btx),
-        endpoint: B,
-        generator: None,
-    };
+    let a = plain(&mut arx, &mut atx, A);
+    let b = plain(&mut brx, &mut btx, B);
     let mut pair = Pair::new(rt.alloc(), a, b, Some(1000));
     let half_second = Interval::new(Some(Duration::from_millis(500)));
     let timeout = set(Side::A, Setting::Timeout(half_second));
@@ -311,18 +300,8 @@ fn keep_alive_zero_byte(rt: HostRuntime) -> Result<(), Fail> {
     let mut atx = [0u8; 64];
     let mut brx = [0u8; 64];
     let mut btx = [0u8; 64];
-    let a = Setup {
-        rx: RingBuffer::new(&mut arx),
-        tx: RingBuffer::new(&mut atx),
-        endpoint: A,
-        generator: None,
-    };
-    let b = Setup {
-        rx: RingBuffer::new(&mut brx),
-        tx: RingBuffer::new(&mut btx),
-        endpoint: B,
-        generator: None,
-    };
+    let a = plain(&mut arx, &mut atx, A);
+    let b = plain(&mut brx, &mut btx, B);
     let mut pair = Pair::new(rt.alloc(), a, b, Some(1000));
     keeps_alive(&rt, &mut pair);
     happens(&rt, &mut pair, &dispatch_at(Side::A, 999), Outcome::Quiet);
@@ -342,18 +321,8 @@ fn keep_alive_is_answered(rt: HostRuntime) -> Result<(), Fail> {
     let mut atx = [0u8; 64];
     let mut brx = [0u8; 64];
     let mut btx = [0u8; 64];
-    let a = Setup {
-        rx: RingBuffer::new(&mut arx),
-        tx: RingBuffer::new(&mut atx),
-        endpoint: A,
-        generator: None,
-    };
-    let b = Setup {
-        rx: RingBuffer::new(&mut brx),
-        tx: RingBuffer::new(&mut btx),
-        endpoint: B,
-        generator: None,
-    };
+    let a = plain(&mut arx, &mut atx, A);
+    let b = plain(&mut brx, &mut btx, B);
     let mut pair = Pair::new(rt.alloc(), a, b, Some(1000));
     keeps_alive(&rt, &mut pair);
     happens(&rt, &mut pair, &deliver(3), Outcome::Delivered(Some(4)));
@@ -375,18 +344,8 @@ fn paused_syn_ack(rt: HostRuntime) -> Result<(), Fail> {
     let mut atx = [0u8; 64];
     let mut brx = [0u8; 64];
     let mut btx = [0u8; 64];
-    let a = Setup {
-        rx: RingBuffer::new(&mut arx),
-        tx: RingBuffer::new(&mut atx),
-        endpoint: A,
-        generator: None,
-    };
-    let b = Setup {
-        rx: RingBuffer::new(&mut brx),
-        tx: RingBuffer::new(&mut btx),
-        endpoint: B,
-        generator: None,
-    };
+    let a = plain(&mut arx, &mut atx, A);
+    let b = plain(&mut brx, &mut btx, B);
     let mut pair = Pair::new(rt.alloc(), a, b, Some(1000));
     let listen = Event::Listen { side: Side::B };
     happens(&rt, &mut pair, &listen, Outcome::Opened);

@@ -4,5 +4,8 @@ mod host;
 mod icmp;
 mod kinds;
 mod raw;
+mod tcp;
+mod tcp_poll;
+mod tcp_process;
 mod texts;
 mod udp;

@@ -34,8 +34,3 @@ pub use reply::Reply;
 pub use settings::CongestionControl;
 pub use socket::{Socket, SocketBuffer};
 pub use state::State;
-
-#[cfg(test)]
-mod poll_tests;
-#[cfg(test)]
-mod tests;

@@ -1,30 +1,46 @@
 //! The context of all tests.
-ghost use Rattle.std.specs.Prelude.{None, true, false, pos, replicate};
+ghost use Rattle.std.specs.Prelude.{None, true, false, replicate};
+ghost use Rattle.sock_core.specs.Bounds.{IsMoment};
 
 use crate::Context;
 use crate::time::Instant;
 use crate::wire::{ChecksumCapabilities, IpAddress, Ipv4Address, Ipv6Address};
 
-// A host at moment 0 that has every address. Datagrams of IPv4 go out from `addr`, where there is one.
+// A host that has every address. Datagrams of IPv4 go out from `addr`, where there is one. Each random word is `word`.
 #[derive(Drop)]
 pub(crate) struct Host {
     pub(crate) addr: Option<Ipv4Address>,
     pub(crate) caps: ChecksumCapabilities,
+    now: Instant,
+    word: u32,
+    ghost moment: { IsMoment now.micros },
 }
 
 impl Host {
-    // A host whose checksums are all sent and tested.
+    // A host at moment 0 whose checksums are all sent and tested.
     pub(crate) fn new(addr: Option<Ipv4Address>) -> Host {
         Host {
             addr,
             caps: ChecksumCapabilities::default(),
+            now: Instant::ZERO,
+            word: 7,
+        }
+    }
+
+    // A host of TCP sockets, so many milliseconds after the start.
+    pub(crate) fn at(millis: u16, word: u32) -> Host {
+        Host {
+            addr: None,
+            caps: ChecksumCapabilities::default(),
+            now: Instant::from_millis(millis as i64),
+            word,
         }
     }
 }
 
 impl Context for Host {
     ghost facts = { λ h. record {
-      now = pos 0;
+      now = h.now.micros;
       mtu = 1500;
       has_address = λ _. true;
       source = λ _. None;
@@ -34,10 +50,10 @@ impl Context for Host {
       checksums = h.caps;
     } };
 
-    ghost word_at = { λ _ _. 7 };
+    ghost word_at = { λ h _. h.word };
 
     fn now(&self) -> Instant {
-        Instant::ZERO
+        self.now
     }
 
     fn has_ip_addr(&self, _addr: IpAddress) -> bool {
@@ -69,6 +85,6 @@ impl Context for Host {
     }
 
     fn rand_u32(&mut self) -> u32 {
-        7
+        self.word
     }
 }

@@ -1,7 +1,7 @@
-//! What the errors and the metadata of datagram sockets print.
+//! What errors, the states of TCP and the metadata of datagrams print.
 
 use crate::wire::{IpAddress, IpEndpoint, Ipv4Address};
-use crate::{raw, udp};
+use crate::{raw, tcp, udp};
 use std::fmt;
 use std::test::Fail;
 
@@ -25,5 +25,18 @@ fn texts(rt: HostRuntime) -> Result<(), Fail> {
     };
     let meta = udp::UdpMetadata::from_endpoint(endpoint);
     assert!(rt; prints(&rt, &meta, "192.168.1.2:49500")?);
+    Ok(())
+}
+
+#[test]
+fn texts_of_tcp(rt: HostRuntime) -> Result<(), Fail> {
+    assert!(rt; prints(&rt, &tcp::State::FinWait1, "FIN-WAIT-1")?);
+    assert!(rt; prints(&rt, &tcp::State::SynReceived, "SYN-RECEIVED")?);
+    assert!(rt; prints(&rt, &tcp::State::Closed, "CLOSED")?);
+    let unaddressable = tcp::ListenError::Unaddressable;
+    assert!(rt; prints(&rt, &unaddressable, "unaddressable destination")?);
+    assert!(rt; prints(&rt, &tcp::ConnectError::InvalidState, "invalid state")?);
+    assert!(rt; prints(&rt, &tcp::SendError::InvalidState, "invalid state")?);
+    assert!(rt; prints(&rt, &tcp::RecvError::Finished, "operation finished")?);
     Ok(())
 }

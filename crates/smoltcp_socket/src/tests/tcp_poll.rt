@@ -1,26 +1,25 @@
-//! When a socket wants its next dispatch, and what it emits for a keep-alive or a clock.
-use crate::poll::{dispatch_early, payload_keeps_to_windows, poll_at_hides_nothing};
-use crate::tests::{A, B, Interface, at, clock, emitted, established};
-use crate::timer::Timer;
-use crate::*;
-use control_wire::{TcpRepr, TcpTimestampRepr};
-use ip_wire::IpRepr;
-use net_base::ring_buffer::RingBuffer;
-use net_base::time::{Duration, Instant};
-use sock_core::PollAt;
+//! When a TCP socket wants its next dispatch, and what it emits for a keep-alive or with a clock.
+use super::host::Host;
+use super::tcp::{A, B, at, clock, emitted, establish};
+use crate::PollAt;
+use crate::storage::RingBuffer;
+use crate::tcp::*;
+use crate::time::{Duration, Instant};
+use crate::wire::{IpRepr, TcpRepr, TcpTimestampRepr};
+use sock_tcp::poll::{dispatch_early, payload_keeps_to_windows, poll_at_hides_nothing};
 use std::test::Fail;
 
 #[test]
 fn a_dispatch_before_its_moment_emits_nothing(rt: HostRuntime) -> Result<(), Fail> {
     let mut rx = [0u8; 4];
     let mut tx = [0u8; 4];
-    let mut cx = Interface { word: 1000 };
+    let mut cx = Host::at(0, 1000);
     let mut socket = Socket::new(RingBuffer::new(&mut rx), RingBuffer::new(&mut tx));
     let early = match socket.poll_at(&cx) {
         PollAt::Ingress => dispatch_early(
             &mut socket,
             &mut cx,
-            |_: &mut Interface, _sent: (IpRepr, TcpRepr<'_>)| -> Result<(), u8> { Err(1) },
+            |_: &mut Host, _sent: (IpRepr, TcpRepr<'_>)| -> Result<(), u8> { Err(1) },
         ),
         _ => Err(2),
     };
@@ -34,7 +33,7 @@ fn a_dispatch_before_its_moment_emits_nothing(rt: HostRuntime) -> Result<(), Fai
 fn poll_moments_of_a_syn(rt: HostRuntime) -> Result<(), Fail> {
     let mut rx = [0u8; 4];
     let mut tx = [0u8; 4];
-    let mut cx = Interface { word: 1000 };
+    let mut cx = Host::at(0, 1000);
     let mut socket = Socket::new(RingBuffer::new(&mut rx), RingBuffer::new(&mut tx));
     assert_eq!(rt; socket.connect(&mut cx, B, at(A)), Ok(()));
     assert_eq!(rt; socket.poll_at(&cx), PollAt::Now);
@@ -51,24 +50,17 @@ fn poll_moments_of_a_syn(rt: HostRuntime) -> Result<(), Fail> {
     Ok(())
 }
 
-// Nothing is waited for.
-fn rest(control_block: &mut ControlBlock<'_>) {
-    control_block.timer = Timer::Idle {
-        keep_alive_at: None,
-    };
-}
-
 #[test]
 fn a_keep_alive_stands_before_snd_una(rt: HostRuntime) -> Result<(), Fail> {
     let mut rx = [0u8; 4];
     let mut tx = [0u8; 4];
-    let mut cx = Interface { word: 1000 };
-    let mut socket = established(&mut rx, &mut tx, &mut cx);
+    let mut cx = Host::at(0, 1000);
+    let mut socket = Socket::new(RingBuffer::new(&mut rx), RingBuffer::new(&mut tx));
+    establish(&mut socket, &mut cx);
     assert_eq!(rt;
         emitted(&mut socket, &mut cx, false),
         (Some((1001, 0)), true)
     );
-    rest(&mut socket.control_block);
     assert_eq!(rt; socket.poll_at(&cx), PollAt::Ingress);
     socket.set_keep_alive(Some(Duration::from_secs(1)));
     assert_eq!(rt;
@@ -85,12 +77,12 @@ fn a_keep_alive_stands_before_snd_una(rt: HostRuntime) -> Result<(), Fail> {
 fn a_syn_carries_a_timestamp(rt: HostRuntime) -> Result<(), Fail> {
     let mut rx = [0u8; 4];
     let mut tx = [0u8; 4];
-    let mut cx = Interface { word: 1000 };
+    let mut cx = Host::at(0, 1000);
     let mut socket = Socket::new(RingBuffer::new(&mut rx), RingBuffer::new(&mut tx));
     socket.set_tsval_generator(Some(clock));
     assert_eq!(rt; socket.connect(&mut cx, B, at(A)), Ok(()));
     let mut seen = None;
-    let answer = socket.dispatch(&mut cx, |_: &mut Interface, sent: (IpRepr, TcpRepr<'_>)| {
+    let answer = socket.dispatch(&mut cx, |_: &mut Host, sent: (IpRepr, TcpRepr<'_>)| {
         seen = sent.1.timestamp;
         if sent.1.payload.is_empty() {
             Ok(())

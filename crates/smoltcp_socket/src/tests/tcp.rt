@@ -1,74 +1,14 @@
-//! Worked examples, and each call once at a concrete type.
-ghost use Rattle.std.specs.Prelude.{None, false, true, pos, replicate};
-ghost use Rattle.ip_wire.specs.declared.checksum.Checksum.TheVariants.{Both};
-
-use crate::*;
-use control_wire::{TcpControl, TcpRepr, TcpSeqNumber};
-use ip_wire::{
-    ChecksumCapabilities, IpAddress, IpEndpoint, IpListenEndpoint, IpRepr, Ipv4Address, Ipv6Address,
+//! TCP sockets: which calls are refused and when, what goes in and out of their queues, and their settings.
+use super::host::Host;
+use crate::storage::RingBuffer;
+use crate::tcp::*;
+use crate::time::Duration;
+use crate::wire::{
+    IpAddress, IpEndpoint, IpListenEndpoint, IpProtocol, IpRepr, Ipv4Address, TcpControl, TcpRepr,
+    TcpSeqNumber,
 };
-use net_base::ring_buffer::RingBuffer;
-use net_base::time::{Duration, Instant};
-use sock_core::Context;
 use std::fmt::Write;
 use std::test::Fail;
-
-// A host that has every address, whose clock stands at 0 and whose next word is always the same.
-#[derive(Drop)]
-pub(crate) struct Interface {
-    pub word: u32,
-}
-
-impl Context for Interface {
-    ghost facts = { λ _. record {
-      now = pos 0;
-      mtu = 1500;
-      has_address = λ _. true;
-      source = λ _. None;
-      source_ipv4 = λ _. None;
-      source_ipv6 = λ _. record { 0 = replicate 16 0 };
-      broadcast = λ _. false;
-      checksums = record { ipv4 = Both; udp = Both; tcp = Both; icmpv4 = Both; icmpv6 = Both };
-    } };
-
-    ghost word_at = { λ h _. h.word };
-
-    fn now(&self) -> Instant {
-        Instant::ZERO
-    }
-
-    fn has_ip_addr(&self, _addr: IpAddress) -> bool {
-        true
-    }
-
-    fn get_source_address(&self, _dst: &IpAddress) -> Option<IpAddress> {
-        None
-    }
-
-    fn get_source_address_ipv4(&self, _dst: &Ipv4Address) -> Option<Ipv4Address> {
-        None
-    }
-
-    fn get_source_address_ipv6(&self, _dst: &Ipv6Address) -> Ipv6Address {
-        Ipv6Address([0; 16])
-    }
-
-    fn is_broadcast(&self, _addr: &IpAddress) -> bool {
-        false
-    }
-
-    fn ip_mtu(&self) -> usize {
-        1500
-    }
-
-    fn checksum_caps(&self) -> ChecksumCapabilities {
-        ChecksumCapabilities::default()
-    }
-
-    fn rand_u32(&mut self) -> u32 {
-        self.word
-    }
-}
 
 pub(crate) const A: IpEndpoint = IpEndpoint {
     addr: IpAddress::Ipv4(Ipv4Address([10, 0, 0, 1])),
@@ -111,7 +51,7 @@ fn connect_validation(rt: HostRuntime) -> Result<(), Fail> {
     let mut rx = [0u8; 4];
     let mut tx = [0u8; 4];
     let mut socket = Socket::new(RingBuffer::new(&mut rx), RingBuffer::new(&mut tx));
-    let mut cx = Interface { word: 1000 };
+    let mut cx = Host::at(0, 1000);
     let nowhere = IpEndpoint {
         addr: B.addr,
         port: 0,
@@ -140,7 +80,7 @@ fn connect_validation(rt: HostRuntime) -> Result<(), Fail> {
 }
 
 // Takes a segment where the socket accepts it.
-fn hear(socket: &mut Socket<'_>, cx: &mut Interface, ip_repr: &IpRepr, repr: &TcpRepr<'_>) -> bool {
+fn hear(socket: &mut Socket<'_>, cx: &mut Host, ip_repr: &IpRepr, repr: &TcpRepr<'_>) -> bool {
     if repr.payload.len() > 65535 || !socket.accepts(cx, ip_repr, repr) {
         return false;
     }
@@ -167,11 +107,11 @@ fn answer<'a>(control: TcpControl, seq: u32, payload: &'a [u8]) -> TcpRepr<'a> {
 // The sequence number and the payload of what is emitted.
 pub(crate) fn emitted(
     socket: &mut Socket<'_>,
-    cx: &mut Interface,
+    cx: &mut Host,
     fail: bool,
 ) -> (Option<(u32, usize)>, bool) {
     let mut seen = None;
-    let answer = socket.dispatch(cx, |_: &mut Interface, sent: (IpRepr, TcpRepr<'_>)| {
+    let answer = socket.dispatch(cx, |_: &mut Host, sent: (IpRepr, TcpRepr<'_>)| {
         seen = Some((sent.1.seq_number.0, sent.1.payload.len()));
         if fail { Err(()) } else { Ok(()) }
     });
@@ -183,8 +123,8 @@ fn a_peer_sends_and_receives(rt: HostRuntime) -> Result<(), Fail> {
     let mut rx = [0u8; 4];
     let mut tx = [0u8; 4];
     let mut socket = Socket::new(RingBuffer::new(&mut rx), RingBuffer::new(&mut tx));
-    let mut cx = Interface { word: 1000 };
-    let ip_repr = IpRepr::new(B.addr, A.addr, ip_wire::IpProtocol::Tcp, 20, 64);
+    let mut cx = Host::at(0, 1000);
+    let ip_repr = IpRepr::new(B.addr, A.addr, IpProtocol::Tcp, 20, 64);
     assert_eq!(rt; socket.connect(&mut cx, B, at(A)), Ok(()));
     assert_eq!(rt;
         emitted(&mut socket, &mut cx, true),
@@ -236,23 +176,12 @@ fn a_peer_sends_and_receives(rt: HostRuntime) -> Result<(), Fail> {
     Ok(())
 }
 
-// A connection over these buffers, established by hand.
-pub(crate) fn established<'a>(
-    rx: &'a mut [u8; 4],
-    tx: &'a mut [u8; 4],
-    cx: &mut Interface,
-) -> Socket<'a> {
-    let mut socket = Socket::new(RingBuffer::new(rx), RingBuffer::new(tx));
-    let ip_repr = IpRepr::new(B.addr, A.addr, ip_wire::IpProtocol::Tcp, 20, 64);
+// Connects a new socket, by a SYN|ACK made by hand.
+pub(crate) fn establish(socket: &mut Socket<'_>, cx: &mut Host) {
+    let ip_repr = IpRepr::new(B.addr, A.addr, IpProtocol::Tcp, 20, 64);
     let _ = socket.connect(cx, B, at(A));
-    let _ = emitted(&mut socket, cx, false);
-    let _ = hear(
-        &mut socket,
-        cx,
-        &ip_repr,
-        &answer(TcpControl::Syn, 5000, &[]),
-    );
-    socket
+    let _ = emitted(socket, cx, false);
+    let _ = hear(socket, cx, &ip_repr, &answer(TcpControl::Syn, 5000, &[]));
 }
 
 #[test]
@@ -287,8 +216,9 @@ fn tcp_defaults(rt: HostRuntime) -> Result<(), Fail> {
 fn write_str_keeps_what_fits(rt: HostRuntime) -> Result<(), Fail> {
     let mut rx = [0u8; 4];
     let mut tx = [0u8; 4];
-    let mut cx = Interface { word: 1000 };
-    let mut socket = established(&mut rx, &mut tx, &mut cx);
+    let mut cx = Host::at(0, 1000);
+    let mut socket = Socket::new(RingBuffer::new(&mut rx), RingBuffer::new(&mut tx));
+    establish(&mut socket, &mut cx);
     assert!(rt; socket.write_str("").is_ok());
     assert!(rt; socket.write_str("hello").is_err());
     assert_eq!(rt; socket.send_queue(), 4);
@@ -299,8 +229,9 @@ fn write_str_keeps_what_fits(rt: HostRuntime) -> Result<(), Fail> {
 fn closures_that_take_nothing(rt: HostRuntime) -> Result<(), Fail> {
     let mut rx = [0u8; 4];
     let mut tx = [0u8; 4];
-    let mut cx = Interface { word: 1000 };
-    let mut socket = established(&mut rx, &mut tx, &mut cx);
+    let mut cx = Host::at(0, 1000);
+    let mut socket = Socket::new(RingBuffer::new(&mut rx), RingBuffer::new(&mut tx));
+    establish(&mut socket, &mut cx);
     assert_eq!(rt; socket.send(|free| (0, free.len())), Ok(4));
     assert_eq!(rt; socket.recv(|queue| (0, queue.len())), Ok(0));
     assert_eq!(rt; (socket.send_queue(), socket.recv_queue()), (0, 0));
@@ -311,9 +242,10 @@ fn closures_that_take_nothing(rt: HostRuntime) -> Result<(), Fail> {
 fn closures_and_peeks(rt: HostRuntime) -> Result<(), Fail> {
     let mut rx = [0u8; 4];
     let mut tx = [0u8; 4];
-    let mut cx = Interface { word: 1000 };
-    let mut socket = established(&mut rx, &mut tx, &mut cx);
-    let ip_repr = IpRepr::new(B.addr, A.addr, ip_wire::IpProtocol::Tcp, 20, 64);
+    let mut cx = Host::at(0, 1000);
+    let mut socket = Socket::new(RingBuffer::new(&mut rx), RingBuffer::new(&mut tx));
+    establish(&mut socket, &mut cx);
+    let ip_repr = IpRepr::new(B.addr, A.addr, IpProtocol::Tcp, 20, 64);
     let sent = socket.send(|free| {
         let count = free.len().min(2);
         free[..count].copy_from_slice(&b"hi".as_slice()[..count]);
@@ -351,8 +283,9 @@ fn closures_and_peeks(rt: HostRuntime) -> Result<(), Fail> {
 fn close_and_abort_by_state(rt: HostRuntime) -> Result<(), Fail> {
     let mut rx = [0u8; 4];
     let mut tx = [0u8; 4];
-    let mut cx = Interface { word: 1000 };
-    let mut socket = established(&mut rx, &mut tx, &mut cx);
+    let mut cx = Host::at(0, 1000);
+    let mut socket = Socket::new(RingBuffer::new(&mut rx), RingBuffer::new(&mut tx));
+    establish(&mut socket, &mut cx);
     socket.close();
     assert_eq!(rt; socket.state(), State::FinWait1);
     assert_eq!(rt; socket.send_slice(b"late"), Err(SendError::InvalidState));
@@ -386,7 +319,7 @@ fn rst_of(ip_repr: &IpRepr, repr: &TcpRepr<'_>) -> Option<Reply> {
 
 #[test]
 fn replies_turn_the_segment_round(rt: HostRuntime) -> Result<(), Fail> {
-    let ip_repr = IpRepr::new(B.addr, A.addr, ip_wire::IpProtocol::Tcp, 24, 255);
+    let ip_repr = IpRepr::new(B.addr, A.addr, IpProtocol::Tcp, 24, 255);
     let mut syn = answer(TcpControl::Syn, 5000, &[]);
     syn.ack_number = None;
     let Some((ip_reply, rst)) = rst_of(&ip_repr, &syn) else {
@@ -410,29 +343,6 @@ fn replies_turn_the_segment_round(rt: HostRuntime) -> Result<(), Fail> {
         (reply.control, reply.ack_number, reply.window_len),
         (TcpControl::None, None, 0)
     );
-    Ok(())
-}
-
-#[test]
-fn texts(rt: HostRuntime) -> Result<(), Fail> {
-    let text = format!(in rt.alloc();
-        "{}, {}, {}",
-        State::FinWait1,
-        State::SynReceived,
-        State::Closed
-    )?;
-    assert_eq!(rt; text.as_str(), "FIN-WAIT-1, SYN-RECEIVED, CLOSED");
-    let opening = format!(in rt.alloc();
-        "{}, {}",
-        ListenError::Unaddressable,
-        ConnectError::InvalidState
-    )?;
-    assert_eq!(rt;
-        opening.as_str(),
-        "unaddressable destination, invalid state"
-    );
-    let moving = format!(in rt.alloc(); "{}, {}", SendError::InvalidState, RecvError::Finished)?;
-    assert_eq!(rt; moving.as_str(), "invalid state, operation finished");
     Ok(())
 }
 

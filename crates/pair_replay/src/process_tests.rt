@@ -1,0 +1,110 @@
+//! What a delivery brings: segments that come again, out of order, or after the numbers wrapped.
+use crate::pair_tests::{A, B, plain, plays};
+use crate::tests::{OPENED, OPENING, prints};
+use control_wire::TcpSeqNumber;
+use sock_pair::{Outcome, Pair, too_old};
+use std::test::Fail;
+
+#[test]
+fn segments_that_come_again(rt: HostRuntime) -> Result<(), Fail> {
+    prints(
+        &rt,
+        rt.alloc(),
+        OPENING,
+        OPENED,
+        &[
+            (
+                "challenge_once_a_second",
+                "deliver 1 0 0\ndeliver 1 999 0\ndeliver 1 1000 0\n",
+                "delivered reply 3 ACK seq 1001 ack 5001 win 64 len 0\ndelivered\n\
+                delivered reply 4 ACK seq 1001 ack 5001 win 64 len 0\n\
+                a ESTABLISHED accepted 0 handed-out 0 queued 0\n\
+                b ESTABLISHED accepted 0 handed-out 0 queued 0\n",
+            ),
+            (
+                "old_segment_is_acknowledged_again",
+                "send a abcdef\ndispatch a 0\ndeliver 3 0 0\ndeliver 3 0 0\n",
+                "accepted 6\nemitted 3 PSH|ACK seq 1001 ack 5001 win 64 len 6\ndelivered\n\
+                delivered reply 4 ACK seq 5001 ack 1007 win 58 len 0\n\
+                a ESTABLISHED accepted 6 handed-out 0 queued 0\n\
+                b ESTABLISHED accepted 0 handed-out 0 queued 6\n",
+            ),
+        ],
+    )
+}
+
+#[test]
+fn sequence_numbers_wrap(rt: HostRuntime) -> Result<(), Fail> {
+    prints(
+        &rt,
+        rt.alloc(),
+        "listen b\nconnect a 4294967292\ndispatch a 0\ndeliver 0 0 5000\ndispatch b 0\n\
+        deliver 1 0 0\ndispatch a 0\ndeliver 2 0 0\nsend a abcdef\ndispatch a 0\n\
+        deliver 3 0 0\ndispatch b 10\n",
+        "opened\nopened\nemitted 0 SYN seq 4294967292 ack - win 64 len 0\ndelivered\n\
+        emitted 1 SYN|ACK seq 5000 ack 4294967293 win 64 len 0\ndelivered\n\
+        emitted 2 ACK seq 4294967293 ack 5001 win 64 len 0\ndelivered\naccepted 6\n\
+        emitted 3 PSH|ACK seq 4294967293 ack 5001 win 64 len 6\ndelivered\n\
+        emitted 4 ACK seq 5001 ack 3 win 58 len 0\n",
+        &[(
+            "sequence_numbers_wrap",
+            "",
+            "a ESTABLISHED accepted 6 handed-out 0 queued 0\n\
+            b ESTABLISHED accepted 0 handed-out 0 queued 6\n",
+        )],
+    )
+}
+
+#[test]
+fn age_of_segments(rt: HostRuntime) -> Result<(), Fail> {
+    assert!(rt; !too_old(0, 536_870_911, 0, 536_870_911));
+    assert!(rt; too_old(0, 536_870_912, 0, 0));
+    assert!(rt; too_old(5, 5, 7, 536_870_919));
+    Ok(())
+}
+
+// Whether the event of this index handed out these bytes.
+fn is_read(outcomes: &[Outcome], index: usize, bytes: &[u8]) -> bool {
+    match outcomes.get(index) {
+        Some(Outcome::Read(got)) => got.as_slice() == bytes,
+        _ => false,
+    }
+}
+
+#[test]
+fn reordered_segments_and_sack(rt: HostRuntime) -> Result<(), Fail> {
+    let alloc = rt.alloc();
+    let mut arx = [0u8; 64];
+    let mut atx = [0u8; 64];
+    let mut brx = [0u8; 64];
+    let mut btx = [0u8; 64];
+    let a = plain(&mut arx, &mut atx, A);
+    let b = plain(&mut brx, &mut btx, B);
+    let mut pair = Pair::new(alloc, a, b, Some(1000));
+    let lines = "nagle a off\nsend a abc\ndispatch a 0\nsend a def\ndispatch a 0\n\
+        deliver 4 0 0\nrecv b 6\ndeliver 3 0 0\nrecv b 6\n";
+    let text = format!(in alloc; "pair 64 64 64 64 1000\n{OPENING}{lines}")?;
+    let outcomes = plays(&mut pair, alloc, text.as_str())?;
+    let both_offer = pair.segments().iter().take(2).all(|stored| {
+        let repr = stored.as_repr();
+        repr.sack_permitted && repr.window_scale == Some(0) && repr.max_seg_size == Some(1460)
+    });
+    assert!(rt; both_offer);
+    assert!(rt; is_read(outcomes.as_slice(), 14, b""));
+    assert!(rt; is_read(outcomes.as_slice(), 16, b"abcdef"));
+    let Some(ahead) = pair.segments().get(5) else {
+        return Err(Fail::new("no reply is stored"));
+    };
+    let ahead = ahead.as_repr();
+    assert_eq!(rt; (ahead.seq_number.0, ahead.window_len), (5001, 64));
+    assert_eq!(rt; ahead.ack_number, Some(TcpSeqNumber(1001)));
+    assert_eq!(rt; ahead.sack_ranges, [Some((1004, 1007)), None, None]);
+    let Some(joined) = pair.segments().get(6) else {
+        return Err(Fail::new("no second reply is stored"));
+    };
+    let joined = joined.as_repr();
+    assert_eq!(rt; (joined.seq_number.0, joined.window_len), (5001, 58));
+    assert_eq!(rt; joined.ack_number, Some(TcpSeqNumber(1007)));
+    assert_eq!(rt; joined.sack_ranges, [None; 3]);
+    Ok(())
+}
