@@ -9,7 +9,7 @@ use Rattle.control_wire.specs.declared.tcp.TcpRepr.{TcpRepr}
 use Rattle.sock_core.specs.Emission.{Emits}
 use Rattle.sock_core.specs.Facts.{Facts}
 use Rattle.sock_tcp.specs.Begin.{Begun, before_emit}
-use Rattle.sock_tcp.specs.Content.{Sending, asked, offset_of, plain_segment, ip_of, sending, finished, content}
+use Rattle.sock_tcp.specs.Content.{Sending, asked, offset_of, plain_segment, finished, content}
 use Rattle.sock_tcp.specs.Dispatch.{EmitTcp, packet_in, EmitsDue, EmitsIf, IsStamp, IsQuiet, EmitsTo, Dispatches}
 use Rattle.sock_tcp.specs.Outgoing.{packet_of}
 use Rattle.sock_tcp.specs.Queue.{IsLent}
@@ -34,16 +34,16 @@ module _ {F C E : Type 0} (g : EmitTcp F C E) (f : F) (facts : Facts) where
       subst (λ o. EmitsIf g f facts stamp o v c (Ok tt) v c) (sym peer) due
 
   -- emit was called, and answered r
-  pub emitted : (t : Tuple) (stamp : Option ℕ) (v : View) (bytes : List ℕ) (stamps : Bool) (plain : Segment) (k : Kind) (ip : IpRepr) (repr : TcpRepr) (now : Instant) (e : Emitted) (ok : Bool) (shown left : MutBor C) (r : Result (Unit {0}) E) (w : View) → v.tuple ≡ Some t → IsLent (asked v t facts stamps) (drop (offset_of v) v.tx_buffer.bytes) bytes → stamps ≡ is_some stamp → plain ≡ plain_segment v t stamp → Some (sending v t k (segment_of repr)) ≡ finished v t facts bytes plain → ip ≡ ip_of v t (segment_of repr) → now.micros ≡ facts.now → e ≡ emitted_as k (segment_of repr) → ok ≡ is_ok r → w ≡ after_emit ok v now e → g.post f (shown, ((ip, repr), tt)) (r, (left, tt)) → EmitsIf g f facts stamp v.tuple v shown.now r w left.now
+  pub emitted : (t : Tuple) (stamp : Option ℕ) (v : View) (bytes : List ℕ) (stamps : Bool) (plain : Segment) (k : Kind) (sent : IpRepr × TcpRepr) (now : Instant) (e : Emitted) (ok : Bool) (shown left : MutBor C) (r : Result (Unit {0}) E) (w : View) → v.tuple ≡ Some t → IsLent (asked v t facts stamps) (drop (offset_of v) v.tx_buffer.bytes) bytes → stamps ≡ is_some stamp → plain ≡ plain_segment v t stamp → Some (record { ip = sent.0; segment = segment_of sent.1; kind = k }) ≡ finished v t facts bytes plain → now.micros ≡ facts.now → e ≡ emitted_as k (segment_of sent.1) → ok ≡ is_ok r → w ≡ after_emit ok v now e → g.post f (shown, (sent, tt)) (r, (left, tt)) → EmitsIf g f facts stamp v.tuple v shown.now r w left.now
   unfolding content
-  emitted t stamp v bytes stamps plain k ip repr now e ok shown left r w peer lent some begins ends header moment kept answer h p =
-      let is : Some (sending v t k (segment_of repr)) ≡ content v t facts stamp bytes = ends ∙ ap (λ s. finished v t facts bytes s) begins in
+  emitted t stamp v bytes stamps plain k sent now e ok shown left r w peer lent some begins ends moment kept answer h p =
+      let is : Some (record { ip = sent.0; segment = segment_of sent.1; kind = k }) ≡ content v t facts stamp bytes = ends ∙ ap (λ s. finished v t facts bytes s) begins in
       let m : now ≡ moment_of facts = ap (λ x. record { micros = x }) moment in
-      let a : after_emit ok v now e ≡ after_emit (is_ok r) v (moment_of facts) (emitted_as k (segment_of repr)) = (λ i. after_emit (answer i) v (m i) (kept i)) in
+      let a : after_emit ok v now e ≡ after_emit (is_ok r) v (moment_of facts) (emitted_as k (segment_of sent.1)) = (λ i. after_emit (answer i) v (m i) (kept i)) in
       let due : EmitsDue g f facts t stamp v shown.now r w left.now = record {
         bytes = bytes;
         lent = subst (λ b. IsLent (asked v t facts b) (drop (offset_of v) v.tx_buffer.bytes) bytes) some lent;
-        emits = subst (λ (x : Option Sending). Emits g packet_of f (option_map packet_in x) shown.now r left.now) is (record { shown = shown; shows = refl; sent = (ip, repr); says = ap (λ x. (x, segment_of repr)) header; left = left; met = p; leaves = refl });
+        emits = subst (λ (x : Option Sending). Emits g packet_of f (option_map packet_in x) shown.now r left.now) is (record { shown = shown; shows = refl; sent = sent; says = refl; left = left; met = p; leaves = refl });
         view = subst (λ x. w ≡ left_by x v (moment_of facts) (is_ok r)) is (h ∙ a);
       } in
       subst (λ o. EmitsIf g f facts stamp o v shown.now r w left.now) (sym peer) due

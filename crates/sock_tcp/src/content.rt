@@ -15,11 +15,20 @@ use crate::emission::Kind;
 use crate::state::State;
 use crate::tuple::Tuple;
 use control_wire::{TcpControl, TcpRepr, TcpTimestampRepr};
-use ip_wire::{IpProtocol, IpRepr};
+use ip_wire::{IpAddress, IpProtocol, IpRepr, Ipv4Address, Ipv4Repr, Ipv6Repr};
 use net_base::time::Instant;
 use sock_core::Context;
 
 const HOP_LIMIT: u8 = 64;
+
+// What stands where the header will.
+pub(crate) const NO_HEADER: IpRepr = IpRepr::Ipv4(Ipv4Repr {
+    src_addr: Ipv4Address([0; 4]),
+    dst_addr: Ipv4Address([0; 4]),
+    next_header: IpProtocol::Tcp,
+    payload_len: 0,
+    hop_limit: 0,
+});
 
 impl State {
     pub(crate) fn carries_data(self) -> bool
@@ -273,25 +282,39 @@ impl<'a> ControlBlock<'a> {
         }
     }
 
-    // The header of a packet with a payload of so many bytes. Not inlined: its two kinds, once merged into a packet, are
-    // copied in small overlapping pieces.
+    // Makes it the header of a packet with a payload of so many bytes.
     #[inline(never)]
-    pub(crate) fn ip_header(&self, tuple: &Tuple, payload_len: usize) -> IpRepr
+    pub(crate) fn fill_header(&self, tuple: &Tuple, payload_len: usize, header: &mut IpRepr)
         requires { SameVersion tuple.now.local.addr tuple.now.remote.addr }
-        ensures { result ≡ ip_header tuple.now.local.addr tuple.now.remote.addr IpProtocol.Tcp payload_len
+        ensures { header.new ≡ ip_header tuple.now.local.addr tuple.now.remote.addr IpProtocol.Tcp payload_len
             (hop_limit_of self.now.hop_limit) }
     {
-        IpRepr::new(
-            tuple.local.addr,
-            tuple.remote.addr,
-            IpProtocol::Tcp,
-            payload_len,
-            self.hop_limit_or_default(),
-        )
+        let hop_limit = self.hop_limit_or_default();
+        match (&tuple.local.addr, &tuple.remote.addr) {
+            (IpAddress::Ipv4(src_addr), IpAddress::Ipv4(dst_addr)) => {
+                *header = IpRepr::Ipv4(Ipv4Repr {
+                    src_addr: *src_addr,
+                    dst_addr: *dst_addr,
+                    next_header: IpProtocol::Tcp,
+                    payload_len,
+                    hop_limit,
+                });
+            }
+            (IpAddress::Ipv6(src_addr), IpAddress::Ipv6(dst_addr)) => {
+                *header = IpRepr::Ipv6(Ipv6Repr {
+                    src_addr: *src_addr,
+                    dst_addr: *dst_addr,
+                    next_header: IpProtocol::Tcp,
+                    payload_len,
+                    hop_limit,
+                });
+            }
+            _ => unreachable!(),
+        }
     }
 
     // Makes the plain segment the one that goes out with this payload, if any does; answers what it is emitted for.
-    pub(crate) fn finish<'s, C: Context>(
+    fn finish<'s, C: Context>(
         &self,
         cx: &C,
         tuple: &Tuple,
@@ -309,6 +332,30 @@ impl<'a> ControlBlock<'a> {
         }
         let kind = self.kind(cx.now(), repr);
         self.fill_kind(kind, repr);
+        Some(kind)
+    }
+
+    // The same with its header.
+    pub(crate) fn finish_packet<'s, C: Context>(
+        &self,
+        cx: &C,
+        tuple: &Tuple,
+        payload: &'s [u8],
+        packet: &mut (IpRepr, TcpRepr<'s>),
+    ) -> Option<Kind>
+        requires small { length payload.now ≤ 65535 }
+        requires empty { length packet.old.1.payload.now ≡ 0 }
+        requires versions { SameVersion tuple.now.local.addr tuple.now.remote.addr }
+        ensures packet { option_map (λ k. record { ip = packet.new.0; segment = segment_of packet.new.1; kind = k })
+            result ≡ finished self.now tuple.now (C.facts cx.now) payload.now (segment_of packet.old.1) }
+        ensures small { length packet.new.1.payload.now ≤ 65535 }
+    {
+        let kind = match self.finish(cx, tuple, payload, &mut packet.1) {
+            None => return None,
+            Some(kind) => kind,
+        };
+        let payload_len = packet.1.buffer_len();
+        self.fill_header(tuple, payload_len, &mut packet.0);
         Some(kind)
     }
 }

@@ -6,6 +6,7 @@ ghost use Rattle.sock_tcp.specs.Sent.{emitted_as, after_any, after_probe, snd_nx
 ghost use Rattle.sock_tcp.specs.Sent.{after_sending, after_emit};
 ghost use Rattle.sock_tcp.specs.Dispatch.{EmitsIf, Dispatches};
 
+use crate::content::NO_HEADER;
 use crate::control_block::ControlBlock;
 use crate::emission::{Emitted, Kind};
 use crate::generator::TsvalSource;
@@ -123,14 +124,13 @@ impl<'a> ControlBlock<'a> {
         };
         let now = cx.now();
         let payload = self.payload(cx, tuple, stamp.is_some());
-        let mut repr = self.plain(tuple, stamp);
-        let kind = match self.finish(cx, tuple, payload, &mut repr) {
+        let mut packet = (NO_HEADER, self.plain(tuple, stamp));
+        let kind = match self.finish_packet(cx, tuple, payload, &mut packet) {
             None => return Ok(()),
             Some(kind) => kind,
         };
-        let emitted = Emitted::of(kind, &repr);
-        let header = self.ip_header(tuple, repr.buffer_len());
-        let result = emit(cx, (header, repr));
+        let emitted = Emitted::of(kind, &packet.1);
+        let result = emit(cx, packet);
         self.after_emit(result.is_ok(), now, emitted);
         result
     }
