@@ -99,6 +99,7 @@ impl<'a> ControlBlock<'a> {
     }
 
     // What an emit leaves: where it failed, the socket is as it was.
+    #[inline(always)]
     fn after_emit(&mut self, ok: bool, now: Instant, emitted: Emitted)
         requires { IsMoment now.micros }
         ensures { self.new ≡ after_emit ok self.old now emitted }

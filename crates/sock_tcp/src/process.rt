@@ -246,6 +246,7 @@ impl<'a> ControlBlock<'a> {
         self.process_inside(cx, now, control, cut.offset, bytes, ip_repr, repr)
     }
 
+    #[inline(never)]
     #[tactic(auto, unfolding(crate::specs::Process::processed))]
     pub(crate) fn process<C: Context>(
         &mut self,
@@ -268,13 +269,21 @@ impl<'a> ControlBlock<'a> {
         }
     }
 
+    // Not inlined: few segments are asked.
+    #[inline(never)]
+    fn is_passed(&self, repr: &TcpRepr<'_>) -> bool
+        ensures { IsTrue result ↔ (verdict_of self.now repr.now.control repr.now.ack_number ≡ Pass) }
+    {
+        self.verdict(repr.control, repr.ack_number) == Verdict::Pass
+    }
+
     // Whether the segment is a SYN whose options are taken, and it has no timestamp.
     pub(crate) fn drops_generator(&self, repr: &TcpRepr<'_>) -> bool
         ensures { result ≡ drops_generator self.now (segment_of repr.now) }
     {
         match (self.state, repr.control) {
             (State::Listen | State::SynSent, TcpControl::Syn) if repr.timestamp.is_none() => {
-                self.verdict(repr.control, repr.ack_number) == Verdict::Pass
+                self.is_passed(repr)
             }
             _ => false,
         }

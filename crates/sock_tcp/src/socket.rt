@@ -278,6 +278,8 @@ impl<'a, G: TsvalSource> Socket<'a, G> {
     /// it, if any; that one has no payload (RFC 9293, section 3.10.7).
     ///
     /// A SYN without a timestamp that opens a connection takes the source of timestamps away.
+    // Inlined, so that the place of the reply is the caller's, and no reply is copied to it.
+    #[inline(always)]
     pub fn process<C: Context>(
         &mut self,
         cx: &mut C,
