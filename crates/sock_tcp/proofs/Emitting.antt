@@ -1,34 +1,52 @@
 -- From the one call of `emit` to what a dispatch does.
-use Rattle.std.proofs.Common.{◌≡◌, ◌∙◌, ap, List, ℕ, Bool, Option, Some, None, is_some, refl, subst, drop}
+use Rattle.std.proofs.Common.{◌≡◌, ◌∙◌, ap, List, ℕ, Bool, Option, Some, None, is_some, true, refl, sym, subst, drop}
 use Rattle.std.specs.Prelude.{Result, Ok, is_ok, option_map}
 use Rattle.std.specs.Borrow.{MutBor}
 use Rattle.net_base.specs.declared.time.Instant.{Instant}
-use Rattle.control_wire.specs.Segment.{segment_of}
+use Rattle.ip_wire.specs.declared.repr.IpRepr.{IpRepr}
+use Rattle.control_wire.specs.Segment.{Segment, segment_of}
+use Rattle.control_wire.specs.declared.tcp.TcpRepr.{TcpRepr}
 use Rattle.sock_core.specs.Emission.{Emits}
 use Rattle.sock_core.specs.Facts.{Facts}
 use Rattle.sock_tcp.specs.Begin.{Begun, before_emit}
-use Rattle.sock_tcp.specs.Content.{Sending, asked, offset_of, content}
-use Rattle.sock_tcp.specs.Dispatch.{EmitTcp, packet_in, EmitsDue, IsStamp, IsQuiet, EmitsTo, Dispatches}
-use Rattle.sock_tcp.specs.Outgoing.{sending_of, packet_of}
+use Rattle.sock_tcp.specs.Content.{Sending, asked, offset_of, plain_segment, finished, content}
+use Rattle.sock_tcp.specs.Dispatch.{EmitTcp, packet_in, EmitsDue, EmitsIf, IsStamp, IsQuiet, EmitsTo, Dispatches}
+use Rattle.sock_tcp.specs.Outgoing.{packet_of}
 use Rattle.sock_tcp.specs.Queue.{IsLent}
 use Rattle.sock_tcp.specs.Sent.{emitted_as, after_emit, left_by}
 use Rattle.sock_tcp.specs.View.{View, moment_of}
-use Rattle.sock_tcp.specs.declared.content.Outgoing.{Outgoing}
+use Rattle.sock_tcp.specs.declared.emission.Kind.{Kind}
 use Rattle.sock_tcp.specs.declared.emission.Emitted.{Emitted}
 use Rattle.sock_tcp.specs.declared.tuple.Tuple.{Tuple}
 
 module _ {F C E : Type 0} (g : EmitTcp F C E) (f : F) (facts : Facts) where
-  -- emit was called, and answered r
-  pub emitted : (t : Tuple) (stamp : Option ℕ) (v : View) (bytes : List ℕ) (stamps : Bool) (o : Outgoing) (now : Instant) (e : Emitted) (ok : Bool) (shown left : MutBor C) (r : Result (Unit {0}) E) (w : View) → IsLent (asked v t facts stamps) (drop (offset_of v) v.tx_buffer.bytes) bytes → stamps ≡ is_some stamp → option_map sending_of (Some o) ≡ content v t facts stamp bytes → now.micros ≡ facts.now → e ≡ emitted_as o.kind (segment_of o.packet.1) → ok ≡ is_ok r → w ≡ after_emit ok v now e → g.post f (shown, (o.packet, tt)) (r, (left, tt)) → EmitsDue g f facts t stamp v shown.now r w left.now
-  emitted t stamp v bytes stamps o now e ok shown left r w lent some is moment kept answer h p =
-      let m : now ≡ moment_of facts = ap (λ x. record { micros = x }) moment in
-      let a : after_emit ok v now e ≡ after_emit (is_ok r) v (moment_of facts) (emitted_as o.kind (segment_of o.packet.1)) = (λ i. after_emit (answer i) v (m i) (kept i)) in
-      record {
+  -- the state has no segment
+  pub silent : (t : Tuple) (stamp : Option ℕ) (v : View) (bytes : List ℕ) (stamps : Bool) (plain : Segment) (c : C) → v.tuple ≡ Some t → IsLent (asked v t facts stamps) (drop (offset_of v) v.tx_buffer.bytes) bytes → stamps ≡ is_some stamp → plain ≡ plain_segment v t stamp → None ≡ finished v t facts bytes plain → EmitsIf g f facts stamp v.tuple v c (Ok tt) v c
+  unfolding content
+  silent t stamp v bytes stamps plain c peer lent some begins ends =
+      let is : None ≡ content v t facts stamp bytes = ends ∙ ap (λ s. finished v t facts bytes s) begins in
+      let due : EmitsDue g f facts t stamp v c (Ok tt) v c = record {
         bytes = bytes;
         lent = subst (λ b. IsLent (asked v t facts b) (drop (offset_of v) v.tx_buffer.bytes) bytes) some lent;
-        emits = subst (λ (x : Option Sending). Emits g packet_of f (option_map packet_in x) shown.now r left.now) is (record { shown = shown; shows = refl; sent = o.packet; says = refl; left = left; met = p; leaves = refl });
+        emits = subst (λ (x : Option Sending). Emits g packet_of f (option_map packet_in x) c (Ok tt) c) is (refl, refl);
+        view = subst (λ x. v ≡ left_by x v (moment_of facts) true) is refl;
+      } in
+      subst (λ o. EmitsIf g f facts stamp o v c (Ok tt) v c) (sym peer) due
+
+  -- emit was called, and answered r
+  pub emitted : (t : Tuple) (stamp : Option ℕ) (v : View) (bytes : List ℕ) (stamps : Bool) (plain : Segment) (k : Kind) (sent : IpRepr × TcpRepr) (now : Instant) (e : Emitted) (ok : Bool) (shown left : MutBor C) (r : Result (Unit {0}) E) (w : View) → v.tuple ≡ Some t → IsLent (asked v t facts stamps) (drop (offset_of v) v.tx_buffer.bytes) bytes → stamps ≡ is_some stamp → plain ≡ plain_segment v t stamp → Some (record { ip = sent.0; segment = segment_of sent.1; kind = k }) ≡ finished v t facts bytes plain → now.micros ≡ facts.now → e ≡ emitted_as k (segment_of sent.1) → ok ≡ is_ok r → w ≡ after_emit ok v now e → g.post f (shown, (sent, tt)) (r, (left, tt)) → EmitsIf g f facts stamp v.tuple v shown.now r w left.now
+  unfolding content
+  emitted t stamp v bytes stamps plain k sent now e ok shown left r w peer lent some begins ends moment kept answer h p =
+      let is : Some (record { ip = sent.0; segment = segment_of sent.1; kind = k }) ≡ content v t facts stamp bytes = ends ∙ ap (λ s. finished v t facts bytes s) begins in
+      let m : now ≡ moment_of facts = ap (λ x. record { micros = x }) moment in
+      let a : after_emit ok v now e ≡ after_emit (is_ok r) v (moment_of facts) (emitted_as k (segment_of sent.1)) = (λ i. after_emit (answer i) v (m i) (kept i)) in
+      let due : EmitsDue g f facts t stamp v shown.now r w left.now = record {
+        bytes = bytes;
+        lent = subst (λ b. IsLent (asked v t facts b) (drop (offset_of v) v.tx_buffer.bytes) bytes) some lent;
+        emits = subst (λ (x : Option Sending). Emits g packet_of f (option_map packet_in x) shown.now r left.now) is (record { shown = shown; shows = refl; sent = sent; says = refl; left = left; met = p; leaves = refl });
         view = subst (λ x. w ≡ left_by x v (moment_of facts) (is_ok r)) is (h ∙ a);
-      }
+      } in
+      subst (λ o. EmitsIf g f facts stamp o v shown.now r w left.now) (sym peer) due
 
   module _ {G : Type 0} (tells : G → ℕ → Type 0) (clock : Option G) where
     -- nobody to emit to
@@ -37,9 +55,10 @@ module _ {F C E : Type 0} (g : EmitTcp F C E) (f : F) (facts : Facts) where
     quiet u c v e = subst (λ (b : Begun). EmitsTo g f facts tells clock b.peer b.view c (Ok tt) v c) e (record { answer = refl; context = refl; view = refl })
 
     -- somebody to emit to
-    pub due : (u : View) (c c' : C) (v : View) (t : Tuple) (stamp : Option ℕ) (r : Result (Unit {0}) E) (w : View) → record { view = v; peer = Some t } ≡ before_emit u facts (is_some clock) → IsStamp tells clock stamp → EmitsDue g f facts t stamp v c r w c' → Dispatches g f facts tells clock u c r w c'
+    pub due : (u : View) (c c' : C) (v : View) (o : Option Tuple) (stamp : Option ℕ) (r : Result (Unit {0}) E) (w : View) → record { view = v; peer = o } ≡ before_emit u facts (is_some clock) → IsStamp tells clock stamp → EmitsIf g f facts stamp o v c r w c' → Dispatches g f facts tells clock u c r w c'
     unfolding Dispatches
-    due u c c' v t stamp r w e told h = subst (λ (b : Begun). EmitsTo g f facts tells clock b.peer b.view c r w c') e (record { stamp = stamp; told = told; emits = h })
+    due u c c' v None stamp r w e told h = subst (λ (b : Begun). EmitsTo g f facts tells clock b.peer b.view c r w c') e h
+    due u c c' v (Some t) stamp r w e told h = subst (λ (b : Begun). EmitsTo g f facts tells clock b.peer b.view c r w c') e (record { stamp = stamp; told = told; emits = h })
 
     -- a dispatch with nobody to emit to
     pub is_quiet : (u : View) (c c' : C) (r : Result (Unit {0}) E) (w : View) → (before_emit u facts (is_some clock)).peer ≡ None → Dispatches g f facts tells clock u c r w c' → IsQuiet (before_emit u facts (is_some clock)).view c r w c'

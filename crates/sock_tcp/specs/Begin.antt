@@ -23,6 +23,11 @@ pub record Begun : Type 0 where
 abbrev pub ended : View → Begun
 ended v = record { view = v; peer = None }
 
+-- the peer, where the dispatch goes on
+abbrev pub peer_if : Bool → Option Tuple → Option Tuple
+peer_if true t = t
+peer_if false t = None
+
 -- ---- when the last segment came
 
 abbrev pub last_ts_set_at : Option Instant → View → Instant → View

@@ -160,6 +160,15 @@ ip_of v t s =
 abbrev pub sent_as : View → Tuple → Kind → Segment → Sending
 sent_as v t k s = record { ip = ip_of v t (of_kind k v s); segment = of_kind k v s; kind = k }
 
+-- the segment with its header
+abbrev pub sending : View → Tuple → Kind → Segment → Sending
+sending v t k s = record { ip = ip_of v t s; segment = s; kind = k }
+
+-- out of the plain segment
+abbrev pub finished : View → Tuple → Facts → List ℕ → Segment → Option Sending
+finished v t f bytes plain =
+    option_map (λ s. sent_as v t (kind_of v (moment_of f) s) s) (filled v.state v t f bytes plain)
+
 unfoldable pub content : View → Tuple → Facts → Option ℕ → List ℕ → Option Sending
 content v t f stamp bytes =
     option_map (λ s. sent_as v t (kind_of v (moment_of f) s) s) (filled v.state v t f bytes (plain_segment v t stamp))

@@ -35,6 +35,12 @@ pub record IsQuiet {C E : Type 0} (v : View) (c : C) (r : Result (Unit {0}) E) (
   pub context : c' ≡ c
   pub view : w ≡ v
 
+-- to the peer, if any
+abbrev pub EmitsIf : {F C E : Type 0} → EmitTcp F C E → F → Facts → Option ℕ → Option Tuple
+    → View → C → Result (Unit {0}) E → View → C → Type 0
+EmitsIf g f facts stamp None v c r w c' = IsQuiet v c r w c'
+EmitsIf g f facts stamp (Some t) v c r w c' = EmitsDue g f facts t stamp v c r w c'
+
 -- a timestamp that the socket's clock may tell, or none where there is no clock
 abbrev pub IsStamp : {G : Type 0} → (G → ℕ → Type 0) → Option G → Option ℕ → Type 0
 IsStamp tells clock stamp = MatchOption clock (stamp ≡ None) (λ g. IsSomeAnd stamp (λ n. tells g n))

@@ -1,12 +1,10 @@
 //! How a dispatch begins (RFC 9293, section 3.8; RFC 6298, section 5; RFC 5681, section 3.2).
 ghost use Rattle.std.specs.Prelude.{◌≡◌};
-ghost use Rattle.std.specs.Option.{ForSome};
-ghost use Rattle.ip_wire.specs.Address.{SameVersion};
 ghost use Rattle.sock_core.specs.Bounds.{IsMoment};
 ghost use Rattle.sock_tcp.specs.View.{moment_of};
 ghost use Rattle.sock_tcp.specs.Due.{is_due};
 ghost use Rattle.sock_tcp.specs.Begin.{last_ts_set, retransmission_begun, fast_retransmission_marked, after_timers};
-ghost use Rattle.sock_tcp.specs.Begin.{unless_paused, begun, nothing_due, by_due, before_emit};
+ghost use Rattle.sock_tcp.specs.Begin.{is_paused, peer_if, begun, nothing_due, before_emit_to, before_emit};
 
 use crate::control_block::ControlBlock;
 use crate::poll::{is_reached, timeout_poll};
@@ -28,7 +26,8 @@ impl<'a> ControlBlock<'a> {
     #[tactic(auto, unfolding(crate::specs::Begin::last_ts_set))]
     fn set_last_ts(&mut self, now: Instant)
         requires { IsMoment now.micros }
-        ensures { self.new ≡ last_ts_set self.old now }
+        ensures table { self.new ≡ last_ts_set self.old now }
+        ensures tuple { self.new.tuple ≡ self.old.tuple }
     {
         if self.remote_last_ts.is_none() {
             self.remote_last_ts = Some(now);
@@ -38,7 +37,8 @@ impl<'a> ControlBlock<'a> {
     // The controller is told that a segment may go out.
     fn set_last_ts_and_tell(&mut self, now: Instant)
         requires { IsMoment now.micros }
-        ensures { self.new ≡ last_ts_set self.old now }
+        ensures table { self.new ≡ last_ts_set self.old now }
+        ensures tuple { self.new.tuple ≡ self.old.tuple }
     {
         self.set_last_ts(now);
         self.congestion_controller.pre_transmit(now);
@@ -48,7 +48,8 @@ impl<'a> ControlBlock<'a> {
     #[tactic(auto, unfolding(crate::specs::Begin::retransmission_begun))]
     fn begin_retransmission(&mut self, now: Instant)
         requires { IsMoment now.micros }
-        ensures { self.new ≡ retransmission_begun self.old now }
+        ensures table { self.new ≡ retransmission_begun self.old now }
+        ensures tuple { self.new.tuple ≡ self.old.tuple }
     {
         let flight = self.flight();
         self.congestion_controller.on_rto(now, flight);
@@ -62,7 +63,8 @@ impl<'a> ControlBlock<'a> {
     #[tactic(auto, unfolding(crate::specs::Begin::fast_retransmission_marked))]
     fn mark_fast_retransmission(&mut self, now: Instant)
         requires { IsMoment now.micros }
-        ensures { self.new ≡ fast_retransmission_marked self.old now }
+        ensures table { self.new ≡ fast_retransmission_marked self.old now }
+        ensures tuple { self.new.tuple ≡ self.old.tuple }
     {
         let flight = self.flight();
         self.congestion_controller.on_loss(now, flight);
@@ -75,7 +77,8 @@ impl<'a> ControlBlock<'a> {
     #[tactic(auto, unfolding(crate::specs::Begin::after_timers))]
     fn heed_timers(&mut self, now: Instant)
         requires { IsMoment now.micros }
-        ensures { self.new ≡ after_timers self.old now }
+        ensures table { self.new ≡ after_timers self.old now }
+        ensures tuple { self.new.tuple ≡ self.old.tuple }
     {
         if is_reached(timeout_poll(self.timeout, self.remote_last_ts), now) {
             self.state = State::Closed;
@@ -92,40 +95,31 @@ impl<'a> ControlBlock<'a> {
         }
     }
 
-    // The peer, but for a SYN|ACK that is paused.
-    fn unless_paused(&self, tuple: Tuple) -> Option<Tuple>
-        requires { SameVersion tuple.local.addr tuple.remote.addr }
-        ensures table { record { view = self.now; peer = result } ≡ unless_paused self.now tuple }
-        ensures versions { ForSome result (λ t. SameVersion t.local.addr t.remote.addr) }
+    // Whether it is a SYN|ACK that waits.
+    fn is_paused(&self) -> bool
+        ensures { result ≡ is_paused self.now.state self.now.synack_paused }
     {
-        match self.state {
-            State::SynReceived => if self.synack_paused {
-                None
-            } else {
-                Some(tuple)
-            },
-            _ => Some(tuple),
-        }
+        matches!(self.state, State::SynReceived) && self.synack_paused
     }
 
-    // What comes before the reasons: the peer, where the dispatch goes on.
+    // What comes before the reasons; whether the dispatch goes on to the peer.
     #[tactic(auto, unfolding(crate::specs::Begin::begun))]
-    fn begin<C: Context>(&mut self, cx: &C) -> Option<Tuple>
-        ensures table { record { view = self.new; peer = result } ≡ begun self.old (C.facts cx.now) }
-        ensures versions { ForSome result (λ t. SameVersion t.local.addr t.remote.addr) }
+    fn begin<C: Context>(&mut self, cx: &C) -> bool
+        ensures { record { view = self.new; peer = peer_if result self.new.tuple }
+            ≡ begun self.old (C.facts cx.now) }
     {
-        let tuple = match self.tuple {
-            None => return None,
-            Some(tuple) => tuple,
+        let has_address = match &self.tuple {
+            None => return false,
+            Some(tuple) => has_local_address(cx, tuple),
         };
-        if !has_local_address(cx, &tuple) {
+        if !has_address {
             self.reset();
-            return None;
+            return false;
         }
         let now = cx.now();
         self.set_last_ts_and_tell(now);
         self.heed_timers(now);
-        self.unless_paused(tuple)
+        !self.is_paused()
     }
 
     // Nothing is due: TIME-WAIT may be over.
@@ -138,29 +132,30 @@ impl<'a> ControlBlock<'a> {
         }
     }
 
-    // The reasons: the peer, where something is due.
-    fn due_to<C: Context>(&mut self, cx: &C, tuple: Tuple, stamps: bool) -> Option<Tuple>
-        requires { SameVersion tuple.local.addr tuple.remote.addr }
-        ensures table { record { view = self.new; peer = result }
-            ≡ by_due (is_due self.old tuple (C.facts cx.now) stamps) self.old tuple (C.facts cx.now) }
-        ensures versions { ForSome result (λ t. SameVersion t.local.addr t.remote.addr) }
+    // The reasons; whether something is due to the peer.
+    fn look_for_reason<C: Context>(&mut self, cx: &C, stamps: bool) -> bool
+        ensures { record { view = self.new; peer = peer_if result self.new.tuple }
+            ≡ before_emit_to self.old.tuple self.old (C.facts cx.now) stamps }
     {
-        if self.is_due(cx, &tuple, stamps) {
-            return Some(tuple);
+        let due = match &self.tuple {
+            None => return false,
+            Some(tuple) => self.is_due(cx, tuple, stamps),
+        };
+        if !due {
+            self.end_time_wait(cx.now());
         }
-        self.end_time_wait(cx.now());
-        None
+        due
     }
 
-    // The beginning and the reasons: the peer, where a segment goes out.
+    // The beginning and the reasons; whether a segment goes out to the peer.
     #[tactic(auto, unfolding(crate::specs::Begin::before_emit))]
-    pub(crate) fn before_emit<C: Context>(&mut self, cx: &C, stamps: bool) -> Option<Tuple>
-        ensures table { record { view = self.new; peer = result } ≡ before_emit self.old (C.facts cx.now) stamps }
-        ensures versions { ForSome result (λ t. SameVersion t.local.addr t.remote.addr) }
+    pub(crate) fn before_emit<C: Context>(&mut self, cx: &C, stamps: bool) -> bool
+        ensures { record { view = self.new; peer = peer_if result self.new.tuple }
+            ≡ before_emit self.old (C.facts cx.now) stamps }
     {
-        match self.begin(cx) {
-            None => None,
-            Some(tuple) => self.due_to(cx, tuple, stamps),
+        if !self.begin(cx) {
+            return false;
         }
+        self.look_for_reason(cx, stamps)
     }
 }

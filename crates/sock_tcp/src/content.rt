@@ -1,13 +1,13 @@
 //! What a dispatch emits (RFC 9293, sections 3.1, 3.7 and 3.8).
-ghost use Rattle.std.specs.Prelude.{◌≡◌, ℕ, ◌≤◌, ◌<◌, ◌^◌, false, List, length, drop, min, option_map, IfSome};
+ghost use Rattle.std.specs.Prelude.{◌≡◌, ℕ, ◌≤◌, ◌<◌, ◌^◌, false, List, length, drop, min, option_map, if◌then◌else◌, Some, None};
 ghost use Rattle.ip_wire.specs.Address.{SameVersion};
+ghost use Rattle.ip_wire.specs.IpHeader.{ip_header};
 ghost use Rattle.control_wire.specs.Segment.{segment_of};
 ghost use Rattle.sock_tcp.specs.Queue.{IsLent};
 ghost use Rattle.sock_tcp.specs.Due.{flight, window_field};
 ghost use Rattle.sock_tcp.specs.Content.{carries_data, window_left, is_probing, size_of, offset_of, asked};
 ghost use Rattle.sock_tcp.specs.Content.{timestamp_of, plain_segment, with_syn, syn, syn_ack, data_control, with_data};
-ghost use Rattle.sock_tcp.specs.Content.{filled, kind_of, of_kind, hop_limit_of, ip_of, content};
-ghost use Rattle.sock_tcp.specs.Outgoing.{sending_of};
+ghost use Rattle.sock_tcp.specs.Content.{filled, kind_of, of_kind, hop_limit_of, sending, finished};
 
 use crate::control_block::ControlBlock;
 use crate::due::own_mss;
@@ -15,18 +15,20 @@ use crate::emission::Kind;
 use crate::state::State;
 use crate::tuple::Tuple;
 use control_wire::{TcpControl, TcpRepr, TcpTimestampRepr};
-use ip_wire::{IpProtocol, IpRepr};
+use ip_wire::{IpAddress, IpProtocol, IpRepr, Ipv4Address, Ipv4Repr, Ipv6Repr};
 use net_base::time::Instant;
 use sock_core::Context;
 
 const HOP_LIMIT: u8 = 64;
 
-// A segment that goes out.
-#[derive(Clone, Copy)]
-pub(crate) struct Outgoing<'s> {
-    pub kind: Kind,
-    pub packet: (IpRepr, TcpRepr<'s>),
-}
+// What stands where the header will.
+pub(crate) const NO_HEADER: IpRepr = IpRepr::Ipv4(Ipv4Repr {
+    src_addr: Ipv4Address([0; 4]),
+    dst_addr: Ipv4Address([0; 4]),
+    next_header: IpProtocol::Tcp,
+    payload_len: 0,
+    hop_limit: 0,
+});
 
 impl State {
     pub(crate) fn carries_data(self) -> bool
@@ -118,7 +120,7 @@ impl<'a> ControlBlock<'a> {
     }
 
     #[tactic(auto, unfolding(crate::specs::Content::plain_segment))]
-    fn plain<'s>(&self, tuple: &Tuple, stamp: Option<u32>) -> TcpRepr<'s>
+    pub(crate) fn plain<'s>(&self, tuple: &Tuple, stamp: Option<u32>) -> TcpRepr<'s>
         ensures segment { segment_of result ≡ plain_segment self.now tuple.now stamp }
         ensures empty { length result.payload.now ≡ 0 }
     {
@@ -153,92 +155,88 @@ impl<'a> ControlBlock<'a> {
         }
     }
 
-    fn with_data<'s>(&self, plain: &TcpRepr<'_>, payload: &'s [u8]) -> TcpRepr<'s>
+    // Data of the transmit queue.
+    fn fill_data<'s>(&self, payload: &'s [u8], repr: &mut TcpRepr<'s>)
         requires { length payload.now ≤ 65535 }
-        ensures segment { segment_of result ≡ with_data self.now payload.now (segment_of plain.now) }
-        ensures payload { length result.payload.now ≡ length payload.now }
+        ensures segment { segment_of repr.new ≡ with_data self.now payload.now (segment_of repr.old) }
+        ensures payload { length repr.new.payload.now ≡ length payload.now }
     {
-        let seq_number = if self.pending_fast_retransmit {
+        repr.control = self.data_control(payload.len());
+        repr.seq_number = if self.pending_fast_retransmit {
             self.local_seq_no
         } else {
             self.remote_last_seq
         };
-        TcpRepr {
-            src_port: plain.src_port,
-            dst_port: plain.dst_port,
-            control: self.data_control(payload.len()),
-            seq_number,
-            ack_number: plain.ack_number,
-            window_len: plain.window_len,
-            window_scale: plain.window_scale,
-            max_seg_size: plain.max_seg_size,
-            sack_permitted: plain.sack_permitted,
-            sack_ranges: plain.sack_ranges,
-            timestamp: plain.timestamp,
-            payload,
-        }
+        repr.payload = payload;
     }
 
-    fn with_syn<'s, C: Context>(&self, cx: &C, tuple: &Tuple, plain: &TcpRepr<'s>) -> TcpRepr<'s>
-        ensures segment { segment_of result ≡ with_syn self.now tuple.now (C.facts cx.now) (segment_of plain.now) }
-        ensures payload { length result.payload.now ≡ length plain.now.payload.now }
+    fn fill_either_syn<C: Context>(&self, cx: &C, tuple: &Tuple, repr: &mut TcpRepr<'_>)
+        ensures segment { segment_of repr.new
+            ≡ with_syn self.now tuple.now (C.facts cx.now) (segment_of repr.old) }
+        ensures payload { repr.new.payload.now ≡ repr.old.payload.now }
     {
-        let mut repr = *plain;
         repr.control = TcpControl::Syn;
         repr.seq_number = self.local_seq_no;
         repr.window_len = self.unscaled_window();
         repr.max_seg_size = Some(own_mss(cx, tuple) as u16);
-        repr
     }
 
-    fn syn<'s, C: Context>(&self, cx: &C, tuple: &Tuple, plain: &TcpRepr<'s>) -> TcpRepr<'s>
-        ensures segment { segment_of result ≡ syn self.now tuple.now (C.facts cx.now) (segment_of plain.now) }
-        ensures payload { length result.payload.now ≡ length plain.now.payload.now }
+    fn fill_syn<C: Context>(&self, cx: &C, tuple: &Tuple, repr: &mut TcpRepr<'_>)
+        ensures segment { segment_of repr.new ≡ syn self.now tuple.now (C.facts cx.now) (segment_of repr.old) }
+        ensures payload { repr.new.payload.now ≡ repr.old.payload.now }
     {
-        let mut repr = self.with_syn(cx, tuple, plain);
+        self.fill_either_syn(cx, tuple, repr);
         repr.ack_number = None;
         repr.window_scale = Some(self.remote_win_shift);
         repr.sack_permitted = true;
-        repr
     }
 
-    fn syn_ack<'s, C: Context>(&self, cx: &C, tuple: &Tuple, plain: &TcpRepr<'s>) -> TcpRepr<'s>
-        ensures segment { segment_of result ≡ syn_ack self.now tuple.now (C.facts cx.now) (segment_of plain.now) }
-        ensures payload { length result.payload.now ≡ length plain.now.payload.now }
+    fn fill_syn_ack<C: Context>(&self, cx: &C, tuple: &Tuple, repr: &mut TcpRepr<'_>)
+        ensures segment { segment_of repr.new
+            ≡ syn_ack self.now tuple.now (C.facts cx.now) (segment_of repr.old) }
+        ensures payload { repr.new.payload.now ≡ repr.old.payload.now }
     {
-        let mut repr = self.with_syn(cx, tuple, plain);
+        self.fill_either_syn(cx, tuple, repr);
         repr.window_scale = match self.remote_win_scale {
             None => None,
             Some(_) => Some(self.remote_win_shift),
         };
         repr.sack_permitted = self.remote_has_sack;
-        repr
     }
 
-    // The segment of the state.
-    fn filled<'s, C: Context>(
+    // Makes the plain segment that of the state; answers whether the state has one.
+    fn fill<'s, C: Context>(
         &self,
         cx: &C,
         tuple: &Tuple,
-        stamp: Option<u32>,
         payload: &'s [u8],
-    ) -> Option<TcpRepr<'s>>
-        requires { length payload.now ≤ 65535 }
-        ensures segment { option_map segment_of result ≡ filled self.now.state self.now tuple.now
-            (C.facts cx.now) payload.now (plain_segment self.now tuple.now stamp) }
-        ensures small { IfSome result (λ r. length r.payload.now ≤ 65535) }
+        repr: &mut TcpRepr<'s>,
+    ) -> bool
+        requires small { length payload.now ≤ 65535 }
+        requires empty { length repr.old.payload.now ≡ 0 }
+        ensures segment { (if result then Some (segment_of repr.new) else None) ≡ filled self.now.state self.now
+            tuple.now (C.facts cx.now) payload.now (segment_of repr.old) }
+        ensures small { length repr.new.payload.now ≤ 65535 }
     {
-        let mut plain = self.plain(tuple, stamp);
         match self.state {
             State::Closed => {
-                plain.control = TcpControl::Rst;
-                Some(plain)
+                repr.control = TcpControl::Rst;
+                true
             }
-            State::Listen => None,
-            State::SynSent => Some(self.syn(cx, tuple, &plain)),
-            State::SynReceived => Some(self.syn_ack(cx, tuple, &plain)),
-            State::FinWait2 | State::TimeWait => Some(plain),
-            _ => Some(self.with_data(&plain, payload)),
+            State::Listen => false,
+            State::SynSent => {
+                self.fill_syn(cx, tuple, repr);
+                true
+            }
+            State::SynReceived => {
+                self.fill_syn_ack(cx, tuple, repr);
+                true
+            }
+            State::FinWait2 | State::TimeWait => true,
+            _ => {
+                self.fill_data(payload, repr);
+                true
+            }
         }
     }
 
@@ -256,34 +254,22 @@ impl<'a> ControlBlock<'a> {
     }
 
     // One zero byte before SND.UNA.
-    fn keep_alive_of<'s>(&self, repr: &TcpRepr<'_>) -> TcpRepr<'s>
-        ensures segment { segment_of result ≡ of_kind Kind.KeepAlive self.now (segment_of repr.now) }
-        ensures payload { length result.payload.now ≡ 1 }
+    fn fill_keep_alive(&self, repr: &mut TcpRepr<'_>)
+        ensures segment { segment_of repr.new ≡ of_kind Kind.KeepAlive self.now (segment_of repr.old) }
+        ensures payload { length repr.new.payload.now ≡ 1 }
     {
-        TcpRepr {
-            src_port: repr.src_port,
-            dst_port: repr.dst_port,
-            control: repr.control,
-            seq_number: self.local_seq_no.minus(1),
-            ack_number: repr.ack_number,
-            window_len: repr.window_len,
-            window_scale: repr.window_scale,
-            max_seg_size: repr.max_seg_size,
-            sack_permitted: repr.sack_permitted,
-            sack_ranges: repr.sack_ranges,
-            timestamp: repr.timestamp,
-            payload: &[0],
-        }
+        repr.seq_number = self.local_seq_no.minus(1);
+        repr.payload = &[0];
     }
 
-    fn of_kind<'s>(&self, kind: Kind, repr: &TcpRepr<'s>) -> TcpRepr<'s>
-        requires { length repr.now.payload.now ≤ 65535 }
-        ensures segment { segment_of result ≡ of_kind kind self.now (segment_of repr.now) }
-        ensures small { length result.payload.now ≤ 65535 }
+    fn fill_kind(&self, kind: Kind, repr: &mut TcpRepr<'_>)
+        requires { length repr.old.payload.now ≤ 65535 }
+        ensures segment { segment_of repr.new ≡ of_kind kind self.now (segment_of repr.old) }
+        ensures small { length repr.new.payload.now ≤ 65535 }
     {
         match kind {
-            Kind::KeepAlive => self.keep_alive_of(repr),
-            Kind::Plain | Kind::Probe => *repr,
+            Kind::KeepAlive => self.fill_keep_alive(repr),
+            Kind::Plain | Kind::Probe => {}
         }
     }
 
@@ -296,45 +282,80 @@ impl<'a> ControlBlock<'a> {
         }
     }
 
-    fn ip_header(&self, tuple: &Tuple, repr: &TcpRepr<'_>) -> IpRepr
-        requires small { length repr.now.payload.now ≤ 65535 }
-        requires versions { SameVersion tuple.now.local.addr tuple.now.remote.addr }
-        ensures { result ≡ ip_of self.now tuple.now (segment_of repr.now) }
+    // Makes it the header of a packet with a payload of so many bytes.
+    #[inline(never)]
+    pub(crate) fn fill_header(&self, tuple: &Tuple, payload_len: usize, header: &mut IpRepr)
+        requires { SameVersion tuple.now.local.addr tuple.now.remote.addr }
+        ensures { header.new ≡ ip_header tuple.now.local.addr tuple.now.remote.addr IpProtocol.Tcp payload_len
+            (hop_limit_of self.now.hop_limit) }
     {
-        IpRepr::new(
-            tuple.local.addr,
-            tuple.remote.addr,
-            IpProtocol::Tcp,
-            repr.buffer_len(),
-            self.hop_limit_or_default(),
-        )
+        let hop_limit = self.hop_limit_or_default();
+        match (&tuple.local.addr, &tuple.remote.addr) {
+            (IpAddress::Ipv4(src_addr), IpAddress::Ipv4(dst_addr)) => {
+                *header = IpRepr::Ipv4(Ipv4Repr {
+                    src_addr: *src_addr,
+                    dst_addr: *dst_addr,
+                    next_header: IpProtocol::Tcp,
+                    payload_len,
+                    hop_limit,
+                });
+            }
+            (IpAddress::Ipv6(src_addr), IpAddress::Ipv6(dst_addr)) => {
+                *header = IpRepr::Ipv6(Ipv6Repr {
+                    src_addr: *src_addr,
+                    dst_addr: *dst_addr,
+                    next_header: IpProtocol::Tcp,
+                    payload_len,
+                    hop_limit,
+                });
+            }
+            _ => unreachable!(),
+        }
     }
 
-    // The segment of the state, with this payload and the own clock's value.
-    #[tactic(auto, unfolding(crate::specs::Content::content))]
-    pub(crate) fn content<'s, C: Context>(
+    // Makes the plain segment the one that goes out with this payload, if any does; answers what it is emitted for.
+    fn finish<'s, C: Context>(
         &self,
         cx: &C,
         tuple: &Tuple,
-        stamp: Option<u32>,
         payload: &'s [u8],
-    ) -> Option<Outgoing<'s>>
+        repr: &mut TcpRepr<'s>,
+    ) -> Option<Kind>
         requires small { length payload.now ≤ 65535 }
-        requires versions { SameVersion tuple.now.local.addr tuple.now.remote.addr }
-        ensures segment { option_map sending_of result
-            ≡ content self.now tuple.now (C.facts cx.now) stamp payload.now }
-        ensures small { IfSome result (λ o. length o.packet.1.payload.now ≤ 65535) }
+        requires empty { length repr.old.payload.now ≡ 0 }
+        ensures segment { option_map (λ k. sending self.now tuple.now k (segment_of repr.new)) result
+            ≡ finished self.now tuple.now (C.facts cx.now) payload.now (segment_of repr.old) }
+        ensures small { length repr.new.payload.now ≤ 65535 }
     {
-        let filled = match self.filled(cx, tuple, stamp, payload) {
+        if !self.fill(cx, tuple, payload, repr) {
+            return None;
+        }
+        let kind = self.kind(cx.now(), repr);
+        self.fill_kind(kind, repr);
+        Some(kind)
+    }
+
+    // The same with its header.
+    pub(crate) fn finish_packet<'s, C: Context>(
+        &self,
+        cx: &C,
+        tuple: &Tuple,
+        payload: &'s [u8],
+        packet: &mut (IpRepr, TcpRepr<'s>),
+    ) -> Option<Kind>
+        requires small { length payload.now ≤ 65535 }
+        requires empty { length packet.old.1.payload.now ≡ 0 }
+        requires versions { SameVersion tuple.now.local.addr tuple.now.remote.addr }
+        ensures packet { option_map (λ k. record { ip = packet.new.0; segment = segment_of packet.new.1; kind = k })
+            result ≡ finished self.now tuple.now (C.facts cx.now) payload.now (segment_of packet.old.1) }
+        ensures small { length packet.new.1.payload.now ≤ 65535 }
+    {
+        let kind = match self.finish(cx, tuple, payload, &mut packet.1) {
             None => return None,
-            Some(filled) => filled,
+            Some(kind) => kind,
         };
-        let kind = self.kind(cx.now(), &filled);
-        let repr = self.of_kind(kind, &filled);
-        let ip_repr = self.ip_header(tuple, &repr);
-        Some(Outgoing {
-            kind,
-            packet: (ip_repr, repr),
-        })
+        let payload_len = packet.1.buffer_len();
+        self.fill_header(tuple, payload_len, &mut packet.0);
+        Some(kind)
     }
 }

@@ -1,19 +1,17 @@
 //! `dispatch` (RFC 9293, section 3.8).
 ghost use Rattle.std.specs.Prelude.{◌≡◌, ◌≤◌, ◌<◌, ◌^◌, length, is_some};
 ghost use Rattle.control_wire.specs.Segment.{segment_of};
-ghost use Rattle.ip_wire.specs.Address.{SameVersion};
 ghost use Rattle.sock_core.specs.Bounds.{IsMoment};
 ghost use Rattle.sock_tcp.specs.Sent.{emitted_as, after_any, after_probe, snd_nxt_moved, sending_timed};
 ghost use Rattle.sock_tcp.specs.Sent.{after_sending, after_emit};
-ghost use Rattle.sock_tcp.specs.Dispatch.{EmitsDue, Dispatches};
+ghost use Rattle.sock_tcp.specs.Dispatch.{EmitsIf, Dispatches};
 
-use crate::content::Outgoing;
+use crate::content::NO_HEADER;
 use crate::control_block::ControlBlock;
 use crate::emission::{Emitted, Kind};
 use crate::generator::TsvalSource;
 use crate::socket::Socket;
 use crate::timer::AckDelayTimer;
-use crate::tuple::Tuple;
 use control_wire::TcpRepr;
 use ip_wire::IpRepr;
 use net_base::time::Instant;
@@ -21,15 +19,15 @@ use sock_core::Context;
 use sock_core::congestion::Controller;
 use sock_core::seq::later;
 
-impl<'s> Outgoing<'s> {
-    fn emitted(&self) -> Emitted
-        requires { length self.now.packet.1.payload.now ≤ 65535 }
-        ensures { result ≡ emitted_as self.now.kind (segment_of self.now.packet.1) }
+impl Emitted {
+    // What is kept of this segment.
+    fn of(kind: Kind, repr: &TcpRepr<'_>) -> Emitted
+        requires { length repr.now.payload.now ≤ 65535 }
+        ensures { result ≡ emitted_as kind (segment_of repr.now) }
     {
-        let repr = &self.packet.1;
         let len = repr.segment_len();
         Emitted {
-            kind: self.kind,
+            kind,
             len,
             end: repr.seq_number.plus(len),
             ack_number: repr.ack_number,
@@ -101,6 +99,7 @@ impl<'a> ControlBlock<'a> {
     }
 
     // What an emit leaves: where it failed, the socket is as it was.
+    #[inline(always)]
     fn after_emit(&mut self, ok: bool, now: Instant, emitted: Emitted)
         requires { IsMoment now.micros }
         ensures { self.new ≡ after_emit ok self.old now emitted }
@@ -110,24 +109,29 @@ impl<'a> ControlBlock<'a> {
         }
     }
 
-    // The one call of `emit`, if the state emits at all.
+    // The one call of `emit`, if there is a peer and the state emits at all.
     pub(crate) fn emit_due<
         C: Context,
         E,
         F: FnOnce(&mut C, (IpRepr, TcpRepr<'_>)) -> Result<(), E>,
-    >(&mut self, cx: &mut C, tuple: &Tuple, stamp: Option<u32>, emit: F) -> Result<(), E>
+    >(&mut self, cx: &mut C, stamp: Option<u32>, emit: F) -> Result<(), E>
         requires callable { F.IsAlwaysCallable emit }
-        requires versions { SameVersion tuple.now.local.addr tuple.now.remote.addr }
-        ensures { EmitsDue F.FnOnce emit (C.facts cx.old) tuple.now stamp self.old cx.old result self.new cx.new }
+        ensures { EmitsIf F.FnOnce emit (C.facts cx.old) stamp self.old.tuple self.old cx.old result self.new
+            cx.new }
     {
+        let tuple = match &self.tuple {
+            None => return Ok(()),
+            Some(tuple) => tuple,
+        };
         let now = cx.now();
         let payload = self.payload(cx, tuple, stamp.is_some());
-        let outgoing = match self.content(cx, tuple, stamp, payload) {
+        let mut packet = (NO_HEADER, self.plain(tuple, stamp));
+        let kind = match self.finish_packet(cx, tuple, payload, &mut packet) {
             None => return Ok(()),
-            Some(outgoing) => outgoing,
+            Some(kind) => kind,
         };
-        let emitted = outgoing.emitted();
-        let result = emit(cx, outgoing.packet);
+        let emitted = Emitted::of(kind, &packet.1);
+        let result = emit(cx, packet);
         self.after_emit(result.is_ok(), now, emitted);
         result
     }
@@ -154,15 +158,13 @@ impl<'a, G: TsvalSource> Socket<'a, G> {
             self.old.control_block cx.old result self.new.control_block cx.new }
         ensures generator { self.new.tsval_generator ≡ self.old.tsval_generator }
     {
-        match self
+        if !self
             .control_block
             .before_emit(cx, self.tsval_generator.is_some())
         {
-            None => Ok(()),
-            Some(tuple) => {
-                let stamp = self.tsval();
-                self.control_block.emit_due(cx, &tuple, stamp, emit)
-            }
+            return Ok(());
         }
+        let stamp = self.tsval();
+        self.control_block.emit_due(cx, stamp, emit)
     }
 }

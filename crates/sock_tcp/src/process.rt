@@ -2,6 +2,7 @@
 ghost use Rattle.std.specs.Prelude.{◌≡◌, ◌+◌, ◌≤◌, ◌↔◌, IsTrue, length, option_map, [], None};
 ghost use Rattle.std.specs.Option.{ForSome};
 ghost use Rattle.control_wire.specs.Segment.{Segment, segment_of};
+ghost use Rattle.ip_wire.specs.IpHeader.{src_addr_of, dst_addr_of};
 ghost use Rattle.sock_core.specs.Bounds.{IsMoment};
 ghost use Rattle.sock_tcp.specs.Verdict.{verdict_of};
 ghost use Rattle.sock_tcp.specs.declared.verdict.Verdict.TheVariants.{Pass};
@@ -17,7 +18,7 @@ use crate::timer::{CHALLENGE_INTERVAL, Timer, after};
 use crate::tuple::Tuple;
 use crate::verdict::Verdict;
 use control_wire::{TcpControl, TcpRepr};
-use ip_wire::{IpEndpoint, IpListenEndpoint, IpRepr};
+use ip_wire::{IpAddress, IpEndpoint, IpListenEndpoint, IpRepr};
 use net_base::time::Instant;
 use sock_core::Context;
 
@@ -49,12 +50,26 @@ impl Tuple {
         }
     }
 
+    fn is_of_header(&self, ip_repr: &IpRepr) -> bool
+        ensures { IsTrue result
+            ↔ (dst_addr_of ip_repr.now ≡ self.now.local.addr) × (src_addr_of ip_repr.now ≡ self.now.remote.addr) }
+    {
+        match (ip_repr, &self.local.addr, &self.remote.addr) {
+            (IpRepr::Ipv4(header), IpAddress::Ipv4(local), IpAddress::Ipv4(remote)) => {
+                header.dst_addr == *local && header.src_addr == *remote
+            }
+            (IpRepr::Ipv6(header), IpAddress::Ipv6(local), IpAddress::Ipv6(remote)) => {
+                header.dst_addr == *local && header.src_addr == *remote
+            }
+            _ => false,
+        }
+    }
+
     fn is_of_segment(&self, ip_repr: &IpRepr, repr: &TcpRepr<'_>) -> bool
         ensures { IsTrue result ↔ IsBetween self.now ip_repr.now (segment_of repr.now) }
     {
-        ip_repr.dst_addr() == self.local.addr
+        self.is_of_header(ip_repr)
             && repr.dst_port == self.local.port
-            && ip_repr.src_addr() == self.remote.addr
             && repr.src_port == self.remote.port
     }
 }
@@ -231,6 +246,7 @@ impl<'a> ControlBlock<'a> {
         self.process_inside(cx, now, control, cut.offset, bytes, ip_repr, repr)
     }
 
+    #[inline(never)]
     #[tactic(auto, unfolding(crate::specs::Process::processed))]
     pub(crate) fn process<C: Context>(
         &mut self,
@@ -253,13 +269,21 @@ impl<'a> ControlBlock<'a> {
         }
     }
 
+    // Not inlined: few segments are asked.
+    #[inline(never)]
+    fn is_passed(&self, repr: &TcpRepr<'_>) -> bool
+        ensures { IsTrue result ↔ (verdict_of self.now repr.now.control repr.now.ack_number ≡ Pass) }
+    {
+        self.verdict(repr.control, repr.ack_number) == Verdict::Pass
+    }
+
     // Whether the segment is a SYN whose options are taken, and it has no timestamp.
     pub(crate) fn drops_generator(&self, repr: &TcpRepr<'_>) -> bool
         ensures { result ≡ drops_generator self.now (segment_of repr.now) }
     {
         match (self.state, repr.control) {
             (State::Listen | State::SynSent, TcpControl::Syn) if repr.timestamp.is_none() => {
-                self.verdict(repr.control, repr.ack_number) == Verdict::Pass
+                self.is_passed(repr)
             }
             _ => false,
         }

@@ -1,16 +1,18 @@
 //! The segments that answer others (RFC 9293, section 3.10.7.1).
-ghost use Rattle.std.specs.Prelude.{◌≡◌, ◌≤◌, length, []};
+ghost use Rattle.std.specs.Prelude.{◌≡◌, ◌≤◌, length, [], option_map};
 ghost use Rattle.control_wire.specs.Segment.{segment_of};
-ghost use Rattle.sock_tcp.specs.Process.{reply_of};
+ghost use Rattle.std.specs.Option.{ForSome};
+ghost use Rattle.sock_tcp.specs.Process.{answered, reply_of};
 ghost use Rattle.control_wire.specs.Seq.{seq_add, seq_sub};
 ghost use Rattle.sock_core.specs.Received.{ranges_of};
 ghost use Rattle.net_base.specs.Ranges.{edges};
 ghost use Rattle.sock_tcp.specs.Window.{next_ack};
 ghost use Rattle.sock_tcp.specs.Replies.{reply_ip, bare_reply, rst_ack, rst_number, rst_segment, with_header};
-ghost use Rattle.sock_tcp.specs.Replies.{chosen_range, wire_edges, sack_range, ack_segment, ack_kept, IsStamp, IsSentAs};
+ghost use Rattle.sock_tcp.specs.Replies.{chosen_range, wire_edges, sack_range, ack_segment, ack_kept, IsStamp, IsSentAs, Answers};
 
 use crate::control_block::ControlBlock;
 use crate::generator::TsvalSource;
+use crate::process::Answer;
 use crate::socket::Socket;
 use control_wire::{TcpControl, TcpRepr, TcpSeqNumber, TcpTimestampRepr};
 use ip_wire::{IpProtocol, IpRepr};
@@ -62,7 +64,7 @@ pub(crate) fn bare_reply(repr: &TcpRepr<'_>) -> TcpRepr<'static>
 }
 
 // The RST that answers a segment.
-pub(crate) fn rst_segment(repr: &TcpRepr<'_>) -> TcpRepr<'static>
+fn rst_segment(repr: &TcpRepr<'_>) -> TcpRepr<'static>
     requires { length repr.now.payload.now ≤ 65535 }
     ensures segment { segment_of result ≡ rst_segment (segment_of repr.now) }
     ensures bare { result.payload.now ≡ [] }
@@ -155,12 +157,7 @@ impl<'a, G: TsvalSource> Socket<'a, G> {
     }
 
     // The reply as it goes out.
-    pub(crate) fn answer(
-        &self,
-        ip_repr: &IpRepr,
-        repr: &TcpRepr<'_>,
-        reply: TcpRepr<'static>,
-    ) -> Reply
+    fn answer(&self, ip_repr: &IpRepr, repr: &TcpRepr<'_>, reply: TcpRepr<'static>) -> Reply
         requires { reply.payload.now ≡ [] }
         ensures sent { IsSentAs (IsStamp G.tells self.now.tsval_generator repr.now.timestamp) ip_repr.now
             (segment_of reply.entry) (reply_of result) }
@@ -169,6 +166,33 @@ impl<'a, G: TsvalSource> Socket<'a, G> {
         let mut reply = reply;
         reply.timestamp = self.stamp(reply.control, repr);
         with_header(ip_repr, reply)
+    }
+
+    // The reply to a segment that is answered so. Not inlined: most segments have no reply, and the space for one is
+    // cleared where it is made.
+    #[inline(never)]
+    pub(crate) fn reply_by(
+        &mut self,
+        answer: Answer,
+        ip_repr: &IpRepr,
+        repr: &TcpRepr<'_>,
+    ) -> Option<Reply>
+        requires { length repr.now.payload.now ≤ 65535 }
+        ensures view { self.new.control_block
+            ≡ (answered answer self.old.control_block (segment_of repr.now)).view }
+        ensures generator { self.new.tsval_generator ≡ self.old.tsval_generator }
+        ensures answer { Answers (IsStamp G.tells self.old.tsval_generator repr.now.timestamp) ip_repr.now
+            (answered answer self.old.control_block (segment_of repr.now)).reply (option_map reply_of result) }
+        ensures bare { ForSome result (λ r. r.1.payload.now ≡ []) }
+    {
+        match answer {
+            Answer::Nothing => None,
+            Answer::Ack => {
+                let reply = self.control_block.ack_reply(repr);
+                Some(self.answer(ip_repr, repr, reply))
+            }
+            Answer::Rst => Some(self.answer(ip_repr, repr, rst_segment(repr))),
+        }
     }
 }
 

@@ -15,7 +15,7 @@ use crate::control_block::ControlBlock;
 use crate::error::{ConnectError, ListenError, RecvError, SendError};
 use crate::generator::{Generator, TsvalSource};
 use crate::process::Answer;
-use crate::reply::{Reply, rst_segment};
+use crate::reply::Reply;
 use crate::state::State;
 use control_wire::TcpRepr;
 use ip_wire::{IpEndpoint, IpListenEndpoint, IpRepr};
@@ -278,6 +278,8 @@ impl<'a, G: TsvalSource> Socket<'a, G> {
     /// it, if any; that one has no payload (RFC 9293, section 3.10.7).
     ///
     /// A SYN without a timestamp that opens a connection takes the source of timestamps away.
+    // Inlined, so that the place of the reply is the caller's, and no reply is copied to it.
+    #[inline(always)]
     pub fn process<C: Context>(
         &mut self,
         cx: &mut C,
@@ -297,11 +299,8 @@ impl<'a, G: TsvalSource> Socket<'a, G> {
         }
         match self.control_block.process(cx, ip_repr, repr) {
             Answer::Nothing => None,
-            Answer::Ack => {
-                let reply = self.control_block.ack_reply(repr);
-                Some(self.answer(ip_repr, repr, reply))
-            }
-            Answer::Rst => Some(self.answer(ip_repr, repr, rst_segment(repr))),
+            Answer::Ack => self.reply_by(Answer::Ack, ip_repr, repr),
+            Answer::Rst => self.reply_by(Answer::Rst, ip_repr, repr),
         }
     }
 }

@@ -1,14 +1,19 @@
-use Rattle.std.proofs.Common.{◌∙◌, ap}
-use Rattle.sock_tcp.specs.Begin.{before_emit}
+use Rattle.std.proofs.Common.{rules, ◌≡◌, ◌∙◌, ap, true, false, Option, None}
+use Rattle.sock_tcp.specs.Begin.{Begun, peer_if, before_emit}
+use Rattle.sock_tcp.specs.View.{View}
+use Rattle.sock_tcp.specs.declared.tuple.Tuple.{Tuple}
+use Rattle.sock_tcp.proofs.Beginning.{goes_on, goes_not}
 use Rattle.sock_tcp.proofs.Emitting.{quiet, due}
 use Rattle.sock_tcp.proofs.socket.Socket.dispatch.Goals as goal
 
-pub returns-in-None-clause-table : goal.returns-in-None-clause-table
-returns-in-None-clause-table g c =
+pub returns-then-not-before_emit-clause-table : goal.returns-then-not-before_emit-clause-table
+returns-then-not-before_emit-clause-table g c =
+    let no : c.before_emit.result ≡ false = search rules in
     quiet g.F.FnOnce c.args.emit (g.C.Context.facts c.args.cx.now) g.G.TsvalSource.tells c.args.self.now.tsval_generator c.args.self.now.control_block c.args.cx.now c.before_emit.new.self
-    (c.in-None.ensures.table ∙ ap (λ b. before_emit c.args.self.now.control_block (g.C.Context.facts c.args.cx.now) b) c.is_some.ensures)
+    (goes_not _ _ _ no c.before_emit.ensures ∙ ap (λ b. before_emit c.args.self.now.control_block (g.C.Context.facts c.args.cx.now) b) c.is_some.ensures)
 
-pub returns-in-Some-clause-table : goal.returns-in-Some-clause-table
-returns-in-Some-clause-table g c =
-    due g.F.FnOnce c.args.emit (g.C.Context.facts c.args.cx.now) g.G.TsvalSource.tells c.args.self.now.tsval_generator c.args.self.now.control_block c.args.cx.now _ c.before_emit.new.self c.in-Some.tuple c.tsval-stamp.result _ _
-    (c.in-Some.ensures.table ∙ ap (λ b. before_emit c.args.self.now.control_block (g.C.Context.facts c.args.cx.now) b) c.is_some.ensures) c.tsval-stamp.ensures c.emit_due.ensures
+pub returns-clause-table : goal.returns-clause-table
+returns-clause-table g c =
+    let yes : c.before_emit.result ≡ true = search rules in
+    due g.F.FnOnce c.args.emit (g.C.Context.facts c.args.cx.now) g.G.TsvalSource.tells c.args.self.now.tsval_generator c.args.self.now.control_block c.args.cx.now _ c.before_emit.new.self c.before_emit.new.self.tuple c.tsval-stamp.result _ _
+    (goes_on _ _ _ yes c.before_emit.ensures ∙ ap (λ b. before_emit c.args.self.now.control_block (g.C.Context.facts c.args.cx.now) b) c.is_some.ensures) c.tsval-stamp.ensures c.emit_due.ensures
