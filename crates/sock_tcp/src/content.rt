@@ -1,5 +1,6 @@
 //! What a dispatch emits (RFC 9293, sections 3.1, 3.7 and 3.8).
-ghost use Rattle.std.specs.Prelude.{◌≡◌, ℕ, ◌≤◌, ◌<◌, ◌^◌, false, List, length, drop, min, option_map, if◌then◌else◌, Some, None};
+ghost use Rattle.std.specs.Prelude.{◌≡◌, ℕ, ◌≤◌, ◌<◌, ◌^◌, false, List, length, drop, min, option_map};
+ghost use Rattle.std.specs.Prelude.{if◌then◌else◌, Some, None};
 ghost use Rattle.ip_wire.specs.Address.{SameVersion};
 ghost use Rattle.ip_wire.specs.IpHeader.{ip_header};
 ghost use Rattle.control_wire.specs.Segment.{segment_of};
@@ -282,9 +283,10 @@ impl<'a> ControlBlock<'a> {
         }
     }
 
-    // Makes it the header of a packet with a payload of so many bytes.
+    // Makes it the header of a packet with a payload of so many bytes. Not inlined: each version writes its own fields
+    // then, where inlined code merges the two and copies what differs.
     #[inline(never)]
-    pub(crate) fn fill_header(&self, tuple: &Tuple, payload_len: usize, header: &mut IpRepr)
+    fn fill_header(&self, tuple: &Tuple, payload_len: usize, header: &mut IpRepr)
         requires { SameVersion tuple.now.local.addr tuple.now.remote.addr }
         ensures { header.new ≡ ip_header tuple.now.local.addr tuple.now.remote.addr IpProtocol.Tcp payload_len
             (hop_limit_of self.now.hop_limit) }

@@ -8,7 +8,8 @@ ghost use Rattle.sock_core.specs.Received.{ranges_of};
 ghost use Rattle.net_base.specs.Ranges.{edges};
 ghost use Rattle.sock_tcp.specs.Window.{next_ack};
 ghost use Rattle.sock_tcp.specs.Replies.{reply_ip, bare_reply, rst_ack, rst_number, rst_segment, with_header};
-ghost use Rattle.sock_tcp.specs.Replies.{chosen_range, wire_edges, sack_range, ack_segment, ack_kept, IsStamp, IsSentAs, Answers};
+ghost use Rattle.sock_tcp.specs.Replies.{chosen_range, wire_edges, sack_range, ack_segment, ack_kept};
+ghost use Rattle.sock_tcp.specs.Replies.{IsStamp, IsSentAs, Answers};
 
 use crate::control_block::ControlBlock;
 use crate::generator::TsvalSource;

@@ -1,7 +1,5 @@
-use Rattle.std.proofs.Common.{rules, ◌≡◌, ◌∙◌, ap, true, false, Option, None}
-use Rattle.sock_tcp.specs.Begin.{Begun, peer_if, before_emit}
-use Rattle.sock_tcp.specs.View.{View}
-use Rattle.sock_tcp.specs.declared.tuple.Tuple.{Tuple}
+use Rattle.std.proofs.Common.{rules, ◌≡◌, ◌∙◌, ap, true, false}
+use Rattle.sock_tcp.specs.Begin.{before_emit}
 use Rattle.sock_tcp.proofs.Beginning.{goes_on, goes_not}
 use Rattle.sock_tcp.proofs.Emitting.{quiet, due}
 use Rattle.sock_tcp.proofs.socket.Socket.dispatch.Goals as goal
