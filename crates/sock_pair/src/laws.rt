@@ -101,7 +101,8 @@ pub fn pairs_deliver_in_order()
 /// A delivery that a side accepts, of a segment in order, appends the bytes of it that lie in the receive window to the
 /// receive queue before it returns, and behind them what was held there.
 pub fn pairs_deliver_at_once()
-    ensures { (i : ℕ) (m : Moment) (p q : PairView) (o : Outcome) → EventStep (Deliver i m) p o q → IsPromptAt i m p o q }
+    ensures { (i : ℕ) (m : Moment) (p q : PairView) (o : Outcome) → EventStep (Deliver i m) p o q
+        → IsPromptAt i m p o q }
 {}
 
 /// Each event of a pair is a run of steps of the theorem on two streams, from the network that the pair shows to the
