@@ -7,10 +7,10 @@ use std::fmt;
 /// How a segment's way ended.
 #[derive(Debug, Clone, Copy)]
 pub enum Ending {
-    /// The other side took it.
-    Delivered,
-    /// It came to the other side, which refused it, for this reason.
-    Refused(&'static str),
+    /// The other side took it, at this height of the page.
+    Delivered(usize),
+    /// It came to the other side, at this height, and was refused.
+    Refused(usize),
     /// It never came.
     Lost,
     /// Its emit failed.
@@ -22,15 +22,13 @@ pub enum Ending {
 pub struct Arrow {
     /// The side that emits it.
     pub from: Side,
-    /// Where it departs.
+    /// The height of the page at which it departs.
     pub departure: usize,
-    /// Where it arrives, if it does.
-    pub arrival: usize,
     /// How its way ends.
     pub ending: Ending,
     /// Whether it answers a segment that was delivered in the same row.
     pub reply: bool,
-    /// Whether it was delivered before.
+    /// Whether it had come before.
     pub again: bool,
 }
 
@@ -40,8 +38,8 @@ impl Arrow {
         let line = lifeline(self.from);
         let other = lifeline(self.from.other());
         match self.ending {
-            Ending::Delivered => (other, self.arrival),
-            Ending::Refused(_) => (toward(other, line, 14), self.arrival),
+            Ending::Delivered(arrival) => (other, arrival),
+            Ending::Refused(arrival) => (toward(other, line, 14), arrival),
             Ending::Lost => (toward(line, other, 120), self.departure.saturating_add(4)),
             Ending::Failed => (toward(line, other, 34), self.departure),
         }
@@ -60,7 +58,7 @@ fn toward(from: usize, to: usize, distance: usize) -> usize {
 impl fmt::Display for Arrow {
     fn fmt<W: fmt::Write>(&self, f: &mut fmt::Formatter<W>) -> fmt::Result {
         let class = match self.ending {
-            Ending::Delivered => "sent",
+            Ending::Delivered(_) => "sent",
             Ending::Refused(_) => "refused",
             Ending::Lost => "lost",
             Ending::Failed => "failed",

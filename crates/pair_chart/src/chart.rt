@@ -8,7 +8,7 @@ ghost use Rattle.std.specs.Vec.{vec_capacity};
 use crate::arrow::{Arrow, Ending};
 use crate::call::Call;
 use crate::label::Label;
-use crate::page::{Anchor, NEITHER, Row, TIME, WIDTH, height, lifeline};
+use crate::page::{Anchor, HEAD, NEITHER, ROW, Row, TIME, WIDTH, height, lifeline};
 use crate::style::{LEGEND, STYLE};
 use sock_pair::script::End;
 use sock_pair::{Event, Moment, Outcome, Pair, Segment, Side};
@@ -56,15 +56,41 @@ impl<'w, W: Write> Chart<'w, W> {
 
     /// Begins a chart of so many events.
     pub fn begin(&mut self, events: usize) -> io::Result<()> {
-        let (width, height) = (WIDTH, height(events));
+        let height = height(events);
         write!(
             self.out,
-            "<svg xmlns=\"http://www.w3.org/2000/svg\" width=\"{width}\" height=\"{height}\" viewBox=\"0 0 {width} {height}\">\n"
+            "<svg xmlns=\"http://www.w3.org/2000/svg\" width=\"{WIDTH}\" height=\"{height}\""
         )?;
+        writeln!(self.out, " viewBox=\"0 0 {WIDTH} {height}\">")?;
         self.out.write_all(STYLE.as_bytes())?;
+        self.ground()?;
         self.out.write_all(LEGEND.as_bytes())?;
         self.head(Side::A, "a 10.0.0.1:49152", height)?;
         self.head(Side::B, "b 10.0.0.2:80", height)
+    }
+
+    // The page, with a thin line above each row.
+    fn ground(&mut self) -> io::Result<()> {
+        write!(
+            self.out,
+            "<pattern id=\"rows\" patternUnits=\"userSpaceOnUse\" y=\"{HEAD}\" width=\"{WIDTH}\" height=\"{ROW}\">"
+        )?;
+        writeln!(
+            self.out,
+            "<path class=\"row\" d=\"M0 0H{WIDTH}\"/></pattern>"
+        )?;
+        writeln!(
+            self.out,
+            "<rect class=\"page\" width=\"100%\" height=\"100%\"/>"
+        )?;
+        writeln!(
+            self.out,
+            "<rect fill=\"url(#rows)\" y=\"{HEAD}\" width=\"100%\" height=\"100%\"/>"
+        )?;
+        writeln!(
+            self.out,
+            "<text class=\"time\" x=\"{TIME}\" text-anchor=\"end\" y=\"94\">ms</text>"
+        )
     }
 
     // The lifeline of a side, and above it the side's name and first state.
@@ -134,7 +160,6 @@ impl<'w, W: Write> Chart<'w, W> {
                 let arrow = Arrow {
                     from,
                     departure: row.departure(),
-                    arrival: row.departure(),
                     ending: Ending::Lost,
                     reply: departure.reply,
                     again: false,
@@ -187,7 +212,6 @@ impl<'w, W: Write> Chart<'w, W> {
         let arrow = Arrow {
             from,
             departure: self.row.departure(),
-            arrival: self.row.departure(),
             ending: Ending::Failed,
             reply: false,
             again: false,
@@ -201,13 +225,13 @@ impl<'w, W: Write> Chart<'w, W> {
         match call.outcome {
             Outcome::Delivered(reply) => {
                 self.reply(*reply);
-                self.arrive(index, Ending::Delivered, segments)
+                self.arrive(index, None, segments)
             }
             Outcome::NotAccepted(reply) => {
                 self.reply(*reply);
-                self.arrive(index, Ending::Refused("not accepted"), segments)
+                self.arrive(index, Some("not accepted"), segments)
             }
-            Outcome::TooOld => self.arrive(index, Ending::Refused("too old"), segments),
+            Outcome::TooOld => self.arrive(index, Some("too old"), segments),
             _ => {
                 let y = self.row.first_line();
                 writeln!(
@@ -227,26 +251,33 @@ impl<'w, W: Write> Chart<'w, W> {
         }
     }
 
-    // The segment of this index comes to the other side in this row.
-    fn arrive(&mut self, index: usize, ending: Ending, segments: &[Segment]) -> io::Result<()> {
+    // The segment of this index comes to the other side in this row, which may refuse it.
+    fn arrive(
+        &mut self,
+        index: usize,
+        refusal: Option<&str>,
+        segments: &[Segment],
+    ) -> io::Result<()> {
         let (Some(departure), Some(segment)) = (self.departures.get_mut(index), segments.get(index))
         else {
             return Ok(());
         };
-        let from = segment.from;
+        let (from, arrival) = (segment.from, self.row.arrival());
         let arrow = Arrow {
             from,
             departure: departure.row.departure(),
-            arrival: self.row.arrival(),
-            ending,
+            ending: match refusal {
+                None => Ending::Delivered(arrival),
+                Some(_) => Ending::Refused(arrival),
+            },
             reply: departure.reply,
             again: departure.arrived,
         };
         departure.arrived = true;
         writeln!(self.out, "{arrow}")?;
-        match ending {
-            Ending::Refused(why) => self.beside(from.other(), "refused-text", why),
-            _ => Ok(()),
+        match refusal {
+            None => Ok(()),
+            Some(why) => self.beside(from.other(), "refused-text", why),
         }
     }
 

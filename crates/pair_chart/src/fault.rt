@@ -1,4 +1,6 @@
 //! Why the program failed.
+ghost use Rattle.std.specs.Prelude.{◌<◌};
+
 use sock_pair::script::{End, ScriptError};
 use thiserror::Error;
 
@@ -19,7 +21,10 @@ pub enum Fault {
 
 impl Fault {
     /// The exit status: 1 for wrong arguments, and otherwise that of the end of the drawing.
-    pub fn status(&self) -> u8 {
+    #[tactic(auto, unfolding(sock_pair::specs::ReplayEnds::status_of))]
+    pub fn status(&self) -> u8
+        ensures { 0 < result }
+    {
         match self {
             Fault::Usage => 1,
             Fault::Script(error) => End::Script(*error).status(),

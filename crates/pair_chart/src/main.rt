@@ -80,3 +80,6 @@ fn fault_of(end: End) -> Result<(), Fault> {
         End::Memory => Err(Fault::Memory),
     }
 }
+
+#[cfg(test)]
+mod tests;

@@ -1,6 +1,7 @@
 //! Where things stand on the page. Each event has a row of one height, so no two of them overlap; in a row the time
 //! stands at the left, then what side a does, the lifeline of a, the labels of segments, the lifeline of b, and what
 //! b does.
+ghost use Rattle.std.specs.Prelude.{◌≡◌, ◌+◌, ◌<◌, ◌≤◌, ◌^◌};
 
 use sock_pair::Side;
 use std::fmt;
@@ -28,7 +29,7 @@ const LINE_A: usize = 350;
 
 const LINE_B: usize = 850;
 
-/// A row of the page.
+/// A row of the page. What stands in it keeps within it.
 #[derive(Debug, Clone, Copy)]
 pub struct Row {
     top: usize,
@@ -39,9 +40,11 @@ impl Row {
     pub const FIRST: Row = Row { top: HEAD };
 
     /// The row below.
-    pub fn next(self) -> Row {
+    pub fn next(self) -> Row
+        ensures { self.top + ROW < 2 ^ 64 → result.top ≡ self.top + ROW }
+    {
         Row {
-            top: self.below(ROW),
+            top: self.top.saturating_add(ROW),
         }
     }
 
@@ -70,7 +73,12 @@ impl Row {
         self.below(28)
     }
 
-    fn below(self, distance: usize) -> usize {
+    // The place so far below the row's upper edge.
+    fn below(self, distance: usize) -> usize
+        requires { distance < ROW }
+        ensures from { self.top ≤ result }
+        ensures to { result < self.top + ROW }
+    {
         self.top.saturating_add(distance)
     }
 }

@@ -44,10 +44,10 @@ text { fill: #e6edf3; }
 }
 </style>
 <defs>
-<marker id="head" markerUnits="userSpaceOnUse" markerWidth="12" markerHeight="10" refX="11" refY="5" orient="auto">
-<path class="sent-mark" d="M1 1 11 5 1 9z"/></marker>
-<marker id="reply-head" markerUnits="userSpaceOnUse" markerWidth="12" markerHeight="10" refX="11" refY="5" orient="auto">
-<path class="reply-mark" d="M1 1 11 5 1 9z"/></marker>
+<marker id="head" markerUnits="userSpaceOnUse" markerWidth="12" markerHeight="10" refX="11" refY="5"
+orient="auto"><path class="sent-mark" d="M1 1 11 5 1 9z"/></marker>
+<marker id="reply-head" markerUnits="userSpaceOnUse" markerWidth="12" markerHeight="10" refX="11" refY="5"
+orient="auto"><path class="reply-mark" d="M1 1 11 5 1 9z"/></marker>
 <marker id="dot" markerUnits="userSpaceOnUse" markerWidth="10" markerHeight="10" refX="5" refY="5">
 <circle class="reply-mark" cx="5" cy="5" r="4"/></marker>
 <marker id="bar" markerUnits="userSpaceOnUse" markerWidth="6" markerHeight="18" refX="3" refY="9" orient="auto">
@@ -56,12 +56,7 @@ text { fill: #e6edf3; }
 <path class="lost-mark" stroke-width="2" d="M2 2 12 12M12 2 2 12"/></marker>
 <marker id="ring" markerUnits="userSpaceOnUse" markerWidth="12" markerHeight="12" refX="1" refY="6" orient="auto">
 <circle class="failed-mark" fill="none" stroke-width="1.5" cx="6" cy="6" r="4.5"/></marker>
-<pattern id="rows" patternUnits="userSpaceOnUse" y="104" width="1180" height="38">
-<path class="row" d="M0 0H1180"/></pattern>
 </defs>
-<rect class="page" width="100%" height="100%"/>
-<rect fill="url(#rows)" y="104" width="100%" height="100%"/>
-<text class="time" x="84" text-anchor="end" y="94">ms</text>
 "##;
 
 /// What the forms of the arrows mean.

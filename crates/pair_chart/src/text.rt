@@ -1,4 +1,5 @@
 //! Bytes as text of the chart.
+ghost use Rattle.std.specs.Prelude.{◌≢◌, IfNone};
 
 use std::fmt;
 
@@ -37,13 +38,24 @@ fn width(byte: u8) -> usize {
 
 // A byte as XML text: as itself where it is printable ASCII that means nothing here, else by its name or its number.
 fn write_byte<W: fmt::Write>(f: &mut fmt::Formatter<W>, byte: u8) -> fmt::Result {
-    match byte {
-        b'&' => f.write_str("&amp;"),
-        b'<' => f.write_str("&lt;"),
-        b'>' => f.write_str("&gt;"),
-        b'"' => f.write_str("\\\""),
-        b'\\' => f.write_str("\\\\"),
-        b' '..=b'~' => f.write_char(char::from(byte)),
+    match (escape(byte), byte) {
+        (Some(name), _) => f.write_str(name),
+        (None, b' '..=b'~') => f.write_char(char::from(byte)),
         _ => write!(f, "\\x{byte:02x}"),
+    }
+}
+
+// What stands for a byte that means something to XML or in quotation marks.
+fn escape(byte: u8) -> Option<&'static str>
+    ensures markup { IfNone result ((byte ≢ 38) × (byte ≢ 60) × (byte ≢ 62)) }
+    ensures quoting { IfNone result ((byte ≢ 34) × (byte ≢ 92)) }
+{
+    match byte {
+        b'&' => Some("&amp;"),
+        b'<' => Some("&lt;"),
+        b'>' => Some("&gt;"),
+        b'"' => Some("\\\""),
+        b'\\' => Some("\\\\"),
+        _ => None,
     }
 }
