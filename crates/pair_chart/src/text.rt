@@ -1,5 +1,5 @@
 //! Bytes as text of the chart.
-ghost use Rattle.std.specs.Prelude.{◌≢◌, IfNone};
+ghost use Rattle.std.specs.Prelude.{◌≢◌, All, IfNone, IfSome};
 
 use std::fmt;
 
@@ -49,6 +49,7 @@ fn write_byte<W: fmt::Write>(f: &mut fmt::Formatter<W>, byte: u8) -> fmt::Result
 fn escape(byte: u8) -> Option<&'static str>
     ensures markup { IfNone result ((byte ≢ 38) × (byte ≢ 60) × (byte ≢ 62)) }
     ensures quoting { IfNone result ((byte ≢ 34) × (byte ≢ 92)) }
+    ensures name { IfSome result (λ name. All (λ b. (b ≢ 60) × (b ≢ 62)) name.now) }
 {
     match byte {
         b'&' => Some("&amp;"),
