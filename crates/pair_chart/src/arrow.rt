@@ -1,0 +1,75 @@
+//! Arrows, one for each way of a segment.
+
+use crate::page::lifeline;
+use sock_pair::Side;
+use std::fmt;
+
+/// How a segment's way ended.
+#[derive(Debug, Clone, Copy)]
+pub enum Ending {
+    /// The other side took it, at this height of the page.
+    Delivered(usize),
+    /// It came to the other side, at this height, and was refused.
+    Refused(usize),
+    /// It never came.
+    Lost,
+    /// Its emit failed.
+    Failed,
+}
+
+/// The way of a segment.
+#[derive(Debug, Clone, Copy)]
+pub struct Arrow {
+    /// The side that emits it.
+    pub from: Side,
+    /// The height of the page at which it departs.
+    pub departure: usize,
+    /// How its way ends.
+    pub ending: Ending,
+    /// Whether it answers a segment that was delivered in the same row.
+    pub reply: bool,
+    /// Whether it had come before.
+    pub again: bool,
+}
+
+impl Arrow {
+    // Where the arrow ends. One that is refused stops before the lifeline.
+    fn tip(&self) -> (usize, usize) {
+        let line = lifeline(self.from);
+        let other = lifeline(self.from.other());
+        match self.ending {
+            Ending::Delivered(arrival) => (other, arrival),
+            Ending::Refused(arrival) => (toward(other, line, 14), arrival),
+            Ending::Lost => (toward(line, other, 120), self.departure.saturating_add(4)),
+            Ending::Failed => (toward(line, other, 34), self.departure),
+        }
+    }
+}
+
+// The place that is so far from one place towards another.
+fn toward(from: usize, to: usize, distance: usize) -> usize {
+    if from < to {
+        from.saturating_add(distance)
+    } else {
+        from.saturating_sub(distance)
+    }
+}
+
+impl fmt::Display for Arrow {
+    fn fmt<W: fmt::Write>(&self, f: &mut fmt::Formatter<W>) -> fmt::Result {
+        let class = match self.ending {
+            Ending::Delivered(_) => "sent",
+            Ending::Refused(_) => "refused",
+            Ending::Lost => "lost",
+            Ending::Failed => "failed",
+        };
+        let reply = if self.reply { " reply" } else { "" };
+        let again = if self.again { " again" } else { "" };
+        let (x, y) = (lifeline(self.from), self.departure);
+        let (tip_x, tip_y) = self.tip();
+        write!(
+            f,
+            "<path class=\"{class}{reply}{again}\" d=\"M{x} {y} {tip_x} {tip_y}\"/>"
+        )
+    }
+}

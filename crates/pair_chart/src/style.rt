@@ -1,0 +1,69 @@
+//! The parts of the chart that are the same in each: colours, arrow heads, and the legend.
+
+/// Colours and fonts, in light and in dark, and the marks that lines begin and end with.
+pub const STYLE: &str = r##"<style>
+text { font: 12px ui-monospace, monospace; fill: #1f2328; white-space: pre; }
+path { fill: none; stroke-width: 1.5; }
+.page { fill: #ffffff; }
+.row { stroke: #eaeef2; }
+.lifeline { stroke: #8c959f; }
+.name { font-weight: bold; text-anchor: middle; }
+.time, .index, .quiet { fill: #656d76; }
+.state { fill: #1a7f37; font-weight: bold; }
+.label { fill: #ffffff; opacity: 0.85; }
+.sent { stroke: #0969da; marker-end: url(#head); }
+.sent-mark { fill: #0969da; }
+.reply { stroke: #8250df; marker-start: url(#dot); marker-end: url(#reply-head); }
+.reply-mark { fill: #8250df; }
+.refused { stroke: #cf222e; marker-end: url(#bar); }
+.refused-mark { stroke: #cf222e; }
+.refused-text { fill: #cf222e; }
+.lost { stroke: #57606a; marker-end: url(#cross); }
+.lost-mark { stroke: #57606a; }
+.failed { stroke: #bc4c00; marker-end: url(#ring); }
+.failed-mark { stroke: #bc4c00; }
+.failed-text { fill: #bc4c00; }
+.again { stroke-dasharray: 7 5; }
+@media (prefers-color-scheme: dark) {
+text { fill: #e6edf3; }
+.page { fill: #0d1117; }
+.row { stroke: #21262d; }
+.lifeline { stroke: #6e7681; }
+.time, .index, .quiet { fill: #8d96a0; }
+.state { fill: #3fb950; }
+.label { fill: #0d1117; }
+.sent { stroke: #4493f8; }
+.sent-mark { fill: #4493f8; }
+.reply { stroke: #ab7df8; }
+.reply-mark { fill: #ab7df8; }
+.refused, .refused-mark { stroke: #f85149; }
+.refused-text { fill: #f85149; }
+.lost, .lost-mark { stroke: #9198a1; }
+.failed, .failed-mark { stroke: #db6d28; }
+.failed-text { fill: #db6d28; }
+}
+</style>
+<defs>
+<marker id="head" markerUnits="userSpaceOnUse" markerWidth="12" markerHeight="10" refX="11" refY="5"
+orient="auto"><path class="sent-mark" d="M1 1 11 5 1 9z"/></marker>
+<marker id="reply-head" markerUnits="userSpaceOnUse" markerWidth="12" markerHeight="10" refX="11" refY="5"
+orient="auto"><path class="reply-mark" d="M1 1 11 5 1 9z"/></marker>
+<marker id="dot" markerUnits="userSpaceOnUse" markerWidth="10" markerHeight="10" refX="5" refY="5">
+<circle class="reply-mark" cx="5" cy="5" r="4"/></marker>
+<marker id="bar" markerUnits="userSpaceOnUse" markerWidth="6" markerHeight="18" refX="3" refY="9" orient="auto">
+<path class="refused-mark" stroke-width="3" d="M3 1V17"/></marker>
+<marker id="cross" markerUnits="userSpaceOnUse" markerWidth="14" markerHeight="14" refX="7" refY="7">
+<path class="lost-mark" stroke-width="2" d="M2 2 12 12M12 2 2 12"/></marker>
+<marker id="ring" markerUnits="userSpaceOnUse" markerWidth="12" markerHeight="12" refX="1" refY="6" orient="auto">
+<circle class="failed-mark" fill="none" stroke-width="1.5" cx="6" cy="6" r="4.5"/></marker>
+</defs>
+"##;
+
+/// What the forms of the arrows mean.
+pub const LEGEND: &str = r#"<path class="sent" d="M98 22H138"/><text x="146" y="26">delivered</text>
+<path class="sent again" d="M246 22H286"/><text x="294" y="26">delivered again</text>
+<path class="sent reply" d="M440 22H480"/><text x="488" y="26">reply</text>
+<path class="lost" d="M560 22H590"/><text x="606" y="26">never delivered</text>
+<path class="refused" d="M750 22H782"/><text x="794" y="26">refused</text>
+<path class="failed" d="M880 22H904"/><text x="924" y="26">emit failed</text>
+"#;
