@@ -1,27 +1,12 @@
 //! The run of a script, drawn while it goes on.
-ghost use Rattle.std.specs.Prelude.{◌≡◌, ◌≤◌, IfOk, [], None, length, vec_len, slice_index};
-ghost use Rattle.net_base.specs.Ring.{ring};
-ghost use Rattle.sock_pair.specs.NetworkInvariant.{IsLimit};
-ghost use Rattle.sock_pair.specs.ReplayScripts.{AreSizes, IsPlayable};
+ghost use Rattle.sock_pair.specs.ReplayScripts.{IsPlayable};
 
 use crate::chart::Chart;
-use ip_wire::{IpAddress, IpEndpoint, Ipv4Address};
-use sock_pair::script::{End, Script, ScriptError, parse};
-use sock_pair::{Event, Pair, Setup};
-use sock_tcp::SocketBuffer;
-use std::alloc::{AllocError, Global};
+use sock_pair::script::{Buffers, End, Script, ScriptError, begin, parse};
+use sock_pair::{Event, Pair};
+use std::alloc::Global;
 use std::io;
 use std::io::{Read, Write};
-
-const ENDPOINT_A: IpEndpoint = IpEndpoint {
-    addr: IpAddress::Ipv4(Ipv4Address([10, 0, 0, 1])),
-    port: 49152,
-};
-
-const ENDPOINT_B: IpEndpoint = IpEndpoint {
-    addr: IpAddress::Ipv4(Ipv4Address([10, 0, 0, 2])),
-    port: 80,
-};
 
 /// Reads all bytes up to the reader's end, runs them as a script, and draws each event.
 ///
@@ -92,65 +77,4 @@ fn run<W: Write>(chart: &mut Chart<'_, W>, pair: &mut Pair<'_>, events: &[Event]
         }
     }
     End::Done
-}
-
-// The bytes that the sockets' buffers stand in.
-#[derive(Drop)]
-struct Buffers {
-    arx: Vec<u8>,
-    atx: Vec<u8>,
-    brx: Vec<u8>,
-    btx: Vec<u8>,
-}
-
-impl Buffers {
-    fn new(alloc: Global, sizes: [usize; 4]) -> Result<Buffers, AllocError>
-        requires { AreSizes sizes }
-        ensures arx { IfOk result (λ b. vec_len b.arx ≡ slice_index sizes 0) }
-        ensures atx { IfOk result (λ b. vec_len b.atx ≡ slice_index sizes 1) }
-        ensures brx { IfOk result (λ b. vec_len b.brx ≡ slice_index sizes 2) }
-        ensures btx { IfOk result (λ b. vec_len b.btx ≡ slice_index sizes 3) }
-    {
-        let [arx, atx, brx, btx] = sizes;
-        Ok(Buffers {
-            arx: vec![in alloc; 0u8; arx]?,
-            atx: vec![in alloc; 0u8; atx]?,
-            brx: vec![in alloc; 0u8; brx]?,
-            btx: vec![in alloc; 0u8; btx]?,
-        })
-    }
-}
-
-// Two closed sockets over these buffers.
-fn begin<'a>(
-    alloc: Global,
-    arx: &'a mut [u8],
-    atx: &'a mut [u8],
-    brx: &'a mut [u8],
-    btx: &'a mut [u8],
-    limit: Option<u32>,
-) -> Pair<'a>
-    requires arx { length arx.now ≤ 1048576 }
-    requires atx { length atx.now ≤ 1048576 }
-    requires brx { length brx.now ≤ 1048576 }
-    requires btx { length btx.now ≤ 1048576 }
-    requires limit { IsLimit limit }
-{
-    let a = setup(arx, atx, ENDPOINT_A);
-    let b = setup(brx, btx, ENDPOINT_B);
-    Pair::new(alloc, a, b, limit)
-}
-
-fn setup<'a>(rx: &'a mut [u8], tx: &'a mut [u8], endpoint: IpEndpoint) -> Setup<'a>
-    ensures rx { result.rx ≡ ring [] rx.entry.now }
-    ensures tx { result.tx ≡ ring [] tx.entry.now }
-    ensures endpoint { result.endpoint ≡ endpoint }
-    ensures generator { result.generator ≡ None }
-{
-    Setup {
-        rx: SocketBuffer::new(rx),
-        tx: SocketBuffer::new(tx),
-        endpoint,
-        generator: None,
-    }
 }

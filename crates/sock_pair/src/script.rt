@@ -25,6 +25,7 @@ pub use error::ScriptError;
 use forms::event;
 use lines::Lines;
 use pair_line::{PairLine, read_pair_line};
+pub use play::{Buffers, begin};
 use play::{play, read_all};
 use std::alloc::Global;
 pub use stream::{Sink, Source, StreamFault};

@@ -90,17 +90,22 @@ fn run_events<W: Sink>(alloc: Global, pair: &mut Pair<'_>, events: &[Event], wri
     }
 }
 
-// The bytes that the sockets' buffers stand in.
+/// The bytes that the buffers of a script's sockets stand in.
 #[derive(Drop)]
-struct Buffers {
-    arx: Vec<u8>,
-    atx: Vec<u8>,
-    brx: Vec<u8>,
-    btx: Vec<u8>,
+pub struct Buffers {
+    /// Those of a's receive buffer.
+    pub arx: Vec<u8>,
+    /// Those of a's transmit buffer.
+    pub atx: Vec<u8>,
+    /// Those of b's receive buffer.
+    pub brx: Vec<u8>,
+    /// Those of b's transmit buffer.
+    pub btx: Vec<u8>,
 }
 
 impl Buffers {
-    fn new(alloc: Global, sizes: [usize; 4]) -> Result<Buffers, AllocError>
+    /// Zero bytes, as many as a script's `sizes` say: at most 1048576 in each. Refused where memory ran out.
+    pub fn new(alloc: Global, sizes: [usize; 4]) -> Result<Buffers, AllocError>
         requires { AreSizes sizes }
         ensures arx { IfOk result (λ b. vec_len b.arx ≡ slice_index sizes 0) }
         ensures atx { IfOk result (λ b. vec_len b.atx ≡ slice_index sizes 1) }
@@ -117,8 +122,9 @@ impl Buffers {
     }
 }
 
-// Two closed sockets over these buffers.
-fn begin<'a>(
+/// The two closed sockets of a script over these buffers, each of at most 1048576 bytes: a at 10.0.0.1:49152 and b at
+/// 10.0.0.2:80, without timestamps. Each side may accept `limit` bytes, less than 2^29, where there is a limit.
+pub fn begin<'a>(
     alloc: Global,
     arx: &'a mut [u8],
     atx: &'a mut [u8],
