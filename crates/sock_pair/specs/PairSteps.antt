@@ -115,7 +115,7 @@ pub record IsProcessed (s : Side) (m : Moment) (t : StoredView) (o : Outcome) (h
     (h' : HostView) (ks' : List StoredView) : Type 0 where
   pub reply : Option (IpRepr × Segment)
   pub is_reply : Answers (IsStampOf (delivered_to h m t).stamps t.segment.timestamp) t.ip
-    (processed_by h m t).reply reply
+      (processed_by h m t).reply reply
   pub answer : o ≡ outcome.Delivered (reply_index (length ks) reply)
   pub host : h' ≡ delivered_to h m t
   pub stored : ks' ≡ ks ++ kept_at s reply (delivered_to h m t).released (delivered_to h m t).taken
