@@ -1,8 +1,8 @@
 //! The labels of segments.
 
 use crate::page::Anchor;
-use control_wire::TcpControl;
 use sock_pair::Segment;
+use sock_pair::script::flags;
 use std::fmt;
 use std::fmt::Write;
 
@@ -72,17 +72,5 @@ impl fmt::Display for Headers<'_> {
         }
         let (win, len) = (header.window_len, self.0.payload.len());
         write!(f, " win {win} len {len}")
-    }
-}
-
-fn flags(control: TcpControl, has_ack: bool) -> &'static str {
-    match (control, has_ack) {
-        (TcpControl::None, _) => "ACK",
-        (TcpControl::Psh, _) => "PSH|ACK",
-        (TcpControl::Fin, _) => "FIN|ACK",
-        (TcpControl::Syn, true) => "SYN|ACK",
-        (TcpControl::Syn, false) => "SYN",
-        (TcpControl::Rst, true) => "RST|ACK",
-        (TcpControl::Rst, false) => "RST",
     }
 }

@@ -3,6 +3,7 @@
 mod host;
 mod icmp;
 mod kinds;
+mod packets;
 mod raw;
 mod tcp;
 mod tcp_poll;

@@ -24,6 +24,7 @@ pub use end::End;
 pub use error::ScriptError;
 use forms::event;
 use lines::Lines;
+pub use output::flags;
 use pair_line::{PairLine, read_pair_line};
 pub use play::{Buffers, begin};
 use play::{play, read_all};

@@ -1,5 +1,6 @@
 //! Worked examples of ICMP sockets.
 use super::host::Host;
+use super::packets::two_packets;
 use crate::PollAt;
 use crate::icmp::*;
 use crate::wire::{
@@ -11,33 +12,37 @@ const THERE: IpAddress = IpAddress::Ipv4(Ipv4Address([10, 0, 0, 2]));
 
 const NOWHERE: IpAddress = IpAddress::Ipv4(Ipv4Address([0; 4]));
 
+// A socket that has no room for messages.
+fn roomless() -> Socket<'static> {
+    Socket::new(
+        PacketBuffer::new(&mut [], &mut []),
+        PacketBuffer::new(&mut [], &mut []),
+    )
+}
+
 #[test]
 fn icmp_bind_validation(rt: HostRuntime) -> Result<(), Fail> {
-    let mut socket = Socket::new(
-        PacketBuffer::new(&mut [], &mut []),
-        PacketBuffer::new(&mut [], &mut []),
-    );
+    let mut socket = roomless();
     let portless = IpListenEndpoint::default();
-    assert_eq!(rt;
-        socket.bind(Endpoint::Udp(portless)),
-        Err(BindError::Unaddressable)
-    );
-    assert!(rt; !socket.is_open());
-    assert_eq!(rt; socket.bind(Endpoint::Ident(0)), Ok(()));
-    assert!(rt; socket.is_open());
-    assert_eq!(rt;
-        socket.bind(Endpoint::Ident(1)),
-        Err(BindError::InvalidState)
-    );
-    assert_eq!(rt;
-        socket.bind(Endpoint::default()),
-        Err(BindError::Unaddressable)
-    );
+    for (endpoint, answer, open) in [
+        (
+            Endpoint::Udp(portless),
+            Err(BindError::Unaddressable),
+            false,
+        ),
+        (Endpoint::Ident(0), Ok(()), true),
+        (Endpoint::Ident(1), Err(BindError::InvalidState), true),
+        (Endpoint::default(), Err(BindError::Unaddressable), true),
+    ] {
+        assert_eq!(rt; socket.bind(endpoint), answer);
+        assert_eq!(rt; socket.is_open(), open);
+    }
     assert!(rt; !Endpoint::Tcp(portless).is_specified());
     assert!(rt; Endpoint::Ident(7) < Endpoint::Tcp(portless));
     Ok(())
 }
 
+// What an ICMP socket that sends may hold: one message, and 66 bytes.
 #[test]
 fn icmp_send_limits(rt: HostRuntime) -> Result<(), Fail> {
     let mut places = [PacketMetadata::EMPTY; 1];
@@ -46,25 +51,32 @@ fn icmp_send_limits(rt: HostRuntime) -> Result<(), Fail> {
         PacketBuffer::new(&mut [], &mut []),
         PacketBuffer::new(&mut places, &mut bytes),
     );
-    assert_eq!(rt;
+    let (many, long, short) = ([7; 67], [7; 66], b"abcdef");
+    for (data, remote, answer, next) in [
         (
-            socket.packet_send_capacity(),
-            socket.payload_send_capacity()
+            many.as_slice(),
+            THERE,
+            Err(SendError::BufferFull),
+            PollAt::Ingress,
         ),
-        (1, 66)
-    );
-    assert_eq!(rt;
-        socket.send_slice(&[7; 67], THERE),
-        Err(SendError::BufferFull)
-    );
-    assert_eq!(rt;
-        socket.send_slice(b"abcdef", NOWHERE),
-        Err(SendError::Unaddressable)
-    );
-    assert_eq!(rt; socket.poll_at(&Host::new(None)), PollAt::Ingress);
-    assert_eq!(rt; socket.send_slice(&[7; 66], THERE), Ok(()));
-    assert_eq!(rt; socket.poll_at(&Host::new(None)), PollAt::Now);
+        (
+            short.as_slice(),
+            NOWHERE,
+            Err(SendError::Unaddressable),
+            PollAt::Ingress,
+        ),
+        (long.as_slice(), THERE, Ok(()), PollAt::Now),
+    ] {
+        assert_eq!(rt; socket.send_slice(data, remote), answer);
+        assert_eq!(rt; socket.poll_at(&Host::new(None)), next);
+    }
     assert!(rt; !socket.can_send() && socket.send_queue() == 66);
+    Ok(())
+}
+
+#[test]
+fn icmp_full_buffer(rt: HostRuntime) -> Result<(), Fail> {
+    let mut socket = roomless();
     assert!(rt; matches!(socket.send(1, NOWHERE), Err(SendError::Unaddressable)));
     assert!(rt; matches!(socket.send(0, THERE), Err(SendError::BufferFull)));
     assert_eq!(rt;
@@ -81,31 +93,19 @@ fn icmp_send_limits(rt: HostRuntime) -> Result<(), Fail> {
 fn icmp_truncated_slices(rt: HostRuntime) -> Result<(), Fail> {
     let mut places = [PacketMetadata::EMPTY; 2];
     let mut bytes = [0u8; 16];
-    let mut received = PacketBuffer::new(&mut places, &mut bytes);
-    for message in [b"abcdef".as_slice(), b"xyz".as_slice()] {
-        match received.enqueue(message.len(), THERE) {
-            Ok(lent) => {
-                if lent.len() == message.len() {
-                    lent.copy_from_slice(message);
-                }
-            }
-            Err(_) => assert!(rt; false),
-        }
-    }
+    let received = two_packets(&rt, &mut places, &mut bytes, THERE);
     let mut socket = Socket::new(received, PacketBuffer::new(&mut [], &mut []));
-    assert_eq!(rt;
-        (
-            socket.packet_recv_capacity(),
-            socket.payload_recv_capacity()
-        ),
-        (2, 16)
-    );
+    assert!(rt; socket.packet_recv_capacity() == 2 && socket.payload_recv_capacity() == 16);
     assert!(rt; socket.can_recv() && socket.recv_queue() == 9);
     let mut short = [0u8; 4];
-    assert_eq!(rt; socket.recv_slice(&mut short), Err(RecvError::Truncated));
-    assert_eq!(rt; socket.recv(), Ok((b"xyz".as_slice(), THERE)));
-    assert_eq!(rt; socket.recv_slice(&mut short), Err(RecvError::Exhausted));
-    assert!(rt; socket.recv().is_err() && !socket.can_recv());
+    for (copied, taken) in [
+        (RecvError::Truncated, Ok((b"xyz".as_slice(), THERE))),
+        (RecvError::Exhausted, Err(RecvError::Exhausted)),
+    ] {
+        assert_eq!(rt; socket.recv_slice(&mut short), Err(copied));
+        assert_eq!(rt; socket.recv(), taken);
+    }
+    assert!(rt; !socket.can_recv());
     Ok(())
 }
 
@@ -128,6 +128,10 @@ fn echo(ident: u16) -> Icmpv4Repr<'static> {
     }
 }
 
+fn accepts(socket: &Socket<'_>, message: &Icmpv4Repr<'_>) -> bool {
+    socket.accepts_v4(&Host::new(None), &TO_HERE, message)
+}
+
 // The header of what is emitted, and whether the dispatch answered Ok.
 fn emitted(socket: &mut Socket<'_>, fail: bool) -> (Option<IpRepr>, bool) {
     let mut cx = Host::new(Some(HERE));
@@ -141,6 +145,16 @@ fn emitted(socket: &mut Socket<'_>, fail: bool) -> (Option<IpRepr>, bool) {
 
 #[test]
 fn icmp_accepts_identifier(rt: HostRuntime) -> Result<(), Fail> {
+    let mut socket = roomless();
+    assert_eq!(rt; socket.bind(Endpoint::Ident(0x1234)), Ok(()));
+    for (ident, accepted) in [(0x1234, true), (0x4321, false)] {
+        assert_eq!(rt; accepts(&socket, &echo(ident)), accepted);
+    }
+    Ok(())
+}
+
+#[test]
+fn icmp_message_is_written_out(rt: HostRuntime) -> Result<(), Fail> {
     let mut places = [PacketMetadata::EMPTY; 1];
     let mut bytes = [0u8; 66];
     let mut socket = Socket::new(
@@ -148,8 +162,6 @@ fn icmp_accepts_identifier(rt: HostRuntime) -> Result<(), Fail> {
         PacketBuffer::new(&mut [], &mut []),
     );
     assert_eq!(rt; socket.bind(Endpoint::Ident(0x1234)), Ok(()));
-    assert!(rt; socket.accepts_v4(&Host::new(None), &TO_HERE, &echo(0x1234)));
-    assert!(rt; !socket.accepts_v4(&Host::new(None), &TO_HERE, &echo(0x4321)));
     socket.process_v4(&Host::new(None), &TO_HERE, &echo(0x1234));
     // The sum of the words 0800, 1234, 0001, 7069 and 6e67 is f905.
     let want = [8, 0, 0x06, 0xfa, 0x12, 0x34, 0, 1, b'p', b'i', b'n', b'g'];
@@ -159,10 +171,7 @@ fn icmp_accepts_identifier(rt: HostRuntime) -> Result<(), Fail> {
 
 #[test]
 fn icmp_errors_go_to_the_port_that_sent(rt: HostRuntime) -> Result<(), Fail> {
-    let mut socket = Socket::new(
-        PacketBuffer::new(&mut [], &mut []),
-        PacketBuffer::new(&mut [], &mut []),
-    );
+    let mut socket = roomless();
     let endpoint = IpListenEndpoint {
         addr: None,
         port: 53,
@@ -176,10 +185,7 @@ fn icmp_errors_go_to_the_port_that_sent(rt: HostRuntime) -> Result<(), Fail> {
             header: TO_HERE,
             body: &body,
         };
-        assert_eq!(rt;
-            socket.accepts_v4(&Host::new(None), &TO_HERE, &message),
-            accepted
-        );
+        assert_eq!(rt; accepts(&socket, &message), accepted);
     }
     Ok(())
 }
@@ -201,15 +207,13 @@ fn icmp_dispatch_drops_and_keeps(rt: HostRuntime) -> Result<(), Fail> {
         payload_len: 10,
         hop_limit: 64,
     });
+    let message = [8, 0, 0, 0, 0x12, 0x34, 0, 1, 7, 7];
     for fails in 0..4 {
-        assert_eq!(rt;
-            socket.send_slice(&[8, 0, 0, 0, 0x12, 0x34, 0, 1, 7, 7], THERE),
-            Ok(())
-        );
-        for _ in 0..fails {
-            assert_eq!(rt; emitted(&mut socket, true), (Some(header), false));
+        assert_eq!(rt; socket.send_slice(&message, THERE), Ok(()));
+        for turn in 0..=fails {
+            let done = turn == fails;
+            assert_eq!(rt; emitted(&mut socket, !done), (Some(header), done));
         }
-        assert_eq!(rt; emitted(&mut socket, false), (Some(header), true));
         assert_eq!(rt; socket.send_queue(), 0);
     }
     Ok(())

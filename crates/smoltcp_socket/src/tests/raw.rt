@@ -1,5 +1,6 @@
 //! Worked examples of raw sockets.
 use super::host::Host;
+use super::packets::two_packets;
 use crate::PollAt;
 use crate::raw::*;
 use crate::wire::{Checksum, IpAddress, IpProtocol, IpRepr, IpVersion, Ipv4Address};
@@ -21,27 +22,37 @@ fn raw_buffer_full(rt: HostRuntime) -> Result<(), Fail> {
         PacketBuffer::new(&mut [], &mut []),
         PacketBuffer::new(&mut places, &mut bytes),
     );
-    assert_eq!(rt;
-        (
-            socket.packet_send_capacity(),
-            socket.payload_send_capacity()
-        ),
-        (1, 48)
-    );
-    assert_eq!(rt;
-        (socket.ip_version(), socket.ip_protocol()),
-        (Some(IpVersion::Ipv4), Some(EXPERIMENT))
-    );
-    assert_eq!(rt; socket.send_slice(&[7; 56]), Err(SendError::BufferFull));
-    assert_eq!(rt; socket.poll_at(&Host::new(None)), PollAt::Ingress);
-    assert_eq!(rt; socket.send_slice(&[7; 48]), Ok(()));
-    assert_eq!(rt; socket.poll_at(&Host::new(None)), PollAt::Now);
+    let (long, short) = ([7; 56], [7; 48]);
+    for (data, answer, next) in [
+        (long.as_slice(), Err(SendError::BufferFull), PollAt::Ingress),
+        (short.as_slice(), Ok(()), PollAt::Now),
+    ] {
+        assert_eq!(rt; socket.send_slice(data), answer);
+        assert_eq!(rt; socket.poll_at(&Host::new(None)), next);
+    }
     assert!(rt; socket.send_queue() == 48 && !socket.can_send());
-    assert!(rt; socket.send(0).is_err());
-    assert_eq!(rt;
-        socket.send_with(0, |lent| lent.len()),
-        Err(SendError::BufferFull)
+    assert!(rt; closures_refused(&mut socket));
+    Ok(())
+}
+
+// Whether there is no room for a packet of no bytes either.
+fn closures_refused(socket: &mut Socket<'_>) -> bool {
+    socket.send(0).is_err() && socket.send_with(0, |lent| lent.len()) == Err(SendError::BufferFull)
+}
+
+#[test]
+fn raw_limits_and_filters(rt: HostRuntime) -> Result<(), Fail> {
+    let mut places = [PacketMetadata::EMPTY; 1];
+    let mut bytes = [0u8; 48];
+    let socket = Socket::new(
+        Some(IpVersion::Ipv4),
+        Some(EXPERIMENT),
+        PacketBuffer::new(&mut [], &mut []),
+        PacketBuffer::new(&mut places, &mut bytes),
     );
+    assert!(rt; socket.packet_send_capacity() == 1 && socket.payload_send_capacity() == 48);
+    assert_eq!(rt; socket.ip_version(), Some(IpVersion::Ipv4));
+    assert_eq!(rt; socket.ip_protocol(), Some(EXPERIMENT));
     Ok(())
 }
 
@@ -84,38 +95,39 @@ fn raw_accepts_by_version_and_protocol(rt: HostRuntime) -> Result<(), Fail> {
     Ok(())
 }
 
+// What a copy into four bytes answers that leaves the first packet in its place, and what one answers that takes it.
+fn copies(socket: &mut Socket<'_>) -> [Result<usize, RecvError>; 2] {
+    let mut short = [0u8; 4];
+    [socket.peek_slice(&mut short), socket.recv_slice(&mut short)]
+}
+
+// Whether this is the answer for the first packet as a whole, left in its place and then taken.
+fn first_is(socket: &mut Socket<'_>, packet: Result<&[u8], RecvError>) -> bool {
+    socket.peek() == packet && socket.recv() == packet
+}
+
 #[test]
 fn raw_truncated_slices(rt: HostRuntime) -> Result<(), Fail> {
     let mut places = [PacketMetadata::EMPTY; 2];
     let mut bytes = [0u8; 16];
-    let mut received = PacketBuffer::new(&mut places, &mut bytes);
-    for packet in [b"abcdef".as_slice(), b"xyz".as_slice()] {
-        match received.enqueue(packet.len(), ()) {
-            Ok(lent) => {
-                if lent.len() == packet.len() {
-                    lent.copy_from_slice(packet);
-                }
-            }
-            Err(_) => assert!(rt; false),
-        }
-    }
+    let received = two_packets(&rt, &mut places, &mut bytes, ());
     let mut socket = Socket::new(None, None, received, PacketBuffer::new(&mut [], &mut []));
-    assert_eq!(rt;
-        (
-            socket.packet_recv_capacity(),
-            socket.payload_recv_capacity()
-        ),
-        (2, 16)
-    );
+    assert_eq!(rt; copies(&mut socket), [Err(RecvError::Truncated); 2]);
+    assert_eq!(rt; socket.peek_slice(&mut [0; 4]), Ok(3));
+    assert!(rt; first_is(&mut socket, Ok(b"xyz")));
+    assert_eq!(rt; copies(&mut socket), [Err(RecvError::Exhausted); 2]);
+    assert!(rt; first_is(&mut socket, Err(RecvError::Exhausted)) && !socket.can_recv());
+    Ok(())
+}
+
+#[test]
+fn raw_receive_limits(rt: HostRuntime) -> Result<(), Fail> {
+    let mut places = [PacketMetadata::EMPTY; 2];
+    let mut bytes = [0u8; 16];
+    let received = two_packets(&rt, &mut places, &mut bytes, ());
+    let socket = Socket::new(None, None, received, PacketBuffer::new(&mut [], &mut []));
+    assert!(rt; socket.packet_recv_capacity() == 2 && socket.payload_recv_capacity() == 16);
     assert!(rt; socket.can_recv() && socket.recv_queue() == 9);
-    let mut short = [0u8; 4];
-    assert_eq!(rt; socket.peek_slice(&mut short), Err(RecvError::Truncated));
-    assert_eq!(rt; socket.recv_slice(&mut short), Err(RecvError::Truncated));
-    assert_eq!(rt; socket.peek(), Ok(b"xyz".as_slice()));
-    assert_eq!(rt; socket.peek_slice(&mut short), Ok(3));
-    assert_eq!(rt; socket.recv(), Ok(b"xyz".as_slice()));
-    assert_eq!(rt; socket.recv_slice(&mut short), Err(RecvError::Exhausted));
-    assert!(rt; socket.peek().is_err() && socket.recv().is_err() && !socket.can_recv());
     Ok(())
 }
 
@@ -158,9 +170,8 @@ fn raw_process_and_peek(rt: HostRuntime) -> Result<(), Fail> {
     let mut whole = PACKET;
     whole[10] = 0x26;
     whole[11] = 0xa5;
-    assert_eq!(rt; socket.peek(), Ok(whole.as_slice()));
-    assert_eq!(rt; socket.recv(), Ok(whole.as_slice()));
-    assert!(rt; matches!(socket.peek(), Err(RecvError::Exhausted)));
+    assert!(rt; first_is(&mut socket, Ok(whole.as_slice())));
+    assert!(rt; first_is(&mut socket, Err(RecvError::Exhausted)));
     Ok(())
 }
 

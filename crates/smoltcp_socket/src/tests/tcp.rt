@@ -36,14 +36,29 @@ fn listen_validation(rt: HostRuntime) -> Result<(), Fail> {
     let mut rx = [0u8; 4];
     let mut tx = [0u8; 4];
     let mut socket = Socket::new(RingBuffer::new(&mut rx), RingBuffer::new(&mut tx));
-    assert_eq!(rt; socket.listen(any(0)), Err(ListenError::Unaddressable));
-    assert!(rt; !socket.is_open());
-    assert_eq!(rt; socket.listen(any(80)), Ok(()));
-    assert_eq!(rt; socket.listen(any(80)), Ok(()));
-    assert_eq!(rt; socket.listen(any(81)), Err(ListenError::InvalidState));
+    for (port, answer, open) in [
+        (0, Err(ListenError::Unaddressable), false),
+        (80, Ok(()), true),
+        (80, Ok(()), true),
+        (81, Err(ListenError::InvalidState), true),
+    ] {
+        assert_eq!(rt; socket.listen(any(port)), answer);
+        assert_eq!(rt; socket.is_open(), open);
+    }
     assert!(rt; socket.is_listening() && !socket.is_active());
     assert_eq!(rt; socket.listen_endpoint(), any(80));
     Ok(())
+}
+
+// Connects to B at this port.
+fn dials(
+    socket: &mut Socket<'_>,
+    cx: &mut Host,
+    port: u16,
+    local: IpListenEndpoint,
+) -> Result<(), ConnectError> {
+    let remote = IpEndpoint { addr: B.addr, port };
+    socket.connect(cx, remote, local)
 }
 
 #[test]
@@ -52,22 +67,13 @@ fn connect_validation(rt: HostRuntime) -> Result<(), Fail> {
     let mut tx = [0u8; 4];
     let mut socket = Socket::new(RingBuffer::new(&mut rx), RingBuffer::new(&mut tx));
     let mut cx = Host::at(0, 1000);
-    let nowhere = IpEndpoint {
-        addr: B.addr,
-        port: 0,
-    };
-    assert_eq!(rt;
-        socket.connect(&mut cx, nowhere, at(A)),
-        Err(ConnectError::Unaddressable)
-    );
+    let unaddressable = Err(ConnectError::Unaddressable);
+    assert_eq!(rt; dials(&mut socket, &mut cx, 0, at(A)), unaddressable);
     // no address is given, and the context has none
+    assert_eq!(rt; dials(&mut socket, &mut cx, 80, any(49152)), unaddressable);
+    assert_eq!(rt; dials(&mut socket, &mut cx, 80, at(A)), Ok(()));
     assert_eq!(rt;
-        socket.connect(&mut cx, B, any(49152)),
-        Err(ConnectError::Unaddressable)
-    );
-    assert_eq!(rt; socket.connect(&mut cx, B, at(A)), Ok(()));
-    assert_eq!(rt;
-        socket.connect(&mut cx, nowhere, at(A)),
+        dials(&mut socket, &mut cx, 0, at(A)),
         Err(ConnectError::InvalidState)
     );
     assert_eq!(rt; socket.state(), State::SynSent);
@@ -180,17 +186,28 @@ pub(crate) fn establish(socket: &mut Socket<'_>, cx: &mut Host) {
     let _ = hear(socket, cx, &ip_repr, &answer(TcpControl::Syn, 5000, &[]));
 }
 
-#[test]
-fn tcp_defaults(rt: HostRuntime) -> Result<(), Fail> {
-    let mut rx = [0u8; 4];
-    let mut tx = [0u8; 4];
-    let mut socket = Socket::new(RingBuffer::new(&mut rx), RingBuffer::new(&mut tx));
-    assert_eq!(rt; socket.timeout(), None);
-    assert_eq!(rt; socket.ack_delay(), Some(Duration::from_millis(10)));
-    assert!(rt; socket.nagle_enabled());
-    assert_eq!(rt; socket.keep_alive(), None);
-    assert_eq!(rt; socket.hop_limit(), None);
-    assert_eq!(rt; socket.congestion_control(), CongestionControl::Reno);
+// Timeout, keep-alive and delay of acknowledgements of a socket, and its hop limit.
+type Settings = (
+    Option<Duration>,
+    Option<Duration>,
+    Option<Duration>,
+    Option<u8>,
+);
+
+fn settings(socket: &Socket<'_>) -> Settings {
+    (
+        socket.timeout(),
+        socket.keep_alive(),
+        socket.ack_delay(),
+        socket.hop_limit(),
+    )
+}
+
+fn congestion(socket: &Socket<'_>) -> (bool, CongestionControl) {
+    (socket.nagle_enabled(), socket.congestion_control())
+}
+
+fn change_all(socket: &mut Socket<'_>) {
     let second = Some(Duration::from_secs(1));
     socket.set_timeout(second);
     socket.set_ack_delay(None);
@@ -199,12 +216,22 @@ fn tcp_defaults(rt: HostRuntime) -> Result<(), Fail> {
     socket.set_hop_limit(Some(42));
     socket.set_congestion_control(CongestionControl::None);
     socket.pause_synack(true);
+}
+
+#[test]
+fn tcp_defaults(rt: HostRuntime) -> Result<(), Fail> {
+    let mut rx = [0u8; 4];
+    let mut tx = [0u8; 4];
+    let mut socket = Socket::new(RingBuffer::new(&mut rx), RingBuffer::new(&mut tx));
+    let delay = Some(Duration::from_millis(10));
+    assert_eq!(rt; settings(&socket), (None, None, delay, None));
+    assert_eq!(rt; congestion(&socket), (true, CongestionControl::Reno));
+    change_all(&mut socket);
     // a reset keeps what the user set
     assert_eq!(rt; socket.listen(any(80)), Ok(()));
-    assert_eq!(rt; (socket.timeout(), socket.keep_alive()), (second, second));
-    assert_eq!(rt; (socket.ack_delay(), socket.hop_limit()), (None, Some(42)));
-    assert!(rt; !socket.nagle_enabled());
-    assert_eq!(rt; socket.congestion_control(), CongestionControl::None);
+    let second = Some(Duration::from_secs(1));
+    assert_eq!(rt; settings(&socket), (second, second, None, Some(42)));
+    assert_eq!(rt; congestion(&socket), (false, CongestionControl::None));
     Ok(())
 }
 
@@ -234,6 +261,23 @@ fn closures_that_take_nothing(rt: HostRuntime) -> Result<(), Fail> {
     Ok(())
 }
 
+// Queues "hi" by a closure that writes it to the free bytes.
+fn writes_hi(socket: &mut Socket<'_>) -> Result<(), SendError> {
+    socket.send(|free| {
+        let count = free.len().min(2);
+        free[..count].copy_from_slice(&b"hi".as_slice()[..count]);
+        (count, ())
+    })
+}
+
+// Whether both peeks show what came, the first of them two bytes of it.
+fn peeks(socket: &mut Socket<'_>, two: &[u8], all: &[u8]) -> bool {
+    let mut bytes = [0u8; 8];
+    matches!(socket.peek(2), Ok(seen) if seen == two)
+        && socket.peek_slice(&mut bytes) == Ok(all.len())
+        && bytes.starts_with(all)
+}
+
 #[test]
 fn closures_and_peeks(rt: HostRuntime) -> Result<(), Fail> {
     let mut rx = [0u8; 4];
@@ -242,37 +286,34 @@ fn closures_and_peeks(rt: HostRuntime) -> Result<(), Fail> {
     let mut socket = Socket::new(RingBuffer::new(&mut rx), RingBuffer::new(&mut tx));
     establish(&mut socket, &mut cx);
     let ip_repr = IpRepr::new(B.addr, A.addr, IpProtocol::Tcp, 20, 64);
-    let sent = socket.send(|free| {
-        let count = free.len().min(2);
-        free[..count].copy_from_slice(&b"hi".as_slice()[..count]);
-        (count, ())
-    });
-    assert_eq!(rt; sent, Ok(()));
+    assert_eq!(rt; writes_hi(&mut socket), Ok(()));
     assert_eq!(rt;
         emitted(&mut socket, &mut cx, false),
         (Some((1001, 2)), true)
     );
-    let heard = hear(
-        &mut socket,
-        &mut cx,
-        &ip_repr,
-        &answer(TcpControl::Psh, 5001, b"xyz"),
-    );
-    assert!(rt; heard);
-    let peeked = match socket.peek(2) {
-        Ok(bytes) => bytes == b"xy".as_slice(),
-        Err(_) => false,
-    };
-    assert!(rt; peeked);
-    let mut bytes = [0u8; 8];
-    assert_eq!(rt; socket.peek_slice(&mut bytes), Ok(3));
-    assert_eq!(rt; &bytes[..3], b"xyz".as_slice());
+    let data = answer(TcpControl::Psh, 5001, b"xyz");
+    assert!(rt; hear(&mut socket, &mut cx, &ip_repr, &data));
+    assert!(rt; peeks(&mut socket, b"xy", b"xyz"));
     assert_eq!(rt;
         socket.recv(|queue| (queue.len().min(1), queue.first().copied())),
         Ok(Some(b'x'))
     );
     assert_eq!(rt; socket.recv_queue(), 2);
     Ok(())
+}
+
+// The state after a close by the user.
+fn closed(socket: &mut Socket<'_>) -> State {
+    socket.close();
+    socket.state()
+}
+
+fn sends_no_more(socket: &mut Socket<'_>) -> bool {
+    socket.send_slice(b"late") == Err(SendError::InvalidState)
+}
+
+fn receives_no_more(socket: &mut Socket<'_>) -> bool {
+    socket.recv(|queue| (0, queue.len())) == Err(RecvError::InvalidState)
 }
 
 #[test]
@@ -282,23 +323,16 @@ fn close_and_abort_by_state(rt: HostRuntime) -> Result<(), Fail> {
     let mut cx = Host::at(0, 1000);
     let mut socket = Socket::new(RingBuffer::new(&mut rx), RingBuffer::new(&mut tx));
     establish(&mut socket, &mut cx);
-    socket.close();
-    assert_eq!(rt; socket.state(), State::FinWait1);
-    assert_eq!(rt; socket.send_slice(b"late"), Err(SendError::InvalidState));
-    socket.close();
-    assert_eq!(rt; socket.state(), State::FinWait1);
+    assert_eq!(rt; closed(&mut socket), State::FinWait1);
+    assert!(rt; sends_no_more(&mut socket));
+    assert_eq!(rt; closed(&mut socket), State::FinWait1);
     socket.abort();
     assert_eq!(rt; socket.state(), State::Closed);
-    assert_eq!(rt;
-        socket.recv(|queue| (0, queue.len())),
-        Err(RecvError::InvalidState)
-    );
+    assert!(rt; receives_no_more(&mut socket));
     assert_eq!(rt; socket.listen(any(80)), Ok(()));
-    socket.close();
-    assert_eq!(rt; socket.state(), State::Closed);
-    assert_eq!(rt; socket.connect(&mut cx, B, at(A)), Ok(()));
-    socket.close();
-    assert_eq!(rt; socket.state(), State::Closed);
+    assert_eq!(rt; closed(&mut socket), State::Closed);
+    assert_eq!(rt; dials(&mut socket, &mut cx, 80, at(A)), Ok(()));
+    assert_eq!(rt; closed(&mut socket), State::Closed);
     Ok(())
 }
 

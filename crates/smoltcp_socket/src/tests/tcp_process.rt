@@ -170,18 +170,11 @@ fn peer_scale_is_capped(rt: HostRuntime) -> Result<(), Fail> {
     ack.window_len = 4;
     opens(&rt, &mut socket, &scaled, &ack);
     assert_eq!(rt; socket.send_slice(bytes.as_slice()), Ok(70_000));
-    let mut lengths = Vec::new(alloc);
-    for _ in 0..200 {
-        match emitted(&mut socket) {
-            None => break,
-            Some((_, length)) => lengths.push(length)?,
-        }
+    for _ in 0..122 {
+        assert!(rt; matches!(emitted(&mut socket), Some((_, 536))));
     }
-    let whole = lengths.iter().filter(|length| **length == 536).count();
-    assert_eq!(rt;
-        (whole, lengths.len(), lengths.last()),
-        (122, 123, Some(&144))
-    );
+    assert!(rt; matches!(emitted(&mut socket), Some((_, 144))));
+    assert_eq!(rt; emitted(&mut socket), None);
     Ok(())
 }
 

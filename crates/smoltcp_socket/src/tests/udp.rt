@@ -5,6 +5,7 @@ use crate::udp::*;
 use crate::wire::{
     IpAddress, IpEndpoint, IpListenEndpoint, IpProtocol, IpRepr, Ipv4Address, Ipv6Address, UdpRepr,
 };
+use std::process::Abort;
 use std::test::Fail;
 
 const HERE: IpAddress = IpAddress::Ipv4(Ipv4Address([192, 168, 1, 1]));
@@ -25,6 +26,12 @@ const REPR: UdpRepr = UdpRepr {
     dst_port: 53,
 };
 
+// What a socket holds of a datagram from the other side.
+const CAME: UdpMetadata = UdpMetadata {
+    endpoint: REMOTE,
+    local_address: Some(HERE),
+};
+
 fn any(port: u16) -> IpListenEndpoint {
     IpListenEndpoint { addr: None, port }
 }
@@ -40,6 +47,22 @@ fn to(addr: IpAddress, port: u16) -> UdpMetadata {
     UdpMetadata::from_endpoint(IpEndpoint { addr, port })
 }
 
+// A socket that has room for datagrams that come, and none to send.
+fn receiver<'a>(places: &'a mut [PacketMetadata], bytes: &'a mut [u8]) -> Socket<'a> {
+    Socket::new(
+        PacketBuffer::new(places, bytes),
+        PacketBuffer::new(&mut [], &mut []),
+    )
+}
+
+// A socket that has room for datagrams to send, and none for those that come.
+fn sender<'a>(places: &'a mut [PacketMetadata], bytes: &'a mut [u8]) -> Socket<'a> {
+    Socket::new(
+        PacketBuffer::new(&mut [], &mut []),
+        PacketBuffer::new(places, bytes),
+    )
+}
+
 // Takes a datagram from the other side where the socket accepts it.
 fn hear(socket: &mut Socket<'_>, payload: &[u8]) -> bool {
     let ip_repr = IpRepr::new(THERE, HERE, IpProtocol::Udp, 8, 64);
@@ -48,6 +71,38 @@ fn hear(socket: &mut Socket<'_>, payload: &[u8]) -> bool {
     }
     socket.process(&Host::new(None), &ip_repr, &REPR, payload);
     true
+}
+
+// Sends these bytes, and hides what the contract of the call tells: the tests prove faster without it.
+fn sends(
+    socket: &mut Socket<'_>,
+    data: &[u8],
+    addr: IpAddress,
+    port: u16,
+) -> Result<(), SendError> {
+    socket.send_slice(data, to(addr, port))
+}
+
+// Whether the first datagram that waits has these bytes and came from the other side.
+fn shows(socket: &mut Socket<'_>, payload: &[u8]) -> bool {
+    matches!(socket.peek(), Ok((lent, meta)) if lent == payload && *meta == CAME)
+}
+
+// The same of the datagram that a call takes.
+fn gives(socket: &mut Socket<'_>, payload: &[u8]) -> bool {
+    matches!(socket.recv(), Ok((lent, meta)) if lent == payload && meta == CAME)
+}
+
+// What a copy answers that leaves the first datagram in its place, and what one answers that takes it.
+fn copies(
+    socket: &mut Socket<'_>,
+    data: &mut [u8],
+) -> [Result<(usize, UdpMetadata), RecvError>; 2] {
+    let peeked = match socket.peek_slice(data) {
+        Ok((count, meta)) => Ok((count, *meta)),
+        Err(error) => Err(error),
+    };
+    [peeked, socket.recv_slice(data)]
 }
 
 // The header and the ports of what is emitted, and whether the dispatch answered Ok.
@@ -80,15 +135,33 @@ fn udp_bind_validation(rt: HostRuntime) -> Result<(), Fail> {
     Ok(())
 }
 
+// Sends a datagram of which so many emits fail, and then one does not.
+fn goes_out_after(
+    rt: &(impl Abort),
+    socket: &mut Socket<'_>,
+    fails: u8,
+    whole: Option<(IpRepr, UdpRepr)>,
+) {
+    assert_eq!(rt; sends(socket, b"abcdef", THERE, 49500), Ok(()));
+    assert_eq!(rt;
+        sends(socket, b"123456", THERE, 49500),
+        Err(SendError::BufferFull)
+    );
+    assert_eq!(rt; socket.poll_at(&Host::new(None)), PollAt::Now);
+    for _ in 0..fails {
+        assert_eq!(rt; emitted(socket, true), (whole, false));
+        assert!(rt; !socket.can_send());
+    }
+    assert_eq!(rt; emitted(socket, false), (whole, true));
+    assert!(rt; socket.can_send());
+}
+
 // A datagram is offered once for each emit that fails, and goes out once.
 #[test]
 fn udp_failed_emit_keeps_datagram(rt: HostRuntime) -> Result<(), Fail> {
     let mut places = [PacketMetadata::EMPTY; 1];
     let mut bytes = [0u8; 16];
-    let mut socket = Socket::new(
-        PacketBuffer::new(&mut [], &mut []),
-        PacketBuffer::new(&mut places, &mut bytes),
-    );
+    let mut socket = sender(&mut places, &mut bytes);
     assert_eq!(rt; socket.bind(here(53)), Ok(()));
     assert_eq!(rt; socket.poll_at(&Host::new(None)), PollAt::Ingress);
     let ports = UdpRepr {
@@ -98,18 +171,7 @@ fn udp_failed_emit_keeps_datagram(rt: HostRuntime) -> Result<(), Fail> {
     let whole = Some((IpRepr::new(HERE, THERE, IpProtocol::Udp, 14, 64), ports));
     for fails in 0..4 {
         assert_eq!(rt; emitted(&mut socket, false), (None, true));
-        assert_eq!(rt; socket.send_slice(b"abcdef", to(THERE, 49500)), Ok(()));
-        assert_eq!(rt;
-            socket.send_slice(b"123456", to(THERE, 49500)),
-            Err(SendError::BufferFull)
-        );
-        assert_eq!(rt; socket.poll_at(&Host::new(None)), PollAt::Now);
-        for _ in 0..fails {
-            assert_eq!(rt; emitted(&mut socket, true), (whole, false));
-            assert!(rt; !socket.can_send());
-        }
-        assert_eq!(rt; emitted(&mut socket, false), (whole, true));
-        assert!(rt; socket.can_send());
+        goes_out_after(&rt, &mut socket, fails, whole);
     }
     assert_eq!(rt; emitted(&mut socket, false), (None, true));
     Ok(())
@@ -144,22 +206,20 @@ fn udp_payload_capacity(rt: HostRuntime) -> Result<(), Fail> {
 fn udp_truncated_slices(rt: HostRuntime) -> Result<(), Fail> {
     let mut places = [PacketMetadata::EMPTY; 2];
     let mut bytes = [0u8; 16];
-    let mut socket = Socket::new(
-        PacketBuffer::new(&mut places, &mut bytes),
-        PacketBuffer::new(&mut [], &mut []),
-    );
+    let mut socket = receiver(&mut places, &mut bytes);
     assert_eq!(rt; socket.bind(any(53)), Ok(()));
-    assert!(rt; hear(&mut socket, b"abcdef"));
     let mut short = [0u8; 4];
-    assert!(rt; matches!(socket.peek_slice(&mut short), Err(RecvError::Truncated)));
-    assert_eq!(rt; socket.recv_slice(&mut short), Err(RecvError::Truncated));
-    assert!(rt; matches!(socket.peek_slice(&mut short), Err(RecvError::Exhausted)));
+    assert!(rt; hear(&mut socket, b"abcdef"));
+    assert_eq!(rt;
+        copies(&mut socket, &mut short),
+        [Err(RecvError::Truncated); 2]
+    );
+    assert_eq!(rt;
+        copies(&mut socket, &mut short),
+        [Err(RecvError::Exhausted); 2]
+    );
     assert!(rt; hear(&mut socket, b"xyz"));
-    assert!(rt; matches!(socket.peek_slice(&mut short), Ok((3, _))));
-    match socket.recv_slice(&mut short) {
-        Ok((count, meta)) => assert!(rt; count == 3 && meta.endpoint == REMOTE),
-        Err(_) => assert!(rt; false),
-    }
+    assert_eq!(rt; copies(&mut socket, &mut short), [Ok((3, CAME)); 2]);
     assert_eq!(rt; &short[..3], b"xyz".as_slice());
     Ok(())
 }
@@ -217,16 +277,13 @@ fn udp_accepts_by_bound_address(rt: HostRuntime) -> Result<(), Fail> {
 fn udp_send_validation(rt: HostRuntime) -> Result<(), Fail> {
     let mut places = [PacketMetadata::EMPTY; 1];
     let mut bytes = [0u8; 16];
-    let mut socket = Socket::new(
-        PacketBuffer::new(&mut [], &mut []),
-        PacketBuffer::new(&mut places, &mut bytes),
-    );
+    let mut socket = sender(&mut places, &mut bytes);
     let refused = Err(SendError::Unaddressable);
-    assert_eq!(rt; socket.send_slice(b"abcdef", to(THERE, 49500)), refused);
+    assert_eq!(rt; sends(&mut socket, b"abcdef", THERE, 49500), refused);
     assert_eq!(rt; socket.bind(any(53)), Ok(()));
-    assert_eq!(rt; socket.send_slice(b"abcdef", to(NOWHERE, 49500)), refused);
-    assert_eq!(rt; socket.send_slice(b"abcdef", to(THERE, 0)), refused);
-    assert_eq!(rt; socket.send_slice(b"abcdef", to(THERE, 49500)), Ok(()));
+    assert_eq!(rt; sends(&mut socket, b"abcdef", NOWHERE, 49500), refused);
+    assert_eq!(rt; sends(&mut socket, b"abcdef", THERE, 0), refused);
+    assert_eq!(rt; sends(&mut socket, b"abcdef", THERE, 49500), Ok(()));
     // no address is given, none bound, and the host has none
     assert_eq!(rt; emitted(&mut socket, false), (None, true));
     assert_eq!(rt; socket.poll_at(&Host::new(None)), PollAt::Ingress);
@@ -237,22 +294,17 @@ fn udp_send_validation(rt: HostRuntime) -> Result<(), Fail> {
 fn udp_hop_limit_and_source(rt: HostRuntime) -> Result<(), Fail> {
     let mut places = [PacketMetadata::EMPTY; 1];
     let mut bytes = [0u8; 16];
-    let mut socket = Socket::new(
-        PacketBuffer::new(&mut [], &mut []),
-        PacketBuffer::new(&mut places, &mut bytes),
-    );
+    let mut socket = sender(&mut places, &mut bytes);
     assert_eq!(rt; socket.hop_limit(), None);
     socket.set_hop_limit(Some(42));
     assert_eq!(rt; socket.bind(here(53)), Ok(()));
     assert_eq!(rt; socket.send_slice(b"abcdef", to(THERE, 49500)), Ok(()));
-    match emitted(&mut socket, false) {
-        (Some((ip_repr, repr)), true) => {
-            assert_eq!(rt; (ip_repr.src_addr(), ip_repr.dst_addr()), (HERE, THERE));
-            assert_eq!(rt; (ip_repr.payload_len(), ip_repr.hop_limit()), (14, 42));
-            assert_eq!(rt; (repr.src_port, repr.dst_port), (53, 49500));
-        }
-        _ => assert!(rt; false),
-    }
+    let ports = UdpRepr {
+        src_port: 53,
+        dst_port: 49500,
+    };
+    let whole = Some((IpRepr::new(HERE, THERE, IpProtocol::Udp, 14, 42), ports));
+    assert_eq!(rt; emitted(&mut socket, false), (whole, true));
     Ok(())
 }
 
@@ -260,28 +312,12 @@ fn udp_hop_limit_and_source(rt: HostRuntime) -> Result<(), Fail> {
 fn udp_full_receive_queue(rt: HostRuntime) -> Result<(), Fail> {
     let mut places = [PacketMetadata::EMPTY; 1];
     let mut bytes = [0u8; 16];
-    let mut socket = Socket::new(
-        PacketBuffer::new(&mut places, &mut bytes),
-        PacketBuffer::new(&mut [], &mut []),
-    );
-    assert_eq!(rt;
-        (
-            socket.packet_recv_capacity(),
-            socket.payload_recv_capacity()
-        ),
-        (1, 16)
-    );
+    let mut socket = receiver(&mut places, &mut bytes);
+    assert!(rt; socket.packet_recv_capacity() == 1 && socket.payload_recv_capacity() == 16);
     assert_eq!(rt; socket.bind(any(53)), Ok(()));
     assert!(rt; hear(&mut socket, b"abcdef") && hear(&mut socket, b"abcdef"));
     assert_eq!(rt; socket.recv_queue(), 6);
-    match socket.peek() {
-        Ok((lent, _)) => assert_eq!(rt; lent, b"abcdef".as_slice()),
-        Err(_) => assert!(rt; false),
-    }
-    match socket.recv() {
-        Ok((lent, _)) => assert_eq!(rt; lent, b"abcdef".as_slice()),
-        Err(_) => assert!(rt; false),
-    }
+    assert!(rt; shows(&mut socket, b"abcdef") && gives(&mut socket, b"abcdef"));
     assert!(rt; matches!(socket.recv(), Err(RecvError::Exhausted)) && !socket.can_recv());
     Ok(())
 }
@@ -323,13 +359,18 @@ fn what_stands_in_the_lent_slice_is_sent(rt: HostRuntime) -> Result<(), Fail> {
 
 // Whether the socket is bound here with this hop limit, and each queue holds one datagram of these bytes.
 fn holds(socket: &mut Socket<'_>, hop_limit: Option<u8>, came: &[u8], waits: &[u8]) -> bool {
-    let heard =
-        matches!(socket.peek(), Ok((lent, meta)) if lent == came && meta.endpoint == REMOTE);
     socket.endpoint() == here(53)
         && socket.hop_limit() == hop_limit
         && socket.recv_queue() == came.len()
-        && heard
+        && shows(socket, came)
         && emits(socket, waits)
+}
+
+// Sends these bytes by way of the lent slice.
+fn lends(socket: &mut Socket<'_>, data: &[u8], remote: UdpMetadata) -> Result<(), SendError> {
+    let lent = socket.send(data.len(), remote)?;
+    lent.copy_from_slice(data);
+    Ok(())
 }
 
 #[test]
@@ -345,23 +386,19 @@ fn send_changes_the_transmit_queue_alone(rt: HostRuntime) -> Result<(), Fail> {
     assert_eq!(rt; socket.bind(here(53)), Ok(()));
     socket.set_hop_limit(Some(9));
     assert!(rt; hear(&mut socket, b"came"));
-    assert_eq!(rt; socket.send_slice(b"first", to(THERE, 49500)), Ok(()));
-    // refused for its destination, refused for want of room, and taken
-    assert!(rt;
-        matches!(
-            socket.send(1, to(NOWHERE, 49500)),
-            Err(SendError::Unaddressable)
-        )
-    );
-    assert!(rt; matches!(socket.send(4, to(THERE, 49500)), Err(SendError::BufferFull)));
-    assert_eq!(rt; socket.send_queue(), 5);
-    match socket.send(3, to(NEIGHBOUR, 7)) {
-        Ok(lent) => lent.copy_from_slice(b"new"),
-        Err(_) => assert!(rt; false),
+    // taken, refused for its destination, refused for want of room, and taken
+    for (data, addr, answer, queued) in [
+        (b"first".as_slice(), THERE, Ok(()), 5),
+        (b"x".as_slice(), NOWHERE, Err(SendError::Unaddressable), 5),
+        (b"four".as_slice(), THERE, Err(SendError::BufferFull), 5),
+        (b"new".as_slice(), NEIGHBOUR, Ok(()), 8),
+    ] {
+        assert_eq!(rt; lends(&mut socket, data, to(addr, 7)), answer);
+        assert_eq!(rt; socket.send_queue(), queued);
     }
-    assert_eq!(rt; socket.send_queue(), 8);
-    assert!(rt; holds(&mut socket, Some(9), b"came", b"first"));
-    assert!(rt; holds(&mut socket, Some(9), b"came", b"new"));
+    for waits in [b"first".as_slice(), b"new".as_slice()] {
+        assert!(rt; holds(&mut socket, Some(9), b"came", waits));
+    }
     assert_eq!(rt; socket.poll_at(&Host::new(None)), PollAt::Ingress);
     Ok(())
 }

@@ -48,7 +48,9 @@ fn put_count<W: Sink>(sink: &mut W, label: &str, number: usize) -> Result<(), St
     put_number(sink, number)
 }
 
-fn flags(control: TcpControl, has_ack: bool) -> &'static str
+/// The control bits of a segment, as a replay prints them. None, PSH and FIN are printed with `ACK`, since each such
+/// segment has an acknowledgement.
+pub fn flags(control: TcpControl, has_ack: bool) -> &'static str
     ensures { result.now ≡ flags_text control has_ack }
 {
     match (control, has_ack) {
