@@ -62,7 +62,7 @@ written hs o ys = overwrite hs o (map Some ys)
 
 -- ---- what the calls do
 
--- bytes elsewhere than at offset 0 are turned away where they would make a fifth range
+-- bytes elsewhere than at offset 0 are refused where they would make a fifth range
 unfoldable pub is_turned_away : Received → ℕ → List ℕ → Bool
 is_turned_away b o ys = not (o == 0) && nat_lt 4 (length (ranges_of (written b.held o ys)))
 
@@ -97,7 +97,7 @@ shown rs spare = shown_from 0 rs spare
 abbrev pub merged : List (Option ℕ) → ℕ → List ℕ → ℕ → Option ℕ
 merged hs o ys k = if is_within o (o + length ys) k then slice_get ys (k - o) else byte_at hs k
 
--- bytes that come within the window and are not turned away
+-- bytes that come within the window and are not refused
 abbrev pub IsLetIn : Received → ℕ → List ℕ → Type 0
 IsLetIn b o ys = (o + length ys ≤ length b.held) × (is_turned_away b o ys ≡ false)
 

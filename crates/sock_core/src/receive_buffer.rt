@@ -35,7 +35,7 @@ impl<'a> Model for ReceiveBuffer<'a> {
     ghost invariant = { λ b. (capacity_of b.ring ≤ 2 ^ 30) × IsKept b.ranges.ranges (length b.ring.spare) };
 }
 
-/// Bytes that come and are not turned away: the queue grows by the run from its end on, and what stays held is counted
+/// Bytes that come and are not refused: the queue grows by the run from its end on, and what stays held is counted
 /// from its new end.
 pub fn takes_in()
     ensures { (b : Received) (o : ℕ) (ys : List ℕ) → IsLetIn b o ys → TakesIn b (taken_in b o ys) o ys }
@@ -140,7 +140,7 @@ impl<'a> ReceiveBuffer<'a> {
     /// did.
     ///
     /// They replace what was held there. Then the run of held bytes from the queue's end on joins the queue. They are
-    /// turned away exactly where they lie behind the queue's end and would make a fifth range; then nothing changes.
+    /// refused exactly where they lie behind the queue's end and would make a fifth range; then nothing changes.
     pub fn take_in(&mut self, offset: usize, bytes: &[u8]) -> bool
         requires some { 0 < length bytes.now }
         requires fits { offset + length bytes.now ≤ length self.old.held }

@@ -120,7 +120,7 @@ module _ (w : Window) (s : TcpSeqNumber) (n : ℕ) (ls : w.start.0 < 2 ^ 32) (le
 
 -- ---- what joins
 
--- no bytes come, or they are turned away, or they are taken in
+-- no bytes come, or they are refused, or they are taken in
 pub data Comes (b c : Received) (o : ℕ) (bs : List ℕ) : Type 0 where
   NoBytes : bs ≡ [] → c ≡ b → Comes b c o bs
   TurnedAway : 0 < o → c ≡ b → Comes b c o bs

@@ -129,7 +129,7 @@ abbrev pub gap_answered : View → View → Segment → Outcome
 gap_answered v w s =
     if holds_nothing v.rx_buffer.held && holds_nothing w.rx_buffer.held then stopped w else acked w s
 
--- the bytes bs came, o past RCV.NXT; where they are turned away, nothing more is done
+-- the bytes bs came, o past RCV.NXT; where they are refused, nothing more is done
 unfoldable pub bytes_taken : View → Instant → ℕ → List ℕ → Segment → Outcome
 bytes_taken v now o bs s =
     if length bs == 0 then stopped v

@@ -198,7 +198,7 @@ impl<'a> ControlBlock<'a> {
         self.set_timer(now, acked);
     }
 
-    // The bytes join the queue, or are held, or are turned away: whether they were taken.
+    // The bytes join the queue, or are held, or are refused: whether they were taken.
     #[tactic(auto, unfolding(crate::specs::Steps::joined, sock_core::specs::Received::taken_in))]
     pub(crate) fn join(&mut self, offset: usize, bytes: &[u8]) -> bool
         requires some { 0 < length bytes.now }
