@@ -13,8 +13,3 @@ pub use seq_number::TcpSeqNumber;
 pub use source::{tcp_source, udp_source};
 pub use tcp::{TcpControl, TcpRepr, TcpTimestampGenerator, TcpTimestampRepr};
 pub use udp::UdpRepr;
-
-#[cfg(test)]
-mod tests;
-#[cfg(test)]
-mod wire_tests;

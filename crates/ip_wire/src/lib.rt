@@ -19,6 +19,3 @@ pub use malformed::Error;
 pub use packet::{Ipv4Packet, Ipv6Packet};
 pub use protocol::{IpProtocol, IpVersion};
 pub use repr::{IpRepr, Ipv4Repr, Ipv6Repr};
-
-#[cfg(test)]
-mod tests;

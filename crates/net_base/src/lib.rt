@@ -4,8 +4,6 @@
 pub mod assembler;
 pub mod packet_buffer;
 pub mod ring_buffer;
-#[cfg(test)]
-mod tests;
 pub mod time;
 
 pub use assembler::{Assembler, TooManyHoles};

@@ -5,7 +5,7 @@ use sock_pair::Side;
 use std::fmt;
 
 /// How a segment's way ended.
-#[derive(Debug, Clone, Copy)]
+#[derive(Clone, Copy)]
 pub enum Ending {
     /// The other side took it, at this height of the page.
     Delivered(usize),
@@ -18,7 +18,7 @@ pub enum Ending {
 }
 
 /// The way of a segment.
-#[derive(Debug, Clone, Copy)]
+#[derive(Clone, Copy)]
 pub struct Arrow {
     /// The side that emits it.
     pub from: Side,

@@ -5,7 +5,7 @@ use sock_pair::{Event, Outcome, Setting};
 use std::fmt;
 
 /// A call of a side, and what it came to: `send "abc": accepted 3`.
-#[derive(Debug, Clone, Copy)]
+#[derive(Clone, Copy)]
 pub struct Call<'a> {
     pub event: &'a Event,
     pub outcome: &'a Outcome,

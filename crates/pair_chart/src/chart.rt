@@ -33,7 +33,7 @@ pub struct Chart<'w, W> {
 }
 
 // How a segment set out.
-#[derive(Debug, Clone, Copy)]
+#[derive(Clone, Copy)]
 struct Departure {
     row: Row,
     reply: bool,

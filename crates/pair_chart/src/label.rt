@@ -7,7 +7,7 @@ use std::fmt;
 use std::fmt::Write;
 
 /// What a segment says, after its index, in its place.
-#[derive(Debug, Clone, Copy)]
+#[derive(Clone, Copy)]
 pub struct Label<'a> {
     pub index: usize,
     pub segment: &'a Segment,
@@ -57,7 +57,7 @@ impl fmt::Write for Length {
 }
 
 // `FLAGS seq N ack N win N len N`
-#[derive(Debug, Clone, Copy)]
+#[derive(Clone, Copy)]
 struct Headers<'a>(&'a Segment);
 
 impl fmt::Display for Headers<'_> {

@@ -30,7 +30,7 @@ const LINE_A: usize = 350;
 const LINE_B: usize = 850;
 
 /// A row of the page. What stands in it keeps within it.
-#[derive(Debug, Clone, Copy)]
+#[derive(Clone, Copy)]
 pub struct Row {
     top: usize,
 }
@@ -97,7 +97,7 @@ pub fn lifeline(side: Side) -> usize {
 }
 
 /// Where a text stands in its row: it begins or ends at this place.
-#[derive(Debug, Clone, Copy)]
+#[derive(Clone, Copy)]
 pub enum Anchor {
     Start(usize),
     End(usize),

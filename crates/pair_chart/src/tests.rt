@@ -66,7 +66,7 @@ const OPENING: &str =
 fn shows(rt: &(impl Abort), alloc: Global, lines: &str, parts: &[&str]) -> Result<(), Fail> {
     let text = format!(in alloc; "{OPENING}{lines}")?;
     let (end, bytes) = drawn(alloc, text.as_str(), PLENTY);
-    assert_eq!(rt; end, End::Done);
+    assert!(rt; end == End::Done);
     let chart = String::from_utf8(bytes)?;
     let mut rest = chart.as_str();
     for part in parts {
@@ -161,7 +161,7 @@ fn quoted_bytes(rt: HostRuntime) -> Result<(), Fail> {
     ] {
         let quoted = Quoted(bytes);
         let text = format!(in rt.alloc(); "{quoted}")?;
-        assert_eq!(rt; text.as_str(), want);
+        assert!(rt; text.as_str() == want);
     }
     Ok(())
 }
@@ -170,13 +170,13 @@ fn quoted_bytes(rt: HostRuntime) -> Result<(), Fail> {
 fn faults(rt: HostRuntime) -> Result<(), Fail> {
     let alloc = rt.alloc();
     let (end, bytes) = drawn(alloc, "pair 64 64 64 64 1000\njump a\n", PLENTY);
-    assert_eq!(rt; end, End::Script(ScriptError::UnknownEvent { line: 2 }));
+    assert!(rt; end == End::Script(ScriptError::UnknownEvent { line: 2 }));
     assert!(rt; bytes.is_empty());
     let mut page = Page {
         bytes: Vec::new(alloc),
         room: PLENTY,
     };
-    assert_eq!(rt; draw(alloc, &mut Torn, &mut page), End::Read);
+    assert!(rt; draw(alloc, &mut Torn, &mut page) == End::Read);
     assert!(rt; page.bytes.is_empty());
     Ok(())
 }
@@ -188,8 +188,8 @@ fn writers_that_fail(rt: HostRuntime) -> Result<(), Fail> {
     let (_, want) = drawn(alloc, OPENING, PLENTY);
     for count in (0..want.len()).step_by(61) {
         let (end, bytes) = drawn(alloc, OPENING, count);
-        assert_eq!(rt; end, End::Write);
-        assert_eq!(rt; bytes.len(), count);
+        assert!(rt; end == End::Write);
+        assert!(rt; bytes.len() == count);
         assert!(rt; want.as_slice().starts_with(bytes.as_slice()));
     }
     Ok(())

@@ -7,7 +7,7 @@ use std::fmt;
 const SHOWN: usize = 12;
 
 /// Bytes in quotation marks, as XML text: as many of the first as there is room for, and two dots where there are more.
-#[derive(Debug, Clone, Copy)]
+#[derive(Clone, Copy)]
 pub struct Quoted<'a>(pub &'a [u8]);
 
 impl fmt::Display for Quoted<'_> {

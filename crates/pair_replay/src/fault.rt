@@ -7,7 +7,7 @@ use thiserror::Error;
 pub enum Fault {
     #[error("usage: pair_replay [FILE]")]
     Usage,
-    #[error("{0}")]
+    #[error(transparent)]
     Script(ScriptError),
     #[error("read failed")]
     Read,

@@ -1,5 +1,5 @@
 //! Runs and replays in which a growth may be refused: `rt try --test --fail-alloc 1..` refuses each in turn.
-use crate::pair_tests::{A, B, plain};
+use crate::pair_tests::Room;
 use crate::tests::{MANY, replayed};
 use sock_pair::script::{End, ScriptError, parse};
 use sock_pair::{Event, Outcome, Pair};
@@ -32,20 +32,15 @@ fn all_done(pair: &mut Pair<'_>, events: &[Event], outcomes: &mut Vec<Outcome>) 
 
 // The events of a script come to these outcomes, also where a growth is refused between.
 fn comes_to(rt: &(impl Abort), alloc: Global, text: &str, want: &[Outcome]) -> Result<(), Fail> {
-    let mut arx = [0u8; 64];
-    let mut atx = [0u8; 64];
-    let mut brx = [0u8; 64];
-    let mut btx = [0u8; 64];
-    let a = plain(&mut arx, &mut atx, A);
-    let b = plain(&mut brx, &mut btx, B);
+    let mut room = Room::new();
     let script = match parse(alloc, text.as_bytes()) {
         Err(ScriptError::Memory) => parse(alloc, text.as_bytes())?,
         answer => answer?,
     };
-    let mut pair = Pair::new(alloc, a, b, Some(1000));
+    let mut pair = room.plain_pair(alloc);
     let mut outcomes = Vec::new(alloc);
     assert!(rt; all_done(&mut pair, script.events.as_slice(), &mut outcomes));
-    assert_eq!(rt; outcomes.as_slice(), want);
+    assert!(rt; outcomes.as_slice() == want);
     Ok(())
 }
 
@@ -125,8 +120,8 @@ fn refused_growths_of_a_replay(rt: HostRuntime) -> Result<(), Fail> {
         assert!(rt; is_whole(got.as_slice()));
         return Ok(());
     }
-    assert_eq!(rt; end, End::Memory);
-    assert_eq!(rt; end.status(), 3);
+    assert!(rt; end == End::Memory);
+    assert!(rt; end.status() == 3);
     assert!(rt; STEPS.starts_with(got.as_slice()));
     assert!(rt; got.is_empty() || got.ends_with(b"\n"));
     let (end, got) = replayed(alloc, SIX_BYTES.as_bytes(), MANY, MANY);

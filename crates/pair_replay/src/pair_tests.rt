@@ -1,55 +1,95 @@
 //! Two sockets of a pair: a source of timestamps, closures that take nothing, settings.
-ghost use Rattle.std.specs.Prelude.{◌≡◌, ◌≤◌, ◌^◌, [], None, length};
+ghost use Rattle.std.specs.Prelude.{◌≡◌, ◌≤◌, ◌^◌, [], MatchOption, length};
 
-use control_wire::TcpControl;
+use control_wire::{TcpControl, TcpSeqNumber, TcpTimestampGenerator};
 use ip_wire::{IpAddress, IpEndpoint, Ipv4Address};
 use net_base::ring_buffer::RingBuffer;
 use net_base::time::{Duration, Instant};
 use sock_pair::script::parse;
 use sock_pair::{Event, HopLimit, Interval, Moment, Outcome, Pair, Setting, Setup, Side};
-use sock_tcp::CongestionControl;
+use sock_tcp::{CongestionControl, Socket};
 use std::alloc::Global;
 use std::process::Abort;
 use std::test::Fail;
 
-pub(crate) const A: IpEndpoint = IpEndpoint {
+const A: IpEndpoint = IpEndpoint {
     addr: IpAddress::Ipv4(Ipv4Address([10, 0, 0, 1])),
     port: 49152,
 };
 
-pub(crate) const B: IpEndpoint = IpEndpoint {
+const B: IpEndpoint = IpEndpoint {
     addr: IpAddress::Ipv4(Ipv4Address([10, 0, 0, 2])),
     port: 80,
 };
 
-// A side with empty buffers and no source of timestamps.
-pub(crate) fn plain<'a>(
-    rx: &'a mut [u8; 64],
-    tx: &'a mut [u8; 64],
+fn clock() -> u32 {
+    7
+}
+
+fn source(is_there: bool) -> Option<TcpTimestampGenerator>
+    ensures { MatchOption result (Unit {0}) (λ g. IsAlwaysCallable g) }
+{
+    if is_there { Some(clock) } else { None }
+}
+
+// A side with empty buffers, and with a source of timestamps or without one.
+fn side<'a>(
+    rx: &'a mut [u8; 2000],
+    tx: &'a mut [u8; 2000],
+    size: usize,
     endpoint: IpEndpoint,
+    has_clock: bool,
 ) -> Setup<'a>
     ensures rx { (result.rx.queue ≡ []) × (length result.rx.spare ≤ 2 ^ 30) }
     ensures tx { (result.tx.queue ≡ []) × (length result.tx.spare ≤ 2 ^ 30) }
     ensures endpoint { result.endpoint ≡ endpoint }
-    ensures generator { result.generator ≡ None }
+    ensures generator { MatchOption result.generator (Unit {0}) (λ g. IsAlwaysCallable g) }
 {
     Setup {
-        rx: RingBuffer::new(rx),
-        tx: RingBuffer::new(tx),
+        rx: RingBuffer::new(&mut rx[..size.min(2000)]),
+        tx: RingBuffer::new(&mut tx[..size.min(2000)]),
         endpoint,
-        generator: None,
+        generator: source(has_clock),
     }
 }
 
-fn clock() -> u32 {
-    7
+// What the buffers of a pair are made of.
+#[derive(Drop)]
+pub(crate) struct Room {
+    arx: [u8; 2000],
+    atx: [u8; 2000],
+    brx: [u8; 2000],
+    btx: [u8; 2000],
+}
+
+impl Room {
+    pub(crate) fn new() -> Room {
+        Room {
+            arx: [0; 2000],
+            atx: [0; 2000],
+            brx: [0; 2000],
+            btx: [0; 2000],
+        }
+    }
+
+    // Two sides with buffers of `size` bytes, and with a source of timestamps where `clocks` says so.
+    pub(crate) fn pair(&mut self, alloc: Global, size: usize, clocks: (bool, bool)) -> Pair<'_> {
+        let a = side(&mut self.arx, &mut self.atx, size, A, clocks.0);
+        let b = side(&mut self.brx, &mut self.btx, size, B, clocks.1);
+        Pair::new(alloc, a, b, Some(2000))
+    }
+
+    // The same without any source of timestamps.
+    pub(crate) fn plain_pair(&mut self, alloc: Global) -> Pair<'_> {
+        self.pair(alloc, 64, (false, false))
+    }
 }
 
 fn moment() -> Moment {
     Moment::new(Instant::ZERO, 1000, true, 1500)
 }
 
-pub(crate) fn dispatch(side: Side) -> Event {
+fn dispatch(side: Side) -> Event {
     Event::Dispatch {
         side,
         moment: moment(),
@@ -57,7 +97,7 @@ pub(crate) fn dispatch(side: Side) -> Event {
     }
 }
 
-pub(crate) fn deliver(index: usize) -> Event {
+fn deliver(index: usize) -> Event {
     Event::Deliver {
         index,
         moment: moment(),
@@ -65,7 +105,34 @@ pub(crate) fn deliver(index: usize) -> Event {
 }
 
 pub(crate) fn happens(rt: &(impl Abort), pair: &mut Pair<'_>, event: &Event, outcome: Outcome) {
-    assert_eq!(rt; pair.step(event), Ok(outcome));
+    assert!(rt; pair.step(event) == Ok(outcome));
+}
+
+pub(crate) fn listens(rt: &(impl Abort), pair: &mut Pair<'_>, side: Side) {
+    happens(rt, pair, &Event::Listen { side }, Outcome::Opened);
+}
+
+// The side connects to the other, from the number 1000.
+pub(crate) fn joins(rt: &(impl Abort), pair: &mut Pair<'_>, side: Side) {
+    let moment = moment();
+    happens(rt, pair, &Event::Connect { side, moment }, Outcome::Opened);
+}
+
+pub(crate) fn sets(rt: &(impl Abort), pair: &mut Pair<'_>, side: Side, setting: Setting) {
+    happens(rt, pair, &Event::Set { side, setting }, Outcome::Done);
+}
+
+pub(crate) fn emits(rt: &(impl Abort), pair: &mut Pair<'_>, side: Side, index: usize) {
+    happens(rt, pair, &dispatch(side), Outcome::Emitted(index));
+}
+
+pub(crate) fn is_quiet(rt: &(impl Abort), pair: &mut Pair<'_>, side: Side) {
+    happens(rt, pair, &dispatch(side), Outcome::Quiet);
+}
+
+// A delivery that the side takes, and the segment that answers it.
+pub(crate) fn arrives(rt: &(impl Abort), pair: &mut Pair<'_>, index: usize, reply: Option<usize>) {
+    happens(rt, pair, &deliver(index), Outcome::Delivered(reply));
 }
 
 // What the events of a script come to.
@@ -78,207 +145,160 @@ pub(crate) fn plays(pair: &mut Pair<'_>, alloc: Global, text: &str) -> Result<Ve
 
 // B listens, A connects, and the three segments of the handshake are delivered.
 fn opens(rt: &(impl Abort), pair: &mut Pair<'_>) {
-    let listen = Event::Listen { side: Side::B };
-    happens(rt, pair, &listen, Outcome::Opened);
-    let connect = Event::Connect {
-        side: Side::A,
-        moment: moment(),
-    };
-    happens(rt, pair, &connect, Outcome::Opened);
-    for (index, side) in [Side::A, Side::B, Side::A].into_iter().enumerate() {
-        happens(rt, pair, &dispatch(side), Outcome::Emitted(index));
-        happens(rt, pair, &deliver(index), Outcome::Delivered(None));
+    listens(rt, pair, Side::B);
+    joins(rt, pair, Side::A);
+    emits(rt, pair, Side::A, 0);
+    arrives(rt, pair, 0, None);
+    emits(rt, pair, Side::B, 1);
+    arrives(rt, pair, 1, None);
+    emits(rt, pair, Side::A, 2);
+    arrives(rt, pair, 2, None);
+}
+
+// A sends these bytes, of which so many are accepted.
+fn sends(rt: &(impl Abort), pair: &mut Pair<'_>, bytes: Vec<u8>, count: usize) {
+    let side = Side::A;
+    let send = Event::SendSlice { side, bytes };
+    happens(rt, pair, &send, Outcome::Accepted(count));
+}
+
+// A closure of A's takes so many of these bytes.
+fn closure_takes(rt: &(impl Abort), pair: &mut Pair<'_>, bytes: Vec<u8>, take: usize) {
+    let side = Side::A;
+    let send = Event::Send { side, bytes, take };
+    happens(rt, pair, &send, Outcome::Accepted(take));
+}
+
+// What this read hands out.
+fn reads(rt: &(impl Abort), pair: &mut Pair<'_>, event: &Event, want: &[u8]) {
+    match pair.step(event) {
+        Ok(Outcome::Read(got)) => assert!(rt; got.as_slice() == want),
+        _ => assert!(rt; false, "no read"),
     }
+}
+
+fn has_timestamps(pair: &Pair<'_>, side: Side) -> bool {
+    pair.socket(side).timestamp_enabled()
 }
 
 #[test]
 fn six_bytes_from_a_side_with_a_generator(rt: HostRuntime) -> Result<(), Fail> {
     let alloc = rt.alloc();
-    let mut arx = [0u8; 64];
-    let mut atx = [0u8; 64];
-    let mut brx = [0u8; 64];
-    let mut btx = [0u8; 64];
-    let a = Setup {
-        rx: RingBuffer::new(&mut arx),
-        tx: RingBuffer::new(&mut atx),
-        endpoint: A,
-        generator: Some(clock),
-    };
-    let b = plain(&mut brx, &mut btx, B);
-    let mut pair = Pair::new(alloc, a, b, Some(1000));
-    assert!(rt; pair.socket(Side::A).timestamp_enabled());
-    assert!(rt; !pair.socket(Side::B).timestamp_enabled());
-    opens(&rt, &mut pair);
     let bytes = Vec::from_slice(alloc, b"abcdef")?;
-    let send = Event::SendSlice {
-        side: Side::A,
-        bytes,
-    };
-    happens(&rt, &mut pair, &send, Outcome::Accepted(6));
-    happens(&rt, &mut pair, &dispatch(Side::A), Outcome::Emitted(3));
-    happens(&rt, &mut pair, &deliver(3), Outcome::Delivered(None));
-    let recv = Event::RecvSlice {
-        side: Side::B,
-        size: 64,
-    };
-    let read = Outcome::Read(Vec::from_slice(alloc, b"abcdef")?);
-    happens(&rt, &mut pair, &recv, read);
-    assert_eq!(rt; pair.handed_out(Side::B), b"abcdef".as_slice());
+    let mut room = Room::new();
+    let mut pair = room.pair(alloc, 64, (true, false));
+    assert!(rt; has_timestamps(&pair, Side::A) && !has_timestamps(&pair, Side::B));
+    opens(&rt, &mut pair);
+    sends(&rt, &mut pair, bytes, 6);
+    emits(&rt, &mut pair, Side::A, 3);
+    arrives(&rt, &mut pair, 3, None);
+    let side = Side::B;
+    let recv = Event::RecvSlice { side, size: 64 };
+    reads(&rt, &mut pair, &recv, b"abcdef");
+    assert!(rt; pair.handed_out(Side::B) == b"abcdef".as_slice());
     // the SYN|ACK had no timestamp
-    assert!(rt; !pair.socket(Side::A).timestamp_enabled());
+    assert!(rt; !has_timestamps(&pair, Side::A));
     Ok(())
 }
 
-// A sends 1500 bytes after the handshake, of which so many go out, and Nagle holds the rest back.
-fn sends_a_full_segment(
-    rt: &(impl Abort),
-    pair: &mut Pair<'_>,
-    bytes: Vec<u8>,
-    want: usize,
-) -> Result<(), Fail> {
+// Whether the segment of this index has so many bytes of the stream's beginning, and a timestamp.
+fn is_full(pair: &Pair<'_>, index: usize, len: usize, has_timestamp: bool) -> bool {
+    match pair.segments().get(index) {
+        None => false,
+        Some(stored) => {
+            let repr = stored.as_repr();
+            repr.seq_number == TcpSeqNumber(1001)
+                && repr.payload.len() == len
+                && repr.control == TcpControl::None
+                && repr.timestamp.is_some() == has_timestamp
+        }
+    }
+}
+
+// A sends 1500 bytes after the handshake, of which one segment goes out, and Nagle holds the rest back.
+fn sends_a_full_segment(rt: &(impl Abort), pair: &mut Pair<'_>, bytes: Vec<u8>) {
     opens(rt, pair);
-    let send = Event::SendSlice {
-        side: Side::A,
-        bytes,
-    };
-    happens(rt, pair, &send, Outcome::Accepted(1500));
-    happens(rt, pair, &dispatch(Side::A), Outcome::Emitted(3));
-    let Some(stored) = pair.segments().get(3) else {
-        return Err(Fail::new("no bytes are stored"));
-    };
-    let repr = stored.as_repr();
-    assert_eq!(rt; (repr.seq_number.0, repr.payload.len()), (1001, want));
-    assert_eq!(rt; repr.control, TcpControl::None);
-    assert_eq!(rt; repr.timestamp.is_some(), want < 1460);
-    happens(rt, pair, &dispatch(Side::A), Outcome::Quiet);
-    Ok(())
+    sends(rt, pair, bytes, 1500);
+    emits(rt, pair, Side::A, 3);
+    is_quiet(rt, pair, Side::A);
 }
 
 // A timestamp takes 12 bytes of each segment.
 #[test]
 fn timestamps_shrink_the_segment(rt: HostRuntime) -> Result<(), Fail> {
     let alloc = rt.alloc();
-    let mut arx = [0u8; 2000];
-    let mut atx = [0u8; 2000];
-    let mut brx = [0u8; 2000];
-    let mut btx = [0u8; 2000];
-    let a = Setup {
-        rx: RingBuffer::new(&mut arx),
-        tx: RingBuffer::new(&mut atx),
-        endpoint: A,
-        generator: Some(clock),
-    };
-    let b = Setup {
-        rx: RingBuffer::new(&mut brx),
-        tx: RingBuffer::new(&mut btx),
-        endpoint: B,
-        generator: Some(clock),
-    };
-    let mut pair = Pair::new(alloc, a, b, Some(2000));
     let bytes = Vec::from_slice(alloc, &[b'x'; 1500])?;
-    sends_a_full_segment(&rt, &mut pair, bytes, 1448)
+    let mut room = Room::new();
+    let mut pair = room.pair(alloc, 2000, (true, true));
+    sends_a_full_segment(&rt, &mut pair, bytes);
+    assert!(rt; is_full(&pair, 3, 1448, true));
+    Ok(())
 }
 
 #[test]
 fn timestamps_need_both_sides(rt: HostRuntime) -> Result<(), Fail> {
     let alloc = rt.alloc();
-    let mut arx = [0u8; 2000];
-    let mut atx = [0u8; 2000];
-    let mut brx = [0u8; 2000];
-    let mut btx = [0u8; 2000];
-    let a = Setup {
-        rx: RingBuffer::new(&mut arx),
-        tx: RingBuffer::new(&mut atx),
-        endpoint: A,
-        generator: Some(clock),
-    };
-    let b = Setup {
-        rx: RingBuffer::new(&mut brx),
-        tx: RingBuffer::new(&mut btx),
-        endpoint: B,
-        generator: None,
-    };
-    let mut pair = Pair::new(alloc, a, b, Some(2000));
     let bytes = Vec::from_slice(alloc, &[b'x'; 1500])?;
-    sends_a_full_segment(&rt, &mut pair, bytes, 1460)?;
-    assert!(rt; !pair.socket(Side::A).timestamp_enabled());
+    let mut room = Room::new();
+    let mut pair = room.pair(alloc, 2000, (true, false));
+    sends_a_full_segment(&rt, &mut pair, bytes);
+    assert!(rt; is_full(&pair, 3, 1460, false) && !has_timestamps(&pair, Side::A));
     Ok(())
-}
-
-pub(crate) fn set(side: Side, setting: Setting) -> Event {
-    Event::Set { side, setting }
 }
 
 #[test]
 fn closures_that_take_nothing(rt: HostRuntime) -> Result<(), Fail> {
     let alloc = rt.alloc();
-    let mut arx = [0u8; 64];
-    let mut atx = [0u8; 64];
-    let mut brx = [0u8; 64];
-    let mut btx = [0u8; 64];
-    let a = plain(&mut arx, &mut atx, A);
-    let b = plain(&mut brx, &mut btx, B);
-    let mut pair = Pair::new(alloc, a, b, Some(1000));
+    let first = Vec::from_slice(alloc, b"abc")?;
+    let second = Vec::from_slice(alloc, b"abc")?;
+    let mut room = Room::new();
+    let mut pair = room.plain_pair(alloc);
     opens(&rt, &mut pair);
-    let none = Event::Send {
-        side: Side::A,
-        bytes: Vec::from_slice(alloc, b"abc")?,
-        take: 0,
-    };
-    happens(&rt, &mut pair, &none, Outcome::Accepted(0));
-    assert_eq!(rt; pair.socket(Side::A).send_queue(), 0);
-    let some = Event::Send {
-        side: Side::A,
-        bytes: Vec::from_slice(alloc, b"abc")?,
-        take: 2,
-    };
-    happens(&rt, &mut pair, &some, Outcome::Accepted(2));
-    happens(&rt, &mut pair, &dispatch(Side::A), Outcome::Emitted(3));
-    happens(&rt, &mut pair, &deliver(3), Outcome::Delivered(None));
-    let none = Event::Recv {
-        side: Side::B,
-        take: 0,
-    };
-    happens(&rt, &mut pair, &none, Outcome::Read(Vec::new(alloc)));
-    let some = Event::Recv {
-        side: Side::B,
-        take: 64,
-    };
-    let read = Outcome::Read(Vec::from_slice(alloc, b"ab")?);
-    happens(&rt, &mut pair, &some, read);
+    closure_takes(&rt, &mut pair, first, 0);
+    assert!(rt; pair.socket(Side::A).send_queue() == 0);
+    closure_takes(&rt, &mut pair, second, 2);
+    emits(&rt, &mut pair, Side::A, 3);
+    arrives(&rt, &mut pair, 3, None);
+    let side = Side::B;
+    reads(&rt, &mut pair, &Event::Recv { side, take: 0 }, b"");
+    reads(&rt, &mut pair, &Event::Recv { side, take: 64 }, b"ab");
     Ok(())
+}
+
+// Whether the settings of the socket are those of the test below.
+fn is_set(socket: &Socket<'_>) -> bool {
+    socket.timeout() == Some(Duration::from_secs(1))
+        && socket.ack_delay().is_none()
+        && socket.keep_alive() == Some(Duration::from_secs(1))
+        && !socket.nagle_enabled()
+        && socket.hop_limit() == Some(9)
+        && socket.congestion_control() == CongestionControl::None
 }
 
 #[test]
 fn settings_of_a_pair(rt: HostRuntime) -> Result<(), Fail> {
     let alloc = rt.alloc();
-    let mut arx = [0u8; 64];
-    let mut atx = [0u8; 64];
-    let mut brx = [0u8; 64];
-    let mut btx = [0u8; 64];
-    let a = plain(&mut arx, &mut atx, A);
-    let b = plain(&mut brx, &mut btx, B);
-    let mut pair = Pair::new(alloc, a, b, None);
+    let mut room = Room::new();
+    let mut pair = room.plain_pair(alloc);
     let second = Interval::new(Some(Duration::from_secs(1)));
     let hops = HopLimit::new(Some(9));
-    for setting in [
-        Setting::Timeout(second),
+    sets(&rt, &mut pair, Side::B, Setting::Timeout(second));
+    sets(
+        &rt,
+        &mut pair,
+        Side::B,
         Setting::AckDelay(Interval::new(None)),
-        Setting::KeepAlive(second),
-        Setting::Nagle(false),
-        Setting::HopLimit(hops),
+    );
+    sets(&rt, &mut pair, Side::B, Setting::KeepAlive(second));
+    sets(&rt, &mut pair, Side::B, Setting::Nagle(false));
+    sets(&rt, &mut pair, Side::B, Setting::HopLimit(hops));
+    sets(
+        &rt,
+        &mut pair,
+        Side::B,
         Setting::Congestion(CongestionControl::None),
-        Setting::Pause(true),
-    ] {
-        happens(&rt, &mut pair, &set(Side::B, setting), Outcome::Done);
-    }
-    let socket = pair.socket(Side::B);
-    assert_eq!(rt; socket.timeout(), second.duration);
-    assert_eq!(rt; socket.ack_delay(), None);
-    assert_eq!(rt; socket.keep_alive(), second.duration);
-    assert!(rt; !socket.nagle_enabled());
-    assert_eq!(rt; socket.hop_limit(), Some(9));
-    assert_eq!(rt; socket.congestion_control(), CongestionControl::None);
-    assert!(rt; pair.socket(Side::A).nagle_enabled());
+    );
+    sets(&rt, &mut pair, Side::B, Setting::Pause(true));
+    assert!(rt; is_set(pair.socket(Side::B)) && !is_set(pair.socket(Side::A)));
     Ok(())
 }

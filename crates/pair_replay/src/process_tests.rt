@@ -1,5 +1,5 @@
 //! What a delivery brings: segments that come again, out of order, or after the numbers wrapped.
-use crate::pair_tests::{A, B, plain, plays};
+use crate::pair_tests::{Room, plays};
 use crate::tests::{OPENED, OPENING, prints};
 use control_wire::TcpSeqNumber;
 use sock_pair::{Outcome, Pair, too_old};
@@ -71,40 +71,50 @@ fn is_read(outcomes: &[Outcome], index: usize, bytes: &[u8]) -> bool {
     }
 }
 
+// Whether the SYN of this index offers all that a socket may offer.
+fn is_whole_offer(pair: &Pair<'_>, index: usize) -> bool {
+    match pair.segments().get(index) {
+        None => false,
+        Some(stored) => {
+            let repr = stored.as_repr();
+            repr.sack_permitted && repr.window_scale == Some(0) && repr.max_seg_size == Some(1460)
+        }
+    }
+}
+
+// Whether B's segment of this index acknowledges this number, with a range ahead of it or none.
+fn acknowledges(
+    pair: &Pair<'_>,
+    index: usize,
+    ack: u32,
+    window: u16,
+    range: Option<(u32, u32)>,
+) -> bool {
+    match pair.segments().get(index) {
+        None => false,
+        Some(stored) => {
+            let repr = stored.as_repr();
+            repr.seq_number == TcpSeqNumber(5001)
+                && repr.ack_number == Some(TcpSeqNumber(ack))
+                && repr.window_len == window
+                && repr.sack_ranges == [range, None, None]
+        }
+    }
+}
+
 #[test]
 fn reordered_segments_and_sack(rt: HostRuntime) -> Result<(), Fail> {
     let alloc = rt.alloc();
-    let mut arx = [0u8; 64];
-    let mut atx = [0u8; 64];
-    let mut brx = [0u8; 64];
-    let mut btx = [0u8; 64];
-    let a = plain(&mut arx, &mut atx, A);
-    let b = plain(&mut brx, &mut btx, B);
-    let mut pair = Pair::new(alloc, a, b, Some(1000));
     let lines = "nagle a off\nsend a abc\ndispatch a 0\nsend a def\ndispatch a 0\n\
         deliver 4 0 0\nrecv b 6\ndeliver 3 0 0\nrecv b 6\n";
     let text = format!(in alloc; "pair 64 64 64 64 1000\n{OPENING}{lines}")?;
+    let mut room = Room::new();
+    let mut pair = room.plain_pair(alloc);
     let outcomes = plays(&mut pair, alloc, text.as_str())?;
-    let both_offer = pair.segments().iter().take(2).all(|stored| {
-        let repr = stored.as_repr();
-        repr.sack_permitted && repr.window_scale == Some(0) && repr.max_seg_size == Some(1460)
-    });
-    assert!(rt; both_offer);
     assert!(rt; is_read(outcomes.as_slice(), 14, b""));
     assert!(rt; is_read(outcomes.as_slice(), 16, b"abcdef"));
-    let Some(ahead) = pair.segments().get(5) else {
-        return Err(Fail::new("no reply is stored"));
-    };
-    let ahead = ahead.as_repr();
-    assert_eq!(rt; (ahead.seq_number.0, ahead.window_len), (5001, 64));
-    assert_eq!(rt; ahead.ack_number, Some(TcpSeqNumber(1001)));
-    assert_eq!(rt; ahead.sack_ranges, [Some((1004, 1007)), None, None]);
-    let Some(joined) = pair.segments().get(6) else {
-        return Err(Fail::new("no second reply is stored"));
-    };
-    let joined = joined.as_repr();
-    assert_eq!(rt; (joined.seq_number.0, joined.window_len), (5001, 58));
-    assert_eq!(rt; joined.ack_number, Some(TcpSeqNumber(1007)));
-    assert_eq!(rt; joined.sack_ranges, [None; 3]);
+    assert!(rt; is_whole_offer(&pair, 0) && is_whole_offer(&pair, 1));
+    assert!(rt; acknowledges(&pair, 5, 1001, 64, Some((1004, 1007))));
+    assert!(rt; acknowledges(&pair, 6, 1007, 58, None));
     Ok(())
 }

@@ -1,117 +1,102 @@
 //! What the lines of a script mean, and what is printed of one that is none.
 use net_base::time::Instant;
-use sock_pair::script::parse;
+use sock_pair::script::{Script, parse};
 use sock_pair::{Event, Moment, Setting, Side};
 use std::alloc::Global;
+use std::process::Abort;
 use std::test::Fail;
 
 const PAIR: &str = "pair 64 64 64 64 1000\n";
 
-// The text that is printed of the fault, or nothing for a script.
-fn fault(alloc: Global, text: &str) -> Result<String, Fail> {
+// What is printed of the fault of a text.
+fn tells(rt: &(impl Abort), alloc: Global, text: &str, want: &str) -> Result<(), Fail> {
     match parse(alloc, text.as_bytes()) {
-        Ok(_) => Ok(String::new(alloc)),
-        Err(error) => Ok(error.to_string(alloc)?),
+        Ok(_) => Err(Fail::new("it is a script")),
+        Err(error) => {
+            let got = error.to_string(alloc)?;
+            assert!(rt; got.as_str() == want, "{text}");
+            Ok(())
+        }
     }
 }
 
-fn fault_on_line_two(alloc: Global, line: &str) -> Result<String, Fail> {
-    fault(alloc, format!(in alloc; "{PAIR}{line}")?.as_str())
+fn tells_of_line_two(rt: &(impl Abort), alloc: Global, line: &str, want: &str) -> Result<(), Fail> {
+    let text = format!(in alloc; "{PAIR}{line}")?;
+    tells(rt, alloc, text.as_str(), want)
+}
+
+// Whether the event of this index is this one.
+fn is_event(script: &Script, index: usize, want: &Event) -> bool {
+    script.events.as_slice().get(index) == Some(want)
 }
 
 #[test]
 fn forms_of_lines(rt: HostRuntime) -> Result<(), Fail> {
     let alloc = rt.alloc();
+    let bytes = Vec::from_slice(alloc, b"x!~")?;
     let text =
         "# sizes\n\n  pair 0 1 2 1048576 -\nsend b\n send  a  x!~ \nrecv a 1048576\n   \nfail b 1000000000";
     let script = parse(alloc, text.as_bytes())?;
-    assert_eq!(rt; script.sizes, [0, 1, 2, 1_048_576]);
-    assert_eq!(rt; script.limit, None);
-    assert_eq!(rt; script.events.len(), 4);
-    let bytes = Vec::from_slice(alloc, b"x!~")?;
-    assert_eq!(rt;
-        script.events[1],
-        Event::SendSlice {
-            side: Side::A,
-            bytes
-        }
-    );
-    assert_eq!(rt;
-        script.events[2],
-        Event::RecvSlice {
-            side: Side::A,
-            size: 1_048_576
-        }
-    );
-    let moment = Moment::new(Instant::from_secs(1_000_000), 0, true, 1500);
+    assert!(rt; script.sizes == [0, 1, 2, 1_048_576]);
+    assert!(rt; script.limit.is_none() && script.events.len() == 4);
+    let side = Side::A;
+    assert!(rt; is_event(&script, 1, &Event::SendSlice { side, bytes }));
+    let size = 1_048_576;
+    assert!(rt; is_event(&script, 2, &Event::RecvSlice { side, size }));
     let event = Event::Dispatch {
         side: Side::B,
-        moment,
+        moment: Moment::new(Instant::from_secs(1_000_000), 0, true, 1500),
         fail: true,
     };
-    assert_eq!(rt; script.events[3], event);
+    assert!(rt; is_event(&script, 3, &event));
     Ok(())
+}
+
+// Whether the event of this index turns Nagle's algorithm on or off for this side.
+fn is_nagle(script: &Script, index: usize, side: Side, enabled: bool) -> bool {
+    let setting = Setting::Nagle(enabled);
+    is_event(script, index, &Event::Set { side, setting })
 }
 
 #[test]
 fn nagle_is_on_or_off(rt: HostRuntime) -> Result<(), Fail> {
     let alloc = rt.alloc();
     let script = parse(alloc, b"pair 1 1 1 1 -\nnagle a on\nnagle b off")?;
-    assert_eq!(rt; script.events.len(), 2);
-    assert_eq!(rt;
-        script.events[0],
-        Event::Set {
-            side: Side::A,
-            setting: Setting::Nagle(true),
-        }
-    );
-    assert_eq!(rt;
-        script.events[1],
-        Event::Set {
-            side: Side::B,
-            setting: Setting::Nagle(false),
-        }
-    );
-    assert_eq!(rt;
-        fault_on_line_two(alloc, "nagle a")?.as_str(),
-        "line 2: wrong number of words"
-    );
-    assert_eq!(rt;
-        fault_on_line_two(alloc, "nagle a yes")?.as_str(),
-        "line 2: bad word"
-    );
+    assert!(rt; script.events.len() == 2);
+    assert!(rt; is_nagle(&script, 0, Side::A, true));
+    assert!(rt; is_nagle(&script, 1, Side::B, false));
     Ok(())
 }
 
+const TEXTS: &[(&str, &str)] = &[
+    ("", "line 1: no pair line"),
+    ("# a\n\n", "line 3: no pair line"),
+    ("pair 64 64 64 1048577 1000", "line 1: bad word"),
+    ("pair 64 64 64 64 536870912", "line 1: bad word"),
+    ("pair 64 64 64 64", "line 1: wrong number of words"),
+];
+
+const LINES: &[(&str, &str)] = &[
+    ("jump a", "line 2: unknown event"),
+    (PAIR, "line 2: unknown event"),
+    ("close", "line 2: wrong number of words"),
+    ("deliver 0 0", "line 2: wrong number of words"),
+    ("send c x", "line 2: bad word"),
+    ("recv a 1048577", "line 2: bad word"),
+    ("deliver 00000000000 0 0", "line 2: bad word"),
+    ("connect a +1", "line 2: bad word"),
+    ("send a x\ty", "line 2: bad word"),
+    ("nagle a", "line 2: wrong number of words"),
+    ("nagle a yes", "line 2: bad word"),
+];
+
 #[test]
 fn faults_are_printed(rt: HostRuntime) -> Result<(), Fail> {
-    let alloc = rt.alloc();
-    assert_eq!(rt; fault(alloc, "")?.as_str(), "line 1: no pair line");
-    assert_eq!(rt; fault(alloc, "# a\n\n")?.as_str(), "line 3: no pair line");
-    for (line, want) in [
-        ("jump a", "line 2: unknown event"),
-        (PAIR, "line 2: unknown event"),
-        ("close", "line 2: wrong number of words"),
-        ("deliver 0 0", "line 2: wrong number of words"),
-        ("send c x", "line 2: bad word"),
-        ("recv a 1048577", "line 2: bad word"),
-        ("deliver 00000000000 0 0", "line 2: bad word"),
-        ("connect a +1", "line 2: bad word"),
-        ("send a x\ty", "line 2: bad word"),
-    ] {
-        assert_eq!(rt; fault_on_line_two(alloc, line)?.as_str(), want, "{line}");
+    for (text, want) in TEXTS {
+        tells(&rt, rt.alloc(), text, want)?;
     }
-    assert_eq!(rt;
-        fault(alloc, "pair 64 64 64 1048577 1000")?.as_str(),
-        "line 1: bad word"
-    );
-    assert_eq!(rt;
-        fault(alloc, "pair 64 64 64 64 536870912")?.as_str(),
-        "line 1: bad word"
-    );
-    assert_eq!(rt;
-        fault(alloc, "pair 64 64 64 64")?.as_str(),
-        "line 1: wrong number of words"
-    );
+    for (line, want) in LINES {
+        tells_of_line_two(&rt, rt.alloc(), line, want)?;
+    }
     Ok(())
 }

@@ -112,9 +112,9 @@ pub(crate) fn runs(
     let text = format!(in alloc; "pair 64 64 64 64 {limit}\n{OPENING}{lines}")?;
     let want = format!(in alloc; "{OPENED}{output}")?;
     let (end, got) = replayed(alloc, text.as_bytes(), MANY, MANY);
-    assert_eq!(rt; end, End::Done);
-    assert_eq!(rt; end.status(), 0);
-    assert_eq!(rt; got.as_slice(), want.as_bytes());
+    assert!(rt; end == End::Done);
+    assert!(rt; end.status() == 0);
+    assert!(rt; got.as_slice() == want.as_bytes());
     Ok(())
 }
 
@@ -130,8 +130,8 @@ pub(crate) fn prints(
         let text = format!(in alloc; "pair 64 64 64 64 1000\n{first_lines}{lines}")?;
         let want = format!(in alloc; "{first_output}{output}")?;
         let (end, got) = replayed(alloc, text.as_bytes(), MANY, MANY);
-        assert_eq!(rt; end, End::Done, "{name}");
-        assert_eq!(rt; got.as_slice(), want.as_bytes(), "{name}");
+        assert!(rt; end == End::Done, "{name}");
+        assert!(rt; got.as_slice() == want.as_bytes(), "{name}");
     }
     Ok(())
 }
@@ -200,7 +200,7 @@ fn scaled_window_field(rt: HostRuntime) -> Result<(), Fail> {
         "pair 64 64 131072 64 1000\n{OPENING}send a abcdef\ndispatch a 0\ndeliver 3 0 0\ndispatch b 10\n"
     )?;
     let (end, got) = replayed(alloc, text.as_bytes(), MANY, MANY);
-    assert_eq!(rt; end, End::Done);
+    assert!(rt; end == End::Done);
     let want = "opened\nopened\nemitted 0 SYN seq 1000 ack - win 64 len 0\ndelivered\n\
         emitted 1 SYN|ACK seq 5000 ack 1001 win 65535 len 0\ndelivered\n\
         emitted 2 ACK seq 1001 ack 5001 win 64 len 0\ndelivered\n\
@@ -208,14 +208,14 @@ fn scaled_window_field(rt: HostRuntime) -> Result<(), Fail> {
         emitted 4 ACK seq 5001 ack 1007 win 32766 len 0\n\
         a ESTABLISHED accepted 6 handed-out 0 queued 0\n\
         b ESTABLISHED accepted 0 handed-out 0 queued 6\n";
-    assert_eq!(rt; got.as_slice(), want.as_bytes());
+    assert!(rt; got.as_slice() == want.as_bytes());
     Ok(())
 }
 
 fn is_refused(rt: &(impl Abort), alloc: Global, text: &[u8], want: ScriptError) {
     let (end, got) = replayed(alloc, text, MANY, MANY);
-    assert_eq!(rt; end, End::Script(want));
-    assert_eq!(rt; end.status(), 1);
+    assert!(rt; end == End::Script(want));
+    assert!(rt; end.status() == 1);
     assert!(rt; got.is_empty());
 }
 
@@ -255,7 +255,7 @@ fn cut_scripts(rt: HostRuntime) -> Result<(), Fail> {
         let (bytes, _) = text.as_bytes().split_at(cut);
         let line = 1 + bytes.iter().filter(|byte| **byte == b'\n').count();
         let (end, got) = replayed(alloc, bytes, MANY, MANY);
-        assert_eq!(rt; end == End::Done, !got.is_empty());
+        assert!(rt; (end == End::Done) == !got.is_empty());
         let faults = [
             End::Script(ScriptError::NoPairLine { line }),
             End::Script(ScriptError::UnknownEvent { line }),
@@ -292,8 +292,8 @@ fn streams_that_fail(rt: HostRuntime) -> Result<(), Fail> {
         if end == End::Done {
             break;
         }
-        assert_eq!(rt; end, End::Read);
-        assert_eq!(rt; end.status(), 2);
+        assert!(rt; end == End::Read);
+        assert!(rt; end.status() == 2);
         assert!(rt; got.is_empty() && calls < 299);
     }
     for calls in 0..300 {
@@ -302,8 +302,8 @@ fn streams_that_fail(rt: HostRuntime) -> Result<(), Fail> {
         if end == End::Done {
             break;
         }
-        assert_eq!(rt; end, End::Write);
-        assert_eq!(rt; end.status(), 2);
+        assert!(rt; end == End::Write);
+        assert!(rt; end.status() == 2);
         assert!(rt; calls < 299);
     }
     Ok(())

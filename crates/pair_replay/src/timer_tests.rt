@@ -1,5 +1,5 @@
 //! What moments do to a pair: segments that are sent again, held back or sent for a timeout.
-use crate::pair_tests::{A, B, deliver, dispatch, happens, plain, set};
+use crate::pair_tests::{Room, arrives, emits, happens, is_quiet, joins, listens, sets};
 use crate::tests::{MANY, replayed, runs};
 use control_wire::{TcpControl, TcpSeqNumber};
 use net_base::time::{Duration, Instant};
@@ -22,8 +22,8 @@ fn connects(rt: &(impl Abort), alloc: Global, lines: &str, output: &str) -> Resu
     let text = format!(in alloc; "pair 64 64 64 64 1000\nconnect a 1000\n{lines}")?;
     let want = format!(in alloc; "{CONNECTING}{output}{SYN_SENT}")?;
     let (end, got) = replayed(alloc, text.as_bytes(), MANY, MANY);
-    assert_eq!(rt; end, End::Done);
-    assert_eq!(rt; got.as_slice(), want.as_bytes());
+    assert!(rt; end == End::Done);
+    assert!(rt; got.as_slice() == want.as_bytes());
     Ok(())
 }
 
@@ -74,16 +74,16 @@ fn every_emit_fails_once(rt: HostRuntime) -> Result<(), Fail> {
         a ESTABLISHED accepted 6 handed-out 0 queued 0\n\
         b ESTABLISHED accepted 0 handed-out 0 queued 6\n";
     let (end, got) = replayed(rt.alloc(), text, MANY, MANY);
-    assert_eq!(rt; end, End::Done);
-    assert_eq!(rt; got.as_slice(), want.as_slice());
+    assert!(rt; end == End::Done);
+    assert!(rt; got.as_slice() == want.as_slice());
     Ok(())
 }
 
 // A whole script and its output.
 fn replays(rt: &(impl Abort), alloc: Global, text: &[u8], want: &[u8]) {
     let (end, got) = replayed(alloc, text, MANY, MANY);
-    assert_eq!(rt; end, End::Done);
-    assert_eq!(rt; got.as_slice(), want);
+    assert!(rt; end == End::Done);
+    assert!(rt; got.as_slice() == want);
 }
 
 #[test]
@@ -204,71 +204,64 @@ fn dispatch_at(side: Side, millis: u16) -> Event {
     }
 }
 
+// What a dispatch of A at a moment comes to.
+fn dispatches(rt: &(impl Abort), pair: &mut Pair<'_>, millis: u16, outcome: Outcome) {
+    happens(rt, pair, &dispatch_at(Side::A, millis), outcome);
+}
+
+fn polls(pair: &Pair<'_>, millis: u16) -> PollAt {
+    pair.socket(Side::A).poll_at(&at(millis))
+}
+
+// Whether the segment of this index resets, from this number on.
+fn is_reset(pair: &Pair<'_>, index: usize, seq_number: u32) -> bool {
+    match pair.segments().get(index) {
+        None => false,
+        Some(stored) => {
+            let repr = stored.as_repr();
+            repr.control == TcpControl::Rst
+                && repr.seq_number == TcpSeqNumber(seq_number)
+                && repr.ack_number == Some(TcpSeqNumber(0))
+                && repr.window_len == 64
+        }
+    }
+}
+
 #[test]
 fn user_timeout_of_syn(rt: HostRuntime) -> Result<(), Fail> {
-    let mut arx = [0u8; 64];
-    let mut atx = [0u8; 64];
-    let mut brx = [0u8; 64];
-    let mut btx = [0u8; 64];
-    let a = plain(&mut arx, &mut atx, A);
-    let b = plain(&mut brx, &mut btx, B);
-    let mut pair = Pair::new(rt.alloc(), a, b, Some(1000));
+    let mut room = Room::new();
+    let mut pair = room.plain_pair(rt.alloc());
     let half_second = Interval::new(Some(Duration::from_millis(500)));
-    let timeout = set(Side::A, Setting::Timeout(half_second));
-    happens(&rt, &mut pair, &timeout, Outcome::Done);
-    let connect = Event::Connect {
-        side: Side::A,
-        moment: at(0),
-    };
-    happens(&rt, &mut pair, &connect, Outcome::Opened);
-    assert_eq!(rt; pair.socket(Side::A).poll_at(&at(0)), PollAt::Now);
-    happens(
-        &rt,
-        &mut pair,
-        &dispatch_at(Side::A, 0),
-        Outcome::Emitted(0),
-    );
-    assert_eq!(rt;
-        pair.socket(Side::A).poll_at(&at(0)),
-        PollAt::Time(Instant::from_millis(500))
-    );
-    happens(&rt, &mut pair, &dispatch_at(Side::A, 499), Outcome::Quiet);
-    happens(
-        &rt,
-        &mut pair,
-        &dispatch_at(Side::A, 500),
-        Outcome::Emitted(1),
-    );
-    assert_eq!(rt; pair.socket(Side::A).state(), State::Closed);
-    let Some(stored) = pair.segments().get(1) else {
-        return Err(Fail::new("no RST is stored"));
-    };
-    let reset = stored.as_repr();
-    assert_eq!(rt; reset.control, TcpControl::Rst);
-    assert_eq!(rt; reset.seq_number, TcpSeqNumber(1001));
-    assert_eq!(rt; reset.ack_number, Some(TcpSeqNumber(0)));
-    assert_eq!(rt; reset.window_len, 64);
-    assert_eq!(rt; pair.socket(Side::A).poll_at(&at(500)), PollAt::Ingress);
+    sets(&rt, &mut pair, Side::A, Setting::Timeout(half_second));
+    joins(&rt, &mut pair, Side::A);
+    assert!(rt; polls(&pair, 0) == PollAt::Now);
+    dispatches(&rt, &mut pair, 0, Outcome::Emitted(0));
+    assert!(rt; polls(&pair, 0) == PollAt::Time(Instant::from_millis(500)));
+    dispatches(&rt, &mut pair, 499, Outcome::Quiet);
+    dispatches(&rt, &mut pair, 500, Outcome::Emitted(1));
+    assert!(rt; pair.socket(Side::A).state() == State::Closed);
+    assert!(rt; is_reset(&pair, 1, 1001));
+    assert!(rt; polls(&pair, 500) == PollAt::Ingress);
     Ok(())
+}
+
+// A delivery at which B answers from 5000.
+fn arrives_from_5000(rt: &(impl Abort), pair: &mut Pair<'_>, index: usize) {
+    let moment = Moment::new(Instant::ZERO, 5000, true, 1500);
+    let deliver = Event::Deliver { index, moment };
+    happens(rt, pair, &deliver, Outcome::Delivered(None));
 }
 
 // B listens, A connects from the number 1000, and B answers from 5000.
 fn opens(rt: &(impl Abort), pair: &mut Pair<'_>) {
-    let listen = Event::Listen { side: Side::B };
-    happens(rt, pair, &listen, Outcome::Opened);
-    let connect = Event::Connect {
-        side: Side::A,
-        moment: at(0),
-    };
-    happens(rt, pair, &connect, Outcome::Opened);
-    for (index, side) in [Side::A, Side::B, Side::A].into_iter().enumerate() {
-        happens(rt, pair, &dispatch(side), Outcome::Emitted(index));
-        let deliver = Event::Deliver {
-            index,
-            moment: Moment::new(Instant::ZERO, 5000, true, 1500),
-        };
-        happens(rt, pair, &deliver, Outcome::Delivered(None));
-    }
+    listens(rt, pair, Side::B);
+    joins(rt, pair, Side::A);
+    emits(rt, pair, Side::A, 0);
+    arrives_from_5000(rt, pair, 0);
+    emits(rt, pair, Side::B, 1);
+    arrives_from_5000(rt, pair, 1);
+    emits(rt, pair, Side::A, 2);
+    arrives_from_5000(rt, pair, 2);
 }
 
 // The keep-alive at this index: a zero byte before SND.UNA.
@@ -289,84 +282,70 @@ fn is_keep_alive(pair: &Pair<'_>, index: usize) -> bool {
 fn keeps_alive(rt: &(impl Abort), pair: &mut Pair<'_>) {
     opens(rt, pair);
     let second = Interval::new(Some(Duration::from_secs(1)));
-    let keep_alive = set(Side::A, Setting::KeepAlive(second));
-    happens(rt, pair, &keep_alive, Outcome::Done);
-    happens(rt, pair, &dispatch_at(Side::A, 0), Outcome::Emitted(3));
+    sets(rt, pair, Side::A, Setting::KeepAlive(second));
+    dispatches(rt, pair, 0, Outcome::Emitted(3));
 }
 
 #[test]
 fn keep_alive_zero_byte(rt: HostRuntime) -> Result<(), Fail> {
-    let mut arx = [0u8; 64];
-    let mut atx = [0u8; 64];
-    let mut brx = [0u8; 64];
-    let mut btx = [0u8; 64];
-    let a = plain(&mut arx, &mut atx, A);
-    let b = plain(&mut brx, &mut btx, B);
-    let mut pair = Pair::new(rt.alloc(), a, b, Some(1000));
+    let mut room = Room::new();
+    let mut pair = room.plain_pair(rt.alloc());
     keeps_alive(&rt, &mut pair);
-    happens(&rt, &mut pair, &dispatch_at(Side::A, 999), Outcome::Quiet);
-    happens(
-        &rt,
-        &mut pair,
-        &dispatch_at(Side::A, 1000),
-        Outcome::Emitted(4),
-    );
+    dispatches(&rt, &mut pair, 999, Outcome::Quiet);
+    dispatches(&rt, &mut pair, 1000, Outcome::Emitted(4));
     assert!(rt; is_keep_alive(&pair, 3) && is_keep_alive(&pair, 4));
     Ok(())
 }
 
+// Whether B's segment of this index acknowledges A's SYN, with all 64 bytes free.
+fn is_first_ack(pair: &Pair<'_>, index: usize) -> bool {
+    match pair.segments().get(index) {
+        None => false,
+        Some(stored) => {
+            let repr = stored.as_repr();
+            repr.control == TcpControl::None
+                && repr.seq_number == TcpSeqNumber(5001)
+                && repr.ack_number == Some(TcpSeqNumber(1001))
+                && repr.window_len == 64
+                && repr.payload.is_empty()
+        }
+    }
+}
+
 #[test]
 fn keep_alive_is_answered(rt: HostRuntime) -> Result<(), Fail> {
-    let mut arx = [0u8; 64];
-    let mut atx = [0u8; 64];
-    let mut brx = [0u8; 64];
-    let mut btx = [0u8; 64];
-    let a = plain(&mut arx, &mut atx, A);
-    let b = plain(&mut brx, &mut btx, B);
-    let mut pair = Pair::new(rt.alloc(), a, b, Some(1000));
+    let mut room = Room::new();
+    let mut pair = room.plain_pair(rt.alloc());
     keeps_alive(&rt, &mut pair);
-    happens(&rt, &mut pair, &deliver(3), Outcome::Delivered(Some(4)));
-    let Some(stored) = pair.segments().get(4) else {
-        return Err(Fail::new("no acknowledgement is stored"));
-    };
-    let ack = stored.as_repr();
-    assert_eq!(rt; ack.control, TcpControl::None);
-    assert_eq!(rt; ack.seq_number, TcpSeqNumber(5001));
-    assert_eq!(rt; ack.ack_number, Some(TcpSeqNumber(1001)));
-    assert_eq!(rt; (ack.window_len, ack.payload.len()), (64, 0));
-    assert_eq!(rt; pair.socket(Side::B).recv_queue(), 0);
+    arrives(&rt, &mut pair, 3, Some(4));
+    assert!(rt; is_first_ack(&pair, 4));
+    assert!(rt; pair.socket(Side::B).recv_queue() == 0);
     Ok(())
+}
+
+// Whether the segment of this index is the SYN|ACK that answers A's SYN.
+fn is_syn_ack(pair: &Pair<'_>, index: usize) -> bool {
+    match pair.segments().get(index) {
+        None => false,
+        Some(stored) => {
+            let repr = stored.as_repr();
+            repr.control == TcpControl::Syn && repr.ack_number == Some(TcpSeqNumber(1001))
+        }
+    }
 }
 
 #[test]
 fn paused_syn_ack(rt: HostRuntime) -> Result<(), Fail> {
-    let mut arx = [0u8; 64];
-    let mut atx = [0u8; 64];
-    let mut brx = [0u8; 64];
-    let mut btx = [0u8; 64];
-    let a = plain(&mut arx, &mut atx, A);
-    let b = plain(&mut brx, &mut btx, B);
-    let mut pair = Pair::new(rt.alloc(), a, b, Some(1000));
-    let listen = Event::Listen { side: Side::B };
-    happens(&rt, &mut pair, &listen, Outcome::Opened);
-    let pause = set(Side::B, Setting::Pause(true));
-    happens(&rt, &mut pair, &pause, Outcome::Done);
-    let connect = Event::Connect {
-        side: Side::A,
-        moment: at(0),
-    };
-    happens(&rt, &mut pair, &connect, Outcome::Opened);
-    happens(&rt, &mut pair, &dispatch(Side::A), Outcome::Emitted(0));
-    happens(&rt, &mut pair, &deliver(0), Outcome::Delivered(None));
-    happens(&rt, &mut pair, &dispatch(Side::B), Outcome::Quiet);
-    let go_on = set(Side::B, Setting::Pause(false));
-    happens(&rt, &mut pair, &go_on, Outcome::Done);
-    happens(&rt, &mut pair, &dispatch(Side::B), Outcome::Emitted(1));
-    let Some(stored) = pair.segments().get(1) else {
-        return Err(Fail::new("no SYN|ACK is stored"));
-    };
-    let syn_ack = stored.as_repr();
-    assert_eq!(rt; syn_ack.control, TcpControl::Syn);
-    assert_eq!(rt; syn_ack.ack_number, Some(TcpSeqNumber(1001)));
+    let mut room = Room::new();
+    let mut pair = room.plain_pair(rt.alloc());
+    listens(&rt, &mut pair, Side::B);
+    sets(&rt, &mut pair, Side::B, Setting::Pause(true));
+    joins(&rt, &mut pair, Side::A);
+    emits(&rt, &mut pair, Side::A, 0);
+    arrives(&rt, &mut pair, 0, None);
+    is_quiet(&rt, &mut pair, Side::B);
+    sets(&rt, &mut pair, Side::B, Setting::Pause(false));
+    emits(&rt, &mut pair, Side::B, 1);
+    assert!(rt; is_syn_ack(&pair, 1));
     Ok(())
 }

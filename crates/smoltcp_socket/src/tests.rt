@@ -1,12 +1,22 @@
-//! Worked examples of single sockets, and each call once at a concrete type.
+//! Worked examples of single sockets and of what they stand on, and each call once at a concrete type.
 
+mod congestion;
+mod estimator;
 mod host;
 mod icmp;
+mod ip;
 mod kinds;
+mod messages;
 mod packets;
+mod poll_moments;
+mod ranges;
 mod raw;
+mod receive_buffer;
+mod segments;
+mod storage;
 mod tcp;
 mod tcp_poll;
 mod tcp_process;
 mod texts;
 mod udp;
+mod window_shift;

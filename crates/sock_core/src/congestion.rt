@@ -378,6 +378,3 @@ impl Controller for AnyController {
         }
     }
 }
-
-#[cfg(test)]
-mod tests;

@@ -82,6 +82,3 @@ pub fn poll_moments_are_ordered()
     ensures total { IsTotalOrder poll_order }
     ensures equal { (p q : PollAt) → (poll_order p q ≡ Equal) ↔ (p ≡ q) }
 {}
-
-#[cfg(test)]
-mod tests;

@@ -225,6 +225,3 @@ fn as_places(ranges: &[Range], front: u32) -> [Places; 4]
     }
     all
 }
-
-#[cfg(test)]
-mod tests;

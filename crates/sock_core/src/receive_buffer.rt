@@ -224,6 +224,3 @@ impl<'a> ReceiveBuffer<'a> {
         None
     }
 }
-
-#[cfg(test)]
-mod tests;

@@ -219,6 +219,3 @@ fn timeout_of(smoothed: Smoothed) -> u32
     let margin = LEAST_MARGIN.max(4 * smoothed.rttvar);
     (smoothed.srtt + margin).clamp(LEAST_TIMEOUT, LONGEST_TIMEOUT)
 }
-
-#[cfg(test)]
-mod tests;

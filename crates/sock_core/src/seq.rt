@@ -54,6 +54,3 @@ fn distance(a: TcpSeqNumber, b: TcpSeqNumber) -> u32
 {
     a.0.wrapping_sub(b.0)
 }
-
-#[cfg(test)]
-mod tests;

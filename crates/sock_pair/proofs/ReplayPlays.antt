@@ -1,10 +1,10 @@
 -- What was written of a run.
 use Rattle.std.proofs.Common.{◌≡◌, ℕ, List, Option, None, Some, IfSome, Ok, Bool, inr, ◌∙◌, sym, subst}
-use Rattle.sock_pair.specs.PairViews.{PairView}
+use Rattle.pair_core.specs.PairViews.{PairView}
 use Rattle.sock_pair.specs.ReplayEnds.{StopsWriting}
 use Rattle.sock_pair.specs.ReplayRuns.{IsScript, Plays, PlaysTo, Replays, begun_of}
 use Rattle.sock_pair.specs.ScriptLines.{script_of, script_value}
-use Rattle.sock_pair.specs.declared.event.Event.{Event}
+use Rattle.pair_core.specs.declared.event.Event.{Event}
 use Rattle.sock_pair.specs.declared.script.Script.{Script}
 use Rattle.sock_pair.specs.declared.script.end.End.{End}
 use Rattle.sock_pair.specs.declared.script.end.End.TheVariants as end

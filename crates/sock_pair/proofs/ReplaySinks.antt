@@ -1,9 +1,9 @@
 -- Calls on a sink, one after the other.
 use Rattle.std.proofs.Common.{◌≡◌, ℕ, List, [], ◌++◌, Option, None, Some, ap, ◌∙◌, append_assoc, append-nil, sym, subst, Bool, Result, Ok, Err, ◌∷◌, ◌+◌, ◌<◌, length, take, get_or}
 use Rattle.std.proofs.lemmas.List.{take_more}
-use Rattle.sock_pair.specs.PairViews.{StoredView}
+use Rattle.pair_core.specs.PairViews.{StoredView}
 use Rattle.sock_pair.specs.ReplayLines.{outcome_line, outcome_lines}
-use Rattle.sock_pair.specs.declared.outcome.Outcome.{Outcome}
+use Rattle.pair_core.specs.declared.outcome.Outcome.{Outcome}
 use Rattle.std.specs.Io.KnownBytes.{Appends}
 use Rattle.sock_pair.specs.ReplayStreams.{Takes}
 

@@ -4,7 +4,7 @@ use Rattle.std.specs.Prelude.{IsOk, Bool, Option, Some, None, bytes_eq, codes, i
 use Rattle.std.proofs.lemmas.List.{append-nil}
 use Rattle.sock_pair.specs.declared.script.error.ScriptError.{ScriptError}
 use Rattle.sock_pair.specs.declared.script.error.ScriptError.TheVariants as fault
-use Rattle.sock_pair.specs.EventValue.{EventValue}
+use Rattle.pair_core.specs.EventValue.{EventValue}
 use Rattle.sock_pair.specs.ScriptLines.{EventsFault, IsFault, ReadsFirst, ScriptFault, by_words, event_of, events_of, first_and_rest, first_line, or_bad_word, pair_line, script_of, script_of_lines, with_events}
 use Rattle.sock_pair.specs.ScriptText.{lines_left, lines_of}
 use Rattle.sock_pair.specs.ScriptWords.{Word, five_of}

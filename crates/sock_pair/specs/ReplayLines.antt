@@ -5,11 +5,11 @@ use Rattle.control_wire.specs.declared.tcp.TcpControl.{TcpControl}
 use Rattle.control_wire.specs.declared.tcp.TcpControl.TheVariants as control
 use Rattle.control_wire.specs.Segment.{Segment}
 use Rattle.sock_tcp.specs.Texts.{state_text, send_error_text, recv_error_text}
-use Rattle.sock_pair.specs.PairViews.{PairView, StoredView, host_of}
-use Rattle.sock_pair.specs.declared.outcome.Outcome.{Outcome}
-use Rattle.sock_pair.specs.declared.outcome.Outcome.TheVariants as outcome
-use Rattle.sock_pair.specs.declared.side.Side.{Side}
-use Rattle.sock_pair.specs.declared.side.Side.TheVariants.{A, B}
+use Rattle.pair_core.specs.PairViews.{PairView, StoredView, host_of}
+use Rattle.pair_core.specs.declared.outcome.Outcome.{Outcome}
+use Rattle.pair_core.specs.declared.outcome.Outcome.TheVariants as outcome
+use Rattle.pair_core.specs.declared.side.Side.{Side}
+use Rattle.pair_core.specs.declared.side.Side.TheVariants.{A, B}
 
 -- control bits, and whether there is an acknowledgement number
 abbrev pub flags_text : TcpControl → Bool → List ℕ

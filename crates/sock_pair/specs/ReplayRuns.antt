@@ -6,12 +6,12 @@ use Rattle.ip_wire.specs.declared.endpoint.IpEndpoint.{IpEndpoint}
 use Rattle.sock_core.specs.Received.{Received, received}
 use Rattle.sock_tcp.specs.Queue.{Queue}
 use Rattle.sock_tcp.specs.View.{fresh}
-use Rattle.sock_pair.specs.PairRuns.{Ran}
-use Rattle.sock_pair.specs.PairViews.{HostView, PairView, new_host, new_pair}
+use Rattle.pair_core.specs.PairRuns.{Ran}
+use Rattle.pair_core.specs.PairViews.{HostView, PairView, new_host, new_pair}
 use Rattle.sock_pair.specs.ReplayLines.{outcome_lines, side_lines}
 use Rattle.sock_pair.specs.ScriptLines.{script_of, script_value}
-use Rattle.sock_pair.specs.declared.event.Event.{Event}
-use Rattle.sock_pair.specs.declared.outcome.Outcome.{Outcome}
+use Rattle.pair_core.specs.declared.event.Event.{Event}
+use Rattle.pair_core.specs.declared.outcome.Outcome.{Outcome}
 use Rattle.sock_pair.specs.declared.script.Script.{Script}
 use Rattle.sock_pair.specs.declared.script.end.End.{End}
 use Rattle.sock_pair.specs.declared.script.end.End.TheVariants as end

@@ -1,6 +1,6 @@
 -- What is known of every script that was read.
 use Rattle.std.specs.Prelude.{ℕ, ◌≤◌, List, Option, slice_index}
-use Rattle.sock_pair.specs.NetworkInvariant.{IsLimit}
+use Rattle.pair_core.specs.NetworkInvariant.{IsLimit}
 
 -- the sizes of a's receive and transmit buffer, and of b's
 pub record AreSizes (sizes : List ℕ) : Type 0 where

@@ -6,9 +6,9 @@ use Rattle.sock_pair.specs.declared.script.keyword.Keyword.{Keyword}
 use Rattle.sock_pair.specs.declared.script.keyword.Keyword.TheVariants as keyword
 use Rattle.sock_pair.specs.declared.script.pair_line.PairLine.{PairLine}
 use Rattle.sock_pair.specs.declared.script.Script.{Script}
-use Rattle.sock_pair.specs.declared.setting.Setting.TheVariants as setting
-use Rattle.sock_pair.specs.declared.side.Side.{Side}
-use Rattle.sock_pair.specs.EventValue.{MomentValue, EventValue, listen, connect, close, abort, send_slice, recv_slice, set, dispatch, deliver, event_value}
+use Rattle.pair_core.specs.declared.setting.Setting.TheVariants as setting
+use Rattle.pair_core.specs.declared.side.Side.{Side}
+use Rattle.pair_core.specs.EventValue.{MomentValue, EventValue, listen, connect, close, abort, send_slice, recv_slice, set, dispatch, deliver, event_value}
 use Rattle.sock_pair.specs.ScriptText.{lines_left, lines_of, numbered_from}
 use Rattle.sock_pair.specs.ScriptWords.{Word, side_of, switch_of, number_of, limit_of, text_of, keyword_of, one_of, two_of, three_of, five_of, one_and_text_of}
 

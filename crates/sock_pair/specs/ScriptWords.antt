@@ -2,8 +2,8 @@
 use Rattle.std.specs.Prelude.{ℕ, ◌+◌, ◌-◌, ◌*◌, fold, List, [], ◌∷◌, length, Bool, true, false, ◌&&◌, nat_lt, nat_le, Option, Some, None, bytes_eq, codes, if◌then◌else◌}
 use Rattle.std.specs.List.{list_all}
 use Rattle.std.specs.Char.{is_ascii_digit}
-use Rattle.sock_pair.specs.declared.side.Side.{Side}
-use Rattle.sock_pair.specs.declared.side.Side.TheVariants as side
+use Rattle.pair_core.specs.declared.side.Side.{Side}
+use Rattle.pair_core.specs.declared.side.Side.TheVariants as side
 use Rattle.sock_pair.specs.declared.script.keyword.Keyword.{Keyword}
 use Rattle.sock_pair.specs.declared.script.keyword.Keyword.TheVariants as keyword
 

@@ -1,25 +1,12 @@
-//! Two TCP sockets and every segment that they emitted.
+//! Two TCP sockets with every segment that they emitted, and scripts of what happens to them.
+//!
+//! `Pair`, its events and the theorem on the two streams are those of `pair_core`; `script` reads events from a text,
+//! plays them on a `Pair` and writes what came of each.
 #![tactic(auto)]
 
-pub mod event;
-mod exchange;
-mod host;
-pub mod laws;
-pub mod moment;
-pub mod outcome;
-pub mod pair;
-mod recorder;
 pub mod script;
-pub mod segment;
-pub mod setting;
-pub mod side;
-pub mod streams;
 
-pub use event::Event;
-pub use exchange::too_old;
-pub use moment::Moment;
-pub use outcome::{Outcome, PairError};
-pub use pair::{Pair, Setup};
-pub use segment::Segment;
-pub use setting::{HopLimit, Interval, Setting};
-pub use side::Side;
+pub use pair_core::{
+    Event, HopLimit, Interval, Moment, Outcome, Pair, PairError, Segment, Setting, Setup, Side,
+    event, laws, moment, outcome, pair, segment, setting, side, streams, too_old,
+};

@@ -1,6 +1,6 @@
 //! Events as text, a line an event.
 ghost use Rattle.std.specs.Prelude.{◌≡◌, map, false, Ok, IfOk, MatchResult};
-ghost use Rattle.sock_pair.specs.EventValue.{event_value};
+ghost use Rattle.pair_core.specs.EventValue.{event_value};
 ghost use Rattle.sock_pair.specs.ReplayEnds.{LeavesStreams};
 ghost use Rattle.sock_pair.specs.ReplayRuns.{Replays};
 ghost use Rattle.sock_pair.specs.ReplayScripts.{IsPlayable};
@@ -19,12 +19,12 @@ pub mod stream;
 mod values;
 mod words;
 
-use crate::event::Event;
 pub use end::End;
 pub use error::ScriptError;
 use forms::event;
 use lines::Lines;
 pub use output::flags;
+use pair_core::Event;
 use pair_line::{PairLine, read_pair_line};
 pub use play::{Buffers, begin};
 use play::{play, read_all};

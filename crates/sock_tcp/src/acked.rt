@@ -10,7 +10,7 @@ use control_wire::{TcpControl, TcpSeqNumber};
 use sock_core::seq::not_after;
 
 /// How much an acknowledgement covers.
-#[derive(Debug, Clone, Copy, PartialEq, Eq)]
+#[derive(Clone, Copy)]
 pub struct Acked {
     /// How many bytes of the transmit queue.
     pub len: usize,

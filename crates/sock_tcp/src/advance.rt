@@ -32,7 +32,7 @@ const MIN_MSS: usize = 48;
 const MAX_SCALE: u8 = 14;
 
 /// What comes after the state table.
-#[derive(Debug, Clone, Copy, PartialEq, Eq)]
+#[derive(Clone, Copy)]
 pub enum Next {
     /// The other steps.
     Continue,

@@ -2,7 +2,7 @@
 use control_wire::TcpSeqNumber;
 
 /// What a dispatch emits a segment for.
-#[derive(Debug, Clone, Copy, PartialEq, Eq)]
+#[derive(Clone, Copy)]
 pub enum Kind {
     /// Data, a SYN, a FIN, an acknowledgement or an RST.
     Plain,
@@ -13,7 +13,7 @@ pub enum Kind {
 }
 
 /// What is kept of a segment once it went out.
-#[derive(Debug, Clone, Copy, PartialEq, Eq)]
+#[derive(Clone, Copy)]
 pub struct Emitted {
     /// What it was emitted for.
     pub kind: Kind,

@@ -23,7 +23,7 @@ use net_base::time::Instant;
 use sock_core::Context;
 
 /// How a segment is answered.
-#[derive(Debug, Clone, Copy, PartialEq, Eq)]
+#[derive(Clone, Copy)]
 pub enum Answer {
     /// Not at all.
     Nothing,

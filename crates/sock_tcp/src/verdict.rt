@@ -8,7 +8,7 @@ use control_wire::{TcpControl, TcpSeqNumber};
 use sock_core::seq::before;
 
 /// What is done with a segment by its acknowledgement.
-#[derive(Debug, Clone, Copy, PartialEq, Eq)]
+#[derive(Clone, Copy, PartialEq, Eq)]
 pub enum Verdict {
     Drop,
     Pass,

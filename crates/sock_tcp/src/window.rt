@@ -8,7 +8,7 @@ use control_wire::TcpSeqNumber;
 use sock_core::seq::{before, later, not_after};
 
 /// The receive window: its left edge, and the number behind its last one.
-#[derive(Debug, Clone, Copy, PartialEq, Eq)]
+#[derive(Clone, Copy)]
 pub struct Window {
     /// The left edge, RCV.NXT.
     pub start: TcpSeqNumber,
@@ -17,7 +17,7 @@ pub struct Window {
 }
 
 /// A part of a segment's payload.
-#[derive(Debug, Clone, Copy, PartialEq, Eq)]
+#[derive(Clone, Copy)]
 pub struct Cut {
     /// How many bytes stand before it.
     pub skip: usize,

@@ -24,7 +24,7 @@ pub const MTU: usize = 1500;
 
 /// A network interface with one IPv4 address: the context of every call of a socket, and the packets that sockets have
 /// emitted.
-#[derive(Debug, Drop)]
+#[derive(Drop)]
 pub struct Interface {
     /// Where it allocates.
     pub alloc: Global,

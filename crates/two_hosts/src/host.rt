@@ -13,7 +13,7 @@ use std::alloc::{AllocError, Global};
 const TURN: usize = 8;
 
 /// A host with one interface.
-#[derive(Debug, Drop)]
+#[derive(Drop)]
 pub struct Host<'a> {
     /// Its sockets, of any kind.
     pub sockets: Vec<Socket<'a>>,

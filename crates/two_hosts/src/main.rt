@@ -98,7 +98,7 @@ fn millis_of(at: Instant) -> u32 {
 }
 
 /// The two hosts with what runs on them, and the wire between them.
-#[derive(Debug, Drop)]
+#[derive(Drop)]
 struct Simulation<'a> {
     a: Host<'a>,
     b: Host<'a>,

@@ -6,7 +6,7 @@ use smoltcp_socket::wire::{IpProtocol, IpVersion};
 use smoltcp_socket::{icmp, raw, udp};
 
 /// One datagram socket of each kind.
-#[derive(Debug, Drop)]
+#[derive(Drop)]
 pub struct Sockets<'a> {
     /// UDP.
     pub udp: udp::Socket<'a>,
@@ -17,7 +17,7 @@ pub struct Sockets<'a> {
 }
 
 /// The buffers of one datagram socket of each kind: places for packets and their bytes, of what comes and of what goes.
-#[derive(Debug, Drop)]
+#[derive(Drop)]
 pub struct Memory {
     udp_rx_places: [udp::PacketMetadata; 4],
     udp_rx: [u8; 256],

@@ -4,7 +4,7 @@ use smoltcp_socket::wire::{ChecksumCapabilities, Icmpv4Repr, IpRepr, TcpRepr, Ud
 use std::alloc::{AllocError, Global};
 
 /// An IP packet: its header, and what it carries.
-#[derive(Debug, Drop)]
+#[derive(Drop)]
 pub struct Packet {
     /// The IP header.
     pub ip: IpRepr,
@@ -13,7 +13,7 @@ pub struct Packet {
 }
 
 /// The payload of an IP packet.
-#[derive(Debug, Drop)]
+#[derive(Drop)]
 pub enum Body {
     /// A TCP segment: its header, whose payload is empty, and the bytes that it carries.
     Tcp(TcpRepr<'static>, Vec<u8>),

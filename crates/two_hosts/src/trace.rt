@@ -7,7 +7,7 @@ use std::alloc::{AllocError, Global};
 use std::fmt::Write;
 
 /// The lines so far.
-#[derive(Debug, Drop)]
+#[derive(Drop)]
 pub struct Trace {
     /// The text of all lines.
     pub text: String,

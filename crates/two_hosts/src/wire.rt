@@ -15,7 +15,7 @@ const SHORTEST: u32 = 10;
 const SPREAD: u32 = 30;
 
 /// A wire, and the packets on it.
-#[derive(Debug, Drop)]
+#[derive(Drop)]
 pub struct Wire {
     /// The packets on their way, by the moment at which they arrive, and in the order in which they were sent.
     packets: BTreeMap<(u32, u32), Packet>,

@@ -34,8 +34,8 @@ fn icmp_bind_validation(rt: HostRuntime) -> Result<(), Fail> {
         (Endpoint::Ident(1), Err(BindError::InvalidState), true),
         (Endpoint::default(), Err(BindError::Unaddressable), true),
     ] {
-        assert_eq!(rt; socket.bind(endpoint), answer);
-        assert_eq!(rt; socket.is_open(), open);
+        assert!(rt; socket.bind(endpoint) == answer);
+        assert!(rt; socket.is_open() == open);
     }
     assert!(rt; !Endpoint::Tcp(portless).is_specified());
     assert!(rt; Endpoint::Ident(7) < Endpoint::Tcp(portless));
@@ -67,8 +67,8 @@ fn icmp_send_limits(rt: HostRuntime) -> Result<(), Fail> {
         ),
         (long.as_slice(), THERE, Ok(()), PollAt::Now),
     ] {
-        assert_eq!(rt; socket.send_slice(data, remote), answer);
-        assert_eq!(rt; socket.poll_at(&Host::new(None)), next);
+        assert!(rt; socket.send_slice(data, remote) == answer);
+        assert!(rt; socket.poll_at(&Host::new(None)) == next);
     }
     assert!(rt; !socket.can_send() && socket.send_queue() == 66);
     Ok(())
@@ -79,13 +79,10 @@ fn icmp_full_buffer(rt: HostRuntime) -> Result<(), Fail> {
     let mut socket = roomless();
     assert!(rt; matches!(socket.send(1, NOWHERE), Err(SendError::Unaddressable)));
     assert!(rt; matches!(socket.send(0, THERE), Err(SendError::BufferFull)));
-    assert_eq!(rt;
-        socket.send_with(0, THERE, |lent| lent.len()),
-        Err(SendError::BufferFull)
-    );
-    assert_eq!(rt; socket.hop_limit(), None);
+    assert!(rt; socket.send_with(0, THERE, |lent| lent.len()) == Err(SendError::BufferFull));
+    assert!(rt; socket.hop_limit() == None);
     socket.set_hop_limit(Some(3));
-    assert_eq!(rt; socket.hop_limit(), Some(3));
+    assert!(rt; socket.hop_limit() == Some(3));
     Ok(())
 }
 
@@ -102,8 +99,8 @@ fn icmp_truncated_slices(rt: HostRuntime) -> Result<(), Fail> {
         (RecvError::Truncated, Ok((b"xyz".as_slice(), THERE))),
         (RecvError::Exhausted, Err(RecvError::Exhausted)),
     ] {
-        assert_eq!(rt; socket.recv_slice(&mut short), Err(copied));
-        assert_eq!(rt; socket.recv(), taken);
+        assert!(rt; socket.recv_slice(&mut short) == Err(copied));
+        assert!(rt; socket.recv() == taken);
     }
     assert!(rt; !socket.can_recv());
     Ok(())
@@ -146,9 +143,9 @@ fn emitted(socket: &mut Socket<'_>, fail: bool) -> (Option<IpRepr>, bool) {
 #[test]
 fn icmp_accepts_identifier(rt: HostRuntime) -> Result<(), Fail> {
     let mut socket = roomless();
-    assert_eq!(rt; socket.bind(Endpoint::Ident(0x1234)), Ok(()));
+    assert!(rt; socket.bind(Endpoint::Ident(0x1234)) == Ok(()));
     for (ident, accepted) in [(0x1234, true), (0x4321, false)] {
-        assert_eq!(rt; accepts(&socket, &echo(ident)), accepted);
+        assert!(rt; accepts(&socket, &echo(ident)) == accepted);
     }
     Ok(())
 }
@@ -161,11 +158,11 @@ fn icmp_message_is_written_out(rt: HostRuntime) -> Result<(), Fail> {
         PacketBuffer::new(&mut places, &mut bytes),
         PacketBuffer::new(&mut [], &mut []),
     );
-    assert_eq!(rt; socket.bind(Endpoint::Ident(0x1234)), Ok(()));
+    assert!(rt; socket.bind(Endpoint::Ident(0x1234)) == Ok(()));
     socket.process_v4(&Host::new(None), &TO_HERE, &echo(0x1234));
     // The sum of the words 0800, 1234, 0001, 7069 and 6e67 is f905.
     let want = [8, 0, 0x06, 0xfa, 0x12, 0x34, 0, 1, b'p', b'i', b'n', b'g'];
-    assert_eq!(rt; socket.recv(), Ok((want.as_slice(), THERE)));
+    assert!(rt; socket.recv() == Ok((want.as_slice(), THERE)));
     Ok(())
 }
 
@@ -176,7 +173,7 @@ fn icmp_errors_go_to_the_port_that_sent(rt: HostRuntime) -> Result<(), Fail> {
         addr: None,
         port: 53,
     };
-    assert_eq!(rt; socket.bind(Endpoint::Udp(endpoint)), Ok(()));
+    assert!(rt; socket.bind(Endpoint::Udp(endpoint)) == Ok(()));
     // A datagram from port 53 to port 49500, of no bytes and without a checksum.
     for (port, accepted) in [(53u8, true), (54, false)] {
         let body = [0, port, 0xc1, 0x5c, 0, 8, 0, 0];
@@ -185,7 +182,7 @@ fn icmp_errors_go_to_the_port_that_sent(rt: HostRuntime) -> Result<(), Fail> {
             header: TO_HERE,
             body: &body,
         };
-        assert_eq!(rt; accepts(&socket, &message), accepted);
+        assert!(rt; accepts(&socket, &message) == accepted);
     }
     Ok(())
 }
@@ -198,8 +195,8 @@ fn icmp_dispatch_drops_and_keeps(rt: HostRuntime) -> Result<(), Fail> {
         PacketBuffer::new(&mut [], &mut []),
         PacketBuffer::new(&mut places, &mut bytes),
     );
-    assert_eq!(rt; socket.send_slice(b"abcdef", THERE), Ok(()));
-    assert_eq!(rt; emitted(&mut socket, false), (None, true));
+    assert!(rt; socket.send_slice(b"abcdef", THERE) == Ok(()));
+    assert!(rt; emitted(&mut socket, false) == (None, true));
     let header = IpRepr::Ipv4(Ipv4Repr {
         src_addr: HERE,
         dst_addr: Ipv4Address([10, 0, 0, 2]),
@@ -209,12 +206,12 @@ fn icmp_dispatch_drops_and_keeps(rt: HostRuntime) -> Result<(), Fail> {
     });
     let message = [8, 0, 0, 0, 0x12, 0x34, 0, 1, 7, 7];
     for fails in 0..4 {
-        assert_eq!(rt; socket.send_slice(&message, THERE), Ok(()));
+        assert!(rt; socket.send_slice(&message, THERE) == Ok(()));
         for turn in 0..=fails {
             let done = turn == fails;
-            assert_eq!(rt; emitted(&mut socket, !done), (Some(header), done));
+            assert!(rt; emitted(&mut socket, !done) == (Some(header), done));
         }
-        assert_eq!(rt; socket.send_queue(), 0);
+        assert!(rt; socket.send_queue() == 0);
     }
     Ok(())
 }

@@ -35,7 +35,7 @@ fn raw_among_kinds(rt: HostRuntime) -> Result<(), Fail> {
         PacketBuffer::new(&mut [], &mut []),
     );
     let socket = socket.upcast();
-    assert_eq!(rt; kinds(&socket), [true, false, false, false, true]);
+    assert!(rt; kinds(&socket) == [true, false, false, false, true]);
     Ok(())
 }
 
@@ -46,7 +46,7 @@ fn icmp_among_kinds(rt: HostRuntime) -> Result<(), Fail> {
         PacketBuffer::new(&mut [], &mut []),
     );
     let socket = socket.upcast();
-    assert_eq!(rt; kinds(&socket), [false, true, false, false, true]);
+    assert!(rt; kinds(&socket) == [false, true, false, false, true]);
     Ok(())
 }
 
@@ -57,18 +57,18 @@ fn udp_among_kinds(rt: HostRuntime) -> Result<(), Fail> {
         PacketBuffer::new(&mut [], &mut []),
     );
     let mut socket = socket.upcast();
-    assert_eq!(rt; kinds(&socket), [false, false, true, false, true]);
+    assert!(rt; kinds(&socket) == [false, false, true, false, true]);
     let endpoint = IpListenEndpoint {
         addr: None,
         port: 53,
     };
     match udp::Socket::downcast_mut(&mut socket) {
-        Some(lent) => assert_eq!(rt; lent.bind(endpoint), Ok(())),
+        Some(lent) => assert!(rt; lent.bind(endpoint) == Ok(())),
         None => assert!(rt; false),
     }
     assert!(rt; tcp::Socket::downcast_mut(&mut socket).is_none());
     match udp::Socket::downcast(&socket) {
-        Some(lent) => assert_eq!(rt; lent.endpoint(), endpoint),
+        Some(lent) => assert!(rt; lent.endpoint() == endpoint),
         None => assert!(rt; false),
     }
     Ok(())
@@ -78,8 +78,8 @@ fn udp_among_kinds(rt: HostRuntime) -> Result<(), Fail> {
 fn tcp_among_kinds(rt: HostRuntime) -> Result<(), Fail> {
     let socket = tcp::Socket::new(RingBuffer::new(&mut []), RingBuffer::new(&mut []));
     let socket = socket.upcast();
-    assert_eq!(rt; kinds(&socket), [false, false, false, true, true]);
-    assert_eq!(rt; socket.poll_at(&Host::new(None)), PollAt::Ingress);
+    assert!(rt; kinds(&socket) == [false, false, false, true, true]);
+    assert!(rt; socket.poll_at(&Host::new(None)) == PollAt::Ingress);
     assert!(rt; comes_back(socket));
     Ok(())
 }

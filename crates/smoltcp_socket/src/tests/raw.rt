@@ -27,8 +27,8 @@ fn raw_buffer_full(rt: HostRuntime) -> Result<(), Fail> {
         (long.as_slice(), Err(SendError::BufferFull), PollAt::Ingress),
         (short.as_slice(), Ok(()), PollAt::Now),
     ] {
-        assert_eq!(rt; socket.send_slice(data), answer);
-        assert_eq!(rt; socket.poll_at(&Host::new(None)), next);
+        assert!(rt; socket.send_slice(data) == answer);
+        assert!(rt; socket.poll_at(&Host::new(None)) == next);
     }
     assert!(rt; socket.send_queue() == 48 && !socket.can_send());
     assert!(rt; closures_refused(&mut socket));
@@ -51,8 +51,8 @@ fn raw_limits_and_filters(rt: HostRuntime) -> Result<(), Fail> {
         PacketBuffer::new(&mut places, &mut bytes),
     );
     assert!(rt; socket.packet_send_capacity() == 1 && socket.payload_send_capacity() == 48);
-    assert_eq!(rt; socket.ip_version(), Some(IpVersion::Ipv4));
-    assert_eq!(rt; socket.ip_protocol(), Some(EXPERIMENT));
+    assert!(rt; socket.ip_version() == Some(IpVersion::Ipv4));
+    assert!(rt; socket.ip_protocol() == Some(EXPERIMENT));
     Ok(())
 }
 
@@ -70,7 +70,7 @@ fn what_is_lent_is_queued(rt: HostRuntime) -> Result<(), Fail> {
         Ok(lent) => lent.copy_from_slice(b"abc"),
         Err(_) => assert!(rt; false),
     }
-    assert_eq!(rt; socket.send_with(4, |lent| lent.len().min(2)), Ok(2));
+    assert!(rt; socket.send_with(4, |lent| lent.len().min(2)) == Ok(2));
     assert!(rt; socket.send_queue() == 5 && !socket.can_send());
     Ok(())
 }
@@ -90,7 +90,7 @@ fn raw_accepts_by_version_and_protocol(rt: HostRuntime) -> Result<(), Fail> {
             PacketBuffer::new(&mut [], &mut []),
             PacketBuffer::new(&mut [], &mut []),
         );
-        assert_eq!(rt; socket.accepts(&packet), accepted);
+        assert!(rt; socket.accepts(&packet) == accepted);
     }
     Ok(())
 }
@@ -112,10 +112,10 @@ fn raw_truncated_slices(rt: HostRuntime) -> Result<(), Fail> {
     let mut bytes = [0u8; 16];
     let received = two_packets(&rt, &mut places, &mut bytes, ());
     let mut socket = Socket::new(None, None, received, PacketBuffer::new(&mut [], &mut []));
-    assert_eq!(rt; copies(&mut socket), [Err(RecvError::Truncated); 2]);
-    assert_eq!(rt; socket.peek_slice(&mut [0; 4]), Ok(3));
+    assert!(rt; copies(&mut socket) == [Err(RecvError::Truncated); 2]);
+    assert!(rt; socket.peek_slice(&mut [0; 4]) == Ok(3));
     assert!(rt; first_is(&mut socket, Ok(b"xyz")));
-    assert_eq!(rt; copies(&mut socket), [Err(RecvError::Exhausted); 2]);
+    assert!(rt; copies(&mut socket) == [Err(RecvError::Exhausted); 2]);
     assert!(rt; first_is(&mut socket, Err(RecvError::Exhausted)) && !socket.can_recv());
     Ok(())
 }
@@ -191,9 +191,9 @@ fn raw_malformed_or_foreign_dropped(rt: HostRuntime) -> Result<(), Fail> {
         if at < 24 {
             packet[at] = byte;
         }
-        assert_eq!(rt; socket.send_slice(&packet), Ok(()));
-        assert_eq!(rt; emitted(&mut socket, &mut cx, false), (None, true));
-        assert_eq!(rt; socket.send_queue(), 0);
+        assert!(rt; socket.send_slice(&packet) == Ok(()));
+        assert!(rt; emitted(&mut socket, &mut cx, false) == (None, true));
+        assert!(rt; socket.send_queue() == 0);
     }
     Ok(())
 }
@@ -208,9 +208,9 @@ fn raw_other_version_dropped(rt: HostRuntime) -> Result<(), Fail> {
         PacketBuffer::new(&mut [], &mut []),
         PacketBuffer::new(&mut places, &mut bytes),
     );
-    assert_eq!(rt; socket.send_slice(&PACKET), Ok(()));
+    assert!(rt; socket.send_slice(&PACKET) == Ok(()));
     let mut cx = host(Checksum::Both);
-    assert_eq!(rt; emitted(&mut socket, &mut cx, false), (None, true));
+    assert!(rt; emitted(&mut socket, &mut cx, false) == (None, true));
     Ok(())
 }
 
@@ -224,11 +224,11 @@ fn raw_zero_checksum_where_not_sent(rt: HostRuntime) -> Result<(), Fail> {
         PacketBuffer::new(&mut [], &mut []),
         PacketBuffer::new(&mut places, &mut bytes),
     );
-    assert_eq!(rt; socket.send_slice(&PACKET), Ok(()));
+    assert!(rt; socket.send_slice(&PACKET) == Ok(()));
     let mut cx = host(Checksum::Rx);
     let header = IpRepr::new(HERE, THERE, EXPERIMENT, 4, 64);
-    assert_eq!(rt; emitted(&mut socket, &mut cx, false), (Some(header), true));
-    assert_eq!(rt; emitted(&mut socket, &mut cx, false), (None, true));
+    assert!(rt; emitted(&mut socket, &mut cx, false) == (Some(header), true));
+    assert!(rt; emitted(&mut socket, &mut cx, false) == (None, true));
     Ok(())
 }
 
@@ -245,12 +245,12 @@ fn raw_failed_emits_keep_the_packet(rt: HostRuntime) -> Result<(), Fail> {
     let mut cx = host(Checksum::Both);
     let header = IpRepr::new(HERE, THERE, EXPERIMENT, 4, 64);
     for fails in 0..4 {
-        assert_eq!(rt; socket.send_slice(&PACKET), Ok(()));
+        assert!(rt; socket.send_slice(&PACKET) == Ok(()));
         for _ in 0..fails {
-            assert_eq!(rt; emitted(&mut socket, &mut cx, true), (Some(header), false));
+            assert!(rt; emitted(&mut socket, &mut cx, true) == (Some(header), false));
         }
-        assert_eq!(rt; emitted(&mut socket, &mut cx, false), (Some(header), true));
-        assert_eq!(rt; socket.send_queue(), 0);
+        assert!(rt; emitted(&mut socket, &mut cx, false) == (Some(header), true));
+        assert!(rt; socket.send_queue() == 0);
     }
     Ok(())
 }

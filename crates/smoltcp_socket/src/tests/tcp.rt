@@ -42,11 +42,11 @@ fn listen_validation(rt: HostRuntime) -> Result<(), Fail> {
         (80, Ok(()), true),
         (81, Err(ListenError::InvalidState), true),
     ] {
-        assert_eq!(rt; socket.listen(any(port)), answer);
-        assert_eq!(rt; socket.is_open(), open);
+        assert!(rt; socket.listen(any(port)) == answer);
+        assert!(rt; socket.is_open() == open);
     }
     assert!(rt; socket.is_listening() && !socket.is_active());
-    assert_eq!(rt; socket.listen_endpoint(), any(80));
+    assert!(rt; socket.listen_endpoint() == any(80));
     Ok(())
 }
 
@@ -68,19 +68,13 @@ fn connect_validation(rt: HostRuntime) -> Result<(), Fail> {
     let mut socket = Socket::new(RingBuffer::new(&mut rx), RingBuffer::new(&mut tx));
     let mut cx = Host::at(0, 1000);
     let unaddressable = Err(ConnectError::Unaddressable);
-    assert_eq!(rt; dials(&mut socket, &mut cx, 0, at(A)), unaddressable);
+    assert!(rt; dials(&mut socket, &mut cx, 0, at(A)) == unaddressable);
     // no address is given, and the context has none
-    assert_eq!(rt; dials(&mut socket, &mut cx, 80, any(49152)), unaddressable);
-    assert_eq!(rt; dials(&mut socket, &mut cx, 80, at(A)), Ok(()));
-    assert_eq!(rt;
-        dials(&mut socket, &mut cx, 0, at(A)),
-        Err(ConnectError::InvalidState)
-    );
-    assert_eq!(rt; socket.state(), State::SynSent);
-    assert_eq!(rt;
-        (socket.local_endpoint(), socket.remote_endpoint()),
-        (Some(A), Some(B))
-    );
+    assert!(rt; dials(&mut socket, &mut cx, 80, any(49152)) == unaddressable);
+    assert!(rt; dials(&mut socket, &mut cx, 80, at(A)) == Ok(()));
+    assert!(rt; dials(&mut socket, &mut cx, 0, at(A)) == Err(ConnectError::InvalidState));
+    assert!(rt; socket.state() == State::SynSent);
+    assert!(rt; (socket.local_endpoint(), socket.remote_endpoint()) == (Some(A), Some(B)));
     assert!(rt; socket.is_active() && !socket.may_send() && !socket.can_send());
     Ok(())
 }
@@ -130,16 +124,10 @@ fn a_failed_syn_is_sent_again(rt: HostRuntime) -> Result<(), Fail> {
     let mut tx = [0u8; 4];
     let mut socket = Socket::new(RingBuffer::new(&mut rx), RingBuffer::new(&mut tx));
     let mut cx = Host::at(0, 1000);
-    assert_eq!(rt; socket.connect(&mut cx, B, at(A)), Ok(()));
-    assert_eq!(rt;
-        emitted(&mut socket, &mut cx, true),
-        (Some((1000, 0)), false)
-    );
-    assert_eq!(rt;
-        emitted(&mut socket, &mut cx, false),
-        (Some((1000, 0)), true)
-    );
-    assert_eq!(rt; emitted(&mut socket, &mut cx, false), (None, true));
+    assert!(rt; socket.connect(&mut cx, B, at(A)) == Ok(()));
+    assert!(rt; emitted(&mut socket, &mut cx, true) == (Some((1000, 0)), false));
+    assert!(rt; emitted(&mut socket, &mut cx, false) == (Some((1000, 0)), true));
+    assert!(rt; emitted(&mut socket, &mut cx, false) == (None, true));
     Ok(())
 }
 
@@ -151,30 +139,21 @@ fn a_peer_sends_and_receives(rt: HostRuntime) -> Result<(), Fail> {
     let mut cx = Host::at(0, 1000);
     let ip_repr = IpRepr::new(B.addr, A.addr, IpProtocol::Tcp, 20, 64);
     establish(&mut socket, &mut cx);
-    assert_eq!(rt; socket.state(), State::Established);
-    assert_eq!(rt;
-        emitted(&mut socket, &mut cx, false),
-        (Some((1001, 0)), true)
-    );
-    assert_eq!(rt; socket.send_slice(b"abcdef"), Ok(4));
-    assert_eq!(rt; (socket.send_queue(), socket.send_capacity()), (4, 4));
+    assert!(rt; socket.state() == State::Established);
+    assert!(rt; emitted(&mut socket, &mut cx, false) == (Some((1001, 0)), true));
+    assert!(rt; socket.send_slice(b"abcdef") == Ok(4));
+    assert!(rt; (socket.send_queue(), socket.send_capacity()) == (4, 4));
     assert!(rt; socket.may_send() && !socket.can_send());
-    assert_eq!(rt;
-        emitted(&mut socket, &mut cx, false),
-        (Some((1001, 4)), true)
-    );
+    assert!(rt; emitted(&mut socket, &mut cx, false) == (Some((1001, 4)), true));
     let data = answer(TcpControl::Psh, 5001, b"xyz");
     assert!(rt; hear(&mut socket, &mut cx, &ip_repr, &data));
     assert!(rt; socket.may_recv() && socket.can_recv());
-    assert_eq!(rt; (socket.recv_queue(), socket.recv_capacity()), (3, 4));
+    assert!(rt; (socket.recv_queue(), socket.recv_capacity()) == (3, 4));
     let mut bytes = [0u8; 8];
-    assert_eq!(rt; socket.recv_slice(&mut bytes), Ok(3));
-    assert_eq!(rt; &bytes[..3], b"xyz".as_slice());
+    assert!(rt; socket.recv_slice(&mut bytes) == Ok(3));
+    assert!(rt; &bytes[..3] == b"xyz".as_slice());
     // the acknowledgement of what was read, with the window free again
-    assert_eq!(rt;
-        emitted(&mut socket, &mut cx, false),
-        (Some((1005, 0)), true)
-    );
+    assert!(rt; emitted(&mut socket, &mut cx, false) == (Some((1005, 0)), true));
     Ok(())
 }
 
@@ -224,14 +203,14 @@ fn tcp_defaults(rt: HostRuntime) -> Result<(), Fail> {
     let mut tx = [0u8; 4];
     let mut socket = Socket::new(RingBuffer::new(&mut rx), RingBuffer::new(&mut tx));
     let delay = Some(Duration::from_millis(10));
-    assert_eq!(rt; settings(&socket), (None, None, delay, None));
-    assert_eq!(rt; congestion(&socket), (true, CongestionControl::Reno));
+    assert!(rt; settings(&socket) == (None, None, delay, None));
+    assert!(rt; congestion(&socket) == (true, CongestionControl::Reno));
     change_all(&mut socket);
     // a reset keeps what the user set
-    assert_eq!(rt; socket.listen(any(80)), Ok(()));
+    assert!(rt; socket.listen(any(80)) == Ok(()));
     let second = Some(Duration::from_secs(1));
-    assert_eq!(rt; settings(&socket), (second, second, None, Some(42)));
-    assert_eq!(rt; congestion(&socket), (false, CongestionControl::None));
+    assert!(rt; settings(&socket) == (second, second, None, Some(42)));
+    assert!(rt; congestion(&socket) == (false, CongestionControl::None));
     Ok(())
 }
 
@@ -244,7 +223,7 @@ fn write_str_keeps_what_fits(rt: HostRuntime) -> Result<(), Fail> {
     establish(&mut socket, &mut cx);
     assert!(rt; socket.write_str("").is_ok());
     assert!(rt; socket.write_str("hello").is_err());
-    assert_eq!(rt; socket.send_queue(), 4);
+    assert!(rt; socket.send_queue() == 4);
     Ok(())
 }
 
@@ -255,9 +234,9 @@ fn closures_that_take_nothing(rt: HostRuntime) -> Result<(), Fail> {
     let mut cx = Host::at(0, 1000);
     let mut socket = Socket::new(RingBuffer::new(&mut rx), RingBuffer::new(&mut tx));
     establish(&mut socket, &mut cx);
-    assert_eq!(rt; socket.send(|free| (0, free.len())), Ok(4));
-    assert_eq!(rt; socket.recv(|queue| (0, queue.len())), Ok(0));
-    assert_eq!(rt; (socket.send_queue(), socket.recv_queue()), (0, 0));
+    assert!(rt; socket.send(|free| (0, free.len())) == Ok(4));
+    assert!(rt; socket.recv(|queue| (0, queue.len())) == Ok(0));
+    assert!(rt; (socket.send_queue(), socket.recv_queue()) == (0, 0));
     Ok(())
 }
 
@@ -286,19 +265,15 @@ fn closures_and_peeks(rt: HostRuntime) -> Result<(), Fail> {
     let mut socket = Socket::new(RingBuffer::new(&mut rx), RingBuffer::new(&mut tx));
     establish(&mut socket, &mut cx);
     let ip_repr = IpRepr::new(B.addr, A.addr, IpProtocol::Tcp, 20, 64);
-    assert_eq!(rt; writes_hi(&mut socket), Ok(()));
-    assert_eq!(rt;
-        emitted(&mut socket, &mut cx, false),
-        (Some((1001, 2)), true)
-    );
+    assert!(rt; writes_hi(&mut socket) == Ok(()));
+    assert!(rt; emitted(&mut socket, &mut cx, false) == (Some((1001, 2)), true));
     let data = answer(TcpControl::Psh, 5001, b"xyz");
     assert!(rt; hear(&mut socket, &mut cx, &ip_repr, &data));
     assert!(rt; peeks(&mut socket, b"xy", b"xyz"));
-    assert_eq!(rt;
-        socket.recv(|queue| (queue.len().min(1), queue.first().copied())),
-        Ok(Some(b'x'))
+    assert!(rt;
+        socket.recv(|queue| (queue.len().min(1), queue.first().copied())) == Ok(Some(b'x'))
     );
-    assert_eq!(rt; socket.recv_queue(), 2);
+    assert!(rt; socket.recv_queue() == 2);
     Ok(())
 }
 
@@ -323,16 +298,16 @@ fn close_and_abort_by_state(rt: HostRuntime) -> Result<(), Fail> {
     let mut cx = Host::at(0, 1000);
     let mut socket = Socket::new(RingBuffer::new(&mut rx), RingBuffer::new(&mut tx));
     establish(&mut socket, &mut cx);
-    assert_eq!(rt; closed(&mut socket), State::FinWait1);
+    assert!(rt; closed(&mut socket) == State::FinWait1);
     assert!(rt; sends_no_more(&mut socket));
-    assert_eq!(rt; closed(&mut socket), State::FinWait1);
+    assert!(rt; closed(&mut socket) == State::FinWait1);
     socket.abort();
-    assert_eq!(rt; socket.state(), State::Closed);
+    assert!(rt; socket.state() == State::Closed);
     assert!(rt; receives_no_more(&mut socket));
-    assert_eq!(rt; socket.listen(any(80)), Ok(()));
-    assert_eq!(rt; closed(&mut socket), State::Closed);
-    assert_eq!(rt; dials(&mut socket, &mut cx, 80, at(A)), Ok(()));
-    assert_eq!(rt; closed(&mut socket), State::Closed);
+    assert!(rt; socket.listen(any(80)) == Ok(()));
+    assert!(rt; closed(&mut socket) == State::Closed);
+    assert!(rt; dials(&mut socket, &mut cx, 80, at(A)) == Ok(()));
+    assert!(rt; closed(&mut socket) == State::Closed);
     Ok(())
 }
 
@@ -355,24 +330,18 @@ fn replies_turn_the_segment_round(rt: HostRuntime) -> Result<(), Fail> {
     let Some((ip_reply, rst)) = rst_of(&ip_repr, &syn) else {
         return Err(Fail::new("no RST answers it"));
     };
-    assert_eq!(rt; ip_reply.src_addr(), A.addr);
-    assert_eq!(rt; ip_reply.dst_addr(), B.addr);
-    assert_eq!(rt; (ip_reply.payload_len(), ip_reply.hop_limit()), (20, 64));
-    assert_eq!(rt; (rst.src_port, rst.dst_port), (A.port, B.port));
-    assert_eq!(rt; rst.control, TcpControl::Rst);
-    assert_eq!(rt;
-        (rst.seq_number.0, rst.ack_number),
-        (0, Some(TcpSeqNumber(5001)))
-    );
+    assert!(rt; ip_reply.src_addr() == A.addr);
+    assert!(rt; ip_reply.dst_addr() == B.addr);
+    assert!(rt; (ip_reply.payload_len(), ip_reply.hop_limit()) == (20, 64));
+    assert!(rt; (rst.src_port, rst.dst_port) == (A.port, B.port));
+    assert!(rt; rst.control == TcpControl::Rst);
+    assert!(rt; (rst.seq_number.0, rst.ack_number) == (0, Some(TcpSeqNumber(5001))));
     let Some((_, rst)) = rst_of(&ip_repr, &answer(TcpControl::None, 5001, b"x")) else {
         return Err(Fail::new("no RST answers it"));
     };
-    assert_eq!(rt; (rst.seq_number.0, rst.ack_number), (1001, None));
+    assert!(rt; (rst.seq_number.0, rst.ack_number) == (1001, None));
     let (_, reply) = Socket::reply(&ip_repr, &syn);
-    assert_eq!(rt;
-        (reply.control, reply.ack_number, reply.window_len),
-        (TcpControl::None, None, 0)
-    );
+    assert!(rt; (reply.control, reply.ack_number, reply.window_len) == (TcpControl::None, None, 0));
     Ok(())
 }
 
@@ -388,7 +357,7 @@ fn timestamps_are_enabled_by_a_generator(rt: HostRuntime) -> Result<(), Fail> {
     assert!(rt; !socket.timestamp_enabled());
     socket.set_tsval_generator(Some(clock));
     assert!(rt; socket.timestamp_enabled());
-    assert_eq!(rt; socket.listen(any(80)), Ok(()));
+    assert!(rt; socket.listen(any(80)) == Ok(()));
     assert!(rt; socket.timestamp_enabled());
     socket.set_tsval_generator(None);
     assert!(rt; !socket.timestamp_enabled());

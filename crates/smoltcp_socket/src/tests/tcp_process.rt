@@ -65,11 +65,11 @@ fn emitted(socket: &mut Socket<'_>) -> Option<(u32, usize)> {
 
 // B listens, and these segments of A and its own SYN|ACK open the connection.
 fn opens(rt: &(impl Abort), socket: &mut Socket<'_>, syn: &TcpRepr<'_>, ack: &TcpRepr<'_>) {
-    assert_eq!(rt; socket.listen(ON_PORT_80), Ok(()));
-    assert_eq!(rt; hear_at(rt, socket, 0, syn), None);
-    assert_eq!(rt; emitted(socket), Some((5000, 0)));
-    assert_eq!(rt; hear_at(rt, socket, 0, ack), None);
-    assert_eq!(rt; socket.state(), State::Established);
+    assert!(rt; socket.listen(ON_PORT_80) == Ok(()));
+    assert!(rt; hear_at(rt, socket, 0, syn) == None);
+    assert!(rt; emitted(socket) == Some((5000, 0)));
+    assert!(rt; hear_at(rt, socket, 0, ack) == None);
+    assert!(rt; socket.state() == State::Established);
 }
 
 fn opens_plainly(rt: &(impl Abort), socket: &mut Socket<'_>) {
@@ -88,10 +88,10 @@ fn cut_fin_is_disregarded(rt: HostRuntime) -> Result<(), Fail> {
         0,
         &segment(TcpControl::Fin, 1001, b"abcdef"),
     );
-    assert_eq!(rt; socket.state(), State::Established);
+    assert!(rt; socket.state() == State::Established);
     let mut bytes = [0u8; 8];
-    assert_eq!(rt; socket.recv_slice(&mut bytes), Ok(4));
-    assert_eq!(rt; &bytes[..4], b"abcd".as_slice());
+    assert!(rt; socket.recv_slice(&mut bytes) == Ok(4));
+    assert!(rt; &bytes[..4] == b"abcd".as_slice());
     Ok(())
 }
 
@@ -102,16 +102,13 @@ fn byte_after_fin(rt: HostRuntime) -> Result<(), Fail> {
     let mut socket = Socket::new(RingBuffer::new(&mut rx), RingBuffer::new(&mut tx));
     opens_plainly(&rt, &mut socket);
     let _ = hear_at(&rt, &mut socket, 0, &segment(TcpControl::Fin, 1001, &[]));
-    assert_eq!(rt; socket.state(), State::CloseWait);
+    assert!(rt; socket.state() == State::CloseWait);
     let _ = hear_at(&rt, &mut socket, 0, &segment(TcpControl::None, 1002, b"x"));
-    assert_eq!(rt;
-        (socket.state(), socket.recv_queue()),
-        (State::CloseWait, 1)
-    );
+    assert!(rt; (socket.state(), socket.recv_queue()) == (State::CloseWait, 1));
     let mut bytes = [0u8; 8];
-    assert_eq!(rt; socket.recv_slice(&mut bytes), Ok(1));
-    assert_eq!(rt; bytes[0], b'x');
-    assert_eq!(rt; socket.recv_slice(&mut bytes), Err(RecvError::Finished));
+    assert!(rt; socket.recv_slice(&mut bytes) == Ok(1));
+    assert!(rt; bytes[0] == b'x');
+    assert!(rt; socket.recv_slice(&mut bytes) == Err(RecvError::Finished));
     Ok(())
 }
 
@@ -134,8 +131,8 @@ fn queued_bytes_are_not_overwritten(rt: HostRuntime) -> Result<(), Fail> {
         &segment(TcpControl::None, 1001, b"XYZd"),
     );
     let mut bytes = [0u8; 8];
-    assert_eq!(rt; socket.recv_slice(&mut bytes), Ok(4));
-    assert_eq!(rt; &bytes[..4], b"abcd".as_slice());
+    assert!(rt; socket.recv_slice(&mut bytes) == Ok(4));
+    assert!(rt; &bytes[..4] == b"abcd".as_slice());
     Ok(())
 }
 
@@ -149,7 +146,7 @@ fn ack_beyond_sent_is_challenged(rt: HostRuntime) -> Result<(), Fail> {
     beyond.ack_number = Some(TcpSeqNumber(5002));
     let challenge = Some((5001, Some(TcpSeqNumber(1001)), 64));
     for (millis, want) in [(0, challenge), (999, None), (1000, challenge)] {
-        assert_eq!(rt; hear_at(&rt, &mut socket, millis, &beyond), want);
+        assert!(rt; hear_at(&rt, &mut socket, millis, &beyond) == want);
     }
     Ok(())
 }
@@ -169,12 +166,12 @@ fn peer_scale_is_capped(rt: HostRuntime) -> Result<(), Fail> {
     let mut ack = segment(TcpControl::None, 1001, &[]);
     ack.window_len = 4;
     opens(&rt, &mut socket, &scaled, &ack);
-    assert_eq!(rt; socket.send_slice(bytes.as_slice()), Ok(70_000));
+    assert!(rt; socket.send_slice(bytes.as_slice()) == Ok(70_000));
     for _ in 0..122 {
         assert!(rt; matches!(emitted(&mut socket), Some((_, 536))));
     }
     assert!(rt; matches!(emitted(&mut socket), Some((_, 144))));
-    assert_eq!(rt; emitted(&mut socket), None);
+    assert!(rt; emitted(&mut socket) == None);
     Ok(())
 }
 
@@ -192,9 +189,9 @@ fn peer_mss_is_raised(rt: HostRuntime) -> Result<(), Fail> {
         &small,
         &segment(TcpControl::None, 1001, &[]),
     );
-    assert_eq!(rt; socket.send_slice(&[b'x'; 100]), Ok(100));
+    assert!(rt; socket.send_slice(&[b'x'; 100]) == Ok(100));
     for want in [Some((5001, 48)), Some((5049, 48)), Some((5097, 4)), None] {
-        assert_eq!(rt; emitted(&mut socket), want);
+        assert!(rt; emitted(&mut socket) == want);
     }
     Ok(())
 }
@@ -211,19 +208,19 @@ fn peer_mss_absent_small_large(rt: HostRuntime) -> Result<(), Fail> {
         let mut ack = segment(TcpControl::None, 1001, &[]);
         ack.window_len = 2000;
         opens(&rt, &mut socket, &sized, &ack);
-        assert_eq!(rt; socket.send_slice(&[b'x'; 1600]), Ok(1600));
-        assert_eq!(rt; emitted(&mut socket), Some((5001, want)));
+        assert!(rt; socket.send_slice(&[b'x'; 1600]) == Ok(1600));
+        assert!(rt; emitted(&mut socket) == Some((5001, want)));
     }
     Ok(())
 }
 
 // The options of a SYN|ACK: window, scale, largest segment, and whether SACK is permitted.
 fn options(rt: &(impl Abort), socket: &mut Socket<'_>) -> (u16, Option<u8>, Option<u16>, bool) {
-    assert_eq!(rt; socket.listen(ON_PORT_80), Ok(()));
+    assert!(rt; socket.listen(ON_PORT_80) == Ok(()));
     let mut repr = syn();
     repr.window_scale = Some(0);
     repr.sack_permitted = true;
-    assert_eq!(rt; hear_at(rt, socket, 0, &repr), None);
+    assert!(rt; hear_at(rt, socket, 0, &repr) == None);
     let mut seen = (0, None, None, false);
     let _ = socket.dispatch(
         &mut Host::at(0, 5000),
@@ -250,7 +247,7 @@ fn window_scale_in_syn_ack(rt: HostRuntime) -> Result<(), Fail> {
         let mut rx = vec![in rt.alloc(); 0u8; capacity]?;
         let mut tx = [0u8; 64];
         let mut socket = Socket::new(RingBuffer::new(rx.as_mut_slice()), RingBuffer::new(&mut tx));
-        assert_eq!(rt; options(&rt, &mut socket), want);
+        assert!(rt; options(&rt, &mut socket) == want);
     }
     Ok(())
 }

@@ -124,14 +124,14 @@ fn udp_bind_validation(rt: HostRuntime) -> Result<(), Fail> {
         PacketBuffer::new(&mut [], &mut []),
         PacketBuffer::new(&mut [], &mut []),
     );
-    assert_eq!(rt; socket.bind(any(0)), Err(BindError::Unaddressable));
+    assert!(rt; socket.bind(any(0)) == Err(BindError::Unaddressable));
     assert!(rt; !socket.is_open());
-    assert_eq!(rt; socket.bind(any(1)), Ok(()));
-    assert_eq!(rt; socket.bind(any(2)), Err(BindError::InvalidState));
+    assert!(rt; socket.bind(any(1)) == Ok(()));
+    assert!(rt; socket.bind(any(2)) == Err(BindError::InvalidState));
     assert!(rt; socket.is_open());
-    assert_eq!(rt; socket.endpoint(), any(1));
+    assert!(rt; socket.endpoint() == any(1));
     socket.close();
-    assert_eq!(rt; socket.endpoint(), any(0));
+    assert!(rt; socket.endpoint() == any(0));
     Ok(())
 }
 
@@ -142,17 +142,14 @@ fn goes_out_after(
     fails: u8,
     whole: Option<(IpRepr, UdpRepr)>,
 ) {
-    assert_eq!(rt; sends(socket, b"abcdef", THERE, 49500), Ok(()));
-    assert_eq!(rt;
-        sends(socket, b"123456", THERE, 49500),
-        Err(SendError::BufferFull)
-    );
-    assert_eq!(rt; socket.poll_at(&Host::new(None)), PollAt::Now);
+    assert!(rt; sends(socket, b"abcdef", THERE, 49500) == Ok(()));
+    assert!(rt; sends(socket, b"123456", THERE, 49500) == Err(SendError::BufferFull));
+    assert!(rt; socket.poll_at(&Host::new(None)) == PollAt::Now);
     for _ in 0..fails {
-        assert_eq!(rt; emitted(socket, true), (whole, false));
+        assert!(rt; emitted(socket, true) == (whole, false));
         assert!(rt; !socket.can_send());
     }
-    assert_eq!(rt; emitted(socket, false), (whole, true));
+    assert!(rt; emitted(socket, false) == (whole, true));
     assert!(rt; socket.can_send());
 }
 
@@ -162,18 +159,18 @@ fn udp_failed_emit_keeps_datagram(rt: HostRuntime) -> Result<(), Fail> {
     let mut places = [PacketMetadata::EMPTY; 1];
     let mut bytes = [0u8; 16];
     let mut socket = sender(&mut places, &mut bytes);
-    assert_eq!(rt; socket.bind(here(53)), Ok(()));
-    assert_eq!(rt; socket.poll_at(&Host::new(None)), PollAt::Ingress);
+    assert!(rt; socket.bind(here(53)) == Ok(()));
+    assert!(rt; socket.poll_at(&Host::new(None)) == PollAt::Ingress);
     let ports = UdpRepr {
         src_port: 53,
         dst_port: 49500,
     };
     let whole = Some((IpRepr::new(HERE, THERE, IpProtocol::Udp, 14, 64), ports));
     for fails in 0..4 {
-        assert_eq!(rt; emitted(&mut socket, false), (None, true));
+        assert!(rt; emitted(&mut socket, false) == (None, true));
         goes_out_after(&rt, &mut socket, fails, whole);
     }
-    assert_eq!(rt; emitted(&mut socket, false), (None, true));
+    assert!(rt; emitted(&mut socket, false) == (None, true));
     Ok(())
 }
 
@@ -185,20 +182,16 @@ fn udp_payload_capacity(rt: HostRuntime) -> Result<(), Fail> {
         PacketBuffer::new(&mut [], &mut []),
         PacketBuffer::new(&mut places, &mut bytes),
     );
-    assert_eq!(rt; socket.bind(any(53)), Ok(()));
-    assert_eq!(rt;
+    assert!(rt; socket.bind(any(53)) == Ok(()));
+    assert!(rt;
         (
             socket.packet_send_capacity(),
             socket.payload_send_capacity()
-        ),
-        (4, 64)
+        ) == (4, 64)
     );
-    assert_eq!(rt;
-        socket.send_slice(&[7; 65], to(THERE, 49500)),
-        Err(SendError::BufferFull)
-    );
-    assert_eq!(rt; socket.send_slice(&[7; 64], to(THERE, 49500)), Ok(()));
-    assert_eq!(rt; socket.send_queue(), 64);
+    assert!(rt; socket.send_slice(&[7; 65], to(THERE, 49500)) == Err(SendError::BufferFull));
+    assert!(rt; socket.send_slice(&[7; 64], to(THERE, 49500)) == Ok(()));
+    assert!(rt; socket.send_queue() == 64);
     Ok(())
 }
 
@@ -207,20 +200,14 @@ fn udp_truncated_slices(rt: HostRuntime) -> Result<(), Fail> {
     let mut places = [PacketMetadata::EMPTY; 2];
     let mut bytes = [0u8; 16];
     let mut socket = receiver(&mut places, &mut bytes);
-    assert_eq!(rt; socket.bind(any(53)), Ok(()));
+    assert!(rt; socket.bind(any(53)) == Ok(()));
     let mut short = [0u8; 4];
     assert!(rt; hear(&mut socket, b"abcdef"));
-    assert_eq!(rt;
-        copies(&mut socket, &mut short),
-        [Err(RecvError::Truncated); 2]
-    );
-    assert_eq!(rt;
-        copies(&mut socket, &mut short),
-        [Err(RecvError::Exhausted); 2]
-    );
+    assert!(rt; copies(&mut socket, &mut short) == [Err(RecvError::Truncated); 2]);
+    assert!(rt; copies(&mut socket, &mut short) == [Err(RecvError::Exhausted); 2]);
     assert!(rt; hear(&mut socket, b"xyz"));
-    assert_eq!(rt; copies(&mut socket, &mut short), [Ok((3, CAME)); 2]);
-    assert_eq!(rt; &short[..3], b"xyz".as_slice());
+    assert!(rt; copies(&mut socket, &mut short) == [Ok((3, CAME)); 2]);
+    assert!(rt; &short[..3] == b"xyz".as_slice());
     Ok(())
 }
 
@@ -232,12 +219,9 @@ fn udp_source_of_another_version(rt: HostRuntime) -> Result<(), Fail> {
         PacketBuffer::new(&mut [], &mut []),
         PacketBuffer::new(&mut places, &mut bytes),
     );
-    assert_eq!(rt; socket.bind(here(53)), Ok(()));
+    assert!(rt; socket.bind(here(53)) == Ok(()));
     let remote = IpAddress::Ipv6(Ipv6Address([1; 16]));
-    assert_eq!(rt;
-        socket.send_slice(b"abcdef", to(remote, 49500)),
-        Err(SendError::Unaddressable)
-    );
+    assert!(rt; socket.send_slice(b"abcdef", to(remote, 49500)) == Err(SendError::Unaddressable));
     Ok(())
 }
 
@@ -248,7 +232,7 @@ fn udp_empty_payload_without_room(rt: HostRuntime) -> Result<(), Fail> {
         PacketBuffer::new(&mut places, &mut []),
         PacketBuffer::new(&mut [], &mut []),
     );
-    assert_eq!(rt; socket.bind(any(53)), Ok(()));
+    assert!(rt; socket.bind(any(53)) == Ok(()));
     assert!(rt; hear(&mut socket, b""));
     match socket.recv() {
         Ok((lent, meta)) => assert!(rt;
@@ -267,8 +251,8 @@ fn udp_accepts_by_bound_address(rt: HostRuntime) -> Result<(), Fail> {
             PacketBuffer::new(&mut [], &mut []),
             PacketBuffer::new(&mut [], &mut []),
         );
-        assert_eq!(rt; socket.bind(bound), Ok(()));
-        assert_eq!(rt; socket.accepts(&Host::new(None), &ip_repr, &REPR), accepted);
+        assert!(rt; socket.bind(bound) == Ok(()));
+        assert!(rt; socket.accepts(&Host::new(None), &ip_repr, &REPR) == accepted);
     }
     Ok(())
 }
@@ -279,14 +263,14 @@ fn udp_send_validation(rt: HostRuntime) -> Result<(), Fail> {
     let mut bytes = [0u8; 16];
     let mut socket = sender(&mut places, &mut bytes);
     let refused = Err(SendError::Unaddressable);
-    assert_eq!(rt; sends(&mut socket, b"abcdef", THERE, 49500), refused);
-    assert_eq!(rt; socket.bind(any(53)), Ok(()));
-    assert_eq!(rt; sends(&mut socket, b"abcdef", NOWHERE, 49500), refused);
-    assert_eq!(rt; sends(&mut socket, b"abcdef", THERE, 0), refused);
-    assert_eq!(rt; sends(&mut socket, b"abcdef", THERE, 49500), Ok(()));
+    assert!(rt; sends(&mut socket, b"abcdef", THERE, 49500) == refused);
+    assert!(rt; socket.bind(any(53)) == Ok(()));
+    assert!(rt; sends(&mut socket, b"abcdef", NOWHERE, 49500) == refused);
+    assert!(rt; sends(&mut socket, b"abcdef", THERE, 0) == refused);
+    assert!(rt; sends(&mut socket, b"abcdef", THERE, 49500) == Ok(()));
     // no address is given, none bound, and the host has none
-    assert_eq!(rt; emitted(&mut socket, false), (None, true));
-    assert_eq!(rt; socket.poll_at(&Host::new(None)), PollAt::Ingress);
+    assert!(rt; emitted(&mut socket, false) == (None, true));
+    assert!(rt; socket.poll_at(&Host::new(None)) == PollAt::Ingress);
     Ok(())
 }
 
@@ -295,16 +279,16 @@ fn udp_hop_limit_and_source(rt: HostRuntime) -> Result<(), Fail> {
     let mut places = [PacketMetadata::EMPTY; 1];
     let mut bytes = [0u8; 16];
     let mut socket = sender(&mut places, &mut bytes);
-    assert_eq!(rt; socket.hop_limit(), None);
+    assert!(rt; socket.hop_limit() == None);
     socket.set_hop_limit(Some(42));
-    assert_eq!(rt; socket.bind(here(53)), Ok(()));
-    assert_eq!(rt; socket.send_slice(b"abcdef", to(THERE, 49500)), Ok(()));
+    assert!(rt; socket.bind(here(53)) == Ok(()));
+    assert!(rt; socket.send_slice(b"abcdef", to(THERE, 49500)) == Ok(()));
     let ports = UdpRepr {
         src_port: 53,
         dst_port: 49500,
     };
     let whole = Some((IpRepr::new(HERE, THERE, IpProtocol::Udp, 14, 42), ports));
-    assert_eq!(rt; emitted(&mut socket, false), (whole, true));
+    assert!(rt; emitted(&mut socket, false) == (whole, true));
     Ok(())
 }
 
@@ -314,9 +298,9 @@ fn udp_full_receive_queue(rt: HostRuntime) -> Result<(), Fail> {
     let mut bytes = [0u8; 16];
     let mut socket = receiver(&mut places, &mut bytes);
     assert!(rt; socket.packet_recv_capacity() == 1 && socket.payload_recv_capacity() == 16);
-    assert_eq!(rt; socket.bind(any(53)), Ok(()));
+    assert!(rt; socket.bind(any(53)) == Ok(()));
     assert!(rt; hear(&mut socket, b"abcdef") && hear(&mut socket, b"abcdef"));
-    assert_eq!(rt; socket.recv_queue(), 6);
+    assert!(rt; socket.recv_queue() == 6);
     assert!(rt; shows(&mut socket, b"abcdef") && gives(&mut socket, b"abcdef"));
     assert!(rt; matches!(socket.recv(), Err(RecvError::Exhausted)) && !socket.can_recv());
     Ok(())
@@ -343,7 +327,7 @@ fn what_stands_in_the_lent_slice_is_sent(rt: HostRuntime) -> Result<(), Fail> {
         PacketBuffer::new(&mut [], &mut []),
         PacketBuffer::new(&mut places, &mut bytes),
     );
-    assert_eq!(rt; socket.bind(here(53)), Ok(()));
+    assert!(rt; socket.bind(here(53)) == Ok(()));
     match socket.send(3, to(THERE, 49500)) {
         Ok(lent) => lent.copy_from_slice(b"abc"),
         Err(_) => assert!(rt; false),
@@ -352,7 +336,7 @@ fn what_stands_in_the_lent_slice_is_sent(rt: HostRuntime) -> Result<(), Fail> {
         lent.fill(7);
         lent.len().min(2)
     });
-    assert_eq!(rt; kept, Ok(2));
+    assert!(rt; kept == Ok(2));
     assert!(rt; emits(&mut socket, b"abc") && emits(&mut socket, &[7, 7]));
     Ok(())
 }
@@ -383,7 +367,7 @@ fn send_changes_the_transmit_queue_alone(rt: HostRuntime) -> Result<(), Fail> {
         PacketBuffer::new(&mut rx_places, &mut rx_bytes),
         PacketBuffer::new(&mut tx_places, &mut tx_bytes),
     );
-    assert_eq!(rt; socket.bind(here(53)), Ok(()));
+    assert!(rt; socket.bind(here(53)) == Ok(()));
     socket.set_hop_limit(Some(9));
     assert!(rt; hear(&mut socket, b"came"));
     // taken, refused for its destination, refused for want of room, and taken
@@ -393,13 +377,13 @@ fn send_changes_the_transmit_queue_alone(rt: HostRuntime) -> Result<(), Fail> {
         (b"four".as_slice(), THERE, Err(SendError::BufferFull), 5),
         (b"new".as_slice(), NEIGHBOUR, Ok(()), 8),
     ] {
-        assert_eq!(rt; lends(&mut socket, data, to(addr, 7)), answer);
-        assert_eq!(rt; socket.send_queue(), queued);
+        assert!(rt; lends(&mut socket, data, to(addr, 7)) == answer);
+        assert!(rt; socket.send_queue() == queued);
     }
     for waits in [b"first".as_slice(), b"new".as_slice()] {
         assert!(rt; holds(&mut socket, Some(9), b"came", waits));
     }
-    assert_eq!(rt; socket.poll_at(&Host::new(None)), PollAt::Ingress);
+    assert!(rt; socket.poll_at(&Host::new(None)) == PollAt::Ingress);
     Ok(())
 }
 
@@ -414,12 +398,12 @@ fn a_refused_send_keeps_what_waits(rt: HostRuntime) -> Result<(), Fail> {
             PacketBuffer::new(&mut rx_places, &mut rx_bytes),
             PacketBuffer::new(&mut tx_places, &mut tx_bytes),
         );
-        assert_eq!(rt; socket.bind(here(53)), Ok(()));
+        assert!(rt; socket.bind(here(53)) == Ok(()));
         assert!(rt; hear(&mut socket, b"came"));
-        assert_eq!(rt; socket.send_slice(b"first", to(THERE, 49500)), Ok(()));
+        assert!(rt; socket.send_slice(b"first", to(THERE, 49500)) == Ok(()));
         assert!(rt; socket.send(size, to(remote, 49500)).is_err());
         assert!(rt; holds(&mut socket, None, b"came", b"first"));
-        assert_eq!(rt; emitted(&mut socket, false), (None, true));
+        assert!(rt; emitted(&mut socket, false) == (None, true));
     }
     Ok(())
 }

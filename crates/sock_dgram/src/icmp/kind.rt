@@ -7,7 +7,7 @@ use control_wire::{Icmpv4Repr, Icmpv6Repr};
 use ip_wire::{Ipv4Repr, Ipv6Repr};
 
 // What a message says beside its body; `H` is the header that an error quotes.
-#[derive(Debug, Clone, Copy)]
+#[derive(Drop)]
 pub(crate) enum Kind<H> {
     Request { ident: u16, seq_no: u16 },
     Reply { ident: u16, seq_no: u16 },

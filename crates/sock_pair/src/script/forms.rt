@@ -1,6 +1,6 @@
 //! What a line asks for, by its form.
 ghost use Rattle.std.specs.Prelude.{◌≡◌, ◌≤◌, ◌∷◌};
-ghost use Rattle.sock_pair.specs.EventValue.{event_value, moment_value};
+ghost use Rattle.pair_core.specs.EventValue.{event_value, moment_value};
 ghost use Rattle.sock_pair.specs.ScriptText.{line_words, words_of};
 ghost use Rattle.sock_pair.specs.ScriptLines.{
   Gives,
@@ -17,15 +17,13 @@ ghost use Rattle.sock_pair.specs.ScriptLines.{
   send_line,
 };
 
-use crate::event::Event;
-use crate::moment::Moment;
 use crate::script::error::ScriptError;
 use crate::script::keyword::Keyword;
 use crate::script::lines::Line;
 use crate::script::values::{is_text, number, side, switch};
 use crate::script::words::{one_word, one_word_and_text, three_words, two_words};
-use crate::setting::Setting;
 use net_base::time::Instant;
+use pair_core::{Event, Moment, Setting};
 use std::alloc::Global;
 
 // The largest values of a line.

@@ -3,7 +3,7 @@ ghost use Rattle.std.specs.Prelude.{◌≡◌};
 ghost use Rattle.sock_pair.specs.ScriptWords.{keyword_of};
 
 /// What a line of a script asks for, as its first word names it.
-#[derive(Debug, Clone, Copy, PartialEq, Eq)]
+#[derive(Clone, Copy)]
 pub enum Keyword {
     Listen,
     Connect,

@@ -2,17 +2,16 @@
 ghost use Rattle.std.specs.Prelude.{◌≡◌, ◌≤◌, IfOk, IfSome, [], None, false, length, vec_len, slice_index};
 ghost use Rattle.net_base.specs.Ring.{ring};
 ghost use Rattle.sock_pair.specs.ReplayEnds.{Reads, StopsWriting};
-ghost use Rattle.sock_pair.specs.NetworkInvariant.{IsLimit};
+ghost use Rattle.pair_core.specs.NetworkInvariant.{IsLimit};
 ghost use Rattle.sock_pair.specs.ReplayRuns.{Plays, PlaysTo, begun, begun_of};
 ghost use Rattle.sock_pair.specs.ReplayScripts.{AreSizes, IsPlayable};
 
-use crate::event::Event;
-use crate::pair::{Pair, Setup};
 use crate::script::Script;
 use crate::script::end::End;
 use crate::script::output::{write_outcomes, write_sides};
 use crate::script::stream::{Sink, Source};
 use ip_wire::{IpAddress, IpEndpoint, Ipv4Address};
+use pair_core::{Event, Pair, Setup};
 use sock_tcp::SocketBuffer;
 use std::alloc::{AllocError, Global};
 

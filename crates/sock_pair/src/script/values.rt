@@ -2,7 +2,7 @@
 ghost use Rattle.std.specs.Prelude.{◌≡◌, ◌≤◌, ◌^◌, ◌<◌, ◌&&◌, nat_le, length, IsTrue, IfSome};
 ghost use Rattle.std.specs.Char.{is_ascii_digit};
 ghost use Rattle.std.specs.List.{list_all};
-ghost use Rattle.sock_pair.specs.NetworkInvariant.{IsLimit};
+ghost use Rattle.pair_core.specs.NetworkInvariant.{IsLimit};
 ghost use Rattle.sock_pair.specs.ScriptWords.{
   is_number,
   is_text,
@@ -13,7 +13,7 @@ ghost use Rattle.sock_pair.specs.ScriptWords.{
   value_of,
 };
 
-use crate::side::Side;
+use pair_core::Side;
 
 /// `a` or `b`; none for any other word.
 #[tactic(auto, unfolding(crate::specs::ScriptWords::side_of))]

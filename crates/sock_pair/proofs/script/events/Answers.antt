@@ -2,7 +2,7 @@ use Rattle.std.proofs.Common.{◌≡◌, map, [], ◌∷◌, ◌++◌, ◌∙◌
 use Rattle.std.specs.Prelude.{is_ok}
 use Rattle.std.proofs.lemmas.List.{map-append}
 use Rattle.std.proofs.lemmas.Result.{err_from_is_err_and}
-use Rattle.sock_pair.specs.EventValue.{event_value}
+use Rattle.pair_core.specs.EventValue.{event_value}
 use Rattle.sock_pair.specs.ScriptText.{lines_left, words_of}
 use Rattle.sock_pair.proofs.ScriptEvents.{HasRead, faults, read_all, read_more, read_none, stops}
 use Rattle.sock_pair.proofs.script.events.Goals as goal

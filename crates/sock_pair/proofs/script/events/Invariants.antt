@@ -1,6 +1,6 @@
 use Rattle.std.proofs.Common.{length, map}
 use Rattle.sock_pair.proofs.ScriptEvents.{HasRead}
-use Rattle.sock_pair.specs.EventValue.{event_value}
+use Rattle.pair_core.specs.EventValue.{event_value}
 use Rattle.sock_pair.specs.ScriptText.{lines_left}
 use Rattle.sock_pair.proofs.script.events.Given as goal
 

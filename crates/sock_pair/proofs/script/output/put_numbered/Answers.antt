@@ -1,6 +1,6 @@
 use Rattle.std.proofs.Common.{◌≡◌, ◌∙◌, ap, refl, length, Some, map, slice_get, option_map}
 use Rattle.std.proofs.lemmas.Option.{slice_get-map, slice_get_read}
-use Rattle.sock_pair.specs.Holding.{stored_of}
+use Rattle.pair_core.specs.Holding.{stored_of}
 use Rattle.sock_pair.proofs.ReplaySinks.{takes_after}
 use Rattle.sock_pair.proofs.script.output.put_numbered.Goals as goal
 

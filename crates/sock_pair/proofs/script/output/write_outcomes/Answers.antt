@@ -1,5 +1,5 @@
 use Rattle.std.proofs.Common.{arith, map}
-use Rattle.sock_pair.specs.Holding.{stored_of}
+use Rattle.pair_core.specs.Holding.{stored_of}
 use Rattle.sock_pair.proofs.ReplaySinks.{appends_line, appends_no_line}
 use Rattle.sock_pair.proofs.script.output.write_outcomes.Goals as goal
 

@@ -1,6 +1,6 @@
 use Rattle.std.proofs.Common.{◌≡◌, false, map, take}
 use Rattle.std.specs.Io.KnownBytes.{Appends}
-use Rattle.sock_pair.specs.Holding.{stored_of}
+use Rattle.pair_core.specs.Holding.{stored_of}
 use Rattle.sock_pair.specs.ReplayLines.{outcome_lines}
 use Rattle.sock_pair.proofs.script.output.write_outcomes.Given as goal
 

@@ -1,0 +1,30 @@
+-- How many bytes a send takes and a read hands out, by whichever call.
+use Rattle.std.proofs.Common.{◌≡◌, ℕ, ◌≤◌, List, length, Option, Some, None, Bool, true, false, arith}
+use Rattle.std.specs.Prelude.{min}
+use Rattle.sock_tcp.specs.Queues.{fitting, readable}
+use Rattle.pair_core.specs.PairCalls.{sending, TakesBytes, HandsOut, HandsOutBytes}
+use Rattle.pair_core.specs.PairViews.{HostView}
+use Rattle.pair_core.specs.declared.outcome.Outcome.{Outcome}
+use Rattle.pair_core.specs.declared.outcome.Outcome.TheVariants as outcome
+
+-- some of the bytes, that fit
+pub record TakesSome (bs : List ℕ) (h : HostView) (o : Outcome) (k : HostView) : Type 0 where
+  pub count : ℕ
+  pub offered : count ≤ length bs
+  pub fits : count ≤ h.control_block.tx_buffer.window
+  pub answer : o ≡ outcome.Accepted count
+  pub host : k ≡ sending h count bs
+
+pub takes_some : (size : Option ℕ) (bs : List ℕ) (h : HostView) (o : Outcome) (k : HostView) → TakesBytes size bs h o k → TakesSome bs h o k
+takes_some None bs h o k x = record { count = fitting h.control_block (length bs); offered = omega arith; fits = omega arith; answer = x.0; host = x.1 }
+takes_some (Some size) bs h o k x = record { count = min size (min (length bs) x.lent); offered = omega arith; fits = omega (arith, x.within); answer = x.answer; host = x.host }
+
+-- some of the bytes that wait
+pub record HandsSome (h : HostView) (o : Outcome) (k : HostView) : Type 0 where
+  pub count : ℕ
+  pub within : count ≤ length h.control_block.rx_buffer.bytes
+  pub does : HandsOut count h o k
+
+pub hands_some : (piece : Bool) (size : ℕ) (h : HostView) (o : Outcome) (k : HostView) → HandsOutBytes piece size h o k → HandsSome h o k
+hands_some true size h o k x = record { count = min size x.lent; within = omega (arith, x.within); does = x.does }
+hands_some false size h o k x = record { count = readable h.control_block size; within = omega arith; does = x }

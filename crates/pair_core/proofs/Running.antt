@@ -1,0 +1,36 @@
+-- One step more of a run.
+use Rattle.std.proofs.Common.{◌≡◌, ℕ, ◌+◌, ◌<◌, refl, sym, ap, subst, ◌∙◌, arith, List, [], ◌∷◌, ◌++◌, length, take, get_or, append_assoc, length-append}
+use Rattle.std.proofs.lemmas.List.{append-nil, take_more}
+use Rattle.pair_core.specs.declared.event.Event.{Event}
+use Rattle.pair_core.specs.declared.outcome.Outcome.{Outcome}
+use Rattle.pair_core.specs.PairViews.{PairView}
+use Rattle.pair_core.specs.PairRuns.{EventRun, Happens, Ran}
+use Rattle.pair_core.proofs.PairAdding.{first_adds_up}
+
+run_more : (es : List Event) (e : Event) (p r q : PairView) (os : List Outcome) (o : Outcome) → EventRun es p os r → Happens e r o q → EventRun (es ++ e ∷ []) p (os ++ o ∷ []) q
+run_more [] e p r q [] o run step = (q, subst (λ z. Happens e z o q) (sym run) step, refl)
+run_more [] e p r q (x ∷ os) o run step = absurd run
+run_more (x ∷ es) e p r q [] o run step = absurd run
+run_more (x ∷ es) e p r q (y ∷ os) o run step = (run.0, run.1, run_more es e run.0 r q os o run.2 step)
+
+ran : (es : List Event) (p q : PairView) (before after os : List Outcome) → after ≡ before ++ os → EventRun (take (length os) es) p os q → Ran es p before after q
+ran es p q before after os are run = record { outcomes = os; are = are; run = run; adds = first_adds_up es p os q run }
+
+-- a run of no event
+pub ran_none : (es : List Event) (p : PairView) (os : List Outcome) → Ran es p os os p
+ran_none es p os = ran es p p os os [] (sym (append-nil os)) refl
+
+-- the run of one event more
+pub ran_more : (es : List Event) (n : ℕ) (e : Event) (p r q : PairView) (before now after : List Outcome) (o : Outcome) → n < length es → e ≡ get_or es n e → length now ≡ length before + n → Ran es p before now r → Happens e r o q → after ≡ now ++ o ∷ [] → Ran es p before after q
+ran_more es n e p r q before now after o l is count d step app =
+    ran es p q before after (d.outcomes ++ o ∷ []) (app ∙ ap (λ xs. xs ++ o ∷ []) d.are ∙ append_assoc before d.outcomes (o ∷ []))
+    (subst (λ xs. EventRun xs p (d.outcomes ++ o ∷ []) q) first (run_more (take (length d.outcomes) es) e p r q d.outcomes o d.run step))
+  where
+    done : length d.outcomes ≡ n
+    done = omega (arith, count, ap length d.are, length-append before d.outcomes)
+
+    more : length (d.outcomes ++ o ∷ []) ≡ n + 1
+    more = omega (arith, done, length-append d.outcomes (o ∷ []))
+
+    first : take (length d.outcomes) es ++ e ∷ [] ≡ take (length (d.outcomes ++ o ∷ [])) es
+    first = ap (λ k. take k es ++ e ∷ []) done ∙ ap (λ x. take n es ++ x ∷ []) is ∙ sym (take_more es n e l) ∙ ap (λ k. take k es) (sym more)

@@ -1,0 +1,499 @@
+-- What `process` does to a socket is an effect of a segment on the two streams.
+use Rattle.std.proofs.Common.{◌≡◌, ℕ, ◌+◌, ◌-◌, ◌%◌, ◌^◌, ◌<◌, ◌≤◌, ◌⊎◌, Bool, true, false, refl, sym, ap, subst, ◌∙◌, arith, List, [], length, drop, Option, Some, None, inl, inr, ⊎_elim}
+use Rattle.std.specs.Prelude.{option_map, not, ◌==◌, if◌then◌else◌}
+use Rattle.std.proofs.lemmas.Bool.{eqb-true}
+use Rattle.std.proofs.lemmas.Bool.Decides.{nat_tests}
+use Rattle.std.proofs.lemmas.List.{drop_all}
+use Rattle.ip_wire.specs.declared.repr.IpRepr.{IpRepr}
+use Rattle.net_base.specs.declared.time.Instant.{Instant}
+use Rattle.control_wire.specs.Seq.{seq_add, seq_sub, seq_eq}
+use Rattle.control_wire.specs.Segment.{Segment}
+use Rattle.control_wire.specs.declared.seq_number.TcpSeqNumber.{TcpSeqNumber}
+use Rattle.control_wire.specs.declared.tcp.TcpControl.{TcpControl}
+use Rattle.control_wire.specs.declared.tcp.TcpControl.TheVariants as control
+use Rattle.sock_core.specs.Places.{number_distance, number_is_before}
+use Rattle.sock_core.specs.Received.{Received, room_of}
+use Rattle.sock_core.specs.Seq.{is_not_after, later_of}
+use Rattle.sock_core.specs.Streams.{fin_length}
+use Rattle.sock_tcp.specs.View.{View, FinSays}
+use Rattle.sock_tcp.specs.Verdict.{verdict_at, verdict_of}
+use Rattle.sock_tcp.specs.Window.{receive_window, is_inside, cut_of, cut_bytes}
+use Rattle.sock_tcp.specs.Acked.{syn_place, acked_places, acked_at, acked_of, nothing_acked}
+use Rattle.sock_tcp.specs.Advance.{advanced, advance_in, counted_control, dropped, fallen_back, fin_counted, moved_to, opened_state, options_taken, syn_answered, syn_received, waiting}
+use Rattle.sock_tcp.specs.Process.{Outcome, stopped, tuple_of, after_table, after_advance, has_window, challenged, outside, bytes_taken, processed_inside, cut_inside, tested, by_verdict, processed, Accepts, AcceptsIn}
+use Rattle.sock_tcp.specs.Steps.{heard}
+use Rattle.sock_tcp.specs.declared.acked.Acked.{Acked}
+use Rattle.sock_tcp.specs.declared.advance.Next.TheVariants as next
+use Rattle.sock_tcp.specs.declared.state.State.{State}
+use Rattle.sock_tcp.specs.declared.state.State.TheVariants as state
+use Rattle.sock_tcp.specs.declared.verdict.Verdict.{Verdict}
+use Rattle.sock_tcp.specs.declared.verdict.Verdict.TheVariants as verdicts
+use Rattle.sock_tcp.specs.declared.window.Cut.{Cut}
+use Rattle.sock_tcp.specs.declared.window.Window.{Window}
+use Rattle.sock_tcp.proofs.Acking.{acked_fits}
+use Rattle.sock_tcp.proofs.Frames.{brought}
+use Rattle.sock_tcp.proofs.Windows.{start_small, end_small, window_width, cut_fits}
+use Rattle.pair_core.specs.PairLaws.{IsBounded}
+use Rattle.pair_core.specs.PairNetwork.{phase_of, shown, stream_segment, is_passive, is_rst, is_syn, IsSmall}
+use Rattle.pair_core.specs.StreamCalls.{HearEffect, ProcessEffect, Nothing, Acknowledgement, FallBack, ResetReply, Syn, SynAck, SynAlone}
+use Rattle.pair_core.specs.StreamEffects.{HearsAck, HearsData}
+use Rattle.pair_core.specs.StreamTables.{OfBytes, OfFin, OfSyn, segment_end}
+use Rattle.pair_core.specs.StreamViews as phase
+use Rattle.pair_core.specs.StreamViews.{Phase, SocketView, StreamSegment, HasIss, KnowsPeer, IsNonSynchronized, IsSynchronized}
+use Rattle.pair_core.proofs.ShownReplies.{Answered, IsAnswer, answers_as, bytes_there, challenged_there, outside_there}
+use Rattle.pair_core.proofs.ShownRows.{answer_in, heard_within, knows_iss, later_same, nxt_alone, nxt_joins, nxt_past_fin}
+use Rattle.pair_core.proofs.ShownSteps.{FinInside, acked_none, acked_some, acked_view, acked_when, challenge_says, counted_fin, counted_plain, counted_rst, heard_shown, knows_peer, passes_syn, passes_with, reset_says}
+use Rattle.pair_core.proofs.ShownWindow.{FinCounts, before_shown, comes, cut_heard, cut_shown, edge_shown, grows, inside_shown, later_shown, offset_shown}
+use Rattle.pair_core.proofs.StreamTables.{passes_heard}
+
+module _ (v : View) (now : Instant) (word : ℕ) (ip : IpRepr) (s : Segment) (at_release at_take then_release then_take : ℕ) (small : IsSmall s) (room : room_of v.rx_buffer ≤ 2 ^ 30) (says : FinSays v.state v.rx_fin_received) (bounds : IsBounded v) (accepted : Accepts v ip s) where
+  abbrev the_segment : StreamSegment
+  the_segment = stream_segment s at_release at_take
+
+  abbrev IsEffect : Outcome → Type 0
+  IsEffect o = ProcessEffect (is_passive v) (shown v) (shown o.view) the_segment (option_map (λ (x : Segment). stream_segment x then_release then_take) o.reply)
+
+  -- its number is remembered
+  abbrev numbered : View
+  numbered = record v { local_rx_last_seq = Some s.seq_number }
+
+  abbrev the_window : Window
+  the_window = receive_window v
+
+  abbrev the_cut : Cut
+  the_cut = cut_of the_window s.seq_number (length s.payload)
+
+  abbrev the_bytes : List ℕ
+  the_bytes = cut_bytes the_cut s.payload
+
+  abbrev in_window : Bool
+  in_window = is_inside the_window s.seq_number (length s.payload)
+
+  abbrev the_control : TcpControl
+  the_control = counted_control s.control the_window s.seq_number (length s.payload)
+
+  abbrev queued : ℕ
+  queued = length v.tx_buffer.bytes
+
+  not_closed : v.state ≡ state.Closed → ⊥
+  not_closed e = subst (λ st. AcceptsIn st v ip s) e accepted
+
+  -- ---- rows that stop
+
+  -- nothing is heard
+  silent : (w : View) → shown w ≡ shown v → IsEffect (stopped w)
+  silent w e = record { heard = shown v; hears = Nothing refl; answers = tt; ends = inl e }
+
+  -- nothing is heard, and the answer acknowledges where the socket stands
+  answered : has_window v.state ≡ true → (o : Outcome) → Answered s (shown v) o → IsEffect o
+  answered w o a =
+      let knows = knows_peer v.state w not_closed in
+      let iss = knows_iss (phase_of v.state) knows in
+      let b = bounds.sending iss in
+      record {
+        heard = shown v;
+        hears = Nothing refl;
+        answers = answers_as s then_release then_take (shown v) o.reply the_segment iss knows (record { flight = b.flight; is = b.snd_nxt; le = b.flight_le }) a.answer;
+        ends = inl a.view;
+      }
+
+  dies : IsEffect (stopped (dropped numbered))
+  dies = record { heard = shown v; hears = Nothing refl; answers = tt; ends = inr (record { phase = refl; transmit_queue = refl; receive_queue = refl; fin = λ e. e }) }
+
+  dies_alone : IsEffect (stopped (dropped v))
+  dies_alone = record { heard = shown v; hears = Nothing refl; answers = tt; ends = inr (record { phase = refl; transmit_queue = refl; receive_queue = refl; fin = λ e. e }) }
+
+  falls_back : v.state ≡ state.SynReceived → is_rst s.control ≡ true → IsEffect (stopped (fallen_back numbered))
+  unfolding fallen_back
+  falls_back es rst = go (v.listen_endpoint.port == 0) refl
+    where
+      go : (b : Bool) → (v.listen_endpoint.port == 0) ≡ b → IsEffect (stopped (record numbered { state = if b then state.Closed else state.Listen; tuple = None }))
+      go true e = dies
+      go false e = record { heard = record (shown v) { phase = phase.Listening }; hears = FallBack rst (ap phase_of es) (ap not e) refl; answers = tt; ends = inl refl }
+
+  -- ---- rows that go on
+
+  -- what such a row leaves: u, in the phase p or CLOSED, with a FIN that counts or none
+  record IsRow (u : View) (p : Phase) : Type 0 where
+    rx : u.rx_buffer ≡ v.rx_buffer
+    fin : u.rx_fin_received ≡ true → (v.rx_fin_received ≡ true) ⊎ FinInside the_window s.seq_number (length s.payload) s.control
+    kept : v.rx_fin_received ≡ true → u.rx_fin_received ≡ true
+    fins : ℕ
+    counts : fin_length u.rx_fin_received ≡ fin_length v.rx_fin_received + fins
+    nxt : (m : ℕ) → (u.remote_seq_no.0 + m) % 2 ^ 32 ≡ (v.remote_seq_no.0 + m + fins) % 2 ^ 32
+    ends : (phase_of u.state ≡ p) ⊎ (phase_of u.state ≡ phase.Dead)
+
+  no_fin : (u : View) (p : Phase) → u.rx_buffer ≡ v.rx_buffer → u.rx_fin_received ≡ v.rx_fin_received → u.remote_seq_no ≡ v.remote_seq_no → (phase_of u.state ≡ p) ⊎ (phase_of u.state ≡ phase.Dead) → IsRow u p
+  no_fin u p rx fin nxt ends = record {
+    rx = rx;
+    fin = λ e. inl (sym fin ∙ e);
+    kept = λ e. fin ∙ e;
+    fins = 0;
+    counts = omega (arith, ap fin_length fin);
+    nxt = λ m. ap (λ (n : TcpSeqNumber). (n.0 + m) % 2 ^ 32) nxt ∙ ap (λ n. n % 2 ^ 32) (omega arith);
+    ends = ends;
+  }
+
+  with_fin : (u : View) (p : Phase) → the_control ≡ control.Fin → v.rx_fin_received ≡ false → u.rx_buffer ≡ v.rx_buffer → u.rx_fin_received ≡ true → u.remote_seq_no ≡ seq_add v.remote_seq_no 1 → (phase_of u.state ≡ p) ⊎ (phase_of u.state ≡ phase.Dead) → IsRow u p
+  with_fin u p ec none rx fin nxt ends = record {
+    rx = rx;
+    fin = λ e. inr (counted_fin the_window s.seq_number (length s.payload) s.control ec);
+    kept = λ e. fin;
+    fins = 1;
+    counts = omega (arith, ap fin_length fin, ap fin_length none);
+    nxt = λ m. ap (λ (n : TcpSeqNumber). (n.0 + m) % 2 ^ 32) nxt ∙ nxt_past_fin v.remote_seq_no.0 m;
+    ends = ends;
+  }
+
+  acks : (k : TcpSeqNumber) → s.ack_number ≡ Some k → the_segment.ack ≡ Some k.0
+  acks k e = ap (λ (o : Option TcpSeqNumber). option_map (λ (x : TcpSeqNumber). x.0) o) e
+
+  -- ---- acknowledgements
+
+  module _ (y : SocketView) (k : TcpSeqNumber) (n : ℕ) (iss : HasIss (phase_of v.state)) (ek : s.ack_number ≡ Some k) (una : y.snd_una ≡ k.0) (queue : y.transmit_queue ≡ drop n v.tx_buffer.bytes) (nxt : y.snd_nxt ≡ (later_of v.remote_last_seq k).0) where
+    of_bytes : y.phase ≡ phase_of v.state → n ≡ seq_sub k v.local_seq_no → n ≤ queued → HearsAck (shown v) y the_segment
+    unfolding number_distance
+    of_bytes ph is le = passes_heard _ _ _ (bounds.sending iss) (OfBytes k.0 (acks k ek) (small.ack k ek) (omega (arith, le, is)) ph una (queue ∙ ap (λ m. drop m v.tx_buffer.bytes) is) (nxt ∙ later_shown v.remote_last_seq k))
+
+    of_syn : phase_of v.state ≡ phase.SynReceived → y.phase ≡ phase.Open → n ≡ seq_sub k v.local_seq_no - 1 → seq_eq k (seq_add v.local_seq_no 1) ≡ true → HearsAck (shown v) y the_segment
+    of_syn from ph is e =
+        let b = bounds.sending iss in
+        let same : k.0 ≡ (seq_add v.local_seq_no 1).0 = eqb-true k.0 (seq_add v.local_seq_no 1).0 e in
+        let none : n ≡ 0 = omega (arith, is, same, b.snd_una) in
+        passes_heard _ _ _ b (OfSyn k.0 (acks k ek) same (inr from) ph una (queue ∙ ap (λ m. drop m v.tx_buffer.bytes) none) (inl (nxt ∙ later_shown v.remote_last_seq k)))
+
+    of_fin : phase_of v.state ≡ phase.FinQueued → y.phase ≡ phase.Silent → n + 1 ≡ seq_sub k v.local_seq_no → n ≡ queued → HearsAck (shown v) y the_segment
+    unfolding number_distance
+    of_fin from ph is all =
+        passes_heard _ _ _ (bounds.sending iss) (OfFin k.0 (acks k ek) (small.ack k ek) (omega (arith, is, all)) from ph una (queue ∙ drop_all n v.tx_buffer.bytes (omega (arith, all))) (nxt ∙ later_shown v.remote_last_seq k))
+
+  -- ---- the bytes of the cut join, or are held
+
+  module _ (here : in_window ≡ true) (plain : is_rst s.control ≡ false) (knows : KnowsPeer (phase_of v.state)) (k : TcpSeqNumber) (ek : s.ack_number ≡ Some k) where
+    held_small : length v.rx_buffer.held ≤ 2 ^ 30
+    held_small = omega (arith, room)
+
+    abbrev after_bytes : View → ℕ → View
+    after_bytes u n = record (acked_view u n (Some k)) { rx_buffer = brought v.rx_buffer the_cut.offset the_bytes }
+
+    abbrev heard_as : View → ℕ → Phase → SocketView
+    heard_as u n p = record (shown (after_bytes u n)) { phase = p }
+
+    data_heard : (u : View) (n : ℕ) (p : Phase) → IsRow u p → HearsData (shown v) (heard_as u n p) the_segment
+    unfolding receive_window
+    data_heard u n p r =
+        let come = comes v.rx_buffer the_cut.offset the_bytes (cut_fits v s.seq_number s.payload held_small small.seq small.payload here) in
+        let wide : seq_sub the_window.end the_window.start ≤ 2 ^ 30 = omega (arith, window_width v held_small, held_small) in
+        let edge = edge_shown the_window.start the_window.end (start_small v) (end_small v) in
+        let c = brought v.rx_buffer the_cut.offset the_bytes in
+        let f : FinCounts (shown v) (heard_as u n p) the_segment ((the_window.start.0 + seq_sub the_window.end the_window.start) % 2 ^ 32) = record {
+          fin = λ e. ⊎_elim inl (λ x. inr (x.is, before_shown the_window.start s.seq_number ∙ x.begins, ap (λ m. number_is_before m (segment_end the_segment)) edge ∙ before_shown the_window.end (seq_add s.seq_number (length s.payload)) ∙ x.ends)) (r.fin e);
+          kept = r.kept;
+          fins = r.fins;
+          counts = r.counts;
+        } in
+        cut_heard (shown v) (heard_as u n p) the_segment (seq_sub the_window.end the_window.start) the_cut.offset the_bytes v.rx_buffer c come (start_small v) small.seq wide small.payload
+        (inside_shown the_window s.seq_number (length s.payload) (start_small v) (end_small v) small.seq wide small.payload here)
+        (cut_shown the_window s.seq_number the_segment (start_small v) (end_small v) refl) (offset_shown the_window s.seq_number the_segment refl) f
+        (r.nxt (length c.bytes) ∙ nxt_joins v.remote_seq_no.0 (length v.rx_buffer.bytes) (length c.bytes) r.fins (grows _ _ _ _ come))
+
+    -- a row that goes on
+    row_heard : (u : View) (a : Acked) (p : Phase) → IsRow u p → HearsAck (shown v) (heard_as u a.len p) the_segment → IsSynchronized p → KnowsPeer p → IsEffect (bytes_taken (heard u now a s) now the_cut.offset the_bytes s)
+    row_heard u a p r ack sync known = record {
+      heard = heard_as u a.len p;
+      hears = Acknowledgement plain knows (data_heard u a.len p r) ack sync;
+      answers = answers_as s then_release then_take (heard_as u a.len p) o.reply the_segment (knows_iss p known) known (heard_within _ _ _ ack) (answer_in s z p o.reply (subst (λ y. IsAnswer s y o.reply) e x.answer));
+      ends = ⊎_elim (λ h. inl (x.view ∙ e ∙ ap (λ q. record z { phase = q }) h)) (λ h. inr (record {
+        phase = ap (λ (y : SocketView). y.phase) (x.view ∙ e) ∙ h;
+        transmit_queue = ap (λ (y : SocketView). y.transmit_queue) (x.view ∙ e);
+        receive_queue = ap (λ (y : SocketView). y.receive_queue) (x.view ∙ e);
+        fin = λ f. sym (ap (λ (y : SocketView). y.fin_counted) (x.view ∙ e)) ∙ f;
+      })) r.ends;
+    }
+      where
+        o : Outcome
+        o = bytes_taken (heard u now a s) now the_cut.offset the_bytes s
+
+        z : SocketView
+        z = shown (after_bytes u a.len)
+
+        x : Answered s (shown (record (heard u now a s) { rx_buffer = brought (heard u now a s).rx_buffer the_cut.offset the_bytes })) o
+        x = bytes_there s now (heard u now a s) the_cut.offset the_bytes
+
+        e : shown (record (heard u now a s) { rx_buffer = brought (heard u now a s).rx_buffer the_cut.offset the_bytes }) ≡ z
+        e = heard_shown now a s the_cut.offset the_bytes u (Some k) ek ∙ ap (λ (b : Received). shown (record (acked_view u a.len (Some k)) { rx_buffer = brought b the_cut.offset the_bytes })) r.rx
+
+    -- ---- the rows of a segment that is no RST
+
+    abbrev places : ℕ
+    places = seq_sub k v.local_seq_no - 0
+
+    abbrev syn_places : ℕ
+    syn_places = seq_sub k v.local_seq_no - 1
+
+    abbrev all_acked : Bool
+    all_acked = is_not_after v.remote_last_seq k
+
+    abbrev row_of : State → TcpControl → Acked → Outcome
+    row_of st c a = after_table (advance_in st c a.fin numbered now (tuple_of ip s) word a.len s) now a the_cut.offset the_bytes s
+
+    abbrev the_acked : Acked
+    the_acked = acked_of v s.control s.ack_number
+
+    acked_in : (st : State) → v.state ≡ st → the_acked ≡ acked_places st k v.remote_last_seq queued (seq_sub k v.local_seq_no - syn_place st)
+    acked_in st es = (λ i. acked_at (es i) s.control (ek i) v.local_seq_no v.remote_last_seq queued) ∙ acked_some s.control st k v.local_seq_no v.remote_last_seq queued plain
+
+    module _ (passed : verdict_of v s.control s.ack_number ≡ verdicts.Pass) where
+      iss : HasIss (phase_of v.state)
+      iss = knows_iss (phase_of v.state) knows
+
+      fits : the_acked.len ≤ queued
+      fits =
+          let b = bounds.sending iss in
+          subst (λ o. (acked_of v s.control o).len ≤ queued) (sym ek) (acked_fits s.control v k b.snd_una (small.ack k ek) b.room (subst (λ o. verdict_of v s.control o ≡ verdicts.Pass) ek passed))
+
+      fits_in : (st : State) → v.state ≡ st → (acked_places st k v.remote_last_seq queued (seq_sub k v.local_seq_no - syn_place st)).len ≤ queued
+      fits_in st es = subst (λ (a : Acked). a.len ≤ queued) (acked_in st es) fits
+
+      unchanged_by : (n : ℕ) → n ≡ n - 0
+      unchanged_by n = omega arith
+
+      -- the acknowledgement of bytes, which leaves the phase
+      bytes_row : (u : View) (a : Acked) → IsRow u (phase_of v.state) → a.len ≡ seq_sub k v.local_seq_no → a.len ≤ queued → u.tx_buffer.bytes ≡ v.tx_buffer.bytes → u.remote_last_seq ≡ v.remote_last_seq → IsSynchronized (phase_of v.state) → IsEffect (bytes_taken (heard u now a s) now the_cut.offset the_bytes s)
+      bytes_row u a r is le tx nxt sync = row_heard u a (phase_of v.state) r
+          (of_bytes (heard_as u a.len (phase_of v.state)) k a.len iss ek refl (ap (drop a.len) tx) (ap (λ (n : TcpSeqNumber). (later_of n k).0) nxt) refl is le) sync knows
+
+      -- the acknowledgement of the own FIN
+      fin_row : (u : View) (a : Acked) → IsRow u phase.Silent → phase_of v.state ≡ phase.FinQueued → a.len + 1 ≡ seq_sub k v.local_seq_no → a.len ≡ queued → u.tx_buffer.bytes ≡ v.tx_buffer.bytes → u.remote_last_seq ≡ v.remote_last_seq → IsEffect (bytes_taken (heard u now a s) now the_cut.offset the_bytes s)
+      fin_row u a r from is all tx nxt = row_heard u a phase.Silent r
+          (of_fin (heard_as u a.len phase.Silent) k a.len iss ek refl (ap (drop a.len) tx) (ap (λ (n : TcpSeqNumber). (later_of n k).0) nxt) from refl is all) tt tt
+
+      -- the acknowledgement of the own SYN
+      syn_row : (u : View) (a : Acked) → v.state ≡ state.SynReceived → IsRow u phase.Open → a.len ≡ syn_places → u.tx_buffer.bytes ≡ v.tx_buffer.bytes → u.remote_last_seq ≡ v.remote_last_seq → IsEffect (bytes_taken (heard u now a s) now the_cut.offset the_bytes s)
+      syn_row u a es r is tx nxt = row_heard u a phase.Open r
+          (of_syn (heard_as u a.len phase.Open) k a.len iss ek refl (ap (drop a.len) tx) (ap (λ (n : TcpSeqNumber). (later_of n k).0) nxt) (ap phase_of es) refl is
+          (passes_syn s.control k v.local_seq_no queued plain ((λ i. verdict_at (sym es i) s.control (sym ek i) v.local_seq_no queued) ∙ passed))) tt tt
+
+      stays_in : (st : State) → v.state ≡ st → (phase_of v.state ≡ phase_of v.state) ⊎ (phase_of v.state ≡ phase.Dead)
+      stays_in st es = inl refl
+
+      says_none : (st : State) → v.state ≡ st → (FinSays st v.rx_fin_received → v.rx_fin_received ≡ false) → v.rx_fin_received ≡ false
+      says_none st es f = f (subst (λ x. FinSays x v.rx_fin_received) es says)
+
+      -- SYN-RECEIVED
+      syn_received_rows : (c : TcpControl) → v.state ≡ state.SynReceived → the_control ≡ c → (c ≡ control.Rst → ⊥) → IsEffect (row_of state.SynReceived c (acked_when false syn_places all_acked))
+      unfolding fin_counted
+      syn_received_rows control.None es ec unreset = syn_row (moved_to state.Established numbered) (acked_when false syn_places all_acked) es (no_fin _ _ refl refl refl (inl refl)) refl refl refl
+      syn_received_rows control.Fin es ec unreset = syn_row (fin_counted state.CloseWait numbered) (acked_when false syn_places all_acked) es (with_fin _ _ ec (says_none _ es (λ e. e)) refl refl refl (inl refl)) refl refl refl
+      syn_received_rows control.Psh es ec unreset = silent numbered refl
+      syn_received_rows control.Syn es ec unreset = silent numbered refl
+      syn_received_rows control.Rst es ec unreset = absurd (unreset refl)
+
+      -- ESTABLISHED
+      established_rows : (c : TcpControl) → v.state ≡ state.Established → the_control ≡ c → (c ≡ control.Rst → ⊥) → places ≤ queued → IsEffect (row_of state.Established c (acked_when false places all_acked))
+      unfolding fin_counted
+      established_rows control.None es ec unreset le = bytes_row numbered (acked_when false places all_acked) (no_fin _ _ refl refl refl (inl refl)) (sym (unchanged_by _)) le refl refl (subst (λ st. IsSynchronized (phase_of st)) (sym es) tt)
+      established_rows control.Fin es ec unreset le = bytes_row (fin_counted state.CloseWait numbered) (acked_when false places all_acked) (with_fin _ _ ec (says_none _ es (λ e. e)) refl refl refl (inl (sym (ap phase_of es)))) (sym (unchanged_by _)) le refl refl (subst (λ st. IsSynchronized (phase_of st)) (sym es) tt)
+      established_rows control.Psh es ec unreset le = silent numbered refl
+      established_rows control.Syn es ec unreset le = silent numbered refl
+      established_rows control.Rst es ec unreset le = absurd (unreset refl)
+
+      -- FIN-WAIT-2
+      fin_wait_2_rows : (c : TcpControl) → v.state ≡ state.FinWait2 → the_control ≡ c → (c ≡ control.Rst → ⊥) → places ≤ queued → IsEffect (row_of state.FinWait2 c (acked_when false places all_acked))
+      unfolding fin_counted
+      fin_wait_2_rows control.None es ec unreset le = bytes_row numbered (acked_when false places all_acked) (no_fin _ _ refl refl refl (inl refl)) (sym (unchanged_by _)) le refl refl (subst (λ st. IsSynchronized (phase_of st)) (sym es) tt)
+      fin_wait_2_rows control.Fin es ec unreset le = bytes_row (waiting now (fin_counted state.TimeWait numbered)) (acked_when false places all_acked) (with_fin _ _ ec (says_none _ es (λ e. e)) refl refl refl (inl (sym (ap phase_of es)))) (sym (unchanged_by _)) le refl refl (subst (λ st. IsSynchronized (phase_of st)) (sym es) tt)
+      fin_wait_2_rows control.Psh es ec unreset le = silent numbered refl
+      fin_wait_2_rows control.Syn es ec unreset le = silent numbered refl
+      fin_wait_2_rows control.Rst es ec unreset le = absurd (unreset refl)
+
+      -- CLOSE-WAIT
+      close_wait_rows : (c : TcpControl) → v.state ≡ state.CloseWait → (c ≡ control.Rst → ⊥) → places ≤ queued → IsEffect (row_of state.CloseWait c (acked_when false places all_acked))
+      close_wait_rows control.None es unreset le = bytes_row numbered (acked_when false places all_acked) (no_fin _ _ refl refl refl (inl refl)) (sym (unchanged_by _)) le refl refl (subst (λ st. IsSynchronized (phase_of st)) (sym es) tt)
+      close_wait_rows control.Fin es unreset le = silent numbered refl
+      close_wait_rows control.Psh es unreset le = silent numbered refl
+      close_wait_rows control.Syn es unreset le = silent numbered refl
+      close_wait_rows control.Rst es unreset le = absurd (unreset refl)
+
+      -- a FIN's place is the last
+      last_place : (places == queued + 1) ≡ true → ((places - 1) + 1 ≡ seq_sub k v.local_seq_no) × (places - 1 ≡ queued)
+      last_place e = let is : places ≡ queued + 1 = eqb-true places (queued + 1) e in (omega (arith, is), omega (arith, is))
+
+      -- FIN-WAIT-1
+      fin_wait_1_rows : (c : TcpControl) (t : Bool) → v.state ≡ state.FinWait1 → the_control ≡ c → (c ≡ control.Rst → ⊥) → (places == queued + 1) ≡ t → (if t then places - 1 else places) ≤ queued → IsEffect (row_of state.FinWait1 c (acked_when t places all_acked))
+      unfolding fin_counted
+      fin_wait_1_rows control.None true es ec unreset e le = fin_row (moved_to state.FinWait2 numbered) (acked_when true places all_acked) (no_fin _ _ refl refl refl (inl refl)) (ap phase_of es) (last_place e).0 (last_place e).1 refl refl
+      fin_wait_1_rows control.None false es ec unreset e le = bytes_row numbered (acked_when false places all_acked) (no_fin _ _ refl refl refl (inl refl)) (sym (unchanged_by _)) le refl refl (subst (λ st. IsSynchronized (phase_of st)) (sym es) tt)
+      fin_wait_1_rows control.Fin true es ec unreset e le = fin_row (waiting now (fin_counted state.TimeWait numbered)) (acked_when true places all_acked) (with_fin _ _ ec (says_none _ es (λ e. e)) refl refl refl (inl refl)) (ap phase_of es) (last_place e).0 (last_place e).1 refl refl
+      fin_wait_1_rows control.Fin false es ec unreset e le = bytes_row (fin_counted state.Closing numbered) (acked_when false places all_acked) (with_fin _ _ ec (says_none _ es (λ e. e)) refl refl refl (inl (sym (ap phase_of es)))) (sym (unchanged_by _)) le refl refl (subst (λ st. IsSynchronized (phase_of st)) (sym es) tt)
+      fin_wait_1_rows control.Psh t es ec unreset e le = silent numbered refl
+      fin_wait_1_rows control.Syn t es ec unreset e le = silent numbered refl
+      fin_wait_1_rows control.Rst t es ec unreset e le = absurd (unreset refl)
+
+      -- CLOSING
+      closing_rows : (c : TcpControl) (t : Bool) → v.state ≡ state.Closing → (c ≡ control.Rst → ⊥) → (places == queued + 1) ≡ t → (if t then places - 1 else places) ≤ queued → IsEffect (row_of state.Closing c (acked_when t places all_acked))
+      closing_rows control.None true es unreset e le = fin_row (waiting now numbered) (acked_when true places all_acked) (no_fin _ _ refl refl refl (inl refl)) (ap phase_of es) (last_place e).0 (last_place e).1 refl refl
+      closing_rows control.None false es unreset e le = bytes_row numbered (acked_when false places all_acked) (no_fin _ _ refl refl refl (inl refl)) (sym (unchanged_by _)) le refl refl (subst (λ st. IsSynchronized (phase_of st)) (sym es) tt)
+      closing_rows control.Fin t es unreset e le = silent numbered refl
+      closing_rows control.Psh t es unreset e le = silent numbered refl
+      closing_rows control.Syn t es unreset e le = silent numbered refl
+      closing_rows control.Rst t es unreset e le = absurd (unreset refl)
+
+      -- LAST-ACK: an acknowledgement of nothing new is challenged
+      last_ack_row : (t : Bool) → v.state ≡ state.LastAck → places ≤ queued → IsEffect (after_advance (if t then next.Challenge else next.Continue) numbered now (acked_when false places all_acked) the_cut.offset the_bytes s)
+      last_ack_row true es le = answered (ap has_window es) (challenged numbered now s) (challenged_there s now numbered (shown v) refl)
+      last_ack_row false es le = bytes_row numbered (acked_when false places all_acked) (no_fin _ _ refl refl refl (inl refl)) (sym (unchanged_by _)) le refl refl (subst (λ st. IsSynchronized (phase_of st)) (sym es) tt)
+
+      last_ack_rows : (c : TcpControl) (t : Bool) → v.state ≡ state.LastAck → (c ≡ control.Rst → ⊥) → (places == queued + 1) ≡ t → (if t then places - 1 else places) ≤ queued → IsEffect (row_of state.LastAck c (acked_when t places all_acked))
+      last_ack_rows control.None true es unreset e le = fin_row (dropped numbered) (acked_when true places all_acked) (no_fin _ _ refl refl refl (inr refl)) (ap phase_of es) (last_place e).0 (last_place e).1 refl refl
+      last_ack_rows control.None false es unreset e le = last_ack_row (places == 0) es le
+      last_ack_rows control.Fin t es unreset e le = silent numbered refl
+      last_ack_rows control.Psh t es unreset e le = silent numbered refl
+      last_ack_rows control.Syn t es unreset e le = silent numbered refl
+      last_ack_rows control.Rst t es unreset e le = absurd (unreset refl)
+
+      -- TIME-WAIT
+      time_wait_rows : (c : TcpControl) → (c ≡ control.Rst → ⊥) → IsEffect (row_of state.TimeWait c (acked_when false places all_acked))
+      time_wait_rows control.None unreset = silent numbered refl
+      time_wait_rows control.Fin unreset = silent numbered refl
+      time_wait_rows control.Psh unreset = silent numbered refl
+      time_wait_rows control.Syn unreset = silent numbered refl
+      time_wait_rows control.Rst unreset = absurd (unreset refl)
+
+      rows : (st : State) → v.state ≡ st → has_window st ≡ true → (the_control ≡ control.Rst → ⊥) → IsEffect (row_of st the_control (acked_places st k v.remote_last_seq queued (seq_sub k v.local_seq_no - syn_place st)))
+      rows state.Closed es w unreset = absurd (not_closed es)
+      rows state.Listen es w unreset = cc
+      rows state.SynSent es w unreset = cc
+      rows state.SynReceived es w unreset = syn_received_rows the_control es refl unreset
+      rows state.Established es w unreset = established_rows the_control es refl unreset (fits_in state.Established es)
+      rows state.FinWait1 es w unreset = fin_wait_1_rows the_control (places == queued + 1) es refl unreset refl (fits_in state.FinWait1 es)
+      rows state.FinWait2 es w unreset = fin_wait_2_rows the_control es refl unreset (fits_in state.FinWait2 es)
+      rows state.CloseWait es w unreset = close_wait_rows the_control es unreset (fits_in state.CloseWait es)
+      rows state.Closing es w unreset = closing_rows the_control (places == queued + 1) es unreset refl (fits_in state.Closing es)
+      rows state.LastAck es w unreset = last_ack_rows the_control (places == queued + 1) es unreset refl (fits_in state.LastAck es)
+      rows state.TimeWait es w unreset = time_wait_rows the_control unreset
+
+      pub plain_rows : has_window v.state ≡ true → (the_control ≡ control.Rst → ⊥) → IsEffect (row_of v.state the_control the_acked)
+      plain_rows w unreset = subst (λ a. IsEffect (row_of v.state the_control a)) (sym (acked_in v.state refl)) (rows v.state refl w unreset)
+
+  -- ---- an RST inside the window
+
+  rst_row : (st : State) (a : Acked) → v.state ≡ st → is_rst s.control ≡ true → IsEffect (after_table (advance_in st control.Rst a.fin numbered now (tuple_of ip s) word a.len s) now a the_cut.offset the_bytes s)
+  rst_row state.SynReceived a es rst = falls_back es rst
+  rst_row _ a es rst = dies
+
+  inside : in_window ≡ true → has_window v.state ≡ true → verdict_of v s.control s.ack_number ≡ verdicts.Pass → IsEffect (cut_inside the_window the_cut v now word ip s)
+  unfolding processed_inside advanced
+  inside here w passed = go the_control refl
+    where
+      other : (the_control ≡ control.Rst → ⊥) → IsEffect (after_table (advance_in v.state the_control (acked_of v s.control s.ack_number).fin numbered now (tuple_of ip s) word (acked_of v s.control s.ack_number).len s) now (acked_of v s.control s.ack_number) the_cut.offset the_bytes s)
+      other unreset =
+          let plain = counted_plain the_window s.seq_number (length s.payload) s.control unreset in
+          let p = passes_with v.state s.control s.ack_number v.local_seq_no queued w plain passed in
+          plain_rows here plain (knows_peer v.state w not_closed) p.0 p.1 passed w unreset
+
+      go : (c : TcpControl) → the_control ≡ c → IsEffect (after_table (advance_in v.state the_control (acked_of v s.control s.ack_number).fin numbered now (tuple_of ip s) word (acked_of v s.control s.ack_number).len s) now (acked_of v s.control s.ack_number) the_cut.offset the_bytes s)
+      go control.Rst e = subst (λ c. IsEffect (after_table (advance_in v.state c (acked_of v s.control s.ack_number).fin numbered now (tuple_of ip s) word (acked_of v s.control s.ack_number).len s) now (acked_of v s.control s.ack_number) the_cut.offset the_bytes s)) (sym e) (rst_row v.state (acked_of v s.control s.ack_number) refl (counted_rst the_window s.seq_number (length s.payload) s.control e))
+      go control.None e = other (λ h. let no : control.None ≡ control.Rst = sym e ∙ h in cc)
+      go control.Psh e = other (λ h. let no : control.Psh ≡ control.Rst = sym e ∙ h in cc)
+      go control.Syn e = other (λ h. let no : control.Syn ≡ control.Rst = sym e ∙ h in cc)
+      go control.Fin e = other (λ h. let no : control.Fin ≡ control.Rst = sym e ∙ h in cc)
+
+  -- ---- LISTEN and SYN-SENT, which take no bytes
+
+  abbrev alone_of : State → TcpControl → Acked → Outcome
+  alone_of st c a = after_table (advance_in st c a.fin v now (tuple_of ip s) word a.len s) now a 0 [] s
+
+  alone : (u : View) (a : Acked) (k : Option TcpSeqNumber) → s.ack_number ≡ k → HearEffect (is_passive v) (shown v) (shown (acked_view u a.len k)) the_segment → IsEffect (bytes_taken (heard u now a s) now 0 [] s)
+  unfolding bytes_taken
+  alone u a k ek h = record { heard = shown (acked_view u a.len k); hears = h; answers = tt; ends = inl (heard_shown now a s 0 [] u k ek) }
+
+  no_bytes : IsNonSynchronized (phase_of v.state) → length v.rx_buffer.bytes ≡ 0
+  no_bytes e = ap length (bounds.unread e)
+
+  listen_syn : v.state ≡ state.Listen → s.control ≡ control.Syn → s.ack_number ≡ None → word < 2 ^ 32 → IsEffect (alone_of state.Listen control.Syn nothing_acked)
+  unfolding syn_received options_taken
+  listen_syn es ec ek word_small =
+      let none = no_bytes (subst (λ st. IsNonSynchronized (phase_of st)) (sym es) tt) in
+      alone (syn_received v now (tuple_of ip s) word s) nothing_acked None ek (Syn word word_small (ap is_rst ec) (ap is_syn ec) (ap phase_of es)
+      (λ i. record (shown v) { phase = phase.SynReceived; snd_una = word; snd_nxt = word; rcv_nxt = nxt_alone s.seq_number.0 (length v.rx_buffer.bytes) none i }))
+
+  listen_rows : (c : TcpControl) → v.state ≡ state.Listen → s.control ≡ c → s.ack_number ≡ None → (c ≡ control.Rst → ⊥) → word < 2 ^ 32 → IsEffect (alone_of state.Listen c nothing_acked)
+  listen_rows control.Syn es ec ek unreset small_word = listen_syn es ec ek small_word
+  listen_rows control.None es ec ek unreset small_word = silent v refl
+  listen_rows control.Psh es ec ek unreset small_word = silent v refl
+  listen_rows control.Fin es ec ek unreset small_word = silent v refl
+  listen_rows control.Rst es ec ek unreset small_word = absurd (unreset refl)
+
+  -- a SYN alone in SYN-SENT
+  syn_alone : v.state ≡ state.SynSent → s.control ≡ control.Syn → s.ack_number ≡ None → IsEffect (alone_of state.SynSent control.Syn nothing_acked)
+  unfolding syn_answered options_taken
+  syn_alone es ec ek =
+      let none = no_bytes (subst (λ st. IsNonSynchronized (phase_of st)) (sym es) tt) in
+      alone (syn_answered v s) nothing_acked None ek (SynAlone ((v.local_seq_no.0 + 1) % 2 ^ 32) (record { flight = 1; is = refl; le = omega arith }) (ap is_rst ec) (ap is_syn ec) (ap phase_of es)
+      (λ i. record (shown v) { phase = phase_of (opened_state (ek i)); snd_nxt = (v.local_seq_no.0 + 1) % 2 ^ 32; rcv_nxt = nxt_alone s.seq_number.0 (length v.rx_buffer.bytes) none i }))
+
+  -- a SYN that acknowledges the own one
+  syn_ack : (k : TcpSeqNumber) (all : Bool) → v.state ≡ state.SynSent → s.control ≡ control.Syn → s.ack_number ≡ Some k → seq_eq k (seq_add v.local_seq_no 1) ≡ true → IsEffect (alone_of state.SynSent control.Syn (acked_when false (seq_sub k v.local_seq_no - 1) all))
+  unfolding syn_answered options_taken
+  syn_ack k all es ec ek e =
+      let none = no_bytes (subst (λ st. IsNonSynchronized (phase_of st)) (sym es) tt) in
+      let b = bounds.sending (subst (λ st. HasIss (phase_of st)) (sym es) tt) in
+      let same : k.0 ≡ (seq_add v.local_seq_no 1).0 = eqb-true k.0 (seq_add v.local_seq_no 1).0 e in
+      let zero : seq_sub k v.local_seq_no - 1 ≡ 0 = omega (arith, same, b.snd_una) in
+      alone (syn_answered v s) (acked_when false (seq_sub k v.local_seq_no - 1) all) (Some k) ek (SynAck (ap is_rst ec) (ap is_syn ec) (ap phase_of es)
+      (passes_heard _ _ _ b (OfSyn k.0 (acks k ek) same (inl (ap phase_of es)) (ap (λ o. phase_of (opened_state o)) ek) refl (ap (λ m. drop m v.tx_buffer.bytes) zero) (inr (later_same (seq_add v.local_seq_no 1) k (sym same)))))
+      (ap (λ o. phase_of (opened_state o)) ek) (nxt_alone s.seq_number.0 (length v.rx_buffer.bytes) none) refl refl refl)
+
+  syn_sent_rows : (c : TcpControl) (o : Option TcpSeqNumber) → v.state ≡ state.SynSent → s.control ≡ c → s.ack_number ≡ o → verdict_at state.SynSent c o v.local_seq_no queued ≡ verdicts.Pass → IsEffect (alone_of state.SynSent c (acked_at state.SynSent c o v.local_seq_no v.remote_last_seq queued))
+  unfolding verdict_at acked_at
+  syn_sent_rows control.Syn None es ec ek p = syn_alone es ec ek
+  syn_sent_rows control.Syn (Some k) es ec ek p = syn_ack k (is_not_after v.remote_last_seq k) es ec ek (go (seq_eq k (seq_add v.local_seq_no 1)) p)
+    where
+      go : (b : Bool) → (if b then verdicts.Pass else verdicts.Reset) ≡ verdicts.Pass → b ≡ true
+      go true e = refl
+      go false e = cc
+  syn_sent_rows control.Rst o es ec ek p = dies_alone
+  syn_sent_rows _ o es ec ek p = silent v refl
+
+  -- ---- the whole
+
+  alone_rows : (st : State) → v.state ≡ st → has_window st ≡ false → verdict_of v s.control s.ack_number ≡ verdicts.Pass → word < 2 ^ 32 → IsEffect (alone_of st s.control (acked_at st s.control s.ack_number v.local_seq_no v.remote_last_seq queued))
+  alone_rows state.Listen es w p small_word =
+      let opens = (subst (λ st. AcceptsIn st v ip s) es accepted).0 in
+      subst (λ a. IsEffect (alone_of state.Listen s.control a)) (sym (acked_none s.control state.Listen s.ack_number v.local_seq_no v.remote_last_seq queued opens.no_ack)) (listen_rows s.control es refl opens.no_ack opens.no_reset small_word)
+  alone_rows state.SynSent es w p small_word = syn_sent_rows s.control s.ack_number es refl refl (ap (λ st. verdict_at st s.control s.ack_number v.local_seq_no queued) (sym es) ∙ p)
+  alone_rows _ es w p small_word = cc
+
+  unwindowed : has_window v.state ≡ false → verdict_of v s.control s.ack_number ≡ verdicts.Pass → word < 2 ^ 32 → IsEffect (processed_inside v now word s.control 0 [] ip s)
+  unfolding processed_inside advanced
+  unwindowed w p small_word = alone_rows v.state refl w p small_word
+
+  windowed : (b : Bool) → in_window ≡ b → has_window v.state ≡ true → verdict_of v s.control s.ack_number ≡ verdicts.Pass → IsEffect (if b then cut_inside the_window the_cut v now word ip s else outside v now s)
+  windowed true here w p = inside here w p
+  windowed false here w p = answered w (outside v now s) (outside_there s now v)
+
+  is_tested : (b : Bool) → has_window v.state ≡ b → verdict_of v s.control s.ack_number ≡ verdicts.Pass → word < 2 ^ 32 → IsEffect (tested b v now word ip s)
+  is_tested true w p small_word = windowed in_window refl w p
+  is_tested false w p small_word = unwindowed w p small_word
+
+  by_the_verdict : (x : Verdict) → verdict_of v s.control s.ack_number ≡ x → word < 2 ^ 32 → IsEffect (by_verdict x v now word ip s)
+  by_the_verdict verdicts.Drop e small_word = silent v refl
+  by_the_verdict verdicts.Reset e small_word =
+      let r = reset_says v.state s.control s.ack_number v.local_seq_no queued e in
+      record {
+        heard = shown v;
+        hears = Nothing refl;
+        answers = ResetReply r.ack.0 refl r.plain (⊎_elim (λ h. inl (ap phase_of h)) (λ h. inr (ap phase_of h)) r.opening) (acks r.ack r.is) (λ h. grind (arith, nat_tests, r.other, h));
+        ends = inl refl;
+      }
+  by_the_verdict verdicts.Challenge e small_word = answered (challenge_says v.state s.control s.ack_number v.local_seq_no queued e) (challenged v now s) (challenged_there s now v (shown v) refl)
+  by_the_verdict verdicts.Pass e small_word = is_tested (has_window v.state) refl e small_word
+
+  pub hears : word < 2 ^ 32 → IsEffect (processed v now word ip s)
+  unfolding processed
+  hears small_word = by_the_verdict (verdict_of v s.control s.ack_number) refl small_word
+
+pub process_heard : (v : View) (now : Instant) (word : ℕ) (ip : IpRepr) (s : Segment) (released taken released_then taken_then : ℕ) → word < 2 ^ 32 → IsSmall s → room_of v.rx_buffer ≤ 2 ^ 30 → FinSays v.state v.rx_fin_received → IsBounded v → Accepts v ip s
+    → ProcessEffect (is_passive v) (shown v) (shown (processed v now word ip s).view) (stream_segment s released taken) (option_map (λ (r : Segment). stream_segment r released_then taken_then) (processed v now word ip s).reply)
+process_heard v now word ip s released taken released_then taken_then word_small small room says bounds accepted = hears v now word ip s released taken released_then taken_then small room says bounds accepted word_small

@@ -1,0 +1,79 @@
+-- A segment in order is queued before `process` returns.
+use Rattle.std.proofs.Common.{◌≡◌, ℕ, ◌^◌, Bool, true, false, refl, sym, ap, subst, ◌∙◌, arith, List, length, Some}
+use Rattle.std.proofs.lemmas.Bool.{eqb-true}
+use Rattle.std.specs.Prelude.{◌==◌, ◌<◌, if◌then◌else◌}
+use Rattle.ip_wire.specs.declared.repr.IpRepr.{IpRepr}
+use Rattle.net_base.specs.declared.time.Instant.{Instant}
+use Rattle.sock_core.proofs.Receiving.{joins_all_at_once}
+use Rattle.sock_core.specs.Received.{Received, taken_in, JoinsAtOnce}
+use Rattle.control_wire.specs.Seq.{seq_sub}
+use Rattle.control_wire.specs.Segment.{Segment}
+use Rattle.control_wire.specs.declared.seq_number.TcpSeqNumber.{TcpSeqNumber}
+use Rattle.control_wire.specs.declared.tcp.TcpControl.{TcpControl}
+use Rattle.sock_tcp.specs.View.{View}
+use Rattle.sock_core.specs.Seq.{is_before, later_of}
+use Rattle.sock_tcp.specs.Window.{next_ack, receive_window, cut_of}
+use Rattle.sock_tcp.specs.declared.window.Cut.{Cut}
+use Rattle.sock_tcp.specs.Acked.{acked_of}
+use Rattle.sock_tcp.specs.Advance.{Advance, advance_in, advanced, counted_control}
+use Rattle.sock_tcp.specs.Steps.{heard}
+use Rattle.sock_tcp.specs.Process.{Outcome, outside, tuple_of, has_window, after_advance, processed_inside, cut_inside, tested, by_verdict, processed}
+use Rattle.sock_tcp.specs.declared.acked.Acked.{Acked}
+use Rattle.sock_tcp.specs.declared.advance.Next.{Next}
+use Rattle.sock_tcp.specs.declared.advance.Next.TheVariants as next
+use Rattle.sock_tcp.proofs.Frames.{brought, bytes_keep, heard_keeps, table_keeps}
+use Rattle.pair_core.specs.PairPromises.{IsInOrder, in_window}
+
+brings_at_once : (b : Received) (bs : List ℕ) → 0 < length bs → JoinsAtOnce b (brought b 0 bs) bs
+brings_at_once b bs some = go (length bs == 0) refl
+  where
+    go : (t : Bool) → (length bs == 0) ≡ t → JoinsAtOnce b (if t then b else taken_in b 0 bs) bs
+    go true e = absurd (omega (arith, some, eqb-true (length bs) 0 e))
+    go false e = joins_all_at_once b bs
+
+-- from the left edge on there is nothing to skip
+at_the_edge : (start number : TcpSeqNumber) → start.0 < 2 ^ 32 → is_before start number ≡ false → seq_sub (later_of start number) start ≡ 0
+unfolding later_of
+at_the_edge start number small e = ap (λ t. seq_sub (if t then number else start) start) e ∙ omega (arith, small)
+
+module _ (v : View) (now : Instant) (word : ℕ) (ip : IpRepr) (s : Segment) (i : IsInOrder v now word ip s) (some : 0 < length (in_window v s)) where
+  abbrev the_cut : Cut
+  the_cut = cut_of (receive_window v) s.seq_number (length s.payload)
+
+  abbrev numbered : View
+  numbered = record v { local_rx_last_seq = Some s.seq_number }
+
+  abbrev the_acked : Acked
+  the_acked = acked_of v s.control s.ack_number
+
+  abbrev the_control : TcpControl
+  the_control = counted_control s.control (receive_window v) s.seq_number (length s.payload)
+
+  abbrev Queues : Outcome → Type 0
+  Queues o = JoinsAtOnce v.rx_buffer o.view.rx_buffer (in_window v s)
+
+  at_once : the_cut.offset ≡ 0
+  unfolding cut_of receive_window
+  at_once = at_the_edge (next_ack v) s.seq_number (omega arith) i.starts
+
+  -- the steps go on from u
+  goes_on : (x : Next) (u : View) → x ≡ next.Continue → u.rx_buffer ≡ v.rx_buffer → Queues (after_advance x u now the_acked the_cut.offset (in_window v s) s)
+  goes_on next.Stop u e q = cc
+  goes_on next.Challenge u e q = cc
+  goes_on next.Continue u e q =
+      let h = heard_keeps s now u the_acked in
+      let k = bytes_keep s now (heard u now the_acked s) the_cut.offset (in_window v s) in
+      subst (λ b. JoinsAtOnce v.rx_buffer b (in_window v s)) (sym (k.rx ∙ (λ j. brought ((h.rx ∙ q) j) (at_once j) (in_window v s)))) (brings_at_once v.rx_buffer (in_window v s) some)
+
+  inside : Queues (cut_inside (receive_window v) the_cut v now word ip s)
+  unfolding processed_inside advanced
+  inside =
+      let t : Advance = advance_in v.state the_control the_acked.fin numbered now (tuple_of ip s) word the_acked.len s in
+      goes_on t.next t.view i.goes_on (table_keeps s now numbered (tuple_of ip s) word the_acked.len v.state the_control the_acked.fin).rx
+
+  is_cut : tested (has_window v.state) v now word ip s ≡ cut_inside (receive_window v) the_cut v now word ip s
+  is_cut = ap (λ b. tested b v now word ip s) i.window ∙ ap (λ b. if b then cut_inside (receive_window v) the_cut v now word ip s else outside v now s) i.inside
+
+  pub queued_at_once : JoinsAtOnce v.rx_buffer (processed v now word ip s).view.rx_buffer (in_window v s)
+  unfolding processed
+  queued_at_once = subst Queues (sym (ap (λ x. by_verdict x v now word ip s) i.passes ∙ is_cut)) inside

@@ -1,0 +1,16 @@
+use Rattle.std.proofs.Common.{refl, rules, arith, None, ap, is_some}
+use Rattle.pair_core.specs.Moments.{facts_of}
+use Rattle.pair_core.proofs.Recordings.{socket_dispatched, dispatch_short, host_dispatched}
+use Rattle.pair_core.proofs.host.Host.dispatch.Goals as goal
+
+pub returns-clause-table : goal.returns-clause-table
+returns-clause-table g c =
+    host_dispatched c.args.moment.now c.args.fail _ c.args.self.now _ c.into_sent.result c.dispatch-answer.new.self.control_block _ c.self.view_is (ap is_some c.dispatch-answer.ensures.generator) c.into_sent.ensures
+    (socket_dispatched _ _ c.args.fail c.args.moment.now.ip_mtu (λ shown left s r h. record { kept = h.1.0; err = h.1.1 }) g.G.TsvalSource.tells c.self.inside.socket.tsval_generator (record { moment = c.args.moment.now; header = None; payload = c.args.room })
+    c.dispatch-answer.new.cx c.self.inside.socket.control_block c.dispatch-answer.new.self.control_block (facts_of c.args.moment.now) c.dispatch-answer.result
+    (record { header = refl; empty = c.requires.empty; len = search rules; room = c.requires.roomy }) (omega (arith, c.args.moment.now.mtu.0)) (omega arith) c.dispatch-answer.ensures.table)
+
+pub returns-clause-short : goal.returns-clause-short
+returns-clause-short g c =
+    let x = returns-clause-table g c in
+    dispatch_short _ _ (facts_of c.args.moment.now) c.args.self.now.stamps c.args.fail c.into_sent.result (omega (arith, c.args.moment.now.mtu.0)) c.args.moment.now.mtu.1 x.socket

@@ -1,0 +1,63 @@
+-- What a dispatch stores.
+use Rattle.std.specs.Prelude.{ℕ, ◌≡◌, ◌≤◌, ◌++◌, ⊤, List, length, drop, Option, Some, None, is_some, IsSomeAnd, Result, Ok, Err, Bool, true, false, not, Vec}
+use Rattle.std.specs.Global.{Global}
+use Rattle.ip_wire.specs.declared.repr.IpRepr.{IpRepr}
+use Rattle.control_wire.specs.Segment.{Segment}
+use Rattle.sock_core.specs.Facts.{Facts}
+use Rattle.sock_tcp.specs.Queue.{IsLent}
+use Rattle.sock_tcp.specs.View.{View, moment_of}
+use Rattle.sock_tcp.specs.Begin.{before_emit}
+use Rattle.sock_tcp.specs.Content.{Sending, asked, offset_of, content}
+use Rattle.sock_tcp.specs.Sent.{left_by}
+use Rattle.sock_tcp.specs.declared.tuple.Tuple.{Tuple}
+use Rattle.pair_core.specs.declared.recorder.EmitFailed.{EmitFailed}
+use Rattle.pair_core.specs.declared.recorder.Recorder.{Recorder}
+use Rattle.pair_core.specs.declared.recorder.Sent.{Sent}
+use Rattle.pair_core.specs.declared.recorder.Sent.TheVariants as sent
+use Rattle.pair_core.specs.declared.segment.Header.{Header}
+use Rattle.pair_core.specs.Holding.{IsHeaderOf}
+
+-- the segment s was stored in new
+pub record Holds (old new : Recorder) (ip : IpRepr) (s : Segment) : Type 0 where
+  pub header : IsSomeAnd new.header (λ h. IsHeaderOf h ip s)
+  pub payload : new.payload.items ≡ old.payload.items ++ s.payload
+
+abbrev pub sent_with : Option Header → Vec ℕ Global → Sent
+sent_with None room = sent.Quiet
+sent_with (Some h) room = sent.Emitted h room
+
+-- what came of a dispatch whose emit answered so
+abbrev pub sent_of : Result (Unit {0}) EmitFailed → Recorder → Sent
+sent_of (Ok u) r = sent_with r.header r.payload
+sent_of (Err e) r = sent.Failed
+
+-- what was emitted has a payload of at most 65535 bytes
+abbrev pub IsShort : Sent → Type 0
+IsShort (sent.Emitted h p) = length p.items ≤ 65535
+IsShort _ = ⊤
+
+-- what is recorded of an emit
+abbrev pub Records : Bool → Option Sending → Sent → Type 0
+Records fail None r = r ≡ sent.Quiet
+Records true (Some s) r = r ≡ sent.Failed
+Records false (Some s) (sent.Emitted h p) = IsHeaderOf h s.ip s.segment × (p.items ≡ s.segment.payload)
+Records false (Some s) _ = ⊥
+
+-- the socket sends to its peer, with a timestamp where it has a source of them (stamps), and for some bytes that its
+-- ring lent
+pub record SendsTo (v : View) (t : Tuple) (f : Facts) (stamps fail : Bool) (r : Sent) (w : View) : Type 0 where
+  pub stamp : Option ℕ
+  pub stamped : is_some stamp ≡ stamps
+  pub bytes : List ℕ
+  pub lent : IsLent (asked v t f (is_some stamp)) (drop (offset_of v) v.tx_buffer.bytes) bytes
+  pub records : Records fail (content v t f stamp bytes) r
+  pub view : w ≡ left_by (content v t f stamp bytes) v (moment_of f) (not fail)
+
+abbrev pub SendsFrom : Option Tuple → View → Facts → Bool → Bool → Sent → View → Type 0
+SendsFrom None v f stamps fail r w = (r ≡ sent.Quiet) × (w ≡ v)
+SendsFrom (Some t) v f stamps fail r w = SendsTo v t f stamps fail r w
+
+-- a whole dispatch of the socket v
+unfoldable pub SocketDispatches : View → Facts → Bool → Bool → Sent → View → Type 0
+SocketDispatches v f stamps fail r w =
+    SendsFrom (before_emit v f stamps).peer (before_emit v f stamps).view f stamps fail r w

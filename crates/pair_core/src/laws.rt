@@ -1,0 +1,124 @@
+//! What the case tables of a socket come to for the theorem on two streams, as laws: functions whose contracts are the
+//! laws and whose bodies are empty. What is proved of a pair stands on them, and looks into no case table of a socket
+//! itself. And what is promised of a pair.
+ghost use Rattle.std.specs.Prelude.{◌≡◌, ℕ, ◌<◌, ◌≤◌, ◌^◌, ◌++◌, List, length, min, take, drop, Option, Some, option_map, is_some, Bool};
+ghost use Rattle.ip_wire.specs.declared.endpoint.IpEndpoint.{IpEndpoint};
+ghost use Rattle.ip_wire.specs.declared.endpoint.IpListenEndpoint.{IpListenEndpoint};
+ghost use Rattle.ip_wire.specs.declared.repr.IpRepr.{IpRepr};
+ghost use Rattle.net_base.specs.declared.time.Instant.{Instant};
+ghost use Rattle.control_wire.specs.Segment.{Segment};
+ghost use Rattle.sock_core.specs.Facts.{Facts};
+ghost use Rattle.sock_core.specs.Received.{room_of};
+ghost use Rattle.sock_tcp.specs.Queue.{IsLent};
+ghost use Rattle.sock_tcp.specs.View.{View, FinSays, moment_of};
+ghost use Rattle.sock_tcp.specs.Opening.{listened, connected};
+ghost use Rattle.sock_tcp.specs.Queues.{queued, read_off};
+ghost use Rattle.pair_core.specs.Settings.{set_in};
+ghost use Rattle.pair_core.specs.declared.setting.Setting.{Setting};
+ghost use Rattle.sock_tcp.specs.Process.{Accepts, processed};
+ghost use Rattle.sock_tcp.specs.Begin.{before_emit};
+ghost use Rattle.sock_tcp.specs.Content.{Sending, asked, offset_of, content};
+ghost use Rattle.sock_tcp.specs.declared.tuple.Tuple.{Tuple};
+ghost use Rattle.pair_core.specs.NetworkRuns.{Reaches, start, unopened};
+ghost use Rattle.pair_core.specs.PairInvariant.{IsPair, IsSized};
+ghost use Rattle.pair_core.specs.PairLaws.{IsBounded, MayEmit};
+ghost use Rattle.pair_core.specs.PairNetwork.{is_passive, network_of, shown, stream_segment, IsSmall};
+ghost use Rattle.pair_core.specs.PairPromises.{Prefix, Release, IsPromptAt};
+ghost use Rattle.pair_core.specs.PairRuns.{EventRun};
+ghost use Rattle.pair_core.specs.PairSteps.{EventStep};
+ghost use Rattle.pair_core.specs.PairStreams.{AddsUp, accepted_by, accepted_in, handed_out_by, handed_out_in};
+ghost use Rattle.pair_core.specs.PairViews.{PairView, new_host, new_pair};
+ghost use Rattle.pair_core.specs.StreamCalls.{ProcessEffect, DispatchEffect};
+ghost use Rattle.pair_core.specs.StreamViews.{Listening, SynSent};
+ghost use Rattle.pair_core.specs.declared.event.Event.{Event};
+ghost use Rattle.pair_core.specs.declared.event.Event.TheVariants.{Deliver};
+ghost use Rattle.pair_core.specs.declared.moment.Moment.{Moment};
+ghost use Rattle.pair_core.specs.declared.outcome.Outcome.{Outcome};
+
+/// What `process` does with a segment that the socket accepts, and what it answers, is one of its effects on the
+/// streams. The answer has any stamps.
+pub fn process_heard()
+    ensures { (v : View) (now : Instant) (word : ℕ) (ip : IpRepr) (s : Segment)
+        (released taken released_then taken_then : ℕ)
+        → word < 2 ^ 32 → IsSmall s → room_of v.rx_buffer ≤ 2 ^ 30 → FinSays v.state v.rx_fin_received → IsBounded v
+        → Accepts v ip s
+        → ProcessEffect (is_passive v) (shown v) (shown (processed v now word ip s).view)
+        (stream_segment s released taken)
+        (option_map (λ r. stream_segment r released_then taken_then) (processed v now word ip s).reply) }
+{}
+
+/// What a dispatch does before it emits anything changes nothing that the streams see, moves SND.NXT back to SND.UNA
+/// for a retransmission, or ends the connection: the user timeout is over, TIME-WAIT is, or the socket's address is
+/// gone.
+pub fn begun_shows()
+    ensures { (v : View) (f : Facts) (stamps : Bool) → IsBounded v
+        → DispatchEffect (shown v) (shown (before_emit v f stamps).view) }
+{}
+
+/// What a dispatch emits, with any timestamp and any bytes that the ring lent, may be emitted; and an emit that
+/// succeeds leaves what may be left.
+pub fn emission_plans()
+    ensures { (v : View) (released taken : ℕ) → IsBounded v → (t : Tuple) (f : Facts) (stamp : Option ℕ)
+        (bytes : List ℕ) → IsLent (asked v t f (is_some stamp)) (drop (offset_of v) v.tx_buffer.bytes) bytes
+        → (c : Sending) → content v t f stamp bytes ≡ Some c → MayEmit v c (moment_of f) released taken }
+{}
+
+/// A socket that `listen` opened shows no more than that it listens.
+pub fn listened_shows()
+    ensures { (v : View) (e : IpListenEndpoint) → shown (listened v e) ≡ record unopened.view { phase = Listening } }
+{}
+
+/// A socket that `connect` opened shows its initial sequence number, the word that was drawn.
+pub fn connected_shows()
+    ensures { (v : View) (t : Tuple) (word : ℕ)
+        → shown (connected v t word) ≡ record unopened.view { phase = SynSent; snd_una = word; snd_nxt = word } }
+{}
+
+/// `send_slice` and `send` append to the transmit queue, and change nothing else that the streams see.
+pub fn queued_shows()
+    ensures { (v : View) (n : ℕ) (bs : List ℕ)
+        → shown (queued v n bs) ≡ record (shown v) { transmit_queue = v.tx_buffer.bytes ++ take n bs } }
+{}
+
+/// The streams see no setting.
+pub fn settings_show_nothing()
+    ensures { (s : Setting) (v : View) → shown (set_in s v) ≡ shown v }
+{}
+
+/// `recv_slice` and `recv` take off the front of the receive queue, and RCV.NXT stays where it is.
+pub fn read_shows()
+    ensures { (v : View) (n : ℕ) → n ≤ length v.rx_buffer.bytes
+        → shown (read_off v n) ≡ record (shown v) { receive_queue = drop n v.rx_buffer.bytes } }
+{}
+
+/// Of every pair, both ways: what one side handed out, followed by its receive queue, is a prefix of what the other
+/// accepted; acknowledgements released only bytes that the other took, and it took only bytes that were accepted.
+pub fn pairs_deliver_in_order()
+    ensures prefix { (p : PairView) → IsPair p → Prefix p }
+    ensures release { (p : PairView) → IsPair p → Release p }
+{}
+
+/// A delivery that a side accepts, of a segment in order, appends the bytes of it that lie in the receive window to the
+/// receive queue before it returns, and behind them what was held there.
+pub fn pairs_deliver_at_once()
+    ensures { (i : ℕ) (m : Moment) (p q : PairView) (o : Outcome) → EventStep (Deliver i m) p o q
+        → IsPromptAt i m p o q }
+{}
+
+/// Each event of a pair is a run of steps of the theorem on two streams, from the network that the pair shows to the
+/// one that it shows afterwards; and a new pair shows the network of two sockets that were never opened.
+pub fn events_are_runs()
+    ensures begins { (v w : View) (a b : IpEndpoint) (x y : Bool) (limit : Option ℕ)
+        → network_of (new_pair (new_host v a x) (new_host w b y) limit) ≡ start limit }
+    ensures step { (e : Event) (p : PairView) (o : Outcome) (q : PairView) → IsPair p → IsSized e p → EventStep e p o q
+        → Reaches (network_of p) (network_of q) }
+{}
+
+/// What an event adds to the streams of each side is what its outcome says: `Accepted(n)` the first n bytes of a send,
+/// `Read` its bytes, any other outcome nothing. So it is with events in turn.
+pub fn outcomes_add_up()
+    ensures step { (e : Event) (p : PairView) (o : Outcome) (q : PairView) → EventStep e p o q
+        → AddsUp p q (λ s. accepted_by s e o) (λ s. handed_out_by s e o) }
+    ensures run { (es : List Event) (p : PairView) (os : List Outcome) (q : PairView) → EventRun es p os q
+        → AddsUp p q (λ s. accepted_in s es os) (λ s. handed_out_in s es os) }
+{}

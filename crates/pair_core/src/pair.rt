@@ -1,0 +1,442 @@
+//! Two sockets, and every segment that they emitted.
+ghost use Rattle.std.specs.Prelude.{◌≡◌, ◌+◌, ◌<◌, ◌≤◌, ◌^◌, length, IfOk, OnOk, OnErr, [], None, false, slice_get, MatchOption, is_some};
+
+use crate::event::Event;
+use crate::exchange::{deliver, dispatch};
+use crate::host::Host;
+use crate::moment::Moment;
+use crate::outcome::{Outcome, PairError};
+use crate::segment::Segment;
+use crate::setting::Setting;
+use crate::side::Side;
+use control_wire::TcpTimestampGenerator;
+use ip_wire::IpEndpoint;
+use sock_tcp::{Generator, Socket, SocketBuffer, TsvalSource};
+use std::alloc::Global;
+use std::marker::Model;
+
+/// What one side of a pair begins with.
+#[derive(Drop)]
+pub struct Setup<'a> {
+    /// The receive buffer: empty, of at most 2^30 bytes.
+    pub rx: SocketBuffer<'a>,
+    /// The transmit buffer: empty, of at most 2^30 bytes.
+    pub tx: SocketBuffer<'a>,
+    /// The side's address and port, neither of them zero.
+    pub endpoint: IpEndpoint,
+    /// The source of timestamps, where there is one: a function that may always be called.
+    pub generator: Option<TcpTimestampGenerator>,
+}
+
+/// Two TCP sockets, A and B, and every segment that they ever emitted, which may be delivered at any time and any
+/// number of times.
+#[derive(Debug, Drop)]
+pub struct Pair<'a, G = Generator> {
+    a: Host<'a, G>,
+    b: Host<'a, G>,
+    segments: Vec<Segment>,
+    limit: Option<u32>,
+    alloc: Global,
+}
+
+impl<'a, G> Model for Pair<'a, G> {
+    ghost use Rattle.std.specs.Prelude.{map};
+    ghost use Rattle.pair_core.specs.PairViews.{PairView};
+    ghost use Rattle.pair_core.specs.Holding.{stored_of};
+    ghost use Rattle.pair_core.specs.PairInvariant.{IsPair};
+
+    ghost Value = { PairView };
+
+    ghost view = { λ p. record { a = p.a; b = p.b; segments = map stored_of p.segments.items; limit = p.limit } };
+
+    ghost invariant = { λ p. IsPair
+        (record { a = p.a; b = p.b; segments = map stored_of p.segments.items; limit = p.limit }) };
+}
+
+impl<'a> Pair<'a> {
+    ghost use Rattle.ip_wire.specs.Address.{SameVersion};
+    ghost use Rattle.sock_core.specs.Received.{receiving};
+    ghost use Rattle.sock_tcp.specs.View.{fresh};
+    ghost use Rattle.sock_tcp.specs.Queue.{queue_of};
+    ghost use Rattle.pair_core.specs.PairViews.{new_host, new_pair};
+    ghost use Rattle.pair_core.specs.PairInvariant.{IsReachable};
+    ghost use Rattle.pair_core.specs.NetworkInvariant.{IsLimit};
+
+    /// Two closed sockets and no segment.
+    ///
+    /// The buffers are empty and of at most 2^30 bytes each; the endpoints are different, specified, of one version,
+    /// and their ports not zero; `limit`, where there is one, is below 2^29 and bounds the bytes that each side
+    /// accepts.
+    pub fn new(alloc: Global, a: Setup<'a>, b: Setup<'a>, limit: Option<u32>) -> Pair<'a>
+        requires a_rx { (a.rx.queue ≡ []) × (length a.rx.spare ≤ 2 ^ 30) }
+        requires a_tx { (a.tx.queue ≡ []) × (length a.tx.spare ≤ 2 ^ 30) }
+        requires b_rx { (b.rx.queue ≡ []) × (length b.rx.spare ≤ 2 ^ 30) }
+        requires b_tx { (b.tx.queue ≡ []) × (length b.tx.spare ≤ 2 ^ 30) }
+        requires a_reachable { IsReachable a.endpoint }
+        requires b_reachable { IsReachable b.endpoint }
+        requires versions { SameVersion a.endpoint.addr b.endpoint.addr }
+        requires different { a.endpoint ≡ b.endpoint → ⊥ }
+        requires a_generator { MatchOption a.generator (Unit {0}) (λ g. IsAlwaysCallable g) }
+        requires b_generator { MatchOption b.generator (Unit {0}) (λ g. IsAlwaysCallable g) }
+        requires limit { IsLimit limit }
+        ensures { result ≡ new_pair
+            (new_host (fresh (receiving a.entry.rx) (queue_of a.entry.tx)) a.entry.endpoint (is_some a.entry.generator))
+            (new_host (fresh (receiving b.entry.rx) (queue_of b.entry.tx)) b.entry.endpoint (is_some b.entry.generator))
+            limit }
+    {
+        Pair {
+            a: Host::new(alloc, a.rx, a.tx, a.endpoint, a.generator),
+            b: Host::new(alloc, b.rx, b.tx, b.endpoint, b.generator),
+            segments: Vec::new(alloc),
+            limit,
+            alloc,
+        }
+    }
+}
+
+impl<'a, G: TsvalSource> Pair<'a, G> {
+    ghost use Rattle.std.specs.Prelude.{map};
+    ghost use Rattle.pair_core.specs.PairViews.{host_of};
+    ghost use Rattle.pair_core.specs.PairCalls.{listening, connecting, OpensAs, is_over, Sends, Receives, Closes, Aborts, Sets};
+    ghost use Rattle.pair_core.specs.PairSteps.{OneSide, OneSideAndSegments, Dispatches, Delivers, DeliveryTakesMemory, TakesMemory, EventStep};
+    ghost use Rattle.pair_core.specs.PairRuns.{Ran};
+    ghost use Rattle.pair_core.specs.PairStreams.{AddsUp, accepted_by, handed_out_by};
+    ghost use Rattle.pair_core.specs.PairPromises.{Prefix, Release, Complete, Prompt};
+    ghost use Rattle.pair_core.specs.Holding.{stored_of};
+    ghost use Rattle.std.specs.Option.{ForSome};
+    ghost use Rattle.pair_core.specs.PairInvariant.{DeliversSmall, IsSocket, IsPair};
+    ghost use Rattle.pair_core.specs.PairNetwork.{IsSmall, network_of};
+    ghost use Rattle.pair_core.specs.NetworkRuns.{Reaches};
+    ghost use Rattle.pair_core.specs.Sides.{other_side};
+
+    fn host(&self, side: Side) -> &Host<'a, G>
+        ensures { result.now ≡ host_of side self.now }
+    {
+        match side {
+            Side::A => &self.a,
+            Side::B => &self.b,
+        }
+    }
+
+    /// All bytes that the side's socket took to send, in order.
+    pub fn accepted(&self, side: Side) -> &[u8]
+        ensures { result.now ≡ (host_of side self.now).accepted }
+    {
+        self.host(side).accepted.as_slice()
+    }
+
+    /// All bytes that the side's socket handed out, in order.
+    pub fn handed_out(&self, side: Side) -> &[u8]
+        ensures { result.now ≡ (host_of side self.now).handed_out }
+    {
+        self.host(side).handed_out.as_slice()
+    }
+
+    /// How many bytes left the side's transmit queue by acknowledgement.
+    pub fn released(&self, side: Side) -> u64
+        ensures { result ≡ (host_of side self.now).released }
+    {
+        self.host(side).released
+    }
+
+    /// How many bytes joined the side's receive queue.
+    pub fn taken(&self, side: Side) -> u64
+        ensures { result ≡ (host_of side self.now).taken }
+    {
+        self.host(side).taken
+    }
+
+    /// Whether a `Close` found the side in ESTABLISHED or CLOSE-WAIT, so that it accepts nothing more.
+    pub fn closed(&self, side: Side) -> bool
+        ensures { result ≡ (host_of side self.now).closed }
+    {
+        self.host(side).closed
+    }
+
+    /// The side's socket.
+    pub fn socket(&self, side: Side) -> &Socket<'a, G>
+        ensures { result.now.control_block ≡ (host_of side self.now).control_block }
+    {
+        &self.host(side).socket
+    }
+
+    /// Every segment that was emitted, the first one first.
+    pub fn segments(&self) -> &[Segment]
+        ensures { map stored_of result.now ≡ self.now.segments }
+    {
+        self.segments.as_slice()
+    }
+
+    fn listen(&mut self, side: Side) -> Outcome
+        ensures { OneSide side self.old self.new (λ h k. OpensAs h.opening h (listening h) result k) }
+    {
+        match side {
+            Side::A => self.a.listen(),
+            Side::B => self.b.listen(),
+        }
+    }
+
+    fn connect(&mut self, side: Side, moment: &Moment) -> Outcome
+        ensures { OneSide side self.old self.new
+            (λ h k. OpensAs h.opening h
+            (connecting h moment.entry.now (host_of (other_side side) self.old).endpoint) result k) }
+    {
+        match side {
+            Side::A => self.a.connect(moment, self.b.endpoint()),
+            Side::B => self.b.connect(moment, self.a.endpoint()),
+        }
+    }
+
+    // Whether so many more bytes of the side are more than the limit.
+    fn is_over_limit(&self, side: Side, count: usize) -> bool
+        requires { count < 2 ^ 63 }
+        ensures { result ≡ is_over self.now.limit (length (host_of side self.now).accepted + count) }
+    {
+        let accepted = match side {
+            Side::A => self.a.accepted_len(),
+            Side::B => self.b.accepted_len(),
+        };
+        match self.limit {
+            None => false,
+            Some(limit) => accepted + count > limit as usize,
+        }
+    }
+
+    // By `send_slice`, or by `send` where the closure takes at most so many.
+    fn send(&mut self, side: Side, bytes: &[u8], take: Option<usize>) -> Result<Outcome, PairError>
+        ensures step { IfOk result
+            (λ o. OneSide side self.old self.new (λ h k. Sends self.old.limit take bytes.now h o k)) }
+        ensures memory { OnErr result (self.new ≡ self.old) }
+        ensures takes_memory { OnErr result
+            (is_over self.old.limit (length (host_of side self.old).accepted + length bytes.now) ≡ false) }
+    {
+        if self.is_over_limit(side, bytes.len()) {
+            return Ok(Outcome::StreamLimit);
+        }
+        self.a.in_range();
+        self.b.in_range();
+        match side {
+            Side::A => self.a.send(bytes, take),
+            Side::B => self.b.send(bytes, take),
+        }
+    }
+
+    // By `recv_slice`, or by `recv`, which takes one piece.
+    fn recv(&mut self, side: Side, size: usize, piece: bool) -> Result<Outcome, PairError>
+        ensures step { IfOk result (λ o. OneSide side self.old self.new (λ h k. Receives piece size h o k)) }
+        ensures memory { OnErr result (self.new ≡ self.old) }
+    {
+        match side {
+            Side::A => self.a.recv(self.alloc, size, piece),
+            Side::B => self.b.recv(self.alloc, size, piece),
+        }
+    }
+
+    fn close(&mut self, side: Side) -> Outcome
+        ensures { OneSide side self.old self.new (λ h k. Closes h result k) }
+    {
+        match side {
+            Side::A => self.a.close(),
+            Side::B => self.b.close(),
+        }
+    }
+
+    fn abort(&mut self, side: Side) -> Outcome
+        ensures { OneSide side self.old self.new (λ h k. Aborts h result k) }
+    {
+        match side {
+            Side::A => self.a.abort(),
+            Side::B => self.b.abort(),
+        }
+    }
+
+    fn set(&mut self, side: Side, setting: Setting) -> Outcome
+        ensures { OneSide side self.old self.new (λ h k. Sets setting h result k) }
+    {
+        match side {
+            Side::A => self.a.set(setting),
+            Side::B => self.b.set(setting),
+        }
+    }
+
+    fn dispatch(&mut self, side: Side, moment: &Moment, fail: bool) -> Result<Outcome, PairError>
+        ensures step { IfOk result
+            (λ o. OneSideAndSegments side self.old self.new (Dispatches side moment.entry.now fail o)) }
+        ensures memory { OnErr result (self.new ≡ self.old) }
+    {
+        match side {
+            Side::A => dispatch(
+                self.alloc,
+                &mut self.a,
+                Side::A,
+                &mut self.segments,
+                moment,
+                fail,
+            ),
+            Side::B => dispatch(
+                self.alloc,
+                &mut self.b,
+                Side::B,
+                &mut self.segments,
+                moment,
+                fail,
+            ),
+        }
+    }
+
+    fn deliver(&mut self, index: usize, moment: &Moment) -> Result<Outcome, PairError>
+        ensures step { IfOk result
+            (λ o. Delivers (slice_get self.old.segments index) moment.entry.now self.old o self.new) }
+        ensures memory { OnErr result (self.new ≡ self.old) }
+        ensures takes_memory { OnErr result (DeliveryTakesMemory (slice_get self.old.segments index) self.old) }
+    {
+        if index >= self.segments.len() {
+            return Ok(Outcome::NoSegment);
+        }
+        let segment = &self.segments[index];
+        segment.in_range();
+        self.a.in_range();
+        self.b.in_range();
+        match segment.from {
+            Side::A => {
+                let counts = self.a.counts();
+                deliver(
+                    self.alloc,
+                    counts,
+                    &mut self.b,
+                    Side::B,
+                    &mut self.segments,
+                    index,
+                    moment,
+                )
+            }
+            Side::B => {
+                let counts = self.b.counts();
+                deliver(
+                    self.alloc,
+                    counts,
+                    &mut self.a,
+                    Side::A,
+                    &mut self.segments,
+                    index,
+                    moment,
+                )
+            }
+        }
+    }
+
+    // Says what every pair keeps, and each socket.
+    fn is_pair(&self)
+        ensures pair { IsPair self.now }
+        ensures a { IsSocket self.now.a.control_block }
+        ensures b { IsSocket self.now.b.control_block }
+    {
+        self.a.in_range();
+        self.b.in_range();
+    }
+
+    // Says that the segment of this index, where there is one, has numbers of 32 bits.
+    fn segment_in_range(&self, index: usize)
+        ensures { ForSome (slice_get self.now.segments index) (λ t. IsSmall t.segment) }
+    {
+        if index < self.segments.len() {
+            self.segments[index].in_range();
+        }
+    }
+
+    fn event_in_range(&self, event: &Event)
+        ensures { DeliversSmall event.now self.now }
+    {
+        match event {
+            Event::Deliver { index, .. } => self.segment_in_range(*index),
+            _ => {}
+        }
+    }
+
+    // So its promises hold.
+    fn keeps_order(&self)
+        ensures prefix { Prefix self.now }
+        ensures release { Release self.now }
+    {
+        self.a.in_range();
+    }
+
+    fn perform(&mut self, event: &Event) -> Result<Outcome, PairError>
+        ensures step { IfOk result (λ o. EventStep event.entry.now self.old o self.new) }
+        ensures prompt { IfOk result (λ o. Prompt event.entry.now self.old o self.new) }
+        ensures memory { OnErr result (self.new ≡ self.old) }
+        ensures takes_memory { OnErr result (TakesMemory event.entry.now self.old) }
+    {
+        match event {
+            Event::Listen { side } => Ok(self.listen(*side)),
+            Event::Connect { side, moment } => Ok(self.connect(*side, moment)),
+            Event::SendSlice { side, bytes } => self.send(*side, bytes.as_slice(), None),
+            Event::Send { side, bytes, take } => self.send(*side, bytes.as_slice(), Some(*take)),
+            Event::RecvSlice { side, size } => self.recv(*side, *size, false),
+            Event::Recv { side, take } => self.recv(*side, *take, true),
+            Event::Close { side } => Ok(self.close(*side)),
+            Event::Abort { side } => Ok(self.abort(*side)),
+            Event::Set { side, setting } => Ok(self.set(*side, *setting)),
+            Event::Dispatch { side, moment, fail } => self.dispatch(*side, moment, *fail),
+            Event::Deliver { index, moment } => self.deliver(*index, moment),
+        }
+    }
+
+    /// Performs one event and answers its outcome.
+    ///
+    /// The event meets the case table of its call, and the other side's socket stays as it was. Afterwards what each
+    /// side handed out, followed by its receive queue, is a prefix of what the other accepted, and acknowledgements
+    /// have released only bytes that the other took. The bytes of a segment in order that lie in the receive window
+    /// are queued before its delivery returns, and behind them what was held there. The event is a run of steps of the
+    /// theorem on two streams, and adds to the streams what its outcome says.
+    ///
+    /// A read that answers `Finished` found the other side closed and all its bytes handed out, and what a closed side
+    /// accepted stays as it is.
+    ///
+    /// `Memory` where a growth was refused; the pair is then as it was. `Listen`, `Connect`, `Close`, `Abort` and
+    /// `Set` take no memory, nor does an event that comes to one of the last five outcomes.
+    pub fn step(&mut self, event: &Event) -> Result<Outcome, PairError>
+        ensures step { IfOk result (λ o. EventStep event.entry.now self.old o self.new) }
+        ensures adds { IfOk result (λ o. AddsUp self.old self.new (λ s. accepted_by s event.entry.now o)
+            (λ s. handed_out_by s event.entry.now o)) }
+        ensures streams { Reaches (network_of self.old) (network_of self.new) }
+        ensures prefix { Prefix self.new }
+        ensures release { Release self.new }
+        ensures complete { IfOk result (λ o. Complete event.entry.now self.old o self.new) }
+        ensures prompt { IfOk result (λ o. Prompt event.entry.now self.old o self.new) }
+        ensures memory { OnErr result (self.new ≡ self.old) }
+        ensures takes_memory { OnErr result (TakesMemory event.entry.now self.old) }
+    {
+        self.is_pair();
+        self.event_in_range(event);
+        let outcome = self.perform(event);
+        self.keeps_order();
+        outcome
+    }
+
+    /// Performs the events in turn, and adds the outcome of each to `outcomes`.
+    ///
+    /// What `step` promises holds of each event and after each of them. So what each side accepted and handed out is
+    /// what it had before, followed by what the added outcomes say in turn.
+    ///
+    /// `Memory` where a growth was refused; the events before that one were done, and `outcomes` has gained exactly
+    /// their outcomes.
+    pub fn run(&mut self, events: &[Event], outcomes: &mut Vec<Outcome>) -> Result<(), PairError>
+        ensures streams { Reaches (network_of self.old) (network_of self.new) }
+        ensures prefix { Prefix self.new }
+        ensures release { Release self.new }
+        ensures done { Ran events.now self.old outcomes.old.items outcomes.new.items self.new }
+        ensures all { OnOk result (length outcomes.new.items ≡ length outcomes.old.items + length events.now) }
+        ensures memory { OnErr result (length outcomes.new.items < length outcomes.old.items + length events.now) }
+    {
+        self.keeps_order();
+        for event in events {
+            if let Err(_) = outcomes.reserve(1) {
+                return Err(PairError::Memory);
+            }
+            let outcome = self.step(event)?;
+            outcomes.push_reserved(outcome);
+        }
+        Ok(())
+    }
+}

@@ -1,0 +1,147 @@
+//! Worked examples of addresses, checksums and IP headers.
+
+use ip_wire::*;
+use std::test::Fail;
+
+const A: IpAddress = IpAddress::Ipv4(Ipv4Address([10, 0, 0, 1]));
+
+const B: IpAddress = IpAddress::Ipv6(Ipv6Address([
+    0x20, 0x01, 0x0d, 0xb8, 0, 0, 0, 0, 0, 0, 0, 0, 0, 0, 0, 0xfe,
+]));
+
+#[test]
+fn endpoints_are_printed(rt: HostRuntime) -> Result<(), Fail> {
+    let a = IpEndpoint { addr: A, port: 80 };
+    let b = IpEndpoint {
+        addr: B,
+        port: 49152,
+    };
+    let text = format!(in rt.alloc(); "{a} {b}")?;
+    let want = "10.0.0.1:80 [2001:0db8:0000:0000:0000:0000:0000:00fe]:49152";
+    assert!(rt; text.as_str() == want);
+    Ok(())
+}
+
+#[test]
+fn addresses_and_protocols(rt: HostRuntime) {
+    assert!(rt; A.version() == IpVersion::Ipv4);
+    assert!(rt; !A.is_unspecified() && !B.is_multicast());
+    assert!(rt; IpAddress::Ipv6(Ipv6Address([0; 16])).is_unspecified());
+    assert!(rt; IpAddress::Ipv4(Ipv4Address([239, 0, 0, 1])).is_multicast());
+    assert!(rt; IpVersion::of_packet(&[0x6f]) == Ok(IpVersion::Ipv6));
+    assert!(rt; IpVersion::of_packet(&[]).is_err());
+    assert!(rt; IpProtocol::from(17u8) == IpProtocol::Udp);
+    assert!(rt; u8::from(IpProtocol::from(99u8)) == 99);
+}
+
+#[test]
+fn headers(rt: HostRuntime) {
+    let mut repr = IpRepr::new(A, A, IpProtocol::Tcp, 20, 64);
+    repr.set_payload_len(24);
+    assert!(rt; repr.version() == IpVersion::Ipv4);
+    assert!(rt; repr.src_addr() == repr.dst_addr());
+    assert!(rt; repr.next_header() == IpProtocol::Tcp);
+    assert!(rt; (repr.payload_len(), repr.header_len()) == (24, 20));
+    assert!(rt; repr.hop_limit() == 64);
+}
+
+#[test]
+fn defaults(rt: HostRuntime) {
+    let none = IpListenEndpoint::default();
+    assert!(rt; none.addr.is_none() && none.port == 0);
+    let listen = IpListenEndpoint::from(IpEndpoint { addr: A, port: 7 });
+    assert!(rt; listen.addr == Some(A));
+    let caps = ChecksumCapabilities::default();
+    assert!(rt; caps.tcp.tx() && caps.icmpv6.rx());
+    assert!(rt; !ChecksumCapabilities::ignored().ipv4.tx());
+}
+
+// The example of RFC 1071, section 3, and the header of a packet whose checksum is known.
+const SUMMED: [u8; 8] = [0x00, 0x01, 0xf2, 0x03, 0xf4, 0xf5, 0xf6, 0xf7];
+
+const KNOWN: [u8; 20] = [
+    0x45, 0, 0, 0x73, 0, 0, 0x40, 0, 0x40, 0x11, 0xb8, 0x61, 0xc0, 0xa8, 0, 1, 0xc0, 0xa8, 0, 0xc7,
+];
+
+#[test]
+fn known_checksums(rt: HostRuntime) {
+    assert!(rt; sum::sum_after(0, &SUMMED) == 0xddf2);
+    assert!(rt; sum::checksum_after(0, &SUMMED) == 0x220d);
+    // an odd last byte is the high half of a word
+    assert!(rt; sum::sum_after(0, &[0x12, 0x34, 0x56]) == 0x6834);
+    // the carry comes in at the other end
+    assert!(rt; sum::ones_add(0xffff, 1) == 1);
+    assert!(rt; octets::word(1, 2) == 0x0102);
+    assert!(rt; sum::sum_after(0, &KNOWN) == 0xffff);
+}
+
+#[test]
+fn checksums_are_filled(rt: HostRuntime) {
+    let mut bytes = [0; 115];
+    bytes[..20].copy_from_slice(&KNOWN);
+    // what the length field says is there
+    assert!(rt; Ipv4Packet::new_checked(&bytes[..114]).is_err());
+    if Ipv4Packet::new_checked(&bytes).is_ok() {
+        Ipv4Packet::set_checksum(&mut bytes, 0x1234);
+    }
+    assert!(rt; (bytes[10], bytes[11]) == (0x12, 0x34));
+    if Ipv4Packet::new_checked(&bytes).is_ok() {
+        Ipv4Packet::fill_checksum(&mut bytes);
+    }
+    assert!(rt; bytes[..20] == KNOWN[..]);
+}
+
+#[test]
+fn headers_are_written_and_read(rt: HostRuntime) -> Result<(), Fail> {
+    let caps = ChecksumCapabilities::default();
+    let to = IpAddress::Ipv4(Ipv4Address([10, 0, 0, 2]));
+    let repr = IpRepr::new(A, to, IpProtocol::Unknown(63), 4, 64);
+    let mut bytes = [1; 24];
+    repr.emit(&mut bytes, &caps);
+    let want = [
+        0x45, 0, 0, 0x18, 0, 0, 0x40, 0, 0x40, 0x3f, 0x26, 0xa5, 10, 0, 0, 1, 10, 0, 0, 2, 1, 1, 1,
+        1,
+    ];
+    assert!(rt; bytes == want);
+    let packet = Ipv4Packet::new_checked(&bytes)?;
+    assert!(rt; packet.next_header() == IpProtocol::Unknown(63));
+    assert!(rt; packet.payload() == &[1; 4][..]);
+    assert!(rt; Ipv4Repr::parse(&packet, &caps).map(IpRepr::Ipv4) == Ok(repr));
+    // a byte that changed is seen only where checksums are tested
+    bytes[8] = 63;
+    let packet = Ipv4Packet::new_checked(&bytes)?;
+    assert!(rt; Ipv4Repr::parse(&packet, &caps).is_err());
+    assert!(rt; Ipv4Repr::parse(&packet, &ChecksumCapabilities::ignored()).is_ok());
+    Ok(())
+}
+
+#[test]
+fn ipv6_headers(rt: HostRuntime) -> Result<(), Fail> {
+    let repr = IpRepr::new(B, B, IpProtocol::Icmpv6, 2, 255);
+    let mut bytes = [7; 42];
+    repr.emit(&mut bytes, &ChecksumCapabilities::default());
+    assert!(rt; bytes[..8] == [0x60, 0, 0, 0, 0, 2, 58, 255][..]);
+    let packet = Ipv6Packet::new_checked(&bytes)?;
+    assert!(rt; packet.next_header() == IpProtocol::Icmpv6);
+    assert!(rt; packet.payload() == &[7, 7][..]);
+    assert!(rt; Ipv6Repr::parse(&packet).map(IpRepr::Ipv6) == Ok(repr));
+    assert!(rt; Ipv6Packet::new_checked(&bytes[..41]).is_err());
+    assert!(rt; Ipv6Packet::new_checked(&[0; 39]).is_err());
+    // the version is tested by parse alone
+    assert!(rt; Ipv6Repr::parse(&Ipv6Packet::new_checked(&[0; 40])?).is_err());
+    Ok(())
+}
+
+#[test]
+fn shortest_ipv4(rt: HostRuntime) {
+    let mut bytes = [0; 20];
+    bytes[0] = 0x45;
+    bytes[3] = 20;
+    assert!(rt; Ipv4Packet::new_checked(&bytes).is_ok());
+    assert!(rt; Ipv4Packet::new_checked(&bytes[..19]).is_err());
+    // a header of 16 bytes, and a total length below that of the header
+    bytes[0] = 0x44;
+    assert!(rt; Ipv4Packet::new_checked(&bytes).is_err());
+    bytes[0] = 0x46;
+    assert!(rt; Ipv4Packet::new_checked(&bytes).is_err());
+}

@@ -1,5 +1,0 @@
-use Rattle.sock_pair.proofs.PairReaches.{event_reaches, new_shows}
-use Rattle.sock_pair.proofs.laws.events_are_runs.Goals as goal
-
-pub returns : goal.returns
-returns c = record { begins = new_shows; step = event_reaches }

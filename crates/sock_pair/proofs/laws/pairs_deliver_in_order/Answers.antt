@@ -1,8 +1,0 @@
-use Rattle.sock_pair.proofs.PairPromises.{keeps_prefix, keeps_release}
-use Rattle.sock_pair.proofs.laws.pairs_deliver_in_order.Goals as goal
-
-pub returns-clause-prefix : goal.returns-clause-prefix
-returns-clause-prefix c = keeps_prefix
-
-pub returns-clause-release : goal.returns-clause-release
-returns-clause-release c = keeps_release

@@ -1,6 +1,0 @@
-use Rattle.std.proofs.Common.{subst, sym}
-use Rattle.sock_pair.specs.PairInvariant.{DeliversSmall}
-use Rattle.sock_pair.proofs.pair.Pair.event_in_range.Goals as goal
-
-pub returns-in-Deliver : goal.returns-in-Deliver
-returns-in-Deliver g c = subst (λ e. DeliversSmall e c.args.self.now) (sym c.in-Deliver.is) c.segment_in_range.ensures

@@ -1,6 +1,0 @@
-use Rattle.std.proofs.Common.{subst}
-use Rattle.sock_pair.specs.PairInvariant.{IsPair}
-use Rattle.sock_pair.proofs.pair.Pair.is_pair.Goals as goal
-
-pub returns-clause-pair : goal.returns-clause-pair
-returns-clause-pair g c = subst IsPair c.self.view_is c.self.invariant

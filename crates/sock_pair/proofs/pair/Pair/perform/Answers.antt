@@ -1,5 +1,0 @@
-use Rattle.sock_pair.proofs.PairPromises.{prompt_delivery}
-use Rattle.sock_pair.proofs.pair.Pair.perform.Goals as goal
-
-pub returns-in-Deliver-clause-prompt : goal.returns-in-Deliver-clause-prompt
-returns-in-Deliver-clause-prompt g c = prompt_delivery c.args.event.now c.in-Deliver.index c.in-Deliver.moment c.args.self.now c.deliver.new.self c.deliver.result c.in-Deliver.is c.deliver.ensures.step

@@ -1,5 +1,0 @@
-use Rattle.sock_pair.proofs.NetworkDeliveries.{sending_bounds, nothing_received}
-use Rattle.sock_pair.proofs.streams.bounds_of_a_socket.Goals as goal
-
-pub returns : goal.returns
-returns c = record { sending = sending_bounds; receiving = nothing_received }

@@ -1,5 +1,0 @@
-use Rattle.sock_pair.proofs.StreamCut.{cut_places}
-use Rattle.sock_pair.proofs.streams.cut_is_that_of_places.Goals as goal
-
-pub returns : goal.returns
-returns c = cut_places

@@ -1,5 +1,0 @@
-use Rattle.sock_pair.proofs.StreamTables.{passes_heard}
-use Rattle.sock_pair.proofs.streams.passing_acknowledgement_is_heard.Goals as goal
-
-pub returns : goal.returns
-returns c = λ v w g bounds passes. passes_heard v w g bounds passes
