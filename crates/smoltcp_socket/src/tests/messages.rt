@@ -35,6 +35,10 @@ fn udp_source_ports(rt: HostRuntime) {
     assert!(rt; udp_source(&shortest[..7], &A, &B, &caps) == None);
 }
 
+fn tcp_port(bytes: &[u8], caps: &ChecksumCapabilities) -> Option<u16> {
+    tcp_source(bytes, &A, &B, caps)
+}
+
 #[test]
 fn tcp_source_ports(rt: HostRuntime) {
     let caps = ChecksumCapabilities::default();
@@ -43,26 +47,26 @@ fn tcp_source_ports(rt: HostRuntime) {
     bytes[..20].copy_from_slice(&[
         0xc0, 0, 0, 80, 0, 0, 0, 0, 0, 0, 0, 0, 0x50, 2, 0, 0, 0xdb, 0x8f, 0, 0,
     ]);
-    assert!(rt; tcp_source(&bytes[..20], &A, &B, &caps) == Some(49152));
-    assert!(rt; tcp_source(&bytes[..19], &A, &B, &ignored) == None);
+    assert!(rt; tcp_port(&bytes[..20], &caps) == Some(49152));
+    assert!(rt; tcp_port(&bytes[..19], &ignored) == None);
     // SYN and FIN together
     bytes[13] = 3;
-    assert!(rt; tcp_source(&bytes, &A, &B, &ignored) == None);
+    assert!(rt; tcp_port(&bytes, &ignored) == None);
     // a header of 24 bytes with an MSS of 4, then one of 5
     bytes[12] = 0x60;
     bytes[13] = 0x12;
     bytes[20..22].copy_from_slice(&[2, 4]);
-    assert!(rt; tcp_source(&bytes, &A, &B, &ignored) == Some(49152));
+    assert!(rt; tcp_port(&bytes, &ignored) == Some(49152));
     bytes[21] = 5;
-    assert!(rt; tcp_source(&bytes, &A, &B, &ignored) == None);
+    assert!(rt; tcp_port(&bytes, &ignored) == None);
     // what stands behind the end of the options is not looked at
     bytes[20] = 0;
-    assert!(rt; tcp_source(&bytes, &A, &B, &ignored) == Some(49152));
+    assert!(rt; tcp_port(&bytes, &ignored) == Some(49152));
     // two octets of no meaning, then an option that is longer than the header
     bytes[20..24].copy_from_slice(&[1, 1, 99, 3]);
-    assert!(rt; tcp_source(&bytes, &A, &B, &ignored) == None);
+    assert!(rt; tcp_port(&bytes, &ignored) == None);
     bytes[23] = 2;
-    assert!(rt; tcp_source(&bytes, &A, &B, &ignored) == Some(49152));
+    assert!(rt; tcp_port(&bytes, &ignored) == Some(49152));
 }
 
 // A ping of Windows, whose checksum is seen in many published captures.

@@ -40,33 +40,59 @@ fn joined(ring: &mut RingBuffer<'_, u8>, count: usize) {
     }
 }
 
+fn enqueued(ring: &mut RingBuffer<'_, u8>, items: &[u8]) -> usize {
+    ring.enqueue_slice(items)
+}
+
+// Whether the queue's first piece from this offset on is this.
+fn begins(ring: &RingBuffer<'_, u8>, want: &[u8]) -> bool {
+    ring.get_allocated(0, 9) == want
+}
+
+fn copies(ring: &RingBuffer<'_, u8>, offset: usize, want: &[u8]) -> bool {
+    let mut out = [0u8; 3];
+    ring.read_allocated(offset, &mut out) == 3 && out.as_slice() == want
+}
+
+fn takes(ring: &mut RingBuffer<'_, u8>, want: &[u8]) -> bool {
+    let mut out = [0u8; 3];
+    ring.dequeue_slice(&mut out) == 3 && out.as_slice() == want
+}
+
+fn written(ring: &mut RingBuffer<'_, u8>, offset: usize, items: &[u8]) -> usize {
+    ring.write_unallocated(offset, items)
+}
+
+// How many items a closure that takes all it is lent was lent.
+fn emptied(ring: &mut RingBuffer<'_, u8>) -> (usize, usize) {
+    ring.dequeue_many_with(|lent| (lent.len(), lent.len()))
+}
+
+// That a closure added one item, and how many places it was lent.
+fn added(ring: &mut RingBuffer<'_, u8>) -> (usize, usize) {
+    ring.enqueue_many_with(|lent| {
+        let places = lent.len();
+        (filled(lent, &[7]), places)
+    })
+}
+
 #[test]
 fn a_ring_goes_around_its_end(rt: HostRuntime) -> Result<(), Fail> {
     let mut places = [0u8; 4];
     let mut ring = RingBuffer::new(&mut places);
-    assert!(rt; ring.enqueue_slice(b"abc") == 3);
+    assert!(rt; enqueued(&mut ring, b"abc") == 3);
     removed(&mut ring, 2);
-    assert!(rt; ring.enqueue_slice(b"defg") == 3);
-    assert!(rt; ring.get_allocated(0, 4) == b"cd".as_slice());
+    assert!(rt; enqueued(&mut ring, b"defg") == 3);
+    assert!(rt; begins(&ring, b"cd"));
     assert!(rt; ring.is_full() && ring.window() == 0 && ring.capacity() == 4);
-    let mut out = [0u8; 3];
-    assert!(rt; ring.read_allocated(1, &mut out) == 3);
-    assert!(rt; out.as_slice() == b"def".as_slice());
-    assert!(rt; ring.dequeue_slice(&mut out) == 3);
-    assert!(rt; out.as_slice() == b"cde".as_slice());
-    assert!(rt; ring.write_unallocated(1, b"xyz") == 2);
+    assert!(rt; copies(&ring, 1, b"def") && takes(&mut ring, b"cde"));
+    assert!(rt; written(&mut ring, 1, b"xyz") == 2);
     joined(&mut ring, 3);
-    assert!(rt; ring.len() == 4);
-    assert!(rt; ring.dequeue_many_with(|s| (s.len(), s.len())) == (3, 3));
-    assert!(rt; ring.get_allocated(0, 4) == b"y".as_slice());
+    assert!(rt; ring.len() == 4 && emptied(&mut ring) == (3, 3));
+    assert!(rt; begins(&ring, b"y"));
     ring.clear();
-    assert!(rt; ring.is_empty());
-    let added = ring.enqueue_many_with(|s| {
-        let lent = s.len();
-        (filled(s, &[7]), lent)
-    });
-    assert!(rt; added == (1, 4));
-    assert!(rt; ring.get_allocated(0, 9) == [7].as_slice());
+    assert!(rt; ring.is_empty() && added(&mut ring) == (1, 4));
+    assert!(rt; begins(&ring, &[7]));
     Ok(())
 }
 
@@ -88,53 +114,73 @@ fn an_assembler_refuses_a_fifth_range(rt: HostRuntime) -> Result<(), Fail> {
     Ok(())
 }
 
+type Packets<'a> = PacketBuffer<'a, u16>;
+
+fn puts(packets: &mut Packets<'_>, header: u16, bytes: &[u8]) -> bool {
+    match packets.enqueue(bytes.len(), header) {
+        Ok(lent) => {
+            lent.copy_from_slice(bytes);
+            true
+        }
+        Err(Full) => false,
+    }
+}
+
+// How many bytes of a packet of at most `size` a closure wrote.
+fn wrote(packets: &mut Packets<'_>, size: usize, header: u16, bytes: &[u8]) -> Result<usize, Full> {
+    packets.enqueue_with_infallible(size, header, |lent| filled(lent, bytes))
+}
+
+fn gives(packets: &mut Packets<'_>, want: u16, bytes: &[u8]) -> bool {
+    match packets.dequeue() {
+        Ok((header, lent)) => header == want && lent == bytes,
+        Err(Empty) => false,
+    }
+}
+
+fn shows(packets: &mut Packets<'_>, want: u16, bytes: &[u8]) -> bool {
+    match packets.peek() {
+        Ok((header, lent)) => *header == want && lent == bytes,
+        Err(Empty) => false,
+    }
+}
+
+// What a closure answers that overwrites the first packet and does not take it.
+fn refused(packets: &mut Packets<'_>) -> Result<Result<(), u16>, Empty> {
+    packets.dequeue_with(|header, lent| {
+        lent.fill(b'0');
+        Err::<(), u16>(*header)
+    })
+}
+
+fn taken(packets: &mut Packets<'_>) -> Result<Result<u8, ()>, Empty> {
+    packets.dequeue_with(|header, _| if *header == 2 { Ok(7u8) } else { Err(()) })
+}
+
 #[test]
 fn packets_go_around_the_end_with_padding(rt: HostRuntime) -> Result<(), Fail> {
     let mut places = [PacketMetadata::EMPTY; 4];
     let mut bytes = [0u8; 16];
     let mut packets = PacketBuffer::new(&mut places, &mut bytes);
     assert!(rt; packets.packet_capacity() == 4 && packets.payload_capacity() == 16);
-    match packets.enqueue(6, 1u16) {
-        Ok(lent) => lent.copy_from_slice(b"abcdef"),
-        Err(Full) => return Ok(assert!(rt; false)),
-    }
-    let kept = packets.enqueue_with_infallible(8, 2, |lent| filled(lent, b"123456"));
-    assert!(rt; kept == Ok(6));
-    match packets.dequeue() {
-        Ok((header, lent)) => assert!(rt; header == 1 && lent == b"abcdef".as_slice()),
-        Err(Empty) => return Ok(assert!(rt; false)),
-    }
+    assert!(rt; puts(&mut packets, 1, b"abcdef"));
+    assert!(rt; wrote(&mut packets, 8, 2, b"123456") == Ok(6));
+    assert!(rt; gives(&mut packets, 1, b"abcdef"));
     // four bytes are free at the end, six at the beginning: the four become padding
-    assert!(rt; packets.enqueue_with_infallible(5, 3, |lent| filled(lent, b"vwxyz")) == Ok(5));
+    assert!(rt; wrote(&mut packets, 5, 3, b"vwxyz") == Ok(5));
     assert!(rt; packets.payload_bytes_count() == 15);
-    assert!(rt; packets.enqueue(1, 4).is_ok() && packets.is_full());
-    assert!(rt; packets.enqueue(0, 5).is_err());
-    match packets.peek() {
-        Ok((header, lent)) => assert!(rt; *header == 2 && lent == b"123456".as_slice()),
-        Err(Empty) => return Ok(assert!(rt; false)),
-    }
-    let refused = packets.dequeue_with(|header, lent| {
-        lent.fill(b'0');
-        Err::<(), u16>(*header)
-    });
-    assert!(rt; refused == Ok(Err(2)));
-    match packets.peek() {
-        Ok((_, lent)) => assert!(rt; lent == b"000000".as_slice()),
-        Err(Empty) => return Ok(assert!(rt; false)),
-    }
-    assert!(rt;
-        (packets.dequeue_with(|header, _| if *header == 2 { Ok(7u8) } else { Err(()) }))
-            == Ok(Ok(7))
-    );
+    assert!(rt; puts(&mut packets, 4, b"_") && packets.is_full());
+    assert!(rt; !puts(&mut packets, 5, b""));
+    assert!(rt; shows(&mut packets, 2, b"123456"));
+    assert!(rt; refused(&mut packets) == Ok(Err(2)));
+    assert!(rt; shows(&mut packets, 2, b"000000"));
+    assert!(rt; taken(&mut packets) == Ok(Ok(7)));
     assert!(rt; packets.payload_bytes_count() == 10);
-    match packets.dequeue() {
-        Ok((header, lent)) => assert!(rt; header == 3 && lent == b"vwxyz".as_slice()),
-        Err(Empty) => return Ok(assert!(rt; false)),
-    }
+    assert!(rt; gives(&mut packets, 3, b"vwxyz"));
     assert!(rt; packets.payload_bytes_count() == 1);
     packets.reset();
     assert!(rt; packets.is_empty() && packets.dequeue().is_err() && packets.peek().is_err());
-    assert!(rt; packets.enqueue(17, 6).is_err() && packets.enqueue(16, 6).is_ok());
+    assert!(rt; !puts(&mut packets, 6, &[0; 17]) && puts(&mut packets, 6, &[0; 16]));
     Ok(())
 }
 

@@ -131,6 +131,23 @@ fn a_failed_syn_is_sent_again(rt: HostRuntime) -> Result<(), Fail> {
     Ok(())
 }
 
+fn sends(socket: &mut Socket<'_>, bytes: &[u8]) -> Result<usize, SendError> {
+    socket.send_slice(bytes)
+}
+
+fn reads(socket: &mut Socket<'_>, want: &[u8]) -> bool {
+    let mut bytes = [0u8; 8];
+    match socket.recv_slice(&mut bytes) {
+        Ok(count) if count <= 8 => &bytes[..count] == want,
+        _ => false,
+    }
+}
+
+// How many bytes wait to be sent, and to be read.
+fn waiting(socket: &Socket<'_>) -> (usize, usize) {
+    (socket.send_queue(), socket.recv_queue())
+}
+
 #[test]
 fn a_peer_sends_and_receives(rt: HostRuntime) -> Result<(), Fail> {
     let mut rx = [0u8; 4];
@@ -141,17 +158,15 @@ fn a_peer_sends_and_receives(rt: HostRuntime) -> Result<(), Fail> {
     establish(&mut socket, &mut cx);
     assert!(rt; socket.state() == State::Established);
     assert!(rt; emitted(&mut socket, &mut cx, false) == (Some((1001, 0)), true));
-    assert!(rt; socket.send_slice(b"abcdef") == Ok(4));
-    assert!(rt; (socket.send_queue(), socket.send_capacity()) == (4, 4));
+    assert!(rt; sends(&mut socket, b"abcdef") == Ok(4));
+    assert!(rt; waiting(&socket) == (4, 0) && socket.send_capacity() == 4);
     assert!(rt; socket.may_send() && !socket.can_send());
     assert!(rt; emitted(&mut socket, &mut cx, false) == (Some((1001, 4)), true));
     let data = answer(TcpControl::Psh, 5001, b"xyz");
     assert!(rt; hear(&mut socket, &mut cx, &ip_repr, &data));
     assert!(rt; socket.may_recv() && socket.can_recv());
-    assert!(rt; (socket.recv_queue(), socket.recv_capacity()) == (3, 4));
-    let mut bytes = [0u8; 8];
-    assert!(rt; socket.recv_slice(&mut bytes) == Ok(3));
-    assert!(rt; &bytes[..3] == b"xyz".as_slice());
+    assert!(rt; waiting(&socket) == (4, 3) && socket.recv_capacity() == 4);
+    assert!(rt; reads(&mut socket, b"xyz"));
     // the acknowledgement of what was read, with the window free again
     assert!(rt; emitted(&mut socket, &mut cx, false) == (Some((1005, 0)), true));
     Ok(())
