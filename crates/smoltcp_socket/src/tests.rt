@@ -15,6 +15,7 @@ mod receive_buffer;
 mod segments;
 mod storage;
 mod tcp;
+mod tcp_calls;
 mod tcp_poll;
 mod tcp_process;
 mod texts;

@@ -1,13 +1,12 @@
 //! TCP sockets: which calls are refused and when, what goes in and out of their queues, and their settings.
 use super::host::Host;
-use crate::storage::RingBuffer;
+use super::tcp_calls::Tcp;
 use crate::tcp::*;
 use crate::time::Duration;
 use crate::wire::{
     IpAddress, IpEndpoint, IpListenEndpoint, IpProtocol, IpRepr, Ipv4Address, TcpControl, TcpRepr,
     TcpSeqNumber,
 };
-use std::fmt::Write;
 use std::test::Fail;
 
 pub(crate) const A: IpEndpoint = IpEndpoint {
@@ -35,7 +34,7 @@ fn any(port: u16) -> IpListenEndpoint {
 fn listen_validation(rt: HostRuntime) -> Result<(), Fail> {
     let mut rx = [0u8; 4];
     let mut tx = [0u8; 4];
-    let mut socket = Socket::new(RingBuffer::new(&mut rx), RingBuffer::new(&mut tx));
+    let mut socket = Tcp::new(&mut rx, &mut tx);
     for (port, answer, open) in [
         (0, Err(ListenError::Unaddressable), false),
         (80, Ok(()), true),
@@ -52,7 +51,7 @@ fn listen_validation(rt: HostRuntime) -> Result<(), Fail> {
 
 // Connects to B at this port.
 fn dials(
-    socket: &mut Socket<'_>,
+    socket: &mut Tcp<'_>,
     cx: &mut Host,
     port: u16,
     local: IpListenEndpoint,
@@ -65,7 +64,7 @@ fn dials(
 fn connect_validation(rt: HostRuntime) -> Result<(), Fail> {
     let mut rx = [0u8; 4];
     let mut tx = [0u8; 4];
-    let mut socket = Socket::new(RingBuffer::new(&mut rx), RingBuffer::new(&mut tx));
+    let mut socket = Tcp::new(&mut rx, &mut tx);
     let mut cx = Host::at(0, 1000);
     let unaddressable = Err(ConnectError::Unaddressable);
     assert!(rt; dials(&mut socket, &mut cx, 0, at(A)) == unaddressable);
@@ -80,11 +79,11 @@ fn connect_validation(rt: HostRuntime) -> Result<(), Fail> {
 }
 
 // Takes a segment where the socket accepts it.
-fn hear(socket: &mut Socket<'_>, cx: &mut Host, ip_repr: &IpRepr, repr: &TcpRepr<'_>) -> bool {
-    if repr.payload.len() > 65535 || !socket.accepts(cx, ip_repr, repr) {
+fn hear(socket: &mut Tcp<'_>, cx: &mut Host, ip_repr: &IpRepr, repr: &TcpRepr<'_>) -> bool {
+    if repr.payload.len() > 65535 || !socket.0.accepts(cx, ip_repr, repr) {
         return false;
     }
-    socket.process(cx, ip_repr, repr).is_none()
+    socket.0.process(cx, ip_repr, repr).is_none()
 }
 
 fn answer<'a>(control: TcpControl, seq: u32, payload: &'a [u8]) -> TcpRepr<'a> {
@@ -106,15 +105,17 @@ fn answer<'a>(control: TcpControl, seq: u32, payload: &'a [u8]) -> TcpRepr<'a> {
 
 // The sequence number and the payload of what is emitted.
 pub(crate) fn emitted(
-    socket: &mut Socket<'_>,
+    socket: &mut Tcp<'_>,
     cx: &mut Host,
     fail: bool,
 ) -> (Option<(u32, usize)>, bool) {
     let mut seen = None;
-    let answer = socket.dispatch(cx, |_: &mut Host, sent: (IpRepr, TcpRepr<'_>)| {
-        seen = Some((sent.1.seq_number.0, sent.1.payload.len()));
-        if fail { Err(()) } else { Ok(()) }
-    });
+    let answer = socket
+        .0
+        .dispatch(cx, |_: &mut Host, sent: (IpRepr, TcpRepr<'_>)| {
+            seen = Some((sent.1.seq_number.0, sent.1.payload.len()));
+            if fail { Err(()) } else { Ok(()) }
+        });
     (seen, answer.is_ok())
 }
 
@@ -122,7 +123,7 @@ pub(crate) fn emitted(
 fn a_failed_syn_is_sent_again(rt: HostRuntime) -> Result<(), Fail> {
     let mut rx = [0u8; 4];
     let mut tx = [0u8; 4];
-    let mut socket = Socket::new(RingBuffer::new(&mut rx), RingBuffer::new(&mut tx));
+    let mut socket = Tcp::new(&mut rx, &mut tx);
     let mut cx = Host::at(0, 1000);
     assert!(rt; socket.connect(&mut cx, B, at(A)) == Ok(()));
     assert!(rt; emitted(&mut socket, &mut cx, true) == (Some((1000, 0)), false));
@@ -131,11 +132,7 @@ fn a_failed_syn_is_sent_again(rt: HostRuntime) -> Result<(), Fail> {
     Ok(())
 }
 
-fn sends(socket: &mut Socket<'_>, bytes: &[u8]) -> Result<usize, SendError> {
-    socket.send_slice(bytes)
-}
-
-fn reads(socket: &mut Socket<'_>, want: &[u8]) -> bool {
+fn reads(socket: &mut Tcp<'_>, want: &[u8]) -> bool {
     let mut bytes = [0u8; 8];
     match socket.recv_slice(&mut bytes) {
         Ok(count) if count <= 8 => &bytes[..count] == want,
@@ -144,7 +141,7 @@ fn reads(socket: &mut Socket<'_>, want: &[u8]) -> bool {
 }
 
 // How many bytes wait to be sent, and to be read.
-fn waiting(socket: &Socket<'_>) -> (usize, usize) {
+fn waiting(socket: &Tcp<'_>) -> (usize, usize) {
     (socket.send_queue(), socket.recv_queue())
 }
 
@@ -152,13 +149,13 @@ fn waiting(socket: &Socket<'_>) -> (usize, usize) {
 fn a_peer_sends_and_receives(rt: HostRuntime) -> Result<(), Fail> {
     let mut rx = [0u8; 4];
     let mut tx = [0u8; 4];
-    let mut socket = Socket::new(RingBuffer::new(&mut rx), RingBuffer::new(&mut tx));
+    let mut socket = Tcp::new(&mut rx, &mut tx);
     let mut cx = Host::at(0, 1000);
     let ip_repr = IpRepr::new(B.addr, A.addr, IpProtocol::Tcp, 20, 64);
     establish(&mut socket, &mut cx);
     assert!(rt; socket.state() == State::Established);
     assert!(rt; emitted(&mut socket, &mut cx, false) == (Some((1001, 0)), true));
-    assert!(rt; sends(&mut socket, b"abcdef") == Ok(4));
+    assert!(rt; socket.send_slice(b"abcdef") == Ok(4));
     assert!(rt; waiting(&socket) == (4, 0) && socket.send_capacity() == 4);
     assert!(rt; socket.may_send() && !socket.can_send());
     assert!(rt; emitted(&mut socket, &mut cx, false) == (Some((1001, 4)), true));
@@ -173,7 +170,7 @@ fn a_peer_sends_and_receives(rt: HostRuntime) -> Result<(), Fail> {
 }
 
 // Connects a new socket, by a SYN|ACK made by hand.
-pub(crate) fn establish(socket: &mut Socket<'_>, cx: &mut Host) {
+pub(crate) fn establish(socket: &mut Tcp<'_>, cx: &mut Host) {
     let ip_repr = IpRepr::new(B.addr, A.addr, IpProtocol::Tcp, 20, 64);
     let _ = socket.connect(cx, B, at(A));
     let _ = emitted(socket, cx, false);
@@ -188,35 +185,35 @@ type Settings = (
     Option<u8>,
 );
 
-fn settings(socket: &Socket<'_>) -> Settings {
+fn settings(socket: &Tcp<'_>) -> Settings {
     (
-        socket.timeout(),
-        socket.keep_alive(),
-        socket.ack_delay(),
-        socket.hop_limit(),
+        socket.0.timeout(),
+        socket.0.keep_alive(),
+        socket.0.ack_delay(),
+        socket.0.hop_limit(),
     )
 }
 
-fn congestion(socket: &Socket<'_>) -> (bool, CongestionControl) {
-    (socket.nagle_enabled(), socket.congestion_control())
+fn congestion(socket: &Tcp<'_>) -> (bool, CongestionControl) {
+    (socket.0.nagle_enabled(), socket.0.congestion_control())
 }
 
-fn change_all(socket: &mut Socket<'_>) {
+fn change_all(socket: &mut Tcp<'_>) {
     let second = Some(Duration::from_secs(1));
-    socket.set_timeout(second);
-    socket.set_ack_delay(None);
-    socket.set_nagle_enabled(false);
-    socket.set_keep_alive(second);
-    socket.set_hop_limit(Some(42));
-    socket.set_congestion_control(CongestionControl::None);
-    socket.pause_synack(true);
+    socket.0.set_timeout(second);
+    socket.0.set_ack_delay(None);
+    socket.0.set_nagle_enabled(false);
+    socket.0.set_keep_alive(second);
+    socket.0.set_hop_limit(Some(42));
+    socket.0.set_congestion_control(CongestionControl::None);
+    socket.0.pause_synack(true);
 }
 
 #[test]
 fn tcp_defaults(rt: HostRuntime) -> Result<(), Fail> {
     let mut rx = [0u8; 4];
     let mut tx = [0u8; 4];
-    let mut socket = Socket::new(RingBuffer::new(&mut rx), RingBuffer::new(&mut tx));
+    let mut socket = Tcp::new(&mut rx, &mut tx);
     let delay = Some(Duration::from_millis(10));
     assert!(rt; settings(&socket) == (None, None, delay, None));
     assert!(rt; congestion(&socket) == (true, CongestionControl::Reno));
@@ -234,12 +231,20 @@ fn write_str_keeps_what_fits(rt: HostRuntime) -> Result<(), Fail> {
     let mut rx = [0u8; 4];
     let mut tx = [0u8; 4];
     let mut cx = Host::at(0, 1000);
-    let mut socket = Socket::new(RingBuffer::new(&mut rx), RingBuffer::new(&mut tx));
+    let mut socket = Tcp::new(&mut rx, &mut tx);
     establish(&mut socket, &mut cx);
-    assert!(rt; socket.write_str("").is_ok());
-    assert!(rt; socket.write_str("hello").is_err());
+    assert!(rt; socket.write_str(""));
+    assert!(rt; !socket.write_str("hello"));
     assert!(rt; socket.send_queue() == 4);
     Ok(())
+}
+
+// How many bytes a closure is lent that takes none, for sending and for receiving.
+fn lent(socket: &mut Tcp<'_>) -> (Result<usize, SendError>, Result<usize, RecvError>) {
+    (
+        socket.0.send(|free| (0, free.len())),
+        socket.0.recv(|queue| (0, queue.len())),
+    )
 }
 
 #[test]
@@ -247,17 +252,16 @@ fn closures_that_take_nothing(rt: HostRuntime) -> Result<(), Fail> {
     let mut rx = [0u8; 4];
     let mut tx = [0u8; 4];
     let mut cx = Host::at(0, 1000);
-    let mut socket = Socket::new(RingBuffer::new(&mut rx), RingBuffer::new(&mut tx));
+    let mut socket = Tcp::new(&mut rx, &mut tx);
     establish(&mut socket, &mut cx);
-    assert!(rt; socket.send(|free| (0, free.len())) == Ok(4));
-    assert!(rt; socket.recv(|queue| (0, queue.len())) == Ok(0));
-    assert!(rt; (socket.send_queue(), socket.recv_queue()) == (0, 0));
+    assert!(rt; lent(&mut socket) == (Ok(4), Ok(0)));
+    assert!(rt; waiting(&socket) == (0, 0));
     Ok(())
 }
 
 // Queues "hi" by a closure that writes it to the free bytes.
-fn writes_hi(socket: &mut Socket<'_>) -> Result<(), SendError> {
-    socket.send(|free| {
+fn writes_hi(socket: &mut Tcp<'_>) -> Result<(), SendError> {
+    socket.0.send(|free| {
         let count = free.len().min(2);
         free[..count].copy_from_slice(&b"hi".as_slice()[..count]);
         (count, ())
@@ -265,11 +269,18 @@ fn writes_hi(socket: &mut Socket<'_>) -> Result<(), SendError> {
 }
 
 // Whether both peeks show what came, the first of them two bytes of it.
-fn peeks(socket: &mut Socket<'_>, two: &[u8], all: &[u8]) -> bool {
+fn peeks(socket: &mut Tcp<'_>, two: &[u8], all: &[u8]) -> bool {
     let mut bytes = [0u8; 8];
-    matches!(socket.peek(2), Ok(seen) if seen == two)
-        && socket.peek_slice(&mut bytes) == Ok(all.len())
+    matches!(socket.0.peek(2), Ok(seen) if seen == two)
+        && socket.0.peek_slice(&mut bytes) == Ok(all.len())
         && bytes.starts_with(all)
+}
+
+// Takes the first byte by a closure.
+fn first_byte(socket: &mut Tcp<'_>) -> Result<Option<u8>, RecvError> {
+    socket
+        .0
+        .recv(|queue| (queue.len().min(1), queue.first().copied()))
 }
 
 #[test]
@@ -277,7 +288,7 @@ fn closures_and_peeks(rt: HostRuntime) -> Result<(), Fail> {
     let mut rx = [0u8; 4];
     let mut tx = [0u8; 4];
     let mut cx = Host::at(0, 1000);
-    let mut socket = Socket::new(RingBuffer::new(&mut rx), RingBuffer::new(&mut tx));
+    let mut socket = Tcp::new(&mut rx, &mut tx);
     establish(&mut socket, &mut cx);
     let ip_repr = IpRepr::new(B.addr, A.addr, IpProtocol::Tcp, 20, 64);
     assert!(rt; writes_hi(&mut socket) == Ok(()));
@@ -285,25 +296,23 @@ fn closures_and_peeks(rt: HostRuntime) -> Result<(), Fail> {
     let data = answer(TcpControl::Psh, 5001, b"xyz");
     assert!(rt; hear(&mut socket, &mut cx, &ip_repr, &data));
     assert!(rt; peeks(&mut socket, b"xy", b"xyz"));
-    assert!(rt;
-        socket.recv(|queue| (queue.len().min(1), queue.first().copied())) == Ok(Some(b'x'))
-    );
+    assert!(rt; first_byte(&mut socket) == Ok(Some(b'x')));
     assert!(rt; socket.recv_queue() == 2);
     Ok(())
 }
 
 // The state after a close by the user.
-fn closed(socket: &mut Socket<'_>) -> State {
+fn closed(socket: &mut Tcp<'_>) -> State {
     socket.close();
     socket.state()
 }
 
-fn sends_no_more(socket: &mut Socket<'_>) -> bool {
+fn sends_no_more(socket: &mut Tcp<'_>) -> bool {
     socket.send_slice(b"late") == Err(SendError::InvalidState)
 }
 
-fn receives_no_more(socket: &mut Socket<'_>) -> bool {
-    socket.recv(|queue| (0, queue.len())) == Err(RecvError::InvalidState)
+fn receives_no_more(socket: &mut Tcp<'_>) -> bool {
+    socket.0.recv(|queue| (0, queue.len())) == Err(RecvError::InvalidState)
 }
 
 #[test]
@@ -311,7 +320,7 @@ fn close_and_abort_by_state(rt: HostRuntime) -> Result<(), Fail> {
     let mut rx = [0u8; 4];
     let mut tx = [0u8; 4];
     let mut cx = Host::at(0, 1000);
-    let mut socket = Socket::new(RingBuffer::new(&mut rx), RingBuffer::new(&mut tx));
+    let mut socket = Tcp::new(&mut rx, &mut tx);
     establish(&mut socket, &mut cx);
     assert!(rt; closed(&mut socket) == State::FinWait1);
     assert!(rt; sends_no_more(&mut socket));
@@ -368,13 +377,13 @@ pub(crate) fn clock() -> u32 {
 fn timestamps_are_enabled_by_a_generator(rt: HostRuntime) -> Result<(), Fail> {
     let mut rx = [0u8; 4];
     let mut tx = [0u8; 4];
-    let mut socket = Socket::new(RingBuffer::new(&mut rx), RingBuffer::new(&mut tx));
+    let mut socket = Tcp::new(&mut rx, &mut tx);
     assert!(rt; !socket.timestamp_enabled());
-    socket.set_tsval_generator(Some(clock));
+    socket.set_clock(true);
     assert!(rt; socket.timestamp_enabled());
     assert!(rt; socket.listen(any(80)) == Ok(()));
     assert!(rt; socket.timestamp_enabled());
-    socket.set_tsval_generator(None);
+    socket.set_clock(false);
     assert!(rt; !socket.timestamp_enabled());
     Ok(())
 }

@@ -1,7 +1,7 @@
 //! One TCP socket over segments made by hand, also such as no socket of a pair emits.
 use super::host::Host;
 use super::tcp::{A, B};
-use crate::storage::RingBuffer;
+use super::tcp_calls::Tcp;
 use crate::tcp::*;
 use crate::wire::{IpListenEndpoint, IpProtocol, IpRepr, TcpControl, TcpRepr, TcpSeqNumber};
 use std::process::Abort;
@@ -39,21 +39,21 @@ fn syn() -> TcpRepr<'static> {
 // Takes a segment at a moment, and tells sequence number, acknowledgement and window of its reply.
 fn hear_at(
     rt: &(impl Abort),
-    socket: &mut Socket<'_>,
+    socket: &mut Tcp<'_>,
     millis: u16,
     repr: &TcpRepr<'_>,
 ) -> Option<(u32, Option<TcpSeqNumber>, u16)> {
     let mut cx = Host::at(millis, 5000);
     let ip_repr = IpRepr::new(A.addr, B.addr, IpProtocol::Tcp, 20, 64);
-    assert!(rt; repr.payload.len() <= 65535 && socket.accepts(&cx, &ip_repr, repr));
-    let (_, reply) = socket.process(&mut cx, &ip_repr, repr)?;
+    assert!(rt; repr.payload.len() <= 65535 && socket.0.accepts(&cx, &ip_repr, repr));
+    let (_, reply) = socket.0.process(&mut cx, &ip_repr, repr)?;
     Some((reply.seq_number.0, reply.ack_number, reply.window_len))
 }
 
 // The sequence number and the length of what goes out at moment 0.
-fn emitted(socket: &mut Socket<'_>) -> Option<(u32, usize)> {
+fn emitted(socket: &mut Tcp<'_>) -> Option<(u32, usize)> {
     let mut seen = None;
-    let _ = socket.dispatch(
+    let _ = socket.0.dispatch(
         &mut Host::at(0, 5000),
         |_: &mut Host, sent: (IpRepr, TcpRepr<'_>)| -> Result<(), ()> {
             seen = Some((sent.1.seq_number.0, sent.1.payload.len()));
@@ -64,7 +64,7 @@ fn emitted(socket: &mut Socket<'_>) -> Option<(u32, usize)> {
 }
 
 // B listens, and these segments of A and its own SYN|ACK open the connection.
-fn opens(rt: &(impl Abort), socket: &mut Socket<'_>, syn: &TcpRepr<'_>, ack: &TcpRepr<'_>) {
+fn opens(rt: &(impl Abort), socket: &mut Tcp<'_>, syn: &TcpRepr<'_>, ack: &TcpRepr<'_>) {
     assert!(rt; socket.listen(ON_PORT_80) == Ok(()));
     assert!(rt; hear_at(rt, socket, 0, syn) == None);
     assert!(rt; emitted(socket) == Some((5000, 0)));
@@ -72,7 +72,7 @@ fn opens(rt: &(impl Abort), socket: &mut Socket<'_>, syn: &TcpRepr<'_>, ack: &Tc
     assert!(rt; socket.state() == State::Established);
 }
 
-fn opens_plainly(rt: &(impl Abort), socket: &mut Socket<'_>) {
+fn opens_plainly(rt: &(impl Abort), socket: &mut Tcp<'_>) {
     opens(rt, socket, &syn(), &segment(TcpControl::None, 1001, &[]));
 }
 
@@ -80,7 +80,7 @@ fn opens_plainly(rt: &(impl Abort), socket: &mut Socket<'_>) {
 fn cut_fin_is_disregarded(rt: HostRuntime) -> Result<(), Fail> {
     let mut rx = [0u8; 4];
     let mut tx = [0u8; 4];
-    let mut socket = Socket::new(RingBuffer::new(&mut rx), RingBuffer::new(&mut tx));
+    let mut socket = Tcp::new(&mut rx, &mut tx);
     opens_plainly(&rt, &mut socket);
     let _ = hear_at(
         &rt,
@@ -99,7 +99,7 @@ fn cut_fin_is_disregarded(rt: HostRuntime) -> Result<(), Fail> {
 fn byte_after_fin(rt: HostRuntime) -> Result<(), Fail> {
     let mut rx = [0u8; 64];
     let mut tx = [0u8; 64];
-    let mut socket = Socket::new(RingBuffer::new(&mut rx), RingBuffer::new(&mut tx));
+    let mut socket = Tcp::new(&mut rx, &mut tx);
     opens_plainly(&rt, &mut socket);
     let _ = hear_at(&rt, &mut socket, 0, &segment(TcpControl::Fin, 1001, &[]));
     assert!(rt; socket.state() == State::CloseWait);
@@ -116,7 +116,7 @@ fn byte_after_fin(rt: HostRuntime) -> Result<(), Fail> {
 fn queued_bytes_are_not_overwritten(rt: HostRuntime) -> Result<(), Fail> {
     let mut rx = [0u8; 64];
     let mut tx = [0u8; 64];
-    let mut socket = Socket::new(RingBuffer::new(&mut rx), RingBuffer::new(&mut tx));
+    let mut socket = Tcp::new(&mut rx, &mut tx);
     opens_plainly(&rt, &mut socket);
     let _ = hear_at(
         &rt,
@@ -140,7 +140,7 @@ fn queued_bytes_are_not_overwritten(rt: HostRuntime) -> Result<(), Fail> {
 fn ack_beyond_sent_is_challenged(rt: HostRuntime) -> Result<(), Fail> {
     let mut rx = [0u8; 64];
     let mut tx = [0u8; 64];
-    let mut socket = Socket::new(RingBuffer::new(&mut rx), RingBuffer::new(&mut tx));
+    let mut socket = Tcp::new(&mut rx, &mut tx);
     opens_plainly(&rt, &mut socket);
     let mut beyond = segment(TcpControl::None, 1001, &[]);
     beyond.ack_number = Some(TcpSeqNumber(5002));
@@ -158,7 +158,7 @@ fn peer_scale_is_capped(rt: HostRuntime) -> Result<(), Fail> {
     let mut rx = [0u8; 64];
     let mut tx = vec![in alloc; 0u8; 70_000]?;
     let bytes = vec![in alloc; b'x'; 70_000]?;
-    let mut socket = Socket::new(RingBuffer::new(&mut rx), RingBuffer::new(tx.as_mut_slice()));
+    let mut socket = Tcp::new(&mut rx, tx.as_mut_slice());
     socket.set_congestion_control(CongestionControl::None);
     socket.set_nagle_enabled(false);
     let mut scaled = syn();
@@ -179,7 +179,7 @@ fn peer_scale_is_capped(rt: HostRuntime) -> Result<(), Fail> {
 fn peer_mss_is_raised(rt: HostRuntime) -> Result<(), Fail> {
     let mut rx = [0u8; 64];
     let mut tx = [0u8; 100];
-    let mut socket = Socket::new(RingBuffer::new(&mut rx), RingBuffer::new(&mut tx));
+    let mut socket = Tcp::new(&mut rx, &mut tx);
     socket.set_nagle_enabled(false);
     let mut small = syn();
     small.max_seg_size = Some(1);
@@ -201,7 +201,7 @@ fn peer_mss_absent_small_large(rt: HostRuntime) -> Result<(), Fail> {
     for (mss, want) in [(0, 536), (47, 48), (65535, 1460)] {
         let mut rx = [0u8; 64];
         let mut tx = [0u8; 1600];
-        let mut socket = Socket::new(RingBuffer::new(&mut rx), RingBuffer::new(&mut tx));
+        let mut socket = Tcp::new(&mut rx, &mut tx);
         socket.set_congestion_control(CongestionControl::None);
         let mut sized = syn();
         sized.max_seg_size = Some(mss);
@@ -215,14 +215,14 @@ fn peer_mss_absent_small_large(rt: HostRuntime) -> Result<(), Fail> {
 }
 
 // The options of a SYN|ACK: window, scale, largest segment, and whether SACK is permitted.
-fn options(rt: &(impl Abort), socket: &mut Socket<'_>) -> (u16, Option<u8>, Option<u16>, bool) {
+fn options(rt: &(impl Abort), socket: &mut Tcp<'_>) -> (u16, Option<u8>, Option<u16>, bool) {
     assert!(rt; socket.listen(ON_PORT_80) == Ok(()));
     let mut repr = syn();
     repr.window_scale = Some(0);
     repr.sack_permitted = true;
     assert!(rt; hear_at(rt, socket, 0, &repr) == None);
     let mut seen = (0, None, None, false);
-    let _ = socket.dispatch(
+    let _ = socket.0.dispatch(
         &mut Host::at(0, 5000),
         |_: &mut Host, sent: (IpRepr, TcpRepr<'_>)| -> Result<(), ()> {
             let repr = &sent.1;
@@ -246,7 +246,7 @@ fn window_scale_in_syn_ack(rt: HostRuntime) -> Result<(), Fail> {
     ] {
         let mut rx = vec![in rt.alloc(); 0u8; capacity]?;
         let mut tx = [0u8; 64];
-        let mut socket = Socket::new(RingBuffer::new(rx.as_mut_slice()), RingBuffer::new(&mut tx));
+        let mut socket = Tcp::new(rx.as_mut_slice(), &mut tx);
         assert!(rt; options(&rt, &mut socket) == want);
     }
     Ok(())

@@ -118,16 +118,29 @@ fn emitted(socket: &mut Socket<'_>, fail: bool) -> (Option<(IpRepr, UdpRepr)>, b
     (seen, answer.is_ok())
 }
 
+// The other calls of the tests, whose contracts would be as costly.
+fn binds(socket: &mut Socket<'_>, endpoint: IpListenEndpoint) -> Result<(), BindError> {
+    socket.bind(endpoint)
+}
+
+fn polls(socket: &Socket<'_>) -> PollAt {
+    socket.poll_at(&Host::new(None))
+}
+
+fn refuses(socket: &mut Socket<'_>, size: usize, addr: IpAddress) -> bool {
+    socket.send(size, to(addr, 49500)).is_err()
+}
+
 #[test]
 fn udp_bind_validation(rt: HostRuntime) -> Result<(), Fail> {
     let mut socket = Socket::new(
         PacketBuffer::new(&mut [], &mut []),
         PacketBuffer::new(&mut [], &mut []),
     );
-    assert!(rt; socket.bind(any(0)) == Err(BindError::Unaddressable));
+    assert!(rt; binds(&mut socket, any(0)) == Err(BindError::Unaddressable));
     assert!(rt; !socket.is_open());
-    assert!(rt; socket.bind(any(1)) == Ok(()));
-    assert!(rt; socket.bind(any(2)) == Err(BindError::InvalidState));
+    assert!(rt; binds(&mut socket, any(1)) == Ok(()));
+    assert!(rt; binds(&mut socket, any(2)) == Err(BindError::InvalidState));
     assert!(rt; socket.is_open());
     assert!(rt; socket.endpoint() == any(1));
     socket.close();
@@ -144,7 +157,7 @@ fn goes_out_after(
 ) {
     assert!(rt; sends(socket, b"abcdef", THERE, 49500) == Ok(()));
     assert!(rt; sends(socket, b"123456", THERE, 49500) == Err(SendError::BufferFull));
-    assert!(rt; socket.poll_at(&Host::new(None)) == PollAt::Now);
+    assert!(rt; polls(socket) == PollAt::Now);
     for _ in 0..fails {
         assert!(rt; emitted(socket, true) == (whole, false));
         assert!(rt; !socket.can_send());
@@ -159,8 +172,8 @@ fn udp_failed_emit_keeps_datagram(rt: HostRuntime) -> Result<(), Fail> {
     let mut places = [PacketMetadata::EMPTY; 1];
     let mut bytes = [0u8; 16];
     let mut socket = sender(&mut places, &mut bytes);
-    assert!(rt; socket.bind(here(53)) == Ok(()));
-    assert!(rt; socket.poll_at(&Host::new(None)) == PollAt::Ingress);
+    assert!(rt; binds(&mut socket, here(53)) == Ok(()));
+    assert!(rt; polls(&socket) == PollAt::Ingress);
     let ports = UdpRepr {
         src_port: 53,
         dst_port: 49500,
@@ -182,15 +195,15 @@ fn udp_payload_capacity(rt: HostRuntime) -> Result<(), Fail> {
         PacketBuffer::new(&mut [], &mut []),
         PacketBuffer::new(&mut places, &mut bytes),
     );
-    assert!(rt; socket.bind(any(53)) == Ok(()));
+    assert!(rt; binds(&mut socket, any(53)) == Ok(()));
     assert!(rt;
         (
             socket.packet_send_capacity(),
             socket.payload_send_capacity()
         ) == (4, 64)
     );
-    assert!(rt; socket.send_slice(&[7; 65], to(THERE, 49500)) == Err(SendError::BufferFull));
-    assert!(rt; socket.send_slice(&[7; 64], to(THERE, 49500)) == Ok(()));
+    assert!(rt; sends(&mut socket, &[7; 65], THERE, 49500) == Err(SendError::BufferFull));
+    assert!(rt; sends(&mut socket, &[7; 64], THERE, 49500) == Ok(()));
     assert!(rt; socket.send_queue() == 64);
     Ok(())
 }
@@ -200,7 +213,7 @@ fn udp_truncated_slices(rt: HostRuntime) -> Result<(), Fail> {
     let mut places = [PacketMetadata::EMPTY; 2];
     let mut bytes = [0u8; 16];
     let mut socket = receiver(&mut places, &mut bytes);
-    assert!(rt; socket.bind(any(53)) == Ok(()));
+    assert!(rt; binds(&mut socket, any(53)) == Ok(()));
     let mut short = [0u8; 4];
     assert!(rt; hear(&mut socket, b"abcdef"));
     assert!(rt; copies(&mut socket, &mut short) == [Err(RecvError::Truncated); 2]);
@@ -219,9 +232,9 @@ fn udp_source_of_another_version(rt: HostRuntime) -> Result<(), Fail> {
         PacketBuffer::new(&mut [], &mut []),
         PacketBuffer::new(&mut places, &mut bytes),
     );
-    assert!(rt; socket.bind(here(53)) == Ok(()));
+    assert!(rt; binds(&mut socket, here(53)) == Ok(()));
     let remote = IpAddress::Ipv6(Ipv6Address([1; 16]));
-    assert!(rt; socket.send_slice(b"abcdef", to(remote, 49500)) == Err(SendError::Unaddressable));
+    assert!(rt; sends(&mut socket, b"abcdef", remote, 49500) == Err(SendError::Unaddressable));
     Ok(())
 }
 
@@ -232,7 +245,7 @@ fn udp_empty_payload_without_room(rt: HostRuntime) -> Result<(), Fail> {
         PacketBuffer::new(&mut places, &mut []),
         PacketBuffer::new(&mut [], &mut []),
     );
-    assert!(rt; socket.bind(any(53)) == Ok(()));
+    assert!(rt; binds(&mut socket, any(53)) == Ok(()));
     assert!(rt; hear(&mut socket, b""));
     match socket.recv() {
         Ok((lent, meta)) => assert!(rt;
@@ -251,7 +264,7 @@ fn udp_accepts_by_bound_address(rt: HostRuntime) -> Result<(), Fail> {
             PacketBuffer::new(&mut [], &mut []),
             PacketBuffer::new(&mut [], &mut []),
         );
-        assert!(rt; socket.bind(bound) == Ok(()));
+        assert!(rt; binds(&mut socket, bound) == Ok(()));
         assert!(rt; socket.accepts(&Host::new(None), &ip_repr, &REPR) == accepted);
     }
     Ok(())
@@ -264,13 +277,13 @@ fn udp_send_validation(rt: HostRuntime) -> Result<(), Fail> {
     let mut socket = sender(&mut places, &mut bytes);
     let refused = Err(SendError::Unaddressable);
     assert!(rt; sends(&mut socket, b"abcdef", THERE, 49500) == refused);
-    assert!(rt; socket.bind(any(53)) == Ok(()));
+    assert!(rt; binds(&mut socket, any(53)) == Ok(()));
     assert!(rt; sends(&mut socket, b"abcdef", NOWHERE, 49500) == refused);
     assert!(rt; sends(&mut socket, b"abcdef", THERE, 0) == refused);
     assert!(rt; sends(&mut socket, b"abcdef", THERE, 49500) == Ok(()));
     // no address is given, none bound, and the host has none
     assert!(rt; emitted(&mut socket, false) == (None, true));
-    assert!(rt; socket.poll_at(&Host::new(None)) == PollAt::Ingress);
+    assert!(rt; polls(&socket) == PollAt::Ingress);
     Ok(())
 }
 
@@ -281,8 +294,8 @@ fn udp_hop_limit_and_source(rt: HostRuntime) -> Result<(), Fail> {
     let mut socket = sender(&mut places, &mut bytes);
     assert!(rt; socket.hop_limit() == None);
     socket.set_hop_limit(Some(42));
-    assert!(rt; socket.bind(here(53)) == Ok(()));
-    assert!(rt; socket.send_slice(b"abcdef", to(THERE, 49500)) == Ok(()));
+    assert!(rt; binds(&mut socket, here(53)) == Ok(()));
+    assert!(rt; sends(&mut socket, b"abcdef", THERE, 49500) == Ok(()));
     let ports = UdpRepr {
         src_port: 53,
         dst_port: 49500,
@@ -298,7 +311,7 @@ fn udp_full_receive_queue(rt: HostRuntime) -> Result<(), Fail> {
     let mut bytes = [0u8; 16];
     let mut socket = receiver(&mut places, &mut bytes);
     assert!(rt; socket.packet_recv_capacity() == 1 && socket.payload_recv_capacity() == 16);
-    assert!(rt; socket.bind(any(53)) == Ok(()));
+    assert!(rt; binds(&mut socket, any(53)) == Ok(()));
     assert!(rt; hear(&mut socket, b"abcdef") && hear(&mut socket, b"abcdef"));
     assert!(rt; socket.recv_queue() == 6);
     assert!(rt; shows(&mut socket, b"abcdef") && gives(&mut socket, b"abcdef"));
@@ -327,7 +340,7 @@ fn what_stands_in_the_lent_slice_is_sent(rt: HostRuntime) -> Result<(), Fail> {
         PacketBuffer::new(&mut [], &mut []),
         PacketBuffer::new(&mut places, &mut bytes),
     );
-    assert!(rt; socket.bind(here(53)) == Ok(()));
+    assert!(rt; binds(&mut socket, here(53)) == Ok(()));
     match socket.send(3, to(THERE, 49500)) {
         Ok(lent) => lent.copy_from_slice(b"abc"),
         Err(_) => assert!(rt; false),
@@ -367,7 +380,7 @@ fn send_changes_the_transmit_queue_alone(rt: HostRuntime) -> Result<(), Fail> {
         PacketBuffer::new(&mut rx_places, &mut rx_bytes),
         PacketBuffer::new(&mut tx_places, &mut tx_bytes),
     );
-    assert!(rt; socket.bind(here(53)) == Ok(()));
+    assert!(rt; binds(&mut socket, here(53)) == Ok(()));
     socket.set_hop_limit(Some(9));
     assert!(rt; hear(&mut socket, b"came"));
     // taken, refused for its destination, refused for want of room, and taken
@@ -383,7 +396,7 @@ fn send_changes_the_transmit_queue_alone(rt: HostRuntime) -> Result<(), Fail> {
     for waits in [b"first".as_slice(), b"new".as_slice()] {
         assert!(rt; holds(&mut socket, Some(9), b"came", waits));
     }
-    assert!(rt; socket.poll_at(&Host::new(None)) == PollAt::Ingress);
+    assert!(rt; polls(&socket) == PollAt::Ingress);
     Ok(())
 }
 
@@ -398,10 +411,10 @@ fn a_refused_send_keeps_what_waits(rt: HostRuntime) -> Result<(), Fail> {
             PacketBuffer::new(&mut rx_places, &mut rx_bytes),
             PacketBuffer::new(&mut tx_places, &mut tx_bytes),
         );
-        assert!(rt; socket.bind(here(53)) == Ok(()));
+        assert!(rt; binds(&mut socket, here(53)) == Ok(()));
         assert!(rt; hear(&mut socket, b"came"));
-        assert!(rt; socket.send_slice(b"first", to(THERE, 49500)) == Ok(()));
-        assert!(rt; socket.send(size, to(remote, 49500)).is_err());
+        assert!(rt; sends(&mut socket, b"first", THERE, 49500) == Ok(()));
+        assert!(rt; refuses(&mut socket, size, remote));
         assert!(rt; holds(&mut socket, None, b"came", b"first"));
         assert!(rt; emitted(&mut socket, false) == (None, true));
     }

@@ -1,0 +1,149 @@
+//! The calls of a TCP socket without their contracts. A test needs their answers alone, and its proof is then short.
+use super::host::Host;
+use super::tcp::clock;
+use crate::PollAt;
+use crate::storage::RingBuffer;
+use crate::tcp::*;
+use crate::time::Duration;
+use crate::wire::{IpEndpoint, IpListenEndpoint};
+use std::fmt::Write;
+
+#[derive(Drop)]
+pub(crate) struct Tcp<'a>(pub(crate) Socket<'a>);
+
+// More than any test needs, and less than a socket may have.
+const MOST: usize = 1 << 20;
+
+impl<'a> Tcp<'a> {
+    pub(crate) fn new(rx: &'a mut [u8], tx: &'a mut [u8]) -> Tcp<'a> {
+        let (rx_len, tx_len) = (rx.len().min(MOST), tx.len().min(MOST));
+        let rx_buffer = RingBuffer::new(&mut rx[..rx_len]);
+        let tx_buffer = RingBuffer::new(&mut tx[..tx_len]);
+        Tcp(Socket::new(rx_buffer, tx_buffer))
+    }
+
+    pub(crate) fn listen(&mut self, endpoint: IpListenEndpoint) -> Result<(), ListenError> {
+        self.0.listen(endpoint)
+    }
+
+    pub(crate) fn connect(
+        &mut self,
+        cx: &mut Host,
+        remote: IpEndpoint,
+        local: IpListenEndpoint,
+    ) -> Result<(), ConnectError> {
+        self.0.connect(cx, remote, local)
+    }
+
+    pub(crate) fn close(&mut self) {
+        self.0.close();
+    }
+
+    pub(crate) fn abort(&mut self) {
+        self.0.abort();
+    }
+
+    pub(crate) fn state(&self) -> State {
+        self.0.state()
+    }
+
+    pub(crate) fn is_open(&self) -> bool {
+        self.0.is_open()
+    }
+
+    pub(crate) fn is_listening(&self) -> bool {
+        self.0.is_listening()
+    }
+
+    pub(crate) fn is_active(&self) -> bool {
+        self.0.is_active()
+    }
+
+    pub(crate) fn may_send(&self) -> bool {
+        self.0.may_send()
+    }
+
+    pub(crate) fn can_send(&self) -> bool {
+        self.0.can_send()
+    }
+
+    pub(crate) fn may_recv(&self) -> bool {
+        self.0.may_recv()
+    }
+
+    pub(crate) fn can_recv(&self) -> bool {
+        self.0.can_recv()
+    }
+
+    pub(crate) fn listen_endpoint(&self) -> IpListenEndpoint {
+        self.0.listen_endpoint()
+    }
+
+    pub(crate) fn local_endpoint(&self) -> Option<IpEndpoint> {
+        self.0.local_endpoint()
+    }
+
+    pub(crate) fn remote_endpoint(&self) -> Option<IpEndpoint> {
+        self.0.remote_endpoint()
+    }
+
+    pub(crate) fn send_queue(&self) -> usize {
+        self.0.send_queue()
+    }
+
+    pub(crate) fn recv_queue(&self) -> usize {
+        self.0.recv_queue()
+    }
+
+    pub(crate) fn send_capacity(&self) -> usize {
+        self.0.send_capacity()
+    }
+
+    pub(crate) fn recv_capacity(&self) -> usize {
+        self.0.recv_capacity()
+    }
+
+    pub(crate) fn send_slice(&mut self, data: &[u8]) -> Result<usize, SendError> {
+        self.0.send_slice(data)
+    }
+
+    pub(crate) fn recv_slice(&mut self, data: &mut [u8]) -> Result<usize, RecvError> {
+        self.0.recv_slice(data)
+    }
+
+    pub(crate) fn write_str(&mut self, text: &str) -> bool {
+        self.0.write_str(text).is_ok()
+    }
+
+    // A source of timestamps, or none.
+    pub(crate) fn set_clock(&mut self, is_there: bool) {
+        self.0
+            .set_tsval_generator(if is_there { Some(clock) } else { None });
+    }
+
+    pub(crate) fn timestamp_enabled(&self) -> bool {
+        self.0.timestamp_enabled()
+    }
+
+    pub(crate) fn set_timeout(&mut self, millis: u16) {
+        let duration = Duration::from_millis(millis as u64);
+        self.0.set_timeout(Some(duration));
+    }
+
+    pub(crate) fn set_keep_alive(&mut self, millis: u16) {
+        let interval = Duration::from_millis(millis as u64);
+        self.0.set_keep_alive(Some(interval));
+    }
+
+    pub(crate) fn set_nagle_enabled(&mut self, enabled: bool) {
+        self.0.set_nagle_enabled(enabled);
+    }
+
+    pub(crate) fn set_congestion_control(&mut self, control: CongestionControl) {
+        self.0.set_congestion_control(control);
+    }
+
+    pub(crate) fn poll_at(&self, cx: &Host) -> PollAt {
+        self.0.poll_at(cx)
+    }
+}
