@@ -299,6 +299,7 @@ fn settings_of_a_pair(rt: HostRuntime) -> Result<(), Fail> {
         Setting::Congestion(CongestionControl::None),
     );
     sets(&rt, &mut pair, Side::B, Setting::Pause(true));
-    assert!(rt; is_set(pair.socket(Side::B)) && !is_set(pair.socket(Side::A)));
+    assert!(rt; is_set(pair.socket(Side::B)));
+    assert!(rt; pair.socket(Side::A).nagle_enabled());
     Ok(())
 }
