@@ -14,7 +14,7 @@ use Rattle.ip_wire.specs.declared.address.Ipv6Address.{Ipv6Address}
 use Rattle.ip_wire.specs.declared.checksum.ChecksumCapabilities.{ChecksumCapabilities}
 use Rattle.ip_wire.specs.declared.repr.Ipv4Repr.{Ipv4Repr}
 use Rattle.ip_wire.specs.declared.repr.Ipv6Repr.{Ipv6Repr}
-use Rattle.control_wire.specs.Icmp.{Exceeded, Kinds, Message, Reply, Request, Unreachable, icmpv4_octets, icmpv4_parsed, icmpv6_octets, icmpv6_parsed, is_message, kinds_v4, kinds_v6, message_of, message_with, quoted_v4, quoted_v6, v4_with, v6_start, v6_with}
+use Rattle.control_wire.specs.Icmp.{Exceeded, Kinds, Message, Reply, Request, Unreachable, icmpv4_message, icmpv4_octets, icmpv4_parsed, icmpv6_message, icmpv6_octets, icmpv6_parsed, is_message, kinds_v4, kinds_v6, message_of, message_with, quoted_v4, quoted_v6, v4_with, v6_start, v6_with}
 use Rattle.control_wire.specs.IcmpRoundTrip.{IsV4, IsV6}
 
 -- a number below 2^16 from its two octets
@@ -145,6 +145,7 @@ taken_well true true start f l v t =
 taken_well true false start f l v t = let e : false ≡ true = t refl in absurd (cc)
 
 pub trip_v4 : Verifies → (caps : ChecksumCapabilities) (tested : Bool) (m : Message Ipv4Repr) → IsV4 m → (tested ≡ true → is_sent caps.icmpv4 ≡ true) → icmpv4_parsed tested (icmpv4_octets caps m) ≡ Some m
+unfolding icmpv4_message
 trip_v4 law caps tested m is t =
     let o = icmpv4_octets caps m in
     let v : sum_after 0 (v4_with caps m (complement (sum_after 0 (v4_with caps m 0)))) ≡ all_ones =
@@ -184,6 +185,7 @@ small_start words src dst len s d =
     words (sum_after (sum_after 0 src.0) dst.0) (be32 len ++ (0 ∷ 0 ∷ 0 ∷ 58 ∷ [])) (words (sum_after 0 src.0) dst.0 (words 0 src.0 (omega arith) s) d) tail
 
 pub trip_v6 : Verifies → AreWords → (caps : ChecksumCapabilities) (tested : Bool) (src dst : Ipv6Address) (m : Message Ipv6Repr) → IsV6 m → IsOctets src.0 → IsOctets dst.0 → (tested ≡ true → is_sent caps.icmpv6 ≡ true) → icmpv6_parsed tested src dst (icmpv6_octets caps src dst m) ≡ Some m
+unfolding icmpv6_message
 trip_v6 law words caps tested src dst m is s d t =
     let o = icmpv6_octets caps src dst m in
     let start = v6_start src dst (length (v6_with m 0)) in

@@ -126,6 +126,12 @@ message_of kinds quoted kind code octets =
     else (if kind == kinds.unreachable then as_error (Unreachable code) (quoted (drop 8 octets))
     else (if kind == kinds.exceeded then as_error (Exceeded code) (quoted (drop 8 octets)) else None)))
 
+unfoldable pub icmpv4_message : List ℕ → Option (Message Ipv4Repr)
+icmpv4_message octets = message_of kinds_v4 quoted_v4 (slice_index octets 0) (slice_index octets 1) octets
+
+unfoldable pub icmpv6_message : List ℕ → Option (Message Ipv6Repr)
+icmpv6_message octets = message_of kinds_v6 quoted_v6 (slice_index octets 0) (slice_index octets 1) octets
+
 -- at least eight octets whose checksum, where it is tested, verifies
 abbrev pub is_message : Bool → ℕ → List ℕ → Bool
 is_message tested start octets = nat_le 8 (length octets) && (not tested || (sum_after start octets == all_ones))
@@ -133,13 +139,13 @@ is_message tested start octets = nat_le 8 (length octets) && (not tested || (sum
 abbrev pub icmpv4_parsed : Bool → List ℕ → Option (Message Ipv4Repr)
 icmpv4_parsed tested octets =
     if is_message tested 0 octets
-    then message_of kinds_v4 quoted_v4 (slice_index octets 0) (slice_index octets 1) octets
+    then icmpv4_message octets
     else None
 
 abbrev pub icmpv6_parsed : Bool → Ipv6Address → Ipv6Address → List ℕ → Option (Message Ipv6Repr)
 icmpv6_parsed tested src dst octets =
     if is_message tested (v6_start src dst (length octets)) octets
-    then message_of kinds_v6 quoted_v6 (slice_index octets 0) (slice_index octets 1) octets
+    then icmpv6_message octets
     else None
 
 -- a result by value

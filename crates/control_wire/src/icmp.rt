@@ -11,8 +11,10 @@ ghost use Rattle.control_wire.specs.Icmp.{
   echo_octets,
   error_octets,
   icmp_len,
+  icmpv4_message,
   icmpv4_octets,
   icmpv4_parsed,
+  icmpv6_message,
   icmpv6_octets,
   icmpv6_parsed,
   message_len,
@@ -174,6 +176,15 @@ impl<'a> Icmpv4Repr<'a> {
         if bytes.len() < 8 || (caps.icmpv4.rx() && sum_after(0, bytes) != 0xffff) {
             return Err(Error);
         }
+        Icmpv4Repr::parse_unchecked(bytes)
+    }
+
+    // The message that 8 bytes or more spell, whatever their checksum.
+    #[tactic(auto, unfolding(crate::specs::Icmp::icmpv4_message))]
+    fn parse_unchecked(bytes: &'a [u8]) -> Result<Icmpv4Repr<'a>, Error>
+        requires { 8 ≤ length bytes.now }
+        ensures { seen message_v4 result ≡ icmpv4_message bytes.now }
+    {
         let (ident, seq_no) = (word(bytes[4], bytes[5]), word(bytes[6], bytes[7]));
         let body = &bytes[8..];
         match (bytes[0], bytes[1]) {
@@ -326,6 +337,15 @@ impl<'a> Icmpv6Repr<'a> {
         {
             return Err(Error);
         }
+        Icmpv6Repr::parse_unchecked(bytes)
+    }
+
+    // The message that 8 bytes or more spell, whatever their checksum.
+    #[tactic(auto, unfolding(crate::specs::Icmp::icmpv6_message))]
+    fn parse_unchecked(bytes: &'a [u8]) -> Result<Icmpv6Repr<'a>, Error>
+        requires { 8 ≤ length bytes.now }
+        ensures { seen message_v6 result ≡ icmpv6_message bytes.now }
+    {
         let (ident, seq_no) = (word(bytes[4], bytes[5]), word(bytes[6], bytes[7]));
         let body = &bytes[8..];
         match (bytes[0], bytes[1]) {

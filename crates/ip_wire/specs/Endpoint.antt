@@ -24,10 +24,11 @@ abbrev pub group_at : List ℕ → ℕ → List ℕ
 group_at octets i = group_text (slice_index octets i) (slice_index octets (i + 1))
 
 -- the four groups from offset i on, joined by colons
+unfoldable pub two_groups : List ℕ → ℕ → List ℕ
+two_groups octets i = group_at octets i ++ codes ":" ++ group_at octets (i + 2)
+
 unfoldable pub four_groups : List ℕ → ℕ → List ℕ
-four_groups octets i =
-    group_at octets i ++ codes ":" ++ group_at octets (i + 2) ++ codes ":" ++ group_at octets (i + 4) ++ codes ":"
-    ++ group_at octets (i + 6)
+four_groups octets i = two_groups octets i ++ codes ":" ++ two_groups octets (i + 4)
 
 -- eight groups, joined by colons
 unfoldable pub ipv6_text : List ℕ → List ℕ

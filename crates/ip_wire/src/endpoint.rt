@@ -9,6 +9,7 @@ ghost use Rattle.ip_wire.specs.Endpoint.{
   group_text,
   ipv4_text,
   ipv6_text,
+  two_groups,
 };
 
 use crate::address::{IpAddress, Ipv4Address, Ipv6Address};
@@ -90,22 +91,30 @@ fn ipv4<W: fmt::Write>(f: &mut fmt::Formatter<W>, addr: &Ipv4Address) -> fmt::Re
 fn ipv6<W: fmt::Write>(f: &mut fmt::Formatter<W>, addr: &Ipv6Address) -> fmt::Result
     ensures { WritesOnOk W.write_str_gives f.old result (ipv6_text addr.now.0) f.new }
 {
-    groups(f, &addr.0, 0)?;
+    four_groups(f, &addr.0, 0)?;
     f.write_str(":")?;
-    groups(f, &addr.0, 8)
+    four_groups(f, &addr.0, 8)
 }
 
 // Four groups of two octets each.
 #[tactic(auto, unfolding(crate::specs::Endpoint::four_groups))]
-fn groups<W: fmt::Write>(f: &mut fmt::Formatter<W>, octets: &[u8], start: usize) -> fmt::Result
+fn four_groups<W: fmt::Write>(f: &mut fmt::Formatter<W>, octets: &[u8], start: usize) -> fmt::Result
     requires { start + 8 ≤ length octets.now }
     ensures { WritesOnOk W.write_str_gives f.old result (four_groups octets.now start) f.new }
 {
+    two_groups(f, octets, start)?;
+    f.write_str(":")?;
+    two_groups(f, octets, start + 4)
+}
+
+#[tactic(auto, unfolding(crate::specs::Endpoint::two_groups))]
+fn two_groups<W: fmt::Write>(f: &mut fmt::Formatter<W>, octets: &[u8], start: usize) -> fmt::Result
+    requires { start + 4 ≤ length octets.now }
+    ensures { WritesOnOk W.write_str_gives f.old result (two_groups octets.now start) f.new }
+{
     let first = Group(octets[start], octets[start + 1]);
     let second = Group(octets[start + 2], octets[start + 3]);
-    let third = Group(octets[start + 4], octets[start + 5]);
-    let fourth = Group(octets[start + 6], octets[start + 7]);
-    write!(f, "{first}:{second}:{third}:{fourth}")
+    write!(f, "{first}:{second}")
 }
 
 // Two octets, printed as four hexadecimal digits.

@@ -57,40 +57,32 @@ impl<'w, W: Write> Chart<'w, W> {
     /// Begins a chart of so many events.
     pub fn begin(&mut self, events: usize) -> io::Result<()> {
         let height = height(events);
-        write!(
-            self.out,
-            "<svg xmlns=\"http://www.w3.org/2000/svg\" width=\"{WIDTH}\" height=\"{height}\""
-        )?;
-        writeln!(self.out, " viewBox=\"0 0 {WIDTH} {height}\">")?;
-        self.out.write_all(STYLE.as_bytes())?;
+        self.open(height)?;
         self.ground()?;
-        self.out.write_all(LEGEND.as_bytes())?;
         self.head(Side::A, "a 10.0.0.1:49152", height)?;
         self.head(Side::B, "b 10.0.0.2:80", height)
     }
 
-    // The page, with a thin line above each row.
+    fn open(&mut self, height: usize) -> io::Result<()> {
+        writeln!(
+            self.out,
+            "<svg xmlns=\"http://www.w3.org/2000/svg\" width=\"{WIDTH}\" height=\"{height}\" \
+            viewBox=\"0 0 {WIDTH} {height}\">"
+        )?;
+        self.out.write_all(STYLE.as_bytes())
+    }
+
+    // The page, with a thin line above each row, and the legend.
     fn ground(&mut self) -> io::Result<()> {
-        write!(
-            self.out,
-            "<pattern id=\"rows\" patternUnits=\"userSpaceOnUse\" y=\"{HEAD}\" width=\"{WIDTH}\" height=\"{ROW}\">"
-        )?;
         writeln!(
             self.out,
-            "<path class=\"row\" d=\"M0 0H{WIDTH}\"/></pattern>"
+            "<pattern id=\"rows\" patternUnits=\"userSpaceOnUse\" y=\"{HEAD}\" width=\"{WIDTH}\" height=\"{ROW}\">\
+            <path class=\"row\" d=\"M0 0H{WIDTH}\"/></pattern>\n\
+            <rect class=\"page\" width=\"100%\" height=\"100%\"/>\n\
+            <rect fill=\"url(#rows)\" y=\"{HEAD}\" width=\"100%\" height=\"100%\"/>\n\
+            <text class=\"time\" x=\"{TIME}\" text-anchor=\"end\" y=\"94\">ms</text>"
         )?;
-        writeln!(
-            self.out,
-            "<rect class=\"page\" width=\"100%\" height=\"100%\"/>"
-        )?;
-        writeln!(
-            self.out,
-            "<rect fill=\"url(#rows)\" y=\"{HEAD}\" width=\"100%\" height=\"100%\"/>"
-        )?;
-        writeln!(
-            self.out,
-            "<text class=\"time\" x=\"{TIME}\" text-anchor=\"end\" y=\"94\">ms</text>"
-        )
+        self.out.write_all(LEGEND.as_bytes())
     }
 
     // The lifeline of a side, and above it the side's name and first state.
@@ -98,15 +90,9 @@ impl<'w, W: Write> Chart<'w, W> {
         let (x, anchor) = (lifeline(side), Anchor::outside(side));
         writeln!(
             self.out,
-            "<text class=\"name\" x=\"{x}\" y=\"72\">{name}</text>"
-        )?;
-        writeln!(
-            self.out,
-            "<path class=\"lifeline\" d=\"M{x} 82V{height}\"/>"
-        )?;
-        writeln!(
-            self.out,
-            "<text class=\"state\" {anchor} y=\"94\">CLOSED</text>"
+            "<text class=\"name\" x=\"{x}\" y=\"72\">{name}</text>\n\
+            <path class=\"lifeline\" d=\"M{x} 82V{height}\"/>\n\
+            <text class=\"state\" {anchor} y=\"94\">CLOSED</text>"
         )
     }
 
@@ -128,13 +114,22 @@ impl<'w, W: Write> Chart<'w, W> {
     fn draw(&mut self, event: &Event, outcome: &Outcome, pair: &Pair<'_>) -> io::Result<()>
         requires { vec_len self.old.departures < vec_capacity self.old.departures }
     {
+        self.call(event, Call { event, outcome }, pair)?;
+        self.state(Side::A, pair)?;
+        self.state(Side::B, pair)?;
+        self.row = self.row.next();
+        self.line = self.row.first_line();
+        Ok(())
+    }
+
+    fn call(&mut self, event: &Event, call: Call<'_>, pair: &Pair<'_>) -> io::Result<()>
+        requires { vec_len self.old.departures < vec_capacity self.old.departures }
+    {
         match event {
-            Event::Dispatch { side, moment, .. } => {
-                self.dispatch(*side, moment, Call { event, outcome })?;
-            }
+            Event::Dispatch { side, moment, .. } => self.dispatch(*side, moment, call),
             Event::Deliver { index, moment } => {
-                self.deliver(*index, Call { event, outcome }, pair.segments())?;
-                self.time(moment, self.row.first_line())?;
+                self.deliver(*index, call, pair.segments())?;
+                self.time(moment, self.row.first_line())
             }
             Event::Listen { side }
             | Event::Connect { side, .. }
@@ -144,12 +139,8 @@ impl<'w, W: Write> Chart<'w, W> {
             | Event::Recv { side, .. }
             | Event::Close { side }
             | Event::Abort { side }
-            | Event::Set { side, .. } => self.beside(*side, "call", Call { event, outcome })?,
+            | Event::Set { side, .. } => self.beside(*side, "call", call),
         }
-        self.states(pair)?;
-        self.row = self.row.next();
-        self.line = self.row.first_line();
-        Ok(())
     }
 
     /// Ends the chart: draws the segments that never came, and the label of each segment.
@@ -281,18 +272,18 @@ impl<'w, W: Write> Chart<'w, W> {
         }
     }
 
-    // Writes the state of each side where it is another one now.
-    fn states(&mut self, pair: &Pair<'_>) -> io::Result<()> {
-        let (a, b) = (pair.socket(Side::A).state(), pair.socket(Side::B).state());
-        if a != self.a {
-            self.a = a;
-            self.beside(Side::A, "state", a.name())?;
+    // Writes the state of a side where it is another one now.
+    fn state(&mut self, side: Side, pair: &Pair<'_>) -> io::Result<()> {
+        let state = pair.socket(side).state();
+        let last = match side {
+            Side::A => &mut self.a,
+            Side::B => &mut self.b,
+        };
+        if state == *last {
+            return Ok(());
         }
-        if b != self.b {
-            self.b = b;
-            self.beside(Side::B, "state", b.name())?;
-        }
-        Ok(())
+        *last = state;
+        self.beside(side, "state", state.name())
     }
 
     // Writes a text beside the lifeline of a side, in the next line of this row.

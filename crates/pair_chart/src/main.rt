@@ -34,32 +34,38 @@ fn main(rt: HostRuntime) -> ExitCode {
 
 // Draws the script of the file that the one argument names, or of standard input where there is none.
 fn run(rt: &HostRuntime) -> Result<(), Fault> {
+    let file = file_named(rt)?;
+    let Ok(mut output) = BufWriter::new(rt.alloc(), io::writer(rt)) else {
+        return Err(Fault::Memory);
+    };
+    let end = match file {
+        None => draw(rt.alloc(), &mut rt.reader(), &mut output),
+        Some(name) => draw_file(rt, name.as_str(), &mut output)?,
+    };
+    match output.flush() {
+        Ok(()) => fault_of(end),
+        Err(_) => Err(Fault::Write),
+    }
+}
+
+// The one argument, if there is one.
+fn file_named(rt: &HostRuntime) -> Result<Option<String>, Fault> {
     let mut args = match env::args(rt) {
         Ok(args) => args,
         Err(error) => return Err(fault_of_open(&error)),
     };
     let _program = args.next();
     let file = args.next();
-    if args.next().is_some() {
-        return Err(Fault::Usage);
+    match args.next() {
+        None => Ok(file),
+        Some(_) => Err(Fault::Usage),
     }
-    let mut output = match BufWriter::new(rt.alloc(), io::writer(rt)) {
-        Ok(writer) => writer,
-        Err(_) => return Err(Fault::Memory),
-    };
-    let end = match file {
-        None => draw(rt.alloc(), &mut rt.reader(), &mut output),
-        Some(name) => {
-            let mut file = match File::open(rt, name.as_str()) {
-                Ok(file) => file,
-                Err(error) => return Err(fault_of_open(&error)),
-            };
-            draw(rt.alloc(), &mut file, &mut output)
-        }
-    };
-    match output.flush() {
-        Ok(()) => fault_of(end),
-        Err(_) => Err(Fault::Write),
+}
+
+fn draw_file<W: Write>(rt: &HostRuntime, name: &str, output: &mut W) -> Result<End, Fault> {
+    match File::open(rt, name) {
+        Ok(mut file) => Ok(draw(rt.alloc(), &mut file, output)),
+        Err(error) => Err(fault_of_open(&error)),
     }
 }
 

@@ -1,6 +1,8 @@
 //! Runs a script over two TCP sockets and prints what each of its lines came to.
 #![tactic(auto)]
 
+ghost use Rattle.std.specs.Prelude.{◌≡◌, false};
+
 mod fault;
 mod streams;
 
@@ -8,7 +10,7 @@ use crate::fault::Fault;
 use crate::streams::{Input, Output};
 use sock_pair::script::{End, replay};
 use std::fs::File;
-use std::io::BufWriter;
+use std::io::{BufWriter, Write};
 use std::process::ExitCode;
 use std::{env, io};
 
@@ -25,33 +27,41 @@ fn main(rt: HostRuntime) -> ExitCode {
 
 // Replays the file that the one argument names, or standard input where there is none.
 fn run(rt: &HostRuntime) -> Result<(), Fault> {
+    let file = file_named(rt)?;
+    let Ok(writer) = BufWriter::new(rt.alloc(), io::writer(rt)) else {
+        return Err(Fault::Memory);
+    };
+    let mut output = Output::new(writer);
+    let end = match file {
+        None => replay(rt.alloc(), &mut Input::new(rt.reader()), &mut output),
+        Some(name) => replay_file(rt, name.as_str(), &mut output)?,
+    };
+    match output.flush() {
+        Ok(()) => fault_of(end),
+        Err(_) => Err(Fault::Write),
+    }
+}
+
+// The one argument, if there is one.
+fn file_named(rt: &HostRuntime) -> Result<Option<String>, Fault> {
     let mut args = match env::args(rt) {
         Ok(args) => args,
         Err(error) => return Err(fault_of_open(&error)),
     };
     let _program = args.next();
     let file = args.next();
-    if args.next().is_some() {
-        return Err(Fault::Usage);
+    match args.next() {
+        None => Ok(file),
+        Some(_) => Err(Fault::Usage),
     }
-    let writer = match BufWriter::new(rt.alloc(), io::writer(rt)) {
-        Ok(writer) => writer,
-        Err(_) => return Err(Fault::Memory),
-    };
-    let mut output = Output::new(writer);
-    let end = match file {
-        None => replay(rt.alloc(), &mut Input::new(rt.reader()), &mut output),
-        Some(name) => {
-            let file = match File::open(rt, name.as_str()) {
-                Ok(file) => file,
-                Err(error) => return Err(fault_of_open(&error)),
-            };
-            replay(rt.alloc(), &mut Input::new(file), &mut output)
-        }
-    };
-    match output.flush() {
-        Ok(()) => fault_of(end),
-        Err(_) => Err(Fault::Write),
+}
+
+fn replay_file<W: Write>(rt: &HostRuntime, name: &str, output: &mut Output<W>) -> Result<End, Fault>
+    requires { output.old.failed ≡ false }
+{
+    match File::open(rt, name) {
+        Ok(file) => Ok(replay(rt.alloc(), &mut Input::new(file), output)),
+        Err(error) => Err(fault_of_open(&error)),
     }
 }
 

@@ -181,6 +181,18 @@ fn has_timestamps(pair: &Pair<'_>, side: Side) -> bool {
     pair.socket(side).timestamp_enabled()
 }
 
+// A sends these six bytes, and B reads them.
+fn six_bytes_arrive(rt: &(impl Abort), pair: &mut Pair<'_>, bytes: Vec<u8>) {
+    opens(rt, pair);
+    sends(rt, pair, bytes, 6);
+    emits(rt, pair, Side::A, 3);
+    arrives(rt, pair, 3, None);
+    let side = Side::B;
+    let recv = Event::RecvSlice { side, size: 64 };
+    reads(rt, pair, &recv, b"abcdef");
+    assert!(rt; pair.handed_out(Side::B) == b"abcdef".as_slice());
+}
+
 #[test]
 fn six_bytes_from_a_side_with_a_generator(rt: HostRuntime) -> Result<(), Fail> {
     let alloc = rt.alloc();
@@ -188,14 +200,7 @@ fn six_bytes_from_a_side_with_a_generator(rt: HostRuntime) -> Result<(), Fail> {
     let mut room = Room::new();
     let mut pair = room.pair(alloc, 64, (true, false));
     assert!(rt; has_timestamps(&pair, Side::A) && !has_timestamps(&pair, Side::B));
-    opens(&rt, &mut pair);
-    sends(&rt, &mut pair, bytes, 6);
-    emits(&rt, &mut pair, Side::A, 3);
-    arrives(&rt, &mut pair, 3, None);
-    let side = Side::B;
-    let recv = Event::RecvSlice { side, size: 64 };
-    reads(&rt, &mut pair, &recv, b"abcdef");
-    assert!(rt; pair.handed_out(Side::B) == b"abcdef".as_slice());
+    six_bytes_arrive(&rt, &mut pair, bytes);
     // the SYN|ACK had no timestamp
     assert!(rt; !has_timestamps(&pair, Side::A));
     Ok(())
@@ -246,6 +251,23 @@ fn timestamps_need_both_sides(rt: HostRuntime) -> Result<(), Fail> {
     Ok(())
 }
 
+// A's closure takes nothing of the first bytes, and two of the second.
+fn closures_take(rt: &(impl Abort), pair: &mut Pair<'_>, first: Vec<u8>, second: Vec<u8>) {
+    opens(rt, pair);
+    closure_takes(rt, pair, first, 0);
+    assert!(rt; pair.socket(Side::A).send_queue() == 0);
+    closure_takes(rt, pair, second, 2);
+}
+
+// The two bytes arrive. B's closure takes nothing, and then all.
+fn closures_read(rt: &(impl Abort), pair: &mut Pair<'_>) {
+    emits(rt, pair, Side::A, 3);
+    arrives(rt, pair, 3, None);
+    let side = Side::B;
+    reads(rt, pair, &Event::Recv { side, take: 0 }, b"");
+    reads(rt, pair, &Event::Recv { side, take: 64 }, b"ab");
+}
+
 #[test]
 fn closures_that_take_nothing(rt: HostRuntime) -> Result<(), Fail> {
     let alloc = rt.alloc();
@@ -253,15 +275,8 @@ fn closures_that_take_nothing(rt: HostRuntime) -> Result<(), Fail> {
     let second = Vec::from_slice(alloc, b"abc")?;
     let mut room = Room::new();
     let mut pair = room.plain_pair(alloc);
-    opens(&rt, &mut pair);
-    closure_takes(&rt, &mut pair, first, 0);
-    assert!(rt; pair.socket(Side::A).send_queue() == 0);
-    closure_takes(&rt, &mut pair, second, 2);
-    emits(&rt, &mut pair, Side::A, 3);
-    arrives(&rt, &mut pair, 3, None);
-    let side = Side::B;
-    reads(&rt, &mut pair, &Event::Recv { side, take: 0 }, b"");
-    reads(&rt, &mut pair, &Event::Recv { side, take: 64 }, b"ab");
+    closures_take(&rt, &mut pair, first, second);
+    closures_read(&rt, &mut pair);
     Ok(())
 }
 
@@ -275,30 +290,23 @@ fn is_set(socket: &Socket<'_>) -> bool {
         && socket.congestion_control() == CongestionControl::None
 }
 
+fn set_all(rt: &(impl Abort), pair: &mut Pair<'_>, side: Side) {
+    let second = Interval::new(Some(Duration::from_secs(1)));
+    sets(rt, pair, side, Setting::Timeout(second));
+    sets(rt, pair, side, Setting::AckDelay(Interval::new(None)));
+    sets(rt, pair, side, Setting::KeepAlive(second));
+    sets(rt, pair, side, Setting::Nagle(false));
+    sets(rt, pair, side, Setting::HopLimit(HopLimit::new(Some(9))));
+    let none = CongestionControl::None;
+    sets(rt, pair, side, Setting::Congestion(none));
+    sets(rt, pair, side, Setting::Pause(true));
+}
+
 #[test]
 fn settings_of_a_pair(rt: HostRuntime) -> Result<(), Fail> {
-    let alloc = rt.alloc();
     let mut room = Room::new();
-    let mut pair = room.plain_pair(alloc);
-    let second = Interval::new(Some(Duration::from_secs(1)));
-    let hops = HopLimit::new(Some(9));
-    sets(&rt, &mut pair, Side::B, Setting::Timeout(second));
-    sets(
-        &rt,
-        &mut pair,
-        Side::B,
-        Setting::AckDelay(Interval::new(None)),
-    );
-    sets(&rt, &mut pair, Side::B, Setting::KeepAlive(second));
-    sets(&rt, &mut pair, Side::B, Setting::Nagle(false));
-    sets(&rt, &mut pair, Side::B, Setting::HopLimit(hops));
-    sets(
-        &rt,
-        &mut pair,
-        Side::B,
-        Setting::Congestion(CongestionControl::None),
-    );
-    sets(&rt, &mut pair, Side::B, Setting::Pause(true));
+    let mut pair = room.plain_pair(rt.alloc());
+    set_all(&rt, &mut pair, Side::B);
     assert!(rt; is_set(pair.socket(Side::B)));
     assert!(rt; pair.socket(Side::A).nagle_enabled());
     Ok(())

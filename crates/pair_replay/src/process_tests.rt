@@ -102,6 +102,14 @@ fn acknowledges(
     }
 }
 
+// Whether the second segment waited for the first, and B's acknowledgements said so.
+fn was_reordered(pair: &Pair<'_>, outcomes: &[Outcome]) -> bool {
+    is_read(outcomes, 14, b"")
+        && is_read(outcomes, 16, b"abcdef")
+        && acknowledges(pair, 5, 1001, 64, Some((1004, 1007)))
+        && acknowledges(pair, 6, 1007, 58, None)
+}
+
 #[test]
 fn reordered_segments_and_sack(rt: HostRuntime) -> Result<(), Fail> {
     let alloc = rt.alloc();
@@ -111,10 +119,7 @@ fn reordered_segments_and_sack(rt: HostRuntime) -> Result<(), Fail> {
     let mut room = Room::new();
     let mut pair = room.plain_pair(alloc);
     let outcomes = plays(&mut pair, alloc, text.as_str())?;
-    assert!(rt; is_read(outcomes.as_slice(), 14, b""));
-    assert!(rt; is_read(outcomes.as_slice(), 16, b"abcdef"));
+    assert!(rt; was_reordered(&pair, outcomes.as_slice()));
     assert!(rt; is_whole_offer(&pair, 0) && is_whole_offer(&pair, 1));
-    assert!(rt; acknowledges(&pair, 5, 1001, 64, Some((1004, 1007))));
-    assert!(rt; acknowledges(&pair, 6, 1007, 58, None));
     Ok(())
 }

@@ -45,18 +45,12 @@ impl Sink for Page {
     ghost has_failed = { λ s. s.failed };
 
     fn write_all(&mut self, bytes: &[u8]) -> Result<(), StreamFault> {
-        if self.calls_left == 0 {
+        if self.calls_left == 0 || self.bytes.extend_from_slice(bytes).is_err() {
             self.failed = true;
             return Err(StreamFault);
         }
         self.calls_left -= 1;
-        match self.bytes.extend_from_slice(bytes) {
-            Ok(()) => Ok(()),
-            Err(_) => {
-                self.failed = true;
-                Err(StreamFault)
-            }
-        }
+        Ok(())
     }
 
     fn failed(&self) -> bool {

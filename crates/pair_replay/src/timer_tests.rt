@@ -227,21 +227,25 @@ fn is_reset(pair: &Pair<'_>, index: usize, seq_number: u32) -> bool {
     }
 }
 
+// A connects, and gives up after half a second.
+fn gives_up(rt: &(impl Abort), pair: &mut Pair<'_>) {
+    let half_second = Interval::new(Some(Duration::from_millis(500)));
+    sets(rt, pair, Side::A, Setting::Timeout(half_second));
+    joins(rt, pair, Side::A);
+    assert!(rt; polls(pair, 0) == PollAt::Now);
+    dispatches(rt, pair, 0, Outcome::Emitted(0));
+    assert!(rt; polls(pair, 0) == PollAt::Time(Instant::from_millis(500)));
+    dispatches(rt, pair, 499, Outcome::Quiet);
+    dispatches(rt, pair, 500, Outcome::Emitted(1));
+    assert!(rt; pair.socket(Side::A).state() == State::Closed);
+    assert!(rt; is_reset(pair, 1, 1001));
+    assert!(rt; polls(pair, 500) == PollAt::Ingress);
+}
+
 #[test]
 fn user_timeout_of_syn(rt: HostRuntime) -> Result<(), Fail> {
     let mut room = Room::new();
-    let mut pair = room.plain_pair(rt.alloc());
-    let half_second = Interval::new(Some(Duration::from_millis(500)));
-    sets(&rt, &mut pair, Side::A, Setting::Timeout(half_second));
-    joins(&rt, &mut pair, Side::A);
-    assert!(rt; polls(&pair, 0) == PollAt::Now);
-    dispatches(&rt, &mut pair, 0, Outcome::Emitted(0));
-    assert!(rt; polls(&pair, 0) == PollAt::Time(Instant::from_millis(500)));
-    dispatches(&rt, &mut pair, 499, Outcome::Quiet);
-    dispatches(&rt, &mut pair, 500, Outcome::Emitted(1));
-    assert!(rt; pair.socket(Side::A).state() == State::Closed);
-    assert!(rt; is_reset(&pair, 1, 1001));
-    assert!(rt; polls(&pair, 500) == PollAt::Ingress);
+    gives_up(&rt, &mut room.plain_pair(rt.alloc()));
     Ok(())
 }
 
@@ -286,14 +290,18 @@ fn keeps_alive(rt: &(impl Abort), pair: &mut Pair<'_>) {
     dispatches(rt, pair, 0, Outcome::Emitted(3));
 }
 
+// A keep-alive goes out each second.
+fn is_kept_alive(rt: &(impl Abort), pair: &mut Pair<'_>) {
+    keeps_alive(rt, pair);
+    dispatches(rt, pair, 999, Outcome::Quiet);
+    dispatches(rt, pair, 1000, Outcome::Emitted(4));
+    assert!(rt; is_keep_alive(pair, 3) && is_keep_alive(pair, 4));
+}
+
 #[test]
 fn keep_alive_zero_byte(rt: HostRuntime) -> Result<(), Fail> {
     let mut room = Room::new();
-    let mut pair = room.plain_pair(rt.alloc());
-    keeps_alive(&rt, &mut pair);
-    dispatches(&rt, &mut pair, 999, Outcome::Quiet);
-    dispatches(&rt, &mut pair, 1000, Outcome::Emitted(4));
-    assert!(rt; is_keep_alive(&pair, 3) && is_keep_alive(&pair, 4));
+    is_kept_alive(&rt, &mut room.plain_pair(rt.alloc()));
     Ok(())
 }
 
@@ -312,14 +320,18 @@ fn is_first_ack(pair: &Pair<'_>, index: usize) -> bool {
     }
 }
 
+// B answers a keep-alive, and takes no byte of it.
+fn answers_keep_alive(rt: &(impl Abort), pair: &mut Pair<'_>) {
+    keeps_alive(rt, pair);
+    arrives(rt, pair, 3, Some(4));
+    assert!(rt; is_first_ack(pair, 4));
+    assert!(rt; pair.socket(Side::B).recv_queue() == 0);
+}
+
 #[test]
 fn keep_alive_is_answered(rt: HostRuntime) -> Result<(), Fail> {
     let mut room = Room::new();
-    let mut pair = room.plain_pair(rt.alloc());
-    keeps_alive(&rt, &mut pair);
-    arrives(&rt, &mut pair, 3, Some(4));
-    assert!(rt; is_first_ack(&pair, 4));
-    assert!(rt; pair.socket(Side::B).recv_queue() == 0);
+    answers_keep_alive(&rt, &mut room.plain_pair(rt.alloc()));
     Ok(())
 }
 
@@ -334,18 +346,22 @@ fn is_syn_ack(pair: &Pair<'_>, index: usize) -> bool {
     }
 }
 
+// B answers the SYN when it is no longer paused.
+fn waits_with_its_syn_ack(rt: &(impl Abort), pair: &mut Pair<'_>) {
+    listens(rt, pair, Side::B);
+    sets(rt, pair, Side::B, Setting::Pause(true));
+    joins(rt, pair, Side::A);
+    emits(rt, pair, Side::A, 0);
+    arrives(rt, pair, 0, None);
+    is_quiet(rt, pair, Side::B);
+    sets(rt, pair, Side::B, Setting::Pause(false));
+    emits(rt, pair, Side::B, 1);
+    assert!(rt; is_syn_ack(pair, 1));
+}
+
 #[test]
 fn paused_syn_ack(rt: HostRuntime) -> Result<(), Fail> {
     let mut room = Room::new();
-    let mut pair = room.plain_pair(rt.alloc());
-    listens(&rt, &mut pair, Side::B);
-    sets(&rt, &mut pair, Side::B, Setting::Pause(true));
-    joins(&rt, &mut pair, Side::A);
-    emits(&rt, &mut pair, Side::A, 0);
-    arrives(&rt, &mut pair, 0, None);
-    is_quiet(&rt, &mut pair, Side::B);
-    sets(&rt, &mut pair, Side::B, Setting::Pause(false));
-    emits(&rt, &mut pair, Side::B, 1);
-    assert!(rt; is_syn_ack(&pair, 1));
+    waits_with_its_syn_ack(&rt, &mut room.plain_pair(rt.alloc()));
     Ok(())
 }

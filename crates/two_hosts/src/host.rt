@@ -2,9 +2,10 @@
 ghost use Rattle.std.specs.Prelude.{◌≤◌, length};
 
 use crate::context::{Interface, MTU};
+use crate::memory::Sockets;
 use crate::packet::{Body, Packet, with_payload};
 use smoltcp_socket::wire::{
-    IcmpRepr, Icmpv4Repr, IpRepr, Ipv4Address, TcpControl, TcpRepr, UdpRepr,
+    IcmpRepr, Icmpv4Repr, IpRepr, Ipv4Address, Ipv4Repr, TcpControl, TcpRepr, UdpRepr,
 };
 use smoltcp_socket::{Context, PollAt, Socket, icmp, raw, tcp, udp};
 use std::alloc::{AllocError, Global};
@@ -34,6 +35,15 @@ impl<'a> Host<'a> {
                 outbox: Vec::new(alloc),
             },
         }
+    }
+
+    /// Adds a socket of each kind.
+    pub fn add(&mut self, tcp: tcp::Socket<'a>, others: Sockets<'a>) -> Result<(), AllocError> {
+        self.sockets.push(Socket::Tcp(tcp))?;
+        self.sockets.push(Socket::Udp(others.udp))?;
+        self.sockets.push(Socket::Icmp(others.icmp))?;
+        self.sockets.push(Socket::Raw(others.raw))?;
+        Ok(())
     }
 
     /// When the host wants to be served: the earliest of what its sockets say.
@@ -81,10 +91,8 @@ impl<'a> Host<'a> {
             return Ok(());
         }
         for socket in &mut self.sockets {
-            if let Socket::Tcp(socket) = socket {
-                if take_segment(socket, &mut self.interface, ip, repr)? {
-                    return Ok(());
-                }
+            if take_segment(socket, &mut self.interface, ip, repr)? {
+                return Ok(());
             }
         }
         if repr.control == TcpControl::Rst {
@@ -97,11 +105,8 @@ impl<'a> Host<'a> {
     // The first socket that a datagram is for takes it.
     fn receive_udp(&mut self, ip: &IpRepr, repr: &UdpRepr, payload: &[u8]) {
         for socket in &mut self.sockets {
-            if let Socket::Udp(socket) = socket {
-                if socket.accepts(&self.interface, ip, repr) {
-                    socket.process(&self.interface, ip, repr, payload);
-                    return;
-                }
+            if take_datagram(socket, &self.interface, ip, repr, payload) {
+                return;
             }
         }
     }
@@ -113,42 +118,74 @@ impl<'a> Host<'a> {
             return;
         };
         for socket in &mut self.sockets {
-            if let Socket::Icmp(socket) = socket {
-                if socket.accepts_v4(&self.interface, ip, &repr) {
-                    socket.process_v4(&self.interface, ip, &repr);
-                }
-            }
+            take_message(socket, &self.interface, ip, &repr);
         }
     }
 
     // Every socket that a packet is for takes it. A raw socket could be for the other protocols too; here none is.
     fn receive_raw(&mut self, ip: &IpRepr, payload: &[u8]) {
         for socket in &mut self.sockets {
-            if let Socket::Raw(socket) = socket {
-                if socket.accepts(ip) {
-                    socket.process(&self.interface, ip, payload);
-                }
-            }
+            take_packet(socket, &self.interface, ip, payload);
         }
     }
 }
 
 // Gives a segment to the socket if it is for it, and says whether it was. What the socket answers goes out.
 fn take_segment(
-    socket: &mut tcp::Socket<'_>,
+    socket: &mut Socket<'_>,
     interface: &mut Interface,
     ip: &IpRepr,
     repr: &TcpRepr<'_>,
 ) -> Result<bool, AllocError>
     requires { length repr.now.payload.now ≤ 65535 }
 {
-    if !socket.accepts(interface, ip, repr) {
-        return Ok(false);
+    match socket {
+        Socket::Tcp(socket) if socket.accepts(interface, ip, repr) => {
+            if let Some((ip, reply)) = socket.process(interface, ip, repr) {
+                interface.emit_tcp(ip, &reply)?;
+            }
+            Ok(true)
+        }
+        _ => Ok(false),
     }
-    if let Some((ip, reply)) = socket.process(interface, ip, repr) {
-        interface.emit_tcp(ip, &reply)?;
+}
+
+// The same of a datagram, to which there is no answer.
+fn take_datagram(
+    socket: &mut Socket<'_>,
+    interface: &Interface,
+    ip: &IpRepr,
+    repr: &UdpRepr,
+    payload: &[u8],
+) -> bool {
+    match socket {
+        Socket::Udp(socket) if socket.accepts(interface, ip, repr) => {
+            socket.process(interface, ip, repr, payload);
+            true
+        }
+        _ => false,
     }
-    Ok(true)
+}
+
+fn take_message(
+    socket: &mut Socket<'_>,
+    interface: &Interface,
+    ip: &Ipv4Repr,
+    repr: &Icmpv4Repr<'_>,
+) {
+    match socket {
+        Socket::Icmp(socket) if socket.accepts_v4(interface, ip, repr) => {
+            socket.process_v4(interface, ip, repr);
+        }
+        _ => {}
+    }
+}
+
+fn take_packet(socket: &mut Socket<'_>, interface: &Interface, ip: &IpRepr, payload: &[u8]) {
+    match socket {
+        Socket::Raw(socket) if socket.accepts(ip) => socket.process(interface, ip, payload),
+        _ => {}
+    }
 }
 
 // Whether the socket wants a dispatch now.

@@ -129,20 +129,31 @@ impl Simulation<'_> {
     fn round(&mut self) -> Result<(), AllocError> {
         self.a.interface.set_time(self.now);
         self.b.interface.set_time(self.now);
+        self.receive()?;
+        self.run_applications()?;
+        self.emit()?;
+        self.run_applications()
+    }
+
+    // Takes what has arrived off the wire.
+    fn receive(&mut self) -> Result<(), AllocError> {
         for _ in 0..ARRIVALS {
             match self.wire.arrived(self.now) {
                 Some(packet) => self.deliver(&packet)?,
                 None => break,
             }
         }
-        self.run_applications()?;
+        Ok(())
+    }
+
+    // Puts what the sockets emit on the wire.
+    fn emit(&mut self) -> Result<(), AllocError> {
         self.a.dispatch()?;
         self.b.dispatch()?;
         let from_a = self.a.interface.take_outbox();
         self.send(from_a)?;
         let from_b = self.b.interface.take_outbox();
-        self.send(from_b)?;
-        self.run_applications()
+        self.send(from_b)
     }
 
     fn run_applications(&mut self) -> Result<(), AllocError> {

@@ -2,7 +2,9 @@
 
 use crate::context::{A, B};
 use crate::packet::{Body, Packet};
-use smoltcp_socket::wire::{ChecksumCapabilities, Icmpv4Repr, IpAddress, TcpControl, TcpRepr};
+use smoltcp_socket::wire::{
+    ChecksumCapabilities, Icmpv4Repr, IpAddress, IpProtocol, TcpControl, TcpRepr,
+};
 use std::alloc::{AllocError, Global};
 use std::fmt::Write;
 
@@ -39,31 +41,29 @@ impl Trace {
         self.at(now)?;
         let (src, dst) = (name(&packet.ip.src_addr()), name(&packet.ip.dst_addr()));
         match &packet.body {
-            Body::Tcp(header, payload) => self.segment(src, dst, header, payload.len())?,
+            Body::Tcp(header, payload) => {
+                self.ends(src, header.src_port, dst, header.dst_port)?;
+                self.segment(header, payload.len())?;
+            }
             Body::Udp(repr, payload) => {
-                let (from, to, len) = (repr.src_port, repr.dst_port, payload.len());
-                write!(self.text, "{src}:{from} > {dst}:{to}: UDP len {len}")?;
+                self.ends(src, repr.src_port, dst, repr.dst_port)?;
+                let len = payload.len();
+                write!(self.text, "UDP len {len}")?;
             }
             Body::Icmp(message) => self.message(src, dst, message.as_slice())?,
-            Body::Raw(payload) => {
-                let protocol = u8::from(packet.ip.next_header());
-                let len = payload.len();
-                write!(self.text, "{src} > {dst}: protocol {protocol} len {len}")?;
-            }
+            Body::Raw(payload) => self.raw(src, dst, packet.ip.next_header(), payload.len())?,
         }
         self.arrival(arrival)
     }
 
-    fn segment(
-        &mut self,
-        src: &str,
-        dst: &str,
-        header: &TcpRepr<'_>,
-        len: usize,
-    ) -> Result<(), AllocError> {
-        let (from, to) = (header.src_port, header.dst_port);
+    // The ports between which a segment or a datagram goes.
+    fn ends(&mut self, src: &str, from: u16, dst: &str, to: u16) -> Result<(), AllocError> {
+        write!(self.text, "{src}:{from} > {dst}:{to}: ")
+    }
+
+    fn segment(&mut self, header: &TcpRepr<'_>, len: usize) -> Result<(), AllocError> {
         let (flags, seq) = (flags(header), header.seq_number.0);
-        write!(self.text, "{src}:{from} > {dst}:{to}: {flags} seq {seq}")?;
+        write!(self.text, "{flags} seq {seq}")?;
         if let Some(ack) = header.ack_number {
             let ack = ack.0;
             write!(self.text, " ack {ack}")?;
@@ -74,6 +74,17 @@ impl Trace {
             write!(self.text, " sack {left}-{right}")?;
         }
         Ok(())
+    }
+
+    fn raw(
+        &mut self,
+        src: &str,
+        dst: &str,
+        protocol: IpProtocol,
+        len: usize,
+    ) -> Result<(), AllocError> {
+        let protocol = u8::from(protocol);
+        write!(self.text, "{src} > {dst}: protocol {protocol} len {len}")
     }
 
     fn message(&mut self, src: &str, dst: &str, message: &[u8]) -> Result<(), AllocError> {

@@ -1,6 +1,6 @@
 //! Worked examples of ICMP sockets.
 use super::host::Host;
-use super::packets::two_packets;
+use super::packets::{first, two_packets};
 use crate::PollAt;
 use crate::icmp::*;
 use crate::wire::{
@@ -14,10 +14,62 @@ const NOWHERE: IpAddress = IpAddress::Ipv4(Ipv4Address([0; 4]));
 
 // A socket that has no room for messages.
 fn roomless() -> Socket<'static> {
+    holding(PacketBuffer::new(&mut [], &mut []))
+}
+
+// A socket in which these wait to be read, and that has no room for messages to send.
+fn holding(received: PacketBuffer<'_>) -> Socket<'_> {
+    Socket::new(received, PacketBuffer::new(&mut [], &mut []))
+}
+
+// The socket's calls without their contracts: the tests prove faster so.
+fn receiver<'a>(places: &'a mut [PacketMetadata], bytes: &'a mut [u8]) -> Socket<'a> {
+    holding(PacketBuffer::new(places, bytes))
+}
+
+fn sender<'a>(places: &'a mut [PacketMetadata], bytes: &'a mut [u8]) -> Socket<'a> {
     Socket::new(
         PacketBuffer::new(&mut [], &mut []),
-        PacketBuffer::new(&mut [], &mut []),
+        PacketBuffer::new(places, bytes),
     )
+}
+
+fn binds(socket: &mut Socket<'_>, endpoint: Endpoint) -> Result<(), BindError> {
+    socket.bind(endpoint)
+}
+
+fn polls(socket: &Socket<'_>) -> PollAt {
+    socket.poll_at(&Host::new(None))
+}
+
+fn sends(socket: &mut Socket<'_>, data: &[u8], remote: IpAddress) -> Result<(), SendError> {
+    socket.send_slice(data, remote)
+}
+
+fn lends(socket: &mut Socket<'_>, size: usize, remote: IpAddress) -> Result<usize, SendError> {
+    socket.send(size, remote).map(|lent| lent.len())
+}
+
+fn hears(socket: &mut Socket<'_>, message: &Icmpv4Repr<'_>) {
+    socket.process_v4(&Host::new(None), &TO_HERE, message);
+}
+
+fn gives(socket: &mut Socket<'_>, answer: Result<(&[u8], IpAddress), RecvError>) -> bool {
+    socket.recv() == answer
+}
+
+// How many messages and bytes may wait to be read, how many bytes do, and whether there is a message.
+fn receives(socket: &Socket<'_>) -> (usize, usize, usize, bool) {
+    (
+        socket.packet_recv_capacity(),
+        socket.payload_recv_capacity(),
+        socket.recv_queue(),
+        socket.can_recv(),
+    )
+}
+
+fn copies(socket: &mut Socket<'_>) -> Result<(usize, IpAddress), RecvError> {
+    socket.recv_slice(&mut [0; 4])
 }
 
 #[test]
@@ -34,7 +86,7 @@ fn icmp_bind_validation(rt: HostRuntime) -> Result<(), Fail> {
         (Endpoint::Ident(1), Err(BindError::InvalidState), true),
         (Endpoint::default(), Err(BindError::Unaddressable), true),
     ] {
-        assert!(rt; socket.bind(endpoint) == answer);
+        assert!(rt; binds(&mut socket, endpoint) == answer);
         assert!(rt; socket.is_open() == open);
     }
     assert!(rt; !Endpoint::Tcp(portless).is_specified());
@@ -47,28 +99,15 @@ fn icmp_bind_validation(rt: HostRuntime) -> Result<(), Fail> {
 fn icmp_send_limits(rt: HostRuntime) -> Result<(), Fail> {
     let mut places = [PacketMetadata::EMPTY; 1];
     let mut bytes = [0u8; 66];
-    let mut socket = Socket::new(
-        PacketBuffer::new(&mut [], &mut []),
-        PacketBuffer::new(&mut places, &mut bytes),
-    );
-    let (many, long, short) = ([7; 67], [7; 66], b"abcdef");
-    for (data, remote, answer, next) in [
-        (
-            many.as_slice(),
-            THERE,
-            Err(SendError::BufferFull),
-            PollAt::Ingress,
-        ),
-        (
-            short.as_slice(),
-            NOWHERE,
-            Err(SendError::Unaddressable),
-            PollAt::Ingress,
-        ),
-        (long.as_slice(), THERE, Ok(()), PollAt::Now),
+    let mut socket = sender(&mut places, &mut bytes);
+    let data = [7; 67];
+    for (size, remote, answer, next) in [
+        (67, THERE, Err(SendError::BufferFull), PollAt::Ingress),
+        (6, NOWHERE, Err(SendError::Unaddressable), PollAt::Ingress),
+        (66, THERE, Ok(()), PollAt::Now),
     ] {
-        assert!(rt; socket.send_slice(data, remote) == answer);
-        assert!(rt; socket.poll_at(&Host::new(None)) == next);
+        assert!(rt; sends(&mut socket, first(&data, size), remote) == answer);
+        assert!(rt; polls(&socket) == next);
     }
     assert!(rt; !socket.can_send() && socket.send_queue() == 66);
     Ok(())
@@ -77,8 +116,8 @@ fn icmp_send_limits(rt: HostRuntime) -> Result<(), Fail> {
 #[test]
 fn icmp_full_buffer(rt: HostRuntime) -> Result<(), Fail> {
     let mut socket = roomless();
-    assert!(rt; matches!(socket.send(1, NOWHERE), Err(SendError::Unaddressable)));
-    assert!(rt; matches!(socket.send(0, THERE), Err(SendError::BufferFull)));
+    assert!(rt; lends(&mut socket, 1, NOWHERE) == Err(SendError::Unaddressable));
+    assert!(rt; lends(&mut socket, 0, THERE) == Err(SendError::BufferFull));
     assert!(rt; socket.send_with(0, THERE, |lent| lent.len()) == Err(SendError::BufferFull));
     assert!(rt; socket.hop_limit() == None);
     socket.set_hop_limit(Some(3));
@@ -91,16 +130,14 @@ fn icmp_truncated_slices(rt: HostRuntime) -> Result<(), Fail> {
     let mut places = [PacketMetadata::EMPTY; 2];
     let mut bytes = [0u8; 16];
     let received = two_packets(&rt, &mut places, &mut bytes, THERE);
-    let mut socket = Socket::new(received, PacketBuffer::new(&mut [], &mut []));
-    assert!(rt; socket.packet_recv_capacity() == 2 && socket.payload_recv_capacity() == 16);
-    assert!(rt; socket.can_recv() && socket.recv_queue() == 9);
-    let mut short = [0u8; 4];
+    let mut socket = holding(received);
+    assert!(rt; receives(&socket) == (2, 16, 9, true));
     for (copied, taken) in [
         (RecvError::Truncated, Ok((b"xyz".as_slice(), THERE))),
         (RecvError::Exhausted, Err(RecvError::Exhausted)),
     ] {
-        assert!(rt; socket.recv_slice(&mut short) == Err(copied));
-        assert!(rt; socket.recv() == taken);
+        assert!(rt; copies(&mut socket) == Err(copied));
+        assert!(rt; gives(&mut socket, taken));
     }
     assert!(rt; !socket.can_recv());
     Ok(())
@@ -143,7 +180,7 @@ fn emitted(socket: &mut Socket<'_>, fail: bool) -> (Option<IpRepr>, bool) {
 #[test]
 fn icmp_accepts_identifier(rt: HostRuntime) -> Result<(), Fail> {
     let mut socket = roomless();
-    assert!(rt; socket.bind(Endpoint::Ident(0x1234)) == Ok(()));
+    assert!(rt; binds(&mut socket, Endpoint::Ident(0x1234)) == Ok(()));
     for (ident, accepted) in [(0x1234, true), (0x4321, false)] {
         assert!(rt; accepts(&socket, &echo(ident)) == accepted);
     }
@@ -154,15 +191,12 @@ fn icmp_accepts_identifier(rt: HostRuntime) -> Result<(), Fail> {
 fn icmp_message_is_written_out(rt: HostRuntime) -> Result<(), Fail> {
     let mut places = [PacketMetadata::EMPTY; 1];
     let mut bytes = [0u8; 66];
-    let mut socket = Socket::new(
-        PacketBuffer::new(&mut places, &mut bytes),
-        PacketBuffer::new(&mut [], &mut []),
-    );
-    assert!(rt; socket.bind(Endpoint::Ident(0x1234)) == Ok(()));
-    socket.process_v4(&Host::new(None), &TO_HERE, &echo(0x1234));
+    let mut socket = receiver(&mut places, &mut bytes);
+    assert!(rt; binds(&mut socket, Endpoint::Ident(0x1234)) == Ok(()));
+    hears(&mut socket, &echo(0x1234));
     // The sum of the words 0800, 1234, 0001, 7069 and 6e67 is f905.
     let want = [8, 0, 0x06, 0xfa, 0x12, 0x34, 0, 1, b'p', b'i', b'n', b'g'];
-    assert!(rt; socket.recv() == Ok((want.as_slice(), THERE)));
+    assert!(rt; gives(&mut socket, Ok((want.as_slice(), THERE))));
     Ok(())
 }
 
@@ -173,7 +207,7 @@ fn icmp_errors_go_to_the_port_that_sent(rt: HostRuntime) -> Result<(), Fail> {
         addr: None,
         port: 53,
     };
-    assert!(rt; socket.bind(Endpoint::Udp(endpoint)) == Ok(()));
+    assert!(rt; binds(&mut socket, Endpoint::Udp(endpoint)) == Ok(()));
     // A datagram from port 53 to port 49500, of no bytes and without a checksum.
     for (port, accepted) in [(53u8, true), (54, false)] {
         let body = [0, port, 0xc1, 0x5c, 0, 8, 0, 0];
@@ -191,11 +225,8 @@ fn icmp_errors_go_to_the_port_that_sent(rt: HostRuntime) -> Result<(), Fail> {
 fn icmp_dispatch_drops_and_keeps(rt: HostRuntime) -> Result<(), Fail> {
     let mut places = [PacketMetadata::EMPTY; 1];
     let mut bytes = [0u8; 66];
-    let mut socket = Socket::new(
-        PacketBuffer::new(&mut [], &mut []),
-        PacketBuffer::new(&mut places, &mut bytes),
-    );
-    assert!(rt; socket.send_slice(b"abcdef", THERE) == Ok(()));
+    let mut socket = sender(&mut places, &mut bytes);
+    assert!(rt; sends(&mut socket, b"abcdef", THERE) == Ok(()));
     assert!(rt; emitted(&mut socket, false) == (None, true));
     let header = IpRepr::Ipv4(Ipv4Repr {
         src_addr: HERE,
@@ -205,13 +236,10 @@ fn icmp_dispatch_drops_and_keeps(rt: HostRuntime) -> Result<(), Fail> {
         hop_limit: 64,
     });
     let message = [8, 0, 0, 0, 0x12, 0x34, 0, 1, 7, 7];
-    for fails in 0..4 {
-        assert!(rt; socket.send_slice(&message, THERE) == Ok(()));
-        for turn in 0..=fails {
-            let done = turn == fails;
-            assert!(rt; emitted(&mut socket, !done) == (Some(header), done));
-        }
-        assert!(rt; socket.send_queue() == 0);
+    assert!(rt; sends(&mut socket, &message, THERE) == Ok(()));
+    for fails in [true, true, false] {
+        assert!(rt; emitted(&mut socket, fails) == (Some(header), !fails));
     }
+    assert!(rt; socket.send_queue() == 0);
     Ok(())
 }

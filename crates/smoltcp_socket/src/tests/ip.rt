@@ -1,5 +1,6 @@
 //! Worked examples of addresses, checksums and IP headers.
 
+use super::packets::first;
 use ip_wire::*;
 use std::test::Fail;
 
@@ -80,68 +81,85 @@ fn checksums_are_filled(rt: HostRuntime) {
     let mut bytes = [0; 115];
     bytes[..20].copy_from_slice(&KNOWN);
     // what the length field says is there
-    assert!(rt; Ipv4Packet::new_checked(&bytes[..114]).is_err());
-    if Ipv4Packet::new_checked(&bytes).is_ok() {
-        Ipv4Packet::set_checksum(&mut bytes, 0x1234);
-    }
+    assert!(rt; !is_ipv4(first(&bytes, 114)));
+    sets_checksum(&mut bytes, 0x1234);
     assert!(rt; (bytes[10], bytes[11]) == (0x12, 0x34));
-    if Ipv4Packet::new_checked(&bytes).is_ok() {
-        Ipv4Packet::fill_checksum(&mut bytes);
+    fills_checksum(&mut bytes);
+    assert!(rt; first(&bytes, 20) == KNOWN.as_slice());
+}
+
+// The calls of packets and headers without their contracts: the tests prove faster so.
+fn is_ipv4(bytes: &[u8]) -> bool {
+    Ipv4Packet::new_checked(bytes).is_ok()
+}
+
+fn is_ipv6(bytes: &[u8]) -> bool {
+    Ipv6Packet::new_checked(bytes).is_ok()
+}
+
+fn sets_checksum(bytes: &mut [u8], checksum: u16) {
+    if Ipv4Packet::new_checked(bytes).is_ok() {
+        Ipv4Packet::set_checksum(bytes, checksum);
     }
-    assert!(rt; bytes[..20] == KNOWN[..]);
+}
+
+fn fills_checksum(bytes: &mut [u8]) {
+    if Ipv4Packet::new_checked(bytes).is_ok() {
+        Ipv4Packet::fill_checksum(bytes);
+    }
+}
+
+// Writes a header in front of what stands in the buffer behind it.
+fn writes(repr: &IpRepr, bytes: &mut [u8]) {
+    if repr.header_len() <= bytes.len() {
+        repr.emit(bytes, &ChecksumCapabilities::default());
+    }
+}
+
+// The header of a packet, and what it says of the payload's protocol and bytes.
+fn reads<'a>(
+    bytes: &'a [u8],
+    caps: &ChecksumCapabilities,
+) -> Result<(IpRepr, IpProtocol, &'a [u8]), Error> {
+    let packet = Ipv4Packet::new_checked(bytes)?;
+    let repr = Ipv4Repr::parse(&packet, caps)?;
+    Ok((IpRepr::Ipv4(repr), packet.next_header(), packet.payload()))
+}
+
+fn reads_v6(bytes: &[u8]) -> Result<(IpRepr, IpProtocol, &[u8]), Error> {
+    let packet = Ipv6Packet::new_checked(bytes)?;
+    let repr = Ipv6Repr::parse(&packet)?;
+    Ok((IpRepr::Ipv6(repr), packet.next_header(), packet.payload()))
 }
 
 #[test]
-fn headers_are_written_and_read(rt: HostRuntime) -> Result<(), Fail> {
+fn headers_are_written_and_read(rt: HostRuntime) {
     let caps = ChecksumCapabilities::default();
     let to = IpAddress::Ipv4(Ipv4Address([10, 0, 0, 2]));
     let repr = IpRepr::new(A, to, IpProtocol::Unknown(63), 4, 64);
     let mut bytes = [1; 24];
-    repr.emit(&mut bytes, &caps);
+    writes(&repr, &mut bytes);
     let want = [
         0x45, 0, 0, 0x18, 0, 0, 0x40, 0, 0x40, 0x3f, 0x26, 0xa5, 10, 0, 0, 1, 10, 0, 0, 2, 1, 1, 1,
         1,
     ];
     assert!(rt; bytes == want);
-    let packet = Ipv4Packet::new_checked(&bytes)?;
-    assert!(rt; packet.next_header() == IpProtocol::Unknown(63));
-    assert!(rt; packet.payload() == &[1; 4][..]);
-    assert!(rt; Ipv4Repr::parse(&packet, &caps).map(IpRepr::Ipv4) == Ok(repr));
+    let payload = [1; 4].as_slice();
+    assert!(rt; reads(&bytes, &caps) == Ok((repr, IpProtocol::Unknown(63), payload)));
     // a byte that changed is seen only where checksums are tested
     bytes[8] = 63;
-    let packet = Ipv4Packet::new_checked(&bytes)?;
-    assert!(rt; Ipv4Repr::parse(&packet, &caps).is_err());
-    assert!(rt; Ipv4Repr::parse(&packet, &ChecksumCapabilities::ignored()).is_ok());
-    Ok(())
+    assert!(rt; reads(&bytes, &caps).is_err());
+    assert!(rt; reads(&bytes, &ChecksumCapabilities::ignored()).is_ok());
 }
 
 #[test]
-fn ipv6_headers(rt: HostRuntime) -> Result<(), Fail> {
+fn ipv6_headers(rt: HostRuntime) {
     let repr = IpRepr::new(B, B, IpProtocol::Icmpv6, 2, 255);
     let mut bytes = [7; 42];
-    repr.emit(&mut bytes, &ChecksumCapabilities::default());
-    assert!(rt; bytes[..8] == [0x60, 0, 0, 0, 0, 2, 58, 255][..]);
-    let packet = Ipv6Packet::new_checked(&bytes)?;
-    assert!(rt; packet.next_header() == IpProtocol::Icmpv6);
-    assert!(rt; packet.payload() == &[7, 7][..]);
-    assert!(rt; Ipv6Repr::parse(&packet).map(IpRepr::Ipv6) == Ok(repr));
-    assert!(rt; Ipv6Packet::new_checked(&bytes[..41]).is_err());
-    assert!(rt; Ipv6Packet::new_checked(&[0; 39]).is_err());
+    writes(&repr, &mut bytes);
+    assert!(rt; first(&bytes, 8) == [0x60, 0, 0, 0, 0, 2, 58, 255].as_slice());
+    assert!(rt; reads_v6(&bytes) == Ok((repr, IpProtocol::Icmpv6, &[7, 7])));
+    assert!(rt; !is_ipv6(first(&bytes, 41)) && !is_ipv6(&[0; 39]));
     // the version is tested by parse alone
-    assert!(rt; Ipv6Repr::parse(&Ipv6Packet::new_checked(&[0; 40])?).is_err());
-    Ok(())
-}
-
-#[test]
-fn shortest_ipv4(rt: HostRuntime) {
-    let mut bytes = [0; 20];
-    bytes[0] = 0x45;
-    bytes[3] = 20;
-    assert!(rt; Ipv4Packet::new_checked(&bytes).is_ok());
-    assert!(rt; Ipv4Packet::new_checked(&bytes[..19]).is_err());
-    // a header of 16 bytes, and a total length below that of the header
-    bytes[0] = 0x44;
-    assert!(rt; Ipv4Packet::new_checked(&bytes).is_err());
-    bytes[0] = 0x46;
-    assert!(rt; Ipv4Packet::new_checked(&bytes).is_err());
+    assert!(rt; is_ipv6(&[0; 40]) && reads_v6(&[0; 40]).is_err());
 }

@@ -1,4 +1,4 @@
-//! A receive queue in which packets wait.
+//! A receive queue in which packets wait, and parts of slices.
 use net_base::packet_buffer::{PacketBuffer, PacketMetadata};
 use std::process::Abort;
 
@@ -17,4 +17,9 @@ pub(crate) fn two_packets<'a, H: Copy>(
         }
     }
     queue
+}
+
+// The first bytes of these, so many of them, or all.
+pub(crate) fn first(bytes: &[u8], count: usize) -> &[u8] {
+    &bytes[..count.min(bytes.len())]
 }

@@ -1,4 +1,4 @@
-//! Worked examples, and all short lists of calls against a plain set.
+//! Worked examples of ranges ahead of a gap.
 use sock_core::ranges::{Ranges, TooManyRanges};
 use std::test::Fail;
 
@@ -81,76 +81,5 @@ fn ranges_wrap(rt: HostRuntime) -> Result<(), Fail> {
     assert!(rt; add(&mut held, 0, 4) == Some(6));
     assert!(rt; held.front() == 4);
     assert!(rt; held.is_empty());
-    Ok(())
-}
-
-// A set of offsets below 32, one mark for each.
-#[derive(Drop)]
-struct Marks([bool; 32]);
-
-impl Marks {
-    fn count_runs(&self) -> usize {
-        let mut count: usize = 0;
-        let mut before = false;
-        for mark in self.0 {
-            if mark && !before {
-                count = count.wrapping_add(1);
-            }
-            before = mark;
-        }
-        count
-    }
-
-    fn add_then_remove_front(&mut self, offset: usize, len: usize) -> Option<usize> {
-        let mut marks = Marks(self.0);
-        for mark in marks.0.iter_mut().skip(offset).take(len) {
-            *mark = true;
-        }
-        if offset > 0 && marks.count_runs() > 4 {
-            return None;
-        }
-        let run = marks.0.iter().take_while(|mark| **mark).count();
-        for (index, mark) in self.0.iter_mut().enumerate() {
-            *mark = marks
-                .0
-                .get(index.wrapping_add(run))
-                .copied()
-                .unwrap_or(false);
-        }
-        Some(run)
-    }
-
-    fn is_same(&self, ranges: &Ranges) -> bool {
-        let shown = shown(ranges);
-        self.0.iter().enumerate().all(|(offset, mark)| {
-            *mark
-                == shown.iter().any(|range| match range {
-                    Some((start, end)) => *start <= offset && offset < *end,
-                    None => false,
-                })
-        })
-    }
-}
-
-#[test]
-fn ranges_are_a_set(rt: HostRuntime) -> Result<(), Fail> {
-    for start in [[].as_slice(), [(11, 1), (13, 2), (16, 1)].as_slice()] {
-        for code in 0..1_728usize {
-            let mut held = Ranges::at(4_294_967_293);
-            let mut marks = Marks([false; 32]);
-            for (offset, len) in start {
-                add(&mut held, *offset, *len);
-                marks.add_then_remove_front(*offset, *len);
-            }
-            let mut rest = code;
-            for _ in 0..3 {
-                let (offset, len) = (rest % 6, rest / 6 % 2 + 1);
-                rest /= 12;
-                let want = marks.add_then_remove_front(offset, len);
-                assert!(rt; add(&mut held, offset, len) == want, "at {code}");
-                assert!(rt; marks.is_same(&held), "at {code}");
-            }
-        }
-    }
     Ok(())
 }

@@ -1,6 +1,6 @@
 //! Worked examples of raw sockets.
 use super::host::Host;
-use super::packets::two_packets;
+use super::packets::{first, two_packets};
 use crate::PollAt;
 use crate::raw::*;
 use crate::wire::{Checksum, IpAddress, IpProtocol, IpRepr, IpVersion, Ipv4Address};
@@ -16,23 +16,70 @@ const EXPERIMENT: IpProtocol = IpProtocol::Unknown(63);
 fn raw_buffer_full(rt: HostRuntime) -> Result<(), Fail> {
     let mut places = [PacketMetadata::EMPTY; 1];
     let mut bytes = [0u8; 48];
-    let mut socket = Socket::new(
+    let mut socket = sender(
         Some(IpVersion::Ipv4),
         Some(EXPERIMENT),
-        PacketBuffer::new(&mut [], &mut []),
-        PacketBuffer::new(&mut places, &mut bytes),
+        &mut places,
+        &mut bytes,
     );
-    let (long, short) = ([7; 56], [7; 48]);
-    for (data, answer, next) in [
-        (long.as_slice(), Err(SendError::BufferFull), PollAt::Ingress),
-        (short.as_slice(), Ok(()), PollAt::Now),
+    let data = [7; 56];
+    for (size, answer, next) in [
+        (56, Err(SendError::BufferFull), PollAt::Ingress),
+        (48, Ok(()), PollAt::Now),
     ] {
-        assert!(rt; socket.send_slice(data) == answer);
-        assert!(rt; socket.poll_at(&Host::new(None)) == next);
+        assert!(rt; sends(&mut socket, first(&data, size)) == answer);
+        assert!(rt; polls(&socket) == next);
     }
     assert!(rt; socket.send_queue() == 48 && !socket.can_send());
     assert!(rt; closures_refused(&mut socket));
     Ok(())
+}
+
+// The socket's calls without their contracts: the tests prove faster so. This one has room for packets that come.
+fn receiver<'a>(
+    version: Option<IpVersion>,
+    protocol: Option<IpProtocol>,
+    places: &'a mut [PacketMetadata],
+    bytes: &'a mut [u8],
+) -> Socket<'a> {
+    Socket::new(
+        version,
+        protocol,
+        PacketBuffer::new(places, bytes),
+        PacketBuffer::new(&mut [], &mut []),
+    )
+}
+
+// A socket of any version and protocol, in which these packets wait to be read.
+fn holding(received: PacketBuffer<'_>) -> Socket<'_> {
+    Socket::new(None, None, received, PacketBuffer::new(&mut [], &mut []))
+}
+
+// A socket that has room for packets to send.
+fn sender<'a>(
+    version: Option<IpVersion>,
+    protocol: Option<IpProtocol>,
+    places: &'a mut [PacketMetadata],
+    bytes: &'a mut [u8],
+) -> Socket<'a> {
+    Socket::new(
+        version,
+        protocol,
+        PacketBuffer::new(&mut [], &mut []),
+        PacketBuffer::new(places, bytes),
+    )
+}
+
+fn polls(socket: &Socket<'_>) -> PollAt {
+    socket.poll_at(&Host::new(None))
+}
+
+fn sends(socket: &mut Socket<'_>, data: &[u8]) -> Result<(), SendError> {
+    socket.send_slice(data)
+}
+
+fn hears(socket: &mut Socket<'_>, header: &IpRepr, payload: &[u8]) {
+    socket.process(&Host::new(None), header, payload);
 }
 
 // Whether there is no room for a packet of no bytes either.
@@ -44,11 +91,11 @@ fn closures_refused(socket: &mut Socket<'_>) -> bool {
 fn raw_limits_and_filters(rt: HostRuntime) -> Result<(), Fail> {
     let mut places = [PacketMetadata::EMPTY; 1];
     let mut bytes = [0u8; 48];
-    let socket = Socket::new(
+    let socket = sender(
         Some(IpVersion::Ipv4),
         Some(EXPERIMENT),
-        PacketBuffer::new(&mut [], &mut []),
-        PacketBuffer::new(&mut places, &mut bytes),
+        &mut places,
+        &mut bytes,
     );
     assert!(rt; socket.packet_send_capacity() == 1 && socket.payload_send_capacity() == 48);
     assert!(rt; socket.ip_version() == Some(IpVersion::Ipv4));
@@ -60,12 +107,7 @@ fn raw_limits_and_filters(rt: HostRuntime) -> Result<(), Fail> {
 fn what_is_lent_is_queued(rt: HostRuntime) -> Result<(), Fail> {
     let mut places = [PacketMetadata::EMPTY; 2];
     let mut bytes = [0u8; 8];
-    let mut socket = Socket::new(
-        None,
-        None,
-        PacketBuffer::new(&mut [], &mut []),
-        PacketBuffer::new(&mut places, &mut bytes),
-    );
+    let mut socket = sender(None, None, &mut places, &mut bytes);
     match socket.send(3) {
         Ok(lent) => lent.copy_from_slice(b"abc"),
         Err(_) => assert!(rt; false),
@@ -84,12 +126,7 @@ fn raw_accepts_by_version_and_protocol(rt: HostRuntime) -> Result<(), Fail> {
         (Some(IpVersion::Ipv6), None, false),
         (None, Some(IpProtocol::Udp), false),
     ] {
-        let socket = Socket::new(
-            version,
-            protocol,
-            PacketBuffer::new(&mut [], &mut []),
-            PacketBuffer::new(&mut [], &mut []),
-        );
+        let socket = sender(version, protocol, &mut [], &mut []);
         assert!(rt; socket.accepts(&packet) == accepted);
     }
     Ok(())
@@ -111,7 +148,7 @@ fn raw_truncated_slices(rt: HostRuntime) -> Result<(), Fail> {
     let mut places = [PacketMetadata::EMPTY; 2];
     let mut bytes = [0u8; 16];
     let received = two_packets(&rt, &mut places, &mut bytes, ());
-    let mut socket = Socket::new(None, None, received, PacketBuffer::new(&mut [], &mut []));
+    let mut socket = holding(received);
     assert!(rt; copies(&mut socket) == [Err(RecvError::Truncated); 2]);
     assert!(rt; socket.peek_slice(&mut [0; 4]) == Ok(3));
     assert!(rt; first_is(&mut socket, Ok(b"xyz")));
@@ -125,7 +162,7 @@ fn raw_receive_limits(rt: HostRuntime) -> Result<(), Fail> {
     let mut places = [PacketMetadata::EMPTY; 2];
     let mut bytes = [0u8; 16];
     let received = two_packets(&rt, &mut places, &mut bytes, ());
-    let socket = Socket::new(None, None, received, PacketBuffer::new(&mut [], &mut []));
+    let socket = holding(received);
     assert!(rt; socket.packet_recv_capacity() == 2 && socket.payload_recv_capacity() == 16);
     assert!(rt; socket.can_recv() && socket.recv_queue() == 9);
     Ok(())
@@ -158,15 +195,15 @@ fn emitted(socket: &mut Socket<'_>, cx: &mut Host, fail: bool) -> (Option<IpRepr
 fn raw_process_and_peek(rt: HostRuntime) -> Result<(), Fail> {
     let mut places = [PacketMetadata::EMPTY; 1];
     let mut bytes = [0u8; 48];
-    let mut socket = Socket::new(
+    let mut socket = receiver(
         Some(IpVersion::Ipv4),
         Some(EXPERIMENT),
-        PacketBuffer::new(&mut places, &mut bytes),
-        PacketBuffer::new(&mut [], &mut []),
+        &mut places,
+        &mut bytes,
     );
     let header = IpRepr::new(HERE, THERE, EXPERIMENT, 4, 64);
-    socket.process(&Host::new(None), &header, &PAYLOAD);
-    socket.process(&Host::new(None), &header, &[1, 2, 3, 4]);
+    hears(&mut socket, &header, &PAYLOAD);
+    hears(&mut socket, &header, &[1, 2, 3, 4]);
     let mut whole = PACKET;
     whole[10] = 0x26;
     whole[11] = 0xa5;
@@ -179,11 +216,11 @@ fn raw_process_and_peek(rt: HostRuntime) -> Result<(), Fail> {
 fn raw_malformed_or_foreign_dropped(rt: HostRuntime) -> Result<(), Fail> {
     let mut places = [PacketMetadata::EMPTY; 1];
     let mut bytes = [0u8; 48];
-    let mut socket = Socket::new(
+    let mut socket = sender(
         Some(IpVersion::Ipv4),
         Some(EXPERIMENT),
-        PacketBuffer::new(&mut [], &mut []),
-        PacketBuffer::new(&mut places, &mut bytes),
+        &mut places,
+        &mut bytes,
     );
     let mut cx = host(Checksum::Both);
     for (at, byte) in [(0usize, 0x65u8), (9, 6), (0, 0x44), (3, 0x19)] {
@@ -191,7 +228,7 @@ fn raw_malformed_or_foreign_dropped(rt: HostRuntime) -> Result<(), Fail> {
         if at < 24 {
             packet[at] = byte;
         }
-        assert!(rt; socket.send_slice(&packet) == Ok(()));
+        assert!(rt; sends(&mut socket, &packet) == Ok(()));
         assert!(rt; emitted(&mut socket, &mut cx, false) == (None, true));
         assert!(rt; socket.send_queue() == 0);
     }
@@ -202,13 +239,8 @@ fn raw_malformed_or_foreign_dropped(rt: HostRuntime) -> Result<(), Fail> {
 fn raw_other_version_dropped(rt: HostRuntime) -> Result<(), Fail> {
     let mut places = [PacketMetadata::EMPTY; 1];
     let mut bytes = [0u8; 48];
-    let mut socket = Socket::new(
-        Some(IpVersion::Ipv6),
-        None,
-        PacketBuffer::new(&mut [], &mut []),
-        PacketBuffer::new(&mut places, &mut bytes),
-    );
-    assert!(rt; socket.send_slice(&PACKET) == Ok(()));
+    let mut socket = sender(Some(IpVersion::Ipv6), None, &mut places, &mut bytes);
+    assert!(rt; sends(&mut socket, &PACKET) == Ok(()));
     let mut cx = host(Checksum::Both);
     assert!(rt; emitted(&mut socket, &mut cx, false) == (None, true));
     Ok(())
@@ -218,13 +250,13 @@ fn raw_other_version_dropped(rt: HostRuntime) -> Result<(), Fail> {
 fn raw_zero_checksum_where_not_sent(rt: HostRuntime) -> Result<(), Fail> {
     let mut places = [PacketMetadata::EMPTY; 1];
     let mut bytes = [0u8; 48];
-    let mut socket = Socket::new(
+    let mut socket = sender(
         Some(IpVersion::Ipv4),
         Some(EXPERIMENT),
-        PacketBuffer::new(&mut [], &mut []),
-        PacketBuffer::new(&mut places, &mut bytes),
+        &mut places,
+        &mut bytes,
     );
-    assert!(rt; socket.send_slice(&PACKET) == Ok(()));
+    assert!(rt; sends(&mut socket, &PACKET) == Ok(()));
     let mut cx = host(Checksum::Rx);
     let header = IpRepr::new(HERE, THERE, EXPERIMENT, 4, 64);
     assert!(rt; emitted(&mut socket, &mut cx, false) == (Some(header), true));
@@ -236,21 +268,13 @@ fn raw_zero_checksum_where_not_sent(rt: HostRuntime) -> Result<(), Fail> {
 fn raw_failed_emits_keep_the_packet(rt: HostRuntime) -> Result<(), Fail> {
     let mut places = [PacketMetadata::EMPTY; 1];
     let mut bytes = [0u8; 48];
-    let mut socket = Socket::new(
-        None,
-        None,
-        PacketBuffer::new(&mut [], &mut []),
-        PacketBuffer::new(&mut places, &mut bytes),
-    );
+    let mut socket = sender(None, None, &mut places, &mut bytes);
     let mut cx = host(Checksum::Both);
     let header = IpRepr::new(HERE, THERE, EXPERIMENT, 4, 64);
-    for fails in 0..4 {
-        assert!(rt; socket.send_slice(&PACKET) == Ok(()));
-        for _ in 0..fails {
-            assert!(rt; emitted(&mut socket, &mut cx, true) == (Some(header), false));
-        }
-        assert!(rt; emitted(&mut socket, &mut cx, false) == (Some(header), true));
-        assert!(rt; socket.send_queue() == 0);
+    assert!(rt; sends(&mut socket, &PACKET) == Ok(()));
+    for fails in [true, true, false] {
+        assert!(rt; emitted(&mut socket, &mut cx, fails) == (Some(header), !fails));
     }
+    assert!(rt; socket.send_queue() == 0);
     Ok(())
 }

@@ -20,6 +20,16 @@ fn moments_and_lengths_of_time(rt: HostRuntime) -> Result<(), Fail> {
     Ok(())
 }
 
+// The calls without their contracts, where a test needs none of them: it proves faster so.
+fn ring(places: &mut [u8]) -> RingBuffer<'_, u8> {
+    RingBuffer::new(places)
+}
+
+// The length of the queue, the room behind it, and that of both.
+fn sizes(ring: &RingBuffer<'_, u8>) -> (usize, usize, usize) {
+    (ring.len(), ring.window(), ring.capacity())
+}
+
 fn filled(bytes: &mut [u8], text: &[u8]) -> usize
     ensures { result ≤ length bytes.old }
 {
@@ -79,16 +89,16 @@ fn added(ring: &mut RingBuffer<'_, u8>) -> (usize, usize) {
 #[test]
 fn a_ring_goes_around_its_end(rt: HostRuntime) -> Result<(), Fail> {
     let mut places = [0u8; 4];
-    let mut ring = RingBuffer::new(&mut places);
+    let mut ring = ring(&mut places);
     assert!(rt; enqueued(&mut ring, b"abc") == 3);
     removed(&mut ring, 2);
     assert!(rt; enqueued(&mut ring, b"defg") == 3);
     assert!(rt; begins(&ring, b"cd"));
-    assert!(rt; ring.is_full() && ring.window() == 0 && ring.capacity() == 4);
+    assert!(rt; ring.is_full() && sizes(&ring) == (4, 0, 4));
     assert!(rt; copies(&ring, 1, b"def") && takes(&mut ring, b"cde"));
     assert!(rt; written(&mut ring, 1, b"xyz") == 2);
     joined(&mut ring, 3);
-    assert!(rt; ring.len() == 4 && emptied(&mut ring) == (3, 3));
+    assert!(rt; sizes(&ring) == (4, 0, 4) && emptied(&mut ring) == (3, 3));
     assert!(rt; begins(&ring, b"y"));
     ring.clear();
     assert!(rt; ring.is_empty() && added(&mut ring) == (1, 4));
@@ -96,25 +106,49 @@ fn a_ring_goes_around_its_end(rt: HostRuntime) -> Result<(), Fail> {
     Ok(())
 }
 
+fn adds(held: &mut Assembler, offset: usize, size: usize) -> Result<usize, TooManyHoles> {
+    if size == 0 || offset > 100 || size > 100 {
+        return Err(TooManyHoles);
+    }
+    held.add_then_remove_front(offset, size)
+}
+
 #[test]
 fn an_assembler_refuses_a_fifth_range(rt: HostRuntime) -> Result<(), Fail> {
     let mut held = Assembler::new();
     assert!(rt; held.is_empty());
-    assert!(rt; held.add_then_remove_front(4, 2) == Ok(0));
-    assert!(rt; held.add_then_remove_front(8, 2) == Ok(0));
-    assert!(rt; held.add_then_remove_front(12, 2) == Ok(0));
-    assert!(rt; held.add_then_remove_front(16, 2) == Ok(0));
-    assert!(rt; held.add_then_remove_front(20, 1) == Err(TooManyHoles));
-    assert!(rt; held.add_then_remove_front(0, 5) == Ok(6));
+    for (offset, size, answer) in [
+        (4, 2, Ok(0)),
+        (8, 2, Ok(0)),
+        (12, 2, Ok(0)),
+        (16, 2, Ok(0)),
+        (20, 1, Err(TooManyHoles)),
+        (0, 5, Ok(6)),
+    ] {
+        assert!(rt; adds(&mut held, offset, size) == answer, "at {offset}");
+    }
     let mut ranges = held.iter_data();
-    assert!(rt; ranges.next() == Some((2, 4)));
-    assert!(rt; ranges.next() == Some((6, 8)));
-    assert!(rt; ranges.next() == Some((10, 12)));
-    assert!(rt; ranges.next() == None);
+    for want in [Some((2, 4)), Some((6, 8)), Some((10, 12)), None] {
+        assert!(rt; ranges.next() == want);
+    }
     Ok(())
 }
 
 type Packets<'a> = PacketBuffer<'a, u16>;
+
+fn packets<'a>(places: &'a mut [PacketMetadata<u16>], bytes: &'a mut [u8]) -> Packets<'a> {
+    PacketBuffer::new(places, bytes)
+}
+
+// How many packets and bytes there is room for.
+fn capacities(packets: &Packets<'_>) -> (usize, usize) {
+    (packets.packet_capacity(), packets.payload_capacity())
+}
+
+// How many bytes wait, and whether no packet can join them.
+fn waiting(packets: &Packets<'_>) -> (usize, bool) {
+    (packets.payload_bytes_count(), packets.is_full())
+}
 
 fn puts(packets: &mut Packets<'_>, header: u16, bytes: &[u8]) -> bool {
     match packets.enqueue(bytes.len(), header) {
@@ -161,44 +195,54 @@ fn taken(packets: &mut Packets<'_>) -> Result<Result<u8, ()>, Empty> {
 fn packets_go_around_the_end_with_padding(rt: HostRuntime) -> Result<(), Fail> {
     let mut places = [PacketMetadata::EMPTY; 4];
     let mut bytes = [0u8; 16];
-    let mut packets = PacketBuffer::new(&mut places, &mut bytes);
-    assert!(rt; packets.packet_capacity() == 4 && packets.payload_capacity() == 16);
+    let mut packets = packets(&mut places, &mut bytes);
+    assert!(rt; capacities(&packets) == (4, 16));
     assert!(rt; puts(&mut packets, 1, b"abcdef"));
     assert!(rt; wrote(&mut packets, 8, 2, b"123456") == Ok(6));
     assert!(rt; gives(&mut packets, 1, b"abcdef"));
     // four bytes are free at the end, six at the beginning: the four become padding
     assert!(rt; wrote(&mut packets, 5, 3, b"vwxyz") == Ok(5));
-    assert!(rt; packets.payload_bytes_count() == 15);
-    assert!(rt; puts(&mut packets, 4, b"_") && packets.is_full());
-    assert!(rt; !puts(&mut packets, 5, b""));
+    assert!(rt; waiting(&packets) == (15, false) && puts(&mut packets, 4, b"_"));
+    assert!(rt; waiting(&packets) == (16, true) && !puts(&mut packets, 5, b""));
     assert!(rt; shows(&mut packets, 2, b"123456"));
     assert!(rt; refused(&mut packets) == Ok(Err(2)));
     assert!(rt; shows(&mut packets, 2, b"000000"));
     assert!(rt; taken(&mut packets) == Ok(Ok(7)));
-    assert!(rt; packets.payload_bytes_count() == 10);
+    assert!(rt; waiting(&packets) == (10, false));
     assert!(rt; gives(&mut packets, 3, b"vwxyz"));
-    assert!(rt; packets.payload_bytes_count() == 1);
+    assert!(rt; waiting(&packets) == (1, false));
     packets.reset();
-    assert!(rt; packets.is_empty() && packets.dequeue().is_err() && packets.peek().is_err());
+    assert!(rt; packets.is_empty() && !drops(&mut packets) && !shows(&mut packets, 0, b""));
     assert!(rt; !puts(&mut packets, 6, &[0; 17]) && puts(&mut packets, 6, &[0; 16]));
     Ok(())
+}
+
+fn lends(packets: &mut Packets<'_>, size: usize, header: u16) -> bool {
+    packets.enqueue(size, header).is_ok()
+}
+
+fn drops(packets: &mut Packets<'_>) -> bool {
+    packets.dequeue().is_ok()
+}
+
+// The metadata and the length of the first packet, which goes out of its place.
+fn first(packets: &mut Packets<'_>) -> Option<(u16, usize)> {
+    match packets.take_first() {
+        Some((header, (from, size))) => Some((header, packets.part(from, size).len())),
+        None => None,
+    }
 }
 
 #[test]
 fn padding_takes_the_last_place(rt: HostRuntime) -> Result<(), Fail> {
     let mut places = [PacketMetadata::EMPTY; 2];
     let mut bytes = [0u8; 8];
-    let mut packets = PacketBuffer::new(&mut places, &mut bytes);
-    assert!(rt; packets.enqueue(3, 1u16).is_ok() && packets.enqueue(4, 2).is_ok());
-    assert!(rt; packets.dequeue().is_ok() && !packets.is_full());
-    assert!(rt; packets.enqueue_with_infallible(2, 3, |lent| lent.len()) == Err(Full));
-    assert!(rt; packets.is_full() && packets.payload_bytes_count() == 5);
-    match packets.take_first() {
-        Some((header, (from, size))) => assert!(rt;
-            header == 2 && packets.part(from, size).len() == 4
-        ),
-        None => return Ok(assert!(rt; false)),
-    }
+    let mut packets = packets(&mut places, &mut bytes);
+    assert!(rt; lends(&mut packets, 3, 1) && lends(&mut packets, 4, 2));
+    assert!(rt; drops(&mut packets) && waiting(&packets) == (4, false));
+    assert!(rt; wrote(&mut packets, 2, 3, b"xy") == Err(Full));
+    assert!(rt; waiting(&packets) == (5, true));
+    assert!(rt; first(&mut packets) == Some((2, 4)));
     // the padding is left: it is taken for a place until the next look
     assert!(rt; !packets.is_empty());
     packets.skip_padding();

@@ -335,15 +335,29 @@ fn close_and_abort_by_state(rt: HostRuntime) -> Result<(), Fail> {
     Ok(())
 }
 
-// The RST that answers a segment, if one does.
-fn rst_of(ip_repr: &IpRepr, repr: &TcpRepr<'_>) -> Option<Reply> {
-    if repr.payload.len() > 65535 {
+// The control bits, the number and the acknowledgement of an answer.
+type Answer = (TcpControl, u32, Option<TcpSeqNumber>);
+
+fn answer_of(repr: &TcpRepr<'_>) -> Answer {
+    (repr.control, repr.seq_number.0, repr.ack_number)
+}
+
+// The RST that answers a segment, if one does, with the endpoints that it goes between.
+fn rst_of(ip_repr: &IpRepr, repr: &TcpRepr<'_>) -> Option<(IpEndpoint, IpEndpoint, Answer)> {
+    if repr.payload.len() > 65535 || repr.control == TcpControl::Rst {
         return None;
     }
-    match repr.control {
-        TcpControl::Rst => None,
-        _ => Some(Socket::rst_reply(ip_repr, repr)),
-    }
+    let (ip, rst) = Socket::rst_reply(ip_repr, repr);
+    let (addr, port) = (ip.src_addr(), rst.src_port);
+    let from = IpEndpoint { addr, port };
+    let (addr, port) = (ip.dst_addr(), rst.dst_port);
+    Some((from, IpEndpoint { addr, port }, answer_of(&rst)))
+}
+
+// A reply without content.
+fn reply_to(ip_repr: &IpRepr, repr: &TcpRepr<'_>) -> (Answer, usize, u8) {
+    let (ip, reply) = Socket::reply(ip_repr, repr);
+    (answer_of(&reply), ip.payload_len(), ip.hop_limit())
 }
 
 #[test]
@@ -351,21 +365,12 @@ fn replies_turn_the_segment_round(rt: HostRuntime) -> Result<(), Fail> {
     let ip_repr = IpRepr::new(B.addr, A.addr, IpProtocol::Tcp, 24, 255);
     let mut syn = answer(TcpControl::Syn, 5000, &[]);
     syn.ack_number = None;
-    let Some((ip_reply, rst)) = rst_of(&ip_repr, &syn) else {
-        return Err(Fail::new("no RST answers it"));
-    };
-    assert!(rt; ip_reply.src_addr() == A.addr);
-    assert!(rt; ip_reply.dst_addr() == B.addr);
-    assert!(rt; (ip_reply.payload_len(), ip_reply.hop_limit()) == (20, 64));
-    assert!(rt; (rst.src_port, rst.dst_port) == (A.port, B.port));
-    assert!(rt; rst.control == TcpControl::Rst);
-    assert!(rt; (rst.seq_number.0, rst.ack_number) == (0, Some(TcpSeqNumber(5001))));
-    let Some((_, rst)) = rst_of(&ip_repr, &answer(TcpControl::None, 5001, b"x")) else {
-        return Err(Fail::new("no RST answers it"));
-    };
-    assert!(rt; (rst.seq_number.0, rst.ack_number) == (1001, None));
-    let (_, reply) = Socket::reply(&ip_repr, &syn);
-    assert!(rt; (reply.control, reply.ack_number, reply.window_len) == (TcpControl::None, None, 0));
+    let rst = (TcpControl::Rst, 0, Some(TcpSeqNumber(5001)));
+    assert!(rt; rst_of(&ip_repr, &syn) == Some((A, B, rst)));
+    let data = answer(TcpControl::None, 5001, b"x");
+    let rst = (TcpControl::Rst, 1001, None);
+    assert!(rt; rst_of(&ip_repr, &data) == Some((A, B, rst)));
+    assert!(rt; reply_to(&ip_repr, &syn) == ((TcpControl::None, 0, None), 20, 64));
     Ok(())
 }
 

@@ -15,6 +15,16 @@ fn put<W: Sink>(sink: &mut W, text: &str) -> Result<(), StreamFault>
     sink.write_all(text.as_bytes())
 }
 
+#[tactic(auto, using(crate::proofs::ReplaySinks::takes_after))]
+fn put_two<W: Sink>(sink: &mut W, first: &str, second: &str) -> Result<(), StreamFault>
+    requires { W.has_failed sink.old ≡ false }
+    ensures { Takes (W.contents sink.old) result (first.now ++ second.now) (W.contents sink.new)
+        (W.has_failed sink.new) }
+{
+    put(sink, first)?;
+    put(sink, second)
+}
+
 fn put_byte<W: Sink>(sink: &mut W, byte: u8) -> Result<(), StreamFault>
     requires { W.has_failed sink.old ≡ false }
     ensures { Takes (W.contents sink.old) result (byte ∷ []) (W.contents sink.new) (W.has_failed sink.new) }
@@ -128,6 +138,22 @@ fn put_reply<W: Sink>(
     }
 }
 
+// A word, and the reply behind it.
+#[tactic(auto, using(crate::proofs::ReplaySinks::takes_after))]
+fn put_replied<W: Sink>(
+    sink: &mut W,
+    word: &str,
+    segments: &[Segment],
+    reply: Option<usize>,
+) -> Result<(), StreamFault>
+    requires { W.has_failed sink.old ≡ false }
+    ensures { Takes (W.contents sink.old) result (word.now ++ reply_text (map stored_of segments.now) reply)
+        (W.contents sink.new) (W.has_failed sink.new) }
+{
+    put(sink, word)?;
+    put_reply(sink, segments, reply)
+}
+
 // ` BYTES`, or nothing.
 #[tactic(auto, using(crate::proofs::ReplaySinks::takes_after, crate::proofs::ReplaySinks::appends_nil))]
 fn put_bytes<W: Sink>(sink: &mut W, bytes: &[u8]) -> Result<(), StreamFault>
@@ -158,36 +184,24 @@ fn put_outcome<W: Sink>(
         Outcome::Opened => put(sink, "opened"),
         Outcome::Done => put(sink, "done"),
         Outcome::Accepted(count) => put_count(sink, "accepted ", *count),
-        Outcome::SendRefused(error) => {
-            put(sink, "send-refused ")?;
-            put(sink, error.text())
-        }
+        Outcome::SendRefused(error) => put_two(sink, "send-refused ", error.text()),
         Outcome::Read(bytes) => {
             put_count(sink, "read ", bytes.len())?;
             put_bytes(sink, bytes.as_slice())
         }
-        Outcome::RecvRefused(error) => {
-            put(sink, "recv-refused ")?;
-            put(sink, error.text())
-        }
+        Outcome::RecvRefused(error) => put_two(sink, "recv-refused ", error.text()),
         Outcome::Quiet => put(sink, "quiet"),
         Outcome::Emitted(index) => {
             put(sink, "emitted ")?;
             put_numbered(sink, segments, *index)
         }
         Outcome::EmitFailed => put(sink, "emit-failed"),
-        Outcome::Delivered(reply) => {
-            put(sink, "delivered")?;
-            put_reply(sink, segments, *reply)
-        }
+        Outcome::Delivered(reply) => put_replied(sink, "delivered", segments, *reply),
         Outcome::AlreadyOpened => put(sink, "already-opened"),
         Outcome::NoSegment => put(sink, "no-segment"),
         Outcome::StreamLimit => put(sink, "stream-limit"),
         Outcome::TooOld => put(sink, "too-old"),
-        Outcome::NotAccepted(reply) => {
-            put(sink, "not-accepted")?;
-            put_reply(sink, segments, *reply)
-        }
+        Outcome::NotAccepted(reply) => put_replied(sink, "not-accepted", segments, *reply),
     }
 }
 

@@ -77,15 +77,14 @@ fn run_events<W: Sink>(alloc: Global, pair: &mut Pair<'_>, events: &[Event], wri
 {
     let mut outcomes = Vec::new(alloc);
     let ran = pair.run(events, &mut outcomes);
-    if let Err(_) = write_outcomes(writer, pair.segments(), outcomes.as_slice()) {
-        return End::Write;
-    }
-    if let Err(_) = ran {
-        return End::Memory;
-    }
-    match write_sides(writer, pair) {
-        Ok(()) => End::Done,
-        Err(_) => End::Write,
+    let written = write_outcomes(writer, pair.segments(), outcomes.as_slice());
+    match (written, ran) {
+        (Err(_), _) => End::Write,
+        (Ok(()), Err(_)) => End::Memory,
+        (Ok(()), Ok(())) => match write_sides(writer, pair) {
+            Ok(()) => End::Done,
+            Err(_) => End::Write,
+        },
     }
 }
 

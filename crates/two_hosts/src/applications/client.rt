@@ -3,7 +3,7 @@
 use super::{ECHO_PORT, EXPERIMENT, NAME_PORT, PING_IDENT, PLACES, READ, note_state, port};
 use crate::context::{A, B, Interface};
 use crate::host::Host;
-use crate::memory::{Memory, Sockets};
+use crate::memory::Memory;
 use crate::packet::icmp_bytes;
 use crate::trace::Trace;
 use smoltcp_socket::tcp::State;
@@ -12,7 +12,7 @@ use smoltcp_socket::udp::UdpMetadata;
 use smoltcp_socket::wire::{
     ChecksumCapabilities, Icmpv4Repr, IpAddress, IpEndpoint, IpRepr, Ipv4Repr,
 };
-use smoltcp_socket::{AnySocket, PollAt, Socket, icmp, raw, tcp, udp};
+use smoltcp_socket::{PollAt, Socket, icmp, raw, tcp, udp};
 use std::alloc::{AllocError, Global};
 use std::fmt::Write;
 
@@ -46,24 +46,16 @@ pub fn open<'a>(
     mut tcp: tcp::Socket<'a>,
     memory: &'a mut Memory,
 ) -> Result<(), AllocError> {
-    let Sockets {
-        mut udp,
-        mut icmp,
-        raw,
-    } = memory.sockets(EXPERIMENT);
+    let mut sockets = memory.sockets(EXPERIMENT);
     let server = IpEndpoint {
         addr: IpAddress::Ipv4(B),
         port: ECHO_PORT,
     };
     tcp.set_nagle_enabled(false);
     let _ = tcp.connect(&mut host.interface, server, port(TCP_PORT));
-    let _ = udp.bind(port(UDP_PORT));
-    let _ = icmp.bind(icmp::Endpoint::Ident(PING_IDENT));
-    host.sockets.push(tcp.upcast())?;
-    host.sockets.push(udp.upcast())?;
-    host.sockets.push(icmp.upcast())?;
-    host.sockets.push(raw.upcast())?;
-    Ok(())
+    let _ = sockets.udp.bind(port(UDP_PORT));
+    let _ = sockets.icmp.bind(icmp::Endpoint::Ident(PING_IDENT));
+    host.add(tcp, sockets)
 }
 
 /// The client: it sends a text to the echo server, asks for host b's name, pings it, and sends it one raw packet.
@@ -118,14 +110,26 @@ impl Client {
     /// Lets the client use the sockets of its host.
     pub fn run(&mut self, host: &mut Host<'_>, trace: &mut Trace) -> Result<(), AllocError> {
         for socket in &mut host.sockets {
-            match socket {
-                Socket::Tcp(socket) => self.run_tcp(socket, &host.interface, trace)?,
-                Socket::Udp(socket) => self.ask_name(socket, &host.interface, trace)?,
-                Socket::Icmp(socket) => self.ping(socket, &host.interface, trace)?,
-                Socket::Raw(socket) => self.send_raw(socket),
-            }
+            self.use_socket(socket, &host.interface, trace)?;
         }
         Ok(())
+    }
+
+    fn use_socket(
+        &mut self,
+        socket: &mut Socket<'_>,
+        interface: &Interface,
+        trace: &mut Trace,
+    ) -> Result<(), AllocError> {
+        match socket {
+            Socket::Tcp(socket) => self.run_tcp(socket, interface, trace),
+            Socket::Udp(socket) => self.ask_name(socket, interface, trace),
+            Socket::Icmp(socket) => self.ping(socket, interface, trace),
+            Socket::Raw(socket) => {
+                self.send_raw(socket);
+                Ok(())
+            }
+        }
     }
 
     // Sends the text, reads what comes back, and closes when all of it is there.
@@ -139,14 +143,15 @@ impl Client {
         self.send_piece(socket, interface.now);
         self.read_echo(socket, interface, trace)?;
         if self.state == State::Established && self.echoed.len() == TEXT.len() {
-            let same = self.echoed.as_slice() == TEXT;
-            writeln!(
-                trace.at(interface.now)?,
-                "a: all came back, the same: {same}"
-            )?;
             socket.close();
+            self.compare_echo(interface.now, trace)?;
         }
         note_state(&mut self.state, socket, "a", interface.now, trace)
+    }
+
+    fn compare_echo(&self, now: u32, trace: &mut Trace) -> Result<(), AllocError> {
+        let same = self.echoed.as_slice() == TEXT;
+        writeln!(trace.at(now)?, "a: all came back, the same: {same}")
     }
 
     fn send_piece(&mut self, socket: &mut tcp::Socket<'_>, now: u32) {
@@ -183,13 +188,8 @@ impl Client {
         interface: &Interface,
         trace: &mut Trace,
     ) -> Result<(), AllocError> {
-        let mut bytes = [0u8; READ];
         for _ in 0..PLACES {
-            if let Ok((count, from)) = socket.recv_slice(&mut bytes) {
-                let text = String::from_utf8_lossy(interface.alloc, &bytes[..count])?;
-                writeln!(trace.at(interface.now)?, "a: {from} answers {text:?}")?;
-                self.next_question = None;
-            }
+            self.read_name(socket, interface, trace)?;
         }
         match self.next_question {
             Some(at) if at <= interface.now => {
@@ -205,6 +205,21 @@ impl Client {
         Ok(())
     }
 
+    fn read_name(
+        &mut self,
+        socket: &mut udp::Socket<'_>,
+        interface: &Interface,
+        trace: &mut Trace,
+    ) -> Result<(), AllocError> {
+        let mut bytes = [0u8; READ];
+        if let Ok((count, from)) = socket.recv_slice(&mut bytes) {
+            let text = String::from_utf8_lossy(interface.alloc, &bytes[..count])?;
+            writeln!(trace.at(interface.now)?, "a: {from} answers {text:?}")?;
+            self.next_question = None;
+        }
+        Ok(())
+    }
+
     // Shows the answers to its pings, and sends the next one when its time has come.
     fn ping(
         &mut self,
@@ -212,14 +227,8 @@ impl Client {
         interface: &Interface,
         trace: &mut Trace,
     ) -> Result<(), AllocError> {
-        let mut bytes = [0u8; READ];
         for _ in 0..PLACES {
-            if let Ok((count, _)) = socket.recv_slice(&mut bytes) {
-                let message = Icmpv4Repr::parse(&bytes[..count], &ChecksumCapabilities::default());
-                if let Ok(Icmpv4Repr::EchoReply { seq_no, .. }) = message {
-                    writeln!(trace.at(interface.now)?, "a: ping {seq_no} is answered")?;
-                }
-            }
+            read_pong(socket, interface.now, trace)?;
         }
         if self.pings < PINGS && self.next_ping <= interface.now {
             self.pings += 1;
@@ -252,6 +261,18 @@ impl Client {
         packet[20..].copy_from_slice(b"hello");
         self.raw_sent = socket.send_slice(&packet).is_ok();
     }
+}
+
+// Shows the next answer to a ping.
+fn read_pong(socket: &mut icmp::Socket<'_>, now: u32, trace: &mut Trace) -> Result<(), AllocError> {
+    let mut bytes = [0u8; READ];
+    if let Ok((count, _)) = socket.recv_slice(&mut bytes) {
+        let message = Icmpv4Repr::parse(&bytes[..count], &ChecksumCapabilities::default());
+        if let Ok(Icmpv4Repr::EchoReply { seq_no, .. }) = message {
+            writeln!(trace.at(now)?, "a: ping {seq_no} is answered")?;
+        }
+    }
+    Ok(())
 }
 
 fn moment(millis: u32) -> PollAt {

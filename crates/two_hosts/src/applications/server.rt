@@ -3,12 +3,12 @@
 use super::{ECHO_PORT, EXPERIMENT, NAME_PORT, PING_IDENT, PLACES, READ, note_state, port};
 use crate::context::Interface;
 use crate::host::Host;
-use crate::memory::{Memory, Sockets};
+use crate::memory::Memory;
 use crate::packet::icmp_bytes;
 use crate::trace::Trace;
 use smoltcp_socket::tcp::State;
 use smoltcp_socket::wire::{ChecksumCapabilities, Icmpv4Repr};
-use smoltcp_socket::{AnySocket, Socket, icmp, raw, tcp, udp};
+use smoltcp_socket::{Socket, icmp, raw, tcp, udp};
 use std::alloc::AllocError;
 use std::fmt::Write;
 
@@ -18,19 +18,11 @@ pub fn open<'a>(
     mut tcp: tcp::Socket<'a>,
     memory: &'a mut Memory,
 ) -> Result<(), AllocError> {
-    let Sockets {
-        mut udp,
-        mut icmp,
-        raw,
-    } = memory.sockets(EXPERIMENT);
+    let mut sockets = memory.sockets(EXPERIMENT);
     let _ = tcp.listen(port(ECHO_PORT));
-    let _ = udp.bind(port(NAME_PORT));
-    let _ = icmp.bind(icmp::Endpoint::Ident(PING_IDENT));
-    host.sockets.push(tcp.upcast())?;
-    host.sockets.push(udp.upcast())?;
-    host.sockets.push(icmp.upcast())?;
-    host.sockets.push(raw.upcast())?;
-    Ok(())
+    let _ = sockets.udp.bind(port(NAME_PORT));
+    let _ = sockets.icmp.bind(icmp::Endpoint::Ident(PING_IDENT));
+    host.add(tcp, sockets)
 }
 
 /// The servers: they echo what comes over TCP, tell the host's name over UDP, answer pings, and show raw packets.
@@ -51,14 +43,23 @@ impl Server {
     /// Lets the servers use the sockets of their host.
     pub fn run(&mut self, host: &mut Host<'_>, trace: &mut Trace) -> Result<(), AllocError> {
         for socket in &mut host.sockets {
-            match socket {
-                Socket::Tcp(socket) => self.echo(socket, &host.interface, trace)?,
-                Socket::Udp(socket) => tell_name(socket, &host.interface, trace)?,
-                Socket::Icmp(socket) => answer_pings(socket, &host.interface)?,
-                Socket::Raw(socket) => show_packets(socket, &host.interface, trace)?,
-            }
+            self.use_socket(socket, &host.interface, trace)?;
         }
         Ok(())
+    }
+
+    fn use_socket(
+        &mut self,
+        socket: &mut Socket<'_>,
+        interface: &Interface,
+        trace: &mut Trace,
+    ) -> Result<(), AllocError> {
+        match socket {
+            Socket::Tcp(socket) => self.echo(socket, interface, trace),
+            Socket::Udp(socket) => tell_name(socket, interface, trace),
+            Socket::Icmp(socket) => answer_pings(socket, interface),
+            Socket::Raw(socket) => show_packets(socket, interface, trace),
+        }
     }
 
     // Sends back what has come, as far as there is room, and closes when the client has closed and nothing is left.
@@ -69,17 +70,21 @@ impl Server {
         trace: &mut Trace,
     ) -> Result<(), AllocError> {
         note_state(&mut self.state, socket, "b", interface.now, trace)?;
-        let mut bytes = [0u8; READ];
-        let room = socket.send_capacity().saturating_sub(socket.send_queue());
-        if socket.can_recv() {
-            if let Ok(count) = socket.recv_slice(&mut bytes[..room.min(READ)]) {
-                let _ = socket.send_slice(&bytes[..count]);
-            }
-        }
+        send_back(socket);
         if self.state == State::CloseWait && !socket.can_recv() {
             socket.close();
         }
         note_state(&mut self.state, socket, "b", interface.now, trace)
+    }
+}
+
+fn send_back(socket: &mut tcp::Socket<'_>) {
+    let mut bytes = [0u8; READ];
+    let room = socket.send_capacity().saturating_sub(socket.send_queue());
+    if socket.can_recv() {
+        if let Ok(count) = socket.recv_slice(&mut bytes[..room.min(READ)]) {
+            let _ = socket.send_slice(&bytes[..count]);
+        }
     }
 }
 
@@ -101,26 +106,31 @@ fn tell_name(
 
 // Answers each echo request by an echo reply with the same content.
 fn answer_pings(socket: &mut icmp::Socket<'_>, interface: &Interface) -> Result<(), AllocError> {
-    let mut bytes = [0u8; READ];
     for _ in 0..PLACES {
-        if let Ok((count, from)) = socket.recv_slice(&mut bytes) {
-            let message = Icmpv4Repr::parse(&bytes[..count], &ChecksumCapabilities::default());
-            if let Ok(
-                Icmpv4Repr::EchoRequest {
-                    ident,
-                    seq_no,
-                    body,
-                },
-            ) = message
-            {
-                let reply = Icmpv4Repr::EchoReply {
-                    ident,
-                    seq_no,
-                    body,
-                };
-                let answer = icmp_bytes(interface.alloc, &reply)?;
-                let _ = socket.send_slice(answer.as_slice(), from);
-            }
+        answer_ping(socket, interface)?;
+    }
+    Ok(())
+}
+
+fn answer_ping(socket: &mut icmp::Socket<'_>, interface: &Interface) -> Result<(), AllocError> {
+    let mut bytes = [0u8; READ];
+    if let Ok((count, from)) = socket.recv_slice(&mut bytes) {
+        let message = Icmpv4Repr::parse(&bytes[..count], &ChecksumCapabilities::default());
+        if let Ok(
+            Icmpv4Repr::EchoRequest {
+                ident,
+                seq_no,
+                body,
+            },
+        ) = message
+        {
+            let reply = Icmpv4Repr::EchoReply {
+                ident,
+                seq_no,
+                body,
+            };
+            let answer = icmp_bytes(interface.alloc, &reply)?;
+            let _ = socket.send_slice(answer.as_slice(), from);
         }
     }
     Ok(())
