@@ -39,10 +39,15 @@ impl<'a> Host<'a> {
 
     /// Adds a socket of each kind.
     pub fn add(&mut self, tcp: tcp::Socket<'a>, others: Sockets<'a>) -> Result<(), AllocError> {
-        self.sockets.push(Socket::Tcp(tcp))?;
-        self.sockets.push(Socket::Udp(others.udp))?;
-        self.sockets.push(Socket::Icmp(others.icmp))?;
-        self.sockets.push(Socket::Raw(others.raw))?;
+        let Sockets { udp, icmp, raw } = others;
+        for socket in [
+            Socket::Tcp(tcp),
+            Socket::Udp(udp),
+            Socket::Icmp(icmp),
+            Socket::Raw(raw),
+        ] {
+            self.sockets.push(socket)?;
+        }
         Ok(())
     }
 

@@ -39,21 +39,25 @@ impl Trace {
         arrival: Option<u32>,
     ) -> Result<(), AllocError> {
         self.at(now)?;
+        self.content(packet)?;
+        self.arrival(arrival)
+    }
+
+    fn content(&mut self, packet: &Packet) -> Result<(), AllocError> {
         let (src, dst) = (name(&packet.ip.src_addr()), name(&packet.ip.dst_addr()));
         match &packet.body {
             Body::Tcp(header, payload) => {
                 self.ends(src, header.src_port, dst, header.dst_port)?;
-                self.segment(header, payload.len())?;
+                self.segment(header, payload.len())
             }
             Body::Udp(repr, payload) => {
                 self.ends(src, repr.src_port, dst, repr.dst_port)?;
                 let len = payload.len();
-                write!(self.text, "UDP len {len}")?;
+                write!(self.text, "UDP len {len}")
             }
-            Body::Icmp(message) => self.message(src, dst, message.as_slice())?,
-            Body::Raw(payload) => self.raw(src, dst, packet.ip.next_header(), payload.len())?,
+            Body::Icmp(message) => self.message(src, dst, message.as_slice()),
+            Body::Raw(payload) => self.raw(src, dst, packet.ip.next_header(), payload.len()),
         }
-        self.arrival(arrival)
     }
 
     // The ports between which a segment or a datagram goes.

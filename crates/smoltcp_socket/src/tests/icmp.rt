@@ -6,6 +6,7 @@ use crate::icmp::*;
 use crate::wire::{
     IcmpRepr, Icmpv4Repr, IpAddress, IpListenEndpoint, IpProtocol, IpRepr, Ipv4Address, Ipv4Repr,
 };
+use std::process::Abort;
 use std::test::Fail;
 
 const THERE: IpAddress = IpAddress::Ipv4(Ipv4Address([10, 0, 0, 2]));
@@ -125,6 +126,14 @@ fn icmp_full_buffer(rt: HostRuntime) -> Result<(), Fail> {
     Ok(())
 }
 
+// The first message is lost to a copy that is too short, the second is given whole, and then there is none.
+fn gives_the_second(rt: &(impl Abort), socket: &mut Socket<'_>) {
+    assert!(rt; copies(socket) == Err(RecvError::Truncated));
+    assert!(rt; gives(socket, Ok((b"xyz", THERE))));
+    assert!(rt; copies(socket) == Err(RecvError::Exhausted));
+    assert!(rt; gives(socket, Err(RecvError::Exhausted)) && !socket.can_recv());
+}
+
 #[test]
 fn icmp_truncated_slices(rt: HostRuntime) -> Result<(), Fail> {
     let mut places = [PacketMetadata::EMPTY; 2];
@@ -132,14 +141,7 @@ fn icmp_truncated_slices(rt: HostRuntime) -> Result<(), Fail> {
     let received = two_packets(&rt, &mut places, &mut bytes, THERE);
     let mut socket = holding(received);
     assert!(rt; receives(&socket) == (2, 16, 9, true));
-    for (copied, taken) in [
-        (RecvError::Truncated, Ok((b"xyz".as_slice(), THERE))),
-        (RecvError::Exhausted, Err(RecvError::Exhausted)),
-    ] {
-        assert!(rt; copies(&mut socket) == Err(copied));
-        assert!(rt; gives(&mut socket, taken));
-    }
-    assert!(rt; !socket.can_recv());
+    gives_the_second(&rt, &mut socket);
     Ok(())
 }
 

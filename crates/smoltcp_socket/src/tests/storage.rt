@@ -5,6 +5,7 @@ use net_base::assembler::{Assembler, TooManyHoles};
 use net_base::packet_buffer::{Empty, Full, PacketBuffer, PacketMetadata};
 use net_base::ring_buffer::RingBuffer;
 use net_base::time::{Duration, Instant};
+use std::process::Abort;
 use std::test::Fail;
 
 #[test]
@@ -86,23 +87,33 @@ fn added(ring: &mut RingBuffer<'_, u8>) -> (usize, usize) {
     })
 }
 
+// Around the end of four places, by copies.
+fn goes_around(rt: &(impl Abort), ring: &mut RingBuffer<'_, u8>) {
+    assert!(rt; enqueued(ring, b"abc") == 3);
+    removed(ring, 2);
+    assert!(rt; enqueued(ring, b"defg") == 3);
+    assert!(rt; begins(ring, b"cd"));
+    assert!(rt; ring.is_full() && sizes(ring) == (4, 0, 4));
+    assert!(rt; copies(ring, 1, b"def") && takes(ring, b"cde"));
+}
+
+// Bytes that join the queue behind a gap, and closures.
+fn joins_and_empties(rt: &(impl Abort), ring: &mut RingBuffer<'_, u8>) {
+    assert!(rt; written(ring, 1, b"xyz") == 2);
+    joined(ring, 3);
+    assert!(rt; sizes(ring) == (4, 0, 4) && emptied(ring) == (3, 3));
+    assert!(rt; begins(ring, b"y"));
+    ring.clear();
+    assert!(rt; ring.is_empty() && added(ring) == (1, 4));
+    assert!(rt; begins(ring, &[7]));
+}
+
 #[test]
 fn a_ring_goes_around_its_end(rt: HostRuntime) -> Result<(), Fail> {
     let mut places = [0u8; 4];
     let mut ring = ring(&mut places);
-    assert!(rt; enqueued(&mut ring, b"abc") == 3);
-    removed(&mut ring, 2);
-    assert!(rt; enqueued(&mut ring, b"defg") == 3);
-    assert!(rt; begins(&ring, b"cd"));
-    assert!(rt; ring.is_full() && sizes(&ring) == (4, 0, 4));
-    assert!(rt; copies(&ring, 1, b"def") && takes(&mut ring, b"cde"));
-    assert!(rt; written(&mut ring, 1, b"xyz") == 2);
-    joined(&mut ring, 3);
-    assert!(rt; sizes(&ring) == (4, 0, 4) && emptied(&mut ring) == (3, 3));
-    assert!(rt; begins(&ring, b"y"));
-    ring.clear();
-    assert!(rt; ring.is_empty() && added(&mut ring) == (1, 4));
-    assert!(rt; begins(&ring, &[7]));
+    goes_around(&rt, &mut ring);
+    joins_and_empties(&rt, &mut ring);
     Ok(())
 }
 
@@ -191,26 +202,35 @@ fn taken(packets: &mut Packets<'_>) -> Result<Result<u8, ()>, Empty> {
     packets.dequeue_with(|header, _| if *header == 2 { Ok(7u8) } else { Err(()) })
 }
 
+// Four bytes are free at the end, six at the beginning: the four become padding.
+fn pads(rt: &(impl Abort), packets: &mut Packets<'_>) {
+    assert!(rt; puts(packets, 1, b"abcdef"));
+    assert!(rt; wrote(packets, 8, 2, b"123456") == Ok(6));
+    assert!(rt; gives(packets, 1, b"abcdef"));
+    assert!(rt; wrote(packets, 5, 3, b"vwxyz") == Ok(5));
+    assert!(rt; waiting(packets) == (15, false) && puts(packets, 4, b"_"));
+    assert!(rt; waiting(packets) == (16, true) && !puts(packets, 5, b""));
+}
+
+// A closure that refuses the first packet, and one that takes it.
+fn refuses_and_takes(rt: &(impl Abort), packets: &mut Packets<'_>) {
+    assert!(rt; shows(packets, 2, b"123456"));
+    assert!(rt; refused(packets) == Ok(Err(2)));
+    assert!(rt; shows(packets, 2, b"000000"));
+    assert!(rt; taken(packets) == Ok(Ok(7)));
+    assert!(rt; waiting(packets) == (10, false));
+    assert!(rt; gives(packets, 3, b"vwxyz"));
+    assert!(rt; waiting(packets) == (1, false));
+}
+
 #[test]
 fn packets_go_around_the_end_with_padding(rt: HostRuntime) -> Result<(), Fail> {
     let mut places = [PacketMetadata::EMPTY; 4];
     let mut bytes = [0u8; 16];
     let mut packets = packets(&mut places, &mut bytes);
     assert!(rt; capacities(&packets) == (4, 16));
-    assert!(rt; puts(&mut packets, 1, b"abcdef"));
-    assert!(rt; wrote(&mut packets, 8, 2, b"123456") == Ok(6));
-    assert!(rt; gives(&mut packets, 1, b"abcdef"));
-    // four bytes are free at the end, six at the beginning: the four become padding
-    assert!(rt; wrote(&mut packets, 5, 3, b"vwxyz") == Ok(5));
-    assert!(rt; waiting(&packets) == (15, false) && puts(&mut packets, 4, b"_"));
-    assert!(rt; waiting(&packets) == (16, true) && !puts(&mut packets, 5, b""));
-    assert!(rt; shows(&mut packets, 2, b"123456"));
-    assert!(rt; refused(&mut packets) == Ok(Err(2)));
-    assert!(rt; shows(&mut packets, 2, b"000000"));
-    assert!(rt; taken(&mut packets) == Ok(Ok(7)));
-    assert!(rt; waiting(&packets) == (10, false));
-    assert!(rt; gives(&mut packets, 3, b"vwxyz"));
-    assert!(rt; waiting(&packets) == (1, false));
+    pads(&rt, &mut packets);
+    refuses_and_takes(&rt, &mut packets);
     packets.reset();
     assert!(rt; packets.is_empty() && !drops(&mut packets) && !shows(&mut packets, 0, b""));
     assert!(rt; !puts(&mut packets, 6, &[0; 17]) && puts(&mut packets, 6, &[0; 16]));

@@ -7,6 +7,7 @@ use crate::wire::{
     IpAddress, IpEndpoint, IpListenEndpoint, IpProtocol, IpRepr, Ipv4Address, TcpControl, TcpRepr,
     TcpSeqNumber,
 };
+use std::process::Abort;
 use std::test::Fail;
 
 pub(crate) const A: IpEndpoint = IpEndpoint {
@@ -145,27 +146,36 @@ fn waiting(socket: &Tcp<'_>) -> (usize, usize) {
     (socket.send_queue(), socket.recv_queue())
 }
 
+// Of six bytes, as many as fit are queued and go out.
+fn four_go_out(rt: &(impl Abort), socket: &mut Tcp<'_>, cx: &mut Host) {
+    assert!(rt; emitted(socket, cx, false) == (Some((1001, 0)), true));
+    assert!(rt; socket.send_slice(b"abcdef") == Ok(4));
+    assert!(rt; waiting(socket) == (4, 0) && socket.send_capacity() == 4);
+    assert!(rt; socket.may_send() && !socket.can_send());
+    assert!(rt; emitted(socket, cx, false) == (Some((1001, 4)), true));
+}
+
+fn three_come_in(rt: &(impl Abort), socket: &mut Tcp<'_>, cx: &mut Host) {
+    let ip_repr = IpRepr::new(B.addr, A.addr, IpProtocol::Tcp, 20, 64);
+    let data = answer(TcpControl::Psh, 5001, b"xyz");
+    assert!(rt; hear(socket, cx, &ip_repr, &data));
+    assert!(rt; socket.may_recv() && socket.can_recv());
+    assert!(rt; waiting(socket) == (4, 3) && socket.recv_capacity() == 4);
+    assert!(rt; reads(socket, b"xyz"));
+    // the acknowledgement of what was read, with the window free again
+    assert!(rt; emitted(socket, cx, false) == (Some((1005, 0)), true));
+}
+
 #[test]
 fn a_peer_sends_and_receives(rt: HostRuntime) -> Result<(), Fail> {
     let mut rx = [0u8; 4];
     let mut tx = [0u8; 4];
     let mut socket = Tcp::new(&mut rx, &mut tx);
     let mut cx = Host::at(0, 1000);
-    let ip_repr = IpRepr::new(B.addr, A.addr, IpProtocol::Tcp, 20, 64);
     establish(&mut socket, &mut cx);
     assert!(rt; socket.state() == State::Established);
-    assert!(rt; emitted(&mut socket, &mut cx, false) == (Some((1001, 0)), true));
-    assert!(rt; socket.send_slice(b"abcdef") == Ok(4));
-    assert!(rt; waiting(&socket) == (4, 0) && socket.send_capacity() == 4);
-    assert!(rt; socket.may_send() && !socket.can_send());
-    assert!(rt; emitted(&mut socket, &mut cx, false) == (Some((1001, 4)), true));
-    let data = answer(TcpControl::Psh, 5001, b"xyz");
-    assert!(rt; hear(&mut socket, &mut cx, &ip_repr, &data));
-    assert!(rt; socket.may_recv() && socket.can_recv());
-    assert!(rt; waiting(&socket) == (4, 3) && socket.recv_capacity() == 4);
-    assert!(rt; reads(&mut socket, b"xyz"));
-    // the acknowledgement of what was read, with the window free again
-    assert!(rt; emitted(&mut socket, &mut cx, false) == (Some((1005, 0)), true));
+    four_go_out(&rt, &mut socket, &mut cx);
+    three_come_in(&rt, &mut socket, &mut cx);
     Ok(())
 }
 
