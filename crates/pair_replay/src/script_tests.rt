@@ -30,6 +30,19 @@ fn is_event(script: &Script, index: usize, want: &Event) -> bool {
     script.events.as_slice().get(index) == Some(want)
 }
 
+// Whether these are the events of the script below, which sends these bytes.
+fn are_its_events(script: &Script, bytes: Vec<u8>) -> bool {
+    let (side, size) = (Side::A, 1_048_576);
+    let event = Event::Dispatch {
+        side: Side::B,
+        moment: Moment::new(Instant::from_secs(1_000_000), 0, true, 1500),
+        fail: true,
+    };
+    is_event(script, 1, &Event::SendSlice { side, bytes })
+        && is_event(script, 2, &Event::RecvSlice { side, size })
+        && is_event(script, 3, &event)
+}
+
 #[test]
 fn forms_of_lines(rt: HostRuntime) -> Result<(), Fail> {
     let alloc = rt.alloc();
@@ -39,16 +52,7 @@ fn forms_of_lines(rt: HostRuntime) -> Result<(), Fail> {
     let script = parse(alloc, text.as_bytes())?;
     assert!(rt; script.sizes == [0, 1, 2, 1_048_576]);
     assert!(rt; script.limit.is_none() && script.events.len() == 4);
-    let side = Side::A;
-    assert!(rt; is_event(&script, 1, &Event::SendSlice { side, bytes }));
-    let size = 1_048_576;
-    assert!(rt; is_event(&script, 2, &Event::RecvSlice { side, size }));
-    let event = Event::Dispatch {
-        side: Side::B,
-        moment: Moment::new(Instant::from_secs(1_000_000), 0, true, 1500),
-        fail: true,
-    };
-    assert!(rt; is_event(&script, 3, &event));
+    assert!(rt; are_its_events(&script, bytes));
     Ok(())
 }
 

@@ -240,22 +240,27 @@ fn malformed_scripts(rt: HostRuntime) -> Result<(), Fail> {
     Ok(())
 }
 
-// The script of six bytes, ended behind any of its bytes, runs, or its last line alone has a fault.
+// A script runs, or its last line alone has a fault.
+fn has_one_fault_at_most(rt: &(impl Abort), alloc: Global, text: &[u8]) {
+    let line = 1 + text.iter().filter(|byte| **byte == b'\n').count();
+    let (end, got) = replayed(alloc, text, MANY, MANY);
+    assert!(rt; (end == End::Done) == !got.is_empty());
+    let faults = [
+        End::Script(ScriptError::NoPairLine { line }),
+        End::Script(ScriptError::UnknownEvent { line }),
+        End::Script(ScriptError::WrongNumberOfWords { line }),
+    ];
+    assert!(rt; end == End::Done || faults.contains(&end), "line {line}");
+}
+
+// The script of six bytes, ended behind any of its bytes.
 #[test]
 fn cut_scripts(rt: HostRuntime) -> Result<(), Fail> {
     let alloc = rt.alloc();
     let text = format!(in alloc; "pair 64 64 64 64 1000\n{OPENING}{SIX_BYTES}")?;
     for cut in 0..text.len() {
         let (bytes, _) = text.as_bytes().split_at(cut);
-        let line = 1 + bytes.iter().filter(|byte| **byte == b'\n').count();
-        let (end, got) = replayed(alloc, bytes, MANY, MANY);
-        assert!(rt; (end == End::Done) == !got.is_empty());
-        let faults = [
-            End::Script(ScriptError::NoPairLine { line }),
-            End::Script(ScriptError::UnknownEvent { line }),
-            End::Script(ScriptError::WrongNumberOfWords { line }),
-        ];
-        assert!(rt; end == End::Done || faults.contains(&end), "at {cut}");
+        has_one_fault_at_most(&rt, alloc, bytes);
     }
     is_refused(&rt, alloc, b"pai", ScriptError::NoPairLine { line: 1 });
     let side = b"pair 64 64 64 64 1000\nlisten b\nconnect a";
@@ -275,30 +280,59 @@ fn cut_scripts(rt: HostRuntime) -> Result<(), Fail> {
     Ok(())
 }
 
+// Whether a replay is done before the reader fails at this call. Where it is not, nothing is written.
+fn is_done_by_reads(rt: &(impl Abort), alloc: Global, text: &[u8], reads: usize) -> bool {
+    let (end, got) = replayed(alloc, text, reads, MANY);
+    if end == End::Done {
+        return true;
+    }
+    assert!(rt; end == End::Read && end.status() == 2);
+    assert!(rt; got.is_empty());
+    false
+}
+
+// The same of the writer. Where it fails, the output's beginning is written.
+fn is_done_by_writes(
+    rt: &(impl Abort),
+    alloc: Global,
+    text: &[u8],
+    writes: usize,
+    want: &[u8],
+) -> bool {
+    let (end, got) = replayed(alloc, text, MANY, writes);
+    assert!(rt; want.starts_with(got.as_slice()));
+    if end == End::Done {
+        return true;
+    }
+    assert!(rt; end == End::Write && end.status() == 2);
+    false
+}
+
+fn reads_fail_in_turn(rt: &(impl Abort), alloc: Global, text: &[u8]) {
+    for calls in 0..300 {
+        if is_done_by_reads(rt, alloc, text, calls) {
+            break;
+        }
+        assert!(rt; calls < 299);
+    }
+}
+
+fn writes_fail_in_turn(rt: &(impl Abort), alloc: Global, text: &[u8], want: &[u8]) {
+    for calls in 0..300 {
+        if is_done_by_writes(rt, alloc, text, calls, want) {
+            break;
+        }
+        assert!(rt; calls < 299);
+    }
+}
+
 // The reader, and then the writer, fails at each of its calls in turn.
 #[test]
 fn streams_that_fail(rt: HostRuntime) -> Result<(), Fail> {
     let alloc = rt.alloc();
     let text = format!(in alloc; "pair 64 64 64 64 1000\n{OPENING}{SIX_BYTES}")?;
     let want = format!(in alloc; "{OPENED}{SIX_BYTES_SENT}")?;
-    for calls in 0..300 {
-        let (end, got) = replayed(alloc, text.as_bytes(), calls, MANY);
-        if end == End::Done {
-            break;
-        }
-        assert!(rt; end == End::Read);
-        assert!(rt; end.status() == 2);
-        assert!(rt; got.is_empty() && calls < 299);
-    }
-    for calls in 0..300 {
-        let (end, got) = replayed(alloc, text.as_bytes(), MANY, calls);
-        assert!(rt; want.as_bytes().starts_with(got.as_slice()));
-        if end == End::Done {
-            break;
-        }
-        assert!(rt; end == End::Write);
-        assert!(rt; end.status() == 2);
-        assert!(rt; calls < 299);
-    }
+    reads_fail_in_turn(&rt, alloc, text.as_bytes());
+    writes_fail_in_turn(&rt, alloc, text.as_bytes(), want.as_bytes());
     Ok(())
 }

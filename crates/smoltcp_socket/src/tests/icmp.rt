@@ -114,15 +114,19 @@ fn icmp_send_limits(rt: HostRuntime) -> Result<(), Fail> {
     Ok(())
 }
 
-#[test]
-fn icmp_full_buffer(rt: HostRuntime) -> Result<(), Fail> {
-    let mut socket = roomless();
-    assert!(rt; lends(&mut socket, 1, NOWHERE) == Err(SendError::Unaddressable));
-    assert!(rt; lends(&mut socket, 0, THERE) == Err(SendError::BufferFull));
+fn is_full(rt: &(impl Abort), socket: &mut Socket<'_>) {
+    assert!(rt; lends(socket, 1, NOWHERE) == Err(SendError::Unaddressable));
+    assert!(rt; lends(socket, 0, THERE) == Err(SendError::BufferFull));
     assert!(rt; socket.send_with(0, THERE, |lent| lent.len()) == Err(SendError::BufferFull));
     assert!(rt; socket.hop_limit() == None);
     socket.set_hop_limit(Some(3));
     assert!(rt; socket.hop_limit() == Some(3));
+}
+
+#[test]
+fn icmp_full_buffer(rt: HostRuntime) -> Result<(), Fail> {
+    let mut socket = roomless();
+    is_full(&rt, &mut socket);
     Ok(())
 }
 
@@ -223,13 +227,9 @@ fn icmp_errors_go_to_the_port_that_sent(rt: HostRuntime) -> Result<(), Fail> {
     Ok(())
 }
 
-#[test]
-fn icmp_dispatch_drops_and_keeps(rt: HostRuntime) -> Result<(), Fail> {
-    let mut places = [PacketMetadata::EMPTY; 1];
-    let mut bytes = [0u8; 66];
-    let mut socket = sender(&mut places, &mut bytes);
-    assert!(rt; sends(&mut socket, b"abcdef", THERE) == Ok(()));
-    assert!(rt; emitted(&mut socket, false) == (None, true));
+fn drops_and_keeps(rt: &(impl Abort), socket: &mut Socket<'_>) {
+    assert!(rt; sends(socket, b"abcdef", THERE) == Ok(()));
+    assert!(rt; emitted(socket, false) == (None, true));
     let header = IpRepr::Ipv4(Ipv4Repr {
         src_addr: HERE,
         dst_addr: Ipv4Address([10, 0, 0, 2]),
@@ -238,10 +238,18 @@ fn icmp_dispatch_drops_and_keeps(rt: HostRuntime) -> Result<(), Fail> {
         hop_limit: 64,
     });
     let message = [8, 0, 0, 0, 0x12, 0x34, 0, 1, 7, 7];
-    assert!(rt; sends(&mut socket, &message, THERE) == Ok(()));
+    assert!(rt; sends(socket, &message, THERE) == Ok(()));
     for fails in [true, true, false] {
-        assert!(rt; emitted(&mut socket, fails) == (Some(header), !fails));
+        assert!(rt; emitted(socket, fails) == (Some(header), !fails));
     }
     assert!(rt; socket.send_queue() == 0);
+}
+
+#[test]
+fn icmp_dispatch_drops_and_keeps(rt: HostRuntime) -> Result<(), Fail> {
+    let mut places = [PacketMetadata::EMPTY; 1];
+    let mut bytes = [0u8; 66];
+    let mut socket = sender(&mut places, &mut bytes);
+    drops_and_keeps(&rt, &mut socket);
     Ok(())
 }

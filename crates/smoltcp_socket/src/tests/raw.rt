@@ -4,6 +4,7 @@ use super::packets::{first, two_packets};
 use crate::PollAt;
 use crate::raw::*;
 use crate::wire::{Checksum, IpAddress, IpProtocol, IpRepr, IpVersion, Ipv4Address};
+use std::process::Abort;
 use std::test::Fail;
 
 const HERE: IpAddress = IpAddress::Ipv4(Ipv4Address([10, 0, 0, 1]));
@@ -143,17 +144,21 @@ fn first_is(socket: &mut Socket<'_>, packet: Result<&[u8], RecvError>) -> bool {
     socket.peek() == packet && socket.recv() == packet
 }
 
+fn shortens(rt: &(impl Abort), socket: &mut Socket<'_>) {
+    assert!(rt; copies(socket) == [Err(RecvError::Truncated); 2]);
+    assert!(rt; socket.peek_slice(&mut [0; 4]) == Ok(3));
+    assert!(rt; first_is(socket, Ok(b"xyz")));
+    assert!(rt; copies(socket) == [Err(RecvError::Exhausted); 2]);
+    assert!(rt; first_is(socket, Err(RecvError::Exhausted)) && !socket.can_recv());
+}
+
 #[test]
 fn raw_truncated_slices(rt: HostRuntime) -> Result<(), Fail> {
     let mut places = [PacketMetadata::EMPTY; 2];
     let mut bytes = [0u8; 16];
     let received = two_packets(&rt, &mut places, &mut bytes, ());
     let mut socket = holding(received);
-    assert!(rt; copies(&mut socket) == [Err(RecvError::Truncated); 2]);
-    assert!(rt; socket.peek_slice(&mut [0; 4]) == Ok(3));
-    assert!(rt; first_is(&mut socket, Ok(b"xyz")));
-    assert!(rt; copies(&mut socket) == [Err(RecvError::Exhausted); 2]);
-    assert!(rt; first_is(&mut socket, Err(RecvError::Exhausted)) && !socket.can_recv());
+    shortens(&rt, &mut socket);
     Ok(())
 }
 

@@ -1,6 +1,7 @@
 //! Bytes ahead of gaps, the fifth range, and reading.
 use net_base::ring_buffer::RingBuffer;
 use sock_core::receive_buffer::ReceiveBuffer;
+use std::process::Abort;
 use std::test::Fail;
 
 // The buffer's calls without their contracts: the tests prove faster so.
@@ -39,25 +40,26 @@ fn sizes(buffer: &ReceiveBuffer<'_>) -> (usize, usize, bool) {
     (buffer.len(), buffer.window(), buffer.holds_nothing())
 }
 
+fn joins_at_the_gap(rt: &(impl Abort), buffer: &mut ReceiveBuffer<'_>) {
+    assert!(rt; take(buffer, 2, b"cd") == (true, 0));
+    assert!(rt; take(buffer, 5, b"f") == (true, 0));
+    assert!(rt; held(buffer, 5) == [Some((2, 4)), Some((5, 6))]);
+    assert!(rt; take(buffer, 0, b"aB") == (true, 4));
+    assert!(rt; shows(buffer, b"aBcd") && gives(buffer, b"aBc"));
+    assert!(rt; held(buffer, 0) == [Some((1, 2)), None]);
+    assert!(rt; take(buffer, 0, b"e") == (true, 3));
+    assert!(rt; shows(buffer, b"def") && sizes(buffer) == (3, 13, true));
+}
+
 #[test]
 fn bytes_wait_for_the_gap(rt: HostRuntime) -> Result<(), Fail> {
     let mut places = [0u8; 16];
     let mut buffer = buffer(&mut places);
-    assert!(rt; take(&mut buffer, 2, b"cd") == (true, 0));
-    assert!(rt; take(&mut buffer, 5, b"f") == (true, 0));
-    assert!(rt; held(&buffer, 5) == [Some((2, 4)), Some((5, 6))]);
-    assert!(rt; take(&mut buffer, 0, b"aB") == (true, 4));
-    assert!(rt; shows(&buffer, b"aBcd") && gives(&mut buffer, b"aBc"));
-    assert!(rt; held(&buffer, 0) == [Some((1, 2)), None]);
-    assert!(rt; take(&mut buffer, 0, b"e") == (true, 3));
-    assert!(rt; shows(&buffer, b"def") && sizes(&buffer) == (3, 13, true));
+    joins_at_the_gap(&rt, &mut buffer);
     Ok(())
 }
 
-#[test]
-fn a_fifth_range_is_turned_away(rt: HostRuntime) -> Result<(), Fail> {
-    let mut places = [0u8; 16];
-    let mut buffer = buffer(&mut places);
+fn keeps_four_ranges(rt: &(impl Abort), buffer: &mut ReceiveBuffer<'_>) {
     for (offset, bytes, answer) in [
         (2, b"x".as_slice(), (true, 0)),
         (4, b"x", (true, 0)),
@@ -67,10 +69,17 @@ fn a_fifth_range_is_turned_away(rt: HostRuntime) -> Result<(), Fail> {
         (0, b"aaa", (true, 3)),
         (7, b"y", (true, 3)),
     ] {
-        assert!(rt; take(&mut buffer, offset, bytes) == answer, "at {offset}");
+        assert!(rt; take(buffer, offset, bytes) == answer, "at {offset}");
     }
     buffer.clear();
-    assert!(rt; sizes(&buffer) == (0, 16, true));
+    assert!(rt; sizes(buffer) == (0, 16, true));
     assert!(rt; buffer.is_empty() && buffer.capacity() == 16);
+}
+
+#[test]
+fn a_fifth_range_is_turned_away(rt: HostRuntime) -> Result<(), Fail> {
+    let mut places = [0u8; 16];
+    let mut buffer = buffer(&mut places);
+    keeps_four_ranges(&rt, &mut buffer);
     Ok(())
 }

@@ -253,19 +253,23 @@ fn first(packets: &mut Packets<'_>) -> Option<(u16, usize)> {
     }
 }
 
+fn pads_the_last_place(rt: &(impl Abort), packets: &mut Packets<'_>) {
+    assert!(rt; lends(packets, 3, 1) && lends(packets, 4, 2));
+    assert!(rt; drops(packets) && waiting(packets) == (4, false));
+    assert!(rt; wrote(packets, 2, 3, b"xy") == Err(Full));
+    assert!(rt; waiting(packets) == (5, true));
+    assert!(rt; first(packets) == Some((2, 4)));
+    // the padding is left: it is taken for a place until the next look
+    assert!(rt; !packets.is_empty());
+    packets.skip_padding();
+    assert!(rt; packets.is_empty() && packets.first().is_err());
+}
+
 #[test]
 fn padding_takes_the_last_place(rt: HostRuntime) -> Result<(), Fail> {
     let mut places = [PacketMetadata::EMPTY; 2];
     let mut bytes = [0u8; 8];
     let mut packets = packets(&mut places, &mut bytes);
-    assert!(rt; lends(&mut packets, 3, 1) && lends(&mut packets, 4, 2));
-    assert!(rt; drops(&mut packets) && waiting(&packets) == (4, false));
-    assert!(rt; wrote(&mut packets, 2, 3, b"xy") == Err(Full));
-    assert!(rt; waiting(&packets) == (5, true));
-    assert!(rt; first(&mut packets) == Some((2, 4)));
-    // the padding is left: it is taken for a place until the next look
-    assert!(rt; !packets.is_empty());
-    packets.skip_padding();
-    assert!(rt; packets.is_empty() && packets.first().is_err());
+    pads_the_last_place(&rt, &mut packets);
     Ok(())
 }

@@ -31,11 +31,7 @@ fn any(port: u16) -> IpListenEndpoint {
     IpListenEndpoint { addr: None, port }
 }
 
-#[test]
-fn listen_validation(rt: HostRuntime) -> Result<(), Fail> {
-    let mut rx = [0u8; 4];
-    let mut tx = [0u8; 4];
-    let mut socket = Tcp::new(&mut rx, &mut tx);
+fn listens_once(rt: &(impl Abort), socket: &mut Tcp<'_>) {
     for (port, answer, open) in [
         (0, Err(ListenError::Unaddressable), false),
         (80, Ok(()), true),
@@ -47,6 +43,14 @@ fn listen_validation(rt: HostRuntime) -> Result<(), Fail> {
     }
     assert!(rt; socket.is_listening() && !socket.is_active());
     assert!(rt; socket.listen_endpoint() == any(80));
+}
+
+#[test]
+fn listen_validation(rt: HostRuntime) -> Result<(), Fail> {
+    let mut rx = [0u8; 4];
+    let mut tx = [0u8; 4];
+    let mut socket = Tcp::new(&mut rx, &mut tx);
+    listens_once(&rt, &mut socket);
     Ok(())
 }
 
@@ -61,21 +65,25 @@ fn dials(
     socket.connect(cx, remote, local)
 }
 
+fn connects_once(rt: &(impl Abort), socket: &mut Tcp<'_>, cx: &mut Host) {
+    let unaddressable = Err(ConnectError::Unaddressable);
+    assert!(rt; dials(socket, cx, 0, at(A)) == unaddressable);
+    // no address is given, and the context has none
+    assert!(rt; dials(socket, cx, 80, any(49152)) == unaddressable);
+    assert!(rt; dials(socket, cx, 80, at(A)) == Ok(()));
+    assert!(rt; dials(socket, cx, 0, at(A)) == Err(ConnectError::InvalidState));
+    assert!(rt; socket.state() == State::SynSent);
+    assert!(rt; (socket.local_endpoint(), socket.remote_endpoint()) == (Some(A), Some(B)));
+    assert!(rt; socket.is_active() && !socket.may_send() && !socket.can_send());
+}
+
 #[test]
 fn connect_validation(rt: HostRuntime) -> Result<(), Fail> {
     let mut rx = [0u8; 4];
     let mut tx = [0u8; 4];
     let mut socket = Tcp::new(&mut rx, &mut tx);
     let mut cx = Host::at(0, 1000);
-    let unaddressable = Err(ConnectError::Unaddressable);
-    assert!(rt; dials(&mut socket, &mut cx, 0, at(A)) == unaddressable);
-    // no address is given, and the context has none
-    assert!(rt; dials(&mut socket, &mut cx, 80, any(49152)) == unaddressable);
-    assert!(rt; dials(&mut socket, &mut cx, 80, at(A)) == Ok(()));
-    assert!(rt; dials(&mut socket, &mut cx, 0, at(A)) == Err(ConnectError::InvalidState));
-    assert!(rt; socket.state() == State::SynSent);
-    assert!(rt; (socket.local_endpoint(), socket.remote_endpoint()) == (Some(A), Some(B)));
-    assert!(rt; socket.is_active() && !socket.may_send() && !socket.can_send());
+    connects_once(&rt, &mut socket, &mut cx);
     Ok(())
 }
 
@@ -219,20 +227,24 @@ fn change_all(socket: &mut Tcp<'_>) {
     socket.0.pause_synack(true);
 }
 
+fn keeps_settings(rt: &(impl Abort), socket: &mut Tcp<'_>) {
+    let delay = Some(Duration::from_millis(10));
+    assert!(rt; settings(socket) == (None, None, delay, None));
+    assert!(rt; congestion(socket) == (true, CongestionControl::Reno));
+    change_all(socket);
+    // a reset keeps what the user set
+    assert!(rt; socket.listen(any(80)) == Ok(()));
+    let second = Some(Duration::from_secs(1));
+    assert!(rt; settings(socket) == (second, second, None, Some(42)));
+    assert!(rt; congestion(socket) == (false, CongestionControl::None));
+}
+
 #[test]
 fn tcp_defaults(rt: HostRuntime) -> Result<(), Fail> {
     let mut rx = [0u8; 4];
     let mut tx = [0u8; 4];
     let mut socket = Tcp::new(&mut rx, &mut tx);
-    let delay = Some(Duration::from_millis(10));
-    assert!(rt; settings(&socket) == (None, None, delay, None));
-    assert!(rt; congestion(&socket) == (true, CongestionControl::Reno));
-    change_all(&mut socket);
-    // a reset keeps what the user set
-    assert!(rt; socket.listen(any(80)) == Ok(()));
-    let second = Some(Duration::from_secs(1));
-    assert!(rt; settings(&socket) == (second, second, None, Some(42)));
-    assert!(rt; congestion(&socket) == (false, CongestionControl::None));
+    keeps_settings(&rt, &mut socket);
     Ok(())
 }
 
@@ -293,6 +305,17 @@ fn first_byte(socket: &mut Tcp<'_>) -> Result<Option<u8>, RecvError> {
         .recv(|queue| (queue.len().min(1), queue.first().copied()))
 }
 
+fn takes_by_closures(rt: &(impl Abort), socket: &mut Tcp<'_>, cx: &mut Host) {
+    let ip_repr = IpRepr::new(B.addr, A.addr, IpProtocol::Tcp, 20, 64);
+    assert!(rt; writes_hi(socket) == Ok(()));
+    assert!(rt; emitted(socket, cx, false) == (Some((1001, 2)), true));
+    let data = answer(TcpControl::Psh, 5001, b"xyz");
+    assert!(rt; hear(socket, cx, &ip_repr, &data));
+    assert!(rt; peeks(socket, b"xy", b"xyz"));
+    assert!(rt; first_byte(socket) == Ok(Some(b'x')));
+    assert!(rt; socket.recv_queue() == 2);
+}
+
 #[test]
 fn closures_and_peeks(rt: HostRuntime) -> Result<(), Fail> {
     let mut rx = [0u8; 4];
@@ -300,14 +323,7 @@ fn closures_and_peeks(rt: HostRuntime) -> Result<(), Fail> {
     let mut cx = Host::at(0, 1000);
     let mut socket = Tcp::new(&mut rx, &mut tx);
     establish(&mut socket, &mut cx);
-    let ip_repr = IpRepr::new(B.addr, A.addr, IpProtocol::Tcp, 20, 64);
-    assert!(rt; writes_hi(&mut socket) == Ok(()));
-    assert!(rt; emitted(&mut socket, &mut cx, false) == (Some((1001, 2)), true));
-    let data = answer(TcpControl::Psh, 5001, b"xyz");
-    assert!(rt; hear(&mut socket, &mut cx, &ip_repr, &data));
-    assert!(rt; peeks(&mut socket, b"xy", b"xyz"));
-    assert!(rt; first_byte(&mut socket) == Ok(Some(b'x')));
-    assert!(rt; socket.recv_queue() == 2);
+    takes_by_closures(&rt, &mut socket, &mut cx);
     Ok(())
 }
 
@@ -325,6 +341,19 @@ fn receives_no_more(socket: &mut Tcp<'_>) -> bool {
     socket.0.recv(|queue| (0, queue.len())) == Err(RecvError::InvalidState)
 }
 
+fn closes_and_aborts(rt: &(impl Abort), socket: &mut Tcp<'_>, cx: &mut Host) {
+    assert!(rt; closed(socket) == State::FinWait1);
+    assert!(rt; sends_no_more(socket));
+    assert!(rt; closed(socket) == State::FinWait1);
+    socket.abort();
+    assert!(rt; socket.state() == State::Closed);
+    assert!(rt; receives_no_more(socket));
+    assert!(rt; socket.listen(any(80)) == Ok(()));
+    assert!(rt; closed(socket) == State::Closed);
+    assert!(rt; dials(socket, cx, 80, at(A)) == Ok(()));
+    assert!(rt; closed(socket) == State::Closed);
+}
+
 #[test]
 fn close_and_abort_by_state(rt: HostRuntime) -> Result<(), Fail> {
     let mut rx = [0u8; 4];
@@ -332,16 +361,7 @@ fn close_and_abort_by_state(rt: HostRuntime) -> Result<(), Fail> {
     let mut cx = Host::at(0, 1000);
     let mut socket = Tcp::new(&mut rx, &mut tx);
     establish(&mut socket, &mut cx);
-    assert!(rt; closed(&mut socket) == State::FinWait1);
-    assert!(rt; sends_no_more(&mut socket));
-    assert!(rt; closed(&mut socket) == State::FinWait1);
-    socket.abort();
-    assert!(rt; socket.state() == State::Closed);
-    assert!(rt; receives_no_more(&mut socket));
-    assert!(rt; socket.listen(any(80)) == Ok(()));
-    assert!(rt; closed(&mut socket) == State::Closed);
-    assert!(rt; dials(&mut socket, &mut cx, 80, at(A)) == Ok(()));
-    assert!(rt; closed(&mut socket) == State::Closed);
+    closes_and_aborts(&rt, &mut socket, &mut cx);
     Ok(())
 }
 
@@ -388,11 +408,7 @@ pub(crate) fn clock() -> u32 {
     7
 }
 
-#[test]
-fn timestamps_are_enabled_by_a_generator(rt: HostRuntime) -> Result<(), Fail> {
-    let mut rx = [0u8; 4];
-    let mut tx = [0u8; 4];
-    let mut socket = Tcp::new(&mut rx, &mut tx);
+fn has_timestamps(rt: &(impl Abort), socket: &mut Tcp<'_>) {
     assert!(rt; !socket.timestamp_enabled());
     socket.set_clock(true);
     assert!(rt; socket.timestamp_enabled());
@@ -400,5 +416,13 @@ fn timestamps_are_enabled_by_a_generator(rt: HostRuntime) -> Result<(), Fail> {
     assert!(rt; socket.timestamp_enabled());
     socket.set_clock(false);
     assert!(rt; !socket.timestamp_enabled());
+}
+
+#[test]
+fn timestamps_are_enabled_by_a_generator(rt: HostRuntime) -> Result<(), Fail> {
+    let mut rx = [0u8; 4];
+    let mut tx = [0u8; 4];
+    let mut socket = Tcp::new(&mut rx, &mut tx);
+    has_timestamps(&rt, &mut socket);
     Ok(())
 }

@@ -95,20 +95,24 @@ fn cut_fin_is_disregarded(rt: HostRuntime) -> Result<(), Fail> {
     Ok(())
 }
 
+fn takes_a_byte_after_fin(rt: &(impl Abort), socket: &mut Tcp<'_>) {
+    let _ = hear_at(rt, socket, 0, &segment(TcpControl::Fin, 1001, &[]));
+    assert!(rt; socket.state() == State::CloseWait);
+    let _ = hear_at(rt, socket, 0, &segment(TcpControl::None, 1002, b"x"));
+    assert!(rt; (socket.state(), socket.recv_queue()) == (State::CloseWait, 1));
+    let mut bytes = [0u8; 8];
+    assert!(rt; socket.recv_slice(&mut bytes) == Ok(1));
+    assert!(rt; bytes[0] == b'x');
+    assert!(rt; socket.recv_slice(&mut bytes) == Err(RecvError::Finished));
+}
+
 #[test]
 fn byte_after_fin(rt: HostRuntime) -> Result<(), Fail> {
     let mut rx = [0u8; 64];
     let mut tx = [0u8; 64];
     let mut socket = Tcp::new(&mut rx, &mut tx);
     opens_plainly(&rt, &mut socket);
-    let _ = hear_at(&rt, &mut socket, 0, &segment(TcpControl::Fin, 1001, &[]));
-    assert!(rt; socket.state() == State::CloseWait);
-    let _ = hear_at(&rt, &mut socket, 0, &segment(TcpControl::None, 1002, b"x"));
-    assert!(rt; (socket.state(), socket.recv_queue()) == (State::CloseWait, 1));
-    let mut bytes = [0u8; 8];
-    assert!(rt; socket.recv_slice(&mut bytes) == Ok(1));
-    assert!(rt; bytes[0] == b'x');
-    assert!(rt; socket.recv_slice(&mut bytes) == Err(RecvError::Finished));
+    takes_a_byte_after_fin(&rt, &mut socket);
     Ok(())
 }
 

@@ -131,20 +131,24 @@ fn refuses(socket: &mut Socket<'_>, size: usize, addr: IpAddress) -> bool {
     socket.send(size, to(addr, 49500)).is_err()
 }
 
+fn binds_once(rt: &(impl Abort), socket: &mut Socket<'_>) {
+    assert!(rt; binds(socket, any(0)) == Err(BindError::Unaddressable));
+    assert!(rt; !socket.is_open());
+    assert!(rt; binds(socket, any(1)) == Ok(()));
+    assert!(rt; binds(socket, any(2)) == Err(BindError::InvalidState));
+    assert!(rt; socket.is_open());
+    assert!(rt; socket.endpoint() == any(1));
+    socket.close();
+    assert!(rt; socket.endpoint() == any(0));
+}
+
 #[test]
 fn udp_bind_validation(rt: HostRuntime) -> Result<(), Fail> {
     let mut socket = Socket::new(
         PacketBuffer::new(&mut [], &mut []),
         PacketBuffer::new(&mut [], &mut []),
     );
-    assert!(rt; binds(&mut socket, any(0)) == Err(BindError::Unaddressable));
-    assert!(rt; !socket.is_open());
-    assert!(rt; binds(&mut socket, any(1)) == Ok(()));
-    assert!(rt; binds(&mut socket, any(2)) == Err(BindError::InvalidState));
-    assert!(rt; socket.is_open());
-    assert!(rt; socket.endpoint() == any(1));
-    socket.close();
-    assert!(rt; socket.endpoint() == any(0));
+    binds_once(&rt, &mut socket);
     Ok(())
 }
 
@@ -208,19 +212,23 @@ fn udp_payload_capacity(rt: HostRuntime) -> Result<(), Fail> {
     Ok(())
 }
 
+fn shortens(rt: &(impl Abort), socket: &mut Socket<'_>) {
+    assert!(rt; binds(socket, any(53)) == Ok(()));
+    let mut short = [0u8; 4];
+    assert!(rt; hear(socket, b"abcdef"));
+    assert!(rt; copies(socket, &mut short) == [Err(RecvError::Truncated); 2]);
+    assert!(rt; copies(socket, &mut short) == [Err(RecvError::Exhausted); 2]);
+    assert!(rt; hear(socket, b"xyz"));
+    assert!(rt; copies(socket, &mut short) == [Ok((3, CAME)); 2]);
+    assert!(rt; &short[..3] == b"xyz".as_slice());
+}
+
 #[test]
 fn udp_truncated_slices(rt: HostRuntime) -> Result<(), Fail> {
     let mut places = [PacketMetadata::EMPTY; 2];
     let mut bytes = [0u8; 16];
     let mut socket = receiver(&mut places, &mut bytes);
-    assert!(rt; binds(&mut socket, any(53)) == Ok(()));
-    let mut short = [0u8; 4];
-    assert!(rt; hear(&mut socket, b"abcdef"));
-    assert!(rt; copies(&mut socket, &mut short) == [Err(RecvError::Truncated); 2]);
-    assert!(rt; copies(&mut socket, &mut short) == [Err(RecvError::Exhausted); 2]);
-    assert!(rt; hear(&mut socket, b"xyz"));
-    assert!(rt; copies(&mut socket, &mut short) == [Ok((3, CAME)); 2]);
-    assert!(rt; &short[..3] == b"xyz".as_slice());
+    shortens(&rt, &mut socket);
     Ok(())
 }
 
@@ -305,17 +313,21 @@ fn udp_hop_limit_and_source(rt: HostRuntime) -> Result<(), Fail> {
     Ok(())
 }
 
+fn keeps_the_first(rt: &(impl Abort), socket: &mut Socket<'_>) {
+    assert!(rt; socket.packet_recv_capacity() == 1 && socket.payload_recv_capacity() == 16);
+    assert!(rt; binds(socket, any(53)) == Ok(()));
+    assert!(rt; hear(socket, b"abcdef") && hear(socket, b"abcdef"));
+    assert!(rt; socket.recv_queue() == 6);
+    assert!(rt; shows(socket, b"abcdef") && gives(socket, b"abcdef"));
+    assert!(rt; matches!(socket.recv(), Err(RecvError::Exhausted)) && !socket.can_recv());
+}
+
 #[test]
 fn udp_full_receive_queue(rt: HostRuntime) -> Result<(), Fail> {
     let mut places = [PacketMetadata::EMPTY; 1];
     let mut bytes = [0u8; 16];
     let mut socket = receiver(&mut places, &mut bytes);
-    assert!(rt; socket.packet_recv_capacity() == 1 && socket.payload_recv_capacity() == 16);
-    assert!(rt; binds(&mut socket, any(53)) == Ok(()));
-    assert!(rt; hear(&mut socket, b"abcdef") && hear(&mut socket, b"abcdef"));
-    assert!(rt; socket.recv_queue() == 6);
-    assert!(rt; shows(&mut socket, b"abcdef") && gives(&mut socket, b"abcdef"));
-    assert!(rt; matches!(socket.recv(), Err(RecvError::Exhausted)) && !socket.can_recv());
+    keeps_the_first(&rt, &mut socket);
     Ok(())
 }
 
