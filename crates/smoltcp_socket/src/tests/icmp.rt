@@ -73,9 +73,7 @@ fn copies(socket: &mut Socket<'_>) -> Result<(usize, IpAddress), RecvError> {
     socket.recv_slice(&mut [0; 4])
 }
 
-#[test]
-fn icmp_bind_validation(rt: HostRuntime) -> Result<(), Fail> {
-    let mut socket = roomless();
+fn binds_once(rt: &(impl Abort), socket: &mut Socket<'_>) {
     let portless = IpListenEndpoint::default();
     for (endpoint, answer, open) in [
         (
@@ -87,11 +85,17 @@ fn icmp_bind_validation(rt: HostRuntime) -> Result<(), Fail> {
         (Endpoint::Ident(1), Err(BindError::InvalidState), true),
         (Endpoint::default(), Err(BindError::Unaddressable), true),
     ] {
-        assert!(rt; binds(&mut socket, endpoint) == answer);
+        assert!(rt; binds(socket, endpoint) == answer);
         assert!(rt; socket.is_open() == open);
     }
     assert!(rt; !Endpoint::Tcp(portless).is_specified());
     assert!(rt; Endpoint::Ident(7) < Endpoint::Tcp(portless));
+}
+
+#[test]
+fn icmp_bind_validation(rt: HostRuntime) -> Result<(), Fail> {
+    let mut socket = roomless();
+    binds_once(&rt, &mut socket);
     Ok(())
 }
 

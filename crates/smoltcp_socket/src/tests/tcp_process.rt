@@ -155,6 +155,15 @@ fn ack_beyond_sent_is_challenged(rt: HostRuntime) -> Result<(), Fail> {
     Ok(())
 }
 
+// Full segments go out, and then what is left of a window of 65536 bytes.
+fn fills_65536(rt: &(impl Abort), socket: &mut Tcp<'_>) {
+    for _ in 0..122 {
+        assert!(rt; matches!(emitted(socket), Some((_, 536))));
+    }
+    assert!(rt; matches!(emitted(socket), Some((_, 144))));
+    assert!(rt; emitted(socket) == None);
+}
+
 // A scale of 200 counts as 14, so that a window of 4 is one of 65536 bytes.
 #[test]
 fn peer_scale_is_capped(rt: HostRuntime) -> Result<(), Fail> {
@@ -171,11 +180,7 @@ fn peer_scale_is_capped(rt: HostRuntime) -> Result<(), Fail> {
     ack.window_len = 4;
     opens(&rt, &mut socket, &scaled, &ack);
     assert!(rt; socket.send_slice(bytes.as_slice()) == Ok(70_000));
-    for _ in 0..122 {
-        assert!(rt; matches!(emitted(&mut socket), Some((_, 536))));
-    }
-    assert!(rt; matches!(emitted(&mut socket), Some((_, 144))));
-    assert!(rt; emitted(&mut socket) == None);
+    fills_65536(&rt, &mut socket);
     Ok(())
 }
 

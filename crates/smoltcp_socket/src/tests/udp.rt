@@ -278,20 +278,24 @@ fn udp_accepts_by_bound_address(rt: HostRuntime) -> Result<(), Fail> {
     Ok(())
 }
 
+fn refuses_and_drops(rt: &(impl Abort), socket: &mut Socket<'_>) {
+    let refused = Err(SendError::Unaddressable);
+    assert!(rt; sends(socket, b"abcdef", THERE, 49500) == refused);
+    assert!(rt; binds(socket, any(53)) == Ok(()));
+    assert!(rt; sends(socket, b"abcdef", NOWHERE, 49500) == refused);
+    assert!(rt; sends(socket, b"abcdef", THERE, 0) == refused);
+    assert!(rt; sends(socket, b"abcdef", THERE, 49500) == Ok(()));
+    // no address is given, none bound, and the host has none
+    assert!(rt; emitted(socket, false) == (None, true));
+    assert!(rt; polls(socket) == PollAt::Ingress);
+}
+
 #[test]
 fn udp_send_validation(rt: HostRuntime) -> Result<(), Fail> {
     let mut places = [PacketMetadata::EMPTY; 1];
     let mut bytes = [0u8; 16];
     let mut socket = sender(&mut places, &mut bytes);
-    let refused = Err(SendError::Unaddressable);
-    assert!(rt; sends(&mut socket, b"abcdef", THERE, 49500) == refused);
-    assert!(rt; binds(&mut socket, any(53)) == Ok(()));
-    assert!(rt; sends(&mut socket, b"abcdef", NOWHERE, 49500) == refused);
-    assert!(rt; sends(&mut socket, b"abcdef", THERE, 0) == refused);
-    assert!(rt; sends(&mut socket, b"abcdef", THERE, 49500) == Ok(()));
-    // no address is given, none bound, and the host has none
-    assert!(rt; emitted(&mut socket, false) == (None, true));
-    assert!(rt; polls(&socket) == PollAt::Ingress);
+    refuses_and_drops(&rt, &mut socket);
     Ok(())
 }
 
@@ -382,6 +386,26 @@ fn lends(socket: &mut Socket<'_>, data: &[u8], remote: UdpMetadata) -> Result<()
     Ok(())
 }
 
+fn sends_beside_what_came(rt: &(impl Abort), socket: &mut Socket<'_>) {
+    assert!(rt; binds(socket, here(53)) == Ok(()));
+    socket.set_hop_limit(Some(9));
+    assert!(rt; hear(socket, b"came"));
+    // taken, refused for its destination, refused for want of room, and taken
+    for (data, addr, answer, queued) in [
+        (b"first".as_slice(), THERE, Ok(()), 5),
+        (b"x".as_slice(), NOWHERE, Err(SendError::Unaddressable), 5),
+        (b"four".as_slice(), THERE, Err(SendError::BufferFull), 5),
+        (b"new".as_slice(), NEIGHBOUR, Ok(()), 8),
+    ] {
+        assert!(rt; lends(socket, data, to(addr, 7)) == answer);
+        assert!(rt; socket.send_queue() == queued);
+    }
+    for waits in [b"first".as_slice(), b"new".as_slice()] {
+        assert!(rt; holds(socket, Some(9), b"came", waits));
+    }
+    assert!(rt; polls(socket) == PollAt::Ingress);
+}
+
 #[test]
 fn send_changes_the_transmit_queue_alone(rt: HostRuntime) -> Result<(), Fail> {
     let mut rx_places = [PacketMetadata::EMPTY; 1];
@@ -392,24 +416,17 @@ fn send_changes_the_transmit_queue_alone(rt: HostRuntime) -> Result<(), Fail> {
         PacketBuffer::new(&mut rx_places, &mut rx_bytes),
         PacketBuffer::new(&mut tx_places, &mut tx_bytes),
     );
-    assert!(rt; binds(&mut socket, here(53)) == Ok(()));
-    socket.set_hop_limit(Some(9));
-    assert!(rt; hear(&mut socket, b"came"));
-    // taken, refused for its destination, refused for want of room, and taken
-    for (data, addr, answer, queued) in [
-        (b"first".as_slice(), THERE, Ok(()), 5),
-        (b"x".as_slice(), NOWHERE, Err(SendError::Unaddressable), 5),
-        (b"four".as_slice(), THERE, Err(SendError::BufferFull), 5),
-        (b"new".as_slice(), NEIGHBOUR, Ok(()), 8),
-    ] {
-        assert!(rt; lends(&mut socket, data, to(addr, 7)) == answer);
-        assert!(rt; socket.send_queue() == queued);
-    }
-    for waits in [b"first".as_slice(), b"new".as_slice()] {
-        assert!(rt; holds(&mut socket, Some(9), b"came", waits));
-    }
-    assert!(rt; polls(&socket) == PollAt::Ingress);
+    sends_beside_what_came(&rt, &mut socket);
     Ok(())
+}
+
+fn refuses_and_keeps(rt: &(impl Abort), socket: &mut Socket<'_>, size: usize, remote: IpAddress) {
+    assert!(rt; binds(socket, here(53)) == Ok(()));
+    assert!(rt; hear(socket, b"came"));
+    assert!(rt; sends(socket, b"first", THERE, 49500) == Ok(()));
+    assert!(rt; refuses(socket, size, remote));
+    assert!(rt; holds(socket, None, b"came", b"first"));
+    assert!(rt; emitted(socket, false) == (None, true));
 }
 
 #[test]
@@ -423,12 +440,7 @@ fn a_refused_send_keeps_what_waits(rt: HostRuntime) -> Result<(), Fail> {
             PacketBuffer::new(&mut rx_places, &mut rx_bytes),
             PacketBuffer::new(&mut tx_places, &mut tx_bytes),
         );
-        assert!(rt; binds(&mut socket, here(53)) == Ok(()));
-        assert!(rt; hear(&mut socket, b"came"));
-        assert!(rt; sends(&mut socket, b"first", THERE, 49500) == Ok(()));
-        assert!(rt; refuses(&mut socket, size, remote));
-        assert!(rt; holds(&mut socket, None, b"came", b"first"));
-        assert!(rt; emitted(&mut socket, false) == (None, true));
+        refuses_and_keeps(&rt, &mut socket, size, remote);
     }
     Ok(())
 }
