@@ -73,6 +73,7 @@ fn copies(socket: &mut Socket<'_>) -> Result<(usize, IpAddress), RecvError> {
     socket.recv_slice(&mut [0; 4])
 }
 
+// The socket is bound once, to an identifier or a port.
 fn binds_once(rt: &(impl Abort), socket: &mut Socket<'_>) {
     let portless = IpListenEndpoint::default();
     for (endpoint, answer, open) in [
@@ -118,7 +119,8 @@ fn icmp_send_limits(rt: HostRuntime) -> Result<(), Fail> {
     Ok(())
 }
 
-fn is_full(rt: &(impl Abort), socket: &mut Socket<'_>) {
+// A message without a destination is refused, and one for which there is no room.
+fn refuses_to_send(rt: &(impl Abort), socket: &mut Socket<'_>) {
     assert!(rt; lends(socket, 1, NOWHERE) == Err(SendError::Unaddressable));
     assert!(rt; lends(socket, 0, THERE) == Err(SendError::BufferFull));
     assert!(rt; socket.send_with(0, THERE, |lent| lent.len()) == Err(SendError::BufferFull));
@@ -130,7 +132,7 @@ fn is_full(rt: &(impl Abort), socket: &mut Socket<'_>) {
 #[test]
 fn icmp_full_buffer(rt: HostRuntime) -> Result<(), Fail> {
     let mut socket = roomless();
-    is_full(&rt, &mut socket);
+    refuses_to_send(&rt, &mut socket);
     Ok(())
 }
 
@@ -231,6 +233,7 @@ fn icmp_errors_go_to_the_port_that_sent(rt: HostRuntime) -> Result<(), Fail> {
     Ok(())
 }
 
+// What is no message is dropped, and a message is kept as long as its emit fails.
 fn drops_and_keeps(rt: &(impl Abort), socket: &mut Socket<'_>) {
     assert!(rt; sends(socket, b"abcdef", THERE) == Ok(()));
     assert!(rt; emitted(socket, false) == (None, true));

@@ -144,6 +144,7 @@ fn first_is(socket: &mut Socket<'_>, packet: Result<&[u8], RecvError>) -> bool {
     socket.peek() == packet && socket.recv() == packet
 }
 
+// A packet that is longer than the slice is lost to it, but not to a peek.
 fn shortens(rt: &(impl Abort), socket: &mut Socket<'_>) {
     assert!(rt; copies(socket) == [Err(RecvError::Truncated); 2]);
     assert!(rt; socket.peek_slice(&mut [0; 4]) == Ok(3));

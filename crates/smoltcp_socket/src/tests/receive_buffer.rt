@@ -40,6 +40,7 @@ fn sizes(buffer: &ReceiveBuffer<'_>) -> (usize, usize, bool) {
     (buffer.len(), buffer.window(), buffer.holds_nothing())
 }
 
+// Held bytes join the queue when the gap before them is filled.
 fn joins_at_the_gap(rt: &(impl Abort), buffer: &mut ReceiveBuffer<'_>) {
     assert!(rt; take(buffer, 2, b"cd") == (true, 0));
     assert!(rt; take(buffer, 5, b"f") == (true, 0));
@@ -59,6 +60,7 @@ fn bytes_wait_for_the_gap(rt: HostRuntime) -> Result<(), Fail> {
     Ok(())
 }
 
+// Bytes that would be a fifth range are refused, and those that join a range are not.
 fn keeps_four_ranges(rt: &(impl Abort), buffer: &mut ReceiveBuffer<'_>) {
     for (offset, bytes, answer) in [
         (2, b"x".as_slice(), (true, 0)),

@@ -253,6 +253,7 @@ fn first(packets: &mut Packets<'_>) -> Option<(u16, usize)> {
     }
 }
 
+// A padding takes a place, also where the packet then finds none.
 fn pads_the_last_place(rt: &(impl Abort), packets: &mut Packets<'_>) {
     assert!(rt; lends(packets, 3, 1) && lends(packets, 4, 2));
     assert!(rt; drops(packets) && waiting(packets) == (4, false));

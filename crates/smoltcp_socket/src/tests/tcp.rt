@@ -31,7 +31,8 @@ fn any(port: u16) -> IpListenEndpoint {
     IpListenEndpoint { addr: None, port }
 }
 
-fn listens_once(rt: &(impl Abort), socket: &mut Tcp<'_>) {
+// Which calls of `listen` are refused, and what the socket is after each.
+fn listens(rt: &(impl Abort), socket: &mut Tcp<'_>) {
     for (port, answer, open) in [
         (0, Err(ListenError::Unaddressable), false),
         (80, Ok(()), true),
@@ -50,7 +51,7 @@ fn listen_validation(rt: HostRuntime) -> Result<(), Fail> {
     let mut rx = [0u8; 4];
     let mut tx = [0u8; 4];
     let mut socket = Tcp::new(&mut rx, &mut tx);
-    listens_once(&rt, &mut socket);
+    listens(&rt, &mut socket);
     Ok(())
 }
 
@@ -65,7 +66,8 @@ fn dials(
     socket.connect(cx, remote, local)
 }
 
-fn connects_once(rt: &(impl Abort), socket: &mut Tcp<'_>, cx: &mut Host) {
+// Which calls of `connect` are refused, and what the socket is after one that is not.
+fn connects(rt: &(impl Abort), socket: &mut Tcp<'_>, cx: &mut Host) {
     let unaddressable = Err(ConnectError::Unaddressable);
     assert!(rt; dials(socket, cx, 0, at(A)) == unaddressable);
     // no address is given, and the context has none
@@ -83,7 +85,7 @@ fn connect_validation(rt: HostRuntime) -> Result<(), Fail> {
     let mut tx = [0u8; 4];
     let mut socket = Tcp::new(&mut rx, &mut tx);
     let mut cx = Host::at(0, 1000);
-    connects_once(&rt, &mut socket, &mut cx);
+    connects(&rt, &mut socket, &mut cx);
     Ok(())
 }
 
@@ -163,6 +165,7 @@ fn four_go_out(rt: &(impl Abort), socket: &mut Tcp<'_>, cx: &mut Host) {
     assert!(rt; emitted(socket, cx, false) == (Some((1001, 4)), true));
 }
 
+// Three bytes are queued, read and acknowledged.
 fn three_come_in(rt: &(impl Abort), socket: &mut Tcp<'_>, cx: &mut Host) {
     let ip_repr = IpRepr::new(B.addr, A.addr, IpProtocol::Tcp, 20, 64);
     let data = answer(TcpControl::Psh, 5001, b"xyz");
@@ -227,6 +230,7 @@ fn change_all(socket: &mut Tcp<'_>) {
     socket.0.pause_synack(true);
 }
 
+// The settings of a new socket, and those that the user made, through a reset.
 fn keeps_settings(rt: &(impl Abort), socket: &mut Tcp<'_>) {
     let delay = Some(Duration::from_millis(10));
     assert!(rt; settings(socket) == (None, None, delay, None));
@@ -305,6 +309,7 @@ fn first_byte(socket: &mut Tcp<'_>) -> Result<Option<u8>, RecvError> {
         .recv(|queue| (queue.len().min(1), queue.first().copied()))
 }
 
+// Closures write and take bytes, and peeks leave them.
 fn takes_by_closures(rt: &(impl Abort), socket: &mut Tcp<'_>, cx: &mut Host) {
     let ip_repr = IpRepr::new(B.addr, A.addr, IpProtocol::Tcp, 20, 64);
     assert!(rt; writes_hi(socket) == Ok(()));
@@ -341,6 +346,7 @@ fn receives_no_more(socket: &mut Tcp<'_>) -> bool {
     socket.0.recv(|queue| (0, queue.len())) == Err(RecvError::InvalidState)
 }
 
+// The states after a close, an abort, and a close before the handshake.
 fn closes_and_aborts(rt: &(impl Abort), socket: &mut Tcp<'_>, cx: &mut Host) {
     assert!(rt; closed(socket) == State::FinWait1);
     assert!(rt; sends_no_more(socket));
@@ -408,7 +414,8 @@ pub(crate) fn clock() -> u32 {
     7
 }
 
-fn has_timestamps(rt: &(impl Abort), socket: &mut Tcp<'_>) {
+// Timestamps are enabled while there is a clock.
+fn shows_its_clock(rt: &(impl Abort), socket: &mut Tcp<'_>) {
     assert!(rt; !socket.timestamp_enabled());
     socket.set_clock(true);
     assert!(rt; socket.timestamp_enabled());
@@ -423,6 +430,6 @@ fn timestamps_are_enabled_by_a_generator(rt: HostRuntime) -> Result<(), Fail> {
     let mut rx = [0u8; 4];
     let mut tx = [0u8; 4];
     let mut socket = Tcp::new(&mut rx, &mut tx);
-    has_timestamps(&rt, &mut socket);
+    shows_its_clock(&rt, &mut socket);
     Ok(())
 }

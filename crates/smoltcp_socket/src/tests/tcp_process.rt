@@ -95,6 +95,7 @@ fn cut_fin_is_disregarded(rt: HostRuntime) -> Result<(), Fail> {
     Ok(())
 }
 
+// A byte behind a FIN is queued, and read before the end.
 fn takes_a_byte_after_fin(rt: &(impl Abort), socket: &mut Tcp<'_>) {
     let _ = hear_at(rt, socket, 0, &segment(TcpControl::Fin, 1001, &[]));
     assert!(rt; socket.state() == State::CloseWait);

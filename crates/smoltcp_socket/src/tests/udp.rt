@@ -131,6 +131,7 @@ fn refuses(socket: &mut Socket<'_>, size: usize, addr: IpAddress) -> bool {
     socket.send(size, to(addr, 49500)).is_err()
 }
 
+// The socket is bound once, until it is closed.
 fn binds_once(rt: &(impl Abort), socket: &mut Socket<'_>) {
     assert!(rt; binds(socket, any(0)) == Err(BindError::Unaddressable));
     assert!(rt; !socket.is_open());
@@ -212,6 +213,7 @@ fn udp_payload_capacity(rt: HostRuntime) -> Result<(), Fail> {
     Ok(())
 }
 
+// A datagram that is longer than the slice is lost to it.
 fn shortens(rt: &(impl Abort), socket: &mut Socket<'_>) {
     assert!(rt; binds(socket, any(53)) == Ok(()));
     let mut short = [0u8; 4];
@@ -278,6 +280,7 @@ fn udp_accepts_by_bound_address(rt: HostRuntime) -> Result<(), Fail> {
     Ok(())
 }
 
+// Sends that are refused, and one that no address can be found for.
 fn refuses_and_drops(rt: &(impl Abort), socket: &mut Socket<'_>) {
     let refused = Err(SendError::Unaddressable);
     assert!(rt; sends(socket, b"abcdef", THERE, 49500) == refused);
@@ -317,6 +320,7 @@ fn udp_hop_limit_and_source(rt: HostRuntime) -> Result<(), Fail> {
     Ok(())
 }
 
+// Of two datagrams that come, the first is kept.
 fn keeps_the_first(rt: &(impl Abort), socket: &mut Socket<'_>) {
     assert!(rt; socket.packet_recv_capacity() == 1 && socket.payload_recv_capacity() == 16);
     assert!(rt; binds(socket, any(53)) == Ok(()));
@@ -386,6 +390,7 @@ fn lends(socket: &mut Socket<'_>, data: &[u8], remote: UdpMetadata) -> Result<()
     Ok(())
 }
 
+// What came waits to be read, whatever is sent.
 fn sends_beside_what_came(rt: &(impl Abort), socket: &mut Socket<'_>) {
     assert!(rt; binds(socket, here(53)) == Ok(()));
     socket.set_hop_limit(Some(9));
@@ -420,6 +425,7 @@ fn send_changes_the_transmit_queue_alone(rt: HostRuntime) -> Result<(), Fail> {
     Ok(())
 }
 
+// A send of this size to this address is refused, and both queues keep what they have.
 fn refuses_and_keeps(rt: &(impl Abort), socket: &mut Socket<'_>, size: usize, remote: IpAddress) {
     assert!(rt; binds(socket, here(53)) == Ok(()));
     assert!(rt; hear(socket, b"came"));
