@@ -107,6 +107,7 @@ fn four_groups<W: fmt::Write>(f: &mut fmt::Formatter<W>, octets: &[u8], start: u
     two_groups(f, octets, start + 4)
 }
 
+// Two of them, with a colon between.
 #[tactic(auto, unfolding(crate::specs::Endpoint::two_groups))]
 fn two_groups<W: fmt::Write>(f: &mut fmt::Formatter<W>, octets: &[u8], start: usize) -> fmt::Result
     requires { start + 4 ≤ length octets.now }

@@ -63,6 +63,7 @@ impl<'w, W: Write> Chart<'w, W> {
         self.head(Side::B, "b 10.0.0.2:80", height)
     }
 
+    // The root element, and the style sheet.
     fn open(&mut self, height: usize) -> io::Result<()> {
         writeln!(
             self.out,
@@ -122,6 +123,7 @@ impl<'w, W: Write> Chart<'w, W> {
         Ok(())
     }
 
+    // The event's own row: a segment's way, or a text beside a lifeline.
     fn call(&mut self, event: &Event, call: Call<'_>, pair: &Pair<'_>) -> io::Result<()>
         requires { vec_len self.old.departures < vec_capacity self.old.departures }
     {

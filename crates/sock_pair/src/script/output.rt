@@ -15,6 +15,7 @@ fn put<W: Sink>(sink: &mut W, text: &str) -> Result<(), StreamFault>
     sink.write_all(text.as_bytes())
 }
 
+// One text, and another behind it.
 #[tactic(auto, using(crate::proofs::ReplaySinks::takes_after))]
 fn put_two<W: Sink>(sink: &mut W, first: &str, second: &str) -> Result<(), StreamFault>
     requires { W.has_failed sink.old ≡ false }
