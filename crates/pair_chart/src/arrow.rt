@@ -44,6 +44,25 @@ impl Arrow {
             Ending::Failed => (toward(line, other, 34), self.departure),
         }
     }
+
+    fn class(&self) -> &'static str {
+        match self.ending {
+            Ending::Delivered(_) => "sent",
+            Ending::Refused(_) => "refused",
+            Ending::Lost => "lost",
+            Ending::Failed => "failed",
+        }
+    }
+
+    // What stands behind the class.
+    fn further_classes(&self) -> &'static str {
+        match (self.reply, self.again) {
+            (false, false) => "",
+            (true, false) => " reply",
+            (false, true) => " again",
+            (true, true) => " reply again",
+        }
+    }
 }
 
 // The place that is so far from one place towards another.
@@ -57,19 +76,12 @@ fn toward(from: usize, to: usize, distance: usize) -> usize {
 
 impl fmt::Display for Arrow {
     fn fmt<W: fmt::Write>(&self, f: &mut fmt::Formatter<W>) -> fmt::Result {
-        let class = match self.ending {
-            Ending::Delivered(_) => "sent",
-            Ending::Refused(_) => "refused",
-            Ending::Lost => "lost",
-            Ending::Failed => "failed",
-        };
-        let reply = if self.reply { " reply" } else { "" };
-        let again = if self.again { " again" } else { "" };
+        let (class, further) = (self.class(), self.further_classes());
         let (x, y) = (lifeline(self.from), self.departure);
         let (tip_x, tip_y) = self.tip();
         write!(
             f,
-            "<path class=\"{class}{reply}{again}\" d=\"M{x} {y} {tip_x} {tip_y}\"/>"
+            "<path class=\"{class}{further}\" d=\"M{x} {y} {tip_x} {tip_y}\"/>"
         )
     }
 }

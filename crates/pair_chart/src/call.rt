@@ -20,19 +20,33 @@ impl fmt::Display for Call<'_> {
 }
 
 fn write_event<W: fmt::Write>(f: &mut fmt::Formatter<W>, event: &Event) -> fmt::Result {
+    let name = event_name(event);
     match event {
-        Event::Listen { .. } => f.write_str("listen"),
-        Event::Connect { moment, .. } => write!(f, "connect {}", moment.word),
+        Event::Connect { moment, .. } => write!(f, "{name} {}", moment.word),
         Event::SendSlice { bytes, .. } | Event::Send { bytes, .. } => {
-            write!(f, "send {}", Quoted(bytes.as_slice()))
+            write!(f, "{name} {}", Quoted(bytes.as_slice()))
         }
-        Event::RecvSlice { size, .. } | Event::Recv { take: size, .. } => write!(f, "recv {size}"),
-        Event::Close { .. } => f.write_str("close"),
-        Event::Abort { .. } => f.write_str("abort"),
-        Event::Set { setting, .. } => f.write_str(setting_name(*setting)),
-        Event::Dispatch { moment, .. } if moment.has_address => f.write_str("dispatch"),
-        Event::Dispatch { .. } => f.write_str("dispatch, address gone"),
-        Event::Deliver { index, .. } => write!(f, "deliver {index}"),
+        Event::RecvSlice { size, .. } | Event::Recv { take: size, .. } => {
+            write!(f, "{name} {size}")
+        }
+        Event::Deliver { index, .. } => write!(f, "{name} {index}"),
+        _ => f.write_str(name),
+    }
+}
+
+// What stands before an event's number or bytes.
+fn event_name(event: &Event) -> &'static str {
+    match event {
+        Event::Listen { .. } => "listen",
+        Event::Connect { .. } => "connect",
+        Event::SendSlice { .. } | Event::Send { .. } => "send",
+        Event::RecvSlice { .. } | Event::Recv { .. } => "recv",
+        Event::Close { .. } => "close",
+        Event::Abort { .. } => "abort",
+        Event::Set { setting, .. } => setting_name(*setting),
+        Event::Dispatch { moment, .. } if moment.has_address => "dispatch",
+        Event::Dispatch { .. } => "dispatch, address gone",
+        Event::Deliver { .. } => "deliver",
     }
 }
 
@@ -50,22 +64,32 @@ fn setting_name(setting: Setting) -> &'static str {
 }
 
 fn write_outcome<W: fmt::Write>(f: &mut fmt::Formatter<W>, outcome: &Outcome) -> fmt::Result {
+    let name = outcome_name(outcome);
     match outcome {
-        Outcome::Opened => f.write_str("opened"),
-        Outcome::Done => f.write_str("done"),
-        Outcome::Accepted(count) => write!(f, "accepted {count}"),
-        Outcome::SendRefused(error) => f.write_str(error.text()),
-        Outcome::Read(bytes) if bytes.is_empty() => f.write_str("read 0"),
-        Outcome::Read(bytes) => write!(f, "read {} {}", bytes.len(), Quoted(bytes.as_slice())),
-        Outcome::RecvRefused(error) => f.write_str(error.text()),
-        Outcome::Quiet => f.write_str("quiet"),
-        Outcome::Emitted(index) => write!(f, "emitted {index}"),
-        Outcome::EmitFailed => f.write_str("emit failed"),
-        Outcome::Delivered(_) => f.write_str("delivered"),
-        Outcome::AlreadyOpened => f.write_str("already opened"),
-        Outcome::NoSegment => f.write_str("no segment"),
-        Outcome::StreamLimit => f.write_str("stream limit"),
-        Outcome::TooOld => f.write_str("too old"),
-        Outcome::NotAccepted(_) => f.write_str("not accepted"),
+        Outcome::Accepted(number) | Outcome::Emitted(number) => write!(f, "{name} {number}"),
+        Outcome::Read(bytes) if bytes.is_empty() => write!(f, "{name} 0"),
+        Outcome::Read(bytes) => write!(f, "{name} {} {}", bytes.len(), Quoted(bytes.as_slice())),
+        _ => f.write_str(name),
+    }
+}
+
+// What stands before an outcome's number and bytes.
+fn outcome_name(outcome: &Outcome) -> &'static str {
+    match outcome {
+        Outcome::Opened => "opened",
+        Outcome::Done => "done",
+        Outcome::Accepted(_) => "accepted",
+        Outcome::SendRefused(error) => error.text(),
+        Outcome::Read(_) => "read",
+        Outcome::RecvRefused(error) => error.text(),
+        Outcome::Quiet => "quiet",
+        Outcome::Emitted(_) => "emitted",
+        Outcome::EmitFailed => "emit failed",
+        Outcome::Delivered(_) => "delivered",
+        Outcome::AlreadyOpened => "already opened",
+        Outcome::NoSegment => "no segment",
+        Outcome::StreamLimit => "stream limit",
+        Outcome::TooOld => "too old",
+        Outcome::NotAccepted(_) => "not accepted",
     }
 }

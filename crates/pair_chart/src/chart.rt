@@ -148,21 +148,13 @@ impl<'w, W: Write> Chart<'w, W> {
     /// Ends the chart: draws the segments that never came, and the label of each segment.
     pub fn end(&mut self, segments: &[Segment]) -> io::Result<()> {
         for (index, (departure, segment)) in self.departures.iter().zip(segments).enumerate() {
-            let (row, from) = (departure.row, segment.from);
             if !departure.arrived {
-                let arrow = Arrow {
-                    from,
-                    departure: row.departure(),
-                    ending: Ending::Lost,
-                    reply: departure.reply,
-                    again: false,
-                };
-                writeln!(self.out, "{arrow}")?;
+                draw_lost(self.out, departure, segment.from)?;
             }
             let label = Label {
                 index,
                 segment,
-                y: row.label(),
+                y: departure.row.label(),
             };
             writeln!(self.out, "{label}")?;
         }
@@ -306,4 +298,16 @@ impl<'w, W: Write> Chart<'w, W> {
             "<text class=\"time\" x=\"{TIME}\" text-anchor=\"end\" y=\"{y}\">{millis}</text>"
         )
     }
+}
+
+// Draws a segment that never came.
+fn draw_lost<W: Write>(out: &mut W, departure: &Departure, from: Side) -> io::Result<()> {
+    let arrow = Arrow {
+        from,
+        departure: departure.row.departure(),
+        ending: Ending::Lost,
+        reply: departure.reply,
+        again: false,
+    };
+    writeln!(out, "{arrow}")
 }

@@ -21,21 +21,27 @@ impl fmt::Display for Label<'_> {
         let (index, y, headers) = (self.index, self.y, Headers(self.segment));
         let mut length = Length(0);
         write!(length, "{index} {headers}")?;
-        let anchor = Anchor::inside(self.segment.from);
-        let (x, top, width) = (
-            anchor.left(length.width()),
-            y.saturating_sub(11),
-            length.width(),
-        );
-        writeln!(
-            f,
-            "<rect class=\"label\" x=\"{x}\" y=\"{top}\" width=\"{width}\" height=\"14\"/>"
-        )?;
+        let (anchor, width) = (Anchor::inside(self.segment.from), length.width());
+        write_box(f, anchor.left(width), y, width)?;
         write!(
             f,
             "<text {anchor} y=\"{y}\"><tspan class=\"index\">{index}</tspan> {headers}</text>"
         )
     }
+}
+
+// The box behind a text of this base line and width.
+fn write_box<W: fmt::Write>(
+    f: &mut fmt::Formatter<W>,
+    x: usize,
+    y: usize,
+    width: usize,
+) -> fmt::Result {
+    let top = y.saturating_sub(11);
+    writeln!(
+        f,
+        "<rect class=\"label\" x=\"{x}\" y=\"{top}\" width=\"{width}\" height=\"14\"/>"
+    )
 }
 
 // A text of which only the length is kept.

@@ -181,31 +181,6 @@ fn has_timestamps(pair: &Pair<'_>, side: Side) -> bool {
     pair.socket(side).timestamp_enabled()
 }
 
-// A sends these six bytes, and B reads them.
-fn six_bytes_arrive(rt: &(impl Abort), pair: &mut Pair<'_>, bytes: Vec<u8>) {
-    opens(rt, pair);
-    sends(rt, pair, bytes, 6);
-    emits(rt, pair, Side::A, 3);
-    arrives(rt, pair, 3, None);
-    let side = Side::B;
-    let recv = Event::RecvSlice { side, size: 64 };
-    reads(rt, pair, &recv, b"abcdef");
-    assert!(rt; pair.handed_out(Side::B) == b"abcdef".as_slice());
-}
-
-#[test]
-fn six_bytes_from_a_side_with_a_generator(rt: HostRuntime) -> Result<(), Fail> {
-    let alloc = rt.alloc();
-    let bytes = Vec::from_slice(alloc, b"abcdef")?;
-    let mut room = Room::new();
-    let mut pair = room.pair(alloc, 64, (true, false));
-    assert!(rt; has_timestamps(&pair, Side::A) && !has_timestamps(&pair, Side::B));
-    six_bytes_arrive(&rt, &mut pair, bytes);
-    // the SYN|ACK had no timestamp
-    assert!(rt; !has_timestamps(&pair, Side::A));
-    Ok(())
-}
-
 // Whether the segment of this index has so many bytes of the stream's beginning, and a timestamp.
 fn is_full(pair: &Pair<'_>, index: usize, len: usize, has_timestamp: bool) -> bool {
     match pair.segments().get(index) {
@@ -220,12 +195,21 @@ fn is_full(pair: &Pair<'_>, index: usize, len: usize, has_timestamp: bool) -> bo
     }
 }
 
-// A sends 1500 bytes after the handshake, of which one segment goes out, and Nagle holds the rest back.
-fn sends_a_full_segment(rt: &(impl Abort), pair: &mut Pair<'_>, bytes: Vec<u8>) {
+// A sends 1500 bytes after the handshake, of which one segment goes out, and Nagle holds the rest back. It has so many
+// bytes, and a timestamp where both sides have a generator.
+fn sends_a_full_segment(
+    rt: &(impl Abort),
+    pair: &mut Pair<'_>,
+    bytes: Vec<u8>,
+    len: usize,
+    has_timestamp: bool,
+) {
     opens(rt, pair);
     sends(rt, pair, bytes, 1500);
     emits(rt, pair, Side::A, 3);
     is_quiet(rt, pair, Side::A);
+    assert!(rt; is_full(pair, 3, len, has_timestamp));
+    assert!(rt; has_timestamps(pair, Side::A) == has_timestamp);
 }
 
 // A timestamp takes 12 bytes of each segment.
@@ -235,8 +219,7 @@ fn timestamps_shrink_the_segment(rt: HostRuntime) -> Result<(), Fail> {
     let bytes = Vec::from_slice(alloc, &[b'x'; 1500])?;
     let mut room = Room::new();
     let mut pair = room.pair(alloc, 2000, (true, true));
-    sends_a_full_segment(&rt, &mut pair, bytes);
-    assert!(rt; is_full(&pair, 3, 1448, true));
+    sends_a_full_segment(&rt, &mut pair, bytes, 1448, true);
     Ok(())
 }
 
@@ -246,8 +229,7 @@ fn timestamps_need_both_sides(rt: HostRuntime) -> Result<(), Fail> {
     let bytes = Vec::from_slice(alloc, &[b'x'; 1500])?;
     let mut room = Room::new();
     let mut pair = room.pair(alloc, 2000, (true, false));
-    sends_a_full_segment(&rt, &mut pair, bytes);
-    assert!(rt; is_full(&pair, 3, 1460, false) && !has_timestamps(&pair, Side::A));
+    sends_a_full_segment(&rt, &mut pair, bytes, 1460, false);
     Ok(())
 }
 
@@ -259,13 +241,15 @@ fn closures_take(rt: &(impl Abort), pair: &mut Pair<'_>, first: Vec<u8>, second:
     closure_takes(rt, pair, second, 2);
 }
 
-// The two bytes arrive. B's closure takes nothing, and then all.
+// The two bytes arrive. B's closure takes nothing, then one, and a slice the other.
 fn closures_read(rt: &(impl Abort), pair: &mut Pair<'_>) {
     emits(rt, pair, Side::A, 3);
     arrives(rt, pair, 3, None);
     let side = Side::B;
     reads(rt, pair, &Event::Recv { side, take: 0 }, b"");
-    reads(rt, pair, &Event::Recv { side, take: 64 }, b"ab");
+    reads(rt, pair, &Event::Recv { side, take: 1 }, b"a");
+    reads(rt, pair, &Event::RecvSlice { side, size: 64 }, b"b");
+    assert!(rt; pair.handed_out(side) == b"ab".as_slice());
 }
 
 #[test]
@@ -300,14 +284,12 @@ fn set_all(rt: &(impl Abort), pair: &mut Pair<'_>, side: Side) {
     let none = CongestionControl::None;
     sets(rt, pair, side, Setting::Congestion(none));
     sets(rt, pair, side, Setting::Pause(true));
+    assert!(rt; is_set(pair.socket(side)));
 }
 
 #[test]
 fn settings_of_a_pair(rt: HostRuntime) -> Result<(), Fail> {
     let mut room = Room::new();
-    let mut pair = room.plain_pair(rt.alloc());
-    set_all(&rt, &mut pair, Side::B);
-    assert!(rt; is_set(pair.socket(Side::B)));
-    assert!(rt; pair.socket(Side::A).nagle_enabled());
+    set_all(&rt, &mut room.plain_pair(rt.alloc()), Side::B);
     Ok(())
 }

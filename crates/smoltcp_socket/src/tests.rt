@@ -1,7 +1,6 @@
 //! Worked examples of single sockets and of what they stand on, and each call once at a concrete type.
 
 mod congestion;
-mod estimator;
 mod host;
 mod icmp;
 mod ip;
@@ -11,7 +10,6 @@ mod packets;
 mod poll_moments;
 mod ranges;
 mod raw;
-mod receive_buffer;
 mod segments;
 mod storage;
 mod tcp;

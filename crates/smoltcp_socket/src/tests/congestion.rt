@@ -1,6 +1,6 @@
 //! Timeouts in milliseconds, and Reno's windows and thresholds.
 use net_base::time::Instant;
-use sock_core::congestion::{AnyController, Controller, Reno};
+use sock_core::congestion::{Controller, Reno};
 use sock_core::rtte::RttEstimator;
 use std::process::Abort;
 use std::test::Fail;
@@ -82,24 +82,5 @@ fn reno_growth_and_loss(rt: HostRuntime) -> Result<(), Fail> {
     assert!(rt; (reno.ssthresh(), reno.window()) == (8192, 11264));
     hear_again(&mut reno);
     assert!(rt; reno.window() == 12288);
-    Ok(())
-}
-
-fn window_after_a_send(controller: &mut AnyController) -> usize {
-    controller.pre_transmit(NOW);
-    controller.post_transmit(NOW, 1024);
-    controller.window()
-}
-
-fn window_after_a_timeout(controller: &mut AnyController) -> usize {
-    controller.on_rto(NOW, 0);
-    controller.window()
-}
-
-#[test]
-fn any_controller_is_reno(rt: HostRuntime) -> Result<(), Fail> {
-    let mut controller = AnyController::new();
-    assert!(rt; window_after_a_send(&mut controller) == 2048);
-    assert!(rt; window_after_a_timeout(&mut controller) == 1024);
     Ok(())
 }

@@ -31,6 +31,9 @@ fn raw_buffer_full(rt: HostRuntime) -> Result<(), Fail> {
         assert!(rt; sends(&mut socket, first(&data, size)) == answer);
         assert!(rt; polls(&socket) == next);
     }
+    assert!(rt; socket.ip_version() == Some(IpVersion::Ipv4));
+    assert!(rt; socket.ip_protocol() == Some(EXPERIMENT));
+    assert!(rt; socket.packet_send_capacity() == 1 && socket.payload_send_capacity() == 48);
     assert!(rt; socket.send_queue() == 48 && !socket.can_send());
     assert!(rt; closures_refused(&mut socket));
     Ok(())
@@ -89,22 +92,6 @@ fn closures_refused(socket: &mut Socket<'_>) -> bool {
 }
 
 #[test]
-fn raw_limits_and_filters(rt: HostRuntime) -> Result<(), Fail> {
-    let mut places = [PacketMetadata::EMPTY; 1];
-    let mut bytes = [0u8; 48];
-    let socket = sender(
-        Some(IpVersion::Ipv4),
-        Some(EXPERIMENT),
-        &mut places,
-        &mut bytes,
-    );
-    assert!(rt; socket.packet_send_capacity() == 1 && socket.payload_send_capacity() == 48);
-    assert!(rt; socket.ip_version() == Some(IpVersion::Ipv4));
-    assert!(rt; socket.ip_protocol() == Some(EXPERIMENT));
-    Ok(())
-}
-
-#[test]
 fn what_is_lent_is_queued(rt: HostRuntime) -> Result<(), Fail> {
     let mut places = [PacketMetadata::EMPTY; 2];
     let mut bytes = [0u8; 8];
@@ -159,18 +146,9 @@ fn raw_truncated_slices(rt: HostRuntime) -> Result<(), Fail> {
     let mut bytes = [0u8; 16];
     let received = two_packets(&rt, &mut places, &mut bytes, ());
     let mut socket = holding(received);
-    shortens(&rt, &mut socket);
-    Ok(())
-}
-
-#[test]
-fn raw_receive_limits(rt: HostRuntime) -> Result<(), Fail> {
-    let mut places = [PacketMetadata::EMPTY; 2];
-    let mut bytes = [0u8; 16];
-    let received = two_packets(&rt, &mut places, &mut bytes, ());
-    let socket = holding(received);
     assert!(rt; socket.packet_recv_capacity() == 2 && socket.payload_recv_capacity() == 16);
     assert!(rt; socket.can_recv() && socket.recv_queue() == 9);
+    shortens(&rt, &mut socket);
     Ok(())
 }
 
@@ -187,14 +165,14 @@ fn host(ipv4: Checksum) -> Host {
     host
 }
 
-// The header of what is emitted, and whether the dispatch answered Ok.
-fn emitted(socket: &mut Socket<'_>, cx: &mut Host, fail: bool) -> (Option<IpRepr>, bool) {
+// The header of what is emitted.
+fn emitted(socket: &mut Socket<'_>, cx: &mut Host) -> Option<IpRepr> {
     let mut seen = None;
-    let answer = socket.dispatch(cx, |_: &mut Host, sent: (IpRepr, &[u8])| {
+    let _ = socket.dispatch(cx, |_: &mut Host, sent: (IpRepr, &[u8])| {
         seen = Some(sent.0);
-        if fail { Err(()) } else { Ok(()) }
+        Ok::<(), ()>(())
     });
-    (seen, answer.is_ok())
+    seen
 }
 
 #[test]
@@ -235,7 +213,7 @@ fn raw_malformed_or_foreign_dropped(rt: HostRuntime) -> Result<(), Fail> {
             packet[at] = byte;
         }
         assert!(rt; sends(&mut socket, &packet) == Ok(()));
-        assert!(rt; emitted(&mut socket, &mut cx, false) == (None, true));
+        assert!(rt; emitted(&mut socket, &mut cx) == None);
         assert!(rt; socket.send_queue() == 0);
     }
     Ok(())
@@ -248,7 +226,7 @@ fn raw_other_version_dropped(rt: HostRuntime) -> Result<(), Fail> {
     let mut socket = sender(Some(IpVersion::Ipv6), None, &mut places, &mut bytes);
     assert!(rt; sends(&mut socket, &PACKET) == Ok(()));
     let mut cx = host(Checksum::Both);
-    assert!(rt; emitted(&mut socket, &mut cx, false) == (None, true));
+    assert!(rt; emitted(&mut socket, &mut cx) == None);
     Ok(())
 }
 
@@ -265,22 +243,7 @@ fn raw_zero_checksum_where_not_sent(rt: HostRuntime) -> Result<(), Fail> {
     assert!(rt; sends(&mut socket, &PACKET) == Ok(()));
     let mut cx = host(Checksum::Rx);
     let header = IpRepr::new(HERE, THERE, EXPERIMENT, 4, 64);
-    assert!(rt; emitted(&mut socket, &mut cx, false) == (Some(header), true));
-    assert!(rt; emitted(&mut socket, &mut cx, false) == (None, true));
-    Ok(())
-}
-
-#[test]
-fn raw_failed_emits_keep_the_packet(rt: HostRuntime) -> Result<(), Fail> {
-    let mut places = [PacketMetadata::EMPTY; 1];
-    let mut bytes = [0u8; 48];
-    let mut socket = sender(None, None, &mut places, &mut bytes);
-    let mut cx = host(Checksum::Both);
-    let header = IpRepr::new(HERE, THERE, EXPERIMENT, 4, 64);
-    assert!(rt; sends(&mut socket, &PACKET) == Ok(()));
-    for fails in [true, true, false] {
-        assert!(rt; emitted(&mut socket, &mut cx, fails) == (Some(header), !fails));
-    }
-    assert!(rt; socket.send_queue() == 0);
+    assert!(rt; emitted(&mut socket, &mut cx) == Some(header));
+    assert!(rt; emitted(&mut socket, &mut cx) == None);
     Ok(())
 }

@@ -66,14 +66,18 @@ fn dials(
     socket.connect(cx, remote, local)
 }
 
-// Which calls of `connect` are refused, and what the socket is after one that is not.
-fn connects(rt: &(impl Abort), socket: &mut Tcp<'_>, cx: &mut Host) {
-    let unaddressable = Err(ConnectError::Unaddressable);
-    assert!(rt; dials(socket, cx, 0, at(A)) == unaddressable);
-    // no address is given, and the context has none
-    assert!(rt; dials(socket, cx, 80, any(49152)) == unaddressable);
-    assert!(rt; dials(socket, cx, 80, at(A)) == Ok(()));
-    assert!(rt; dials(socket, cx, 0, at(A)) == Err(ConnectError::InvalidState));
+// What `connect` answers to port 0, without an address that the context has, to a call that it takes, and after it.
+fn connects(socket: &mut Tcp<'_>, cx: &mut Host) -> [Result<(), ConnectError>; 4] {
+    [
+        dials(socket, cx, 0, at(A)),
+        dials(socket, cx, 80, any(49152)),
+        dials(socket, cx, 80, at(A)),
+        dials(socket, cx, 0, at(A)),
+    ]
+}
+
+// What a socket shows that connects from A to B.
+fn dialled(rt: &(impl Abort), socket: &Tcp<'_>) {
     assert!(rt; socket.state() == State::SynSent);
     assert!(rt; (socket.local_endpoint(), socket.remote_endpoint()) == (Some(A), Some(B)));
     assert!(rt; socket.is_active() && !socket.may_send() && !socket.can_send());
@@ -85,7 +89,11 @@ fn connect_validation(rt: HostRuntime) -> Result<(), Fail> {
     let mut tx = [0u8; 4];
     let mut socket = Tcp::new(&mut rx, &mut tx);
     let mut cx = Host::at(0, 1000);
-    connects(&rt, &mut socket, &mut cx);
+    let unaddressable = Err(ConnectError::Unaddressable);
+    let after = Err(ConnectError::InvalidState);
+    let answers = [unaddressable, unaddressable, Ok(()), after];
+    assert!(rt; connects(&mut socket, &mut cx) == answers);
+    dialled(&rt, &socket);
     Ok(())
 }
 
@@ -114,33 +122,16 @@ fn answer<'a>(control: TcpControl, seq: u32, payload: &'a [u8]) -> TcpRepr<'a> {
     }
 }
 
-// The sequence number and the payload of what is emitted.
-pub(crate) fn emitted(
-    socket: &mut Tcp<'_>,
-    cx: &mut Host,
-    fail: bool,
-) -> (Option<(u32, usize)>, bool) {
+// The sequence number of what is emitted, and how many bytes it carries.
+pub(crate) fn emitted(socket: &mut Tcp<'_>, cx: &mut Host) -> Option<(u32, usize)> {
     let mut seen = None;
-    let answer = socket
+    let _ = socket
         .0
         .dispatch(cx, |_: &mut Host, sent: (IpRepr, TcpRepr<'_>)| {
             seen = Some((sent.1.seq_number.0, sent.1.payload.len()));
-            if fail { Err(()) } else { Ok(()) }
+            Ok::<(), ()>(())
         });
-    (seen, answer.is_ok())
-}
-
-#[test]
-fn a_failed_syn_is_sent_again(rt: HostRuntime) -> Result<(), Fail> {
-    let mut rx = [0u8; 4];
-    let mut tx = [0u8; 4];
-    let mut socket = Tcp::new(&mut rx, &mut tx);
-    let mut cx = Host::at(0, 1000);
-    assert!(rt; socket.connect(&mut cx, B, at(A)) == Ok(()));
-    assert!(rt; emitted(&mut socket, &mut cx, true) == (Some((1000, 0)), false));
-    assert!(rt; emitted(&mut socket, &mut cx, false) == (Some((1000, 0)), true));
-    assert!(rt; emitted(&mut socket, &mut cx, false) == (None, true));
-    Ok(())
+    seen
 }
 
 fn reads(socket: &mut Tcp<'_>, want: &[u8]) -> bool {
@@ -156,45 +147,11 @@ fn waiting(socket: &Tcp<'_>) -> (usize, usize) {
     (socket.send_queue(), socket.recv_queue())
 }
 
-// Of six bytes, as many as fit are queued and go out.
-fn four_go_out(rt: &(impl Abort), socket: &mut Tcp<'_>, cx: &mut Host) {
-    assert!(rt; emitted(socket, cx, false) == (Some((1001, 0)), true));
-    assert!(rt; socket.send_slice(b"abcdef") == Ok(4));
-    assert!(rt; waiting(socket) == (4, 0) && socket.send_capacity() == 4);
-    assert!(rt; socket.may_send() && !socket.can_send());
-    assert!(rt; emitted(socket, cx, false) == (Some((1001, 4)), true));
-}
-
-// Three bytes are queued, read and acknowledged.
-fn three_come_in(rt: &(impl Abort), socket: &mut Tcp<'_>, cx: &mut Host) {
-    let ip_repr = IpRepr::new(B.addr, A.addr, IpProtocol::Tcp, 20, 64);
-    let data = answer(TcpControl::Psh, 5001, b"xyz");
-    assert!(rt; hear(socket, cx, &ip_repr, &data));
-    assert!(rt; socket.may_recv() && socket.can_recv());
-    assert!(rt; waiting(socket) == (4, 3) && socket.recv_capacity() == 4);
-    assert!(rt; reads(socket, b"xyz"));
-    // the acknowledgement of what was read, with the window free again
-    assert!(rt; emitted(socket, cx, false) == (Some((1005, 0)), true));
-}
-
-#[test]
-fn a_peer_sends_and_receives(rt: HostRuntime) -> Result<(), Fail> {
-    let mut rx = [0u8; 4];
-    let mut tx = [0u8; 4];
-    let mut socket = Tcp::new(&mut rx, &mut tx);
-    let mut cx = Host::at(0, 1000);
-    establish(&mut socket, &mut cx);
-    assert!(rt; socket.state() == State::Established);
-    four_go_out(&rt, &mut socket, &mut cx);
-    three_come_in(&rt, &mut socket, &mut cx);
-    Ok(())
-}
-
 // Connects a new socket, by a SYN|ACK made by hand.
 pub(crate) fn establish(socket: &mut Tcp<'_>, cx: &mut Host) {
     let ip_repr = IpRepr::new(B.addr, A.addr, IpProtocol::Tcp, 20, 64);
     let _ = socket.connect(cx, B, at(A));
-    let _ = emitted(socket, cx, false);
+    let _ = emitted(socket, cx);
     let _ = hear(socket, cx, &ip_repr, &answer(TcpControl::Syn, 5000, &[]));
 }
 
@@ -309,16 +266,27 @@ fn first_byte(socket: &mut Tcp<'_>) -> Result<Option<u8>, RecvError> {
         .recv(|queue| (queue.len().min(1), queue.first().copied()))
 }
 
-// Closures write and take bytes, and peeks leave them.
-fn takes_by_closures(rt: &(impl Abort), socket: &mut Tcp<'_>, cx: &mut Host) {
-    let ip_repr = IpRepr::new(B.addr, A.addr, IpProtocol::Tcp, 20, 64);
+// A closure writes two bytes, and they go out.
+fn sends_by_a_closure(rt: &(impl Abort), socket: &mut Tcp<'_>, cx: &mut Host) {
     assert!(rt; writes_hi(socket) == Ok(()));
-    assert!(rt; emitted(socket, cx, false) == (Some((1001, 2)), true));
+    assert!(rt; socket.may_send() && socket.can_send() && socket.send_capacity() == 4);
+    assert!(rt; emitted(socket, cx) == Some((1001, 2)));
+}
+
+// Takes three bytes from the peer.
+fn hears_three(socket: &mut Tcp<'_>, cx: &mut Host) -> bool {
+    let ip_repr = IpRepr::new(B.addr, A.addr, IpProtocol::Tcp, 20, 64);
     let data = answer(TcpControl::Psh, 5001, b"xyz");
-    assert!(rt; hear(socket, cx, &ip_repr, &data));
+    hear(socket, cx, &ip_repr, &data)
+}
+
+// Peeks leave what came; a closure takes a byte, and a slice the others.
+fn reads_by_a_closure(rt: &(impl Abort), socket: &mut Tcp<'_>) {
+    assert!(rt; socket.may_recv() && socket.can_recv() && socket.recv_capacity() == 4);
     assert!(rt; peeks(socket, b"xy", b"xyz"));
     assert!(rt; first_byte(socket) == Ok(Some(b'x')));
-    assert!(rt; socket.recv_queue() == 2);
+    assert!(rt; reads(socket, b"yz"));
+    assert!(rt; waiting(socket) == (2, 0));
 }
 
 #[test]
@@ -328,7 +296,9 @@ fn closures_and_peeks(rt: HostRuntime) -> Result<(), Fail> {
     let mut cx = Host::at(0, 1000);
     let mut socket = Tcp::new(&mut rx, &mut tx);
     establish(&mut socket, &mut cx);
-    takes_by_closures(&rt, &mut socket, &mut cx);
+    sends_by_a_closure(&rt, &mut socket, &mut cx);
+    assert!(rt; hears_three(&mut socket, &mut cx));
+    reads_by_a_closure(&rt, &mut socket);
     Ok(())
 }
 
@@ -346,14 +316,18 @@ fn receives_no_more(socket: &mut Tcp<'_>) -> bool {
     socket.0.recv(|queue| (0, queue.len())) == Err(RecvError::InvalidState)
 }
 
-// The states after a close, an abort, and a close before the handshake.
-fn closes_and_aborts(rt: &(impl Abort), socket: &mut Tcp<'_>, cx: &mut Host) {
+// The states after a close and an abort.
+fn closes_and_aborts(rt: &(impl Abort), socket: &mut Tcp<'_>) {
     assert!(rt; closed(socket) == State::FinWait1);
     assert!(rt; sends_no_more(socket));
     assert!(rt; closed(socket) == State::FinWait1);
     socket.abort();
     assert!(rt; socket.state() == State::Closed);
     assert!(rt; receives_no_more(socket));
+}
+
+// The states after a close before the handshake.
+fn closes_early(rt: &(impl Abort), socket: &mut Tcp<'_>, cx: &mut Host) {
     assert!(rt; socket.listen(any(80)) == Ok(()));
     assert!(rt; closed(socket) == State::Closed);
     assert!(rt; dials(socket, cx, 80, at(A)) == Ok(()));
@@ -367,7 +341,8 @@ fn close_and_abort_by_state(rt: HostRuntime) -> Result<(), Fail> {
     let mut cx = Host::at(0, 1000);
     let mut socket = Tcp::new(&mut rx, &mut tx);
     establish(&mut socket, &mut cx);
-    closes_and_aborts(&rt, &mut socket, &mut cx);
+    closes_and_aborts(&rt, &mut socket);
+    closes_early(&rt, &mut socket, &mut cx);
     Ok(())
 }
 

@@ -130,11 +130,6 @@ impl<'a> Tcp<'a> {
         self.0.set_timeout(Some(duration));
     }
 
-    pub(crate) fn set_keep_alive(&mut self, millis: u16) {
-        let interval = Duration::from_millis(millis as u64);
-        self.0.set_keep_alive(Some(interval));
-    }
-
     pub(crate) fn set_nagle_enabled(&mut self, enabled: bool) {
         self.0.set_nagle_enabled(enabled);
     }
