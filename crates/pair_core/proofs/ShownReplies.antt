@@ -5,7 +5,7 @@ use Rattle.net_base.specs.declared.time.Instant.{Instant}
 use Rattle.control_wire.specs.Segment.{Segment}
 use Rattle.control_wire.specs.declared.tcp.TcpControl.{TcpControl}
 use Rattle.control_wire.specs.declared.tcp.TcpControl.TheVariants as control
-use Rattle.sock_core.specs.Received.{Received, taken_in, is_turned_away, holds_nothing}
+use Rattle.sock_core.specs.Received.{Received, taken_in, makes_fifth_range, holds_nothing}
 use Rattle.sock_tcp.specs.View.{View}
 use Rattle.sock_tcp.specs.Window.{next_ack}
 use Rattle.sock_tcp.specs.Replies.{ack_segment, ack_kept}
@@ -104,10 +104,10 @@ module _ (s : Segment) (now : Instant) where
       gap true = quiet_there u y refl
       gap false = acked_there u y refl
 
-      turned : (b : Bool) → is_turned_away w.rx_buffer o bs ≡ b → Answered s y (if b then stopped w else gap_answered w u s)
-      turned true e = quiet_there w y (ap (λ (b : Received). shown (record w { rx_buffer = b })) (stays_as_it_is w.rx_buffer o bs e))
-      turned false e = gap (holds_nothing w.rx_buffer.held && holds_nothing u.rx_buffer.held)
+      fifth : (b : Bool) → makes_fifth_range w.rx_buffer o bs ≡ b → Answered s y (if b then stopped w else gap_answered w u s)
+      fifth true e = quiet_there w y (ap (λ (b : Received). shown (record w { rx_buffer = b })) (stays_as_it_is w.rx_buffer o bs e))
+      fifth false e = gap (holds_nothing w.rx_buffer.held && holds_nothing u.rx_buffer.held)
 
-      go : (b : Bool) → Answered s (shown (record w { rx_buffer = if b then w.rx_buffer else taken_in w.rx_buffer o bs })) (if b then stopped w else (if is_turned_away w.rx_buffer o bs then stopped w else gap_answered w u s))
+      go : (b : Bool) → Answered s (shown (record w { rx_buffer = if b then w.rx_buffer else taken_in w.rx_buffer o bs })) (if b then stopped w else (if makes_fifth_range w.rx_buffer o bs then stopped w else gap_answered w u s))
       go true = quiet_there w _ refl
-      go false = turned (is_turned_away w.rx_buffer o bs) refl
+      go false = fifth (makes_fifth_range w.rx_buffer o bs) refl

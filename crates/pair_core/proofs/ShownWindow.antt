@@ -7,7 +7,7 @@ use Rattle.control_wire.specs.Seq.{seq_add, seq_sub, seq_minus, seq_eq}
 use Rattle.control_wire.specs.declared.seq_number.TcpSeqNumber.{TcpSeqNumber}
 use Rattle.sock_core.proofs.Receiving.{takes_in_all}
 use Rattle.sock_core.specs.Places.{later_number, number_distance, number_is_before, sooner_number}
-use Rattle.sock_core.specs.Received.{Received, received, written, gathered, taken_in, byte_at, is_turned_away, TakesIn}
+use Rattle.sock_core.specs.Received.{Received, received, written, gathered, taken_in, byte_at, makes_fifth_range, TakesIn}
 use Rattle.sock_core.specs.Seq.{is_before, is_not_after, later_of}
 use Rattle.sock_core.specs.Streams.{fin_length}
 use Rattle.sock_tcp.proofs.Frames.{brought}
@@ -130,24 +130,24 @@ empty_list : (bs : List ℕ) → (length bs == 0) ≡ true → bs ≡ []
 empty_list [] e = refl
 empty_list (x ∷ bs) e = absurd (omega (arith, eqb-true (length (x ∷ bs)) 0 e))
 
-not_at_zero : (b : Received) (o : ℕ) (bs : List ℕ) → is_turned_away b o bs ≡ true → 0 < o
-unfolding is_turned_away
+not_at_zero : (b : Received) (o : ℕ) (bs : List ℕ) → makes_fifth_range b o bs ≡ true → 0 < o
+unfolding makes_fifth_range
 not_at_zero b o bs e = let t = both (not (o == 0)) _ e in grind (arith, nat_tests, t.0)
 
-pub stays_so : (b : Received) (o : ℕ) (bs : List ℕ) → is_turned_away b o bs ≡ true → taken_in b o bs ≡ b
+pub stays_so : (b : Received) (o : ℕ) (bs : List ℕ) → makes_fifth_range b o bs ≡ true → taken_in b o bs ≡ b
 unfolding taken_in
 stays_so b o bs e = ap (λ t. cond t b (gathered (received b.bytes (written b.held o bs)))) e
 
 pub comes : (b : Received) (o : ℕ) (bs : List ℕ) → o + length bs ≤ length b.held → Comes b (brought b o bs) o bs
 comes b o bs fits = go (length bs == 0) refl
   where
-    taken : 0 < length bs → (t : Bool) → is_turned_away b o bs ≡ t → Comes b (taken_in b o bs) o bs
+    taken : 0 < length bs → (t : Bool) → makes_fifth_range b o bs ≡ t → Comes b (taken_in b o bs) o bs
     taken some true e = TurnedAway (not_at_zero b o bs e) (stays_so b o bs e)
     taken some false e = Joins some (takes_in_all b o bs fits e)
 
     go : (t : Bool) → (length bs == 0) ≡ t → Comes b (if t then b else taken_in b o bs) o bs
     go true e = NoBytes (empty_list bs e) refl
-    go false e = taken (grind (arith, nat_tests, e)) (is_turned_away b o bs) refl
+    go false e = taken (grind (arith, nat_tests, e)) (makes_fifth_range b o bs) refl
 
 pub grows : (b c : Received) (o : ℕ) (bs : List ℕ) → Comes b c o bs → length b.bytes ≤ length c.bytes
 grows b c o bs (NoBytes e same) = omega (arith, ap (λ (z : Received). length z.bytes) same)

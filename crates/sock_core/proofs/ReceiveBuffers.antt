@@ -14,8 +14,8 @@ use Rattle.sock_core.specs.declared.ranges.TooManyRanges.{TooManyRanges}
 use Rattle.std.specs.Prelude.{nat_eq, ◌||◌, ◌%◌}
 use Rattle.sock_core.specs.Places.{number_distance, number_is_before}
 use Rattle.sock_core.specs.HeldRanges.{HeldRanges, added, run_removed}
-use Rattle.sock_core.specs.Received.{Received, received, room_of, byte_at, holds_nothing, ranges_from, ranges_of, written, is_turned_away, gathered, taken_in, handed_out, cleared, shown, range_around, reaches_number, DequeuesBytesWith}
-use Rattle.sock_core.proofs.Receiving.{length-shown, byte_shown, ranges_shown, nothing_shown, shown_read, refused_is_turned_away, length-overwritten, gathers, room_cleared, room_handed_out, room_taken_in}
+use Rattle.sock_core.specs.Received.{Received, received, room_of, byte_at, holds_nothing, ranges_from, ranges_of, written, makes_fifth_range, gathered, taken_in, handed_out, cleared, shown, range_around, reaches_number, DequeuesBytesWith}
+use Rattle.sock_core.proofs.Receiving.{length-shown, byte_shown, ranges_shown, nothing_shown, shown_read, refused_makes_fifth_range, length-overwritten, gathers, room_cleared, room_handed_out, room_taken_in}
 
 -- ---- no byte is held exactly where there is no range
 
@@ -112,15 +112,15 @@ module _ (r : Ring ℕ) (h : HeldRanges) (b : Received) (is : received r.queue (
       pub taken_in_room : (c : Received) → c ≡ taken_in b o ys → room_of c ≡ room_of b
       taken_in_room c is = ap (λ (b : Received). room_of b) is ∙ room_taken_in b o ys fits
 
-      same_refusal : is_turned_away b o ys ≡ is_refused o (length ys) h.ranges
-      same_refusal = ap (λ (b : Received). is_turned_away b o ys) (sym is) ∙ sym (refused_is_turned_away h.ranges r.spare ys o kept some fits_spare r.queue)
+      same_refusal : makes_fifth_range b o ys ≡ is_refused o (length ys) h.ranges
+      same_refusal = ap (λ (b : Received). makes_fifth_range b o ys) (sym is) ∙ sym (refused_makes_fifth_range h.ranges r.spare ys o kept some fits_spare r.queue)
 
       module _ (h' : HeldRanges) (f : TooManyRanges) (answer : Result ℕ TooManyRanges) (after : h' ≡ added o (length ys) h) (answer_is : answer ≡ cond (is_refused o (length ys) h.ranges) (Err f) (Ok (run_after o (length ys) h.ranges))) where
         module _ (e : TooManyRanges) (err : answer ≡ Err e) where
           refused : is_refused o (length ys) h.ranges ≡ true
           refused = err_means (is_refused o (length ys) h.ranges) _ e f answer answer_is err
 
-          pub is_refused_answer : false ≡ not (is_turned_away b o ys)
+          pub is_refused_answer : false ≡ not (makes_fifth_range b o ys)
           is_refused_answer = sym (ap not (same_refusal ∙ refused))
 
           pub stays : received r.queue (shown h'.ranges r.spare) ≡ taken_in b o ys
@@ -136,7 +136,7 @@ module _ (r : Ring ℕ) (h : HeldRanges) (b : Received) (is : received r.queue (
           run_is : run ≡ run_after o (length ys) h.ranges
           run_is = (ok_means (is_refused o (length ys) h.ranges) (run_after o (length ys) h.ranges) run f answer answer_is ok).1
 
-          pub is_taken_answer : true ≡ not (is_turned_away b o ys)
+          pub is_taken_answer : true ≡ not (makes_fifth_range b o ys)
           is_taken_answer = sym (ap not (same_refusal ∙ passes))
 
           ranges_then : h'.ranges ≡ ranges_after o (length ys) h.ranges

@@ -63,8 +63,8 @@ written hs o ys = overwrite hs o (map Some ys)
 -- ---- what the calls do
 
 -- bytes elsewhere than at offset 0 are refused where they would make a fifth range
-unfoldable pub is_turned_away : Received → ℕ → List ℕ → Bool
-is_turned_away b o ys = not (o == 0) && nat_lt 4 (length (ranges_of (written b.held o ys)))
+unfoldable pub makes_fifth_range : Received → ℕ → List ℕ → Bool
+makes_fifth_range b o ys = not (o == 0) && nat_lt 4 (length (ranges_of (written b.held o ys)))
 
 -- the run from offset 0 joins the queue, and what is held behind it is counted from its end
 abbrev pub gathered : Received → Received
@@ -72,7 +72,7 @@ gathered b = received (b.bytes ++ run_of b.held) (behind_run b.held)
 
 -- ys come at the offset o
 unfoldable pub taken_in : Received → ℕ → List ℕ → Received
-taken_in b o ys = if is_turned_away b o ys then b else gathered (received b.bytes (written b.held o ys))
+taken_in b o ys = if makes_fifth_range b o ys then b else gathered (received b.bytes (written b.held o ys))
 
 -- the queue's first n bytes leave, and their places are free at the window's end
 unfoldable pub handed_out : Received → ℕ → Received
@@ -99,7 +99,7 @@ merged hs o ys k = if is_within o (o + length ys) k then slice_get ys (k - o) el
 
 -- bytes that come within the window and are not refused
 abbrev pub IsLetIn : Received → ℕ → List ℕ → Type 0
-IsLetIn b o ys = (o + length ys ≤ length b.held) × (is_turned_away b o ys ≡ false)
+IsLetIn b o ys = (o + length ys ≤ length b.held) × (makes_fifth_range b o ys ≡ false)
 
 -- The queue grows by a run, and no byte of it changes. The run has at each offset the byte that came there, else the
 -- one that was held; it goes on to the first offset with neither; and what is held then is what came or was held that

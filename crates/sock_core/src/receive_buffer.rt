@@ -5,7 +5,7 @@ ghost use Rattle.std.specs.Fn.{FnOnceReturnsAt};
 ghost use Rattle.net_base.specs.Ranges.{edges, is_held, Apart};
 ghost use Rattle.net_base.specs.Ring.{capacity_of};
 ghost use Rattle.sock_core.specs.Received.{Received, receiving, room_of, byte_at, holds_nothing, ranges_of};
-ghost use Rattle.sock_core.specs.Received.{is_turned_away, taken_in, handed_out, cleared, range_around};
+ghost use Rattle.sock_core.specs.Received.{makes_fifth_range, taken_in, handed_out, cleared, range_around};
 ghost use Rattle.sock_core.specs.Received.{IsLetIn, TakesIn, JoinsAtOnce, DequeuesBytesWith, IsWireRange, ReachesAsOffsets};
 
 use crate::ranges::Ranges;
@@ -144,7 +144,7 @@ impl<'a> ReceiveBuffer<'a> {
     pub fn take_in(&mut self, offset: usize, bytes: &[u8]) -> bool
         requires some { 0 < length bytes.now }
         requires fits { offset + length bytes.now ≤ length self.old.held }
-        ensures answer { result ≡ not (is_turned_away self.old offset bytes.now) }
+        ensures answer { result ≡ not (makes_fifth_range self.old offset bytes.now) }
         ensures after { self.new ≡ taken_in self.old offset bytes.now }
         ensures room { room_of self.new ≡ room_of self.old }
     {

@@ -8,7 +8,7 @@ use Rattle.control_wire.specs.Segment.{Segment}
 use Rattle.control_wire.specs.declared.seq_number.TcpSeqNumber.{TcpSeqNumber}
 use Rattle.control_wire.specs.declared.tcp.TcpControl.{TcpControl}
 use Rattle.control_wire.specs.declared.tcp.TcpControl.TheVariants as control
-use Rattle.sock_core.specs.Received.{Received, received, written, gathered, taken_in, is_turned_away, holds_nothing}
+use Rattle.sock_core.specs.Received.{Received, received, written, gathered, taken_in, makes_fifth_range, holds_nothing}
 use Rattle.sock_tcp.specs.View.{View}
 use Rattle.sock_tcp.specs.Verdict.{verdict_of}
 use Rattle.sock_tcp.specs.Window.{receive_window, is_inside, cut_of, cut_bytes}
@@ -42,7 +42,7 @@ same v = record { rx = refl; listen = refl; tuple = refl; state = refl }
 abbrev pub brought : Received → ℕ → List ℕ → Received
 brought b o bs = if length bs == 0 then b else taken_in b o bs
 
-pub stays_as_it_is : (b : Received) (o : ℕ) (bs : List ℕ) → is_turned_away b o bs ≡ true → b ≡ taken_in b o bs
+pub stays_as_it_is : (b : Received) (o : ℕ) (bs : List ℕ) → makes_fifth_range b o bs ≡ true → b ≡ taken_in b o bs
 unfolding taken_in
 stays_as_it_is b o bs e = sym (ap (λ t. if t then b else gathered (received b.bytes (written b.held o bs))) e)
 
@@ -134,9 +134,9 @@ module _ (s : Segment) (now : Instant) where
       away true = tt
       away false = gap (holds_nothing w.rx_buffer.held && holds_nothing u.rx_buffer.held)
 
-      go : (b : Bool) → GoesBack s (if b then stopped w else (if is_turned_away w.rx_buffer o bs then stopped w else gap_answered w u s)).reply
+      go : (b : Bool) → GoesBack s (if b then stopped w else (if makes_fifth_range w.rx_buffer o bs then stopped w else gap_answered w u s)).reply
       go true = tt
-      go false = away (is_turned_away w.rx_buffer o bs)
+      go false = away (makes_fifth_range w.rx_buffer o bs)
 
   pub after_back : (x : Next) (u : View) (a : Acked) (o : ℕ) (bs : List ℕ) → GoesBack s (after_advance x u now a o bs s).reply
   after_back next.Stop u a o bs = tt
@@ -179,13 +179,13 @@ module _ (s : Segment) (now : Instant) where
       gap true = record { rx = refl; listen = refl; tuple = refl; state = refl }
       gap false = record { rx = refl; listen = refl; tuple = refl; state = refl }
 
-      away : (b : Bool) → is_turned_away w.rx_buffer o bs ≡ b → Keeps w (if b then stopped w else gap_answered w u s).view (taken_in w.rx_buffer o bs)
+      away : (b : Bool) → makes_fifth_range w.rx_buffer o bs ≡ b → Keeps w (if b then stopped w else gap_answered w u s).view (taken_in w.rx_buffer o bs)
       away true e = record { rx = stays_as_it_is w.rx_buffer o bs e; listen = refl; tuple = refl; state = refl }
       away false e = gap (holds_nothing w.rx_buffer.held && holds_nothing u.rx_buffer.held)
 
-      go : (b : Bool) → Keeps w (if b then stopped w else (if is_turned_away w.rx_buffer o bs then stopped w else gap_answered w u s)).view (if b then w.rx_buffer else taken_in w.rx_buffer o bs)
+      go : (b : Bool) → Keeps w (if b then stopped w else (if makes_fifth_range w.rx_buffer o bs then stopped w else gap_answered w u s)).view (if b then w.rx_buffer else taken_in w.rx_buffer o bs)
       go true = same w
-      go false = away (is_turned_away w.rx_buffer o bs) refl
+      go false = away (makes_fifth_range w.rx_buffer o bs) refl
 
   -- ---- the state table
 

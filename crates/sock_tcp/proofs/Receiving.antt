@@ -5,7 +5,7 @@ use Rattle.ip_wire.specs.declared.repr.IpRepr.{IpRepr}
 use Rattle.net_base.specs.declared.time.Instant.{Instant}
 use Rattle.control_wire.specs.Segment.{Segment}
 use Rattle.sock_core.proofs.Receiving.{takes_in_all}
-use Rattle.sock_core.specs.Received.{Received, taken_in, is_turned_away, room_of, TakesIn}
+use Rattle.sock_core.specs.Received.{Received, taken_in, makes_fifth_range, room_of, TakesIn}
 use Rattle.sock_tcp.specs.Laws.{MayTake, TakesSegment}
 use Rattle.sock_tcp.specs.Process.{processed}
 use Rattle.sock_tcp.specs.View.{View}
@@ -17,13 +17,13 @@ use Rattle.sock_tcp.proofs.Windows.{cut_fits}
 taken_or_same : (b : Received) (o : ℕ) (bs : List ℕ) → o + length bs ≤ length b.held → (brought b o bs ≡ b) ⊎ TakesIn b (brought b o bs) o bs
 taken_or_same b o bs fits = go (length bs == 0)
   where
-    some : (t : Bool) → is_turned_away b o bs ≡ t → (taken_in b o bs ≡ b) ⊎ TakesIn b (taken_in b o bs) o bs
+    some : (t : Bool) → makes_fifth_range b o bs ≡ t → (taken_in b o bs ≡ b) ⊎ TakesIn b (taken_in b o bs) o bs
     some true e = inl (sym (stays_as_it_is b o bs e))
     some false e = inr (takes_in_all b o bs fits e)
 
     go : (t : Bool) → ((if t then b else taken_in b o bs) ≡ b) ⊎ TakesIn b (if t then b else taken_in b o bs) o bs
     go true = inl refl
-    go false = some (is_turned_away b o bs) refl
+    go false = some (makes_fifth_range b o bs) refl
 
 pub only_appends : (v : View) (now : Instant) (word : ℕ) (ip : IpRepr) (s : Segment) → room_of v.rx_buffer ≤ 2 ^ 30 → s.seq_number.0 < 2 ^ 32 → length s.payload ≤ 65535 → MayTake v s (processed v now word ip s).view
 only_appends v now word ip s room small short = go (processed v now word ip s).view (process_brings v now word ip s)

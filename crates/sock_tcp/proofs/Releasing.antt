@@ -8,7 +8,7 @@ use Rattle.control_wire.specs.Segment.{Segment}
 use Rattle.control_wire.specs.declared.seq_number.TcpSeqNumber.{TcpSeqNumber}
 use Rattle.control_wire.specs.declared.tcp.TcpControl.{TcpControl}
 use Rattle.control_wire.specs.declared.tcp.TcpControl.TheVariants as control
-use Rattle.sock_core.specs.Received.{is_turned_away, holds_nothing}
+use Rattle.sock_core.specs.Received.{makes_fifth_range, holds_nothing}
 use Rattle.sock_tcp.specs.Queue.{Queue}
 use Rattle.sock_tcp.specs.View.{View}
 use Rattle.sock_tcp.specs.Verdict.{verdict_of}
@@ -117,9 +117,9 @@ module _ (s : Segment) (now : Instant) where
       away true = record { tx = refl; una = refl }
       away false = gap (holds_nothing w.rx_buffer.held && holds_nothing u.rx_buffer.held)
 
-      go : (b : Bool) → Same w (if b then stopped w else (if is_turned_away w.rx_buffer o bs then stopped w else gap_answered w u s)).view
+      go : (b : Bool) → Same w (if b then stopped w else (if makes_fifth_range w.rx_buffer o bs then stopped w else gap_answered w u s)).view
       go true = record { tx = refl; una = refl }
-      go false = away (is_turned_away w.rx_buffer o bs)
+      go false = away (makes_fifth_range w.rx_buffer o bs)
 
   -- ---- the acknowledged bytes leave
 

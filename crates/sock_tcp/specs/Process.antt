@@ -11,7 +11,7 @@ use Rattle.control_wire.specs.declared.tcp.TcpControl.TheVariants as control
 use Rattle.control_wire.specs.declared.tcp.TcpRepr.{TcpRepr}
 use Rattle.control_wire.specs.declared.tcp.TcpTimestampRepr.{TcpTimestampRepr}
 use Rattle.sock_core.specs.Facts.{Facts}
-use Rattle.sock_core.specs.Received.{is_turned_away, holds_nothing}
+use Rattle.sock_core.specs.Received.{makes_fifth_range, holds_nothing}
 use Rattle.sock_tcp.specs.Acked.{acked_of}
 use Rattle.sock_tcp.specs.Advance.{Advance, advanced, counted_control}
 use Rattle.sock_tcp.specs.Draw.{draws, Draws}
@@ -133,7 +133,7 @@ gap_answered v w s =
 unfoldable pub bytes_taken : View → Instant → ℕ → List ℕ → Segment → Outcome
 bytes_taken v now o bs s =
     if length bs == 0 then stopped v
-    else (if is_turned_away v.rx_buffer o bs then stopped v else gap_answered v (ack_delayed (joined v o bs) now) s)
+    else (if makes_fifth_range v.rx_buffer o bs then stopped v else gap_answered v (ack_delayed (joined v o bs) now) s)
 
 abbrev pub after_advance : Next → View → Instant → Acked → ℕ → List ℕ → Segment → Outcome
 after_advance next.Stop v now a o bs s = stopped v

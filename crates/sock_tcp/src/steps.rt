@@ -2,7 +2,7 @@
 ghost use Rattle.std.specs.Prelude.{◌≡◌, ◌≤◌, ◌<◌, ◌+◌, ◌^◌, length, not, false};
 ghost use Rattle.control_wire.specs.Segment.{segment_of};
 ghost use Rattle.sock_core.specs.Bounds.{IsMoment};
-ghost use Rattle.sock_core.specs.Received.{is_turned_away};
+ghost use Rattle.sock_core.specs.Received.{makes_fifth_range};
 ghost use Rattle.sock_tcp.specs.Same.{SameQueues};
 ghost use Rattle.sock_tcp.specs.Window.{next_ack};
 ghost use Rattle.sock_tcp.specs.Steps.{window_taken, is_window_changed, released, is_duplicate, duplicate_counted, ack_counted, una_advanced, acknowledged, timestamp_taken};
@@ -204,7 +204,7 @@ impl<'a> ControlBlock<'a> {
         requires some { 0 < length bytes.now }
         requires fits { offset + length bytes.now ≤ length self.old.rx_buffer.held }
         ensures view { self.new ≡ joined self.old offset bytes.now }
-        ensures answer { result ≡ not (is_turned_away self.old.rx_buffer offset bytes.now) }
+        ensures answer { result ≡ not (makes_fifth_range self.old.rx_buffer offset bytes.now) }
         ensures refused { result ≡ false → self.new ≡ self.old }
     {
         self.rx_buffer.take_in(offset, bytes)
