@@ -1,5 +1,6 @@
 //! Why the program failed.
-ghost use Rattle.std.specs.Prelude.{◌<◌};
+ghost use Rattle.std.specs.Prelude.{◌≡◌};
+ghost use Rattle.pair_chart.specs.declared.fault.Fault.TheVariants as fault;
 
 use sock_pair::script::{End, ScriptError};
 use thiserror::Error;
@@ -23,7 +24,8 @@ impl Fault {
     /// The exit status: 1 for wrong arguments, and otherwise that of the end of the drawing.
     #[tactic(auto, unfolding(sock_pair::specs::ReplayEnds::status_of))]
     pub fn status(&self) -> u8
-        ensures { 0 < result }
+        ensures { result ≡ elim self.now
+            [ fault.Usage ↦ 1 | fault.Script e ↦ 1 | fault.Read ↦ 2 | fault.Write ↦ 2 | fault.Memory ↦ 3 ] }
     {
         match self {
             Fault::Usage => 1,

@@ -1,4 +1,7 @@
 //! Why the program failed.
+ghost use Rattle.std.specs.Prelude.{◌≡◌};
+ghost use Rattle.pair_replay.specs.declared.fault.Fault.TheVariants as fault;
+
 use sock_pair::script::{End, ScriptError};
 use thiserror::Error;
 
@@ -19,7 +22,11 @@ pub enum Fault {
 
 impl Fault {
     /// The exit status: 1 for wrong arguments, and otherwise that of the replay's end.
-    pub fn status(&self) -> u8 {
+    #[tactic(auto, unfolding(sock_pair::specs::ReplayEnds::status_of))]
+    pub fn status(&self) -> u8
+        ensures { result ≡ elim self.now
+            [ fault.Usage ↦ 1 | fault.Script e ↦ 1 | fault.Read ↦ 2 | fault.Write ↦ 2 | fault.Memory ↦ 3 ] }
+    {
         match self {
             Fault::Usage => 1,
             Fault::Script(error) => End::Script(*error).status(),
