@@ -180,7 +180,7 @@ impl Reno {
         }
     }
 
-    // Half of the flight size, and at least two segments (RFC 5681, section 3.1).
+    // Half of the bytes that are sent and not yet acknowledged, and at least two segments (RFC 5681, section 3.1).
     fn halved(&self, in_flight: usize) -> usize
         ensures { result ≡ halved self.now in_flight }
     {
