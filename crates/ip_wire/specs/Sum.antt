@@ -1,8 +1,8 @@
 -- Ones' complement sums of 16-bit words, and the checksums that they give (RFC 1071).
 use Rattle.ip_wire.specs.Address.{octets_of}
-use Rattle.ip_wire.specs.Octets.{be32}
+use Rattle.ip_wire.specs.Octets.{be16_at, be32}
 use Rattle.ip_wire.specs.declared.address.IpAddress.{IpAddress}
-use Rattle.std.specs.Prelude.{ℕ, ◌++◌, ◌+◌, ◌-◌, ◌*◌, ◌%◌, ◌^◌, List, [], ◌∷◌, nat_lt, if◌then◌else◌}
+use Rattle.std.specs.Prelude.{ℕ, ◌++◌, ◌+◌, ◌-◌, ◌*◌, ◌%◌, ◌^◌, List, [], ◌∷◌, nat_eq, nat_lt, if◌then◌else◌}
 use Rattle.std.specs.Prelude.{◌≡◌}
 
 -- A carry out of the sixteen bits is added at the other end.
@@ -14,6 +14,14 @@ abbrev pub sum_after : ℕ → List ℕ → ℕ
 sum_after start [] = start
 sum_after start (high ∷ []) = ones_add start (256 * high)
 sum_after start (high ∷ low ∷ rest) = sum_after (ones_add start (256 * high + low)) rest
+
+-- a wide sum of words as a word: each carry is added at the other end, and only 0 comes to 0
+abbrev pub word_of : ℕ → ℕ
+word_of total = if nat_eq total 0 then 0 else (total - 1) % 65535 + 1
+
+-- the sum of the four words from an offset on
+abbrev pub four_at : List ℕ → ℕ → ℕ
+four_at octets i = be16_at octets i + be16_at octets (i + 2) + be16_at octets (i + 4) + be16_at octets (i + 6)
 
 -- the complement of a sum
 abbrev pub complement : ℕ → ℕ

@@ -25,6 +25,14 @@ pub fn be16_at(bytes: &[u8], at: usize) -> usize
     256 * bytes[at] as usize + bytes[at + 1] as usize
 }
 
+/// The bytes from `at` on.
+pub fn behind(bytes: &[u8], at: usize) -> &[u8]
+    requires { at ≤ length bytes.now }
+    ensures { result.now ≡ drop at bytes.now }
+{
+    &bytes[at..]
+}
+
 /// Writes `bytes` from `at` on.
 pub fn put(buffer: &mut [u8], at: usize, bytes: &[u8])
     requires { at + length bytes.now ≤ length buffer.old }

@@ -1,11 +1,11 @@
 //! Checksums: ones' complement sums of 16-bit words (RFC 1071).
-ghost use Rattle.std.specs.Prelude.{◌≡◌, ◌+◌, ◌*◌, ℕ, List, ◌∷◌, ◌++◌, ◌<◌, ◌^◌, length};
+ghost use Rattle.std.specs.Prelude.{◌≡◌, ◌+◌, ◌*◌, ℕ, List, ◌∷◌, ◌++◌, ◌<◌, ◌≤◌, ◌^◌, drop, length};
 ghost use Rattle.ip_wire.specs.Octets.{IsOctets, be16};
 ghost use Rattle.ip_wire.specs.Address.{octets_of};
-ghost use Rattle.ip_wire.specs.Sum.{IsEven, all_ones, complement, ones_add, pseudo_sum, sum_after};
+ghost use Rattle.ip_wire.specs.Sum.{IsEven, all_ones, complement, four_at, ones_add, pseudo_sum, sum_after, word_of};
 
 use crate::address::IpAddress;
-use crate::octets::{be16, word};
+use crate::octets::{be16, be16_at, word};
 
 /// The sum of two words, a carry out of the sixteen bits added at the other end.
 pub fn ones_add(a: u16, b: u16) -> u16
@@ -27,6 +27,10 @@ pub fn sum_after(start: u16, bytes: &[u8]) -> u16
 {
     let mut sum = start;
     let mut at = 0;
+    while bytes.len() - at >= 16 {
+        sum = add_sixteen(sum, bytes, at);
+        at += 16;
+    }
     while at + 1 < bytes.len() {
         sum = ones_add(sum, word(bytes[at], bytes[at + 1]));
         at += 2;
@@ -35,6 +39,36 @@ pub fn sum_after(start: u16, bytes: &[u8]) -> u16
         sum = ones_add(sum, word(bytes[at], 0));
     }
     sum
+}
+
+// Adds the eight words from `at` on: they are summed wide, and the carries are added once.
+fn add_sixteen(sum: u16, bytes: &[u8], at: usize) -> u16
+    requires { at + 16 ≤ length bytes.now }
+    ensures { sum_after result (drop (at + 16) bytes.now) ≡ sum_after sum (drop at bytes.now) }
+{
+    folded(sum as usize + four_at(bytes, at) + four_at(bytes, at + 8))
+}
+
+// The sum of the four words from `at` on.
+fn four_at(bytes: &[u8], at: usize) -> usize
+    requires { at + 8 ≤ length bytes.now }
+    ensures value { result ≡ four_at bytes.now at }
+    ensures small { result < 2 ^ 18 }
+{
+    be16_at(bytes, at) + be16_at(bytes, at + 2) + be16_at(bytes, at + 4) + be16_at(bytes, at + 6)
+}
+
+// A wide sum as a word, each carry added at the other end.
+fn folded(total: usize) -> u16
+    requires { total < 2 ^ 20 }
+    ensures { result ≡ word_of total }
+{
+    let once = total % 0x10000 + total / 0x10000;
+    if once < 0x10000 {
+        once as u16
+    } else {
+        (once - 0xffff) as u16
+    }
 }
 
 /// The checksum of `bytes`, and of what was summed before: the complement of the sum.
@@ -75,6 +109,13 @@ pub fn checksums_verify()
     ensures { (start : ℕ) (front back : List ℕ) → start < 2 ^ 16 → IsOctets front → IsOctets back
         → IsEven (length front) → sum_after start (front
         ++ (be16 (complement (sum_after start (front ++ 0 ∷ 0 ∷ back))) ++ back)) ≡ all_ones }
+{}
+
+/// Where the checksum would be 0, the word of only ones in its place verifies as well (RFC 768).
+pub fn ones_verify_for_zero()
+    ensures { (start : ℕ) (front back : List ℕ) → start < 2 ^ 16 → IsOctets front → IsOctets back
+        → IsEven (length front) → sum_after start (front ++ 0 ∷ 0 ∷ back) ≡ all_ones
+        → sum_after start (front ++ (255 ∷ 255 ∷ back)) ≡ all_ones }
 {}
 
 /// A sum of bytes is a word.

@@ -11,3 +11,13 @@ invariant-loop-at l =
 
 abbrev pub decreases-loop-at : goal.decreases-loop-at
 decreases-loop-at l = length l.bytes - l.at
+
+abbrev pub invariant-loop-at-2 : goal.invariant-loop-at-2
+invariant-loop-at-2 l =
+    record {
+      within : l.at ≤ length l.bytes;
+      rest : sum_after l.sum (drop l.at l.bytes) ≡ sum_after l.fn.start l.bytes;
+    }
+
+abbrev pub decreases-loop-at-2 : goal.decreases-loop-at-2
+decreases-loop-at-2 l = length l.bytes - l.at
