@@ -29,7 +29,7 @@ ghost use Rattle.control_wire.specs.Icmp.{
   v6_with,
 };
 
-use ip_wire::octets::{be16, be16_at, put, put_three, put_two, word};
+use ip_wire::octets::{be16, be16_at, behind, put, put_three, put_two, word};
 use ip_wire::sum::{checksum_after, pseudo_sum, sum_after};
 use ip_wire::{ChecksumCapabilities, Error, IpAddress, IpRepr, Ipv4Repr, Ipv6Address, Ipv6Repr};
 
@@ -404,13 +404,6 @@ fn quoted_v6(packet: &[u8]) -> Option<(Ipv6Repr, &[u8])>
         Ipv6Repr::of_fields(packet, packet.len() - 40),
         behind(packet, 40),
     ))
-}
-
-fn behind(packet: &[u8], at: usize) -> &[u8]
-    requires { at ≤ length packet.now }
-    ensures { result.now ≡ drop at packet.now }
-{
-    &packet[at..]
 }
 
 fn header_v6(header: &Ipv6Repr) -> [u8; 40]

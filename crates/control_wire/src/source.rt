@@ -69,7 +69,9 @@ fn both_ipv4(src: &IpAddress, dst: &IpAddress) -> bool
     }
 }
 
-fn sum_holds(bytes: &[u8], src: &IpAddress, dst: &IpAddress, protocol: u8) -> bool
+/// Whether the checksum in `bytes`, a whole segment or datagram, verifies with the pseudo header (RFC 9293, section
+/// 3.1; RFC 768).
+pub fn sum_holds(bytes: &[u8], src: &IpAddress, dst: &IpAddress, protocol: u8) -> bool
     ensures { result ≡ sum_holds src.now dst.now protocol bytes.now }
 {
     sum_after(pseudo_sum(src, dst, protocol, bytes.len()), bytes) == 0xffff
@@ -111,7 +113,8 @@ fn is_segment(bytes: &[u8]) -> bool
         && options_are_well_formed(&bytes[20..header])
 }
 
-fn at_most_one(control: u8) -> bool
+/// Whether of FIN, SYN and RST, the three low bits of a segment's flags, at most one is set.
+pub fn at_most_one(control: u8) -> bool
     ensures { result ≡ at_most_one control }
 {
     control == 0 || control == 1 || control == 2 || control == 4
@@ -146,7 +149,9 @@ fn option_len(kind: u8, length: u8, room: usize) -> Option<usize>
     }
 }
 
-fn is_option(kind: u8, length: u8) -> bool
+/// Whether an option of this kind may have this length, in bytes with its kind and its length (RFC 9293, section 3.2;
+/// RFC 7323, sections 2.2 and 3.2; RFC 2018, sections 2 and 3). An unknown kind has 2 at least.
+pub fn is_option(kind: u8, length: u8) -> bool
     ensures { result ≡ is_option kind length }
 {
     match kind {
