@@ -42,3 +42,4 @@ pub mod PairAdding
 pub mod PairAmounts
 pub mod Running
 pub mod ShownWindow
+pub mod PairQuiet

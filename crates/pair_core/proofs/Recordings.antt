@@ -3,9 +3,11 @@ use Rattle.std.proofs.Common.{◌≡◌, ℕ, ◌+◌, ◌<◌, ◌≤◌, List,
 use Rattle.std.specs.Prelude.{Result, Ok, Err, OnOk, OnErr, is_ok, is_some, not, IsTrue, vec_len, vec_capacity, if◌then◌else◌, option_map, IsSomeAnd}
 use Rattle.std.proofs.lemmas.Option.{none-some, same_Some}
 use Rattle.std.specs.Borrow.{MutBor}
+use Rattle.std.specs.Option.{ForSome}
 use Rattle.std.specs.Fn.{Once}
 use Rattle.ip_wire.specs.declared.repr.IpRepr.{IpRepr}
 use Rattle.net_base.specs.declared.time.Instant.{Instant}
+use Rattle.control_wire.specs.Fits.{FitsPacket}
 use Rattle.control_wire.specs.Segment.{Segment, segment_of}
 use Rattle.control_wire.specs.declared.tcp.TcpRepr.{TcpRepr}
 use Rattle.sock_core.specs.Facts.{Facts}
@@ -21,9 +23,9 @@ use Rattle.sock_tcp.specs.Dispatch.{packet_in, IsStamp, EmitsDue, EmitsTo, Dispa
 use Rattle.sock_tcp.specs.declared.state.State.{State}
 use Rattle.sock_tcp.specs.declared.state.State.TheVariants as state
 use Rattle.sock_tcp.specs.declared.tuple.Tuple.{Tuple}
-use Rattle.pair_core.specs.Holding.{IsHeaderOf}
+use Rattle.pair_core.specs.Holding.{IsHeaderOf, segment_at}
 use Rattle.pair_core.specs.declared.segment.Header.{Header}
-use Rattle.pair_core.specs.Recording.{Holds, IsShort, sent_with, sent_of, Records, SendsFrom, SocketDispatches}
+use Rattle.pair_core.specs.Recording.{Holds, FitsSent, sent_with, sent_of, Records, SendsFrom, SocketDispatches}
 use Rattle.pair_core.specs.declared.recorder.EmitFailed.{EmitFailed}
 use Rattle.pair_core.specs.declared.recorder.Recorder.{Recorder}
 use Rattle.pair_core.specs.declared.recorder.Sent.{Sent}
@@ -161,7 +163,7 @@ module _ {F : Type 0} (g : Once F (MutBor Recorder × ((IpRepr × TcpRepr) × Un
 
       to : (o : Option Tuple) → EmitsTo g f facts tells clock o w c r new c' → SendsFrom o w facts (is_some clock) fail (sent_of r c') new
       to None q = (quiet w q.answer q.context q.view, q.view)
-      to (Some t) x = record { stamp = x.stamp; stamped = has_stamp tells clock x.stamp x.told; bytes = d.bytes; lent = d.lent; records = (both (content w t facts x.stamp d.bytes) refl d.emits d.view).0; view = (both (content w t facts x.stamp d.bytes) refl d.emits d.view).1 }
+      to (Some t) x = record { stamp = x.stamp; stamped = has_stamp tells clock x.stamp x.told; bytes = d.bytes; lent = d.lent; records = (both (content w t facts x.stamp d.bytes) refl d.emits d.view).0; view = (both (content w t facts x.stamp d.bytes) refl d.emits d.view).1; fits = d.fits }
         where
           d : EmitsDue g f facts t x.stamp w c r new c'
           d = x.emits
@@ -170,21 +172,34 @@ module _ {F : Type 0} (g : Once F (MutBor Recorder × ((IpRepr × TcpRepr) × Un
           both None z e y = (quiet w e.0 e.1 y, y)
           both (Some s) z e y = emitted c c' s w new (moment_of facts) r ready (omega (arith, small, payload_at_most w t facts x.stamp d.bytes s one d.lent z)) e y
 
--- what is stored of a dispatch is short
-recorded_short : (fail : Bool) (c : Option Sending) (r : Sent) → Records fail c r → ((s : Sending) → c ≡ Some s → length s.segment.payload ≤ 65535) → IsShort r
-recorded_short fail None r e small = subst IsShort (sym e) tt
-recorded_short true (Some s) r e small = subst IsShort (sym e) tt
-recorded_short false (Some s) sent.Quiet e small = absurd e
-recorded_short false (Some s) sent.Failed e small = absurd e
-recorded_short false (Some s) (sent.Emitted h p) e small = let n : length p.items ≡ length s.segment.payload = ap length e.1 in omega (arith, n, small s refl)
+-- ---- what is stored of a dispatch fits a packet
 
-sent_short : (o : Option Tuple) (v w : View) (f : Facts) (stamps fail : Bool) (r : Sent) → 1 ≤ f.mtu → f.mtu ≤ 65535 → SendsFrom o v f stamps fail r w → IsShort r
-sent_short None v w f stamps fail r one m d = subst IsShort (sym d.0) tt
-sent_short (Some t) v w f stamps fail r one m d = recorded_short fail (content v t f d.stamp d.bytes) r d.records (λ s e. omega (arith, m, payload_at_most v t f d.stamp d.bytes s one d.lent e))
+kept_fits : (h : Header) (ip : IpRepr) (s : Segment) (bytes : List ℕ) → IsHeaderOf h ip s → bytes ≡ s.payload → FitsPacket ip s → FitsPacket h.ip_repr (segment_at h bytes)
+kept_fits h ip s bytes is e fits =
+    subst (λ x. FitsPacket x (segment_at h bytes)) (sym is.ip_repr) (subst (FitsPacket ip) (sym (ap (segment_at h) e ∙ is.fields)) fits)
 
-pub dispatch_short : (v w : View) (f : Facts) (stamps fail : Bool) (r : Sent) → 1 ≤ f.mtu → f.mtu ≤ 65535 → SocketDispatches v f stamps fail r w → IsShort r
+recorded_fits : (fail : Bool) (c : Option Sending) (r : Sent) → Records fail c r → ForSome c (λ s. FitsPacket s.ip s.segment) → FitsSent r
+recorded_fits fail None r e fits = subst FitsSent (sym e) tt
+recorded_fits true (Some s) r e fits = subst FitsSent (sym e) tt
+recorded_fits false (Some s) sent.Quiet e fits = absurd e
+recorded_fits false (Some s) sent.Failed e fits = absurd e
+recorded_fits false (Some s) (sent.Emitted h p) e fits = kept_fits h s.ip s.segment p.items e.0 e.1 (fits s refl)
+
+sent_fits : (o : Option Tuple) (v w : View) (f : Facts) (stamps fail : Bool) (r : Sent) → SendsFrom o v f stamps fail r w → FitsSent r
+sent_fits None v w f stamps fail r d = subst FitsSent (sym d.0) tt
+sent_fits (Some t) v w f stamps fail r d = recorded_fits fail (content v t f d.stamp d.bytes) r d.records d.fits
+
+pub dispatch_fits : (v w : View) (f : Facts) (stamps fail : Bool) (r : Sent) → SocketDispatches v f stamps fail r w → FitsSent r
 unfolding SocketDispatches
-dispatch_short v w f stamps fail r one m d = sent_short (before_emit v f stamps).peer (before_emit v f stamps).view w f stamps fail r one m d
+dispatch_fits v w f stamps fail r d = sent_fits (before_emit v f stamps).peer (before_emit v f stamps).view w f stamps fail r d
+
+-- a reply's header
+pub reply_fits : (h : Header) (ip : IpRepr) (s : Segment) → IsHeaderOf h ip s → s.payload ≡ [] → FitsPacket ip s → FitsPacket h.ip_repr (segment_at h [])
+reply_fits h ip s is e fits = kept_fits h ip s [] is (sym e) fits
+
+-- a payload of a packet has at most 65535 bytes
+pub short_of : (ip : IpRepr) (s : Segment) → FitsPacket ip s → length s.payload ≤ 65535
+short_of ip s fits = omega (arith, fits.octets, fits.total)
 
 -- ---- the host around the socket
 

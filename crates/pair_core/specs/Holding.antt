@@ -6,23 +6,7 @@ use Rattle.pair_core.specs.declared.side.Side.{Side}
 use Rattle.pair_core.specs.declared.segment.Header.{Header}
 use Rattle.pair_core.specs.declared.segment.Segment.{Segment as Owned}
 use Rattle.pair_core.specs.PairViews.{StoredView}
-
-abbrev pub segment_at : Header → List ℕ → Segment
-segment_at h payload =
-    record {
-      src_port = h.src_port;
-      dst_port = h.dst_port;
-      control = h.control;
-      seq_number = h.seq_number;
-      ack_number = h.ack_number;
-      window_len = h.window_len;
-      window_scale = h.window_scale;
-      max_seg_size = h.max_seg_size;
-      sack_permitted = h.sack_permitted;
-      sack_ranges = h.sack_ranges;
-      timestamp = h.timestamp;
-      payload = payload;
-    }
+pub use Rattle.pair_core.specs.Headers.{segment_at}
 
 -- h has all of the segment s but its payload, and this IP header
 pub record IsHeaderOf (h : Header) (ip : IpRepr) (s : Segment) : Type 0 where

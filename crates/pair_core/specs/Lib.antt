@@ -5,6 +5,7 @@ pub mod Sides
 pub mod Moments
 pub mod PairTexts
 pub mod PairViews
+pub mod Headers
 pub mod Holding
 pub mod Recording
 pub mod PairCalls
@@ -25,3 +26,4 @@ pub mod StreamCalls
 pub mod Network
 pub mod NetworkInvariant
 pub mod NetworkRuns
+pub mod PairQuiet

@@ -1,7 +1,9 @@
 -- What a dispatch stores.
-use Rattle.std.specs.Prelude.{ℕ, ◌≡◌, ◌≤◌, ◌++◌, ⊤, List, length, drop, Option, Some, None, is_some, IsSomeAnd, Result, Ok, Err, Bool, true, false, not, Vec}
+use Rattle.std.specs.Prelude.{ℕ, ◌≡◌, ◌++◌, ⊤, List, drop, Option, Some, None, is_some, IsSomeAnd, Result, Ok, Err, Bool, true, false, not, Vec}
 use Rattle.std.specs.Global.{Global}
+use Rattle.std.specs.Option.{ForSome}
 use Rattle.ip_wire.specs.declared.repr.IpRepr.{IpRepr}
+use Rattle.control_wire.specs.Fits.{FitsPacket}
 use Rattle.control_wire.specs.Segment.{Segment}
 use Rattle.sock_core.specs.Facts.{Facts}
 use Rattle.sock_tcp.specs.Queue.{IsLent}
@@ -15,7 +17,7 @@ use Rattle.pair_core.specs.declared.recorder.Recorder.{Recorder}
 use Rattle.pair_core.specs.declared.recorder.Sent.{Sent}
 use Rattle.pair_core.specs.declared.recorder.Sent.TheVariants as sent
 use Rattle.pair_core.specs.declared.segment.Header.{Header}
-use Rattle.pair_core.specs.Holding.{IsHeaderOf}
+use Rattle.pair_core.specs.Holding.{IsHeaderOf, segment_at}
 
 -- the segment s was stored in new
 pub record Holds (old new : Recorder) (ip : IpRepr) (s : Segment) : Type 0 where
@@ -31,10 +33,10 @@ abbrev pub sent_of : Result (Unit {0}) EmitFailed → Recorder → Sent
 sent_of (Ok u) r = sent_with r.header r.payload
 sent_of (Err e) r = sent.Failed
 
--- what was emitted has a payload of at most 65535 bytes
-abbrev pub IsShort : Sent → Type 0
-IsShort (sent.Emitted h p) = length p.items ≤ 65535
-IsShort _ = ⊤
+-- what was emitted can be written as a packet and read back
+abbrev pub FitsSent : Sent → Type 0
+FitsSent (sent.Emitted h p) = FitsPacket h.ip_repr (segment_at h p.items)
+FitsSent _ = ⊤
 
 -- what is recorded of an emit
 abbrev pub Records : Bool → Option Sending → Sent → Type 0
@@ -52,6 +54,7 @@ pub record SendsTo (v : View) (t : Tuple) (f : Facts) (stamps fail : Bool) (r : 
   pub lent : IsLent (asked v t f (is_some stamp)) (drop (offset_of v) v.tx_buffer.bytes) bytes
   pub records : Records fail (content v t f stamp bytes) r
   pub view : w ≡ left_by (content v t f stamp bytes) v (moment_of f) (not fail)
+  pub fits : ForSome (content v t f stamp bytes) (λ s. FitsPacket s.ip s.segment)
 
 abbrev pub SendsFrom : Option Tuple → View → Facts → Bool → Bool → Sent → View → Type 0
 SendsFrom None v f stamps fail r w = (r ≡ sent.Quiet) × (w ≡ v)

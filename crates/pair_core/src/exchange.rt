@@ -2,9 +2,10 @@
 ghost use Rattle.std.specs.Prelude.{◌≡◌, ◌<◌, ◌^◌, ◌++◌, [], length, map, IfOk, OnErr, slice_get, option_map, vec_len, vec_capacity};
 ghost use Rattle.pair_core.specs.Holding.{stored_of, kept_at};
 ghost use Rattle.std.specs.Option.{ForSome};
+ghost use Rattle.control_wire.specs.Fits.{FitsPacket};
 ghost use Rattle.sock_tcp.specs.Process.{reply_of};
 ghost use Rattle.pair_core.specs.PairSteps.{is_too_old, dispatch_outcome, stored_at, Dispatches, refusal_of, reply_index, IsUnchanged};
-ghost use Rattle.pair_core.specs.Recording.{IsShort};
+ghost use Rattle.pair_core.specs.Recording.{FitsSent};
 ghost use Rattle.pair_core.specs.Exchanges.{DeliversAt, TakesRoomAt};
 
 use crate::host::Host;
@@ -40,7 +41,7 @@ pub fn too_old(released_at: u64, released_now: u64, taken_at: u64, taken_now: u6
 // payload it keeps no more than it needs.
 fn store(segments: &mut Vec<Segment>, from: Side, sent: Sent, counts: Counts) -> Outcome
     requires room { vec_len segments.old < vec_capacity segments.old }
-    requires short { IsShort sent }
+    requires fits { FitsSent sent }
     ensures answer { result ≡ dispatch_outcome sent (length (map stored_of segments.old.items)) }
     ensures stored { map stored_of segments.new.items ≡ map stored_of segments.old.items
         ++ stored_at from sent counts.released counts.taken }
@@ -100,6 +101,7 @@ fn store_reply(
 ) -> Option<usize>
     requires room { vec_len segments.old < vec_capacity segments.old }
     requires empty { ForSome reply (λ r. r.1.payload.now ≡ []) }
+    requires fits { ForSome (option_map reply_of reply) (λ r. FitsPacket r.0 r.1) }
     ensures answer { result
         ≡ reply_index (length (map stored_of segments.old.items)) (option_map reply_of reply.entry) }
     ensures stored { map stored_of segments.new.items ≡ map stored_of segments.old.items
@@ -127,8 +129,10 @@ fn store_reply(
 fn refusal(segment: &Segment) -> Option<Reply>
     ensures reply { option_map reply_of result ≡ refusal_of (stored_of segment.now) }
     ensures bare { ForSome result (λ r. r.1.payload.now ≡ []) }
+    ensures fits { ForSome (option_map reply_of result) (λ r. FitsPacket r.0 r.1) }
 {
     segment.in_range();
+    segment.fits();
     match segment.header.control {
         TcpControl::Rst => None,
         _ => Some(Socket::rst_reply(&segment.header.ip_repr, &segment.as_repr())),

@@ -1,6 +1,7 @@
 //! One side of a pair: its socket, and what it accepted and handed out.
 ghost use Rattle.std.specs.Prelude.{◌≡◌, ◌+◌, ◌-◌, ◌≤◌, ◌<◌, ◌^◌, ◌++◌, ◌↔◌, IsTrue, length, option_map, Some, [], not, false, IfOk, OnOk, OnErr, vec_len, vec_capacity, min, take, true, MatchOption, is_some};
 ghost use Rattle.std.specs.Option.{ForSome};
+ghost use Rattle.control_wire.specs.Fits.{FitsPacket};
 ghost use Rattle.control_wire.specs.Segment.{segment_of};
 ghost use Rattle.sock_tcp.specs.Process.{Accepts, processed, reply_of};
 ghost use Rattle.sock_tcp.specs.Replies.{Answers};
@@ -8,7 +9,7 @@ ghost use Rattle.pair_core.specs.Moments.{facts_of};
 ghost use Rattle.pair_core.specs.Holding.{stored_of};
 ghost use Rattle.pair_core.specs.PairSteps.{IsStampOf, processed_at, stamps_after};
 ghost use Rattle.pair_core.specs.Pieces.{SendsPiece, ReceivesPiece};
-ghost use Rattle.pair_core.specs.Recording.{Holds, IsShort, SocketDispatches};
+ghost use Rattle.pair_core.specs.Recording.{Holds, FitsSent, SocketDispatches};
 
 use crate::exchange::Counts;
 use crate::moment::Moment;
@@ -296,7 +297,7 @@ impl<'a, G: TsvalSource> Host<'a, G> {
         requires empty { room.items ≡ [] }
         requires roomy { moment.now.ip_mtu ≤ vec_capacity room }
         ensures table { HostDispatches moment.entry.now fail self.old result self.new }
-        ensures short { IsShort result }
+        ensures fits { FitsSent result }
     {
         let mut recorder = Recorder {
             moment: *moment,
@@ -341,6 +342,7 @@ impl<'a, G: TsvalSource> Host<'a, G> {
         requires taken { self.old.taken < 2 ^ 63 }
         ensures view { self.new ≡ delivered_to self.old moment.entry.now (stored_of segment.now) }
         ensures bare { ForSome result (λ r. r.1.payload.now ≡ []) }
+        ensures fits { ForSome (option_map reply_of result) (λ r. FitsPacket r.0 r.1) }
         ensures reply { Answers (IsStampOf self.new.stamps (stored_of segment.now).segment.timestamp)
             (stored_of segment.now).ip (processed_by self.old moment.entry.now (stored_of segment.now)).reply
             (option_map reply_of result) }
@@ -368,6 +370,7 @@ fn process<G: TsvalSource>(
     ensures stamps { is_some socket.new.tsval_generator
         ≡ stamps_after (is_some socket.old.tsval_generator) socket.old.control_block (stored_of segment.now).segment }
     ensures bare { ForSome result (λ r. r.1.payload.now ≡ []) }
+    ensures fits { ForSome (option_map reply_of result) (λ r. FitsPacket r.0 r.1) }
     ensures reply { Answers
         (IsStampOf (is_some socket.new.tsval_generator) (stored_of segment.now).segment.timestamp)
         (stored_of segment.now).ip

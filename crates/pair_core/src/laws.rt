@@ -24,6 +24,7 @@ ghost use Rattle.pair_core.specs.PairInvariant.{IsPair, IsSized};
 ghost use Rattle.pair_core.specs.PairLaws.{IsBounded, MayEmit};
 ghost use Rattle.pair_core.specs.PairNetwork.{is_passive, network_of, shown, stream_segment, IsSmall};
 ghost use Rattle.pair_core.specs.PairPromises.{Prefix, Release, IsPromptAt};
+ghost use Rattle.pair_core.specs.PairQuiet.{AreReached, NoWorkMeansTaken};
 ghost use Rattle.pair_core.specs.PairRuns.{EventRun};
 ghost use Rattle.pair_core.specs.PairSteps.{EventStep};
 ghost use Rattle.pair_core.specs.PairStreams.{AddsUp, accepted_by, accepted_in, handed_out_by, handed_out_in};
@@ -122,3 +123,13 @@ pub fn outcomes_add_up()
     ensures run { (es : List Event) (p : PairView) (os : List Outcome) (q : PairView) → EventRun es p os q
         → AddsUp p q (λ s. accepted_in s es os) (λ s. handed_out_in s es os) }
 {}
+
+/// Where a side of a pair is not CLOSED and has no work (`has_work`), the other side took every byte that it ever
+/// accepted, and all of them were acknowledged. So a pair whose connection lasts and whose sides both have no work has
+/// delivered all. Each socket is what some list of calls makes of a new one.
+pub fn no_work_means_taken()
+    ensures of_a { (p : PairView) → IsPair p → AreReached p → NoWorkMeansTaken p.a p.b }
+    ensures of_b { (p : PairView) → IsPair p → AreReached p → NoWorkMeansTaken p.b p.a }
+{
+    sock_tcp::poll::no_work_no_bytes()
+}

@@ -95,6 +95,7 @@ impl<'a> Pair<'a> {
 }
 
 impl<'a, G: TsvalSource> Pair<'a, G> {
+    ghost use Rattle.control_wire.specs.Fits.{FitsPacket};
     ghost use Rattle.std.specs.Prelude.{map};
     ghost use Rattle.pair_core.specs.PairViews.{host_of};
     ghost use Rattle.pair_core.specs.PairCalls.{listening, connecting, OpensAs, is_over, Sends, Receives, Closes, Aborts, Sets};
@@ -341,6 +342,16 @@ impl<'a, G: TsvalSource> Pair<'a, G> {
     {
         if index < self.segments.len() {
             self.segments[index].in_range();
+        }
+    }
+
+    /// Says that the segment of this index, where there is one, can be written as a packet of at most 65535 bytes and
+    /// read back.
+    pub fn segment_fits(&self, index: usize)
+        ensures { ForSome (slice_get self.now.segments index) (λ t. FitsPacket t.ip t.segment) }
+    {
+        if index < self.segments.len() {
+            self.segments[index].fits();
         }
     }
 

@@ -1,5 +1,7 @@
 //! A stored segment, which owns its payload.
 ghost use Rattle.std.specs.Prelude.{◌≡◌, ◌+◌, ◌<◌, ◌≤◌, ◌^◌, length, vec_len, []};
+ghost use Rattle.control_wire.specs.Fits.{FitsPacket};
+ghost use Rattle.pair_core.specs.Headers.{segment_at};
 
 use crate::side::Side;
 use control_wire::{TcpControl, TcpRepr, TcpSeqNumber, TcpTimestampRepr};
@@ -61,7 +63,7 @@ pub struct Segment {
     pub released_at: u64,
     /// How many bytes had joined the emitter's receive queue.
     pub taken_at: u64,
-    pub ghost short: { length payload.items ≤ 65535 },
+    pub ghost fits: { FitsPacket header.ip_repr (segment_at header payload.items) },
 }
 
 impl Segment {
@@ -89,11 +91,20 @@ impl Segment {
         }
     }
 
+    /// Says that it can be written as a packet of at most 65535 bytes and read back.
+    pub fn fits(&self)
+        ensures { FitsPacket (stored_of self.now).ip (stored_of self.now).segment }
+    {
+        let _header = &self.header;
+    }
+
     // Says that its numbers have 32 bits, and its payload at most 65535 bytes.
+    #[tactic(auto, using(crate::proofs::Recordings::short_of))]
     pub(crate) fn in_range(&self)
         ensures numbers { IsSmall (stored_of self.now).segment }
         ensures short { length (stored_of self.now).segment.payload ≤ 65535 }
     {
+        self.fits();
         self.header.seq_number.in_range();
         match self.header.ack_number {
             None => {}
@@ -109,6 +120,7 @@ impl Segment {
         released_at: u64,
         taken_at: u64,
     ) -> Segment
+        requires { FitsPacket header.ip_repr (segment_at header []) }
         ensures { stored_of result ≡ stored_segment from header [] released_at taken_at }
     {
         Segment {

@@ -94,6 +94,8 @@ mod process_tests;
 #[cfg(test)]
 mod script_tests;
 #[cfg(test)]
+mod stall_tests;
+#[cfg(test)]
 mod stream_tests;
 #[cfg(test)]
 mod tests;

@@ -36,7 +36,7 @@ fn source(is_there: bool) -> Option<TcpTimestampGenerator>
 fn side<'a>(
     rx: &'a mut [u8; 2000],
     tx: &'a mut [u8; 2000],
-    size: usize,
+    sizes: (usize, usize),
     endpoint: IpEndpoint,
     has_clock: bool,
 ) -> Setup<'a>
@@ -46,8 +46,8 @@ fn side<'a>(
     ensures generator { MatchOption result.generator (Unit {0}) (λ g. IsAlwaysCallable g) }
 {
     Setup {
-        rx: RingBuffer::new(&mut rx[..size.min(2000)]),
-        tx: RingBuffer::new(&mut tx[..size.min(2000)]),
+        rx: RingBuffer::new(&mut rx[..sizes.0.min(2000)]),
+        tx: RingBuffer::new(&mut tx[..sizes.1.min(2000)]),
         endpoint,
         generator: source(has_clock),
     }
@@ -74,12 +74,19 @@ impl Room {
 
     // Two sides with buffers of `size` bytes, and with a source of timestamps where `clocks` says so.
     pub(crate) fn pair(&mut self, alloc: Global, size: usize, clocks: (bool, bool)) -> Pair<'_> {
-        let a = side(&mut self.arx, &mut self.atx, size, A, clocks.0);
-        let b = side(&mut self.brx, &mut self.btx, size, B, clocks.1);
+        let a = side(&mut self.arx, &mut self.atx, (size, size), A, clocks.0);
+        let b = side(&mut self.brx, &mut self.btx, (size, size), B, clocks.1);
         Pair::new(alloc, a, b, Some(2000))
     }
 
-    // The same without any source of timestamps.
+    // B's receive buffer has `size` bytes, the others have 64; without any source of timestamps.
+    pub(crate) fn narrow_pair(&mut self, alloc: Global, size: usize) -> Pair<'_> {
+        let a = side(&mut self.arx, &mut self.atx, (64, 64), A, false);
+        let b = side(&mut self.brx, &mut self.btx, (size, 64), B, false);
+        Pair::new(alloc, a, b, Some(2000))
+    }
+
+    // Two sides with buffers of 64 bytes, without any source of timestamps.
     pub(crate) fn plain_pair(&mut self, alloc: Global) -> Pair<'_> {
         self.pair(alloc, 64, (false, false))
     }

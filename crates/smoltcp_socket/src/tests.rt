@@ -19,3 +19,4 @@ mod tcp_process;
 mod texts;
 mod udp;
 mod window_shift;
+mod wire_forms;

@@ -21,16 +21,16 @@ pub between : (una ack : TcpSeqNumber) (k : ℕ) → una.0 < 2 ^ 32 → ack.0 < 
 unfolding is_before number_is_before number_distance
 between una ack k hb ha hk low high = omega (arith, leb-false (2 ^ 31) (seq_sub ack una) low, leb-false (2 ^ 31) (seq_sub (seq_add una k) ack) high)
 
-two_guards : (a b : Bool) → cond a verdicts.Drop (cond b verdicts.Challenge verdicts.Pass) ≡ verdicts.Pass → (a ≡ false) × (b ≡ false)
+pub two_guards : (a b : Bool) → cond a verdicts.Drop (cond b verdicts.Challenge verdicts.Pass) ≡ verdicts.Pass → (a ≡ false) × (b ≡ false)
 two_guards true b e = absurd cc
 two_guards false true e = absurd cc
 two_guards false false e = (refl, refl)
 
-passes : (b : Bool) → cond b verdicts.Pass verdicts.Reset ≡ verdicts.Pass → b ≡ true
+pub passes : (b : Bool) → cond b verdicts.Pass verdicts.Reset ≡ verdicts.Pass → b ≡ true
 passes true e = refl
 passes false e = absurd cc
 
-fin_place_le : (st : State) → fin_place st ≤ 1
+pub fin_place_le : (st : State) → fin_place st ≤ 1
 fin_place_le state.FinWait1 = omega arith
 fin_place_le state.Closing = omega arith
 fin_place_le state.LastAck = omega arith
@@ -41,7 +41,7 @@ lowered : (f n queue : ℕ) → n ≤ queue + f → f ≤ 1 → cond (eqb f 1 &&
 lowered f n queue h k = grind (arith, common_steps)
 
 -- the acknowledgement of a SYN alone
-one_place : (una a : TcpSeqNumber) → una.0 < 2 ^ 32 → seq_eq a (seq_add una 1) ≡ true → seq_sub a una ≡ 1
+pub one_place : (una a : TcpSeqNumber) → una.0 < 2 ^ 32 → seq_eq a (seq_add una 1) ≡ true → seq_sub a una ≡ 1
 one_place una a hu e = let h : a.0 ≡ (seq_add una 1).0 = eqb-true a.0 (seq_add una 1).0 e in omega arith
 
 syn_fits : (una a : TcpSeqNumber) (n : ℕ) → una.0 < 2 ^ 32 → cond (seq_eq a (seq_add una 1)) verdicts.Pass verdicts.Reset ≡ verdicts.Pass → seq_sub a una - 1 ≤ n

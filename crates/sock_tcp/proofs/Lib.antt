@@ -1,5 +1,7 @@
 pub mod Acking
 pub mod Windows
+pub mod Fitting
+pub mod FittingReplies
 pub mod Beginning
 pub mod Polling
 pub mod PayloadWindows
@@ -13,3 +15,9 @@ pub mod PayloadParts
 pub mod SocketSteps
 pub mod CallsAsSteps
 pub mod BytesAtPlaces
+pub mod Guards
+pub mod Ordered
+pub mod OrderedSegments
+pub mod OrderedSendings
+pub mod OrderedCalls
+pub mod Sleeping

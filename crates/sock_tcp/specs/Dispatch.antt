@@ -1,6 +1,8 @@
 -- `dispatch` whole.
 use Rattle.std.specs.Prelude.{◌≡◌, ℕ, List, drop, Result, Ok, is_ok, Option, Some, None, is_some, MatchOption, IsSomeAnd, option_map}
+use Rattle.std.specs.Option.{ForSome}
 use Rattle.ip_wire.specs.declared.repr.IpRepr.{IpRepr}
+use Rattle.control_wire.specs.Fits.{FitsPacket}
 use Rattle.control_wire.specs.Segment.{Segment}
 use Rattle.control_wire.specs.declared.tcp.TcpRepr.{TcpRepr}
 use Rattle.sock_core.specs.Emission.{Emit, Emits}
@@ -21,13 +23,16 @@ EmitTcp F C E = Emit F C (IpRepr × TcpRepr) E
 abbrev pub packet_in : Sending → IpRepr × Segment
 packet_in s = (s.ip, s.segment)
 
--- the ring lent some bytes, the segment with them and the timestamp went out, and the socket is as the answer leaves it
+-- The ring lent some bytes, the segment with them and the timestamp went out, and the socket is as the answer leaves
+-- it.
+-- What goes out can be written as a packet and read back
 pub record EmitsDue {F C E : Type 0} (g : EmitTcp F C E) (f : F) (facts : Facts) (t : Tuple) (stamp : Option ℕ)
     (v : View) (c : C) (r : Result (Unit {0}) E) (w : View) (c' : C) : Type 0 where
   pub bytes : List ℕ
   pub lent : IsLent (asked v t facts (is_some stamp)) (drop (offset_of v) v.tx_buffer.bytes) bytes
   pub emits : Emits g packet_of f (option_map packet_in (content v t facts stamp bytes)) c r c'
   pub view : w ≡ left_by (content v t facts stamp bytes) v (moment_of facts) (is_ok r)
+  pub fits : ForSome (content v t facts stamp bytes) (λ s. FitsPacket s.ip s.segment)
 
 -- nothing to emit, or nobody to emit to
 pub record IsQuiet {C E : Type 0} (v : View) (c : C) (r : Result (Unit {0}) E) (w : View) (c' : C) : Type 0 where

@@ -26,3 +26,4 @@ pub mod Outgoing
 pub mod Laws
 pub mod SocketRun
 pub mod SocketBytes
+pub mod Work

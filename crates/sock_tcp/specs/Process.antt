@@ -5,6 +5,7 @@ use Rattle.ip_wire.specs.IpHeader.{src_addr_of, dst_addr_of}
 use Rattle.ip_wire.specs.declared.endpoint.IpListenEndpoint.{IpListenEndpoint}
 use Rattle.ip_wire.specs.declared.repr.IpRepr.{IpRepr}
 use Rattle.net_base.specs.declared.time.Instant.{Instant}
+use Rattle.control_wire.specs.Fits.{FitsPacket}
 use Rattle.control_wire.specs.Segment.{Segment, segment_of}
 use Rattle.control_wire.specs.declared.tcp.TcpControl.{TcpControl}
 use Rattle.control_wire.specs.declared.tcp.TcpControl.TheVariants as control
@@ -200,7 +201,8 @@ generator_after v s g = if drops_generator v s then None else g
 abbrev pub reply_of : IpRepr × TcpRepr → IpRepr × Segment
 reply_of r = (r.0, segment_of r.1)
 
--- the socket, the reply and the context after a segment: only a SYN in LISTEN draws a random word
+-- The socket, the reply and the context after a segment: only a SYN in LISTEN draws a random word. The reply can be
+-- written as a packet and read back
 pub record Processes {C : Type 0} (facts : C → Facts) (word_at : C → ℕ → ℕ)
     (stamped : TcpControl → Option TcpTimestampRepr → Type 0) (v : View) (cx : C)
     (ip : IpRepr) (s : Segment) (reply : Option (IpRepr × TcpRepr)) (w : View) (cx' : C) : Type 0 where
@@ -208,4 +210,5 @@ pub record Processes {C : Type 0} (facts : C → Facts) (word_at : C → ℕ →
   pub answer : Answers stamped ip (processed v (moment_of (facts cx)) (word_at cx 0) ip s).reply
       (option_map reply_of reply)
   pub bare : ForSome reply (λ r. r.1.payload.now ≡ [])
+  pub fits : ForSome (option_map reply_of reply) (λ r. FitsPacket r.0 r.1)
   pub context : Draws (draws (verdict_of v s.control s.ack_number) v.state s.control) facts word_at cx cx'

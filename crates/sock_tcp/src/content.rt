@@ -1,14 +1,17 @@
 //! What a dispatch emits (RFC 9293, sections 3.1, 3.7 and 3.8).
 ghost use Rattle.std.specs.Prelude.{◌≡◌, ℕ, ◌≤◌, ◌<◌, ◌^◌, false, List, length, drop, min, option_map};
-ghost use Rattle.std.specs.Prelude.{if◌then◌else◌, Some, None};
+ghost use Rattle.std.specs.Option.{ForSome};
+ghost use Rattle.std.specs.Prelude.{if◌then◌else◌, Some, None, is_some};
 ghost use Rattle.ip_wire.specs.Address.{SameVersion};
 ghost use Rattle.ip_wire.specs.IpHeader.{ip_header};
+ghost use Rattle.control_wire.specs.Fits.{FitsPacket};
 ghost use Rattle.control_wire.specs.Segment.{segment_of};
+ghost use Rattle.sock_core.specs.Facts.{IsLawful};
 ghost use Rattle.sock_tcp.specs.Queue.{IsLent};
 ghost use Rattle.sock_tcp.specs.Due.{flight, window_field};
 ghost use Rattle.sock_tcp.specs.Content.{carries_data, window_left, is_probing, size_of, offset_of, asked};
 ghost use Rattle.sock_tcp.specs.Content.{timestamp_of, plain_segment, with_syn, syn, syn_ack, data_control, with_data};
-ghost use Rattle.sock_tcp.specs.Content.{filled, kind_of, of_kind, hop_limit_of, sending, finished};
+ghost use Rattle.sock_tcp.specs.Content.{filled, kind_of, of_kind, hop_limit_of, sending, finished, content};
 
 use crate::control_block::ControlBlock;
 use crate::due::own_mss;
@@ -359,5 +362,22 @@ impl<'a> ControlBlock<'a> {
         let payload_len = packet.1.buffer_len();
         self.fill_header(tuple, payload_len, &mut packet.0);
         Some(kind)
+    }
+
+    // Says that what it sends fits a packet, whatever timestamp it has.
+    pub(crate) fn sends_packets<C: Context>(
+        &self,
+        cx: &C,
+        tuple: &Tuple,
+        stamp: Option<u32>,
+        payload: &[u8],
+    )
+        requires lawful { IsLawful (C.facts cx.now) }
+        requires tuple { self.now.tuple ≡ Some tuple.now }
+        requires asked { length payload.now ≤ asked self.now tuple.now (C.facts cx.now) (is_some stamp) }
+        ensures { ForSome (content self.now tuple.now (C.facts cx.now) stamp payload.now)
+            (λ s. FitsPacket s.ip s.segment) }
+    {
+        let _tuple = &self.tuple;
     }
 }

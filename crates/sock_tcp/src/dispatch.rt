@@ -125,6 +125,7 @@ impl<'a> ControlBlock<'a> {
         };
         let now = cx.now();
         let payload = self.payload(cx, tuple, stamp.is_some());
+        self.sends_packets(cx, tuple, stamp, payload);
         let mut packet = (NO_HEADER, self.plain(tuple, stamp));
         let kind = match self.finish_packet(cx, tuple, payload, &mut packet) {
             None => return Ok(()),
@@ -145,6 +146,9 @@ impl<'a, G: TsvalSource> Socket<'a, G> {
     /// timeout closes it; the retransmission timer lets all behind SND.UNA go out again. The reasons to emit are, in
     /// this order: data, a SYN or a FIN; an acknowledgement whose delay is over; a window that has doubled; the RST of
     /// a closed socket; a keep-alive; a probe. Without one, TIME-WAIT may end.
+    ///
+    /// What is emitted can be written as a packet of at most 65535 bytes: a window scale is at most 14, no SACK ranges
+    /// stand beside the SACK permission, and the options take at most 40 bytes.
     ///
     /// The error that `emit` answers is passed on; the socket then stands as it did before the emit, and the next
     /// `dispatch` offers the segment again.

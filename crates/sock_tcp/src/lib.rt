@@ -13,6 +13,7 @@ pub mod emission;
 pub mod error;
 pub mod generator;
 pub mod laws;
+pub mod measures;
 mod open;
 pub mod poll;
 mod process;

@@ -5,10 +5,12 @@ ghost use Rattle.sock_tcp.specs.Timers.{IsLastTs};
 ghost use Rattle.sock_tcp.specs.Polls.{is_reached, earlier, timeout_poll, IsLater};
 ghost use Rattle.sock_tcp.specs.Dispatch.{Dispatches};
 ghost use Rattle.sock_tcp.specs.Poll.{is_due_now, poll_moment, PollHidesNothing, PayloadKeepsToWindows};
+ghost use Rattle.sock_tcp.specs.Work.{works_in, has_work, KeepAliveWakes, NoWorkNoBytes, SleepsOnlySo, TimeoutWakes};
 
 use crate::control_block::ControlBlock;
 use crate::generator::TsvalSource;
 use crate::socket::Socket;
+use crate::state::State;
 use crate::timer::{after, is_over};
 use crate::tuple::Tuple;
 use control_wire::TcpRepr;
@@ -54,7 +56,33 @@ pub(crate) fn timeout_poll(timeout: Option<Duration>, last: Option<Instant>) -> 
     }
 }
 
+impl State {
+    fn works(self, peer: bool, empty: bool, paused: bool) -> bool
+        ensures { result ≡ works_in self peer empty paused }
+    {
+        match self {
+            State::Closed => peer,
+            State::Listen | State::FinWait2 => false,
+            State::SynReceived => !paused,
+            State::Established | State::CloseWait => !empty,
+            State::SynSent | State::FinWait1 | State::Closing | State::LastAck | State::TimeWait =>
+                true,
+        }
+    }
+}
+
 impl<'a> ControlBlock<'a> {
+    #[tactic(auto, unfolding(crate::specs::Work::has_work))]
+    fn has_work(&self) -> bool
+        ensures { result ≡ has_work self.now }
+    {
+        self.state.works(
+            self.tuple.is_some(),
+            self.tx_buffer.is_empty(),
+            self.synack_paused,
+        )
+    }
+
     fn is_due_now<C: Context>(&self, cx: &C, tuple: &Tuple, stamps: bool) -> bool
         ensures { result ≡ is_due_now self.now tuple.now (C.facts cx.now) stamps }
     {
@@ -92,6 +120,17 @@ impl<'a, G> Socket<'a, G> {
     }
 }
 
+impl<'a, G> Socket<'a, G> {
+    /// Whether the connection has something left to do: bytes in the transmit queue in ESTABLISHED and CLOSE-WAIT; a
+    /// SYN in SYN-SENT, and in SYN-RECEIVED unless it is paused; the own FIN in FIN-WAIT-1, CLOSING and LAST-ACK; the
+    /// end of TIME-WAIT; the RST in CLOSED while there is a peer. smoltcp has no such call.
+    pub fn has_work(&self) -> bool
+        ensures { result ≡ has_work self.now.control_block }
+    {
+        self.control_block.has_work()
+    }
+}
+
 /// Where `poll_at` answers a moment after now, or `Ingress`, a `dispatch` at now in the same context has nothing to
 /// send.
 pub fn poll_at_hides_nothing()
@@ -121,4 +160,30 @@ pub fn dispatch_early<
 /// ends at or before SND.UNA plus the peer's window, and is at most the congestion window less what is in flight.
 pub fn payload_keeps_to_windows()
     ensures { PayloadKeepsToWindows }
+{}
+
+/// How a socket with work to do may wait for a segment alone, after any list of calls on a new socket over any two
+/// buffers of at most 2^30 bytes, with any segments: only with an idle timer that has no moment, without a user timeout
+/// and a keep-alive interval, and with no acknowledgement due; and only in SYN-RECEIVED with the SYN taken as sent, or
+/// in ESTABLISHED, CLOSE-WAIT, FIN-WAIT-1, CLOSING or LAST-ACK, where something is in flight, or nothing is and the
+/// peer's window is 0.
+pub fn sleeps_only_so()
+    ensures { SleepsOnlySo }
+{}
+
+/// Without work to do a socket that is not CLOSED has an empty transmit queue, after any list of calls as above.
+pub fn no_work_no_bytes()
+    ensures { NoWorkNoBytes }
+{}
+
+/// With a user timeout a socket that has a peer never waits for a segment alone: `poll_at` answers `Now` where the
+/// moment of the last segment is forgotten, and else a moment that is at the latest the timeout after it.
+pub fn timeout_wakes()
+    ensures { TimeoutWakes }
+{}
+
+/// With a keep-alive interval a socket that has a peer never waits for a segment alone, after any list of calls on a
+/// new socket over any two buffers of at most 2^30 bytes.
+pub fn keep_alive_wakes()
+    ensures { KeepAliveWakes }
 {}

@@ -1,5 +1,6 @@
 //! The segments that answer others (RFC 9293, section 3.10.7.1).
 ghost use Rattle.std.specs.Prelude.{◌≡◌, ◌≤◌, length, [], option_map};
+ghost use Rattle.control_wire.specs.Fits.{FitsPacket};
 ghost use Rattle.control_wire.specs.Segment.{segment_of};
 ghost use Rattle.std.specs.Option.{ForSome};
 ghost use Rattle.sock_tcp.specs.Process.{answered, reply_of};
@@ -172,6 +173,7 @@ impl<'a, G: TsvalSource> Socket<'a, G> {
     // The reply to a segment that is answered so. Not inlined: most segments have no reply, and the space for one is
     // cleared where it is made.
     #[inline(never)]
+    #[tactic(auto, using(crate::proofs::FittingReplies::rst_sent))]
     pub(crate) fn reply_by(
         &mut self,
         answer: Answer,
@@ -185,6 +187,7 @@ impl<'a, G: TsvalSource> Socket<'a, G> {
         ensures answer { Answers (IsStamp G.tells self.old.tsval_generator repr.now.timestamp) ip_repr.now
             (answered answer self.old.control_block (segment_of repr.now)).reply (option_map reply_of result) }
         ensures bare { ForSome result (λ r. r.1.payload.now ≡ []) }
+        ensures fits { ForSome (option_map reply_of result) (λ r. FitsPacket r.0 r.1) }
     {
         match answer {
             Answer::Nothing => None,
@@ -200,9 +203,13 @@ impl<'a, G: TsvalSource> Socket<'a, G> {
 impl<'a> Socket<'a> {
     /// A segment that answers this one, with its header: the addresses and ports the other way round, and nothing
     /// else. It has no control, the number 0, no acknowledgement, window, options or payload. As smoltcp.
+    ///
+    /// It can be written as a packet.
+    #[tactic(auto, using(crate::proofs::FittingReplies::bare_reply_fits))]
     pub fn reply(ip_repr: &IpRepr, repr: &TcpRepr<'_>) -> Reply
         ensures reply { reply_of result ≡ with_header ip_repr.now (bare_reply (segment_of repr.now)) }
         ensures bare { result.1.payload.now ≡ [] }
+        ensures fits { FitsPacket result.0 (segment_of result.1) }
     {
         with_header(ip_repr, bare_reply(repr))
     }
@@ -210,12 +217,15 @@ impl<'a> Socket<'a> {
     /// The RST that answers a segment which is for no socket, and is no RST itself (RFC 9293, section 3.10.7.1). The
     /// payload is at most 65535 bytes.
     ///
-    /// Its number is what the segment acknowledges, or 0; it acknowledges a SYN that has no acknowledgement.
+    /// Its number is what the segment acknowledges, or 0; it acknowledges a SYN that has no acknowledgement. It can be
+    /// written as a packet.
+    #[tactic(auto, using(crate::proofs::FittingReplies::rst_reply_fits))]
     pub fn rst_reply(ip_repr: &IpRepr, repr: &TcpRepr<'_>) -> Reply
         requires control { repr.now.control ≡ TcpControl.Rst → ⊥ }
         requires small { length repr.now.payload.now ≤ 65535 }
         ensures reply { reply_of result ≡ with_header ip_repr.now (rst_segment (segment_of repr.now)) }
         ensures bare { result.1.payload.now ≡ [] }
+        ensures fits { FitsPacket result.0 (segment_of result.1) }
     {
         with_header(ip_repr, rst_segment(repr))
     }

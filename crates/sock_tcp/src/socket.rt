@@ -277,7 +277,8 @@ impl<'a, G: TsvalSource> Socket<'a, G> {
     /// Takes a segment that `accepts` holds of, with a payload of at most 65535 bytes, and gives the one that answers
     /// it, if any; that one has no payload (RFC 9293, section 3.10.7).
     ///
-    /// A SYN without a timestamp that opens a connection takes the source of timestamps away.
+    /// A SYN without a timestamp that opens a connection takes the source of timestamps away. The answer can be written
+    /// as a packet.
     // Inlined, so that the place of the reply is the caller's, and no reply is copied to it.
     #[inline(always)]
     pub fn process<C: Context>(

@@ -1,6 +1,6 @@
 use Rattle.std.proofs.Common.{refl, rules, arith, None, ap, is_some}
 use Rattle.pair_core.specs.Moments.{facts_of}
-use Rattle.pair_core.proofs.Recordings.{socket_dispatched, dispatch_short, host_dispatched}
+use Rattle.pair_core.proofs.Recordings.{socket_dispatched, dispatch_fits, host_dispatched}
 use Rattle.pair_core.proofs.host.Host.dispatch.Goals as goal
 
 pub returns-clause-table : goal.returns-clause-table
@@ -10,7 +10,7 @@ returns-clause-table g c =
     c.dispatch-answer.new.cx c.self.inside.socket.control_block c.dispatch-answer.new.self.control_block (facts_of c.args.moment.now) c.dispatch-answer.result
     (record { header = refl; empty = c.requires.empty; len = search rules; room = c.requires.roomy }) (omega (arith, c.args.moment.now.mtu.0)) (omega arith) c.dispatch-answer.ensures.table)
 
-pub returns-clause-short : goal.returns-clause-short
-returns-clause-short g c =
+pub returns-clause-fits : goal.returns-clause-fits
+returns-clause-fits g c =
     let x = returns-clause-table g c in
-    dispatch_short _ _ (facts_of c.args.moment.now) c.args.self.now.stamps c.args.fail c.into_sent.result (omega (arith, c.args.moment.now.mtu.0)) c.args.moment.now.mtu.1 x.socket
+    dispatch_fits _ _ (facts_of c.args.moment.now) c.args.self.now.stamps c.args.fail c.into_sent.result x.socket

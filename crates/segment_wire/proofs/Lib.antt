@@ -1,0 +1,5 @@
+pub mod Steps
+pub mod Written
+pub mod TcpTrips
+pub mod UdpTrips
+pub mod PacketTrips

@@ -1,0 +1,110 @@
+-- A segment is written piece by piece.
+use Rattle.std.proofs.Common.{ℕ, suc, ◌+◌, ◌*◌, ◌≤◌, Bool, true, false, List, [], ◌∷◌, ◌++◌, ◌≡◌, length, take, drop, refl, ap, sym, ◌∙◌, arith, append_assoc, length-append}
+use Rattle.std.specs.Prelude.{Option, Some, None, is_some, cond, count_by, if◌then◌else◌, ◌==◌}
+use Rattle.std.specs.List.{fold}
+use Rattle.std.proofs.lemmas.List.{append-nil, drop_all, length-take-le, take_at, take_all}
+use Rattle.control_wire.specs.Segment.{Segment, options_len, sack_option_len}
+use Rattle.control_wire.specs.declared.tcp.TcpTimestampRepr.{TcpTimestampRepr}
+use Rattle.segment_wire.specs.Options.{mss_octets, permitted_octets, ranges_octets, sack_if, sack_octets, scale_octets, stamp_octets}
+use Rattle.segment_wire.specs.Tcp.{tcp_octets, tcp_with}
+use Rattle.segment_wire.specs.Udp.{ones_if_zero, udp_octets, udp_with}
+use Rattle.control_wire.specs.declared.udp.UdpRepr.{UdpRepr}
+use Rattle.ip_wire.specs.Octets.{be16}
+use Rattle.ip_wire.specs.Sum.{complement, pseudo_sum, sum_after}
+use Rattle.ip_wire.specs.declared.address.IpAddress.{IpAddress}
+
+pub nothing_more : (xs : List ℕ) → xs ≡ xs ++ []
+nothing_more xs = sym (append-nil xs)
+
+-- what stands before a piece stays, and the piece stands behind it
+pub front_kept : (xs ys piece : List ℕ) (at : ℕ) → at + length piece ≤ length xs → ys ≡ take at xs ++ (piece ++ drop (at + length piece) xs) → take (at + length piece) ys ≡ take at xs ++ piece
+front_kept xs ys piece at h y =
+    let l : length (take at xs) ≡ at = length-take-le at xs (omega arith) in
+    ap (take (at + length piece)) (y ∙ sym (append_assoc (take at xs) piece (drop (at + length piece) xs)))
+    ∙ take_at (take at xs ++ piece) (drop (at + length piece) xs) (at + length piece) (length-append (take at xs) piece ∙ ap (λ n. n + length piece) l)
+
+joined_two : (xs a b y z : List ℕ) → y ≡ xs ++ a → z ≡ y ++ b → z ≡ xs ++ (a ++ b)
+joined_two xs a b y z e f = f ∙ ap (λ us. us ++ b) e ∙ append_assoc xs a b
+
+pub two : (xs a b y z : List ℕ) → y ≡ xs ++ a → z ≡ y ++ b → z ≡ xs ++ (a ++ b)
+two xs a b y z e f = joined_two xs a b y z e f
+
+pub three : (xs a b c y z w : List ℕ) → y ≡ xs ++ a → z ≡ y ++ b → w ≡ z ++ c → w ≡ xs ++ (a ++ (b ++ c))
+three xs a b c y z w e f g = joined_two y b c z w f g ∙ ap (λ us. us ++ (b ++ c)) e ∙ append_assoc xs a (b ++ c)
+
+pub six : (xs a b c d e f x1 x2 x3 x4 x5 x6 : List ℕ) → x1 ≡ xs ++ a → x2 ≡ x1 ++ b → x3 ≡ x2 ++ c → x4 ≡ x3 ++ d → x5 ≡ x4 ++ e → x6 ≡ x5 ++ f → x6 ≡ xs ++ (a ++ (b ++ (c ++ (d ++ (e ++ f)))))
+six xs a b c d e f x1 x2 x3 x4 x5 x6 p q r s t u =
+    three x3 d e f x4 x5 x6 s t u ∙ ap (λ us. us ++ (d ++ (e ++ f))) (three xs a b c x1 x2 x3 p q r)
+    ∙ append_assoc xs (a ++ (b ++ c)) (d ++ (e ++ f))
+    ∙ ap (λ us. xs ++ us) (append_assoc a (b ++ c) (d ++ (e ++ f)) ∙ ap (λ us. a ++ us) (append_assoc b c (d ++ (e ++ f))))
+
+mss_count : (m : Option ℕ) → length (mss_octets m) ≡ (if is_some m then 4 else 0)
+mss_count None = refl
+mss_count (Some n) = refl
+
+scale_count : (m : Option ℕ) → length (scale_octets m) ≡ (if is_some m then 3 else 0)
+scale_count None = refl
+scale_count (Some n) = refl
+
+permitted_count : (m : Bool) → length (permitted_octets m) ≡ (if m then 2 else 0)
+permitted_count false = refl
+permitted_count true = refl
+
+stamp_count : (m : Option TcpTimestampRepr) → length (stamp_octets m) ≡ (if is_some m then 10 else 0)
+stamp_count None = refl
+stamp_count (Some n) = refl
+
+abbrev counted : ℕ → List (Option (ℕ × ℕ)) → ℕ
+counted a rs = fold (λ n r. n + cond (is_some r) 1 0) a rs
+
+eight_more : (a n : ℕ) → 8 * a + suc (suc (suc (suc (suc (suc (suc (suc n))))))) ≡ 8 * (a + 1) + n
+eight_more a n = omega arith
+
+none_more : (a n : ℕ) → 8 * a + n ≡ 8 * (a + 0) + n
+none_more a n = omega arith
+
+count_from : (a : ℕ) (rs : List (Option (ℕ × ℕ))) → 8 * a + length (ranges_octets rs) ≡ 8 * counted a rs
+count_from a [] = omega arith
+count_from a (None ∷ rs) = none_more a (length (ranges_octets rs)) ∙ count_from (a + 0) rs
+count_from a (Some r ∷ rs) = eight_more a (length (ranges_octets rs)) ∙ count_from (a + 1) rs
+
+from_none : (n : ℕ) → n ≡ 8 * 0 + n
+from_none n = omega arith
+
+range_count : (rs : List (Option (ℕ × ℕ))) → length (ranges_octets rs) ≡ 8 * count_by is_some rs
+range_count rs = from_none (length (ranges_octets rs)) ∙ count_from 0 rs
+
+two_more : (n : ℕ) → suc (suc (8 * n)) ≡ 2 + 8 * n
+two_more n = omega arith
+
+sack_count : (rs : List (Option (ℕ × ℕ))) → length (sack_octets rs) ≡ sack_option_len (count_by is_some rs)
+sack_count rs = go (count_by is_some rs == 0) (count_by is_some rs) (range_count rs)
+  where
+    go : (none : Bool) (n : ℕ) → length (ranges_octets rs) ≡ 8 * n → length (sack_if none n rs) ≡ (if none then 0 else 2 + 8 * n)
+    go true n e = refl
+    go false n e = ap (λ m. suc (suc m)) e ∙ two_more n
+
+pub options_count : (s : Segment) → length (mss_octets s.max_seg_size) + (length (scale_octets s.window_scale) + (length (permitted_octets s.sack_permitted) + (length (sack_octets s.sack_ranges) + length (stamp_octets s.timestamp)))) ≡ options_len s
+options_count s = omega (arith, mss_count s.max_seg_size, scale_count s.window_scale, permitted_count s.sack_permitted, sack_count s.sack_ranges, stamp_count s.timestamp)
+
+-- the header, its options and the payload fill the buffer
+pub whole : (header options payload ws xs ys zs : List ℕ) (i j k : ℕ) → take i xs ≡ take 0 ws ++ header → take j ys ≡ take i xs ++ options → take k zs ≡ take j ys ++ payload → length zs ≤ k → zs ≡ header ++ (options ++ payload)
+whole header options payload ws xs ys zs i j k x y z l =
+    sym (take_all k zs l) ∙ joined_two header options payload (take j ys) (take k zs) (y ∙ ap (λ us. us ++ options) x) z
+
+-- with its checksum in the place of 0
+pub filled : (src dst : IpAddress) (s : Segment) (xs ys : List ℕ) (start : ℕ) → xs ≡ tcp_with s 0 → start ≡ pseudo_sum src dst 6 (length xs) → ys ≡ take 16 xs ++ (be16 (complement (sum_after start xs)) ++ drop 18 xs) → ys ≡ tcp_octets true src dst s
+unfolding tcp_with
+filled src dst s xs ys start x p y =
+    y ∙ ap (λ t. take 16 xs ++ (be16 (complement (sum_after t xs)) ++ drop 18 xs)) p
+    ∙ ap (λ us. take 16 us ++ (be16 (complement (sum_after (pseudo_sum src dst 6 (length us)) us)) ++ drop 18 us)) x
+
+-- nothing is left behind what fills the buffer
+pub ends : (xs ws zs : List ℕ) (n : ℕ) → zs ≡ xs ++ drop n ws → length ws ≡ n → zs ≡ xs
+ends xs ws zs n z l = z ∙ ap (λ us. xs ++ us) (drop_all n ws (omega arith)) ∙ append-nil xs
+
+pub filled_datagram : (src dst : IpAddress) (u : UdpRepr) (payload xs ys : List ℕ) (start : ℕ) → xs ≡ udp_with u payload 0 → start ≡ pseudo_sum src dst 17 (length xs) → ys ≡ take 6 xs ++ (be16 (ones_if_zero (complement (sum_after start xs))) ++ drop 8 xs) → ys ≡ udp_octets true src dst u payload
+unfolding udp_with
+filled_datagram src dst u payload xs ys start x p y =
+    y ∙ ap (λ t. take 6 xs ++ (be16 (ones_if_zero (complement (sum_after t xs))) ++ drop 8 xs)) p
+    ∙ ap (λ us. take 6 us ++ (be16 (ones_if_zero (complement (sum_after (pseudo_sum src dst 17 (length us)) us))) ++ drop 8 us)) x

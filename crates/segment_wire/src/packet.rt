@@ -1,0 +1,151 @@
+//! IP packets of both versions that carry a TCP segment or a UDP datagram.
+ghost use Rattle.std.specs.Prelude.{◌≡◌, ◌+◌, ◌≤◌, ◌++◌, IsTrue, drop, take, length, None, option_map, if◌then◌else◌};
+ghost use Rattle.ip_wire.specs.Checksum.{is_received, is_sent};
+ghost use Rattle.ip_wire.specs.IpHeader.{dst_addr_of, header_len_of, next_header_of, payload_len_of, src_addr_of};
+ghost use Rattle.ip_wire.specs.Packet.{header_octets, ipv4_parsed, ipv6_parsed};
+ghost use Rattle.ip_wire.specs.declared.protocol.IpProtocol.TheVariants.{Tcp, Udp};
+ghost use Rattle.control_wire.specs.Segment.{options_len, segment_header_len, segment_of};
+ghost use Rattle.segment_wire.specs.Packet.{
+  carried,
+  carried_if,
+  carried_of,
+  carried_v4,
+  carried_v6,
+  is_whole_v4,
+  is_whole_v6,
+  tcp_packet,
+  tcp_packet_of,
+  tcp_packet_parsed,
+  udp_packet,
+  udp_packet_of,
+  udp_packet_parsed,
+};
+ghost use Rattle.segment_wire.specs.Tcp.{read_as};
+
+use crate::{tcp, udp};
+use control_wire::{TcpRepr, UdpRepr};
+use ip_wire::{
+    ChecksumCapabilities, Error, IpRepr, IpVersion, Ipv4Packet, Ipv4Repr, Ipv6Packet, Ipv6Repr,
+};
+
+/// Writes an IP header and a segment behind it, whose bytes the header counts.
+pub fn emit_tcp(ip: &IpRepr, repr: &TcpRepr<'_>, buffer: &mut [u8], caps: &ChecksumCapabilities)
+    requires counted { payload_len_of ip.now
+        ≡ segment_header_len (segment_of repr.now) + length repr.now.payload.now }
+    requires protocol { next_header_of ip.now ≡ Tcp }
+    requires options { options_len (segment_of repr.now) ≤ 40 }
+    requires room { length buffer.old ≡ header_len_of ip.now + payload_len_of ip.now }
+    ensures { buffer.new ≡ tcp_packet caps.now ip.now (segment_of repr.now) }
+{
+    ip.emit(buffer, caps);
+    let start = ip.header_len();
+    tcp::emit(
+        repr,
+        &mut buffer[start..],
+        &ip.src_addr(),
+        &ip.dst_addr(),
+        caps,
+    );
+}
+
+/// Writes an IP header and a datagram behind it, whose bytes the header counts.
+pub fn emit_udp(
+    ip: &IpRepr,
+    repr: &UdpRepr,
+    payload: &[u8],
+    buffer: &mut [u8],
+    caps: &ChecksumCapabilities,
+)
+    requires counted { payload_len_of ip.now ≡ 8 + length payload.now }
+    requires protocol { next_header_of ip.now ≡ Udp }
+    requires room { length buffer.old ≡ header_len_of ip.now + payload_len_of ip.now }
+    ensures { buffer.new ≡ udp_packet caps.now ip.now repr.now payload.now }
+{
+    ip.emit(buffer, caps);
+    let start = ip.header_len();
+    udp::emit(
+        repr,
+        payload,
+        &mut buffer[start..],
+        &ip.src_addr(),
+        &ip.dst_addr(),
+        caps,
+    );
+}
+
+/// The header of a packet and the segment that it carries.
+///
+/// An error where its lengths do not fit, a tested checksum of its IPv4 header fails, its protocol is not TCP, or
+/// [`tcp::parse`] refuses the segment. Options of IPv4 are skipped; an extension header of IPv6 is another protocol.
+pub fn parse_tcp<'a>(
+    packet: &'a [u8],
+    caps: &ChecksumCapabilities,
+) -> Result<(IpRepr, TcpRepr<'a>), Error>
+    ensures { read_as tcp_packet_of result ≡ tcp_packet_parsed caps.now packet.now }
+{
+    let Some((ip, bytes)) = carried_if(packet, 6, caps) else {
+        return Err(Error);
+    };
+    let repr = tcp::parse(bytes, &ip.src_addr(), &ip.dst_addr(), caps)?;
+    Ok((ip, repr))
+}
+
+/// The header of a packet, and the header and the payload of the datagram that it carries.
+///
+/// An error where its lengths do not fit, a tested checksum of its IPv4 header fails, its protocol is not UDP, or
+/// [`udp::parse`] refuses the datagram.
+pub fn parse_udp<'a>(
+    packet: &'a [u8],
+    caps: &ChecksumCapabilities,
+) -> Result<(IpRepr, UdpRepr, &'a [u8]), Error>
+    ensures { read_as udp_packet_of result ≡ udp_packet_parsed caps.now packet.now }
+{
+    let Some((ip, bytes)) = carried_if(packet, 17, caps) else {
+        return Err(Error);
+    };
+    let (repr, payload) = udp::parse(bytes, &ip.src_addr(), &ip.dst_addr(), caps)?;
+    Ok((ip, repr, payload))
+}
+
+// The header and what stands behind it, where that is of this protocol.
+fn carried_if<'a>(
+    packet: &'a [u8],
+    protocol: u8,
+    caps: &ChecksumCapabilities,
+) -> Option<(IpRepr, &'a [u8])>
+    ensures { option_map carried_of result ≡ carried_if protocol (carried (is_received caps.now.ipv4) packet.now) }
+{
+    let (ip, bytes) = carried(packet, caps)?;
+    if u8::from(ip.next_header()) != protocol {
+        return None;
+    }
+    Some((ip, bytes))
+}
+
+#[tactic(auto, unfolding(crate::specs::Packet::carried))]
+fn carried<'a>(packet: &'a [u8], caps: &ChecksumCapabilities) -> Option<(IpRepr, &'a [u8])>
+    ensures { option_map carried_of result ≡ carried (is_received caps.now.ipv4) packet.now }
+{
+    match IpVersion::of_packet(packet).ok()? {
+        IpVersion::Ipv4 => carried_v4(packet, caps),
+        IpVersion::Ipv6 => carried_v6(packet),
+    }
+}
+
+fn carried_v4<'a>(packet: &'a [u8], caps: &ChecksumCapabilities) -> Option<(IpRepr, &'a [u8])>
+    ensures { option_map carried_of result ≡ (if is_whole_v4 packet.now
+        then carried_v4 packet.now (ipv4_parsed (is_received caps.now.ipv4) packet.now) else None) }
+{
+    let packet = Ipv4Packet::new_checked(packet).ok()?;
+    let repr = Ipv4Repr::parse(&packet, caps).ok()?;
+    Some((IpRepr::Ipv4(repr), packet.payload()))
+}
+
+fn carried_v6(packet: &[u8]) -> Option<(IpRepr, &[u8])>
+    ensures { option_map carried_of result
+        ≡ (if is_whole_v6 packet.now then carried_v6 packet.now (ipv6_parsed packet.now) else None) }
+{
+    let packet = Ipv6Packet::new_checked(packet).ok()?;
+    let repr = Ipv6Repr::parse(&packet).ok()?;
+    Some((IpRepr::Ipv6(repr), packet.payload()))
+}

@@ -1,0 +1,161 @@
+//! TCP segments as bytes (RFC 9293, section 3.1).
+ghost use Rattle.std.specs.Prelude.{◌≡◌, ◌+◌, ◌-◌, ◌≤◌, ◌++◌, ◌/◌, ◌*◌, IsTrue, true, drop, take, length};
+ghost use Rattle.ip_wire.specs.Checksum.{is_received, is_sent};
+ghost use Rattle.ip_wire.specs.Octets.{be16};
+ghost use Rattle.control_wire.specs.Segment.{options_len, segment_header_len, segment_of};
+ghost use Rattle.control_wire.specs.Source.{tcp_header_len};
+ghost use Rattle.segment_wire.specs.Options.{options_octets};
+ghost use Rattle.segment_wire.specs.Tcp.{
+  ack_bit,
+  ack_field,
+  ack_of,
+  control_bits,
+  control_of,
+  is_head,
+  options_of,
+  read_as,
+  segment_at,
+  tcp_checksum,
+  tcp_header,
+  tcp_octets,
+  tcp_parsed,
+  tcp_with,
+};
+
+use crate::options::{TcpOptions, be32_at, read_options};
+use crate::write::{fill_checksum, write};
+use control_wire::source::{at_most_one, sum_holds};
+use control_wire::{TcpControl, TcpRepr, TcpSeqNumber};
+use ip_wire::octets::{be16_at, behind, word};
+use ip_wire::sum::pseudo_sum;
+use ip_wire::{ChecksumCapabilities, Error, IpAddress};
+
+/// Writes the segment into `buffer_len` bytes, between these two addresses.
+///
+/// The options stand in the order MSS, window scale, SACK permitted, SACK, timestamp, and END fills the header up to a
+/// multiple of 4 bytes. They take 40 bytes at most. Of the flags FIN, SYN, RST, PSH and ACK alone are set; the urgent
+/// pointer is 0. The checksum is 0 where it is not computed before sending.
+pub fn emit(
+    repr: &TcpRepr<'_>,
+    buffer: &mut [u8],
+    src_addr: &IpAddress,
+    dst_addr: &IpAddress,
+    caps: &ChecksumCapabilities,
+)
+    requires room { length buffer.old ≡ segment_header_len (segment_of repr.now) + length repr.now.payload.now }
+    requires options { options_len (segment_of repr.now) ≤ 40 }
+    ensures { buffer.new ≡ tcp_octets (is_sent caps.now.tcp) src_addr.now dst_addr.now (segment_of repr.now) }
+{
+    if caps.tcp.tx() {
+        emit_with_checksum(repr, buffer, src_addr, dst_addr);
+    } else {
+        write(repr, buffer);
+    }
+}
+
+fn emit_with_checksum(
+    repr: &TcpRepr<'_>,
+    buffer: &mut [u8],
+    src_addr: &IpAddress,
+    dst_addr: &IpAddress,
+)
+    requires room { length buffer.old ≡ segment_header_len (segment_of repr.now) + length repr.now.payload.now }
+    requires options { options_len (segment_of repr.now) ≤ 40 }
+    ensures { buffer.new ≡ tcp_octets true src_addr.now dst_addr.now (segment_of repr.now) }
+{
+    write(repr, buffer);
+    let start = pseudo_sum(src_addr, dst_addr, 6, buffer.len());
+    fill_checksum(start, buffer);
+}
+
+/// The segment that the bytes spell, between these two addresses.
+///
+/// An error unless the header has at least 20 bytes and no more than there are, no port is 0, one at most of FIN, SYN and
+/// RST is set, the options are whole up to an END, as [`read_options`], and, where received checksums are tested, the
+/// checksum verifies. PSH beside one of the three is not kept, nor are URG and its pointer, as smoltcp.
+pub fn parse<'a>(
+    bytes: &'a [u8],
+    src_addr: &IpAddress,
+    dst_addr: &IpAddress,
+    caps: &ChecksumCapabilities,
+) -> Result<TcpRepr<'a>, Error>
+    ensures { read_as segment_of result ≡ tcp_parsed (is_received caps.now.tcp) src_addr.now dst_addr.now bytes.now }
+{
+    if !is_head(bytes) || (caps.tcp.rx() && !sum_holds(bytes, src_addr, dst_addr, 6)) {
+        return Err(Error);
+    }
+    match read_options(options_of(bytes)) {
+        Some(options) => Ok(segment_at(bytes, &options)),
+        None => Err(Error),
+    }
+}
+
+#[tactic(auto, unfolding(crate::specs::Tcp::is_head))]
+fn is_head(bytes: &[u8]) -> bool
+    ensures value { result ≡ is_head bytes.now }
+    ensures least { IsTrue result → 20 ≤ tcp_header_len bytes.now }
+    ensures fits { IsTrue result → tcp_header_len bytes.now ≤ length bytes.now }
+{
+    if bytes.len() < 20 {
+        return false;
+    }
+    let header = (bytes[12] / 16) as usize * 4;
+    20 <= header
+        && header <= bytes.len()
+        && be16_at(bytes, 0) != 0
+        && be16_at(bytes, 2) != 0
+        && at_most_one(bytes[13] % 8)
+}
+
+fn options_of(bytes: &[u8]) -> &[u8]
+    requires least { 20 ≤ tcp_header_len bytes.now }
+    requires fits { tcp_header_len bytes.now ≤ length bytes.now }
+    ensures { result.now ≡ options_of bytes.now }
+{
+    let header = (bytes[12] / 16) as usize * 4;
+    &bytes[20..header]
+}
+
+fn segment_at<'a>(bytes: &'a [u8], options: &TcpOptions) -> TcpRepr<'a>
+    requires least { 20 ≤ tcp_header_len bytes.now }
+    requires fits { tcp_header_len bytes.now ≤ length bytes.now }
+    ensures { segment_of result ≡ segment_at bytes.now options.now }
+{
+    let flags = bytes[13];
+    TcpRepr {
+        src_port: word(bytes[0], bytes[1]),
+        dst_port: word(bytes[2], bytes[3]),
+        control: control_of(flags),
+        seq_number: TcpSeqNumber(be32_at(bytes, 4)),
+        ack_number: ack_of(flags, be32_at(bytes, 8)),
+        window_len: word(bytes[14], bytes[15]),
+        window_scale: options.window_scale,
+        max_seg_size: options.max_seg_size,
+        sack_permitted: options.sack_permitted,
+        sack_ranges: options.sack_ranges,
+        timestamp: options.timestamp,
+        payload: behind(bytes, (bytes[12] / 16) as usize * 4),
+    }
+}
+
+fn control_of(flags: u8) -> TcpControl
+    ensures { result ≡ control_of flags }
+{
+    match flags % 8 {
+        1 => TcpControl::Fin,
+        2 => TcpControl::Syn,
+        4 => TcpControl::Rst,
+        _ if flags / 8 % 2 == 1 => TcpControl::Psh,
+        _ => TcpControl::None,
+    }
+}
+
+fn ack_of(flags: u8, number: u32) -> Option<TcpSeqNumber>
+    ensures { result ≡ ack_of flags number }
+{
+    if flags / 16 % 2 == 1 {
+        Some(TcpSeqNumber(number))
+    } else {
+        None
+    }
+}

@@ -1,0 +1,271 @@
+//! The pieces of a TCP segment, written one behind the other.
+ghost use Rattle.std.specs.Prelude.{◌≡◌, ◌+◌, ◌-◌, ◌≤◌, ◌++◌, ◌∷◌, [], count_by, is_some, drop, take, length};
+ghost use Rattle.ip_wire.specs.Octets.{be16, be32};
+ghost use Rattle.ip_wire.specs.Sum.{complement, sum_after};
+ghost use Rattle.control_wire.specs.Segment.{options_len, segment_header_len, segment_of};
+ghost use Rattle.segment_wire.specs.Options.{
+  mss_octets,
+  options_octets,
+  padding,
+  permitted_octets,
+  range_octets,
+  ranges_octets,
+  sack_if,
+  sack_octets,
+  scale_octets,
+  stamp_octets,
+};
+ghost use Rattle.segment_wire.specs.Tcp.{ack_bit, ack_field, control_bits, tcp_header, tcp_with};
+
+use control_wire::{TcpControl, TcpRepr, TcpSeqNumber, TcpTimestampRepr};
+use ip_wire::octets::{be16, put};
+use ip_wire::sum::checksum_after;
+
+/// Writes the segment with a checksum of 0.
+#[tactic(auto, using(crate::proofs::Written::whole), unfolding(crate::specs::Tcp::tcp_with))]
+pub fn write(repr: &TcpRepr<'_>, buffer: &mut [u8])
+    requires room { length buffer.old ≡ segment_header_len (segment_of repr.now) + length repr.now.payload.now }
+    requires options { options_len (segment_of repr.now) ≤ 40 }
+    ensures value { buffer.new ≡ tcp_with (segment_of repr.now) 0 }
+    ensures length { length buffer.new ≡ length buffer.old }
+{
+    options_count(repr);
+    let at = append(buffer, 0, &header(repr));
+    let at = put_options(repr, buffer, at);
+    append(buffer, at, repr.payload);
+}
+
+// Says that the options' bytes are as many as the header counts, which a proof does not see by itself.
+fn options_count(repr: &TcpRepr<'_>)
+    ensures { length (mss_octets repr.now.max_seg_size) + (length (scale_octets repr.now.window_scale)
+        + (length (permitted_octets repr.now.sack_permitted) + (length (sack_octets repr.now.sack_ranges)
+        + length (stamp_octets repr.now.timestamp)))) ≡ options_len (segment_of repr.now) }
+{}
+
+fn header(repr: &TcpRepr<'_>) -> [u8; 20]
+    requires { options_len (segment_of repr.now) ≤ 40 }
+    ensures { result ≡ tcp_header (segment_of repr.now) 0 }
+{
+    let [a, b] = be16(repr.src_port as usize);
+    let [c, d] = be16(repr.dst_port as usize);
+    let [e, f, g, h] = be32(repr.seq_number.0);
+    let [i, j, k, l] = be32(ack_field(repr.ack_number));
+    let offset = (repr.header_len() / 4 * 16) as u8;
+    let flags = control_bits(repr.control) + ack_bit(repr.ack_number);
+    let [m, n] = be16(repr.window_len as usize);
+    [
+        a, b, c, d, e, f, g, h, i, j, k, l, offset, flags, m, n, 0, 0, 0, 0,
+    ]
+}
+
+fn control_bits(control: TcpControl) -> u8
+    ensures value { result ≡ control_bits control }
+    ensures small { result ≤ 8 }
+{
+    match control {
+        TcpControl::None => 0,
+        TcpControl::Fin => 1,
+        TcpControl::Syn => 2,
+        TcpControl::Rst => 4,
+        TcpControl::Psh => 8,
+    }
+}
+
+fn ack_bit(number: Option<TcpSeqNumber>) -> u8
+    ensures value { result ≡ ack_bit number }
+    ensures small { result ≤ 16 }
+{
+    match number {
+        None => 0,
+        Some(_) => 16,
+    }
+}
+
+fn ack_field(number: Option<TcpSeqNumber>) -> u32
+    ensures { result ≡ ack_field number }
+{
+    match number {
+        None => 0,
+        Some(number) => number.0,
+    }
+}
+
+// A number as four bytes.
+fn be32(number: u32) -> [u8; 4]
+    ensures { result ≡ be32 number }
+{
+    let [a, b] = be16((number / 65536) as usize);
+    let [c, d] = be16(number as usize);
+    [a, b, c, d]
+}
+
+// Writes the options, and END up to the end of the header.
+#[tactic(auto, using(crate::proofs::Written::six))]
+fn put_options(repr: &TcpRepr<'_>, buffer: &mut [u8], at: usize) -> usize
+    requires start { at ≡ 20 }
+    requires room { segment_header_len (segment_of repr.now) ≤ length buffer.old }
+    ensures at { result ≡ segment_header_len (segment_of repr.now) }
+    ensures value { take result buffer.new ≡ take at buffer.old ++ options_octets (segment_of repr.now) }
+    ensures length { length buffer.new ≡ length buffer.old }
+{
+    options_count(repr);
+    let [a, b, c] = repr.sack_ranges;
+    let at = put_mss(buffer, at, repr.max_seg_size);
+    let at = put_scale(buffer, at, repr.window_scale);
+    let at = put_permitted(buffer, at, repr.sack_permitted);
+    let count = sack_count(&repr.sack_ranges);
+    let at = put_sack(buffer, at, count == 0, count, a, b, c);
+    let at = put_stamp(buffer, at, repr.timestamp);
+    put_padding(buffer, at, repr.header_len() - at)
+}
+
+// Writes `piece` at `at`. Answers where it ends.
+#[tactic(auto, using(crate::proofs::Written::front_kept))]
+fn append(buffer: &mut [u8], at: usize, piece: &[u8]) -> usize
+    requires { at + length piece.now ≤ length buffer.old }
+    ensures at { result ≡ at + length piece.now }
+    ensures value { take result buffer.new ≡ take at buffer.old ++ piece.now }
+    ensures length { length buffer.new ≡ length buffer.old }
+{
+    put(buffer, at, piece);
+    at + piece.len()
+}
+
+#[tactic(auto, using(crate::proofs::Written::nothing_more))]
+fn put_mss(buffer: &mut [u8], at: usize, size: Option<u16>) -> usize
+    requires { at + length (mss_octets size) ≤ length buffer.old }
+    ensures at { result ≡ at + length (mss_octets size) }
+    ensures value { take result buffer.new ≡ take at buffer.old ++ mss_octets size }
+    ensures length { length buffer.new ≡ length buffer.old }
+{
+    let Some(size) = size else {
+        return at;
+    };
+    let [high, low] = be16(size as usize);
+    append(buffer, at, &[2, 4, high, low])
+}
+
+#[tactic(auto, using(crate::proofs::Written::nothing_more))]
+fn put_scale(buffer: &mut [u8], at: usize, bits: Option<u8>) -> usize
+    requires { at + length (scale_octets bits) ≤ length buffer.old }
+    ensures at { result ≡ at + length (scale_octets bits) }
+    ensures value { take result buffer.new ≡ take at buffer.old ++ scale_octets bits }
+    ensures length { length buffer.new ≡ length buffer.old }
+{
+    let Some(bits) = bits else {
+        return at;
+    };
+    append(buffer, at, &[3, 3, bits])
+}
+
+#[tactic(auto, using(crate::proofs::Written::nothing_more))]
+fn put_permitted(buffer: &mut [u8], at: usize, permitted: bool) -> usize
+    requires { at + length (permitted_octets permitted) ≤ length buffer.old }
+    ensures at { result ≡ at + length (permitted_octets permitted) }
+    ensures value { take result buffer.new ≡ take at buffer.old ++ permitted_octets permitted }
+    ensures length { length buffer.new ≡ length buffer.old }
+{
+    if !permitted {
+        return at;
+    }
+    append(buffer, at, &[4, 2])
+}
+
+#[tactic(auto, using(crate::proofs::Written::nothing_more))]
+fn put_stamp(buffer: &mut [u8], at: usize, stamp: Option<TcpTimestampRepr>) -> usize
+    requires { at + length (stamp_octets stamp) ≤ length buffer.old }
+    ensures at { result ≡ at + length (stamp_octets stamp) }
+    ensures value { take result buffer.new ≡ take at buffer.old ++ stamp_octets stamp }
+    ensures length { length buffer.new ≡ length buffer.old }
+{
+    let Some(stamp) = stamp else {
+        return at;
+    };
+    let [a, b, c, d] = be32(stamp.tsval);
+    let [e, f, g, h] = be32(stamp.tsecr);
+    append(buffer, at, &[8, 10, a, b, c, d, e, f, g, h])
+}
+
+#[tactic(auto, using(crate::proofs::Written::nothing_more))]
+fn put_range(buffer: &mut [u8], at: usize, range: Option<(u32, u32)>) -> usize
+    requires { at + length (range_octets range) ≤ length buffer.old }
+    ensures at { result ≡ at + length (range_octets range) }
+    ensures value { take result buffer.new ≡ take at buffer.old ++ range_octets range }
+    ensures length { length buffer.new ≡ length buffer.old }
+{
+    let Some((from, to)) = range else {
+        return at;
+    };
+    let [a, b, c, d] = be32(from);
+    let [e, f, g, h] = be32(to);
+    append(buffer, at, &[a, b, c, d, e, f, g, h])
+}
+
+fn put_padding(buffer: &mut [u8], at: usize, count: usize) -> usize
+    requires few { count ≤ 3 }
+    requires room { at + count ≤ length buffer.old }
+    ensures at { result ≡ at + count }
+    ensures value { take result buffer.new ≡ take at buffer.old ++ take count (0 ∷ 0 ∷ 0 ∷ []) }
+    ensures length { length buffer.new ≡ length buffer.old }
+{
+    append(buffer, at, &[0, 0, 0][..count])
+}
+
+/// Writes the checksum of a segment as it is, and of what was summed before.
+pub fn fill_checksum(start: u16, buffer: &mut [u8])
+    requires { 20 ≤ length buffer.old }
+    ensures { buffer.new ≡ take 16 buffer.old
+        ++ (be16 (complement (sum_after start buffer.old)) ++ drop 18 buffer.old) }
+{
+    let checksum = checksum_after(start, buffer);
+    put(buffer, 16, &be16(checksum as usize));
+}
+
+fn sack_count(ranges: &[Option<(u32, u32)>; 3]) -> usize
+    ensures value { result ≡ count_by is_some ranges.now }
+    ensures small { result ≤ 3 }
+{
+    ranges.iter().filter(|range| range.is_some()).count()
+}
+
+// The option's kind and length stand before the blocks.
+#[tactic(auto, using(crate::proofs::Written::nothing_more, crate::proofs::Written::two))]
+fn put_sack(
+    buffer: &mut [u8],
+    at: usize,
+    none: bool,
+    count: usize,
+    a: Option<(u32, u32)>,
+    b: Option<(u32, u32)>,
+    c: Option<(u32, u32)>,
+) -> usize
+    requires few { count ≤ 3 }
+    requires room { at + length (sack_if none count (a ∷ b ∷ c ∷ [])) ≤ length buffer.old }
+    ensures at { result ≡ at + length (sack_if none count (a ∷ b ∷ c ∷ [])) }
+    ensures value { take result buffer.new ≡ take at buffer.old ++ sack_if none count (a ∷ b ∷ c ∷ []) }
+    ensures length { length buffer.new ≡ length buffer.old }
+{
+    if none {
+        return at;
+    }
+    let at = append(buffer, at, &[5, (2 + 8 * count) as u8]);
+    put_ranges(buffer, at, a, b, c)
+}
+
+#[tactic(auto, using(crate::proofs::Written::three))]
+fn put_ranges(
+    buffer: &mut [u8],
+    at: usize,
+    a: Option<(u32, u32)>,
+    b: Option<(u32, u32)>,
+    c: Option<(u32, u32)>,
+) -> usize
+    requires { at + length (ranges_octets (a ∷ b ∷ c ∷ [])) ≤ length buffer.old }
+    ensures at { result ≡ at + length (ranges_octets (a ∷ b ∷ c ∷ [])) }
+    ensures value { take result buffer.new ≡ take at buffer.old ++ ranges_octets (a ∷ b ∷ c ∷ []) }
+    ensures length { length buffer.new ≡ length buffer.old }
+{
+    let at = put_range(buffer, at, a);
+    let at = put_range(buffer, at, b);
+    put_range(buffer, at, c)
+}

@@ -1,0 +1,255 @@
+-- What holds between any two calls of SND.UNA, SND.NXT, the transmit queue and the timer, by state.
+use Rattle.std.proofs.Common.{◌≡◌, ℕ, ◌+◌, ◌-◌, ◌*◌, ◌<◌, ◌≤◌, ◌^◌, Bool, true, false, refl, Option, Some, None, is_some, length, arith}
+use Rattle.std.specs.Prelude.{if◌then◌else◌, ◌==◌, max, min}
+use Rattle.net_base.specs.declared.time.Duration.{Duration}
+use Rattle.net_base.specs.declared.time.Instant.{Instant}
+use Rattle.control_wire.specs.Seq.{seq_sub}
+use Rattle.control_wire.specs.declared.seq_number.TcpSeqNumber.{TcpSeqNumber}
+use Rattle.sock_core.specs.Congestion as congestion
+use Rattle.sock_core.specs.Reno.{RenoNumbers}
+use Rattle.sock_core.specs.Seq.{is_before, later_of}
+use Rattle.sock_core.specs.declared.congestion.AnyController.{AnyController}
+use Rattle.sock_core.specs.declared.congestion.AnyController.TheVariants as controller
+use Rattle.sock_tcp.specs.Advance.{controller_taken}
+use Rattle.sock_tcp.specs.Queue.{Queue, capacity}
+use Rattle.sock_tcp.specs.Settings.{of_kind}
+use Rattle.sock_tcp.specs.Steps.{begins_probe, probe_ended, probe_set, timer_acked}
+use Rattle.sock_tcp.specs.Timers.{idle_from, probe_from, retransmit_from}
+use Rattle.sock_tcp.specs.View.{View}
+use Rattle.sock_tcp.specs.declared.acked.Acked.{Acked}
+use Rattle.sock_tcp.specs.declared.settings.CongestionControl.{CongestionControl}
+use Rattle.sock_tcp.specs.declared.settings.CongestionControl.TheVariants as kind
+use Rattle.sock_tcp.specs.declared.state.State.{State}
+use Rattle.sock_tcp.specs.declared.state.State.TheVariants as state
+use Rattle.sock_tcp.specs.declared.timer.Timer.{Timer}
+use Rattle.sock_tcp.specs.declared.timer.Timer.TheVariants as timer
+use Rattle.sock_tcp.specs.declared.tuple.Tuple.{Tuple}
+use Rattle.sock_tcp.proofs.Windows.{far, not_far}
+
+-- ---- the invariant
+
+abbrev pub is_close : Timer → Bool
+is_close (timer.Close at) = true
+is_close t = false
+
+-- with a keep-alive interval an idle timer has a moment
+abbrev pub HasMoment : Timer → Option Duration → Type 0
+HasMoment (timer.Idle None) keep = keep ≡ None
+HasMoment t keep = Unit {0}
+
+-- the SYN is unsent, or waited for
+abbrev pub IsOpening : Timer → ℕ → Type 0
+IsOpening (timer.Idle at) flight = flight ≡ 0
+IsOpening (timer.Retransmit at) flight = Unit {0}
+IsOpening t flight = ⊥
+
+-- by state, with what is in flight and the length of the transmit queue
+abbrev pub Row : State → Timer → Option Duration → ℕ → ℕ → Type 0
+Row state.Closed t keep flight n = Unit {0}
+Row state.Listen t keep flight n = n ≡ 0
+Row state.SynSent t keep flight n = IsOpening t flight × (n ≡ 0)
+Row state.SynReceived t keep flight n = HasMoment t keep × (n ≡ 0) × (flight ≤ 1)
+Row state.Established t keep flight n = HasMoment t keep × (flight ≤ n)
+Row state.CloseWait t keep flight n = HasMoment t keep × (flight ≤ n)
+Row state.FinWait1 t keep flight n = HasMoment t keep × (flight ≤ n + 1)
+Row state.Closing t keep flight n = HasMoment t keep × (flight ≤ n + 1)
+Row state.LastAck t keep flight n = HasMoment t keep × (flight ≤ n + 1)
+Row state.FinWait2 t keep flight n = HasMoment t keep × (n ≡ 0) × (flight ≡ 0)
+Row state.TimeWait t keep flight n = (is_close t ≡ true) × (n ≡ 0) × (flight ≡ 0)
+
+-- every state but CLOSED and LISTEN has a peer, and LISTEN has none
+abbrev pub IsPeeredIn : State → Option Tuple → Type 0
+IsPeeredIn state.Closed o = Unit {0}
+IsPeeredIn state.Listen o = o ≡ None
+IsPeeredIn _ o = is_some o ≡ true
+
+-- the congestion window never closes
+pub record RenoOpen (r : RenoNumbers) : Type 0 where
+  pub cwnd : 0 < r.cwnd
+  pub mss : 0 < r.mss
+  pub ssthresh : 0 < r.ssthresh
+
+abbrev pub IsOpen : AnyController → Type 0
+IsOpen (controller.None n) = Unit {0}
+IsOpen (controller.Reno r) = RenoOpen r
+
+pub record Ordered (st : State) (t : Timer) (keep : Option Duration) (peer : Option Tuple) (una nxt : TcpSeqNumber) (q : Queue) (c : AnyController) : Type 0 where
+  pub una_small : una.0 < 2 ^ 32
+  pub nxt_small : nxt.0 < 2 ^ 32
+  pub room : capacity q ≤ 2 ^ 30
+  pub congestion : IsOpen c
+  pub peered : IsPeeredIn st peer
+  pub row : Row st t keep (seq_sub nxt una) (length q.bytes)
+
+abbrev pub IsOrdered : View → Type 0
+IsOrdered v = Ordered v.state v.timer v.keep_alive v.tuple v.local_seq_no v.remote_last_seq v.tx_buffer v.congestion_controller
+
+-- ---- numbers
+
+-- what is in flight once k is acknowledged
+pub left_in_flight : (nxt k una : TcpSeqNumber) → nxt.0 < 2 ^ 32 → k.0 < 2 ^ 32 → una.0 < 2 ^ 32 → seq_sub nxt una < 2 ^ 31 → seq_sub k una < 2 ^ 31 → seq_sub (later_of nxt k) k ≡ seq_sub nxt una - seq_sub k una
+unfolding later_of
+left_in_flight nxt k una hn hk hu fn fk = go (is_before nxt k) refl
+  where
+    go : (b : Bool) → is_before nxt k ≡ b → seq_sub (if b then k else nxt) k ≡ seq_sub nxt una - seq_sub k una
+    go true e = omega (arith, far nxt k e)
+    go false e = omega (arith, not_far nxt k e)
+
+pub less_in_flight : (k nxt una : TcpSeqNumber) → k.0 < 2 ^ 32 → nxt.0 < 2 ^ 32 → una.0 < 2 ^ 32 → seq_sub nxt una < 2 ^ 31 → seq_sub k una < 2 ^ 31 → is_before k nxt ≡ true → seq_sub k una < seq_sub nxt una
+less_in_flight k nxt una hk hn hu fn fk e = omega (arith, far k nxt e)
+
+pub later_small : (a b : TcpSeqNumber) → a.0 < 2 ^ 32 → b.0 < 2 ^ 32 → (later_of a b).0 < 2 ^ 32
+unfolding later_of
+later_small a b ha hb = go (is_before a b)
+  where
+    go : (t : Bool) → (if t then b else a).0 < 2 ^ 32
+    go true = hb
+    go false = ha
+
+-- neither of two numbers lies further off, nor does the later one
+pub later_within : (a b una : TcpSeqNumber) (n : ℕ) → seq_sub a una ≤ n → seq_sub b una ≤ n → seq_sub (later_of a b) una ≤ n
+unfolding later_of
+later_within a b una n ha hb = go (is_before a b)
+  where
+    go : (t : Bool) → seq_sub (if t then b else a) una ≤ n
+    go true = hb
+    go false = ha
+
+pub no_distance : (una : TcpSeqNumber) → una.0 < 2 ^ 32 → seq_sub una una ≡ 0
+no_distance una h = omega arith
+
+-- ---- timers
+
+pub idle_has_moment : (now : Instant) (keep : Option Duration) → HasMoment (idle_from now keep) keep
+idle_has_moment now None = refl
+idle_has_moment now (Some d) = tt
+
+module _ (now : Instant) (a : Acked) where
+  acked_has_moment : (t : Timer) (v : View) → HasMoment (timer_acked t v now a) v.keep_alive
+  acked_has_moment t v = by t
+    where
+      waits : (t : Timer) → HasMoment t v.keep_alive → (all : Bool) (none : Bool) → HasMoment (if all then idle_from now v.keep_alive else (if none then t else retransmit_from now v.rtte)) v.keep_alive
+      waits t h true none = idle_has_moment now v.keep_alive
+      waits t h false true = h
+      waits t h false false = tt
+
+      by : (t : Timer) → HasMoment (timer_acked t v now a) v.keep_alive
+      by (timer.Idle at) = idle_has_moment now v.keep_alive
+      by (timer.Retransmit at) = waits (timer.Retransmit at) tt a.all (a.len == 0)
+      by timer.FastRetransmit = waits timer.FastRetransmit tt a.all (a.len == 0)
+      by (timer.ZeroWindowProbe at delay) = tt
+      by (timer.Close at) = tt
+
+  probed_has_moment : (t : Timer) (v : View) → HasMoment t v.keep_alive → HasMoment (probe_set t v now a) v.keep_alive
+  probed_has_moment t v h = go (v.remote_win_len == 0)
+    where
+      begins : (b : Bool) → HasMoment (if b then probe_from now v.rtte else t) v.keep_alive
+      begins true = tt
+      begins false = h
+
+      ends : (t : Timer) → HasMoment t v.keep_alive → HasMoment (probe_ended t v now) v.keep_alive
+      ends (timer.ZeroWindowProbe at delay) h = idle_has_moment now v.keep_alive
+      ends _ h = h
+
+      go : (b : Bool) → HasMoment (if b then (if begins_probe t v a then probe_from now v.rtte else t) else probe_ended t v now) v.keep_alive
+      go true = begins (begins_probe t v a)
+      go false = ends t h
+
+  pub set_has_moment : (t : Timer) (v : View) → HasMoment (probe_set (timer_acked t v now a) v now a) v.keep_alive
+  set_has_moment t v = probed_has_moment (timer_acked t v now a) v (acked_has_moment t v)
+
+  -- TIME-WAIT's timer stays, where no bytes are in the queue
+  pub close_stays : (t : Timer) (v : View) → is_close t ≡ true → length v.tx_buffer.bytes ≡ 0 → is_close (probe_set (timer_acked t v now a) v now a) ≡ true
+  close_stays (timer.Close at) v e z = go (v.remote_win_len == 0)
+    where
+      go : (b : Bool) → is_close (if b then (if begins_probe (timer.Close at) v a then probe_from now v.rtte else timer.Close at) else timer.Close at) ≡ true
+      go true = rw z refl
+      go false = refl
+  close_stays (timer.Idle at) v e z = absurd cc
+  close_stays (timer.Retransmit at) v e z = absurd cc
+  close_stays timer.FastRetransmit v e z = absurd cc
+  close_stays (timer.ZeroWindowProbe at delay) v e z = absurd cc
+
+-- ---- the congestion window
+
+module _ (r : RenoNumbers) (h : RenoOpen r) where
+  fits_word : (n : ℕ) → 0 < n → 0 < congestion.capped n
+  fits_word n p = omega (arith, p)
+
+  bounded_open : (n : ℕ) → 0 < congestion.bounded r n
+  bounded_open n = omega (arith, h.mss)
+
+  halved_open : (flight : ℕ) → 0 < congestion.halved r flight
+  halved_open flight = omega (arith, h.mss)
+
+  reno_acked_open : (n : ℕ) → RenoOpen (congestion.reno_acked r n)
+  unfolding congestion.reno_acked
+  reno_acked_open n = go (n == 0)
+    where
+      window : (b : Bool) → 0 < (if b then r.ssthresh else congestion.bounded r (r.cwnd + congestion.growth r n))
+      window true = h.ssthresh
+      window false = bounded_open (r.cwnd + congestion.growth r n)
+
+      go : (b : Bool) → RenoOpen (if b then r else congestion.reno_gains r n)
+      go true = h
+      go false = record { cwnd = window r.in_recovery; mss = h.mss; ssthresh = h.ssthresh }
+
+  reno_dup_open : (n : ℕ) → RenoOpen (congestion.reno_dup_acked r n)
+  unfolding congestion.reno_dup_acked
+  reno_dup_open n = go r.in_recovery
+    where
+      go : (b : Bool) → RenoOpen (if b then record r { cwnd = congestion.bounded r (r.cwnd + n) } else r)
+      go true = record { cwnd = bounded_open (r.cwnd + n); mss = h.mss; ssthresh = h.ssthresh }
+      go false = h
+
+  reno_lost_open : (flight : ℕ) → RenoOpen (congestion.reno_lost r flight)
+  unfolding congestion.reno_lost
+  reno_lost_open flight = go r.in_recovery
+    where
+      go : (b : Bool) → RenoOpen (if b then r else record r { ssthresh = congestion.halved r flight; cwnd = congestion.capped (min (congestion.halved r flight) r.rwnd + congestion.capped (r.mss * 3)); in_recovery = true })
+      go true = h
+      go false = record { cwnd = omega (arith, h.mss); mss = h.mss; ssthresh = halved_open flight }
+
+  reno_timed_out_open : (flight : ℕ) → RenoOpen (congestion.reno_timed_out r flight)
+  unfolding congestion.reno_timed_out
+  reno_timed_out_open flight = record { cwnd = h.mss; mss = h.mss; ssthresh = go r.in_timeout }
+    where
+      go : (b : Bool) → 0 < (if b then r.ssthresh else congestion.halved r flight)
+      go true = h.ssthresh
+      go false = halved_open flight
+
+pub acked_open : (c : AnyController) (n : ℕ) → IsOpen c → IsOpen (congestion.acked c n)
+acked_open (controller.None x) n h = tt
+acked_open (controller.Reno r) n h = reno_acked_open r h n
+
+pub dup_acked_open : (c : AnyController) (n : ℕ) → IsOpen c → IsOpen (congestion.dup_acked c n)
+dup_acked_open (controller.None x) n h = tt
+dup_acked_open (controller.Reno r) n h = reno_dup_open r h n
+
+pub lost_open : (c : AnyController) (n : ℕ) → IsOpen c → IsOpen (congestion.lost c n)
+lost_open (controller.None x) n h = tt
+lost_open (controller.Reno r) n h = reno_lost_open r h n
+
+pub timed_out_open : (c : AnyController) (n : ℕ) → IsOpen c → IsOpen (congestion.timed_out c n)
+timed_out_open (controller.None x) n h = tt
+timed_out_open (controller.Reno r) n h = reno_timed_out_open r h n
+
+pub window_open : (c : AnyController) (n : ℕ) → IsOpen c → IsOpen (congestion.with_remote_window c n)
+window_open (controller.None x) n h = tt
+window_open (controller.Reno r) n h = record { cwnd = h.cwnd; mss = h.mss; ssthresh = h.ssthresh }
+
+mss_open : (c : AnyController) (n : ℕ) → IsOpen c → IsOpen (congestion.with_mss c (max n 48))
+mss_open (controller.None x) n h = tt
+mss_open (controller.Reno r) n h = record { cwnd = h.cwnd; mss = omega arith; ssthresh = h.ssthresh }
+
+pub taken_open : (c : AnyController) (o : Option ℕ) → IsOpen c → IsOpen (controller_taken c o)
+taken_open c None h = h
+taken_open c (Some n) h = go (n == 0)
+  where
+    go : (b : Bool) → IsOpen (if b then c else congestion.with_mss c (max n 48))
+    go true = h
+    go false = mss_open c n h
+
+pub kind_open : (k : CongestionControl) → IsOpen (of_kind k)
+kind_open kind.None = tt
+kind_open kind.Reno = record { cwnd = omega arith; mss = omega arith; ssthresh = omega arith }
