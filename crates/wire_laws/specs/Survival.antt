@@ -1,0 +1,34 @@
+-- Segments that a packet carries to the other side unchanged.
+use Rattle.std.specs.Prelude.{◌≡◌, ◌≤◌, length, Option, Some, Result, option_map}
+use Rattle.std.specs.Option.{ForSome}
+use Rattle.ip_wire.specs.declared.checksum.ChecksumCapabilities.{ChecksumCapabilities}
+use Rattle.ip_wire.specs.declared.repr.IpRepr.{IpRepr}
+use Rattle.control_wire.specs.Fits.{HasPorts}
+use Rattle.control_wire.specs.Segment.{Segment}
+use Rattle.segment_wire.specs.Packet.{tcp_packet, tcp_packet_parsed}
+use Rattle.segment_wire.specs.RoundTrip.{TestsWhatIsSent}
+use Rattle.sock_core.specs.Emission.{Emits}
+use Rattle.sock_tcp.specs.Content.{Sending}
+use Rattle.sock_tcp.specs.Dispatch.{EmitTcp, packet_in}
+use Rattle.sock_tcp.specs.Outgoing.{packet_of}
+use Rattle.wire_laws.specs.Fields.{HasWidths}
+
+-- What is read of the packet's octets is what was written, where neither port is 0, which no segment on a wire has;
+-- with any checksums, where what is tested was also sent
+abbrev pub Survives : IpRepr → Segment → Type 0
+Survives ip s =
+    HasPorts s → (sender receiver : ChecksumCapabilities) → TestsWhatIsSent sender receiver
+    → tcp_packet_parsed receiver (tcp_packet sender ip s) ≡ Some (record { ip = ip; segment = s })
+
+-- A dispatch, with the emit that is called once with what goes out, or not at all; and what goes out survives. That its
+-- numbers have the bits of their types is no condition on it: so it is with each value of these types (`has_widths`)
+pub record DispatchesSurviving {F C E : Type 0} (g : EmitTcp F C E) (emit : F) (c : C) (r : Result (Unit {0}) E)
+    (c' : C) : Type 0 where
+  pub out : Option Sending
+  pub emits : Emits g packet_of emit (option_map packet_in out) c r c'
+  pub survives : ForSome out (λ s. HasWidths s.ip s.segment → Survives s.ip s.segment)
+
+-- a socket that accepts the segment may be given it, and answers it by a segment that survives
+pub record MayCome (s : Segment) : Type 0 where
+  pub ports : HasPorts s
+  pub small : length s.payload ≤ 65535
