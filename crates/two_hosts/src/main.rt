@@ -23,7 +23,7 @@ use crate::packet::Packet;
 use crate::trace::Trace;
 use crate::wire::Wire;
 use smoltcp_socket::storage::RingBuffer;
-use smoltcp_socket::time::Instant;
+use smoltcp_socket::time::{Duration, Instant};
 use smoltcp_socket::wire::IpAddress;
 use smoltcp_socket::{PollAt, tcp};
 use std::alloc::{AllocError, Global};
@@ -58,15 +58,30 @@ fn number(arg: Option<String>, otherwise: u32) -> u32 {
     }
 }
 
+// How long nothing may be heard of a peer before the connection ends. Without it a lost FIN, or a late window of 0, can
+// leave both hosts waiting for each other for ever.
+const TIMEOUT: Duration = Duration { micros: 60_000_000 };
+
+// After how long a silent peer is asked whether it is there: soon enough that answers may be lost.
+const KEEP_ALIVE: Duration = Duration { micros: 15_000_000 };
+
 // Makes the sockets of both hosts, and runs the hosts. The buffers outlive the sockets.
 fn simulate(alloc: Global, seed: u32, loss: u32) -> Result<Trace, AllocError> {
     let (mut rx_a, mut tx_a) = ([0u8; 256], [0u8; 256]);
     let (mut rx_b, mut tx_b) = ([0u8; 256], [0u8; 256]);
     let (mut memory_a, mut memory_b) = (Memory::new(), Memory::new());
-    let tcp_a = tcp::Socket::new(RingBuffer::new(&mut rx_a), RingBuffer::new(&mut tx_a));
-    let tcp_b = tcp::Socket::new(RingBuffer::new(&mut rx_b), RingBuffer::new(&mut tx_b));
+    let mut tcp_a = tcp::Socket::new(RingBuffer::new(&mut rx_a), RingBuffer::new(&mut tx_a));
+    let mut tcp_b = tcp::Socket::new(RingBuffer::new(&mut rx_b), RingBuffer::new(&mut tx_b));
+    guard(&mut tcp_a);
+    guard(&mut tcp_b);
     let wire = Wire::new(alloc, seed, loss);
     run(alloc, wire, (tcp_a, &mut memory_a), (tcp_b, &mut memory_b))
+}
+
+// Sees to it that the connection does not wait for ever.
+fn guard(tcp: &mut tcp::Socket<'_>) {
+    tcp.set_timeout(Some(TIMEOUT));
+    tcp.set_keep_alive(Some(KEEP_ALIVE));
 }
 
 // Opens the sockets, and goes on until nothing is left to do.

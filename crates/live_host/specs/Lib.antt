@@ -1,0 +1,2 @@
+pub mod Pcap
+pub mod Words

@@ -1,0 +1,291 @@
+//! The host: its sockets, and the interface layer that serves them.
+ghost use Rattle.std.specs.Prelude.{◌≤◌, length};
+
+use crate::interface::Interface;
+use crate::outbox::Full;
+use crate::pcap::LONGEST;
+use crate::service::{SERVICES, Service};
+use crate::slot::Slot;
+use ip_wire::{Error, IpVersion, Ipv4Packet, Ipv6Packet};
+use segment_wire::{tcp as segment, udp as datagram};
+use smoltcp_socket::tcp::State;
+use smoltcp_socket::wire::{
+    IcmpRepr, Icmpv4Repr, Icmpv6Repr, IpProtocol, IpRepr, Ipv4Repr, Ipv6Repr, TcpControl, TcpRepr,
+    UdpRepr,
+};
+use smoltcp_socket::{Context, tcp, udp};
+use std::alloc::{AllocError, Global};
+
+// How many segments one socket may emit before the next one has its turn.
+const TURN: usize = 64;
+
+// How often the sockets have their turn before the next packet is read.
+const ROUNDS: usize = 16;
+
+/// What came of the packets that arrived.
+#[derive(Debug, Clone, Copy, Default)]
+pub struct Counts {
+    /// Packets that arrived.
+    pub arrived: u64,
+    /// Of these, with a wrong header, checksum or length.
+    pub malformed: u64,
+    /// For another address or protocol, or a fragment.
+    pub unwanted: u64,
+    /// Segments for no socket.
+    pub refused: u64,
+}
+
+/// A host with one interface.
+#[derive(Drop)]
+pub struct Host<'a> {
+    alloc: Global,
+    slots: Vec<Slot<'a>>,
+    udp: udp::Socket<'a>,
+    interface: Interface,
+    counts: Counts,
+}
+
+impl<'a> Host<'a> {
+    /// A host with these sockets.
+    pub fn new(
+        alloc: Global,
+        slots: Vec<Slot<'a>>,
+        udp: udp::Socket<'a>,
+        interface: Interface,
+    ) -> Host<'a> {
+        Host {
+            alloc,
+            slots,
+            udp,
+            interface,
+            counts: Counts::default(),
+        }
+    }
+
+    /// What came of the packets so far.
+    pub fn counts(&self) -> Counts {
+        self.counts
+    }
+
+    /// The records of the packets that are to be written.
+    pub fn records(&self) -> &[u8] {
+        self.interface.records()
+    }
+
+    /// Takes an IP packet at a moment, in microseconds; one of no bytes only says what time it is. What the sockets
+    /// answer, and what is due, waits to be written afterwards, in place of what waited before.
+    pub fn receive(&mut self, micros: usize, packet: &[u8]) -> Result<(), AllocError> {
+        self.interface.clear();
+        self.interface.set_time(micros);
+        self.listen();
+        if !packet.is_empty() {
+            self.counts.arrived = self.counts.arrived.wrapping_add(1);
+            if self.take(packet).is_err() {
+                self.counts.malformed = self.counts.malformed.wrapping_add(1);
+            }
+        }
+        self.serve()
+    }
+
+    // Keeps a socket open for each service: one that is closed, or else one in TIME-WAIT.
+    fn listen(&mut self) {
+        for service in SERVICES {
+            if !self
+                .slots
+                .iter()
+                .any(|slot: &Slot<'_>| slot.listens(service))
+            {
+                self.open(service);
+            }
+        }
+    }
+
+    fn open(&mut self, service: Service) {
+        for wanted in [State::Closed, State::TimeWait] {
+            for slot in &mut self.slots {
+                if slot.state() == wanted {
+                    slot.listen(self.alloc, service);
+                    return;
+                }
+            }
+        }
+    }
+
+    // The services run, and the sockets emit, until nothing is due or there is no room.
+    fn serve(&mut self) -> Result<(), AllocError> {
+        for slot in &mut self.slots {
+            slot.serve(self.alloc)?;
+        }
+        echo_datagrams(&mut self.udp);
+        for slot in &mut self.slots {
+            if slot.dispatch(&mut self.interface, TURN).is_err() {
+                return Ok(());
+            }
+        }
+        let _ = self.udp.dispatch(
+            &mut self.interface,
+            |cx: &mut Interface, sent: (IpRepr, UdpRepr, &[u8])| cx.emit_udp(
+                sent.0, sent.1, sent.2,
+            ),
+        );
+        Ok(())
+    }
+}
+
+// Packets that arrive.
+impl Host<'_> {
+    fn take(&mut self, packet: &[u8]) -> Result<(), Error> {
+        match IpVersion::of_packet(packet)? {
+            IpVersion::Ipv4 => self.take_v4(&Ipv4Packet::new_checked(packet)?),
+            IpVersion::Ipv6 => self.take_v6(&Ipv6Packet::new_checked(packet)?),
+        }
+    }
+
+    fn take_v4(&mut self, packet: &Ipv4Packet<'_>) -> Result<(), Error> {
+        let ip = Ipv4Repr::parse(packet, &self.interface.checksum_caps())?;
+        if is_fragment(packet.buffer) {
+            self.leave();
+            return Ok(());
+        }
+        self.take_payload(&IpRepr::Ipv4(ip), packet.payload())
+    }
+
+    fn take_v6(&mut self, packet: &Ipv6Packet<'_>) -> Result<(), Error> {
+        let ip = Ipv6Repr::parse(packet)?;
+        self.take_payload(&IpRepr::Ipv6(ip), packet.payload())
+    }
+
+    fn take_payload(&mut self, ip: &IpRepr, payload: &[u8]) -> Result<(), Error> {
+        let (src, dst) = (ip.src_addr(), ip.dst_addr());
+        let caps = self.interface.checksum_caps();
+        if !self.interface.has_ip_addr(dst) || payload.len() > LONGEST {
+            self.leave();
+            return Ok(());
+        }
+        match (ip.next_header(), ip) {
+            (IpProtocol::Tcp, _) => {
+                let repr = segment::parse(payload, &src, &dst, &caps)?;
+                self.take_segment(ip, &repr);
+            }
+            (IpProtocol::Udp, _) => {
+                let (repr, bytes) = datagram::parse(payload, &src, &dst, &caps)?;
+                if self.udp.accepts(&self.interface, ip, &repr) {
+                    self.udp.process(&self.interface, ip, &repr, bytes);
+                } else {
+                    self.leave();
+                }
+            }
+            (IpProtocol::Icmp, IpRepr::Ipv4(ip)) => {
+                self.answer_v4(ip, &Icmpv4Repr::parse(payload, &caps)?);
+            }
+            (IpProtocol::Icmpv6, IpRepr::Ipv6(ip)) => {
+                let repr = Icmpv6Repr::parse(&ip.src_addr, &ip.dst_addr, payload, &caps)?;
+                self.answer_v6(ip, &repr);
+            }
+            _ => self.leave(),
+        }
+        Ok(())
+    }
+
+    fn leave(&mut self) {
+        self.counts.unwanted = self.counts.unwanted.wrapping_add(1);
+    }
+
+    // A connection takes its own segments before a listener does. What no socket takes is answered by an RST, unless it
+    // is one; a SYN for a service whose sockets are all taken is dropped, so that the client tries again.
+    fn take_segment(&mut self, ip: &IpRepr, repr: &TcpRepr<'_>) {
+        if repr.payload.len() > LONGEST || self.give(ip, repr, false) || self.give(ip, repr, true) {
+            return;
+        }
+        self.counts.refused = self.counts.refused.wrapping_add(1);
+        if repr.control == TcpControl::Rst
+            || repr.control == TcpControl::Syn && Service::has_port(repr.dst_port)
+        {
+            return;
+        }
+        let (ip, reset) = tcp::Socket::rst_reply(ip, repr);
+        let _ = self.interface.emit_tcp(ip, &reset);
+    }
+
+    // Gives a segment to the first socket that it is for, of those that listen or of the others, and says whether there
+    // was one.
+    fn give(&mut self, ip: &IpRepr, repr: &TcpRepr<'_>, listening: bool) -> bool
+        requires { length repr.now.payload.now ≤ 65535 }
+    {
+        for slot in &mut self.slots {
+            if (slot.state() == State::Listen) == listening
+                && slot.accepts(&self.interface, ip, repr)
+            {
+                slot.process(&mut self.interface, ip, repr);
+                return true;
+            }
+        }
+        false
+    }
+
+    // A ping is answered with what it carries (RFC 792).
+    fn answer_v4(&mut self, ip: &Ipv4Repr, repr: &Icmpv4Repr<'_>) {
+        let Icmpv4Repr::EchoRequest {
+            ident,
+            seq_no,
+            body,
+        } = *repr
+        else {
+            return;
+        };
+        let reply = Icmpv4Repr::EchoReply {
+            ident,
+            seq_no,
+            body,
+        };
+        let ip = Ipv4Repr {
+            src_addr: ip.dst_addr,
+            dst_addr: ip.src_addr,
+            next_header: IpProtocol::Icmp,
+            payload_len: reply.buffer_len(),
+            hop_limit: 64,
+        };
+        let _ = self.interface.emit_icmpv4(ip, &reply);
+    }
+
+    // The same over IPv6 (RFC 4443, section 4.2).
+    fn answer_v6(&mut self, ip: &Ipv6Repr, repr: &Icmpv6Repr<'_>) {
+        let Icmpv6Repr::EchoRequest {
+            ident,
+            seq_no,
+            body,
+        } = *repr
+        else {
+            return;
+        };
+        let reply = Icmpv6Repr::EchoReply {
+            ident,
+            seq_no,
+            body,
+        };
+        let ip = Ipv6Repr {
+            src_addr: ip.dst_addr,
+            dst_addr: ip.src_addr,
+            next_header: IpProtocol::Icmpv6,
+            payload_len: reply.buffer_len(),
+            hop_limit: 64,
+        };
+        let _ = self.interface.emit_icmpv6(ip, &reply);
+    }
+}
+
+// Whether the packet is one of several pieces, which nothing here puts together (RFC 791, section 3.1).
+fn is_fragment(packet: &[u8]) -> bool {
+    match packet {
+        [_, _, _, _, _, _, high, low, ..] => *high % 64 != 0 || *low != 0,
+        _ => true,
+    }
+}
+
+// Sends each datagram back.
+fn echo_datagrams(udp: &mut udp::Socket<'_>) {
+    let mut bytes = [0u8; 2048];
+    if let Ok((count, from)) = udp.recv_slice(&mut bytes) {
+        let _ = udp.send_slice(&bytes[..count], from);
+    }
+}
