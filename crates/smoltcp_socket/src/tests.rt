@@ -19,4 +19,3 @@ mod tcp_process;
 mod texts;
 mod udp;
 mod window_shift;
-mod wire_forms;

@@ -1,10 +1,14 @@
 //! Worked examples of segments and datagrams as bytes, worked out by hand (RFC 9293, section 3.1; RFC 7323; RFC 2018;
 //! RFC 768).
 
-use super::packets::first;
+use crate::{options, packet, tcp, udp};
 use control_wire::{TcpControl, TcpRepr, TcpSeqNumber, TcpTimestampRepr, UdpRepr};
 use ip_wire::{ChecksumCapabilities, IpAddress, IpProtocol, IpRepr, Ipv4Address};
-use segment_wire::{options, packet, tcp, udp};
+
+// The first bytes of these, so many of them, or all.
+fn first(bytes: &[u8], count: usize) -> &[u8] {
+    &bytes[..count.min(bytes.len())]
+}
 
 const A: IpAddress = IpAddress::Ipv4(Ipv4Address([10, 0, 0, 1]));
 
@@ -149,40 +153,58 @@ fn ip(protocol: IpProtocol, payload_len: usize) -> IpRepr {
     IpRepr::new(A, B, protocol, payload_len, 64)
 }
 
-// A whole packet with the SYN, read again.
-fn packet_of_syn() -> bool {
-    let (ip, caps, mut bytes) = (
-        ip(IpProtocol::Tcp, 40),
-        ChecksumCapabilities::default(),
-        [0; 60],
-    );
-    packet::emit_tcp(&ip, &syn(), &mut bytes, &caps);
-    &bytes[20..] == SYN.as_slice() && packet::parse_tcp(&bytes, &caps) == Ok((ip, syn()))
+// The functions that write a packet test what they require of a header that was made without a contract.
+fn segment_packet(ip: &IpRepr, repr: &TcpRepr<'_>, caps: &ChecksumCapabilities) -> [u8; 60] {
+    let mut bytes = [0; 60];
+    let is_whole = ip.header_len() == 20 && ip.payload_len() == 40 && repr.buffer_len() == 40;
+    match ip.next_header() {
+        IpProtocol::Tcp if is_whole => packet::emit_tcp(ip, repr, &mut bytes, caps),
+        _ => {}
+    }
+    bytes
 }
 
-fn packet_of_datagram() -> bool {
-    let (ip, caps, mut bytes) = (
-        ip(IpProtocol::Udp, 10),
-        ChecksumCapabilities::default(),
-        [0; 30],
-    );
-    packet::emit_udp(
-        &ip,
-        &UdpRepr {
-            src_port: 1234,
-            dst_port: 53,
-        },
-        b"hi",
-        &mut bytes,
-        &caps,
-    );
-    &bytes[20..] == DATAGRAM.as_slice()
-        && packet::parse_udp(&bytes, &caps).is_ok()
-        && packet::parse_tcp(&bytes, &caps).is_err()
+fn datagram_packet(ip: &IpRepr, repr: &UdpRepr, caps: &ChecksumCapabilities) -> [u8; 30] {
+    let mut bytes = [0; 30];
+    let is_whole = ip.header_len() == 20 && ip.payload_len() == 10;
+    match ip.next_header() {
+        IpProtocol::Udp if is_whole => packet::emit_udp(ip, repr, b"hi", &mut bytes, caps),
+        _ => {}
+    }
+    bytes
+}
+
+fn segment_in(packet: &[u8]) -> Option<(IpRepr, TcpRepr<'_>)> {
+    packet::parse_tcp(packet, &ChecksumCapabilities::default()).ok()
+}
+
+fn has_datagram(packet: &[u8]) -> bool {
+    packet::parse_udp(packet, &ChecksumCapabilities::default()).is_ok()
+}
+
+// The bytes behind an IPv4 header without options.
+fn behind_header(packet: &[u8]) -> &[u8] {
+    packet.get(20..).unwrap_or(&[])
 }
 
 #[test]
-fn whole_packets(rt: HostRuntime) {
-    assert!(rt; packet_of_syn());
-    assert!(rt; packet_of_datagram());
+fn packet_of_a_segment(rt: HostRuntime) {
+    let ip = ip(IpProtocol::Tcp, 40);
+    let packet = segment_packet(&ip, &syn(), &ChecksumCapabilities::default());
+    assert!(rt; behind_header(&packet) == SYN.as_slice());
+    assert!(rt; segment_in(&packet) == Some((ip, syn())));
+    assert!(rt; !has_datagram(&packet));
+}
+
+#[test]
+fn packet_of_a_datagram(rt: HostRuntime) {
+    let (src_port, dst_port) = (1234, 53);
+    let packet = datagram_packet(
+        &ip(IpProtocol::Udp, 10),
+        &UdpRepr { src_port, dst_port },
+        &ChecksumCapabilities::default(),
+    );
+    assert!(rt; behind_header(&packet) == DATAGRAM.as_slice());
+    assert!(rt; has_datagram(&packet));
+    assert!(rt; segment_in(&packet) == None);
 }
