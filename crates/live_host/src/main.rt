@@ -25,12 +25,21 @@ use std::io::BufReader;
 use std::process::ExitCode;
 use std::{env, io};
 
+// What `--help` prints.
+const HELP: &str = "\
+usage: live_host ADDRESS [SEED]
+
+Is a host of this IPv4 address, as 10.9.0.2, and of the IPv6 address fd00::
+that ends in it. Reads the packets that come to it as a pcap stream (raw IP)
+on standard input, and writes its own as another on standard output.
+
+SEED  what its initial sequence numbers are made of: 0 to 2^64 - 1, 1 where
+      it is left out
+";
+
 fn main(rt: HostRuntime) -> ExitCode {
     match start(&rt) {
-        Ok(counts) => {
-            report(&rt, counts);
-            ExitCode::SUCCESS
-        }
+        Ok(()) => ExitCode::SUCCESS,
         Err(fault) => {
             let status = fault.status();
             let _ = rt.eprintln(fault);
@@ -39,29 +48,66 @@ fn main(rt: HostRuntime) -> ExitCode {
     }
 }
 
+// What the arguments ask for.
+enum Task {
+    Help,
+    Run(Setup),
+}
+
+fn start(rt: &HostRuntime) -> Result<(), Fault> {
+    match task_of(rt)? {
+        Task::Help => match rt.print(HELP) {
+            Ok(()) => Ok(()),
+            Err(_) => Err(Fault::Write),
+        },
+        Task::Run(setup) => {
+            let counts = serve(rt, setup)?;
+            report(rt, counts);
+            Ok(())
+        }
+    }
+}
+
 // Runs the host over standard input and output.
-fn start(rt: &HostRuntime) -> Result<Counts, Fault> {
-    let setup = setup(rt)?;
+fn serve(rt: &HostRuntime, setup: Setup) -> Result<Counts, Fault> {
     let Ok(mut reader) = BufReader::new(rt.alloc(), rt.reader()) else {
         return Err(Fault::Memory);
     };
     run(rt.alloc(), setup, &mut reader, &mut io::writer(rt))
 }
 
-// What the arguments say.
-fn setup(rt: &HostRuntime) -> Result<Setup, Fault> {
+fn task_of(rt: &HostRuntime) -> Result<Task, Fault> {
     let Ok(mut args) = env::args(rt) else {
         return Err(Fault::Memory);
     };
     let _program = args.next();
     let (addr, seed, more) = (args.next(), args.next(), args.next());
-    let addr = addr.and_then(|text: String| address(text.as_str()));
+    if more.is_some() {
+        return Err(Fault::Usage);
+    }
+    if is_help(&addr) && seed.is_none() {
+        return Ok(Task::Help);
+    }
+    let Some(addr) = addr else {
+        return Err(Fault::Usage);
+    };
+    Ok(Task::Run(setup(addr.as_str(), seed)?))
+}
+
+fn is_help(word: &Option<String>) -> bool {
+    match word {
+        Some(word) => word.as_str() == "--help",
+        None => false,
+    }
+}
+
+fn setup(addr: &str, seed: Option<String>) -> Result<Setup, Fault> {
     let seed = match seed {
         None => Some(1),
         Some(text) => text.as_str().parse::<u64>().ok(),
     };
-    match (addr, seed, more) {
-        (Some(addr), Some(seed), None) => Ok(Setup { addr, seed }),
+    match (address(addr), seed) {
+        (Some(addr), Some(seed)) => Ok(Setup { addr, seed }),
         _ => Err(Fault::Usage),
     }
 }

@@ -2,11 +2,12 @@
 //! others. Host a talks to an echo server over TCP, asks for a name over UDP, pings, and sends a raw packet. All is
 //! printed line by line.
 //!
-//! `two_hosts [SEED [LOSS]]`: another seed, and how many packets of a hundred get lost.
+//! `two_hosts [SEED [LOSS]]`: another seed, and how many packets of a hundred get lost. `two_hosts --help` says so too.
 #![tactic(auto)]
 
 mod applications;
 mod context;
+mod fault;
 mod host;
 mod memory;
 mod packet;
@@ -17,6 +18,7 @@ use crate::applications::client::Client;
 use crate::applications::server::Server;
 use crate::applications::{client, server};
 use crate::context::{A, B};
+use crate::fault::Fault;
 use crate::host::Host;
 use crate::memory::Memory;
 use crate::packet::Packet;
@@ -27,7 +29,8 @@ use smoltcp_socket::time::{Duration, Instant};
 use smoltcp_socket::wire::IpAddress;
 use smoltcp_socket::{PollAt, tcp};
 use std::alloc::{AllocError, Global};
-use std::{env, io};
+use std::env;
+use std::process::ExitCode;
 
 // The seed where no argument gives one.
 const SEED: u32 = 2565;
@@ -41,20 +44,82 @@ const ROUNDS: u32 = 10_000;
 // At most so many packets arrive at one host and the other in a round; the rest arrive in the next.
 const ARRIVALS: u32 = 100;
 
-fn main(rt: HostRuntime) -> io::Result<()> {
-    let mut args = env::args(&rt)?;
-    let _program = args.next();
-    let seed = number(args.next(), SEED);
-    let loss = number(args.next(), LOSS);
-    let trace = simulate(rt.alloc(), seed, loss)?;
-    rt.print(trace.text.as_str())
+// What `--help` prints.
+const HELP: &str = "\
+usage: two_hosts [SEED [LOSS]]
+
+Runs two hosts in memory, each with a socket of every kind, over a wire that
+loses packets and lets some overtake others, and prints what happens.
+
+SEED  decides which packets get lost and how long the others take: 0 to
+      4294967295, 2565 where it is left out
+LOSS  how many packets of a hundred get lost: 0 to 100, 20 where it is left out
+";
+
+fn main(rt: HostRuntime) -> ExitCode {
+    match start(&rt) {
+        Ok(()) => ExitCode::SUCCESS,
+        Err(fault) => {
+            let status = fault.status();
+            let _ = rt.eprintln(fault);
+            ExitCode::from(status)
+        }
+    }
 }
 
-// The number that an argument gives; where there is none, or it is no number, the other.
-fn number(arg: Option<String>, otherwise: u32) -> u32 {
-    match arg {
-        None => otherwise,
-        Some(text) => text.as_str().parse::<u32>().unwrap_or(otherwise),
+// What the arguments ask for.
+enum Task {
+    Help,
+    Simulate { seed: u32, loss: u32 },
+}
+
+fn start(rt: &HostRuntime) -> Result<(), Fault> {
+    let written = match task_of(rt)? {
+        Task::Help => rt.print(HELP),
+        Task::Simulate { seed, loss } => {
+            let trace = simulate(rt.alloc(), seed, loss)?;
+            rt.print(trace.text.as_str())
+        }
+    };
+    match written {
+        Ok(()) => Ok(()),
+        Err(_) => Err(Fault::Write),
+    }
+}
+
+fn task_of(rt: &HostRuntime) -> Result<Task, Fault> {
+    let Ok(mut args) = env::args(rt) else {
+        return Err(Fault::Memory);
+    };
+    let _program = args.next();
+    let (seed, loss, more) = (args.next(), args.next(), args.next());
+    if more.is_some() {
+        return Err(Fault::Usage);
+    }
+    if is_help(&seed) && loss.is_none() {
+        return Ok(Task::Help);
+    }
+    Ok(Task::Simulate {
+        seed: number(seed, SEED, u32::MAX)?,
+        loss: number(loss, LOSS, 100)?,
+    })
+}
+
+fn is_help(word: &Option<String>) -> bool {
+    match word {
+        Some(word) => word.as_str() == "--help",
+        None => false,
+    }
+}
+
+// The number of an argument, up to `most`; where there is no argument, the other.
+fn number(arg: Option<String>, otherwise: u32, most: u32) -> Result<u32, Fault> {
+    let Some(text) = arg else {
+        return Ok(otherwise);
+    };
+    match text.as_str().parse::<u32>() {
+        Ok(number) if number <= most => Ok(number),
+        _ => Err(Fault::Usage),
     }
 }
 
