@@ -35,6 +35,7 @@ use Rattle.sock_tcp.specs.declared.error.RecvError.{RecvError}
 use Rattle.sock_tcp.specs.declared.error.SendError.{SendError}
 use Rattle.sock_tcp.specs.declared.settings.CongestionControl.{CongestionControl}
 use Rattle.sock_tcp.specs.declared.state.State.{State}
+use Rattle.sock_tcp.specs.declared.state.State.TheVariants as state
 use Rattle.sock_tcp.specs.declared.tuple.Tuple.{Tuple}
 
 -- ---- the counts
@@ -180,7 +181,8 @@ pub record IsNumbered (s : Segment) : Type 0 where
   pub ack_number : ForSome s.ack_number (λ a. a.0 < 2 ^ 32)
 
 -- A call on a socket v with the counts k leaves the socket w with the counts j: what the contract of the call says of
--- the socket, in any context and for any closure, and what is counted. A segment that comes is any
+-- the socket, in any context and for any closure, and what is counted. A segment that comes is any, but that in LISTEN
+-- it has no acknowledgement: `accepts` holds of none that has one
 pub data Step (v : View) (k : Counts) (w : View) (j : Counts) : Type 0 where
   Listen : (e : IpListenEndpoint) (r : Result (Unit {0}) ListenError)
       → Listens v e r w
@@ -210,6 +212,7 @@ pub data Step (v : View) (k : Counts) (w : View) (j : Counts) : Type 0 where
       → j ≡ k → Step v k w j
   Process : (now : Instant) (word : ℕ) (ip : IpRepr) (s : Segment)
       → word < 2 ^ 32 → IsNumbered s → length s.payload ≤ 65535
+      → (v.state ≡ state.Listen → s.ack_number ≡ None)
       → w ≡ (processed v now word ip s).view
       → j ≡ starting_if (listens_again v.state w.state) w (with_segment k v w) → Step v k w j
   Dispatch : (f : Facts) (stamps : Bool) (out : Option Sending)
