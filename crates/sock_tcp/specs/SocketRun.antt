@@ -69,6 +69,14 @@ with_segment k v w =
       joined = k.joined ++ drop (length v.rx_buffer.bytes) w.rx_buffer.bytes;
     }
 
+-- a listener whose peer gave up listens again; its queues stay as they are
+abbrev pub listens_again : State → State → Bool
+listens_again before after = not (is_listening before) && is_listening after
+
+-- what a segment brought and acknowledged, or a new connection where the socket listens again
+abbrev pub after_segment : Counts → View → View → Counts
+after_segment k v w = starting_if (listens_again v.state w.state) w (with_segment k v w)
+
 -- ---- which bytes a call accepted or handed out
 
 -- `send_slice` of bs
@@ -119,10 +127,6 @@ taken_out may v r w h = []
 -- `listen` opens a socket that is not open
 abbrev pub opens_listener : View → IpListenEndpoint → Bool
 opens_listener v e = not (e.port == 0) && not (is_open v.state)
-
--- a listener whose peer gave up listens again; its queues stay as they are
-abbrev pub listens_again : State → State → Bool
-listens_again before after = not (is_listening before) && is_listening after
 
 -- a dispatch without the local address resets the socket
 abbrev pub is_address_lost : Option Tuple → Facts → Bool
@@ -214,7 +218,7 @@ pub data Step (v : View) (k : Counts) (w : View) (j : Counts) : Type 0 where
       → word < 2 ^ 32 → IsNumbered s → length s.payload ≤ 65535
       → (v.state ≡ state.Listen → s.ack_number ≡ None)
       → w ≡ (processed v now word ip s).view
-      → j ≡ starting_if (listens_again v.state w.state) w (with_segment k v w) → Step v k w j
+      → j ≡ after_segment k v w → Step v k w j
   Dispatch : (f : Facts) (stamps : Bool) (out : Option Sending)
       → Dispatched f stamps v out w
       → j ≡ starting_if (is_reset v f stamps) w k → Step v k w j
