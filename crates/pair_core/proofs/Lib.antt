@@ -25,6 +25,7 @@ pub mod DispatchKeeps
 pub mod Addresses
 pub mod PairHosts
 pub mod PairGoes
+pub mod PairPorts
 pub mod ShownReplies
 pub mod ShownRows
 pub mod ShownSteps

@@ -1,14 +1,14 @@
 -- Where a side has no work, the other took all that it accepted.
 use Rattle.std.proofs.Common.{◌≡◌, ℕ, ◌-◌, ◌≤◌, length, drop, refl, sym, ap, subst, ◌∙◌, arith, length-drop}
 use Rattle.sock_tcp.specs.View.{View}
-use Rattle.sock_tcp.specs.Work.{IsReached, NoWorkNoBytes, has_work}
+use Rattle.sock_tcp.specs.Work.{IsReached, NoWorkNoBytes}
 use Rattle.sock_tcp.specs.declared.state.State.{State}
 use Rattle.sock_tcp.specs.declared.state.State.TheVariants as state
 use Rattle.pair_core.specs.NetworkInvariant.{StreamInvariant}
 use Rattle.pair_core.specs.PairInvariant.{IsHost, IsPair}
-use Rattle.pair_core.specs.PairNetwork.{endpoint_of, is_listener, network_of, phase_of, seen, shown}
+use Rattle.pair_core.specs.PairNetwork.{endpoint_of, phase_of, seen, shown}
 use Rattle.pair_core.specs.PairPromises.{IsReleased}
-use Rattle.pair_core.specs.PairQuiet.{AreReached, NoWorkMeansTaken, TookAll}
+use Rattle.pair_core.specs.PairQuiet.{AreReached, NoWorkMeansTaken}
 use Rattle.pair_core.specs.PairViews.{HostView, PairView}
 use Rattle.pair_core.specs.StreamModel.{Stream}
 use Rattle.pair_core.specs.StreamViews.{HasIss, HasNoIss, SocketView}

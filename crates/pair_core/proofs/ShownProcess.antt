@@ -477,6 +477,10 @@ module _ (v : View) (now : Instant) (word : ℕ) (ip : IpRepr) (s : Segment) (at
   is_tested true w p small_word = windowed in_window refl w p
   is_tested false w p small_word = unwindowed w p small_word
 
+  -- LISTEN lets no segment with an acknowledgement in
+  no_ack : v.state ≡ state.Listen → s.ack_number ≡ None
+  no_ack es = (subst (λ st. AcceptsIn st v ip s) es accepted).0.no_ack
+
   by_the_verdict : (x : Verdict) → verdict_of v s.control s.ack_number ≡ x → word < 2 ^ 32 → IsEffect (by_verdict x v now word ip s)
   by_the_verdict verdicts.Drop e small_word = silent v refl
   by_the_verdict verdicts.Reset e small_word =
@@ -487,7 +491,7 @@ module _ (v : View) (now : Instant) (word : ℕ) (ip : IpRepr) (s : Segment) (at
         answers = ResetReply r.ack.0 refl r.plain (⊎_elim (λ h. inl (ap phase_of h)) (λ h. inr (ap phase_of h)) r.opening) (acks r.ack r.is) (λ h. grind (arith, nat_tests, r.other, h));
         ends = inl refl;
       }
-  by_the_verdict verdicts.Challenge e small_word = answered (challenge_says v.state s.control s.ack_number v.local_seq_no queued e) (challenged v now s) (challenged_there s now v (shown v) refl)
+  by_the_verdict verdicts.Challenge e small_word = answered (challenge_says v.state s.control s.ack_number v.local_seq_no queued no_ack e) (challenged v now s) (challenged_there s now v (shown v) refl)
   by_the_verdict verdicts.Pass e small_word = is_tested (has_window v.state) refl e small_word
 
   pub hears : word < 2 ^ 32 → IsEffect (processed v now word ip s)

@@ -59,7 +59,6 @@ reset_says state.SynSent control.Rst (Some a) una n e = absurd (go (seq_eq a (se
     go false e = cc
 reset_says _ control.Rst o una n e = cc
 reset_says state.Listen c None una n e = cc
-reset_says state.Listen c (Some a) una n e = cc
 reset_says state.SynSent control.Syn None una n e = cc
 reset_says state.SynSent control.Syn (Some a) una n e = record { opening = inl refl; plain = refl; ack = a; is = refl; other = other_ack (seq_eq a (seq_add una 1)) verdicts.Pass (λ h. cc) e }
 reset_says state.SynSent control.None None una n e = cc
@@ -73,25 +72,25 @@ reset_says state.SynReceived control.Syn (Some a) una n e = record { opening = i
 reset_says state.SynReceived control.Fin (Some a) una n e = record { opening = inr refl; plain = refl; ack = a; is = refl; other = other_ack (seq_eq a (seq_add una 1)) verdicts.Pass (λ h. cc) e }
 reset_says st c (Some a) una n e = absurd (never_reset (is_before a una) (is_before (seq_add una (n + fin_place st)) a) e)
 
--- only a state that knows the peer challenges, or CLOSED
-pub challenge_says : (st : State) (c : TcpControl) (o : Option TcpSeqNumber) (una : TcpSeqNumber) (n : ℕ) → verdict_at st c o una n ≡ verdicts.Challenge → has_window st ≡ true
+-- only a state that knows the peer challenges, or CLOSED, where LISTEN lets in no segment with an acknowledgement
+pub challenge_says : (st : State) (c : TcpControl) (o : Option TcpSeqNumber) (una : TcpSeqNumber) (n : ℕ) → (st ≡ state.Listen → o ≡ None) → verdict_at st c o una n ≡ verdicts.Challenge → has_window st ≡ true
 unfolding verdict_at
-challenge_says state.SynSent control.Rst None una n e = cc
-challenge_says state.SynSent control.Rst (Some a) una n e = absurd (never_challenged (seq_eq a (seq_add una 1)) verdicts.Drop (λ h. cc) e)
-challenge_says _ control.Rst o una n e = cc
-challenge_says state.Listen c None una n e = cc
-challenge_says state.Listen c (Some a) una n e = cc
-challenge_says state.SynSent control.Syn None una n e = cc
-challenge_says state.SynSent control.Syn (Some a) una n e = absurd (never_challenged (seq_eq a (seq_add una 1)) verdicts.Reset (λ h. cc) e)
-challenge_says state.SynSent control.None None una n e = cc
-challenge_says state.SynSent control.None (Some a) una n e = absurd (go (seq_eq a (seq_add una 1)) e)
+challenge_says state.SynSent control.Rst None una n bare e = cc
+challenge_says state.SynSent control.Rst (Some a) una n bare e = absurd (never_challenged (seq_eq a (seq_add una 1)) verdicts.Drop (λ h. cc) e)
+challenge_says _ control.Rst o una n bare e = cc
+challenge_says state.Listen c None una n bare e = cc
+challenge_says state.Listen c (Some a) una n bare e = let no : Some a ≡ None = bare refl in cc
+challenge_says state.SynSent control.Syn None una n bare e = cc
+challenge_says state.SynSent control.Syn (Some a) una n bare e = absurd (never_challenged (seq_eq a (seq_add una 1)) verdicts.Reset (λ h. cc) e)
+challenge_says state.SynSent control.None None una n bare e = cc
+challenge_says state.SynSent control.None (Some a) una n bare e = absurd (go (seq_eq a (seq_add una 1)) e)
   where
     go : (b : Bool) → cond b verdicts.Drop verdicts.Reset ≡ verdicts.Challenge → ⊥
     go true e = cc
     go false e = cc
-challenge_says state.SynSent control.Psh o una n e = cc
-challenge_says state.SynSent control.Fin o una n e = cc
-challenge_says st c o una n e = refl
+challenge_says state.SynSent control.Psh o una n bare e = cc
+challenge_says state.SynSent control.Fin o una n bare e = cc
+challenge_says st c o una n bare e = refl
 
 -- a segment that passes in a state with a window acknowledges something, or is an RST
 pub passes_with : (st : State) (c : TcpControl) (o : Option TcpSeqNumber) (una : TcpSeqNumber) (n : ℕ) → has_window st ≡ true → is_rst c ≡ false → verdict_at st c o una n ≡ verdicts.Pass → (k : TcpSeqNumber) × (o ≡ Some k)

@@ -95,7 +95,7 @@ impl<'a> Pair<'a> {
 }
 
 impl<'a, G: TsvalSource> Pair<'a, G> {
-    ghost use Rattle.control_wire.specs.Fits.{FitsPacket};
+    ghost use Rattle.control_wire.specs.Fits.{FitsPacket, HasPorts};
     ghost use Rattle.std.specs.Prelude.{map};
     ghost use Rattle.pair_core.specs.PairViews.{host_of};
     ghost use Rattle.pair_core.specs.PairCalls.{listening, connecting, OpensAs, is_over, Sends, Receives, Closes, Aborts, Sets};
@@ -353,6 +353,14 @@ impl<'a, G: TsvalSource> Pair<'a, G> {
         if index < self.segments.len() {
             self.segments[index].fits();
         }
+    }
+
+    /// Says that the segment of this index, where there is one, goes from a port that is not 0 to one that is not 0: they
+    /// are those of the pair's two ends, of which `new` asks it.
+    pub fn segment_has_ports(&self, index: usize)
+        ensures { ForSome (slice_get self.now.segments index) (λ t. HasPorts t.segment) }
+    {
+        self.is_pair();
     }
 
     fn event_in_range(&self, event: &Event)

@@ -5,6 +5,7 @@ pub mod Orders
 pub mod RawOrders
 pub mod RawSetting
 pub mod RawTwice
+pub mod Reading
 pub mod Storing
 pub mod UdpOrders
 pub mod UdpSources

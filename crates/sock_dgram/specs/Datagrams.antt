@@ -49,6 +49,11 @@ module _ {M : Type 0} where
   take_answer None = Err recv_error.Exhausted
   take_answer (Some d) = Ok tt
 
+  -- the same with the packet, by value
+  abbrev pub read_answer : Option (M × List ℕ) → Result (M × List ℕ) RecvError
+  read_answer None = Err recv_error.Exhausted
+  read_answer (Some d) = Ok d
+
   -- an answer that lends the metadata, by value
   abbrev pub copied_of : Result (ℕ × Bor M) RecvError → Result (ℕ × M) RecvError
   copied_of (Ok r) = Ok (r.0, r.1.now)

@@ -1,5 +1,5 @@
 -- The calls of a raw socket, each with its effect on it: the clauses of the call's own contract.
-use Rattle.std.specs.Prelude.{ℕ, ◌≡◌, List, [], ◌∷◌, ◌++◌, length, map, take, cond, Some, Result, Ok, Err}
+use Rattle.std.specs.Prelude.{ℕ, ◌≡◌, List, [], ◌∷◌, ◌++◌, length, map, take, cond, Option, None, Some, Result, Ok, Err}
 use Rattle.std.specs.Prelude.{IfOk, is_ok, true, false}
 use Rattle.std.specs.Borrow.{Bor, MutBor}
 use Rattle.std.specs.Fn.{Once, FnOnceReturnsAtMut}
@@ -14,6 +14,7 @@ use Rattle.sock_dgram.specs.RawDispatch.{Outgoing, Dispatched, prepared}
 use Rattle.sock_dgram.specs.RawLends.{Takes}
 use Rattle.sock_dgram.specs.Traffic.{Traffic, nothing, sends, departs, queues, reads, copies_out, Copies}
 use Rattle.sock_dgram.specs.declared.error.RecvError.{RecvError}
+use Rattle.sock_dgram.specs.declared.error.RecvError.TheVariants as recv_error
 use Rattle.sock_dgram.specs.declared.raw.error.SendError.{SendError}
 
 -- a call with what it is given and what it answers. C, E and F are the context, the error and the closure of
@@ -33,6 +34,11 @@ pub data Call (C E F G : Type 0) : Type 0 where
 abbrev pub beside_metadata : Result (List ℕ) RecvError → Result (Unit {0} × List ℕ) RecvError
 beside_metadata (Ok bs) = Ok (tt, bs)
 beside_metadata (Err e) = Err e
+
+-- the bytes of the first packet, where there is one
+abbrev pub bytes_read : Option (Unit {0} × List ℕ) → Result (List ℕ) RecvError
+bytes_read None = Err recv_error.Exhausted
+bytes_read (Some d) = Ok d.1
 
 module _ {C E F G : Type 0} (facts : C → Facts) (emit : Emit F C (IpRepr × Bor (List ℕ)) E)
     (write : Once G (MutBor (List ℕ) × Unit {0}) (ℕ × (MutBor (List ℕ) × Unit {0}))) where

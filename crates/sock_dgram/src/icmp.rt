@@ -8,6 +8,7 @@ mod process;
 mod receive;
 mod send;
 pub mod socket;
+pub mod steps;
 
 pub use crate::error::{BindError, RecvError, SendError};
 pub use endpoint::Endpoint;

@@ -7,6 +7,7 @@ mod process;
 mod receive;
 mod send;
 pub mod socket;
+pub mod steps;
 
 pub use crate::error::{BindError, RecvError};
 pub use error::SendError;

@@ -57,7 +57,6 @@ open_fits st k una a nxt n hu ha hn e =
 some_fits : (st : State) (c : TcpControl) (una a nxt : TcpSeqNumber) (n : ℕ) → una.0 < 2 ^ 32 → a.0 < 2 ^ 32 → n ≤ 2 ^ 30 → verdict_at st c (Some a) una n ≡ verdicts.Pass → (acked_at st c (Some a) una nxt n).len ≤ n
 unfolding verdict_at acked_at
 some_fits _ control.Rst una a nxt n hu ha hn e = omega arith
-some_fits state.Listen _ una a nxt n hu ha hn e = absurd cc
 some_fits state.SynSent control.Syn una a nxt n hu ha hn e = syn_fits una a n hu e
 some_fits state.SynSent control.None una a nxt n hu ha hn e = elim (seq_eq a (seq_add una 1)) as (λ b. cond b verdicts.Drop verdicts.Reset ≡ verdicts.Pass → seq_sub a una - 1 ≤ n) [ true ↦ λ e. absurd cc | false ↦ λ e. absurd cc ] e
 some_fits state.SynSent _ una a nxt n hu ha hn e = absurd cc

@@ -214,9 +214,9 @@ step_keeps_places v w k j c (Recv r h is) b = calm_keeps v w k j (Recv r h is) r
 step_keeps_places v w k j c (Close h is) b = calm_keeps v w k j (Close h is) refl (calm_rx v w k j (same_joined k j is) (ap (λ (x : View). x.rx_buffer) h))
 step_keeps_places v w k j c (Abort h is) b = calm_keeps v w k j (Abort h is) refl (calm_rx v w k j (same_joined k j is) (ap (λ (x : View). x.rx_buffer) h))
 step_keeps_places v w k j c (Set h is) b = calm_keeps v w k j (Set h is) refl (calm_rx v w k j (same_joined k j is) (setting_rx v w h))
-step_keeps_places v w k j c (Process now word ip s small numbered short h is) b =
+step_keeps_places v w k j c (Process now word ip s small numbered short bare h is) b =
     let m : MayTake v s w = subst (MayTake v s) (sym h) (only_appends v now word ip s c.room numbered.seq_number short) in
-    segment_keeps v w k j (Process now word ip s small numbered short h is) s m (no_start (listens_again v.state w.state) w (with_segment k v w) j b is) (λ o bs x. x)
+    segment_keeps v w k j (Process now word ip s small numbered short bare h is) s m (no_start (listens_again v.state w.state) w (with_segment k v w) j b is) (λ o bs x. x)
 step_keeps_places v w k j c (Dispatch f stamps out h is) b = calm_keeps v w k j (Dispatch f stamps out h is) refl (calm_rx v w k j (same_joined k j (no_start (is_reset v f stamps) w k j b is)) (dispatch_rx v w f stamps out b h))
 
 pub places_stay : (rx tx : Ring ℕ) (v w : View) (k j : Counts) → length rx.queue + length rx.spare ≤ 2 ^ 30 → Run (fresh (receiving rx) (queue_of tx)) (starting (fresh (receiving rx) (queue_of tx))) v k → (s : Step v k w j) → begins v k w j s ≡ false → KeepsPlaces v k w j s

@@ -14,6 +14,7 @@ pub mod DispatchFrames
 pub mod PayloadParts
 pub mod SocketSteps
 pub mod CallsAsSteps
+pub mod SegmentsAsSteps
 pub mod BytesAtPlaces
 pub mod Guards
 pub mod Ordered

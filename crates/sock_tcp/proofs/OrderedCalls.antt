@@ -363,7 +363,7 @@ step_ordered v w k j (Recv r h is) i = closure_read (may_recv v) v w r h i
 step_ordered v w k j (Close h is) i = close_ordered v w i h
 step_ordered v w k j (Abort h is) i = abort_ordered v w i h
 step_ordered v w k j (Set h is) i = setting_ordered v w i h
-step_ordered v w k j (Process now word ip s small numbered short h is) i = subst IsOrdered (sym h) (process_ordered now word ip s small numbered.ack_number v i)
+step_ordered v w k j (Process now word ip s small numbered short bare h is) i = subst IsOrdered (sym h) (process_ordered now word ip s small numbered.ack_number v i bare)
 step_ordered v w k j (Dispatch f stamps out h is) i = dispatch_ordered f stamps v w out h i
 
 run_ordered : (v w : View) (k j : Counts) → Run v k w j → IsOrdered v → IsOrdered w

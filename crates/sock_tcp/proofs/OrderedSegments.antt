@@ -43,7 +43,6 @@ FinCovers false d n len = (d ≤ n) × (len ≡ d)
 
 -- an acknowledgement that reaches d places past SND.UNA, of a queue of n bytes: it covers the FIN or not, and len bytes
 abbrev CoversSome : State → Bool → ℕ → ℕ → ℕ → Type 0
-CoversSome state.Listen fin d n len = ⊥
 CoversSome state.SynSent fin d n len = (d ≡ 1) × (len ≡ 0)
 CoversSome state.SynReceived fin d n len = (d ≡ 1) × (len ≡ 0)
 CoversSome state.FinWait1 fin d n len = FinCovers fin d n len
@@ -77,7 +76,6 @@ covers_some : (st : State) (c : TcpControl) (una k nxt : TcpSeqNumber) (n : ℕ)
     → CoversSome st (acked_at st c (Some k) una nxt n).fin (seq_sub k una) n (acked_at st c (Some k) una nxt n).len
 unfolding verdict_at acked_at
 covers_some _ control.Rst una k nxt n nr hu hk hn e = absurd (nr refl)
-covers_some state.Listen _ una k nxt n nr hu hk hn e = absurd cc
 covers_some state.SynSent control.Syn una k nxt n nr hu hk hn e = syn_covers una k hu e
 covers_some state.SynSent control.None una k nxt n nr hu hk hn e = by (is_next k una) e
   where
@@ -272,7 +270,7 @@ module _ (s : Segment) (now : Instant) where
 
   -- ---- the table
 
-  module _ (v : View) (t : Tuple) (word : ℕ) (a : Acked) (o : ℕ) (bs : List ℕ) (small : word < 2 ^ 32) (numbered : ForSome s.ack_number (λ k. k.0 < 2 ^ 32)) (h : IsOrdered v) (covered : a.len ≤ length v.tx_buffer.bytes) where
+  module _ (v : View) (t : Tuple) (word : ℕ) (a : Acked) (o : ℕ) (bs : List ℕ) (small : word < 2 ^ 32) (numbered : ForSome s.ack_number (λ k. k.0 < 2 ^ 32)) (bare : v.state ≡ state.Listen → s.ack_number ≡ None) (h : IsOrdered v) (covered : a.len ≤ length v.tx_buffer.bytes) where
     abbrev n : ℕ
     n = length v.tx_buffer.bytes
 
@@ -345,9 +343,12 @@ module _ (s : Segment) (now : Instant) where
         hu : Hears a state.Established u
         hu = record { state = ap opened_state e; una_small = h.una_small; nxt_small = omega arith; room = h.room; congestion = taken_open v.congestion_controller s.max_seg_size h.congestion; peered = peer state.SynSent is; covered = covered }
 
+    ack_in_listen : (k : TcpSeqNumber) → s.ack_number ≡ Some k → v.state ≡ state.Listen → ⊥
+    ack_in_listen k e is = let no : Some k ≡ None = sym e ∙ bare is in cc
+
     listens : (ack : Option TcpSeqNumber) → s.ack_number ≡ ack → (fin : Bool) → v.state ≡ state.Listen → Covers state.Listen ack v.local_seq_no n fin a.len → After (continues (syn_received v now t word s))
     unfolding syn_received options_taken
-    listens (Some k) e fin is c = absurd c
+    listens (Some k) e fin is c = absurd (ack_in_listen k e is)
     listens None e fin is c = bytes_ordered (heard u now a s) o bs (hears_nothing a state.SynReceived u e hu (λ t m z. (m, omega (arith, own state.Listen is), omega (arith, small))))
       where
         u : View
@@ -361,7 +362,7 @@ module _ (s : Segment) (now : Instant) where
     unfolding fin_counted
     row_with state.SynReceived control.Rst fin k e is c = fallen (own state.SynReceived is).1
     row_with _ control.Rst fin k e is c = dropped_ordered
-    row_with state.Listen control.Syn fin k e is c = absurd c
+    row_with state.Listen control.Syn fin k e is c = absurd (ack_in_listen k e is)
     row_with state.SynSent control.Syn fin k e is c = opens (Some k) e fin is c
     row_with state.SynReceived control.None fin k e is c = let r = own state.SynReceived is in moves state.Established (moved_to state.Established v) k e (hearing state.Established _ refl (peer state.SynReceived is) refl refl refl refl) (omega (arith, r.2)) (omega (arith, c.0)) (λ t m z. (m, omega (arith, r.2, c.0)))
     row_with state.SynReceived control.Fin fin k e is c = let r = own state.SynReceived is in moves state.CloseWait (fin_counted state.CloseWait v) k e (hearing state.CloseWait _ refl (peer state.SynReceived is) refl refl refl refl) (omega (arith, r.2)) (omega (arith, c.0)) (λ t m z. (m, omega (arith, r.2, c.0)))
@@ -426,9 +427,9 @@ module _ (now : Instant) (word : ℕ) (ip : IpRepr) (s : Segment) (small : word 
   acked_within v h (Some k) e p = acked_fits s.control v k h.una_small (numbered k e) (omega (arith, h.room)) p
 
   -- of a socket u whose numbers are those of v
-  inside_ordered : (u : View) (c : TcpControl) (o : ℕ) (bs : List ℕ) → IsOrdered u → (s.control ≡ control.Rst → c ≡ control.Rst) → verdict_of u s.control s.ack_number ≡ verdicts.Pass → IsOrdered (processed_inside u now word c o bs ip s).view
+  inside_ordered : (u : View) (c : TcpControl) (o : ℕ) (bs : List ℕ) → IsOrdered u → (u.state ≡ state.Listen → s.ack_number ≡ None) → (s.control ≡ control.Rst → c ≡ control.Rst) → verdict_of u s.control s.ack_number ≡ verdicts.Pass → IsOrdered (processed_inside u now word c o bs ip s).view
   unfolding processed_inside advanced
-  inside_ordered u c o bs h rst p = by s.control refl
+  inside_ordered u c o bs h bare rst p = by s.control refl
     where
       a : Acked
       a = acked_of u s.control s.ack_number
@@ -437,29 +438,29 @@ module _ (now : Instant) (word : ℕ) (ip : IpRepr) (s : Segment) (small : word 
       within = acked_within u h s.ack_number refl p
 
       goes : (s.control ≡ control.Rst → ⊥) → IsOrdered (after_table (advance_in u.state c a.fin u now (tuple_of ip s) word a.len s) now a o bs s).view
-      goes nr = row_ordered s now u (tuple_of ip s) word a o bs small numbered h within u.state c a.fin s.ack_number refl refl (covers u.state s.control s.ack_number u.local_seq_no u.remote_last_seq (length u.tx_buffer.bytes) nr h.una_small numbered (omega (arith, h.room)) p)
+      goes nr = row_ordered s now u (tuple_of ip s) word a o bs small numbered bare h within u.state c a.fin s.ack_number refl refl (covers u.state s.control s.ack_number u.local_seq_no u.remote_last_seq (length u.tx_buffer.bytes) nr h.una_small numbered (omega (arith, h.room)) p)
 
       by : (x : TcpControl) → s.control ≡ x → IsOrdered (after_table (advance_in u.state c a.fin u now (tuple_of ip s) word a.len s) now a o bs s).view
-      by control.Rst e = subst (λ z. IsOrdered (after_table (advance_in u.state z a.fin u now (tuple_of ip s) word a.len s) now a o bs s).view) (sym (rst e)) (reset_ordered s now u (tuple_of ip s) word a o bs small numbered h within u.state a.fin refl)
+      by control.Rst e = subst (λ z. IsOrdered (after_table (advance_in u.state z a.fin u now (tuple_of ip s) word a.len s) now a o bs s).view) (sym (rst e)) (reset_ordered s now u (tuple_of ip s) word a o bs small numbered bare h within u.state a.fin refl)
       by control.None e = goes (λ r. absurd (none_not_rst (sym e ∙ r)))
       by control.Psh e = goes (λ r. absurd (psh_not_rst (sym e ∙ r)))
       by control.Syn e = goes (λ r. absurd (syn_not_rst (sym e ∙ r)))
       by control.Fin e = goes (λ r. absurd (fin_not_rst (sym e ∙ r)))
 
-  tested_ordered : (v : View) → IsOrdered v → verdict_of v s.control s.ack_number ≡ verdicts.Pass → (b : Bool) → IsOrdered (tested b v now word ip s).view
-  tested_ordered v h p false = inside_ordered v s.control 0 [] h (λ e. e) p
-  tested_ordered v h p true = go (is_inside (receive_window v) s.seq_number (length s.payload))
+  tested_ordered : (v : View) → IsOrdered v → (v.state ≡ state.Listen → s.ack_number ≡ None) → verdict_of v s.control s.ack_number ≡ verdicts.Pass → (b : Bool) → IsOrdered (tested b v now word ip s).view
+  tested_ordered v h bare p false = inside_ordered v s.control 0 [] h bare (λ e. e) p
+  tested_ordered v h bare p true = go (is_inside (receive_window v) s.seq_number (length s.payload))
     where
       go : (b : Bool) → IsOrdered (if b then cut_inside (receive_window v) (cut_of (receive_window v) s.seq_number (length s.payload)) v now word ip s else outside v now s).view
       go false = outside_ordered s now v h
-      go true = inside_ordered (record v { local_rx_last_seq = Some s.seq_number }) (counted_control s.control (receive_window v) s.seq_number (length s.payload)) _ _ (record { una_small = h.una_small; nxt_small = h.nxt_small; room = h.room; congestion = h.congestion; peered = h.peered; row = h.row }) (λ e. rst_counts _ e (receive_window v) s.seq_number (length s.payload)) p
+      go true = inside_ordered (record v { local_rx_last_seq = Some s.seq_number }) (counted_control s.control (receive_window v) s.seq_number (length s.payload)) _ _ (record { una_small = h.una_small; nxt_small = h.nxt_small; room = h.room; congestion = h.congestion; peered = h.peered; row = h.row }) bare (λ e. rst_counts _ e (receive_window v) s.seq_number (length s.payload)) p
 
-  pub process_ordered : (v : View) → IsOrdered v → IsOrdered (processed v now word ip s).view
+  pub process_ordered : (v : View) → IsOrdered v → (v.state ≡ state.Listen → s.ack_number ≡ None) → IsOrdered (processed v now word ip s).view
   unfolding processed
-  process_ordered v h = by (verdict_of v s.control s.ack_number) refl
+  process_ordered v h bare = by (verdict_of v s.control s.ack_number) refl
     where
       by : (x : Verdict) → verdict_of v s.control s.ack_number ≡ x → IsOrdered (by_verdict x v now word ip s).view
       by verdicts.Drop e = h
       by verdicts.Reset e = h
       by verdicts.Challenge e = challenged_ordered s now v h
-      by verdicts.Pass e = tested_ordered v h e (has_window v.state)
+      by verdicts.Pass e = tested_ordered v h bare e (has_window v.state)

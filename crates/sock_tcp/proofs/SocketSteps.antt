@@ -325,7 +325,7 @@ step_keeps v w k j (Recv r h is) c = subst (Holds w) (sym is) (closure_read (may
 step_keeps v w k j (Close h is) c = subst (Holds w) (sym is) (subst (λ u. Holds u k) (sym h) c)
 step_keeps v w k j (Abort h is) c = subst (Holds w) (sym is) (subst (λ u. Holds u k) (sym h) c)
 step_keeps v w k j (Set h is) c = subst (Holds w) (sym is) (setting_kept v w k h c)
-step_keeps v w k j (Process now word ip s small numbered short h is) c = subst (Holds w) (sym is) (process_kept v w k now word ip s c small numbered short h)
+step_keeps v w k j (Process now word ip s small numbered short bare h is) c = subst (Holds w) (sym is) (process_kept v w k now word ip s c small numbered short h)
 step_keeps v w k j (Dispatch f stamps out h is) c = subst (Holds w) (sym is) (dispatch_kept v w k f stamps out c h)
 
 pub run_keeps : (v w : View) (k j : Counts) → Run v k w j → Holds v k → Holds w j

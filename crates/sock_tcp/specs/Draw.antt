@@ -1,5 +1,5 @@
 -- How a call leaves the context's random words.
-use Rattle.std.specs.Prelude.{◌≡◌, ℕ, ◌+◌, Bool, true, false}
+use Rattle.std.specs.Prelude.{◌≡◌, ℕ, ◌+◌, ◌<◌, ◌^◌, Bool, true, false}
 use Rattle.control_wire.specs.declared.tcp.TcpControl.{TcpControl}
 use Rattle.control_wire.specs.declared.tcp.TcpControl.TheVariants as control
 use Rattle.sock_core.specs.Facts.{Facts}
@@ -8,9 +8,10 @@ use Rattle.sock_tcp.specs.declared.state.State.TheVariants as state
 use Rattle.sock_tcp.specs.declared.verdict.Verdict.{Verdict}
 use Rattle.sock_tcp.specs.declared.verdict.Verdict.TheVariants as verdicts
 
--- one word was drawn, and nothing else changed
+-- one word was drawn, of 32 bits, and nothing else changed
 pub record HasDrawn {C : Type 0} (facts : C → Facts) (word_at : C → ℕ → ℕ) (old new : C) : Type 0 where
   pub same : facts new ≡ facts old
+  pub fits : word_at old 0 < 2 ^ 32
   pub words : (k : ℕ) → word_at new k ≡ word_at old (k + 1)
 
 -- only a SYN in LISTEN draws a number

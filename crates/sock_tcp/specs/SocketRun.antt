@@ -35,6 +35,7 @@ use Rattle.sock_tcp.specs.declared.error.RecvError.{RecvError}
 use Rattle.sock_tcp.specs.declared.error.SendError.{SendError}
 use Rattle.sock_tcp.specs.declared.settings.CongestionControl.{CongestionControl}
 use Rattle.sock_tcp.specs.declared.state.State.{State}
+use Rattle.sock_tcp.specs.declared.state.State.TheVariants as state
 use Rattle.sock_tcp.specs.declared.tuple.Tuple.{Tuple}
 
 -- ---- the counts
@@ -67,6 +68,14 @@ with_segment k v w =
       released = k.released + (length v.tx_buffer.bytes - length w.tx_buffer.bytes);
       joined = k.joined ++ drop (length v.rx_buffer.bytes) w.rx_buffer.bytes;
     }
+
+-- a listener whose peer gave up listens again; its queues stay as they are
+abbrev pub listens_again : State → State → Bool
+listens_again before after = not (is_listening before) && is_listening after
+
+-- what a segment brought and acknowledged, or a new connection where the socket listens again
+abbrev pub after_segment : Counts → View → View → Counts
+after_segment k v w = starting_if (listens_again v.state w.state) w (with_segment k v w)
 
 -- ---- which bytes a call accepted or handed out
 
@@ -118,10 +127,6 @@ taken_out may v r w h = []
 -- `listen` opens a socket that is not open
 abbrev pub opens_listener : View → IpListenEndpoint → Bool
 opens_listener v e = not (e.port == 0) && not (is_open v.state)
-
--- a listener whose peer gave up listens again; its queues stay as they are
-abbrev pub listens_again : State → State → Bool
-listens_again before after = not (is_listening before) && is_listening after
 
 -- a dispatch without the local address resets the socket
 abbrev pub is_address_lost : Option Tuple → Facts → Bool
@@ -180,7 +185,8 @@ pub record IsNumbered (s : Segment) : Type 0 where
   pub ack_number : ForSome s.ack_number (λ a. a.0 < 2 ^ 32)
 
 -- A call on a socket v with the counts k leaves the socket w with the counts j: what the contract of the call says of
--- the socket, in any context and for any closure, and what is counted. A segment that comes is any
+-- the socket, in any context and for any closure, and what is counted. A segment that comes is any, but that in LISTEN
+-- it has no acknowledgement: `accepts` holds of none that has one
 pub data Step (v : View) (k : Counts) (w : View) (j : Counts) : Type 0 where
   Listen : (e : IpListenEndpoint) (r : Result (Unit {0}) ListenError)
       → Listens v e r w
@@ -210,8 +216,9 @@ pub data Step (v : View) (k : Counts) (w : View) (j : Counts) : Type 0 where
       → j ≡ k → Step v k w j
   Process : (now : Instant) (word : ℕ) (ip : IpRepr) (s : Segment)
       → word < 2 ^ 32 → IsNumbered s → length s.payload ≤ 65535
+      → (v.state ≡ state.Listen → s.ack_number ≡ None)
       → w ≡ (processed v now word ip s).view
-      → j ≡ starting_if (listens_again v.state w.state) w (with_segment k v w) → Step v k w j
+      → j ≡ after_segment k v w → Step v k w j
   Dispatch : (f : Facts) (stamps : Bool) (out : Option Sending)
       → Dispatched f stamps v out w
       → j ≡ starting_if (is_reset v f stamps) w k → Step v k w j

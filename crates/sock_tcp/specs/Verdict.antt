@@ -18,7 +18,7 @@ fin_place state.Closing = 1
 fin_place state.LastAck = 1
 fin_place _ = 0
 
--- in a state whose SYN is acknowledged: before SND.UNA, behind all that was given to the socket, or between
+-- in LISTEN and in states whose SYN is acknowledged: before SND.UNA, behind all that was given to the socket, or between
 abbrev pub open_verdict : State → TcpSeqNumber → TcpSeqNumber → ℕ → Verdict
 open_verdict st ack una n =
     if is_before ack una then verdicts.Drop
@@ -34,7 +34,6 @@ verdict_at state.SynSent control.Rst None una n = verdicts.Drop
 verdict_at state.SynSent control.Rst (Some ack) una n = if is_next ack una then verdicts.Pass else verdicts.Drop
 verdict_at _ control.Rst ack una n = verdicts.Pass
 verdict_at state.Listen c None una n = verdicts.Pass
-verdict_at state.Listen c (Some ack) una n = verdicts.Drop
 verdict_at state.SynSent control.Syn None una n = verdicts.Pass
 verdict_at state.SynSent control.Syn (Some ack) una n = if is_next ack una then verdicts.Pass else verdicts.Reset
 verdict_at state.SynSent control.None None una n = verdicts.Drop

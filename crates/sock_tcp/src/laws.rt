@@ -1,26 +1,34 @@
 //! What is promised of one socket beyond its case tables, as laws: functions whose contracts are the laws. Their bodies
 //! are empty, or the one call that the law speaks of.
-ghost use Rattle.std.specs.Prelude.{ℕ, ◌≡◌, ◌+◌, ◌≤◌, ◌<◌, ◌^◌, List, length, is_some, false};
+ghost use Rattle.std.specs.Prelude.{ℕ, ◌≡◌, ◌+◌, ◌≤◌, ◌<◌, ◌^◌, Bool, List, Option, length, is_ok, is_some, false};
 ghost use Rattle.std.specs.Fn.{FnOnceReturnsAt, FnOnceReturnsAtMut};
 ghost use Rattle.ip_wire.specs.declared.repr.IpRepr.{IpRepr};
 ghost use Rattle.net_base.specs.Ring.{Ring};
+ghost use Rattle.net_base.specs.declared.time.Duration.{Duration};
 ghost use Rattle.net_base.specs.declared.time.Instant.{Instant};
-ghost use Rattle.control_wire.specs.Segment.{Segment};
+ghost use Rattle.control_wire.specs.Segment.{Segment, segment_of};
 ghost use Rattle.sock_core.specs.Received.{receiving, room_of};
+ghost use Rattle.sock_tcp.specs.Closing.{aborted, closed, keep_alive_set};
 ghost use Rattle.sock_tcp.specs.Laws.{MayTake};
-ghost use Rattle.sock_tcp.specs.Process.{processed};
+ghost use Rattle.sock_tcp.specs.Opening.{Connects, Listens};
+ghost use Rattle.sock_tcp.specs.Process.{generator_after, processed, Accepts, Processes};
 ghost use Rattle.sock_tcp.specs.Queue.{queue_of};
 ghost use Rattle.sock_tcp.specs.Queues.{SendsWith, ReadsWith};
 ghost use Rattle.sock_tcp.specs.SocketBytes.{begins, KeepsPlaces};
 ghost use Rattle.sock_tcp.specs.SocketRun.{Counts, Step, Run, Promised, starting, DispatchesOut};
+ghost use Rattle.sock_tcp.specs.Replies.{IsStamp};
+ghost use Rattle.sock_tcp.specs.Settings.{of_kind};
 ghost use Rattle.sock_tcp.specs.SocketRun.{any_filling, answer_of, any_taking, read_answer_of};
+ghost use Rattle.sock_tcp.specs.SocketRun.{IsNumbered, after_segment, opens_listener, starting_if};
 ghost use Rattle.sock_tcp.specs.View.{View, fresh};
+ghost use Rattle.sock_tcp.specs.declared.settings.CongestionControl.{CongestionControl};
 
-use crate::error::{RecvError, SendError};
+use crate::error::{ConnectError, ListenError, RecvError, SendError};
 use crate::generator::TsvalSource;
+use crate::reply::Reply;
 use crate::socket::Socket;
 use control_wire::TcpRepr;
-use ip_wire::IpRepr;
+use ip_wire::{IpEndpoint, IpListenEndpoint, IpRepr};
 use sock_core::Context;
 
 /// A segment, whichever it is, does nothing to the receive buffer but that its in-window bytes come at their offset
@@ -100,3 +108,95 @@ pub fn recv_hands_out<G, R, F: FnOnce(&[u8]) -> (usize, R)>(
 {
     socket.recv(f)
 }
+
+/// A `listen` as a call of that law: where it opens the socket the counts begin anew, and else nothing is counted.
+pub fn listen_opens<G>(
+    socket: &mut Socket<'_, G>,
+    local: IpListenEndpoint,
+) -> Result<(), ListenError>
+    ensures table { Listens socket.old.control_block local result socket.new.control_block }
+    ensures generator { socket.new.tsval_generator ≡ socket.old.tsval_generator }
+    ensures call { (k : Counts) → Step socket.old.control_block k socket.new.control_block
+        (starting_if (opens_listener socket.old.control_block local) socket.new.control_block k) }
+{
+    socket.listen(local)
+}
+
+/// A `connect` as a call of that law: where it answers Ok the counts begin anew, and else nothing is counted.
+pub fn connect_opens<G, C: Context>(
+    socket: &mut Socket<'_, G>,
+    cx: &mut C,
+    remote: IpEndpoint,
+    local: IpListenEndpoint,
+) -> Result<(), ConnectError>
+    ensures table { Connects C.facts C.word_at socket.old.control_block cx.old remote local result
+        socket.new.control_block cx.new }
+    ensures generator { socket.new.tsval_generator ≡ socket.old.tsval_generator }
+    ensures call { (k : Counts) → Step socket.old.control_block k socket.new.control_block
+        (starting_if (is_ok result) socket.new.control_block k) }
+{
+    socket.connect(cx, remote, local)
+}
+
+/// A `close` as a call of that law: nothing is counted.
+pub fn close_ends<G>(socket: &mut Socket<'_, G>)
+    ensures control_block { socket.new.control_block ≡ closed socket.old.control_block }
+    ensures generator { socket.new.tsval_generator ≡ socket.old.tsval_generator }
+    ensures call { (k : Counts) → Step socket.old.control_block k socket.new.control_block k }
+{
+    socket.close();
+}
+
+/// An `abort` as a call of that law: nothing is counted.
+pub fn abort_resets<G>(socket: &mut Socket<'_, G>)
+    ensures control_block { socket.new.control_block ≡ aborted socket.old.control_block }
+    ensures generator { socket.new.tsval_generator ≡ socket.old.tsval_generator }
+    ensures call { (k : Counts) → Step socket.old.control_block k socket.new.control_block k }
+{
+    socket.abort();
+}
+
+// The numbers of a segment have 32 bits.
+fn numbers_fit(repr: &TcpRepr<'_>)
+    ensures { IsNumbered (segment_of repr.now) }
+{
+    repr.seq_number.in_range();
+    if let Some(ack) = repr.ack_number {
+        ack.in_range();
+    }
+}
+
+/// A `process` as a call of that law: what joins the receive queue and what leaves the transmit queue is counted, and
+/// where the socket listens again the counts begin anew.
+pub fn process_receives<G: TsvalSource, C: Context>(
+    socket: &mut Socket<'_, G>,
+    cx: &mut C,
+    ip_repr: &IpRepr,
+    repr: &TcpRepr<'_>,
+) -> Option<Reply>
+    requires accepted { Accepts socket.old.control_block ip_repr.now (segment_of repr.now) }
+    requires small { length repr.now.payload.now ≤ 65535 }
+    ensures table { Processes C.facts C.word_at (IsStamp G.tells socket.new.tsval_generator repr.now.timestamp)
+        socket.old.control_block cx.old ip_repr.now (segment_of repr.now) result socket.new.control_block cx.new }
+    ensures generator { socket.new.tsval_generator
+        ≡ generator_after socket.old.control_block (segment_of repr.now) socket.old.tsval_generator }
+    ensures call { (k : Counts) → Step socket.old.control_block k socket.new.control_block
+        (after_segment k socket.old.control_block socket.new.control_block) }
+{
+    numbers_fit(repr);
+    socket.process(cx, ip_repr, repr)
+}
+
+/// Each setter as a call of that law, by what its contract says of the socket: nothing is counted. The source of
+/// timestamps is no part of a socket's control block, so that its setter changes nothing there.
+pub fn settings_are_calls()
+    ensures congestion_control { (v : View) (k : Counts) (x : CongestionControl)
+        → Step v k (record v { congestion_controller = of_kind x }) k }
+    ensures timeout { (v : View) (k : Counts) (x : Option Duration) → Step v k (record v { timeout = x }) k }
+    ensures ack_delay { (v : View) (k : Counts) (x : Option Duration) → Step v k (record v { ack_delay = x }) k }
+    ensures nagle { (v : View) (k : Counts) (x : Bool) → Step v k (record v { nagle = x }) k }
+    ensures keep_alive { (v : View) (k : Counts) (x : Option Duration) → Step v k (keep_alive_set v x) k }
+    ensures hop_limit { (v : View) (k : Counts) (x : Option ℕ) → Step v k (record v { hop_limit = x }) k }
+    ensures pause { (v : View) (k : Counts) (x : Bool) → Step v k (record v { synack_paused = x }) k }
+    ensures generator { (v : View) (k : Counts) → Step v k v k }
+{}

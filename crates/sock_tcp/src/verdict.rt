@@ -30,7 +30,6 @@ impl<'a> ControlBlock<'a> {
             (State::SynSent, TcpControl::Rst, _) => Verdict::Drop,
             (_, TcpControl::Rst, _) => Verdict::Pass,
             (State::Listen, _, None) => Verdict::Pass,
-            (State::Listen, _, Some(_)) => Verdict::Drop,
             (State::SynSent, TcpControl::Syn, Some(ack)) if ack != next => Verdict::Reset,
             (State::SynSent, TcpControl::Syn, _) => Verdict::Pass,
             (State::SynSent, TcpControl::None, Some(ack)) if ack != next => Verdict::Reset,
@@ -52,7 +51,7 @@ impl<'a> ControlBlock<'a> {
         }
     }
 
-    // The verdict in a state whose SYN is acknowledged.
+    // The verdict in LISTEN, and in a state whose SYN is acknowledged.
     fn open_verdict(&self, ack: TcpSeqNumber) -> Verdict
         ensures { result ≡ open_verdict self.now.state ack self.now.local_seq_no (length self.now.tx_buffer.bytes) }
     {

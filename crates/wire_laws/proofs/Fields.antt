@@ -13,7 +13,8 @@ use Rattle.control_wire.specs.Segment.{Segment, segment_header_len}
 use Rattle.segment_wire.specs.Packet.{tcp_packet, tcp_packet_parsed}
 use Rattle.segment_wire.specs.RoundTrip.{AreRanges, IsHeader, IsShift, IsWritable, TestsWhatIsSent}
 use Rattle.wire_laws.specs.Fields.{RangeFits, RangesFit, HeaderFits, HasWidths}
-use Rattle.wire_laws.specs.Survival.{Survives}
+use Rattle.pair_core.specs.PairViews.{StoredView}
+use Rattle.wire_laws.specs.Survival.{Survives, SurvivesWithPorts}
 
 -- a list of three places
 pub ranges_fit : (xs : List (Option (ℕ × ℕ))) → length xs ≡ 3 → RangeFits (get_or xs 0 None) → RangeFits (get_or xs 1 None) → RangeFits (get_or xs 2 None) → RangesFit xs
@@ -70,5 +71,9 @@ is_header (header.Ipv4 h) p n w = record { src = w.src; src_octets = w.src_octet
 is_header (header.Ipv6 h) p n w = record { src = w.src; src_octets = w.src_octets; dst = w.dst; dst_octets = w.dst_octets; protocol = named h.next_header p; payload = omega (arith, n); hops = w.hops }
 
 -- the law of the forms, for one header and one segment
-pub survives : ((sender receiver : ChecksumCapabilities) (ip : IpRepr) (s : Segment) → IsHeader ip → next_header_of ip ≡ protocol.Tcp → payload_len_of ip ≡ segment_header_len s + length s.payload → IsWritable s → TestsWhatIsSent sender receiver → tcp_packet_parsed receiver (tcp_packet sender ip s) ≡ Some (record { ip = ip; segment = s })) → (ip : IpRepr) (s : Segment) → FitsPacket ip s → HasWidths ip s → Survives ip s
+pub survives : ((sender receiver : ChecksumCapabilities) (ip : IpRepr) (s : Segment) → IsHeader ip → next_header_of ip ≡ protocol.Tcp → payload_len_of ip ≡ segment_header_len s + length s.payload → IsWritable s → TestsWhatIsSent sender receiver → tcp_packet_parsed receiver (tcp_packet sender ip s) ≡ Some (record { ip = ip; segment = s })) → (ip : IpRepr) (s : Segment) → FitsPacket ip s → HasWidths ip s → SurvivesWithPorts ip s
 survives law ip s f w p sender receiver t = law sender receiver ip s (is_header ip f.protocol f.total w.header) f.protocol f.octets (is_writable ip s f w p) t
+
+-- a stored segment, of which both are known
+pub both_ports : (o : Option StoredView) → ForSome o (λ t. SurvivesWithPorts t.ip t.segment) → ForSome o (λ t. HasPorts t.segment) → (t : StoredView) → o ≡ Some t → Survives t.ip t.segment
+both_ports o law ports t is = law t is (ports t is)

@@ -13,20 +13,24 @@ use Rattle.sock_tcp.specs.Dispatch.{EmitTcp, packet_in}
 use Rattle.sock_tcp.specs.Outgoing.{packet_of}
 use Rattle.wire_laws.specs.Fields.{HasWidths}
 
--- What is read of the packet's octets is what was written, where neither port is 0, which no segment on a wire has;
--- with any checksums, where what is tested was also sent
+-- What is read of the packet's octets is what was written, with any checksums where what is tested was also sent
 abbrev pub Survives : IpRepr → Segment → Type 0
 Survives ip s =
-    HasPorts s → (sender receiver : ChecksumCapabilities) → TestsWhatIsSent sender receiver
+    (sender receiver : ChecksumCapabilities) → TestsWhatIsSent sender receiver
     → tcp_packet_parsed receiver (tcp_packet sender ip s) ≡ Some (record { ip = ip; segment = s })
 
--- A dispatch, with the emit that is called once with what goes out, or not at all; and what goes out survives. That its
--- numbers have the bits of their types is no condition on it: so it is with each value of these types (`has_widths`)
+-- so it is where neither port is 0, as of each segment on a wire
+abbrev pub SurvivesWithPorts : IpRepr → Segment → Type 0
+SurvivesWithPorts ip s = HasPorts s → Survives ip s
+
+-- A dispatch, with the emit that is called once with what goes out, or not at all; and what goes out survives, where
+-- neither port is 0. That its numbers have the bits of their types is no condition on it: so it is with each value of
+-- these types (`has_widths`)
 pub record DispatchesSurviving {F C E : Type 0} (g : EmitTcp F C E) (emit : F) (c : C) (r : Result (Unit {0}) E)
     (c' : C) : Type 0 where
   pub out : Option Sending
   pub emits : Emits g packet_of emit (option_map packet_in out) c r c'
-  pub survives : ForSome out (λ s. HasWidths s.ip s.segment → Survives s.ip s.segment)
+  pub survives : ForSome out (λ s. HasWidths s.ip s.segment → SurvivesWithPorts s.ip s.segment)
 
 -- a socket that accepts the segment may be given it, and answers it by a segment that survives
 pub record MayCome (s : Segment) : Type 0 where

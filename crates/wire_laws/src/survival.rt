@@ -1,10 +1,13 @@
 //! What a socket emits, written as a packet, is read on the other side as the same segment.
+//!
+//! No packet has a segment from port 0 or to it. In a pair there is none. A socket alone takes a SYN from port 0, as
+//! the table of `accepts` says, and answers to that port: so the laws on single calls have the premise `HasPorts`.
 ghost use Rattle.std.specs.Prelude.{◌≡◌, ◌≤◌, length, option_map, slice_get};
 ghost use Rattle.std.specs.Option.{ForSome};
 ghost use Rattle.control_wire.specs.Fits.{FitsPacket};
 ghost use Rattle.control_wire.specs.Segment.{segment_of};
 ghost use Rattle.sock_tcp.specs.Process.{Accepts, reply_of};
-ghost use Rattle.wire_laws.specs.Survival.{DispatchesSurviving, Survives};
+ghost use Rattle.wire_laws.specs.Survival.{DispatchesSurviving, Survives, SurvivesWithPorts};
 
 use crate::widths::has_widths;
 use control_wire::{TcpControl, TcpRepr};
@@ -19,21 +22,30 @@ use sock_tcp::{Reply, Socket, TsvalSource};
 #[tactic(auto, using(crate::proofs::Fields::survives))]
 pub fn what_fits_survives(ip_repr: &IpRepr, repr: &TcpRepr<'_>)
     requires { FitsPacket ip_repr.now (segment_of repr.now) }
-    ensures { Survives ip_repr.now (segment_of repr.now) }
+    ensures { SurvivesWithPorts ip_repr.now (segment_of repr.now) }
 {
     packets_read_back();
     has_widths(ip_repr, repr);
 }
 
-/// Every segment of a pair survives the wire: where its bytes arrive unaltered, the other side reads the same segment.
-pub fn segments_survive_the_wire<G: TsvalSource>(pair: &Pair<'_, G>, index: usize)
-    ensures { ForSome (slice_get pair.now.segments index) (λ t. Survives t.ip t.segment) }
+fn stored_survives_with_ports<G: TsvalSource>(pair: &Pair<'_, G>, index: usize)
+    ensures { ForSome (slice_get pair.now.segments index) (λ t. SurvivesWithPorts t.ip t.segment) }
 {
     if index < pair.segments().len() {
         let segment = &pair.segments()[index];
         segment.fits();
         what_fits_survives(&segment.header.ip_repr, &segment.as_repr());
     }
+}
+
+/// Every segment of a pair survives the wire: where its bytes arrive unaltered, the other side reads the same segment.
+/// Its ports are those of the pair's two ends, and not 0.
+#[tactic(auto, using(crate::proofs::Fields::both_ports))]
+pub fn segments_survive_the_wire<G: TsvalSource>(pair: &Pair<'_, G>, index: usize)
+    ensures { ForSome (slice_get pair.now.segments index) (λ t. Survives t.ip t.segment) }
+{
+    stored_survives_with_ports(pair, index);
+    pair.segment_has_ports(index);
 }
 
 /// The answer of `process` to a segment that the socket accepts survives the wire.
@@ -45,7 +57,7 @@ pub fn process_answers_a_packet<G: TsvalSource, C: Context>(
 ) -> Option<Reply>
     requires accepted { Accepts socket.old.control_block ip_repr.now (segment_of repr.now) }
     requires small { length repr.now.payload.now ≤ 65535 }
-    ensures { ForSome (option_map reply_of result) (λ r. Survives r.0 r.1) }
+    ensures { ForSome (option_map reply_of result) (λ r. SurvivesWithPorts r.0 r.1) }
 {
     let reply = socket.process(cx, ip_repr, repr);
     survives_if(&reply);
@@ -54,7 +66,7 @@ pub fn process_answers_a_packet<G: TsvalSource, C: Context>(
 
 fn survives_if(reply: &Option<Reply>)
     requires { ForSome (option_map reply_of reply.now) (λ r. FitsPacket r.0 r.1) }
-    ensures { ForSome (option_map reply_of reply.now) (λ r. Survives r.0 r.1) }
+    ensures { ForSome (option_map reply_of reply.now) (λ r. SurvivesWithPorts r.0 r.1) }
 {
     if let Some((ip_repr, repr)) = reply {
         what_fits_survives(ip_repr, repr);
@@ -63,7 +75,7 @@ fn survives_if(reply: &Option<Reply>)
 
 /// What `reply` answers to a segment survives the wire.
 pub fn reply_is_a_packet(ip_repr: &IpRepr, repr: &TcpRepr<'_>) -> Reply
-    ensures { Survives result.0 (segment_of result.1) }
+    ensures { SurvivesWithPorts result.0 (segment_of result.1) }
 {
     let reply = Socket::reply(ip_repr, repr);
     what_fits_survives(&reply.0, &reply.1);
@@ -74,7 +86,7 @@ pub fn reply_is_a_packet(ip_repr: &IpRepr, repr: &TcpRepr<'_>) -> Reply
 pub fn rst_reply_is_a_packet(ip_repr: &IpRepr, repr: &TcpRepr<'_>) -> Reply
     requires control { repr.now.control ≡ TcpControl.Rst → ⊥ }
     requires small { length repr.now.payload.now ≤ 65535 }
-    ensures { Survives result.0 (segment_of result.1) }
+    ensures { SurvivesWithPorts result.0 (segment_of result.1) }
 {
     let reply = Socket::rst_reply(ip_repr, repr);
     what_fits_survives(&reply.0, &reply.1);

@@ -4,6 +4,7 @@ ghost use Rattle.std.specs.Option.{ForSome};
 ghost use Rattle.control_wire.specs.Icmp.{message_len, message_v4, message_v6};
 ghost use Rattle.net_base.specs.Packets.{takes};
 ghost use Rattle.ip_wire.specs.declared.address.IpAddress.TheVariants as address;
+ghost use Rattle.sock_dgram.specs.Datagrams.{stored_as};
 ghost use Rattle.sock_dgram.specs.Icmp.{received};
 ghost use Rattle.sock_dgram.specs.IcmpKinds.{with_body};
 ghost use Rattle.sock_dgram.specs.IcmpFilter.{Accepts, Ends, TakesError, TakesIdent, WritesV4, WritesV6, ends_v4, ends_v6, octets_v4, octets_v6, queued_v4, queued_v6};
@@ -125,7 +126,8 @@ impl<'a> Socket<'a> {
             (received self.old ++ (address.Ipv4 ip_repr.now.src_addr, octets_v4 (message_v4 icmp_repr.now)) ∷ [])
             (received self.old) }
     {
-        store_v4(&mut self.rx_buffer, ip_repr, icmp_repr);
+        let remote = IpAddress::Ipv4(ip_repr.src_addr);
+        store_v4(&mut self.rx_buffer, remote, icmp_repr);
     }
 
     /// The same of a message over IPv6.
@@ -145,14 +147,16 @@ impl<'a> Socket<'a> {
             ++ (address.Ipv6 ip_repr.now.src_addr, octets_v6 ip_repr.now (message_v6 icmp_repr.now)) ∷ [])
             (received self.old) }
     {
-        store_v6(&mut self.rx_buffer, ip_repr, icmp_repr);
+        let remote = IpAddress::Ipv6(ip_repr.src_addr);
+        store_v6(&mut self.rx_buffer, remote, ip_repr, icmp_repr);
     }
 }
 
-fn store_v4(buffer: &mut PacketBuffer<'_>, ip_repr: &Ipv4Repr, icmp_repr: &Icmpv4Repr<'_>)
-    ensures { buffer.new ≡ queued_v4 ip_repr.now (message_v4 icmp_repr.now) buffer.old }
+// Puts the message into the queue, with its checksum and with this address.
+fn store_v4(buffer: &mut PacketBuffer<'_>, remote: IpAddress, icmp_repr: &Icmpv4Repr<'_>)
+    ensures { buffer.new ≡ stored_as (message_len 20 (message_v4 icmp_repr.now)) remote
+        (octets_v4 (message_v4 icmp_repr.now)) buffer.old }
 {
-    let remote = IpAddress::Ipv4(ip_repr.src_addr);
     let (kind, body) = apart_v4(icmp_repr);
     let _ = buffer.enqueue_with_infallible(
         icmp_repr.buffer_len(),
@@ -175,10 +179,15 @@ fn write_v4(lent: &mut [u8], icmp_repr: &Icmpv4Repr<'_>) -> usize
     lent.len()
 }
 
-fn store_v6(buffer: &mut PacketBuffer<'_>, ip_repr: &Ipv6Repr, icmp_repr: &Icmpv6Repr<'_>)
-    ensures { buffer.new ≡ queued_v6 ip_repr.now (message_v6 icmp_repr.now) buffer.old }
+fn store_v6(
+    buffer: &mut PacketBuffer<'_>,
+    remote: IpAddress,
+    ip_repr: &Ipv6Repr,
+    icmp_repr: &Icmpv6Repr<'_>,
+)
+    ensures { buffer.new ≡ stored_as (message_len 40 (message_v6 icmp_repr.now)) remote
+        (octets_v6 ip_repr.now (message_v6 icmp_repr.now)) buffer.old }
 {
-    let remote = IpAddress::Ipv6(ip_repr.src_addr);
     let ip = *ip_repr;
     let (kind, body) = apart_v6(icmp_repr);
     let _ = buffer.enqueue_with_infallible(

@@ -1,4 +1,4 @@
-use Rattle.std.proofs.Common.{rules, ◌≡◌, [], Some, ap, option_map}
+use Rattle.std.proofs.Common.{rules, ◌≡◌, Some, ap, option_map}
 use Rattle.control_wire.specs.Fits.{FitsPacket}
 use Rattle.control_wire.specs.Segment.{segment_of}
 use Rattle.sock_tcp.specs.Process.{reply_of}
