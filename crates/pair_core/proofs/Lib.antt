@@ -23,7 +23,9 @@ pub mod NetworkExample
 pub mod PairListeners
 pub mod DispatchKeeps
 pub mod Addresses
+pub mod SocketCalls
 pub mod PairHosts
+pub mod PairCalled
 pub mod PairGoes
 pub mod PairPorts
 pub mod ShownReplies

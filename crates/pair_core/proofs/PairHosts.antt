@@ -14,6 +14,7 @@ use Rattle.sock_tcp.specs.Queues.{may_send, may_recv, queued, read_off, receives
 use Rattle.sock_tcp.proofs.Frames.{process_peers}
 use Rattle.sock_tcp.specs.Laws.{IsPeered}
 use Rattle.sock_tcp.specs.Opening.{connected, listened, renewed}
+use Rattle.sock_tcp.specs.Work.{IsReached}
 use Rattle.sock_tcp.specs.declared.state.State.{State}
 use Rattle.sock_tcp.specs.declared.state.State.TheVariants as state
 use Rattle.sock_tcp.specs.declared.tuple.Tuple.{Tuple}
@@ -26,7 +27,7 @@ use Rattle.pair_core.specs.declared.setting.Setting.{Setting}
 use Rattle.pair_core.specs.declared.setting.Setting.TheVariants as setting
 use Rattle.pair_core.specs.PairAddresses.{AllGo, GoesFrom, HasPeer, endpoint_at, tuple_to}
 use Rattle.pair_core.specs.PairInvariant.{IsIdle, IsReachable, IsHost, IsPair}
-use Rattle.pair_core.specs.PairNetwork.{network_of}
+use Rattle.pair_core.specs.PairNetwork.{network_of, IsSmall}
 use Rattle.pair_core.specs.PairSteps.{HostDispatches, Dispatches, DeliversTo, DeliversIf, delivered_to, exchanged, processed_by}
 use Rattle.pair_core.specs.PairViews.{HostView, StoredView, PairView, host_of, with_host, new_host}
 use Rattle.pair_core.specs.Recording.{SocketDispatches, SendsFrom}
@@ -43,6 +44,7 @@ use Rattle.pair_core.proofs.Addresses.{tuple_is}
 use Rattle.pair_core.proofs.DispatchKeeps.{Keeps, closed_peer, keeps_in_dispatch}
 use Rattle.pair_core.proofs.PairListeners.{aborted_listens, closed_listens, connected_active, listened_passive, passive_kept, process_listens, queued_listens, read_listens, KeepsListener}
 use Rattle.pair_core.proofs.PairAmounts.{takes_some, hands_some}
+use Rattle.pair_core.proofs.SocketCalls.{abort_call, called_reached, close_call, connect_call, dispatch_call, listen_call, process_call, recv_call, send_call, set_call}
 
 -- a host that is one still, on the same endpoint
 pub record StaysHost (remote : IpEndpoint) (h k : HostView) : Type 0 where
@@ -90,16 +92,16 @@ set_peer _ v t p = p
 
 -- ---- opening
 
-opens : {remote : IpEndpoint} (w : Opening) (h n k : HostView) (o : Outcome) → IsHost h → StaysHost remote h n → OpensAs w h n o k → StaysHost remote h k
-opens {remote} opening.Unopened h n k o i s e = subst (StaysHost remote h) (sym e.1) s
+opens : {remote : IpEndpoint} (w : Opening) (h n k : HostView) (o : Outcome) → IsHost h → (w ≡ opening.Unopened → StaysHost remote h n) → OpensAs w h n o k → StaysHost remote h k
+opens {remote} opening.Unopened h n k o i s e = subst (StaysHost remote h) (sym e.1) (s refl)
 opens opening.Listener h n k o i s e = unchanged h k i e.1
 opens opening.Connector h n k o i s e = unchanged h k i e.1
 
 pub listen_stays : {remote : IpEndpoint} (h k : HostView) (o : Outcome) → IsHost h → OpensAs h.opening h (listening h) o k → StaysHost remote h k
-listen_stays h k o i e = opens h.opening h (listening h) k o i (record { host = record { reachable = i.reachable; idle = λ n. let no : opening.Listener ≡ opening.Unopened = n in cc; passive = λ shut live. listened_passive h.control_block (record { addr = Some h.endpoint.addr; port = h.endpoint.port }) i.reachable.port }; endpoint = refl; peer = λ p. listened_peer h.control_block (record { addr = Some h.endpoint.addr; port = h.endpoint.port }) (tuple_to h _) }) e
+listen_stays h k o i e = opens h.opening h (listening h) k o i (λ u. record { host = record { reachable = i.reachable; idle = λ n. let no : opening.Listener ≡ opening.Unopened = n in cc; passive = λ shut live. listened_passive h.control_block (record { addr = Some h.endpoint.addr; port = h.endpoint.port }) i.reachable.port; reached = called_reached h.control_block (listening h).control_block (listen_call h.control_block (record { addr = Some h.endpoint.addr; port = h.endpoint.port }) (i.idle u).state i.reachable.port) i.reached }; endpoint = refl; peer = λ p. listened_peer h.control_block (record { addr = Some h.endpoint.addr; port = h.endpoint.port }) (tuple_to h _) }) e
 
-pub connect_stays : (h k : HostView) (m : Moment) (remote : IpEndpoint) (o : Outcome) → IsHost h → OpensAs h.opening h (connecting h m remote) o k → StaysHost remote h k
-connect_stays h k m remote o i e = opens h.opening h (connecting h m remote) k o i (record { host = record { reachable = i.reachable; idle = λ n. let no : opening.Connector ≡ opening.Unopened = n in cc; passive = λ shut live. connected_active h.control_block (record { local = h.endpoint; remote = remote }) m.word }; endpoint = refl; peer = λ p. connected_peer h.control_block (record { local = h.endpoint; remote = remote }) m.word }) e
+pub connect_stays : (h k : HostView) (m : Moment) (remote : IpEndpoint) (o : Outcome) → IsHost h → IsReachable remote → SameVersion h.endpoint.addr remote.addr → OpensAs h.opening h (connecting h m remote) o k → StaysHost remote h k
+connect_stays h k m remote o i there version e = opens h.opening h (connecting h m remote) k o i (λ u. record { host = record { reachable = i.reachable; idle = λ n. let no : opening.Connector ≡ opening.Unopened = n in cc; passive = λ shut live. connected_active h.control_block (record { local = h.endpoint; remote = remote }) m.word; reached = called_reached h.control_block (connecting h m remote).control_block (connect_call h.control_block (facts_of m) h.endpoint remote (i.idle u).state i.reachable there version m.word m.fits) i.reached }; endpoint = refl; peer = λ p. connected_peer h.control_block (record { local = h.endpoint; remote = remote }) m.word }) e
 
 -- ---- sending and receiving
 
@@ -119,7 +121,7 @@ send_stays {remote} h k limit size bs o i e = go (is_over limit _) e
     take_some : (b : Bool) → may_send h.control_block.state ≡ b → SendsIf b size bs h o k → StaysHost remote h k
     take_some true m x =
         let s = takes_some size bs h o k x in
-        subst (StaysHost remote h) (sym s.host) (record { host = record { reachable = i.reachable; idle = λ u. absurd (cannot_send h i m u); passive = passive_kept h (sending h s.count bs) i refl (queued_listens h.control_block s.count bs) }; endpoint = refl; peer = λ p. queued_peer h.control_block s.count bs (tuple_to h _) p })
+        subst (StaysHost remote h) (sym s.host) (record { host = record { reachable = i.reachable; idle = λ u. absurd (cannot_send h i m u); passive = passive_kept h (sending h s.count bs) i refl (queued_listens h.control_block s.count bs); reached = called_reached h.control_block (sending h s.count bs).control_block (send_call h.control_block s.count bs m s.offered s.fits) i.reached }; endpoint = refl; peer = λ p. queued_peer h.control_block s.count bs (tuple_to h _) p })
     take_some false m x = unchanged h k i x.1
 
     go : (b : Bool) → SendsUnder b size bs h o k → StaysHost remote h k
@@ -132,7 +134,7 @@ recv_stays {remote} h k piece size o i e = go (may_recv h.control_block) refl e
     go : (b : Bool) → may_recv h.control_block ≡ b → ReceivesIf b piece size h o k → StaysHost remote h k
     go true m x =
         let s = hands_some piece size h o k x in
-        subst (StaysHost remote h) (sym s.does.host) (record { host = record { reachable = i.reachable; idle = λ u. absurd (cannot_recv h i m u); passive = passive_kept h (receiving h s.count) i refl (read_listens h.control_block s.count) }; endpoint = refl; peer = λ p. read_peer h.control_block s.count (tuple_to h _) p })
+        subst (StaysHost remote h) (sym s.does.host) (record { host = record { reachable = i.reachable; idle = λ u. absurd (cannot_recv h i m u); passive = passive_kept h (receiving h s.count) i refl (read_listens h.control_block s.count); reached = called_reached h.control_block (receiving h s.count).control_block (recv_call h.control_block s.count m s.within) i.reached }; endpoint = refl; peer = λ p. read_peer h.control_block s.count (tuple_to h _) p })
     go false m x = unchanged h k i x.1
 
 -- ---- closing
@@ -144,10 +146,10 @@ aborted_idle : (v : View) → IsIdle v → IsIdle (aborted v)
 aborted_idle v i = record { state = refl; tuple = i.tuple; rx = i.rx; tx = i.tx; no_fin = i.no_fin }
 
 pub close_stays : {remote : IpEndpoint} (h k : HostView) (o : Outcome) → IsHost h → Closes h o k → StaysHost remote h k
-close_stays {remote} h k o i e = subst (StaysHost remote h) (sym e.1) (record { host = record { reachable = i.reachable; idle = λ u. closed_idle h.control_block (i.idle u); passive = passive_kept h (closing h) i refl (closed_listens h.control_block) }; endpoint = refl; peer = λ p. closed_peers h.control_block.state h.control_block.tuple (tuple_to h _) p })
+close_stays {remote} h k o i e = subst (StaysHost remote h) (sym e.1) (record { host = record { reachable = i.reachable; idle = λ u. closed_idle h.control_block (i.idle u); passive = passive_kept h (closing h) i refl (closed_listens h.control_block); reached = called_reached h.control_block (closed h.control_block) (close_call h.control_block) i.reached }; endpoint = refl; peer = λ p. closed_peers h.control_block.state h.control_block.tuple (tuple_to h _) p })
 
 pub abort_stays : {remote : IpEndpoint} (h k : HostView) (o : Outcome) → IsHost h → Aborts h o k → StaysHost remote h k
-abort_stays {remote} h k o i e = subst (StaysHost remote h) (sym e.1) (record { host = record { reachable = i.reachable; idle = λ u. aborted_idle h.control_block (i.idle u); passive = passive_kept h (aborting h) i refl (aborted_listens h.control_block) }; endpoint = refl; peer = λ p. closed_peer h.control_block.state h.control_block.tuple (tuple_to h _) p })
+abort_stays {remote} h k o i e = subst (StaysHost remote h) (sym e.1) (record { host = record { reachable = i.reachable; idle = λ u. aborted_idle h.control_block (i.idle u); passive = passive_kept h (aborting h) i refl (aborted_listens h.control_block); reached = called_reached h.control_block (aborted h.control_block) (abort_call h.control_block) i.reached }; endpoint = refl; peer = λ p. closed_peer h.control_block.state h.control_block.tuple (tuple_to h _) p })
 
 -- ---- settings
 
@@ -160,7 +162,7 @@ set_listens (setting.KeepAlive t) v = λ n. (n, refl)
 set_listens _ v = λ n. (n, refl)
 
 pub set_stays : {remote : IpEndpoint} (h k : HostView) (s : Setting) (o : Outcome) → IsHost h → Sets s h o k → StaysHost remote h k
-set_stays {remote} h k s o i e = subst (StaysHost remote h) (sym e.1) (record { host = record { reachable = i.reachable; idle = λ u. set_idle s h.control_block (i.idle u); passive = passive_kept h (setting_host h s) i refl (set_listens s h.control_block) }; endpoint = refl; peer = λ p. set_peer s h.control_block (tuple_to h _) p })
+set_stays {remote} h k s o i e = subst (StaysHost remote h) (sym e.1) (record { host = record { reachable = i.reachable; idle = λ u. set_idle s h.control_block (i.idle u); passive = passive_kept h (setting_host h s) i refl (set_listens s h.control_block); reached = called_reached h.control_block (set_in s h.control_block) (set_call s h.control_block) i.reached }; endpoint = refl; peer = λ p. set_peer s h.control_block (tuple_to h _) p })
 
 -- ---- dispatches and deliveries
 
@@ -177,7 +179,7 @@ dispatch_stays {remote} s m fail o h k ts ts' i d =
     let x : HostDispatches m fail h d.sent k = d.does in
     let keeps : Keeps h.control_block k.control_block = keeps_in_dispatch h.control_block k.control_block (facts_of m) h.stamps fail d.sent x.socket in
     subst (StaysHost remote h) (sym x.same) (record {
-      host = record { reachable = i.reachable; idle = λ u. subst IsIdle (sym (idle_dispatches h.control_block k.control_block (facts_of m) h.stamps fail d.sent (i.idle u).tuple x.socket)) (i.idle u); passive = passive_kept h (record h { control_block = k.control_block }) i refl keeps.listener };
+      host = record { reachable = i.reachable; idle = λ u. subst IsIdle (sym (idle_dispatches h.control_block k.control_block (facts_of m) h.stamps fail d.sent (i.idle u).tuple x.socket)) (i.idle u); passive = passive_kept h (record h { control_block = k.control_block }) i refl keeps.listener; reached = called_reached h.control_block k.control_block (dispatch_call (facts_of m) h.stamps fail d.sent k.control_block h.control_block x.socket) i.reached };
       endpoint = refl;
       peer = λ p. keeps.peer (tuple_to h _) p;
     })
@@ -185,9 +187,9 @@ dispatch_stays {remote} s m fail o h k ts ts' i d =
 pub closed_accepts_none : (v : View) (t : StoredView) → v.state ≡ state.Closed → Accepts v t.ip t.segment → ⊥
 closed_accepts_none v t e a = subst (λ st. AcceptsIn st v t.ip t.segment) e a
 
-pub deliver_stays : {remote : IpEndpoint} (old : Bool) (s : Side) (m : Moment) (t : StoredView) (o : Outcome) (h k : HostView) (ts ts' : List StoredView) → IsHost h → GoesFrom t remote h.endpoint → DeliversTo old s m t o h ts k ts' → StaysHost remote h k
-deliver_stays true s m t o h k ts ts' i g d = unchanged h k i d.1.0
-deliver_stays {remote} false s m t o h k ts ts' i g d = go d.accepted d.says.0 d.does
+pub deliver_stays : {remote : IpEndpoint} (old : Bool) (s : Side) (m : Moment) (t : StoredView) (o : Outcome) (h k : HostView) (ts ts' : List StoredView) → IsHost h → IsSmall t.segment → GoesFrom t remote h.endpoint → DeliversTo old s m t o h ts k ts' → StaysHost remote h k
+deliver_stays true s m t o h k ts ts' i small g d = unchanged h k i d.1.0
+deliver_stays {remote} false s m t o h k ts ts' i small g d = go d.accepted d.says.0 d.does
   where
     is : tuple_of t.ip t.segment ≡ tuple_to h remote
     is = tuple_is t h.endpoint remote g
@@ -196,7 +198,7 @@ deliver_stays {remote} false s m t o h k ts ts' i g d = go d.accepted d.says.0 d
     peers p = subst (λ x. IsPeered (processed_by h m t).view.state (processed_by h m t).view.tuple x) is (process_peers h.control_block _ m.word t.ip t.segment (subst (λ x. IsPeered h.control_block.state h.control_block.tuple x) (sym is) p))
 
     go : (b : Bool) → (IsTrue b → Accepts h.control_block t.ip t.segment) → DeliversIf b s m t o h ts k ts' → StaysHost remote h k
-    go true a x = subst (StaysHost remote h) (sym x.host) (record { host = record { reachable = i.reachable; idle = λ u. absurd (closed_accepts_none h.control_block t (i.idle u).state (a refl)); passive = passive_kept h (delivered_to h m t) i refl (λ live. ((λ c. closed_accepts_none h.control_block t c (a refl)), process_listens h.control_block _ m.word t.ip t.segment)) }; endpoint = refl; peer = peers })
+    go true a x = subst (StaysHost remote h) (sym x.host) (record { host = record { reachable = i.reachable; idle = λ u. absurd (closed_accepts_none h.control_block t (i.idle u).state (a refl)); passive = passive_kept h (delivered_to h m t) i refl (λ live. ((λ c. closed_accepts_none h.control_block t c (a refl)), process_listens h.control_block _ m.word t.ip t.segment)); reached = called_reached h.control_block (processed_by h m t).view (process_call h.control_block m t small) i.reached }; endpoint = refl; peer = peers })
     go false a x = unchanged h k i x.host
 
 -- ---- the pair
@@ -268,12 +270,12 @@ new_peer : (rx : Received) (tx : Queue) (t : Tuple) → IsPeered (fresh rx tx).s
 unfolding fresh
 new_peer rx tx t = inl refl
 
-new_is_host : (rx : Received) (tx : Queue) (e : IpEndpoint) (x : Bool) → rx.bytes ≡ [] → tx.bytes ≡ [] → IsReachable e → IsHost (new_host (fresh rx tx) e x)
-new_is_host rx tx e x r t i = record { reachable = i; idle = λ u. new_idle rx tx r t; passive = λ shut live. absurd (shut refl) }
+new_is_host : (rx : Received) (tx : Queue) (e : IpEndpoint) (x : Bool) → rx.bytes ≡ [] → tx.bytes ≡ [] → IsReachable e → IsReached (fresh rx tx) → IsHost (new_host (fresh rx tx) e x)
+new_is_host rx tx e x r t i c = record { reachable = i; idle = λ u. new_idle rx tx r t; passive = λ shut live. absurd (shut refl); reached = c }
 
-pub new_is_pair : (arx : Received) (atx : Queue) (brx : Received) (btx : Queue) (a b : IpEndpoint) (x y : Bool) (limit : Option ℕ) (ha hb : HostView) (ts : List StoredView) → ha ≡ new_host (fresh arx atx) a x → hb ≡ new_host (fresh brx btx) b y → ts ≡ [] → arx.bytes ≡ [] → atx.bytes ≡ [] → brx.bytes ≡ [] → btx.bytes ≡ [] → IsReachable a → IsReachable b → SameVersion a.addr b.addr → IsLimit limit → IsPair (record { a = ha; b = hb; segments = ts; limit = limit })
-new_is_pair arx atx brx btx a b x y limit ha hb ts ea eb et r1 t1 r2 t2 ia ib v l =
+pub new_is_pair : (arx : Received) (atx : Queue) (brx : Received) (btx : Queue) (a b : IpEndpoint) (x y : Bool) (limit : Option ℕ) (ha hb : HostView) (ts : List StoredView) → ha ≡ new_host (fresh arx atx) a x → hb ≡ new_host (fresh brx btx) b y → ts ≡ [] → arx.bytes ≡ [] → atx.bytes ≡ [] → brx.bytes ≡ [] → btx.bytes ≡ [] → IsReachable a → IsReachable b → IsReached (fresh arx atx) → IsReached (fresh brx btx) → SameVersion a.addr b.addr → IsLimit limit → IsPair (record { a = ha; b = hb; segments = ts; limit = limit })
+new_is_pair arx atx brx btx a b x y limit ha hb ts ea eb et r1 t1 r2 t2 ia ib ca cb v l =
     subst (λ h. IsPair (record { a = h; b = hb; segments = ts; limit = limit })) (sym ea)
     (subst (λ h. IsPair (record { a = new_host (fresh arx atx) a x; b = h; segments = ts; limit = limit })) (sym eb)
     (subst (λ xs. IsPair (record { a = new_host (fresh arx atx) a x; b = new_host (fresh brx btx) b y; segments = xs; limit = limit })) (sym et)
-    (record { a = new_is_host arx atx a x r1 t1 ia; b = new_is_host brx btx b y r2 t2 ib; versions = v; peer_of_a = new_peer arx atx _; peer_of_b = new_peer brx btx _; segments = tt; network = starts limit l })))
+    (record { a = new_is_host arx atx a x r1 t1 ia ca; b = new_is_host brx btx b y r2 t2 ib cb; versions = v; peer_of_a = new_peer arx atx _; peer_of_b = new_peer brx btx _; segments = tt; network = starts limit l })))

@@ -1,14 +1,14 @@
 -- Where a side has no work, the other took all that it accepted.
 use Rattle.std.proofs.Common.{◌≡◌, ℕ, ◌-◌, ◌≤◌, length, drop, refl, sym, ap, subst, ◌∙◌, arith, length-drop}
 use Rattle.sock_tcp.specs.View.{View}
-use Rattle.sock_tcp.specs.Work.{IsReached, NoWorkNoBytes}
+use Rattle.sock_tcp.specs.Work.{NoWorkNoBytes}
 use Rattle.sock_tcp.specs.declared.state.State.{State}
 use Rattle.sock_tcp.specs.declared.state.State.TheVariants as state
 use Rattle.pair_core.specs.NetworkInvariant.{StreamInvariant}
 use Rattle.pair_core.specs.PairInvariant.{IsHost, IsPair}
 use Rattle.pair_core.specs.PairNetwork.{endpoint_of, phase_of, seen, shown}
 use Rattle.pair_core.specs.PairPromises.{IsReleased}
-use Rattle.pair_core.specs.PairQuiet.{AreReached, NoWorkMeansTaken}
+use Rattle.pair_core.specs.PairQuiet.{NoWorkMeansTaken}
 use Rattle.pair_core.specs.PairViews.{HostView, PairView}
 use Rattle.pair_core.specs.StreamModel.{Stream}
 use Rattle.pair_core.specs.StreamViews.{HasIss, HasNoIss, SocketView}
@@ -16,7 +16,7 @@ use Rattle.pair_core.specs.declared.host.Opening.{Opening}
 use Rattle.pair_core.specs.declared.host.Opening.TheVariants as opening
 use Rattle.pair_core.proofs.PairPromises.{keeps_release}
 
-module _ (law : NoWorkNoBytes) (sender receiver : HostView) (o : ℕ) (f : Stream) (i : IsHost sender) (s : StreamInvariant (endpoint_of sender) (endpoint_of receiver) o f) (reached : IsReached sender.control_block) where
+module _ (law : NoWorkNoBytes) (sender receiver : HostView) (o : ℕ) (f : Stream) (i : IsHost sender) (s : StreamInvariant (endpoint_of sender) (endpoint_of receiver) o f) where
   abbrev v : View
   v = sender.control_block
 
@@ -51,7 +51,7 @@ module _ (law : NoWorkNoBytes) (sender receiver : HostView) (o : ℕ) (f : Strea
       record { taken = omega (arith, l, r.released, r.taken); released = omega (arith, l, r.released, r.taken) }
     where
       none : length v.tx_buffer.bytes ≡ 0
-      none = law v reached alive idle
+      none = law v i.reached alive idle
 
       has : HasIss (phase_of v.state) → length sender.accepted ≤ sender.released
       has h = sent_all none (shows alive) h
@@ -72,8 +72,8 @@ module _ (law : NoWorkNoBytes) (sender receiver : HostView) (o : ℕ) (f : Strea
       go state.LastAck e = at state.LastAck e tt
       go state.TimeWait e = at state.TimeWait e tt
 
-pub no_work_taken_by_b : NoWorkNoBytes → (p : PairView) → IsPair p → AreReached p → NoWorkMeansTaken p.a p.b
-no_work_taken_by_b law p i r = took_all law p.a p.b i.network.local_origin i.network.outgoing i.a i.network.outgoing_holds r.a (keeps_release p i).of_a
+pub no_work_taken_by_b : NoWorkNoBytes → (p : PairView) → IsPair p → NoWorkMeansTaken p.a p.b
+no_work_taken_by_b law p i = took_all law p.a p.b i.network.local_origin i.network.outgoing i.a i.network.outgoing_holds (keeps_release p i).of_a
 
-pub no_work_taken_by_a : NoWorkNoBytes → (p : PairView) → IsPair p → AreReached p → NoWorkMeansTaken p.b p.a
-no_work_taken_by_a law p i r = took_all law p.b p.a i.network.remote_origin i.network.incoming i.b i.network.incoming_holds r.b (keeps_release p i).of_b
+pub no_work_taken_by_a : NoWorkNoBytes → (p : PairView) → IsPair p → NoWorkMeansTaken p.b p.a
+no_work_taken_by_a law p i = took_all law p.b p.a i.network.remote_origin i.network.incoming i.b i.network.incoming_holds (keeps_release p i).of_b

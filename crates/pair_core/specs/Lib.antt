@@ -13,6 +13,7 @@ pub mod PairSteps
 pub mod Exchanges
 pub mod PairNetwork
 pub mod PairAddresses
+pub mod SocketCalls
 pub mod PairInvariant
 pub mod PairLaws
 pub mod PairPromises

@@ -1,13 +1,8 @@
 -- What a pair has delivered once its sockets have no work left.
 use Rattle.std.specs.Prelude.{◌≡◌, false, length}
-use Rattle.sock_tcp.specs.Work.{IsReached, has_work}
+use Rattle.sock_tcp.specs.Work.{has_work}
 use Rattle.sock_tcp.specs.declared.state.State.TheVariants as state
-use Rattle.pair_core.specs.PairViews.{HostView, PairView}
-
--- both sockets are what some list of calls makes of a new one
-pub record AreReached (p : PairView) : Type 0 where
-  pub a : IsReached p.a.control_block
-  pub b : IsReached p.b.control_block
+use Rattle.pair_core.specs.PairViews.{HostView}
 
 -- the receiver took all that the sender accepted, and all of it was acknowledged
 pub record TookAll (sender receiver : HostView) : Type 0 where

@@ -18,23 +18,26 @@ ghost use Rattle.pair_core.specs.declared.setting.Setting.{Setting};
 ghost use Rattle.sock_tcp.specs.Process.{Accepts, processed};
 ghost use Rattle.sock_tcp.specs.Begin.{before_emit};
 ghost use Rattle.sock_tcp.specs.Content.{Sending, asked, offset_of, content};
+ghost use Rattle.sock_tcp.specs.Work.{IsReached};
 ghost use Rattle.sock_tcp.specs.declared.tuple.Tuple.{Tuple};
 ghost use Rattle.pair_core.specs.NetworkRuns.{Reaches, start, unopened};
 ghost use Rattle.pair_core.specs.PairInvariant.{IsPair, IsSized};
 ghost use Rattle.pair_core.specs.PairLaws.{IsBounded, MayEmit};
 ghost use Rattle.pair_core.specs.PairNetwork.{is_passive, network_of, shown, stream_segment, IsSmall};
 ghost use Rattle.pair_core.specs.PairPromises.{Prefix, Release, IsPromptAt};
-ghost use Rattle.pair_core.specs.PairQuiet.{AreReached, NoWorkMeansTaken};
+ghost use Rattle.pair_core.specs.PairQuiet.{NoWorkMeansTaken};
 ghost use Rattle.pair_core.specs.PairRuns.{EventRun};
 ghost use Rattle.pair_core.specs.PairSteps.{EventStep};
 ghost use Rattle.pair_core.specs.PairStreams.{AddsUp, accepted_by, accepted_in, handed_out_by, handed_out_in};
-ghost use Rattle.pair_core.specs.PairViews.{PairView, new_host, new_pair};
+ghost use Rattle.pair_core.specs.PairViews.{PairView, host_of, new_host, new_pair};
+ghost use Rattle.pair_core.specs.SocketCalls.{IsCalled};
 ghost use Rattle.pair_core.specs.StreamCalls.{ProcessEffect, DispatchEffect};
 ghost use Rattle.pair_core.specs.StreamViews.{Listening, SynSent};
 ghost use Rattle.pair_core.specs.declared.event.Event.{Event};
 ghost use Rattle.pair_core.specs.declared.event.Event.TheVariants.{Deliver};
 ghost use Rattle.pair_core.specs.declared.moment.Moment.{Moment};
 ghost use Rattle.pair_core.specs.declared.outcome.Outcome.{Outcome};
+ghost use Rattle.pair_core.specs.declared.side.Side.{Side};
 
 /// What `process` does with a segment that the socket accepts, and what it answers, is one of its effects on the
 /// streams. The answer has any stamps.
@@ -124,12 +127,20 @@ pub fn outcomes_add_up()
         → AddsUp p q (λ s. accepted_in s es os) (λ s. handed_out_in s es os) }
 {}
 
+/// Each event of a pair is one call on each of its sockets, or none, in the words of the law on any list of calls of one
+/// socket (`Step`). So each socket of a pair is what some list of calls makes of a new one.
+pub fn events_are_calls()
+    ensures step { (e : Event) (p : PairView) (o : Outcome) (q : PairView) → IsPair p → IsSized e p → EventStep e p o q
+        → (s : Side) → IsCalled (host_of s p).control_block (host_of s q).control_block }
+    ensures reached { (p : PairView) → IsPair p → (s : Side) → IsReached (host_of s p).control_block }
+{}
+
 /// Where a side of a pair is not CLOSED and has no work (`has_work`), the other side took every byte that it ever
 /// accepted, and all of them were acknowledged. So a pair whose connection lasts and whose sides both have no work has
-/// delivered all. Each socket is what some list of calls makes of a new one.
+/// delivered all.
 pub fn no_work_means_taken()
-    ensures of_a { (p : PairView) → IsPair p → AreReached p → NoWorkMeansTaken p.a p.b }
-    ensures of_b { (p : PairView) → IsPair p → AreReached p → NoWorkMeansTaken p.b p.a }
+    ensures of_a { (p : PairView) → IsPair p → NoWorkMeansTaken p.a p.b }
+    ensures of_b { (p : PairView) → IsPair p → NoWorkMeansTaken p.b p.a }
 {
     sock_tcp::poll::no_work_no_bytes()
 }

@@ -45,7 +45,7 @@ invariant_of-self g c =
     (λ o d.
     let e = delivers_to m o t B p c.args.index k ts c.counts-counts.result.released c.counts-counts.result.taken at c.in-A.is c.counts-counts.ensures.released c.counts-counts.ensures.taken d in
     let goes = goes_at B p c.args.index t c.self.invariant at c.in-A.is in
-    pair_exchanged B p k ts c.self.invariant (deliver_stays _ B m t o (host_of B p) k p.segments ts (host_at B p c.self.invariant) goes e) (deliver_all _ B p m t o k ts c.self.invariant goes e)
+    pair_exchanged B p k ts c.self.invariant (deliver_stays _ B m t o (host_of B p) k p.segments ts (host_at B p c.self.invariant) c.in_range.ensures.numbers goes e) (deliver_all _ B p m t o k ts c.self.invariant goes e)
     (deliver_keeps B p (host_at B p c.self.invariant) c.self.invariant.network m t o k ts m.fits c.in_range.ensures.numbers (contains_at p.segments c.args.index t at) c.in-A.is c.in_range-3.ensures.socket (peer_at B p c.self.invariant) goes e))
 
 pub returns-in-A-clause-step : goal.returns-in-A-clause-step
@@ -74,7 +74,7 @@ invariant_of-self-in-B g c =
     (λ o d.
     let e = delivers_to m o t A p c.args.index k ts c.counts-counts-in-B.result.released c.counts-counts-in-B.result.taken at c.in-B.is c.counts-counts-in-B.ensures.released c.counts-counts-in-B.ensures.taken d in
     let goes = goes_at A p c.args.index t c.self.invariant at c.in-B.is in
-    pair_exchanged A p k ts c.self.invariant (deliver_stays _ A m t o (host_of A p) k p.segments ts (host_at A p c.self.invariant) goes e) (deliver_all _ A p m t o k ts c.self.invariant goes e)
+    pair_exchanged A p k ts c.self.invariant (deliver_stays _ A m t o (host_of A p) k p.segments ts (host_at A p c.self.invariant) c.in_range.ensures.numbers goes e) (deliver_all _ A p m t o k ts c.self.invariant goes e)
     (deliver_keeps A p (host_at A p c.self.invariant) c.self.invariant.network m t o k ts m.fits c.in_range.ensures.numbers (contains_at p.segments c.args.index t at) c.in-B.is c.in_range-2.ensures.socket (peer_at A p c.self.invariant) goes e))
 
 pub returns-in-B-clause-step : goal.returns-in-B-clause-step

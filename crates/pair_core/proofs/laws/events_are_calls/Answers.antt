@@ -1,0 +1,6 @@
+use Rattle.pair_core.proofs.PairCalled.{event_called}
+use Rattle.pair_core.proofs.PairHosts.{host_at}
+use Rattle.pair_core.proofs.laws.events_are_calls.Goals as goal
+
+pub returns : goal.returns
+returns c = record { step = event_called; reached = λ p i s. (host_at s p i).reached }
