@@ -1,6 +1,7 @@
 -- Each event of a pair is one call on each of its sockets, or none.
 use Rattle.std.proofs.Common.{◌≡◌, ℕ, Bool, true, false, List, Option, Some, None, refl, sym, ap, subst, inl, inr}
-use Rattle.std.specs.Prelude.{length, slice_get, ◌+◌}
+use Rattle.std.specs.Prelude.{length, slice_get, ◌+◌, IsTrue}
+use Rattle.sock_tcp.specs.Process.{Accepts}
 use Rattle.sock_tcp.specs.Queues.{may_recv, may_send}
 use Rattle.pair_core.specs.Moments.{facts_of}
 use Rattle.pair_core.specs.PairCalls.{OpensAs, Receives, ReceivesIf, Sends, SendsIf, SendsUnder, aborting, closing, connecting, is_over, listening, receiving, sending, setting}
@@ -62,11 +63,11 @@ receives h k piece size o e = go (may_recv h.control_block) refl e
 
 delivers : (old : Bool) (s : Side) (m : Moment) (t : StoredView) (o : Outcome) (h k : HostView) (ts ts' : List StoredView) → IsSmall t.segment → DeliversTo old s m t o h ts k ts' → SideCalled h k
 delivers true s m t o h k ts ts' small d = stays h k d.1.0
-delivers false s m t o h k ts ts' small d = go d.accepted d.does
+delivers false s m t o h k ts ts' small d = go d.accepted d.says.0 d.does
   where
-    go : (b : Bool) → DeliversIf b s m t o h ts k ts' → SideCalled h k
-    go true x = becomes h (delivered_to h m t) k x.host (process_call h.control_block m t small)
-    go false x = stays h k x.host
+    go : (b : Bool) → (IsTrue b → Accepts h.control_block t.ip t.segment) → DeliversIf b s m t o h ts k ts' → SideCalled h k
+    go true a x = becomes h (delivered_to h m t) k x.host (process_call h.control_block m t small (a refl))
+    go false a x = stays h k x.host
 
 -- ---- the pair
 

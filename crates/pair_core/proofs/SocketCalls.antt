@@ -1,5 +1,5 @@
 -- Each event of a side is a call on its socket, in the words of the law on any list of calls.
-use Rattle.std.proofs.Common.{◌≡◌, ℕ, ◌+◌, ◌<◌, ◌≤◌, ◌^◌, Bool, true, false, not, refl, sym, ap, ◌∙◌, List, [], ◌++◌, length, take, drop, Option, Some, None, Ok, Err, arith, length-take}
+use Rattle.std.proofs.Common.{◌≡◌, ℕ, ◌+◌, ◌<◌, ◌≤◌, ◌^◌, Bool, true, false, not, refl, sym, ap, subst, ◌∙◌, List, [], ◌++◌, length, take, drop, Option, Some, None, Ok, Err, arith, length-take}
 use Rattle.std.specs.Prelude.{◌==◌, ◌||◌, if◌then◌else◌}
 use Rattle.std.proofs.lemmas.Bool.{eqb-true}
 use Rattle.std.proofs.lemmas.List.{take-take}
@@ -8,13 +8,16 @@ use Rattle.ip_wire.specs.declared.address.IpAddress.{IpAddress}
 use Rattle.ip_wire.specs.declared.address.IpAddress.TheVariants as address
 use Rattle.ip_wire.specs.declared.endpoint.IpEndpoint.{IpEndpoint}
 use Rattle.ip_wire.specs.declared.endpoint.IpListenEndpoint.{IpListenEndpoint}
+use Rattle.ip_wire.specs.declared.repr.IpRepr.{IpRepr}
 use Rattle.net_base.specs.Ring.{Ring}
+use Rattle.control_wire.specs.Segment.{Segment}
 use Rattle.sock_core.specs.Facts.{Facts}
 use Rattle.sock_core.specs.Received.{receiving}
 use Rattle.sock_tcp.specs.Begin.{before_emit}
 use Rattle.sock_tcp.specs.Closing.{aborted, closed}
 use Rattle.sock_tcp.specs.Content.{Sending, content}
 use Rattle.sock_tcp.specs.Opening.{after_connect, connected, endpoints, is_open, listened, no_address}
+use Rattle.sock_tcp.specs.Process.{Accepts, AcceptsIn}
 use Rattle.sock_tcp.specs.Queue.{appended, queue_of}
 use Rattle.sock_tcp.specs.Queues.{Reads, Sends, fitting, last_ts_after, may_recv, may_send, queued, read_off, readable, recv_refusal, timer_after, written}
 use Rattle.sock_tcp.specs.SocketRun as calls
@@ -179,5 +182,9 @@ module _ (f : Facts) (stamps fail : Bool) (r : Sent) (w : View) where
   unfolding SocketDispatches
   dispatch_call v d k = let x = goes_out (before_emit v f stamps).peer (before_emit v f stamps).view d in (starting_if (is_reset v f stamps) w k, calls.Dispatch f stamps x.0 x.1 refl)
 
-pub process_call : (v : View) (m : Moment) (t : StoredView) → IsSmall t.segment → IsCall v (processed_at v m t).view
-process_call v m t s k = (_, calls.Process (record { micros = m.now.micros }) m.word t.ip t.segment m.fits (record { seq_number = s.seq; ack_number = s.ack }) s.payload refl refl)
+-- LISTEN lets no segment with an acknowledgement in
+bare : (v : View) (ip : IpRepr) (s : Segment) → Accepts v ip s → v.state ≡ state.Listen → s.ack_number ≡ None
+bare v ip s a e = (subst (λ st. AcceptsIn st v ip s) e a).0.no_ack
+
+pub process_call : (v : View) (m : Moment) (t : StoredView) → IsSmall t.segment → Accepts v t.ip t.segment → IsCall v (processed_at v m t).view
+process_call v m t s a k = (_, calls.Process (record { micros = m.now.micros }) m.word t.ip t.segment m.fits (record { seq_number = s.seq; ack_number = s.ack }) s.payload (bare v t.ip t.segment a) refl refl)
