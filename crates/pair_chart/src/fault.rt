@@ -27,8 +27,14 @@ impl Fault {
     /// The exit status: 1 for wrong arguments, and otherwise that of the end of the drawing.
     #[tactic(auto, unfolding(sock_pair::specs::ReplayEnds::status_of))]
     pub fn status(&self) -> u8
-        ensures { result ≡ elim self.now
-            [ fault.Usage ↦ 1 | fault.Script e ↦ 1 | fault.Read ↦ 2 | fault.Open name e ↦ 2 | fault.Write ↦ 2 | fault.Memory ↦ 3 ] }
+        ensures { result ≡ elim self.now [
+          | fault.Usage ↦ 1
+          | fault.Script e ↦ 1
+          | fault.Read ↦ 2
+          | fault.Open name e ↦ 2
+          | fault.Write ↦ 2
+          | fault.Memory ↦ 3
+        ] }
     {
         match self {
             Fault::Usage => 1,

@@ -127,8 +127,8 @@ pub fn outcomes_add_up()
         → AddsUp p q (λ s. accepted_in s es os) (λ s. handed_out_in s es os) }
 {}
 
-/// Each event of a pair is one call on each of its sockets, or none, in the words of the law on any list of calls of one
-/// socket (`Step`). So each socket of a pair is what some list of calls makes of a new one.
+/// Each event of a pair is one call on each of its sockets, or none, in the words of the law on any list of calls of
+/// one socket (`Step`). So each socket of a pair is what some list of calls makes of a new one.
 pub fn events_are_calls()
     ensures step { (e : Event) (p : PairView) (o : Outcome) (q : PairView) → IsPair p → IsSized e p → EventStep e p o q
         → (s : Side) → IsCalled (host_of s p).control_block (host_of s q).control_block }

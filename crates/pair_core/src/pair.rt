@@ -355,8 +355,8 @@ impl<'a, G: TsvalSource> Pair<'a, G> {
         }
     }
 
-    /// Says that the segment of this index, where there is one, goes from a port that is not 0 to one that is not 0: they
-    /// are those of the pair's two ends, of which `new` asks it.
+    /// Says that the segment of this index, where there is one, goes from a port that is not 0 to one that is not 0:
+    /// they are those of the pair's two ends, of which `new` asks it.
     pub fn segment_has_ports(&self, index: usize)
         ensures { ForSome (slice_get self.now.segments index) (λ t. HasPorts t.segment) }
     {

@@ -70,9 +70,9 @@ fn emit_with_checksum(
 
 /// The segment that the bytes spell, between these two addresses.
 ///
-/// An error unless the header has at least 20 bytes and no more than there are, no port is 0, one at most of FIN, SYN and
-/// RST is set, the options are whole up to an END, as [`read_options`], and, where received checksums are tested, the
-/// checksum verifies. PSH beside one of the three is not kept, nor are URG and its pointer, as smoltcp.
+/// An error unless the header has at least 20 bytes and no more than there are, no port is 0, one at most of FIN, SYN
+/// and RST is set, the options are whole up to an END, as [`read_options`], and, where received checksums are tested,
+/// the checksum verifies. PSH beside one of the three is not kept, nor are URG and its pointer, as smoltcp.
 pub fn parse<'a>(
     bytes: &'a [u8],
     src_addr: &IpAddress,

@@ -231,8 +231,8 @@ module _ (s : Segment) (now : Instant) where
         left : seq_sub (later_of u.remote_last_seq k) k ≡ flight
         left = left_in_flight u.remote_last_seq k u.local_seq_no h.nxt_small small h.una_small fn fk
 
-        turned : (t : Timer) → Row st t u.keep_alive flight n → Row u.state t u.keep_alive (seq_sub (later_of u.remote_last_seq k) k) (length (drop a.len u.tx_buffer.bytes))
-        turned t r = subst (λ z. Row z t u.keep_alive (seq_sub (later_of u.remote_last_seq k) k) (length (drop a.len u.tx_buffer.bytes))) (sym h.state) (subst (λ i. Row st t u.keep_alive i (length (drop a.len u.tx_buffer.bytes))) (sym left) (subst (λ i. Row st t u.keep_alive flight i) (sym long) r))
+        row_holds : (t : Timer) → Row st t u.keep_alive flight n → Row u.state t u.keep_alive (seq_sub (later_of u.remote_last_seq k) k) (length (drop a.len u.tx_buffer.bytes))
+        row_holds t r = subst (λ z. Row z t u.keep_alive (seq_sub (later_of u.remote_last_seq k) k) (length (drop a.len u.tx_buffer.bytes))) (sym h.state) (subst (λ i. Row st t u.keep_alive i (length (drop a.len u.tx_buffer.bytes))) (sym left) (subst (λ i. Row st t u.keep_alive flight i) (sym long) r))
 
         peered : IsPeeredIn u.state u.tuple
         peered = subst (λ z. IsPeeredIn z u.tuple) (sym h.state) h.peered
@@ -257,7 +257,7 @@ module _ (s : Segment) (now : Instant) where
           room = omega (arith, h.room, long, h.covered);
           congestion = dup_acked_open _ _ (window_open u.congestion_controller _ h.congestion);
           peered = peered;
-          row = turned _ (leaves _ (set_has_moment now a after_duplicate.timer after_duplicate) (λ c f z. absurd (in_order d f)));
+          row = row_holds _ (leaves _ (set_has_moment now a after_duplicate.timer after_duplicate) (λ c f z. absurd (in_order d f)));
         }
         by false d = record {
           una_small = small;
@@ -265,7 +265,7 @@ module _ (s : Segment) (now : Instant) where
           room = omega (arith, h.room, long, h.covered);
           congestion = acked_open _ _ (window_open u.congestion_controller _ h.congestion);
           peered = peered;
-          row = turned _ (leaves _ (set_has_moment now a u.timer after_ack) (λ c f z. close_stays now a u.timer after_ack c (long ∙ z)));
+          row = row_holds _ (leaves _ (set_has_moment now a u.timer after_ack) (λ c f z. close_stays now a u.timer after_ack c (long ∙ z)));
         }
 
   -- ---- the table

@@ -18,7 +18,8 @@ fin_place state.Closing = 1
 fin_place state.LastAck = 1
 fin_place _ = 0
 
--- in LISTEN and in states whose SYN is acknowledged: before SND.UNA, behind all that was given to the socket, or between
+-- in LISTEN and in states whose SYN is acknowledged: before SND.UNA, behind all that was given to the socket, or
+-- between
 abbrev pub open_verdict : State → TcpSeqNumber → TcpSeqNumber → ℕ → Verdict
 open_verdict st ack una n =
     if is_before ack una then verdicts.Drop

@@ -39,10 +39,10 @@ pub fn process_only_appends()
         → MayTake v s (processed v now word ip s).view }
 {}
 
-/// The promise of one socket. After any list of calls on a new socket over any two buffers, with any segments, those of
-/// a hostile peer too, and while its connection lasts (from `listen`, `connect` or a return to LISTEN up to the next
-/// reset or such return; all counts then begin anew, with what stands in the queues: nothing after a reset, and what
-/// the connection left after a return to LISTEN, which empties neither queue):
+/// The promise of one socket. After any list of calls on a new socket over any two buffers, with any segments that
+/// `accepts` lets in, those of a hostile peer too, and while its connection lasts (from `listen`, `connect` or a return
+/// to LISTEN up to the next reset or such return; all counts then begin anew, with what stands in the queues: nothing
+/// after a reset, and what the connection left after a return to LISTEN, which empties neither queue):
 ///
 /// - the transmit queue is what the sending calls accepted, less the bytes that were released from its beginning;
 /// - what joined the receive queue is what the receiving calls handed out, followed by the receive queue, and the place

@@ -163,10 +163,10 @@ pub fn payload_keeps_to_windows()
 {}
 
 /// How a socket with work to do may wait for a segment alone, after any list of calls on a new socket over any two
-/// buffers of at most 2^30 bytes, with any segments: only with an idle timer that has no moment, without a user timeout
-/// and a keep-alive interval, and with no acknowledgement due; and only in SYN-RECEIVED with the SYN taken as sent, or
-/// in ESTABLISHED, CLOSE-WAIT, FIN-WAIT-1, CLOSING or LAST-ACK, where something is in flight, or nothing is and the
-/// peer's window is 0.
+/// buffers of at most 2^30 bytes, with any segments that `accepts` lets in: only with an idle timer that has no moment,
+/// without a user timeout and a keep-alive interval, and with no acknowledgement due; and only in SYN-RECEIVED with the
+/// SYN taken as sent, or in ESTABLISHED, CLOSE-WAIT, FIN-WAIT-1, CLOSING or LAST-ACK, where something is in flight, or
+/// nothing is and the peer's window is 0.
 pub fn sleeps_only_so()
     ensures { SleepsOnlySo }
 {}

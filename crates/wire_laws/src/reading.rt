@@ -7,8 +7,8 @@ use control_wire::TcpRepr;
 use ip_wire::{ChecksumCapabilities, Error, IpRepr};
 use segment_wire::packet::parse_tcp;
 
-/// Whatever `parse_tcp` reads, of any bytes whatever, may be handed to a socket that accepts it, and answered by `reply`
-/// and `rst_reply`: its ports are not 0, and its payload has at most 65535 bytes.
+/// Whatever `parse_tcp` reads, of any bytes whatever, may be handed to a socket that accepts it, and answered by
+/// `reply` and `rst_reply`: its ports are not 0, and its payload has at most 65535 bytes.
 pub fn what_is_read_may_come<'a>(
     packet: &'a [u8],
     caps: &ChecksumCapabilities,
