@@ -48,7 +48,7 @@ edge_shown a b p q = omega arith
 
 -- ---- the cut
 
-cut_to : (w : Window) (s : TcpSeqNumber) (g : StreamSegment) → g.seq ≡ s.0 → cut w.start.0 w.end.0 g ≡ cut_bytes (cut_of w s (length g.payload)) g.payload
+pub cut_to : (w : Window) (s : TcpSeqNumber) (g : StreamSegment) → g.seq ≡ s.0 → cut w.start.0 w.end.0 g ≡ cut_bytes (cut_of w s (length g.payload)) g.payload
 unfolding cut_of number_distance
 cut_to w s g e =
     let a : later_number w.start.0 g.seq ≡ (later_of w.start s).0 = ap (later_number w.start.0) e ∙ sym (later_shown w.start s) in

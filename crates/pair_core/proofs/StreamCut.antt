@@ -10,7 +10,7 @@ use Rattle.sock_core.specs.Streams.{ByteAt, IsPrefix, fin_length}
 use Rattle.sock_core.proofs.Numbers.{distance_back, distance_self, distance_up, is_before, later_place, not_before, number_add, sooner_place, sooner_same}
 use Rattle.sock_core.proofs.Streams.{byte_drop, byte_take, byte_within, prefix_from_at}
 use Rattle.pair_core.specs.StreamEffects.{Brings, HearsData}
-use Rattle.pair_core.specs.StreamTables.{Gathers, GathersNothing, IsInside, JoinsAtOnce, TakesPayload, TakesWhole, cut, cut_from, cut_offset, merged, segment_end}
+use Rattle.pair_core.specs.StreamTables.{Gathers, GathersNothing, IsInside, JoinsWithHeld, TakesPayload, TakesWhole, cut, cut_from, cut_offset, merged, segment_end}
 use Rattle.pair_core.specs.StreamViews.{SocketView, StreamSegment}
 
 -- the cut of a segment at the place s against the window from l up to r
@@ -50,7 +50,7 @@ module _ (v w : SocketView) (o : ℕ) (bs : List ℕ) (zero_o : o ≡ 0) (d : Ga
   then_held k l m = d.run k m ∙ past k l
 
   -- so they join at once
-  pub at_once : JoinsAtOnce v w bs
+  pub at_once : JoinsWithHeld v w bs
   at_once =
       let f = joins_at_once in
       let long : length d.more ≡ length bs + length f.0 = ap length (sym f.1) ∙ length-append bs f.0 in

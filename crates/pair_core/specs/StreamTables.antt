@@ -47,7 +47,7 @@ pub record Gathers (v w : SocketView) (o : ℕ) (bytes : List ℕ) : Type 0 wher
   pub held : (k : ℕ) → w.held k ≡ merged v.held o bytes (length more + k)
 
 -- the bytes join the queue at once, and behind them what was held there
-pub record JoinsAtOnce (v w : SocketView) (bytes : List ℕ) : Type 0 where
+pub record JoinsWithHeld (v w : SocketView) (bytes : List ℕ) : Type 0 where
   pub then_held : List ℕ
   pub queue : w.receive_queue ≡ v.receive_queue ++ (bytes ++ then_held)
   pub were_held : (k : ℕ) → k < length then_held → slice_get then_held k ≡ v.held (length bytes + k)

@@ -1,13 +1,14 @@
 //! What the case tables of a socket come to for the theorem on two streams, as laws: functions whose contracts are the
 //! laws and whose bodies are empty. What is proved of a pair stands on them, and looks into no case table of a socket
 //! itself. And what is promised of a pair.
-ghost use Rattle.std.specs.Prelude.{◌≡◌, ℕ, ◌<◌, ◌≤◌, ◌^◌, ◌++◌, List, length, min, take, drop, Option, Some, option_map, is_some, Bool};
+ghost use Rattle.std.specs.Prelude.{◌≡◌, ℕ, ◌<◌, ◌≤◌, ◌+◌, ◌-◌, ◌^◌, ◌++◌, List, length, min, max, take, drop, Option, Some, option_map, is_some, Bool};
 ghost use Rattle.ip_wire.specs.declared.endpoint.IpEndpoint.{IpEndpoint};
 ghost use Rattle.ip_wire.specs.declared.endpoint.IpListenEndpoint.{IpListenEndpoint};
 ghost use Rattle.ip_wire.specs.declared.repr.IpRepr.{IpRepr};
 ghost use Rattle.net_base.specs.declared.time.Instant.{Instant};
 ghost use Rattle.control_wire.specs.Segment.{Segment};
 ghost use Rattle.sock_core.specs.Facts.{Facts};
+ghost use Rattle.sock_core.specs.Places.{number_at};
 ghost use Rattle.sock_core.specs.Received.{room_of};
 ghost use Rattle.sock_tcp.specs.Queue.{IsLent};
 ghost use Rattle.sock_tcp.specs.View.{View, FinSays, moment_of};
@@ -18,13 +19,14 @@ ghost use Rattle.pair_core.specs.declared.setting.Setting.{Setting};
 ghost use Rattle.sock_tcp.specs.Process.{Accepts, processed};
 ghost use Rattle.sock_tcp.specs.Begin.{before_emit};
 ghost use Rattle.sock_tcp.specs.Content.{Sending, asked, offset_of, content};
+ghost use Rattle.sock_tcp.specs.Window.{receive_window};
 ghost use Rattle.sock_tcp.specs.Work.{IsReached};
 ghost use Rattle.sock_tcp.specs.declared.tuple.Tuple.{Tuple};
 ghost use Rattle.pair_core.specs.NetworkRuns.{Reaches, start, unopened};
 ghost use Rattle.pair_core.specs.PairInvariant.{IsPair, IsSized};
 ghost use Rattle.pair_core.specs.PairLaws.{IsBounded, MayEmit};
 ghost use Rattle.pair_core.specs.PairNetwork.{is_passive, network_of, shown, stream_segment, IsSmall};
-ghost use Rattle.pair_core.specs.PairPromises.{Prefix, Release, IsPromptAt};
+ghost use Rattle.pair_core.specs.PairPromises.{Prefix, Release, IsPromptAt, in_window};
 ghost use Rattle.pair_core.specs.PairQuiet.{NoWorkMeansTaken};
 ghost use Rattle.pair_core.specs.PairRuns.{EventRun};
 ghost use Rattle.pair_core.specs.PairSteps.{EventStep};
@@ -107,6 +109,17 @@ pub fn pairs_deliver_in_order()
 pub fn pairs_deliver_at_once()
     ensures { (i : ℕ) (m : Moment) (p q : PairView) (o : Outcome) → EventStep (Deliver i m) p o q
         → IsPromptAt i m p o q }
+{}
+
+/// The bytes of a segment that this promise speaks of are those between the edges of the window: of a segment at the
+/// place `n`, and a window from the place `l` up to the place `r`, the bytes from the greater of `l` and `n` up to the
+/// lesser of `r` and the segment's end.
+pub fn in_window_is_that_of_places()
+    ensures { (v : View) (s : Segment) (origin l r n : ℕ) → (receive_window v).start.0 ≡ number_at origin l
+        → (receive_window v).end.0 ≡ number_at origin r → s.seq_number.0 ≡ number_at origin n
+        → l ≤ r → r < l + 2 ^ 30 → n < l + 2 ^ 30 → l < n + 2 ^ 30 → length s.payload ≤ 65535 → n ≤ r
+        → l ≤ n + length s.payload
+        → in_window v s ≡ take (min (n + length s.payload) r - max l n) (drop (max l n - n) s.payload) }
 {}
 
 /// Each event of a pair is a run of steps of the theorem on two streams, from the network that the pair shows to the

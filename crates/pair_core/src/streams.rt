@@ -7,7 +7,7 @@ ghost use Rattle.std.specs.declared.option.Option.TheVariants.{Some, None};
 ghost use Rattle.sock_core.specs.Places.{number_at, number_distance, number_is_before, later_number};
 ghost use Rattle.pair_core.specs.StreamViews.{Listening, Open, SocketView, StreamSegment, HasIss, IsNonSynchronized};
 ghost use Rattle.pair_core.specs.StreamEffects.{HearsData, HearsAck, SendsPayload, SendsKeepAlive, SndNxtWithin};
-ghost use Rattle.pair_core.specs.StreamTables.{cut, Gathers, JoinsAtOnce, TakesPayload, TakesWhole, HasSendingBounds, AckPasses, Content};
+ghost use Rattle.pair_core.specs.StreamTables.{cut, Gathers, JoinsWithHeld, TakesPayload, TakesWhole, HasSendingBounds, AckPasses, Content};
 ghost use Rattle.pair_core.specs.StreamCalls.{ProcessEffect, DispatchEffect, EmitEffect};
 ghost use Rattle.pair_core.specs.Network.{Network, Step, swapped, AnswersFinished, Arrives, IsStamped, with_local, with_view, heard_by, emitted};
 ghost use Rattle.pair_core.specs.NetworkInvariant.{IsLimit, IsInvariant};
@@ -91,7 +91,7 @@ pub fn whole_segment_is_heard()
 
 /// Bytes that are taken in order join the receive queue at once, followed by the bytes that were held behind them.
 pub fn bytes_in_order_join_at_once()
-    ensures { (v w : SocketView) (bytes : List ℕ) → Gathers v w 0 bytes → JoinsAtOnce v w bytes }
+    ensures { (v w : SocketView) (bytes : List ℕ) → Gathers v w 0 bytes → JoinsWithHeld v w bytes }
 {}
 
 /// The cut in 32-bit numbers is the cut in places: of a segment at the place `s`, and a window from the place `l` up to
