@@ -15,7 +15,7 @@ use Rattle.control_wire.specs.declared.tcp.TcpTimestampRepr.{TcpTimestampRepr}
 use Rattle.sock_core.specs.Facts.{Facts}
 use Rattle.sock_tcp.proofs.Frames.{GoesBack}
 use Rattle.sock_tcp.specs.Begin.{after_timers, before_emit, before_emit_to, begun, begun_to, by_due, ended, last_ts_set, unless_paused}
-use Rattle.sock_tcp.specs.Content.{Sending, content, filled, kind_of, of_kind, plain_segment, sent_as}
+use Rattle.sock_tcp.specs.Content.{Sending, content, filled, emission_kind, of_kind, plain_segment, sent_as}
 use Rattle.sock_tcp.specs.Due.{is_due}
 use Rattle.sock_tcp.specs.Laws.{IsPeered}
 use Rattle.sock_tcp.specs.Opening.{renewed}
@@ -168,10 +168,10 @@ module _ (v : View) (t : Tuple) (f : Facts) (stamp : Option ℕ) (bytes : List �
       the_sending : {a b : Sending} → Some a ≡ Some b → a ≡ b
       the_sending e = cc
 
-      go : (o : Option Segment) → filled v.state v t f bytes (plain_segment v t stamp) ≡ o → option_map (λ x. sent_as v t (kind_of v (moment_of f) x) x) o ≡ Some c → Leaves c
+      go : (o : Option Segment) → filled v.state v t f bytes (plain_segment v t stamp) ≡ o → option_map (λ x. sent_as v t (emission_kind v (moment_of f) x) x) o ≡ Some c → Leaves c
       go None is e = let no : None ≡ Some c = e in cc
       go (Some x) is e = subst Leaves (the_sending e) (record {
-        ports = kind_ports (kind_of v (moment_of f) x) x (filled_ports v.state x is);
+        ports = kind_ports (emission_kind v (moment_of f) x) x (filled_ports v.state x is);
         src = header_src t.local.addr t.remote.addr protocol.Tcp _ _;
         dst = header_dst t.local.addr t.remote.addr protocol.Tcp _ _ version;
       })

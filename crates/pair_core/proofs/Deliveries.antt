@@ -8,7 +8,7 @@ use Rattle.sock_tcp.specs.View.{View}
 use Rattle.control_wire.specs.declared.tcp.TcpControl.{TcpControl}
 use Rattle.control_wire.specs.declared.tcp.TcpControl.TheVariants as control
 use Rattle.control_wire.specs.declared.tcp.TcpTimestampRepr.{TcpTimestampRepr}
-use Rattle.sock_tcp.specs.Replies.{Answers, IsStamp}
+use Rattle.sock_tcp.specs.Replies.{Answers, IsReplyStamp}
 use Rattle.pair_core.specs.Exchanges.{DeliversAt, TakesRoomAt}
 use Rattle.pair_core.specs.Holding.{kept_at}
 use Rattle.pair_core.specs.PairSteps.{is_too_old, IsStampOf, processed_by, delivered_to, stamps_after, refusal_of, refusal_reply, reply_index, DeliversTo}
@@ -35,7 +35,7 @@ pub read_twice : {X : Type 0} (xs ys : List X) (n : ℕ) (a b : X) → n < lengt
 read_twice xs ys n a b l e p q = q ∙ ap (λ zs. get_or zs n b) e ∙ get_same xs n b a l ∙ sym p
 
 -- the timestamp of a reply, by whether there is a source of them
-stamp_at : {G : Type 0} (tells : G → ℕ → Type 0) (source : Option G) (came : Option TcpTimestampRepr) (c : TcpControl) (t : Option TcpTimestampRepr) → IsStamp tells source came c t → IsStampOf (is_some source) came c t
+stamp_at : {G : Type 0} (tells : G → ℕ → Type 0) (source : Option G) (came : Option TcpTimestampRepr) (c : TcpControl) (t : Option TcpTimestampRepr) → IsReplyStamp tells source came c t → IsStampOf (is_some source) came c t
 stamp_at tells None came c t x = x
 stamp_at tells (Some g) None c t x = x
 stamp_at tells (Some g) (Some u) control.None (Some t) x = x.1
@@ -45,7 +45,7 @@ stamp_at tells (Some g) (Some u) control.Syn t x = x
 stamp_at tells (Some g) (Some u) control.Fin t x = x
 stamp_at tells (Some g) (Some u) control.Rst t x = x
 
-pub stamps_of : {G : Type 0} (tells : G → ℕ → Type 0) (source : Option G) (came : Option TcpTimestampRepr) (ip : IpRepr) (x : Option Segment) (r : Option (IpRepr × Segment)) → Answers (IsStamp tells source came) ip x r → Answers (IsStampOf (is_some source) came) ip x r
+pub stamps_of : {G : Type 0} (tells : G → ℕ → Type 0) (source : Option G) (came : Option TcpTimestampRepr) (ip : IpRepr) (x : Option Segment) (r : Option (IpRepr × Segment)) → Answers (IsReplyStamp tells source came) ip x r → Answers (IsStampOf (is_some source) came) ip x r
 stamps_of tells source came ip None None a = tt
 stamps_of tells source came ip None (Some r) a = absurd a
 stamps_of tells source came ip (Some x) None a = absurd a

@@ -6,7 +6,7 @@ use Rattle.std.proofs.lemmas.List.Elements.{Contains-push_cases, Contains-append
 use Rattle.std.proofs.lemmas.List.{append-nil, nil_from_length}
 use Rattle.pair_core.specs.Network.{Endpoint, Finishes, IsWithin, Network, swapped}
 use Rattle.pair_core.specs.NetworkInvariant.{IsInvariant, IsLimit, StreamInvariant}
-use Rattle.pair_core.specs.NetworkRuns.{AlwaysCompletes, AlwaysDelivers, AlwaysEnds, AreDelivered, EitherSteps, HasEnded, IsDelivered, Run, start, unopened}
+use Rattle.pair_core.specs.NetworkRuns.{AlwaysCompletes, AlwaysDelivers, AlwaysEnds, AreDelivered, EitherSteps, StreamEnded, IsDelivered, Run, start, unopened}
 use Rattle.pair_core.specs.StreamModel.{IsSound, Stream}
 use Rattle.pair_core.proofs.NetworkChanges.{counts_ordered, none_in}
 use Rattle.pair_core.proofs.NetworkSteps.{closed_stays, either_keeps, step_adds, swapped_keeps}
@@ -123,7 +123,7 @@ always_completes limit bound = record {
 }
 
 -- a side's stream ends with its close, whichever side takes a step
-pub local_ends : (w v : Network) → EitherSteps w v → IsInvariant w → w.local.closed ≡ true → HasEnded w.local v.local
+pub local_ends : (w v : Network) → EitherSteps w v → IsInvariant w → w.local.closed ≡ true → StreamEnded w.local v.local
 local_ends w v (inl step) i c = closed_stays w v step i c
 local_ends w v (inr step) i c = let e = (step_adds (swapped w) (swapped v) step).remote in record { closed = ap (λ (z : Endpoint). z.closed) e ∙ c; accepted = ap (λ (z : Endpoint). z.accepted) e }
 

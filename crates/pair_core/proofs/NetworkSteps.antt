@@ -5,7 +5,7 @@ use Rattle.sock_core.specs.Streams.{IsPrefix}
 use Rattle.sock_core.proofs.Streams.{prefix_self}
 use Rattle.pair_core.specs.Network.{Accepts, AnswersRefused, Closes, ClosesUnacknowledged, Connects, Dies, Dispatches, Emits, Endpoint, Finishes, HandsOut, Hears, Listens, Network, Replies, Step, closed_after, closed_unacknowledged, connected, emitted, heard_by, listened, swapped, with_accepted, with_local, with_read, with_view}
 use Rattle.pair_core.specs.NetworkInvariant.{IsInvariant, PhaseAllows}
-use Rattle.pair_core.specs.NetworkRuns.{EitherSteps, HasEnded, OnlyAdds}
+use Rattle.pair_core.specs.NetworkRuns.{EitherSteps, StreamEnded, OnlyAdds}
 use Rattle.pair_core.specs.StreamViews.{HasIss, Open, SocketView, StreamSegment}
 use Rattle.pair_core.proofs.NetworkCalls.{accepts, closes, closes_unacknowledged, hands_out}
 use Rattle.pair_core.proofs.NetworkDeliveries.{dispatch_keeps, emission_keeps, ends_keep, hear_keeps, reply_keeps}
@@ -124,7 +124,7 @@ step_adds w v (Dispatches u does is) = subst (OnlyAdds w) (sym is) (adds_none w 
 step_adds w v (Emits g stamps may is) = subst (OnlyAdds w) (sym is) (adds_segment w g)
 
 -- a side that was closed does not send, so its stream has ended
-pub closed_stays : (w v : Network) → Step w v → IsInvariant w → w.local.closed ≡ true → HasEnded w.local v.local
+pub closed_stays : (w v : Network) → Step w v → IsInvariant w → w.local.closed ≡ true → StreamEnded w.local v.local
 closed_stays w v step i c =
     let adds = step_adds w v step in
     record {

@@ -8,7 +8,7 @@ use Rattle.sock_tcp.specs.declared.error.RecvError.{RecvError}
 use Rattle.sock_tcp.specs.declared.error.RecvError.TheVariants as recv_error
 use Rattle.pair_core.specs.Network.{AnswersFinished, Network, swapped}
 use Rattle.pair_core.specs.NetworkInvariant.{IsInvariant}
-use Rattle.pair_core.specs.NetworkRuns.{HasEnded as Ended, IsDelivered, Reaches, Run}
+use Rattle.pair_core.specs.NetworkRuns.{StreamEnded, IsDelivered, Reaches, Run}
 use Rattle.pair_core.specs.PairCalls.{IsRead, ReceivesIf}
 use Rattle.pair_core.specs.PairInvariant.{IsHost, IsPair, IsSized}
 use Rattle.pair_core.specs.PairNetwork.{endpoint_of, network_of}
@@ -108,14 +108,14 @@ module _ (p : PairView) (i : IsPair p) where
 -- ---- a closed side
 
 -- along a run
-run_ends : (us : List Network) (w v : Network) → Run w us v → IsInvariant w → w.local.closed ≡ true → Ended w.local v.local
-run_ends [] w v e i c = subst (λ (z : Network). Ended w.local z.local) e (record { closed = c; accepted = refl })
+run_ends : (us : List Network) (w v : Network) → Run w us v → IsInvariant w → w.local.closed ≡ true → StreamEnded w.local v.local
+run_ends [] w v e i c = subst (λ (z : Network). StreamEnded w.local z.local) e (record { closed = c; accepted = refl })
 run_ends (u ∷ us) w v r i c =
     let one = local_ends w u r.0 i c in
     let more = run_ends us u v r.1 (either_keeps w u r.0 i) one.closed in
     record { closed = more.closed; accepted = more.accepted ∙ one.accepted }
 
-reach_ends : (w v : Network) → Reaches w v → IsInvariant w → w.local.closed ≡ true → Ended w.local v.local
+reach_ends : (w v : Network) → Reaches w v → IsInvariant w → w.local.closed ≡ true → StreamEnded w.local v.local
 reach_ends w v r i c = run_ends r.0 w v r.1 i c
 
 side_ends : (s : Side) (p q : PairView) → Reaches (network_of p) (network_of q) → IsInvariant (network_of p) → (host_of s p).closed ≡ true → HasEnded (host_of s p) (host_of s q)

@@ -15,7 +15,7 @@ use Rattle.sock_tcp.specs.Queue.{IsLent}
 use Rattle.sock_tcp.specs.View.{View, moment_of}
 use Rattle.sock_tcp.specs.Begin.{before_emit}
 use Rattle.sock_tcp.specs.Due.{congestion_left, effective_mss}
-use Rattle.sock_tcp.specs.Content.{Sending, asked, offset_of, is_probing, content, filled, kind_of, of_kind, sent_as, carries_data, window_left, plain_segment}
+use Rattle.sock_tcp.specs.Content.{Sending, asked, offset_of, is_probing, content, filled, emission_kind, of_kind, sent_as, carries_data, window_left, plain_segment}
 use Rattle.sock_core.specs.Emission.{Emits, EmitsAt}
 use Rattle.sock_tcp.specs.Outgoing.{packet_of}
 use Rattle.sock_tcp.specs.Sent.{left_by}
@@ -62,17 +62,17 @@ unfolding plain_segment
 plain_len v t stamp = refl
 
 -- a keep-alive has one byte
-kind_len : (v : View) (now : Instant) (s : Segment) (n : ℕ) → length s.payload ≤ n → 1 ≤ n → length (of_kind (kind_of v now s) v s).payload ≤ n
+kind_len : (v : View) (now : Instant) (s : Segment) (n : ℕ) → length s.payload ≤ n → 1 ≤ n → length (of_kind (emission_kind v now s) v s).payload ≤ n
 kind_len v now s n h one = by_kinds v (λ x. length x.payload ≤ n) now s h (λ e. omega (arith, one))
 
 content_len : (v : View) (t : Tuple) (f : Facts) (stamp : Option ℕ) (bytes : List ℕ) (n : ℕ) → length bytes ≤ n → 1 ≤ n → (s : Sending) → content v t f stamp bytes ≡ Some s → length s.segment.payload ≤ n
 unfolding content payload_len
 content_len v t f stamp bytes n h one s e = go (filled v.state v t f bytes (plain_segment v t stamp)) (filled_len v.state v t f bytes (plain_segment v t stamp) (plain_len v t stamp)) e
   where
-    go : (o : Option Segment) → payload_len o ≤ length bytes → option_map (λ s. sent_as v t (kind_of v (moment_of f) s) s) o ≡ Some s → length s.segment.payload ≤ n
+    go : (o : Option Segment) → payload_len o ≤ length bytes → option_map (λ s. sent_as v t (emission_kind v (moment_of f) s) s) o ≡ Some s → length s.segment.payload ≤ n
     go None le e = absurd (none-some s e)
     go (Some x) le e =
-        let q : sent_as v t (kind_of v (moment_of f) x) x ≡ s = same_Some (sent_as v t (kind_of v (moment_of f) x) x) s e in
+        let q : sent_as v t (emission_kind v (moment_of f) x) x ≡ s = same_Some (sent_as v t (emission_kind v (moment_of f) x) x) s e in
         subst (λ (y : Sending). length y.segment.payload ≤ n) q (kind_len v (moment_of f) x n (omega (arith, le, h)) one)
 
 asked_len : (v : View) (t : Tuple) (f : Facts) (stamps : Bool) → asked v t f stamps ≤ f.mtu

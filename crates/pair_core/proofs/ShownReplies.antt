@@ -11,7 +11,7 @@ use Rattle.sock_tcp.specs.Window.{next_ack}
 use Rattle.sock_tcp.specs.Replies.{ack_segment, ack_kept}
 use Rattle.sock_tcp.specs.Timers.{after, challenge_interval}
 use Rattle.sock_tcp.specs.Steps.{joined, ack_delayed}
-use Rattle.sock_tcp.specs.Process.{Outcome, stopped, acked, challenged, close_restarted, outside_by, outside, gap_answered, bytes_taken}
+use Rattle.sock_tcp.specs.Process.{Outcome, stopped, ack_sent, challenged, close_restarted, outside_by, outside, gap_answered, bytes_taken}
 use Rattle.pair_core.specs.PairNetwork.{shown, stream_segment}
 use Rattle.pair_core.specs.StreamCalls.{Answers, ReplyEffect, Segment as MayAnswer}
 use Rattle.pair_core.specs.StreamEffects.{SndNxtWithin}
@@ -61,7 +61,7 @@ module _ (s : Segment) (now : Instant) where
   pub quiet_there : (w : View) (y : SocketView) → shown w ≡ y → Answered s y (stopped w)
   quiet_there w y e = record { view = e; answer = inl refl }
 
-  pub acked_there : (w : View) (y : SocketView) → shown w ≡ y → Answered s y (acked w s)
+  pub acked_there : (w : View) (y : SocketView) → shown w ≡ y → Answered s y (ack_sent w s)
   unfolding ack_kept
   acked_there w y e = record { view = e; answer = inr (w, refl, record { seq = ap (λ (z : SocketView). z.snd_nxt) e; nxt = ap (λ (z : SocketView). z.rcv_nxt) e }) }
 
@@ -69,7 +69,7 @@ module _ (s : Segment) (now : Instant) where
   unfolding challenged
   challenged_there w y e = go (int_lt now.micros w.challenge_ack_timer.micros)
     where
-      go : (b : Bool) → Answered s y (if b then stopped w else acked (record w { challenge_ack_timer = after now challenge_interval }) s)
+      go : (b : Bool) → Answered s y (if b then stopped w else ack_sent (record w { challenge_ack_timer = after now challenge_interval }) s)
       go true = quiet_there w y e
       go false = acked_there (record w { challenge_ack_timer = after now challenge_interval }) y e
 
@@ -78,7 +78,7 @@ module _ (s : Segment) (now : Instant) where
   unfolding outside close_restarted
   outside_there w = by s.control
     where
-      bytes_or_none : (b : Bool) → Answered s (shown w) (if b then challenged (close_restarted w now) now s else acked (close_restarted w now) s)
+      bytes_or_none : (b : Bool) → Answered s (shown w) (if b then challenged (close_restarted w now) now s else ack_sent (close_restarted w now) s)
       bytes_or_none true = challenged_there (close_restarted w now) (shown w) refl
       bytes_or_none false = acked_there (close_restarted w now) (shown w) refl
 
@@ -100,7 +100,7 @@ module _ (s : Segment) (now : Instant) where
       y : SocketView
       y = shown (record w { rx_buffer = taken_in w.rx_buffer o bs })
 
-      gap : (b : Bool) → Answered s y (if b then stopped u else acked u s)
+      gap : (b : Bool) → Answered s y (if b then stopped u else ack_sent u s)
       gap true = quiet_there u y refl
       gap false = acked_there u y refl
 

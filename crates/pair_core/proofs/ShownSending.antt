@@ -12,7 +12,7 @@ use Rattle.control_wire.specs.declared.tcp.TcpControl.{TcpControl}
 use Rattle.control_wire.specs.declared.tcp.TcpControl.TheVariants as control
 use Rattle.sock_core.specs.Facts.{Facts}
 use Rattle.sock_core.specs.Streams.{IsPrefix}
-use Rattle.sock_tcp.specs.Content.{Sending, asked, offset_of, is_probing, plain_segment, with_data, data_control, syn, syn_ack, filled, kind_of, of_kind, sent_as, content}
+use Rattle.sock_tcp.specs.Content.{Sending, asked, offset_of, is_probing, plain_segment, with_data, data_control, syn, syn_ack, filled, emission_kind, of_kind, sent_as, content}
 use Rattle.sock_tcp.specs.Due.{flight, is_closing}
 use Rattle.sock_tcp.specs.Queue.{IsLent}
 use Rattle.sock_tcp.specs.Timers.{is_keep_alive_over}
@@ -178,7 +178,7 @@ module _ (v : View) (released taken : ℕ) where
 -- ---- by kind
 
 -- what holds of a segment, and of the keep-alive in its place where it is empty, holds of what goes out
-pub by_kinds : (v : View) (P : Segment → Type 0) (now : Instant) (s : Segment) → P s → (is_empty_segment s ≡ true → P (of_kind kind.KeepAlive v s)) → P (of_kind (kind_of v now s) v s)
+pub by_kinds : (v : View) (P : Segment → Type 0) (now : Instant) (s : Segment) → P s → (is_empty_segment s ≡ true → P (of_kind kind.KeepAlive v s)) → P (of_kind (emission_kind v now s) v s)
 by_kinds v P now s plain alive = go (is_probing v now) (is_keep_alive_over v.timer now) (is_empty_segment s) refl
   where
     go : (a b e : Bool) → is_empty_segment s ≡ e → P (of_kind (cond a kind.Probe (cond (b && e) kind.KeepAlive kind.Plain)) v s)
@@ -193,7 +193,7 @@ module _ (v : View) (released taken : ℕ) where
   -- the segment that is filled in goes out, or nothing does
   abbrev Filled : Instant → Option Segment → Type 0
   Filled now None = Unit {0}
-  Filled now (Some s) = GoesOut v released taken (of_kind (kind_of v now s) v s)
+  Filled now (Some s) = GoesOut v released taken (of_kind (emission_kind v now s) v s)
 
   module _ (b : HasSendingBounds (shown v)) (iss : HasIss (phase_of v.state)) where
     data_filled : KnowsPeer (phase_of v.state) → (is_closing v.state ≡ true → phase_of v.state ≡ FinQueued) → (t : Tuple) (f : Facts) (stamp : Option ℕ) (stamps : Bool) (bytes : List ℕ) (now : Instant)
@@ -238,9 +238,9 @@ module _ (v : View) (released taken : ℕ) where
     fills t f stamp stamps bytes now lent state.Closing e = data_filled (knows_in state.Closing e tt) (closing_in state.Closing e (λ h. refl)) t f stamp stamps bytes now lent
     fills t f stamp stamps bytes now lent state.LastAck e = data_filled (knows_in state.LastAck e tt) (closing_in state.LastAck e (λ h. refl)) t f stamp stamps bytes now lent
 
-  out : (t : Tuple) (now : Instant) (o : Option Segment) → Filled now o → (c : Sending) → option_map (λ s. sent_as v t (kind_of v now s) s) o ≡ Some c → GoesOut v released taken c.segment
+  out : (t : Tuple) (now : Instant) (o : Option Segment) → Filled now o → (c : Sending) → option_map (λ s. sent_as v t (emission_kind v now s) s) o ≡ Some c → GoesOut v released taken c.segment
   out t now None h c e = absurd (none-some c e)
-  out t now (Some s) h c e = subst (λ (x : Sending). GoesOut v released taken x.segment) (same_Some (sent_as v t (kind_of v now s) s) c e) h
+  out t now (Some s) h c e = subst (λ (x : Sending). GoesOut v released taken x.segment) (same_Some (sent_as v t (emission_kind v now s) s) c e) h
 
   pub content_goes : HasSendingBounds (shown v) → HasIss (phase_of v.state) → (t : Tuple) (f : Facts) (stamp : Option ℕ) (bytes : List ℕ) → IsLent (asked v t f (is_some stamp)) (drop (offset_of v) v.tx_buffer.bytes) bytes → (c : Sending) → content v t f stamp bytes ≡ Some c → GoesOut v released taken c.segment
   unfolding content
@@ -250,15 +250,15 @@ module _ (v : View) (released taken : ℕ) where
 
   abbrev IsResetOr : Instant → Option Segment → Type 0
   IsResetOr now None = Unit {0}
-  IsResetOr now (Some s) = is_rst (of_kind (kind_of v now s) v s).control ≡ true
+  IsResetOr now (Some s) = is_rst (of_kind (emission_kind v now s) v s).control ≡ true
 
   resets : (t : Tuple) (f : Facts) (stamp : Option ℕ) (bytes : List ℕ) (now : Instant) → IsResetOr now (filled state.Closed v t f bytes (plain_segment v t stamp))
   unfolding plain_segment
   resets t f stamp bytes now = by_kinds v (λ s. is_rst s.control ≡ true) now (record (plain_segment v t stamp) { control = control.Rst }) refl (λ h. let no : false ≡ true = h in absurd cc)
 
-  reset_out : (t : Tuple) (now : Instant) (o : Option Segment) → IsResetOr now o → (c : Sending) → option_map (λ s. sent_as v t (kind_of v now s) s) o ≡ Some c → is_rst c.segment.control ≡ true
+  reset_out : (t : Tuple) (now : Instant) (o : Option Segment) → IsResetOr now o → (c : Sending) → option_map (λ s. sent_as v t (emission_kind v now s) s) o ≡ Some c → is_rst c.segment.control ≡ true
   reset_out t now None h c e = absurd (none-some c e)
-  reset_out t now (Some s) h c e = subst (λ (x : Sending). is_rst x.segment.control ≡ true) (same_Some (sent_as v t (kind_of v now s) s) c e) h
+  reset_out t now (Some s) h c e = subst (λ (x : Sending). is_rst x.segment.control ≡ true) (same_Some (sent_as v t (emission_kind v now s) s) c e) h
 
   pub content_effect : IsBounded v → (t : Tuple) (f : Facts) (stamp : Option ℕ) (bytes : List ℕ) → IsLent (asked v t f (is_some stamp)) (drop (offset_of v) v.tx_buffer.bytes) bytes → (c : Sending) → content v t f stamp bytes ≡ Some c → EmitEffect (shown v) (stream_segment c.segment released taken)
   unfolding content
@@ -272,7 +272,7 @@ module _ (v : View) (released taken : ℕ) where
 
       go : (st : State) → v.state ≡ st → EmitEffect (shown v) (stream_segment c.segment released taken)
       go state.Closed h = EmitsReset (reset_out t (moment_of f) (filled v.state v t f bytes (plain_segment v t stamp)) (subst (λ st. IsResetOr (moment_of f) (filled st v t f bytes (plain_segment v t stamp))) (sym h) (resets t f stamp bytes (moment_of f))) c e) (ap phase_of h)
-      go state.Listen h = absurd (none-some c (subst (λ st. option_map (λ s. sent_as v t (kind_of v (moment_of f) s) s) (filled st v t f bytes (plain_segment v t stamp)) ≡ Some c) h e))
+      go state.Listen h = absurd (none-some c (subst (λ st. option_map (λ s. sent_as v t (emission_kind v (moment_of f) s) s) (filled st v t f bytes (plain_segment v t stamp)) ≡ Some c) h e))
       go state.SynSent h = live (iss_in state.SynSent h tt)
       go state.SynReceived h = live (iss_in state.SynReceived h tt)
       go state.Established h = live (iss_in state.Established h tt)

@@ -106,7 +106,7 @@ pub record AlwaysCompletes (limit : Option ℕ) : Type 0 where
       → (new.local.closed ≡ true) × (new.remote.handed_out ≡ new.local.accepted)
 
 -- what a closed side keeps for good
-pub record HasEnded (old new : Endpoint) : Type 0 where
+pub record StreamEnded (old new : Endpoint) : Type 0 where
   pub closed : new.closed ≡ true
   pub accepted : new.accepted ≡ old.accepted
 
@@ -115,8 +115,8 @@ pub record AlwaysEnds (limit : Option ℕ) : Type 0 where
   pub local : (way : List Network) (old new : Network)
       → Run (start limit) way old
       → EitherSteps old new
-      → old.local.closed ≡ true → HasEnded old.local new.local
+      → old.local.closed ≡ true → StreamEnded old.local new.local
   pub remote : (way : List Network) (old new : Network)
       → Run (start limit) way old
       → EitherSteps old new
-      → old.remote.closed ≡ true → HasEnded old.remote new.remote
+      → old.remote.closed ≡ true → StreamEnded old.remote new.remote

@@ -131,8 +131,8 @@ fn refusal(segment: &Segment) -> Option<Reply>
     ensures bare { ForSome result (λ r. r.1.payload.now ≡ []) }
     ensures fits { ForSome (option_map reply_of result) (λ r. FitsPacket r.0 r.1) }
 {
-    segment.in_range();
-    segment.fits();
+    segment.in_range(); // for its contract
+    segment.fits(); // for its contract
     match segment.header.control {
         TcpControl::Rst => None,
         _ => Some(Socket::rst_reply(&segment.header.ip_repr, &segment.as_repr())),

@@ -125,6 +125,7 @@ impl<'a, G: TsvalSource> Host<'a, G> {
         ensures socket { IsSocket self.now.control_block }
         ensures accepted { length self.now.accepted < 2 ^ 63 }
     {
+        // each for its contract
         self.socket.recv_queue();
         self.socket.send_queue();
         self.socket.state();
@@ -377,7 +378,7 @@ fn process<G: TsvalSource>(
         (processed_at socket.old.control_block moment.entry.now (stored_of segment.now)).reply
         (option_map reply_of result) }
 {
-    segment.in_range();
+    segment.in_range(); // for its contract
     let mut cx = *moment;
     let repr = segment.as_repr();
     socket.process(&mut cx, &segment.header.ip_repr, &repr)

@@ -110,6 +110,8 @@ impl<'a, G: TsvalSource> Pair<'a, G> {
     ghost use Rattle.pair_core.specs.NetworkRuns.{Reaches};
     ghost use Rattle.pair_core.specs.Sides.{other_side};
 
+    // A call on one of the sides is chosen by a `match`, and not made on a loan of a side for change: the invariant speaks
+    // of both sides and the segments together, and is to be kept when a call returns, not when a loan ends.
     fn host(&self, side: Side) -> &Host<'a, G>
         ensures { result.now ≡ host_of side self.now }
     {
@@ -214,8 +216,8 @@ impl<'a, G: TsvalSource> Pair<'a, G> {
         if self.is_over_limit(side, bytes.len()) {
             return Ok(Outcome::StreamLimit);
         }
-        self.a.in_range();
-        self.b.in_range();
+        self.a.in_range(); // for its contract
+        self.b.in_range(); // for its contract
         match side {
             Side::A => self.a.send(bytes, take),
             Side::B => self.b.send(bytes, take),
@@ -295,9 +297,9 @@ impl<'a, G: TsvalSource> Pair<'a, G> {
             return Ok(Outcome::NoSegment);
         }
         let segment = &self.segments[index];
-        segment.in_range();
-        self.a.in_range();
-        self.b.in_range();
+        segment.in_range(); // for its contract
+        self.a.in_range(); // for its contract
+        self.b.in_range(); // for its contract
         match segment.from {
             Side::A => {
                 let counts = self.a.counts();
@@ -332,8 +334,8 @@ impl<'a, G: TsvalSource> Pair<'a, G> {
         ensures a { IsSocket self.now.a.control_block }
         ensures b { IsSocket self.now.b.control_block }
     {
-        self.a.in_range();
-        self.b.in_range();
+        self.a.in_range(); // for its contract
+        self.b.in_range(); // for its contract
     }
 
     // Says that the segment of this index, where there is one, has numbers of 32 bits.
@@ -341,7 +343,7 @@ impl<'a, G: TsvalSource> Pair<'a, G> {
         ensures { ForSome (slice_get self.now.segments index) (λ t. IsSmall t.segment) }
     {
         if index < self.segments.len() {
-            self.segments[index].in_range();
+            self.segments[index].in_range(); // for its contract
         }
     }
 
@@ -351,7 +353,7 @@ impl<'a, G: TsvalSource> Pair<'a, G> {
         ensures { ForSome (slice_get self.now.segments index) (λ t. FitsPacket t.ip t.segment) }
     {
         if index < self.segments.len() {
-            self.segments[index].fits();
+            self.segments[index].fits(); // for its contract
         }
     }
 
@@ -360,7 +362,7 @@ impl<'a, G: TsvalSource> Pair<'a, G> {
     pub fn segment_has_ports(&self, index: usize)
         ensures { ForSome (slice_get self.now.segments index) (λ t. HasPorts t.segment) }
     {
-        self.is_pair();
+        self.is_pair(); // for its contract
     }
 
     fn event_in_range(&self, event: &Event)
@@ -377,7 +379,7 @@ impl<'a, G: TsvalSource> Pair<'a, G> {
         ensures prefix { Prefix self.now }
         ensures release { Release self.now }
     {
-        self.a.in_range();
+        self.a.in_range(); // for its contract
     }
 
     fn perform(&mut self, event: &Event) -> Result<Outcome, PairError>
@@ -426,10 +428,10 @@ impl<'a, G: TsvalSource> Pair<'a, G> {
         ensures memory { OnErr result (self.new ≡ self.old) }
         ensures takes_memory { OnErr result (TakesMemory event.entry.now self.old) }
     {
-        self.is_pair();
-        self.event_in_range(event);
+        self.is_pair(); // for its contract
+        self.event_in_range(event); // for its contract
         let outcome = self.perform(event);
-        self.keeps_order();
+        self.keeps_order(); // for its contract
         outcome
     }
 
@@ -448,7 +450,7 @@ impl<'a, G: TsvalSource> Pair<'a, G> {
         ensures all { OnOk result (length outcomes.new.items ≡ length outcomes.old.items + length events.now) }
         ensures memory { OnErr result (length outcomes.new.items < length outcomes.old.items + length events.now) }
     {
-        self.keeps_order();
+        self.keeps_order(); // for its contract
         for event in events {
             if let Err(_) = outcomes.reserve(1) {
                 return Err(PairError::Memory);

@@ -104,8 +104,8 @@ impl Segment {
         ensures numbers { IsSmall (stored_of self.now).segment }
         ensures short { length (stored_of self.now).segment.payload ≤ 65535 }
     {
-        self.fits();
-        self.header.seq_number.in_range();
+        self.fits(); // for its contract
+        self.header.seq_number.in_range(); // for its contract
         match self.header.ack_number {
             None => {}
             Some(ack) => ack.in_range(),

@@ -84,6 +84,7 @@ impl<'a> ReceiveBuffer<'a> {
         ensures few { length (ranges_of self.now.held) ≤ 4 }
         ensures first { byte_at self.now.held 0 ≡ None }
     {
+        // each for its contract
         self.ring.len();
         self.ranges.len();
     }

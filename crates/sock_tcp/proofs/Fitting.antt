@@ -12,7 +12,7 @@ use Rattle.control_wire.specs.Fits.{is_packed, FitsHeader, FitsPacket}
 use Rattle.control_wire.specs.Segment.{Segment, options_len, segment_header_len}
 use Rattle.sock_core.specs.Bounds.{IsMtu}
 use Rattle.sock_core.specs.Facts.{Facts}
-use Rattle.sock_tcp.specs.Content.{carries_data, Sending, is_probing, window_left, size_of, asked, filled, kind_of, of_kind, hop_limit_of, plain_segment, sent_as, content, scale_back}
+use Rattle.sock_tcp.specs.Content.{carries_data, Sending, is_probing, window_left, size_of, asked, filled, emission_kind, of_kind, hop_limit_of, plain_segment, sent_as, content, scale_back}
 use Rattle.sock_tcp.specs.Due.{congestion_left, effective_mss, ip_header_len, own_mss}
 use Rattle.sock_tcp.specs.View.{View, moment_of}
 use Rattle.sock_tcp.specs.declared.emission.Kind.{Kind}
@@ -138,10 +138,10 @@ data_room (address.Ipv4 a) mtu mss n false m h = omega arith
 data_room (address.Ipv6 a) mtu mss n true m h = omega arith
 data_room (address.Ipv6 a) mtu mss n false m h = omega arith
 
-sent_fits : (v : View) (t : Tuple) (f : Facts) (o : Option Segment) → v.remote_win_shift ≤ 14 → SameVersion t.local.addr t.remote.addr → IsMtu f.mtu → InRoom (f.mtu - ip_header_len t.local.addr) o → ForSome (option_map (λ s. sent_as v t (kind_of v (moment_of f) s) s) o) (λ s. FitsPacket s.ip s.segment)
+sent_fits : (v : View) (t : Tuple) (f : Facts) (o : Option Segment) → v.remote_win_shift ≤ 14 → SameVersion t.local.addr t.remote.addr → IsMtu f.mtu → InRoom (f.mtu - ip_header_len t.local.addr) o → ForSome (option_map (λ s. sent_as v t (emission_kind v (moment_of f) s) s) o) (λ s. FitsPacket s.ip s.segment)
 sent_fits v t f None small same m h x e = absurd (none-some x e)
 sent_fits v t f (Some s) small same m h x e =
-    let k = kind_of v (moment_of f) s in
+    let k = emission_kind v (moment_of f) s in
     subst (λ (y : Sending). FitsPacket y.ip y.segment) (same_Some _ x e) (packet_of_room t.local.addr t.remote.addr f.mtu (hop_limit_of v.hop_limit) (of_kind k v s) same m (of_kind_fits v t f small (f.mtu - ip_header_len t.local.addr) (at_least t.local.addr f.mtu m.0) k s h))
 
 pub content_fits : (v : View) (t : Tuple) (f : Facts) (stamp : Option ℕ) (bytes : List ℕ) → v.remote_win_shift ≤ 14 → SameVersion t.local.addr t.remote.addr → IsMtu f.mtu → length bytes ≤ asked v t f (is_some stamp) → ForSome (content v t f stamp bytes) (λ s. FitsPacket s.ip s.segment)

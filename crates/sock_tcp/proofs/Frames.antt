@@ -18,7 +18,7 @@ use Rattle.sock_tcp.specs.Laws.{IsPeered}
 use Rattle.sock_tcp.specs.Replies.{ack_kept, ack_segment}
 use Rattle.sock_tcp.specs.Timers.{after, challenge_interval}
 use Rattle.sock_tcp.specs.Steps.{window_taken, released, is_duplicate, ack_heard, duplicate_counted, ack_counted, una_advanced, acknowledged, timestamp_taken, timer_set, counted, heard, joined, ack_delayed}
-use Rattle.sock_tcp.specs.Process.{Outcome, stopped, acked, challenged, close_restarted, outside_by, outside, gap_answered, bytes_taken, tuple_of, after_advance, after_table, processed_inside, has_window, cut_inside, tested, by_verdict, processed}
+use Rattle.sock_tcp.specs.Process.{Outcome, stopped, ack_sent, challenged, close_restarted, outside_by, outside, gap_answered, bytes_taken, tuple_of, after_advance, after_table, processed_inside, has_window, cut_inside, tested, by_verdict, processed}
 use Rattle.sock_tcp.specs.declared.acked.Acked.{Acked}
 use Rattle.sock_tcp.specs.declared.advance.Next.{Next}
 use Rattle.sock_tcp.specs.declared.advance.Next.TheVariants as next
@@ -80,7 +80,7 @@ module _ (s : Segment) (now : Instant) where
       let k = counted_keeps (released (window_taken u now s.control s.window_len) a.len) _ a in
       record { rx = k.rx; listen = k.listen; tuple = k.tuple; state = k.state }
 
-  acked_keeps : (w : View) → Keeps w (acked w s).view w.rx_buffer
+  acked_keeps : (w : View) → Keeps w (ack_sent w s).view w.rx_buffer
   unfolding ack_kept
   acked_keeps w = record { rx = refl; listen = refl; tuple = refl; state = refl }
 
@@ -88,11 +88,11 @@ module _ (s : Segment) (now : Instant) where
   unfolding challenged ack_kept
   challenged_keeps w = go (int_lt now.micros w.challenge_ack_timer.micros)
     where
-      go : (b : Bool) → Keeps w (if b then stopped w else acked (record w { challenge_ack_timer = after now challenge_interval }) s).view w.rx_buffer
+      go : (b : Bool) → Keeps w (if b then stopped w else ack_sent (record w { challenge_ack_timer = after now challenge_interval }) s).view w.rx_buffer
       go true = same w
       go false = record { rx = refl; listen = refl; tuple = refl; state = refl }
 
-  acked_back : (w : View) → GoesBack s (acked w s).reply
+  acked_back : (w : View) → GoesBack s (ack_sent w s).reply
   unfolding ack_segment
   acked_back w = (refl, refl)
 
@@ -100,7 +100,7 @@ module _ (s : Segment) (now : Instant) where
   unfolding challenged
   challenged_back w = go (int_lt now.micros w.challenge_ack_timer.micros)
     where
-      go : (b : Bool) → GoesBack s (if b then stopped w else acked (record w { challenge_ack_timer = after now challenge_interval }) s).reply
+      go : (b : Bool) → GoesBack s (if b then stopped w else ack_sent (record w { challenge_ack_timer = after now challenge_interval }) s).reply
       go true = tt
       go false = acked_back (record w { challenge_ack_timer = after now challenge_interval })
 
@@ -108,7 +108,7 @@ module _ (s : Segment) (now : Instant) where
   unfolding outside
   outside_back w = by s.control
     where
-      bytes_or_none : (b : Bool) → GoesBack s (if b then challenged (close_restarted w now) now s else acked (close_restarted w now) s).reply
+      bytes_or_none : (b : Bool) → GoesBack s (if b then challenged (close_restarted w now) now s else ack_sent (close_restarted w now) s).reply
       bytes_or_none true = challenged_back (close_restarted w now)
       bytes_or_none false = acked_back (close_restarted w now)
 
@@ -126,7 +126,7 @@ module _ (s : Segment) (now : Instant) where
       u : View
       u = ack_delayed (joined w o bs) now
 
-      gap : (b : Bool) → GoesBack s (if b then stopped u else acked u s).reply
+      gap : (b : Bool) → GoesBack s (if b then stopped u else ack_sent u s).reply
       gap true = tt
       gap false = acked_back u
 
@@ -147,7 +147,7 @@ module _ (s : Segment) (now : Instant) where
   unfolding close_restarted
   restarted_challenged w = let k = challenged_keeps (close_restarted w now) in record { rx = k.rx; listen = k.listen; tuple = k.tuple; state = k.state }
 
-  restarted_acked : (w : View) → Keeps w (acked (close_restarted w now) s).view w.rx_buffer
+  restarted_acked : (w : View) → Keeps w (ack_sent (close_restarted w now) s).view w.rx_buffer
   unfolding close_restarted ack_kept
   restarted_acked w = record { rx = refl; listen = refl; tuple = refl; state = refl }
 
@@ -155,7 +155,7 @@ module _ (s : Segment) (now : Instant) where
   unfolding outside
   outside_keeps w = by s.control
     where
-      bytes_or_none : (b : Bool) → Keeps w (if b then challenged (close_restarted w now) now s else acked (close_restarted w now) s).view w.rx_buffer
+      bytes_or_none : (b : Bool) → Keeps w (if b then challenged (close_restarted w now) now s else ack_sent (close_restarted w now) s).view w.rx_buffer
       bytes_or_none true = restarted_challenged w
       bytes_or_none false = restarted_acked w
 
@@ -175,7 +175,7 @@ module _ (s : Segment) (now : Instant) where
       u : View
       u = ack_delayed (joined w o bs) now
 
-      gap : (b : Bool) → Keeps w (if b then stopped u else acked u s).view (taken_in w.rx_buffer o bs)
+      gap : (b : Bool) → Keeps w (if b then stopped u else ack_sent u s).view (taken_in w.rx_buffer o bs)
       gap true = record { rx = refl; listen = refl; tuple = refl; state = refl }
       gap false = record { rx = refl; listen = refl; tuple = refl; state = refl }
 

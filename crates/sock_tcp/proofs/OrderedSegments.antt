@@ -15,7 +15,7 @@ use Rattle.sock_core.specs.Received.{makes_fifth_range, holds_nothing}
 use Rattle.sock_core.specs.Seq.{is_before, later_of}
 use Rattle.sock_tcp.specs.Acked.{acked_of, acked_at}
 use Rattle.sock_tcp.specs.Advance.{Advance, advance_in, advanced, continues, counted_control, dropped, fallen_back, fin_counted, moved_to, opened_state, options_taken, syn_answered, syn_received, waiting}
-use Rattle.sock_tcp.specs.Process.{stopped, acked, challenged, close_restarted, timer_restarted, outside_by, outside, gap_answered, bytes_taken, tuple_of, after_table, processed_inside, has_window, cut_inside, tested, by_verdict, processed}
+use Rattle.sock_tcp.specs.Process.{stopped, ack_sent, challenged, close_restarted, timer_restarted, outside_by, outside, gap_answered, bytes_taken, tuple_of, after_table, processed_inside, has_window, cut_inside, tested, by_verdict, processed}
 use Rattle.sock_tcp.specs.Queue.{Queue, capacity}
 use Rattle.sock_tcp.specs.Replies.{ack_kept}
 use Rattle.sock_tcp.specs.Steps.{window_taken, released, is_duplicate, is_last_ack, is_window_changed, ack_heard, duplicate_counted, ack_counted, una_advanced, acknowledged, timestamp_taken, timer_set, timer_acked, probe_set, heard, joined, ack_delayed}
@@ -109,7 +109,7 @@ module _ (s : Segment) (now : Instant) where
   unfolding challenged ack_kept
   challenged_ordered w h = go (int_lt now.micros w.challenge_ack_timer.micros)
     where
-      go : (b : Bool) → IsOrdered (if b then stopped w else acked (record w { challenge_ack_timer = after now challenge_interval }) s).view
+      go : (b : Bool) → IsOrdered (if b then stopped w else ack_sent (record w { challenge_ack_timer = after now challenge_interval }) s).view
       go true = h
       go false = record { una_small = h.una_small; nxt_small = h.nxt_small; room = h.room; congestion = h.congestion; peered = h.peered; row = h.row }
 
@@ -121,7 +121,7 @@ module _ (s : Segment) (now : Instant) where
   unfolding close_restarted
   restarted_ordered w h = record { una_small = h.una_small; nxt_small = h.nxt_small; room = h.room; congestion = h.congestion; peered = h.peered; row = restarted_row w.state w.timer w.keep_alive (seq_sub w.remote_last_seq w.local_seq_no) (length w.tx_buffer.bytes) h.row }
 
-  acked_ordered : (w : View) → IsOrdered w → IsOrdered (acked w s).view
+  acked_ordered : (w : View) → IsOrdered w → IsOrdered (ack_sent w s).view
   unfolding ack_kept
   acked_ordered w h = record { una_small = h.una_small; nxt_small = h.nxt_small; room = h.room; congestion = h.congestion; peered = h.peered; row = h.row }
 
@@ -129,7 +129,7 @@ module _ (s : Segment) (now : Instant) where
   unfolding outside
   outside_ordered w h = by s.control
     where
-      bytes_or_none : (b : Bool) → IsOrdered (if b then challenged (close_restarted w now) now s else acked (close_restarted w now) s).view
+      bytes_or_none : (b : Bool) → IsOrdered (if b then challenged (close_restarted w now) now s else ack_sent (close_restarted w now) s).view
       bytes_or_none true = challenged_ordered (close_restarted w now) (restarted_ordered w h)
       bytes_or_none false = acked_ordered (close_restarted w now) (restarted_ordered w h)
 
@@ -147,7 +147,7 @@ module _ (s : Segment) (now : Instant) where
       u : View
       u = ack_delayed (joined w o bs) now
 
-      gap : (b : Bool) → IsOrdered (if b then stopped u else acked u s).view
+      gap : (b : Bool) → IsOrdered (if b then stopped u else ack_sent u s).view
       gap true = record { una_small = h.una_small; nxt_small = h.nxt_small; room = h.room; congestion = h.congestion; peered = h.peered; row = h.row }
       gap false = record { una_small = h.una_small; nxt_small = h.nxt_small; room = h.room; congestion = h.congestion; peered = h.peered; row = h.row }
 

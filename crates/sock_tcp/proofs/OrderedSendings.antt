@@ -11,7 +11,7 @@ use Rattle.control_wire.specs.declared.tcp.TcpControl.TheVariants as control
 use Rattle.sock_core.specs.Facts.{Facts}
 use Rattle.sock_core.specs.Estimator.{Estimator, sent}
 use Rattle.sock_core.specs.Seq.{later_of}
-use Rattle.sock_tcp.specs.Content.{Sending, content, data_control, filled, kind_of, offset_of, of_kind, plain_segment, sent_as, with_data}
+use Rattle.sock_tcp.specs.Content.{Sending, content, data_control, filled, emission_kind, offset_of, of_kind, plain_segment, sent_as, with_data}
 use Rattle.sock_tcp.specs.Due.{flight, is_closed, is_closing}
 use Rattle.sock_tcp.specs.Sent.{emitted_as, after_any, after_probe, snd_nxt_moved, sending_timed, after_sending, left_by}
 use Rattle.sock_tcp.specs.SocketRun.{SendsTo}
@@ -270,10 +270,10 @@ module _ (u : View) (now : Instant) (h : IsOrdered u) where
   sent_ordered kind.KeepAlive s ends = any_ordered
   sent_ordered kind.Probe s ends = let a = any_ordered in record { una_small = a.una_small; nxt_small = a.nxt_small; room = a.room; congestion = a.congestion; peered = a.peered; row = timer_row u.state _ _ u.keep_alive _ _ (doubled_keeps _ now u.keep_alive _) a.row }
 
-  left_ordered : (t : Tuple) (f : Facts) (o : Option Segment) (ok : Bool) → EndsIf u.state u o → IsOrdered (left_by (option_map (λ s. sent_as u t (kind_of u (moment_of f) s) s) o) u now ok)
+  left_ordered : (t : Tuple) (f : Facts) (o : Option Segment) (ok : Bool) → EndsIf u.state u o → IsOrdered (left_by (option_map (λ s. sent_as u t (emission_kind u (moment_of f) s) s) o) u now ok)
   left_ordered t f None ok ends = h
   left_ordered t f (Some s) false ends = h
-  left_ordered t f (Some s) true ends = sent_ordered (kind_of u (moment_of f) s) s ends
+  left_ordered t f (Some s) true ends = sent_ordered (emission_kind u (moment_of f) s) s ends
 
 pub sends_ordered : (o : Option Tuple) (f : Facts) (stamps : Bool) (u : View) (out : Option Sending) (w : View) → SendsTo o f stamps u out w → IsOrdered u → IsOrdered w
 unfolding content

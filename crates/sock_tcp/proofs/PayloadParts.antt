@@ -7,7 +7,7 @@ use Rattle.control_wire.specs.Segment.{Segment}
 use Rattle.control_wire.specs.Seq.{seq_sub}
 use Rattle.control_wire.specs.declared.seq_number.TcpSeqNumber.{TcpSeqNumber}
 use Rattle.sock_core.specs.Facts.{Facts}
-use Rattle.sock_tcp.specs.Content.{Sending, asked, offset_of, filled, kind_of, of_kind, plain_segment, sent_as, content}
+use Rattle.sock_tcp.specs.Content.{Sending, asked, offset_of, filled, emission_kind, of_kind, plain_segment, sent_as, content}
 use Rattle.sock_tcp.specs.Due.{flight}
 use Rattle.sock_tcp.specs.Queue.{Queue, IsLent}
 use Rattle.sock_tcp.specs.SocketRun.{Counts, IsPart, SendsTo}
@@ -45,12 +45,12 @@ as_it_is kind.KeepAlive v u n = absurd (n refl)
 as_it_is kind.Plain v u n = refl
 as_it_is kind.Probe v u n = refl
 
-sent_is : (o : Option Segment) (v : View) (t : Tuple) (f : Facts) (bytes : List ℕ) (out : Sending) → DataIn v bytes o → option_map (λ s. sent_as v t (kind_of v (moment_of f) s) s) o ≡ Some out → (out.kind ≡ kind.KeepAlive → ⊥) → IsData v bytes out.segment
+sent_is : (o : Option Segment) (v : View) (t : Tuple) (f : Facts) (bytes : List ℕ) (out : Sending) → DataIn v bytes o → option_map (λ s. sent_as v t (emission_kind v (moment_of f) s) s) o ≡ Some out → (out.kind ≡ kind.KeepAlive → ⊥) → IsData v bytes out.segment
 sent_is None v t f bytes out d e n = absurd (none-some out e)
 sent_is (Some u) v t f bytes out d e n =
-    let q : sent_as v t (kind_of v (moment_of f) u) u ≡ out = same_Some (sent_as v t (kind_of v (moment_of f) u) u) out e in
-    let m : out.segment ≡ of_kind (kind_of v (moment_of f) u) v u = ap (λ (x : Sending). x.segment) (sym q) in
-    let a : of_kind (kind_of v (moment_of f) u) v u ≡ u = as_it_is (kind_of v (moment_of f) u) v u (λ h. n (ap (λ (x : Sending). x.kind) (sym q) ∙ h)) in
+    let q : sent_as v t (emission_kind v (moment_of f) u) u ≡ out = same_Some (sent_as v t (emission_kind v (moment_of f) u) u) out e in
+    let m : out.segment ≡ of_kind (emission_kind v (moment_of f) u) v u = ap (λ (x : Sending). x.segment) (sym q) in
+    let a : of_kind (emission_kind v (moment_of f) u) v u ≡ u = as_it_is (emission_kind v (moment_of f) u) v u (λ h. n (ap (λ (x : Sending). x.kind) (sym q) ∙ h)) in
     subst (IsData v bytes) (sym (m ∙ a)) d
 
 content_is : (v : View) (t : Tuple) (f : Facts) (stamp : Option ℕ) (bytes : List ℕ) (out : Sending) → content v t f stamp bytes ≡ Some out → (out.kind ≡ kind.KeepAlive → ⊥) → IsData v bytes out.segment

@@ -12,7 +12,7 @@ use Rattle.sock_tcp.specs.declared.tuple.Tuple.{Tuple}
 use Rattle.sock_tcp.specs.View.{View, moment_of}
 use Rattle.control_wire.specs.Segment.{Segment}
 use Rattle.sock_tcp.specs.Due.{flight, congestion_left, effective_mss}
-use Rattle.sock_tcp.specs.Content.{carries_data, Sending, is_probing, window_left, size_of, offset_of, asked, filled, kind_of, of_kind, plain_segment, sent_as, content}
+use Rattle.sock_tcp.specs.Content.{carries_data, Sending, is_probing, window_left, size_of, offset_of, asked, filled, emission_kind, of_kind, plain_segment, sent_as, content}
 use Rattle.sock_tcp.specs.Poll.{PayloadKeepsToWindows}
 
 neither : (p q : Bool) (m w c : ℕ) → p ≡ false → q ≡ false → (if p then m else (if q then min 1 m else min (min w m) c)) ≤ min w c
@@ -50,13 +50,13 @@ no_probe : (b : Bool) (k : Kind) → (if b then kind.Probe else k) ≡ kind.Plai
 no_probe true k e = absurd cc
 no_probe false k e = refl
 
-of_filled : (o : Option Segment) (v : View) (t : Tuple) (f : Facts) (stamps : Bool) (bytes : List ℕ) (s : Sending) → len_in o ≤ length bytes → IsLent (asked v t f stamps) (drop (offset_of v) v.tx_buffer.bytes) bytes → option_map (λ s. sent_as v t (kind_of v (moment_of f) s) s) o ≡ Some s → s.kind ≡ kind.Plain → v.pending_fast_retransmit ≡ false → 0 < length s.segment.payload → (flight v + length s.segment.payload ≤ v.remote_win_len) × (length s.segment.payload ≤ congestion_left v)
+of_filled : (o : Option Segment) (v : View) (t : Tuple) (f : Facts) (stamps : Bool) (bytes : List ℕ) (s : Sending) → len_in o ≤ length bytes → IsLent (asked v t f stamps) (drop (offset_of v) v.tx_buffer.bytes) bytes → option_map (λ s. sent_as v t (emission_kind v (moment_of f) s) s) o ≡ Some s → s.kind ≡ kind.Plain → v.pending_fast_retransmit ≡ false → 0 < length s.segment.payload → (flight v + length s.segment.payload ≤ v.remote_win_len) × (length s.segment.payload ≤ congestion_left v)
 of_filled None v t f stamps bytes s h lent e k fast some = absurd (none-some s e)
 of_filled (Some u) v t f stamps bytes s h lent e k fast some =
-    let q : sent_as v t (kind_of v (moment_of f) u) u ≡ s = same_Some (sent_as v t (kind_of v (moment_of f) u) u) s e in
-    let j : kind_of v (moment_of f) u ≡ kind.Plain = ap (λ (x : Sending). x.kind) q ∙ k in
+    let q : sent_as v t (emission_kind v (moment_of f) u) u ≡ s = same_Some (sent_as v t (emission_kind v (moment_of f) u) u) s e in
+    let j : emission_kind v (moment_of f) u ≡ kind.Plain = ap (λ (x : Sending). x.kind) q ∙ k in
     let p : is_probing v (moment_of f) ≡ false = no_probe (is_probing v (moment_of f)) _ j in
-    let m : length (of_kind (kind_of v (moment_of f) u) v u).payload ≡ length u.payload = ap (λ (k : Kind). length (of_kind k v u).payload) j in
+    let m : length (of_kind (emission_kind v (moment_of f) u) v u).payload ≡ length u.payload = ap (λ (k : Kind). length (of_kind k v u).payload) j in
     let l : length s.segment.payload ≡ length u.payload = ap (λ (x : Sending). length x.segment.payload) (sym q) ∙ m in
     let a : asked v t f stamps ≤ min (window_left v) (congestion_left v) = asked_at_most v t f stamps fast p in
     let b : length bytes ≤ asked v t f stamps = omega (arith, lent.at_most) in

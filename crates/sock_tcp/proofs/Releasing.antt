@@ -18,7 +18,7 @@ use Rattle.sock_tcp.specs.Advance.{advance_in, advanced, counted_control, fallen
 use Rattle.sock_tcp.specs.Replies.{ack_kept}
 use Rattle.sock_tcp.specs.Timers.{after, challenge_interval}
 use Rattle.sock_tcp.specs.Steps.{window_taken, released, is_duplicate, is_window_changed, ack_heard, duplicate_counted, ack_counted, una_advanced, acknowledged, timestamp_taken, timer_set, heard, joined, ack_delayed}
-use Rattle.sock_tcp.specs.Process.{stopped, acked, challenged, close_restarted, outside_by, outside, gap_answered, bytes_taken, tuple_of, after_advance, after_table, processed_inside, has_window, cut_inside, tested, by_verdict, processed}
+use Rattle.sock_tcp.specs.Process.{stopped, ack_sent, challenged, close_restarted, outside_by, outside, gap_answered, bytes_taken, tuple_of, after_advance, after_table, processed_inside, has_window, cut_inside, tested, by_verdict, processed}
 use Rattle.sock_tcp.specs.declared.acked.Acked.{Acked}
 use Rattle.sock_tcp.specs.declared.advance.Next.{Next}
 use Rattle.sock_tcp.specs.declared.advance.Next.TheVariants as next
@@ -67,7 +67,7 @@ module _ (s : Segment) (now : Instant) where
       go true = record { tx = refl; una = λ i. h k refl }
       go false = record { tx = refl; una = λ i. h k refl }
 
-  acked_same : (w : View) → Same w (acked w s).view
+  acked_same : (w : View) → Same w (ack_sent w s).view
   unfolding ack_kept
   acked_same w = record { tx = refl; una = refl }
 
@@ -75,7 +75,7 @@ module _ (s : Segment) (now : Instant) where
   unfolding challenged ack_kept
   challenged_same w = go (int_lt now.micros w.challenge_ack_timer.micros)
     where
-      go : (b : Bool) → Same w (if b then stopped w else acked (record w { challenge_ack_timer = after now challenge_interval }) s).view
+      go : (b : Bool) → Same w (if b then stopped w else ack_sent (record w { challenge_ack_timer = after now challenge_interval }) s).view
       go true = record { tx = refl; una = refl }
       go false = record { tx = refl; una = refl }
 
@@ -83,7 +83,7 @@ module _ (s : Segment) (now : Instant) where
   unfolding close_restarted
   restarted_challenged w = let e = challenged_same (close_restarted w now) in record { tx = e.tx; una = e.una }
 
-  restarted_acked : (w : View) → Same w (acked (close_restarted w now) s).view
+  restarted_acked : (w : View) → Same w (ack_sent (close_restarted w now) s).view
   unfolding close_restarted ack_kept
   restarted_acked w = record { tx = refl; una = refl }
 
@@ -91,7 +91,7 @@ module _ (s : Segment) (now : Instant) where
   unfolding outside
   outside_same w = by s.control
     where
-      bytes_or_none : (b : Bool) → Same w (if b then challenged (close_restarted w now) now s else acked (close_restarted w now) s).view
+      bytes_or_none : (b : Bool) → Same w (if b then challenged (close_restarted w now) now s else ack_sent (close_restarted w now) s).view
       bytes_or_none true = restarted_challenged w
       bytes_or_none false = restarted_acked w
 
@@ -109,7 +109,7 @@ module _ (s : Segment) (now : Instant) where
       u : View
       u = ack_delayed (joined w o bs) now
 
-      gap : (b : Bool) → Same w (if b then stopped u else acked u s).view
+      gap : (b : Bool) → Same w (if b then stopped u else ack_sent u s).view
       gap true = record { tx = refl; una = refl }
       gap false = record { tx = refl; una = refl }
 

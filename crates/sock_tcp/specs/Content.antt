@@ -129,8 +129,8 @@ filled _ v t f bytes s = Some (with_data v bytes s)
 
 -- ---- probes and keep-alives
 
-abbrev pub kind_of : View → Instant → Segment → Kind
-kind_of v now s =
+abbrev pub emission_kind : View → Instant → Segment → Kind
+emission_kind v now s =
     if is_probing v now then kind.Probe
     else (if is_keep_alive_over v.timer now && is_empty_segment s then kind.KeepAlive else kind.Plain)
 
@@ -167,8 +167,8 @@ sending v t k s = record { ip = ip_of v t s; segment = s; kind = k }
 -- out of the plain segment
 abbrev pub finished : View → Tuple → Facts → List ℕ → Segment → Option Sending
 finished v t f bytes plain =
-    option_map (λ s. sent_as v t (kind_of v (moment_of f) s) s) (filled v.state v t f bytes plain)
+    option_map (λ s. sent_as v t (emission_kind v (moment_of f) s) s) (filled v.state v t f bytes plain)
 
 unfoldable pub content : View → Tuple → Facts → Option ℕ → List ℕ → Option Sending
 content v t f stamp bytes =
-    option_map (λ s. sent_as v t (kind_of v (moment_of f) s) s) (filled v.state v t f bytes (plain_segment v t stamp))
+    option_map (λ s. sent_as v t (emission_kind v (moment_of f) s) s) (filled v.state v t f bytes (plain_segment v t stamp))

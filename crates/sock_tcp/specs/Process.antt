@@ -70,6 +70,11 @@ abbrev pub Accepts : View → IpRepr → Segment → Type 0
 Accepts v ip s = AcceptsIn v.state v ip s
 
 -- ---- process
+-- Each definition stands below those that it names, so the rules are read from the end, in this order: `processed` asks
+-- for the verdict; `by_verdict` drops, resets, challenges or lets pass; `tested` tests the receive window, in a state
+-- that has one; `outside` answers what lies outside, `cut_inside` cuts what lies inside; `processed_inside` goes
+-- through the state table; `after_advance` stops, challenges or hears the acknowledgement; `bytes_taken` takes the bytes
+-- and answers a gap.
 
 -- a socket after a segment, and the reply
 pub record Outcome : Type 0 where
@@ -79,22 +84,22 @@ pub record Outcome : Type 0 where
 abbrev pub stopped : View → Outcome
 stopped v = record { view = v; reply = None }
 
-abbrev pub acked : View → Segment → Outcome
-acked v s = record { view = ack_kept v; reply = Some (ack_segment v s) }
+abbrev pub ack_sent : View → Segment → Outcome
+ack_sent v s = record { view = ack_kept v; reply = Some (ack_segment v s) }
 
 abbrev pub rst_sent : View → Segment → Outcome
 rst_sent v s = record { view = v; reply = Some (rst_segment s) }
 
 abbrev pub answered : Answer → View → Segment → Outcome
 answered answers.Nothing v s = stopped v
-answered answers.Ack v s = acked v s
+answered answers.Ack v s = ack_sent v s
 answered answers.Rst v s = rst_sent v s
 
 -- an ACK, at most one a second
 unfoldable pub challenged : View → Instant → Segment → Outcome
 challenged v now s =
     if int_lt now.micros v.challenge_ack_timer.micros then stopped v
-    else acked (record v { challenge_ack_timer = after now challenge_interval }) s
+    else ack_sent (record v { challenge_ack_timer = after now challenge_interval }) s
 
 -- ---- a segment outside of the window
 
@@ -111,7 +116,7 @@ abbrev pub outside_by : TcpControl → ℕ → View → Instant → Segment → 
 outside_by control.Rst n v now s = stopped v
 outside_by control.Syn n v now s = challenged (close_restarted v now) now s
 outside_by c n v now s =
-    if n == 0 then challenged (close_restarted v now) now s else acked (close_restarted v now) s
+    if n == 0 then challenged (close_restarted v now) now s else ack_sent (close_restarted v now) s
 
 unfoldable pub outside : View → Instant → Segment → Outcome
 outside v now s = outside_by s.control (length s.payload) v now s
@@ -128,7 +133,7 @@ tuple_of ip s =
 -- v is the socket before the bytes came, w after: an ACK tells of a gap, and that one is closed
 abbrev pub gap_answered : View → View → Segment → Outcome
 gap_answered v w s =
-    if holds_nothing v.rx_buffer.held && holds_nothing w.rx_buffer.held then stopped w else acked w s
+    if holds_nothing v.rx_buffer.held && holds_nothing w.rx_buffer.held then stopped w else ack_sent w s
 
 -- the bytes bs came, o past RCV.NXT; where they are refused, nothing more is done
 unfoldable pub bytes_taken : View → Instant → ℕ → List ℕ → Segment → Outcome

@@ -99,11 +99,11 @@ ack_kept v = record v { remote_last_ack = Some (next_ack v); remote_last_win = w
 
 -- an acknowledgement has a timestamp where the segment had one and the socket has a clock: the clock's value, and the
 -- one that came. An RST has none
-abbrev pub IsStamp : {G : Type 0} → (G → ℕ → Type 0) → Option G → Option TcpTimestampRepr
+abbrev pub IsReplyStamp : {G : Type 0} → (G → ℕ → Type 0) → Option G → Option TcpTimestampRepr
     → TcpControl → Option TcpTimestampRepr → Type 0
-IsStamp tells (Some g) (Some came) control.None (Some t) = tells g t.tsval × (t.tsecr ≡ came.tsval)
-IsStamp tells (Some g) (Some came) control.None None = ⊥
-IsStamp tells g came c stamp = stamp ≡ None
+IsReplyStamp tells (Some g) (Some came) control.None (Some t) = tells g t.tsval × (t.tsecr ≡ came.tsval)
+IsReplyStamp tells (Some g) (Some came) control.None None = ⊥
+IsReplyStamp tells g came c stamp = stamp ≡ None
 
 -- with its header, and with a timestamp or none
 pub record IsSentAs (stamped : TcpControl → Option TcpTimestampRepr → Type 0) (ip : IpRepr) (s : Segment)

@@ -57,16 +57,16 @@ impl<'a> ControlBlock<'a> {
     }
 
     // The same, where the verdict is known: no more bytes than are there.
-    pub(crate) fn passed(&self, control: TcpControl, ack: Option<TcpSeqNumber>) -> Acked
+    pub(crate) fn acked_by_passing(&self, control: TcpControl, ack: Option<TcpSeqNumber>) -> Acked
         requires { verdict_of self.now control ack ≡ Pass }
         ensures value { result ≡ acked_of self.now control ack }
         ensures fits { result.len ≤ length self.now.tx_buffer.bytes }
     {
-        self.local_seq_no.in_range();
+        self.local_seq_no.in_range(); // for its contract
         match ack {
             None => self.acked(control, None),
             Some(number) => {
-                number.in_range();
+                number.in_range(); // for its contract
                 self.acked(control, Some(number))
             }
         }

@@ -11,7 +11,7 @@ ghost use Rattle.sock_tcp.specs.Queue.{IsLent};
 ghost use Rattle.sock_tcp.specs.Due.{flight, window_field};
 ghost use Rattle.sock_tcp.specs.Content.{carries_data, window_left, is_probing, size_of, offset_of, asked};
 ghost use Rattle.sock_tcp.specs.Content.{timestamp_of, plain_segment, with_syn, syn, syn_ack, data_control, with_data};
-ghost use Rattle.sock_tcp.specs.Content.{filled, kind_of, of_kind, hop_limit_of, sending, finished, content};
+ghost use Rattle.sock_tcp.specs.Content.{filled, emission_kind, of_kind, hop_limit_of, sending, finished, content};
 
 use crate::control_block::ControlBlock;
 use crate::due::own_mss;
@@ -25,7 +25,8 @@ use sock_core::Context;
 
 const HOP_LIMIT: u8 = 64;
 
-// What stands where the header will.
+// What stands where the header will. Header and segment are filled in where they go out: handed from step to step
+// they would be copied each time, which was measured.
 pub(crate) const NO_HEADER: IpRepr = IpRepr::Ipv4(Ipv4Repr {
     src_addr: Ipv4Address([0; 4]),
     dst_addr: Ipv4Address([0; 4]),
@@ -246,7 +247,7 @@ impl<'a> ControlBlock<'a> {
 
     // What the segment is emitted for.
     fn kind(&self, now: Instant, repr: &TcpRepr<'_>) -> Kind
-        ensures { result ≡ kind_of self.now now (segment_of repr.now) }
+        ensures { result ≡ emission_kind self.now now (segment_of repr.now) }
     {
         if self.is_probing(now) {
             Kind::Probe

@@ -125,7 +125,7 @@ impl<'a> ControlBlock<'a> {
         };
         let now = cx.now();
         let payload = self.payload(cx, tuple, stamp.is_some());
-        self.sends_packets(cx, tuple, stamp, payload);
+        self.sends_packets(cx, tuple, stamp, payload); // for its contract
         let mut packet = (NO_HEADER, self.plain(tuple, stamp));
         let kind = match self.finish_packet(cx, tuple, payload, &mut packet) {
             None => return Ok(()),

@@ -1,5 +1,16 @@
 //! What is promised of one socket beyond its case tables, as laws: functions whose contracts are the laws. Their bodies
 //! are empty, or the one call that the law speaks of.
+//!
+//! What to read first, some twenty lines each, in `specs`:
+//!
+//! - `Promised` in `SocketRun.antt`, with `one_socket_keeps_its_streams` below: what holds after any list of calls.
+//! - `advance_in` in `Advance.antt`: the state table, a row for each state and control bit.
+//! - `processed` and what stands above it in `Process.antt`, read from the end: the rules of `process` in their order.
+//! - `Accepts` in `Process.antt` and `verdict_of` in `Verdict.antt`: which segments get that far.
+//! - `content` in `Content.antt` and `before_emit` in `Begin.antt`: what `dispatch` sends, and what it does before.
+//! - `View` in `View.antt`: the fields that all of these speak of.
+//!
+//! The other files are the parts of these. What is promised of two sockets is in `docs/THEOREM.md`.
 ghost use Rattle.std.specs.Prelude.{ℕ, ◌≡◌, ◌+◌, ◌≤◌, ◌<◌, ◌^◌, Bool, List, Option, length, is_ok, is_some, false};
 ghost use Rattle.std.specs.Fn.{FnOnceReturnsAt, FnOnceReturnsAtMut};
 ghost use Rattle.ip_wire.specs.declared.repr.IpRepr.{IpRepr};
@@ -16,7 +27,7 @@ ghost use Rattle.sock_tcp.specs.Queue.{queue_of};
 ghost use Rattle.sock_tcp.specs.Queues.{SendsWith, ReadsWith};
 ghost use Rattle.sock_tcp.specs.SocketBytes.{begins, KeepsPlaces};
 ghost use Rattle.sock_tcp.specs.SocketRun.{Counts, Step, Run, Promised, starting, DispatchesOut};
-ghost use Rattle.sock_tcp.specs.Replies.{IsStamp};
+ghost use Rattle.sock_tcp.specs.Replies.{IsReplyStamp};
 ghost use Rattle.sock_tcp.specs.Settings.{of_kind};
 ghost use Rattle.sock_tcp.specs.SocketRun.{any_filling, answer_of, any_taking, read_answer_of};
 ghost use Rattle.sock_tcp.specs.SocketRun.{IsNumbered, after_segment, opens_listener, starting_if};
@@ -160,9 +171,9 @@ pub fn abort_resets<G>(socket: &mut Socket<'_, G>)
 fn numbers_fit(repr: &TcpRepr<'_>)
     ensures { IsNumbered (segment_of repr.now) }
 {
-    repr.seq_number.in_range();
+    repr.seq_number.in_range(); // for its contract
     if let Some(ack) = repr.ack_number {
-        ack.in_range();
+        ack.in_range(); // for its contract
     }
 }
 
@@ -176,7 +187,7 @@ pub fn process_receives<G: TsvalSource, C: Context>(
 ) -> Option<Reply>
     requires accepted { Accepts socket.old.control_block ip_repr.now (segment_of repr.now) }
     requires small { length repr.now.payload.now ≤ 65535 }
-    ensures table { Processes C.facts C.word_at (IsStamp G.tells socket.new.tsval_generator repr.now.timestamp)
+    ensures table { Processes C.facts C.word_at (IsReplyStamp G.tells socket.new.tsval_generator repr.now.timestamp)
         socket.old.control_block cx.old ip_repr.now (segment_of repr.now) result socket.new.control_block cx.new }
     ensures generator { socket.new.tsval_generator
         ≡ generator_after socket.old.control_block (segment_of repr.now) socket.old.tsval_generator }

@@ -204,7 +204,7 @@ impl<'a> ControlBlock<'a> {
             (segment_of repr.now) }
         ensures context { Draws (draws Pass self.old.state control) C.facts C.word_at cx.old cx.new }
     {
-        let acked = self.passed(repr.control, repr.ack_number);
+        let acked = self.acked_by_passing(repr.control, repr.ack_number);
         match self.advance(cx, now, control, acked, ip_repr, repr) {
             Next::Stop => Answer::Nothing,
             Next::Challenge => self.challenge(now),
@@ -234,7 +234,7 @@ impl<'a> ControlBlock<'a> {
             return self.process_inside(cx, now, repr.control, 0, &[], ip_repr, repr);
         }
         let (number, length) = (repr.seq_number, repr.payload.len());
-        number.in_range();
+        number.in_range(); // for its contract
         let window = self.receive_window();
         if !window.is_inside(number, length) {
             return self.answer_outside(now, repr);

@@ -59,6 +59,7 @@ impl<'a> ControlBlock<'a> {
             self.remote_last_ts = None;
         }
         if self.remote_win_len == 0 && self.timer.is_idle() {
+            // The call has no context to ask for the time, so the first probe is due at once, as smoltcp's.
             let delay = self.rtte.retransmission_timeout();
             self.timer = Timer::ZeroWindowProbe {
                 expires_at: Instant::ZERO + delay,

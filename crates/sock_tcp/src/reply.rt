@@ -10,7 +10,7 @@ ghost use Rattle.net_base.specs.Ranges.{edges};
 ghost use Rattle.sock_tcp.specs.Window.{next_ack};
 ghost use Rattle.sock_tcp.specs.Replies.{reply_ip, bare_reply, rst_ack, rst_number, rst_segment, with_header};
 ghost use Rattle.sock_tcp.specs.Replies.{chosen_range, wire_edges, sack_range, ack_segment, ack_kept};
-ghost use Rattle.sock_tcp.specs.Replies.{IsStamp, IsSentAs, Answers};
+ghost use Rattle.sock_tcp.specs.Replies.{IsReplyStamp, IsSentAs, Answers};
 
 use crate::control_block::ControlBlock;
 use crate::generator::TsvalSource;
@@ -148,7 +148,7 @@ impl<'a> ControlBlock<'a> {
 impl<'a, G: TsvalSource> Socket<'a, G> {
     // The timestamp of a reply to this segment.
     fn stamp(&self, control: TcpControl, repr: &TcpRepr<'_>) -> Option<TcpTimestampRepr>
-        ensures { IsStamp G.tells self.now.tsval_generator repr.now.timestamp control result }
+        ensures { IsReplyStamp G.tells self.now.tsval_generator repr.now.timestamp control result }
     {
         match (control, repr.timestamp, &self.tsval_generator) {
             (TcpControl::None, Some(came), Some(generator)) => {
@@ -161,7 +161,7 @@ impl<'a, G: TsvalSource> Socket<'a, G> {
     // The reply as it goes out.
     fn answer(&self, ip_repr: &IpRepr, repr: &TcpRepr<'_>, reply: TcpRepr<'static>) -> Reply
         requires { reply.payload.now ≡ [] }
-        ensures sent { IsSentAs (IsStamp G.tells self.now.tsval_generator repr.now.timestamp) ip_repr.now
+        ensures sent { IsSentAs (IsReplyStamp G.tells self.now.tsval_generator repr.now.timestamp) ip_repr.now
             (segment_of reply.entry) (reply_of result) }
         ensures bare { result.1.payload.now ≡ [] }
     {
@@ -184,7 +184,7 @@ impl<'a, G: TsvalSource> Socket<'a, G> {
         ensures view { self.new.control_block
             ≡ (answered answer self.old.control_block (segment_of repr.now)).view }
         ensures generator { self.new.tsval_generator ≡ self.old.tsval_generator }
-        ensures answer { Answers (IsStamp G.tells self.old.tsval_generator repr.now.timestamp) ip_repr.now
+        ensures answer { Answers (IsReplyStamp G.tells self.old.tsval_generator repr.now.timestamp) ip_repr.now
             (answered answer self.old.control_block (segment_of repr.now)).reply (option_map reply_of result) }
         ensures bare { ForSome result (λ r. r.1.payload.now ≡ []) }
         ensures fits { ForSome (option_map reply_of result) (λ r. FitsPacket r.0 r.1) }

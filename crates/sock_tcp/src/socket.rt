@@ -9,7 +9,7 @@ ghost use Rattle.sock_tcp.specs.Opening.{is_listening, is_open, is_active, Liste
 ghost use Rattle.sock_tcp.specs.Queues.{may_send, can_send, may_recv, can_recv};
 ghost use Rattle.sock_tcp.specs.Queues.{written, Sends, SendsWith, Writes, Reads, ReadsWith, lent_bytes, Peeks, PeeksInto};
 ghost use Rattle.sock_tcp.specs.Process.{Accepts, Processes, generator_after};
-ghost use Rattle.sock_tcp.specs.Replies.{IsStamp};
+ghost use Rattle.sock_tcp.specs.Replies.{IsReplyStamp};
 
 use crate::control_block::ControlBlock;
 use crate::error::{ConnectError, ListenError, RecvError, SendError};
@@ -290,7 +290,7 @@ impl<'a, G: TsvalSource> Socket<'a, G> {
         requires accepted { Accepts self.old.control_block ip_repr.now (segment_of repr.now) }
         requires small { length repr.now.payload.now ≤ 65535 }
         ensures table { Processes C.facts C.word_at
-            (IsStamp G.tells self.new.tsval_generator repr.now.timestamp) self.old.control_block cx.old
+            (IsReplyStamp G.tells self.new.tsval_generator repr.now.timestamp) self.old.control_block cx.old
             ip_repr.now (segment_of repr.now) result self.new.control_block cx.new }
         ensures generator { self.new.tsval_generator
             ≡ generator_after self.old.control_block (segment_of repr.now) self.old.tsval_generator }

@@ -69,6 +69,7 @@ impl<'a> ControlBlock<'a> {
         if self.local_rx_dup_acks == DUPLICATES {
             self.timer = Timer::FastRetransmit;
         }
+        // Reno does not look at it; the trait is smoltcp's, and another controller may.
         let flight = self.flight();
         self.congestion_controller
             .on_dup_ack(now, self.remote_mss, flight);

@@ -108,12 +108,12 @@ impl<'a> ControlBlock<'a> {
         ensures within { seq_sub result.end result.start ≤ length self.now.rx_buffer.held }
     {
         let start = self.next_ack();
-        start.in_range();
+        start.in_range(); // for its contract
         let end = match self.remote_last_ack {
             None => start,
             Some(ack) => {
                 let edge = ack.plus((self.remote_last_win as usize) << self.remote_win_shift);
-                edge.in_range();
+                edge.in_range(); // for its contract
                 Self::kept_between(start, start.plus(self.rx_buffer.window()), edge)
             }
         };

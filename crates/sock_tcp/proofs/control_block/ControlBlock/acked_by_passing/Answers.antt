@@ -1,7 +1,7 @@
 use Rattle.std.proofs.Common.{◌≡◌, ◌<◌, ◌≤◌, ◌^◌, length, arith, ap}
 use Rattle.sock_tcp.specs.View.{View}
 use Rattle.sock_tcp.proofs.Acking.{acked_fits, none_acked}
-use Rattle.sock_tcp.proofs.control_block.ControlBlock.passed.Goals as goal
+use Rattle.sock_tcp.proofs.control_block.ControlBlock.acked_by_passing.Goals as goal
 
 pub returns-in-None-clause-fits : goal.returns-in-None-clause-fits
 returns-in-None-clause-fits c = rw c.acked.ensures (none_acked c.args.control c.args.self.now)
