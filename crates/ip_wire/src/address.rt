@@ -1,5 +1,5 @@
 //! Addresses of the two versions of IP.
-ghost use Rattle.std.specs.Prelude.{◌≡◌};
+ghost use Rattle.std.specs.Prelude.{◌≡◌, ◌∷◌, []};
 ghost use Rattle.ip_wire.specs.Address.{
   all_zero,
   is_multicast,
@@ -8,6 +8,7 @@ ghost use Rattle.ip_wire.specs.Address.{
   is_unspecified,
   version_of,
 };
+ghost use Rattle.ip_wire.specs.declared.address.IpAddress.TheVariants.{Ipv4};
 
 use crate::protocol::IpVersion;
 
@@ -33,6 +34,22 @@ fn all_zero(octets: &[u8]) -> bool
 }
 
 impl Ipv4Address {
+    /// 0.0.0.0, which stands for no address (RFC 1122, section 3.2.1.3).
+    pub const UNSPECIFIED: Ipv4Address = Ipv4Address([0; 4]);
+
+    /// 127.0.0.1, the host itself.
+    pub const LOCALHOST: Ipv4Address = Ipv4Address([127, 0, 0, 1]);
+
+    /// 255.255.255.255, every host on the link.
+    pub const BROADCAST: Ipv4Address = Ipv4Address([255; 4]);
+
+    /// The address a.b.c.d.
+    pub const fn new(a: u8, b: u8, c: u8, d: u8) -> Ipv4Address
+        ensures { result.0 ≡ a ∷ b ∷ c ∷ d ∷ [] }
+    {
+        Ipv4Address([a, b, c, d])
+    }
+
     /// Whether all octets are zero.
     pub fn is_unspecified(&self) -> bool
         ensures { result ≡ all_zero self.now.0 }
@@ -49,6 +66,14 @@ impl Ipv4Address {
 }
 
 impl Ipv6Address {
+    /// ::, which stands for no address (RFC 4291, section 2.5.2).
+    pub const UNSPECIFIED: Ipv6Address = Ipv6Address([0; 16]);
+
+    /// ::1, the host itself (RFC 4291, section 2.5.3).
+    pub const LOCALHOST: Ipv6Address = Ipv6Address([
+        0, 0, 0, 0, 0, 0, 0, 0, 0, 0, 0, 0, 0, 0, 0, 1,
+    ]);
+
     /// Whether all octets are zero.
     pub fn is_unspecified(&self) -> bool
         ensures { result ≡ all_zero self.now.0 }
@@ -65,6 +90,13 @@ impl Ipv6Address {
 }
 
 impl IpAddress {
+    /// The IPv4 address a.b.c.d.
+    pub const fn v4(a: u8, b: u8, c: u8, d: u8) -> IpAddress
+        ensures { result ≡ Ipv4 (record { 0 = a ∷ b ∷ c ∷ d ∷ [] }) }
+    {
+        IpAddress::Ipv4(Ipv4Address::new(a, b, c, d))
+    }
+
     /// The version of IP that the address belongs to.
     pub fn version(&self) -> IpVersion
         ensures { result ≡ version_of self.now }

@@ -33,6 +33,16 @@ pub struct IpListenEndpoint {
     pub port: u16,
 }
 
+impl IpEndpoint {
+    /// This port at this address.
+    pub const fn new(addr: IpAddress, port: u16) -> IpEndpoint
+        ensures addr { result.addr ≡ addr }
+        ensures port { result.port ≡ port }
+    {
+        IpEndpoint { addr, port }
+    }
+}
+
 impl Default for IpListenEndpoint {
     ghost is_default = { λ e. e ≡ record { addr = None; port = 0 } };
 
