@@ -3,6 +3,7 @@ ghost use Rattle.std.specs.Prelude.{◌*ℤ◌, ◌<◌, ◌^◌, pos, false, re
 ghost use Rattle.ip_wire.specs.Checksum.{all_checksums};
 ghost use Rattle.ip_wire.specs.declared.address.IpAddress.TheVariants as address;
 ghost use Rattle.ip_wire.specs.declared.checksum.Checksum.TheVariants.{Both};
+ghost use Rattle.two_hosts.specs.Words.{word_after};
 
 use crate::packet::Packet;
 use smoltcp_socket::Context;
@@ -32,7 +33,8 @@ pub struct Interface {
     pub addr: Ipv4Address,
     /// The time, in milliseconds since the program's start.
     pub now: u32,
-    /// What a new connection numbers its bytes from. A real interface draws a random word each time.
+    /// The next word, from which a new connection numbers its bytes: of a generator that starts with a seed, so that a
+    /// run can be repeated. A host on a network where anybody may listen draws from a better source.
     pub word: u32,
     /// The packets that were emitted and are not on the wire yet, the oldest first.
     pub outbox: Vec<Packet>,
@@ -102,7 +104,7 @@ impl Context for Interface {
       checksums = all_checksums Both;
     } };
 
-    ghost word_at = { λ i _. i.word };
+    ghost word_at = { λ i k. word_after i.word k };
 
     fn now(&self) -> Instant {
         Instant::from_millis(i64::from(self.now))
@@ -139,7 +141,10 @@ impl Context for Interface {
         ChecksumCapabilities::default()
     }
 
+    #[tactic(auto, unfolding(crate::specs::Words::word_after))]
     fn rand_u32(&mut self) -> u32 {
-        self.word
+        let word = self.word;
+        self.word = word.wrapping_mul(1_664_525).wrapping_add(1_013_904_223);
+        word
     }
 }

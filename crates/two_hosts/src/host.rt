@@ -23,7 +23,7 @@ pub struct Host<'a> {
 }
 
 impl<'a> Host<'a> {
-    /// A host without sockets at this address. Its connections number their bytes from `word` on.
+    /// A host without sockets at this address. `word` is the seed of its random words.
     pub fn new(alloc: Global, addr: Ipv4Address, word: u32) -> Host<'a> {
         Host {
             sockets: Vec::new(alloc),
