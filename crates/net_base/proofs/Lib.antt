@@ -3,5 +3,7 @@ pub mod Cells
 pub mod Entries
 pub mod Helds
 pub mod PacketLists
+pub mod ReadOn
 pub mod Refilled
 pub mod Sets
+pub mod Taken

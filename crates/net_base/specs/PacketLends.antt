@@ -2,7 +2,7 @@
 use Rattle.std.specs.Prelude.{◌≡◌, ℕ, List, length, ⊤}
 use Rattle.std.specs.Borrow.{follows_so, Lends, MutBor, Fml, RattleType, Array, u8}
 use Rattle.std.specs.List.{refill}
-use Rattle.net_base.specs.Packets.{Packets, with_storage, skipped}
+use Rattle.net_base.specs.Packets.{Packets, with_storage, skipped, Dequeues}
 use Rattle.net_base.specs.contracts.packet_buffer.PacketBuffer.{the_row}
 use denote.Param.{copied, param}
 use mir.Syntax.{named}
@@ -14,6 +14,12 @@ abbrev pub ShowsFirst : (H : RattleType) → MutBor (Packets H.Denot) → Fml
 ShowsFirst H p =
     let row = the_row (record { mir = named 1; lft = [] }) (copied 0 H) in
     follows_so row row p.ghost_name none (λ _ _. ⊤) (λ v. v ≡ skipped p.now)
+
+-- the first packet left
+abbrev pub TakesPacket : (H : RattleType) → MutBor (Packets H.Denot) → Fml
+TakesPacket H p =
+    let row = the_row (record { mir = named 1; lft = [] }) (copied 0 H) in
+    follows_so row row p.ghost_name none (λ _ _. ⊤) (λ v. Dequeues p.now v)
 
 -- the payload bytes end as w, cut or filled up to their count
 abbrev pub with_all : {X : Type 0} → Packets X → List ℕ → Packets X

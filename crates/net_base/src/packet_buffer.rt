@@ -70,7 +70,7 @@ impl<'a, H> PacketBuffer<'a, H> {
 }
 
 impl<'a, H: Copy> PacketBuffer<'a, H> {
-    ghost use Rattle.net_base.specs.PacketLends.{ShowsFirst};
+    ghost use Rattle.net_base.specs.PacketLends.{ShowsFirst, TakesPacket};
 
     /// An empty buffer of as many places and payload bytes as the slices have.
     pub fn new(metadata: &'a mut [PacketMetadata<H>], payload: &'a mut [u8]) -> Self
@@ -374,10 +374,22 @@ impl<'a, H: Copy> PacketBuffer<'a, H> {
 
     /// Takes the first packet, and lends its bytes. `Empty` where there is none.
     pub fn dequeue(&mut self) -> Result<(H, &[u8]), Empty>
+        ensures* after { sem 𝓛 (TakesPacket H.row self.entry) }
         ensures variant { IsOk result ↔ (0 < length (packets self.old.entries)) }
         ensures value { IfOk result (λ r. first_packet self.old ≡ Some (r.0, r.1.now)) }
     {
-        match self.take_first() {
+        let taken = self.take_first();
+        self.lent(taken)
+    }
+
+    // The bytes of a packet that `take_first` took, beside its header. `Empty` where it took none.
+    fn lent(&self, taken: Option<(H, (usize, usize))>) -> Result<(H, &[u8]), Empty>
+        requires { IfSome taken (λ t. t.1.0 + t.1.1 ≤ length self.now.storage) }
+        ensures variant { IsOk result ↔ IsSome taken }
+        ensures value { IfOk result (λ r. IfSome taken (λ t. (t.0 ≡ r.0)
+            × (take t.1.1 (drop t.1.0 self.now.storage) ≡ r.1.now))) }
+    {
+        match taken {
             Some((header, (from, size))) => Ok((header, self.part(from, size))),
             None => Err(Empty),
         }
