@@ -115,3 +115,9 @@ parts_lie xs k n m r hs rs ring_is begins fits kept m_is hs_is =
     (and_from (nat_le m 4) _ three
     (subst (λ (l : List Range). are_apart (length xs - n) 1 l ≡ true) is
     (apart_back (length xs - n) 1 rs kept.tidy.apart (λ k held. omega (arith, spare, kept.within k held))))))
+
+pub lies_begins : (p : ReceiveParts) (n : ℕ) → lies_within p n ≡ true → p.read_at ≤ n
+lies_begins p n h = (lies p n h).begins
+
+pub lies_fits : (p : ReceiveParts) (n : ℕ) → lies_within p n ≡ true → p.count ≤ n
+lies_fits p n h = (lies p n h).fits
