@@ -1,7 +1,7 @@
 //! A queue over a lent slice, which goes around its end. As smoltcp's ring buffer.
 ghost use Rattle.std.specs.Prelude.{◌≡◌, ◌+◌, ◌-◌, ◌<◌, ◌≤◌, ◌==◌, ◌⊎◌, List, [], ◌∷◌, ◌++◌, length, take, drop, min};
 ghost use Rattle.std.specs.Fn.{FnOnceReturnsAtMut, FnOnceReturnsAt};
-ghost use Rattle.net_base.specs.Ring.{ring, capacity_of, overwrite, cells_from, Restarted, Appends, Clears, DequeuesWith, EnqueuesWith, LeavesRun};
+ghost use Rattle.net_base.specs.Ring.{ring, ring_of, capacity_of, overwrite, cells_from, Restarted, Appends, Clears, DequeuesWith, EnqueuesWith, LeavesRun};
 
 use std::marker::Model;
 
@@ -39,6 +39,34 @@ impl<'a, T: Copy> RingBuffer<'a, T> {
             read_at: 0,
             length: 0,
         }
+    }
+
+    /// The queue of `count` items that begins at the place `read_at` of `storage` and goes around its end: one that was
+    /// taken apart by `into_parts`. The other places are spare.
+    pub fn from_parts(storage: &'a mut [T], read_at: usize, count: usize) -> Self
+        requires begins { read_at ≤ length storage.old }
+        requires fits { count ≤ length storage.old }
+        ensures { result ≡ ring_of read_at count storage.old }
+    {
+        RingBuffer {
+            storage,
+            read_at,
+            length: count,
+        }
+    }
+
+    /// The slice, the place at which the queue begins, and how many items it holds.
+    pub fn into_parts(self) -> (&'a mut [T], usize, usize)
+        ensures begins { result.1 ≤ length result.0.now }
+        ensures fits { result.2 ≤ length result.0.now }
+        ensures parts { ring_of result.1 result.2 result.0.now ≡ self.entry }
+    {
+        let RingBuffer {
+            storage,
+            read_at,
+            length,
+        } = self;
+        (storage, read_at, length)
     }
 
     /// How many items the queue can hold.

@@ -11,3 +11,6 @@ pub mod Received
 pub mod Estimator
 pub mod Reno
 pub mod Congestion
+pub mod Parts
+pub mod EstimatorParts
+pub mod RenoParts

@@ -4,6 +4,7 @@
 
 pub mod congestion;
 pub mod context;
+pub mod parts;
 pub mod places;
 pub mod ranges;
 pub mod receive_buffer;
@@ -11,6 +12,7 @@ pub mod rtte;
 pub mod seq;
 
 pub use context::{Context, PollAt};
+pub use parts::ReceiveParts;
 pub use ranges::{Ranges, TooManyRanges};
 pub use receive_buffer::ReceiveBuffer;
 pub use rtte::RttEstimator;

@@ -1,5 +1,5 @@
 -- What a dispatch emits fits a packet.
-use Rattle.std.proofs.Common.{◌≡◌, ℕ, ◌+◌, ◌-◌, ◌*◌, ◌/◌, ◌<◌, ◌≤◌, List, [], ◌∷◌, Bool, true, false, Option, Some, None, is_some, refl, sym, ap, subst, length, min, arith}
+use Rattle.std.proofs.Common.{◌≡◌, ℕ, ◌+◌, ◌-◌, ◌*◌, ◌/◌, ◌≤◌, List, [], ◌∷◌, Bool, true, false, Option, Some, None, is_some, refl, ap, subst, length, min, arith}
 use Rattle.std.specs.Prelude.{count_by, option_map, if◌then◌else◌, MatchOption}
 use Rattle.std.specs.Option.{ForSome}
 use Rattle.std.proofs.lemmas.Option.{none-some, same_Some}
@@ -13,7 +13,7 @@ use Rattle.control_wire.specs.Segment.{Segment, options_len, segment_header_len}
 use Rattle.sock_core.specs.Bounds.{IsMtu}
 use Rattle.sock_core.specs.Facts.{Facts}
 use Rattle.sock_tcp.specs.Content.{carries_data, Sending, is_probing, window_left, size_of, asked, filled, emission_kind, of_kind, hop_limit_of, plain_segment, sent_as, content, scale_back}
-use Rattle.sock_tcp.specs.Due.{congestion_left, effective_mss, ip_header_len, own_mss}
+use Rattle.sock_tcp.specs.Due.{congestion_left, effective_mss, ip_header_len}
 use Rattle.sock_tcp.specs.View.{View, moment_of}
 use Rattle.sock_tcp.specs.declared.emission.Kind.{Kind}
 use Rattle.sock_tcp.specs.declared.emission.Kind.TheVariants as kind

@@ -22,3 +22,4 @@ pub mod OrderedSegments
 pub mod OrderedSendings
 pub mod OrderedCalls
 pub mod Sleeping
+mod SoundParts

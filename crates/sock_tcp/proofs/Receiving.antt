@@ -1,12 +1,12 @@
 -- What a segment may do to the receive buffer.
-use Rattle.std.proofs.Common.{◌≡◌, ℕ, ◌+◌, ◌^◌, ◌<◌, ◌≤◌, ◌⊎◌, Bool, true, false, refl, sym, ap, subst, ◌∙◌, arith, List, length, inl, inr}
+use Rattle.std.proofs.Common.{◌≡◌, ℕ, ◌+◌, ◌^◌, ◌<◌, ◌≤◌, ◌⊎◌, Bool, true, false, refl, sym, subst, ◌∙◌, arith, List, length, inl, inr}
 use Rattle.std.specs.Prelude.{◌==◌, if◌then◌else◌}
 use Rattle.ip_wire.specs.declared.repr.IpRepr.{IpRepr}
 use Rattle.net_base.specs.declared.time.Instant.{Instant}
 use Rattle.control_wire.specs.Segment.{Segment}
 use Rattle.sock_core.proofs.Receiving.{takes_in_all}
 use Rattle.sock_core.specs.Received.{Received, taken_in, makes_fifth_range, room_of, TakesIn}
-use Rattle.sock_tcp.specs.Laws.{MayTake, TakesSegment}
+use Rattle.sock_tcp.specs.Laws.{MayTake}
 use Rattle.sock_tcp.specs.Process.{processed}
 use Rattle.sock_tcp.specs.View.{View}
 use Rattle.sock_tcp.specs.Window.{receive_window, is_inside}

@@ -1,5 +1,5 @@
 -- `process` and `connect` in the words of the law on lists of calls: where no random word is drawn, any does.
-use Rattle.std.proofs.Common.{◌≡◌, ℕ, ◌<◌, ◌≤◌, ◌^◌, ◌∙◌, List, [], Bool, true, false, Option, Some, None, refl, sym, ap, subst, length, arith}
+use Rattle.std.proofs.Common.{◌≡◌, ℕ, ◌<◌, ◌≤◌, ◌^◌, ◌∙◌, List, [], Bool, true, false, Some, None, refl, sym, ap, subst, length, arith}
 use Rattle.std.specs.Prelude.{Result, Ok, Err, is_ok, if◌then◌else◌}
 use Rattle.ip_wire.specs.declared.endpoint.IpEndpoint.{IpEndpoint}
 use Rattle.ip_wire.specs.declared.endpoint.IpListenEndpoint.{IpListenEndpoint}
@@ -17,7 +17,7 @@ use Rattle.sock_tcp.specs.Process.{Outcome, AcceptsIn, Accepts, after_table, by_
 use Rattle.sock_tcp.specs.SocketRun.{Counts, Step, Process, Connect, IsNumbered, after_segment, starting_if}
 use Rattle.sock_tcp.specs.Verdict.{verdict_of}
 use Rattle.sock_tcp.specs.View.{View}
-use Rattle.sock_tcp.specs.Window.{receive_window, is_inside, cut_of, cut_bytes}
+use Rattle.sock_tcp.specs.Window.{receive_window, is_inside, cut_of}
 use Rattle.sock_tcp.specs.declared.error.ConnectError.{ConnectError}
 use Rattle.sock_tcp.specs.declared.state.State.{State}
 use Rattle.sock_tcp.specs.declared.state.State.TheVariants as state

@@ -1,5 +1,5 @@
 -- The state table of `process`.
-use Rattle.std.specs.Prelude.{ℕ, ◌+◌, max, min, Option, Some, None, Bool, true, false, ◌==◌, ◌||◌, if◌then◌else◌}
+use Rattle.std.specs.Prelude.{ℕ, max, min, Option, Some, None, Bool, true, false, ◌==◌, ◌||◌, if◌then◌else◌}
 use Rattle.net_base.specs.declared.time.Instant.{Instant}
 use Rattle.control_wire.specs.Seq.{seq_of, seq_add}
 use Rattle.control_wire.specs.Segment.{Segment}

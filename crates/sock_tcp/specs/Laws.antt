@@ -1,5 +1,5 @@
 -- What is promised of one socket beyond its case tables.
-use Rattle.std.specs.Prelude.{ℕ, ◌≡◌, ◌⊎◌, length, Option, Some, None, true}
+use Rattle.std.specs.Prelude.{◌≡◌, ◌⊎◌, length, Option, Some, None, true}
 use Rattle.control_wire.specs.Segment.{Segment}
 use Rattle.sock_core.specs.Received.{TakesIn}
 use Rattle.sock_tcp.specs.View.{View}

@@ -27,3 +27,4 @@ pub mod Laws
 pub mod SocketRun
 pub mod SocketBytes
 pub mod Work
+pub mod Parts

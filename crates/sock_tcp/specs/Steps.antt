@@ -1,8 +1,8 @@
 -- What the steps of `process` behind the state table change, in their order.
-use Rattle.std.specs.Prelude.{ℕ, ◌+◌, ◌-◌, ◌*◌, ◌^◌, List, length, min, Option, Some, None, Bool, true, false, not, ◌==◌, ◌&&◌, ◌||◌, if◌then◌else◌}
+use Rattle.std.specs.Prelude.{ℕ, ◌+◌, ◌*◌, ◌^◌, List, length, min, Option, Some, None, Bool, true, false, not, ◌==◌, ◌&&◌, ◌||◌, if◌then◌else◌}
 use Rattle.net_base.specs.declared.time.Duration.{Duration}
 use Rattle.net_base.specs.declared.time.Instant.{Instant}
-use Rattle.control_wire.specs.Seq.{seq_add, seq_sub, seq_eq}
+use Rattle.control_wire.specs.Seq.{seq_add, seq_eq}
 use Rattle.control_wire.specs.Segment.{Segment}
 use Rattle.control_wire.specs.declared.seq_number.TcpSeqNumber.{TcpSeqNumber}
 use Rattle.control_wire.specs.declared.tcp.TcpControl.{TcpControl}
@@ -11,7 +11,7 @@ use Rattle.control_wire.specs.declared.tcp.TcpTimestampRepr.{TcpTimestampRepr}
 use Rattle.sock_core.specs.Congestion as congestion
 use Rattle.sock_core.specs.Estimator as estimator
 use Rattle.sock_core.specs.Seq.{is_before, later_of}
-use Rattle.sock_core.specs.Received.{Received, taken_in}
+use Rattle.sock_core.specs.Received.{taken_in}
 use Rattle.sock_tcp.specs.Queue.{shortened}
 use Rattle.sock_tcp.specs.Timers.{after, idle_from, retransmit_from, probe_from, is_idle}
 use Rattle.sock_tcp.specs.View.{View}
