@@ -2,6 +2,7 @@ pub mod Around
 pub mod Cells
 pub mod Entries
 pub mod Helds
+pub mod LentRun
 pub mod PacketLists
 pub mod ReadOn
 pub mod Refilled

@@ -1,5 +1,5 @@
 -- What a contract sees of a packet buffer.
-use Rattle.std.specs.Prelude.{ℕ, ◌+◌, ◌-◌, ◌≡◌, ◌≤◌, ◌<◌, ◌==◌, Bool, false, not, ◌&&◌, ◌||◌, List, [], ◌∷◌, ◌++◌, length, take, drop, cond, nat_lt, nat_le, min, Option, Some, None, is_none, slice_get, Result, is_ok, refl, if◌then◌else◌}
+use Rattle.std.specs.Prelude.{ℕ, ◌+◌, ◌-◌, ◌≡◌, ◌≤◌, ◌<◌, ◌==◌, Bool, false, true, not, ◌&&◌, ◌||◌, List, [], ◌∷◌, ◌++◌, length, take, drop, cond, nat_lt, nat_le, min, Option, Some, None, is_none, slice_get, Result, is_ok, refl, if◌then◌else◌}
 use Rattle.std.specs.Fn.{Once}
 use Rattle.std.specs.Borrow.{Bor, MutBor}
 use Rattle.std.specs.Coded.{Coded, code_by, coded×, coded_list, coded_ℕ, coded_option}
@@ -131,6 +131,14 @@ pub record Dequeues {X : Type 0} (old new : Packets X) : Type 0 where
   pub some : 0 < length (skipped old).entries → new ≡ without_first (skipped old)
   pub none : length (skipped old).entries ≡ 0 → new ≡ skipped old
   pub packets : packets new.entries ≡ drop 1 (packets old.entries)
+
+-- room was made, and where there was room a packet of the size bytes behind the entries was appended
+pub record Claims {X : Type 0} (size : ℕ) (header : X) (old : Packets X) (taken : Bool) (from : ℕ) (new : Packets X) : Type 0 where
+  pub variant : taken ≡ takes size old
+  pub err : taken ≡ false → new ≡ made_room size old
+  pub place : taken ≡ true → from ≡ end_of (made_room size old)
+  pub after : taken ≡ true → new ≡ appended (Some header) size (made_room size old)
+  pub within : taken ≡ true → from + size ≤ length new.storage
 
 -- a call that was lent the size bytes behind the entries left `left` there, and of these the first `kept` became an
 -- entry

@@ -6,7 +6,7 @@ ghost use Rattle.std.specs.Prelude.{◌≡◌, ℕ, ◌+◌, ◌-◌, ◌<◌, �
 ghost use Rattle.std.specs.Fn.{FnOnceReturnsAtMut};
 ghost use Rattle.std.specs.Borrow.{sem};
 ghost use Rattle.net_base.specs.Ring.{LeavesRun};
-ghost use Rattle.net_base.specs.Packets.{Packets, packets_with, packets, taken, end_of, run_of, room_of, first_bytes, first_header, starts_padded, without_first, skipped, appended, restarted, fits, padded_for, made_room, takes, first_packet, Dequeues, WritesBoth, WritesFirst, TakesFirst, AppendsWith, Enqueues};
+ghost use Rattle.net_base.specs.Packets.{Packets, packets_with, packets, taken, end_of, run_of, room_of, first_bytes, first_header, starts_padded, without_first, skipped, appended, restarted, fits, padded_for, made_room, takes, first_packet, Dequeues, Claims, WritesBoth, WritesFirst, TakesFirst, AppendsWith, Enqueues};
 
 use crate::ring_buffer::{RingBuffer, place};
 use std::marker::Model;
@@ -70,7 +70,7 @@ impl<'a, H> PacketBuffer<'a, H> {
 }
 
 impl<'a, H: Copy> PacketBuffer<'a, H> {
-    ghost use Rattle.net_base.specs.PacketLends.{ShowsFirst, TakesPacket};
+    ghost use Rattle.net_base.specs.PacketLends.{ShowsFirst, TakesPacket, LendsPacket};
 
     /// An empty buffer of as many places and payload bytes as the slices have.
     pub fn new(metadata: &'a mut [PacketMetadata<H>], payload: &'a mut [u8]) -> Self
@@ -208,31 +208,30 @@ impl<'a, H: Copy> PacketBuffer<'a, H> {
         self.pad_for(size)
     }
 
-    // Appends a packet of `size` bytes as they stand in the storage, and answers where they begin.
-    fn reserve(&mut self, size: usize, header: H) -> Result<usize, Full>
-        ensures variant { IsOk result ↔ IsTrue (takes size self.old) }
-        ensures err { OnErr result (self.new ≡ made_room size self.old) }
-        ensures ok { IfOk result (λ from. (from ≡ end_of (made_room size self.old))
-            × (self.new ≡ appended (Some header) size (made_room size self.old))) }
-        ensures within { IfOk result (λ from. from + size ≤ length self.new.storage) }
+    // Appends a packet of `size` bytes as they stand in the storage. Answers whether there was room, and where they begin.
+    fn claim(&mut self, size: usize, header: H) -> (bool, usize)
+        ensures { Claims size header self.old result.0 result.1 self.new }
     {
         if !self.make_room(size) {
-            return Err(Full);
+            return (false, 0);
         }
-        Ok(self.append(size, Some(header)))
+        (true, self.append(size, Some(header)))
     }
 
     /// Appends a packet, and lends its `size` bytes for writing. What stands in them as the borrow ends is the packet.
     ///
     /// `Full` where no place is left, or `size` bytes in one piece are not; the packets then stay as they were.
-    #[tactic(auto, using(crate::proofs::PacketLists::lent_bytes))]
     pub fn enqueue(&mut self, size: usize, header: H) -> Result<&mut [u8], Full>
+        ensures* after { sem 𝓛 (LendsPacket H.row size header self.entry result) }
         ensures variant { IsOk result ↔ IsTrue (takes size self.old) }
         ensures size { IfOk result (λ bytes. length bytes.now ≡ size) }
         ensures value { IfOk result (λ bytes. bytes.now
             ≡ take size (drop (end_of (made_room size self.old)) self.old.storage)) }
     {
-        let from = self.reserve(size, header)?;
+        let (taken, from) = self.claim(size, header);
+        if !taken {
+            return Err(Full);
+        }
         let all = self.all();
         Ok(&mut all[from..from + size])
     }
