@@ -1,17 +1,21 @@
-//! The chart, which is drawn event by event.
+//! The chart, which is drawn row by row.
 //!
-//! Arrows and what stands beside the lifelines are drawn as the events come. The labels of the segments come last, so
-//! that no arrow strikes through one; all that is kept for them is where each segment departed.
-ghost use Rattle.std.specs.Prelude.{◌<◌, vec_len};
-ghost use Rattle.std.specs.Vec.{vec_capacity};
+//! Arrows and what stands beside the lifelines are drawn as the events come. The labels of the segments, and the names
+//! that stand again further down, come last, so that no arrow strikes through one; all that is kept for them is where
+//! each segment departed.
 
 use crate::arrow::{Arrow, Ending};
 use crate::call::Call;
-use crate::label::Label;
-use crate::page::{Anchor, HEAD, NEITHER, ROW, Row, TIME, WIDTH, height, lifeline};
+use crate::history::Step;
+use crate::label::{Label, Name};
+use crate::marks::{Mark, Marker};
+use crate::numbers::Numbers;
+use crate::page::{
+    Anchor, HEAD, LINE, NEITHER, ROW, Row, SCREEN, TIME, WIDTH, height, lifeline, name,
+};
 use crate::style::{LEGEND, STYLE};
 use sock_pair::script::End;
-use sock_pair::{Event, Moment, Outcome, Pair, Segment, Side};
+use sock_pair::{Event, Outcome, Segment, Side};
 use sock_tcp::State;
 use std::alloc::Global;
 use std::fmt::Display;
@@ -20,16 +24,21 @@ use std::io::Write;
 
 /// A chart on its way to a writer.
 #[derive(Drop)]
-pub struct Chart<'w, W> {
+struct Chart<'w, 's, W> {
     out: &'w mut W,
-    // The row of the next event, and the base line of the next text beside a lifeline in it.
+    // The segments, and how their numbers are shown.
+    segments: &'s [Segment],
+    numbers: Numbers,
+    // The next row, the base line of the next text beside a lifeline in it, and how many rows of events came before.
     row: Row,
     line: usize,
+    rows: usize,
     // The states of the sides, as they were written last.
     a: State,
     b: State,
-    // Where each segment departed, the first one first.
+    // How each segment set out, and what the next one repeats.
     departures: Vec<Departure>,
+    marker: Marker,
 }
 
 // How a segment set out.
@@ -41,26 +50,65 @@ struct Departure {
     arrived: bool,
 }
 
-impl<'w, W: Write> Chart<'w, W> {
-    /// A chart of nothing yet.
-    pub fn new(alloc: Global, out: &'w mut W) -> Chart<'w, W> {
-        Chart {
-            out,
-            row: Row::FIRST,
-            line: Row::FIRST.first_line(),
-            a: State::Closed,
-            b: State::Closed,
-            departures: Vec::new(alloc),
+const NOT_YET: Departure = Departure {
+    row: Row::FIRST,
+    reply: false,
+    arrived: false,
+};
+
+/// Draws all steps, with these segments, whose numbers are shown so. Where there is no memory to begin, nothing is
+/// written.
+pub fn draw<W: Write>(
+    alloc: Global,
+    out: &mut W,
+    steps: &[Step<'_>],
+    segments: &[Segment],
+    numbers: Numbers,
+) -> End {
+    let Ok(departures) = vec![in alloc; NOT_YET; segments.len()] else {
+        return End::Memory;
+    };
+    let mut chart = Chart {
+        out,
+        segments,
+        numbers,
+        row: Row::FIRST,
+        line: Row::FIRST.first_line(),
+        rows: 0,
+        a: State::Closed,
+        b: State::Closed,
+        departures,
+        marker: Marker::new(),
+    };
+    match chart.draw(steps) {
+        Ok(()) => End::Done,
+        Err(_) => End::Write,
+    }
+}
+
+// How many rows steps have.
+fn count_rows(steps: &[Step<'_>]) -> usize {
+    let mut rows = steps.len();
+    for (before, step) in steps.iter().zip(steps.iter().skip(1)) {
+        if step.repeats(before) {
+            rows = rows.saturating_sub(1);
         }
     }
+    rows
+}
 
-    /// Begins a chart of so many events.
-    pub fn begin(&mut self, events: usize) -> io::Result<()> {
-        let height = height(events);
+impl<W: Write> Chart<'_, '_, W> {
+    fn draw(&mut self, steps: &[Step<'_>]) -> io::Result<()> {
+        let height = height(count_rows(steps));
         self.open(height)?;
         self.ground()?;
-        self.head(Side::A, "a 10.0.0.1:49152", height)?;
-        self.head(Side::B, "b 10.0.0.2:80", height)
+        self.head(Side::A, height)?;
+        self.head(Side::B, height)?;
+        self.steps(steps)?;
+        self.lost()?;
+        self.names()?;
+        self.labels()?;
+        writeln!(self.out, "</svg>")
     }
 
     // The root element, and the style sheet.
@@ -81,14 +129,15 @@ impl<'w, W: Write> Chart<'w, W> {
             <path class=\"row\" d=\"M0 0H{WIDTH}\"/></pattern>\n\
             <rect class=\"page\" width=\"100%\" height=\"100%\"/>\n\
             <rect fill=\"url(#rows)\" y=\"{HEAD}\" width=\"100%\" height=\"100%\"/>\n\
+            <text class=\"time\" x=\"{LINE}\" text-anchor=\"end\" y=\"94\">line</text>\n\
             <text class=\"time\" x=\"{TIME}\" text-anchor=\"end\" y=\"94\">ms</text>"
         )?;
         self.out.write_all(LEGEND.as_bytes())
     }
 
     // The lifeline of a side, and above it the side's name and first state.
-    fn head(&mut self, side: Side, name: &str, height: usize) -> io::Result<()> {
-        let (x, anchor) = (lifeline(side), Anchor::outside(side));
+    fn head(&mut self, side: Side, height: usize) -> io::Result<()> {
+        let (x, anchor, name) = (lifeline(side), Anchor::outside(side), name(side));
         writeln!(
             self.out,
             "<text class=\"name\" x=\"{x}\" y=\"72\">{name}</text>\n\
@@ -97,42 +146,81 @@ impl<'w, W: Write> Chart<'w, W> {
         )
     }
 
-    /// Performs an event and draws what it came to. `Memory` where memory ran out, and then nothing was done.
-    pub fn step(&mut self, pair: &mut Pair<'_>, event: &Event) -> Result<(), End> {
-        if let Err(_) = self.departures.reserve(1) {
-            return Err(End::Memory);
+    // Draws each step, and those that say the same in one row.
+    fn steps(&mut self, steps: &[Step<'_>]) -> io::Result<()> {
+        let mut count = 0usize;
+        for (index, step) in steps.iter().enumerate() {
+            if count == 0 {
+                self.step(step)?;
+            }
+            count = count.saturating_add(1);
+            if is_repeated(step, steps.get(index.saturating_add(1))) {
+                continue;
+            }
+            if count > 1 {
+                self.repeated(step, count)?;
+            }
+            count = 0;
+            self.next_row();
         }
-        let Ok(outcome) = pair.step(event) else {
-            return Err(End::Memory);
-        };
-        match self.draw(event, &outcome, pair) {
-            Ok(()) => Ok(()),
-            Err(_) => Err(End::Write),
-        }
-    }
-
-    // Draws an event and what it came to, for which there is room. The pair is as the event left it.
-    fn draw(&mut self, event: &Event, outcome: &Outcome, pair: &Pair<'_>) -> io::Result<()>
-        requires { vec_len self.old.departures < vec_capacity self.old.departures }
-    {
-        self.call(event, Call { event, outcome }, pair)?;
-        self.state(Side::A, pair)?;
-        self.state(Side::B, pair)?;
-        self.row = self.row.next();
-        self.line = self.row.first_line();
         Ok(())
     }
 
-    // The event's own row: a segment's way, or a text beside a lifeline.
-    fn call(&mut self, event: &Event, call: Call<'_>, pair: &Pair<'_>) -> io::Result<()>
-        requires { vec_len self.old.departures < vec_capacity self.old.departures }
-    {
-        match event {
-            Event::Dispatch { side, moment, .. } => self.dispatch(*side, moment, call),
-            Event::Deliver { index, moment } => {
-                self.deliver(*index, call, pair.segments())?;
-                self.time(moment, self.row.first_line())
+    // The row of the next step. Between two screens is one for the names.
+    fn next_row(&mut self) {
+        self.rows = self.rows.saturating_add(1);
+        self.row = self.row.next();
+        if self.rows % SCREEN == 0 {
+            self.row = self.row.next();
+        }
+        self.line = self.row.first_line();
+    }
+
+    // How many steps this row stands for, with the line and the moment of the last.
+    fn repeated(&mut self, last: &Step<'_>, count: usize) -> io::Result<()> {
+        let y = self.row.second_line();
+        self.number(LINE, y, last.line)?;
+        if let Some(millis) = last.millis() {
+            self.number(TIME, y, millis)?;
+        }
+        match last.event {
+            Event::Dispatch { side, .. } => {
+                self.beside(*side, "quiet", format_args!("{count} times"))
             }
+            _ => Ok(()),
+        }
+    }
+
+    // Draws a step, and the state of each side where it is another one now.
+    fn step(&mut self, step: &Step<'_>) -> io::Result<()> {
+        let y = self.time_line(step);
+        self.number(LINE, y, step.line)?;
+        if let Some(millis) = step.millis() {
+            self.number(TIME, y, millis)?;
+        }
+        self.call(step)?;
+        self.state(Side::A, step.a)?;
+        self.state(Side::B, step.b)?;
+        self.reply_mark(step)
+    }
+
+    // Where the line's number and the time of a step stand: beside the label of what it emitted.
+    fn time_line(&self, step: &Step<'_>) -> usize {
+        match step.outcome {
+            Outcome::Emitted(_) | Outcome::EmitFailed => self.row.label(),
+            _ => self.row.first_line(),
+        }
+    }
+
+    // The event's own row: a segment's way, or a text beside a lifeline.
+    fn call(&mut self, step: &Step<'_>) -> io::Result<()> {
+        let call = Call {
+            event: step.event,
+            outcome: &step.outcome,
+        };
+        match step.event {
+            Event::Dispatch { side, .. } => self.dispatch(*side, call),
+            Event::Deliver { index, .. } => self.deliver(*index, call),
             Event::Listen { side }
             | Event::Connect { side, .. }
             | Event::SendSlice { side, .. }
@@ -145,51 +233,41 @@ impl<'w, W: Write> Chart<'w, W> {
         }
     }
 
-    /// Ends the chart: draws the segments that never came, and the label of each segment.
-    pub fn end(&mut self, segments: &[Segment]) -> io::Result<()> {
-        for (index, (departure, segment)) in self.departures.iter().zip(segments).enumerate() {
-            if !departure.arrived {
-                draw_lost(self.out, departure, segment.from)?;
-            }
-            let label = Label {
-                index,
-                segment,
-                y: departure.row.label(),
-            };
-            writeln!(self.out, "{label}")?;
-        }
-        writeln!(self.out, "</svg>")
-    }
-
-    fn dispatch(&mut self, side: Side, moment: &Moment, call: Call<'_>) -> io::Result<()>
-        requires { vec_len self.old.departures < vec_capacity self.old.departures }
-    {
+    fn dispatch(&mut self, side: Side, call: Call<'_>) -> io::Result<()> {
         match call.outcome {
-            Outcome::Emitted(_) => {
-                self.depart(false);
-                self.time(moment, self.row.label())
+            Outcome::Emitted(index) => {
+                self.depart(*index, false);
+                self.mark(*index)
             }
             Outcome::EmitFailed => {
-                self.time(moment, self.row.label())?;
                 self.fail(side)?;
                 self.beside(side, "failed-text", call)
             }
-            _ => {
-                self.time(moment, self.row.first_line())?;
-                self.beside(side, "quiet", call)
-            }
+            _ => self.beside(side, "quiet", call),
         }
     }
 
-    // A segment departs in this row.
-    fn depart(&mut self, reply: bool)
-        requires { vec_len self.old.departures < vec_capacity self.old.departures }
-    {
-        self.departures.push_reserved(Departure {
-            row: self.row,
-            reply,
-            arrived: false,
-        });
+    // The segment of this index departs in this row.
+    fn depart(&mut self, index: usize, reply: bool) {
+        let row = self.row;
+        if let Some(departure) = self.departures.get_mut(index) {
+            *departure = Departure {
+                row,
+                reply,
+                arrived: false,
+            };
+        }
+    }
+
+    // Says beside its emitter's lifeline what the segment of this index repeats.
+    fn mark(&mut self, index: usize) -> io::Result<()> {
+        let Some(segment) = self.segments.get(index) else {
+            return Ok(());
+        };
+        match self.marker.mark(segment) {
+            Mark::New => Ok(()),
+            mark => self.beside(segment.from, "mark", mark),
+        }
     }
 
     // An emit failed.
@@ -204,19 +282,17 @@ impl<'w, W: Write> Chart<'w, W> {
         writeln!(self.out, "{arrow}")
     }
 
-    fn deliver(&mut self, index: usize, call: Call<'_>, segments: &[Segment]) -> io::Result<()>
-        requires { vec_len self.old.departures < vec_capacity self.old.departures }
-    {
+    fn deliver(&mut self, index: usize, call: Call<'_>) -> io::Result<()> {
         match call.outcome {
             Outcome::Delivered(reply) => {
                 self.reply(*reply);
-                self.arrive(index, None, segments)
+                self.arrive(index, None)
             }
             Outcome::NotAccepted(reply) => {
                 self.reply(*reply);
-                self.arrive(index, Some("not accepted"), segments)
+                self.arrive(index, Some("not accepted"))
             }
-            Outcome::TooOld => self.arrive(index, Some("too old"), segments),
+            Outcome::TooOld => self.arrive(index, Some("too old")),
             _ => {
                 let y = self.row.first_line();
                 writeln!(
@@ -228,26 +304,30 @@ impl<'w, W: Write> Chart<'w, W> {
     }
 
     // A reply departs in this row, if there is one.
-    fn reply(&mut self, reply: Option<usize>)
-        requires { vec_len self.old.departures < vec_capacity self.old.departures }
-    {
-        if reply.is_some() {
-            self.depart(true);
+    fn reply(&mut self, reply: Option<usize>) {
+        if let Some(index) = reply {
+            self.depart(index, true);
+        }
+    }
+
+    // Says what the reply of a step repeats, if there is one.
+    fn reply_mark(&mut self, step: &Step<'_>) -> io::Result<()> {
+        match step.reply() {
+            Some(index) => self.mark(index),
+            None => Ok(()),
         }
     }
 
     // The segment of this index comes to the other side in this row, which may refuse it.
-    fn arrive(
-        &mut self,
-        index: usize,
-        refusal: Option<&str>,
-        segments: &[Segment],
-    ) -> io::Result<()> {
-        let (Some(departure), Some(segment)) = (self.departures.get_mut(index), segments.get(index))
-        else {
+    fn arrive(&mut self, index: usize, refusal: Option<&str>) -> io::Result<()> {
+        let arrival = self.row.arrival();
+        let (Some(departure), Some(segment)) = (
+            self.departures.get_mut(index),
+            self.segments.get(index),
+        ) else {
             return Ok(());
         };
-        let (from, arrival) = (segment.from, self.row.arrival());
+        let from = segment.from;
         let arrow = Arrow {
             from,
             departure: departure.row.departure(),
@@ -267,8 +347,7 @@ impl<'w, W: Write> Chart<'w, W> {
     }
 
     // Writes the state of a side where it is another one now.
-    fn state(&mut self, side: Side, pair: &Pair<'_>) -> io::Result<()> {
-        let state = pair.socket(side).state();
+    fn state(&mut self, side: Side, state: State) -> io::Result<()> {
         let last = match side {
             Side::A => &mut self.a,
             Side::B => &mut self.b,
@@ -290,13 +369,67 @@ impl<'w, W: Write> Chart<'w, W> {
         )
     }
 
-    // Writes the milliseconds of this event.
-    fn time(&mut self, moment: &Moment, y: usize) -> io::Result<()> {
-        let millis = moment.now.total_millis();
+    // Writes a number of the columns at the left, which ends at `x`.
+    fn number<D: Display + Drop>(&mut self, x: usize, y: usize, number: D) -> io::Result<()> {
         writeln!(
             self.out,
-            "<text class=\"time\" x=\"{TIME}\" text-anchor=\"end\" y=\"{y}\">{millis}</text>"
+            "<text class=\"time\" x=\"{x}\" text-anchor=\"end\" y=\"{y}\">{number}</text>"
         )
+    }
+
+    // Draws the segments that never came.
+    fn lost(&mut self) -> io::Result<()> {
+        for (departure, segment) in self.departures.iter().zip(self.segments) {
+            if !departure.arrived {
+                draw_lost(self.out, departure, segment.from)?;
+            }
+        }
+        Ok(())
+    }
+
+    // The names of the sides, after each screen.
+    fn names(&mut self) -> io::Result<()> {
+        let mut row = Row::FIRST;
+        for index in 1..self.rows {
+            row = row.next();
+            if index % SCREEN == 0 {
+                let y = row.label();
+                self.name(Side::A, y)?;
+                self.name(Side::B, y)?;
+                row = row.next();
+            }
+        }
+        Ok(())
+    }
+
+    fn name(&mut self, side: Side, y: usize) -> io::Result<()> {
+        let name = Name {
+            name: name(side),
+            x: lifeline(side),
+            y,
+        };
+        writeln!(self.out, "{name}")
+    }
+
+    fn labels(&mut self) -> io::Result<()> {
+        for (index, (departure, segment)) in self.departures.iter().zip(self.segments).enumerate() {
+            let label = Label {
+                index,
+                segment,
+                numbers: self.numbers,
+                y: departure.row.label(),
+            };
+            writeln!(self.out, "{label}")?;
+        }
+        Ok(())
+    }
+}
+
+// Whether the next step says the same as this one.
+fn is_repeated(step: &Step<'_>, next: Option<&Step<'_>>) -> bool {
+    match next {
+        Some(next) => next.repeats(step),
+        None => false,
     }
 }
 

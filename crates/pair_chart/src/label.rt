@@ -1,6 +1,7 @@
 //! The labels of segments.
 
-use crate::page::Anchor;
+use crate::numbers::Numbers;
+use crate::page::{Anchor, BETWEEN};
 use sock_pair::Segment;
 use sock_pair::script::flags;
 use std::fmt;
@@ -11,26 +12,39 @@ use std::fmt::Write;
 pub struct Label<'a> {
     pub index: usize,
     pub segment: &'a Segment,
+    pub numbers: Numbers,
     /// The base line.
     pub y: usize,
 }
 
 impl fmt::Display for Label<'_> {
-    // The text, before it a box that dims the arrows behind it.
+    // The text, before it a box that dims the arrows behind it. A text that is too long is condensed.
     fn fmt<W: fmt::Write>(&self, f: &mut fmt::Formatter<W>) -> fmt::Result {
-        let (index, y, headers) = (self.index, self.y, Headers(self.segment));
+        let (index, y) = (self.index, self.y);
+        let headers = Headers {
+            segment: self.segment,
+            numbers: self.numbers,
+        };
         let mut length = Length(0);
         write!(length, "{index} {headers}")?;
         let (anchor, width) = (Anchor::inside(self.segment.from), length.width());
-        write_box(f, anchor.left(width), y, width)?;
+        let shown = width.min(BETWEEN);
+        write_box(f, anchor.left(shown), y, shown)?;
+        write!(f, "<text {anchor} y=\"{y}\"")?;
+        if width > BETWEEN {
+            write!(
+                f,
+                " textLength=\"{BETWEEN}\" lengthAdjust=\"spacingAndGlyphs\""
+            )?;
+        }
         write!(
             f,
-            "<text {anchor} y=\"{y}\"><tspan class=\"index\">{index}</tspan> {headers}</text>"
+            "><tspan class=\"index\">{index}</tspan> {headers}</text>"
         )
     }
 }
 
-// The box behind a text of this base line and width.
+// Writes the box behind a text of this base line and width.
 fn write_box<W: fmt::Write>(
     f: &mut fmt::Formatter<W>,
     x: usize,
@@ -42,6 +56,26 @@ fn write_box<W: fmt::Write>(
         f,
         "<rect class=\"label\" x=\"{x}\" y=\"{top}\" width=\"{width}\" height=\"14\"/>"
     )
+}
+
+/// The name of a side, over its lifeline.
+#[derive(Clone, Copy)]
+pub struct Name {
+    pub name: &'static str,
+    /// The middle of the name.
+    pub x: usize,
+    /// The base line.
+    pub y: usize,
+}
+
+impl fmt::Display for Name {
+    // The name, before it a box that dims what lies behind it.
+    fn fmt<W: fmt::Write>(&self, f: &mut fmt::Formatter<W>) -> fmt::Result {
+        let Name { name, x, y } = *self;
+        let width = Length(name.len()).width();
+        write_box(f, x.saturating_sub(width / 2), y, width)?;
+        write!(f, "<text class=\"name\" x=\"{x}\" y=\"{y}\">{name}</text>")
+    }
 }
 
 // A text of which only the length is kept.
@@ -62,21 +96,66 @@ impl fmt::Write for Length {
     }
 }
 
-// `FLAGS seq N ack N win N len N`
+// `FLAGS seq N ack N win N len N`, and the options behind it
 #[derive(Clone, Copy)]
-struct Headers<'a>(&'a Segment);
+struct Headers<'a> {
+    segment: &'a Segment,
+    numbers: Numbers,
+}
 
 impl fmt::Display for Headers<'_> {
     fn fmt<W: fmt::Write>(&self, f: &mut fmt::Formatter<W>) -> fmt::Result {
-        let header = &self.0.header;
+        let (header, from) = (&self.segment.header, self.segment.from);
         let flags = flags(header.control, header.ack_number.is_some());
-        let seq = header.seq_number.0;
+        let seq = self.numbers.of(from, header.seq_number.0);
         write!(f, "{flags} seq {seq} ack ")?;
         match header.ack_number {
             None => f.write_str("-")?,
-            Some(ack) => write!(f, "{}", ack.0)?,
+            Some(ack) => write!(f, "{}", self.numbers.of(from.other(), ack.0))?,
         }
-        let (win, len) = (header.window_len, self.0.payload.len());
-        write!(f, " win {win} len {len}")
+        let (win, len) = (header.window_len, self.segment.payload.len());
+        write!(f, " win {win} len {len}")?;
+        write_syn_options(f, self.segment)?;
+        self.write_sack(f)
+    }
+}
+
+// The options of a SYN: the largest payload, whether SACK is permitted, and the window scale.
+fn write_syn_options<W: fmt::Write>(f: &mut fmt::Formatter<W>, segment: &Segment) -> fmt::Result {
+    if let Some(size) = segment.header.max_seg_size {
+        write!(f, " mss {size}")?;
+    }
+    if segment.header.sack_permitted {
+        f.write_str(" sackOK")?;
+    }
+    match segment.header.window_scale {
+        Some(scale) => write!(f, " wscale {scale}"),
+        None => Ok(()),
+    }
+}
+
+impl Headers<'_> {
+    // The ranges of the other side's numbers that came out of order: the first number, and that behind the last.
+    fn write_sack<W: fmt::Write>(&self, f: &mut fmt::Formatter<W>) -> fmt::Result {
+        let [first, second, third] = self.segment.header.sack_ranges;
+        if first.is_some() || second.is_some() || third.is_some() {
+            f.write_str(" sack")?;
+        }
+        self.write_range(f, first)?;
+        self.write_range(f, second)?;
+        self.write_range(f, third)
+    }
+
+    fn write_range<W: fmt::Write>(
+        &self,
+        f: &mut fmt::Formatter<W>,
+        range: Option<(u32, u32)>,
+    ) -> fmt::Result {
+        let Some((left, right)) = range else {
+            return Ok(());
+        };
+        let side = self.segment.from.other();
+        let (left, right) = (self.numbers.of(side, left), self.numbers.of(side, right));
+        write!(f, " {left}-{right}")
     }
 }

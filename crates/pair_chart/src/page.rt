@@ -1,19 +1,22 @@
-//! Where things stand on the page. Each event has a row of one height, so no two of them overlap; in a row the time
-//! stands at the left, then what side a does, the lifeline of a, the labels of segments, the lifeline of b, and what
-//! b does.
+//! Where things stand on the page. Each event has a row of one height, so no two of them overlap; in a row the number
+//! of the script's line and the time stand at the left, then what side a does, the lifeline of a, the labels of segments,
+//! the lifeline of b, and what b does. After so many rows comes one that has the sides' names again.
 ghost use Rattle.std.specs.Prelude.{◌≡◌, ◌+◌, ◌<◌, ◌≤◌, ◌^◌};
 
 use sock_pair::Side;
 use std::fmt;
 
 /// The width of the page.
-pub const WIDTH: usize = 1180;
+pub const WIDTH: usize = 1300;
+
+/// Where the numbers of lines end.
+pub const LINE: usize = 54;
 
 /// Where the times end.
-pub const TIME: usize = 84;
+pub const TIME: usize = 142;
 
 /// Where the events of neither side begin.
-pub const NEITHER: usize = 98;
+pub const NEITHER: usize = 156;
 
 /// The height above the first row: the legend, and the names of the sides.
 pub const HEAD: usize = 104;
@@ -21,13 +24,19 @@ pub const HEAD: usize = 104;
 /// The height of a row.
 pub const ROW: usize = 38;
 
+/// After so many rows the names of the sides stand again.
+pub const SCREEN: usize = 40;
+
 // The height under the last row.
 const FOOT: usize = 20;
 
 // The lifelines.
-const LINE_A: usize = 350;
+const LINE_A: usize = 420;
 
-const LINE_B: usize = 850;
+const LINE_B: usize = 970;
+
+/// The room for a label between the lifelines.
+pub const BETWEEN: usize = LINE_B - LINE_A - 20;
 
 /// A row of the page. What stands in it keeps within it.
 #[derive(Clone, Copy)]
@@ -83,9 +92,12 @@ impl Row {
     }
 }
 
-/// The height of a page with so many rows.
+/// The height of a page with so many rows of events, and those of names between them.
 pub fn height(rows: usize) -> usize {
-    rows.saturating_mul(ROW).saturating_add(HEAD + FOOT)
+    let names = rows.saturating_sub(1) / SCREEN;
+    rows.saturating_add(names)
+        .saturating_mul(ROW)
+        .saturating_add(HEAD + FOOT)
 }
 
 /// Where the lifeline of a side stands.
@@ -93,6 +105,14 @@ pub fn lifeline(side: Side) -> usize {
     match side {
         Side::A => LINE_A,
         Side::B => LINE_B,
+    }
+}
+
+/// The name of a side, and its endpoint.
+pub fn name(side: Side) -> &'static str {
+    match side {
+        Side::A => "a 10.0.0.1:49152",
+        Side::B => "b 10.0.0.2:80",
     }
 }
 

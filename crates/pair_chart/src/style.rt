@@ -24,6 +24,7 @@ path { fill: none; stroke-width: 1.5; }
 .failed-mark { stroke: #bc4c00; }
 .failed-text { fill: #bc4c00; }
 .again { stroke-dasharray: 7 5; }
+.mark { fill: #9a6700; font-weight: bold; }
 @media (prefers-color-scheme: dark) {
 text { fill: #e6edf3; }
 .page { fill: #0d1117; }
@@ -41,6 +42,7 @@ text { fill: #e6edf3; }
 .lost, .lost-mark { stroke: #9198a1; }
 .failed, .failed-mark { stroke: #db6d28; }
 .failed-text { fill: #db6d28; }
+.mark { fill: #d29922; }
 }
 </style>
 <defs>
@@ -66,4 +68,47 @@ pub const LEGEND: &str = r#"<path class="sent" d="M98 22H138"/><text x="146" y="
 <path class="lost" d="M560 22H590"/><text x="606" y="26">never delivered</text>
 <path class="refused" d="M750 22H782"/><text x="794" y="26">refused</text>
 <path class="failed" d="M880 22H904"/><text x="924" y="26">emit failed</text>
+"#;
+
+/// Colours and fonts of a picture of sequence numbers, in light and in dark.
+pub const SEQUENCE_STYLE: &str = r#"<style>
+text { font: 12px ui-monospace, monospace; fill: #1f2328; white-space: pre; }
+path { fill: none; stroke-width: 1.5; }
+.page { fill: #ffffff; }
+.grid { stroke: #eaeef2; }
+.frame { stroke: #8c959f; }
+.name { font-weight: bold; }
+.mark { fill: #656d76; }
+.sent { stroke: #0969da; }
+.again { stroke: #cf222e; }
+.lost { stroke: #57606a; stroke-width: 2; }
+.acked { stroke: #1a7f37; }
+.window { stroke: #9a6700; stroke-dasharray: 6 4; }
+.sack { stroke: #8250df; stroke-width: 3; }
+@media (prefers-color-scheme: dark) {
+text { fill: #e6edf3; }
+.page { fill: #0d1117; }
+.grid { stroke: #21262d; }
+.frame { stroke: #6e7681; }
+.mark { fill: #8d96a0; }
+.sent { stroke: #4493f8; }
+.again { stroke: #f85149; }
+.lost { stroke: #9198a1; }
+.acked { stroke: #3fb950; }
+.window { stroke: #d29922; }
+.sack { stroke: #ab7df8; }
+}
+</style>
+"#;
+
+/// What the lines of a picture of sequence numbers mean.
+pub const SEQUENCE_LEGEND: &str =
+    r#"<path class="sent" d="M90 14h6M93 14V30M90 30h6"/><text x="104" y="26">sent</text>
+<path class="again" d="M160 14h6M163 14V30M160 30h6"/><text x="174" y="26">sent again</text>
+<path class="sent" d="M274 14h6M277 14V30M274 30h6"/><path class="lost" d="M273 18l8 8m0 -8l-8 8"/>
+<text x="290" y="26">never delivered</text>
+<path class="acked" d="M424 22H454"/><text x="462" y="26">acknowledged</text>
+<path class="acked" d="M574 30v-8"/><text x="582" y="26">the same again</text>
+<path class="sack" d="M710 14V30"/><text x="720" y="26">SACK</text>
+<path class="window" d="M780 22H810"/><text x="818" y="26">edge of the window</text>
 "#;

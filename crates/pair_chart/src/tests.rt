@@ -1,8 +1,12 @@
 //! What is drawn of worked examples, and how drawing ends where a stream fails or a script has a fault. The numbers are
 //! worked out from the rows: the row of event n begins at 104 + 38 n, a segment arrives 9 below that and departs 29
 //! below.
+use crate::options::Picture;
 use crate::play::draw;
 use crate::text::Quoted;
+use script_program::fault::Fault;
+use script_program::input::read_all;
+use sock_pair::Side;
 use sock_pair::script::{End, ScriptError};
 use std::alloc::Global;
 use std::io;
@@ -46,15 +50,18 @@ impl Read for Torn {
 
 const PLENTY: usize = 1_000_000;
 
+// The chart with numbers as they are.
+const CHART: Picture = Picture::Chart { relative: false };
+
 // How drawing a text ends, and what it writes, where the writer takes so many bytes before its fault.
-fn drawn(alloc: Global, text: &str, room: usize) -> (End, Vec<u8>) {
+fn drawn(alloc: Global, text: &str, picture: Picture, room: usize) -> (End, Vec<u8>) {
     // Room for it all, so that a growth that is refused is one of the drawing.
     let bytes = match Vec::with_capacity(alloc, 16_384) {
         Ok(bytes) => bytes,
         Err(_) => Vec::new(alloc),
     };
     let mut page = Page { bytes, room };
-    let end = draw(alloc, &mut text.as_bytes(), &mut page);
+    let end = draw(alloc, text.as_bytes(), picture, &mut page);
     (end, page.bytes)
 }
 
@@ -64,8 +71,19 @@ const OPENING: &str =
 
 // The chart of these lines, after those that open a connection, has these parts, in this order.
 fn shows(rt: &(impl Abort), alloc: Global, lines: &str, parts: &[&str]) -> Result<(), Fail> {
+    pictures(rt, alloc, lines, CHART, parts)
+}
+
+// The same of any picture.
+fn pictures(
+    rt: &(impl Abort),
+    alloc: Global,
+    lines: &str,
+    picture: Picture,
+    parts: &[&str],
+) -> Result<(), Fail> {
     let text = format!(in alloc; "{OPENING}{lines}")?;
-    let (end, bytes) = drawn(alloc, text.as_str(), PLENTY);
+    let (end, bytes) = drawn(alloc, text.as_str(), picture, PLENTY);
     assert!(rt; end == End::Done);
     let chart = String::from_utf8(bytes)?;
     let mut rest = chart.as_str();
@@ -83,21 +101,26 @@ fn handshake(rt: HostRuntime) -> Result<(), Fail> {
         rt.alloc(),
         "",
         &[
-            "<svg xmlns=\"http://www.w3.org/2000/svg\" width=\"1180\" height=\"428\" viewBox=\"0 0 1180 428\">\n",
-            "<text class=\"call\" x=\"860\" y=\"117\">listen: opened</text>\n\
-            <text class=\"state\" x=\"860\" y=\"132\">LISTEN</text>\n\
-            <text class=\"call\" x=\"340\" text-anchor=\"end\" y=\"155\">connect 1000: opened</text>\n\
-            <text class=\"state\" x=\"340\" text-anchor=\"end\" y=\"170\">SYN-SENT</text>\n\
-            <text class=\"time\" x=\"84\" text-anchor=\"end\" y=\"203\">0</text>\n\
-            <path class=\"sent\" d=\"M350 209 850 227\"/>\n\
-            <text class=\"time\" x=\"84\" text-anchor=\"end\" y=\"231\">20</text>\n\
-            <text class=\"state\" x=\"860\" y=\"231\">SYN-RECEIVED</text>\n",
-            "<path class=\"sent\" d=\"M850 285 350 303\"/>\n",
+            "<svg xmlns=\"http://www.w3.org/2000/svg\" width=\"1300\" height=\"428\" viewBox=\"0 0 1300 428\">\n",
+            "<text class=\"time\" x=\"54\" text-anchor=\"end\" y=\"117\">2</text>\n\
+            <text class=\"call\" x=\"980\" y=\"117\">listen: opened</text>\n\
+            <text class=\"state\" x=\"980\" y=\"132\">LISTEN</text>\n\
+            <text class=\"time\" x=\"54\" text-anchor=\"end\" y=\"155\">3</text>\n\
+            <text class=\"call\" x=\"410\" text-anchor=\"end\" y=\"155\">connect 1000: opened</text>\n\
+            <text class=\"state\" x=\"410\" text-anchor=\"end\" y=\"170\">SYN-SENT</text>\n\
+            <text class=\"time\" x=\"54\" text-anchor=\"end\" y=\"203\">4</text>\n\
+            <text class=\"time\" x=\"142\" text-anchor=\"end\" y=\"203\">0</text>\n\
+            <text class=\"time\" x=\"54\" text-anchor=\"end\" y=\"231\">5</text>\n\
+            <text class=\"time\" x=\"142\" text-anchor=\"end\" y=\"231\">20</text>\n\
+            <path class=\"sent\" d=\"M420 209 970 227\"/>\n\
+            <text class=\"state\" x=\"980\" y=\"231\">SYN-RECEIVED</text>\n",
+            "<path class=\"sent\" d=\"M970 285 420 303\"/>\n",
             ">ESTABLISHED</text>\n",
-            "<path class=\"sent\" d=\"M350 361 850 379\"/>\n",
-            "<text class=\"state\" x=\"860\" y=\"383\">ESTABLISHED</text>\n",
-            "<text x=\"360\" y=\"203\"><tspan class=\"index\">0</tspan> SYN seq 1000 ack - win 64 len 0</text>\n",
-            ">1</tspan> SYN|ACK seq 5000 ack 1001 win 64 len 0</text>\n",
+            "<path class=\"sent\" d=\"M420 361 970 379\"/>\n",
+            "<text class=\"state\" x=\"980\" y=\"383\">ESTABLISHED</text>\n",
+            "<text x=\"430\" y=\"203\"><tspan class=\"index\">0</tspan> \
+            SYN seq 1000 ack - win 64 len 0 mss 1460 sackOK wscale 0</text>\n",
+            ">1</tspan> SYN|ACK seq 5000 ack 1001 win 64 len 0 mss 1460 sackOK wscale 0</text>\n",
             ">2</tspan> ACK seq 1001 ack 5001 win 64 len 0</text>\n</svg>\n",
         ],
     )
@@ -112,13 +135,77 @@ fn retransmission(rt: HostRuntime) -> Result<(), Fail> {
         "send a abcdef\ndispatch a 60\ndispatch a 1060\ndeliver 4 1080 0\ndeliver 4 1081 0\n",
         &[
             ">send \"abcdef\": accepted 6</text>\n",
-            "<path class=\"sent\" d=\"M350 513 850 531\"/>\n",
-            "<path class=\"sent again\" d=\"M350 513 850 569\"/>\n",
-            "<path class=\"lost\" d=\"M350 475 470 479\"/>\n",
+            "<text class=\"mark\" x=\"410\" text-anchor=\"end\" y=\"497\">retransmission</text>\n",
+            "<path class=\"sent\" d=\"M420 513 970 531\"/>\n",
+            "<path class=\"sent again\" d=\"M420 513 970 569\"/>\n",
+            "<path class=\"lost\" d=\"M420 475 540 479\"/>\n",
+            "<path class=\"lost reply\" d=\"M970 589 850 593\"/>\n",
             ">3</tspan> PSH|ACK seq 1001 ack 5001 win 64 len 6</text>\n",
             ">4</tspan> PSH|ACK seq 1001 ack 5001 win 64 len 6</text>\n",
-            "<path class=\"lost reply\" d=\"M850 589 730 593\"/>\n",
             ">5</tspan> ACK seq 5001 ack 1007 win 58 len 0</text>\n</svg>\n",
+        ],
+    )
+}
+
+// The first of three segments is lost: the others are answered by duplicate acknowledgements, and then nothing is due.
+const GAP: &str =
+    "nagle a off\nsend a abcdef\ndispatch a 60\nsend a ghi\ndispatch a 61\nsend a jkl\ndispatch a 62\n\
+    deliver 4 81 0\ndeliver 5 82 0\ndispatch b 90\ndispatch b 91\ndispatch b 92\n";
+
+#[test]
+fn numbers_from_the_syn_on(rt: HostRuntime) -> Result<(), Fail> {
+    pictures(
+        &rt,
+        rt.alloc(),
+        GAP,
+        Picture::Chart { relative: true },
+        &[
+            ">duplicate ACK 1</text>\n",
+            ">duplicate ACK 2</text>\n",
+            ">90</text>\n",
+            ">dispatch: quiet</text>\n",
+            ">21</text>\n",
+            ">92</text>\n",
+            ">3 times</text>\n",
+            ">0</tspan> SYN seq 0 ack - win 64 len 0 mss 1460 sackOK wscale 0</text>\n",
+            ">3</tspan> PSH|ACK seq 1 ack 1 win 64 len 6</text>\n",
+            ">6</tspan> ACK seq 1 ack 1 win 64 len 0 sack 7-10</text>\n",
+            ">7</tspan> ACK seq 1 ack 1 win 64 len 0 sack 7-13</text>\n</svg>\n",
+        ],
+    )
+}
+
+// The frame has 60 ms from 90 to 1150, and 2 numbers from 590 to 84. The window's edge is above it.
+#[test]
+fn sequence_of_a_handshake(rt: HostRuntime) -> Result<(), Fail> {
+    pictures(
+        &rt,
+        rt.alloc(),
+        "",
+        Picture::Sequence(Side::A),
+        &[
+            "<path class=\"acked\" d=\"M796 337H1150\"/>\n\
+            <path class=\"window\" d=\"M796 84H1150\"/>\n\
+            <path class=\"sent\" d=\"M87 590h6M90 590V337M87 337h6\"/>\n\
+            <text class=\"mark\" x=\"96\" y=\"333\">SYN</text>\n</svg>\n",
+        ],
+    )
+}
+
+// A gap in what arrived, and what was lost.
+#[test]
+fn sequence_of_a_gap(rt: HostRuntime) -> Result<(), Fail> {
+    pictures(
+        &rt,
+        rt.alloc(),
+        "nagle a off\nsend a abcdef\ndispatch a 60\nsend a ghi\ndispatch a 61\ndeliver 4 81 0\ndeliver 5 101 0\n\
+        dispatch a 1061\n",
+        Picture::Sequence(Side::A),
+        &[
+            "<path class=\"sack\"",
+            "<path class=\"lost\"",
+            "<path class=\"again\"",
+            "</svg>\n",
         ],
     )
 }
@@ -133,14 +220,14 @@ fn close_both_ways(rt: HostRuntime) -> Result<(), Fail> {
         &[
             ">close: done</text>\n",
             ">FIN-WAIT-1</text>\n",
-            "x=\"860\" y=\"497\">CLOSE-WAIT</text>\n",
+            "x=\"980\" y=\"497\">CLOSE-WAIT</text>\n",
             "y=\"573\">FIN-WAIT-2</text>\n",
             ">close: done</text>\n",
-            "x=\"860\" y=\"626\">LAST-ACK</text>\n",
+            "x=\"980\" y=\"626\">LAST-ACK</text>\n",
             "y=\"687\">TIME-WAIT</text>\n",
-            "x=\"860\" y=\"763\">CLOSED</text>\n",
+            "x=\"980\" y=\"763\">CLOSED</text>\n",
             ">dispatch: quiet</text>\n",
-            "<text class=\"state\" x=\"340\" text-anchor=\"end\" y=\"816\">CLOSED</text>\n",
+            "<text class=\"state\" x=\"410\" text-anchor=\"end\" y=\"816\">CLOSED</text>\n",
             ">3</tspan> FIN|ACK seq 1001 ack 5001 win 64 len 0</text>\n",
             ">4</tspan> ACK seq 5001 ack 1002 win 64 len 0</text>\n",
             ">5</tspan> FIN|ACK seq 5001 ack 1002 win 64 len 0</text>\n",
@@ -169,15 +256,10 @@ fn quoted_bytes(rt: HostRuntime) -> Result<(), Fail> {
 #[test]
 fn faults(rt: HostRuntime) -> Result<(), Fail> {
     let alloc = rt.alloc();
-    let (end, bytes) = drawn(alloc, "pair 64 64 64 64 1000\njump a\n", PLENTY);
+    let (end, bytes) = drawn(alloc, "pair 64 64 64 64 1000\njump a\n", CHART, PLENTY);
     assert!(rt; end == End::Script(ScriptError::UnknownEvent { line: 2 }));
     assert!(rt; bytes.is_empty());
-    let mut page = Page {
-        bytes: Vec::new(alloc),
-        room: PLENTY,
-    };
-    assert!(rt; draw(alloc, &mut Torn, &mut page) == End::Read);
-    assert!(rt; page.bytes.is_empty());
+    assert!(rt; matches!(read_all(alloc, &mut Torn), Err(Fault::Read)));
     Ok(())
 }
 
@@ -185,9 +267,9 @@ fn faults(rt: HostRuntime) -> Result<(), Fail> {
 #[test]
 fn writers_that_fail(rt: HostRuntime) -> Result<(), Fail> {
     let alloc = rt.alloc();
-    let (_, want) = drawn(alloc, OPENING, PLENTY);
+    let (_, want) = drawn(alloc, OPENING, CHART, PLENTY);
     for count in (0..want.len()).step_by(61) {
-        let (end, bytes) = drawn(alloc, OPENING, count);
+        let (end, bytes) = drawn(alloc, OPENING, CHART, count);
         assert!(rt; end == End::Write);
         assert!(rt; bytes.len() == count);
         assert!(rt; want.as_slice().starts_with(bytes.as_slice()));
@@ -199,7 +281,7 @@ fn writers_that_fail(rt: HostRuntime) -> Result<(), Fail> {
 #[test]
 fn charts_are_whole(rt: HostRuntime) -> Result<(), Fail> {
     for text in ["pair 0 0 0 0 -", OPENING] {
-        let (end, bytes) = drawn(rt.alloc(), text, PLENTY);
+        let (end, bytes) = drawn(rt.alloc(), text, CHART, PLENTY);
         assert!(rt; end == End::Done || end == End::Memory);
         assert!(rt; bytes.is_empty() || bytes.as_slice().ends_with(b"</svg>\n"));
         assert!(rt; end == End::Memory || !bytes.is_empty());

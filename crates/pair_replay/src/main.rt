@@ -1,16 +1,13 @@
 //! Runs a script over two TCP sockets and prints what each of its lines came to.
 #![tactic(auto)]
 
-ghost use Rattle.std.specs.Prelude.{◌≡◌, false};
-
-mod fault;
 mod streams;
 
-use crate::fault::Fault;
 use crate::streams::{Input, Output};
-use sock_pair::script::{End, replay};
-use std::fs::File;
-use std::io::{BufWriter, Write};
+use script_program::fault::{Fault, exit_code, fault_of};
+use script_program::input::{print, read_script};
+use sock_pair::script::replay;
+use std::io::BufWriter;
 use std::process::ExitCode;
 use std::{env, io};
 
@@ -20,43 +17,31 @@ usage: pair_replay [FILE]
 
 Runs the script of FILE, or of standard input, over two TCP sockets, and prints
 a line for each event and the state of the side that it touched. A wrong script
-ends with status 1 and the number of its line, a stream that fails with 2.
+ends with status 1, the number of its line and what would be right, a stream
+that fails with 2.
 ";
 
 fn main(rt: HostRuntime) -> ExitCode {
-    match run(&rt) {
-        Ok(()) => ExitCode::SUCCESS,
-        Err(fault) => {
-            let status = fault.status();
-            let _ = rt.eprintln(fault);
-            ExitCode::from(status)
-        }
+    exit_code(&rt, run(&rt))
+}
+
+fn run(rt: &HostRuntime) -> Result<(), Fault> {
+    match task_of(rt)? {
+        Task::Help => print(rt, HELP),
+        Task::Script(file) => replay_script(rt, file),
     }
 }
 
-// Replays the file that the one argument names, or standard input where there is none.
-fn run(rt: &HostRuntime) -> Result<(), Fault> {
-    let file = match task_of(rt)? {
-        Task::Help => return written(rt.print(HELP)),
-        Task::Script(file) => file,
-    };
+// Replays the script of the file of this name, or of standard input where there is none.
+fn replay_script(rt: &HostRuntime, file: Option<String>) -> Result<(), Fault> {
+    let text = read_script(rt, file)?;
     let Ok(writer) = BufWriter::new(rt.alloc(), io::writer(rt)) else {
         return Err(Fault::Memory);
     };
     let mut output = Output::new(writer);
-    let end = match file {
-        None => replay(rt.alloc(), &mut Input::new(rt.reader()), &mut output),
-        Some(name) => replay_file(rt, name, &mut output)?,
-    };
+    let end = replay(rt.alloc(), &mut Input::new(text.as_slice()), &mut output);
     match output.flush() {
-        Ok(()) => fault_of(end),
-        Err(_) => Err(Fault::Write),
-    }
-}
-
-fn written(printed: io::Result<()>) -> Result<(), Fault> {
-    match printed {
-        Ok(()) => Ok(()),
+        Ok(()) => fault_of(rt.alloc(), end, text.as_slice()),
         Err(_) => Err(Fault::Write),
     }
 }
@@ -74,7 +59,7 @@ fn task_of(rt: &HostRuntime) -> Result<Task, Fault> {
     let _program = args.next();
     let (file, more) = (args.next(), args.next());
     if more.is_some() {
-        return Err(Fault::Usage);
+        return Err(Fault::Usage("pair_replay [FILE]"));
     }
     Ok(if is_help(&file) {
         Task::Help
@@ -90,37 +75,8 @@ fn is_help(word: &Option<String>) -> bool {
     }
 }
 
-fn replay_file<W: Write>(
-    rt: &HostRuntime,
-    name: String,
-    output: &mut Output<W>,
-) -> Result<End, Fault>
-    requires { output.old.failed ≡ false }
-{
-    match File::open(rt, name.as_str()) {
-        Ok(file) => Ok(replay(rt.alloc(), &mut Input::new(file), output)),
-        Err(error) => Err(fault_of_open(name, error)),
-    }
-}
-
-// Why the file of this name could not be had.
-fn fault_of_open(name: String, error: io::Error) -> Fault {
-    match error.kind() {
-        io::ErrorKind::OutOfMemory => Fault::Memory,
-        _ => Fault::Open(name, error),
-    }
-}
-
-fn fault_of(end: End) -> Result<(), Fault> {
-    match end {
-        End::Done => Ok(()),
-        End::Script(error) => Err(Fault::Script(error)),
-        End::Read => Err(Fault::Read),
-        End::Write => Err(Fault::Write),
-        End::Memory => Err(Fault::Memory),
-    }
-}
-
+#[cfg(test)]
+mod advice_tests;
 #[cfg(test)]
 mod closing_tests;
 #[cfg(test)]

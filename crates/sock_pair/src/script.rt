@@ -11,13 +11,13 @@ mod end;
 mod error;
 mod forms;
 mod keyword;
-mod lines;
+pub mod lines;
 mod output;
 mod pair_line;
 mod play;
 pub mod stream;
-mod values;
-mod words;
+pub mod values;
+pub mod words;
 
 pub use end::End;
 pub use error::ScriptError;

@@ -1,0 +1,139 @@
+//! What segments repeat.
+
+use control_wire::TcpControl;
+use sock_pair::{Segment, Side};
+use std::fmt;
+
+/// What a segment repeats of those that its side emitted before.
+#[derive(Debug, Clone, Copy, PartialEq, Eq)]
+pub enum Mark {
+    /// Nothing.
+    New,
+    /// So many of its first sequence numbers were emitted before, at least one.
+    Retransmission(u32),
+    /// It acknowledges the same as the segment before it, with the same window, and carries nothing, while bytes of
+    /// the other side are in flight (RFC 5681, section 2): so many times in turn.
+    DuplicateAck(usize),
+}
+
+impl fmt::Display for Mark {
+    fn fmt<W: fmt::Write>(&self, f: &mut fmt::Formatter<W>) -> fmt::Result {
+        match self {
+            Mark::New => Ok(()),
+            Mark::Retransmission(_) => f.write_str("retransmission"),
+            Mark::DuplicateAck(count) => write!(f, "duplicate ACK {count}"),
+        }
+    }
+}
+
+// What a side emitted.
+#[derive(Clone, Copy)]
+struct Emitted {
+    // The number behind the last that it used.
+    end: Option<u32>,
+    // The last acknowledgement and window, and how many times they were said again.
+    ack: Option<(u32, u16)>,
+    repeats: usize,
+}
+
+const NOTHING: Emitted = Emitted {
+    end: None,
+    ack: None,
+    repeats: 0,
+};
+
+impl Emitted {
+    // How many numbers from this one on were used.
+    fn used_from(&self, number: u32) -> u32 {
+        match self.end {
+            Some(end) if is_before(number, end) => end.wrapping_sub(number),
+            _ => 0,
+        }
+    }
+
+    // Counts a segment of so many numbers from this one on.
+    fn count(&mut self, number: u32, length: u32) {
+        let end = number.wrapping_add(length);
+        match self.end {
+            Some(last) if !is_before(last, end) => {}
+            _ => self.end = Some(end),
+        }
+    }
+
+    // Counts an acknowledgement, which repeats the last one where it may.
+    fn acknowledge(&mut self, ack: u32, window: u16, may_repeat: bool) -> Mark {
+        if may_repeat && self.ack == Some((ack, window)) {
+            self.repeats = self.repeats.saturating_add(1);
+            return Mark::DuplicateAck(self.repeats);
+        }
+        self.ack = Some((ack, window));
+        self.repeats = 0;
+        Mark::New
+    }
+}
+
+/// Whether a sequence number is before another one: less than 2^31 places (RFC 9293, section 3.4).
+pub fn is_before(a: u32, b: u32) -> bool {
+    a.wrapping_sub(b) >= 2_147_483_648
+}
+
+/// What both sides emitted so far.
+#[derive(Clone, Copy)]
+pub struct Marker {
+    a: Emitted,
+    b: Emitted,
+}
+
+impl Marker {
+    /// Nothing was emitted.
+    pub fn new() -> Marker {
+        Marker {
+            a: NOTHING,
+            b: NOTHING,
+        }
+    }
+
+    /// What this segment repeats. It counts as emitted from here on.
+    pub fn mark(&mut self, segment: &Segment) -> Mark {
+        match segment.from {
+            Side::A => repeated(&mut self.a, &self.b, segment),
+            Side::B => repeated(&mut self.b, &self.a, segment),
+        }
+    }
+}
+
+fn repeated(own: &mut Emitted, other: &Emitted, segment: &Segment) -> Mark {
+    let (number, length) = (segment.header.seq_number.0, length(segment));
+    let again = own.used_from(number).min(length);
+    own.count(number, length);
+    let Some(ack) = segment.header.ack_number else {
+        return of_numbers(again);
+    };
+    let may_repeat = length == 0 && !is_reset(segment) && other.used_from(ack.0) > 0;
+    match own.acknowledge(ack.0, segment.header.window_len, may_repeat) {
+        Mark::New => of_numbers(again),
+        mark => mark,
+    }
+}
+
+fn of_numbers(again: u32) -> Mark {
+    if again > 0 {
+        Mark::Retransmission(again)
+    } else {
+        Mark::New
+    }
+}
+
+fn is_reset(segment: &Segment) -> bool {
+    segment.header.control == TcpControl::Rst
+}
+
+/// How many sequence numbers a segment takes: one for each byte, one for a SYN, and one for a FIN.
+pub fn length(segment: &Segment) -> u32 {
+    let flag = match segment.header.control {
+        TcpControl::Syn | TcpControl::Fin => 1,
+        TcpControl::None | TcpControl::Psh | TcpControl::Rst => 0,
+    };
+    let bytes = segment.payload.len().min(65_535) as u32;
+    bytes + flag
+}

@@ -1,0 +1,402 @@
+//! The sequence numbers of one side over time: what it sent, and what it then heard of it.
+//!
+//! The moments are those of the side that is drawn: a segment stands where it was emitted, an acknowledgement and the
+//! window where they arrived.
+
+use crate::axis::Axis;
+use crate::history::Step;
+use crate::marks::{Mark, Marker, length};
+use crate::numbers::Numbers;
+use crate::page::name;
+use crate::style::{SEQUENCE_LEGEND, SEQUENCE_STYLE};
+use control_wire::TcpControl;
+use sock_pair::script::End;
+use sock_pair::{Segment, Side};
+use std::alloc::{AllocError, Global};
+use std::io;
+use std::io::Write;
+
+// The page, and the frame on it.
+const WIDTH: u64 = 1180;
+
+const HEIGHT: u64 = 640;
+
+const LEFT: u64 = 90;
+
+const RIGHT: u64 = 1150;
+
+const TOP: u64 = 84;
+
+const BOTTOM: u64 = 590;
+
+// A picture on its way to a writer.
+#[derive(Drop)]
+struct Picture<'w, 'h, W> {
+    out: &'w mut W,
+    heard: Heard<'h>,
+    // Which segments arrived at all.
+    arrived: Vec<bool>,
+    // Milliseconds from left to right, and numbers from the bottom upwards.
+    time: Axis,
+    number: Axis,
+}
+
+// What happened, as one side sees it.
+#[derive(Clone, Copy)]
+struct Heard<'h> {
+    segments: &'h [Segment],
+    side: Side,
+    // The number of the side's SYN.
+    first: u32,
+    // How far the other side's windows are shifted.
+    shift: u8,
+}
+
+/// Draws the numbers of this side, counted from its SYN. Where there is no memory to begin, nothing is written.
+pub fn draw<W: Write>(
+    alloc: Global,
+    out: &mut W,
+    steps: &[Step<'_>],
+    segments: &[Segment],
+    side: Side,
+) -> End {
+    let Ok(arrived) = arrivals(alloc, steps, segments.len()) else {
+        return End::Memory;
+    };
+    let heard = Heard {
+        segments,
+        side,
+        first: Numbers::relative(segments).first(side).unwrap_or(0),
+        shift: shift(segments, side),
+    };
+    let mut picture = Picture {
+        out,
+        heard,
+        arrived,
+        time: time_axis(steps),
+        number: heard.number_axis(steps),
+    };
+    match picture.draw(steps) {
+        Ok(()) => End::Done,
+        Err(_) => End::Write,
+    }
+}
+
+// For each segment, of which there are so many, whether it was delivered.
+fn arrivals(alloc: Global, steps: &[Step<'_>], count: usize) -> Result<Vec<bool>, AllocError> {
+    let mut arrived = vec![in alloc; false; count]?;
+    for step in steps {
+        if let Some(index) = step.delivered()
+            && let Some(place) = arrived.get_mut(index)
+        {
+            *place = true;
+        }
+    }
+    Ok(arrived)
+}
+
+// How far the windows that a side hears of are shifted: by the other's scale, where both sides have one (RFC 7323,
+// section 2.2).
+fn shift(segments: &[Segment], side: Side) -> u8 {
+    match (scale(segments, side), scale(segments, side.other())) {
+        (Some(_), Some(scale)) => scale.min(14),
+        _ => 0,
+    }
+}
+
+// The window scale of a side's SYN.
+fn scale(segments: &[Segment], side: Side) -> Option<u8> {
+    for segment in segments {
+        if segment.from == side && segment.header.control == TcpControl::Syn {
+            return segment.header.window_scale;
+        }
+    }
+    None
+}
+
+// All moments of the script.
+fn time_axis(steps: &[Step<'_>]) -> Axis {
+    let (mut first, mut last) = (u64::MAX, 0);
+    for step in steps {
+        if let Some(millis) = step.millis() {
+            first = first.min(millis);
+            last = last.max(millis);
+        }
+    }
+    Axis {
+        first: first.min(last),
+        last,
+        from: LEFT,
+        to: RIGHT,
+    }
+}
+
+impl Heard<'_> {
+    // How many numbers behind the side's SYN this one is.
+    fn offset(&self, number: u32) -> u64 {
+        u64::from(number.wrapping_sub(self.first))
+    }
+
+    // The segment that a step delivered to this side, with its acknowledgement. A reset opens and shuts no window.
+    fn heard(&self, step: &Step<'_>) -> Option<(&Segment, u64)> {
+        let segment = self.segments.get(step.delivered()?)?;
+        let ack = segment.header.ack_number?;
+        if segment.from == self.side || segment.header.control == TcpControl::Rst {
+            return None;
+        }
+        Some((segment, self.offset(ack.0)))
+    }
+
+    // The window of such a segment, in bytes.
+    fn window(&self, segment: &Segment) -> u64 {
+        let window = u64::from(segment.header.window_len);
+        match segment.header.control {
+            TcpControl::Syn => window,
+            _ => window.saturating_mul(1u64 << u32::from(self.shift.min(14))),
+        }
+    }
+
+    // All numbers that were sent, and those that the window let out, up to twice as many.
+    fn number_axis(&self, steps: &[Step<'_>]) -> Axis {
+        let sent = self.highest_sent();
+        let edge = self.highest_edge(steps).min(sent.saturating_mul(2));
+        Axis {
+            first: 0,
+            last: sent.max(edge),
+            from: BOTTOM,
+            to: TOP,
+        }
+    }
+
+    fn highest_sent(&self) -> u64 {
+        let mut highest = 0;
+        for segment in self.segments {
+            if segment.from == self.side && length(segment) > 0 {
+                let end = segment.header.seq_number.0.wrapping_add(length(segment));
+                highest = highest.max(self.offset(end));
+            }
+        }
+        highest
+    }
+
+    fn highest_edge(&self, steps: &[Step<'_>]) -> u64 {
+        let mut highest = 0;
+        for step in steps {
+            if let Some((segment, ack)) = self.heard(step) {
+                highest = highest.max(ack.saturating_add(self.window(segment)));
+            }
+        }
+        highest
+    }
+}
+
+impl<W: Write> Picture<'_, '_, W> {
+    fn draw(&mut self, steps: &[Step<'_>]) -> io::Result<()> {
+        self.open()?;
+        self.times()?;
+        self.numbers()?;
+        self.frame()?;
+        self.line(steps, "acked", false)?;
+        self.line(steps, "window", true)?;
+        self.answers(steps)?;
+        self.bars(steps)?;
+        writeln!(self.out, "</svg>")
+    }
+
+    // The root element, the style sheet, the page, the legend, and what is drawn.
+    fn open(&mut self) -> io::Result<()> {
+        writeln!(
+            self.out,
+            "<svg xmlns=\"http://www.w3.org/2000/svg\" width=\"{WIDTH}\" height=\"{HEIGHT}\" \
+            viewBox=\"0 0 {WIDTH} {HEIGHT}\">"
+        )?;
+        self.out.write_all(SEQUENCE_STYLE.as_bytes())?;
+        let name = name(self.heard.side);
+        writeln!(
+            self.out,
+            "<rect class=\"page\" width=\"100%\" height=\"100%\"/>\n\
+            <text x=\"{LEFT}\" y=\"62\"><tspan class=\"name\">{name}</tspan>: sequence numbers from its SYN on</text>"
+        )?;
+        self.out.write_all(SEQUENCE_LEGEND.as_bytes())
+    }
+
+    // The marks of the milliseconds.
+    fn times(&mut self) -> io::Result<()> {
+        let y = BOTTOM + 18;
+        for index in 0..16u64 {
+            if let Some(mark) = self.time.mark(index) {
+                let x = self.time.place(mark);
+                writeln!(
+                    self.out,
+                    "<path class=\"grid\" d=\"M{x} {TOP}V{BOTTOM}\"/>\
+                    <text class=\"mark\" x=\"{x}\" text-anchor=\"middle\" y=\"{y}\">{mark}</text>"
+                )?;
+            }
+        }
+        let y = BOTTOM + 36;
+        writeln!(
+            self.out,
+            "<text class=\"mark\" x=\"{RIGHT}\" text-anchor=\"end\" y=\"{y}\">ms</text>"
+        )
+    }
+
+    // The marks of the numbers.
+    fn numbers(&mut self) -> io::Result<()> {
+        let end = LEFT - 8;
+        for index in 0..16u64 {
+            if let Some(mark) = self.number.mark(index) {
+                let y = self.number.place(mark);
+                let base = y.saturating_add(4);
+                writeln!(
+                    self.out,
+                    "<path class=\"grid\" d=\"M{LEFT} {y}H{RIGHT}\"/>\
+                    <text class=\"mark\" x=\"{end}\" text-anchor=\"end\" y=\"{base}\">{mark}</text>"
+                )?;
+            }
+        }
+        Ok(())
+    }
+
+    fn frame(&mut self) -> io::Result<()> {
+        writeln!(
+            self.out,
+            "<path class=\"frame\" d=\"M{LEFT} {TOP}V{BOTTOM}H{RIGHT}\"/>"
+        )
+    }
+
+    // A line of what was acknowledged, or of the window's edge, from one arrival to the next.
+    fn line(&mut self, steps: &[Step<'_>], class: &str, is_edge: bool) -> io::Result<()> {
+        let heard = self.heard;
+        let mut acked = None;
+        for step in steps {
+            let (Some(millis), Some((segment, ack))) = (step.millis(), heard.heard(step)) else {
+                continue;
+            };
+            let high = ack.max(acked.unwrap_or(0));
+            let ahead = if is_edge { heard.window(segment) } else { 0 };
+            let x = self.time.place(millis);
+            let y = self.number.place(high.saturating_add(ahead));
+            match acked {
+                None => write!(self.out, "<path class=\"{class}\" d=\"M{x} {y}")?,
+                Some(_) => write!(self.out, "H{x}V{y}")?,
+            }
+            acked = Some(high);
+        }
+        match acked {
+            None => Ok(()),
+            Some(_) => writeln!(self.out, "H{RIGHT}\"/>"),
+        }
+    }
+
+    // What the arrivals say beside that: acknowledgements of nothing new, and ranges that came out of order.
+    fn answers(&mut self, steps: &[Step<'_>]) -> io::Result<()> {
+        let heard = self.heard;
+        let mut acked = 0;
+        for step in steps {
+            let (Some(millis), Some((segment, ack))) = (step.millis(), heard.heard(step)) else {
+                continue;
+            };
+            let x = self.time.place(millis);
+            if ack <= acked && length(segment) == 0 {
+                let y = self.number.place(acked);
+                writeln!(self.out, "<path class=\"acked\" d=\"M{x} {y}v-8\"/>")?;
+            }
+            acked = acked.max(ack);
+            self.ranges(x, segment)?;
+        }
+        Ok(())
+    }
+
+    fn ranges(&mut self, x: u64, segment: &Segment) -> io::Result<()> {
+        let [first, second, third] = segment.header.sack_ranges;
+        self.range(x, first)?;
+        self.range(x, second)?;
+        self.range(x, third)
+    }
+
+    fn range(&mut self, x: u64, range: Option<(u32, u32)>) -> io::Result<()> {
+        let Some((left, right)) = range else {
+            return Ok(());
+        };
+        let heard = self.heard;
+        let from = self.number.place(heard.offset(left));
+        let to = self.number.place(heard.offset(right));
+        writeln!(self.out, "<path class=\"sack\" d=\"M{x} {from}V{to}\"/>")
+    }
+
+    // The segments of this side that take numbers.
+    fn bars(&mut self, steps: &[Step<'_>]) -> io::Result<()> {
+        let heard = self.heard;
+        let mut marker = Marker::new();
+        for step in steps {
+            let (Some(millis), Some(index)) = (step.millis(), step.emitted()) else {
+                continue;
+            };
+            let Some(segment) = heard.segments.get(index) else {
+                continue;
+            };
+            let mark = marker.mark(segment);
+            if segment.from == heard.side && length(segment) > 0 {
+                let arrived = self.arrived.get(index) == Some(&true);
+                self.bar(self.time.place(millis), segment, mark, arrived)?;
+            }
+        }
+        Ok(())
+    }
+
+    // A segment: its numbers that were sent before, and the others.
+    fn bar(&mut self, x: u64, segment: &Segment, mark: Mark, arrived: bool) -> io::Result<()> {
+        let heard = self.heard;
+        let from = heard.offset(segment.header.seq_number.0);
+        let to = from.saturating_add(u64::from(length(segment)));
+        let again = match mark {
+            Mark::Retransmission(count) => u64::from(count),
+            _ => 0,
+        };
+        let middle = from.saturating_add(again);
+        if from < middle {
+            self.range_sent("again", x, from, middle)?;
+        }
+        if middle < to {
+            self.range_sent("sent", x, middle, to)?;
+        }
+        if !arrived {
+            self.cross(x, from.saturating_add(to) / 2)?;
+        }
+        self.flag(x, to, segment)
+    }
+
+    fn range_sent(&mut self, class: &str, x: u64, from: u64, to: u64) -> io::Result<()> {
+        let (from, to) = (self.number.place(from), self.number.place(to));
+        let left = x.saturating_sub(3);
+        writeln!(
+            self.out,
+            "<path class=\"{class}\" d=\"M{left} {from}h6M{x} {from}V{to}M{left} {to}h6\"/>"
+        )
+    }
+
+    // The segment that has this number in its middle never came.
+    fn cross(&mut self, x: u64, middle: u64) -> io::Result<()> {
+        let y = self.number.place(middle);
+        let (left, top) = (x.saturating_sub(4), y.saturating_sub(4));
+        writeln!(
+            self.out,
+            "<path class=\"lost\" d=\"M{left} {top}l8 8m0 -8l-8 8\"/>"
+        )
+    }
+
+    // The name of a SYN or FIN, above its last number.
+    fn flag(&mut self, x: u64, last: u64, segment: &Segment) -> io::Result<()> {
+        let name = match segment.header.control {
+            TcpControl::Syn => "SYN",
+            TcpControl::Fin => "FIN",
+            _ => return Ok(()),
+        };
+        let y = self.number.place(last).saturating_sub(4);
+        let x = x.saturating_add(6);
+        writeln!(
+            self.out,
+            "<text class=\"mark\" x=\"{x}\" y=\"{y}\">{name}</text>"
+        )
+    }
+}

@@ -1,0 +1,287 @@
+//! What is wrong with a line of a script, and what would be right.
+
+use sock_pair::script::ScriptError;
+use sock_pair::script::lines::{Line, Lines};
+use sock_pair::script::values::{is_text, limit, number, side, switch};
+use sock_pair::script::words::split_word;
+use std::fmt;
+
+// What a word of a line may be.
+#[derive(Clone, Copy)]
+enum Form {
+    Side,
+    Switch,
+    Limit,
+    Text,
+    Number(usize),
+}
+
+const SIZE: Form = Form::Number(1_048_576);
+
+const WORD: Form = Form::Number(4_294_967_295);
+
+const MILLIS: Form = Form::Number(1_000_000_000);
+
+const INDEX: Form = Form::Number(9_999_999_999);
+
+impl Form {
+    fn fits(self, word: &[u8]) -> bool {
+        match self {
+            Form::Side => side(word).is_some(),
+            Form::Switch => switch(word).is_some(),
+            Form::Limit => limit(word).is_some(),
+            Form::Text => is_text(word),
+            Form::Number(most) => number(word, most).is_some(),
+        }
+    }
+}
+
+impl fmt::Display for Form {
+    fn fmt<W: fmt::Write>(&self, f: &mut fmt::Formatter<W>) -> fmt::Result {
+        match self {
+            Form::Side => f.write_str("a or b"),
+            Form::Switch => f.write_str("on or off"),
+            Form::Limit => f.write_str("-, or 1 to 10 digits that write at most 536870911"),
+            Form::Text => f.write_str("printable ASCII characters"),
+            Form::Number(most) => write!(f, "1 to 10 digits that write at most {most}"),
+        }
+    }
+}
+
+// A line that a script may have: its first word, the others, and what each of those may be.
+#[derive(Clone, Copy)]
+struct Shape {
+    name: &'static str,
+    rest: &'static str,
+    forms: &'static [Form],
+}
+
+const PAIR: Shape = Shape {
+    name: "pair",
+    rest: "ARX ATX BRX BTX LIMIT",
+    forms: &[SIZE, SIZE, SIZE, SIZE, Form::Limit],
+};
+
+const EVENTS: &[Shape] = &[
+    Shape {
+        name: "listen",
+        rest: "S",
+        forms: &[Form::Side],
+    },
+    Shape {
+        name: "connect",
+        rest: "S WORD",
+        forms: &[Form::Side, WORD],
+    },
+    Shape {
+        name: "send",
+        rest: "S TEXT, or send S",
+        forms: &[Form::Side, Form::Text],
+    },
+    Shape {
+        name: "recv",
+        rest: "S SIZE",
+        forms: &[Form::Side, SIZE],
+    },
+    Shape {
+        name: "close",
+        rest: "S",
+        forms: &[Form::Side],
+    },
+    Shape {
+        name: "abort",
+        rest: "S",
+        forms: &[Form::Side],
+    },
+    Shape {
+        name: "nagle",
+        rest: "S on, or nagle S off",
+        forms: &[Form::Side, Form::Switch],
+    },
+    Shape {
+        name: "dispatch",
+        rest: "S MS",
+        forms: &[Form::Side, MILLIS],
+    },
+    Shape {
+        name: "fail",
+        rest: "S MS",
+        forms: &[Form::Side, MILLIS],
+    },
+    Shape {
+        name: "gone",
+        rest: "S MS",
+        forms: &[Form::Side, MILLIS],
+    },
+    Shape {
+        name: "deliver",
+        rest: "INDEX MS WORD",
+        forms: &[INDEX, MILLIS, WORD],
+    },
+];
+
+// The shape of the lines that begin with this word.
+fn shape_of(name: &[u8]) -> Option<Shape> {
+    for shape in EVENTS {
+        if shape.name.as_bytes() == name {
+            return Some(*shape);
+        }
+    }
+    if name == b"pair".as_slice() {
+        Some(PAIR)
+    } else {
+        None
+    }
+}
+
+/// What is wrong with a line, in one line of text, and what would be right.
+#[derive(Clone, Copy)]
+pub enum Advice<'t> {
+    /// The line ends in a carriage return.
+    CarriageReturn,
+    /// There was a pair line before.
+    SecondPair,
+    /// The script does not begin with a pair line.
+    NoPair,
+    /// This first word begins no line.
+    Name(&'t [u8]),
+    /// A line with this first word has other words behind it.
+    Words(&'static str, &'static str),
+    /// The word at this place, the line's first being at 1, is not of its form.
+    Word(usize, &'t [u8], WantedForm),
+}
+
+/// What a word may be.
+#[derive(Clone, Copy)]
+pub struct WantedForm(Form);
+
+/// What is wrong with the line of a text that this fault names; none where memory ran out.
+pub fn wrong_with<'t>(error: &ScriptError, text: &'t [u8]) -> Option<Advice<'t>> {
+    match error {
+        ScriptError::NoPairLine { line } => Some(no_pair(line_of(text, *line))),
+        ScriptError::UnknownEvent { line } => Some(unknown(line_of(text, *line)?)),
+        ScriptError::WrongNumberOfWords { line } => wrong_number(line_of(text, *line)?),
+        ScriptError::BadWord { line } => bad_word(line_of(text, *line)?),
+        ScriptError::Memory => None,
+    }
+}
+
+// The line of this number.
+fn line_of(text: &[u8], number: usize) -> Option<Line<'_>> {
+    let mut lines = Lines::new(text);
+    for _ in 0..number {
+        let line = lines.next()?;
+        if line.number == number {
+            return Some(line);
+        }
+    }
+    None
+}
+
+fn no_pair(line: Option<Line<'_>>) -> Advice<'_> {
+    match line {
+        Some(line) if ends_in_return(line.name) => Advice::CarriageReturn,
+        _ => Advice::NoPair,
+    }
+}
+
+fn unknown(line: Line<'_>) -> Advice<'_> {
+    if line.name == b"pair".as_slice() {
+        Advice::SecondPair
+    } else if ends_in_return(line.name) {
+        Advice::CarriageReturn
+    } else {
+        Advice::Name(line.name)
+    }
+}
+
+fn wrong_number(line: Line<'_>) -> Option<Advice<'_>> {
+    if ends_in_return(line.values) {
+        return Some(Advice::CarriageReturn);
+    }
+    let shape = shape_of(line.name)?;
+    Some(Advice::Words(shape.name, shape.rest))
+}
+
+// The first word that is not of its form.
+fn bad_word(line: Line<'_>) -> Option<Advice<'_>> {
+    let shape = shape_of(line.name)?;
+    let mut rest = line.values;
+    for (place, form) in shape.forms.iter().enumerate() {
+        let (word, after) = split_word(rest)?;
+        if !form.fits(word) {
+            return Some(advice_on_word(place.saturating_add(2), word, *form));
+        }
+        rest = after;
+    }
+    None
+}
+
+fn advice_on_word(place: usize, word: &[u8], form: Form) -> Advice<'_> {
+    if ends_in_return(word) {
+        Advice::CarriageReturn
+    } else {
+        Advice::Word(place, word, WantedForm(form))
+    }
+}
+
+fn ends_in_return(word: &[u8]) -> bool {
+    word.last() == Some(&b'\r')
+}
+
+impl fmt::Display for Advice<'_> {
+    fn fmt<W: fmt::Write>(&self, f: &mut fmt::Formatter<W>) -> fmt::Result {
+        match self {
+            Advice::CarriageReturn => {
+                f.write_str("the line ends in a carriage return; right is a line feed alone")
+            }
+            Advice::SecondPair => f.write_str(
+                "a second pair line; a script has one, before its events",
+            ),
+            Advice::NoPair => { write!(f, "right is a first line: {} {}", PAIR.name, PAIR.rest) }
+            Advice::Name(word) => write_names(f, word),
+            Advice::Words(name, rest) => write!(f, "right is: {name} {rest}"),
+            Advice::Word(place, word, form) => {
+                write!(
+                    f,
+                    "word {place} is \"{}\"; right is: {}",
+                    Shown(word),
+                    form.0
+                )
+            }
+        }
+    }
+}
+
+// The word that begins no line, and those that do.
+fn write_names<W: fmt::Write>(f: &mut fmt::Formatter<W>, word: &[u8]) -> fmt::Result {
+    write!(f, "word 1 is \"{}\"; right is one of:", Shown(word))?;
+    for shape in EVENTS {
+        write!(f, " {}", shape.name)?;
+    }
+    Ok(())
+}
+
+// How many bytes of a word are shown.
+const SHOWN: usize = 40;
+
+// The beginning of a word, in printable ASCII.
+#[derive(Clone, Copy)]
+struct Shown<'t>(&'t [u8]);
+
+impl fmt::Display for Shown<'_> {
+    fn fmt<W: fmt::Write>(&self, f: &mut fmt::Formatter<W>) -> fmt::Result {
+        for byte in self.0.iter().take(SHOWN) {
+            match *byte {
+                b'"' => f.write_str("\\\"")?,
+                b'\\' => f.write_str("\\\\")?,
+                b' '..=b'~' => f.write_char(char::from(*byte))?,
+                _ => write!(f, "\\x{byte:02x}")?,
+            }
+        }
+        if self.0.len() > SHOWN {
+            f.write_str("..")?;
+        }
+        Ok(())
+    }
+}

@@ -1,0 +1,6 @@
+//! What the programs that take a script share: the text of the script, why they failed, and what is wrong with a line.
+#![tactic(auto)]
+
+pub mod advice;
+pub mod fault;
+pub mod input;
