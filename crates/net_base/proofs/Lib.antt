@@ -1,6 +1,7 @@
 pub mod Around
 pub mod Cells
 pub mod Entries
+pub mod Headers
 pub mod Helds
 pub mod LentRun
 pub mod PacketLists

@@ -41,6 +41,11 @@ module _ {X : Type 0} where
   packets [] = []
   packets (e ∷ es) = put_packet e.0 e.1 (packets es)
 
+  -- their headers
+  abbrev pub headers : List (X × List ℕ) → List X
+  headers [] = []
+  headers (r ∷ ps) = r.0 ∷ headers ps
+
   abbrev pub starts_padded : List (Option X × List ℕ) → Bool
   starts_padded [] = false
   starts_padded (e ∷ es) = is_none e.0

@@ -2,11 +2,12 @@
 //!
 //! A packet's bytes stand in one piece. Where they don't fit before the end of the payload storage but fit at its
 //! beginning, the bytes up to the end become padding: an entry with no header, which is in no list of packets.
-ghost use Rattle.std.specs.Prelude.{◌≡◌, ℕ, ◌+◌, ◌-◌, ◌<◌, ◌≤◌, ◌==◌, ◌&&◌, nat_le, ◌↔◌, List, [], length, take, drop, min, true, false, Some, None, IfOk, IfSome, OnErr, IsOk, IsSome, IsTrue, if◌then◌else◌};
+ghost use Rattle.std.specs.Prelude.{◌≡◌, ℕ, ◌+◌, ◌-◌, ◌<◌, ◌≤◌, ◌==◌, ◌&&◌, nat_le, ◌↔◌, List, [], ◌∷◌, ◌++◌, length, take, drop, min, true, false, Some, None, IfOk, IfSome, OnErr, IsOk, IsSome, IsTrue, if◌then◌else◌};
 ghost use Rattle.std.specs.Fn.{FnOnceReturnsAtMut};
 ghost use Rattle.std.specs.Borrow.{sem};
 ghost use Rattle.net_base.specs.Ring.{LeavesRun};
-ghost use Rattle.net_base.specs.Packets.{Packets, packets_with, packets, taken, end_of, run_of, room_of, first_bytes, first_header, starts_padded, without_first, skipped, appended, restarted, fits, padded_for, made_room, takes, first_packet, Dequeues, Claims, WritesBoth, WritesFirst, TakesFirst, AppendsWith, Enqueues};
+ghost use Rattle.net_base.specs.Packets.{Packets, packets_with, packets, headers, taken, end_of, run_of, room_of, first_bytes, first_header, starts_padded, without_first, skipped, appended, restarted, fits, padded_for, made_room, takes, first_packet, Dequeues, Claims, WritesBoth, WritesFirst, TakesFirst, AppendsWith, Enqueues};
+ghost use Rattle.net_base.specs.PacketLends.{LendsAll, ShowsFirst, TakesPacket, LendsPacket, with_packet};
 
 use crate::ring_buffer::{RingBuffer, place};
 use std::marker::Model;
@@ -58,8 +59,6 @@ impl<'a, H> Model for PacketBuffer<'a, H> {
 }
 
 impl<'a, H> PacketBuffer<'a, H> {
-    ghost use Rattle.net_base.specs.PacketLends.{LendsAll};
-
     // Lends all payload bytes.
     fn all(&mut self) -> &mut [u8]
         ensures* writes_back { sem 𝓛 (LendsAll H.row self.entry result) }
@@ -70,8 +69,6 @@ impl<'a, H> PacketBuffer<'a, H> {
 }
 
 impl<'a, H: Copy> PacketBuffer<'a, H> {
-    ghost use Rattle.net_base.specs.PacketLends.{ShowsFirst, TakesPacket, LendsPacket};
-
     /// An empty buffer of as many places and payload bytes as the slices have.
     pub fn new(metadata: &'a mut [PacketMetadata<H>], payload: &'a mut [u8]) -> Self
         ensures { result ≡ packets_with [] (length metadata.old) payload.old 0 }
@@ -475,6 +472,13 @@ fn lend_packet<H, R, F: FnOnce(&H, &mut [u8]) -> R>(
 #[tactic(auto, using(crate::proofs::PacketLists::made_room_packets))]
 pub fn room_keeps_packets<H: Copy>()
     ensures { (size : ℕ) (p : Packets H) → packets (made_room size p).entries ≡ packets p.entries }
+{}
+
+/// Whatever is left in the bytes that `enqueue` lends, the packets have the headers of before, and then the new one.
+#[tactic(auto, using(crate::proofs::Headers::enqueued_headers))]
+pub fn enqueue_keeps_the_order<H: Copy>()
+    ensures { (size : ℕ) (header : H) (p : Packets H) (left : List ℕ) → headers (packets
+        (with_packet size header p left).entries) ≡ headers (packets p.entries) ++ header ∷ [] }
 {}
 
 /// The packets are the same once the padding in front of them is gone.
