@@ -54,6 +54,23 @@ impl<'a> Socket<'a> {
 }
 
 impl<'a, G> Socket<'a, G> {
+    /// As `new`, with a source of timestamps of any kind, or none.
+    pub fn closed(
+        rx_buffer: SocketBuffer<'a>,
+        tx_buffer: SocketBuffer<'a>,
+        tsval_generator: Option<G>,
+    ) -> Socket<'a, G>
+        requires rx { length rx_buffer.queue + length rx_buffer.spare ≤ 2 ^ 30 }
+        requires tx { length tx_buffer.queue + length tx_buffer.spare ≤ 2 ^ 30 }
+        ensures control_block { result.control_block ≡ fresh (receiving rx_buffer.entry) (queue_of tx_buffer.entry) }
+        ensures generator { result.tsval_generator ≡ tsval_generator }
+    {
+        Socket {
+            control_block: ControlBlock::new(rx_buffer, tx_buffer),
+            tsval_generator,
+        }
+    }
+
     /// The endpoint on which the socket listens, or listened last; its port is 0 where there is none.
     pub fn listen_endpoint(&self) -> IpListenEndpoint
         ensures { result ≡ self.now.control_block.listen_endpoint }

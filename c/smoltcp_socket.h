@@ -1,0 +1,215 @@
+/* Proved TCP sockets for C. A socket is a struct that the caller owns, with its two buffers; no call allocates, keeps
+ * anything elsewhere or calls back. Calls on different sockets may run at once; of one socket, one at a time.
+ *
+ * Each call answers a number: 0 or more where it was done, and below 0 an error, with nothing changed. */
+#ifndef SMOLTCP_SOCKET_H
+#define SMOLTCP_SOCKET_H
+
+#include <stddef.h>
+#include <stdint.h>
+
+#ifdef __cplusplus
+extern "C" {
+#endif
+
+enum {
+    SMOLTCP_OK = 0,
+    SMOLTCP_ERROR_STATE = -1,    /* the state of the socket does not allow the call */
+    SMOLTCP_ERROR_ADDRESS = -2,  /* a port or an address is missing or of another version */
+    SMOLTCP_ERROR_FINISHED = -3, /* the peer has closed, and all that it sent was read */
+    SMOLTCP_ERROR_SOCKET = -4,   /* the struct was not made by init, or a buffer has another size than then */
+    SMOLTCP_ERROR_CONTEXT = -5,  /* the context's moment or its MTU is out of range */
+    SMOLTCP_ERROR_ROOM = -6,     /* a buffer for a packet is too short */
+    SMOLTCP_ERROR_NULL = -7,     /* a pointer is null */
+    SMOLTCP_NOT_ACCEPTED = -8    /* the packet is not for this socket */
+};
+
+/* States, as in RFC 9293. */
+enum {
+    SMOLTCP_CLOSED, SMOLTCP_LISTEN, SMOLTCP_SYN_SENT, SMOLTCP_SYN_RECEIVED, SMOLTCP_ESTABLISHED, SMOLTCP_FIN_WAIT_1,
+    SMOLTCP_FIN_WAIT_2, SMOLTCP_CLOSE_WAIT, SMOLTCP_CLOSING, SMOLTCP_LAST_ACK, SMOLTCP_TIME_WAIT
+};
+
+/* An address: none where version is 0, v4 where it is 4, v6 where it is 6. In network order. */
+struct smoltcp_address { uint8_t version; uint8_t v4[4]; uint8_t v6[16]; };
+
+struct smoltcp_endpoint { struct smoltcp_address addr; uint16_t port; };
+
+/* What a call is told of the interface. */
+struct smoltcp_context {
+    int64_t now;     /* the moment in microseconds, within 2^61 of zero */
+    uint32_t word;   /* a random word: the initial sequence number of a connection that this call opens */
+    uint32_t tsval;  /* the clock of timestamps (RFC 7323), where timestamps is set */
+    uint32_t ip_mtu; /* the largest IP packet, from 576 to 65535 bytes */
+    uint8_t v4[4];   /* the interface's addresses */
+    uint8_t v6[16];
+};
+
+/* The fields of a socket, for these calls alone. */
+struct smoltcp_option_byte { uint8_t is_some, value; };
+struct smoltcp_option_number { uint32_t is_some, value; };
+struct smoltcp_option_duration { uint64_t is_some, micros; };
+struct smoltcp_option_moment { uint64_t is_some; int64_t micros; };
+struct smoltcp_ends { uint16_t is_some; struct smoltcp_endpoint local, remote; };
+struct smoltcp_timer { uint64_t kind; int64_t at; uint64_t delay; };
+struct smoltcp_delay { uint64_t kind; int64_t at; };
+struct smoltcp_smoothed { uint32_t is_some, srtt, rttvar; };
+struct smoltcp_timing { uint32_t is_some, number; int64_t at; };
+struct smoltcp_controller {
+    uint32_t kind;
+    uint8_t in_timeout, in_recovery;
+    size_t cwnd, mss, rwnd, ssthresh;
+};
+struct smoltcp_range { size_t start, end; };
+struct smoltcp_receive { size_t read_at, count, held_count; struct smoltcp_range held[4]; };
+struct smoltcp_estimator {
+    struct smoltcp_timing timing;
+    struct smoltcp_smoothed smoothed;
+    uint32_t rto;
+    struct smoltcp_option_number highest;
+    uint8_t backoffs;
+};
+struct smoltcp_moment { int64_t micros; };
+struct smoltcp_fields {
+    struct smoltcp_receive rx;
+    size_t tx_read_at, tx_count, remote_win_len, remote_mss;
+    struct smoltcp_timer timer;
+    struct smoltcp_delay ack_delay_timer;
+    struct smoltcp_moment challenge_ack_timer;
+    struct smoltcp_option_duration timeout, keep_alive, ack_delay;
+    struct smoltcp_option_moment remote_last_ts;
+    struct smoltcp_estimator rtte;
+    struct smoltcp_controller congestion_controller;
+    struct smoltcp_endpoint listen_endpoint;
+    struct smoltcp_ends tuple;
+    uint32_t local_seq_no, remote_seq_no, remote_last_seq, last_remote_tsval;
+    struct smoltcp_option_number remote_last_ack, local_rx_last_seq, local_rx_last_ack;
+    uint16_t remote_last_win;
+    struct smoltcp_option_byte hop_limit, remote_win_scale;
+    uint8_t state, rx_fin_received, remote_win_shift, remote_has_sack, local_rx_dup_acks, pending_fast_retransmit, nagle,
+        synack_paused;
+};
+
+/* A TCP socket. Set rx, rx_len, tx and tx_len to two buffers, of at most 2^30 bytes each, that nothing else uses, and
+ * call smoltcp_tcp_init. */
+struct smoltcp_tcp {
+    uint8_t *rx;
+    size_t rx_len;
+    uint8_t *tx;
+    size_t tx_len;
+    size_t rx_size, tx_size; /* the lengths at init */
+    uint8_t timestamps;      /* not 0: timestamps are sent. May be set while the socket is closed */
+    struct smoltcp_fields fields;
+};
+
+/* The calls of the library, which take no null pointers. */
+int64_t smoltcp_tcp_init_checked(struct smoltcp_tcp *s);
+int64_t smoltcp_tcp_listen_checked(struct smoltcp_tcp *s, const struct smoltcp_endpoint *endpoint);
+int64_t smoltcp_tcp_connect_checked(struct smoltcp_tcp *s, const struct smoltcp_context *cx,
+                                    const struct smoltcp_endpoint *remote, const struct smoltcp_endpoint *local);
+int64_t smoltcp_tcp_close_checked(struct smoltcp_tcp *s);
+int64_t smoltcp_tcp_abort_checked(struct smoltcp_tcp *s);
+int64_t smoltcp_tcp_send_checked(struct smoltcp_tcp *s, const uint8_t *data, size_t len);
+int64_t smoltcp_tcp_recv_checked(struct smoltcp_tcp *s, uint8_t *data, size_t len);
+int64_t smoltcp_tcp_can_send_checked(struct smoltcp_tcp *s);
+int64_t smoltcp_tcp_can_recv_checked(struct smoltcp_tcp *s);
+int64_t smoltcp_tcp_state_checked(const struct smoltcp_tcp *s);
+int64_t smoltcp_tcp_process_checked(struct smoltcp_tcp *s, const struct smoltcp_context *cx, const uint8_t *packet,
+                                    size_t len, uint8_t *reply, size_t cap);
+int64_t smoltcp_tcp_dispatch_checked(struct smoltcp_tcp *s, const struct smoltcp_context *cx, uint8_t *out, size_t cap);
+int64_t smoltcp_tcp_poll_at_checked(struct smoltcp_tcp *s, const struct smoltcp_context *cx, int64_t *at);
+
+/* Whether the struct and its buffers are there. */
+static inline int smoltcp_tcp_is_null(const struct smoltcp_tcp *s) { return !s || !s->rx || !s->tx; }
+
+/* Makes the struct a closed socket over its two buffers. */
+static inline int64_t smoltcp_tcp_init(struct smoltcp_tcp *s) {
+    if (smoltcp_tcp_is_null(s)) return SMOLTCP_ERROR_NULL;
+    return smoltcp_tcp_init_checked(s);
+}
+
+/* Waits for a peer on this endpoint, whose address may be none. */
+static inline int64_t smoltcp_tcp_listen(struct smoltcp_tcp *s, const struct smoltcp_endpoint *endpoint) {
+    if (smoltcp_tcp_is_null(s) || !endpoint) return SMOLTCP_ERROR_NULL;
+    return smoltcp_tcp_listen_checked(s, endpoint);
+}
+
+/* Opens a connection to remote, from local, whose address may be none: then the interface's is taken. */
+static inline int64_t smoltcp_tcp_connect(struct smoltcp_tcp *s, const struct smoltcp_context *cx,
+                                          const struct smoltcp_endpoint *remote,
+                                          const struct smoltcp_endpoint *local) {
+    if (smoltcp_tcp_is_null(s) || !cx || !remote || !local) return SMOLTCP_ERROR_NULL;
+    return smoltcp_tcp_connect_checked(s, cx, remote, local);
+}
+
+/* Closes the transmit half: a FIN follows what was sent. */
+static inline int64_t smoltcp_tcp_close(struct smoltcp_tcp *s) {
+    if (smoltcp_tcp_is_null(s)) return SMOLTCP_ERROR_NULL;
+    return smoltcp_tcp_close_checked(s);
+}
+
+/* Ends the connection at once, by an RST in the next dispatch. */
+static inline int64_t smoltcp_tcp_abort(struct smoltcp_tcp *s) {
+    if (smoltcp_tcp_is_null(s)) return SMOLTCP_ERROR_NULL;
+    return smoltcp_tcp_abort_checked(s);
+}
+
+/* Takes as many of the bytes as fit, and answers how many. */
+static inline int64_t smoltcp_tcp_send(struct smoltcp_tcp *s, const uint8_t *data, size_t len) {
+    if (smoltcp_tcp_is_null(s) || !data) return SMOLTCP_ERROR_NULL;
+    return smoltcp_tcp_send_checked(s, data, len);
+}
+
+/* Gives as many bytes as are there and fit, and answers how many. */
+static inline int64_t smoltcp_tcp_recv(struct smoltcp_tcp *s, uint8_t *data, size_t len) {
+    if (smoltcp_tcp_is_null(s) || !data) return SMOLTCP_ERROR_NULL;
+    return smoltcp_tcp_recv_checked(s, data, len);
+}
+
+/* 1 where send would take at least one byte, else 0. */
+static inline int64_t smoltcp_tcp_can_send(struct smoltcp_tcp *s) {
+    if (smoltcp_tcp_is_null(s)) return SMOLTCP_ERROR_NULL;
+    return smoltcp_tcp_can_send_checked(s);
+}
+
+/* 1 where recv would give at least one byte, else 0. */
+static inline int64_t smoltcp_tcp_can_recv(struct smoltcp_tcp *s) {
+    if (smoltcp_tcp_is_null(s)) return SMOLTCP_ERROR_NULL;
+    return smoltcp_tcp_can_recv_checked(s);
+}
+
+/* The state, as above. */
+static inline int64_t smoltcp_tcp_state(const struct smoltcp_tcp *s) {
+    if (smoltcp_tcp_is_null(s)) return SMOLTCP_ERROR_NULL;
+    return smoltcp_tcp_state_checked(s);
+}
+
+/* Takes an IP packet. The length of the packet that answers it, in reply, or 0; SMOLTCP_NOT_ACCEPTED where it is not
+ * for this socket. reply has 100 bytes or more. */
+static inline int64_t smoltcp_tcp_process(struct smoltcp_tcp *s, const struct smoltcp_context *cx,
+                                          const uint8_t *packet, size_t len, uint8_t *reply, size_t cap) {
+    if (smoltcp_tcp_is_null(s) || !cx || !packet || !reply) return SMOLTCP_ERROR_NULL;
+    return smoltcp_tcp_process_checked(s, cx, packet, len, reply, cap);
+}
+
+/* The length of the packet that is due, in out, or 0 for none. Call it until it answers 0. */
+static inline int64_t smoltcp_tcp_dispatch(struct smoltcp_tcp *s, const struct smoltcp_context *cx, uint8_t *out,
+                                           size_t cap) {
+    if (smoltcp_tcp_is_null(s) || !cx || !out) return SMOLTCP_ERROR_NULL;
+    return smoltcp_tcp_dispatch_checked(s, cx, out, cap);
+}
+
+/* The moment of the next dispatch in microseconds; INT64_MAX: none before a packet comes; INT64_MIN: an error. */
+static inline int64_t smoltcp_tcp_poll_at(struct smoltcp_tcp *s, const struct smoltcp_context *cx) {
+    int64_t at = 0, answer;
+    if (smoltcp_tcp_is_null(s) || !cx) return INT64_MIN;
+    answer = smoltcp_tcp_poll_at_checked(s, cx, &at);
+    if (answer < 0) return INT64_MIN;
+    return answer == 0 ? at : INT64_MAX;
+}
+
+#ifdef __cplusplus
+}
+#endif
+
+#endif

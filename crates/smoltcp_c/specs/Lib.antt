@@ -1,0 +1,4 @@
+pub mod Numbers
+pub mod Fields
+pub mod Socket
+pub mod Answers

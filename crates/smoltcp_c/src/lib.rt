@@ -1,0 +1,12 @@
+//! The sockets for C: a socket is a struct of numbers that the caller owns, with its two buffers. No call allocates,
+//! keeps anything elsewhere, or calls back.
+#![tactic(auto)]
+
+mod answers;
+mod clock;
+mod context;
+mod fields;
+mod numbers;
+mod packets;
+mod socket;
+mod tcp;
