@@ -59,10 +59,13 @@ module _ (v : View) (now : Instant) (word : ℕ) (ip : IpRepr) (s : Segment) (at
 
   abbrev the_window : Window
   the_window = receive_window v
+
   abbrev the_cut : Cut
   the_cut = cut_of the_window s.seq_number (length s.payload)
+
   abbrev the_bytes : List ℕ
   the_bytes = cut_bytes the_cut s.payload
+
   abbrev in_window : Bool
   in_window = is_inside the_window s.seq_number (length s.payload)
 
@@ -96,6 +99,7 @@ module _ (v : View) (now : Instant) (word : ℕ) (ip : IpRepr) (s : Segment) (at
 
   dies : IsEffect (stopped (dropped numbered))
   dies = record { heard = shown v; hears = Nothing refl; answers = tt; ends = inr (record { phase = refl; transmit_queue = refl; receive_queue = refl; fin = λ e. e }) }
+
   dies_alone : IsEffect (stopped (dropped v))
   dies_alone = record { heard = shown v; hears = Nothing refl; answers = tt; ends = inr (record { phase = refl; transmit_queue = refl; receive_queue = refl; fin = λ e. e }) }
 

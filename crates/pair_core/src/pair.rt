@@ -110,8 +110,8 @@ impl<'a, G: TsvalSource> Pair<'a, G> {
     ghost use Rattle.pair_core.specs.NetworkRuns.{Reaches};
     ghost use Rattle.pair_core.specs.Sides.{other_side};
 
-    // A call on one of the sides is chosen by a `match`, and not made on a loan of a side for change: the invariant speaks
-    // of both sides and the segments together, and is to be kept when a call returns, not when a loan ends.
+    // A call on one of the sides is chosen by a `match`, and not made on a loan of a side for change: the invariant
+    // speaks of both sides and the segments together, and is to be kept when a call returns, not when a loan ends.
     fn host(&self, side: Side) -> &Host<'a, G>
         ensures { result.now ≡ host_of side self.now }
     {

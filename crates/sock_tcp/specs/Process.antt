@@ -70,11 +70,11 @@ abbrev pub Accepts : View → IpRepr → Segment → Type 0
 Accepts v ip s = AcceptsIn v.state v ip s
 
 -- ---- process
--- Each definition stands below those that it names, so the rules are read from the end, in this order: `processed` asks
--- for the verdict; `by_verdict` drops, resets, challenges or lets pass; `tested` tests the receive window, in a state
--- that has one; `outside` answers what lies outside, `cut_inside` cuts what lies inside; `processed_inside` goes
--- through the state table; `after_advance` stops, challenges or hears the acknowledgement; `bytes_taken` takes the bytes
--- and answers a gap.
+-- Each definition stands below those that it names, so the rules are read from the end, in this order: `processed`
+-- asks for the verdict; `by_verdict` drops, resets, challenges or lets pass; `tested` tests the receive window, in a
+-- state that has one; `outside` answers what lies outside, `cut_inside` cuts what lies inside; `processed_inside`
+-- goes through the state table; `after_advance` stops, challenges or hears the acknowledgement; `bytes_taken` takes
+-- the bytes and answers a gap.
 
 -- a socket after a segment, and the reply
 pub record Outcome : Type 0 where
