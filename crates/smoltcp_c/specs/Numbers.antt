@@ -22,9 +22,9 @@ use Rattle.smoltcp_c.specs.declared.numbers.OptionByte.{OptionByte}
 use Rattle.smoltcp_c.specs.declared.numbers.OptionNumber.{OptionNumber}
 use Rattle.smoltcp_c.specs.declared.numbers.OptionDuration.{OptionDuration}
 use Rattle.smoltcp_c.specs.declared.numbers.OptionMoment.{OptionMoment}
-use Rattle.smoltcp_c.specs.declared.numbers.Address.{Address}
-use Rattle.smoltcp_c.specs.declared.numbers.Endpoint.{Endpoint}
-use Rattle.smoltcp_c.specs.declared.numbers.Ends.{Ends}
+use Rattle.smoltcp_c.specs.declared.endpoints.Address.{Address}
+use Rattle.smoltcp_c.specs.declared.endpoints.Endpoint.{Endpoint}
+use Rattle.smoltcp_c.specs.declared.endpoints.Ends.{Ends}
 use Rattle.smoltcp_c.specs.declared.numbers.TimerNumbers.{TimerNumbers}
 use Rattle.smoltcp_c.specs.declared.numbers.DelayNumbers.{DelayNumbers}
 use Rattle.smoltcp_c.specs.declared.numbers.OptionSmoothed.{OptionSmoothed}

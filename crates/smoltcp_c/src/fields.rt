@@ -3,12 +3,13 @@ ghost use Rattle.std.specs.Prelude.{◌≡◌, true, Some};
 ghost use Rattle.sock_core.specs.EstimatorParts.{is_estimator, estimator_of};
 ghost use Rattle.smoltcp_c.specs.Fields.{receive_in, estimator_in, parts_with, parts_in};
 
+use crate::endpoints::{Endpoint, Ends, listen_in, listen_of, tuple_in, tuple_of};
 use crate::numbers::{
-    ControllerNumbers, DelayNumbers, Endpoint, Ends, OptionByte, OptionDuration, OptionMoment,
-    OptionNumber, OptionSmoothed, OptionTiming, TimerNumbers, byte_in, byte_of, controller_in,
-    controller_of, delay_in, delay_of, duration_in, duration_of, flag_in, flag_of, listen_in,
-    listen_of, moment_in, moment_of, number_in, number_of, smoothed_in, smoothed_of, state_in,
-    state_of, timer_in, timer_of, timing_in, timing_of, tuple_in, tuple_of,
+    ControllerNumbers, DelayNumbers, OptionByte, OptionDuration, OptionMoment, OptionNumber,
+    OptionSmoothed, OptionTiming, TimerNumbers, byte_in, byte_of, controller_in, controller_of,
+    delay_in, delay_of, duration_in, duration_of, flag_in, flag_of, moment_in, moment_of,
+    number_in, number_of, smoothed_in, smoothed_of, state_in, state_of, timer_in, timer_of,
+    timing_in, timing_of,
 };
 use control_wire::TcpSeqNumber;
 use net_base::assembler::Range;
@@ -25,7 +26,8 @@ pub struct HeldRange {
     pub end: usize,
 }
 
-/// Where the receive queue lies in its buffer, and the ranges that are held behind it, the first `held_count` of the four.
+/// Where the receive queue lies in its buffer, and the ranges that are held behind it, the first `held_count` of the
+/// four.
 #[repr(C)]
 #[derive(Clone, Copy)]
 pub struct ReceiveNumbers {

@@ -5,6 +5,7 @@
 mod answers;
 mod clock;
 mod context;
+mod endpoints;
 mod fields;
 mod numbers;
 mod packets;

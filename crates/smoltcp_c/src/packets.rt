@@ -6,7 +6,7 @@ ghost use Rattle.smoltcp_c.specs.Socket.{held};
 use crate::answers::{ERROR_CONTEXT, ERROR_ROOM, ERROR_SOCKET, NOT_ACCEPTED, OK, connect_answer};
 use crate::clock::Clock;
 use crate::context::{Cx, Full, Moment, Wire, moment_in};
-use crate::numbers::{Endpoint, endpoint_in, listen_in};
+use crate::endpoints::{Endpoint, endpoint_in, listen_in};
 use crate::socket::{TcpSocket, parts_held, put, take};
 use control_wire::TcpRepr;
 use ip_wire::{ChecksumCapabilities, IpRepr};

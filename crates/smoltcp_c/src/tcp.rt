@@ -14,7 +14,7 @@ ghost use Rattle.smoltcp_c.specs.Socket.{held, is_long};
 use crate::answers::{
     ERROR_SOCKET, OK, flag_answer, listen_answer, recv_answer, send_answer, state_answer,
 };
-use crate::numbers::{Endpoint, listen_in};
+use crate::endpoints::{Endpoint, listen_in};
 use crate::socket::{LARGEST, TcpSocket, closed_over, parts_held, put, take};
 
 /// Waits for a peer on this endpoint. 0, or an error: `ERROR_ADDRESS` where the port is 0, `ERROR_STATE` where the
