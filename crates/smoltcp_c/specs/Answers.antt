@@ -58,7 +58,8 @@ recv_answer (Err recv_error.Finished) = error_finished
 
 -- the call met its table on the socket v: it answered the number of what the table answers, and the struct is then the
 -- socket that the table leaves
-pub record Calls {R : Type 0} (number : R → ℤ) (table : R → View → Type 0) (result : ℤ) (held : Option View) : Type 0 where
+pub record Calls {R : Type 0} (number : R → ℤ) (table : R → View → Type 0) (result : ℤ) (held : Option View)
+    : Type 0 where
   pub answer : R
   pub after : View
   pub met : table answer after

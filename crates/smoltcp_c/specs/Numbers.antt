@@ -58,7 +58,8 @@ abbrev pub listen_in : Endpoint → IpListenEndpoint
 listen_in n = record { addr = if n.addr.version == 0 then None else Some (address_in n.addr); port = n.port }
 
 abbrev pub tuple_in : Ends → Option Tuple
-tuple_in n = if n.is_some == 0 then None else Some (record { local = endpoint_in n.local; remote = endpoint_in n.remote })
+tuple_in n =
+    if n.is_some == 0 then None else Some (record { local = endpoint_in n.local; remote = endpoint_in n.remote })
 
 abbrev pub timer_by : ℕ → Instant → Duration → Timer
 timer_by kind at d =

@@ -14,7 +14,8 @@ if_sound (Some p) rx tx = if are_sound p rx tx then Some p else None
 -- the parts, where the buffers have the sizes that they had and each field is in its range
 abbrev pub parts_held : TcpSocket → Option Parts
 parts_held s =
-    if length s.rx.now == s.rx_size && length s.tx.now == s.tx_size then if_sound (parts_in s.fields) s.rx_size s.tx_size
+    if length s.rx.now == s.rx_size && length s.tx.now == s.tx_size
+    then if_sound (parts_in s.fields) s.rx_size s.tx_size
     else None
 
 abbrev pub socket_by : Option Parts → List ℕ → List ℕ → Option View

@@ -142,8 +142,8 @@ fn sent(socket: &mut Socket<'_, Clock>, wire: &mut Wire<'_>) -> i64 {
     }
 }
 
-/// When the socket wants its next dispatch: writes the moment in microseconds into `at`, and answers 0. 1 where it wants
-/// none before a packet comes; `at` is then as it was, as with the errors `ERROR_CONTEXT` and `ERROR_SOCKET`.
+/// When the socket wants its next dispatch: writes the moment in microseconds into `at`, and answers 0. 1 where it
+/// wants none before a packet comes; `at` is then as it was, as with the errors `ERROR_CONTEXT` and `ERROR_SOCKET`.
 #[unsafe(no_mangle)]
 pub extern "C" fn smoltcp_tcp_poll_at_checked(s: &mut TcpSocket<'_>, cx: &Cx, at: &mut i64) -> i64
     ensures refused { held s.old ≡ None → Refused s.old result s.new }
