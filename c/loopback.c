@@ -74,6 +74,13 @@ int main(void) {
     want("another size", smoltcp_tcp_listen(&a, &at_a), SMOLTCP_ERROR_SOCKET);
     a.rx_len++;
 
+    want("timeout a", smoltcp_tcp_set_timeout(&a, 60000000), SMOLTCP_OK);
+    want("timeout b", smoltcp_tcp_set_timeout(&b, 60000000), SMOLTCP_OK);
+    want("keep-alive b", smoltcp_tcp_set_keep_alive(&b, 15000000), SMOLTCP_OK);
+    want("too long", smoltcp_tcp_set_keep_alive(&b, INT64_MAX), SMOLTCP_ERROR_RANGE);
+    want("ack delay", smoltcp_tcp_set_ack_delay(&b, -1), SMOLTCP_OK);
+    want("nagle", smoltcp_tcp_set_nagle_enabled(&a, 0), SMOLTCP_OK);
+    want("hop limit", smoltcp_tcp_set_hop_limit(&a, 32), SMOLTCP_OK);
     want("listen", smoltcp_tcp_listen(&b, &at_b), SMOLTCP_OK);
     want("connect", smoltcp_tcp_connect(&a, &of_a, &at_b, &at_a), SMOLTCP_OK);
     run();
@@ -81,15 +88,19 @@ int main(void) {
     want("b", smoltcp_tcp_state(&b), SMOLTCP_ESTABLISHED);
     want("send", smoltcp_tcp_send(&a, line, sizeof line - 1), sizeof line - 1);
     run();
+    want("can recv", smoltcp_tcp_can_recv(&b), 1);
     n = smoltcp_tcp_recv(&b, bytes, sizeof bytes);
     want("recv", n, sizeof line - 1);
+    printf("b reads: %.*s", (int)n, (const char *)bytes);
     want("echo", smoltcp_tcp_send(&b, bytes, (size_t)n), n);
     run();
     memset(bytes, 0, sizeof bytes);
     n = smoltcp_tcp_recv(&a, bytes, sizeof bytes);
+    printf("a reads: %.*s", n > 0 ? (int)n : 0, (const char *)bytes);
     want("bytes", n == sizeof line - 1 && memcmp(bytes, line, (size_t)n) == 0, 1);
     want("short", smoltcp_tcp_process(&a, &of_a, line, 1, reply, 1), SMOLTCP_ERROR_ROOM);
     want("no packet", smoltcp_tcp_process(&a, &of_a, line, 5, reply, sizeof reply), SMOLTCP_NOT_ACCEPTED);
+    want("can send", smoltcp_tcp_can_send(&a), 1);
     want("close a", smoltcp_tcp_close(&a), SMOLTCP_OK);
     run();
     want("b", smoltcp_tcp_state(&b), SMOLTCP_CLOSE_WAIT);
@@ -101,6 +112,7 @@ int main(void) {
     run();
     want("a", smoltcp_tcp_state(&a), SMOLTCP_CLOSED);
     want("poll_at", smoltcp_tcp_poll_at(&a, &of_a), INT64_MAX);
+    want("abort", smoltcp_tcp_abort(&b), SMOLTCP_OK);
     puts(failed ? "failed" : "ok");
     return failed;
 }

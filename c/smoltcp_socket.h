@@ -21,7 +21,8 @@ enum {
     SMOLTCP_ERROR_CONTEXT = -5,  /* the context's moment or its MTU is out of range */
     SMOLTCP_ERROR_ROOM = -6,     /* a buffer for a packet is too short */
     SMOLTCP_ERROR_NULL = -7,     /* a pointer is null */
-    SMOLTCP_NOT_ACCEPTED = -8    /* the packet is not for this socket */
+    SMOLTCP_NOT_ACCEPTED = -8,   /* the packet is not for this socket */
+    SMOLTCP_ERROR_RANGE = -9     /* a number is out of its range */
 };
 
 /* States, as in RFC 9293. */
@@ -86,8 +87,8 @@ struct smoltcp_fields {
     struct smoltcp_option_number remote_last_ack, local_rx_last_seq, local_rx_last_ack;
     uint16_t remote_last_win;
     struct smoltcp_option_byte hop_limit, remote_win_scale;
-    uint8_t state, rx_fin_received, remote_win_shift, remote_has_sack, local_rx_dup_acks, pending_fast_retransmit, nagle,
-        synack_paused;
+    uint8_t state, rx_fin_received, remote_win_shift, remote_has_sack, local_rx_dup_acks, pending_fast_retransmit;
+    uint8_t nagle, synack_paused;
 };
 
 /* A TCP socket. Set rx, rx_len, tx and tx_len to two buffers, of at most 2^30 bytes each, that nothing else uses, and
@@ -114,6 +115,11 @@ int64_t smoltcp_tcp_recv_checked(struct smoltcp_tcp *s, uint8_t *data, size_t le
 int64_t smoltcp_tcp_can_send_checked(struct smoltcp_tcp *s);
 int64_t smoltcp_tcp_can_recv_checked(struct smoltcp_tcp *s);
 int64_t smoltcp_tcp_state_checked(const struct smoltcp_tcp *s);
+int64_t smoltcp_tcp_set_timeout_checked(struct smoltcp_tcp *s, int64_t micros);
+int64_t smoltcp_tcp_set_keep_alive_checked(struct smoltcp_tcp *s, int64_t micros);
+int64_t smoltcp_tcp_set_ack_delay_checked(struct smoltcp_tcp *s, int64_t micros);
+int64_t smoltcp_tcp_set_nagle_enabled_checked(struct smoltcp_tcp *s, uint8_t enabled);
+int64_t smoltcp_tcp_set_hop_limit_checked(struct smoltcp_tcp *s, uint8_t hop_limit);
 int64_t smoltcp_tcp_process_checked(struct smoltcp_tcp *s, const struct smoltcp_context *cx, const uint8_t *packet,
                                     size_t len, uint8_t *reply, size_t cap);
 int64_t smoltcp_tcp_dispatch_checked(struct smoltcp_tcp *s, const struct smoltcp_context *cx, uint8_t *out, size_t cap);
@@ -182,6 +188,39 @@ static inline int64_t smoltcp_tcp_can_recv(struct smoltcp_tcp *s) {
 static inline int64_t smoltcp_tcp_state(const struct smoltcp_tcp *s) {
     if (smoltcp_tcp_is_null(s)) return SMOLTCP_ERROR_NULL;
     return smoltcp_tcp_state_checked(s);
+}
+
+/* Ends the connection where nothing was heard for so long while something is owed, in microseconds, at most 2^61; below
+ * 0: never, as in a new socket (RFC 9293, section 3.9.1). Without it a connection can wait for ever: docs/STALLS.md. */
+static inline int64_t smoltcp_tcp_set_timeout(struct smoltcp_tcp *s, int64_t micros) {
+    if (smoltcp_tcp_is_null(s)) return SMOLTCP_ERROR_NULL;
+    return smoltcp_tcp_set_timeout_checked(s, micros);
+}
+
+/* Asks an idle peer whether it is there every so many microseconds, at most 2^61; below 0: never, as in a new socket
+ * (RFC 9293, section 3.8.4). Shorter than the timeout, by a factor of four, say. */
+static inline int64_t smoltcp_tcp_set_keep_alive(struct smoltcp_tcp *s, int64_t micros) {
+    if (smoltcp_tcp_is_null(s)) return SMOLTCP_ERROR_NULL;
+    return smoltcp_tcp_set_keep_alive_checked(s, micros);
+}
+
+/* How long an acknowledgement may wait for data to go with, in microseconds, at most 2^61; below 0: not at all. 10,000
+ * in a new socket. */
+static inline int64_t smoltcp_tcp_set_ack_delay(struct smoltcp_tcp *s, int64_t micros) {
+    if (smoltcp_tcp_is_null(s)) return SMOLTCP_ERROR_NULL;
+    return smoltcp_tcp_set_ack_delay_checked(s, micros);
+}
+
+/* Whether small segments wait while bytes are in flight (RFC 9293, section 3.7.4), as they do in a new socket. */
+static inline int64_t smoltcp_tcp_set_nagle_enabled(struct smoltcp_tcp *s, uint8_t enabled) {
+    if (smoltcp_tcp_is_null(s)) return SMOLTCP_ERROR_NULL;
+    return smoltcp_tcp_set_nagle_enabled_checked(s, enabled);
+}
+
+/* The hop limit of what is sent; 0: 64, as in a new socket. */
+static inline int64_t smoltcp_tcp_set_hop_limit(struct smoltcp_tcp *s, uint8_t hop_limit) {
+    if (smoltcp_tcp_is_null(s)) return SMOLTCP_ERROR_NULL;
+    return smoltcp_tcp_set_hop_limit_checked(s, hop_limit);
 }
 
 /* Takes an IP packet. The length of the packet that answers it, in reply, or 0; SMOLTCP_NOT_ACCEPTED where it is not

@@ -33,6 +33,9 @@ error_room = negsuc 5
 abbrev pub not_accepted : ℤ
 not_accepted = negsuc 7
 
+abbrev pub error_range : ℤ
+error_range = negsuc 8
+
 abbrev pub listen_answer : {U : Type 0} → Result U ListenError → ℤ
 listen_answer (Ok u) = pos 0
 listen_answer (Err listen_error.InvalidState) = error_state
@@ -69,6 +72,10 @@ pub record Calls {R : Type 0} (number : R → ℤ) (table : R → View → Type 
 -- the struct was refused, and nothing changed
 abbrev pub Refused : TcpSocket → ℤ → TcpSocket → Type 0
 Refused s result s' = (result ≡ error_socket) × (s' ≡ s)
+
+-- the call was done, and the struct is then the socket w
+abbrev pub IsDone : ℤ → Option View → View → Type 0
+IsDone result held w = (result ≡ pos 0) × (held ≡ Some w)
 
 abbrev pub flag_answer : Bool → ℤ
 flag_answer false = pos 0

@@ -1,5 +1,5 @@
 -- What the numbers of a C struct mean.
-use Rattle.std.specs.Prelude.{ℕ, ◌==◌, Bool, not, Option, Some, None, if◌then◌else◌}
+use Rattle.std.specs.Prelude.{ℕ, ℤ, pos, negsuc, ◌==◌, Bool, not, Option, Some, None, if◌then◌else◌}
 use Rattle.ip_wire.specs.declared.address.IpAddress.{IpAddress}
 use Rattle.ip_wire.specs.declared.address.IpAddress.TheVariants as address
 use Rattle.ip_wire.specs.declared.endpoint.IpEndpoint.{IpEndpoint}
@@ -11,6 +11,7 @@ use Rattle.sock_core.specs.declared.congestion.AnyController.{AnyController}
 use Rattle.sock_core.specs.declared.congestion.AnyController.TheVariants as controller
 use Rattle.sock_core.specs.declared.rtte.Smoothed.{Smoothed}
 use Rattle.sock_core.specs.declared.rtte.Timing.{Timing}
+use Rattle.sock_tcp.specs.Parts.{is_short}
 use Rattle.sock_tcp.specs.declared.state.State.{State}
 use Rattle.sock_tcp.specs.declared.state.State.TheVariants as state
 use Rattle.sock_tcp.specs.declared.timer.AckDelayTimer.{AckDelayTimer}
@@ -34,6 +35,19 @@ use Rattle.smoltcp_c.specs.declared.numbers.ControllerNumbers.{ControllerNumbers
 -- any number but 0 is true
 abbrev pub flag_in : ℕ → Bool
 flag_in n = not (n == 0)
+
+-- microseconds, or none below 0
+abbrev pub micros_in : ℤ → Option Duration
+micros_in (pos n) = Some (record { micros = n })
+micros_in (negsuc n) = None
+
+-- the same where it is not above 2^61 microseconds
+unfoldable pub lasting : ℤ → Option (Option Duration)
+lasting n = if is_short (micros_in n) then Some (micros_in n) else None
+
+-- a byte, or none where it is 0
+abbrev pub byte_or_none : ℕ → Option ℕ
+byte_or_none n = if n == 0 then None else Some n
 
 abbrev pub byte_in : OptionByte → Option ℕ
 byte_in n = if n.is_some == 0 then None else Some n.value

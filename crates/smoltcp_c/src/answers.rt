@@ -25,6 +25,9 @@ pub const ERROR_CONTEXT: i64 = -5;
 /// A buffer for a packet is too short.
 pub const ERROR_ROOM: i64 = -6;
 
+/// A number is out of its range.
+pub const ERROR_RANGE: i64 = -9;
+
 /// The packet is not for this socket.
 pub const NOT_ACCEPTED: i64 = -8;
 

@@ -9,5 +9,6 @@ mod endpoints;
 mod fields;
 mod numbers;
 mod packets;
+mod settings;
 mod socket;
 mod tcp;

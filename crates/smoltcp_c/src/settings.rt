@@ -1,0 +1,158 @@
+//! The settings of a TCP socket.
+ghost use Rattle.std.specs.Prelude.{◌≡◌, ◌==◌, pos, None, Option, Some, true, false};
+ghost use Rattle.std.specs.Option.{IfSome};
+ghost use Rattle.net_base.specs.declared.time.Duration.{Duration};
+ghost use Rattle.sock_tcp.specs.Closing.{keep_alive_set};
+ghost use Rattle.sock_tcp.specs.Parts.{is_short};
+ghost use Rattle.sock_tcp.specs.View.{IsShort, View};
+ghost use Rattle.smoltcp_c.specs.Answers.{IsDone, Refused, error_range};
+ghost use Rattle.smoltcp_c.specs.Numbers.{byte_or_none, flag_in, lasting, micros_in};
+ghost use Rattle.smoltcp_c.specs.Socket.{held};
+
+use crate::answers::{ERROR_RANGE, ERROR_SOCKET, OK};
+use crate::numbers::flag_in;
+use crate::socket::{TcpSocket, parts_held, put, take};
+use net_base::time::Duration;
+
+// The longest length of time, in microseconds.
+const LONGEST: u64 = 1 << 61;
+
+// None where the number is below 0.
+fn micros_in(micros: i64) -> Option<Duration>
+    ensures { result ≡ micros_in micros }
+{
+    if micros < 0 {
+        return None;
+    }
+    Some(Duration {
+        micros: micros as u64,
+    })
+}
+
+fn is_short(duration: Option<Duration>) -> bool
+    ensures { result ≡ is_short duration }
+{
+    match duration {
+        None => true,
+        Some(duration) => duration.micros <= LONGEST,
+    }
+}
+
+// None above the longest.
+#[tactic(auto, unfolding(crate::specs::Numbers::lasting))]
+fn lasting(micros: i64) -> Option<Option<Duration>>
+    ensures value { result ≡ lasting micros }
+    ensures short { IfSome result IsShort }
+{
+    let duration = micros_in(micros);
+    if is_short(duration) {
+        Some(duration)
+    } else {
+        None
+    }
+}
+
+// None where the number is 0.
+fn byte_or_none(byte: u8) -> Option<u8>
+    ensures value { result ≡ byte_or_none byte }
+    ensures some { result ≡ Some 0 → ⊥ }
+{
+    if byte == 0 { None } else { Some(byte) }
+}
+
+/// Sets the user timeout in microseconds (RFC 9293, section 3.9.1), or none where the number is below 0. 0, or
+/// `ERROR_RANGE` above 2^61, where nothing changes; `ERROR_SOCKET`.
+#[unsafe(no_mangle)]
+pub extern "C" fn smoltcp_tcp_set_timeout_checked(s: &mut TcpSocket<'_>, micros: i64) -> i64
+    ensures refused { held s.old ≡ None → Refused s.old result s.new }
+    ensures far { (v : View) → held s.old ≡ Some v → lasting micros ≡ None
+        → (result ≡ error_range) × (s.new ≡ s.old) }
+    ensures set { (v : View) (d : Option Duration) → held s.old ≡ Some v → lasting micros ≡ Some d
+        → IsDone result (held s.new) (record v { timeout = d }) }
+{
+    let Some(parts) = parts_held(s) else {
+        return ERROR_SOCKET;
+    };
+    let Some(duration) = lasting(micros) else {
+        return ERROR_RANGE;
+    };
+    let mut socket = take(s, &parts, 0);
+    socket.set_timeout(duration);
+    put(s, socket);
+    OK
+}
+
+/// Sets the interval of keep-alives in microseconds (RFC 9293, section 3.8.4), or none where it is below 0. 0, or
+/// `ERROR_RANGE` above 2^61, where nothing changes; `ERROR_SOCKET`.
+#[unsafe(no_mangle)]
+pub extern "C" fn smoltcp_tcp_set_keep_alive_checked(s: &mut TcpSocket<'_>, micros: i64) -> i64
+    ensures refused { held s.old ≡ None → Refused s.old result s.new }
+    ensures far { (v : View) → held s.old ≡ Some v → lasting micros ≡ None
+        → (result ≡ error_range) × (s.new ≡ s.old) }
+    ensures set { (v : View) (d : Option Duration) → held s.old ≡ Some v → lasting micros ≡ Some d
+        → IsDone result (held s.new) (keep_alive_set v d) }
+{
+    let Some(parts) = parts_held(s) else {
+        return ERROR_SOCKET;
+    };
+    let Some(interval) = lasting(micros) else {
+        return ERROR_RANGE;
+    };
+    let mut socket = take(s, &parts, 0);
+    socket.set_keep_alive(interval);
+    put(s, socket);
+    OK
+}
+
+/// Sets how long an acknowledgement may wait, in microseconds, or lets none wait where it is below 0. 0, or
+/// `ERROR_RANGE` above 2^61, where nothing changes; `ERROR_SOCKET`.
+#[unsafe(no_mangle)]
+pub extern "C" fn smoltcp_tcp_set_ack_delay_checked(s: &mut TcpSocket<'_>, micros: i64) -> i64
+    ensures refused { held s.old ≡ None → Refused s.old result s.new }
+    ensures far { (v : View) → held s.old ≡ Some v → lasting micros ≡ None
+        → (result ≡ error_range) × (s.new ≡ s.old) }
+    ensures set { (v : View) (d : Option Duration) → held s.old ≡ Some v → lasting micros ≡ Some d
+        → IsDone result (held s.new) (record v { ack_delay = d }) }
+{
+    let Some(parts) = parts_held(s) else {
+        return ERROR_SOCKET;
+    };
+    let Some(duration) = lasting(micros) else {
+        return ERROR_RANGE;
+    };
+    let mut socket = take(s, &parts, 0);
+    socket.set_ack_delay(duration);
+    put(s, socket);
+    OK
+}
+
+/// Lets small segments wait while bytes are in flight (RFC 9293, section 3.7.4) where the number is not 0. 0, or
+/// `ERROR_SOCKET`.
+#[unsafe(no_mangle)]
+pub extern "C" fn smoltcp_tcp_set_nagle_enabled_checked(s: &mut TcpSocket<'_>, enabled: u8) -> i64
+    ensures refused { held s.old ≡ None → Refused s.old result s.new }
+    ensures set { (v : View) → held s.old ≡ Some v → IsDone result (held s.new) (record v { nagle = flag_in enabled }) }
+{
+    let Some(parts) = parts_held(s) else {
+        return ERROR_SOCKET;
+    };
+    let mut socket = take(s, &parts, 0);
+    socket.set_nagle_enabled(flag_in(enabled));
+    put(s, socket);
+    OK
+}
+
+/// Sets the hop limit of what is sent, or 64 where the number is 0. 0, or `ERROR_SOCKET`.
+#[unsafe(no_mangle)]
+pub extern "C" fn smoltcp_tcp_set_hop_limit_checked(s: &mut TcpSocket<'_>, hop_limit: u8) -> i64
+    ensures refused { held s.old ≡ None → Refused s.old result s.new }
+    ensures set { (v : View) → held s.old ≡ Some v → IsDone result (held s.new) (record v { hop_limit = byte_or_none hop_limit }) }
+{
+    let Some(parts) = parts_held(s) else {
+        return ERROR_SOCKET;
+    };
+    let mut socket = take(s, &parts, 0);
+    socket.set_hop_limit(byte_or_none(hop_limit));
+    put(s, socket);
+    OK
+}
