@@ -35,8 +35,10 @@ around bs k size w = take k bs ++ (w ++ drop size (drop k bs))
 
 -- a packet was appended, with w in the place of its bytes
 abbrev pub with_packet : {X : Type 0} → ℕ → X → Packets X → List ℕ → Packets X
-with_packet size h p w = with_all (appended (Some h) size (made_room size p)) (around p.storage (end_of (made_room size p)) size w)
+with_packet size h p w =
+    with_all (appended (Some h) size (made_room size p)) (around p.storage (end_of (made_room size p)) size w)
 
 abbrev pub LendsPacket : (H : RattleType) → ℕ → H.Denot → MutBor (Packets H.Denot) → Result (MutBor (List ℕ)) Full → Fml
 LendsPacket H size h p r =
-    LendsIfOk (the_row (record { mir = named 1; lft = [] }) (copied 0 H)) (Array u8 0) p r (with_packet size h p.now) (made_room size p.now)
+    LendsIfOk (the_row (record { mir = named 1; lft = [] }) (copied 0 H)) (Array u8 0) p r (with_packet size h p.now)
+    (made_room size p.now)

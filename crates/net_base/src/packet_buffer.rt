@@ -205,7 +205,8 @@ impl<'a, H: Copy> PacketBuffer<'a, H> {
         self.pad_for(size)
     }
 
-    // Appends a packet of `size` bytes as they stand in the storage. Answers whether there was room, and where they begin.
+    // Appends a packet of `size` bytes as they stand in the storage. Answers whether there was room, and where they
+    // begin.
     fn claim(&mut self, size: usize, header: H) -> (bool, usize)
         ensures { Claims size header self.old result.0 result.1 self.new }
     {

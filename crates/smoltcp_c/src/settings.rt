@@ -146,7 +146,8 @@ pub extern "C" fn smoltcp_tcp_set_nagle_enabled_checked(s: &mut TcpSocket<'_>, e
 #[unsafe(no_mangle)]
 pub extern "C" fn smoltcp_tcp_set_hop_limit_checked(s: &mut TcpSocket<'_>, hop_limit: u8) -> i64
     ensures refused { held s.old ≡ None → Refused s.old result s.new }
-    ensures set { (v : View) → held s.old ≡ Some v → IsDone result (held s.new) (record v { hop_limit = byte_or_none hop_limit }) }
+    ensures set { (v : View) → held s.old ≡ Some v
+        → IsDone result (held s.new) (record v { hop_limit = byte_or_none hop_limit }) }
 {
     let Some(parts) = parts_held(s) else {
         return ERROR_SOCKET;

@@ -19,8 +19,9 @@ pub struct ReceiveParts {
 }
 
 impl ReceiveParts {
-    /// Whether the queue and the ranges fit a slice of so many places, at most 2^30: the ranges lie in order behind the queue, apart
-    /// by at least one place, and not at the place behind the queue. A buffer can be made of these parts then.
+    /// Whether the queue and the ranges fit a slice of so many places, at most 2^30: the ranges lie in order behind the
+    /// queue, apart by at least one place, and not at the place behind the queue. A buffer can be made of these parts
+    /// then.
     pub fn lie_within(&self, size: usize) -> bool
         requires { size ≤ 2 ^ 30 }
         ensures { result ≡ lies_within self.now size }

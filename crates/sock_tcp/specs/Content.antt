@@ -171,4 +171,5 @@ finished v t f bytes plain =
 
 unfoldable pub content : View → Tuple → Facts → Option ℕ → List ℕ → Option Sending
 content v t f stamp bytes =
-    option_map (λ s. sent_as v t (emission_kind v (moment_of f) s) s) (filled v.state v t f bytes (plain_segment v t stamp))
+    option_map (λ s. sent_as v t (emission_kind v (moment_of f) s) s)
+    (filled v.state v t f bytes (plain_segment v t stamp))
