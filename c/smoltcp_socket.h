@@ -103,6 +103,13 @@ struct smoltcp_tcp {
     struct smoltcp_fields fields;
 };
 
+/* The sizes that the library has, which is for x86-64. */
+#if defined(__STDC_VERSION__) && __STDC_VERSION__ >= 201112L
+_Static_assert(sizeof(struct smoltcp_endpoint) == 24, "smoltcp_endpoint");
+_Static_assert(sizeof(struct smoltcp_context) == 40, "smoltcp_context");
+_Static_assert(sizeof(struct smoltcp_tcp) == 512, "smoltcp_tcp");
+#endif
+
 /* The calls of the library, which take no null pointers. */
 int64_t smoltcp_tcp_init_checked(struct smoltcp_tcp *s);
 int64_t smoltcp_tcp_listen_checked(struct smoltcp_tcp *s, const struct smoltcp_endpoint *endpoint);
