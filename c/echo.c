@@ -1,0 +1,162 @@
+/* A TCP echo (port 7) and a page (port 80) at 10.9.0.2 on a TUN device of Linux.
+ *
+ *     echo DEVICE SECONDS
+ *
+ * makes the device, which then has to be given the address 10.9.0.1/24 and set up, and ends after so many seconds. */
+#define _DEFAULT_SOURCE
+#include <fcntl.h>
+#include <linux/if_tun.h>
+#include <net/if.h>
+#include <poll.h>
+#include <stdio.h>
+#include <stdlib.h>
+#include <string.h>
+#include <sys/ioctl.h>
+#include <sys/random.h>
+#include <time.h>
+#include <unistd.h>
+
+#include "smoltcp_socket.h"
+
+enum { SOCKETS = 16, ROOM = 65536, MTU = 1500, TURN = 64, MICROS = 1000000 };
+
+/* A connection: its socket, the socket's buffers, and what was read and is not answered yet. */
+static struct connection {
+    struct smoltcp_tcp tcp;
+    uint8_t rx[ROOM], tx[ROOM], kept[ROOM];
+    size_t begin, end;
+    int port;
+} connections[SOCKETS];
+
+static struct smoltcp_context cx = {0, 0, 0, MTU, {10, 9, 0, 2}, {0}};
+static int device;
+
+static int64_t now(void) {
+    struct timespec t;
+    clock_gettime(CLOCK_MONOTONIC, &t);
+    return (int64_t)t.tv_sec * MICROS + t.tv_nsec / 1000;
+}
+
+static int open_device(const char *name) {
+    struct ifreq request;
+    memset(&request, 0, sizeof request);
+    request.ifr_flags = IFF_TUN | IFF_NO_PI;
+    strncpy(request.ifr_name, name, IFNAMSIZ - 1);
+    device = open("/dev/net/tun", O_RDWR | O_NONBLOCK);
+    return device >= 0 && ioctl(device, TUNSETIFF, &request) == 0;
+}
+
+/* A closed socket listens anew. Bytes of an earlier connection are gone. */
+static void listen_again(struct connection *c) {
+    struct smoltcp_endpoint at;
+    if (smoltcp_tcp_state(&c->tcp) != SMOLTCP_CLOSED) return;
+    memset(&at, 0, sizeof at);
+    at.port = (uint16_t)c->port;
+    c->begin = c->end = 0;
+    smoltcp_tcp_listen(&c->tcp, &at);
+}
+
+static void make(struct connection *c, int port) {
+    c->port = port;
+    c->tcp.rx = c->rx; c->tcp.rx_len = ROOM; c->tcp.tx = c->tx; c->tcp.tx_len = ROOM;
+    smoltcp_tcp_init(&c->tcp);
+    smoltcp_tcp_set_timeout(&c->tcp, 60 * (int64_t)MICROS);
+    smoltcp_tcp_set_keep_alive(&c->tcp, 15 * (int64_t)MICROS);
+}
+
+/* Sends what is kept, as far as there is room. Answers whether all is sent. */
+static int send_kept(struct connection *c) {
+    int64_t n = smoltcp_tcp_send(&c->tcp, c->kept + c->begin, c->end - c->begin);
+    if (n > 0) c->begin += (size_t)n;
+    if (c->begin == c->end) c->begin = c->end = 0;
+    return c->end == 0;
+}
+
+/* Keeps what has come behind a whole answer, and answers what the read answered. */
+static int64_t keep(struct connection *c) {
+    int64_t n = smoltcp_tcp_recv(&c->tcp, c->kept + c->end, ROOM - c->end);
+    if (n > 0) c->end += (size_t)n;
+    return n;
+}
+
+static void serve_echo(struct connection *c) {
+    int turn;
+    for (turn = 0; turn < TURN && send_kept(c); turn++) {
+        int64_t n = keep(c);
+        if (n == SMOLTCP_ERROR_FINISHED) smoltcp_tcp_close(&c->tcp);
+        if (n <= 0) return;
+    }
+}
+
+static void serve_page(struct connection *c) {
+    static const char page[] = "HTTP/1.1 200 OK\r\nContent-Type: text/plain\r\nContent-Length: 32\r\n"
+                               "Connection: close\r\n\r\nProved TCP sockets, out of a C.\n";
+    int64_t n = keep(c);
+    if (n == SMOLTCP_ERROR_FINISHED) smoltcp_tcp_close(&c->tcp);
+    if (c->end < 4 || memcmp(c->kept + c->end - 4, "\r\n\r\n", 4) != 0) {
+        if (c->end == ROOM) smoltcp_tcp_abort(&c->tcp);
+        return;
+    }
+    smoltcp_tcp_send(&c->tcp, (const uint8_t *)page, sizeof page - 1);
+    smoltcp_tcp_close(&c->tcp);
+    c->end = 0;
+}
+
+/* Gives what has arrived to the socket that it is for, and sends its answer. */
+static void take_packets(void) {
+    uint8_t packet[MTU], reply[MTU];
+    int turn, i;
+    for (turn = 0; turn < TURN; turn++) {
+        ssize_t len = read(device, packet, sizeof packet);
+        if (len <= 0) return;
+        for (i = 0; i < SOCKETS; i++) {
+            int64_t n = smoltcp_tcp_process(&connections[i].tcp, &cx, packet, (size_t)len, reply, sizeof reply);
+            if (n > 0 && write(device, reply, (size_t)n) < 0) perror("write");
+            if (n != SMOLTCP_NOT_ACCEPTED) break;
+        }
+    }
+}
+
+static void emit_packets(struct connection *c) {
+    uint8_t packet[MTU];
+    int turn;
+    for (turn = 0; turn < TURN; turn++) {
+        int64_t len = smoltcp_tcp_dispatch(&c->tcp, &cx, packet, sizeof packet);
+        if (len <= 0) return;
+        if (write(device, packet, (size_t)len) < 0) perror("write");
+    }
+}
+
+/* Waits for a packet, or until a socket wants its dispatch; at most a second. */
+static void wait_for_work(void) {
+    struct pollfd fd = {device, POLLIN, 0};
+    int64_t earliest = cx.now + MICROS;
+    int i;
+    for (i = 0; i < SOCKETS; i++) {
+        int64_t at = smoltcp_tcp_poll_at(&connections[i].tcp, &cx);
+        if (at < earliest) earliest = at;
+    }
+    poll(&fd, 1, earliest <= cx.now ? 0 : (int)((earliest - cx.now + 999) / 1000));
+}
+
+int main(int argc, char **argv) {
+    int64_t end;
+    int i;
+    if (argc != 3) return fprintf(stderr, "usage: echo DEVICE SECONDS\n"), 1;
+    if (!open_device(argv[1])) return perror(argv[1]), 2;
+    end = now() + atoi(argv[2]) * (int64_t)MICROS;
+    for (i = 0; i < SOCKETS; i++) make(&connections[i], i < SOCKETS / 2 ? 7 : 80);
+    while ((cx.now = now()) < end) {
+        cx.tsval = (uint32_t)(cx.now / 1000);
+        if (getrandom(&cx.word, sizeof cx.word, 0) != sizeof cx.word) return perror("getrandom"), 2;
+        take_packets();
+        for (i = 0; i < SOCKETS; i++) {
+            struct connection *c = &connections[i];
+            listen_again(c);
+            if (c->port == 7) serve_echo(c); else serve_page(c);
+            emit_packets(c);
+        }
+        wait_for_work();
+    }
+    return 0;
+}
