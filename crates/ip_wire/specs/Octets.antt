@@ -15,3 +15,7 @@ be32 n = be16 (n / 65536) ++ be16 n
 -- the number at offset i
 abbrev pub be16_at : List ℕ → ℕ → ℕ
 be16_at octets i = 256 * slice_index octets i + slice_index octets (i + 1)
+
+-- the number of the four octets at offset i
+abbrev pub be32_at : List ℕ → ℕ → ℕ
+be32_at octets i = 65536 * be16_at octets i + be16_at octets (i + 2)

@@ -1,6 +1,6 @@
 -- Ones' complement sums of 16-bit words, and the checksums that they give (RFC 1071).
 use Rattle.ip_wire.specs.Address.{octets_of}
-use Rattle.ip_wire.specs.Octets.{be16_at, be32}
+use Rattle.ip_wire.specs.Octets.{be32, be32_at}
 use Rattle.ip_wire.specs.declared.address.IpAddress.{IpAddress}
 use Rattle.std.specs.Prelude.{ℕ, ◌++◌, ◌+◌, ◌-◌, ◌*◌, ◌%◌, ◌^◌, List, [], ◌∷◌, nat_eq, nat_lt, if◌then◌else◌}
 use Rattle.std.specs.Prelude.{◌≡◌}
@@ -19,9 +19,9 @@ sum_after start (high ∷ low ∷ rest) = sum_after (ones_add start (256 * high 
 abbrev pub word_of : ℕ → ℕ
 word_of total = if nat_eq total 0 then 0 else (total - 1) % 65535 + 1
 
--- the sum of the four words from an offset on
+-- the sum of the four numbers of four octets each from an offset on
 abbrev pub four_at : List ℕ → ℕ → ℕ
-four_at octets i = be16_at octets i + be16_at octets (i + 2) + be16_at octets (i + 4) + be16_at octets (i + 6)
+four_at octets i = be32_at octets i + be32_at octets (i + 4) + be32_at octets (i + 8) + be32_at octets (i + 12)
 
 -- the complement of a sum
 abbrev pub complement : ℕ → ℕ

@@ -1,6 +1,6 @@
 //! Numbers of two bytes in network order, the high byte first.
-ghost use Rattle.std.specs.Prelude.{◌≡◌, ◌+◌, ◌*◌, ◌<◌, ◌≤◌, ◌++◌, drop, take, length};
-ghost use Rattle.ip_wire.specs.Octets.{be16, be16_at};
+ghost use Rattle.std.specs.Prelude.{◌≡◌, ◌+◌, ◌*◌, ◌<◌, ◌≤◌, ◌^◌, ◌++◌, drop, take, length};
+ghost use Rattle.ip_wire.specs.Octets.{be16, be16_at, be32_at};
 
 /// The number of two bytes, the high one first.
 pub fn word(high: u8, low: u8) -> u16
@@ -23,6 +23,15 @@ pub fn be16_at(bytes: &[u8], at: usize) -> usize
     ensures small { result < 65536 }
 {
     256 * bytes[at] as usize + bytes[at + 1] as usize
+}
+
+/// The number of the four bytes at `at`.
+pub fn be32_at(bytes: &[u8], at: usize) -> usize
+    requires { at + 4 ≤ length bytes.now }
+    ensures value { result ≡ be32_at bytes.now at }
+    ensures small { result < 2 ^ 32 }
+{
+    65536 * be16_at(bytes, at) + be16_at(bytes, at + 2)
 }
 
 /// The bytes from `at` on.

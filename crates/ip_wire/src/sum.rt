@@ -5,7 +5,7 @@ ghost use Rattle.ip_wire.specs.Address.{octets_of};
 ghost use Rattle.ip_wire.specs.Sum.{IsEven, all_ones, complement, four_at, ones_add, pseudo_sum, sum_after, word_of};
 
 use crate::address::IpAddress;
-use crate::octets::{be16, be16_at, word};
+use crate::octets::{be16, be32_at, word};
 
 /// The sum of two words, a carry out of the sixteen bits added at the other end.
 pub fn ones_add(a: u16, b: u16) -> u16
@@ -25,49 +25,98 @@ pub fn ones_add(a: u16, b: u16) -> u16
 pub fn sum_after(start: u16, bytes: &[u8]) -> u16
     ensures { result ≡ sum_after start bytes.now }
 {
-    let mut sum = start;
+    let mut total = start as usize;
     let mut at = 0;
-    while bytes.len() - at >= 16 {
-        sum = add_sixteen(sum, bytes, at);
-        at += 16;
+    while bytes.len() - at >= 64 {
+        total = add_sixty_four(total, bytes, at);
+        at += 64;
     }
-    while at + 1 < bytes.len() {
-        sum = ones_add(sum, word(bytes[at], bytes[at + 1]));
-        at += 2;
+    while bytes.len() - at >= 4 {
+        total = add_four(total, bytes, at);
+        at += 4;
     }
-    if at < bytes.len() {
-        sum = ones_add(sum, word(bytes[at], 0));
-    }
-    sum
+    sum_of_rest(folded(total), bytes, at)
 }
 
-// Adds the eight words from `at` on: they are summed wide, and the carries are added once.
-fn add_sixteen(sum: u16, bytes: &[u8], at: usize) -> u16
-    requires { at + 16 ≤ length bytes.now }
-    ensures { sum_after result (drop (at + 16) bytes.now) ≡ sum_after sum (drop at bytes.now) }
+// Adds the 64 bytes from `at` on to a wide sum. Two words are added as one number of 32 bits, which comes to the same
+// sum, since 65536 comes to 1.
+fn add_sixty_four(total: usize, bytes: &[u8], at: usize) -> usize
+    requires small { total < 2 ^ 33 }
+    requires room { at + 64 ≤ length bytes.now }
+    ensures value { sum_after (word_of result) (drop (at + 64) bytes.now)
+        ≡ sum_after (word_of total) (drop at bytes.now) }
+    ensures small { result < 2 ^ 33 }
 {
-    folded(sum as usize + four_at(bytes, at) + four_at(bytes, at + 8))
+    let first = four_at(bytes, at) + four_at(bytes, at + 16);
+    let second = four_at(bytes, at + 32) + four_at(bytes, at + 48);
+    halved(total + first + second)
 }
 
-// The sum of the four words from `at` on.
+fn add_four(total: usize, bytes: &[u8], at: usize) -> usize
+    requires small { total < 2 ^ 33 }
+    requires room { at + 4 ≤ length bytes.now }
+    ensures value { sum_after (word_of result) (drop (at + 4) bytes.now)
+        ≡ sum_after (word_of total) (drop at bytes.now) }
+    ensures small { result < 2 ^ 33 }
+{
+    halved(total + be32_at(bytes, at))
+}
+
+// The sum of the four numbers from `at` on.
 fn four_at(bytes: &[u8], at: usize) -> usize
-    requires { at + 8 ≤ length bytes.now }
+    requires { at + 16 ≤ length bytes.now }
     ensures value { result ≡ four_at bytes.now at }
-    ensures small { result < 2 ^ 18 }
+    ensures small { result < 2 ^ 34 }
 {
-    be16_at(bytes, at) + be16_at(bytes, at + 2) + be16_at(bytes, at + 4) + be16_at(bytes, at + 6)
+    be32_at(bytes, at) + be32_at(bytes, at + 4) + be32_at(bytes, at + 8) + be32_at(bytes, at + 12)
+}
+
+// A wide sum with its upper half added to the lower one: it comes to the same word.
+fn halved(total: usize) -> usize
+    requires { total < 2 ^ 40 }
+    ensures value { word_of result ≡ word_of total }
+    ensures small { result < 2 ^ 33 }
+{
+    total % 0x1_0000_0000 + total / 0x1_0000_0000
 }
 
 // A wide sum as a word, each carry added at the other end.
 fn folded(total: usize) -> u16
-    requires { total < 2 ^ 20 }
+    requires { total < 2 ^ 33 }
     ensures { result ≡ word_of total }
 {
     let once = total % 0x10000 + total / 0x10000;
-    if once < 0x10000 {
-        once as u16
+    let twice = once % 0x10000 + once / 0x10000;
+    if twice < 0x10000 {
+        twice as u16
     } else {
-        (once - 0xffff) as u16
+        (twice - 0xffff) as u16
+    }
+}
+
+// Adds the last bytes, fewer than four.
+fn sum_of_rest(sum: u16, bytes: &[u8], at: usize) -> u16
+    requires within { at ≤ length bytes.now }
+    requires few { length bytes.now < at + 4 }
+    ensures { result ≡ sum_after sum (drop at bytes.now) }
+{
+    if at + 1 >= bytes.len() {
+        return sum_of_last(sum, bytes, at);
+    }
+    let sum = ones_add(sum, word(bytes[at], bytes[at + 1]));
+    sum_of_last(sum, bytes, at + 2)
+}
+
+// Adds the last byte, if there is one.
+fn sum_of_last(sum: u16, bytes: &[u8], at: usize) -> u16
+    requires within { at ≤ length bytes.now }
+    requires few { length bytes.now ≤ at + 1 }
+    ensures { result ≡ sum_after sum (drop at bytes.now) }
+{
+    if at < bytes.len() {
+        ones_add(sum, word(bytes[at], 0))
+    } else {
+        sum
     }
 }
 

@@ -2,7 +2,7 @@
 -- RFC 2018, sections 2 and 3).
 use Rattle.std.specs.Prelude.{ℕ, zero, suc, ◌+◌, ◌-◌, ◌*◌, ◌==◌, ◌||◌, nat_le, Bool, true, false, if◌then◌else◌}
 use Rattle.std.specs.Prelude.{List, [], ◌∷◌, ◌++◌, length, take, slice_index, Option, Some, None, is_some, count_by}
-use Rattle.ip_wire.specs.Octets.{be16, be16_at, be32}
+use Rattle.ip_wire.specs.Octets.{be16, be16_at, be32, be32_at}
 use Rattle.control_wire.specs.Segment.{Segment, options_len, segment_header_len}
 use Rattle.control_wire.specs.Source.{is_option}
 use Rattle.control_wire.specs.declared.tcp.TcpTimestampRepr.{TcpTimestampRepr}
@@ -64,10 +64,6 @@ no_options =
       sack_ranges = None ∷ None ∷ None ∷ [];
       timestamp = None;
     }
-
--- a number of four octets, the highest first
-abbrev pub be32_at : List ℕ → ℕ → ℕ
-be32_at octets i = 65536 * be16_at octets i + be16_at octets (i + 2)
 
 -- a shift above 14 is read as 14 (RFC 7323, section 2.3)
 abbrev pub shift_of : ℕ → ℕ

@@ -1,7 +1,7 @@
 -- TCP segments as octets, written and read (RFC 9293, section 3.1).
 use Rattle.std.specs.Prelude.{ℕ, ◌+◌, ◌-◌, ◌*◌, ◌/◌, ◌%◌, ◌==◌, ◌&&◌, ◌||◌, nat_le, not, Bool, if◌then◌else◌}
 use Rattle.std.specs.Prelude.{List, ◌∷◌, ◌++◌, length, take, drop, slice_index, Option, Some, None, Result, Ok, Err}
-use Rattle.ip_wire.specs.Octets.{be16, be16_at, be32}
+use Rattle.ip_wire.specs.Octets.{be16, be16_at, be32, be32_at}
 use Rattle.ip_wire.specs.Sum.{complement, pseudo_sum, sum_after}
 use Rattle.ip_wire.specs.declared.address.IpAddress.{IpAddress}
 use Rattle.ip_wire.specs.declared.malformed.Error.{Error}
@@ -11,7 +11,7 @@ use Rattle.control_wire.specs.Source.{at_most_one, sum_holds, tcp_header_len}
 use Rattle.control_wire.specs.declared.seq_number.TcpSeqNumber.{TcpSeqNumber}
 use Rattle.control_wire.specs.declared.tcp.TcpControl.{TcpControl}
 use Rattle.control_wire.specs.declared.tcp.TcpControl.TheVariants as control
-use Rattle.segment_wire.specs.Options.{be32_at, no_options, options_octets, options_read}
+use Rattle.segment_wire.specs.Options.{no_options, options_octets, options_read}
 use Rattle.segment_wire.specs.declared.options.TcpOptions.{TcpOptions}
 
 -- FIN, SYN, RST and PSH are the four low bits

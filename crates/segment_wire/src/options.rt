@@ -1,9 +1,9 @@
 //! The options of a TCP header (RFC 9293, section 3.2; RFC 7323, sections 2.2 and 3.2; RFC 2018, sections 2 and 3).
 ghost use Rattle.std.specs.Prelude.{◌≡◌, ◌+◌, ◌≤◌, ◌≢◌, ◌++◌, IsTrue, length, take, true, is_some};
+ghost use Rattle.ip_wire.specs.Octets.{be32_at};
 ghost use Rattle.control_wire.specs.Segment.{segment_of};
 ghost use Rattle.control_wire.specs.Source.{is_option};
 ghost use Rattle.segment_wire.specs.Options.{
-  be32_at,
   mss_octets,
   no_options,
   option_size,
@@ -21,7 +21,7 @@ ghost use Rattle.segment_wire.specs.Options.{
 
 use control_wire::TcpTimestampRepr;
 use control_wire::source::is_option;
-use ip_wire::octets::{behind, word};
+use ip_wire::octets::{self, behind, word};
 
 /// The options of a segment that are known here.
 #[derive(Clone, Copy)]
@@ -155,5 +155,5 @@ pub fn be32_at(bytes: &[u8], at: usize) -> u32
     requires { at + 4 ≤ length bytes.now }
     ensures { result ≡ be32_at bytes.now at }
 {
-    65536 * word(bytes[at], bytes[at + 1]) as u32 + word(bytes[at + 2], bytes[at + 3]) as u32
+    octets::be32_at(bytes, at) as u32
 }
