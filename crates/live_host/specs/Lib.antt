@@ -1,2 +1,1 @@
-pub mod Pcap
 pub mod Words

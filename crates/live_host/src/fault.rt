@@ -2,7 +2,7 @@
 ghost use Rattle.std.specs.Prelude.{◌≡◌};
 ghost use Rattle.live_host.specs.declared.fault.Fault.TheVariants as fault;
 
-use crate::pcap::PcapError;
+use pcap::stream::PcapError;
 use thiserror::Error;
 
 /// Why the program failed.

@@ -3,10 +3,10 @@ ghost use Rattle.std.specs.Prelude.{◌≤◌, length};
 
 use crate::interface::Interface;
 use crate::outbox::Full;
-use crate::pcap::LONGEST;
 use crate::service::{SERVICES, Service};
 use crate::slot::Slot;
 use ip_wire::{Error, IpVersion, Ipv4Packet, Ipv6Packet};
+use pcap::stream::LONGEST;
 use segment_wire::{tcp as segment, udp as datagram};
 use smoltcp_socket::tcp::State;
 use smoltcp_socket::wire::{

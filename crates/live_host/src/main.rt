@@ -10,7 +10,6 @@ mod http;
 mod interface;
 mod outbox;
 mod page;
-mod pcap;
 mod request;
 mod run;
 mod service;

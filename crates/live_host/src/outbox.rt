@@ -2,7 +2,7 @@
 ghost use Rattle.std.specs.Prelude.{◌≡◌, ◌≤◌, ◌+◌, length};
 ghost use Rattle.std.specs.Result.{IfOk};
 
-use crate::pcap::{LONGEST, RECORD, put_record_header};
+use pcap::stream::{LONGEST, RECORD, put_record_header};
 use segment_wire::packet;
 use smoltcp_socket::wire::{
     ChecksumCapabilities, Icmpv4Repr, Icmpv6Repr, IpProtocol, IpRepr, Ipv4Repr, Ipv6Repr, TcpRepr,

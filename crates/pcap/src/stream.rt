@@ -1,10 +1,10 @@
 //! The pcap format (draft-ietf-opsawg-pcap): a header of 24 bytes, and then packets, each behind a header of 16 bytes.
 ghost use Rattle.std.specs.Prelude.{◌≡◌, ◌<◌, ◌≤◌, ◌+◌, ◌*◌, ◌^◌, ◌++◌, ℕ, length, drop, true, false, Ok};
-ghost use Rattle.ip_wire.specs.Octets.{be32};
-ghost use Rattle.live_host.specs.Pcap.{be32_at, le32_at, number_at, format_of, record_of, magic_of};
-ghost use Rattle.live_host.specs.Pcap.{stream_header, record_header, micros_of};
+ghost use Rattle.ip_wire.specs.Octets.{be32, be32_at};
+ghost use Rattle.pcap.specs.Pcap.{le32_at, number_at, format_of, record_of, magic_of};
+ghost use Rattle.pcap.specs.Pcap.{stream_header, record_header, micros_of};
 
-use ip_wire::octets::{be16, be16_at, put_three};
+use ip_wire::octets::{be16, be32_at, put_three};
 use thiserror::Error;
 
 /// The length of a stream's header, in bytes.
@@ -118,14 +118,6 @@ fn of_magic(magic: usize) -> Result<Format, PcapError>
         _ => return Err(PcapError::Magic),
     };
     Ok(Format { little, nanos })
-}
-
-fn be32_at(bytes: &[u8], at: usize) -> usize
-    requires { at + 4 ≤ length bytes.now }
-    ensures value { result ≡ be32_at bytes.now at }
-    ensures small { result < 2 ^ 32 }
-{
-    65536 * be16_at(bytes, at) + be16_at(bytes, at + 2)
 }
 
 fn le32_at(bytes: &[u8], at: usize) -> usize

@@ -1,16 +1,13 @@
 -- The pcap format: the header of a stream, and the header of each record.
 use Rattle.std.specs.Prelude.{ℕ, ◌+◌, ◌*◌, ◌/◌, ◌%◌, ◌^◌, ◌≤◌, nat_eq, nat_le, nat_lt, if◌then◌else◌, Bool, true, false}
 use Rattle.std.specs.Prelude.{List, [], ◌∷◌, ◌++◌, slice_index, Result, Ok, Err}
-use Rattle.ip_wire.specs.Octets.{be16, be32, be16_at}
-use Rattle.live_host.specs.declared.pcap.Format.{Format}
-use Rattle.live_host.specs.declared.pcap.Record.{Record}
-use Rattle.live_host.specs.declared.pcap.PcapError.{PcapError}
-use Rattle.live_host.specs.declared.pcap.PcapError.TheVariants as error
+use Rattle.ip_wire.specs.Octets.{be16, be32, be32_at}
+use Rattle.pcap.specs.declared.stream.Format.{Format}
+use Rattle.pcap.specs.declared.stream.Record.{Record}
+use Rattle.pcap.specs.declared.stream.PcapError.{PcapError}
+use Rattle.pcap.specs.declared.stream.PcapError.TheVariants as error
 
--- the four octets at an offset as a number, the highest first, or the lowest
-abbrev pub be32_at : List ℕ → ℕ → ℕ
-be32_at octets i = 65536 * be16_at octets i + be16_at octets (i + 2)
-
+-- the four octets at an offset as a number, the lowest first
 abbrev pub le32_at : List ℕ → ℕ → ℕ
 le32_at octets i = slice_index octets i + 256 * slice_index octets (i + 1)
     + 65536 * slice_index octets (i + 2) + 16777216 * slice_index octets (i + 3)
