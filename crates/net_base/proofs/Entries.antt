@@ -4,7 +4,7 @@ use Rattle.std.proofs.lemmas.Bool.{cases_lt}
 use Rattle.std.proofs.lemmas.Bool.Decides.{nat_tests}
 use Rattle.std.specs.Prelude.{◌==◌}
 use Rattle.std.proofs.lemmas.List.{take-take, drop-take, take_all, drop_all, take-append-le, drop-append-le, same_lists, places}
-use Rattle.net_base.specs.Ring.{Ring, ring, ring_of, cells_from, overwrite, capacity_of, LeavesRun}
+use Rattle.net_base.specs.Ring.{Ring, ring, ring_of, cells_from, overwrite, capacity_of, shortened, LeavesRun}
 use Rattle.net_base.specs.Packets.{Packets, packets_with, taken, place_of, end_of, run_of, room_of, first_bytes, first_header, with_first, WritesFirst, without_first, restarted, fits, appended, AppendsWith}
 use Rattle.net_base.specs.PacketsInside.{cut, sizes, Laid, packets_of, IsLaid}
 use Rattle.net_base.specs.declared.packet_buffer.PacketMetadata.{PacketMetadata}
@@ -12,7 +12,7 @@ use Rattle.net_base.specs.Packets.{recut, with_storage}
 use Rattle.net_base.specs.PacketLends.{with_all}
 use Rattle.std.specs.List.{refill}
 use Rattle.net_base.proofs.Refilled.{refill_same}
-use Rattle.net_base.proofs.Cells.{length-cells, run_joined, cells_more, ring_dequeued}
+use Rattle.net_base.proofs.Cells.{length-cells, run_joined, cells_more, queue_dequeued}
 use Rattle.net_base.proofs.Around.{place_of-high, place_of-low, place_of-place_of, place_of-within}
 use Rattle.net_base.proofs.PacketLists.{restarted-none, restarted-some}
 
@@ -114,7 +114,7 @@ module _ {X : Type 0} where
       abbrev entry : PacketMetadata X
       entry = record { size = kept; header = header }
 
-      bytes_after : ring_of k (n + kept) ys ≡ ring (take n (cells_from k bytes) ++ take kept left.left) (drop kept (overwrite (drop n (cells_from k bytes)) 0 left.left))
+      bytes_after : ring_of k (n + kept) ys ≡ ring (take n (cells_from k bytes) ++ take kept left.left) (drop kept (overwrite (drop n (cells_from k bytes)) 0 left.left)) (length bytes - k)
       bytes_after =
           let f = run-view size fits in let e = left.left_length in
           run_joined k n at kept bytes ys left.left (ring_of k n bytes) refl (within, laid.length_within) low high (omega (arith, f.0)) (omega (arith, f.1, at_is)) (omega arith) left.after
@@ -129,7 +129,7 @@ module _ {X : Type 0} where
       length-kept : length (take kept left.left) ≡ kept
       length-kept = let e = left.left_length in length-take-le kept left.left (omega arith)
 
-      module _ (ns : Ring (PacketMetadata X)) (ns_is : ns ≡ ring (ms.queue ++ entry ∷ []) (drop 1 ms.spare)) where
+      module _ (ns : Ring (PacketMetadata X)) (ns_is : ns ≡ ring (ms.queue ++ entry ∷ []) (drop 1 ms.spare) ms.until_end) where
         queue_is : ns.queue ≡ ms.queue ++ entry ∷ []
         queue_is = ap (λ (r : Ring (PacketMetadata X)). r.queue) ns_is
 
@@ -193,7 +193,7 @@ module _ {X : Type 0} where
       stays_long : length (take size (drop at bytes)) ≤ size
       stays_long = omega (arith, length-take size (drop at bytes))
 
-      module _ (ns : Ring (PacketMetadata X)) (ns_is : ns ≡ ring (ms.queue ++ record { size = size; header = header } ∷ []) (drop 1 ms.spare)) where
+      module _ (ns : Ring (PacketMetadata X)) (ns_is : ns ≡ ring (ms.queue ++ record { size = size; header = header } ∷ []) (drop 1 ms.spare) ms.until_end) where
         pub laid_appended : IsLaid ns bytes k (n + size)
         laid_appended = laid_after (λ s r l. Unit {0}) size at header size bytes fits (omega arith) at_is stays low high ns ns_is
 
@@ -252,7 +252,7 @@ module _ {X : Type 0} where
       size_is : length (first_bytes p.entries) ≡ m.size
       size_is = let t = total_is in let l = length-bytes in ap (λ (es : List (Option X × List ℕ)). length (first_bytes es)) entries-view ∙ length-take-le m.size (take n (cells_from k bytes)) (omega arith)
 
-      module _ (ns : Ring (PacketMetadata X)) (at : ℕ) (ns_is : ns ≡ ring (drop 1 ms.queue) (ms.spare ++ take 1 ms.queue)) (at_is : at ≡ place_of (length bytes) k m.size) where
+      module _ (ns : Ring (PacketMetadata X)) (at : ℕ) (ns_is : ns ≡ shortened ms 1) (at_is : at ≡ place_of (length bytes) k m.size) where
         next_queue : ns.queue ≡ rest
         next_queue = ap (λ (r : Ring (PacketMetadata X)). r.queue) ns_is ∙ ap (λ (l : List (PacketMetadata X)). drop 1 l) starts
 
@@ -272,7 +272,7 @@ module _ {X : Type 0} where
             let moved : cells_from at bytes ≡ drop m.size (cells_from k bytes) ++ take m.size (cells_from k bytes) =
             cells_more k m.size at bytes within (omega arith) (λ low. at_is ∙ place_of-low (length bytes) k m.size low) (λ high. let e = place_of-high (length bytes) k m.size high in omega (arith, at_is)) in
             ap (λ (l : List ℕ). take (n - m.size) l) moved
-            ∙ ap (λ (r : Ring ℕ). r.queue) (ring_dequeued n m.size (cells_from k bytes) (omega arith) (omega arith))
+            ∙ queue_dequeued n m.size (cells_from k bytes) (omega arith) (omega arith)
 
         pub view_dropped : packets_of ns bytes at (n - m.size) ≡ without_first p
         view_dropped =

@@ -9,3 +9,4 @@ pub mod ReadOn
 pub mod Refilled
 pub mod Sets
 pub mod Taken
+pub mod Written

@@ -1,4 +1,4 @@
--- What a packet buffer ends as, where a call lends a part of it for reading.
+-- What a packet buffer ends as, where a call lends a part of it.
 use Rattle.std.specs.Prelude.{◌≡◌, ℕ, List, length, take, drop, ◌++◌, Some, Result, ⊤}
 use Rattle.std.specs.Borrow.{follows_so, Lends, LendsIfOk, MutBor, Fml, RattleType, Array, u8}
 use Rattle.std.specs.List.{refill}
@@ -42,3 +42,9 @@ abbrev pub LendsPacket : (H : RattleType) → ℕ → H.Denot → MutBor (Packet
 LendsPacket H size h p r =
     LendsIfOk (the_row (record { mir = named 1; lft = [] }) (copied 0 H)) (Array u8 0) p r (with_packet size h p.now)
     (made_room size p.now)
+
+-- the size bytes from k on end as w
+abbrev pub LendsPart : (H : RattleType) → ℕ → ℕ → MutBor (Packets H.Denot) → MutBor (List ℕ) → Fml
+LendsPart H k size p r =
+    Lends (the_row (record { mir = named 1; lft = [] }) (param 0 H)) (Array u8 0) p r
+    (λ w. with_all p.now (around p.now.storage k size w))

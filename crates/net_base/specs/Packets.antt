@@ -131,19 +131,27 @@ recut (e ∷ es) bs = (e.0, take (length e.1) bs) ∷ recut es (drop (length e.1
 abbrev pub with_storage : {X : Type 0} → Packets X → List ℕ → Packets X
 with_storage p bs = packets_with (recut p.entries (drop p.start bs ++ take p.start bs)) p.places bs p.start
 
+-- an entry of these bytes, which are written behind the others
+abbrev pub written_behind : {X : Type 0} → Option X → List ℕ → Packets X → Packets X
+written_behind header bs p =
+    packets_with (p.entries ++ (header, bs) ∷ []) p.places (overwrite p.storage (end_of p) bs) p.start
+
 -- the first packet left, with the padding in front of it
 pub record Dequeues {X : Type 0} (old new : Packets X) : Type 0 where
   pub some : 0 < length (skipped old).entries → new ≡ without_first (skipped old)
   pub none : length (skipped old).entries ≡ 0 → new ≡ skipped old
   pub packets : packets new.entries ≡ drop 1 (packets old.entries)
 
--- room was made, and where there was room a packet of the size bytes behind the entries was appended
+-- room was made, and where there was room a packet of the size bytes behind the entries was appended; what is then
+-- written over these bytes is the packet
 pub record Claims {X : Type 0} (size : ℕ) (header : X) (old : Packets X) (taken : Bool) (from : ℕ) (new : Packets X) : Type 0 where
   pub variant : taken ≡ takes size old
   pub err : taken ≡ false → new ≡ made_room size old
   pub place : taken ≡ true → from ≡ end_of (made_room size old)
   pub after : taken ≡ true → new ≡ appended (Some header) size (made_room size old)
   pub within : taken ≡ true → from + size ≤ length new.storage
+  pub written : taken ≡ true → (left : List ℕ) → length left ≡ size → with_storage new (overwrite new.storage from left)
+      ≡ written_behind (Some header) left (made_room size old)
 
 -- a call that was lent the size bytes behind the entries left `left` there, and of these the first `kept` became an
 -- entry

@@ -3,6 +3,7 @@
 
 pub mod assembler;
 pub mod packet_buffer;
+mod packet_part;
 pub mod ring_buffer;
 pub mod time;
 

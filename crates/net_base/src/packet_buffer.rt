@@ -5,8 +5,8 @@
 ghost use Rattle.std.specs.Prelude.{◌≡◌, ℕ, ◌+◌, ◌-◌, ◌<◌, ◌≤◌, ◌==◌, ◌&&◌, nat_le, ◌↔◌, List, [], ◌∷◌, ◌++◌, length, take, drop, min, true, false, Some, None, IfOk, IfSome, OnErr, IsOk, IsSome, IsTrue, if◌then◌else◌};
 ghost use Rattle.std.specs.Fn.{FnOnceReturnsAtMut};
 ghost use Rattle.std.specs.Borrow.{sem};
-ghost use Rattle.net_base.specs.Ring.{LeavesRun};
-ghost use Rattle.net_base.specs.Packets.{Packets, packets_with, packets, headers, taken, end_of, run_of, room_of, first_bytes, first_header, starts_padded, without_first, skipped, appended, restarted, fits, padded_for, made_room, takes, first_packet, Dequeues, Claims, WritesBoth, WritesFirst, TakesFirst, AppendsWith, Enqueues};
+ghost use Rattle.net_base.specs.Ring.{LeavesRun, overwrite};
+ghost use Rattle.net_base.specs.Packets.{Packets, packets_with, packets, headers, taken, end_of, run_of, room_of, first_bytes, first_header, starts_padded, without_first, skipped, appended, restarted, fits, padded_for, made_room, takes, with_storage, written_behind, first_packet, Dequeues, Claims, WritesBoth, WritesFirst, TakesFirst, AppendsWith, Enqueues};
 ghost use Rattle.net_base.specs.PacketLends.{LendsAll, ShowsFirst, TakesPacket, LendsPacket, with_packet};
 
 use crate::ring_buffer::{RingBuffer, place};
@@ -60,7 +60,7 @@ impl<'a, H> Model for PacketBuffer<'a, H> {
 
 impl<'a, H> PacketBuffer<'a, H> {
     // Lends all payload bytes.
-    fn all(&mut self) -> &mut [u8]
+    pub(crate) fn all(&mut self) -> &mut [u8]
         ensures* writes_back { sem 𝓛 (LendsAll H.row self.entry result) }
         ensures value { result.now ≡ self.old.storage }
     {
@@ -164,6 +164,8 @@ impl<'a, H: Copy> PacketBuffer<'a, H> {
         ensures from { result ≡ end_of self.old }
         ensures within { result + size ≤ length self.old.storage }
         ensures after { self.new ≡ appended header size self.old }
+        ensures written { (left : List ℕ) → length left ≡ size
+            → with_storage self.new (overwrite self.new.storage result left) ≡ written_behind header left self.old }
     {
         let from = place(self.payload.len(), self.start, self.length);
         self.length += size;
@@ -205,9 +207,9 @@ impl<'a, H: Copy> PacketBuffer<'a, H> {
         self.pad_for(size)
     }
 
-    // Appends a packet of `size` bytes as they stand in the storage. Answers whether there was room, and where they
-    // begin.
-    fn claim(&mut self, size: usize, header: H) -> (bool, usize)
+    /// Appends a packet of `size` bytes as they stand in the storage. Answers whether there was room, and where they
+    /// begin; `part_mut` lends them. The first step of `enqueue`, for a caller that lends on what that lends.
+    pub fn claim(&mut self, size: usize, header: H) -> (bool, usize)
         ensures { Claims size header self.old result.0 result.1 self.new }
     {
         if !self.make_room(size) {

@@ -1,14 +1,15 @@
 //! A queue over a lent slice, which goes around its end. As smoltcp's ring buffer.
 ghost use Rattle.std.specs.Prelude.{◌≡◌, ◌+◌, ◌-◌, ◌<◌, ◌≤◌, ◌==◌, ◌⊎◌, List, [], ◌∷◌, ◌++◌, length, take, drop, min};
 ghost use Rattle.std.specs.Fn.{FnOnceReturnsAtMut, FnOnceReturnsAt};
-ghost use Rattle.net_base.specs.Ring.{ring, ring_of, capacity_of, overwrite, cells_from, Restarted, Appends, Clears, DequeuesWith, EnqueuesWith, LeavesRun};
+ghost use Rattle.net_base.specs.Ring.{ring, ring_of, empty_ring, capacity_of, overwrite, cells_from, queue_piece};
+ghost use Rattle.net_base.specs.Ring.{restarted, appended, shortened, emptied, DequeuesWith, EnqueuesWith, LeavesRun};
 
 use std::marker::Model;
 
 /// A queue of items in a lent slice. The places behind the queue are spare: they can be written before they join it.
 ///
 /// The queue begins at a place of the slice and goes around its end, so what is lent in one piece may be shorter than
-/// what is there: each call says what it lends at least.
+/// what is there: it ends where the queue or the spare places do, or at the slice's end.
 #[derive(Debug, Drop)]
 pub struct RingBuffer<'a, T> {
     storage: &'a mut [T],
@@ -31,8 +32,9 @@ impl<'a, T> Model for RingBuffer<'a, T> {
 
 impl<'a, T: Copy> RingBuffer<'a, T> {
     /// An empty queue, all of whose places are spare and hold what stood in `storage`.
+    #[tactic(auto, using(crate::proofs::Cells::new_ring))]
     pub fn new(storage: &'a mut [T]) -> Self
-        ensures { result ≡ ring [] storage.old }
+        ensures { result ≡ empty_ring storage.old }
     {
         RingBuffer {
             storage,
@@ -107,16 +109,18 @@ impl<'a, T: Copy> RingBuffer<'a, T> {
     /// Empties the queue. It starts anew at the slice's first place.
     #[tactic(auto, using(crate::proofs::Cells::cleared))]
     pub fn clear(&mut self)
-        ensures { Clears self.old self.new }
+        ensures { self.new ≡ emptied self.old }
     {
         self.read_at = 0;
         self.length = 0;
     }
 
-    /// Appends the longest beginning of `items` that fits, and answers its length.
+    /// Appends the longest beginning of `items` that fits, and answers its length. An empty queue begins anew at the
+    /// slice's first place.
     pub fn enqueue_slice(&mut self, items: &[T]) -> usize
         ensures count { result ≡ min (length items.now) (length self.old.spare) }
-        ensures after { Appends (take result items.now) self.old self.new }
+        ensures after { self.new ≡ appended (restarted self.old) (take result items.now) }
+        ensures capacity { capacity_of self.new ≡ capacity_of self.old }
     {
         self.restart_if_empty();
         let count = items.len().min(self.storage.len() - self.length);
@@ -124,12 +128,14 @@ impl<'a, T: Copy> RingBuffer<'a, T> {
         count
     }
 
-    /// Lends `f` a slice of the places behind the queue, which is empty only where none is spare. `f` answers how many
-    /// items it wrote at the beginning of the slice, and these join the queue; its answer is passed on.
+    /// Lends `f` the spare places behind the queue, up to the slice's end. `f` answers how many items it wrote at their
+    /// beginning, and these join the queue; its answer is passed on. An empty queue begins anew at the slice's first
+    /// place.
     pub fn enqueue_many_with<R, F: FnOnce(&mut [T]) -> (usize, R)>(&mut self, f: F) -> (usize, R)
         requires callable { F.IsAlwaysCallable f }
         requires sized { (s : List T) (r : _) (s' : List T) → FnOnceReturnsAtMut F.FnOnce f s r s' → r.0 ≤ length s }
-        ensures { EnqueuesWith (FnOnceReturnsAtMut F.FnOnce f) self.old result self.new }
+        ensures call { EnqueuesWith (FnOnceReturnsAtMut F.FnOnce f) self.old result self.new }
+        ensures capacity { capacity_of self.new ≡ capacity_of self.old }
     {
         self.restart_if_empty();
         let from = place(self.storage.len(), self.read_at, self.length);
@@ -144,15 +150,15 @@ impl<'a, T: Copy> RingBuffer<'a, T> {
     pub fn dequeue_slice(&mut self, out: &mut [T]) -> usize
         ensures count { result ≡ min (length out.old) (length self.old.queue) }
         ensures read { out.new ≡ take result self.old.queue ++ drop result out.old }
-        ensures after { self.new ≡ ring (drop result self.old.queue) (self.old.spare ++ take result self.old.queue) }
+        ensures after { self.new ≡ shortened self.old result }
     {
         let count = self.read_allocated(0, out);
         self.dequeue_allocated(count);
         count
     }
 
-    /// Lends `f` a beginning of the queue, which is empty only where the queue is. `f` answers how many of these items
-    /// to remove; its answer is passed on.
+    /// Lends `f` the queue, up to the slice's end. `f` answers how many of these items to remove, from the first on;
+    /// its answer is passed on.
     pub fn dequeue_many_with<R, F: FnOnce(&[T]) -> (usize, R)>(&mut self, f: F) -> (usize, R)
         requires callable { F.IsAlwaysCallable f }
         requires sized { (s : List T) (r : _) → FnOnceReturnsAt F.FnOnce f s r → r.0 ≤ length s }
@@ -165,12 +171,10 @@ impl<'a, T: Copy> RingBuffer<'a, T> {
         (size, outcome)
     }
 
-    /// The queue from `offset` on, as far as it stands in one piece, at most `count` items. Empty only where `count` is
-    /// 0, or no item stands at `offset`.
-    #[tactic(auto, using(crate::proofs::Cells::queue_run_read))]
+    /// The queue from `offset` on, up to the slice's end, but at most `count` items.
+    #[tactic(auto, using(crate::proofs::Cells::no_piece, crate::proofs::Cells::piece_read))]
     pub fn get_allocated(&self, offset: usize, count: usize) -> &[T]
-        ensures beginning { result.now ≡ take (length result.now) (drop offset self.now.queue) }
-        ensures at_most { length result.now ≤ count }
+        ensures value { result.now ≡ take (min count (queue_piece self.now offset)) (drop offset self.now.queue) }
         ensures empty { length result.now ≡ 0 → (count ≡ 0) ⊎ (length self.now.queue ≤ offset) }
     {
         if self.length <= offset {
@@ -203,7 +207,7 @@ impl<'a, T: Copy> RingBuffer<'a, T> {
     #[tactic(auto, using(crate::proofs::Cells::dequeued))]
     pub fn dequeue_allocated(&mut self, count: usize)
         requires { count ≤ length self.old.queue }
-        ensures { self.new ≡ ring (drop count self.old.queue) (self.old.spare ++ take count self.old.queue) }
+        ensures { self.new ≡ shortened self.old count }
     {
         self.read_at = place(self.storage.len(), self.read_at, count);
         self.length -= count;
@@ -214,7 +218,8 @@ impl<'a, T: Copy> RingBuffer<'a, T> {
     #[tactic(auto, using(crate::proofs::Cells::items_written))]
     pub fn write_unallocated(&mut self, offset: usize, items: &[T]) -> usize
         ensures count { result ≡ min (length items.now) (length self.old.spare - offset) }
-        ensures after { self.new ≡ ring self.old.queue (overwrite self.old.spare offset (take result items.now)) }
+        ensures after { self.new ≡ ring self.old.queue (overwrite self.old.spare offset (take result items.now))
+            self.old.until_end }
     {
         let window = self.storage.len() - self.length;
         if window <= offset {
@@ -235,7 +240,8 @@ impl<'a, T: Copy> RingBuffer<'a, T> {
     #[tactic(auto, using(crate::proofs::Cells::enqueued))]
     pub fn enqueue_unallocated(&mut self, count: usize)
         requires { count ≤ length self.old.spare }
-        ensures { self.new ≡ ring (self.old.queue ++ take count self.old.spare) (drop count self.old.spare) }
+        ensures { self.new ≡ ring (self.old.queue ++ take count self.old.spare) (drop count self.old.spare)
+            self.old.until_end }
     {
         self.length += count;
     }
@@ -243,7 +249,7 @@ impl<'a, T: Copy> RingBuffer<'a, T> {
     // Appends one item.
     pub(crate) fn enqueue_one(&mut self, item: T)
         requires { 0 < length self.old.spare }
-        ensures { self.new ≡ ring (self.old.queue ++ item ∷ []) (drop 1 self.old.spare) }
+        ensures { self.new ≡ ring (self.old.queue ++ item ∷ []) (drop 1 self.old.spare) self.old.until_end }
     {
         let at = place(self.storage.len(), self.read_at, self.length);
         self.storage[at] = item;
@@ -259,8 +265,10 @@ impl<'a, T: Copy> RingBuffer<'a, T> {
     }
 
     // An empty queue starts anew at the slice's first place, so that its items stand in one piece.
+    #[tactic(auto, using(crate::proofs::Cells::restarts))]
     fn restart_if_empty(&mut self)
-        ensures { Restarted self.old self.new }
+        ensures after { self.new ≡ restarted self.old }
+        ensures same { length self.new.spare ≡ length self.old.spare }
     {
         if self.length == 0 {
             self.read_at = 0;
@@ -268,10 +276,10 @@ impl<'a, T: Copy> RingBuffer<'a, T> {
     }
 
     // Appends `items`, which fit.
-    #[tactic(auto, using(crate::proofs::Cells::appended, crate::proofs::Cells::spare_fits))]
+    #[tactic(auto, using(crate::proofs::Cells::written_behind, crate::proofs::Cells::spare_fits))]
     fn write_behind(&mut self, items: &[T])
         requires { length items.now ≤ length self.old.spare }
-        ensures { self.new ≡ ring (self.old.queue ++ items.now) (drop (length items.now) self.old.spare) }
+        ensures { self.new ≡ appended self.old items.now }
     {
         write_cells(self.storage, self.read_at, self.length, items);
         self.length += items.len();

@@ -14,7 +14,7 @@ use Rattle.control_wire.specs.declared.tcp.TcpControl.{TcpControl}
 use Rattle.control_wire.specs.declared.tcp.TcpTimestampRepr.{TcpTimestampRepr}
 use Rattle.sock_core.specs.Facts.{Facts}
 use Rattle.sock_tcp.proofs.Frames.{GoesBack}
-use Rattle.sock_tcp.specs.Begin.{after_timers, before_emit, before_emit_to, begun, begun_to, by_due, ended, last_ts_set, unless_paused}
+use Rattle.sock_tcp.specs.Begin.{after_timers, before_emit, before_emit_to, begun, begun_to, by_due, ended, readied, unless_paused}
 use Rattle.sock_tcp.specs.Content.{Sending, content, filled, emission_kind, of_kind, plain_segment, sent_as}
 use Rattle.sock_tcp.specs.Due.{is_due}
 use Rattle.sock_tcp.specs.Laws.{IsPeered}
@@ -107,7 +107,7 @@ module _ (v : View) (f : Facts) (stamps : Bool) (t : Tuple) where
   begun_peer None e = e
   begun_peer (Some u) e = go (f.has_address u.local.addr) e
     where
-      go : (b : Bool) → (if b then unless_paused (after_timers (last_ts_set v (moment_of f)) (moment_of f)) u else ended (renewed v)).peer ≡ Some t → Some u ≡ Some t
+      go : (b : Bool) → (if b then unless_paused (after_timers (readied v (moment_of f)) (moment_of f)) u else ended (renewed v)).peer ≡ Some t → Some u ≡ Some t
       go true e = paused_peer v u _ e
       go false e = let no : None ≡ Some t = e in cc
 

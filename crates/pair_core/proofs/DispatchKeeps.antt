@@ -4,7 +4,8 @@ use Rattle.std.specs.Prelude.{not, ◌==◌, if◌then◌else◌}
 use Rattle.net_base.specs.declared.time.Instant.{Instant}
 use Rattle.sock_core.specs.Estimator.{sent}
 use Rattle.sock_core.specs.Facts.{Facts}
-use Rattle.sock_tcp.specs.Begin.{last_ts_set, last_ts_set_at, retransmission_begun, fast_retransmission_marked, after_timer, after_timers, unless_paused, ended, begun, begun_to, nothing_due, by_due, before_emit, before_emit_to}
+use Rattle.sock_core.specs.Congestion.{post_transmitted}
+use Rattle.sock_tcp.specs.Begin.{last_ts_set, last_ts_set_at, told_ready, readied, retransmission_begun, fast_retransmission_marked, after_timer, after_timers, unless_paused, ended, begun, begun_to, nothing_due, by_due, before_emit, before_emit_to}
 use Rattle.sock_tcp.specs.Content.{Sending, content}
 use Rattle.sock_tcp.specs.Due.{is_closed, is_due}
 use Rattle.sock_tcp.specs.Opening.{renewed}
@@ -47,11 +48,11 @@ reset_keeps : (v : View) → Keeps v (renewed v)
 unfolding renewed fresh
 reset_keeps v = record { listener = λ n. absurd (n refl); peer = λ t p. inl refl }
 
-dated_keeps : (v : View) (now : Instant) → Keeps v (last_ts_set v now)
-unfolding last_ts_set
-dated_keeps v now = go v.remote_last_ts
+readied_keeps : (v : View) (now : Instant) → Keeps v (readied v now)
+unfolding readied last_ts_set
+readied_keeps v now = go v.remote_last_ts
   where
-    go : (o : Option Instant) → Keeps v (last_ts_set_at o v now)
+    go : (o : Option Instant) → Keeps v (told_ready (last_ts_set_at o v now) now)
     go None = record { listener = λ n. (n, refl); peer = λ t p. p }
     go (Some t) = record { listener = λ n. (n, refl); peer = λ t p. p }
 
@@ -79,8 +80,8 @@ begins_keep : (v : View) (f : Facts) → Keeps v (begun v f).view
 unfolding begun
 begins_keep v f = go v.tuple
   where
-    two : (t : Tuple) (b : Bool) → Keeps v (cond b (unless_paused (after_timers (last_ts_set v (moment_of f)) (moment_of f)) t) (ended (renewed v))).view
-    two t true = in_turn v (last_ts_set v (moment_of f)) (after_timers (last_ts_set v (moment_of f)) (moment_of f)) (dated_keeps v (moment_of f)) (timers_keep (last_ts_set v (moment_of f)) (moment_of f))
+    two : (t : Tuple) (b : Bool) → Keeps v (cond b (unless_paused (after_timers (readied v (moment_of f)) (moment_of f)) t) (ended (renewed v))).view
+    two t true = in_turn v (readied v (moment_of f)) (after_timers (readied v (moment_of f)) (moment_of f)) (readied_keeps v (moment_of f)) (timers_keep (readied v (moment_of f)) (moment_of f))
     two t false = reset_keeps v
 
     go : (o : Option Tuple) → Keeps v (begun_to o v f).view
@@ -110,7 +111,7 @@ timed_keeps : (v : View) (now : Instant) (s : Emitted) → Keeps v (sending_time
 unfolding sending_timed
 timed_keeps v now s = go (s.len == 0)
   where
-    go : (b : Bool) → Keeps v (cond b v (record v { rtte = sent v.rtte now s.end; timer = retransmit_unless_set v.timer now v.rtte }))
+    go : (b : Bool) → Keeps v (cond b v (record v { rtte = sent v.rtte now s.end; timer = retransmit_unless_set v.timer now v.rtte; congestion_controller = post_transmitted v.congestion_controller now s.len }))
     go true = record { listener = λ n. (n, refl); peer = λ t p. p }
     go false = record { listener = λ n. (n, refl); peer = λ t p. p }
 

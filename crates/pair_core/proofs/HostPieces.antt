@@ -3,6 +3,8 @@ use Rattle.std.proofs.Common.{◌≡◌, ℕ, List, ◌++◌, length, take, Bool
 use Rattle.std.specs.Prelude.{min, Result, Ok, Err, Vec}
 use Rattle.std.proofs.lemmas.List.{take-take}
 use Rattle.std.specs.Global.{Global}
+use Rattle.sock_core.specs.Received.{first_piece}
+use Rattle.sock_tcp.proofs.Lending.{first_within}
 use Rattle.sock_tcp.specs.Queue.{appended}
 use Rattle.sock_tcp.specs.Queues.{may_send, may_recv, queued, last_ts_after, timer_after, read_off, SendsWith, SendsWithIf, ReadsWith, ReadsWithIf}
 use Rattle.sock_tcp.specs.View.{View}
@@ -32,10 +34,7 @@ sends_piece called size bs v r w says d = go (may_send v.state) r d
     go true (Ok n) f =
         let x = says f.lent (f.size, n) f.left f.met in
         record {
-          lent = length f.lent;
-          within = omega (arith, f.within, f.same_length);
-          none = λ z. f.empty (omega (arith, z, f.same_length));
-          answer = x.same ∙ x.count;
+          answer = x.same ∙ x.count ∙ ap (λ l. min size (min (length bs) l)) f.lent_length;
           view = f.view ∙ same_queued v f.size f.left bs x.written ∙ ap (λ k. queued v k bs) (sym x.same);
         }
     go true (Err e) f = absurd f
@@ -54,14 +53,12 @@ receives_piece called room v r w says d = go (may_recv v) r d
   where
     go : (b : Bool) (z : Result (Vec ℕ Global) RecvError) → ReadsWithIf b called v z w → ReceivesPieceIf b room v z w
     go true (Ok bytes) f =
-        let x = says (take f.count v.rx_buffer.bytes) (f.size, bytes) f.met in
-        let long : length (take f.count v.rx_buffer.bytes) ≡ f.count = omega (arith, length-take f.count v.rx_buffer.bytes, f.within) in
-        let size : f.size ≡ min room f.count = x.count ∙ ap (min room) long in
+        let piece = first_piece v.rx_buffer in
+        let x = says (take piece v.rx_buffer.bytes) (f.size, bytes) f.met in
+        let long : length (take piece v.rx_buffer.bytes) ≡ piece = omega (arith, length-take piece v.rx_buffer.bytes, first_within v.rx_buffer) in
+        let size : f.size ≡ min room piece = x.count ∙ ap (min room) long in
         record {
-          lent = f.count;
-          within = f.within;
-          none = f.empty;
-          read = x.read ∙ take-take f.size f.count v.rx_buffer.bytes f.size_within ∙ ap (λ n. take n v.rx_buffer.bytes) size;
+          read = x.read ∙ take-take f.size piece v.rx_buffer.bytes f.size_within ∙ ap (λ n. take n v.rx_buffer.bytes) size;
           view = f.view ∙ ap (read_off v) size;
         }
     go true (Err e) f = absurd f
@@ -74,9 +71,10 @@ host_receives size h bytes w kept d e = go (may_recv h.control_block) d
   where
     go : (b : Bool) → ReceivesPieceIf b (min size (length h.control_block.rx_buffer.bytes)) h.control_block (Ok bytes) w → ReceivesIf b true size h (outcome.Read bytes) (record h { control_block = w; handed_out = kept })
     go true f =
-        let same : min (min size (length h.control_block.rx_buffer.bytes)) f.lent ≡ min size f.lent = omega (arith, f.within) in
-        let read : bytes.items ≡ take (min size f.lent) h.control_block.rx_buffer.bytes = f.read ∙ ap (λ n. take n h.control_block.rx_buffer.bytes) same in
-        let view : w ≡ read_off h.control_block (min size f.lent) = f.view ∙ ap (read_off h.control_block) same in
-        let all : kept ≡ h.handed_out ++ take (min size f.lent) h.control_block.rx_buffer.bytes = e ∙ ap (λ xs. h.handed_out ++ xs) read in
-        record { lent = f.lent; within = f.within; none = f.none; does = record { answer = read; host = λ i. record h { control_block = view i; handed_out = all i } } }
+        let piece = first_piece h.control_block.rx_buffer in
+        let same : min (min size (length h.control_block.rx_buffer.bytes)) piece ≡ min size piece = omega (arith, first_within h.control_block.rx_buffer) in
+        let read : bytes.items ≡ take (min size piece) h.control_block.rx_buffer.bytes = f.read ∙ ap (λ n. take n h.control_block.rx_buffer.bytes) same in
+        let view : w ≡ read_off h.control_block (min size piece) = f.view ∙ ap (read_off h.control_block) same in
+        let all : kept ≡ h.handed_out ++ take (min size piece) h.control_block.rx_buffer.bytes = e ∙ ap (λ xs. h.handed_out ++ xs) read in
+        record { answer = read; host = λ i. record h { control_block = view i; handed_out = all i } }
     go false f = absurd f

@@ -1,8 +1,10 @@
 -- How many bytes a send takes and a read hands out, by whichever call.
 use Rattle.std.proofs.Common.{◌≡◌, ℕ, ◌≤◌, List, length, Option, Some, None, Bool, true, false, arith}
 use Rattle.std.specs.Prelude.{min}
+use Rattle.sock_core.specs.Received.{first_piece}
+use Rattle.sock_tcp.proofs.Lending.{free_within, first_within}
 use Rattle.sock_tcp.specs.Queues.{fitting, readable}
-use Rattle.pair_core.specs.PairCalls.{sending, TakesBytes, HandsOut, HandsOutBytes}
+use Rattle.pair_core.specs.PairCalls.{sending, piece_taken, TakesBytes, HandsOut, HandsOutBytes}
 use Rattle.pair_core.specs.PairViews.{HostView}
 use Rattle.pair_core.specs.declared.outcome.Outcome.{Outcome}
 use Rattle.pair_core.specs.declared.outcome.Outcome.TheVariants as outcome
@@ -17,7 +19,7 @@ pub record TakesSome (bs : List ℕ) (h : HostView) (o : Outcome) (k : HostView)
 
 pub takes_some : (size : Option ℕ) (bs : List ℕ) (h : HostView) (o : Outcome) (k : HostView) → TakesBytes size bs h o k → TakesSome bs h o k
 takes_some None bs h o k x = record { count = fitting h.control_block (length bs); offered = omega arith; fits = omega arith; answer = x.0; host = x.1 }
-takes_some (Some size) bs h o k x = record { count = min size (min (length bs) x.lent); offered = omega arith; fits = omega (arith, x.within); answer = x.answer; host = x.host }
+takes_some (Some size) bs h o k x = record { count = piece_taken size (length bs) h; offered = omega arith; fits = omega (arith, free_within h.control_block.tx_buffer); answer = x.0; host = x.1 }
 
 -- some of the bytes that wait
 pub record HandsSome (h : HostView) (o : Outcome) (k : HostView) : Type 0 where
@@ -26,5 +28,5 @@ pub record HandsSome (h : HostView) (o : Outcome) (k : HostView) : Type 0 where
   pub does : HandsOut count h o k
 
 pub hands_some : (piece : Bool) (size : ℕ) (h : HostView) (o : Outcome) (k : HostView) → HandsOutBytes piece size h o k → HandsSome h o k
-hands_some true size h o k x = record { count = min size x.lent; within = omega (arith, x.within); does = x.does }
+hands_some true size h o k x = record { count = min size (first_piece h.control_block.rx_buffer); within = omega (arith, first_within h.control_block.rx_buffer); does = x }
 hands_some false size h o k x = record { count = readable h.control_block size; within = omega arith; does = x }

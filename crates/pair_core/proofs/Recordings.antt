@@ -1,5 +1,5 @@
 -- From the one call of `emit` to what a host records of a dispatch.
-use Rattle.std.proofs.Common.{◌≡◌, ℕ, ◌+◌, ◌<◌, ◌≤◌, List, [], ◌++◌, length, drop, min, Bool, true, false, Option, Some, None, refl, sym, ◌∙◌, ap, subst, arith}
+use Rattle.std.proofs.Common.{◌≡◌, ℕ, ◌+◌, ◌<◌, ◌≤◌, List, [], ◌++◌, length, min, Bool, true, false, Option, Some, None, refl, sym, ◌∙◌, ap, subst, arith}
 use Rattle.std.specs.Prelude.{Result, Ok, Err, OnOk, OnErr, is_ok, is_some, not, IsTrue, vec_len, vec_capacity, if◌then◌else◌, option_map, IsSomeAnd}
 use Rattle.std.proofs.lemmas.Option.{none-some, same_Some}
 use Rattle.std.specs.Borrow.{MutBor}
@@ -11,6 +11,7 @@ use Rattle.control_wire.specs.Fits.{FitsPacket}
 use Rattle.control_wire.specs.Segment.{Segment, segment_of}
 use Rattle.control_wire.specs.declared.tcp.TcpRepr.{TcpRepr}
 use Rattle.sock_core.specs.Facts.{Facts}
+use Rattle.sock_tcp.proofs.Lending.{lent_at_most}
 use Rattle.sock_tcp.specs.Queue.{IsLent}
 use Rattle.sock_tcp.specs.View.{View, moment_of}
 use Rattle.sock_tcp.specs.Begin.{before_emit}
@@ -85,8 +86,8 @@ asked_len v t f stamps = go (carries_data v.state) v.pending_fast_retransmit (is
     go true false false = omega arith
     go false b p = omega arith
 
-pub payload_at_most : (v : View) (t : Tuple) (f : Facts) (stamp : Option ℕ) (bytes : List ℕ) (s : Sending) → 1 ≤ f.mtu → IsLent (asked v t f (is_some stamp)) (drop (offset_of v) v.tx_buffer.bytes) bytes → content v t f stamp bytes ≡ Some s → length s.segment.payload ≤ f.mtu
-payload_at_most v t f stamp bytes s one lent e = content_len v t f stamp bytes f.mtu (omega (arith, asked_len v t f (is_some stamp), lent.at_most)) one s e
+pub payload_at_most : (v : View) (t : Tuple) (f : Facts) (stamp : Option ℕ) (bytes : List ℕ) (s : Sending) → 1 ≤ f.mtu → IsLent v.tx_buffer (offset_of v) (asked v t f (is_some stamp)) bytes → content v t f stamp bytes ≡ Some s → length s.segment.payload ≤ f.mtu
+payload_at_most v t f stamp bytes s one lent e = content_len v t f stamp bytes f.mtu (omega (arith, asked_len v t f (is_some stamp), lent_at_most v.tx_buffer (offset_of v) (asked v t f (is_some stamp)) bytes lent)) one s e
 
 -- ---- the emit's answer
 

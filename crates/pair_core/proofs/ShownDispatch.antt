@@ -1,5 +1,5 @@
 -- What a dispatch does to a socket, and what it emits, is allowed on the two streams.
-use Rattle.std.proofs.Common.{◌≡◌, ℕ, Bool, true, false, cond, refl, sym, ap, subst, ◌∙◌, arith, List, drop, Option, Some, None, inl, inr}
+use Rattle.std.proofs.Common.{◌≡◌, ℕ, Bool, true, false, cond, refl, sym, ap, subst, ◌∙◌, arith, List, Option, Some, None, inl, inr}
 use Rattle.std.specs.Prelude.{◌==◌, is_some}
 use Rattle.net_base.specs.declared.time.Instant.{Instant}
 use Rattle.control_wire.specs.Segment.{segment_len}
@@ -9,7 +9,8 @@ use Rattle.sock_core.specs.Facts.{Facts}
 use Rattle.sock_core.specs.Places.{later_number}
 use Rattle.sock_core.specs.Received.{cleared}
 use Rattle.sock_core.specs.Seq.{later_of}
-use Rattle.sock_tcp.specs.Begin.{last_ts_set, last_ts_set_at, retransmission_begun, fast_retransmission_marked, after_timer, after_timers, unless_paused, ended, begun, begun_to, nothing_due, by_due, before_emit, before_emit_to}
+use Rattle.sock_core.specs.Congestion.{post_transmitted}
+use Rattle.sock_tcp.specs.Begin.{last_ts_set, last_ts_set_at, told_ready, readied, retransmission_begun, fast_retransmission_marked, after_timer, after_timers, unless_paused, ended, begun, begun_to, nothing_due, by_due, before_emit, before_emit_to}
 use Rattle.sock_tcp.specs.Content.{Sending, asked, offset_of, content}
 use Rattle.sock_tcp.specs.Due.{is_due}
 use Rattle.sock_tcp.specs.Opening.{renewed}
@@ -37,11 +38,11 @@ use Rattle.pair_core.proofs.StreamTables.{emit_moves}
 
 -- ---- the beginning
 
-dated_shows : (v : View) (now : Instant) → shown (last_ts_set v now) ≡ shown v
-unfolding last_ts_set
-dated_shows v now = go v.remote_last_ts
+readied_shows : (v : View) (now : Instant) → shown (readied v now) ≡ shown v
+unfolding readied last_ts_set
+readied_shows v now = go v.remote_last_ts
   where
-    go : (o : Option Instant) → shown (last_ts_set_at o v now) ≡ shown v
+    go : (o : Option Instant) → shown (told_ready (last_ts_set_at o v now) now) ≡ shown v
     go None = refl
     go (Some t) = refl
 
@@ -81,13 +82,13 @@ unfolding begun
 begins v f bounds = go v.tuple
   where
     dated : View
-    dated = last_ts_set v (moment_of f)
+    dated = readied v (moment_of f)
 
     dated_bounds : HasIss (phase_of dated.state) → HasSendingBounds (shown dated)
-    dated_bounds = subst (λ (z : SocketView). HasIss z.phase → HasSendingBounds z) (sym (dated_shows v (moment_of f))) bounds
+    dated_bounds = subst (λ (z : SocketView). HasIss z.phase → HasSendingBounds z) (sym (readied_shows v (moment_of f))) bounds
 
     two : (t : Tuple) (b : Bool) → DispatchEffect (shown v) (shown (cond b (unless_paused (after_timers dated (moment_of f)) t) (ended (renewed v))).view)
-    two t true = subst (λ z. DispatchEffect z (shown (after_timers dated (moment_of f)))) (dated_shows v (moment_of f)) (timers_show dated (moment_of f) dated_bounds)
+    two t true = subst (λ z. DispatchEffect z (shown (after_timers dated (moment_of f)))) (readied_shows v (moment_of f)) (timers_show dated (moment_of f) dated_bounds)
     two t false = reset_shows (shown v) v
 
     go : (o : Option Tuple) → DispatchEffect (shown v) (shown (begun_to o v f).view)
@@ -118,7 +119,7 @@ timed_shows : (v : View) (now : Instant) (s : Emitted) → shown (sending_timed 
 unfolding sending_timed
 timed_shows v now s = go (s.len == 0)
   where
-    go : (b : Bool) → shown (cond b v (record v { rtte = sent v.rtte now s.end; timer = retransmit_unless_set v.timer now v.rtte })) ≡ shown v
+    go : (b : Bool) → shown (cond b v (record v { rtte = sent v.rtte now s.end; timer = retransmit_unless_set v.timer now v.rtte; congestion_controller = post_transmitted v.congestion_controller now s.len })) ≡ shown v
     go true = refl
     go false = refl
 
@@ -140,7 +141,7 @@ module _ (v : View) (released taken : ℕ) (bounds : IsBounded v) where
       let h : GoesOut v released taken c.segment = goes iss in
       subst (λ n. SndNxtWithin (record (shown v) { snd_nxt = n })) (ap (later_number v.remote_last_seq.0) (sym h.ends) ∙ sym (later_shown v.remote_last_seq (seq_add c.segment.seq_number (segment_len c.segment)))) (emit_moves (shown v) h.reach b h.le)
 
-  pub emission_plans : (t : Tuple) (f : Facts) (stamp : Option ℕ) (bytes : List ℕ) → IsLent (asked v t f (is_some stamp)) (drop (offset_of v) v.tx_buffer.bytes) bytes → (c : Sending) → content v t f stamp bytes ≡ Some c → MayEmit v c (moment_of f) released taken
+  pub emission_plans : (t : Tuple) (f : Facts) (stamp : Option ℕ) (bytes : List ℕ) → IsLent v.tx_buffer (offset_of v) (asked v t f (is_some stamp)) bytes → (c : Sending) → content v t f stamp bytes ≡ Some c → MayEmit v c (moment_of f) released taken
   unfolding after_sending
   emission_plans t f stamp bytes lent c e =
       record {

@@ -1,5 +1,5 @@
 -- What a dispatch emits may be sent, and ends where SND.NXT may move.
-use Rattle.std.proofs.Common.{◌≡◌, ℕ, ◌+◌, ◌-◌, ◌%◌, ◌^◌, ◌<◌, ◌≤◌, ◌⊎◌, Bool, true, false, cond, ◌&&◌, List, [], ◌++◌, length, take, drop, Option, Some, None, refl, sym, ap, subst, ◌∙◌, arith, inl, inr, length-drop}
+use Rattle.std.proofs.Common.{◌≡◌, ℕ, ◌+◌, ◌-◌, ◌%◌, ◌^◌, ◌<◌, ◌≤◌, ◌⊎◌, Bool, true, false, cond, ◌&&◌, List, [], ◌++◌, length, take, drop, Option, Some, None, refl, sym, ap, subst, ◌∙◌, arith, inl, inr}
 use Rattle.std.specs.Prelude.{◌==◌, option_map, is_some, if◌then◌else◌}
 use Rattle.std.proofs.lemmas.Bool.{eqb-true}
 use Rattle.std.proofs.lemmas.List.{take-append-drop}
@@ -14,6 +14,7 @@ use Rattle.sock_core.specs.Facts.{Facts}
 use Rattle.sock_core.specs.Streams.{IsPrefix}
 use Rattle.sock_tcp.specs.Content.{Sending, asked, offset_of, is_probing, plain_segment, with_data, data_control, syn, syn_ack, filled, emission_kind, of_kind, sent_as, content}
 use Rattle.sock_tcp.specs.Due.{flight, is_closing}
+use Rattle.sock_tcp.proofs.Lending.{lent_at_most, lent_beginning}
 use Rattle.sock_tcp.specs.Queue.{IsLent}
 use Rattle.sock_tcp.specs.Timers.{is_keep_alive_over}
 use Rattle.sock_tcp.specs.View.{View, moment_of}
@@ -122,16 +123,16 @@ module _ (v : View) (released taken : ℕ) where
 
     -- bytes that the ring lent, which may be none
     data_goes : KnowsPeer (phase_of v.state) → (is_closing v.state ≡ true → phase_of v.state ≡ FinQueued) → (t : Tuple) (f : Facts) (stamp : Option ℕ) (stamps : Bool) (bytes : List ℕ)
-        → IsLent (asked v t f stamps) (drop (offset_of v) v.tx_buffer.bytes) bytes → GoesOut (with_data v bytes (plain_segment v t stamp))
+        → IsLent v.tx_buffer (offset_of v) (asked v t f stamps) bytes → GoesOut (with_data v bytes (plain_segment v t stamp))
     unfolding plain_segment
     data_goes knows closing t f stamp stamps bytes lent =
         let s : Segment = with_data v bytes (plain_segment v t stamp) in
         let c : IsDataControl (data_control v (length bytes)) (offset_of v + length bytes == length v.tx_buffer.bytes) (is_closing v.state) = data_controls (offset_of v + length bytes == length v.tx_buffer.bytes) (is_closing v.state) (length bytes == 0) in
         let ole : offset_of v ≤ length v.tx_buffer.bytes + 1 = offset_le in
-        let short : length bytes ≤ length v.tx_buffer.bytes - offset_of v = omega (arith, lent.at_most, length-drop (offset_of v) v.tx_buffer.bytes) in
+        let short : length bytes ≤ length v.tx_buffer.bytes - offset_of v = omega (arith, lent_at_most v.tx_buffer (offset_of v) (asked v t f stamps) bytes lent) in
         let fin : is_fin (data_control v (length bytes)) ≡ true → (phase_of v.state ≡ FinQueued) × (offset_of v + length bytes ≡ length v.tx_buffer.bytes) = λ e. (closing (c.fin e).1, eqb-true (offset_of v + length bytes) (length v.tx_buffer.bytes) (c.fin e).0) in
         goes_as s
-        (Bytes (offset_of v) offset_shows ole (lent_prefix bytes (drop (offset_of v) v.tx_buffer.bytes) lent.beginning) fin)
+        (Bytes (offset_of v) offset_shows ole (lent_prefix bytes (drop (offset_of v) v.tx_buffer.bytes) (lent_beginning v.tx_buffer (offset_of v) (asked v t f stamps) bytes lent)) fin)
         c.rst
         (acks_next knows s refl)
         (λ e. let no : true ≡ false = sym e ∙ c.syn in absurd cc)
@@ -197,7 +198,7 @@ module _ (v : View) (released taken : ℕ) where
 
   module _ (b : HasSendingBounds (shown v)) (iss : HasIss (phase_of v.state)) where
     data_filled : KnowsPeer (phase_of v.state) → (is_closing v.state ≡ true → phase_of v.state ≡ FinQueued) → (t : Tuple) (f : Facts) (stamp : Option ℕ) (stamps : Bool) (bytes : List ℕ) (now : Instant)
-        → IsLent (asked v t f stamps) (drop (offset_of v) v.tx_buffer.bytes) bytes → Filled now (Some (with_data v bytes (plain_segment v t stamp)))
+        → IsLent v.tx_buffer (offset_of v) (asked v t f stamps) bytes → Filled now (Some (with_data v bytes (plain_segment v t stamp)))
     unfolding plain_segment
     data_filled knows closing t f stamp stamps bytes now lent =
         by_kinds v (λ s. GoesOut v released taken s) now (with_data v bytes (plain_segment v t stamp))
@@ -215,7 +216,7 @@ module _ (v : View) (released taken : ℕ) where
     closing_in : (st : State) → v.state ≡ st → (is_closing st ≡ true → phase_of st ≡ FinQueued) → is_closing v.state ≡ true → phase_of v.state ≡ FinQueued
     closing_in st e h = subst (λ x. is_closing x ≡ true → phase_of x ≡ FinQueued) (sym e) h
 
-    fills : (t : Tuple) (f : Facts) (stamp : Option ℕ) (stamps : Bool) (bytes : List ℕ) (now : Instant) → IsLent (asked v t f stamps) (drop (offset_of v) v.tx_buffer.bytes) bytes
+    fills : (t : Tuple) (f : Facts) (stamp : Option ℕ) (stamps : Bool) (bytes : List ℕ) (now : Instant) → IsLent v.tx_buffer (offset_of v) (asked v t f stamps) bytes
         → (st : State) → v.state ≡ st → Filled now (filled st v t f bytes (plain_segment v t stamp))
     unfolding plain_segment
     fills t f stamp stamps bytes now lent state.Closed e = absurd (subst (λ x. HasIss (phase_of x)) e iss)
@@ -242,7 +243,7 @@ module _ (v : View) (released taken : ℕ) where
   out t now None h c e = absurd (none-some c e)
   out t now (Some s) h c e = subst (λ (x : Sending). GoesOut v released taken x.segment) (same_Some (sent_as v t (emission_kind v now s) s) c e) h
 
-  pub content_goes : HasSendingBounds (shown v) → HasIss (phase_of v.state) → (t : Tuple) (f : Facts) (stamp : Option ℕ) (bytes : List ℕ) → IsLent (asked v t f (is_some stamp)) (drop (offset_of v) v.tx_buffer.bytes) bytes → (c : Sending) → content v t f stamp bytes ≡ Some c → GoesOut v released taken c.segment
+  pub content_goes : HasSendingBounds (shown v) → HasIss (phase_of v.state) → (t : Tuple) (f : Facts) (stamp : Option ℕ) (bytes : List ℕ) → IsLent v.tx_buffer (offset_of v) (asked v t f (is_some stamp)) bytes → (c : Sending) → content v t f stamp bytes ≡ Some c → GoesOut v released taken c.segment
   unfolding content
   content_goes b iss t f stamp bytes lent c e = out t (moment_of f) (filled v.state v t f bytes (plain_segment v t stamp)) (fills b iss t f stamp (is_some stamp) bytes (moment_of f) lent v.state refl) c e
 
@@ -260,7 +261,7 @@ module _ (v : View) (released taken : ℕ) where
   reset_out t now None h c e = absurd (none-some c e)
   reset_out t now (Some s) h c e = subst (λ (x : Sending). is_rst x.segment.control ≡ true) (same_Some (sent_as v t (emission_kind v now s) s) c e) h
 
-  pub content_effect : IsBounded v → (t : Tuple) (f : Facts) (stamp : Option ℕ) (bytes : List ℕ) → IsLent (asked v t f (is_some stamp)) (drop (offset_of v) v.tx_buffer.bytes) bytes → (c : Sending) → content v t f stamp bytes ≡ Some c → EmitEffect (shown v) (stream_segment c.segment released taken)
+  pub content_effect : IsBounded v → (t : Tuple) (f : Facts) (stamp : Option ℕ) (bytes : List ℕ) → IsLent v.tx_buffer (offset_of v) (asked v t f (is_some stamp)) bytes → (c : Sending) → content v t f stamp bytes ≡ Some c → EmitEffect (shown v) (stream_segment c.segment released taken)
   unfolding content
   content_effect bounds t f stamp bytes lent c e = go v.state refl
     where

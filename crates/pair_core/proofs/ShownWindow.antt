@@ -136,7 +136,7 @@ not_at_zero b o bs e = let t = both (not (o == 0)) _ e in grind (arith, nat_test
 
 pub stays_so : (b : Received) (o : ℕ) (bs : List ℕ) → makes_fifth_range b o bs ≡ true → taken_in b o bs ≡ b
 unfolding taken_in
-stays_so b o bs e = ap (λ t. cond t b (gathered (received b.bytes (written b.held o bs)))) e
+stays_so b o bs e = ap (λ t. cond t b (gathered (received b.bytes (written b.held o bs) b.until_end))) e
 
 pub comes : (b : Received) (o : ℕ) (bs : List ℕ) → o + length bs ≤ length b.held → Comes b (brought b o bs) o bs
 comes b o bs fits = go (length bs == 0) refl

@@ -1,8 +1,10 @@
 -- What opening, sending and receiving do to one side.
-use Rattle.std.specs.Prelude.{ℕ, ◌≡◌, ◌≤◌, ◌+◌, ◌++◌, List, length, min, take, Option, Some, None, Bool, true, false, if◌then◌else◌, nat_lt}
+use Rattle.std.specs.Prelude.{ℕ, ◌≡◌, ◌+◌, ◌++◌, List, length, min, take, Option, Some, None, Bool, true, false, if◌then◌else◌, nat_lt}
 use Rattle.ip_wire.specs.declared.endpoint.IpEndpoint.{IpEndpoint}
+use Rattle.sock_core.specs.Received.{first_piece}
 use Rattle.sock_tcp.specs.Opening.{listened, connected}
 use Rattle.sock_tcp.specs.Closing.{closed, aborted}
+use Rattle.sock_tcp.specs.Queue.{free_piece}
 use Rattle.sock_tcp.specs.Queues.{may_send, may_recv, fitting, queued, readable, read_off, recv_refusal}
 use Rattle.sock_tcp.specs.declared.error.SendError.TheVariants as send_error
 use Rattle.pair_core.specs.declared.host.Opening.{Opening}
@@ -47,14 +49,16 @@ abbrev pub TakesSlice : List ℕ → HostView → Outcome → HostView → Type 
 TakesSlice bs h o new = (o ≡ outcome.Accepted (fitting h.control_block (length bs)))
     × (new ≡ sending h (fitting h.control_block (length bs)) bs)
 
--- `send`: the ring lends free places in one piece, and none only where there are none. As many of the bytes as they
--- hold are written there, and the smaller of their count and `size` is accepted
-pub record TakesPiece (size : ℕ) (bs : List ℕ) (h : HostView) (o : Outcome) (new : HostView) : Type 0 where
-  pub lent : ℕ
-  pub within : lent ≤ h.control_block.tx_buffer.window
-  pub none : lent ≡ 0 → h.control_block.tx_buffer.window ≡ 0
-  pub answer : o ≡ outcome.Accepted (min size (min (length bs) lent))
-  pub host : new ≡ sending h (min size (min (length bs) lent)) bs
+-- how many bytes a `send` of n takes, which lets at most `size` of them join the queue: those that fit the free places
+-- that stand in one piece
+abbrev pub piece_taken : ℕ → ℕ → HostView → ℕ
+piece_taken size n h = min size (min n (free_piece h.control_block.tx_buffer))
+
+-- `send`: as many of the bytes as the places hold that the ring lends are written there, and the smaller of their count
+-- and `size` is accepted
+abbrev pub TakesPiece : ℕ → List ℕ → HostView → Outcome → HostView → Type 0
+TakesPiece size bs h o new = (o ≡ outcome.Accepted (piece_taken size (length bs) h))
+    × (new ≡ sending h (piece_taken size (length bs) h) bs)
 
 -- by `send_slice`, or by `send` with this size
 abbrev pub TakesBytes : Option ℕ → List ℕ → HostView → Outcome → HostView → Type 0
@@ -95,13 +99,9 @@ pub record HandsOut (n : ℕ) (h : HostView) (o : Outcome) (new : HostView) : Ty
   pub answer : IsRead o (take n h.control_block.rx_buffer.bytes)
   pub host : new ≡ receiving h n
 
--- `recv`: the queue lends a beginning in one piece, and none only where it is empty; the smaller of its length and
--- `size` is handed out
-pub record HandsOutPiece (size : ℕ) (h : HostView) (o : Outcome) (new : HostView) : Type 0 where
-  pub lent : ℕ
-  pub within : lent ≤ length h.control_block.rx_buffer.bytes
-  pub none : lent ≡ 0 → length h.control_block.rx_buffer.bytes ≡ 0
-  pub does : HandsOut (min size lent) h o new
+-- `recv`: of the queue as far as it stands in one piece, at most `size` bytes are handed out
+abbrev pub HandsOutPiece : ℕ → HostView → Outcome → HostView → Type 0
+HandsOutPiece size h o new = HandsOut (min size (first_piece h.control_block.rx_buffer)) h o new
 
 -- by `recv`, or by `recv_slice`, at most so many
 abbrev pub HandsOutBytes : Bool → ℕ → HostView → Outcome → HostView → Type 0

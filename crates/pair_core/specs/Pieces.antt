@@ -1,18 +1,17 @@
 -- What `send` and `recv` do with the closures of a pair.
-use Rattle.std.specs.Prelude.{ℕ, ◌≡◌, ◌≤◌, List, length, min, take, Bool, true, false, Result, Ok, Err, Vec}
+use Rattle.std.specs.Prelude.{ℕ, ◌≡◌, List, length, min, take, Bool, true, false, Result, Ok, Err, Vec}
 use Rattle.std.specs.Global.{Global}
+use Rattle.sock_core.specs.Received.{first_piece}
+use Rattle.sock_tcp.specs.Queue.{free_piece}
 use Rattle.sock_tcp.specs.Queues.{may_send, may_recv, queued, read_off, recv_refusal}
 use Rattle.sock_tcp.specs.View.{View}
 use Rattle.sock_tcp.specs.declared.error.RecvError.{RecvError}
 use Rattle.sock_tcp.specs.declared.error.SendError.{SendError}
 use Rattle.sock_tcp.specs.declared.error.SendError.TheVariants as send_error
 
--- free places were lent, and none only where there are none; n of the bytes were taken
+-- n of the bytes were taken: those that fit the free places that stand in one piece, at most size
 pub record SendsSome (size : ℕ) (bs : List ℕ) (v : View) (n : ℕ) (w : View) : Type 0 where
-  pub lent : ℕ
-  pub within : lent ≤ v.tx_buffer.window
-  pub none : lent ≡ 0 → v.tx_buffer.window ≡ 0
-  pub answer : n ≡ min size (min (length bs) lent)
+  pub answer : n ≡ min size (min (length bs) (free_piece v.tx_buffer))
   pub view : w ≡ queued v n bs
 
 abbrev pub SendsPieceIf : Bool → ℕ → List ℕ → View → Result ℕ SendError → View → Type 0
@@ -23,13 +22,10 @@ SendsPieceIf _ size bs v r w = ⊥
 abbrev pub SendsPiece : ℕ → List ℕ → View → Result ℕ SendError → View → Type 0
 SendsPiece size bs v r w = SendsPieceIf (may_send v.state) size bs v r w
 
--- a beginning of the queue was lent, and none only where it is empty; the bytes are what was taken of it
+-- the bytes are what was taken of the queue: as far as it stands in one piece, at most size
 pub record ReceivesSome (size : ℕ) (v : View) (bs : List ℕ) (w : View) : Type 0 where
-  pub lent : ℕ
-  pub within : lent ≤ length v.rx_buffer.bytes
-  pub none : lent ≡ 0 → length v.rx_buffer.bytes ≡ 0
-  pub read : bs ≡ take (min size lent) v.rx_buffer.bytes
-  pub view : w ≡ read_off v (min size lent)
+  pub read : bs ≡ take (min size (first_piece v.rx_buffer)) v.rx_buffer.bytes
+  pub view : w ≡ read_off v (min size (first_piece v.rx_buffer))
 
 abbrev pub ReceivesPieceIf : Bool → ℕ → View → Result (Vec ℕ Global) RecvError → View → Type 0
 ReceivesPieceIf true size v (Ok bytes) w = ReceivesSome size v bytes.items w

@@ -1,5 +1,5 @@
 -- What a dispatch stores.
-use Rattle.std.specs.Prelude.{ℕ, ◌≡◌, ◌++◌, ⊤, List, drop, Option, Some, None, is_some, IsSomeAnd, Result, Ok, Err, Bool, true, false, not, Vec}
+use Rattle.std.specs.Prelude.{ℕ, ◌≡◌, ◌++◌, ⊤, List, Option, Some, None, is_some, IsSomeAnd, Result, Ok, Err, Bool, true, false, not, Vec}
 use Rattle.std.specs.Global.{Global}
 use Rattle.std.specs.Option.{ForSome}
 use Rattle.ip_wire.specs.declared.repr.IpRepr.{IpRepr}
@@ -51,7 +51,7 @@ pub record SendsTo (v : View) (t : Tuple) (f : Facts) (stamps fail : Bool) (r : 
   pub stamp : Option ℕ
   pub stamped : is_some stamp ≡ stamps
   pub bytes : List ℕ
-  pub lent : IsLent (asked v t f (is_some stamp)) (drop (offset_of v) v.tx_buffer.bytes) bytes
+  pub lent : IsLent v.tx_buffer (offset_of v) (asked v t f (is_some stamp)) bytes
   pub records : Records fail (content v t f stamp bytes) r
   pub view : w ≡ left_by (content v t f stamp bytes) v (moment_of f) (not fail)
   pub fits : ForSome (content v t f stamp bytes) (λ s. FitsPacket s.ip s.segment)

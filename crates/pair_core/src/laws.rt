@@ -65,7 +65,7 @@ pub fn begun_shows()
 /// succeeds leaves what may be left.
 pub fn emission_plans()
     ensures { (v : View) (released taken : ℕ) → IsBounded v → (t : Tuple) (f : Facts) (stamp : Option ℕ)
-        (bytes : List ℕ) → IsLent (asked v t f (is_some stamp)) (drop (offset_of v) v.tx_buffer.bytes) bytes
+        (bytes : List ℕ) → IsLent v.tx_buffer (offset_of v) (asked v t f (is_some stamp)) bytes
         → (c : Sending) → content v t f stamp bytes ≡ Some c → MayEmit v c (moment_of f) released taken }
 {}
 

@@ -6,7 +6,8 @@ use Rattle.std.proofs.lemmas.Bool.Decides.{nat_tests}
 use Rattle.std.proofs.lemmas.List.{take_all}
 use Rattle.net_base.specs.declared.assembler.Range.{Range}
 use Rattle.net_base.specs.Ranges.{edges, insert_range, is_refused, run_after, ranges_after}
-use Rattle.net_base.specs.Ring.{Ring, ring, overwrite, Clears, DequeuesWith}
+use Rattle.net_base.specs.Ring.{Ring, ring, overwrite, cells_from, end_after, queue_piece, shortened, emptied, DequeuesWith}
+use Rattle.net_base.proofs.Cells.{piece_within, length_around}
 use Rattle.net_base.specs.Held.{IsKept, Joins}
 use Rattle.net_base.proofs.Sets.{below_apart, insert_range_behind, insert_range_before, insert_range_joined}
 use Rattle.net_base.proofs.Helds.{joins_all}
@@ -14,7 +15,7 @@ use Rattle.sock_core.specs.declared.ranges.TooManyRanges.{TooManyRanges}
 use Rattle.std.specs.Prelude.{nat_eq, ◌||◌, ◌%◌}
 use Rattle.sock_core.specs.Places.{number_distance, number_is_before}
 use Rattle.sock_core.specs.HeldRanges.{HeldRanges, added, run_removed}
-use Rattle.sock_core.specs.Received.{Received, received, room_of, byte_at, holds_nothing, ranges_from, ranges_of, written, makes_fifth_range, gathered, taken_in, handed_out, cleared, shown, range_around, reaches_number, DequeuesBytesWith}
+use Rattle.sock_core.specs.Received.{Received, received, room_of, byte_at, holds_nothing, ranges_from, ranges_of, written, makes_fifth_range, gathered, taken_in, handed_out, cleared, shown, range_around, reaches_number, first_piece, DequeuesBytesWith}
 use Rattle.sock_core.proofs.Receiving.{length-shown, byte_shown, ranges_shown, nothing_shown, shown_read, refused_makes_fifth_range, length-overwritten, gathers, room_cleared, room_handed_out, room_taken_in}
 
 -- ---- no byte is held exactly where there is no range
@@ -46,7 +47,7 @@ ok_means false run n f o is ok = (refl, cc)
 
 -- ---- a buffer of the ring r and the ranges h, which shows b
 
-module _ (r : Ring ℕ) (h : HeldRanges) (b : Received) (is : received r.queue (shown h.ranges r.spare) ≡ b) where
+module _ (r : Ring ℕ) (h : HeldRanges) (b : Received) (is : received r.queue (shown h.ranges r.spare) r.until_end ≡ b) where
   pub queue_is : b.bytes ≡ r.queue
   queue_is = ap (λ (b : Received). b.bytes) (sym is)
 
@@ -56,14 +57,15 @@ module _ (r : Ring ℕ) (h : HeldRanges) (b : Received) (is : received r.queue (
   pub room_is : length r.queue + length r.spare ≡ room_of b
   room_is = omega (arith, window_is, ap (λ (l : List ℕ). length l) queue_is)
 
-  pub is_cleared : (r' : Ring ℕ) (h' : HeldRanges) → Clears r r' → h' ≡ record { front = 0; ranges = [] } → received r'.queue (shown h'.ranges r'.spare) ≡ cleared b
+  pub is_cleared : (r' : Ring ℕ) (h' : HeldRanges) → r' ≡ emptied r → h' ≡ record { front = 0; ranges = [] } → received r'.queue (shown h'.ranges r'.spare) r'.until_end ≡ cleared b
   unfolding cleared
   is_cleared r' h' c none =
-      let queue : r'.queue ≡ [] = ap (λ (x : Ring ℕ). x.queue) c.after in
-      let count : length r'.spare ≡ room_of b = omega (arith, c.same_capacity, ap (λ (l : List ℕ). length l) queue, room_is) in
-      ap₂ received queue (ap (λ (h : HeldRanges). shown h.ranges r'.spare) none ∙ nothing_shown 0 r'.spare ∙ ap (λ n. replicate {A = Option ℕ} n None) count)
+      let all = cells_from r.until_end (r.queue ++ r.spare) in
+      let count : length all ≡ room_of b = length_around r.until_end (r.queue ++ r.spare) ∙ length-append r.queue r.spare ∙ room_is in
+      (λ i. received (c i).queue (shown (none i).ranges (c i).spare) (c i).until_end)
+      ∙ (λ i. received [] ((nothing_shown 0 all ∙ ap (λ n. replicate {A = Option ℕ} n None) count) i) (room_is i))
 
-  pub cleared_room : (r' : Ring ℕ) (h' : HeldRanges) → Clears r r' → h' ≡ record { front = 0; ranges = [] } → room_of (received r'.queue (shown h'.ranges r'.spare)) ≡ room_of b
+  pub cleared_room : (r' : Ring ℕ) (h' : HeldRanges) → r' ≡ emptied r → h' ≡ record { front = 0; ranges = [] } → room_of (received r'.queue (shown h'.ranges r'.spare) r'.until_end) ≡ room_of b
   cleared_room r' h' c none = ap (λ (b : Received). room_of b) (is_cleared r' h' c none) ∙ room_cleared b
 
   module _ (kept : IsKept h.ranges (length r.spare)) where
@@ -84,26 +86,34 @@ module _ (r : Ring ℕ) (h : HeldRanges) (b : Received) (is : received r.queue (
         ap (λ (b : Received). byte_at b.held 0) (sym is) ∙ byte_shown h.ranges r.spare 0
         ∙ ap (λ t. cond t (slice_get r.spare 0) None) (below_apart h.ranges 1 0 kept.tidy.apart (omega arith))
 
-    pub is_handed_out : (n : ℕ) (r' : Ring ℕ) → n ≤ length r.queue → r' ≡ ring (drop n r.queue) (r.spare ++ take n r.queue) → received r'.queue (shown h.ranges r'.spare) ≡ handed_out b n
+    pub is_handed_out : (n : ℕ) (r' : Ring ℕ) → n ≤ length r.queue → r' ≡ shortened r n → received r'.queue (shown h.ranges r'.spare) r'.until_end ≡ handed_out b n
     unfolding handed_out
     is_handed_out n r' within after =
         let count : length (take n r.queue) ≡ n = omega (arith, length-take n r.queue, within) in
-        ap (λ (x : Ring ℕ). received x.queue (shown h.ranges x.spare)) after
-        ∙ ap (received (drop n r.queue)) (shown_read h.ranges r.spare (take n r.queue) kept ∙ ap (λ m. shown h.ranges r.spare ++ replicate m None) count)
-        ∙ ap (λ (b : Received). received (drop n b.bytes) (b.held ++ replicate n None)) is
+        let held = shown_read h.ranges r.spare (take n r.queue) kept ∙ ap (λ m. shown h.ranges r.spare ++ replicate m None) count in
+        let room : length r.queue + length r.spare ≡ length r.queue + length (shown h.ranges r.spare) = ap (λ j. length r.queue + j) (sym (length-shown 0 h.ranges r.spare)) in
+        ap (λ (x : Ring ℕ). received x.queue (shown h.ranges x.spare) x.until_end) after
+        ∙ (λ i. received (drop n r.queue) (held i) (end_after r.until_end n (room i)))
+        ∙ ap (λ (b : Received). received (drop n b.bytes) (b.held ++ replicate n None) (end_after b.until_end n (room_of b))) is
 
-    pub handed_out_room : (n : ℕ) (r' : Ring ℕ) → n ≤ length r.queue → r' ≡ ring (drop n r.queue) (r.spare ++ take n r.queue) → room_of (received r'.queue (shown h.ranges r'.spare)) ≡ room_of b
+    pub handed_out_room : (n : ℕ) (r' : Ring ℕ) → n ≤ length r.queue → r' ≡ shortened r n → room_of (received r'.queue (shown h.ranges r'.spare) r'.until_end) ≡ room_of b
     handed_out_room n r' within after = ap (λ (b : Received). room_of b) (is_handed_out n r' within after) ∙ room_handed_out b n (omega (arith, within, ap (λ (l : List ℕ). length l) queue_is))
 
-    pub reads_with : {R : Type 0} (called : List ℕ → ℕ × R → Type 0) (result : ℕ × R) (r' : Ring ℕ) → DequeuesWith called r result r' → DequeuesBytesWith called b result (received r'.queue (shown h.ranges r'.spare))
+    pub piece_is : queue_piece r 0 ≡ first_piece b
+    piece_is = ap first_piece is
+
+    reads_within : (n : ℕ) → n ≤ queue_piece r 0 → n ≤ length r.queue
+    reads_within n within = omega (arith, within, piece_within r.until_end (length r.queue) 0)
+
+    pub reads_with : {R : Type 0} (called : List ℕ → ℕ × R → Type 0) (result : ℕ × R) (r' : Ring ℕ) → DequeuesWith called r result r' → DequeuesBytesWith called b result (received r'.queue (shown h.ranges r'.spare) r'.until_end)
     reads_with called result r' d = record {
-      count = d.count;
-      count_within = omega (arith, d.count_within, ap (λ (l : List ℕ). length l) queue_is);
-      count_zero = λ z. ap (λ (l : List ℕ). length l) queue_is ∙ d.count_zero z;
-      met = subst (λ (l : List ℕ). called (take d.count l) result) (sym queue_is) d.met;
-      size_within = d.size_within;
-      after = is_handed_out result.0 r' (omega (arith, d.count_within, d.size_within)) d.after;
+      met = subst (λ (l : List ℕ). called l result) (λ i. take (piece_is i) (sym queue_is i)) d.met;
+      size_within = omega (arith, d.size_within, piece_is);
+      after = is_handed_out result.0 r' (reads_within result.0 d.size_within) d.after;
     }
+
+    pub reads_room : (n : ℕ) (r' : Ring ℕ) → n ≤ queue_piece r 0 → r' ≡ shortened r n → room_of (received r'.queue (shown h.ranges r'.spare) r'.until_end) ≡ room_of b
+    reads_room n r' within after = handed_out_room n r' (reads_within n within) after
 
     module _ (o : ℕ) (ys : List ℕ) (some : 0 < length ys) (fits : o + length ys ≤ length b.held) where
       fits_spare : o + length ys ≤ length r.spare
@@ -113,7 +123,7 @@ module _ (r : Ring ℕ) (h : HeldRanges) (b : Received) (is : received r.queue (
       taken_in_room c is = ap (λ (b : Received). room_of b) is ∙ room_taken_in b o ys fits
 
       same_refusal : makes_fifth_range b o ys ≡ is_refused o (length ys) h.ranges
-      same_refusal = ap (λ (b : Received). makes_fifth_range b o ys) (sym is) ∙ sym (refused_makes_fifth_range h.ranges r.spare ys o kept some fits_spare r.queue)
+      same_refusal = ap (λ (b : Received). makes_fifth_range b o ys) (sym is) ∙ sym (refused_makes_fifth_range h.ranges r.spare ys o kept some fits_spare r.queue r.until_end)
 
       module _ (h' : HeldRanges) (f : TooManyRanges) (answer : Result ℕ TooManyRanges) (after : h' ≡ added o (length ys) h) (answer_is : answer ≡ cond (is_refused o (length ys) h.ranges) (Err f) (Ok (run_after o (length ys) h.ranges))) where
         module _ (e : TooManyRanges) (err : answer ≡ Err e) where
@@ -123,11 +133,11 @@ module _ (r : Ring ℕ) (h : HeldRanges) (b : Received) (is : received r.queue (
           pub is_refused_answer : false ≡ not (makes_fifth_range b o ys)
           is_refused_answer = sym (ap not (same_refusal ∙ refused))
 
-          pub stays : received r.queue (shown h'.ranges r.spare) ≡ taken_in b o ys
+          pub stays : received r.queue (shown h'.ranges r.spare) r.until_end ≡ taken_in b o ys
           unfolding taken_in
           stays =
-              ap (λ (h : HeldRanges). received r.queue (shown h.ranges r.spare)) (after ∙ ap (λ t. cond t h (run_removed o (length ys) h)) refused)
-              ∙ is ∙ ap (λ t. cond t b (gathered (received b.bytes (written b.held o ys)))) (sym (same_refusal ∙ refused))
+              ap (λ (h : HeldRanges). received r.queue (shown h.ranges r.spare) r.until_end) (after ∙ ap (λ t. cond t h (run_removed o (length ys) h)) refused)
+              ∙ is ∙ ap (λ t. cond t b (gathered (received b.bytes (written b.held o ys) b.until_end))) (sym (same_refusal ∙ refused))
 
         module _ (run : ℕ) (ok : answer ≡ Ok run) where
           passes : is_refused o (length ys) h.ranges ≡ false
@@ -148,9 +158,9 @@ module _ (r : Ring ℕ) (h : HeldRanges) (b : Received) (is : received r.queue (
               (subst (λ n. Joins h.ranges r.spare o ys n (ranges_after o (length ys) h.ranges) (drop n (overwrite r.spare o ys))) (sym run_is) (joins_all h.ranges r.spare ys o kept some fits_spare passes))
 
           -- w is the ring once the bytes are written
-          module _ (n : ℕ) (w : Ring ℕ) (count : n ≡ min (length ys) (length r.spare - o)) (wrote : w ≡ ring r.queue (overwrite r.spare o (take n ys))) where
-            all_written : w ≡ ring r.queue (overwrite r.spare o ys)
-            all_written = wrote ∙ ap (λ (l : List ℕ). ring r.queue (overwrite r.spare o l)) (take_all n ys (omega (arith, count, fits_spare)))
+          module _ (n : ℕ) (w : Ring ℕ) (count : n ≡ min (length ys) (length r.spare - o)) (wrote : w ≡ ring r.queue (overwrite r.spare o (take n ys)) r.until_end) where
+            all_written : w ≡ ring r.queue (overwrite r.spare o ys) r.until_end
+            all_written = wrote ∙ ap (λ (l : List ℕ). ring r.queue (overwrite r.spare o l) r.until_end) (take_all n ys (omega (arith, count, fits_spare)))
 
             long : length w.spare ≡ length r.spare
             long = ap (λ (x : Ring ℕ). length x.spare) all_written ∙ length-overwritten h.ranges r.spare ys o kept some fits_spare
@@ -158,9 +168,9 @@ module _ (r : Ring ℕ) (h : HeldRanges) (b : Received) (is : received r.queue (
             pub run_fits : run ≤ length w.spare
             run_fits = omega (arith, joins.fits, long)
 
-            module _ (r' : Ring ℕ) (queued : r' ≡ ring (w.queue ++ take run w.spare) (drop run w.spare)) where
-              then_is : r' ≡ ring (r.queue ++ take run (overwrite r.spare o ys)) (drop run (overwrite r.spare o ys))
-              then_is = queued ∙ ap (λ (x : Ring ℕ). ring (x.queue ++ take run x.spare) (drop run x.spare)) all_written
+            module _ (r' : Ring ℕ) (queued : r' ≡ ring (w.queue ++ take run w.spare) (drop run w.spare) w.until_end) where
+              then_is : r' ≡ ring (r.queue ++ take run (overwrite r.spare o ys)) (drop run (overwrite r.spare o ys)) r.until_end
+              then_is = queued ∙ ap (λ (x : Ring ℕ). ring (x.queue ++ take run x.spare) (drop run x.spare) x.until_end) all_written
 
               pub keeps_sound : length r.queue + length r.spare ≤ 2 ^ 30 → (length r'.queue + length r'.spare ≤ 2 ^ 30) × IsKept h'.ranges (length r'.spare)
               keeps_sound small = (
@@ -176,13 +186,13 @@ module _ (r : Ring ℕ) (h : HeldRanges) (b : Received) (is : received r.queue (
                 subst (λ (x : Ring ℕ). IsKept h'.ranges (length x.spare)) (sym then_is) joins.kept,
               )
 
-              pub is_taken_in : received r'.queue (shown h'.ranges r'.spare) ≡ taken_in b o ys
+              pub is_taken_in : received r'.queue (shown h'.ranges r'.spare) r'.until_end ≡ taken_in b o ys
               unfolding taken_in
               is_taken_in =
-                  ap (λ (x : Ring ℕ). received x.queue (shown h'.ranges x.spare)) then_is
-                  ∙ gathers h.ranges r.spare ys o kept some fits_spare run h'.ranges joins r.queue
-                  ∙ ap (λ (b : Received). gathered (received b.bytes (written b.held o ys))) is
-                  ∙ ap (λ t. cond t b (gathered (received b.bytes (written b.held o ys)))) (sym (same_refusal ∙ passes))
+                  ap (λ (x : Ring ℕ). received x.queue (shown h'.ranges x.spare) x.until_end) then_is
+                  ∙ gathers h.ranges r.spare ys o kept some fits_spare run h'.ranges joins r.queue r.until_end
+                  ∙ ap (λ (b : Received). gathered (received b.bytes (written b.held o ys) b.until_end)) is
+                  ∙ ap (λ t. cond t b (gathered (received b.bytes (written b.held o ys) b.until_end))) (sym (same_refusal ∙ passes))
 
 -- ---- the search for a range
 

@@ -2,15 +2,17 @@
 use Rattle.std.proofs.Common.{◌≡◌, ℕ, ◌+◌, ◌<◌, ◌≤◌, Bool, true, false, cond, List, [], ◌∷◌, refl, sym, ap, subst, arith}
 use Rattle.std.specs.Prelude.{◌==◌}
 use Rattle.std.proofs.lemmas.Bool.Decides.{nat_tests}
+use Rattle.net_base.specs.declared.time.Instant.{Instant}
+use Rattle.sock_core.specs.Estimator.{Estimator}
 use Rattle.sock_core.specs.Reno.{RenoNumbers}
 use Rattle.sock_core.specs.declared.congestion.AnyController.{AnyController}
 use Rattle.sock_core.specs.declared.congestion.AnyController.TheVariants as controller
 use Rattle.sock_core.specs.Congestion.{bounded, growth, halved, reno_gains, reno_acked, reno_dup_acked, reno_lost, reno_timed_out, reno_with_mss, reno_with_remote_window, acked, Call, SetRemoteWindow, OnAck, OnDupAck, OnRto, OnLoss, SetMss, after_calls, AcksNothing, KeepsThreshold}
 
-pub nothing_acked : (c : AnyController) → acked c 0 ≡ c
-unfolding reno_acked
-nothing_acked (controller.None n) = refl
-nothing_acked (controller.Reno r) = refl
+pub nothing_acked : (c : AnyController) (now : Instant) (flight : ℕ) (rtte : Estimator) → acked c now 0 flight rtte ≡ c
+unfolding acked reno_acked
+nothing_acked (controller.None n) now flight rtte = refl
+nothing_acked (controller.Reno r) now flight rtte = refl
 
 -- a call that acknowledges nothing new ends no time of timeouts
 dup_ack_stays : (r : RenoNumbers) (n : ℕ) → (reno_dup_acked r n).in_timeout ≡ r.in_timeout

@@ -1,6 +1,8 @@
 -- The congestion controllers: what each call leaves, as functions on numbers. Counts are bytes.
 use Rattle.std.specs.Prelude.{ℕ, ◌≡◌, ◌+◌, ◌-◌, ◌*◌, ◌/◌, ◌^◌, ◌==◌, nat_lt, max, min}
 use Rattle.std.specs.Prelude.{true, false, List, [], ◌∷◌, if◌then◌else◌}
+use Rattle.net_base.specs.declared.time.Instant.{Instant}
+use Rattle.sock_core.specs.Estimator.{Estimator}
 use Rattle.sock_core.specs.Reno.{RenoNumbers}
 use Rattle.sock_core.specs.declared.congestion.AnyController.{AnyController}
 use Rattle.sock_core.specs.declared.congestion.AnyController.TheVariants as controller
@@ -79,21 +81,33 @@ abbrev pub congestion_window : AnyController → ℕ
 congestion_window (controller.None n) = 2 ^ 64 - 1
 congestion_window (controller.Reno r) = r.cwnd
 
-abbrev pub acked : AnyController → ℕ → AnyController
-acked (controller.None n) _ = controller.None n
-acked (controller.Reno r) len = controller.Reno (reno_acked r len)
+-- What the calls of a controller leave. Each has all that the controller is told, though neither of the two looks at
+-- the moment, nor at an estimator, nor at what is in flight where no loss is told
 
-abbrev pub dup_acked : AnyController → ℕ → AnyController
-dup_acked (controller.None n) _ = controller.None n
-dup_acked (controller.Reno r) len = controller.Reno (reno_dup_acked r len)
+unfoldable pub acked : AnyController → Instant → ℕ → ℕ → Estimator → AnyController
+acked (controller.None n) now len flight rtte = controller.None n
+acked (controller.Reno r) now len flight rtte = controller.Reno (reno_acked r len)
 
-abbrev pub lost : AnyController → ℕ → AnyController
-lost (controller.None n) _ = controller.None n
-lost (controller.Reno r) flight = controller.Reno (reno_lost r flight)
+unfoldable pub dup_acked : AnyController → Instant → ℕ → ℕ → AnyController
+dup_acked (controller.None n) now len flight = controller.None n
+dup_acked (controller.Reno r) now len flight = controller.Reno (reno_dup_acked r len)
 
-abbrev pub timed_out : AnyController → ℕ → AnyController
-timed_out (controller.None n) _ = controller.None n
-timed_out (controller.Reno r) flight = controller.Reno (reno_timed_out r flight)
+unfoldable pub lost : AnyController → Instant → ℕ → AnyController
+lost (controller.None n) now flight = controller.None n
+lost (controller.Reno r) now flight = controller.Reno (reno_lost r flight)
+
+unfoldable pub timed_out : AnyController → Instant → ℕ → AnyController
+timed_out (controller.None n) now flight = controller.None n
+timed_out (controller.Reno r) now flight = controller.Reno (reno_timed_out r flight)
+
+-- a segment may go out; a segment of len numbers went out
+unfoldable pub pre_transmitted : AnyController → Instant → AnyController
+pre_transmitted (controller.None n) now = controller.None n
+pre_transmitted (controller.Reno r) now = controller.Reno r
+
+unfoldable pub post_transmitted : AnyController → Instant → ℕ → AnyController
+post_transmitted (controller.None n) now len = controller.None n
+post_transmitted (controller.Reno r) now len = controller.Reno r
 
 abbrev pub with_mss : AnyController → ℕ → AnyController
 with_mss (controller.None n) _ = controller.None n

@@ -1,5 +1,5 @@
 -- A receive buffer and an estimator that were taken apart, and are put together again.
-use Rattle.std.specs.Prelude.{ℕ, ◌+◌, ◌-◌, Bool, true, ◌&&◌, nat_le, nat_lt, List, [], ◌∷◌, take, drop}
+use Rattle.std.specs.Prelude.{ℕ, ◌+◌, ◌-◌, Bool, true, ◌&&◌, nat_le, nat_lt, List, [], ◌∷◌, length, take, drop}
 use Rattle.net_base.specs.declared.assembler.Range.{Range}
 use Rattle.net_base.specs.Ring.{cells_from}
 use Rattle.sock_core.specs.Received.{Received, received, shown}
@@ -23,3 +23,4 @@ lies_within p n =
 abbrev pub buffer_of : ReceiveParts → List ℕ → Received
 buffer_of p xs =
     received (take p.count (cells_from p.read_at xs)) (shown (held_of p) (drop p.count (cells_from p.read_at xs)))
+    (length xs - p.read_at)

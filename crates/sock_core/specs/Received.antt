@@ -5,18 +5,19 @@ use Rattle.std.specs.Prelude.{Bool, true, false, not, ◌&&◌, ◌||◌, if◌t
 use Rattle.net_base.specs.declared.assembler.Range.{Range}
 use Rattle.net_base.specs.Ranges.{is_held, is_within, insert_range}
 use Rattle.sock_core.specs.Places.{number_distance, number_is_before}
-use Rattle.net_base.specs.Ring.{Ring, overwrite}
+use Rattle.net_base.specs.Ring.{Ring, overwrite, in_one_piece, end_after}
 
 pub record Received : Type 0 where
   pub bytes : List ℕ  -- the receive queue: what came in order and was not handed out
   pub held : List (Option ℕ)  -- the places behind it, as many as the window: the byte that came out of order, or None
+  pub until_end : ℕ  -- how many places there are from the queue's first byte to the end of the storage
 
-abbrev pub received : List ℕ → List (Option ℕ) → Received
-received bs hs = record { bytes = bs; held = hs }
+abbrev pub received : List ℕ → List (Option ℕ) → ℕ → Received
+received bs hs e = record { bytes = bs; held = hs; until_end = e }
 
 -- a ring's queue, with nothing held behind it
 abbrev pub receiving : Ring ℕ → Received
-receiving r = received r.queue (replicate (length r.spare) None)
+receiving r = received r.queue (replicate (length r.spare) None) r.until_end
 
 -- how many bytes the queue holds when the buffer is full
 abbrev pub room_of : Received → ℕ
@@ -68,19 +69,19 @@ makes_fifth_range b o ys = not (o == 0) && nat_lt 4 (length (ranges_of (written 
 
 -- the run from offset 0 joins the queue, and what is held behind it is counted from its end
 abbrev pub gathered : Received → Received
-gathered b = received (b.bytes ++ run_of b.held) (behind_run b.held)
+gathered b = received (b.bytes ++ run_of b.held) (behind_run b.held) b.until_end
 
 -- ys come at the offset o
 unfoldable pub taken_in : Received → ℕ → List ℕ → Received
-taken_in b o ys = if makes_fifth_range b o ys then b else gathered (received b.bytes (written b.held o ys))
+taken_in b o ys = if makes_fifth_range b o ys then b else gathered (received b.bytes (written b.held o ys) b.until_end)
 
 -- the queue's first n bytes leave, and their places are free at the window's end
 unfoldable pub handed_out : Received → ℕ → Received
-handed_out b n = received (drop n b.bytes) (b.held ++ replicate n None)
+handed_out b n = received (drop n b.bytes) (b.held ++ replicate n None) (end_after b.until_end n (room_of b))
 
--- no byte is queued and none is held
+-- no byte is queued and none is held, and the queue begins at the storage's first place
 unfoldable pub cleared : Received → Received
-cleared b = received [] (replicate (room_of b) None)
+cleared b = received [] (replicate (room_of b) None) (room_of b)
 
 -- ---- how a buffer keeps it: a ring of places, and the ranges of its spare places that are held
 
@@ -121,14 +122,15 @@ pub record JoinsAtOnce (old new : Received) (ys : List ℕ) : Type 0 where
 
 -- ---- what readers see
 
--- a call that was lent a beginning of the queue, which is empty only where the queue is, and handed out bytes of it
+-- how many bytes of the queue stand in one piece from its first on
+abbrev pub first_piece : Received → ℕ
+first_piece b = in_one_piece b.until_end (length b.bytes) 0
+
+-- a call that was lent these, and handed out bytes of them
 pub record DequeuesBytesWith {R : Type 0}
     (called : List ℕ → ℕ × R → Type 0) (old : Received) (result : ℕ × R) (new : Received) : Type 0 where
-  pub count : ℕ
-  pub count_within : count ≤ length old.bytes
-  pub count_zero : count ≡ 0 → length old.bytes ≡ 0
-  pub met : called (take count old.bytes) result
-  pub size_within : result.0 ≤ count
+  pub met : called (take (first_piece old) old.bytes) result
+  pub size_within : result.0 ≤ first_piece old
   pub after : new ≡ handed_out old result.0
 
 -- the range, its first offset and the offset behind its last, begins at or before d and ends at or behind it

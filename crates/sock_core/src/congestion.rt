@@ -6,6 +6,9 @@ ghost use Rattle.sock_core.specs.Congestion.{fresh_reno, bounded, growth, halved
 ghost use Rattle.sock_core.specs.Congestion.{reno_acked, reno_dup_acked, reno_lost, reno_timed_out};
 ghost use Rattle.sock_core.specs.Congestion.{reno_with_mss, reno_with_remote_window};
 ghost use Rattle.sock_core.specs.Congestion.{congestion_window, acked, dup_acked, lost, timed_out};
+ghost use Rattle.sock_core.specs.Congestion.{pre_transmitted, post_transmitted};
+ghost use Rattle.sock_core.specs.Estimator.{Estimator};
+ghost use Rattle.net_base.specs.declared.time.Instant.{Instant};
 ghost use Rattle.sock_core.specs.Congestion.{with_mss, with_remote_window, Call, AcksNothing, KeepsThreshold};
 
 use crate::rtte::RttEstimator;
@@ -14,21 +17,27 @@ use std::marker::Model;
 
 /// Decides how many bytes may be in flight. Counts are bytes.
 ///
-/// What each call leaves depends on the numbers named here alone. As smoltcp's trait, the calls also take the moment,
-/// what is in flight and the estimator.
+/// What each call leaves depends on the controller as it was and on what the call is told, as in smoltcp's trait.
 pub trait Controller {
+    ghost use Rattle.net_base.specs.declared.time.Instant.{Instant};
+    ghost use Rattle.sock_core.specs.Estimator.{Estimator};
+
     // the window, and what each call leaves
     ghost window_of: { Self → ℕ };
 
     ghost after_remote_window: { Self → ℕ → Self };
 
-    ghost after_ack: { Self → ℕ → Self };
+    ghost after_ack: { Self → Instant → ℕ → ℕ → Estimator → Self };
 
-    ghost after_dup_ack: { Self → ℕ → Self };
+    ghost after_dup_ack: { Self → Instant → ℕ → ℕ → Self };
 
-    ghost after_rto: { Self → ℕ → Self };
+    ghost after_rto: { Self → Instant → ℕ → Self };
 
-    ghost after_loss: { Self → ℕ → Self };
+    ghost after_loss: { Self → Instant → ℕ → Self };
+
+    ghost after_pre_transmit: { Self → Instant → Self };
+
+    ghost after_post_transmit: { Self → Instant → ℕ → Self };
 
     ghost after_mss: { Self → ℕ → Self };
 
@@ -42,27 +51,27 @@ pub trait Controller {
 
     /// An acknowledgement that is no duplicate came, of `len` bytes, after which `in_flight` are unacknowledged.
     fn on_ack(&mut self, now: Instant, len: usize, in_flight: usize, rtt: &RttEstimator)
-        ensures { self.new ≡ after_ack self.old len };
+        ensures { self.new ≡ after_ack self.old now len in_flight rtt.now };
 
     /// A duplicate acknowledgement came, which tells that `len` bytes, a segment, left the network.
     fn on_dup_ack(&mut self, now: Instant, len: usize, in_flight: usize)
-        ensures { self.new ≡ after_dup_ack self.old len };
+        ensures { self.new ≡ after_dup_ack self.old now len in_flight };
 
     /// The retransmission timer ran out.
     fn on_rto(&mut self, now: Instant, in_flight: usize)
-        ensures { self.new ≡ after_rto self.old in_flight };
+        ensures { self.new ≡ after_rto self.old now in_flight };
 
     /// Duplicate acknowledgements tell that a segment was lost.
     fn on_loss(&mut self, now: Instant, in_flight: usize)
-        ensures { self.new ≡ after_loss self.old in_flight };
+        ensures { self.new ≡ after_loss self.old now in_flight };
 
     /// A segment may go out.
     fn pre_transmit(&mut self, now: Instant)
-        ensures { self.new ≡ self.old };
+        ensures { self.new ≡ after_pre_transmit self.old now };
 
     /// A segment that takes `len` sequence numbers went out.
     fn post_transmit(&mut self, now: Instant, len: usize)
-        ensures { self.new ≡ self.old };
+        ensures { self.new ≡ after_post_transmit self.old now len };
 
     /// The peer's maximum segment size.
     fn set_mss(&mut self, mss: usize)
@@ -145,7 +154,7 @@ impl AnyController {
 
 /// An acknowledgement of zero bytes changes nothing.
 pub fn ack_of_nothing_changes_nothing()
-    ensures { (c : AnyController) → acked c 0 ≡ c }
+    ensures { (c : AnyController) (now : Instant) (flight : ℕ) (rtte : Estimator) → acked c now 0 flight rtte ≡ c }
 {}
 
 /// A second timeout keeps Reno's threshold, unless new data was acknowledged since the first.
@@ -239,13 +248,17 @@ impl Controller for Reno {
 
     ghost after_remote_window = { reno_with_remote_window };
 
-    ghost after_ack = { reno_acked };
+    ghost after_ack = { λ r now len flight rtt. reno_acked r len };
 
-    ghost after_dup_ack = { reno_dup_acked };
+    ghost after_dup_ack = { λ r now len flight. reno_dup_acked r len };
 
-    ghost after_rto = { reno_timed_out };
+    ghost after_rto = { λ r now flight. reno_timed_out r flight };
 
-    ghost after_loss = { reno_lost };
+    ghost after_loss = { λ r now flight. reno_lost r flight };
+
+    ghost after_pre_transmit = { λ r now. r };
+
+    ghost after_post_transmit = { λ r now len. r };
 
     ghost after_mss = { reno_with_mss };
 
@@ -315,13 +328,17 @@ impl Controller for NoControl {
 
     ghost after_remote_window = { λ c n. c };
 
-    ghost after_ack = { λ c n. c };
+    ghost after_ack = { λ c now len flight rtt. c };
 
-    ghost after_dup_ack = { λ c n. c };
+    ghost after_dup_ack = { λ c now len flight. c };
 
-    ghost after_rto = { λ c n. c };
+    ghost after_rto = { λ c now flight. c };
 
-    ghost after_loss = { λ c n. c };
+    ghost after_loss = { λ c now flight. c };
+
+    ghost after_pre_transmit = { λ c now. c };
+
+    ghost after_post_transmit = { λ c now len. c };
 
     ghost after_mss = { λ c n. c };
 
@@ -359,6 +376,10 @@ impl Controller for AnyController {
 
     ghost after_loss = { lost };
 
+    ghost after_pre_transmit = { pre_transmitted };
+
+    ghost after_post_transmit = { post_transmitted };
+
     ghost after_mss = { with_mss };
 
     fn window(&self) -> usize {
@@ -375,6 +396,7 @@ impl Controller for AnyController {
         }
     }
 
+    #[tactic(auto, unfolding(crate::specs::Congestion::acked))]
     fn on_ack(&mut self, now: Instant, len: usize, in_flight: usize, rtt: &RttEstimator) {
         match self {
             AnyController::None(none) => none.on_ack(now, len, in_flight, rtt),
@@ -382,6 +404,7 @@ impl Controller for AnyController {
         }
     }
 
+    #[tactic(auto, unfolding(crate::specs::Congestion::dup_acked))]
     fn on_dup_ack(&mut self, now: Instant, len: usize, in_flight: usize) {
         match self {
             AnyController::None(none) => none.on_dup_ack(now, len, in_flight),
@@ -389,6 +412,7 @@ impl Controller for AnyController {
         }
     }
 
+    #[tactic(auto, unfolding(crate::specs::Congestion::timed_out))]
     fn on_rto(&mut self, now: Instant, in_flight: usize) {
         match self {
             AnyController::None(none) => none.on_rto(now, in_flight),
@@ -396,6 +420,7 @@ impl Controller for AnyController {
         }
     }
 
+    #[tactic(auto, unfolding(crate::specs::Congestion::lost))]
     fn on_loss(&mut self, now: Instant, in_flight: usize) {
         match self {
             AnyController::None(none) => none.on_loss(now, in_flight),
@@ -403,6 +428,7 @@ impl Controller for AnyController {
         }
     }
 
+    #[tactic(auto, unfolding(crate::specs::Congestion::pre_transmitted))]
     fn pre_transmit(&mut self, now: Instant) {
         match self {
             AnyController::None(none) => none.pre_transmit(now),
@@ -410,6 +436,7 @@ impl Controller for AnyController {
         }
     }
 
+    #[tactic(auto, unfolding(crate::specs::Congestion::post_transmitted))]
     fn post_transmit(&mut self, now: Instant, len: usize) {
         match self {
             AnyController::None(none) => none.post_transmit(now, len),

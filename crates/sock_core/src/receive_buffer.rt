@@ -1,5 +1,5 @@
 //! The receive buffer of a stream socket: the bytes that came in order, and those that came ahead of a gap.
-ghost use Rattle.std.specs.Prelude.{◌≡◌, ℕ, ◌+◌, ◌≤◌, ◌<◌, ◌⊎◌, ◌^◌, ◌++◌, ◌==◌, not, List, Option, None};
+ghost use Rattle.std.specs.Prelude.{◌≡◌, ℕ, ◌+◌, ◌≤◌, ◌<◌, ◌^◌, ◌++◌, ◌==◌, not, List, Option, None};
 ghost use Rattle.std.specs.Prelude.{length, take, drop, min, is_some, slice_get, true};
 ghost use Rattle.std.specs.Fn.{FnOnceReturnsAt};
 ghost use Rattle.net_base.specs.Ranges.{edges, is_held, Apart};
@@ -8,6 +8,7 @@ ghost use Rattle.sock_core.specs.Parts.{lies_within, buffer_of};
 ghost use Rattle.sock_core.specs.Received.{Received, receiving, room_of, byte_at, holds_nothing, ranges_of};
 ghost use Rattle.sock_core.specs.Received.{makes_fifth_range, taken_in, handed_out, cleared, range_around};
 ghost use Rattle.sock_core.specs.Received.{IsLetIn, TakesIn, JoinsAtOnce, DequeuesBytesWith, IsWireRange, ReachesAsOffsets};
+ghost use Rattle.sock_core.specs.Received.{first_piece};
 
 use crate::parts::ReceiveParts;
 use crate::ranges::Ranges;
@@ -32,7 +33,7 @@ impl<'a> Model for ReceiveBuffer<'a> {
 
     ghost Value = { Received };
 
-    ghost view = { λ b. received b.ring.queue (shown b.ranges.ranges b.ring.spare) };
+    ghost view = { λ b. received b.ring.queue (shown b.ranges.ranges b.ring.spare) b.ring.until_end };
 
     ghost invariant = { λ b. (capacity_of b.ring ≤ 2 ^ 30) × IsKept b.ranges.ranges (length b.ring.spare) };
 }
@@ -207,9 +208,9 @@ impl<'a> ReceiveBuffer<'a> {
         self.ring.dequeue_slice(out)
     }
 
-    /// Lends `f` a beginning of the queue, which is empty only where the queue is. `f` answers how many of these bytes
-    /// to remove; its answer is passed on.
-    #[tactic(auto, using(crate::proofs::ReceiveBuffers::reads_with, crate::proofs::ReceiveBuffers::handed_out_room))]
+    /// Lends `f` the queue, up to the slice's end. `f` answers how many of these bytes to remove, from the first on;
+    /// its answer is passed on.
+    #[tactic(auto, using(crate::proofs::ReceiveBuffers::reads_room))]
     pub fn dequeue_many_with<R, F: FnOnce(&[u8]) -> (usize, R)>(&mut self, f: F) -> (usize, R)
         requires callable { F.IsAlwaysCallable f }
         requires sized { (s : List ℕ) (r : _) → FnOnceReturnsAt F.FnOnce f s r → r.0 ≤ length s }
@@ -219,12 +220,9 @@ impl<'a> ReceiveBuffer<'a> {
         self.ring.dequeue_many_with(f)
     }
 
-    /// A beginning of the queue, in one piece, of at most `size` bytes. Empty only where `size` is 0, or the queue is
-    /// empty.
+    /// The queue, up to the slice's end, but at most `size` bytes.
     pub fn peek(&self, size: usize) -> &[u8]
-        ensures beginning { result.now ≡ take (length result.now) self.now.bytes }
-        ensures at_most { length result.now ≤ size }
-        ensures empty { length result.now ≡ 0 → (size ≡ 0) ⊎ (length self.now.bytes ≡ 0) }
+        ensures { result.now ≡ take (min size (first_piece self.now)) self.now.bytes }
     {
         self.ring.get_allocated(0, size)
     }

@@ -1,8 +1,10 @@
--- What an ICMP socket ends as, where a call lends a part of it for reading.
-use Rattle.std.specs.Prelude.{◌≡◌, ⊤}
-use Rattle.std.specs.Borrow.{follows_so, MutBor, Fml}
+-- What an ICMP socket ends as, where a call lends a part of it.
+use Rattle.std.specs.Prelude.{◌≡◌, ⊤, ℕ, List, length, Result}
+use Rattle.std.specs.Borrow.{follows_so, LendsSoOk, MutBor, Fml, Array, u8}
 use Rattle.net_base.specs.Packets.{Dequeues, skipped}
-use Rattle.sock_dgram.specs.Icmp.{View}
+use Rattle.sock_dgram.specs.Icmp.{View, after_send, refused_send}
+use Rattle.ip_wire.specs.declared.address.IpAddress.{IpAddress}
+use Rattle.sock_dgram.specs.declared.error.SendError.{SendError}
 use Rattle.sock_dgram.specs.contracts.icmp.socket.Socket.{the_row}
 use mir.Syntax.{named}
 use mathlib.Core.List.{[]}
@@ -23,3 +25,9 @@ abbrev pub KeepsFirst : MutBor View → Fml
 KeepsFirst s =
     let row = the_row (record { mir = named 1; lft = [] }) in
     follows_so row row s.ghost_name none (λ _ _. ⊤) (λ v. v ≡ record s.now { rx_buffer = skipped s.now.rx_buffer })
+
+-- `send_slice` of the bytes that stand in the slice as the loan ends
+abbrev pub LendsMessage : ℕ → IpAddress → MutBor View → Result (MutBor (List ℕ)) SendError → Fml
+LendsMessage size m s r =
+    LendsSoOk (the_row (record { mir = named 1; lft = [] })) (Array u8 0) s r
+    (λ v w. length w ≡ size → v ≡ after_send s.now m w) (λ v. v ≡ refused_send s.now m size)

@@ -25,10 +25,10 @@ abbrev pub endpoint_b : IpEndpoint
 endpoint_b = record { addr = address.Ipv4 (record { 0 = 10 ∷ 0 ∷ 0 ∷ 2 ∷ [] }); port = 80 }
 
 abbrev pub empty_receiver : ℕ → Received
-empty_receiver n = received [] (replicate n None)
+empty_receiver n = received [] (replicate n None) n
 
 abbrev pub empty_queue : ℕ → Queue
-empty_queue n = record { bytes = []; window = n }
+empty_queue n = record { bytes = []; window = n; until_end = n }
 
 abbrev pub begun_host : ℕ → ℕ → IpEndpoint → HostView
 begun_host rx tx e = new_host (fresh (empty_receiver rx) (empty_queue tx)) e false

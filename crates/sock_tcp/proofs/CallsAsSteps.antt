@@ -42,7 +42,7 @@ module _ {F C E G : Type 0} (g : EmitTcp F C E) (emit : F) (f : Facts) (tells : 
       record { out = k.out; socket = k.socket; emits = k.emits }
 
 sends_if : {R : Type 0} (called : List ℕ → ℕ × R → List ℕ → Type 0) (may : Bool) (v : View) (r : Result R SendError) (w : View) → SendsWithIf may called v r w → SendsWithIf may any_filling v (answer_of r) w
-sends_if called true v (Ok x) w h = record { lent = h.lent; left = h.left; size = h.size; same_length = h.same_length; within = h.within; empty = h.empty; met = tt; size_within = h.size_within; view = h.view }
+sends_if called true v (Ok x) w h = record { lent = h.lent; left = h.left; size = h.size; lent_length = h.lent_length; left_length = h.left_length; met = tt; size_within = h.size_within; view = h.view }
 sends_if called true v (Err e) w h = absurd h
 sends_if called false v (Ok x) w h = absurd h
 sends_if called false v (Err e) w h = h
@@ -51,7 +51,7 @@ pub sends_any : {R : Type 0} (called : List ℕ → ℕ × R → List ℕ → Ty
 sends_any called v r w h = sends_if called (may_send v.state) v r w h
 
 reads_if : {R : Type 0} (called : List ℕ → ℕ × R → Type 0) (may : Bool) (v : View) (r : Result R RecvError) (w : View) → ReadsWithIf may called v r w → ReadsWithIf may any_taking v (read_answer_of r) w
-reads_if called true v (Ok x) w h = record { count = h.count; size = h.size; within = h.within; empty = h.empty; met = tt; size_within = h.size_within; view = h.view }
+reads_if called true v (Ok x) w h = record { size = h.size; met = tt; size_within = h.size_within; view = h.view }
 reads_if called true v (Err e) w h = absurd h
 reads_if called false v (Ok x) w h = absurd h
 reads_if called false v (Err e) w h = h

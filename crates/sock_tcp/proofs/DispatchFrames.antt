@@ -3,10 +3,11 @@ use Rattle.std.proofs.Common.{◌≡◌, ℕ, Bool, true, false, not, ◌&&◌, 
 use Rattle.std.specs.Prelude.{◌==◌, if◌then◌else◌}
 use Rattle.std.proofs.lemmas.List.{length-replicate}
 use Rattle.net_base.specs.declared.time.Instant.{Instant}
+use Rattle.sock_core.specs.Congestion.{post_transmitted}
 use Rattle.sock_core.specs.Estimator.{sent}
 use Rattle.sock_core.specs.Facts.{Facts}
 use Rattle.sock_core.specs.Received.{Received, room_of, cleared}
-use Rattle.sock_tcp.specs.Begin.{Begun, ended, last_ts_set_at, last_ts_set, retransmission_begun, fast_retransmission_marked, after_timer, after_timers, unless_paused, begun_to, begun, nothing_due, by_due, before_emit_to, before_emit}
+use Rattle.sock_tcp.specs.Begin.{Begun, ended, last_ts_set_at, last_ts_set, told_ready, readied, retransmission_begun, fast_retransmission_marked, after_timer, after_timers, unless_paused, begun_to, begun, nothing_due, by_due, before_emit_to, before_emit}
 use Rattle.sock_tcp.specs.Content.{Sending}
 use Rattle.sock_tcp.specs.Due.{is_due}
 use Rattle.sock_tcp.specs.Opening.{renewed}
@@ -55,13 +56,13 @@ timers_keep v now = go (is_reached (timeout_poll v.timeout v.remote_last_ts) now
     go true = record { tx = refl; rx = refl; una = refl }
     go false = timer_keeps v.timer v now
 
-last_ts_keeps : (v : View) (now : Instant) → Keeps v (last_ts_set v now)
-unfolding last_ts_set
-last_ts_keeps v now = go v.remote_last_ts
+readied_keeps : (v : View) (now : Instant) → Keeps v (readied v now)
+unfolding readied last_ts_set
+readied_keeps v now = go v.remote_last_ts
   where
-    go : (o : Option Instant) → Keeps v (last_ts_set_at o v now)
+    go : (o : Option Instant) → Keeps v (told_ready (last_ts_set_at o v now) now)
     go None = record { tx = refl; rx = refl; una = refl }
-    go (Some at) = same v
+    go (Some at) = record { tx = refl; rx = refl; una = refl }
 
 -- ---- how the beginning ends: the queues stay, or the socket is reset
 
@@ -70,15 +71,15 @@ module _ (f : Facts) (stamps : Bool) where
   begun_keeps None v e = same v
   begun_keeps (Some t) v e = go (f.has_address t.local.addr) e
     where
-      go : (b : Bool) → not b ≡ false → Keeps v (if b then unless_paused (after_timers (last_ts_set v (moment_of f)) (moment_of f)) t else ended (renewed v)).view
-      go true e = keeps_both v (last_ts_set v (moment_of f)) (after_timers (last_ts_set v (moment_of f)) (moment_of f)) (last_ts_keeps v (moment_of f)) (timers_keep (last_ts_set v (moment_of f)) (moment_of f))
+      go : (b : Bool) → not b ≡ false → Keeps v (if b then unless_paused (after_timers (readied v (moment_of f)) (moment_of f)) t else ended (renewed v)).view
+      go true e = keeps_both v (readied v (moment_of f)) (after_timers (readied v (moment_of f)) (moment_of f)) (readied_keeps v (moment_of f)) (timers_keep (readied v (moment_of f)) (moment_of f))
       go false e = absurd cc
 
   begun_resets : (o : Option Tuple) (v : View) → is_address_lost o f ≡ true → begun_to o v f ≡ ended (renewed v)
   begun_resets None v e = absurd cc
   begun_resets (Some t) v e = go (f.has_address t.local.addr) e
     where
-      go : (b : Bool) → not b ≡ true → (if b then unless_paused (after_timers (last_ts_set v (moment_of f)) (moment_of f)) t else ended (renewed v)) ≡ ended (renewed v)
+      go : (b : Bool) → not b ≡ true → (if b then unless_paused (after_timers (readied v (moment_of f)) (moment_of f)) t else ended (renewed v)) ≡ ended (renewed v)
       go true e = absurd cc
       go false e = refl
 
@@ -150,7 +151,7 @@ timed_keeps : (v : View) (now : Instant) (s : Emitted) → Keeps v (sending_time
 unfolding sending_timed
 timed_keeps v now s = go (s.len == 0)
   where
-    go : (b : Bool) → Keeps v (if b then v else record v { rtte = sent v.rtte now s.end; timer = retransmit_unless_set v.timer now v.rtte })
+    go : (b : Bool) → Keeps v (if b then v else record v { rtte = sent v.rtte now s.end; timer = retransmit_unless_set v.timer now v.rtte; congestion_controller = post_transmitted v.congestion_controller now s.len })
     go true = same v
     go false = record { tx = refl; rx = refl; una = refl }
 

@@ -1,5 +1,5 @@
 -- From the one call of `emit` to what a dispatch does.
-use Rattle.std.proofs.Common.{◌≡◌, ◌∙◌, ap, List, ℕ, Bool, Option, Some, None, is_some, true, refl, sym, subst, drop}
+use Rattle.std.proofs.Common.{◌≡◌, ◌∙◌, ap, List, ℕ, Bool, Option, Some, None, is_some, true, refl, sym, subst}
 use Rattle.std.specs.Prelude.{Result, Ok, is_ok, option_map}
 use Rattle.std.specs.Borrow.{MutBor}
 use Rattle.std.specs.Option.{ForSome}
@@ -23,13 +23,13 @@ use Rattle.sock_tcp.specs.declared.tuple.Tuple.{Tuple}
 
 module _ {F C E : Type 0} (g : EmitTcp F C E) (f : F) (facts : Facts) where
   -- the state has no segment
-  pub silent : (t : Tuple) (stamp : Option ℕ) (v : View) (bytes : List ℕ) (stamps : Bool) (plain : Segment) (c : C) → v.tuple ≡ Some t → IsLent (asked v t facts stamps) (drop (offset_of v) v.tx_buffer.bytes) bytes → stamps ≡ is_some stamp → plain ≡ plain_segment v t stamp → None ≡ finished v t facts bytes plain → ForSome (content v t facts stamp bytes) (λ s. FitsPacket s.ip s.segment) → EmitsIf g f facts stamp v.tuple v c (Ok tt) v c
+  pub silent : (t : Tuple) (stamp : Option ℕ) (v : View) (bytes : List ℕ) (stamps : Bool) (plain : Segment) (c : C) → v.tuple ≡ Some t → IsLent v.tx_buffer (offset_of v) (asked v t facts stamps) bytes → stamps ≡ is_some stamp → plain ≡ plain_segment v t stamp → None ≡ finished v t facts bytes plain → ForSome (content v t facts stamp bytes) (λ s. FitsPacket s.ip s.segment) → EmitsIf g f facts stamp v.tuple v c (Ok tt) v c
   unfolding content
   silent t stamp v bytes stamps plain c peer lent some begins ends fits =
       let is : None ≡ content v t facts stamp bytes = ends ∙ ap (λ s. finished v t facts bytes s) begins in
       let due : EmitsDue g f facts t stamp v c (Ok tt) v c = record {
         bytes = bytes;
-        lent = subst (λ b. IsLent (asked v t facts b) (drop (offset_of v) v.tx_buffer.bytes) bytes) some lent;
+        lent = subst (λ b. IsLent v.tx_buffer (offset_of v) (asked v t facts b) bytes) some lent;
         emits = subst (λ (x : Option Sending). Emits g packet_of f (option_map packet_in x) c (Ok tt) c) is (refl, refl);
         view = subst (λ x. v ≡ left_by x v (moment_of facts) true) is refl;
         fits = fits;
@@ -37,7 +37,7 @@ module _ {F C E : Type 0} (g : EmitTcp F C E) (f : F) (facts : Facts) where
       subst (λ o. EmitsIf g f facts stamp o v c (Ok tt) v c) (sym peer) due
 
   -- emit was called, and answered r
-  pub emitted : (t : Tuple) (stamp : Option ℕ) (v : View) (bytes : List ℕ) (stamps : Bool) (plain : Segment) (k : Kind) (sent : IpRepr × TcpRepr) (now : Instant) (e : Emitted) (ok : Bool) (shown left : MutBor C) (r : Result (Unit {0}) E) (w : View) → v.tuple ≡ Some t → IsLent (asked v t facts stamps) (drop (offset_of v) v.tx_buffer.bytes) bytes → stamps ≡ is_some stamp → plain ≡ plain_segment v t stamp → Some (record { ip = sent.0; segment = segment_of sent.1; kind = k }) ≡ finished v t facts bytes plain → now.micros ≡ facts.now → e ≡ emitted_as k (segment_of sent.1) → ok ≡ is_ok r → w ≡ after_emit ok v now e → g.post f (shown, (sent, tt)) (r, (left, tt)) → ForSome (content v t facts stamp bytes) (λ s. FitsPacket s.ip s.segment) → EmitsIf g f facts stamp v.tuple v shown.now r w left.now
+  pub emitted : (t : Tuple) (stamp : Option ℕ) (v : View) (bytes : List ℕ) (stamps : Bool) (plain : Segment) (k : Kind) (sent : IpRepr × TcpRepr) (now : Instant) (e : Emitted) (ok : Bool) (shown left : MutBor C) (r : Result (Unit {0}) E) (w : View) → v.tuple ≡ Some t → IsLent v.tx_buffer (offset_of v) (asked v t facts stamps) bytes → stamps ≡ is_some stamp → plain ≡ plain_segment v t stamp → Some (record { ip = sent.0; segment = segment_of sent.1; kind = k }) ≡ finished v t facts bytes plain → now.micros ≡ facts.now → e ≡ emitted_as k (segment_of sent.1) → ok ≡ is_ok r → w ≡ after_emit ok v now e → g.post f (shown, (sent, tt)) (r, (left, tt)) → ForSome (content v t facts stamp bytes) (λ s. FitsPacket s.ip s.segment) → EmitsIf g f facts stamp v.tuple v shown.now r w left.now
   unfolding content
   emitted t stamp v bytes stamps plain k sent now e ok shown left r w peer lent some begins ends moment kept answer h p fits =
       let is : Some (record { ip = sent.0; segment = segment_of sent.1; kind = k }) ≡ content v t facts stamp bytes = ends ∙ ap (λ s. finished v t facts bytes s) begins in
@@ -45,7 +45,7 @@ module _ {F C E : Type 0} (g : EmitTcp F C E) (f : F) (facts : Facts) where
       let a : after_emit ok v now e ≡ after_emit (is_ok r) v (moment_of facts) (emitted_as k (segment_of sent.1)) = (λ i. after_emit (answer i) v (m i) (kept i)) in
       let due : EmitsDue g f facts t stamp v shown.now r w left.now = record {
         bytes = bytes;
-        lent = subst (λ b. IsLent (asked v t facts b) (drop (offset_of v) v.tx_buffer.bytes) bytes) some lent;
+        lent = subst (λ b. IsLent v.tx_buffer (offset_of v) (asked v t facts b) bytes) some lent;
         emits = subst (λ (x : Option Sending). Emits g packet_of f (option_map packet_in x) shown.now r left.now) is (record { shown = shown; shows = refl; sent = sent; says = refl; left = left; met = p; leaves = refl });
         view = subst (λ x. w ≡ left_by x v (moment_of facts) (is_ok r)) is (h ∙ a);
         fits = fits;

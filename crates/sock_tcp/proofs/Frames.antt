@@ -43,7 +43,7 @@ brought b o bs = if length bs == 0 then b else taken_in b o bs
 
 pub stays_as_it_is : (b : Received) (o : ℕ) (bs : List ℕ) → makes_fifth_range b o bs ≡ true → b ≡ taken_in b o bs
 unfolding taken_in
-stays_as_it_is b o bs e = sym (ap (λ t. if t then b else gathered (received b.bytes (written b.held o bs))) e)
+stays_as_it_is b o bs e = sym (ap (λ t. if t then b else gathered (received b.bytes (written b.held o bs) b.until_end)) e)
 
 -- it leaves the receive buffer, and where the socket listens
 pub record TableKeeps (v w : View) : Type 0 where

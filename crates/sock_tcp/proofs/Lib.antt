@@ -6,6 +6,7 @@ pub mod Beginning
 pub mod Polling
 pub mod PayloadWindows
 pub mod Emitting
+pub mod Lending
 pub mod Sending
 pub mod Frames
 pub mod Receiving

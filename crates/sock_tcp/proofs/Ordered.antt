@@ -6,6 +6,7 @@ use Rattle.net_base.specs.declared.time.Instant.{Instant}
 use Rattle.control_wire.specs.Seq.{seq_sub}
 use Rattle.control_wire.specs.declared.seq_number.TcpSeqNumber.{TcpSeqNumber}
 use Rattle.sock_core.specs.Congestion as congestion
+use Rattle.sock_core.specs.Estimator.{Estimator}
 use Rattle.sock_core.specs.Reno.{RenoNumbers}
 use Rattle.sock_core.specs.Seq.{is_before, later_of}
 use Rattle.sock_core.specs.declared.congestion.AnyController.{AnyController}
@@ -218,21 +219,35 @@ module _ (r : RenoNumbers) (h : RenoOpen r) where
       go true = h.ssthresh
       go false = halved_open flight
 
-pub acked_open : (c : AnyController) (n : ℕ) → IsOpen c → IsOpen (congestion.acked c n)
-acked_open (controller.None x) n h = tt
-acked_open (controller.Reno r) n h = reno_acked_open r h n
+pub acked_open : (c : AnyController) (now : Instant) (n flight : ℕ) (rtte : Estimator) → IsOpen c → IsOpen (congestion.acked c now n flight rtte)
+unfolding congestion.acked
+acked_open (controller.None x) now n flight rtte h = tt
+acked_open (controller.Reno r) now n flight rtte h = reno_acked_open r h n
 
-pub dup_acked_open : (c : AnyController) (n : ℕ) → IsOpen c → IsOpen (congestion.dup_acked c n)
-dup_acked_open (controller.None x) n h = tt
-dup_acked_open (controller.Reno r) n h = reno_dup_open r h n
+pub dup_acked_open : (c : AnyController) (now : Instant) (n flight : ℕ) → IsOpen c → IsOpen (congestion.dup_acked c now n flight)
+unfolding congestion.dup_acked
+dup_acked_open (controller.None x) now n flight h = tt
+dup_acked_open (controller.Reno r) now n flight h = reno_dup_open r h n
 
-pub lost_open : (c : AnyController) (n : ℕ) → IsOpen c → IsOpen (congestion.lost c n)
-lost_open (controller.None x) n h = tt
-lost_open (controller.Reno r) n h = reno_lost_open r h n
+pub lost_open : (c : AnyController) (now : Instant) (n : ℕ) → IsOpen c → IsOpen (congestion.lost c now n)
+unfolding congestion.lost
+lost_open (controller.None x) now n h = tt
+lost_open (controller.Reno r) now n h = reno_lost_open r h n
 
-pub timed_out_open : (c : AnyController) (n : ℕ) → IsOpen c → IsOpen (congestion.timed_out c n)
-timed_out_open (controller.None x) n h = tt
-timed_out_open (controller.Reno r) n h = reno_timed_out_open r h n
+pub timed_out_open : (c : AnyController) (now : Instant) (n : ℕ) → IsOpen c → IsOpen (congestion.timed_out c now n)
+unfolding congestion.timed_out
+timed_out_open (controller.None x) now n h = tt
+timed_out_open (controller.Reno r) now n h = reno_timed_out_open r h n
+
+pub pre_transmitted_open : (c : AnyController) (now : Instant) → IsOpen c → IsOpen (congestion.pre_transmitted c now)
+unfolding congestion.pre_transmitted
+pre_transmitted_open (controller.None x) now h = tt
+pre_transmitted_open (controller.Reno r) now h = h
+
+pub post_transmitted_open : (c : AnyController) (now : Instant) (n : ℕ) → IsOpen c → IsOpen (congestion.post_transmitted c now n)
+unfolding congestion.post_transmitted
+post_transmitted_open (controller.None x) now n h = tt
+post_transmitted_open (controller.Reno r) now n h = h
 
 pub window_open : (c : AnyController) (n : ℕ) → IsOpen c → IsOpen (congestion.with_remote_window c n)
 window_open (controller.None x) n h = tt

@@ -9,9 +9,11 @@ use Rattle.net_base.specs.declared.time.Instant.{Instant}
 use Rattle.control_wire.specs.Seq.{seq_sub}
 use Rattle.sock_core.specs.Facts.{Facts}
 use Rattle.sock_core.specs.Received.{receiving}
+use Rattle.sock_core.specs.Congestion.{pre_transmitted}
 use Rattle.sock_core.specs.declared.congestion.AnyController.{AnyController}
 use Rattle.sock_core.specs.declared.congestion.AnyController.TheVariants as controller
-use Rattle.sock_tcp.specs.Begin.{last_ts_set, last_ts_set_at, retransmission_begun, fast_retransmission_marked, after_timer, after_timers, begun, begun_to, unless_paused, ended, nothing_due, by_due, before_emit, before_emit_to}
+use Rattle.sock_tcp.proofs.Lending.{free_within}
+use Rattle.sock_tcp.specs.Begin.{last_ts_set, last_ts_set_at, told_ready, readied, retransmission_begun, fast_retransmission_marked, after_timer, after_timers, begun, begun_to, unless_paused, ended, nothing_due, by_due, before_emit, before_emit_to}
 use Rattle.sock_tcp.specs.Closing.{closed_from}
 use Rattle.sock_tcp.specs.Content.{Sending}
 use Rattle.sock_tcp.specs.Due.{flight, is_due}
@@ -35,7 +37,7 @@ use Rattle.sock_tcp.specs.declared.state.State.TheVariants as state
 use Rattle.sock_tcp.specs.declared.timer.Timer.{Timer}
 use Rattle.sock_tcp.specs.declared.timer.Timer.TheVariants as timer
 use Rattle.sock_tcp.specs.declared.tuple.Tuple.{Tuple}
-use Rattle.sock_tcp.proofs.Ordered.{HasMoment, IsOpen, IsOpening, IsOrdered, IsPeeredIn, Row, is_close, idle_has_moment, kind_open, lost_open, no_distance, timed_out_open}
+use Rattle.sock_tcp.proofs.Ordered.{HasMoment, IsOpen, IsOpening, IsOrdered, IsPeeredIn, Row, is_close, idle_has_moment, kind_open, lost_open, no_distance, pre_transmitted_open, timed_out_open}
 use Rattle.sock_tcp.proofs.OrderedSegments.{process_ordered}
 use Rattle.sock_tcp.proofs.OrderedSendings.{sends_ordered}
 use Rattle.sock_tcp.proofs.SocketSteps.{listening_is, not_zero, same_number}
@@ -97,7 +99,7 @@ timer_ordered (timer.Retransmit at) v now e h = go (is_over at now)
       una_small = h.una_small;
       nxt_small = h.una_small;
       room = h.room;
-      congestion = timed_out_open v.congestion_controller _ h.congestion;
+      congestion = timed_out_open v.congestion_controller _ _ h.congestion;
       peered = h.peered;
       row = subst (λ i. Row v.state (idle_from now v.keep_alive) v.keep_alive i (length v.tx_buffer.bytes)) (sym (no_distance v.local_seq_no h.una_small)) (again_row v.state at v.keep_alive now _ _ (subst (λ x. Row v.state x v.keep_alive (seq_sub v.remote_last_seq v.local_seq_no) (length v.tx_buffer.bytes)) e h.row));
     }
@@ -106,7 +108,7 @@ timer_ordered timer.FastRetransmit v now e h = record {
   una_small = h.una_small;
   nxt_small = h.nxt_small;
   room = h.room;
-  congestion = lost_open v.congestion_controller _ h.congestion;
+  congestion = lost_open v.congestion_controller _ _ h.congestion;
   peered = h.peered;
   row = fast_row v.state v.keep_alive now _ _ (subst (λ x. Row v.state x v.keep_alive (seq_sub v.remote_last_seq v.local_seq_no) (length v.tx_buffer.bytes)) e h.row);
 }
@@ -120,21 +122,24 @@ timers_ordered v now h = go (is_reached (timeout_poll v.timeout v.remote_last_ts
     go true = record { una_small = h.una_small; nxt_small = h.nxt_small; room = h.room; congestion = h.congestion; peered = tt; row = tt }
     go false = timer_ordered v.timer v now refl h
 
-last_ts_ordered : (v : View) (now : Instant) → IsOrdered v → IsOrdered (last_ts_set v now)
-unfolding last_ts_set
-last_ts_ordered v now h = go v.remote_last_ts
+readied_ordered : (v : View) (now : Instant) → IsOrdered v → IsOrdered (readied v now)
+unfolding readied last_ts_set
+readied_ordered v now h = go v.remote_last_ts
   where
-    go : (o : Option Instant) → IsOrdered (last_ts_set_at o v now)
-    go None = record { una_small = h.una_small; nxt_small = h.nxt_small; room = h.room; congestion = h.congestion; peered = h.peered; row = h.row }
-    go (Some at) = h
+    congestion : IsOpen (pre_transmitted v.congestion_controller now)
+    congestion = pre_transmitted_open _ _ h.congestion
+
+    go : (o : Option Instant) → IsOrdered (told_ready (last_ts_set_at o v now) now)
+    go None = record { una_small = h.una_small; nxt_small = h.nxt_small; room = h.room; congestion = congestion; peered = h.peered; row = h.row }
+    go (Some at) = record { una_small = h.una_small; nxt_small = h.nxt_small; room = h.room; congestion = congestion; peered = h.peered; row = h.row }
 
 module _ (f : Facts) (stamps : Bool) where
   begun_ordered : (o : Option Tuple) (v : View) → IsOrdered v → IsOrdered (begun_to o v f).view
   begun_ordered None v h = h
   begun_ordered (Some t) v h = go (f.has_address t.local.addr)
     where
-      go : (b : Bool) → IsOrdered (if b then unless_paused (after_timers (last_ts_set v (moment_of f)) (moment_of f)) t else ended (renewed v)).view
-      go true = timers_ordered (last_ts_set v (moment_of f)) (moment_of f) (last_ts_ordered v (moment_of f) h)
+      go : (b : Bool) → IsOrdered (if b then unless_paused (after_timers (readied v (moment_of f)) (moment_of f)) t else ended (renewed v)).view
+      go true = timers_ordered (readied v (moment_of f)) (moment_of f) (readied_ordered v (moment_of f) h)
       go false = renewed_ordered v h.room
 
   nothing_ordered : (u : View) → IsOrdered u → IsOrdered (nothing_due u (moment_of f))
@@ -190,7 +195,7 @@ slice_ordered v w bs true may e h = subst IsOrdered (sym e) (queued_ordered v (f
 slice_ordered v w bs false may e h = subst IsOrdered (sym e) h
 
 closure_ordered : (may : Bool) (v w : View) (r : Result (Unit {0}) SendError) → may_send v.state ≡ may → SendsWithIf may any_filling v r w → IsOrdered v → IsOrdered w
-closure_ordered true v w (Ok x) may h i = subst IsOrdered (sym h.view) (queued_ordered v h.size h.left may (omega (arith, h.size_within, h.within)) i)
+closure_ordered true v w (Ok x) may h i = subst IsOrdered (sym h.view) (queued_ordered v h.size h.left may (omega (arith, h.size_within, free_within v.tx_buffer)) i)
 closure_ordered true v w (Err e) may h i = absurd h
 closure_ordered false v w (Ok x) may h i = absurd h
 closure_ordered false v w (Err e) may h i = subst IsOrdered (sym h.1) i

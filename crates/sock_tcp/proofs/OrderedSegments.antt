@@ -238,7 +238,7 @@ module _ (s : Segment) (now : Instant) where
         peered = subst (λ z. IsPeeredIn z u.tuple) (sym h.state) h.peered
 
         after_duplicate : View
-        after_duplicate = timestamp_taken (una_advanced (duplicate_counted x) k) s.timestamp
+        after_duplicate = timestamp_taken (una_advanced (duplicate_counted x now) k) s.timestamp
 
         after_ack : View
         after_ack = timestamp_taken (una_advanced (ack_counted x now k a.len) k) s.timestamp
@@ -255,7 +255,7 @@ module _ (s : Segment) (now : Instant) where
           una_small = small;
           nxt_small = later_small u.remote_last_seq k h.nxt_small small;
           room = omega (arith, h.room, long, h.covered);
-          congestion = dup_acked_open _ _ (window_open u.congestion_controller _ h.congestion);
+          congestion = dup_acked_open _ _ _ _ (window_open u.congestion_controller _ h.congestion);
           peered = peered;
           row = row_holds _ (leaves _ (set_has_moment now a after_duplicate.timer after_duplicate) (λ c f z. absurd (in_order d f)));
         }
@@ -263,7 +263,7 @@ module _ (s : Segment) (now : Instant) where
           una_small = small;
           nxt_small = later_small u.remote_last_seq k h.nxt_small small;
           room = omega (arith, h.room, long, h.covered);
-          congestion = acked_open _ _ (window_open u.congestion_controller _ h.congestion);
+          congestion = acked_open _ _ _ _ _ (window_open u.congestion_controller _ h.congestion);
           peered = peered;
           row = row_holds _ (leaves _ (set_has_moment now a u.timer after_ack) (λ c f z. close_stays now a u.timer after_ack c (long ∙ z)));
         }

@@ -1,5 +1,5 @@
 -- What a dispatch sends keeps the order of SND.UNA, SND.NXT, the transmit queue and the timer.
-use Rattle.std.proofs.Common.{◌≡◌, ℕ, ◌+◌, ◌-◌, ◌<◌, ◌≤◌, ◌^◌, ◌⊎◌, inl, inr, Bool, true, false, true≢false, refl, sym, ap, subst, ◌∙◌, List, length, Option, Some, None, arith, length-drop}
+use Rattle.std.proofs.Common.{◌≡◌, ℕ, ◌+◌, ◌-◌, ◌<◌, ◌≤◌, ◌^◌, ◌⊎◌, inl, inr, Bool, true, false, true≢false, refl, sym, ap, subst, ◌∙◌, List, length, Option, Some, None, arith}
 use Rattle.std.specs.Prelude.{if◌then◌else◌, ◌==◌, option_map}
 use Rattle.std.proofs.lemmas.Bool.{eqb-true}
 use Rattle.net_base.specs.declared.time.Duration.{Duration}
@@ -9,8 +9,10 @@ use Rattle.control_wire.specs.Seq.{seq_add, seq_sub}
 use Rattle.control_wire.specs.declared.seq_number.TcpSeqNumber.{TcpSeqNumber}
 use Rattle.control_wire.specs.declared.tcp.TcpControl.TheVariants as control
 use Rattle.sock_core.specs.Facts.{Facts}
+use Rattle.sock_core.specs.Congestion.{post_transmitted}
 use Rattle.sock_core.specs.Estimator.{Estimator, sent}
 use Rattle.sock_core.specs.Seq.{later_of}
+use Rattle.sock_tcp.proofs.Lending.{lent_at_most}
 use Rattle.sock_tcp.specs.Content.{Sending, content, data_control, filled, emission_kind, offset_of, of_kind, plain_segment, sent_as, with_data}
 use Rattle.sock_tcp.specs.Due.{flight, is_closed, is_closing}
 use Rattle.sock_tcp.specs.Sent.{emitted_as, after_any, after_probe, snd_nxt_moved, sending_timed, after_sending, left_by}
@@ -24,7 +26,7 @@ use Rattle.sock_tcp.specs.declared.state.State.TheVariants as state
 use Rattle.sock_tcp.specs.declared.timer.Timer.{Timer}
 use Rattle.sock_tcp.specs.declared.timer.Timer.TheVariants as timer
 use Rattle.sock_tcp.specs.declared.tuple.Tuple.{Tuple}
-use Rattle.sock_tcp.proofs.Ordered.{HasMoment, IsOpening, IsOrdered, IsPeeredIn, Row, is_close, idle_has_moment, later_small, later_within}
+use Rattle.sock_tcp.proofs.Ordered.{HasMoment, IsOpening, IsOrdered, IsPeeredIn, Row, is_close, idle_has_moment, later_small, later_within, post_transmitted_open}
 
 -- ---- timers
 
@@ -260,9 +262,9 @@ module _ (u : View) (now : Instant) (h : IsOrdered u) where
       row : (z : Bool) → (segment_len s == 0) ≡ z → Row u.state (if z then moved.timer else retransmit_unless_set moved.timer now moved.rtte) u.keep_alive (seq_sub (later_of u.remote_last_seq end) u.local_seq_no) (length u.tx_buffer.bytes)
       row z e = plain_row u.state moved.timer now moved.rtte u.keep_alive _ _ _ (segment_len s) (length u.tx_buffer.bytes) any_ordered.row ends up z e
 
-      go : (z : Bool) → (segment_len s == 0) ≡ z → IsOrdered (if z then moved else record moved { rtte = sent moved.rtte now end; timer = retransmit_unless_set moved.timer now moved.rtte })
+      go : (z : Bool) → (segment_len s == 0) ≡ z → IsOrdered (if z then moved else record moved { rtte = sent moved.rtte now end; timer = retransmit_unless_set moved.timer now moved.rtte; congestion_controller = post_transmitted moved.congestion_controller now (segment_len s) })
       go true e = record { una_small = h.una_small; nxt_small = later_small u.remote_last_seq end h.nxt_small (omega arith); room = h.room; congestion = h.congestion; peered = peer_stays u.state u.tuple h.peered; row = row true e }
-      go false e = record { una_small = h.una_small; nxt_small = later_small u.remote_last_seq end h.nxt_small (omega arith); room = h.room; congestion = h.congestion; peered = peer_stays u.state u.tuple h.peered; row = row false e }
+      go false e = record { una_small = h.una_small; nxt_small = later_small u.remote_last_seq end h.nxt_small (omega arith); room = h.room; congestion = post_transmitted_open _ _ _ h.congestion; peered = peer_stays u.state u.tuple h.peered; row = row false e }
 
   sent_ordered : (k : Kind) (s : Segment) → EndsAs u.state u s → IsOrdered (after_sending u now (emitted_as k (of_kind k u s)))
   unfolding after_sending after_probe after_any
@@ -279,6 +281,6 @@ pub sends_ordered : (o : Option Tuple) (f : Facts) (stamps : Bool) (u : View) (o
 unfolding content
 sends_ordered None f stamps u out w h i = subst IsOrdered (sym h.1) i
 sends_ordered (Some t) f stamps u out w h i =
-    let fits : length h.bytes ≤ length u.tx_buffer.bytes - offset_of u = omega (arith, h.lent.at_most, length-drop (offset_of u) u.tx_buffer.bytes) in
+    let fits : length h.bytes ≤ length u.tx_buffer.bytes - offset_of u = omega (arith, lent_at_most u.tx_buffer (offset_of u) _ h.bytes h.lent) in
     let left = left_ordered u (moment_of f) i t f (filled u.state u t f h.bytes (plain_segment u t h.stamp)) h.ok (filled_ends u.state u t f h.stamp h.bytes refl i fits) in
     subst IsOrdered (sym h.view) (subst (λ x. IsOrdered (left_by x u (moment_of f) h.ok)) (sym h.sends) left)

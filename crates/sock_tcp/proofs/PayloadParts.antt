@@ -7,6 +7,7 @@ use Rattle.control_wire.specs.Segment.{Segment}
 use Rattle.control_wire.specs.Seq.{seq_sub}
 use Rattle.control_wire.specs.declared.seq_number.TcpSeqNumber.{TcpSeqNumber}
 use Rattle.sock_core.specs.Facts.{Facts}
+use Rattle.sock_tcp.proofs.Lending.{lent_beginning}
 use Rattle.sock_tcp.specs.Content.{Sending, asked, offset_of, filled, emission_kind, of_kind, plain_segment, sent_as, content}
 use Rattle.sock_tcp.specs.Due.{flight}
 use Rattle.sock_tcp.specs.Queue.{Queue, IsLent}
@@ -62,14 +63,14 @@ offset_is : (pending : Bool) (u : View) (una : TcpSeqNumber) → u.local_seq_no 
 offset_is true u una e small = let h : u.local_seq_no.0 ≡ una.0 = ap (λ (x : TcpSeqNumber). x.0) e in omega (arith, h, small)
 offset_is false u una e small = ap (seq_sub u.remote_last_seq) e
 
-part_is : (k : Counts) (v u : View) (n : ℕ) (bytes : List ℕ) (s : Segment) → v.tx_buffer.bytes ≡ drop k.released k.sent → Keeps v u → v.local_seq_no.0 < 2 ^ 32 → IsLent n (drop (offset_of u) u.tx_buffer.bytes) bytes → IsData u bytes s → IsPart k (seq_sub s.seq_number v.local_seq_no) s.payload
+part_is : (k : Counts) (v u : View) (n : ℕ) (bytes : List ℕ) (s : Segment) → v.tx_buffer.bytes ≡ drop k.released k.sent → Keeps v u → v.local_seq_no.0 < 2 ^ 32 → IsLent u.tx_buffer (offset_of u) n bytes → IsData u bytes s → IsPart k (seq_sub s.seq_number v.local_seq_no) s.payload
 part_is k v u n bytes s e same small lent (inl d) = subst (λ p. p ≡ take (length p) (drop (k.released + seq_sub s.seq_number v.local_seq_no) k.sent)) (sym d) refl
 part_is k v u n bytes s e same small lent (inr d) =
     let tx : u.tx_buffer.bytes ≡ drop k.released k.sent = ap (λ (q : Queue). q.bytes) same.tx ∙ e in
     let off : offset_of u ≡ seq_sub s.seq_number v.local_seq_no = offset_is u.pending_fast_retransmit u v.local_seq_no same.una small ∙ ap (λ x. seq_sub x v.local_seq_no) (sym d.1) in
     let all : drop (offset_of u) u.tx_buffer.bytes ≡ drop (k.released + offset_of u) k.sent = ap (drop (offset_of u)) tx ∙ drop-drop (offset_of u) k.released k.sent in
     let rest : drop (offset_of u) u.tx_buffer.bytes ≡ drop (k.released + seq_sub s.seq_number v.local_seq_no) k.sent = all ∙ ap (λ i. drop (k.released + i) k.sent) off in
-    subst (λ p. p ≡ take (length p) (drop (k.released + seq_sub s.seq_number v.local_seq_no) k.sent)) (sym d.0) (lent.beginning ∙ ap (take (length bytes)) rest)
+    subst (λ p. p ≡ take (length p) (drop (k.released + seq_sub s.seq_number v.local_seq_no) k.sent)) (sym d.0) (lent_beginning u.tx_buffer (offset_of u) n bytes lent ∙ ap (take (length bytes)) rest)
 
 -- u is the socket before the emit
 pub sends_part : (o : Option Tuple) (f : Facts) (stamps : Bool) (k : Counts) (v u w : View) (out : Sending) → v.tx_buffer.bytes ≡ drop k.released k.sent → Keeps v u → v.local_seq_no.0 < 2 ^ 32 → SendsTo o f stamps u (Some out) w → (out.kind ≡ kind.KeepAlive → ⊥) → IsPart k (seq_sub out.segment.seq_number v.local_seq_no) out.segment.payload

@@ -1,8 +1,9 @@
 -- A payload keeps to the peer's window and to the controller's.
-use Rattle.std.proofs.Common.{◌≡◌, ℕ, ◌+◌, ◌<◌, ◌≤◌, List, Bool, true, false, Option, Some, None, is_some, refl, sym, ◌∙◌, ap, drop, length, min, arith}
+use Rattle.std.proofs.Common.{◌≡◌, ℕ, ◌+◌, ◌<◌, ◌≤◌, List, Bool, true, false, Option, Some, None, is_some, refl, sym, ◌∙◌, ap, length, min, arith}
 use Rattle.std.specs.Prelude.{option_map, if◌then◌else◌}
 use Rattle.std.proofs.lemmas.Option.{none-some, same_Some}
 use Rattle.sock_core.specs.Facts.{Facts}
+use Rattle.sock_tcp.proofs.Lending.{lent_at_most}
 use Rattle.sock_tcp.specs.Queue.{IsLent}
 use Rattle.sock_tcp.specs.declared.state.State.{State}
 use Rattle.sock_tcp.specs.declared.state.State.TheVariants as state
@@ -50,7 +51,7 @@ no_probe : (b : Bool) (k : Kind) → (if b then kind.Probe else k) ≡ kind.Plai
 no_probe true k e = absurd cc
 no_probe false k e = refl
 
-of_filled : (o : Option Segment) (v : View) (t : Tuple) (f : Facts) (stamps : Bool) (bytes : List ℕ) (s : Sending) → len_in o ≤ length bytes → IsLent (asked v t f stamps) (drop (offset_of v) v.tx_buffer.bytes) bytes → option_map (λ s. sent_as v t (emission_kind v (moment_of f) s) s) o ≡ Some s → s.kind ≡ kind.Plain → v.pending_fast_retransmit ≡ false → 0 < length s.segment.payload → (flight v + length s.segment.payload ≤ v.remote_win_len) × (length s.segment.payload ≤ congestion_left v)
+of_filled : (o : Option Segment) (v : View) (t : Tuple) (f : Facts) (stamps : Bool) (bytes : List ℕ) (s : Sending) → len_in o ≤ length bytes → IsLent v.tx_buffer (offset_of v) (asked v t f stamps) bytes → option_map (λ s. sent_as v t (emission_kind v (moment_of f) s) s) o ≡ Some s → s.kind ≡ kind.Plain → v.pending_fast_retransmit ≡ false → 0 < length s.segment.payload → (flight v + length s.segment.payload ≤ v.remote_win_len) × (length s.segment.payload ≤ congestion_left v)
 of_filled None v t f stamps bytes s h lent e k fast some = absurd (none-some s e)
 of_filled (Some u) v t f stamps bytes s h lent e k fast some =
     let q : sent_as v t (emission_kind v (moment_of f) u) u ≡ s = same_Some (sent_as v t (emission_kind v (moment_of f) u) u) s e in
@@ -59,7 +60,7 @@ of_filled (Some u) v t f stamps bytes s h lent e k fast some =
     let m : length (of_kind (emission_kind v (moment_of f) u) v u).payload ≡ length u.payload = ap (λ (k : Kind). length (of_kind k v u).payload) j in
     let l : length s.segment.payload ≡ length u.payload = ap (λ (x : Sending). length x.segment.payload) (sym q) ∙ m in
     let a : asked v t f stamps ≤ min (window_left v) (congestion_left v) = asked_at_most v t f stamps fast p in
-    let b : length bytes ≤ asked v t f stamps = omega (arith, lent.at_most) in
+    let b : length bytes ≤ asked v t f stamps = omega (arith, lent_at_most v.tx_buffer (offset_of v) (asked v t f stamps) bytes lent) in
     let n : length s.segment.payload ≤ min (window_left v) (congestion_left v) = omega (arith, l, h, a, b) in
     (omega (arith, n, some), omega (arith, n))
 

@@ -1,5 +1,5 @@
 -- Where `poll_at` answers later than now, a dispatch at now emits nothing.
-use Rattle.std.proofs.Common.{◌≡◌, Bool, true, false, Option, Some, None, is_none, refl, arith}
+use Rattle.std.proofs.Common.{◌≡◌, Bool, true, false, Option, Some, None, is_none, refl, ap, ◌∙◌, arith}
 use Rattle.std.specs.Prelude.{◌||◌, if◌then◌else◌, int_le, ◌<ℤ◌}
 use Rattle.std.proofs.lemmas.Bool.{or_parts}
 use Rattle.std.proofs.lemmas.Int.{ints}
@@ -7,7 +7,10 @@ use Rattle.net_base.specs.declared.time.Instant.{Instant}
 use Rattle.sock_core.specs.Facts.{Facts}
 use Rattle.sock_core.specs.declared.context.PollAt.{PollAt}
 use Rattle.sock_core.specs.declared.context.PollAt.TheVariants as poll
-use Rattle.sock_tcp.specs.Begin.{last_ts_set, last_ts_set_at, after_timer, after_timers, is_paused, begun, begun_to, unless_paused, ended, before_emit, before_emit_to}
+use Rattle.sock_core.specs.Congestion.{pre_transmitted}
+use Rattle.sock_core.specs.declared.congestion.AnyController.{AnyController}
+use Rattle.sock_core.specs.declared.congestion.AnyController.TheVariants as controller
+use Rattle.sock_tcp.specs.Begin.{last_ts_set, last_ts_set_at, told_ready, readied, after_timer, after_timers, is_paused, begun, begun_to, unless_paused, ended, before_emit, before_emit_to}
 use Rattle.sock_tcp.specs.Due.{data_due, ack_poll, window_doubled, is_closed, is_due}
 use Rattle.sock_tcp.specs.Opening.{renewed}
 use Rattle.sock_tcp.specs.Poll.{is_due_now, poll_moment_to, poll_moment, PollHidesNothing}
@@ -67,9 +70,23 @@ same_last_ts_set : (o : Option Instant) (v : View) (now : Instant) → is_none o
 same_last_ts_set None v now h = absurd cc
 same_last_ts_set (Some last) v now h = refl
 
-same_begun : (v : View) (now : Instant) → is_none v.remote_last_ts ≡ false → IsLater (timer_poll v.timer) now → IsLater (timeout_poll v.timeout v.remote_last_ts) now → after_timers (last_ts_set v now) now ≡ v
-unfolding last_ts_set after_timers
-same_begun v now known m u = rw (same_last_ts_set v.remote_last_ts v now known, not_reached (timeout_poll v.timeout v.remote_last_ts) now u) (no_effect v.timer v now m)
+same_pre_transmitted : (c : AnyController) (now : Instant) → pre_transmitted c now ≡ c
+unfolding pre_transmitted
+same_pre_transmitted (controller.None n) now = refl
+same_pre_transmitted (controller.Reno r) now = refl
+
+same_readied : (v : View) (now : Instant) → is_none v.remote_last_ts ≡ false → readied v now ≡ v
+unfolding readied last_ts_set
+same_readied v now known =
+    ap (λ (w : View). told_ready w now) (same_last_ts_set v.remote_last_ts v now known)
+    ∙ ap (λ (c : AnyController). record v { congestion_controller = c }) (same_pre_transmitted v.congestion_controller now)
+
+same_timers : (v : View) (now : Instant) → IsLater (timer_poll v.timer) now → IsLater (timeout_poll v.timeout v.remote_last_ts) now → after_timers v now ≡ v
+unfolding after_timers
+same_timers v now m u = rw (not_reached (timeout_poll v.timeout v.remote_last_ts) now u) (no_effect v.timer v now m)
+
+same_begun : (v : View) (now : Instant) → is_none v.remote_last_ts ≡ false → IsLater (timer_poll v.timer) now → IsLater (timeout_poll v.timeout v.remote_last_ts) now → after_timers (readied v now) now ≡ v
+same_begun v now known m u = ap (λ (w : View). after_timers w now) (same_readied v now known) ∙ same_timers v now m u
 
 -- ---- the whole
 

@@ -14,6 +14,7 @@ use Rattle.control_wire.specs.Seq.{seq_sub}
 use Rattle.control_wire.specs.declared.seq_number.TcpSeqNumber.{TcpSeqNumber}
 use Rattle.sock_core.specs.Facts.{Facts}
 use Rattle.sock_core.specs.Received.{Received, byte_at, cleared, handed_out, merged, receiving, room_of}
+use Rattle.sock_tcp.proofs.Lending.{first_within}
 use Rattle.sock_tcp.specs.Begin.{Begun, before_emit}
 use Rattle.sock_tcp.specs.Content.{Sending}
 use Rattle.sock_tcp.specs.Laws.{MayTake}
@@ -151,7 +152,7 @@ slice_read v w k bs bs' r c h = go (may_recv v) h.answer h.view
     go false e is = subst (λ r. Holds w (with_handed k (handed_slice bs' r))) (sym e) (subst (Holds w) (sym (none_read k)) (unchanged v w k c is))
 
 closure_read : (may : Bool) (v w : View) (k : Counts) (r : Result (Unit {0}) RecvError) (h : ReadsWithIf may any_taking v r w) → Holds v k → Holds w (with_handed k (taken_out may v r w h))
-closure_read true v w k (Ok x) h c = takes_off v w k h.size (take h.size (take h.count v.rx_buffer.bytes)) c (omega (arith, h.size_within, h.within)) (take-take h.size h.count v.rx_buffer.bytes h.size_within) h.view
+closure_read true v w k (Ok x) h c = takes_off v w k h.size (take h.size v.rx_buffer.bytes) c (omega (arith, h.size_within, first_within v.rx_buffer)) refl h.view
 closure_read true v w k (Err e) h c = absurd h
 closure_read false v w k (Ok x) h c = absurd h
 closure_read false v w k (Err e) h c = subst (Holds w) (sym (none_read k)) (unchanged v w k c h.1)

@@ -1,7 +1,7 @@
 -- How a dispatch begins: what comes before the reasons to send.
 use Rattle.std.specs.Prelude.{Option, Some, None, Bool, true, false, if◌then◌else◌}
 use Rattle.net_base.specs.declared.time.Instant.{Instant}
-use Rattle.sock_core.specs.Congestion.{lost, timed_out}
+use Rattle.sock_core.specs.Congestion.{lost, pre_transmitted, timed_out}
 use Rattle.sock_core.specs.Estimator.{backed_off, retransmitted}
 use Rattle.sock_core.specs.Facts.{Facts}
 use Rattle.sock_tcp.specs.Due.{flight, is_due}
@@ -38,13 +38,21 @@ last_ts_set_at (Some last) v now = v
 unfoldable pub last_ts_set : View → Instant → View
 last_ts_set v now = last_ts_set_at v.remote_last_ts v now
 
+-- the controller is told that a segment may go out
+abbrev pub told_ready : View → Instant → View
+told_ready v now = record v { congestion_controller = pre_transmitted v.congestion_controller now }
+
+-- both
+unfoldable pub readied : View → Instant → View
+readied v now = told_ready (last_ts_set v now) now
+
 -- ---- the timers
 
 -- the retransmission timer is over: all behind SND.UNA is sent again (RFC 6298, section 5)
 unfoldable pub retransmission_begun : View → Instant → View
 retransmission_begun v now =
     record v {
-      congestion_controller = timed_out v.congestion_controller (flight v);
+      congestion_controller = timed_out v.congestion_controller now (flight v);
       remote_last_seq = v.local_seq_no;
       rtte = retransmitted (backed_off v.rtte);
       timer = idle_from now v.keep_alive;
@@ -54,7 +62,7 @@ retransmission_begun v now =
 unfoldable pub fast_retransmission_marked : View → Instant → View
 fast_retransmission_marked v now =
     record v {
-      congestion_controller = lost v.congestion_controller (flight v);
+      congestion_controller = lost v.congestion_controller now (flight v);
       pending_fast_retransmit = true;
       rtte = retransmitted v.rtte;
       timer = idle_from now v.keep_alive;
@@ -86,7 +94,7 @@ abbrev pub begun_to : Option Tuple → View → Facts → Begun
 begun_to None v f = ended v
 begun_to (Some t) v f =
     if f.has_address t.local.addr
-    then unless_paused (after_timers (last_ts_set v (moment_of f)) (moment_of f)) t
+    then unless_paused (after_timers (readied v (moment_of f)) (moment_of f)) t
     else ended (renewed v)
 
 unfoldable pub begun : View → Facts → Begun

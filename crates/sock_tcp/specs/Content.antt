@@ -157,12 +157,12 @@ ip_of v t s =
     ip_header t.local.addr t.remote.addr protocol.Tcp (segment_header_len s + length s.payload)
     (hop_limit_of v.hop_limit)
 
-abbrev pub sent_as : View → Tuple → Kind → Segment → Sending
-sent_as v t k s = record { ip = ip_of v t (of_kind k v s); segment = of_kind k v s; kind = k }
-
 -- the segment with its header
 abbrev pub sending : View → Tuple → Kind → Segment → Sending
 sending v t k s = record { ip = ip_of v t s; segment = s; kind = k }
+
+abbrev pub sent_as : View → Tuple → Kind → Segment → Sending
+sent_as v t k s = sending v t k (of_kind k v s)
 
 -- out of the plain segment
 abbrev pub finished : View → Tuple → Facts → List ℕ → Segment → Option Sending
@@ -170,6 +170,4 @@ finished v t f bytes plain =
     option_map (λ s. sent_as v t (emission_kind v (moment_of f) s) s) (filled v.state v t f bytes plain)
 
 unfoldable pub content : View → Tuple → Facts → Option ℕ → List ℕ → Option Sending
-content v t f stamp bytes =
-    option_map (λ s. sent_as v t (emission_kind v (moment_of f) s) s)
-    (filled v.state v t f bytes (plain_segment v t stamp))
+content v t f stamp bytes = finished v t f bytes (plain_segment v t stamp)

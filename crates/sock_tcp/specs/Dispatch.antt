@@ -1,5 +1,5 @@
 -- `dispatch` whole.
-use Rattle.std.specs.Prelude.{◌≡◌, ℕ, List, drop, Result, Ok, is_ok, Option, Some, None, is_some, MatchOption, IsSomeAnd, option_map}
+use Rattle.std.specs.Prelude.{◌≡◌, ℕ, List, Result, Ok, is_ok, Option, Some, None, is_some, MatchOption, IsSomeAnd, option_map}
 use Rattle.std.specs.Option.{ForSome}
 use Rattle.ip_wire.specs.declared.repr.IpRepr.{IpRepr}
 use Rattle.control_wire.specs.Fits.{FitsPacket}
@@ -23,13 +23,13 @@ EmitTcp F C E = Emit F C (IpRepr × TcpRepr) E
 abbrev pub packet_in : Sending → IpRepr × Segment
 packet_in s = (s.ip, s.segment)
 
--- The ring lent some bytes, the segment with them and the timestamp went out, and the socket is as the answer leaves
--- it.
+-- The segment with the bytes that the ring lends, and with the timestamp, went out, and the socket is as the answer
+-- leaves it.
 -- What goes out can be written as a packet and read back
 pub record EmitsDue {F C E : Type 0} (g : EmitTcp F C E) (f : F) (facts : Facts) (t : Tuple) (stamp : Option ℕ)
     (v : View) (c : C) (r : Result (Unit {0}) E) (w : View) (c' : C) : Type 0 where
   pub bytes : List ℕ
-  pub lent : IsLent (asked v t facts (is_some stamp)) (drop (offset_of v) v.tx_buffer.bytes) bytes
+  pub lent : IsLent v.tx_buffer (offset_of v) (asked v t facts (is_some stamp)) bytes
   pub emits : Emits g packet_of f (option_map packet_in (content v t facts stamp bytes)) c r c'
   pub view : w ≡ left_by (content v t facts stamp bytes) v (moment_of facts) (is_ok r)
   pub fits : ForSome (content v t facts stamp bytes) (λ s. FitsPacket s.ip s.segment)

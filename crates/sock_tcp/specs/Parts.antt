@@ -1,5 +1,5 @@
 -- A socket that was taken apart into its two slices and the rest, and is put together again.
-use Rattle.std.specs.Prelude.{ℕ, pos, negsuc, int_le, ◌^◌, Bool, true, ◌&&◌, not, nat_le, List, length, take, drop, Option, Some, None}
+use Rattle.std.specs.Prelude.{ℕ, pos, negsuc, int_le, ◌-◌, ◌^◌, Bool, true, ◌&&◌, not, nat_le, List, length, take, drop, Option, Some, None}
 use Rattle.ip_wire.specs.Address.{same_version}
 use Rattle.net_base.specs.declared.time.Duration.{Duration}
 use Rattle.net_base.specs.declared.time.Instant.{Instant}
@@ -20,6 +20,7 @@ queue_in p xs =
     record {
       bytes = take p.tx_count (cells_from p.tx_read_at xs);
       window = length (drop p.tx_count (cells_from p.tx_read_at xs));
+      until_end = length xs - p.tx_read_at;
     }
 
 -- the socket whose buffers lie in the places rx and tx

@@ -1,5 +1,5 @@
 -- `poll_at`, and the laws of a dispatch.
-use Rattle.std.specs.Prelude.{◌≡◌, ℕ, ◌+◌, ◌<◌, ◌≤◌, List, length, drop, Option, Some, None, is_some, is_none, Bool, false, ◌||◌, if◌then◌else◌}
+use Rattle.std.specs.Prelude.{◌≡◌, ℕ, ◌+◌, ◌<◌, ◌≤◌, List, length, Option, Some, None, is_some, is_none, Bool, false, ◌||◌, if◌then◌else◌}
 use Rattle.sock_core.specs.Facts.{Facts}
 use Rattle.sock_core.specs.declared.context.PollAt.{PollAt}
 use Rattle.sock_core.specs.declared.context.PollAt.TheVariants as poll
@@ -41,7 +41,7 @@ PollHidesNothing = (v : View) (f : Facts) (stamps : Bool)
 -- is at most the congestion window less what is in flight
 abbrev pub PayloadKeepsToWindows : Type 0
 PayloadKeepsToWindows = (v : View) (t : Tuple) (f : Facts) (stamp : Option ℕ) (bytes : List ℕ) (s : Sending)
-    → IsLent (asked v t f (is_some stamp)) (drop (offset_of v) v.tx_buffer.bytes) bytes
+    → IsLent v.tx_buffer (offset_of v) (asked v t f (is_some stamp)) bytes
     → content v t f stamp bytes ≡ Some s
     → s.kind ≡ kind.Plain
     → v.pending_fast_retransmit ≡ false

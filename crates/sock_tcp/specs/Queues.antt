@@ -4,8 +4,8 @@ use Rattle.std.specs.Borrow.{Bor}
 use Rattle.net_base.specs.declared.time.Instant.{Instant}
 use Rattle.control_wire.specs.Seq.{seq_add}
 use Rattle.sock_core.specs.Estimator.{Estimator}
-use Rattle.sock_core.specs.Received.{handed_out}
-use Rattle.sock_tcp.specs.Queue.{appended, IsLent}
+use Rattle.sock_core.specs.Received.{handed_out, first_piece}
+use Rattle.sock_tcp.specs.Queue.{appended, free_piece}
 use Rattle.sock_tcp.specs.Timers.{rto_of, is_idle}
 use Rattle.sock_tcp.specs.View.{View}
 use Rattle.sock_tcp.specs.declared.error.RecvError.{RecvError}
@@ -76,18 +76,17 @@ pub record Sends (v : View) (bs : List ℕ) (r : Result ℕ SendError) (w : View
   pub answer : r ≡ (if may_send v.state then Ok (fitting v (length bs)) else Err send_error.InvalidState)
   pub view : w ≡ (if may_send v.state then written v bs else v)
 
--- f was lent free places behind the transmit queue, in one piece and empty only where there are none; of what it left
--- there as many bytes join the queue as it answered
+-- f was lent the free places behind the transmit queue, as far as they stand in one piece; of what it left there as
+-- many bytes join the queue as it answered
 pub record FillsFree {R : Type 0} (called : List ℕ → ℕ × R → List ℕ → Type 0)
     (v : View) (x : R) (w : View) : Type 0 where
   pub lent : List ℕ
   pub left : List ℕ
   pub size : ℕ
-  pub same_length : length lent ≡ length left
-  pub within : length left ≤ v.tx_buffer.window
-  pub empty : length left ≡ 0 → v.tx_buffer.window ≡ 0
+  pub lent_length : length lent ≡ free_piece v.tx_buffer
+  pub left_length : length left ≡ free_piece v.tx_buffer
   pub met : called lent (size, x) left
-  pub size_within : size ≤ length left
+  pub size_within : size ≤ free_piece v.tx_buffer
   pub view : w ≡ queued v size left
 
 -- refused without a call of f where nothing may be sent
@@ -129,15 +128,11 @@ pub record Reads (v : View) (bs : List ℕ) (r : Result ℕ RecvError) (w : View
   pub read : IfOk r (λ n. bs' ≡ take n v.rx_buffer.bytes ++ drop n bs)
   pub refused : OnErr r (bs' ≡ bs)
 
--- f was lent a beginning of the receive queue, in one piece and empty only where the queue is; as many bytes leave as
--- it answered
+-- f was lent the receive queue as far as it stands in one piece; as many bytes leave as it answered
 pub record TakesQueued {R : Type 0} (called : List ℕ → ℕ × R → Type 0) (v : View) (x : R) (w : View) : Type 0 where
-  pub count : ℕ
   pub size : ℕ
-  pub within : count ≤ length v.rx_buffer.bytes
-  pub empty : count ≡ 0 → length v.rx_buffer.bytes ≡ 0
-  pub met : called (take count v.rx_buffer.bytes) (size, x)
-  pub size_within : size ≤ count
+  pub met : called (take (first_piece v.rx_buffer) v.rx_buffer.bytes) (size, x)
+  pub size_within : size ≤ first_piece v.rx_buffer
   pub view : w ≡ read_off v size
 
 abbrev pub ReadsWithIf : {R : Type 0} → Bool → (List ℕ → ℕ × R → Type 0) → View → Result R RecvError → View → Type 0
@@ -148,9 +143,9 @@ ReadsWithIf _ called v r w = ⊥
 abbrev pub ReadsWith : {R : Type 0} → (List ℕ → ℕ × R → Type 0) → View → Result R RecvError → View → Type 0
 ReadsWith called v r w = ReadsWithIf (may_recv v) called v r w
 
--- a beginning of the receive queue, in one piece, of at most n bytes, and empty only where there are none
+-- the receive queue as far as it stands in one piece, but at most n bytes
 abbrev pub PeeksIf : Bool → View → ℕ → Result (List ℕ) RecvError → Type 0
-PeeksIf true v n (Ok bs) = IsLent n v.rx_buffer.bytes bs
+PeeksIf true v n (Ok bs) = bs ≡ take (min n (first_piece v.rx_buffer)) v.rx_buffer.bytes
 PeeksIf false v n (Err e) = e ≡ recv_refusal v
 PeeksIf _ v n r = ⊥
 

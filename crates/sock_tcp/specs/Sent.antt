@@ -3,6 +3,7 @@ use Rattle.std.specs.Prelude.{Option, Some, None, Bool, true, false, not, ◌==�
 use Rattle.net_base.specs.declared.time.Instant.{Instant}
 use Rattle.control_wire.specs.Seq.{seq_add}
 use Rattle.control_wire.specs.Segment.{Segment, segment_len}
+use Rattle.sock_core.specs.Congestion.{post_transmitted}
 use Rattle.sock_core.specs.Estimator.{sent}
 use Rattle.sock_core.specs.Seq.{later_of}
 use Rattle.sock_tcp.specs.Content.{carries_data, Sending}
@@ -53,7 +54,11 @@ snd_nxt_moved v s =
 unfoldable pub sending_timed : View → Instant → Emitted → View
 sending_timed v now s =
     if s.len == 0 then v
-    else record v { rtte = sent v.rtte now s.end; timer = retransmit_unless_set v.timer now v.rtte }
+    else record v {
+      rtte = sent v.rtte now s.end;
+      timer = retransmit_unless_set v.timer now v.rtte;
+      congestion_controller = post_transmitted v.congestion_controller now s.len;
+    }
 
 -- by kind; an acknowledgement that a probe or a keep-alive carries does not count as sent
 abbrev pub after_kind : Kind → View → Instant → Emitted → View

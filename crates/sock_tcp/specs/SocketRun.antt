@@ -116,10 +116,10 @@ abbrev pub read_answer_of : {R : Type 0} → Result R RecvError → Result (Unit
 read_answer_of (Ok x) = Ok tt
 read_answer_of (Err e) = Err e
 
--- the beginning of what that closure was lent
+-- the beginning of the receive queue that it took
 abbrev pub taken_out : (may : Bool) (v : View) (r : Result (Unit {0}) RecvError) (w : View)
     → ReadsWithIf may any_taking v r w → List ℕ
-taken_out true v (Ok x) w h = take h.size (take h.count v.rx_buffer.bytes)
+taken_out true v (Ok x) w h = take h.size v.rx_buffer.bytes
 taken_out may v r w h = []
 
 -- ---- when a connection begins
@@ -159,7 +159,7 @@ pub record SendsDue (f : Facts) (t : Tuple) (stamps : Bool) (v : View) (out : Op
   pub stamp : Option ℕ
   pub told : is_some stamp ≡ stamps
   pub bytes : List ℕ
-  pub lent : IsLent (asked v t f (is_some stamp)) (drop (offset_of v) v.tx_buffer.bytes) bytes
+  pub lent : IsLent v.tx_buffer (offset_of v) (asked v t f (is_some stamp)) bytes
   pub ok : Bool
   pub sends : out ≡ content v t f stamp bytes
   pub view : w ≡ left_by out v (moment_of f) ok

@@ -1,5 +1,5 @@
 -- What the steps of `process` behind the state table change, in their order.
-use Rattle.std.specs.Prelude.{ℕ, ◌+◌, ◌*◌, ◌^◌, List, length, min, Option, Some, None, Bool, true, false, not, ◌==◌, ◌&&◌, ◌||◌, if◌then◌else◌}
+use Rattle.std.specs.Prelude.{ℕ, ◌+◌, ◌-◌, ◌*◌, ◌^◌, List, length, min, Option, Some, None, Bool, true, false, not, ◌==◌, ◌&&◌, ◌||◌, if◌then◌else◌}
 use Rattle.net_base.specs.declared.time.Duration.{Duration}
 use Rattle.net_base.specs.declared.time.Instant.{Instant}
 use Rattle.control_wire.specs.Seq.{seq_add, seq_eq}
@@ -12,6 +12,7 @@ use Rattle.sock_core.specs.Congestion as congestion
 use Rattle.sock_core.specs.Estimator as estimator
 use Rattle.sock_core.specs.Seq.{is_before, later_of}
 use Rattle.sock_core.specs.Received.{taken_in}
+use Rattle.sock_tcp.specs.Due.{flight}
 use Rattle.sock_tcp.specs.Queue.{shortened}
 use Rattle.sock_tcp.specs.Timers.{after, idle_from, retransmit_from, probe_from, is_idle}
 use Rattle.sock_tcp.specs.View.{View}
@@ -64,12 +65,12 @@ is_duplicate v ack n changed =
     is_last_ack v.local_rx_last_ack ack && (is_before ack v.remote_last_seq && ((n == 0) && not changed))
 
 -- the third calls for a fast retransmission
-unfoldable pub duplicate_counted : View → View
-duplicate_counted v =
+unfoldable pub duplicate_counted : View → Instant → View
+duplicate_counted v now =
     record v {
       local_rx_dup_acks = min (v.local_rx_dup_acks + 1) 255;
       timer = if v.local_rx_dup_acks == 2 then timer.FastRetransmit else v.timer;
-      congestion_controller = congestion.dup_acked v.congestion_controller v.remote_mss;
+      congestion_controller = congestion.dup_acked v.congestion_controller now v.remote_mss (flight v);
     }
 
 -- n bytes are acknowledged
@@ -79,14 +80,15 @@ ack_counted v now ack n =
       local_rx_dup_acks = 0;
       local_rx_last_ack = Some ack;
       rtte = estimator.acked v.rtte now ack;
-      congestion_controller = congestion.acked v.congestion_controller n;
+      congestion_controller =
+          congestion.acked v.congestion_controller now n (flight v - n) (estimator.acked v.rtte now ack);
     }
 
 unfoldable pub una_advanced : View → TcpSeqNumber → View
 una_advanced v ack = record v { local_seq_no = ack; remote_last_seq = later_of v.remote_last_seq ack }
 
 abbrev pub ack_heard : Bool → View → Instant → TcpSeqNumber → ℕ → View
-ack_heard true v now ack n = una_advanced (duplicate_counted v) ack
+ack_heard true v now ack n = una_advanced (duplicate_counted v now) ack
 ack_heard false v now ack n = una_advanced (ack_counted v now ack n) ack
 
 -- an acknowledgement of n bytes, on a segment with so many bytes of payload

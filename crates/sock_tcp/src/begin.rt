@@ -3,7 +3,7 @@ ghost use Rattle.std.specs.Prelude.{◌≡◌};
 ghost use Rattle.sock_core.specs.Bounds.{IsMoment};
 ghost use Rattle.sock_tcp.specs.View.{moment_of};
 ghost use Rattle.sock_tcp.specs.Due.{is_due};
-ghost use Rattle.sock_tcp.specs.Begin.{last_ts_set, retransmission_begun, fast_retransmission_marked, after_timers};
+ghost use Rattle.sock_tcp.specs.Begin.{last_ts_set, readied, retransmission_begun, fast_retransmission_marked, after_timers};
 ghost use Rattle.sock_tcp.specs.Begin.{is_paused, peer_if, begun, nothing_due, before_emit_to, before_emit};
 
 use crate::control_block::ControlBlock;
@@ -35,9 +35,10 @@ impl<'a> ControlBlock<'a> {
     }
 
     // The controller is told that a segment may go out.
+    #[tactic(auto, unfolding(crate::specs::Begin::readied))]
     fn set_last_ts_and_tell(&mut self, now: Instant)
         requires { IsMoment now.micros }
-        ensures table { self.new ≡ last_ts_set self.old now }
+        ensures table { self.new ≡ readied self.old now }
         ensures tuple { self.new.tuple ≡ self.old.tuple }
     {
         self.set_last_ts(now);

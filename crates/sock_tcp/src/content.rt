@@ -86,11 +86,11 @@ impl<'a> ControlBlock<'a> {
         }
     }
 
-    // The bytes of the transmit queue that go out, as far as the ring lends them.
+    // The bytes of the transmit queue that go out, as far as they stand in one piece.
     #[tactic(auto, unfolding(crate::specs::Content::asked))]
     pub(crate) fn payload<C: Context>(&self, cx: &C, tuple: &Tuple, stamps: bool) -> &[u8]
-        ensures lent { IsLent (asked self.now tuple.now (C.facts cx.now) stamps)
-            (drop (offset_of self.now) self.now.tx_buffer.bytes) result.now }
+        ensures lent { IsLent self.now.tx_buffer (offset_of self.now)
+            (asked self.now tuple.now (C.facts cx.now) stamps) result.now }
         ensures small { length result.now ≤ 65535 }
     {
         let size = if self.state.carries_data() {

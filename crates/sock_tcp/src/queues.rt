@@ -124,7 +124,7 @@ impl<'a> ControlBlock<'a> {
         Ok(count)
     }
 
-    #[tactic(auto, unfolding(crate::specs::Queues::read_off))]
+    #[tactic(auto, using(crate::proofs::Lending::first_within), unfolding(crate::specs::Queues::read_off))]
     pub(crate) fn recv<R, F: FnOnce(&[u8]) -> (usize, R)>(&mut self, f: F) -> Result<R, RecvError>
         requires callable { F.IsAlwaysCallable f }
         requires sized { (s : List ℕ) (r : _) → FnOnceReturnsAt F.FnOnce f s r → r.0 ≤ length s }

@@ -210,9 +210,9 @@ impl<'a, G> Socket<'a, G> {
         self.control_block.send_slice(data)
     }
 
-    /// Lends `f` a slice of the free places behind the transmit queue, in one piece and empty only where there are
-    /// none. `f` answers how many bytes it put at the slice's beginning, at most its length, and these join the
-    /// queue; beside that it answers what this call answers.
+    /// Lends `f` the free places behind the transmit queue that stand in one piece: those up to the end of its ring's
+    /// storage, at whose first place an empty queue begins anew. `f` answers how many bytes it put at their beginning,
+    /// and these join the queue; beside that it answers what this call answers.
     ///
     /// `InvalidState` where `may_send` is false; `f` is not called then, and nothing changes.
     pub fn send<R, F: FnOnce(&mut [u8]) -> (usize, R)>(&mut self, f: F) -> Result<R, SendError>
@@ -235,8 +235,8 @@ impl<'a, G> Socket<'a, G> {
         self.control_block.recv_slice(data)
     }
 
-    /// Lends `f` a beginning of the receive queue, in one piece and empty only where the queue is. `f` answers how
-    /// many of these bytes leave the queue; beside that it answers what this call answers.
+    /// Lends `f` the receive queue up to the end of its ring's storage. `f` answers how many of these bytes leave the
+    /// queue, from the first on; beside that it answers what this call answers.
     ///
     /// Where `may_recv` is false `f` is not called and nothing changes: `Finished` where the peer's FIN has come,
     /// else `InvalidState`.
@@ -249,8 +249,8 @@ impl<'a, G> Socket<'a, G> {
         self.control_block.recv(f)
     }
 
-    /// Lends a beginning of the receive queue, in one piece, of at most `size` bytes and empty only where there are
-    /// none. The bytes stay. Refused as `recv`.
+    /// Lends the receive queue up to the end of its ring's storage, but at most `size` bytes. The bytes stay. Refused
+    /// as `recv`.
     pub fn peek(&self, size: usize) -> Result<&[u8], RecvError>
         ensures { Peeks self.now.control_block size (lent_bytes result) }
     {

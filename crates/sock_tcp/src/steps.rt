@@ -62,14 +62,13 @@ impl<'a> ControlBlock<'a> {
 
     #[tactic(auto, unfolding(crate::specs::Steps::duplicate_counted))]
     fn count_duplicate(&mut self, now: Instant)
-        ensures view { self.new ≡ duplicate_counted self.old }
+        ensures view { self.new ≡ duplicate_counted self.old now }
         ensures received { self.new.rx_buffer ≡ self.old.rx_buffer }
     {
         self.local_rx_dup_acks = self.local_rx_dup_acks.saturating_add(1);
         if self.local_rx_dup_acks == DUPLICATES {
             self.timer = Timer::FastRetransmit;
         }
-        // Reno does not look at it; the trait is smoltcp's, and another controller may.
         let flight = self.flight();
         self.congestion_controller
             .on_dup_ack(now, self.remote_mss, flight);

@@ -15,8 +15,8 @@ use sock_core::Context;
 /// was received, with what a short slice dropped at its place, followed by what then waits, is what waited at the
 /// start, followed by what `process_v4` and `process_v6` queued since, in this order.
 ///
-/// `send` is no call of the list: of what it lends for writing nothing is known afterwards. The calls of a list share
-/// the types of their contexts, errors and closures.
+/// A `send` comes into the list as the `send_slice` of the bytes that are left in what it lends, as its own contract
+/// says. The calls of a list share the types of their contexts, errors and closures.
 pub fn datagrams_keep_their_order<
     C: Context,
     E,

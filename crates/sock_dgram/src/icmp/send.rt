@@ -1,9 +1,12 @@
 //! ICMP messages that the program sends.
-ghost use Rattle.std.specs.Prelude.{◌≡◌, ◌≤◌, ◌++◌, ℕ, List, [], ◌∷◌, length, take, drop, cond, is_ok, IfOk, OnErr};
+ghost use Rattle.std.specs.Prelude.{◌≡◌, ◌≤◌, ◌++◌, ℕ, List, [], ◌∷◌, length, take, drop, cond, is_ok, true, false, not, IfOk, OnErr};
+ghost use Rattle.std.specs.Borrow.{sem};
 ghost use Rattle.std.specs.Fn.{FnOnceReturnsAtMut};
-ghost use Rattle.net_base.specs.Packets.{made_room, end_of, Enqueues};
+ghost use Rattle.ip_wire.specs.Address.{is_unspecified};
+ghost use Rattle.net_base.specs.Packets.{made_room, end_of, Claims, Enqueues};
 ghost use Rattle.sock_dgram.specs.Datagrams.{answered};
 ghost use Rattle.sock_dgram.specs.Icmp.{waiting, send_answer, after_send, refused_send};
+ghost use Rattle.sock_dgram.specs.IcmpLends.{LendsMessage};
 
 use crate::error::SendError;
 use crate::icmp::socket::Socket;
@@ -11,22 +14,40 @@ use crate::queue::store;
 use ip_wire::IpAddress;
 
 impl<'a> Socket<'a> {
+    // Puts a message of `size` bytes behind the others, as they stand in the payload storage. Answers whether it may be
+    // sent so, whether there was room, and where its bytes begin.
+    pub(crate) fn claim(&mut self, size: usize, endpoint: IpAddress) -> (bool, bool, usize)
+        ensures sendable { result.0 ≡ not (is_unspecified endpoint) }
+        ensures queue { result.0 ≡ true → Claims size endpoint self.old.tx_buffer result.1 result.2 self.new.tx_buffer }
+        ensures refused { result.0 ≡ false → self.new ≡ self.old }
+        ensures same { self.new ≡ record self.old { tx_buffer = self.new.tx_buffer } }
+    {
+        if endpoint.is_unspecified() {
+            return (false, false, 0);
+        }
+        let (taken, from) = self.tx_buffer.claim(size, endpoint);
+        (true, taken, from)
+    }
+
     /// Puts an ICMP message of `size` bytes into the transmit queue, and lends its bytes. What stands in them as the
     /// borrow ends is the message.
     ///
     /// `Unaddressable` and `BufferFull` as `send_slice`; the queue then stays as it was.
     pub fn send(&mut self, size: usize, endpoint: IpAddress) -> Result<&mut [u8], SendError>
+        ensures* after { sem 𝓛 (LendsMessage size endpoint self.entry result) }
         ensures answer { answered result ≡ send_answer self.old endpoint size }
         ensures size { IfOk result (λ bytes. length bytes.now ≡ size) }
         ensures value { IfOk result (λ bytes. bytes.now
             ≡ take size (drop (end_of (made_room size self.old.tx_buffer)) self.old.tx_buffer.storage)) }
     {
-        if endpoint.is_unspecified() {
+        let (sendable, taken, from) = self.claim(size, endpoint);
+        if !sendable {
             return Err(SendError::Unaddressable);
         }
-        self.tx_buffer
-            .enqueue(size, endpoint)
-            .map_err(|_| SendError::BufferFull)
+        if !taken {
+            return Err(SendError::BufferFull);
+        }
+        Ok(self.tx_buffer.part_mut(from, size))
     }
 
     /// Puts an ICMP message whose bytes `f` writes into the transmit queue: `f` is lent `max_size` bytes and answers

@@ -57,6 +57,28 @@ pub fn send_slice<
     socket.send_slice(data, endpoint)
 }
 
+/// What `send` does but the loan, as a call of `datagrams_keep_their_order`: it is `send_slice` of some bytes, as many
+/// as were asked for.
+pub fn send<
+    C: Context,
+    E,
+    F: FnOnce(&mut C, (IpRepr, IcmpRepr<'_>)) -> Result<(), E>,
+    G: FnOnce(&mut [u8]) -> usize,
+>(socket: &mut Socket<'_>, size: usize, endpoint: IpAddress) -> Result<(), SendError>
+    ensures { (bytes : List ℕ) × (length bytes ≡ size)
+        × Effect C.facts F.FnOnce G.FnOnce (SendSlice bytes endpoint result) socket.old
+        (sends (is_ok result) (endpoint, bytes)) socket.new }
+{
+    let (sendable, taken, _) = socket.claim(size, endpoint);
+    if !sendable {
+        return Err(SendError::Unaddressable);
+    }
+    if !taken {
+        return Err(SendError::BufferFull);
+    }
+    Ok(())
+}
+
 /// `recv_slice`, as a call of `datagrams_keep_their_order`: what it takes is handed over, or dropped where the slice
 /// is too short.
 pub fn recv_slice<

@@ -1,28 +1,42 @@
 //! Packets that the program sends.
 ghost use Rattle.std.specs.Prelude.{◌≡◌, ◌≤◌, ◌++◌, ℕ, List, [], ◌∷◌, length, take, drop, cond, is_ok, IfOk, OnErr};
+ghost use Rattle.std.specs.Borrow.{sem};
 ghost use Rattle.std.specs.Fn.{FnOnceReturnsAtMut};
-ghost use Rattle.net_base.specs.Packets.{made_room, end_of, Enqueues};
+ghost use Rattle.net_base.specs.Packets.{made_room, end_of, Claims, Enqueues};
 ghost use Rattle.sock_dgram.specs.Datagrams.{answered, stored};
 ghost use Rattle.sock_dgram.specs.Raw.{waiting, send_answer};
+ghost use Rattle.sock_dgram.specs.RawLends.{LendsPacket};
 
 use crate::queue::store;
 use crate::raw::error::SendError;
 use crate::raw::socket::Socket;
 
 impl<'a> Socket<'a> {
+    // Puts a packet of `size` bytes behind the others, as they stand in the payload storage. Answers whether there was
+    // room, and where they begin.
+    pub(crate) fn claim(&mut self, size: usize) -> (bool, usize)
+        ensures queue { Claims size tt self.old.tx_buffer result.0 result.1 self.new.tx_buffer }
+        ensures same { self.new ≡ record self.old { tx_buffer = self.new.tx_buffer } }
+    {
+        self.tx_buffer.claim(size, ())
+    }
+
     /// Puts a packet of `size` bytes, its IP header included, into the transmit queue, and lends its bytes. What stands
     /// in them as the borrow ends is the packet.
     ///
     /// `BufferFull` as `send_slice`; the queue then stays as it was.
     pub fn send(&mut self, size: usize) -> Result<&mut [u8], SendError>
+        ensures* after { sem 𝓛 (LendsPacket size self.entry result) }
         ensures answer { answered result ≡ send_answer self.old size }
         ensures size { IfOk result (λ bytes. length bytes.now ≡ size) }
         ensures value { IfOk result (λ bytes. bytes.now
             ≡ take size (drop (end_of (made_room size self.old.tx_buffer)) self.old.tx_buffer.storage)) }
     {
-        self.tx_buffer
-            .enqueue(size, ())
-            .map_err(|_| SendError::BufferFull)
+        let (taken, from) = self.claim(size);
+        if !taken {
+            return Err(SendError::BufferFull);
+        }
+        Ok(self.tx_buffer.part_mut(from, size))
     }
 
     /// Puts a packet whose bytes `f` writes into the transmit queue: `f` is lent `max_size` bytes and answers how many

@@ -27,6 +27,24 @@ pub fn send_slice<
     socket.send_slice(data)
 }
 
+/// What `send` does but the loan, as a call of `datagrams_keep_their_order`: it is `send_slice` of some bytes, as many
+/// as were asked for.
+pub fn send<
+    C: Context,
+    E,
+    F: FnOnce(&mut C, (IpRepr, &[u8])) -> Result<(), E>,
+    G: FnOnce(&mut [u8]) -> usize,
+>(socket: &mut Socket<'_>, size: usize) -> Result<(), SendError>
+    ensures { (bytes : List ℕ) × (length bytes ≡ size) × Effect C.facts F.FnOnce G.FnOnce (SendSlice bytes result)
+        socket.old (sends (is_ok result) (tt, bytes)) socket.new }
+{
+    let (taken, _) = socket.claim(size);
+    if !taken {
+        return Err(SendError::BufferFull);
+    }
+    Ok(())
+}
+
 /// `recv_slice`, as a call of `datagrams_keep_their_order`: what it takes is handed over, or dropped where the slice
 /// is too short.
 pub fn recv_slice<

@@ -1,9 +1,11 @@
 //! Datagrams that the program sends.
-ghost use Rattle.std.specs.Prelude.{◌≡◌, ◌≤◌, ◌++◌, ℕ, List, [], ◌∷◌, length, take, drop, cond, is_ok, IfOk, OnErr};
+ghost use Rattle.std.specs.Prelude.{◌≡◌, ◌≤◌, ◌++◌, ℕ, List, [], ◌∷◌, length, take, drop, cond, is_ok, true, false, IfOk, OnErr};
+ghost use Rattle.std.specs.Borrow.{sem};
 ghost use Rattle.std.specs.Fn.{FnOnceReturnsAtMut};
-ghost use Rattle.net_base.specs.Packets.{made_room, end_of, Enqueues};
+ghost use Rattle.net_base.specs.Packets.{made_room, end_of, Claims, Enqueues};
 ghost use Rattle.sock_dgram.specs.Datagrams.{answered};
 ghost use Rattle.sock_dgram.specs.Udp.{waiting, is_possible_source, known_source, is_sendable, send_answer, after_send, refused_send};
+ghost use Rattle.sock_dgram.specs.UdpLends.{LendsDatagram};
 
 use crate::error::SendError;
 use crate::queue::store;
@@ -38,22 +40,40 @@ impl<'a> Socket<'a> {
             && is_possible_source(self.known_source(meta), meta.endpoint.addr)
     }
 
+    // Puts a datagram of `size` bytes behind the others, as they stand in the payload storage. Answers whether it may
+    // be sent so, whether there was room, and where its bytes begin.
+    pub(crate) fn claim(&mut self, size: usize, meta: UdpMetadata) -> (bool, bool, usize)
+        ensures sendable { result.0 ≡ is_sendable self.old meta }
+        ensures queue { result.0 ≡ true → Claims size meta self.old.tx_buffer result.1 result.2 self.new.tx_buffer }
+        ensures refused { result.0 ≡ false → self.new ≡ self.old }
+        ensures same { self.new ≡ record self.old { tx_buffer = self.new.tx_buffer } }
+    {
+        if !self.is_sendable(&meta) {
+            return (false, false, 0);
+        }
+        let (taken, from) = self.tx_buffer.claim(size, meta);
+        (true, taken, from)
+    }
+
     /// Puts a datagram of `size` bytes into the transmit queue, and lends its bytes. What stands in them as the borrow
     /// ends is the payload.
     ///
     /// `Unaddressable` and `BufferFull` as `send_slice`; the queue then stays as it was.
     pub fn send(&mut self, size: usize, meta: UdpMetadata) -> Result<&mut [u8], SendError>
+        ensures* after { sem 𝓛 (LendsDatagram size meta self.entry result) }
         ensures answer { answered result ≡ send_answer self.old meta size }
         ensures size { IfOk result (λ bytes. length bytes.now ≡ size) }
         ensures value { IfOk result (λ bytes. bytes.now
             ≡ take size (drop (end_of (made_room size self.old.tx_buffer)) self.old.tx_buffer.storage)) }
     {
-        if !self.is_sendable(&meta) {
+        let (sendable, taken, from) = self.claim(size, meta);
+        if !sendable {
             return Err(SendError::Unaddressable);
         }
-        self.tx_buffer
-            .enqueue(size, meta)
-            .map_err(|_| SendError::BufferFull)
+        if !taken {
+            return Err(SendError::BufferFull);
+        }
+        Ok(self.tx_buffer.part_mut(from, size))
     }
 
     /// Puts a datagram whose bytes `f` writes into the transmit queue: `f` is lent `max_size` bytes and answers how

@@ -53,6 +53,28 @@ pub fn send_slice<
     socket.send_slice(data, meta)
 }
 
+/// What `send` does but the loan, as a call of `datagrams_keep_their_order`: it is `send_slice` of some bytes, as many
+/// as were asked for.
+pub fn send<
+    C: Context,
+    E,
+    F: FnOnce(&mut C, (IpRepr, UdpRepr, &[u8])) -> Result<(), E>,
+    G: FnOnce(&mut [u8]) -> usize,
+>(socket: &mut Socket<'_>, size: usize, meta: UdpMetadata) -> Result<(), SendError>
+    ensures { (bytes : List ℕ) × (length bytes ≡ size)
+        × Effect C.facts F.FnOnce G.FnOnce (SendSlice bytes meta result) socket.old
+        (sends (is_ok result) (meta, bytes)) socket.new }
+{
+    let (sendable, taken, _) = socket.claim(size, meta);
+    if !sendable {
+        return Err(SendError::Unaddressable);
+    }
+    if !taken {
+        return Err(SendError::BufferFull);
+    }
+    Ok(())
+}
+
 /// `recv_slice`, as a call of `datagrams_keep_their_order`: what it takes is handed over, or dropped where the slice
 /// is too short.
 pub fn recv_slice<

@@ -1,6 +1,6 @@
 //! The run of a script.
 ghost use Rattle.std.specs.Prelude.{◌≡◌, ◌≤◌, IfOk, IfSome, [], None, false, length, vec_len, slice_index};
-ghost use Rattle.net_base.specs.Ring.{ring};
+ghost use Rattle.net_base.specs.Ring.{empty_ring};
 ghost use Rattle.sock_pair.specs.ReplayEnds.{Reads, StopsWriting};
 ghost use Rattle.pair_core.specs.NetworkInvariant.{IsLimit};
 ghost use Rattle.sock_pair.specs.ReplayRuns.{Plays, PlaysTo, begun, begun_of};
@@ -144,8 +144,8 @@ pub fn begin<'a>(
 }
 
 fn setup<'a>(rx: &'a mut [u8], tx: &'a mut [u8], endpoint: IpEndpoint) -> Setup<'a>
-    ensures rx { result.rx ≡ ring [] rx.entry.now }
-    ensures tx { result.tx ≡ ring [] tx.entry.now }
+    ensures rx { result.rx ≡ empty_ring rx.entry.now }
+    ensures tx { result.tx ≡ empty_ring tx.entry.now }
     ensures endpoint { result.endpoint ≡ endpoint }
     ensures generator { result.generator ≡ None }
 {

@@ -1,6 +1,7 @@
 use Rattle.std.proofs.Common.{length, sym, ◌∙◌, arith}
 use Rattle.net_base.proofs.Around.{place_is}
 use Rattle.net_base.proofs.Entries.{end-view, free-view, run-view, room-view, laid_appended, appended_is}
+use Rattle.net_base.proofs.Written.{appended_written}
 use Rattle.net_base.proofs.packet_buffer.PacketBuffer.append.Goals as goal
 
 pub enqueue_one-requires : goal.enqueue_one-requires
@@ -29,3 +30,9 @@ returns-clause-within g c =
     let at_is = place_is (length q.payload.now) q.start q.length c.place-from.result c.place-from.ensures.low c.place-from.ensures.high in
     let run = run-view _ _ _ _ _ c.self.view_is c.self.invariant c.args.size c.requires.fits in
     omega (arith, at_is, run.1, room-view _ _ _ _ _ c.self.view_is c.self.invariant)
+
+pub returns-clause-written : goal.returns-clause-written
+returns-clause-written g c =
+    let q = c.self.inside in
+    let at_is = place_is (length q.payload.now) q.start q.length c.place-from.result c.place-from.ensures.low c.place-from.ensures.high in
+    appended_written _ _ _ _ _ c.self.view_is c.self.invariant _ _ _ c.requires.fits at_is c.place-from.ensures.low c.place-from.ensures.high _ c.enqueue_one.ensures c.requires.place
