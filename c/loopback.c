@@ -81,6 +81,8 @@ int main(void) {
     want("ack delay", smoltcp_tcp_set_ack_delay(&b, -1), SMOLTCP_OK);
     want("nagle", smoltcp_tcp_set_nagle_enabled(&a, 0), SMOLTCP_OK);
     want("hop limit", smoltcp_tcp_set_hop_limit(&a, 32), SMOLTCP_OK);
+    want("congestion control", smoltcp_tcp_set_congestion_control(&a, SMOLTCP_CONGESTION_NONE), SMOLTCP_OK);
+    want("another kind", smoltcp_tcp_set_congestion_control(&a, 2), SMOLTCP_ERROR_RANGE);
     want("listen", smoltcp_tcp_listen(&b, &at_b), SMOLTCP_OK);
     want("connect", smoltcp_tcp_connect(&a, &of_a, &at_b, &at_a), SMOLTCP_OK);
     run();

@@ -1,7 +1,8 @@
 /* Proved TCP sockets for C. A socket is a struct that the caller owns, with its two buffers; no call allocates, keeps
  * anything elsewhere or calls back. Calls on different sockets may run at once; of one socket, one at a time.
  *
- * Each call answers a number: 0 or more where it was done, and below 0 an error, with nothing changed. */
+ * Each call answers a number: 0 or more where it was done, and below 0 an error, with nothing changed; but see
+ * dispatch. */
 #ifndef SMOLTCP_SOCKET_H
 #define SMOLTCP_SOCKET_H
 
@@ -30,6 +31,9 @@ enum {
     SMOLTCP_CLOSED, SMOLTCP_LISTEN, SMOLTCP_SYN_SENT, SMOLTCP_SYN_RECEIVED, SMOLTCP_ESTABLISHED, SMOLTCP_FIN_WAIT_1,
     SMOLTCP_FIN_WAIT_2, SMOLTCP_CLOSE_WAIT, SMOLTCP_CLOSING, SMOLTCP_LAST_ACK, SMOLTCP_TIME_WAIT
 };
+
+/* Kinds of congestion control: none, or Reno (RFC 5681). */
+enum { SMOLTCP_CONGESTION_NONE = 0, SMOLTCP_CONGESTION_RENO = 1 };
 
 /* An address: none where version is 0, v4 where it is 4, v6 where it is 6. In network order. */
 struct smoltcp_address { uint8_t version; uint8_t v4[4]; uint8_t v6[16]; };
@@ -127,6 +131,7 @@ int64_t smoltcp_tcp_set_keep_alive_checked(struct smoltcp_tcp *s, int64_t micros
 int64_t smoltcp_tcp_set_ack_delay_checked(struct smoltcp_tcp *s, int64_t micros);
 int64_t smoltcp_tcp_set_nagle_enabled_checked(struct smoltcp_tcp *s, uint8_t enabled);
 int64_t smoltcp_tcp_set_hop_limit_checked(struct smoltcp_tcp *s, uint8_t hop_limit);
+int64_t smoltcp_tcp_set_congestion_control_checked(struct smoltcp_tcp *s, uint32_t kind);
 int64_t smoltcp_tcp_process_checked(struct smoltcp_tcp *s, const struct smoltcp_context *cx, const uint8_t *packet,
                                     size_t len, uint8_t *reply, size_t cap);
 int64_t smoltcp_tcp_dispatch_checked(struct smoltcp_tcp *s, const struct smoltcp_context *cx, uint8_t *out, size_t cap);
@@ -230,15 +235,22 @@ static inline int64_t smoltcp_tcp_set_hop_limit(struct smoltcp_tcp *s, uint8_t h
     return smoltcp_tcp_set_hop_limit_checked(s, hop_limit);
 }
 
-/* Takes an IP packet. The length of the packet that answers it, in reply, or 0; SMOLTCP_NOT_ACCEPTED where it is not
- * for this socket. reply has 100 bytes or more. */
+/* Puts in a new controller of this kind, also where there is one of the kind. A new socket has Reno. */
+static inline int64_t smoltcp_tcp_set_congestion_control(struct smoltcp_tcp *s, uint32_t kind) {
+    if (smoltcp_tcp_is_null(s)) return SMOLTCP_ERROR_NULL;
+    return smoltcp_tcp_set_congestion_control_checked(s, kind);
+}
+
+/* Takes an IP packet. The length of the packet that answers it, in reply, or 0; SMOLTCP_NOT_ACCEPTED where it is no
+ * whole TCP segment or is not for this socket. reply has 100 bytes or more. */
 static inline int64_t smoltcp_tcp_process(struct smoltcp_tcp *s, const struct smoltcp_context *cx,
                                           const uint8_t *packet, size_t len, uint8_t *reply, size_t cap) {
     if (smoltcp_tcp_is_null(s) || !cx || !packet || !reply) return SMOLTCP_ERROR_NULL;
     return smoltcp_tcp_process_checked(s, cx, packet, len, reply, cap);
 }
 
-/* The length of the packet that is due, in out, or 0 for none. Call it until it answers 0. */
+/* The length of the packet that is due, in out, or 0 for none. Call it until it answers 0. SMOLTCP_ERROR_ROOM where out
+ * is too short for it: what the timers ask for is done then, and the next call gives the packet again. */
 static inline int64_t smoltcp_tcp_dispatch(struct smoltcp_tcp *s, const struct smoltcp_context *cx, uint8_t *out,
                                            size_t cap) {
     if (smoltcp_tcp_is_null(s) || !cx || !out) return SMOLTCP_ERROR_NULL;

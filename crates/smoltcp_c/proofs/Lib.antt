@@ -1,1 +1,5 @@
 mod Counts
+mod Replies
+mod Emitting
+mod Reading
+mod Held

@@ -1,9 +1,10 @@
 -- The numbers that the calls answer.
-use Rattle.std.specs.Prelude.{ℕ, ℤ, Bool, true, false, IfOk, pos, negsuc, ◌≡◌, ◌≤◌, ◌^◌, Result, Ok, Err, Option, Some}
+use Rattle.std.specs.Prelude.{ℕ, ℤ, Bool, true, false, IfOk, pos, negsuc, ◌≡◌, ◌≤◌, ◌^◌, min, Result, Ok, Err, List, Option, Some}
 use Rattle.sock_tcp.specs.View.{View}
 use Rattle.sock_tcp.specs.declared.state.State.{State}
 use Rattle.sock_tcp.specs.declared.state.State.TheVariants as state
 use Rattle.smoltcp_c.specs.declared.socket.TcpSocket.{TcpSocket}
+use Rattle.smoltcp_c.specs.declared.wire.Full.{Full}
 use Rattle.sock_tcp.specs.declared.error.ListenError.{ListenError}
 use Rattle.sock_tcp.specs.declared.error.ListenError.TheVariants as listen_error
 use Rattle.sock_tcp.specs.declared.error.ConnectError.{ConnectError}
@@ -59,6 +60,11 @@ recv_answer (Ok n) = pos n
 recv_answer (Err recv_error.InvalidState) = error_state
 recv_answer (Err recv_error.Finished) = error_finished
 
+-- what a dispatch answers, of its emit and the length that was written: 65535 at most
+abbrev pub sent_answer : Result (Unit {0}) Full → ℕ → ℤ
+sent_answer (Ok u) n = pos (min n 65535)
+sent_answer (Err e) n = error_room
+
 -- the call met its table on the socket v: it answered the number of what the table answers, and the struct is then the
 -- socket that the table leaves
 pub record Calls {R : Type 0} (number : R → ℤ) (table : R → View → Type 0) (result : ℤ) (held : Option View)
@@ -72,6 +78,16 @@ pub record Calls {R : Type 0} (number : R → ℤ) (table : R → View → Type 
 -- the struct was refused, and nothing changed
 abbrev pub Refused : TcpSocket → ℤ → TcpSocket → Type 0
 Refused s result s' = (result ≡ error_socket) × (s' ≡ s)
+
+-- the call answered an error, and neither the struct nor the buffer changed
+abbrev pub RefusedFor : ℤ → TcpSocket → List ℕ → ℤ → TcpSocket → List ℕ → Type 0
+RefusedFor error s out result s' out' = (result ≡ error) × (s' ≡ s) × (out' ≡ out)
+
+-- the struct is then a socket of which this holds
+pub record Leaves (table : View → Type 0) (held : Option View) : Type 0 where
+  pub after : View
+  pub met : table after
+  pub held_is : held ≡ Some after
 
 -- the call was done, and the struct is then the socket w
 abbrev pub IsDone : ℤ → Option View → View → Type 0

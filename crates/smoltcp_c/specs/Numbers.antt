@@ -12,6 +12,8 @@ use Rattle.sock_core.specs.declared.congestion.AnyController.TheVariants as cont
 use Rattle.sock_core.specs.declared.rtte.Smoothed.{Smoothed}
 use Rattle.sock_core.specs.declared.rtte.Timing.{Timing}
 use Rattle.sock_tcp.specs.Parts.{is_short}
+use Rattle.sock_tcp.specs.declared.settings.CongestionControl.{CongestionControl}
+use Rattle.sock_tcp.specs.declared.settings.CongestionControl.TheVariants as congestion
 use Rattle.sock_tcp.specs.declared.state.State.{State}
 use Rattle.sock_tcp.specs.declared.state.State.TheVariants as state
 use Rattle.sock_tcp.specs.declared.timer.AckDelayTimer.{AckDelayTimer}
@@ -44,6 +46,11 @@ micros_in (negsuc n) = None
 -- the same where it is not above 2^61 microseconds
 unfoldable pub lasting : ℤ → Option (Option Duration)
 lasting n = if is_short (micros_in n) then Some (micros_in n) else None
+
+-- the kind of congestion control with this number
+unfoldable pub control_by : ℕ → Option CongestionControl
+control_by n =
+    if n == 0 then Some congestion.None else if n == 1 then Some congestion.Reno else None
 
 -- a byte, or none where it is 0
 abbrev pub byte_or_none : ℕ → Option ℕ

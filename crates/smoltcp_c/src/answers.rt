@@ -1,7 +1,8 @@
 //! The numbers that the calls answer.
 ghost use Rattle.std.specs.Prelude.{◌≡◌};
-ghost use Rattle.smoltcp_c.specs.Answers.{listen_answer, connect_answer, send_answer, recv_answer, flag_answer, state_answer, UpTo30};
+ghost use Rattle.smoltcp_c.specs.Answers.{listen_answer, connect_answer, send_answer, recv_answer, sent_answer, flag_answer, state_answer, UpTo30};
 
+use crate::wire::{Full, LONGEST_PACKET};
 use sock_tcp::{ConnectError, ListenError, RecvError, SendError, State};
 
 /// The call was done.
@@ -69,6 +70,15 @@ pub fn recv_answer(answer: Result<usize, RecvError>) -> i64
         Ok(count) => count as i64,
         Err(RecvError::InvalidState) => ERROR_STATE,
         Err(RecvError::Finished) => ERROR_FINISHED,
+    }
+}
+
+pub fn sent_answer(answer: Result<(), Full>, len: usize) -> i64
+    ensures { result ≡ sent_answer answer len }
+{
+    match answer {
+        Ok(()) => len.min(LONGEST_PACKET) as i64,
+        Err(Full) => ERROR_ROOM,
     }
 }
 

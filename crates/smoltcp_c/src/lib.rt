@@ -5,6 +5,7 @@
 mod answers;
 mod clock;
 mod context;
+mod contexts;
 mod endpoints;
 mod fields;
 mod numbers;
@@ -12,3 +13,6 @@ mod packets;
 mod settings;
 mod socket;
 mod tcp;
+#[cfg(test)]
+mod tests;
+mod wire;

@@ -1,49 +1,36 @@
-//! The calls of a TCP socket that take and give packets, and those that ask for a context.
-ghost use Rattle.std.specs.Prelude.{◌≡◌, None};
-ghost use Rattle.smoltcp_c.specs.Answers.{Refused};
-ghost use Rattle.smoltcp_c.specs.Socket.{held};
+//! The calls of a TCP socket that take and give packets.
+ghost use Rattle.std.specs.Prelude.{◌≡◌, ◌<◌, ◌≤◌, pos, [], length, None, Some, true, false, is_some, option_map};
+ghost use Rattle.std.specs.Option.{ForSome};
+ghost use Rattle.ip_wire.specs.Checksum.{all_checksums};
+ghost use Rattle.ip_wire.specs.declared.checksum.Checksum.TheVariants.{Both};
+ghost use Rattle.control_wire.specs.Fits.{FitsPacket};
+ghost use Rattle.control_wire.specs.Segment.{segment_of};
+ghost use Rattle.segment_wire.specs.Packet.{TcpPacket, tcp_packet_of, tcp_packet_parsed};
+ghost use Rattle.sock_tcp.specs.Process.{Accepts, generator_after, reply_of};
+ghost use Rattle.sock_tcp.specs.View.{View};
+ghost use Rattle.smoltcp_c.specs.Answers.{RefusedFor, Leaves, sent_answer, error_context, error_room, error_socket, not_accepted};
+ghost use Rattle.smoltcp_c.specs.Context.{is_context};
+ghost use Rattle.smoltcp_c.specs.Numbers.{flag_in};
+ghost use Rattle.smoltcp_c.specs.Packets.{size_of, written_over, outcome_in, reply_in, Hears, DispatchesInto};
+ghost use Rattle.smoltcp_c.specs.Socket.{held, clock_in};
+ghost use Rattle.smoltcp_c.specs.Wire.{Writes};
 
-use crate::answers::{ERROR_CONTEXT, ERROR_ROOM, ERROR_SOCKET, NOT_ACCEPTED, OK, connect_answer};
+use crate::answers::{ERROR_CONTEXT, ERROR_ROOM, ERROR_SOCKET, NOT_ACCEPTED, OK, sent_answer};
 use crate::clock::Clock;
-use crate::context::{Cx, Full, Moment, Wire, moment_in};
-use crate::endpoints::{Endpoint, endpoint_in, listen_in};
+use crate::context::{Cx, Moment, moment_in};
 use crate::socket::{TcpSocket, parts_held, put, take};
+use crate::wire::{Full, Wire, put_packet};
 use control_wire::TcpRepr;
-use ip_wire::{ChecksumCapabilities, IpRepr};
+use ip_wire::{ChecksumCapabilities, Error, IpRepr};
 use segment_wire::packet::parse_tcp;
-use sock_core::PollAt;
-use sock_tcp::Socket;
+use sock_tcp::{Reply, Socket};
 
 // An IPv6 header and the longest TCP header, in bytes: no reply is longer.
 const LONGEST_REPLY: usize = 100;
 
-/// Opens a connection to `remote`, from the local address given, else from the context's. 0, or an error:
-/// `ERROR_STATE` where the socket is open, `ERROR_ADDRESS` where a port or an address is missing or the two addresses
-/// are of different versions.
-#[unsafe(no_mangle)]
-pub extern "C" fn smoltcp_tcp_connect_checked(
-    s: &mut TcpSocket<'_>,
-    cx: &Cx,
-    remote: &Endpoint,
-    local: &Endpoint,
-) -> i64
-    ensures refused { held s.old ≡ None → Refused s.old result s.new }
-{
-    let Some(parts) = parts_held(s) else {
-        return ERROR_SOCKET;
-    };
-    let Some(mut moment) = moment_in(cx) else {
-        return ERROR_CONTEXT;
-    };
-    let mut socket = take(s, &parts, cx.tsval);
-    let answer = socket.connect(&mut moment, endpoint_in(remote), listen_in(local));
-    put(s, socket);
-    connect_answer(answer)
-}
-
-/// Takes an IP packet. The length of the packet that answers it, written into `reply`, or 0 for none; `NOT_ACCEPTED`
-/// where the packet is no whole TCP segment or is not for this socket; `ERROR_ROOM` where `reply` has less than 100
-/// bytes, `ERROR_CONTEXT`, `ERROR_SOCKET`.
+/// Takes an IP packet. The length of the packet that answers it, written at the beginning of `reply`, or 0 for none;
+/// `NOT_ACCEPTED` where the packet is no whole TCP segment or is not for this socket; `ERROR_ROOM` where `reply` has
+/// less than 100 bytes, `ERROR_CONTEXT`, `ERROR_SOCKET`. The socket is as it was then.
 #[unsafe(no_mangle)]
 pub extern "C" fn smoltcp_tcp_process_checked(
     s: &mut TcpSocket<'_>,
@@ -51,7 +38,18 @@ pub extern "C" fn smoltcp_tcp_process_checked(
     packet: &[u8],
     reply: &mut [u8],
 ) -> i64
-    ensures refused { held s.old ≡ None → Refused s.old result s.new }
+    ensures refused { held s.old ≡ None → RefusedFor error_socket s.old reply.old result s.new reply.new }
+    ensures context { (v : View) → held s.old ≡ Some v → is_context cx.entry.now ≡ false
+        → RefusedFor error_context s.old reply.old result s.new reply.new }
+    ensures room { (v : View) → held s.old ≡ Some v → is_context cx.entry.now ≡ true → length reply.old < 100
+        → RefusedFor error_room s.old reply.old result s.new reply.new }
+    ensures broken { (v : View) → held s.old ≡ Some v → is_context cx.entry.now ≡ true → 100 ≤ length reply.old
+        → tcp_packet_parsed (all_checksums Both) packet.now ≡ None
+        → RefusedFor not_accepted s.old reply.old result s.new reply.new }
+    ensures table { (v : View) (p : TcpPacket) → held s.old ≡ Some v → is_context cx.entry.now ≡ true
+        → 100 ≤ length reply.old → tcp_packet_parsed (all_checksums Both) packet.now ≡ Some p
+        → Hears cx.entry.now (clock_in s.old.timestamps cx.entry.now.tsval) v p.ip p.segment reply.old result
+        (held s.new) (flag_in s.new.timestamps) reply.new }
 {
     let Some(parts) = parts_held(s) else {
         return ERROR_SOCKET;
@@ -62,42 +60,80 @@ pub extern "C" fn smoltcp_tcp_process_checked(
     if reply.len() < LONGEST_REPLY {
         return ERROR_ROOM;
     }
-    let caps = ChecksumCapabilities::default();
-    let Ok((ip, repr)) = parse_tcp(packet, &caps) else {
+    let Some((ip, repr)) = read(packet) else {
         return NOT_ACCEPTED;
     };
     let mut socket = take(s, &parts, cx.tsval);
-    let mut wire = Wire {
-        moment,
-        len: 0,
-        out: reply,
-    };
-    let answer = heard(&mut socket, &mut wire, &ip, &repr);
+    let answer = heard(&mut socket, &moment, &ip, &repr, reply);
     put(s, socket);
     answer
 }
 
-// Gives the segment to the socket.
-fn heard(
-    socket: &mut Socket<'_, Clock>,
-    wire: &mut Wire<'_>,
-    ip: &IpRepr,
-    repr: &TcpRepr<'_>,
-) -> i64 {
-    if repr.payload.len() > 65535 || !socket.accepts(wire, ip, repr) {
-        return NOT_ACCEPTED;
-    }
-    match socket.process(wire, ip, repr) {
-        None => OK,
-        Some((ip, reply)) => written(wire, &ip, &reply),
+// The segment that the packet carries, if it is one.
+fn read(packet: &[u8]) -> Option<(IpRepr, TcpRepr<'_>)>
+    ensures value { option_map tcp_packet_of result ≡ tcp_packet_parsed (all_checksums Both) packet.now }
+    ensures short { ForSome result (λ p. length p.1.payload.now ≤ 65535) }
+{
+    match parse_tcp(packet, &ChecksumCapabilities::default()) {
+        Ok(found) => Some(found),
+        Err(Error) => None,
     }
 }
 
-// Writes the reply, and answers its length.
-fn written(wire: &mut Wire<'_>, ip: &IpRepr, reply: &TcpRepr<'_>) -> i64 {
-    match wire.write(ip, reply) {
-        Ok(()) => wire.len.min(65535) as i64,
-        Err(Full) => ERROR_ROOM,
+// Gives the segment to the socket, and writes the reply.
+fn heard(
+    socket: &mut Socket<'_, Clock>,
+    moment: &Moment,
+    ip: &IpRepr,
+    repr: &TcpRepr<'_>,
+    reply: &mut [u8],
+) -> i64
+    requires short { length repr.now.payload.now ≤ 65535 }
+    requires room { 100 ≤ length reply.old }
+    ensures { Hears moment.now.cx socket.old.tsval_generator socket.old.control_block ip.now (segment_of repr.now)
+        reply.old result (Some socket.new.control_block) (is_some socket.new.tsval_generator) reply.new }
+{
+    if !socket.accepts(moment, ip, repr) {
+        return NOT_ACCEPTED;
+    }
+    let answer = processed(socket, moment, ip, repr);
+    put_reply(&answer, reply)
+}
+
+// The reply to a segment that is for the socket.
+#[tactic(auto, using(crate::proofs::Replies::reply_is))]
+fn processed(
+    socket: &mut Socket<'_, Clock>,
+    moment: &Moment,
+    ip: &IpRepr,
+    repr: &TcpRepr<'_>,
+) -> Option<Reply>
+    requires accepted { Accepts socket.old.control_block ip.now (segment_of repr.now) }
+    requires short { length repr.now.payload.now ≤ 65535 }
+    ensures view { socket.new.control_block
+        ≡ (outcome_in moment.now.cx socket.old.control_block ip.now (segment_of repr.now)).view }
+    ensures clock { socket.new.tsval_generator
+        ≡ generator_after socket.old.control_block (segment_of repr.now) socket.old.tsval_generator }
+    ensures reply { option_map reply_of result ≡ reply_in moment.now.cx socket.old.tsval_generator
+        socket.old.control_block ip.now (segment_of repr.now) }
+    ensures bare { ForSome result (λ r. r.1.payload.now ≡ []) }
+    ensures fits { ForSome (option_map reply_of result) (λ r. FitsPacket r.0 r.1) }
+{
+    let mut cx = *moment;
+    socket.process(&mut cx, ip, repr)
+}
+
+// Writes the reply, if any, and answers its length. There is room for any.
+fn put_reply(answer: &Option<Reply>, out: &mut [u8]) -> i64
+    requires bare { ForSome answer.now (λ r. r.1.payload.now ≡ []) }
+    requires fits { ForSome (option_map reply_of answer.now) (λ r. FitsPacket r.0 r.1) }
+    requires room { 100 ≤ length out.old }
+    ensures answer { result ≡ pos (size_of (option_map reply_of answer.now)) }
+    ensures bytes { out.new ≡ written_over (option_map reply_of answer.now) out.old }
+{
+    match answer {
+        None => OK,
+        Some((ip, repr)) => put_packet(ip, repr, out) as i64,
     }
 }
 
@@ -109,7 +145,13 @@ pub extern "C" fn smoltcp_tcp_dispatch_checked(
     cx: &Cx,
     out: &mut [u8],
 ) -> i64
-    ensures refused { held s.old ≡ None → Refused s.old result s.new }
+    ensures refused { held s.old ≡ None → RefusedFor error_socket s.old out.old result s.new out.new }
+    ensures context { (v : View) → held s.old ≡ Some v → is_context cx.entry.now ≡ false
+        → RefusedFor error_context s.old out.old result s.new out.new }
+    ensures table { (v : View) → held s.old ≡ Some v → is_context cx.entry.now ≡ true
+        → Leaves (λ w. DispatchesInto cx.entry.now (clock_in s.old.timestamps cx.entry.now.tsval) v out.old result w
+        out.new) (held s.new) }
+    ensures stamps { flag_in s.new.timestamps ≡ flag_in s.old.timestamps }
 {
     let Some(parts) = parts_held(s) else {
         return ERROR_SOCKET;
@@ -118,55 +160,38 @@ pub extern "C" fn smoltcp_tcp_dispatch_checked(
         return ERROR_CONTEXT;
     };
     let mut socket = take(s, &parts, cx.tsval);
-    let mut wire = Wire {
-        moment,
-        len: 0,
-        out,
-    };
-    let answer = sent(&mut socket, &mut wire);
+    let answer = sent(&mut socket, &moment, out);
     put(s, socket);
     answer
 }
 
-// Lets the socket emit.
-fn sent(socket: &mut Socket<'_, Clock>, wire: &mut Wire<'_>) -> i64 {
-    let done = socket.dispatch(
-        wire,
-        |cx: &mut Wire<'_>, sent: (IpRepr, TcpRepr<'_>)| -> Result<(), Full> {
-            cx.write(&sent.0, &sent.1)
-        },
-    );
-    match done {
-        Ok(()) => wire.len.min(131070) as i64,
-        Err(Full) => ERROR_ROOM,
-    }
+// Writes what is due.
+fn sent(socket: &mut Socket<'_, Clock>, moment: &Moment, out: &mut [u8]) -> i64
+    ensures table { DispatchesInto moment.now.cx socket.old.tsval_generator socket.old.control_block out.old result
+        socket.new.control_block out.new }
+    ensures clock { socket.new.tsval_generator ≡ socket.old.tsval_generator }
+{
+    let mut wire = Wire {
+        moment: *moment,
+        len: 0,
+        out,
+    };
+    let answer = emitted(socket, &mut wire);
+    sent_answer(answer, wire.len)
 }
 
-/// When the socket wants its next dispatch: writes the moment in microseconds into `at`, and answers 0. 1 where it
-/// wants none before a packet comes; `at` is then as it was, as with the errors `ERROR_CONTEXT` and `ERROR_SOCKET`.
-#[unsafe(no_mangle)]
-pub extern "C" fn smoltcp_tcp_poll_at_checked(s: &mut TcpSocket<'_>, cx: &Cx, at: &mut i64) -> i64
-    ensures refused { held s.old ≡ None → Refused s.old result s.new }
-    ensures unwritten { held s.old ≡ None → at.new ≡ at.old }
+// Lets the socket emit.
+fn emitted(socket: &mut Socket<'_, Clock>, wire: &mut Wire<'_>) -> Result<(), Full>
+    requires { wire.old.len ≡ 0 }
+    ensures table { DispatchesInto wire.old.moment.cx socket.old.tsval_generator socket.old.control_block
+        wire.old.out.now (sent_answer result wire.new.len) socket.new.control_block wire.new.out.now }
+    ensures clock { socket.new.tsval_generator ≡ socket.old.tsval_generator }
+    ensures same_buffer { wire.new.out.ghost_name ≡ wire.old.out.ghost_name }
 {
-    let Some(parts) = parts_held(s) else {
-        return ERROR_SOCKET;
-    };
-    let Some(moment) = moment_in(cx) else {
-        return ERROR_CONTEXT;
-    };
-    let socket = take(s, &parts, cx.tsval);
-    let poll = socket.poll_at(&moment);
-    put(s, socket);
-    match poll {
-        PollAt::Now => {
-            *at = cx.now;
-            OK
-        }
-        PollAt::Time(moment) => {
-            *at = moment.micros;
-            OK
-        }
-        PollAt::Ingress => 1,
-    }
+    socket.dispatch(
+        wire,
+        move |cx: &mut Wire<'_>, sent: (IpRepr, TcpRepr<'_>)| -> Result<(), Full>
+            ensures { Writes sent.entry.0 (segment_of sent.entry.1) cx.entry.now result cx.exit.now }
+        { cx.write(&sent.0, &sent.1) },
+    )
 }

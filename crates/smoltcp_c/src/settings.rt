@@ -4,15 +4,18 @@ ghost use Rattle.std.specs.Option.{IfSome};
 ghost use Rattle.net_base.specs.declared.time.Duration.{Duration};
 ghost use Rattle.sock_tcp.specs.Closing.{keep_alive_set};
 ghost use Rattle.sock_tcp.specs.Parts.{is_short};
+ghost use Rattle.sock_tcp.specs.Settings.{of_kind};
 ghost use Rattle.sock_tcp.specs.View.{IsShort, View};
+ghost use Rattle.sock_tcp.specs.declared.settings.CongestionControl.{CongestionControl};
 ghost use Rattle.smoltcp_c.specs.Answers.{IsDone, Refused, error_range};
-ghost use Rattle.smoltcp_c.specs.Numbers.{byte_or_none, flag_in, lasting, micros_in};
+ghost use Rattle.smoltcp_c.specs.Numbers.{byte_or_none, control_by, flag_in, lasting, micros_in};
 ghost use Rattle.smoltcp_c.specs.Socket.{held};
 
 use crate::answers::{ERROR_RANGE, ERROR_SOCKET, OK};
 use crate::numbers::flag_in;
 use crate::socket::{TcpSocket, parts_held, put, take};
 use net_base::time::Duration;
+use sock_tcp::CongestionControl;
 
 // The longest length of time, in microseconds.
 const LONGEST: u64 = 1 << 61;
@@ -65,6 +68,7 @@ fn byte_or_none(byte: u8) -> Option<u8>
 #[unsafe(no_mangle)]
 pub extern "C" fn smoltcp_tcp_set_timeout_checked(s: &mut TcpSocket<'_>, micros: i64) -> i64
     ensures refused { held s.old ≡ None → Refused s.old result s.new }
+    ensures stamps { flag_in s.new.timestamps ≡ flag_in s.old.timestamps }
     ensures far { (v : View) → held s.old ≡ Some v → lasting micros ≡ None
         → (result ≡ error_range) × (s.new ≡ s.old) }
     ensures set { (v : View) (d : Option Duration) → held s.old ≡ Some v → lasting micros ≡ Some d
@@ -87,6 +91,7 @@ pub extern "C" fn smoltcp_tcp_set_timeout_checked(s: &mut TcpSocket<'_>, micros:
 #[unsafe(no_mangle)]
 pub extern "C" fn smoltcp_tcp_set_keep_alive_checked(s: &mut TcpSocket<'_>, micros: i64) -> i64
     ensures refused { held s.old ≡ None → Refused s.old result s.new }
+    ensures stamps { flag_in s.new.timestamps ≡ flag_in s.old.timestamps }
     ensures far { (v : View) → held s.old ≡ Some v → lasting micros ≡ None
         → (result ≡ error_range) × (s.new ≡ s.old) }
     ensures set { (v : View) (d : Option Duration) → held s.old ≡ Some v → lasting micros ≡ Some d
@@ -109,6 +114,7 @@ pub extern "C" fn smoltcp_tcp_set_keep_alive_checked(s: &mut TcpSocket<'_>, micr
 #[unsafe(no_mangle)]
 pub extern "C" fn smoltcp_tcp_set_ack_delay_checked(s: &mut TcpSocket<'_>, micros: i64) -> i64
     ensures refused { held s.old ≡ None → Refused s.old result s.new }
+    ensures stamps { flag_in s.new.timestamps ≡ flag_in s.old.timestamps }
     ensures far { (v : View) → held s.old ≡ Some v → lasting micros ≡ None
         → (result ≡ error_range) × (s.new ≡ s.old) }
     ensures set { (v : View) (d : Option Duration) → held s.old ≡ Some v → lasting micros ≡ Some d
@@ -131,6 +137,7 @@ pub extern "C" fn smoltcp_tcp_set_ack_delay_checked(s: &mut TcpSocket<'_>, micro
 #[unsafe(no_mangle)]
 pub extern "C" fn smoltcp_tcp_set_nagle_enabled_checked(s: &mut TcpSocket<'_>, enabled: u8) -> i64
     ensures refused { held s.old ≡ None → Refused s.old result s.new }
+    ensures stamps { flag_in s.new.timestamps ≡ flag_in s.old.timestamps }
     ensures set { (v : View) → held s.old ≡ Some v → IsDone result (held s.new) (record v { nagle = flag_in enabled }) }
 {
     let Some(parts) = parts_held(s) else {
@@ -146,6 +153,7 @@ pub extern "C" fn smoltcp_tcp_set_nagle_enabled_checked(s: &mut TcpSocket<'_>, e
 #[unsafe(no_mangle)]
 pub extern "C" fn smoltcp_tcp_set_hop_limit_checked(s: &mut TcpSocket<'_>, hop_limit: u8) -> i64
     ensures refused { held s.old ≡ None → Refused s.old result s.new }
+    ensures stamps { flag_in s.new.timestamps ≡ flag_in s.old.timestamps }
     ensures set { (v : View) → held s.old ≡ Some v
         → IsDone result (held s.new) (record v { hop_limit = byte_or_none hop_limit }) }
 {
@@ -154,6 +162,46 @@ pub extern "C" fn smoltcp_tcp_set_hop_limit_checked(s: &mut TcpSocket<'_>, hop_l
     };
     let mut socket = take(s, &parts, 0);
     socket.set_hop_limit(byte_or_none(hop_limit));
+    put(s, socket);
+    OK
+}
+
+// The kind with this number.
+#[tactic(auto, unfolding(crate::specs::Numbers::control_by))]
+fn control_by(kind: u32) -> Option<CongestionControl>
+    ensures { result ≡ control_by kind }
+{
+    if kind == 0 {
+        return Some(CongestionControl::None);
+    }
+    if kind == 1 {
+        return Some(CongestionControl::Reno);
+    }
+    None
+}
+
+/// Puts in a new controller of this kind, also where there is one of the kind: 0 for none, 1 for Reno (RFC 5681),
+/// which a new socket has. 0, or `ERROR_RANGE` for another number, where nothing changes; `ERROR_SOCKET`.
+#[unsafe(no_mangle)]
+pub extern "C" fn smoltcp_tcp_set_congestion_control_checked(
+    s: &mut TcpSocket<'_>,
+    kind: u32,
+) -> i64
+    ensures refused { held s.old ≡ None → Refused s.old result s.new }
+    ensures stamps { flag_in s.new.timestamps ≡ flag_in s.old.timestamps }
+    ensures other { (v : View) → held s.old ≡ Some v → control_by kind ≡ None
+        → (result ≡ error_range) × (s.new ≡ s.old) }
+    ensures set { (v : View) (k : CongestionControl) → held s.old ≡ Some v → control_by kind ≡ Some k
+        → IsDone result (held s.new) (record v { congestion_controller = of_kind k }) }
+{
+    let Some(parts) = parts_held(s) else {
+        return ERROR_SOCKET;
+    };
+    let Some(control) = control_by(kind) else {
+        return ERROR_RANGE;
+    };
+    let mut socket = take(s, &parts, 0);
+    socket.set_congestion_control(control);
     put(s, socket);
     OK
 }

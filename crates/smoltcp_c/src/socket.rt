@@ -1,7 +1,7 @@
 //! A TCP socket as C holds it: its two buffers and its fields.
 ghost use Rattle.std.specs.Prelude.{◌≡◌, ◌≤◌, ◌^◌, [], length, true, None, Some, is_some};
 ghost use Rattle.std.specs.Option.{ForSome};
-ghost use Rattle.net_base.specs.Ring.{ring};
+ghost use Rattle.net_base.specs.Ring.{empty_ring};
 ghost use Rattle.sock_core.specs.Received.{receiving};
 ghost use Rattle.sock_tcp.specs.Parts.{are_sound, socket_of};
 ghost use Rattle.sock_tcp.specs.Queue.{queue_of};
@@ -17,6 +17,7 @@ use sock_tcp::{Parts, Socket};
 
 /// A TCP socket as C holds it. C owns it and the two buffers, which have at most 2^30 bytes each.
 #[repr(C)]
+#[derive(Drop)]
 pub struct TcpSocket<'b> {
     /// The receive buffer, as a pointer and a length in bytes.
     pub rx: &'b mut [u8],
@@ -40,7 +41,7 @@ pub fn closed_over<'b>(rx: &'b mut [u8], tx: &'b mut [u8]) -> Socket<'b, Clock>
     requires rx { length rx.old ≤ 2 ^ 30 }
     requires tx { length tx.old ≤ 2 ^ 30 }
     ensures control_block { result.control_block
-        ≡ fresh (receiving (ring [] rx.old)) (queue_of (ring [] tx.old)) }
+        ≡ fresh (receiving (empty_ring rx.old)) (queue_of (empty_ring tx.old)) }
     ensures clock { result.tsval_generator ≡ None }
 {
     Socket::closed(RingBuffer::new(rx), RingBuffer::new(tx), None)
@@ -68,6 +69,7 @@ pub fn take<'b>(s: &mut TcpSocket<'b>, parts: &Parts, tsval: u32) -> Socket<'b, 
     requires sound { are_sound parts.now (length s.old.rx.now) (length s.old.tx.now) ≡ true }
     ensures control_block { result.control_block ≡ socket_of parts.now s.old.rx.now s.old.tx.now }
     ensures clock { result.tsval_generator ≡ clock_in s.old.timestamps tsval }
+    ensures stamps { is_some result.tsval_generator ≡ flag_in s.old.timestamps }
 {
     let clock = clock_in(s.timestamps, tsval);
     let rx = std::mem::take(&mut s.rx);
@@ -76,7 +78,8 @@ pub fn take<'b>(s: &mut TcpSocket<'b>, parts: &Parts, tsval: u32) -> Socket<'b, 
 }
 
 fn clock_in(timestamps: u8, tsval: u32) -> Option<Clock>
-    ensures { result ≡ clock_in timestamps tsval }
+    ensures value { result ≡ clock_in timestamps tsval }
+    ensures flag { is_some result ≡ flag_in timestamps }
 {
     if timestamps == 0 {
         return None;

@@ -1,14 +1,14 @@
 //! The calls of a TCP socket.
 ghost use Rattle.std.specs.Prelude.{◌≡◌, pos, [], None, Some, true, false};
 ghost use Rattle.sock_core.specs.Received.{receiving};
-ghost use Rattle.net_base.specs.Ring.{ring};
+ghost use Rattle.net_base.specs.Ring.{empty_ring};
 ghost use Rattle.sock_tcp.specs.Closing.{closed, aborted};
 ghost use Rattle.sock_tcp.specs.Opening.{Listens};
 ghost use Rattle.sock_tcp.specs.Queues.{can_send, can_recv, Sends, Reads};
 ghost use Rattle.sock_tcp.specs.Queue.{queue_of};
 ghost use Rattle.sock_tcp.specs.View.{View, fresh};
 ghost use Rattle.smoltcp_c.specs.Answers.{Calls, Refused, listen_answer, send_answer, recv_answer, flag_answer, state_answer, error_socket};
-ghost use Rattle.smoltcp_c.specs.Numbers.{listen_in};
+ghost use Rattle.smoltcp_c.specs.Numbers.{flag_in, listen_in};
 ghost use Rattle.smoltcp_c.specs.Socket.{held, is_long};
 
 use crate::answers::{
@@ -22,6 +22,7 @@ use crate::socket::{LARGEST, TcpSocket, closed_over, parts_held, put, take};
 #[unsafe(no_mangle)]
 pub extern "C" fn smoltcp_tcp_listen_checked(s: &mut TcpSocket<'_>, endpoint: &Endpoint) -> i64
     ensures refused { held s.old ≡ None → Refused s.old result s.new }
+    ensures stamps { flag_in s.new.timestamps ≡ flag_in s.old.timestamps }
     ensures table { (v : View) → held s.old ≡ Some v
         → Calls listen_answer (λ r w. Listens v (listen_in endpoint.now) r w) result (held s.new) }
 {
@@ -38,6 +39,7 @@ pub extern "C" fn smoltcp_tcp_listen_checked(s: &mut TcpSocket<'_>, endpoint: &E
 #[unsafe(no_mangle)]
 pub extern "C" fn smoltcp_tcp_close_checked(s: &mut TcpSocket<'_>) -> i64
     ensures refused { held s.old ≡ None → Refused s.old result s.new }
+    ensures stamps { flag_in s.new.timestamps ≡ flag_in s.old.timestamps }
     ensures answer { (v : View) → held s.old ≡ Some v → result ≡ pos 0 }
     ensures closed { (v : View) → held s.old ≡ Some v → held s.new ≡ Some (closed v) }
 {
@@ -55,6 +57,7 @@ pub extern "C" fn smoltcp_tcp_close_checked(s: &mut TcpSocket<'_>) -> i64
 #[unsafe(no_mangle)]
 pub extern "C" fn smoltcp_tcp_abort_checked(s: &mut TcpSocket<'_>) -> i64
     ensures refused { held s.old ≡ None → Refused s.old result s.new }
+    ensures stamps { flag_in s.new.timestamps ≡ flag_in s.old.timestamps }
     ensures answer { (v : View) → held s.old ≡ Some v → result ≡ pos 0 }
     ensures aborted { (v : View) → held s.old ≡ Some v → held s.new ≡ Some (aborted v) }
 {
@@ -72,9 +75,10 @@ pub extern "C" fn smoltcp_tcp_abort_checked(s: &mut TcpSocket<'_>) -> i64
 #[unsafe(no_mangle)]
 pub extern "C" fn smoltcp_tcp_init_checked(s: &mut TcpSocket<'_>) -> i64
     ensures refused { is_long s.old ≡ true → Refused s.old result s.new }
+    ensures stamps { is_long s.old ≡ false → flag_in s.new.timestamps ≡ false }
     ensures answer { is_long s.old ≡ false → result ≡ pos 0 }
     ensures made { is_long s.old ≡ false → held s.new
-        ≡ Some (fresh (receiving (ring [] s.old.rx.now)) (queue_of (ring [] s.old.tx.now))) }
+        ≡ Some (fresh (receiving (empty_ring s.old.rx.now)) (queue_of (empty_ring s.old.tx.now))) }
 {
     if s.rx.len() > LARGEST || s.tx.len() > LARGEST {
         return ERROR_SOCKET;
@@ -90,6 +94,7 @@ pub extern "C" fn smoltcp_tcp_init_checked(s: &mut TcpSocket<'_>) -> i64
 #[unsafe(no_mangle)]
 pub extern "C" fn smoltcp_tcp_send_checked(s: &mut TcpSocket<'_>, data: &[u8]) -> i64
     ensures refused { held s.old ≡ None → Refused s.old result s.new }
+    ensures stamps { flag_in s.new.timestamps ≡ flag_in s.old.timestamps }
     ensures table { (v : View) → held s.old ≡ Some v
         → Calls send_answer (λ r w. Sends v «data».now r w) result (held s.new) }
 {
@@ -108,6 +113,7 @@ pub extern "C" fn smoltcp_tcp_send_checked(s: &mut TcpSocket<'_>, data: &[u8]) -
 #[unsafe(no_mangle)]
 pub extern "C" fn smoltcp_tcp_recv_checked(s: &mut TcpSocket<'_>, data: &mut [u8]) -> i64
     ensures refused { held s.old ≡ None → Refused s.old result s.new }
+    ensures stamps { flag_in s.new.timestamps ≡ flag_in s.old.timestamps }
     ensures unread { held s.old ≡ None → «data».new ≡ «data».old }
     ensures table { (v : View) → held s.old ≡ Some v
         → Calls recv_answer (λ r w. Reads v «data».old r w «data».new) result (held s.new) }
@@ -126,6 +132,7 @@ pub extern "C" fn smoltcp_tcp_recv_checked(s: &mut TcpSocket<'_>, data: &mut [u8
 #[unsafe(no_mangle)]
 pub extern "C" fn smoltcp_tcp_can_send_checked(s: &mut TcpSocket<'_>) -> i64
     ensures refused { held s.old ≡ None → Refused s.old result s.new }
+    ensures stamps { flag_in s.new.timestamps ≡ flag_in s.old.timestamps }
     ensures answer { (v : View) → held s.old ≡ Some v → result ≡ flag_answer (can_send v) }
     ensures same { (v : View) → held s.old ≡ Some v → held s.new ≡ Some v }
 {
@@ -142,6 +149,7 @@ pub extern "C" fn smoltcp_tcp_can_send_checked(s: &mut TcpSocket<'_>) -> i64
 #[unsafe(no_mangle)]
 pub extern "C" fn smoltcp_tcp_can_recv_checked(s: &mut TcpSocket<'_>) -> i64
     ensures refused { held s.old ≡ None → Refused s.old result s.new }
+    ensures stamps { flag_in s.new.timestamps ≡ flag_in s.old.timestamps }
     ensures answer { (v : View) → held s.old ≡ Some v → result ≡ flag_answer (can_recv v) }
     ensures same { (v : View) → held s.old ≡ Some v → held s.new ≡ Some v }
 {

@@ -1,0 +1,26 @@
+-- A reply, with the timestamp that its clock tells.
+use Rattle.std.proofs.Common.{◌≡◌, ℕ, Option, Some, None, refl, ◌∙◌, ap}
+use Rattle.ip_wire.specs.declared.repr.IpRepr.{IpRepr}
+use Rattle.control_wire.specs.Segment.{Segment}
+use Rattle.control_wire.specs.declared.tcp.TcpControl.{TcpControl}
+use Rattle.control_wire.specs.declared.tcp.TcpControl.TheVariants as control
+use Rattle.control_wire.specs.declared.tcp.TcpTimestampRepr.{TcpTimestampRepr}
+use Rattle.sock_tcp.specs.Replies.{Answers, IsReplyStamp, with_header}
+use Rattle.smoltcp_c.specs.Packets.{replied, reply_stamp}
+use Rattle.smoltcp_c.specs.declared.clock.Clock.{Clock}
+
+stamp_is : (clock : Option Clock) (came : Option TcpTimestampRepr) (c : TcpControl) (stamp : Option TcpTimestampRepr) → IsReplyStamp (λ (k : Clock) (t : ℕ). t ≡ k.tsval) clock came c stamp → stamp ≡ reply_stamp clock came c
+stamp_is (Some k) (Some r) control.None (Some t) h = λ i. Some (record { tsval = h.0 i; tsecr = h.1 i })
+stamp_is (Some k) (Some r) control.None None h = absurd h
+stamp_is (Some k) (Some r) control.Psh stamp h = h
+stamp_is (Some k) (Some r) control.Syn stamp h = h
+stamp_is (Some k) (Some r) control.Fin stamp h = h
+stamp_is (Some k) (Some r) control.Rst stamp h = h
+stamp_is (Some k) None c stamp h = h
+stamp_is None came c stamp h = h
+
+pub reply_is : (clock : Option Clock) (came : Option TcpTimestampRepr) (ip : IpRepr) (o : Option Segment) (r : Option (IpRepr × Segment)) → Answers (IsReplyStamp (λ (k : Clock) (t : ℕ). t ≡ k.tsval) clock came) ip o r → r ≡ replied clock came ip o
+reply_is clock came ip None None h = refl
+reply_is clock came ip None (Some x) h = absurd h
+reply_is clock came ip (Some s) None h = absurd h
+reply_is clock came ip (Some s) (Some x) h = ap Some (h.is ∙ ap (λ stamp. with_header ip (record s { timestamp = stamp })) (stamp_is clock came s.control h.stamp h.is_stamp))

@@ -1,0 +1,163 @@
+//! Two sockets in memory, through the calls that C has: they connect, send bytes both ways, and close.
+ghost use Rattle.std.specs.Prelude.{◌≤◌, ◌^◌, length};
+
+use crate::answers::{ERROR_CONTEXT, ERROR_ROOM, NOT_ACCEPTED, OK};
+use crate::context::Cx;
+use crate::contexts::{smoltcp_tcp_connect_checked, smoltcp_tcp_poll_at_checked};
+use crate::endpoints::{Address, Endpoint};
+use crate::fields::fields_of;
+use crate::packets::{smoltcp_tcp_dispatch_checked, smoltcp_tcp_process_checked};
+use crate::settings::smoltcp_tcp_set_congestion_control_checked;
+use crate::socket::{TcpSocket, closed_over};
+use crate::tcp::{
+    smoltcp_tcp_close_checked, smoltcp_tcp_init_checked, smoltcp_tcp_listen_checked,
+    smoltcp_tcp_recv_checked, smoltcp_tcp_send_checked, smoltcp_tcp_state_checked,
+};
+
+const MTU: usize = 1500;
+
+const ESTABLISHED: i64 = 4;
+
+const CLOSE_WAIT: i64 = 7;
+
+const CLOSED: i64 = 0;
+
+const TIME_WAIT: i64 = 10;
+
+fn made<'b>(rx: &'b mut [u8], tx: &'b mut [u8]) -> TcpSocket<'b>
+    requires rx { length rx.old ≤ 2 ^ 30 }
+    requires tx { length tx.old ≤ 2 ^ 30 }
+{
+    let (rx, tx, parts, _clock) = closed_over(rx, tx).into_parts();
+    TcpSocket {
+        rx_size: 0,
+        tx_size: 0,
+        rx,
+        tx,
+        timestamps: 1,
+        fields: fields_of(&parts),
+    }
+}
+
+// The context of the host whose address ends in this.
+fn context(last: u8, now: i64) -> Cx {
+    Cx {
+        now,
+        word: last as u32 * 1000,
+        tsval: 7,
+        ip_mtu: 1500,
+        v4: [10, 0, 0, last],
+        v6: [0; 16],
+    }
+}
+
+fn endpoint(last: u8, port: u16) -> Endpoint {
+    Endpoint {
+        addr: Address {
+            version: 4,
+            v4: [10, 0, 0, last],
+            v6: [0; 16],
+        },
+        port,
+    }
+}
+
+// The bytes of a packet of this length.
+fn packet_in(bytes: &[u8], len: i64) -> &[u8] {
+    let len = if len < 0 { 0 } else { len as usize };
+    &bytes[..len.min(bytes.len())]
+}
+
+// Gives a packet that one socket emits to the other, and the reply back. The length of the packet, 0, or an error.
+fn carry(from: &mut TcpSocket<'_>, of_from: &Cx, to: &mut TcpSocket<'_>, of_to: &Cx) -> i64 {
+    let mut packet = [0u8; MTU];
+    let mut reply = [0u8; MTU];
+    let len = smoltcp_tcp_dispatch_checked(from, of_from, &mut packet);
+    if len <= 0 {
+        return len;
+    }
+    let back = smoltcp_tcp_process_checked(to, of_to, packet_in(&packet, len), &mut reply);
+    if back > 0 {
+        smoltcp_tcp_process_checked(from, of_from, packet_in(&reply, back), &mut packet);
+    }
+    len
+}
+
+// Lets both emit what they have, for a second.
+fn run(a: &mut TcpSocket<'_>, b: &mut TcpSocket<'_>, second: u8) -> bool {
+    for turn in 0..50u32 {
+        let now = i64::from((u32::from(second) * 50 + turn) * 20_000);
+        if carry(a, &context(1, now), b, &context(2, now)) < 0
+            || carry(b, &context(2, now), a, &context(1, now)) < 0
+        {
+            return false;
+        }
+    }
+    true
+}
+
+// Both are open.
+fn opens(a: &mut TcpSocket<'_>, b: &mut TcpSocket<'_>) -> bool {
+    smoltcp_tcp_init_checked(a) == OK
+        && smoltcp_tcp_init_checked(b) == OK
+        && smoltcp_tcp_set_congestion_control_checked(a, 0) == OK
+        && smoltcp_tcp_listen_checked(b, &endpoint(2, 7)) == OK
+        && smoltcp_tcp_connect_checked(a, &context(1, 0), &endpoint(2, 7), &endpoint(1, 49152))
+            == OK
+        && run(a, b, 0)
+        && smoltcp_tcp_state_checked(a) == ESTABLISHED
+        && smoltcp_tcp_state_checked(b) == ESTABLISHED
+}
+
+fn sends(socket: &mut TcpSocket<'_>) -> bool {
+    smoltcp_tcp_send_checked(socket, b"a line\n") == 7
+}
+
+fn reads(socket: &mut TcpSocket<'_>) -> bool {
+    let mut bytes = [0u8; 16];
+    smoltcp_tcp_recv_checked(socket, &mut bytes) == 7 && bytes.starts_with(b"a line\n")
+}
+
+// One closes, and then the other.
+fn closes(a: &mut TcpSocket<'_>, b: &mut TcpSocket<'_>) -> bool {
+    smoltcp_tcp_close_checked(a) == OK
+        && run(a, b, 3)
+        && smoltcp_tcp_state_checked(b) == CLOSE_WAIT
+        && smoltcp_tcp_close_checked(b) == OK
+        && run(a, b, 4)
+        && smoltcp_tcp_state_checked(b) == CLOSED
+        && smoltcp_tcp_state_checked(a) == TIME_WAIT
+}
+
+// TIME-WAIT ends ten seconds later, and nothing is wanted after that.
+fn ends(a: &mut TcpSocket<'_>) -> bool {
+    let mut at = 0;
+    let mut out = [0u8; MTU];
+    smoltcp_tcp_poll_at_checked(a, &context(1, 0), &mut at) == 0
+        && smoltcp_tcp_dispatch_checked(a, &context(1, at), &mut out) == 0
+        && smoltcp_tcp_state_checked(a) == CLOSED
+        && smoltcp_tcp_poll_at_checked(a, &context(1, at), &mut at) == 1
+}
+
+// What is refused: a moment out of range, little room for a reply, and no segment.
+fn refuses(a: &mut TcpSocket<'_>) -> bool {
+    let mut reply = [0u8; 100];
+    let mut short = [0u8; 99];
+    smoltcp_tcp_process_checked(a, &context(1, i64::MAX), b"", &mut reply) == ERROR_CONTEXT
+        && smoltcp_tcp_process_checked(a, &context(1, 0), b"", &mut short) == ERROR_ROOM
+        && smoltcp_tcp_process_checked(a, &context(1, 0), b"", &mut reply) == NOT_ACCEPTED
+}
+
+#[test]
+fn two_sockets_talk(rt: HostRuntime) {
+    let (mut a_rx, mut a_tx) = ([0u8; 64], [0u8; 64]);
+    let (mut b_rx, mut b_tx) = ([0u8; 64], [0u8; 64]);
+    let mut a = made(&mut a_rx, &mut a_tx);
+    let mut b = made(&mut b_rx, &mut b_tx);
+    assert!(rt; opens(&mut a, &mut b));
+    assert!(rt; sends(&mut a) && run(&mut a, &mut b, 1) && reads(&mut b));
+    assert!(rt; sends(&mut b) && run(&mut a, &mut b, 2) && reads(&mut a));
+    assert!(rt; refuses(&mut a));
+    assert!(rt; closes(&mut a, &mut b));
+    assert!(rt; ends(&mut a));
+}
