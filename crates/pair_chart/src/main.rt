@@ -5,23 +5,11 @@
 //! picture goes to standard output.
 #![tactic(auto)]
 
-mod arrow;
-mod axis;
-mod call;
-mod chart;
-mod history;
-mod label;
-mod marks;
-mod numbers;
 mod options;
-mod page;
-mod play;
-mod sequence;
-mod style;
-mod text;
 
-use crate::options::{Picture, Task, task_of};
-use crate::play::draw;
+use crate::options::{Task, task_of};
+use script_chart::picture::Picture;
+use script_chart::play::draw;
 use script_program::fault::{Fault, exit_code, fault_of};
 use script_program::input::{print, read_script};
 use std::io;

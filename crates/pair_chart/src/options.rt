@@ -1,5 +1,6 @@
 //! What the arguments ask for.
 
+use script_chart::picture::Picture;
 use script_program::fault::Fault;
 use sock_pair::Side;
 use std::env;
@@ -14,15 +15,6 @@ pub enum Task {
     Help,
     /// A picture of the script of a file, or of standard input where none is named.
     Draw(Picture, Option<String>),
-}
-
-/// Which picture is drawn.
-#[derive(Clone, Copy)]
-pub enum Picture {
-    /// What both sides did, row by row, with numbers counted from each side's SYN where they are relative.
-    Chart { relative: bool },
-    /// The sequence numbers of one side over time.
-    Sequence(Side),
 }
 
 /// Reads the arguments.

@@ -1,9 +1,9 @@
 //! What is drawn of worked examples, and how drawing ends where a stream fails or a script has a fault. The numbers are
 //! worked out from the rows: the row of event n begins at 104 + 38 n, a segment arrives 9 below that and departs 29
 //! below.
-use crate::options::Picture;
-use crate::play::draw;
-use crate::text::Quoted;
+use script_chart::picture::Picture;
+use script_chart::play::draw;
+use script_chart::text::Quoted;
 use script_program::fault::Fault;
 use script_program::input::read_all;
 use sock_pair::Side;

@@ -3,7 +3,7 @@ ghost use Rattle.sock_pair.specs.ReplayScripts.{IsPlayable};
 
 use crate::history::run;
 use crate::numbers::Numbers;
-use crate::options::Picture;
+use crate::picture::Picture;
 use crate::{chart, sequence};
 use sock_pair::script::lines::Lines;
 use sock_pair::script::{Buffers, End, Script, ScriptError, begin, parse};

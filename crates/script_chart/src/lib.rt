@@ -1,0 +1,17 @@
+//! Pictures of scripts in SVG: sequence charts, and sequence numbers over time.
+#![tactic(auto)]
+
+mod arrow;
+mod axis;
+mod call;
+mod chart;
+mod history;
+mod label;
+mod marks;
+mod numbers;
+mod page;
+pub mod picture;
+pub mod play;
+mod sequence;
+mod style;
+pub mod text;
