@@ -144,7 +144,8 @@ pub record Dequeues {X : Type 0} (old new : Packets X) : Type 0 where
 
 -- room was made, and where there was room a packet of the size bytes behind the entries was appended; what is then
 -- written over these bytes is the packet
-pub record Claims {X : Type 0} (size : ℕ) (header : X) (old : Packets X) (taken : Bool) (from : ℕ) (new : Packets X) : Type 0 where
+pub record Claims {X : Type 0} (size : ℕ) (header : X) (old : Packets X) (taken : Bool) (from : ℕ)
+    (new : Packets X) : Type 0 where
   pub variant : taken ≡ takes size old
   pub err : taken ≡ false → new ≡ made_room size old
   pub place : taken ≡ true → from ≡ end_of (made_room size old)

@@ -1,5 +1,5 @@
 -- What each event keeps of the addresses: each side's peer is the other side, and segments go from the one to the other.
-use Rattle.std.proofs.Common.{◌≡◌, ℕ, Bool, true, false, refl, sym, ap, subst, ◌∙◌, List, [], ◌∷◌, ◌++◌, Option, Some, None, ⊎_elim}
+use Rattle.std.proofs.Common.{◌≡◌, ℕ, Bool, true, false, refl, sym, ap, subst, ◌∙◌, List, [], ◌∷◌, ◌++◌, Option, Some, None, ⊎_elim, is_some}
 use Rattle.std.specs.Prelude.{option_map, slice_get, zero, suc, if◌then◌else◌}
 use Rattle.ip_wire.specs.Address.{SameVersion}
 use Rattle.ip_wire.specs.IpHeader.{ip_header, src_addr_of, dst_addr_of}
@@ -13,11 +13,11 @@ use Rattle.control_wire.specs.Segment.{Segment}
 use Rattle.control_wire.specs.declared.tcp.TcpControl.{TcpControl}
 use Rattle.control_wire.specs.declared.tcp.TcpTimestampRepr.{TcpTimestampRepr}
 use Rattle.sock_core.specs.Facts.{Facts}
-use Rattle.sock_tcp.proofs.Frames.{GoesBack}
+use Rattle.tcp_laws.proofs.Frames.{GoesBack}
 use Rattle.sock_tcp.specs.Begin.{after_timers, before_emit, before_emit_to, begun, begun_to, by_due, ended, readied, unless_paused}
 use Rattle.sock_tcp.specs.Content.{Sending, content, filled, emission_kind, of_kind, plain_segment, sent_as}
 use Rattle.sock_tcp.specs.Due.{is_due}
-use Rattle.sock_tcp.specs.Laws.{IsPeered}
+use Rattle.tcp_laws.specs.Laws.{IsPeered}
 use Rattle.sock_tcp.specs.Opening.{renewed}
 use Rattle.sock_tcp.specs.Process.{AcceptsIn, IsAddressed, tuple_of}
 use Rattle.sock_tcp.specs.Replies.{Answers, with_header}
@@ -195,19 +195,19 @@ module _ (ends : Side → IpEndpoint) (s : Side) (released taken : ℕ) where
         tt,
       )
 
-  pub dispatch_goes : (v w : View) (f : Facts) (stamps fail : Bool) (r : Sent) → SameVersion (ends s).addr (ends (other_side s)).addr → IsPeered v.state v.tuple (record { local = ends s; remote = ends (other_side s) }) → SocketDispatches v f stamps fail r w → AllGo ends (stored_at s r released taken)
+  pub dispatch_goes : {G : Type 0} (tells : G → ℕ → Type 0) (source : Option G) (v w : View) (f : Facts) (fail : Bool) (r : Sent) → SameVersion (ends s).addr (ends (other_side s)).addr → IsPeered v.state v.tuple (record { local = ends s; remote = ends (other_side s) }) → SocketDispatches tells source v f fail r w → AllGo ends (stored_at s r released taken)
   unfolding SocketDispatches
-  dispatch_goes v w f stamps fail r version p d = go (before_emit v f stamps).peer refl d
+  dispatch_goes tells source v w f fail r version p d = go (before_emit v f (is_some source)).peer refl d
     where
       u : View
-      u = (before_emit v f stamps).view
+      u = (before_emit v f (is_some source)).view
 
-      to : (t : Tuple) → (before_emit v f stamps).peer ≡ Some t → SendsTo u t f stamps fail r w → AllGo ends (stored_at s r released taken)
+      to : (t : Tuple) → (before_emit v f (is_some source)).peer ≡ Some t → SendsTo tells source u t f fail r w → AllGo ends (stored_at s r released taken)
       to t e d =
-          let is = peered v.state v.tuple t _ p (peer_is v f stamps t e) in
+          let is = peered v.state v.tuple t _ p (peer_is v f (is_some source) t e) in
           recorded_goes u t f d.stamp d.bytes fail (content u t f d.stamp d.bytes) r (subst (λ (z : Tuple). SameVersion z.local.addr z.remote.addr) (sym is) version) is refl d.records
 
-      go : (o : Option Tuple) → (before_emit v f stamps).peer ≡ o → SendsFrom o u f stamps fail r w → AllGo ends (stored_at s r released taken)
+      go : (o : Option Tuple) → (before_emit v f (is_some source)).peer ≡ o → SendsFrom tells source o u f fail r w → AllGo ends (stored_at s r released taken)
       go None e d = subst (λ z. AllGo ends (stored_at s z released taken)) (sym d.0) tt
       go (Some t) e d = to t e d
 

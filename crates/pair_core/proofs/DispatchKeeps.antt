@@ -1,5 +1,5 @@
 -- What a dispatch leaves alone: where the socket listens, unless it is CLOSED then, and its peer.
-use Rattle.std.proofs.Common.{Bool, true, false, cond, refl, sym, subst, ◌∙◌, Option, Some, None, inl, inr}
+use Rattle.std.proofs.Common.{Bool, true, false, cond, refl, sym, subst, ◌∙◌, Option, Some, None, inl, inr, is_some, ℕ}
 use Rattle.std.specs.Prelude.{not, ◌==◌, if◌then◌else◌}
 use Rattle.net_base.specs.declared.time.Instant.{Instant}
 use Rattle.sock_core.specs.Estimator.{sent}
@@ -21,7 +21,7 @@ use Rattle.sock_tcp.specs.declared.state.State.TheVariants as state
 use Rattle.sock_tcp.specs.declared.timer.Timer.{Timer}
 use Rattle.sock_tcp.specs.declared.timer.Timer.TheVariants as timer
 use Rattle.sock_tcp.specs.declared.tuple.Tuple.{Tuple}
-use Rattle.sock_tcp.specs.Laws.{IsPeered}
+use Rattle.tcp_laws.specs.Laws.{IsPeered}
 use Rattle.pair_core.specs.Recording.{SendsFrom, SocketDispatches}
 use Rattle.pair_core.specs.declared.recorder.Sent.{Sent}
 use Rattle.pair_core.proofs.PairListeners.{KeepsListener}
@@ -150,10 +150,10 @@ left_keeps (Some c) v now false = same v
 
 -- ---- the whole
 
-pub keeps_in_dispatch : (v w : View) (f : Facts) (stamps fail : Bool) (r : Sent) → SocketDispatches v f stamps fail r w → Keeps v w
+pub keeps_in_dispatch : {G : Type 0} (tells : G → ℕ → Type 0) (source : Option G) (v w : View) (f : Facts) (fail : Bool) (r : Sent) → SocketDispatches tells source v f fail r w → Keeps v w
 unfolding SocketDispatches
-keeps_in_dispatch v w f stamps fail r d = in_turn v (before_emit v f stamps).view w (before_emit_keeps v f stamps) (from (before_emit v f stamps).peer (before_emit v f stamps).view d)
+keeps_in_dispatch tells source v w f fail r d = in_turn v (before_emit v f (is_some source)).view w (before_emit_keeps v f (is_some source)) (from (before_emit v f (is_some source)).peer (before_emit v f (is_some source)).view d)
   where
-    from : (peer : Option Tuple) (u : View) → SendsFrom peer u f stamps fail r w → Keeps u w
+    from : (peer : Option Tuple) (u : View) → SendsFrom tells source peer u f fail r w → Keeps u w
     from None u d = subst (Keeps u) (sym d.1) (same u)
     from (Some t) u d = subst (Keeps u) (sym d.view) (left_keeps (content u t f d.stamp d.bytes) u (moment_of f) (not fail))

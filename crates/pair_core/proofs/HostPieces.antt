@@ -66,7 +66,7 @@ receives_piece called room v r w says d = go (may_recv v) r d
     go false (Err e) f = f
 
 -- so a side hands out what was taken, which it keeps
-pub host_receives : (size : ℕ) (h : HostView) (bytes : Vec ℕ Global) (w : View) (kept : List ℕ) → ReceivesPiece (min size (length h.control_block.rx_buffer.bytes)) h.control_block (Ok bytes) w → kept ≡ h.handed_out ++ bytes.items → Receives true size h (outcome.Read bytes) (record h { control_block = w; handed_out = kept })
+pub host_receives : {G : Type 0} (size : ℕ) (h : HostView G) (bytes : Vec ℕ Global) (w : View) (kept : List ℕ) → ReceivesPiece (min size (length h.control_block.rx_buffer.bytes)) h.control_block (Ok bytes) w → kept ≡ h.handed_out ++ bytes.items → Receives true size h (outcome.Read bytes) (record h { control_block = w; handed_out = kept })
 host_receives size h bytes w kept d e = go (may_recv h.control_block) d
   where
     go : (b : Bool) → ReceivesPieceIf b (min size (length h.control_block.rx_buffer.bytes)) h.control_block (Ok bytes) w → ReceivesIf b true size h (outcome.Read bytes) (record h { control_block = w; handed_out = kept })

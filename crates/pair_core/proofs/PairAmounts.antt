@@ -10,23 +10,23 @@ use Rattle.pair_core.specs.declared.outcome.Outcome.{Outcome}
 use Rattle.pair_core.specs.declared.outcome.Outcome.TheVariants as outcome
 
 -- some of the bytes, that fit
-pub record TakesSome (bs : List ℕ) (h : HostView) (o : Outcome) (k : HostView) : Type 0 where
+pub record TakesSome {G : Type 0} (bs : List ℕ) (h : HostView G) (o : Outcome) (k : HostView G) : Type 0 where
   pub count : ℕ
   pub offered : count ≤ length bs
   pub fits : count ≤ h.control_block.tx_buffer.window
   pub answer : o ≡ outcome.Accepted count
   pub host : k ≡ sending h count bs
 
-pub takes_some : (size : Option ℕ) (bs : List ℕ) (h : HostView) (o : Outcome) (k : HostView) → TakesBytes size bs h o k → TakesSome bs h o k
+pub takes_some : {G : Type 0} (size : Option ℕ) (bs : List ℕ) (h : HostView G) (o : Outcome) (k : HostView G) → TakesBytes size bs h o k → TakesSome bs h o k
 takes_some None bs h o k x = record { count = fitting h.control_block (length bs); offered = omega arith; fits = omega arith; answer = x.0; host = x.1 }
 takes_some (Some size) bs h o k x = record { count = piece_taken size (length bs) h; offered = omega arith; fits = omega (arith, free_within h.control_block.tx_buffer); answer = x.0; host = x.1 }
 
 -- some of the bytes that wait
-pub record HandsSome (h : HostView) (o : Outcome) (k : HostView) : Type 0 where
+pub record HandsSome {G : Type 0} (h : HostView G) (o : Outcome) (k : HostView G) : Type 0 where
   pub count : ℕ
   pub within : count ≤ length h.control_block.rx_buffer.bytes
   pub does : HandsOut count h o k
 
-pub hands_some : (piece : Bool) (size : ℕ) (h : HostView) (o : Outcome) (k : HostView) → HandsOutBytes piece size h o k → HandsSome h o k
+pub hands_some : {G : Type 0} (piece : Bool) (size : ℕ) (h : HostView G) (o : Outcome) (k : HostView G) → HandsOutBytes piece size h o k → HandsSome h o k
 hands_some true size h o k x = record { count = min size (first_piece h.control_block.rx_buffer); within = omega (arith, first_within h.control_block.rx_buffer); does = x }
 hands_some false size h o k x = record { count = readable h.control_block size; within = omega arith; does = x }

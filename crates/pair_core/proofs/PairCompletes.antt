@@ -55,7 +55,7 @@ counted true e = refl
 counted false e = cc
 
 -- the reader as the network shows it
-answers_finished : (h : HostView) → IsHost h → may_recv h.control_block ≡ false → recv_refusal h.control_block ≡ recv_error.Finished → AnswersFinished (endpoint_of h)
+answers_finished : {G : Type 0} (h : HostView G) → IsHost h → may_recv h.control_block ≡ false → recv_refusal h.control_block ≡ recv_error.Finished → AnswersFinished (endpoint_of h)
 answers_finished h i m e = go h.opening refl
   where
     fin : h.control_block.rx_fin_received ≡ true
@@ -66,10 +66,10 @@ answers_finished h i m e = go h.opening refl
     go opening.Listener u = record { counted = fin; empty = empty_queue h.control_block m }
     go opening.Connector u = record { counted = fin; empty = empty_queue h.control_block m }
 
-completed : (reader sender : HostView) → IsDelivered (endpoint_of sender) (endpoint_of reader) → AnswersFinished (endpoint_of reader) → IsComplete reader sender
+completed : {G : Type 0} (reader sender : HostView G) → IsDelivered (endpoint_of sender) (endpoint_of reader) → AnswersFinished (endpoint_of reader) → IsComplete reader sender
 completed reader sender d f = record { closed = (d.complete f).0; handed_out = (d.complete f).1 }
 
-module _ (p : PairView) (i : IsPair p) where
+module _ {G : Type 0} (p : PairView G) (i : IsPair p) where
   -- of either side
   read_completes : (s : Side) → AnswersFinished (endpoint_of (host_of s p)) → IsComplete (host_of s p) (host_of (other_side s) p)
   read_completes A f = completed p.a p.b (both_delivered (network_of p) i.network).incoming f
@@ -80,30 +80,30 @@ module _ (p : PairView) (i : IsPair p) where
   refused s recv_error.InvalidState r m = tt
   refused s recv_error.Finished r m = read_completes s (answers_finished (host_of s p) (host_at s p i) m r)
 
-  answered : (s : Side) (o : Outcome) (bs : List ℕ) (q : PairView) → IsRead o bs → CompleteAt o s q
+  answered : (s : Side) (o : Outcome) (bs : List ℕ) (q : PairView G) → IsRead o bs → CompleteAt o s q
   answered s (outcome.Read v) bs q x = tt
   answered s _ bs q x = absurd x
 
-  same_pair : (s : Side) (k : HostView) → k ≡ host_of s p → with_host s p k ≡ p
+  same_pair : (s : Side) (k : HostView G) → k ≡ host_of s p → with_host s p k ≡ p
   same_pair A k e = ap (with_host A p) e
   same_pair B k e = ap (with_host B p) e
 
-  reads : (s : Side) (b piece : Bool) (size : ℕ) (o : Outcome) (k : HostView) (q : PairView) → may_recv (host_of s p).control_block ≡ b → q ≡ with_host s p k → ReceivesIf b piece size (host_of s p) o k → CompleteAt o s q
+  reads : (s : Side) (b piece : Bool) (size : ℕ) (o : Outcome) (k : HostView G) (q : PairView G) → may_recv (host_of s p).control_block ≡ b → q ≡ with_host s p k → ReceivesIf b piece size (host_of s p) o k → CompleteAt o s q
   reads s true piece size o k q m e x = answered s o _ q (hands_some piece size (host_of s p) o k x).does.answer
   reads s false piece size o k q m e x = subst (λ z. CompleteAt z s q) (sym x.0) (subst (λ z. CompleteAt (outcome.RecvRefused (recv_refusal (host_of s p).control_block)) s z) (sym (e ∙ same_pair s k x.1)) (refused s (recv_refusal (host_of s p).control_block) refl m))
 
-  read_of : (e : Event) (o : Outcome) (q : PairView) → EventStep e p o q → CompleteRead e o q
-  read_of (event.RecvSlice s size) o q x = reads s (may_recv (host_of s p).control_block) false size o x.host q refl x.same x.does
-  read_of (event.Recv s size) o q x = reads s (may_recv (host_of s p).control_block) true size o x.host q refl x.same x.does
-  read_of (event.Listen s) o q x = tt
-  read_of (event.Connect s m) o q x = tt
-  read_of (event.SendSlice s bytes) o q x = tt
-  read_of (event.Send s bytes size) o q x = tt
-  read_of (event.Close s) o q x = tt
-  read_of (event.Abort s) o q x = tt
-  read_of (event.Set s y) o q x = tt
-  read_of (event.Dispatch s m fail) o q x = tt
-  read_of (event.Deliver j m) o q x = tt
+  read_of : (tells : G → ℕ → Type 0) (e : Event) (o : Outcome) (q : PairView G) → EventStep tells e p o q → CompleteRead e o q
+  read_of tells (event.RecvSlice s size) o q x = reads s (may_recv (host_of s p).control_block) false size o x.host q refl x.same x.does
+  read_of tells (event.Recv s size) o q x = reads s (may_recv (host_of s p).control_block) true size o x.host q refl x.same x.does
+  read_of tells (event.Listen s) o q x = tt
+  read_of tells (event.Connect s m) o q x = tt
+  read_of tells (event.SendSlice s bytes) o q x = tt
+  read_of tells (event.Send s bytes size) o q x = tt
+  read_of tells (event.Close s) o q x = tt
+  read_of tells (event.Abort s) o q x = tt
+  read_of tells (event.Set s y) o q x = tt
+  read_of tells (event.Dispatch s m fail) o q x = tt
+  read_of tells (event.Deliver j m) o q x = tt
 
 -- ---- a closed side
 
@@ -118,11 +118,11 @@ run_ends (u ∷ us) w v r i c =
 reach_ends : (w v : Network) → Reaches w v → IsInvariant w → w.local.closed ≡ true → StreamEnded w.local v.local
 reach_ends w v r i c = run_ends r.0 w v r.1 i c
 
-side_ends : (s : Side) (p q : PairView) → Reaches (network_of p) (network_of q) → IsInvariant (network_of p) → (host_of s p).closed ≡ true → HasEnded (host_of s p) (host_of s q)
+side_ends : {G : Type 0} (s : Side) (p q : PairView G) → Reaches (network_of p) (network_of q) → IsInvariant (network_of p) → (host_of s p).closed ≡ true → HasEnded (host_of s p) (host_of s q)
 side_ends A p q r i c = let e = reach_ends (network_of p) (network_of q) r i c in record { closed = e.closed; accepted = e.accepted }
 side_ends B p q r i c = let e = reach_ends (swapped (network_of p)) (swapped (network_of q)) (reach_swapped (network_of p) (network_of q) r) (swapped_keeps (network_of p) i) c in record { closed = e.closed; accepted = e.accepted }
 
 -- as a pair answers it
-pub completes : (e : Event) (p q : PairView) (r : Result Outcome PairError) → IsPair p → IsSized e p → IfOk r (λ o. EventStep e p o q) → IfOk r (λ o. Complete e p o q)
-completes e p q (Ok o) i z x = record { read = read_of p i e o q x; ended = λ s c. side_ends s p q (event_reaches e p o q i z x) i.network c }
-completes e p q (Err y) i z x = tt
+pub completes : {G : Type 0} (tells : G → ℕ → Type 0) (e : Event) (p q : PairView G) (r : Result Outcome PairError) → IsPair p → IsSized e p → IfOk r (λ o. EventStep tells e p o q) → IfOk r (λ o. Complete e p o q)
+completes tells e p q (Ok o) i z x = record { read = read_of p i tells e o q x; ended = λ s c. side_ends s p q (event_reaches tells e p o q i z x) i.network c }
+completes tells e p q (Err y) i z x = tt

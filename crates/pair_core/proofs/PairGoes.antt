@@ -3,13 +3,13 @@ use Rattle.std.proofs.Common.{◌≡◌, Bool, true, false, List, Some, None, re
 use Rattle.std.specs.Prelude.{ℕ, slice_get}
 use Rattle.control_wire.specs.declared.tcp.TcpControl.{TcpControl}
 use Rattle.control_wire.specs.declared.tcp.TcpControl.TheVariants as control
-use Rattle.sock_tcp.specs.Replies.{rst_segment}
-use Rattle.sock_tcp.proofs.Frames.{process_back}
+use Rattle.sock_tcp.specs.Replies.{IsReplyStamp, rst_segment}
+use Rattle.tcp_laws.proofs.Frames.{process_back}
 use Rattle.pair_core.specs.Holding.{kept_at}
 use Rattle.pair_core.specs.Moments.{facts_of}
 use Rattle.pair_core.specs.PairAddresses.{AllGo, GoesFrom, endpoint_at}
 use Rattle.pair_core.specs.PairInvariant.{IsPair}
-use Rattle.pair_core.specs.PairSteps.{DeliversIf, DeliversTo, Dispatches, IsStampOf, delivered_to, processed_by, refusal_reply, stored_at}
+use Rattle.pair_core.specs.PairSteps.{DeliversIf, DeliversTo, Dispatches, delivered_to, processed_by, refusal_reply, stored_at}
 use Rattle.pair_core.specs.PairViews.{HostView, PairView, StoredView, host_of}
 use Rattle.pair_core.specs.Sides.{other_side}
 use Rattle.pair_core.specs.declared.moment.Moment.{Moment}
@@ -19,33 +19,33 @@ use Rattle.pair_core.specs.declared.side.Side.TheVariants.{A, B}
 use Rattle.pair_core.proofs.Addresses.{all_append, answer_goes, dispatch_goes, one_goes, reply_goes}
 use Rattle.pair_core.proofs.PairHosts.{peer_at, version_at}
 
-pub dispatch_all : (s : Side) (p : PairView) (m : Moment) (fail : Bool) (o : Outcome) (k : HostView) (ts : List StoredView) → IsPair p → Dispatches s m fail o (host_of s p) p.segments k ts → AllGo (endpoint_at p) ts
-dispatch_all s p m fail o k ts i d =
+pub dispatch_all : {G : Type 0} (tells : G → ℕ → Type 0) (s : Side) (p : PairView G) (m : Moment) (fail : Bool) (o : Outcome) (k : HostView G) (ts : List StoredView) → IsPair p → Dispatches tells s m fail o (host_of s p) p.segments k ts → AllGo (endpoint_at p) ts
+dispatch_all tells s p m fail o k ts i d =
     subst (AllGo (endpoint_at p)) (sym d.stored) (all_append (endpoint_at p) p.segments (stored_at s d.sent (host_of s p).released (host_of s p).taken) i.segments
-    (dispatch_goes (endpoint_at p) s (host_of s p).released (host_of s p).taken (host_of s p).control_block k.control_block (facts_of m) (host_of s p).stamps fail d.sent (version_at s p i) (peer_at s p i) d.does.socket))
+    (dispatch_goes (endpoint_at p) s (host_of s p).released (host_of s p).taken tells (host_of s p).source (host_of s p).control_block k.control_block (facts_of m) fail d.sent (version_at s p i) (peer_at s p i) d.does.socket))
 
 -- the RST that answers a refused segment
-refusal_goes : (s : Side) (p : PairView) (t : StoredView) (c : TcpControl) (released taken : ℕ) → IsPair p → GoesFrom t (endpoint_at p (other_side s)) (endpoint_at p s) → AllGo (endpoint_at p) (kept_at s (refusal_reply c t) released taken)
+refusal_goes : {G : Type 0} (s : Side) (p : PairView G) (t : StoredView) (c : TcpControl) (released taken : ℕ) → IsPair p → GoesFrom t (endpoint_at p (other_side s)) (endpoint_at p s) → AllGo (endpoint_at p) (kept_at s (refusal_reply c t) released taken)
 refusal_goes s p t control.Rst released taken i g = tt
 refusal_goes s p t control.None released taken i g = (answer_goes s t (endpoint_at p s) (endpoint_at p (other_side s)) (rst_segment t.segment) None released taken (version_at s p i) g (refl, refl), tt)
 refusal_goes s p t control.Psh released taken i g = (answer_goes s t (endpoint_at p s) (endpoint_at p (other_side s)) (rst_segment t.segment) None released taken (version_at s p i) g (refl, refl), tt)
 refusal_goes s p t control.Syn released taken i g = (answer_goes s t (endpoint_at p s) (endpoint_at p (other_side s)) (rst_segment t.segment) None released taken (version_at s p i) g (refl, refl), tt)
 refusal_goes s p t control.Fin released taken i g = (answer_goes s t (endpoint_at p s) (endpoint_at p (other_side s)) (rst_segment t.segment) None released taken (version_at s p i) g (refl, refl), tt)
 
-pub deliver_all : (old : Bool) (s : Side) (p : PairView) (m : Moment) (t : StoredView) (o : Outcome) (k : HostView) (ts : List StoredView) → IsPair p → GoesFrom t (endpoint_at p (other_side s)) (endpoint_at p s) → DeliversTo old s m t o (host_of s p) p.segments k ts → AllGo (endpoint_at p) ts
-deliver_all true s p m t o k ts i g d = subst (AllGo (endpoint_at p)) (sym d.1.1) i.segments
-deliver_all false s p m t o k ts i g d = go d.accepted d.does
+pub deliver_all : {G : Type 0} (tells : G → ℕ → Type 0) (old : Bool) (s : Side) (p : PairView G) (m : Moment) (t : StoredView) (o : Outcome) (k : HostView G) (ts : List StoredView) → IsPair p → GoesFrom t (endpoint_at p (other_side s)) (endpoint_at p s) → DeliversTo tells old s m t o (host_of s p) p.segments k ts → AllGo (endpoint_at p) ts
+deliver_all tells true s p m t o k ts i g d = subst (AllGo (endpoint_at p)) (sym d.1.1) i.segments
+deliver_all {G} tells false s p m t o k ts i g d = go d.accepted d.does
   where
-    h : HostView
+    h : HostView G
     h = host_of s p
 
-    go : (b : Bool) → DeliversIf b s m t o h p.segments k ts → AllGo (endpoint_at p) ts
+    go : (b : Bool) → DeliversIf tells b s m t o h p.segments k ts → AllGo (endpoint_at p) ts
     go true x = subst (AllGo (endpoint_at p)) (sym x.stored) (all_append (endpoint_at p) p.segments _ i.segments
-        (reply_goes (endpoint_at p) s t (version_at s p i) g (IsStampOf (delivered_to h m t).stamps t.segment.timestamp) (processed_by h m t).reply x.reply (delivered_to h m t).released (delivered_to h m t).taken (process_back h.control_block (record { micros = m.now.micros }) m.word t.ip t.segment) x.is_reply))
+        (reply_goes (endpoint_at p) s t (version_at s p i) g (IsReplyStamp tells (delivered_to h m t).source t.segment.timestamp) (processed_by h m t).reply x.reply (delivered_to h m t).released (delivered_to h m t).taken (process_back h.control_block (record { micros = m.now.micros }) m.word t.ip t.segment) x.is_reply))
     go false x = subst (AllGo (endpoint_at p)) (sym x.stored) (all_append (endpoint_at p) p.segments _ i.segments (refusal_goes s p t t.segment.control h.released h.taken i g))
 
 -- a segment of the other side goes to this one
-pub goes_at : (s : Side) (p : PairView) (n : ℕ) (t : StoredView) → IsPair p → slice_get p.segments n ≡ Some t → t.emitter ≡ other_side s → GoesFrom t (endpoint_at p (other_side s)) (endpoint_at p s)
+pub goes_at : {G : Type 0} (s : Side) (p : PairView G) (n : ℕ) (t : StoredView) → IsPair p → slice_get p.segments n ≡ Some t → t.emitter ≡ other_side s → GoesFrom t (endpoint_at p (other_side s)) (endpoint_at p s)
 goes_at s p n t i at e = go s e
   where
     goes : GoesFrom t (endpoint_at p t.emitter) (endpoint_at p (other_side t.emitter))

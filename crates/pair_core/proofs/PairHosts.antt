@@ -1,5 +1,5 @@
 -- What each event keeps of a host, and of a pair but for its network.
-use Rattle.std.proofs.Common.{◌≡◌, ℕ, Bool, true, false, List, [], ◌∷◌, length, Option, Some, None, refl, sym, ap, subst, ◌∙◌, inl, inr}
+use Rattle.std.proofs.Common.{◌≡◌, ℕ, Bool, true, false, List, [], ◌∷◌, length, Option, Some, None, refl, sym, ap, subst, ◌∙◌, inl, inr, is_some}
 use Rattle.std.specs.Prelude.{IsTrue, not, ◌==◌, if◌then◌else◌}
 use Rattle.ip_wire.specs.Address.{SameVersion}
 use Rattle.ip_wire.specs.declared.endpoint.IpEndpoint.{IpEndpoint}
@@ -11,10 +11,10 @@ use Rattle.sock_tcp.specs.Begin.{Begun, begun, begun_to, before_emit, before_emi
 use Rattle.sock_tcp.specs.Process.{Accepts, AcceptsIn, tuple_of}
 use Rattle.sock_tcp.specs.Closing.{closed, aborted, closed_from}
 use Rattle.sock_tcp.specs.Queues.{may_send, may_recv, queued, read_off, receives, can_recv}
-use Rattle.sock_tcp.proofs.Frames.{process_peers}
-use Rattle.sock_tcp.specs.Laws.{IsPeered}
+use Rattle.tcp_laws.proofs.Frames.{process_peers}
+use Rattle.tcp_laws.specs.Laws.{IsPeered}
 use Rattle.sock_tcp.specs.Opening.{connected, listened, renewed}
-use Rattle.sock_tcp.specs.Work.{IsReached}
+use Rattle.tcp_laws.specs.Polling.{IsReached}
 use Rattle.sock_tcp.specs.declared.state.State.{State}
 use Rattle.sock_tcp.specs.declared.state.State.TheVariants as state
 use Rattle.sock_tcp.specs.declared.tuple.Tuple.{Tuple}
@@ -47,13 +47,13 @@ use Rattle.pair_core.proofs.PairAmounts.{takes_some, hands_some}
 use Rattle.pair_core.proofs.SocketCalls.{abort_call, called_reached, close_call, connect_call, dispatch_call, listen_call, process_call, recv_call, send_call, set_call}
 
 -- a host that is one still, on the same endpoint
-pub record StaysHost (remote : IpEndpoint) (h k : HostView) : Type 0 where
+pub record StaysHost {G : Type 0} (remote : IpEndpoint) (h k : HostView G) : Type 0 where
   pub host : IsHost k
   pub endpoint : k.endpoint ≡ h.endpoint
   pub peer : HasPeer h remote → HasPeer k remote
 
-pub unchanged : {remote : IpEndpoint} (h k : HostView) → IsHost h → k ≡ h → StaysHost remote h k
-unchanged {remote} h k i e = record { host = subst IsHost (sym e) i; endpoint = ap (λ (x : HostView). x.endpoint) e; peer = λ p. subst (λ x. HasPeer x remote) (sym e) p }
+pub unchanged : {remote : IpEndpoint} {G : Type 0} (h k : HostView G) → IsHost h → k ≡ h → StaysHost remote h k
+unchanged {remote} h k i e = record { host = subst IsHost (sym e) i; endpoint = ap (λ (x : HostView _). x.endpoint) e; peer = λ p. subst (λ x. HasPeer x remote) (sym e) p }
 
 -- ---- peers
 
@@ -92,30 +92,30 @@ set_peer _ v t p = p
 
 -- ---- opening
 
-opens : {remote : IpEndpoint} (w : Opening) (h n k : HostView) (o : Outcome) → IsHost h → (w ≡ opening.Unopened → StaysHost remote h n) → OpensAs w h n o k → StaysHost remote h k
+opens : {remote : IpEndpoint} {G : Type 0} (w : Opening) (h n k : HostView G) (o : Outcome) → IsHost h → (w ≡ opening.Unopened → StaysHost remote h n) → OpensAs w h n o k → StaysHost remote h k
 opens {remote} opening.Unopened h n k o i s e = subst (StaysHost remote h) (sym e.1) (s refl)
 opens opening.Listener h n k o i s e = unchanged h k i e.1
 opens opening.Connector h n k o i s e = unchanged h k i e.1
 
-pub listen_stays : {remote : IpEndpoint} (h k : HostView) (o : Outcome) → IsHost h → OpensAs h.opening h (listening h) o k → StaysHost remote h k
+pub listen_stays : {remote : IpEndpoint} {G : Type 0} (h k : HostView G) (o : Outcome) → IsHost h → OpensAs h.opening h (listening h) o k → StaysHost remote h k
 listen_stays h k o i e = opens h.opening h (listening h) k o i (λ u. record { host = record { reachable = i.reachable; idle = λ n. let no : opening.Listener ≡ opening.Unopened = n in cc; passive = λ shut live. listened_passive h.control_block (record { addr = Some h.endpoint.addr; port = h.endpoint.port }) i.reachable.port; reached = called_reached h.control_block (listening h).control_block (listen_call h.control_block (record { addr = Some h.endpoint.addr; port = h.endpoint.port }) (i.idle u).state i.reachable.port) i.reached }; endpoint = refl; peer = λ p. listened_peer h.control_block (record { addr = Some h.endpoint.addr; port = h.endpoint.port }) (tuple_to h _) }) e
 
-pub connect_stays : (h k : HostView) (m : Moment) (remote : IpEndpoint) (o : Outcome) → IsHost h → IsReachable remote → SameVersion h.endpoint.addr remote.addr → OpensAs h.opening h (connecting h m remote) o k → StaysHost remote h k
+pub connect_stays : {G : Type 0} (h k : HostView G) (m : Moment) (remote : IpEndpoint) (o : Outcome) → IsHost h → IsReachable remote → SameVersion h.endpoint.addr remote.addr → OpensAs h.opening h (connecting h m remote) o k → StaysHost remote h k
 connect_stays h k m remote o i there version e = opens h.opening h (connecting h m remote) k o i (λ u. record { host = record { reachable = i.reachable; idle = λ n. let no : opening.Connector ≡ opening.Unopened = n in cc; passive = λ shut live. connected_active h.control_block (record { local = h.endpoint; remote = remote }) m.word; reached = called_reached h.control_block (connecting h m remote).control_block (connect_call h.control_block (facts_of m) h.endpoint remote (i.idle u).state i.reachable there version m.word m.fits) i.reached }; endpoint = refl; peer = λ p. connected_peer h.control_block (record { local = h.endpoint; remote = remote }) m.word }) e
 
 -- ---- sending and receiving
 
-pub cannot_send : (h : HostView) → IsHost h → may_send h.control_block.state ≡ true → h.opening ≡ opening.Unopened → ⊥
+pub cannot_send : {G : Type 0} (h : HostView G) → IsHost h → may_send h.control_block.state ≡ true → h.opening ≡ opening.Unopened → ⊥
 cannot_send h i m u = let no : false ≡ true = sym (ap may_send (i.idle u).state) ∙ m in cc
 
-pub cannot_recv : (h : HostView) → IsHost h → may_recv h.control_block ≡ true → h.opening ≡ opening.Unopened → ⊥
+pub cannot_recv : {G : Type 0} (h : HostView G) → IsHost h → may_recv h.control_block ≡ true → h.opening ≡ opening.Unopened → ⊥
 cannot_recv h i m u =
     let none : can_recv h.control_block ≡ false = ap (λ (q : List ℕ). not (length q == 0)) (i.idle u).rx in
     let closed : receives h.control_block.state ≡ false = ap receives (i.idle u).state in
     let both : may_recv h.control_block ≡ false = ap (λ b. if b then true else can_recv h.control_block) closed ∙ none in
     let no : false ≡ true = sym both ∙ m in cc
 
-pub send_stays : {remote : IpEndpoint} (h k : HostView) (limit size : Option ℕ) (bs : List ℕ) (o : Outcome) → IsHost h → Sends limit size bs h o k → StaysHost remote h k
+pub send_stays : {remote : IpEndpoint} {G : Type 0} (h k : HostView G) (limit size : Option ℕ) (bs : List ℕ) (o : Outcome) → IsHost h → Sends limit size bs h o k → StaysHost remote h k
 send_stays {remote} h k limit size bs o i e = go (is_over limit _) e
   where
     take_some : (b : Bool) → may_send h.control_block.state ≡ b → SendsIf b size bs h o k → StaysHost remote h k
@@ -128,7 +128,7 @@ send_stays {remote} h k limit size bs o i e = go (is_over limit _) e
     go true x = unchanged h k i x.1
     go false x = take_some (may_send h.control_block.state) refl x
 
-pub recv_stays : {remote : IpEndpoint} (h k : HostView) (piece : Bool) (size : ℕ) (o : Outcome) → IsHost h → Receives piece size h o k → StaysHost remote h k
+pub recv_stays : {remote : IpEndpoint} {G : Type 0} (h k : HostView G) (piece : Bool) (size : ℕ) (o : Outcome) → IsHost h → Receives piece size h o k → StaysHost remote h k
 recv_stays {remote} h k piece size o i e = go (may_recv h.control_block) refl e
   where
     go : (b : Bool) → may_recv h.control_block ≡ b → ReceivesIf b piece size h o k → StaysHost remote h k
@@ -145,10 +145,10 @@ closed_idle v i = record { state = ap closed_from i.state; tuple = i.tuple; rx =
 aborted_idle : (v : View) → IsIdle v → IsIdle (aborted v)
 aborted_idle v i = record { state = refl; tuple = i.tuple; rx = i.rx; tx = i.tx; no_fin = i.no_fin }
 
-pub close_stays : {remote : IpEndpoint} (h k : HostView) (o : Outcome) → IsHost h → Closes h o k → StaysHost remote h k
+pub close_stays : {remote : IpEndpoint} {G : Type 0} (h k : HostView G) (o : Outcome) → IsHost h → Closes h o k → StaysHost remote h k
 close_stays {remote} h k o i e = subst (StaysHost remote h) (sym e.1) (record { host = record { reachable = i.reachable; idle = λ u. closed_idle h.control_block (i.idle u); passive = passive_kept h (closing h) i refl (closed_listens h.control_block); reached = called_reached h.control_block (closed h.control_block) (close_call h.control_block) i.reached }; endpoint = refl; peer = λ p. closed_peers h.control_block.state h.control_block.tuple (tuple_to h _) p })
 
-pub abort_stays : {remote : IpEndpoint} (h k : HostView) (o : Outcome) → IsHost h → Aborts h o k → StaysHost remote h k
+pub abort_stays : {remote : IpEndpoint} {G : Type 0} (h k : HostView G) (o : Outcome) → IsHost h → Aborts h o k → StaysHost remote h k
 abort_stays {remote} h k o i e = subst (StaysHost remote h) (sym e.1) (record { host = record { reachable = i.reachable; idle = λ u. aborted_idle h.control_block (i.idle u); passive = passive_kept h (aborting h) i refl (aborted_listens h.control_block); reached = called_reached h.control_block (aborted h.control_block) (abort_call h.control_block) i.reached }; endpoint = refl; peer = λ p. closed_peer h.control_block.state h.control_block.tuple (tuple_to h _) p })
 
 -- ---- settings
@@ -161,7 +161,7 @@ set_listens : (s : Setting) (v : View) → KeepsListener v (set_in s v)
 set_listens (setting.KeepAlive t) v = λ n. (n, refl)
 set_listens _ v = λ n. (n, refl)
 
-pub set_stays : {remote : IpEndpoint} (h k : HostView) (s : Setting) (o : Outcome) → IsHost h → Sets s h o k → StaysHost remote h k
+pub set_stays : {remote : IpEndpoint} {G : Type 0} (h k : HostView G) (s : Setting) (o : Outcome) → IsHost h → Sets s h o k → StaysHost remote h k
 set_stays {remote} h k s o i e = subst (StaysHost remote h) (sym e.1) (record { host = record { reachable = i.reachable; idle = λ u. set_idle s h.control_block (i.idle u); passive = passive_kept h (setting_host h s) i refl (set_listens s h.control_block); reached = called_reached h.control_block (set_in s h.control_block) (set_call s h.control_block) i.reached }; endpoint = refl; peer = λ p. set_peer s h.control_block (tuple_to h _) p })
 
 -- ---- dispatches and deliveries
@@ -170,16 +170,16 @@ pub no_peer_readies : (v : View) (f : Facts) (stamps : Bool) → v.tuple ≡ Non
 unfolding before_emit begun
 no_peer_readies v f stamps e = ap (λ (b : Begun). before_emit_to b.peer b.view f stamps) (ap (λ o. begun_to o v f) e)
 
-pub idle_dispatches : (v w : View) (f : Facts) (stamps fail : Bool) (r : Sent) → v.tuple ≡ None → SocketDispatches v f stamps fail r w → w ≡ v
+pub idle_dispatches : {G : Type 0} (tells : G → ℕ → Type 0) (source : Option G) (v w : View) (f : Facts) (fail : Bool) (r : Sent) → v.tuple ≡ None → SocketDispatches tells source v f fail r w → w ≡ v
 unfolding SocketDispatches
-idle_dispatches v w f stamps fail r e d = (subst (λ (b : Begun). SendsFrom b.peer b.view f stamps fail r w) (no_peer_readies v f stamps e) d).1
+idle_dispatches tells source v w f fail r e d = (subst (λ (b : Begun). SendsFrom tells source b.peer b.view f fail r w) (no_peer_readies v f (is_some source) e) d).1
 
-pub dispatch_stays : {remote : IpEndpoint} (s : Side) (m : Moment) (fail : Bool) (o : Outcome) (h k : HostView) (ts ts' : List StoredView) → IsHost h → Dispatches s m fail o h ts k ts' → StaysHost remote h k
-dispatch_stays {remote} s m fail o h k ts ts' i d =
-    let x : HostDispatches m fail h d.sent k = d.does in
-    let keeps : Keeps h.control_block k.control_block = keeps_in_dispatch h.control_block k.control_block (facts_of m) h.stamps fail d.sent x.socket in
+pub dispatch_stays : {remote : IpEndpoint} {G : Type 0} (tells : G → ℕ → Type 0) (s : Side) (m : Moment) (fail : Bool) (o : Outcome) (h k : HostView G) (ts ts' : List StoredView) → IsHost h → Dispatches tells s m fail o h ts k ts' → StaysHost remote h k
+dispatch_stays {remote} tells s m fail o h k ts ts' i d =
+    let x : HostDispatches tells m fail h d.sent k = d.does in
+    let keeps : Keeps h.control_block k.control_block = keeps_in_dispatch tells h.source h.control_block k.control_block (facts_of m) fail d.sent x.socket in
     subst (StaysHost remote h) (sym x.same) (record {
-      host = record { reachable = i.reachable; idle = λ u. subst IsIdle (sym (idle_dispatches h.control_block k.control_block (facts_of m) h.stamps fail d.sent (i.idle u).tuple x.socket)) (i.idle u); passive = passive_kept h (record h { control_block = k.control_block }) i refl keeps.listener; reached = called_reached h.control_block k.control_block (dispatch_call (facts_of m) h.stamps fail d.sent k.control_block h.control_block x.socket) i.reached };
+      host = record { reachable = i.reachable; idle = λ u. subst IsIdle (sym (idle_dispatches tells h.source h.control_block k.control_block (facts_of m) fail d.sent (i.idle u).tuple x.socket)) (i.idle u); passive = passive_kept h (record h { control_block = k.control_block }) i refl keeps.listener; reached = called_reached h.control_block k.control_block (dispatch_call tells h.source (facts_of m) fail d.sent k.control_block h.control_block x.socket) i.reached };
       endpoint = refl;
       peer = λ p. keeps.peer (tuple_to h _) p;
     })
@@ -187,9 +187,9 @@ dispatch_stays {remote} s m fail o h k ts ts' i d =
 pub closed_accepts_none : (v : View) (t : StoredView) → v.state ≡ state.Closed → Accepts v t.ip t.segment → ⊥
 closed_accepts_none v t e a = subst (λ st. AcceptsIn st v t.ip t.segment) e a
 
-pub deliver_stays : {remote : IpEndpoint} (old : Bool) (s : Side) (m : Moment) (t : StoredView) (o : Outcome) (h k : HostView) (ts ts' : List StoredView) → IsHost h → IsSmall t.segment → GoesFrom t remote h.endpoint → DeliversTo old s m t o h ts k ts' → StaysHost remote h k
-deliver_stays true s m t o h k ts ts' i small g d = unchanged h k i d.1.0
-deliver_stays {remote} false s m t o h k ts ts' i small g d = go d.accepted d.says.0 d.does
+pub deliver_stays : {remote : IpEndpoint} {G : Type 0} (tells : G → ℕ → Type 0) (old : Bool) (s : Side) (m : Moment) (t : StoredView) (o : Outcome) (h k : HostView G) (ts ts' : List StoredView) → IsHost h → IsSmall t.segment → GoesFrom t remote h.endpoint → DeliversTo tells old s m t o h ts k ts' → StaysHost remote h k
+deliver_stays tells true s m t o h k ts ts' i small g d = unchanged h k i d.1.0
+deliver_stays {remote} tells false s m t o h k ts ts' i small g d = go d.accepted d.says.0 d.does
   where
     is : tuple_of t.ip t.segment ≡ tuple_to h remote
     is = tuple_is t h.endpoint remote g
@@ -197,18 +197,18 @@ deliver_stays {remote} false s m t o h k ts ts' i small g d = go d.accepted d.sa
     peers : HasPeer h remote → HasPeer (delivered_to h m t) remote
     peers p = subst (λ x. IsPeered (processed_by h m t).view.state (processed_by h m t).view.tuple x) is (process_peers h.control_block _ m.word t.ip t.segment (subst (λ x. IsPeered h.control_block.state h.control_block.tuple x) (sym is) p))
 
-    go : (b : Bool) → (IsTrue b → Accepts h.control_block t.ip t.segment) → DeliversIf b s m t o h ts k ts' → StaysHost remote h k
+    go : (b : Bool) → (IsTrue b → Accepts h.control_block t.ip t.segment) → DeliversIf tells b s m t o h ts k ts' → StaysHost remote h k
     go true a x = subst (StaysHost remote h) (sym x.host) (record { host = record { reachable = i.reachable; idle = λ u. absurd (closed_accepts_none h.control_block t (i.idle u).state (a refl)); passive = passive_kept h (delivered_to h m t) i refl (λ live. ((λ c. closed_accepts_none h.control_block t c (a refl)), process_listens h.control_block _ m.word t.ip t.segment)); reached = called_reached h.control_block (processed_by h m t).view (process_call h.control_block m t small (a refl)) i.reached }; endpoint = refl; peer = peers })
     go false a x = unchanged h k i x.host
 
 -- ---- the pair
 
 -- a peer at an endpoint that is the same
-moved_peer : (h : HostView) (x y : IpEndpoint) → x ≡ y → HasPeer h x → HasPeer h y
+moved_peer : {G : Type 0} (h : HostView G) (x y : IpEndpoint) → x ≡ y → HasPeer h x → HasPeer h y
 moved_peer h x y e p = subst (HasPeer h) e p
 
 -- segments of two sides with the same endpoints
-ends_same : (p q : PairView) (ks : List StoredView) → q.a.endpoint ≡ p.a.endpoint → q.b.endpoint ≡ p.b.endpoint → AllGo (endpoint_at p) ks → AllGo (endpoint_at q) ks
+ends_same : {G : Type 0} (p q : PairView G) (ks : List StoredView) → q.a.endpoint ≡ p.a.endpoint → q.b.endpoint ≡ p.b.endpoint → AllGo (endpoint_at p) ks → AllGo (endpoint_at q) ks
 ends_same p q [] a b g = tt
 ends_same p q (k ∷ ks) a b g = (
   record {
@@ -224,7 +224,7 @@ ends_same p q (k ∷ ks) a b g = (
     same A = a
     same B = b
 
-pub pair_exchanged : (s : Side) (p : PairView) (k : HostView) (ts : List StoredView) → IsPair p → StaysHost (host_of (other_side s) p).endpoint (host_of s p) k → AllGo (endpoint_at p) ts → IsInvariant (network_of (exchanged s p k ts)) → IsPair (exchanged s p k ts)
+pub pair_exchanged : {G : Type 0} (s : Side) (p : PairView G) (k : HostView G) (ts : List StoredView) → IsPair p → StaysHost (host_of (other_side s) p).endpoint (host_of s p) k → AllGo (endpoint_at p) ts → IsInvariant (network_of (exchanged s p k ts)) → IsPair (exchanged s p k ts)
 pair_exchanged A p k ts i s g n = record {
   a = s.host;
   b = i.b;
@@ -244,19 +244,19 @@ pair_exchanged B p k ts i s g n = record {
   network = n;
 }
 
-pub pair_with : (s : Side) (p : PairView) (k : HostView) → IsPair p → StaysHost (host_of (other_side s) p).endpoint (host_of s p) k → IsInvariant (network_of (with_host s p k)) → IsPair (with_host s p k)
+pub pair_with : {G : Type 0} (s : Side) (p : PairView G) (k : HostView G) → IsPair p → StaysHost (host_of (other_side s) p).endpoint (host_of s p) k → IsInvariant (network_of (with_host s p k)) → IsPair (with_host s p k)
 pair_with A p k i s n = pair_exchanged A p k p.segments i s i.segments n
 pair_with B p k i s n = pair_exchanged B p k p.segments i s i.segments n
 
-pub peer_at : (s : Side) (p : PairView) → IsPair p → HasPeer (host_of s p) (host_of (other_side s) p).endpoint
+pub peer_at : {G : Type 0} (s : Side) (p : PairView G) → IsPair p → HasPeer (host_of s p) (host_of (other_side s) p).endpoint
 peer_at A p i = i.peer_of_a
 peer_at B p i = i.peer_of_b
 
-pub version_at : (s : Side) (p : PairView) → IsPair p → SameVersion (endpoint_at p s).addr (endpoint_at p (other_side s)).addr
+pub version_at : {G : Type 0} (s : Side) (p : PairView G) → IsPair p → SameVersion (endpoint_at p s).addr (endpoint_at p (other_side s)).addr
 version_at A p i = i.versions
 version_at B p i = sym i.versions
 
-pub host_at : (s : Side) (p : PairView) → IsPair p → IsHost (host_of s p)
+pub host_at : {G : Type 0} (s : Side) (p : PairView G) → IsPair p → IsHost (host_of s p)
 host_at A p i = i.a
 host_at B p i = i.b
 
@@ -270,10 +270,10 @@ new_peer : (rx : Received) (tx : Queue) (t : Tuple) → IsPeered (fresh rx tx).s
 unfolding fresh
 new_peer rx tx t = inl refl
 
-new_is_host : (rx : Received) (tx : Queue) (e : IpEndpoint) (x : Bool) → rx.bytes ≡ [] → tx.bytes ≡ [] → IsReachable e → IsReached (fresh rx tx) → IsHost (new_host (fresh rx tx) e x)
+new_is_host : {G : Type 0} (rx : Received) (tx : Queue) (e : IpEndpoint) (x : Option G) → rx.bytes ≡ [] → tx.bytes ≡ [] → IsReachable e → IsReached (fresh rx tx) → IsHost (new_host (fresh rx tx) e x)
 new_is_host rx tx e x r t i c = record { reachable = i; idle = λ u. new_idle rx tx r t; passive = λ shut live. absurd (shut refl); reached = c }
 
-pub new_is_pair : (arx : Received) (atx : Queue) (brx : Received) (btx : Queue) (a b : IpEndpoint) (x y : Bool) (limit : Option ℕ) (ha hb : HostView) (ts : List StoredView) → ha ≡ new_host (fresh arx atx) a x → hb ≡ new_host (fresh brx btx) b y → ts ≡ [] → arx.bytes ≡ [] → atx.bytes ≡ [] → brx.bytes ≡ [] → btx.bytes ≡ [] → IsReachable a → IsReachable b → IsReached (fresh arx atx) → IsReached (fresh brx btx) → SameVersion a.addr b.addr → IsLimit limit → IsPair (record { a = ha; b = hb; segments = ts; limit = limit })
+pub new_is_pair : {G : Type 0} (arx : Received) (atx : Queue) (brx : Received) (btx : Queue) (a b : IpEndpoint) (x y : Option G) (limit : Option ℕ) (ha hb : HostView G) (ts : List StoredView) → ha ≡ new_host (fresh arx atx) a x → hb ≡ new_host (fresh brx btx) b y → ts ≡ [] → arx.bytes ≡ [] → atx.bytes ≡ [] → brx.bytes ≡ [] → btx.bytes ≡ [] → IsReachable a → IsReachable b → IsReached (fresh arx atx) → IsReached (fresh brx btx) → SameVersion a.addr b.addr → IsLimit limit → IsPair (record { a = ha; b = hb; segments = ts; limit = limit })
 new_is_pair arx atx brx btx a b x y limit ha hb ts ea eb et r1 t1 r2 t2 ia ib ca cb v l =
     subst (λ h. IsPair (record { a = h; b = hb; segments = ts; limit = limit })) (sym ea)
     (subst (λ h. IsPair (record { a = new_host (fresh arx atx) a x; b = h; segments = ts; limit = limit })) (sym eb)

@@ -10,7 +10,7 @@ use Rattle.sock_tcp.specs.View.{View, fresh}
 use Rattle.sock_tcp.specs.Opening.{listened, connected, renewed}
 use Rattle.sock_tcp.specs.Closing.{closed, aborted, closed_from}
 use Rattle.sock_tcp.specs.Queues.{queued, read_off}
-use Rattle.sock_tcp.proofs.Frames.{process_brings}
+use Rattle.tcp_laws.proofs.Frames.{process_brings}
 use Rattle.sock_tcp.specs.Process.{processed}
 use Rattle.sock_tcp.specs.declared.state.State.TheVariants as state
 use Rattle.sock_tcp.specs.declared.tuple.Tuple.{Tuple}
@@ -24,7 +24,7 @@ abbrev pub KeepsListener : View → View → Type 0
 KeepsListener v w = (w.state ≡ state.Closed → ⊥) → (v.state ≡ state.Closed → ⊥) × (w.listen_endpoint ≡ v.listen_endpoint)
 
 -- so it is passive where it was
-pub passive_kept : (h k : HostView) → IsHost h → k.opening ≡ h.opening → KeepsListener h.control_block k.control_block → (k.opening ≡ opening.Unopened → ⊥) → (k.control_block.state ≡ state.Closed → ⊥) → is_passive k.control_block ≡ is_listener k.opening
+pub passive_kept : {G : Type 0} (h k : HostView G) → IsHost h → k.opening ≡ h.opening → KeepsListener h.control_block k.control_block → (k.opening ≡ opening.Unopened → ⊥) → (k.control_block.state ≡ state.Closed → ⊥) → is_passive k.control_block ≡ is_listener k.opening
 passive_kept h k i e keeps shut live =
     let x = keeps live in
     ap (λ (z : IpListenEndpoint). not (z.port == 0)) x.1 ∙ i.passive (λ u. shut (e ∙ u)) x.0 ∙ ap is_listener (sym e)

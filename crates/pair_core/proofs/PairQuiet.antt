@@ -1,7 +1,7 @@
 -- Where a side has no work, the other took all that it accepted.
 use Rattle.std.proofs.Common.{◌≡◌, ℕ, ◌-◌, ◌≤◌, length, drop, refl, sym, ap, subst, ◌∙◌, arith, length-drop}
 use Rattle.sock_tcp.specs.View.{View}
-use Rattle.sock_tcp.specs.Work.{NoWorkNoBytes}
+use Rattle.tcp_laws.specs.Polling.{NoWorkNoBytes}
 use Rattle.sock_tcp.specs.declared.state.State.{State}
 use Rattle.sock_tcp.specs.declared.state.State.TheVariants as state
 use Rattle.pair_core.specs.NetworkInvariant.{StreamInvariant}
@@ -16,7 +16,7 @@ use Rattle.pair_core.specs.declared.host.Opening.{Opening}
 use Rattle.pair_core.specs.declared.host.Opening.TheVariants as opening
 use Rattle.pair_core.proofs.PairPromises.{keeps_release}
 
-module _ (law : NoWorkNoBytes) (sender receiver : HostView) (o : ℕ) (f : Stream) (i : IsHost sender) (s : StreamInvariant (endpoint_of sender) (endpoint_of receiver) o f) where
+module _ {G : Type 0} (law : NoWorkNoBytes) (sender receiver : HostView G) (o : ℕ) (f : Stream) (i : IsHost sender) (s : StreamInvariant (endpoint_of sender) (endpoint_of receiver) o f) where
   abbrev v : View
   v = sender.control_block
 
@@ -72,8 +72,8 @@ module _ (law : NoWorkNoBytes) (sender receiver : HostView) (o : ℕ) (f : Strea
       go state.LastAck e = at state.LastAck e tt
       go state.TimeWait e = at state.TimeWait e tt
 
-pub no_work_taken_by_b : NoWorkNoBytes → (p : PairView) → IsPair p → NoWorkMeansTaken p.a p.b
+pub no_work_taken_by_b : {G : Type 0} → NoWorkNoBytes → (p : PairView G) → IsPair p → NoWorkMeansTaken p.a p.b
 no_work_taken_by_b law p i = took_all law p.a p.b i.network.local_origin i.network.outgoing i.a i.network.outgoing_holds (keeps_release p i).of_a
 
-pub no_work_taken_by_a : NoWorkNoBytes → (p : PairView) → IsPair p → NoWorkMeansTaken p.b p.a
+pub no_work_taken_by_a : {G : Type 0} → NoWorkNoBytes → (p : PairView G) → IsPair p → NoWorkMeansTaken p.b p.a
 no_work_taken_by_a law p i = took_all law p.b p.a i.network.remote_origin i.network.incoming i.b i.network.incoming_holds (keeps_release p i).of_b

@@ -1,5 +1,5 @@
 -- Each event of a pair is a run of steps of the theorem on two streams.
-use Rattle.std.proofs.Common.{◌≡◌, ℕ, ◌+◌, ◌<◌, ◌≤◌, ◌^◌, List, [], ◌∷◌, length, take, ◌++◌, Bool, true, false, Option, Some, None, refl, sym, ap, subst, ◌∙◌, arith, inl, inr, ◌⊎◌, length-append, length-take}
+use Rattle.std.proofs.Common.{◌≡◌, ℕ, ◌+◌, ◌<◌, ◌≤◌, ◌^◌, List, [], ◌∷◌, length, take, ◌++◌, Bool, true, false, Option, Some, None, refl, sym, ap, subst, ◌∙◌, arith, inl, inr, ◌⊎◌, length-append, length-take, is_some}
 use Rattle.std.specs.Prelude.{IsTrue, not, if◌then◌else◌, option_map, slice_get, Result, Ok, Err, IfOk, OnErr}
 use Rattle.std.proofs.lemmas.Bool.Decides.{nat_tests}
 use Rattle.std.proofs.lemmas.List.{append-nil}
@@ -20,7 +20,7 @@ use Rattle.control_wire.specs.declared.tcp.TcpControl.TheVariants as control
 use Rattle.control_wire.specs.declared.tcp.TcpTimestampRepr.{TcpTimestampRepr}
 use Rattle.sock_tcp.specs.Closing.{closed_from}
 use Rattle.sock_tcp.specs.Process.{Accepts}
-use Rattle.sock_tcp.specs.Replies.{Answers, rst_segment, with_header}
+use Rattle.sock_tcp.specs.Replies.{Answers, IsReplyStamp, rst_segment, with_header}
 use Rattle.sock_tcp.specs.declared.state.State.{State}
 use Rattle.sock_tcp.specs.declared.state.State.TheVariants as state
 use Rattle.sock_tcp.specs.declared.tuple.Tuple.{Tuple}
@@ -50,7 +50,7 @@ use Rattle.pair_core.specs.PairViews.{HostView, StoredView, PairView, host_of, w
 use Rattle.pair_core.specs.PairCalls.{listening, connecting, OpensAs, is_over, sending, Sends, SendsIf, SendsUnder, receiving, Receives, ReceivesIf, closing, Closes, aborting, Aborts, setting, Sets}
 use Rattle.pair_core.specs.declared.setting.Setting.{Setting}
 use Rattle.pair_core.proofs.PairAmounts.{takes_some, hands_some}
-use Rattle.pair_core.specs.PairSteps.{EventStep, IsStampOf, refusal_of, refusal_reply, Delivers, Dispatches, stored_at, DeliversTo, DeliversIf, is_old, exchanged, processed_by, delivered_to}
+use Rattle.pair_core.specs.PairSteps.{EventStep, refusal_of, refusal_reply, Delivers, Dispatches, stored_at, DeliversTo, DeliversIf, is_old, exchanged, processed_by, delivered_to}
 use Rattle.pair_core.specs.Recording.{Records, SendsTo, SendsFrom, SocketDispatches}
 use Rattle.pair_core.specs.StreamCalls.{ProcessEffect}
 use Rattle.pair_core.specs.StreamViews.{Dead, HasNoIss, SocketView, StreamSegment}
@@ -66,13 +66,13 @@ use Rattle.pair_core.specs.declared.side.Side.TheVariants.{A, B}
 -- ---- deliveries
 
 -- what an opened host shows, where its socket is v
-abbrev opened : HostView → Bool → View → Endpoint
+abbrev opened : {G : Type 0} → HostView G → Bool → View → Endpoint
 opened h b v = record (endpoint_of h) { view = shown v; listener = b }
 
-abbrev opened_network : Side → HostView → Bool → View → HostView → List StoredView → Option ℕ → Network
+abbrev opened_network : {G : Type 0} → Side → HostView G → Bool → View → HostView G → List StoredView → Option ℕ → Network
 opened_network s h b v o ks limit = between s (opened h b v) (endpoint_of o) ks limit
 
-bounded : (s : Side) (h : HostView) (b : Bool) (v : View) (o : HostView) (ks : List StoredView) (limit : Option ℕ) → IsInvariant (opened_network s h b v o ks limit) → IsBounded v
+bounded : {G : Type 0} (s : Side) (h : HostView G) (b : Bool) (v : View) (o : HostView G) (ks : List StoredView) (limit : Option ℕ) → IsInvariant (opened_network s h b v o ks limit) → IsBounded v
 bounded s h b v o ks limit i = record { sending = λ d. sending_bounds _ i d; unread = λ e. nothing_received _ i e }
 
 -- header and timestamp of a reply are not seen
@@ -96,7 +96,7 @@ reply_stamped e (Some x) a is =
     let same : stream_segment x.1 e.released e.taken ≡ a = cc in
     subst (IsStamped e) same (record { released = omega arith; taken = omega arith })
 
-module _ (s : Side) (h o : HostView) (ks : List StoredView) (limit : Option ℕ) (m : Moment) (t : StoredView) (w : m.word < 2 ^ 32) (small : IsSmall t.segment) (there : Contains ks t) (from_other : t.emitter ≡ other_side s) (sock : IsSocket h.control_block) (young : is_old o t ≡ false) (accepted : Accepts h.control_block t.ip t.segment) (reply : Option (IpRepr × Segment)) (is_reply : Answers (IsStampOf (delivered_to h m t).stamps t.segment.timestamp) t.ip (processed_by h m t).reply reply) where
+module _ {G : Type 0} (s : Side) (h o : HostView G) (ks : List StoredView) (limit : Option ℕ) (m : Moment) (t : StoredView) (w : m.word < 2 ^ 32) (small : IsSmall t.segment) (there : Contains ks t) (from_other : t.emitter ≡ other_side s) (sock : IsSocket h.control_block) (young : is_old o t ≡ false) (accepted : Accepts h.control_block t.ip t.segment) (reply : Option (IpRepr × Segment)) (tells : G → ℕ → Type 0) (is_reply : Answers (IsReplyStamp tells (delivered_to h m t).source t.segment.timestamp) t.ip (processed_by h m t).reply reply) where
   -- the segments, once the reply is stored
   abbrev with_reply : List StoredView
   with_reply = ks ++ kept_at s reply (delivered_to h m t).released (delivered_to h m t).taken
@@ -104,12 +104,12 @@ module _ (s : Side) (h o : HostView) (ks : List StoredView) (limit : Option ℕ)
   -- an opened side hears it
   hears_as : (b : Bool) → is_passive h.control_block ≡ b → IsInvariant (opened_network s h b h.control_block o ks limit) → Reaches (opened_network s h b h.control_block o ks limit) (opened_network s (delivered_to h m t) b (processed_by h m t).view o with_reply limit)
   hears_as b e i =
-      let k : HostView = delivered_to h m t in
+      let k : HostView _ = delivered_to h m t in
       let n : Network = opened_network s h b h.control_block o ks limit in
       let come : Arrives n (shown_segment t) = record { sent = sent_has (other_side s) ks t there from_other; may = inr (may_arrive limit o t young) } in
       let does : ProcessEffect b (shown h.control_block) (shown (processed_by h m t).view) (shown_segment t) (shown_reply k.released k.taken reply) =
       subst (λ x. ProcessEffect x (shown h.control_block) (shown (processed_by h m t).view) (shown_segment t) (shown_reply k.released k.taken reply)) e
-      (subst (λ r. ProcessEffect (is_passive h.control_block) (shown h.control_block) (shown (processed_by h m t).view) (shown_segment t) r) (reply_shows (IsStampOf (delivered_to h m t).stamps t.segment.timestamp) t.ip (processed_by h m t).reply reply k.released k.taken is_reply)
+      (subst (λ r. ProcessEffect (is_passive h.control_block) (shown h.control_block) (shown (processed_by h m t).view) (shown_segment t) r) (reply_shows (IsReplyStamp tells (delivered_to h m t).source t.segment.timestamp) t.ip (processed_by h m t).reply reply k.released k.taken is_reply)
       (process_heard h.control_block (record { micros = m.now.micros }) m.word t.ip t.segment t.released_at t.taken_at k.released k.taken w small sock.receive sock.fin (bounded s h b h.control_block o ks limit i) accepted)) in
       subst (Reaches n) (stored_reply s (opened k b (processed_by h m t).view) (endpoint_of o) ks limit reply k.released k.taken)
       (delivery_reaches n (shown_segment t) come (shown (processed_by h m t).view) (shown_reply k.released k.taken reply) does
@@ -126,7 +126,7 @@ module _ (s : Side) (h o : HostView) (ks : List StoredView) (limit : Option ℕ)
 -- ---- segments that are refused
 
 -- a side that refuses a segment of the other is CLOSED or in LISTEN
-refused_phase : (h : HostView) (remote : IpEndpoint) (t : StoredView) → HasPeer h remote → GoesFrom t remote h.endpoint → (Accepts h.control_block t.ip t.segment → ⊥) → HasNoIss (endpoint_of h).view.phase ⊎ ((endpoint_of h).view.phase ≡ Dead)
+refused_phase : {G : Type 0} (h : HostView G) (remote : IpEndpoint) (t : StoredView) → HasPeer h remote → GoesFrom t remote h.endpoint → (Accepts h.control_block t.ip t.segment → ⊥) → HasNoIss (endpoint_of h).view.phase ⊎ ((endpoint_of h).view.phase ≡ Dead)
 refused_phase h remote t p g shut = go h.opening
   where
     by : (st : State) → h.control_block.state ≡ st → HasNoIss (phase_of st) ⊎ (phase_of st ≡ Dead)
@@ -147,7 +147,7 @@ refused_phase h remote t p g shut = go h.opening
     go opening.Listener = by h.control_block.state refl
     go opening.Connector = by h.control_block.state refl
 
-refuses : (s : Side) (h o : HostView) (ks : List StoredView) (limit : Option ℕ) (t : StoredView) → Contains ks t → t.emitter ≡ other_side s → HasNoIss (endpoint_of h).view.phase ⊎ ((endpoint_of h).view.phase ≡ Dead) → Reaches (network_at s h o ks limit) (network_at s h o (ks ++ kept_at s (refusal_of t) h.released h.taken) limit)
+refuses : {G : Type 0} (s : Side) (h o : HostView G) (ks : List StoredView) (limit : Option ℕ) (t : StoredView) → Contains ks t → t.emitter ≡ other_side s → HasNoIss (endpoint_of h).view.phase ⊎ ((endpoint_of h).view.phase ≡ Dead) → Reaches (network_at s h o ks limit) (network_at s h o (ks ++ kept_at s (refusal_of t) h.released h.taken) limit)
 refuses s h o ks limit t there from_other ph = go t.segment.control refl
   where
     answers : (c : TcpControl) → t.segment.control ≡ c → is_rst c ≡ false → refusal_reply c t ≡ Some (with_header t.ip (rst_segment t.segment)) → Reaches (network_at s h o ks limit) (network_at s h o (ks ++ kept_at s (refusal_of t) h.released h.taken) limit)
@@ -175,7 +175,7 @@ failed_stored : (s : Side) (c : Option Sending) (r : Sent) (released taken : ℕ
 failed_stored s None r released taken e = ap (λ x. stored_at s x released taken) e
 failed_stored s (Some c) r released taken e = ap (λ x. stored_at s x released taken) e
 
-module _ (s : Side) (h o : HostView) (ks : List StoredView) (limit : Option ℕ) (b : Bool) where
+module _ {G : Type 0} (s : Side) (h o : HostView G) (ks : List StoredView) (limit : Option ℕ) (b : Bool) where
   -- the same host, its socket as v
   abbrev at_view : View → List StoredView → Network
   at_view v ts = opened_network s h b v o ts limit
@@ -189,8 +189,8 @@ module _ (s : Side) (h o : HostView) (ks : List StoredView) (limit : Option ℕ)
       subst (Reaches (at_view v ks)) (stored_is s (opened h b (left_by (Some c) v now true)) (endpoint_of o) ks (record { emitter = s; ip = c.ip; segment = c.segment; released_at = h.released; taken_at = h.taken }) limit refl)
       (emission_reaches (at_view v ks) (shown (left_by (Some c) v now true)) (stream_segment c.segment h.released h.taken) (record { released = omega arith; taken = omega arith }) may.sends may.leaves)
 
-  sends_to : (v w : View) (t : Tuple) (f : Facts) (stamps fail : Bool) (r : Sent) → SendsTo v t f stamps fail r w → IsInvariant (at_view v ks) → Reaches (at_view v ks) (at_view w (ks ++ stored_at s r h.released h.taken))
-  sends_to v w t f stamps fail r d i = subst (λ u. Reaches (at_view v ks) (at_view u (ks ++ stored_at s r h.released h.taken))) (sym d.view) (go fail (content v t f d.stamp d.bytes) refl d.records)
+  sends_to : (tells : G → ℕ → Type 0) (source : Option G) (v w : View) (t : Tuple) (f : Facts) (fail : Bool) (r : Sent) → SendsTo tells source v t f fail r w → IsInvariant (at_view v ks) → Reaches (at_view v ks) (at_view w (ks ++ stored_at s r h.released h.taken))
+  sends_to tells source v w t f fail r d i = subst (λ u. Reaches (at_view v ks) (at_view u (ks ++ stored_at s r h.released h.taken))) (sym d.view) (go fail (content v t f d.stamp d.bytes) refl d.records)
     where
       go : (fail : Bool) (c : Option Sending) → content v t f d.stamp d.bytes ≡ c → Records fail c r → Reaches (at_view v ks) (at_view (left_by c v (moment_of f) (not fail)) (ks ++ stored_at s r h.released h.taken))
       go true None e x = none_stored v _ (failed_stored s None r h.released h.taken x)
@@ -198,46 +198,46 @@ module _ (s : Side) (h o : HostView) (ks : List StoredView) (limit : Option ℕ)
       go false None e x = none_stored v _ (ap (λ y. stored_at s y h.released h.taken) x)
       go false (Some c) e x = subst (λ xs. Reaches (at_view v ks) (at_view (left_by (Some c) v (moment_of f) true) (ks ++ xs))) (sym (records_stored s c r h.released h.taken x)) (emits_one v c (moment_of f) (emission_plans v h.released h.taken (bounded s h b v o ks limit i) t f d.stamp d.bytes d.lent c e))
 
-  sends_from : (peer : Option Tuple) (v w : View) (f : Facts) (stamps fail : Bool) (r : Sent) → SendsFrom peer v f stamps fail r w → IsInvariant (at_view v ks) → Reaches (at_view v ks) (at_view w (ks ++ stored_at s r h.released h.taken))
-  sends_from None v w f stamps fail r d i = subst (λ u. Reaches (at_view v ks) (at_view u (ks ++ stored_at s r h.released h.taken))) (sym d.1) (none_stored v _ (ap (λ y. stored_at s y h.released h.taken) d.0))
-  sends_from (Some t) v w f stamps fail r d i = sends_to v w t f stamps fail r d i
+  sends_from : (tells : G → ℕ → Type 0) (source : Option G) (peer : Option Tuple) (v w : View) (f : Facts) (fail : Bool) (r : Sent) → SendsFrom tells source peer v f fail r w → IsInvariant (at_view v ks) → Reaches (at_view v ks) (at_view w (ks ++ stored_at s r h.released h.taken))
+  sends_from tells source None v w f fail r d i = subst (λ u. Reaches (at_view v ks) (at_view u (ks ++ stored_at s r h.released h.taken))) (sym d.1) (none_stored v _ (ap (λ y. stored_at s y h.released h.taken) d.0))
+  sends_from tells source (Some t) v w f fail r d i = sends_to tells source v w t f fail r d i
 
-  dispatches_as : (w : View) (f : Facts) (stamps fail : Bool) (r : Sent) → SocketDispatches h.control_block f stamps fail r w → IsInvariant (at_view h.control_block ks) → Reaches (at_view h.control_block ks) (at_view w (ks ++ stored_at s r h.released h.taken))
+  dispatches_as : (tells : G → ℕ → Type 0) (source : Option G) (w : View) (f : Facts) (fail : Bool) (r : Sent) → SocketDispatches tells source h.control_block f fail r w → IsInvariant (at_view h.control_block ks) → Reaches (at_view h.control_block ks) (at_view w (ks ++ stored_at s r h.released h.taken))
   unfolding SocketDispatches
-  dispatches_as w f stamps fail r d i =
-      let u : View = (before_emit h.control_block f stamps).view in
-      let begins : Reaches (at_view h.control_block ks) (at_view u ks) = begins_reach (at_view h.control_block ks) (shown u) (begun_shows h.control_block f stamps (bounded s h b h.control_block o ks limit i)) in
-      reach_then _ (at_view u ks) _ begins (sends_from (before_emit h.control_block f stamps).peer u w f stamps fail r d (reach_keeps _ _ begins i))
+  dispatches_as tells source w f fail r d i =
+      let u : View = (before_emit h.control_block f (is_some source)).view in
+      let begins : Reaches (at_view h.control_block ks) (at_view u ks) = begins_reach (at_view h.control_block ks) (shown u) (begun_shows h.control_block f (is_some source) (bounded s h b h.control_block o ks limit i)) in
+      reach_then _ (at_view u ks) _ begins (sends_from tells source (before_emit h.control_block f (is_some source)).peer u w f fail r d (reach_keeps _ _ begins i))
 
 -- a dispatch of a socket without a peer stores nothing
-idle_stores : (v w : View) (f : Facts) (stamps fail : Bool) (r : Sent) → v.tuple ≡ None → SocketDispatches v f stamps fail r w → r ≡ sent.Quiet
+idle_stores : {G : Type 0} (tells : G → ℕ → Type 0) (source : Option G) (v w : View) (f : Facts) (fail : Bool) (r : Sent) → v.tuple ≡ None → SocketDispatches tells source v f fail r w → r ≡ sent.Quiet
 unfolding SocketDispatches
-idle_stores v w f stamps fail r e d = (subst (λ (b : Begun). SendsFrom b.peer b.view f stamps fail r w) (no_peer_readies v f stamps e) d).0
+idle_stores tells source v w f fail r e d = (subst (λ (b : Begun). SendsFrom tells source b.peer b.view f fail r w) (no_peer_readies v f (is_some source) e) d).0
 
-dispatches_in : (s : Side) (h o : HostView) (ks : List StoredView) (limit : Option ℕ) (w : View) (f : Facts) (stamps fail : Bool) (r : Sent) → SocketDispatches h.control_block f stamps fail r w → (e : Opening) → (e ≡ opening.Unopened → IsIdle h.control_block) → IsInvariant (network_at s (record h { opening = e }) o ks limit)
+dispatches_in : {G : Type 0} (tells : G → ℕ → Type 0) (source : Option G) (s : Side) (h o : HostView G) (ks : List StoredView) (limit : Option ℕ) (w : View) (f : Facts) (fail : Bool) (r : Sent) → SocketDispatches tells source h.control_block f fail r w → (e : Opening) → (e ≡ opening.Unopened → IsIdle h.control_block) → IsInvariant (network_at s (record h { opening = e }) o ks limit)
     → Reaches (network_at s (record h { opening = e }) o ks limit) (network_at s (record h { opening = e; control_block = w }) o (ks ++ stored_at s r h.released h.taken) limit)
-dispatches_in s h o ks limit w f stamps fail r d opening.Unopened idle i =
-    stays_there _ _ (ap (λ ts. network_at s (record h { opening = opening.Unopened }) o ts limit) (sym (append-nil ks) ∙ ap (λ x. ks ++ stored_at s x h.released h.taken) (sym (idle_stores h.control_block w f stamps fail r (idle refl).tuple d))))
-dispatches_in s h o ks limit w f stamps fail r d opening.Listener idle i = dispatches_as s h o ks limit true w f stamps fail r d i
-dispatches_in s h o ks limit w f stamps fail r d opening.Connector idle i = dispatches_as s h o ks limit false w f stamps fail r d i
+dispatches_in tells source s h o ks limit w f fail r d opening.Unopened idle i =
+    stays_there _ _ (ap (λ ts. network_at s (record h { opening = opening.Unopened }) o ts limit) (sym (append-nil ks) ∙ ap (λ x. ks ++ stored_at s x h.released h.taken) (sym (idle_stores tells source h.control_block w f fail r (idle refl).tuple d))))
+dispatches_in tells source s h o ks limit w f fail r d opening.Listener idle i = dispatches_as s h o ks limit true tells source w f fail r d i
+dispatches_in tells source s h o ks limit w f fail r d opening.Connector idle i = dispatches_as s h o ks limit false tells source w f fail r d i
 
 -- ---- the calls of the application
 
 -- a side that was not opened before opens as k
-opens_in : (s : Side) (h k n : HostView) (oc : Outcome) (o : HostView) (ks : List StoredView) (limit : Option ℕ) (e : Opening) → OpensAs e h n oc k → (e ≡ opening.Unopened → Reaches (network_at s h o ks limit) (network_at s n o ks limit)) → Reaches (network_at s h o ks limit) (network_at s k o ks limit)
+opens_in : {G : Type 0} (s : Side) (h k n : HostView G) (oc : Outcome) (o : HostView G) (ks : List StoredView) (limit : Option ℕ) (e : Opening) → OpensAs e h n oc k → (e ≡ opening.Unopened → Reaches (network_at s h o ks limit) (network_at s n o ks limit)) → Reaches (network_at s h o ks limit) (network_at s k o ks limit)
 opens_in s h k n oc o ks limit opening.Unopened d new = subst (λ x. Reaches (network_at s h o ks limit) (network_at s x o ks limit)) (sym d.1) (new refl)
 opens_in s h k n oc o ks limit opening.Listener d new = stays_there _ _ (ap (λ x. network_at s x o ks limit) (sym d.1))
 opens_in s h k n oc o ks limit opening.Connector d new = stays_there _ _ (ap (λ x. network_at s x o ks limit) (sym d.1))
 
 -- what an unopened side shows
-abbrev unopened_network : Side → HostView → HostView → List StoredView → Option ℕ → Network
+abbrev unopened_network : {G : Type 0} → Side → HostView G → HostView G → List StoredView → Option ℕ → Network
 unopened_network s h o ks limit = between s (record (endpoint_of h) { view = unopened.view; listener = false }) (endpoint_of o) ks limit
 
-unopened_as : (s : Side) (h o : HostView) (ks : List StoredView) (limit : Option ℕ) → h.opening ≡ opening.Unopened → network_at s h o ks limit ≡ unopened_network s h o ks limit
+unopened_as : {G : Type 0} (s : Side) (h o : HostView G) (ks : List StoredView) (limit : Option ℕ) → h.opening ≡ opening.Unopened → network_at s h o ks limit ≡ unopened_network s h o ks limit
 unopened_as s h o ks limit e = ap (λ x. between s (record (endpoint_of h) { view = seen x h.control_block; listener = is_listener x }) (endpoint_of o) ks limit) e
 
-module _ (s : Side) (h o : HostView) (ks : List StoredView) (limit : Option ℕ) where
-  opened_by : (n : HostView) → h.opening ≡ opening.Unopened → Reaches (unopened_network s h o ks limit) (network_at s n o ks limit) → Reaches (network_at s h o ks limit) (network_at s n o ks limit)
+module _ {G : Type 0} (s : Side) (h o : HostView G) (ks : List StoredView) (limit : Option ℕ) where
+  opened_by : (n : HostView G) → h.opening ≡ opening.Unopened → Reaches (unopened_network s h o ks limit) (network_at s n o ks limit) → Reaches (network_at s h o ks limit) (network_at s n o ks limit)
   opened_by n e r = subst (λ z. Reaches z (network_at s n o ks limit)) (sym (unopened_as s h o ks limit e)) r
 
   listens_reach : h.opening ≡ opening.Unopened → Reaches (network_at s h o ks limit) (network_at s (listening h) o ks limit)
@@ -318,21 +318,21 @@ module _ (s : Side) (h o : HostView) (ks : List StoredView) (limit : Option ℕ)
   sets_in opening.Connector x = ap (λ (v : SocketView). between s (record (endpoint_of h) { view = v; listener = false }) (endpoint_of o) ks limit) (sym (set_shows x h.control_block))
 
 -- within the limit
-not_over : (limit : Option ℕ) (h : HostView) (n : ℕ) (bs : List ℕ) → is_over limit (length h.accepted + length bs) ≡ false → IsWithin limit (h.accepted ++ take n bs)
+not_over : {G : Type 0} (limit : Option ℕ) (h : HostView G) (n : ℕ) (bs : List ℕ) → is_over limit (length h.accepted + length bs) ≡ false → IsWithin limit (h.accepted ++ take n bs)
 not_over None h n bs e = tt
 not_over (Some limit) h n bs e =
     let le : length h.accepted + length bs ≤ limit = grind (arith, nat_tests, e) in
     omega (arith, le, length-append h.accepted (take n bs), length-take n bs)
 
-module _ (s : Side) (p : PairView) (host : IsHost (host_of s p)) (i : IsInvariant (network_of p)) where
-  pub listen_reaches : (o : Outcome) (k : HostView) → OpensAs (host_of s p).opening (host_of s p) (listening (host_of s p)) o k → Reaches (network_of p) (network_of (with_host s p k))
+module _ {G : Type 0} (s : Side) (p : PairView G) (host : IsHost (host_of s p)) (i : IsInvariant (network_of p)) where
+  pub listen_reaches : (o : Outcome) (k : HostView G) → OpensAs (host_of s p).opening (host_of s p) (listening (host_of s p)) o k → Reaches (network_of p) (network_of (with_host s p k))
   listen_reaches o k e = with_reached s p k (opens_in s (host_of s p) k (listening (host_of s p)) o (host_of (other_side s) p) p.segments p.limit (host_of s p).opening e (λ u. listens_reach s (host_of s p) (host_of (other_side s) p) p.segments p.limit u))
 
-  pub connect_reaches : (m : Moment) (remote : IpEndpoint) (o : Outcome) (k : HostView) → m.word < 2 ^ 32 → OpensAs (host_of s p).opening (host_of s p) (connecting (host_of s p) m remote) o k → Reaches (network_of p) (network_of (with_host s p k))
+  pub connect_reaches : (m : Moment) (remote : IpEndpoint) (o : Outcome) (k : HostView G) → m.word < 2 ^ 32 → OpensAs (host_of s p).opening (host_of s p) (connecting (host_of s p) m remote) o k → Reaches (network_of p) (network_of (with_host s p k))
   connect_reaches m remote o k w e = with_reached s p k (opens_in s (host_of s p) k (connecting (host_of s p) m remote) o (host_of (other_side s) p) p.segments p.limit (host_of s p).opening e (λ u. connects_reach s (host_of s p) (host_of (other_side s) p) p.segments p.limit m remote w u))
 
   -- the transmit buffer has at most 2^30 bytes
-  pub send_reaches : (size : Option ℕ) (bs : List ℕ) (o : Outcome) (k : HostView) → capacity (host_of s p).control_block.tx_buffer ≤ 2 ^ 30 → Sends p.limit size bs (host_of s p) o k → Reaches (network_of p) (network_of (with_host s p k))
+  pub send_reaches : (size : Option ℕ) (bs : List ℕ) (o : Outcome) (k : HostView G) → capacity (host_of s p).control_block.tx_buffer ≤ 2 ^ 30 → Sends p.limit size bs (host_of s p) o k → Reaches (network_of p) (network_of (with_host s p k))
   send_reaches size bs o k room e = go (is_over p.limit (length (host_of s p).accepted + length bs)) refl e
     where
       take_some : (b : Bool) → may_send (host_of s p).control_block.state ≡ b → is_over p.limit (length (host_of s p).accepted + length bs) ≡ false → SendsIf b size bs (host_of s p) o k → Reaches (network_of p) (network_of (with_host s p k))
@@ -346,7 +346,7 @@ module _ (s : Side) (p : PairView) (host : IsHost (host_of s p)) (i : IsInvarian
       go true x d = stays_reached s p k d.1
       go false x d = take_some (may_send (host_of s p).control_block.state) refl x d
 
-  pub recv_reaches : (piece : Bool) (size : ℕ) (o : Outcome) (k : HostView) → Receives piece size (host_of s p) o k → Reaches (network_of p) (network_of (with_host s p k))
+  pub recv_reaches : (piece : Bool) (size : ℕ) (o : Outcome) (k : HostView G) → Receives piece size (host_of s p) o k → Reaches (network_of p) (network_of (with_host s p k))
   recv_reaches piece size o k e = go (may_recv (host_of s p).control_block) refl e
     where
       go : (b : Bool) → may_recv (host_of s p).control_block ≡ b → ReceivesIf b piece size (host_of s p) o k → Reaches (network_of p) (network_of (with_host s p k))
@@ -356,37 +356,37 @@ module _ (s : Side) (p : PairView) (host : IsHost (host_of s p)) (i : IsInvarian
           with_reached s p k (subst (λ z. Reaches (side_network s p (host_of s p) p.segments) (side_network s p z p.segments)) (sym t.does.host)
           (reads_in s (host_of s p) (host_of (other_side s) p) p.segments p.limit (host_of s p).opening t.count t.within (cannot_recv (host_of s p) host may)))
 
-  pub close_reaches : (o : Outcome) (k : HostView) → Closes (host_of s p) o k → Reaches (network_of p) (network_of (with_host s p k))
+  pub close_reaches : (o : Outcome) (k : HostView G) → Closes (host_of s p) o k → Reaches (network_of p) (network_of (with_host s p k))
   close_reaches o k e =
       with_reached s p k (subst (λ z. Reaches (side_network s p (host_of s p) p.segments) (side_network s p z p.segments)) (sym e.1)
       (closes_in s (host_of s p) (host_of (other_side s) p) p.segments p.limit (host_of s p).opening (λ u. (host.idle u).state)))
 
-  pub abort_reaches : (o : Outcome) (k : HostView) → Aborts (host_of s p) o k → Reaches (network_of p) (network_of (with_host s p k))
+  pub abort_reaches : (o : Outcome) (k : HostView G) → Aborts (host_of s p) o k → Reaches (network_of p) (network_of (with_host s p k))
   abort_reaches o k e =
       with_reached s p k (subst (λ z. Reaches (side_network s p (host_of s p) p.segments) (side_network s p z p.segments)) (sym e.1)
       (aborts_in s (host_of s p) (host_of (other_side s) p) p.segments p.limit (host_of s p).opening))
 
-  pub set_reaches : (x : Setting) (o : Outcome) (k : HostView) → Sets x (host_of s p) o k → Reaches (network_of p) (network_of (with_host s p k))
+  pub set_reaches : (x : Setting) (o : Outcome) (k : HostView G) → Sets x (host_of s p) o k → Reaches (network_of p) (network_of (with_host s p k))
   set_reaches x o k e =
       with_reached s p k (subst (λ z. Reaches (side_network s p (host_of s p) p.segments) (side_network s p z p.segments)) (sym e.1)
       (stays_there _ _ (sets_in s (host_of s p) (host_of (other_side s) p) p.segments p.limit (host_of s p).opening x)))
 
-  pub dispatch_reaches : (m : Moment) (fail : Bool) (o : Outcome) (k : HostView) (ks : List StoredView) → Dispatches s m fail o (host_of s p) p.segments k ks → Reaches (network_of p) (network_of (exchanged s p k ks))
-  dispatch_reaches m fail o k ks e =
+  pub dispatch_reaches : (tells : G → ℕ → Type 0) (m : Moment) (fail : Bool) (o : Outcome) (k : HostView G) (ks : List StoredView) → Dispatches tells s m fail o (host_of s p) p.segments k ks → Reaches (network_of p) (network_of (exchanged s p k ks))
+  dispatch_reaches tells m fail o k ks e =
       exchanged_reached s p k ks (subst (λ h. Reaches (side_network s p (host_of s p) p.segments) (side_network s p h ks)) (sym e.does.same)
       (subst (λ ts. Reaches (side_network s p (host_of s p) p.segments) (side_network s p (record (host_of s p) { control_block = k.control_block }) ts)) (sym e.stored)
-      (dispatches_in s (host_of s p) (host_of (other_side s) p) p.segments p.limit k.control_block (facts_of m) (host_of s p).stamps fail e.sent e.does.socket (host_of s p).opening host.idle (from_side s p i))))
+      (dispatches_in tells (host_of s p).source s (host_of s p) (host_of (other_side s) p) p.segments p.limit k.control_block (facts_of m) fail e.sent e.does.socket (host_of s p).opening host.idle (from_side s p i))))
 
   -- t is a segment of the other side
-  pub deliver_reaches : (m : Moment) (t : StoredView) (o : Outcome) (k : HostView) (ks : List StoredView) → m.word < 2 ^ 32 → IsSmall t.segment → Contains p.segments t → t.emitter ≡ other_side s → IsSocket (host_of s p).control_block → HasPeer (host_of s p) (host_of (other_side s) p).endpoint → GoesFrom t (host_of (other_side s) p).endpoint (host_of s p).endpoint
-      → DeliversTo (is_old (host_of t.emitter p) t) s m t o (host_of s p) p.segments k ks → Reaches (network_of p) (network_of (exchanged s p k ks))
-  deliver_reaches m t o k ks w small there from_other sock peer goes e = go (is_old (host_of t.emitter p) t) refl e
+  pub deliver_reaches : (tells : G → ℕ → Type 0) (m : Moment) (t : StoredView) (o : Outcome) (k : HostView G) (ks : List StoredView) → m.word < 2 ^ 32 → IsSmall t.segment → Contains p.segments t → t.emitter ≡ other_side s → IsSocket (host_of s p).control_block → HasPeer (host_of s p) (host_of (other_side s) p).endpoint → GoesFrom t (host_of (other_side s) p).endpoint (host_of s p).endpoint
+      → DeliversTo tells (is_old (host_of t.emitter p) t) s m t o (host_of s p) p.segments k ks → Reaches (network_of p) (network_of (exchanged s p k ks))
+  deliver_reaches tells m t o k ks w small there from_other sock peer goes e = go (is_old (host_of t.emitter p) t) refl e
     where
-      go : (old : Bool) → is_old (host_of t.emitter p) t ≡ old → DeliversTo old s m t o (host_of s p) p.segments k ks → Reaches (network_of p) (network_of (exchanged s p k ks))
+      go : (old : Bool) → is_old (host_of t.emitter p) t ≡ old → DeliversTo tells old s m t o (host_of s p) p.segments k ks → Reaches (network_of p) (network_of (exchanged s p k ks))
       go true x d = unchanged_reached s p k ks d.1.0 d.1.1
       go false x d = by_accepts d.accepted d.says.0 d.says.1 d.does
         where
-          by_accepts : (b : Bool) → (IsTrue b → Accepts (host_of s p).control_block t.ip t.segment) → (Accepts (host_of s p).control_block t.ip t.segment → IsTrue b) → DeliversIf b s m t o (host_of s p) p.segments k ks → Reaches (network_of p) (network_of (exchanged s p k ks))
+          by_accepts : (b : Bool) → (IsTrue b → Accepts (host_of s p).control_block t.ip t.segment) → (Accepts (host_of s p).control_block t.ip t.segment → IsTrue b) → DeliversIf tells b s m t o (host_of s p) p.segments k ks → Reaches (network_of p) (network_of (exchanged s p k ks))
           by_accepts false a says y =
               exchanged_reached s p k ks (subst (λ h. Reaches (side_network s p (host_of s p) p.segments) (side_network s p h ks)) (sym y.host)
               (subst (λ ts. Reaches (side_network s p (host_of s p) p.segments) (side_network s p (host_of s p) ts)) (sym y.stored)
@@ -395,79 +395,79 @@ module _ (s : Side) (p : PairView) (host : IsHost (host_of s p)) (i : IsInvarian
               let shut : (host_of s p).opening ≡ opening.Unopened → ⊥ = (λ u. closed_accepts_none (host_of s p).control_block t (host.idle u).state (a refl)) in
               exchanged_reached s p k ks (subst (λ h. Reaches (side_network s p (host_of s p) p.segments) (side_network s p h ks)) (sym y.host)
               (subst (λ ts. Reaches (side_network s p (host_of s p) p.segments) (side_network s p (delivered_to (host_of s p) m t) ts)) (sym y.stored)
-              (hears s (host_of s p) (host_of (other_side s) p) p.segments p.limit m t w small there from_other sock (subst (λ r. is_old (host_of r p) t ≡ false) from_other x) (a refl) y.reply y.is_reply shut
+              (hears s (host_of s p) (host_of (other_side s) p) p.segments p.limit m t w small there from_other sock (subst (λ r. is_old (host_of r p) t ≡ false) from_other x) (a refl) y.reply tells y.is_reply shut
               (host.passive shut (λ c. closed_accepts_none (host_of s p).control_block t c (a refl))) (from_side s p i))))
 
   -- ---- so each keeps the invariant
 
-  pub listen_keeps : (o : Outcome) (k : HostView) → OpensAs (host_of s p).opening (host_of s p) (listening (host_of s p)) o k → IsInvariant (network_of (with_host s p k))
+  pub listen_keeps : (o : Outcome) (k : HostView G) → OpensAs (host_of s p).opening (host_of s p) (listening (host_of s p)) o k → IsInvariant (network_of (with_host s p k))
   listen_keeps o k e = reach_keeps _ _ (listen_reaches o k e) i
 
-  pub connect_keeps : (m : Moment) (remote : IpEndpoint) (o : Outcome) (k : HostView) → m.word < 2 ^ 32 → OpensAs (host_of s p).opening (host_of s p) (connecting (host_of s p) m remote) o k → IsInvariant (network_of (with_host s p k))
+  pub connect_keeps : (m : Moment) (remote : IpEndpoint) (o : Outcome) (k : HostView G) → m.word < 2 ^ 32 → OpensAs (host_of s p).opening (host_of s p) (connecting (host_of s p) m remote) o k → IsInvariant (network_of (with_host s p k))
   connect_keeps m remote o k w e = reach_keeps _ _ (connect_reaches m remote o k w e) i
 
-  pub send_keeps : (size : Option ℕ) (bs : List ℕ) (o : Outcome) (k : HostView) → capacity (host_of s p).control_block.tx_buffer ≤ 2 ^ 30 → Sends p.limit size bs (host_of s p) o k → IsInvariant (network_of (with_host s p k))
+  pub send_keeps : (size : Option ℕ) (bs : List ℕ) (o : Outcome) (k : HostView G) → capacity (host_of s p).control_block.tx_buffer ≤ 2 ^ 30 → Sends p.limit size bs (host_of s p) o k → IsInvariant (network_of (with_host s p k))
   send_keeps size bs o k room e = reach_keeps _ _ (send_reaches size bs o k room e) i
 
-  pub recv_keeps : (piece : Bool) (size : ℕ) (o : Outcome) (k : HostView) → Receives piece size (host_of s p) o k → IsInvariant (network_of (with_host s p k))
+  pub recv_keeps : (piece : Bool) (size : ℕ) (o : Outcome) (k : HostView G) → Receives piece size (host_of s p) o k → IsInvariant (network_of (with_host s p k))
   recv_keeps piece size o k e = reach_keeps _ _ (recv_reaches piece size o k e) i
 
-  pub close_keeps : (o : Outcome) (k : HostView) → Closes (host_of s p) o k → IsInvariant (network_of (with_host s p k))
+  pub close_keeps : (o : Outcome) (k : HostView G) → Closes (host_of s p) o k → IsInvariant (network_of (with_host s p k))
   close_keeps o k e = reach_keeps _ _ (close_reaches o k e) i
 
-  pub abort_keeps : (o : Outcome) (k : HostView) → Aborts (host_of s p) o k → IsInvariant (network_of (with_host s p k))
+  pub abort_keeps : (o : Outcome) (k : HostView G) → Aborts (host_of s p) o k → IsInvariant (network_of (with_host s p k))
   abort_keeps o k e = reach_keeps _ _ (abort_reaches o k e) i
 
-  pub set_keeps : (x : Setting) (o : Outcome) (k : HostView) → Sets x (host_of s p) o k → IsInvariant (network_of (with_host s p k))
+  pub set_keeps : (x : Setting) (o : Outcome) (k : HostView G) → Sets x (host_of s p) o k → IsInvariant (network_of (with_host s p k))
   set_keeps x o k e = reach_keeps _ _ (set_reaches x o k e) i
 
-  pub dispatch_keeps : (m : Moment) (fail : Bool) (o : Outcome) (k : HostView) (ks : List StoredView) → Dispatches s m fail o (host_of s p) p.segments k ks → IsInvariant (network_of (exchanged s p k ks))
-  dispatch_keeps m fail o k ks e = reach_keeps _ _ (dispatch_reaches m fail o k ks e) i
+  pub dispatch_keeps : (tells : G → ℕ → Type 0) (m : Moment) (fail : Bool) (o : Outcome) (k : HostView G) (ks : List StoredView) → Dispatches tells s m fail o (host_of s p) p.segments k ks → IsInvariant (network_of (exchanged s p k ks))
+  dispatch_keeps tells m fail o k ks e = reach_keeps _ _ (dispatch_reaches tells m fail o k ks e) i
 
-  pub deliver_keeps : (m : Moment) (t : StoredView) (o : Outcome) (k : HostView) (ks : List StoredView) → m.word < 2 ^ 32 → IsSmall t.segment → Contains p.segments t → t.emitter ≡ other_side s → IsSocket (host_of s p).control_block → HasPeer (host_of s p) (host_of (other_side s) p).endpoint → GoesFrom t (host_of (other_side s) p).endpoint (host_of s p).endpoint
-      → DeliversTo (is_old (host_of t.emitter p) t) s m t o (host_of s p) p.segments k ks → IsInvariant (network_of (exchanged s p k ks))
-  deliver_keeps m t o k ks w small there from_other sock peer goes e = reach_keeps _ _ (deliver_reaches m t o k ks w small there from_other sock peer goes e) i
+  pub deliver_keeps : (tells : G → ℕ → Type 0) (m : Moment) (t : StoredView) (o : Outcome) (k : HostView G) (ks : List StoredView) → m.word < 2 ^ 32 → IsSmall t.segment → Contains p.segments t → t.emitter ≡ other_side s → IsSocket (host_of s p).control_block → HasPeer (host_of s p) (host_of (other_side s) p).endpoint → GoesFrom t (host_of (other_side s) p).endpoint (host_of s p).endpoint
+      → DeliversTo tells (is_old (host_of t.emitter p) t) s m t o (host_of s p) p.segments k ks → IsInvariant (network_of (exchanged s p k ks))
+  deliver_keeps tells m t o k ks w small there from_other sock peer goes e = reach_keeps _ _ (deliver_reaches tells m t o k ks w small there from_other sock peer goes e) i
 
 -- ---- any event
 
-buffers_at : (s : Side) (p : PairView) (e : Event) → IsSized e p → IsSocket (host_of s p).control_block
+buffers_at : {G : Type 0} (s : Side) (p : PairView G) (e : Event) → IsSized e p → IsSocket (host_of s p).control_block
 buffers_at A p e z = z.a
 buffers_at B p e z = z.b
 
-to_q : (p q r : PairView) → q ≡ r → Reaches (network_of p) (network_of r) → Reaches (network_of p) (network_of q)
+to_q : {G : Type 0} (p q r : PairView G) → q ≡ r → Reaches (network_of p) (network_of r) → Reaches (network_of p) (network_of q)
 to_q p q r e d = subst (λ z. Reaches (network_of p) (network_of z)) (sym e) d
 
 emitter_twice : (s : Side) → s ≡ other_side (other_side s)
 emitter_twice A = refl
 emitter_twice B = refl
 
-goes_to : (p : PairView) → IsPair p → (j : ℕ) (t : StoredView) → slice_get p.segments j ≡ Some t → GoesFrom t (host_of (other_side (other_side t.emitter)) p).endpoint (host_of (other_side t.emitter) p).endpoint
+goes_to : {G : Type 0} (p : PairView G) → IsPair p → (j : ℕ) (t : StoredView) → slice_get p.segments j ≡ Some t → GoesFrom t (host_of (other_side (other_side t.emitter)) p).endpoint (host_of (other_side t.emitter) p).endpoint
 goes_to p i j t at = subst (λ x. GoesFrom t (host_of x p).endpoint (host_of (other_side t.emitter) p).endpoint) (emitter_twice t.emitter) (one_goes (endpoint_at p) p.segments j t i.segments at)
 
-delivers_reach : (j : ℕ) (t : Option StoredView) (m : Moment) (p q : PairView) (o : Outcome) → IsPair p → IsSized (event.Deliver j m) p → slice_get p.segments j ≡ t → Delivers t m p o q → Reaches (network_of p) (network_of q)
-delivers_reach j None m p q o i z at x = to_q p q p x.1 (stays_there _ _ refl)
-delivers_reach j (Some t) m p q o i z at x =
+delivers_reach : {G : Type 0} (tells : G → ℕ → Type 0) (j : ℕ) (t : Option StoredView) (m : Moment) (p q : PairView G) (o : Outcome) → IsPair p → IsSized (event.Deliver j m) p → slice_get p.segments j ≡ t → Delivers tells t m p o q → Reaches (network_of p) (network_of q)
+delivers_reach tells j None m p q o i z at x = to_q p q p x.1 (stays_there _ _ refl)
+delivers_reach tells j (Some t) m p q o i z at x =
     to_q p q (exchanged (other_side t.emitter) p x.host x.segments) x.same
-    (deliver_reaches (other_side t.emitter) p (host_at (other_side t.emitter) p i) i.network m t o x.host x.segments m.fits (z.delivered t at) (contains_at p.segments j t at) (emitter_twice t.emitter) (buffers_at (other_side t.emitter) p (event.Deliver j m) z) (peer_at (other_side t.emitter) p i) (goes_to p i j t at) x.does)
+    (deliver_reaches (other_side t.emitter) p (host_at (other_side t.emitter) p i) i.network tells m t o x.host x.segments m.fits (z.delivered t at) (contains_at p.segments j t at) (emitter_twice t.emitter) (buffers_at (other_side t.emitter) p (event.Deliver j m) z) (peer_at (other_side t.emitter) p i) (goes_to p i j t at) x.does)
 
-pub event_reaches : (e : Event) (p : PairView) (o : Outcome) (q : PairView) → IsPair p → IsSized e p → EventStep e p o q → Reaches (network_of p) (network_of q)
-event_reaches (event.Listen s) p o q i z x = to_q p q (with_host s p x.host) x.same (listen_reaches s p (host_at s p i) i.network o x.host x.does)
-event_reaches (event.Connect s m) p o q i z x = to_q p q (with_host s p x.host) x.same (connect_reaches s p (host_at s p i) i.network m (host_of (other_side s) p).endpoint o x.host m.fits x.does)
-event_reaches (event.SendSlice s bytes) p o q i z x = to_q p q (with_host s p x.host) x.same (send_reaches s p (host_at s p i) i.network None bytes.items o x.host (buffers_at s p (event.SendSlice s bytes) z).transmit x.does)
-event_reaches (event.Send s bytes size) p o q i z x = to_q p q (with_host s p x.host) x.same (send_reaches s p (host_at s p i) i.network (Some size) bytes.items o x.host (buffers_at s p (event.Send s bytes size) z).transmit x.does)
-event_reaches (event.RecvSlice s size) p o q i z x = to_q p q (with_host s p x.host) x.same (recv_reaches s p (host_at s p i) i.network false size o x.host x.does)
-event_reaches (event.Recv s size) p o q i z x = to_q p q (with_host s p x.host) x.same (recv_reaches s p (host_at s p i) i.network true size o x.host x.does)
-event_reaches (event.Close s) p o q i z x = to_q p q (with_host s p x.host) x.same (close_reaches s p (host_at s p i) i.network o x.host x.does)
-event_reaches (event.Abort s) p o q i z x = to_q p q (with_host s p x.host) x.same (abort_reaches s p (host_at s p i) i.network o x.host x.does)
-event_reaches (event.Set s y) p o q i z x = to_q p q (with_host s p x.host) x.same (set_reaches s p (host_at s p i) i.network y o x.host x.does)
-event_reaches (event.Dispatch s m fail) p o q i z x = to_q p q (exchanged s p x.host x.segments) x.same (dispatch_reaches s p (host_at s p i) i.network m fail o x.host x.segments x.does)
-event_reaches (event.Deliver j m) p o q i z x = delivers_reach j (slice_get p.segments j) m p q o i z refl x
+pub event_reaches : {G : Type 0} (tells : G → ℕ → Type 0) (e : Event) (p : PairView G) (o : Outcome) (q : PairView G) → IsPair p → IsSized e p → EventStep tells e p o q → Reaches (network_of p) (network_of q)
+event_reaches tells (event.Listen s) p o q i z x = to_q p q (with_host s p x.host) x.same (listen_reaches s p (host_at s p i) i.network o x.host x.does)
+event_reaches tells (event.Connect s m) p o q i z x = to_q p q (with_host s p x.host) x.same (connect_reaches s p (host_at s p i) i.network m (host_of (other_side s) p).endpoint o x.host m.fits x.does)
+event_reaches tells (event.SendSlice s bytes) p o q i z x = to_q p q (with_host s p x.host) x.same (send_reaches s p (host_at s p i) i.network None bytes.items o x.host (buffers_at s p (event.SendSlice s bytes) z).transmit x.does)
+event_reaches tells (event.Send s bytes size) p o q i z x = to_q p q (with_host s p x.host) x.same (send_reaches s p (host_at s p i) i.network (Some size) bytes.items o x.host (buffers_at s p (event.Send s bytes size) z).transmit x.does)
+event_reaches tells (event.RecvSlice s size) p o q i z x = to_q p q (with_host s p x.host) x.same (recv_reaches s p (host_at s p i) i.network false size o x.host x.does)
+event_reaches tells (event.Recv s size) p o q i z x = to_q p q (with_host s p x.host) x.same (recv_reaches s p (host_at s p i) i.network true size o x.host x.does)
+event_reaches tells (event.Close s) p o q i z x = to_q p q (with_host s p x.host) x.same (close_reaches s p (host_at s p i) i.network o x.host x.does)
+event_reaches tells (event.Abort s) p o q i z x = to_q p q (with_host s p x.host) x.same (abort_reaches s p (host_at s p i) i.network o x.host x.does)
+event_reaches tells (event.Set s y) p o q i z x = to_q p q (with_host s p x.host) x.same (set_reaches s p (host_at s p i) i.network y o x.host x.does)
+event_reaches tells (event.Dispatch s m fail) p o q i z x = to_q p q (exchanged s p x.host x.segments) x.same (dispatch_reaches s p (host_at s p i) i.network tells m fail o x.host x.segments x.does)
+event_reaches tells (event.Deliver j m) p o q i z x = delivers_reach tells j (slice_get p.segments j) m p q o i z refl x
 
 -- as a pair answers it
-pub event_reaches_if : (e : Event) (p q : PairView) (r : Result Outcome PairError) → IsPair p → IsSized e p → IfOk r (λ o. EventStep e p o q) → OnErr r (q ≡ p) → Reaches (network_of p) (network_of q)
-event_reaches_if e p q (Ok o) i z x same = event_reaches e p o q i z x
-event_reaches_if e p q (Err x) i z y same = stays_there _ _ (ap network_of (sym same))
+pub event_reaches_if : {G : Type 0} (tells : G → ℕ → Type 0) (e : Event) (p q : PairView G) (r : Result Outcome PairError) → IsPair p → IsSized e p → IfOk r (λ o. EventStep tells e p o q) → OnErr r (q ≡ p) → Reaches (network_of p) (network_of q)
+event_reaches_if tells e p q (Ok o) i z x same = event_reaches tells e p o q i z x
+event_reaches_if tells e p q (Err x) i z y same = stays_there _ _ (ap network_of (sym same))
 
 -- a new pair
-pub new_shows : (v w : View) (a b : IpEndpoint) (x y : Bool) (limit : Option ℕ) → network_of (new_pair (new_host v a x) (new_host w b y) limit) ≡ start limit
+pub new_shows : {G : Type 0} (v w : View) (a b : IpEndpoint) (x y : Option G) (limit : Option ℕ) → network_of (new_pair (new_host v a x) (new_host w b y) limit) ≡ start limit
 new_shows v w a b x y limit = refl

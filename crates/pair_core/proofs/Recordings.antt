@@ -1,5 +1,5 @@
 -- From the one call of `emit` to what a host records of a dispatch.
-use Rattle.std.proofs.Common.{◌≡◌, ℕ, ◌+◌, ◌<◌, ◌≤◌, List, [], ◌++◌, length, min, Bool, true, false, Option, Some, None, refl, sym, ◌∙◌, ap, subst, arith}
+use Rattle.std.proofs.Common.{◌≡◌, ℕ, ◌+◌, ◌<◌, ◌≤◌, List, [], ◌++◌, length, min, Bool, true, false, Option, Some, None, refl, sym, ◌∙◌, ap, subst, arith, is_some}
 use Rattle.std.specs.Prelude.{Result, Ok, Err, OnOk, OnErr, is_ok, is_some, not, IsTrue, vec_len, vec_capacity, if◌then◌else◌, option_map, IsSomeAnd}
 use Rattle.std.proofs.lemmas.Option.{none-some, same_Some}
 use Rattle.std.specs.Borrow.{MutBor}
@@ -20,7 +20,7 @@ use Rattle.sock_tcp.specs.Content.{Sending, asked, offset_of, is_probing, conten
 use Rattle.sock_core.specs.Emission.{Emits, EmitsAt}
 use Rattle.sock_tcp.specs.Outgoing.{packet_of}
 use Rattle.sock_tcp.specs.Sent.{left_by}
-use Rattle.sock_tcp.specs.Dispatch.{packet_in, IsStamp, EmitsDue, EmitsTo, Dispatches}
+use Rattle.sock_tcp.specs.Dispatch.{packet_in, EmitsDue, EmitsTo, Dispatches}
 use Rattle.sock_tcp.specs.declared.state.State.{State}
 use Rattle.sock_tcp.specs.declared.state.State.TheVariants as state
 use Rattle.sock_tcp.specs.declared.tuple.Tuple.{Tuple}
@@ -95,12 +95,6 @@ the_header : (o : Option Header) (ip : IpRepr) (s : Segment) → IsSomeAnd o (λ
 the_header None ip s x = absurd x
 the_header (Some h) ip s x = (h, refl, x)
 
--- a timestamp is there exactly where there is a clock
-has_stamp : {G : Type 0} (tells : G → ℕ → Type 0) (clock : Option G) (stamp : Option ℕ) → IsStamp tells clock stamp → is_some stamp ≡ is_some clock
-has_stamp tells None stamp h = ap is_some h
-has_stamp tells (Some g) (Some n) h = refl
-has_stamp tells (Some g) None h = absurd h
-
 module _ {F : Type 0} (g : Once F (MutBor Recorder × ((IpRepr × TcpRepr) × Unit {0})) (Result (Unit {0}) EmitFailed × (MutBor Recorder × Unit {0}))) (f : F) (fail : Bool) (mtu : ℕ) (says : (shown left : MutBor Recorder) (s : IpRepr × TcpRepr) (r : Result (Unit {0}) EmitFailed) → g.post f (shown, (s, tt)) (r, (left, tt)) → EmitSays fail shown.now left.now s r) where
   -- the recorder as a dispatch finds it
   pub record IsReady (c : Recorder) : Type 0 where
@@ -152,7 +146,7 @@ module _ {F : Type 0} (g : Once F (MutBor Recorder × ((IpRepr × TcpRepr) × Un
           (went u x (held (kept_at (Ok u) x).1), left (Ok u) x)
       go false b (Err d) x = absurd (full b d x)
 
-  pub socket_dispatched : {G : Type 0} (tells : G → ℕ → Type 0) (clock : Option G) (c c' : Recorder) (v new : View) (facts : Facts) (r : Result (Unit {0}) EmitFailed) → IsReady c → 1 ≤ facts.mtu → facts.mtu ≤ mtu → Dispatches g f facts tells clock v c r new c' → SocketDispatches v facts (is_some clock) fail (sent_of r c') new
+  pub socket_dispatched : {G : Type 0} (tells : G → ℕ → Type 0) (clock : Option G) (c c' : Recorder) (v new : View) (facts : Facts) (r : Result (Unit {0}) EmitFailed) → IsReady c → 1 ≤ facts.mtu → facts.mtu ≤ mtu → Dispatches g f facts tells clock v c r new c' → SocketDispatches tells clock v facts fail (sent_of r c') new
   unfolding Dispatches SocketDispatches
   socket_dispatched tells clock c c' v new facts r ready one small h = to (before_emit v facts (is_some clock)).peer h
     where
@@ -162,9 +156,9 @@ module _ {F : Type 0} (g : Once F (MutBor Recorder × ((IpRepr × TcpRepr) × Un
       quiet : (u : View) → r ≡ Ok tt → c' ≡ c → new ≡ u → (sent_of r c' ≡ sent.Quiet)
       quiet u a b d = ap (λ x. sent_of x c') a ∙ ap (λ x. sent_with x c'.payload) (ap (λ x. x.header) b ∙ ready.header)
 
-      to : (o : Option Tuple) → EmitsTo g f facts tells clock o w c r new c' → SendsFrom o w facts (is_some clock) fail (sent_of r c') new
+      to : (o : Option Tuple) → EmitsTo g f facts tells clock o w c r new c' → SendsFrom tells clock o w facts fail (sent_of r c') new
       to None q = (quiet w q.answer q.context q.view, q.view)
-      to (Some t) x = record { stamp = x.stamp; stamped = has_stamp tells clock x.stamp x.told; bytes = d.bytes; lent = d.lent; records = (both (content w t facts x.stamp d.bytes) refl d.emits d.view).0; view = (both (content w t facts x.stamp d.bytes) refl d.emits d.view).1; fits = d.fits }
+      to (Some t) x = record { stamp = x.stamp; told = x.told; bytes = d.bytes; lent = d.lent; records = (both (content w t facts x.stamp d.bytes) refl d.emits d.view).0; view = (both (content w t facts x.stamp d.bytes) refl d.emits d.view).1; fits = d.fits }
         where
           d : EmitsDue g f facts t x.stamp w c r new c'
           d = x.emits
@@ -186,13 +180,13 @@ recorded_fits false (Some s) sent.Quiet e fits = absurd e
 recorded_fits false (Some s) sent.Failed e fits = absurd e
 recorded_fits false (Some s) (sent.Emitted h p) e fits = kept_fits h s.ip s.segment p.items e.0 e.1 (fits s refl)
 
-sent_fits : (o : Option Tuple) (v w : View) (f : Facts) (stamps fail : Bool) (r : Sent) → SendsFrom o v f stamps fail r w → FitsSent r
-sent_fits None v w f stamps fail r d = subst FitsSent (sym d.0) tt
-sent_fits (Some t) v w f stamps fail r d = recorded_fits fail (content v t f d.stamp d.bytes) r d.records d.fits
+sent_fits : {G : Type 0} (tells : G → ℕ → Type 0) (source : Option G) (o : Option Tuple) (v w : View) (f : Facts) (fail : Bool) (r : Sent) → SendsFrom tells source o v f fail r w → FitsSent r
+sent_fits tells source None v w f fail r d = subst FitsSent (sym d.0) tt
+sent_fits tells source (Some t) v w f fail r d = recorded_fits fail (content v t f d.stamp d.bytes) r d.records d.fits
 
-pub dispatch_fits : (v w : View) (f : Facts) (stamps fail : Bool) (r : Sent) → SocketDispatches v f stamps fail r w → FitsSent r
+pub dispatch_fits : {G : Type 0} (tells : G → ℕ → Type 0) (source : Option G) (v w : View) (f : Facts) (fail : Bool) (r : Sent) → SocketDispatches tells source v f fail r w → FitsSent r
 unfolding SocketDispatches
-dispatch_fits v w f stamps fail r d = sent_fits (before_emit v f stamps).peer (before_emit v f stamps).view w f stamps fail r d
+dispatch_fits tells source v w f fail r d = sent_fits tells source (before_emit v f (is_some source)).peer (before_emit v f (is_some source)).view w f fail r d
 
 -- a reply's header
 pub reply_fits : (h : Header) (ip : IpRepr) (s : Segment) → IsHeaderOf h ip s → s.payload ≡ [] → FitsPacket ip s → FitsPacket h.ip_repr (segment_at h [])
@@ -204,6 +198,6 @@ short_of ip s fits = omega (arith, fits.octets, fits.total)
 
 -- ---- the host around the socket
 
-pub host_dispatched : (m : Moment) (fail : Bool) (u h : HostView) (r r' : Sent) (w : View) (stamps : Bool) → u ≡ h → stamps ≡ u.stamps → r' ≡ r → SocketDispatches u.control_block (facts_of m) u.stamps fail r w → HostDispatches m fail h r' (record u { control_block = w; stamps = stamps })
-host_dispatched m fail u h r r' w stamps e b s x =
-    subst (λ y. HostDispatches m fail y r' (record u { control_block = w; stamps = stamps })) e (record { socket = subst (λ y. SocketDispatches u.control_block (facts_of m) u.stamps fail y w) (sym s) x; same = ap (λ (y : Bool). record u { control_block = w; stamps = y }) b })
+pub host_dispatched : {G : Type 0} (tells : G → ℕ → Type 0) (m : Moment) (fail : Bool) (u h : HostView G) (r r' : Sent) (w : View) (source : Option G) → u ≡ h → source ≡ u.source → r' ≡ r → SocketDispatches tells u.source u.control_block (facts_of m) fail r w → HostDispatches tells m fail h r' (record u { control_block = w; source = source })
+host_dispatched tells m fail u h r r' w source e b s x =
+    subst (λ y. HostDispatches tells m fail y r' (record u { control_block = w; source = source })) e (record { socket = subst (λ y. SocketDispatches tells u.source u.control_block (facts_of m) fail y w) (sym s) x; same = ap (λ y. record u { control_block = w; source = y }) b })

@@ -20,26 +20,26 @@ use Rattle.pair_core.proofs.NetworkSteps.{swapped_keeps}
 -- ---- either side
 
 -- the pair as the side s sees it, with its host as k and these segments
-abbrev pub side_network : Side → PairView → HostView → List StoredView → Network
+abbrev pub side_network : {G : Type 0} → Side → PairView G → HostView G → List StoredView → Network
 side_network s p k ks = network_at s k (host_of (other_side s) p) ks p.limit
 
-pub from_side : (s : Side) (p : PairView) → IsInvariant (network_of p) → IsInvariant (side_network s p (host_of s p) p.segments)
+pub from_side : {G : Type 0} (s : Side) (p : PairView G) → IsInvariant (network_of p) → IsInvariant (side_network s p (host_of s p) p.segments)
 from_side A p i = i
 from_side B p i = swapped_keeps (network_of p) i
 
-pub exchanged_reached : (s : Side) (p : PairView) (k : HostView) (ks : List StoredView) → Reaches (side_network s p (host_of s p) p.segments) (side_network s p k ks) → Reaches (network_of p) (network_of (exchanged s p k ks))
+pub exchanged_reached : {G : Type 0} (s : Side) (p : PairView G) (k : HostView G) (ks : List StoredView) → Reaches (side_network s p (host_of s p) p.segments) (side_network s p k ks) → Reaches (network_of p) (network_of (exchanged s p k ks))
 exchanged_reached A p k ks r = r
 exchanged_reached B p k ks r = reach_swapped (side_network B p p.b p.segments) (side_network B p k ks) r
 
-pub with_reached : (s : Side) (p : PairView) (k : HostView) → Reaches (side_network s p (host_of s p) p.segments) (side_network s p k p.segments) → Reaches (network_of p) (network_of (with_host s p k))
+pub with_reached : {G : Type 0} (s : Side) (p : PairView G) (k : HostView G) → Reaches (side_network s p (host_of s p) p.segments) (side_network s p k p.segments) → Reaches (network_of p) (network_of (with_host s p k))
 with_reached A p k r = r
 with_reached B p k r = reach_swapped (side_network B p p.b p.segments) (side_network B p k p.segments) r
 
 -- nothing happened
-pub stays_reached : (s : Side) (p : PairView) (k : HostView) → k ≡ host_of s p → Reaches (network_of p) (network_of (with_host s p k))
+pub stays_reached : {G : Type 0} (s : Side) (p : PairView G) (k : HostView G) → k ≡ host_of s p → Reaches (network_of p) (network_of (with_host s p k))
 stays_reached s p k e = with_reached s p k (stays_there _ _ (ap (λ h. side_network s p h p.segments) (sym e)))
 
-pub unchanged_reached : (s : Side) (p : PairView) (k : HostView) (ks : List StoredView) → k ≡ host_of s p → ks ≡ p.segments → Reaches (network_of p) (network_of (exchanged s p k ks))
+pub unchanged_reached : {G : Type 0} (s : Side) (p : PairView G) (k : HostView G) (ks : List StoredView) → k ≡ host_of s p → ks ≡ p.segments → Reaches (network_of p) (network_of (exchanged s p k ks))
 unchanged_reached s p k ks e f = exchanged_reached s p k ks (stays_there _ _ (ap (λ h. side_network s p h p.segments) (sym e) ∙ ap (side_network s p k) (sym f)))
 
 -- ---- what each side emitted
@@ -117,7 +117,7 @@ neither true b e = cc
 neither false b e = (refl, e)
 
 -- a segment that is not too old may arrive
-pub may_arrive : (limit : Option ℕ) (h : HostView) (t : StoredView) → is_old h t ≡ false → MayArrive limit (shown_segment t) (endpoint_of h)
+pub may_arrive : {G : Type 0} (limit : Option ℕ) (h : HostView G) (t : StoredView) → is_old h t ≡ false → MayArrive limit (shown_segment t) (endpoint_of h)
 may_arrive None h t e =
     let two = neither (nat_le (2 ^ 29) (h.released - t.released_at)) (nat_le (2 ^ 29) (h.taken - t.taken_at)) e in
     record { released = grind (arith, nat_tests, two.0); taken = grind (arith, nat_tests, two.1) }

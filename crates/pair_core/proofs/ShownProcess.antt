@@ -31,7 +31,7 @@ use Rattle.sock_tcp.specs.declared.verdict.Verdict.TheVariants as verdicts
 use Rattle.sock_tcp.specs.declared.window.Cut.{Cut}
 use Rattle.sock_tcp.specs.declared.window.Window.{Window}
 use Rattle.sock_tcp.proofs.Acking.{acked_fits}
-use Rattle.sock_tcp.proofs.Frames.{brought}
+use Rattle.tcp_laws.proofs.Frames.{brought}
 use Rattle.sock_tcp.proofs.Windows.{start_small, end_small, window_width, cut_fits}
 use Rattle.pair_core.specs.PairLaws.{IsBounded}
 use Rattle.pair_core.specs.PairNetwork.{phase_of, shown, stream_segment, is_passive, is_rst, is_syn, IsSmall}

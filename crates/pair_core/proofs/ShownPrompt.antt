@@ -21,7 +21,7 @@ use Rattle.sock_tcp.specs.Process.{Outcome, outside, tuple_of, has_window, after
 use Rattle.sock_tcp.specs.declared.acked.Acked.{Acked}
 use Rattle.sock_tcp.specs.declared.advance.Next.{Next}
 use Rattle.sock_tcp.specs.declared.advance.Next.TheVariants as next
-use Rattle.sock_tcp.proofs.Frames.{brought, bytes_keep, heard_keeps, table_keeps}
+use Rattle.tcp_laws.proofs.Frames.{brought, bytes_keep, heard_keeps, table_keeps}
 use Rattle.pair_core.specs.PairPromises.{IsInOrder, in_window}
 
 brings_at_once : (b : Received) (bs : List ℕ) → 0 < length bs → JoinsAtOnce b (brought b 0 bs) bs

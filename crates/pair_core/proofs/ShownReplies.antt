@@ -16,7 +16,7 @@ use Rattle.pair_core.specs.PairNetwork.{shown, stream_segment}
 use Rattle.pair_core.specs.StreamCalls.{Answers, ReplyEffect, Segment as MayAnswer}
 use Rattle.pair_core.specs.StreamEffects.{SndNxtWithin}
 use Rattle.pair_core.specs.StreamViews.{SocketView, StreamSegment, HasIss, KnowsPeer}
-use Rattle.sock_tcp.proofs.Frames.{brought, stays_as_it_is}
+use Rattle.tcp_laws.proofs.Frames.{brought, stays_as_it_is}
 
 the_number : {a b : ℕ} → Some a ≡ Some b → a ≡ b
 the_number e = cc

@@ -24,7 +24,7 @@ use Rattle.sock_tcp.specs.declared.verdict.Verdict.TheVariants as verdicts
 use Rattle.sock_tcp.specs.declared.window.Window.{Window}
 use Rattle.pair_core.specs.PairNetwork.{phase_of, shown, is_fin, is_rst}
 use Rattle.pair_core.specs.StreamViews.{SocketView, KnowsPeer}
-use Rattle.sock_tcp.proofs.Frames.{brought}
+use Rattle.tcp_laws.proofs.Frames.{brought}
 
 -- ---- the verdict
 

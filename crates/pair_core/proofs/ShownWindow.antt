@@ -10,7 +10,7 @@ use Rattle.sock_core.specs.Places.{later_number, number_distance, number_is_befo
 use Rattle.sock_core.specs.Received.{Received, received, written, gathered, taken_in, byte_at, makes_fifth_range, TakesIn}
 use Rattle.sock_core.specs.Seq.{is_before, is_not_after, later_of}
 use Rattle.sock_core.specs.Streams.{fin_length}
-use Rattle.sock_tcp.proofs.Frames.{brought}
+use Rattle.tcp_laws.proofs.Frames.{brought}
 use Rattle.sock_tcp.proofs.Windows.{far, not_after}
 use Rattle.sock_tcp.specs.Window.{starts_inside, empty_inside, full_inside, is_inside, cut_end, cut_of, cut_bytes}
 use Rattle.sock_tcp.specs.declared.window.Window.{Window}

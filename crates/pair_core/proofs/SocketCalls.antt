@@ -1,5 +1,6 @@
 -- Each event of a side is a call on its socket, in the words of the law on any list of calls.
-use Rattle.std.proofs.Common.{◌≡◌, ℕ, ◌+◌, ◌<◌, ◌≤◌, ◌^◌, Bool, true, false, not, refl, sym, ap, subst, ◌∙◌, List, [], ◌++◌, length, take, drop, Option, Some, None, Ok, Err, arith, length-take}
+use Rattle.sock_tcp.specs.Dispatch.{IsStamp}
+use Rattle.std.proofs.Common.{◌≡◌, ℕ, ◌+◌, ◌<◌, ◌≤◌, ◌^◌, Bool, true, false, not, refl, sym, ap, subst, ◌∙◌, List, [], ◌++◌, length, take, drop, Option, Some, None, Ok, Err, arith, length-take, is_some}
 use Rattle.std.specs.Prelude.{◌==◌, ◌||◌, if◌then◌else◌}
 use Rattle.std.proofs.lemmas.Bool.{eqb-true}
 use Rattle.std.proofs.lemmas.List.{take-take}
@@ -20,10 +21,10 @@ use Rattle.sock_tcp.specs.Opening.{after_connect, connected, endpoints, is_open,
 use Rattle.sock_tcp.specs.Process.{Accepts, AcceptsIn}
 use Rattle.sock_tcp.specs.Queue.{appended, queue_of}
 use Rattle.sock_tcp.specs.Queues.{Reads, Sends, fitting, last_ts_after, may_recv, may_send, queued, read_off, readable, recv_refusal, timer_after, written}
-use Rattle.sock_tcp.specs.SocketRun as calls
-use Rattle.sock_tcp.specs.SocketRun.{Counts, Dispatched, IsNumbered, Run, SendsTo as Emits, Step, Ends, Then, starting, starting_if, is_reset, opens_listener, with_sent, accepted, with_handed, handed_slice, with_segment, listens_again}
+use Rattle.tcp_laws.specs.SocketRun as calls
+use Rattle.tcp_laws.specs.SocketRun.{Counts, Dispatched, IsNumbered, Run, SendsTo as Emits, Step, Ends, Then, starting, starting_if, is_reset, opens_listener, with_sent, accepted, with_handed, handed_slice, with_segment, listens_again}
 use Rattle.sock_tcp.specs.View.{View, fresh}
-use Rattle.sock_tcp.specs.Work.{IsReached}
+use Rattle.tcp_laws.specs.Polling.{IsReached}
 use Rattle.sock_tcp.specs.declared.error.SendError.TheVariants as send_error
 use Rattle.sock_tcp.specs.declared.state.State.TheVariants as state
 use Rattle.sock_tcp.specs.declared.tuple.Tuple.{Tuple}
@@ -173,14 +174,20 @@ set_call (setting.Pause on) v k = (k, calls.Set (calls.PauseSynAck on refl) refl
 
 -- ---- dispatches and deliveries
 
-module _ (f : Facts) (stamps fail : Bool) (r : Sent) (w : View) where
-  goes_out : (o : Option Tuple) (u : View) → SendsFrom o u f stamps fail r w → (out : Option Sending) × Emits o f stamps u out w
-  goes_out None u d = (None, (refl, d.1))
-  goes_out (Some t) u d = (content u t f d.stamp d.bytes, record { stamp = d.stamp; told = d.stamped; bytes = d.bytes; lent = d.lent; ok = not fail; sends = refl; view = d.view })
+-- a timestamp is there exactly where there is a clock
+stamp_is : {G : Type 0} (tells : G → ℕ → Type 0) (clock : Option G) (stamp : Option ℕ) → IsStamp tells clock stamp → is_some stamp ≡ is_some clock
+stamp_is tells None stamp h = ap is_some h
+stamp_is tells (Some g) (Some n) h = refl
+stamp_is tells (Some g) None h = absurd h
 
-  pub dispatch_call : (v : View) → SocketDispatches v f stamps fail r w → IsCall v w
+module _ {G : Type 0} (tells : G → ℕ → Type 0) (source : Option G) (f : Facts) (fail : Bool) (r : Sent) (w : View) where
+  goes_out : (o : Option Tuple) (u : View) → SendsFrom tells source o u f fail r w → (out : Option Sending) × Emits o f (is_some source) u out w
+  goes_out None u d = (None, (refl, d.1))
+  goes_out (Some t) u d = (content u t f d.stamp d.bytes, record { stamp = d.stamp; told = stamp_is tells source d.stamp d.told; bytes = d.bytes; lent = d.lent; ok = not fail; sends = refl; view = d.view })
+
+  pub dispatch_call : (v : View) → SocketDispatches tells source v f fail r w → IsCall v w
   unfolding SocketDispatches
-  dispatch_call v d k = let x = goes_out (before_emit v f stamps).peer (before_emit v f stamps).view d in (starting_if (is_reset v f stamps) w k, calls.Dispatch f stamps x.0 x.1 refl)
+  dispatch_call v d k = let x = goes_out (before_emit v f (is_some source)).peer (before_emit v f (is_some source)).view d in (starting_if (is_reset v f (is_some source)) w k, calls.Dispatch f (is_some source) x.0 x.1 refl)
 
 -- LISTEN lets no segment with an acknowledgement in
 bare : (v : View) (ip : IpRepr) (s : Segment) → Accepts v ip s → v.state ≡ state.Listen → s.ack_number ≡ None

@@ -6,12 +6,12 @@ use Rattle.pair_core.specs.declared.moment.Moment.{Moment}
 use Rattle.pair_core.specs.declared.outcome.Outcome.{Outcome}
 use Rattle.pair_core.specs.declared.side.Side.{Side}
 
-abbrev pub DeliversAt : Option StoredView → ℕ → ℕ → Side → Moment → Outcome → HostView → List StoredView → HostView
-    → List StoredView → Type 0
-DeliversAt None released taken s m o h ks h' ks' = ⊥
-DeliversAt (Some t) released taken s m o h ks h' ks' =
-    DeliversTo (is_too_old t.released_at released t.taken_at taken) s m t o h ks h' ks'
+abbrev pub DeliversAt : {G : Type 0} → (G → ℕ → Type 0) → Option StoredView → ℕ → ℕ → Side → Moment → Outcome
+    → HostView G → List StoredView → HostView G → List StoredView → Type 0
+DeliversAt tells None released taken s m o h ks h' ks' = ⊥
+DeliversAt tells (Some t) released taken s m o h ks h' ks' =
+    DeliversTo tells (is_too_old t.released_at released t.taken_at taken) s m t o h ks h' ks'
 
-abbrev pub TakesRoomAt : Option StoredView → ℕ → ℕ → HostView → Type 0
+abbrev pub TakesRoomAt : {G : Type 0} → Option StoredView → ℕ → ℕ → HostView G → Type 0
 TakesRoomAt None released taken h = ⊥
 TakesRoomAt (Some t) released taken h = TakesRoom (is_too_old t.released_at released t.taken_at taken) h t

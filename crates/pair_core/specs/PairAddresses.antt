@@ -2,18 +2,18 @@
 use Rattle.std.specs.Prelude.{◌≡◌, List, [], ◌∷◌}
 use Rattle.ip_wire.specs.IpHeader.{src_addr_of, dst_addr_of}
 use Rattle.ip_wire.specs.declared.endpoint.IpEndpoint.{IpEndpoint}
-use Rattle.sock_tcp.specs.Laws.{IsPeered}
+use Rattle.tcp_laws.specs.Laws.{IsPeered}
 use Rattle.sock_tcp.specs.declared.tuple.Tuple.{Tuple}
 use Rattle.pair_core.specs.PairViews.{HostView, StoredView, PairView, host_of}
 use Rattle.pair_core.specs.Sides.{other_side}
 use Rattle.pair_core.specs.declared.side.Side.{Side}
 
 -- both endpoints of a side's connection
-abbrev pub tuple_to : HostView → IpEndpoint → Tuple
+abbrev pub tuple_to : {G : Type 0} → HostView G → IpEndpoint → Tuple
 tuple_to h remote = record { local = h.endpoint; remote = remote }
 
 -- the peer of the side's socket, where it has one, is at this endpoint
-abbrev pub HasPeer : HostView → IpEndpoint → Type 0
+abbrev pub HasPeer : {G : Type 0} → HostView G → IpEndpoint → Type 0
 HasPeer h remote = IsPeered h.control_block.state h.control_block.tuple (tuple_to h remote)
 
 -- the segment goes from the one endpoint to the other
@@ -28,5 +28,5 @@ abbrev pub AllGo : (Side → IpEndpoint) → List StoredView → Type 0
 AllGo ends [] = Unit {0}
 AllGo ends (k ∷ ks) = GoesFrom k (ends k.emitter) (ends (other_side k.emitter)) × AllGo ends ks
 
-abbrev pub endpoint_at : PairView → Side → IpEndpoint
+abbrev pub endpoint_at : {G : Type 0} → PairView G → Side → IpEndpoint
 endpoint_at p s = (host_of s p).endpoint

@@ -6,7 +6,7 @@ use Rattle.ip_wire.specs.declared.endpoint.IpEndpoint.{IpEndpoint}
 use Rattle.sock_core.specs.Received.{room_of}
 use Rattle.sock_tcp.specs.Queue.{capacity}
 use Rattle.sock_tcp.specs.View.{View, FinSays}
-use Rattle.sock_tcp.specs.Work.{IsReached}
+use Rattle.tcp_laws.specs.Polling.{IsReached}
 use Rattle.sock_tcp.specs.declared.state.State.TheVariants as state
 use Rattle.pair_core.specs.NetworkInvariant.{IsInvariant}
 use Rattle.pair_core.specs.PairAddresses.{AllGo, HasPeer, endpoint_at}
@@ -29,7 +29,7 @@ pub record IsReachable (e : IpEndpoint) : Type 0 where
   pub port : 0 < e.port
   pub addr : is_unspecified e.addr ≡ false
 
-pub record IsHost (h : HostView) : Type 0 where
+pub record IsHost {G : Type 0} (h : HostView G) : Type 0 where
   pub reachable : IsReachable h.endpoint
   pub idle : h.opening ≡ opening.Unopened → IsIdle h.control_block
   -- a socket that is not CLOSED listens on a port exactly where it was opened by listen
@@ -40,7 +40,7 @@ pub record IsHost (h : HostView) : Type 0 where
 
 -- both sockets can be connected, and each to the other alone; segments go from the one to the other; and the network
 -- that the pair shows meets the invariant of the theorem on two streams
-pub record IsPair (p : PairView) : Type 0 where
+pub record IsPair {G : Type 0} (p : PairView G) : Type 0 where
   pub a : IsHost p.a
   pub b : IsHost p.b
   pub versions : SameVersion p.a.endpoint.addr p.b.endpoint.addr
@@ -52,7 +52,7 @@ pub record IsPair (p : PairView) : Type 0 where
 -- ---- what the types of a pair say of its numbers
 
 -- a segment that is delivered has numbers of 32 bits
-abbrev pub DeliversSmall : Event → PairView → Type 0
+abbrev pub DeliversSmall : {G : Type 0} → Event → PairView G → Type 0
 DeliversSmall (event.Deliver i m) p = ForSome (slice_get p.segments i) (λ t. IsSmall t.segment)
 DeliversSmall _ p = Unit {0}
 
@@ -63,7 +63,7 @@ pub record IsSocket (v : View) : Type 0 where
   pub fin : FinSays v.state v.rx_fin_received
 
 -- what the types say of a pair and of an event of it
-pub record IsSized (e : Event) (p : PairView) : Type 0 where
+pub record IsSized {G : Type 0} (e : Event) (p : PairView G) : Type 0 where
   pub a : IsSocket p.a.control_block
   pub b : IsSocket p.b.control_block
   pub delivered : DeliversSmall e p

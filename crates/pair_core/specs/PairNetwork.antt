@@ -63,7 +63,7 @@ is_listener opening.Unopened = false
 is_listener opening.Listener = true
 is_listener opening.Connector = false
 
-abbrev pub endpoint_of : HostView → Endpoint
+abbrev pub endpoint_of : {G : Type 0} → HostView G → Endpoint
 endpoint_of h =
     record {
       view = seen h.opening h.control_block;
@@ -117,7 +117,7 @@ sent_by s (k ∷ ks) = kept_if s k.emitter (shown_segment k) (sent_by s ks)
 
 -- ---- the pair
 
-abbrev pub network_at : Side → HostView → HostView → List StoredView → Option ℕ → Network
+abbrev pub network_at : {G : Type 0} → Side → HostView G → HostView G → List StoredView → Option ℕ → Network
 network_at s h o ks limit =
     record {
       local = endpoint_of h;
@@ -128,7 +128,7 @@ network_at s h o ks limit =
     }
 
 -- as side A sees it
-abbrev pub network_of : PairView → Network
+abbrev pub network_of : {G : Type 0} → PairView G → Network
 network_of p = network_at A p.a p.b p.segments p.limit
 
 -- the numbers of a segment have 32 bits, and its payload has at most 65535 bytes

@@ -27,47 +27,47 @@ use Rattle.pair_core.specs.declared.outcome.Outcome.TheVariants as outcome
 -- ---- Prefix
 
 -- what a side handed out, followed by its receive queue
-abbrev pub delivered : HostView → List ℕ
+abbrev pub delivered : {G : Type 0} → HostView G → List ℕ
 delivered h = h.handed_out ++ h.control_block.rx_buffer.bytes
 
 -- that is a prefix of what the other side accepted
-pub record Prefix (p : PairView) : Type 0 where
+pub record Prefix {G : Type 0} (p : PairView G) : Type 0 where
   pub to_b : IsPrefix (delivered p.b) p.a.accepted
   pub to_a : IsPrefix (delivered p.a) p.b.accepted
 
 -- ---- Release
 
 -- acknowledgements released only bytes that the receiver took, and it took only bytes that the sender accepted
-pub record IsReleased (sender receiver : HostView) : Type 0 where
+pub record IsReleased {G : Type 0} (sender receiver : HostView G) : Type 0 where
   pub released : sender.released ≤ receiver.taken
   pub taken : receiver.taken ≤ length sender.accepted
 
-pub record Release (p : PairView) : Type 0 where
+pub record Release {G : Type 0} (p : PairView G) : Type 0 where
   pub of_a : IsReleased p.a p.b
   pub of_b : IsReleased p.b p.a
 
 -- ---- Complete
 
 -- a read of the one side that answers Finished found the other closed by its caller, and all its bytes handed out
-pub record IsComplete (reader sender : HostView) : Type 0 where
+pub record IsComplete {G : Type 0} (reader sender : HostView G) : Type 0 where
   pub closed : sender.closed ≡ true
   pub handed_out : reader.handed_out ≡ sender.accepted
 
-abbrev pub CompleteAt : Outcome → Side → PairView → Type 0
+abbrev pub CompleteAt : {G : Type 0} → Outcome → Side → PairView G → Type 0
 CompleteAt (outcome.RecvRefused recv_error.Finished) s p = IsComplete (host_of s p) (host_of (other_side s) p)
 CompleteAt _ s p = Unit {0}
 
-abbrev pub CompleteRead : Event → Outcome → PairView → Type 0
+abbrev pub CompleteRead : {G : Type 0} → Event → Outcome → PairView G → Type 0
 CompleteRead (event.RecvSlice s size) o p = CompleteAt o s p
 CompleteRead (event.Recv s size) o p = CompleteAt o s p
 CompleteRead _ o p = Unit {0}
 
 -- a side that was closed stays so, and accepts nothing more
-pub record HasEnded (h k : HostView) : Type 0 where
+pub record HasEnded {G : Type 0} (h k : HostView G) : Type 0 where
   pub closed : k.closed ≡ true
   pub accepted : k.accepted ≡ h.accepted
 
-pub record Complete (e : Event) (p : PairView) (o : Outcome) (q : PairView) : Type 0 where
+pub record Complete {G : Type 0} (e : Event) (p : PairView G) (o : Outcome) (q : PairView G) : Type 0 where
   pub read : CompleteRead e o q
   pub ended : (s : Side) → (host_of s p).closed ≡ true → HasEnded (host_of s p) (host_of s q)
 
@@ -96,17 +96,17 @@ in_window v s = cut_bytes (cut_of (receive_window v) s.seq_number (length s.payl
 
 -- a delivery of the segment t at the moment m found the receiver as old, and left it as new: the in-window bytes of
 -- such a segment joined the receive queue, and behind them what was held there
-pub record IsPrompt (m : Moment) (t : StoredView) (old new : HostView) : Type 0 where
+pub record IsPrompt {G : Type 0} (m : Moment) (t : StoredView) (old new : HostView G) : Type 0 where
   pub queued : IsInOrder old.control_block (record { micros = m.now.micros }) m.word t.ip t.segment
       → 0 < length (in_window old.control_block t.segment)
       → JoinsAtOnce old.control_block.rx_buffer new.control_block.rx_buffer (in_window old.control_block t.segment)
 
 -- so at each delivery of a pair that a side accepts
-abbrev pub IsPromptAt : ℕ → Moment → PairView → Outcome → PairView → Type 0
+abbrev pub IsPromptAt : {G : Type 0} → ℕ → Moment → PairView G → Outcome → PairView G → Type 0
 IsPromptAt i m p o q = (t : StoredView) (reply : Option ℕ) → slice_get p.segments i ≡ Some t
     → o ≡ outcome.Delivered reply → IsPrompt m t (host_of (other_side t.emitter) p) (host_of (other_side t.emitter) q)
 
-abbrev pub Prompt : Event → PairView → Outcome → PairView → Type 0
+abbrev pub Prompt : {G : Type 0} → Event → PairView G → Outcome → PairView G → Type 0
 Prompt (event.Deliver i m) p o q = IsPromptAt i m p o q
 Prompt (event.Listen s) p o q = Unit {0}
 Prompt (event.Connect s m) p o q = Unit {0}

@@ -38,6 +38,6 @@ handed_out_in s (e ∷ es) (o ∷ os) = handed_out_by s e o ++ handed_out_in s e
 handed_out_in s _ _ = []
 
 -- each side's streams in q are those in p, followed by these bytes
-pub record AddsUp (p q : PairView) (accepted handed_out : Side → List ℕ) : Type 0 where
+pub record AddsUp {G : Type 0} (p q : PairView G) (accepted handed_out : Side → List ℕ) : Type 0 where
   pub accepted_bytes : (s : Side) → (host_of s q).accepted ≡ (host_of s p).accepted ++ accepted s
   pub handed_out_bytes : (s : Side) → (host_of s q).handed_out ≡ (host_of s p).handed_out ++ handed_out s

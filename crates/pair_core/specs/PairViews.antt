@@ -1,4 +1,4 @@
--- A pair by value.
+-- A pair by value. G is the type of its sources of timestamps.
 use Rattle.std.specs.Prelude.{ℕ, List, [], Option, Bool, false}
 use Rattle.ip_wire.specs.declared.endpoint.IpEndpoint.{IpEndpoint}
 use Rattle.ip_wire.specs.declared.repr.IpRepr.{IpRepr}
@@ -10,7 +10,7 @@ use Rattle.pair_core.specs.declared.host.Opening.{Opening}
 use Rattle.pair_core.specs.declared.host.Opening.TheVariants as opening
 
 -- one side
-pub record HostView : Type 0 where
+pub record HostView (G : Type 0) : Type 0 where
   pub control_block : View  -- of its socket
   pub endpoint : IpEndpoint
   pub opening : Opening
@@ -19,7 +19,7 @@ pub record HostView : Type 0 where
   pub released : ℕ  -- how many bytes left its transmit queue by acknowledgement
   pub taken : ℕ  -- how many bytes joined its receive queue
   pub closed : Bool  -- a close found it in ESTABLISHED or CLOSE-WAIT
-  pub stamps : Bool  -- its socket has a source of timestamps
+  pub source : Option G  -- of its socket's timestamps
 
 -- a stored segment
 pub record StoredView : Type 0 where
@@ -29,22 +29,22 @@ pub record StoredView : Type 0 where
   pub released_at : ℕ
   pub taken_at : ℕ
 
-pub record PairView : Type 0 where
-  pub a : HostView
-  pub b : HostView
+pub record PairView (G : Type 0) : Type 0 where
+  pub a : HostView G
+  pub b : HostView G
   pub segments : List StoredView
   pub limit : Option ℕ
 
-abbrev pub host_of : Side → PairView → HostView
+abbrev pub host_of : {G : Type 0} → Side → PairView G → HostView G
 host_of A p = p.a
 host_of B p = p.b
 
-abbrev pub with_host : Side → PairView → HostView → PairView
+abbrev pub with_host : {G : Type 0} → Side → PairView G → HostView G → PairView G
 with_host A p h = record p { a = h }
 with_host B p h = record p { b = h }
 
-abbrev pub new_host : View → IpEndpoint → Bool → HostView
-new_host v e stamps =
+abbrev pub new_host : {G : Type 0} → View → IpEndpoint → Option G → HostView G
+new_host v e source =
     record {
       control_block = v;
       endpoint = e;
@@ -54,8 +54,8 @@ new_host v e stamps =
       released = 0;
       taken = 0;
       closed = false;
-      stamps = stamps;
+      source = source;
     }
 
-abbrev pub new_pair : HostView → HostView → Option ℕ → PairView
+abbrev pub new_pair : {G : Type 0} → HostView G → HostView G → Option ℕ → PairView G
 new_pair a b limit = record { a = a; b = b; segments = []; limit = limit }

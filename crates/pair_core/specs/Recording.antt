@@ -10,6 +10,7 @@ use Rattle.sock_tcp.specs.Queue.{IsLent}
 use Rattle.sock_tcp.specs.View.{View, moment_of}
 use Rattle.sock_tcp.specs.Begin.{before_emit}
 use Rattle.sock_tcp.specs.Content.{Sending, asked, offset_of, content}
+use Rattle.sock_tcp.specs.Dispatch.{IsStamp}
 use Rattle.sock_tcp.specs.Sent.{left_by}
 use Rattle.sock_tcp.specs.declared.tuple.Tuple.{Tuple}
 use Rattle.pair_core.specs.declared.recorder.EmitFailed.{EmitFailed}
@@ -45,22 +46,25 @@ Records true (Some s) r = r ≡ sent.Failed
 Records false (Some s) (sent.Emitted h p) = IsHeaderOf h s.ip s.segment × (p.items ≡ s.segment.payload)
 Records false (Some s) _ = ⊥
 
--- the socket sends to its peer, with a timestamp where it has a source of them (stamps), and for some bytes that its
+-- the socket sends to its peer, with what its source of timestamps tells, where it has one, and for some bytes that its
 -- ring lent
-pub record SendsTo (v : View) (t : Tuple) (f : Facts) (stamps fail : Bool) (r : Sent) (w : View) : Type 0 where
+pub record SendsTo {G : Type 0} (tells : G → ℕ → Type 0) (source : Option G) (v : View) (t : Tuple) (f : Facts)
+    (fail : Bool) (r : Sent) (w : View) : Type 0 where
   pub stamp : Option ℕ
-  pub stamped : is_some stamp ≡ stamps
+  pub told : IsStamp tells source stamp
   pub bytes : List ℕ
   pub lent : IsLent v.tx_buffer (offset_of v) (asked v t f (is_some stamp)) bytes
   pub records : Records fail (content v t f stamp bytes) r
   pub view : w ≡ left_by (content v t f stamp bytes) v (moment_of f) (not fail)
   pub fits : ForSome (content v t f stamp bytes) (λ s. FitsPacket s.ip s.segment)
 
-abbrev pub SendsFrom : Option Tuple → View → Facts → Bool → Bool → Sent → View → Type 0
-SendsFrom None v f stamps fail r w = (r ≡ sent.Quiet) × (w ≡ v)
-SendsFrom (Some t) v f stamps fail r w = SendsTo v t f stamps fail r w
+abbrev pub SendsFrom : {G : Type 0} → (G → ℕ → Type 0) → Option G → Option Tuple → View → Facts → Bool → Sent → View
+    → Type 0
+SendsFrom tells source None v f fail r w = (r ≡ sent.Quiet) × (w ≡ v)
+SendsFrom tells source (Some t) v f fail r w = SendsTo tells source v t f fail r w
 
 -- a whole dispatch of the socket v
-unfoldable pub SocketDispatches : View → Facts → Bool → Bool → Sent → View → Type 0
-SocketDispatches v f stamps fail r w =
-    SendsFrom (before_emit v f stamps).peer (before_emit v f stamps).view f stamps fail r w
+unfoldable pub SocketDispatches : {G : Type 0} → (G → ℕ → Type 0) → Option G → View → Facts → Bool → Sent → View
+    → Type 0
+SocketDispatches tells source v f fail r w =
+    SendsFrom tells source (before_emit v f (is_some source)).peer (before_emit v f (is_some source)).view f fail r w

@@ -1,6 +1,6 @@
 -- What an event of a pair is to each of its sockets.
 use Rattle.std.specs.Prelude.{◌≡◌, ◌⊎◌}
-use Rattle.sock_tcp.specs.SocketRun.{Counts, Step}
+use Rattle.tcp_laws.specs.SocketRun.{Counts, Step}
 use Rattle.sock_tcp.specs.View.{View}
 
 -- a call on the socket v leaves w, as the law on any list of calls has it (`Step`), whatever was counted before

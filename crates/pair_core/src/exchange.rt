@@ -74,7 +74,7 @@ pub(crate) fn dispatch<G: TsvalSource>(
     fail: bool,
 ) -> Result<Outcome, PairError>
     ensures step { IfOk result
-        (λ o. Dispatches side moment.entry.now fail o host.old (map stored_of segments.old.items) host.new
+        (λ o. Dispatches G.tells side moment.entry.now fail o host.old (map stored_of segments.old.items) host.new
         (map stored_of segments.new.items)) }
     ensures memory { OnErr result
         (IsUnchanged host.old (map stored_of segments.old.items) host.new (map stored_of segments.new.items)) }
@@ -152,7 +152,7 @@ pub(crate) fn deliver<G: TsvalSource>(
     requires there { index < length segments.old.items }
     requires released { host.old.released < 2 ^ 63 }
     requires taken { host.old.taken < 2 ^ 63 }
-    ensures step { IfOk result (λ o. DeliversAt (slice_get (map stored_of segments.old.items) index)
+    ensures step { IfOk result (λ o. DeliversAt G.tells (slice_get (map stored_of segments.old.items) index)
         emitter.released emitter.taken side moment.entry.now o host.old (map stored_of segments.old.items)
         host.new (map stored_of segments.new.items)) }
     ensures memory { OnErr result

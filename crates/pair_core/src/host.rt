@@ -3,11 +3,11 @@ ghost use Rattle.std.specs.Prelude.{◌≡◌, ◌+◌, ◌-◌, ◌≤◌, ◌<
 ghost use Rattle.std.specs.Option.{ForSome};
 ghost use Rattle.control_wire.specs.Fits.{FitsPacket};
 ghost use Rattle.control_wire.specs.Segment.{segment_of};
-ghost use Rattle.sock_tcp.specs.Process.{Accepts, processed, reply_of};
-ghost use Rattle.sock_tcp.specs.Replies.{Answers};
+ghost use Rattle.sock_tcp.specs.Process.{Accepts, generator_after, processed, reply_of};
+ghost use Rattle.sock_tcp.specs.Replies.{Answers, IsReplyStamp};
 ghost use Rattle.pair_core.specs.Moments.{facts_of};
 ghost use Rattle.pair_core.specs.Holding.{stored_of};
-ghost use Rattle.pair_core.specs.PairSteps.{IsStampOf, processed_at, stamps_after};
+ghost use Rattle.pair_core.specs.PairSteps.{processed_at};
 ghost use Rattle.pair_core.specs.Pieces.{SendsPiece, ReceivesPiece};
 ghost use Rattle.pair_core.specs.Recording.{Holds, FitsSent, SocketDispatches};
 
@@ -31,8 +31,8 @@ pub enum Opening {
     Connector,
 }
 
-// The type parameter is the socket's: so a source of timestamps, which is a function pointer, stands outside the value
-// that contracts see.
+// The type parameter is the socket's: contracts see the source of timestamps as a value of that type, since a function
+// pointer cannot stand in a value itself.
 #[derive(Debug, Drop)]
 pub(crate) struct Host<'a, G = Generator> {
     pub(crate) socket: Socket<'a, G>,
@@ -46,10 +46,9 @@ pub(crate) struct Host<'a, G = Generator> {
 }
 
 impl<'a, G> Model for Host<'a, G> {
-    ghost use Rattle.std.specs.Prelude.{is_some};
     ghost use Rattle.pair_core.specs.PairViews.{HostView};
 
-    ghost Value = { HostView };
+    ghost Value = { HostView G };
 
     ghost view = { λ h. record {
       control_block = h.socket.control_block;
@@ -60,7 +59,7 @@ impl<'a, G> Model for Host<'a, G> {
       released = h.released;
       taken = h.taken;
       closed = h.closed;
-      stamps = is_some h.socket.tsval_generator;
+      source = h.socket.tsval_generator;
     } };
 }
 
@@ -80,12 +79,43 @@ impl<'a> Host<'a> {
         requires rx { length rx.queue + length rx.spare ≤ 2 ^ 30 }
         requires tx { length tx.queue + length tx.spare ≤ 2 ^ 30 }
         requires generator { MatchOption generator (Unit {0}) (λ g. IsAlwaysCallable g) }
-        ensures { result ≡ new_host (fresh (receiving rx.entry) (queue_of tx.entry)) endpoint (is_some generator) }
+        ensures host { result ≡ new_host (fresh (receiving rx.entry) (queue_of tx.entry)) endpoint result.source }
+        ensures source { option_map (λ g. g.call) result.source ≡ generator }
     {
         let mut socket = Socket::new(rx, tx);
         socket.set_tsval_generator(generator);
         Host {
             socket,
+            endpoint,
+            opening: Opening::Unopened,
+            accepted: Vec::new(alloc),
+            handed_out: Vec::new(alloc),
+            released: 0,
+            taken: 0,
+            closed: false,
+        }
+    }
+}
+
+impl<'a, G> Host<'a, G> {
+    ghost use Rattle.std.specs.Prelude.{None};
+    ghost use Rattle.sock_core.specs.Received.{receiving};
+    ghost use Rattle.sock_tcp.specs.View.{fresh};
+    ghost use Rattle.sock_tcp.specs.Queue.{queue_of};
+    ghost use Rattle.pair_core.specs.PairViews.{new_host};
+
+    pub(crate) fn without_timestamps(
+        alloc: Global,
+        rx: SocketBuffer<'a>,
+        tx: SocketBuffer<'a>,
+        endpoint: IpEndpoint,
+    ) -> Host<'a, G>
+        requires rx { length rx.queue + length rx.spare ≤ 2 ^ 30 }
+        requires tx { length tx.queue + length tx.spare ≤ 2 ^ 30 }
+        ensures { result ≡ new_host (fresh (receiving rx.entry) (queue_of tx.entry)) endpoint None }
+    {
+        Host {
+            socket: Socket::closed(rx, tx, None),
             endpoint,
             opening: Opening::Unopened,
             accepted: Vec::new(alloc),
@@ -297,7 +327,7 @@ impl<'a, G: TsvalSource> Host<'a, G> {
     pub(crate) fn dispatch(&mut self, moment: &Moment, room: Vec<u8>, fail: bool) -> Sent
         requires empty { room.items ≡ [] }
         requires roomy { moment.now.ip_mtu ≤ vec_capacity room }
-        ensures table { HostDispatches moment.entry.now fail self.old result self.new }
+        ensures table { HostDispatches G.tells moment.entry.now fail self.old result self.new }
         ensures fits { FitsSent result }
     {
         let mut recorder = Recorder {
@@ -344,7 +374,7 @@ impl<'a, G: TsvalSource> Host<'a, G> {
         ensures view { self.new ≡ delivered_to self.old moment.entry.now (stored_of segment.now) }
         ensures bare { ForSome result (λ r. r.1.payload.now ≡ []) }
         ensures fits { ForSome (option_map reply_of result) (λ r. FitsPacket r.0 r.1) }
-        ensures reply { Answers (IsStampOf self.new.stamps (stored_of segment.now).segment.timestamp)
+        ensures reply { Answers (IsReplyStamp G.tells self.new.source (stored_of segment.now).segment.timestamp)
             (stored_of segment.now).ip (processed_by self.old moment.entry.now (stored_of segment.now)).reply
             (option_map reply_of result) }
     {
@@ -368,12 +398,12 @@ fn process<G: TsvalSource>(
     requires { Accepts socket.old.control_block (stored_of segment.now).ip (stored_of segment.now).segment }
     ensures view { socket.new.control_block
         ≡ (processed_at socket.old.control_block moment.entry.now (stored_of segment.now)).view }
-    ensures stamps { is_some socket.new.tsval_generator
-        ≡ stamps_after (is_some socket.old.tsval_generator) socket.old.control_block (stored_of segment.now).segment }
+    ensures generator { socket.new.tsval_generator
+        ≡ generator_after socket.old.control_block (stored_of segment.now).segment socket.old.tsval_generator }
     ensures bare { ForSome result (λ r. r.1.payload.now ≡ []) }
     ensures fits { ForSome (option_map reply_of result) (λ r. FitsPacket r.0 r.1) }
     ensures reply { Answers
-        (IsStampOf (is_some socket.new.tsval_generator) (stored_of segment.now).segment.timestamp)
+        (IsReplyStamp G.tells socket.new.tsval_generator (stored_of segment.now).segment.timestamp)
         (stored_of segment.now).ip
         (processed_at socket.old.control_block moment.entry.now (stored_of segment.now)).reply
         (option_map reply_of result) }

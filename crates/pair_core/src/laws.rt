@@ -20,7 +20,7 @@ ghost use Rattle.sock_tcp.specs.Process.{Accepts, processed};
 ghost use Rattle.sock_tcp.specs.Begin.{before_emit};
 ghost use Rattle.sock_tcp.specs.Content.{Sending, asked, offset_of, content};
 ghost use Rattle.sock_tcp.specs.Window.{receive_window};
-ghost use Rattle.sock_tcp.specs.Work.{IsReached};
+ghost use Rattle.tcp_laws.specs.Polling.{IsReached};
 ghost use Rattle.sock_tcp.specs.declared.tuple.Tuple.{Tuple};
 ghost use Rattle.pair_core.specs.NetworkRuns.{Reaches, start, unopened};
 ghost use Rattle.pair_core.specs.PairInvariant.{IsPair, IsSized};
@@ -40,6 +40,8 @@ ghost use Rattle.pair_core.specs.declared.event.Event.TheVariants.{Deliver};
 ghost use Rattle.pair_core.specs.declared.moment.Moment.{Moment};
 ghost use Rattle.pair_core.specs.declared.outcome.Outcome.{Outcome};
 ghost use Rattle.pair_core.specs.declared.side.Side.{Side};
+
+use sock_tcp::TsvalSource;
 
 /// What `process` does with a segment that the socket accepts, and what it answers, is one of its effects on the
 /// streams. The answer has any stamps.
@@ -99,15 +101,15 @@ pub fn read_shows()
 
 /// Of every pair, both ways: what one side handed out, followed by its receive queue, is a prefix of what the other
 /// accepted; acknowledgements released only bytes that the other took, and it took only bytes that were accepted.
-pub fn pairs_deliver_in_order()
-    ensures prefix { (p : PairView) → IsPair p → Prefix p }
-    ensures release { (p : PairView) → IsPair p → Release p }
+pub fn pairs_deliver_in_order<G>()
+    ensures prefix { (p : PairView G) → IsPair p → Prefix p }
+    ensures release { (p : PairView G) → IsPair p → Release p }
 {}
 
 /// A delivery that a side accepts, of a segment in order, appends the bytes of it that lie in the receive window to the
 /// receive queue before it returns, and behind them what was held there.
-pub fn pairs_deliver_at_once()
-    ensures { (i : ℕ) (m : Moment) (p q : PairView) (o : Outcome) → EventStep (Deliver i m) p o q
+pub fn pairs_deliver_at_once<G: TsvalSource>()
+    ensures { (i : ℕ) (m : Moment) (p q : PairView G) (o : Outcome) → EventStep G.tells (Deliver i m) p o q
         → IsPromptAt i m p o q }
 {}
 
@@ -124,36 +126,36 @@ pub fn in_window_is_that_of_places()
 
 /// Each event of a pair is a run of steps of the theorem on two streams, from the network that the pair shows to the
 /// one that it shows afterwards; and a new pair shows the network of two sockets that were never opened.
-pub fn events_are_runs()
-    ensures begins { (v w : View) (a b : IpEndpoint) (x y : Bool) (limit : Option ℕ)
+pub fn events_are_runs<G: TsvalSource>()
+    ensures begins { (v w : View) (a b : IpEndpoint) (x y : Option G) (limit : Option ℕ)
         → network_of (new_pair (new_host v a x) (new_host w b y) limit) ≡ start limit }
-    ensures step { (e : Event) (p : PairView) (o : Outcome) (q : PairView) → IsPair p → IsSized e p → EventStep e p o q
-        → Reaches (network_of p) (network_of q) }
+    ensures step { (e : Event) (p : PairView G) (o : Outcome) (q : PairView G) → IsPair p → IsSized e p
+        → EventStep G.tells e p o q → Reaches (network_of p) (network_of q) }
 {}
 
 /// What an event adds to the streams of each side is what its outcome says: `Accepted(n)` the first n bytes of a send,
 /// `Read` its bytes, any other outcome nothing. So it is with events in turn.
-pub fn outcomes_add_up()
-    ensures step { (e : Event) (p : PairView) (o : Outcome) (q : PairView) → EventStep e p o q
+pub fn outcomes_add_up<G: TsvalSource>()
+    ensures step { (e : Event) (p : PairView G) (o : Outcome) (q : PairView G) → EventStep G.tells e p o q
         → AddsUp p q (λ s. accepted_by s e o) (λ s. handed_out_by s e o) }
-    ensures run { (es : List Event) (p : PairView) (os : List Outcome) (q : PairView) → EventRun es p os q
+    ensures run { (es : List Event) (p : PairView G) (os : List Outcome) (q : PairView G) → EventRun G.tells es p os q
         → AddsUp p q (λ s. accepted_in s es os) (λ s. handed_out_in s es os) }
 {}
 
 /// Each event of a pair is one call on each of its sockets, or none, in the words of the law on any list of calls of
 /// one socket (`Step`). So each socket of a pair is what some list of calls makes of a new one.
-pub fn events_are_calls()
-    ensures step { (e : Event) (p : PairView) (o : Outcome) (q : PairView) → IsPair p → IsSized e p → EventStep e p o q
-        → (s : Side) → IsCalled (host_of s p).control_block (host_of s q).control_block }
-    ensures reached { (p : PairView) → IsPair p → (s : Side) → IsReached (host_of s p).control_block }
+pub fn events_are_calls<G: TsvalSource>()
+    ensures step { (e : Event) (p : PairView G) (o : Outcome) (q : PairView G) → IsPair p → IsSized e p
+        → EventStep G.tells e p o q → (s : Side) → IsCalled (host_of s p).control_block (host_of s q).control_block }
+    ensures reached { (p : PairView G) → IsPair p → (s : Side) → IsReached (host_of s p).control_block }
 {}
 
 /// Where a side of a pair is not CLOSED and has no work (`has_work`), the other side took every byte that it ever
 /// accepted, and all of them were acknowledged. So a pair whose connection lasts and whose sides both have no work has
 /// delivered all.
-pub fn no_work_means_taken()
-    ensures of_a { (p : PairView) → IsPair p → NoWorkMeansTaken p.a p.b }
-    ensures of_b { (p : PairView) → IsPair p → NoWorkMeansTaken p.b p.a }
+pub fn no_work_means_taken<G>()
+    ensures of_a { (p : PairView G) → IsPair p → NoWorkMeansTaken p.a p.b }
+    ensures of_b { (p : PairView G) → IsPair p → NoWorkMeansTaken p.b p.a }
 {
-    sock_tcp::poll::no_work_no_bytes()
+    tcp_laws::poll::no_work_no_bytes()
 }

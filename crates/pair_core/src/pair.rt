@@ -1,5 +1,5 @@
 //! Two sockets, and every segment that they emitted.
-ghost use Rattle.std.specs.Prelude.{◌≡◌, ◌+◌, ◌<◌, ◌≤◌, ◌^◌, length, IfOk, OnOk, OnErr, [], None, false, slice_get, MatchOption, is_some};
+ghost use Rattle.std.specs.Prelude.{◌≡◌, ◌+◌, ◌<◌, ◌≤◌, ◌^◌, length, IfOk, OnOk, OnErr, [], None, false, slice_get, MatchOption, option_map};
 
 use crate::event::Event;
 use crate::exchange::{deliver, dispatch};
@@ -45,7 +45,7 @@ impl<'a, G> Model for Pair<'a, G> {
     ghost use Rattle.pair_core.specs.Holding.{stored_of};
     ghost use Rattle.pair_core.specs.PairInvariant.{IsPair};
 
-    ghost Value = { PairView };
+    ghost Value = { PairView G };
 
     ghost view = { λ p. record { a = p.a; b = p.b; segments = map stored_of p.segments.items; limit = p.limit } };
 
@@ -79,14 +79,55 @@ impl<'a> Pair<'a> {
         requires a_generator { MatchOption a.generator (Unit {0}) (λ g. IsAlwaysCallable g) }
         requires b_generator { MatchOption b.generator (Unit {0}) (λ g. IsAlwaysCallable g) }
         requires limit { IsLimit limit }
-        ensures { result ≡ new_pair
-            (new_host (fresh (receiving a.entry.rx) (queue_of a.entry.tx)) a.entry.endpoint (is_some a.entry.generator))
-            (new_host (fresh (receiving b.entry.rx) (queue_of b.entry.tx)) b.entry.endpoint (is_some b.entry.generator))
-            limit }
+        ensures pair { result ≡ new_pair
+            (new_host (fresh (receiving a.entry.rx) (queue_of a.entry.tx)) a.entry.endpoint result.a.source)
+            (new_host (fresh (receiving b.entry.rx) (queue_of b.entry.tx)) b.entry.endpoint result.b.source) limit }
+        ensures a_source { option_map (λ g. g.call) result.a.source ≡ a.entry.generator }
+        ensures b_source { option_map (λ g. g.call) result.b.source ≡ b.entry.generator }
     {
         Pair {
             a: Host::new(alloc, a.rx, a.tx, a.endpoint, a.generator),
             b: Host::new(alloc, b.rx, b.tx, b.endpoint, b.generator),
+            segments: Vec::new(alloc),
+            limit,
+            alloc,
+        }
+    }
+}
+
+impl<'a, G> Pair<'a, G> {
+    ghost use Rattle.ip_wire.specs.Address.{SameVersion};
+    ghost use Rattle.sock_core.specs.Received.{receiving};
+    ghost use Rattle.sock_tcp.specs.View.{fresh};
+    ghost use Rattle.sock_tcp.specs.Queue.{queue_of};
+    ghost use Rattle.pair_core.specs.PairViews.{new_host, new_pair};
+    ghost use Rattle.pair_core.specs.PairInvariant.{IsReachable};
+    ghost use Rattle.pair_core.specs.NetworkInvariant.{IsLimit};
+
+    /// As `new`, of two sockets that never have a source of timestamps, whatever the setups say of that; so the type of
+    /// the sources may be any.
+    pub fn without_timestamps(
+        alloc: Global,
+        a: Setup<'a>,
+        b: Setup<'a>,
+        limit: Option<u32>,
+    ) -> Pair<'a, G>
+        requires a_rx { (a.rx.queue ≡ []) × (length a.rx.spare ≤ 2 ^ 30) }
+        requires a_tx { (a.tx.queue ≡ []) × (length a.tx.spare ≤ 2 ^ 30) }
+        requires b_rx { (b.rx.queue ≡ []) × (length b.rx.spare ≤ 2 ^ 30) }
+        requires b_tx { (b.tx.queue ≡ []) × (length b.tx.spare ≤ 2 ^ 30) }
+        requires a_reachable { IsReachable a.endpoint }
+        requires b_reachable { IsReachable b.endpoint }
+        requires versions { SameVersion a.endpoint.addr b.endpoint.addr }
+        requires different { a.endpoint ≡ b.endpoint → ⊥ }
+        requires limit { IsLimit limit }
+        ensures { result ≡ new_pair
+            (new_host (fresh (receiving a.entry.rx) (queue_of a.entry.tx)) a.entry.endpoint None)
+            (new_host (fresh (receiving b.entry.rx) (queue_of b.entry.tx)) b.entry.endpoint None) limit }
+    {
+        Pair {
+            a: Host::without_timestamps(alloc, a.rx, a.tx, a.endpoint),
+            b: Host::without_timestamps(alloc, b.rx, b.tx, b.endpoint),
             segments: Vec::new(alloc),
             limit,
             alloc,
@@ -264,7 +305,7 @@ impl<'a, G: TsvalSource> Pair<'a, G> {
 
     fn dispatch(&mut self, side: Side, moment: &Moment, fail: bool) -> Result<Outcome, PairError>
         ensures step { IfOk result
-            (λ o. OneSideAndSegments side self.old self.new (Dispatches side moment.entry.now fail o)) }
+            (λ o. OneSideAndSegments side self.old self.new (Dispatches G.tells side moment.entry.now fail o)) }
         ensures memory { OnErr result (self.new ≡ self.old) }
     {
         match side {
@@ -289,7 +330,7 @@ impl<'a, G: TsvalSource> Pair<'a, G> {
 
     fn deliver(&mut self, index: usize, moment: &Moment) -> Result<Outcome, PairError>
         ensures step { IfOk result
-            (λ o. Delivers (slice_get self.old.segments index) moment.entry.now self.old o self.new) }
+            (λ o. Delivers G.tells (slice_get self.old.segments index) moment.entry.now self.old o self.new) }
         ensures memory { OnErr result (self.new ≡ self.old) }
         ensures takes_memory { OnErr result (DeliveryTakesMemory (slice_get self.old.segments index) self.old) }
     {
@@ -383,7 +424,7 @@ impl<'a, G: TsvalSource> Pair<'a, G> {
     }
 
     fn perform(&mut self, event: &Event) -> Result<Outcome, PairError>
-        ensures step { IfOk result (λ o. EventStep event.entry.now self.old o self.new) }
+        ensures step { IfOk result (λ o. EventStep G.tells event.entry.now self.old o self.new) }
         ensures prompt { IfOk result (λ o. Prompt event.entry.now self.old o self.new) }
         ensures memory { OnErr result (self.new ≡ self.old) }
         ensures takes_memory { OnErr result (TakesMemory event.entry.now self.old) }
@@ -417,7 +458,7 @@ impl<'a, G: TsvalSource> Pair<'a, G> {
     /// `Memory` where a growth was refused; the pair is then as it was. `Listen`, `Connect`, `Close`, `Abort` and
     /// `Set` take no memory, nor does an event that comes to one of the last five outcomes.
     pub fn step(&mut self, event: &Event) -> Result<Outcome, PairError>
-        ensures step { IfOk result (λ o. EventStep event.entry.now self.old o self.new) }
+        ensures step { IfOk result (λ o. EventStep G.tells event.entry.now self.old o self.new) }
         ensures adds { IfOk result (λ o. AddsUp self.old self.new (λ s. accepted_by s event.entry.now o)
             (λ s. handed_out_by s event.entry.now o)) }
         ensures streams { Reaches (network_of self.old) (network_of self.new) }
@@ -446,7 +487,7 @@ impl<'a, G: TsvalSource> Pair<'a, G> {
         ensures streams { Reaches (network_of self.old) (network_of self.new) }
         ensures prefix { Prefix self.new }
         ensures release { Release self.new }
-        ensures done { Ran events.now self.old outcomes.old.items outcomes.new.items self.new }
+        ensures done { Ran G.tells events.now self.old outcomes.old.items outcomes.new.items self.new }
         ensures all { OnOk result (length outcomes.new.items ≡ length outcomes.old.items + length events.now) }
         ensures memory { OnErr result (length outcomes.new.items < length outcomes.old.items + length events.now) }
     {

@@ -1,7 +1,7 @@
 //! Two sockets of a pair: a source of timestamps, closures that take nothing, settings.
 ghost use Rattle.std.specs.Prelude.{◌≡◌, ◌≤◌, ◌^◌, [], MatchOption, length};
 
-use control_wire::{TcpControl, TcpSeqNumber, TcpTimestampGenerator};
+use control_wire::{TcpControl, TcpSeqNumber, TcpTimestampGenerator, TcpTimestampRepr};
 use ip_wire::{IpAddress, IpEndpoint, Ipv4Address};
 use net_base::ring_buffer::RingBuffer;
 use net_base::time::{Duration, Instant};
@@ -22,14 +22,23 @@ const B: IpEndpoint = IpEndpoint {
     port: 80,
 };
 
-fn clock() -> u32 {
+fn clock_of_a() -> u32 {
     7
 }
 
-fn source(is_there: bool) -> Option<TcpTimestampGenerator>
+fn clock_of_b() -> u32 {
+    9
+}
+
+// Each side has its own.
+fn source(is_there: bool, side: Side) -> Option<TcpTimestampGenerator>
     ensures { MatchOption result (Unit {0}) (λ g. IsAlwaysCallable g) }
 {
-    if is_there { Some(clock) } else { None }
+    match (is_there, side) {
+        (false, _) => None,
+        (true, Side::A) => Some(clock_of_a),
+        (true, Side::B) => Some(clock_of_b),
+    }
 }
 
 // A side with empty buffers, and with a source of timestamps or without one.
@@ -38,8 +47,9 @@ fn side<'a>(
     tx: &'a mut [u8; 2000],
     sizes: (usize, usize),
     endpoint: IpEndpoint,
-    has_clock: bool,
+    generator: Option<TcpTimestampGenerator>,
 ) -> Setup<'a>
+    requires { MatchOption generator (Unit {0}) (λ g. IsAlwaysCallable g) }
     ensures rx { (result.rx.queue ≡ []) × (length result.rx.spare ≤ 2 ^ 30) }
     ensures tx { (result.tx.queue ≡ []) × (length result.tx.spare ≤ 2 ^ 30) }
     ensures endpoint { result.endpoint ≡ endpoint }
@@ -49,7 +59,7 @@ fn side<'a>(
         rx: RingBuffer::new(&mut rx[..sizes.0.min(2000)]),
         tx: RingBuffer::new(&mut tx[..sizes.1.min(2000)]),
         endpoint,
-        generator: source(has_clock),
+        generator,
     }
 }
 
@@ -74,15 +84,27 @@ impl Room {
 
     // Two sides with buffers of `size` bytes, and with a source of timestamps where `clocks` says so.
     pub(crate) fn pair(&mut self, alloc: Global, size: usize, clocks: (bool, bool)) -> Pair<'_> {
-        let a = side(&mut self.arx, &mut self.atx, (size, size), A, clocks.0);
-        let b = side(&mut self.brx, &mut self.btx, (size, size), B, clocks.1);
+        let a = side(
+            &mut self.arx,
+            &mut self.atx,
+            (size, size),
+            A,
+            source(clocks.0, Side::A),
+        );
+        let b = side(
+            &mut self.brx,
+            &mut self.btx,
+            (size, size),
+            B,
+            source(clocks.1, Side::B),
+        );
         Pair::new(alloc, a, b, Some(2000))
     }
 
     // B's receive buffer has `size` bytes, the others have 64; without any source of timestamps.
     pub(crate) fn narrow_pair(&mut self, alloc: Global, size: usize) -> Pair<'_> {
-        let a = side(&mut self.arx, &mut self.atx, (64, 64), A, false);
-        let b = side(&mut self.brx, &mut self.btx, (size, 64), B, false);
+        let a = side(&mut self.arx, &mut self.atx, (64, 64), A, None);
+        let b = side(&mut self.brx, &mut self.btx, (size, 64), B, None);
         Pair::new(alloc, a, b, Some(2000))
     }
 
@@ -188,8 +210,8 @@ fn has_timestamps(pair: &Pair<'_>, side: Side) -> bool {
     pair.socket(side).timestamp_enabled()
 }
 
-// Whether the segment of this index has so many bytes of the stream's beginning, and a timestamp.
-fn is_full(pair: &Pair<'_>, index: usize, len: usize, has_timestamp: bool) -> bool {
+// Whether the segment of this index has so many bytes of the stream's beginning, and this timestamp.
+fn is_full(pair: &Pair<'_>, index: usize, len: usize, timestamp: Option<TcpTimestampRepr>) -> bool {
     match pair.segments().get(index) {
         None => false,
         Some(stored) => {
@@ -197,7 +219,7 @@ fn is_full(pair: &Pair<'_>, index: usize, len: usize, has_timestamp: bool) -> bo
             repr.seq_number == TcpSeqNumber(1001)
                 && repr.payload.len() == len
                 && repr.control == TcpControl::None
-                && repr.timestamp.is_some() == has_timestamp
+                && repr.timestamp == timestamp
         }
     }
 }
@@ -209,24 +231,25 @@ fn sends_a_full_segment(
     pair: &mut Pair<'_>,
     bytes: Vec<u8>,
     len: usize,
-    has_timestamp: bool,
+    timestamp: Option<TcpTimestampRepr>,
 ) {
     opens(rt, pair);
     sends(rt, pair, bytes, 1500);
     emits(rt, pair, Side::A, 3);
     is_quiet(rt, pair, Side::A);
-    assert!(rt; is_full(pair, 3, len, has_timestamp));
-    assert!(rt; has_timestamps(pair, Side::A) == has_timestamp);
+    assert!(rt; is_full(pair, 3, len, timestamp));
+    assert!(rt; has_timestamps(pair, Side::A) == timestamp.is_some());
 }
 
-// A timestamp takes 12 bytes of each segment.
+// A timestamp takes 12 bytes of each segment: A's has the value of its own source, and echoes that of B's.
 #[test]
 fn timestamps_shrink_the_segment(rt: HostRuntime) -> Result<(), Fail> {
     let alloc = rt.alloc();
     let bytes = Vec::from_slice(alloc, &[b'x'; 1500])?;
     let mut room = Room::new();
     let mut pair = room.pair(alloc, 2000, (true, true));
-    sends_a_full_segment(&rt, &mut pair, bytes, 1448, true);
+    let stamp = TcpTimestampRepr { tsval: 7, tsecr: 9 };
+    sends_a_full_segment(&rt, &mut pair, bytes, 1448, Some(stamp));
     Ok(())
 }
 
@@ -236,7 +259,7 @@ fn timestamps_need_both_sides(rt: HostRuntime) -> Result<(), Fail> {
     let bytes = Vec::from_slice(alloc, &[b'x'; 1500])?;
     let mut room = Room::new();
     let mut pair = room.pair(alloc, 2000, (true, false));
-    sends_a_full_segment(&rt, &mut pair, bytes, 1460, false);
+    sends_a_full_segment(&rt, &mut pair, bytes, 1460, None);
     Ok(())
 }
 

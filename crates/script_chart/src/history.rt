@@ -1,7 +1,7 @@
 //! What came of a script, step by step.
 
-use sock_pair::script::End;
 use sock_pair::script::lines::Lines;
+use sock_pair::script::{End, NoTimestamps};
 use sock_pair::{Event, Moment, Outcome, Pair, Side};
 use sock_tcp::State;
 
@@ -95,7 +95,7 @@ fn millis(moment: &Moment) -> u64 {
 /// Performs the events in turn, up to the first for which there is no memory, and notes what each came to. `lines` are
 /// those of the events.
 pub fn run<'e>(
-    pair: &mut Pair<'_>,
+    pair: &mut Pair<'_, NoTimestamps>,
     events: &'e [Event],
     lines: &mut Lines<'_>,
     steps: &mut Vec<Step<'e>>,
@@ -136,6 +136,6 @@ fn noted_step<'e>(
     }
 }
 
-fn states(pair: &Pair<'_>) -> (State, State) {
+fn states(pair: &Pair<'_, NoTimestamps>) -> (State, State) {
     (pair.socket(Side::A).state(), pair.socket(Side::B).state())
 }

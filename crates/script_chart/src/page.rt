@@ -1,6 +1,6 @@
 //! Where things stand on the page. Each event has a row of one height, so no two of them overlap; in a row the number
-//! of the script's line and the time stand at the left, then what side a does, the lifeline of a, the labels of segments,
-//! the lifeline of b, and what b does. After so many rows comes one that has the sides' names again.
+//! of the script's line and the time stand at the left, then what side a does, the lifeline of a, the labels of
+//! segments, the lifeline of b, and what b does. After so many rows comes one that has the sides' names again.
 ghost use Rattle.std.specs.Prelude.{◌≡◌, ◌+◌, ◌<◌, ◌≤◌, ◌^◌};
 
 use sock_pair::Side;

@@ -6,7 +6,7 @@ use crate::numbers::Numbers;
 use crate::picture::Picture;
 use crate::{chart, sequence};
 use sock_pair::script::lines::Lines;
-use sock_pair::script::{Buffers, End, Script, ScriptError, begin, parse};
+use sock_pair::script::{Buffers, End, NoTimestamps, Script, ScriptError, begin, parse};
 use sock_pair::{Event, Pair};
 use std::alloc::Global;
 use std::io::Write;
@@ -53,7 +53,7 @@ fn play<W: Write>(alloc: Global, text: &[u8], script: &Script, picture: Picture,
 // Runs the events, whose lines these are, and draws them.
 fn draw_events<W: Write>(
     alloc: Global,
-    pair: &mut Pair<'_>,
+    pair: &mut Pair<'_, NoTimestamps>,
     events: &[Event],
     lines: &mut Lines<'_>,
     picture: Picture,

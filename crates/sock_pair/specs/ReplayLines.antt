@@ -86,11 +86,11 @@ closing_text name state accepted handed_out queued =
     ++ ((codes " queued " ++ decimal queued) ++ (10 ∷ [])))))
 
 -- the closing line of a side
-abbrev pub side_line : Side → PairView → List ℕ
+abbrev pub side_line : {G : Type 0} → Side → PairView G → List ℕ
 side_line s p =
     let host = host_of s p in
     closing_text (side_text s) (state_text host.control_block.state) (length host.accepted) (length host.handed_out)
     (length host.control_block.rx_buffer.bytes)
 
-abbrev pub side_lines : PairView → List ℕ
+abbrev pub side_lines : {G : Type 0} → PairView G → List ℕ
 side_lines p = side_line A p ++ side_line B p

@@ -1,5 +1,5 @@
 -- What a replay writes, by how it ends.
-use Rattle.std.specs.Prelude.{false, ◌≡◌, ℕ, ◌<◌, List, [], ◌∷◌, ◌++◌, length, replicate, Option, None, Ok, Err, IfSome, ◌⊎◌, slice_index}
+use Rattle.std.specs.Prelude.{◌≡◌, ℕ, ◌<◌, List, [], ◌∷◌, ◌++◌, length, replicate, Option, None, Ok, Err, IfSome, ◌⊎◌, slice_index}
 use Rattle.std.specs.Io.KnownBytes.{Appends}
 use Rattle.ip_wire.specs.declared.address.IpAddress.TheVariants as address
 use Rattle.ip_wire.specs.declared.endpoint.IpEndpoint.{IpEndpoint}
@@ -30,43 +30,48 @@ empty_receiver n = received [] (replicate n None) n
 abbrev pub empty_queue : ℕ → Queue
 empty_queue n = record { bytes = []; window = n; until_end = n }
 
-abbrev pub begun_host : ℕ → ℕ → IpEndpoint → HostView
-begun_host rx tx e = new_host (fresh (empty_receiver rx) (empty_queue tx)) e false
+abbrev pub begun_host : {G : Type 0} → ℕ → ℕ → IpEndpoint → HostView G
+begun_host rx tx e = new_host (fresh (empty_receiver rx) (empty_queue tx)) e None
 
--- two closed sockets with buffers of these sizes
-abbrev pub begun : ℕ → ℕ → ℕ → ℕ → Option ℕ → PairView
+-- two closed sockets with buffers of these sizes and no source of timestamps
+abbrev pub begun : {G : Type 0} → ℕ → ℕ → ℕ → ℕ → Option ℕ → PairView G
 begun arx atx brx btx limit = new_pair (begun_host arx atx endpoint_a) (begun_host brx btx endpoint_b) limit
 
 -- what a script begins with
-abbrev pub begun_of : Script → PairView
+abbrev pub begun_of : {G : Type 0} → Script → PairView G
 begun_of s = begun (slice_index s.sizes 0) (slice_index s.sizes 1) (slice_index s.sizes 2)
     (slice_index s.sizes 3) s.limit
 
 -- every event was done, the pair is q then, and a line for each outcome and the closing lines were written
-pub record IsPlayed (events : List Event) (p q : PairView) (old new : Option (List ℕ)) : Type 0 where
+pub record IsPlayed {G : Type 0} (tells : G → ℕ → Type 0) (events : List Event) (p q : PairView G)
+    (old new : Option (List ℕ)) : Type 0 where
   pub outcomes : List Outcome
-  pub ran : Ran events p [] outcomes q
+  pub ran : Ran tells events p [] outcomes q
   pub all : length outcomes ≡ length events
   pub written : Appends old new (outcome_lines q.segments outcomes ++ side_lines q)
 
 -- some first events were done, the pair is q then, and a line for each of their outcomes was written
-pub record IsPlayedInPart (events : List Event) (p q : PairView) (old new : Option (List ℕ)) : Type 0 where
+pub record IsPlayedInPart {G : Type 0} (tells : G → ℕ → Type 0) (events : List Event) (p q : PairView G)
+    (old new : Option (List ℕ)) : Type 0 where
   pub outcomes : List Outcome
-  pub ran : Ran events p [] outcomes q
+  pub ran : Ran tells events p [] outcomes q
   pub fewer : length outcomes < length events
   pub written : Appends old new (outcome_lines q.segments outcomes)
 
 -- what a run wrote that ended so, and left the pair as q. What had gone out when a write failed is not said
-abbrev pub PlaysTo : List Event → PairView → PairView → End → Option (List ℕ) → Option (List ℕ) → Type 0
-PlaysTo events p q end.Done old new = IsPlayed events p q old new
-PlaysTo events p q end.Memory old new = IsPlayedInPart events p q old new
-PlaysTo events p q _ old new = Unit {0}
+abbrev pub PlaysTo : {G : Type 0} → (G → ℕ → Type 0) → List Event → PairView G → PairView G → End → Option (List ℕ)
+    → Option (List ℕ) → Type 0
+PlaysTo tells events p q end.Done old new = IsPlayed tells events p q old new
+PlaysTo tells events p q end.Memory old new = IsPlayedInPart tells events p q old new
+PlaysTo tells events p q _ old new = Unit {0}
 
 -- the same with the room for the buffers, where memory may run out first
-abbrev pub Plays : List Event → PairView → End → Option (List ℕ) → Option (List ℕ) → Type 0
-Plays events p end.Done old new = (q : PairView) × IsPlayed events p q old new
-Plays events p end.Memory old new = Appends old new [] ⊎ ((q : PairView) × IsPlayedInPart events p q old new)
-Plays events p _ old new = Unit {0}
+abbrev pub Plays : {G : Type 0} → (G → ℕ → Type 0) → List Event → PairView G → End → Option (List ℕ) → Option (List ℕ)
+    → Type 0
+Plays tells events p end.Done old new = (q : PairView _) × IsPlayed tells events p q old new
+Plays tells events p end.Memory old new =
+    Appends old new [] ⊎ ((q : PairView _) × IsPlayedInPart tells events p q old new)
+Plays tells events p _ old new = Unit {0}
 
 -- the script that the text is, where the reader tells it
 abbrev pub IsScript : Option (List ℕ) → Script → Type 0
@@ -74,10 +79,12 @@ IsScript text s = IfSome text (λ t. script_of t ≡ Ok (script_value s))
 
 -- What a replay writes: nothing where the reader failed or the text is no script. Where memory ran out, nothing if that
 -- was before the run, and else the lines of the events that the run did
-abbrev pub Replays : Option (List ℕ) → End → Option (List ℕ) → Option (List ℕ) → Type 0
-Replays text end.Done old new = (s : Script) × IsScript text s × Plays s.events.items (begun_of s) end.Done old new
-Replays text (end.Script e) old new = IfSome text (λ t. script_of t ≡ Err e) × Appends old new []
-Replays text end.Read old new = Appends old new []
-Replays text end.Write old new = Unit {0}
-Replays text end.Memory old new =
-    Appends old new [] ⊎ ((s : Script) × IsScript text s × Plays s.events.items (begun_of s) end.Memory old new)
+abbrev pub Replays : {G : Type 0} → (G → ℕ → Type 0) → Option (List ℕ) → End → Option (List ℕ) → Option (List ℕ)
+    → Type 0
+Replays tells text end.Done old new =
+    (s : Script) × IsScript text s × Plays tells s.events.items (begun_of s) end.Done old new
+Replays tells text (end.Script e) old new = IfSome text (λ t. script_of t ≡ Err e) × Appends old new []
+Replays tells text end.Read old new = Appends old new []
+Replays tells text end.Write old new = Unit {0}
+Replays tells text end.Memory old new =
+    Appends old new [] ⊎ ((s : Script) × IsScript text s × Plays tells s.events.items (begun_of s) end.Memory old new)

@@ -26,8 +26,9 @@ use lines::Lines;
 pub use output::flags;
 use pair_core::Event;
 use pair_line::{PairLine, read_pair_line};
-pub use play::{Buffers, begin};
+pub use play::{Buffers, NoTimestamps, begin};
 use play::{play, read_all};
+use sock_tcp::TsvalSource;
 use std::alloc::Global;
 pub use stream::{Sink, Source, StreamFault};
 
@@ -87,7 +88,8 @@ pub fn replay<R: Source, W: Sink>(alloc: Global, reader: &mut R, writer: &mut W)
     requires reader { R.has_failed reader.old ≡ false }
     requires writer { W.has_failed writer.old ≡ false }
     ensures failed { LeavesStreams result (R.has_failed reader.new) (W.has_failed writer.new) }
-    ensures written { Replays (R.remaining reader.old) result (W.contents writer.old) (W.contents writer.new) }
+    ensures written { Replays ⟦<NoTimestamps as TsvalSource>⟧.tells (R.remaining reader.old) result
+        (W.contents writer.old) (W.contents writer.new) }
 {
     let text = match read_all(alloc, reader) {
         Ok(text) => text,

@@ -3,24 +3,7 @@ pub mod Windows
 pub mod Fitting
 pub mod FittingReplies
 pub mod Beginning
-pub mod Polling
-pub mod PayloadWindows
 pub mod Emitting
 pub mod Lending
 pub mod Sending
-pub mod Frames
-pub mod Receiving
-pub mod Releasing
-pub mod DispatchFrames
-pub mod PayloadParts
-pub mod SocketSteps
-pub mod CallsAsSteps
-pub mod SegmentsAsSteps
-pub mod BytesAtPlaces
-pub mod Guards
-pub mod Ordered
-pub mod OrderedSegments
-pub mod OrderedSendings
-pub mod OrderedCalls
-pub mod Sleeping
 mod SoundParts

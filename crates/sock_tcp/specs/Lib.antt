@@ -23,8 +23,5 @@ pub mod Dispatch
 pub mod Poll
 pub mod Texts
 pub mod Outgoing
-pub mod Laws
-pub mod SocketRun
-pub mod SocketBytes
 pub mod Work
 pub mod Parts

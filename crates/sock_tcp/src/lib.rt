@@ -1,4 +1,14 @@
 //! The TCP socket of smoltcp (RFC 9293).
+//!
+//! What to read first, some twenty lines each, in `specs`:
+//!
+//! - `advance_in` in `Advance.antt`: the state table, a row for each state and control bit.
+//! - `processed` and what stands above it in `Process.antt`, read from the end: the rules of `process` in their order.
+//! - `Accepts` in `Process.antt` and `verdict_of` in `Verdict.antt`: which segments get that far.
+//! - `content` in `Content.antt` and `before_emit` in `Begin.antt`: what `dispatch` sends, and what it does before.
+//! - `View` in `View.antt`: the fields that all of these speak of.
+//!
+//! The other files are the parts of these. What follows for any list of calls is in the crate `tcp_laws`.
 #![tactic(auto)]
 
 pub mod acked;
@@ -12,7 +22,6 @@ mod due;
 pub mod emission;
 pub mod error;
 pub mod generator;
-pub mod laws;
 pub mod measures;
 mod open;
 pub mod parts;

@@ -6,7 +6,6 @@ use crate::PollAt;
 use crate::tcp::*;
 use crate::time::Instant;
 use crate::wire::{IpRepr, TcpRepr};
-use sock_tcp::poll::{dispatch_early, payload_keeps_to_windows, poll_at_hides_nothing};
 use std::process::Abort;
 use std::test::Fail;
 
@@ -16,17 +15,12 @@ fn a_dispatch_before_its_moment_emits_nothing(rt: HostRuntime) -> Result<(), Fai
     let mut tx = [0u8; 4];
     let mut cx = Host::at(0, 1000);
     let mut socket = Tcp::new(&mut rx, &mut tx);
-    let early = match socket.0.poll_at(&cx) {
-        PollAt::Ingress => dispatch_early(
-            &mut socket.0,
-            &mut cx,
-            |_: &mut Host, _sent: (IpRepr, TcpRepr<'_>)| -> Result<(), u8> { Err(1) },
-        ),
-        _ => Err(2),
-    };
+    assert!(rt; socket.poll_at(&cx) == PollAt::Ingress);
+    let early = socket.0.dispatch(
+        &mut cx,
+        |_: &mut Host, _sent: (IpRepr, TcpRepr<'_>)| -> Result<(), u8> { Err(1) },
+    );
     assert!(rt; early == Ok(()));
-    poll_at_hides_nothing();
-    payload_keeps_to_windows();
     Ok(())
 }
 

@@ -7,6 +7,7 @@ ghost use Rattle.sock_pair.specs.ReplayStreams.{Takes};
 use crate::script::stream::{Sink, StreamFault};
 use control_wire::{TcpControl, TcpSeqNumber};
 use pair_core::{Outcome, Pair, Segment, Side};
+use sock_tcp::TsvalSource;
 
 fn put<W: Sink>(sink: &mut W, text: &str) -> Result<(), StreamFault>
     requires { W.has_failed sink.old ≡ false }
@@ -252,7 +253,11 @@ fn put_closing<W: Sink>(
 
 // The closing line of a side: its state, and how many bytes it accepted, handed out and has in its
 // receive queue.
-fn write_side<W: Sink>(sink: &mut W, pair: &Pair<'_>, side: Side) -> Result<(), StreamFault>
+fn write_side<W: Sink, G: TsvalSource>(
+    sink: &mut W,
+    pair: &Pair<'_, G>,
+    side: Side,
+) -> Result<(), StreamFault>
     requires { W.has_failed sink.old ≡ false }
     ensures { Takes (W.contents sink.old) result (side_line side pair.now) (W.contents sink.new)
         (W.has_failed sink.new) }
@@ -266,7 +271,10 @@ fn write_side<W: Sink>(sink: &mut W, pair: &Pair<'_>, side: Side) -> Result<(), 
 
 /// Writes the closing lines of a and of b.
 #[tactic(auto, using(crate::proofs::ReplaySinks::takes_after))]
-pub fn write_sides<W: Sink>(sink: &mut W, pair: &Pair<'_>) -> Result<(), StreamFault>
+pub fn write_sides<W: Sink, G: TsvalSource>(
+    sink: &mut W,
+    pair: &Pair<'_, G>,
+) -> Result<(), StreamFault>
     requires { W.has_failed sink.old ≡ false }
     ensures { Takes (W.contents sink.old) result (side_lines pair.now) (W.contents sink.new) (W.has_failed sink.new) }
 {

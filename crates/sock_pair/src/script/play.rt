@@ -12,7 +12,7 @@ use crate::script::output::{write_outcomes, write_sides};
 use crate::script::stream::{Sink, Source};
 use ip_wire::{IpAddress, IpEndpoint, Ipv4Address};
 use pair_core::{Event, Pair, Setup};
-use sock_tcp::SocketBuffer;
+use sock_tcp::{SocketBuffer, TsvalSource};
 use std::alloc::{AllocError, Global};
 
 const ENDPOINT_A: IpEndpoint = IpEndpoint {
@@ -51,8 +51,8 @@ pub fn play<W: Sink>(alloc: Global, script: &Script, writer: &mut W) -> End
     requires fresh { W.has_failed writer.old ≡ false }
     requires playable { IsPlayable script.now.sizes script.now.limit }
     ensures failed { StopsWriting result (W.has_failed writer.new) }
-    ensures written { Plays script.now.events.items (begun_of script.now) result (W.contents writer.old)
-        (W.contents writer.new) }
+    ensures written { Plays ⟦<NoTimestamps as TsvalSource>⟧.tells script.now.events.items (begun_of script.now)
+        result (W.contents writer.old) (W.contents writer.new) }
 {
     let Ok(buffers) = Buffers::new(alloc, script.sizes) else {
         return End::Memory;
@@ -70,10 +70,16 @@ pub fn play<W: Sink>(alloc: Global, script: &Script, writer: &mut W) -> End
 }
 
 // Runs the events and writes their lines and, where all were done, the closing lines.
-fn run_events<W: Sink>(alloc: Global, pair: &mut Pair<'_>, events: &[Event], writer: &mut W) -> End
+fn run_events<W: Sink>(
+    alloc: Global,
+    pair: &mut Pair<'_, NoTimestamps>,
+    events: &[Event],
+    writer: &mut W,
+) -> End
     requires { W.has_failed writer.old ≡ false }
     ensures failed { StopsWriting result (W.has_failed writer.new) }
-    ensures written { PlaysTo events.now pair.old pair.new result (W.contents writer.old) (W.contents writer.new) }
+    ensures written { PlaysTo ⟦<NoTimestamps as TsvalSource>⟧.tells events.now pair.old pair.new result
+        (W.contents writer.old) (W.contents writer.new) }
 {
     let mut outcomes = Vec::new(alloc);
     let ran = pair.run(events, &mut outcomes);
@@ -85,6 +91,18 @@ fn run_events<W: Sink>(alloc: Global, pair: &mut Pair<'_>, events: &[Event], wri
             Ok(()) => End::Done,
             Err(_) => End::Write,
         },
+    }
+}
+
+/// The type of the source of timestamps that a script's sockets do not have.
+#[derive(Debug, Clone, Copy)]
+pub struct NoTimestamps;
+
+impl TsvalSource for NoTimestamps {
+    ghost tells = { λ s t. t ≡ 0 };
+
+    fn tsval(&self) -> u32 {
+        0
     }
 }
 
@@ -129,7 +147,7 @@ pub fn begin<'a>(
     brx: &'a mut [u8],
     btx: &'a mut [u8],
     limit: Option<u32>,
-) -> Pair<'a>
+) -> Pair<'a, NoTimestamps>
     requires arx { length arx.now ≤ 1048576 }
     requires atx { length atx.now ≤ 1048576 }
     requires brx { length brx.now ≤ 1048576 }
@@ -140,7 +158,7 @@ pub fn begin<'a>(
 {
     let a = setup(arx, atx, ENDPOINT_A);
     let b = setup(brx, btx, ENDPOINT_B);
-    Pair::new(alloc, a, b, limit)
+    Pair::without_timestamps(alloc, a, b, limit)
 }
 
 fn setup<'a>(rx: &'a mut [u8], tx: &'a mut [u8], endpoint: IpEndpoint) -> Setup<'a>

@@ -4,11 +4,11 @@ use Rattle.ip_wire.specs.declared.repr.IpRepr.{IpRepr}
 use Rattle.control_wire.specs.Segment.{Segment}
 use Rattle.control_wire.specs.declared.tcp.TcpControl.TheVariants as control
 use Rattle.sock_tcp.specs.Process.{Accepts, reply_of}
-use Rattle.sock_tcp.specs.Replies.{Answers}
+use Rattle.sock_tcp.specs.Replies.{Answers, IsReplyStamp}
 use Rattle.pair_core.specs.declared.outcome.Outcome.TheVariants as outcome
 use Rattle.pair_core.specs.declared.segment.Segment.{Segment as Owned}
 use Rattle.pair_core.specs.Holding.{stored_of, kept_at}
-use Rattle.pair_core.specs.PairSteps.{delivered_to, processed_by, refusal_of, reply_index, IsStampOf}
+use Rattle.pair_core.specs.PairSteps.{delivered_to, processed_by, refusal_of, reply_index}
 use Rattle.pair_core.specs.PairViews.{HostView}
 use Rattle.pair_core.proofs.Deliveries.{get_map, read_twice, delivers, refused_by, refuses, takes_room}
 use Rattle.pair_core.proofs.exchange.deliver.Goals.{else-not-accepted-via-then-not-accepted+else-eq, else-not-accepted-via-else-not-accepted}
@@ -22,7 +22,7 @@ returns-then-eq-clause-step g c =
     let h = c.args.host.now in
     let is : t.segment.control ≡ control.Rst = search rules in
     let none : refusal_of t ≡ None = refused_by control.Rst t is in
-    refuses (map stored_of items) c.args.index t (get_map stored_of items c.args.index c.index-segment.result.now c.requires.there ∙ ap (λ x. Some (stored_of x)) (sym c.index-segment.ensures))
+    refuses g.G.TsvalSource.tells (map stored_of items) c.args.index t (get_map stored_of items c.args.index c.index-segment.result.now c.requires.there ∙ ap (λ x. Some (stored_of x)) (sym c.index-segment.ensures))
     c.args.emitter.released c.args.emitter.taken c.args.side c.args.moment.now h (outcome.NotAccepted None) h (map stored_of items)
     (sym c.too_old.ensures ∙ c.if-too_old.false)
     (λ a. let no : false ≡ true = sym c.if-not-accepted.true ∙ c.accepts-accepted.ensures.1 a in cc)
@@ -39,7 +39,7 @@ returns-in-Err-clause-takes_memory g c =
       | else-not-accepted-via-then-not-accepted+else-eq w ↦ inr (λ e. let no : true ≡ false = search rules in cc)
       | else-not-accepted-via-else-not-accepted w ↦ inl (c.accepts-accepted.ensures.0 (search rules))
     ] in
-    takes_room (map stored_of items) c.args.index t (get_map stored_of items c.args.index c.index-segment.result.now c.requires.there ∙ ap (λ x. Some (stored_of x)) (sym c.index-segment.ensures))
+    takes_room g.G.TsvalSource.tells (map stored_of items) c.args.index t (get_map stored_of items c.args.index c.index-segment.result.now c.requires.there ∙ ap (λ x. Some (stored_of x)) (sym c.index-segment.ensures))
     c.args.emitter.released c.args.emitter.taken c.args.side c.args.moment.now h
     (sym c.too_old.ensures ∙ c.if-too_old.false) room
 
@@ -51,12 +51,12 @@ returns-then-accepted-clause-step g c =
     let m = c.args.moment.now in
     let r : Option (IpRepr × Segment) = option_map reply_of c.deliver-reply.result in
     let same : c.index.result.now ≡ first = read_twice items c.reserve.new.self.items c.args.index first c.index.result.now c.requires.there c.reserve.ensures.items c.index-segment.ensures c.index.ensures in
-    delivers (map stored_of items) c.args.index (stored_of first) (get_map stored_of items c.args.index first c.requires.there ∙ ap (λ x. Some (stored_of x)) (sym c.index-segment.ensures))
+    delivers g.G.TsvalSource.tells (map stored_of items) c.args.index (stored_of first) (get_map stored_of items c.args.index first c.requires.there ∙ ap (λ x. Some (stored_of x)) (sym c.index-segment.ensures))
     c.args.emitter.released c.args.emitter.taken c.args.side m h (outcome.Delivered c.store_reply.result) c.deliver-reply.new.self (map stored_of c.store_reply.new.segments.items) r
     (sym c.too_old.ensures ∙ c.if-too_old.false)
     (c.accepts-accepted.ensures.0 c.if-accepted.true)
     (c.deliver-reply.ensures.view ∙ ap (λ (x : Owned). delivered_to h m (stored_of x)) same)
-    (subst (λ (x : Owned). Answers (IsStampOf (delivered_to h m (stored_of x)).stamps (stored_of x).segment.timestamp) (stored_of x).ip (processed_by h m (stored_of x)).reply r) same (subst (λ b. Answers (IsStampOf b (stored_of c.index.result.now).segment.timestamp) (stored_of c.index.result.now).ip (processed_by h m (stored_of c.index.result.now)).reply r) (ap (λ (k : HostView). k.stamps) c.deliver-reply.ensures.view) c.deliver-reply.ensures.reply))
+    (subst (λ (x : Owned). Answers (IsReplyStamp g.G.TsvalSource.tells (delivered_to h m (stored_of x)).source (stored_of x).segment.timestamp) (stored_of x).ip (processed_by h m (stored_of x)).reply r) same (subst (λ b. Answers (IsReplyStamp g.G.TsvalSource.tells b (stored_of c.index.result.now).segment.timestamp) (stored_of c.index.result.now).ip (processed_by h m (stored_of c.index.result.now)).reply r) (ap (λ (k : HostView _). k.source) c.deliver-reply.ensures.view) c.deliver-reply.ensures.reply))
     (ap outcome.Delivered c.store_reply.ensures.answer ∙ ap (λ (xs : List Owned). outcome.Delivered (reply_index (length (map stored_of xs)) r)) c.reserve.ensures.items)
     (c.store_reply.ensures.stored ∙ ap (λ (xs : List Owned). map stored_of xs ++ kept_at c.args.side r c.counts.result.released c.counts.result.taken) c.reserve.ensures.items
     ∙ ap (λ n. map stored_of items ++ kept_at c.args.side r n c.counts.result.taken) c.counts.ensures.released ∙ ap (λ n. map stored_of items ++ kept_at c.args.side r c.deliver-reply.new.self.released n) c.counts.ensures.taken)
@@ -70,7 +70,7 @@ returns-else-accepted-clause-step g c =
     let r : Option (IpRepr × Segment) = option_map reply_of c.refusal-reply.result in
     let same : c.index-else-accepted.result.now ≡ first = read_twice items c.reserve.new.self.items c.args.index first c.index-else-accepted.result.now c.requires.there c.reserve.ensures.items c.index-segment.ensures c.index-else-accepted.ensures in
     let is : r ≡ refusal_of t = c.refusal-reply.ensures.reply ∙ ap (λ (x : Owned). refusal_of (stored_of x)) same in
-    refuses (map stored_of items) c.args.index t (get_map stored_of items c.args.index first c.requires.there ∙ ap (λ x. Some (stored_of x)) (sym c.index-segment.ensures))
+    refuses g.G.TsvalSource.tells (map stored_of items) c.args.index t (get_map stored_of items c.args.index first c.requires.there ∙ ap (λ x. Some (stored_of x)) (sym c.index-segment.ensures))
     c.args.emitter.released c.args.emitter.taken c.args.side c.args.moment.now h (outcome.NotAccepted c.store_reply-else-accepted.result) h (map stored_of c.store_reply-else-accepted.new.segments.items)
     (sym c.too_old.ensures ∙ c.if-too_old.false)
     (λ a. let no : false ≡ true = sym c.if-accepted.false ∙ c.accepts-accepted.ensures.1 a in cc)

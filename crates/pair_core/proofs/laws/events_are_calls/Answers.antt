@@ -3,4 +3,4 @@ use Rattle.pair_core.proofs.PairHosts.{host_at}
 use Rattle.pair_core.proofs.laws.events_are_calls.Goals as goal
 
 pub returns : goal.returns
-returns c = record { step = event_called; reached = λ p i s. (host_at s p i).reached }
+returns g c = record { step = event_called g.G.TsvalSource.tells; reached = λ p i s. (host_at s p i).reached }

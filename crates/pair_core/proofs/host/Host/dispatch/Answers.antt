@@ -1,11 +1,11 @@
-use Rattle.std.proofs.Common.{refl, rules, arith, None, ap, is_some}
+use Rattle.std.proofs.Common.{refl, rules, arith, None}
 use Rattle.pair_core.specs.Moments.{facts_of}
 use Rattle.pair_core.proofs.Recordings.{socket_dispatched, dispatch_fits, host_dispatched}
 use Rattle.pair_core.proofs.host.Host.dispatch.Goals as goal
 
 pub returns-clause-table : goal.returns-clause-table
 returns-clause-table g c =
-    host_dispatched c.args.moment.now c.args.fail _ c.args.self.now _ c.into_sent.result c.dispatch-answer.new.self.control_block _ c.self.view_is (ap is_some c.dispatch-answer.ensures.generator) c.into_sent.ensures
+    host_dispatched g.G.TsvalSource.tells c.args.moment.now c.args.fail _ c.args.self.now _ c.into_sent.result c.dispatch-answer.new.self.control_block _ c.self.view_is c.dispatch-answer.ensures.generator c.into_sent.ensures
     (socket_dispatched _ _ c.args.fail c.args.moment.now.ip_mtu (λ shown left s r h. record { kept = h.1.0; err = h.1.1 }) g.G.TsvalSource.tells c.self.inside.socket.tsval_generator (record { moment = c.args.moment.now; header = None; payload = c.args.room })
     c.dispatch-answer.new.cx c.self.inside.socket.control_block c.dispatch-answer.new.self.control_block (facts_of c.args.moment.now) c.dispatch-answer.result
     (record { header = refl; empty = c.requires.empty; len = search rules; room = c.requires.roomy }) (omega (arith, c.args.moment.now.mtu.0)) (omega arith) c.dispatch-answer.ensures.table)
@@ -13,4 +13,4 @@ returns-clause-table g c =
 pub returns-clause-fits : goal.returns-clause-fits
 returns-clause-fits g c =
     let x = returns-clause-table g c in
-    dispatch_fits _ _ (facts_of c.args.moment.now) c.args.self.now.stamps c.args.fail c.into_sent.result x.socket
+    dispatch_fits g.G.TsvalSource.tells c.args.self.now.source _ _ (facts_of c.args.moment.now) c.args.fail c.into_sent.result x.socket

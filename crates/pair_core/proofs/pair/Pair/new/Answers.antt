@@ -1,4 +1,4 @@
-use Rattle.std.proofs.Common.{ap, map, is_some}
+use Rattle.std.proofs.Common.{ap, map}
 use Rattle.sock_core.specs.Received.{receiving}
 use Rattle.sock_tcp.specs.Queue.{queue_of}
 use Rattle.pair_core.specs.Holding.{stored_of}
@@ -8,5 +8,5 @@ use Rattle.pair_core.proofs.pair.Pair.new.Goals as goal
 
 pub invariant_of-result : goal.invariant_of-result
 invariant_of-result g c =
-    new_is_pair (receiving c.args.a.rx) (queue_of c.args.a.tx) (receiving c.args.b.rx) (queue_of c.args.b.tx) c.args.a.endpoint c.args.b.endpoint (is_some c.args.a.generator) (is_some c.args.b.generator) c.args.limit _ _ _ c.new.ensures c.new-2.ensures (ap (map stored_of) c.new-3.ensures.items)
+    new_is_pair (receiving c.args.a.rx) (queue_of c.args.a.tx) (receiving c.args.b.rx) (queue_of c.args.b.tx) c.args.a.endpoint c.args.b.endpoint _ _ c.args.limit _ _ _ c.new.ensures.host c.new-2.ensures.host (ap (map stored_of) c.new-3.ensures.items)
     c.requires.a_rx.0 c.requires.a_tx.0 c.requires.b_rx.0 c.requires.b_tx.0 c.requires.a_reachable c.requires.b_reachable (begins c.args.a.rx c.args.a.tx c.requires.a_rx c.requires.a_tx) (begins c.args.b.rx c.args.b.tx c.requires.b_rx c.requires.b_tx) c.requires.versions c.requires.limit

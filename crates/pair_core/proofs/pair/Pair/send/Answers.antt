@@ -13,7 +13,7 @@ returns-then-is_over_limit-clause-step g c = is_refused c.args.side c.args.self.
 
 pub invariant_of-self : goal.invariant_of-self
 invariant_of-self g c =
-    let p : PairView = record { a = c.self.inside.a; b = c.self.inside.b; segments = map stored_of c.self.inside.segments.items; limit = c.self.inside.limit } in
+    let p : PairView _ = record { a = c.self.inside.a; b = c.self.inside.b; segments = map stored_of c.self.inside.segments.items; limit = c.self.inside.limit } in
     let k = c.send.new.self in
     let bs = c.args.bytes.now in
     let under = over_as A c.args.side p c.args.self.now (length bs) c.is_over_limit.result false c.in-A.is c.self.view_is c.is_over_limit.ensures c.if-is_over_limit.false in
@@ -22,7 +22,7 @@ invariant_of-self g c =
 
 pub returns-in-A-clause-step : goal.returns-in-A-clause-step
 returns-in-A-clause-step g c =
-    let p : PairView = record { a = c.self.inside.a; b = c.self.inside.b; segments = map stored_of c.self.inside.segments.items; limit = c.self.inside.limit } in
+    let p : PairView _ = record { a = c.self.inside.a; b = c.self.inside.b; segments = map stored_of c.self.inside.segments.items; limit = c.self.inside.limit } in
     let k = c.send.new.self in
     let bs = c.args.bytes.now in
     let under = over_as A c.args.side p c.args.self.now (length bs) c.is_over_limit.result false c.in-A.is c.self.view_is c.is_over_limit.ensures c.if-is_over_limit.false in
@@ -30,7 +30,7 @@ returns-in-A-clause-step g c =
 
 pub invariant_of-self-in-B : goal.invariant_of-self-in-B
 invariant_of-self-in-B g c =
-    let p : PairView = record { a = c.self.inside.a; b = c.self.inside.b; segments = map stored_of c.self.inside.segments.items; limit = c.self.inside.limit } in
+    let p : PairView _ = record { a = c.self.inside.a; b = c.self.inside.b; segments = map stored_of c.self.inside.segments.items; limit = c.self.inside.limit } in
     let k = c.send-in-B.new.self in
     let bs = c.args.bytes.now in
     let under = over_as B c.args.side p c.args.self.now (length bs) c.is_over_limit.result false c.in-B.is c.self.view_is c.is_over_limit.ensures c.if-is_over_limit.false in
@@ -39,7 +39,7 @@ invariant_of-self-in-B g c =
 
 pub returns-in-B-clause-step : goal.returns-in-B-clause-step
 returns-in-B-clause-step g c =
-    let p : PairView = record { a = c.self.inside.a; b = c.self.inside.b; segments = map stored_of c.self.inside.segments.items; limit = c.self.inside.limit } in
+    let p : PairView _ = record { a = c.self.inside.a; b = c.self.inside.b; segments = map stored_of c.self.inside.segments.items; limit = c.self.inside.limit } in
     let k = c.send-in-B.new.self in
     let bs = c.args.bytes.now in
     let under = over_as B c.args.side p c.args.self.now (length bs) c.is_over_limit.result false c.in-B.is c.self.view_is c.is_over_limit.ensures c.if-is_over_limit.false in

@@ -1,5 +1,0 @@
-use Rattle.sock_tcp.proofs.CallsAsSteps.{reads_any}
-use Rattle.sock_tcp.proofs.laws.recv_hands_out.Goals as goal
-
-pub returns : goal.returns
-returns g c = reads_any _ c.args.socket.now.control_block _ _ c.recv.ensures.table

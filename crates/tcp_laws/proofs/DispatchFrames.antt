@@ -1,0 +1,175 @@
+-- What a dispatch leaves alone.
+use Rattle.std.proofs.Common.{◌≡◌, ℕ, Bool, true, false, not, ◌&&◌, ◌||◌, refl, sym, ap, subst, ◌∙◌, Option, Some, None, arith}
+use Rattle.std.specs.Prelude.{◌==◌, if◌then◌else◌}
+use Rattle.std.proofs.lemmas.List.{length-replicate}
+use Rattle.net_base.specs.declared.time.Instant.{Instant}
+use Rattle.sock_core.specs.Congestion.{post_transmitted}
+use Rattle.sock_core.specs.Estimator.{sent}
+use Rattle.sock_core.specs.Facts.{Facts}
+use Rattle.sock_core.specs.Received.{Received, room_of, cleared}
+use Rattle.sock_tcp.specs.Begin.{Begun, ended, last_ts_set_at, last_ts_set, told_ready, readied, retransmission_begun, fast_retransmission_marked, after_timer, after_timers, unless_paused, begun_to, begun, nothing_due, by_due, before_emit_to, before_emit}
+use Rattle.sock_tcp.specs.Content.{Sending}
+use Rattle.sock_tcp.specs.Due.{is_due}
+use Rattle.sock_tcp.specs.Opening.{renewed}
+use Rattle.sock_tcp.specs.Polls.{is_reached, timeout_poll}
+use Rattle.sock_tcp.specs.Sent.{emitted_as, after_any, after_probe, snd_nxt_moved, sending_timed, after_kind, after_sending, after_emit, left_by}
+use Rattle.tcp_laws.specs.SocketRun.{SendsTo, is_address_lost, is_wait_over, is_reset}
+use Rattle.sock_tcp.specs.Timers.{is_over, is_close_over, retransmit_unless_set}
+use Rattle.sock_tcp.specs.View.{View, moment_of}
+use Rattle.sock_tcp.specs.declared.emission.Emitted.{Emitted}
+use Rattle.sock_tcp.specs.declared.emission.Kind.{Kind}
+use Rattle.sock_tcp.specs.declared.emission.Kind.TheVariants as kind
+use Rattle.sock_tcp.specs.declared.state.State.TheVariants as state
+use Rattle.sock_tcp.specs.declared.timer.Timer.{Timer}
+use Rattle.sock_tcp.specs.declared.timer.Timer.TheVariants as timer
+use Rattle.sock_tcp.specs.declared.tuple.Tuple.{Tuple}
+
+-- both queues stay, and SND.UNA
+pub record Keeps (v w : View) : Type 0 where
+  pub tx : w.tx_buffer ≡ v.tx_buffer
+  pub rx : w.rx_buffer ≡ v.rx_buffer
+  pub una : w.local_seq_no ≡ v.local_seq_no
+
+same : (v : View) → Keeps v v
+same v = record { tx = refl; rx = refl; una = refl }
+
+keeps_both : (v u w : View) → Keeps v u → Keeps u w → Keeps v w
+keeps_both v u w a b = record { tx = b.tx ∙ a.tx; rx = b.rx ∙ a.rx; una = b.una ∙ a.una }
+
+-- ---- the beginning
+
+timer_keeps : (t : Timer) (v : View) (now : Instant) → Keeps v (after_timer t v now)
+unfolding retransmission_begun fast_retransmission_marked
+timer_keeps (timer.Retransmit at) v now = go (is_over at now)
+  where
+    go : (b : Bool) → Keeps v (if b then retransmission_begun v now else v)
+    go true = record { tx = refl; rx = refl; una = refl }
+    go false = same v
+timer_keeps timer.FastRetransmit v now = record { tx = refl; rx = refl; una = refl }
+timer_keeps _ v now = same v
+
+timers_keep : (v : View) (now : Instant) → Keeps v (after_timers v now)
+unfolding after_timers
+timers_keep v now = go (is_reached (timeout_poll v.timeout v.remote_last_ts) now)
+  where
+    go : (b : Bool) → Keeps v (if b then record v { state = state.Closed } else after_timer v.timer v now)
+    go true = record { tx = refl; rx = refl; una = refl }
+    go false = timer_keeps v.timer v now
+
+readied_keeps : (v : View) (now : Instant) → Keeps v (readied v now)
+unfolding readied last_ts_set
+readied_keeps v now = go v.remote_last_ts
+  where
+    go : (o : Option Instant) → Keeps v (told_ready (last_ts_set_at o v now) now)
+    go None = record { tx = refl; rx = refl; una = refl }
+    go (Some at) = record { tx = refl; rx = refl; una = refl }
+
+-- ---- how the beginning ends: the queues stay, or the socket is reset
+
+module _ (f : Facts) (stamps : Bool) where
+  begun_keeps : (o : Option Tuple) (v : View) → is_address_lost o f ≡ false → Keeps v (begun_to o v f).view
+  begun_keeps None v e = same v
+  begun_keeps (Some t) v e = go (f.has_address t.local.addr) e
+    where
+      go : (b : Bool) → not b ≡ false → Keeps v (if b then unless_paused (after_timers (readied v (moment_of f)) (moment_of f)) t else ended (renewed v)).view
+      go true e = keeps_both v (readied v (moment_of f)) (after_timers (readied v (moment_of f)) (moment_of f)) (readied_keeps v (moment_of f)) (timers_keep (readied v (moment_of f)) (moment_of f))
+      go false e = absurd cc
+
+  begun_resets : (o : Option Tuple) (v : View) → is_address_lost o f ≡ true → begun_to o v f ≡ ended (renewed v)
+  begun_resets None v e = absurd cc
+  begun_resets (Some t) v e = go (f.has_address t.local.addr) e
+    where
+      go : (b : Bool) → not b ≡ true → (if b then unless_paused (after_timers (readied v (moment_of f)) (moment_of f)) t else ended (renewed v)) ≡ ended (renewed v)
+      go true e = absurd cc
+      go false e = refl
+
+  nothing_keeps : (u : View) → is_close_over u.timer (moment_of f) ≡ false → Keeps u (nothing_due u (moment_of f))
+  unfolding nothing_due
+  nothing_keeps u e = go (is_close_over u.timer (moment_of f)) e
+    where
+      go : (c : Bool) → c ≡ false → Keeps u (if c then renewed u else u)
+      go true e = absurd cc
+      go false e = same u
+
+  nothing_resets : (u : View) → is_close_over u.timer (moment_of f) ≡ true → nothing_due u (moment_of f) ≡ renewed u
+  unfolding nothing_due
+  nothing_resets u e = go (is_close_over u.timer (moment_of f)) e
+    where
+      go : (c : Bool) → c ≡ true → (if c then renewed u else u) ≡ renewed u
+      go true e = refl
+      go false e = absurd cc
+
+  ends_keeps : (o : Option Tuple) (u : View) → is_wait_over o u f stamps ≡ false → Keeps u (before_emit_to o u f stamps).view
+  ends_keeps None u e = same u
+  ends_keeps (Some t) u e = go (is_due u t f stamps) e
+    where
+      go : (b : Bool) → (not b && is_close_over u.timer (moment_of f)) ≡ false → Keeps u (by_due b u t f).view
+      go true e = same u
+      go false e = nothing_keeps u e
+
+  ends_resets : (o : Option Tuple) (u : View) → is_wait_over o u f stamps ≡ true → before_emit_to o u f stamps ≡ ended (renewed u)
+  ends_resets None u e = absurd cc
+  ends_resets (Some t) u e = go (is_due u t f stamps) e
+    where
+      go : (b : Bool) → (not b && is_close_over u.timer (moment_of f)) ≡ true → by_due b u t f ≡ ended (renewed u)
+      go true e = absurd cc
+      go false e = ap ended (nothing_resets u e)
+
+  -- ---- the whole beginning
+
+  neither : (a b : Bool) → (a || b) ≡ false → (a ≡ false) × (b ≡ false)
+  neither true b e = absurd cc
+  neither false b e = (refl, e)
+
+  pub before_keeps : (v : View) → is_reset v f stamps ≡ false → Keeps v (before_emit v f stamps).view
+  unfolding begun before_emit
+  before_keeps v e =
+      let n = neither (is_address_lost v.tuple f) (is_wait_over (begun v f).peer (begun v f).view f stamps) e in
+      keeps_both v (begun v f).view (before_emit v f stamps).view (begun_keeps v.tuple v n.0) (ends_keeps (begun v f).peer (begun v f).view n.1)
+
+  -- a reset of a socket with the same queues, and nobody to emit to
+  pub record IsReset (v : View) (b : Begun) : Type 0 where
+    pub from : View
+    pub kept : room_of from.rx_buffer ≡ room_of v.rx_buffer
+    pub is : b ≡ ended (renewed from)
+
+  room_cleared : (b : Received) → room_of (cleared b) ≡ room_of b
+  unfolding cleared
+  room_cleared b = let h = length-replicate {A = Option ℕ} (room_of b) None in omega (arith, h)
+
+  pub before_resets : (v : View) → is_reset v f stamps ≡ true → IsReset v (before_emit v f stamps)
+  unfolding begun before_emit
+  before_resets v e = go (is_address_lost v.tuple f) refl e
+    where
+      go : (a : Bool) → is_address_lost v.tuple f ≡ a → (a || is_wait_over (begun v f).peer (begun v f).view f stamps) ≡ true → IsReset v (before_emit v f stamps)
+      go true a e = let r : begun v f ≡ ended (renewed v) = begun_resets v.tuple v a in record { from = v; kept = refl; is = ap (λ (b : Begun). before_emit_to b.peer b.view f stamps) r }
+      go false a e = record { from = (begun v f).view; kept = ap room_of (begun_keeps v.tuple v a).rx; is = ends_resets (begun v f).peer (begun v f).view e }
+
+-- ---- what is left behind the emit
+
+timed_keeps : (v : View) (now : Instant) (s : Emitted) → Keeps v (sending_timed v now s)
+unfolding sending_timed
+timed_keeps v now s = go (s.len == 0)
+  where
+    go : (b : Bool) → Keeps v (if b then v else record v { rtte = sent v.rtte now s.end; timer = retransmit_unless_set v.timer now v.rtte; congestion_controller = post_transmitted v.congestion_controller now s.len })
+    go true = same v
+    go false = record { tx = refl; rx = refl; una = refl }
+
+kind_keeps : (k : Kind) (v : View) (now : Instant) (s : Emitted) → Keeps v (after_kind k v now s)
+unfolding snd_nxt_moved after_probe
+kind_keeps kind.Plain v now s = let k = timed_keeps (snd_nxt_moved v s) now s in record { tx = k.tx; rx = k.rx; una = k.una }
+kind_keeps kind.Probe v now s = record { tx = refl; rx = refl; una = refl }
+kind_keeps kind.KeepAlive v now s = same v
+
+emit_keeps : (ok : Bool) (v : View) (now : Instant) (s : Emitted) → Keeps v (after_emit ok v now s)
+unfolding after_sending after_any
+emit_keeps true v now s = let k = kind_keeps s.kind (after_any v now) now s in record { tx = k.tx; rx = k.rx; una = k.una }
+emit_keeps false v now s = same v
+
+left_keeps : (out : Option Sending) (v : View) (now : Instant) (ok : Bool) → Keeps v (left_by out v now ok)
+left_keeps None v now ok = same v
+left_keeps (Some s) v now ok = emit_keeps ok v now (emitted_as s.kind s.segment)
+
+pub sends_keeps : (o : Option Tuple) (f : Facts) (stamps : Bool) (v : View) (out : Option Sending) (w : View) → SendsTo o f stamps v out w → Keeps v w
+sends_keeps None f stamps v out w h = subst (Keeps v) (sym h.1) (same v)
+sends_keeps (Some t) f stamps v out w h = subst (Keeps v) (sym h.view) (left_keeps out v (moment_of f) h.ok)

@@ -1,0 +1,17 @@
+pub mod Polling
+pub mod PayloadWindows
+pub mod Frames
+pub mod Receiving
+pub mod Releasing
+pub mod DispatchFrames
+pub mod PayloadParts
+pub mod SocketSteps
+pub mod CallsAsSteps
+pub mod SegmentsAsSteps
+pub mod BytesAtPlaces
+pub mod Guards
+pub mod Ordered
+pub mod OrderedSegments
+pub mod OrderedSendings
+pub mod OrderedCalls
+pub mod Sleeping

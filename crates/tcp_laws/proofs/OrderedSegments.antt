@@ -1,0 +1,466 @@
+-- A segment keeps the order of SND.UNA, SND.NXT, the transmit queue and the timer.
+use Rattle.std.proofs.Common.{◌≡◌, ℕ, ◌+◌, ◌-◌, ◌<◌, ◌≤◌, ◌^◌, Bool, true, false, not, refl, sym, ap, subst, ◌∙◌, List, [], length, drop, Option, Some, None, arith, length-drop}
+use Rattle.std.specs.Prelude.{if◌then◌else◌, ◌==◌, ◌&&◌, int_lt}
+use Rattle.std.specs.Option.{ForSome}
+use Rattle.std.proofs.lemmas.Bool.{and_parts, eqb-true, eqb-false}
+use Rattle.ip_wire.specs.declared.repr.IpRepr.{IpRepr}
+use Rattle.net_base.specs.declared.time.Duration.{Duration}
+use Rattle.net_base.specs.declared.time.Instant.{Instant}
+use Rattle.control_wire.specs.Segment.{Segment}
+use Rattle.control_wire.specs.Seq.{seq_add, seq_sub}
+use Rattle.control_wire.specs.declared.seq_number.TcpSeqNumber.{TcpSeqNumber}
+use Rattle.control_wire.specs.declared.tcp.TcpControl.{TcpControl}
+use Rattle.control_wire.specs.declared.tcp.TcpControl.TheVariants as control
+use Rattle.sock_core.specs.Received.{makes_fifth_range, holds_nothing}
+use Rattle.sock_core.specs.Seq.{is_before, later_of}
+use Rattle.sock_tcp.specs.Acked.{acked_of, acked_at}
+use Rattle.sock_tcp.specs.Advance.{Advance, advance_in, advanced, continues, counted_control, dropped, fallen_back, fin_counted, moved_to, opened_state, options_taken, syn_answered, syn_received, waiting}
+use Rattle.sock_tcp.specs.Process.{stopped, ack_sent, challenged, close_restarted, timer_restarted, outside_by, outside, gap_answered, bytes_taken, tuple_of, after_table, processed_inside, has_window, cut_inside, tested, by_verdict, processed}
+use Rattle.sock_tcp.specs.Queue.{Queue, capacity}
+use Rattle.sock_tcp.specs.Replies.{ack_kept}
+use Rattle.sock_tcp.specs.Steps.{window_taken, released, is_duplicate, is_last_ack, is_window_changed, ack_heard, duplicate_counted, ack_counted, una_advanced, acknowledged, timestamp_taken, timer_set, timer_acked, probe_set, heard, joined, ack_delayed}
+use Rattle.sock_tcp.specs.Timers.{after, challenge_interval}
+use Rattle.sock_tcp.specs.Verdict.{fin_place, is_next, open_verdict, verdict_at, verdict_of}
+use Rattle.sock_tcp.specs.View.{View}
+use Rattle.sock_tcp.specs.Window.{receive_window, is_inside, cut_of}
+use Rattle.sock_tcp.specs.declared.acked.Acked.{Acked}
+use Rattle.sock_tcp.specs.declared.advance.Next.TheVariants as next
+use Rattle.sock_tcp.specs.declared.state.State.{State}
+use Rattle.sock_tcp.specs.declared.state.State.TheVariants as state
+use Rattle.sock_tcp.specs.declared.timer.Timer.{Timer}
+use Rattle.sock_tcp.specs.declared.tuple.Tuple.{Tuple}
+use Rattle.sock_tcp.specs.declared.window.Window.{Window}
+use Rattle.sock_tcp.specs.declared.verdict.Verdict.{Verdict}
+use Rattle.sock_tcp.specs.declared.verdict.Verdict.TheVariants as verdicts
+use Rattle.sock_tcp.proofs.Acking.{acked_fits, none_acked, between, fin_place_le, one_place, passes, two_guards}
+use Rattle.tcp_laws.proofs.Ordered.{HasMoment, IsOpen, IsOrdered, IsPeeredIn, Row, is_close, acked_open, close_stays, dup_acked_open, later_small, left_in_flight, less_in_flight, set_has_moment, taken_open, window_open}
+
+-- ---- what a segment that passes acknowledges
+
+abbrev FinCovers : Bool → ℕ → ℕ → ℕ → Type 0
+FinCovers true d n len = (d ≡ n + 1) × (len ≡ n)
+FinCovers false d n len = (d ≤ n) × (len ≡ d)
+
+-- an acknowledgement that reaches d places past SND.UNA, of a queue of n bytes: it covers the FIN or not, and len bytes
+abbrev CoversSome : State → Bool → ℕ → ℕ → ℕ → Type 0
+CoversSome state.SynSent fin d n len = (d ≡ 1) × (len ≡ 0)
+CoversSome state.SynReceived fin d n len = (d ≡ 1) × (len ≡ 0)
+CoversSome state.FinWait1 fin d n len = FinCovers fin d n len
+CoversSome state.Closing fin d n len = FinCovers fin d n len
+CoversSome state.LastAck fin d n len = FinCovers fin d n len
+CoversSome _ fin d n len = (d ≤ n) × (len ≡ d)
+
+-- only LISTEN and SYN-SENT let a segment without one pass
+abbrev CoversNone : State → ℕ → Type 0
+CoversNone state.Listen len = len ≡ 0
+CoversNone state.SynSent len = len ≡ 0
+CoversNone _ len = ⊥
+
+abbrev Covers : State → Option TcpSeqNumber → TcpSeqNumber → ℕ → Bool → ℕ → Type 0
+Covers st None una n fin len = CoversNone st len
+Covers st (Some k) una n fin len = CoversSome st fin (seq_sub k una) n len
+
+fin_covers : (d i n : ℕ) → i ≡ d → d ≤ n + 1 → (b : Bool) → (i == n + 1) ≡ b → FinCovers b d n (if b then i - 1 else i)
+fin_covers d i n e h true t = let x : i ≡ n + 1 = eqb-true i (n + 1) t in (omega (arith, e, x), omega (arith, x))
+fin_covers d i n e h false t = let x : (i ≡ n + 1 → ⊥) = eqb-false i (n + 1) t in (grind (arith), e)
+
+reaches : (st : State) (una k : TcpSeqNumber) (n : ℕ) → una.0 < 2 ^ 32 → k.0 < 2 ^ 32 → n ≤ 2 ^ 30 → open_verdict st k una n ≡ verdicts.Pass → seq_sub k una ≤ n + fin_place st
+reaches st una k n hu hk hn e =
+    let g = two_guards (is_before k una) (is_before (seq_add una (n + fin_place st)) k) e in
+    between una k (n + fin_place st) hu hk (let f : fin_place st ≤ 1 = fin_place_le st in omega (arith, f, hn)) g.0 g.1
+
+syn_covers : (una k : TcpSeqNumber) → una.0 < 2 ^ 32 → (if is_next k una then verdicts.Pass else verdicts.Reset) ≡ verdicts.Pass → (seq_sub k una ≡ 1) × (seq_sub k una - 1 ≡ 0)
+syn_covers una k hu e = let h = one_place una k hu (passes (is_next k una) e) in (h, omega (arith, h))
+
+covers_some : (st : State) (c : TcpControl) (una k nxt : TcpSeqNumber) (n : ℕ) → (c ≡ control.Rst → ⊥) → una.0 < 2 ^ 32 → k.0 < 2 ^ 32 → n ≤ 2 ^ 30 → verdict_at st c (Some k) una n ≡ verdicts.Pass
+    → CoversSome st (acked_at st c (Some k) una nxt n).fin (seq_sub k una) n (acked_at st c (Some k) una nxt n).len
+unfolding verdict_at acked_at
+covers_some _ control.Rst una k nxt n nr hu hk hn e = absurd (nr refl)
+covers_some state.SynSent control.Syn una k nxt n nr hu hk hn e = syn_covers una k hu e
+covers_some state.SynSent control.None una k nxt n nr hu hk hn e = by (is_next k una) e
+  where
+    by : (b : Bool) → (if b then verdicts.Drop else verdicts.Reset) ≡ verdicts.Pass → (seq_sub k una ≡ 1) × (seq_sub k una - 1 ≡ 0)
+    by true e = absurd cc
+    by false e = absurd cc
+covers_some state.SynSent _ una k nxt n nr hu hk hn e = absurd cc
+covers_some state.SynReceived _ una k nxt n nr hu hk hn e = syn_covers una k hu e
+covers_some state.FinWait1 _ una k nxt n nr hu hk hn e = fin_covers (seq_sub k una) (seq_sub k una - 0) n (omega arith) (reaches state.FinWait1 una k n hu hk hn e) (seq_sub k una - 0 == n + 1) refl
+covers_some state.Closing _ una k nxt n nr hu hk hn e = fin_covers (seq_sub k una) (seq_sub k una - 0) n (omega arith) (reaches state.Closing una k n hu hk hn e) (seq_sub k una - 0 == n + 1) refl
+covers_some state.LastAck _ una k nxt n nr hu hk hn e = fin_covers (seq_sub k una) (seq_sub k una - 0) n (omega arith) (reaches state.LastAck una k n hu hk hn e) (seq_sub k una - 0 == n + 1) refl
+covers_some st _ una k nxt n nr hu hk hn e = let h = reaches st una k n hu hk hn e in (omega (arith, h), omega arith)
+
+covers_none : (st : State) (c : TcpControl) (una nxt : TcpSeqNumber) (n : ℕ) → (c ≡ control.Rst → ⊥) → verdict_at st c None una n ≡ verdicts.Pass → CoversNone st (acked_at st c None una nxt n).len
+unfolding verdict_at acked_at
+covers_none _ control.Rst una nxt n nr e = absurd (nr refl)
+covers_none state.Listen _ una nxt n nr e = refl
+covers_none state.SynSent control.Syn una nxt n nr e = refl
+covers_none state.SynSent _ una nxt n nr e = absurd cc
+covers_none st _ una nxt n nr e = absurd cc
+
+covers : (st : State) (c : TcpControl) (o : Option TcpSeqNumber) (una nxt : TcpSeqNumber) (n : ℕ) → (c ≡ control.Rst → ⊥) → una.0 < 2 ^ 32 → ForSome o (λ k. k.0 < 2 ^ 32) → n ≤ 2 ^ 30 → verdict_at st c o una n ≡ verdicts.Pass
+    → Covers st o una n (acked_at st c o una nxt n).fin (acked_at st c o una nxt n).len
+covers st c None una nxt n nr hu hk hn e = covers_none st c una nxt n nr e
+covers st c (Some k) una nxt n nr hu hk hn e = covers_some st c una k nxt n nr hu (hk k refl) hn e
+
+module _ (s : Segment) (now : Instant) where
+  -- ---- steps that leave it alone
+
+  challenged_ordered : (w : View) → IsOrdered w → IsOrdered (challenged w now s).view
+  unfolding challenged ack_kept
+  challenged_ordered w h = go (int_lt now.micros w.challenge_ack_timer.micros)
+    where
+      go : (b : Bool) → IsOrdered (if b then stopped w else ack_sent (record w { challenge_ack_timer = after now challenge_interval }) s).view
+      go true = h
+      go false = record { una_small = h.una_small; nxt_small = h.nxt_small; room = h.room; congestion = h.congestion; peered = h.peered; row = h.row }
+
+  restarted_row : (st : State) (t : Timer) (keep : Option Duration) (flight n : ℕ) → Row st t keep flight n → Row st (timer_restarted st t now) keep flight n
+  restarted_row state.TimeWait t keep flight n r = (refl, r.1, r.2)
+  restarted_row _ t keep flight n r = r
+
+  restarted_ordered : (w : View) → IsOrdered w → IsOrdered (close_restarted w now)
+  unfolding close_restarted
+  restarted_ordered w h = record { una_small = h.una_small; nxt_small = h.nxt_small; room = h.room; congestion = h.congestion; peered = h.peered; row = restarted_row w.state w.timer w.keep_alive (seq_sub w.remote_last_seq w.local_seq_no) (length w.tx_buffer.bytes) h.row }
+
+  acked_ordered : (w : View) → IsOrdered w → IsOrdered (ack_sent w s).view
+  unfolding ack_kept
+  acked_ordered w h = record { una_small = h.una_small; nxt_small = h.nxt_small; room = h.room; congestion = h.congestion; peered = h.peered; row = h.row }
+
+  pub outside_ordered : (w : View) → IsOrdered w → IsOrdered (outside w now s).view
+  unfolding outside
+  outside_ordered w h = by s.control
+    where
+      bytes_or_none : (b : Bool) → IsOrdered (if b then challenged (close_restarted w now) now s else ack_sent (close_restarted w now) s).view
+      bytes_or_none true = challenged_ordered (close_restarted w now) (restarted_ordered w h)
+      bytes_or_none false = acked_ordered (close_restarted w now) (restarted_ordered w h)
+
+      by : (c : TcpControl) → IsOrdered (outside_by c (length s.payload) w now s).view
+      by control.Rst = h
+      by control.Syn = challenged_ordered (close_restarted w now) (restarted_ordered w h)
+      by control.None = bytes_or_none (length s.payload == 0)
+      by control.Psh = bytes_or_none (length s.payload == 0)
+      by control.Fin = bytes_or_none (length s.payload == 0)
+
+  bytes_ordered : (w : View) (o : ℕ) (bs : List ℕ) → IsOrdered w → IsOrdered (bytes_taken w now o bs s).view
+  unfolding bytes_taken joined ack_delayed ack_kept
+  bytes_ordered w o bs h = go (length bs == 0)
+    where
+      u : View
+      u = ack_delayed (joined w o bs) now
+
+      gap : (b : Bool) → IsOrdered (if b then stopped u else ack_sent u s).view
+      gap true = record { una_small = h.una_small; nxt_small = h.nxt_small; room = h.room; congestion = h.congestion; peered = h.peered; row = h.row }
+      gap false = record { una_small = h.una_small; nxt_small = h.nxt_small; room = h.room; congestion = h.congestion; peered = h.peered; row = h.row }
+
+      away : (b : Bool) → IsOrdered (if b then stopped w else gap_answered w u s).view
+      away true = h
+      away false = gap (holds_nothing w.rx_buffer.held && holds_nothing u.rx_buffer.held)
+
+      go : (b : Bool) → IsOrdered (if b then stopped w else (if makes_fifth_range w.rx_buffer o bs then stopped w else gap_answered w u s)).view
+      go true = h
+      go false = away (makes_fifth_range w.rx_buffer o bs)
+
+  -- ---- the steps behind the table
+
+  module _ (a : Acked) (st : State) where
+    -- what is known of a socket in the state st that hears an acknowledgement of a.len bytes
+    record Hears (u : View) : Type 0 where
+      state : u.state ≡ st
+      una_small : u.local_seq_no.0 < 2 ^ 32
+      nxt_small : u.remote_last_seq.0 < 2 ^ 32
+      room : capacity u.tx_buffer ≤ 2 ^ 30
+      congestion : IsOpen u.congestion_controller
+      peered : IsPeeredIn st u.tuple
+      covered : a.len ≤ length u.tx_buffer.bytes
+
+    -- what the timer may be afterwards: where it was TIME-WAIT's, and nothing is left, it still is
+    abbrev LeavesRow : View → ℕ → ℕ → Type 0
+    LeavesRow u flight n = (t : Timer) → HasMoment t u.keep_alive → (is_close u.timer ≡ true → flight ≡ 0 → n ≡ 0 → is_close t ≡ true) → Row st t u.keep_alive flight n
+
+    hears_nothing : (u : View) → s.ack_number ≡ None → Hears u → LeavesRow u (seq_sub u.remote_last_seq u.local_seq_no) (length u.tx_buffer.bytes - a.len) → IsOrdered (heard u now a s)
+    unfolding heard window_taken released timestamp_taken timer_set acknowledged
+    hears_nothing u e h leaves = subst (λ o. IsOrdered (timer_set (timestamp_taken (acknowledged x o now a.len (length s.payload) changed) s.timestamp) now a)) (sym e) by_none
+      where
+        x : View
+        x = released (window_taken u now s.control s.window_len) a.len
+
+        changed : Bool
+        changed = is_window_changed u s.control s.window_len
+
+        y : View
+        y = timestamp_taken x s.timestamp
+
+        t : Timer
+        t = probe_set (timer_acked u.timer y now a) y now a
+
+        long : length (drop a.len u.tx_buffer.bytes) ≡ length u.tx_buffer.bytes - a.len
+        long = length-drop a.len u.tx_buffer.bytes
+
+        row : Row st t u.keep_alive (seq_sub u.remote_last_seq u.local_seq_no) (length (drop a.len u.tx_buffer.bytes))
+        row = subst (λ n. Row st t u.keep_alive (seq_sub u.remote_last_seq u.local_seq_no) n) (sym long) (leaves t (set_has_moment now a u.timer y) (λ c f z. close_stays now a u.timer y c (long ∙ z)))
+
+        by_none : IsOrdered (timer_set (timestamp_taken (acknowledged x None now a.len (length s.payload) changed) s.timestamp) now a)
+        by_none = record {
+          una_small = h.una_small;
+          nxt_small = h.nxt_small;
+          room = omega (arith, h.room, long, h.covered);
+          congestion = window_open u.congestion_controller _ h.congestion;
+          peered = subst (λ z. IsPeeredIn z u.tuple) (sym h.state) h.peered;
+          row = subst (λ z. Row z t u.keep_alive (seq_sub u.remote_last_seq u.local_seq_no) (length (drop a.len u.tx_buffer.bytes))) (sym h.state) row;
+        }
+
+    hears : (u : View) (k : TcpSeqNumber) → s.ack_number ≡ Some k → k.0 < 2 ^ 32 → Hears u → seq_sub u.remote_last_seq u.local_seq_no < 2 ^ 31 → seq_sub k u.local_seq_no < 2 ^ 31
+        → LeavesRow u (seq_sub u.remote_last_seq u.local_seq_no - seq_sub k u.local_seq_no) (length u.tx_buffer.bytes - a.len) → IsOrdered (heard u now a s)
+    unfolding heard window_taken released timestamp_taken timer_set acknowledged duplicate_counted ack_counted una_advanced
+    hears u k e small h fn fk leaves = subst (λ o. IsOrdered (timer_set (timestamp_taken (acknowledged x o now a.len (length s.payload) changed) s.timestamp) now a)) (sym e) (by (is_duplicate x k (length s.payload) changed) refl)
+      where
+        x : View
+        x = released (window_taken u now s.control s.window_len) a.len
+
+        changed : Bool
+        changed = is_window_changed u s.control s.window_len
+
+        flight : ℕ
+        flight = seq_sub u.remote_last_seq u.local_seq_no - seq_sub k u.local_seq_no
+
+        n : ℕ
+        n = length u.tx_buffer.bytes - a.len
+
+        long : length (drop a.len u.tx_buffer.bytes) ≡ n
+        long = length-drop a.len u.tx_buffer.bytes
+
+        left : seq_sub (later_of u.remote_last_seq k) k ≡ flight
+        left = left_in_flight u.remote_last_seq k u.local_seq_no h.nxt_small small h.una_small fn fk
+
+        row_holds : (t : Timer) → Row st t u.keep_alive flight n → Row u.state t u.keep_alive (seq_sub (later_of u.remote_last_seq k) k) (length (drop a.len u.tx_buffer.bytes))
+        row_holds t r = subst (λ z. Row z t u.keep_alive (seq_sub (later_of u.remote_last_seq k) k) (length (drop a.len u.tx_buffer.bytes))) (sym h.state) (subst (λ i. Row st t u.keep_alive i (length (drop a.len u.tx_buffer.bytes))) (sym left) (subst (λ i. Row st t u.keep_alive flight i) (sym long) r))
+
+        peered : IsPeeredIn u.state u.tuple
+        peered = subst (λ z. IsPeeredIn z u.tuple) (sym h.state) h.peered
+
+        after_duplicate : View
+        after_duplicate = timestamp_taken (una_advanced (duplicate_counted x now) k) s.timestamp
+
+        after_ack : View
+        after_ack = timestamp_taken (una_advanced (ack_counted x now k a.len) k) s.timestamp
+
+        in_order : is_duplicate x k (length s.payload) changed ≡ true → flight ≡ 0 → ⊥
+        in_order d f =
+            let parts = and_parts (is_last_ack u.local_rx_last_ack k) (is_before k u.remote_last_seq && ((length s.payload == 0) && not changed)) d in
+            let b = and_parts (is_before k u.remote_last_seq) ((length s.payload == 0) && not changed) parts.1 in
+            let l : seq_sub k u.local_seq_no < seq_sub u.remote_last_seq u.local_seq_no = less_in_flight k u.remote_last_seq u.local_seq_no small h.nxt_small h.una_small fn fk b.0 in
+            omega (arith, l, f)
+
+        by : (b : Bool) → is_duplicate x k (length s.payload) changed ≡ b → IsOrdered (timer_set (timestamp_taken (ack_heard b x now k a.len) s.timestamp) now a)
+        by true d = record {
+          una_small = small;
+          nxt_small = later_small u.remote_last_seq k h.nxt_small small;
+          room = omega (arith, h.room, long, h.covered);
+          congestion = dup_acked_open _ _ _ _ (window_open u.congestion_controller _ h.congestion);
+          peered = peered;
+          row = row_holds _ (leaves _ (set_has_moment now a after_duplicate.timer after_duplicate) (λ c f z. absurd (in_order d f)));
+        }
+        by false d = record {
+          una_small = small;
+          nxt_small = later_small u.remote_last_seq k h.nxt_small small;
+          room = omega (arith, h.room, long, h.covered);
+          congestion = acked_open _ _ _ _ _ (window_open u.congestion_controller _ h.congestion);
+          peered = peered;
+          row = row_holds _ (leaves _ (set_has_moment now a u.timer after_ack) (λ c f z. close_stays now a u.timer after_ack c (long ∙ z)));
+        }
+
+  -- ---- the table
+
+  module _ (v : View) (t : Tuple) (word : ℕ) (a : Acked) (o : ℕ) (bs : List ℕ) (small : word < 2 ^ 32) (numbered : ForSome s.ack_number (λ k. k.0 < 2 ^ 32)) (bare : v.state ≡ state.Listen → s.ack_number ≡ None) (h : IsOrdered v) (covered : a.len ≤ length v.tx_buffer.bytes) where
+    abbrev n : ℕ
+    n = length v.tx_buffer.bytes
+
+    abbrev flight : ℕ
+    flight = seq_sub v.remote_last_seq v.local_seq_no
+
+    short : n ≤ 2 ^ 30
+    short = omega (arith, h.room)
+
+    abbrev After : Advance → Type 0
+    After x = IsOrdered (after_table x now a o bs s).view
+
+    own : (st : State) → v.state ≡ st → Row st v.timer v.keep_alive flight n
+    own st is = subst (λ z. Row z v.timer v.keep_alive flight n) is h.row
+
+    peer : (st : State) → v.state ≡ st → IsPeeredIn st v.tuple
+    peer st is = subst (λ z. IsPeeredIn z v.tuple) is h.peered
+
+    fallen : n ≡ 0 → IsOrdered (fallen_back v)
+    unfolding fallen_back
+    fallen z = go (v.listen_endpoint.port == 0)
+      where
+        peered : (b : Bool) → IsPeeredIn (if b then state.Closed else state.Listen) None
+        peered true = tt
+        peered false = refl
+
+        row : (b : Bool) → Row (if b then state.Closed else state.Listen) v.timer v.keep_alive flight n
+        row true = tt
+        row false = z
+
+        go : (b : Bool) → IsOrdered (record v { state = if b then state.Closed else state.Listen; tuple = None })
+        go b = record { una_small = h.una_small; nxt_small = h.nxt_small; room = h.room; congestion = h.congestion; peered = peered b; row = row b }
+
+    dropped_ordered : IsOrdered (dropped v)
+    dropped_ordered = record { una_small = h.una_small; nxt_small = h.nxt_small; room = h.room; congestion = h.congestion; peered = tt; row = tt }
+
+    -- a socket that differs from v in no number that counts
+    hearing : (st : State) (u : View) → u.state ≡ st → IsPeeredIn st u.tuple → u.local_seq_no ≡ v.local_seq_no → u.remote_last_seq ≡ v.remote_last_seq → u.tx_buffer ≡ v.tx_buffer → u.congestion_controller ≡ v.congestion_controller → Hears a st u
+    hearing st u is p una nxt tx c = record {
+      state = is;
+      una_small = subst (λ (z : TcpSeqNumber). z.0 < 2 ^ 32) (sym una) h.una_small;
+      nxt_small = subst (λ (z : TcpSeqNumber). z.0 < 2 ^ 32) (sym nxt) h.nxt_small;
+      room = subst (λ q. capacity q ≤ 2 ^ 30) (sym tx) h.room;
+      congestion = subst IsOpen (sym c) h.congestion;
+      peered = p;
+      covered = subst (λ (q : Queue). a.len ≤ length q.bytes) (sym tx) covered;
+    }
+
+    moves : (st : State) (u : View) (k : TcpSeqNumber) → s.ack_number ≡ Some k → Hears a st u → seq_sub u.remote_last_seq u.local_seq_no ≤ n + 1 → seq_sub k u.local_seq_no ≤ n + 1
+        → LeavesRow a st u (seq_sub u.remote_last_seq u.local_seq_no - seq_sub k u.local_seq_no) (length u.tx_buffer.bytes - a.len) → After (continues u)
+    moves st u k e hu fn fk leaves = bytes_ordered (heard u now a s) o bs (hears a st u k e (numbered k e) hu (omega (arith, fn, short)) (omega (arith, fk, short)) leaves)
+
+    opens : (ack : Option TcpSeqNumber) → s.ack_number ≡ ack → (fin : Bool) → v.state ≡ state.SynSent → Covers state.SynSent ack v.local_seq_no n fin a.len → After (continues (syn_answered v s))
+    unfolding syn_answered options_taken
+    opens None e fin is c = bytes_ordered (heard u now a s) o bs (hears_nothing a state.SynReceived u e hu (λ t m z. (m, omega (arith, (own state.SynSent is).1), omega (arith, h.una_small))))
+      where
+        u : View
+        u = syn_answered v s
+
+        hu : Hears a state.SynReceived u
+        hu = record { state = ap opened_state e; una_small = h.una_small; nxt_small = omega arith; room = h.room; congestion = taken_open v.congestion_controller s.max_seg_size h.congestion; peered = peer state.SynSent is; covered = covered }
+    opens (Some k) e fin is c = moves state.Established u k e hu (omega (arith, one)) (omega (arith, c.0)) (λ t m z. (m, omega (arith, one, c.0)))
+      where
+        u : View
+        u = syn_answered v s
+
+        one : seq_sub (seq_add v.local_seq_no 1) v.local_seq_no ≡ 1
+        one = omega (arith, h.una_small)
+
+        hu : Hears a state.Established u
+        hu = record { state = ap opened_state e; una_small = h.una_small; nxt_small = omega arith; room = h.room; congestion = taken_open v.congestion_controller s.max_seg_size h.congestion; peered = peer state.SynSent is; covered = covered }
+
+    ack_in_listen : (k : TcpSeqNumber) → s.ack_number ≡ Some k → v.state ≡ state.Listen → ⊥
+    ack_in_listen k e is = let no : Some k ≡ None = sym e ∙ bare is in cc
+
+    listens : (ack : Option TcpSeqNumber) → s.ack_number ≡ ack → (fin : Bool) → v.state ≡ state.Listen → Covers state.Listen ack v.local_seq_no n fin a.len → After (continues (syn_received v now t word s))
+    unfolding syn_received options_taken
+    listens (Some k) e fin is c = absurd (ack_in_listen k e is)
+    listens None e fin is c = bytes_ordered (heard u now a s) o bs (hears_nothing a state.SynReceived u e hu (λ t m z. (m, omega (arith, own state.Listen is), omega (arith, small))))
+      where
+        u : View
+        u = syn_received v now t word s
+
+        hu : Hears a state.SynReceived u
+        hu = record { state = refl; una_small = small; nxt_small = small; room = h.room; congestion = taken_open v.congestion_controller s.max_seg_size h.congestion; peered = refl; covered = covered }
+
+    -- with an acknowledgement
+    row_with : (st : State) (c : TcpControl) (fin : Bool) (k : TcpSeqNumber) → s.ack_number ≡ Some k → v.state ≡ st → CoversSome st fin (seq_sub k v.local_seq_no) n a.len → After (advance_in st c fin v now t word a.len s)
+    unfolding fin_counted
+    row_with state.SynReceived control.Rst fin k e is c = fallen (own state.SynReceived is).1
+    row_with _ control.Rst fin k e is c = dropped_ordered
+    row_with state.Listen control.Syn fin k e is c = absurd (ack_in_listen k e is)
+    row_with state.SynSent control.Syn fin k e is c = opens (Some k) e fin is c
+    row_with state.SynReceived control.None fin k e is c = let r = own state.SynReceived is in moves state.Established (moved_to state.Established v) k e (hearing state.Established _ refl (peer state.SynReceived is) refl refl refl refl) (omega (arith, r.2)) (omega (arith, c.0)) (λ t m z. (m, omega (arith, r.2, c.0)))
+    row_with state.SynReceived control.Fin fin k e is c = let r = own state.SynReceived is in moves state.CloseWait (fin_counted state.CloseWait v) k e (hearing state.CloseWait _ refl (peer state.SynReceived is) refl refl refl refl) (omega (arith, r.2)) (omega (arith, c.0)) (λ t m z. (m, omega (arith, r.2, c.0)))
+    row_with state.Established control.None fin k e is c = let r = own state.Established is in moves state.Established v k e (hearing state.Established v is (peer state.Established is) refl refl refl refl) (omega (arith, r.1)) (omega (arith, c.0)) (λ t m z. (m, omega (arith, r.1, c.0, c.1)))
+    row_with state.Established control.Fin fin k e is c = let r = own state.Established is in moves state.CloseWait (fin_counted state.CloseWait v) k e (hearing state.CloseWait _ refl (peer state.Established is) refl refl refl refl) (omega (arith, r.1)) (omega (arith, c.0)) (λ t m z. (m, omega (arith, r.1, c.0, c.1)))
+    row_with state.FinWait1 control.None true k e is c = let r = own state.FinWait1 is in moves state.FinWait2 (moved_to state.FinWait2 v) k e (hearing state.FinWait2 _ refl (peer state.FinWait1 is) refl refl refl refl) (omega (arith, r.1)) (omega (arith, c.0)) (λ t m z. (m, omega (arith, c.1), omega (arith, r.1, c.0)))
+    row_with state.FinWait1 control.None false k e is c = let r = own state.FinWait1 is in moves state.FinWait1 v k e (hearing state.FinWait1 v is (peer state.FinWait1 is) refl refl refl refl) (omega (arith, r.1)) (omega (arith, c.0)) (λ t m z. (m, omega (arith, r.1, c.0, c.1)))
+    row_with state.FinWait1 control.Fin true k e is c = let r = own state.FinWait1 is in moves state.TimeWait (waiting now (fin_counted state.TimeWait v)) k e (hearing state.TimeWait _ refl (peer state.FinWait1 is) refl refl refl refl) (omega (arith, r.1)) (omega (arith, c.0)) (λ t m z. (z refl (omega (arith, r.1, c.0)) (omega (arith, c.1)), omega (arith, c.1), omega (arith, r.1, c.0)))
+    row_with state.FinWait1 control.Fin false k e is c = let r = own state.FinWait1 is in moves state.Closing (fin_counted state.Closing v) k e (hearing state.Closing _ refl (peer state.FinWait1 is) refl refl refl refl) (omega (arith, r.1)) (omega (arith, c.0)) (λ t m z. (m, omega (arith, r.1, c.0, c.1)))
+    row_with state.FinWait2 control.None fin k e is c = let r = own state.FinWait2 is in moves state.FinWait2 v k e (hearing state.FinWait2 v is (peer state.FinWait2 is) refl refl refl refl) (omega (arith, r.2)) (omega (arith, c.0)) (λ t m z. (m, omega (arith, r.1), omega (arith, r.2)))
+    row_with state.FinWait2 control.Fin fin k e is c = let r = own state.FinWait2 is in moves state.TimeWait (waiting now (fin_counted state.TimeWait v)) k e (hearing state.TimeWait _ refl (peer state.FinWait2 is) refl refl refl refl) (omega (arith, r.2)) (omega (arith, c.0)) (λ t m z. (z refl (omega (arith, r.2)) (omega (arith, r.1)), omega (arith, r.1), omega (arith, r.2)))
+    row_with state.CloseWait control.None fin k e is c = let r = own state.CloseWait is in moves state.CloseWait v k e (hearing state.CloseWait v is (peer state.CloseWait is) refl refl refl refl) (omega (arith, r.1)) (omega (arith, c.0)) (λ t m z. (m, omega (arith, r.1, c.0, c.1)))
+    row_with state.Closing control.None true k e is c = let r = own state.Closing is in moves state.TimeWait (waiting now v) k e (hearing state.TimeWait _ refl (peer state.Closing is) refl refl refl refl) (omega (arith, r.1)) (omega (arith, c.0)) (λ t m z. (z refl (omega (arith, r.1, c.0)) (omega (arith, c.1)), omega (arith, c.1), omega (arith, r.1, c.0)))
+    row_with state.Closing control.None false k e is c = let r = own state.Closing is in moves state.Closing v k e (hearing state.Closing v is (peer state.Closing is) refl refl refl refl) (omega (arith, r.1)) (omega (arith, c.0)) (λ t m z. (m, omega (arith, r.1, c.0, c.1)))
+    row_with state.LastAck control.None true k e is c = let r = own state.LastAck is in moves state.Closed (dropped v) k e (hearing state.Closed _ refl tt refl refl refl refl) (omega (arith, r.1)) (omega (arith, c.0)) (λ t m z. tt)
+    row_with state.LastAck control.None false k e is c = by (a.len == 0)
+      where
+        by : (b : Bool) → After (record { view = v; next = if b then next.Challenge else next.Continue })
+        by true = challenged_ordered v h
+        by false = let r = own state.LastAck is in moves state.LastAck v k e (hearing state.LastAck v is (peer state.LastAck is) refl refl refl refl) (omega (arith, r.1)) (omega (arith, c.0)) (λ t m z. (m, omega (arith, r.1, c.0, c.1)))
+    row_with _ _ fin k e is c = h
+
+    row_without : (st : State) (c : TcpControl) (fin : Bool) → s.ack_number ≡ None → v.state ≡ st → CoversNone st a.len → After (advance_in st c fin v now t word a.len s)
+    row_without state.Listen control.Rst fin e is c = dropped_ordered
+    row_without state.Listen control.Syn fin e is c = listens None e fin is c
+    row_without state.Listen _ fin e is c = h
+    row_without state.SynSent control.Rst fin e is c = dropped_ordered
+    row_without state.SynSent control.Syn fin e is c = opens None e fin is c
+    row_without state.SynSent _ fin e is c = h
+    row_without _ _ fin e is c = absurd c
+
+    pub row_ordered : (st : State) (c : TcpControl) (fin : Bool) (ack : Option TcpSeqNumber) → s.ack_number ≡ ack → v.state ≡ st → Covers st ack v.local_seq_no n fin a.len → After (advance_in st c fin v now t word a.len s)
+    row_ordered st c fin None e is cv = row_without st c fin e is cv
+    row_ordered st c fin (Some k) e is cv = row_with st c fin k e is cv
+
+    -- an RST
+    pub reset_ordered : (st : State) (fin : Bool) → v.state ≡ st → After (advance_in st control.Rst fin v now t word a.len s)
+    reset_ordered state.SynReceived fin is = fallen (own state.SynReceived is).1
+    reset_ordered _ fin is = dropped_ordered
+
+-- ---- the whole
+
+none_not_rst : control.None ≡ control.Rst → ⊥
+none_not_rst e = absurd cc
+
+psh_not_rst : control.Psh ≡ control.Rst → ⊥
+psh_not_rst e = absurd cc
+
+syn_not_rst : control.Syn ≡ control.Rst → ⊥
+syn_not_rst e = absurd cc
+
+fin_not_rst : control.Fin ≡ control.Rst → ⊥
+fin_not_rst e = absurd cc
+
+rst_counts : (c : TcpControl) → c ≡ control.Rst → (w : Window) (number : TcpSeqNumber) (n : ℕ) → counted_control c w number n ≡ control.Rst
+unfolding counted_control
+rst_counts c e w number n = subst (λ x. counted_control x w number n ≡ control.Rst) (sym e) refl
+
+module _ (now : Instant) (word : ℕ) (ip : IpRepr) (s : Segment) (small : word < 2 ^ 32) (numbered : ForSome s.ack_number (λ k. k.0 < 2 ^ 32)) where
+  acked_within : (v : View) → IsOrdered v → (o : Option TcpSeqNumber) → s.ack_number ≡ o → verdict_of v s.control o ≡ verdicts.Pass → (acked_of v s.control o).len ≤ length v.tx_buffer.bytes
+  acked_within v h None e p = none_acked s.control v
+  acked_within v h (Some k) e p = acked_fits s.control v k h.una_small (numbered k e) (omega (arith, h.room)) p
+
+  -- of a socket u whose numbers are those of v
+  inside_ordered : (u : View) (c : TcpControl) (o : ℕ) (bs : List ℕ) → IsOrdered u → (u.state ≡ state.Listen → s.ack_number ≡ None) → (s.control ≡ control.Rst → c ≡ control.Rst) → verdict_of u s.control s.ack_number ≡ verdicts.Pass → IsOrdered (processed_inside u now word c o bs ip s).view
+  unfolding processed_inside advanced
+  inside_ordered u c o bs h bare rst p = by s.control refl
+    where
+      a : Acked
+      a = acked_of u s.control s.ack_number
+
+      within : a.len ≤ length u.tx_buffer.bytes
+      within = acked_within u h s.ack_number refl p
+
+      goes : (s.control ≡ control.Rst → ⊥) → IsOrdered (after_table (advance_in u.state c a.fin u now (tuple_of ip s) word a.len s) now a o bs s).view
+      goes nr = row_ordered s now u (tuple_of ip s) word a o bs small numbered bare h within u.state c a.fin s.ack_number refl refl (covers u.state s.control s.ack_number u.local_seq_no u.remote_last_seq (length u.tx_buffer.bytes) nr h.una_small numbered (omega (arith, h.room)) p)
+
+      by : (x : TcpControl) → s.control ≡ x → IsOrdered (after_table (advance_in u.state c a.fin u now (tuple_of ip s) word a.len s) now a o bs s).view
+      by control.Rst e = subst (λ z. IsOrdered (after_table (advance_in u.state z a.fin u now (tuple_of ip s) word a.len s) now a o bs s).view) (sym (rst e)) (reset_ordered s now u (tuple_of ip s) word a o bs small numbered bare h within u.state a.fin refl)
+      by control.None e = goes (λ r. absurd (none_not_rst (sym e ∙ r)))
+      by control.Psh e = goes (λ r. absurd (psh_not_rst (sym e ∙ r)))
+      by control.Syn e = goes (λ r. absurd (syn_not_rst (sym e ∙ r)))
+      by control.Fin e = goes (λ r. absurd (fin_not_rst (sym e ∙ r)))
+
+  tested_ordered : (v : View) → IsOrdered v → (v.state ≡ state.Listen → s.ack_number ≡ None) → verdict_of v s.control s.ack_number ≡ verdicts.Pass → (b : Bool) → IsOrdered (tested b v now word ip s).view
+  tested_ordered v h bare p false = inside_ordered v s.control 0 [] h bare (λ e. e) p
+  tested_ordered v h bare p true = go (is_inside (receive_window v) s.seq_number (length s.payload))
+    where
+      go : (b : Bool) → IsOrdered (if b then cut_inside (receive_window v) (cut_of (receive_window v) s.seq_number (length s.payload)) v now word ip s else outside v now s).view
+      go false = outside_ordered s now v h
+      go true = inside_ordered (record v { local_rx_last_seq = Some s.seq_number }) (counted_control s.control (receive_window v) s.seq_number (length s.payload)) _ _ (record { una_small = h.una_small; nxt_small = h.nxt_small; room = h.room; congestion = h.congestion; peered = h.peered; row = h.row }) bare (λ e. rst_counts _ e (receive_window v) s.seq_number (length s.payload)) p
+
+  pub process_ordered : (v : View) → IsOrdered v → (v.state ≡ state.Listen → s.ack_number ≡ None) → IsOrdered (processed v now word ip s).view
+  unfolding processed
+  process_ordered v h bare = by (verdict_of v s.control s.ack_number) refl
+    where
+      by : (x : Verdict) → verdict_of v s.control s.ack_number ≡ x → IsOrdered (by_verdict x v now word ip s).view
+      by verdicts.Drop e = h
+      by verdicts.Reset e = h
+      by verdicts.Challenge e = challenged_ordered s now v h
+      by verdicts.Pass e = tested_ordered v h bare e (has_window v.state)

@@ -1,0 +1,92 @@
+-- `process` and `connect` in the words of the law on lists of calls: where no random word is drawn, any does.
+use Rattle.std.proofs.Common.{◌≡◌, ℕ, ◌<◌, ◌≤◌, ◌^◌, ◌∙◌, List, [], Bool, true, false, Some, None, refl, sym, ap, subst, length, arith}
+use Rattle.std.specs.Prelude.{Result, Ok, Err, is_ok, if◌then◌else◌}
+use Rattle.ip_wire.specs.declared.endpoint.IpEndpoint.{IpEndpoint}
+use Rattle.ip_wire.specs.declared.endpoint.IpListenEndpoint.{IpListenEndpoint}
+use Rattle.ip_wire.specs.declared.repr.IpRepr.{IpRepr}
+use Rattle.net_base.specs.declared.time.Instant.{Instant}
+use Rattle.control_wire.specs.Segment.{Segment}
+use Rattle.control_wire.specs.declared.tcp.TcpControl.{TcpControl}
+use Rattle.control_wire.specs.declared.tcp.TcpControl.TheVariants as control
+use Rattle.sock_core.specs.Facts.{Facts}
+use Rattle.sock_tcp.specs.Acked.{acked_of}
+use Rattle.sock_tcp.specs.Advance.{Advance, advance_in, advanced, counted_control}
+use Rattle.sock_tcp.specs.Draw.{draws, Draws}
+use Rattle.sock_tcp.specs.Opening.{endpoints, connect_answer, after_connect, Connects}
+use Rattle.sock_tcp.specs.Process.{Outcome, AcceptsIn, Accepts, after_table, by_verdict, cut_inside, has_window, outside, processed, processed_inside, tested, tuple_of}
+use Rattle.tcp_laws.specs.SocketRun.{Counts, Step, Process, Connect, IsNumbered, after_segment, starting_if}
+use Rattle.sock_tcp.specs.Verdict.{verdict_of}
+use Rattle.sock_tcp.specs.View.{View}
+use Rattle.sock_tcp.specs.Window.{receive_window, is_inside, cut_of}
+use Rattle.sock_tcp.specs.declared.error.ConnectError.{ConnectError}
+use Rattle.sock_tcp.specs.declared.state.State.{State}
+use Rattle.sock_tcp.specs.declared.state.State.TheVariants as state
+use Rattle.sock_tcp.specs.declared.tuple.Tuple.{Tuple}
+use Rattle.sock_tcp.specs.declared.verdict.Verdict.{Verdict}
+use Rattle.sock_tcp.specs.declared.verdict.Verdict.TheVariants as verdicts
+
+-- ---- a segment that draws no word
+
+module _ (now : Instant) (m n : ℕ) (ip : IpRepr) (s : Segment) where
+  rows_alike : (st : State) (c : TcpControl) (fin : Bool) (v : View) (len : ℕ) → draws verdicts.Pass st c ≡ false → advance_in st c fin v now (tuple_of ip s) m len s ≡ advance_in st c fin v now (tuple_of ip s) n len s
+  rows_alike state.Listen control.Syn fin v len e = absurd cc
+  rows_alike _ control.Rst fin v len e = refl
+  rows_alike state.FinWait1 control.None true v len e = refl
+  rows_alike state.FinWait1 control.Fin true v len e = refl
+  rows_alike state.Closing control.None true v len e = refl
+  rows_alike state.LastAck control.None true v len e = refl
+  rows_alike _ _ _ v len e = refl
+
+  inside_alike : (v : View) (c : TcpControl) (o : ℕ) (bs : List ℕ) → draws verdicts.Pass v.state c ≡ false → processed_inside v now m c o bs ip s ≡ processed_inside v now n c o bs ip s
+  unfolding processed_inside advanced
+  inside_alike v c o bs e =
+      ap (λ (t : Advance). after_table t now (acked_of v s.control s.ack_number) o bs s) (rows_alike v.state c (acked_of v s.control s.ack_number).fin v (acked_of v s.control s.ack_number).len e)
+
+  -- only LISTEN draws
+  windowed_draws : (st : State) (c : TcpControl) → has_window st ≡ true → draws verdicts.Pass st c ≡ false
+  windowed_draws state.Listen c w = absurd cc
+  windowed_draws _ c w = refl
+
+  tested_alike : (v : View) (b : Bool) → has_window v.state ≡ b → draws verdicts.Pass v.state s.control ≡ false → tested b v now m ip s ≡ tested b v now n ip s
+  tested_alike v false w e = inside_alike v s.control 0 [] e
+  tested_alike v true w e = go (is_inside (receive_window v) s.seq_number (length s.payload))
+    where
+      go : (b : Bool) → (if b then cut_inside (receive_window v) (cut_of (receive_window v) s.seq_number (length s.payload)) v now m ip s else outside v now s) ≡ (if b then cut_inside (receive_window v) (cut_of (receive_window v) s.seq_number (length s.payload)) v now n ip s else outside v now s)
+      go false = refl
+      go true = inside_alike (record v { local_rx_last_seq = Some s.seq_number }) (counted_control s.control (receive_window v) s.seq_number (length s.payload)) _ _ (windowed_draws v.state _ w)
+
+  verdict_alike : (v : View) (x : Verdict) → draws x v.state s.control ≡ false → by_verdict x v now m ip s ≡ by_verdict x v now n ip s
+  verdict_alike v verdicts.Drop e = refl
+  verdict_alike v verdicts.Reset e = refl
+  verdict_alike v verdicts.Challenge e = refl
+  verdict_alike v verdicts.Pass e = tested_alike v (has_window v.state) refl e
+
+  processed_alike : (v : View) → draws (verdict_of v s.control s.ack_number) v.state s.control ≡ false → processed v now m ip s ≡ processed v now n ip s
+  unfolding processed
+  processed_alike v e = verdict_alike v (verdict_of v s.control s.ack_number) e
+
+-- ---- the calls
+
+pub segment_is_step : {C : Type 0} (facts : C → Facts) (word_at : C → ℕ → ℕ) (v w : View) (cx cx' : C) (now : Instant) (ip : IpRepr) (s : Segment) (k : Counts) → Accepts v ip s → IsNumbered s → length s.payload ≤ 65535 → w ≡ (processed v now (word_at cx 0) ip s).view → Draws (draws (verdict_of v s.control s.ack_number) v.state s.control) facts word_at cx cx' → Step v k w (after_segment k v w)
+segment_is_step facts word_at v w cx cx' now ip s k accepted numbered short view context = go (draws (verdict_of v s.control s.ack_number) v.state s.control) refl context
+  where
+    bare : v.state ≡ state.Listen → s.ack_number ≡ None
+    bare e = (subst (λ st. AcceptsIn st v ip s) e accepted).0.no_ack
+
+    go : (b : Bool) → draws (verdict_of v s.control s.ack_number) v.state s.control ≡ b → Draws b facts word_at cx cx' → Step v k w (after_segment k v w)
+    go true e drawn = Process now (word_at cx 0) ip s drawn.fits numbered short bare view refl
+    go false e same = Process now 0 ip s (omega arith) numbered short bare (view ∙ ap (λ (o : Outcome). o.view) (processed_alike now (word_at cx 0) 0 ip s v e)) refl
+
+pub connect_is_step : {C : Type 0} (facts : C → Facts) (word_at : C → ℕ → ℕ) (v w : View) (cx cx' : C) (remote : IpEndpoint) (local : IpListenEndpoint) (r : Result (Unit {0}) ConnectError) (k : Counts) → Connects facts word_at v cx remote local r w cx' → Step v k w (starting_if (is_ok r) w k)
+connect_is_step facts word_at v w cx cx' remote local r k h = go (endpoints v (facts cx) remote local) refl
+  where
+    step : (word : ℕ) → word < 2 ^ 32 → w ≡ after_connect (endpoints v (facts cx) remote local) v word → is_ok r ≡ is_ok (endpoints v (facts cx) remote local) → Step v k w (starting_if (is_ok r) w k)
+    step word small is ok = Connect (facts cx) word remote local small is (ap (λ b. starting_if b w k) ok)
+
+    go : (x : Result Tuple ConnectError) → endpoints v (facts cx) remote local ≡ x → Step v k w (starting_if (is_ok r) w k)
+    go (Ok t) e =
+        let answer : r ≡ Ok tt = h.answer ∙ ap connect_answer e in
+        step (word_at cx 0) (subst (λ (x : Result (Unit {0}) ConnectError). Draws (is_ok x) facts word_at cx cx') answer h.context).fits h.view (ap is_ok answer ∙ sym (ap is_ok e))
+    go (Err x) e =
+        let answer : r ≡ Err x = h.answer ∙ ap connect_answer e in
+        step 0 (omega arith) (h.view ∙ ap (λ (y : Result Tuple ConnectError). after_connect y v (word_at cx 0)) e ∙ sym (ap (λ (y : Result Tuple ConnectError). after_connect y v 0) e)) (ap is_ok answer ∙ sym (ap is_ok e))

@@ -1,0 +1,256 @@
+-- How a socket with work to do waits for a segment, and what keeps it from it.
+use Rattle.std.proofs.Common.{◌≡◌, ℕ, zero, suc, ◌<◌, ◌^◌, ◌⊎◌, inl, inr, Bool, true, false, true≢false, not, ◌&&◌, ◌||◌, refl, sym, ap, subst, ◌∙◌, length, Option, Some, None, is_none, is_some, arith}
+use Rattle.std.specs.Prelude.{if◌then◌else◌, ◌==◌, nat_lt}
+use Rattle.std.proofs.lemmas.Bool.{eq-eqb, eqb-true, or_parts}
+use Rattle.std.proofs.lemmas.Option.{none-some}
+use Rattle.net_base.specs.declared.time.Duration.{Duration}
+use Rattle.net_base.specs.declared.time.Instant.{Instant}
+use Rattle.control_wire.specs.Seq.{seq_add}
+use Rattle.sock_core.specs.Congestion.{congestion_window}
+use Rattle.sock_core.specs.Facts.{Facts}
+use Rattle.sock_core.specs.declared.congestion.AnyController.{AnyController}
+use Rattle.sock_core.specs.declared.congestion.AnyController.TheVariants as controller
+use Rattle.sock_core.specs.declared.context.PollAt.{PollAt}
+use Rattle.sock_core.specs.declared.context.PollAt.TheVariants as poll
+use Rattle.sock_tcp.specs.Due.{ack_due, ack_poll, data_due, effective_mss, flight, is_closed, is_closing, is_held_back, is_opening, sendable, window_doubled}
+use Rattle.sock_tcp.specs.Poll.{is_due_now, poll_moment, poll_moment_to}
+use Rattle.sock_tcp.specs.Polls.{delay_poll, earlier, timer_poll, timeout_poll}
+use Rattle.sock_tcp.specs.View.{View}
+use Rattle.sock_tcp.specs.Work.{has_work, works_in}
+use Rattle.tcp_laws.specs.Polling.{KeepAliveWakes, NoWorkNoBytes, Sleeps, SleepsIn, SleepsOnlySo, WaitsForPeer}
+use Rattle.sock_tcp.specs.declared.state.State.{State}
+use Rattle.sock_tcp.specs.declared.state.State.TheVariants as state
+use Rattle.sock_tcp.specs.declared.timer.AckDelayTimer.{AckDelayTimer}
+use Rattle.sock_tcp.specs.declared.timer.AckDelayTimer.TheVariants as ack_delay
+use Rattle.sock_tcp.specs.declared.timer.Timer.{Timer}
+use Rattle.sock_tcp.specs.declared.timer.Timer.TheVariants as timer
+use Rattle.sock_tcp.specs.declared.tuple.Tuple.{Tuple}
+use Rattle.tcp_laws.proofs.Ordered.{IsOpen, IsOrdered, IsPeeredIn, Row}
+use Rattle.tcp_laws.proofs.OrderedCalls.{reached_ordered}
+
+-- ---- what `Ingress` says
+
+both_wait : (p q : PollAt) → earlier p q ≡ poll.Ingress → (p ≡ poll.Ingress) × (q ≡ poll.Ingress)
+both_wait poll.Now q e = absurd cc
+both_wait poll.Ingress q e = (refl, e)
+both_wait (poll.Time t) poll.Now e = absurd cc
+both_wait (poll.Time t) poll.Ingress e = absurd cc
+both_wait (poll.Time t) (poll.Time u) e = absurd cc
+
+idle_is : (t : Timer) → timer_poll t ≡ poll.Ingress → t ≡ timer.Idle None
+idle_is (timer.Idle None) e = refl
+idle_is (timer.Idle (Some at)) e = absurd cc
+idle_is (timer.Retransmit at) e = absurd cc
+idle_is timer.FastRetransmit e = absurd cc
+idle_is (timer.ZeroWindowProbe at d) e = absurd cc
+idle_is (timer.Close at) e = absurd cc
+
+no_timeout : (d : Option Duration) (last : Option Instant) → is_none last ≡ false → timeout_poll d last ≡ poll.Ingress → d ≡ None
+no_timeout None last known e = refl
+no_timeout (Some d) None known e = absurd cc
+no_timeout (Some d) (Some last) known e = absurd cc
+
+nothing_delayed : (d : AckDelayTimer) → delay_poll d ≡ poll.Ingress → ⊥
+nothing_delayed ack_delay.Idle e = absurd cc
+nothing_delayed (ack_delay.Waiting at) e = absurd cc
+nothing_delayed ack_delay.Immediate e = absurd cc
+
+not_owed : (b : Bool) (d : AckDelayTimer) → (if b then delay_poll d else poll.Ingress) ≡ poll.Ingress → b ≡ false
+not_owed true d e = absurd (nothing_delayed d e)
+not_owed false d e = refl
+
+-- a socket with a peer whose `poll_at` answers `Ingress`
+record Waits (v : View) (t : Tuple) (f : Facts) (stamps : Bool) : Type 0 where
+  timer : v.timer ≡ timer.Idle None
+  timeout : v.timeout ≡ None
+  no_ack : ack_due v ≡ false
+  no_data : data_due v t f stamps ≡ false
+  not_closed : is_closed v.state ≡ false
+
+waits : (v : View) (t : Tuple) (f : Facts) (stamps : Bool) → poll_moment_to (Some t) v f stamps ≡ poll.Ingress → Waits v t f stamps
+waits v t f stamps e = go (is_due_now v t f stamps) refl e
+  where
+    p : PollAt
+    p = earlier (timer_poll v.timer) (earlier (timeout_poll v.timeout v.remote_last_ts) (ack_poll v))
+
+    go : (b : Bool) → is_due_now v t f stamps ≡ b → (if b then poll.Now else p) ≡ poll.Ingress → Waits v t f stamps
+    go true d e = absurd cc
+    go false d e =
+        let a = or_parts (is_none v.remote_last_ts || is_closed v.state || data_due v t f stamps) (window_doubled v) d in
+        let b = or_parts (is_none v.remote_last_ts || is_closed v.state) (data_due v t f stamps) a.0 in
+        let c = or_parts (is_none v.remote_last_ts) (is_closed v.state) b.0 in
+        let m = both_wait (timer_poll v.timer) (earlier (timeout_poll v.timeout v.remote_last_ts) (ack_poll v)) e in
+        let n = both_wait (timeout_poll v.timeout v.remote_last_ts) (ack_poll v) m.1 in
+        record {
+          timer = idle_is v.timer m.0;
+          timeout = no_timeout v.timeout v.remote_last_ts c.0 n.0;
+          no_ack = not_owed (ack_due v) v.ack_delay_timer n.1;
+          no_data = b.1;
+          not_closed = c.1;
+        }
+
+-- ---- what is not due
+
+-- a SYN that counts as unsent is due
+syn_due : (v : View) (t : Tuple) (f : Facts) (stamps : Bool) → is_opening v.state ≡ true → flight v ≡ 0 → data_due v t f stamps ≡ false → ⊥
+unfolding data_due
+syn_due v t f stamps o z e =
+    let a = or_parts ((v.pending_fast_retransmit && not (length v.tx_buffer.bytes == 0)) || (is_opening v.state && (flight v == 0)) || (not (sendable v == 0) && not (is_held_back v (effective_mss v t f stamps)))) _ e in
+    let b = or_parts ((v.pending_fast_retransmit && not (length v.tx_buffer.bytes == 0)) || (is_opening v.state && (flight v == 0))) _ a.0 in
+    let c = or_parts (v.pending_fast_retransmit && not (length v.tx_buffer.bytes == 0)) _ b.0 in
+    true≢false (sym (rw (o, z) refl) ∙ c.1)
+
+-- nothing in flight, and a window that lets the queue go out
+data_goes : (v : View) (t : Tuple) (f : Facts) (stamps : Bool) → data_due v t f stamps ≡ false → flight v ≡ 0 → sendable v ≡ 0
+unfolding data_due
+data_goes v t f stamps e z = go (sendable v == 0) refl
+  where
+    some : (not (sendable v == 0) && not (is_held_back v (effective_mss v t f stamps))) ≡ false
+    some =
+        let a = or_parts ((v.pending_fast_retransmit && not (length v.tx_buffer.bytes == 0)) || (is_opening v.state && (flight v == 0)) || (not (sendable v == 0) && not (is_held_back v (effective_mss v t f stamps)))) _ e in
+        (or_parts ((v.pending_fast_retransmit && not (length v.tx_buffer.bytes == 0)) || (is_opening v.state && (flight v == 0))) _ a.0).1
+
+    by_nagle : (b : Bool) → (b && not (flight v == 0) && nat_lt (sendable v) (effective_mss v t f stamps) && not (is_closing v.state)) ≡ false
+    by_nagle true = rw z refl
+    by_nagle false = refl
+
+    not_held : is_held_back v (effective_mss v t f stamps) ≡ false
+    not_held = by_nagle v.nagle
+
+    go : (b : Bool) → (sendable v == 0) ≡ b → sendable v ≡ 0
+    go true i = eqb-true (sendable v) 0 i
+    go false i = absurd (true≢false (sym (rw (i, not_held) refl) ∙ some))
+
+-- a FIN at SND.NXT is due
+fin_due : (v : View) (t : Tuple) (f : Facts) (stamps : Bool) → is_closing v.state ≡ true → v.local_seq_no.0 < 2 ^ 32 → v.remote_last_seq.0 < 2 ^ 32 → flight v ≡ 0 → length v.tx_buffer.bytes ≡ 0 → data_due v t f stamps ≡ false → ⊥
+unfolding data_due
+fin_due v t f stamps o hu hn z n e =
+    let a = or_parts ((v.pending_fast_retransmit && not (length v.tx_buffer.bytes == 0)) || (is_opening v.state && (flight v == 0)) || (not (sendable v == 0) && not (is_held_back v (effective_mss v t f stamps)))) _ e in
+    let x : v.remote_last_seq.0 ≡ (seq_add v.local_seq_no (length v.tx_buffer.bytes)).0 = omega (arith, z, n, hu, hn) in
+    true≢false (sym (rw (o, eq-eqb v.remote_last_seq.0 (seq_add v.local_seq_no (length v.tx_buffer.bytes)).0 x) refl) ∙ a.1)
+
+open_window : (c : AnyController) → IsOpen c → 0 < congestion_window c
+open_window (controller.None x) h = omega arith
+open_window (controller.Reno r) h = h.cwnd
+
+zero_or_not : (n : ℕ) → (n ≡ 0) ⊎ (0 < n)
+zero_or_not zero = inl refl
+zero_or_not (suc n) = inr (omega arith)
+
+module _ (v : View) (t : Tuple) (f : Facts) (stamps : Bool) (h : IsOrdered v) (w : Waits v t f stamps) where
+  abbrev n : ℕ
+  n = length v.tx_buffer.bytes
+
+  no_window : flight v ≡ 0 → 0 < n → v.remote_win_len ≡ 0
+  no_window z some = omega (arith, z, some, data_goes v t f stamps w.no_data z, open_window v.congestion_controller h.congestion)
+
+  data_waits : 0 < n → WaitsForPeer (flight v) v.remote_win_len
+  data_waits some = go (zero_or_not (flight v))
+    where
+      go : (flight v ≡ 0) ⊎ (0 < flight v) → WaitsForPeer (flight v) v.remote_win_len
+      go (inl z) = inr (z, no_window z some)
+      go (inr i) = inl i
+
+  fin_waits : is_closing v.state ≡ true → WaitsForPeer (flight v) v.remote_win_len
+  fin_waits c = go (zero_or_not (flight v)) (zero_or_not n)
+    where
+      go : (flight v ≡ 0) ⊎ (0 < flight v) → (n ≡ 0) ⊎ (0 < n) → WaitsForPeer (flight v) v.remote_win_len
+      go (inl z) (inl e) = absurd (fin_due v t f stamps c h.una_small h.nxt_small z e w.no_data)
+      go (inl z) (inr i) = inr (z, no_window z i)
+      go (inr i) e = inl i
+
+  some_bytes : (m : ℕ) → not (m == 0) ≡ true → 0 < m
+  some_bytes zero e = absurd cc
+  some_bytes (suc m) e = omega arith
+
+  -- the row of the state, with the idle timer
+  row : (st : State) → v.state ≡ st → Row st (timer.Idle None) v.keep_alive (flight v) n
+  row st is = subst (λ z. Row z (timer.Idle None) v.keep_alive (flight v) n) is (subst (λ z. Row v.state z v.keep_alive (flight v) n) w.timer h.row)
+
+  no_moment : (st : State) → v.state ≡ st → v.tuple ≡ Some t → v.keep_alive ≡ None
+  no_moment state.Closed is p = absurd (true≢false (sym (ap is_closed is) ∙ w.not_closed))
+  no_moment state.Listen is p = absurd (none-some t (sym (subst (λ z. IsPeeredIn z v.tuple) is h.peered) ∙ p))
+  no_moment state.SynSent is p = absurd (syn_due v t f stamps (ap is_opening is) (row state.SynSent is).0 w.no_data)
+  no_moment state.TimeWait is p = absurd (true≢false (sym (row state.TimeWait is).0))
+  no_moment state.SynReceived is p = (row state.SynReceived is).0
+  no_moment state.Established is p = (row state.Established is).0
+  no_moment state.CloseWait is p = (row state.CloseWait is).0
+  no_moment state.FinWait1 is p = (row state.FinWait1 is).0
+  no_moment state.Closing is p = (row state.Closing is).0
+  no_moment state.LastAck is p = (row state.LastAck is).0
+  no_moment state.FinWait2 is p = (row state.FinWait2 is).0
+
+  sleeps_in : (st : State) → v.state ≡ st → works_in st (is_some v.tuple) (n == 0) v.synack_paused ≡ true → SleepsIn st (flight v) v.remote_win_len
+  sleeps_in state.Closed is e = true≢false (sym (ap is_closed is) ∙ w.not_closed)
+  sleeps_in state.Listen is e = absurd cc
+  sleeps_in state.SynSent is e = syn_due v t f stamps (ap is_opening is) (row state.SynSent is).0 w.no_data
+  sleeps_in state.TimeWait is e = true≢false (sym (row state.TimeWait is).0)
+  sleeps_in state.SynReceived is e = one (zero_or_not (flight v))
+    where
+      one : (flight v ≡ 0) ⊎ (0 < flight v) → flight v ≡ 1
+      one (inl z) = absurd (syn_due v t f stamps (ap is_opening is) z w.no_data)
+      one (inr i) = omega (arith, i, (row state.SynReceived is).2)
+  sleeps_in state.Established is e = data_waits (some_bytes n e)
+  sleeps_in state.CloseWait is e = data_waits (some_bytes n e)
+  sleeps_in state.FinWait1 is e = fin_waits (ap is_closing is)
+  sleeps_in state.Closing is e = fin_waits (ap is_closing is)
+  sleeps_in state.LastAck is e = fin_waits (ap is_closing is)
+  sleeps_in state.FinWait2 is e = absurd cc
+
+-- ---- the laws
+
+pub keep_alive_wakes : KeepAliveWakes
+unfolding poll_moment
+keep_alive_wakes v t d f stamps r p k e =
+    let w = waits v t f stamps (subst (λ o. poll_moment_to o v f stamps ≡ poll.Ingress) p e) in
+    none-some d (sym (no_moment v t f stamps (reached_ordered v r) w v.state refl p) ∙ k)
+
+no_peer : (st : State) (peer empty paused : Bool) → (peer ≡ true → ⊥) → works_in st peer empty paused ≡ true → IsPeeredIn st None → ⊥
+no_peer state.Closed peer empty paused nr e p = nr e
+no_peer state.Listen peer empty paused nr e p = absurd cc
+no_peer _ peer empty paused nr e p = absurd cc
+
+pub sleeps_only_so : SleepsOnlySo
+unfolding has_work poll_moment
+sleeps_only_so v f stamps r work e = go v.tuple refl
+  where
+    h : IsOrdered v
+    h = reached_ordered v r
+
+    go : (o : Option Tuple) → v.tuple ≡ o → Sleeps v
+    go None p = absurd (no_peer v.state (is_some v.tuple) (length v.tx_buffer.bytes == 0) v.synack_paused (λ q. true≢false (sym q ∙ ap is_some p)) work (subst (IsPeeredIn v.state) p h.peered))
+    go (Some t) p =
+        let w = waits v t f stamps (subst (λ o. poll_moment_to o v f stamps ≡ poll.Ingress) p e) in
+        record {
+          timer = w.timer;
+          timeout = w.timeout;
+          keep_alive = no_moment v t f stamps h w v.state refl p;
+          no_ack = w.no_ack;
+          waits = sleeps_in v t f stamps h w v.state refl work;
+        }
+
+pub no_work_no_bytes : NoWorkNoBytes
+unfolding has_work
+no_work_no_bytes v r open_still e = go v.state refl e
+  where
+    h : IsOrdered v
+    h = reached_ordered v r
+
+    own : (st : State) → v.state ≡ st → Row st v.timer v.keep_alive (flight v) (length v.tx_buffer.bytes)
+    own st is = subst (λ z. Row z v.timer v.keep_alive (flight v) (length v.tx_buffer.bytes)) is h.row
+
+    none_left : (m : ℕ) → not (m == 0) ≡ false → m ≡ 0
+    none_left m e = by (m == 0) refl e
+      where
+        by : (b : Bool) → (m == 0) ≡ b → not b ≡ false → m ≡ 0
+        by true i e = eqb-true m 0 i
+        by false i e = absurd (true≢false e)
+
+    go : (st : State) → v.state ≡ st → works_in st (is_some v.tuple) (length v.tx_buffer.bytes == 0) v.synack_paused ≡ false → length v.tx_buffer.bytes ≡ 0
+    go state.Closed is e = absurd (open_still is)
+    go state.Listen is e = own state.Listen is
+    go state.SynReceived is e = (own state.SynReceived is).1
+    go state.FinWait2 is e = (own state.FinWait2 is).1
+    go state.Established is e = none_left (length v.tx_buffer.bytes) e
+    go state.CloseWait is e = none_left (length v.tx_buffer.bytes) e
+    go _ is e = absurd cc

@@ -1,0 +1,5 @@
+use Rattle.tcp_laws.proofs.Receiving.{only_appends}
+use Rattle.tcp_laws.proofs.streams.process_only_appends.Goals as goal
+
+pub returns : goal.returns
+returns c = only_appends

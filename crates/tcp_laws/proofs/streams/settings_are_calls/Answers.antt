@@ -1,0 +1,24 @@
+use Rattle.std.proofs.Common.{refl}
+use Rattle.tcp_laws.specs.SocketRun.{Set, SetCongestionControl, SetTimeout, SetAckDelay, SetNagle, SetKeepAlive, SetHopLimit, PauseSynAck}
+use Rattle.tcp_laws.proofs.streams.settings_are_calls.Goals as goal
+
+pub returns-clause-congestion_control : goal.returns-clause-congestion_control
+returns-clause-congestion_control c v k x = Set (SetCongestionControl x refl) refl
+
+pub returns-clause-timeout : goal.returns-clause-timeout
+returns-clause-timeout c v k x = Set (SetTimeout x refl) refl
+
+pub returns-clause-ack_delay : goal.returns-clause-ack_delay
+returns-clause-ack_delay c v k x = Set (SetAckDelay x refl) refl
+
+pub returns-clause-nagle : goal.returns-clause-nagle
+returns-clause-nagle c v k x = Set (SetNagle x refl) refl
+
+pub returns-clause-keep_alive : goal.returns-clause-keep_alive
+returns-clause-keep_alive c v k x = Set (SetKeepAlive x refl) refl
+
+pub returns-clause-hop_limit : goal.returns-clause-hop_limit
+returns-clause-hop_limit c v k x = Set (SetHopLimit x refl) refl
+
+pub returns-clause-pause : goal.returns-clause-pause
+returns-clause-pause c v k x = Set (PauseSynAck x refl) refl

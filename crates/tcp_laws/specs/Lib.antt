@@ -1,0 +1,4 @@
+pub mod Laws
+pub mod SocketRun
+pub mod SocketBytes
+pub mod Polling

@@ -1,0 +1,8 @@
+//! What is promised of one TCP socket beyond its case tables, as laws: functions whose contracts are the laws.
+//!
+//! What to read first, in `specs`: `Promised` in `SocketRun.antt`, with `streams::one_socket_keeps_its_streams`: what
+//! holds after any list of calls. What is promised of two sockets is in `docs/THEOREM.md`.
+#![tactic(auto)]
+
+pub mod poll;
+pub mod streams;

@@ -1,0 +1,70 @@
+//! What is promised of `poll_at`, of a socket that waits, and of the payload of a segment, as laws: functions whose
+//! contracts are the laws. Their bodies are empty, or the one call that the law speaks of.
+ghost use Rattle.std.specs.Prelude.{◌≡◌, Ok, is_some};
+ghost use Rattle.sock_tcp.specs.View.{moment_of};
+ghost use Rattle.sock_tcp.specs.Polls.{IsLater};
+ghost use Rattle.sock_tcp.specs.Dispatch.{Dispatches};
+ghost use Rattle.sock_tcp.specs.Poll.{poll_moment};
+ghost use Rattle.tcp_laws.specs.Polling.{KeepAliveWakes, NoWorkNoBytes, PayloadKeepsToWindows, PollHidesNothing, SleepsOnlySo, TimeoutWakes};
+
+use control_wire::TcpRepr;
+use ip_wire::IpRepr;
+use sock_core::Context;
+use sock_tcp::{Socket, TsvalSource};
+
+/// Where `poll_at` answers a moment after now, or `Ingress`, a `dispatch` at now in the same context has nothing to
+/// send.
+pub fn poll_at_hides_nothing()
+    ensures { PollHidesNothing }
+{}
+
+/// A `dispatch` before the moment that `poll_at` answered: it emits nothing and leaves the context as it was.
+pub fn dispatch_early<
+    G: TsvalSource,
+    C: Context,
+    E,
+    F: FnOnce(&mut C, (IpRepr, TcpRepr<'_>)) -> Result<(), E>,
+>(socket: &mut Socket<'_, G>, cx: &mut C, emit: F) -> Result<(), E>
+    requires callable { F.IsAlwaysCallable emit }
+    requires later { IsLater
+        (poll_moment socket.old.control_block (C.facts cx.old) (is_some socket.old.tsval_generator))
+        (moment_of (C.facts cx.old)) }
+    ensures answer { result ≡ Ok tt }
+    ensures context { cx.new ≡ cx.old }
+    ensures table { Dispatches F.FnOnce emit (C.facts cx.old) G.tells socket.old.tsval_generator
+        socket.old.control_block cx.old result socket.new.control_block cx.new }
+{
+    socket.dispatch(cx, emit)
+}
+
+/// What the payload of a segment keeps to, where it is not empty and no fast retransmission, probe or keep-alive: it
+/// ends at or before SND.UNA plus the peer's window, and is at most the congestion window less what is in flight.
+pub fn payload_keeps_to_windows()
+    ensures { PayloadKeepsToWindows }
+{}
+
+/// How a socket with work to do may wait for a segment alone, after any list of calls on a new socket over any two
+/// buffers of at most 2^30 bytes, with any segments that `accepts` lets in: only with an idle timer that has no moment,
+/// without a user timeout and a keep-alive interval, and with no acknowledgement due; and only in SYN-RECEIVED with the
+/// SYN taken as sent, or in ESTABLISHED, CLOSE-WAIT, FIN-WAIT-1, CLOSING or LAST-ACK, where something is in flight, or
+/// nothing is and the peer's window is 0.
+pub fn sleeps_only_so()
+    ensures { SleepsOnlySo }
+{}
+
+/// Without work to do a socket that is not CLOSED has an empty transmit queue, after any list of calls as above.
+pub fn no_work_no_bytes()
+    ensures { NoWorkNoBytes }
+{}
+
+/// With a user timeout a socket that has a peer never waits for a segment alone: `poll_at` answers `Now` where the
+/// moment of the last segment is forgotten, and else a moment that is at the latest the timeout after it.
+pub fn timeout_wakes()
+    ensures { TimeoutWakes }
+{}
+
+/// With a keep-alive interval a socket that has a peer never waits for a segment alone, after any list of calls on a
+/// new socket over any two buffers of at most 2^30 bytes.
+pub fn keep_alive_wakes()
+    ensures { KeepAliveWakes }
+{}
