@@ -34,12 +34,12 @@ fn any(port: u16) -> IpListenEndpoint {
 
 // Which calls of `listen` are refused.
 fn listens(rt: &(impl Abort), socket: &mut Tcp<'_>) {
-    assert!(rt; socket.listen(any(0)) == Err(ListenError::Unaddressable) && !socket.is_open());
-    assert!(rt; socket.listen(any(80)) == Ok(()) && socket.is_open());
+    assert!(rt; socket.listen(any(0)) == Err(ListenError::Unaddressable));
+    assert!(rt; socket.openness() == (false, false, false));
+    assert!(rt; socket.listen(any(80)) == Ok(()));
     assert!(rt; socket.listen(any(80)) == Ok(()));
     assert!(rt; socket.listen(any(81)) == Err(ListenError::InvalidState));
-    assert!(rt; socket.is_listening() && !socket.is_active());
-    assert!(rt; socket.listen_endpoint() == any(80));
+    assert!(rt; socket.openness() == (true, true, false) && socket.listen_endpoint() == any(80));
 }
 
 // Connects to B at this port.
@@ -66,8 +66,9 @@ fn connects(socket: &mut Tcp<'_>, cx: &mut Host) -> [Result<(), ConnectError>; 4
 // What a socket shows that connects from A to B.
 fn shows_its_peer(rt: &(impl Abort), socket: &Tcp<'_>) {
     assert!(rt; socket.state() == State::SynSent);
-    assert!(rt; (socket.local_endpoint(), socket.remote_endpoint()) == (Some(A), Some(B)));
-    assert!(rt; socket.is_active() && !socket.may_send() && !socket.can_send());
+    assert!(rt; socket.endpoints() == (Some(A), Some(B)));
+    assert!(rt; socket.openness() == (true, false, true));
+    assert!(rt; socket.sending() == (false, false, 4, 0));
 }
 
 // When it is to be asked again: at once, once its SYN is out, and with a timeout.
@@ -132,11 +133,6 @@ fn reads(socket: &mut Tcp<'_>, want: &[u8]) -> bool {
         Ok(count) if count <= 8 => &bytes[..count] == want,
         _ => false,
     }
-}
-
-// How many bytes wait to be sent, and to be read.
-fn waiting(socket: &Tcp<'_>) -> (usize, usize) {
-    (socket.send_queue(), socket.recv_queue())
 }
 
 // Connects a new socket, by a SYN|ACK made by hand.
@@ -226,9 +222,9 @@ fn first_byte(socket: &mut Tcp<'_>) -> Result<Option<u8>, RecvError> {
 
 // A closure takes nothing, another writes two bytes, and they go out.
 fn sends_by_a_closure(rt: &(impl Abort), socket: &mut Tcp<'_>, cx: &mut Host) {
-    assert!(rt; lent(socket) == (Ok(4), Ok(0)) && waiting(socket) == (0, 0));
+    assert!(rt; lent(socket) == (Ok(4), Ok(0)));
     assert!(rt; writes_hi(socket) == Ok(()));
-    assert!(rt; socket.may_send() && socket.can_send() && socket.send_capacity() == 4);
+    assert!(rt; socket.sending() == (true, true, 4, 2));
     assert!(rt; emitted(socket, cx) == Some((1001, 2)));
 }
 
@@ -242,18 +238,17 @@ fn hears_three(socket: &mut Tcp<'_>, cx: &mut Host) -> bool {
 
 // Peeks leave what came; a closure takes a byte, and a slice the others.
 fn reads_by_a_closure(rt: &(impl Abort), socket: &mut Tcp<'_>) {
-    assert!(rt; socket.may_recv() && socket.can_recv() && socket.recv_capacity() == 4);
+    assert!(rt; socket.receiving() == (true, true, 4, 3));
     assert!(rt; peeks(socket, b"xy", b"xyz"));
     assert!(rt; first_byte(socket) == Ok(Some(b'x')));
     assert!(rt; reads(socket, b"yz"));
-    assert!(rt; waiting(socket) == (0, 0));
+    assert!(rt; socket.receiving() == (true, false, 4, 0));
 }
 
 // A text of which four bytes fit.
 fn writes_a_text(rt: &(impl Abort), socket: &mut Tcp<'_>) {
-    assert!(rt; socket.write_str(""));
-    assert!(rt; !socket.write_str("hello"));
-    assert!(rt; socket.send_queue() == 4);
+    assert!(rt; socket.sending() == (true, true, 4, 0) && socket.write_str(""));
+    assert!(rt; !socket.write_str("hello") && socket.sending() == (true, false, 4, 4));
 }
 
 // The state after a close by the user.
