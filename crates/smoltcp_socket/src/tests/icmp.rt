@@ -1,31 +1,41 @@
 //! Worked examples of ICMP sockets.
 use super::host::Host;
-use super::packets::{first, two_packets};
+use super::slices::first;
 use crate::PollAt;
 use crate::icmp::*;
 use crate::wire::{
-    IcmpRepr, Icmpv4Repr, IpAddress, IpListenEndpoint, IpProtocol, IpRepr, Ipv4Address, Ipv4Repr,
+    IcmpRepr, Icmpv4Repr, Icmpv6Repr, IpAddress, IpListenEndpoint, IpProtocol, IpRepr, Ipv4Address,
+    Ipv4Repr, Ipv6Address, Ipv6Repr,
 };
 use std::process::Abort;
 use std::test::Fail;
 
-const THERE: IpAddress = IpAddress::Ipv4(Ipv4Address([10, 0, 0, 2]));
+const HERE: Ipv4Address = Ipv4Address([10, 0, 0, 1]);
+
+const PEER: Ipv4Address = Ipv4Address([10, 0, 0, 2]);
+
+const THERE: IpAddress = IpAddress::Ipv4(PEER);
 
 const NOWHERE: IpAddress = IpAddress::Ipv4(Ipv4Address([0; 4]));
 
+const V6: Ipv6Address = Ipv6Address([1; 16]);
+
+const SEVENS: [u8; 67] = [7; 67];
+
+// An echo request with the identifier 0x1234, and its checksum.
+const ECHO: [u8; 8] = [8, 0, 0xe5, 0xca, 0x12, 0x34, 0, 1];
+
 // A socket that has no room for messages.
 fn roomless() -> Socket<'static> {
-    holding(PacketBuffer::new(&mut [], &mut []))
-}
-
-// A socket in which these wait to be read, and that has no room for messages to send.
-fn holding(received: PacketBuffer<'_>) -> Socket<'_> {
-    Socket::new(received, PacketBuffer::new(&mut [], &mut []))
+    receiver(&mut [], &mut [])
 }
 
 // The socket's calls without their contracts: the tests prove faster so.
 fn receiver<'a>(places: &'a mut [PacketMetadata], bytes: &'a mut [u8]) -> Socket<'a> {
-    holding(PacketBuffer::new(places, bytes))
+    Socket::new(
+        PacketBuffer::new(places, bytes),
+        PacketBuffer::new(&mut [], &mut []),
+    )
 }
 
 fn sender<'a>(places: &'a mut [PacketMetadata], bytes: &'a mut [u8]) -> Socket<'a> {
@@ -47,20 +57,30 @@ fn sends(socket: &mut Socket<'_>, data: &[u8], remote: IpAddress) -> Result<(), 
     socket.send_slice(data, remote)
 }
 
-fn lends(socket: &mut Socket<'_>, size: usize, remote: IpAddress) -> Result<usize, SendError> {
-    socket.send(size, remote).map(|lent| lent.len())
+// Sends these bytes by way of the lent slice.
+fn lends(socket: &mut Socket<'_>, data: &[u8]) -> Result<(), SendError> {
+    let lent = socket.send(data.len(), THERE)?;
+    lent.copy_from_slice(data);
+    Ok(())
 }
 
-fn hears(socket: &mut Socket<'_>, message: &Icmpv4Repr<'_>) {
-    socket.process_v4(&Host::new(None), &TO_HERE, message);
+// Sends two of four bytes by a closure.
+fn sends_two(socket: &mut Socket<'_>) -> Result<usize, SendError> {
+    socket.send_with(4, THERE, |lent| lent.len().min(2))
 }
 
-fn gives(socket: &mut Socket<'_>, answer: Result<(&[u8], IpAddress), RecvError>) -> bool {
-    socket.recv() == answer
+// How many messages and bytes may wait to be sent, how many bytes do, and whether there is room.
+fn to_send(socket: &Socket<'_>) -> (usize, usize, usize, bool) {
+    (
+        socket.packet_send_capacity(),
+        socket.payload_send_capacity(),
+        socket.send_queue(),
+        socket.can_send(),
+    )
 }
 
-// How many messages and bytes may wait to be read, how many bytes do, and whether there is a message.
-fn receives(socket: &Socket<'_>) -> (usize, usize, usize, bool) {
+// The same of those that came, and whether there is one.
+fn received(socket: &Socket<'_>) -> (usize, usize, usize, bool) {
     (
         socket.packet_recv_capacity(),
         socket.payload_recv_capacity(),
@@ -69,28 +89,15 @@ fn receives(socket: &Socket<'_>) -> (usize, usize, usize, bool) {
     )
 }
 
-fn copies(socket: &mut Socket<'_>) -> Result<(usize, IpAddress), RecvError> {
-    socket.recv_slice(&mut [0; 4])
-}
-
 // The socket is bound once, to an identifier or a port.
 fn binds_once(rt: &(impl Abort), socket: &mut Socket<'_>) {
     let portless = IpListenEndpoint::default();
-    for (endpoint, answer, open) in [
-        (
-            Endpoint::Udp(portless),
-            Err(BindError::Unaddressable),
-            false,
-        ),
-        (Endpoint::Ident(0), Ok(()), true),
-        (Endpoint::Ident(1), Err(BindError::InvalidState), true),
-        (Endpoint::default(), Err(BindError::Unaddressable), true),
-    ] {
-        assert!(rt; binds(socket, endpoint) == answer);
-        assert!(rt; socket.is_open() == open);
-    }
-    assert!(rt; !Endpoint::Tcp(portless).is_specified());
-    assert!(rt; Endpoint::Ident(7) < Endpoint::Tcp(portless));
+    assert!(rt; !socket.is_open() && !Endpoint::Tcp(portless).is_specified());
+    assert!(rt; binds(socket, Endpoint::Udp(portless)) == Err(BindError::Unaddressable));
+    assert!(rt; binds(socket, Endpoint::Ident(0)) == Ok(()));
+    assert!(rt; binds(socket, Endpoint::Ident(1)) == Err(BindError::InvalidState));
+    assert!(rt; binds(socket, Endpoint::default()) == Err(BindError::Unaddressable));
+    assert!(rt; socket.is_open());
 }
 
 #[test]
@@ -100,66 +107,66 @@ fn icmp_bind_validation(rt: HostRuntime) -> Result<(), Fail> {
     Ok(())
 }
 
-// What an ICMP socket that sends may hold: one message, and 66 bytes.
+// The header of what is emitted, and whether the dispatch answered Ok.
+fn emitted(socket: &mut Socket<'_>, fail: bool) -> (Option<IpRepr>, bool) {
+    let mut cx = Host::new(Some(HERE));
+    let mut seen = None;
+    let answer = socket.dispatch(&mut cx, |_: &mut Host, sent: (IpRepr, IcmpRepr<'_>)| {
+        seen = Some(sent.0);
+        if fail { Err(()) } else { Ok(()) }
+    });
+    (seen, answer.is_ok())
+}
+
+// What is too long or goes nowhere is refused, and six bytes are no message.
+fn refuses_and_drops(rt: &(impl Abort), socket: &mut Socket<'_>) {
+    assert!(rt; sends(socket, &SEVENS, THERE) == Err(SendError::BufferFull));
+    assert!(rt; sends(socket, first(&SEVENS, 6), NOWHERE) == Err(SendError::Unaddressable));
+    assert!(rt; polls(socket) == PollAt::Ingress);
+    assert!(rt; sends(socket, first(&SEVENS, 6), THERE) == Ok(()));
+    assert!(rt; polls(socket) == PollAt::Now && to_send(socket) == (1, 66, 6, false));
+    assert!(rt; emitted(socket, false) == (None, true));
+}
+
+// The hop limit that is set.
+fn limited(socket: &mut Socket<'_>, hop_limit: u8) -> Option<u8> {
+    if hop_limit != 0 {
+        socket.set_hop_limit(Some(hop_limit));
+    }
+    socket.hop_limit()
+}
+
+// A message goes out once, from the host's address, whose first emit fails.
+fn goes_out_once(rt: &(impl Abort), socket: &mut Socket<'_>) {
+    let header = IpRepr::Ipv4(Ipv4Repr {
+        src_addr: HERE,
+        dst_addr: PEER,
+        next_header: IpProtocol::Icmp,
+        payload_len: 8,
+        hop_limit: 3,
+    });
+    assert!(rt; limited(socket, 3) == Some(3));
+    assert!(rt; lends(socket, &ECHO) == Ok(()));
+    assert!(rt; emitted(socket, true) == (Some(header), false));
+    assert!(rt; emitted(socket, false) == (Some(header), true));
+    assert!(rt; emitted(socket, false) == (None, true));
+    assert!(rt; sends_two(socket) == Ok(2));
+    assert!(rt; lends(socket, &ECHO) == Err(SendError::BufferFull));
+}
+
 #[test]
-fn icmp_send_limits(rt: HostRuntime) -> Result<(), Fail> {
+fn icmp_messages_go_out(rt: HostRuntime) -> Result<(), Fail> {
     let mut places = [PacketMetadata::EMPTY; 1];
     let mut bytes = [0u8; 66];
     let mut socket = sender(&mut places, &mut bytes);
-    let data = [7; 67];
-    for (size, remote, answer, next) in [
-        (67, THERE, Err(SendError::BufferFull), PollAt::Ingress),
-        (6, NOWHERE, Err(SendError::Unaddressable), PollAt::Ingress),
-        (66, THERE, Ok(()), PollAt::Now),
-    ] {
-        assert!(rt; sends(&mut socket, first(&data, size), remote) == answer);
-        assert!(rt; polls(&socket) == next);
-    }
-    assert!(rt; !socket.can_send() && socket.send_queue() == 66);
+    refuses_and_drops(&rt, &mut socket);
+    goes_out_once(&rt, &mut socket);
     Ok(())
 }
-
-// A message without a destination is refused, and one for which there is no room.
-fn refuses_to_send(rt: &(impl Abort), socket: &mut Socket<'_>) {
-    assert!(rt; lends(socket, 1, NOWHERE) == Err(SendError::Unaddressable));
-    assert!(rt; lends(socket, 0, THERE) == Err(SendError::BufferFull));
-    assert!(rt; socket.send_with(0, THERE, |lent| lent.len()) == Err(SendError::BufferFull));
-    assert!(rt; socket.hop_limit() == None);
-    socket.set_hop_limit(Some(3));
-    assert!(rt; socket.hop_limit() == Some(3));
-}
-
-#[test]
-fn icmp_full_buffer(rt: HostRuntime) -> Result<(), Fail> {
-    let mut socket = roomless();
-    refuses_to_send(&rt, &mut socket);
-    Ok(())
-}
-
-// The first message is lost to a copy that is too short, the second is given whole, and then there is none.
-fn gives_the_second(rt: &(impl Abort), socket: &mut Socket<'_>) {
-    assert!(rt; copies(socket) == Err(RecvError::Truncated));
-    assert!(rt; gives(socket, Ok((b"xyz", THERE))));
-    assert!(rt; copies(socket) == Err(RecvError::Exhausted));
-    assert!(rt; gives(socket, Err(RecvError::Exhausted)) && !socket.can_recv());
-}
-
-#[test]
-fn icmp_truncated_slices(rt: HostRuntime) -> Result<(), Fail> {
-    let mut places = [PacketMetadata::EMPTY; 2];
-    let mut bytes = [0u8; 16];
-    let received = two_packets(&rt, &mut places, &mut bytes, THERE);
-    let mut socket = holding(received);
-    assert!(rt; receives(&socket) == (2, 16, 9, true));
-    gives_the_second(&rt, &mut socket);
-    Ok(())
-}
-
-const HERE: Ipv4Address = Ipv4Address([10, 0, 0, 1]);
 
 // The header of a message from 10.0.0.2.
 const TO_HERE: Ipv4Repr = Ipv4Repr {
-    src_addr: Ipv4Address([10, 0, 0, 2]),
+    src_addr: PEER,
     dst_addr: HERE,
     next_header: IpProtocol::Icmp,
     payload_len: 12,
@@ -178,38 +185,76 @@ fn accepts(socket: &Socket<'_>, message: &Icmpv4Repr<'_>) -> bool {
     socket.accepts_v4(&Host::new(None), &TO_HERE, message)
 }
 
-// The header of what is emitted.
-fn emitted(socket: &mut Socket<'_>) -> Option<IpRepr> {
-    let mut cx = Host::new(Some(HERE));
-    let mut seen = None;
-    let _ = socket.dispatch(&mut cx, |_: &mut Host, sent: (IpRepr, IcmpRepr<'_>)| {
-        seen = Some(sent.0);
-        Ok::<(), ()>(())
-    });
-    seen
+fn hears(socket: &mut Socket<'_>) {
+    socket.process_v4(&Host::new(None), &TO_HERE, &echo(0x1234));
 }
 
-#[test]
-fn icmp_accepts_identifier(rt: HostRuntime) -> Result<(), Fail> {
-    let mut socket = roomless();
-    assert!(rt; binds(&mut socket, Endpoint::Ident(0x1234)) == Ok(()));
-    for (ident, accepted) in [(0x1234, true), (0x4321, false)] {
-        assert!(rt; accepts(&socket, &echo(ident)) == accepted);
+// Takes an echo over IPv6 where the socket accepts it.
+fn hears_v6(socket: &mut Socket<'_>) -> bool {
+    let ip_repr = Ipv6Repr {
+        src_addr: V6,
+        dst_addr: V6,
+        next_header: IpProtocol::Icmpv6,
+        payload_len: 12,
+        hop_limit: 64,
+    };
+    let message = Icmpv6Repr::EchoReply {
+        ident: 0x1234,
+        seq_no: 1,
+        body: b"ping",
+    };
+    if !socket.accepts_v6(&Host::new(None), &ip_repr, &message) {
+        return false;
     }
-    Ok(())
+    socket.process_v6(&Host::new(None), &ip_repr, &message);
+    true
+}
+
+fn gives(socket: &mut Socket<'_>, answer: Result<(&[u8], IpAddress), RecvError>) -> bool {
+    socket.recv() == answer
+}
+
+// What a copy into so many bytes answers.
+fn copies(socket: &mut Socket<'_>, size: usize) -> Result<(usize, IpAddress), RecvError> {
+    let mut out = [0u8; 12];
+    socket.recv_slice(&mut out[..size.min(12)])
+}
+
+// Messages are written out. One is lost to a slice that is too short, one finds no room.
+fn receives(rt: &(impl Abort), socket: &mut Socket<'_>) {
+    // The sum of the words 0800, 1234, 0001, 7069 and 6e67 is f905.
+    let want = [8, 0, 0x06, 0xfa, 0x12, 0x34, 0, 1, b'p', b'i', b'n', b'g'];
+    hears(socket);
+    assert!(rt; received(socket) == (1, 66, 12, true));
+    hears(socket);
+    assert!(rt; gives(socket, Ok((&want, THERE))));
+    assert!(rt; gives(socket, Err(RecvError::Exhausted)));
+    hears(socket);
+    assert!(rt; copies(socket, 4) == Err(RecvError::Truncated));
+    assert!(rt; copies(socket, 4) == Err(RecvError::Exhausted));
+    assert!(rt; hears_v6(socket));
+    assert!(rt; copies(socket, 12) == Ok((12, IpAddress::Ipv6(V6))));
 }
 
 #[test]
-fn icmp_message_is_written_out(rt: HostRuntime) -> Result<(), Fail> {
+fn icmp_echoes_come(rt: HostRuntime) -> Result<(), Fail> {
     let mut places = [PacketMetadata::EMPTY; 1];
     let mut bytes = [0u8; 66];
     let mut socket = receiver(&mut places, &mut bytes);
     assert!(rt; binds(&mut socket, Endpoint::Ident(0x1234)) == Ok(()));
-    hears(&mut socket, &echo(0x1234));
-    // The sum of the words 0800, 1234, 0001, 7069 and 6e67 is f905.
-    let want = [8, 0, 0x06, 0xfa, 0x12, 0x34, 0, 1, b'p', b'i', b'n', b'g'];
-    assert!(rt; gives(&mut socket, Ok((want.as_slice(), THERE))));
+    assert!(rt; accepts(&socket, &echo(0x1234)) && !accepts(&socket, &echo(0x4321)));
+    receives(&rt, &mut socket);
     Ok(())
+}
+
+// Whether an error is accepted that quotes a datagram from this port to port 49500, without a checksum.
+fn accepts_error(socket: &Socket<'_>, port: u8) -> bool {
+    let message = Icmpv4Repr::DstUnreachable {
+        reason: 3,
+        header: TO_HERE,
+        body: &[0, port, 0xc1, 0x5c, 0, 8, 0, 0],
+    };
+    accepts(socket, &message)
 }
 
 #[test]
@@ -220,39 +265,6 @@ fn icmp_errors_go_to_the_port_that_sent(rt: HostRuntime) -> Result<(), Fail> {
         port: 53,
     };
     assert!(rt; binds(&mut socket, Endpoint::Udp(endpoint)) == Ok(()));
-    // A datagram from port 53 to port 49500, of no bytes and without a checksum.
-    for (port, accepted) in [(53u8, true), (54, false)] {
-        let body = [0, port, 0xc1, 0x5c, 0, 8, 0, 0];
-        let message = Icmpv4Repr::DstUnreachable {
-            reason: 3,
-            header: TO_HERE,
-            body: &body,
-        };
-        assert!(rt; accepts(&socket, &message) == accepted);
-    }
-    Ok(())
-}
-
-// A message goes out from the host's address.
-fn goes_out(rt: &(impl Abort), socket: &mut Socket<'_>) {
-    let header = IpRepr::Ipv4(Ipv4Repr {
-        src_addr: HERE,
-        dst_addr: Ipv4Address([10, 0, 0, 2]),
-        next_header: IpProtocol::Icmp,
-        payload_len: 10,
-        hop_limit: 64,
-    });
-    let message = [8, 0, 0, 0, 0x12, 0x34, 0, 1, 7, 7];
-    assert!(rt; sends(socket, &message, THERE) == Ok(()));
-    assert!(rt; emitted(socket) == Some(header));
-    assert!(rt; socket.send_queue() == 0);
-}
-
-#[test]
-fn icmp_message_goes_out(rt: HostRuntime) -> Result<(), Fail> {
-    let mut places = [PacketMetadata::EMPTY; 1];
-    let mut bytes = [0u8; 66];
-    let mut socket = sender(&mut places, &mut bytes);
-    goes_out(&rt, &mut socket);
+    assert!(rt; accepts_error(&socket, 53) && !accepts_error(&socket, 54));
     Ok(())
 }

@@ -1,6 +1,6 @@
-//! Worked examples of datagrams, segments and messages as bytes.
+//! Worked examples of source ports, of timestamps, and of ICMP messages as bytes.
 
-use super::packets::first;
+use super::slices::first;
 use control_wire::*;
 use ip_wire::{
     ChecksumCapabilities, IpAddress, IpProtocol, Ipv4Address, Ipv4Repr, Ipv6Address, Ipv6Repr,
@@ -14,17 +14,37 @@ const V6: Ipv6Address = Ipv6Address([
     0x20, 0x01, 0x0d, 0xb8, 0, 0, 0, 0, 0, 0, 0, 0, 0, 0, 0, 0xfe,
 ]);
 
-// The functions without their contracts: the tests prove faster so.
-fn udp_port(bytes: &[u8], caps: &ChecksumCapabilities) -> Option<u16> {
-    udp_source(bytes, &A, &B, caps)
+// The source port of a datagram under this checksum.
+fn udp_port(high: u8, low: u8) -> Option<u16> {
+    let bytes = [0x04, 0xd2, 0, 53, 0, 10, high, low, b'h', b'i'];
+    udp_source(&bytes, &A, &B, &ChecksumCapabilities::default())
 }
 
-fn udp6_port(bytes: &[u8], caps: &ChecksumCapabilities) -> Option<u16> {
-    udp_source(bytes, &IpAddress::Ipv6(V6), &IpAddress::Ipv6(V6), caps)
+// The source port of a segment with these flags; its checksum is that of a SYN.
+fn tcp_port(flags: u8) -> Option<u16> {
+    let bytes = [
+        0xc0, 0, 0, 80, 0, 0, 0, 0, 0, 0, 0, 0, 0x50, flags, 0, 0, 0xdb, 0x8f, 0, 0,
+    ];
+    tcp_source(&bytes, &A, &B, &ChecksumCapabilities::default())
 }
 
-fn tcp_port(bytes: &[u8], caps: &ChecksumCapabilities) -> Option<u16> {
-    tcp_source(bytes, &A, &B, caps)
+#[test]
+fn source_ports(rt: HostRuntime) {
+    // a damaged checksum, and none, which is no damage over IPv4
+    let ports = [udp_port(0x7e, 0x67), udp_port(0, 0x67), udp_port(0, 0)];
+    assert!(rt; ports == [Some(1234), None, Some(1234)]);
+    assert!(rt; [tcp_port(2), tcp_port(16)] == [Some(49152), None]);
+}
+
+fn clock() -> u32 {
+    7
+}
+
+#[test]
+fn timestamps_are_echoed(rt: HostRuntime) {
+    let came = TcpTimestampRepr::new(5, 6);
+    assert!(rt; came.generate_reply(Some(clock)) == Some(TcpTimestampRepr::new(7, 5)));
+    assert!(rt; TcpControl::Psh.quash_psh() == TcpControl::None);
 }
 
 // Writes a message into a buffer of its length, and answers with that.
@@ -42,81 +62,12 @@ fn writes_v6(repr: Icmpv6Repr<'_>, bytes: &mut [u8]) -> usize {
     IcmpRepr::Ipv6(repr).buffer_len()
 }
 
-fn parsed<'a>(bytes: &'a [u8], caps: &ChecksumCapabilities) -> Option<Icmpv4Repr<'a>> {
-    Icmpv4Repr::parse(bytes, caps).ok()
+fn parsed(bytes: &[u8]) -> Option<Icmpv4Repr<'_>> {
+    Icmpv4Repr::parse(bytes, &ChecksumCapabilities::default()).ok()
 }
 
-fn parsed_v6<'a>(
-    dst: Ipv6Address,
-    bytes: &'a [u8],
-    caps: &ChecksumCapabilities,
-) -> Option<Icmpv6Repr<'a>> {
-    Icmpv6Repr::parse(&V6, &dst, bytes, caps).ok()
-}
-
-// The source port of a datagram with this length and this checksum.
-fn port_under(length: u8, checksum: [u8; 2], caps: &ChecksumCapabilities) -> Option<u16> {
-    let [high, low] = checksum;
-    let bytes = [0x04, 0xd2, 0, 53, 0, length, high, low, b'h', b'i'];
-    udp_port(&bytes, caps)
-}
-
-#[test]
-fn udp_source_ports(rt: HostRuntime) {
-    let (caps, ignored) = (
-        ChecksumCapabilities::default(),
-        ChecksumCapabilities::ignored(),
-    );
-    for (length, checksum, caps, port) in [
-        (10, [0x7e, 0x67], &caps, Some(1234)),
-        (10, [0, 0x67], &caps, None),
-        (10, [0, 0x67], &ignored, Some(1234)),
-        // there is none over IPv4
-        (10, [0, 0], &caps, Some(1234)),
-        // more bytes than there are, and fewer than the header takes
-        (11, [0, 0], &caps, None),
-        (7, [0, 0], &caps, None),
-    ] {
-        assert!(rt; port_under(length, checksum, caps) == port);
-    }
-    let shortest = [0, 0, 0, 1, 0, 8, 0, 0];
-    assert!(rt; udp_port(&shortest, &caps) == Some(0));
-    assert!(rt; udp_port(first(&shortest, 7), &caps) == None);
-    // no checksum over IPv6, and no destination port
-    assert!(rt; udp6_port(&shortest, &caps) == None);
-    assert!(rt; udp_port(&[0, 0, 0, 0, 0, 8, 0, 0], &caps) == None);
-}
-
-// The source port of a segment with these bytes of data offset and flags, and these behind its first 20.
-fn port_of(offset_and_flags: [u8; 2], options: [u8; 4]) -> Option<u16> {
-    let ([offset, flags], [a, b, c, d]) = (offset_and_flags, options);
-    let bytes = [
-        0xc0, 0, 0, 80, 0, 0, 0, 0, 0, 0, 0, 0, offset, flags, 0, 0, 0, 0, 0, 0, a, b, c, d,
-    ];
-    tcp_port(&bytes, &ChecksumCapabilities::ignored())
-}
-
-#[test]
-fn tcp_source_ports(rt: HostRuntime) {
-    let syn = [
-        0xc0, 0, 0, 80, 0, 0, 0, 0, 0, 0, 0, 0, 0x50, 2, 0, 0, 0xdb, 0x8f, 0, 0,
-    ];
-    assert!(rt; tcp_port(&syn, &ChecksumCapabilities::default()) == Some(49152));
-    assert!(rt; tcp_port(first(&syn, 19), &ChecksumCapabilities::ignored()) == None);
-    for (offset_and_flags, options, port) in [
-        // SYN and FIN together
-        ([0x50, 3], [0; 4], None),
-        // a header of 24 bytes with an MSS of 4, then one of 5
-        ([0x60, 0x12], [2, 4, 0, 0], Some(49152)),
-        ([0x60, 0x12], [2, 5, 0, 0], None),
-        // what stands behind the end of the options is not looked at
-        ([0x60, 0x12], [0, 5, 0, 0], Some(49152)),
-        // two octets of no meaning, then an option that is longer than the header, and one that is not
-        ([0x60, 0x12], [1, 1, 99, 3], None),
-        ([0x60, 0x12], [1, 1, 99, 2], Some(49152)),
-    ] {
-        assert!(rt; port_of(offset_and_flags, options) == port);
-    }
+fn parsed_v6(dst: Ipv6Address, bytes: &[u8]) -> Option<Icmpv6Repr<'_>> {
+    Icmpv6Repr::parse(&V6, &dst, bytes, &ChecksumCapabilities::default()).ok()
 }
 
 // A ping of Windows, whose checksum is seen in many published captures.
@@ -130,17 +81,11 @@ fn ping() -> Icmpv4Repr<'static> {
 
 #[test]
 fn icmpv4_echo(rt: HostRuntime) {
-    let (caps, ignored) = (
-        ChecksumCapabilities::default(),
-        ChecksumCapabilities::ignored(),
-    );
     let mut bytes = [0; 40];
     assert!(rt; writes(ping(), &mut bytes) == 40);
     assert!(rt; first(&bytes, 8) == [8, 0, 0x4d, 0x5a, 0, 1, 0, 1].as_slice());
-    assert!(rt; parsed(&bytes, &caps) == Some(ping()));
-    assert!(rt; parsed(first(&bytes, 39), &caps).is_none());
-    assert!(rt; parsed(first(&bytes, 7), &ignored).is_none());
-    assert!(rt; parsed(first(&bytes, 8), &ignored).is_some());
+    assert!(rt; parsed(&bytes) == Some(ping()));
+    assert!(rt; parsed(first(&bytes, 39)).is_none());
 }
 
 fn exceeded() -> Icmpv4Repr<'static> {
@@ -155,24 +100,6 @@ fn exceeded() -> Icmpv4Repr<'static> {
         reason: 1,
         header,
         body: &[7; 8],
-    }
-}
-
-#[test]
-fn icmpv4_errors(rt: HostRuntime) {
-    let (caps, ignored) = (
-        ChecksumCapabilities::default(),
-        ChecksumCapabilities::ignored(),
-    );
-    let mut bytes = [0; 36];
-    assert!(rt; writes(exceeded(), &mut bytes) == 36);
-    assert!(rt; parsed(&bytes, &caps) == Some(exceeded()));
-    // one byte less behind the quoted header
-    assert!(rt; parsed(first(&bytes, 35), &ignored).is_none());
-    // a quoted header of IPv6, then one of less than 20 bytes
-    for byte in [0x65, 0x44] {
-        bytes[8] = byte;
-        assert!(rt; parsed(&bytes, &ignored).is_none());
     }
 }
 
@@ -192,8 +119,17 @@ fn unreachable() -> Icmpv6Repr<'static> {
 }
 
 #[test]
-fn icmpv6_messages(rt: HostRuntime) {
-    let caps = ChecksumCapabilities::default();
+fn icmp_errors(rt: HostRuntime) {
+    let mut bytes = [0; 36];
+    assert!(rt; writes(exceeded(), &mut bytes) == 36);
+    assert!(rt; parsed(&bytes) == Some(exceeded()));
+    let mut bytes = [0; 56];
+    assert!(rt; writes_v6(unreachable(), &mut bytes) == 56);
+    assert!(rt; parsed_v6(V6, &bytes) == Some(unreachable()));
+}
+
+#[test]
+fn icmpv6_echo(rt: HostRuntime) {
     let echo = Icmpv6Repr::EchoRequest {
         ident: 0x1234,
         seq_no: 7,
@@ -202,12 +138,7 @@ fn icmpv6_messages(rt: HostRuntime) {
     let mut bytes = [0; 9];
     assert!(rt; writes_v6(echo, &mut bytes) == 9);
     assert!(rt; bytes == [128, 0, 0x98, 0x12, 0x12, 0x34, 0, 7, b'x']);
-    assert!(rt; parsed_v6(V6, &bytes, &caps) == Some(echo));
+    assert!(rt; parsed_v6(V6, &bytes) == Some(echo));
     // the addresses are summed too
-    assert!(rt; parsed_v6(Ipv6Address([0; 16]), &bytes, &caps).is_none());
-    let mut bytes = [0; 56];
-    assert!(rt; writes_v6(unreachable(), &mut bytes) == 56);
-    assert!(rt; parsed_v6(V6, &bytes, &caps) == Some(unreachable()));
-    let ignored = ChecksumCapabilities::ignored();
-    assert!(rt; parsed_v6(V6, first(&bytes, 55), &ignored).is_none());
+    assert!(rt; parsed_v6(Ipv6Address([0; 16]), &bytes).is_none());
 }

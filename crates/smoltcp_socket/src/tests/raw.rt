@@ -1,6 +1,6 @@
 //! Worked examples of raw sockets.
 use super::host::Host;
-use super::packets::{first, two_packets};
+use super::slices::first;
 use crate::PollAt;
 use crate::raw::*;
 use crate::wire::{Checksum, IpAddress, IpProtocol, IpRepr, IpVersion, Ipv4Address};
@@ -13,61 +13,49 @@ const THERE: IpAddress = IpAddress::Ipv4(Ipv4Address([10, 0, 0, 2]));
 
 const EXPERIMENT: IpProtocol = IpProtocol::Unknown(63);
 
-#[test]
-fn raw_buffer_full(rt: HostRuntime) -> Result<(), Fail> {
-    let mut places = [PacketMetadata::EMPTY; 1];
-    let mut bytes = [0u8; 48];
-    let mut socket = sender(
-        Some(IpVersion::Ipv4),
-        Some(EXPERIMENT),
-        &mut places,
-        &mut bytes,
-    );
-    let data = [7; 56];
-    for (size, answer, next) in [
-        (56, Err(SendError::BufferFull), PollAt::Ingress),
-        (48, Ok(()), PollAt::Now),
-    ] {
-        assert!(rt; sends(&mut socket, first(&data, size)) == answer);
-        assert!(rt; polls(&socket) == next);
-    }
-    assert!(rt; socket.ip_version() == Some(IpVersion::Ipv4));
-    assert!(rt; socket.ip_protocol() == Some(EXPERIMENT));
-    assert!(rt; socket.packet_send_capacity() == 1 && socket.payload_send_capacity() == 48);
-    assert!(rt; socket.send_queue() == 48 && !socket.can_send());
-    assert!(rt; closures_refused(&mut socket));
-    Ok(())
+const PAYLOAD: [u8; 4] = [0xaa, 0, 0, 0xff];
+
+// What is no packet.
+const SEVENS: [u8; 56] = [7; 56];
+
+// 10.0.0.1 to 10.0.0.2, protocol 63, hop limit 64, and four bytes, with its checksum.
+const PACKET: [u8; 24] = [
+    0x45, 0, 0, 0x18, 0, 0, 0x40, 0, 0x40, 0x3f, 0x26, 0xa5, 10, 0, 0, 1, 10, 0, 0, 2, 0xaa, 0, 0,
+    0xff,
+];
+
+// The same without its checksum, and with this first byte and this protocol.
+fn packet(start: u8, protocol: u8) -> [u8; 24] {
+    [
+        start, 0, 0, 0x18, 0, 0, 0x40, 0, 0x40, protocol, 0, 0, 10, 0, 0, 1, 10, 0, 0, 2, 0xaa, 0,
+        0, 0xff,
+    ]
+}
+
+// Its header.
+fn header() -> IpRepr {
+    IpRepr::new(HERE, THERE, EXPERIMENT, 4, 64)
 }
 
 // The socket's calls without their contracts: the tests prove faster so. This one has room for packets that come.
-fn receiver<'a>(
-    version: Option<IpVersion>,
-    protocol: Option<IpProtocol>,
-    places: &'a mut [PacketMetadata],
-    bytes: &'a mut [u8],
-) -> Socket<'a> {
+fn receiver<'a>(places: &'a mut [PacketMetadata], bytes: &'a mut [u8]) -> Socket<'a> {
     Socket::new(
-        version,
-        protocol,
+        Some(IpVersion::Ipv4),
+        Some(EXPERIMENT),
         PacketBuffer::new(places, bytes),
         PacketBuffer::new(&mut [], &mut []),
     )
 }
 
-// A socket of any version and protocol, in which these packets wait to be read.
-fn holding(received: PacketBuffer<'_>) -> Socket<'_> {
-    Socket::new(None, None, received, PacketBuffer::new(&mut [], &mut []))
-}
-
 // A socket that has room for packets to send.
 fn sender<'a>(
-    version: Option<IpVersion>,
+    version: IpVersion,
     protocol: Option<IpProtocol>,
     places: &'a mut [PacketMetadata],
     bytes: &'a mut [u8],
 ) -> Socket<'a> {
     Socket::new(
-        version,
+        Some(version),
         protocol,
         PacketBuffer::new(&mut [], &mut []),
         PacketBuffer::new(places, bytes),
@@ -82,48 +70,121 @@ fn sends(socket: &mut Socket<'_>, data: &[u8]) -> Result<(), SendError> {
     socket.send_slice(data)
 }
 
-fn hears(socket: &mut Socket<'_>, header: &IpRepr, payload: &[u8]) {
-    socket.process(&Host::new(None), header, payload);
-}
-
-// Whether there is no room for a packet of no bytes either.
-fn closures_refused(socket: &mut Socket<'_>) -> bool {
-    socket.send(0).is_err() && socket.send_with(0, |lent| lent.len()) == Err(SendError::BufferFull)
-}
-
-#[test]
-fn what_is_lent_is_queued(rt: HostRuntime) -> Result<(), Fail> {
-    let mut places = [PacketMetadata::EMPTY; 2];
-    let mut bytes = [0u8; 8];
-    let mut socket = sender(None, None, &mut places, &mut bytes);
-    match socket.send(3) {
-        Ok(lent) => lent.copy_from_slice(b"abc"),
-        Err(_) => assert!(rt; false),
-    }
-    assert!(rt; socket.send_with(4, |lent| lent.len().min(2)) == Ok(2));
-    assert!(rt; socket.send_queue() == 5 && !socket.can_send());
+// Sends these bytes by way of the lent slice.
+fn lends(socket: &mut Socket<'_>, data: &[u8]) -> Result<(), SendError> {
+    let lent = socket.send(data.len())?;
+    lent.copy_from_slice(data);
     Ok(())
 }
 
+// Sends two of four bytes by a closure.
+fn sends_two(socket: &mut Socket<'_>) -> Result<usize, SendError> {
+    socket.send_with(4, |lent| lent.len().min(2))
+}
+
+// How many packets and bytes may wait to be sent, how many bytes do, and whether there is room.
+fn to_send(socket: &Socket<'_>) -> (usize, usize, usize, bool) {
+    (
+        socket.packet_send_capacity(),
+        socket.payload_send_capacity(),
+        socket.send_queue(),
+        socket.can_send(),
+    )
+}
+
+// The same of those that came, and whether there is one.
+fn received(socket: &Socket<'_>) -> (usize, usize, usize, bool) {
+    (
+        socket.packet_recv_capacity(),
+        socket.payload_recv_capacity(),
+        socket.recv_queue(),
+        socket.can_recv(),
+    )
+}
+
+// The header of what is emitted, and whether the payload is behind it, where IPv4 checksums are tested and sent so.
+fn emitted(socket: &mut Socket<'_>, ipv4: Checksum) -> Option<(IpRepr, bool)> {
+    let mut cx = Host::new(None);
+    cx.caps.ipv4 = ipv4;
+    let mut seen = None;
+    let _ = socket.dispatch(&mut cx, |_: &mut Host, sent: (IpRepr, &[u8])| {
+        seen = Some((sent.0, sent.1 == PAYLOAD.as_slice()));
+        Ok::<(), ()>(())
+    });
+    seen
+}
+
+// Whether this is taken, and leaves without an emit.
+fn drops(socket: &mut Socket<'_>, data: &[u8]) -> bool {
+    sends(socket, data) == Ok(())
+        && emitted(socket, Checksum::Both) == None
+        && socket.send_queue() == 0
+}
+
+// More bytes than there is room for, and as many.
+fn fills(rt: &(impl Abort), socket: &mut Socket<'_>) {
+    assert!(rt; sends(socket, &SEVENS) == Err(SendError::BufferFull));
+    assert!(rt; polls(socket) == PollAt::Ingress);
+    assert!(rt; sends(socket, first(&SEVENS, 48)) == Ok(()));
+    assert!(rt; polls(socket) == PollAt::Now);
+    assert!(rt; to_send(socket) == (1, 48, 48, false));
+    assert!(rt; emitted(socket, Checksum::Both) == None);
+}
+
+// What is malformed or of another protocol is dropped. A checksum of zero is not tested, and filled where it is sent.
+fn sends_packets(rt: &(impl Abort), socket: &mut Socket<'_>) {
+    assert!(rt; drops(socket, &packet(0x65, 63)));
+    assert!(rt; drops(socket, &packet(0x45, 6)));
+    let plain = packet(0x45, 63);
+    let whole = Some((header(), true));
+    assert!(rt; lends(socket, &plain) == Ok(()));
+    assert!(rt; emitted(socket, Checksum::Rx) == whole);
+    assert!(rt; emitted(socket, Checksum::Rx) == None);
+    assert!(rt; sends(socket, &plain) == Ok(()));
+    assert!(rt; emitted(socket, Checksum::Both) == whole);
+}
+
 #[test]
-fn raw_accepts_by_version_and_protocol(rt: HostRuntime) -> Result<(), Fail> {
-    let packet = IpRepr::new(HERE, THERE, EXPERIMENT, 4, 64);
-    for (version, protocol, accepted) in [
-        (None, None, true),
-        (Some(IpVersion::Ipv4), Some(EXPERIMENT), true),
-        (Some(IpVersion::Ipv6), None, false),
-        (None, Some(IpProtocol::Udp), false),
-    ] {
-        let socket = sender(version, protocol, &mut [], &mut []);
-        assert!(rt; socket.accepts(&packet) == accepted);
-    }
+fn raw_packets_go_out(rt: HostRuntime) -> Result<(), Fail> {
+    let mut places = [PacketMetadata::EMPTY; 1];
+    let mut bytes = [0u8; 48];
+    let mut socket = sender(IpVersion::Ipv4, Some(EXPERIMENT), &mut places, &mut bytes);
+    fills(&rt, &mut socket);
+    sends_packets(&rt, &mut socket);
     Ok(())
 }
 
-// What a copy into four bytes answers that leaves the first packet in its place, and what one answers that takes it.
-fn copies(socket: &mut Socket<'_>) -> [Result<usize, RecvError>; 2] {
-    let mut short = [0u8; 4];
-    [socket.peek_slice(&mut short), socket.recv_slice(&mut short)]
+// A socket of IPv6 and of any protocol.
+fn keeps_to_its_version(rt: &(impl Abort), socket: &mut Socket<'_>) {
+    assert!(rt; socket.ip_version() == Some(IpVersion::Ipv6) && socket.ip_protocol() == None);
+    assert!(rt; !accepts(socket));
+    assert!(rt; drops(socket, &packet(0x45, 63)));
+    assert!(rt; sends_two(socket) == Ok(2));
+    assert!(rt; sends_two(socket) == Err(SendError::BufferFull));
+}
+
+#[test]
+fn raw_other_version_is_dropped(rt: HostRuntime) -> Result<(), Fail> {
+    let mut places = [PacketMetadata::EMPTY; 1];
+    let mut bytes = [0u8; 48];
+    let mut socket = sender(IpVersion::Ipv6, None, &mut places, &mut bytes);
+    keeps_to_its_version(&rt, &mut socket);
+    Ok(())
+}
+
+fn accepts(socket: &Socket<'_>) -> bool {
+    socket.accepts(&header())
+}
+
+fn hears(socket: &mut Socket<'_>) {
+    socket.process(&Host::new(None), &header(), &PAYLOAD);
+}
+
+// What a copy into so many bytes answers that leaves the first packet in its place, and one that takes it.
+fn copies(socket: &mut Socket<'_>, size: usize) -> [Result<usize, RecvError>; 2] {
+    let mut out = [0u8; 24];
+    let out = &mut out[..size.min(24)];
+    [socket.peek_slice(out), socket.recv_slice(out)]
 }
 
 // Whether this is the answer for the first packet as a whole, left in its place and then taken.
@@ -131,119 +192,26 @@ fn first_is(socket: &mut Socket<'_>, packet: Result<&[u8], RecvError>) -> bool {
     socket.peek() == packet && socket.recv() == packet
 }
 
-// A packet that is longer than the slice is lost to it, but not to a peek.
-fn shortens(rt: &(impl Abort), socket: &mut Socket<'_>) {
-    assert!(rt; copies(socket) == [Err(RecvError::Truncated); 2]);
-    assert!(rt; socket.peek_slice(&mut [0; 4]) == Ok(3));
-    assert!(rt; first_is(socket, Ok(b"xyz")));
-    assert!(rt; copies(socket) == [Err(RecvError::Exhausted); 2]);
-    assert!(rt; first_is(socket, Err(RecvError::Exhausted)) && !socket.can_recv());
+// A packet that is longer than the slice is lost to it, and one that finds no room is dropped.
+fn receives(rt: &(impl Abort), socket: &mut Socket<'_>) {
+    assert!(rt; accepts(socket));
+    hears(socket);
+    assert!(rt; received(socket) == (1, 48, 24, true));
+    assert!(rt; copies(socket, 4) == [Err(RecvError::Truncated); 2]);
+    hears(socket);
+    assert!(rt; copies(socket, 24) == [Ok(24); 2]);
+    hears(socket);
+    hears(socket);
+    assert!(rt; first_is(socket, Ok(&PACKET)));
+    assert!(rt; first_is(socket, Err(RecvError::Exhausted)));
+    assert!(rt; copies(socket, 4) == [Err(RecvError::Exhausted); 2]);
 }
 
 #[test]
-fn raw_truncated_slices(rt: HostRuntime) -> Result<(), Fail> {
-    let mut places = [PacketMetadata::EMPTY; 2];
-    let mut bytes = [0u8; 16];
-    let received = two_packets(&rt, &mut places, &mut bytes, ());
-    let mut socket = holding(received);
-    assert!(rt; socket.packet_recv_capacity() == 2 && socket.payload_recv_capacity() == 16);
-    assert!(rt; socket.can_recv() && socket.recv_queue() == 9);
-    shortens(&rt, &mut socket);
-    Ok(())
-}
-
-// 10.0.0.1 to 10.0.0.2, protocol 63, hop limit 64, and four bytes; the checksum is not filled.
-const PACKET: [u8; 24] = [
-    0x45, 0, 0, 0x18, 0, 0, 0x40, 0, 0x40, 0x3f, 0, 0, 10, 0, 0, 1, 10, 0, 0, 2, 0xaa, 0, 0, 0xff,
-];
-
-const PAYLOAD: [u8; 4] = [0xaa, 0, 0, 0xff];
-
-fn host(ipv4: Checksum) -> Host {
-    let mut host = Host::new(None);
-    host.caps.ipv4 = ipv4;
-    host
-}
-
-// The header of what is emitted.
-fn emitted(socket: &mut Socket<'_>, cx: &mut Host) -> Option<IpRepr> {
-    let mut seen = None;
-    let _ = socket.dispatch(cx, |_: &mut Host, sent: (IpRepr, &[u8])| {
-        seen = Some(sent.0);
-        Ok::<(), ()>(())
-    });
-    seen
-}
-
-#[test]
-fn raw_process_and_peek(rt: HostRuntime) -> Result<(), Fail> {
+fn raw_packets_come(rt: HostRuntime) -> Result<(), Fail> {
     let mut places = [PacketMetadata::EMPTY; 1];
     let mut bytes = [0u8; 48];
-    let mut socket = receiver(
-        Some(IpVersion::Ipv4),
-        Some(EXPERIMENT),
-        &mut places,
-        &mut bytes,
-    );
-    let header = IpRepr::new(HERE, THERE, EXPERIMENT, 4, 64);
-    hears(&mut socket, &header, &PAYLOAD);
-    hears(&mut socket, &header, &[1, 2, 3, 4]);
-    let mut whole = PACKET;
-    whole[10] = 0x26;
-    whole[11] = 0xa5;
-    assert!(rt; first_is(&mut socket, Ok(whole.as_slice())));
-    assert!(rt; first_is(&mut socket, Err(RecvError::Exhausted)));
-    Ok(())
-}
-
-#[test]
-fn raw_malformed_or_foreign_dropped(rt: HostRuntime) -> Result<(), Fail> {
-    let mut places = [PacketMetadata::EMPTY; 1];
-    let mut bytes = [0u8; 48];
-    let mut socket = sender(
-        Some(IpVersion::Ipv4),
-        Some(EXPERIMENT),
-        &mut places,
-        &mut bytes,
-    );
-    let mut cx = host(Checksum::Both);
-    for (at, byte) in [(0usize, 0x65u8), (9, 6), (0, 0x44), (3, 0x19)] {
-        let mut packet = PACKET;
-        if at < 24 {
-            packet[at] = byte;
-        }
-        assert!(rt; sends(&mut socket, &packet) == Ok(()));
-        assert!(rt; emitted(&mut socket, &mut cx) == None);
-        assert!(rt; socket.send_queue() == 0);
-    }
-    Ok(())
-}
-
-#[test]
-fn raw_other_version_dropped(rt: HostRuntime) -> Result<(), Fail> {
-    let mut places = [PacketMetadata::EMPTY; 1];
-    let mut bytes = [0u8; 48];
-    let mut socket = sender(Some(IpVersion::Ipv6), None, &mut places, &mut bytes);
-    assert!(rt; sends(&mut socket, &PACKET) == Ok(()));
-    let mut cx = host(Checksum::Both);
-    assert!(rt; emitted(&mut socket, &mut cx) == None);
-    Ok(())
-}
-
-#[test]
-fn raw_zero_checksum_where_not_sent(rt: HostRuntime) -> Result<(), Fail> {
-    let mut places = [PacketMetadata::EMPTY; 1];
-    let mut bytes = [0u8; 48];
-    let mut socket = sender(
-        Some(IpVersion::Ipv4),
-        Some(EXPERIMENT),
-        &mut places,
-        &mut bytes,
-    );
-    assert!(rt; sends(&mut socket, &PACKET) == Ok(()));
-    let mut cx = host(Checksum::Rx);
-    let header = IpRepr::new(HERE, THERE, EXPERIMENT, 4, 64);
-    assert!(rt; emitted(&mut socket, &mut cx) == Some(header));
-    assert!(rt; emitted(&mut socket, &mut cx) == None);
+    let mut socket = receiver(&mut places, &mut bytes);
+    receives(&rt, &mut socket);
     Ok(())
 }

@@ -1,8 +1,9 @@
 //! TCP sockets: which calls are refused and when, what goes in and out of their queues, and their settings.
 use super::host::Host;
 use super::tcp_calls::Tcp;
+use crate::PollAt;
 use crate::tcp::*;
-use crate::time::Duration;
+use crate::time::{Duration, Instant};
 use crate::wire::{
     IpAddress, IpEndpoint, IpListenEndpoint, IpProtocol, IpRepr, Ipv4Address, TcpControl, TcpRepr,
     TcpSeqNumber,
@@ -31,28 +32,14 @@ fn any(port: u16) -> IpListenEndpoint {
     IpListenEndpoint { addr: None, port }
 }
 
-// Which calls of `listen` are refused, and what the socket is after each.
+// Which calls of `listen` are refused.
 fn listens(rt: &(impl Abort), socket: &mut Tcp<'_>) {
-    for (port, answer, open) in [
-        (0, Err(ListenError::Unaddressable), false),
-        (80, Ok(()), true),
-        (80, Ok(()), true),
-        (81, Err(ListenError::InvalidState), true),
-    ] {
-        assert!(rt; socket.listen(any(port)) == answer);
-        assert!(rt; socket.is_open() == open);
-    }
-    assert!(rt; socket.is_listening() && !socket.is_active());
-    assert!(rt; socket.listen_endpoint() == any(80));
-}
-
-#[test]
-fn listen_validation(rt: HostRuntime) -> Result<(), Fail> {
-    let mut rx = [0u8; 4];
-    let mut tx = [0u8; 4];
-    let mut socket = Tcp::new(&mut rx, &mut tx);
-    listens(&rt, &mut socket);
-    Ok(())
+    assert!(rt; socket.listen(any(0)) == Err(ListenError::Unaddressable));
+    assert!(rt; socket.openness() == (false, false, false));
+    assert!(rt; socket.listen(any(80)) == Ok(()));
+    assert!(rt; socket.listen(any(80)) == Ok(()));
+    assert!(rt; socket.listen(any(81)) == Err(ListenError::InvalidState));
+    assert!(rt; socket.openness() == (true, true, false) && socket.listen_endpoint() == any(80));
 }
 
 // Connects to B at this port.
@@ -77,24 +64,30 @@ fn connects(socket: &mut Tcp<'_>, cx: &mut Host) -> [Result<(), ConnectError>; 4
 }
 
 // What a socket shows that connects from A to B.
-fn dialled(rt: &(impl Abort), socket: &Tcp<'_>) {
+fn shows_its_peer(rt: &(impl Abort), socket: &Tcp<'_>) {
     assert!(rt; socket.state() == State::SynSent);
-    assert!(rt; (socket.local_endpoint(), socket.remote_endpoint()) == (Some(A), Some(B)));
-    assert!(rt; socket.is_active() && !socket.may_send() && !socket.can_send());
+    assert!(rt; socket.endpoints() == (Some(A), Some(B)));
+    assert!(rt; socket.openness() == (true, false, true));
+    assert!(rt; socket.sending() == (false, false, 4, 0));
 }
 
-#[test]
-fn connect_validation(rt: HostRuntime) -> Result<(), Fail> {
-    let mut rx = [0u8; 4];
-    let mut tx = [0u8; 4];
-    let mut socket = Tcp::new(&mut rx, &mut tx);
-    let mut cx = Host::at(0, 1000);
+// When it is to be asked again: at once, once its SYN is out, and with a timeout.
+fn waits_for_an_answer(rt: &(impl Abort), socket: &mut Tcp<'_>, cx: &mut Host) {
+    assert!(rt; socket.poll_at(cx) == PollAt::Now);
+    assert!(rt; emitted(socket, cx) == Some((1000, 0)));
+    // the retransmission timeout of a new socket is a second
+    assert!(rt; socket.poll_at(cx) == PollAt::Time(Instant::from_secs(1)));
+    socket.set_timeout(500);
+    assert!(rt; socket.poll_at(cx) == PollAt::Time(Instant::from_millis(500)));
+}
+
+// Which calls of `connect` are refused.
+fn connects_once(rt: &(impl Abort), socket: &mut Tcp<'_>, cx: &mut Host) {
     let unaddressable = Err(ConnectError::Unaddressable);
     let after = Err(ConnectError::InvalidState);
-    let answers = [unaddressable, unaddressable, Ok(()), after];
-    assert!(rt; connects(&mut socket, &mut cx) == answers);
-    dialled(&rt, &socket);
-    Ok(())
+    assert!(rt; connects(socket, cx) == [unaddressable, unaddressable, Ok(()), after]);
+    shows_its_peer(rt, socket);
+    waits_for_an_answer(rt, socket, cx);
 }
 
 // Takes a segment where the socket accepts it.
@@ -140,11 +133,6 @@ fn reads(socket: &mut Tcp<'_>, want: &[u8]) -> bool {
         Ok(count) if count <= 8 => &bytes[..count] == want,
         _ => false,
     }
-}
-
-// How many bytes wait to be sent, and to be read.
-fn waiting(socket: &Tcp<'_>) -> (usize, usize) {
-    (socket.send_queue(), socket.recv_queue())
 }
 
 // Connects a new socket, by a SYN|ACK made by hand.
@@ -200,46 +188,12 @@ fn keeps_settings(rt: &(impl Abort), socket: &mut Tcp<'_>) {
     assert!(rt; congestion(socket) == (false, CongestionControl::None));
 }
 
-#[test]
-fn tcp_defaults(rt: HostRuntime) -> Result<(), Fail> {
-    let mut rx = [0u8; 4];
-    let mut tx = [0u8; 4];
-    let mut socket = Tcp::new(&mut rx, &mut tx);
-    keeps_settings(&rt, &mut socket);
-    Ok(())
-}
-
-#[test]
-fn write_str_keeps_what_fits(rt: HostRuntime) -> Result<(), Fail> {
-    let mut rx = [0u8; 4];
-    let mut tx = [0u8; 4];
-    let mut cx = Host::at(0, 1000);
-    let mut socket = Tcp::new(&mut rx, &mut tx);
-    establish(&mut socket, &mut cx);
-    assert!(rt; socket.write_str(""));
-    assert!(rt; !socket.write_str("hello"));
-    assert!(rt; socket.send_queue() == 4);
-    Ok(())
-}
-
 // How many bytes a closure is lent that takes none, for sending and for receiving.
 fn lent(socket: &mut Tcp<'_>) -> (Result<usize, SendError>, Result<usize, RecvError>) {
     (
         socket.0.send(|free| (0, free.len())),
         socket.0.recv(|queue| (0, queue.len())),
     )
-}
-
-#[test]
-fn closures_that_take_nothing(rt: HostRuntime) -> Result<(), Fail> {
-    let mut rx = [0u8; 4];
-    let mut tx = [0u8; 4];
-    let mut cx = Host::at(0, 1000);
-    let mut socket = Tcp::new(&mut rx, &mut tx);
-    establish(&mut socket, &mut cx);
-    assert!(rt; lent(&mut socket) == (Ok(4), Ok(0)));
-    assert!(rt; waiting(&socket) == (0, 0));
-    Ok(())
 }
 
 // Queues "hi" by a closure that writes it to the free bytes.
@@ -266,40 +220,35 @@ fn first_byte(socket: &mut Tcp<'_>) -> Result<Option<u8>, RecvError> {
         .recv(|queue| (queue.len().min(1), queue.first().copied()))
 }
 
-// A closure writes two bytes, and they go out.
+// A closure takes nothing, another writes two bytes, and they go out.
 fn sends_by_a_closure(rt: &(impl Abort), socket: &mut Tcp<'_>, cx: &mut Host) {
+    assert!(rt; lent(socket) == (Ok(4), Ok(0)));
     assert!(rt; writes_hi(socket) == Ok(()));
-    assert!(rt; socket.may_send() && socket.can_send() && socket.send_capacity() == 4);
+    assert!(rt; socket.sending() == (true, true, 4, 2));
     assert!(rt; emitted(socket, cx) == Some((1001, 2)));
 }
 
-// Takes three bytes from the peer.
+// Takes three bytes from the peer, which acknowledges two.
 fn hears_three(socket: &mut Tcp<'_>, cx: &mut Host) -> bool {
     let ip_repr = IpRepr::new(B.addr, A.addr, IpProtocol::Tcp, 20, 64);
-    let data = answer(TcpControl::Psh, 5001, b"xyz");
+    let mut data = answer(TcpControl::Psh, 5001, b"xyz");
+    data.ack_number = Some(TcpSeqNumber(1003));
     hear(socket, cx, &ip_repr, &data)
 }
 
 // Peeks leave what came; a closure takes a byte, and a slice the others.
 fn reads_by_a_closure(rt: &(impl Abort), socket: &mut Tcp<'_>) {
-    assert!(rt; socket.may_recv() && socket.can_recv() && socket.recv_capacity() == 4);
+    assert!(rt; socket.receiving() == (true, true, 4, 3));
     assert!(rt; peeks(socket, b"xy", b"xyz"));
     assert!(rt; first_byte(socket) == Ok(Some(b'x')));
     assert!(rt; reads(socket, b"yz"));
-    assert!(rt; waiting(socket) == (2, 0));
+    assert!(rt; socket.receiving() == (true, false, 4, 0));
 }
 
-#[test]
-fn closures_and_peeks(rt: HostRuntime) -> Result<(), Fail> {
-    let mut rx = [0u8; 4];
-    let mut tx = [0u8; 4];
-    let mut cx = Host::at(0, 1000);
-    let mut socket = Tcp::new(&mut rx, &mut tx);
-    establish(&mut socket, &mut cx);
-    sends_by_a_closure(&rt, &mut socket, &mut cx);
-    assert!(rt; hears_three(&mut socket, &mut cx));
-    reads_by_a_closure(&rt, &mut socket);
-    Ok(())
+// A text of which four bytes fit.
+fn writes_a_text(rt: &(impl Abort), socket: &mut Tcp<'_>) {
+    assert!(rt; socket.sending() == (true, true, 4, 0) && socket.write_str(""));
+    assert!(rt; !socket.write_str("hello") && socket.sending() == (true, false, 4, 4));
 }
 
 // The state after a close by the user.
@@ -326,23 +275,18 @@ fn closes_and_aborts(rt: &(impl Abort), socket: &mut Tcp<'_>) {
     assert!(rt; receives_no_more(socket));
 }
 
-// The states after a close before the handshake.
-fn closes_early(rt: &(impl Abort), socket: &mut Tcp<'_>, cx: &mut Host) {
-    assert!(rt; socket.listen(any(80)) == Ok(()));
-    assert!(rt; closed(socket) == State::Closed);
-    assert!(rt; dials(socket, cx, 80, at(A)) == Ok(()));
-    assert!(rt; closed(socket) == State::Closed);
-}
-
 #[test]
-fn close_and_abort_by_state(rt: HostRuntime) -> Result<(), Fail> {
+fn calls_on_a_connection(rt: HostRuntime) -> Result<(), Fail> {
     let mut rx = [0u8; 4];
     let mut tx = [0u8; 4];
     let mut cx = Host::at(0, 1000);
     let mut socket = Tcp::new(&mut rx, &mut tx);
     establish(&mut socket, &mut cx);
+    sends_by_a_closure(&rt, &mut socket, &mut cx);
+    assert!(rt; hears_three(&mut socket, &mut cx));
+    reads_by_a_closure(&rt, &mut socket);
+    writes_a_text(&rt, &mut socket);
     closes_and_aborts(&rt, &mut socket);
-    closes_early(&rt, &mut socket, &mut cx);
     Ok(())
 }
 
@@ -394,17 +338,22 @@ fn shows_its_clock(rt: &(impl Abort), socket: &mut Tcp<'_>) {
     assert!(rt; !socket.timestamp_enabled());
     socket.set_clock(true);
     assert!(rt; socket.timestamp_enabled());
-    assert!(rt; socket.listen(any(80)) == Ok(()));
-    assert!(rt; socket.timestamp_enabled());
     socket.set_clock(false);
     assert!(rt; !socket.timestamp_enabled());
 }
 
 #[test]
-fn timestamps_are_enabled_by_a_generator(rt: HostRuntime) -> Result<(), Fail> {
+fn calls_before_a_connection(rt: HostRuntime) -> Result<(), Fail> {
     let mut rx = [0u8; 4];
     let mut tx = [0u8; 4];
+    let mut cx = Host::at(0, 1000);
     let mut socket = Tcp::new(&mut rx, &mut tx);
     shows_its_clock(&rt, &mut socket);
+    keeps_settings(&rt, &mut socket);
+    assert!(rt; closed(&mut socket) == State::Closed);
+    listens(&rt, &mut socket);
+    assert!(rt; closed(&mut socket) == State::Closed);
+    connects_once(&rt, &mut socket, &mut cx);
+    assert!(rt; closed(&mut socket) == State::Closed);
     Ok(())
 }

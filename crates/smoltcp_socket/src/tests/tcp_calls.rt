@@ -47,60 +47,37 @@ impl<'a> Tcp<'a> {
         self.0.state()
     }
 
-    pub(crate) fn is_open(&self) -> bool {
-        self.0.is_open()
-    }
-
-    pub(crate) fn is_listening(&self) -> bool {
-        self.0.is_listening()
-    }
-
-    pub(crate) fn is_active(&self) -> bool {
-        self.0.is_active()
-    }
-
-    pub(crate) fn may_send(&self) -> bool {
-        self.0.may_send()
-    }
-
-    pub(crate) fn can_send(&self) -> bool {
-        self.0.can_send()
-    }
-
-    pub(crate) fn may_recv(&self) -> bool {
-        self.0.may_recv()
-    }
-
-    pub(crate) fn can_recv(&self) -> bool {
-        self.0.can_recv()
+    // Whether the socket is open, listens, and is active.
+    pub(crate) fn openness(&self) -> (bool, bool, bool) {
+        (self.0.is_open(), self.0.is_listening(), self.0.is_active())
     }
 
     pub(crate) fn listen_endpoint(&self) -> IpListenEndpoint {
         self.0.listen_endpoint()
     }
 
-    pub(crate) fn local_endpoint(&self) -> Option<IpEndpoint> {
-        self.0.local_endpoint()
+    pub(crate) fn endpoints(&self) -> (Option<IpEndpoint>, Option<IpEndpoint>) {
+        (self.0.local_endpoint(), self.0.remote_endpoint())
     }
 
-    pub(crate) fn remote_endpoint(&self) -> Option<IpEndpoint> {
-        self.0.remote_endpoint()
+    // Whether more may be sent, whether there is room for it, how much there is for all, and how many bytes wait.
+    pub(crate) fn sending(&self) -> (bool, bool, usize, usize) {
+        (
+            self.0.may_send(),
+            self.0.can_send(),
+            self.0.send_capacity(),
+            self.0.send_queue(),
+        )
     }
 
-    pub(crate) fn send_queue(&self) -> usize {
-        self.0.send_queue()
-    }
-
-    pub(crate) fn recv_queue(&self) -> usize {
-        self.0.recv_queue()
-    }
-
-    pub(crate) fn send_capacity(&self) -> usize {
-        self.0.send_capacity()
-    }
-
-    pub(crate) fn recv_capacity(&self) -> usize {
-        self.0.recv_capacity()
+    // The same of what is received.
+    pub(crate) fn receiving(&self) -> (bool, bool, usize, usize) {
+        (
+            self.0.may_recv(),
+            self.0.can_recv(),
+            self.0.recv_capacity(),
+            self.0.recv_queue(),
+        )
     }
 
     pub(crate) fn send_slice(&mut self, data: &[u8]) -> Result<usize, SendError> {

@@ -1,5 +1,6 @@
 //! One TCP socket over segments made by hand, also such as no socket of a pair emits.
 use super::host::Host;
+use super::slices::first;
 use super::tcp::{A, B};
 use super::tcp_calls::Tcp;
 use crate::tcp::*;
@@ -72,8 +73,43 @@ fn opens(rt: &(impl Abort), socket: &mut Tcp<'_>, syn: &TcpRepr<'_>, ack: &TcpRe
     assert!(rt; socket.state() == State::Established);
 }
 
+// The same without options, after what there was.
 fn opens_plainly(rt: &(impl Abort), socket: &mut Tcp<'_>) {
+    socket.abort();
     opens(rt, socket, &syn(), &segment(TcpControl::None, 1001, &[]));
+}
+
+// What is read, up to eight bytes.
+fn reads(socket: &mut Tcp<'_>, want: &[u8]) -> bool {
+    let mut bytes = [0u8; 8];
+    match socket.recv_slice(&mut bytes) {
+        Ok(count) if count <= 8 => &bytes[..count] == want,
+        _ => false,
+    }
+}
+
+fn is_finished(socket: &mut Tcp<'_>) -> bool {
+    socket.recv_slice(&mut [0; 8]) == Err(RecvError::Finished)
+}
+
+// The state after a segment without a reply.
+fn state_after(
+    rt: &(impl Abort),
+    socket: &mut Tcp<'_>,
+    control: TcpControl,
+    seq: u32,
+    payload: &[u8],
+) -> State {
+    let _ = hear_at(rt, socket, 0, &segment(control, seq, payload));
+    socket.state()
+}
+
+// A FIN behind bytes for which there is no room.
+fn disregards_a_cut_fin(rt: &(impl Abort), socket: &mut Tcp<'_>) {
+    opens_plainly(rt, socket);
+    let state = state_after(rt, socket, TcpControl::Fin, 1001, b"abcdef");
+    assert!(rt; state == State::Established);
+    assert!(rt; reads(socket, b"abcd"));
 }
 
 #[test]
@@ -81,83 +117,68 @@ fn cut_fin_is_disregarded(rt: HostRuntime) -> Result<(), Fail> {
     let mut rx = [0u8; 4];
     let mut tx = [0u8; 4];
     let mut socket = Tcp::new(&mut rx, &mut tx);
-    opens_plainly(&rt, &mut socket);
-    let _ = hear_at(
-        &rt,
-        &mut socket,
-        0,
-        &segment(TcpControl::Fin, 1001, b"abcdef"),
-    );
-    assert!(rt; socket.state() == State::Established);
-    let mut bytes = [0u8; 8];
-    assert!(rt; socket.recv_slice(&mut bytes) == Ok(4));
-    assert!(rt; &bytes[..4] == b"abcd".as_slice());
+    disregards_a_cut_fin(&rt, &mut socket);
     Ok(())
 }
 
 // A byte behind a FIN is queued, and read before the end.
 fn takes_a_byte_after_fin(rt: &(impl Abort), socket: &mut Tcp<'_>) {
-    let _ = hear_at(rt, socket, 0, &segment(TcpControl::Fin, 1001, &[]));
-    assert!(rt; socket.state() == State::CloseWait);
-    let _ = hear_at(rt, socket, 0, &segment(TcpControl::None, 1002, b"x"));
-    assert!(rt; (socket.state(), socket.recv_queue()) == (State::CloseWait, 1));
-    let mut bytes = [0u8; 8];
-    assert!(rt; socket.recv_slice(&mut bytes) == Ok(1));
-    assert!(rt; bytes[0] == b'x');
-    assert!(rt; socket.recv_slice(&mut bytes) == Err(RecvError::Finished));
+    opens_plainly(rt, socket);
+    let state = state_after(rt, socket, TcpControl::Fin, 1001, &[]);
+    assert!(rt; state == State::CloseWait);
+    let state = state_after(rt, socket, TcpControl::None, 1002, b"x");
+    assert!(rt; state == State::CloseWait);
+    assert!(rt; reads(socket, b"x") && is_finished(socket));
 }
 
-#[test]
-fn byte_after_fin(rt: HostRuntime) -> Result<(), Fail> {
-    let mut rx = [0u8; 64];
-    let mut tx = [0u8; 64];
-    let mut socket = Tcp::new(&mut rx, &mut tx);
-    opens_plainly(&rt, &mut socket);
-    takes_a_byte_after_fin(&rt, &mut socket);
-    Ok(())
+fn keeps_queued_bytes(rt: &(impl Abort), socket: &mut Tcp<'_>) {
+    opens_plainly(rt, socket);
+    let _ = state_after(rt, socket, TcpControl::None, 1001, b"abc");
+    let _ = state_after(rt, socket, TcpControl::None, 1001, b"XYZd");
+    assert!(rt; reads(socket, b"abcd"));
 }
 
-#[test]
-fn queued_bytes_are_not_overwritten(rt: HostRuntime) -> Result<(), Fail> {
-    let mut rx = [0u8; 64];
-    let mut tx = [0u8; 64];
-    let mut socket = Tcp::new(&mut rx, &mut tx);
-    opens_plainly(&rt, &mut socket);
-    let _ = hear_at(
-        &rt,
-        &mut socket,
-        0,
-        &segment(TcpControl::None, 1001, b"abc"),
-    );
-    let _ = hear_at(
-        &rt,
-        &mut socket,
-        0,
-        &segment(TcpControl::None, 1001, b"XYZd"),
-    );
-    let mut bytes = [0u8; 8];
-    assert!(rt; socket.recv_slice(&mut bytes) == Ok(4));
-    assert!(rt; &bytes[..4] == b"abcd".as_slice());
-    Ok(())
-}
-
-#[test]
-fn ack_beyond_sent_is_challenged(rt: HostRuntime) -> Result<(), Fail> {
-    let mut rx = [0u8; 64];
-    let mut tx = [0u8; 64];
-    let mut socket = Tcp::new(&mut rx, &mut tx);
-    opens_plainly(&rt, &mut socket);
+// An acknowledgement of what was not sent is answered, once a second.
+fn challenges_an_ack_beyond(rt: &(impl Abort), socket: &mut Tcp<'_>) {
+    opens_plainly(rt, socket);
     let mut beyond = segment(TcpControl::None, 1001, &[]);
     beyond.ack_number = Some(TcpSeqNumber(5002));
     let challenge = Some((5001, Some(TcpSeqNumber(1001)), 64));
-    for (millis, want) in [(0, challenge), (999, None), (1000, challenge)] {
-        assert!(rt; hear_at(&rt, &mut socket, millis, &beyond) == want);
-    }
-    Ok(())
+    assert!(rt; hear_at(rt, socket, 0, &beyond) == challenge);
+    assert!(rt; hear_at(rt, socket, 999, &beyond) == None);
+    assert!(rt; hear_at(rt, socket, 1000, &beyond) == challenge);
 }
 
-// Full segments go out, and then what is left of a window of 65536 bytes.
-fn fills_65536(rt: &(impl Abort), socket: &mut Tcp<'_>) {
+// Opens a connection whose peer tells these options, and a window of so many, and queues so many bytes.
+fn queues(
+    rt: &(impl Abort),
+    socket: &mut Tcp<'_>,
+    options: (Option<u8>, Option<u16>),
+    window: u16,
+    bytes: &[u8],
+) {
+    let mut opening = syn();
+    opening.window_scale = options.0;
+    opening.max_seg_size = options.1;
+    let mut ack = segment(TcpControl::None, 1001, &[]);
+    ack.window_len = window;
+    socket.abort();
+    opens(rt, socket, &opening, &ack);
+    assert!(rt; socket.send_slice(bytes) == Ok(bytes.len()));
+}
+
+// A largest segment of 1 counts as 48.
+fn raises_the_mss(rt: &(impl Abort), socket: &mut Tcp<'_>, bytes: &[u8]) {
+    queues(rt, socket, (None, Some(1)), 1000, first(bytes, 100));
+    assert!(rt; emitted(socket) == Some((5001, 48)));
+    assert!(rt; emitted(socket) == Some((5049, 48)));
+    assert!(rt; emitted(socket) == Some((5097, 4)));
+    assert!(rt; emitted(socket) == None);
+}
+
+// A scale of 200 counts as 14, so that a window of 4 is one of 65536 bytes: full segments and what is left of them.
+fn caps_the_scale(rt: &(impl Abort), socket: &mut Tcp<'_>, bytes: &[u8]) {
+    queues(rt, socket, (Some(200), None), 4, bytes);
     for _ in 0..122 {
         assert!(rt; matches!(emitted(socket), Some((_, 536))));
     }
@@ -165,99 +186,34 @@ fn fills_65536(rt: &(impl Abort), socket: &mut Tcp<'_>) {
     assert!(rt; emitted(socket) == None);
 }
 
-// A scale of 200 counts as 14, so that a window of 4 is one of 65536 bytes.
-#[test]
-fn peer_scale_is_capped(rt: HostRuntime) -> Result<(), Fail> {
-    let alloc = rt.alloc();
-    let mut rx = [0u8; 64];
-    let mut tx = vec![in alloc; 0u8; 70_000]?;
-    let bytes = vec![in alloc; b'x'; 70_000]?;
-    let mut socket = Tcp::new(&mut rx, tx.as_mut_slice());
-    socket.set_congestion_control(CongestionControl::None);
-    socket.set_nagle_enabled(false);
-    let mut scaled = syn();
-    scaled.window_scale = Some(200);
-    let mut ack = segment(TcpControl::None, 1001, &[]);
-    ack.window_len = 4;
-    opens(&rt, &mut socket, &scaled, &ack);
-    assert!(rt; socket.send_slice(bytes.as_slice()) == Ok(70_000));
-    fills_65536(&rt, &mut socket);
-    Ok(())
-}
-
-#[test]
-fn peer_mss_is_raised(rt: HostRuntime) -> Result<(), Fail> {
-    let mut rx = [0u8; 64];
-    let mut tx = [0u8; 100];
-    let mut socket = Tcp::new(&mut rx, &mut tx);
-    socket.set_nagle_enabled(false);
-    let mut small = syn();
-    small.max_seg_size = Some(1);
-    opens(
-        &rt,
-        &mut socket,
-        &small,
-        &segment(TcpControl::None, 1001, &[]),
-    );
-    assert!(rt; socket.send_slice(&[b'x'; 100]) == Ok(100));
-    for want in [Some((5001, 48)), Some((5049, 48)), Some((5097, 4)), None] {
-        assert!(rt; emitted(&mut socket) == want);
-    }
-    Ok(())
-}
-
-#[test]
-fn peer_mss_absent_small_large(rt: HostRuntime) -> Result<(), Fail> {
+// A largest segment that is none, small, or larger than the MTU lets go out.
+fn keeps_the_mss_in_range(rt: &(impl Abort), socket: &mut Tcp<'_>, bytes: &[u8]) {
     for (mss, want) in [(0, 536), (47, 48), (65535, 1460)] {
-        let mut rx = [0u8; 64];
-        let mut tx = [0u8; 1600];
-        let mut socket = Tcp::new(&mut rx, &mut tx);
-        socket.set_congestion_control(CongestionControl::None);
-        let mut sized = syn();
-        sized.max_seg_size = Some(mss);
-        let mut ack = segment(TcpControl::None, 1001, &[]);
-        ack.window_len = 2000;
-        opens(&rt, &mut socket, &sized, &ack);
-        assert!(rt; socket.send_slice(&[b'x'; 1600]) == Ok(1600));
-        assert!(rt; emitted(&mut socket) == Some((5001, want)));
+        queues(rt, socket, (None, Some(mss)), 2000, first(bytes, 1600));
+        assert!(rt; emitted(socket) == Some((5001, want)));
     }
-    Ok(())
 }
 
-// The options of a SYN|ACK: window, scale, largest segment, and whether SACK is permitted.
-fn options(rt: &(impl Abort), socket: &mut Tcp<'_>) -> (u16, Option<u8>, Option<u16>, bool) {
-    assert!(rt; socket.listen(ON_PORT_80) == Ok(()));
-    let mut repr = syn();
-    repr.window_scale = Some(0);
-    repr.sack_permitted = true;
-    assert!(rt; hear_at(rt, socket, 0, &repr) == None);
-    let mut seen = (0, None, None, false);
-    let _ = socket.0.dispatch(
-        &mut Host::at(0, 5000),
-        |_: &mut Host, sent: (IpRepr, TcpRepr<'_>)| -> Result<(), ()> {
-            let repr = &sent.1;
-            seen = (
-                repr.window_len,
-                repr.window_scale,
-                repr.max_seg_size,
-                repr.sack_permitted,
-            );
-            Ok(())
-        },
-    );
-    seen
+// One socket, opened again for each of these.
+fn meets_its_peers(rt: &(impl Abort), socket: &mut Tcp<'_>, bytes: &[u8]) {
+    takes_a_byte_after_fin(rt, socket);
+    keeps_queued_bytes(rt, socket);
+    challenges_an_ack_beyond(rt, socket);
+    socket.set_nagle_enabled(false);
+    raises_the_mss(rt, socket, bytes);
+    socket.set_congestion_control(CongestionControl::None);
+    caps_the_scale(rt, socket, bytes);
+    socket.set_nagle_enabled(true);
+    keeps_the_mss_in_range(rt, socket, bytes);
 }
 
 #[test]
-fn window_scale_in_syn_ack(rt: HostRuntime) -> Result<(), Fail> {
-    for (capacity, want) in [
-        (64, (64, Some(0), Some(1460), true)),
-        (131_072, (65535, Some(2), Some(1460), true)),
-    ] {
-        let mut rx = vec![in rt.alloc(); 0u8; capacity]?;
-        let mut tx = [0u8; 64];
-        let mut socket = Tcp::new(rx.as_mut_slice(), &mut tx);
-        assert!(rt; options(&rt, &mut socket) == want);
-    }
+fn segments_that_no_pair_emits(rt: HostRuntime) -> Result<(), Fail> {
+    let alloc = rt.alloc();
+    let bytes = vec![in alloc; b'x'; 70_000]?;
+    let mut tx = vec![in alloc; 0u8; 70_000]?;
+    let mut rx = [0u8; 64];
+    let mut socket = Tcp::new(&mut rx, tx.as_mut_slice());
+    meets_its_peers(&rt, &mut socket, bytes.as_slice());
     Ok(())
 }

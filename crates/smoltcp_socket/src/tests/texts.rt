@@ -1,6 +1,6 @@
 //! What errors, the states of TCP and the metadata of datagrams print.
 
-use crate::wire::{IpAddress, IpEndpoint, Ipv4Address};
+use crate::wire::{IpAddress, IpEndpoint, Ipv4Address, Ipv6Address};
 use crate::{raw, tcp, udp};
 use std::fmt;
 use std::test::Fail;
@@ -32,6 +32,13 @@ fn texts(rt: HostRuntime) -> Result<(), Fail> {
     };
     let meta = udp::UdpMetadata::from_endpoint(endpoint);
     assert!(rt; prints(&rt, &meta, "192.168.1.2:49500")?);
+    let octets = [
+        0x20, 0x01, 0x0d, 0xb8, 0, 0, 0, 0, 0, 0, 0, 0, 0, 0, 0, 0xfe,
+    ];
+    let addr = IpAddress::Ipv6(Ipv6Address(octets));
+    let endpoint = IpEndpoint { addr, port: 80 };
+    let text = "[2001:0db8:0000:0000:0000:0000:0000:00fe]:80";
+    assert!(rt; prints(&rt, &endpoint, text)?);
     Ok(())
 }
 
