@@ -1,4 +1,5 @@
-/* Two sockets in one process: a connects to b, sends a line, b sends it back, and both close. */
+/* Sockets in one process. TCP: a connects to b, sends a line, b sends it back, and both close. UDP: a datagram goes to
+ * port 53, and the answer back. ICMP: an echo request goes out, and the reply to it is read. */
 #include <stdio.h>
 #include <string.h>
 
@@ -49,6 +50,77 @@ static void run(void) {
         of_b.now += 20000;
         if (exchange(&a, &of_a, &b, &of_b) + exchange(&b, &of_b, &a, &of_a) == 0) return;
     }
+}
+
+/* A datagram from a port of a to a socket of b, and one back to where it came from. */
+static void datagrams(void) {
+    static const uint8_t text[] = "which address?";
+    struct smoltcp_udp of_client, server;
+    struct smoltcp_udp_metadata meta, from;
+    struct smoltcp_endpoint at_a = endpoint(1, 49152), at_b = endpoint(2, 53);
+    uint8_t packet[MTU], bytes[64];
+    int64_t len;
+
+    memset(&of_client, 0, sizeof of_client);
+    memset(&server, 0, sizeof server);
+    memset(&meta, 0, sizeof meta);
+    meta.endpoint = at_b;
+    want("not open", smoltcp_udp_send(&of_client, &of_a, &meta, text, sizeof text, packet, MTU), SMOLTCP_ERROR_ADDRESS);
+    want("bind", smoltcp_udp_bind(&of_client, &at_a), SMOLTCP_OK);
+    want("bind", smoltcp_udp_bind(&server, &at_b), SMOLTCP_OK);
+    want("open", smoltcp_udp_bind(&server, &at_b), SMOLTCP_ERROR_STATE);
+    len = smoltcp_udp_send(&of_client, &of_a, &meta, text, sizeof text, packet, MTU);
+    want("packet", len, 28 + sizeof text);
+    want("for another port", smoltcp_udp_process(&of_client, &of_a, packet, (size_t)len, &from, bytes, sizeof bytes),
+         SMOLTCP_NOT_ACCEPTED);
+    want("short", smoltcp_udp_process(&server, &of_b, packet, (size_t)len, &from, bytes, 1), SMOLTCP_ERROR_ROOM);
+    len = smoltcp_udp_process(&server, &of_b, packet, (size_t)len, &from, bytes, sizeof bytes);
+    want("payload", len, sizeof text);
+    want("bytes", memcmp(bytes, text, sizeof text), 0);
+    printf("server reads: %s\n", (const char *)bytes);
+    want("port", from.endpoint.port, 49152);
+    len = smoltcp_udp_send(&server, &of_b, &from, text, 5, packet, MTU);
+    want("answer", len, 28 + 5);
+    packet[30] ^= 1;
+    want("damaged", smoltcp_udp_process(&of_client, &of_a, packet, (size_t)len, &from, bytes, sizeof bytes),
+         SMOLTCP_NOT_ACCEPTED);
+    packet[30] ^= 1;
+    want("answer", smoltcp_udp_process(&of_client, &of_a, packet, (size_t)len, &from, bytes, sizeof bytes), 5);
+    want("close", smoltcp_udp_close(&server), SMOLTCP_OK);
+    want("close", smoltcp_udp_close(&of_client), SMOLTCP_OK);
+}
+
+/* An echo request with identifier 7 and number 1 and its reply, which b sends with the same text. */
+static void echoes(void) {
+    static const uint8_t request[] = {8, 0, 0, 0, 0, 7, 0, 1, 'p', 'i', 'n', 'g'};
+    static const uint8_t reply[] = {0, 0, 0, 0, 0, 7, 0, 1, 'p', 'i', 'n', 'g'};
+    struct smoltcp_icmp pinger, answering;
+    struct smoltcp_icmp_endpoint ident;
+    struct smoltcp_address from, to_a = endpoint(1, 0).addr, to_b = endpoint(2, 0).addr;
+    uint8_t packet[MTU], bytes[64];
+    int64_t len;
+
+    memset(&pinger, 0, sizeof pinger);
+    memset(&answering, 0, sizeof answering);
+    memset(&ident, 0, sizeof ident);
+    want("no messages", smoltcp_icmp_bind(&pinger, &ident), SMOLTCP_ERROR_ADDRESS);
+    ident.kind = SMOLTCP_ICMP_IDENT;
+    ident.ident = 7;
+    want("bind", smoltcp_icmp_bind(&pinger, &ident), SMOLTCP_OK);
+    want("bind", smoltcp_icmp_bind(&answering, &ident), SMOLTCP_OK);
+    want("no message", smoltcp_icmp_send(&pinger, &of_a, &to_b, request, 3, packet, MTU), SMOLTCP_ERROR_MESSAGE);
+    len = smoltcp_icmp_send(&pinger, &of_a, &to_b, request, sizeof request, packet, MTU);
+    want("packet", len, 20 + sizeof request);
+    len = smoltcp_icmp_process(&answering, &of_b, packet, (size_t)len, &from, bytes, sizeof bytes);
+    want("request", len, sizeof request);
+    want("source", memcmp(from.v4, to_a.v4, 4), 0);
+    len = smoltcp_icmp_send(&answering, &of_b, &from, reply, sizeof reply, packet, MTU);
+    len = smoltcp_icmp_process(&pinger, &of_a, packet, (size_t)len, &from, bytes, sizeof bytes);
+    want("reply", len, sizeof reply);
+    want("text", memcmp(bytes + 4, reply + 4, sizeof reply - 4), 0);
+    printf("echo reply: %.*s\n", 4, (const char *)bytes + 8);
+    want("close", smoltcp_icmp_close(&pinger), SMOLTCP_OK);
+    want("closed", smoltcp_icmp_process(&pinger, &of_a, packet, 32, &from, bytes, sizeof bytes), SMOLTCP_NOT_ACCEPTED);
 }
 
 int main(void) {
@@ -115,6 +187,8 @@ int main(void) {
     want("a", smoltcp_tcp_state(&a), SMOLTCP_CLOSED);
     want("poll_at", smoltcp_tcp_poll_at(&a, &of_a), INT64_MAX);
     want("abort", smoltcp_tcp_abort(&b), SMOLTCP_OK);
+    datagrams();
+    echoes();
     puts(failed ? "failed" : "ok");
     return failed;
 }

@@ -1,5 +1,6 @@
-/* Proved TCP sockets for C. A socket is a struct that the caller owns, with its two buffers; no call allocates, keeps
- * anything elsewhere or calls back. Calls on different sockets may run at once; of one socket, one at a time.
+/* Proved sockets for C: TCP, UDP and ICMP. A socket is a struct that the caller owns, a TCP socket with its two buffers;
+ * no call allocates, keeps anything elsewhere or calls back. Calls on different sockets may run at once; of one socket,
+ * one at a time.
  *
  * Each call answers a number: 0 or more where it was done, and below 0 an error, with nothing changed; but see
  * dispatch. */
@@ -23,7 +24,8 @@ enum {
     SMOLTCP_ERROR_ROOM = -6,     /* a buffer for a packet is too short */
     SMOLTCP_ERROR_NULL = -7,     /* a pointer is null */
     SMOLTCP_NOT_ACCEPTED = -8,   /* the packet is not for this socket */
-    SMOLTCP_ERROR_RANGE = -9     /* a number is out of its range */
+    SMOLTCP_ERROR_RANGE = -9,    /* a number is out of its range */
+    SMOLTCP_ERROR_MESSAGE = -10  /* an ICMP message is malformed */
 };
 
 /* States, as in RFC 9293. */
@@ -107,11 +109,36 @@ struct smoltcp_tcp {
     struct smoltcp_fields fields;
 };
 
+/* A UDP socket. It keeps no queue: smoltcp_udp_process gives out the datagram of a packet at once, and smoltcp_udp_send
+ * writes one as a packet at once. All zeros are a closed socket. */
+struct smoltcp_udp {
+    struct smoltcp_endpoint endpoint; /* what it is bound to: nothing where the port is 0 */
+    uint8_t hop_limit;                /* of what is sent; 0: 64 */
+};
+
+/* Where a datagram came from or goes to, and the own address: that to which it came, or from which it is sent (none:
+ * the bound one, or else the interface's). */
+struct smoltcp_udp_metadata { struct smoltcp_endpoint endpoint; struct smoltcp_address local_address; };
+
+/* Which ICMP messages a socket takes: echoes with the identifier, or errors about what was sent by TCP or by UDP from
+ * the endpoint, whose address may be none. */
+enum { SMOLTCP_ICMP_NONE = 0, SMOLTCP_ICMP_IDENT = 1, SMOLTCP_ICMP_TCP = 2, SMOLTCP_ICMP_UDP = 3 };
+struct smoltcp_icmp_endpoint { uint8_t kind; uint16_t ident; struct smoltcp_endpoint endpoint; };
+
+/* An ICMP socket (RFC 792, RFC 4443), without a queue too. All zeros are a closed socket. */
+struct smoltcp_icmp {
+    struct smoltcp_icmp_endpoint bound; /* what it is bound to */
+    uint8_t hop_limit;                  /* of what is sent; 0: 64 */
+};
+
 /* The sizes that the library has, which is for x86-64. */
 #if defined(__STDC_VERSION__) && __STDC_VERSION__ >= 201112L
 _Static_assert(sizeof(struct smoltcp_endpoint) == 24, "smoltcp_endpoint");
 _Static_assert(sizeof(struct smoltcp_context) == 40, "smoltcp_context");
 _Static_assert(sizeof(struct smoltcp_tcp) == 512, "smoltcp_tcp");
+_Static_assert(sizeof(struct smoltcp_udp) == 26, "smoltcp_udp");
+_Static_assert(sizeof(struct smoltcp_udp_metadata) == 46, "smoltcp_udp_metadata");
+_Static_assert(sizeof(struct smoltcp_icmp) == 30, "smoltcp_icmp");
 #endif
 
 /* The calls of the library, which take no null pointers. */
@@ -136,6 +163,22 @@ int64_t smoltcp_tcp_process_checked(struct smoltcp_tcp *s, const struct smoltcp_
                                     size_t len, uint8_t *reply, size_t cap);
 int64_t smoltcp_tcp_dispatch_checked(struct smoltcp_tcp *s, const struct smoltcp_context *cx, uint8_t *out, size_t cap);
 int64_t smoltcp_tcp_poll_at_checked(struct smoltcp_tcp *s, const struct smoltcp_context *cx, int64_t *at);
+int64_t smoltcp_udp_bind_checked(struct smoltcp_udp *s, const struct smoltcp_endpoint *endpoint);
+int64_t smoltcp_udp_close_checked(struct smoltcp_udp *s);
+int64_t smoltcp_udp_process_checked(const struct smoltcp_udp *s, const struct smoltcp_context *cx,
+                                    const uint8_t *packet, size_t len, struct smoltcp_udp_metadata *meta,
+                                    uint8_t *data, size_t cap);
+int64_t smoltcp_udp_send_checked(const struct smoltcp_udp *s, const struct smoltcp_context *cx,
+                                 const struct smoltcp_udp_metadata *meta, const uint8_t *data, size_t len,
+                                 uint8_t *out, size_t cap);
+int64_t smoltcp_icmp_bind_checked(struct smoltcp_icmp *s, const struct smoltcp_icmp_endpoint *endpoint);
+int64_t smoltcp_icmp_close_checked(struct smoltcp_icmp *s);
+int64_t smoltcp_icmp_process_checked(const struct smoltcp_icmp *s, const struct smoltcp_context *cx,
+                                     const uint8_t *packet, size_t len, struct smoltcp_address *remote, uint8_t *data,
+                                     size_t cap);
+int64_t smoltcp_icmp_send_checked(const struct smoltcp_icmp *s, const struct smoltcp_context *cx,
+                                  const struct smoltcp_address *remote, const uint8_t *data, size_t len, uint8_t *out,
+                                  size_t cap);
 
 /* Whether the struct and its buffers are there. */
 static inline int smoltcp_tcp_is_null(const struct smoltcp_tcp *s) { return !s || !s->rx || !s->tx; }
@@ -264,6 +307,72 @@ static inline int64_t smoltcp_tcp_poll_at(struct smoltcp_tcp *s, const struct sm
     answer = smoltcp_tcp_poll_at_checked(s, cx, &at);
     if (answer < 0) return INT64_MIN;
     return answer == 0 ? at : INT64_MAX;
+}
+
+/* Opens a UDP socket for datagrams to this port, and to this address where one is given. SMOLTCP_ERROR_ADDRESS where
+ * the port is 0, else SMOLTCP_ERROR_STATE where it is open. */
+static inline int64_t smoltcp_udp_bind(struct smoltcp_udp *s, const struct smoltcp_endpoint *endpoint) {
+    if (!s || !endpoint) return SMOLTCP_ERROR_NULL;
+    return smoltcp_udp_bind_checked(s, endpoint);
+}
+
+/* Binds it to nothing. */
+static inline int64_t smoltcp_udp_close(struct smoltcp_udp *s) {
+    if (!s) return SMOLTCP_ERROR_NULL;
+    return smoltcp_udp_close_checked(s);
+}
+
+/* Takes an IP packet: the length of the payload of its datagram, which then stands in data, and where it came from in
+ * meta. SMOLTCP_NOT_ACCEPTED where it is no whole datagram (RFC 768) or is not for this socket, SMOLTCP_ERROR_ROOM
+ * where data is too short. */
+static inline int64_t smoltcp_udp_process(const struct smoltcp_udp *s, const struct smoltcp_context *cx,
+                                          const uint8_t *packet, size_t len, struct smoltcp_udp_metadata *meta,
+                                          uint8_t *data, size_t cap) {
+    if (!s || !cx || !packet || !meta || !data) return SMOLTCP_ERROR_NULL;
+    return smoltcp_udp_process_checked(s, cx, packet, len, meta, data, cap);
+}
+
+/* Writes a datagram of these bytes as a packet into out, and answers its length. SMOLTCP_ERROR_ADDRESS where the socket
+ * is not open, the destination has no address or port, or the source is of another version of IP; SMOLTCP_ERROR_ROOM
+ * where the packet is longer than out or than 65535 bytes. Whether it fits the MTU is the caller's to see. */
+static inline int64_t smoltcp_udp_send(const struct smoltcp_udp *s, const struct smoltcp_context *cx,
+                                       const struct smoltcp_udp_metadata *meta, const uint8_t *data, size_t len,
+                                       uint8_t *out, size_t cap) {
+    if (!s || !cx || !meta || !data || !out) return SMOLTCP_ERROR_NULL;
+    return smoltcp_udp_send_checked(s, cx, meta, data, len, out, cap);
+}
+
+/* Opens an ICMP socket for these messages. SMOLTCP_ERROR_ADDRESS where there are none or a port is missing, else
+ * SMOLTCP_ERROR_STATE where it is open. */
+static inline int64_t smoltcp_icmp_bind(struct smoltcp_icmp *s, const struct smoltcp_icmp_endpoint *endpoint) {
+    if (!s || !endpoint) return SMOLTCP_ERROR_NULL;
+    return smoltcp_icmp_bind_checked(s, endpoint);
+}
+
+/* Binds it to nothing. */
+static inline int64_t smoltcp_icmp_close(struct smoltcp_icmp *s) {
+    if (!s) return SMOLTCP_ERROR_NULL;
+    return smoltcp_icmp_close_checked(s);
+}
+
+/* Takes an IP packet: the length of its ICMP message, which then stands in data, and its source in remote.
+ * SMOLTCP_NOT_ACCEPTED where it is no whole message or is not for this socket, SMOLTCP_ERROR_ROOM where data is too
+ * short. */
+static inline int64_t smoltcp_icmp_process(const struct smoltcp_icmp *s, const struct smoltcp_context *cx,
+                                           const uint8_t *packet, size_t len, struct smoltcp_address *remote,
+                                           uint8_t *data, size_t cap) {
+    if (!s || !cx || !packet || !remote || !data) return SMOLTCP_ERROR_NULL;
+    return smoltcp_icmp_process_checked(s, cx, packet, len, remote, data, cap);
+}
+
+/* Writes an ICMP message as a packet to remote into out, its checksum computed, and answers the packet's length.
+ * SMOLTCP_ERROR_ADDRESS where remote is unspecified, SMOLTCP_ERROR_MESSAGE where the bytes are no echo and no error of
+ * its version, SMOLTCP_ERROR_ROOM as for UDP. The socket need not be open. */
+static inline int64_t smoltcp_icmp_send(const struct smoltcp_icmp *s, const struct smoltcp_context *cx,
+                                        const struct smoltcp_address *remote, const uint8_t *data, size_t len,
+                                        uint8_t *out, size_t cap) {
+    if (!s || !cx || !remote || !data || !out) return SMOLTCP_ERROR_NULL;
+    return smoltcp_icmp_send_checked(s, cx, remote, data, len, out, cap);
 }
 
 #ifdef __cplusplus

@@ -122,8 +122,11 @@ fn carried_if<'a>(
     Some((ip, bytes))
 }
 
+/// The header of a packet of either version, and what stands behind it.
+///
+/// None where its lengths do not fit or a tested checksum of its IPv4 header fails.
 #[tactic(auto, unfolding(crate::specs::Packet::carried))]
-fn carried<'a>(packet: &'a [u8], caps: &ChecksumCapabilities) -> Option<(IpRepr, &'a [u8])>
+pub fn carried<'a>(packet: &'a [u8], caps: &ChecksumCapabilities) -> Option<(IpRepr, &'a [u8])>
     ensures { option_map carried_of result ≡ carried (is_received caps.now.ipv4) packet.now }
 {
     match IpVersion::of_packet(packet).ok()? {

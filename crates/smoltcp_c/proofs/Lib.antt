@@ -1,5 +1,6 @@
 mod Counts
 mod Replies
+mod Told
 mod Emitting
 mod Reading
 mod Held

@@ -9,6 +9,8 @@ use Rattle.sock_tcp.specs.declared.error.ListenError.{ListenError}
 use Rattle.sock_tcp.specs.declared.error.ListenError.TheVariants as listen_error
 use Rattle.sock_tcp.specs.declared.error.ConnectError.{ConnectError}
 use Rattle.sock_tcp.specs.declared.error.ConnectError.TheVariants as connect_error
+use Rattle.sock_dgram.specs.declared.error.BindError.{BindError}
+use Rattle.sock_dgram.specs.declared.error.BindError.TheVariants as bind_error
 use Rattle.sock_tcp.specs.declared.error.SendError.{SendError}
 use Rattle.sock_tcp.specs.declared.error.RecvError.{RecvError}
 use Rattle.sock_tcp.specs.declared.error.RecvError.TheVariants as recv_error
@@ -37,6 +39,9 @@ not_accepted = negsuc 7
 abbrev pub error_range : ℤ
 error_range = negsuc 8
 
+abbrev pub error_message : ℤ
+error_message = negsuc 9
+
 abbrev pub listen_answer : {U : Type 0} → Result U ListenError → ℤ
 listen_answer (Ok u) = pos 0
 listen_answer (Err listen_error.InvalidState) = error_state
@@ -46,6 +51,11 @@ abbrev pub connect_answer : {U : Type 0} → Result U ConnectError → ℤ
 connect_answer (Ok u) = pos 0
 connect_answer (Err connect_error.InvalidState) = error_state
 connect_answer (Err connect_error.Unaddressable) = error_address
+
+abbrev pub bind_answer : {U : Type 0} → Result U BindError → ℤ
+bind_answer (Ok u) = pos 0
+bind_answer (Err bind_error.InvalidState) = error_state
+bind_answer (Err bind_error.Unaddressable) = error_address
 
 -- a count of bytes that is at most 2^30
 abbrev pub UpTo30 : {E : Type 0} → Result ℕ E → Type 0

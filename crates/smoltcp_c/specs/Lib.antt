@@ -5,3 +5,5 @@ pub mod Answers
 pub mod Context
 pub mod Wire
 pub mod Packets
+pub mod Udp
+pub mod Icmp

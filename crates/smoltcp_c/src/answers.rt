@@ -1,8 +1,9 @@
 //! The numbers that the calls answer.
 ghost use Rattle.std.specs.Prelude.{◌≡◌};
-ghost use Rattle.smoltcp_c.specs.Answers.{listen_answer, connect_answer, send_answer, recv_answer, sent_answer, flag_answer, state_answer, UpTo30};
+ghost use Rattle.smoltcp_c.specs.Answers.{listen_answer, connect_answer, bind_answer, send_answer, recv_answer, sent_answer, flag_answer, state_answer, UpTo30};
 
 use crate::wire::{Full, LONGEST_PACKET};
+use sock_dgram::error::BindError;
 use sock_tcp::{ConnectError, ListenError, RecvError, SendError, State};
 
 /// The call was done.
@@ -29,6 +30,9 @@ pub const ERROR_ROOM: i64 = -6;
 /// A number is out of its range.
 pub const ERROR_RANGE: i64 = -9;
 
+/// An ICMP message is malformed.
+pub const ERROR_MESSAGE: i64 = -10;
+
 /// The packet is not for this socket.
 pub const NOT_ACCEPTED: i64 = -8;
 
@@ -49,6 +53,16 @@ pub fn connect_answer(answer: Result<(), ConnectError>) -> i64
         Ok(()) => OK,
         Err(ConnectError::InvalidState) => ERROR_STATE,
         Err(ConnectError::Unaddressable) => ERROR_ADDRESS,
+    }
+}
+
+pub fn bind_answer(answer: Result<(), BindError>) -> i64
+    ensures { result ≡ bind_answer answer }
+{
+    match answer {
+        Ok(()) => OK,
+        Err(BindError::InvalidState) => ERROR_STATE,
+        Err(BindError::Unaddressable) => ERROR_ADDRESS,
     }
 }
 

@@ -130,7 +130,8 @@ pub fn tuple_in(n: &Ends) -> Option<Tuple>
     })
 }
 
-const NO_ENDPOINT: Endpoint = Endpoint {
+/// No address, and port 0.
+pub const NO_ENDPOINT: Endpoint = Endpoint {
     addr: NO_ADDRESS,
     port: 0,
 };

@@ -8,6 +8,7 @@ mod context;
 mod contexts;
 mod endpoints;
 mod fields;
+mod icmp;
 mod numbers;
 mod packets;
 mod settings;
@@ -15,4 +16,5 @@ mod socket;
 mod tcp;
 #[cfg(test)]
 mod tests;
+mod udp;
 mod wire;

@@ -1,17 +1,26 @@
-//! Two sockets in memory, through the calls that C has: they connect, send bytes both ways, and close.
+//! Sockets in memory, through the calls that C has. Two of TCP connect, send bytes both ways, and close; a datagram and
+//! an echo go from one host to the other.
 ghost use Rattle.std.specs.Prelude.{◌≤◌, ◌^◌, length};
 
-use crate::answers::{ERROR_CONTEXT, ERROR_ROOM, NOT_ACCEPTED, OK};
+use crate::answers::{ERROR_ADDRESS, ERROR_CONTEXT, ERROR_MESSAGE, ERROR_ROOM, NOT_ACCEPTED, OK};
 use crate::context::Cx;
 use crate::contexts::{smoltcp_tcp_connect_checked, smoltcp_tcp_poll_at_checked};
 use crate::endpoints::{Address, Endpoint};
 use crate::fields::fields_of;
+use crate::icmp::{
+    IcmpEndpoint, IcmpSocket, smoltcp_icmp_bind_checked, smoltcp_icmp_close_checked,
+    smoltcp_icmp_process_checked, smoltcp_icmp_send_checked,
+};
 use crate::packets::{smoltcp_tcp_dispatch_checked, smoltcp_tcp_process_checked};
 use crate::settings::smoltcp_tcp_set_congestion_control_checked;
 use crate::socket::{TcpSocket, closed_over};
 use crate::tcp::{
     smoltcp_tcp_close_checked, smoltcp_tcp_init_checked, smoltcp_tcp_listen_checked,
     smoltcp_tcp_recv_checked, smoltcp_tcp_send_checked, smoltcp_tcp_state_checked,
+};
+use crate::udp::{
+    UdpNumbers, UdpSocket, smoltcp_udp_bind_checked, smoltcp_udp_close_checked,
+    smoltcp_udp_process_checked, smoltcp_udp_send_checked,
 };
 
 const MTU: usize = 1500;
@@ -160,4 +169,89 @@ fn two_sockets_talk(rt: HostRuntime) {
     assert!(rt; refuses(&mut a));
     assert!(rt; closes(&mut a, &mut b));
     assert!(rt; ends(&mut a));
+}
+
+fn closed_udp() -> UdpSocket {
+    UdpSocket {
+        endpoint: endpoint(0, 0),
+        hop_limit: 0,
+    }
+}
+
+// A datagram between these sockets, whose hosts' addresses end in 1 and 2: the payload's length, or an error.
+fn datagram(from: &UdpSocket, to: &UdpSocket, meta: &mut UdpNumbers, data: &mut [u8]) -> i64 {
+    let mut packet = [0u8; MTU];
+    let len = smoltcp_udp_send_checked(from, &context(1, 0), meta, b"a question", &mut packet);
+    if len < 0 {
+        return len;
+    }
+    smoltcp_udp_process_checked(to, &context(2, 0), packet_in(&packet, len), meta, data)
+}
+
+// To an open socket and port, to a buffer that is too short, and from and to a closed socket.
+fn datagrams() -> bool {
+    let (mut client, mut server) = (closed_udp(), closed_udp());
+    let mut meta = UdpNumbers {
+        endpoint: endpoint(2, 53),
+        local_address: endpoint(1, 0).addr,
+    };
+    let mut data = [0u8; 16];
+    datagram(&client, &server, &mut meta, &mut data) == ERROR_ADDRESS
+        && smoltcp_udp_bind_checked(&mut client, &endpoint(1, 49152)) == OK
+        && datagram(&client, &server, &mut meta, &mut data) == NOT_ACCEPTED
+        && smoltcp_udp_bind_checked(&mut server, &endpoint(2, 53)) == OK
+        && datagram(&client, &server, &mut meta, &mut [0u8; 9]) == ERROR_ROOM
+        && datagram(&client, &server, &mut meta, &mut data) == 10
+        && data.starts_with(b"a question")
+        && meta.endpoint.port == 49152
+        && smoltcp_udp_close_checked(&mut server) == OK
+}
+
+// An echo request of one host to the other: the message's length, or an error.
+fn echo(from: &IcmpSocket, to: &IcmpSocket, message: &[u8], data: &mut [u8]) -> i64 {
+    let mut packet = [0u8; MTU];
+    let mut source = endpoint(0, 0).addr;
+    let len = smoltcp_icmp_send_checked(
+        from,
+        &context(1, 0),
+        &endpoint(2, 0).addr,
+        message,
+        &mut packet,
+    );
+    if len < 0 {
+        return len;
+    }
+    let packet = packet_in(&packet, len);
+    smoltcp_icmp_process_checked(to, &context(2, 0), packet, &mut source, data)
+}
+
+// A request, which arrives with its checksum; one for another identifier; and what is no message.
+fn echoes() -> bool {
+    let mut socket = IcmpSocket {
+        bound: IcmpEndpoint {
+            kind: 0,
+            ident: 7,
+            endpoint: endpoint(0, 0),
+        },
+        hop_limit: 1,
+    };
+    let ident = IcmpEndpoint {
+        kind: 1,
+        ident: 7,
+        endpoint: endpoint(0, 0),
+    };
+    let mut data = [0u8; 16];
+    smoltcp_icmp_bind_checked(&mut socket, &ident) == OK
+        && echo(&socket, &socket, &[8, 0, 0, 0, 0, 7, 0, 1], &mut data) == 8
+        && data.starts_with(&[8, 0, 0xf7, 0xf7, 0, 7, 0, 1])
+        && echo(&socket, &socket, &[8, 0, 0, 0, 0, 8, 0, 1], &mut data) == NOT_ACCEPTED
+        && echo(&socket, &socket, &[8, 0, 0], &mut data) == ERROR_MESSAGE
+        && smoltcp_icmp_close_checked(&mut socket) == OK
+        && echo(&socket, &socket, &[8, 0, 0, 0, 0, 7, 0, 1], &mut data) == NOT_ACCEPTED
+}
+
+#[test]
+fn datagrams_and_echoes_come_over(rt: HostRuntime) {
+    assert!(rt; datagrams());
+    assert!(rt; echoes());
 }

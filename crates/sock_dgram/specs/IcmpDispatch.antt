@@ -35,6 +35,12 @@ pub record Outgoing : Type 0 where
 abbrev pub outgoing_of : IpRepr × IcmpRepr → Outgoing
 outgoing_of s = record { ip = s.0; message = any_message s.1 }
 
+-- the header of a packet that carries just this message
+abbrev pub Counts : IpRepr → AnyMessage → Type 0
+Counts (header.Ipv4 h) (OverIpv4 m) = h.payload_len ≡ message_len 20 m
+Counts (header.Ipv6 h) (OverIpv6 m) = h.payload_len ≡ message_len 40 m
+Counts _ _ = ⊥
+
 -- a malformed message is not sent; the others have this hop limit
 abbrev pub from_ipv4 : ℕ → Ipv4Address → Ipv4Address → Option (Message Ipv4Repr) → Option Outgoing
 from_ipv4 hops src dst None = None

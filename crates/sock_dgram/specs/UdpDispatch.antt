@@ -56,6 +56,9 @@ outgoing v f = from_first v f (first_packet v.tx_buffer)
 abbrev pub outgoing_of : IpRepr × UdpRepr × Bor (List ℕ) → Outgoing
 outgoing_of s = record { ip = s.0; udp = s.1; payload = s.2.now }
 
+abbrev pub outgoing_with : List ℕ → IpRepr × UdpRepr → Outgoing
+outgoing_with payload s = record { ip = s.0; udp = s.1; payload = payload }
+
 -- the whole: at Ok the first datagram leaves; at Err it stays first, and the next dispatch in the same context offers
 -- it again
 pub record Dispatched {F C E : Type 0} (g : Emit F C (IpRepr × UdpRepr × Bor (List ℕ)) E) (f : F) (v : View)

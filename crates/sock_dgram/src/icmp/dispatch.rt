@@ -1,9 +1,9 @@
 //! Messages that go out.
-ghost use Rattle.std.specs.Prelude.{◌≡◌, false, option_map};
+ghost use Rattle.std.specs.Prelude.{◌≡◌, false, option_map, IfSome};
 ghost use Rattle.control_wire.specs.Icmp.{icmpv4_parsed, icmpv6_parsed};
 ghost use Rattle.net_base.specs.Packets.{starts_padded};
 ghost use Rattle.sock_core.specs.Emission.{Emits};
-ghost use Rattle.sock_dgram.specs.IcmpDispatch.{from_ipv4, from_ipv6, to_remote, outgoing, outgoing_of, Dispatched};
+ghost use Rattle.sock_dgram.specs.IcmpDispatch.{Counts, any_message, from_ipv4, from_ipv6, to_remote, outgoing, outgoing_of, Dispatched};
 ghost use Rattle.sock_dgram.specs.UdpDispatch.{hops_of};
 
 use crate::icmp::socket::Socket;
@@ -30,8 +30,9 @@ impl<'a> Socket<'a> {
         dst_addr: Ipv4Address,
         bytes: &'b [u8],
     ) -> Option<(IpRepr, IcmpRepr<'b>)>
-        ensures { option_map outgoing_of result
+        ensures value { option_map outgoing_of result
             ≡ from_ipv4 (hops_of self.now.hop_limit) src_addr dst_addr (icmpv4_parsed false bytes.now) }
+        ensures counted { IfSome result (λ s. Counts s.0 (any_message s.1)) }
     {
         let repr = Icmpv4Repr::parse(bytes, &ChecksumCapabilities::ignored()).ok()?;
         let ip_repr = Ipv4Repr {
@@ -50,9 +51,10 @@ impl<'a> Socket<'a> {
         dst_addr: Ipv6Address,
         bytes: &'b [u8],
     ) -> Option<(IpRepr, IcmpRepr<'b>)>
-        ensures { option_map outgoing_of result
+        ensures value { option_map outgoing_of result
             ≡ from_ipv6 (hops_of self.now.hop_limit) src_addr dst_addr
             (icmpv6_parsed false src_addr dst_addr bytes.now) }
+        ensures counted { IfSome result (λ s. Counts s.0 (any_message s.1)) }
     {
         let caps = ChecksumCapabilities::ignored();
         let repr = Icmpv6Repr::parse(&src_addr, &dst_addr, bytes, &caps).ok()?;
@@ -66,16 +68,19 @@ impl<'a> Socket<'a> {
         Some((IpRepr::Ipv6(ip_repr), IcmpRepr::Ipv6(repr)))
     }
 
-    // A message to this address, where it has a source and is well formed.
+    /// What `dispatch` sends of a message of these bytes to `remote`: for a caller that keeps no queue.
+    ///
+    /// None where it has no source or is malformed. Its checksum is not tested.
     #[tactic(auto, unfolding(crate::specs::IcmpDispatch::to_remote))]
-    fn to_remote<'b, C: Context>(
+    pub fn prepared<'b, C: Context>(
         &self,
         cx: &C,
         remote: IpAddress,
         bytes: &'b [u8],
     ) -> Option<(IpRepr, IcmpRepr<'b>)>
-        ensures { option_map outgoing_of result
+        ensures value { option_map outgoing_of result
             ≡ to_remote (hops_of self.now.hop_limit) (C.facts cx.now) remote bytes.now }
+        ensures counted { IfSome result (λ s. Counts s.0 (any_message s.1)) }
     {
         match remote {
             IpAddress::Ipv4(dst) => {
@@ -95,7 +100,7 @@ impl<'a> Socket<'a> {
         ensures { option_map outgoing_of result ≡ outgoing self.now (C.facts cx.now) }
     {
         let (remote, bytes) = self.tx_buffer.first().ok()?;
-        self.to_remote(cx, *remote, bytes)
+        self.prepared(cx, *remote, bytes)
     }
 
     // The one call of `emit`, if there is something to emit.

@@ -1,8 +1,11 @@
 //! Datagrams that go out.
-ghost use Rattle.std.specs.Prelude.{◌≡◌, false, option_map, if◌then◌else◌};
+ghost use Rattle.std.specs.Prelude.{◌≡◌, ◌+◌, false, length, option_map, IfSome, if◌then◌else◌};
+ghost use Rattle.ip_wire.specs.IpHeader.{next_header_of, payload_len_of};
+ghost use Rattle.ip_wire.specs.declared.protocol.IpProtocol.TheVariants.{Udp};
+ghost use Rattle.control_wire.specs.Datagram.{udp_header_len};
 ghost use Rattle.net_base.specs.Packets.{starts_padded};
 ghost use Rattle.sock_dgram.specs.Datagrams.{poll_moment};
-ghost use Rattle.sock_dgram.specs.UdpDispatch.{source_of, hops_of, outgoing, outgoing_of, Dispatched};
+ghost use Rattle.sock_dgram.specs.UdpDispatch.{source_of, hops_of, from_source, outgoing, outgoing_of, outgoing_with, Dispatched};
 ghost use Rattle.sock_core.specs.Emission.{Emits};
 
 use crate::udp::socket::{Socket, UdpMetadata};
@@ -28,12 +31,20 @@ impl<'a> Socket<'a> {
         self.hop_limit.unwrap_or(DEFAULT_HOP_LIMIT)
     }
 
-    // The first datagram, where it has a source.
-    fn outgoing<C: Context>(&self, cx: &C) -> Option<(IpRepr, UdpRepr, &[u8])>
-        requires packet { starts_padded self.now.tx_buffer.entries ≡ false }
-        ensures { option_map outgoing_of result ≡ outgoing self.now (C.facts cx.now) }
+    /// The headers with which `dispatch` sends a datagram of these bytes: for a caller that keeps no queue.
+    ///
+    /// None where the datagram has no source, or one of another version of IP than its destination.
+    pub fn prepared<C: Context>(
+        &self,
+        cx: &C,
+        meta: &UdpMetadata,
+        payload: &[u8],
+    ) -> Option<(IpRepr, UdpRepr)>
+        ensures value { option_map (outgoing_with payload.now) result
+            ≡ from_source self.now meta.now payload.now (source_of self.now (C.facts cx.now) meta.now) }
+        ensures counted { IfSome result (λ h. payload_len_of h.0 ≡ udp_header_len + length payload.now) }
+        ensures protocol { IfSome result (λ h. next_header_of h.0 ≡ Udp) }
     {
-        let (meta, payload) = self.tx_buffer.first().ok()?;
         let source = self.source_of(cx, meta)?;
         if source.version() != meta.endpoint.addr.version() {
             return None;
@@ -49,6 +60,16 @@ impl<'a> Socket<'a> {
             repr.header_len() + payload.len(),
             self.hops(),
         );
+        Some((ip_repr, repr))
+    }
+
+    // The first datagram, where it has a source.
+    fn outgoing<C: Context>(&self, cx: &C) -> Option<(IpRepr, UdpRepr, &[u8])>
+        requires packet { starts_padded self.now.tx_buffer.entries ≡ false }
+        ensures { option_map outgoing_of result ≡ outgoing self.now (C.facts cx.now) }
+    {
+        let (meta, payload) = self.tx_buffer.first().ok()?;
+        let (ip_repr, repr) = self.prepared(cx, meta, payload)?;
         Some((ip_repr, repr, payload))
     }
 

@@ -30,8 +30,9 @@ impl<'a> Socket<'a> {
         meta.local_address.or(self.endpoint.addr)
     }
 
-    // Whether a datagram may be sent so, room apart.
-    fn is_sendable(&self, meta: &UdpMetadata) -> bool
+    /// Whether `send` takes such a datagram where there is room: the socket is open, the destination has an address and
+    /// a port, and the source, where it is known, is of its version of IP.
+    pub fn is_sendable(&self, meta: &UdpMetadata) -> bool
         ensures { result ≡ is_sendable self.now meta.now }
     {
         self.is_open()
