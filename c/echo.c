@@ -1,4 +1,4 @@
-/* A TCP echo (port 7) and a page (port 80) at 10.9.0.2 on a TUN device of Linux.
+/* An echo (port 7, TCP and UDP) and a page (port 80) at 10.9.0.2 on a TUN device of Linux.
  *
  *     echo DEVICE SECONDS
  *
@@ -28,6 +28,7 @@ static struct connection {
     int port;
 } connections[SOCKETS];
 
+static struct smoltcp_udp datagrams;
 static struct smoltcp_context cx = {0, 0, 0, MTU, {10, 9, 0, 2}, {0}};
 static int device;
 
@@ -46,12 +47,18 @@ static int open_device(const char *name) {
     return device >= 0 && ioctl(device, TUNSETIFF, &request) == 0;
 }
 
+/* This port at any address. */
+static struct smoltcp_endpoint any(int port) {
+    struct smoltcp_endpoint at;
+    memset(&at, 0, sizeof at);
+    at.port = (uint16_t)port;
+    return at;
+}
+
 /* A closed socket listens anew. Bytes of an earlier connection are gone. */
 static void listen_again(struct connection *c) {
-    struct smoltcp_endpoint at;
+    struct smoltcp_endpoint at = any(c->port);
     if (smoltcp_tcp_state(&c->tcp) != SMOLTCP_CLOSED) return;
-    memset(&at, 0, sizeof at);
-    at.port = (uint16_t)c->port;
     c->begin = c->end = 0;
     smoltcp_tcp_listen(&c->tcp, &at);
 }
@@ -102,6 +109,17 @@ static void serve_page(struct connection *c) {
     c->end = 0;
 }
 
+/* Sends a datagram back to where it came from. Answers whether the packet was one for the socket. */
+static int echo_datagram(const uint8_t *packet, size_t len) {
+    uint8_t data[MTU], out[MTU];
+    struct smoltcp_udp_metadata meta;
+    int64_t n = smoltcp_udp_process(&datagrams, &cx, packet, len, &meta, data, sizeof data);
+    if (n == SMOLTCP_NOT_ACCEPTED) return 0;
+    if (n >= 0) n = smoltcp_udp_send(&datagrams, &cx, &meta, data, (size_t)n, out, sizeof out);
+    if (n > 0 && write(device, out, (size_t)n) < 0) perror("write");
+    return 1;
+}
+
 /* Gives what has arrived to the socket that it is for, and sends its answer. */
 static void take_packets(void) {
     uint8_t packet[MTU], reply[MTU];
@@ -109,6 +127,7 @@ static void take_packets(void) {
     for (turn = 0; turn < TURN; turn++) {
         ssize_t len = read(device, packet, sizeof packet);
         if (len <= 0) return;
+        if (echo_datagram(packet, (size_t)len)) continue;
         for (i = 0; i < SOCKETS; i++) {
             int64_t n = smoltcp_tcp_process(&connections[i].tcp, &cx, packet, (size_t)len, reply, sizeof reply);
             if (n > 0 && write(device, reply, (size_t)n) < 0) perror("write");
@@ -140,12 +159,14 @@ static void wait_for_work(void) {
 }
 
 int main(int argc, char **argv) {
+    struct smoltcp_endpoint echo = any(7);
     int64_t end;
     int i;
     if (argc != 3) return fprintf(stderr, "usage: echo DEVICE SECONDS\n"), 1;
     if (!open_device(argv[1])) return perror(argv[1]), 2;
     end = now() + atoi(argv[2]) * (int64_t)MICROS;
     for (i = 0; i < SOCKETS; i++) make(&connections[i], i < SOCKETS / 2 ? 7 : 80);
+    smoltcp_udp_bind(&datagrams, &echo);
     while ((cx.now = now()) < end) {
         cx.tsval = (uint32_t)(cx.now / 1000);
         if (getrandom(&cx.word, sizeof cx.word, 0) != sizeof cx.word) return perror("getrandom"), 2;
