@@ -8,7 +8,9 @@ use sock_dgram::{icmp, raw, udp};
 /// `G` is that of the enum `Socket<'a, G>`: the type of a TCP socket's source of timestamps.
 pub trait AnySocket<'a, G>: Sized {
     ghost use Rattle.std.specs.Prelude.{◌≡◌, Option, Some, option_map};
+    ghost use Rattle.std.specs.Borrow.{sem};
     ghost use Rattle.smoltcp_socket.specs.declared.socket.Socket.{Socket};
+    ghost use Rattle.smoltcp_socket.specs.Lends.{lends_kind};
 
     // the enum that holds this socket
     ghost held: { Self → Socket G };
@@ -24,9 +26,11 @@ pub trait AnySocket<'a, G>: Sized {
     fn downcast<'c>(socket: &'c Socket<'a, G>) -> Option<&'c Self>
         ensures { option_map (λ s. s.now) result ≡ of_kind socket.now };
 
-    /// The same, lent for writing; what is written is in the enum afterwards.
+    /// The same, lent for writing. Afterwards the enum holds what was left behind the reference; where none was lent it
+    /// is as before.
     fn downcast_mut<'c>(socket: &'c mut Socket<'a, G>) -> Option<&'c mut Self>
-        ensures { option_map (λ s. s.now) result ≡ of_kind socket.old };
+        ensures* writes_back { sem 𝓛 (lends_kind G.row Self.row socket.entry result held) }
+        ensures value { option_map (λ s. s.now) result ≡ of_kind socket.old };
 
     // an upcast socket is of its kind, and is the one that was upcast
     ghost gives_back: { (s : Self) → of_kind (held s) ≡ Some s };

@@ -1,0 +1,3 @@
+-- What the proofs of `downcast_mut` share.
+pub mod LentVariant
+pub mod LentKind
