@@ -5,7 +5,5 @@ pub mod options;
 pub mod packet;
 pub mod round_trips;
 pub mod tcp;
-#[cfg(test)]
-mod tests;
 pub mod udp;
 mod write;

@@ -8,6 +8,7 @@ mod kinds;
 mod messages;
 mod ranges;
 mod raw;
+mod segments;
 mod slices;
 mod storage;
 mod tcp;

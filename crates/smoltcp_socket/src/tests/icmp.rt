@@ -4,8 +4,8 @@ use super::slices::first;
 use crate::PollAt;
 use crate::icmp::*;
 use crate::wire::{
-    IcmpRepr, Icmpv4Repr, Icmpv6Repr, IpAddress, IpListenEndpoint, IpProtocol, IpRepr, Ipv4Address,
-    Ipv4Repr, Ipv6Address, Ipv6Repr,
+    IcmpRepr, Icmpv4Repr, Icmpv6Repr, IpAddress, IpProtocol, IpRepr, Ipv4Address, Ipv4Repr,
+    Ipv6Address, Ipv6Repr,
 };
 use std::process::Abort;
 use std::test::Fail;
@@ -24,11 +24,6 @@ const SEVENS: [u8; 67] = [7; 67];
 
 // An echo request with the identifier 0x1234, and its checksum.
 const ECHO: [u8; 8] = [8, 0, 0xe5, 0xca, 0x12, 0x34, 0, 1];
-
-// A socket that has no room for messages.
-fn roomless() -> Socket<'static> {
-    receiver(&mut [], &mut [])
-}
 
 // The socket's calls without their contracts: the tests prove faster so.
 fn receiver<'a>(places: &'a mut [PacketMetadata], bytes: &'a mut [u8]) -> Socket<'a> {
@@ -87,24 +82,6 @@ fn received(socket: &Socket<'_>) -> (usize, usize, usize, bool) {
         socket.recv_queue(),
         socket.can_recv(),
     )
-}
-
-// The socket is bound once, to an identifier or a port.
-fn binds_once(rt: &(impl Abort), socket: &mut Socket<'_>) {
-    let portless = IpListenEndpoint::default();
-    assert!(rt; !socket.is_open() && !Endpoint::Tcp(portless).is_specified());
-    assert!(rt; binds(socket, Endpoint::Udp(portless)) == Err(BindError::Unaddressable));
-    assert!(rt; binds(socket, Endpoint::Ident(0)) == Ok(()));
-    assert!(rt; binds(socket, Endpoint::Ident(1)) == Err(BindError::InvalidState));
-    assert!(rt; binds(socket, Endpoint::default()) == Err(BindError::Unaddressable));
-    assert!(rt; socket.is_open());
-}
-
-#[test]
-fn icmp_bind_validation(rt: HostRuntime) -> Result<(), Fail> {
-    let mut socket = roomless();
-    binds_once(&rt, &mut socket);
-    Ok(())
 }
 
 // The header of what is emitted, and whether the dispatch answered Ok.
@@ -241,30 +218,10 @@ fn icmp_echoes_come(rt: HostRuntime) -> Result<(), Fail> {
     let mut places = [PacketMetadata::EMPTY; 1];
     let mut bytes = [0u8; 66];
     let mut socket = receiver(&mut places, &mut bytes);
+    assert!(rt; binds(&mut socket, Endpoint::default()) == Err(BindError::Unaddressable));
     assert!(rt; binds(&mut socket, Endpoint::Ident(0x1234)) == Ok(()));
+    assert!(rt; socket.is_open());
     assert!(rt; accepts(&socket, &echo(0x1234)) && !accepts(&socket, &echo(0x4321)));
     receives(&rt, &mut socket);
-    Ok(())
-}
-
-// Whether an error is accepted that quotes a datagram from this port to port 49500, without a checksum.
-fn accepts_error(socket: &Socket<'_>, port: u8) -> bool {
-    let message = Icmpv4Repr::DstUnreachable {
-        reason: 3,
-        header: TO_HERE,
-        body: &[0, port, 0xc1, 0x5c, 0, 8, 0, 0],
-    };
-    accepts(socket, &message)
-}
-
-#[test]
-fn icmp_errors_go_to_the_port_that_sent(rt: HostRuntime) -> Result<(), Fail> {
-    let mut socket = roomless();
-    let endpoint = IpListenEndpoint {
-        addr: None,
-        port: 53,
-    };
-    assert!(rt; binds(&mut socket, Endpoint::Udp(endpoint)) == Ok(()));
-    assert!(rt; accepts_error(&socket, 53) && !accepts_error(&socket, 54));
     Ok(())
 }

@@ -54,30 +54,6 @@ fn polls(socket: &Socket<'_>) -> PollAt {
 }
 
 #[test]
-fn raw_among_kinds(rt: HostRuntime) -> Result<(), Fail> {
-    let socket = raw::Socket::new(
-        None,
-        None,
-        PacketBuffer::new(&mut [], &mut []),
-        PacketBuffer::new(&mut [], &mut []),
-    );
-    let socket = socket.upcast();
-    assert!(rt; kinds(&socket) == [true, false, false, false, true]);
-    Ok(())
-}
-
-#[test]
-fn icmp_among_kinds(rt: HostRuntime) -> Result<(), Fail> {
-    let socket = icmp::Socket::new(
-        PacketBuffer::new(&mut [], &mut []),
-        PacketBuffer::new(&mut [], &mut []),
-    );
-    let socket = socket.upcast();
-    assert!(rt; kinds(&socket) == [false, true, false, false, true]);
-    Ok(())
-}
-
-#[test]
 fn udp_among_kinds(rt: HostRuntime) -> Result<(), Fail> {
     let socket = udp::Socket::new(
         PacketBuffer::new(&mut [], &mut []),

@@ -2,9 +2,7 @@
 
 use super::slices::first;
 use control_wire::*;
-use ip_wire::{
-    ChecksumCapabilities, IpAddress, IpProtocol, Ipv4Address, Ipv4Repr, Ipv6Address, Ipv6Repr,
-};
+use ip_wire::{ChecksumCapabilities, IpAddress, Ipv4Address, Ipv6Address};
 
 const A: IpAddress = IpAddress::Ipv4(Ipv4Address([10, 0, 0, 1]));
 
@@ -86,46 +84,6 @@ fn icmpv4_echo(rt: HostRuntime) {
     assert!(rt; first(&bytes, 8) == [8, 0, 0x4d, 0x5a, 0, 1, 0, 1].as_slice());
     assert!(rt; parsed(&bytes) == Some(ping()));
     assert!(rt; parsed(first(&bytes, 39)).is_none());
-}
-
-fn exceeded() -> Icmpv4Repr<'static> {
-    let header = Ipv4Repr {
-        src_addr: Ipv4Address([10, 0, 0, 1]),
-        dst_addr: Ipv4Address([10, 0, 0, 2]),
-        next_header: IpProtocol::Udp,
-        payload_len: 8,
-        hop_limit: 64,
-    };
-    Icmpv4Repr::TimeExceeded {
-        reason: 1,
-        header,
-        body: &[7; 8],
-    }
-}
-
-fn unreachable() -> Icmpv6Repr<'static> {
-    let header = Ipv6Repr {
-        src_addr: V6,
-        dst_addr: V6,
-        next_header: IpProtocol::Tcp,
-        payload_len: 8,
-        hop_limit: 1,
-    };
-    Icmpv6Repr::DstUnreachable {
-        reason: 4,
-        header,
-        body: &[9; 8],
-    }
-}
-
-#[test]
-fn icmp_errors(rt: HostRuntime) {
-    let mut bytes = [0; 36];
-    assert!(rt; writes(exceeded(), &mut bytes) == 36);
-    assert!(rt; parsed(&bytes) == Some(exceeded()));
-    let mut bytes = [0; 56];
-    assert!(rt; writes_v6(unreachable(), &mut bytes) == 56);
-    assert!(rt; parsed_v6(V6, &bytes) == Some(unreachable()));
 }
 
 #[test]

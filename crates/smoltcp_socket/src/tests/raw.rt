@@ -48,15 +48,10 @@ fn receiver<'a>(places: &'a mut [PacketMetadata], bytes: &'a mut [u8]) -> Socket
 }
 
 // A socket that has room for packets to send.
-fn sender<'a>(
-    version: IpVersion,
-    protocol: Option<IpProtocol>,
-    places: &'a mut [PacketMetadata],
-    bytes: &'a mut [u8],
-) -> Socket<'a> {
+fn sender<'a>(places: &'a mut [PacketMetadata], bytes: &'a mut [u8]) -> Socket<'a> {
     Socket::new(
-        Some(version),
-        protocol,
+        Some(IpVersion::Ipv4),
+        Some(EXPERIMENT),
         PacketBuffer::new(&mut [], &mut []),
         PacketBuffer::new(places, bytes),
     )
@@ -123,6 +118,8 @@ fn drops(socket: &mut Socket<'_>, data: &[u8]) -> bool {
 
 // More bytes than there is room for, and as many.
 fn fills(rt: &(impl Abort), socket: &mut Socket<'_>) {
+    assert!(rt; socket.ip_version() == Some(IpVersion::Ipv4));
+    assert!(rt; socket.ip_protocol() == Some(EXPERIMENT));
     assert!(rt; sends(socket, &SEVENS) == Err(SendError::BufferFull));
     assert!(rt; polls(socket) == PollAt::Ingress);
     assert!(rt; sends(socket, first(&SEVENS, 48)) == Ok(()));
@@ -142,33 +139,16 @@ fn sends_packets(rt: &(impl Abort), socket: &mut Socket<'_>) {
     assert!(rt; emitted(socket, Checksum::Rx) == None);
     assert!(rt; sends(socket, &plain) == Ok(()));
     assert!(rt; emitted(socket, Checksum::Both) == whole);
+    assert!(rt; sends_two(socket) == Ok(2));
 }
 
 #[test]
 fn raw_packets_go_out(rt: HostRuntime) -> Result<(), Fail> {
     let mut places = [PacketMetadata::EMPTY; 1];
     let mut bytes = [0u8; 48];
-    let mut socket = sender(IpVersion::Ipv4, Some(EXPERIMENT), &mut places, &mut bytes);
+    let mut socket = sender(&mut places, &mut bytes);
     fills(&rt, &mut socket);
     sends_packets(&rt, &mut socket);
-    Ok(())
-}
-
-// A socket of IPv6 and of any protocol.
-fn keeps_to_its_version(rt: &(impl Abort), socket: &mut Socket<'_>) {
-    assert!(rt; socket.ip_version() == Some(IpVersion::Ipv6) && socket.ip_protocol() == None);
-    assert!(rt; !accepts(socket));
-    assert!(rt; drops(socket, &packet(0x45, 63)));
-    assert!(rt; sends_two(socket) == Ok(2));
-    assert!(rt; sends_two(socket) == Err(SendError::BufferFull));
-}
-
-#[test]
-fn raw_other_version_is_dropped(rt: HostRuntime) -> Result<(), Fail> {
-    let mut places = [PacketMetadata::EMPTY; 1];
-    let mut bytes = [0u8; 48];
-    let mut socket = sender(IpVersion::Ipv6, None, &mut places, &mut bytes);
-    keeps_to_its_version(&rt, &mut socket);
     Ok(())
 }
 

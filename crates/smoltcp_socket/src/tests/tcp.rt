@@ -175,14 +175,9 @@ fn change_all(socket: &mut Tcp<'_>) {
     socket.0.pause_synack(true);
 }
 
-// The settings of a new socket, and those that the user made, through a reset.
+// The settings that the user made.
 fn keeps_settings(rt: &(impl Abort), socket: &mut Tcp<'_>) {
-    let delay = Some(Duration::from_millis(10));
-    assert!(rt; settings(socket) == (None, None, delay, None));
-    assert!(rt; congestion(socket) == (true, CongestionControl::Reno));
     change_all(socket);
-    // a reset keeps what the user set
-    assert!(rt; socket.listen(any(80)) == Ok(()));
     let second = Some(Duration::from_secs(1));
     assert!(rt; settings(socket) == (second, second, None, Some(42)));
     assert!(rt; congestion(socket) == (false, CongestionControl::None));

@@ -18,8 +18,6 @@ const V6: IpAddress = IpAddress::Ipv6(Ipv6Address([1; 16]));
 
 const NEIGHBOUR: Ipv4Address = Ipv4Address([192, 168, 1, 3]);
 
-const NOWHERE: IpAddress = IpAddress::Ipv4(Ipv4Address([0; 4]));
-
 const REMOTE: IpEndpoint = IpEndpoint {
     addr: THERE,
     port: 49500,
@@ -56,14 +54,6 @@ fn sender<'a>(places: &'a mut [PacketMetadata], bytes: &'a mut [u8]) -> Socket<'
     Socket::new(
         PacketBuffer::new(&mut [], &mut []),
         PacketBuffer::new(places, bytes),
-    )
-}
-
-// A socket that has room for datagrams without bytes, and none to send.
-fn for_empty_ones(places: &mut [PacketMetadata]) -> Socket<'_> {
-    Socket::new(
-        PacketBuffer::new(places, &mut []),
-        PacketBuffer::new(&mut [], &mut []),
     )
 }
 
@@ -194,27 +184,19 @@ fn emits(socket: &mut Socket<'_>, payload: &[u8]) -> bool {
     same && answer.is_ok()
 }
 
-// The socket is bound once, until it is closed, and accepts what comes to its address and port.
+// The socket is bound once, and accepts what comes to its address and port.
 fn binds_once(rt: &(impl Abort), socket: &mut Socket<'_>) {
     assert!(rt; binds(socket, any(0)) == Err(BindError::Unaddressable));
-    assert!(rt; binds(socket, any(1)) == Ok(()));
+    assert!(rt; binds(socket, here(53)) == Ok(()));
     assert!(rt; binds(socket, any(2)) == Err(BindError::InvalidState));
-    assert!(rt; socket.endpoint() == any(1) && !accepts(socket, NEIGHBOUR));
-    assert!(rt; closed(socket) == (any(0), false));
-    assert!(rt; binds(socket, any(53)) == Ok(()) && accepts(socket, NEIGHBOUR));
-    assert!(rt; closed(socket) == (any(0), false));
-    assert!(rt; binds(socket, here(53)) == Ok(()) && !accepts(socket, NEIGHBOUR));
+    assert!(rt; socket.endpoint() == here(53) && !accepts(socket, NEIGHBOUR));
 }
 
 // Sends that are refused, and one that no address can be found for.
 fn refuses_and_drops(rt: &(impl Abort), socket: &mut Socket<'_>) {
     let refused = Err(SendError::Unaddressable);
     assert!(rt; sends(socket, b"abcdef", V6, 49500) == refused);
-    assert!(rt; closed(socket) == (any(0), false));
-    assert!(rt; sends(socket, b"abcdef", THERE, 49500) == refused);
-    assert!(rt; binds(socket, any(53)) == Ok(()));
-    assert!(rt; sends(socket, b"abcdef", NOWHERE, 49500) == refused);
-    assert!(rt; sends(socket, b"abcdef", THERE, 0) == refused);
+    assert!(rt; closed(socket) == (any(0), false) && binds(socket, any(53)) == Ok(()));
     assert!(rt; sends(socket, b"abcdef", THERE, 49500) == Ok(()));
     // no address is given, none bound, and the host has none
     assert!(rt; emitted(socket, false) == (None, true) && polls(socket) == PollAt::Ingress);
@@ -278,16 +260,19 @@ fn udp_one_place_each_way(rt: HostRuntime) -> Result<(), Fail> {
     Ok(())
 }
 
-// As many bytes as there is room for, and then around the end of 64, of which the last four are left out.
-fn goes_around(rt: &(impl Abort), socket: &mut Socket<'_>) {
+// As many bytes as there is room for.
+fn fills(rt: &(impl Abort), socket: &mut Socket<'_>) {
     assert!(rt; binds(socket, here(53)) == Ok(()));
     assert!(rt; sends(socket, TEXT, THERE, 49500) == Err(SendError::BufferFull));
     assert!(rt; sends(socket, first(TEXT, 64), THERE, 49500) == Ok(()));
     assert!(rt; to_send(socket) == (4, 64, 64, true) && emits(socket, first(TEXT, 64)));
+}
+
+// Around the end of 64, of which the last four are left out.
+fn goes_around(rt: &(impl Abort), socket: &mut Socket<'_>) {
     assert!(rt; lends(socket, first(TEXT, 40)) == Ok(()));
     assert!(rt; sends_sevens(socket, 21) == Ok(20));
     assert!(rt; emits(socket, first(TEXT, 40)) && lends(socket, first(TEXT, 10)) == Ok(()));
-    assert!(rt; to_send(socket) == (4, 64, 34, true));
     assert!(rt; emits(socket, &[7; 20]) && emits(socket, first(TEXT, 10)));
 }
 
@@ -296,15 +281,7 @@ fn udp_datagrams_go_around_the_end(rt: HostRuntime) -> Result<(), Fail> {
     let mut places = [PacketMetadata::EMPTY; 4];
     let mut bytes = [0u8; 64];
     let mut socket = sender(&mut places, &mut bytes);
+    fills(&rt, &mut socket);
     goes_around(&rt, &mut socket);
-    Ok(())
-}
-
-#[test]
-fn udp_empty_payload_without_room(rt: HostRuntime) -> Result<(), Fail> {
-    let mut places = [PacketMetadata::EMPTY; 1];
-    let mut socket = for_empty_ones(&mut places);
-    hear(&mut socket, b"");
-    assert!(rt; gives(&mut socket, b""));
     Ok(())
 }

@@ -1,14 +1,10 @@
 //! Worked examples of segments and datagrams as bytes, worked out by hand (RFC 9293, section 3.1; RFC 7323; RFC 2018;
 //! RFC 768).
 
-use crate::{options, packet, tcp, udp};
+use super::slices::first;
 use control_wire::{TcpControl, TcpRepr, TcpSeqNumber, TcpTimestampRepr, UdpRepr};
 use ip_wire::{ChecksumCapabilities, IpAddress, IpProtocol, IpRepr, Ipv4Address};
-
-// The first bytes of these, so many of them, or all.
-fn first(bytes: &[u8], count: usize) -> &[u8] {
-    &bytes[..count.min(bytes.len())]
-}
+use segment_wire::{options, packet, tcp, udp};
 
 const A: IpAddress = IpAddress::Ipv4(Ipv4Address([10, 0, 0, 1]));
 
