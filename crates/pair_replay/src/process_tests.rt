@@ -3,6 +3,8 @@ use crate::pair_tests::{Room, plays};
 use crate::tests::{OPENED, OPENING, prints};
 use control_wire::TcpSeqNumber;
 use sock_pair::{Outcome, Pair, too_old};
+use std::alloc::Global;
+use std::process::Abort;
 use std::test::Fail;
 
 #[test]
@@ -110,6 +112,14 @@ fn was_reordered(pair: &Pair<'_>, outcomes: &[Outcome]) -> bool {
         && acknowledges(pair, 6, 1007, 58, None)
 }
 
+// Plays a script in which the second of two segments comes first.
+fn reorders(rt: &(impl Abort), pair: &mut Pair<'_>, alloc: Global, text: &str) -> Result<(), Fail> {
+    let outcomes = plays(pair, alloc, text)?;
+    assert!(rt; was_reordered(pair, outcomes.as_slice()));
+    assert!(rt; is_whole_offer(pair, 0) && is_whole_offer(pair, 1));
+    Ok(())
+}
+
 #[test]
 fn reordered_segments_and_sack(rt: HostRuntime) -> Result<(), Fail> {
     let alloc = rt.alloc();
@@ -117,9 +127,5 @@ fn reordered_segments_and_sack(rt: HostRuntime) -> Result<(), Fail> {
         deliver 4 0 0\nrecv b 6\ndeliver 3 0 0\nrecv b 6\n";
     let text = format!(in alloc; "pair 64 64 64 64 1000\n{OPENING}{lines}")?;
     let mut room = Room::new();
-    let mut pair = room.plain_pair(alloc);
-    let outcomes = plays(&mut pair, alloc, text.as_str())?;
-    assert!(rt; was_reordered(&pair, outcomes.as_slice()));
-    assert!(rt; is_whole_offer(&pair, 0) && is_whole_offer(&pair, 1));
-    Ok(())
+    reorders(&rt, &mut room.plain_pair(alloc), alloc, text.as_str())
 }

@@ -227,25 +227,34 @@ fn is_reset(pair: &Pair<'_>, index: usize, seq_number: u32) -> bool {
     }
 }
 
-// A connects, and gives up after half a second.
-fn gives_up(rt: &(impl Abort), pair: &mut Pair<'_>) {
+// A connects, with a timeout of half a second.
+fn connects_for_a_while(rt: &(impl Abort), pair: &mut Pair<'_>) {
     let half_second = Interval::new(Some(Duration::from_millis(500)));
     sets(rt, pair, Side::A, Setting::Timeout(half_second));
     joins(rt, pair, Side::A);
     assert!(rt; polls(pair, 0) == PollAt::Now);
     dispatches(rt, pair, 0, Outcome::Emitted(0));
+}
+
+// It gives up when no answer came.
+fn gives_up(rt: &(impl Abort), pair: &mut Pair<'_>) {
     assert!(rt; polls(pair, 0) == PollAt::Time(Instant::from_millis(500)));
     dispatches(rt, pair, 499, Outcome::Quiet);
     dispatches(rt, pair, 500, Outcome::Emitted(1));
     assert!(rt; pair.socket(Side::A).state() == State::Closed);
-    assert!(rt; is_reset(pair, 1, 1001));
-    assert!(rt; polls(pair, 500) == PollAt::Ingress);
+    assert!(rt; is_reset(pair, 1, 1001) && polls(pair, 500) == PollAt::Ingress);
+}
+
+// A connects, and gives up after half a second.
+fn connects_and_gives_up(rt: &(impl Abort), pair: &mut Pair<'_>) {
+    connects_for_a_while(rt, pair);
+    gives_up(rt, pair);
 }
 
 #[test]
 fn user_timeout_of_syn(rt: HostRuntime) -> Result<(), Fail> {
     let mut room = Room::new();
-    gives_up(&rt, &mut room.plain_pair(rt.alloc()));
+    connects_and_gives_up(&rt, &mut room.plain_pair(rt.alloc()));
     Ok(())
 }
 
