@@ -29,6 +29,7 @@ static struct connection {
 } connections[SOCKETS];
 
 static struct smoltcp_udp datagrams;
+static uint8_t datagrams_rx[ROOM], datagrams_tx[ROOM];
 static struct smoltcp_context cx = {0, 0, 0, MTU, {10, 9, 0, 2}, {0}};
 static int device;
 
@@ -109,15 +110,23 @@ static void serve_page(struct connection *c) {
     c->end = 0;
 }
 
-/* Sends a datagram back to where it came from. Answers whether the packet was one for the socket. */
-static int echo_datagram(const uint8_t *packet, size_t len) {
-    uint8_t data[MTU], out[MTU];
+static void make_datagrams(void) {
+    struct smoltcp_endpoint at = any(7);
+    datagrams.rx.bytes = datagrams_rx; datagrams.rx.bytes_len = ROOM;
+    datagrams.tx.bytes = datagrams_tx; datagrams.tx.bytes_len = ROOM;
+    smoltcp_udp_init(&datagrams);
+    smoltcp_udp_bind(&datagrams, &at);
+}
+
+/* Sends the datagrams that have come back to where they came from. */
+static void echo_datagrams(void) {
+    uint8_t data[MTU], packet[MTU];
     struct smoltcp_udp_metadata meta;
-    int64_t n = smoltcp_udp_process(&datagrams, &cx, packet, len, &meta, data, sizeof data);
-    if (n == SMOLTCP_NOT_ACCEPTED) return 0;
-    if (n >= 0) n = smoltcp_udp_send(&datagrams, &cx, &meta, data, (size_t)n, out, sizeof out);
-    if (n > 0 && write(device, out, (size_t)n) < 0) perror("write");
-    return 1;
+    int64_t n;
+    while ((n = smoltcp_udp_recv(&datagrams, &meta, data, sizeof data)) >= 0)
+        smoltcp_udp_send(&datagrams, &cx, &meta, data, (size_t)n);
+    while ((n = smoltcp_udp_dispatch(&datagrams, packet, sizeof packet)) > 0)
+        if (write(device, packet, (size_t)n) < 0) perror("write");
 }
 
 /* Gives what has arrived to the socket that it is for, and sends its answer. */
@@ -127,7 +136,7 @@ static void take_packets(void) {
     for (turn = 0; turn < TURN; turn++) {
         ssize_t len = read(device, packet, sizeof packet);
         if (len <= 0) return;
-        if (echo_datagram(packet, (size_t)len)) continue;
+        if (smoltcp_udp_process(&datagrams, &cx, packet, (size_t)len) != SMOLTCP_NOT_ACCEPTED) continue;
         for (i = 0; i < SOCKETS; i++) {
             int64_t n = smoltcp_tcp_process(&connections[i].tcp, &cx, packet, (size_t)len, reply, sizeof reply);
             if (n > 0 && write(device, reply, (size_t)n) < 0) perror("write");
@@ -159,18 +168,18 @@ static void wait_for_work(void) {
 }
 
 int main(int argc, char **argv) {
-    struct smoltcp_endpoint echo = any(7);
     int64_t end;
     int i;
     if (argc != 3) return fprintf(stderr, "usage: echo DEVICE SECONDS\n"), 1;
     if (!open_device(argv[1])) return perror(argv[1]), 2;
     end = now() + atoi(argv[2]) * (int64_t)MICROS;
     for (i = 0; i < SOCKETS; i++) make(&connections[i], i < SOCKETS / 2 ? 7 : 80);
-    smoltcp_udp_bind(&datagrams, &echo);
+    make_datagrams();
     while ((cx.now = now()) < end) {
         cx.tsval = (uint32_t)(cx.now / 1000);
         if (getrandom(&cx.word, sizeof cx.word, 0) != sizeof cx.word) return perror("getrandom"), 2;
         take_packets();
+        echo_datagrams();
         for (i = 0; i < SOCKETS; i++) {
             struct connection *c = &connections[i];
             listen_again(c);

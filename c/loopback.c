@@ -1,11 +1,12 @@
 /* Sockets in one process. TCP: a connects to b, sends a line, b sends it back, and both close. UDP: a datagram goes to
- * port 53, and the answer back. ICMP: an echo request goes out, and the reply to it is read. */
+ * port 53, and the answer back; one finds no room, and one is lost. ICMP: an echo request goes out, and the reply to it
+ * is read. */
 #include <stdio.h>
 #include <string.h>
 
 #include "smoltcp_socket.h"
 
-enum { ROOM = 4096, MTU = 1500 };
+enum { ROOM = 4096, MTU = 1500, QUEUE = 100 };
 
 static uint8_t a_rx[ROOM], a_tx[ROOM], b_rx[ROOM], b_tx[ROOM];
 static struct smoltcp_tcp a, b;
@@ -52,48 +53,82 @@ static void run(void) {
     }
 }
 
+/* Sets the buffers of two queues. */
+static void lend(struct smoltcp_queue *rx, uint8_t *of_rx, struct smoltcp_queue *tx, uint8_t *of_tx) {
+    rx->bytes = of_rx; rx->bytes_len = QUEUE;
+    tx->bytes = of_tx; tx->bytes_len = QUEUE;
+}
+
+/* Gives what the one socket emits to the other, and answers what the other says of the last packet. */
+static int64_t carry(struct smoltcp_udp *from, struct smoltcp_udp *to, const struct smoltcp_context *of_to) {
+    uint8_t packet[MTU];
+    int64_t len, answer = SMOLTCP_ERROR_EMPTY;
+    while ((len = smoltcp_udp_dispatch(from, packet, sizeof packet)) > 0)
+        answer = smoltcp_udp_process(to, of_to, packet, (size_t)len);
+    want("all dispatched", len, 0);
+    return answer;
+}
+
 /* A datagram from a port of a to a socket of b, and one back to where it came from. */
 static void datagrams(void) {
     static const uint8_t text[] = "which address?";
-    struct smoltcp_udp of_client, server;
+    static uint8_t client_rx[QUEUE], client_tx[QUEUE], server_rx[QUEUE], server_tx[QUEUE];
+    struct smoltcp_udp client, server;
     struct smoltcp_udp_metadata meta, from;
     struct smoltcp_endpoint at_a = endpoint(1, 49152), at_b = endpoint(2, 53);
     uint8_t packet[MTU], bytes[64];
     int64_t len;
 
-    memset(&of_client, 0, sizeof of_client);
+    memset(&client, 0, sizeof client);
     memset(&server, 0, sizeof server);
     memset(&meta, 0, sizeof meta);
     meta.endpoint = at_b;
-    want("not open", smoltcp_udp_send(&of_client, &of_a, &meta, text, sizeof text, packet, MTU), SMOLTCP_ERROR_ADDRESS);
-    want("bind", smoltcp_udp_bind(&of_client, &at_a), SMOLTCP_OK);
+    want("no buffers", smoltcp_udp_init(&client), SMOLTCP_ERROR_NULL);
+    lend(&client.rx, client_rx, &client.tx, client_tx);
+    lend(&server.rx, server_rx, &server.tx, server_tx);
+    want("zeros", smoltcp_udp_send(&client, &of_a, &meta, text, sizeof text), SMOLTCP_ERROR_SOCKET);
+    want("init", smoltcp_udp_init(&client), SMOLTCP_OK);
+    want("init", smoltcp_udp_init(&server), SMOLTCP_OK);
+    want("not open", smoltcp_udp_send(&client, &of_a, &meta, text, sizeof text), SMOLTCP_ERROR_ADDRESS);
+    want("bind", smoltcp_udp_bind(&client, &at_a), SMOLTCP_OK);
     want("bind", smoltcp_udp_bind(&server, &at_b), SMOLTCP_OK);
     want("open", smoltcp_udp_bind(&server, &at_b), SMOLTCP_ERROR_STATE);
-    len = smoltcp_udp_send(&of_client, &of_a, &meta, text, sizeof text, packet, MTU);
+    want("nothing to emit", smoltcp_udp_poll_at(&client, &of_a), INT64_MAX);
+    want("can send", smoltcp_udp_can_send(&client), 1);
+    want("send", smoltcp_udp_send(&client, &of_a, &meta, text, sizeof text), SMOLTCP_OK);
+    want("emit now", smoltcp_udp_poll_at(&client, &of_a), of_a.now);
+    want("short", smoltcp_udp_dispatch(&client, packet, 1), SMOLTCP_ERROR_ROOM);
+    len = smoltcp_udp_dispatch(&client, packet, sizeof packet);
     want("packet", len, 28 + sizeof text);
-    want("for another port", smoltcp_udp_process(&of_client, &of_a, packet, (size_t)len, &from, bytes, sizeof bytes),
-         SMOLTCP_NOT_ACCEPTED);
-    want("short", smoltcp_udp_process(&server, &of_b, packet, (size_t)len, &from, bytes, 1), SMOLTCP_ERROR_ROOM);
-    len = smoltcp_udp_process(&server, &of_b, packet, (size_t)len, &from, bytes, sizeof bytes);
+    want("for another port", smoltcp_udp_process(&client, &of_a, packet, (size_t)len), SMOLTCP_NOT_ACCEPTED);
+    packet[30] ^= 1;
+    want("damaged", smoltcp_udp_process(&server, &of_b, packet, (size_t)len), SMOLTCP_NOT_ACCEPTED);
+    packet[30] ^= 1;
+    want("process", smoltcp_udp_process(&server, &of_b, packet, (size_t)len), SMOLTCP_OK);
+    want("process", smoltcp_udp_process(&server, &of_b, packet, (size_t)len), SMOLTCP_OK);
+    want("no room", smoltcp_udp_process(&server, &of_b, packet, (size_t)len), SMOLTCP_ERROR_ROOM);
+    want("can recv", smoltcp_udp_can_recv(&server), 1);
+    want("lost", smoltcp_udp_recv(&server, &from, bytes, 1), SMOLTCP_ERROR_ROOM);
+    len = smoltcp_udp_recv(&server, &from, bytes, sizeof bytes);
     want("payload", len, sizeof text);
     want("bytes", memcmp(bytes, text, sizeof text), 0);
     printf("server reads: %s\n", (const char *)bytes);
     want("port", from.endpoint.port, 49152);
-    len = smoltcp_udp_send(&server, &of_b, &from, text, 5, packet, MTU);
-    want("answer", len, 28 + 5);
-    packet[30] ^= 1;
-    want("damaged", smoltcp_udp_process(&of_client, &of_a, packet, (size_t)len, &from, bytes, sizeof bytes),
-         SMOLTCP_NOT_ACCEPTED);
-    packet[30] ^= 1;
-    want("answer", smoltcp_udp_process(&of_client, &of_a, packet, (size_t)len, &from, bytes, sizeof bytes), 5);
+    want("empty", smoltcp_udp_recv(&server, &from, bytes, sizeof bytes), SMOLTCP_ERROR_EMPTY);
+    want("answer", smoltcp_udp_send(&server, &of_b, &from, text, 5), SMOLTCP_OK);
+    want("carry", carry(&server, &client, &of_a), SMOLTCP_OK);
+    want("answer", smoltcp_udp_recv(&client, &from, bytes, sizeof bytes), 5);
+    server.rx.end = QUEUE + 1;
+    want("broken", smoltcp_udp_can_recv(&server), SMOLTCP_ERROR_SOCKET);
     want("close", smoltcp_udp_close(&server), SMOLTCP_OK);
-    want("close", smoltcp_udp_close(&of_client), SMOLTCP_OK);
+    want("close", smoltcp_udp_close(&client), SMOLTCP_OK);
 }
 
 /* An echo request with identifier 7 and number 1 and its reply, which b sends with the same text. */
 static void echoes(void) {
     static const uint8_t request[] = {8, 0, 0, 0, 0, 7, 0, 1, 'p', 'i', 'n', 'g'};
     static const uint8_t reply[] = {0, 0, 0, 0, 0, 7, 0, 1, 'p', 'i', 'n', 'g'};
+    static uint8_t pinger_rx[QUEUE], pinger_tx[QUEUE], answering_rx[QUEUE], answering_tx[QUEUE];
     struct smoltcp_icmp pinger, answering;
     struct smoltcp_icmp_endpoint ident;
     struct smoltcp_address from, to_a = endpoint(1, 0).addr, to_b = endpoint(2, 0).addr;
@@ -103,24 +138,34 @@ static void echoes(void) {
     memset(&pinger, 0, sizeof pinger);
     memset(&answering, 0, sizeof answering);
     memset(&ident, 0, sizeof ident);
+    lend(&pinger.rx, pinger_rx, &pinger.tx, pinger_tx);
+    lend(&answering.rx, answering_rx, &answering.tx, answering_tx);
+    want("init", smoltcp_icmp_init(&pinger), SMOLTCP_OK);
+    want("init", smoltcp_icmp_init(&answering), SMOLTCP_OK);
     want("no messages", smoltcp_icmp_bind(&pinger, &ident), SMOLTCP_ERROR_ADDRESS);
     ident.kind = SMOLTCP_ICMP_IDENT;
     ident.ident = 7;
     want("bind", smoltcp_icmp_bind(&pinger, &ident), SMOLTCP_OK);
     want("bind", smoltcp_icmp_bind(&answering, &ident), SMOLTCP_OK);
-    want("no message", smoltcp_icmp_send(&pinger, &of_a, &to_b, request, 3, packet, MTU), SMOLTCP_ERROR_MESSAGE);
-    len = smoltcp_icmp_send(&pinger, &of_a, &to_b, request, sizeof request, packet, MTU);
+    want("can send", smoltcp_icmp_can_send(&pinger), 1);
+    want("no message", smoltcp_icmp_send(&pinger, &of_a, &to_b, request, 3), SMOLTCP_ERROR_MESSAGE);
+    want("send", smoltcp_icmp_send(&pinger, &of_a, &to_b, request, sizeof request), SMOLTCP_OK);
+    want("emit now", smoltcp_icmp_poll_at(&pinger, &of_a), of_a.now);
+    len = smoltcp_icmp_dispatch(&pinger, packet, sizeof packet);
     want("packet", len, 20 + sizeof request);
-    len = smoltcp_icmp_process(&answering, &of_b, packet, (size_t)len, &from, bytes, sizeof bytes);
-    want("request", len, sizeof request);
+    want("process", smoltcp_icmp_process(&answering, &of_b, packet, (size_t)len), SMOLTCP_OK);
+    want("request", smoltcp_icmp_recv(&answering, &from, bytes, sizeof bytes), sizeof request);
     want("source", memcmp(from.v4, to_a.v4, 4), 0);
-    len = smoltcp_icmp_send(&answering, &of_b, &from, reply, sizeof reply, packet, MTU);
-    len = smoltcp_icmp_process(&pinger, &of_a, packet, (size_t)len, &from, bytes, sizeof bytes);
-    want("reply", len, sizeof reply);
+    want("send", smoltcp_icmp_send(&answering, &of_b, &from, reply, sizeof reply), SMOLTCP_OK);
+    len = smoltcp_icmp_dispatch(&answering, packet, sizeof packet);
+    want("process", smoltcp_icmp_process(&pinger, &of_a, packet, (size_t)len), SMOLTCP_OK);
+    want("can recv", smoltcp_icmp_can_recv(&pinger), 1);
+    want("reply", smoltcp_icmp_recv(&pinger, &from, bytes, sizeof bytes), sizeof reply);
     want("text", memcmp(bytes + 4, reply + 4, sizeof reply - 4), 0);
     printf("echo reply: %.*s\n", 4, (const char *)bytes + 8);
+    want("empty", smoltcp_icmp_recv(&pinger, &from, bytes, sizeof bytes), SMOLTCP_ERROR_EMPTY);
     want("close", smoltcp_icmp_close(&pinger), SMOLTCP_OK);
-    want("closed", smoltcp_icmp_process(&pinger, &of_a, packet, 32, &from, bytes, sizeof bytes), SMOLTCP_NOT_ACCEPTED);
+    want("closed", smoltcp_icmp_process(&pinger, &of_a, packet, (size_t)len), SMOLTCP_NOT_ACCEPTED);
 }
 
 int main(void) {

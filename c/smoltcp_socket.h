@@ -1,9 +1,9 @@
-/* Proved sockets for C: TCP, UDP and ICMP. A socket is a struct that the caller owns, a TCP socket with its two buffers;
- * no call allocates, keeps anything elsewhere or calls back. Calls on different sockets may run at once; of one socket,
- * one at a time.
+/* Proved sockets for C: TCP, UDP and ICMP. A socket is a struct that the caller owns, with its two buffers; no call
+ * allocates, keeps anything elsewhere or calls back. Calls on different sockets may run at once; of one socket, one at
+ * a time.
  *
  * Each call answers a number: 0 or more where it was done, and below 0 an error, with nothing changed; but see
- * dispatch. */
+ * smoltcp_tcp_dispatch, smoltcp_udp_recv and smoltcp_icmp_recv. */
 #ifndef SMOLTCP_SOCKET_H
 #define SMOLTCP_SOCKET_H
 
@@ -21,11 +21,12 @@ enum {
     SMOLTCP_ERROR_FINISHED = -3, /* the peer has closed, and all that it sent was read */
     SMOLTCP_ERROR_SOCKET = -4,   /* the struct was not made by init, or a buffer has another size than then */
     SMOLTCP_ERROR_CONTEXT = -5,  /* the context's moment or its MTU is out of range */
-    SMOLTCP_ERROR_ROOM = -6,     /* a buffer for a packet is too short */
+    SMOLTCP_ERROR_ROOM = -6,     /* a buffer or a queue has too little room for a packet */
     SMOLTCP_ERROR_NULL = -7,     /* a pointer is null */
     SMOLTCP_NOT_ACCEPTED = -8,   /* the packet is not for this socket */
     SMOLTCP_ERROR_RANGE = -9,    /* a number is out of its range */
-    SMOLTCP_ERROR_MESSAGE = -10  /* an ICMP message is malformed */
+    SMOLTCP_ERROR_MESSAGE = -10, /* an ICMP message is malformed */
+    SMOLTCP_ERROR_EMPTY = -11    /* no packet waits */
 };
 
 /* States, as in RFC 9293. */
@@ -109,11 +110,20 @@ struct smoltcp_tcp {
     struct smoltcp_fields fields;
 };
 
-/* A UDP socket. It keeps no queue: smoltcp_udp_process gives out the datagram of a packet at once, and smoltcp_udp_send
- * writes one as a packet at once. All zeros are a closed socket. */
+/* A queue of packets in a buffer: one behind the other from start to end, each behind its length in two bytes. Set
+ * bytes and bytes_len to a buffer of at most 2^30 bytes that nothing else uses; the rest is for these calls alone. */
+struct smoltcp_queue {
+    uint8_t *bytes;
+    size_t bytes_len;
+    size_t size; /* the length at init */
+    size_t start, end;
+};
+
+/* A UDP socket. Set the buffers of its queues, and call smoltcp_udp_init. */
 struct smoltcp_udp {
+    struct smoltcp_queue rx, tx;      /* the packets that came, and those to emit */
     struct smoltcp_endpoint endpoint; /* what it is bound to: nothing where the port is 0 */
-    uint8_t hop_limit;                /* of what is sent; 0: 64 */
+    uint8_t hop_limit;                /* of what is sent; 0: 64. May be set after init */
 };
 
 /* Where a datagram came from or goes to, and the own address: that to which it came, or from which it is sent (none:
@@ -125,10 +135,11 @@ struct smoltcp_udp_metadata { struct smoltcp_endpoint endpoint; struct smoltcp_a
 enum { SMOLTCP_ICMP_NONE = 0, SMOLTCP_ICMP_IDENT = 1, SMOLTCP_ICMP_TCP = 2, SMOLTCP_ICMP_UDP = 3 };
 struct smoltcp_icmp_endpoint { uint8_t kind; uint16_t ident; struct smoltcp_endpoint endpoint; };
 
-/* An ICMP socket (RFC 792, RFC 4443), without a queue too. All zeros are a closed socket. */
+/* An ICMP socket (RFC 792, RFC 4443). Set the buffers of its queues, and call smoltcp_icmp_init. */
 struct smoltcp_icmp {
+    struct smoltcp_queue rx, tx;        /* the packets that came, and those to emit */
     struct smoltcp_icmp_endpoint bound; /* what it is bound to */
-    uint8_t hop_limit;                  /* of what is sent; 0: 64 */
+    uint8_t hop_limit;                  /* of what is sent; 0: 64. May be set after init */
 };
 
 /* The sizes that the library has, which is for x86-64. */
@@ -136,9 +147,10 @@ struct smoltcp_icmp {
 _Static_assert(sizeof(struct smoltcp_endpoint) == 24, "smoltcp_endpoint");
 _Static_assert(sizeof(struct smoltcp_context) == 40, "smoltcp_context");
 _Static_assert(sizeof(struct smoltcp_tcp) == 512, "smoltcp_tcp");
-_Static_assert(sizeof(struct smoltcp_udp) == 26, "smoltcp_udp");
+_Static_assert(sizeof(struct smoltcp_queue) == 40, "smoltcp_queue");
+_Static_assert(sizeof(struct smoltcp_udp) == 112, "smoltcp_udp");
 _Static_assert(sizeof(struct smoltcp_udp_metadata) == 46, "smoltcp_udp_metadata");
-_Static_assert(sizeof(struct smoltcp_icmp) == 30, "smoltcp_icmp");
+_Static_assert(sizeof(struct smoltcp_icmp) == 112, "smoltcp_icmp");
 #endif
 
 /* The calls of the library, which take no null pointers. */
@@ -163,22 +175,30 @@ int64_t smoltcp_tcp_process_checked(struct smoltcp_tcp *s, const struct smoltcp_
                                     size_t len, uint8_t *reply, size_t cap);
 int64_t smoltcp_tcp_dispatch_checked(struct smoltcp_tcp *s, const struct smoltcp_context *cx, uint8_t *out, size_t cap);
 int64_t smoltcp_tcp_poll_at_checked(struct smoltcp_tcp *s, const struct smoltcp_context *cx, int64_t *at);
+int64_t smoltcp_udp_init_checked(struct smoltcp_udp *s);
 int64_t smoltcp_udp_bind_checked(struct smoltcp_udp *s, const struct smoltcp_endpoint *endpoint);
 int64_t smoltcp_udp_close_checked(struct smoltcp_udp *s);
-int64_t smoltcp_udp_process_checked(const struct smoltcp_udp *s, const struct smoltcp_context *cx,
-                                    const uint8_t *packet, size_t len, struct smoltcp_udp_metadata *meta,
-                                    uint8_t *data, size_t cap);
-int64_t smoltcp_udp_send_checked(const struct smoltcp_udp *s, const struct smoltcp_context *cx,
-                                 const struct smoltcp_udp_metadata *meta, const uint8_t *data, size_t len,
-                                 uint8_t *out, size_t cap);
+int64_t smoltcp_udp_process_checked(struct smoltcp_udp *s, const struct smoltcp_context *cx, const uint8_t *packet,
+                                    size_t len);
+int64_t smoltcp_udp_recv_checked(struct smoltcp_udp *s, struct smoltcp_udp_metadata *meta, uint8_t *data, size_t cap);
+int64_t smoltcp_udp_send_checked(struct smoltcp_udp *s, const struct smoltcp_context *cx,
+                                 const struct smoltcp_udp_metadata *meta, const uint8_t *data, size_t len);
+int64_t smoltcp_udp_dispatch_checked(struct smoltcp_udp *s, uint8_t *out, size_t cap);
+int64_t smoltcp_udp_poll_at_checked(const struct smoltcp_udp *s, const struct smoltcp_context *cx, int64_t *at);
+int64_t smoltcp_udp_can_recv_checked(const struct smoltcp_udp *s);
+int64_t smoltcp_udp_can_send_checked(const struct smoltcp_udp *s);
+int64_t smoltcp_icmp_init_checked(struct smoltcp_icmp *s);
 int64_t smoltcp_icmp_bind_checked(struct smoltcp_icmp *s, const struct smoltcp_icmp_endpoint *endpoint);
 int64_t smoltcp_icmp_close_checked(struct smoltcp_icmp *s);
-int64_t smoltcp_icmp_process_checked(const struct smoltcp_icmp *s, const struct smoltcp_context *cx,
-                                     const uint8_t *packet, size_t len, struct smoltcp_address *remote, uint8_t *data,
-                                     size_t cap);
-int64_t smoltcp_icmp_send_checked(const struct smoltcp_icmp *s, const struct smoltcp_context *cx,
-                                  const struct smoltcp_address *remote, const uint8_t *data, size_t len, uint8_t *out,
-                                  size_t cap);
+int64_t smoltcp_icmp_process_checked(struct smoltcp_icmp *s, const struct smoltcp_context *cx, const uint8_t *packet,
+                                     size_t len);
+int64_t smoltcp_icmp_recv_checked(struct smoltcp_icmp *s, struct smoltcp_address *remote, uint8_t *data, size_t cap);
+int64_t smoltcp_icmp_send_checked(struct smoltcp_icmp *s, const struct smoltcp_context *cx,
+                                  const struct smoltcp_address *remote, const uint8_t *data, size_t len);
+int64_t smoltcp_icmp_dispatch_checked(struct smoltcp_icmp *s, uint8_t *out, size_t cap);
+int64_t smoltcp_icmp_poll_at_checked(const struct smoltcp_icmp *s, const struct smoltcp_context *cx, int64_t *at);
+int64_t smoltcp_icmp_can_recv_checked(const struct smoltcp_icmp *s);
+int64_t smoltcp_icmp_can_send_checked(const struct smoltcp_icmp *s);
 
 /* Whether the struct and its buffers are there. */
 static inline int smoltcp_tcp_is_null(const struct smoltcp_tcp *s) { return !s || !s->rx || !s->tx; }
@@ -309,70 +329,158 @@ static inline int64_t smoltcp_tcp_poll_at(struct smoltcp_tcp *s, const struct sm
     return answer == 0 ? at : INT64_MAX;
 }
 
+/* Whether the struct and the buffers of its queues are there. */
+static inline int smoltcp_udp_is_null(const struct smoltcp_udp *s) { return !s || !s->rx.bytes || !s->tx.bytes; }
+
+/* Makes the struct a closed UDP socket with empty queues over its two buffers. */
+static inline int64_t smoltcp_udp_init(struct smoltcp_udp *s) {
+    if (smoltcp_udp_is_null(s)) return SMOLTCP_ERROR_NULL;
+    return smoltcp_udp_init_checked(s);
+}
+
 /* Opens a UDP socket for datagrams to this port, and to this address where one is given. SMOLTCP_ERROR_ADDRESS where
  * the port is 0, else SMOLTCP_ERROR_STATE where it is open. */
 static inline int64_t smoltcp_udp_bind(struct smoltcp_udp *s, const struct smoltcp_endpoint *endpoint) {
-    if (!s || !endpoint) return SMOLTCP_ERROR_NULL;
+    if (smoltcp_udp_is_null(s) || !endpoint) return SMOLTCP_ERROR_NULL;
     return smoltcp_udp_bind_checked(s, endpoint);
 }
 
-/* Binds it to nothing. */
+/* Binds it to nothing, and empties both queues. */
 static inline int64_t smoltcp_udp_close(struct smoltcp_udp *s) {
-    if (!s) return SMOLTCP_ERROR_NULL;
+    if (smoltcp_udp_is_null(s)) return SMOLTCP_ERROR_NULL;
     return smoltcp_udp_close_checked(s);
 }
 
-/* Takes an IP packet: the length of the payload of its datagram, which then stands in data, and where it came from in
- * meta. SMOLTCP_NOT_ACCEPTED where it is no whole datagram (RFC 768) or is not for this socket, SMOLTCP_ERROR_ROOM
- * where data is too short. */
-static inline int64_t smoltcp_udp_process(const struct smoltcp_udp *s, const struct smoltcp_context *cx,
-                                          const uint8_t *packet, size_t len, struct smoltcp_udp_metadata *meta,
-                                          uint8_t *data, size_t cap) {
-    if (!s || !cx || !packet || !meta || !data) return SMOLTCP_ERROR_NULL;
-    return smoltcp_udp_process_checked(s, cx, packet, len, meta, data, cap);
+/* Puts an IP packet into the receive queue, where it carries a datagram for the socket. SMOLTCP_NOT_ACCEPTED where it
+ * carries no whole datagram (RFC 768) or is not for this socket; SMOLTCP_ERROR_ROOM where the queue has no room for it
+ * and two bytes for its length, or it has more than 65535 bytes: it is dropped. */
+static inline int64_t smoltcp_udp_process(struct smoltcp_udp *s, const struct smoltcp_context *cx,
+                                          const uint8_t *packet, size_t len) {
+    if (smoltcp_udp_is_null(s) || !cx || !packet) return SMOLTCP_ERROR_NULL;
+    return smoltcp_udp_process_checked(s, cx, packet, len);
 }
 
-/* Writes a datagram of these bytes as a packet into out, and answers its length. SMOLTCP_ERROR_ADDRESS where the socket
- * is not open, the destination has no address or port, or the source is of another version of IP; SMOLTCP_ERROR_ROOM
- * where the packet is longer than out or than 65535 bytes. Whether it fits the MTU is the caller's to see. */
-static inline int64_t smoltcp_udp_send(const struct smoltcp_udp *s, const struct smoltcp_context *cx,
-                                       const struct smoltcp_udp_metadata *meta, const uint8_t *data, size_t len,
-                                       uint8_t *out, size_t cap) {
-    if (!s || !cx || !meta || !data || !out) return SMOLTCP_ERROR_NULL;
-    return smoltcp_udp_send_checked(s, cx, meta, data, len, out, cap);
+/* Takes the first packet of the receive queue: the length of the payload of its datagram, which then stands in data,
+ * and where it came from in meta. SMOLTCP_ERROR_EMPTY where none waits. SMOLTCP_ERROR_ROOM where data is too short: the
+ * datagram is lost then, so that data should have the longest payload's length. */
+static inline int64_t smoltcp_udp_recv(struct smoltcp_udp *s, struct smoltcp_udp_metadata *meta, uint8_t *data,
+                                       size_t cap) {
+    if (smoltcp_udp_is_null(s) || !meta || !data) return SMOLTCP_ERROR_NULL;
+    return smoltcp_udp_recv_checked(s, meta, data, cap);
+}
+
+/* Puts a datagram of these bytes into the transmit queue, as an IP packet. SMOLTCP_ERROR_ADDRESS where the socket is
+ * not open, the destination has no address or port, or the source is of another version of IP; SMOLTCP_ERROR_ROOM where
+ * the packet finds no room in the queue or has more than 65535 bytes. The source and the hop limit are those of this
+ * call. Whether the packet fits the MTU is the caller's to see. */
+static inline int64_t smoltcp_udp_send(struct smoltcp_udp *s, const struct smoltcp_context *cx,
+                                       const struct smoltcp_udp_metadata *meta, const uint8_t *data, size_t len) {
+    if (smoltcp_udp_is_null(s) || !cx || !meta || !data) return SMOLTCP_ERROR_NULL;
+    return smoltcp_udp_send_checked(s, cx, meta, data, len);
+}
+
+/* The length of the first packet of the transmit queue, in out, or 0 for none. Call it until it answers 0.
+ * SMOLTCP_ERROR_ROOM where out is too short for it: it stays the first. */
+static inline int64_t smoltcp_udp_dispatch(struct smoltcp_udp *s, uint8_t *out, size_t cap) {
+    if (smoltcp_udp_is_null(s) || !out) return SMOLTCP_ERROR_NULL;
+    return smoltcp_udp_dispatch_checked(s, out, cap);
+}
+
+/* The moment of the next dispatch in microseconds: now where a packet waits, else INT64_MAX; INT64_MIN: an error. */
+static inline int64_t smoltcp_udp_poll_at(const struct smoltcp_udp *s, const struct smoltcp_context *cx) {
+    int64_t at = 0, answer;
+    if (smoltcp_udp_is_null(s) || !cx) return INT64_MIN;
+    answer = smoltcp_udp_poll_at_checked(s, cx, &at);
+    if (answer < 0) return INT64_MIN;
+    return answer == 0 ? at : INT64_MAX;
+}
+
+/* 1 where a packet waits for recv, else 0. */
+static inline int64_t smoltcp_udp_can_recv(const struct smoltcp_udp *s) {
+    if (smoltcp_udp_is_null(s)) return SMOLTCP_ERROR_NULL;
+    return smoltcp_udp_can_recv_checked(s);
+}
+
+/* 1 where an empty datagram over IPv6 would find room in the transmit queue, which takes 50 bytes, else 0. */
+static inline int64_t smoltcp_udp_can_send(const struct smoltcp_udp *s) {
+    if (smoltcp_udp_is_null(s)) return SMOLTCP_ERROR_NULL;
+    return smoltcp_udp_can_send_checked(s);
+}
+
+/* Whether the struct and the buffers of its queues are there. */
+static inline int smoltcp_icmp_is_null(const struct smoltcp_icmp *s) { return !s || !s->rx.bytes || !s->tx.bytes; }
+
+/* Makes the struct a closed ICMP socket with empty queues over its two buffers. */
+static inline int64_t smoltcp_icmp_init(struct smoltcp_icmp *s) {
+    if (smoltcp_icmp_is_null(s)) return SMOLTCP_ERROR_NULL;
+    return smoltcp_icmp_init_checked(s);
 }
 
 /* Opens an ICMP socket for these messages. SMOLTCP_ERROR_ADDRESS where there are none or a port is missing, else
  * SMOLTCP_ERROR_STATE where it is open. */
 static inline int64_t smoltcp_icmp_bind(struct smoltcp_icmp *s, const struct smoltcp_icmp_endpoint *endpoint) {
-    if (!s || !endpoint) return SMOLTCP_ERROR_NULL;
+    if (smoltcp_icmp_is_null(s) || !endpoint) return SMOLTCP_ERROR_NULL;
     return smoltcp_icmp_bind_checked(s, endpoint);
 }
 
-/* Binds it to nothing. */
+/* Binds it to nothing, and empties both queues. */
 static inline int64_t smoltcp_icmp_close(struct smoltcp_icmp *s) {
-    if (!s) return SMOLTCP_ERROR_NULL;
+    if (smoltcp_icmp_is_null(s)) return SMOLTCP_ERROR_NULL;
     return smoltcp_icmp_close_checked(s);
 }
 
-/* Takes an IP packet: the length of its ICMP message, which then stands in data, and its source in remote.
- * SMOLTCP_NOT_ACCEPTED where it is no whole message or is not for this socket, SMOLTCP_ERROR_ROOM where data is too
- * short. */
-static inline int64_t smoltcp_icmp_process(const struct smoltcp_icmp *s, const struct smoltcp_context *cx,
-                                           const uint8_t *packet, size_t len, struct smoltcp_address *remote,
-                                           uint8_t *data, size_t cap) {
-    if (!s || !cx || !packet || !remote || !data) return SMOLTCP_ERROR_NULL;
-    return smoltcp_icmp_process_checked(s, cx, packet, len, remote, data, cap);
+/* Puts an IP packet into the receive queue, where it carries a message for the socket. SMOLTCP_NOT_ACCEPTED where it
+ * carries no whole message or is not for this socket, SMOLTCP_ERROR_ROOM as for UDP. */
+static inline int64_t smoltcp_icmp_process(struct smoltcp_icmp *s, const struct smoltcp_context *cx,
+                                           const uint8_t *packet, size_t len) {
+    if (smoltcp_icmp_is_null(s) || !cx || !packet) return SMOLTCP_ERROR_NULL;
+    return smoltcp_icmp_process_checked(s, cx, packet, len);
 }
 
-/* Writes an ICMP message as a packet to remote into out, its checksum computed, and answers the packet's length.
- * SMOLTCP_ERROR_ADDRESS where remote is unspecified, SMOLTCP_ERROR_MESSAGE where the bytes are no echo and no error of
- * its version, SMOLTCP_ERROR_ROOM as for UDP. The socket need not be open. */
-static inline int64_t smoltcp_icmp_send(const struct smoltcp_icmp *s, const struct smoltcp_context *cx,
-                                        const struct smoltcp_address *remote, const uint8_t *data, size_t len,
-                                        uint8_t *out, size_t cap) {
-    if (!s || !cx || !remote || !data || !out) return SMOLTCP_ERROR_NULL;
-    return smoltcp_icmp_send_checked(s, cx, remote, data, len, out, cap);
+/* Takes the first packet of the receive queue: the length of its ICMP message, which then stands in data, and its
+ * source in remote. SMOLTCP_ERROR_EMPTY where none waits. SMOLTCP_ERROR_ROOM where data is too short: the message is
+ * lost then. */
+static inline int64_t smoltcp_icmp_recv(struct smoltcp_icmp *s, struct smoltcp_address *remote, uint8_t *data,
+                                        size_t cap) {
+    if (smoltcp_icmp_is_null(s) || !remote || !data) return SMOLTCP_ERROR_NULL;
+    return smoltcp_icmp_recv_checked(s, remote, data, cap);
+}
+
+/* Puts an ICMP message into the transmit queue, as a packet to remote, its checksum computed. SMOLTCP_ERROR_ADDRESS
+ * where remote is unspecified, SMOLTCP_ERROR_MESSAGE where the bytes are no echo and no error of its version,
+ * SMOLTCP_ERROR_ROOM as for UDP. The socket need not be open. */
+static inline int64_t smoltcp_icmp_send(struct smoltcp_icmp *s, const struct smoltcp_context *cx,
+                                        const struct smoltcp_address *remote, const uint8_t *data, size_t len) {
+    if (smoltcp_icmp_is_null(s) || !cx || !remote || !data) return SMOLTCP_ERROR_NULL;
+    return smoltcp_icmp_send_checked(s, cx, remote, data, len);
+}
+
+/* The length of the first packet of the transmit queue, in out, or 0 for none. Call it until it answers 0.
+ * SMOLTCP_ERROR_ROOM where out is too short for it: it stays the first. */
+static inline int64_t smoltcp_icmp_dispatch(struct smoltcp_icmp *s, uint8_t *out, size_t cap) {
+    if (smoltcp_icmp_is_null(s) || !out) return SMOLTCP_ERROR_NULL;
+    return smoltcp_icmp_dispatch_checked(s, out, cap);
+}
+
+/* The moment of the next dispatch in microseconds: now where a packet waits, else INT64_MAX; INT64_MIN: an error. */
+static inline int64_t smoltcp_icmp_poll_at(const struct smoltcp_icmp *s, const struct smoltcp_context *cx) {
+    int64_t at = 0, answer;
+    if (smoltcp_icmp_is_null(s) || !cx) return INT64_MIN;
+    answer = smoltcp_icmp_poll_at_checked(s, cx, &at);
+    if (answer < 0) return INT64_MIN;
+    return answer == 0 ? at : INT64_MAX;
+}
+
+/* 1 where a packet waits for recv, else 0. */
+static inline int64_t smoltcp_icmp_can_recv(const struct smoltcp_icmp *s) {
+    if (smoltcp_icmp_is_null(s)) return SMOLTCP_ERROR_NULL;
+    return smoltcp_icmp_can_recv_checked(s);
+}
+
+/* 1 where a message of 8 bytes over IPv6 would find room in the transmit queue, which takes 50 bytes, else 0. */
+static inline int64_t smoltcp_icmp_can_send(const struct smoltcp_icmp *s) {
+    if (smoltcp_icmp_is_null(s)) return SMOLTCP_ERROR_NULL;
+    return smoltcp_icmp_can_send_checked(s);
 }
 
 #ifdef __cplusplus

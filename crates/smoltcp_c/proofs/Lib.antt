@@ -1,4 +1,5 @@
 mod Counts
+mod Framing
 mod Replies
 mod Told
 mod Emitting

@@ -42,6 +42,9 @@ error_range = negsuc 8
 abbrev pub error_message : ℤ
 error_message = negsuc 9
 
+abbrev pub error_empty : ℤ
+error_empty = negsuc 10
+
 abbrev pub listen_answer : {U : Type 0} → Result U ListenError → ℤ
 listen_answer (Ok u) = pos 0
 listen_answer (Err listen_error.InvalidState) = error_state

@@ -1,6 +1,5 @@
--- An ICMP socket as C holds it, which keeps no queue: a message that comes is given out at once, and one to send is
--- written at once.
-use Rattle.std.specs.Prelude.{ℕ, ℤ, pos, ◌≡◌, ◌≤◌, ◌<◌, ◌==◌, nat_le, min, true, false, List, [], ◌++◌, length, drop, Option, Some, None, if◌then◌else◌}
+-- An ICMP socket as C holds it: what it is bound to, and two queues of packets.
+use Rattle.std.specs.Prelude.{ℕ, ℤ, pos, ◌≡◌, ◌≤◌, ◌<◌, ◌==◌, ◌||◌, ◌^◌, nat_lt, Bool, true, false, List, [], ◌++◌, length, drop, Option, Some, None, if◌then◌else◌}
 use Rattle.ip_wire.specs.Address.{is_unspecified}
 use Rattle.ip_wire.specs.Packet.{header_octets}
 use Rattle.ip_wire.specs.Protocol.{number_of}
@@ -20,14 +19,16 @@ use Rattle.sock_dgram.specs.IcmpFilter.{Accepts, ends_v4, ends_v6, octets_v4, oc
 use Rattle.sock_dgram.specs.UdpDispatch.{hops_of}
 use Rattle.sock_dgram.specs.declared.icmp.endpoint.Endpoint.{Endpoint}
 use Rattle.sock_dgram.specs.declared.icmp.endpoint.Endpoint.TheVariants as endpoint
-use Rattle.smoltcp_c.specs.Answers.{error_address, error_message, error_room, not_accepted}
+use Rattle.smoltcp_c.specs.Answers.{error_address, error_message, error_room}
 use Rattle.smoltcp_c.specs.Numbers.{address_in, byte_or_none, listen_in}
+use Rattle.smoltcp_c.specs.Queue.{first_of, put_answer, put_behind, queued}
 use Rattle.smoltcp_c.specs.Wire.{packet_len}
 use Rattle.smoltcp_c.specs.declared.endpoints.Address.{Address}
 use Rattle.smoltcp_c.specs.declared.icmp.IcmpEndpoint.{IcmpEndpoint}
 use Rattle.smoltcp_c.specs.declared.icmp.IcmpSocket.{IcmpSocket}
-use Rattle.smoltcp_c.specs.declared.icmp.Packet.{Packet}
-use Rattle.smoltcp_c.specs.declared.icmp.Packet.TheVariants as packet
+use Rattle.smoltcp_c.specs.declared.queue.Queue.{Queue}
+use Rattle.smoltcp_c.specs.declared.message.Packet.{Packet}
+use Rattle.smoltcp_c.specs.declared.message.Packet.TheVariants as packet
 
 -- which messages: none, echoes with the identifier, errors about what was sent by TCP, or by UDP
 abbrev pub icmp_endpoint_in : IcmpEndpoint → Endpoint
@@ -41,12 +42,21 @@ icmp_endpoint_in n =
 abbrev pub bound_in : Endpoint → Endpoint
 bound_in e = if is_specified e then e else endpoint.Unspecified
 
+-- a socket with no places in its queues
+abbrev pub closed_socket : View
+closed_socket = fresh (packets_with [] 0 [] 0) (packets_with [] 0 [] 0)
+
+-- the socket but for its queues
 abbrev pub icmp_in : IcmpSocket → View
 icmp_in s =
-    record (fresh (packets_with [] 0 [] 0) (packets_with [] 0 [] 0)) {
+    record closed_socket {
       endpoint = bound_in (icmp_endpoint_in s.bound);
       hop_limit = byte_or_none s.hop_limit;
     }
+
+-- a buffer is longer than a queue can have
+abbrev pub is_long : IcmpSocket → Bool
+is_long s = nat_lt (2 ^ 30) (length s.rx.bytes.now) || nat_lt (2 ^ 30) (length s.tx.bytes.now)
 
 -- ---- a packet that comes
 
@@ -84,12 +94,35 @@ icmp_of None = None
 icmp_of (Some c) = icmp_behind c.ip c.octets
 
 -- the message that a packet carries, if it is whole and each checksum verifies
-abbrev pub icmp_packet_parsed : List ℕ → Option IcmpPacket
-icmp_packet_parsed packet = icmp_of (carried true packet)
+unfoldable pub carried_message : List ℕ → Option IcmpPacket
+carried_message packet = icmp_of (carried true packet)
 
 abbrev pub AcceptsIcmp : View → Facts → IcmpPacket → Type 0
 AcceptsIcmp v f (V4 h m) = Accepts ends_v4 v.endpoint f (address.Ipv4 h.dst_addr) m
 AcceptsIcmp v f (V6 h m) = Accepts ends_v6 v.endpoint f (address.Ipv6 h.dst_addr) m
+
+abbrev pub AcceptsIf : View → Facts → Option IcmpPacket → Type 0
+AcceptsIf v f None = ⊥
+AcceptsIf v f (Some p) = AcceptsIcmp v f p
+
+-- a packet with a message that the socket accepts
+abbrev pub IsFor : View → Facts → List ℕ → Type 0
+IsFor v f packet = AcceptsIf v f (carried_message packet)
+
+-- ---- recv
+
+abbrev pub message_of : Option (List ℕ) → Option IcmpPacket
+message_of None = None
+message_of (Some packet) = carried_message packet
+
+-- the first message of what stands in a queue
+unfoldable pub first_message : List ℕ → Option IcmpPacket
+first_message bs = message_of (first_of bs)
+
+-- the call answered an error, and nothing changed
+abbrev pub Untaken : ℤ → IcmpSocket → Address → List ℕ → ℤ → IcmpSocket → Address → List ℕ → Type 0
+Untaken error s remote bs result s' remote' bs' =
+    (result ≡ error) × (s' ≡ s) × (remote' ≡ remote) × (bs' ≡ bs)
 
 -- what is given out of it: its source, its octets with their checksum, and how many they are
 abbrev pub remote_of : IcmpPacket → IpAddress
@@ -104,16 +137,13 @@ abbrev pub count_of : IcmpPacket → ℕ
 count_of (V4 h m) = message_len 20 m
 count_of (V6 h m) = message_len 40 m
 
--- a message that is not for the socket, or does not fit the buffer, changes nothing; else it stands at the beginning of
--- the buffer
-pub record HearsIcmp (v : View) (f : Facts) (p : IcmpPacket) (remote : Address) (bs : List ℕ) (result : ℤ)
-    (remote' : Address) (bs' : List ℕ) : Type 0 where
-  pub foreign : (AcceptsIcmp v f p → ⊥) → (result ≡ not_accepted) × (remote' ≡ remote) × (bs' ≡ bs)
-  pub short : AcceptsIcmp v f p → length bs < count_of p
-      → (result ≡ error_room) × (remote' ≡ remote) × (bs' ≡ bs)
-  pub answer : AcceptsIcmp v f p → count_of p ≤ length bs → result ≡ pos (count_of p)
-  pub source : AcceptsIcmp v f p → count_of p ≤ length bs → address_in remote' ≡ remote_of p
-  pub bytes : AcceptsIcmp v f p → count_of p ≤ length bs → bs' ≡ octets_of p ++ drop (count_of p) bs
+-- a message that does not fit the buffer is lost; else it stands at the buffer's beginning
+pub record GivesIcmp (p : IcmpPacket) (remote : Address) (bs : List ℕ) (result : ℤ) (remote' : Address)
+    (bs' : List ℕ) : Type 0 where
+  pub short : length bs < count_of p → (result ≡ error_room) × (remote' ≡ remote) × (bs' ≡ bs)
+  pub answer : count_of p ≤ length bs → result ≡ pos (count_of p)
+  pub source : count_of p ≤ length bs → address_in remote' ≡ remote_of p
+  pub bytes : count_of p ≤ length bs → bs' ≡ octets_of p ++ drop (count_of p) bs
 
 -- ---- a message to send
 
@@ -123,26 +153,23 @@ icmp_packet ip (OverIpv4 m) = header_octets true ip ++ octets_v4 m
 icmp_packet (header.Ipv6 h) (OverIpv6 m) = header_octets true (header.Ipv6 h) ++ octets_v6 h m
 icmp_packet (header.Ipv4 h) (OverIpv6 m) = []
 
--- its packet is written where the buffer has room for it, and it has at most 65535 bytes
-abbrev pub written_answer : Option Outgoing → List ℕ → ℤ
-written_answer None out = error_message
-written_answer (Some o) out =
-    if nat_le (packet_len o.ip) (min (length out) 65535) then pos (packet_len o.ip) else error_room
+-- its packet goes into the queue, where it finds room
+abbrev pub put_message_answer : Option Outgoing → Queue → ℤ
+put_message_answer None q = error_message
+put_message_answer (Some o) q = put_answer (packet_len o.ip) q
 
-abbrev pub written_bytes : Option Outgoing → List ℕ → List ℕ
-written_bytes None out = out
-written_bytes (Some o) out =
-    if nat_le (packet_len o.ip) (min (length out) 65535)
-    then icmp_packet o.ip o.message ++ drop (packet_len o.ip) out
-    else out
+abbrev pub put_message_behind : Option Outgoing → Queue → List ℕ
+put_message_behind None q = queued q
+put_message_behind (Some o) q = put_behind (packet_len o.ip) (icmp_packet o.ip o.message) q
 
 -- what a message goes out as: what `send` lets into the queue, and `dispatch` takes from it
 abbrev pub outgoing_in : View → Facts → IpAddress → List ℕ → Option Outgoing
 outgoing_in v f remote bs = to_remote (hops_of v.hop_limit) f remote bs
 
-abbrev pub sent_answer : View → Facts → IpAddress → List ℕ → List ℕ → ℤ
-sent_answer v f remote bs out =
-    if is_unspecified remote then error_address else written_answer (outgoing_in v f remote bs) out
+abbrev pub sent_answer : View → Facts → IpAddress → List ℕ → Queue → ℤ
+sent_answer v f remote bs q =
+    if is_unspecified remote then error_address else put_message_answer (outgoing_in v f remote bs) q
 
-abbrev pub sent_bytes : View → Facts → IpAddress → List ℕ → List ℕ → List ℕ
-sent_bytes v f remote bs out = if is_unspecified remote then out else written_bytes (outgoing_in v f remote bs) out
+abbrev pub sent_behind : View → Facts → IpAddress → List ℕ → Queue → List ℕ
+sent_behind v f remote bs q =
+    if is_unspecified remote then queued q else put_message_behind (outgoing_in v f remote bs) q

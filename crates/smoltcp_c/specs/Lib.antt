@@ -5,5 +5,6 @@ pub mod Answers
 pub mod Context
 pub mod Wire
 pub mod Packets
+pub mod Queue
 pub mod Udp
 pub mod Icmp

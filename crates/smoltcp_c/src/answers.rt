@@ -24,7 +24,7 @@ pub const ERROR_SOCKET: i64 = -4;
 /// The context's moment or its MTU is out of range.
 pub const ERROR_CONTEXT: i64 = -5;
 
-/// A buffer for a packet is too short.
+/// A buffer or a queue has too little room for a packet.
 pub const ERROR_ROOM: i64 = -6;
 
 /// A number is out of its range.
@@ -32,6 +32,9 @@ pub const ERROR_RANGE: i64 = -9;
 
 /// An ICMP message is malformed.
 pub const ERROR_MESSAGE: i64 = -10;
+
+/// No packet waits.
+pub const ERROR_EMPTY: i64 = -11;
 
 /// The packet is not for this socket.
 pub const NOT_ACCEPTED: i64 = -8;

@@ -1,53 +1,65 @@
-//! ICMP sockets. C keeps their queues: a message that comes is given out at once, and one to send is written at once.
-ghost use Rattle.std.specs.Prelude.{◌≡◌, ◌+◌, ◌++◌, ◌↔◌, IfSome, IsTrue, pos, true, false, None, Some, length, option_map};
-ghost use Rattle.ip_wire.specs.Packet.{header_octets};
-ghost use Rattle.ip_wire.specs.IpHeader.{header_len_of};
-ghost use Rattle.control_wire.specs.Icmp.{message_len, message_v4, message_v6};
+//! ICMP sockets. Their queues hold whole IP packets.
+ghost use Rattle.std.specs.Prelude.{◌≡◌, ℕ, ◌+◌, ◌≤◌, ◌++◌, ◌↔◌, IfSome, IsTrue, pos, negsuc, true, false, None, Some, length, is_some, option_map};
 ghost use Rattle.sock_dgram.specs.Icmp.{after_bind, bind_answer as answer_of};
 ghost use Rattle.sock_dgram.specs.IcmpDispatch.{Counts, any_message, outgoing_of};
-ghost use Rattle.sock_dgram.specs.IcmpFilter.{octets_v4, octets_v6};
 ghost use Rattle.sock_dgram.specs.declared.icmp.endpoint.Endpoint.TheVariants.{Unspecified};
-ghost use Rattle.smoltcp_c.specs.Answers.{bind_answer, error_context, not_accepted};
+ghost use Rattle.smoltcp_c.specs.Answers.{
+  bind_answer,
+  error_context,
+  error_empty,
+  error_socket,
+  flag_answer,
+  not_accepted,
+};
 ghost use Rattle.smoltcp_c.specs.Context.{facts_in, is_context};
 ghost use Rattle.smoltcp_c.specs.Icmp.{
-  HearsIcmp,
+  GivesIcmp,
   IcmpPacket,
-  AcceptsIcmp,
-  icmp_behind,
-  icmp_behind_v4,
-  icmp_behind_v6,
+  IsFor,
+  Untaken,
+  closed_socket,
+  first_message,
   icmp_endpoint_in,
   icmp_in,
   icmp_packet,
-  icmp_packet_parsed,
   icmp_packet_of,
-  octets_of,
-  remote_of,
-  count_of,
+  is_long,
+  put_message_answer,
+  put_message_behind,
   sent_answer,
-  sent_bytes,
-  written_answer,
-  written_bytes,
+  sent_behind,
 };
 ghost use Rattle.smoltcp_c.specs.Numbers.{address_in};
+ghost use Rattle.smoltcp_c.specs.Queue.{
+  IsQueue,
+  Dispatches,
+  Polls,
+  begun,
+  behind_first,
+  cleared,
+  frame,
+  has_room,
+  put_answer,
+  put_behind,
+  queued,
+  waits,
+};
 ghost use Rattle.smoltcp_c.specs.Wire.{packet_len};
 
 use crate::answers::{
-    ERROR_ADDRESS, ERROR_CONTEXT, ERROR_MESSAGE, ERROR_ROOM, NOT_ACCEPTED, OK, bind_answer,
+    ERROR_ADDRESS, ERROR_CONTEXT, ERROR_EMPTY, ERROR_MESSAGE, ERROR_ROOM, ERROR_SOCKET,
+    NOT_ACCEPTED, OK, bind_answer,
 };
 use crate::context::{Cx, Moment, moment_in};
 use crate::endpoints::{Address, Endpoint, NO_ENDPOINT, address_in, address_of, listen_in};
+use crate::message::{Packet, read, write_at};
+use crate::queue::{Queue, first_of};
+use crate::socket::LARGEST;
 use crate::wire::LONGEST_PACKET;
-use control_wire::{IcmpRepr, Icmpv4Repr, Icmpv6Repr};
-use ip_wire::{ChecksumCapabilities, IpAddress, IpRepr, Ipv4Repr, Ipv6Repr};
-use segment_wire::packet::carried;
+use control_wire::IcmpRepr;
+use ip_wire::{IpAddress, IpRepr};
 use sock_dgram::icmp;
 use sock_dgram::icmp::{PacketBuffer, Socket};
-
-// The protocols' numbers (RFC 792; RFC 4443).
-const ICMP: u8 = 1;
-
-const ICMPV6: u8 = 58;
 
 /// Which messages a socket takes: 0 none, 1 echoes with the identifier, 2 errors about TCP segments that were sent from
 /// the endpoint, else errors about UDP datagrams that were.
@@ -59,10 +71,14 @@ pub struct IcmpEndpoint {
     pub endpoint: Endpoint,
 }
 
-/// An ICMP socket as C holds it. Whatever its bytes are, it is one.
+/// An ICMP socket as C holds it. C owns it and the buffers of its queues, which have at most 2^30 bytes each.
 #[repr(C)]
-#[derive(Clone, Copy)]
-pub struct IcmpSocket {
+#[derive(Drop)]
+pub struct IcmpSocket<'b> {
+    /// The packets that came and were not read.
+    pub rx: Queue<'b>,
+    /// The packets to emit.
+    pub tx: Queue<'b>,
     /// What it is bound to: nothing where the kind is 0, or needs a port and has none.
     pub bound: IcmpEndpoint,
     /// The hop limit of what is sent; 0 for 64.
@@ -81,7 +97,7 @@ fn icmp_endpoint_in(n: &IcmpEndpoint) -> icmp::Endpoint
 }
 
 // The socket, with no places in its queues.
-fn icmp_in<'e>(s: &IcmpSocket) -> Socket<'e>
+fn icmp_in<'e>(s: &IcmpSocket<'_>) -> Socket<'e>
     ensures { result ≡ icmp_in s.now }
 {
     let rx = PacketBuffer::new(Default::default(), Default::default());
@@ -94,13 +110,40 @@ fn icmp_in<'e>(s: &IcmpSocket) -> Socket<'e>
     socket
 }
 
+const UNBOUND: IcmpEndpoint = IcmpEndpoint {
+    kind: 0,
+    ident: 0,
+    endpoint: NO_ENDPOINT,
+};
+
+/// Makes the struct a closed socket with empty queues over its two buffers, whatever it held before. 0, or
+/// `ERROR_SOCKET` where a buffer has more than 2^30 bytes; then nothing changes.
+#[unsafe(no_mangle)]
+pub extern "C" fn smoltcp_icmp_init_checked(s: &mut IcmpSocket<'_>) -> i64
+    ensures refused { is_long s.old ≡ true → (result ≡ error_socket) × (s.new ≡ s.old) }
+    ensures answer { is_long s.old ≡ false → result ≡ pos 0 }
+    ensures socket { is_long s.old ≡ false → icmp_in s.new ≡ closed_socket }
+    ensures rx { is_long s.old ≡ false → (s.new.rx ≡ begun s.old.rx) × IsQueue s.new.rx }
+    ensures tx { is_long s.old ≡ false → (s.new.tx ≡ begun s.old.tx) × IsQueue s.new.tx }
+{
+    if s.rx.bytes.len() > LARGEST || s.tx.bytes.len() > LARGEST {
+        return ERROR_SOCKET;
+    }
+    s.rx.begin();
+    s.tx.begin();
+    s.bound = UNBOUND;
+    s.hop_limit = 0;
+    OK
+}
+
 /// Opens the socket for these messages. 0, or an error: `ERROR_ADDRESS` where it names none or has no port, else
 /// `ERROR_STATE` where the socket is open. The socket is as it was then.
 #[unsafe(no_mangle)]
-pub extern "C" fn smoltcp_icmp_bind_checked(s: &mut IcmpSocket, endpoint: &IcmpEndpoint) -> i64
+pub extern "C" fn smoltcp_icmp_bind_checked(s: &mut IcmpSocket<'_>, endpoint: &IcmpEndpoint) -> i64
     ensures answer { result ≡ bind_answer (answer_of (icmp_in s.old) (icmp_endpoint_in endpoint.now)) }
     ensures socket { icmp_in s.new ≡ after_bind (answer_of (icmp_in s.old) (icmp_endpoint_in endpoint.now))
         (icmp_in s.old) (icmp_endpoint_in endpoint.now) }
+    ensures queues { (s.new.rx ≡ s.old.rx) × (s.new.tx ≡ s.old.tx) }
 {
     let answer = icmp_in(s).bind(icmp_endpoint_in(endpoint));
     if answer.is_ok() {
@@ -109,109 +152,125 @@ pub extern "C" fn smoltcp_icmp_bind_checked(s: &mut IcmpSocket, endpoint: &IcmpE
     bind_answer(answer)
 }
 
-/// Closes the socket: it is bound to nothing. 0.
+/// Closes the socket: it is bound to nothing, and both queues are empty. 0.
 #[unsafe(no_mangle)]
-pub extern "C" fn smoltcp_icmp_close_checked(s: &mut IcmpSocket) -> i64
+pub extern "C" fn smoltcp_icmp_close_checked(s: &mut IcmpSocket<'_>) -> i64
     ensures answer { result ≡ pos 0 }
     ensures closed { icmp_in s.new ≡ record (icmp_in s.old) { endpoint = Unspecified } }
+    ensures queues { (s.new.rx ≡ cleared s.old.rx) × (s.new.tx ≡ cleared s.old.tx) }
 {
-    s.bound = IcmpEndpoint {
-        kind: 0,
-        ident: 0,
-        endpoint: NO_ENDPOINT,
-    };
+    s.bound = UNBOUND;
+    s.rx.clear();
+    s.tx.clear();
     OK
 }
 
-// A message with the header of its packet.
-#[derive(Clone, Copy)]
-enum Packet<'p> {
-    V4(Ipv4Repr, Icmpv4Repr<'p>),
-    V6(Ipv6Repr, Icmpv6Repr<'p>),
-}
-
-/// Takes an IP packet. Copies the ICMP message that it carries to the beginning of `data`, and answers how many bytes
-/// it has; `remote` is then the address that it came from.
+/// Puts an IP packet into the receive queue, where the ICMP message that it carries is for the socket. 0.
 ///
-/// `NOT_ACCEPTED` where the packet is no whole ICMP message or is not for this socket, `ERROR_ROOM` where `data` is
-/// shorter than the message, `ERROR_CONTEXT`. `remote` and `data` are as they were then.
+/// `NOT_ACCEPTED` where the packet is no whole ICMP message or is not for this socket, `ERROR_ROOM` where it finds no
+/// room in the queue or has more than 65535 bytes, `ERROR_CONTEXT`, `ERROR_SOCKET`. Nothing changes then.
 #[unsafe(no_mangle)]
 pub extern "C" fn smoltcp_icmp_process_checked(
-    s: &IcmpSocket,
+    s: &mut IcmpSocket<'_>,
     cx: &Cx,
     packet: &[u8],
-    remote: &mut Address,
-    data: &mut [u8],
 ) -> i64
-    ensures context { is_context cx.entry.now ≡ false
-        → (result ≡ error_context) × (remote.new ≡ remote.old) × («data».new ≡ «data».old) }
-    ensures broken { is_context cx.entry.now ≡ true → icmp_packet_parsed packet.now ≡ None
-        → (result ≡ not_accepted) × (remote.new ≡ remote.old) × («data».new ≡ «data».old) }
-    ensures table { (p : IcmpPacket) → is_context cx.entry.now ≡ true → icmp_packet_parsed packet.now ≡ Some p
-        → HearsIcmp (icmp_in s.now) (facts_in cx.entry.now) p remote.old «data».old result remote.new «data».new }
+    ensures refused { (IsQueue s.old.rx → ⊥) → result ≡ error_socket }
+    ensures context { IsQueue s.old.rx → is_context cx.entry.now ≡ false → result ≡ error_context }
+    ensures foreign { IsQueue s.old.rx → is_context cx.entry.now ≡ true
+        → (IsFor (icmp_in s.old) (facts_in cx.entry.now) packet.now → ⊥) → result ≡ not_accepted }
+    ensures answer { IsQueue s.old.rx → is_context cx.entry.now ≡ true
+        → IsFor (icmp_in s.old) (facts_in cx.entry.now) packet.now
+        → result ≡ put_answer (length packet.now) s.old.rx }
+    ensures behind { IsQueue s.old.rx → is_context cx.entry.now ≡ true
+        → IsFor (icmp_in s.old) (facts_in cx.entry.now) packet.now
+        → queued s.new.rx ≡ put_behind (length packet.now) packet.now s.old.rx }
+    ensures sound { IsQueue s.old.rx → IsQueue s.new.rx }
+    ensures failed { (n : ℕ) → result ≡ negsuc n → s.new ≡ s.old }
+    ensures same { s.new ≡ record s.old { rx = s.new.rx } }
 {
-    let Some(moment) = moment_in(cx) else {
+    if !s.rx.is_sound() {
+        return ERROR_SOCKET;
+    }
+    let Some(accepted) = accepts(s, cx, packet) else {
         return ERROR_CONTEXT;
     };
-    let Some(found) = read(packet) else {
+    if !accepted {
         return NOT_ACCEPTED;
-    };
-    heard(s, &moment, &found, remote, data)
+    }
+    s.rx.push(packet)
 }
 
-// The message that the packet carries, if it is one.
-fn read(packet: &[u8]) -> Option<Packet<'_>>
-    ensures { option_map icmp_packet_of result ≡ icmp_packet_parsed packet.now }
+// Whether the packet is for the socket; None where the context is out of range.
+fn accepts(s: &IcmpSocket<'_>, cx: &Cx, packet: &[u8]) -> Option<bool>
+    ensures context { is_some result ≡ is_context cx.entry.now }
+    ensures value { IfSome result (λ b. IsTrue b ↔ IsFor (icmp_in s.now) (facts_in cx.entry.now) packet.now) }
 {
-    let (ip, bytes) = carried(packet, &ChecksumCapabilities::default())?;
-    behind(&ip, bytes)
+    let moment = moment_in(cx)?;
+    Some(is_for(&icmp_in(s), &moment, packet))
 }
 
-// The message behind this header.
-fn behind<'p>(ip: &IpRepr, bytes: &'p [u8]) -> Option<Packet<'p>>
-    ensures { option_map icmp_packet_of result ≡ icmp_behind ip.now bytes.now }
+fn is_for(socket: &Socket<'_>, moment: &Moment, packet: &[u8]) -> bool
+    ensures { IsTrue result ↔ IsFor socket.now (facts_in moment.now.cx) packet.now }
 {
-    match ip {
-        IpRepr::Ipv4(ip) => behind_v4(ip, bytes),
-        IpRepr::Ipv6(ip) => behind_v6(ip, bytes),
+    match read(packet) {
+        None => false,
+        Some(found) => found.is_for(socket, moment),
     }
 }
 
-fn behind_v4<'p>(ip: &Ipv4Repr, bytes: &'p [u8]) -> Option<Packet<'p>>
-    ensures { option_map icmp_packet_of result ≡ icmp_behind_v4 ip.now bytes.now }
-{
-    if u8::from(ip.next_header) != ICMP {
-        return None;
-    }
-    let repr = Icmpv4Repr::parse(bytes, &ChecksumCapabilities::default()).ok()?;
-    Some(Packet::V4(*ip, repr))
-}
-
-fn behind_v6<'p>(ip: &Ipv6Repr, bytes: &'p [u8]) -> Option<Packet<'p>>
-    ensures { option_map icmp_packet_of result ≡ icmp_behind_v6 ip.now bytes.now }
-{
-    if u8::from(ip.next_header) != ICMPV6 {
-        return None;
-    }
-    let caps = ChecksumCapabilities::default();
-    let repr = Icmpv6Repr::parse(&ip.src_addr, &ip.dst_addr, bytes, &caps).ok()?;
-    Some(Packet::V6(*ip, repr))
-}
-
-// Gives out the message, where it is for the socket and fits.
-fn heard(
-    s: &IcmpSocket,
-    moment: &Moment,
-    packet: &Packet<'_>,
+/// Takes the first packet of the receive queue. Copies the ICMP message that it carries to the beginning of `data`, and
+/// answers how many bytes it has; `remote` is then the address that it came from.
+///
+/// `ERROR_EMPTY` where none waits, `ERROR_ROOM` where `data` is shorter than the message: the message is lost then.
+/// `ERROR_SOCKET`, also where the first packet carries no whole message; the queue is as it was then. With each of
+/// these `remote` and `data` are as they were.
+#[unsafe(no_mangle)]
+pub extern "C" fn smoltcp_icmp_recv_checked(
+    s: &mut IcmpSocket<'_>,
     remote: &mut Address,
     data: &mut [u8],
 ) -> i64
-    ensures { HearsIcmp (icmp_in s.now) (facts_in moment.now.cx) (icmp_packet_of packet.now) remote.old «data».old
-        result remote.new «data».new }
+    ensures refused { (IsQueue s.old.rx → ⊥)
+        → Untaken error_socket s.old remote.old «data».old result s.new remote.new «data».new }
+    ensures empty { IsQueue s.old.rx → waits s.old.rx ≡ false
+        → Untaken error_empty s.old remote.old «data».old result s.new remote.new «data».new }
+    ensures broken { IsQueue s.old.rx → waits s.old.rx ≡ true → first_message (queued s.old.rx) ≡ None
+        → Untaken error_socket s.old remote.old «data».old result s.new remote.new «data».new }
+    ensures table { (p : IcmpPacket) → IsQueue s.old.rx → waits s.old.rx ≡ true
+        → first_message (queued s.old.rx) ≡ Some p
+        → GivesIcmp p remote.old «data».old result remote.new «data».new }
+    ensures behind { (p : IcmpPacket) → IsQueue s.old.rx → waits s.old.rx ≡ true
+        → first_message (queued s.old.rx) ≡ Some p → queued s.new.rx ≡ behind_first (queued s.old.rx) }
+    ensures sound { IsQueue s.old.rx → IsQueue s.new.rx }
+    ensures same { s.new ≡ record s.old { rx = s.new.rx } }
 {
-    if !is_for(&icmp_in(s), moment, packet) {
-        return NOT_ACCEPTED;
+    if !s.rx.is_sound() {
+        return ERROR_SOCKET;
     }
+    if !s.rx.waits() {
+        return ERROR_EMPTY;
+    }
+    let Some(found) = first_message(s.rx.content()) else {
+        return ERROR_SOCKET;
+    };
+    let answer = given(&found, remote, data);
+    s.rx.drop_first();
+    answer
+}
+
+// The first message of what stands in a queue, if the first packet is one.
+#[tactic(auto, unfolding(crate::specs::Icmp::first_message))]
+fn first_message(bytes: &[u8]) -> Option<Packet<'_>>
+    ensures { option_map icmp_packet_of result ≡ first_message bytes.now }
+{
+    read(first_of(bytes)?)
+}
+
+// Gives out the message, where it fits.
+fn given(packet: &Packet<'_>, remote: &mut Address, data: &mut [u8]) -> i64
+    ensures { GivesIcmp (icmp_packet_of packet.now) remote.old «data».old result remote.new «data».new }
+{
     let count = packet.len();
     if data.len() < count {
         return ERROR_ROOM;
@@ -221,141 +280,144 @@ fn heard(
     count as i64
 }
 
-fn is_for(socket: &Socket<'_>, moment: &Moment, packet: &Packet<'_>) -> bool
-    ensures { IsTrue result ↔ AcceptsIcmp socket.now (facts_in moment.now.cx) (icmp_packet_of packet.now) }
-{
-    match packet {
-        Packet::V4(ip, repr) => socket.accepts_v4(moment, ip, repr),
-        Packet::V6(ip, repr) => socket.accepts_v6(moment, ip, repr),
-    }
-}
-
-impl Packet<'_> {
-    fn remote(&self) -> IpAddress
-        ensures { result ≡ remote_of (icmp_packet_of self.now) }
-    {
-        match self {
-            Packet::V4(ip, _) => IpAddress::Ipv4(ip.src_addr),
-            Packet::V6(ip, _) => IpAddress::Ipv6(ip.src_addr),
-        }
-    }
-
-    fn len(&self) -> usize
-        ensures { result ≡ count_of (icmp_packet_of self.now) }
-    {
-        match self {
-            Packet::V4(_, repr) => repr.buffer_len(),
-            Packet::V6(_, repr) => repr.buffer_len(),
-        }
-    }
-
-    // Writes the message, with its checksum.
-    fn put(&self, out: &mut [u8])
-        requires { length out.old ≡ count_of (icmp_packet_of self.now) }
-        ensures { out.new ≡ octets_of (icmp_packet_of self.now) }
-    {
-        let caps = ChecksumCapabilities::default();
-        match self {
-            Packet::V4(_, repr) => repr.emit(out, &caps),
-            Packet::V6(ip, repr) => repr.emit(&ip.src_addr, &ip.dst_addr, out, &caps),
-        }
-    }
-}
-
-/// Writes a message of these bytes to `remote` as an IP packet at the beginning of `out`, with its checksum, and
-/// answers the packet's length.
+/// Puts a message of these bytes to `remote` into the transmit queue, as an IP packet, with its checksum. 0.
 ///
 /// `ERROR_ADDRESS` where the address is unspecified, `ERROR_MESSAGE` where the bytes are no echo and no error of the
-/// address's version, `ERROR_ROOM` where the packet is longer than `out` or than 65535 bytes; `ERROR_CONTEXT`. `out` is
-/// as it was then. The socket need not be open.
+/// address's version, `ERROR_ROOM` where the packet finds no room in the queue or has more than 65535 bytes;
+/// `ERROR_CONTEXT`, `ERROR_SOCKET`. Nothing changes then. The socket need not be open.
 #[unsafe(no_mangle)]
 pub extern "C" fn smoltcp_icmp_send_checked(
-    s: &IcmpSocket,
+    s: &mut IcmpSocket<'_>,
     cx: &Cx,
     remote: &Address,
     data: &[u8],
-    out: &mut [u8],
 ) -> i64
-    ensures context { is_context cx.entry.now ≡ false → (result ≡ error_context) × (out.new ≡ out.old) }
-    ensures answer { is_context cx.entry.now ≡ true → result
-        ≡ sent_answer (icmp_in s.now) (facts_in cx.entry.now) (address_in remote.now) «data».now out.old }
-    ensures bytes { is_context cx.entry.now ≡ true → out.new
-        ≡ sent_bytes (icmp_in s.now) (facts_in cx.entry.now) (address_in remote.now) «data».now out.old }
+    ensures refused { (IsQueue s.old.tx → ⊥) → result ≡ error_socket }
+    ensures context { IsQueue s.old.tx → is_context cx.entry.now ≡ false → result ≡ error_context }
+    ensures answer { IsQueue s.old.tx → is_context cx.entry.now ≡ true → result
+        ≡ sent_answer (icmp_in s.old) (facts_in cx.entry.now) (address_in remote.now) «data».now s.old.tx }
+    ensures behind { IsQueue s.old.tx → is_context cx.entry.now ≡ true → queued s.new.tx
+        ≡ sent_behind (icmp_in s.old) (facts_in cx.entry.now) (address_in remote.now) «data».now s.old.tx }
+    ensures sound { IsQueue s.old.tx → IsQueue s.new.tx }
+    ensures failed { (n : ℕ) → result ≡ negsuc n → s.new ≡ s.old }
+    ensures same { s.new ≡ record s.old { tx = s.new.tx } }
 {
+    if !s.tx.is_sound() {
+        return ERROR_SOCKET;
+    }
     let Some(moment) = moment_in(cx) else {
         return ERROR_CONTEXT;
     };
-    sent(s, &moment, address_in(remote), data, out)
+    let socket = icmp_in(s);
+    sent(&socket, &moment, address_in(remote), data, &mut s.tx)
 }
 
-// Writes the packet, where the message may be sent so.
-fn sent(s: &IcmpSocket, moment: &Moment, remote: IpAddress, data: &[u8], out: &mut [u8]) -> i64
-    ensures answer { result ≡ sent_answer (icmp_in s.now) (facts_in moment.now.cx) remote «data».now out.old }
-    ensures bytes { out.new ≡ sent_bytes (icmp_in s.now) (facts_in moment.now.cx) remote «data».now out.old }
+// Puts the packet into the queue, where the message may be sent so.
+fn sent(
+    socket: &Socket<'_>,
+    moment: &Moment,
+    remote: IpAddress,
+    data: &[u8],
+    tx: &mut Queue<'_>,
+) -> i64
+    requires { IsQueue tx.old }
+    ensures answer { result ≡ sent_answer socket.now (facts_in moment.now.cx) remote «data».now tx.old }
+    ensures behind { queued tx.new ≡ sent_behind socket.now (facts_in moment.now.cx) remote «data».now tx.old }
+    ensures sound { IsQueue tx.new }
+    ensures failed { (n : ℕ) → result ≡ negsuc n → tx.new ≡ tx.old }
 {
     if remote.is_unspecified() {
         return ERROR_ADDRESS;
     }
-    put_if(icmp_in(s).prepared(moment, remote, data), out)
+    put_if(socket.prepared(moment, remote, data), tx)
 }
 
-// Writes the packet, if there is one.
-fn put_if(prepared: Option<(IpRepr, IcmpRepr<'_>)>, out: &mut [u8]) -> i64
+// Puts the packet into the queue, if there is one.
+fn put_if(prepared: Option<(IpRepr, IcmpRepr<'_>)>, tx: &mut Queue<'_>) -> i64
     requires counted { IfSome prepared (λ s. Counts s.0 (any_message s.1)) }
-    ensures answer { result ≡ written_answer (option_map outgoing_of prepared.entry) out.old }
-    ensures bytes { out.new ≡ written_bytes (option_map outgoing_of prepared.entry) out.old }
+    requires sound { IsQueue tx.old }
+    ensures answer { result ≡ put_message_answer (option_map outgoing_of prepared.entry) tx.old }
+    ensures behind { queued tx.new ≡ put_message_behind (option_map outgoing_of prepared.entry) tx.old }
+    ensures sound { IsQueue tx.new }
+    ensures failed { (n : ℕ) → result ≡ negsuc n → tx.new ≡ tx.old }
 {
     match prepared {
         None => ERROR_MESSAGE,
-        Some((ip, repr)) => put_message(&ip, &repr, out),
+        Some((ip, repr)) => put_message(&ip, &repr, tx),
     }
 }
 
-// Writes the packet, where it fits.
-fn put_message(ip: &IpRepr, repr: &IcmpRepr<'_>, out: &mut [u8]) -> i64
+// Puts the packet into the queue, where it finds room.
+#[tactic(auto, unfolding(crate::specs::Queue::has_room))]
+fn put_message(ip: &IpRepr, repr: &IcmpRepr<'_>, tx: &mut Queue<'_>) -> i64
     requires counted { Counts ip.now (any_message repr.now) }
-    ensures answer { result ≡ written_answer (Some (outgoing_of (ip.now, repr.now))) out.old }
-    ensures bytes { out.new ≡ written_bytes (Some (outgoing_of (ip.now, repr.now))) out.old }
+    requires sound { IsQueue tx.old }
+    ensures answer { result ≡ put_message_answer (Some (outgoing_of (ip.now, repr.now))) tx.old }
+    ensures behind { queued tx.new ≡ put_message_behind (Some (outgoing_of (ip.now, repr.now))) tx.old }
+    ensures sound { IsQueue tx.new }
+    ensures failed { (n : ℕ) → result ≡ negsuc n → tx.new ≡ tx.old }
 {
     if ip.payload_len() > LONGEST_PACKET {
         return ERROR_ROOM;
     }
     let whole = ip.header_len() + ip.payload_len();
-    if whole > out.len().min(LONGEST_PACKET) {
+    if !tx.has_room(whole) {
         return ERROR_ROOM;
     }
-    write(ip, repr, &mut out[..whole]);
-    whole as i64
+    tx.make_room(whole);
+    append(ip, repr, whole, tx);
+    OK
 }
 
-fn write(ip: &IpRepr, repr: &IcmpRepr<'_>, out: &mut [u8])
+// Puts the packet into the room behind the others.
+fn append(ip: &IpRepr, repr: &IcmpRepr<'_>, whole: usize, tx: &mut Queue<'_>)
     requires counted { Counts ip.now (any_message repr.now) }
-    requires room { length out.old ≡ packet_len ip.now }
-    ensures { out.new ≡ icmp_packet ip.now (any_message repr.now) }
+    requires whole { whole ≡ packet_len ip.now }
+    requires sound { IsQueue tx.old }
+    requires room { tx.old.end + (2 + whole) ≤ tx.old.size }
+    ensures sound { IsQueue tx.new }
+    ensures behind { queued tx.new ≡ queued tx.old ++ frame (icmp_packet ip.now (any_message repr.now)) }
 {
-    match (ip, repr) {
-        (IpRepr::Ipv4(_), IcmpRepr::Ipv4(repr)) => write_v4(ip, repr, out),
-        (IpRepr::Ipv6(header), IcmpRepr::Ipv6(repr)) => write_v6(ip, header, repr, out),
-        _ => {}
-    }
+    let at = tx.end + 2;
+    write_at(ip, repr, whole, tx.bytes, at);
+    tx.join(whole);
 }
 
-fn write_v4(ip: &IpRepr, repr: &Icmpv4Repr<'_>, out: &mut [u8])
-    requires { length out.old ≡ header_len_of ip.now + message_len 20 (message_v4 repr.now) }
-    ensures { out.new ≡ header_octets true ip.now ++ octets_v4 (message_v4 repr.now) }
+/// Copies the first packet of the transmit queue to the beginning of `out`, and answers its length; the packet leaves.
+/// 0 where none waits.
+///
+/// `ERROR_ROOM` where `out` is shorter than the packet; `ERROR_SOCKET`. Nothing changes then.
+#[unsafe(no_mangle)]
+pub extern "C" fn smoltcp_icmp_dispatch_checked(s: &mut IcmpSocket<'_>, out: &mut [u8]) -> i64
+    ensures packet { Dispatches s.old.tx out.old result s.new.tx out.new }
+    ensures same { s.new ≡ record s.old { tx = s.new.tx } }
 {
-    let caps = ChecksumCapabilities::default();
-    ip.emit(out, &caps);
-    let start = ip.header_len();
-    repr.emit(&mut out[start..], &caps);
+    s.tx.dispatch(out)
 }
 
-fn write_v6(ip: &IpRepr, header: &Ipv6Repr, repr: &Icmpv6Repr<'_>, out: &mut [u8])
-    requires { length out.old ≡ header_len_of ip.now + message_len 40 (message_v6 repr.now) }
-    ensures { out.new ≡ header_octets true ip.now ++ octets_v6 header.now (message_v6 repr.now) }
+/// When the socket wants its next dispatch: where a packet waits, writes the context's moment into `at`, and answers 0;
+/// else 1. `at` is then as it was, as with the errors `ERROR_CONTEXT` and `ERROR_SOCKET`.
+#[unsafe(no_mangle)]
+pub extern "C" fn smoltcp_icmp_poll_at_checked(s: &IcmpSocket<'_>, cx: &Cx, at: &mut i64) -> i64
+    ensures { Polls s.now.tx cx.entry.now at.old result at.new }
 {
-    let caps = ChecksumCapabilities::default();
-    ip.emit(out, &caps);
-    let start = ip.header_len();
-    repr.emit(&header.src_addr, &header.dst_addr, &mut out[start..], &caps);
+    s.tx.poll_at(cx, at)
+}
+
+/// 1 where `recv` would find a packet, else 0; `ERROR_SOCKET`.
+#[unsafe(no_mangle)]
+pub extern "C" fn smoltcp_icmp_can_recv_checked(s: &IcmpSocket<'_>) -> i64
+    ensures refused { (IsQueue s.now.rx → ⊥) → result ≡ error_socket }
+    ensures answer { IsQueue s.now.rx → result ≡ flag_answer (waits s.now.rx) }
+{
+    s.rx.can_give()
+}
+
+/// 1 where a message of 8 bytes over IPv6 would find room in the transmit queue, else 0; `ERROR_SOCKET`.
+#[unsafe(no_mangle)]
+pub extern "C" fn smoltcp_icmp_can_send_checked(s: &IcmpSocket<'_>) -> i64
+    ensures refused { (IsQueue s.now.tx → ⊥) → result ≡ error_socket }
+    ensures answer { IsQueue s.now.tx → result ≡ flag_answer (has_room s.now.tx 48) }
+{
+    s.tx.can_take()
 }

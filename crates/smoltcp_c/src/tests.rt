@@ -2,16 +2,22 @@
 //! an echo go from one host to the other.
 ghost use Rattle.std.specs.Prelude.{◌≤◌, ◌^◌, length};
 
-use crate::answers::{ERROR_ADDRESS, ERROR_CONTEXT, ERROR_MESSAGE, ERROR_ROOM, NOT_ACCEPTED, OK};
+use crate::answers::{
+    ERROR_ADDRESS, ERROR_CONTEXT, ERROR_EMPTY, ERROR_MESSAGE, ERROR_ROOM, ERROR_SOCKET,
+    NOT_ACCEPTED, OK,
+};
 use crate::context::Cx;
 use crate::contexts::{smoltcp_tcp_connect_checked, smoltcp_tcp_poll_at_checked};
 use crate::endpoints::{Address, Endpoint};
 use crate::fields::fields_of;
 use crate::icmp::{
-    IcmpEndpoint, IcmpSocket, smoltcp_icmp_bind_checked, smoltcp_icmp_close_checked,
-    smoltcp_icmp_process_checked, smoltcp_icmp_send_checked,
+    IcmpEndpoint, IcmpSocket, smoltcp_icmp_bind_checked, smoltcp_icmp_can_recv_checked,
+    smoltcp_icmp_can_send_checked, smoltcp_icmp_close_checked, smoltcp_icmp_dispatch_checked,
+    smoltcp_icmp_init_checked, smoltcp_icmp_poll_at_checked, smoltcp_icmp_process_checked,
+    smoltcp_icmp_recv_checked, smoltcp_icmp_send_checked,
 };
 use crate::packets::{smoltcp_tcp_dispatch_checked, smoltcp_tcp_process_checked};
+use crate::queue::Queue;
 use crate::settings::smoltcp_tcp_set_congestion_control_checked;
 use crate::socket::{TcpSocket, closed_over};
 use crate::tcp::{
@@ -19,8 +25,10 @@ use crate::tcp::{
     smoltcp_tcp_recv_checked, smoltcp_tcp_send_checked, smoltcp_tcp_state_checked,
 };
 use crate::udp::{
-    UdpNumbers, UdpSocket, smoltcp_udp_bind_checked, smoltcp_udp_close_checked,
-    smoltcp_udp_process_checked, smoltcp_udp_send_checked,
+    UdpNumbers, UdpSocket, smoltcp_udp_bind_checked, smoltcp_udp_can_recv_checked,
+    smoltcp_udp_can_send_checked, smoltcp_udp_close_checked, smoltcp_udp_dispatch_checked,
+    smoltcp_udp_init_checked, smoltcp_udp_poll_at_checked, smoltcp_udp_process_checked,
+    smoltcp_udp_recv_checked, smoltcp_udp_send_checked,
 };
 
 const MTU: usize = 1500;
@@ -171,87 +179,160 @@ fn two_sockets_talk(rt: HostRuntime) {
     assert!(rt; ends(&mut a));
 }
 
-fn closed_udp() -> UdpSocket {
+fn queue<'b>(bytes: &'b mut [u8]) -> Queue<'b> {
+    Queue {
+        bytes,
+        size: 0,
+        start: 0,
+        end: 0,
+    }
+}
+
+fn udp<'b>(rx: &'b mut [u8], tx: &'b mut [u8]) -> UdpSocket<'b> {
     UdpSocket {
+        rx: queue(rx),
+        tx: queue(tx),
         endpoint: endpoint(0, 0),
         hop_limit: 0,
     }
 }
 
-// A datagram between these sockets, whose hosts' addresses end in 1 and 2: the payload's length, or an error.
-fn datagram(from: &UdpSocket, to: &UdpSocket, meta: &mut UdpNumbers, data: &mut [u8]) -> i64 {
-    let mut packet = [0u8; MTU];
-    let len = smoltcp_udp_send_checked(from, &context(1, 0), meta, b"a question", &mut packet);
-    if len < 0 {
-        return len;
-    }
-    smoltcp_udp_process_checked(to, &context(2, 0), packet_in(&packet, len), meta, data)
-}
-
-// To an open socket and port, to a buffer that is too short, and from and to a closed socket.
-fn datagrams() -> bool {
-    let (mut client, mut server) = (closed_udp(), closed_udp());
-    let mut meta = UdpNumbers {
+fn metadata() -> UdpNumbers {
+    UdpNumbers {
         endpoint: endpoint(2, 53),
         local_address: endpoint(1, 0).addr,
-    };
+    }
+}
+
+// A datagram from one socket to the other, whose hosts' addresses end in 1 and 2: what `process` answers, or an error.
+fn datagram(from: &mut UdpSocket<'_>, to: &mut UdpSocket<'_>) -> i64 {
+    let mut packet = [0u8; MTU];
+    let sent = smoltcp_udp_send_checked(from, &context(1, 0), &metadata(), b"a question");
+    if sent < 0 {
+        return sent;
+    }
+    let len = smoltcp_udp_dispatch_checked(from, &mut packet);
+    smoltcp_udp_process_checked(to, &context(2, 0), packet_in(&packet, len))
+}
+
+// Whether the next datagram is read, and where it came from.
+fn answers(server: &mut UdpSocket<'_>) -> bool {
     let mut data = [0u8; 16];
-    datagram(&client, &server, &mut meta, &mut data) == ERROR_ADDRESS
-        && smoltcp_udp_bind_checked(&mut client, &endpoint(1, 49152)) == OK
-        && datagram(&client, &server, &mut meta, &mut data) == NOT_ACCEPTED
-        && smoltcp_udp_bind_checked(&mut server, &endpoint(2, 53)) == OK
-        && datagram(&client, &server, &mut meta, &mut [0u8; 9]) == ERROR_ROOM
-        && datagram(&client, &server, &mut meta, &mut data) == 10
+    let mut meta = metadata();
+    smoltcp_udp_recv_checked(server, &mut meta, &mut data) == 10
         && data.starts_with(b"a question")
         && meta.endpoint.port == 49152
-        && smoltcp_udp_close_checked(&mut server) == OK
 }
 
-// An echo request of one host to the other: the message's length, or an error.
-fn echo(from: &IcmpSocket, to: &IcmpSocket, message: &[u8], data: &mut [u8]) -> i64 {
-    let mut packet = [0u8; MTU];
-    let mut source = endpoint(0, 0).addr;
-    let len = smoltcp_icmp_send_checked(
-        from,
-        &context(1, 0),
-        &endpoint(2, 0).addr,
-        message,
-        &mut packet,
-    );
-    if len < 0 {
-        return len;
-    }
-    let packet = packet_in(&packet, len);
-    smoltcp_icmp_process_checked(to, &context(2, 0), packet, &mut source, data)
+fn reads_datagram(server: &mut UdpSocket<'_>, room: &mut [u8]) -> i64 {
+    smoltcp_udp_recv_checked(server, &mut metadata(), room)
 }
 
-// A request, which arrives with its checksum; one for another identifier; and what is no message.
-fn echoes() -> bool {
-    let mut socket = IcmpSocket {
-        bound: IcmpEndpoint {
-            kind: 0,
-            ident: 7,
-            endpoint: endpoint(0, 0),
-        },
+// Both are open.
+fn bound(client: &mut UdpSocket<'_>, server: &mut UdpSocket<'_>) -> bool {
+    smoltcp_udp_init_checked(client) == OK
+        && smoltcp_udp_init_checked(server) == OK
+        && datagram(client, server) == ERROR_ADDRESS
+        && smoltcp_udp_bind_checked(client, &endpoint(1, 49152)) == OK
+        && datagram(client, server) == NOT_ACCEPTED
+        && smoltcp_udp_bind_checked(server, &endpoint(2, 53)) == OK
+}
+
+// The receive queue has room for two datagrams: the third is dropped. One of the two is lost to a short buffer.
+fn datagrams(client: &mut UdpSocket<'_>, server: &mut UdpSocket<'_>) -> bool {
+    bound(client, server)
+        && datagram(client, server) == OK
+        && datagram(client, server) == OK
+        && datagram(client, server) == ERROR_ROOM
+        && smoltcp_udp_can_recv_checked(server) == 1
+        && reads_datagram(server, &mut [0u8; 9]) == ERROR_ROOM
+        && datagram(client, server) == OK
+        && answers(server)
+        && answers(server)
+        && reads_datagram(server, &mut [0u8; 9]) == ERROR_EMPTY
+}
+
+// What waits to be emitted, and what C broke.
+fn queues(client: &mut UdpSocket<'_>) -> bool {
+    let (mut at, mut out) = (0, [0u8; 38]);
+    smoltcp_udp_can_send_checked(client) == 1
+        && smoltcp_udp_poll_at_checked(client, &context(1, 5), &mut at) == 1
+        && smoltcp_udp_send_checked(client, &context(1, 5), &metadata(), b"a question") == OK
+        && smoltcp_udp_poll_at_checked(client, &context(1, 5), &mut at) == OK
+        && at == 5
+        && smoltcp_udp_dispatch_checked(client, &mut [0u8; 37]) == ERROR_ROOM
+        && smoltcp_udp_dispatch_checked(client, &mut out) == 38
+        && smoltcp_udp_close_checked(client) == OK
+}
+
+fn is_refused(broken: &mut UdpSocket<'_>) -> bool {
+    broken.tx.end = 1000;
+    smoltcp_udp_dispatch_checked(broken, &mut [0u8; 4]) == ERROR_SOCKET
+}
+
+fn icmp<'b>(rx: &'b mut [u8], tx: &'b mut [u8]) -> IcmpSocket<'b> {
+    IcmpSocket {
+        rx: queue(rx),
+        tx: queue(tx),
+        bound: ident(),
         hop_limit: 1,
-    };
-    let ident = IcmpEndpoint {
+    }
+}
+
+fn ident() -> IcmpEndpoint {
+    IcmpEndpoint {
         kind: 1,
         ident: 7,
         endpoint: endpoint(0, 0),
-    };
+    }
+}
+
+// An echo request of the socket to itself: what `process` answers, or an error.
+fn echo(socket: &mut IcmpSocket<'_>, message: &[u8]) -> i64 {
+    let mut packet = [0u8; MTU];
+    let sent = smoltcp_icmp_send_checked(socket, &context(1, 0), &endpoint(2, 0).addr, message);
+    if sent < 0 {
+        return sent;
+    }
+    let len = smoltcp_icmp_dispatch_checked(socket, &mut packet);
+    smoltcp_icmp_process_checked(socket, &context(2, 0), packet_in(&packet, len))
+}
+
+fn reads_echo(socket: &mut IcmpSocket<'_>) -> bool {
     let mut data = [0u8; 16];
-    smoltcp_icmp_bind_checked(&mut socket, &ident) == OK
-        && echo(&socket, &socket, &[8, 0, 0, 0, 0, 7, 0, 1], &mut data) == 8
+    let mut source = endpoint(0, 0).addr;
+    smoltcp_icmp_recv_checked(socket, &mut source, &mut data) == 8
         && data.starts_with(&[8, 0, 0xf7, 0xf7, 0, 7, 0, 1])
-        && echo(&socket, &socket, &[8, 0, 0, 0, 0, 8, 0, 1], &mut data) == NOT_ACCEPTED
-        && echo(&socket, &socket, &[8, 0, 0], &mut data) == ERROR_MESSAGE
-        && smoltcp_icmp_close_checked(&mut socket) == OK
-        && echo(&socket, &socket, &[8, 0, 0, 0, 0, 7, 0, 1], &mut data) == NOT_ACCEPTED
+        && source.v4 == [10, 0, 0, 1]
+}
+
+// A request, which arrives with its checksum; one for another identifier; and what is no message.
+fn echoes(socket: &mut IcmpSocket<'_>) -> bool {
+    smoltcp_icmp_init_checked(socket) == OK
+        && smoltcp_icmp_bind_checked(socket, &ident()) == OK
+        && smoltcp_icmp_can_send_checked(socket) == 1
+        && echo(socket, &[8, 0, 0, 0, 0, 7, 0, 1]) == OK
+        && smoltcp_icmp_can_recv_checked(socket) == 1
+        && reads_echo(socket)
+        && echo(socket, &[8, 0, 0, 0, 0, 8, 0, 1]) == NOT_ACCEPTED
+        && echo(socket, &[8, 0, 0]) == ERROR_MESSAGE
+        && smoltcp_icmp_poll_at_checked(socket, &context(1, 0), &mut 0) == 1
+        && smoltcp_icmp_close_checked(socket) == OK
+        && echo(socket, &[8, 0, 0, 0, 0, 7, 0, 1]) == NOT_ACCEPTED
 }
 
 #[test]
-fn datagrams_and_echoes_come_over(rt: HostRuntime) {
-    assert!(rt; datagrams());
-    assert!(rt; echoes());
+fn datagrams_come_over(rt: HostRuntime) {
+    let (mut rx, mut tx, mut a_rx, mut a_tx) = ([0u8; 80], [0u8; 100], [0u8; 80], [0u8; 100]);
+    let mut server = udp(&mut rx, &mut tx);
+    let mut client = udp(&mut a_rx, &mut a_tx);
+    assert!(rt; datagrams(&mut client, &mut server));
+    assert!(rt; queues(&mut client));
+    assert!(rt; is_refused(&mut client));
+}
+
+#[test]
+fn echoes_come_over(rt: HostRuntime) {
+    let (mut rx, mut tx) = ([0u8; 80], [0u8; 80]);
+    assert!(rt; echoes(&mut icmp(&mut rx, &mut tx)));
 }
