@@ -1,11 +1,9 @@
 //! Runs a script over two TCP sockets and prints what each of its lines came to.
 #![tactic(auto)]
 
-mod streams;
-
-use crate::streams::{Input, Output};
 use script_program::fault::{Fault, exit_code, fault_of};
 use script_program::input::{print, read_script};
+use script_program::streams::{Input, Output};
 use sock_pair::script::replay;
 use std::io::BufWriter;
 use std::process::ExitCode;
@@ -74,24 +72,3 @@ fn is_help(word: &Option<String>) -> bool {
         None => false,
     }
 }
-
-#[cfg(test)]
-mod advice_tests;
-#[cfg(test)]
-mod closing_tests;
-#[cfg(test)]
-mod memory_tests;
-#[cfg(test)]
-mod pair_tests;
-#[cfg(test)]
-mod process_tests;
-#[cfg(test)]
-mod script_tests;
-#[cfg(test)]
-mod stall_tests;
-#[cfg(test)]
-mod stream_tests;
-#[cfg(test)]
-mod tests;
-#[cfg(test)]
-mod timer_tests;

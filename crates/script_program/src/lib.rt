@@ -4,3 +4,4 @@
 pub mod advice;
 pub mod fault;
 pub mod input;
+pub mod streams;

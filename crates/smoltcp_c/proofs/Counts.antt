@@ -4,7 +4,7 @@ use Rattle.sock_core.specs.Received.{room_of}
 use Rattle.sock_tcp.specs.Queues.{Reads, may_recv, readable, recv_refusal}
 use Rattle.sock_tcp.specs.View.{View}
 use Rattle.sock_tcp.specs.declared.error.RecvError.{RecvError}
-use Rattle.smoltcp_c.specs.Answers.{UpTo30}
+use Rattle.c_structs.specs.Answers.{UpTo30}
 
 pub recv_small : (v : View) (bs bs' : List ℕ) (r : Result ℕ RecvError) (w : View) → room_of v.rx_buffer ≤ 2 ^ 30 → Reads v bs r w bs' → UpTo30 r
 recv_small v bs bs' r w small h = by (may_recv v) (readable v (length bs)) (recv_refusal v) r h.answer (omega (arith, small))

@@ -6,10 +6,10 @@ use Rattle.sock_tcp.specs.Parts.{socket_of}
 use Rattle.sock_tcp.specs.View.{View}
 use Rattle.sock_tcp.specs.declared.parts.Parts.{Parts}
 use Rattle.smoltcp_c.specs.Packets.{Hears, DispatchesInto}
-use Rattle.smoltcp_c.specs.Socket.{parts_held, socket_by, held}
-use Rattle.smoltcp_c.specs.declared.clock.Clock.{Clock}
-use Rattle.smoltcp_c.specs.declared.context.Cx.{Cx}
-use Rattle.smoltcp_c.specs.declared.socket.TcpSocket.{TcpSocket}
+use Rattle.c_structs.specs.Socket.{parts_held, socket_by, held}
+use Rattle.c_structs.specs.declared.clock.Clock.{Clock}
+use Rattle.c_structs.specs.declared.context.Cx.{Cx}
+use Rattle.c_structs.specs.declared.socket.TcpSocket.{TcpSocket}
 
 -- the socket of the parts is the one that is held
 pub held_is : (s : TcpSocket) (parts : Parts) (u v : View) → u ≡ socket_of parts s.rx.now s.tx.now → Some parts ≡ parts_held s → held s ≡ Some v → u ≡ v

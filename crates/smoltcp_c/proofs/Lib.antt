@@ -1,5 +1,4 @@
 mod Counts
-mod Framing
 mod Replies
 mod Told
 mod Emitting

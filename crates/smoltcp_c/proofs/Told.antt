@@ -1,15 +1,15 @@
 -- Equal contexts, packets and answers of a UDP or an ICMP socket are told alike.
-use Rattle.std.proofs.Common.{◌≡◌, ℤ, ℕ, List, Bool, false, Option, Some, None, sym, subst}
+use Rattle.std.proofs.Common.{◌≡◌, ℤ, ℕ, List, Bool, false, Some, None, sym, subst}
 use Rattle.std.specs.Prelude.{IsTrue, ◌↔◌}
 use Rattle.segment_wire.specs.Packet.{UdpPacket}
 use Rattle.sock_core.specs.Facts.{Facts}
 use Rattle.sock_dgram.specs.Icmp as icmp_view
 use Rattle.sock_dgram.specs.Udp as udp_view
-use Rattle.smoltcp_c.specs.Context.{facts_in}
+use Rattle.c_structs.specs.Context.{facts_in}
 use Rattle.smoltcp_c.specs.Icmp as icmp
 use Rattle.smoltcp_c.specs.Udp as udp
-use Rattle.smoltcp_c.specs.declared.context.Cx.{Cx}
-use Rattle.smoltcp_c.specs.declared.endpoints.Address.{Address}
+use Rattle.c_structs.specs.declared.context.Cx.{Cx}
+use Rattle.c_structs.specs.declared.endpoints.Address.{Address}
 use Rattle.smoltcp_c.specs.declared.udp.UdpNumbers.{UdpNumbers}
 
 -- nothing is no packet for a socket

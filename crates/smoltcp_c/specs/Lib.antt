@@ -1,10 +1,3 @@
-pub mod Numbers
-pub mod Fields
-pub mod Socket
-pub mod Answers
-pub mod Context
-pub mod Wire
 pub mod Packets
-pub mod Queue
 pub mod Udp
 pub mod Icmp

@@ -1,5 +1,5 @@
 -- The calls that ask for a context, and those that take and give packets.
-use Rattle.std.specs.Prelude.{ℕ, ℤ, pos, ◌≡◌, nat_le, Bool, true, List, drop, length, Option, Some, None, is_some, option_map, Result, if◌then◌else◌}
+use Rattle.std.specs.Prelude.{ℕ, ℤ, pos, ◌≡◌, nat_le, Bool, true, List, length, Option, Some, None, is_some, option_map, Result, if◌then◌else◌}
 use Rattle.ip_wire.specs.declared.repr.IpRepr.{IpRepr}
 use Rattle.control_wire.specs.Segment.{Segment}
 use Rattle.control_wire.specs.declared.tcp.TcpControl.{TcpControl}
@@ -19,13 +19,13 @@ use Rattle.sock_tcp.specs.Sent.{left_by}
 use Rattle.sock_tcp.specs.View.{View, moment_of}
 use Rattle.sock_tcp.specs.declared.error.ConnectError.{ConnectError}
 use Rattle.sock_tcp.specs.declared.tuple.Tuple.{Tuple}
-use Rattle.smoltcp_c.specs.Answers.{error_room, not_accepted}
-use Rattle.smoltcp_c.specs.Context.{facts_in}
-use Rattle.smoltcp_c.specs.Numbers.{endpoint_in, listen_in}
-use Rattle.smoltcp_c.specs.Wire.{packet_len, with_packet}
-use Rattle.smoltcp_c.specs.declared.clock.Clock.{Clock}
-use Rattle.smoltcp_c.specs.declared.context.Cx.{Cx}
-use Rattle.smoltcp_c.specs.declared.endpoints.Endpoint.{Endpoint}
+use Rattle.c_structs.specs.Answers.{error_room, not_accepted}
+use Rattle.c_structs.specs.Context.{facts_in}
+use Rattle.c_structs.specs.Numbers.{endpoint_in, listen_in}
+use Rattle.c_structs.specs.Wire.{packet_len, with_packet}
+use Rattle.c_structs.specs.declared.clock.Clock.{Clock}
+use Rattle.c_structs.specs.declared.context.Cx.{Cx}
+use Rattle.c_structs.specs.declared.endpoints.Endpoint.{Endpoint}
 
 -- ---- connect
 

@@ -3,17 +3,17 @@ ghost use Rattle.std.specs.Prelude.{◌≡◌, None, Some, true, false};
 ghost use Rattle.sock_tcp.specs.Opening.{after_connect, connect_answer as answer_of};
 ghost use Rattle.sock_tcp.specs.Poll.{poll_moment};
 ghost use Rattle.sock_tcp.specs.View.{View};
-ghost use Rattle.smoltcp_c.specs.Answers.{Refused, connect_answer, error_context, error_socket};
-ghost use Rattle.smoltcp_c.specs.Context.{facts_in, is_context};
-ghost use Rattle.smoltcp_c.specs.Numbers.{flag_in};
+ghost use Rattle.c_structs.specs.Answers.{Refused, connect_answer, error_context, error_socket};
+ghost use Rattle.c_structs.specs.Context.{facts_in, is_context};
+ghost use Rattle.c_structs.specs.Numbers.{flag_in};
 ghost use Rattle.smoltcp_c.specs.Packets.{ends_in, poll_answer, poll_written};
-ghost use Rattle.smoltcp_c.specs.Socket.{held};
+ghost use Rattle.c_structs.specs.Socket.{held};
 
-use crate::answers::{ERROR_CONTEXT, ERROR_SOCKET, OK, connect_answer};
-use crate::clock::Clock;
-use crate::context::{Cx, Moment, moment_in};
-use crate::endpoints::{Endpoint, endpoint_in, listen_in};
-use crate::socket::{TcpSocket, parts_held, put, take};
+use c_structs::answers::{ERROR_CONTEXT, ERROR_SOCKET, OK, connect_answer};
+use c_structs::clock::Clock;
+use c_structs::context::{Cx, Moment, moment_in};
+use c_structs::endpoints::{Endpoint, endpoint_in, listen_in};
+use c_structs::socket::{TcpSocket, parts_held, put, take};
 use sock_core::PollAt;
 use sock_tcp::Socket;
 

@@ -2,21 +2,12 @@
 //! keeps anything elsewhere, or calls back.
 #![tactic(auto)]
 
-mod answers;
-mod clock;
-mod context;
 mod contexts;
-mod endpoints;
-mod fields;
 mod icmp;
 mod message;
-mod numbers;
 mod packets;
-mod queue;
 mod settings;
-mod socket;
 mod tcp;
 #[cfg(test)]
 mod tests;
 mod udp;
-mod wire;

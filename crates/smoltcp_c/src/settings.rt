@@ -7,13 +7,13 @@ ghost use Rattle.sock_tcp.specs.Parts.{is_short};
 ghost use Rattle.sock_tcp.specs.Settings.{of_kind};
 ghost use Rattle.sock_tcp.specs.View.{IsShort, View};
 ghost use Rattle.sock_tcp.specs.declared.settings.CongestionControl.{CongestionControl};
-ghost use Rattle.smoltcp_c.specs.Answers.{IsDone, Refused, error_range};
-ghost use Rattle.smoltcp_c.specs.Numbers.{byte_or_none, control_by, flag_in, lasting, micros_in};
-ghost use Rattle.smoltcp_c.specs.Socket.{held};
+ghost use Rattle.c_structs.specs.Answers.{IsDone, Refused, error_range};
+ghost use Rattle.c_structs.specs.Numbers.{byte_or_none, control_by, flag_in, lasting, micros_in};
+ghost use Rattle.c_structs.specs.Socket.{held};
 
-use crate::answers::{ERROR_RANGE, ERROR_SOCKET, OK};
-use crate::numbers::flag_in;
-use crate::socket::{TcpSocket, parts_held, put, take};
+use c_structs::answers::{ERROR_RANGE, ERROR_SOCKET, OK};
+use c_structs::numbers::flag_in;
+use c_structs::socket::{TcpSocket, parts_held, put, take};
 use net_base::time::Duration;
 use sock_tcp::CongestionControl;
 
@@ -42,7 +42,7 @@ fn is_short(duration: Option<Duration>) -> bool
 }
 
 // None above the longest.
-#[tactic(auto, unfolding(crate::specs::Numbers::lasting))]
+#[tactic(auto, unfolding(c_structs::specs::Numbers::lasting))]
 fn lasting(micros: i64) -> Option<Option<Duration>>
     ensures value { result ≡ lasting micros }
     ensures short { IfSome result IsShort }
@@ -167,7 +167,7 @@ pub extern "C" fn smoltcp_tcp_set_hop_limit_checked(s: &mut TcpSocket<'_>, hop_l
 }
 
 // The kind with this number.
-#[tactic(auto, unfolding(crate::specs::Numbers::control_by))]
+#[tactic(auto, unfolding(c_structs::specs::Numbers::control_by))]
 fn control_by(kind: u32) -> Option<CongestionControl>
     ensures { result ≡ control_by kind }
 {

@@ -7,15 +7,15 @@ ghost use Rattle.sock_tcp.specs.Opening.{Listens};
 ghost use Rattle.sock_tcp.specs.Queues.{can_send, can_recv, Sends, Reads};
 ghost use Rattle.sock_tcp.specs.Queue.{queue_of};
 ghost use Rattle.sock_tcp.specs.View.{View, fresh};
-ghost use Rattle.smoltcp_c.specs.Answers.{Calls, Refused, listen_answer, send_answer, recv_answer, flag_answer, state_answer, error_socket};
-ghost use Rattle.smoltcp_c.specs.Numbers.{flag_in, listen_in};
-ghost use Rattle.smoltcp_c.specs.Socket.{held, is_long};
+ghost use Rattle.c_structs.specs.Answers.{Calls, Refused, listen_answer, send_answer, recv_answer, flag_answer, state_answer, error_socket};
+ghost use Rattle.c_structs.specs.Numbers.{flag_in, listen_in};
+ghost use Rattle.c_structs.specs.Socket.{held, is_long};
 
-use crate::answers::{
+use c_structs::answers::{
     ERROR_SOCKET, OK, flag_answer, listen_answer, recv_answer, send_answer, state_answer,
 };
-use crate::endpoints::{Endpoint, listen_in};
-use crate::socket::{LARGEST, TcpSocket, closed_over, parts_held, put, take};
+use c_structs::endpoints::{Endpoint, listen_in};
+use c_structs::socket::{LARGEST, TcpSocket, closed_over, parts_held, put, take};
 
 /// Waits for a peer on this endpoint. 0, or an error: `ERROR_ADDRESS` where the port is 0, `ERROR_STATE` where the
 /// socket is open but does not listen on this endpoint.

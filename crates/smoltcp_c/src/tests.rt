@@ -2,14 +2,7 @@
 //! an echo go from one host to the other.
 ghost use Rattle.std.specs.Prelude.{◌≤◌, ◌^◌, length};
 
-use crate::answers::{
-    ERROR_ADDRESS, ERROR_CONTEXT, ERROR_EMPTY, ERROR_MESSAGE, ERROR_ROOM, ERROR_SOCKET,
-    NOT_ACCEPTED, OK,
-};
-use crate::context::Cx;
 use crate::contexts::{smoltcp_tcp_connect_checked, smoltcp_tcp_poll_at_checked};
-use crate::endpoints::{Address, Endpoint};
-use crate::fields::fields_of;
 use crate::icmp::{
     IcmpEndpoint, IcmpSocket, smoltcp_icmp_bind_checked, smoltcp_icmp_can_recv_checked,
     smoltcp_icmp_can_send_checked, smoltcp_icmp_close_checked, smoltcp_icmp_dispatch_checked,
@@ -17,9 +10,7 @@ use crate::icmp::{
     smoltcp_icmp_recv_checked, smoltcp_icmp_send_checked,
 };
 use crate::packets::{smoltcp_tcp_dispatch_checked, smoltcp_tcp_process_checked};
-use crate::queue::Queue;
 use crate::settings::smoltcp_tcp_set_congestion_control_checked;
-use crate::socket::{TcpSocket, closed_over};
 use crate::tcp::{
     smoltcp_tcp_close_checked, smoltcp_tcp_init_checked, smoltcp_tcp_listen_checked,
     smoltcp_tcp_recv_checked, smoltcp_tcp_send_checked, smoltcp_tcp_state_checked,
@@ -30,6 +21,15 @@ use crate::udp::{
     smoltcp_udp_init_checked, smoltcp_udp_poll_at_checked, smoltcp_udp_process_checked,
     smoltcp_udp_recv_checked, smoltcp_udp_send_checked,
 };
+use c_structs::answers::{
+    ERROR_ADDRESS, ERROR_CONTEXT, ERROR_EMPTY, ERROR_MESSAGE, ERROR_ROOM, ERROR_SOCKET,
+    NOT_ACCEPTED, OK,
+};
+use c_structs::context::Cx;
+use c_structs::endpoints::{Address, Endpoint};
+use c_structs::fields::fields_of;
+use c_structs::queue::Queue;
+use c_structs::socket::{TcpSocket, closed_over};
 
 const MTU: usize = 1500;
 
@@ -115,15 +115,18 @@ fn run(a: &mut TcpSocket<'_>, b: &mut TcpSocket<'_>, second: u8) -> bool {
 
 // Both are open.
 fn opens(a: &mut TcpSocket<'_>, b: &mut TcpSocket<'_>) -> bool {
-    smoltcp_tcp_init_checked(a) == OK
-        && smoltcp_tcp_init_checked(b) == OK
-        && smoltcp_tcp_set_congestion_control_checked(a, 0) == OK
-        && smoltcp_tcp_listen_checked(b, &endpoint(2, 7)) == OK
-        && smoltcp_tcp_connect_checked(a, &context(1, 0), &endpoint(2, 7), &endpoint(1, 49152))
-            == OK
-        && run(a, b, 0)
-        && smoltcp_tcp_state_checked(a) == ESTABLISHED
-        && smoltcp_tcp_state_checked(b) == ESTABLISHED
+    let answers = [
+        smoltcp_tcp_init_checked(a),
+        smoltcp_tcp_init_checked(b),
+        smoltcp_tcp_set_congestion_control_checked(a, 0),
+        smoltcp_tcp_listen_checked(b, &endpoint(2, 7)),
+        smoltcp_tcp_connect_checked(a, &context(1, 0), &endpoint(2, 7), &endpoint(1, 49152)),
+    ];
+    answers == [OK; 5] && run(a, b, 0) && states(a, b) == [ESTABLISHED; 2]
+}
+
+fn states(a: &TcpSocket<'_>, b: &TcpSocket<'_>) -> [i64; 2] {
+    [smoltcp_tcp_state_checked(a), smoltcp_tcp_state_checked(b)]
 }
 
 fn sends(socket: &mut TcpSocket<'_>) -> bool {
@@ -137,13 +140,13 @@ fn reads(socket: &mut TcpSocket<'_>) -> bool {
 
 // One closes, and then the other.
 fn closes(a: &mut TcpSocket<'_>, b: &mut TcpSocket<'_>) -> bool {
-    smoltcp_tcp_close_checked(a) == OK
-        && run(a, b, 3)
-        && smoltcp_tcp_state_checked(b) == CLOSE_WAIT
-        && smoltcp_tcp_close_checked(b) == OK
-        && run(a, b, 4)
-        && smoltcp_tcp_state_checked(b) == CLOSED
-        && smoltcp_tcp_state_checked(a) == TIME_WAIT
+    let first = (
+        smoltcp_tcp_close_checked(a),
+        run(a, b, 3),
+        smoltcp_tcp_state_checked(b),
+    );
+    let second = (smoltcp_tcp_close_checked(b), run(a, b, 4), states(a, b));
+    first == (OK, true, CLOSE_WAIT) && second == (OK, true, [TIME_WAIT, CLOSED])
 }
 
 // TIME-WAIT ends ten seconds later, and nothing is wanted after that.
@@ -165,18 +168,29 @@ fn refuses(a: &mut TcpSocket<'_>) -> bool {
         && smoltcp_tcp_process_checked(a, &context(1, 0), b"", &mut reply) == NOT_ACCEPTED
 }
 
+// Both open, send a line each, close and end; what is wrong in between is refused.
+fn talk(a: &mut TcpSocket<'_>, b: &mut TcpSocket<'_>) -> [bool; 10] {
+    [
+        opens(a, b),
+        sends(a),
+        run(a, b, 1),
+        reads(b),
+        sends(b),
+        run(a, b, 2),
+        reads(a),
+        refuses(a),
+        closes(a, b),
+        ends(a),
+    ]
+}
+
 #[test]
 fn two_sockets_talk(rt: HostRuntime) {
     let (mut a_rx, mut a_tx) = ([0u8; 64], [0u8; 64]);
     let (mut b_rx, mut b_tx) = ([0u8; 64], [0u8; 64]);
     let mut a = made(&mut a_rx, &mut a_tx);
     let mut b = made(&mut b_rx, &mut b_tx);
-    assert!(rt; opens(&mut a, &mut b));
-    assert!(rt; sends(&mut a) && run(&mut a, &mut b, 1) && reads(&mut b));
-    assert!(rt; sends(&mut b) && run(&mut a, &mut b, 2) && reads(&mut a));
-    assert!(rt; refuses(&mut a));
-    assert!(rt; closes(&mut a, &mut b));
-    assert!(rt; ends(&mut a));
+    assert!(rt; talk(&mut a, &mut b) == [true; 10]);
 }
 
 fn queue<'b>(bytes: &'b mut [u8]) -> Queue<'b> {
@@ -240,29 +254,35 @@ fn bound(client: &mut UdpSocket<'_>, server: &mut UdpSocket<'_>) -> bool {
 
 // The receive queue has room for two datagrams: the third is dropped. One of the two is lost to a short buffer.
 fn datagrams(client: &mut UdpSocket<'_>, server: &mut UdpSocket<'_>) -> bool {
-    bound(client, server)
-        && datagram(client, server) == OK
-        && datagram(client, server) == OK
-        && datagram(client, server) == ERROR_ROOM
-        && smoltcp_udp_can_recv_checked(server) == 1
-        && reads_datagram(server, &mut [0u8; 9]) == ERROR_ROOM
-        && datagram(client, server) == OK
-        && answers(server)
-        && answers(server)
-        && reads_datagram(server, &mut [0u8; 9]) == ERROR_EMPTY
+    let sent = [
+        datagram(client, server),
+        datagram(client, server),
+        datagram(client, server),
+        smoltcp_udp_can_recv_checked(server),
+        reads_datagram(server, &mut [0u8; 9]),
+        datagram(client, server),
+    ];
+    let read = (
+        answers(server),
+        answers(server),
+        reads_datagram(server, &mut [0u8; 9]),
+    );
+    sent == [OK, OK, ERROR_ROOM, 1, ERROR_ROOM, OK] && read == (true, true, ERROR_EMPTY)
 }
 
 // What waits to be emitted, and what C broke.
 fn queues(client: &mut UdpSocket<'_>) -> bool {
     let (mut at, mut out) = (0, [0u8; 38]);
-    smoltcp_udp_can_send_checked(client) == 1
-        && smoltcp_udp_poll_at_checked(client, &context(1, 5), &mut at) == 1
-        && smoltcp_udp_send_checked(client, &context(1, 5), &metadata(), b"a question") == OK
-        && smoltcp_udp_poll_at_checked(client, &context(1, 5), &mut at) == OK
-        && at == 5
-        && smoltcp_udp_dispatch_checked(client, &mut [0u8; 37]) == ERROR_ROOM
-        && smoltcp_udp_dispatch_checked(client, &mut out) == 38
-        && smoltcp_udp_close_checked(client) == OK
+    let answers = [
+        smoltcp_udp_can_send_checked(client),
+        smoltcp_udp_poll_at_checked(client, &context(1, 5), &mut at),
+        smoltcp_udp_send_checked(client, &context(1, 5), &metadata(), b"a question"),
+        smoltcp_udp_poll_at_checked(client, &context(1, 5), &mut at),
+        smoltcp_udp_dispatch_checked(client, &mut [0u8; 37]),
+        smoltcp_udp_dispatch_checked(client, &mut out),
+        smoltcp_udp_close_checked(client),
+    ];
+    answers == [1, 1, OK, OK, ERROR_ROOM, 38, OK] && at == 5
 }
 
 fn is_refused(broken: &mut UdpSocket<'_>) -> bool {
@@ -308,17 +328,23 @@ fn reads_echo(socket: &mut IcmpSocket<'_>) -> bool {
 
 // A request, which arrives with its checksum; one for another identifier; and what is no message.
 fn echoes(socket: &mut IcmpSocket<'_>) -> bool {
-    smoltcp_icmp_init_checked(socket) == OK
-        && smoltcp_icmp_bind_checked(socket, &ident()) == OK
-        && smoltcp_icmp_can_send_checked(socket) == 1
-        && echo(socket, &[8, 0, 0, 0, 0, 7, 0, 1]) == OK
-        && smoltcp_icmp_can_recv_checked(socket) == 1
-        && reads_echo(socket)
-        && echo(socket, &[8, 0, 0, 0, 0, 8, 0, 1]) == NOT_ACCEPTED
-        && echo(socket, &[8, 0, 0]) == ERROR_MESSAGE
-        && smoltcp_icmp_poll_at_checked(socket, &context(1, 0), &mut 0) == 1
-        && smoltcp_icmp_close_checked(socket) == OK
-        && echo(socket, &[8, 0, 0, 0, 0, 7, 0, 1]) == NOT_ACCEPTED
+    let first = [
+        smoltcp_icmp_init_checked(socket),
+        smoltcp_icmp_bind_checked(socket, &ident()),
+        smoltcp_icmp_can_send_checked(socket),
+        echo(socket, &[8, 0, 0, 0, 0, 7, 0, 1]),
+        smoltcp_icmp_can_recv_checked(socket),
+    ];
+    let is_read = reads_echo(socket);
+    let others = [
+        echo(socket, &[8, 0, 0, 0, 0, 8, 0, 1]),
+        echo(socket, &[8, 0, 0]),
+        smoltcp_icmp_poll_at_checked(socket, &context(1, 0), &mut 0),
+        smoltcp_icmp_close_checked(socket),
+        echo(socket, &[8, 0, 0, 0, 0, 7, 0, 1]),
+    ];
+    (first, is_read) == ([OK, OK, 1, OK, 1], true)
+        && others == [NOT_ACCEPTED, ERROR_MESSAGE, 1, OK, NOT_ACCEPTED]
 }
 
 #[test]
@@ -326,9 +352,9 @@ fn datagrams_come_over(rt: HostRuntime) {
     let (mut rx, mut tx, mut a_rx, mut a_tx) = ([0u8; 80], [0u8; 100], [0u8; 80], [0u8; 100]);
     let mut server = udp(&mut rx, &mut tx);
     let mut client = udp(&mut a_rx, &mut a_tx);
-    assert!(rt; datagrams(&mut client, &mut server));
-    assert!(rt; queues(&mut client));
-    assert!(rt; is_refused(&mut client));
+    let is_bound = bound(&mut client, &mut server);
+    assert!(rt; is_bound && datagrams(&mut client, &mut server));
+    assert!(rt; [queues(&mut client), is_refused(&mut client)] == [true; 2]);
 }
 
 #[test]

@@ -9,8 +9,6 @@ pub mod laws;
 pub mod socket;
 pub mod storage;
 pub mod tcp;
-#[cfg(test)]
-mod tests;
 pub mod time;
 pub mod wire;
 

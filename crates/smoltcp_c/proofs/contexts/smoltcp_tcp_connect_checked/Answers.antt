@@ -1,6 +1,6 @@
 use Rattle.std.proofs.Common.{◌≡◌, Some, refl, rules, ap, ◌∙◌, to_z, of_z, w64}
 use Rattle.sock_tcp.specs.Opening.{after_connect, connect_answer as answer_of}
-use Rattle.smoltcp_c.specs.Answers.{connect_answer}
+use Rattle.c_structs.specs.Answers.{connect_answer}
 use Rattle.smoltcp_c.specs.Packets.{ends_in}
 use Rattle.smoltcp_c.proofs.Held.{held_is}
 use Rattle.smoltcp_c.proofs.contexts.smoltcp_tcp_connect_checked.Goals as goal

@@ -1,6 +1,6 @@
 use Rattle.std.proofs.Common.{◌≡◌, refl, rules, ◌∙◌, to_z, of_z, w64}
 use Rattle.sock_tcp.specs.Poll.{poll_moment}
-use Rattle.smoltcp_c.specs.Context.{facts_in}
+use Rattle.c_structs.specs.Context.{facts_in}
 use Rattle.smoltcp_c.specs.Packets.{poll_answer, poll_written}
 use Rattle.smoltcp_c.proofs.Held.{held_is}
 use Rattle.smoltcp_c.proofs.contexts.smoltcp_tcp_poll_at_checked.Goals as goal

@@ -1,4 +1,4 @@
-use Rattle.std.proofs.Common.{◌≡◌, ap, refl, rules, ◌∙◌, to_z, of_z, w64}
+use Rattle.std.proofs.Common.{◌≡◌, ap, rules, ◌∙◌, to_z, of_z, w64}
 use Rattle.std.proofs.lemmas.Option.{same_Some}
 use Rattle.smoltcp_c.specs.Icmp.{first_message, icmp_packet_of}
 use Rattle.smoltcp_c.proofs.Told.{icmp_given_at}

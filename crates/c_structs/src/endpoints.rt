@@ -1,0 +1,154 @@
+//! Addresses and endpoints as numbers.
+ghost use Rattle.std.specs.Prelude.{◌≡◌, ◌==◌, false};
+ghost use Rattle.c_structs.specs.Numbers.{address_in, endpoint_in, listen_in, tuple_in};
+
+use ip_wire::{IpAddress, IpEndpoint, IpListenEndpoint, Ipv4Address, Ipv6Address};
+use sock_tcp::tuple::Tuple;
+
+/// An address: none where `version` is 0, `v4` where it is 4, else `v6`.
+#[repr(C)]
+#[derive(Clone, Copy)]
+pub struct Address {
+    pub version: u8,
+    pub v4: [u8; 4],
+    pub v6: [u8; 16],
+}
+
+/// An address and a port.
+#[repr(C)]
+#[derive(Clone, Copy)]
+pub struct Endpoint {
+    pub addr: Address,
+    pub port: u16,
+}
+
+/// The two ends of a connection, or none where `is_some` is 0.
+#[repr(C)]
+#[derive(Clone, Copy)]
+pub struct Ends {
+    pub is_some: u16,
+    pub local: Endpoint,
+    pub remote: Endpoint,
+}
+
+const NO_ADDRESS: Address = Address {
+    version: 0,
+    v4: [0; 4],
+    v6: [0; 16],
+};
+
+pub fn address_in(n: &Address) -> IpAddress
+    ensures { result ≡ address_in n.now }
+{
+    if n.version == 4 {
+        return IpAddress::Ipv4(Ipv4Address(n.v4));
+    }
+    IpAddress::Ipv6(Ipv6Address(n.v6))
+}
+
+pub fn address_of(address: IpAddress) -> Address
+    ensures value { address_in result ≡ address }
+    ensures some { (result.version == 0) ≡ false }
+{
+    match address {
+        IpAddress::Ipv4(address) => {
+            let v4 = address.0;
+            Address {
+                version: 4,
+                v4,
+                v6: [0; 16],
+            }
+        }
+        IpAddress::Ipv6(address) => {
+            let v6 = address.0;
+            Address {
+                version: 6,
+                v4: [0; 4],
+                v6,
+            }
+        }
+    }
+}
+
+pub fn endpoint_in(n: &Endpoint) -> IpEndpoint
+    ensures { result ≡ endpoint_in n.now }
+{
+    IpEndpoint {
+        addr: address_in(&n.addr),
+        port: n.port,
+    }
+}
+
+pub fn endpoint_of(endpoint: IpEndpoint) -> Endpoint
+    ensures { endpoint_in result ≡ endpoint }
+{
+    Endpoint {
+        addr: address_of(endpoint.addr),
+        port: endpoint.port,
+    }
+}
+
+pub fn listen_in(n: &Endpoint) -> IpListenEndpoint
+    ensures { result ≡ listen_in n.now }
+{
+    if n.addr.version == 0 {
+        return IpListenEndpoint {
+            addr: None,
+            port: n.port,
+        };
+    }
+    IpListenEndpoint {
+        addr: Some(address_in(&n.addr)),
+        port: n.port,
+    }
+}
+
+pub fn listen_of(endpoint: IpListenEndpoint) -> Endpoint
+    ensures { listen_in result ≡ endpoint }
+{
+    match endpoint.addr {
+        None => Endpoint {
+            addr: NO_ADDRESS,
+            port: endpoint.port,
+        },
+        Some(address) => Endpoint {
+            addr: address_of(address),
+            port: endpoint.port,
+        },
+    }
+}
+
+pub fn tuple_in(n: &Ends) -> Option<Tuple>
+    ensures { result ≡ tuple_in n.now }
+{
+    if n.is_some == 0 {
+        return None;
+    }
+    Some(Tuple {
+        local: endpoint_in(&n.local),
+        remote: endpoint_in(&n.remote),
+    })
+}
+
+/// No address, and port 0.
+pub const NO_ENDPOINT: Endpoint = Endpoint {
+    addr: NO_ADDRESS,
+    port: 0,
+};
+
+pub fn tuple_of(tuple: Option<Tuple>) -> Ends
+    ensures { tuple_in result ≡ tuple }
+{
+    match tuple {
+        None => Ends {
+            is_some: 0,
+            local: NO_ENDPOINT,
+            remote: NO_ENDPOINT,
+        },
+        Some(tuple) => Ends {
+            is_some: 1,
+            local: endpoint_of(tuple.local),
+            remote: endpoint_of(tuple.remote),
+        },
+    }
+}

@@ -1,0 +1,175 @@
+//! How each connection of `examples/stall_*.script` falls asleep with work to do, and what wakes it.
+use crate::pair_tests::{Room, happens, plays, sets};
+use crate::replays::OPENING;
+use net_base::time::{Duration, Instant};
+use sock_core::PollAt;
+use sock_pair::{Event, Interval, Moment, Outcome, Pair, Setting, Side};
+use sock_tcp::State;
+use std::alloc::Global;
+use std::process::Abort;
+use std::test::Fail;
+
+const FIN: &str = "deliver 1 2000 0\nclose b\ndispatch b 2001\ndeliver 3 2001 0\ndeliver 3 2001 0\n\
+    deliver 3 2001 0\ndeliver 3 2001 0\ndispatch b 2010\ndispatch b 5000\n";
+
+const WINDOW: &str = "send a abcd\ndispatch a 10\ndeliver 3 20 0\ndispatch b 30\nrecv b 4\n\
+    dispatch b 40\ndeliver 5 50 0\nsend a efg\ndispatch a 60\ndeliver 4 70 0\ndispatch a 5000\n";
+
+const PROBE: &str =
+    "send a z\ndispatch a 10\ndeliver 3 20 0\nrecv b 1\ndispatch b 40\ndeliver 4 50 0\n\
+    send a abcdefgh\ndispatch a 60\nsend a ijk\ndeliver 3 70 0\ndeliver 6 71 0\ndeliver 6 72 0\n\
+    deliver 6 73 0\ndispatch a 80\ndeliver 5 90 0\ndispatch b 100\ndeliver 8 110 0\nrecv b 3\n\
+    dispatch b 120\ndeliver 9 130 0\nrecv b 5\ndispatch b 140\ndeliver 10 150 0\ndispatch a 5000\n";
+
+const SYN: &str = "connect a 1000\nconnect b 5000\ndispatch a 0\ndispatch b 0\ndeliver 0 10 0\n\
+    dispatch b 20\nfail a 2000\ndeliver 1 2010 0\ndeliver 2 2020 0\ndeliver 3 2030 0\ndispatch a 5000\n";
+
+// A moment in seconds.
+fn at(secs: u16) -> Moment {
+    Moment::new(Instant::from_secs(secs as i64), 0, true, 1500)
+}
+
+// What a dispatch of the side at so many seconds comes to.
+fn sends(rt: &(impl Abort), pair: &mut Pair<'_>, side: Side, secs: u16, outcome: Outcome) {
+    let moment = at(secs);
+    let fail = false;
+    happens(rt, pair, &Event::Dispatch { side, moment, fail }, outcome);
+}
+
+// What a delivery comes to.
+fn comes(rt: &(impl Abort), pair: &mut Pair<'_>, index: usize, secs: u16, reply: Option<usize>) {
+    let moment = at(secs);
+    happens(
+        rt,
+        pair,
+        &Event::Deliver { index, moment },
+        Outcome::Delivered(reply),
+    );
+}
+
+// Neither side waits for anything but a segment, and this one has work to do.
+fn sleeps(pair: &Pair<'_>, side: Side) -> bool {
+    pair.socket(side).has_work()
+        && pair.socket(Side::A).poll_at(&at(1000)) == PollAt::Ingress
+        && pair.socket(Side::B).poll_at(&at(1000)) == PollAt::Ingress
+}
+
+// Plays the lines, at the end of which this side sleeps.
+fn falls_asleep(
+    rt: &(impl Abort),
+    pair: &mut Pair<'_>,
+    alloc: Global,
+    lines: (&str, &str),
+    side: Side,
+) -> Result<(), Fail> {
+    let text = format!(in alloc; "pair 1 1 1 1 -\n{}{}", lines.0, lines.1)?;
+    plays(pair, alloc, text.as_str())?;
+    assert!(rt; sleeps(pair, side));
+    Ok(())
+}
+
+fn second() -> Interval {
+    Interval::new(Some(Duration::from_secs(1)))
+}
+
+// The fast retransmission of nothing left its mark, so what a keep-alive is due for goes out as the FIN.
+fn fin_goes(rt: &(impl Abort), pair: &mut Pair<'_>) {
+    sets(rt, pair, Side::B, Setting::KeepAlive(second()));
+    sends(rt, pair, Side::B, 1000, Outcome::Emitted(5));
+    comes(rt, pair, 5, 1000, None);
+    assert!(rt; pair.socket(Side::A).state() == State::CloseWait);
+}
+
+#[test]
+fn lost_fin_sleeps_until_a_keep_alive(rt: HostRuntime) -> Result<(), Fail> {
+    let mut room = Room::new();
+    let mut pair = room.plain_pair(rt.alloc());
+    falls_asleep(&rt, &mut pair, rt.alloc(), (OPENING, FIN), Side::B)?;
+    fin_goes(&rt, &mut pair);
+    Ok(())
+}
+
+fn gives_up(rt: &(impl Abort), pair: &mut Pair<'_>) {
+    sets(rt, pair, Side::B, Setting::Timeout(second()));
+    assert!(rt;
+        pair.socket(Side::B).poll_at(&at(1000)) == PollAt::Time(Instant::from_millis(3001))
+    );
+    sends(rt, pair, Side::B, 1000, Outcome::Emitted(5));
+    assert!(rt; pair.socket(Side::B).state() == State::Closed);
+}
+
+#[test]
+fn lost_fin_sleeps_until_a_timeout(rt: HostRuntime) -> Result<(), Fail> {
+    let mut room = Room::new();
+    let mut pair = room.plain_pair(rt.alloc());
+    falls_asleep(&rt, &mut pair, rt.alloc(), (OPENING, FIN), Side::B)?;
+    gives_up(&rt, &mut pair);
+    Ok(())
+}
+
+// The answer to a keep-alive tells the window, and the bytes go out.
+fn window_comes(rt: &(impl Abort), pair: &mut Pair<'_>) {
+    sets(rt, pair, Side::A, Setting::KeepAlive(second()));
+    sends(rt, pair, Side::A, 1000, Outcome::Emitted(7));
+    comes(rt, pair, 7, 1000, Some(8));
+    comes(rt, pair, 8, 1000, None);
+    sends(rt, pair, Side::A, 1000, Outcome::Emitted(9));
+    comes(rt, pair, 9, 1000, None);
+    assert!(rt; pair.taken(Side::B) == 7);
+}
+
+#[test]
+fn late_zero_window_sleeps_until_a_keep_alive(rt: HostRuntime) -> Result<(), Fail> {
+    let mut room = Room::new();
+    let mut pair = room.narrow_pair(rt.alloc(), 4);
+    falls_asleep(&rt, &mut pair, rt.alloc(), (OPENING, WINDOW), Side::A)?;
+    window_comes(&rt, &mut pair);
+    Ok(())
+}
+
+// A keep-alive of A and its answer, from this index on.
+fn is_answered(rt: &(impl Abort), pair: &mut Pair<'_>, secs: u16, index: usize) {
+    sends(rt, pair, Side::A, secs, Outcome::Emitted(index));
+    comes(rt, pair, index, secs, Some(index.saturating_add(1)));
+    comes(rt, pair, index.saturating_add(1), secs, None);
+}
+
+// The answers to three keep-alives are duplicates, and the bytes go out again.
+fn bytes_go(rt: &(impl Abort), pair: &mut Pair<'_>) {
+    sets(rt, pair, Side::A, Setting::KeepAlive(second()));
+    is_answered(rt, pair, 1000, 11);
+    is_answered(rt, pair, 1001, 13);
+    is_answered(rt, pair, 1002, 15);
+    sends(rt, pair, Side::A, 1002, Outcome::Emitted(17));
+    comes(rt, pair, 17, 1002, None);
+    assert!(rt; pair.taken(Side::B) == 12);
+}
+
+#[test]
+fn probe_in_place_of_retransmission_sleeps_until_three_keep_alives(
+    rt: HostRuntime,
+) -> Result<(), Fail> {
+    let mut room = Room::new();
+    let mut pair = room.narrow_pair(rt.alloc(), 8);
+    falls_asleep(&rt, &mut pair, rt.alloc(), (OPENING, PROBE), Side::A)?;
+    bytes_go(&rt, &mut pair);
+    Ok(())
+}
+
+// What the keep-alive is due for goes out as the SYN|ACK, and its answer opens the connection.
+fn syn_goes(rt: &(impl Abort), pair: &mut Pair<'_>) {
+    sets(rt, pair, Side::A, Setting::KeepAlive(second()));
+    sends(rt, pair, Side::A, 1000, Outcome::Emitted(4));
+    comes(rt, pair, 4, 1000, Some(5));
+    comes(rt, pair, 5, 1000, None);
+    assert!(rt; pair.socket(Side::A).state() == State::Established);
+}
+
+#[test]
+fn answered_syn_sleeps_until_a_keep_alive(rt: HostRuntime) -> Result<(), Fail> {
+    let mut room = Room::new();
+    let mut pair = room.plain_pair(rt.alloc());
+    falls_asleep(&rt, &mut pair, rt.alloc(), ("", SYN), Side::A)?;
+    syn_goes(&rt, &mut pair);
+    Ok(())
+}

@@ -1,0 +1,373 @@
+//! TCP sockets: which calls are refused and when, what goes in and out of their queues, and their settings.
+use crate::host::Host;
+use crate::tcp_calls::Tcp;
+use smoltcp_socket::PollAt;
+use smoltcp_socket::tcp::*;
+use smoltcp_socket::time::{Duration, Instant};
+use smoltcp_socket::wire::{
+    IpAddress, IpEndpoint, IpListenEndpoint, IpProtocol, IpRepr, Ipv4Address, TcpControl, TcpRepr,
+    TcpSeqNumber,
+};
+use std::process::Abort;
+use std::test::Fail;
+
+pub(crate) const A: IpEndpoint = IpEndpoint {
+    addr: IpAddress::Ipv4(Ipv4Address([10, 0, 0, 1])),
+    port: 49152,
+};
+
+pub(crate) const B: IpEndpoint = IpEndpoint {
+    addr: IpAddress::Ipv4(Ipv4Address([10, 0, 0, 2])),
+    port: 80,
+};
+
+pub(crate) fn at(endpoint: IpEndpoint) -> IpListenEndpoint {
+    IpListenEndpoint {
+        addr: Some(endpoint.addr),
+        port: endpoint.port,
+    }
+}
+
+fn any(port: u16) -> IpListenEndpoint {
+    IpListenEndpoint { addr: None, port }
+}
+
+// What `listen` answers to port 0, to a port, to the same once more, and to another.
+fn listens(socket: &mut Tcp<'_>) -> [Result<(), ListenError>; 4] {
+    [
+        socket.listen(any(0)),
+        socket.listen(any(80)),
+        socket.listen(any(80)),
+        socket.listen(any(81)),
+    ]
+}
+
+// Which calls of `listen` are refused, and what a listener shows.
+fn listens_once(rt: &(impl Abort), socket: &mut Tcp<'_>) {
+    let unaddressable = Err(ListenError::Unaddressable);
+    let other = Err(ListenError::InvalidState);
+    assert!(rt; listens(socket) == [unaddressable, Ok(()), Ok(()), other]);
+    assert!(rt; (socket.openness(), socket.listen_endpoint()) == ((true, true, false), any(80)));
+}
+
+// Connects to B at this port.
+fn dials(
+    socket: &mut Tcp<'_>,
+    cx: &mut Host,
+    port: u16,
+    local: IpListenEndpoint,
+) -> Result<(), ConnectError> {
+    let remote = IpEndpoint { addr: B.addr, port };
+    socket.connect(cx, remote, local)
+}
+
+// What `connect` answers to port 0, without an address that the context has, to a call that it takes, and after it.
+fn connects(socket: &mut Tcp<'_>, cx: &mut Host) -> [Result<(), ConnectError>; 4] {
+    [
+        dials(socket, cx, 0, at(A)),
+        dials(socket, cx, 80, any(49152)),
+        dials(socket, cx, 80, at(A)),
+        dials(socket, cx, 0, at(A)),
+    ]
+}
+
+// What a socket shows that connects from A to B.
+fn shows_its_peer(socket: &Tcp<'_>) -> bool {
+    let shown = (socket.state(), socket.endpoints(), socket.openness());
+    shown == (State::SynSent, (Some(A), Some(B)), (true, false, true))
+}
+
+// When it is to be asked again: at once, once its SYN is out, and with a timeout.
+fn waits_for_an_answer(socket: &mut Tcp<'_>, cx: &mut Host) -> [PollAt; 3] {
+    let first = socket.poll_at(cx);
+    let _ = emitted(socket, cx);
+    let second = socket.poll_at(cx);
+    socket.set_timeout(500);
+    [first, second, socket.poll_at(cx)]
+}
+
+// Which calls of `connect` are refused.
+fn connects_once(rt: &(impl Abort), socket: &mut Tcp<'_>, cx: &mut Host) {
+    let unaddressable = Err(ConnectError::Unaddressable);
+    let after = Err(ConnectError::InvalidState);
+    assert!(rt; connects(socket, cx) == [unaddressable, unaddressable, Ok(()), after]);
+    assert!(rt; shows_its_peer(socket));
+    // the retransmission timeout of a new socket is a second
+    let second = PollAt::Time(Instant::from_secs(1));
+    let half = PollAt::Time(Instant::from_millis(500));
+    assert!(rt; waits_for_an_answer(socket, cx) == [PollAt::Now, second, half]);
+}
+
+// Takes a segment where the socket accepts it.
+fn hear(socket: &mut Tcp<'_>, cx: &mut Host, ip_repr: &IpRepr, repr: &TcpRepr<'_>) -> bool {
+    if repr.payload.len() > 65535 || !socket.0.accepts(cx, ip_repr, repr) {
+        return false;
+    }
+    socket.0.process(cx, ip_repr, repr).is_none()
+}
+
+fn answer<'a>(control: TcpControl, seq: u32, payload: &'a [u8]) -> TcpRepr<'a> {
+    TcpRepr {
+        src_port: B.port,
+        dst_port: A.port,
+        control,
+        seq_number: TcpSeqNumber(seq),
+        ack_number: Some(TcpSeqNumber(1001)),
+        window_len: 64,
+        window_scale: None,
+        max_seg_size: None,
+        sack_permitted: false,
+        sack_ranges: [None; 3],
+        timestamp: None,
+        payload,
+    }
+}
+
+// The sequence number of what is emitted, and how many bytes it carries.
+pub(crate) fn emitted(socket: &mut Tcp<'_>, cx: &mut Host) -> Option<(u32, usize)> {
+    let mut seen = None;
+    let _ = socket
+        .0
+        .dispatch(cx, |_: &mut Host, sent: (IpRepr, TcpRepr<'_>)| {
+            seen = Some((sent.1.seq_number.0, sent.1.payload.len()));
+            Ok::<(), ()>(())
+        });
+    seen
+}
+
+fn reads(socket: &mut Tcp<'_>, want: &[u8]) -> bool {
+    let mut bytes = [0u8; 8];
+    match socket.recv_slice(&mut bytes) {
+        Ok(count) if count <= 8 => &bytes[..count] == want,
+        _ => false,
+    }
+}
+
+// Connects a new socket, by a SYN|ACK made by hand.
+pub(crate) fn establish(socket: &mut Tcp<'_>, cx: &mut Host) {
+    let ip_repr = IpRepr::new(B.addr, A.addr, IpProtocol::Tcp, 20, 64);
+    let _ = socket.connect(cx, B, at(A));
+    let _ = emitted(socket, cx);
+    let _ = hear(socket, cx, &ip_repr, &answer(TcpControl::Syn, 5000, &[]));
+}
+
+// Timeout, keep-alive and delay of acknowledgements of a socket, and its hop limit.
+type Settings = (
+    Option<Duration>,
+    Option<Duration>,
+    Option<Duration>,
+    Option<u8>,
+);
+
+fn settings(socket: &Tcp<'_>) -> Settings {
+    (
+        socket.0.timeout(),
+        socket.0.keep_alive(),
+        socket.0.ack_delay(),
+        socket.0.hop_limit(),
+    )
+}
+
+fn congestion(socket: &Tcp<'_>) -> (bool, CongestionControl) {
+    (socket.0.nagle_enabled(), socket.0.congestion_control())
+}
+
+fn change_all(socket: &mut Tcp<'_>) {
+    let second = Some(Duration::from_secs(1));
+    socket.0.set_timeout(second);
+    socket.0.set_ack_delay(None);
+    socket.0.set_nagle_enabled(false);
+    socket.0.set_keep_alive(second);
+    socket.0.set_hop_limit(Some(42));
+    socket.0.set_congestion_control(CongestionControl::None);
+    socket.0.pause_synack(true);
+}
+
+// Whether the settings are those that the user made.
+fn keeps_settings(socket: &mut Tcp<'_>) -> bool {
+    change_all(socket);
+    let second = Some(Duration::from_secs(1));
+    let want = (second, second, None, Some(42));
+    (settings(socket), congestion(socket)) == (want, (false, CongestionControl::None))
+}
+
+// How many bytes a closure is lent that takes none, for sending and for receiving.
+fn lent(socket: &mut Tcp<'_>) -> (Result<usize, SendError>, Result<usize, RecvError>) {
+    (
+        socket.0.send(|free| (0, free.len())),
+        socket.0.recv(|queue| (0, queue.len())),
+    )
+}
+
+// Queues "hi" by a closure that writes it to the free bytes.
+fn writes_hi(socket: &mut Tcp<'_>) -> Result<(), SendError> {
+    socket.0.send(|free| {
+        let count = free.len().min(2);
+        free[..count].copy_from_slice(&b"hi".as_slice()[..count]);
+        (count, ())
+    })
+}
+
+// Whether both peeks show what came, the first of them two bytes of it.
+fn peeks(socket: &mut Tcp<'_>, two: &[u8], all: &[u8]) -> bool {
+    let mut bytes = [0u8; 8];
+    matches!(socket.0.peek(2), Ok(seen) if seen == two)
+        && socket.0.peek_slice(&mut bytes) == Ok(all.len())
+        && bytes.starts_with(all)
+}
+
+// Takes the first byte by a closure.
+fn first_byte(socket: &mut Tcp<'_>) -> Result<Option<u8>, RecvError> {
+    socket
+        .0
+        .recv(|queue| (queue.len().min(1), queue.first().copied()))
+}
+
+// A closure takes nothing, another writes two bytes, and they go out.
+fn sends_by_a_closure(socket: &mut Tcp<'_>, cx: &mut Host) -> bool {
+    let calls = (lent(socket), writes_hi(socket), socket.sending());
+    let went_out = emitted(socket, cx);
+    calls == ((Ok(4), Ok(0)), Ok(()), (true, true, 4, 2)) && went_out == Some((1001, 2))
+}
+
+// Takes three bytes from the peer, which acknowledges two.
+fn hears_three(socket: &mut Tcp<'_>, cx: &mut Host) -> bool {
+    let ip_repr = IpRepr::new(B.addr, A.addr, IpProtocol::Tcp, 20, 64);
+    let mut data = answer(TcpControl::Psh, 5001, b"xyz");
+    data.ack_number = Some(TcpSeqNumber(1003));
+    hear(socket, cx, &ip_repr, &data)
+}
+
+// Peeks leave what came; a closure takes a byte, and a slice the others.
+fn reads_by_a_closure(socket: &mut Tcp<'_>) -> bool {
+    let came = socket.receiving();
+    let seen = (
+        peeks(socket, b"xy", b"xyz"),
+        first_byte(socket),
+        reads(socket, b"yz"),
+    );
+    let ends = (came, socket.receiving());
+    seen == (true, Ok(Some(b'x')), true) && ends == ((true, true, 4, 3), (true, false, 4, 0))
+}
+
+// No text, and one of which four bytes fit.
+fn writes_a_text(socket: &mut Tcp<'_>) -> bool {
+    let written = [socket.write_str(""), socket.write_str("hello")];
+    (written, socket.sending()) == ([true, false], (true, false, 4, 4))
+}
+
+// The state after a close by the user.
+fn closed(socket: &mut Tcp<'_>) -> State {
+    socket.close();
+    socket.state()
+}
+
+fn aborted(socket: &mut Tcp<'_>) -> State {
+    socket.abort();
+    socket.state()
+}
+
+// What sending and receiving answer, which take nothing.
+fn takes_no_more(socket: &mut Tcp<'_>) -> (Result<usize, SendError>, Result<usize, RecvError>) {
+    (
+        socket.send_slice(b"late"),
+        socket.0.recv(|queue| (0, queue.len())),
+    )
+}
+
+// The states after a close, another, and an abort, after which nothing goes.
+fn closes_and_aborts(socket: &mut Tcp<'_>) -> bool {
+    let states = [closed(socket), closed(socket), aborted(socket)];
+    let refused = (Err(SendError::InvalidState), Err(RecvError::InvalidState));
+    states == [State::FinWait1, State::FinWait1, State::Closed] && takes_no_more(socket) == refused
+}
+
+// All of these in turn, of a socket that is connected, and that it keeps to each.
+fn keeps_to_its_calls(socket: &mut Tcp<'_>, cx: &mut Host) -> [bool; 5] {
+    [
+        sends_by_a_closure(socket, cx),
+        hears_three(socket, cx),
+        reads_by_a_closure(socket),
+        writes_a_text(socket),
+        closes_and_aborts(socket),
+    ]
+}
+
+#[test]
+fn calls_on_a_connection(rt: HostRuntime) -> Result<(), Fail> {
+    let mut rx = [0u8; 4];
+    let mut tx = [0u8; 4];
+    let mut cx = Host::at(0, 1000);
+    let mut socket = Tcp::new(&mut rx, &mut tx);
+    establish(&mut socket, &mut cx);
+    assert!(rt; keeps_to_its_calls(&mut socket, &mut cx) == [true; 5]);
+    Ok(())
+}
+
+// The control bits, the number and the acknowledgement of an answer.
+type Answer = (TcpControl, u32, Option<TcpSeqNumber>);
+
+fn answer_of(repr: &TcpRepr<'_>) -> Answer {
+    (repr.control, repr.seq_number.0, repr.ack_number)
+}
+
+// The RST that answers a segment, if one does, with the endpoints that it goes between.
+fn rst_of(ip_repr: &IpRepr, repr: &TcpRepr<'_>) -> Option<(IpEndpoint, IpEndpoint, Answer)> {
+    if repr.payload.len() > 65535 || repr.control == TcpControl::Rst {
+        return None;
+    }
+    let (ip, rst) = Socket::rst_reply(ip_repr, repr);
+    let (addr, port) = (ip.src_addr(), rst.src_port);
+    let from = IpEndpoint { addr, port };
+    let (addr, port) = (ip.dst_addr(), rst.dst_port);
+    Some((from, IpEndpoint { addr, port }, answer_of(&rst)))
+}
+
+// A reply without content.
+fn reply_to(ip_repr: &IpRepr, repr: &TcpRepr<'_>) -> (Answer, usize, u8) {
+    let (ip, reply) = Socket::reply(ip_repr, repr);
+    (answer_of(&reply), ip.payload_len(), ip.hop_limit())
+}
+
+#[test]
+fn replies_turn_the_segment_round(rt: HostRuntime) -> Result<(), Fail> {
+    let ip_repr = IpRepr::new(B.addr, A.addr, IpProtocol::Tcp, 24, 255);
+    let mut syn = answer(TcpControl::Syn, 5000, &[]);
+    syn.ack_number = None;
+    let rst = (TcpControl::Rst, 0, Some(TcpSeqNumber(5001)));
+    assert!(rt; rst_of(&ip_repr, &syn) == Some((A, B, rst)));
+    let data = answer(TcpControl::None, 5001, b"x");
+    let rst = (TcpControl::Rst, 1001, None);
+    assert!(rt; rst_of(&ip_repr, &data) == Some((A, B, rst)));
+    assert!(rt; reply_to(&ip_repr, &syn) == ((TcpControl::None, 0, None), 20, 64));
+    Ok(())
+}
+
+pub(crate) fn clock() -> u32 {
+    7
+}
+
+fn timed(socket: &mut Tcp<'_>, is_there: bool) -> bool {
+    socket.set_clock(is_there);
+    socket.timestamp_enabled()
+}
+
+// Timestamps are enabled while there is a clock.
+fn shows_its_clock(socket: &mut Tcp<'_>) -> bool {
+    let before = socket.timestamp_enabled();
+    [before, timed(socket, true), timed(socket, false)] == [false, true, false]
+}
+
+#[test]
+fn calls_before_a_connection(rt: HostRuntime) -> Result<(), Fail> {
+    let mut rx = [0u8; 4];
+    let mut tx = [0u8; 4];
+    let mut cx = Host::at(0, 1000);
+    let mut socket = Tcp::new(&mut rx, &mut tx);
+    assert!(rt; shows_its_clock(&mut socket) && keeps_settings(&mut socket));
+    listens_once(&rt, &mut socket);
+    assert!(rt; closed(&mut socket) == State::Closed);
+    connects_once(&rt, &mut socket, &mut cx);
+    assert!(rt; closed(&mut socket) == State::Closed);
+    Ok(())
+}

@@ -1,0 +1,121 @@
+//! The calls of a TCP socket without their contracts. A test needs their answers alone, and its proof is then short.
+use crate::host::Host;
+use crate::tcp::clock;
+use smoltcp_socket::PollAt;
+use smoltcp_socket::storage::RingBuffer;
+use smoltcp_socket::tcp::*;
+use smoltcp_socket::time::Duration;
+use smoltcp_socket::wire::{IpEndpoint, IpListenEndpoint};
+use std::fmt::Write;
+
+#[derive(Drop)]
+pub(crate) struct Tcp<'a>(pub(crate) Socket<'a>);
+
+// More than any test needs, and less than a socket may have.
+const MOST: usize = 1 << 20;
+
+impl<'a> Tcp<'a> {
+    pub(crate) fn new(rx: &'a mut [u8], tx: &'a mut [u8]) -> Tcp<'a> {
+        let (rx_len, tx_len) = (rx.len().min(MOST), tx.len().min(MOST));
+        let rx_buffer = RingBuffer::new(&mut rx[..rx_len]);
+        let tx_buffer = RingBuffer::new(&mut tx[..tx_len]);
+        Tcp(Socket::new(rx_buffer, tx_buffer))
+    }
+
+    pub(crate) fn listen(&mut self, endpoint: IpListenEndpoint) -> Result<(), ListenError> {
+        self.0.listen(endpoint)
+    }
+
+    pub(crate) fn connect(
+        &mut self,
+        cx: &mut Host,
+        remote: IpEndpoint,
+        local: IpListenEndpoint,
+    ) -> Result<(), ConnectError> {
+        self.0.connect(cx, remote, local)
+    }
+
+    pub(crate) fn close(&mut self) {
+        self.0.close();
+    }
+
+    pub(crate) fn abort(&mut self) {
+        self.0.abort();
+    }
+
+    pub(crate) fn state(&self) -> State {
+        self.0.state()
+    }
+
+    // Whether the socket is open, listens, and is active.
+    pub(crate) fn openness(&self) -> (bool, bool, bool) {
+        (self.0.is_open(), self.0.is_listening(), self.0.is_active())
+    }
+
+    pub(crate) fn listen_endpoint(&self) -> IpListenEndpoint {
+        self.0.listen_endpoint()
+    }
+
+    pub(crate) fn endpoints(&self) -> (Option<IpEndpoint>, Option<IpEndpoint>) {
+        (self.0.local_endpoint(), self.0.remote_endpoint())
+    }
+
+    // Whether more may be sent, whether there is room for it, how much there is for all, and how many bytes wait.
+    pub(crate) fn sending(&self) -> (bool, bool, usize, usize) {
+        (
+            self.0.may_send(),
+            self.0.can_send(),
+            self.0.send_capacity(),
+            self.0.send_queue(),
+        )
+    }
+
+    // The same of what is received.
+    pub(crate) fn receiving(&self) -> (bool, bool, usize, usize) {
+        (
+            self.0.may_recv(),
+            self.0.can_recv(),
+            self.0.recv_capacity(),
+            self.0.recv_queue(),
+        )
+    }
+
+    pub(crate) fn send_slice(&mut self, data: &[u8]) -> Result<usize, SendError> {
+        self.0.send_slice(data)
+    }
+
+    pub(crate) fn recv_slice(&mut self, data: &mut [u8]) -> Result<usize, RecvError> {
+        self.0.recv_slice(data)
+    }
+
+    pub(crate) fn write_str(&mut self, text: &str) -> bool {
+        self.0.write_str(text).is_ok()
+    }
+
+    // A source of timestamps, or none.
+    pub(crate) fn set_clock(&mut self, is_there: bool) {
+        self.0
+            .set_tsval_generator(if is_there { Some(clock) } else { None });
+    }
+
+    pub(crate) fn timestamp_enabled(&self) -> bool {
+        self.0.timestamp_enabled()
+    }
+
+    pub(crate) fn set_timeout(&mut self, millis: u16) {
+        let duration = Duration::from_millis(millis as u64);
+        self.0.set_timeout(Some(duration));
+    }
+
+    pub(crate) fn set_nagle_enabled(&mut self, enabled: bool) {
+        self.0.set_nagle_enabled(enabled);
+    }
+
+    pub(crate) fn set_congestion_control(&mut self, control: CongestionControl) {
+        self.0.set_congestion_control(control);
+    }
+
+    pub(crate) fn poll_at(&self, cx: &Host) -> PollAt {
+        self.0.poll_at(cx)
+    }
+}
