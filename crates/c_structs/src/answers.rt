@@ -39,6 +39,7 @@ pub const ERROR_EMPTY: i64 = -11;
 /// The packet is not for this socket.
 pub const NOT_ACCEPTED: i64 = -8;
 
+/// The number for what `listen` answered: 0, `ERROR_STATE` or `ERROR_ADDRESS`.
 pub fn listen_answer(answer: Result<(), ListenError>) -> i64
     ensures { result ≡ listen_answer answer }
 {
@@ -49,6 +50,7 @@ pub fn listen_answer(answer: Result<(), ListenError>) -> i64
     }
 }
 
+/// The number for what `connect` answered: 0, `ERROR_STATE` or `ERROR_ADDRESS`.
 pub fn connect_answer(answer: Result<(), ConnectError>) -> i64
     ensures { result ≡ connect_answer answer }
 {
@@ -59,6 +61,7 @@ pub fn connect_answer(answer: Result<(), ConnectError>) -> i64
     }
 }
 
+/// The number for what `bind` of a UDP or ICMP socket answered: 0, `ERROR_STATE` or `ERROR_ADDRESS`.
 pub fn bind_answer(answer: Result<(), BindError>) -> i64
     ensures { result ≡ bind_answer answer }
 {
@@ -69,6 +72,7 @@ pub fn bind_answer(answer: Result<(), BindError>) -> i64
     }
 }
 
+/// The number for what `send` of a TCP socket answered: how many bytes it took, or `ERROR_STATE`.
 pub fn send_answer(answer: Result<usize, SendError>) -> i64
     requires { UpTo30 answer }
     ensures { result ≡ send_answer answer }
@@ -79,6 +83,7 @@ pub fn send_answer(answer: Result<usize, SendError>) -> i64
     }
 }
 
+/// The number for what `recv` of a TCP socket answered: how many bytes it gave, `ERROR_STATE`, or `ERROR_FINISHED`.
 pub fn recv_answer(answer: Result<usize, RecvError>) -> i64
     requires { UpTo30 answer }
     ensures { result ≡ recv_answer answer }
@@ -90,6 +95,8 @@ pub fn recv_answer(answer: Result<usize, RecvError>) -> i64
     }
 }
 
+/// The number for what `dispatch` of a TCP socket answered: how many bytes the packet has that it wrote, 0 where none
+/// was due, or `ERROR_ROOM`.
 pub fn sent_answer(answer: Result<(), Full>, len: usize) -> i64
     ensures { result ≡ sent_answer answer len }
 {
@@ -99,12 +106,14 @@ pub fn sent_answer(answer: Result<(), Full>, len: usize) -> i64
     }
 }
 
+/// 1 for true, 0 for false.
 pub fn flag_answer(flag: bool) -> i64
     ensures { result ≡ flag_answer flag }
 {
     if flag { 1 } else { 0 }
 }
 
+/// The number of a state: 0 for CLOSED to 10 for TIME-WAIT.
 pub fn state_answer(state: State) -> i64
     ensures { result ≡ state_answer state }
 {

@@ -37,6 +37,7 @@ const NO_ADDRESS: Address = Address {
     v6: [0; 16],
 };
 
+/// The address that the numbers stand for: of IPv4 where the version is 4, else of IPv6.
 pub fn address_in(n: &Address) -> IpAddress
     ensures { result ≡ address_in n.now }
 {
@@ -46,6 +47,7 @@ pub fn address_in(n: &Address) -> IpAddress
     IpAddress::Ipv6(Ipv6Address(n.v6))
 }
 
+/// The numbers for an address, with the version 4 or 6. The bytes of the other version are 0.
 pub fn address_of(address: IpAddress) -> Address
     ensures value { address_in result ≡ address }
     ensures some { (result.version == 0) ≡ false }
@@ -70,6 +72,7 @@ pub fn address_of(address: IpAddress) -> Address
     }
 }
 
+/// The endpoint that the numbers stand for, of any version.
 pub fn endpoint_in(n: &Endpoint) -> IpEndpoint
     ensures { result ≡ endpoint_in n.now }
 {
@@ -79,6 +82,7 @@ pub fn endpoint_in(n: &Endpoint) -> IpEndpoint
     }
 }
 
+/// The numbers for an endpoint.
 pub fn endpoint_of(endpoint: IpEndpoint) -> Endpoint
     ensures { endpoint_in result ≡ endpoint }
 {
@@ -88,6 +92,7 @@ pub fn endpoint_of(endpoint: IpEndpoint) -> Endpoint
     }
 }
 
+/// The endpoint that the numbers stand for, without an address where the version is 0.
 pub fn listen_in(n: &Endpoint) -> IpListenEndpoint
     ensures { result ≡ listen_in n.now }
 {
@@ -103,6 +108,7 @@ pub fn listen_in(n: &Endpoint) -> IpListenEndpoint
     }
 }
 
+/// The numbers for an endpoint, with the version 0 where it has no address.
 pub fn listen_of(endpoint: IpListenEndpoint) -> Endpoint
     ensures { listen_in result ≡ endpoint }
 {
@@ -118,6 +124,7 @@ pub fn listen_of(endpoint: IpListenEndpoint) -> Endpoint
     }
 }
 
+/// The two endpoints that the numbers stand for, or None where `is_some` is 0.
 pub fn tuple_in(n: &Ends) -> Option<Tuple>
     ensures { result ≡ tuple_in n.now }
 {
@@ -136,6 +143,7 @@ pub const NO_ENDPOINT: Endpoint = Endpoint {
     port: 0,
 };
 
+/// The numbers for the two endpoints of a connection, or for none, which are all 0.
 pub fn tuple_of(tuple: Option<Tuple>) -> Ends
     ensures { tuple_in result ≡ tuple }
 {

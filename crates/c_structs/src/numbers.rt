@@ -91,18 +91,21 @@ pub struct ControllerNumbers {
     pub ssthresh: usize,
 }
 
+/// Whether the number is not 0.
 pub fn flag_in(flag: u8) -> bool
     ensures { result ≡ flag_in flag }
 {
     flag != 0
 }
 
+/// 1 for true, 0 for false.
 pub fn flag_of(flag: bool) -> u8
     ensures { flag_in result ≡ flag }
 {
     if flag { 1 } else { 0 }
 }
 
+/// The number that stands there, or None where `is_some` is 0.
 pub fn byte_in(n: &OptionByte) -> Option<u8>
     ensures { result ≡ byte_in n.now }
 {
@@ -112,6 +115,7 @@ pub fn byte_in(n: &OptionByte) -> Option<u8>
     Some(n.value)
 }
 
+/// The numbers for a number of 8 bits, or for none, which are all 0.
 pub fn byte_of(byte: Option<u8>) -> OptionByte
     ensures { byte_in result ≡ byte }
 {
@@ -124,6 +128,7 @@ pub fn byte_of(byte: Option<u8>) -> OptionByte
     }
 }
 
+/// The sequence number that stands there, or None where `is_some` is 0.
 pub fn number_in(n: &OptionNumber) -> Option<TcpSeqNumber>
     ensures { result ≡ number_in n.now }
 {
@@ -133,6 +138,7 @@ pub fn number_in(n: &OptionNumber) -> Option<TcpSeqNumber>
     Some(TcpSeqNumber(n.value))
 }
 
+/// The numbers for a sequence number, or for none, which are all 0.
 pub fn number_of(number: Option<TcpSeqNumber>) -> OptionNumber
     ensures { number_in result ≡ number }
 {
@@ -148,6 +154,7 @@ pub fn number_of(number: Option<TcpSeqNumber>) -> OptionNumber
     }
 }
 
+/// The length of time in microseconds that stands there, or None where `is_some` is 0.
 pub fn duration_in(n: &OptionDuration) -> Option<Duration>
     ensures { result ≡ duration_in n.now }
 {
@@ -157,6 +164,7 @@ pub fn duration_in(n: &OptionDuration) -> Option<Duration>
     Some(Duration { micros: n.micros })
 }
 
+/// The numbers for a length of time, or for none, which are all 0.
 pub fn duration_of(duration: Option<Duration>) -> OptionDuration
     ensures { duration_in result ≡ duration }
 {
@@ -172,6 +180,7 @@ pub fn duration_of(duration: Option<Duration>) -> OptionDuration
     }
 }
 
+/// The moment in microseconds that stands there, or None where `is_some` is 0.
 pub fn moment_in(n: &OptionMoment) -> Option<Instant>
     ensures { result ≡ moment_in n.now }
 {
@@ -181,6 +190,7 @@ pub fn moment_in(n: &OptionMoment) -> Option<Instant>
     Some(Instant { micros: n.micros })
 }
 
+/// The numbers for a moment, or for none, which are all 0.
 pub fn moment_of(moment: Option<Instant>) -> OptionMoment
     ensures { moment_in result ≡ moment }
 {
@@ -196,6 +206,7 @@ pub fn moment_of(moment: Option<Instant>) -> OptionMoment
     }
 }
 
+/// The timer that the numbers stand for: a kind of 5 or more is the end of TIME-WAIT.
 pub fn timer_in(n: &TimerNumbers) -> Timer
     ensures { result ≡ timer_in n.now }
 {
@@ -235,6 +246,7 @@ fn timer_at(kind: u64, at: Instant) -> TimerNumbers
     }
 }
 
+/// The numbers for a timer: its kind, from 0 to 5, a moment and a length of time in microseconds, 0 where it has none.
 pub fn timer_of(timer: Timer) -> TimerNumbers
     ensures { timer_in result ≡ timer }
 {
@@ -256,6 +268,7 @@ pub fn timer_of(timer: Timer) -> TimerNumbers
     }
 }
 
+/// The timer of acknowledgements that the numbers stand for: a kind of 2 or more is one that is due at once.
 pub fn delay_in(n: &DelayNumbers) -> AckDelayTimer
     ensures { result ≡ delay_in n.now }
 {
@@ -268,6 +281,7 @@ pub fn delay_in(n: &DelayNumbers) -> AckDelayTimer
     AckDelayTimer::Immediate
 }
 
+/// The numbers for a timer of acknowledgements: its kind, from 0 to 2, and its moment in microseconds, or 0.
 pub fn delay_of(timer: AckDelayTimer) -> DelayNumbers
     ensures { delay_in result ≡ timer }
 {
@@ -281,6 +295,7 @@ pub fn delay_of(timer: AckDelayTimer) -> DelayNumbers
     }
 }
 
+/// The state of this number, from 0 for CLOSED to 9 for LAST-ACK, and TIME-WAIT for all others.
 pub fn state_in(number: u8) -> State
     ensures { result ≡ state_in number }
 {
@@ -317,6 +332,7 @@ pub fn state_in(number: u8) -> State
     State::TimeWait
 }
 
+/// The number of a state: 0 for CLOSED to 10 for TIME-WAIT.
 pub fn state_of(state: State) -> u8
     ensures { state_in result ≡ state }
 {
@@ -335,6 +351,7 @@ pub fn state_of(state: State) -> u8
     }
 }
 
+/// The measurement of round-trip times in milliseconds that stands there, or None where `is_some` is 0.
 pub fn smoothed_in(n: &OptionSmoothed) -> Option<Smoothed>
     ensures { result ≡ smoothed_in n.now }
 {
@@ -347,6 +364,7 @@ pub fn smoothed_in(n: &OptionSmoothed) -> Option<Smoothed>
     })
 }
 
+/// The numbers for a measurement of round-trip times, or for none, which are all 0.
 pub fn smoothed_of(smoothed: Option<Smoothed>) -> OptionSmoothed
     ensures { smoothed_in result ≡ smoothed }
 {
@@ -364,6 +382,7 @@ pub fn smoothed_of(smoothed: Option<Smoothed>) -> OptionSmoothed
     }
 }
 
+/// The number whose acknowledgement is waited for, and when it was sent, or None where `is_some` is 0.
 pub fn timing_in(n: &OptionTiming) -> Option<Timing>
     ensures { result ≡ timing_in n.now }
 {
@@ -376,6 +395,7 @@ pub fn timing_in(n: &OptionTiming) -> Option<Timing>
     })
 }
 
+/// The numbers for a number whose acknowledgement is waited for, or for none, which are all 0.
 pub fn timing_of(timing: Option<Timing>) -> OptionTiming
     ensures { timing_in result ≡ timing }
 {
@@ -393,6 +413,7 @@ pub fn timing_of(timing: Option<Timing>) -> OptionTiming
     }
 }
 
+/// The controller that the numbers stand for: none where the kind is 0, else Reno.
 pub fn controller_in(n: &ControllerNumbers) -> AnyController
     ensures { result ≡ controller_in n.now }
 {
@@ -409,6 +430,7 @@ pub fn controller_in(n: &ControllerNumbers) -> AnyController
     }))
 }
 
+/// The numbers for a controller: the kind 0 for none, with all others 0, or 1 for Reno.
 pub fn controller_of(controller: &AnyController) -> ControllerNumbers
     ensures { controller_in result ≡ controller.now }
 {
