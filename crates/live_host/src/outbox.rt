@@ -1,6 +1,5 @@
 //! The packets that wait to be written, as the records of a pcap stream.
-ghost use Rattle.std.specs.Prelude.{◌≡◌, ◌≤◌, ◌+◌, length};
-ghost use Rattle.std.specs.Result.{IfOk};
+ghost use Rattle.std.specs.Prelude.{◌≡◌, ◌≤◌, ◌<◌, ◌+◌, ◌⊎◌, length, IfOk, IsOk, OnErr};
 
 use pcap::stream::{LONGEST, RECORD, put_record_header};
 use segment_wire::packet;
@@ -144,7 +143,12 @@ impl Outbox {
 
     // Takes the room of a record, writes its header, and answers where its packet begins and ends.
     fn place(&mut self, len: usize) -> Result<Place, Full>
-        ensures { IfOk result (λ p. (p.end ≤ length self.new.bytes.items) × (p.start + len ≡ p.end)) }
+        ensures place { IfOk result (λ p. (p.start ≡ self.old.used + 16) × (p.start + len ≡ p.end)) }
+        ensures taken { IfOk result (λ p. (self.new.used ≡ p.end) × (p.end ≤ length self.new.bytes.items)) }
+        ensures short { IsOk result → len ≤ 65535 }
+        ensures full { OnErr result ((65535 < len) ⊎ (length self.old.bytes.items < self.old.used + (16 + len))) }
+        ensures same { OnErr result (self.new ≡ self.old) }
+        ensures time { self.new.micros ≡ self.old.micros }
     {
         let used = self.used;
         let room = self.bytes.len().saturating_sub(used);
