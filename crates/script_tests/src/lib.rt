@@ -1,5 +1,5 @@
-//! Tests alone: worked examples of pairs and of the scripts that play them. They are a crate of their own so that no other
-//! is proved again beside them.
+//! Tests alone: worked examples of pairs and of the scripts that play them. They are a crate of their own so that no
+//! other is proved again beside them.
 #![tactic(auto)]
 
 #[cfg(test)]

@@ -1,5 +1,5 @@
-//! Tests alone: worked examples of single sockets and of what they stand on, and each call once at a concrete type. They
-//! are a crate of their own so that no other is proved again beside them.
+//! Tests alone: worked examples of single sockets and of what they stand on, and each call once at a concrete type.
+//! They are a crate of their own so that no other is proved again beside them.
 #![tactic(auto)]
 
 #[cfg(test)]
