@@ -4,8 +4,8 @@ use Rattle.std.specs.List.{AllByRecursion}
 use Rattle.std.proofs.lemmas.Bool.Decides.{nat_tests}
 use Rattle.std.proofs.lemmas.List.{drop_more}
 use Rattle.std.proofs.lemmas.List.Elements.{recursion_from_All}
-use Rattle.ip_wire.specs.Octets.{IsOctets, be16, be16_at, be32_at}
-use Rattle.ip_wire.specs.Sum.{IsEven, all_ones, complement, four_at, ones_add, sum_after, word_of}
+use Rattle.ip_wire.specs.Octets.{IsOctets, be16}
+use Rattle.ip_wire.specs.Sum.{IsEven, all_ones, complement, four_at, le16_at, le32_at, ones_add, sum_after, swapped_word, word_of}
 
 -- two octets more
 pub drop_two : (xs : List ℕ) (i : ℕ) → i + 1 < length xs → drop i xs ≡ get_or xs i 0 ∷ get_or xs (i + 1) 0 ∷ drop (i + 2) xs
@@ -87,8 +87,9 @@ ones_for_zero s front back h f b e z =
 word_of_more : (n w : ℕ) → w < 65536 → ones_add (word_of n) w ≡ word_of (n + w)
 word_of_more n w h = grind (arith, nat_tests)
 
-pub word_of_small : (s : ℕ) → s < 65536 → s ≡ word_of s
-word_of_small s h = grind (arith, nat_tests)
+-- a start and nothing more
+pub swapped_word_zero : (s : ℕ) → s < 65536 → swapped_word s 0 ≡ s
+swapped_word_zero s h = grind (arith, nat_tests)
 
 -- a carry of a wide sum comes to 1
 carried : (m k : ℕ) → k ≤ m → word_of (m + 65535 * k) ≡ word_of m
@@ -105,59 +106,71 @@ halves n =
     let e : n ≡ n % 4294967296 + n / 4294967296 + 65535 * (65537 * (n / 4294967296)) = omega arith in
     grind (arith, nat_tests)
 
+pub halves_swapped : (s n : ℕ) → swapped_word s (n % 4294967296 + n / 4294967296) ≡ swapped_word s n
+halves_swapped s n =
+    let e : s + 256 * n ≡ s + 256 * (n % 4294967296 + n / 4294967296) + 65535 * (16777472 * (n / 4294967296)) = omega arith in
+    grind (arith, nat_tests)
+
 -- two octets more to a wide sum
-two_more : (n : ℕ) (xs : List ℕ) (i j : ℕ) → ((k : ℕ) → k < length xs → get_or xs k 0 < 256) → i + 1 < length xs
-    → j ≡ i + 2 → sum_after (word_of n) (drop i xs) ≡ sum_after (word_of (n + be16_at xs i)) (drop j xs)
-two_more n xs i j h k e =
-    let high : get_or xs i 0 < 256 = h i (omega arith) in
-    let low : get_or xs (i + 1) 0 < 256 = h (i + 1) k in
-    step_two (word_of n) xs i k
-    ∙ ap (λ v. sum_after v (drop (i + 2) xs)) (word_of_more n (be16_at xs i) (omega arith))
-    ∙ ap (λ v. sum_after (word_of (n + be16_at xs i)) (drop v xs)) (sym e)
+two_more : (s n : ℕ) (xs : List ℕ) (i j : ℕ) → ((k : ℕ) → k < length xs → get_or xs k 0 < 256) → i + 1 < length xs
+    → j ≡ i + 2 → sum_after (swapped_word s n) (drop i xs) ≡ sum_after (swapped_word s (n + le16_at xs i)) (drop j xs)
+two_more s n xs i j h k e =
+    let high = get_or xs i 0 in
+    let low = get_or xs (i + 1) 0 in
+    let hs : high < 256 = h i (omega arith) in
+    let ls : low < 256 = h (i + 1) k in
+    let front : s + 256 * n + (256 * high + low) ≡ s + 256 * n + 256 * high + low = omega arith in
+    let number : s + 256 * n + 256 * high + 65536 * low ≡ s + 256 * (n + (high + 256 * low)) = omega arith in
+    step_two (swapped_word s n) xs i k
+    ∙ ap (λ v. sum_after v (drop (i + 2) xs))
+    (word_of_more (s + 256 * n) (256 * high + low) (omega arith) ∙ ap word_of front
+    ∙ word_of_carries (s + 256 * n + 256 * high) low ∙ ap word_of number)
+    ∙ ap (λ v. sum_after (swapped_word s (n + le16_at xs i)) (drop v xs)) (sym e)
 
 -- four octets more, as one number
-number_more : (n : ℕ) (xs : List ℕ) (i j : ℕ) → ((k : ℕ) → k < length xs → get_or xs k 0 < 256) → i + 4 ≤ length xs
-    → j ≡ i + 4 → sum_after (word_of n) (drop i xs) ≡ sum_after (word_of (n + be32_at xs i)) (drop j xs)
-number_more n xs i j h k e =
-    let high = be16_at xs i in
-    let low = be16_at xs (i + 2) in
-    let swap : n + high + low ≡ n + low + high = omega arith in
-    let number : n + low + 65536 * high ≡ n + (65536 * high + low) = omega arith in
-    two_more n xs i (i + 2) h (omega arith) refl
-    ∙ two_more (n + high) xs (i + 2) j h (omega arith) (omega arith)
-    ∙ ap (λ v. sum_after v (drop j xs)) (ap word_of swap ∙ word_of_carries (n + low) high ∙ ap word_of number)
+number_more : (s n : ℕ) (xs : List ℕ) (i j : ℕ) → ((k : ℕ) → k < length xs → get_or xs k 0 < 256) → i + 4 ≤ length xs
+    → j ≡ i + 4 → sum_after (swapped_word s n) (drop i xs) ≡ sum_after (swapped_word s (n + le32_at xs i)) (drop j xs)
+number_more s n xs i j h k e =
+    let low = le16_at xs i in
+    let high = le16_at xs (i + 2) in
+    let apart : s + 256 * (n + low + high) ≡ s + 256 * (n + low) + 256 * high = omega arith in
+    let number : s + 256 * (n + low) + 65536 * (256 * high) ≡ s + 256 * (n + (low + 65536 * high)) = omega arith in
+    two_more s n xs i (i + 2) h (omega arith) refl
+    ∙ two_more s (n + low) xs (i + 2) j h (omega arith) (omega arith)
+    ∙ ap (λ v. sum_after v (drop j xs))
+    (ap word_of apart ∙ word_of_carries (s + 256 * (n + low)) (256 * high) ∙ ap word_of number)
 
 -- four such numbers more
-four_more : (n : ℕ) (xs : List ℕ) (i j : ℕ) → ((k : ℕ) → k < length xs → get_or xs k 0 < 256) → i + 16 ≤ length xs
-    → j ≡ i + 16 → sum_after (word_of n) (drop i xs) ≡ sum_after (word_of (n + four_at xs i)) (drop j xs)
-four_more n xs i j h k e =
-    let a = be32_at xs i in
-    let b = be32_at xs (i + 4) in
-    let c = be32_at xs (i + 8) in
-    let d = be32_at xs (i + 12) in
+four_more : (s n : ℕ) (xs : List ℕ) (i j : ℕ) → ((k : ℕ) → k < length xs → get_or xs k 0 < 256) → i + 16 ≤ length xs
+    → j ≡ i + 16 → sum_after (swapped_word s n) (drop i xs) ≡ sum_after (swapped_word s (n + four_at xs i)) (drop j xs)
+four_more s n xs i j h k e =
+    let a = le32_at xs i in
+    let b = le32_at xs (i + 4) in
+    let c = le32_at xs (i + 8) in
+    let d = le32_at xs (i + 12) in
     let all : n + a + b + c + d ≡ n + (a + b + c + d) = omega arith in
-    number_more n xs i (i + 4) h (omega arith) refl
-    ∙ number_more (n + a) xs (i + 4) (i + 8) h (omega arith) (omega arith)
-    ∙ number_more (n + a + b) xs (i + 8) (i + 12) h (omega arith) (omega arith)
-    ∙ number_more (n + a + b + c) xs (i + 12) j h (omega arith) (omega arith)
-    ∙ ap (λ v. sum_after (word_of v) (drop j xs)) all
+    number_more s n xs i (i + 4) h (omega arith) refl
+    ∙ number_more s (n + a) xs (i + 4) (i + 8) h (omega arith) (omega arith)
+    ∙ number_more s (n + a + b) xs (i + 8) (i + 12) h (omega arith) (omega arith)
+    ∙ number_more s (n + a + b + c) xs (i + 12) j h (omega arith) (omega arith)
+    ∙ ap (λ v. sum_after (swapped_word s v) (drop j xs)) all
 
-pub four_octets_more : (n : ℕ) (xs : List ℕ) (i : ℕ) → ((k : ℕ) → k < length xs → get_or xs k 0 < 256) → i + 4 ≤ length xs
-    → sum_after (word_of (n + be32_at xs i)) (drop (i + 4) xs) ≡ sum_after (word_of n) (drop i xs)
-four_octets_more n xs i h k = sym (number_more n xs i (i + 4) h k refl)
+pub four_octets_more : (s n : ℕ) (xs : List ℕ) (i : ℕ) → ((k : ℕ) → k < length xs → get_or xs k 0 < 256) → i + 4 ≤ length xs
+    → sum_after (swapped_word s (n + le32_at xs i)) (drop (i + 4) xs) ≡ sum_after (swapped_word s n) (drop i xs)
+four_octets_more s n xs i h k = sym (number_more s n xs i (i + 4) h k refl)
 
-pub sixty_four_more : (n : ℕ) (xs : List ℕ) (i : ℕ) → ((k : ℕ) → k < length xs → get_or xs k 0 < 256)
+pub sixty_four_more : (s n : ℕ) (xs : List ℕ) (i : ℕ) → ((k : ℕ) → k < length xs → get_or xs k 0 < 256)
     → i + 64 ≤ length xs
-    → sum_after (word_of (n + (four_at xs i + four_at xs (i + 16)) + (four_at xs (i + 32) + four_at xs (i + 48))))
-    (drop (i + 64) xs) ≡ sum_after (word_of n) (drop i xs)
-sixty_four_more n xs i h k =
+    → sum_after (swapped_word s (n + (four_at xs i + four_at xs (i + 16)) + (four_at xs (i + 32) + four_at xs (i + 48))))
+    (drop (i + 64) xs) ≡ sum_after (swapped_word s n) (drop i xs)
+sixty_four_more s n xs i h k =
     let a = four_at xs i in
     let b = four_at xs (i + 16) in
     let c = four_at xs (i + 32) in
     let d = four_at xs (i + 48) in
     let all : n + a + b + c + d ≡ n + (a + b) + (c + d) = omega arith in
-    sym (four_more n xs i (i + 16) h (omega arith) refl
-    ∙ four_more (n + a) xs (i + 16) (i + 32) h (omega arith) (omega arith)
-    ∙ four_more (n + a + b) xs (i + 32) (i + 48) h (omega arith) (omega arith)
-    ∙ four_more (n + a + b + c) xs (i + 48) (i + 64) h (omega arith) (omega arith)
-    ∙ ap (λ v. sum_after (word_of v) (drop (i + 64) xs)) all)
+    sym (four_more s n xs i (i + 16) h (omega arith) refl
+    ∙ four_more s (n + a) xs (i + 16) (i + 32) h (omega arith) (omega arith)
+    ∙ four_more s (n + a + b) xs (i + 32) (i + 48) h (omega arith) (omega arith)
+    ∙ four_more s (n + a + b + c) xs (i + 48) (i + 64) h (omega arith) (omega arith)
+    ∙ ap (λ v. sum_after (swapped_word s v) (drop (i + 64) xs)) all)

@@ -1,8 +1,8 @@
 -- Ones' complement sums of 16-bit words, and the checksums that they give (RFC 1071).
 use Rattle.ip_wire.specs.Address.{octets_of}
-use Rattle.ip_wire.specs.Octets.{be32, be32_at}
+use Rattle.ip_wire.specs.Octets.{be32}
 use Rattle.ip_wire.specs.declared.address.IpAddress.{IpAddress}
-use Rattle.std.specs.Prelude.{ℕ, ◌++◌, ◌+◌, ◌-◌, ◌*◌, ◌%◌, ◌^◌, List, [], ◌∷◌, nat_eq, nat_lt, if◌then◌else◌}
+use Rattle.std.specs.Prelude.{ℕ, ◌++◌, ◌+◌, ◌-◌, ◌*◌, ◌%◌, ◌^◌, List, [], ◌∷◌, nat_eq, nat_lt, slice_index, if◌then◌else◌}
 use Rattle.std.specs.Prelude.{◌≡◌}
 
 -- A carry out of the sixteen bits is added at the other end.
@@ -19,9 +19,22 @@ sum_after start (high ∷ low ∷ rest) = sum_after (ones_add start (256 * high 
 abbrev pub word_of : ℕ → ℕ
 word_of total = if nat_eq total 0 then 0 else (total - 1) % 65535 + 1
 
+-- the number of two octets at offset i, the low octet first
+abbrev pub le16_at : List ℕ → ℕ → ℕ
+le16_at octets i = slice_index octets i + 256 * slice_index octets (i + 1)
+
+-- the number of the four octets at offset i, the lowest first
+abbrev pub le32_at : List ℕ → ℕ → ℕ
+le32_at octets i = le16_at octets i + 65536 * le16_at octets (i + 2)
+
 -- the sum of the four numbers of four octets each from an offset on
 abbrev pub four_at : List ℕ → ℕ → ℕ
-four_at octets i = be32_at octets i + be32_at octets (i + 4) + be32_at octets (i + 8) + be32_at octets (i + 12)
+four_at octets i = le32_at octets i + le32_at octets (i + 4) + le32_at octets (i + 8) + le32_at octets (i + 12)
+
+-- a start and a wide sum of numbers with the lowest octet first, as a word: 256 times as much has the octets of each
+-- word swapped, since 65536 comes to 1
+abbrev pub swapped_word : ℕ → ℕ → ℕ
+swapped_word start total = word_of (start + 256 * total)
 
 -- the complement of a sum
 abbrev pub complement : ℕ → ℕ

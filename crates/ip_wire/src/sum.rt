@@ -2,10 +2,22 @@
 ghost use Rattle.std.specs.Prelude.{◌≡◌, ◌+◌, ◌*◌, ℕ, List, ◌∷◌, ◌++◌, ◌<◌, ◌≤◌, ◌^◌, drop, length};
 ghost use Rattle.ip_wire.specs.Octets.{IsOctets, be16};
 ghost use Rattle.ip_wire.specs.Address.{octets_of};
-ghost use Rattle.ip_wire.specs.Sum.{IsEven, all_ones, complement, four_at, ones_add, pseudo_sum, sum_after, word_of};
+ghost use Rattle.ip_wire.specs.Sum.{
+  IsEven,
+  all_ones,
+  complement,
+  four_at,
+  le16_at,
+  le32_at,
+  ones_add,
+  pseudo_sum,
+  sum_after,
+  swapped_word,
+  word_of,
+};
 
 use crate::address::IpAddress;
-use crate::octets::{be16, be32_at, word};
+use crate::octets::{be16, word};
 
 /// The sum of two words, a carry out of the sixteen bits added at the other end.
 pub fn ones_add(a: u16, b: u16) -> u16
@@ -25,7 +37,7 @@ pub fn ones_add(a: u16, b: u16) -> u16
 pub fn sum_after(start: u16, bytes: &[u8]) -> u16
     ensures { result ≡ sum_after start bytes.now }
 {
-    let mut total = start as usize;
+    let mut total = 0;
     let mut at = 0;
     while bytes.len() - at >= 64 {
         total = add_sixty_four(total, bytes, at);
@@ -35,31 +47,31 @@ pub fn sum_after(start: u16, bytes: &[u8]) -> u16
         total = add_four(total, bytes, at);
         at += 4;
     }
-    sum_of_rest(folded(total), bytes, at)
+    sum_of_rest(swapped_word(start, total), bytes, at)
 }
 
-// Adds the 64 bytes from `at` on to a wide sum. Two words are added as one number of 32 bits, which comes to the same
-// sum, since 65536 comes to 1.
+// Adds the 64 bytes from `at` on to a wide sum, as numbers of four bytes with the lowest first, which x86-64 loads
+// without a swap: the sum's two bytes are then swapped too (RFC 1071, section 2 (B)).
 fn add_sixty_four(total: usize, bytes: &[u8], at: usize) -> usize
-    requires small { total < 2 ^ 33 }
+    requires small { total < 2 ^ 60 }
     requires room { at + 64 ≤ length bytes.now }
-    ensures value { sum_after (word_of result) (drop (at + 64) bytes.now)
-        ≡ sum_after (word_of total) (drop at bytes.now) }
-    ensures small { result < 2 ^ 33 }
+    ensures value { (start : ℕ) → sum_after (swapped_word start result) (drop (at + 64) bytes.now)
+        ≡ sum_after (swapped_word start total) (drop at bytes.now) }
+    ensures small { result < 2 ^ 60 }
 {
     let first = four_at(bytes, at) + four_at(bytes, at + 16);
     let second = four_at(bytes, at + 32) + four_at(bytes, at + 48);
-    halved(total + first + second)
+    kept_small(total + first + second)
 }
 
 fn add_four(total: usize, bytes: &[u8], at: usize) -> usize
-    requires small { total < 2 ^ 33 }
+    requires small { total < 2 ^ 60 }
     requires room { at + 4 ≤ length bytes.now }
-    ensures value { sum_after (word_of result) (drop (at + 4) bytes.now)
-        ≡ sum_after (word_of total) (drop at bytes.now) }
-    ensures small { result < 2 ^ 33 }
+    ensures value { (start : ℕ) → sum_after (swapped_word start result) (drop (at + 4) bytes.now)
+        ≡ sum_after (swapped_word start total) (drop at bytes.now) }
+    ensures small { result < 2 ^ 60 }
 {
-    halved(total + be32_at(bytes, at))
+    kept_small(total + le32_at(bytes, at))
 }
 
 // The sum of the four numbers from `at` on.
@@ -68,16 +80,55 @@ fn four_at(bytes: &[u8], at: usize) -> usize
     ensures value { result ≡ four_at bytes.now at }
     ensures small { result < 2 ^ 34 }
 {
-    be32_at(bytes, at) + be32_at(bytes, at + 4) + be32_at(bytes, at + 8) + be32_at(bytes, at + 12)
+    le32_at(bytes, at) + le32_at(bytes, at + 4) + le32_at(bytes, at + 8) + le32_at(bytes, at + 12)
 }
 
-// A wide sum with its upper half added to the lower one: it comes to the same word.
+// The number of the four bytes at `at`, the lowest first.
+fn le32_at(bytes: &[u8], at: usize) -> usize
+    requires { at + 4 ≤ length bytes.now }
+    ensures value { result ≡ le32_at bytes.now at }
+    ensures small { result < 2 ^ 32 }
+{
+    le16_at(bytes, at) + 65536 * le16_at(bytes, at + 2)
+}
+
+fn le16_at(bytes: &[u8], at: usize) -> usize
+    requires { at + 2 ≤ length bytes.now }
+    ensures value { result ≡ le16_at bytes.now at }
+    ensures small { result < 65536 }
+{
+    bytes[at] as usize + 256 * bytes[at + 1] as usize
+}
+
+// A wide sum, or a smaller one that comes to the same.
+fn kept_small(total: usize) -> usize
+    requires { total < 2 ^ 62 }
+    ensures value { (start : ℕ) → swapped_word start result ≡ swapped_word start total }
+    ensures small { result < 2 ^ 60 }
+{
+    if total < 0x1000_0000_0000_0000 {
+        total
+    } else {
+        halved(total)
+    }
+}
+
+// A wide sum with its upper half added to the lower one: it comes to the same.
 fn halved(total: usize) -> usize
-    requires { total < 2 ^ 40 }
-    ensures value { word_of result ≡ word_of total }
+    requires { total < 2 ^ 62 }
+    ensures word { word_of result ≡ word_of total }
+    ensures value { (start : ℕ) → swapped_word start result ≡ swapped_word start total }
     ensures small { result < 2 ^ 33 }
 {
     total % 0x1_0000_0000 + total / 0x1_0000_0000
+}
+
+// A start and a wide sum of numbers with the lowest byte first, as a word.
+fn swapped_word(start: u16, total: usize) -> u16
+    requires { total < 2 ^ 60 }
+    ensures { result ≡ swapped_word start total }
+{
+    folded(halved(start as usize + 256 * halved(total)))
 }
 
 // A wide sum as a word, each carry added at the other end.

@@ -1,13 +1,13 @@
 use Rattle.std.proofs.Common.{length, drop, ◌-◌, ◌≡◌, ◌≤◌, ◌<◌, ◌^◌}
-use Rattle.ip_wire.specs.Sum.{sum_after, word_of}
+use Rattle.ip_wire.specs.Sum.{sum_after, swapped_word}
 use Rattle.ip_wire.proofs.sum.sum_after.Given as goal
 
 abbrev pub invariant-loop-at : goal.invariant-loop-at
 invariant-loop-at l =
     record {
       within : l.at ≤ length l.bytes;
-      small : l.total < 2 ^ 33;
-      rest : sum_after (word_of l.total) (drop l.at l.bytes) ≡ sum_after l.fn.start l.bytes;
+      small : l.total < 2 ^ 60;
+      rest : sum_after (swapped_word l.fn.start l.total) (drop l.at l.bytes) ≡ sum_after l.fn.start l.bytes;
     }
 
 abbrev pub decreases-loop-at : goal.decreases-loop-at
@@ -17,8 +17,8 @@ abbrev pub invariant-loop-at-2 : goal.invariant-loop-at-2
 invariant-loop-at-2 l =
     record {
       within : l.at ≤ length l.bytes;
-      small : l.total < 2 ^ 33;
-      rest : sum_after (word_of l.total) (drop l.at l.bytes) ≡ sum_after l.fn.start l.bytes;
+      small : l.total < 2 ^ 60;
+      rest : sum_after (swapped_word l.fn.start l.total) (drop l.at l.bytes) ≡ sum_after l.fn.start l.bytes;
     }
 
 abbrev pub decreases-loop-at-2 : goal.decreases-loop-at-2
