@@ -1,8 +1,7 @@
 -- What the fields of a C socket mean.
-use Rattle.std.specs.Prelude.{[], ◌∷◌, Option, Some, None, if◌then◌else◌}
+use Rattle.std.specs.Prelude.{[], ◌∷◌}
 use Rattle.net_base.specs.declared.assembler.Range.{Range}
-use Rattle.sock_core.specs.Estimator.{Estimator}
-use Rattle.sock_core.specs.EstimatorParts.{is_estimator, estimator_of}
+use Rattle.sock_core.specs.EstimatorParts.{estimator_of}
 use Rattle.sock_core.specs.declared.parts.ReceiveParts.{ReceiveParts}
 use Rattle.sock_core.specs.declared.rtte.EstimatorParts.{EstimatorParts}
 use Rattle.sock_tcp.specs.declared.parts.Parts.{Parts}
@@ -34,12 +33,12 @@ estimator_in n =
       backoffs = n.backoffs;
     }
 
-abbrev pub parts_with : Fields → Estimator → Parts
-parts_with f rtte =
+abbrev pub parts_in : Fields → Parts
+parts_in f =
     record {
       state = state_in f.state;
       timer = timer_in f.timer;
-      rtte = rtte;
+      rtte = estimator_of (estimator_in f.rtte);
       rx = receive_in f.rx;
       rx_fin_received = flag_in f.rx_fin_received;
       tx_read_at = f.tx_read_at;
@@ -72,8 +71,3 @@ parts_with f rtte =
       last_remote_tsval = f.last_remote_tsval;
       synack_paused = flag_in f.synack_paused;
     }
-
--- none where the numbers of the estimator are out of range
-abbrev pub parts_in : Fields → Option Parts
-parts_in f =
-    if is_estimator (estimator_in f.rtte) then Some (parts_with f (estimator_of (estimator_in f.rtte))) else None

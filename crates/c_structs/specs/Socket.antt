@@ -1,29 +1,21 @@
 -- The socket that a C struct holds.
-use Rattle.std.specs.Prelude.{ℕ, ◌==◌, ◌&&◌, ◌||◌, ◌^◌, Bool, nat_lt, List, length, Option, Some, None, if◌then◌else◌}
+use Rattle.std.specs.Prelude.{ℕ, ◌==◌, ◌&&◌, ◌||◌, ◌^◌, Bool, nat_lt, length, Option, Some, None, if◌then◌else◌}
+use Rattle.sock_core.specs.EstimatorParts.{is_estimator}
 use Rattle.sock_tcp.specs.Parts.{are_sound, socket_of}
 use Rattle.sock_tcp.specs.View.{View}
-use Rattle.sock_tcp.specs.declared.parts.Parts.{Parts}
-use Rattle.c_structs.specs.Fields.{parts_in}
+use Rattle.c_structs.specs.Fields.{estimator_in, parts_in}
 use Rattle.c_structs.specs.declared.clock.Clock.{Clock}
 use Rattle.c_structs.specs.declared.socket.TcpSocket.{TcpSocket}
 
-abbrev pub if_sound : Option Parts → ℕ → ℕ → Option Parts
-if_sound None rx tx = None
-if_sound (Some p) rx tx = if are_sound p rx tx then Some p else None
+-- the buffers have the sizes that they had, and each field is in its range
+abbrev pub is_held : TcpSocket → Bool
+is_held s =
+    length s.rx.now == s.rx_size && (length s.tx.now == s.tx_size && (is_estimator (estimator_in s.fields.rtte)
+    && are_sound (parts_in s.fields) (length s.rx.now) (length s.tx.now)))
 
--- the parts, where the buffers have the sizes that they had and each field is in its range
-abbrev pub parts_held : TcpSocket → Option Parts
-parts_held s =
-    if length s.rx.now == s.rx_size && length s.tx.now == s.tx_size
-    then if_sound (parts_in s.fields) s.rx_size s.tx_size
-    else None
-
-abbrev pub socket_by : Option Parts → List ℕ → List ℕ → Option View
-socket_by None rx tx = None
-socket_by (Some p) rx tx = Some (socket_of p rx tx)
-
-abbrev pub held : TcpSocket → Option View
-held s = socket_by (parts_held s) s.rx.now s.tx.now
+-- none where these calls did not make the struct
+unfoldable pub held : TcpSocket → Option View
+held s = if is_held s then Some (socket_of (parts_in s.fields) s.rx.now s.tx.now) else None
 
 abbrev pub clock_in : ℕ → ℕ → Option Clock
 clock_in timestamps tsval = if timestamps == 0 then None else Some (record { tsval = tsval })

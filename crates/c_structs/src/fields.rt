@@ -1,7 +1,7 @@
 //! The fields of a TCP socket as numbers, and what they mean.
-ghost use Rattle.std.specs.Prelude.{◌≡◌, true, Some};
+ghost use Rattle.std.specs.Prelude.{◌≡◌, true};
 ghost use Rattle.sock_core.specs.EstimatorParts.{is_estimator, estimator_of};
-ghost use Rattle.c_structs.specs.Fields.{receive_in, estimator_in, parts_with, parts_in};
+ghost use Rattle.c_structs.specs.Fields.{receive_in, estimator_in, parts_in};
 
 use crate::endpoints::{Endpoint, Ends, listen_in, listen_of, tuple_in, tuple_of};
 use crate::numbers::{
@@ -12,11 +12,14 @@ use crate::numbers::{
     timing_in, timing_of,
 };
 use control_wire::TcpSeqNumber;
+use ip_wire::IpListenEndpoint;
 use net_base::assembler::Range;
 use net_base::time::Instant;
+use sock_core::congestion::{AnyController, NoControl};
 use sock_core::parts::ReceiveParts;
 use sock_core::rtte::{EstimatorParts, RttEstimator};
-use sock_tcp::Parts;
+use sock_tcp::timer::{AckDelayTimer, Timer};
+use sock_tcp::{Parts, State};
 
 /// A range of bytes that are held ahead of a gap, as offsets from the receive queue's end.
 #[repr(C)]
@@ -116,7 +119,8 @@ fn range_of(range: &Range) -> HeldRange
     }
 }
 
-fn receive_in(n: &ReceiveNumbers) -> ReceiveParts
+/// What the numbers of a receive queue mean.
+pub fn receive_in(n: &ReceiveNumbers) -> ReceiveParts
     ensures { result ≡ receive_in n.now }
 {
     let held = [
@@ -184,95 +188,141 @@ fn moment_number(at: Instant) -> MomentNumber
     MomentNumber { micros: at.micros }
 }
 
-/// What the fields mean. None where the numbers of the estimator are out of range.
-pub fn parts_in(f: &Fields) -> Option<Parts>
-    ensures { result ≡ parts_in f.now }
-{
-    let rtte = RttEstimator::from_parts(&estimator_in(&f.rtte))?;
-    Some(parts_with(f, rtte))
-}
-
-fn parts_with(f: &Fields, rtte: RttEstimator) -> Parts
-    ensures { result ≡ parts_with f.now rtte }
-{
+/// Parts for `read` to fill: a CLOSED socket with empty queues, no endpoint and no settings.
+pub fn blank() -> Parts {
     Parts {
-        state: state_in(f.state),
-        timer: timer_in(&f.timer),
-        rtte,
-        rx: receive_in(&f.rx),
-        rx_fin_received: flag_in(f.rx_fin_received),
-        tx_read_at: f.tx_read_at,
-        tx_count: f.tx_count,
-        timeout: duration_in(&f.timeout),
-        keep_alive: duration_in(&f.keep_alive),
-        hop_limit: byte_in(&f.hop_limit),
-        listen_endpoint: listen_in(&f.listen_endpoint),
-        tuple: tuple_in(&f.tuple),
-        local_seq_no: TcpSeqNumber(f.local_seq_no),
-        remote_seq_no: TcpSeqNumber(f.remote_seq_no),
-        remote_last_seq: TcpSeqNumber(f.remote_last_seq),
-        remote_last_ack: number_in(&f.remote_last_ack),
-        remote_last_win: f.remote_last_win,
-        remote_win_shift: f.remote_win_shift,
-        remote_win_len: f.remote_win_len,
-        remote_win_scale: byte_in(&f.remote_win_scale),
-        remote_has_sack: flag_in(f.remote_has_sack),
-        remote_mss: f.remote_mss,
-        remote_last_ts: moment_in(&f.remote_last_ts),
-        local_rx_last_seq: number_in(&f.local_rx_last_seq),
-        local_rx_last_ack: number_in(&f.local_rx_last_ack),
-        local_rx_dup_acks: f.local_rx_dup_acks,
-        pending_fast_retransmit: flag_in(f.pending_fast_retransmit),
-        ack_delay: duration_in(&f.ack_delay),
-        ack_delay_timer: delay_in(&f.ack_delay_timer),
-        challenge_ack_timer: Instant {
-            micros: f.challenge_ack_timer.micros,
+        state: State::Closed,
+        timer: Timer::Idle {
+            keep_alive_at: None,
         },
-        nagle: flag_in(f.nagle),
-        congestion_controller: controller_in(&f.congestion_controller),
-        last_remote_tsval: f.last_remote_tsval,
-        synack_paused: flag_in(f.synack_paused),
+        rtte: RttEstimator::default(),
+        rx: ReceiveParts {
+            read_at: 0,
+            count: 0,
+            held: [Range { start: 0, end: 0 }; 4],
+            held_count: 0,
+        },
+        rx_fin_received: false,
+        tx_read_at: 0,
+        tx_count: 0,
+        timeout: None,
+        keep_alive: None,
+        hop_limit: None,
+        listen_endpoint: IpListenEndpoint {
+            addr: None,
+            port: 0,
+        },
+        tuple: None,
+        local_seq_no: TcpSeqNumber(0),
+        remote_seq_no: TcpSeqNumber(0),
+        remote_last_seq: TcpSeqNumber(0),
+        remote_last_ack: None,
+        remote_last_win: 0,
+        remote_win_shift: 0,
+        remote_win_len: 0,
+        remote_win_scale: None,
+        remote_has_sack: false,
+        remote_mss: 0,
+        remote_last_ts: None,
+        local_rx_last_seq: None,
+        local_rx_last_ack: None,
+        local_rx_dup_acks: 0,
+        pending_fast_retransmit: false,
+        ack_delay: None,
+        ack_delay_timer: AckDelayTimer::Idle,
+        challenge_ack_timer: Instant { micros: 0 },
+        nagle: false,
+        congestion_controller: AnyController::None(NoControl),
+        last_remote_tsval: 0,
+        synack_paused: false,
     }
 }
 
-/// The fields that mean these parts.
-pub fn fields_of(p: &Parts) -> Fields
-    ensures { parts_in result ≡ Some p.now }
+/// Puts what the fields mean into `parts`.
+///
+/// One field after the other: a literal would keep all of them in registers until its end. The large ones come first,
+/// since a value is copied slowly just after it was written; in `write` those that a call changes last come last.
+pub fn read(f: &Fields, parts: &mut Parts)
+    requires lawful { is_estimator (estimator_in f.now.rtte) ≡ true }
+    ensures { parts.new ≡ parts_in f.now }
 {
-    Fields {
-        rx: receive_of(&p.rx),
-        tx_read_at: p.tx_read_at,
-        tx_count: p.tx_count,
-        remote_win_len: p.remote_win_len,
-        remote_mss: p.remote_mss,
-        timer: timer_of(p.timer),
-        ack_delay_timer: delay_of(p.ack_delay_timer),
-        challenge_ack_timer: moment_number(p.challenge_ack_timer),
-        timeout: duration_of(p.timeout),
-        keep_alive: duration_of(p.keep_alive),
-        ack_delay: duration_of(p.ack_delay),
-        remote_last_ts: moment_of(p.remote_last_ts),
-        rtte: estimator_of(&p.rtte),
-        congestion_controller: controller_of(&p.congestion_controller),
-        listen_endpoint: listen_of(p.listen_endpoint),
-        tuple: tuple_of(p.tuple),
-        local_seq_no: p.local_seq_no.0,
-        remote_seq_no: p.remote_seq_no.0,
-        remote_last_seq: p.remote_last_seq.0,
-        last_remote_tsval: p.last_remote_tsval,
-        remote_last_ack: number_of(p.remote_last_ack),
-        local_rx_last_seq: number_of(p.local_rx_last_seq),
-        local_rx_last_ack: number_of(p.local_rx_last_ack),
-        remote_last_win: p.remote_last_win,
-        hop_limit: byte_of(p.hop_limit),
-        remote_win_scale: byte_of(p.remote_win_scale),
-        state: state_of(p.state),
-        rx_fin_received: flag_of(p.rx_fin_received),
-        remote_win_shift: p.remote_win_shift,
-        remote_has_sack: flag_of(p.remote_has_sack),
-        local_rx_dup_acks: p.local_rx_dup_acks,
-        pending_fast_retransmit: flag_of(p.pending_fast_retransmit),
-        nagle: flag_of(p.nagle),
-        synack_paused: flag_of(p.synack_paused),
+    if let Some(rtte) = RttEstimator::from_parts(&estimator_in(&f.rtte)) {
+        parts.rtte = rtte;
     }
+    parts.congestion_controller = controller_in(&f.congestion_controller);
+    parts.tuple = tuple_in(&f.tuple);
+    parts.listen_endpoint = listen_in(&f.listen_endpoint);
+    parts.rx = receive_in(&f.rx);
+    parts.timer = timer_in(&f.timer);
+    parts.state = state_in(f.state);
+    parts.rx_fin_received = flag_in(f.rx_fin_received);
+    parts.tx_read_at = f.tx_read_at;
+    parts.tx_count = f.tx_count;
+    parts.timeout = duration_in(&f.timeout);
+    parts.keep_alive = duration_in(&f.keep_alive);
+    parts.hop_limit = byte_in(&f.hop_limit);
+    parts.local_seq_no = TcpSeqNumber(f.local_seq_no);
+    parts.remote_seq_no = TcpSeqNumber(f.remote_seq_no);
+    parts.remote_last_seq = TcpSeqNumber(f.remote_last_seq);
+    parts.remote_last_ack = number_in(&f.remote_last_ack);
+    parts.remote_last_win = f.remote_last_win;
+    parts.remote_win_shift = f.remote_win_shift;
+    parts.remote_win_len = f.remote_win_len;
+    parts.remote_win_scale = byte_in(&f.remote_win_scale);
+    parts.remote_has_sack = flag_in(f.remote_has_sack);
+    parts.remote_mss = f.remote_mss;
+    parts.remote_last_ts = moment_in(&f.remote_last_ts);
+    parts.local_rx_last_seq = number_in(&f.local_rx_last_seq);
+    parts.local_rx_last_ack = number_in(&f.local_rx_last_ack);
+    parts.local_rx_dup_acks = f.local_rx_dup_acks;
+    parts.pending_fast_retransmit = flag_in(f.pending_fast_retransmit);
+    parts.ack_delay = duration_in(&f.ack_delay);
+    parts.ack_delay_timer = delay_in(&f.ack_delay_timer);
+    parts.challenge_ack_timer = Instant {
+        micros: f.challenge_ack_timer.micros,
+    };
+    parts.nagle = flag_in(f.nagle);
+    parts.last_remote_tsval = f.last_remote_tsval;
+    parts.synack_paused = flag_in(f.synack_paused);
+}
+
+/// Writes the fields that mean these parts.
+pub fn write(p: &Parts, f: &mut Fields)
+    ensures lawful { is_estimator (estimator_in f.new.rtte) ≡ true }
+    ensures parts { parts_in f.new ≡ p.now }
+{
+    f.congestion_controller = controller_of(&p.congestion_controller);
+    f.listen_endpoint = listen_of(p.listen_endpoint);
+    f.tuple = tuple_of(p.tuple);
+    f.rtte = estimator_of(&p.rtte);
+    f.timeout = duration_of(p.timeout);
+    f.keep_alive = duration_of(p.keep_alive);
+    f.ack_delay = duration_of(p.ack_delay);
+    f.tx_read_at = p.tx_read_at;
+    f.tx_count = p.tx_count;
+    f.remote_win_len = p.remote_win_len;
+    f.remote_mss = p.remote_mss;
+    f.challenge_ack_timer = moment_number(p.challenge_ack_timer);
+    f.local_seq_no = p.local_seq_no.0;
+    f.remote_seq_no = p.remote_seq_no.0;
+    f.remote_last_seq = p.remote_last_seq.0;
+    f.last_remote_tsval = p.last_remote_tsval;
+    f.remote_last_ack = number_of(p.remote_last_ack);
+    f.local_rx_last_ack = number_of(p.local_rx_last_ack);
+    f.remote_last_win = p.remote_last_win;
+    f.hop_limit = byte_of(p.hop_limit);
+    f.remote_win_scale = byte_of(p.remote_win_scale);
+    f.state = state_of(p.state);
+    f.rx_fin_received = flag_of(p.rx_fin_received);
+    f.remote_win_shift = p.remote_win_shift;
+    f.remote_has_sack = flag_of(p.remote_has_sack);
+    f.local_rx_dup_acks = p.local_rx_dup_acks;
+    f.pending_fast_retransmit = flag_of(p.pending_fast_retransmit);
+    f.nagle = flag_of(p.nagle);
+    f.synack_paused = flag_of(p.synack_paused);
+    f.remote_last_ts = moment_of(p.remote_last_ts);
+    f.local_rx_last_seq = number_of(p.local_rx_last_seq);
+    f.ack_delay_timer = delay_of(p.ack_delay_timer);
+    f.timer = timer_of(p.timer);
+    f.rx = receive_of(&p.rx);
 }

@@ -10,4 +10,5 @@ pub mod fields;
 pub mod numbers;
 pub mod queue;
 pub mod socket;
+pub mod sound;
 pub mod wire;

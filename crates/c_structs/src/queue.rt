@@ -22,7 +22,7 @@ ghost use Rattle.c_structs.specs.Queue.{
 
 use crate::answers::{ERROR_CONTEXT, ERROR_ROOM, ERROR_SOCKET, OK, flag_answer};
 use crate::context::{Cx, moment_in};
-use crate::socket::LARGEST;
+use crate::sound::LARGEST;
 use crate::wire::LONGEST_PACKET;
 use ip_wire::octets::{be16, be16_at, behind, put};
 

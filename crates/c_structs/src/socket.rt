@@ -1,5 +1,5 @@
 //! A TCP socket as C holds it: its two buffers and its fields.
-ghost use Rattle.std.specs.Prelude.{◌≡◌, ◌≤◌, ◌^◌, [], length, true, None, Some, is_some};
+ghost use Rattle.std.specs.Prelude.{◌≡◌, ◌≤◌, ◌^◌, length, true, None, Some, is_some};
 ghost use Rattle.std.specs.Option.{ForSome};
 ghost use Rattle.net_base.specs.Ring.{empty_ring};
 ghost use Rattle.sock_core.specs.Received.{receiving};
@@ -7,13 +7,14 @@ ghost use Rattle.sock_tcp.specs.Parts.{are_sound, socket_of};
 ghost use Rattle.sock_tcp.specs.Queue.{queue_of};
 ghost use Rattle.sock_tcp.specs.View.{fresh};
 ghost use Rattle.c_structs.specs.Numbers.{flag_in};
-ghost use Rattle.c_structs.specs.Socket.{parts_held, held, clock_in};
+ghost use Rattle.c_structs.specs.Socket.{held, clock_in};
 
 use crate::clock::Clock;
-use crate::fields::{Fields, fields_of, parts_in};
-use crate::numbers::flag_of;
+use crate::fields::{Fields, blank, read, write};
+use crate::numbers::{flag_of, state_in};
+use crate::sound::{are_sound, is_estimator};
 use net_base::ring_buffer::RingBuffer;
-use sock_tcp::{Parts, Socket};
+use sock_tcp::{Parts, Socket, State};
 
 /// A TCP socket as C holds it. C owns it and the two buffers, which have at most 2^30 bytes each.
 #[repr(C)]
@@ -33,9 +34,6 @@ pub struct TcpSocket<'b> {
     pub fields: Fields,
 }
 
-/// The longest buffer, in bytes.
-pub const LARGEST: usize = 1 << 30;
-
 /// A closed socket over these buffers, with no clock.
 pub fn closed_over<'b>(rx: &'b mut [u8], tx: &'b mut [u8]) -> Socket<'b, Clock>
     requires rx { length rx.old ≤ 2 ^ 30 }
@@ -47,34 +45,40 @@ pub fn closed_over<'b>(rx: &'b mut [u8], tx: &'b mut [u8]) -> Socket<'b, Clock>
     Socket::closed(RingBuffer::new(rx), RingBuffer::new(tx), None)
 }
 
-/// The parts of the socket that the struct holds. None where the struct was not made by these calls: a buffer has
-/// another size, or a field is out of its range.
-pub fn parts_held(s: &TcpSocket<'_>) -> Option<Parts>
-    ensures value { result ≡ parts_held s.now }
-    ensures sound { ForSome result (λ p. are_sound p (length s.now.rx.now) (length s.now.tx.now) ≡ true) }
+/// Whether the struct holds a socket. False where these calls did not make it: a buffer has another size, or a field is
+/// out of its range.
+#[tactic(auto, unfolding(crate::specs::Socket::held))]
+pub fn is_held(s: &TcpSocket<'_>) -> bool
+    ensures { result ≡ is_some (held s.now) }
 {
-    if s.rx.len() != s.rx_size || s.tx.len() != s.tx_size {
-        return None;
-    }
-    let parts = parts_in(&s.fields)?;
-    if !parts.are_sound(s.rx_size, s.tx_size) {
-        return None;
-    }
-    Some(parts)
+    s.rx.len() == s.rx_size
+        && s.tx.len() == s.tx_size
+        && is_estimator(&s.fields.rtte)
+        && are_sound(&s.fields, s.rx.len(), s.tx.len())
 }
 
-/// The socket of these parts over the struct's buffers, with this value of the timestamps' clock where it has one. The
-/// struct has no buffers until `put`.
-pub fn take<'b>(s: &mut TcpSocket<'b>, parts: &Parts, tsval: u32) -> Socket<'b, Clock>
-    requires sound { are_sound parts.now (length s.old.rx.now) (length s.old.tx.now) ≡ true }
-    ensures control_block { result.control_block ≡ socket_of parts.now s.old.rx.now s.old.tx.now }
+/// The state of the connection that the struct holds.
+pub fn state_held(s: &TcpSocket<'_>) -> State
+    requires held { is_some (held s.now) ≡ true }
+    ensures state { ForSome (held s.now) (λ v. v.state ≡ result) }
+{
+    state_in(s.fields.state)
+}
+
+/// The socket that the struct holds, with this value of the timestamps' clock where it has one. The struct has no
+/// buffers until `put`.
+pub fn take<'b>(s: &mut TcpSocket<'b>, tsval: u32) -> Socket<'b, Clock>
+    requires held { is_some (held s.old) ≡ true }
+    ensures control_block { held s.old ≡ Some result.control_block }
     ensures clock { result.tsval_generator ≡ clock_in s.old.timestamps tsval }
     ensures stamps { is_some result.tsval_generator ≡ flag_in s.old.timestamps }
 {
     let clock = clock_in(s.timestamps, tsval);
+    let mut parts = blank();
+    read(&s.fields, &mut parts);
     let rx = std::mem::take(&mut s.rx);
     let tx = std::mem::take(&mut s.tx);
-    Socket::from_parts(rx, tx, parts, clock)
+    Socket::from_parts(rx, tx, &parts, clock)
 }
 
 fn clock_in(timestamps: u8, tsval: u32) -> Option<Clock>
@@ -98,5 +102,5 @@ pub fn put<'b>(s: &mut TcpSocket<'b>, socket: Socket<'b, Clock>)
     s.rx = rx;
     s.tx = tx;
     s.timestamps = flag_of(clock.is_some());
-    s.fields = fields_of(&parts);
+    write(&parts, &mut s.fields);
 }

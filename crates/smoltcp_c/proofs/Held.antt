@@ -1,19 +1,10 @@
--- From the parts of a C struct to the socket that it holds.
-use Rattle.std.proofs.Common.{◌≡◌, ℕ, ℤ, List, Bool, Option, Some, ap, sym, subst, ◌∙◌}
-use Rattle.std.proofs.lemmas.Option.{same_Some}
+-- What is equal is heard and dispatched alike.
+use Rattle.std.proofs.Common.{◌≡◌, ℕ, ℤ, List, Bool, Option, sym, subst}
 use Rattle.segment_wire.specs.Packet.{TcpPacket}
-use Rattle.sock_tcp.specs.Parts.{socket_of}
 use Rattle.sock_tcp.specs.View.{View}
-use Rattle.sock_tcp.specs.declared.parts.Parts.{Parts}
 use Rattle.smoltcp_c.specs.Packets.{Hears, DispatchesInto}
-use Rattle.c_structs.specs.Socket.{parts_held, socket_by, held}
 use Rattle.c_structs.specs.declared.clock.Clock.{Clock}
 use Rattle.c_structs.specs.declared.context.Cx.{Cx}
-use Rattle.c_structs.specs.declared.socket.TcpSocket.{TcpSocket}
-
--- the socket of the parts is the one that is held
-pub held_is : (s : TcpSocket) (parts : Parts) (u v : View) → u ≡ socket_of parts s.rx.now s.tx.now → Some parts ≡ parts_held s → held s ≡ Some v → u ≡ v
-held_is s parts u v b e h = b ∙ same_Some _ _ (ap (λ o. socket_by o s.rx.now s.tx.now) e ∙ h)
 
 -- equal contexts, clocks, sockets and packets are heard alike
 pub heard_at : (cx cx' : Cx) (k k' : Option Clock) (v v' : View) (p p' : TcpPacket) (out : List ℕ) (r r' : ℤ) (h h' : Option View) (b b' : Bool) (out' : List ℕ) → cx ≡ cx' → k ≡ k' → v ≡ v' → p ≡ p' → r' ≡ r → h' ≡ h → b' ≡ b → Hears cx k v p.ip p.segment out r h b out' → Hears cx' k' v' p'.ip p'.segment out r' h' b' out'

@@ -4,3 +4,4 @@ mod Told
 mod Emitting
 mod Reading
 mod Held
+mod Foreign

@@ -1,3 +1,4 @@
 pub mod Packets
 pub mod Udp
 pub mod Icmp
+pub mod Ports

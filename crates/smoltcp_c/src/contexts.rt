@@ -13,7 +13,7 @@ use c_structs::answers::{ERROR_CONTEXT, ERROR_SOCKET, OK, connect_answer};
 use c_structs::clock::Clock;
 use c_structs::context::{Cx, Moment, moment_in};
 use c_structs::endpoints::{Endpoint, endpoint_in, listen_in};
-use c_structs::socket::{TcpSocket, parts_held, put, take};
+use c_structs::socket::{TcpSocket, is_held, put, take};
 use sock_core::PollAt;
 use sock_tcp::Socket;
 
@@ -36,13 +36,13 @@ pub extern "C" fn smoltcp_tcp_connect_checked(
         → held s.new ≡ Some (after_connect (ends_in cx.entry.now remote.now local.now v) v cx.entry.now.word) }
     ensures stamps { flag_in s.new.timestamps ≡ flag_in s.old.timestamps }
 {
-    let Some(parts) = parts_held(s) else {
+    if !is_held(s) {
         return ERROR_SOCKET;
-    };
+    }
     let Some(moment) = moment_in(cx) else {
         return ERROR_CONTEXT;
     };
-    let mut socket = take(s, &parts, cx.tsval);
+    let mut socket = take(s, cx.tsval);
     let answer = opened(&mut socket, &moment, remote, local);
     put(s, socket);
     answer
@@ -81,13 +81,13 @@ pub extern "C" fn smoltcp_tcp_poll_at_checked(s: &mut TcpSocket<'_>, cx: &Cx, at
     ensures same { (v : View) → held s.old ≡ Some v → held s.new ≡ Some v }
     ensures stamps { flag_in s.new.timestamps ≡ flag_in s.old.timestamps }
 {
-    let Some(parts) = parts_held(s) else {
+    if !is_held(s) {
         return ERROR_SOCKET;
-    };
+    }
     let Some(moment) = moment_in(cx) else {
         return ERROR_CONTEXT;
     };
-    let socket = take(s, &parts, cx.tsval);
+    let socket = take(s, cx.tsval);
     let poll = socket.poll_at(&moment);
     put(s, socket);
     told(poll, cx.now, at)

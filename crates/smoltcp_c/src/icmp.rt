@@ -54,7 +54,7 @@ use c_structs::answers::{
 use c_structs::context::{Cx, Moment, moment_in};
 use c_structs::endpoints::{Address, Endpoint, NO_ENDPOINT, address_in, address_of, listen_in};
 use c_structs::queue::{Queue, first_of};
-use c_structs::socket::LARGEST;
+use c_structs::sound::LARGEST;
 use c_structs::wire::LONGEST_PACKET;
 use control_wire::IcmpRepr;
 use ip_wire::{IpAddress, IpRepr};

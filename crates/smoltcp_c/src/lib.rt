@@ -6,6 +6,7 @@ mod contexts;
 mod icmp;
 mod message;
 mod packets;
+mod ports;
 mod settings;
 mod tcp;
 #[cfg(test)]

@@ -1,11 +1,12 @@
 //! The calls of a TCP socket that take and give packets.
-ghost use Rattle.std.specs.Prelude.{◌≡◌, ◌<◌, ◌≤◌, pos, [], length, None, Some, true, false, is_some, option_map};
+ghost use Rattle.std.specs.Prelude.{◌≡◌, ◌<◌, ◌≤◌, pos, [], length, None, Some, true, false, is_some, option_map, IfOk};
 ghost use Rattle.std.specs.Option.{ForSome};
 ghost use Rattle.ip_wire.specs.Checksum.{all_checksums};
 ghost use Rattle.ip_wire.specs.declared.checksum.Checksum.TheVariants.{Both};
 ghost use Rattle.control_wire.specs.Fits.{FitsPacket};
 ghost use Rattle.control_wire.specs.Segment.{segment_of};
 ghost use Rattle.segment_wire.specs.Packet.{TcpPacket, tcp_packet_of, tcp_packet_parsed};
+ghost use Rattle.segment_wire.specs.Tcp.{read_as};
 ghost use Rattle.sock_tcp.specs.Process.{Accepts, generator_after, reply_of};
 ghost use Rattle.sock_tcp.specs.View.{View};
 ghost use Rattle.c_structs.specs.Answers.{RefusedFor, Leaves, sent_answer, error_context, error_room, error_socket, not_accepted};
@@ -15,10 +16,11 @@ ghost use Rattle.smoltcp_c.specs.Packets.{size_of, written_over, outcome_in, rep
 ghost use Rattle.c_structs.specs.Socket.{held, clock_in};
 ghost use Rattle.c_structs.specs.Wire.{Writes};
 
+use crate::ports::has_ports;
 use c_structs::answers::{ERROR_CONTEXT, ERROR_ROOM, ERROR_SOCKET, NOT_ACCEPTED, OK, sent_answer};
 use c_structs::clock::Clock;
 use c_structs::context::{Cx, Moment, moment_in};
-use c_structs::socket::{TcpSocket, parts_held, put, take};
+use c_structs::socket::{TcpSocket, is_held, put, take};
 use c_structs::wire::{Full, Wire, put_packet};
 use control_wire::TcpRepr;
 use ip_wire::{ChecksumCapabilities, Error, IpRepr};
@@ -51,33 +53,33 @@ pub extern "C" fn smoltcp_tcp_process_checked(
         → Hears cx.entry.now (clock_in s.old.timestamps cx.entry.now.tsval) v p.ip p.segment reply.old result
         (held s.new) (flag_in s.new.timestamps) reply.new }
 {
-    let Some(parts) = parts_held(s) else {
+    if !is_held(s) {
         return ERROR_SOCKET;
-    };
+    }
     let Some(moment) = moment_in(cx) else {
         return ERROR_CONTEXT;
     };
     if reply.len() < LONGEST_REPLY {
         return ERROR_ROOM;
     }
-    let Some((ip, repr)) = read(packet) else {
+    if !has_ports(&s.fields, packet) {
+        return NOT_ACCEPTED;
+    }
+    let Ok((ip, repr)) = read(packet) else {
         return NOT_ACCEPTED;
     };
-    let mut socket = take(s, &parts, cx.tsval);
+    let mut socket = take(s, cx.tsval);
     let answer = heard(&mut socket, &moment, &ip, &repr, reply);
     put(s, socket);
     answer
 }
 
-// The segment that the packet carries, if it is one.
-fn read(packet: &[u8]) -> Option<(IpRepr, TcpRepr<'_>)>
-    ensures value { option_map tcp_packet_of result ≡ tcp_packet_parsed (all_checksums Both) packet.now }
-    ensures short { ForSome result (λ p. length p.1.payload.now ≤ 65535) }
+// The segment that the packet carries.
+fn read(packet: &[u8]) -> Result<(IpRepr, TcpRepr<'_>), Error>
+    ensures value { read_as tcp_packet_of result ≡ tcp_packet_parsed (all_checksums Both) packet.now }
+    ensures short { IfOk result (λ p. length p.1.payload.now ≤ 65535) }
 {
-    match parse_tcp(packet, &ChecksumCapabilities::default()) {
-        Ok(found) => Some(found),
-        Err(Error) => None,
-    }
+    parse_tcp(packet, &ChecksumCapabilities::default())
 }
 
 // Gives the segment to the socket, and writes the reply.
@@ -153,13 +155,13 @@ pub extern "C" fn smoltcp_tcp_dispatch_checked(
         out.new) (held s.new) }
     ensures stamps { flag_in s.new.timestamps ≡ flag_in s.old.timestamps }
 {
-    let Some(parts) = parts_held(s) else {
+    if !is_held(s) {
         return ERROR_SOCKET;
-    };
+    }
     let Some(moment) = moment_in(cx) else {
         return ERROR_CONTEXT;
     };
-    let mut socket = take(s, &parts, cx.tsval);
+    let mut socket = take(s, cx.tsval);
     let answer = sent(&mut socket, &moment, out);
     put(s, socket);
     answer

@@ -13,7 +13,7 @@ ghost use Rattle.c_structs.specs.Socket.{held};
 
 use c_structs::answers::{ERROR_RANGE, ERROR_SOCKET, OK};
 use c_structs::numbers::flag_in;
-use c_structs::socket::{TcpSocket, parts_held, put, take};
+use c_structs::socket::{TcpSocket, is_held, put, take};
 use net_base::time::Duration;
 use sock_tcp::CongestionControl;
 
@@ -74,13 +74,13 @@ pub extern "C" fn smoltcp_tcp_set_timeout_checked(s: &mut TcpSocket<'_>, micros:
     ensures set { (v : View) (d : Option Duration) → held s.old ≡ Some v → lasting micros ≡ Some d
         → IsDone result (held s.new) (record v { timeout = d }) }
 {
-    let Some(parts) = parts_held(s) else {
+    if !is_held(s) {
         return ERROR_SOCKET;
-    };
+    }
     let Some(duration) = lasting(micros) else {
         return ERROR_RANGE;
     };
-    let mut socket = take(s, &parts, 0);
+    let mut socket = take(s, 0);
     socket.set_timeout(duration);
     put(s, socket);
     OK
@@ -97,13 +97,13 @@ pub extern "C" fn smoltcp_tcp_set_keep_alive_checked(s: &mut TcpSocket<'_>, micr
     ensures set { (v : View) (d : Option Duration) → held s.old ≡ Some v → lasting micros ≡ Some d
         → IsDone result (held s.new) (keep_alive_set v d) }
 {
-    let Some(parts) = parts_held(s) else {
+    if !is_held(s) {
         return ERROR_SOCKET;
-    };
+    }
     let Some(interval) = lasting(micros) else {
         return ERROR_RANGE;
     };
-    let mut socket = take(s, &parts, 0);
+    let mut socket = take(s, 0);
     socket.set_keep_alive(interval);
     put(s, socket);
     OK
@@ -120,13 +120,13 @@ pub extern "C" fn smoltcp_tcp_set_ack_delay_checked(s: &mut TcpSocket<'_>, micro
     ensures set { (v : View) (d : Option Duration) → held s.old ≡ Some v → lasting micros ≡ Some d
         → IsDone result (held s.new) (record v { ack_delay = d }) }
 {
-    let Some(parts) = parts_held(s) else {
+    if !is_held(s) {
         return ERROR_SOCKET;
-    };
+    }
     let Some(duration) = lasting(micros) else {
         return ERROR_RANGE;
     };
-    let mut socket = take(s, &parts, 0);
+    let mut socket = take(s, 0);
     socket.set_ack_delay(duration);
     put(s, socket);
     OK
@@ -140,10 +140,10 @@ pub extern "C" fn smoltcp_tcp_set_nagle_enabled_checked(s: &mut TcpSocket<'_>, e
     ensures stamps { flag_in s.new.timestamps ≡ flag_in s.old.timestamps }
     ensures set { (v : View) → held s.old ≡ Some v → IsDone result (held s.new) (record v { nagle = flag_in enabled }) }
 {
-    let Some(parts) = parts_held(s) else {
+    if !is_held(s) {
         return ERROR_SOCKET;
-    };
-    let mut socket = take(s, &parts, 0);
+    }
+    let mut socket = take(s, 0);
     socket.set_nagle_enabled(flag_in(enabled));
     put(s, socket);
     OK
@@ -157,10 +157,10 @@ pub extern "C" fn smoltcp_tcp_set_hop_limit_checked(s: &mut TcpSocket<'_>, hop_l
     ensures set { (v : View) → held s.old ≡ Some v
         → IsDone result (held s.new) (record v { hop_limit = byte_or_none hop_limit }) }
 {
-    let Some(parts) = parts_held(s) else {
+    if !is_held(s) {
         return ERROR_SOCKET;
-    };
-    let mut socket = take(s, &parts, 0);
+    }
+    let mut socket = take(s, 0);
     socket.set_hop_limit(byte_or_none(hop_limit));
     put(s, socket);
     OK
@@ -194,13 +194,13 @@ pub extern "C" fn smoltcp_tcp_set_congestion_control_checked(
     ensures set { (v : View) (k : CongestionControl) → held s.old ≡ Some v → control_by kind ≡ Some k
         → IsDone result (held s.new) (record v { congestion_controller = of_kind k }) }
 {
-    let Some(parts) = parts_held(s) else {
+    if !is_held(s) {
         return ERROR_SOCKET;
-    };
+    }
     let Some(control) = control_by(kind) else {
         return ERROR_RANGE;
     };
-    let mut socket = take(s, &parts, 0);
+    let mut socket = take(s, 0);
     socket.set_congestion_control(control);
     put(s, socket);
     OK

@@ -15,7 +15,8 @@ use c_structs::answers::{
     ERROR_SOCKET, OK, flag_answer, listen_answer, recv_answer, send_answer, state_answer,
 };
 use c_structs::endpoints::{Endpoint, listen_in};
-use c_structs::socket::{LARGEST, TcpSocket, closed_over, parts_held, put, take};
+use c_structs::socket::{TcpSocket, closed_over, is_held, put, state_held, take};
+use c_structs::sound::LARGEST;
 
 /// Waits for a peer on this endpoint. 0, or an error: `ERROR_ADDRESS` where the port is 0, `ERROR_STATE` where the
 /// socket is open but does not listen on this endpoint.
@@ -26,10 +27,10 @@ pub extern "C" fn smoltcp_tcp_listen_checked(s: &mut TcpSocket<'_>, endpoint: &E
     ensures table { (v : View) → held s.old ≡ Some v
         → Calls listen_answer (λ r w. Listens v (listen_in endpoint.now) r w) result (held s.new) }
 {
-    let Some(parts) = parts_held(s) else {
+    if !is_held(s) {
         return ERROR_SOCKET;
-    };
-    let mut socket = take(s, &parts, 0);
+    }
+    let mut socket = take(s, 0);
     let answer = socket.listen(listen_in(endpoint));
     put(s, socket);
     listen_answer(answer)
@@ -43,10 +44,10 @@ pub extern "C" fn smoltcp_tcp_close_checked(s: &mut TcpSocket<'_>) -> i64
     ensures answer { (v : View) → held s.old ≡ Some v → result ≡ pos 0 }
     ensures closed { (v : View) → held s.old ≡ Some v → held s.new ≡ Some (closed v) }
 {
-    let Some(parts) = parts_held(s) else {
+    if !is_held(s) {
         return ERROR_SOCKET;
-    };
-    let mut socket = take(s, &parts, 0);
+    }
+    let mut socket = take(s, 0);
     socket.close();
     put(s, socket);
     OK
@@ -61,10 +62,10 @@ pub extern "C" fn smoltcp_tcp_abort_checked(s: &mut TcpSocket<'_>) -> i64
     ensures answer { (v : View) → held s.old ≡ Some v → result ≡ pos 0 }
     ensures aborted { (v : View) → held s.old ≡ Some v → held s.new ≡ Some (aborted v) }
 {
-    let Some(parts) = parts_held(s) else {
+    if !is_held(s) {
         return ERROR_SOCKET;
-    };
-    let mut socket = take(s, &parts, 0);
+    }
+    let mut socket = take(s, 0);
     socket.abort();
     put(s, socket);
     OK
@@ -98,10 +99,10 @@ pub extern "C" fn smoltcp_tcp_send_checked(s: &mut TcpSocket<'_>, data: &[u8]) -
     ensures table { (v : View) → held s.old ≡ Some v
         → Calls send_answer (λ r w. Sends v «data».now r w) result (held s.new) }
 {
-    let Some(parts) = parts_held(s) else {
+    if !is_held(s) {
         return ERROR_SOCKET;
-    };
-    let mut socket = take(s, &parts, 0);
+    }
+    let mut socket = take(s, 0);
     let answer = socket.send_slice(data);
     put(s, socket);
     send_answer(answer)
@@ -118,10 +119,10 @@ pub extern "C" fn smoltcp_tcp_recv_checked(s: &mut TcpSocket<'_>, data: &mut [u8
     ensures table { (v : View) → held s.old ≡ Some v
         → Calls recv_answer (λ r w. Reads v «data».old r w «data».new) result (held s.new) }
 {
-    let Some(parts) = parts_held(s) else {
+    if !is_held(s) {
         return ERROR_SOCKET;
-    };
-    let mut socket = take(s, &parts, 0);
+    }
+    let mut socket = take(s, 0);
     socket.recv_queue();
     let answer = socket.recv_slice(data);
     put(s, socket);
@@ -136,10 +137,10 @@ pub extern "C" fn smoltcp_tcp_can_send_checked(s: &mut TcpSocket<'_>) -> i64
     ensures answer { (v : View) → held s.old ≡ Some v → result ≡ flag_answer (can_send v) }
     ensures same { (v : View) → held s.old ≡ Some v → held s.new ≡ Some v }
 {
-    let Some(parts) = parts_held(s) else {
+    if !is_held(s) {
         return ERROR_SOCKET;
-    };
-    let socket = take(s, &parts, 0);
+    }
+    let socket = take(s, 0);
     let answer = socket.can_send();
     put(s, socket);
     flag_answer(answer)
@@ -153,10 +154,10 @@ pub extern "C" fn smoltcp_tcp_can_recv_checked(s: &mut TcpSocket<'_>) -> i64
     ensures answer { (v : View) → held s.old ≡ Some v → result ≡ flag_answer (can_recv v) }
     ensures same { (v : View) → held s.old ≡ Some v → held s.new ≡ Some v }
 {
-    let Some(parts) = parts_held(s) else {
+    if !is_held(s) {
         return ERROR_SOCKET;
-    };
-    let socket = take(s, &parts, 0);
+    }
+    let socket = take(s, 0);
     let answer = socket.can_recv();
     put(s, socket);
     flag_answer(answer)
@@ -169,8 +170,8 @@ pub extern "C" fn smoltcp_tcp_state_checked(s: &TcpSocket<'_>) -> i64
     ensures refused { held s.now ≡ None → result ≡ error_socket }
     ensures answer { (v : View) → held s.now ≡ Some v → result ≡ state_answer v.state }
 {
-    match parts_held(s) {
-        None => ERROR_SOCKET,
-        Some(parts) => state_answer(parts.state),
+    if !is_held(s) {
+        return ERROR_SOCKET;
     }
+    state_answer(state_held(s))
 }

@@ -57,7 +57,7 @@ use c_structs::endpoints::{
     Address, Endpoint, NO_ENDPOINT, address_in, address_of, endpoint_in, endpoint_of, listen_in,
 };
 use c_structs::queue::{Queue, first_of};
-use c_structs::socket::LARGEST;
+use c_structs::sound::LARGEST;
 use control_wire::UdpRepr;
 use ip_wire::{ChecksumCapabilities, Error, IpAddress, IpEndpoint, IpRepr};
 use segment_wire::packet::{emit_udp, parse_udp};
