@@ -7,7 +7,7 @@ use sock_tcp::tuple::Tuple;
 
 /// An address: none where `version` is 0, `v4` where it is 4, else `v6`.
 #[repr(C)]
-#[derive(Clone, Copy)]
+#[derive(Clone, Copy, Default)]
 pub struct Address {
     pub version: u8,
     pub v4: [u8; 4],
@@ -16,7 +16,7 @@ pub struct Address {
 
 /// An address and a port.
 #[repr(C)]
-#[derive(Clone, Copy)]
+#[derive(Clone, Copy, Default)]
 pub struct Endpoint {
     pub addr: Address,
     pub port: u16,
@@ -24,7 +24,7 @@ pub struct Endpoint {
 
 /// The two ends of a connection, or none where `is_some` is 0.
 #[repr(C)]
-#[derive(Clone, Copy)]
+#[derive(Clone, Copy, Default)]
 pub struct Ends {
     pub is_some: u16,
     pub local: Endpoint,

@@ -23,7 +23,7 @@ use sock_tcp::{Parts, State};
 
 /// A range of bytes that are held ahead of a gap, as offsets from the receive queue's end.
 #[repr(C)]
-#[derive(Clone, Copy)]
+#[derive(Clone, Copy, Default)]
 pub struct HeldRange {
     pub start: usize,
     pub end: usize,
@@ -32,7 +32,7 @@ pub struct HeldRange {
 /// Where the receive queue lies in its buffer, and the ranges that are held behind it, the first `held_count` of the
 /// four.
 #[repr(C)]
-#[derive(Clone, Copy)]
+#[derive(Clone, Copy, Default)]
 pub struct ReceiveNumbers {
     pub read_at: usize,
     pub count: usize,
@@ -45,7 +45,7 @@ pub struct ReceiveNumbers {
 
 /// The estimator of the retransmission timeout: from 1,000 to 60,000 milliseconds.
 #[repr(C)]
-#[derive(Clone, Copy)]
+#[derive(Clone, Copy, Default)]
 pub struct EstimatorNumbers {
     pub timing: OptionTiming,
     pub smoothed: OptionSmoothed,
@@ -56,14 +56,14 @@ pub struct EstimatorNumbers {
 
 /// A moment in microseconds.
 #[repr(C)]
-#[derive(Clone, Copy)]
+#[derive(Clone, Copy, Default)]
 pub struct MomentNumber {
     pub micros: i64,
 }
 
 /// All that a TCP socket keeps but its two buffers. The names are those of smoltcp's fields.
 #[repr(C)]
-#[derive(Clone, Copy)]
+#[derive(Clone, Copy, Default)]
 pub struct Fields {
     pub rx: ReceiveNumbers,
     pub tx_read_at: usize,

@@ -12,7 +12,7 @@ use sock_tcp::timer::{AckDelayTimer, Timer};
 
 /// A byte, or none where `is_some` is 0.
 #[repr(C)]
-#[derive(Clone, Copy)]
+#[derive(Clone, Copy, Default)]
 pub struct OptionByte {
     pub is_some: u8,
     pub value: u8,
@@ -20,7 +20,7 @@ pub struct OptionByte {
 
 /// A 32-bit number, or none where `is_some` is 0.
 #[repr(C)]
-#[derive(Clone, Copy)]
+#[derive(Clone, Copy, Default)]
 pub struct OptionNumber {
     pub is_some: u32,
     pub value: u32,
@@ -28,7 +28,7 @@ pub struct OptionNumber {
 
 /// A length of time in microseconds, or none where `is_some` is 0.
 #[repr(C)]
-#[derive(Clone, Copy)]
+#[derive(Clone, Copy, Default)]
 pub struct OptionDuration {
     pub is_some: u64,
     pub micros: u64,
@@ -36,7 +36,7 @@ pub struct OptionDuration {
 
 /// A moment in microseconds, or none where `is_some` is 0.
 #[repr(C)]
-#[derive(Clone, Copy)]
+#[derive(Clone, Copy, Default)]
 pub struct OptionMoment {
     pub is_some: u64,
     pub micros: i64,
@@ -45,7 +45,7 @@ pub struct OptionMoment {
 /// A timer: 0 idle, 1 idle before a keep-alive at `at`, 2 retransmission at `at`, 3 fast retransmission, 4 probe of a
 /// window at `at`, so many microseconds behind the last, else the end of TIME-WAIT at `at`.
 #[repr(C)]
-#[derive(Clone, Copy)]
+#[derive(Clone, Copy, Default)]
 pub struct TimerNumbers {
     pub kind: u64,
     pub at: i64,
@@ -54,7 +54,7 @@ pub struct TimerNumbers {
 
 /// A delayed acknowledgement: 0 none, 1 until `at`, else at once.
 #[repr(C)]
-#[derive(Clone, Copy)]
+#[derive(Clone, Copy, Default)]
 pub struct DelayNumbers {
     pub kind: u64,
     pub at: i64,
@@ -62,7 +62,7 @@ pub struct DelayNumbers {
 
 /// SRTT and RTTVAR in milliseconds, or none where `is_some` is 0.
 #[repr(C)]
-#[derive(Clone, Copy)]
+#[derive(Clone, Copy, Default)]
 pub struct OptionSmoothed {
     pub is_some: u32,
     pub srtt: u32,
@@ -71,7 +71,7 @@ pub struct OptionSmoothed {
 
 /// The sequence number that is timed and when it was sent, or none where `is_some` is 0.
 #[repr(C)]
-#[derive(Clone, Copy)]
+#[derive(Clone, Copy, Default)]
 pub struct OptionTiming {
     pub is_some: u32,
     pub number: u32,
@@ -80,7 +80,7 @@ pub struct OptionTiming {
 
 /// The congestion controller: none where `kind` is 0, else Reno. Counts are bytes.
 #[repr(C)]
-#[derive(Clone, Copy)]
+#[derive(Clone, Copy, Default)]
 pub struct ControllerNumbers {
     pub kind: u32,
     pub in_timeout: u8,

@@ -1,6 +1,5 @@
 //! Sockets in memory, through the calls that C has. Two of TCP connect, send bytes both ways, and close; a datagram and
 //! an echo go from one host to the other.
-ghost use Rattle.std.specs.Prelude.{◌≤◌, ◌^◌, length};
 
 use crate::contexts::{smoltcp_tcp_connect_checked, smoltcp_tcp_poll_at_checked};
 use crate::icmp::{
@@ -27,9 +26,9 @@ use c_structs::answers::{
 };
 use c_structs::context::Cx;
 use c_structs::endpoints::{Address, Endpoint};
-use c_structs::fields::fields_of;
+use c_structs::fields::Fields;
 use c_structs::queue::Queue;
-use c_structs::socket::{TcpSocket, closed_over};
+use c_structs::socket::TcpSocket;
 
 const MTU: usize = 1500;
 
@@ -41,18 +40,15 @@ const CLOSED: i64 = 0;
 
 const TIME_WAIT: i64 = 10;
 
-fn made<'b>(rx: &'b mut [u8], tx: &'b mut [u8]) -> TcpSocket<'b>
-    requires rx { length rx.old ≤ 2 ^ 30 }
-    requires tx { length tx.old ≤ 2 ^ 30 }
-{
-    let (rx, tx, parts, _clock) = closed_over(rx, tx).into_parts();
+// A struct with its buffers set and all else 0, but for the flag of the timestamps.
+fn made<'b>(rx: &'b mut [u8], tx: &'b mut [u8]) -> TcpSocket<'b> {
     TcpSocket {
         rx_size: 0,
         tx_size: 0,
         rx,
         tx,
         timestamps: 1,
-        fields: fields_of(&parts),
+        fields: Fields::default(),
     }
 }
 
