@@ -1,6 +1,8 @@
 //! The fields of a TCP socket as numbers, and what they mean.
 ghost use Rattle.std.specs.Prelude.{◌≡◌, true};
 ghost use Rattle.sock_core.specs.EstimatorParts.{is_estimator, estimator_of};
+ghost use Rattle.sock_tcp.specs.Parts.{are_sound};
+ghost use Rattle.sock_tcp.specs.declared.state.State.TheVariants.{Closed};
 ghost use Rattle.c_structs.specs.Fields.{receive_in, estimator_in, parts_in};
 
 use crate::endpoints::{Endpoint, Ends, listen_in, listen_of, tuple_in, tuple_of};
@@ -188,8 +190,11 @@ fn moment_number(at: Instant) -> MomentNumber
     MomentNumber { micros: at.micros }
 }
 
-/// Parts for `read` to fill: a CLOSED socket with empty queues, no endpoint and no settings.
-pub fn blank() -> Parts {
+/// Parts for `read` to fill: those of a CLOSED socket over buffers of no bytes, with no endpoint and no settings.
+pub fn blank() -> Parts
+    ensures sound { are_sound result 0 0 ≡ true }
+    ensures closed { result.state ≡ Closed }
+{
     Parts {
         state: State::Closed,
         timer: Timer::Idle {
