@@ -20,3 +20,6 @@ pub mod TimingOut
 pub mod Probing
 pub mod AckAlone
 pub mod Repeating
+pub mod Moments
+pub mod Timed
+pub mod Clocks

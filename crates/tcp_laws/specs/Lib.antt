@@ -4,3 +4,4 @@ pub mod SocketBytes
 pub mod Polling
 pub mod Waking
 pub mod Repeating
+pub mod Clocks

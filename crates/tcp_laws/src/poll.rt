@@ -5,6 +5,7 @@ ghost use Rattle.sock_tcp.specs.View.{moment_of};
 ghost use Rattle.sock_tcp.specs.Polls.{IsLater};
 ghost use Rattle.sock_tcp.specs.Dispatch.{Dispatches};
 ghost use Rattle.sock_tcp.specs.Poll.{poll_moment};
+ghost use Rattle.tcp_laws.specs.Clocks.{KeepAliveIsBounded, WakeUpIsBounded};
 ghost use Rattle.tcp_laws.specs.Repeating.{AcksRepeatOnlySo};
 ghost use Rattle.tcp_laws.specs.Waking.{IsClosed, IsTimedOut, LastAckHearsNothing, ThirdDuplicateWakes, WindowWakes};
 ghost use Rattle.tcp_laws.specs.Polling.{KeepAliveWakes, NoWorkNoBytes, PayloadKeepsToWindows, PollHidesNothing, SleepsOnlySo, TimeoutWakes};
@@ -113,4 +114,17 @@ pub fn third_duplicate_wakes()
 /// keep-alive told does not count as told, and then one does.
 pub fn acks_repeat_only_so()
     ensures { AcksRepeatOnlySo }
+{}
+
+/// A wake-up has a bound, over any list of calls on such a socket with a clock that begins at 0 or later and does not
+/// go back: where a socket with a peer has a moment in its timer, or an acknowledgement due, `poll_at` is at the latest
+/// the latest moment told, plus the longest of a minute and of the keep-alive intervals and acknowledgement delays that
+/// were set.
+pub fn wake_up_is_bounded()
+    ensures { WakeUpIsBounded }
+{}
+
+/// With a keep-alive interval `poll_at` of a socket that has a peer is always so bounded.
+pub fn keep_alive_is_bounded()
+    ensures { KeepAliveIsBounded }
 {}
