@@ -72,6 +72,14 @@ impl<'a, G: TsvalSource> Socket<'a, G> {
             Some(generator) => Some(generator.tsval()),
         }
     }
+
+    /// Sets the source of the timestamps that the socket sends, of its own kind, or takes it away.
+    pub fn set_tsval_source(&mut self, source: Option<G>)
+        ensures control_block { self.new.control_block ≡ self.old.control_block }
+        ensures generator { self.new.tsval_generator ≡ source }
+    {
+        self.tsval_generator = source;
+    }
 }
 
 impl<'a, G> Socket<'a, G> {
