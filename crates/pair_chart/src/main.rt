@@ -26,7 +26,7 @@ of its line, a stream that fails with 2.
 
 --relative       counts the sequence numbers of each side from its SYN
 --sequence a|b   draws instead what a or b sent, what of it was acknowledged,
-                 and the window, as sequence numbers over time
+                 and the window, as sequence numbers over time, from its SYN on
 ";
 
 fn main(rt: HostRuntime) -> ExitCode {

@@ -17,55 +17,96 @@ pub enum Task {
     Draw(Picture, Option<String>),
 }
 
-/// Reads the arguments.
+/// Reads the arguments: options and the file in any order, each once.
 pub fn task_of(rt: &HostRuntime) -> Result<Task, Fault> {
     let Ok(mut args) = env::args(rt) else {
         return Err(Fault::Memory);
     };
     let _program = args.next();
-    let mut picture = Picture::Chart { relative: false };
-    let mut file = None;
-    let mut wants_side = false;
+    let mut options = Options::new();
     for word in args {
-        if wants_side {
-            picture = Picture::Sequence(side_of(word.as_str())?);
-            wants_side = false;
-            continue;
+        if word.as_str() == "--help" {
+            return Ok(Task::Help);
         }
-        match option_of(word.as_str(), file.is_none())? {
-            Word::Help => return Ok(Task::Help),
-            Word::Relative => picture = Picture::Chart { relative: true },
-            Word::Sequence => wants_side = true,
-            Word::File => file = Some(word),
-        }
+        options.take(word)?;
     }
-    if wants_side {
-        return Err(Fault::Usage(USAGE));
-    }
-    Ok(Task::Draw(picture, file))
+    options.into_task()
+}
+
+/// What the words of the arguments said so far.
+#[derive(Drop)]
+pub struct Options {
+    relative: bool,
+    sequence: Sequence,
+    file: Option<String>,
+}
+
+// Whether a side's sequence numbers were asked for, and whose.
+#[derive(Clone, Copy)]
+enum Sequence {
+    None,
+    SideToCome,
+    Of(Side),
 }
 
 // What a word of the arguments stands for.
 #[derive(Clone, Copy)]
 enum Word {
-    Help,
     Relative,
     Sequence,
+    Side(Side),
     File,
 }
 
-// A file may be named where none was before; its name does not begin with `--`.
-fn option_of(word: &str, may_be_file: bool) -> Result<Word, Fault> {
-    if word == "--help" {
-        Ok(Word::Help)
-    } else if word == "--relative" {
-        Ok(Word::Relative)
-    } else if word == "--sequence" {
-        Ok(Word::Sequence)
-    } else if may_be_file && !word.starts_with("--") {
-        Ok(Word::File)
-    } else {
-        Err(Fault::Usage(USAGE))
+impl Options {
+    /// No word was read.
+    pub fn new() -> Options {
+        Options {
+            relative: false,
+            sequence: Sequence::None,
+            file: None,
+        }
+    }
+
+    /// Reads one word more, which is refused where it is none, or was there before.
+    pub fn take(&mut self, word: String) -> Result<(), Fault> {
+        match (self.word_of(word.as_str())?, self.sequence) {
+            (Word::Relative, _) if !self.relative => self.relative = true,
+            (Word::Sequence, Sequence::None) => self.sequence = Sequence::SideToCome,
+            (Word::Side(side), _) => self.sequence = Sequence::Of(side),
+            (Word::File, _) if self.file.is_none() => self.file = Some(word),
+            _ => return Err(Fault::Usage(USAGE)),
+        }
+        Ok(())
+    }
+
+    // A file's name does not begin with `--`.
+    fn word_of(&self, word: &str) -> Result<Word, Fault> {
+        if matches!(self.sequence, Sequence::SideToCome) {
+            Ok(Word::Side(side_of(word)?))
+        } else if word == "--relative" {
+            Ok(Word::Relative)
+        } else if word == "--sequence" {
+            Ok(Word::Sequence)
+        } else if !word.starts_with("--") {
+            Ok(Word::File)
+        } else {
+            Err(Fault::Usage(USAGE))
+        }
+    }
+
+    /// What all words ask for. Sequence numbers over time count from the SYN in any case.
+    pub fn into_task(self) -> Result<Task, Fault> {
+        let Options {
+            relative,
+            sequence,
+            file,
+        } = self;
+        match sequence {
+            Sequence::None => Ok(Task::Draw(Picture::Chart { relative }, file)),
+            Sequence::Of(side) => Ok(Task::Draw(Picture::Sequence(side), file)),
+            Sequence::SideToCome => Err(Fault::Usage(USAGE)),
+        }
     }
 }
 

@@ -1,6 +1,7 @@
 //! What is drawn of worked examples, and how drawing ends where a stream fails or a script has a fault. The numbers are
 //! worked out from the rows: the row of event n begins at 104 + 38 n, a segment arrives 9 below that and departs 29
 //! below.
+use crate::options::{Options, Task};
 use script_chart::picture::Picture;
 use script_chart::play::draw;
 use script_chart::text::Quoted;
@@ -285,6 +286,55 @@ fn charts_are_whole(rt: HostRuntime) -> Result<(), Fail> {
         assert!(rt; end == End::Done || end == End::Memory);
         assert!(rt; bytes.is_empty() || bytes.as_slice().ends_with(b"</svg>\n"));
         assert!(rt; end == End::Memory || !bytes.is_empty());
+    }
+    Ok(())
+}
+
+// What the words ask for: `chart`, `relative`, `a` or `b`, with `+` where a file is named, or `usage`.
+fn asked(alloc: Global, words: &[&str]) -> Result<&'static str, Fail> {
+    let mut options = Options::new();
+    for word in words {
+        if options.take(format!(in alloc; "{word}")?).is_err() {
+            return Ok("usage");
+        }
+    }
+    let Ok(task) = options.into_task() else {
+        return Ok("usage");
+    };
+    Ok(match task {
+        Task::Draw(Picture::Chart { relative: false }, None) => "chart",
+        Task::Draw(Picture::Chart { relative: true }, None) => "relative",
+        Task::Draw(Picture::Chart { relative: true }, Some(_)) => "relative+",
+        Task::Draw(Picture::Sequence(Side::A), None) => "a",
+        Task::Draw(Picture::Sequence(Side::A), Some(_)) => "a+",
+        Task::Draw(Picture::Sequence(Side::B), _) => "b",
+        Task::Draw(_, Some(_)) => "chart+",
+        Task::Help => "help",
+    })
+}
+
+const WORDS: &[(&[&str], &str)] = &[
+    (&[], "chart"),
+    (&["F"], "chart+"),
+    (&["--relative", "F"], "relative+"),
+    (&["F", "--relative"], "relative+"),
+    (&["--sequence", "a", "--relative"], "a"),
+    (&["--relative", "--sequence", "a"], "a"),
+    (&["--sequence", "a", "F"], "a+"),
+    (&["F", "--sequence", "a"], "a+"),
+    (&["--sequence", "b", "--relative"], "b"),
+    (&["--relative", "--relative"], "usage"),
+    (&["--sequence", "a", "--sequence", "b"], "usage"),
+    (&["--sequence"], "usage"),
+    (&["--sequence", "c"], "usage"),
+    (&["F", "G"], "usage"),
+    (&["--other"], "usage"),
+];
+
+#[test]
+fn options_in_any_order(rt: HostRuntime) -> Result<(), Fail> {
+    for (words, want) in WORDS {
+        assert!(rt; asked(rt.alloc(), words)? == *want, "{}", *want);
     }
     Ok(())
 }

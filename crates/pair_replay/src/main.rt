@@ -14,9 +14,9 @@ const HELP: &str = "\
 usage: pair_replay [FILE]
 
 Runs the script of FILE, or of standard input, over two TCP sockets, and prints
-a line for each event and the state of the side that it touched. A wrong script
-ends with status 1, the number of its line and what would be right, a stream
-that fails with 2.
+a line for each event, and at the end the state of each side and how many bytes
+it accepted, handed out and has queued. A wrong script ends with status 1, the
+number of its line and what would be right, a stream that fails with 2.
 ";
 
 fn main(rt: HostRuntime) -> ExitCode {

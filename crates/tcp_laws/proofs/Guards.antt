@@ -16,7 +16,7 @@ use Rattle.tcp_laws.specs.Polling.{ComesBy, WakesWithin, TimeoutWakes}
 use Rattle.sock_tcp.specs.declared.tuple.Tuple.{Tuple}
 
 -- the earlier of two comes by any moment by which one of them comes
-first_comes : (p q : PollAt) (at : Instant) → ComesBy p at → ComesBy (earlier p q) at
+pub first_comes : (p q : PollAt) (at : Instant) → ComesBy p at → ComesBy (earlier p q) at
 first_comes poll.Now q at h = tt
 first_comes poll.Ingress q at h = absurd h
 first_comes (poll.Time t) poll.Now at h = tt
@@ -27,7 +27,7 @@ first_comes (poll.Time t) (poll.Time u) at h = go (int_le t.micros u.micros) ref
     go true e = h
     go false e = grind (arith, ints)
 
-second_comes : (p q : PollAt) (at : Instant) → ComesBy q at → ComesBy (earlier p q) at
+pub second_comes : (p q : PollAt) (at : Instant) → ComesBy q at → ComesBy (earlier p q) at
 second_comes poll.Now q at h = tt
 second_comes poll.Ingress q at h = h
 second_comes (poll.Time t) poll.Now at h = tt

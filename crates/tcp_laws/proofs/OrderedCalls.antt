@@ -158,7 +158,7 @@ module _ (f : Facts) (stamps : Bool) where
       go true = h
       go false = nothing_ordered u h
 
-  before_ordered : (v : View) → IsOrdered v → IsOrdered (before_emit v f stamps).view
+  pub before_ordered : (v : View) → IsOrdered v → IsOrdered (before_emit v f stamps).view
   unfolding before_emit begun
   before_ordered v h = ends_ordered (begun_to v.tuple v f).peer (begun_to v.tuple v f).view (begun_ordered v.tuple v h)
 
@@ -250,7 +250,7 @@ keep_row state.LastAck x t keep i n r = (new_has_moment x t, r.1)
 keep_row state.FinWait2 x t keep i n r = (new_has_moment x t, r.1, r.2)
 keep_row state.TimeWait x t keep i n r = (new_close x t r.0, r.1, r.2)
 
-same_flag : (a b : Bool) → ((a ≡ b → ⊥) → ⊥) → a ≡ b
+pub same_flag : (a b : Bool) → ((a ≡ b → ⊥) → ⊥) → a ≡ b
 same_flag true true h = refl
 same_flag true false h = absurd (h (λ e. absurd cc))
 same_flag false true h = absurd (h (λ e. absurd cc))

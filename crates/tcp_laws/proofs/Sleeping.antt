@@ -25,6 +25,7 @@ use Rattle.sock_tcp.specs.declared.timer.AckDelayTimer.TheVariants as ack_delay
 use Rattle.sock_tcp.specs.declared.timer.Timer.{Timer}
 use Rattle.sock_tcp.specs.declared.timer.Timer.TheVariants as timer
 use Rattle.sock_tcp.specs.declared.tuple.Tuple.{Tuple}
+use Rattle.tcp_laws.specs.Waking.{HasToSend}
 use Rattle.tcp_laws.proofs.Ordered.{IsOpen, IsOrdered, IsPeeredIn, Row}
 use Rattle.tcp_laws.proofs.OrderedCalls.{reached_ordered}
 
@@ -59,13 +60,17 @@ not_owed : (b : Bool) (d : AckDelayTimer) → (if b then delay_poll d else poll.
 not_owed true d e = absurd (nothing_delayed d e)
 not_owed false d e = refl
 
--- a socket with a peer whose `poll_at` answers `Ingress`
+-- a socket with a peer that has nothing to send at once, and whose timer has no moment
+pub record Quiet (v : View) (t : Tuple) (f : Facts) (stamps : Bool) : Type 0 where
+  pub timer : v.timer ≡ timer.Idle None
+  pub no_data : data_due v t f stamps ≡ false
+  pub not_closed : is_closed v.state ≡ false
+
+-- one whose `poll_at` answers `Ingress`
 record Waits (v : View) (t : Tuple) (f : Facts) (stamps : Bool) : Type 0 where
-  timer : v.timer ≡ timer.Idle None
+  quiet : Quiet v t f stamps
   timeout : v.timeout ≡ None
   no_ack : ack_due v ≡ false
-  no_data : data_due v t f stamps ≡ false
-  not_closed : is_closed v.state ≡ false
 
 waits : (v : View) (t : Tuple) (f : Facts) (stamps : Bool) → poll_moment_to (Some t) v f stamps ≡ poll.Ingress → Waits v t f stamps
 waits v t f stamps e = go (is_due_now v t f stamps) refl e
@@ -82,11 +87,9 @@ waits v t f stamps e = go (is_due_now v t f stamps) refl e
         let m = both_wait (timer_poll v.timer) (earlier (timeout_poll v.timeout v.remote_last_ts) (ack_poll v)) e in
         let n = both_wait (timeout_poll v.timeout v.remote_last_ts) (ack_poll v) m.1 in
         record {
-          timer = idle_is v.timer m.0;
+          quiet = record { timer = idle_is v.timer m.0; no_data = b.1; not_closed = c.1 };
           timeout = no_timeout v.timeout v.remote_last_ts c.0 n.0;
           no_ack = not_owed (ack_due v) v.ack_delay_timer n.1;
-          no_data = b.1;
-          not_closed = c.1;
         }
 
 -- ---- what is not due
@@ -133,11 +136,26 @@ open_window : (c : AnyController) → IsOpen c → 0 < congestion_window c
 open_window (controller.None x) h = omega arith
 open_window (controller.Reno r) h = h.cwnd
 
+-- what waits is due where the peer has a window and nothing is in flight
+pub window_sends : (v : View) (t : Tuple) (f : Facts) (stamps : Bool) → IsOrdered v → 0 < v.remote_win_len → flight v ≡ 0 → HasToSend v → data_due v t f stamps ≡ true
+window_sends v t f stamps h win z send = go (data_due v t f stamps) refl
+  where
+    empty : data_due v t f stamps ≡ false → length v.tx_buffer.bytes ≡ 0
+    empty e = omega (arith, z, win, data_goes v t f stamps e z, open_window v.congestion_controller h.congestion)
+
+    nothing : HasToSend v → data_due v t f stamps ≡ false → ⊥
+    nothing (inl some) e = omega (arith, some, empty e)
+    nothing (inr c) e = fin_due v t f stamps c h.una_small h.nxt_small z (empty e) e
+
+    go : (b : Bool) → data_due v t f stamps ≡ b → data_due v t f stamps ≡ true
+    go true e = e
+    go false e = absurd (nothing send e)
+
 zero_or_not : (n : ℕ) → (n ≡ 0) ⊎ (0 < n)
 zero_or_not zero = inl refl
 zero_or_not (suc n) = inr (omega arith)
 
-module _ (v : View) (t : Tuple) (f : Facts) (stamps : Bool) (h : IsOrdered v) (w : Waits v t f stamps) where
+module _ (v : View) (t : Tuple) (f : Facts) (stamps : Bool) (h : IsOrdered v) (w : Quiet v t f stamps) where
   abbrev n : ℕ
   n = length v.tx_buffer.bytes
 
@@ -167,7 +185,7 @@ module _ (v : View) (t : Tuple) (f : Facts) (stamps : Bool) (h : IsOrdered v) (w
   row : (st : State) → v.state ≡ st → Row st (timer.Idle None) v.keep_alive (flight v) n
   row st is = subst (λ z. Row z (timer.Idle None) v.keep_alive (flight v) n) is (subst (λ z. Row v.state z v.keep_alive (flight v) n) w.timer h.row)
 
-  no_moment : (st : State) → v.state ≡ st → v.tuple ≡ Some t → v.keep_alive ≡ None
+  pub no_moment : (st : State) → v.state ≡ st → v.tuple ≡ Some t → v.keep_alive ≡ None
   no_moment state.Closed is p = absurd (true≢false (sym (ap is_closed is) ∙ w.not_closed))
   no_moment state.Listen is p = absurd (none-some t (sym (subst (λ z. IsPeeredIn z v.tuple) is h.peered) ∙ p))
   no_moment state.SynSent is p = absurd (syn_due v t f stamps (ap is_opening is) (row state.SynSent is).0 w.no_data)
@@ -203,7 +221,7 @@ pub keep_alive_wakes : KeepAliveWakes
 unfolding poll_moment
 keep_alive_wakes v t d f stamps r p k e =
     let w = waits v t f stamps (subst (λ o. poll_moment_to o v f stamps ≡ poll.Ingress) p e) in
-    none-some d (sym (no_moment v t f stamps (reached_ordered v r) w v.state refl p) ∙ k)
+    none-some d (sym (no_moment v t f stamps (reached_ordered v r) w.quiet v.state refl p) ∙ k)
 
 no_peer : (st : State) (peer empty paused : Bool) → (peer ≡ true → ⊥) → works_in st peer empty paused ≡ true → IsPeeredIn st None → ⊥
 no_peer state.Closed peer empty paused nr e p = nr e
@@ -222,11 +240,11 @@ sleeps_only_so v f stamps r work e = go v.tuple refl
     go (Some t) p =
         let w = waits v t f stamps (subst (λ o. poll_moment_to o v f stamps ≡ poll.Ingress) p e) in
         record {
-          timer = w.timer;
+          timer = w.quiet.timer;
           timeout = w.timeout;
-          keep_alive = no_moment v t f stamps h w v.state refl p;
+          keep_alive = no_moment v t f stamps h w.quiet v.state refl p;
           no_ack = w.no_ack;
-          waits = sleeps_in v t f stamps h w v.state refl work;
+          waits = sleeps_in v t f stamps h w.quiet v.state refl work;
         }
 
 pub no_work_no_bytes : NoWorkNoBytes
