@@ -20,12 +20,18 @@
 
 enum { SOCKETS = 16, ROOM = 65536, MTU = 1500, TURN = 64, MICROS = 1000000 };
 
-/* A connection: its socket, the socket's buffers, and what was read and is not answered yet. */
+/* In seconds: how long a connection may be silent, and how long before it stands; how long one waits for its peer's
+ * FIN. In microseconds: the pause of a socket that asks for a dispatch again at once in FIN-WAIT-2. */
+enum { SILENT = 60, OPENING = 3, HALF_CLOSED = 60, PAUSE = 20000 };
+
+/* A connection: its socket, the socket's buffers, and what was read and is not answered yet; its state, and since when;
+ * and before what moment it is not to be dispatched. */
 static struct connection {
     struct smoltcp_tcp tcp;
     uint8_t rx[ROOM], tx[ROOM], kept[ROOM];
     size_t begin, end;
     int port;
+    int64_t state, since, not_before;
 } connections[SOCKETS];
 
 static struct smoltcp_udp datagrams;
@@ -62,14 +68,25 @@ static void listen_again(struct connection *c) {
     if (smoltcp_tcp_state(&c->tcp) != SMOLTCP_CLOSED) return;
     c->begin = c->end = 0;
     smoltcp_tcp_listen(&c->tcp, &at);
+    smoltcp_tcp_set_timeout(&c->tcp, OPENING * (int64_t)MICROS);
 }
 
 static void make(struct connection *c, int port) {
     c->port = port;
-    c->tcp.rx = c->rx; c->tcp.rx_len = ROOM; c->tcp.tx = c->tx; c->tcp.tx_len = ROOM;
-    smoltcp_tcp_init(&c->tcp);
-    smoltcp_tcp_set_timeout(&c->tcp, 60 * (int64_t)MICROS);
-    smoltcp_tcp_set_keep_alive(&c->tcp, 15 * (int64_t)MICROS);
+    smoltcp_tcp_init(&c->tcp, c->rx, ROOM, c->tx, ROOM);
+    smoltcp_tcp_set_keep_alive(&c->tcp, SILENT / 4 * (int64_t)MICROS);
+}
+
+/* Sees the state change: the timeout is short before the connection stands. A peer that keeps one in FIN-WAIT-2,
+ * whatever it sends, loses it. */
+static void watch(struct connection *c) {
+    int64_t state = smoltcp_tcp_state(&c->tcp);
+    if (state != c->state) {
+        c->state = state;
+        c->since = cx.now;
+        smoltcp_tcp_set_timeout(&c->tcp, (state < SMOLTCP_ESTABLISHED ? OPENING : SILENT) * (int64_t)MICROS);
+    }
+    if (state == SMOLTCP_FIN_WAIT_2 && cx.now - c->since > HALF_CLOSED * (int64_t)MICROS) smoltcp_tcp_abort(&c->tcp);
 }
 
 /* Sends what is kept, as far as there is room. Answers whether all is sent. */
@@ -118,41 +135,110 @@ static void make_datagrams(void) {
     smoltcp_udp_bind(&datagrams, &at);
 }
 
+/* Sends a packet. */
+static void emit(const uint8_t *packet, int64_t len) {
+    if (len > 0 && write(device, packet, (size_t)len) < 0) perror("write");
+}
+
 /* Sends the datagrams that have come back to where they came from. */
 static void echo_datagrams(void) {
     uint8_t data[MTU], packet[MTU];
     struct smoltcp_udp_metadata meta;
-    int64_t n;
-    while ((n = smoltcp_udp_recv(&datagrams, &meta, data, sizeof data)) >= 0)
-        smoltcp_udp_send(&datagrams, &cx, &meta, data, (size_t)n);
-    while ((n = smoltcp_udp_dispatch(&datagrams, packet, sizeof packet)) > 0)
-        if (write(device, packet, (size_t)n) < 0) perror("write");
-}
-
-/* Gives what has arrived to the socket that it is for, and sends its answer. */
-static void take_packets(void) {
-    uint8_t packet[MTU], reply[MTU];
-    int turn, i;
+    int turn;
     for (turn = 0; turn < TURN; turn++) {
-        ssize_t len = read(device, packet, sizeof packet);
-        if (len <= 0) return;
-        if (smoltcp_udp_process(&datagrams, &cx, packet, (size_t)len) != SMOLTCP_NOT_ACCEPTED) continue;
-        for (i = 0; i < SOCKETS; i++) {
-            int64_t n = smoltcp_tcp_process(&connections[i].tcp, &cx, packet, (size_t)len, reply, sizeof reply);
-            if (n > 0 && write(device, reply, (size_t)n) < 0) perror("write");
-            if (n != SMOLTCP_NOT_ACCEPTED) break;
-        }
+        int64_t n = smoltcp_udp_recv(&datagrams, &meta, data, sizeof data);
+        if (n < 0) return;
+        smoltcp_udp_send(&datagrams, &cx, &meta, data, (size_t)n);
+        emit(packet, smoltcp_udp_dispatch(&datagrams, packet, sizeof packet));
     }
 }
 
-static void emit_packets(struct connection *c) {
+/* Whether one host has this address: not this one, and no group or network of hosts. */
+static int is_another_host(const uint8_t *address) {
+    int local = memcmp(address, cx.v4, 3) == 0;
+    return address[0] != 0 && address[0] != 127 && address[0] < 224 && memcmp(address, cx.v4, 4) != 0
+           && !(local && (address[3] == 0 || address[3] == 255));
+}
+
+/* What a host looks at before a socket sees a packet: it is to this host, and from another. */
+static int is_for_host(const uint8_t *packet, size_t len) {
+    return len >= 20 && packet[0] >> 4 == 4 && memcmp(packet + 16, cx.v4, 4) == 0 && is_another_host(packet + 12);
+}
+
+/* Offers the packet to the connections, or to the listeners, until one takes it. */
+static int64_t offer(int listeners, const uint8_t *packet, size_t len, uint8_t *reply) {
+    int i;
+    for (i = 0; i < SOCKETS; i++) {
+        int64_t n;
+        if (smoltcp_tcp_is_listening(&connections[i].tcp) != listeners) continue;
+        n = smoltcp_tcp_process(&connections[i].tcp, &cx, packet, len, reply, MTU);
+        if (n != SMOLTCP_NOT_ACCEPTED) return n;
+    }
+    return SMOLTCP_NOT_ACCEPTED;
+}
+
+/* The port to which a SYN without ACK goes, or 0 for another packet. */
+static int port_of_syn(const uint8_t *packet, size_t len) {
+    size_t at = (size_t)(packet[0] & 15) * 4;
+    if (packet[9] != 6 || len < at + 20 || (packet[at + 13] & 22) != 2) return 0;
+    return packet[at + 2] << 8 | packet[at + 3];
+}
+
+/* The connection of a port that has waited longest for its handshake's end gives way to another SYN. */
+static int give_way(int port) {
+    struct connection *oldest = NULL;
+    uint8_t packet[MTU];
+    int i;
+    for (i = 0; i < SOCKETS; i++) {
+        struct connection *c = &connections[i];
+        if (c->port != port || smoltcp_tcp_state(&c->tcp) != SMOLTCP_SYN_RECEIVED) continue;
+        if (!oldest || c->since < oldest->since) oldest = c;
+    }
+    if (!oldest) return 0;
+    smoltcp_tcp_abort(&oldest->tcp);
+    emit(packet, smoltcp_tcp_dispatch(&oldest->tcp, &cx, packet, sizeof packet));
+    listen_again(oldest);
+    oldest->since = cx.now;
+    return 1;
+}
+
+/* Gives a packet to the socket that it is for, connections first, and answers it. */
+static void take_packet(const uint8_t *packet, size_t len) {
+    uint8_t reply[MTU];
+    int64_t n;
+    int port;
+    if (!is_for_host(packet, len)) return;
+    if (smoltcp_udp_process(&datagrams, &cx, packet, len) != SMOLTCP_NOT_ACCEPTED) return;
+    n = offer(0, packet, len, reply);
+    if (n == SMOLTCP_NOT_ACCEPTED) n = offer(1, packet, len, reply);
+    port = port_of_syn(packet, len);
+    if (n == SMOLTCP_NOT_ACCEPTED && give_way(port)) n = offer(1, packet, len, reply);
+    if (n == SMOLTCP_NOT_ACCEPTED && port != 7 && port != 80) n = smoltcp_tcp_reset(packet, len, reply, sizeof reply);
+    emit(reply, n);
+}
+
+static void take_packets(void) {
     uint8_t packet[MTU];
     int turn;
     for (turn = 0; turn < TURN; turn++) {
+        ssize_t len = read(device, packet, sizeof packet);
+        if (len <= 0) return;
+        take_packet(packet, (size_t)len);
+    }
+}
+
+/* Emits what is due, at most so many packets a round. A socket in FIN-WAIT-2 emits one, and pauses where it asks for
+ * the next at once: a peer can make it do so at every dispatch. */
+static void emit_packets(struct connection *c) {
+    uint8_t packet[MTU];
+    int waits = smoltcp_tcp_state(&c->tcp) == SMOLTCP_FIN_WAIT_2, most = waits ? 1 : TURN, turn;
+    if (!waits) c->not_before = 0;
+    for (turn = 0; turn < most && c->not_before <= cx.now; turn++) {
         int64_t len = smoltcp_tcp_dispatch(&c->tcp, &cx, packet, sizeof packet);
         if (len <= 0) return;
-        if (write(device, packet, (size_t)len) < 0) perror("write");
+        emit(packet, len);
     }
+    if (waits && smoltcp_tcp_poll_at(&c->tcp, &cx) <= cx.now) c->not_before = cx.now + PAUSE;
 }
 
 /* Waits for a packet, or until a socket wants its dispatch; at most a second. */
@@ -162,6 +248,7 @@ static void wait_for_work(void) {
     int i;
     for (i = 0; i < SOCKETS; i++) {
         int64_t at = smoltcp_tcp_poll_at(&connections[i].tcp, &cx);
+        if (at < connections[i].not_before) at = connections[i].not_before;
         if (at < earliest) earliest = at;
     }
     poll(&fd, 1, earliest <= cx.now ? 0 : (int)((earliest - cx.now + 999) / 1000));
@@ -184,6 +271,7 @@ int main(int argc, char **argv) {
             struct connection *c = &connections[i];
             listen_again(c);
             if (c->port == 7) serve_echo(c); else serve_page(c);
+            watch(c);
             emit_packets(c);
         }
         wait_for_work();

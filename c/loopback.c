@@ -6,7 +6,7 @@
 
 #include "smoltcp_socket.h"
 
-enum { ROOM = 4096, MTU = 1500, QUEUE = 100 };
+enum { ROOM = 4096, MTU = 1500, QUEUE = 100, TURN = 64 };
 
 static uint8_t a_rx[ROOM], a_tx[ROOM], b_rx[ROOM], b_tx[ROOM];
 static struct smoltcp_tcp a, b;
@@ -33,14 +33,15 @@ static struct smoltcp_endpoint endpoint(int last, int port) {
 static int exchange(struct smoltcp_tcp *from, struct smoltcp_context *of_from, struct smoltcp_tcp *to,
                     struct smoltcp_context *of_to) {
     uint8_t packet[MTU], reply[MTU];
-    int64_t len;
-    int count = 0;
-    while ((len = smoltcp_tcp_dispatch(from, of_from, packet, sizeof packet)) > 0) {
+    int64_t len = 0;
+    int count;
+    for (count = 0; count < TURN; count++) {
+        len = smoltcp_tcp_dispatch(from, of_from, packet, sizeof packet);
+        if (len <= 0) break;
         len = smoltcp_tcp_process(to, of_to, packet, (size_t)len, reply, sizeof reply);
         if (len > 0) smoltcp_tcp_process(from, of_from, reply, (size_t)len, packet, sizeof packet);
-        count++;
     }
-    want("dispatch", len, 0);
+    want("dispatch", len < 0, 0);
     return count;
 }
 
@@ -168,28 +169,71 @@ static void echoes(void) {
     want("closed", smoltcp_icmp_process(&pinger, &of_a, packet, (size_t)len), SMOLTCP_NOT_ACCEPTED);
 }
 
+/* The settings of a are read as they were set. */
+static void settings(void) {
+    want("timeout is", smoltcp_tcp_timeout(&a), 60000000);
+    want("no keep-alive", smoltcp_tcp_keep_alive(&a), -1);
+    want("delay is", smoltcp_tcp_ack_delay(&a), 10000);
+    want("no delay", smoltcp_tcp_ack_delay(&b), -1);
+    want("nagle is", smoltcp_tcp_nagle_enabled(&a), 0);
+    want("hop limit is", smoltcp_tcp_hop_limit(&a), 32);
+    want("control is", smoltcp_tcp_congestion_control(&a), SMOLTCP_CONGESTION_NONE);
+    want("timestamps are", smoltcp_tcp_timestamp_enabled(&a), 1);
+}
+
+/* A packet that is a fragment, and one that no socket takes. A fragment's header keeps a right checksum. */
+static void refused(void) {
+    static struct smoltcp_tcp c, d;
+    static uint8_t c_rx[ROOM], c_tx[ROOM], d_rx[ROOM], d_tx[ROOM];
+    static const uint8_t more_follow[2] = {0x20, 0}, offset[2] = {0, 185};
+    struct smoltcp_endpoint at_a = endpoint(1, 49153), at_b = endpoint(2, 8);
+    uint8_t packet[MTU], cut[MTU], reply[MTU];
+    int64_t len, n;
+    int k;
+
+    want("init", smoltcp_tcp_init(&c, c_rx, ROOM, c_tx, ROOM), SMOLTCP_OK);
+    want("init", smoltcp_tcp_init(&d, d_rx, ROOM, d_tx, ROOM), SMOLTCP_OK);
+    want("listen", smoltcp_tcp_listen(&d, &at_b), SMOLTCP_OK);
+    want("connect", smoltcp_tcp_connect(&c, &of_a, &at_b, &at_a), SMOLTCP_OK);
+    len = smoltcp_tcp_dispatch(&c, &of_a, packet, sizeof packet);
+    for (k = 0; k < 2; k++) {
+        const uint8_t *fragment = k ? offset : more_follow;
+        uint32_t sum;
+        memcpy(cut, packet, (size_t)len);
+        sum = ((uint32_t)cut[10] << 8) + cut[11] + ((uint32_t)cut[6] << 8) + cut[7];
+        cut[6] = fragment[0]; cut[7] = fragment[1];
+        sum += 0xffffu - (((uint32_t)fragment[0] << 8) + fragment[1]);
+        while (sum > 0xffff) sum = (sum & 0xffff) + (sum >> 16);
+        cut[10] = (uint8_t)(sum >> 8); cut[11] = (uint8_t)sum;
+        want("fragment", smoltcp_tcp_process(&d, &of_b, cut, (size_t)len, reply, sizeof reply), SMOLTCP_NOT_ACCEPTED);
+        want("still listens", smoltcp_tcp_state(&d), SMOLTCP_LISTEN);
+    }
+    n = smoltcp_tcp_reset(packet, (size_t)len, reply, sizeof reply);
+    want("an RST", n, 40);
+    want("for an RST", smoltcp_tcp_reset(reply, (size_t)n, packet, sizeof packet), 0);
+    want("process", smoltcp_tcp_process(&c, &of_a, reply, (size_t)n, packet, sizeof packet), 0);
+    want("reset", smoltcp_tcp_state(&c), SMOLTCP_CLOSED);
+}
+
 int main(void) {
     static const uint8_t line[] = "the quick brown fox\n";
     uint8_t bytes[64], reply[MTU];
-    struct smoltcp_endpoint at_a = endpoint(1, 49152), at_b = endpoint(2, 7);
+    struct smoltcp_endpoint at_a = endpoint(1, 49152), at_b = endpoint(2, 7), end;
     int64_t n;
 
-    memset(&a, 0, sizeof a);
-    memset(&b, 0, sizeof b);
-    a.rx = a_rx; a.rx_len = ROOM; a.tx = a_tx; a.tx_len = ROOM;
-    b.rx = b_rx; b.rx_len = ROOM; b.tx = b_tx; b.tx_len = ROOM;
     of_a.ip_mtu = of_b.ip_mtu = MTU;
     of_a.word = 1000; of_b.word = 5000;
     of_a.v4[0] = of_b.v4[0] = 10; of_a.v4[3] = 1; of_b.v4[3] = 2;
 
     /* What C may break is met. */
-    want("zeros", smoltcp_tcp_close(&a), SMOLTCP_ERROR_SOCKET);
+    want("size", (int64_t)smoltcp_tcp_size(), SMOLTCP_TCP_SIZE);
     want("null", smoltcp_tcp_close(NULL), SMOLTCP_ERROR_NULL);
-    want("init a", smoltcp_tcp_init(&a), SMOLTCP_OK);
-    want("init b", smoltcp_tcp_init(&b), SMOLTCP_OK);
-    a.rx_len--;
-    want("another size", smoltcp_tcp_listen(&a, &at_a), SMOLTCP_ERROR_SOCKET);
-    a.rx_len++;
+    want("no buffer", smoltcp_tcp_init(&a, NULL, ROOM, a_tx, ROOM), SMOLTCP_ERROR_NULL);
+    want("too long", smoltcp_tcp_init(&a, a_rx, (size_t)-1, a_tx, ROOM), SMOLTCP_ERROR_RANGE);
+    want("init a", smoltcp_tcp_init(&a, a_rx, ROOM, a_tx, ROOM), SMOLTCP_OK);
+    want("init b", smoltcp_tcp_init(&b, b_rx, ROOM, b_tx, ROOM), SMOLTCP_OK);
+    want("closed", smoltcp_tcp_state(&a), SMOLTCP_CLOSED);
+    want("capacity", smoltcp_tcp_recv_capacity(&a), ROOM);
 
     want("timeout a", smoltcp_tcp_set_timeout(&a, 60000000), SMOLTCP_OK);
     want("timeout b", smoltcp_tcp_set_timeout(&b, 60000000), SMOLTCP_OK);
@@ -199,15 +243,26 @@ int main(void) {
     want("nagle", smoltcp_tcp_set_nagle_enabled(&a, 0), SMOLTCP_OK);
     want("hop limit", smoltcp_tcp_set_hop_limit(&a, 32), SMOLTCP_OK);
     want("congestion control", smoltcp_tcp_set_congestion_control(&a, SMOLTCP_CONGESTION_NONE), SMOLTCP_OK);
+    want("timestamps", smoltcp_tcp_set_timestamps(&a, 1) + smoltcp_tcp_set_timestamps(&b, 1), SMOLTCP_OK);
+    settings();
     want("another kind", smoltcp_tcp_set_congestion_control(&a, 2), SMOLTCP_ERROR_RANGE);
     want("listen", smoltcp_tcp_listen(&b, &at_b), SMOLTCP_OK);
     want("connect", smoltcp_tcp_connect(&a, &of_a, &at_b, &at_a), SMOLTCP_OK);
     run();
     want("a", smoltcp_tcp_state(&a), SMOLTCP_ESTABLISHED);
     want("b", smoltcp_tcp_state(&b), SMOLTCP_ESTABLISHED);
+    want("peer", smoltcp_tcp_remote_endpoint(&a, &end), 1);
+    want("peer's port", end.port, 7);
+    want("version", end.addr.version, 4);
+    want("address", end.addr.v4[3], 2);
+    want("own port", smoltcp_tcp_local_endpoint(&b, &end) == 1 && end.port == 7, 1);
+    want("no peer", smoltcp_tcp_is_listening(&b), 0);
     want("send", smoltcp_tcp_send(&a, line, sizeof line - 1), sizeof line - 1);
     run();
     want("can recv", smoltcp_tcp_can_recv(&b), 1);
+    want("waiting", smoltcp_tcp_recv_queue(&b), sizeof line - 1);
+    want("all there", smoltcp_tcp_send_queue(&a), 0);
+    want("peek", smoltcp_tcp_peek_slice(&b, bytes, 3) == 3 && memcmp(bytes, line, 3) == 0, 1);
     n = smoltcp_tcp_recv(&b, bytes, sizeof bytes);
     want("recv", n, sizeof line - 1);
     printf("b reads: %.*s", (int)n, (const char *)bytes);
@@ -232,6 +287,7 @@ int main(void) {
     want("a", smoltcp_tcp_state(&a), SMOLTCP_CLOSED);
     want("poll_at", smoltcp_tcp_poll_at(&a, &of_a), INT64_MAX);
     want("abort", smoltcp_tcp_abort(&b), SMOLTCP_OK);
+    refused();
     datagrams();
     echoes();
     puts(failed ? "failed" : "ok");

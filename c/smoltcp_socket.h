@@ -1,9 +1,17 @@
-/* Proved sockets for C: TCP, UDP and ICMP. A socket is a struct that the caller owns, with its two buffers; no call
- * allocates, keeps anything elsewhere or calls back. Calls on different sockets may run at once; of one socket, one at
- * a time.
+/* Proved sockets for C: TCP, UDP and ICMP. A socket lies in memory of the caller, with its two buffers; no call
+ * allocates, keeps anything elsewhere or calls back. Calls on different sockets may run at once.
  *
  * Each call answers a number: 0 or more where it was done, and below 0 an error, with nothing changed; but see
- * smoltcp_tcp_dispatch, smoltcp_udp_recv and smoltcp_icmp_recv. */
+ * smoltcp_tcp_dispatch, smoltcp_udp_recv and smoltcp_icmp_recv.
+ *
+ * What the caller has to keep, which nothing tests: a TCP socket is memory that smoltcp_tcp_init made and that has not
+ * been moved, copied or written since; of one socket one call runs at a time; its buffers are its own from init on, and
+ * overlap neither the socket, nor each other, nor what a call is given; a pointer leads to memory of the length given,
+ * and a length is one: the (size_t)-1 of a failed read is none.
+ *
+ * A host looks at a packet before a socket sees it: it refuses a destination that is not its own (multicast and
+ * broadcast too), and a source that is multicast, broadcast or its own; it offers a packet to the sockets that have a
+ * connection first, and then to those that listen, else a repeated SYN opens a second socket. */
 #ifndef SMOLTCP_SOCKET_H
 #define SMOLTCP_SOCKET_H
 
@@ -19,7 +27,7 @@ enum {
     SMOLTCP_ERROR_STATE = -1,    /* the state of the socket does not allow the call */
     SMOLTCP_ERROR_ADDRESS = -2,  /* a port or an address is missing or of another version */
     SMOLTCP_ERROR_FINISHED = -3, /* the peer has closed, and all that it sent was read */
-    SMOLTCP_ERROR_SOCKET = -4,   /* the struct was not made by init, or a buffer has another size than then */
+    SMOLTCP_ERROR_SOCKET = -4,   /* a struct of UDP or ICMP was not made by init, or a buffer has another size */
     SMOLTCP_ERROR_CONTEXT = -5,  /* the context's moment or its MTU is out of range */
     SMOLTCP_ERROR_ROOM = -6,     /* a buffer or a queue has too little room for a packet */
     SMOLTCP_ERROR_NULL = -7,     /* a pointer is null */
@@ -47,68 +55,24 @@ struct smoltcp_endpoint { struct smoltcp_address addr; uint16_t port; };
 struct smoltcp_context {
     int64_t now;     /* the moment in microseconds, within 2^61 of zero */
     uint32_t word;   /* a random word: the initial sequence number of a connection that this call opens */
-    uint32_t tsval;  /* the clock of timestamps (RFC 7323), where timestamps is set */
+    uint32_t tsval;  /* the clock of timestamps (RFC 7323), for a socket that sends them */
     uint32_t ip_mtu; /* the largest IP packet, from 576 to 65535 bytes */
     uint8_t v4[4];   /* the interface's addresses */
     uint8_t v6[16];
 };
 
-/* The fields of a socket, for these calls alone. */
-struct smoltcp_option_byte { uint8_t is_some, value; };
-struct smoltcp_option_number { uint32_t is_some, value; };
-struct smoltcp_option_duration { uint64_t is_some, micros; };
-struct smoltcp_option_moment { uint64_t is_some; int64_t micros; };
-struct smoltcp_ends { uint16_t is_some; struct smoltcp_endpoint local, remote; };
-struct smoltcp_timer { uint64_t kind; int64_t at; uint64_t delay; };
-struct smoltcp_delay { uint64_t kind; int64_t at; };
-struct smoltcp_smoothed { uint32_t is_some, srtt, rttvar; };
-struct smoltcp_timing { uint32_t is_some, number; int64_t at; };
-struct smoltcp_controller {
-    uint32_t kind;
-    uint8_t in_timeout, in_recovery;
-    size_t cwnd, mss, rwnd, ssthresh;
-};
-struct smoltcp_range { size_t start, end; };
-struct smoltcp_receive { size_t read_at, count, held_count; struct smoltcp_range held[4]; };
-struct smoltcp_estimator {
-    struct smoltcp_timing timing;
-    struct smoltcp_smoothed smoothed;
-    uint32_t rto;
-    struct smoltcp_option_number highest;
-    uint8_t backoffs;
-};
-struct smoltcp_moment { int64_t micros; };
-struct smoltcp_fields {
-    struct smoltcp_receive rx;
-    size_t tx_read_at, tx_count, remote_win_len, remote_mss;
-    struct smoltcp_timer timer;
-    struct smoltcp_delay ack_delay_timer;
-    struct smoltcp_moment challenge_ack_timer;
-    struct smoltcp_option_duration timeout, keep_alive, ack_delay;
-    struct smoltcp_option_moment remote_last_ts;
-    struct smoltcp_estimator rtte;
-    struct smoltcp_controller congestion_controller;
-    struct smoltcp_endpoint listen_endpoint;
-    struct smoltcp_ends tuple;
-    uint32_t local_seq_no, remote_seq_no, remote_last_seq, last_remote_tsval;
-    struct smoltcp_option_number remote_last_ack, local_rx_last_seq, local_rx_last_ack;
-    uint16_t remote_last_win;
-    struct smoltcp_option_byte hop_limit, remote_win_scale;
-    uint8_t state, rx_fin_received, remote_win_shift, remote_has_sack, local_rx_dup_acks, pending_fast_retransmit;
-    uint8_t nagle, synack_paused;
-};
+/* Memory for a TCP socket, for these calls alone. It may lie in an array, in another struct or on the stack; from
+ * smoltcp_tcp_init on it stays where it is. */
+enum { SMOLTCP_TCP_SIZE = 512 };
+struct smoltcp_tcp { uint64_t opaque[SMOLTCP_TCP_SIZE / 8]; };
 
-/* A TCP socket. Set rx, rx_len, tx and tx_len to two buffers, of at most 2^30 bytes each, that nothing else uses, and
- * call smoltcp_tcp_init. */
-struct smoltcp_tcp {
-    uint8_t *rx;
-    size_t rx_len;
-    uint8_t *tx;
-    size_t tx_len;
-    size_t rx_size, tx_size; /* the lengths at init */
-    uint8_t timestamps;      /* not 0: timestamps are sent. May be set while the socket is closed */
-    struct smoltcp_fields fields;
-};
+/* What the library is handed: where a socket lies; bytes that are a socket's for good; some bytes of a buffer. */
+struct smoltcp_tcp_handle { uint8_t *at; };
+struct smoltcp_bytes { uint8_t *at; size_t len; };
+struct smoltcp_place { const uint8_t *at; size_t len; };
+
+/* The longest buffer, in bytes. */
+#define SMOLTCP_LONGEST_BUFFER ((size_t)1 << 30)
 
 /* A queue of packets in a buffer: one behind the other from start to end, each behind its length in two bytes. Set
  * bytes and bytes_len to a buffer of at most 2^30 bytes that nothing else uses; the rest is for these calls alone. */
@@ -146,7 +110,7 @@ struct smoltcp_icmp {
 #if defined(__STDC_VERSION__) && __STDC_VERSION__ >= 201112L
 _Static_assert(sizeof(struct smoltcp_endpoint) == 24, "smoltcp_endpoint");
 _Static_assert(sizeof(struct smoltcp_context) == 40, "smoltcp_context");
-_Static_assert(sizeof(struct smoltcp_tcp) == 512, "smoltcp_tcp");
+_Static_assert(sizeof(struct smoltcp_tcp) == SMOLTCP_TCP_SIZE, "smoltcp_tcp");
 _Static_assert(sizeof(struct smoltcp_queue) == 40, "smoltcp_queue");
 _Static_assert(sizeof(struct smoltcp_udp) == 112, "smoltcp_udp");
 _Static_assert(sizeof(struct smoltcp_udp_metadata) == 46, "smoltcp_udp_metadata");
@@ -154,27 +118,53 @@ _Static_assert(sizeof(struct smoltcp_icmp) == 112, "smoltcp_icmp");
 #endif
 
 /* The calls of the library, which take no null pointers. */
-int64_t smoltcp_tcp_init_checked(struct smoltcp_tcp *s);
-int64_t smoltcp_tcp_listen_checked(struct smoltcp_tcp *s, const struct smoltcp_endpoint *endpoint);
-int64_t smoltcp_tcp_connect_checked(struct smoltcp_tcp *s, const struct smoltcp_context *cx,
+size_t smoltcp_tcp_size(void);
+int64_t smoltcp_tcp_init_checked(struct smoltcp_tcp_handle *room, struct smoltcp_bytes rx, struct smoltcp_bytes tx);
+int64_t smoltcp_tcp_listen_checked(struct smoltcp_tcp_handle *h, const struct smoltcp_endpoint *endpoint);
+int64_t smoltcp_tcp_connect_checked(struct smoltcp_tcp_handle *h, const struct smoltcp_context *cx,
                                     const struct smoltcp_endpoint *remote, const struct smoltcp_endpoint *local);
-int64_t smoltcp_tcp_close_checked(struct smoltcp_tcp *s);
-int64_t smoltcp_tcp_abort_checked(struct smoltcp_tcp *s);
-int64_t smoltcp_tcp_send_checked(struct smoltcp_tcp *s, const uint8_t *data, size_t len);
-int64_t smoltcp_tcp_recv_checked(struct smoltcp_tcp *s, uint8_t *data, size_t len);
-int64_t smoltcp_tcp_can_send_checked(struct smoltcp_tcp *s);
-int64_t smoltcp_tcp_can_recv_checked(struct smoltcp_tcp *s);
-int64_t smoltcp_tcp_state_checked(const struct smoltcp_tcp *s);
-int64_t smoltcp_tcp_set_timeout_checked(struct smoltcp_tcp *s, int64_t micros);
-int64_t smoltcp_tcp_set_keep_alive_checked(struct smoltcp_tcp *s, int64_t micros);
-int64_t smoltcp_tcp_set_ack_delay_checked(struct smoltcp_tcp *s, int64_t micros);
-int64_t smoltcp_tcp_set_nagle_enabled_checked(struct smoltcp_tcp *s, uint8_t enabled);
-int64_t smoltcp_tcp_set_hop_limit_checked(struct smoltcp_tcp *s, uint8_t hop_limit);
-int64_t smoltcp_tcp_set_congestion_control_checked(struct smoltcp_tcp *s, uint32_t kind);
-int64_t smoltcp_tcp_process_checked(struct smoltcp_tcp *s, const struct smoltcp_context *cx, const uint8_t *packet,
-                                    size_t len, uint8_t *reply, size_t cap);
-int64_t smoltcp_tcp_dispatch_checked(struct smoltcp_tcp *s, const struct smoltcp_context *cx, uint8_t *out, size_t cap);
-int64_t smoltcp_tcp_poll_at_checked(struct smoltcp_tcp *s, const struct smoltcp_context *cx, int64_t *at);
+int64_t smoltcp_tcp_close_checked(struct smoltcp_tcp_handle *h);
+int64_t smoltcp_tcp_abort_checked(struct smoltcp_tcp_handle *h);
+int64_t smoltcp_tcp_state_checked(struct smoltcp_tcp_handle *h);
+int64_t smoltcp_tcp_is_listening_checked(struct smoltcp_tcp_handle *h);
+int64_t smoltcp_tcp_is_open_checked(struct smoltcp_tcp_handle *h);
+int64_t smoltcp_tcp_is_active_checked(struct smoltcp_tcp_handle *h);
+int64_t smoltcp_tcp_has_work_checked(struct smoltcp_tcp_handle *h);
+int64_t smoltcp_tcp_may_send_checked(struct smoltcp_tcp_handle *h);
+int64_t smoltcp_tcp_may_recv_checked(struct smoltcp_tcp_handle *h);
+int64_t smoltcp_tcp_can_send_checked(struct smoltcp_tcp_handle *h);
+int64_t smoltcp_tcp_can_recv_checked(struct smoltcp_tcp_handle *h);
+int64_t smoltcp_tcp_send_queue_checked(struct smoltcp_tcp_handle *h);
+int64_t smoltcp_tcp_recv_queue_checked(struct smoltcp_tcp_handle *h);
+int64_t smoltcp_tcp_send_capacity_checked(struct smoltcp_tcp_handle *h);
+int64_t smoltcp_tcp_recv_capacity_checked(struct smoltcp_tcp_handle *h);
+int64_t smoltcp_tcp_timeout_checked(struct smoltcp_tcp_handle *h);
+int64_t smoltcp_tcp_keep_alive_checked(struct smoltcp_tcp_handle *h);
+int64_t smoltcp_tcp_ack_delay_checked(struct smoltcp_tcp_handle *h);
+int64_t smoltcp_tcp_nagle_enabled_checked(struct smoltcp_tcp_handle *h);
+int64_t smoltcp_tcp_hop_limit_checked(struct smoltcp_tcp_handle *h);
+int64_t smoltcp_tcp_congestion_control_checked(struct smoltcp_tcp_handle *h);
+int64_t smoltcp_tcp_timestamp_enabled_checked(struct smoltcp_tcp_handle *h);
+int64_t smoltcp_tcp_local_endpoint_checked(struct smoltcp_tcp_handle *h, struct smoltcp_endpoint *out);
+int64_t smoltcp_tcp_remote_endpoint_checked(struct smoltcp_tcp_handle *h, struct smoltcp_endpoint *out);
+int64_t smoltcp_tcp_listen_endpoint_checked(struct smoltcp_tcp_handle *h, struct smoltcp_endpoint *out);
+int64_t smoltcp_tcp_set_timeout_checked(struct smoltcp_tcp_handle *h, int64_t micros);
+int64_t smoltcp_tcp_set_keep_alive_checked(struct smoltcp_tcp_handle *h, int64_t micros);
+int64_t smoltcp_tcp_set_ack_delay_checked(struct smoltcp_tcp_handle *h, int64_t micros);
+int64_t smoltcp_tcp_set_nagle_enabled_checked(struct smoltcp_tcp_handle *h, uint8_t enabled);
+int64_t smoltcp_tcp_set_hop_limit_checked(struct smoltcp_tcp_handle *h, uint8_t hop_limit);
+int64_t smoltcp_tcp_pause_synack_checked(struct smoltcp_tcp_handle *h, uint8_t pause);
+int64_t smoltcp_tcp_set_congestion_control_checked(struct smoltcp_tcp_handle *h, uint32_t kind);
+int64_t smoltcp_tcp_set_timestamps_checked(struct smoltcp_tcp_handle *h, uint8_t enabled);
+int64_t smoltcp_tcp_send_checked(struct smoltcp_tcp_handle *h, const uint8_t *data, size_t len);
+int64_t smoltcp_tcp_recv_checked(struct smoltcp_tcp_handle *h, uint8_t *data, size_t len);
+int64_t smoltcp_tcp_peek_slice_checked(struct smoltcp_tcp_handle *h, uint8_t *data, size_t len);
+int64_t smoltcp_tcp_process_checked(struct smoltcp_tcp_handle *h, const struct smoltcp_context *cx,
+                                    const uint8_t *packet, size_t len, uint8_t *reply, size_t cap);
+int64_t smoltcp_tcp_dispatch_checked(struct smoltcp_tcp_handle *h, const struct smoltcp_context *cx, uint8_t *out,
+                                     size_t cap);
+int64_t smoltcp_tcp_poll_at_checked(struct smoltcp_tcp_handle *h, const struct smoltcp_context *cx, int64_t *at);
+int64_t smoltcp_tcp_reset_checked(const uint8_t *packet, size_t len, uint8_t *reply, size_t cap);
 int64_t smoltcp_udp_init_checked(struct smoltcp_udp *s);
 int64_t smoltcp_udp_bind_checked(struct smoltcp_udp *s, const struct smoltcp_endpoint *endpoint);
 int64_t smoltcp_udp_close_checked(struct smoltcp_udp *s);
@@ -200,133 +190,329 @@ int64_t smoltcp_icmp_poll_at_checked(const struct smoltcp_icmp *s, const struct 
 int64_t smoltcp_icmp_can_recv_checked(const struct smoltcp_icmp *s);
 int64_t smoltcp_icmp_can_send_checked(const struct smoltcp_icmp *s);
 
-/* Whether the struct and its buffers are there. */
-static inline int smoltcp_tcp_is_null(const struct smoltcp_tcp *s) { return !s || !s->rx || !s->tx; }
-
-/* Makes the struct a closed socket over its two buffers. */
-static inline int64_t smoltcp_tcp_init(struct smoltcp_tcp *s) {
-    if (smoltcp_tcp_is_null(s)) return SMOLTCP_ERROR_NULL;
-    return smoltcp_tcp_init_checked(s);
+/* Makes a closed socket in the memory, over the two buffers, of at most 2^30 bytes each (else SMOLTCP_ERROR_RANGE, with
+ * nothing changed). The memory and the buffers are the socket's for good: what is proved of the calls says nothing of a
+ * program that uses them for something else later, though the library keeps nothing of them. */
+static inline int64_t smoltcp_tcp_init(struct smoltcp_tcp *s, uint8_t *rx, size_t rx_len, uint8_t *tx, size_t tx_len) {
+    struct smoltcp_tcp_handle h = {(uint8_t *)s};
+    struct smoltcp_bytes of_rx = {rx, rx_len}, of_tx = {tx, tx_len};
+    if (!s || !rx || !tx) return SMOLTCP_ERROR_NULL;
+    if (rx_len > SMOLTCP_LONGEST_BUFFER || tx_len > SMOLTCP_LONGEST_BUFFER) return SMOLTCP_ERROR_RANGE;
+    return smoltcp_tcp_init_checked(&h, of_rx, of_tx);
 }
 
-/* Waits for a peer on this endpoint, whose address may be none. */
+/* Waits for a peer on this endpoint, whose address may be none. SMOLTCP_ERROR_ADDRESS where the port is 0, else
+ * SMOLTCP_ERROR_STATE where the socket is open and does not listen there. */
 static inline int64_t smoltcp_tcp_listen(struct smoltcp_tcp *s, const struct smoltcp_endpoint *endpoint) {
-    if (smoltcp_tcp_is_null(s) || !endpoint) return SMOLTCP_ERROR_NULL;
-    return smoltcp_tcp_listen_checked(s, endpoint);
+    struct smoltcp_tcp_handle h = {(uint8_t *)s};
+    if (!s || !endpoint) return SMOLTCP_ERROR_NULL;
+    return smoltcp_tcp_listen_checked(&h, endpoint);
 }
 
 /* Opens a connection to remote, from local, whose address may be none: then the interface's is taken. */
 static inline int64_t smoltcp_tcp_connect(struct smoltcp_tcp *s, const struct smoltcp_context *cx,
                                           const struct smoltcp_endpoint *remote,
                                           const struct smoltcp_endpoint *local) {
-    if (smoltcp_tcp_is_null(s) || !cx || !remote || !local) return SMOLTCP_ERROR_NULL;
-    return smoltcp_tcp_connect_checked(s, cx, remote, local);
+    struct smoltcp_tcp_handle h = {(uint8_t *)s};
+    if (!s || !cx || !remote || !local) return SMOLTCP_ERROR_NULL;
+    return smoltcp_tcp_connect_checked(&h, cx, remote, local);
 }
 
 /* Closes the transmit half: a FIN follows what was sent. */
 static inline int64_t smoltcp_tcp_close(struct smoltcp_tcp *s) {
-    if (smoltcp_tcp_is_null(s)) return SMOLTCP_ERROR_NULL;
-    return smoltcp_tcp_close_checked(s);
+    struct smoltcp_tcp_handle h = {(uint8_t *)s};
+    if (!s) return SMOLTCP_ERROR_NULL;
+    return smoltcp_tcp_close_checked(&h);
 }
 
 /* Ends the connection at once, by an RST in the next dispatch. */
 static inline int64_t smoltcp_tcp_abort(struct smoltcp_tcp *s) {
-    if (smoltcp_tcp_is_null(s)) return SMOLTCP_ERROR_NULL;
-    return smoltcp_tcp_abort_checked(s);
+    struct smoltcp_tcp_handle h = {(uint8_t *)s};
+    if (!s) return SMOLTCP_ERROR_NULL;
+    return smoltcp_tcp_abort_checked(&h);
 }
 
-/* Takes as many of the bytes as fit, and answers how many. */
+/* Takes as many of the bytes as fit, and answers how many. SMOLTCP_ERROR_STATE where smoltcp_tcp_may_send is 0. */
 static inline int64_t smoltcp_tcp_send(struct smoltcp_tcp *s, const uint8_t *data, size_t len) {
-    if (smoltcp_tcp_is_null(s) || !data) return SMOLTCP_ERROR_NULL;
-    return smoltcp_tcp_send_checked(s, data, len);
+    struct smoltcp_tcp_handle h = {(uint8_t *)s};
+    if (!s || !data) return SMOLTCP_ERROR_NULL;
+    return smoltcp_tcp_send_checked(&h, data, len);
 }
 
-/* Gives as many bytes as are there and fit, and answers how many. */
+/* Gives as many bytes as are there and fit, and answers how many. Where smoltcp_tcp_may_recv is 0,
+ * SMOLTCP_ERROR_FINISHED if the peer has closed, else SMOLTCP_ERROR_STATE. */
 static inline int64_t smoltcp_tcp_recv(struct smoltcp_tcp *s, uint8_t *data, size_t len) {
-    if (smoltcp_tcp_is_null(s) || !data) return SMOLTCP_ERROR_NULL;
-    return smoltcp_tcp_recv_checked(s, data, len);
+    struct smoltcp_tcp_handle h = {(uint8_t *)s};
+    if (!s || !data) return SMOLTCP_ERROR_NULL;
+    return smoltcp_tcp_recv_checked(&h, data, len);
+}
+
+/* The same, and the bytes stay. */
+static inline int64_t smoltcp_tcp_peek_slice(struct smoltcp_tcp *s, uint8_t *data, size_t len) {
+    struct smoltcp_tcp_handle h = {(uint8_t *)s};
+    if (!s || !data) return SMOLTCP_ERROR_NULL;
+    return smoltcp_tcp_peek_slice_checked(&h, data, len);
+}
+
+/* The state, as above. */
+static inline int64_t smoltcp_tcp_state(struct smoltcp_tcp *s) {
+    struct smoltcp_tcp_handle h = {(uint8_t *)s};
+    if (!s) return SMOLTCP_ERROR_NULL;
+    return smoltcp_tcp_state_checked(&h);
+}
+
+/* 1 where the socket waits for a peer, else 0. */
+static inline int64_t smoltcp_tcp_is_listening(struct smoltcp_tcp *s) {
+    struct smoltcp_tcp_handle h = {(uint8_t *)s};
+    if (!s) return SMOLTCP_ERROR_NULL;
+    return smoltcp_tcp_is_listening_checked(&h);
+}
+
+/* 1 where it is in any state but CLOSED and TIME-WAIT, else 0. */
+static inline int64_t smoltcp_tcp_is_open(struct smoltcp_tcp *s) {
+    struct smoltcp_tcp_handle h = {(uint8_t *)s};
+    if (!s) return SMOLTCP_ERROR_NULL;
+    return smoltcp_tcp_is_open_checked(&h);
+}
+
+/* 1 where it is open and has a peer, else 0. */
+static inline int64_t smoltcp_tcp_is_active(struct smoltcp_tcp *s) {
+    struct smoltcp_tcp_handle h = {(uint8_t *)s};
+    if (!s) return SMOLTCP_ERROR_NULL;
+    return smoltcp_tcp_is_active_checked(&h);
+}
+
+/* 1 where the connection has something left to do, as bytes to send, else 0. */
+static inline int64_t smoltcp_tcp_has_work(struct smoltcp_tcp *s) {
+    struct smoltcp_tcp_handle h = {(uint8_t *)s};
+    if (!s) return SMOLTCP_ERROR_NULL;
+    return smoltcp_tcp_has_work_checked(&h);
+}
+
+/* 1 where the state lets bytes be sent, else 0. */
+static inline int64_t smoltcp_tcp_may_send(struct smoltcp_tcp *s) {
+    struct smoltcp_tcp_handle h = {(uint8_t *)s};
+    if (!s) return SMOLTCP_ERROR_NULL;
+    return smoltcp_tcp_may_send_checked(&h);
+}
+
+/* 1 where bytes may come or are there, else 0. */
+static inline int64_t smoltcp_tcp_may_recv(struct smoltcp_tcp *s) {
+    struct smoltcp_tcp_handle h = {(uint8_t *)s};
+    if (!s) return SMOLTCP_ERROR_NULL;
+    return smoltcp_tcp_may_recv_checked(&h);
 }
 
 /* 1 where send would take at least one byte, else 0. */
 static inline int64_t smoltcp_tcp_can_send(struct smoltcp_tcp *s) {
-    if (smoltcp_tcp_is_null(s)) return SMOLTCP_ERROR_NULL;
-    return smoltcp_tcp_can_send_checked(s);
+    struct smoltcp_tcp_handle h = {(uint8_t *)s};
+    if (!s) return SMOLTCP_ERROR_NULL;
+    return smoltcp_tcp_can_send_checked(&h);
 }
 
 /* 1 where recv would give at least one byte, else 0. */
 static inline int64_t smoltcp_tcp_can_recv(struct smoltcp_tcp *s) {
-    if (smoltcp_tcp_is_null(s)) return SMOLTCP_ERROR_NULL;
-    return smoltcp_tcp_can_recv_checked(s);
+    struct smoltcp_tcp_handle h = {(uint8_t *)s};
+    if (!s) return SMOLTCP_ERROR_NULL;
+    return smoltcp_tcp_can_recv_checked(&h);
 }
 
-/* The state, as above. */
-static inline int64_t smoltcp_tcp_state(const struct smoltcp_tcp *s) {
-    if (smoltcp_tcp_is_null(s)) return SMOLTCP_ERROR_NULL;
-    return smoltcp_tcp_state_checked(s);
+/* How many bytes were sent and are not acknowledged. */
+static inline int64_t smoltcp_tcp_send_queue(struct smoltcp_tcp *s) {
+    struct smoltcp_tcp_handle h = {(uint8_t *)s};
+    if (!s) return SMOLTCP_ERROR_NULL;
+    return smoltcp_tcp_send_queue_checked(&h);
+}
+
+/* How many bytes came and were not read. */
+static inline int64_t smoltcp_tcp_recv_queue(struct smoltcp_tcp *s) {
+    struct smoltcp_tcp_handle h = {(uint8_t *)s};
+    if (!s) return SMOLTCP_ERROR_NULL;
+    return smoltcp_tcp_recv_queue_checked(&h);
+}
+
+/* How many bytes the transmit buffer holds. */
+static inline int64_t smoltcp_tcp_send_capacity(struct smoltcp_tcp *s) {
+    struct smoltcp_tcp_handle h = {(uint8_t *)s};
+    if (!s) return SMOLTCP_ERROR_NULL;
+    return smoltcp_tcp_send_capacity_checked(&h);
+}
+
+/* How many bytes the receive buffer holds. */
+static inline int64_t smoltcp_tcp_recv_capacity(struct smoltcp_tcp *s) {
+    struct smoltcp_tcp_handle h = {(uint8_t *)s};
+    if (!s) return SMOLTCP_ERROR_NULL;
+    return smoltcp_tcp_recv_capacity_checked(&h);
+}
+
+/* Writes the own endpoint into out, and answers 1; 0 where there is no peer. */
+static inline int64_t smoltcp_tcp_local_endpoint(struct smoltcp_tcp *s, struct smoltcp_endpoint *out) {
+    struct smoltcp_tcp_handle h = {(uint8_t *)s};
+    if (!s || !out) return SMOLTCP_ERROR_NULL;
+    return smoltcp_tcp_local_endpoint_checked(&h, out);
+}
+
+/* Writes the peer's endpoint into out, and answers 1; 0 where there is no peer. */
+static inline int64_t smoltcp_tcp_remote_endpoint(struct smoltcp_tcp *s, struct smoltcp_endpoint *out) {
+    struct smoltcp_tcp_handle h = {(uint8_t *)s};
+    if (!s || !out) return SMOLTCP_ERROR_NULL;
+    return smoltcp_tcp_remote_endpoint_checked(&h, out);
+}
+
+/* Writes the endpoint on which the socket listens, or listened last, into out: port 0 where there is none. */
+static inline int64_t smoltcp_tcp_listen_endpoint(struct smoltcp_tcp *s, struct smoltcp_endpoint *out) {
+    struct smoltcp_tcp_handle h = {(uint8_t *)s};
+    if (!s || !out) return SMOLTCP_ERROR_NULL;
+    return smoltcp_tcp_listen_endpoint_checked(&h, out);
 }
 
 /* Ends the connection where nothing was heard for so long while something is owed, in microseconds, at most 2^61; below
  * 0: never, as in a new socket (RFC 9293, section 3.9.1). Without it a connection can wait for ever: docs/STALLS.md. */
 static inline int64_t smoltcp_tcp_set_timeout(struct smoltcp_tcp *s, int64_t micros) {
-    if (smoltcp_tcp_is_null(s)) return SMOLTCP_ERROR_NULL;
-    return smoltcp_tcp_set_timeout_checked(s, micros);
+    struct smoltcp_tcp_handle h = {(uint8_t *)s};
+    if (!s) return SMOLTCP_ERROR_NULL;
+    return smoltcp_tcp_set_timeout_checked(&h, micros);
 }
 
 /* Asks an idle peer whether it is there every so many microseconds, at most 2^61; below 0: never, as in a new socket
- * (RFC 9293, section 3.8.4). Shorter than the timeout, by a factor of four, say. */
+ * (RFC 9293, section 3.8.4). Shorter than the timeout, by a factor of four, say, and never 0. */
 static inline int64_t smoltcp_tcp_set_keep_alive(struct smoltcp_tcp *s, int64_t micros) {
-    if (smoltcp_tcp_is_null(s)) return SMOLTCP_ERROR_NULL;
-    return smoltcp_tcp_set_keep_alive_checked(s, micros);
+    struct smoltcp_tcp_handle h = {(uint8_t *)s};
+    if (!s) return SMOLTCP_ERROR_NULL;
+    return smoltcp_tcp_set_keep_alive_checked(&h, micros);
 }
 
 /* How long an acknowledgement may wait for data to go with, in microseconds, at most 2^61; below 0: not at all. 10,000
  * in a new socket. */
 static inline int64_t smoltcp_tcp_set_ack_delay(struct smoltcp_tcp *s, int64_t micros) {
-    if (smoltcp_tcp_is_null(s)) return SMOLTCP_ERROR_NULL;
-    return smoltcp_tcp_set_ack_delay_checked(s, micros);
+    struct smoltcp_tcp_handle h = {(uint8_t *)s};
+    if (!s) return SMOLTCP_ERROR_NULL;
+    return smoltcp_tcp_set_ack_delay_checked(&h, micros);
 }
 
 /* Whether small segments wait while bytes are in flight (RFC 9293, section 3.7.4), as they do in a new socket. */
 static inline int64_t smoltcp_tcp_set_nagle_enabled(struct smoltcp_tcp *s, uint8_t enabled) {
-    if (smoltcp_tcp_is_null(s)) return SMOLTCP_ERROR_NULL;
-    return smoltcp_tcp_set_nagle_enabled_checked(s, enabled);
+    struct smoltcp_tcp_handle h = {(uint8_t *)s};
+    if (!s) return SMOLTCP_ERROR_NULL;
+    return smoltcp_tcp_set_nagle_enabled_checked(&h, enabled);
 }
 
 /* The hop limit of what is sent; 0: 64, as in a new socket. */
 static inline int64_t smoltcp_tcp_set_hop_limit(struct smoltcp_tcp *s, uint8_t hop_limit) {
-    if (smoltcp_tcp_is_null(s)) return SMOLTCP_ERROR_NULL;
-    return smoltcp_tcp_set_hop_limit_checked(s, hop_limit);
+    struct smoltcp_tcp_handle h = {(uint8_t *)s};
+    if (!s) return SMOLTCP_ERROR_NULL;
+    return smoltcp_tcp_set_hop_limit_checked(&h, hop_limit);
+}
+
+/* Lets a SYN|ACK wait, or go out. */
+static inline int64_t smoltcp_tcp_pause_synack(struct smoltcp_tcp *s, uint8_t pause) {
+    struct smoltcp_tcp_handle h = {(uint8_t *)s};
+    if (!s) return SMOLTCP_ERROR_NULL;
+    return smoltcp_tcp_pause_synack_checked(&h, pause);
 }
 
 /* Puts in a new controller of this kind, also where there is one of the kind. A new socket has Reno. */
 static inline int64_t smoltcp_tcp_set_congestion_control(struct smoltcp_tcp *s, uint32_t kind) {
-    if (smoltcp_tcp_is_null(s)) return SMOLTCP_ERROR_NULL;
-    return smoltcp_tcp_set_congestion_control_checked(s, kind);
+    struct smoltcp_tcp_handle h = {(uint8_t *)s};
+    if (!s) return SMOLTCP_ERROR_NULL;
+    return smoltcp_tcp_set_congestion_control_checked(&h, kind);
+}
+
+/* Whether timestamps are sent (RFC 7323), at the clock of each call's context; not in a new socket. Set it while the
+ * socket is closed. */
+static inline int64_t smoltcp_tcp_set_timestamps(struct smoltcp_tcp *s, uint8_t enabled) {
+    struct smoltcp_tcp_handle h = {(uint8_t *)s};
+    if (!s) return SMOLTCP_ERROR_NULL;
+    return smoltcp_tcp_set_timestamps_checked(&h, enabled);
+}
+
+/* The user timeout in microseconds, or -1 for none. */
+static inline int64_t smoltcp_tcp_timeout(struct smoltcp_tcp *s) {
+    struct smoltcp_tcp_handle h = {(uint8_t *)s};
+    if (!s) return SMOLTCP_ERROR_NULL;
+    return smoltcp_tcp_timeout_checked(&h);
+}
+
+/* The interval of keep-alives in microseconds, or -1 for none. */
+static inline int64_t smoltcp_tcp_keep_alive(struct smoltcp_tcp *s) {
+    struct smoltcp_tcp_handle h = {(uint8_t *)s};
+    if (!s) return SMOLTCP_ERROR_NULL;
+    return smoltcp_tcp_keep_alive_checked(&h);
+}
+
+/* How long an acknowledgement may wait in microseconds, or -1. */
+static inline int64_t smoltcp_tcp_ack_delay(struct smoltcp_tcp *s) {
+    struct smoltcp_tcp_handle h = {(uint8_t *)s};
+    if (!s) return SMOLTCP_ERROR_NULL;
+    return smoltcp_tcp_ack_delay_checked(&h);
+}
+
+/* 1 where small segments wait, else 0. */
+static inline int64_t smoltcp_tcp_nagle_enabled(struct smoltcp_tcp *s) {
+    struct smoltcp_tcp_handle h = {(uint8_t *)s};
+    if (!s) return SMOLTCP_ERROR_NULL;
+    return smoltcp_tcp_nagle_enabled_checked(&h);
+}
+
+/* The hop limit, or 0 where none is set, for 64. */
+static inline int64_t smoltcp_tcp_hop_limit(struct smoltcp_tcp *s) {
+    struct smoltcp_tcp_handle h = {(uint8_t *)s};
+    if (!s) return SMOLTCP_ERROR_NULL;
+    return smoltcp_tcp_hop_limit_checked(&h);
+}
+
+/* The kind of congestion control. */
+static inline int64_t smoltcp_tcp_congestion_control(struct smoltcp_tcp *s) {
+    struct smoltcp_tcp_handle h = {(uint8_t *)s};
+    if (!s) return SMOLTCP_ERROR_NULL;
+    return smoltcp_tcp_congestion_control_checked(&h);
+}
+
+/* 1 where timestamps are sent, else 0. */
+static inline int64_t smoltcp_tcp_timestamp_enabled(struct smoltcp_tcp *s) {
+    struct smoltcp_tcp_handle h = {(uint8_t *)s};
+    if (!s) return SMOLTCP_ERROR_NULL;
+    return smoltcp_tcp_timestamp_enabled_checked(&h);
 }
 
 /* Takes an IP packet. The length of the packet that answers it, in reply, or 0; SMOLTCP_NOT_ACCEPTED where it is no
- * whole TCP segment or is not for this socket. reply has 100 bytes or more. */
+ * whole TCP segment or is not for this socket. reply has 100 bytes or more, else SMOLTCP_ERROR_ROOM. */
 static inline int64_t smoltcp_tcp_process(struct smoltcp_tcp *s, const struct smoltcp_context *cx,
                                           const uint8_t *packet, size_t len, uint8_t *reply, size_t cap) {
-    if (smoltcp_tcp_is_null(s) || !cx || !packet || !reply) return SMOLTCP_ERROR_NULL;
-    return smoltcp_tcp_process_checked(s, cx, packet, len, reply, cap);
+    struct smoltcp_tcp_handle h = {(uint8_t *)s};
+    if (!s || !cx || !packet || !reply) return SMOLTCP_ERROR_NULL;
+    return smoltcp_tcp_process_checked(&h, cx, packet, len, reply, cap);
 }
 
-/* The length of the packet that is due, in out, or 0 for none. Call it until it answers 0. SMOLTCP_ERROR_ROOM where out
- * is too short for it: what the timers ask for is done then, and the next call gives the packet again. */
+/* The length of the packet that is due, in out, or 0 for none. SMOLTCP_ERROR_ROOM where out is too short for it: what
+ * the timers ask for is done then, and the next call gives the packet again.
+ *
+ * Call it a limited number of times a round, 64 say: a peer that acknowledges a FIN with a window of 0 while a probe is
+ * due makes FIN-WAIT-2 emit an acknowledgement at every dispatch, and poll_at answers a moment that has passed. Wait at
+ * least a millisecond between rounds that only such sockets asked for, and abort one that stays in FIN-WAIT-2 for long
+ * (c/echo.c: a minute). */
 static inline int64_t smoltcp_tcp_dispatch(struct smoltcp_tcp *s, const struct smoltcp_context *cx, uint8_t *out,
                                            size_t cap) {
-    if (smoltcp_tcp_is_null(s) || !cx || !out) return SMOLTCP_ERROR_NULL;
-    return smoltcp_tcp_dispatch_checked(s, cx, out, cap);
+    struct smoltcp_tcp_handle h = {(uint8_t *)s};
+    if (!s || !cx || !out) return SMOLTCP_ERROR_NULL;
+    return smoltcp_tcp_dispatch_checked(&h, cx, out, cap);
 }
 
 /* The moment of the next dispatch in microseconds; INT64_MAX: none before a packet comes; INT64_MIN: an error. */
 static inline int64_t smoltcp_tcp_poll_at(struct smoltcp_tcp *s, const struct smoltcp_context *cx) {
+    struct smoltcp_tcp_handle h = {(uint8_t *)s};
     int64_t at = 0, answer;
-    if (smoltcp_tcp_is_null(s) || !cx) return INT64_MIN;
-    answer = smoltcp_tcp_poll_at_checked(s, cx, &at);
+    if (!s || !cx) return INT64_MIN;
+    answer = smoltcp_tcp_poll_at_checked(&h, cx, &at);
     if (answer < 0) return INT64_MIN;
     return answer == 0 ? at : INT64_MAX;
+}
+
+/* Answers a TCP segment that no socket takes: the length of an RST, in reply; 0 for an RST, which has no answer;
+ * SMOLTCP_NOT_ACCEPTED where the packet is no whole TCP segment. reply has 100 bytes or more. */
+static inline int64_t smoltcp_tcp_reset(const uint8_t *packet, size_t len, uint8_t *reply, size_t cap) {
+    if (!packet || !reply) return SMOLTCP_ERROR_NULL;
+    return smoltcp_tcp_reset_checked(packet, len, reply, cap);
 }
 
 /* Whether the struct and the buffers of its queues are there. */
@@ -379,8 +565,9 @@ static inline int64_t smoltcp_udp_send(struct smoltcp_udp *s, const struct smolt
     return smoltcp_udp_send_checked(s, cx, meta, data, len);
 }
 
-/* The length of the first packet of the transmit queue, in out, or 0 for none. Call it until it answers 0.
- * SMOLTCP_ERROR_ROOM where out is too short for it: it stays the first. */
+/* The length of the first packet of the transmit queue, in out, or 0 for none. A call takes one packet from the queue,
+ * so that at most as many have something to emit as were sent. SMOLTCP_ERROR_ROOM where out is too short for it: it
+ * stays the first. */
 static inline int64_t smoltcp_udp_dispatch(struct smoltcp_udp *s, uint8_t *out, size_t cap) {
     if (smoltcp_udp_is_null(s) || !out) return SMOLTCP_ERROR_NULL;
     return smoltcp_udp_dispatch_checked(s, out, cap);
@@ -455,8 +642,9 @@ static inline int64_t smoltcp_icmp_send(struct smoltcp_icmp *s, const struct smo
     return smoltcp_icmp_send_checked(s, cx, remote, data, len);
 }
 
-/* The length of the first packet of the transmit queue, in out, or 0 for none. Call it until it answers 0.
- * SMOLTCP_ERROR_ROOM where out is too short for it: it stays the first. */
+/* The length of the first packet of the transmit queue, in out, or 0 for none. A call takes one packet from the queue,
+ * so that at most as many have something to emit as were sent. SMOLTCP_ERROR_ROOM where out is too short for it: it
+ * stays the first. */
 static inline int64_t smoltcp_icmp_dispatch(struct smoltcp_icmp *s, uint8_t *out, size_t cap) {
     if (smoltcp_icmp_is_null(s) || !out) return SMOLTCP_ERROR_NULL;
     return smoltcp_icmp_dispatch_checked(s, out, cap);

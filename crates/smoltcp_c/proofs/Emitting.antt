@@ -17,12 +17,12 @@ use Rattle.sock_tcp.specs.Outgoing.{packet_of}
 use Rattle.sock_tcp.specs.Sent.{left_by}
 use Rattle.sock_tcp.specs.View.{View, moment_of}
 use Rattle.sock_tcp.specs.declared.tuple.Tuple.{Tuple}
-use Rattle.c_structs.specs.Answers.{error_room, sent_answer}
+use Rattle.smoltcp_c.specs.Answers.{error_room, sent_answer}
 use Rattle.smoltcp_c.specs.Packets.{size_of, written_over, has_room, stamp_told, SendsInto, SendsIf}
-use Rattle.c_structs.specs.Wire.{IsCounted, Writes, packet_len}
-use Rattle.c_structs.specs.declared.clock.Clock.{Clock}
-use Rattle.c_structs.specs.declared.wire.Full.{Full}
-use Rattle.c_structs.specs.declared.wire.Wire.{Wire}
+use Rattle.smoltcp_c.specs.Wire.{IsCounted, Writes, packet_len}
+use Rattle.smoltcp_c.specs.declared.clock.Clock.{Clock}
+use Rattle.smoltcp_c.specs.declared.wire.Full.{Full}
+use Rattle.smoltcp_c.specs.declared.wire.Wire.{Wire}
 
 -- what a packet takes is counted
 pub counted : (ip : IpRepr) (s : Segment) → FitsPacket ip s → IsCounted ip s

@@ -1,7 +1,6 @@
 mod Counts
+mod Emitting
+mod Framing
+mod Reading
 mod Replies
 mod Told
-mod Emitting
-mod Reading
-mod Held
-mod Foreign

@@ -7,7 +7,7 @@ use Rattle.control_wire.specs.declared.tcp.TcpControl.TheVariants as control
 use Rattle.control_wire.specs.declared.tcp.TcpTimestampRepr.{TcpTimestampRepr}
 use Rattle.sock_tcp.specs.Replies.{Answers, IsReplyStamp, with_header}
 use Rattle.smoltcp_c.specs.Packets.{replied, reply_stamp}
-use Rattle.c_structs.specs.declared.clock.Clock.{Clock}
+use Rattle.smoltcp_c.specs.declared.clock.Clock.{Clock}
 
 stamp_is : (clock : Option Clock) (came : Option TcpTimestampRepr) (c : TcpControl) (stamp : Option TcpTimestampRepr) → IsReplyStamp (λ (k : Clock) (t : ℕ). t ≡ k.tsval) clock came c stamp → stamp ≡ reply_stamp clock came c
 stamp_is (Some k) (Some r) control.None (Some t) h = λ i. Some (record { tsval = h.0 i; tsecr = h.1 i })

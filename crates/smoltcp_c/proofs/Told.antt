@@ -5,11 +5,11 @@ use Rattle.segment_wire.specs.Packet.{UdpPacket}
 use Rattle.sock_core.specs.Facts.{Facts}
 use Rattle.sock_dgram.specs.Icmp as icmp_view
 use Rattle.sock_dgram.specs.Udp as udp_view
-use Rattle.c_structs.specs.Context.{facts_in}
+use Rattle.smoltcp_c.specs.Context.{facts_in}
 use Rattle.smoltcp_c.specs.Icmp as icmp
 use Rattle.smoltcp_c.specs.Udp as udp
-use Rattle.c_structs.specs.declared.context.Cx.{Cx}
-use Rattle.c_structs.specs.declared.endpoints.Address.{Address}
+use Rattle.smoltcp_c.specs.declared.context.Cx.{Cx}
+use Rattle.smoltcp_c.specs.declared.endpoints.Address.{Address}
 use Rattle.smoltcp_c.specs.declared.udp.UdpNumbers.{UdpNumbers}
 
 -- nothing is no packet for a socket

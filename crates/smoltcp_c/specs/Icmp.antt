@@ -19,14 +19,14 @@ use Rattle.sock_dgram.specs.IcmpFilter.{Accepts, ends_v4, ends_v6, octets_v4, oc
 use Rattle.sock_dgram.specs.UdpDispatch.{hops_of}
 use Rattle.sock_dgram.specs.declared.icmp.endpoint.Endpoint.{Endpoint}
 use Rattle.sock_dgram.specs.declared.icmp.endpoint.Endpoint.TheVariants as endpoint
-use Rattle.c_structs.specs.Answers.{error_address, error_message, error_room}
-use Rattle.c_structs.specs.Numbers.{address_in, byte_or_none, listen_in}
-use Rattle.c_structs.specs.Queue.{first_of, put_answer, put_behind, queued}
-use Rattle.c_structs.specs.Wire.{packet_len}
-use Rattle.c_structs.specs.declared.endpoints.Address.{Address}
+use Rattle.smoltcp_c.specs.Answers.{error_address, error_message, error_room}
+use Rattle.smoltcp_c.specs.Numbers.{address_in, byte_or_none, listen_in}
+use Rattle.smoltcp_c.specs.Queue.{first_of, put_answer, put_behind, queued}
+use Rattle.smoltcp_c.specs.Wire.{packet_len}
+use Rattle.smoltcp_c.specs.declared.endpoints.Address.{Address}
 use Rattle.smoltcp_c.specs.declared.icmp.IcmpEndpoint.{IcmpEndpoint}
 use Rattle.smoltcp_c.specs.declared.icmp.IcmpSocket.{IcmpSocket}
-use Rattle.c_structs.specs.declared.queue.Queue.{Queue}
+use Rattle.smoltcp_c.specs.declared.queue.Queue.{Queue}
 use Rattle.smoltcp_c.specs.declared.message.Packet.{Packet}
 use Rattle.smoltcp_c.specs.declared.message.Packet.TheVariants as packet
 

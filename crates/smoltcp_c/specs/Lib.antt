@@ -1,4 +1,10 @@
-pub mod Packets
-pub mod Udp
+pub mod Answers
+pub mod Context
 pub mod Icmp
-pub mod Ports
+pub mod Memory
+pub mod Numbers
+pub mod Packets
+pub mod Queue
+pub mod Tcp
+pub mod Udp
+pub mod Wire

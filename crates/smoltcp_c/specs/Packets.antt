@@ -14,18 +14,19 @@ use Rattle.sock_tcp.specs.Dispatch.{packet_in}
 use Rattle.sock_tcp.specs.Opening.{endpoints}
 use Rattle.sock_tcp.specs.Process.{Accepts, Outcome, processed, generator_after}
 use Rattle.sock_tcp.specs.Queue.{IsLent}
-use Rattle.sock_tcp.specs.Replies.{with_header}
+use Rattle.sock_tcp.specs.Replies.{rst_segment, with_header}
 use Rattle.sock_tcp.specs.Sent.{left_by}
 use Rattle.sock_tcp.specs.View.{View, moment_of}
 use Rattle.sock_tcp.specs.declared.error.ConnectError.{ConnectError}
 use Rattle.sock_tcp.specs.declared.tuple.Tuple.{Tuple}
-use Rattle.c_structs.specs.Answers.{error_room, not_accepted}
-use Rattle.c_structs.specs.Context.{facts_in}
-use Rattle.c_structs.specs.Numbers.{endpoint_in, listen_in}
-use Rattle.c_structs.specs.Wire.{packet_len, with_packet}
-use Rattle.c_structs.specs.declared.clock.Clock.{Clock}
-use Rattle.c_structs.specs.declared.context.Cx.{Cx}
-use Rattle.c_structs.specs.declared.endpoints.Endpoint.{Endpoint}
+use Rattle.smoltcp_c.specs.Answers.{error_room, not_accepted}
+use Rattle.smoltcp_c.specs.Context.{facts_in}
+use Rattle.smoltcp_c.specs.Numbers.{endpoint_in, listen_in}
+use Rattle.smoltcp_c.specs.Wire.{packet_len, with_packet}
+use Rattle.smoltcp_c.specs.declared.clock.Clock.{Clock}
+use Rattle.smoltcp_c.specs.declared.context.Cx.{Cx}
+use Rattle.smoltcp_c.specs.declared.endpoints.Endpoint.{Endpoint}
+use Rattle.smoltcp_c.specs.Tcp.{clock_at}
 
 -- ---- connect
 
@@ -84,15 +85,23 @@ abbrev pub reply_in : Cx → Option Clock → View → IpRepr → Segment → Op
 reply_in cx clock v ip s = replied (generator_after v s clock) s.timestamp ip (outcome_in cx v ip s).reply
 
 -- a segment that is not for the socket changes nothing; else the socket, its clock and the reply are those of
--- `processed`, and the reply's packet stands at the beginning of the buffer
+-- `processed` at the context's clock, and the reply's packet stands at the beginning of the buffer
 pub record Hears (cx : Cx) (clock : Option Clock) (v : View) (ip : IpRepr) (s : Segment) (out : List ℕ) (result : ℤ)
-    (held : Option View) (stamps : Bool) (out' : List ℕ) : Type 0 where
+    (w : View) (clock' : Option Clock) (out' : List ℕ) : Type 0 where
   pub foreign : (Accepts v ip s → ⊥)
-      → (result ≡ not_accepted) × (held ≡ Some v) × (stamps ≡ is_some clock) × (out' ≡ out)
-  pub socket : Accepts v ip s → held ≡ Some (outcome_in cx v ip s).view
-  pub stamped : Accepts v ip s → stamps ≡ is_some (generator_after v s clock)
-  pub answer : Accepts v ip s → result ≡ pos (size_of (reply_in cx clock v ip s))
-  pub bytes : Accepts v ip s → out' ≡ written_over (reply_in cx clock v ip s) out
+      → (result ≡ not_accepted) × (w ≡ v) × (clock' ≡ clock) × (out' ≡ out)
+  pub socket : Accepts v ip s → w ≡ (outcome_in cx v ip s).view
+  pub clocked : Accepts v ip s → clock' ≡ generator_after v s (clock_at clock cx.tsval)
+  pub answer : Accepts v ip s → result ≡ pos (size_of (reply_in cx (clock_at clock cx.tsval) v ip s))
+  pub bytes : Accepts v ip s → out' ≡ written_over (reply_in cx (clock_at clock cx.tsval) v ip s) out
+
+-- the RST that answers a segment that no socket takes
+abbrev pub reset_by : TcpControl → IpRepr → Segment → Option (IpRepr × Segment)
+reset_by control.Rst ip s = None
+reset_by _ ip s = Some (with_header ip (rst_segment s))
+
+abbrev pub reset_of : IpRepr → Segment → Option (IpRepr × Segment)
+reset_of ip s = reset_by s.control ip s
 
 -- ---- dispatch
 

@@ -10,12 +10,12 @@ use Rattle.sock_core.specs.Facts.{Facts}
 use Rattle.sock_dgram.specs.Udp.{View, Accepts, fresh, is_sendable, metadata_of, no_endpoint}
 use Rattle.sock_dgram.specs.UdpDispatch.{Outgoing, from_source, source_of}
 use Rattle.sock_dgram.specs.declared.udp.socket.UdpMetadata.{UdpMetadata}
-use Rattle.c_structs.specs.Answers.{error_address, error_room}
-use Rattle.c_structs.specs.Numbers.{address_in, byte_or_none, endpoint_in, listen_in}
-use Rattle.c_structs.specs.Queue.{first_of, put_answer, put_behind, queued}
-use Rattle.c_structs.specs.Wire.{packet_len}
-use Rattle.c_structs.specs.declared.endpoints.Address.{Address}
-use Rattle.c_structs.specs.declared.queue.Queue.{Queue}
+use Rattle.smoltcp_c.specs.Answers.{error_address, error_room}
+use Rattle.smoltcp_c.specs.Numbers.{address_in, byte_or_none, endpoint_in, listen_in}
+use Rattle.smoltcp_c.specs.Queue.{first_of, put_answer, put_behind, queued}
+use Rattle.smoltcp_c.specs.Wire.{packet_len}
+use Rattle.smoltcp_c.specs.declared.endpoints.Address.{Address}
+use Rattle.smoltcp_c.specs.declared.queue.Queue.{Queue}
 use Rattle.smoltcp_c.specs.declared.udp.UdpNumbers.{UdpNumbers}
 use Rattle.smoltcp_c.specs.declared.udp.UdpSocket.{UdpSocket}
 

@@ -3,7 +3,7 @@ ghost use Rattle.std.specs.Prelude.{◌≡◌, ℕ, ◌+◌, ◌≤◌, ◌++◌
 ghost use Rattle.sock_dgram.specs.Icmp.{after_bind, bind_answer as answer_of};
 ghost use Rattle.sock_dgram.specs.IcmpDispatch.{Counts, any_message, outgoing_of};
 ghost use Rattle.sock_dgram.specs.declared.icmp.endpoint.Endpoint.TheVariants.{Unspecified};
-ghost use Rattle.c_structs.specs.Answers.{
+ghost use Rattle.smoltcp_c.specs.Answers.{
   bind_answer,
   error_context,
   error_empty,
@@ -11,7 +11,7 @@ ghost use Rattle.c_structs.specs.Answers.{
   flag_answer,
   not_accepted,
 };
-ghost use Rattle.c_structs.specs.Context.{facts_in, is_context};
+ghost use Rattle.smoltcp_c.specs.Context.{facts_in, is_context};
 ghost use Rattle.smoltcp_c.specs.Icmp.{
   GivesIcmp,
   IcmpPacket,
@@ -29,8 +29,8 @@ ghost use Rattle.smoltcp_c.specs.Icmp.{
   sent_answer,
   sent_behind,
 };
-ghost use Rattle.c_structs.specs.Numbers.{address_in};
-ghost use Rattle.c_structs.specs.Queue.{
+ghost use Rattle.smoltcp_c.specs.Numbers.{address_in};
+ghost use Rattle.smoltcp_c.specs.Queue.{
   IsQueue,
   Dispatches,
   Polls,
@@ -44,18 +44,17 @@ ghost use Rattle.c_structs.specs.Queue.{
   queued,
   waits,
 };
-ghost use Rattle.c_structs.specs.Wire.{packet_len};
+ghost use Rattle.smoltcp_c.specs.Wire.{packet_len};
 
-use crate::message::{Packet, read, write_at};
-use c_structs::answers::{
+use crate::answers::{
     ERROR_ADDRESS, ERROR_CONTEXT, ERROR_EMPTY, ERROR_MESSAGE, ERROR_ROOM, ERROR_SOCKET,
     NOT_ACCEPTED, OK, bind_answer,
 };
-use c_structs::context::{Cx, Moment, moment_in};
-use c_structs::endpoints::{Address, Endpoint, NO_ENDPOINT, address_in, address_of, listen_in};
-use c_structs::queue::{Queue, first_of};
-use c_structs::sound::LARGEST;
-use c_structs::wire::LONGEST_PACKET;
+use crate::context::{Cx, Moment, moment_in};
+use crate::endpoints::{Address, Endpoint, NO_ENDPOINT, address_in, address_of, listen_in};
+use crate::message::{Packet, read, write_at};
+use crate::queue::{LARGEST, Queue, first_of};
+use crate::wire::LONGEST_PACKET;
 use control_wire::IcmpRepr;
 use ip_wire::{IpAddress, IpRepr};
 use sock_dgram::icmp;
@@ -348,7 +347,7 @@ fn put_if(prepared: Option<(IpRepr, IcmpRepr<'_>)>, tx: &mut Queue<'_>) -> i64
 }
 
 // Puts the packet into the queue, where it finds room.
-#[tactic(auto, unfolding(c_structs::specs::Queue::has_room))]
+#[tactic(auto, unfolding(crate::specs::Queue::has_room))]
 fn put_message(ip: &IpRepr, repr: &IcmpRepr<'_>, tx: &mut Queue<'_>) -> i64
     requires counted { Counts ip.now (any_message repr.now) }
     requires sound { IsQueue tx.old }

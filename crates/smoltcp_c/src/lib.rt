@@ -1,14 +1,22 @@
-//! The sockets for C: a socket is a struct of numbers that the caller owns, with its two buffers. No call allocates,
-//! keeps anything elsewhere, or calls back.
+//! Proved sockets for C: a socket lies in memory of the caller, with its buffers. No call allocates, keeps anything
+//! elsewhere, or calls back.
 #![tactic(auto)]
 
-mod contexts;
-mod icmp;
-mod message;
-mod packets;
-mod ports;
-mod settings;
-mod tcp;
-#[cfg(test)]
-mod tests;
-mod udp;
+pub mod answers;
+pub mod clock;
+pub mod context;
+pub mod contexts;
+pub mod endpoints;
+pub mod icmp;
+pub mod lends;
+pub mod memory;
+pub mod message;
+pub mod packets;
+pub mod queue;
+pub mod settings;
+pub mod sizes;
+pub mod streams;
+pub mod tcp;
+pub mod tcp_handle;
+pub mod udp;
+pub mod wire;

@@ -5,7 +5,7 @@ ghost use Rattle.ip_wire.specs.IpHeader.{header_len_of};
 ghost use Rattle.control_wire.specs.Icmp.{message_len, message_v4, message_v6};
 ghost use Rattle.sock_dgram.specs.IcmpDispatch.{Counts, any_message};
 ghost use Rattle.sock_dgram.specs.IcmpFilter.{octets_v4, octets_v6};
-ghost use Rattle.c_structs.specs.Context.{facts_in};
+ghost use Rattle.smoltcp_c.specs.Context.{facts_in};
 ghost use Rattle.smoltcp_c.specs.Icmp.{
   AcceptsIcmp,
   carried_message,
@@ -18,9 +18,9 @@ ghost use Rattle.smoltcp_c.specs.Icmp.{
   octets_of,
   remote_of,
 };
-ghost use Rattle.c_structs.specs.Wire.{packet_len};
+ghost use Rattle.smoltcp_c.specs.Wire.{packet_len};
 
-use c_structs::context::Moment;
+use crate::context::Moment;
 use control_wire::{IcmpRepr, Icmpv4Repr, Icmpv6Repr};
 use ip_wire::{ChecksumCapabilities, IpAddress, IpRepr, Ipv4Repr, Ipv6Repr};
 use segment_wire::packet::carried;

@@ -1,5 +1,5 @@
 //! The calls of a TCP socket that take and give packets.
-ghost use Rattle.std.specs.Prelude.{◌≡◌, ◌<◌, ◌≤◌, pos, [], length, None, Some, true, false, is_some, option_map, IfOk};
+ghost use Rattle.std.specs.Prelude.{◌≡◌, ◌<◌, ◌≤◌, pos, [], length, None, Some, true, false, option_map, IfOk};
 ghost use Rattle.std.specs.Option.{ForSome};
 ghost use Rattle.ip_wire.specs.Checksum.{all_checksums};
 ghost use Rattle.ip_wire.specs.declared.checksum.Checksum.TheVariants.{Both};
@@ -8,21 +8,18 @@ ghost use Rattle.control_wire.specs.Segment.{segment_of};
 ghost use Rattle.segment_wire.specs.Packet.{TcpPacket, tcp_packet_of, tcp_packet_parsed};
 ghost use Rattle.segment_wire.specs.Tcp.{read_as};
 ghost use Rattle.sock_tcp.specs.Process.{Accepts, generator_after, reply_of};
-ghost use Rattle.sock_tcp.specs.View.{View};
-ghost use Rattle.c_structs.specs.Answers.{RefusedFor, Leaves, sent_answer, error_context, error_room, error_socket, not_accepted};
-ghost use Rattle.c_structs.specs.Context.{is_context};
-ghost use Rattle.c_structs.specs.Numbers.{flag_in};
-ghost use Rattle.smoltcp_c.specs.Packets.{size_of, written_over, outcome_in, reply_in, Hears, DispatchesInto};
-ghost use Rattle.c_structs.specs.Socket.{held, clock_in};
-ghost use Rattle.c_structs.specs.Wire.{Writes};
+ghost use Rattle.smoltcp_c.specs.Answers.{sent_answer, error_context, error_room, not_accepted};
+ghost use Rattle.smoltcp_c.specs.Context.{is_context};
+ghost use Rattle.smoltcp_c.specs.Packets.{size_of, written_over, outcome_in, reply_in, reset_of, Hears, DispatchesInto};
+ghost use Rattle.smoltcp_c.specs.Wire.{Writes};
+ghost use Rattle.smoltcp_c.specs.Tcp.{RefusesFor, clock, clock_at, view};
 
-use crate::ports::has_ports;
-use c_structs::answers::{ERROR_CONTEXT, ERROR_ROOM, ERROR_SOCKET, NOT_ACCEPTED, OK, sent_answer};
-use c_structs::clock::Clock;
-use c_structs::context::{Cx, Moment, moment_in};
-use c_structs::socket::{TcpSocket, is_held, put, take};
-use c_structs::wire::{Full, Wire, put_packet};
-use control_wire::TcpRepr;
+use crate::answers::{ERROR_CONTEXT, ERROR_ROOM, NOT_ACCEPTED, OK, sent_answer};
+use crate::clock::Clock;
+use crate::context::{Cx, Moment, moment_in};
+use crate::tcp_handle::TcpHandle;
+use crate::wire::{Full, Wire, put_packet};
+use control_wire::{TcpControl, TcpRepr};
 use ip_wire::{ChecksumCapabilities, Error, IpRepr};
 use segment_wire::packet::parse_tcp;
 use sock_tcp::{Reply, Socket};
@@ -32,46 +29,37 @@ const LONGEST_REPLY: usize = 100;
 
 /// Takes an IP packet. The length of the packet that answers it, written at the beginning of `reply`, or 0 for none;
 /// `NOT_ACCEPTED` where the packet is no whole TCP segment or is not for this socket; `ERROR_ROOM` where `reply` has
-/// less than 100 bytes, `ERROR_CONTEXT`, `ERROR_SOCKET`. The socket is as it was then.
+/// less than 100 bytes, `ERROR_CONTEXT`. The socket is as it was then.
 #[unsafe(no_mangle)]
 pub extern "C" fn smoltcp_tcp_process_checked(
-    s: &mut TcpSocket<'_>,
+    h: &mut TcpHandle,
     cx: &Cx,
     packet: &[u8],
     reply: &mut [u8],
 ) -> i64
-    ensures refused { held s.old ≡ None → RefusedFor error_socket s.old reply.old result s.new reply.new }
-    ensures context { (v : View) → held s.old ≡ Some v → is_context cx.entry.now ≡ false
-        → RefusedFor error_context s.old reply.old result s.new reply.new }
-    ensures room { (v : View) → held s.old ≡ Some v → is_context cx.entry.now ≡ true → length reply.old < 100
-        → RefusedFor error_room s.old reply.old result s.new reply.new }
-    ensures broken { (v : View) → held s.old ≡ Some v → is_context cx.entry.now ≡ true → 100 ≤ length reply.old
+    ensures context { is_context cx.entry.now ≡ false
+        → RefusesFor error_context h.old reply.old result h.new reply.new }
+    ensures room { is_context cx.entry.now ≡ true → length reply.old < 100
+        → RefusesFor error_room h.old reply.old result h.new reply.new }
+    ensures broken { is_context cx.entry.now ≡ true → 100 ≤ length reply.old
         → tcp_packet_parsed (all_checksums Both) packet.now ≡ None
-        → RefusedFor not_accepted s.old reply.old result s.new reply.new }
-    ensures table { (v : View) (p : TcpPacket) → held s.old ≡ Some v → is_context cx.entry.now ≡ true
-        → 100 ≤ length reply.old → tcp_packet_parsed (all_checksums Both) packet.now ≡ Some p
-        → Hears cx.entry.now (clock_in s.old.timestamps cx.entry.now.tsval) v p.ip p.segment reply.old result
-        (held s.new) (flag_in s.new.timestamps) reply.new }
+        → RefusesFor not_accepted h.old reply.old result h.new reply.new }
+    ensures table { (p : TcpPacket) → is_context cx.entry.now ≡ true → 100 ≤ length reply.old
+        → tcp_packet_parsed (all_checksums Both) packet.now ≡ Some p
+        → Hears cx.entry.now (clock h.old) (view h.old) p.ip p.segment reply.old result (view h.new) (clock h.new)
+        reply.new }
+    ensures at { h.new.at ≡ h.old.at }
 {
-    if !is_held(s) {
-        return ERROR_SOCKET;
-    }
     let Some(moment) = moment_in(cx) else {
         return ERROR_CONTEXT;
     };
     if reply.len() < LONGEST_REPLY {
         return ERROR_ROOM;
     }
-    if !has_ports(&s.fields, packet) {
-        return NOT_ACCEPTED;
-    }
     let Ok((ip, repr)) = read(packet) else {
         return NOT_ACCEPTED;
     };
-    let mut socket = take(s, cx.tsval);
-    let answer = heard(&mut socket, &moment, &ip, &repr, reply);
-    put(s, socket);
-    answer
+    heard(h.socket(), &moment, &ip, &repr, reply)
 }
 
 // The segment that the packet carries.
@@ -80,6 +68,16 @@ fn read(packet: &[u8]) -> Result<(IpRepr, TcpRepr<'_>), Error>
     ensures short { IfOk result (λ p. length p.1.payload.now ≤ 65535) }
 {
     parse_tcp(packet, &ChecksumCapabilities::default())
+}
+
+// Sets the socket's clock, where it has one.
+fn set_clock(socket: &mut Socket<'_, Clock>, tsval: u32)
+    ensures view { socket.new.control_block ≡ socket.old.control_block }
+    ensures clock { socket.new.tsval_generator ≡ clock_at socket.old.tsval_generator tsval }
+{
+    if socket.timestamp_enabled() {
+        socket.set_tsval_source(Some(Clock { tsval }));
+    }
 }
 
 // Gives the segment to the socket, and writes the reply.
@@ -93,11 +91,12 @@ fn heard(
     requires short { length repr.now.payload.now ≤ 65535 }
     requires room { 100 ≤ length reply.old }
     ensures { Hears moment.now.cx socket.old.tsval_generator socket.old.control_block ip.now (segment_of repr.now)
-        reply.old result (Some socket.new.control_block) (is_some socket.new.tsval_generator) reply.new }
+        reply.old result socket.new.control_block socket.new.tsval_generator reply.new }
 {
     if !socket.accepts(moment, ip, repr) {
         return NOT_ACCEPTED;
     }
+    set_clock(socket, moment.cx.tsval);
     let answer = processed(socket, moment, ip, repr);
     put_reply(&answer, reply)
 }
@@ -140,31 +139,23 @@ fn put_reply(answer: &Option<Reply>, out: &mut [u8]) -> i64
 }
 
 /// Writes the packet that is due into `out`, and answers its length, or 0 where none is. `ERROR_ROOM` where `out` is
-/// too short for it: the next call gives it again. `ERROR_CONTEXT`, `ERROR_SOCKET`.
+/// too short for it: the next call gives it again. `ERROR_CONTEXT`.
 #[unsafe(no_mangle)]
-pub extern "C" fn smoltcp_tcp_dispatch_checked(
-    s: &mut TcpSocket<'_>,
-    cx: &Cx,
-    out: &mut [u8],
-) -> i64
-    ensures refused { held s.old ≡ None → RefusedFor error_socket s.old out.old result s.new out.new }
-    ensures context { (v : View) → held s.old ≡ Some v → is_context cx.entry.now ≡ false
-        → RefusedFor error_context s.old out.old result s.new out.new }
-    ensures table { (v : View) → held s.old ≡ Some v → is_context cx.entry.now ≡ true
-        → Leaves (λ w. DispatchesInto cx.entry.now (clock_in s.old.timestamps cx.entry.now.tsval) v out.old result w
-        out.new) (held s.new) }
-    ensures stamps { flag_in s.new.timestamps ≡ flag_in s.old.timestamps }
+pub extern "C" fn smoltcp_tcp_dispatch_checked(h: &mut TcpHandle, cx: &Cx, out: &mut [u8]) -> i64
+    ensures context { is_context cx.entry.now ≡ false
+        → RefusesFor error_context h.old out.old result h.new out.new }
+    ensures table { is_context cx.entry.now ≡ true
+        → DispatchesInto cx.entry.now (clock_at (clock h.old) cx.entry.now.tsval) (view h.old) out.old result
+        (view h.new) out.new }
+    ensures clock { is_context cx.entry.now ≡ true → clock h.new ≡ clock_at (clock h.old) cx.entry.now.tsval }
+    ensures at { h.new.at ≡ h.old.at }
 {
-    if !is_held(s) {
-        return ERROR_SOCKET;
-    }
     let Some(moment) = moment_in(cx) else {
         return ERROR_CONTEXT;
     };
-    let mut socket = take(s, cx.tsval);
-    let answer = sent(&mut socket, &moment, out);
-    put(s, socket);
-    answer
+    let socket = h.socket();
+    set_clock(socket, cx.tsval);
+    sent(socket, &moment, out)
 }
 
 // Writes what is due.
@@ -196,4 +187,42 @@ fn emitted(socket: &mut Socket<'_, Clock>, wire: &mut Wire<'_>) -> Result<(), Fu
             ensures { Writes sent.entry.0 (segment_of sent.entry.1) cx.entry.now result cx.exit.now }
         { cx.write(&sent.0, &sent.1) },
     )
+}
+
+/// Answers a packet that no socket takes by an RST (RFC 9293, section 3.10.7.1): writes it at the beginning of `reply`,
+/// and answers its length. 0 where the packet is an RST; `NOT_ACCEPTED` where it is no whole TCP segment; `ERROR_ROOM`
+/// where `reply` has less than 100 bytes. `reply` is as it was then.
+#[unsafe(no_mangle)]
+pub extern "C" fn smoltcp_tcp_reset_checked(packet: &[u8], reply: &mut [u8]) -> i64
+    ensures room { length reply.old < 100 → (result ≡ error_room) × (reply.new ≡ reply.old) }
+    ensures broken { 100 ≤ length reply.old → tcp_packet_parsed (all_checksums Both) packet.now ≡ None
+        → (result ≡ not_accepted) × (reply.new ≡ reply.old) }
+    ensures answer { (p : TcpPacket) → 100 ≤ length reply.old
+        → tcp_packet_parsed (all_checksums Both) packet.now ≡ Some p
+        → result ≡ pos (size_of (reset_of p.ip p.segment)) }
+    ensures bytes { (p : TcpPacket) → 100 ≤ length reply.old
+        → tcp_packet_parsed (all_checksums Both) packet.now ≡ Some p
+        → reply.new ≡ written_over (reset_of p.ip p.segment) reply.old }
+{
+    if reply.len() < LONGEST_REPLY {
+        return ERROR_ROOM;
+    }
+    let Ok((ip, repr)) = read(packet) else {
+        return NOT_ACCEPTED;
+    };
+    let answer = reset_of(&ip, &repr);
+    put_reply(&answer, reply)
+}
+
+// The RST that answers a segment, if it is none itself.
+fn reset_of(ip: &IpRepr, repr: &TcpRepr<'_>) -> Option<Reply>
+    requires short { length repr.now.payload.now ≤ 65535 }
+    ensures reply { option_map reply_of result ≡ reset_of ip.now (segment_of repr.now) }
+    ensures bare { ForSome result (λ r. r.1.payload.now ≡ []) }
+    ensures fits { ForSome (option_map reply_of result) (λ r. FitsPacket r.0 r.1) }
+{
+    match repr.control {
+        TcpControl::Rst => None,
+        _ => Some(Socket::rst_reply(ip, repr)),
+    }
 }

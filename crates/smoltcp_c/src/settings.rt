@@ -1,21 +1,28 @@
 //! The settings of a TCP socket.
-ghost use Rattle.std.specs.Prelude.{◌≡◌, ◌==◌, pos, None, Option, Some, true, false};
+ghost use Rattle.std.specs.Prelude.{◌≡◌, ◌==◌, ◌↔◌, ◌≤◌, pos, None, Option, Some, true, false, is_some, if◌then◌else◌};
 ghost use Rattle.std.specs.Option.{IfSome};
 ghost use Rattle.net_base.specs.declared.time.Duration.{Duration};
 ghost use Rattle.sock_tcp.specs.Closing.{keep_alive_set};
 ghost use Rattle.sock_tcp.specs.Parts.{is_short};
-ghost use Rattle.sock_tcp.specs.Settings.{of_kind};
+ghost use Rattle.sock_tcp.specs.Settings.{kind_of, of_kind};
 ghost use Rattle.sock_tcp.specs.View.{IsShort, View};
 ghost use Rattle.sock_tcp.specs.declared.settings.CongestionControl.{CongestionControl};
-ghost use Rattle.c_structs.specs.Answers.{IsDone, Refused, error_range};
-ghost use Rattle.c_structs.specs.Numbers.{byte_or_none, control_by, flag_in, lasting, micros_in};
-ghost use Rattle.c_structs.specs.Socket.{held};
+ghost use Rattle.smoltcp_c.specs.Answers.{error_range, flag_answer};
+ghost use Rattle.smoltcp_c.specs.Numbers.{byte_or_none, control_by, flag_in, lasting, micros_in};
+ghost use Rattle.smoltcp_c.specs.Tcp.{Refuses, Sets, byte_told, clock, clock_set, kind_told, micros_told, view, with_both, with_view};
 
-use c_structs::answers::{ERROR_RANGE, ERROR_SOCKET, OK};
-use c_structs::numbers::flag_in;
-use c_structs::socket::{TcpSocket, is_held, put, take};
+use crate::answers::{ERROR_RANGE, OK, flag_answer};
+use crate::clock::Clock;
+use crate::tcp_handle::TcpHandle;
 use net_base::time::Duration;
 use sock_tcp::CongestionControl;
+
+// Any number but 0 is true.
+fn flag_in(n: u8) -> bool
+    ensures { result ≡ flag_in n }
+{
+    n != 0
+}
 
 // The longest length of time, in microseconds.
 const LONGEST: u64 = 1 << 61;
@@ -42,7 +49,7 @@ fn is_short(duration: Option<Duration>) -> bool
 }
 
 // None above the longest.
-#[tactic(auto, unfolding(c_structs::specs::Numbers::lasting))]
+#[tactic(auto, unfolding(crate::specs::Numbers::lasting))]
 fn lasting(micros: i64) -> Option<Option<Duration>>
     ensures value { result ≡ lasting micros }
     ensures short { IfSome result IsShort }
@@ -63,111 +70,8 @@ fn byte_or_none(byte: u8) -> Option<u8>
     if byte == 0 { None } else { Some(byte) }
 }
 
-/// Sets the user timeout in microseconds (RFC 9293, section 3.9.1), or none where the number is below 0. 0, or
-/// `ERROR_RANGE` above 2^61, where nothing changes; `ERROR_SOCKET`.
-#[unsafe(no_mangle)]
-pub extern "C" fn smoltcp_tcp_set_timeout_checked(s: &mut TcpSocket<'_>, micros: i64) -> i64
-    ensures refused { held s.old ≡ None → Refused s.old result s.new }
-    ensures stamps { flag_in s.new.timestamps ≡ flag_in s.old.timestamps }
-    ensures far { (v : View) → held s.old ≡ Some v → lasting micros ≡ None
-        → (result ≡ error_range) × (s.new ≡ s.old) }
-    ensures set { (v : View) (d : Option Duration) → held s.old ≡ Some v → lasting micros ≡ Some d
-        → IsDone result (held s.new) (record v { timeout = d }) }
-{
-    if !is_held(s) {
-        return ERROR_SOCKET;
-    }
-    let Some(duration) = lasting(micros) else {
-        return ERROR_RANGE;
-    };
-    let mut socket = take(s, 0);
-    socket.set_timeout(duration);
-    put(s, socket);
-    OK
-}
-
-/// Sets the interval of keep-alives in microseconds (RFC 9293, section 3.8.4), or none where it is below 0. 0, or
-/// `ERROR_RANGE` above 2^61, where nothing changes; `ERROR_SOCKET`.
-#[unsafe(no_mangle)]
-pub extern "C" fn smoltcp_tcp_set_keep_alive_checked(s: &mut TcpSocket<'_>, micros: i64) -> i64
-    ensures refused { held s.old ≡ None → Refused s.old result s.new }
-    ensures stamps { flag_in s.new.timestamps ≡ flag_in s.old.timestamps }
-    ensures far { (v : View) → held s.old ≡ Some v → lasting micros ≡ None
-        → (result ≡ error_range) × (s.new ≡ s.old) }
-    ensures set { (v : View) (d : Option Duration) → held s.old ≡ Some v → lasting micros ≡ Some d
-        → IsDone result (held s.new) (keep_alive_set v d) }
-{
-    if !is_held(s) {
-        return ERROR_SOCKET;
-    }
-    let Some(interval) = lasting(micros) else {
-        return ERROR_RANGE;
-    };
-    let mut socket = take(s, 0);
-    socket.set_keep_alive(interval);
-    put(s, socket);
-    OK
-}
-
-/// Sets how long an acknowledgement may wait, in microseconds, or lets none wait where it is below 0. 0, or
-/// `ERROR_RANGE` above 2^61, where nothing changes; `ERROR_SOCKET`.
-#[unsafe(no_mangle)]
-pub extern "C" fn smoltcp_tcp_set_ack_delay_checked(s: &mut TcpSocket<'_>, micros: i64) -> i64
-    ensures refused { held s.old ≡ None → Refused s.old result s.new }
-    ensures stamps { flag_in s.new.timestamps ≡ flag_in s.old.timestamps }
-    ensures far { (v : View) → held s.old ≡ Some v → lasting micros ≡ None
-        → (result ≡ error_range) × (s.new ≡ s.old) }
-    ensures set { (v : View) (d : Option Duration) → held s.old ≡ Some v → lasting micros ≡ Some d
-        → IsDone result (held s.new) (record v { ack_delay = d }) }
-{
-    if !is_held(s) {
-        return ERROR_SOCKET;
-    }
-    let Some(duration) = lasting(micros) else {
-        return ERROR_RANGE;
-    };
-    let mut socket = take(s, 0);
-    socket.set_ack_delay(duration);
-    put(s, socket);
-    OK
-}
-
-/// Lets small segments wait while bytes are in flight (RFC 9293, section 3.7.4) where the number is not 0. 0, or
-/// `ERROR_SOCKET`.
-#[unsafe(no_mangle)]
-pub extern "C" fn smoltcp_tcp_set_nagle_enabled_checked(s: &mut TcpSocket<'_>, enabled: u8) -> i64
-    ensures refused { held s.old ≡ None → Refused s.old result s.new }
-    ensures stamps { flag_in s.new.timestamps ≡ flag_in s.old.timestamps }
-    ensures set { (v : View) → held s.old ≡ Some v → IsDone result (held s.new) (record v { nagle = flag_in enabled }) }
-{
-    if !is_held(s) {
-        return ERROR_SOCKET;
-    }
-    let mut socket = take(s, 0);
-    socket.set_nagle_enabled(flag_in(enabled));
-    put(s, socket);
-    OK
-}
-
-/// Sets the hop limit of what is sent, or 64 where the number is 0. 0, or `ERROR_SOCKET`.
-#[unsafe(no_mangle)]
-pub extern "C" fn smoltcp_tcp_set_hop_limit_checked(s: &mut TcpSocket<'_>, hop_limit: u8) -> i64
-    ensures refused { held s.old ≡ None → Refused s.old result s.new }
-    ensures stamps { flag_in s.new.timestamps ≡ flag_in s.old.timestamps }
-    ensures set { (v : View) → held s.old ≡ Some v
-        → IsDone result (held s.new) (record v { hop_limit = byte_or_none hop_limit }) }
-{
-    if !is_held(s) {
-        return ERROR_SOCKET;
-    }
-    let mut socket = take(s, 0);
-    socket.set_hop_limit(byte_or_none(hop_limit));
-    put(s, socket);
-    OK
-}
-
 // The kind with this number.
-#[tactic(auto, unfolding(c_structs::specs::Numbers::control_by))]
+#[tactic(auto, unfolding(crate::specs::Numbers::control_by))]
 fn control_by(kind: u32) -> Option<CongestionControl>
     ensures { result ≡ control_by kind }
 {
@@ -180,28 +84,211 @@ fn control_by(kind: u32) -> Option<CongestionControl>
     None
 }
 
-/// Puts in a new controller of this kind, also where there is one of the kind: 0 for none, 1 for Reno (RFC 5681),
-/// which a new socket has. 0, or `ERROR_RANGE` for another number, where nothing changes; `ERROR_SOCKET`.
+/// Sets the user timeout in microseconds (RFC 9293, section 3.9.1), or none where the number is below 0. 0, or
+/// `ERROR_RANGE` above 2^61, where nothing changes.
 #[unsafe(no_mangle)]
-pub extern "C" fn smoltcp_tcp_set_congestion_control_checked(
-    s: &mut TcpSocket<'_>,
-    kind: u32,
-) -> i64
-    ensures refused { held s.old ≡ None → Refused s.old result s.new }
-    ensures stamps { flag_in s.new.timestamps ≡ flag_in s.old.timestamps }
-    ensures other { (v : View) → held s.old ≡ Some v → control_by kind ≡ None
-        → (result ≡ error_range) × (s.new ≡ s.old) }
-    ensures set { (v : View) (k : CongestionControl) → held s.old ≡ Some v → control_by kind ≡ Some k
-        → IsDone result (held s.new) (record v { congestion_controller = of_kind k }) }
+pub extern "C" fn smoltcp_tcp_set_timeout_checked(h: &mut TcpHandle, micros: i64) -> i64
+    ensures far { lasting micros ≡ None → Refuses error_range h.old result h.new }
+    ensures set { (d : Option Duration) → lasting micros ≡ Some d
+        → Sets h.old (record (view h.old) { timeout = d }) result h.new }
 {
-    if !is_held(s) {
-        return ERROR_SOCKET;
-    }
+    let Some(duration) = lasting(micros) else {
+        return ERROR_RANGE;
+    };
+    h.socket().set_timeout(duration);
+    OK
+}
+
+/// Sets the interval of keep-alives in microseconds (RFC 9293, section 3.8.4), or none where it is below 0. 0, or
+/// `ERROR_RANGE` above 2^61, where nothing changes.
+#[unsafe(no_mangle)]
+pub extern "C" fn smoltcp_tcp_set_keep_alive_checked(h: &mut TcpHandle, micros: i64) -> i64
+    ensures far { lasting micros ≡ None → Refuses error_range h.old result h.new }
+    ensures set { (d : Option Duration) → lasting micros ≡ Some d
+        → Sets h.old (keep_alive_set (view h.old) d) result h.new }
+{
+    let Some(duration) = lasting(micros) else {
+        return ERROR_RANGE;
+    };
+    h.socket().set_keep_alive(duration);
+    OK
+}
+
+/// Sets how long an acknowledgement may wait, in microseconds, or lets none wait where it is below 0. 0, or
+/// `ERROR_RANGE` above 2^61, where nothing changes.
+#[unsafe(no_mangle)]
+pub extern "C" fn smoltcp_tcp_set_ack_delay_checked(h: &mut TcpHandle, micros: i64) -> i64
+    ensures far { lasting micros ≡ None → Refuses error_range h.old result h.new }
+    ensures set { (d : Option Duration) → lasting micros ≡ Some d
+        → Sets h.old (record (view h.old) { ack_delay = d }) result h.new }
+{
+    let Some(duration) = lasting(micros) else {
+        return ERROR_RANGE;
+    };
+    h.socket().set_ack_delay(duration);
+    OK
+}
+
+/// Lets small segments wait while bytes are in flight (RFC 9293, section 3.7.4) where the number is not 0. Answers 0.
+#[unsafe(no_mangle)]
+pub extern "C" fn smoltcp_tcp_set_nagle_enabled_checked(h: &mut TcpHandle, enabled: u8) -> i64
+    ensures set { Sets h.old (record (view h.old) { nagle = flag_in enabled }) result h.new }
+{
+    h.socket().set_nagle_enabled(flag_in(enabled));
+    OK
+}
+
+/// Sets the hop limit of what is sent, or 64 where the number is 0. Answers 0.
+#[unsafe(no_mangle)]
+pub extern "C" fn smoltcp_tcp_set_hop_limit_checked(h: &mut TcpHandle, hop_limit: u8) -> i64
+    ensures set { Sets h.old (record (view h.old) { hop_limit = byte_or_none hop_limit }) result h.new }
+{
+    h.socket().set_hop_limit(byte_or_none(hop_limit));
+    OK
+}
+
+/// Lets a SYN|ACK wait where the number is not 0, else go out; as smoltcp. Answers 0.
+#[unsafe(no_mangle)]
+pub extern "C" fn smoltcp_tcp_pause_synack_checked(h: &mut TcpHandle, pause: u8) -> i64
+    ensures set { Sets h.old (record (view h.old) { synack_paused = flag_in pause }) result h.new }
+{
+    h.socket().pause_synack(flag_in(pause));
+    OK
+}
+
+/// Puts in a new controller of this kind, also where there is one of the kind: 0 for none, 1 for Reno (RFC 5681),
+/// which a new socket has. 0, or `ERROR_RANGE` for another number, where nothing changes.
+#[unsafe(no_mangle)]
+pub extern "C" fn smoltcp_tcp_set_congestion_control_checked(h: &mut TcpHandle, kind: u32) -> i64
+    ensures other { control_by kind ≡ None → Refuses error_range h.old result h.new }
+    ensures set { (k : CongestionControl) → control_by kind ≡ Some k
+        → Sets h.old (record (view h.old) { congestion_controller = of_kind k }) result h.new }
+{
     let Some(control) = control_by(kind) else {
         return ERROR_RANGE;
     };
-    let mut socket = take(s, 0);
-    socket.set_congestion_control(control);
-    put(s, socket);
+    h.socket().set_congestion_control(control);
     OK
+}
+
+/// Lets timestamps be sent (RFC 7323) where the number is not 0, at the clock of each call's context. A SYN without
+/// one that opens a connection ends them. Answers 0.
+#[unsafe(no_mangle)]
+pub extern "C" fn smoltcp_tcp_set_timestamps_checked(h: &mut TcpHandle, enabled: u8) -> i64
+    ensures answer { result ≡ pos 0 }
+    ensures set { h.new ≡ with_both h.old (view h.old) (clock_set (flag_in enabled) 0) }
+{
+    h.socket().set_tsval_source(clock_of(flag_in(enabled)));
+    OK
+}
+
+// A clock, or none.
+fn clock_of(enabled: bool) -> Option<Clock>
+    ensures { result ≡ clock_set enabled 0 }
+{
+    if enabled {
+        Some(Clock { tsval: 0 })
+    } else {
+        None
+    }
+}
+
+// The microseconds, at most 2^61, or -1 for none.
+fn micros_told(duration: Option<Duration>) -> i64
+    ensures { result ≡ micros_told duration }
+{
+    match duration {
+        None => -1,
+        Some(duration) => duration.micros.min(LONGEST) as i64,
+    }
+}
+
+// The byte, or 0 for none.
+fn byte_told(byte: Option<u8>) -> i64
+    ensures { result ≡ byte_told byte }
+{
+    match byte {
+        None => 0,
+        Some(byte) => byte as i64,
+    }
+}
+
+// The number of the kind.
+fn kind_told(kind: CongestionControl) -> i64
+    ensures { result ≡ kind_told kind }
+{
+    match kind {
+        CongestionControl::None => 0,
+        CongestionControl::Reno => 1,
+    }
+}
+
+/// The user timeout in microseconds, or -1 where there is none.
+#[unsafe(no_mangle)]
+pub extern "C" fn smoltcp_tcp_timeout_checked(h: &mut TcpHandle) -> i64
+    ensures answer { result ≡ micros_told (view h.old).timeout }
+    ensures at { h.new.at ≡ h.old.at }
+    ensures same { h.new.socket ≡ h.old.socket }
+{
+    micros_told(h.socket().timeout())
+}
+
+/// The interval of keep-alives in microseconds, or -1 where none go out.
+#[unsafe(no_mangle)]
+pub extern "C" fn smoltcp_tcp_keep_alive_checked(h: &mut TcpHandle) -> i64
+    ensures answer { result ≡ micros_told (view h.old).keep_alive }
+    ensures at { h.new.at ≡ h.old.at }
+    ensures same { h.new.socket ≡ h.old.socket }
+{
+    micros_told(h.socket().keep_alive())
+}
+
+/// How long an acknowledgement may wait, in microseconds, or -1 where none waits.
+#[unsafe(no_mangle)]
+pub extern "C" fn smoltcp_tcp_ack_delay_checked(h: &mut TcpHandle) -> i64
+    ensures answer { result ≡ micros_told (view h.old).ack_delay }
+    ensures at { h.new.at ≡ h.old.at }
+    ensures same { h.new.socket ≡ h.old.socket }
+{
+    micros_told(h.socket().ack_delay())
+}
+
+/// 1 where small segments wait while bytes are in flight, else 0.
+#[unsafe(no_mangle)]
+pub extern "C" fn smoltcp_tcp_nagle_enabled_checked(h: &mut TcpHandle) -> i64
+    ensures answer { result ≡ flag_answer (view h.old).nagle }
+    ensures at { h.new.at ≡ h.old.at }
+    ensures same { h.new.socket ≡ h.old.socket }
+{
+    flag_answer(h.socket().nagle_enabled())
+}
+
+/// The hop limit of what is sent, or 0 where none is set, for 64.
+#[unsafe(no_mangle)]
+pub extern "C" fn smoltcp_tcp_hop_limit_checked(h: &mut TcpHandle) -> i64
+    ensures answer { result ≡ byte_told (view h.old).hop_limit }
+    ensures at { h.new.at ≡ h.old.at }
+    ensures same { h.new.socket ≡ h.old.socket }
+{
+    byte_told(h.socket().hop_limit())
+}
+
+/// The kind of congestion control: 0 for none, 1 for Reno.
+#[unsafe(no_mangle)]
+pub extern "C" fn smoltcp_tcp_congestion_control_checked(h: &mut TcpHandle) -> i64
+    ensures answer { result ≡ kind_told (kind_of (view h.old).congestion_controller) }
+    ensures at { h.new.at ≡ h.old.at }
+    ensures same { h.new.socket ≡ h.old.socket }
+{
+    kind_told(h.socket().congestion_control())
+}
+
+/// 1 where timestamps are sent, else 0.
+#[unsafe(no_mangle)]
+pub extern "C" fn smoltcp_tcp_timestamp_enabled_checked(h: &mut TcpHandle) -> i64
+    ensures answer { result ≡ flag_answer (is_some (clock h.old)) }
+    ensures at { h.new.at ≡ h.old.at }
+    ensures same { h.new.socket ≡ h.old.socket }
+{
+    flag_answer(h.socket().timestamp_enabled())
 }

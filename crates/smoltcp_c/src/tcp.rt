@@ -1,177 +1,266 @@
-//! The calls of a TCP socket.
-ghost use Rattle.std.specs.Prelude.{◌≡◌, pos, [], None, Some, true, false};
-ghost use Rattle.sock_core.specs.Received.{receiving};
+//! The calls of a TCP socket that take no context and no packet.
+ghost use Rattle.std.specs.Prelude.{◌≡◌, ◌+◌, ◌≤◌, ◌^◌, pos, length, None, option_map};
+ghost use Rattle.std.specs.Option.{ForSome};
+ghost use Rattle.smoltcp_c.specs.Answers.{listen_answer, send_answer, recv_answer, flag_answer, state_answer};
+ghost use Rattle.smoltcp_c.specs.Numbers.{TellsEnd, listen_in, listen_told};
 ghost use Rattle.net_base.specs.Ring.{empty_ring};
+ghost use Rattle.sock_core.specs.Received.{receiving, room_of};
 ghost use Rattle.sock_tcp.specs.Closing.{closed, aborted};
-ghost use Rattle.sock_tcp.specs.Opening.{Listens};
-ghost use Rattle.sock_tcp.specs.Queues.{can_send, can_recv, Sends, Reads};
-ghost use Rattle.sock_tcp.specs.Queue.{queue_of};
-ghost use Rattle.sock_tcp.specs.View.{View, fresh};
-ghost use Rattle.c_structs.specs.Answers.{Calls, Refused, listen_answer, send_answer, recv_answer, flag_answer, state_answer, error_socket};
-ghost use Rattle.c_structs.specs.Numbers.{flag_in, listen_in};
-ghost use Rattle.c_structs.specs.Socket.{held, is_long};
+ghost use Rattle.sock_tcp.specs.Opening.{is_listening, is_open, is_active, Listens};
+ghost use Rattle.sock_tcp.specs.Queue.{queue_of, capacity};
+ghost use Rattle.sock_tcp.specs.Queues.{may_send, can_send, may_recv, can_recv, Sends, Reads, PeeksInto};
+ghost use Rattle.sock_tcp.specs.View.{fresh};
+ghost use Rattle.sock_tcp.specs.Work.{has_work};
+ghost use Rattle.smoltcp_c.specs.Tcp.{Answers, clock, view, with_view};
 
-use c_structs::answers::{
-    ERROR_SOCKET, OK, flag_answer, listen_answer, recv_answer, send_answer, state_answer,
-};
-use c_structs::endpoints::{Endpoint, listen_in};
-use c_structs::socket::{TcpSocket, closed_over, is_held, put, state_held, take};
-use c_structs::sound::LARGEST;
+use crate::answers::{OK, flag_answer, listen_answer, recv_answer, send_answer, state_answer};
+use crate::clock::Clock;
+use crate::endpoints::{Endpoint, endpoint_of, listen_in, listen_of};
+use crate::memory::Bytes;
+use crate::tcp_handle::{TcpHandle, TcpRoom};
+use ip_wire::IpEndpoint;
+use net_base::ring_buffer::RingBuffer;
+use sock_tcp::Socket;
+
+/// Makes a closed socket over the two buffers, of at most 2^30 bytes each, in the room. The socket has no source of
+/// timestamps. The three pieces of memory are the socket's for good. Answers 0.
+#[unsafe(no_mangle)]
+pub extern "C" fn smoltcp_tcp_init_checked(room: &mut TcpRoom, rx: Bytes, tx: Bytes) -> i64
+    requires empty { room.old.made ≡ None }
+    requires rx { rx.len ≤ 2 ^ 30 }
+    requires tx { tx.len ≤ 2 ^ 30 }
+    ensures answer { result ≡ pos 0 }
+    ensures at { room.new.at ≡ room.old.at }
+    ensures made { ForSome room.new.made (λ s. s.control_block
+        ≡ fresh (receiving (empty_ring rx.bytes)) (queue_of (empty_ring tx.bytes))) }
+    ensures clock { ForSome room.new.made (λ s. s.tsval_generator ≡ None) }
+{
+    let rx = RingBuffer::new(rx.lend());
+    let tx = RingBuffer::new(tx.lend());
+    room.fill(closed_over(rx, tx));
+    OK
+}
+
+// A closed socket.
+fn closed_over(rx: RingBuffer<'static, u8>, tx: RingBuffer<'static, u8>) -> Socket<'static, Clock>
+    requires rx { length rx.queue + length rx.spare ≤ 2 ^ 30 }
+    requires tx { length tx.queue + length tx.spare ≤ 2 ^ 30 }
+    ensures socket { result.control_block ≡ fresh (receiving rx.entry) (queue_of tx.entry) }
+    ensures clock { result.tsval_generator ≡ None }
+{
+    Socket::closed(rx, tx, None)
+}
 
 /// Waits for a peer on this endpoint. 0, or an error: `ERROR_ADDRESS` where the port is 0, `ERROR_STATE` where the
 /// socket is open but does not listen on this endpoint.
 #[unsafe(no_mangle)]
-pub extern "C" fn smoltcp_tcp_listen_checked(s: &mut TcpSocket<'_>, endpoint: &Endpoint) -> i64
-    ensures refused { held s.old ≡ None → Refused s.old result s.new }
-    ensures stamps { flag_in s.new.timestamps ≡ flag_in s.old.timestamps }
-    ensures table { (v : View) → held s.old ≡ Some v
-        → Calls listen_answer (λ r w. Listens v (listen_in endpoint.now) r w) result (held s.new) }
+pub extern "C" fn smoltcp_tcp_listen_checked(h: &mut TcpHandle, endpoint: &Endpoint) -> i64
+    ensures table { Answers listen_answer (λ r. Listens (view h.old) (listen_in endpoint.now) r (view h.new)) result }
+    ensures same { h.new ≡ with_view h.old (view h.new) }
 {
-    if !is_held(s) {
-        return ERROR_SOCKET;
-    }
-    let mut socket = take(s, 0);
-    let answer = socket.listen(listen_in(endpoint));
-    put(s, socket);
-    listen_answer(answer)
+    let endpoint = listen_in(endpoint);
+    listen_answer(h.socket().listen(endpoint))
 }
 
-/// Closes the transmit half: nothing more can be sent, and a FIN follows what was. 0, or `ERROR_SOCKET`.
+/// Closes the transmit half: nothing more can be sent, and a FIN follows what was. Answers 0.
 #[unsafe(no_mangle)]
-pub extern "C" fn smoltcp_tcp_close_checked(s: &mut TcpSocket<'_>) -> i64
-    ensures refused { held s.old ≡ None → Refused s.old result s.new }
-    ensures stamps { flag_in s.new.timestamps ≡ flag_in s.old.timestamps }
-    ensures answer { (v : View) → held s.old ≡ Some v → result ≡ pos 0 }
-    ensures closed { (v : View) → held s.old ≡ Some v → held s.new ≡ Some (closed v) }
+pub extern "C" fn smoltcp_tcp_close_checked(h: &mut TcpHandle) -> i64
+    ensures answer { result ≡ pos 0 }
+    ensures closed { h.new ≡ with_view h.old (closed (view h.old)) }
 {
-    if !is_held(s) {
-        return ERROR_SOCKET;
-    }
-    let mut socket = take(s, 0);
-    socket.close();
-    put(s, socket);
+    h.socket().close();
     OK
 }
 
-/// Ends the connection at once: the socket is CLOSED, and where it has a peer, the next dispatch sends an RST. 0, or
-/// `ERROR_SOCKET`.
+/// Ends the connection at once: the socket is CLOSED, and where it has a peer, the next dispatch sends an RST.
+/// Answers 0.
 #[unsafe(no_mangle)]
-pub extern "C" fn smoltcp_tcp_abort_checked(s: &mut TcpSocket<'_>) -> i64
-    ensures refused { held s.old ≡ None → Refused s.old result s.new }
-    ensures stamps { flag_in s.new.timestamps ≡ flag_in s.old.timestamps }
-    ensures answer { (v : View) → held s.old ≡ Some v → result ≡ pos 0 }
-    ensures aborted { (v : View) → held s.old ≡ Some v → held s.new ≡ Some (aborted v) }
+pub extern "C" fn smoltcp_tcp_abort_checked(h: &mut TcpHandle) -> i64
+    ensures answer { result ≡ pos 0 }
+    ensures aborted { h.new ≡ with_view h.old (aborted (view h.old)) }
 {
-    if !is_held(s) {
-        return ERROR_SOCKET;
-    }
-    let mut socket = take(s, 0);
-    socket.abort();
-    put(s, socket);
+    h.socket().abort();
     OK
-}
-
-/// Makes the struct a closed socket over its two buffers, whatever it held before. 0, or `ERROR_SOCKET` where a buffer
-/// has more than 2^30 bytes; then nothing changes.
-#[unsafe(no_mangle)]
-pub extern "C" fn smoltcp_tcp_init_checked(s: &mut TcpSocket<'_>) -> i64
-    ensures refused { is_long s.old ≡ true → Refused s.old result s.new }
-    ensures stamps { is_long s.old ≡ false → flag_in s.new.timestamps ≡ false }
-    ensures answer { is_long s.old ≡ false → result ≡ pos 0 }
-    ensures made { is_long s.old ≡ false → held s.new
-        ≡ Some (fresh (receiving (empty_ring s.old.rx.now)) (queue_of (empty_ring s.old.tx.now))) }
-{
-    if s.rx.len() > LARGEST || s.tx.len() > LARGEST {
-        return ERROR_SOCKET;
-    }
-    let rx = std::mem::take(&mut s.rx);
-    let tx = std::mem::take(&mut s.tx);
-    put(s, closed_over(rx, tx));
-    OK
-}
-
-/// Puts as many bytes of a beginning of `data` into the transmit queue as fit, and answers how many. `ERROR_STATE`
-/// where the state does not let bytes be sent; `ERROR_SOCKET`.
-#[unsafe(no_mangle)]
-pub extern "C" fn smoltcp_tcp_send_checked(s: &mut TcpSocket<'_>, data: &[u8]) -> i64
-    ensures refused { held s.old ≡ None → Refused s.old result s.new }
-    ensures stamps { flag_in s.new.timestamps ≡ flag_in s.old.timestamps }
-    ensures table { (v : View) → held s.old ≡ Some v
-        → Calls send_answer (λ r w. Sends v «data».now r w) result (held s.new) }
-{
-    if !is_held(s) {
-        return ERROR_SOCKET;
-    }
-    let mut socket = take(s, 0);
-    let answer = socket.send_slice(data);
-    put(s, socket);
-    send_answer(answer)
-}
-
-/// Moves as many bytes from the front of the receive queue into `data` as fit, and answers how many. `ERROR_FINISHED`
-/// where the peer has closed and all that it sent was read; `ERROR_STATE` where no bytes can come; `ERROR_SOCKET`.
-/// `data` is as it was then.
-#[unsafe(no_mangle)]
-pub extern "C" fn smoltcp_tcp_recv_checked(s: &mut TcpSocket<'_>, data: &mut [u8]) -> i64
-    ensures refused { held s.old ≡ None → Refused s.old result s.new }
-    ensures stamps { flag_in s.new.timestamps ≡ flag_in s.old.timestamps }
-    ensures unread { held s.old ≡ None → «data».new ≡ «data».old }
-    ensures table { (v : View) → held s.old ≡ Some v
-        → Calls recv_answer (λ r w. Reads v «data».old r w «data».new) result (held s.new) }
-{
-    if !is_held(s) {
-        return ERROR_SOCKET;
-    }
-    let mut socket = take(s, 0);
-    socket.recv_queue();
-    let answer = socket.recv_slice(data);
-    put(s, socket);
-    recv_answer(answer)
-}
-
-/// 1 where `send` would take at least one byte, else 0; `ERROR_SOCKET`.
-#[unsafe(no_mangle)]
-pub extern "C" fn smoltcp_tcp_can_send_checked(s: &mut TcpSocket<'_>) -> i64
-    ensures refused { held s.old ≡ None → Refused s.old result s.new }
-    ensures stamps { flag_in s.new.timestamps ≡ flag_in s.old.timestamps }
-    ensures answer { (v : View) → held s.old ≡ Some v → result ≡ flag_answer (can_send v) }
-    ensures same { (v : View) → held s.old ≡ Some v → held s.new ≡ Some v }
-{
-    if !is_held(s) {
-        return ERROR_SOCKET;
-    }
-    let socket = take(s, 0);
-    let answer = socket.can_send();
-    put(s, socket);
-    flag_answer(answer)
-}
-
-/// 1 where the receive queue has a byte, else 0; `ERROR_SOCKET`.
-#[unsafe(no_mangle)]
-pub extern "C" fn smoltcp_tcp_can_recv_checked(s: &mut TcpSocket<'_>) -> i64
-    ensures refused { held s.old ≡ None → Refused s.old result s.new }
-    ensures stamps { flag_in s.new.timestamps ≡ flag_in s.old.timestamps }
-    ensures answer { (v : View) → held s.old ≡ Some v → result ≡ flag_answer (can_recv v) }
-    ensures same { (v : View) → held s.old ≡ Some v → held s.new ≡ Some v }
-{
-    if !is_held(s) {
-        return ERROR_SOCKET;
-    }
-    let socket = take(s, 0);
-    let answer = socket.can_recv();
-    put(s, socket);
-    flag_answer(answer)
 }
 
 /// The state of the connection: 0 CLOSED, 1 LISTEN, 2 SYN-SENT, 3 SYN-RECEIVED, 4 ESTABLISHED, 5 FIN-WAIT-1,
-/// 6 FIN-WAIT-2, 7 CLOSE-WAIT, 8 CLOSING, 9 LAST-ACK, 10 TIME-WAIT; `ERROR_SOCKET`.
+/// 6 FIN-WAIT-2, 7 CLOSE-WAIT, 8 CLOSING, 9 LAST-ACK, 10 TIME-WAIT.
 #[unsafe(no_mangle)]
-pub extern "C" fn smoltcp_tcp_state_checked(s: &TcpSocket<'_>) -> i64
-    ensures refused { held s.now ≡ None → result ≡ error_socket }
-    ensures answer { (v : View) → held s.now ≡ Some v → result ≡ state_answer v.state }
+pub extern "C" fn smoltcp_tcp_state_checked(h: &mut TcpHandle) -> i64
+    ensures answer { result ≡ state_answer (view h.old).state }
+    ensures at { h.new.at ≡ h.old.at }
+    ensures same { h.new.socket ≡ h.old.socket }
 {
-    if !is_held(s) {
-        return ERROR_SOCKET;
+    state_answer(h.socket().state())
+}
+
+/// 1 where the socket waits for a peer, else 0.
+#[unsafe(no_mangle)]
+pub extern "C" fn smoltcp_tcp_is_listening_checked(h: &mut TcpHandle) -> i64
+    ensures answer { result ≡ flag_answer (is_listening (view h.old).state) }
+    ensures at { h.new.at ≡ h.old.at }
+    ensures same { h.new.socket ≡ h.old.socket }
+{
+    flag_answer(h.socket().is_listening())
+}
+
+/// 1 where the socket is in any state but CLOSED and TIME-WAIT, so that it cannot be opened, else 0.
+#[unsafe(no_mangle)]
+pub extern "C" fn smoltcp_tcp_is_open_checked(h: &mut TcpHandle) -> i64
+    ensures answer { result ≡ flag_answer (is_open (view h.old).state) }
+    ensures at { h.new.at ≡ h.old.at }
+    ensures same { h.new.socket ≡ h.old.socket }
+{
+    flag_answer(h.socket().is_open())
+}
+
+/// 1 where the socket is open and has a peer, else 0.
+#[unsafe(no_mangle)]
+pub extern "C" fn smoltcp_tcp_is_active_checked(h: &mut TcpHandle) -> i64
+    ensures answer { result ≡ flag_answer (is_active (view h.old).state) }
+    ensures at { h.new.at ≡ h.old.at }
+    ensures same { h.new.socket ≡ h.old.socket }
+{
+    flag_answer(h.socket().is_active())
+}
+
+/// 1 where the connection has something left to do, as bytes in the transmit queue, else 0. smoltcp has no such
+/// call.
+#[unsafe(no_mangle)]
+pub extern "C" fn smoltcp_tcp_has_work_checked(h: &mut TcpHandle) -> i64
+    ensures answer { result ≡ flag_answer (has_work (view h.old)) }
+    ensures at { h.new.at ≡ h.old.at }
+    ensures same { h.new.socket ≡ h.old.socket }
+{
+    flag_answer(h.socket().has_work())
+}
+
+/// 1 where the state lets bytes be sent, else 0.
+#[unsafe(no_mangle)]
+pub extern "C" fn smoltcp_tcp_may_send_checked(h: &mut TcpHandle) -> i64
+    ensures answer { result ≡ flag_answer (may_send (view h.old).state) }
+    ensures at { h.new.at ≡ h.old.at }
+    ensures same { h.new.socket ≡ h.old.socket }
+{
+    flag_answer(h.socket().may_send())
+}
+
+/// 1 where bytes may come or are there, else 0.
+#[unsafe(no_mangle)]
+pub extern "C" fn smoltcp_tcp_may_recv_checked(h: &mut TcpHandle) -> i64
+    ensures answer { result ≡ flag_answer (may_recv (view h.old)) }
+    ensures at { h.new.at ≡ h.old.at }
+    ensures same { h.new.socket ≡ h.old.socket }
+{
+    flag_answer(h.socket().may_recv())
+}
+
+/// 1 where `send` would take at least one byte, else 0.
+#[unsafe(no_mangle)]
+pub extern "C" fn smoltcp_tcp_can_send_checked(h: &mut TcpHandle) -> i64
+    ensures answer { result ≡ flag_answer (can_send (view h.old)) }
+    ensures at { h.new.at ≡ h.old.at }
+    ensures same { h.new.socket ≡ h.old.socket }
+{
+    flag_answer(h.socket().can_send())
+}
+
+/// 1 where the receive queue has a byte, else 0.
+#[unsafe(no_mangle)]
+pub extern "C" fn smoltcp_tcp_can_recv_checked(h: &mut TcpHandle) -> i64
+    ensures answer { result ≡ flag_answer (can_recv (view h.old)) }
+    ensures at { h.new.at ≡ h.old.at }
+    ensures same { h.new.socket ≡ h.old.socket }
+{
+    flag_answer(h.socket().can_recv())
+}
+
+/// How many bytes were given to the socket and are not acknowledged.
+#[unsafe(no_mangle)]
+pub extern "C" fn smoltcp_tcp_send_queue_checked(h: &mut TcpHandle) -> i64
+    ensures answer { result ≡ pos (length (view h.old).tx_buffer.bytes) }
+    ensures at { h.new.at ≡ h.old.at }
+    ensures same { h.new.socket ≡ h.old.socket }
+{
+    h.socket().send_queue() as i64
+}
+
+/// How many bytes came and were not read.
+#[unsafe(no_mangle)]
+pub extern "C" fn smoltcp_tcp_recv_queue_checked(h: &mut TcpHandle) -> i64
+    ensures answer { result ≡ pos (length (view h.old).rx_buffer.bytes) }
+    ensures at { h.new.at ≡ h.old.at }
+    ensures same { h.new.socket ≡ h.old.socket }
+{
+    h.socket().recv_queue() as i64
+}
+
+/// How many bytes the transmit buffer holds when it is full.
+#[unsafe(no_mangle)]
+pub extern "C" fn smoltcp_tcp_send_capacity_checked(h: &mut TcpHandle) -> i64
+    ensures answer { result ≡ pos (capacity (view h.old).tx_buffer) }
+    ensures at { h.new.at ≡ h.old.at }
+    ensures same { h.new.socket ≡ h.old.socket }
+{
+    let socket = h.socket();
+    socket.send_queue();
+    socket.send_capacity() as i64
+}
+
+/// How many bytes the receive buffer holds when it is full.
+#[unsafe(no_mangle)]
+pub extern "C" fn smoltcp_tcp_recv_capacity_checked(h: &mut TcpHandle) -> i64
+    ensures answer { result ≡ pos (room_of (view h.old).rx_buffer) }
+    ensures at { h.new.at ≡ h.old.at }
+    ensures same { h.new.socket ≡ h.old.socket }
+{
+    let socket = h.socket();
+    socket.recv_queue();
+    socket.recv_capacity() as i64
+}
+
+/// Writes the own endpoint into `out`, where there is a peer, and answers 1; else 0, with `out` as it was.
+#[unsafe(no_mangle)]
+pub extern "C" fn smoltcp_tcp_local_endpoint_checked(h: &mut TcpHandle, out: &mut Endpoint) -> i64
+    ensures told { TellsEnd (option_map (λ t. t.local) (view h.old).tuple) out.old result out.new }
+    ensures at { h.new.at ≡ h.old.at }
+    ensures same { h.new.socket ≡ h.old.socket }
+{
+    tell_end(h.socket().local_endpoint(), out)
+}
+
+/// Writes the peer's endpoint into `out`, where there is a peer, and answers 1; else 0, with `out` as it was.
+#[unsafe(no_mangle)]
+pub extern "C" fn smoltcp_tcp_remote_endpoint_checked(h: &mut TcpHandle, out: &mut Endpoint) -> i64
+    ensures told { TellsEnd (option_map (λ t. t.remote) (view h.old).tuple) out.old result out.new }
+    ensures at { h.new.at ≡ h.old.at }
+    ensures same { h.new.socket ≡ h.old.socket }
+{
+    tell_end(h.socket().remote_endpoint(), out)
+}
+
+// Writes the endpoint, if any, and answers whether there is one.
+fn tell_end(end: Option<IpEndpoint>, out: &mut Endpoint) -> i64
+    ensures { TellsEnd end out.old result out.new }
+{
+    match end {
+        None => 0,
+        Some(end) => {
+            *out = endpoint_of(end);
+            1
+        }
     }
-    state_answer(state_held(s))
+}
+
+/// Writes the endpoint on which the socket listens, or listened last, into `out`: its port is 0 where there is none,
+/// its version 0 where it has no address. Answers 0.
+#[unsafe(no_mangle)]
+pub extern "C" fn smoltcp_tcp_listen_endpoint_checked(h: &mut TcpHandle, out: &mut Endpoint) -> i64
+    ensures answer { result ≡ pos 0 }
+    ensures told { out.new ≡ listen_told (view h.old).listen_endpoint }
+    ensures at { h.new.at ≡ h.old.at }
+    ensures same { h.new.socket ≡ h.old.socket }
+{
+    *out = listen_of(h.socket().listen_endpoint());
+    OK
 }

@@ -5,7 +5,7 @@ ghost use Rattle.ip_wire.specs.declared.protocol.IpProtocol.TheVariants.{Udp};
 ghost use Rattle.segment_wire.specs.Packet.{UdpPacket, udp_packet_of};
 ghost use Rattle.sock_dgram.specs.Udp.{after_bind, bind_answer as answer_of, closed, metadata_of};
 ghost use Rattle.sock_dgram.specs.UdpDispatch.{outgoing_of};
-ghost use Rattle.c_structs.specs.Answers.{
+ghost use Rattle.smoltcp_c.specs.Answers.{
   bind_answer,
   error_context,
   error_empty,
@@ -13,9 +13,9 @@ ghost use Rattle.c_structs.specs.Answers.{
   flag_answer,
   not_accepted,
 };
-ghost use Rattle.c_structs.specs.Context.{facts_in, is_context};
-ghost use Rattle.c_structs.specs.Numbers.{listen_in};
-ghost use Rattle.c_structs.specs.Queue.{
+ghost use Rattle.smoltcp_c.specs.Context.{facts_in, is_context};
+ghost use Rattle.smoltcp_c.specs.Numbers.{listen_in};
+ghost use Rattle.smoltcp_c.specs.Queue.{
   IsQueue,
   Dispatches,
   Polls,
@@ -46,18 +46,17 @@ ghost use Rattle.smoltcp_c.specs.Udp.{
   sent_behind,
   udp_in,
 };
-ghost use Rattle.c_structs.specs.Wire.{packet_len};
+ghost use Rattle.smoltcp_c.specs.Wire.{packet_len};
 
-use c_structs::answers::{
+use crate::answers::{
     ERROR_ADDRESS, ERROR_CONTEXT, ERROR_EMPTY, ERROR_ROOM, ERROR_SOCKET, NOT_ACCEPTED, OK,
     bind_answer,
 };
-use c_structs::context::{Cx, Moment, moment_in};
-use c_structs::endpoints::{
+use crate::context::{Cx, Moment, moment_in};
+use crate::endpoints::{
     Address, Endpoint, NO_ENDPOINT, address_in, address_of, endpoint_in, endpoint_of, listen_in,
 };
-use c_structs::queue::{Queue, first_of};
-use c_structs::sound::LARGEST;
+use crate::queue::{LARGEST, Queue, first_of};
 use control_wire::UdpRepr;
 use ip_wire::{ChecksumCapabilities, Error, IpAddress, IpEndpoint, IpRepr};
 use segment_wire::packet::{emit_udp, parse_udp};

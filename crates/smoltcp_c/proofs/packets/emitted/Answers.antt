@@ -1,4 +1,4 @@
-use Rattle.c_structs.specs.Context.{facts_in}
+use Rattle.smoltcp_c.specs.Context.{facts_in}
 use Rattle.smoltcp_c.specs.Packets.{DispatchesInto}
 use Rattle.smoltcp_c.proofs.Emitting.{dispatched}
 use Rattle.smoltcp_c.proofs.packets.emitted.Goals as goal

@@ -1,6 +1,6 @@
 use Rattle.std.proofs.Common.{◌++◌, ◌∙◌}
-use Rattle.c_structs.specs.Queue.{queued, frame, written_next}
-use Rattle.c_structs.proofs.Framing.{next_written, WritesNext}
+use Rattle.smoltcp_c.specs.Queue.{queued, frame, written_next}
+use Rattle.smoltcp_c.proofs.Framing.{next_written, WritesNext}
 use Rattle.smoltcp_c.proofs.udp.append.Goals as goal
 
 pub returns-clause-behind : goal.returns-clause-behind

@@ -1,2 +1,0 @@
-pub mod Framing
-pub mod Held

@@ -1,0 +1,39 @@
+-- What a C context tells.
+use Rattle.std.specs.Prelude.{pos, negsuc, int_le, nat_le, ◌&&◌, Bool, false, Some}
+use Rattle.std.specs.Str.{bytes_eq}
+use Rattle.ip_wire.specs.Checksum.{all_checksums}
+use Rattle.ip_wire.specs.declared.address.IpAddress.{IpAddress}
+use Rattle.ip_wire.specs.declared.address.IpAddress.TheVariants as address
+use Rattle.ip_wire.specs.declared.checksum.Checksum.TheVariants as checksum
+use Rattle.sock_core.specs.Facts.{Facts}
+use Rattle.smoltcp_c.specs.declared.context.Cx.{Cx}
+
+-- the moment lies within 2^61 microseconds of zero, and the MTU from 576 to 65535 bytes
+abbrev pub is_context : Cx → Bool
+is_context cx =
+    int_le (negsuc 2305843009213693951) cx.now && (int_le cx.now (pos 2305843009213693952)
+    && (nat_le 576 cx.ip_mtu && nat_le cx.ip_mtu 65535))
+
+-- the interface has this address
+abbrev pub has_address : Cx → IpAddress → Bool
+has_address cx (address.Ipv4 a) = bytes_eq a.0 cx.v4
+has_address cx (address.Ipv6 a) = bytes_eq a.0 cx.v6
+
+-- its own address, of the version of this one
+abbrev pub own_address : Cx → IpAddress → IpAddress
+own_address cx (address.Ipv4 a) = address.Ipv4 (record { 0 = cx.v4 })
+own_address cx (address.Ipv6 a) = address.Ipv6 (record { 0 = cx.v6 })
+
+-- what a socket is told: no address is a broadcast one, and all checksums are computed and tested
+abbrev pub facts_in : Cx → Facts
+facts_in cx =
+    record {
+      now = cx.now;
+      mtu = cx.ip_mtu;
+      has_address = has_address cx;
+      source = λ a. Some (own_address cx a);
+      source_ipv4 = λ _. Some (record { 0 = cx.v4 });
+      source_ipv6 = λ _. record { 0 = cx.v6 };
+      broadcast = λ _. false;
+      checksums = all_checksums checksum.Both;
+    }

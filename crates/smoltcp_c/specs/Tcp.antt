@@ -1,0 +1,60 @@
+-- A TCP socket as C holds it.
+use Rattle.std.specs.Prelude.{ℕ, ℤ, pos, negsuc, ◌^◌, min, List, ◌≡◌, Bool, if◌then◌else◌, Option, Some, None}
+use Rattle.net_base.specs.declared.time.Duration.{Duration}
+use Rattle.sock_tcp.specs.declared.settings.CongestionControl.{CongestionControl}
+use Rattle.sock_tcp.specs.declared.settings.CongestionControl.TheVariants as congestion
+use Rattle.smoltcp_c.specs.declared.clock.Clock.{Clock}
+use Rattle.sock_tcp.specs.View.{View}
+use Rattle.smoltcp_c.specs.declared.tcp_handle.TcpHandle.{TcpHandle}
+
+abbrev pub view : TcpHandle → View
+view h = h.socket.control_block
+
+abbrev pub clock : TcpHandle → Option Clock
+clock h = h.socket.tsval_generator
+
+-- the same handle, at the same place, with another socket
+abbrev pub with_view : TcpHandle → View → TcpHandle
+with_view h v = record h { socket = record h.socket { control_block = v } }
+
+abbrev pub with_both : TcpHandle → View → Option Clock → TcpHandle
+with_both h v c = record h { socket = record h.socket { control_block = v; tsval_generator = c } }
+
+-- the call answered the number of what its table answers
+pub record Answers {R : Type 0} (number : R → ℤ) (table : R → Type 0) (result : ℤ) : Type 0 where
+  pub answer : R
+  pub met : table answer
+  pub numbered : result ≡ number answer
+
+-- a clock that stands at this number, where there is a clock
+abbrev pub clock_at : Option Clock → ℕ → Option Clock
+clock_at None n = None
+clock_at (Some c) n = Some (record { tsval = n })
+
+-- the number of an answer, and nothing changed
+abbrev pub Refuses : ℤ → TcpHandle → ℤ → TcpHandle → Type 0
+Refuses error h result h' = (result ≡ error) × (h' ≡ h)
+
+-- the call was done, and the socket is then v
+abbrev pub Sets : TcpHandle → View → ℤ → TcpHandle → Type 0
+Sets h v result h' = (result ≡ pos 0) × (h' ≡ with_view h v)
+
+abbrev pub clock_set : Bool → ℕ → Option Clock
+clock_set enabled n = if enabled then Some (record { tsval = n }) else None
+
+-- at most 2^61, which no setting is above
+abbrev pub micros_told : Option Duration → ℤ
+micros_told None = negsuc 0
+micros_told (Some d) = pos (min d.micros (2 ^ 61))
+
+abbrev pub byte_told : Option ℕ → ℤ
+byte_told None = pos 0
+byte_told (Some n) = pos n
+
+abbrev pub kind_told : CongestionControl → ℤ
+kind_told congestion.None = pos 0
+kind_told congestion.Reno = pos 1
+
+-- the call answered an error, and neither the socket nor the buffer changed
+abbrev pub RefusesFor : ℤ → TcpHandle → List ℕ → ℤ → TcpHandle → List ℕ → Type 0
+RefusesFor error h out result h' out' = (result ≡ error) × (h' ≡ h) × (out' ≡ out)

@@ -1,0 +1,105 @@
+//! The context of one call.
+ghost use Rattle.std.specs.Prelude.{◌≡◌, ◌<◌, ◌^◌, is_some};
+ghost use Rattle.std.specs.Option.{ForSome};
+ghost use Rattle.sock_core.specs.Bounds.{IsMoment, IsMtu};
+ghost use Rattle.smoltcp_c.specs.Context.{is_context, facts_in};
+
+use ip_wire::{ChecksumCapabilities, IpAddress, Ipv4Address, Ipv6Address};
+use net_base::time::Instant;
+use sock_core::Context;
+
+// In microseconds: moments lie within this of zero.
+const FAR: i64 = 1 << 61;
+
+const LEAST_MTU: u32 = 576;
+
+const LARGEST_MTU: u32 = 65535;
+
+/// What a call is told of the interface.
+#[repr(C)]
+#[derive(Clone, Copy)]
+pub struct Cx {
+    /// The moment, in microseconds, within 2^61 of zero.
+    pub now: i64,
+    /// A random word.
+    pub word: u32,
+    /// The value of the timestamps' clock (RFC 7323).
+    pub tsval: u32,
+    /// The largest IP packet, from 576 to 65535 bytes.
+    pub ip_mtu: u32,
+    /// The interface's IPv4 address.
+    pub v4: [u8; 4],
+    /// The interface's IPv6 address.
+    pub v6: [u8; 16],
+}
+
+/// The same, within its ranges.
+#[derive(Clone, Copy)]
+pub struct Moment {
+    pub cx: Cx,
+    pub ghost moment: { IsMoment cx.now },
+    pub ghost mtu: { IsMtu cx.ip_mtu },
+    pub ghost fits: { cx.word < 2 ^ 32 },
+}
+
+/// None where the moment or the MTU is out of range.
+pub fn moment_in(cx: &Cx) -> Option<Moment>
+    ensures range { is_some result ≡ is_context cx.entry.now }
+    ensures value { ForSome result (λ m. m.cx ≡ cx.entry.now) }
+{
+    let cx = *cx;
+    if cx.now < -FAR || FAR < cx.now || cx.ip_mtu < LEAST_MTU || LARGEST_MTU < cx.ip_mtu {
+        return None;
+    }
+    Some(Moment { cx })
+}
+
+impl Context for Moment {
+    ghost facts = { λ m. facts_in m.cx };
+
+    ghost word_at = { λ m _. m.cx.word };
+
+    fn now(&self) -> Instant {
+        Instant {
+            micros: self.cx.now,
+        }
+    }
+
+    fn has_ip_addr(&self, addr: IpAddress) -> bool {
+        match addr {
+            IpAddress::Ipv4(addr) => addr == Ipv4Address(self.cx.v4),
+            IpAddress::Ipv6(addr) => addr == Ipv6Address(self.cx.v6),
+        }
+    }
+
+    fn get_source_address(&self, dst: &IpAddress) -> Option<IpAddress> {
+        match dst {
+            IpAddress::Ipv4(_) => Some(IpAddress::Ipv4(Ipv4Address(self.cx.v4))),
+            IpAddress::Ipv6(_) => Some(IpAddress::Ipv6(Ipv6Address(self.cx.v6))),
+        }
+    }
+
+    fn get_source_address_ipv4(&self, _dst: &Ipv4Address) -> Option<Ipv4Address> {
+        Some(Ipv4Address(self.cx.v4))
+    }
+
+    fn get_source_address_ipv6(&self, _dst: &Ipv6Address) -> Ipv6Address {
+        Ipv6Address(self.cx.v6)
+    }
+
+    fn is_broadcast(&self, _addr: &IpAddress) -> bool {
+        false
+    }
+
+    fn ip_mtu(&self) -> usize {
+        self.cx.ip_mtu as usize
+    }
+
+    fn checksum_caps(&self) -> ChecksumCapabilities {
+        ChecksumCapabilities::default()
+    }
+
+    fn rand_u32(&mut self) -> u32 {
+        self.cx.word
+    }
+}

@@ -1,0 +1,60 @@
+//! Sockets and bytes lent from the memory that C gave: the functions with raw pointers, proved by hand.
+ghost use Rattle.std.specs.Prelude.{◌≡◌, ◌≤◌, ◌^◌, length, None, Some};
+ghost use Rattle.std.specs.Borrow.{follows};
+ghost use Rattle.std.specs.Ptr.{as_ptr};
+ghost use denote.Signature.{static_lft};
+ghost use types.Logic.{sem};
+ghost use Rattle.smoltcp_c.specs.contracts.clock.Clock.{the_row as clock_row};
+ghost use Rattle.sock_tcp.specs.contracts.socket.Socket.{the_row as socket_row};
+ghost use Rattle.smoltcp_c.specs.contracts.tcp_handle.TcpHandle.{the_row as handle_row};
+
+use crate::clock::Clock;
+use crate::memory::{Bytes, Place};
+use crate::tcp_handle::{TcpHandle, TcpRoom};
+use sock_tcp::Socket;
+
+impl TcpHandle {
+    /// The socket: what is done to it is done to the handle's.
+    pub fn socket(&mut self) -> &mut Socket<'static, Clock>
+        ensures* writes_back { sem 𝓛 (follows handle_row (socket_row static_lft clock_row) self.entry.ghost_name
+            result.ghost_name (λ w. record self.old { socket = w })) }
+        ensures value { result.now ≡ self.old.socket }
+    {
+        unsafe { &mut *(self.at as *mut Socket<'static, Clock>) }
+    }
+}
+
+impl TcpRoom {
+    /// Puts the socket there.
+    pub fn fill(&mut self, socket: Socket<'static, Clock>)
+        requires empty { self.old.made ≡ None }
+        ensures made { self.new ≡ record self.old { made = Some socket.entry } }
+    {
+        unsafe {
+            (self.at as *mut Socket<'static, Clock>).write(socket);
+        }
+    }
+}
+
+impl Bytes {
+    /// The bytes, for good.
+    pub fn lend(self) -> &'static mut [u8]
+        requires short { self.len ≤ 2 ^ 30 }
+        ensures bytes { result.now ≡ self.bytes }
+        ensures len { self.len ≡ length result.now }
+    {
+        let Bytes { at, len } = self;
+        unsafe { std::slice::from_raw_parts_mut(at, len) }
+    }
+}
+
+/// Where the bytes lie.
+pub fn place(bytes: &[u8]) -> Place
+    ensures at { result.at ≡ as_ptr bytes.entry }
+    ensures len { result.len ≡ length bytes.now }
+{
+    Place {
+        at: bytes.as_ptr(),
+        len: bytes.len(),
+    }
+}

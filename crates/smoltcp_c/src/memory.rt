@@ -1,0 +1,29 @@
+//! Memory that C gives a socket for good.
+ghost use Rattle.std.specs.Prelude.{ℕ, List};
+
+use std::marker::Model;
+
+/// Bytes that nothing else uses from now on.
+#[repr(C)]
+pub struct Bytes {
+    pub at: *mut u8,
+    pub len: usize,
+    pub ghost bytes: { List ℕ },
+}
+
+impl Model for Bytes {
+    ghost use Rattle.std.specs.Borrow.{full_share};
+    ghost use Rattle.std.specs.Ptr.{lies_at};
+    ghost use denote.Array.{Array};
+    ghost use denote.Builtin.{u8};
+
+    ghost also_owns = { λ m. lies_at (Array u8 m.len) full_share m.at m.bytes };
+}
+
+/// Where some bytes of a socket's buffer lie, and how many they are.
+#[repr(C)]
+#[derive(Clone, Copy)]
+pub struct Place {
+    pub at: *const u8,
+    pub len: usize,
+}

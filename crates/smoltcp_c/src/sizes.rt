@@ -1,0 +1,17 @@
+//! How much memory a socket takes.
+ghost use Rattle.std.specs.Prelude.{◌≡◌};
+ghost use Rattle.std.specs.Mem.{type_size};
+ghost use denote.Signature.{static_lft};
+ghost use Rattle.smoltcp_c.specs.contracts.clock.Clock.{the_row as clock_row};
+ghost use Rattle.sock_tcp.specs.contracts.socket.Socket.{the_row as socket_row};
+
+use crate::clock::Clock;
+use sock_tcp::Socket;
+
+/// The size of a TCP socket, in bytes.
+#[unsafe(no_mangle)]
+pub extern "C" fn smoltcp_tcp_size() -> usize
+    ensures { result ≡ type_size (socket_row static_lft clock_row) }
+{
+    std::mem::size_of::<Socket<'static, Clock>>()
+}

@@ -1,0 +1,112 @@
+//! Segments as IP packets in a buffer.
+ghost use Rattle.std.specs.Prelude.{◌≡◌, ◌≤◌, ◌↔◌, IsTrue, length};
+ghost use Rattle.ip_wire.specs.Checksum.{all_checksums};
+ghost use Rattle.ip_wire.specs.declared.checksum.Checksum.TheVariants.{Both};
+ghost use Rattle.control_wire.specs.Segment.{segment_of};
+ghost use Rattle.smoltcp_c.specs.Wire.{IsCounted, Writes, packet_len, with_packet};
+
+use crate::context::Moment;
+use control_wire::TcpRepr;
+use ip_wire::{ChecksumCapabilities, IpAddress, IpProtocol, IpRepr, Ipv4Address, Ipv6Address};
+use net_base::time::Instant;
+use segment_wire::packet::emit_tcp;
+use sock_core::Context;
+
+// The longest TCP header, in bytes (RFC 9293, section 3.1).
+const LONGEST_HEADER: usize = 60;
+
+/// The longest IP packet, in bytes.
+pub const LONGEST_PACKET: usize = 65535;
+
+// Whether the header counts the segment, and both fit a packet.
+fn is_counted(ip: &IpRepr, repr: &TcpRepr<'_>) -> bool
+    ensures { IsTrue result ↔ IsCounted ip.now (segment_of repr.now) }
+{
+    let len = repr.buffer_len();
+    repr.header_len() <= LONGEST_HEADER
+        && ip.payload_len() == len
+        && ip.header_len() + len <= LONGEST_PACKET
+        && ip.next_header() == IpProtocol::Tcp
+}
+
+/// Writes the segment as an IP packet at the beginning of `out`, and answers the packet's length.
+pub fn put_packet(ip: &IpRepr, repr: &TcpRepr<'_>, out: &mut [u8]) -> usize
+    requires counted { IsCounted ip.now (segment_of repr.now) }
+    requires room { packet_len ip.now ≤ length out.old }
+    ensures len { result ≡ packet_len ip.now }
+    ensures short { result ≤ 65535 }
+    ensures bytes { out.new ≡ with_packet ip.now (segment_of repr.now) out.old }
+{
+    let whole = ip.header_len() + repr.buffer_len();
+    let caps = ChecksumCapabilities::default();
+    emit_tcp(ip, repr, &mut out[..whole], &caps);
+    whole
+}
+
+/// The context of a call that writes one packet.
+#[derive(Drop)]
+pub struct Wire<'w> {
+    pub moment: Moment,
+    /// The length of the packet that was written, or 0.
+    pub len: usize,
+    pub out: &'w mut [u8],
+}
+
+/// There is no room for the packet.
+#[derive(Drop)]
+pub struct Full;
+
+impl<'w> Wire<'w> {
+    /// Writes the segment as an IP packet at the beginning of `out`, where it fits.
+    pub fn write(&mut self, ip: &IpRepr, repr: &TcpRepr<'_>) -> Result<(), Full>
+        ensures { Writes ip.now (segment_of repr.now) self.old result self.new }
+    {
+        if !is_counted(ip, repr) || self.out.len() < ip.header_len() + repr.buffer_len() {
+            return Err(Full);
+        }
+        self.len = put_packet(ip, repr, self.out);
+        Ok(())
+    }
+}
+
+impl<'w> Context for Wire<'w> {
+    ghost facts = { λ r. ⟦<Moment as Context>⟧.facts r.moment };
+
+    ghost word_at = { λ r. ⟦<Moment as Context>⟧.word_at r.moment };
+
+    fn now(&self) -> Instant {
+        self.moment.now()
+    }
+
+    fn has_ip_addr(&self, addr: IpAddress) -> bool {
+        self.moment.has_ip_addr(addr)
+    }
+
+    fn get_source_address(&self, dst: &IpAddress) -> Option<IpAddress> {
+        self.moment.get_source_address(dst)
+    }
+
+    fn get_source_address_ipv4(&self, dst: &Ipv4Address) -> Option<Ipv4Address> {
+        self.moment.get_source_address_ipv4(dst)
+    }
+
+    fn get_source_address_ipv6(&self, dst: &Ipv6Address) -> Ipv6Address {
+        self.moment.get_source_address_ipv6(dst)
+    }
+
+    fn is_broadcast(&self, addr: &IpAddress) -> bool {
+        self.moment.is_broadcast(addr)
+    }
+
+    fn ip_mtu(&self) -> usize {
+        self.moment.ip_mtu()
+    }
+
+    fn checksum_caps(&self) -> ChecksumCapabilities {
+        self.moment.checksum_caps()
+    }
+
+    fn rand_u32(&mut self) -> u32 {
+        self.moment.rand_u32()
+    }
+}
