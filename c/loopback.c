@@ -181,6 +181,25 @@ static void settings(void) {
     want("timestamps are", smoltcp_tcp_timestamp_enabled(&a), 1);
 }
 
+/* Bytes are written where they are sent from, and read where they came. */
+static void without_copies(void) {
+    const uint8_t *came;
+    uint8_t *at;
+    int64_t room = smoltcp_tcp_reserve(&a, &at);
+    want("places", room > 0 && room <= ROOM, 1);
+    want("too many", smoltcp_tcp_commit(&a, (size_t)room + 1), SMOLTCP_ERROR_RANGE);
+    memcpy(at, "in place", 8);
+    want("commit", smoltcp_tcp_commit(&a, 8), 8);
+    run();
+    want("lent", smoltcp_tcp_peek(&b, 100, &came), 8);
+    want("as written", memcmp(came, "in place", 8), 0);
+    want("more than lent", smoltcp_tcp_consume(&b, 9), SMOLTCP_ERROR_RANGE);
+    want("consume", smoltcp_tcp_consume(&b, 3), 3);
+    want("the rest", smoltcp_tcp_peek(&b, 2, &came) == 2 && memcmp(came, "pl", 2) == 0, 1);
+    want("consume", smoltcp_tcp_consume(&b, 5), 5);
+    want("empty", smoltcp_tcp_recv_queue(&b), 0);
+}
+
 /* A packet that is a fragment, and one that no socket takes. A fragment's header keeps a right checksum. */
 static void refused(void) {
     static struct smoltcp_tcp c, d;
@@ -272,6 +291,7 @@ int main(void) {
     n = smoltcp_tcp_recv(&a, bytes, sizeof bytes);
     printf("a reads: %.*s", n > 0 ? (int)n : 0, (const char *)bytes);
     want("bytes", n == sizeof line - 1 && memcmp(bytes, line, (size_t)n) == 0, 1);
+    without_copies();
     want("short", smoltcp_tcp_process(&a, &of_a, line, 1, reply, 1), SMOLTCP_ERROR_ROOM);
     want("no packet", smoltcp_tcp_process(&a, &of_a, line, 5, reply, sizeof reply), SMOLTCP_NOT_ACCEPTED);
     want("can send", smoltcp_tcp_can_send(&a), 1);
