@@ -54,6 +54,16 @@ static void run(void) {
     }
 }
 
+/* Makes an IPv4 packet a fragment: one that more follow, or one that stands behind 1480 bytes. The header's checksum
+ * stays right. */
+static void make_fragment(uint8_t *packet, int behind) {
+    uint32_t was = ((uint32_t)packet[6] << 8) + packet[7], is = behind ? 185 : 0x2000;
+    uint32_t sum = ((uint32_t)packet[10] << 8) + packet[11] + was + 0xffffu - is;
+    while (sum > 0xffff) sum = (sum & 0xffff) + (sum >> 16);
+    packet[6] = (uint8_t)(is >> 8); packet[7] = (uint8_t)is;
+    packet[10] = (uint8_t)(sum >> 8); packet[11] = (uint8_t)sum;
+}
+
 /* Sets the buffers of two queues. */
 static void lend(struct smoltcp_queue *rx, uint8_t *of_rx, struct smoltcp_queue *tx, uint8_t *of_tx) {
     rx->bytes = of_rx; rx->bytes_len = QUEUE;
@@ -77,7 +87,7 @@ static void datagrams(void) {
     struct smoltcp_udp client, server;
     struct smoltcp_udp_metadata meta, from;
     struct smoltcp_endpoint at_a = endpoint(1, 49152), at_b = endpoint(2, 53);
-    uint8_t packet[MTU], bytes[64];
+    uint8_t packet[MTU], cut[MTU], bytes[64];
     int64_t len;
 
     memset(&client, 0, sizeof client);
@@ -105,6 +115,11 @@ static void datagrams(void) {
     packet[30] ^= 1;
     want("damaged", smoltcp_udp_process(&server, &of_b, packet, (size_t)len), SMOLTCP_NOT_ACCEPTED);
     packet[30] ^= 1;
+    memcpy(cut, packet, (size_t)len);
+    make_fragment(cut, 0);
+    want("first fragment", smoltcp_udp_process(&server, &of_b, cut, (size_t)len), SMOLTCP_NOT_ACCEPTED);
+    make_fragment(cut, 1);
+    want("later fragment", smoltcp_udp_process(&server, &of_b, cut, (size_t)len), SMOLTCP_NOT_ACCEPTED);
     want("process", smoltcp_udp_process(&server, &of_b, packet, (size_t)len), SMOLTCP_OK);
     want("process", smoltcp_udp_process(&server, &of_b, packet, (size_t)len), SMOLTCP_OK);
     want("no room", smoltcp_udp_process(&server, &of_b, packet, (size_t)len), SMOLTCP_ERROR_ROOM);
@@ -133,7 +148,7 @@ static void echoes(void) {
     struct smoltcp_icmp pinger, answering;
     struct smoltcp_icmp_endpoint ident;
     struct smoltcp_address from, to_a = endpoint(1, 0).addr, to_b = endpoint(2, 0).addr;
-    uint8_t packet[MTU], bytes[64];
+    uint8_t packet[MTU], cut[MTU], bytes[64];
     int64_t len;
 
     memset(&pinger, 0, sizeof pinger);
@@ -154,6 +169,11 @@ static void echoes(void) {
     want("emit now", smoltcp_icmp_poll_at(&pinger, &of_a), of_a.now);
     len = smoltcp_icmp_dispatch(&pinger, packet, sizeof packet);
     want("packet", len, 20 + sizeof request);
+    memcpy(cut, packet, (size_t)len);
+    make_fragment(cut, 0);
+    want("first fragment", smoltcp_icmp_process(&answering, &of_b, cut, (size_t)len), SMOLTCP_NOT_ACCEPTED);
+    make_fragment(cut, 1);
+    want("later fragment", smoltcp_icmp_process(&answering, &of_b, cut, (size_t)len), SMOLTCP_NOT_ACCEPTED);
     want("process", smoltcp_icmp_process(&answering, &of_b, packet, (size_t)len), SMOLTCP_OK);
     want("request", smoltcp_icmp_recv(&answering, &from, bytes, sizeof bytes), sizeof request);
     want("source", memcmp(from.v4, to_a.v4, 4), 0);
@@ -181,11 +201,29 @@ static void settings(void) {
     want("timestamps are", smoltcp_tcp_timestamp_enabled(&a), 1);
 }
 
+/* Bytes are written where they are sent from, and read where they came. */
+static void without_copies(void) {
+    const uint8_t *came = NULL;
+    uint8_t *at = NULL;
+    int64_t room = smoltcp_tcp_reserve(&a, &at);
+    want("places", room > 0 && room <= ROOM, 1);
+    want("too many", smoltcp_tcp_commit(&a, (size_t)room + 1), SMOLTCP_ERROR_RANGE);
+    memcpy(at, "in place", 8);
+    want("commit", smoltcp_tcp_commit(&a, 8), 8);
+    run();
+    want("lent", smoltcp_tcp_peek(&b, 100, &came), 8);
+    want("as written", memcmp(came, "in place", 8), 0);
+    want("more than lent", smoltcp_tcp_consume(&b, 9), SMOLTCP_ERROR_RANGE);
+    want("consume", smoltcp_tcp_consume(&b, 3), 3);
+    want("the rest", smoltcp_tcp_peek(&b, 2, &came) == 2 && memcmp(came, "pl", 2) == 0, 1);
+    want("consume", smoltcp_tcp_consume(&b, 5), 5);
+    want("empty", smoltcp_tcp_recv_queue(&b), 0);
+}
+
 /* A packet that is a fragment, and one that no socket takes. A fragment's header keeps a right checksum. */
 static void refused(void) {
     static struct smoltcp_tcp c, d;
     static uint8_t c_rx[ROOM], c_tx[ROOM], d_rx[ROOM], d_tx[ROOM];
-    static const uint8_t more_follow[2] = {0x20, 0}, offset[2] = {0, 185};
     struct smoltcp_endpoint at_a = endpoint(1, 49153), at_b = endpoint(2, 8);
     uint8_t packet[MTU], cut[MTU], reply[MTU];
     int64_t len, n;
@@ -197,14 +235,8 @@ static void refused(void) {
     want("connect", smoltcp_tcp_connect(&c, &of_a, &at_b, &at_a), SMOLTCP_OK);
     len = smoltcp_tcp_dispatch(&c, &of_a, packet, sizeof packet);
     for (k = 0; k < 2; k++) {
-        const uint8_t *fragment = k ? offset : more_follow;
-        uint32_t sum;
         memcpy(cut, packet, (size_t)len);
-        sum = ((uint32_t)cut[10] << 8) + cut[11] + ((uint32_t)cut[6] << 8) + cut[7];
-        cut[6] = fragment[0]; cut[7] = fragment[1];
-        sum += 0xffffu - (((uint32_t)fragment[0] << 8) + fragment[1]);
-        while (sum > 0xffff) sum = (sum & 0xffff) + (sum >> 16);
-        cut[10] = (uint8_t)(sum >> 8); cut[11] = (uint8_t)sum;
+        make_fragment(cut, k);
         want("fragment", smoltcp_tcp_process(&d, &of_b, cut, (size_t)len, reply, sizeof reply), SMOLTCP_NOT_ACCEPTED);
         want("still listens", smoltcp_tcp_state(&d), SMOLTCP_LISTEN);
     }
@@ -272,6 +304,7 @@ int main(void) {
     n = smoltcp_tcp_recv(&a, bytes, sizeof bytes);
     printf("a reads: %.*s", n > 0 ? (int)n : 0, (const char *)bytes);
     want("bytes", n == sizeof line - 1 && memcmp(bytes, line, (size_t)n) == 0, 1);
+    without_copies();
     want("short", smoltcp_tcp_process(&a, &of_a, line, 1, reply, 1), SMOLTCP_ERROR_ROOM);
     want("no packet", smoltcp_tcp_process(&a, &of_a, line, 5, reply, sizeof reply), SMOLTCP_NOT_ACCEPTED);
     want("can send", smoltcp_tcp_can_send(&a), 1);

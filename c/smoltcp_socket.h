@@ -159,6 +159,10 @@ int64_t smoltcp_tcp_set_timestamps_checked(struct smoltcp_tcp_handle *h, uint8_t
 int64_t smoltcp_tcp_send_checked(struct smoltcp_tcp_handle *h, const uint8_t *data, size_t len);
 int64_t smoltcp_tcp_recv_checked(struct smoltcp_tcp_handle *h, uint8_t *data, size_t len);
 int64_t smoltcp_tcp_peek_slice_checked(struct smoltcp_tcp_handle *h, uint8_t *data, size_t len);
+int64_t smoltcp_tcp_peek_checked(struct smoltcp_tcp_handle *h, size_t size, struct smoltcp_place *out);
+int64_t smoltcp_tcp_consume_checked(struct smoltcp_tcp_handle *h, size_t count);
+int64_t smoltcp_tcp_reserve_checked(struct smoltcp_tcp_handle *h, struct smoltcp_place *out);
+int64_t smoltcp_tcp_commit_checked(struct smoltcp_tcp_handle *h, size_t count);
 int64_t smoltcp_tcp_process_checked(struct smoltcp_tcp_handle *h, const struct smoltcp_context *cx,
                                     const uint8_t *packet, size_t len, uint8_t *reply, size_t cap);
 int64_t smoltcp_tcp_dispatch_checked(struct smoltcp_tcp_handle *h, const struct smoltcp_context *cx, uint8_t *out,
@@ -252,6 +256,44 @@ static inline int64_t smoltcp_tcp_peek_slice(struct smoltcp_tcp *s, uint8_t *dat
     struct smoltcp_tcp_handle h = {(uint8_t *)s};
     if (!s || !data) return SMOLTCP_ERROR_NULL;
     return smoltcp_tcp_peek_slice_checked(&h, data, len);
+}
+
+/* Lends the receive queue as far as it lies in one piece, but at most size bytes of it: where they lie in at, and how
+ * many they are as the answer. They may be read until the next call on the socket. Refused as recv. */
+static inline int64_t smoltcp_tcp_peek(struct smoltcp_tcp *s, size_t size, const uint8_t **at) {
+    struct smoltcp_tcp_handle h = {(uint8_t *)s};
+    struct smoltcp_place place = {NULL, 0};
+    int64_t answer;
+    if (!s || !at) return SMOLTCP_ERROR_NULL;
+    answer = smoltcp_tcp_peek_checked(&h, size, &place);
+    if (answer >= 0) *at = place.at;
+    return answer;
+}
+
+/* Drops so many bytes from the front of the receive queue; SMOLTCP_ERROR_RANGE where peek lends fewer. */
+static inline int64_t smoltcp_tcp_consume(struct smoltcp_tcp *s, size_t count) {
+    struct smoltcp_tcp_handle h = {(uint8_t *)s};
+    if (!s) return SMOLTCP_ERROR_NULL;
+    return smoltcp_tcp_consume_checked(&h, count);
+}
+
+/* Lends the free places behind the transmit queue that lie in one piece: where they lie in at, and how many they are as
+ * the answer. They may be written until the next call on the socket, which should be commit. Refused as send. */
+static inline int64_t smoltcp_tcp_reserve(struct smoltcp_tcp *s, uint8_t **at) {
+    struct smoltcp_tcp_handle h = {(uint8_t *)s};
+    struct smoltcp_place place = {NULL, 0};
+    int64_t answer;
+    if (!s || !at) return SMOLTCP_ERROR_NULL;
+    answer = smoltcp_tcp_reserve_checked(&h, &place);
+    if (answer >= 0) *at = (uint8_t *)place.at;
+    return answer;
+}
+
+/* Sends the first count of these bytes as they stand there; SMOLTCP_ERROR_RANGE where reserve lends fewer. */
+static inline int64_t smoltcp_tcp_commit(struct smoltcp_tcp *s, size_t count) {
+    struct smoltcp_tcp_handle h = {(uint8_t *)s};
+    if (!s) return SMOLTCP_ERROR_NULL;
+    return smoltcp_tcp_commit_checked(&h, count);
 }
 
 /* The state, as above. */

@@ -1,6 +1,9 @@
 mod Counts
 mod Emitting
+mod Foreign
 mod Framing
+mod Free
+mod Pieces
 mod Reading
 mod Replies
 mod Told

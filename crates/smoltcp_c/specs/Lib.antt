@@ -4,7 +4,9 @@ pub mod Icmp
 pub mod Memory
 pub mod Numbers
 pub mod Packets
+pub mod Ports
 pub mod Queue
+pub mod Streams
 pub mod Tcp
 pub mod Udp
 pub mod Wire

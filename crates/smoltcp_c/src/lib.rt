@@ -12,6 +12,7 @@ pub mod lends;
 pub mod memory;
 pub mod message;
 pub mod packets;
+pub mod ports;
 pub mod queue;
 pub mod settings;
 pub mod sizes;

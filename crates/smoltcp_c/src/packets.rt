@@ -17,6 +17,7 @@ ghost use Rattle.smoltcp_c.specs.Tcp.{RefusesFor, clock, clock_at, view};
 use crate::answers::{ERROR_CONTEXT, ERROR_ROOM, NOT_ACCEPTED, OK, sent_answer};
 use crate::clock::Clock;
 use crate::context::{Cx, Moment, moment_in};
+use crate::ports::has_ports;
 use crate::tcp_handle::TcpHandle;
 use crate::wire::{Full, Wire, put_packet};
 use control_wire::{TcpControl, TcpRepr};
@@ -55,6 +56,9 @@ pub extern "C" fn smoltcp_tcp_process_checked(
     };
     if reply.len() < LONGEST_REPLY {
         return ERROR_ROOM;
+    }
+    if !has_ports(h, packet) {
+        return NOT_ACCEPTED;
     }
     let Ok((ip, repr)) = read(packet) else {
         return NOT_ACCEPTED;

@@ -1,5 +1,5 @@
 -- `place` tells where a slice lies: a walk of its MIR.
-use mathlib.Core.Path.{◌≡◌, refl}
+use mathlib.Core.Path.{refl}
 use Prim.Native.Nat.{ℕ, ◌^◌}
 use mathlib.Core.List.{List, [], ◌∷◌}
 use lib.ListN.{length}
@@ -15,7 +15,7 @@ use prog.Routine.{Routine}
 use prog.Wp.{Calls, Loops, WpFn, Tables}
 use types.Logic.{Logic}
 use sound.WpLaws.{WpFn-mono}
-use types.Kit.{‵, ◌⊛◌, ◌$◌, ◌∵◌, !, qed, move, keep, drop, split, join, fsplit, fjoin, fpack, feq_i, flt_i, suffices, frame, done}
+use types.Kit.{‵, ◌⊛◌, ◌$◌, ◌∵◌, !, qed, keep, join, fjoin, fpack, feq_i, flt_i, suffices, frame, done}
 use types.Part.{whole, sub, agg}
 use types.Run.{stop, fld, hop, from, addr, of_opd, and_then, no_more, returns, enter}
 use types.ByLocal.{alloc_all, pass_all, free_all, look_at, look_in_at, get, get_in, sets}
@@ -35,7 +35,6 @@ use denote.Triple.Spec.{Meets, triple_of}
 use denote.Triple.Table.{entered}
 use denote.Triple.Walked.{Stays, stay_dropped, walk_of, Goes-dropped, walked, ends_at, walk_Meets}
 use Rattle.std.proofs.mem.Facts.{says_two}
-use Rattle.smoltcp_c.specs.declared.memory.Place.{Place}
 use Rattle.smoltcp_c.specs.contracts.memory.Place as P-type
 use Rattle.smoltcp_c.specs.contracts.lends.place.Key.{name as #place}
 use Rattle.smoltcp_c.specs.contracts.lends.place as f

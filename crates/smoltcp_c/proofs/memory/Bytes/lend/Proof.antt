@@ -1,5 +1,5 @@
 -- `lend` makes a slice of the bytes, for good: a walk of its MIR.
-use mathlib.Core.Path.{◌≡◌, refl, sym, ap, subst, ◌∙◌}
+use mathlib.Core.Path.{◌≡◌, refl, sym, subst}
 use Prim.Native.Nat.{ℕ, ◌*◌, ◌<◌, ◌≤◌, ◌^◌}
 use native.Mathlib.Omega.{arith}
 use mathlib.Core.List.{List, [], ◌∷◌, ◌++◌}
@@ -7,10 +7,10 @@ use lib.ListN.{length}
 use seplogic.Ra.Ura.{Ura}
 use base.Fraction.{full_share}
 use base.Stored.{coded_list}
-use mir.Syntax.{Ty, static, w64}
+use mir.Syntax.{static, w64}
 use mir.Val.{Val, vint, vptr, vstruct, vnil, vcons, of_list}
-use base.Logic.{SProp, ent, sep, id⊢, never}
-use base.Fml.{Fml, ftrue, feq, fsep, fauth}
+use base.Logic.{SProp, ent, id⊢, never}
+use base.Fml.{ftrue, feq, fsep, fauth}
 use contract.Monad.{Fun}
 use contract.Running.{tables, tables_of}
 use prog.Memory.{Memory}
@@ -26,12 +26,12 @@ use types.Run.{stop, fld, of_opd, and_then, no_more, first, blocks, exec, return
 use types.ByLocal.{alloc_all, pass_all, free_all, look_at, get, get_in, sets, sets_last, env}
 use denote.RattleType.{RattleType, owns}
 use denote.Memory.{part_at, mem}
-use denote.RawPtr.{Ptr, block_ptr, null_ptr, ptr_val, in_a_block, lies_at}
+use denote.RawPtr.{Ptr, block_ptr, ptr_val, in_a_block, lies_at}
 use denote.RawPtr.Bytes.{bytes, bytes_apart}
 use denote.Array.{Array}
 use denote.Builtin.{u8}
 use denote.Exit.{yes}
-use denote.Index.{row, whole_in}
+use denote.Index.{whole_in}
 use denote.Slice.{MutSlice, slice_val}
 use denote.FollowSlice.{slice_of}
 use denote.Signature.{plain}
@@ -40,7 +40,7 @@ use denote.Triple.Entry.{on_entry}
 use denote.Triple.Clauses.{Clauses}
 use denote.Triple.Spec.{Meets, triple_of}
 use denote.Triple.Table.{entered}
-use denote.Triple.Walked.{says, needs, Stays, stay_dropped, walk_of, ends_at, walk_Meets}
+use denote.Triple.Walked.{needs, Stays, stay_dropped, walk_of, ends_at, walk_Meets}
 use Rattle.std.proofs.alloc.Calls.{Goes-blank}
 use Rattle.std.proofs.mem.Facts.{says_two}
 use Rattle.smoltcp_c.specs.declared.memory.Bytes.{Bytes}

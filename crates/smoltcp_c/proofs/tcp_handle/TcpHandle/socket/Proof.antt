@@ -1,29 +1,28 @@
 -- `lend` lends the socket at the pointer, and the handle follows it: a walk of its MIR.
-use mathlib.Core.Path.{◌≡◌, refl, sym, ap, subst, ◌∙◌}
+use mathlib.Core.Path.{◌≡◌, refl, sym, ap, subst}
 use Prim.Native.Nat.{ℕ}
 use mathlib.Core.List.{List, [], ◌∷◌, ◌++◌}
 use seplogic.Ra.Ura.{Ura}
 use base.Fraction.{full_share}
-use mir.Syntax.{Ty, Body, named, seq, assign, place, copy, rv_opd, return}
+use mir.Syntax.{named}
 use mir.Val.{Val, vptr, vstruct, vnil, vcons, of_list}
 use base.Logic.{SProp, ent, sep, emp, via, fst∗, id⊢, never}
-use base.Fml.{Lft, GName, Share, Fml, ftrue, feq, fsep, flft, fobs, fauth, fbor, fobor}
+use base.Fml.{Lft, GName, Share, Fml, ftrue, fsep, flft}
 use contract.Monad.{Fun}
 use contract.Running.{tables, tables_of}
 use prog.Memory.{Memory}
 use prog.Routine.{Routine}
 use prog.Wp.{Env, Calls, Loops, WpFn, Tables}
 use types.Logic.{Logic, sem}
-use types.SemTy.{Body as Borrowed}
 use sound.WpLaws.{WpFn-mono}
-use types.Kit.{Goal, Soaks, Step, step, Seq, Item, ‵, ◌⊛◌, some, at_ret, ◌$◌, ◌∵◌, !, qed, by, move, keep, use1, drop, split, join, pick, fsplit, fsplit3, fjoin, fpick, fpack, feq_l, feq_i, rewrite, suffices, frame, done, raw, later, await, group}
+use types.Kit.{Goal, Step, step, Seq, Item, ‵, ◌⊛◌, some, at_ret, ◌$◌, ◌∵◌, !, qed, by, move, keep, use1, drop, split, join, pick, fsplit, fsplit3, fjoin, fpick, fpack, feq_l, feq_i, rewrite, suffices, frame, done, raw, later, await, group}
 use types.Part.{whole, sub, look_in}
 use types.Run.{stop, fld, load, addr, of_opd, first, blocks, exec, returns, enter}
 use types.ByLocal.{alloc_all, pass_all, free_all, look_at, get, through, sets, sets_last, env}
 use denote.RattleType.{RattleType, owns, Valss}
 use denote.Memory.{part_at, mem, cell_at, part_of}
-use denote.RawPtr.{Ptr, RawPtr, block_ptr, null_ptr, ptr_val, in_a_block, lies_at}
-use denote.Ref.{MutBor, MutRef, mut_vals, mut_Tells}
+use denote.RawPtr.{Ptr, RawPtr, block_ptr, ptr_val, in_a_block, lies_at}
+use denote.Ref.{MutRef, mut_vals, mut_Tells}
 use denote.Follow.{follows, Part, lends_Part}
 use denote.Exit.{no}
 use denote.Signature.{plain, mut_ref_to, static_lft}

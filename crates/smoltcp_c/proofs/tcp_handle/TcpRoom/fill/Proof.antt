@@ -1,5 +1,5 @@
 -- `fill` writes the socket into the room: a walk of its MIR.
-use mathlib.Core.Path.{◌≡◌, refl, sym, ap, subst, ◌∙◌}
+use mathlib.Core.Path.{◌≡◌, refl, sym, ap, subst}
 use Prim.Native.Nat.{ℕ}
 use mathlib.Core.List.{List, [], ◌∷◌, ◌++◌}
 use seplogic.Ra.Ura.{Ura}
@@ -9,7 +9,7 @@ use mir.Syntax.{Ty, erased, named}
 use mir.Val.{Val, vptr, vstruct, vnil, vcons, vunit, of_list, has_ty, WT}
 use base.Logic.{SProp, ent, sep, via, snd∗, id⊢, never}
 use base.Fml.{Lft, GName, Share, ftrue, froom, flft, fobs, fbor}
-use contract.Monad.{Fun, fact, fact_use}
+use contract.Monad.{Fun, fact_use}
 use contract.Running.{tables, tables_of}
 use prog.Memory.{Memory}
 use prog.Routine.{Routine}
@@ -24,12 +24,12 @@ use borrow.Table.OneValue.{part_in_at, reroom, wt_as}
 use denote.RattleType.{RattleType, owns, Valss}
 use denote.Laws.{Typed, Are, Ises, owns_show, showss}
 use denote.Memory.{part_at, lone, mem, cell_at}
-use denote.Ref.{MutBor, MutRef, mut_vals}
+use denote.Ref.{MutBor, MutRef}
 use types.SemTy.{Body as Borrowed}
 use Rattle.std.specs.Prelude.{Option, None, Some}
 use Rattle.smoltcp_c.specs.Memory.{held_at}
 use denote.Param.Laws.{Laws}
-use denote.RawPtr.{Ptr, RawPtr, block_ptr, null_ptr, ptr_val, in_a_block, lies_at, room_at}
+use denote.RawPtr.{Ptr, RawPtr, block_ptr, ptr_val, in_a_block, lies_at, room_at}
 use denote.Exit.{no}
 use denote.Signature.{plain, static_lft}
 use denote.Steps.{nothing, opens, closes}

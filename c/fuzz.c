@@ -1,0 +1,229 @@
+/* Random calls on pairs of TCP sockets. Packets are lost, repeated, cut, changed and made up; buffers of every length
+ * lie before a page that may not be touched.
+ *
+ *     fuzz CALLS SEED
+ *
+ * It checks that each answer is one that the header names, that nothing is written behind what was answered, that a
+ * refused call leaves the socket's numbers as they were, and that the bytes read are those that were sent. */
+#define _DEFAULT_SOURCE
+#include <stdio.h>
+#include <stdlib.h>
+#include <string.h>
+#include <sys/mman.h>
+#include <unistd.h>
+
+#include "smoltcp_socket.h"
+
+enum { PAGE = 4096, LONGEST = 3 * PAGE, MTU = 1500, KEPT = 8, WRITTEN = 1 << 16 };
+
+/* One end: its socket, its buffers, its context, and packets that it emitted and are on their way. What it was given to
+ * send since it was opened, and how much of the other's was read, where the connection was never broken. */
+struct end {
+    struct smoltcp_tcp tcp;
+    struct smoltcp_context cx;
+    uint8_t packets[KEPT][MTU];
+    size_t lengths[KEPT];
+    uint8_t written[WRITTEN];
+    size_t sent, read;
+};
+
+static struct end ends[2];
+static uint8_t *pages[5]; /* memory before a page that may not be touched: two buffers an end, and one for calls */
+static uint64_t state;
+static long calls, bytes;
+
+static uint32_t draw(uint32_t below) {
+    state = state * 6364136223846793005u + 1442695040888963407u;
+    return (uint32_t)(state >> 33) % below;
+}
+
+static void fail(const char *what, int64_t answer) {
+    printf("call %ld: %s answered %lld\n", calls, what, (long long)answer);
+    exit(1);
+}
+
+static uint8_t *before_guard(int which, size_t len) { return pages[which] + LONGEST - len; }
+
+static int64_t named(const char *what, int64_t answer, int64_t most) {
+    if (answer > most || answer < SMOLTCP_ERROR_EMPTY) fail(what, answer);
+    return answer;
+}
+
+static struct smoltcp_endpoint at(int host, int port) {
+    struct smoltcp_endpoint e;
+    memset(&e, 0, sizeof e);
+    e.addr.version = 4;
+    e.addr.v4[0] = 10;
+    e.addr.v4[3] = (uint8_t)(host + 1);
+    e.port = (uint16_t)port;
+    return e;
+}
+
+/* Both ends anew, over buffers of any length. */
+static void begin(void) {
+    int i;
+    for (i = 0; i < 2; i++) {
+        struct end *e = &ends[i];
+        size_t rx = draw(4) ? 1 + draw(LONGEST) : draw(3), tx = draw(4) ? 1 + draw(LONGEST) : draw(3);
+        memset(e->packets, 0, sizeof e->packets); /* a packet of an earlier connection could pass as one of this */
+        memset(e->lengths, 0, sizeof e->lengths);
+        e->sent = e->read = 0;
+        memset(&e->cx, 0, sizeof e->cx);
+        e->cx.ip_mtu = 576 + draw(MTU - 575);
+        e->cx.v4[0] = 10;
+        e->cx.v4[3] = (uint8_t)(i + 1);
+        if (smoltcp_tcp_init(&e->tcp, before_guard(2 * i, rx), rx, before_guard(2 * i + 1, tx), tx)) fail("init", 0);
+        if (draw(2)) smoltcp_tcp_set_timestamps(&e->tcp, 1);
+        if (draw(2)) smoltcp_tcp_set_keep_alive(&e->tcp, 1000000);
+    }
+    {
+        struct smoltcp_endpoint a = at(0, 49152), b = at(1, 7);
+        smoltcp_tcp_listen(&ends[1].tcp, &b);
+        smoltcp_tcp_connect(&ends[0].tcp, &ends[0].cx, &b, &a);
+    }
+}
+
+/* The answer of a call that was given a buffer of cap bytes, which it may have written up to the answer. */
+static int64_t within(const char *what, int64_t answer, const uint8_t *buffer, size_t cap, uint8_t mark) {
+    size_t i = answer > 0 ? (size_t)answer : 0;
+    named(what, answer, (int64_t)cap);
+    for (; i < cap; i++)
+        if (buffer[i] != mark) fail(what, answer);
+    return answer;
+}
+
+static void dispatch(struct end *e) {
+    size_t cap = draw(8) ? MTU : draw(MTU);
+    uint8_t *out = before_guard(4, cap);
+    int64_t n;
+    int k = (int)draw(KEPT);
+    memset(out, 0xa5, cap);
+    n = within("dispatch", smoltcp_tcp_dispatch(&e->tcp, &e->cx, out, cap), out, cap, 0xa5);
+    if (n <= 0) return;
+    memcpy(e->packets[k], out, (size_t)n);
+    e->lengths[k] = (size_t)n;
+}
+
+/* A packet of the other end, whole or not, or one that is made up. */
+static void process(struct end *e, struct end *from) {
+    int k = (int)draw(KEPT);
+    size_t len = from->lengths[k], cap = draw(8) ? 100 + draw(100) : draw(100);
+    uint8_t *packet, reply[200];
+    int64_t n;
+    if (draw(16) == 0) len = draw(MTU);
+    packet = before_guard(4, len);
+    if (len) memcpy(packet, from->packets[k], len);
+    if (len && draw(16) == 0) packet[draw((uint32_t)len)] ^= (uint8_t)(1 << draw(8));
+    if (draw(64) == 0) { size_t i; for (i = 0; i < len; i++) packet[i] = (uint8_t)draw(256); }
+    memset(reply, 0x5a, sizeof reply);
+    n = within("process", smoltcp_tcp_process(&e->tcp, &e->cx, packet, len, reply, cap), reply, cap, 0x5a);
+    if (n > 0 && n <= MTU) {
+        k = (int)draw(KEPT);
+        memcpy(e->packets[k], reply, (size_t)n);
+        e->lengths[k] = (size_t)n;
+    }
+    within("reset", smoltcp_tcp_reset(packet, len, memset(reply, 0x5a, sizeof reply), cap), reply, cap, 0x5a);
+    if (draw(4) == 0) from->lengths[k] = 0;
+}
+
+static void take_sent(struct end *e, const uint8_t *data, int64_t n) {
+    if (n <= 0) return;
+    if (e->sent + (size_t)n > WRITTEN) fail("too much for this test", n);
+    memcpy(e->written + e->sent, data, (size_t)n);
+    e->sent += (size_t)n;
+}
+
+static void send_bytes(struct end *e) {
+    size_t len = draw(3000), i;
+    uint8_t *data = before_guard(4, len), *place = NULL;
+    int64_t free = smoltcp_tcp_send_capacity(&e->tcp) - smoltcp_tcp_send_queue(&e->tcp), n;
+    if (e->sent + LONGEST > WRITTEN) return;
+    for (i = 0; i < len; i++) data[i] = (uint8_t)draw(256);
+    if (draw(2)) {
+        take_sent(e, data, named("send", smoltcp_tcp_send(&e->tcp, data, len), free));
+        return;
+    }
+    n = named("reserve", smoltcp_tcp_reserve(&e->tcp, &place), free);
+    if (n < 0) return;
+    if (smoltcp_tcp_commit(&e->tcp, (size_t)n + 1) != SMOLTCP_ERROR_RANGE) fail("commit of too many", n);
+    if (len > (size_t)n) len = (size_t)n;
+    if (len) memcpy(place, data, len);
+    if (smoltcp_tcp_commit(&e->tcp, len) != (int64_t)len) fail("commit", (int64_t)len);
+    take_sent(e, data, (int64_t)len);
+}
+
+static void check_read(struct end *e, struct end *from, const uint8_t *data, int64_t n) {
+    if (n <= 0) return;
+    if (e->read + (size_t)n > from->sent || memcmp(from->written + e->read, data, (size_t)n) != 0) fail("recv", n);
+    e->read += (size_t)n;
+    bytes += n;
+}
+
+static void recv_bytes(struct end *e, struct end *from) {
+    size_t cap = draw(3000);
+    uint8_t *data = before_guard(4, cap);
+    const uint8_t *place = NULL;
+    int64_t n;
+    memset(data, 0x3c, cap);
+    if (draw(2)) {
+        n = within("peek_slice", smoltcp_tcp_peek_slice(&e->tcp, data, cap), data, cap, 0x3c);
+        if (n > 0 && memcmp(from->written + e->read, data, (size_t)n) != 0) fail("peek_slice", n);
+        memset(data, 0x3c, cap);
+        check_read(e, from, data, within("recv", smoltcp_tcp_recv(&e->tcp, data, cap), data, cap, 0x3c));
+        return;
+    }
+    n = named("peek", smoltcp_tcp_peek(&e->tcp, cap, &place), (int64_t)cap);
+    if (n < 0) return;
+    if (smoltcp_tcp_consume(&e->tcp, (size_t)1 << 40) != SMOLTCP_ERROR_RANGE) fail("consume of too many", n);
+    check_read(e, from, place, n);
+    if (smoltcp_tcp_consume(&e->tcp, (size_t)n) != n) fail("consume", n);
+}
+
+/* Numbers out of range and null pointers change nothing. */
+static void refused(struct end *e) {
+    struct smoltcp_tcp was = e->tcp;
+    struct smoltcp_context far = e->cx;
+    uint8_t byte = 0;
+    far.now = INT64_MAX;
+    if (smoltcp_tcp_set_timeout(&e->tcp, INT64_MAX) != SMOLTCP_ERROR_RANGE) fail("set_timeout", 0);
+    if (smoltcp_tcp_set_congestion_control(&e->tcp, 2 + draw(9)) != SMOLTCP_ERROR_RANGE) fail("congestion", 0);
+    if (smoltcp_tcp_dispatch(&e->tcp, &far, &byte, 1) != SMOLTCP_ERROR_CONTEXT) fail("dispatch", 0);
+    if (smoltcp_tcp_process(&e->tcp, &e->cx, &byte, 1, &byte, 1) != SMOLTCP_ERROR_ROOM) fail("process", 0);
+    if (smoltcp_tcp_send(&e->tcp, NULL, 1) != SMOLTCP_ERROR_NULL) fail("send", 0);
+    if (memcmp(&was, &e->tcp, sizeof was) != 0) fail("a refused call changed the socket", 0);
+}
+
+static void call(void) {
+    int i = (int)draw(2);
+    struct end *e = &ends[i], *other = &ends[1 - i];
+    int64_t limit = INT64_MAX;
+    switch (draw(16)) {
+    case 0: case 1: case 2: case 3: dispatch(e); break;
+    case 4: case 5: case 6: case 7: case 8: process(e, other); break;
+    case 9: case 10: send_bytes(e); break;
+    case 11: case 12: recv_bytes(e, other); break;
+    case 13: e->cx.now += draw(200000); e->cx.tsval = (uint32_t)(e->cx.now / 1000); e->cx.word = draw(1u << 31); break;
+    case 14: refused(e); break;
+    default:
+        if (smoltcp_tcp_poll_at(&e->tcp, &e->cx) > limit) fail("poll_at", 0);
+        if (named("state", smoltcp_tcp_state(&e->tcp), SMOLTCP_TIME_WAIT) < 0) fail("state", 0);
+        if (draw(64) == 0) smoltcp_tcp_close(&e->tcp);
+        if (draw(256) == 0) smoltcp_tcp_abort(&e->tcp);
+    }
+}
+
+int main(int argc, char **argv) {
+    long most = argc > 1 ? atol(argv[1]) : 100000;
+    int i;
+    state = argc > 2 ? (uint64_t)atoll(argv[2]) : 1;
+    for (i = 0; i < 5; i++) {
+        pages[i] = mmap(NULL, LONGEST + PAGE, PROT_READ | PROT_WRITE, MAP_PRIVATE | MAP_ANONYMOUS, -1, 0);
+        if (pages[i] == MAP_FAILED || mprotect(pages[i] + LONGEST, PAGE, PROT_NONE) != 0) return perror("mmap"), 2;
+    }
+    for (calls = 0; calls < most; calls++) {
+        if (calls % 2000 == 0) begin();
+        call();
+    }
+    printf("%ld calls, %ld bytes read as they were sent\n", calls, bytes);
+    return 0;
+}
