@@ -20,6 +20,9 @@ pub record View : Type 0 where
 abbrev pub fresh : Packets IpAddress → Packets IpAddress → View
 fresh rx tx = record { endpoint = endpoint.Unspecified; rx_buffer = rx; tx_buffer = tx; hop_limit = None }
 
+abbrev pub with_rx : View → Packets IpAddress → View
+with_rx v p = record v { rx_buffer = p }
+
 -- the messages that came and were not read, and those that were not emitted yet, the oldest first
 abbrev pub received : View → List (IpAddress × List ℕ)
 received v = packets v.rx_buffer.entries

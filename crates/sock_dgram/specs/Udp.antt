@@ -21,6 +21,9 @@ pub record View : Type 0 where
   pub tx_buffer : Packets UdpMetadata
   pub hop_limit : Option ℕ
 
+abbrev pub with_rx : View → Packets UdpMetadata → View
+with_rx v p = record v { rx_buffer = p }
+
 -- the datagrams that came and were not read, and those that were not emitted yet, the oldest first
 abbrev pub received : View → List (UdpMetadata × List ℕ)
 received v = packets v.rx_buffer.entries
