@@ -1,6 +1,6 @@
 -- Each call of an ICMP socket keeps the order of both queues.
 use Rattle.std.proofs.Common.{◌≡◌, ℕ, List, Bool, true, false, Result, Ok, Err, refl, ap, ◌∙◌}
-use Rattle.std.specs.Prelude.{is_ok, if◌then◌else◌}
+use Rattle.std.specs.Prelude.{is_ok, not, if◌then◌else◌}
 use Rattle.std.specs.Borrow.{MutBor}
 use Rattle.std.specs.Fn.{Once}
 use Rattle.ip_wire.specs.declared.repr.IpRepr.{IpRepr}
@@ -32,7 +32,7 @@ bound_received : (r : Result (Unit {0}) BindError) (v : View) (e : Endpoint) →
 bound_received (Ok u) v e = refl
 bound_received (Err x) v e = refl
 
-sent_received : (b : Bool) (v : View) (m : IpAddress) (bs : List ℕ) → received (if b then v else record v { tx_buffer = stored m bs v.tx_buffer }) ≡ received v
+sent_received : (b : Bool) (v : View) (m : IpAddress) (bs : List ℕ) → received (if b then record v { tx_buffer = stored m bs v.tx_buffer } else v) ≡ received v
 sent_received true v m bs = refl
 sent_received false v m bs = refl
 
@@ -45,7 +45,7 @@ module _ {C E F G : Type 0} (facts : C → Facts) (emit : Emit F C (IpRepr × Ic
       idle t (waiting v) (received v) (waiting w) (received w) h.1 (ap waiting h.0 ∙ bound_waiting r v e) (ap received h.0 ∙ bound_received r v e)
   step (SetHopLimit n) v t w h = idle t (waiting v) (received v) (waiting w) (received w) h.1 (ap waiting h.0) (ap received h.0)
   step (SendSlice bs m r) v t w h =
-      sending t (is_ok r) (m, bs) (waiting v) (received v) (waiting w) (received w) h.3 h.2 (ap received h.1 ∙ sent_received (is_unspecified m) v m bs)
+      sending t (is_ok r) (m, bs) (waiting v) (received v) (waiting w) (received w) h.3 h.2 (ap received h.1 ∙ sent_received (not (is_unspecified m)) v m bs)
   step (SendWith size m f r) v t w h = sent_with write r size m f t v.tx_buffer w.tx_buffer (received v) (received w) h.0 (ap received h.1)
   step (Recv r) v t w h = receiving t r v.rx_buffer w.rx_buffer (waiting v) (waiting w) h.2 h.0 h.1.queue.packets (ap waiting h.1.same)
   step (RecvSlice before after r) v t w h =

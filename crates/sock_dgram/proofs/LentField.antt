@@ -6,7 +6,7 @@ use mathlib.Core.Option.{Option, none, some as has}
 use seplogic.Ra.Ura.{Ura}
 use base.Fraction.{full_share}
 use base.Stored.{Coded}
-use mir.Syntax.{Lifetime, Ty}
+use mir.Syntax.{Lifetime, Ty, erased}
 use prog.Memory.{field_at}
 use mir.Val.{Val, vptr}
 use base.Logic.{SProp, ent, sep, ex}
@@ -23,7 +23,7 @@ use denote.Struct.Loose.{Looses}
 use denote.Struct.Struct.{to_tys}
 use denote.Struct.Values.{Values, intos}
 use denote.Model.{View}
-use denote.Ref.{MutRef}
+use denote.Ref.{MutRef, NamedLft}
 use denote.Follow.{follows, Part, lends_Part}
 use denote.Steps.{nothing}
 use borrow.Rule.LendAt.{KeptOf, Fills}
@@ -74,6 +74,10 @@ module _ (I : RattleType) (D : Type 0) (c : Coded D) (view : I.Denot → D) (hol
         use1 𝓛 (later (some (λ (δ : GName). raw (Part 𝓛 R P (into h) ℓ κ q b o b (o + d) γ (mean 𝓛 (Kept M 𝓤 𝓛 hid.0 b o)) (back hid.0 hid.1.0 hid.1.1) (shows h) δ))))
         (lends_Part 𝓛 R P (into h) ℓ κ q b o b (o + d) γ (mean 𝓛 (Kept M 𝓤 𝓛 hid.0 b o)) (back hid.0 hid.1.0 hid.1.1) (R.coded.code h) (R.coded.code h) (shows h)) $ await ! tt $ pick ! (λ δ.
         now ! $ show ! FieldLent δ $ done !))))
+
+-- a row whose lifetimes do not matter, as where a field's place is asked
+abbrev pub unnamed : NamedLft
+unnamed = record { mir = erased; lft = [] }
 
 -- the same of the k-th field of a declared struct
 module _ (T : Declared) (L : Looses T.parts) (k : ℕ) where

@@ -10,6 +10,7 @@ pub mod RawSetting
 pub mod RawTwice
 pub mod Reading
 pub mod Refusals
+pub mod SendWalk
 pub mod Storing
 pub mod UdpOrders
 pub mod UdpSources
