@@ -17,7 +17,8 @@ own_source v4 v6 (address.Ipv4 x) = address.Ipv4 v4
 own_source v4 v6 (address.Ipv6 x) = address.Ipv6 v6
 
 -- `is` says which addresses are equal
-abbrev pub host_facts : (IpAddress → IpAddress → Bool) → ℤ → ℕ → Ipv4Address → Ipv6Address → ChecksumCapabilities → Facts
+abbrev pub host_facts : (IpAddress → IpAddress → Bool) → ℤ → ℕ → Ipv4Address → Ipv6Address → ChecksumCapabilities
+    → Facts
 host_facts is now mtu v4 v6 checksums = record {
   now = now;
   mtu = mtu;

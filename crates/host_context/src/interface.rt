@@ -1,5 +1,5 @@
 //! The context of every call of a socket.
-ghost use Rattle.std.specs.Prelude.{◌≡◌, ◌*◌, ◌^◌, pos, min, max};
+ghost use Rattle.std.specs.Prelude.{◌≡◌, ◌*◌, ◌/◌, ◌^◌, pos, min, max};
 ghost use Rattle.ip_wire.specs.Checksum.{all_checksums};
 ghost use Rattle.ip_wire.specs.declared.checksum.Checksum.TheVariants.{Both};
 ghost use Rattle.sock_core.specs.Bounds.{IsMoment, IsMtu};
@@ -97,6 +97,13 @@ impl<W, O> Interface<W, O> {
             × (self.new.outbox ≡ self.old.outbox) }
     {
         self.micros = millis as usize * 1000;
+    }
+
+    /// The time in milliseconds; 2^32 - 1, some 49 days, where it is later.
+    pub fn millis(&self) -> u32
+        ensures { result ≡ min (self.now.micros / 1000) 4294967295 }
+    {
+        (self.micros / 1000).min(4_294_967_295) as u32
     }
 
     /// Sets the largest IP packet, in bytes: 576 to 65535, and the nearest of these for any other.

@@ -1,4 +1,5 @@
 //! The interface layer of a host with TCP sockets: what is due goes out, and what arrives is offered to a socket.
+ghost use Rattle.std.specs.Prelude.{◌≡◌, []};
 
 use crate::interface::Interface;
 use crate::outbox::Outbox;
@@ -7,11 +8,12 @@ use segment_wire::packet;
 use smoltcp_socket::Context;
 use smoltcp_socket::tcp::Socket;
 use smoltcp_socket::wire::{IpRepr, TcpRepr};
+use sock_tcp::TsvalSource;
 use std::alloc::AllocError;
 
 /// Emits at most one packet of the socket, into the outbox.
-pub fn dispatch_tcp<W: Words>(
-    socket: &mut Socket<'_>,
+pub fn dispatch_tcp<W: Words, G: TsvalSource>(
+    socket: &mut Socket<'_, G>,
     interface: &mut Interface<W, Outbox>,
 ) -> Result<(), AllocError> {
     socket.dispatch(
@@ -27,8 +29,8 @@ pub fn dispatch_tcp<W: Words>(
 /// Offers a packet to the socket, and says whether the socket took it. What the socket answers goes into the outbox.
 ///
 /// A packet that is malformed, or that carries no segment, is for no socket.
-pub fn receive_tcp<W: Words>(
-    socket: &mut Socket<'_>,
+pub fn receive_tcp<W: Words, G: TsvalSource>(
+    socket: &mut Socket<'_, G>,
     interface: &mut Interface<W, Outbox>,
     bytes: &[u8],
 ) -> Result<bool, AllocError> {
@@ -43,4 +45,12 @@ pub fn receive_tcp<W: Words>(
         interface.outbox.emit_tcp(&ip, &reply, &caps)?;
     }
     Ok(true)
+}
+
+/// The packets in the outbox, which is empty afterwards.
+pub fn take_packets<W>(interface: &mut Interface<W, Outbox>) -> Vec<Vec<u8>>
+    ensures packets { result.items ≡ interface.old.outbox.packets.items }
+    ensures empty { interface.new.outbox.packets.items ≡ [] }
+{
+    interface.outbox.take()
 }

@@ -18,7 +18,7 @@ use std::mem;
 #[derive(Drop)]
 pub struct Outbox {
     alloc: Global,
-    packets: Vec<Vec<u8>>,
+    pub(crate) packets: Vec<Vec<u8>>,
 }
 
 impl Outbox {
