@@ -4,11 +4,12 @@
 mod context;
 
 use crate::context::Interface;
+use host_guard::Guard;
+use host_guard::guard::TIMEOUT;
 use segment_wire::packet;
 use smoltcp_socket::Context;
 use smoltcp_socket::storage::RingBuffer;
 use smoltcp_socket::tcp::{Socket, State};
-use smoltcp_socket::time::Duration;
 use smoltcp_socket::wire::{IpAddress, IpEndpoint, IpListenEndpoint, IpRepr, Ipv4Address, TcpRepr};
 use std::alloc::AllocError;
 use std::process::ExitCode;
@@ -25,6 +26,7 @@ const LONGEST: u32 = 60_000;
 struct Host<'a> {
     interface: Interface,
     socket: Socket<'a>,
+    guard: Guard,
 }
 
 // 1. Two sockets, each over two buffers.
@@ -43,10 +45,11 @@ fn main(rt: HostRuntime) -> ExitCode {
 
 impl<'a> Host<'a> {
     fn new(rt: &HostRuntime, addr: Ipv4Address, mut socket: Socket<'a>) -> Host<'a> {
-        socket.set_timeout(Some(Duration::from_secs(10)));
+        socket.set_timeout(Some(TIMEOUT));
         Host {
             interface: Interface::new(rt.alloc(), addr),
             socket,
+            guard: Guard::new(),
         }
     }
 }
@@ -116,12 +119,17 @@ fn show(rt: &HostRuntime, who: &str, bytes: &[u8]) {
     }
 }
 
-// 4. The interface layer: what is due goes out, and what arrives is offered to the socket.
+// 4. The interface layer: what is due goes out, at most one packet, and what arrives is offered to the socket. The guard
+// sees to it that the peer can keep the connection no longer than it should.
 fn pass(from: &mut Host<'_>, to: &mut Host<'_>) -> Result<(), AllocError> {
-    from.socket.dispatch(
-        &mut from.interface,
-        |cx: &mut Interface, sent: (IpRepr, TcpRepr<'_>)| cx.emit(&sent.0, &sent.1),
-    )?;
+    let now = from.interface.now();
+    from.guard.watch(&mut from.socket, now);
+    if from.guard.take_turn(now) {
+        from.socket.dispatch(
+            &mut from.interface,
+            |cx: &mut Interface, sent: (IpRepr, TcpRepr<'_>)| cx.emit(&sent.0, &sent.1),
+        )?;
+    }
     for packet in from.interface.take_outbox() {
         receive(&mut to.socket, &mut to.interface, packet.as_slice())?;
     }

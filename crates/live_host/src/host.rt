@@ -7,20 +7,23 @@ use crate::service::{SERVICES, Service};
 use crate::slot::Slot;
 use ip_wire::{Error, IpVersion, Ipv4Packet, Ipv6Packet};
 use pcap::stream::LONGEST;
+use segment_wire::packet::is_fragment;
 use segment_wire::{tcp as segment, udp as datagram};
 use smoltcp_socket::tcp::State;
+use smoltcp_socket::time::Instant;
 use smoltcp_socket::wire::{
-    IcmpRepr, Icmpv4Repr, Icmpv6Repr, IpProtocol, IpRepr, Ipv4Repr, Ipv6Repr, TcpControl, TcpRepr,
-    UdpRepr,
+    IcmpRepr, Icmpv4Repr, Icmpv6Repr, IpAddress, IpProtocol, IpRepr, Ipv4Address, Ipv4Repr,
+    Ipv6Repr, TcpControl, TcpRepr, UdpRepr,
 };
 use smoltcp_socket::{Context, tcp, udp};
 use std::alloc::{AllocError, Global};
 
-// How many segments one socket may emit before the next one has its turn.
+// How many segments one socket may emit after a packet has come or time has passed: more than the 45 of full size that
+// its send buffer holds, so that only what would go on without end is cut.
 const TURN: usize = 64;
 
-// How often the sockets have their turn before the next packet is read.
-const ROUNDS: usize = 16;
+// The broadcast to every host on the wire (RFC 919).
+const ALL: IpAddress = IpAddress::Ipv4(Ipv4Address([255, 255, 255, 255]));
 
 /// What came of the packets that arrived.
 #[derive(Debug, Clone, Copy, Default)]
@@ -29,7 +32,7 @@ pub struct Counts {
     pub arrived: u64,
     /// Of these, with a wrong header, checksum or length.
     pub malformed: u64,
-    /// For another address or protocol, or a fragment.
+    /// For another address or protocol, from an address that no single other host has, or a fragment.
     pub unwanted: u64,
     /// Segments for no socket.
     pub refused: u64,
@@ -90,14 +93,16 @@ impl<'a> Host<'a> {
     // Keeps a socket open for each service: one that is closed, or else one in TIME-WAIT.
     fn listen(&mut self) {
         for service in SERVICES {
-            if !self
-                .slots
-                .iter()
-                .any(|slot: &Slot<'_>| slot.listens(service))
-            {
+            if !self.has_listener(service) {
                 self.open(service);
             }
         }
+    }
+
+    fn has_listener(&self, service: Service) -> bool {
+        self.slots
+            .iter()
+            .any(|slot: &Slot<'_>| slot.listens(service))
     }
 
     fn open(&mut self, service: Service) {
@@ -111,9 +116,10 @@ impl<'a> Host<'a> {
         }
     }
 
-    // The services run, and the sockets emit, until nothing is due or there is no room.
+    // The services run, and the sockets emit: each once, at most so many segments, as far as there is room.
     fn serve(&mut self) -> Result<(), AllocError> {
         for slot in &mut self.slots {
+            slot.watch(&self.interface);
             slot.serve(self.alloc)?;
         }
         echo_datagrams(&mut self.udp);
@@ -143,7 +149,7 @@ impl Host<'_> {
 
     fn take_v4(&mut self, packet: &Ipv4Packet<'_>) -> Result<(), Error> {
         let ip = Ipv4Repr::parse(packet, &self.interface.checksum_caps())?;
-        if is_fragment(packet.buffer) {
+        if is_fragment(packet) {
             self.leave();
             return Ok(());
         }
@@ -158,7 +164,7 @@ impl Host<'_> {
     fn take_payload(&mut self, ip: &IpRepr, payload: &[u8]) -> Result<(), Error> {
         let (src, dst) = (ip.src_addr(), ip.dst_addr());
         let caps = self.interface.checksum_caps();
-        if !self.interface.has_ip_addr(dst) || payload.len() > LONGEST {
+        if !self.interface.has_ip_addr(dst) || !self.may_answer(src) || payload.len() > LONGEST {
             self.leave();
             return Ok(());
         }
@@ -187,6 +193,15 @@ impl Host<'_> {
         Ok(())
     }
 
+    // Whether one host may have sent the packet: its source is neither a group, nor all, nor nobody, nor this host (RFC
+    // 1122, section 3.2.1.3). An answer to another source would go to many, or come back.
+    fn may_answer(&self, src: IpAddress) -> bool {
+        !src.is_unspecified()
+            && !src.is_multicast()
+            && src != ALL
+            && !self.interface.has_ip_addr(src)
+    }
+
     fn leave(&mut self) {
         self.counts.unwanted = self.counts.unwanted.wrapping_add(1);
     }
@@ -197,14 +212,59 @@ impl Host<'_> {
         if repr.payload.len() > LONGEST || self.give(ip, repr, false) || self.give(ip, repr, true) {
             return;
         }
-        self.counts.refused = self.counts.refused.wrapping_add(1);
-        if repr.control == TcpControl::Rst
-            || repr.control == TcpControl::Syn && Service::has_port(repr.dst_port)
-        {
-            return;
+        if repr.control == TcpControl::Syn && repr.ack_number.is_none() {
+            if let Some(service) = Service::of_port(repr.dst_port) {
+                self.take_syn(service, ip, repr);
+                return;
+            }
         }
-        let (ip, reset) = tcp::Socket::rst_reply(ip, repr);
-        let _ = self.interface.emit_tcp(ip, &reset);
+        self.refuse(ip, repr);
+    }
+
+    // A SYN that found no listener: the handshake that has been waiting longest gives way, where there is one.
+    fn take_syn(&mut self, service: Service, ip: &IpRepr, repr: &TcpRepr<'_>)
+        requires { length repr.now.payload.now ≤ 65535 }
+    {
+        if !self.has_listener(service) {
+            self.give_way(service);
+        }
+        if !self.give(ip, repr, true) {
+            self.counts.refused = self.counts.refused.wrapping_add(1);
+        }
+    }
+
+    fn give_way(&mut self, service: Service) {
+        let Some(oldest) = self.oldest_half_open() else {
+            return;
+        };
+        for slot in &mut self.slots {
+            if slot.half_open_since() == Some(oldest) {
+                slot.listen(self.alloc, service);
+                return;
+            }
+        }
+    }
+
+    fn oldest_half_open(&self) -> Option<Instant> {
+        let mut oldest: Option<Instant> = None;
+        for slot in &self.slots {
+            oldest = match (oldest, slot.half_open_since()) {
+                (Some(first), Some(since)) => Some(first.min(since)),
+                (None, since) => since,
+                (first, None) => first,
+            };
+        }
+        oldest
+    }
+
+    fn refuse(&mut self, ip: &IpRepr, repr: &TcpRepr<'_>)
+        requires { length repr.now.payload.now ≤ 65535 }
+    {
+        self.counts.refused = self.counts.refused.wrapping_add(1);
+        if repr.control != TcpControl::Rst {
+            let (ip, reset) = tcp::Socket::rst_reply(ip, repr);
+            let _ = self.interface.emit_tcp(ip, &reset);
+        }
     }
 
     // Gives a segment to the first socket that it is for, of those that listen or of the others, and says whether there
@@ -271,14 +331,6 @@ impl Host<'_> {
             hop_limit: 64,
         };
         let _ = self.interface.emit_icmpv6(ip, &reply);
-    }
-}
-
-// Whether the packet is one of several pieces, which nothing here puts together (RFC 791, section 3.1).
-fn is_fragment(packet: &[u8]) -> bool {
-    match packet {
-        [_, _, _, _, _, _, high, low, ..] => *high % 64 != 0 || *low != 0,
-        _ => true,
     }
 }
 

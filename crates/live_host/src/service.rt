@@ -35,8 +35,14 @@ impl Service {
         IpListenEndpoint { addr: None, port }
     }
 
-    /// Whether a service has this port.
-    pub fn has_port(port: u16) -> bool {
-        matches!(port, 7 | 9 | 19 | 80)
+    /// The service that has this port.
+    pub fn of_port(port: u16) -> Option<Service> {
+        match port {
+            7 => Some(Service::Echo),
+            9 => Some(Service::Discard),
+            19 => Some(Service::Chargen),
+            80 => Some(Service::Http),
+            _ => None,
+        }
     }
 }

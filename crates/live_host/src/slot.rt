@@ -6,17 +6,12 @@ use crate::interface::Interface;
 use crate::outbox::Full;
 use crate::page::Traffic;
 use crate::service::Service;
+use host_guard::guard::{Guard, KEEP_ALIVE};
 use smoltcp_socket::tcp::State;
-use smoltcp_socket::time::{Duration, Instant};
+use smoltcp_socket::time::Instant;
 use smoltcp_socket::wire::{IpRepr, TcpRepr};
 use smoltcp_socket::{Context, PollAt, tcp};
 use std::alloc::{AllocError, Global};
-
-// A peer that is silent for so long, while something waits, has gone.
-const TIMEOUT: Duration = Duration { micros: 60_000_000 };
-
-// A peer that has been silent for so long is asked whether it is there.
-const KEEP_ALIVE: Duration = Duration { micros: 15_000_000 };
 
 // How many bytes are copied at once.
 const PIECE: usize = 4096;
@@ -28,6 +23,9 @@ const PIECES: usize = 32;
 #[derive(Drop)]
 pub struct Slot<'a> {
     socket: tcp::Socket<'a>,
+    guard: Guard,
+    // when a SYN last opened it
+    opened: Instant,
     service: Service,
     http: Http,
     traffic: Traffic,
@@ -38,6 +36,8 @@ impl<'a> Slot<'a> {
     pub fn new(alloc: Global, socket: tcp::Socket<'a>) -> Slot<'a> {
         Slot {
             socket,
+            guard: Guard::new(),
+            opened: Instant::ZERO,
             service: Service::Echo,
             http: Http::new(alloc),
             traffic: Traffic {
@@ -57,6 +57,15 @@ impl<'a> Slot<'a> {
         self.socket.state()
     }
 
+    /// When a SYN opened the socket, where the rest of the handshake has not come yet.
+    pub fn half_open_since(&self) -> Option<Instant> {
+        if self.socket.state() == State::SynReceived {
+            Some(self.opened)
+        } else {
+            None
+        }
+    }
+
     /// Waits for a connection to the service; one that is still there is given up.
     pub fn listen(&mut self, alloc: Global, service: Service) {
         self.socket.abort();
@@ -66,7 +75,7 @@ impl<'a> Slot<'a> {
             received: 0,
             sent: 0,
         };
-        self.socket.set_timeout(Some(TIMEOUT));
+        self.guard = Guard::new();
         self.socket.set_keep_alive(Some(KEEP_ALIVE));
         let _ = self.socket.listen(service.endpoint());
     }
@@ -80,11 +89,20 @@ impl<'a> Slot<'a> {
     pub fn process(&mut self, interface: &mut Interface, ip: &IpRepr, repr: &TcpRepr<'_>)
         requires { length repr.now.payload.now ≤ 65535 }
     {
+        let listened = self.socket.state() == State::Listen;
         if self.socket.accepts(interface, ip, repr) {
             if let Some((ip, reply)) = self.socket.process(interface, ip, repr) {
                 let _ = interface.emit_tcp(ip, &reply);
             }
         }
+        if listened {
+            self.opened = interface.now();
+        }
+    }
+
+    /// Sees to it that the peer does not keep the connection for ever: `Guard::watch` at this moment.
+    pub fn watch(&mut self, interface: &Interface) {
+        self.guard.watch(&mut self.socket, interface.now());
     }
 
     /// Lets the service read and write.
@@ -109,10 +127,11 @@ impl<'a> Slot<'a> {
         Ok(())
     }
 
-    /// Emits what is due, at most so many segments; whether the outbox was full.
+    /// Emits what is due, at most so many segments, and in FIN-WAIT-2 no more than the guard allows; whether the outbox
+    /// was full.
     pub fn dispatch(&mut self, interface: &mut Interface, most: usize) -> Result<(), Full> {
         for _ in 0..most {
-            if !self.is_due(interface) {
+            if !self.is_due(interface) || !self.guard.take_turn(interface.now()) {
                 break;
             }
             self.socket.dispatch(

@@ -391,3 +391,57 @@ const WHOLE: &[Example] = &[
 fn of_whole_scripts(rt: HostRuntime) -> Result<(), Fail> {
     print(&rt, rt.alloc(), &NOTHING, WHOLE)
 }
+
+// A keep-alive does not wake the first, and the second never falls silent.
+const UNENDING: &[Example] = &[
+    (
+        "stall_last_ack",
+        "64 64 4 64 1000",
+        "listen b\nconnect a 1000\ndispatch a 0\ndeliver 0 0 5000\ndispatch b 0\n\
+        deliver 1 0 0\ndispatch a 0\ndeliver 2 0 0\nsend a abcd\ndispatch a 10\n\
+        deliver 3 20 0\nclose b\ndispatch b 30\ndeliver 4 40 0\ndispatch a 50\n\
+        deliver 5 60 0\nsend a e\ndispatch a 1050\ndeliver 6 1060 0\nrecv b 4\n\
+        dispatch b 1070\ndeliver 8 1080 0\nsend a fg\ndispatch a 1090\ndeliver 7 1100 0\n\
+        close a\ndispatch a 5000\ndispatch b 5000\ndispatch a 100000\ndispatch b 100000\n",
+        "opened\nopened\nemitted 0 SYN seq 1000 ack - win 64 len 0\ndelivered\n\
+        emitted 1 SYN|ACK seq 5000 ack 1001 win 4 len 0\ndelivered\n\
+        emitted 2 ACK seq 1001 ack 5001 win 64 len 0\ndelivered\naccepted 4\n\
+        emitted 3 PSH|ACK seq 1001 ack 5001 win 64 len 4\ndelivered\ndone\n\
+        emitted 4 FIN|ACK seq 5001 ack 1005 win 0 len 0\ndelivered\n\
+        emitted 5 ACK seq 1005 ack 5002 win 64 len 0\ndelivered\naccepted 1\n\
+        emitted 6 PSH|ACK seq 1005 ack 5002 win 64 len 1\n\
+        delivered reply 7 ACK seq 5002 ack 1005 win 0 len 0\nread 4 abcd\n\
+        emitted 8 ACK seq 5002 ack 1005 win 4 len 0\ndelivered\naccepted 2\n\
+        emitted 9 PSH|ACK seq 1005 ack 5002 win 64 len 3\ndelivered\ndone\nquiet\nquiet\n\
+        quiet\nquiet\na LAST-ACK accepted 7 handed-out 0 queued 0\n\
+        b FIN-WAIT-2 accepted 0 handed-out 4 queued 0\n",
+    ),
+    (
+        "endless_acks",
+        "64 64 4 64 1000",
+        "listen b\nconnect a 1000\ndispatch a 0\ndeliver 0 0 5000\ndispatch b 0\n\
+        deliver 1 0 0\ndispatch a 0\ndeliver 2 0 0\nsend a abcde\ndispatch a 0\n\
+        deliver 3 0 0\ndispatch b 10\ndeliver 4 10 0\nclose a\nrecv b 1\ndispatch b 10\n\
+        dispatch a 1010\ndeliver 6 1010 0\ndispatch b 1020\ndeliver 7 1020 0\n\
+        dispatch a 3009\ndispatch a 3010\ndispatch a 3010\ndispatch a 3010\ndispatch a 3010\n",
+        "opened\nopened\nemitted 0 SYN seq 1000 ack - win 64 len 0\ndelivered\n\
+        emitted 1 SYN|ACK seq 5000 ack 1001 win 4 len 0\ndelivered\n\
+        emitted 2 ACK seq 1001 ack 5001 win 64 len 0\ndelivered\naccepted 5\n\
+        emitted 3 ACK seq 1001 ack 5001 win 64 len 4\ndelivered\n\
+        emitted 4 ACK seq 5001 ack 1005 win 0 len 0\ndelivered\ndone\nread 1 a\n\
+        emitted 5 ACK seq 5001 ack 1005 win 1 len 0\n\
+        emitted 6 FIN|ACK seq 1005 ack 5001 win 64 len 1\ndelivered\n\
+        emitted 7 ACK seq 5001 ack 1007 win 0 len 0\ndelivered\nquiet\n\
+        emitted 8 ACK seq 1007 ack 5001 win 64 len 0\n\
+        emitted 9 ACK seq 1007 ack 5001 win 64 len 0\n\
+        emitted 10 ACK seq 1007 ack 5001 win 64 len 0\n\
+        emitted 11 ACK seq 1007 ack 5001 win 64 len 0\n\
+        a FIN-WAIT-2 accepted 5 handed-out 0 queued 0\n\
+        b CLOSE-WAIT accepted 0 handed-out 1 queued 4\n",
+    ),
+];
+
+#[test]
+fn of_what_never_ends(rt: HostRuntime) -> Result<(), Fail> {
+    print(&rt, rt.alloc(), &NOTHING, UNENDING)
+}

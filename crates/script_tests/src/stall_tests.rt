@@ -1,4 +1,4 @@
-//! How each connection of `examples/stall_*.script` falls asleep with work to do, and what wakes it.
+//! How each connection of `examples/stall_*.script` falls asleep with work to do, and what wakes or ends it.
 use crate::pair_tests::{Room, happens, plays, sets};
 use crate::replays::OPENING;
 use net_base::time::{Duration, Instant};
@@ -20,6 +20,12 @@ const PROBE: &str =
     send a abcdefgh\ndispatch a 60\nsend a ijk\ndeliver 3 70 0\ndeliver 6 71 0\ndeliver 6 72 0\n\
     deliver 6 73 0\ndispatch a 80\ndeliver 5 90 0\ndispatch b 100\ndeliver 8 110 0\nrecv b 3\n\
     dispatch b 120\ndeliver 9 130 0\nrecv b 5\ndispatch b 140\ndeliver 10 150 0\ndispatch a 5000\n";
+
+const LAST_ACK: &str =
+    "send a abcd\ndispatch a 10\ndeliver 3 20 0\nclose b\ndispatch b 30\ndeliver 4 40 0\n\
+    dispatch a 50\ndeliver 5 60 0\nsend a e\ndispatch a 1050\ndeliver 6 1060 0\nrecv b 4\n\
+    dispatch b 1070\ndeliver 8 1080 0\nsend a fg\ndispatch a 1090\ndeliver 7 1100 0\nclose a\n\
+    dispatch a 5000\ndispatch b 5000\n";
 
 const SYN: &str = "connect a 1000\nconnect b 5000\ndispatch a 0\ndispatch b 0\ndeliver 0 10 0\n\
     dispatch b 20\nfail a 2000\ndeliver 1 2010 0\ndeliver 2 2020 0\ndeliver 3 2030 0\ndispatch a 5000\n";
@@ -171,5 +177,48 @@ fn answered_syn_sleeps_until_a_keep_alive(rt: HostRuntime) -> Result<(), Fail> {
     let mut pair = room.plain_pair(rt.alloc());
     falls_asleep(&rt, &mut pair, rt.alloc(), ("", SYN), Side::A)?;
     syn_goes(&rt, &mut pair);
+    Ok(())
+}
+
+// The answer to a keep-alive tells a window of 4, but acknowledges nothing new: it is challenged, and nothing goes out.
+fn is_challenged(rt: &(impl Abort), pair: &mut Pair<'_>, secs: u16, index: usize) {
+    sends(rt, pair, Side::A, secs, Outcome::Emitted(index));
+    comes(rt, pair, index, secs, Some(index.saturating_add(1)));
+    comes(
+        rt,
+        pair,
+        index.saturating_add(1),
+        secs,
+        Some(index.saturating_add(2)),
+    );
+    comes(rt, pair, index.saturating_add(2), secs, None);
+    sends(rt, pair, Side::A, secs, Outcome::Quiet);
+    assert!(rt; pair.taken(Side::B) == 4);
+}
+
+fn waits_in_last_ack(rt: &(impl Abort), pair: &mut Pair<'_>) {
+    sets(rt, pair, Side::A, Setting::KeepAlive(second()));
+    is_challenged(rt, pair, 1000, 10);
+    is_challenged(rt, pair, 1001, 13);
+    assert!(rt; pair.socket(Side::A).state() == State::LastAck);
+}
+
+// The moment of the last segment that said something is 1.1 s, whatever was challenged since.
+fn ends_last_ack(rt: &(impl Abort), pair: &mut Pair<'_>) {
+    sets(rt, pair, Side::A, Setting::Timeout(second()));
+    assert!(rt;
+        pair.socket(Side::A).poll_at(&at(1001)) == PollAt::Time(Instant::from_millis(2100))
+    );
+    sends(rt, pair, Side::A, 1001, Outcome::Emitted(16));
+    assert!(rt; pair.socket(Side::A).state() == State::Closed);
+}
+
+#[test]
+fn last_ack_sleeps_through_keep_alives(rt: HostRuntime) -> Result<(), Fail> {
+    let mut room = Room::new();
+    let mut pair = room.narrow_pair(rt.alloc(), 4);
+    falls_asleep(&rt, &mut pair, rt.alloc(), (OPENING, LAST_ACK), Side::A)?;
+    waits_in_last_ack(&rt, &mut pair);
+    ends_last_ack(&rt, &mut pair);
     Ok(())
 }

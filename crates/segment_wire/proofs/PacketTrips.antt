@@ -1,6 +1,6 @@
 -- Packets are read as they were written.
 use Rattle.std.proofs.Common.{ℕ, ◌+◌, ◌≤◌, ◌&&◌, Bool, true, List, [], ◌++◌, ◌≡◌, length, refl, ap, subst, sym, ◌∙◌, arith}
-use Rattle.std.specs.Prelude.{Some, None, ◌==◌, nat_le, if◌then◌else◌}
+use Rattle.std.specs.Prelude.{Some, None, ◌==◌, nat_le, not, if◌then◌else◌}
 use Rattle.std.proofs.lemmas.Bool.Decides.{nat_tests}
 use Rattle.std.proofs.lemmas.List.{append-nil}
 use Rattle.ip_wire.specs.Address.{octets_of}
@@ -18,7 +18,7 @@ use Rattle.ip_wire.specs.declared.repr.Ipv4Repr.{Ipv4Repr}
 use Rattle.ip_wire.specs.declared.repr.Ipv6Repr.{Ipv6Repr}
 use Rattle.control_wire.specs.Segment.{Segment, segment_header_len}
 use Rattle.control_wire.specs.declared.udp.UdpRepr.{UdpRepr}
-use Rattle.segment_wire.specs.Packet.{Carried, carried, carried_if, carried_v4, carried_v6, is_whole_v4, is_whole_v6, tcp_of, tcp_packet, tcp_packet_parsed, udp_of, udp_packet, udp_packet_parsed, with_datagram, with_segment}
+use Rattle.segment_wire.specs.Packet.{Carried, carried, carried_if, carried_v4, carried_v6, fits_v4, is_fragment, is_whole_v4, is_whole_v6, tcp_of, tcp_packet, tcp_packet_parsed, udp_of, udp_packet, udp_packet_parsed, with_datagram, with_segment}
 use Rattle.segment_wire.specs.RoundTrip.{IsDatagram, IsHeader, IsWritable, TestsWhatIsSent}
 use Rattle.segment_wire.specs.Tcp.{tcp_checksum, tcp_octets, tcp_with}
 use Rattle.segment_wire.specs.Udp.{udp_checksum, udp_octets, udp_with}
@@ -40,8 +40,15 @@ all_three a b c p q r = rw (p, q, r) refl
 both : (a b : Bool) → a ≡ true → b ≡ true → (a && b) ≡ true
 both a b p q = rw (p, q) refl
 
-whole_v4 : (o : List ℕ) → IsIpv4 o → is_whole_v4 o ≡ true
-whole_v4 o is = all_three _ _ _ (le_true 20 (ipv4_header_len o) is.header) (le_true (ipv4_header_len o) (ipv4_total_len o) is.total) (le_true (ipv4_total_len o) (length o) is.room)
+fits : (o : List ℕ) → IsIpv4 o → fits_v4 o ≡ true
+fits o is = all_three _ _ _ (le_true 20 (ipv4_header_len o) is.header) (le_true (ipv4_header_len o) (ipv4_total_len o) is.total) (le_true (ipv4_total_len o) (length o) is.room)
+
+-- what is written has DF alone
+never_a_fragment : (sent : Bool) (h : Ipv4Repr) (payload : List ℕ) → not (is_fragment (ipv4_octets sent h ++ payload)) ≡ true
+never_a_fragment sent h payload = refl
+
+whole_v4 : (sent : Bool) (h : Ipv4Repr) (payload : List ℕ) → IsIpv4 (ipv4_octets sent h ++ payload) → is_whole_v4 (ipv4_octets sent h ++ payload) ≡ true
+whole_v4 sent h payload is = both _ _ (fits (ipv4_octets sent h ++ payload) is) (never_a_fragment sent h payload)
 
 whole_v6 : (o : List ℕ) → IsIpv6 o → is_whole_v6 o ≡ true
 whole_v6 o is = both _ _ (le_true 40 (length o) is.header) (le_true (40 + be16_at o 4) (length o) is.room)
@@ -60,7 +67,7 @@ unfolding carried
 carried_back v4 v6 sent tested (header.Ipv4 h) payload is l t =
     let o = ipv4_octets sent h ++ payload in
     let r : ReadsIpv4 tested o h payload = read_v4 v4 sent tested h payload is l t in
-    ap (λ b. if b then carried_v4 o (ipv4_parsed tested o) else None) (whole_v4 o r.whole)
+    ap (λ b. if b then carried_v4 o (ipv4_parsed tested o) else None) (whole_v4 sent h payload r.whole)
     ∙ ap (carried_v4 o) r.header ∙ ap (λ p. Some (carrying (header.Ipv4 h) p)) r.payload
 carried_back v4 v6 sent tested (header.Ipv6 h) payload is l t =
     let o = ipv6_octets h ++ payload in

@@ -1,5 +1,6 @@
 -- IP packets that carry a TCP segment or a UDP datagram.
-use Rattle.std.specs.Prelude.{ℕ, ◌+◌, ◌==◌, ◌&&◌, nat_le, Bool, if◌then◌else◌, List, ◌++◌, length, Option, Some, None}
+use Rattle.std.specs.Prelude.{ℕ, ◌+◌, ◌*◌, ◌/◌, ◌%◌, ◌==◌, ◌&&◌, ◌||◌, not, nat_le, Bool, if◌then◌else◌}
+use Rattle.std.specs.Prelude.{List, ◌++◌, length, slice_index, Option, Some, None}
 use Rattle.std.specs.Borrow.{Bor}
 use Rattle.ip_wire.specs.Checksum.{is_received, is_sent}
 use Rattle.ip_wire.specs.IpHeader.{dst_addr_of, next_header_of, src_addr_of}
@@ -36,11 +37,27 @@ pub record Carried : Type 0 where
 abbrev pub carried_of : IpRepr × Bor (List ℕ) → Carried
 carried_of found = record { ip = found.0; octets = found.1.now }
 
+-- MF, the lowest of the three flags: more fragments follow (RFC 791, section 3.1)
+abbrev pub more_follow : List ℕ → Bool
+more_follow octets = slice_index octets 6 / 32 % 2 == 1
+
+-- where the fragment's payload stands in that of the whole packet, in units of eight octets: 13 bits behind the flags
+abbrev pub fragment_offset : List ℕ → ℕ
+fragment_offset octets = 256 * (slice_index octets 6 % 32) + slice_index octets 7
+
+-- a packet whose payload is a piece of another's: the first has MF alone, the last an offset alone, the others both
+abbrev pub is_fragment : List ℕ → Bool
+is_fragment octets = more_follow octets || not (fragment_offset octets == 0)
+
 -- the lengths that a packet states of itself fit: `IsIpv4`, `IsIpv6`
-abbrev pub is_whole_v4 : List ℕ → Bool
-is_whole_v4 octets =
+abbrev pub fits_v4 : List ℕ → Bool
+fits_v4 octets =
     nat_le 20 (ipv4_header_len octets) && (nat_le (ipv4_header_len octets) (ipv4_total_len octets)
     && nat_le (ipv4_total_len octets) (length octets))
+
+-- and it is no fragment; of IPv6 a fragment has another protocol, that of the fragment header
+abbrev pub is_whole_v4 : List ℕ → Bool
+is_whole_v4 octets = fits_v4 octets && not (is_fragment octets)
 
 abbrev pub is_whole_v6 : List ℕ → Bool
 is_whole_v6 octets = nat_le 40 (length octets) && nat_le (40 + be16_at octets 4) (length octets)
@@ -60,7 +77,7 @@ carried_as (Some version.Ipv4) tested octets =
 carried_as (Some version.Ipv6) tested octets =
     if is_whole_v6 octets then carried_v6 octets (ipv6_parsed octets) else None
 
--- the header of a packet of either version, and what stands behind it
+-- the header of a whole packet of either version, and what stands behind it
 unfoldable pub carried : Bool → List ℕ → Option Carried
 carried tested octets = carried_as (version_of_packet octets) tested octets
 

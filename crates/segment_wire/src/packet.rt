@@ -1,5 +1,5 @@
 //! IP packets of both versions that carry a TCP segment or a UDP datagram.
-ghost use Rattle.std.specs.Prelude.{◌≡◌, ◌+◌, ◌≤◌, ◌++◌, IsTrue, drop, take, length, None, option_map, if◌then◌else◌};
+ghost use Rattle.std.specs.Prelude.{◌≡◌, ◌+◌, ◌≤◌, ◌++◌, drop, take, length, None, option_map, if◌then◌else◌};
 ghost use Rattle.ip_wire.specs.Checksum.{is_received, is_sent};
 ghost use Rattle.ip_wire.specs.IpHeader.{dst_addr_of, header_len_of, next_header_of, payload_len_of, src_addr_of};
 ghost use Rattle.ip_wire.specs.Packet.{header_octets, ipv4_parsed, ipv6_parsed};
@@ -11,6 +11,7 @@ ghost use Rattle.segment_wire.specs.Packet.{
   carried_of,
   carried_v4,
   carried_v6,
+  is_fragment,
   is_whole_v4,
   is_whole_v6,
   tcp_packet,
@@ -75,8 +76,9 @@ pub fn emit_udp(
 
 /// The header of a packet and the segment that it carries.
 ///
-/// An error where its lengths do not fit, a tested checksum of its IPv4 header fails, its protocol is not TCP, or
-/// [`tcp::parse`] refuses the segment. Options of IPv4 are skipped; an extension header of IPv6 is another protocol.
+/// An error where its lengths do not fit, a tested checksum of its IPv4 header fails, it is a fragment, its protocol is
+/// not TCP, or [`tcp::parse`] refuses the segment. Options of IPv4 are skipped; an extension header of IPv6, also that
+/// of a fragment, is another protocol. No address is looked at.
 pub fn parse_tcp<'a>(
     packet: &'a [u8],
     caps: &ChecksumCapabilities,
@@ -92,8 +94,8 @@ pub fn parse_tcp<'a>(
 
 /// The header of a packet, and the header and the payload of the datagram that it carries.
 ///
-/// An error where its lengths do not fit, a tested checksum of its IPv4 header fails, its protocol is not UDP, or
-/// [`udp::parse`] refuses the datagram.
+/// An error where its lengths do not fit, a tested checksum of its IPv4 header fails, it is a fragment, its protocol is
+/// not UDP, or [`udp::parse`] refuses the datagram. Options, extension headers and addresses as in [`parse_tcp`].
 pub fn parse_udp<'a>(
     packet: &'a [u8],
     caps: &ChecksumCapabilities,
@@ -124,7 +126,8 @@ fn carried_if<'a>(
 
 /// The header of a packet of either version, and what stands behind it.
 ///
-/// None where its lengths do not fit or a tested checksum of its IPv4 header fails.
+/// None where its lengths do not fit, a tested checksum of its IPv4 header fails, or it is a fragment of IPv4. Bytes
+/// behind the packet's end are left away.
 #[tactic(auto, unfolding(crate::specs::Packet::carried))]
 pub fn carried<'a>(packet: &'a [u8], caps: &ChecksumCapabilities) -> Option<(IpRepr, &'a [u8])>
     ensures { option_map carried_of result ≡ carried (is_received caps.now.ipv4) packet.now }
@@ -140,8 +143,22 @@ fn carried_v4<'a>(packet: &'a [u8], caps: &ChecksumCapabilities) -> Option<(IpRe
         then carried_v4 packet.now (ipv4_parsed (is_received caps.now.ipv4) packet.now) else None) }
 {
     let packet = Ipv4Packet::new_checked(packet).ok()?;
+    if is_fragment(&packet) {
+        return None;
+    }
     let repr = Ipv4Repr::parse(&packet, caps).ok()?;
     Some((IpRepr::Ipv4(repr), packet.payload()))
+}
+
+/// Whether a packet is a fragment, that is, whether its payload is one of several pieces of another packet's: more
+/// fragments follow (MF is set), or its offset is not 0 (RFC 791, section 3.1). The other two flags do not matter.
+pub fn is_fragment(packet: &Ipv4Packet<'_>) -> bool
+    ensures { result ≡ is_fragment packet.now.buffer.now }
+{
+    let (flags, low) = (packet.buffer[6], packet.buffer[7]);
+    let more_follow = flags / 32 % 2 == 1;
+    let offset = 256 * (flags % 32) as u16 + low as u16;
+    more_follow || offset != 0
 }
 
 fn carried_v6(packet: &[u8]) -> Option<(IpRepr, &[u8])>

@@ -204,3 +204,53 @@ fn packet_of_a_datagram(rt: HostRuntime) {
     assert!(rt; has_datagram(&packet));
     assert!(rt; segment_in(&packet) == None);
 }
+
+// Whether the SYN is read behind an IPv4 header with these octets in the place of the flags and the offset.
+fn is_read_as_piece(flags: u8, low: u8) -> bool {
+    let ip = ip(IpProtocol::Tcp, 40);
+    let mut packet = segment_packet(&ip, &syn(), &ChecksumCapabilities::ignored());
+    packet[6] = flags;
+    packet[7] = low;
+    packet::parse_tcp(&packet, &ChecksumCapabilities::ignored()).is_ok()
+}
+
+#[test]
+fn a_fragment_is_refused(rt: HostRuntime) {
+    for (flags, low, taken) in [
+        // DF, no flag, the flag that has no meaning
+        (0x40, 0, true),
+        (0, 0, true),
+        (0x80, 0, true),
+        // MF, an offset of 8 bytes, of 65528, and of 2048 with MF and DF
+        (0x20, 0, false),
+        (0, 1, false),
+        (0x1f, 0xff, false),
+        (0x61, 0, false),
+    ] {
+        assert!(rt; is_read_as_piece(flags, low) == taken);
+    }
+}
+
+// Whether the SYN is read behind an IPv6 header, with a fragment header between that says that there is no other piece
+// (RFC 8200, section 4.5), or without.
+fn is_read_over_ipv6(with_fragment_header: bool) -> bool {
+    let mut packet = [0; 88];
+    packet[0] = 0x60;
+    if with_fragment_header {
+        packet[5] = 48;
+        packet[6] = 44;
+        packet[40] = 6;
+        packet[48..].copy_from_slice(&SYN);
+    } else {
+        packet[5] = 40;
+        packet[6] = 6;
+        packet[40..80].copy_from_slice(&SYN);
+    }
+    packet::parse_tcp(&packet, &ChecksumCapabilities::ignored()).is_ok()
+}
+
+#[test]
+fn a_fragment_header_is_another_protocol(rt: HostRuntime) {
+    assert!(rt; is_read_over_ipv6(false));
+    assert!(rt; !is_read_over_ipv6(true));
+}

@@ -48,7 +48,7 @@ timer_keeps (timer.Retransmit at) v now = go (is_over at now)
 timer_keeps timer.FastRetransmit v now = record { tx = refl; rx = refl; una = refl }
 timer_keeps _ v now = same v
 
-timers_keep : (v : View) (now : Instant) → Keeps v (after_timers v now)
+pub timers_keep : (v : View) (now : Instant) → Keeps v (after_timers v now)
 unfolding after_timers
 timers_keep v now = go (is_reached (timeout_poll v.timeout v.remote_last_ts) now)
   where
@@ -56,7 +56,7 @@ timers_keep v now = go (is_reached (timeout_poll v.timeout v.remote_last_ts) now
     go true = record { tx = refl; rx = refl; una = refl }
     go false = timer_keeps v.timer v now
 
-readied_keeps : (v : View) (now : Instant) → Keeps v (readied v now)
+pub readied_keeps : (v : View) (now : Instant) → Keeps v (readied v now)
 unfolding readied last_ts_set
 readied_keeps v now = go v.remote_last_ts
   where

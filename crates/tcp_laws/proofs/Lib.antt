@@ -15,3 +15,8 @@ pub mod OrderedSegments
 pub mod OrderedSendings
 pub mod OrderedCalls
 pub mod Sleeping
+pub mod Hearing
+pub mod TimingOut
+pub mod Probing
+pub mod AckAlone
+pub mod Repeating

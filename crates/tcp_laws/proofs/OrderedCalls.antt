@@ -158,7 +158,7 @@ module _ (f : Facts) (stamps : Bool) where
       go true = h
       go false = nothing_ordered u h
 
-  before_ordered : (v : View) → IsOrdered v → IsOrdered (before_emit v f stamps).view
+  pub before_ordered : (v : View) → IsOrdered v → IsOrdered (before_emit v f stamps).view
   unfolding before_emit begun
   before_ordered v h = ends_ordered (begun_to v.tuple v f).peer (begun_to v.tuple v f).view (begun_ordered v.tuple v h)
 

@@ -25,6 +25,7 @@ use Rattle.sock_tcp.specs.declared.timer.AckDelayTimer.TheVariants as ack_delay
 use Rattle.sock_tcp.specs.declared.timer.Timer.{Timer}
 use Rattle.sock_tcp.specs.declared.timer.Timer.TheVariants as timer
 use Rattle.sock_tcp.specs.declared.tuple.Tuple.{Tuple}
+use Rattle.tcp_laws.specs.Waking.{HasToSend}
 use Rattle.tcp_laws.proofs.Ordered.{IsOpen, IsOrdered, IsPeeredIn, Row}
 use Rattle.tcp_laws.proofs.OrderedCalls.{reached_ordered}
 
@@ -132,6 +133,21 @@ fin_due v t f stamps o hu hn z n e =
 open_window : (c : AnyController) → IsOpen c → 0 < congestion_window c
 open_window (controller.None x) h = omega arith
 open_window (controller.Reno r) h = h.cwnd
+
+-- what waits is due where the peer has a window and nothing is in flight
+pub window_sends : (v : View) (t : Tuple) (f : Facts) (stamps : Bool) → IsOrdered v → 0 < v.remote_win_len → flight v ≡ 0 → HasToSend v → data_due v t f stamps ≡ true
+window_sends v t f stamps h win z send = go (data_due v t f stamps) refl
+  where
+    empty : data_due v t f stamps ≡ false → length v.tx_buffer.bytes ≡ 0
+    empty e = omega (arith, z, win, data_goes v t f stamps e z, open_window v.congestion_controller h.congestion)
+
+    nothing : HasToSend v → data_due v t f stamps ≡ false → ⊥
+    nothing (inl some) e = omega (arith, some, empty e)
+    nothing (inr c) e = fin_due v t f stamps c h.una_small h.nxt_small z (empty e) e
+
+    go : (b : Bool) → data_due v t f stamps ≡ b → data_due v t f stamps ≡ true
+    go true e = e
+    go false e = absurd (nothing send e)
 
 zero_or_not : (n : ℕ) → (n ≡ 0) ⊎ (0 < n)
 zero_or_not zero = inl refl

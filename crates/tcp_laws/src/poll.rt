@@ -5,6 +5,8 @@ ghost use Rattle.sock_tcp.specs.View.{moment_of};
 ghost use Rattle.sock_tcp.specs.Polls.{IsLater};
 ghost use Rattle.sock_tcp.specs.Dispatch.{Dispatches};
 ghost use Rattle.sock_tcp.specs.Poll.{poll_moment};
+ghost use Rattle.tcp_laws.specs.Repeating.{AcksRepeatOnlySo};
+ghost use Rattle.tcp_laws.specs.Waking.{IsClosed, IsTimedOut, LastAckHearsNothing, ThirdDuplicateWakes, WindowWakes};
 ghost use Rattle.tcp_laws.specs.Polling.{KeepAliveWakes, NoWorkNoBytes, PayloadKeepsToWindows, PollHidesNothing, SleepsOnlySo, TimeoutWakes};
 
 use control_wire::TcpRepr;
@@ -67,4 +69,48 @@ pub fn timeout_wakes()
 /// new socket over any two buffers of at most 2^30 bytes.
 pub fn keep_alive_wakes()
     ensures { KeepAliveWakes }
+{}
+
+/// A `dispatch` of a socket with a peer at or after the moment of the last segment plus the user timeout leaves CLOSED,
+/// whatever the state was.
+pub fn timeout_ends<
+    G: TsvalSource,
+    C: Context,
+    E,
+    F: FnOnce(&mut C, (IpRepr, TcpRepr<'_>)) -> Result<(), E>,
+>(socket: &mut Socket<'_, G>, cx: &mut C, emit: F) -> Result<(), E>
+    requires callable { F.IsAlwaysCallable emit }
+    requires timed_out { IsTimedOut socket.old.control_block (moment_of (C.facts cx.old)) }
+    ensures closed { IsClosed socket.new.control_block }
+    ensures table { Dispatches F.FnOnce emit (C.facts cx.old) G.tells socket.old.tsval_generator
+        socket.old.control_block cx.old result socket.new.control_block cx.new }
+{
+    socket.dispatch(cx, emit)
+}
+
+/// In LAST-ACK a segment that acknowledges nothing new moves neither the moment of the last segment nor the peer's
+/// window, nor the timer: so it puts the user timeout off no further, and wakes nothing.
+pub fn last_ack_hears_nothing()
+    ensures { LastAckHearsNothing }
+{}
+
+/// In ESTABLISHED, FIN-WAIT-1, CLOSE-WAIT and CLOSING a segment that passes and tells a window, as the answer to a
+/// keep-alive does, leaves a socket with data due, where nothing is in flight and bytes or a FIN wait; after any list
+/// of calls on a new socket over any two buffers of at most 2^30 bytes.
+pub fn window_wakes()
+    ensures { WindowWakes }
+{}
+
+/// In the same states, where something is in flight, the third of such segments that says nothing new, as the answers
+/// to three keep-alives do, makes a fast retransmission due (RFC 5681, section 3.2).
+pub fn third_duplicate_wakes()
+    ensures { ThirdDuplicateWakes }
+{}
+
+/// Why `poll_at` wants another dispatch at the same moment, after one that sent a keep-alive, or a segment that takes no
+/// sequence number, over any list of calls as above: in FIN-WAIT-2 a probe timer is left over, or the interval of
+/// keep-alives is 0, and then every dispatch at that moment sends; or a probe is due, or TIME-WAIT is over, or what a
+/// keep-alive told does not count as told, and then one does.
+pub fn acks_repeat_only_so()
+    ensures { AcksRepeatOnlySo }
 {}

@@ -2,22 +2,20 @@
 ghost use Rattle.std.specs.Prelude.{◌≤◌, length};
 
 use crate::context::{Interface, MTU};
+use crate::entry::Entry;
 use crate::memory::Sockets;
 use crate::packet::{Body, Packet, with_payload};
 use smoltcp_socket::wire::{
-    IcmpRepr, Icmpv4Repr, IpRepr, Ipv4Address, Ipv4Repr, TcpControl, TcpRepr, UdpRepr,
+    Icmpv4Repr, IpRepr, Ipv4Address, Ipv4Repr, TcpControl, TcpRepr, UdpRepr,
 };
-use smoltcp_socket::{Context, PollAt, Socket, icmp, raw, tcp, udp};
+use smoltcp_socket::{Context, PollAt, Socket, tcp};
 use std::alloc::{AllocError, Global};
-
-// How many packets one socket may emit before the next one has its turn.
-const TURN: usize = 8;
 
 /// A host with one interface.
 #[derive(Drop)]
 pub struct Host<'a> {
     /// Its sockets, of any kind.
-    pub sockets: Vec<Socket<'a>>,
+    pub sockets: Vec<Entry<'a>>,
     /// Its interface.
     pub interface: Interface,
 }
@@ -46,7 +44,7 @@ impl<'a> Host<'a> {
             Socket::Icmp(icmp),
             Socket::Raw(raw),
         ] {
-            self.sockets.push(socket)?;
+            self.sockets.push(Entry::new(socket))?;
         }
         Ok(())
     }
@@ -54,21 +52,17 @@ impl<'a> Host<'a> {
     /// When the host wants to be served: the earliest of what its sockets say.
     pub fn poll_at(&self) -> PollAt {
         let mut earliest = PollAt::Ingress;
-        for socket in &self.sockets {
-            earliest = earliest.min(socket.poll_at(&self.interface));
+        for entry in &self.sockets {
+            earliest = earliest.min(entry.poll_at(&self.interface));
         }
         earliest
     }
 
     /// Lets each socket emit what is due now, into the outbox.
     pub fn dispatch(&mut self) -> Result<(), AllocError> {
-        for socket in &mut self.sockets {
-            for _ in 0..TURN {
-                if !is_due(socket, &self.interface) {
-                    break;
-                }
-                dispatch_one(socket, &mut self.interface)?;
-            }
+        for entry in &mut self.sockets {
+            entry.watch(&self.interface);
+            entry.dispatch(&mut self.interface)?;
         }
         Ok(())
     }
@@ -95,10 +89,8 @@ impl<'a> Host<'a> {
         if repr.payload.len() > MTU {
             return Ok(());
         }
-        for socket in &mut self.sockets {
-            if take_segment(socket, &mut self.interface, ip, repr)? {
-                return Ok(());
-            }
+        if self.give(ip, repr, false)? || self.give(ip, repr, true)? {
+            return Ok(());
         }
         if repr.control == TcpControl::Rst {
             return Ok(());
@@ -107,10 +99,25 @@ impl<'a> Host<'a> {
         self.interface.emit_tcp(ip, &reset)
     }
 
+    // Gives a segment to the first socket that it is for, of the connections or of those that listen: a connection comes
+    // before, so that a SYN that comes again opens no second one.
+    fn give(&mut self, ip: &IpRepr, repr: &TcpRepr<'_>, listening: bool) -> Result<bool, AllocError>
+        requires { length repr.now.payload.now ≤ 65535 }
+    {
+        for entry in &mut self.sockets {
+            if entry.listens() == listening
+                && take_segment(&mut entry.socket, &mut self.interface, ip, repr)?
+            {
+                return Ok(true);
+            }
+        }
+        Ok(false)
+    }
+
     // The first socket that a datagram is for takes it.
     fn receive_udp(&mut self, ip: &IpRepr, repr: &UdpRepr, payload: &[u8]) {
-        for socket in &mut self.sockets {
-            if take_datagram(socket, &self.interface, ip, repr, payload) {
+        for entry in &mut self.sockets {
+            if take_datagram(&mut entry.socket, &self.interface, ip, repr, payload) {
                 return;
             }
         }
@@ -122,15 +129,15 @@ impl<'a> Host<'a> {
         let (IpRepr::Ipv4(ip), Ok(repr)) = (ip, Icmpv4Repr::parse(message, &caps)) else {
             return;
         };
-        for socket in &mut self.sockets {
-            take_message(socket, &self.interface, ip, &repr);
+        for entry in &mut self.sockets {
+            take_message(&mut entry.socket, &self.interface, ip, &repr);
         }
     }
 
     // Every socket that a packet is for takes it. A raw socket could be for the other protocols too; here none is.
     fn receive_raw(&mut self, ip: &IpRepr, payload: &[u8]) {
-        for socket in &mut self.sockets {
-            take_packet(socket, &self.interface, ip, payload);
+        for entry in &mut self.sockets {
+            take_packet(&mut entry.socket, &self.interface, ip, payload);
         }
     }
 }
@@ -191,54 +198,4 @@ fn take_packet(socket: &mut Socket<'_>, interface: &Interface, ip: &IpRepr, payl
         Socket::Raw(socket) if socket.accepts(ip) => socket.process(interface, ip, payload),
         _ => {}
     }
-}
-
-// Whether the socket wants a dispatch now.
-fn is_due(socket: &Socket<'_>, interface: &Interface) -> bool {
-    match socket.poll_at(interface) {
-        PollAt::Now => true,
-        PollAt::Time(at) => at <= interface.now(),
-        PollAt::Ingress => false,
-    }
-}
-
-// One dispatch: at most one packet goes into the outbox.
-fn dispatch_one(socket: &mut Socket<'_>, interface: &mut Interface) -> Result<(), AllocError> {
-    match socket {
-        Socket::Tcp(socket) => dispatch_tcp(socket, interface),
-        Socket::Udp(socket) => dispatch_udp(socket, interface),
-        Socket::Icmp(socket) => dispatch_icmp(socket, interface),
-        Socket::Raw(socket) => dispatch_raw(socket, interface),
-    }
-}
-
-fn dispatch_tcp(socket: &mut tcp::Socket<'_>, interface: &mut Interface) -> Result<(), AllocError> {
-    socket.dispatch(
-        interface,
-        |cx: &mut Interface, sent: (IpRepr, TcpRepr<'_>)| cx.emit_tcp(sent.0, &sent.1),
-    )
-}
-
-fn dispatch_udp(socket: &mut udp::Socket<'_>, interface: &mut Interface) -> Result<(), AllocError> {
-    socket.dispatch(
-        interface,
-        |cx: &mut Interface, sent: (IpRepr, UdpRepr, &[u8])| cx.emit_udp(sent.0, sent.1, sent.2),
-    )
-}
-
-fn dispatch_icmp(
-    socket: &mut icmp::Socket<'_>,
-    interface: &mut Interface,
-) -> Result<(), AllocError> {
-    socket.dispatch(
-        interface,
-        |cx: &mut Interface, sent: (IpRepr, IcmpRepr<'_>)| cx.emit_icmp(sent.0, &sent.1),
-    )
-}
-
-fn dispatch_raw(socket: &mut raw::Socket<'_>, interface: &mut Interface) -> Result<(), AllocError> {
-    socket.dispatch(
-        interface,
-        |cx: &mut Interface, sent: (IpRepr, &[u8])| cx.emit_raw(sent.0, sent.1),
-    )
 }

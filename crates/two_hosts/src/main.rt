@@ -7,6 +7,7 @@
 
 mod applications;
 mod context;
+mod entry;
 mod fault;
 mod host;
 mod memory;
@@ -24,8 +25,9 @@ use crate::memory::Memory;
 use crate::packet::Packet;
 use crate::trace::Trace;
 use crate::wire::Wire;
+use host_guard::guard::{KEEP_ALIVE, TIMEOUT};
 use smoltcp_socket::storage::RingBuffer;
-use smoltcp_socket::time::{Duration, Instant};
+use smoltcp_socket::time::Instant;
 use smoltcp_socket::wire::IpAddress;
 use smoltcp_socket::{PollAt, tcp};
 use std::alloc::{AllocError, Global};
@@ -123,13 +125,6 @@ fn number(arg: Option<String>, otherwise: u32, most: u32) -> Result<u32, Fault> 
     }
 }
 
-// How long nothing may be heard of a peer before the connection ends. Without it a lost FIN, or a late window of 0, can
-// leave both hosts waiting for each other for ever.
-const TIMEOUT: Duration = Duration { micros: 60_000_000 };
-
-// After how long a silent peer is asked whether it is there: soon enough that answers may be lost.
-const KEEP_ALIVE: Duration = Duration { micros: 15_000_000 };
-
 // Makes the sockets of both hosts, and runs the hosts. The buffers outlive the sockets.
 fn simulate(alloc: Global, seed: u32, loss: u32) -> Result<Trace, AllocError> {
     let (mut rx_a, mut tx_a) = ([0u8; 256], [0u8; 256]);
@@ -143,7 +138,8 @@ fn simulate(alloc: Global, seed: u32, loss: u32) -> Result<Trace, AllocError> {
     run(alloc, wire, (tcp_a, &mut memory_a), (tcp_b, &mut memory_b))
 }
 
-// Sees to it that the connection does not wait for ever.
+// Sees to it that the connection does not wait for ever. Without it a lost FIN, or a late window of 0, can leave both
+// hosts waiting for each other.
 fn guard(tcp: &mut tcp::Socket<'_>) {
     tcp.set_timeout(Some(TIMEOUT));
     tcp.set_keep_alive(Some(KEEP_ALIVE));
@@ -191,13 +187,15 @@ struct Simulation<'a> {
 }
 
 impl Simulation<'_> {
-    // Goes from one moment at which something happens to the next, until nothing is left to do.
+    // Goes from one moment at which something happens to the next, until nothing is left to do. Between two rounds is a
+    // millisecond at least, so that a socket which always wants a dispatch does not keep the host at one moment.
     fn run(&mut self) -> Result<(), AllocError> {
         for _ in 0..ROUNDS {
             self.round()?;
+            let next = self.now.saturating_add(1);
             match self.poll_at() {
-                PollAt::Now => {}
-                PollAt::Time(at) => self.now = self.now.max(millis_of(at)),
+                PollAt::Now => self.now = next,
+                PollAt::Time(at) => self.now = next.max(millis_of(at)),
                 PollAt::Ingress => break,
             }
         }

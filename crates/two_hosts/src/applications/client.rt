@@ -109,8 +109,8 @@ impl Client {
 
     /// Lets the client use the sockets of its host.
     pub fn run(&mut self, host: &mut Host<'_>, trace: &mut Trace) -> Result<(), AllocError> {
-        for socket in &mut host.sockets {
-            self.use_socket(socket, &host.interface, trace)?;
+        for entry in &mut host.sockets {
+            self.use_socket(&mut entry.socket, &host.interface, trace)?;
         }
         Ok(())
     }

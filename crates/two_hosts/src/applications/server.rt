@@ -42,8 +42,8 @@ impl Server {
 
     /// Lets the servers use the sockets of their host.
     pub fn run(&mut self, host: &mut Host<'_>, trace: &mut Trace) -> Result<(), AllocError> {
-        for socket in &mut host.sockets {
-            self.use_socket(socket, &host.interface, trace)?;
+        for entry in &mut host.sockets {
+            self.use_socket(&mut entry.socket, &host.interface, trace)?;
         }
         Ok(())
     }

@@ -1,0 +1,200 @@
+//! What a host looks at beside each of its TCP sockets, in each round of its loop.
+ghost use Rattle.std.specs.Prelude.{◌≡◌, ◌≤◌, ◌^◌, None};
+ghost use Rattle.sock_core.specs.Bounds.{IsMoment};
+ghost use Rattle.sock_tcp.specs.Polls.{earlier};
+ghost use Rattle.sock_tcp.specs.Timers.{IsLastTs, after};
+ghost use Rattle.host_guard.specs.Guarding.{
+  first_seen,
+  guarded_poll,
+  has_lasted,
+  last_after,
+  last_in,
+  may_dispatch,
+  not_before,
+  paced,
+  since_in,
+  timeout_in,
+  watched,
+};
+
+use net_base::time::{Duration, Instant};
+use sock_core::PollAt;
+use sock_tcp::{Socket, State};
+
+/// A peer that is silent for so long, while something waits, has gone.
+pub const TIMEOUT: Duration = Duration { micros: 60_000_000 };
+
+/// A peer that has been silent for so long is asked whether it is there: soon enough that answers may be lost.
+pub const KEEP_ALIVE: Duration = Duration { micros: 15_000_000 };
+
+/// How long a socket that a SYN has opened waits for the rest of the handshake: time for the SYN|ACK to be sent again
+/// after a second, and short, as the SYN may have come from an address where nobody is.
+pub const HANDSHAKE: Duration = Duration { micros: 3_000_000 };
+
+/// How long FIN-WAIT-2 may last, as `tcp_fin_timeout` of Linux: only the peer can end it, and need not.
+pub const LONGEST_FIN_WAIT_2: Duration = Duration { micros: 60_000_000 };
+
+/// How long after a dispatch in FIN-WAIT-2 there is none. Nothing but acknowledgements is left to send in this state,
+/// and with a probe timer that is left over every dispatch emits one: so they are 50 in a second at most.
+pub const PACE: Duration = Duration { micros: 20_000 };
+
+/// What a host remembers beside a TCP socket.
+#[derive(Debug, Drop)]
+pub struct Guard {
+    /// Since when the socket is in FIN-WAIT-2; none in the other states.
+    pub since: Option<Instant>,
+    /// When it was last dispatched in FIN-WAIT-2.
+    pub last: Option<Instant>,
+    // so a moment that is later by a minute fits its type
+    pub ghost since_lawful: { IsLastTs since },
+    pub ghost last_lawful: { IsLastTs last },
+}
+
+impl Guard {
+    /// Of a socket that is not in FIN-WAIT-2.
+    pub fn new() -> Guard
+        ensures since { result.since ≡ None }
+        ensures last { result.last ≡ None }
+    {
+        Guard {
+            since: None,
+            last: None,
+        }
+    }
+
+    /// Looks at the socket at this moment: to be called in each round, before the socket is dispatched.
+    ///
+    /// Sets the user timeout: `HANDSHAKE` in LISTEN and SYN-RECEIVED, `TIMEOUT` in the other states. Aborts a
+    /// connection that has been in FIN-WAIT-2 for `LONGEST_FIN_WAIT_2` or longer, counted from the first look that saw
+    /// it there, whatever has come from the peer since. Where the time goes back, it is counted from the earlier moment.
+    pub fn watch<G>(&mut self, socket: &mut Socket<'_, G>, now: Instant)
+        requires { IsMoment now.micros }
+        ensures since { self.new.since ≡ since_in socket.old.control_block.state self.old.since now }
+        ensures last { self.new.last ≡ last_in socket.old.control_block.state self.old.last }
+        ensures socket { socket.new.control_block ≡ watched self.new.since socket.old.control_block now }
+        ensures generator { socket.new.tsval_generator ≡ socket.old.tsval_generator }
+    {
+        let state = socket.state();
+        self.note(state, now);
+        socket.set_timeout(Some(timeout_in(state)));
+        if has_lasted(self.since, now) {
+            socket.abort();
+        }
+    }
+
+    fn note(&mut self, state: State, now: Instant)
+        requires { IsMoment now.micros }
+        ensures since { self.new.since ≡ since_in state self.old.since now }
+        ensures last { self.new.last ≡ last_in state self.old.last }
+    {
+        match state {
+            State::FinWait2 => {
+                self.since = Some(first_seen(self.since, now));
+            }
+            _ => {
+                self.since = None;
+                self.last = None;
+            }
+        }
+    }
+
+    /// Whether the socket may be dispatched at this moment: in FIN-WAIT-2 not within `PACE` of the last dispatch that
+    /// was allowed there, in the other states always. What is allowed is remembered.
+    pub fn take_turn(&mut self, now: Instant) -> bool
+        requires { IsMoment now.micros }
+        ensures turn { result ≡ may_dispatch self.old.since self.old.last now }
+        ensures since { self.new.since ≡ self.old.since }
+        ensures last { self.new.last ≡ last_after result self.old.since self.old.last now }
+    {
+        let may = may_dispatch(self.since, self.last, now);
+        if may && self.since.is_some() {
+            self.last = Some(now);
+        }
+        may
+    }
+
+    /// When the host is to look at the socket next, whose own `poll_at` answered `asked`: in FIN-WAIT-2 not before
+    /// `PACE` after the last dispatch, and at the latest when the connection is to be aborted; in the other states when
+    /// the socket asks.
+    pub fn poll_at(&self, asked: PollAt) -> PollAt
+        ensures { result ≡ guarded_poll self.now.since self.now.last asked }
+    {
+        let Some(since) = self.since else {
+            return asked;
+        };
+        let asked = match self.last {
+            None => asked,
+            Some(last) => not_before(after(last, PACE), asked),
+        };
+        earlier(asked, after(since, LONGEST_FIN_WAIT_2))
+    }
+}
+
+/// The user timeout in a state: short until a handshake is done that a SYN began.
+pub fn timeout_in(state: State) -> Duration
+    ensures { result ≡ timeout_in state }
+{
+    match state {
+        State::Listen | State::SynReceived => HANDSHAKE,
+        _ => TIMEOUT,
+    }
+}
+
+fn first_seen(since: Option<Instant>, now: Instant) -> Instant
+    ensures { result ≡ first_seen since now }
+{
+    match since {
+        Some(since) if since.micros <= now.micros => since,
+        _ => now,
+    }
+}
+
+fn has_lasted(since: Option<Instant>, now: Instant) -> bool
+    ensures { result ≡ has_lasted since now }
+{
+    match since {
+        Some(since) => LONGEST_FIN_WAIT_2 <= now - since,
+        None => false,
+    }
+}
+
+fn may_dispatch(since: Option<Instant>, last: Option<Instant>, now: Instant) -> bool
+    ensures { result ≡ may_dispatch since last now }
+{
+    match (since, last) {
+        (Some(_), Some(last)) => PACE.micros <= (now - last).micros,
+        _ => true,
+    }
+}
+
+fn after(moment: Instant, delay: Duration) -> Instant
+    requires moment { IsMoment moment.micros }
+    requires short { delay.micros ≤ 2 ^ 61 }
+    ensures { result ≡ after moment delay }
+{
+    moment + delay
+}
+
+fn not_before(moment: Instant, asked: PollAt) -> PollAt
+    ensures { result ≡ not_before moment asked }
+{
+    match asked {
+        PollAt::Now => PollAt::Time(moment),
+        PollAt::Time(at) => PollAt::Time(if moment.micros <= at.micros {
+            at
+        } else {
+            moment
+        }),
+        PollAt::Ingress => PollAt::Ingress,
+    }
+}
+
+fn earlier(asked: PollAt, end: Instant) -> PollAt
+    ensures { result ≡ earlier asked (PollAt.Time end) }
+{
+    match asked {
+        PollAt::Now => PollAt::Now,
+        PollAt::Time(at) => PollAt::Time(if at.micros <= end.micros { at } else { end }),
+        PollAt::Ingress => PollAt::Time(end),
+    }
+}

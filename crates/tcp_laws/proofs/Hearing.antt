@@ -1,0 +1,312 @@
+-- What a segment tells a socket that waits for its peer.
+use Rattle.std.proofs.Common.{◌≡◌, ℕ, ◌+◌, ◌-◌, ◌<◌, ◌≤◌, ◌^◌, ◌*◌, ◌⊎◌, inl, inr, Bool, true, false, ◌&&◌, refl, sym, ap, subst, ◌∙◌, List, length, Option, Some, None, arith}
+use Rattle.std.specs.Prelude.{if◌then◌else◌, ◌==◌, int_lt}
+use Rattle.std.proofs.lemmas.Bool.{and_parts, eqb-true}
+use Rattle.std.proofs.Math.Nat.{mul-pos}
+use Rattle.std.proofs.lemmas.Nat.{pow_pos}
+use Rattle.net_base.specs.declared.time.Duration.{Duration}
+use Rattle.control_wire.specs.Seq.{seq_sub}
+use Rattle.sock_core.specs.Seq.{is_before, is_not_after}
+use Rattle.ip_wire.specs.declared.repr.IpRepr.{IpRepr}
+use Rattle.net_base.specs.declared.time.Instant.{Instant}
+use Rattle.control_wire.specs.Segment.{Segment}
+use Rattle.control_wire.specs.declared.seq_number.TcpSeqNumber.{TcpSeqNumber}
+use Rattle.control_wire.specs.declared.tcp.TcpControl.{TcpControl}
+use Rattle.control_wire.specs.declared.tcp.TcpControl.TheVariants as control
+use Rattle.sock_core.specs.Received.{makes_fifth_range, holds_nothing}
+use Rattle.sock_tcp.specs.Acked.{acked_at, acked_of, is_fin_acked}
+use Rattle.sock_tcp.specs.Advance.{advance_in, advanced, counted_control, moved_to, waiting}
+use Rattle.sock_tcp.specs.Due.{flight}
+use Rattle.sock_tcp.specs.Process.{Outcome, stopped, ack_sent, challenged, close_restarted, outside_by, outside, gap_answered, bytes_taken, tuple_of, after_table, processed_inside, has_window, tested, by_verdict, processed}
+use Rattle.sock_tcp.specs.Replies.{ack_kept}
+use Rattle.sock_tcp.specs.Steps.{scale_of, window_of, window_taken, released, is_duplicate, is_last_ack, is_window_changed, ack_heard, duplicate_counted, ack_counted, una_advanced, acknowledged, timestamp_taken, timer_set, heard, joined, ack_delayed}
+use Rattle.sock_tcp.specs.Timers.{after, challenge_interval}
+use Rattle.sock_tcp.specs.Verdict.{verdict_of}
+use Rattle.sock_tcp.specs.View.{View}
+use Rattle.sock_tcp.specs.Window.{receive_window, is_inside, cut_of, cut_bytes}
+use Rattle.sock_tcp.specs.declared.acked.Acked.{Acked}
+use Rattle.sock_tcp.specs.declared.state.State.{State}
+use Rattle.sock_tcp.specs.declared.state.State.TheVariants as state
+use Rattle.sock_tcp.specs.declared.timer.Timer.{Timer}
+use Rattle.sock_tcp.specs.declared.timer.Timer.TheVariants as timer
+use Rattle.sock_tcp.specs.declared.tuple.Tuple.{Tuple}
+use Rattle.sock_tcp.specs.declared.verdict.Verdict.{Verdict}
+use Rattle.sock_tcp.specs.declared.verdict.Verdict.TheVariants as verdicts
+use Rattle.sock_tcp.specs.declared.window.Cut.{Cut}
+use Rattle.sock_tcp.specs.declared.window.Window.{Window}
+use Rattle.sock_tcp.proofs.Windows.{far, not_after}
+use Rattle.tcp_laws.specs.Waking.{AcksNothing, HeardNothing, LastAckHearsNothing, TellsWindow, ThirdDuplicateWakes, WindowWakes, hears_window}
+use Rattle.tcp_laws.proofs.Ordered.{IsOrdered, Row}
+use Rattle.tcp_laws.proofs.OrderedCalls.{reached_ordered}
+use Rattle.tcp_laws.proofs.OrderedSegments.{process_ordered}
+use Rattle.tcp_laws.proofs.Sleeping.{window_sends}
+
+unheard : (v : View) → HeardNothing v v
+unheard v = record { last = refl; timeout = refl; window = refl; timer = refl; queue = refl; una = refl; nxt = refl }
+
+module _ (now : Instant) (s : Segment) where
+  challenged_unheard : (w : View) → HeardNothing w (challenged w now s).view
+  unfolding challenged ack_kept
+  challenged_unheard w = go (int_lt now.micros w.challenge_ack_timer.micros)
+    where
+      go : (b : Bool) → HeardNothing w (if b then stopped w else ack_sent (record w { challenge_ack_timer = after now challenge_interval }) s).view
+      go true = unheard w
+      go false = record { last = refl; timeout = refl; window = refl; timer = refl; queue = refl; una = refl; nxt = refl }
+
+  bytes_unheard : (w : View) (o : ℕ) (bs : List ℕ) → HeardNothing w (bytes_taken w now o bs s).view
+  unfolding bytes_taken joined ack_delayed ack_kept
+  bytes_unheard w o bs = go (length bs == 0)
+    where
+      u : View
+      u = ack_delayed (joined w o bs) now
+
+      gap : (b : Bool) → HeardNothing w (if b then stopped u else ack_sent u s).view
+      gap true = record { last = refl; timeout = refl; window = refl; timer = refl; queue = refl; una = refl; nxt = refl }
+      gap false = record { last = refl; timeout = refl; window = refl; timer = refl; queue = refl; una = refl; nxt = refl }
+
+      away : (b : Bool) → HeardNothing w (if b then stopped w else gap_answered w u s).view
+      away true = unheard w
+      away false = gap (holds_nothing w.rx_buffer.held && holds_nothing u.rx_buffer.held)
+
+      go : (b : Bool) → HeardNothing w (if b then stopped w else (if makes_fifth_range w.rx_buffer o bs then stopped w else gap_answered w u s)).view
+      go true = unheard w
+      go false = away (makes_fifth_range w.rx_buffer o bs)
+
+  -- ---- LAST-ACK
+
+  module _ (v : View) (is : v.state ≡ state.LastAck) where
+    restarted_unheard : (w : View) → HeardNothing (close_restarted v now) w → HeardNothing v w
+    unfolding close_restarted
+    restarted_unheard w h = record { last = h.last; timeout = h.timeout; window = h.window; timer = h.timer ∙ rw is refl; queue = h.queue; una = h.una; nxt = h.nxt }
+
+    acked_unheard : HeardNothing v (ack_sent (close_restarted v now) s).view
+    unfolding ack_kept
+    acked_unheard = restarted_unheard (ack_kept (close_restarted v now)) (record { last = refl; timeout = refl; window = refl; timer = refl; queue = refl; una = refl; nxt = refl })
+
+    outside_unheard : HeardNothing v (outside v now s).view
+    unfolding outside
+    outside_unheard = by s.control
+      where
+        again : HeardNothing v (challenged (close_restarted v now) now s).view
+        again = restarted_unheard _ (challenged_unheard (close_restarted v now))
+
+        bytes_or_none : (b : Bool) → HeardNothing v (if b then challenged (close_restarted v now) now s else ack_sent (close_restarted v now) s).view
+        bytes_or_none true = again
+        bytes_or_none false = acked_unheard
+
+        by : (c : TcpControl) → HeardNothing v (outside_by c (length s.payload) v now s).view
+        by control.Rst = unheard v
+        by control.Syn = again
+        by control.None = bytes_or_none (length s.payload == 0)
+        by control.Psh = bytes_or_none (length s.payload == 0)
+        by control.Fin = bytes_or_none (length s.payload == 0)
+
+    -- the rows of LAST-ACK, where nothing is acknowledged
+    row_unheard : (u : View) (c : TcpControl) (t : Tuple) (word : ℕ) (a : Acked) (o : ℕ) (bs : List ℕ) → HeardNothing v u → HeardNothing v (after_table (advance_in state.LastAck c false u now t word 0 s) now a o bs s).view
+    row_unheard u control.None t word a o bs h =
+        let k = challenged_unheard u in
+        record { last = k.last ∙ h.last; timeout = k.timeout ∙ h.timeout; window = k.window ∙ h.window; timer = k.timer ∙ h.timer; queue = k.queue ∙ h.queue; una = k.una ∙ h.una; nxt = k.nxt ∙ h.nxt }
+    row_unheard u control.Rst t word a o bs h = record { last = h.last; timeout = h.timeout; window = h.window; timer = h.timer; queue = h.queue; una = h.una; nxt = h.nxt }
+    row_unheard u control.Psh t word a o bs h = h
+    row_unheard u control.Syn t word a o bs h = h
+    row_unheard u control.Fin t word a o bs h = h
+
+  -- ---- a window
+
+  heard_window : (u : View) (a : Acked) → (heard u now a s).remote_win_len ≡ window_of s.control s.window_len u.remote_win_scale
+  unfolding heard window_taken released timestamp_taken timer_set acknowledged duplicate_counted ack_counted una_advanced
+  heard_window u a = by s.ack_number
+    where
+      x : View
+      x = released (window_taken u now s.control s.window_len) a.len
+
+      changed : Bool
+      changed = is_window_changed u s.control s.window_len
+
+      either : (b : Bool) (k : TcpSeqNumber) → (timer_set (timestamp_taken (ack_heard b x now k a.len) s.timestamp) now a).remote_win_len ≡ window_of s.control s.window_len u.remote_win_scale
+      either true k = refl
+      either false k = refl
+
+      by : (o : Option TcpSeqNumber) → (timer_set (timestamp_taken (acknowledged x o now a.len (length s.payload) changed) s.timestamp) now a).remote_win_len ≡ window_of s.control s.window_len u.remote_win_scale
+      by None = refl
+      by (Some k) = either (is_duplicate x k (length s.payload) changed) k
+
+  -- the timer, of a third duplicate in a window
+  heard_third : (u : View) (a : Acked) (k : TcpSeqNumber) → s.ack_number ≡ Some k → a.all ≡ false → a.len ≡ 0 → u.local_rx_dup_acks ≡ 2 → is_duplicate u k (length s.payload) (is_window_changed u s.control s.window_len) ≡ true
+      → (window_of s.control s.window_len u.remote_win_scale == 0) ≡ false → (heard u now a s).timer ≡ timer.FastRetransmit
+  unfolding heard window_taken released timestamp_taken timer_set acknowledged duplicate_counted ack_counted una_advanced
+  heard_third u a k e all none two dup win = rw (e, dup, two, all, none, win) refl
+
+-- ---- a segment that passes and lies in the window
+
+scaled : (n k : ℕ) → 0 < n → 0 < n * 2 ^ k
+scaled n k h = mul-pos h (pow_pos k)
+
+some_window : (c : TcpControl) (n : ℕ) (scale : Option ℕ) → 0 < n → 0 < window_of c n scale
+some_window control.Syn n scale h = h
+some_window control.None n scale h = scaled n (scale_of scale) h
+some_window control.Psh n scale h = scaled n (scale_of scale) h
+some_window control.Fin n scale h = scaled n (scale_of scale) h
+some_window control.Rst n scale h = scaled n (scale_of scale) h
+
+module _ (v : View) (now : Instant) (word : ℕ) (ip : IpRepr) (s : Segment) where
+  abbrev u : View
+  u = record v { local_rx_last_seq = Some s.seq_number }
+
+  abbrev a : Acked
+  a = acked_of v s.control s.ack_number
+
+  abbrev c : TcpControl
+  c = counted_control s.control (receive_window v) s.seq_number (length s.payload)
+
+  abbrev cut : Cut
+  cut = cut_of (receive_window v) s.seq_number (length s.payload)
+
+  abbrev inside_as : State → TcpControl → Outcome
+  inside_as st b = after_table (advance_in st b a.fin u now (tuple_of ip s) word a.len s) now a cut.offset (cut_bytes cut s.payload) s
+
+  -- behind the tests of the verdict and of the window
+  in_window : verdict_of v s.control s.ack_number ≡ verdicts.Pass → has_window v.state ≡ true → is_inside (receive_window v) s.seq_number (length s.payload) ≡ true → processed v now word ip s ≡ inside_as v.state c
+  unfolding processed processed_inside advanced
+  in_window p has i = rw (p, has, i) refl
+
+  -- ---- LAST-ACK
+
+  last_ack_by : v.state ≡ state.LastAck → AcksNothing v s → (b : Bool) → HeardNothing v (if b then processed_inside u now word c cut.offset (cut_bytes cut s.payload) ip s else outside v now s).view
+  unfolding processed_inside advanced
+  last_ack_by is h true = subst (λ st. HeardNothing v (after_table (advance_in st c a.fin u now (tuple_of ip s) word a.len s) now a cut.offset (cut_bytes cut s.payload) s).view) (sym is) (subst (λ z. HeardNothing v (after_table (advance_in state.LastAck c z u now (tuple_of ip s) word a.len s) now a cut.offset (cut_bytes cut s.payload) s).view) (sym h.fin) (subst (λ n. HeardNothing v (after_table (advance_in state.LastAck c false u now (tuple_of ip s) word n s) now a cut.offset (cut_bytes cut s.payload) s).view) (sym h.bytes) (row_unheard now s v is u c (tuple_of ip s) word a cut.offset (cut_bytes cut s.payload) (record { last = refl; timeout = refl; window = refl; timer = refl; queue = refl; una = refl; nxt = refl }))))
+  last_ack_by is h false = outside_unheard now s v is
+
+  last_ack : v.state ≡ state.LastAck → AcksNothing v s → (x : Verdict) → HeardNothing v (by_verdict x v now word ip s).view
+  last_ack is h verdicts.Drop = unheard v
+  last_ack is h verdicts.Reset = unheard v
+  last_ack is h verdicts.Challenge = challenged_unheard now s v
+  last_ack is h verdicts.Pass = subst (λ st. HeardNothing v (tested (has_window st) v now word ip s).view) (sym is) (last_ack_by is h (is_inside (receive_window v) s.seq_number (length s.payload)))
+
+  -- ---- the states that hear a window
+
+  has : (st : State) → hears_window st ≡ true → has_window st ≡ true
+  has state.Established h = refl
+  has state.FinWait1 h = refl
+  has state.CloseWait h = refl
+  has state.Closing h = refl
+  has _ h = absurd cc
+
+  abbrev Tells : Outcome → Type 0
+  Tells x = x.view.remote_win_len ≡ window_of s.control s.window_len v.remote_win_scale
+
+  taken_tells : (x : View) → x.remote_win_scale ≡ v.remote_win_scale → Tells (bytes_taken (heard x now a s) now cut.offset (cut_bytes cut s.payload) s)
+  taken_tells x e = (bytes_unheard now s (heard x now a s) cut.offset (cut_bytes cut s.payload)).window ∙ heard_window now s x a ∙ ap (window_of s.control s.window_len) e
+
+  row_tells : (st : State) (fin : Bool) → hears_window st ≡ true → Tells (after_table (advance_in st control.None fin u now (tuple_of ip s) word a.len s) now a cut.offset (cut_bytes cut s.payload) s)
+  row_tells state.Established fin h = taken_tells u refl
+  row_tells state.CloseWait fin h = taken_tells u refl
+  row_tells state.FinWait1 true h = taken_tells (moved_to state.FinWait2 u) refl
+  row_tells state.FinWait1 false h = taken_tells u refl
+  row_tells state.Closing true h = taken_tells (waiting now u) refl
+  row_tells state.Closing false h = taken_tells u refl
+  row_tells _ fin h = absurd cc
+
+  tells : TellsWindow v s → Tells (processed v now word ip s)
+  tells h = rw (in_window h.passes (has v.state h.hears) h.inside, h.no_bit) (row_tells v.state a.fin h.hears)
+
+  abbrev Fast : Outcome → Type 0
+  Fast x = x.view.timer ≡ timer.FastRetransmit
+
+  -- nothing is acknowledged, so no state changes
+  row_fast : (st : State) → hears_window st ≡ true → (heard u now a s).timer ≡ timer.FastRetransmit → Fast (after_table (advance_in st control.None false u now (tuple_of ip s) word a.len s) now a cut.offset (cut_bytes cut s.payload) s)
+  row_fast state.Established h e = (bytes_unheard now s (heard u now a s) cut.offset (cut_bytes cut s.payload)).timer ∙ e
+  row_fast state.CloseWait h e = (bytes_unheard now s (heard u now a s) cut.offset (cut_bytes cut s.payload)).timer ∙ e
+  row_fast state.FinWait1 h e = (bytes_unheard now s (heard u now a s) cut.offset (cut_bytes cut s.payload)).timer ∙ e
+  row_fast state.Closing h e = (bytes_unheard now s (heard u now a s) cut.offset (cut_bytes cut s.payload)).timer ∙ e
+  row_fast _ h e = absurd cc
+
+not_listening : (st : State) → hears_window st ≡ true → st ≡ state.Listen → ⊥
+not_listening state.Listen h e = absurd cc
+not_listening state.Established h e = absurd cc
+not_listening state.FinWait1 h e = absurd cc
+not_listening state.CloseWait h e = absurd cc
+not_listening state.Closing h e = absurd cc
+not_listening _ h e = absurd cc
+
+-- ---- the laws
+
+pub last_ack_hears_nothing : LastAckHearsNothing
+unfolding processed
+last_ack_hears_nothing v now word ip s is h = last_ack v now word ip s is h (verdict_of v s.control s.ack_number)
+
+pub window_wakes : WindowWakes
+window_wakes v now word ip s t f stamps r small numbered h z send =
+    let w : View = (processed v now word ip s).view in
+    let e : w.remote_win_len ≡ window_of s.control s.window_len v.remote_win_scale = tells v now word ip s h in
+    let o : IsOrdered w = process_ordered now word ip s small numbered.ack_number v (reached_ordered v r) (λ is. absurd (not_listening v.state h.hears is)) in
+    window_sends w t f stamps o (subst (λ n. 0 < n) (sym e) (some_window s.control s.window_len v.remote_win_scale h.window)) z send
+
+-- ---- the third duplicate
+
+not_rst : (c : TcpControl) (w : Window) (number : TcpSeqNumber) (n : ℕ) → counted_control c w number n ≡ control.None → c ≡ control.Rst → ⊥
+unfolding counted_control
+not_rst control.Rst w number n e i = absurd cc
+not_rst control.None w number n e i = absurd cc
+not_rst control.Psh w number n e i = absurd cc
+not_rst control.Syn w number n e i = absurd cc
+not_rst control.Fin w number n e i = absurd cc
+
+all_sent : (st : State) (c : TcpControl) (k una nxt : TcpSeqNumber) (q : ℕ) → is_not_after nxt k ≡ false → (acked_at st c (Some k) una nxt q).all ≡ false
+unfolding acked_at
+all_sent st control.Rst k una nxt q e = refl
+all_sent st _ k una nxt q e = e
+
+bytes_alone : (b : Bool) (n : ℕ) → b ≡ false → (if b then n - 1 else n) ≡ 0 → n ≡ 0
+bytes_alone true n f l = absurd cc
+bytes_alone false n f l = l
+
+-- what covers nothing acknowledges SND.UNA
+at_una : (st : State) (c : TcpControl) (k una nxt : TcpSeqNumber) (q : ℕ) → hears_window st ≡ true → (c ≡ control.Rst → ⊥) → (acked_at st c (Some k) una nxt q).fin ≡ false → (acked_at st c (Some k) una nxt q).len ≡ 0 → seq_sub k una ≡ 0
+unfolding acked_at
+at_una _ control.Rst k una nxt q h nr f l = absurd (nr refl)
+at_una state.Established _ k una nxt q h nr f l = omega (arith, bytes_alone (is_fin_acked state.Established q (seq_sub k una - 0)) (seq_sub k una - 0) f l)
+at_una state.FinWait1 _ k una nxt q h nr f l = omega (arith, bytes_alone (is_fin_acked state.FinWait1 q (seq_sub k una - 0)) (seq_sub k una - 0) f l)
+at_una state.CloseWait _ k una nxt q h nr f l = omega (arith, bytes_alone (is_fin_acked state.CloseWait q (seq_sub k una - 0)) (seq_sub k una - 0) f l)
+at_una state.Closing _ k una nxt q h nr f l = omega (arith, bytes_alone (is_fin_acked state.Closing q (seq_sub k una - 0)) (seq_sub k una - 0) f l)
+at_una _ _ k una nxt q h nr f l = absurd cc
+
+near : (st : State) (t : Timer) (keep : Option Duration) (i n : ℕ) → hears_window st ≡ true → Row st t keep i n → i ≤ n + 1
+near state.Established t keep i n h r = omega (arith, r.1)
+near state.FinWait1 t keep i n h r = r.1
+near state.CloseWait t keep i n h r = omega (arith, r.1)
+near state.Closing t keep i n h r = r.1
+near _ t keep i n h r = absurd cc
+
+-- the number that is acknowledged lies before SND.NXT, and not after it too
+not_all : (nxt k una : TcpSeqNumber) → nxt.0 < 2 ^ 32 → k.0 < 2 ^ 32 → una.0 < 2 ^ 32 → seq_sub nxt una < 2 ^ 31 → seq_sub k una ≡ 0 → is_before k nxt ≡ true → is_not_after nxt k ≡ false
+not_all nxt k una hn hk hu fn z b = go (is_not_after nxt k) refl
+  where
+    either : (2 ^ 31 ≤ seq_sub nxt k) ⊎ (nxt.0 ≡ k.0) → ⊥
+    either (inl i) = omega (arith, i, hn, hk, hu, fn, z)
+    either (inr i) = omega (arith, i, far k nxt b, hn, hk)
+
+    go : (t : Bool) → is_not_after nxt k ≡ t → is_not_after nxt k ≡ false
+    go false e = e
+    go true e = absurd (either (not_after nxt k e))
+
+not_zero : (n : ℕ) → 0 < n → (n == 0) ≡ false
+not_zero n h = go (n == 0) refl
+  where
+    go : (b : Bool) → (n == 0) ≡ b → (n == 0) ≡ false
+    go true e = let z : n ≡ 0 = eqb-true n 0 e in absurd (omega (arith, z, h))
+    go false e = e
+
+pub third_duplicate_wakes : ThirdDuplicateWakes
+unfolding acked_at
+third_duplicate_wakes v now word ip s k r numbered h d =
+    let o : IsOrdered v = reached_ordered v r in
+    let e : acked_of v s.control s.ack_number ≡ acked_of v s.control (Some k) = ap (acked_of v s.control) d.number in
+    let nr = not_rst s.control (receive_window v) s.seq_number (length s.payload) h.no_bit in
+    let z : seq_sub k v.local_seq_no ≡ 0 = at_una v.state s.control k v.local_seq_no v.remote_last_seq (length v.tx_buffer.bytes) h.hears nr (ap (λ (x : Acked). x.fin) (sym e) ∙ d.nothing.fin) (ap (λ (x : Acked). x.len) (sym e) ∙ d.nothing.bytes) in
+    let i : flight v ≤ length v.tx_buffer.bytes + 1 = near v.state v.timer v.keep_alive (flight v) (length v.tx_buffer.bytes) h.hears o.row in
+    let b = (and_parts (is_before k v.remote_last_seq) _ (and_parts (is_last_ack v.local_rx_last_ack k) _ d.duplicate).1).0 in
+    let n = not_all v.remote_last_seq k v.local_seq_no o.nxt_small (numbered.ack_number k d.number) o.una_small (omega (arith, i, o.room)) z b in
+    let all : (acked_of v s.control s.ack_number).all ≡ false = ap (λ (x : Acked). x.all) e ∙ all_sent v.state s.control k v.local_seq_no v.remote_last_seq (length v.tx_buffer.bytes) n in
+    let timer = heard_third now s (u v now word ip s) (a v now word ip s) k d.number all d.nothing.bytes d.two_before d.duplicate (not_zero _ (some_window s.control s.window_len v.remote_win_scale h.window)) in
+    rw (in_window v now word ip s h.passes (has v now word ip s v.state h.hears) h.inside, h.no_bit, d.nothing.fin) (row_fast v now word ip s v.state h.hears timer)

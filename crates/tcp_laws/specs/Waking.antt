@@ -1,0 +1,108 @@
+-- What a segment, and what the user timeout, does for a socket that waits for its peer.
+use Rattle.std.specs.Prelude.{ℕ, ◌≡◌, ◌<◌, ◌^◌, ◌⊎◌, length, Some, is_some, Bool, true, false}
+use Rattle.ip_wire.specs.declared.repr.IpRepr.{IpRepr}
+use Rattle.net_base.specs.declared.time.Instant.{Instant}
+use Rattle.control_wire.specs.Segment.{Segment}
+use Rattle.control_wire.specs.declared.seq_number.TcpSeqNumber.{TcpSeqNumber}
+use Rattle.control_wire.specs.declared.tcp.TcpControl.TheVariants as control
+use Rattle.sock_core.specs.Facts.{Facts}
+use Rattle.sock_tcp.specs.Acked.{acked_of}
+use Rattle.sock_tcp.specs.Advance.{counted_control}
+use Rattle.sock_tcp.specs.Due.{data_due, flight, is_closing}
+use Rattle.sock_tcp.specs.Polls.{is_reached, timeout_poll}
+use Rattle.sock_tcp.specs.Process.{processed}
+use Rattle.sock_tcp.specs.Steps.{is_duplicate, is_window_changed}
+use Rattle.sock_tcp.specs.Verdict.{verdict_of}
+use Rattle.sock_tcp.specs.View.{View}
+use Rattle.sock_tcp.specs.Window.{receive_window, is_inside}
+use Rattle.sock_tcp.specs.declared.state.State.TheVariants as state
+use Rattle.sock_tcp.specs.declared.state.State.{State}
+use Rattle.sock_tcp.specs.declared.timer.Timer.TheVariants as timer
+use Rattle.sock_tcp.specs.declared.tuple.Tuple.{Tuple}
+use Rattle.sock_tcp.specs.declared.verdict.Verdict.TheVariants as verdicts
+use Rattle.tcp_laws.specs.Polling.{IsReached}
+use Rattle.tcp_laws.specs.SocketRun.{IsNumbered}
+
+-- ---- the user timeout
+
+-- there is a peer, and the user timeout after the moment of the last segment is over
+pub record IsTimedOut (v : View) (now : Instant) : Type 0 where
+  pub peer : is_some v.tuple ≡ true
+  pub over : is_reached (timeout_poll v.timeout v.remote_last_ts) now ≡ true
+
+abbrev pub IsClosed : View → Type 0
+IsClosed v = v.state ≡ state.Closed
+
+-- ---- what says nothing
+
+-- the acknowledgement covers neither a byte nor the own FIN
+pub record AcksNothing (v : View) (s : Segment) : Type 0 where
+  pub bytes : (acked_of v s.control s.ack_number).len ≡ 0
+  pub fin : (acked_of v s.control s.ack_number).fin ≡ false
+
+-- w has of v the moment of the last segment, the peer's window, the timer, and all that is still to be acknowledged
+pub record HeardNothing (v w : View) : Type 0 where
+  pub last : w.remote_last_ts ≡ v.remote_last_ts
+  pub timeout : w.timeout ≡ v.timeout
+  pub window : w.remote_win_len ≡ v.remote_win_len
+  pub timer : w.timer ≡ v.timer
+  pub queue : w.tx_buffer ≡ v.tx_buffer
+  pub una : w.local_seq_no ≡ v.local_seq_no
+  pub nxt : w.remote_last_seq ≡ v.remote_last_seq
+
+-- in LAST-ACK whatever acknowledges nothing new says nothing else either, its window included
+abbrev pub LastAckHearsNothing : Type 0
+LastAckHearsNothing = (v : View) (now : Instant) (word : ℕ) (ip : IpRepr) (s : Segment)
+    → v.state ≡ state.LastAck
+    → AcksNothing v s
+    → HeardNothing v (processed v now word ip s).view
+
+-- ---- what wakes
+
+-- in these states whatever passes and lies in the receive window tells the peer's window
+abbrev pub hears_window : State → Bool
+hears_window state.Established = true
+hears_window state.FinWait1 = true
+hears_window state.CloseWait = true
+hears_window state.Closing = true
+hears_window _ = false
+
+-- a segment that passes, lies in the receive window, counts as one without a control bit, and tells a window
+pub record TellsWindow (v : View) (s : Segment) : Type 0 where
+  pub hears : hears_window v.state ≡ true
+  pub passes : verdict_of v s.control s.ack_number ≡ verdicts.Pass
+  pub inside : is_inside (receive_window v) s.seq_number (length s.payload) ≡ true
+  pub no_bit : counted_control s.control (receive_window v) s.seq_number (length s.payload) ≡ control.None
+  pub window : 0 < s.window_len
+
+-- bytes wait, or a FIN does
+abbrev pub HasToSend : View → Type 0
+HasToSend v = (0 < length v.tx_buffer.bytes) ⊎ (is_closing v.state ≡ true)
+
+-- where nothing is in flight, what waits is due after a segment that tells a window
+abbrev pub WindowWakes : Type 0
+WindowWakes = (v : View) (now : Instant) (word : ℕ) (ip : IpRepr) (s : Segment) (t : Tuple) (f : Facts) (stamps : Bool)
+    → IsReached v
+    → word < 2 ^ 32
+    → IsNumbered s
+    → TellsWindow v s
+    → flight (processed v now word ip s).view ≡ 0
+    → HasToSend (processed v now word ip s).view
+    → data_due (processed v now word ip s).view t f stamps ≡ true
+
+-- the third duplicate in turn: it acknowledges nothing new while something is in flight, without bytes and with the
+-- window as it was
+pub record IsThirdDuplicate (v : View) (s : Segment) (ack : TcpSeqNumber) : Type 0 where
+  pub number : s.ack_number ≡ Some ack
+  pub nothing : AcksNothing v s
+  pub duplicate : is_duplicate v ack (length s.payload) (is_window_changed v s.control s.window_len) ≡ true
+  pub two_before : v.local_rx_dup_acks ≡ 2
+
+-- where something is in flight, the third duplicate makes a fast retransmission due
+abbrev pub ThirdDuplicateWakes : Type 0
+ThirdDuplicateWakes = (v : View) (now : Instant) (word : ℕ) (ip : IpRepr) (s : Segment) (ack : TcpSeqNumber)
+    → IsReached v
+    → IsNumbered s
+    → TellsWindow v s
+    → IsThirdDuplicate v s ack
+    → (processed v now word ip s).view.timer ≡ timer.FastRetransmit
