@@ -20,7 +20,7 @@ use Rattle.sock_dgram.specs.UdpDispatch.{hops_of}
 use Rattle.sock_dgram.specs.declared.icmp.endpoint.Endpoint.{Endpoint}
 use Rattle.sock_dgram.specs.declared.icmp.endpoint.Endpoint.TheVariants as endpoint
 use Rattle.smoltcp_c.specs.Answers.{error_address, error_message, error_room}
-use Rattle.smoltcp_c.specs.Numbers.{address_in, byte_or_none, listen_in}
+use Rattle.smoltcp_c.specs.Numbers.{address_in, address_told, byte_or_none, listen_in}
 use Rattle.smoltcp_c.specs.Queue.{first_of, put_answer, put_behind, queued}
 use Rattle.smoltcp_c.specs.Wire.{packet_len}
 use Rattle.smoltcp_c.specs.declared.endpoints.Address.{Address}
@@ -143,6 +143,7 @@ pub record GivesIcmp (p : IcmpPacket) (remote : Address) (bs : List ℕ) (result
   pub short : length bs < count_of p → (result ≡ error_room) × (remote' ≡ remote) × (bs' ≡ bs)
   pub answer : count_of p ≤ length bs → result ≡ pos (count_of p)
   pub source : count_of p ≤ length bs → address_in remote' ≡ remote_of p
+  pub told : count_of p ≤ length bs → remote' ≡ address_told (remote_of p)
   pub bytes : count_of p ≤ length bs → bs' ≡ octets_of p ++ drop (count_of p) bs
 
 -- ---- a message to send

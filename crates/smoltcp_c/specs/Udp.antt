@@ -11,7 +11,7 @@ use Rattle.sock_dgram.specs.Udp.{View, Accepts, fresh, is_sendable, metadata_of,
 use Rattle.sock_dgram.specs.UdpDispatch.{Outgoing, from_source, source_of}
 use Rattle.sock_dgram.specs.declared.udp.socket.UdpMetadata.{UdpMetadata}
 use Rattle.smoltcp_c.specs.Answers.{error_address, error_room}
-use Rattle.smoltcp_c.specs.Numbers.{address_in, byte_or_none, endpoint_in, listen_in}
+use Rattle.smoltcp_c.specs.Numbers.{address_in, address_or_none_told, byte_or_none, endpoint_in, endpoint_told, listen_in}
 use Rattle.smoltcp_c.specs.Queue.{first_of, put_answer, put_behind, queued}
 use Rattle.smoltcp_c.specs.Wire.{packet_len}
 use Rattle.smoltcp_c.specs.declared.endpoints.Address.{Address}
@@ -41,6 +41,11 @@ address_or_none n = if n.version == 0 then None else Some (address_in n)
 
 abbrev pub metadata_in : UdpNumbers → UdpMetadata
 metadata_in n = record { endpoint = endpoint_in n.endpoint; local_address = address_or_none n.local_address }
+
+-- the numbers for it: the bytes of the other version are 0
+abbrev pub metadata_told : UdpMetadata → UdpNumbers
+metadata_told m =
+    record { endpoint = endpoint_told m.endpoint; local_address = address_or_none_told m.local_address }
 
 -- ---- a packet that comes
 
@@ -77,6 +82,7 @@ pub record GivesUdp (p : UdpPacket) (meta : UdpNumbers) (bs : List ℕ) (result 
   pub short : length bs < length p.datagram.payload → (result ≡ error_room) × (meta' ≡ meta) × (bs' ≡ bs)
   pub answer : length p.datagram.payload ≤ length bs → result ≡ pos (length p.datagram.payload)
   pub metadata : length p.datagram.payload ≤ length bs → metadata_in meta' ≡ metadata_of p.ip p.datagram.header
+  pub told : length p.datagram.payload ≤ length bs → meta' ≡ metadata_told (metadata_of p.ip p.datagram.header)
   pub bytes : length p.datagram.payload ≤ length bs
       → bs' ≡ p.datagram.payload ++ drop (length p.datagram.payload) bs
 

@@ -41,6 +41,7 @@ ghost use Rattle.smoltcp_c.specs.Udp.{
   first_datagram,
   is_long,
   metadata_in,
+  metadata_told,
   sendable,
   sent_answer,
   sent_behind,
@@ -289,7 +290,8 @@ fn given(ip: &IpRepr, repr: &UdpRepr, payload: &[u8], meta: &mut UdpNumbers, dat
 }
 
 fn numbers_of(ip: &IpRepr, repr: &UdpRepr) -> UdpNumbers
-    ensures { metadata_in result ≡ metadata_of ip.now repr.now }
+    ensures value { metadata_in result ≡ metadata_of ip.now repr.now }
+    ensures told { result ≡ metadata_told (metadata_of ip.now repr.now) }
 {
     let endpoint = endpoint_of(IpEndpoint {
         addr: ip.src_addr(),
