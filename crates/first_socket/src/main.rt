@@ -1,16 +1,13 @@
 //! A first program: a client asks, a server answers in capitals, and each closes. Packets pass as bytes, in memory.
 #![tactic(auto)]
 
-mod context;
-
-use crate::context::Interface;
+use host_context::{Interface, Outbox, Seeded, dispatch_tcp, receive_tcp, take_packets};
 use host_guard::Guard;
 use host_guard::guard::TIMEOUT;
-use segment_wire::packet;
 use smoltcp_socket::Context;
 use smoltcp_socket::storage::RingBuffer;
 use smoltcp_socket::tcp::{Socket, State};
-use smoltcp_socket::wire::{IpAddress, IpEndpoint, IpListenEndpoint, IpRepr, Ipv4Address, TcpRepr};
+use smoltcp_socket::wire::{IpAddress, IpEndpoint, IpListenEndpoint, Ipv4Address};
 use std::alloc::AllocError;
 use std::process::ExitCode;
 
@@ -24,7 +21,7 @@ const LONGEST: u32 = 60_000;
 // A host with one socket.
 #[derive(Drop)]
 struct Host<'a> {
-    interface: Interface,
+    interface: Interface<Seeded, Outbox>,
     socket: Socket<'a>,
     guard: Guard,
 }
@@ -47,7 +44,7 @@ impl<'a> Host<'a> {
     fn new(rt: &HostRuntime, addr: Ipv4Address, mut socket: Socket<'a>) -> Host<'a> {
         socket.set_timeout(Some(TIMEOUT));
         Host {
-            interface: Interface::new(rt.alloc(), addr),
+            interface: Interface::new(addr, Seeded { state: 1 }, Outbox::new(rt.alloc())),
             socket,
             guard: Guard::new(),
         }
@@ -58,8 +55,8 @@ impl<'a> Host<'a> {
 fn run(rt: &HostRuntime, mut client: Host<'_>, mut server: Host<'_>) -> Result<(), AllocError> {
     open(&mut client, &mut server);
     for now in 0..LONGEST {
-        client.interface.now = now;
-        server.interface.now = now;
+        client.interface.set_millis(now);
+        server.interface.set_millis(now);
         ask(rt, &mut client.socket);
         answer(rt, &mut server.socket);
         pass(&mut client, &mut server)?;
@@ -125,25 +122,10 @@ fn pass(from: &mut Host<'_>, to: &mut Host<'_>) -> Result<(), AllocError> {
     let now = from.interface.now();
     from.guard.watch(&mut from.socket, now);
     if from.guard.take_turn(now) {
-        from.socket.dispatch(
-            &mut from.interface,
-            |cx: &mut Interface, sent: (IpRepr, TcpRepr<'_>)| cx.emit(&sent.0, &sent.1),
-        )?;
+        dispatch_tcp(&mut from.socket, &mut from.interface)?;
     }
-    for packet in from.interface.take_outbox() {
-        receive(&mut to.socket, &mut to.interface, packet.as_slice())?;
-    }
-    Ok(())
-}
-
-fn receive(socket: &mut Socket<'_>, cx: &mut Interface, packet: &[u8]) -> Result<(), AllocError> {
-    let Ok((ip, repr)) = packet::parse_tcp(packet, &cx.checksum_caps()) else {
-        return Ok(());
-    };
-    if repr.payload.len() <= 65535 && socket.accepts(cx, &ip, &repr) {
-        if let Some((ip, reply)) = socket.process(cx, &ip, &repr) {
-            cx.emit(&ip, &reply)?;
-        }
+    for packet in take_packets(&mut from.interface) {
+        receive_tcp(&mut to.socket, &mut to.interface, packet.as_slice())?;
     }
     Ok(())
 }

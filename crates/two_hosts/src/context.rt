@@ -1,16 +1,8 @@
 //! What the sockets of a host ask of it in every call.
-ghost use Rattle.std.specs.Prelude.{◌*ℤ◌, ◌<◌, ◌^◌, pos, false, replicate, Some, None};
-ghost use Rattle.ip_wire.specs.Checksum.{all_checksums};
-ghost use Rattle.ip_wire.specs.declared.address.IpAddress.TheVariants as address;
-ghost use Rattle.ip_wire.specs.declared.checksum.Checksum.TheVariants.{Both};
 ghost use Rattle.two_hosts.specs.Words.{word_after};
 
 use crate::packet::Packet;
-use smoltcp_socket::Context;
-use smoltcp_socket::time::Instant;
-use smoltcp_socket::wire::{
-    ChecksumCapabilities, IcmpRepr, IpAddress, IpRepr, Ipv4Address, Ipv6Address, TcpRepr, UdpRepr,
-};
+use smoltcp_socket::wire::{IcmpRepr, IpRepr, Ipv4Address, TcpRepr, UdpRepr};
 use std::alloc::{AllocError, Global};
 use std::mem;
 
@@ -23,126 +15,83 @@ pub const B: Ipv4Address = Ipv4Address([10, 0, 0, 2]);
 /// The largest IP packet of the wire, in bytes.
 pub const MTU: usize = 1500;
 
-/// A network interface with one IPv4 address: the context of every call of a socket, and the packets that sockets have
-/// emitted.
+/// The context of every call of a socket, and the packets that sockets have emitted.
+pub type Interface = host_context::Interface<Words, Outbox>;
+
+/// The packets that were emitted and are not on the wire yet, the oldest first.
 #[derive(Drop)]
-pub struct Interface {
+pub struct Outbox {
     /// Where it allocates.
     pub alloc: Global,
-    /// Its address.
-    pub addr: Ipv4Address,
-    /// The time, in milliseconds since the program's start.
-    pub now: u32,
-    /// The next word, from which a new connection numbers its bytes: of a generator that starts with a seed, so that a
-    /// run can be repeated. A host on a network where anybody may listen draws from a better source.
-    pub word: u32,
-    /// The packets that were emitted and are not on the wire yet, the oldest first.
-    pub outbox: Vec<Packet>,
-    // so every moment is one that a context may have
-    pub ghost fits: { now < 2 ^ 32 },
+    packets: Vec<Packet>,
 }
 
-impl Interface {
-    /// The packets in the outbox, which is empty afterwards.
-    pub fn take_outbox(&mut self) -> Vec<Packet> {
-        let empty = Vec::new(self.alloc);
-        mem::replace(&mut self.outbox, empty)
-    }
-
-    /// Sets the time, in milliseconds since the program's start.
-    pub fn set_time(&mut self, now: u32) {
-        self.now = now;
-    }
-
-    /// Puts a TCP segment into the outbox.
-    pub fn emit_tcp(&mut self, ip: IpRepr, repr: &TcpRepr<'_>) -> Result<(), AllocError> {
-        let packet = Packet::tcp(self.alloc, ip, repr)?;
-        self.emit(packet)
-    }
-
-    /// Puts a UDP datagram into the outbox.
-    pub fn emit_udp(
-        &mut self,
-        ip: IpRepr,
-        repr: UdpRepr,
-        payload: &[u8],
-    ) -> Result<(), AllocError> {
-        let packet = Packet::udp(self.alloc, ip, repr, payload)?;
-        self.emit(packet)
-    }
-
-    /// Puts an ICMP message into the outbox. One over IPv6 is dropped, as the wire carries IPv4 alone.
-    pub fn emit_icmp(&mut self, ip: IpRepr, repr: &IcmpRepr<'_>) -> Result<(), AllocError> {
-        let IcmpRepr::Ipv4(message) = repr else {
-            return Ok(());
-        };
-        let packet = Packet::icmp(self.alloc, ip, message)?;
-        self.emit(packet)
-    }
-
-    /// Puts any other packet into the outbox.
-    pub fn emit_raw(&mut self, ip: IpRepr, payload: &[u8]) -> Result<(), AllocError> {
-        let packet = Packet::raw(self.alloc, ip, payload)?;
-        self.emit(packet)
-    }
-
-    fn emit(&mut self, packet: Packet) -> Result<(), AllocError> {
-        self.outbox.push(packet)?;
-        Ok(())
-    }
-}
-
-impl Context for Interface {
-    ghost facts = { λ i. record {
-      now = pos i.now *ℤ pos 1000;
-      mtu = 1500;
-      has_address = λ a. ⟦<IpAddress as PartialEq>⟧.eq a (address.Ipv4 i.addr);
-      source = λ d. elim d [ address.Ipv4 x ↦ Some (address.Ipv4 i.addr) | address.Ipv6 x ↦ None ];
-      source_ipv4 = λ _. Some i.addr;
-      source_ipv6 = λ _. record { 0 = replicate 16 0 };
-      broadcast = λ _. false;
-      checksums = all_checksums Both;
-    } };
-
-    ghost word_at = { λ i k. word_after i.word k };
-
-    fn now(&self) -> Instant {
-        Instant::from_millis(i64::from(self.now))
-    }
-
-    fn has_ip_addr(&self, addr: IpAddress) -> bool {
-        addr == IpAddress::Ipv4(self.addr)
-    }
-
-    fn get_source_address(&self, dst: &IpAddress) -> Option<IpAddress> {
-        match dst {
-            IpAddress::Ipv4(_) => Some(IpAddress::Ipv4(self.addr)),
-            IpAddress::Ipv6(_) => None,
+impl Outbox {
+    /// An empty one.
+    pub fn new(alloc: Global) -> Outbox {
+        Outbox {
+            alloc,
+            packets: Vec::new(alloc),
         }
     }
+}
 
-    fn get_source_address_ipv4(&self, _dst: &Ipv4Address) -> Option<Ipv4Address> {
-        Some(self.addr)
-    }
+/// The packets in the outbox, which is empty afterwards.
+pub fn take_outbox(cx: &mut Interface) -> Vec<Packet> {
+    let empty = Vec::new(cx.outbox.alloc);
+    mem::replace(&mut cx.outbox.packets, empty)
+}
 
-    fn get_source_address_ipv6(&self, _dst: &Ipv6Address) -> Ipv6Address {
-        Ipv6Address([0; 16])
-    }
+/// Puts a TCP segment into the outbox.
+pub fn emit_tcp(cx: &mut Interface, ip: IpRepr, repr: &TcpRepr<'_>) -> Result<(), AllocError> {
+    let packet = Packet::tcp(cx.outbox.alloc, ip, repr)?;
+    emit(cx, packet)
+}
 
-    fn is_broadcast(&self, _addr: &IpAddress) -> bool {
-        false
-    }
+/// Puts a UDP datagram into the outbox.
+pub fn emit_udp(
+    cx: &mut Interface,
+    ip: IpRepr,
+    repr: UdpRepr,
+    payload: &[u8],
+) -> Result<(), AllocError> {
+    let packet = Packet::udp(cx.outbox.alloc, ip, repr, payload)?;
+    emit(cx, packet)
+}
 
-    fn ip_mtu(&self) -> usize {
-        MTU
-    }
+/// Puts an ICMP message into the outbox. One over IPv6 is dropped, as the wire carries IPv4 alone.
+pub fn emit_icmp(cx: &mut Interface, ip: IpRepr, repr: &IcmpRepr<'_>) -> Result<(), AllocError> {
+    let IcmpRepr::Ipv4(message) = repr else {
+        return Ok(());
+    };
+    let packet = Packet::icmp(cx.outbox.alloc, ip, message)?;
+    emit(cx, packet)
+}
 
-    fn checksum_caps(&self) -> ChecksumCapabilities {
-        ChecksumCapabilities::default()
-    }
+/// Puts any other packet into the outbox.
+pub fn emit_raw(cx: &mut Interface, ip: IpRepr, payload: &[u8]) -> Result<(), AllocError> {
+    let packet = Packet::raw(cx.outbox.alloc, ip, payload)?;
+    emit(cx, packet)
+}
+
+fn emit(cx: &mut Interface, packet: Packet) -> Result<(), AllocError> {
+    cx.outbox.packets.push(packet)?;
+    Ok(())
+}
+
+/// A generator of random words that starts with its seed, so that a run can be repeated. A host on a network where
+/// anybody may listen draws from a better source.
+#[derive(Drop)]
+pub struct Words {
+    /// The next word.
+    pub word: u32,
+}
+
+impl host_context::Words for Words {
+    ghost word_at = { λ w k. word_after w.word k };
 
     #[tactic(auto, unfolding(crate::specs::Words::word_after))]
-    fn rand_u32(&mut self) -> u32 {
+    fn next(&mut self) -> u32 {
         let word = self.word;
         self.word = word.wrapping_mul(1_664_525).wrapping_add(1_013_904_223);
         word

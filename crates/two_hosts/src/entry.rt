@@ -1,6 +1,6 @@
 //! A socket of a host, and what the host remembers beside it.
 
-use crate::context::Interface;
+use crate::context::{Interface, emit_icmp, emit_raw, emit_tcp, emit_udp};
 use host_guard::guard::{Guard, TURNS};
 use smoltcp_socket::tcp::State;
 use smoltcp_socket::wire::{IcmpRepr, IpRepr, TcpRepr, UdpRepr};
@@ -78,14 +78,14 @@ fn dispatch_one(socket: &mut Socket<'_>, interface: &mut Interface) -> Result<()
 fn dispatch_tcp(socket: &mut tcp::Socket<'_>, interface: &mut Interface) -> Result<(), AllocError> {
     socket.dispatch(
         interface,
-        |cx: &mut Interface, sent: (IpRepr, TcpRepr<'_>)| cx.emit_tcp(sent.0, &sent.1),
+        |cx: &mut Interface, sent: (IpRepr, TcpRepr<'_>)| emit_tcp(cx, sent.0, &sent.1),
     )
 }
 
 fn dispatch_udp(socket: &mut udp::Socket<'_>, interface: &mut Interface) -> Result<(), AllocError> {
     socket.dispatch(
         interface,
-        |cx: &mut Interface, sent: (IpRepr, UdpRepr, &[u8])| cx.emit_udp(sent.0, sent.1, sent.2),
+        |cx: &mut Interface, sent: (IpRepr, UdpRepr, &[u8])| emit_udp(cx, sent.0, sent.1, sent.2),
     )
 }
 
@@ -95,13 +95,13 @@ fn dispatch_icmp(
 ) -> Result<(), AllocError> {
     socket.dispatch(
         interface,
-        |cx: &mut Interface, sent: (IpRepr, IcmpRepr<'_>)| cx.emit_icmp(sent.0, &sent.1),
+        |cx: &mut Interface, sent: (IpRepr, IcmpRepr<'_>)| emit_icmp(cx, sent.0, &sent.1),
     )
 }
 
 fn dispatch_raw(socket: &mut raw::Socket<'_>, interface: &mut Interface) -> Result<(), AllocError> {
     socket.dispatch(
         interface,
-        |cx: &mut Interface, sent: (IpRepr, &[u8])| cx.emit_raw(sent.0, sent.1),
+        |cx: &mut Interface, sent: (IpRepr, &[u8])| emit_raw(cx, sent.0, sent.1),
     )
 }

@@ -1,7 +1,7 @@
 //! A host: a list of sockets, and the interface layer that serves them.
 ghost use Rattle.std.specs.Prelude.{◌≤◌, length};
 
-use crate::context::{Interface, MTU};
+use crate::context::{Interface, MTU, Outbox, Words, emit_tcp};
 use crate::entry::Entry;
 use crate::memory::Sockets;
 use crate::packet::{Body, Packet, with_payload};
@@ -25,13 +25,7 @@ impl<'a> Host<'a> {
     pub fn new(alloc: Global, addr: Ipv4Address, word: u32) -> Host<'a> {
         Host {
             sockets: Vec::new(alloc),
-            interface: Interface {
-                alloc,
-                addr,
-                now: 0,
-                word,
-                outbox: Vec::new(alloc),
-            },
+            interface: Interface::new(addr, Words { word }, Outbox::new(alloc)),
         }
     }
 
@@ -96,7 +90,7 @@ impl<'a> Host<'a> {
             return Ok(());
         }
         let (ip, reset) = tcp::Socket::rst_reply(ip, repr);
-        self.interface.emit_tcp(ip, &reset)
+        emit_tcp(&mut self.interface, ip, &reset)
     }
 
     // Gives a segment to the first socket that it is for, of the connections or of those that listen: a connection comes
@@ -154,7 +148,7 @@ fn take_segment(
     match socket {
         Socket::Tcp(socket) if socket.accepts(interface, ip, repr) => {
             if let Some((ip, reply)) = socket.process(interface, ip, repr) {
-                interface.emit_tcp(ip, &reply)?;
+                emit_tcp(interface, ip, &reply)?;
             }
             Ok(true)
         }

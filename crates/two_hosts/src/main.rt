@@ -18,7 +18,7 @@ mod wire;
 use crate::applications::client::Client;
 use crate::applications::server::Server;
 use crate::applications::{client, server};
-use crate::context::{A, B};
+use crate::context::{A, B, take_outbox};
 use crate::fault::Fault;
 use crate::host::Host;
 use crate::memory::Memory;
@@ -205,8 +205,8 @@ impl Simulation<'_> {
     // What happens now: packets arrive, the applications read and write, and the sockets emit what is due. A dispatch
     // may end a connection, so the applications then look again.
     fn round(&mut self) -> Result<(), AllocError> {
-        self.a.interface.set_time(self.now);
-        self.b.interface.set_time(self.now);
+        self.a.interface.set_millis(self.now);
+        self.b.interface.set_millis(self.now);
         self.receive()?;
         self.run_applications()?;
         self.emit()?;
@@ -228,9 +228,9 @@ impl Simulation<'_> {
     fn emit(&mut self) -> Result<(), AllocError> {
         self.a.dispatch()?;
         self.b.dispatch()?;
-        let from_a = self.a.interface.take_outbox();
+        let from_a = take_outbox(&mut self.a.interface);
         self.send(from_a)?;
-        let from_b = self.b.interface.take_outbox();
+        let from_b = take_outbox(&mut self.b.interface);
         self.send(from_b)
     }
 

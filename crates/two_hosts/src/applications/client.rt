@@ -139,14 +139,14 @@ impl Client {
         interface: &Interface,
         trace: &mut Trace,
     ) -> Result<(), AllocError> {
-        note_state(&mut self.state, socket, "a", interface.now, trace)?;
-        self.send_piece(socket, interface.now);
+        note_state(&mut self.state, socket, "a", interface.millis(), trace)?;
+        self.send_piece(socket, interface.millis());
         self.read_echo(socket, interface, trace)?;
         if self.state == State::Established && self.echoed.len() == TEXT.len() {
             socket.close();
-            self.compare_echo(interface.now, trace)?;
+            self.compare_echo(interface.millis(), trace)?;
         }
-        note_state(&mut self.state, socket, "a", interface.now, trace)
+        note_state(&mut self.state, socket, "a", interface.millis(), trace)
     }
 
     fn compare_echo(&self, now: u32, trace: &mut Trace) -> Result<(), AllocError> {
@@ -174,8 +174,8 @@ impl Client {
         if socket.can_recv() {
             if let Ok(count) = socket.recv_slice(&mut bytes) {
                 self.echoed.extend_from_slice(&bytes[..count])?;
-                let text = String::from_utf8_lossy(interface.alloc, &bytes[..count])?;
-                writeln!(trace.at(interface.now)?, "a: echo {text:?}")?;
+                let text = String::from_utf8_lossy(interface.outbox.alloc, &bytes[..count])?;
+                writeln!(trace.at(interface.millis())?, "a: echo {text:?}")?;
             }
         }
         Ok(())
@@ -192,13 +192,13 @@ impl Client {
             self.read_name(socket, interface, trace)?;
         }
         match self.next_question {
-            Some(at) if at <= interface.now => {
+            Some(at) if at <= interface.millis() => {
                 let server = UdpMetadata::from_endpoint(IpEndpoint {
                     addr: IpAddress::Ipv4(B),
                     port: NAME_PORT,
                 });
                 let _ = socket.send_slice(b"name?", server);
-                self.next_question = Some(interface.now.saturating_add(ASK_EVERY));
+                self.next_question = Some(interface.millis().saturating_add(ASK_EVERY));
             }
             _ => {}
         }
@@ -213,8 +213,8 @@ impl Client {
     ) -> Result<(), AllocError> {
         let mut bytes = [0u8; READ];
         if let Ok((count, from)) = socket.recv_slice(&mut bytes) {
-            let text = String::from_utf8_lossy(interface.alloc, &bytes[..count])?;
-            writeln!(trace.at(interface.now)?, "a: {from} answers {text:?}")?;
+            let text = String::from_utf8_lossy(interface.outbox.alloc, &bytes[..count])?;
+            writeln!(trace.at(interface.millis())?, "a: {from} answers {text:?}")?;
             self.next_question = None;
         }
         Ok(())
@@ -228,17 +228,17 @@ impl Client {
         trace: &mut Trace,
     ) -> Result<(), AllocError> {
         for _ in 0..PLACES {
-            read_pong(socket, interface.now, trace)?;
+            read_pong(socket, interface.millis(), trace)?;
         }
-        if self.pings < PINGS && self.next_ping <= interface.now {
+        if self.pings < PINGS && self.next_ping <= interface.millis() {
             self.pings += 1;
-            self.next_ping = interface.now.saturating_add(PING_EVERY);
+            self.next_ping = interface.millis().saturating_add(PING_EVERY);
             let request = Icmpv4Repr::EchoRequest {
                 ident: PING_IDENT,
                 seq_no: self.pings,
                 body: b"ping",
             };
-            let message = icmp_bytes(interface.alloc, &request)?;
+            let message = icmp_bytes(interface.outbox.alloc, &request)?;
             let _ = socket.send_slice(message.as_slice(), IpAddress::Ipv4(B));
         }
         Ok(())

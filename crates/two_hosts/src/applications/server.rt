@@ -69,12 +69,12 @@ impl Server {
         interface: &Interface,
         trace: &mut Trace,
     ) -> Result<(), AllocError> {
-        note_state(&mut self.state, socket, "b", interface.now, trace)?;
+        note_state(&mut self.state, socket, "b", interface.millis(), trace)?;
         send_back(socket);
         if self.state == State::CloseWait && !socket.can_recv() {
             socket.close();
         }
-        note_state(&mut self.state, socket, "b", interface.now, trace)
+        note_state(&mut self.state, socket, "b", interface.millis(), trace)
     }
 }
 
@@ -97,7 +97,7 @@ fn tell_name(
     let mut bytes = [0u8; READ];
     for _ in 0..PLACES {
         if let Ok((_, from)) = socket.recv_slice(&mut bytes) {
-            writeln!(trace.at(interface.now)?, "b: {from} asks for the name")?;
+            writeln!(trace.at(interface.millis())?, "b: {from} asks for the name")?;
             let _ = socket.send_slice(b"host b", from);
         }
     }
@@ -129,7 +129,7 @@ fn answer_ping(socket: &mut icmp::Socket<'_>, interface: &Interface) -> Result<(
                 seq_no,
                 body,
             };
-            let answer = icmp_bytes(interface.alloc, &reply)?;
+            let answer = icmp_bytes(interface.outbox.alloc, &reply)?;
             let _ = socket.send_slice(answer.as_slice(), from);
         }
     }
@@ -145,7 +145,10 @@ fn show_packets(
     let mut bytes = [0u8; READ];
     for _ in 0..PLACES {
         if let Ok(count) = socket.recv_slice(&mut bytes) {
-            writeln!(trace.at(interface.now)?, "b: a raw packet of {count} bytes")?;
+            writeln!(
+                trace.at(interface.millis())?,
+                "b: a raw packet of {count} bytes"
+            )?;
         }
     }
     Ok(())
