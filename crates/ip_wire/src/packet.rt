@@ -188,7 +188,9 @@ impl<'a> Ipv6Packet<'a> {
 impl Ipv4Repr {
     /// The header of a packet, without its options.
     ///
-    /// An error for another version than 4, and where received checksums are tested for one that does not verify.
+    /// An error for another version than 4, and where received checksums are tested for one that does not verify. Not
+    /// looked at are the options, the hop limit, the addresses, and the flags and the offset: also the header of a
+    /// fragment is read, whose payload is a piece of another packet's.
     pub fn parse(packet: &Ipv4Packet<'_>, caps: &ChecksumCapabilities) -> Result<Ipv4Repr, Error>
         ensures { result_ok result ≡ ipv4_parsed (is_received caps.now.ipv4) packet.now.buffer.now }
     {
