@@ -1,7 +1,9 @@
 //! The host: its sockets, and the interface layer that serves them.
 ghost use Rattle.std.specs.Prelude.{◌≤◌, length};
 
-use crate::interface::Interface;
+use crate::interface::{
+    Interface, clear, emit_icmpv4, emit_icmpv6, emit_tcp, emit_udp, records, set_time,
+};
 use crate::outbox::Full;
 use crate::service::{SERVICES, Service};
 use crate::slot::Slot;
@@ -68,14 +70,14 @@ impl<'a> Host<'a> {
 
     /// The records of the packets that are to be written.
     pub fn records(&self) -> &[u8] {
-        self.interface.records()
+        records(&self.interface)
     }
 
     /// Takes an IP packet at a moment, in microseconds; one of no bytes only says what time it is. What the sockets
     /// answer, and what is due, waits to be written afterwards, in place of what waited before.
     pub fn receive(&mut self, micros: usize, packet: &[u8]) -> Result<(), AllocError> {
-        self.interface.clear();
-        self.interface.set_time(micros);
+        clear(&mut self.interface);
+        set_time(&mut self.interface, micros);
         self.listen();
         if !packet.is_empty() {
             self.counts.arrived = self.counts.arrived.wrapping_add(1);
@@ -126,8 +128,8 @@ impl<'a> Host<'a> {
         }
         let _ = self.udp.dispatch(
             &mut self.interface,
-            |cx: &mut Interface, sent: (IpRepr, UdpRepr, &[u8])| cx.emit_udp(
-                sent.0, sent.1, sent.2,
+            |cx: &mut Interface, sent: (IpRepr, UdpRepr, &[u8])| emit_udp(
+                cx, &sent.0, &sent.1, sent.2,
             ),
         );
         Ok(())
@@ -259,7 +261,7 @@ impl Host<'_> {
         self.counts.refused = self.counts.refused.wrapping_add(1);
         if repr.control != TcpControl::Rst {
             let (ip, reset) = tcp::Socket::rst_reply(ip, repr);
-            let _ = self.interface.emit_tcp(ip, &reset);
+            let _ = emit_tcp(&mut self.interface, &ip, &reset);
         }
     }
 
@@ -301,7 +303,7 @@ impl Host<'_> {
             payload_len: reply.buffer_len(),
             hop_limit: 64,
         };
-        let _ = self.interface.emit_icmpv4(ip, &reply);
+        let _ = emit_icmpv4(&mut self.interface, &ip, &reply);
     }
 
     // The same over IPv6 (RFC 4443, section 4.2).
@@ -326,7 +328,7 @@ impl Host<'_> {
             payload_len: reply.buffer_len(),
             hop_limit: 64,
         };
-        let _ = self.interface.emit_icmpv6(ip, &reply);
+        let _ = emit_icmpv6(&mut self.interface, &ip, &reply);
     }
 }
 

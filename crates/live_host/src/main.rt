@@ -14,7 +14,6 @@ mod request;
 mod run;
 mod service;
 mod slot;
-mod words;
 
 use crate::fault::Fault;
 use crate::host::Counts;

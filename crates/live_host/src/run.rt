@@ -5,6 +5,7 @@ use crate::host::{Counts, Host};
 use crate::interface::Interface;
 use crate::outbox::Outbox;
 use crate::slot::Slot;
+use host_context::Seeded;
 use pcap::stream::{Format, HEADER, LONGEST, PcapError, RECORD, Record, stream_header};
 use smoltcp_socket::storage::{PacketBuffer, RingBuffer};
 use smoltcp_socket::wire::{IpListenEndpoint, Ipv4Address};
@@ -93,7 +94,7 @@ fn with_sockets<R: Read, W: Write>(
         PacketBuffer::new(&mut tx_places, &mut tx),
     );
     let _ = udp.bind(ECHO);
-    let interface = Interface::new(setup.addr, setup.seed, outbox);
+    let interface = Interface::new(setup.addr, Seeded { state: setup.seed }, outbox);
     exchange(Host::new(alloc, slots, udp, interface), input, output)
 }
 

@@ -2,7 +2,7 @@
 ghost use Rattle.std.specs.Prelude.{◌≤◌, length};
 
 use crate::http::Http;
-use crate::interface::Interface;
+use crate::interface::{Interface, emit_tcp};
 use crate::outbox::Full;
 use crate::page::Traffic;
 use crate::service::Service;
@@ -92,7 +92,7 @@ impl<'a> Slot<'a> {
         let listened = self.socket.state() == State::Listen;
         if self.socket.accepts(interface, ip, repr) {
             if let Some((ip, reply)) = self.socket.process(interface, ip, repr) {
-                let _ = interface.emit_tcp(ip, &reply);
+                let _ = emit_tcp(interface, &ip, &reply);
             }
         }
         if listened {
@@ -135,7 +135,7 @@ impl<'a> Slot<'a> {
             }
             self.socket.dispatch(
                 interface,
-                |cx: &mut Interface, sent: (IpRepr, TcpRepr<'_>)| cx.emit_tcp(sent.0, &sent.1),
+                |cx: &mut Interface, sent: (IpRepr, TcpRepr<'_>)| emit_tcp(cx, &sent.0, &sent.1),
             )?;
         }
         Ok(())
