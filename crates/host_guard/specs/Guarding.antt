@@ -1,5 +1,6 @@
 -- The limits that a host sets its TCP connections.
-use Rattle.std.specs.Prelude.{ℕ, Bool, true, false, nat_le, int_le, ◌-ℤ◌, unsigned_abs, if◌then◌else◌, Option, Some, None}
+use Rattle.std.specs.Prelude.{ℕ, ◌+◌, ◌==◌, ◌&&◌, Bool, true, false, nat_le, nat_lt, int_le, ◌-ℤ◌, unsigned_abs, if◌then◌else◌}
+use Rattle.std.specs.Prelude.{Option, Some, None}
 use Rattle.net_base.specs.declared.time.Duration.{Duration}
 use Rattle.net_base.specs.declared.time.Instant.{Instant}
 use Rattle.sock_core.specs.declared.context.PollAt.{PollAt}
@@ -27,6 +28,10 @@ longest_fin_wait_2 = record { micros = 60000000 }
 abbrev pub pace : Duration
 pace = record { micros = 20000 }
 
+-- how many dispatches a socket may have at one moment
+abbrev pub turns : ℕ
+turns = 64
+
 abbrev pub timeout_in : State → Duration
 timeout_in state.Listen = handshake
 timeout_in state.SynReceived = handshake
@@ -36,7 +41,8 @@ timeout_in _ = timeout
 abbrev pub apart : Instant → Instant → ℕ
 apart t u = unsigned_abs (t.micros -ℤ u.micros)
 
--- ---- what is remembered of a socket: since when it is in FIN-WAIT-2, and when it was dispatched last in it
+-- ---- what is remembered of a socket: since when it is in FIN-WAIT-2, when it was dispatched last in it, and at which
+-- moment it was dispatched last, and how often
 
 -- the earlier of what was known and now
 abbrev pub first_seen : Option Instant → Instant → Instant
@@ -70,6 +76,20 @@ abbrev pub may_dispatch : Option Instant → Option Instant → Instant → Bool
 may_dispatch None last now = true
 may_dispatch (Some t) None now = true
 may_dispatch (Some t) (Some u) now = nat_le pace.micros (apart now u)
+
+-- how often the socket was dispatched at this moment
+abbrev pub taken_at : Option Instant → ℕ → Instant → ℕ
+taken_at None taken now = 0
+taken_at (Some t) taken now = if apart now t == 0 then taken else 0
+
+-- not too often at this moment, and not too soon
+abbrev pub may_take : ℕ → Option Instant → Option Instant → Instant → Bool
+may_take taken since last now = nat_lt taken turns && may_dispatch since last now
+
+-- how often it was, after one was asked for and allowed or not
+abbrev pub taken_after : Bool → ℕ → ℕ
+taken_after true taken = taken + 1
+taken_after false taken = taken
 
 -- the last dispatch in FIN-WAIT-2, after one was asked for and allowed or not
 abbrev pub last_after : Bool → Option Instant → Option Instant → Instant → Option Instant

@@ -1,5 +1,5 @@
 //! What a host looks at beside each of its TCP sockets, in each round of its loop.
-ghost use Rattle.std.specs.Prelude.{◌≡◌, ◌≤◌, ◌^◌, None};
+ghost use Rattle.std.specs.Prelude.{◌≡◌, ◌≤◌, ◌^◌, None, Some};
 ghost use Rattle.sock_core.specs.Bounds.{IsMoment};
 ghost use Rattle.sock_tcp.specs.Polls.{earlier};
 ghost use Rattle.sock_tcp.specs.Timers.{IsLastTs, after};
@@ -10,9 +10,11 @@ ghost use Rattle.host_guard.specs.Guarding.{
   last_after,
   last_in,
   may_dispatch,
+  may_take,
   not_before,
-  paced,
   since_in,
+  taken_after,
+  taken_at,
   timeout_in,
   watched,
 };
@@ -38,6 +40,10 @@ pub const LONGEST_FIN_WAIT_2: Duration = Duration { micros: 60_000_000 };
 /// and with a probe timer that is left over every dispatch emits one: so they are 50 in a second at most.
 pub const PACE: Duration = Duration { micros: 20_000 };
 
+/// How many dispatches a socket has at one moment at most: more than the 45 segments of full size that a queue of 65536
+/// bytes holds, so that only what goes on without end is cut.
+pub const TURNS: usize = 64;
+
 /// What a host remembers beside a TCP socket.
 #[derive(Debug, Drop)]
 pub struct Guard {
@@ -45,6 +51,9 @@ pub struct Guard {
     pub since: Option<Instant>,
     /// When it was last dispatched in FIN-WAIT-2.
     pub last: Option<Instant>,
+    /// When it was last dispatched in any state, and how often at that moment.
+    pub moment: Option<Instant>,
+    pub taken: usize,
     // so a moment that is later by a minute fits its type
     pub ghost since_lawful: { IsLastTs since },
     pub ghost last_lawful: { IsLastTs last },
@@ -55,10 +64,13 @@ impl Guard {
     pub fn new() -> Guard
         ensures since { result.since ≡ None }
         ensures last { result.last ≡ None }
+        ensures moment { result.moment ≡ None }
     {
         Guard {
             since: None,
             last: None,
+            moment: None,
+            taken: 0,
         }
     }
 
@@ -71,6 +83,8 @@ impl Guard {
         requires { IsMoment now.micros }
         ensures since { self.new.since ≡ since_in socket.old.control_block.state self.old.since now }
         ensures last { self.new.last ≡ last_in socket.old.control_block.state self.old.last }
+        ensures moment { self.new.moment ≡ self.old.moment }
+        ensures taken { self.new.taken ≡ self.old.taken }
         ensures socket { socket.new.control_block ≡ watched self.new.since socket.old.control_block now }
         ensures generator { socket.new.tsval_generator ≡ socket.old.tsval_generator }
     {
@@ -86,6 +100,8 @@ impl Guard {
         requires { IsMoment now.micros }
         ensures since { self.new.since ≡ since_in state self.old.since now }
         ensures last { self.new.last ≡ last_in state self.old.last }
+        ensures moment { self.new.moment ≡ self.old.moment }
+        ensures taken { self.new.taken ≡ self.old.taken }
     {
         match state {
             State::FinWait2 => {
@@ -98,17 +114,27 @@ impl Guard {
         }
     }
 
-    /// Whether the socket may be dispatched at this moment: in FIN-WAIT-2 not within `PACE` of the last dispatch that
-    /// was allowed there, in the other states always. What is allowed is remembered.
+    /// Whether the socket may be dispatched at this moment: at most `TURNS` times, and in FIN-WAIT-2 not within `PACE` of
+    /// the last dispatch that was allowed there. What is allowed is remembered, so that a loop which asks before each
+    /// dispatch ends, however often it is begun at one moment.
     pub fn take_turn(&mut self, now: Instant) -> bool
         requires { IsMoment now.micros }
-        ensures turn { result ≡ may_dispatch self.old.since self.old.last now }
+        ensures turn { result
+            ≡ may_take (taken_at self.old.moment self.old.taken now) self.old.since self.old.last now }
         ensures since { self.new.since ≡ self.old.since }
         ensures last { self.new.last ≡ last_after result self.old.since self.old.last now }
+        ensures moment { self.new.moment ≡ Some now }
+        ensures taken { self.new.taken ≡ taken_after result (taken_at self.old.moment self.old.taken now) }
     {
-        let may = may_dispatch(self.since, self.last, now);
-        if may && self.since.is_some() {
-            self.last = Some(now);
+        let taken = taken_at(self.moment, self.taken, now);
+        let may = taken < TURNS && may_dispatch(self.since, self.last, now);
+        self.moment = Some(now);
+        self.taken = taken;
+        if may {
+            self.taken = taken + 1;
+            if self.since.is_some() {
+                self.last = Some(now);
+            }
         }
         may
     }
@@ -164,6 +190,15 @@ fn may_dispatch(since: Option<Instant>, last: Option<Instant>, now: Instant) -> 
     match (since, last) {
         (Some(_), Some(last)) => PACE.micros <= (now - last).micros,
         _ => true,
+    }
+}
+
+fn taken_at(moment: Option<Instant>, taken: usize, now: Instant) -> usize
+    ensures { result ≡ taken_at moment taken now }
+{
+    match moment {
+        Some(moment) if (now - moment).micros == 0 => taken,
+        _ => 0,
     }
 }
 

@@ -18,10 +18,6 @@ use smoltcp_socket::wire::{
 use smoltcp_socket::{Context, tcp, udp};
 use std::alloc::{AllocError, Global};
 
-// How many segments one socket may emit after a packet has come or time has passed: more than the 45 of full size that
-// its send buffer holds, so that only what would go on without end is cut.
-const TURN: usize = 64;
-
 // The broadcast to every host on the wire (RFC 919).
 const ALL: IpAddress = IpAddress::Ipv4(Ipv4Address([255, 255, 255, 255]));
 
@@ -116,7 +112,7 @@ impl<'a> Host<'a> {
         }
     }
 
-    // The services run, and the sockets emit: each once, at most so many segments, as far as there is room.
+    // The services run, and the sockets emit, one after the other, as far as there is room.
     fn serve(&mut self) -> Result<(), AllocError> {
         for slot in &mut self.slots {
             slot.watch(&self.interface);
@@ -124,7 +120,7 @@ impl<'a> Host<'a> {
         }
         echo_datagrams(&mut self.udp);
         for slot in &mut self.slots {
-            if slot.dispatch(&mut self.interface, TURN).is_err() {
+            if slot.dispatch(&mut self.interface).is_err() {
                 return Ok(());
             }
         }

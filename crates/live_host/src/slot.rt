@@ -6,7 +6,7 @@ use crate::interface::Interface;
 use crate::outbox::Full;
 use crate::page::Traffic;
 use crate::service::Service;
-use host_guard::guard::{Guard, KEEP_ALIVE};
+use host_guard::guard::{Guard, KEEP_ALIVE, TURNS};
 use smoltcp_socket::tcp::State;
 use smoltcp_socket::time::Instant;
 use smoltcp_socket::wire::{IpRepr, TcpRepr};
@@ -127,10 +127,9 @@ impl<'a> Slot<'a> {
         Ok(())
     }
 
-    /// Emits what is due, at most so many segments, and in FIN-WAIT-2 no more than the guard allows; whether the outbox
-    /// was full.
-    pub fn dispatch(&mut self, interface: &mut Interface, most: usize) -> Result<(), Full> {
-        for _ in 0..most {
+    /// Emits what is due, as much as the guard allows at one moment; whether the outbox was full.
+    pub fn dispatch(&mut self, interface: &mut Interface) -> Result<(), Full> {
+        for _ in 0..TURNS {
             if !self.is_due(interface) || !self.guard.take_turn(interface.now()) {
                 break;
             }

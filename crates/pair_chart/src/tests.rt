@@ -119,7 +119,7 @@ fn handshake(rt: HostRuntime) -> Result<(), Fail> {
             ">ESTABLISHED</text>\n",
             "<path class=\"sent\" d=\"M420 361 970 379\"/>\n",
             "<text class=\"state\" x=\"980\" y=\"383\">ESTABLISHED</text>\n",
-            "<text x=\"430\" y=\"203\"><tspan class=\"index\">0</tspan> \
+            "<text class=\"label\" x=\"430\" y=\"203\"><tspan class=\"index\">0</tspan> \
             SYN seq 1000 ack - win 64 len 0 mss 1460 sackOK wscale 0</text>\n",
             ">1</tspan> SYN|ACK seq 5000 ack 1001 win 64 len 0 mss 1460 sackOK wscale 0</text>\n",
             ">2</tspan> ACK seq 1001 ack 5001 win 64 len 0</text>\n</svg>\n",

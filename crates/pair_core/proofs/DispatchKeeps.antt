@@ -121,16 +121,7 @@ any_keeps v now = record { listener = λ n. (n, refl); peer = λ t p. p }
 
 forgotten : (st : State) (o : Option Tuple) (t : Tuple) → IsPeered st o t → IsPeered st (if is_closed st then None else o) t
 forgotten state.Closed o t p = inl refl
-forgotten state.Listen o t p = p
-forgotten state.SynSent o t p = p
-forgotten state.SynReceived o t p = p
-forgotten state.Established o t p = p
-forgotten state.FinWait1 o t p = p
-forgotten state.FinWait2 o t p = p
-forgotten state.CloseWait o t p = p
-forgotten state.Closing o t p = p
-forgotten state.LastAck o t p = p
-forgotten state.TimeWait o t p = p
+forgotten _ o t p = p
 
 moved_keeps : (v : View) (s : Emitted) → Keeps v (snd_nxt_moved v s)
 unfolding snd_nxt_moved

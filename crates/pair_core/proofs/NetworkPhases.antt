@@ -17,12 +17,7 @@ dec_dead Dead k = inl refl
 pub no_iss_not_iss : (p : Phase) → HasNoIss p → HasIss p → ⊥
 no_iss_not_iss Unopened u d = d
 no_iss_not_iss Listening u d = d
-no_iss_not_iss SynSent u d = u
-no_iss_not_iss SynReceived u d = u
-no_iss_not_iss Open u d = u
-no_iss_not_iss FinQueued u d = u
-no_iss_not_iss Silent u d = u
-no_iss_not_iss Dead u d = u
+no_iss_not_iss _ u d = u
 
 -- nor does it send bytes
 pub no_iss_not_sending : (p : Phase) → HasNoIss p → p ≡ Open → ⊥
@@ -30,36 +25,21 @@ no_iss_not_sending p u e = subst HasNoIss e u
 
 -- a side that knows its peer's number has its own
 pub knows_iss : (p : Phase) → KnowsPeer p → HasIss p
-knows_iss Unopened m = m
-knows_iss Listening m = m
 knows_iss SynSent m = absurd m
-knows_iss SynReceived m = m
-knows_iss Open m = m
-knows_iss FinQueued m = m
-knows_iss Silent m = m
-knows_iss Dead m = m
+knows_iss _ m = m
 
 -- a synchronized side knows its peer's number
 pub synchronized_knows : (p : Phase) → IsSynchronized p → KnowsPeer p
-synchronized_knows Unopened m = m
-synchronized_knows Listening m = m
-synchronized_knows SynSent m = m
 synchronized_knows SynReceived m = absurd m
-synchronized_knows Open m = m
-synchronized_knows FinQueued m = m
-synchronized_knows Silent m = m
-synchronized_knows Dead m = m
+synchronized_knows _ m = m
 
 -- a synchronized side is not non-synchronized
 pub synchronized_not_early : (p : Phase) → IsSynchronized p → IsNonSynchronized p → ⊥
-synchronized_not_early Unopened m u = m
-synchronized_not_early Listening m u = m
-synchronized_not_early SynSent m u = m
-synchronized_not_early SynReceived m u = m
 synchronized_not_early Open m u = u
 synchronized_not_early FinQueued m u = u
 synchronized_not_early Silent m u = u
 synchronized_not_early Dead m u = u
+synchronized_not_early _ m u = m
 
 -- and has an initial number
 pub synchronized_not_no_iss : (p : Phase) → IsSynchronized p → HasNoIss p → ⊥

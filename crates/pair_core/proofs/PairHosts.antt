@@ -76,15 +76,7 @@ read_peer v n t p = p
 closed_peers : (st : State) (o : Option Tuple) (t : Tuple) → IsPeered st o t → IsPeered (closed_from st) o t
 closed_peers state.Listen o t p = inl p
 closed_peers state.SynSent o t p = inr p
-closed_peers state.SynReceived o t p = p
-closed_peers state.Established o t p = p
-closed_peers state.CloseWait o t p = p
-closed_peers state.Closed o t p = p
-closed_peers state.FinWait1 o t p = p
-closed_peers state.FinWait2 o t p = p
-closed_peers state.Closing o t p = p
-closed_peers state.LastAck o t p = p
-closed_peers state.TimeWait o t p = p
+closed_peers _ o t p = p
 
 set_peer : (s : Setting) (v : View) (t : Tuple) → IsPeered v.state v.tuple t → IsPeered (set_in s v).state (set_in s v).tuple t
 set_peer (setting.KeepAlive d) v t p = p

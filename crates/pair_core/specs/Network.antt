@@ -38,37 +38,14 @@ swapped w =
     }
 
 abbrev pub with_local : Network → Endpoint → Network
-with_local w e =
-    record {
-      local = e;
-      remote = w.remote;
-      local_segments = w.local_segments;
-      remote_segments = w.remote_segments;
-      limit = w.limit;
-    }
+with_local w e = record w { local = e }
 
 abbrev pub with_view : Endpoint → SocketView → Endpoint
-with_view e v =
-    record {
-      view = v;
-      accepted = e.accepted;
-      handed_out = e.handed_out;
-      released = e.released;
-      taken = e.taken;
-      closed = e.closed;
-      listener = e.listener;
-    }
+with_view e v = record e { view = v }
 
 -- one more segment of the local side
 abbrev pub emitted : Network → StreamSegment → Network
-emitted w g =
-    record {
-      local = w.local;
-      remote = w.remote;
-      local_segments = w.local_segments ++ g ∷ [];
-      remote_segments = w.remote_segments;
-      limit = w.limit;
-    }
+emitted w g = record w { local_segments = w.local_segments ++ g ∷ [] }
 
 -- what each call and each event leaves of the endpoint
 abbrev pub listened : Endpoint → Endpoint

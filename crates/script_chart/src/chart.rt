@@ -39,6 +39,8 @@ struct Chart<'w, 's, W> {
     // How each segment set out, and what the next one repeats.
     departures: Vec<Departure>,
     marker: Marker,
+    // The moment of the last step that had one.
+    millis: Option<u64>,
 }
 
 // How a segment set out.
@@ -49,6 +51,9 @@ struct Departure {
     // Whether it came to the other side since.
     arrived: bool,
 }
+
+// So many milliseconds between two rows are a break.
+const GAP: u64 = 500;
 
 const NOT_YET: Departure = Departure {
     row: Row::FIRST,
@@ -79,6 +84,7 @@ pub fn draw<W: Write>(
         b: State::Closed,
         departures,
         marker: Marker::new(),
+        millis: None,
     };
     match chart.draw(steps) {
         Ok(()) => End::Done,
@@ -181,6 +187,7 @@ impl<W: Write> Chart<'_, '_, W> {
         let y = self.row.second_line();
         self.number(LINE, y, last.line)?;
         if let Some(millis) = last.millis() {
+            self.millis = Some(millis);
             self.number(TIME, y, millis)?;
         }
         match last.event {
@@ -191,8 +198,34 @@ impl<W: Write> Chart<'_, '_, W> {
         }
     }
 
+    // Where time went on by much more than a row tells: a break in both lifelines, with its length.
+    fn gap(&mut self, millis: u64) -> io::Result<()> {
+        let gap = millis.saturating_sub(self.millis.unwrap_or(millis));
+        self.millis = Some(millis);
+        if gap < GAP {
+            return Ok(());
+        }
+        let y = self.row.edge();
+        let base = y.saturating_add(4);
+        for x in [lifeline(Side::A), lifeline(Side::B)] {
+            let (left, right) = (x.saturating_sub(6), x.saturating_add(6));
+            let (low, high) = (y.saturating_add(5), y.saturating_sub(1));
+            writeln!(
+                self.out,
+                "<path class=\"gap\" d=\"M{left} {y} {right} {high}M{left} {low} {right} {base}\"/>"
+            )?;
+        }
+        writeln!(
+            self.out,
+            "<text class=\"time\" x=\"{NEITHER}\" y=\"{base}\">+{gap} ms</text>"
+        )
+    }
+
     // Draws a step, and the state of each side where it is another one now.
     fn step(&mut self, step: &Step<'_>) -> io::Result<()> {
+        if let Some(millis) = step.millis() {
+            self.gap(millis)?;
+        }
         let y = self.time_line(step);
         self.number(LINE, y, step.line)?;
         if let Some(millis) = step.millis() {
@@ -341,7 +374,10 @@ impl<W: Write> Chart<'_, '_, W> {
         departure.arrived = true;
         writeln!(self.out, "{arrow}")?;
         match refusal {
-            None => Ok(()),
+            None => {
+                self.marker.hear(segment);
+                Ok(())
+            }
             Some(why) => self.beside(from.other(), "refused-text", why),
         }
     }

@@ -18,7 +18,8 @@ pub struct Label<'a> {
 }
 
 impl fmt::Display for Label<'_> {
-    // The text, before it a box that dims the arrows behind it. A text that is too long is condensed.
+    // The text, with an edge of the page's colour, so that it can be read over an arrow, and no arrow is cut by more than
+    // its letters. A text that is too long is condensed.
     fn fmt<W: fmt::Write>(&self, f: &mut fmt::Formatter<W>) -> fmt::Result {
         let (index, y) = (self.index, self.y);
         let headers = Headers {
@@ -28,9 +29,7 @@ impl fmt::Display for Label<'_> {
         let mut length = Length(0);
         write!(length, "{index} {headers}")?;
         let (anchor, width) = (Anchor::inside(self.segment.from), length.width());
-        let shown = width.min(BETWEEN);
-        write_box(f, anchor.left(shown), y, shown)?;
-        write!(f, "<text {anchor} y=\"{y}\"")?;
+        write!(f, "<text class=\"label\" {anchor} y=\"{y}\"")?;
         if width > BETWEEN {
             write!(
                 f,
@@ -44,20 +43,6 @@ impl fmt::Display for Label<'_> {
     }
 }
 
-// Writes the box behind a text of this base line and width.
-fn write_box<W: fmt::Write>(
-    f: &mut fmt::Formatter<W>,
-    x: usize,
-    y: usize,
-    width: usize,
-) -> fmt::Result {
-    let top = y.saturating_sub(11);
-    writeln!(
-        f,
-        "<rect class=\"label\" x=\"{x}\" y=\"{top}\" width=\"{width}\" height=\"14\"/>"
-    )
-}
-
 /// The name of a side, over its lifeline.
 #[derive(Clone, Copy)]
 pub struct Name {
@@ -69,12 +54,13 @@ pub struct Name {
 }
 
 impl fmt::Display for Name {
-    // The name, before it a box that dims what lies behind it.
+    // The name, with an edge of the page's colour.
     fn fmt<W: fmt::Write>(&self, f: &mut fmt::Formatter<W>) -> fmt::Result {
         let Name { name, x, y } = *self;
-        let width = Length(name.len()).width();
-        write_box(f, x.saturating_sub(width / 2), y, width)?;
-        write!(f, "<text class=\"name\" x=\"{x}\" y=\"{y}\">{name}</text>")
+        write!(
+            f,
+            "<text class=\"label name\" x=\"{x}\" y=\"{y}\">{name}</text>"
+        )
     }
 }
 

@@ -1,14 +1,19 @@
-//! What segments repeat.
+//! What segments repeat, and what they ask.
 
 use control_wire::TcpControl;
 use sock_pair::{Segment, Side};
 use std::fmt;
 
-/// What a segment repeats of those that its side emitted before.
+/// What a segment repeats of those that its side emitted before, or what it asks.
 #[derive(Debug, Clone, Copy, PartialEq, Eq)]
 pub enum Mark {
     /// Nothing.
     New,
+    /// A zero byte in the place of one that the other side has, which asks whether it is there (RFC 9293, section
+    /// 3.8.4). No byte of a script is zero.
+    KeepAlive,
+    /// Bytes where the other side told a window of 0, so many of which were emitted before (RFC 9293, section 3.8.6.1).
+    Probe(u32),
     /// So many of its first sequence numbers were emitted before, at least one.
     Retransmission(u32),
     /// It acknowledges the same as the segment before it, with the same window, and carries nothing, while bytes of
@@ -20,6 +25,8 @@ impl fmt::Display for Mark {
     fn fmt<W: fmt::Write>(&self, f: &mut fmt::Formatter<W>) -> fmt::Result {
         match self {
             Mark::New => Ok(()),
+            Mark::KeepAlive => f.write_str("keep-alive"),
+            Mark::Probe(_) => f.write_str("zero-window probe"),
             Mark::Retransmission(_) => f.write_str("retransmission"),
             Mark::DuplicateAck(count) => write!(f, "duplicate ACK {count}"),
         }
@@ -34,12 +41,18 @@ struct Emitted {
     // The last acknowledgement and window, and how many times they were said again.
     ack: Option<(u32, u16)>,
     repeats: usize,
+    // Whether its SYN answered one.
+    answered: bool,
+    // The last acknowledgement and window that came.
+    heard: Option<(u32, u16)>,
 }
 
 const NOTHING: Emitted = Emitted {
     end: None,
     ack: None,
     repeats: 0,
+    answered: false,
+    heard: None,
 };
 
 impl Emitted {
@@ -49,6 +62,18 @@ impl Emitted {
             Some(end) if is_before(number, end) => end.wrapping_sub(number),
             _ => 0,
         }
+    }
+
+    // How many of a segment's numbers were used. A SYN that now answers one says so for the first time.
+    fn used_again(&mut self, segment: &Segment) -> u32 {
+        let answers = segment.header.control == TcpControl::Syn
+            && segment.header.ack_number.is_some();
+        if answers && !self.answered {
+            self.answered = true;
+            return 0;
+        }
+        self.used_from(segment.header.seq_number.0)
+            .min(length(segment))
     }
 
     // Counts a segment of so many numbers from this one on.
@@ -93,6 +118,17 @@ impl Marker {
         }
     }
 
+    /// The other side took this segment.
+    pub fn hear(&mut self, segment: &Segment) {
+        if let (Some(ack), false) = (segment.header.ack_number, is_reset(segment)) {
+            let heard = Some((ack.0, segment.header.window_len));
+            match segment.from {
+                Side::A => self.b.heard = heard,
+                Side::B => self.a.heard = heard,
+            }
+        }
+    }
+
     /// What this segment repeats. It counts as emitted from here on.
     pub fn mark(&mut self, segment: &Segment) -> Mark {
         match segment.from {
@@ -103,14 +139,19 @@ impl Marker {
 }
 
 fn repeated(own: &mut Emitted, other: &Emitted, segment: &Segment) -> Mark {
+    if is_zero_byte(segment) {
+        return Mark::KeepAlive;
+    }
     let (number, length) = (segment.header.seq_number.0, length(segment));
-    let again = own.used_from(number).min(length);
+    let again = own.used_again(segment);
     own.count(number, length);
     let Some(ack) = segment.header.ack_number else {
         return of_numbers(again);
     };
     let may_repeat = length == 0 && !is_reset(segment) && other.used_from(ack.0) > 0;
+    let probes = !segment.payload.is_empty() && own.heard == Some((number, 0));
     match own.acknowledge(ack.0, segment.header.window_len, may_repeat) {
+        Mark::New if probes => Mark::Probe(again),
         Mark::New => of_numbers(again),
         mark => mark,
     }
@@ -122,6 +163,10 @@ fn of_numbers(again: u32) -> Mark {
     } else {
         Mark::New
     }
+}
+
+fn is_zero_byte(segment: &Segment) -> bool {
+    segment.payload.len() == 1 && segment.payload.first() == Some(&0)
 }
 
 fn is_reset(segment: &Segment) -> bool {

@@ -57,6 +57,11 @@ impl Row {
         }
     }
 
+    /// The row's upper edge.
+    pub fn edge(self) -> usize {
+        self.below(0)
+    }
+
     /// Where a segment arrives.
     pub fn arrival(self) -> usize {
         self.below(9)
@@ -129,14 +134,6 @@ impl Anchor {
         match side {
             Side::A => Anchor::Start(LINE_A + 10),
             Side::B => Anchor::End(LINE_B - 10),
-        }
-    }
-
-    /// Where a text of this width begins.
-    pub fn left(self, width: usize) -> usize {
-        match self {
-            Anchor::Start(x) => x,
-            Anchor::End(x) => x.saturating_sub(width),
         }
     }
 

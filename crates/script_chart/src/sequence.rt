@@ -198,8 +198,8 @@ impl<W: Write> Picture<'_, '_, W> {
         self.frame()?;
         self.line(steps, "acked", false)?;
         self.line(steps, "window", true)?;
-        self.answers(steps)?;
         self.bars(steps)?;
+        self.answers(steps)?;
         writeln!(self.out, "</svg>")
     }
 
@@ -242,7 +242,11 @@ impl<W: Write> Picture<'_, '_, W> {
 
     // The marks of the numbers.
     fn numbers(&mut self) -> io::Result<()> {
-        let end = LEFT - 8;
+        let (end, above) = (LEFT - 8, TOP - 8);
+        writeln!(
+            self.out,
+            "<text class=\"mark\" x=\"{end}\" text-anchor=\"end\" y=\"{above}\">number</text>"
+        )?;
         for index in 0..16u64 {
             if let Some(mark) = self.number.mark(index) {
                 let y = self.number.place(mark);
@@ -350,7 +354,8 @@ impl<W: Write> Picture<'_, '_, W> {
         let from = heard.offset(segment.header.seq_number.0);
         let to = from.saturating_add(u64::from(length(segment)));
         let again = match mark {
-            Mark::Retransmission(count) => u64::from(count),
+            Mark::Retransmission(count) | Mark::Probe(count) => u64::from(count),
+            Mark::KeepAlive => u64::from(length(segment)),
             _ => 0,
         };
         let middle = from.saturating_add(again);

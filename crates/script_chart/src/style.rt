@@ -10,7 +10,8 @@ path { fill: none; stroke-width: 1.5; }
 .name { font-weight: bold; text-anchor: middle; }
 .time, .index, .quiet { fill: #656d76; }
 .state { fill: #1a7f37; font-weight: bold; }
-.label { fill: #ffffff; opacity: 0.85; }
+.label { paint-order: stroke; stroke: #ffffff; stroke-width: 3px; stroke-linejoin: round; }
+.gap { stroke: #8c959f; }
 .sent { stroke: #0969da; marker-end: url(#head); }
 .sent-mark { fill: #0969da; }
 .reply { stroke: #8250df; marker-start: url(#dot); marker-end: url(#reply-head); }
@@ -32,7 +33,8 @@ text { fill: #e6edf3; }
 .lifeline { stroke: #6e7681; }
 .time, .index, .quiet { fill: #8d96a0; }
 .state { fill: #3fb950; }
-.label { fill: #0d1117; }
+.label { stroke: #0d1117; }
+.gap { stroke: #6e7681; }
 .sent { stroke: #4493f8; }
 .sent-mark { fill: #4493f8; }
 .reply { stroke: #ab7df8; }

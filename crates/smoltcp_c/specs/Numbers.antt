@@ -1,11 +1,10 @@
 -- What the numbers of C mean, and the numbers for what C is told.
-use Rattle.std.specs.Prelude.{ℕ, ℤ, pos, negsuc, ◌≡◌, ◌==◌, Bool, not, Option, Some, None, List, [], ◌∷◌, if◌then◌else◌}
+use Rattle.std.specs.Prelude.{ℕ, ℤ, nat_le, ◌^◌, true, pos, negsuc, ◌≡◌, ◌==◌, Bool, not, Option, Some, None, List, [], ◌∷◌, if◌then◌else◌}
 use Rattle.ip_wire.specs.declared.address.IpAddress.{IpAddress}
 use Rattle.ip_wire.specs.declared.address.IpAddress.TheVariants as address
 use Rattle.ip_wire.specs.declared.endpoint.IpEndpoint.{IpEndpoint}
 use Rattle.ip_wire.specs.declared.endpoint.IpListenEndpoint.{IpListenEndpoint}
 use Rattle.net_base.specs.declared.time.Duration.{Duration}
-use Rattle.sock_tcp.specs.Parts.{is_short}
 use Rattle.sock_tcp.specs.declared.settings.CongestionControl.{CongestionControl}
 use Rattle.sock_tcp.specs.declared.settings.CongestionControl.TheVariants as congestion
 use Rattle.smoltcp_c.specs.declared.endpoints.Address.{Address}
@@ -19,6 +18,11 @@ flag_in n = not (n == 0)
 abbrev pub micros_in : ℤ → Option Duration
 micros_in (pos n) = Some (record { micros = n })
 micros_in (negsuc n) = None
+
+-- what a setting may be
+abbrev pub is_short : Option Duration → Bool
+is_short None = true
+is_short (Some d) = nat_le d.micros (2 ^ 61)
 
 -- the same where it is not above 2^61 microseconds
 unfoldable pub lasting : ℤ → Option (Option Duration)

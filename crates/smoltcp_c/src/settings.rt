@@ -3,12 +3,11 @@ ghost use Rattle.std.specs.Prelude.{◌≡◌, ◌==◌, ◌↔◌, ◌≤◌, p
 ghost use Rattle.std.specs.Option.{IfSome};
 ghost use Rattle.net_base.specs.declared.time.Duration.{Duration};
 ghost use Rattle.sock_tcp.specs.Closing.{keep_alive_set};
-ghost use Rattle.sock_tcp.specs.Parts.{is_short};
 ghost use Rattle.sock_tcp.specs.Settings.{kind_of, of_kind};
 ghost use Rattle.sock_tcp.specs.View.{IsShort, View};
 ghost use Rattle.sock_tcp.specs.declared.settings.CongestionControl.{CongestionControl};
 ghost use Rattle.smoltcp_c.specs.Answers.{error_range, flag_answer};
-ghost use Rattle.smoltcp_c.specs.Numbers.{byte_or_none, control_by, flag_in, lasting, micros_in};
+ghost use Rattle.smoltcp_c.specs.Numbers.{byte_or_none, control_by, flag_in, is_short, lasting, micros_in};
 ghost use Rattle.smoltcp_c.specs.Tcp.{Refuses, Sets, byte_told, clock, clock_set, kind_told, micros_told, view, with_both, with_view};
 
 use crate::answers::{ERROR_RANGE, OK, flag_answer};

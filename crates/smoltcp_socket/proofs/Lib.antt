@@ -1,3 +1,4 @@
 -- What the proofs of `downcast_mut` share.
 pub mod LentVariant
 pub mod LentKind
+pub mod FoundKinds

@@ -6,5 +6,3 @@ pub mod Receiving
 pub mod ReceiveBuffers
 pub mod Estimators
 pub mod Renos
-pub mod Apartness
-pub mod EstimatorTests

@@ -11,6 +11,3 @@ pub mod Received
 pub mod Estimator
 pub mod Reno
 pub mod Congestion
-pub mod Parts
-pub mod EstimatorParts
-pub mod RenoParts

@@ -1,7 +1,6 @@
 //! Congestion control: how many bytes may be in flight (RFC 5681). As smoltcp's Reno, or none.
 ghost use Rattle.std.specs.Prelude.{◌≡◌, ℕ, ◌-◌, ◌^◌, ◌<◌, ◌≤◌, List};
 ghost use Rattle.sock_core.specs.Reno.{RenoNumbers};
-ghost use Rattle.sock_core.specs.RenoParts.{reno_of};
 ghost use Rattle.sock_core.specs.Congestion.{fresh_reno, bounded, growth, halved, capped};
 ghost use Rattle.sock_core.specs.Congestion.{reno_acked, reno_dup_acked, reno_lost, reno_timed_out};
 ghost use Rattle.sock_core.specs.Congestion.{reno_with_mss, reno_with_remote_window};
@@ -93,23 +92,6 @@ pub struct Reno {
     in_recovery: bool,
 }
 
-/// What Reno keeps, in bytes.
-#[derive(Debug, Clone, Copy)]
-pub struct RenoParts {
-    /// The congestion window.
-    pub cwnd: usize,
-    /// The peer's maximum segment size.
-    pub mss: usize,
-    /// The greatest window that the peer gave.
-    pub rwnd: usize,
-    /// The window at which slow start ends.
-    pub ssthresh: usize,
-    /// Whether a timeout came, and no new data was acknowledged since.
-    pub in_timeout: bool,
-    /// Whether fast recovery lasts.
-    pub in_recovery: bool,
-}
-
 impl Model for Reno {
     ghost use Rattle.sock_core.specs.Reno.{RenoNumbers};
 
@@ -179,34 +161,6 @@ impl Reno {
             ssthresh: usize::MAX,
             in_timeout: false,
             in_recovery: false,
-        }
-    }
-
-    /// Reno that keeps these parts, whatever they are.
-    pub fn from_parts(parts: &RenoParts) -> Reno
-        ensures { result ≡ reno_of parts.now }
-    {
-        Reno {
-            cwnd: parts.cwnd,
-            mss: parts.mss,
-            rwnd: parts.rwnd,
-            ssthresh: parts.ssthresh,
-            in_timeout: parts.in_timeout,
-            in_recovery: parts.in_recovery,
-        }
-    }
-
-    /// What Reno keeps.
-    pub fn parts(&self) -> RenoParts
-        ensures { reno_of result ≡ self.now }
-    {
-        RenoParts {
-            cwnd: self.cwnd,
-            mss: self.mss,
-            rwnd: self.rwnd,
-            ssthresh: self.ssthresh,
-            in_timeout: self.in_timeout,
-            in_recovery: self.in_recovery,
         }
     }
 

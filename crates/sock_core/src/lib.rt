@@ -4,7 +4,6 @@
 
 pub mod congestion;
 pub mod context;
-pub mod parts;
 pub mod places;
 pub mod ranges;
 pub mod receive_buffer;
@@ -12,7 +11,6 @@ pub mod rtte;
 pub mod seq;
 
 pub use context::{Context, PollAt};
-pub use parts::ReceiveParts;
 pub use ranges::{Ranges, TooManyRanges};
 pub use receive_buffer::ReceiveBuffer;
 pub use rtte::RttEstimator;

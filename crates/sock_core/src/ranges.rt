@@ -66,30 +66,6 @@ impl Ranges {
         }
     }
 
-    // These ranges are held, in this order, behind a front at place 0: at most four, apart by at least one byte, the
-    // first at least one byte behind the front, and the last at most 2^30 bytes.
-    pub(crate) fn from_ranges(ranges: &[Range]) -> Ranges
-        requires few { length ranges.now ≤ 4 }
-        requires apart { Apart 1 ranges.now }
-        requires near { AllNear ranges.now }
-        ensures { result ≡ record { front = 0; ranges = ranges.now } }
-    {
-        Ranges {
-            places: as_places(ranges, 0),
-            first: 0,
-            end: ranges.len(),
-            front: 0,
-        }
-    }
-
-    // The ranges as offsets from the front, the first `len` of these.
-    pub(crate) fn to_ranges(&self) -> [Range; 4]
-        ensures long { length result ≡ 4 }
-        ensures ranges { take (length self.now.ranges) result ≡ self.now.ranges }
-    {
-        as_offsets(&self.places[self.first..self.end], self.front)
-    }
-
     /// Whether nothing is held.
     pub fn is_empty(&self) -> bool
         ensures { result ≡ (length self.now.ranges == 0) }

@@ -4,13 +4,11 @@ ghost use Rattle.std.specs.Prelude.{length, take, drop, min, is_some, slice_get,
 ghost use Rattle.std.specs.Fn.{FnOnceReturnsAt};
 ghost use Rattle.net_base.specs.Ranges.{edges, is_held, Apart};
 ghost use Rattle.net_base.specs.Ring.{capacity_of};
-ghost use Rattle.sock_core.specs.Parts.{lies_within, buffer_of};
 ghost use Rattle.sock_core.specs.Received.{Received, receiving, room_of, byte_at, holds_nothing, ranges_of};
 ghost use Rattle.sock_core.specs.Received.{makes_fifth_range, taken_in, handed_out, cleared, range_around};
 ghost use Rattle.sock_core.specs.Received.{IsLetIn, TakesIn, JoinsAtOnce, DequeuesBytesWith, IsWireRange, ReachesAsOffsets};
 ghost use Rattle.sock_core.specs.Received.{first_piece};
 
-use crate::parts::ReceiveParts;
 use crate::ranges::Ranges;
 use net_base::ring_buffer::RingBuffer;
 use std::marker::Model;
@@ -78,40 +76,6 @@ impl<'a> ReceiveBuffer<'a> {
             ring,
             ranges: Ranges::new(),
         }
-    }
-
-    /// The buffer in this slice of at most 2^30 places whose queue and ranges lie there so: one that was taken apart by
-    /// `into_parts`.
-    pub fn from_parts(storage: &'a mut [u8], parts: &ReceiveParts) -> ReceiveBuffer<'a>
-        requires size { length storage.old ≤ 2 ^ 30 }
-        requires lawful { lies_within parts.now (length storage.old) ≡ true }
-        ensures { result ≡ buffer_of parts.now storage.old }
-    {
-        ReceiveBuffer {
-            ring: RingBuffer::from_parts(storage, parts.read_at, parts.count),
-            ranges: Ranges::from_ranges(&parts.held[..parts.held_count]),
-        }
-    }
-
-    /// The slice, and where the queue and the ranges lie in it.
-    pub fn into_parts(self) -> (&'a mut [u8], ReceiveParts)
-        ensures size { length result.0.now ≤ 2 ^ 30 }
-        ensures lawful { lies_within result.1 (length result.0.now) ≡ true }
-        ensures parts { buffer_of result.1 result.0.now ≡ self.entry }
-    {
-        let ReceiveBuffer { ring, ranges } = self;
-        let held = ranges.to_ranges();
-        let held_count = ranges.len();
-        let (storage, read_at, count) = ring.into_parts();
-        (
-            storage,
-            ReceiveParts {
-                read_at,
-                count,
-                held,
-                held_count,
-            },
-        )
     }
 
     /// What is always so: there are at most 2^30 places and four ranges, and the place behind the queue is free.

@@ -3,7 +3,6 @@ ghost use Rattle.std.specs.Prelude.{◌≡◌, ◌*◌, ◌≤◌, List, true, i
 ghost use Rattle.sock_core.specs.Estimator.{fresh_estimator, sampled, sent, acked, backed_off, retransmitted};
 ghost use Rattle.sock_core.specs.Estimator.{smoothed_by, timeout_of, AreSmall, IsTimeout, srtt_of, rttvar_of};
 ghost use Rattle.sock_core.specs.Estimator.{Call, after_calls};
-ghost use Rattle.sock_core.specs.EstimatorParts.{is_small, is_estimator, estimator_of};
 
 use crate::seq::before;
 use control_wire::TcpSeqNumber;
@@ -40,21 +39,6 @@ pub struct Timing {
     pub at: Instant,
     /// The number.
     pub number: TcpSeqNumber,
-}
-
-/// What an estimator keeps.
-#[derive(Debug, Clone, Copy)]
-pub struct EstimatorParts {
-    /// The measurement, once there was a sample.
-    pub smoothed: Option<Smoothed>,
-    /// The retransmission timeout in milliseconds, from 1,000 to 60,000 in an estimator.
-    pub rto: u32,
-    /// The number that is timed.
-    pub timing: Option<Timing>,
-    /// The highest number that was sent.
-    pub highest: Option<TcpSeqNumber>,
-    /// The timeouts since the last sample, or since the measurement was cleared: at most 2 in an estimator.
-    pub backoffs: u8,
 }
 
 /// Estimates how long a segment and its acknowledgement travel, and from that how long to wait for an acknowledgement
@@ -115,38 +99,6 @@ pub fn timeout_stays_in_range()
 {}
 
 impl RttEstimator {
-    /// The estimator that keeps these parts, where its numbers lie in their ranges.
-    #[tactic(auto, using(crate::proofs::EstimatorTests::made_estimator))]
-    pub fn from_parts(parts: &EstimatorParts) -> Option<RttEstimator>
-        ensures { result ≡ (if is_estimator parts.now then Some (estimator_of parts.now) else None) }
-    {
-        if !is_estimator(parts) {
-            return None;
-        }
-        Some(RttEstimator {
-            smoothed: parts.smoothed,
-            rto: parts.rto,
-            timing: parts.timing,
-            highest: parts.highest,
-            backoffs: parts.backoffs,
-        })
-    }
-
-    /// What the estimator keeps. An estimator can be made of it.
-    #[tactic(auto, using(crate::proofs::EstimatorTests::estimator_passes))]
-    pub fn parts(&self) -> EstimatorParts
-        ensures lawful { is_estimator result ≡ true }
-        ensures parts { estimator_of result ≡ self.now }
-    {
-        EstimatorParts {
-            smoothed: self.smoothed,
-            rto: self.rto,
-            timing: self.timing,
-            highest: self.highest,
-            backoffs: self.backoffs,
-        }
-    }
-
     /// How long to wait for an acknowledgement.
     pub fn retransmission_timeout(&self) -> Duration
         ensures value { result.micros ≡ self.now.rto * 1000 }
@@ -240,25 +192,6 @@ impl RttEstimator {
         ensures { self.new ≡ retransmitted self.old }
     {
         self.timing = None;
-    }
-}
-
-// Whether the numbers lie in their ranges.
-fn is_estimator(parts: &EstimatorParts) -> bool
-    ensures { result ≡ is_estimator parts.now }
-{
-    is_small(parts.smoothed)
-        && LEAST_TIMEOUT <= parts.rto
-        && parts.rto <= LONGEST_TIMEOUT
-        && parts.backoffs < TIMEOUTS_TO_CLEAR
-}
-
-fn is_small(smoothed: Option<Smoothed>) -> bool
-    ensures { result ≡ is_small smoothed }
-{
-    match smoothed {
-        None => true,
-        Some(s) => s.srtt <= LONGEST_SAMPLE && s.rttvar <= LONGEST_SAMPLE,
     }
 }
 

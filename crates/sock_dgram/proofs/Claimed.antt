@@ -1,6 +1,6 @@
 -- A packet that was appended as its bytes stood is one of these bytes.
-use Rattle.std.proofs.Common.{◌≡◌, ℕ, ◌+◌, ◌≤◌, List, [], ◌∷◌, ◌++◌, length, take, drop, Bool, true, false, cond, Some, refl, sym, ap, ◌∙◌, arith, length-drop, length-take-le}
-use Rattle.std.specs.Prelude.{not, Result, Ok, Err, is_ok, if◌then◌else◌}
+use Rattle.std.proofs.Common.{◌≡◌, ℕ, ◌+◌, ◌≤◌, List, [], ◌∷◌, ◌++◌, length, take, drop, Bool, true, false, cond, Some, refl, sym, ap, subst, ◌∙◌, arith, length-drop, length-take-le}
+use Rattle.std.specs.Prelude.{Result, Ok, Err, is_ok, if◌then◌else◌}
 use Rattle.std.proofs.lemmas.List.{same_lists, places}
 use lib.ListN.{replicate, length-replicate}
 use Rattle.net_base.specs.Packets.{Packets, packets, packets_with, end_of, made_room, takes, with_storage, Claims}
@@ -8,7 +8,10 @@ use Rattle.net_base.specs.PacketLends.{with_all, around}
 use Rattle.net_base.proofs.Refilled.{refill_same}
 use Rattle.net_base.specs.Ring.{overwrite}
 use Rattle.net_base.proofs.PacketLists.{made_room_packets, packets-append}
-use Rattle.sock_dgram.specs.Datagrams.{put, stored}
+use Rattle.sock_dgram.specs.Datagrams.{put, stored, send_answer_if, after_send_if}
+use Rattle.sock_dgram.specs.Traffic.{Traffic, sends}
+use Rattle.sock_dgram.specs.declared.error.SendError.{SendError}
+use Rattle.sock_dgram.specs.declared.error.SendError.TheVariants as send_error
 
 rewritten : (bs : List ℕ) (k n : ℕ) → k + n ≤ length bs → length (take n (drop k bs)) ≡ n → overwrite bs k (take n (drop k bs)) ≡ bs
 rewritten bs k n within long = same_lists _ _ (grind (arith, places)) (λ i d h. grind (arith, places))
@@ -16,10 +19,6 @@ rewritten bs k n within long = same_lists _ _ (grind (arith, places)) (λ i d h.
 pub if_in : {X Y : Type 0} (f : X → Y) (b : Bool) (x y : X) → f (if b then x else y) ≡ (if b then f x else f y)
 if_in f true x y = refl
 if_in f false x y = refl
-
-pub if_not : {X : Type 0} (b : Bool) (x y : X) → (if not b then x else y) ≡ (if b then y else x)
-if_not true x y = refl
-if_not false x y = refl
 
 module _ {M : Type 0} (size : ℕ) (meta : M) (old new : Packets M) where
   claimed : (from : ℕ) → Claims size meta old true from new → (bs : List ℕ) × (length bs ≡ size) × (new ≡ put meta bs (made_room size old))
@@ -90,3 +89,24 @@ module _ {M : Type 0} (size : ℕ) (meta : M) (old new : Packets M) where
     sent_ok true true k j from claimed = taken_as from (claimed refl)
     sent_ok true false k j from claimed = cc
     sent_ok false t k j from claimed = cc
+
+-- what `claim` did of a socket is `send_slice` of some bytes: `may` says whether the addresses allow it, and `flag` is what `claim` answered of that
+module _ (O : Type 0) {V M : Type 0} (tx : V → Packets M) (with_tx : V → Packets M → V) (size : ℕ) (m : M) (v w : V) (same : w ≡ with_tx v (tx w)) (own : with_tx v (tx v) ≡ v) (may flag : Bool) (is : flag ≡ may) where
+  abbrev SendsSome : Result (Unit {0}) SendError → Type 0
+  SendsSome r = (bytes : List ℕ) × (length bytes ≡ size) × ((r ≡ send_answer_if may (length bytes) (tx v)) × (w ≡ after_send_if tx with_tx may m bytes v)
+      × (packets (tx w).entries ≡ cond (is_ok r) (packets (tx v).entries ++ (m, bytes) ∷ []) (packets (tx v).entries)) × (sends {O = O} (is_ok r) (m, bytes) ≡ sends (is_ok r) (m, bytes)))
+
+  sends_some : (r : Result (Unit {0}) SendError) → Sent size m (tx v) (tx w) send_error.BufferFull send_error.Unaddressable flag r → SendsSome r
+  sends_some r h =
+      let s = subst (λ t. Sent size m (tx v) (tx w) send_error.BufferFull send_error.Unaddressable t r) is h in
+      (s.bytes, s.count, (s.answer, same ∙ ap (with_tx v) s.after ∙ if_in (with_tx v) may (stored m s.bytes (tx v)) (tx v) ∙ ap (λ (x : V). if may then with_tx v (stored m s.bytes (tx v)) else x) own, s.queue, refl))
+
+  pub some_unaddressable : flag ≡ false → (flag ≡ false → w ≡ v) → SendsSome (Err send_error.Unaddressable)
+  some_unaddressable refused stayed = sends_some (Err send_error.Unaddressable) (sent_unaddressable size m (tx v) (tx w) send_error.BufferFull send_error.Unaddressable flag refused (λ k. ap tx (stayed k)))
+
+  module _ (taken : Bool) (from : ℕ) (yes : flag ≡ true) (claims : flag ≡ true → Claims size m (tx v) taken from (tx w)) where
+    pub some_full : taken ≡ false → SendsSome (Err send_error.BufferFull)
+    some_full none = sends_some (Err send_error.BufferFull) (sent_full size m (tx v) (tx w) send_error.BufferFull send_error.Unaddressable flag taken yes none from claims)
+
+    pub some_sent : taken ≡ true → SendsSome (Ok tt)
+    some_sent room = sends_some (Ok tt) (sent_ok size m (tx v) (tx w) send_error.BufferFull send_error.Unaddressable flag taken yes room from claims)

@@ -1,6 +1,6 @@
 -- Each call of an ICMP socket keeps the order of both queues.
-use Rattle.std.proofs.Common.{◌≡◌, ℕ, List, take, Bool, true, false, Result, Ok, Err, refl, ap, ◌∙◌}
-use Rattle.std.specs.Prelude.{is_ok, if◌then◌else◌}
+use Rattle.std.proofs.Common.{◌≡◌, ℕ, List, Bool, true, false, Result, Ok, Err, refl, ap, ◌∙◌}
+use Rattle.std.specs.Prelude.{is_ok, not, if◌then◌else◌}
 use Rattle.std.specs.Borrow.{MutBor}
 use Rattle.std.specs.Fn.{Once}
 use Rattle.ip_wire.specs.declared.repr.IpRepr.{IpRepr}
@@ -12,15 +12,14 @@ use Rattle.control_wire.specs.declared.icmp.IcmpRepr.{IcmpRepr}
 use Rattle.net_base.specs.Packets.{takes}
 use Rattle.sock_core.specs.Emission.{Emit}
 use Rattle.sock_core.specs.Facts.{Facts}
-use Rattle.sock_dgram.proofs.Orders.{idle, sending, departing, queueing, receiving, copying_out, runs}
+use Rattle.sock_dgram.proofs.Orders.{idle, sending, departing, queueing, receiving, copying_out, sent_with, runs}
 use Rattle.sock_dgram.specs.Datagrams.{stored}
 use Rattle.sock_dgram.specs.Traffic.{Traffic, InOrder, Runs}
 use Rattle.sock_dgram.specs.Icmp.{View, received, waiting, bind_answer, after_bind}
 use Rattle.sock_dgram.specs.IcmpFilter.{octets_v4, octets_v6}
-use Rattle.sock_dgram.specs.IcmpCalls.{Call, Look, Bind, SetHopLimit, SendSlice, SendWith, Recv, RecvSlice, ProcessV4, ProcessV6, Dispatch, Written, Effect}
+use Rattle.sock_dgram.specs.IcmpCalls.{Call, Look, Bind, SetHopLimit, SendSlice, SendWith, Recv, RecvSlice, ProcessV4, ProcessV6, Dispatch, Effect}
 use Rattle.sock_dgram.specs.IcmpDispatch.{Outgoing, outgoing}
 use Rattle.sock_dgram.specs.declared.error.BindError.{BindError}
-use Rattle.sock_dgram.specs.declared.error.SendError.{SendError}
 use Rattle.sock_dgram.specs.declared.icmp.endpoint.Endpoint.{Endpoint}
 
 -- ---- what other calls leave as it was
@@ -33,18 +32,12 @@ bound_received : (r : Result (Unit {0}) BindError) (v : View) (e : Endpoint) →
 bound_received (Ok u) v e = refl
 bound_received (Err x) v e = refl
 
-sent_received : (b : Bool) (v : View) (m : IpAddress) (bs : List ℕ) → received (if b then v else record v { tx_buffer = stored m bs v.tx_buffer }) ≡ received v
+sent_received : (b : Bool) (v : View) (m : IpAddress) (bs : List ℕ) → received (if b then record v { tx_buffer = stored m bs v.tx_buffer } else v) ≡ received v
 sent_received true v m bs = refl
 sent_received false v m bs = refl
 
 module _ {C E F G : Type 0} (facts : C → Facts) (emit : Emit F C (IpRepr × IcmpRepr) E)
     (write : Once G (MutBor (List ℕ) × Unit {0}) (ℕ × (MutBor (List ℕ) × Unit {0}))) where
-  -- of a socket of which the transmit buffer alone changed
-  written : (r : Result ℕ SendError) (size : ℕ) (m : IpAddress) (f : G) (v : View) (t : Traffic IpAddress Outgoing) (w : View) → Written facts emit write r size m f v t w → received w ≡ received v
-      → InOrder t (waiting v) (received v) (waiting w) (received w)
-  written (Ok kept) size m f v t w h same = sending t true (m, take kept h.0.appends.left) (waiting v) (received v) (waiting w) (received w) h.1 h.0.packets same
-  written (Err x) size m f v t w h same = idle t (waiting v) (received v) (waiting w) (received w) h.1 h.0 same
-
   step : (k : Call C E F G) (v : View) (t : Traffic IpAddress Outgoing) (w : View) → Effect facts emit write k v t w → InOrder t (waiting v) (received v) (waiting w) (received w)
   step Look v t w h = idle t (waiting v) (received v) (waiting w) (received w) h.1 (ap waiting h.0) (ap received h.0)
   step (Bind e) v t w h =
@@ -52,8 +45,8 @@ module _ {C E F G : Type 0} (facts : C → Facts) (emit : Emit F C (IpRepr × Ic
       idle t (waiting v) (received v) (waiting w) (received w) h.1 (ap waiting h.0 ∙ bound_waiting r v e) (ap received h.0 ∙ bound_received r v e)
   step (SetHopLimit n) v t w h = idle t (waiting v) (received v) (waiting w) (received w) h.1 (ap waiting h.0) (ap received h.0)
   step (SendSlice bs m r) v t w h =
-      sending t (is_ok r) (m, bs) (waiting v) (received v) (waiting w) (received w) h.3 h.2 (ap received h.1 ∙ sent_received (is_unspecified m) v m bs)
-  step (SendWith size m f r) v t w h = written r size m f v t w h.0 (ap received h.1)
+      sending t (is_ok r) (m, bs) (waiting v) (received v) (waiting w) (received w) h.3 h.2 (ap received h.1 ∙ sent_received (not (is_unspecified m)) v m bs)
+  step (SendWith size m f r) v t w h = sent_with write r size m f t v.tx_buffer w.tx_buffer (received v) (received w) h.0 (ap received h.1)
   step (Recv r) v t w h = receiving t r v.rx_buffer w.rx_buffer (waiting v) (waiting w) h.2 h.0 h.1.queue.packets (ap waiting h.1.same)
   step (RecvSlice before after r) v t w h =
       copying_out t before after r v.rx_buffer w.rx_buffer (waiting v) (waiting w) h.2 h.0 h.1.queue.packets (ap waiting h.1.same)

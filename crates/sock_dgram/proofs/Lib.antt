@@ -3,16 +3,14 @@ pub mod Claimed
 pub mod Emitting
 pub mod Filling
 pub mod IcmpOrders
-pub mod IcmpTx
 pub mod LentField
 pub mod Orders
 pub mod RawOrders
 pub mod RawSetting
 pub mod RawTwice
-pub mod RawTx
 pub mod Reading
 pub mod Refusals
+pub mod SendWalk
 pub mod Storing
 pub mod UdpOrders
 pub mod UdpSources
-pub mod UdpTx

@@ -3,11 +3,13 @@ use Rattle.std.proofs.Common.{◌≡◌, ℕ, List, [], ◌∷◌, ◌++◌, len
 use Rattle.std.proofs.lemmas.Bool.{false≢true}
 use Rattle.std.proofs.lemmas.List.{map-append, take_at}
 use Rattle.std.proofs.lemmas.Option.{none-some, same_Some}
-use Rattle.std.specs.Prelude.{◌+◌, IfOk, is_ok, nat_lt, slice_get, if◌then◌else◌}
-use Rattle.net_base.specs.Packets.{Packets, packets}
+use Rattle.std.specs.Borrow.{MutBor}
+use Rattle.std.specs.Fn.{Once, FnOnceReturnsAtMut}
+use Rattle.std.specs.Prelude.{◌+◌, IfOk, OnErr, is_ok, nat_lt, slice_get, if◌then◌else◌}
+use Rattle.net_base.specs.Packets.{Packets, packets, Enqueues}
 use Rattle.net_base.specs.Ring.{overwrite}
 use Rattle.sock_dgram.specs.Datagrams.{answered, take_answer, copy_answer, copied}
-use Rattle.sock_dgram.specs.Traffic.{Cleared, Traffic, nothing, followed_by, sends, exit_of, departs, queues, read, reads, copied_out, copies_out, clears, InOrder, Reads, Copies, Runs}
+use Rattle.sock_dgram.specs.Traffic.{Cleared, Traffic, Written, nothing, followed_by, sends, exit_of, departs, queues, read, reads, copied_out, copies_out, clears, InOrder, Reads, Copies, Runs}
 use Rattle.sock_dgram.specs.declared.error.RecvError.{RecvError}
 use Rattle.sock_dgram.specs.declared.error.RecvError.TheVariants as recv_error
 
@@ -106,6 +108,19 @@ module _ {M O : Type 0} where
     transmit = chain a.departed b.departed a.sent b.sent x y z first.transmit second.transmit;
     receive = chain a.taken b.taken a.queued b.queued r q s first.receive second.receive;
   }
+
+-- ---- `send_with`, of a socket of which the transmit buffer alone changed
+
+module _ {M O G E : Type 0} (write : Once G (MutBor (List ℕ) × Unit {0}) (ℕ × (MutBor (List ℕ) × Unit {0}))) where
+  pub written : (r : Result ℕ E) (size : ℕ) (m : M) (f : G) (old new : Packets M) → IfOk r (λ kept. Enqueues (FnOnceReturnsAtMut write f) size m old kept new) → OnErr r (packets new.entries ≡ packets old.entries)
+      → (t : Traffic M O) × Written write r size m f old t new
+  written (Ok kept) size m f old new e same = (sends true (m, take kept e.appends.left), (e, refl))
+  written (Err x) size m f old new e same = (nothing, (same, refl))
+
+  pub sent_with : (r : Result ℕ E) (size : ℕ) (m : M) (f : G) (t : Traffic M O) (old new : Packets M) (x y : List (M × List ℕ)) → Written write r size m f old t new → y ≡ x
+      → InOrder t (packets old.entries) x (packets new.entries) y
+  sent_with (Ok kept) size m f t old new x y h same = sending t true (m, take kept h.0.appends.left) (packets old.entries) x (packets new.entries) y h.1 h.0.packets same
+  sent_with (Err e) size m f t old new x y h same = idle t (packets old.entries) x (packets new.entries) y h.1 h.0 same
 
 -- ---- lists of calls, whose packets are seen in some way
 

@@ -14,9 +14,9 @@ use Rattle.sock_dgram.proofs.Orders.{idle, sending, departing, queueing, receivi
 use Rattle.sock_dgram.proofs.RawTwice.{prepared_again}
 use Rattle.sock_dgram.specs.Datagrams.{answered, take_answer, with_metadata}
 use Rattle.sock_dgram.specs.Raw.{View, received, waiting, whole_packet}
-use Rattle.sock_dgram.specs.RawCalls.{Call, Look, SendSlice, SendWith, Recv, RecvSlice, Peek, Process, Dispatch, beside_metadata, Written, Effect, without_checksum, bare, bare_traffic}
+use Rattle.sock_dgram.specs.RawCalls.{Call, Look, SendSlice, SendWith, Recv, RecvSlice, Peek, Process, Dispatch, beside_metadata, Effect, without_checksum, bare, bare_traffic}
 use Rattle.sock_dgram.specs.RawDispatch.{Outgoing, first_prepared}
-use Rattle.sock_dgram.specs.Traffic.{Exit, Traffic, followed_by, sends, departs, InOrder, Runs}
+use Rattle.sock_dgram.specs.Traffic.{Exit, Traffic, Written, followed_by, sends, departs, InOrder, Runs}
 use Rattle.sock_dgram.specs.declared.error.RecvError.{RecvError}
 use Rattle.sock_dgram.specs.declared.raw.error.SendError.{SendError}
 
@@ -60,7 +60,7 @@ values (Err x) first e = e
 
 module _ {C E F G : Type 0} (facts : C → Facts) (emit : Emit F C (IpRepr × Bor (List ℕ)) E)
     (write : Once G (MutBor (List ℕ) × Unit {0}) (ℕ × (MutBor (List ℕ) × Unit {0}))) where
-  written : (r : Result ℕ SendError) (size : ℕ) (f : G) (v : View) (t : Traffic (Unit {0}) Outgoing) (w : View) → Written facts emit write r size f v t w → received w ≡ received v
+  written : (r : Result ℕ SendError) (size : ℕ) (f : G) (v : View) (t : Traffic (Unit {0}) Outgoing) (w : View) → Written write r size tt f v.tx_buffer t w.tx_buffer → received w ≡ received v
       → InOrder (bare_traffic t) (bare (waiting v)) (received v) (bare (waiting w)) (received w)
   written (Ok kept) size f v t w h same =
       let d : Unit {0} × List ℕ = (tt, take kept h.0.appends.left) in

@@ -1,5 +1,5 @@
 -- Each call of a UDP socket keeps the order of both queues.
-use Rattle.std.proofs.Common.{◌≡◌, ℕ, List, length, take, Bool, true, false, Result, Ok, Err, refl, sym, ap, subst, ◌∙◌}
+use Rattle.std.proofs.Common.{◌≡◌, ℕ, List, length, Bool, true, false, Result, Ok, Err, refl, sym, ap, subst, ◌∙◌}
 use Rattle.std.specs.Prelude.{is_ok, if◌then◌else◌}
 use Rattle.std.specs.Borrow.{Bor, MutBor}
 use Rattle.std.specs.Fn.{Once}
@@ -9,14 +9,13 @@ use Rattle.net_base.specs.Packets.{takes}
 use Rattle.net_base.proofs.PacketLists.{packets_skipped}
 use Rattle.sock_core.specs.Emission.{Emit}
 use Rattle.sock_core.specs.Facts.{Facts}
-use Rattle.sock_dgram.proofs.Orders.{idle, sending, departing, queueing, clearing, receiving, copying_out, runs}
+use Rattle.sock_dgram.proofs.Orders.{idle, sending, departing, queueing, clearing, receiving, copying_out, sent_with, runs}
 use Rattle.sock_dgram.specs.Datagrams.{stored}
 use Rattle.sock_dgram.specs.Traffic.{Traffic, InOrder, Runs}
 use Rattle.sock_dgram.specs.Udp.{View, received, waiting, bind_answer, after_bind, is_sendable, metadata_of}
-use Rattle.sock_dgram.specs.UdpCalls.{Call, Look, Bind, Close, SetHopLimit, SendSlice, SendWith, Recv, RecvSlice, Peek, Process, Dispatch, Written, Effect}
+use Rattle.sock_dgram.specs.UdpCalls.{Call, Look, Bind, Close, SetHopLimit, SendSlice, SendWith, Recv, RecvSlice, Peek, Process, Dispatch, Effect}
 use Rattle.sock_dgram.specs.UdpDispatch.{Outgoing, outgoing}
 use Rattle.sock_dgram.specs.declared.error.BindError.{BindError}
-use Rattle.sock_dgram.specs.declared.error.SendError.{SendError}
 use Rattle.sock_dgram.specs.declared.udp.socket.UdpMetadata.{UdpMetadata}
 use Rattle.ip_wire.specs.declared.endpoint.IpListenEndpoint.{IpListenEndpoint}
 
@@ -36,12 +35,6 @@ sent_received false v m bs = refl
 
 module _ {C E F G : Type 0} (facts : C → Facts) (emit : Emit F C (IpRepr × UdpRepr × Bor (List ℕ)) E)
     (write : Once G (MutBor (List ℕ) × Unit {0}) (ℕ × (MutBor (List ℕ) × Unit {0}))) where
-  -- of a socket of which the transmit buffer alone changed
-  written : (r : Result ℕ SendError) (size : ℕ) (m : UdpMetadata) (f : G) (v : View) (t : Traffic UdpMetadata Outgoing) (w : View) → Written facts emit write r size m f v t w → received w ≡ received v
-      → InOrder t (waiting v) (received v) (waiting w) (received w)
-  written (Ok kept) size m f v t w h same = sending t true (m, take kept h.0.appends.left) (waiting v) (received v) (waiting w) (received w) h.1 h.0.packets same
-  written (Err x) size m f v t w h same = idle t (waiting v) (received v) (waiting w) (received w) h.1 h.0 same
-
   step : (k : Call C E F G) (v : View) (t : Traffic UdpMetadata Outgoing) (w : View) → Effect facts emit write k v t w → InOrder t (waiting v) (received v) (waiting w) (received w)
   step Look v t w h = idle t (waiting v) (received v) (waiting w) (received w) h.1 (ap waiting h.0) (ap received h.0)
   step (Bind e) v t w h =
@@ -51,7 +44,7 @@ module _ {C E F G : Type 0} (facts : C → Facts) (emit : Emit F C (IpRepr × Ud
   step (SetHopLimit n) v t w h = idle t (waiting v) (received v) (waiting w) (received w) h.1 (ap waiting h.0) (ap received h.0)
   step (SendSlice bs m r) v t w h =
       sending t (is_ok r) (m, bs) (waiting v) (received v) (waiting w) (received w) h.3 h.2 (ap received h.1 ∙ sent_received (is_sendable v m) v m bs)
-  step (SendWith size m f r) v t w h = written r size m f v t w h.0 (ap received h.1)
+  step (SendWith size m f r) v t w h = sent_with write r size m f t v.tx_buffer w.tx_buffer (received v) (received w) h.0 (ap received h.1)
   step (Recv r) v t w h = receiving t r v.rx_buffer w.rx_buffer (waiting v) (waiting w) h.2 h.0 h.1.queue.packets (ap waiting h.1.same)
   step (RecvSlice before after r) v t w h =
       copying_out t before after r v.rx_buffer w.rx_buffer (waiting v) (waiting w) h.2 h.0 h.1.queue.packets (ap waiting h.1.same)

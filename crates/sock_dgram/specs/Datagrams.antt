@@ -7,6 +7,8 @@ use Rattle.sock_core.specs.declared.context.PollAt.{PollAt}
 use Rattle.sock_core.specs.declared.context.PollAt.TheVariants as poll_at
 use Rattle.sock_dgram.specs.declared.error.RecvError.{RecvError}
 use Rattle.sock_dgram.specs.declared.error.RecvError.TheVariants as recv_error
+use Rattle.sock_dgram.specs.declared.error.SendError.{SendError}
+use Rattle.sock_dgram.specs.declared.error.SendError.TheVariants as send_error
 
 -- whether a call is refused, and why
 abbrev pub answered : {X E : Type 0} → Result X E → Result (Unit {0}) E
@@ -73,3 +75,18 @@ module _ {M : Type 0} where
   abbrev pub copied : Option (M × List ℕ) → List ℕ → List ℕ
   copied None bs = bs
   copied (Some d) bs = if nat_lt (length bs) (length d.1) then bs else overwrite bs 0 d.1
+
+  -- ---- sending n bytes or these bytes, where `sendable` says whether the addresses allow it: they come first, then the
+  -- room. The transmit buffer of a socket is read by `tx`, and put into it by `with_tx`
+
+  abbrev pub send_answer_if : Bool → ℕ → Packets M → Result (Unit {0}) SendError
+  send_answer_if sendable n p =
+      if sendable then (if takes n p then Ok tt else Err send_error.BufferFull) else Err send_error.Unaddressable
+
+  module _ {V : Type 0} (tx : V → Packets M) (with_tx : V → Packets M → V) where
+    abbrev pub after_send_if : Bool → M → List ℕ → V → V
+    after_send_if sendable m bs v = if sendable then with_tx v (stored m bs (tx v)) else v
+
+    -- where it is refused for want of room, padding may have come to stand behind the packets
+    abbrev pub refused_send_if : Bool → ℕ → V → V
+    refused_send_if sendable n v = if sendable then with_tx v (made_room n (tx v)) else v

@@ -2,12 +2,11 @@
 use Rattle.std.specs.Prelude.{ℕ, List, Option, None, Result, Ok, Err, Bool, true, false, not, ◌==◌, if◌then◌else◌}
 use Rattle.ip_wire.specs.Address.{is_unspecified}
 use Rattle.ip_wire.specs.declared.address.IpAddress.{IpAddress}
-use Rattle.net_base.specs.Packets.{Packets, packets, made_room, takes}
-use Rattle.sock_dgram.specs.Datagrams.{stored}
+use Rattle.net_base.specs.Packets.{Packets, packets}
+use Rattle.sock_dgram.specs.Datagrams.{send_answer_if, after_send_if, refused_send_if}
 use Rattle.sock_dgram.specs.declared.error.BindError.{BindError}
 use Rattle.sock_dgram.specs.declared.error.BindError.TheVariants as bind_error
 use Rattle.sock_dgram.specs.declared.error.SendError.{SendError}
-use Rattle.sock_dgram.specs.declared.error.SendError.TheVariants as send_error
 use Rattle.sock_dgram.specs.declared.icmp.endpoint.Endpoint.{Endpoint}
 use Rattle.sock_dgram.specs.declared.icmp.endpoint.Endpoint.TheVariants as endpoint
 
@@ -19,6 +18,12 @@ pub record View : Type 0 where
 
 abbrev pub fresh : Packets IpAddress → Packets IpAddress → View
 fresh rx tx = record { endpoint = endpoint.Unspecified; rx_buffer = rx; tx_buffer = tx; hop_limit = None }
+
+abbrev pub with_rx : View → Packets IpAddress → View
+with_rx v p = record v { rx_buffer = p }
+
+abbrev pub with_tx : View → Packets IpAddress → View
+with_tx v p = record v { tx_buffer = p }
 
 -- the messages that came and were not read, and those that were not emitted yet, the oldest first
 abbrev pub received : View → List (IpAddress × List ℕ)
@@ -59,13 +64,10 @@ after_bind (Err x) v e = v
 
 -- a message of n bytes: first the destination, then the room
 abbrev pub send_answer : View → IpAddress → ℕ → Result (Unit {0}) SendError
-send_answer v dst n =
-    if is_unspecified dst then Err send_error.Unaddressable
-    else (if takes n v.tx_buffer then Ok tt else Err send_error.BufferFull)
+send_answer v dst n = send_answer_if (not (is_unspecified dst)) n v.tx_buffer
 
 abbrev pub after_send : View → IpAddress → List ℕ → View
-after_send v dst bs = if is_unspecified dst then v else record v { tx_buffer = stored dst bs v.tx_buffer }
+after_send v dst bs = after_send_if (λ v. v.tx_buffer) with_tx (not (is_unspecified dst)) dst bs v
 
--- where it is refused for want of room, padding may have come to stand behind the messages
 abbrev pub refused_send : View → IpAddress → ℕ → View
-refused_send v dst n = if is_unspecified dst then v else record v { tx_buffer = made_room n v.tx_buffer }
+refused_send v dst n = refused_send_if (λ v. v.tx_buffer) with_tx (not (is_unspecified dst)) n v

@@ -1,7 +1,7 @@
 -- The calls of an ICMP socket, each with its effect on it: the clauses of the call's own contract.
-use Rattle.std.specs.Prelude.{ℕ, ◌≡◌, List, [], ◌∷◌, ◌++◌, length, take, cond, Option, Result, Ok, Err, is_ok, true}
+use Rattle.std.specs.Prelude.{ℕ, ◌≡◌, List, [], ◌∷◌, ◌++◌, length, cond, Option, Result, is_ok}
 use Rattle.std.specs.Borrow.{MutBor}
-use Rattle.std.specs.Fn.{Once, FnOnceReturnsAtMut}
+use Rattle.std.specs.Fn.{Once}
 use Rattle.ip_wire.specs.declared.address.IpAddress.{IpAddress}
 use Rattle.ip_wire.specs.declared.address.IpAddress.TheVariants as address
 use Rattle.ip_wire.specs.declared.repr.IpRepr.{IpRepr}
@@ -9,14 +9,14 @@ use Rattle.ip_wire.specs.declared.repr.Ipv4Repr.{Ipv4Repr}
 use Rattle.ip_wire.specs.declared.repr.Ipv6Repr.{Ipv6Repr}
 use Rattle.control_wire.specs.Icmp.{Message, message_len}
 use Rattle.control_wire.specs.declared.icmp.IcmpRepr.{IcmpRepr}
-use Rattle.net_base.specs.Packets.{first_packet, takes, Enqueues}
+use Rattle.net_base.specs.Packets.{first_packet, takes}
 use Rattle.sock_core.specs.Emission.{Emit}
 use Rattle.sock_core.specs.Facts.{Facts}
 use Rattle.sock_dgram.specs.Icmp.{View, received, waiting, bind_answer, after_bind, send_answer, after_send}
 use Rattle.sock_dgram.specs.IcmpDispatch.{Outgoing, outgoing, Dispatched}
 use Rattle.sock_dgram.specs.IcmpFilter.{octets_v4, octets_v6, queued_v4, queued_v6}
 use Rattle.sock_dgram.specs.IcmpLends.{Takes}
-use Rattle.sock_dgram.specs.Traffic.{Traffic, nothing, sends, departs, queues, reads, copies_out, Reads, Copies}
+use Rattle.sock_dgram.specs.Traffic.{Traffic, Written, nothing, sends, departs, queues, reads, copies_out, Reads, Copies}
 use Rattle.sock_dgram.specs.declared.error.RecvError.{RecvError}
 use Rattle.sock_dgram.specs.declared.error.SendError.{SendError}
 use Rattle.sock_dgram.specs.declared.icmp.endpoint.Endpoint.{Endpoint}
@@ -38,13 +38,6 @@ pub data Call (C E F G : Type 0) : Type 0 where
 
 module _ {C E F G : Type 0} (facts : C → Facts) (emit : Emit F C (IpRepr × IcmpRepr) E)
     (write : Once G (MutBor (List ℕ) × Unit {0}) (ℕ × (MutBor (List ℕ) × Unit {0}))) where
-  -- the bytes that the closure left, as many as it answered
-  abbrev pub Written : Result ℕ SendError → ℕ → IpAddress → G → View → Traffic IpAddress Outgoing → View → Type 0
-  Written (Ok kept) size m f v t w =
-      (e : Enqueues (FnOnceReturnsAtMut write f) size m v.tx_buffer kept w.tx_buffer)
-      × (t ≡ sends true (m, take kept e.appends.left))
-  Written (Err x) size m f v t w = (waiting w ≡ waiting v) × (t ≡ nothing)
-
   abbrev pub Effect : Call C E F G → View → Traffic IpAddress Outgoing → View → Type 0
   Effect Look v t w = (w ≡ v) × (t ≡ nothing)
   Effect (Bind e) v t w = (w ≡ after_bind (bind_answer v e) v e) × (t ≡ nothing)
@@ -52,7 +45,8 @@ module _ {C E F G : Type 0} (facts : C → Facts) (emit : Emit F C (IpRepr × Ic
   Effect (SendSlice bs m r) v t w =
       (r ≡ send_answer v m (length bs)) × (w ≡ after_send v m bs)
       × (waiting w ≡ cond (is_ok r) (waiting v ++ (m, bs) ∷ []) (waiting v)) × (t ≡ sends (is_ok r) (m, bs))
-  Effect (SendWith size m f r) v t w = Written r size m f v t w × (w ≡ record v { tx_buffer = w.tx_buffer })
+  Effect (SendWith size m f r) v t w =
+      Written write r size m f v.tx_buffer t w.tx_buffer × (w ≡ record v { tx_buffer = w.tx_buffer })
   Effect (Recv r) v t w = Reads v.rx_buffer r × Takes v w × (t ≡ reads r)
   Effect (RecvSlice before after r) v t w =
       Copies v.rx_buffer before after r × Takes v w × (t ≡ copies_out r after (first_packet v.rx_buffer))

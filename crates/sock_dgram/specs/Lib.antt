@@ -5,6 +5,7 @@ pub mod IcmpDispatch
 pub mod IcmpFilter
 pub mod IcmpKinds
 pub mod IcmpLends
+pub mod Lends
 pub mod Raw
 pub mod RawCalls
 pub mod RawDispatch

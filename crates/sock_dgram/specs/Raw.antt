@@ -20,6 +20,9 @@ pub record View : Type 0 where
 abbrev pub fresh : Option IpVersion → Option IpProtocol → Packets (Unit {0}) → Packets (Unit {0}) → View
 fresh version protocol rx tx = record { ip_version = version; ip_protocol = protocol; rx_buffer = rx; tx_buffer = tx }
 
+abbrev pub with_rx : View → Packets (Unit {0}) → View
+with_rx v p = record v { rx_buffer = p }
+
 -- the packets that came and were not read, and those that were not emitted yet, the oldest first
 abbrev pub received : View → List (Unit {0} × List ℕ)
 received v = packets v.rx_buffer.entries

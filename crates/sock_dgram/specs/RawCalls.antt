@@ -1,18 +1,18 @@
 -- The calls of a raw socket, each with its effect on it: the clauses of the call's own contract.
-use Rattle.std.specs.Prelude.{ℕ, ◌≡◌, List, [], ◌∷◌, ◌++◌, length, map, take, cond, Option, None, Some, Result, Ok, Err}
-use Rattle.std.specs.Prelude.{IfOk, is_ok, true, false}
+use Rattle.std.specs.Prelude.{ℕ, ◌≡◌, List, [], ◌∷◌, ◌++◌, length, map, cond, Option, None, Some, Result, Ok, Err}
+use Rattle.std.specs.Prelude.{IfOk, is_ok, false}
 use Rattle.std.specs.Borrow.{Bor, MutBor}
-use Rattle.std.specs.Fn.{Once, FnOnceReturnsAtMut}
+use Rattle.std.specs.Fn.{Once}
 use Rattle.ip_wire.specs.Checksum.{is_sent}
 use Rattle.ip_wire.specs.declared.repr.IpRepr.{IpRepr}
-use Rattle.net_base.specs.Packets.{first_packet, skipped, takes, Enqueues}
+use Rattle.net_base.specs.Packets.{first_packet, skipped, takes}
 use Rattle.sock_core.specs.Emission.{Emit}
 use Rattle.sock_core.specs.Facts.{Facts}
 use Rattle.sock_dgram.specs.Datagrams.{answered, stored, take_answer, with_metadata}
 use Rattle.sock_dgram.specs.Raw.{View, received, waiting, send_answer, whole_packet}
 use Rattle.sock_dgram.specs.RawDispatch.{Outgoing, Dispatched, prepared}
 use Rattle.sock_dgram.specs.RawLends.{Takes}
-use Rattle.sock_dgram.specs.Traffic.{Traffic, nothing, sends, departs, queues, reads, copies_out, Copies}
+use Rattle.sock_dgram.specs.Traffic.{Traffic, Written, nothing, sends, departs, queues, reads, copies_out, Copies}
 use Rattle.sock_dgram.specs.declared.error.RecvError.{RecvError}
 use Rattle.sock_dgram.specs.declared.error.RecvError.TheVariants as recv_error
 use Rattle.sock_dgram.specs.declared.raw.error.SendError.{SendError}
@@ -42,19 +42,13 @@ bytes_read (Some d) = Ok d.1
 
 module _ {C E F G : Type 0} (facts : C → Facts) (emit : Emit F C (IpRepr × Bor (List ℕ)) E)
     (write : Once G (MutBor (List ℕ) × Unit {0}) (ℕ × (MutBor (List ℕ) × Unit {0}))) where
-  -- the bytes that the closure left, as many as it answered
-  abbrev pub Written : Result ℕ SendError → ℕ → G → View → Traffic (Unit {0}) Outgoing → View → Type 0
-  Written (Ok kept) size f v t w =
-      (e : Enqueues (FnOnceReturnsAtMut write f) size tt v.tx_buffer kept w.tx_buffer)
-      × (t ≡ sends true (tt, take kept e.appends.left))
-  Written (Err x) size f v t w = (waiting w ≡ waiting v) × (t ≡ nothing)
-
   abbrev pub Effect : Call C E F G → View → Traffic (Unit {0}) Outgoing → View → Type 0
   Effect Look v t w = (w ≡ v) × (t ≡ nothing)
   Effect (SendSlice bs r) v t w =
       (r ≡ send_answer v (length bs)) × (w ≡ record v { tx_buffer = stored tt bs v.tx_buffer })
       × (waiting w ≡ cond (is_ok r) (waiting v ++ (tt, bs) ∷ []) (waiting v)) × (t ≡ sends (is_ok r) (tt, bs))
-  Effect (SendWith size f r) v t w = Written r size f v t w × (w ≡ record v { tx_buffer = w.tx_buffer })
+  Effect (SendWith size f r) v t w =
+      Written write r size tt f v.tx_buffer t w.tx_buffer × (w ≡ record v { tx_buffer = w.tx_buffer })
   Effect (Recv r) v t w =
       (answered r ≡ take_answer (first_packet v.rx_buffer)) × IfOk r (λ bs. first_packet v.rx_buffer ≡ Some (tt, bs))
       × Takes v w × (t ≡ reads (beside_metadata r))

@@ -1,7 +1,9 @@
 -- Lists of calls of a datagram socket: what they put into its two queues, and what leaves these.
 use Rattle.std.specs.Prelude.{ℕ, ◌≡◌, List, [], ◌∷◌, ◌++◌, length, map, take, cond, Bool, Option, None, Some}
-use Rattle.std.specs.Prelude.{Result, Ok, Err, IfOk}
-use Rattle.net_base.specs.Packets.{Packets, first_packet}
+use Rattle.std.specs.Prelude.{Result, Ok, Err, IfOk, true}
+use Rattle.std.specs.Borrow.{MutBor}
+use Rattle.std.specs.Fn.{Once, FnOnceReturnsAtMut}
+use Rattle.net_base.specs.Packets.{Packets, packets, first_packet, Enqueues}
 use Rattle.sock_dgram.specs.Datagrams.{answered, take_answer, copy_answer, copied}
 use Rattle.sock_dgram.specs.declared.error.RecvError.{RecvError}
 
@@ -99,6 +101,14 @@ pub record Reads {M : Type 0} (old : Packets M) (r : Result (M × List ℕ) Recv
 pub record Copies {M : Type 0} (old : Packets M) (slice left : List ℕ) (r : Result (ℕ × M) RecvError) : Type 0 where
   pub answer : r ≡ copy_answer (first_packet old) (length slice)
   pub bytes : left ≡ copied (first_packet old) slice
+
+-- ---- what `send_with` puts behind the transmit queue: the bytes that the closure left, as many as it answered
+
+module _ {M O G E : Type 0} (write : Once G (MutBor (List ℕ) × Unit {0}) (ℕ × (MutBor (List ℕ) × Unit {0}))) where
+  abbrev pub Written : Result ℕ E → ℕ → M → G → Packets M → Traffic M O → Packets M → Type 0
+  Written (Ok kept) size m f old t new =
+      (e : Enqueues (FnOnceReturnsAtMut write f) size m old kept new) × (t ≡ sends true (m, take kept e.appends.left))
+  Written (Err x) size m f old t new = (packets new.entries ≡ packets old.entries) × (t ≡ nothing)
 
 -- ---- lists of calls
 

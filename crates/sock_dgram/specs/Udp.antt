@@ -6,20 +6,25 @@ use Rattle.ip_wire.specs.declared.address.IpAddress.{IpAddress}
 use Rattle.ip_wire.specs.declared.endpoint.IpListenEndpoint.{IpListenEndpoint}
 use Rattle.ip_wire.specs.declared.repr.IpRepr.{IpRepr}
 use Rattle.control_wire.specs.declared.udp.UdpRepr.{UdpRepr}
-use Rattle.net_base.specs.Packets.{Packets, packets, made_room, takes}
+use Rattle.net_base.specs.Packets.{Packets, packets}
 use Rattle.sock_core.specs.Facts.{Facts}
-use Rattle.sock_dgram.specs.Datagrams.{emptied, stored}
+use Rattle.sock_dgram.specs.Datagrams.{emptied, send_answer_if, after_send_if, refused_send_if}
 use Rattle.sock_dgram.specs.declared.udp.socket.UdpMetadata.{UdpMetadata}
 use Rattle.sock_dgram.specs.declared.error.BindError.{BindError}
 use Rattle.sock_dgram.specs.declared.error.BindError.TheVariants as bind_error
 use Rattle.sock_dgram.specs.declared.error.SendError.{SendError}
-use Rattle.sock_dgram.specs.declared.error.SendError.TheVariants as send_error
 
 pub record View : Type 0 where
   pub endpoint : IpListenEndpoint  -- what the socket is bound to; port 0 where it is not open
   pub rx_buffer : Packets UdpMetadata
   pub tx_buffer : Packets UdpMetadata
   pub hop_limit : Option ℕ
+
+abbrev pub with_rx : View → Packets UdpMetadata → View
+with_rx v p = record v { rx_buffer = p }
+
+abbrev pub with_tx : View → Packets UdpMetadata → View
+with_tx v p = record v { tx_buffer = p }
 
 -- the datagrams that came and were not read, and those that were not emitted yet, the oldest first
 abbrev pub received : View → List (UdpMetadata × List ℕ)
@@ -73,16 +78,13 @@ is_sendable v m =
 
 -- a datagram of n bytes: first the addresses, then the room
 abbrev pub send_answer : View → UdpMetadata → ℕ → Result (Unit {0}) SendError
-send_answer v m n =
-    if is_sendable v m then (if takes n v.tx_buffer then Ok tt else Err send_error.BufferFull)
-    else Err send_error.Unaddressable
+send_answer v m n = send_answer_if (is_sendable v m) n v.tx_buffer
 
 abbrev pub after_send : View → UdpMetadata → List ℕ → View
-after_send v m bs = if is_sendable v m then record v { tx_buffer = stored m bs v.tx_buffer } else v
+after_send v m bs = after_send_if (λ v. v.tx_buffer) with_tx (is_sendable v m) m bs v
 
--- where it is refused for want of room, padding may have come to stand behind the datagrams
 abbrev pub refused_send : View → UdpMetadata → ℕ → View
-refused_send v m n = if is_sendable v m then record v { tx_buffer = made_room n v.tx_buffer } else v
+refused_send v m n = refused_send_if (λ v. v.tx_buffer) with_tx (is_sendable v m) n v
 
 -- ---- the filter and what is queued of an accepted datagram
 

@@ -1,15 +1,15 @@
 -- The calls of a UDP socket, each with its effect on it: the clauses of the call's own contract.
-use Rattle.std.specs.Prelude.{ℕ, ◌≡◌, List, [], ◌∷◌, ◌++◌, length, take, cond, Option, Result, Ok, Err, is_ok, true}
+use Rattle.std.specs.Prelude.{ℕ, ◌≡◌, List, [], ◌∷◌, ◌++◌, length, cond, Option, Result, is_ok}
 use Rattle.std.specs.Borrow.{Bor, MutBor}
-use Rattle.std.specs.Fn.{Once, FnOnceReturnsAtMut}
+use Rattle.std.specs.Fn.{Once}
 use Rattle.ip_wire.specs.declared.endpoint.IpListenEndpoint.{IpListenEndpoint}
 use Rattle.ip_wire.specs.declared.repr.IpRepr.{IpRepr}
 use Rattle.control_wire.specs.declared.udp.UdpRepr.{UdpRepr}
-use Rattle.net_base.specs.Packets.{first_packet, skipped, takes, Enqueues}
+use Rattle.net_base.specs.Packets.{first_packet, skipped, takes}
 use Rattle.sock_core.specs.Emission.{Emit}
 use Rattle.sock_core.specs.Facts.{Facts}
 use Rattle.sock_dgram.specs.Datagrams.{stored}
-use Rattle.sock_dgram.specs.Traffic.{Traffic, nothing, sends, departs, queues, reads, copies_out, clears, Reads, Copies}
+use Rattle.sock_dgram.specs.Traffic.{Traffic, Written, nothing, sends, departs, queues, reads, copies_out, clears, Reads, Copies}
 use Rattle.sock_dgram.specs.Udp.{View, received, waiting, bind_answer, after_bind, closed}
 use Rattle.sock_dgram.specs.Udp.{send_answer, after_send, metadata_of}
 use Rattle.sock_dgram.specs.UdpDispatch.{Outgoing, outgoing, Dispatched}
@@ -36,13 +36,6 @@ pub data Call (C E F G : Type 0) : Type 0 where
 
 module _ {C E F G : Type 0} (facts : C → Facts) (emit : Emit F C (IpRepr × UdpRepr × Bor (List ℕ)) E)
     (write : Once G (MutBor (List ℕ) × Unit {0}) (ℕ × (MutBor (List ℕ) × Unit {0}))) where
-  -- the bytes that the closure left, as many as it answered
-  abbrev pub Written : Result ℕ SendError → ℕ → UdpMetadata → G → View → Traffic UdpMetadata Outgoing → View → Type 0
-  Written (Ok kept) size m f v t w =
-      (e : Enqueues (FnOnceReturnsAtMut write f) size m v.tx_buffer kept w.tx_buffer)
-      × (t ≡ sends true (m, take kept e.appends.left))
-  Written (Err x) size m f v t w = (waiting w ≡ waiting v) × (t ≡ nothing)
-
   abbrev pub Effect : Call C E F G → View → Traffic UdpMetadata Outgoing → View → Type 0
   Effect Look v t w = (w ≡ v) × (t ≡ nothing)
   Effect (Bind e) v t w = (w ≡ after_bind (bind_answer v e) v e) × (t ≡ nothing)
@@ -51,7 +44,8 @@ module _ {C E F G : Type 0} (facts : C → Facts) (emit : Emit F C (IpRepr × Ud
   Effect (SendSlice bs m r) v t w =
       (r ≡ send_answer v m (length bs)) × (w ≡ after_send v m bs)
       × (waiting w ≡ cond (is_ok r) (waiting v ++ (m, bs) ∷ []) (waiting v)) × (t ≡ sends (is_ok r) (m, bs))
-  Effect (SendWith size m f r) v t w = Written r size m f v t w × (w ≡ record v { tx_buffer = w.tx_buffer })
+  Effect (SendWith size m f r) v t w =
+      Written write r size m f v.tx_buffer t w.tx_buffer × (w ≡ record v { tx_buffer = w.tx_buffer })
   Effect (Recv r) v t w = Reads v.rx_buffer r × Takes v w × (t ≡ reads r)
   Effect (RecvSlice before after r) v t w =
       Copies v.rx_buffer before after r × Takes v w × (t ≡ copies_out r after (first_packet v.rx_buffer))

@@ -6,4 +6,3 @@ pub mod Beginning
 pub mod Emitting
 pub mod Lending
 pub mod Sending
-mod SoundParts

@@ -24,4 +24,3 @@ pub mod Poll
 pub mod Texts
 pub mod Outgoing
 pub mod Work
-pub mod Parts

@@ -4,7 +4,7 @@ ghost use Rattle.ip_wire.specs.Address.{SameVersion};
 ghost use Rattle.control_wire.specs.Segment.{segment_of};
 ghost use Rattle.sock_core.specs.Bounds.{IsMoment};
 ghost use Rattle.sock_tcp.specs.Draw.{draws, Draws};
-ghost use Rattle.sock_tcp.specs.Advance.{counted_control, options_taken, fallen_back, dropped, syn_received, syn_answered, moved_to, fin_counted, waiting, continues, stops, advanced};
+ghost use Rattle.sock_tcp.specs.Advance.{options_taken, fallen_back, dropped, syn_received, syn_answered, moved_to, fin_counted, waiting, continues, stops, advanced};
 ghost use Rattle.sock_tcp.specs.declared.state.State.TheVariants.{TimeWait};
 ghost use Rattle.sock_tcp.specs.Process.{tuple_of};
 ghost use Rattle.sock_tcp.specs.Same.{SameQueues};
@@ -17,7 +17,6 @@ use crate::control_block::ControlBlock;
 use crate::state::State;
 use crate::timer::Timer;
 use crate::tuple::Tuple;
-use crate::window::Window;
 use control_wire::{TcpControl, TcpRepr, TcpSeqNumber};
 use ip_wire::IpRepr;
 use net_base::time::Instant;
@@ -40,29 +39,6 @@ pub enum Next {
     Stop,
     /// A challenge ACK, and nothing else.
     Challenge,
-}
-
-impl Window {
-    // The control bit that counts, of a segment of `length` bytes inside the window.
-    #[tactic(auto, unfolding(crate::specs::Advance::counted_control))]
-    pub(crate) fn counted_control(
-        &self,
-        control: TcpControl,
-        number: TcpSeqNumber,
-        length: usize,
-    ) -> TcpControl
-        requires { length < 2 ^ 32 }
-        ensures { result ≡ counted_control control self.now number length }
-    {
-        match control {
-            TcpControl::Psh => TcpControl::None,
-            TcpControl::Fin
-                if before(self.start, number) || before(self.end, number.plus(length)) => {
-                TcpControl::None
-            }
-            _ => control,
-        }
-    }
 }
 
 impl<'a> ControlBlock<'a> {

@@ -23,6 +23,8 @@ fn has_local_address<C: Context>(cx: &C, tuple: &Tuple) -> bool
 }
 
 impl<'a> ControlBlock<'a> {
+    // The user timeout counts from the last segment that was heard (`take_window`), and, where none was since the
+    // connection was asked for or since bytes joined an empty queue, from the first dispatch after that.
     #[tactic(auto, unfolding(crate::specs::Begin::last_ts_set))]
     fn set_last_ts(&mut self, now: Instant)
         requires { IsMoment now.micros }
@@ -45,7 +47,8 @@ impl<'a> ControlBlock<'a> {
         self.congestion_controller.pre_transmit(now);
     }
 
-    // All behind SND.UNA is sent again.
+    // All behind SND.UNA is sent again. The timer is idle until a segment goes out, and not over any longer: where the
+    // window lets nothing out now, a timer that stays over would want the next dispatch at once, again and again.
     #[tactic(auto, unfolding(crate::specs::Begin::retransmission_begun))]
     fn begin_retransmission(&mut self, now: Instant)
         requires { IsMoment now.micros }

@@ -9,7 +9,7 @@ ghost use Rattle.control_wire.specs.Segment.{segment_of};
 ghost use Rattle.sock_core.specs.Facts.{IsLawful};
 ghost use Rattle.sock_tcp.specs.Queue.{IsLent};
 ghost use Rattle.sock_tcp.specs.Due.{flight, window_field};
-ghost use Rattle.sock_tcp.specs.Content.{carries_data, window_left, is_probing, size_of, offset_of, asked};
+ghost use Rattle.sock_tcp.specs.Content.{window_left, is_probing, size_of, offset_of, asked};
 ghost use Rattle.sock_tcp.specs.Content.{timestamp_of, plain_segment, with_syn, syn, syn_ack, data_control, with_data};
 ghost use Rattle.sock_tcp.specs.Content.{filled, emission_kind, of_kind, hop_limit_of, sending, finished, content};
 
@@ -34,14 +34,6 @@ pub(crate) const NO_HEADER: IpRepr = IpRepr::Ipv4(Ipv4Repr {
     payload_len: 0,
     hop_limit: 0,
 });
-
-impl State {
-    pub(crate) fn carries_data(self) -> bool
-        ensures { result ≡ carries_data self }
-    {
-        matches!(self, State::Established | State::CloseWait) || self.is_closing()
-    }
-}
 
 impl<'a> ControlBlock<'a> {
     fn window_left(&self) -> usize

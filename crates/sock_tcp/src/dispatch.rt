@@ -19,23 +19,6 @@ use sock_core::Context;
 use sock_core::congestion::Controller;
 use sock_core::seq::later;
 
-impl Emitted {
-    // What is kept of this segment.
-    fn of(kind: Kind, repr: &TcpRepr<'_>) -> Emitted
-        requires { length repr.now.payload.now ≤ 65535 }
-        ensures { result ≡ emitted_as kind (segment_of repr.now) }
-    {
-        let len = repr.segment_len();
-        Emitted {
-            kind,
-            len,
-            end: repr.seq_number.plus(len),
-            ack_number: repr.ack_number,
-            window_len: repr.window_len,
-        }
-    }
-}
-
 impl<'a> ControlBlock<'a> {
     // What any segment changes.
     #[tactic(auto, unfolding(crate::specs::Sent::after_any))]

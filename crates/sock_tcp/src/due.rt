@@ -2,13 +2,12 @@
 ghost use Rattle.std.specs.Prelude.{◌≡◌, ◌≤◌, ◌<◌, ◌^◌};
 ghost use Rattle.sock_core.specs.Bounds.{IsMoment};
 ghost use Rattle.sock_tcp.specs.View.{moment_of};
-ghost use Rattle.sock_tcp.specs.Due.{is_opening, is_closing, is_closed, tells_window, own_mss, effective_mss};
+ghost use Rattle.sock_tcp.specs.Due.{own_mss, effective_mss};
 ghost use Rattle.sock_tcp.specs.Due.{flight, congestion_left, sendable, is_held_back, data_due, ack_due, ack_poll};
 ghost use Rattle.sock_tcp.specs.Due.{edge_sent, field_left, is_doubled, window_doubled, is_due};
 
 use crate::control_block::ControlBlock;
 use crate::poll::is_reached;
-use crate::state::State;
 use crate::tuple::Tuple;
 use control_wire::TcpSeqNumber;
 use ip_wire::IpAddress;
@@ -18,39 +17,6 @@ use sock_core::{Context, PollAt};
 
 // How much of each segment a timestamp takes.
 const TIMESTAMP_ROOM: usize = 12;
-
-impl State {
-    fn is_opening(self) -> bool
-        ensures { result ≡ is_opening self }
-    {
-        matches!(self, State::SynSent | State::SynReceived)
-    }
-
-    pub(crate) fn is_closing(self) -> bool
-        ensures { result ≡ is_closing self }
-    {
-        matches!(self, State::FinWait1 | State::Closing | State::LastAck)
-    }
-
-    pub(crate) fn is_closed(self) -> bool
-        ensures { result ≡ is_closed self }
-    {
-        matches!(self, State::Closed)
-    }
-
-    fn tells_window(self) -> bool
-        ensures { result ≡ tells_window self }
-    {
-        matches!(
-            self,
-            State::SynSent
-                | State::SynReceived
-                | State::Established
-                | State::FinWait1
-                | State::FinWait2
-        )
-    }
-}
 
 // The MSS that this side may receive (RFC 6691).
 pub(crate) fn own_mss<C: Context>(cx: &C, tuple: &Tuple) -> usize

@@ -1,5 +1,9 @@
 //! What a dispatch emits a segment for, and what is kept of one that went out.
-use control_wire::TcpSeqNumber;
+ghost use Rattle.std.specs.Prelude.{◌≡◌, ◌≤◌, length};
+ghost use Rattle.control_wire.specs.Segment.{segment_of};
+ghost use Rattle.sock_tcp.specs.Sent.{emitted_as};
+
+use control_wire::{TcpRepr, TcpSeqNumber};
 
 /// What a dispatch emits a segment for.
 #[derive(Clone, Copy)]
@@ -25,4 +29,21 @@ pub struct Emitted {
     pub ack_number: Option<TcpSeqNumber>,
     /// Its window field.
     pub window_len: u16,
+}
+
+impl Emitted {
+    // What is kept of this segment.
+    pub(crate) fn of(kind: Kind, repr: &TcpRepr<'_>) -> Emitted
+        requires { length repr.now.payload.now ≤ 65535 }
+        ensures { result ≡ emitted_as kind (segment_of repr.now) }
+    {
+        let len = repr.segment_len();
+        Emitted {
+            kind,
+            len,
+            end: repr.seq_number.plus(len),
+            ack_number: repr.ack_number,
+            window_len: repr.window_len,
+        }
+    }
 }

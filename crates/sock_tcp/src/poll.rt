@@ -4,11 +4,10 @@ ghost use Rattle.sock_tcp.specs.View.{IsShort};
 ghost use Rattle.sock_tcp.specs.Timers.{IsLastTs};
 ghost use Rattle.sock_tcp.specs.Polls.{is_reached, earlier, timeout_poll};
 ghost use Rattle.sock_tcp.specs.Poll.{is_due_now, poll_moment};
-ghost use Rattle.sock_tcp.specs.Work.{works_in, has_work};
+ghost use Rattle.sock_tcp.specs.Work.{has_work};
 
 use crate::control_block::ControlBlock;
 use crate::socket::Socket;
-use crate::state::State;
 use crate::timer::{after, is_over};
 use crate::tuple::Tuple;
 use net_base::time::{Duration, Instant};
@@ -49,21 +48,6 @@ pub(crate) fn timeout_poll(timeout: Option<Duration>, last: Option<Instant>) -> 
     match (timeout, last) {
         (Some(timeout), Some(last)) => PollAt::Time(after(last, timeout)),
         _ => PollAt::Ingress,
-    }
-}
-
-impl State {
-    fn works(self, peer: bool, empty: bool, paused: bool) -> bool
-        ensures { result ≡ works_in self peer empty paused }
-    {
-        match self {
-            State::Closed => peer,
-            State::Listen | State::FinWait2 => false,
-            State::SynReceived => !paused,
-            State::Established | State::CloseWait => !empty,
-            State::SynSent | State::FinWait1 | State::Closing | State::LastAck | State::TimeWait =>
-                true,
-        }
     }
 }
 

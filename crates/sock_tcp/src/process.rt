@@ -2,12 +2,11 @@
 ghost use Rattle.std.specs.Prelude.{◌≡◌, ◌+◌, ◌≤◌, ◌↔◌, IsTrue, length, option_map, [], None};
 ghost use Rattle.std.specs.Option.{ForSome};
 ghost use Rattle.control_wire.specs.Segment.{Segment, segment_of};
-ghost use Rattle.ip_wire.specs.IpHeader.{src_addr_of, dst_addr_of};
 ghost use Rattle.sock_core.specs.Bounds.{IsMoment};
 ghost use Rattle.sock_tcp.specs.Verdict.{verdict_of};
 ghost use Rattle.sock_tcp.specs.declared.verdict.Verdict.TheVariants.{Pass};
 ghost use Rattle.sock_tcp.specs.View.{moment_of};
-ghost use Rattle.sock_tcp.specs.Process.{IsBetween, IsToListener, IsAddressed, Opens, Accepts, tuple_of, has_window, drops_generator};
+ghost use Rattle.sock_tcp.specs.Process.{IsToListener, IsAddressed, Opens, Accepts, tuple_of, has_window, drops_generator};
 ghost use Rattle.sock_tcp.specs.Process.{answered, challenged, close_restarted, outside, bytes_taken, processed_inside, tested, processed};
 ghost use Rattle.sock_tcp.specs.Draw.{draws, Draws};
 
@@ -18,7 +17,7 @@ use crate::timer::{CHALLENGE_INTERVAL, Timer, after};
 use crate::tuple::Tuple;
 use crate::verdict::Verdict;
 use control_wire::{TcpControl, TcpRepr};
-use ip_wire::{IpAddress, IpEndpoint, IpListenEndpoint, IpRepr};
+use ip_wire::{IpListenEndpoint, IpRepr};
 use net_base::time::Instant;
 use sock_core::Context;
 
@@ -31,47 +30,6 @@ pub enum Answer {
     Ack,
     /// By an RST.
     Rst,
-}
-
-impl Tuple {
-    // The tuple of the side that a segment goes to.
-    pub(crate) fn of_segment(ip_repr: &IpRepr, repr: &TcpRepr<'_>) -> Tuple
-        ensures { result ≡ tuple_of ip_repr.now (segment_of repr.now) }
-    {
-        Tuple {
-            local: IpEndpoint {
-                addr: ip_repr.dst_addr(),
-                port: repr.dst_port,
-            },
-            remote: IpEndpoint {
-                addr: ip_repr.src_addr(),
-                port: repr.src_port,
-            },
-        }
-    }
-
-    fn is_of_header(&self, ip_repr: &IpRepr) -> bool
-        ensures { IsTrue result
-            ↔ (dst_addr_of ip_repr.now ≡ self.now.local.addr) × (src_addr_of ip_repr.now ≡ self.now.remote.addr) }
-    {
-        match (ip_repr, &self.local.addr, &self.remote.addr) {
-            (IpRepr::Ipv4(header), IpAddress::Ipv4(local), IpAddress::Ipv4(remote)) => {
-                header.dst_addr == *local && header.src_addr == *remote
-            }
-            (IpRepr::Ipv6(header), IpAddress::Ipv6(local), IpAddress::Ipv6(remote)) => {
-                header.dst_addr == *local && header.src_addr == *remote
-            }
-            _ => false,
-        }
-    }
-
-    fn is_of_segment(&self, ip_repr: &IpRepr, repr: &TcpRepr<'_>) -> bool
-        ensures { IsTrue result ↔ IsBetween self.now ip_repr.now (segment_of repr.now) }
-    {
-        self.is_of_header(ip_repr)
-            && repr.dst_port == self.local.port
-            && repr.src_port == self.remote.port
-    }
 }
 
 // Whether a segment goes to a listener on this endpoint.
@@ -143,7 +101,9 @@ impl<'a> ControlBlock<'a> {
         }
     }
 
-    // The answer to a segment outside of the window.
+    // The answer to a segment outside of the window. One with bytes is answered each time, whatever the limit on
+    // challenge ACKs (RFC 5961, section 7) says: its sender has not heard that they came, and sends them until it does.
+    // One without is what two sides could answer each other with for ever.
     #[tactic(auto, unfolding(crate::specs::Process::outside))]
     fn answer_outside(&mut self, now: Instant, repr: &TcpRepr<'_>) -> Answer
         requires { IsMoment now.micros }

@@ -1,6 +1,9 @@
 //! The states of a connection (RFC 9293, section 3.3.2).
 ghost use Rattle.std.specs.Prelude.{◌≡◌, Some};
+ghost use Rattle.sock_tcp.specs.Content.{carries_data};
+ghost use Rattle.sock_tcp.specs.Due.{is_opening, is_closing, is_closed, tells_window};
 ghost use Rattle.sock_tcp.specs.Texts.{state_text};
+ghost use Rattle.sock_tcp.specs.Work.{works_in};
 
 use std::fmt;
 
@@ -37,6 +40,63 @@ impl State {
             State::Closing => "CLOSING",
             State::LastAck => "LAST-ACK",
             State::TimeWait => "TIME-WAIT",
+        }
+    }
+}
+
+impl State {
+    // A SYN is to be sent, or was sent and is not acknowledged.
+    pub(crate) fn is_opening(self) -> bool
+        ensures { result ≡ is_opening self }
+    {
+        matches!(self, State::SynSent | State::SynReceived)
+    }
+
+    // A FIN is to be sent, or was sent and is not acknowledged.
+    pub(crate) fn is_closing(self) -> bool
+        ensures { result ≡ is_closing self }
+    {
+        matches!(self, State::FinWait1 | State::Closing | State::LastAck)
+    }
+
+    pub(crate) fn is_closed(self) -> bool
+        ensures { result ≡ is_closed self }
+    {
+        matches!(self, State::Closed)
+    }
+
+    // The peer is told of a larger window.
+    pub(crate) fn tells_window(self) -> bool
+        ensures { result ≡ tells_window self }
+    {
+        matches!(
+            self,
+            State::SynSent
+                | State::SynReceived
+                | State::Established
+                | State::FinWait1
+                | State::FinWait2
+        )
+    }
+
+    // Segments carry what is in the transmit queue.
+    pub(crate) fn carries_data(self) -> bool
+        ensures { result ≡ carries_data self }
+    {
+        matches!(self, State::Established | State::CloseWait) || self.is_closing()
+    }
+
+    // Whether there is work to do, with a peer, an empty transmit queue, a SYN|ACK that has to wait.
+    pub(crate) fn works(self, peer: bool, empty: bool, paused: bool) -> bool
+        ensures { result ≡ works_in self peer empty paused }
+    {
+        match self {
+            State::Closed => peer,
+            State::Listen | State::FinWait2 => false,
+            State::SynReceived => !paused,
+            State::Established | State::CloseWait => !empty,
+            State::SynSent | State::FinWait1 | State::Closing | State::LastAck | State::TimeWait =>
+                true,
         }
     }
 }

@@ -1,5 +1,11 @@
 //! Both ends of a connection.
-use ip_wire::IpEndpoint;
+ghost use Rattle.std.specs.Prelude.{◌≡◌, ◌↔◌, IsTrue};
+ghost use Rattle.control_wire.specs.Segment.{segment_of};
+ghost use Rattle.ip_wire.specs.IpHeader.{src_addr_of, dst_addr_of};
+ghost use Rattle.sock_tcp.specs.Process.{IsBetween, tuple_of};
+
+use control_wire::TcpRepr;
+use ip_wire::{IpAddress, IpEndpoint, IpRepr};
 
 /// Both ends of a connection.
 #[derive(Debug, Clone, Copy, PartialEq, Eq)]
@@ -8,4 +14,45 @@ pub struct Tuple {
     pub local: IpEndpoint,
     /// The peer's end.
     pub remote: IpEndpoint,
+}
+
+impl Tuple {
+    // The tuple of the side that a segment goes to.
+    pub(crate) fn of_segment(ip_repr: &IpRepr, repr: &TcpRepr<'_>) -> Tuple
+        ensures { result ≡ tuple_of ip_repr.now (segment_of repr.now) }
+    {
+        Tuple {
+            local: IpEndpoint {
+                addr: ip_repr.dst_addr(),
+                port: repr.dst_port,
+            },
+            remote: IpEndpoint {
+                addr: ip_repr.src_addr(),
+                port: repr.src_port,
+            },
+        }
+    }
+
+    fn is_of_header(&self, ip_repr: &IpRepr) -> bool
+        ensures { IsTrue result
+            ↔ (dst_addr_of ip_repr.now ≡ self.now.local.addr) × (src_addr_of ip_repr.now ≡ self.now.remote.addr) }
+    {
+        match (ip_repr, &self.local.addr, &self.remote.addr) {
+            (IpRepr::Ipv4(header), IpAddress::Ipv4(local), IpAddress::Ipv4(remote)) => {
+                header.dst_addr == *local && header.src_addr == *remote
+            }
+            (IpRepr::Ipv6(header), IpAddress::Ipv6(local), IpAddress::Ipv6(remote)) => {
+                header.dst_addr == *local && header.src_addr == *remote
+            }
+            _ => false,
+        }
+    }
+
+    pub(crate) fn is_of_segment(&self, ip_repr: &IpRepr, repr: &TcpRepr<'_>) -> bool
+        ensures { IsTrue result ↔ IsBetween self.now ip_repr.now (segment_of repr.now) }
+    {
+        self.is_of_header(ip_repr)
+            && repr.dst_port == self.local.port
+            && repr.src_port == self.remote.port
+    }
 }

@@ -1,10 +1,11 @@
 //! The receive window (RFC 9293, section 3.10.7.4; RFC 7323, section 2).
 ghost use Rattle.std.specs.Prelude.{◌≡◌, ◌≤◌, ◌<◌, ◌^◌, length};
 ghost use Rattle.control_wire.specs.Seq.{seq_sub};
+ghost use Rattle.sock_tcp.specs.Advance.{counted_control};
 ghost use Rattle.sock_tcp.specs.Window.{next_ack, kept_between, receive_window, starts_inside, is_inside, cut_of, cut_bytes};
 
 use crate::control_block::ControlBlock;
-use control_wire::TcpSeqNumber;
+use control_wire::{TcpControl, TcpSeqNumber};
 use sock_core::seq::{before, later, not_after};
 
 /// The receive window: its left edge, and the number behind its last one.
@@ -39,6 +40,27 @@ impl Cut {
 }
 
 impl Window {
+    // The control bit that counts, of a segment of `length` bytes inside the window.
+    #[tactic(auto, unfolding(crate::specs::Advance::counted_control))]
+    pub(crate) fn counted_control(
+        &self,
+        control: TcpControl,
+        number: TcpSeqNumber,
+        length: usize,
+    ) -> TcpControl
+        requires { length < 2 ^ 32 }
+        ensures { result ≡ counted_control control self.now number length }
+    {
+        match control {
+            TcpControl::Psh => TcpControl::None,
+            TcpControl::Fin
+                if before(self.start, number) || before(self.end, number.plus(length)) => {
+                TcpControl::None
+            }
+            _ => control,
+        }
+    }
+
     // Whether a number lies from the left edge on, and before the right one.
     fn starts_inside(&self, number: TcpSeqNumber) -> bool
         ensures { result ≡ starts_inside self.now number }

@@ -123,6 +123,7 @@ lent_none q o n bs lent none = go n refl
 pub record NothingDue (u : View) : Type 0 where
   pub sent : sendable u ≡ 0
   pub marked : carries_data u.state ≡ false → length u.tx_buffer.bytes ≡ 0
+  pub again : u.pending_fast_retransmit ≡ true → length u.tx_buffer.bytes ≡ 0
   pub opened : is_opening u.state ≡ false
   pub no_fin : is_closing u.state ≡ true → u.remote_last_seq.0 ≡ (seq_add u.local_seq_no (length u.tx_buffer.bytes)).0 → ⊥
 
@@ -180,6 +181,7 @@ module _ (u : View) (p : Tuple) (f : Facts) (stamp : Option ℕ) (bytes : List �
   -- of a socket that carries data, where the segment is empty
   record NoData : Type 0 where
     all : sendable u ≡ 0
+    again : u.pending_fast_retransmit ≡ true → length u.tx_buffer.bytes ≡ 0
     fin : (is_closing u.state ≡ true) → u.remote_last_seq.0 ≡ (seq_add u.local_seq_no n).0 → offset_of u ≡ n
 
   no_data : carries_data u.state ≡ true → flight u ≤ n + 1 → length bytes ≡ 0 → NoData
@@ -203,7 +205,7 @@ module _ (u : View) (p : Tuple) (f : Facts) (stamp : Option ℕ) (bytes : List �
 
           again : (asked u p f (is_some stamp) ≡ 0) ⊎ (n ≤ offset_of u) → NoData
           again (inl z) = absurd (omega (arith, z, whole, mss))
-          again (inr i) = record { all = omega (arith, i, start); fin = λ d k. omega (arith, i, start) }
+          again (inr i) = record { all = omega (arith, i, start); again = λ m. omega (arith, i, start); fin = λ d k. omega (arith, i, start) }
       by false e = ahead either
         where
           start : offset_of u ≡ flight u
@@ -213,7 +215,7 @@ module _ (u : View) (p : Tuple) (f : Facts) (stamp : Option ℕ) (bytes : List �
           at_end k = omega (arith, start, k, short, o.una_small, o.nxt_small)
 
           ahead : (asked u p f (is_some stamp) ≡ 0) ⊎ (n ≤ offset_of u) → NoData
-          ahead (inr i) = record { all = omega (arith, i, start); fin = λ d k. at_end k }
+          ahead (inr i) = record { all = omega (arith, i, start); again = λ m. absurd (true≢false (sym m ∙ e)); fin = λ d k. at_end k }
           ahead (inl z) = probing (is_probing u (moment_of f)) refl
             where
               probing : (b : Bool) → is_probing u (moment_of f) ≡ b → NoData
@@ -222,7 +224,7 @@ module _ (u : View) (p : Tuple) (f : Facts) (stamp : Option ℕ) (bytes : List �
                   absurd (omega (arith, one, z, mss))
               probing false i =
                   let some : asked u p f (is_some stamp) ≡ min (min (window_left u) (effective_mss u p f (is_some stamp))) (congestion_left u) = size ∙ rw (i, e) refl in
-                  record { all = omega (arith, some, z, mss); fin = λ d k. at_end k }
+                  record { all = omega (arith, some, z, mss); again = λ m. absurd (true≢false (sym m ∙ e)); fin = λ d k. at_end k }
 
   -- of an empty segment of a socket that carries data
   data_ack : carries_data u.state ≡ true → is_opening u.state ≡ false → flight u ≤ n + 1 → segment_len (with_data u bytes plain) ≡ 0 → AckOf u (with_data u bytes plain)
@@ -233,6 +235,7 @@ module _ (u : View) (p : Tuple) (f : Facts) (stamp : Option ℕ) (bytes : List �
       record {
         quiet = record {
           sent = d.all;
+          again = d.again;
           marked = λ e. absurd (true≢false (sym c ∙ e));
           opened = shut;
           no_fin = λ e k. absurd (fin_is e (d.fin e k) z);
@@ -261,7 +264,7 @@ module _ (u : View) (p : Tuple) (f : Facts) (stamp : Option ℕ) (bytes : List �
 
       idle : (st : State) → u.state ≡ st → Sends st → is_opening st ≡ false → is_closing st ≡ false → n ≡ 0 → flight u ≡ 0 → plain ≡ b → RstOrAck u b
       idle st is at shut nc z y i = inr (record {
-        quiet = record { sent = omega (arith, z); marked = λ e. z; opened = ap is_opening is ∙ shut; no_fin = λ e k. absurd (true≢false (sym e ∙ ap is_closing is ∙ nc)) };
+        quiet = record { sent = omega (arith, z); marked = λ e. z; again = λ e. z; opened = ap is_opening is ∙ shut; no_fin = λ e k. absurd (true≢false (sym e ∙ ap is_closing is ∙ nc)) };
         tells = subst (TellsAck u) i (record { ack = refl; window = refl; number = inl refl; empty = refl });
         sends = subst Sends (sym is) at;
         within = omega (arith, y);

@@ -23,3 +23,4 @@ pub mod Repeating
 pub mod Moments
 pub mod Timed
 pub mod Clocks
+pub mod Speaking

@@ -114,7 +114,7 @@ timer_ordered timer.FastRetransmit v now e h = record {
 }
 timer_ordered _ v now e h = h
 
-timers_ordered : (v : View) (now : Instant) → IsOrdered v → IsOrdered (after_timers v now)
+pub timers_ordered : (v : View) (now : Instant) → IsOrdered v → IsOrdered (after_timers v now)
 unfolding after_timers
 timers_ordered v now h = go (is_reached (timeout_poll v.timeout v.remote_last_ts) now)
   where
@@ -122,7 +122,7 @@ timers_ordered v now h = go (is_reached (timeout_poll v.timeout v.remote_last_ts
     go true = record { una_small = h.una_small; nxt_small = h.nxt_small; room = h.room; congestion = h.congestion; peered = tt; row = tt }
     go false = timer_ordered v.timer v now refl h
 
-readied_ordered : (v : View) (now : Instant) → IsOrdered v → IsOrdered (readied v now)
+pub readied_ordered : (v : View) (now : Instant) → IsOrdered v → IsOrdered (readied v now)
 unfolding readied last_ts_set
 readied_ordered v now h = go v.remote_last_ts
   where

@@ -56,7 +56,7 @@ data Reason (w : View) (t : Tuple) (f : Facts) (stamps : Bool) (now : Instant) :
   TimedOut : is_reached (timeout_poll w.timeout w.remote_last_ts) now ≡ true → Reason w t f stamps now
   Owed : ack_due w ≡ true → Reason w t f stamps now
 
-or_true : (a b : Bool) → (a || b) ≡ true → (a ≡ true) ⊎ (b ≡ true)
+pub or_true : (a b : Bool) → (a || b) ≡ true → (a ≡ true) ⊎ (b ≡ true)
 or_true true b e = inl refl
 or_true false b e = inr e
 
@@ -336,7 +336,7 @@ module _ (u : View) (f : Facts) (o : IsOrdered u) (q : IsProbing u) (settled : S
       reasons w stamps kind.KeepAlive w.tuple (λ t. again w t stamps kind.KeepAlive b a kept_as (λ x. AckOwed refl (inl x)) (λ x. AckOwed refl (inr x))) e
 
 -- what an empty segment is
-empty_parts : (b : Segment) → is_empty_segment b ≡ true → (segment_len b ≡ 0) × (is_plain b.control ≡ true)
+pub empty_parts : (b : Segment) → is_empty_segment b ≡ true → (segment_len b ≡ 0) × (is_plain b.control ≡ true)
 empty_parts b e =
     let h = and_parts (length b.payload == 0) (is_plain b.control) e in
     let z : length b.payload ≡ 0 = eqb-true (length b.payload) 0 h.0 in
@@ -348,7 +348,7 @@ empty_parts b e =
     none control.Psh e = refl
     none _ e = absurd cc
 
-keep_parts : (x y : Bool) → (if x then kind.Probe else (if y then kind.KeepAlive else kind.Plain)) ≡ kind.KeepAlive → y ≡ true
+pub keep_parts : (x y : Bool) → (if x then kind.Probe else (if y then kind.KeepAlive else kind.Plain)) ≡ kind.KeepAlive → y ≡ true
 keep_parts true y e = absurd cc
 keep_parts false true e = refl
 keep_parts false false e = absurd cc

@@ -5,3 +5,4 @@ pub mod Polling
 pub mod Waking
 pub mod Repeating
 pub mod Clocks
+pub mod Speaking

@@ -7,6 +7,7 @@ ghost use Rattle.sock_tcp.specs.Dispatch.{Dispatches};
 ghost use Rattle.sock_tcp.specs.Poll.{poll_moment};
 ghost use Rattle.tcp_laws.specs.Clocks.{KeepAliveIsBounded, WakeUpIsBounded};
 ghost use Rattle.tcp_laws.specs.Repeating.{AcksRepeatOnlySo};
+ghost use Rattle.tcp_laws.specs.Speaking.{DueDataGoesOut, RetransmissionBegins};
 ghost use Rattle.tcp_laws.specs.Waking.{IsClosed, IsTimedOut, LastAckHearsNothing, ThirdDuplicateWakes, WindowWakes};
 ghost use Rattle.tcp_laws.specs.Polling.{KeepAliveWakes, NoWorkNoBytes, PayloadKeepsToWindows, PollHidesNothing, SleepsOnlySo, TimeoutWakes};
 
@@ -127,4 +128,16 @@ pub fn wake_up_is_bounded()
 /// With a keep-alive interval `poll_at` of a socket that has a peer is always so bounded.
 pub fn keep_alive_is_bounded()
     ensures { KeepAliveIsBounded }
+{}
+
+/// Where data, a SYN or a FIN is due just before the emit of a socket that is not CLOSED, what the dispatch sends takes a
+/// sequence number; after any list of calls as above.
+pub fn due_data_goes_out()
+    ensures { DueDataGoesOut }
+{}
+
+/// A dispatch once the retransmission timer is over, while the peer has a window and bytes or a FIN wait, has data due
+/// from SND.UNA on (RFC 6298, section 5, rule 5.4).
+pub fn retransmission_begins()
+    ensures { RetransmissionBegins }
 {}

@@ -1,17 +1,13 @@
 //! A socket of a host, and what the host remembers beside it.
 
 use crate::context::Interface;
-use host_guard::Guard;
+use host_guard::guard::{Guard, TURNS};
 use smoltcp_socket::tcp::State;
 use smoltcp_socket::wire::{IcmpRepr, IpRepr, TcpRepr, UdpRepr};
 use smoltcp_socket::{Context, PollAt, Socket, icmp, raw, tcp, udp};
 use std::alloc::AllocError;
 
-// How many packets one socket may emit before the next one has its turn: as many datagrams as may wait in it, and more
-// segments than its buffers hold here.
-const TURN: usize = 8;
-
-/// A socket of any kind; the guard matters to one of TCP.
+/// A socket of any kind. Of one that is not TCP the guard counts the packets alone.
 #[derive(Drop)]
 pub struct Entry<'a> {
     /// The socket.
@@ -48,9 +44,9 @@ impl<'a> Entry<'a> {
         self.guard.poll_at(self.socket.poll_at(interface))
     }
 
-    /// Lets the socket emit what is due now: at most `TURN` packets, and in FIN-WAIT-2 no more than the guard allows.
+    /// Lets the socket emit what is due now, as much as the guard allows at one moment.
     pub fn dispatch(&mut self, interface: &mut Interface) -> Result<(), AllocError> {
-        for _ in 0..TURN {
+        for _ in 0..TURNS {
             if !is_due(&self.socket, interface) || !self.guard.take_turn(interface.now()) {
                 break;
             }

@@ -1,29 +1,9 @@
-use Rattle.std.proofs.Common.{◌≡◌, ℕ, List, take, true, Result, Ok, Err, refl}
-use Rattle.std.specs.Prelude.{IfOk, OnErr}
-use Rattle.std.specs.Borrow.{MutBor}
-use Rattle.std.specs.Fn.{Once, FnOnceReturnsAtMut}
-use Rattle.ip_wire.specs.declared.address.IpAddress.{IpAddress}
-use Rattle.ip_wire.specs.declared.repr.IpRepr.{IpRepr}
-use Rattle.control_wire.specs.declared.icmp.IcmpRepr.{IcmpRepr}
-use Rattle.net_base.specs.Packets.{Enqueues}
-use Rattle.sock_core.specs.Emission.{Emit}
-use Rattle.sock_core.specs.Facts.{Facts}
-use Rattle.sock_dgram.specs.Traffic.{Traffic, nothing, sends}
-use Rattle.sock_dgram.specs.Icmp.{View, waiting}
-use Rattle.sock_dgram.specs.IcmpCalls.{Written}
+use Rattle.sock_dgram.proofs.Orders.{written}
 use Rattle.sock_dgram.specs.IcmpDispatch.{Outgoing}
-use Rattle.sock_dgram.specs.declared.error.SendError.{SendError}
 use Rattle.sock_dgram.proofs.icmp.steps.send_with.Goals as goal
-
-module _ {C E F G : Type 0} (facts : C → Facts) (emit : Emit F C (IpRepr × IcmpRepr) E)
-    (write : Once G (MutBor (List ℕ) × Unit {0}) (ℕ × (MutBor (List ℕ) × Unit {0}))) where
-  written : (r : Result ℕ SendError) (size : ℕ) (m : IpAddress) (f : G) (v w : View) → IfOk r (λ kept. Enqueues (FnOnceReturnsAtMut write f) size m v.tx_buffer kept w.tx_buffer) → OnErr r (waiting w ≡ waiting v)
-      → (t : Traffic IpAddress Outgoing) × Written facts emit write r size m f v t w
-  written (Ok kept) size m f v w e same = (sends true (m, take kept e.appends.left), (e, refl))
-  written (Err x) size m f v w e same = (nothing, (same, refl))
 
 pub returns-clause-effect : goal.returns-clause-effect
 returns-clause-effect g c =
     let a = c.send_with.ensures in
-    let h = written g.C.Context.facts g.F.FnOnce g.G.FnOnce c.send_with.result c.args.max_size c.args.endpoint c.args.f c.args.socket.now c.send_with.new.self a.ok a.kept in
+    let h = written {O = Outgoing} g.G.FnOnce c.send_with.result c.args.max_size c.args.endpoint c.args.f c.args.socket.now.tx_buffer c.send_with.new.self.tx_buffer a.ok a.kept in
     (h.0, (h.1, a.same))

@@ -57,9 +57,14 @@ use Rattle.sock_dgram.specs.contracts.raw.socket.Socket.{the_row}
 use Rattle.sock_dgram.specs.contracts.raw.socket.Socket.claim as K
 use Rattle.sock_dgram.proofs.raw.socket.Socket.claim.Met.{met as claim_met}
 use Rattle.sock_dgram.specs.contracts.raw.socket.Socket.send as F
-use Rattle.sock_dgram.proofs.RawTx.{Buffer, d, lends_tx}
+use Rattle.sock_dgram.specs.contracts.raw.socket.Socket.TheInside as inside
+use Rattle.sock_dgram.specs.declared.raw.socket.Socket.{the_code}
+use Rattle.sock_dgram.specs.declared.raw.socket.Socket.TheView.{view, invariant}
+use Rattle.sock_dgram.proofs.raw.socket.Socket.TheInside.TheLaws.{the_loose}
+use Rattle.sock_dgram.proofs.LentField.{place, lends_part}
+use Rattle.net_base.specs.contracts.packet_buffer.PacketBuffer as packet_buffer
 use Rattle.sock_dgram.proofs.Answering.{ok_of, err_of, ends_refused, ends_lent}
-use Rattle.sock_dgram.proofs.RawTx.{full_owned, unit_laws}
+use Rattle.sock_dgram.proofs.Refusals.{raw_full_owned as full_owned, unit_laws}
 use Rattle.sock_dgram.proofs.Claimed.{left_as}
 use Rattle.sock_dgram.proofs.raw.socket.Socket.send.Statement.{statement}
 use Rattle.sock_dgram.proofs.raw.socket.Socket.send.Code as code
@@ -142,12 +147,13 @@ send_spec 𝓤 𝓛 𝓜 𝓡 wired =
     move ! (2 ∷ 0 ∷ []) $ join ! $ nothing ! $ nothing ! $ fjoin ! $ nothing ! $ fjoin ! $ move ! (3 ∷ 4 ∷ []) $ join ! $ move ! (0 ∷ 1 ∷ 3 ∷ 2 ∷ []) $
     by ! (leaves 𝓛 En hs c y (live 1 (of_list (live 0 vnil ∷ []))) (Err send_error.BufferFull) (tt, (tt, tt)) (tt, (tt, tt))))
     (λ room. let some_left : r.0 ≡ true = granted r.0 room in
-    let buffer : Packets (Unit {0}) = new.tx_buffer in let Bu : RattleType = Buffer at in let p : ℕ = o + d at in
+    let buffer : Packets (Unit {0}) = new.tx_buffer in let Bu : RattleType = packet_buffer.the_row at unit in let T = inside.the_type at in let S = inside.struct at in let p : ℕ = o + place T (the_loose at) 3 in
     let had : Claims size tt old.tx_buffer true from buffer = subst (λ (t : Bool). Claims size tt old.tx_buffer t from buffer) some_left claimed in
     skips ! $ exec ! 𝓣.C 𝓣.Λ En₁ (after 6 fn.body) (at_ret En₁ Post) $ sets ! (addr ! (through ! refl (fld ! refl (stop !)))) refl (tt, tt) $
     -- [the place; nothing; the token of κ; the reference; the borrow; nothing; the others]
     move ! (3 ∷ 2 ∷ []) $ use2 𝓛 (later (some (λ (ε : GName). ‵ ((MutRef (named 0) κ Bu).own_val (record { ref_ptr = (b, p); ghost_name = ε; now = buffer }) (vptr b p ∷ [])) ⊛ ‵ (flft κ q)
-    ⊛ ‵ (follows R Bu γ ε (λ w. record new { tx_buffer = w }))))) (lends_tx at 𝓛 (named 0) κ q b o γ new) $ await ! tt $ pick ! (λ ε. split3 ! $
+    ⊛ ‵ (follows R Bu γ ε (λ w. record new { tx_buffer = w }))))) (lends_part T (the_loose at) 3 S.as_values S.Ghost S.make (λ v. tt) (λ x. refl) (λ v g. refl) (λ y. y) refl (λ f. refl) refl View the_code view invariant (λ v w. record v { tx_buffer = w }) (λ v. v.tx_buffer) (λ x w. refl) (λ x w k. k) (λ x. refl)
+    𝓛 (named 0) κ q b o γ new) $ await ! tt $ pick ! (λ ε. split3 ! $
     -- [the buffer; the token of κ; what follows it; the place; nothing; the borrow; nothing; the others]
     nothing ! $ owned ! usize _ (uint_Makes 𝓛 w64) size _ (refl, are.1.0.1) $ fjoin ! $ owned ! usize _ (uint_Makes 𝓛 w64) from _ (refl, place_is.1) $ fjoin ! $ move ! (1 ∷ 0 ∷ []) $ fjoin ! $
     move ! (7 ∷ []) $ fsplit ! $ use1 𝓛 (‵ (flft κ' (Share.left q')) ⊛ ‵ (flft κ' (Share.right q'))) (𝓛.lfts.lft_split κ' q') $ split ! $

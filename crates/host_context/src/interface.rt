@@ -1,0 +1,168 @@
+//! The context of every call of a socket.
+ghost use Rattle.std.specs.Prelude.{◌≡◌, ◌*◌, ◌/◌, ◌^◌, pos, min, max};
+ghost use Rattle.ip_wire.specs.Checksum.{all_checksums};
+ghost use Rattle.ip_wire.specs.declared.checksum.Checksum.TheVariants.{Both};
+ghost use Rattle.sock_core.specs.Bounds.{IsMoment, IsMtu};
+ghost use Rattle.host_context.specs.Facts.{host_facts, mapped};
+
+use crate::words::Words;
+use smoltcp_socket::Context;
+use smoltcp_socket::time::Instant;
+use smoltcp_socket::wire::{ChecksumCapabilities, IpAddress, Ipv4Address, Ipv6Address};
+
+// No moment is later, in microseconds: some 36,000 years.
+const LATEST: usize = 1 << 60;
+
+/// An interface with one address of each version of IP: the context of every call of a socket.
+///
+/// `W` is the source of random words. `O` is where packets that sockets emit are put, as `Outbox`: the closure of
+/// `dispatch` is lent the interface, and reaches it there.
+#[derive(Drop)]
+pub struct Interface<W, O> {
+    v4: Ipv4Address,
+    v6: Ipv6Address,
+    micros: usize,
+    mtu: usize,
+    /// Which checksums are computed and tested here, and which by the device; at first all are computed here.
+    pub checksums: ChecksumCapabilities,
+    /// The source of random words.
+    pub words: W,
+    /// Where packets are put.
+    pub outbox: O,
+    // so every moment is one that a context may have, and the MTU one that it may answer
+    ghost moment: { IsMoment (pos micros) },
+    ghost size: { IsMtu mtu },
+}
+
+impl<W, O> Interface<W, O> {
+    /// An interface with this address and the one of IPv6 that ends in it, behind fd00 and zeros. It is at moment 0, and
+    /// its MTU is 1500 bytes.
+    pub fn new(v4: Ipv4Address, words: W, outbox: O) -> Interface<W, O>
+        ensures v4 { result.v4 ≡ v4 }
+        ensures v6 { result.v6 ≡ mapped v4 }
+        ensures micros { result.micros ≡ 0 }
+        ensures mtu { result.mtu ≡ 1500 }
+        ensures checksums { result.checksums ≡ all_checksums Both }
+        ensures words { result.words ≡ words }
+        ensures outbox { result.outbox ≡ outbox }
+    {
+        let [a, b, c, d] = v4.0;
+        Interface {
+            v4,
+            v6: Ipv6Address([0xfd, 0, 0, 0, 0, 0, 0, 0, 0, 0, 0, 0, a, b, c, d]),
+            micros: 0,
+            mtu: 1500,
+            checksums: ChecksumCapabilities::default(),
+            words,
+            outbox,
+        }
+    }
+
+    /// Its IPv4 address.
+    pub fn ipv4_addr(&self) -> Ipv4Address
+        ensures { result ≡ self.now.v4 }
+    {
+        self.v4
+    }
+
+    /// Its IPv6 address.
+    pub fn ipv6_addr(&self) -> Ipv6Address
+        ensures { result ≡ self.now.v6 }
+    {
+        self.v6
+    }
+
+    /// Sets the IPv6 address.
+    pub fn set_ipv6_addr(&mut self, v6: Ipv6Address)
+        ensures { self.new ≡ record self.old { v6 = v6 } }
+    {
+        self.v6 = v6;
+    }
+
+    /// Sets the time, in microseconds since any moment that the program chooses; some 36,000 years at most.
+    pub fn set_micros(&mut self, micros: usize)
+        ensures micros { self.new.micros ≡ min micros (2 ^ 60) }
+        ensures same { (self.new.v4 ≡ self.old.v4) × (self.new.v6 ≡ self.old.v6) × (self.new.mtu ≡ self.old.mtu)
+            × (self.new.checksums ≡ self.old.checksums) × (self.new.words ≡ self.old.words)
+            × (self.new.outbox ≡ self.old.outbox) }
+    {
+        self.micros = micros.min(LATEST);
+    }
+
+    /// The same in milliseconds.
+    pub fn set_millis(&mut self, millis: u32)
+        ensures micros { self.new.micros ≡ millis * 1000 }
+        ensures same { (self.new.v4 ≡ self.old.v4) × (self.new.v6 ≡ self.old.v6) × (self.new.mtu ≡ self.old.mtu)
+            × (self.new.checksums ≡ self.old.checksums) × (self.new.words ≡ self.old.words)
+            × (self.new.outbox ≡ self.old.outbox) }
+    {
+        self.micros = millis as usize * 1000;
+    }
+
+    /// The time in milliseconds; 2^32 - 1, some 49 days, where it is later.
+    pub fn millis(&self) -> u32
+        ensures { result ≡ min (self.now.micros / 1000) 4294967295 }
+    {
+        (self.micros / 1000).min(4_294_967_295) as u32
+    }
+
+    /// Sets the largest IP packet, in bytes: 576 to 65535, and the nearest of these for any other.
+    pub fn set_mtu(&mut self, mtu: usize)
+        ensures mtu { self.new.mtu ≡ max 576 (min mtu 65535) }
+        ensures same { (self.new.v4 ≡ self.old.v4) × (self.new.v6 ≡ self.old.v6) × (self.new.micros ≡ self.old.micros)
+            × (self.new.checksums ≡ self.old.checksums) × (self.new.words ≡ self.old.words)
+            × (self.new.outbox ≡ self.old.outbox) }
+    {
+        self.mtu = mtu.min(65535).max(576);
+    }
+}
+
+impl<W: Words, O> Context for Interface<W, O> {
+    ghost facts = { λ i. host_facts ⟦<IpAddress as PartialEq>⟧.eq (pos i.micros) i.mtu i.v4 i.v6 i.checksums };
+
+    ghost word_at = { λ i. W.word_at i.words };
+
+    fn now(&self) -> Instant {
+        Instant {
+            micros: self.micros as i64,
+        }
+    }
+
+    fn has_ip_addr(&self, addr: IpAddress) -> bool {
+        match addr {
+            IpAddress::Ipv4(_) => addr == IpAddress::Ipv4(self.v4),
+            IpAddress::Ipv6(_) => addr == IpAddress::Ipv6(self.v6),
+        }
+    }
+
+    fn get_source_address(&self, dst: &IpAddress) -> Option<IpAddress> {
+        match dst {
+            IpAddress::Ipv4(_) => Some(IpAddress::Ipv4(self.v4)),
+            IpAddress::Ipv6(_) => Some(IpAddress::Ipv6(self.v6)),
+        }
+    }
+
+    fn get_source_address_ipv4(&self, _dst: &Ipv4Address) -> Option<Ipv4Address> {
+        Some(self.v4)
+    }
+
+    fn get_source_address_ipv6(&self, _dst: &Ipv6Address) -> Ipv6Address {
+        self.v6
+    }
+
+    fn is_broadcast(&self, _addr: &IpAddress) -> bool {
+        false
+    }
+
+    fn ip_mtu(&self) -> usize {
+        self.mtu
+    }
+
+    fn checksum_caps(&self) -> ChecksumCapabilities {
+        self.checksums
+    }
+
+    fn rand_u32(&mut self) -> u32 {
+        self.words.next()
+    }
+}
