@@ -30,8 +30,8 @@ const PAUSE: Duration = Duration::from_millis(20);
 const PAGE: &[u8] = b"HTTP/1.1 200 OK\r\nContent-Type: text/plain\r\nContent-Length: 32\r\n\
                       Connection: close\r\n\r\nProved TCP sockets, out of Rust\n";
 
-/// A connection: its socket, what was read and is not answered yet; its state, and since when; and before what moment it
-/// is not to be dispatched.
+/// A connection: its socket, what was read and is not answered yet; its state, and since when; and before what moment
+/// it is not to be dispatched.
 struct Connection<'a> {
     socket: Socket<'a>,
     kept: Vec<u8>,
@@ -115,8 +115,8 @@ impl<'a> Connection<'a> {
         }
     }
 
-    /// Emits what is due, at most so many packets a round. A socket in FIN-WAIT-2 emits one, and pauses where it asks for
-    /// the next at once: a peer can make it do so at every dispatch.
+    /// Emits what is due, at most so many packets a round. A socket in FIN-WAIT-2 emits one, and pauses where it asks
+    /// for the next at once: a peer can make it do so at every dispatch.
     fn emit_packets(&mut self, cx: &Context, device: &mut Device) {
         let (waits, now, mut packet) = (self.socket.state() == State::FinWait2, cx.now(), [0; MTU]);
         if !waits {

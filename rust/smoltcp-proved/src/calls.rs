@@ -1,15 +1,16 @@
 //! The calls, each once. What they ask of a caller is docs/C.md, "What C has to keep", cited below as "C.md":
 //!
-//! - *socket*: a TCP socket is memory that `init` made, not moved, copied or written since. `Tcp::new` makes it in memory
-//!   that is borrowed for `'a`, the `Tcp` is never copied, and nothing but the calls gets at the memory before it ends.
+//! - *socket*: a TCP socket is memory that `init` made, not moved, copied or written since. `Tcp::new` makes it in
+//!   memory that is borrowed for `'a`, the `Tcp` is never copied, and nothing but the calls gets at the memory before
+//!   it ends.
 //! - *one call*: of one socket one call runs at a time. A `Tcp` is not `Sync`, and no call takes a closure.
 //! - *buffers*: they are the socket's own, borrowed for `'a`, and by that overlap nothing that a call is given.
 //! - *bytes*: a pointer leads to memory of the length given. Both are those of one slice.
 //!
 //! A contract of `init` takes the memory and the buffers for good. That they are free again where a `Tcp` ends rests on
 //! this: the library keeps nothing of them. It has no writable data of its own, starts no thread, and asks for nothing
-//! but `memcpy`, `memmove` and `memset` (`live/rust` and `live/header` look at its symbols), so that it gets at a socket
-//! only in a call that is given it; and there is no such call any more.
+//! but `memcpy`, `memmove` and `memset` (`live/rust` and `live/header` look at its symbols), so that it gets at a
+//! socket only in a call that is given it; and there is no such call any more.
 use crate::ffi;
 use core::marker::PhantomData;
 use core::mem::MaybeUninit;
@@ -109,8 +110,8 @@ impl<'a> Tcp<'a> {
         made
     }
 
-    fn handle(&self) -> ffi::Handle {
-        ffi::Handle { at: self.at.as_ptr() }
+    fn handle(&self) -> ffi::TcpHandle {
+        ffi::TcpHandle { at: self.at.as_ptr() }
     }
 
     asks! {
@@ -189,9 +190,9 @@ impl<'a> Tcp<'a> {
         let answer = unsafe { ffi::smoltcp_tcp_peek_checked(&mut self.handle(), size, &mut place) };
         let len = usize::try_from(answer).map_err(|_| answer)?;
         let start = self.rx.find(&place, len);
-        // SAFETY: C.md: "What `peek` and `reserve` lend may be used until the next call on the socket", and none is made
-        // while `self` is borrowed. The bytes lie in the receive buffer, as `find` tested, and were written: they are
-        // bytes of a slice.
+        // SAFETY: C.md: "What `peek` and `reserve` lend may be used until the next call on the socket", and none is
+        // made while `self` is borrowed. The bytes lie in the receive buffer, as `find` tested, and were written: they
+        // are bytes of a slice.
         Ok(unsafe { slice::from_raw_parts(self.rx.at.as_ptr().add(start), len) })
     }
 
@@ -244,8 +245,8 @@ macro_rules! datagram_socket {
             borrowed: PhantomData<&'a mut [u8]>,
         }
 
-        // SAFETY: C.md: calls on different sockets may run at once, and of one socket one at a time, by whatever thread.
-        // The buffers are bytes, which this value alone gets at.
+        // SAFETY: C.md: calls on different sockets may run at once, and of one socket one at a time, by whatever
+        // thread. The buffers are bytes, which this value alone gets at.
         unsafe impl Send for $name<'_> {}
 
         impl<'a> $name<'a> {

@@ -25,8 +25,8 @@ impl Context {
         Some(Context { raw: ffi::Context { now: 0, word: 0, tsval: 0, ip_mtu, v4: [0; 4], v6: [0; 16] } })
     }
 
-    /// Sets the moment, and the clock of timestamps to its milliseconds. A moment more than 2^61 microseconds from zero,
-    /// which are 73,000 years, counts as the farthest.
+    /// Sets the moment, and the clock of timestamps to its milliseconds. A moment more than 2^61 microseconds from
+    /// zero, which are 73,000 years, counts as the farthest.
     pub fn set_now(&mut self, now: Instant) {
         self.raw.now = now.total_micros().clamp(-FAR, FAR);
         self.raw.tsval = now.total_millis() as u32;

@@ -26,7 +26,7 @@ pub struct Context {
 }
 
 #[repr(C)]
-pub struct Handle {
+pub struct TcpHandle {
     pub at: *mut u8,
 }
 
@@ -100,7 +100,7 @@ const _: () = {
 
 // A call of a socket that has no other argument.
 macro_rules! calls_of_handle {
-    ($($name:ident)*) => { unsafe extern "C" { $(pub fn $name(h: &mut Handle) -> i64;)* } };
+    ($($name:ident)*) => { unsafe extern "C" { $(pub fn $name(h: &mut TcpHandle) -> i64;)* } };
 }
 
 calls_of_handle! {
@@ -117,42 +117,42 @@ calls_of_handle! {
 // library. What each pointer has to lead to is docs/C.md, "What C has to keep".
 unsafe extern "C" {
     pub safe fn smoltcp_tcp_size() -> usize;
-    pub fn smoltcp_tcp_init_checked(room: &mut Handle, rx: Bytes, tx: Bytes) -> i64;
-    pub fn smoltcp_tcp_listen_checked(h: &mut Handle, endpoint: &Endpoint) -> i64;
+    pub fn smoltcp_tcp_init_checked(room: &mut TcpHandle, rx: Bytes, tx: Bytes) -> i64;
+    pub fn smoltcp_tcp_listen_checked(h: &mut TcpHandle, endpoint: &Endpoint) -> i64;
     pub fn smoltcp_tcp_connect_checked(
-        h: &mut Handle,
+        h: &mut TcpHandle,
         cx: &Context,
         remote: &Endpoint,
         local: &Endpoint,
     ) -> i64;
-    pub fn smoltcp_tcp_local_endpoint_checked(h: &mut Handle, out: &mut Endpoint) -> i64;
-    pub fn smoltcp_tcp_remote_endpoint_checked(h: &mut Handle, out: &mut Endpoint) -> i64;
-    pub fn smoltcp_tcp_listen_endpoint_checked(h: &mut Handle, out: &mut Endpoint) -> i64;
-    pub fn smoltcp_tcp_set_timeout_checked(h: &mut Handle, micros: i64) -> i64;
-    pub fn smoltcp_tcp_set_keep_alive_checked(h: &mut Handle, micros: i64) -> i64;
-    pub fn smoltcp_tcp_set_ack_delay_checked(h: &mut Handle, micros: i64) -> i64;
-    pub fn smoltcp_tcp_set_nagle_enabled_checked(h: &mut Handle, enabled: u8) -> i64;
-    pub fn smoltcp_tcp_set_hop_limit_checked(h: &mut Handle, hop_limit: u8) -> i64;
-    pub fn smoltcp_tcp_pause_synack_checked(h: &mut Handle, pause: u8) -> i64;
-    pub fn smoltcp_tcp_set_congestion_control_checked(h: &mut Handle, kind: u32) -> i64;
-    pub fn smoltcp_tcp_set_timestamps_checked(h: &mut Handle, enabled: u8) -> i64;
-    pub fn smoltcp_tcp_send_checked(h: &mut Handle, data: *const u8, len: usize) -> i64;
-    pub fn smoltcp_tcp_recv_checked(h: &mut Handle, data: *mut u8, len: usize) -> i64;
-    pub fn smoltcp_tcp_peek_slice_checked(h: &mut Handle, data: *mut u8, len: usize) -> i64;
-    pub fn smoltcp_tcp_peek_checked(h: &mut Handle, size: usize, out: &mut Place) -> i64;
-    pub fn smoltcp_tcp_consume_checked(h: &mut Handle, count: usize) -> i64;
-    pub fn smoltcp_tcp_reserve_checked(h: &mut Handle, out: &mut Place) -> i64;
-    pub fn smoltcp_tcp_commit_checked(h: &mut Handle, count: usize) -> i64;
+    pub fn smoltcp_tcp_local_endpoint_checked(h: &mut TcpHandle, out: &mut Endpoint) -> i64;
+    pub fn smoltcp_tcp_remote_endpoint_checked(h: &mut TcpHandle, out: &mut Endpoint) -> i64;
+    pub fn smoltcp_tcp_listen_endpoint_checked(h: &mut TcpHandle, out: &mut Endpoint) -> i64;
+    pub fn smoltcp_tcp_set_timeout_checked(h: &mut TcpHandle, micros: i64) -> i64;
+    pub fn smoltcp_tcp_set_keep_alive_checked(h: &mut TcpHandle, micros: i64) -> i64;
+    pub fn smoltcp_tcp_set_ack_delay_checked(h: &mut TcpHandle, micros: i64) -> i64;
+    pub fn smoltcp_tcp_set_nagle_enabled_checked(h: &mut TcpHandle, enabled: u8) -> i64;
+    pub fn smoltcp_tcp_set_hop_limit_checked(h: &mut TcpHandle, hop_limit: u8) -> i64;
+    pub fn smoltcp_tcp_pause_synack_checked(h: &mut TcpHandle, pause: u8) -> i64;
+    pub fn smoltcp_tcp_set_congestion_control_checked(h: &mut TcpHandle, kind: u32) -> i64;
+    pub fn smoltcp_tcp_set_timestamps_checked(h: &mut TcpHandle, enabled: u8) -> i64;
+    pub fn smoltcp_tcp_send_checked(h: &mut TcpHandle, data: *const u8, len: usize) -> i64;
+    pub fn smoltcp_tcp_recv_checked(h: &mut TcpHandle, data: *mut u8, len: usize) -> i64;
+    pub fn smoltcp_tcp_peek_slice_checked(h: &mut TcpHandle, data: *mut u8, len: usize) -> i64;
+    pub fn smoltcp_tcp_peek_checked(h: &mut TcpHandle, size: usize, out: &mut Place) -> i64;
+    pub fn smoltcp_tcp_consume_checked(h: &mut TcpHandle, count: usize) -> i64;
+    pub fn smoltcp_tcp_reserve_checked(h: &mut TcpHandle, out: &mut Place) -> i64;
+    pub fn smoltcp_tcp_commit_checked(h: &mut TcpHandle, count: usize) -> i64;
     pub fn smoltcp_tcp_process_checked(
-        h: &mut Handle,
+        h: &mut TcpHandle,
         cx: &Context,
         packet: *const u8,
         len: usize,
         reply: *mut u8,
         cap: usize,
     ) -> i64;
-    pub fn smoltcp_tcp_dispatch_checked(h: &mut Handle, cx: &Context, out: *mut u8, cap: usize) -> i64;
-    pub fn smoltcp_tcp_poll_at_checked(h: &mut Handle, cx: &Context, at: &mut i64) -> i64;
+    pub fn smoltcp_tcp_dispatch_checked(h: &mut TcpHandle, cx: &Context, out: *mut u8, cap: usize) -> i64;
+    pub fn smoltcp_tcp_poll_at_checked(h: &mut TcpHandle, cx: &Context, at: &mut i64) -> i64;
     pub fn smoltcp_tcp_reset_checked(packet: *const u8, len: usize, reply: *mut u8, cap: usize) -> i64;
     pub fn smoltcp_udp_init_checked(s: &mut Udp) -> i64;
     pub fn smoltcp_udp_bind_checked(s: &mut Udp, endpoint: &Endpoint) -> i64;

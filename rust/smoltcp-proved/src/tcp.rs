@@ -7,136 +7,27 @@ use crate::wire::{IpEndpoint, IpListenEndpoint};
 use crate::{Context, NotAccepted, PollAt, TooShort, ffi};
 use core::fmt;
 
+mod kinds;
+use kinds::STATES;
+pub use kinds::{CongestionControl, ConnectError, ListenError, RecvError, SendError, State};
+
 /// The length of the longest reply to a segment, in bytes: an IPv6 header and the longest TCP header.
 pub const REPLY_LEN: usize = 100;
 
 // The longest length of time that the library takes, in microseconds.
 const LONGEST: u64 = 1 << 61;
 
-/// An error of [`Socket::listen`].
-#[derive(Debug, PartialEq, Eq, Clone, Copy)]
-pub enum ListenError {
-    /// The socket is open, and does not listen there.
-    InvalidState,
-    /// The port is 0.
-    Unaddressable,
-}
-
-impl fmt::Display for ListenError {
-    fn fmt(&self, f: &mut fmt::Formatter<'_>) -> fmt::Result {
-        f.write_str(match self {
-            ListenError::InvalidState => "invalid state",
-            ListenError::Unaddressable => "unaddressable destination",
-        })
-    }
-}
-
-impl core::error::Error for ListenError {}
-
-/// An error of [`Socket::connect`].
-#[derive(Debug, PartialEq, Eq, Clone, Copy)]
-pub enum ConnectError {
-    /// The socket is open.
-    InvalidState,
-    /// A port is 0, or an address is unspecified or of another version.
-    Unaddressable,
-}
-
-impl fmt::Display for ConnectError {
-    fn fmt(&self, f: &mut fmt::Formatter<'_>) -> fmt::Result {
-        f.write_str(match self {
-            ConnectError::InvalidState => "invalid state",
-            ConnectError::Unaddressable => "unaddressable destination",
-        })
-    }
-}
-
-impl core::error::Error for ConnectError {}
-
-/// An error of [`Socket::send`].
-#[derive(Debug, PartialEq, Eq, Clone, Copy)]
-pub enum SendError {
-    /// The state does not let bytes be sent.
-    InvalidState,
-}
-
-impl fmt::Display for SendError {
-    fn fmt(&self, f: &mut fmt::Formatter<'_>) -> fmt::Result {
-        f.write_str("invalid state")
-    }
-}
-
-impl core::error::Error for SendError {}
-
-/// An error of [`Socket::recv`].
-#[derive(Debug, PartialEq, Eq, Clone, Copy)]
-pub enum RecvError {
-    /// No bytes can come, and the peer has not closed: what was read may be a part.
-    InvalidState,
-    /// The peer has closed, and all that it sent was read.
-    Finished,
-}
-
-impl fmt::Display for RecvError {
-    fn fmt(&self, f: &mut fmt::Formatter<'_>) -> fmt::Result {
-        f.write_str(match self {
-            RecvError::InvalidState => "invalid state",
-            RecvError::Finished => "operation finished",
-        })
-    }
-}
-
-impl core::error::Error for RecvError {}
-
-/// The states of a connection (RFC 9293, section 3.3.2).
-#[allow(missing_docs)]
-#[derive(Debug, PartialEq, Eq, Clone, Copy)]
-pub enum State {
-    Closed,
-    Listen,
-    SynSent,
-    SynReceived,
-    Established,
-    FinWait1,
-    FinWait2,
-    CloseWait,
-    Closing,
-    LastAck,
-    TimeWait,
-}
-
-// In the order of the library's numbers.
-const STATES: [(State, &str); 11] = [
-    (State::Closed, "CLOSED"),
-    (State::Listen, "LISTEN"),
-    (State::SynSent, "SYN-SENT"),
-    (State::SynReceived, "SYN-RECEIVED"),
-    (State::Established, "ESTABLISHED"),
-    (State::FinWait1, "FIN-WAIT-1"),
-    (State::FinWait2, "FIN-WAIT-2"),
-    (State::CloseWait, "CLOSE-WAIT"),
-    (State::Closing, "CLOSING"),
-    (State::LastAck, "LAST-ACK"),
-    (State::TimeWait, "TIME-WAIT"),
-];
-
-impl fmt::Display for State {
-    fn fmt(&self, f: &mut fmt::Formatter<'_>) -> fmt::Result {
-        f.write_str(STATES[*self as usize].1)
-    }
-}
-
-/// Kinds of congestion control.
-#[derive(Debug, PartialEq, Eq, Clone, Copy)]
-pub enum CongestionControl {
-    /// None.
-    None,
-    /// Reno (RFC 5681), as in a new socket.
-    Reno,
-}
-
-/// Memory for one socket at a time: 512 bytes, in an array, in a struct or on the stack. It is free again where its
-/// socket ends.
+/// Memory for one socket at a time: 512 bytes, in an array, in a struct, on the stack or in a static. It is free again
+/// where its socket ends.
+///
+/// ```
+/// use smoltcp_proved::tcp::{Memory, Socket, State};
+/// use std::sync::Mutex;
+///
+/// static MEMORY: Mutex<Memory> = Mutex::new(Memory::new());
+/// let (mut memory, mut rx, mut tx) = (MEMORY.lock().unwrap(), [0; 64], [0; 64]);
+/// assert_eq!(Socket::new(&mut memory, &mut rx, &mut tx).state(), State::Closed);
+/// ```
 pub struct Memory(calls::Memory);
 
 impl Memory {
@@ -438,8 +329,8 @@ impl<'a> Socket<'a> {
     /// Writes the packet that is due to the beginning of `out`, and answers its length, if one is. Where it finds no
     /// room, what the timers ask for is done, and the next call gives it again.
     ///
-    /// Call it a limited number of times a round, 64 say: a peer can make a socket in FIN-WAIT-2 emit at every dispatch.
-    /// Wait at least a millisecond between rounds that only such sockets asked for, and abort one that stays in
+    /// Call it a limited number of times a round, 64 say: a peer can make a socket in FIN-WAIT-2 emit at every
+    /// dispatch. Wait at least a millisecond between rounds that only such sockets asked for, and abort one that stays in
     /// FIN-WAIT-2 for long (`examples/tun_echo.rs`: a minute).
     pub fn dispatch(&mut self, cx: &Context, out: &mut [u8]) -> Result<Option<usize>, TooShort> {
         match self.0.dispatch(&cx.raw, out) {
