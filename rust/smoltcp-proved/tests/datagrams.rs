@@ -2,8 +2,8 @@
 mod common;
 use common::*;
 use smoltcp_proved::udp::{BindError, ProcessError, RecvError, UdpMetadata};
-use smoltcp_proved::wire::IpEndpoint;
-use smoltcp_proved::{PollAt, TooShort, icmp, udp};
+use smoltcp_proved::wire::{IpAddress, IpEndpoint};
+use smoltcp_proved::{PollAt, TooShort, icmp, tcp, udp};
 
 /// A packet that a UDP socket of a sends to port 53 of b, with these bytes.
 fn datagram(bytes: &[u8]) -> Vec<u8> {
@@ -45,6 +45,12 @@ fn udp_and_truncation() {
     assert_eq!(&bytes, b"which address?");
     assert_eq!(server.recv_slice(&mut bytes), Err(RecvError::Exhausted));
     assert_eq!(server.send_slice(&cx, &[0; 71], from), Err(udp::SendError::BufferFull));
+    let meta = UdpMetadata { local_address: Some(IpAddress::v4(10, 0, 0, 9)), ..from };
+    server.set_hop_limit(Some(3));
+    assert_eq!((server.send_slice(&cx, b"10.0.0.3", meta), server.hop_limit()), (Ok(()), Some(3)));
+    let mut answer = [0; 100];
+    assert_eq!(server.dispatch(&mut answer), Ok(Some(20 + 8 + 8)));
+    assert_eq!((answer[8], &answer[12..20]), (3, &[10, 0, 0, 9, 10, 0, 0, 1][..]));
     assert_eq!(server.send_slice(&cx, b"10.0.0.3", from), Ok(()));
     server.close();
     assert_eq!((server.is_open(), server.dispatch(&mut [0; 100])), (false, Ok(None)));
@@ -73,4 +79,44 @@ fn icmp_echo() {
     assert_eq!(pinger.recv_slice(&mut message), Ok((12, B)));
     assert_eq!((message[0], &message[4..12]), (0, &request[4..]));
     assert_eq!(pinger.recv_slice(&mut message), Err(icmp::RecvError::Exhausted));
+}
+
+/// RFC 792: an unreachable port, about a datagram and about a segment of port 49152. Each is for one socket. The whole
+/// packet is quoted: a part of it is not enough, as in smoltcp.
+#[test]
+fn icmp_errors() {
+    let of_udp = datagram(b"which address?");
+    let (mut memory, mut rx, mut tx) = (tcp::Memory::new(), [0; 9], [0; 9]);
+    let mut host = Host { socket: tcp::Socket::new(&mut memory, &mut rx, &mut tx), cx: context(1, 0) };
+    host.socket.connect(&host.cx, (B, 53), 49152).expect("a closed socket connects");
+    let of_tcp = host.emit().expect("a SYN");
+    let sources = [icmp::Endpoint::Udp(49152.into()), icmp::Endpoint::Tcp(49152.into())];
+    for (n, quoted) in [&of_udp, &of_tcp].into_iter().enumerate() {
+        let (mut rx, mut tx, of_b) = ([0; 200], [0; 200], context(2, 0));
+        let mut router = icmp::Socket::new(&mut rx, &mut tx);
+        let message = [&[3, 3, 0, 0, 0, 0, 0, 0], &quoted[..]].concat();
+        router.set_hop_limit(Some(9));
+        router.send_slice(&of_b, &message, A).expect("room for a packet");
+        let (mut packet, len) = ([0; 100], message.len());
+        assert_eq!(router.dispatch(&mut packet), Ok(Some(20 + len)));
+        assert_eq!((packet[8], &packet[28..20 + len]), (9, &quoted[..]));
+        for (k, source) in sources.into_iter().enumerate() {
+            let (mut rx, mut tx) = ([0; 200], [0; 200]);
+            let mut socket = icmp::Socket::new(&mut rx, &mut tx);
+            socket.bind(source).expect("a closed socket opens");
+            assert!(socket.is_open());
+            if k != n {
+                assert_eq!(socket.process(&host.cx, &packet[..20 + len]), Err(ProcessError::NotAccepted));
+                continue;
+            }
+            assert_eq!(socket.process(&host.cx, &packet[..20 + len]), Ok(()));
+            assert_eq!(socket.process(&host.cx, &packet[..20 + len]), Ok(()));
+            let mut bytes = [0; 100];
+            assert_eq!(socket.recv_slice(&mut bytes[..len - 1]), Err(icmp::RecvError::Truncated));
+            assert_eq!(socket.recv_slice(&mut bytes), Ok((len, B)));
+            assert_eq!((&bytes[..2], &bytes[8..len]), (&message[..2], &message[8..]));
+            socket.close();
+            assert_eq!((socket.is_open(), socket.can_recv()), (false, false));
+        }
+    }
 }

@@ -5,8 +5,8 @@ use smoltcp_proved::tcp::{
     CongestionControl, ConnectError, ListenError, Memory, RecvError, SendError, Socket,
 };
 use smoltcp_proved::time::{Duration, Instant};
-use smoltcp_proved::wire::{IpEndpoint, IpListenEndpoint};
-use smoltcp_proved::{NotAccepted, PollAt, TooShort, tcp};
+use smoltcp_proved::wire::{IpEndpoint, IpListenEndpoint, Ipv6Address};
+use smoltcp_proved::{Context, NotAccepted, PollAt, TooShort, tcp};
 use tcp::State;
 
 /// Memory and buffers of two sockets.
@@ -233,4 +233,94 @@ fn moved_and_made_anew() {
     let (a, _b) = room.connected();
     assert_eq!(a.socket.recv_queue(), 0);
     assert!(a.cx.now() > Instant::ZERO);
+}
+
+/// RFC 9293, section 3.6, figure 13: both close at once. And an RST ends a connection at once (section 3.10.5).
+#[test]
+fn close_at_once_and_abort() {
+    let mut room = Room::new(100);
+    let (mut a, mut b) = room.opening();
+    assert!(a.socket.is_open() && a.socket.is_active() && a.socket.has_work());
+    assert!(b.socket.is_open() && !b.socket.is_active() && !b.socket.has_work() && b.socket.is_listening());
+    settle(&mut a, &mut b);
+    assert!(!a.socket.has_work() && !b.socket.is_listening());
+    a.socket.close();
+    b.socket.close();
+    let (of_a, of_b) = (a.emit().expect("a FIN"), b.emit().expect("a FIN"));
+    let (from_a, from_b) = (a.take(&of_b), b.take(&of_a));
+    assert_eq!((a.socket.state(), b.socket.state()), (State::Closing, State::Closing));
+    assert_eq!((from_a, from_b), (None, None));
+    settle(&mut a, &mut b);
+    assert_eq!((a.socket.state(), b.socket.state()), (State::TimeWait, State::TimeWait));
+    drop((a, b));
+
+    let (mut a, mut b) = room.connected();
+    a.socket.close();
+    settle(&mut a, &mut b);
+    b.socket.close();
+    assert_eq!((b.socket.state(), b.socket.may_send(), b.socket.may_recv()), (State::LastAck, false, false));
+    b.socket.abort();
+    assert_eq!((b.socket.state(), b.socket.is_open()), (State::Closed, false));
+    let rst = b.emit().expect("an RST");
+    assert_eq!(flags(&rst) & RST, RST);
+    assert_eq!(a.take(&rst), None);
+    assert_eq!(a.socket.state(), State::Closed);
+}
+
+/// A SYN|ACK waits while it is paused, as in smoltcp.
+#[test]
+fn paused() {
+    let mut room = Room::new(100);
+    let (mut a, mut b) = room.opening();
+    b.socket.pause_synack(true);
+    let syn = a.emit().expect("a SYN");
+    assert_eq!(b.take(&syn), None);
+    assert_eq!((b.socket.state(), b.emit()), (State::SynReceived, None));
+    b.socket.pause_synack(false);
+    assert_eq!(b.emit().map(|packet| flags(&packet)), Some(SYN | ACK));
+}
+
+/// Over IPv6 (RFC 8200), with timestamps at the milliseconds of the context (RFC 7323).
+#[test]
+fn ipv6_and_timestamps() {
+    let (mut room, address) = (Room::new(100), [0xfd, 0, 0, 0, 0, 0, 0, 0, 0, 0, 0, 0, 0, 0, 0, 2]);
+    let (mut a, mut b) = room.connected();
+    let at_b = (Ipv6Address::from(address), 80);
+    for host in [&mut a, &mut b] {
+        host.socket.abort();
+        host.emit();
+        host.socket.set_timestamps(true);
+    }
+    a.cx.set_ipv6_addr(Ipv6Address::LOCALHOST);
+    b.cx.set_ipv6_addr(at_b.0);
+    assert_eq!((a.cx.ipv4_addr().map(Into::into), b.cx.ipv6_addr()), (Some(A), Some(at_b.0)));
+    b.socket.listen(at_b).expect("a closed socket listens");
+    a.socket.connect(&a.cx, at_b, 49152).expect("a closed socket connects");
+    a.cx.set_now(Instant::from_millis(0x0102_0304));
+    let syn = a.emit().expect("a SYN");
+    assert_eq!((syn[0] >> 4, syn[6], &syn[8..24]), (6, 6, &Ipv6Address::LOCALHOST.octets()[..]));
+    assert_eq!(syn[24..40], address);
+    assert!(syn[60..].windows(6).any(|option| option == [8, 10, 1, 2, 3, 4]));
+    b.take(&syn);
+    settle(&mut a, &mut b);
+    assert_eq!(b.socket.state(), State::Established);
+    assert_eq!(b.socket.local_endpoint().map(|at| at.to_string()), Some("[fd00::2]:80".into()));
+    assert_eq!(b.socket.listen_endpoint(), at_b.into());
+}
+
+#[test]
+fn contexts() {
+    assert!(Context::new(575).is_none());
+    let mut cx = Context::new(70_000).expect("an MTU");
+    assert_eq!(cx.ip_mtu(), 65535);
+    cx.set_now(Instant::from_micros(i64::MIN));
+    assert_eq!(cx.now(), Instant::from_micros(-1i64 << 61));
+    let (mut memory, mut rx, mut tx) = (Memory::new(), [0; 10], [0; 20]);
+    let mut socket = Socket::new(&mut memory, &mut rx, &mut tx);
+    assert_eq!(socket.dispatch(&cx, &mut [0; 100]), Ok(None));
+    cx.set_now(Instant::from_micros(i64::MAX));
+    cx.set_ipv4_addr([10, 0, 0, 1].into());
+    socket.connect(&cx, (B, 80), 49152).expect("a closed socket connects");
+    assert_eq!(socket.poll_at(&cx), PollAt::Now);
+    assert!(format!("{cx:?} {socket:?}").contains("SynSent"));
 }
