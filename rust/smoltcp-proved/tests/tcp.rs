@@ -252,7 +252,6 @@ fn close_at_once_and_abort() {
     assert_eq!((from_a, from_b), (None, None));
     settle(&mut a, &mut b);
     assert_eq!((a.socket.state(), b.socket.state()), (State::TimeWait, State::TimeWait));
-    drop((a, b));
 
     let (mut a, mut b) = room.connected();
     a.socket.close();
