@@ -337,3 +337,25 @@ datagram_socket!(
     smoltcp_icmp_dispatch_checked, smoltcp_icmp_poll_at_checked, smoltcp_icmp_can_recv_checked,
     smoltcp_icmp_can_send_checked
 );
+
+#[cfg(test)]
+mod tests {
+    extern crate std;
+    use super::Lent;
+    use crate::ffi::Place;
+
+    /// Whether `len` bytes that begin so far behind a buffer's beginning are found in it, which has ten.
+    fn found(behind: isize, len: usize) -> bool {
+        let mut bytes = [0; 10];
+        let lent = Lent::new(&mut bytes);
+        let place = Place { at: lent.at.as_ptr().wrapping_offset(behind), len };
+        let start = std::panic::catch_unwind(|| Lent { at: lent.at, len: lent.len }.find(&place, len));
+        start.is_ok_and(|start| len == 0 || start == behind as usize)
+    }
+
+    #[test]
+    fn lent_bytes_lie_in_the_buffer() {
+        assert!(found(0, 10) && found(9, 1) && found(-5, 0) && found(50, 0));
+        assert!(!found(-1, 1) && !found(0, 11) && !found(10, 1) && !found(3, 8) && !found(1, usize::MAX));
+    }
+}

@@ -100,7 +100,10 @@ const _: () = {
 
 // A call of a socket that has no other argument.
 macro_rules! calls_of_handle {
-    ($($name:ident)*) => { unsafe extern "C" { $(pub fn $name(h: &mut TcpHandle) -> i64;)* } };
+    ($($name:ident)*) => {
+        // SAFETY: as below.
+        unsafe extern "C" { $(pub fn $name(h: &mut TcpHandle) -> i64;)* }
+    };
 }
 
 calls_of_handle! {
@@ -113,8 +116,8 @@ calls_of_handle! {
     smoltcp_tcp_hop_limit_checked smoltcp_tcp_congestion_control_checked smoltcp_tcp_timestamp_enabled_checked
 }
 
-// SAFETY: the names, arguments and widths are those of c/smoltcp_socket.h, which `live/header` compares with the
-// library. What each pointer has to lead to is docs/C.md, "What C has to keep".
+// SAFETY: the names, arguments and widths are those of c/smoltcp_socket.h, with which `live/rust` compares them, and
+// `live/header` that with the library. What each pointer has to lead to is docs/C.md, "What C has to keep".
 unsafe extern "C" {
     pub safe fn smoltcp_tcp_size() -> usize;
     pub fn smoltcp_tcp_init_checked(room: &mut TcpHandle, rx: Bytes, tx: Bytes) -> i64;

@@ -69,7 +69,15 @@
 //! b.state();
 //! ```
 //!
-//! A socket cannot be copied (`E0382`) nor used by two threads at once (`E0277`); it can be sent to another thread:
+//! A socket cannot be copied nor used by two threads at once; it can be sent to another thread:
+//!
+//! ```compile_fail,E0382
+//! use smoltcp_proved::tcp::{Memory, Socket};
+//! let (mut memory, mut rx, mut tx) = (Memory::new(), [0; 64], [0; 64]);
+//! let a = Socket::new(&mut memory, &mut rx, &mut tx);
+//! let b = a;
+//! a.state();
+//! ```
 //!
 //! ```compile_fail,E0277
 //! fn shared<T: Sync>(_: &T) {}
@@ -77,8 +85,15 @@
 //! let (mut memory, mut rx, mut tx) = (Memory::new(), [0; 64], [0; 64]);
 //! shared(&Socket::new(&mut memory, &mut rx, &mut tx));
 //! ```
+//!
+//! ```
+//! fn sent<T: Send>(_: T) {}
+//! use smoltcp_proved::tcp::{Memory, Socket};
+//! let (mut memory, mut rx, mut tx) = (Memory::new(), [0; 64], [0; 64]);
+//! sent(Socket::new(&mut memory, &mut rx, &mut tx));
+//! ```
 #![no_std]
-#![deny(missing_docs, unsafe_code, unsafe_op_in_unsafe_fn)]
+#![deny(missing_docs, unsafe_code, unsafe_op_in_unsafe_fn, clippy::undocumented_unsafe_blocks)]
 
 #[allow(unsafe_code)]
 mod calls;
