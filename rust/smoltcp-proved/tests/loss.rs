@@ -153,10 +153,8 @@ fn exchange(seed: u64) -> bool {
     a.finished && b.finished
 }
 
-/// Both sides can come to retransmit at once, each so far behind what the other has that all its window of congestion
-/// lets out is old there, and is dropped with its acknowledgement: for after a timeout an acknowledgement has the
-/// number from which bytes are sent again, as in smoltcp. Then the user timeout alone ends the connection (seed 497 is
-/// one), and what was read is a beginning of what was sent.
+/// Both sides can come to send again at once, and then the user timeout alone ends the connection (docs/KNOWN.md; seed
+/// 497 is one): what was read is a beginning of what was sent.
 #[test]
 fn a_thousand_exchanges() {
     let whole = (1..=1000).filter(|&seed| exchange(seed)).count();
