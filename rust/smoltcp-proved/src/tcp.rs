@@ -330,8 +330,8 @@ impl<'a> Socket<'a> {
     /// room, what the timers ask for is done, and the next call gives it again.
     ///
     /// Call it a limited number of times a round, 64 say: a peer can make a socket in FIN-WAIT-2 emit at every
-    /// dispatch. Wait at least a millisecond between rounds that only such sockets asked for, and abort one that stays in
-    /// FIN-WAIT-2 for long (`examples/tun_echo.rs`: a minute).
+    /// dispatch. Wait at least a millisecond between rounds that only such sockets asked for, and abort one that stays
+    /// in FIN-WAIT-2 for long (`examples/tun_echo.rs`: a minute).
     pub fn dispatch(&mut self, cx: &Context, out: &mut [u8]) -> Result<Option<usize>, TooShort> {
         match self.0.dispatch(&cx.raw, out) {
             ffi::OK => Ok(None),
