@@ -1,0 +1,192 @@
+//! The library's structs and calls, as `c/smoltcp_socket.h` declares them.
+#[repr(C)]
+#[derive(Clone, Copy, Default)]
+pub struct Address {
+    pub version: u8,
+    pub v4: [u8; 4],
+    pub v6: [u8; 16],
+}
+
+#[repr(C)]
+#[derive(Clone, Copy, Default)]
+pub struct Endpoint {
+    pub addr: Address,
+    pub port: u16,
+}
+
+#[repr(C)]
+#[derive(Clone, Copy)]
+pub struct Context {
+    pub now: i64,
+    pub word: u32,
+    pub tsval: u32,
+    pub ip_mtu: u32,
+    pub v4: [u8; 4],
+    pub v6: [u8; 16],
+}
+
+#[repr(C)]
+pub struct TcpHandle {
+    pub at: *mut u8,
+}
+
+#[repr(C)]
+pub struct Bytes {
+    pub at: *mut u8,
+    pub len: usize,
+}
+
+#[repr(C)]
+pub struct Place {
+    pub at: *const u8,
+    pub len: usize,
+}
+
+#[repr(C)]
+pub struct Queue {
+    pub bytes: *mut u8,
+    pub bytes_len: usize,
+    pub size: usize,
+    pub start: usize,
+    pub end: usize,
+}
+
+#[repr(C)]
+pub struct Udp {
+    pub rx: Queue,
+    pub tx: Queue,
+    pub endpoint: Endpoint,
+    pub hop_limit: u8,
+}
+
+#[repr(C)]
+#[derive(Default)]
+pub struct UdpMetadata {
+    pub endpoint: Endpoint,
+    pub local_address: Address,
+}
+
+#[repr(C)]
+#[derive(Clone, Copy, Default)]
+pub struct IcmpEndpoint {
+    pub kind: u8,
+    pub ident: u16,
+    pub endpoint: Endpoint,
+}
+
+#[repr(C)]
+pub struct Icmp {
+    pub rx: Queue,
+    pub tx: Queue,
+    pub bound: IcmpEndpoint,
+    pub hop_limit: u8,
+}
+
+pub const OK: i64 = 0;
+pub const ERROR_STATE: i64 = -1;
+pub const ERROR_FINISHED: i64 = -3;
+pub const ERROR_ROOM: i64 = -6;
+
+pub const ERROR_MESSAGE: i64 = -10;
+
+/// The size of `struct smoltcp_tcp` in bytes.
+pub const TCP_SIZE: usize = 512;
+
+// The sizes that the header asserts.
+const _: () = {
+    assert!(size_of::<Endpoint>() == 24 && size_of::<Context>() == 40 && size_of::<Queue>() == 40);
+    assert!(size_of::<Udp>() == 112 && size_of::<UdpMetadata>() == 46 && size_of::<Icmp>() == 112);
+};
+
+// A call of a socket that has no other argument.
+macro_rules! calls_of_handle {
+    ($($name:ident)*) => {
+        // SAFETY: as below.
+        unsafe extern "C" { $(pub fn $name(h: &mut TcpHandle) -> i64;)* }
+    };
+}
+
+calls_of_handle! {
+    smoltcp_tcp_close_checked smoltcp_tcp_abort_checked smoltcp_tcp_state_checked smoltcp_tcp_is_listening_checked
+    smoltcp_tcp_is_open_checked smoltcp_tcp_is_active_checked smoltcp_tcp_has_work_checked
+    smoltcp_tcp_may_send_checked smoltcp_tcp_may_recv_checked smoltcp_tcp_can_send_checked
+    smoltcp_tcp_can_recv_checked smoltcp_tcp_send_queue_checked smoltcp_tcp_recv_queue_checked
+    smoltcp_tcp_send_capacity_checked smoltcp_tcp_recv_capacity_checked smoltcp_tcp_timeout_checked
+    smoltcp_tcp_keep_alive_checked smoltcp_tcp_ack_delay_checked smoltcp_tcp_nagle_enabled_checked
+    smoltcp_tcp_hop_limit_checked smoltcp_tcp_congestion_control_checked smoltcp_tcp_timestamp_enabled_checked
+}
+
+// SAFETY: the names, arguments and widths are those of c/smoltcp_socket.h, with which `live/rust` compares them, and
+// `live/header` that with the library. What each pointer has to lead to is docs/C.md, "What C has to keep".
+unsafe extern "C" {
+    pub safe fn smoltcp_tcp_size() -> usize;
+    pub fn smoltcp_tcp_init_checked(room: &mut TcpHandle, rx: Bytes, tx: Bytes) -> i64;
+    pub fn smoltcp_tcp_listen_checked(h: &mut TcpHandle, endpoint: &Endpoint) -> i64;
+    pub fn smoltcp_tcp_connect_checked(
+        h: &mut TcpHandle,
+        cx: &Context,
+        remote: &Endpoint,
+        local: &Endpoint,
+    ) -> i64;
+    pub fn smoltcp_tcp_local_endpoint_checked(h: &mut TcpHandle, out: &mut Endpoint) -> i64;
+    pub fn smoltcp_tcp_remote_endpoint_checked(h: &mut TcpHandle, out: &mut Endpoint) -> i64;
+    pub fn smoltcp_tcp_listen_endpoint_checked(h: &mut TcpHandle, out: &mut Endpoint) -> i64;
+    pub fn smoltcp_tcp_set_timeout_checked(h: &mut TcpHandle, micros: i64) -> i64;
+    pub fn smoltcp_tcp_set_keep_alive_checked(h: &mut TcpHandle, micros: i64) -> i64;
+    pub fn smoltcp_tcp_set_ack_delay_checked(h: &mut TcpHandle, micros: i64) -> i64;
+    pub fn smoltcp_tcp_set_nagle_enabled_checked(h: &mut TcpHandle, enabled: u8) -> i64;
+    pub fn smoltcp_tcp_set_hop_limit_checked(h: &mut TcpHandle, hop_limit: u8) -> i64;
+    pub fn smoltcp_tcp_pause_synack_checked(h: &mut TcpHandle, pause: u8) -> i64;
+    pub fn smoltcp_tcp_set_congestion_control_checked(h: &mut TcpHandle, kind: u32) -> i64;
+    pub fn smoltcp_tcp_set_timestamps_checked(h: &mut TcpHandle, enabled: u8) -> i64;
+    pub fn smoltcp_tcp_send_checked(h: &mut TcpHandle, data: *const u8, len: usize) -> i64;
+    pub fn smoltcp_tcp_recv_checked(h: &mut TcpHandle, data: *mut u8, len: usize) -> i64;
+    pub fn smoltcp_tcp_peek_slice_checked(h: &mut TcpHandle, data: *mut u8, len: usize) -> i64;
+    pub fn smoltcp_tcp_peek_checked(h: &mut TcpHandle, size: usize, out: &mut Place) -> i64;
+    pub fn smoltcp_tcp_consume_checked(h: &mut TcpHandle, count: usize) -> i64;
+    pub fn smoltcp_tcp_reserve_checked(h: &mut TcpHandle, out: &mut Place) -> i64;
+    pub fn smoltcp_tcp_commit_checked(h: &mut TcpHandle, count: usize) -> i64;
+    pub fn smoltcp_tcp_process_checked(
+        h: &mut TcpHandle,
+        cx: &Context,
+        packet: *const u8,
+        len: usize,
+        reply: *mut u8,
+        cap: usize,
+    ) -> i64;
+    pub fn smoltcp_tcp_dispatch_checked(h: &mut TcpHandle, cx: &Context, out: *mut u8, cap: usize) -> i64;
+    pub fn smoltcp_tcp_poll_at_checked(h: &mut TcpHandle, cx: &Context, at: &mut i64) -> i64;
+    pub fn smoltcp_tcp_reset_checked(packet: *const u8, len: usize, reply: *mut u8, cap: usize) -> i64;
+    pub fn smoltcp_udp_init_checked(s: &mut Udp) -> i64;
+    pub fn smoltcp_udp_bind_checked(s: &mut Udp, endpoint: &Endpoint) -> i64;
+    pub fn smoltcp_udp_close_checked(s: &mut Udp) -> i64;
+    pub fn smoltcp_udp_process_checked(s: &mut Udp, cx: &Context, packet: *const u8, len: usize) -> i64;
+    pub fn smoltcp_udp_recv_checked(s: &mut Udp, meta: &mut UdpMetadata, data: *mut u8, cap: usize) -> i64;
+    pub fn smoltcp_udp_send_checked(
+        s: &mut Udp,
+        cx: &Context,
+        meta: &UdpMetadata,
+        data: *const u8,
+        len: usize,
+    ) -> i64;
+    pub fn smoltcp_udp_dispatch_checked(s: &mut Udp, out: *mut u8, cap: usize) -> i64;
+    pub fn smoltcp_udp_poll_at_checked(s: &Udp, cx: &Context, at: &mut i64) -> i64;
+    pub fn smoltcp_udp_can_recv_checked(s: &Udp) -> i64;
+    pub fn smoltcp_udp_can_send_checked(s: &Udp) -> i64;
+    pub fn smoltcp_icmp_init_checked(s: &mut Icmp) -> i64;
+    pub fn smoltcp_icmp_bind_checked(s: &mut Icmp, endpoint: &IcmpEndpoint) -> i64;
+    pub fn smoltcp_icmp_close_checked(s: &mut Icmp) -> i64;
+    pub fn smoltcp_icmp_process_checked(s: &mut Icmp, cx: &Context, packet: *const u8, len: usize) -> i64;
+    pub fn smoltcp_icmp_recv_checked(s: &mut Icmp, remote: &mut Address, data: *mut u8, cap: usize) -> i64;
+    pub fn smoltcp_icmp_send_checked(
+        s: &mut Icmp,
+        cx: &Context,
+        remote: &Address,
+        data: *const u8,
+        len: usize,
+    ) -> i64;
+    pub fn smoltcp_icmp_dispatch_checked(s: &mut Icmp, out: *mut u8, cap: usize) -> i64;
+    pub fn smoltcp_icmp_poll_at_checked(s: &Icmp, cx: &Context, at: &mut i64) -> i64;
+    pub fn smoltcp_icmp_can_recv_checked(s: &Icmp) -> i64;
+    pub fn smoltcp_icmp_can_send_checked(s: &Icmp) -> i64;
+}

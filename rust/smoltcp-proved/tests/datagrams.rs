@@ -1,0 +1,122 @@
+//! Worked examples of UDP and ICMP that bytes can show.
+mod common;
+use common::*;
+use smoltcp_proved::udp::{BindError, ProcessError, RecvError, UdpMetadata};
+use smoltcp_proved::wire::{IpAddress, IpEndpoint};
+use smoltcp_proved::{PollAt, TooShort, icmp, tcp, udp};
+
+/// A packet that a UDP socket of a sends to port 53 of b, with these bytes.
+fn datagram(bytes: &[u8]) -> Vec<u8> {
+    let (mut rx, mut tx, cx) = ([0; 100], [0; 100], context(1, 0));
+    let mut socket = udp::Socket::new(&mut rx, &mut tx);
+    assert_eq!(socket.send_slice(&cx, bytes, (B, 53)), Err(udp::SendError::Unaddressable));
+    socket.bind(49152).expect("a closed socket opens");
+    assert_eq!(socket.bind(49152), Err(BindError::InvalidState));
+    assert_eq!(socket.poll_at(&cx), PollAt::Ingress);
+    socket.send_slice(&cx, bytes, (B, 53)).expect("room for a packet");
+    assert_eq!(socket.poll_at(&cx), PollAt::Now);
+    let mut packet = vec![0; 100];
+    assert_eq!(socket.dispatch(&mut packet[..27]), Err(TooShort));
+    let len = socket.dispatch(&mut packet).expect("room").expect("a packet");
+    assert_eq!(socket.dispatch(&mut [0; 100]), Ok(None));
+    packet.truncate(len);
+    packet
+}
+
+#[test]
+fn udp_and_truncation() {
+    let (mut rx, mut tx, cx) = ([0; 100], [0; 100], context(2, 0));
+    let mut server = udp::Socket::new(&mut rx, &mut tx);
+    assert_eq!(server.bind(0), Err(BindError::Unaddressable));
+    server.bind(53).expect("a closed socket opens");
+    let packet = datagram(b"which address?");
+    assert_eq!(packet.len(), 20 + 8 + 14);
+    assert_eq!(packet[20..28][..6], [0xc0, 0x00, 0, 53, 0, 22]);
+    let mut damaged = packet.clone();
+    damaged[30] ^= 1;
+    assert_eq!(server.process(&cx, &damaged), Err(ProcessError::NotAccepted));
+    assert_eq!(server.process(&cx, &packet), Ok(()));
+    assert_eq!(server.process(&cx, &packet), Ok(()));
+    assert_eq!(server.process(&cx, &packet), Err(ProcessError::BufferFull));
+    let mut bytes = [0; 14];
+    assert_eq!(server.recv_slice(&mut bytes[..13]), Err(RecvError::Truncated));
+    let from = UdpMetadata { endpoint: IpEndpoint::new(A, 49152), local_address: Some(B) };
+    assert_eq!(server.recv_slice(&mut bytes), Ok((14, from)));
+    assert_eq!(&bytes, b"which address?");
+    assert_eq!(server.recv_slice(&mut bytes), Err(RecvError::Exhausted));
+    assert_eq!(server.send_slice(&cx, &[0; 71], from), Err(udp::SendError::BufferFull));
+    let meta = UdpMetadata { local_address: Some(IpAddress::v4(10, 0, 0, 9)), ..from };
+    server.set_hop_limit(Some(3));
+    assert_eq!((server.send_slice(&cx, b"10.0.0.3", meta), server.hop_limit()), (Ok(()), Some(3)));
+    let mut answer = [0; 100];
+    assert_eq!(server.dispatch(&mut answer), Ok(Some(20 + 8 + 8)));
+    assert_eq!((answer[8], &answer[12..20]), (3, &[10, 0, 0, 9, 10, 0, 0, 1][..]));
+    assert_eq!(server.send_slice(&cx, b"10.0.0.3", from), Ok(()));
+    server.close();
+    assert_eq!((server.is_open(), server.dispatch(&mut [0; 100])), (false, Ok(None)));
+}
+
+/// RFC 792: an echo request with identifier 7 and number 1, and its reply.
+#[test]
+fn icmp_echo() {
+    let request = [8, 0, 0, 0, 0, 7, 0, 1, b'p', b'i', b'n', b'g'];
+    let (mut rx, mut tx, of_a) = ([0; 100], [0; 100], context(1, 0));
+    let mut pinger = icmp::Socket::new(&mut rx, &mut tx);
+    assert_eq!(pinger.bind(icmp::Endpoint::Unspecified), Err(BindError::Unaddressable));
+    pinger.bind(icmp::Endpoint::Ident(7)).expect("a closed socket opens");
+    assert_eq!(pinger.send_slice(&of_a, &request[..3], B), Err(icmp::SendError::Malformed));
+    pinger.send_slice(&of_a, &request, B).expect("room for a packet");
+    let mut packet = [0; 100];
+    assert_eq!(pinger.dispatch(&mut packet), Ok(Some(32)));
+    assert_eq!((packet[9], packet[20], packet[32 - 4..32].as_ref()), (1, 8, &b"ping"[..]));
+    // The reply is the request with the addresses exchanged and the kind 0: its checksum is 0x0800 more.
+    packet[12..20].rotate_left(4);
+    packet[20] = 0;
+    let sum = u32::from(u16::from_be_bytes([packet[22], packet[23]])) + 0x0800;
+    packet[22..24].copy_from_slice(&((sum & 0xffff) as u16 + (sum >> 16) as u16).to_be_bytes());
+    assert_eq!(pinger.process(&of_a, &packet[..32]), Ok(()));
+    let mut message = [0; 64];
+    assert_eq!(pinger.recv_slice(&mut message), Ok((12, B)));
+    assert_eq!((message[0], &message[4..12]), (0, &request[4..]));
+    assert_eq!(pinger.recv_slice(&mut message), Err(icmp::RecvError::Exhausted));
+}
+
+/// RFC 792: an unreachable port, about a datagram and about a segment of port 49152. Each is for one socket. The whole
+/// packet is quoted: a part of it is not enough, as in smoltcp.
+#[test]
+fn icmp_errors() {
+    let of_udp = datagram(b"which address?");
+    let (mut memory, mut rx, mut tx) = (tcp::Memory::new(), [0; 9], [0; 9]);
+    let mut host = Host { socket: tcp::Socket::new(&mut memory, &mut rx, &mut tx), cx: context(1, 0) };
+    host.socket.connect(&host.cx, (B, 53), 49152).expect("a closed socket connects");
+    let of_tcp = host.emit().expect("a SYN");
+    let sources = [icmp::Endpoint::Udp(49152.into()), icmp::Endpoint::Tcp(49152.into())];
+    for (n, quoted) in [&of_udp, &of_tcp].into_iter().enumerate() {
+        let (mut rx, mut tx, of_b) = ([0; 200], [0; 200], context(2, 0));
+        let mut router = icmp::Socket::new(&mut rx, &mut tx);
+        let message = [&[3, 3, 0, 0, 0, 0, 0, 0], &quoted[..]].concat();
+        router.set_hop_limit(Some(9));
+        router.send_slice(&of_b, &message, A).expect("room for a packet");
+        let (mut packet, len) = ([0; 100], message.len());
+        assert_eq!(router.dispatch(&mut packet), Ok(Some(20 + len)));
+        assert_eq!((packet[8], &packet[28..20 + len]), (9, &quoted[..]));
+        for (k, source) in sources.into_iter().enumerate() {
+            let (mut rx, mut tx) = ([0; 200], [0; 200]);
+            let mut socket = icmp::Socket::new(&mut rx, &mut tx);
+            socket.bind(source).expect("a closed socket opens");
+            assert!(socket.is_open());
+            if k != n {
+                assert_eq!(socket.process(&host.cx, &packet[..20 + len]), Err(ProcessError::NotAccepted));
+                continue;
+            }
+            assert_eq!(socket.process(&host.cx, &packet[..20 + len]), Ok(()));
+            assert_eq!(socket.process(&host.cx, &packet[..20 + len]), Ok(()));
+            let mut bytes = [0; 100];
+            assert_eq!(socket.recv_slice(&mut bytes[..len - 1]), Err(icmp::RecvError::Truncated));
+            assert_eq!(socket.recv_slice(&mut bytes), Ok((len, B)));
+            assert_eq!((&bytes[..2], &bytes[8..len]), (&message[..2], &message[8..]));
+            socket.close();
+            assert_eq!((socket.is_open(), socket.can_recv()), (false, false));
+        }
+    }
+}
