@@ -1,6 +1,7 @@
 -- Segments that can be written as a packet, and that are read back where their ports are not 0: what the types of their
 -- numbers do not say.
-use Rattle.std.specs.Prelude.{ℕ, ◌≡◌, ◌+◌, ◌≤◌, ◌<◌, ◌==◌, List, [], ◌∷◌, length, Option, Some, None, Bool, true, is_some, count_by}
+use Rattle.std.specs.Prelude.{ℕ, ◌≡◌, ◌+◌, ◌≤◌, ◌<◌, ◌==◌, List, [], ◌∷◌, length, Option, Some, None, Bool, true}
+use Rattle.std.specs.Prelude.{is_some, count_by}
 use Rattle.std.specs.Option.{ForSome}
 use Rattle.ip_wire.specs.IpHeader.{header_len_of, next_header_of, payload_len_of}
 use Rattle.ip_wire.specs.declared.protocol.IpProtocol.TheVariants as protocol

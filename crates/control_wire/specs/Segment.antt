@@ -1,5 +1,6 @@
 -- TCP segments by value, their payload as a list.
-use Rattle.std.specs.Prelude.{ℕ, ◌+◌, ◌*◌, ◌/◌, List, length, Option, Bool, true, false, is_some, if◌then◌else◌, ◌==◌, ◌&&◌, count_by}
+use Rattle.std.specs.Prelude.{ℕ, ◌+◌, ◌*◌, ◌/◌, List, length, Option, Bool, true, false, is_some, if◌then◌else◌, ◌==◌}
+use Rattle.std.specs.Prelude.{◌&&◌, count_by}
 use Rattle.control_wire.specs.declared.seq_number.TcpSeqNumber.{TcpSeqNumber}
 use Rattle.control_wire.specs.declared.tcp.TcpControl.{TcpControl}
 use Rattle.control_wire.specs.declared.tcp.TcpControl.TheVariants as control

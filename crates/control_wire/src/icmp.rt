@@ -4,30 +4,10 @@ ghost use Rattle.ip_wire.specs.Checksum.{is_received, is_sent};
 ghost use Rattle.ip_wire.specs.Octets.{be16};
 ghost use Rattle.ip_wire.specs.Packet.{ipv4_octets, ipv6_octets};
 ghost use Rattle.ip_wire.specs.Sum.{complement, sum_after};
-ghost use Rattle.control_wire.specs.Icmp.{
-  Exceeded,
-  Unreachable,
-  as_error,
-  echo_octets,
-  error_octets,
-  icmp_len,
-  icmpv4_message,
-  icmpv4_octets,
-  icmpv4_parsed,
-  icmpv6_message,
-  icmpv6_octets,
-  icmpv6_parsed,
-  message_len,
-  message_v4,
-  message_v6,
-  quoted_v4,
-  quoted_v6,
-  seen,
-  taken,
-  v4_with,
-  v6_start,
-  v6_with,
-};
+ghost use Rattle.control_wire.specs.Icmp.{Exceeded, Unreachable, as_error, echo_octets, error_octets, icmp_len};
+ghost use Rattle.control_wire.specs.Icmp.{icmpv4_message, icmpv4_octets, icmpv4_parsed, icmpv6_message};
+ghost use Rattle.control_wire.specs.Icmp.{icmpv6_octets, icmpv6_parsed, message_len, message_v4, message_v6};
+ghost use Rattle.control_wire.specs.Icmp.{quoted_v4, quoted_v6, seen, taken, v4_with, v6_start, v6_with};
 
 use ip_wire::octets::{be16, be16_at, behind, put, put_three, put_two, word};
 use ip_wire::sum::{checksum_after, pseudo_sum, sum_after};

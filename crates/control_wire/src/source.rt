@@ -2,19 +2,8 @@
 ghost use Rattle.std.specs.Prelude.{◌≡◌, ◌+◌, ◌≤◌, IsTrue, length};
 ghost use Rattle.ip_wire.specs.Checksum.{is_received};
 ghost use Rattle.ip_wire.specs.Octets.{be16_at};
-ghost use Rattle.control_wire.specs.Source.{
-  at_most_one,
-  both_ipv4,
-  is_datagram,
-  is_option,
-  is_segment,
-  option_len,
-  options_after,
-  sum_holds,
-  tcp_source,
-  udp_source,
-  udp_sum_holds,
-};
+ghost use Rattle.control_wire.specs.Source.{at_most_one, both_ipv4, is_datagram, is_option, is_segment, option_len};
+ghost use Rattle.control_wire.specs.Source.{options_after, sum_holds, tcp_source, udp_source, udp_sum_holds};
 
 use ip_wire::octets::{be16_at, word};
 use ip_wire::sum::{pseudo_sum, sum_after};

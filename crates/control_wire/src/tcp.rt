@@ -1,17 +1,8 @@
 //! TCP segments as values.
 ghost use Rattle.std.specs.Prelude.{◌≡◌, ◌+◌, ◌≤◌, None, IsSomeAnd, MatchOption, is_some, count_by, length};
 ghost use Rattle.std.specs.Option.{ForSome};
-ghost use Rattle.control_wire.specs.Segment.{
-  control_len,
-  is_empty_segment,
-  is_plain,
-  options_len,
-  sack_option_len,
-  segment_header_len,
-  segment_len,
-  segment_of,
-  without_psh,
-};
+ghost use Rattle.control_wire.specs.Segment.{control_len, is_empty_segment, is_plain, options_len, sack_option_len};
+ghost use Rattle.control_wire.specs.Segment.{segment_header_len, segment_len, segment_of, without_psh};
 
 use crate::seq_number::TcpSeqNumber;
 

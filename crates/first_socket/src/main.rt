@@ -116,8 +116,8 @@ fn show(rt: &HostRuntime, who: &str, bytes: &[u8]) {
     }
 }
 
-// 4. The interface layer: what is due goes out, at most one packet, and what arrives is offered to the socket. The guard
-// sees to it that the peer can keep the connection no longer than it should.
+// 4. The interface layer: what is due goes out, at most one packet, and what arrives is offered to the socket. The
+// guard sees to it that the peer can keep the connection no longer than it should.
 fn pass(from: &mut Host<'_>, to: &mut Host<'_>) -> Result<(), AllocError> {
     let now = from.interface.now();
     from.guard.watch(&mut from.socket, now);

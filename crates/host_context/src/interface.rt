@@ -35,8 +35,8 @@ pub struct Interface<W, O> {
 }
 
 impl<W, O> Interface<W, O> {
-    /// An interface with this address and the one of IPv6 that ends in it, behind fd00 and zeros. It is at moment 0, and
-    /// its MTU is 1500 bytes.
+    /// An interface with this address and the one of IPv6 that ends in it, behind fd00 and zeros. It is at moment 0,
+    /// and its MTU is 1500 bytes.
     pub fn new(v4: Ipv4Address, words: W, outbox: O) -> Interface<W, O>
         ensures v4 { result.v4 ≡ v4 }
         ensures v6 { result.v6 ≡ mapped v4 }

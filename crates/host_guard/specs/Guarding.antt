@@ -1,5 +1,6 @@
 -- The limits that a host sets its TCP connections.
-use Rattle.std.specs.Prelude.{ℕ, ◌+◌, ◌==◌, ◌&&◌, Bool, true, false, nat_le, nat_lt, int_le, ◌-ℤ◌, unsigned_abs, if◌then◌else◌}
+use Rattle.std.specs.Prelude.{ℕ, ◌+◌, ◌==◌, ◌&&◌, Bool, true, false, nat_le, nat_lt, int_le, ◌-ℤ◌, unsigned_abs}
+use Rattle.std.specs.Prelude.{if◌then◌else◌}
 use Rattle.std.specs.Prelude.{Option, Some, None}
 use Rattle.net_base.specs.declared.time.Duration.{Duration}
 use Rattle.net_base.specs.declared.time.Instant.{Instant}

@@ -3,21 +3,9 @@ ghost use Rattle.std.specs.Prelude.{◌≡◌, ◌≤◌, ◌^◌, None, Some};
 ghost use Rattle.sock_core.specs.Bounds.{IsMoment};
 ghost use Rattle.sock_tcp.specs.Polls.{earlier};
 ghost use Rattle.sock_tcp.specs.Timers.{IsLastTs, after};
-ghost use Rattle.host_guard.specs.Guarding.{
-  first_seen,
-  guarded_poll,
-  has_lasted,
-  last_after,
-  last_in,
-  may_dispatch,
-  may_take,
-  not_before,
-  since_in,
-  taken_after,
-  taken_at,
-  timeout_in,
-  watched,
-};
+ghost use Rattle.host_guard.specs.Guarding.{first_seen, guarded_poll, has_lasted, last_after, last_in, may_dispatch};
+ghost use Rattle.host_guard.specs.Guarding.{may_take, not_before, since_in, taken_after, taken_at, timeout_in};
+ghost use Rattle.host_guard.specs.Guarding.{watched};
 
 use net_base::time::{Duration, Instant};
 use sock_core::PollAt;
@@ -78,7 +66,8 @@ impl Guard {
     ///
     /// Sets the user timeout: `HANDSHAKE` in LISTEN and SYN-RECEIVED, `TIMEOUT` in the other states. Aborts a
     /// connection that has been in FIN-WAIT-2 for `LONGEST_FIN_WAIT_2` or longer, counted from the first look that saw
-    /// it there, whatever has come from the peer since. Where the time goes back, it is counted from the earlier moment.
+    /// it there, whatever has come from the peer since. Where the time goes back, it is counted from the earlier
+    /// moment.
     pub fn watch<G>(&mut self, socket: &mut Socket<'_, G>, now: Instant)
         requires { IsMoment now.micros }
         ensures since { self.new.since ≡ since_in socket.old.control_block.state self.old.since now }
@@ -114,8 +103,8 @@ impl Guard {
         }
     }
 
-    /// Whether the socket may be dispatched at this moment: at most `TURNS` times, and in FIN-WAIT-2 not within `PACE` of
-    /// the last dispatch that was allowed there. What is allowed is remembered, so that a loop which asks before each
+    /// Whether the socket may be dispatched at this moment: at most `TURNS` times, and in FIN-WAIT-2 not within `PACE`
+    /// of the last dispatch that was allowed there. What is allowed is remembered, so that a loop which asks before each
     /// dispatch ends, however often it is begun at one moment.
     pub fn take_turn(&mut self, now: Instant) -> bool
         requires { IsMoment now.micros }

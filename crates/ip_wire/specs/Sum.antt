@@ -2,7 +2,8 @@
 use Rattle.ip_wire.specs.Address.{octets_of}
 use Rattle.ip_wire.specs.Octets.{be32}
 use Rattle.ip_wire.specs.declared.address.IpAddress.{IpAddress}
-use Rattle.std.specs.Prelude.{ℕ, ◌++◌, ◌+◌, ◌-◌, ◌*◌, ◌%◌, ◌^◌, List, [], ◌∷◌, nat_eq, nat_lt, slice_index, if◌then◌else◌}
+use Rattle.std.specs.Prelude.{ℕ, ◌++◌, ◌+◌, ◌-◌, ◌*◌, ◌%◌, ◌^◌, List, [], ◌∷◌, nat_eq, nat_lt, slice_index}
+use Rattle.std.specs.Prelude.{if◌then◌else◌}
 use Rattle.std.specs.Prelude.{◌≡◌}
 
 -- A carry out of the sixteen bits is added at the other end.

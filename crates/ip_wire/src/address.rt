@@ -1,13 +1,7 @@
 //! Addresses of the two versions of IP.
 ghost use Rattle.std.specs.Prelude.{◌≡◌, ◌∷◌, []};
-ghost use Rattle.ip_wire.specs.Address.{
-  all_zero,
-  is_multicast,
-  is_multicast_v4,
-  is_multicast_v6,
-  is_unspecified,
-  version_of,
-};
+ghost use Rattle.ip_wire.specs.Address.{all_zero, is_multicast, is_multicast_v4, is_multicast_v6, is_unspecified};
+ghost use Rattle.ip_wire.specs.Address.{version_of};
 ghost use Rattle.ip_wire.specs.declared.address.IpAddress.TheVariants.{Ipv4};
 
 use crate::protocol::IpVersion;

@@ -2,15 +2,8 @@
 ghost use Rattle.std.specs.Prelude.{◌≡◌, ◌+◌, ◌<◌, ◌≤◌, [], ◌∷◌, Some, None, length};
 ghost use Rattle.std.specs.Char.{digit_char};
 ghost use Rattle.std.specs.Fmt.{WritesOnOk};
-ghost use Rattle.ip_wire.specs.Endpoint.{
-  addr_text,
-  endpoint_text,
-  four_groups,
-  group_text,
-  ipv4_text,
-  ipv6_text,
-  two_groups,
-};
+ghost use Rattle.ip_wire.specs.Endpoint.{addr_text, endpoint_text, four_groups, group_text, ipv4_text, ipv6_text};
+ghost use Rattle.ip_wire.specs.Endpoint.{two_groups};
 
 use crate::address::{IpAddress, Ipv4Address, Ipv6Address};
 use std::fmt;

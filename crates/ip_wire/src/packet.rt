@@ -6,26 +6,10 @@ ghost use Rattle.ip_wire.specs.IpHeader.{header_len_of};
 ghost use Rattle.ip_wire.specs.Protocol.{protocol_of};
 ghost use Rattle.ip_wire.specs.Octets.{be16, be16_at};
 ghost use Rattle.ip_wire.specs.Sum.{complement, sum_after};
-ghost use Rattle.ip_wire.specs.Packet.{
-  IsIpv4,
-  IsIpv6,
-  checksum_filled,
-  checksum_holds,
-  header_octets,
-  ipv4_fields,
-  ipv4_header_len,
-  ipv4_octets,
-  ipv4_parsed,
-  ipv4_payload,
-  ipv4_total_len,
-  ipv4_with,
-  ipv6_fields,
-  ipv6_octets,
-  ipv6_parsed,
-  ipv6_payload,
-  version_number,
-  with_checksum,
-};
+ghost use Rattle.ip_wire.specs.Packet.{IsIpv4, IsIpv6, checksum_filled, checksum_holds, header_octets, ipv4_fields};
+ghost use Rattle.ip_wire.specs.Packet.{ipv4_header_len, ipv4_octets, ipv4_parsed, ipv4_payload, ipv4_total_len};
+ghost use Rattle.ip_wire.specs.Packet.{ipv4_with, ipv6_fields, ipv6_octets, ipv6_parsed, ipv6_payload};
+ghost use Rattle.ip_wire.specs.Packet.{version_number, with_checksum};
 
 use crate::address::{Ipv4Address, Ipv6Address};
 use crate::checksum::ChecksumCapabilities;

@@ -1,17 +1,8 @@
 //! The headers of IPv4 and IPv6 as values.
 ghost use Rattle.std.specs.Prelude.{◌≡◌};
 ghost use Rattle.ip_wire.specs.Address.{SameVersion};
-ghost use Rattle.ip_wire.specs.IpHeader.{
-  dst_addr_of,
-  header_len_of,
-  header_version,
-  hop_limit_of,
-  ip_header,
-  next_header_of,
-  payload_len_of,
-  src_addr_of,
-  with_payload_len,
-};
+ghost use Rattle.ip_wire.specs.IpHeader.{dst_addr_of, header_len_of, header_version, hop_limit_of, ip_header};
+ghost use Rattle.ip_wire.specs.IpHeader.{next_header_of, payload_len_of, src_addr_of, with_payload_len};
 
 use crate::address::{IpAddress, Ipv4Address, Ipv6Address};
 use crate::protocol::{IpProtocol, IpVersion};

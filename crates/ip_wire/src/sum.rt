@@ -2,19 +2,8 @@
 ghost use Rattle.std.specs.Prelude.{◌≡◌, ◌+◌, ◌*◌, ℕ, List, ◌∷◌, ◌++◌, ◌<◌, ◌≤◌, ◌^◌, drop, length};
 ghost use Rattle.ip_wire.specs.Octets.{IsOctets, be16};
 ghost use Rattle.ip_wire.specs.Address.{octets_of};
-ghost use Rattle.ip_wire.specs.Sum.{
-  IsEven,
-  all_ones,
-  complement,
-  four_at,
-  le16_at,
-  le32_at,
-  ones_add,
-  pseudo_sum,
-  sum_after,
-  swapped_word,
-  word_of,
-};
+ghost use Rattle.ip_wire.specs.Sum.{IsEven, all_ones, complement, four_at, le16_at, le32_at, ones_add, pseudo_sum};
+ghost use Rattle.ip_wire.specs.Sum.{sum_after, swapped_word, word_of};
 
 use crate::address::IpAddress;
 use crate::octets::{be16, word};

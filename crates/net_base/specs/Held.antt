@@ -1,5 +1,6 @@
 -- Bytes that are held behind a queue: ranges of offsets, and the spare places with their bytes.
-use Rattle.std.specs.Prelude.{ℕ, ◌≡◌, ◌+◌, ◌-◌, ◌≤◌, ◌<◌, true, List, length, take, slice_get, Option, None, if◌then◌else◌}
+use Rattle.std.specs.Prelude.{ℕ, ◌≡◌, ◌+◌, ◌-◌, ◌≤◌, ◌<◌, true, List, length, take, slice_get, Option, None}
+use Rattle.std.specs.Prelude.{if◌then◌else◌}
 use Rattle.net_base.specs.declared.assembler.Range.{Range}
 use Rattle.net_base.specs.Ranges.{is_within, is_held, IsTidy}
 use Rattle.net_base.specs.Ring.{overwrite}

@@ -1,5 +1,6 @@
 -- Sets of offsets, as ranges in order with a gap between each two.
-use Rattle.std.specs.Prelude.{ℕ, ◌≡◌, ◌+◌, ◌-◌, ◌≤◌, ◌<◌, Bool, true, false, ◌&&◌, ◌||◌, ◌==◌, nat_le, nat_lt, cond, min, max, List, [], ◌∷◌, length, if◌then◌else◌}
+use Rattle.std.specs.Prelude.{ℕ, ◌≡◌, ◌+◌, ◌-◌, ◌≤◌, ◌<◌, Bool, true, false, ◌&&◌, ◌||◌, ◌==◌, nat_le, nat_lt, cond}
+use Rattle.std.specs.Prelude.{min, max, List, [], ◌∷◌, length, if◌then◌else◌}
 use Rattle.net_base.specs.declared.assembler.Range.{Range}
 
 abbrev pub range : ℕ → ℕ → Range

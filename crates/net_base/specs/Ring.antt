@@ -1,6 +1,7 @@
 -- What a contract sees of a ring: the queue, the spare places behind it, counted from the queue's end, and how far it
 -- is from the queue's first place to the end of the storage, around which the places go on.
-use Rattle.std.specs.Prelude.{ℕ, ◌+◌, ◌-◌, ◌≡◌, ◌≤◌, ◌==◌, nat_lt, min, List, [], ◌++◌, length, take, drop, refl, if◌then◌else◌}
+use Rattle.std.specs.Prelude.{ℕ, ◌+◌, ◌-◌, ◌≡◌, ◌≤◌, ◌==◌, nat_lt, min, List, [], ◌++◌, length, take, drop, refl}
+use Rattle.std.specs.Prelude.{if◌then◌else◌}
 use Rattle.std.specs.Coded.{Coded, code_by, coded×, coded_list, coded_ℕ}
 
 -- the items of the queue, oldest first; what stands in the places behind its end; and how many places there are from

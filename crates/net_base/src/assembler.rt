@@ -1,8 +1,10 @@
 //! A set of offsets, as at most four ranges. As smoltcp's assembler.
-ghost use Rattle.std.specs.Prelude.{◌≡◌, ℕ, ◌+◌, ◌<◌, ◌≤◌, ◌==◌, ◌&&◌, ◌||◌, not, nat_lt, List, [], length, take, drop, false, ◌^◌, if◌then◌else◌};
+ghost use Rattle.std.specs.Prelude.{◌≡◌, ℕ, ◌+◌, ◌<◌, ◌≤◌, ◌==◌, ◌&&◌, ◌||◌, not, nat_lt, List, [], length, take};
+ghost use Rattle.std.specs.Prelude.{drop, false, ◌^◌, if◌then◌else◌};
 ghost use Rattle.std.specs.Iterator.{YieldsFirst, item_count};
 ghost use Rattle.net_base.specs.declared.assembler.Range.{Range};
-ghost use Rattle.net_base.specs.Ranges.{insert_range, lowered, edges, run_after, ranges_after, is_refused, is_within, is_held, Adds, Apart, IsTidy};
+ghost use Rattle.net_base.specs.Ranges.{insert_range, lowered, edges, run_after, ranges_after, is_refused, is_within};
+ghost use Rattle.net_base.specs.Ranges.{is_held, Adds, Apart, IsTidy};
 ghost use Rattle.net_base.specs.Held.{IsKept, Joins};
 ghost use Rattle.net_base.specs.Ring.{overwrite};
 

@@ -2,11 +2,17 @@
 //!
 //! A packet's bytes stand in one piece. Where they don't fit before the end of the payload storage but fit at its
 //! beginning, the bytes up to the end become padding: an entry with no header, which is in no list of packets.
-ghost use Rattle.std.specs.Prelude.{◌≡◌, ℕ, ◌+◌, ◌-◌, ◌<◌, ◌≤◌, ◌==◌, ◌&&◌, nat_le, ◌↔◌, List, [], ◌∷◌, ◌++◌, length, take, drop, min, true, false, Some, None, IfOk, IfSome, OnErr, IsOk, IsSome, IsTrue, if◌then◌else◌};
+ghost use Rattle.std.specs.Prelude.{◌≡◌, ℕ, ◌+◌, ◌-◌, ◌<◌, ◌≤◌, ◌==◌, ◌&&◌, nat_le, ◌↔◌, List, [], ◌∷◌, ◌++◌, length};
+ghost use Rattle.std.specs.Prelude.{take, drop, min, true, false, Some, None, IfOk, IfSome, OnErr, IsOk, IsSome};
+ghost use Rattle.std.specs.Prelude.{IsTrue, if◌then◌else◌};
 ghost use Rattle.std.specs.Fn.{FnOnceReturnsAtMut};
 ghost use Rattle.std.specs.Borrow.{sem};
 ghost use Rattle.net_base.specs.Ring.{LeavesRun, overwrite};
-ghost use Rattle.net_base.specs.Packets.{Packets, packets_with, packets, headers, taken, end_of, run_of, room_of, first_bytes, first_header, starts_padded, without_first, skipped, appended, restarted, fits, padded_for, made_room, takes, with_storage, written_behind, first_packet, Dequeues, Claims, WritesBoth, WritesFirst, TakesFirst, AppendsWith, Enqueues};
+ghost use Rattle.net_base.specs.Packets.{Packets, packets_with, packets, headers, taken, end_of, run_of, room_of};
+ghost use Rattle.net_base.specs.Packets.{first_bytes, first_header, starts_padded, without_first, skipped, appended};
+ghost use Rattle.net_base.specs.Packets.{restarted, fits, padded_for, made_room, takes, with_storage, written_behind};
+ghost use Rattle.net_base.specs.Packets.{first_packet, Dequeues, Claims, WritesBoth, WritesFirst, TakesFirst};
+ghost use Rattle.net_base.specs.Packets.{AppendsWith, Enqueues};
 ghost use Rattle.net_base.specs.PacketLends.{LendsAll, ShowsFirst, TakesPacket, LendsPacket, with_packet};
 
 use crate::ring_buffer::{RingBuffer, place};

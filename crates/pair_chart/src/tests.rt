@@ -176,7 +176,7 @@ fn numbers_from_the_syn_on(rt: HostRuntime) -> Result<(), Fail> {
     )
 }
 
-// The frame has 60 ms from 90 to 1150, and 2 numbers from 590 to 84. The window's edge is above it.
+// The frame has 60 ms from 90 to 1150, and 2 numbers from 578 to 84. The window's edge is above it.
 #[test]
 fn sequence_of_a_handshake(rt: HostRuntime) -> Result<(), Fail> {
     pictures(
@@ -185,10 +185,10 @@ fn sequence_of_a_handshake(rt: HostRuntime) -> Result<(), Fail> {
         "",
         Picture::Sequence(Side::A),
         &[
-            "<path class=\"acked\" d=\"M796 337H1150\"/>\n\
+            "<path class=\"acked\" d=\"M796 331H1150\"/>\n\
             <path class=\"window\" d=\"M796 84H1150\"/>\n\
-            <path class=\"sent\" d=\"M87 590h6M90 590V337M87 337h6\"/>\n\
-            <text class=\"mark\" x=\"96\" y=\"333\">SYN</text>\n</svg>\n",
+            <path class=\"sent\" d=\"M87 578h6M90 578V331M87 331h6\"/>\n\
+            <text class=\"mark\" x=\"96\" y=\"327\">SYN</text>\n</svg>\n",
         ],
     )
 }

@@ -31,10 +31,10 @@ use Rattle.pair_core.specs.Holding.{kept_at}
 use Rattle.pair_core.specs.PairAddresses.{AllGo, GoesFrom}
 use Rattle.pair_core.specs.PairSteps.{stored_at}
 use Rattle.pair_core.specs.PairViews.{StoredView}
-use Rattle.pair_core.specs.Recording.{Records, SendsFrom, SendsTo, SocketDispatches}
+use Rattle.pair_core.specs.Captures.{Records, SendsFrom, SendsTo, SocketDispatches}
 use Rattle.pair_core.specs.Sides.{other_side}
-use Rattle.pair_core.specs.declared.recorder.Sent.{Sent}
-use Rattle.pair_core.specs.declared.recorder.Sent.TheVariants as sent
+use Rattle.pair_core.specs.declared.capture.Sent.{Sent}
+use Rattle.pair_core.specs.declared.capture.Sent.TheVariants as sent
 use Rattle.pair_core.specs.declared.side.Side.{Side}
 
 -- ---- lists

@@ -7,7 +7,7 @@ use Rattle.sock_tcp.specs.Process.{Accepts}
 use Rattle.control_wire.specs.declared.tcp.TcpControl.{TcpControl}
 use Rattle.control_wire.specs.declared.tcp.TcpControl.TheVariants as control
 use Rattle.sock_tcp.specs.Replies.{Answers, IsReplyStamp}
-use Rattle.pair_core.specs.Exchanges.{DeliversAt, TakesRoomAt}
+use Rattle.pair_core.specs.Aging.{DeliversAt, TakesRoomAt}
 use Rattle.pair_core.specs.Holding.{kept_at}
 use Rattle.pair_core.specs.PairSteps.{is_too_old, processed_by, delivered_to, refusal_of, refusal_reply, reply_index, DeliversTo}
 use Rattle.pair_core.specs.PairViews.{HostView, StoredView}

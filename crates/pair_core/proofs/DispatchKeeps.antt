@@ -22,8 +22,8 @@ use Rattle.sock_tcp.specs.declared.timer.Timer.{Timer}
 use Rattle.sock_tcp.specs.declared.timer.Timer.TheVariants as timer
 use Rattle.sock_tcp.specs.declared.tuple.Tuple.{Tuple}
 use Rattle.tcp_laws.specs.Laws.{IsPeered}
-use Rattle.pair_core.specs.Recording.{SendsFrom, SocketDispatches}
-use Rattle.pair_core.specs.declared.recorder.Sent.{Sent}
+use Rattle.pair_core.specs.Captures.{SendsFrom, SocketDispatches}
+use Rattle.pair_core.specs.declared.capture.Sent.{Sent}
 use Rattle.pair_core.proofs.PairListeners.{KeepsListener}
 
 pub record Keeps (v w : View) : Type 0 where

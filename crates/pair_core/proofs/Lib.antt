@@ -1,4 +1,4 @@
-pub mod Recordings
+pub mod Captured
 pub mod Deliveries
 pub mod StreamGrowth
 pub mod StreamHearing

@@ -1,4 +1,4 @@
--- After each exchange the segments still go from the one side to the other.
+-- After each wire the segments still go from the one side to the other.
 use Rattle.std.proofs.Common.{◌≡◌, Bool, true, false, List, Some, None, refl, sym, subst}
 use Rattle.std.specs.Prelude.{ℕ, slice_get}
 use Rattle.control_wire.specs.declared.tcp.TcpControl.{TcpControl}

@@ -30,12 +30,12 @@ use Rattle.pair_core.specs.PairInvariant.{IsIdle, IsReachable, IsHost, IsPair}
 use Rattle.pair_core.specs.PairNetwork.{network_of, IsSmall}
 use Rattle.pair_core.specs.PairSteps.{HostDispatches, Dispatches, DeliversTo, DeliversIf, delivered_to, exchanged, processed_by}
 use Rattle.pair_core.specs.PairViews.{HostView, StoredView, PairView, host_of, with_host, new_host}
-use Rattle.pair_core.specs.Recording.{SocketDispatches, SendsFrom}
+use Rattle.pair_core.specs.Captures.{SocketDispatches, SendsFrom}
 use Rattle.pair_core.specs.declared.host.Opening.{Opening}
 use Rattle.pair_core.specs.declared.host.Opening.TheVariants as opening
 use Rattle.pair_core.specs.declared.moment.Moment.{Moment}
 use Rattle.pair_core.specs.declared.outcome.Outcome.{Outcome}
-use Rattle.pair_core.specs.declared.recorder.Sent.{Sent}
+use Rattle.pair_core.specs.declared.capture.Sent.{Sent}
 use Rattle.pair_core.specs.Sides.{other_side}
 use Rattle.pair_core.specs.declared.side.Side.{Side}
 use Rattle.pair_core.specs.declared.side.Side.TheVariants.{A, B}

@@ -1,12 +1,16 @@
 -- What the invariant of a pair promises.
 use Rattle.std.proofs.Common.{◌≡◌, ℕ, Bool, true, false, List, ◌++◌, Option, Some, refl, sym, ap, subst, ◌∙◌}
-use Rattle.std.specs.Prelude.{slice_get, Result, Ok, Err, IfOk}
+use Rattle.std.specs.Prelude.{slice_get, Result, Ok, Err, IfOk, ◌==◌}
+use Rattle.std.specs.List.{starts_with}
+use Rattle.std.proofs.lemmas.Bool.Decides.{Decides-eqb}
+use Rattle.std.proofs.lemmas.List.{append_assoc}
+use Rattle.std.proofs.lemmas.Slice.Eq.{starts_is}
 use Rattle.sock_core.specs.Received.{JoinsAtOnce}
 use Rattle.sock_core.specs.Streams.{IsPrefix}
 use Rattle.pair_core.specs.NetworkRuns as network
 use Rattle.pair_core.specs.PairInvariant.{IsHost, IsPair}
 use Rattle.pair_core.specs.PairNetwork.{seen, endpoint_of, network_of}
-use Rattle.pair_core.specs.PairPromises.{delivered, Prefix, IsReleased, Release, IsPrompt, IsPromptAt, Prompt, in_window}
+use Rattle.pair_core.specs.PairPromises.{delivered, Prefix, Begins, IsReleased, Release, IsPrompt, IsPromptAt, Prompt, in_window}
 use Rattle.pair_core.specs.PairSteps.{DeliversTo, DeliversIf, Delivers, is_old, exchanged}
 use Rattle.pair_core.specs.PairViews.{HostView, StoredView, PairView, host_of}
 use Rattle.pair_core.specs.Sides.{other_side}
@@ -43,6 +47,17 @@ pub keeps_prefix : {G : Type 0} (p : PairView G) → IsPair p → Prefix p
 keeps_prefix p i =
     let d = both_delivered (network_of p) i.network in
     record { to_b = has_prefix p.a p.b i.b d.outgoing; to_a = has_prefix p.b p.a i.a d.incoming }
+
+-- what begins with more begins with less
+starts : (xs queue ys : List ℕ) → IsPrefix (xs ++ queue) ys → starts_with ◌==◌ ys xs ≡ true
+starts xs queue ys (rest, is) = (starts_is Decides-eqb ys xs (starts_with ◌==◌ ys xs) refl).1 (queue ++ rest) (sym is ∙ append_assoc xs queue rest)
+
+pub prefix_begins : {G : Type 0} (p : PairView G) → Prefix p → Begins p
+prefix_begins p h =
+    record {
+      of_a = starts p.b.handed_out p.b.control_block.rx_buffer.bytes p.a.accepted h.to_b;
+      of_b = starts p.a.handed_out p.a.control_block.rx_buffer.bytes p.b.accepted h.to_a;
+    }
 
 -- ---- Release
 

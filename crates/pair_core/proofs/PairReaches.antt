@@ -51,15 +51,15 @@ use Rattle.pair_core.specs.PairCalls.{listening, connecting, OpensAs, is_over, s
 use Rattle.pair_core.specs.declared.setting.Setting.{Setting}
 use Rattle.pair_core.proofs.PairAmounts.{takes_some, hands_some}
 use Rattle.pair_core.specs.PairSteps.{EventStep, refusal_of, refusal_reply, Delivers, Dispatches, stored_at, DeliversTo, DeliversIf, is_old, exchanged, processed_by, delivered_to}
-use Rattle.pair_core.specs.Recording.{Records, SendsTo, SendsFrom, SocketDispatches}
+use Rattle.pair_core.specs.Captures.{Records, SendsTo, SendsFrom, SocketDispatches}
 use Rattle.pair_core.specs.StreamCalls.{ProcessEffect}
 use Rattle.pair_core.specs.StreamViews.{Dead, HasNoIss, SocketView, StreamSegment}
 use Rattle.pair_core.specs.Sides.{other_side}
 use Rattle.pair_core.specs.declared.moment.Moment.{Moment}
 use Rattle.pair_core.specs.declared.outcome.Outcome.{Outcome}
 use Rattle.pair_core.specs.declared.outcome.PairError.{PairError}
-use Rattle.pair_core.specs.declared.recorder.Sent.{Sent}
-use Rattle.pair_core.specs.declared.recorder.Sent.TheVariants as sent
+use Rattle.pair_core.specs.declared.capture.Sent.{Sent}
+use Rattle.pair_core.specs.declared.capture.Sent.TheVariants as sent
 use Rattle.pair_core.specs.declared.side.Side.{Side}
 use Rattle.pair_core.specs.declared.side.Side.TheVariants.{A, B}
 

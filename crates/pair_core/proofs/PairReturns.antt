@@ -3,7 +3,7 @@ use Rattle.std.proofs.Common.{◌≡◌, ℕ, ◌+◌, ◌≤◌, Bool, true, fa
 use Rattle.std.specs.List.{Contains}
 use Rattle.std.specs.Prelude.{Result, Ok, Err, IfOk, OnErr, slice_get}
 use Rattle.pair_core.specs.PairSteps.{OneSide, OneSideAndSegments, IsUnchanged, exchanged, is_too_old, is_old, DeliversTo, Delivers}
-use Rattle.pair_core.specs.Exchanges.{DeliversAt}
+use Rattle.pair_core.specs.Aging.{DeliversAt}
 use Rattle.pair_core.specs.PairNetwork.{network_of}
 use Rattle.pair_core.specs.Sides.{other_side}
 use Rattle.pair_core.specs.declared.moment.Moment.{Moment}

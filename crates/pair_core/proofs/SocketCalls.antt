@@ -32,11 +32,11 @@ use Rattle.pair_core.specs.PairInvariant.{IsReachable}
 use Rattle.pair_core.specs.PairNetwork.{IsSmall}
 use Rattle.pair_core.specs.PairSteps.{processed_at}
 use Rattle.pair_core.specs.PairViews.{StoredView}
-use Rattle.pair_core.specs.Recording.{SendsFrom, SocketDispatches}
+use Rattle.pair_core.specs.Captures.{SendsFrom, SocketDispatches}
 use Rattle.pair_core.specs.Settings.{set_in}
 use Rattle.pair_core.specs.SocketCalls.{IsCall}
 use Rattle.pair_core.specs.declared.moment.Moment.{Moment}
-use Rattle.pair_core.specs.declared.recorder.Sent.{Sent}
+use Rattle.pair_core.specs.declared.capture.Sent.{Sent}
 use Rattle.pair_core.specs.declared.setting.Setting.{Setting}
 use Rattle.pair_core.specs.declared.setting.Setting.TheVariants as setting
 

@@ -1,3 +1,4 @@
+pub mod Equality
 pub mod EventValue
 pub mod Pieces
 pub mod Settings
@@ -7,10 +8,10 @@ pub mod PairTexts
 pub mod PairViews
 pub mod Headers
 pub mod Holding
-pub mod Recording
+pub mod Captures
 pub mod PairCalls
 pub mod PairSteps
-pub mod Exchanges
+pub mod Aging
 pub mod PairNetwork
 pub mod PairAddresses
 pub mod SocketCalls

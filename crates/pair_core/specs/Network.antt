@@ -1,9 +1,11 @@
 -- Two endpoints and every segment that they ever emitted, and what one call on one endpoint may do.
-use Rattle.std.specs.Prelude.{ℕ, ◌≡◌, ◌+◌, ◌-◌, ◌^◌, ◌<◌, ◌≤◌, ◌⊎◌, Bool, true, false, List, [], ◌∷◌, ◌++◌, length, take, drop}
+use Rattle.std.specs.Prelude.{ℕ, ◌≡◌, ◌+◌, ◌-◌, ◌^◌, ◌<◌, ◌≤◌, ◌⊎◌, Bool, true, false, List, [], ◌∷◌, ◌++◌, length}
+use Rattle.std.specs.Prelude.{take, drop}
 use Rattle.std.specs.List.{Contains}
 use Rattle.std.specs.declared.option.Option.{Option}
 use Rattle.std.specs.declared.option.Option.TheVariants.{Some, None}
-use Rattle.pair_core.specs.StreamViews.{Unopened, Listening, SynSent, SynReceived, Open, FinQueued, Dead, SocketView, StreamSegment, HasNoIss}
+use Rattle.pair_core.specs.StreamViews.{Unopened, Listening, SynSent, SynReceived, Open, FinQueued, Dead, SocketView}
+use Rattle.pair_core.specs.StreamViews.{StreamSegment, HasNoIss}
 use Rattle.pair_core.specs.StreamCalls.{Ends, HearEffect, ReplyEffect, DispatchEffect, EmitEffect}
 
 -- one side: its socket, and what was counted of it since the start

@@ -6,7 +6,9 @@ use Rattle.std.specs.declared.option.Option.{Option}
 use Rattle.std.specs.declared.option.Option.TheVariants.{Some, None}
 use Rattle.sock_core.specs.Places.{number_at}
 use Rattle.sock_core.specs.Streams.{IsPrefix}
-use Rattle.pair_core.specs.StreamViews.{Phase, Unopened, Listening, SynSent, SynReceived, Open, FinQueued, Silent, Dead, SocketView, StreamSegment, HasIss, HasNoIss, KnowsPeer, IsNonSynchronized}
+use Rattle.pair_core.specs.StreamViews.{Phase, Unopened, Listening, SynSent, SynReceived, Open, FinQueued, Silent}
+use Rattle.pair_core.specs.StreamViews.{Dead, SocketView, StreamSegment, HasIss, HasNoIss, KnowsPeer}
+use Rattle.pair_core.specs.StreamViews.{IsNonSynchronized}
 use Rattle.pair_core.specs.StreamModel.{Stream, counted, PlacedPayload, IsTruePayload, IsTrueAck, IsSound}
 use Rattle.pair_core.specs.Network.{Endpoint, Network, IsWithin}
 

@@ -1,5 +1,6 @@
 -- What opening, sending and receiving do to one side.
-use Rattle.std.specs.Prelude.{ℕ, ◌≡◌, ◌+◌, ◌++◌, List, length, min, take, Option, Some, None, Bool, true, false, if◌then◌else◌, nat_lt}
+use Rattle.std.specs.Prelude.{ℕ, ◌≡◌, ◌+◌, ◌++◌, List, length, min, take, Option, Some, None, Bool, true, false}
+use Rattle.std.specs.Prelude.{if◌then◌else◌, nat_lt}
 use Rattle.ip_wire.specs.declared.endpoint.IpEndpoint.{IpEndpoint}
 use Rattle.sock_core.specs.Received.{first_piece}
 use Rattle.sock_tcp.specs.Opening.{listened, connected}

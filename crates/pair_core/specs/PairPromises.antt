@@ -1,5 +1,6 @@
 -- What is promised of a pair.
-use Rattle.std.specs.Prelude.{ℕ, ◌≡◌, ◌≤◌, ◌<◌, true, false, List, ◌++◌, length, slice_get, Option, Some}
+use Rattle.std.specs.Prelude.{ℕ, ◌≡◌, ◌==◌, ◌≤◌, ◌<◌, true, false, List, ◌++◌, length, slice_get, Option, Some}
+use Rattle.std.specs.List.{starts_with}
 use Rattle.sock_core.specs.Received.{JoinsAtOnce}
 use Rattle.sock_core.specs.Seq.{is_before}
 use Rattle.sock_core.specs.Streams.{IsPrefix}
@@ -34,6 +35,11 @@ delivered h = h.handed_out ++ h.control_block.rx_buffer.bytes
 pub record Prefix {G : Type 0} (p : PairView G) : Type 0 where
   pub to_b : IsPrefix (delivered p.b) p.a.accepted
   pub to_a : IsPrefix (delivered p.a) p.b.accepted
+
+-- The same in the words of slices: `accepted(A).starts_with(handed_out(B))`, and the other way
+pub record Begins {G : Type 0} (p : PairView G) : Type 0 where
+  pub of_a : starts_with ◌==◌ p.a.accepted p.b.handed_out ≡ true
+  pub of_b : starts_with ◌==◌ p.b.accepted p.a.handed_out ≡ true
 
 -- ---- Release
 

@@ -1,5 +1,6 @@
 -- What an event does to a pair.
-use Rattle.std.specs.Prelude.{ℕ, ◌≡◌, ◌+◌, ◌-◌, ◌^◌, ◌++◌, ◌↔◌, ◌⊎◌, IsTrue, List, [], ◌∷◌, length, slice_get, Option, Some, None, option_map, Bool, true, false, nat_le, ◌||◌}
+use Rattle.std.specs.Prelude.{ℕ, ◌≡◌, ◌+◌, ◌-◌, ◌<◌, ◌^◌, ◌++◌, ◌↔◌, ◌⊎◌, IsTrue, List, [], ◌∷◌, length, min, slice_get}
+use Rattle.std.specs.Prelude.{Option, Some, None, option_map, Bool, true, false, nat_le, ◌||◌}
 use Rattle.ip_wire.specs.declared.repr.IpRepr.{IpRepr}
 use Rattle.control_wire.specs.Segment.{Segment}
 use Rattle.control_wire.specs.declared.tcp.TcpControl.{TcpControl}
@@ -11,15 +12,15 @@ use Rattle.pair_core.specs.Moments.{facts_of}
 use Rattle.pair_core.specs.PairViews.{HostView, StoredView, PairView, host_of, with_host}
 use Rattle.pair_core.specs.Holding.{stored_segment, kept_at}
 use Rattle.pair_core.specs.PairCalls.{listening, connecting, OpensAs, is_over, Sends, Receives, Closes, Aborts, Sets}
-use Rattle.pair_core.specs.Recording.{SocketDispatches}
+use Rattle.pair_core.specs.Captures.{SocketDispatches}
 use Rattle.pair_core.specs.Sides.{other_side}
 use Rattle.pair_core.specs.declared.event.Event.{Event}
 use Rattle.pair_core.specs.declared.event.Event.TheVariants as event
 use Rattle.pair_core.specs.declared.moment.Moment.{Moment}
 use Rattle.pair_core.specs.declared.outcome.Outcome.{Outcome}
 use Rattle.pair_core.specs.declared.outcome.Outcome.TheVariants as outcome
-use Rattle.pair_core.specs.declared.recorder.Sent.{Sent}
-use Rattle.pair_core.specs.declared.recorder.Sent.TheVariants as sent
+use Rattle.pair_core.specs.declared.capture.Sent.{Sent}
+use Rattle.pair_core.specs.declared.capture.Sent.TheVariants as sent
 use Rattle.pair_core.specs.declared.side.Side.{Side}
 
 -- ---- an event of one side: the other side stays as it was
@@ -161,14 +162,18 @@ abbrev pub DeliveryTakesMemory : {G : Type 0} → Option StoredView → PairView
 DeliveryTakesMemory None p = ⊥
 DeliveryTakesMemory (Some t) p = TakesRoom (is_old (host_of t.emitter p) t) (host_of (other_side t.emitter) p) t
 
+-- a read that hands out a byte at least
+abbrev pub ReadTakesMemory : {G : Type 0} → ℕ → HostView G → Type 0
+ReadTakesMemory size h = 0 < min size (length h.control_block.rx_buffer.bytes)
+
 -- the others are done, or refused by an outcome, without any
 abbrev pub TakesMemory : {G : Type 0} → Event → PairView G → Type 0
 TakesMemory (event.Listen s) p = ⊥
 TakesMemory (event.Connect s m) p = ⊥
 TakesMemory (event.SendSlice s bytes) p = is_over p.limit (length (host_of s p).accepted + length bytes.items) ≡ false
 TakesMemory (event.Send s bytes size) p = is_over p.limit (length (host_of s p).accepted + length bytes.items) ≡ false
-TakesMemory (event.RecvSlice s size) p = Unit {0}
-TakesMemory (event.Recv s size) p = Unit {0}
+TakesMemory (event.RecvSlice s size) p = ReadTakesMemory size (host_of s p)
+TakesMemory (event.Recv s size) p = ReadTakesMemory size (host_of s p)
 TakesMemory (event.Close s) p = ⊥
 TakesMemory (event.Abort s) p = ⊥
 TakesMemory (event.Set s x) p = ⊥

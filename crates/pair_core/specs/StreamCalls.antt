@@ -2,7 +2,8 @@
 use Rattle.std.specs.Prelude.{ℕ, ◌≡◌, ◌+◌, ◌%◌, ◌^◌, ◌<◌, ◌⊎◌, Bool, true, false, []}
 use Rattle.std.specs.declared.option.Option.{Option}
 use Rattle.std.specs.declared.option.Option.TheVariants.{Some, None}
-use Rattle.pair_core.specs.StreamViews.{Listening, SynSent, SynReceived, Open, Dead, SocketView, StreamSegment, HasIss, KnowsPeer, IsSynchronized}
+use Rattle.pair_core.specs.StreamViews.{Listening, SynSent, SynReceived, Open, Dead, SocketView, StreamSegment}
+use Rattle.pair_core.specs.StreamViews.{HasIss, KnowsPeer, IsSynchronized}
 use Rattle.pair_core.specs.StreamEffects.{HearsData, HearsAck, SndNxtWithin, MaySend, SameSending}
 
 -- ---- the end of a connection

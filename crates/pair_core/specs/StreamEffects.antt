@@ -2,7 +2,8 @@
 use Rattle.std.specs.Prelude.{ℕ, ◌≡◌, ◌+◌, ◌-◌, ◌%◌, ◌^◌, ◌<◌, ◌≤◌, ◌⊎◌, true, false, List, [], ◌++◌, length, drop}
 use Rattle.std.specs.declared.option.Option.TheVariants.{Some}
 use Rattle.sock_core.specs.Streams.{ByteAt, fin_length}
-use Rattle.pair_core.specs.StreamViews.{SynSent, SynReceived, Open, FinQueued, Silent, SocketView, StreamSegment, HasIss, KnowsPeer}
+use Rattle.pair_core.specs.StreamViews.{SynSent, SynReceived, Open, FinQueued, Silent, SocketView, StreamSegment}
+use Rattle.pair_core.specs.StreamViews.{HasIss, KnowsPeer}
 
 -- ---- receiving
 

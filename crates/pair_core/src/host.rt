@@ -1,5 +1,7 @@
 //! One side of a pair: its socket, and what it accepted and handed out.
-ghost use Rattle.std.specs.Prelude.{◌≡◌, ◌+◌, ◌-◌, ◌≤◌, ◌<◌, ◌^◌, ◌++◌, ◌↔◌, IsTrue, length, option_map, Some, [], not, false, IfOk, OnOk, OnErr, vec_len, vec_capacity, min, take, true, MatchOption, is_some};
+ghost use Rattle.std.specs.Prelude.{◌≡◌, ◌+◌, ◌-◌, ◌≤◌, ◌<◌, ◌^◌, ◌++◌, ◌↔◌, IsTrue, length, option_map, Some, []};
+ghost use Rattle.std.specs.Prelude.{not, false, IfOk, OnOk, OnErr, vec_len, vec_capacity, min, take, true};
+ghost use Rattle.std.specs.Prelude.{MatchOption, is_some};
 ghost use Rattle.std.specs.Option.{ForSome};
 ghost use Rattle.control_wire.specs.Fits.{FitsPacket};
 ghost use Rattle.control_wire.specs.Segment.{segment_of};
@@ -7,16 +9,16 @@ ghost use Rattle.sock_tcp.specs.Process.{Accepts, generator_after, processed, re
 ghost use Rattle.sock_tcp.specs.Replies.{Answers, IsReplyStamp};
 ghost use Rattle.pair_core.specs.Moments.{facts_of};
 ghost use Rattle.pair_core.specs.Holding.{stored_of};
-ghost use Rattle.pair_core.specs.PairSteps.{processed_at};
+ghost use Rattle.pair_core.specs.PairSteps.{ReadTakesMemory, processed_at};
 ghost use Rattle.pair_core.specs.Pieces.{SendsPiece, ReceivesPiece};
-ghost use Rattle.pair_core.specs.Recording.{Holds, FitsSent, SocketDispatches};
+ghost use Rattle.pair_core.specs.Captures.{Holds, FitsSent, SocketDispatches};
 
-use crate::exchange::Counts;
+use crate::capture::{Capture, EmitFailed, Sent};
 use crate::moment::Moment;
 use crate::outcome::{Outcome, PairError};
-use crate::recorder::{EmitFailed, Recorder, Sent};
 use crate::segment::Segment;
 use crate::setting::Setting;
+use crate::wire::Counts;
 use control_wire::{TcpRepr, TcpTimestampGenerator};
 use ip_wire::{IpEndpoint, IpListenEndpoint, IpRepr};
 use sock_tcp::{Generator, RecvError, Reply, SendError, Socket, SocketBuffer, TsvalSource};
@@ -129,7 +131,8 @@ impl<'a, G> Host<'a, G> {
 
 impl<'a, G: TsvalSource> Host<'a, G> {
     ghost use Rattle.sock_tcp.specs.Queues.{may_send};
-    ghost use Rattle.pair_core.specs.PairCalls.{listening, connecting, OpensAs, SendsIf, Receives, Closes, Aborts, Sets};
+    ghost use Rattle.pair_core.specs.PairCalls.{listening, connecting, OpensAs, SendsIf, Receives, Closes, Aborts};
+    ghost use Rattle.pair_core.specs.PairCalls.{Sets};
     ghost use Rattle.pair_core.specs.PairSteps.{HostDispatches};
     ghost use Rattle.pair_core.specs.PairInvariant.{IsSocket, IsHost, IsReachable};
     ghost use Rattle.ip_wire.specs.Address.{SameVersion};
@@ -240,6 +243,7 @@ impl<'a, G: TsvalSource> Host<'a, G> {
     ) -> Result<Outcome, PairError>
         ensures step { IfOk result (λ o. Receives piece size self.old o self.new) }
         ensures memory { OnErr result (self.new ≡ self.old) }
+        ensures takes_memory { OnErr result (ReadTakesMemory size self.old) }
     {
         if piece {
             self.recv_piece(alloc, size)
@@ -251,15 +255,10 @@ impl<'a, G: TsvalSource> Host<'a, G> {
     fn recv_slice(&mut self, alloc: Global, size: usize) -> Result<Outcome, PairError>
         ensures step { IfOk result (λ o. Receives false size self.old o self.new) }
         ensures memory { OnErr result (self.new ≡ self.old) }
+        ensures takes_memory { OnErr result (ReadTakesMemory size self.old) }
     {
         let count = size.min(self.socket.recv_queue());
-        if let Err(_) = self.handed_out.reserve(count) {
-            return Err(PairError::Memory);
-        }
-        let mut bytes = match vec![in alloc; 0u8; count] {
-            Err(_) => return Err(PairError::Memory),
-            Ok(bytes) => bytes,
-        };
+        let mut bytes = room(&mut self.handed_out, alloc, count)?;
         match self.socket.recv_slice(bytes.as_mut_slice()) {
             Err(e) => Ok(Outcome::RecvRefused(e)),
             Ok(_) => {
@@ -272,16 +271,11 @@ impl<'a, G: TsvalSource> Host<'a, G> {
     fn recv_piece(&mut self, alloc: Global, size: usize) -> Result<Outcome, PairError>
         ensures step { IfOk result (λ o. Receives true size self.old o self.new) }
         ensures memory { OnErr result (self.new ≡ self.old) }
+        ensures takes_memory { OnErr result (ReadTakesMemory size self.old) }
     {
         let count = size.min(self.socket.recv_queue());
-        if let Err(_) = self.handed_out.reserve(count) {
-            return Err(PairError::Memory);
-        }
-        let room = match vec![in alloc; 0u8; count] {
-            Err(_) => return Err(PairError::Memory),
-            Ok(room) => room,
-        };
-        match take_piece(&mut self.socket, room) {
+        let bytes = room(&mut self.handed_out, alloc, count)?;
+        match take_piece(&mut self.socket, bytes) {
             Err(e) => Ok(Outcome::RecvRefused(e)),
             Ok(bytes) => {
                 append(&mut self.handed_out, bytes.as_slice());
@@ -330,14 +324,14 @@ impl<'a, G: TsvalSource> Host<'a, G> {
         ensures table { HostDispatches G.tells moment.entry.now fail self.old result self.new }
         ensures fits { FitsSent result }
     {
-        let mut recorder = Recorder {
+        let mut capture = Capture {
             moment: *moment,
             header: None,
             payload: room,
         };
         let answer = self.socket.dispatch(
-            &mut recorder,
-            move |cx: &mut Recorder, sent: (IpRepr, TcpRepr<'_>)| -> Result<(), EmitFailed>
+            &mut capture,
+            move |cx: &mut Capture, sent: (IpRepr, TcpRepr<'_>)| -> Result<(), EmitFailed>
                 ensures kept { OnOk result
                     (IsTrue (not fail) × Holds cx.entry.now cx.exit.now sent.entry.0 (segment_of sent.entry.1)) }
                 ensures err { OnErr result
@@ -351,7 +345,7 @@ impl<'a, G: TsvalSource> Host<'a, G> {
                 }
             },
         );
-        recorder.into_sent(answer)
+        capture.into_sent(answer)
     }
 
     pub(crate) fn accepts(&self, moment: &Moment, segment: &Segment) -> bool
@@ -450,6 +444,25 @@ fn take_piece<G>(socket: &mut Socket<'_, G>, room: Vec<u8>) -> Result<Vec<u8>, R
             (count, bytes)
         },
     )
+}
+
+// Room for so many bytes that a read hands out, in its answer and in the list of all. Nothing takes no memory.
+fn room(handed_out: &mut Vec<u8>, alloc: Global, count: usize) -> Result<Vec<u8>, PairError>
+    ensures answer { IfOk result (λ r. vec_len r ≡ count) }
+    ensures same { handed_out.new.items ≡ handed_out.old.items }
+    ensures room { IfOk result (λ r. vec_len handed_out.new + count ≤ vec_capacity handed_out.new) }
+    ensures takes_memory { OnErr result (0 < count) }
+{
+    if count == 0 {
+        return Ok(Vec::new(alloc));
+    }
+    if let Err(_) = handed_out.reserve(count) {
+        return Err(PairError::Memory);
+    }
+    match vec![in alloc; 0u8; count] {
+        Err(_) => Err(PairError::Memory),
+        Ok(room) => Ok(room),
+    }
 }
 
 // Adds bytes for which room was made.

@@ -1,7 +1,8 @@
 //! What the case tables of a socket come to for the theorem on two streams, as laws: functions whose contracts are the
 //! laws and whose bodies are empty. What is proved of a pair stands on them, and looks into no case table of a socket
 //! itself. And what is promised of a pair.
-ghost use Rattle.std.specs.Prelude.{◌≡◌, ℕ, ◌<◌, ◌≤◌, ◌+◌, ◌-◌, ◌^◌, ◌++◌, List, length, min, max, take, drop, Option, Some, option_map, is_some, Bool};
+ghost use Rattle.std.specs.Prelude.{◌≡◌, ℕ, ◌<◌, ◌≤◌, ◌+◌, ◌-◌, ◌^◌, ◌++◌, List, length, min, max, take, drop};
+ghost use Rattle.std.specs.Prelude.{Option, Some, option_map, is_some, Bool};
 ghost use Rattle.ip_wire.specs.declared.endpoint.IpEndpoint.{IpEndpoint};
 ghost use Rattle.ip_wire.specs.declared.endpoint.IpListenEndpoint.{IpListenEndpoint};
 ghost use Rattle.ip_wire.specs.declared.repr.IpRepr.{IpRepr};

@@ -1,14 +1,15 @@
 //! Two sockets, and every segment that they emitted.
-ghost use Rattle.std.specs.Prelude.{◌≡◌, ◌+◌, ◌<◌, ◌≤◌, ◌^◌, length, IfOk, OnOk, OnErr, [], None, false, slice_get, MatchOption, option_map};
+ghost use Rattle.std.specs.Prelude.{◌≡◌, ◌+◌, ◌<◌, ◌≤◌, ◌^◌, length, IfOk, OnOk, OnErr, [], None, false, slice_get};
+ghost use Rattle.std.specs.Prelude.{MatchOption, option_map};
 
 use crate::event::Event;
-use crate::exchange::{deliver, dispatch};
 use crate::host::Host;
 use crate::moment::Moment;
 use crate::outcome::{Outcome, PairError};
 use crate::segment::Segment;
 use crate::setting::Setting;
 use crate::side::Side;
+use crate::wire::{deliver, dispatch};
 use control_wire::TcpTimestampGenerator;
 use ip_wire::IpEndpoint;
 use sock_tcp::{Generator, Socket, SocketBuffer, TsvalSource};
@@ -139,11 +140,13 @@ impl<'a, G: TsvalSource> Pair<'a, G> {
     ghost use Rattle.control_wire.specs.Fits.{FitsPacket, HasPorts};
     ghost use Rattle.std.specs.Prelude.{map};
     ghost use Rattle.pair_core.specs.PairViews.{host_of};
-    ghost use Rattle.pair_core.specs.PairCalls.{listening, connecting, OpensAs, is_over, Sends, Receives, Closes, Aborts, Sets};
-    ghost use Rattle.pair_core.specs.PairSteps.{OneSide, OneSideAndSegments, Dispatches, Delivers, DeliveryTakesMemory, TakesMemory, EventStep};
+    ghost use Rattle.pair_core.specs.PairCalls.{listening, connecting, OpensAs, is_over, Sends, Receives, Closes};
+    ghost use Rattle.pair_core.specs.PairCalls.{Aborts, Sets};
+    ghost use Rattle.pair_core.specs.PairSteps.{OneSide, OneSideAndSegments, Dispatches, Delivers};
+    ghost use Rattle.pair_core.specs.PairSteps.{DeliveryTakesMemory, ReadTakesMemory, TakesMemory, EventStep};
     ghost use Rattle.pair_core.specs.PairRuns.{Ran};
     ghost use Rattle.pair_core.specs.PairStreams.{AddsUp, accepted_by, handed_out_by};
-    ghost use Rattle.pair_core.specs.PairPromises.{Prefix, Release, Complete, Prompt};
+    ghost use Rattle.pair_core.specs.PairPromises.{Prefix, Begins, Release, Complete, Prompt};
     ghost use Rattle.pair_core.specs.Holding.{stored_of};
     ghost use Rattle.std.specs.Option.{ForSome};
     ghost use Rattle.pair_core.specs.PairInvariant.{DeliversSmall, IsSocket, IsPair};
@@ -199,7 +202,8 @@ impl<'a, G: TsvalSource> Pair<'a, G> {
 
     /// The side's socket.
     pub fn socket(&self, side: Side) -> &Socket<'a, G>
-        ensures { result.now.control_block ≡ (host_of side self.now).control_block }
+        ensures control_block { result.now.control_block ≡ (host_of side self.now).control_block }
+        ensures source { result.now.tsval_generator ≡ (host_of side self.now).source }
     {
         &self.host(side).socket
     }
@@ -269,6 +273,7 @@ impl<'a, G: TsvalSource> Pair<'a, G> {
     fn recv(&mut self, side: Side, size: usize, piece: bool) -> Result<Outcome, PairError>
         ensures step { IfOk result (λ o. OneSide side self.old self.new (λ h k. Receives piece size h o k)) }
         ensures memory { OnErr result (self.new ≡ self.old) }
+        ensures takes_memory { OnErr result (ReadTakesMemory size (host_of side self.old)) }
     {
         match side {
             Side::A => self.a.recv(self.alloc, size, piece),
@@ -418,6 +423,7 @@ impl<'a, G: TsvalSource> Pair<'a, G> {
     // So its promises hold.
     fn keeps_order(&self)
         ensures prefix { Prefix self.now }
+        ensures begins { Begins self.now }
         ensures release { Release self.now }
     {
         self.a.in_range(); // for its contract
@@ -448,7 +454,8 @@ impl<'a, G: TsvalSource> Pair<'a, G> {
     ///
     /// The event meets the case table of its call, and the other side's socket stays as it was. Afterwards what each
     /// side handed out, followed by its receive queue, is a prefix of what the other accepted, and acknowledgements
-    /// have released only bytes that the other took. The bytes of a segment in order that lie in the receive window
+    /// have released only bytes that the other took. So `accepted` of the one side starts with `handed_out` of the
+    /// other, in the words of slices. The bytes of a segment in order that lie in the receive window
     /// are queued before its delivery returns, and behind them what was held there. The event is a run of steps of the
     /// theorem on two streams, and adds to the streams what its outcome says.
     ///
@@ -456,13 +463,15 @@ impl<'a, G: TsvalSource> Pair<'a, G> {
     /// accepted stays as it is.
     ///
     /// `Memory` where a growth was refused; the pair is then as it was. `Listen`, `Connect`, `Close`, `Abort` and
-    /// `Set` take no memory, nor does an event that comes to one of the last five outcomes.
+    /// `Set` take no memory, nor does a read where nothing is queued, nor an event that comes to one of the last five
+    /// outcomes.
     pub fn step(&mut self, event: &Event) -> Result<Outcome, PairError>
         ensures step { IfOk result (λ o. EventStep G.tells event.entry.now self.old o self.new) }
         ensures adds { IfOk result (λ o. AddsUp self.old self.new (λ s. accepted_by s event.entry.now o)
             (λ s. handed_out_by s event.entry.now o)) }
         ensures streams { Reaches (network_of self.old) (network_of self.new) }
         ensures prefix { Prefix self.new }
+        ensures begins { Begins self.new }
         ensures release { Release self.new }
         ensures complete { IfOk result (λ o. Complete event.entry.now self.old o self.new) }
         ensures prompt { IfOk result (λ o. Prompt event.entry.now self.old o self.new) }
@@ -486,6 +495,7 @@ impl<'a, G: TsvalSource> Pair<'a, G> {
     pub fn run(&mut self, events: &[Event], outcomes: &mut Vec<Outcome>) -> Result<(), PairError>
         ensures streams { Reaches (network_of self.old) (network_of self.new) }
         ensures prefix { Prefix self.new }
+        ensures begins { Begins self.new }
         ensures release { Release self.new }
         ensures done { Ran G.tells events.now self.old outcomes.old.items outcomes.new.items self.new }
         ensures all { OnOk result (length outcomes.new.items ≡ length outcomes.old.items + length events.now) }

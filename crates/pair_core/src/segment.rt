@@ -99,7 +99,7 @@ impl Segment {
     }
 
     // Says that its numbers have 32 bits, and its payload at most 65535 bytes.
-    #[tactic(auto, using(crate::proofs::Recordings::short_of))]
+    #[tactic(auto, using(crate::proofs::Captured::short_of))]
     pub(crate) fn in_range(&self)
         ensures numbers { IsSmall (stored_of self.now).segment }
         ensures short { length (stored_of self.now).segment.payload ≤ 65535 }

@@ -1,17 +1,21 @@
 //! The theorem on two streams, as laws: functions whose contracts are the theorem and whose bodies are empty.
 //! The definitions stand in `specs/`, and docs/THEOREM.md explains them.
-ghost use Rattle.std.specs.Prelude.{◌≡◌, ℕ, ◌+◌, ◌-◌, ◌%◌, ◌<◌, ◌≤◌, ◌^◌, ◌⊎◌, false, List, [], ◌∷◌, length, take, drop, min, max};
+ghost use Rattle.std.specs.Prelude.{◌≡◌, ℕ, ◌+◌, ◌-◌, ◌%◌, ◌<◌, ◌≤◌, ◌^◌, ◌⊎◌, false, List, [], ◌∷◌, length, take};
+ghost use Rattle.std.specs.Prelude.{drop, min, max};
 ghost use Rattle.std.specs.List.{Contains};
 ghost use Rattle.std.specs.declared.option.Option.{Option};
 ghost use Rattle.std.specs.declared.option.Option.TheVariants.{Some, None};
 ghost use Rattle.sock_core.specs.Places.{number_at, number_distance, number_is_before, later_number};
 ghost use Rattle.pair_core.specs.StreamViews.{Listening, Open, SocketView, StreamSegment, HasIss, IsNonSynchronized};
 ghost use Rattle.pair_core.specs.StreamEffects.{HearsData, HearsAck, SendsPayload, SendsKeepAlive, SndNxtWithin};
-ghost use Rattle.pair_core.specs.StreamTables.{cut, Gathers, JoinsWithHeld, TakesPayload, TakesWhole, HasSendingBounds, AckPasses, Content};
+ghost use Rattle.pair_core.specs.StreamTables.{cut, Gathers, JoinsWithHeld, TakesPayload, TakesWhole};
+ghost use Rattle.pair_core.specs.StreamTables.{HasSendingBounds, AckPasses, Content};
 ghost use Rattle.pair_core.specs.StreamCalls.{ProcessEffect, DispatchEffect, EmitEffect};
-ghost use Rattle.pair_core.specs.Network.{Network, Step, swapped, AnswersFinished, Arrives, IsStamped, with_local, with_view, heard_by, emitted};
+ghost use Rattle.pair_core.specs.Network.{Network, Step, swapped, AnswersFinished, Arrives, IsStamped, with_local};
+ghost use Rattle.pair_core.specs.Network.{with_view, heard_by, emitted};
 ghost use Rattle.pair_core.specs.NetworkInvariant.{IsLimit, IsInvariant};
-ghost use Rattle.pair_core.specs.NetworkRuns.{start, Run, Reaches, answered, AreDelivered, AlwaysDelivers, AlwaysCompletes, AlwaysEnds, OnlyAdds};
+ghost use Rattle.pair_core.specs.NetworkRuns.{start, Run, Reaches, answered, AreDelivered, AlwaysDelivers};
+ghost use Rattle.pair_core.specs.NetworkRuns.{AlwaysCompletes, AlwaysEnds, OnlyAdds};
 
 /// Streams with a limit below 2^29 bytes, over every list of steps, where any segment ever emitted may arrive at any
 /// time: what each side handed out, followed by its receive queue, is a prefix of what the other accepted, and

@@ -18,8 +18,8 @@ pub struct Label<'a> {
 }
 
 impl fmt::Display for Label<'_> {
-    // The text, with an edge of the page's colour, so that it can be read over an arrow, and no arrow is cut by more than
-    // its letters. A text that is too long is condensed.
+    // The text, with an edge of the page's colour, so that it can be read over an arrow, and no arrow is cut by more
+    // than its letters. A text that is too long is condensed.
     fn fmt<W: fmt::Write>(&self, f: &mut fmt::Formatter<W>) -> fmt::Result {
         let (index, y) = (self.index, self.y);
         let headers = Headers {

@@ -8,6 +8,7 @@ mod chart;
 mod history;
 mod label;
 mod marks;
+mod moments;
 mod numbers;
 mod page;
 pub mod picture;

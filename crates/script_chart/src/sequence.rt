@@ -6,6 +6,7 @@
 use crate::axis::Axis;
 use crate::history::Step;
 use crate::marks::{Mark, Marker, length};
+use crate::moments::{Time, last_moment};
 use crate::numbers::Numbers;
 use crate::page::name;
 use crate::style::{SEQUENCE_LEGEND, SEQUENCE_STYLE};
@@ -29,6 +30,9 @@ const TOP: u64 = 84;
 
 const BOTTOM: u64 = 590;
 
+// The number 0, a SYN, stands above the frame.
+const LOWEST: u64 = 578;
+
 // A picture on its way to a writer.
 #[derive(Drop)]
 struct Picture<'w, 'h, W> {
@@ -37,7 +41,7 @@ struct Picture<'w, 'h, W> {
     // Which segments arrived at all.
     arrived: Vec<bool>,
     // Milliseconds from left to right, and numbers from the bottom upwards.
-    time: Axis,
+    time: Time,
     number: Axis,
 }
 
@@ -73,7 +77,7 @@ pub fn draw<W: Write>(
         out,
         heard,
         arrived,
-        time: time_axis(steps),
+        time: Time::of(steps, LEFT, RIGHT),
         number: heard.number_axis(steps),
     };
     match picture.draw(steps) {
@@ -114,20 +118,14 @@ fn scale(segments: &[Segment], side: Side) -> Option<u8> {
     None
 }
 
-// All moments of the script.
-fn time_axis(steps: &[Step<'_>]) -> Axis {
-    let (mut first, mut last) = (u64::MAX, 0);
-    for step in steps {
-        if let Some(millis) = step.millis() {
-            first = first.min(millis);
-            last = last.max(millis);
-        }
-    }
-    Axis {
-        first: first.min(last),
-        last,
-        from: LEFT,
-        to: RIGHT,
+// Whether the segment of this index is an RST of this side.
+fn is_reset(segments: &[Segment], index: Option<usize>, side: Side) -> bool {
+    let Some(index) = index else {
+        return false;
+    };
+    match segments.get(index) {
+        Some(segment) => segment.from == side && segment.header.control == TcpControl::Rst,
+        None => false,
     }
 }
 
@@ -163,7 +161,7 @@ impl Heard<'_> {
         Axis {
             first: 0,
             last: sent.max(edge),
-            from: BOTTOM,
+            from: LOWEST,
             to: TOP,
         }
     }
@@ -193,13 +191,14 @@ impl Heard<'_> {
 impl<W: Write> Picture<'_, '_, W> {
     fn draw(&mut self, steps: &[Step<'_>]) -> io::Result<()> {
         self.open()?;
-        self.times()?;
+        self.times(last_moment(steps))?;
         self.numbers()?;
         self.frame()?;
         self.line(steps, "acked", false)?;
         self.line(steps, "window", true)?;
         self.bars(steps)?;
         self.answers(steps)?;
+        self.resets(steps)?;
         writeln!(self.out, "</svg>")
     }
 
@@ -220,23 +219,45 @@ impl<W: Write> Picture<'_, '_, W> {
         self.out.write_all(SEQUENCE_LEGEND.as_bytes())
     }
 
-    // The marks of the milliseconds.
-    fn times(&mut self) -> io::Result<()> {
+    // The marks of the milliseconds. The script ends at `end`.
+    fn times(&mut self, end: u64) -> io::Result<()> {
         let y = BOTTOM + 18;
         for index in 0..16u64 {
-            if let Some(mark) = self.time.mark(index) {
-                let x = self.time.place(mark);
-                writeln!(
-                    self.out,
-                    "<path class=\"grid\" d=\"M{x} {TOP}V{BOTTOM}\"/>\
-                    <text class=\"mark\" x=\"{x}\" text-anchor=\"middle\" y=\"{y}\">{mark}</text>"
-                )?;
+            if let Some(mark) = self.time.axis.mark(index) {
+                self.moment(mark, y)?;
             }
         }
+        if let Some(late) = self.time.late {
+            self.moment(late, y)?;
+            self.fold()?;
+        }
         let y = BOTTOM + 36;
+        write!(
+            self.out,
+            "<text class=\"mark\" x=\"{RIGHT}\" text-anchor=\"end\" y=\"{y}\">ms"
+        )?;
+        if end > self.time.last() {
+            write!(self.out, "; no segment from here to {end}")?;
+        }
+        writeln!(self.out, "</text>")
+    }
+
+    // The mark of this moment, below the frame.
+    fn moment(&mut self, millis: u64, y: u64) -> io::Result<()> {
+        let x = self.time.place(millis);
         writeln!(
             self.out,
-            "<text class=\"mark\" x=\"{RIGHT}\" text-anchor=\"end\" y=\"{y}\">ms</text>"
+            "<path class=\"grid\" d=\"M{x} {TOP}V{BOTTOM}\"/>\
+            <text class=\"mark\" x=\"{x}\" text-anchor=\"middle\" y=\"{y}\">{millis}</text>"
+        )
+    }
+
+    // The break before the last moment.
+    fn fold(&mut self) -> io::Result<()> {
+        let (x, y) = (self.time.fold(), BOTTOM + 6);
+        writeln!(
+            self.out,
+            "<path class=\"frame\" d=\"M{x} {y}l6 -12m4 12l6 -12\"/>"
         )
     }
 
@@ -326,6 +347,33 @@ impl<W: Write> Picture<'_, '_, W> {
         let from = self.number.place(heard.offset(left));
         let to = self.number.place(heard.offset(right));
         writeln!(self.out, "<path class=\"sack\" d=\"M{x} {from}V{to}\"/>")
+    }
+
+    // The RSTs of both sides, each by a line over all numbers: it ends the connection where it is heard.
+    fn resets(&mut self, steps: &[Step<'_>]) -> io::Result<()> {
+        let heard = self.heard;
+        for step in steps {
+            let Some(millis) = step.millis() else {
+                continue;
+            };
+            if is_reset(heard.segments, step.emitted(), heard.side) {
+                self.reset(millis, "RST sent", TOP + 12)?;
+            }
+            if is_reset(heard.segments, step.delivered(), heard.side.other()) {
+                self.reset(millis, "RST came", TOP + 28)?;
+            }
+        }
+        Ok(())
+    }
+
+    fn reset(&mut self, millis: u64, text: &str, y: u64) -> io::Result<()> {
+        let x = self.time.place(millis);
+        let beside = x.saturating_sub(6);
+        writeln!(
+            self.out,
+            "<path class=\"reset\" d=\"M{x} {TOP}V{BOTTOM}\"/>\
+            <text class=\"mark\" x=\"{beside}\" text-anchor=\"end\" y=\"{y}\">{text}</text>"
+        )
     }
 
     // The segments of this side that take numbers.

@@ -80,25 +80,27 @@ path { fill: none; stroke-width: 1.5; }
 .grid { stroke: #eaeef2; }
 .frame { stroke: #8c959f; }
 .name { font-weight: bold; }
-.mark { fill: #656d76; }
+.mark { fill: #656d76; paint-order: stroke; stroke: #ffffff; stroke-width: 3px; stroke-linejoin: round; }
 .sent { stroke: #0969da; }
 .again { stroke: #cf222e; }
 .lost { stroke: #57606a; stroke-width: 2; }
 .acked { stroke: #1a7f37; }
 .window { stroke: #9a6700; stroke-dasharray: 6 4; }
 .sack { stroke: #8250df; stroke-width: 3; }
+.reset { stroke: #cf222e; stroke-dasharray: 2 3; }
 @media (prefers-color-scheme: dark) {
 text { fill: #e6edf3; }
 .page { fill: #0d1117; }
 .grid { stroke: #21262d; }
 .frame { stroke: #6e7681; }
-.mark { fill: #8d96a0; }
+.mark { fill: #8d96a0; stroke: #0d1117; }
 .sent { stroke: #4493f8; }
 .again { stroke: #f85149; }
 .lost { stroke: #9198a1; }
 .acked { stroke: #3fb950; }
 .window { stroke: #d29922; }
 .sack { stroke: #ab7df8; }
+.reset { stroke: #f85149; }
 }
 </style>
 "#;
@@ -113,4 +115,5 @@ pub const SEQUENCE_LEGEND: &str =
 <path class="acked" d="M574 30v-8"/><text x="582" y="26">the same again</text>
 <path class="sack" d="M710 14V30"/><text x="720" y="26">SACK</text>
 <path class="window" d="M780 22H810"/><text x="818" y="26">edge of the window</text>
+<path class="reset" d="M976 14V30"/><text x="986" y="26">RST</text>
 "#;

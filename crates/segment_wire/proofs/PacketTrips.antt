@@ -1,8 +1,8 @@
 -- Packets are read as they were written.
-use Rattle.std.proofs.Common.{ℕ, ◌+◌, ◌≤◌, ◌&&◌, Bool, true, List, [], ◌++◌, ◌≡◌, length, refl, ap, subst, sym, ◌∙◌, arith}
+use Rattle.std.proofs.Common.{ℕ, ◌+◌, ◌≤◌, ◌&&◌, Bool, true, List, ◌++◌, ◌≡◌, length, refl, ap, sym, ◌∙◌, arith}
 use Rattle.std.specs.Prelude.{Some, None, ◌==◌, nat_le, not, if◌then◌else◌}
 use Rattle.std.proofs.lemmas.Bool.Decides.{nat_tests}
-use Rattle.std.proofs.lemmas.List.{append-nil}
+use Rattle.std.proofs.lemmas.List.{append_assoc}
 use Rattle.ip_wire.specs.Address.{octets_of}
 use Rattle.ip_wire.specs.Checksum.{is_received, is_sent}
 use Rattle.ip_wire.specs.IpHeader.{dst_addr_of, next_header_of, payload_len_of, src_addr_of}
@@ -11,6 +11,7 @@ use Rattle.ip_wire.specs.Packet.{IsIpv4, IsIpv6, header_octets, ipv4_header_len,
 use Rattle.ip_wire.specs.Protocol.{number_of}
 use Rattle.ip_wire.specs.RoundTrip.{IsIpv4Header, IsIpv6Header, ReadsIpv4, ReadsIpv6}
 use Rattle.ip_wire.specs.declared.checksum.ChecksumCapabilities.{ChecksumCapabilities}
+use Rattle.ip_wire.specs.declared.protocol.IpProtocol.{IpProtocol}
 use Rattle.ip_wire.specs.declared.protocol.IpProtocol.TheVariants as protocol
 use Rattle.ip_wire.specs.declared.repr.IpRepr.{IpRepr}
 use Rattle.ip_wire.specs.declared.repr.IpRepr.TheVariants as header
@@ -56,22 +57,19 @@ whole_v6 o is = both _ _ (le_true 40 (length o) is.header) (le_true (40 + be16_a
 abbrev carrying : IpRepr → List ℕ → Carried
 carrying ip octets = record { ip = ip; octets = octets }
 
-read_v4 : ReadsV4 → (sent tested : Bool) (h : Ipv4Repr) (payload : List ℕ) → IsIpv4Header h → length payload ≡ h.payload_len → (tested ≡ true → sent ≡ true) → ReadsIpv4 tested (ipv4_octets sent h ++ payload) h payload
-read_v4 law sent tested h payload is l t = subst (λ us. ReadsIpv4 tested (ipv4_octets sent h ++ us) h payload) (append-nil payload) (law sent tested h payload [] is l t)
-
-read_v6 : ReadsV6 → (h : Ipv6Repr) (payload : List ℕ) → IsIpv6Header h → length payload ≡ h.payload_len → ReadsIpv6 (ipv6_octets h ++ payload) h payload
-read_v6 law h payload is l = subst (λ us. ReadsIpv6 (ipv6_octets h ++ us) h payload) (append-nil payload) (law h payload [] is l)
-
-pub carried_back : ReadsV4 → ReadsV6 → (sent tested : Bool) (ip : IpRepr) (payload : List ℕ) → IsHeader ip → length payload ≡ payload_len_of ip → (tested ≡ true → sent ≡ true) → carried tested (header_octets sent ip ++ payload) ≡ Some (carrying ip payload)
+-- with anything behind the packet, as Ethernet's padding
+pub carried_back : ReadsV4 → ReadsV6 → (sent tested : Bool) (ip : IpRepr) (payload rest : List ℕ) → IsHeader ip
+    → length payload ≡ payload_len_of ip → (tested ≡ true → sent ≡ true)
+    → carried tested (header_octets sent ip ++ (payload ++ rest)) ≡ Some (carrying ip payload)
 unfolding carried
-carried_back v4 v6 sent tested (header.Ipv4 h) payload is l t =
-    let o = ipv4_octets sent h ++ payload in
-    let r : ReadsIpv4 tested o h payload = read_v4 v4 sent tested h payload is l t in
-    ap (λ b. if b then carried_v4 o (ipv4_parsed tested o) else None) (whole_v4 sent h payload r.whole)
+carried_back v4 v6 sent tested (header.Ipv4 h) payload rest is l t =
+    let o = ipv4_octets sent h ++ (payload ++ rest) in
+    let r : ReadsIpv4 tested o h payload = v4 sent tested h payload rest is l t in
+    ap (λ b. if b then carried_v4 o (ipv4_parsed tested o) else None) (whole_v4 sent h (payload ++ rest) r.whole)
     ∙ ap (carried_v4 o) r.header ∙ ap (λ p. Some (carrying (header.Ipv4 h) p)) r.payload
-carried_back v4 v6 sent tested (header.Ipv6 h) payload is l t =
-    let o = ipv6_octets h ++ payload in
-    let r : ReadsIpv6 o h payload = read_v6 v6 h payload is l in
+carried_back v4 v6 sent tested (header.Ipv6 h) payload rest is l t =
+    let o = ipv6_octets h ++ (payload ++ rest) in
+    let r : ReadsIpv6 o h payload = v6 h payload rest is l in
     ap (λ b. if b then carried_v6 o (ipv6_parsed o) else None) (whole_v6 o r.whole)
     ∙ ap (carried_v6 o) r.header ∙ ap (λ p. Some (carrying (header.Ipv6 h) p)) r.payload
 
@@ -83,22 +81,32 @@ dst_are : (ip : IpRepr) → IsHeader ip → IsOctets (octets_of (dst_addr_of ip)
 dst_are (header.Ipv4 h) is = is.dst_octets
 dst_are (header.Ipv6 h) is = is.dst_octets
 
-pub tcp_back : ReadsV4 → ReadsV6 → Verifies → AreWords → (sender receiver : ChecksumCapabilities) (ip : IpRepr) (s : Segment) → IsHeader ip → next_header_of ip ≡ protocol.Tcp → payload_len_of ip ≡ segment_header_len s + length s.payload → IsWritable s → TestsWhatIsSent sender receiver → tcp_packet_parsed receiver (tcp_packet sender ip s) ≡ Some (record { ip = ip; segment = s })
-tcp_back v4 v6 law words sender receiver ip s is p l w t =
-    let src = src_addr_of ip in
-    let dst = dst_addr_of ip in
-    let o = tcp_octets (is_sent sender.tcp) src dst s in
-    let n = if is_sent sender.tcp then tcp_checksum src dst (tcp_with s 0) else 0 in
-    ap (λ c. tcp_of (is_received receiver.tcp) (carried_if 6 c)) (carried_back v4 v6 (is_sent sender.ipv4) (is_received receiver.ipv4) ip o is (segment_size s n ∙ sym l) t.ipv4)
-    ∙ ap (λ q. tcp_of (is_received receiver.tcp) (if number_of q == 6 then Some (carrying ip o) else None)) p
-    ∙ ap (with_segment ip) (segment_back law words (is_sent sender.tcp) (is_received receiver.tcp) src dst s w (src_are ip is) (dst_are ip is) t.tcp)
+module _ (v4 : ReadsV4) (v6 : ReadsV6) (law : Verifies) (words : AreWords) (sender receiver : ChecksumCapabilities) (ip : IpRepr) (is : IsHeader ip) (t : TestsWhatIsSent sender receiver) (rest : List ℕ) where
+  -- what the packet carries, where it is of the protocol with this number
+  carries : (o : List ℕ) (number : ℕ) (p : IpProtocol) → next_header_of ip ≡ p → length o ≡ payload_len_of ip
+      → carried_if number (carried (is_received receiver.ipv4) ((header_octets (is_sent sender.ipv4) ip ++ o) ++ rest))
+      ≡ (if number_of p == number then Some (carrying ip o) else None)
+  carries o number p e l =
+      ap (λ x. carried_if number (carried (is_received receiver.ipv4) x)) (append_assoc (header_octets (is_sent sender.ipv4) ip) o rest)
+      ∙ ap (carried_if number) (carried_back v4 v6 (is_sent sender.ipv4) (is_received receiver.ipv4) ip o rest is l t.ipv4)
+      ∙ ap (λ q. if number_of q == number then Some (carrying ip o) else None) e
 
-pub udp_back : ReadsV4 → ReadsV6 → Verifies → OnesForZero → AreWords → (sender receiver : ChecksumCapabilities) (ip : IpRepr) (u : UdpRepr) (payload : List ℕ) → IsHeader ip → next_header_of ip ≡ protocol.Udp → payload_len_of ip ≡ 8 + length payload → IsDatagram u payload → TestsWhatIsSent sender receiver → udp_packet_parsed receiver (udp_packet sender ip u payload) ≡ Some (record { ip = ip; datagram = record { header = u; payload = payload } })
-udp_back v4 v6 law ones words sender receiver ip u payload is p l w t =
-    let src = src_addr_of ip in
-    let dst = dst_addr_of ip in
-    let o = udp_octets (is_sent sender.udp) src dst u payload in
-    let n = if is_sent sender.udp then udp_checksum src dst (udp_with u payload 0) else 0 in
-    ap (λ c. udp_of (is_received receiver.udp) (carried_if 17 c)) (carried_back v4 v6 (is_sent sender.ipv4) (is_received receiver.ipv4) ip o is (size u payload n ∙ sym l) t.ipv4)
-    ∙ ap (λ q. udp_of (is_received receiver.udp) (if number_of q == 17 then Some (carrying ip o) else None)) p
-    ∙ ap (with_datagram ip) (datagram_back law ones words (is_sent sender.udp) (is_received receiver.udp) src dst u payload w (src_are ip is) (dst_are ip is) t.udp)
+  pub tcp_back : (s : Segment) → next_header_of ip ≡ protocol.Tcp → payload_len_of ip ≡ segment_header_len s + length s.payload → IsWritable s
+      → tcp_packet_parsed receiver (tcp_packet sender ip s ++ rest) ≡ Some (record { ip = ip; segment = s })
+  tcp_back s p l w =
+      let src = src_addr_of ip in
+      let dst = dst_addr_of ip in
+      let o = tcp_octets (is_sent sender.tcp) src dst s in
+      let n = if is_sent sender.tcp then tcp_checksum src dst (tcp_with s 0) else 0 in
+      ap (tcp_of (is_received receiver.tcp)) (carries o 6 protocol.Tcp p (segment_size s n ∙ sym l))
+      ∙ ap (with_segment ip) (segment_back law words (is_sent sender.tcp) (is_received receiver.tcp) src dst s w (src_are ip is) (dst_are ip is) t.tcp)
+
+  pub udp_back : OnesForZero → (u : UdpRepr) (payload : List ℕ) → next_header_of ip ≡ protocol.Udp → payload_len_of ip ≡ 8 + length payload → IsDatagram u payload
+      → udp_packet_parsed receiver (udp_packet sender ip u payload ++ rest) ≡ Some (record { ip = ip; datagram = record { header = u; payload = payload } })
+  udp_back ones u payload p l w =
+      let src = src_addr_of ip in
+      let dst = dst_addr_of ip in
+      let o = udp_octets (is_sent sender.udp) src dst u payload in
+      let n = if is_sent sender.udp then udp_checksum src dst (udp_with u payload 0) else 0 in
+      ap (udp_of (is_received receiver.udp)) (carries o 17 protocol.Udp p (size u payload n ∙ sym l))
+      ∙ ap (with_datagram ip) (datagram_back law ones words (is_sent sender.udp) (is_received receiver.udp) src dst u payload w (src_are ip is) (dst_are ip is) t.udp)

@@ -5,7 +5,8 @@ use Rattle.std.specs.Borrow.{Bor}
 use Rattle.ip_wire.specs.Checksum.{is_received, is_sent}
 use Rattle.ip_wire.specs.IpHeader.{dst_addr_of, next_header_of, src_addr_of}
 use Rattle.ip_wire.specs.Octets.{be16_at}
-use Rattle.ip_wire.specs.Packet.{header_octets, ipv4_header_len, ipv4_parsed, ipv4_payload, ipv4_total_len, ipv6_parsed, ipv6_payload}
+use Rattle.ip_wire.specs.Packet.{header_octets, ipv4_header_len, ipv4_parsed, ipv4_payload, ipv4_total_len}
+use Rattle.ip_wire.specs.Packet.{ipv6_parsed, ipv6_payload}
 use Rattle.ip_wire.specs.Protocol.{number_of, version_of_packet}
 use Rattle.ip_wire.specs.declared.checksum.ChecksumCapabilities.{ChecksumCapabilities}
 use Rattle.ip_wire.specs.declared.protocol.IpVersion.{IpVersion}

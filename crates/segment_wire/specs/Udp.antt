@@ -1,5 +1,6 @@
 -- UDP datagrams as octets, written and read (RFC 768).
-use Rattle.std.specs.Prelude.{ℕ, ◌+◌, ◌-◌, ◌==◌, Bool, if◌then◌else◌, List, ◌++◌, length, take, drop, Option, Some, None}
+use Rattle.std.specs.Prelude.{ℕ, ◌+◌, ◌-◌, ◌==◌, Bool, if◌then◌else◌, List, ◌++◌, length, take, drop, Option, Some}
+use Rattle.std.specs.Prelude.{None}
 use Rattle.std.specs.Borrow.{Bor}
 use Rattle.ip_wire.specs.Octets.{be16, be16_at}
 use Rattle.ip_wire.specs.Sum.{all_ones, complement, pseudo_sum, sum_after}

@@ -3,21 +3,9 @@ ghost use Rattle.std.specs.Prelude.{◌≡◌, ◌+◌, ◌≤◌, ◌≢◌, �
 ghost use Rattle.ip_wire.specs.Octets.{be32_at};
 ghost use Rattle.control_wire.specs.Segment.{segment_of};
 ghost use Rattle.control_wire.specs.Source.{is_option};
-ghost use Rattle.segment_wire.specs.Options.{
-  mss_octets,
-  no_options,
-  option_size,
-  options_read,
-  permitted_octets,
-  range_if,
-  ranges_at,
-  sack_octets,
-  scale_octets,
-  shift_of,
-  stamp_at,
-  stamp_octets,
-  with_option,
-};
+ghost use Rattle.segment_wire.specs.Options.{mss_octets, no_options, option_size, options_read, permitted_octets};
+ghost use Rattle.segment_wire.specs.Options.{range_if, ranges_at, sack_octets, scale_octets, shift_of, stamp_at};
+ghost use Rattle.segment_wire.specs.Options.{stamp_octets, with_option};
 
 use control_wire::TcpTimestampRepr;
 use control_wire::source::is_option;

@@ -5,22 +5,9 @@ ghost use Rattle.ip_wire.specs.IpHeader.{dst_addr_of, header_len_of, next_header
 ghost use Rattle.ip_wire.specs.Packet.{header_octets, ipv4_parsed, ipv6_parsed};
 ghost use Rattle.ip_wire.specs.declared.protocol.IpProtocol.TheVariants.{Tcp, Udp};
 ghost use Rattle.control_wire.specs.Segment.{options_len, segment_header_len, segment_of};
-ghost use Rattle.segment_wire.specs.Packet.{
-  carried,
-  carried_if,
-  carried_of,
-  carried_v4,
-  carried_v6,
-  is_fragment,
-  is_whole_v4,
-  is_whole_v6,
-  tcp_packet,
-  tcp_packet_of,
-  tcp_packet_parsed,
-  udp_packet,
-  udp_packet_of,
-  udp_packet_parsed,
-};
+ghost use Rattle.segment_wire.specs.Packet.{carried, carried_if, carried_of, carried_v4, carried_v6, is_fragment};
+ghost use Rattle.segment_wire.specs.Packet.{is_whole_v4, is_whole_v6, tcp_packet, tcp_packet_of, tcp_packet_parsed};
+ghost use Rattle.segment_wire.specs.Packet.{udp_packet, udp_packet_of, udp_packet_parsed};
 ghost use Rattle.segment_wire.specs.Tcp.{read_as};
 
 use crate::{tcp, udp};

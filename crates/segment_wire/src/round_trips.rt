@@ -1,5 +1,5 @@
 //! Laws: segments, datagrams and packets that are written are read again.
-ghost use Rattle.std.specs.Prelude.{◌≡◌, ◌+◌, Bool, List, ℕ, Some, length, true};
+ghost use Rattle.std.specs.Prelude.{◌≡◌, ◌+◌, ◌++◌, Bool, List, ℕ, Some, length, true};
 ghost use Rattle.ip_wire.specs.Address.{octets_of};
 ghost use Rattle.ip_wire.specs.IpHeader.{next_header_of, payload_len_of};
 ghost use Rattle.ip_wire.specs.Octets.{IsOctets};
@@ -40,16 +40,17 @@ pub fn udp_reads_back()
     sums_are_words();
 }
 
-/// A packet that `emit_tcp` or `emit_udp` wrote parses to itself, where each checksum that is tested was also sent.
+/// A packet that `emit_tcp` or `emit_udp` wrote parses to itself, where each checksum that is tested was also sent, and
+/// whatever stands behind it, as the padding of a short Ethernet frame.
 pub fn packets_read_back()
-    ensures tcp { (sender receiver : ChecksumCapabilities) (ip : IpRepr) (s : Segment) → IsHeader ip
+    ensures tcp { (sender receiver : ChecksumCapabilities) (ip : IpRepr) (s : Segment) (rest : List ℕ) → IsHeader ip
         → next_header_of ip ≡ Tcp → payload_len_of ip ≡ segment_header_len s + length s.payload → IsWritable s
         → TestsWhatIsSent sender receiver
-        → tcp_packet_parsed receiver (tcp_packet sender ip s) ≡ Some (record { ip = ip; segment = s }) }
-    ensures udp { (sender receiver : ChecksumCapabilities) (ip : IpRepr) (u : UdpRepr) (payload : List ℕ)
+        → tcp_packet_parsed receiver (tcp_packet sender ip s ++ rest) ≡ Some (record { ip = ip; segment = s }) }
+    ensures udp { (sender receiver : ChecksumCapabilities) (ip : IpRepr) (u : UdpRepr) (payload rest : List ℕ)
         → IsHeader ip → next_header_of ip ≡ Udp → payload_len_of ip ≡ 8 + length payload → IsDatagram u payload
         → TestsWhatIsSent sender receiver
-        → udp_packet_parsed receiver (udp_packet sender ip u payload)
+        → udp_packet_parsed receiver (udp_packet sender ip u payload ++ rest)
         ≡ Some (record { ip = ip; datagram = record { header = u; payload = payload } }) }
 {
     checksums_verify();

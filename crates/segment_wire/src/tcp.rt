@@ -5,22 +5,9 @@ ghost use Rattle.ip_wire.specs.Octets.{be16};
 ghost use Rattle.control_wire.specs.Segment.{options_len, segment_header_len, segment_of};
 ghost use Rattle.control_wire.specs.Source.{tcp_header_len};
 ghost use Rattle.segment_wire.specs.Options.{options_octets};
-ghost use Rattle.segment_wire.specs.Tcp.{
-  ack_bit,
-  ack_field,
-  ack_of,
-  control_bits,
-  control_of,
-  is_head,
-  options_of,
-  read_as,
-  segment_at,
-  tcp_checksum,
-  tcp_header,
-  tcp_octets,
-  tcp_parsed,
-  tcp_with,
-};
+ghost use Rattle.segment_wire.specs.Tcp.{ack_bit, ack_field, ack_of, control_bits, control_of, is_head, options_of};
+ghost use Rattle.segment_wire.specs.Tcp.{read_as, segment_at, tcp_checksum, tcp_header, tcp_octets, tcp_parsed};
+ghost use Rattle.segment_wire.specs.Tcp.{tcp_with};
 
 use crate::options::{TcpOptions, be32_at, read_options};
 use crate::write::{fill_checksum, write};

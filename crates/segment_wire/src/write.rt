@@ -3,18 +3,8 @@ ghost use Rattle.std.specs.Prelude.{◌≡◌, ◌+◌, ◌-◌, ◌≤◌, ◌+
 ghost use Rattle.ip_wire.specs.Octets.{be16, be32};
 ghost use Rattle.ip_wire.specs.Sum.{complement, sum_after};
 ghost use Rattle.control_wire.specs.Segment.{options_len, segment_header_len, segment_of};
-ghost use Rattle.segment_wire.specs.Options.{
-  mss_octets,
-  options_octets,
-  padding,
-  permitted_octets,
-  range_octets,
-  ranges_octets,
-  sack_if,
-  sack_octets,
-  scale_octets,
-  stamp_octets,
-};
+ghost use Rattle.segment_wire.specs.Options.{mss_octets, options_octets, padding, permitted_octets, range_octets};
+ghost use Rattle.segment_wire.specs.Options.{ranges_octets, sack_if, sack_octets, scale_octets, stamp_octets};
 ghost use Rattle.segment_wire.specs.Tcp.{ack_bit, ack_field, control_bits, tcp_header, tcp_with};
 
 use control_wire::{TcpControl, TcpRepr, TcpSeqNumber, TcpTimestampRepr};

@@ -75,45 +75,65 @@ reno_with_mss r mss = record r { mss = mss }
 abbrev pub reno_with_remote_window : RenoNumbers → ℕ → RenoNumbers
 reno_with_remote_window r window = record r { rwnd = max r.rwnd window }
 
+-- The calls with all that Reno is told: it looks at no moment and no estimator, and at what is in flight only where a
+-- loss is told
+
+unfoldable pub reno_on_ack : RenoNumbers → Instant → ℕ → ℕ → Estimator → RenoNumbers
+reno_on_ack r now len flight rtte = reno_acked r len
+
+unfoldable pub reno_on_dup_ack : RenoNumbers → Instant → ℕ → ℕ → RenoNumbers
+reno_on_dup_ack r now len flight = reno_dup_acked r len
+
+unfoldable pub reno_on_rto : RenoNumbers → Instant → ℕ → RenoNumbers
+reno_on_rto r now flight = reno_timed_out r flight
+
+unfoldable pub reno_on_loss : RenoNumbers → Instant → ℕ → RenoNumbers
+reno_on_loss r now flight = reno_lost r flight
+
+unfoldable pub reno_pre_transmit : RenoNumbers → Instant → RenoNumbers
+reno_pre_transmit r now = r
+
+unfoldable pub reno_post_transmit : RenoNumbers → Instant → ℕ → RenoNumbers
+reno_post_transmit r now len = r
+
 -- ---- any controller
 
 abbrev pub congestion_window : AnyController → ℕ
 congestion_window (controller.None n) = 2 ^ 64 - 1
 congestion_window (controller.Reno r) = r.cwnd
 
--- What the calls of a controller leave. Each has all that the controller is told, though neither of the two looks at
--- the moment, nor at an estimator, nor at what is in flight where no loss is told
+-- What the calls of a controller leave. Each has all that the controller is told
 
 unfoldable pub acked : AnyController → Instant → ℕ → ℕ → Estimator → AnyController
 acked (controller.None n) now len flight rtte = controller.None n
-acked (controller.Reno r) now len flight rtte = controller.Reno (reno_acked r len)
+acked (controller.Reno r) now len flight rtte = controller.Reno (reno_on_ack r now len flight rtte)
 
 unfoldable pub dup_acked : AnyController → Instant → ℕ → ℕ → AnyController
 dup_acked (controller.None n) now len flight = controller.None n
-dup_acked (controller.Reno r) now len flight = controller.Reno (reno_dup_acked r len)
+dup_acked (controller.Reno r) now len flight = controller.Reno (reno_on_dup_ack r now len flight)
 
 unfoldable pub lost : AnyController → Instant → ℕ → AnyController
 lost (controller.None n) now flight = controller.None n
-lost (controller.Reno r) now flight = controller.Reno (reno_lost r flight)
+lost (controller.Reno r) now flight = controller.Reno (reno_on_loss r now flight)
 
 unfoldable pub timed_out : AnyController → Instant → ℕ → AnyController
 timed_out (controller.None n) now flight = controller.None n
-timed_out (controller.Reno r) now flight = controller.Reno (reno_timed_out r flight)
+timed_out (controller.Reno r) now flight = controller.Reno (reno_on_rto r now flight)
 
 -- a segment may go out; a segment of len numbers went out
 unfoldable pub pre_transmitted : AnyController → Instant → AnyController
 pre_transmitted (controller.None n) now = controller.None n
-pre_transmitted (controller.Reno r) now = controller.Reno r
+pre_transmitted (controller.Reno r) now = controller.Reno (reno_pre_transmit r now)
 
 unfoldable pub post_transmitted : AnyController → Instant → ℕ → AnyController
 post_transmitted (controller.None n) now len = controller.None n
-post_transmitted (controller.Reno r) now len = controller.Reno r
+post_transmitted (controller.Reno r) now len = controller.Reno (reno_post_transmit r now len)
 
-abbrev pub with_mss : AnyController → ℕ → AnyController
+unfoldable pub with_mss : AnyController → ℕ → AnyController
 with_mss (controller.None n) _ = controller.None n
 with_mss (controller.Reno r) mss = controller.Reno (reno_with_mss r mss)
 
-abbrev pub with_remote_window : AnyController → ℕ → AnyController
+unfoldable pub with_remote_window : AnyController → ℕ → AnyController
 with_remote_window (controller.None n) _ = controller.None n
 with_remote_window (controller.Reno r) window = controller.Reno (reno_with_remote_window r window)
 

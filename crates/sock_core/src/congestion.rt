@@ -2,7 +2,8 @@
 ghost use Rattle.std.specs.Prelude.{◌≡◌, ℕ, ◌-◌, ◌^◌, ◌<◌, ◌≤◌, List};
 ghost use Rattle.sock_core.specs.Reno.{RenoNumbers};
 ghost use Rattle.sock_core.specs.Congestion.{fresh_reno, bounded, growth, halved, capped};
-ghost use Rattle.sock_core.specs.Congestion.{reno_acked, reno_dup_acked, reno_lost, reno_timed_out};
+ghost use Rattle.sock_core.specs.Congestion.{reno_acked, reno_on_ack, reno_on_dup_ack, reno_on_loss, reno_on_rto};
+ghost use Rattle.sock_core.specs.Congestion.{reno_pre_transmit, reno_post_transmit};
 ghost use Rattle.sock_core.specs.Congestion.{reno_with_mss, reno_with_remote_window};
 ghost use Rattle.sock_core.specs.Congestion.{congestion_window, acked, dup_acked, lost, timed_out};
 ghost use Rattle.sock_core.specs.Congestion.{pre_transmitted, post_transmitted};
@@ -202,17 +203,17 @@ impl Controller for Reno {
 
     ghost after_remote_window = { reno_with_remote_window };
 
-    ghost after_ack = { λ r now len flight rtt. reno_acked r len };
+    ghost after_ack = { reno_on_ack };
 
-    ghost after_dup_ack = { λ r now len flight. reno_dup_acked r len };
+    ghost after_dup_ack = { reno_on_dup_ack };
 
-    ghost after_rto = { λ r now flight. reno_timed_out r flight };
+    ghost after_rto = { reno_on_rto };
 
-    ghost after_loss = { λ r now flight. reno_lost r flight };
+    ghost after_loss = { reno_on_loss };
 
-    ghost after_pre_transmit = { λ r now. r };
+    ghost after_pre_transmit = { reno_pre_transmit };
 
-    ghost after_post_transmit = { λ r now len. r };
+    ghost after_post_transmit = { reno_post_transmit };
 
     ghost after_mss = { reno_with_mss };
 
@@ -224,7 +225,7 @@ impl Controller for Reno {
         self.rwnd = self.rwnd.max(remote_window);
     }
 
-    #[tactic(auto, unfolding(crate::specs::Congestion::reno_acked))]
+    #[tactic(auto, unfolding(crate::specs::Congestion::reno_on_ack, crate::specs::Congestion::reno_acked))]
     fn on_ack(&mut self, _now: Instant, len: usize, _in_flight: usize, _rtt: &RttEstimator) {
         if len == 0 {
             return;
@@ -238,14 +239,14 @@ impl Controller for Reno {
         self.in_recovery = false;
     }
 
-    #[tactic(auto, unfolding(crate::specs::Congestion::reno_dup_acked))]
+    #[tactic(auto, unfolding(crate::specs::Congestion::reno_on_dup_ack, crate::specs::Congestion::reno_dup_acked))]
     fn on_dup_ack(&mut self, _now: Instant, len: usize, _in_flight: usize) {
         if self.in_recovery {
             self.cwnd = self.bounded(self.cwnd.saturating_add(len));
         }
     }
 
-    #[tactic(auto, unfolding(crate::specs::Congestion::reno_timed_out))]
+    #[tactic(auto, unfolding(crate::specs::Congestion::reno_on_rto, crate::specs::Congestion::reno_timed_out))]
     fn on_rto(&mut self, _now: Instant, in_flight: usize) {
         if !self.in_timeout {
             self.ssthresh = self.halved(in_flight);
@@ -255,7 +256,7 @@ impl Controller for Reno {
         self.in_recovery = false;
     }
 
-    #[tactic(auto, unfolding(crate::specs::Congestion::reno_lost))]
+    #[tactic(auto, unfolding(crate::specs::Congestion::reno_on_loss, crate::specs::Congestion::reno_lost))]
     fn on_loss(&mut self, _now: Instant, in_flight: usize) {
         if self.in_recovery {
             return;
@@ -268,8 +269,10 @@ impl Controller for Reno {
         self.in_recovery = true;
     }
 
+    #[tactic(auto, unfolding(crate::specs::Congestion::reno_pre_transmit))]
     fn pre_transmit(&mut self, _now: Instant) {}
 
+    #[tactic(auto, unfolding(crate::specs::Congestion::reno_post_transmit))]
     fn post_transmit(&mut self, _now: Instant, _len: usize) {}
 
     fn set_mss(&mut self, mss: usize) {
@@ -343,6 +346,7 @@ impl Controller for AnyController {
         }
     }
 
+    #[tactic(auto, unfolding(crate::specs::Congestion::with_remote_window))]
     fn set_remote_window(&mut self, remote_window: usize) {
         match self {
             AnyController::None(none) => none.set_remote_window(remote_window),
@@ -398,6 +402,7 @@ impl Controller for AnyController {
         }
     }
 
+    #[tactic(auto, unfolding(crate::specs::Congestion::with_mss))]
     fn set_mss(&mut self, mss: usize) {
         match self {
             AnyController::None(none) => none.set_mss(mss),

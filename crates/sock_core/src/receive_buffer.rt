@@ -6,7 +6,8 @@ ghost use Rattle.net_base.specs.Ranges.{edges, is_held, Apart};
 ghost use Rattle.net_base.specs.Ring.{capacity_of};
 ghost use Rattle.sock_core.specs.Received.{Received, receiving, room_of, byte_at, holds_nothing, ranges_of};
 ghost use Rattle.sock_core.specs.Received.{makes_fifth_range, taken_in, handed_out, cleared, range_around};
-ghost use Rattle.sock_core.specs.Received.{IsLetIn, TakesIn, JoinsAtOnce, DequeuesBytesWith, IsWireRange, ReachesAsOffsets};
+ghost use Rattle.sock_core.specs.Received.{IsLetIn, TakesIn, JoinsAtOnce, DequeuesBytesWith, IsWireRange};
+ghost use Rattle.sock_core.specs.Received.{ReachesAsOffsets};
 ghost use Rattle.sock_core.specs.Received.{first_piece};
 
 use crate::ranges::Ranges;

@@ -9,7 +9,7 @@ use Rattle.net_base.proofs.Refilled.{refill_same}
 use Rattle.net_base.specs.Ring.{overwrite}
 use Rattle.net_base.proofs.PacketLists.{made_room_packets, packets-append}
 use Rattle.sock_dgram.specs.Datagrams.{put, stored, send_answer_if, after_send_if}
-use Rattle.sock_dgram.specs.Traffic.{Traffic, sends}
+use Rattle.sock_dgram.specs.Transfers.{Transfers, sends}
 use Rattle.sock_dgram.specs.declared.error.SendError.{SendError}
 use Rattle.sock_dgram.specs.declared.error.SendError.TheVariants as send_error
 

@@ -9,7 +9,7 @@ use Rattle.std.specs.Prelude.{◌+◌, IfOk, OnErr, is_ok, nat_lt, slice_get, if
 use Rattle.net_base.specs.Packets.{Packets, packets, Enqueues}
 use Rattle.net_base.specs.Ring.{overwrite}
 use Rattle.sock_dgram.specs.Datagrams.{answered, take_answer, copy_answer, copied}
-use Rattle.sock_dgram.specs.Traffic.{Cleared, Traffic, Written, nothing, followed_by, sends, exit_of, departs, queues, read, reads, copied_out, copies_out, clears, InOrder, Reads, Copies, Runs}
+use Rattle.sock_dgram.specs.Transfers.{Cleared, Transfers, Written, nothing, followed_by, sends, exit_of, departs, queues, read, reads, copied_out, copies_out, clears, InOrder, Reads, Copies, Runs}
 use Rattle.sock_dgram.specs.declared.error.RecvError.{RecvError}
 use Rattle.sock_dgram.specs.declared.error.RecvError.TheVariants as recv_error
 
@@ -78,32 +78,32 @@ module _ {M : Type 0} where
 -- ---- both queues
 
 module _ {M O : Type 0} where
-  pub idle : (t : Traffic M O) (x r y q : List (M × List ℕ)) → t ≡ nothing → y ≡ x → q ≡ r → InOrder t x r y q
-  idle t x r y q e transmit receive = subst (λ (s : Traffic M O). InOrder s x r y q) (sym e) (record { transmit = still x y transmit; receive = still r q receive })
+  pub idle : (t : Transfers M O) (x r y q : List (M × List ℕ)) → t ≡ nothing → y ≡ x → q ≡ r → InOrder t x r y q
+  idle t x r y q e transmit receive = subst (λ (s : Transfers M O). InOrder s x r y q) (sym e) (record { transmit = still x y transmit; receive = still r q receive })
 
-  pub sending : (t : Traffic M O) (ok : Bool) (d : M × List ℕ) (x r y q : List (M × List ℕ)) → t ≡ sends ok d → y ≡ cond ok (x ++ d ∷ []) x → q ≡ r → InOrder t x r y q
-  sending t ok d x r y q e transmit receive = subst (λ (s : Traffic M O). InOrder s x r y q) (sym e) (record { transmit = added ok d x y transmit; receive = still r q receive })
+  pub sending : (t : Transfers M O) (ok : Bool) (d : M × List ℕ) (x r y q : List (M × List ℕ)) → t ≡ sends ok d → y ≡ cond ok (x ++ d ∷ []) x → q ≡ r → InOrder t x r y q
+  sending t ok d x r y q e transmit receive = subst (λ (s : Transfers M O). InOrder s x r y q) (sym e) (record { transmit = added ok d x y transmit; receive = still r q receive })
 
-  pub departing : (t : Traffic M O) (ok : Bool) (out : Option O) (x r y q : List (M × List ℕ)) → t ≡ departs ok out x → y ≡ cond ok (drop 1 x) x → q ≡ r → InOrder t x r y q
-  departing t ok out x r y q e transmit receive = subst (λ (s : Traffic M O). InOrder s x r y q) (sym e) (record { transmit = removed ok (exit_of out) x y transmit; receive = still r q receive })
+  pub departing : (t : Transfers M O) (ok : Bool) (out : Option O) (x r y q : List (M × List ℕ)) → t ≡ departs ok out x → y ≡ cond ok (drop 1 x) x → q ≡ r → InOrder t x r y q
+  departing t ok out x r y q e transmit receive = subst (λ (s : Transfers M O). InOrder s x r y q) (sym e) (record { transmit = removed ok (exit_of out) x y transmit; receive = still r q receive })
 
-  pub queueing : (t : Traffic M O) (ok : Bool) (d : M × List ℕ) (x r y q : List (M × List ℕ)) → t ≡ queues ok d → y ≡ x → q ≡ cond ok (r ++ d ∷ []) r → InOrder t x r y q
-  queueing t ok d x r y q e transmit receive = subst (λ (s : Traffic M O). InOrder s x r y q) (sym e) (record { transmit = still x y transmit; receive = added ok d r q receive })
+  pub queueing : (t : Transfers M O) (ok : Bool) (d : M × List ℕ) (x r y q : List (M × List ℕ)) → t ≡ queues ok d → y ≡ x → q ≡ cond ok (r ++ d ∷ []) r → InOrder t x r y q
+  queueing t ok d x r y q e transmit receive = subst (λ (s : Transfers M O). InOrder s x r y q) (sym e) (record { transmit = still x y transmit; receive = added ok d r q receive })
 
-  pub clearing : (t : Traffic M O) (x r : List (M × List ℕ)) → t ≡ clears x r → InOrder t x r [] []
-  clearing t x r e = subst (λ (s : Traffic M O). InOrder s x r [] []) (sym e) (record { transmit = cleared Cleared x; receive = cleared Cleared r })
+  pub clearing : (t : Transfers M O) (x r : List (M × List ℕ)) → t ≡ clears x r → InOrder t x r [] []
+  clearing t x r e = subst (λ (s : Transfers M O). InOrder s x r [] []) (sym e) (record { transmit = cleared Cleared x; receive = cleared Cleared r })
 
-  pub receiving : (t : Traffic M O) (r : Result (M × List ℕ) RecvError) (p q : Packets M) (x y : List (M × List ℕ)) → t ≡ reads r → Reads p r → packets q.entries ≡ drop 1 (packets p.entries) → y ≡ x
+  pub receiving : (t : Transfers M O) (r : Result (M × List ℕ) RecvError) (p q : Packets M) (x y : List (M × List ℕ)) → t ≡ reads r → Reads p r → packets q.entries ≡ drop 1 (packets p.entries) → y ≡ x
       → InOrder t x (packets p.entries) y (packets q.entries)
   receiving t r p q x y e h receive transmit =
-      subst (λ (s : Traffic M O). InOrder s x (packets p.entries) y (packets q.entries)) (sym e) (record { transmit = still x y transmit; receive = reading p q r h receive })
+      subst (λ (s : Transfers M O). InOrder s x (packets p.entries) y (packets q.entries)) (sym e) (record { transmit = still x y transmit; receive = reading p q r h receive })
 
-  pub copying_out : (t : Traffic M O) (slice left : List ℕ) (r : Result (ℕ × M) RecvError) (p q : Packets M) (x y : List (M × List ℕ)) → t ≡ copies_out r left (slice_get (packets p.entries) 0) → Copies p slice left r
+  pub copying_out : (t : Transfers M O) (slice left : List ℕ) (r : Result (ℕ × M) RecvError) (p q : Packets M) (x y : List (M × List ℕ)) → t ≡ copies_out r left (slice_get (packets p.entries) 0) → Copies p slice left r
       → packets q.entries ≡ drop 1 (packets p.entries) → y ≡ x → InOrder t x (packets p.entries) y (packets q.entries)
   copying_out t slice left r p q x y e h receive transmit =
-      subst (λ (s : Traffic M O). InOrder s x (packets p.entries) y (packets q.entries)) (sym e) (record { transmit = still x y transmit; receive = copying p q slice left r h receive })
+      subst (λ (s : Transfers M O). InOrder s x (packets p.entries) y (packets q.entries)) (sym e) (record { transmit = still x y transmit; receive = copying p q slice left r h receive })
 
-  pub in_turn : (a b : Traffic M O) (x r y q z s : List (M × List ℕ)) → InOrder a x r y q → InOrder b y q z s → InOrder (followed_by a b) x r z s
+  pub in_turn : (a b : Transfers M O) (x r y q z s : List (M × List ℕ)) → InOrder a x r y q → InOrder b y q z s → InOrder (followed_by a b) x r z s
   in_turn a b x r y q z s first second = record {
     transmit = chain a.departed b.departed a.sent b.sent x y z first.transmit second.transmit;
     receive = chain a.taken b.taken a.queued b.queued r q s first.receive second.receive;
@@ -113,25 +113,25 @@ module _ {M O : Type 0} where
 
 module _ {M O G E : Type 0} (write : Once G (MutBor (List ℕ) × Unit {0}) (ℕ × (MutBor (List ℕ) × Unit {0}))) where
   pub written : (r : Result ℕ E) (size : ℕ) (m : M) (f : G) (old new : Packets M) → IfOk r (λ kept. Enqueues (FnOnceReturnsAtMut write f) size m old kept new) → OnErr r (packets new.entries ≡ packets old.entries)
-      → (t : Traffic M O) × Written write r size m f old t new
+      → (t : Transfers M O) × Written write r size m f old t new
   written (Ok kept) size m f old new e same = (sends true (m, take kept e.appends.left), (e, refl))
   written (Err x) size m f old new e same = (nothing, (same, refl))
 
-  pub sent_with : (r : Result ℕ E) (size : ℕ) (m : M) (f : G) (t : Traffic M O) (old new : Packets M) (x y : List (M × List ℕ)) → Written write r size m f old t new → y ≡ x
+  pub sent_with : (r : Result ℕ E) (size : ℕ) (m : M) (f : G) (t : Transfers M O) (old new : Packets M) (x y : List (M × List ℕ)) → Written write r size m f old t new → y ≡ x
       → InOrder t (packets old.entries) x (packets new.entries) y
   sent_with (Ok kept) size m f t old new x y h same = sending t true (m, take kept h.0.appends.left) (packets old.entries) x (packets new.entries) y h.1 h.0.packets same
   sent_with (Err e) size m f t old new x y h same = idle t (packets old.entries) x (packets new.entries) y h.1 h.0 same
 
 -- ---- lists of calls, whose packets are seen in some way
 
-module _ {V K M O : Type 0} (effect : K → V → Traffic M O → V → Type 0) (waiting received : V → List (M × List ℕ)) (see : Traffic M O → Traffic M O) (none : see nothing ≡ nothing)
-    (both : (a b : Traffic M O) → see (followed_by a b) ≡ followed_by (see a) (see b))
-    (step : (k : K) (v : V) (t : Traffic M O) (w : V) → effect k v t w → InOrder (see t) (waiting v) (received v) (waiting w) (received w)) where
-  pub runs : (ks : List K) (v : V) (t : Traffic M O) (w : V) → Runs effect ks v t w → InOrder (see t) (waiting v) (received v) (waiting w) (received w)
+module _ {V K M O : Type 0} (effect : K → V → Transfers M O → V → Type 0) (waiting received : V → List (M × List ℕ)) (see : Transfers M O → Transfers M O) (none : see nothing ≡ nothing)
+    (both : (a b : Transfers M O) → see (followed_by a b) ≡ followed_by (see a) (see b))
+    (step : (k : K) (v : V) (t : Transfers M O) (w : V) → effect k v t w → InOrder (see t) (waiting v) (received v) (waiting w) (received w)) where
+  pub runs : (ks : List K) (v : V) (t : Transfers M O) (w : V) → Runs effect ks v t w → InOrder (see t) (waiting v) (received v) (waiting w) (received w)
   runs [] v t w h = idle (see t) (waiting v) (received v) (waiting w) (received w) (ap see h.0 ∙ none) (ap waiting h.1) (ap received h.1)
   runs (k ∷ ks) v t w h =
       let u = h.0 in
       let a = h.1 in
       let b = h.2 in
-      subst (λ (s : Traffic M O). InOrder s (waiting v) (received v) (waiting w) (received w)) (sym (ap see h.5 ∙ both a b))
+      subst (λ (s : Transfers M O). InOrder s (waiting v) (received v) (waiting w) (received w)) (sym (ap see h.5 ∙ both a b))
       (in_turn (see a) (see b) (waiting v) (received v) (waiting u) (received u) (waiting w) (received w) (step k v a u h.3) (runs ks u b w h.4))

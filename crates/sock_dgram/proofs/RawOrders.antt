@@ -16,7 +16,7 @@ use Rattle.sock_dgram.specs.Datagrams.{answered, take_answer, with_metadata}
 use Rattle.sock_dgram.specs.Raw.{View, received, waiting, whole_packet}
 use Rattle.sock_dgram.specs.RawCalls.{Call, Look, SendSlice, SendWith, Recv, RecvSlice, Peek, Process, Dispatch, beside_metadata, Effect, without_checksum, bare, bare_traffic}
 use Rattle.sock_dgram.specs.RawDispatch.{Outgoing, first_prepared}
-use Rattle.sock_dgram.specs.Traffic.{Exit, Traffic, Written, followed_by, sends, departs, InOrder, Runs}
+use Rattle.sock_dgram.specs.Transfers.{Exit, Transfers, Written, followed_by, sends, departs, InOrder, Runs}
 use Rattle.sock_dgram.specs.declared.error.RecvError.{RecvError}
 use Rattle.sock_dgram.specs.declared.raw.error.SendError.{SendError}
 
@@ -40,7 +40,7 @@ bare_removed true sent (d ∷ ds) = refl
 bare_removed false sent [] = refl
 bare_removed false sent (d ∷ ds) = ap (λ (bs : List ℕ). (d.0, bs) ∷ bare ds) (prepared_again sent false d.1)
 
-bare_both : (a b : Traffic (Unit {0}) Outgoing) → bare_traffic (followed_by a b) ≡ followed_by (bare_traffic a) (bare_traffic b)
+bare_both : (a b : Transfers (Unit {0}) Outgoing) → bare_traffic (followed_by a b) ≡ followed_by (bare_traffic a) (bare_traffic b)
 bare_both a b =
     (λ i. record {
       sent = map-append without_checksum a.sent b.sent i;
@@ -60,14 +60,14 @@ values (Err x) first e = e
 
 module _ {C E F G : Type 0} (facts : C → Facts) (emit : Emit F C (IpRepr × Bor (List ℕ)) E)
     (write : Once G (MutBor (List ℕ) × Unit {0}) (ℕ × (MutBor (List ℕ) × Unit {0}))) where
-  written : (r : Result ℕ SendError) (size : ℕ) (f : G) (v : View) (t : Traffic (Unit {0}) Outgoing) (w : View) → Written write r size tt f v.tx_buffer t w.tx_buffer → received w ≡ received v
+  written : (r : Result ℕ SendError) (size : ℕ) (f : G) (v : View) (t : Transfers (Unit {0}) Outgoing) (w : View) → Written write r size tt f v.tx_buffer t w.tx_buffer → received w ≡ received v
       → InOrder (bare_traffic t) (bare (waiting v)) (received v) (bare (waiting w)) (received w)
   written (Ok kept) size f v t w h same =
       let d : Unit {0} × List ℕ = (tt, take kept h.0.appends.left) in
       sending (bare_traffic t) true (without_checksum d) (bare (waiting v)) (received v) (bare (waiting w)) (received w) (ap bare_traffic h.1) (ap bare h.0.packets ∙ bare_added true d (waiting v)) same
   written (Err x) size f v t w h same = idle (bare_traffic t) (bare (waiting v)) (received v) (bare (waiting w)) (received w) (ap bare_traffic h.1) (ap bare h.0) same
 
-  step : (k : Call C E F G) (v : View) (t : Traffic (Unit {0}) Outgoing) (w : View) → Effect facts emit write k v t w → InOrder (bare_traffic t) (bare (waiting v)) (received v) (bare (waiting w)) (received w)
+  step : (k : Call C E F G) (v : View) (t : Transfers (Unit {0}) Outgoing) (w : View) → Effect facts emit write k v t w → InOrder (bare_traffic t) (bare (waiting v)) (received v) (bare (waiting w)) (received w)
   step Look v t w h = idle (bare_traffic t) (bare (waiting v)) (received v) (bare (waiting w)) (received w) (ap bare_traffic h.1) (ap (λ x. bare (waiting x)) h.0) (ap received h.0)
   step (SendSlice bs r) v t w h =
       sending (bare_traffic t) (is_ok r) (without_checksum (tt, bs)) (bare (waiting v)) (received v) (bare (waiting w)) (received w) (ap bare_traffic h.3 ∙ bare_sends (is_ok r) (tt, bs)) (ap bare h.2 ∙ bare_added (is_ok r) (tt, bs) (waiting v)) (ap received h.1)
@@ -85,5 +85,5 @@ module _ {C E F G : Type 0} (facts : C → Facts) (emit : Emit F C (IpRepr × Bo
       departing (bare_traffic t) (is_ok r) h.0.planned (bare (waiting v)) (received v) (bare (waiting w)) (received w) (ap bare_traffic h.1 ∙ bare_departs (is_ok r) h.0.planned (waiting v))
       (ap bare h.0.queue ∙ bare_removed (is_ok r) (is_sent (facts before).checksums.ipv4) (waiting v)) (ap received h.0.same)
 
-  pub in_order : (calls : List (Call C E F G)) (v w : View) (t : Traffic (Unit {0}) Outgoing) → Runs (Effect facts emit write) calls v t w → InOrder (bare_traffic t) (bare (waiting v)) (received v) (bare (waiting w)) (received w)
+  pub in_order : (calls : List (Call C E F G)) (v w : View) (t : Transfers (Unit {0}) Outgoing) → Runs (Effect facts emit write) calls v t w → InOrder (bare_traffic t) (bare (waiting v)) (received v) (bare (waiting w)) (received w)
   in_order calls v w t h = runs (Effect facts emit write) (λ x. bare (waiting x)) received bare_traffic refl bare_both step calls v t w h

@@ -4,7 +4,7 @@ use Rattle.std.specs.Prelude.{Option, None, Some, IfOk}
 use Rattle.net_base.specs.Packets.{Packets, first_packet}
 use Rattle.sock_dgram.specs.Datagrams.{answered, take_answer, read_answer}
 use Rattle.sock_dgram.specs.RawCalls.{bytes_read}
-use Rattle.sock_dgram.specs.Traffic.{Reads}
+use Rattle.sock_dgram.specs.Transfers.{Reads}
 
 module _ {M : Type 0} where
   answers : (o : Option (M × List ℕ)) → answered (read_answer o) ≡ take_answer o

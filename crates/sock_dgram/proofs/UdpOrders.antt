@@ -11,7 +11,7 @@ use Rattle.sock_core.specs.Emission.{Emit}
 use Rattle.sock_core.specs.Facts.{Facts}
 use Rattle.sock_dgram.proofs.Orders.{idle, sending, departing, queueing, clearing, receiving, copying_out, sent_with, runs}
 use Rattle.sock_dgram.specs.Datagrams.{stored}
-use Rattle.sock_dgram.specs.Traffic.{Traffic, InOrder, Runs}
+use Rattle.sock_dgram.specs.Transfers.{Transfers, InOrder, Runs}
 use Rattle.sock_dgram.specs.Udp.{View, received, waiting, bind_answer, after_bind, is_sendable, metadata_of}
 use Rattle.sock_dgram.specs.UdpCalls.{Call, Look, Bind, Close, SetHopLimit, SendSlice, SendWith, Recv, RecvSlice, Peek, Process, Dispatch, Effect}
 use Rattle.sock_dgram.specs.UdpDispatch.{Outgoing, outgoing}
@@ -35,7 +35,7 @@ sent_received false v m bs = refl
 
 module _ {C E F G : Type 0} (facts : C → Facts) (emit : Emit F C (IpRepr × UdpRepr × Bor (List ℕ)) E)
     (write : Once G (MutBor (List ℕ) × Unit {0}) (ℕ × (MutBor (List ℕ) × Unit {0}))) where
-  step : (k : Call C E F G) (v : View) (t : Traffic UdpMetadata Outgoing) (w : View) → Effect facts emit write k v t w → InOrder t (waiting v) (received v) (waiting w) (received w)
+  step : (k : Call C E F G) (v : View) (t : Transfers UdpMetadata Outgoing) (w : View) → Effect facts emit write k v t w → InOrder t (waiting v) (received v) (waiting w) (received w)
   step Look v t w h = idle t (waiting v) (received v) (waiting w) (received w) h.1 (ap waiting h.0) (ap received h.0)
   step (Bind e) v t w h =
       let r = bind_answer v e in
@@ -54,5 +54,5 @@ module _ {C E F G : Type 0} (facts : C → Facts) (emit : Emit F C (IpRepr × Ud
   step (Dispatch before after f r) v t w h =
       departing t (is_ok r) (outgoing v (facts before)) (waiting v) (received v) (waiting w) (received w) h.1 h.0.queue (ap received h.0.same)
 
-  pub in_order : (calls : List (Call C E F G)) (v w : View) (t : Traffic UdpMetadata Outgoing) → Runs (Effect facts emit write) calls v t w → InOrder t (waiting v) (received v) (waiting w) (received w)
+  pub in_order : (calls : List (Call C E F G)) (v w : View) (t : Transfers UdpMetadata Outgoing) → Runs (Effect facts emit write) calls v t w → InOrder t (waiting v) (received v) (waiting w) (received w)
   in_order calls v w t h = runs (Effect facts emit write) waiting received (λ s. s) refl (λ a b. refl) step calls v t w h

@@ -1,5 +1,6 @@
 -- What the datagram sockets share: queues of packets, each with metadata.
-use Rattle.std.specs.Prelude.{ℕ, List, [], ◌∷◌, ◌++◌, length, nat_lt, Bool, not, ◌==◌, Option, None, Some, Result, Ok, Err, if◌then◌else◌}
+use Rattle.std.specs.Prelude.{ℕ, List, [], ◌∷◌, ◌++◌, length, nat_lt, Bool, not, ◌==◌, Option, None, Some, Result, Ok}
+use Rattle.std.specs.Prelude.{Err, if◌then◌else◌}
 use Rattle.std.specs.Borrow.{Bor}
 use Rattle.net_base.specs.Ring.{overwrite}
 use Rattle.net_base.specs.Packets.{Packets, packets_with, end_of, made_room, takes}

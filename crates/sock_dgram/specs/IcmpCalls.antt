@@ -16,7 +16,8 @@ use Rattle.sock_dgram.specs.Icmp.{View, received, waiting, bind_answer, after_bi
 use Rattle.sock_dgram.specs.IcmpDispatch.{Outgoing, outgoing, Dispatched}
 use Rattle.sock_dgram.specs.IcmpFilter.{octets_v4, octets_v6, queued_v4, queued_v6}
 use Rattle.sock_dgram.specs.IcmpLends.{Takes}
-use Rattle.sock_dgram.specs.Traffic.{Traffic, Written, nothing, sends, departs, queues, reads, copies_out, Reads, Copies}
+use Rattle.sock_dgram.specs.Transfers.{Transfers, Written, nothing, sends, departs, queues, reads, copies_out, Reads}
+use Rattle.sock_dgram.specs.Transfers.{Copies}
 use Rattle.sock_dgram.specs.declared.error.RecvError.{RecvError}
 use Rattle.sock_dgram.specs.declared.error.SendError.{SendError}
 use Rattle.sock_dgram.specs.declared.icmp.endpoint.Endpoint.{Endpoint}
@@ -38,7 +39,7 @@ pub data Call (C E F G : Type 0) : Type 0 where
 
 module _ {C E F G : Type 0} (facts : C → Facts) (emit : Emit F C (IpRepr × IcmpRepr) E)
     (write : Once G (MutBor (List ℕ) × Unit {0}) (ℕ × (MutBor (List ℕ) × Unit {0}))) where
-  abbrev pub Effect : Call C E F G → View → Traffic IpAddress Outgoing → View → Type 0
+  abbrev pub Effect : Call C E F G → View → Transfers IpAddress Outgoing → View → Type 0
   Effect Look v t w = (w ≡ v) × (t ≡ nothing)
   Effect (Bind e) v t w = (w ≡ after_bind (bind_answer v e) v e) × (t ≡ nothing)
   Effect (SetHopLimit n) v t w = (w ≡ record v { hop_limit = n }) × (t ≡ nothing)

@@ -6,7 +6,8 @@ use Rattle.ip_wire.specs.declared.address.IpAddress.{IpAddress}
 use Rattle.ip_wire.specs.declared.address.IpAddress.TheVariants as address
 use Rattle.ip_wire.specs.declared.repr.Ipv4Repr.{Ipv4Repr}
 use Rattle.ip_wire.specs.declared.repr.Ipv6Repr.{Ipv6Repr}
-use Rattle.control_wire.specs.Icmp.{Message, Request, Reply, Unreachable, Exceeded, message_len, icmpv4_octets, icmpv6_octets}
+use Rattle.control_wire.specs.Icmp.{Message, Request, Reply, Unreachable, Exceeded, message_len, icmpv4_octets}
+use Rattle.control_wire.specs.Icmp.{icmpv6_octets}
 use Rattle.control_wire.specs.Source.{tcp_source, udp_source}
 use Rattle.ip_wire.specs.declared.checksum.Checksum.TheVariants as checksum
 use Rattle.net_base.specs.Packets.{Packets}

@@ -11,7 +11,7 @@ pub mod RawCalls
 pub mod RawDispatch
 pub mod RawLends
 pub mod Texts
-pub mod Traffic
+pub mod Transfers
 pub mod Udp
 pub mod UdpCalls
 pub mod UdpDispatch

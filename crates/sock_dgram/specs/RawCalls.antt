@@ -12,7 +12,7 @@ use Rattle.sock_dgram.specs.Datagrams.{answered, stored, take_answer, with_metad
 use Rattle.sock_dgram.specs.Raw.{View, received, waiting, send_answer, whole_packet}
 use Rattle.sock_dgram.specs.RawDispatch.{Outgoing, Dispatched, prepared}
 use Rattle.sock_dgram.specs.RawLends.{Takes}
-use Rattle.sock_dgram.specs.Traffic.{Traffic, Written, nothing, sends, departs, queues, reads, copies_out, Copies}
+use Rattle.sock_dgram.specs.Transfers.{Transfers, Written, nothing, sends, departs, queues, reads, copies_out, Copies}
 use Rattle.sock_dgram.specs.declared.error.RecvError.{RecvError}
 use Rattle.sock_dgram.specs.declared.error.RecvError.TheVariants as recv_error
 use Rattle.sock_dgram.specs.declared.raw.error.SendError.{SendError}
@@ -42,7 +42,7 @@ bytes_read (Some d) = Ok d.1
 
 module _ {C E F G : Type 0} (facts : C → Facts) (emit : Emit F C (IpRepr × Bor (List ℕ)) E)
     (write : Once G (MutBor (List ℕ) × Unit {0}) (ℕ × (MutBor (List ℕ) × Unit {0}))) where
-  abbrev pub Effect : Call C E F G → View → Traffic (Unit {0}) Outgoing → View → Type 0
+  abbrev pub Effect : Call C E F G → View → Transfers (Unit {0}) Outgoing → View → Type 0
   Effect Look v t w = (w ≡ v) × (t ≡ nothing)
   Effect (SendSlice bs r) v t w =
       (r ≡ send_answer v (length bs)) × (w ≡ record v { tx_buffer = stored tt bs v.tx_buffer })
@@ -73,7 +73,7 @@ without_checksum d = (d.0, prepared false d.1)
 abbrev pub bare : List (Unit {0} × List ℕ) → List (Unit {0} × List ℕ)
 bare ds = map without_checksum ds
 
-abbrev pub bare_traffic : Traffic (Unit {0}) Outgoing → Traffic (Unit {0}) Outgoing
+abbrev pub bare_traffic : Transfers (Unit {0}) Outgoing → Transfers (Unit {0}) Outgoing
 bare_traffic t = record {
   sent = bare t.sent;
   departed = map (λ e. (without_checksum e.0, e.1)) t.departed;

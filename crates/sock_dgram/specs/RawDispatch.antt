@@ -3,7 +3,8 @@ use Rattle.std.specs.Prelude.{ℕ, ◌≡◌, ◌+◌, ◌-◌, ◌↔◌, ◌&&
 use Rattle.std.specs.Prelude.{Bool, Option, None, Some, Result, is_ok, true, false, if◌then◌else◌}
 use Rattle.std.specs.Borrow.{Bor}
 use Rattle.ip_wire.specs.Octets.{be16_at}
-use Rattle.ip_wire.specs.Packet.{checksum_filled, ipv4_fields, ipv4_header_len, ipv4_payload, ipv4_total_len, ipv6_fields, ipv6_payload, with_checksum}
+use Rattle.ip_wire.specs.Packet.{checksum_filled, ipv4_fields, ipv4_header_len, ipv4_payload, ipv4_total_len}
+use Rattle.ip_wire.specs.Packet.{ipv6_fields, ipv6_payload, with_checksum}
 use Rattle.ip_wire.specs.Protocol.{version_of_packet}
 use Rattle.ip_wire.specs.declared.protocol.IpVersion.{IpVersion}
 use Rattle.ip_wire.specs.declared.protocol.IpVersion.TheVariants as version

@@ -1,5 +1,6 @@
 -- What contracts see of a UDP socket, and what its calls do to it.
-use Rattle.std.specs.Prelude.{ℕ, ◌≡◌, ◌⊎◌, ⊤, List, Option, None, Some, Result, Ok, Err, Bool, true, not, ◌==◌, ◌&&◌, if◌then◌else◌}
+use Rattle.std.specs.Prelude.{ℕ, ◌≡◌, ◌⊎◌, ⊤, List, Option, None, Some, Result, Ok, Err, Bool, true, not, ◌==◌, ◌&&◌}
+use Rattle.std.specs.Prelude.{if◌then◌else◌}
 use Rattle.ip_wire.specs.Address.{is_unspecified, is_multicast, same_version}
 use Rattle.ip_wire.specs.IpHeader.{src_addr_of, dst_addr_of}
 use Rattle.ip_wire.specs.declared.address.IpAddress.{IpAddress}

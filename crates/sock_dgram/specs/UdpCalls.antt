@@ -9,7 +9,8 @@ use Rattle.net_base.specs.Packets.{first_packet, skipped, takes}
 use Rattle.sock_core.specs.Emission.{Emit}
 use Rattle.sock_core.specs.Facts.{Facts}
 use Rattle.sock_dgram.specs.Datagrams.{stored}
-use Rattle.sock_dgram.specs.Traffic.{Traffic, Written, nothing, sends, departs, queues, reads, copies_out, clears, Reads, Copies}
+use Rattle.sock_dgram.specs.Transfers.{Transfers, Written, nothing, sends, departs, queues, reads, copies_out, clears}
+use Rattle.sock_dgram.specs.Transfers.{Reads, Copies}
 use Rattle.sock_dgram.specs.Udp.{View, received, waiting, bind_answer, after_bind, closed}
 use Rattle.sock_dgram.specs.Udp.{send_answer, after_send, metadata_of}
 use Rattle.sock_dgram.specs.UdpDispatch.{Outgoing, outgoing, Dispatched}
@@ -36,7 +37,7 @@ pub data Call (C E F G : Type 0) : Type 0 where
 
 module _ {C E F G : Type 0} (facts : C → Facts) (emit : Emit F C (IpRepr × UdpRepr × Bor (List ℕ)) E)
     (write : Once G (MutBor (List ℕ) × Unit {0}) (ℕ × (MutBor (List ℕ) × Unit {0}))) where
-  abbrev pub Effect : Call C E F G → View → Traffic UdpMetadata Outgoing → View → Type 0
+  abbrev pub Effect : Call C E F G → View → Transfers UdpMetadata Outgoing → View → Type 0
   Effect Look v t w = (w ≡ v) × (t ≡ nothing)
   Effect (Bind e) v t w = (w ≡ after_bind (bind_answer v e) v e) × (t ≡ nothing)
   Effect Close v t w = (w ≡ closed v) × (t ≡ clears (waiting v) (received v))

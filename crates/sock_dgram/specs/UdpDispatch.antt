@@ -1,5 +1,6 @@
 -- `dispatch` of a UDP socket.
-use Rattle.std.specs.Prelude.{ℕ, ◌≡◌, ◌+◌, List, drop, length, cond, Option, None, Some, Result, is_ok, true, false, if◌then◌else◌}
+use Rattle.std.specs.Prelude.{ℕ, ◌≡◌, ◌+◌, List, drop, length, cond, Option, None, Some, Result, is_ok, true, false}
+use Rattle.std.specs.Prelude.{if◌then◌else◌}
 use Rattle.std.specs.Borrow.{Bor}
 use Rattle.ip_wire.specs.IpHeader.{ip_header}
 use Rattle.ip_wire.specs.declared.address.IpAddress.{IpAddress}

@@ -1,5 +1,6 @@
 -- What a replay writes, by how it ends.
-use Rattle.std.specs.Prelude.{◌≡◌, ℕ, ◌<◌, List, [], ◌∷◌, ◌++◌, length, replicate, Option, None, Ok, Err, IfSome, ◌⊎◌, slice_index}
+use Rattle.std.specs.Prelude.{◌≡◌, ℕ, ◌<◌, List, [], ◌∷◌, ◌++◌, length, replicate, Option, None, Ok, Err, IfSome, ◌⊎◌}
+use Rattle.std.specs.Prelude.{slice_index}
 use Rattle.std.specs.Io.KnownBytes.{Appends}
 use Rattle.ip_wire.specs.declared.address.IpAddress.TheVariants as address
 use Rattle.ip_wire.specs.declared.endpoint.IpEndpoint.{IpEndpoint}

@@ -1,5 +1,7 @@
 -- What the lines of a script mean, and the first fault in line order.
-use Rattle.std.specs.Prelude.{ℕ, ◌+◌, ◌*◌, pos, List, [], ◌∷◌, length, map, Bool, true, false, Option, Some, None, Result, Ok, Err, bytes_eq, codes, if◌then◌else◌, MatchResult, IsOk, ◌≡◌, ◌<◌, ◌++◌, option_map}
+use Rattle.std.specs.Prelude.{ℕ, ◌+◌, ◌*◌, pos, List, [], ◌∷◌, length, map, Bool, true, false, Option, Some, None}
+use Rattle.std.specs.Prelude.{Result, Ok, Err, bytes_eq, codes, if◌then◌else◌, MatchResult, IsOk, ◌≡◌, ◌<◌, ◌++◌}
+use Rattle.std.specs.Prelude.{option_map}
 use Rattle.sock_pair.specs.declared.script.error.ScriptError.{ScriptError}
 use Rattle.sock_pair.specs.declared.script.error.ScriptError.TheVariants as fault
 use Rattle.sock_pair.specs.declared.script.keyword.Keyword.{Keyword}
@@ -8,9 +10,11 @@ use Rattle.sock_pair.specs.declared.script.pair_line.PairLine.{PairLine}
 use Rattle.sock_pair.specs.declared.script.Script.{Script}
 use Rattle.pair_core.specs.declared.setting.Setting.TheVariants as setting
 use Rattle.pair_core.specs.declared.side.Side.{Side}
-use Rattle.pair_core.specs.EventValue.{MomentValue, EventValue, listen, connect, close, abort, send_slice, recv_slice, set, dispatch, deliver, event_value}
+use Rattle.pair_core.specs.EventValue.{MomentValue, EventValue, listen, connect, close, abort, send_slice, recv_slice}
+use Rattle.pair_core.specs.EventValue.{set, dispatch, deliver, event_value}
 use Rattle.sock_pair.specs.ScriptText.{lines_left, lines_of, numbered_from}
-use Rattle.sock_pair.specs.ScriptWords.{Word, side_of, switch_of, number_of, limit_of, text_of, keyword_of, one_of, two_of, three_of, five_of, one_and_text_of}
+use Rattle.sock_pair.specs.ScriptWords.{Word, side_of, switch_of, number_of, limit_of, text_of, keyword_of, one_of}
+use Rattle.sock_pair.specs.ScriptWords.{two_of, three_of, five_of, one_and_text_of}
 
 -- the context at so many milliseconds, with this word and with the own address or without; the MTU is 1500
 abbrev pub moment_at : Bool → ℕ → ℕ → MomentValue

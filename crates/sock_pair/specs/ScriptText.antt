@@ -1,5 +1,6 @@
 -- A script as lines, and a line as words.
-use Rattle.std.specs.Prelude.{ℕ, ◌+◌, List, [], ◌∷◌, length, Bool, true, false, ◌==◌, ◌||◌, nat_lt, filter, if◌then◌else◌}
+use Rattle.std.specs.Prelude.{ℕ, ◌+◌, List, [], ◌∷◌, length, Bool, true, false, ◌==◌, ◌||◌, nat_lt, filter}
+use Rattle.std.specs.Prelude.{if◌then◌else◌}
 use Rattle.std.specs.List.{onto_first, slice_split}
 use Rattle.sock_pair.specs.declared.script.lines.Line.{Line}
 

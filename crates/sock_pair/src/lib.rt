@@ -4,6 +4,7 @@
 //! plays them on a `Pair` and writes what came of each.
 #![tactic(auto)]
 
+pub mod example;
 pub mod script;
 
 pub use pair_core::{

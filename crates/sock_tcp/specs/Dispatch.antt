@@ -1,5 +1,6 @@
 -- `dispatch` whole.
-use Rattle.std.specs.Prelude.{◌≡◌, ℕ, List, Result, Ok, is_ok, Option, Some, None, is_some, MatchOption, IsSomeAnd, option_map}
+use Rattle.std.specs.Prelude.{◌≡◌, ℕ, List, Result, Ok, is_ok, Option, Some, None, is_some, MatchOption, IsSomeAnd}
+use Rattle.std.specs.Prelude.{option_map}
 use Rattle.std.specs.Option.{ForSome}
 use Rattle.ip_wire.specs.declared.repr.IpRepr.{IpRepr}
 use Rattle.control_wire.specs.Fits.{FitsPacket}
@@ -50,7 +51,7 @@ EmitsIf g f facts stamp (Some t) v c r w c' = EmitsDue g f facts t stamp v c r w
 abbrev pub IsStamp : {G : Type 0} → (G → ℕ → Type 0) → Option G → Option ℕ → Type 0
 IsStamp tells clock stamp = MatchOption clock (stamp ≡ None) (λ g. IsSomeAnd stamp (λ n. tells g n))
 
--- the clock is read where a segment goes out
+-- what goes out has a timestamp that the clock tells; how often it is asked is not said
 pub record EmitsStamped {F C E G : Type 0} (g : EmitTcp F C E) (f : F) (facts : Facts) (tells : G → ℕ → Type 0)
     (clock : Option G) (t : Tuple) (v : View) (c : C) (r : Result (Unit {0}) E) (w : View) (c' : C) : Type 0 where
   pub stamp : Option ℕ

@@ -1,5 +1,6 @@
 -- Whether a dispatch has anything to send.
-use Rattle.std.specs.Prelude.{ℕ, ◌-◌, ◌*◌, ◌/◌, ◌^◌, nat_lt, nat_le, length, min, Option, Some, None, Bool, true, false, not, ◌==◌, ◌&&◌, ◌||◌, if◌then◌else◌}
+use Rattle.std.specs.Prelude.{ℕ, ◌-◌, ◌*◌, ◌/◌, ◌^◌, nat_lt, nat_le, length, min, Option, Some, None, Bool, true}
+use Rattle.std.specs.Prelude.{false, not, ◌==◌, ◌&&◌, ◌||◌, if◌then◌else◌}
 use Rattle.ip_wire.specs.declared.address.IpAddress.{IpAddress}
 use Rattle.ip_wire.specs.declared.address.IpAddress.TheVariants as address
 use Rattle.control_wire.specs.Seq.{seq_add, seq_sub, seq_eq}

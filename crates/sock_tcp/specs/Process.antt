@@ -1,5 +1,6 @@
 -- `accepts` and `process` whole.
-use Rattle.std.specs.Prelude.{ℕ, ◌≡◌, ◌<◌, List, [], length, int_lt, Option, Some, None, is_none, Bool, true, false, ◌==◌, ◌&&◌, if◌then◌else◌, option_map}
+use Rattle.std.specs.Prelude.{ℕ, ◌≡◌, ◌<◌, List, [], length, int_lt, Option, Some, None, is_none, Bool, true, false}
+use Rattle.std.specs.Prelude.{◌==◌, ◌&&◌, if◌then◌else◌, option_map}
 use Rattle.std.specs.Option.{ForSome}
 use Rattle.ip_wire.specs.IpHeader.{src_addr_of, dst_addr_of}
 use Rattle.ip_wire.specs.declared.endpoint.IpListenEndpoint.{IpListenEndpoint}

@@ -1,5 +1,6 @@
 -- Reading and writing.
-use Rattle.std.specs.Prelude.{ℕ, pos, ◌≡◌, ◌≤◌, ◌*◌, nat_le, List, ◌++◌, length, take, drop, min, Option, None, Result, Ok, Err, IfOk, OnErr, Bool, true, false, not, ◌==◌, ◌&&◌, if◌then◌else◌}
+use Rattle.std.specs.Prelude.{ℕ, pos, ◌≡◌, ◌≤◌, ◌*◌, nat_le, List, ◌++◌, length, take, drop, min, Option, None}
+use Rattle.std.specs.Prelude.{Result, Ok, Err, IfOk, OnErr, Bool, true, false, not, ◌==◌, ◌&&◌, if◌then◌else◌}
 use Rattle.std.specs.Borrow.{Bor}
 use Rattle.net_base.specs.declared.time.Instant.{Instant}
 use Rattle.control_wire.specs.Seq.{seq_add}

@@ -1,5 +1,6 @@
 -- The segments that answer others.
-use Rattle.std.specs.Prelude.{ℕ, ◌≡◌, ⊤, [], ◌∷◌, ◌+◌, List, length, slice_get, Option, Some, None, option_map, false, if◌then◌else◌}
+use Rattle.std.specs.Prelude.{ℕ, ◌≡◌, ⊤, [], ◌∷◌, ◌+◌, List, length, slice_get, Option, Some, None, option_map, false}
+use Rattle.std.specs.Prelude.{if◌then◌else◌}
 use Rattle.ip_wire.specs.IpHeader.{ip_header, src_addr_of, dst_addr_of}
 use Rattle.ip_wire.specs.declared.protocol.IpProtocol.TheVariants as protocol
 use Rattle.ip_wire.specs.declared.repr.IpRepr.{IpRepr}

@@ -1,5 +1,6 @@
 -- The receive window.
-use Rattle.std.specs.Prelude.{ℕ, ◌*◌, ◌^◌, List, length, take, drop, Option, Some, None, Bool, false, ◌==◌, ◌&&◌, ◌||◌, if◌then◌else◌}
+use Rattle.std.specs.Prelude.{ℕ, ◌*◌, ◌^◌, List, length, take, drop, Option, Some, None, Bool, false, ◌==◌, ◌&&◌}
+use Rattle.std.specs.Prelude.{◌||◌, if◌then◌else◌}
 use Rattle.control_wire.specs.Seq.{seq_add, seq_sub, seq_minus, seq_eq}
 use Rattle.control_wire.specs.declared.seq_number.TcpSeqNumber.{TcpSeqNumber}
 use Rattle.sock_core.specs.Seq.{is_before, is_not_after, later_of}

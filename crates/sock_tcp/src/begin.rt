@@ -3,7 +3,8 @@ ghost use Rattle.std.specs.Prelude.{◌≡◌};
 ghost use Rattle.sock_core.specs.Bounds.{IsMoment};
 ghost use Rattle.sock_tcp.specs.View.{moment_of};
 ghost use Rattle.sock_tcp.specs.Due.{is_due};
-ghost use Rattle.sock_tcp.specs.Begin.{last_ts_set, readied, retransmission_begun, fast_retransmission_marked, after_timers};
+ghost use Rattle.sock_tcp.specs.Begin.{last_ts_set, readied, retransmission_begun, fast_retransmission_marked};
+ghost use Rattle.sock_tcp.specs.Begin.{after_timers};
 ghost use Rattle.sock_tcp.specs.Begin.{is_paused, peer_if, begun, nothing_due, before_emit_to, before_emit};
 
 use crate::control_block::ControlBlock;

@@ -122,8 +122,8 @@ impl<'a> ControlBlock<'a> {
 }
 
 impl<'a, G: TsvalSource> Socket<'a, G> {
-    /// Emits at most one segment: calls `emit` once with it, or does not call it where nothing is due. The source of
-    /// timestamps is asked where a segment goes out.
+    /// Emits at most one segment: calls `emit` once with it, or does not call it where nothing is due. A timestamp that
+    /// goes out is one that the source of timestamps tells; how often that is asked is in no contract.
     ///
     /// First what the moments that have passed ask for: with the local address gone, the socket is reset; the user
     /// timeout closes it; the retransmission timer lets all behind SND.UNA go out again. The reasons to emit are, in

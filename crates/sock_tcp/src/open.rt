@@ -4,7 +4,9 @@ ghost use Rattle.ip_wire.specs.Address.{SameVersion, same_version};
 ghost use Rattle.sock_core.specs.Received.{receiving};
 ghost use Rattle.sock_tcp.specs.Queue.{queue_of};
 ghost use Rattle.sock_tcp.specs.View.{fresh};
-ghost use Rattle.sock_tcp.specs.Opening.{is_open, is_listening, renewed, listened, Listens, checked_source, checked_local, endpoints, connected, after_connect, connect_answer, Connects};
+ghost use Rattle.sock_tcp.specs.Opening.{is_open, is_listening, renewed, listened, Listens, checked_source};
+ghost use Rattle.sock_tcp.specs.Opening.{checked_local, endpoints, connected, after_connect, connect_answer};
+ghost use Rattle.sock_tcp.specs.Opening.{Connects};
 
 use crate::control_block::ControlBlock;
 use crate::error::{ConnectError, ListenError};

@@ -6,8 +6,10 @@ ghost use Rattle.sock_core.specs.Bounds.{IsMoment};
 ghost use Rattle.sock_tcp.specs.Verdict.{verdict_of};
 ghost use Rattle.sock_tcp.specs.declared.verdict.Verdict.TheVariants.{Pass};
 ghost use Rattle.sock_tcp.specs.View.{moment_of};
-ghost use Rattle.sock_tcp.specs.Process.{IsToListener, IsAddressed, Opens, Accepts, tuple_of, has_window, drops_generator};
-ghost use Rattle.sock_tcp.specs.Process.{answered, challenged, close_restarted, outside, bytes_taken, processed_inside, tested, processed};
+ghost use Rattle.sock_tcp.specs.Process.{IsToListener, IsAddressed, Opens, Accepts, tuple_of, has_window};
+ghost use Rattle.sock_tcp.specs.Process.{drops_generator};
+ghost use Rattle.sock_tcp.specs.Process.{answered, challenged, close_restarted, outside, bytes_taken};
+ghost use Rattle.sock_tcp.specs.Process.{processed_inside, tested, processed};
 ghost use Rattle.sock_tcp.specs.Draw.{draws, Draws};
 
 use crate::advance::Next;
@@ -30,6 +32,15 @@ pub enum Answer {
     Ack,
     /// By an RST.
     Rst,
+}
+
+// What the receive window takes of a segment: the control bit that counts, and the bytes, the first of which stands so
+// far past RCV.NXT.
+#[derive(Clone, Copy)]
+struct Taken<'b> {
+    control: TcpControl,
+    offset: usize,
+    bytes: &'b [u8],
 }
 
 // Whether a segment goes to a listener on this endpoint.
@@ -150,27 +161,25 @@ impl<'a> ControlBlock<'a> {
         &mut self,
         cx: &mut C,
         now: Instant,
-        control: TcpControl,
-        offset: usize,
-        bytes: &[u8],
+        taken: Taken<'_>,
         ip_repr: &IpRepr,
         repr: &TcpRepr<'_>,
     ) -> Answer
         requires moment { IsMoment now.micros }
         requires passed { verdict_of self.old repr.now.control repr.now.ack_number ≡ Pass }
-        requires fits { offset + length bytes.now ≤ length self.old.rx_buffer.held }
+        requires fits { taken.offset + length taken.bytes.now ≤ length self.old.rx_buffer.held }
         ensures table { answered result self.new (segment_of repr.now)
-            ≡ processed_inside self.old now (C.word_at cx.old 0) control offset bytes.now ip_repr.now
-            (segment_of repr.now) }
-        ensures context { Draws (draws Pass self.old.state control) C.facts C.word_at cx.old cx.new }
+            ≡ processed_inside self.old now (C.word_at cx.old 0) taken.entry.control taken.entry.offset
+            taken.entry.bytes.now ip_repr.now (segment_of repr.now) }
+        ensures context { Draws (draws Pass self.old.state taken.entry.control) C.facts C.word_at cx.old cx.new }
     {
         let acked = self.acked_by_passing(repr.control, repr.ack_number);
-        match self.advance(cx, now, control, acked, ip_repr, repr) {
+        match self.advance(cx, now, taken.control, acked, ip_repr, repr) {
             Next::Stop => Answer::Nothing,
             Next::Challenge => self.challenge(now),
             Next::Continue => {
                 self.hear(now, acked, repr);
-                self.take_bytes(now, offset, bytes)
+                self.take_bytes(now, taken.offset, taken.bytes)
             }
         }
     }
@@ -191,7 +200,12 @@ impl<'a> ControlBlock<'a> {
         ensures context { Draws (draws Pass self.old.state repr.now.control) C.facts C.word_at cx.old cx.new }
     {
         if !self.has_window() {
-            return self.process_inside(cx, now, repr.control, 0, &[], ip_repr, repr);
+            let taken = Taken {
+                control: repr.control,
+                offset: 0,
+                bytes: &[],
+            };
+            return self.process_inside(cx, now, taken, ip_repr, repr);
         }
         let (number, length) = (repr.seq_number, repr.payload.len());
         number.in_range(); // for its contract
@@ -202,8 +216,13 @@ impl<'a> ControlBlock<'a> {
         let control = window.counted_control(repr.control, number, length);
         let cut = window.cut(number, length);
         let bytes = cut.of(repr.payload);
+        let taken = Taken {
+            control,
+            offset: cut.offset,
+            bytes,
+        };
         self.local_rx_last_seq = Some(number);
-        self.process_inside(cx, now, control, cut.offset, bytes, ip_repr, repr)
+        self.process_inside(cx, now, taken, ip_repr, repr)
     }
 
     #[inline(never)]

@@ -5,8 +5,10 @@ ghost use Rattle.sock_core.specs.Bounds.{IsMoment};
 ghost use Rattle.sock_core.specs.Received.{makes_fifth_range};
 ghost use Rattle.sock_tcp.specs.Same.{SameQueues};
 ghost use Rattle.sock_tcp.specs.Window.{next_ack};
-ghost use Rattle.sock_tcp.specs.Steps.{window_taken, is_window_changed, released, is_duplicate, duplicate_counted, ack_counted, una_advanced, acknowledged, timestamp_taken};
-ghost use Rattle.sock_tcp.specs.Steps.{timer_acked, begins_probe, probe_set, timer_set, heard, joined, is_ack_owed, ack_delayed};
+ghost use Rattle.sock_tcp.specs.Steps.{window_taken, is_window_changed, released, is_duplicate, duplicate_counted};
+ghost use Rattle.sock_tcp.specs.Steps.{ack_counted, una_advanced, acknowledged, timestamp_taken};
+ghost use Rattle.sock_tcp.specs.Steps.{timer_acked, begins_probe, probe_set, timer_set, heard, joined, is_ack_owed};
+ghost use Rattle.sock_tcp.specs.Steps.{ack_delayed};
 ghost use Rattle.sock_tcp.specs.Timers.{IsTimer};
 
 use crate::acked::Acked;

@@ -2,7 +2,8 @@
 ghost use Rattle.std.specs.Prelude.{◌≡◌, ◌≤◌, ◌^◌, Option};
 ghost use Rattle.sock_core.specs.Bounds.{IsMoment};
 ghost use Rattle.sock_tcp.specs.View.{IsShort};
-ghost use Rattle.sock_tcp.specs.Timers.{after, is_over, idle_from, retransmit_from, probe_from, close_from, is_idle, IsTimer};
+ghost use Rattle.sock_tcp.specs.Timers.{after, is_over, idle_from, retransmit_from, probe_from, close_from, is_idle};
+ghost use Rattle.sock_tcp.specs.Timers.{IsTimer};
 ghost use Rattle.sock_tcp.specs.Timers.{is_keep_alive_over, is_probe_over, is_close_over};
 ghost use Rattle.sock_tcp.specs.Timers.{keep_alive_renewed, twice, probe_doubled, retransmit_unless_set};
 ghost use Rattle.sock_tcp.specs.Polls.{timer_poll, delay_poll};

@@ -2,7 +2,8 @@
 ghost use Rattle.std.specs.Prelude.{◌≡◌, ◌≤◌, ◌<◌, ◌^◌, length};
 ghost use Rattle.control_wire.specs.Seq.{seq_sub};
 ghost use Rattle.sock_tcp.specs.Advance.{counted_control};
-ghost use Rattle.sock_tcp.specs.Window.{next_ack, kept_between, receive_window, starts_inside, is_inside, cut_of, cut_bytes};
+ghost use Rattle.sock_tcp.specs.Window.{next_ack, kept_between, receive_window, starts_inside, is_inside, cut_of};
+ghost use Rattle.sock_tcp.specs.Window.{cut_bytes};
 
 use crate::control_block::ControlBlock;
 use control_wire::{TcpControl, TcpSeqNumber};

@@ -31,8 +31,6 @@ mod tcp_calls;
 #[cfg(test)]
 mod tcp_poll;
 #[cfg(test)]
-mod tcp_process;
-#[cfg(test)]
 mod texts;
 #[cfg(test)]
 mod udp;

@@ -1,101 +1,29 @@
-//! TCP sockets: which calls are refused and when, what goes in and out of their queues, and their settings.
+//! TCP sockets: closures over their queues, a clock that is a function, and replies that no socket makes. What calls
+//! answer otherwise is shown by the drills of `socket_drill`.
 use crate::host::Host;
 use crate::tcp_calls::Tcp;
-use smoltcp_socket::PollAt;
 use smoltcp_socket::tcp::*;
-use smoltcp_socket::time::{Duration, Instant};
 use smoltcp_socket::wire::{
     IpAddress, IpEndpoint, IpListenEndpoint, IpProtocol, IpRepr, Ipv4Address, TcpControl, TcpRepr,
     TcpSeqNumber,
 };
-use std::process::Abort;
 use std::test::Fail;
 
-pub(crate) const A: IpEndpoint = IpEndpoint {
+const A: IpEndpoint = IpEndpoint {
     addr: IpAddress::Ipv4(Ipv4Address([10, 0, 0, 1])),
     port: 49152,
 };
 
-pub(crate) const B: IpEndpoint = IpEndpoint {
+const B: IpEndpoint = IpEndpoint {
     addr: IpAddress::Ipv4(Ipv4Address([10, 0, 0, 2])),
     port: 80,
 };
 
-pub(crate) fn at(endpoint: IpEndpoint) -> IpListenEndpoint {
+fn at(endpoint: IpEndpoint) -> IpListenEndpoint {
     IpListenEndpoint {
         addr: Some(endpoint.addr),
         port: endpoint.port,
     }
-}
-
-fn any(port: u16) -> IpListenEndpoint {
-    IpListenEndpoint { addr: None, port }
-}
-
-// What `listen` answers to port 0, to a port, to the same once more, and to another.
-fn listens(socket: &mut Tcp<'_>) -> [Result<(), ListenError>; 4] {
-    [
-        socket.listen(any(0)),
-        socket.listen(any(80)),
-        socket.listen(any(80)),
-        socket.listen(any(81)),
-    ]
-}
-
-// Which calls of `listen` are refused, and what a listener shows.
-fn listens_once(rt: &(impl Abort), socket: &mut Tcp<'_>) {
-    let unaddressable = Err(ListenError::Unaddressable);
-    let other = Err(ListenError::InvalidState);
-    assert!(rt; listens(socket) == [unaddressable, Ok(()), Ok(()), other]);
-    assert!(rt; (socket.openness(), socket.listen_endpoint()) == ((true, true, false), any(80)));
-}
-
-// Connects to B at this port.
-fn dials(
-    socket: &mut Tcp<'_>,
-    cx: &mut Host,
-    port: u16,
-    local: IpListenEndpoint,
-) -> Result<(), ConnectError> {
-    let remote = IpEndpoint { addr: B.addr, port };
-    socket.connect(cx, remote, local)
-}
-
-// What `connect` answers to port 0, without an address that the context has, to a call that it takes, and after it.
-fn connects(socket: &mut Tcp<'_>, cx: &mut Host) -> [Result<(), ConnectError>; 4] {
-    [
-        dials(socket, cx, 0, at(A)),
-        dials(socket, cx, 80, any(49152)),
-        dials(socket, cx, 80, at(A)),
-        dials(socket, cx, 0, at(A)),
-    ]
-}
-
-// What a socket shows that connects from A to B.
-fn shows_its_peer(socket: &Tcp<'_>) -> bool {
-    let shown = (socket.state(), socket.endpoints(), socket.openness());
-    shown == (State::SynSent, (Some(A), Some(B)), (true, false, true))
-}
-
-// When it is to be asked again: at once, once its SYN is out, and with a timeout.
-fn waits_for_an_answer(socket: &mut Tcp<'_>, cx: &mut Host) -> [PollAt; 3] {
-    let first = socket.poll_at(cx);
-    let _ = emitted(socket, cx);
-    let second = socket.poll_at(cx);
-    socket.set_timeout(500);
-    [first, second, socket.poll_at(cx)]
-}
-
-// Which calls of `connect` are refused.
-fn connects_once(rt: &(impl Abort), socket: &mut Tcp<'_>, cx: &mut Host) {
-    let unaddressable = Err(ConnectError::Unaddressable);
-    let after = Err(ConnectError::InvalidState);
-    assert!(rt; connects(socket, cx) == [unaddressable, unaddressable, Ok(()), after]);
-    assert!(rt; shows_its_peer(socket));
-    // the retransmission timeout of a new socket is a second
-    let second = PollAt::Time(Instant::from_secs(1));
-    let half = PollAt::Time(Instant::from_millis(500));
-    assert!(rt; waits_for_an_answer(socket, cx) == [PollAt::Now, second, half]);
 }
 
 // Takes a segment where the socket accepts it.
@@ -124,7 +52,7 @@ fn answer<'a>(control: TcpControl, seq: u32, payload: &'a [u8]) -> TcpRepr<'a> {
 }
 
 // The sequence number of what is emitted, and how many bytes it carries.
-pub(crate) fn emitted(socket: &mut Tcp<'_>, cx: &mut Host) -> Option<(u32, usize)> {
+fn emitted(socket: &mut Tcp<'_>, cx: &mut Host) -> Option<(u32, usize)> {
     let mut seen = None;
     let _ = socket
         .0
@@ -144,51 +72,11 @@ fn reads(socket: &mut Tcp<'_>, want: &[u8]) -> bool {
 }
 
 // Connects a new socket, by a SYN|ACK made by hand.
-pub(crate) fn establish(socket: &mut Tcp<'_>, cx: &mut Host) {
+fn establish(socket: &mut Tcp<'_>, cx: &mut Host) {
     let ip_repr = IpRepr::new(B.addr, A.addr, IpProtocol::Tcp, 20, 64);
     let _ = socket.connect(cx, B, at(A));
     let _ = emitted(socket, cx);
     let _ = hear(socket, cx, &ip_repr, &answer(TcpControl::Syn, 5000, &[]));
-}
-
-// Timeout, keep-alive and delay of acknowledgements of a socket, and its hop limit.
-type Settings = (
-    Option<Duration>,
-    Option<Duration>,
-    Option<Duration>,
-    Option<u8>,
-);
-
-fn settings(socket: &Tcp<'_>) -> Settings {
-    (
-        socket.0.timeout(),
-        socket.0.keep_alive(),
-        socket.0.ack_delay(),
-        socket.0.hop_limit(),
-    )
-}
-
-fn congestion(socket: &Tcp<'_>) -> (bool, CongestionControl) {
-    (socket.0.nagle_enabled(), socket.0.congestion_control())
-}
-
-fn change_all(socket: &mut Tcp<'_>) {
-    let second = Some(Duration::from_secs(1));
-    socket.0.set_timeout(second);
-    socket.0.set_ack_delay(None);
-    socket.0.set_nagle_enabled(false);
-    socket.0.set_keep_alive(second);
-    socket.0.set_hop_limit(Some(42));
-    socket.0.set_congestion_control(CongestionControl::None);
-    socket.0.pause_synack(true);
-}
-
-// Whether the settings are those that the user made.
-fn keeps_settings(socket: &mut Tcp<'_>) -> bool {
-    change_all(socket);
-    let second = Some(Duration::from_secs(1));
-    let want = (second, second, None, Some(42));
-    (settings(socket), congestion(socket)) == (want, (false, CongestionControl::None))
 }
 
 // How many bytes a closure is lent that takes none, for sending and for receiving.
@@ -250,57 +138,23 @@ fn reads_by_a_closure(socket: &mut Tcp<'_>) -> bool {
     seen == (true, Ok(Some(b'x')), true) && ends == ((true, true, 4, 3), (true, false, 4, 0))
 }
 
-// No text, and one of which four bytes fit.
-fn writes_a_text(socket: &mut Tcp<'_>) -> bool {
-    let written = [socket.write_str(""), socket.write_str("hello")];
-    (written, socket.sending()) == ([true, false], (true, false, 4, 4))
-}
-
-// The state after a close by the user.
-fn closed(socket: &mut Tcp<'_>) -> State {
-    socket.close();
-    socket.state()
-}
-
-fn aborted(socket: &mut Tcp<'_>) -> State {
-    socket.abort();
-    socket.state()
-}
-
-// What sending and receiving answer, which take nothing.
-fn takes_no_more(socket: &mut Tcp<'_>) -> (Result<usize, SendError>, Result<usize, RecvError>) {
-    (
-        socket.send_slice(b"late"),
-        socket.0.recv(|queue| (0, queue.len())),
-    )
-}
-
-// The states after a close, another, and an abort, after which nothing goes.
-fn closes_and_aborts(socket: &mut Tcp<'_>) -> bool {
-    let states = [closed(socket), closed(socket), aborted(socket)];
-    let refused = (Err(SendError::InvalidState), Err(RecvError::InvalidState));
-    states == [State::FinWait1, State::FinWait1, State::Closed] && takes_no_more(socket) == refused
-}
-
 // All of these in turn, of a socket that is connected, and that it keeps to each.
-fn keeps_to_its_calls(socket: &mut Tcp<'_>, cx: &mut Host) -> [bool; 5] {
+fn keeps_to_its_calls(socket: &mut Tcp<'_>, cx: &mut Host) -> [bool; 3] {
     [
         sends_by_a_closure(socket, cx),
         hears_three(socket, cx),
         reads_by_a_closure(socket),
-        writes_a_text(socket),
-        closes_and_aborts(socket),
     ]
 }
 
 #[test]
-fn calls_on_a_connection(rt: HostRuntime) -> Result<(), Fail> {
+fn closures_write_and_read(rt: HostRuntime) -> Result<(), Fail> {
     let mut rx = [0u8; 4];
     let mut tx = [0u8; 4];
     let mut cx = Host::at(0, 1000);
     let mut socket = Tcp::new(&mut rx, &mut tx);
     establish(&mut socket, &mut cx);
-    assert!(rt; keeps_to_its_calls(&mut socket, &mut cx) == [true; 5]);
+    assert!(rt; keeps_to_its_calls(&mut socket, &mut cx) == [true; 3]);
     Ok(())
 }
 
@@ -359,15 +213,7 @@ fn shows_its_clock(socket: &mut Tcp<'_>) -> bool {
 }
 
 #[test]
-fn calls_before_a_connection(rt: HostRuntime) -> Result<(), Fail> {
-    let mut rx = [0u8; 4];
-    let mut tx = [0u8; 4];
-    let mut cx = Host::at(0, 1000);
-    let mut socket = Tcp::new(&mut rx, &mut tx);
-    assert!(rt; shows_its_clock(&mut socket) && keeps_settings(&mut socket));
-    listens_once(&rt, &mut socket);
-    assert!(rt; closed(&mut socket) == State::Closed);
-    connects_once(&rt, &mut socket, &mut cx);
-    assert!(rt; closed(&mut socket) == State::Closed);
+fn timestamps_want_a_clock(rt: HostRuntime) -> Result<(), Fail> {
+    assert!(rt; shows_its_clock(&mut Tcp::new(&mut [], &mut [])));
     Ok(())
 }

@@ -1,12 +1,9 @@
 //! The calls of a TCP socket without their contracts. A test needs their answers alone, and its proof is then short.
 use crate::host::Host;
 use crate::tcp::clock;
-use smoltcp_socket::PollAt;
 use smoltcp_socket::storage::RingBuffer;
 use smoltcp_socket::tcp::*;
-use smoltcp_socket::time::Duration;
 use smoltcp_socket::wire::{IpEndpoint, IpListenEndpoint};
-use std::fmt::Write;
 
 #[derive(Drop)]
 pub(crate) struct Tcp<'a>(pub(crate) Socket<'a>);
@@ -22,10 +19,6 @@ impl<'a> Tcp<'a> {
         Tcp(Socket::new(rx_buffer, tx_buffer))
     }
 
-    pub(crate) fn listen(&mut self, endpoint: IpListenEndpoint) -> Result<(), ListenError> {
-        self.0.listen(endpoint)
-    }
-
     pub(crate) fn connect(
         &mut self,
         cx: &mut Host,
@@ -33,31 +26,6 @@ impl<'a> Tcp<'a> {
         local: IpListenEndpoint,
     ) -> Result<(), ConnectError> {
         self.0.connect(cx, remote, local)
-    }
-
-    pub(crate) fn close(&mut self) {
-        self.0.close();
-    }
-
-    pub(crate) fn abort(&mut self) {
-        self.0.abort();
-    }
-
-    pub(crate) fn state(&self) -> State {
-        self.0.state()
-    }
-
-    // Whether the socket is open, listens, and is active.
-    pub(crate) fn openness(&self) -> (bool, bool, bool) {
-        (self.0.is_open(), self.0.is_listening(), self.0.is_active())
-    }
-
-    pub(crate) fn listen_endpoint(&self) -> IpListenEndpoint {
-        self.0.listen_endpoint()
-    }
-
-    pub(crate) fn endpoints(&self) -> (Option<IpEndpoint>, Option<IpEndpoint>) {
-        (self.0.local_endpoint(), self.0.remote_endpoint())
     }
 
     // Whether more may be sent, whether there is room for it, how much there is for all, and how many bytes wait.
@@ -80,16 +48,8 @@ impl<'a> Tcp<'a> {
         )
     }
 
-    pub(crate) fn send_slice(&mut self, data: &[u8]) -> Result<usize, SendError> {
-        self.0.send_slice(data)
-    }
-
     pub(crate) fn recv_slice(&mut self, data: &mut [u8]) -> Result<usize, RecvError> {
         self.0.recv_slice(data)
-    }
-
-    pub(crate) fn write_str(&mut self, text: &str) -> bool {
-        self.0.write_str(text).is_ok()
     }
 
     // A source of timestamps, or none.
@@ -100,22 +60,5 @@ impl<'a> Tcp<'a> {
 
     pub(crate) fn timestamp_enabled(&self) -> bool {
         self.0.timestamp_enabled()
-    }
-
-    pub(crate) fn set_timeout(&mut self, millis: u16) {
-        let duration = Duration::from_millis(millis as u64);
-        self.0.set_timeout(Some(duration));
-    }
-
-    pub(crate) fn set_nagle_enabled(&mut self, enabled: bool) {
-        self.0.set_nagle_enabled(enabled);
-    }
-
-    pub(crate) fn set_congestion_control(&mut self, control: CongestionControl) {
-        self.0.set_congestion_control(control);
-    }
-
-    pub(crate) fn poll_at(&self, cx: &Host) -> PollAt {
-        self.0.poll_at(cx)
     }
 }

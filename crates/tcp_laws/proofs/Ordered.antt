@@ -220,40 +220,42 @@ module _ (r : RenoNumbers) (h : RenoOpen r) where
       go false = halved_open flight
 
 pub acked_open : (c : AnyController) (now : Instant) (n flight : ℕ) (rtte : Estimator) → IsOpen c → IsOpen (congestion.acked c now n flight rtte)
-unfolding congestion.acked
+unfolding congestion.acked congestion.reno_on_ack
 acked_open (controller.None x) now n flight rtte h = tt
 acked_open (controller.Reno r) now n flight rtte h = reno_acked_open r h n
 
 pub dup_acked_open : (c : AnyController) (now : Instant) (n flight : ℕ) → IsOpen c → IsOpen (congestion.dup_acked c now n flight)
-unfolding congestion.dup_acked
+unfolding congestion.dup_acked congestion.reno_on_dup_ack
 dup_acked_open (controller.None x) now n flight h = tt
 dup_acked_open (controller.Reno r) now n flight h = reno_dup_open r h n
 
 pub lost_open : (c : AnyController) (now : Instant) (n : ℕ) → IsOpen c → IsOpen (congestion.lost c now n)
-unfolding congestion.lost
+unfolding congestion.lost congestion.reno_on_loss
 lost_open (controller.None x) now n h = tt
 lost_open (controller.Reno r) now n h = reno_lost_open r h n
 
 pub timed_out_open : (c : AnyController) (now : Instant) (n : ℕ) → IsOpen c → IsOpen (congestion.timed_out c now n)
-unfolding congestion.timed_out
+unfolding congestion.timed_out congestion.reno_on_rto
 timed_out_open (controller.None x) now n h = tt
 timed_out_open (controller.Reno r) now n h = reno_timed_out_open r h n
 
 pub pre_transmitted_open : (c : AnyController) (now : Instant) → IsOpen c → IsOpen (congestion.pre_transmitted c now)
-unfolding congestion.pre_transmitted
+unfolding congestion.pre_transmitted congestion.reno_pre_transmit
 pre_transmitted_open (controller.None x) now h = tt
 pre_transmitted_open (controller.Reno r) now h = h
 
 pub post_transmitted_open : (c : AnyController) (now : Instant) (n : ℕ) → IsOpen c → IsOpen (congestion.post_transmitted c now n)
-unfolding congestion.post_transmitted
+unfolding congestion.post_transmitted congestion.reno_post_transmit
 post_transmitted_open (controller.None x) now n h = tt
 post_transmitted_open (controller.Reno r) now n h = h
 
 pub window_open : (c : AnyController) (n : ℕ) → IsOpen c → IsOpen (congestion.with_remote_window c n)
+unfolding congestion.with_remote_window
 window_open (controller.None x) n h = tt
 window_open (controller.Reno r) n h = record { cwnd = h.cwnd; mss = h.mss; ssthresh = h.ssthresh }
 
 mss_open : (c : AnyController) (n : ℕ) → IsOpen c → IsOpen (congestion.with_mss c (max n 48))
+unfolding congestion.with_mss
 mss_open (controller.None x) n h = tt
 mss_open (controller.Reno r) n h = record { cwnd = h.cwnd; mss = omega arith; ssthresh = h.ssthresh }
 

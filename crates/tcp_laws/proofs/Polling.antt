@@ -7,7 +7,7 @@ use Rattle.net_base.specs.declared.time.Instant.{Instant}
 use Rattle.sock_core.specs.Facts.{Facts}
 use Rattle.sock_core.specs.declared.context.PollAt.{PollAt}
 use Rattle.sock_core.specs.declared.context.PollAt.TheVariants as poll
-use Rattle.sock_core.specs.Congestion.{pre_transmitted}
+use Rattle.sock_core.specs.Congestion.{pre_transmitted, reno_pre_transmit}
 use Rattle.sock_core.specs.declared.congestion.AnyController.{AnyController}
 use Rattle.sock_core.specs.declared.congestion.AnyController.TheVariants as controller
 use Rattle.sock_tcp.specs.Begin.{last_ts_set, last_ts_set_at, told_ready, readied, after_timer, after_timers, is_paused, begun, begun_to, unless_paused, ended, before_emit, before_emit_to}
@@ -72,7 +72,7 @@ same_last_ts_set None v now h = absurd cc
 same_last_ts_set (Some last) v now h = refl
 
 same_pre_transmitted : (c : AnyController) (now : Instant) → pre_transmitted c now ≡ c
-unfolding pre_transmitted
+unfolding pre_transmitted reno_pre_transmit
 same_pre_transmitted (controller.None n) now = refl
 same_pre_transmitted (controller.Reno r) now = refl
 

@@ -9,7 +9,8 @@ ghost use Rattle.tcp_laws.specs.Clocks.{KeepAliveIsBounded, WakeUpIsBounded};
 ghost use Rattle.tcp_laws.specs.Repeating.{AcksRepeatOnlySo};
 ghost use Rattle.tcp_laws.specs.Speaking.{DueDataGoesOut, RetransmissionBegins};
 ghost use Rattle.tcp_laws.specs.Waking.{IsClosed, IsTimedOut, LastAckHearsNothing, ThirdDuplicateWakes, WindowWakes};
-ghost use Rattle.tcp_laws.specs.Polling.{KeepAliveWakes, NoWorkNoBytes, PayloadKeepsToWindows, PollHidesNothing, SleepsOnlySo, TimeoutWakes};
+ghost use Rattle.tcp_laws.specs.Polling.{KeepAliveWakes, NoWorkNoBytes, PayloadKeepsToWindows, PollHidesNothing};
+ghost use Rattle.tcp_laws.specs.Polling.{SleepsOnlySo, TimeoutWakes};
 
 use control_wire::TcpRepr;
 use ip_wire::IpRepr;
@@ -109,8 +110,8 @@ pub fn third_duplicate_wakes()
     ensures { ThirdDuplicateWakes }
 {}
 
-/// Why `poll_at` wants another dispatch at the same moment, after one that sent a keep-alive, or a segment that takes no
-/// sequence number, over any list of calls as above: in FIN-WAIT-2 a probe timer is left over, or the interval of
+/// Why `poll_at` wants another dispatch at the same moment, after one that sent a keep-alive, or a segment that takes
+/// no sequence number, over any list of calls as above: in FIN-WAIT-2 a probe timer is left over, or the interval of
 /// keep-alives is 0, and then every dispatch at that moment sends; or a probe is due, or TIME-WAIT is over, or what a
 /// keep-alive told does not count as told, and then one does.
 pub fn acks_repeat_only_so()
@@ -130,8 +131,8 @@ pub fn keep_alive_is_bounded()
     ensures { KeepAliveIsBounded }
 {}
 
-/// Where data, a SYN or a FIN is due just before the emit of a socket that is not CLOSED, what the dispatch sends takes a
-/// sequence number; after any list of calls as above.
+/// Where data, a SYN or a FIN is due just before the emit of a socket that is not CLOSED, what the dispatch sends takes
+/// a sequence number; after any list of calls as above.
 pub fn due_data_goes_out()
     ensures { DueDataGoesOut }
 {}

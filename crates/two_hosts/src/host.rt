@@ -93,8 +93,8 @@ impl<'a> Host<'a> {
         emit_tcp(&mut self.interface, ip, &reset)
     }
 
-    // Gives a segment to the first socket that it is for, of the connections or of those that listen: a connection comes
-    // before, so that a SYN that comes again opens no second one.
+    // Gives a segment to the first socket that it is for, of the connections or of those that listen: a connection
+    // comes before, so that a SYN that comes again opens no second one.
     fn give(&mut self, ip: &IpRepr, repr: &TcpRepr<'_>, listening: bool) -> Result<bool, AllocError>
         requires { length repr.now.payload.now ≤ 65535 }
     {

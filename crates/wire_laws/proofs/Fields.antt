@@ -1,5 +1,5 @@
 -- From what the types say, and what a segment of a socket keeps, to what the laws of the forms ask.
-use Rattle.std.proofs.Common.{◌≡◌, ℕ, ◌+◌, ◌≤◌, List, [], ◌∷◌, true, Option, Some, None, refl, sym, subst, length, get_or, arith}
+use Rattle.std.proofs.Common.{◌≡◌, ℕ, ◌+◌, ◌≤◌, List, [], ◌∷◌, ◌++◌, true, Option, Some, None, refl, sym, subst, length, get_or, arith}
 use Rattle.std.specs.Option.{ForSome}
 use Rattle.ip_wire.specs.IpHeader.{header_len_of, next_header_of, payload_len_of}
 use Rattle.ip_wire.specs.RoundTrip.{IsNamed}
@@ -71,8 +71,8 @@ is_header (header.Ipv4 h) p n w = record { src = w.src; src_octets = w.src_octet
 is_header (header.Ipv6 h) p n w = record { src = w.src; src_octets = w.src_octets; dst = w.dst; dst_octets = w.dst_octets; protocol = named h.next_header p; payload = omega (arith, n); hops = w.hops }
 
 -- the law of the forms, for one header and one segment
-pub survives : ((sender receiver : ChecksumCapabilities) (ip : IpRepr) (s : Segment) → IsHeader ip → next_header_of ip ≡ protocol.Tcp → payload_len_of ip ≡ segment_header_len s + length s.payload → IsWritable s → TestsWhatIsSent sender receiver → tcp_packet_parsed receiver (tcp_packet sender ip s) ≡ Some (record { ip = ip; segment = s })) → (ip : IpRepr) (s : Segment) → FitsPacket ip s → HasWidths ip s → SurvivesWithPorts ip s
-survives law ip s f w p sender receiver t = law sender receiver ip s (is_header ip f.protocol f.total w.header) f.protocol f.octets (is_writable ip s f w p) t
+pub survives : ((sender receiver : ChecksumCapabilities) (ip : IpRepr) (s : Segment) (rest : List ℕ) → IsHeader ip → next_header_of ip ≡ protocol.Tcp → payload_len_of ip ≡ segment_header_len s + length s.payload → IsWritable s → TestsWhatIsSent sender receiver → tcp_packet_parsed receiver (tcp_packet sender ip s ++ rest) ≡ Some (record { ip = ip; segment = s })) → (ip : IpRepr) (s : Segment) → FitsPacket ip s → HasWidths ip s → SurvivesWithPorts ip s
+survives law ip s f w p sender receiver rest t = law sender receiver ip s rest (is_header ip f.protocol f.total w.header) f.protocol f.octets (is_writable ip s f w p) t
 
 -- a stored segment, of which both are known
 pub both_ports : (o : Option StoredView) → ForSome o (λ t. SurvivesWithPorts t.ip t.segment) → ForSome o (λ t. HasPorts t.segment) → (t : StoredView) → o ≡ Some t → Survives t.ip t.segment

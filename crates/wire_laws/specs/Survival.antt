@@ -1,5 +1,5 @@
 -- Segments that a packet carries to the other side unchanged.
-use Rattle.std.specs.Prelude.{◌≡◌, ◌≤◌, length, Option, Some, Result, option_map}
+use Rattle.std.specs.Prelude.{ℕ, ◌≡◌, ◌≤◌, List, ◌++◌, length, Option, Some, Result, option_map}
 use Rattle.std.specs.Option.{ForSome}
 use Rattle.ip_wire.specs.declared.checksum.ChecksumCapabilities.{ChecksumCapabilities}
 use Rattle.ip_wire.specs.declared.repr.IpRepr.{IpRepr}
@@ -13,11 +13,12 @@ use Rattle.sock_tcp.specs.Dispatch.{EmitTcp, packet_in}
 use Rattle.sock_tcp.specs.Outgoing.{packet_of}
 use Rattle.wire_laws.specs.Fields.{HasWidths}
 
--- What is read of the packet's octets is what was written, with any checksums where what is tested was also sent
+-- What is read of the packet's octets is what was written, with any checksums where what is tested was also sent, and
+-- whatever stands behind the packet, as Ethernet's padding
 abbrev pub Survives : IpRepr → Segment → Type 0
 Survives ip s =
-    (sender receiver : ChecksumCapabilities) → TestsWhatIsSent sender receiver
-    → tcp_packet_parsed receiver (tcp_packet sender ip s) ≡ Some (record { ip = ip; segment = s })
+    (sender receiver : ChecksumCapabilities) (rest : List ℕ) → TestsWhatIsSent sender receiver
+    → tcp_packet_parsed receiver (tcp_packet sender ip s ++ rest) ≡ Some (record { ip = ip; segment = s })
 
 -- so it is where neither port is 0, as of each segment on a wire
 abbrev pub SurvivesWithPorts : IpRepr → Segment → Type 0

@@ -1,6 +1,8 @@
 //! What is read of a packet may come to a socket.
-ghost use Rattle.std.specs.Prelude.{IfOk};
+ghost use Rattle.std.specs.Prelude.{◌≡◌, IfOk};
 ghost use Rattle.control_wire.specs.Segment.{segment_of};
+ghost use Rattle.segment_wire.specs.Packet.{tcp_packet_of, tcp_packet_parsed};
+ghost use Rattle.segment_wire.specs.Tcp.{read_as};
 ghost use Rattle.wire_laws.specs.Survival.{MayCome};
 
 use control_wire::TcpRepr;
@@ -13,7 +15,8 @@ pub fn what_is_read_may_come<'a>(
     packet: &'a [u8],
     caps: &ChecksumCapabilities,
 ) -> Result<(IpRepr, TcpRepr<'a>), Error>
-    ensures { IfOk result (λ p. MayCome (segment_of p.1)) }
+    ensures call { read_as tcp_packet_of result ≡ tcp_packet_parsed caps.now packet.now }
+    ensures may_come { IfOk result (λ p. MayCome (segment_of p.1)) }
 {
     parse_tcp(packet, caps)
 }

@@ -1,12 +1,16 @@
 //! What a socket emits, written as a packet, is read on the other side as the same segment.
 //!
+//! A law on one call has the call's own table beside it, so that it speaks of what that call answers.
+//!
 //! No packet has a segment from port 0 or to it. In a pair there is none. A socket alone takes a SYN from port 0, as
 //! the table of `accepts` says, and answers to that port: so the laws on single calls have the premise `HasPorts`.
 ghost use Rattle.std.specs.Prelude.{◌≡◌, ◌≤◌, length, option_map, slice_get};
 ghost use Rattle.std.specs.Option.{ForSome};
 ghost use Rattle.control_wire.specs.Fits.{FitsPacket};
 ghost use Rattle.control_wire.specs.Segment.{segment_of};
-ghost use Rattle.sock_tcp.specs.Process.{Accepts, reply_of};
+ghost use Rattle.sock_tcp.specs.Dispatch.{Dispatches};
+ghost use Rattle.sock_tcp.specs.Process.{Accepts, Processes, reply_of};
+ghost use Rattle.sock_tcp.specs.Replies.{IsReplyStamp, bare_reply, rst_segment, with_header};
 ghost use Rattle.wire_laws.specs.Survival.{DispatchesSurviving, Survives, SurvivesWithPorts};
 
 use crate::widths::has_widths;
@@ -57,7 +61,10 @@ pub fn process_answers_a_packet<G: TsvalSource, C: Context>(
 ) -> Option<Reply>
     requires accepted { Accepts socket.old.control_block ip_repr.now (segment_of repr.now) }
     requires small { length repr.now.payload.now ≤ 65535 }
-    ensures { ForSome (option_map reply_of result) (λ r. SurvivesWithPorts r.0 r.1) }
+    ensures call { Processes C.facts C.word_at
+        (IsReplyStamp G.tells socket.new.tsval_generator repr.now.timestamp) socket.old.control_block cx.old
+        ip_repr.now (segment_of repr.now) result socket.new.control_block cx.new }
+    ensures survives { ForSome (option_map reply_of result) (λ r. SurvivesWithPorts r.0 r.1) }
 {
     let reply = socket.process(cx, ip_repr, repr);
     survives_if(&reply);
@@ -75,7 +82,8 @@ fn survives_if(reply: &Option<Reply>)
 
 /// What `reply` answers to a segment survives the wire.
 pub fn reply_is_a_packet(ip_repr: &IpRepr, repr: &TcpRepr<'_>) -> Reply
-    ensures { SurvivesWithPorts result.0 (segment_of result.1) }
+    ensures call { reply_of result ≡ with_header ip_repr.now (bare_reply (segment_of repr.now)) }
+    ensures survives { SurvivesWithPorts result.0 (segment_of result.1) }
 {
     let reply = Socket::reply(ip_repr, repr);
     what_fits_survives(&reply.0, &reply.1);
@@ -86,7 +94,8 @@ pub fn reply_is_a_packet(ip_repr: &IpRepr, repr: &TcpRepr<'_>) -> Reply
 pub fn rst_reply_is_a_packet(ip_repr: &IpRepr, repr: &TcpRepr<'_>) -> Reply
     requires control { repr.now.control ≡ TcpControl.Rst → ⊥ }
     requires small { length repr.now.payload.now ≤ 65535 }
-    ensures { SurvivesWithPorts result.0 (segment_of result.1) }
+    ensures call { reply_of result ≡ with_header ip_repr.now (rst_segment (segment_of repr.now)) }
+    ensures survives { SurvivesWithPorts result.0 (segment_of result.1) }
 {
     let reply = Socket::rst_reply(ip_repr, repr);
     what_fits_survives(&reply.0, &reply.1);
@@ -101,7 +110,9 @@ pub fn dispatch_emits_a_packet<
     F: FnOnce(&mut C, (IpRepr, TcpRepr<'_>)) -> Result<(), E>,
 >(socket: &mut Socket<'_, G>, cx: &mut C, emit: F) -> Result<(), E>
     requires callable { F.IsAlwaysCallable emit }
-    ensures { DispatchesSurviving F.FnOnce emit cx.old result cx.new }
+    ensures call { Dispatches F.FnOnce emit (C.facts cx.old) G.tells socket.old.tsval_generator
+        socket.old.control_block cx.old result socket.new.control_block cx.new }
+    ensures survives { DispatchesSurviving F.FnOnce emit cx.old result cx.new }
 {
     packets_read_back();
     socket.dispatch(cx, emit)

@@ -3,7 +3,8 @@ ghost use Rattle.std.specs.Prelude.{◌≡◌, false, option_map, IfSome};
 ghost use Rattle.control_wire.specs.Icmp.{icmpv4_parsed, icmpv6_parsed};
 ghost use Rattle.net_base.specs.Packets.{starts_padded};
 ghost use Rattle.sock_core.specs.Emission.{Emits};
-ghost use Rattle.sock_dgram.specs.IcmpDispatch.{Counts, any_message, from_ipv4, from_ipv6, to_remote, outgoing, outgoing_of, Dispatched};
+ghost use Rattle.sock_dgram.specs.IcmpDispatch.{Counts, any_message, from_ipv4, from_ipv6, to_remote, outgoing};
+ghost use Rattle.sock_dgram.specs.IcmpDispatch.{outgoing_of, Dispatched};
 ghost use Rattle.sock_dgram.specs.UdpDispatch.{hops_of};
 
 use crate::icmp::socket::Socket;

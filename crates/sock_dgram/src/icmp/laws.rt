@@ -4,7 +4,7 @@ ghost use Rattle.ip_wire.specs.declared.address.IpAddress.{IpAddress};
 ghost use Rattle.sock_dgram.specs.Icmp.{View, received, waiting};
 ghost use Rattle.sock_dgram.specs.IcmpCalls.{Call, Effect};
 ghost use Rattle.sock_dgram.specs.IcmpDispatch.{Outgoing};
-ghost use Rattle.sock_dgram.specs.Traffic.{InOrder, Runs, Traffic};
+ghost use Rattle.sock_dgram.specs.Transfers.{InOrder, Runs, Transfers};
 
 use control_wire::IcmpRepr;
 use ip_wire::IpRepr;
@@ -23,7 +23,7 @@ pub fn datagrams_keep_their_order<
     F: FnOnce(&mut C, (IpRepr, IcmpRepr<'_>)) -> Result<(), E>,
     G: FnOnce(&mut [u8]) -> usize,
 >()
-    ensures { (calls : List (Call C E F G)) (v w : View) (t : Traffic IpAddress Outgoing)
+    ensures { (calls : List (Call C E F G)) (v w : View) (t : Transfers IpAddress Outgoing)
         → Runs (Effect C.facts F.FnOnce G.FnOnce) calls v t w
         → InOrder t (waiting v) (received v) (waiting w) (received w) }
 {}

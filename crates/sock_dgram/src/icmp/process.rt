@@ -7,7 +7,8 @@ ghost use Rattle.ip_wire.specs.declared.address.IpAddress.TheVariants as address
 ghost use Rattle.sock_dgram.specs.Datagrams.{stored_as};
 ghost use Rattle.sock_dgram.specs.Icmp.{received};
 ghost use Rattle.sock_dgram.specs.IcmpKinds.{with_body};
-ghost use Rattle.sock_dgram.specs.IcmpFilter.{Accepts, Ends, TakesError, TakesIdent, WritesV4, WritesV6, ends_v4, ends_v6, octets_v4, octets_v6, queued_v4, queued_v6};
+ghost use Rattle.sock_dgram.specs.IcmpFilter.{Accepts, Ends, TakesError, TakesIdent, WritesV4, WritesV6, ends_v4};
+ghost use Rattle.sock_dgram.specs.IcmpFilter.{ends_v6, octets_v4, octets_v6, queued_v4, queued_v6};
 
 use crate::icmp::endpoint::Endpoint;
 use crate::icmp::kind::{apart_v4, apart_v6, whole_v4, whole_v6};

@@ -5,11 +5,12 @@ ghost use Rattle.control_wire.specs.Icmp.{message_len, message_v4, message_v6};
 ghost use Rattle.std.specs.Fn.{FnOnceReturnsAtMut};
 ghost use Rattle.net_base.specs.Packets.{takes, first_packet};
 ghost use Rattle.sock_dgram.specs.Datagrams.{answered, take_answer, read_answer, poll_moment};
-ghost use Rattle.sock_dgram.specs.Traffic.{Traffic, reads, nothing, sends, departs, queues, copies_out};
+ghost use Rattle.sock_dgram.specs.Transfers.{Transfers, reads, nothing, sends, departs, queues, copies_out};
 ghost use Rattle.sock_dgram.specs.Icmp.{waiting, bind_answer, send_answer};
 ghost use Rattle.sock_dgram.specs.IcmpDispatch.{Outgoing, outgoing};
 ghost use Rattle.sock_dgram.specs.IcmpFilter.{octets_v4, octets_v6};
-ghost use Rattle.sock_dgram.specs.IcmpCalls.{Effect, Look, SendWith, Recv, Bind, SetHopLimit, SendSlice, RecvSlice, ProcessV4, ProcessV6, Dispatch};
+ghost use Rattle.sock_dgram.specs.IcmpCalls.{Effect, Look, SendWith, Recv, Bind, SetHopLimit, SendSlice, RecvSlice};
+ghost use Rattle.sock_dgram.specs.IcmpCalls.{ProcessV4, ProcessV6, Dispatch};
 
 use crate::error::{BindError, RecvError, SendError};
 use crate::icmp::endpoint::Endpoint;
@@ -162,7 +163,7 @@ pub fn send_with<
     requires callable { G.IsAlwaysCallable f }
     requires sized { (s : List ℕ) (r : _) (s' : List ℕ) → FnOnceReturnsAtMut G.FnOnce f s r s' → r ≤ length s }
     ensures answer { answered result ≡ send_answer socket.old endpoint max_size }
-    ensures effect { (t : Traffic IpAddress Outgoing)
+    ensures effect { (t : Transfers IpAddress Outgoing)
         × Effect C.facts F.FnOnce G.FnOnce (SendWith max_size endpoint f result) socket.old t socket.new }
 {
     socket.send_with(max_size, endpoint, f)

@@ -4,7 +4,8 @@ ghost use Rattle.net_base.specs.Packets.{first_packet, starts_padded};
 ghost use Rattle.ip_wire.specs.Checksum.{is_sent};
 ghost use Rattle.ip_wire.specs.Packet.{IsIpv4};
 ghost use Rattle.sock_dgram.specs.Raw.{waiting};
-ghost use Rattle.sock_dgram.specs.RawDispatch.{outgoing_of, Plans, parsed_first, is_sound_ipv4, prepared, parsed, EmitsFirst, first_prepared, offered, prepared_buffer, Dispatched};
+ghost use Rattle.sock_dgram.specs.RawDispatch.{outgoing_of, Plans, parsed_first, is_sound_ipv4, prepared, parsed};
+ghost use Rattle.sock_dgram.specs.RawDispatch.{EmitsFirst, first_prepared, offered, prepared_buffer, Dispatched};
 
 use crate::raw::socket::Socket;
 use ip_wire::{

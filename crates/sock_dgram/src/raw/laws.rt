@@ -3,7 +3,7 @@ ghost use Rattle.std.specs.Prelude.{List};
 ghost use Rattle.sock_dgram.specs.Raw.{View, received, waiting};
 ghost use Rattle.sock_dgram.specs.RawCalls.{Call, Effect, bare, bare_traffic};
 ghost use Rattle.sock_dgram.specs.RawDispatch.{Outgoing};
-ghost use Rattle.sock_dgram.specs.Traffic.{InOrder, Runs, Traffic};
+ghost use Rattle.sock_dgram.specs.Transfers.{InOrder, Runs, Transfers};
 
 use ip_wire::IpRepr;
 use sock_core::Context;
@@ -22,7 +22,7 @@ pub fn datagrams_keep_their_order<
     F: FnOnce(&mut C, (IpRepr, &[u8])) -> Result<(), E>,
     G: FnOnce(&mut [u8]) -> usize,
 >()
-    ensures { (calls : List (Call C E F G)) (v w : View) (t : Traffic (Unit {0}) Outgoing)
+    ensures { (calls : List (Call C E F G)) (v w : View) (t : Transfers (Unit {0}) Outgoing)
         → Runs (Effect C.facts F.FnOnce G.FnOnce) calls v t w
         → InOrder (bare_traffic t) (bare (waiting v)) (received v) (bare (waiting w)) (received w) }
 {}

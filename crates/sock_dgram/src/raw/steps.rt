@@ -3,10 +3,11 @@ ghost use Rattle.std.specs.Prelude.{◌≡◌, ℕ, ◌≤◌, List, length, is_
 ghost use Rattle.std.specs.Fn.{FnOnceReturnsAtMut};
 ghost use Rattle.net_base.specs.Packets.{takes, first_packet};
 ghost use Rattle.sock_dgram.specs.Datagrams.{with_metadata, answered, take_answer, copy_answer, copied, poll_moment};
-ghost use Rattle.sock_dgram.specs.Traffic.{Traffic, reads, nothing, sends, queues, copies_out};
+ghost use Rattle.sock_dgram.specs.Transfers.{Transfers, reads, nothing, sends, queues, copies_out};
 ghost use Rattle.sock_dgram.specs.Raw.{whole_packet, send_answer};
 ghost use Rattle.sock_dgram.specs.RawDispatch.{Outgoing};
-ghost use Rattle.sock_dgram.specs.RawCalls.{Effect, Look, SendWith, Recv, Peek, Dispatch, beside_metadata, bytes_read, SendSlice, RecvSlice, Process};
+ghost use Rattle.sock_dgram.specs.RawCalls.{Effect, Look, SendWith, Recv, Peek, Dispatch, beside_metadata};
+ghost use Rattle.sock_dgram.specs.RawCalls.{bytes_read, SendSlice, RecvSlice, Process};
 
 use crate::error::RecvError;
 use crate::raw::error::SendError;
@@ -97,7 +98,7 @@ pub fn send_with<
     requires callable { G.IsAlwaysCallable f }
     requires sized { (s : List ℕ) (r : _) (s' : List ℕ) → FnOnceReturnsAtMut G.FnOnce f s r s' → r ≤ length s }
     ensures answer { answered result ≡ send_answer socket.old max_size }
-    ensures effect { (t : Traffic (Unit {0}) Outgoing)
+    ensures effect { (t : Transfers (Unit {0}) Outgoing)
         × Effect C.facts F.FnOnce G.FnOnce (SendWith max_size f result) socket.old t socket.new }
 {
     socket.send_with(max_size, f)
@@ -112,7 +113,7 @@ pub fn dispatch<
     G: FnOnce(&mut [u8]) -> usize,
 >(socket: &mut Socket<'_>, cx: &mut C, emit: F) -> Result<(), E>
     requires callable { F.IsAlwaysCallable emit }
-    ensures { (t : Traffic (Unit {0}) Outgoing)
+    ensures { (t : Transfers (Unit {0}) Outgoing)
         × Effect C.facts F.FnOnce G.FnOnce (Dispatch cx.old cx.new emit result) socket.old t socket.new }
 {
     socket.dispatch(cx, emit)

@@ -5,7 +5,8 @@ ghost use Rattle.ip_wire.specs.declared.protocol.IpProtocol.TheVariants.{Udp};
 ghost use Rattle.control_wire.specs.Datagram.{udp_header_len};
 ghost use Rattle.net_base.specs.Packets.{starts_padded};
 ghost use Rattle.sock_dgram.specs.Datagrams.{poll_moment};
-ghost use Rattle.sock_dgram.specs.UdpDispatch.{source_of, hops_of, from_source, outgoing, outgoing_of, outgoing_with, Dispatched};
+ghost use Rattle.sock_dgram.specs.UdpDispatch.{source_of, hops_of, from_source, outgoing, outgoing_of, outgoing_with};
+ghost use Rattle.sock_dgram.specs.UdpDispatch.{Dispatched};
 ghost use Rattle.sock_core.specs.Emission.{Emits};
 
 use crate::udp::socket::{Socket, UdpMetadata};

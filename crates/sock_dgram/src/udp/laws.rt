@@ -5,7 +5,7 @@ ghost use Rattle.ip_wire.specs.Address.{SameVersion};
 ghost use Rattle.ip_wire.specs.declared.address.IpAddress.{IpAddress};
 ghost use Rattle.sock_core.specs.Facts.{Facts};
 ghost use Rattle.ip_wire.specs.Address.{same_version};
-ghost use Rattle.sock_dgram.specs.Traffic.{InOrder, Runs, Traffic};
+ghost use Rattle.sock_dgram.specs.Transfers.{InOrder, Runs, Transfers};
 ghost use Rattle.sock_dgram.specs.Udp.{View, is_sendable, received, waiting};
 ghost use Rattle.sock_dgram.specs.UdpCalls.{Call, Effect};
 ghost use Rattle.sock_dgram.specs.UdpDispatch.{Outgoing, source_of};
@@ -38,7 +38,7 @@ pub fn datagrams_keep_their_order<
     F: FnOnce(&mut C, (IpRepr, UdpRepr, &[u8])) -> Result<(), E>,
     G: FnOnce(&mut [u8]) -> usize,
 >()
-    ensures { (calls : List (Call C E F G)) (v w : View) (t : Traffic UdpMetadata Outgoing)
+    ensures { (calls : List (Call C E F G)) (v w : View) (t : Transfers UdpMetadata Outgoing)
         → Runs (Effect C.facts F.FnOnce G.FnOnce) calls v t w
         → InOrder t (waiting v) (received v) (waiting w) (received w) }
 {}

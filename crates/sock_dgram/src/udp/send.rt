@@ -1,10 +1,12 @@
 //! Datagrams that the program sends.
-ghost use Rattle.std.specs.Prelude.{◌≡◌, ◌≤◌, ◌++◌, ℕ, List, [], ◌∷◌, length, take, drop, cond, is_ok, true, false, IfOk, OnErr};
+ghost use Rattle.std.specs.Prelude.{◌≡◌, ◌≤◌, ◌++◌, ℕ, List, [], ◌∷◌, length, take, drop, cond, is_ok, true, false};
+ghost use Rattle.std.specs.Prelude.{IfOk, OnErr};
 ghost use Rattle.std.specs.Borrow.{sem};
 ghost use Rattle.std.specs.Fn.{FnOnceReturnsAtMut};
 ghost use Rattle.net_base.specs.Packets.{made_room, end_of, Claims, Enqueues};
 ghost use Rattle.sock_dgram.specs.Datagrams.{answered};
-ghost use Rattle.sock_dgram.specs.Udp.{waiting, is_possible_source, known_source, is_sendable, send_answer, after_send, refused_send};
+ghost use Rattle.sock_dgram.specs.Udp.{waiting, is_possible_source, known_source, is_sendable, send_answer};
+ghost use Rattle.sock_dgram.specs.Udp.{after_send, refused_send};
 ghost use Rattle.sock_dgram.specs.UdpLends.{LendsDatagram};
 
 use crate::error::SendError;

@@ -3,9 +3,10 @@ ghost use Rattle.std.specs.Prelude.{◌≡◌, ℕ, ◌≤◌, List, length, Som
 ghost use Rattle.std.specs.Fn.{FnOnceReturnsAtMut};
 ghost use Rattle.net_base.specs.Packets.{takes, first_packet};
 ghost use Rattle.sock_dgram.specs.Datagrams.{answered, take_answer, read_answer, copy_answer, copied, poll_moment};
-ghost use Rattle.sock_dgram.specs.Traffic.{Traffic, reads, nothing, sends, departs, queues, clears, copies_out};
+ghost use Rattle.sock_dgram.specs.Transfers.{Transfers, reads, nothing, sends, departs, queues, clears, copies_out};
 ghost use Rattle.sock_dgram.specs.Udp.{metadata_of, waiting, received, bind_answer, send_answer};
-ghost use Rattle.sock_dgram.specs.UdpCalls.{Effect, Look, SendWith, Recv, Peek, Bind, Close, SetHopLimit, SendSlice, RecvSlice, Process, Dispatch};
+ghost use Rattle.sock_dgram.specs.UdpCalls.{Effect, Look, SendWith, Recv, Peek, Bind, Close, SetHopLimit, SendSlice};
+ghost use Rattle.sock_dgram.specs.UdpCalls.{RecvSlice, Process, Dispatch};
 ghost use Rattle.sock_dgram.specs.UdpDispatch.{Outgoing, outgoing};
 
 use crate::error::{BindError, RecvError, SendError};
@@ -155,7 +156,7 @@ pub fn send_with<
     requires callable { G.IsAlwaysCallable f }
     requires sized { (s : List ℕ) (r : _) (s' : List ℕ) → FnOnceReturnsAtMut G.FnOnce f s r s' → r ≤ length s }
     ensures answer { answered result ≡ send_answer socket.old meta max_size }
-    ensures effect { (t : Traffic UdpMetadata Outgoing)
+    ensures effect { (t : Transfers UdpMetadata Outgoing)
         × Effect C.facts F.FnOnce G.FnOnce (SendWith max_size meta f result) socket.old t socket.new }
 {
     socket.send_with(max_size, meta, f)

@@ -2,20 +2,9 @@
 ghost use Rattle.std.specs.Prelude.{◌≡◌, ◌≤◌, ◌∷◌};
 ghost use Rattle.pair_core.specs.EventValue.{event_value, moment_value};
 ghost use Rattle.sock_pair.specs.ScriptText.{line_words, words_of};
-ghost use Rattle.sock_pair.specs.ScriptLines.{
-  Gives,
-  abort_line,
-  close_line,
-  connect_line,
-  deliver_line,
-  dispatch_line,
-  event_of,
-  listen_line,
-  moment_at,
-  nagle_line,
-  recv_line,
-  send_line,
-};
+ghost use Rattle.sock_pair.specs.ScriptLines.{Gives, abort_line, close_line, connect_line, deliver_line};
+ghost use Rattle.sock_pair.specs.ScriptLines.{dispatch_line, event_of, listen_line, moment_at, nagle_line, recv_line};
+ghost use Rattle.sock_pair.specs.ScriptLines.{send_line};
 
 use crate::script::error::ScriptError;
 use crate::script::keyword::Keyword;

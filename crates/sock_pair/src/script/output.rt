@@ -1,7 +1,9 @@
 //! The lines that a replay prints. They go to the sink piece by piece, so they take no memory.
 ghost use Rattle.std.specs.Prelude.{◌≡◌, ◌++◌, ◌∷◌, [], decimal, false, map};
 ghost use Rattle.pair_core.specs.Holding.{stored_of};
-ghost use Rattle.sock_pair.specs.ReplayLines.{ack_text, bytes_text, closing_text, flags_text, numbered_text, outcome_line, outcome_lines, outcome_text, reply_text, segment_text, side_line, side_lines, side_text};
+ghost use Rattle.sock_pair.specs.ReplayLines.{ack_text, bytes_text, closing_text, flags_text, numbered_text};
+ghost use Rattle.sock_pair.specs.ReplayLines.{outcome_line, outcome_lines, outcome_text, reply_text, segment_text};
+ghost use Rattle.sock_pair.specs.ReplayLines.{side_line, side_lines, side_text};
 ghost use Rattle.sock_pair.specs.ReplayStreams.{Takes};
 
 use crate::script::stream::{Sink, StreamFault};

@@ -3,15 +3,7 @@ ghost use Rattle.std.specs.Prelude.{◌≡◌, ◌≤◌, ◌^◌, ◌<◌, ◌&
 ghost use Rattle.std.specs.Char.{is_ascii_digit};
 ghost use Rattle.std.specs.List.{list_all};
 ghost use Rattle.pair_core.specs.NetworkInvariant.{IsLimit};
-ghost use Rattle.sock_pair.specs.ScriptWords.{
-  is_number,
-  is_text,
-  limit_of,
-  number_of,
-  side_of,
-  switch_of,
-  value_of,
-};
+ghost use Rattle.sock_pair.specs.ScriptWords.{is_number, is_text, limit_of, number_of, side_of, switch_of, value_of};
 
 use pair_core::Side;
 

@@ -1,14 +1,9 @@
 //! A line as words.
-ghost use Rattle.std.specs.Prelude.{◌≡◌, ◌==◌, ◌≤◌, ◌<◌, [], ◌∷◌, None, Some, MatchOption, IfSome, length, option_copied};
+ghost use Rattle.std.specs.Prelude.{◌≡◌, ◌==◌, ◌≤◌, ◌<◌, [], ◌∷◌, None, Some, MatchOption, IfSome, length};
+ghost use Rattle.std.specs.Prelude.{option_copied};
 ghost use Rattle.std.specs.List.{position_or_len, prefix_len};
 ghost use Rattle.sock_pair.specs.ScriptText.{words_of};
-ghost use Rattle.sock_pair.specs.ScriptWords.{
-  five_of,
-  one_and_text_of,
-  one_of,
-  three_of,
-  two_of,
-};
+ghost use Rattle.sock_pair.specs.ScriptWords.{five_of, one_and_text_of, one_of, three_of, two_of};
 
 /// How many bytes stand before the first `stop`, or how many there are where there is none.
 pub fn len_before(bytes: &[u8], stop: u8) -> usize

@@ -1,6 +1,6 @@
 use Rattle.std.proofs.Common.{refl, rules, arith, None}
 use Rattle.pair_core.specs.Moments.{facts_of}
-use Rattle.pair_core.proofs.Recordings.{socket_dispatched, dispatch_fits, host_dispatched}
+use Rattle.pair_core.proofs.Captured.{socket_dispatched, dispatch_fits, host_dispatched}
 use Rattle.pair_core.proofs.host.Host.dispatch.Goals as goal
 
 pub returns-clause-table : goal.returns-clause-table

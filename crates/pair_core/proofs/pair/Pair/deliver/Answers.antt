@@ -1,7 +1,7 @@
 use Rattle.std.proofs.Common.{◌≡◌, ◌∙◌, ◌<◌, Some, sym, ap, map, length, arith}
 use Rattle.std.specs.Prelude.{slice_get}
 use Rattle.pair_core.specs.Holding.{stored_of}
-use Rattle.pair_core.specs.Exchanges.{DeliversAt}
+use Rattle.pair_core.specs.Aging.{DeliversAt}
 use Rattle.pair_core.specs.PairViews.{PairView, host_of}
 use Rattle.pair_core.specs.declared.side.Side.TheVariants.{A, B}
 use Rattle.pair_core.proofs.Deliveries.{get_map}

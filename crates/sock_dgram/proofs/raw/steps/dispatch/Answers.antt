@@ -1,7 +1,7 @@
 use Rattle.std.proofs.Common.{refl}
 use Rattle.std.specs.Prelude.{is_ok}
 use Rattle.sock_dgram.specs.Raw.{waiting}
-use Rattle.sock_dgram.specs.Traffic.{departs}
+use Rattle.sock_dgram.specs.Transfers.{departs}
 use Rattle.sock_dgram.proofs.raw.steps.dispatch.Goals as goal
 
 pub returns : goal.returns

@@ -1,0 +1,69 @@
+//! The lines of a drill, read one after the other.
+
+use crate::forms::request_of;
+use crate::names::Names;
+use crate::request::Request;
+use sock_pair::script::ScriptError;
+use sock_pair::script::lines::{Line, Lines};
+use std::alloc::Global;
+
+/// The lines that are left, and the names of the sockets of the example.
+#[derive(Drop)]
+pub struct Reader<'t> {
+    lines: Lines<'t>,
+    names: Names<'t>,
+}
+
+/// What a line asks for, and its number, counted from 1.
+#[derive(Clone, Copy)]
+pub struct Numbered<'t> {
+    pub line: usize,
+    pub request: Request<'t>,
+}
+
+impl<'t> Reader<'t> {
+    /// At the beginning of a text.
+    pub fn new(alloc: Global, text: &'t [u8]) -> Reader<'t> {
+        Reader {
+            lines: Lines::new(text),
+            names: Names::new(alloc),
+        }
+    }
+
+    /// The text that is left.
+    pub fn rest(&self) -> &'t [u8] {
+        self.lines.rest
+    }
+
+    /// The next line that is not skipped; none where there is none.
+    pub fn next(&mut self) -> Result<Option<Numbered<'t>>, ScriptError> {
+        let Some(line) = self.lines.next() else {
+            return Ok(None);
+        };
+        let request = request_of(&self.names, &line)?;
+        self.note(&request, &line)?;
+        Ok(Some(Numbered {
+            line: line.number,
+            request,
+        }))
+    }
+
+    // Keeps the names of sockets.
+    fn note(&mut self, request: &Request<'t>, line: &Line<'t>) -> Result<(), ScriptError> {
+        match request {
+            Request::Example(_) => self.names.clear(),
+            Request::Make(_) => {
+                if let Some(name) = name_of(line.values) {
+                    self.names.add(name)?;
+                }
+            }
+            _ => {}
+        }
+        Ok(())
+    }
+}
+
+fn name_of(values: &[u8]) -> Option<&[u8]> {
+    let (name, _) = sock_pair::script::words::split_word(values)?;
+    Some(name)
+}

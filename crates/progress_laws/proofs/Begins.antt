@@ -1,0 +1,221 @@
+-- How a dispatch begins once the timer is over, and what comes out of it.
+use Rattle.std.proofs.Common.{◌≡◌, ℕ, zero, suc, ◌+◌, ◌<◌, ◌⊎◌, inl, inr, Bool, true, false, true≢false, ◌&&◌, refl, sym, ap, subst, ◌∙◌, List, length, Option, Some, None, arith}
+use Rattle.std.specs.Prelude.{if◌then◌else◌, ◌==◌, option_map}
+use Rattle.std.proofs.lemmas.Bool.{eq-eqb, eqb-true}
+use Rattle.net_base.specs.declared.time.Duration.{Duration}
+use Rattle.net_base.specs.declared.time.Instant.{Instant}
+use Rattle.control_wire.specs.Segment.{Segment, control_len, is_empty_segment, is_plain, segment_len}
+use Rattle.control_wire.specs.declared.tcp.TcpControl.{TcpControl}
+use Rattle.control_wire.specs.declared.tcp.TcpControl.TheVariants as control
+use Rattle.sock_core.specs.Facts.{Facts}
+use Rattle.sock_tcp.specs.Begin.{Begun, last_ts_set, last_ts_set_at, told_ready, readied, retransmission_begun, fast_retransmission_marked, after_timer, after_timers, is_paused, begun, begun_to, unless_paused, nothing_due, by_due, before_emit, before_emit_to}
+use Rattle.sock_tcp.specs.Content.{Sending, carries_data, content, data_control, emission_kind, filled, offset_of, plain_segment, sent_as, with_data}
+use Rattle.sock_tcp.specs.Due.{is_closing, is_due}
+use Rattle.sock_tcp.specs.Polls.{is_reached, timeout_poll}
+use Rattle.sock_tcp.specs.Timers.{idle_from, is_close_over, is_over}
+use Rattle.sock_tcp.specs.View.{View, moment_of}
+use Rattle.sock_tcp.specs.declared.state.State.{State}
+use Rattle.sock_tcp.specs.declared.state.State.TheVariants as state
+use Rattle.sock_tcp.specs.declared.timer.Timer.{Timer}
+use Rattle.sock_tcp.specs.declared.timer.Timer.TheVariants as timer
+use Rattle.sock_tcp.specs.declared.tuple.Tuple.{Tuple}
+use Rattle.tcp_laws.specs.Polling.{IsReached}
+use Rattle.tcp_laws.specs.SocketRun.{Counts, Dispatch, Ends, Run, SendsTo, Step, Then, is_reset, starting_if}
+use Rattle.progress_laws.specs.Speech.{DispatchesOk, GoesOn, SendsOk, SendsOkTo}
+
+-- ---- tests
+
+pub and_no : (a : Bool) → (a && false) ≡ false
+and_no true = refl
+and_no false = refl
+
+pub not_zero : (n : ℕ) → 0 < n → (n == 0) ≡ false
+not_zero n h = go (n == 0) refl
+  where
+    go : (b : Bool) → (n == 0) ≡ b → (n == 0) ≡ false
+    go true e = let z : n ≡ 0 = eqb-true n 0 e in absurd (omega (arith, z, h))
+    go false e = e
+
+pub some_or_none : (n : ℕ) → (n ≡ 0) ⊎ (0 < n)
+some_or_none zero = inl refl
+some_or_none (suc n) = inr (omega arith)
+
+-- ---- a further call
+
+run_on : (v u w : View) (k i j : Counts) → Run v k u i → Step u i w j → Run v k w j
+run_on v u w k i j (Ends _ _) s = Then v w w k j j s (Ends w j)
+run_on v u w k i j (Then _ x _ _ l _ s r) last = Then v x w k l j s (run_on x u w l i j r last)
+
+pub step_reached : (v w : View) (j : Counts) (r : IsReached v) → Step v r.counts w j → IsReached w
+step_reached v w j r s = record { rx = r.rx; tx = r.tx; counts = j; rx_size = r.rx_size; tx_size = r.tx_size; run = run_on _ v w _ r.counts j r.run s }
+
+any_ok : (o : Option Tuple) (f : Facts) (stamps : Bool) (u : View) (out : Option Sending) (w : View) → SendsOkTo o f stamps u out w → SendsTo o f stamps u out w
+any_ok None f stamps u out w h = h
+any_ok (Some t) f stamps u out w h = record { stamp = h.stamp; told = h.told; bytes = h.bytes; lent = h.lent; ok = true; sends = h.sends; view = h.view }
+
+pub dispatch_reached : (f : Facts) (stamps : Bool) (v : View) (out : Option Sending) (w : View) → IsReached v → DispatchesOk f stamps v out w → IsReached w
+dispatch_reached f stamps v out w r h = step_reached v w (starting_if (is_reset v f stamps) w r.counts) r (Dispatch f stamps out (any_ok (before_emit v f stamps).peer f stamps (before_emit v f stamps).view out w h) refl)
+
+-- ---- the beginning
+
+-- x has of v all that matters here
+pub record Alike (v x : View) : Type 0 where
+  pub state : x.state ≡ v.state
+  pub peer : x.tuple ≡ v.tuple
+  pub timeout : x.timeout ≡ v.timeout
+  pub keep_alive : x.keep_alive ≡ v.keep_alive
+  pub timer : x.timer ≡ v.timer
+  pub una : x.local_seq_no ≡ v.local_seq_no
+  pub nxt : x.remote_last_seq ≡ v.remote_last_seq
+  pub tx : x.tx_buffer ≡ v.tx_buffer
+  pub rx : x.rx_buffer ≡ v.rx_buffer
+  pub rcv : x.remote_seq_no ≡ v.remote_seq_no
+  pub window : x.remote_win_len ≡ v.remote_win_len
+  pub scale : x.remote_win_scale ≡ v.remote_win_scale
+  pub shift : x.remote_win_shift ≡ v.remote_win_shift
+  pub last_ack : x.remote_last_ack ≡ v.remote_last_ack
+  pub marked : x.pending_fast_retransmit ≡ v.pending_fast_retransmit
+  pub mss : x.remote_mss ≡ v.remote_mss
+  pub delay : x.ack_delay_timer ≡ v.ack_delay_timer
+
+pub readied_alike : (v : View) (now : Instant) → Alike v (readied v now)
+unfolding readied last_ts_set
+readied_alike v now = go v.remote_last_ts
+  where
+    go : (o : Option Instant) → Alike v (told_ready (last_ts_set_at o v now) now)
+    go None = record { state = refl; peer = refl; timeout = refl; keep_alive = refl; timer = refl; una = refl; nxt = refl; tx = refl; rx = refl; rcv = refl; window = refl; scale = refl; shift = refl; last_ack = refl; marked = refl; mss = refl; delay = refl }
+    go (Some at) = record { state = refl; peer = refl; timeout = refl; keep_alive = refl; timer = refl; una = refl; nxt = refl; tx = refl; rx = refl; rcv = refl; window = refl; scale = refl; shift = refl; last_ack = refl; marked = refl; mss = refl; delay = refl }
+
+timer_state : (tm : Timer) (x : View) (now : Instant) → (after_timer tm x now).state ≡ x.state
+unfolding retransmission_begun fast_retransmission_marked
+timer_state (timer.Retransmit at) x now = go (is_over at now)
+  where
+    go : (b : Bool) → (if b then retransmission_begun x now else x).state ≡ x.state
+    go true = refl
+    go false = refl
+timer_state timer.FastRetransmit x now = refl
+timer_state (timer.Idle at) x now = refl
+timer_state (timer.ZeroWindowProbe at delay) x now = refl
+timer_state (timer.Close at) x now = refl
+
+idle_is_no_end : (now : Instant) (keep : Option Duration) → is_close_over (idle_from now keep) now ≡ false
+idle_is_no_end now None = refl
+idle_is_no_end now (Some d) = refl
+
+timer_no_end : (tm : Timer) (x : View) (now : Instant) → x.timer ≡ tm → is_close_over tm now ≡ false → is_close_over (after_timer tm x now).timer now ≡ false
+unfolding retransmission_begun fast_retransmission_marked
+timer_no_end (timer.Retransmit at) x now is e = go (is_over at now)
+  where
+    go : (b : Bool) → is_close_over (if b then retransmission_begun x now else x).timer now ≡ false
+    go true = idle_is_no_end now x.keep_alive
+    go false = ap (λ t. is_close_over t now) is ∙ e
+timer_no_end timer.FastRetransmit x now is e = idle_is_no_end now x.keep_alive
+timer_no_end (timer.Idle at) x now is e = ap (λ t. is_close_over t now) is ∙ e
+timer_no_end (timer.ZeroWindowProbe at delay) x now is e = ap (λ t. is_close_over t now) is ∙ e
+timer_no_end (timer.Close at) x now is e = ap (λ t. is_close_over t now) is ∙ e
+
+not_paused : (st : State) (b : Bool) → carries_data st ≡ true → is_paused st b ≡ false
+not_paused state.SynReceived b c = absurd cc
+not_paused _ b c = refl
+
+module _ (v : View) (t : Tuple) (f : Facts) (stamps : Bool) (h : GoesOn v t f) (c : carries_data v.state ≡ true) where
+  abbrev now : Instant
+  now = moment_of f
+
+  abbrev x : View
+  x = readied v now
+
+  abbrev pub beginning : View
+  beginning = after_timer v.timer x now
+
+  still : Alike v x
+  still = readied_alike v now
+
+  timers_are : after_timers x now ≡ beginning
+  unfolding after_timers
+  timers_are = rw (alive, still.timer) refl
+    where
+      alive : is_reached (timeout_poll x.timeout x.remote_last_ts) now ≡ false
+      alive = ap (λ d. is_reached (timeout_poll d x.remote_last_ts) now) still.timeout ∙ h.alive
+
+  goes_on : is_paused beginning.state beginning.synack_paused ≡ false
+  goes_on = not_paused beginning.state beginning.synack_paused (ap carries_data (timer_state v.timer x now ∙ still.state) ∙ c)
+
+  not_waiting : (y : View) → is_paused y.state y.synack_paused ≡ false → unless_paused y t ≡ record { view = y; peer = Some t }
+  not_waiting y e = rw e refl
+
+  with_address : begun_to (Some t) v f ≡ unless_paused (after_timers x now) t
+  with_address = rw h.address refl
+
+  begun_so : begun_to v.tuple v f ≡ record { view = beginning; peer = Some t }
+  begun_so = ap (λ o. begun_to o v f) h.peer ∙ with_address ∙ ap (λ y. unless_paused y t) timers_are ∙ not_waiting beginning goes_on
+
+  begins_so : before_emit v f stamps ≡ by_due (is_due beginning t f stamps) beginning t f
+  unfolding before_emit begun
+  begins_so = ap (λ (b : Begun). before_emit_to b.peer b.view f stamps) begun_so
+
+  unchanged : nothing_due beginning now ≡ beginning
+  unfolding nothing_due
+  unchanged = rw (timer_no_end v.timer x now still.timer h.no_end) refl
+
+  -- what is due goes out
+  pub sends_so : (out : Option Sending) (w : View) → is_due beginning t f stamps ≡ true → SendsOk f t stamps beginning out w → DispatchesOk f stamps v out w
+  sends_so out w e s = subst (λ (b : Begun). SendsOkTo b.peer f stamps b.view out w) (sym (begins_so ∙ ap (λ b. by_due b beginning t f) e)) s
+
+  -- and nothing else
+  pub quiet_so : is_due beginning t f stamps ≡ false → DispatchesOk f stamps v None beginning
+  quiet_so e = subst (λ (b : Begun). SendsOkTo b.peer f stamps b.view None beginning) (sym (begins_so ∙ ap (λ b. by_due b beginning t f) e)) (refl, sym unchanged)
+
+  -- something goes out, or nothing is due
+  abbrev pub Goes : Option Sending → View → Type 0
+  Goes out w = (SendsOk f t stamps beginning out w × ((before_emit v f stamps).view ≡ beginning)) ⊎ ((w ≡ beginning) × (is_due beginning t f stamps ≡ false))
+
+  pub goes : (out : Option Sending) (w : View) → DispatchesOk f stamps v out w → Goes out w
+  goes out w k = by (is_due beginning t f stamps) refl (subst (λ (b : Begun). SendsOkTo b.peer f stamps b.view out w) begins_so k)
+    where
+      by : (b : Bool) → is_due beginning t f stamps ≡ b → SendsOkTo (by_due b beginning t f).peer f stamps (by_due b beginning t f).view out w → Goes out w
+      by true e s = inl (s, ap (λ (b : Begun). b.view) begins_so ∙ ap (λ b. (by_due b beginning t f).view) e)
+      by false e s = inr (s.1 ∙ unchanged, e)
+
+-- ---- what goes out
+
+carries : (st : State) (u : View) (p : Tuple) (f : Facts) (bytes : List ℕ) (s : Segment) → carries_data st ≡ true → filled st u p f bytes s ≡ Some (with_data u bytes s)
+carries state.Established u p f bytes s c = refl
+carries state.CloseWait u p f bytes s c = refl
+carries state.FinWait1 u p f bytes s c = refl
+carries state.Closing u p f bytes s c = refl
+carries state.LastAck u p f bytes s c = refl
+carries _ u p f bytes s c = absurd cc
+
+-- the segment, before it is made a keep-alive
+abbrev pub segment_for : View → Tuple → Option ℕ → List ℕ → Segment
+segment_for u p stamp bytes = with_data u bytes (plain_segment u p stamp)
+
+pub content_is : (u : View) (p : Tuple) (f : Facts) (stamp : Option ℕ) (bytes : List ℕ) → carries_data u.state ≡ true → content u p f stamp bytes ≡ Some (sent_as u p (emission_kind u (moment_of f) (segment_for u p stamp bytes)) (segment_for u p stamp bytes))
+unfolding content
+content_is u p f stamp bytes c = ap (option_map (λ s. sent_as u p (emission_kind u (moment_of f) s) s)) (carries u.state u p f bytes (plain_segment u p stamp) c)
+
+-- its control bit is FIN, or takes no number
+fin_or_plain : (u : View) (n : ℕ) → (is_plain (data_control u n) ≡ true) ⊎ (control_len (data_control u n) ≡ 1)
+fin_or_plain u n = go (offset_of u + n == length u.tx_buffer.bytes) (is_closing u.state) (n == 0)
+  where
+    go : (a b d : Bool) → (is_plain (if a then (if b then control.Fin else (if d then control.None else control.Psh)) else control.None) ≡ true) ⊎ (control_len (if a then (if b then control.Fin else (if d then control.None else control.Psh)) else control.None) ≡ 1)
+    go true true d = inr refl
+    go true false true = inl refl
+    go true false false = inl refl
+    go false b d = inl refl
+
+some_len : (m : ℕ) (c : TcpControl) → (is_plain c ≡ true) ⊎ (control_len c ≡ 1) → ((m == 0) && is_plain c) ≡ false → 0 < m + control_len c
+some_len zero c (inl p) e = absurd (true≢false (sym p ∙ e))
+some_len (suc m) c (inl p) e = omega arith
+some_len m c (inr one) e = omega (arith, one)
+
+pub not_empty : (u : View) (p : Tuple) (stamp : Option ℕ) (bytes : List ℕ) → is_empty_segment (segment_for u p stamp bytes) ≡ false → 0 < segment_len (segment_for u p stamp bytes)
+not_empty u p stamp bytes e = some_len (length bytes) (data_control u (length bytes)) (fin_or_plain u (length bytes)) e
+
+-- a FIN stands behind the queue's end
+pub fin_len : (u : View) (p : Tuple) (stamp : Option ℕ) (bytes : List ℕ) → is_closing u.state ≡ true → offset_of u + length bytes ≡ length u.tx_buffer.bytes → 0 < segment_len (segment_for u p stamp bytes)
+fin_len u p stamp bytes c at = let one : control_len (data_control u (length bytes)) ≡ 1 = rw (at, same (length u.tx_buffer.bytes), c) refl in omega (arith, one)
+  where
+    same : (k : ℕ) → (k == k) ≡ true
+    same k = eq-eqb k k refl

@@ -1,0 +1,13 @@
+pub mod Begins
+pub mod Lends
+pub mod Says
+pub mod Edges
+pub mod Taking
+pub mod Hears
+pub mod Sends
+pub mod Speaks
+pub mod Probes
+pub mod Receives
+pub mod Told
+pub mod Rounds
+pub mod Closes

@@ -1,0 +1,187 @@
+-- What a socket in ESTABLISHED sends from SND.UNA on, at the moment of a keep-alive, and what is left of it then.
+use Rattle.std.proofs.Common.{◌≡◌, ℕ, ◌+◌, ◌<◌, Bool, true, false, not, ◌&&◌, refl, ap, List, length, Option, Some, None, arith}
+use Rattle.std.specs.Prelude.{if◌then◌else◌, ◌==◌}
+use Rattle.net_base.specs.declared.time.Instant.{Instant}
+use Rattle.control_wire.specs.Segment.{Segment, control_len, is_empty_segment, is_plain, segment_len}
+use Rattle.control_wire.specs.Seq.{seq_add}
+use Rattle.control_wire.specs.declared.tcp.TcpControl.{TcpControl}
+use Rattle.control_wire.specs.declared.tcp.TcpControl.TheVariants as control
+use Rattle.sock_core.specs.Congestion.{post_transmitted}
+use Rattle.sock_core.specs.Estimator.{sent}
+use Rattle.sock_core.specs.Seq.{later_of}
+use Rattle.sock_tcp.specs.Content.{carries_data, data_control, emission_kind, is_probing, offset_of, plain_segment, sent_as}
+use Rattle.sock_tcp.specs.Due.{is_closed, is_closing, window_field}
+use Rattle.sock_tcp.specs.Sent.{after_any, after_probe, after_sending, emitted_as, left_by, sending_timed, snd_nxt_moved}
+use Rattle.sock_tcp.specs.Timers.{is_keep_alive_over, keep_alive_renewed, probe_doubled, retransmit_unless_set}
+use Rattle.sock_tcp.specs.View.{View}
+use Rattle.sock_tcp.specs.Window.{next_ack}
+use Rattle.sock_tcp.specs.declared.emission.Emitted.{Emitted}
+use Rattle.sock_tcp.specs.declared.emission.Kind.{Kind}
+use Rattle.sock_tcp.specs.declared.emission.Kind.TheVariants as kind
+use Rattle.sock_tcp.specs.declared.state.State.TheVariants as state
+use Rattle.sock_tcp.specs.declared.timer.AckDelayTimer.TheVariants as ack_delay
+use Rattle.sock_tcp.specs.declared.tuple.Tuple.{Tuple}
+use Rattle.progress_laws.proofs.Begins.{and_no, not_zero, segment_for}
+use Rattle.progress_laws.proofs.Hears.{IsData}
+
+-- ---- after it went out
+
+-- w has of u all but SND.NXT, what was told, and the timer
+pub record SentOf (u w : View) : Type 0 where
+  pub state : w.state ≡ u.state
+  pub peer : w.tuple ≡ u.tuple
+  pub timeout : w.timeout ≡ u.timeout
+  pub keep_alive : w.keep_alive ≡ u.keep_alive
+  pub una : w.local_seq_no ≡ u.local_seq_no
+  pub tx : w.tx_buffer ≡ u.tx_buffer
+  pub rx : w.rx_buffer ≡ u.rx_buffer
+  pub rcv : w.remote_seq_no ≡ u.remote_seq_no
+  pub window : w.remote_win_len ≡ u.remote_win_len
+  pub scale : w.remote_win_scale ≡ u.remote_win_scale
+  pub shift : w.remote_win_shift ≡ u.remote_win_shift
+  pub marked : w.pending_fast_retransmit ≡ (u.pending_fast_retransmit && not (carries_data u.state))
+
+module _ (u : View) (p : Tuple) (now : Instant) (s : Segment) (established : u.state ≡ state.Established) where
+  abbrev pub left : Kind → View
+  left k = left_by (Some (sent_as u p k s)) u now true
+
+  abbrev e : Emitted
+  e = emitted_as kind.Plain s
+
+  abbrev x : View
+  x = snd_nxt_moved (after_any u now) e
+
+  abbrev timed_if : Bool → View
+  timed_if z = if z then x else record x { rtte = sent x.rtte now e.end; timer = retransmit_unless_set x.timer now x.rtte; congestion_controller = post_transmitted x.congestion_controller now e.len }
+
+  pub plain_sent : SentOf u (left kind.Plain)
+  unfolding after_sending sending_timed snd_nxt_moved after_any
+  plain_sent = go (segment_len s == 0)
+    where
+      peer : (if is_closed u.state then None else u.tuple) ≡ u.tuple
+      peer = rw established refl
+
+      go : (z : Bool) → SentOf u (timed_if z)
+      go true = record { state = refl; peer = peer; timeout = refl; keep_alive = refl; una = refl; tx = refl; rx = refl; rcv = refl; window = refl; scale = refl; shift = refl; marked = refl }
+      go false = record { state = refl; peer = peer; timeout = refl; keep_alive = refl; una = refl; tx = refl; rx = refl; rcv = refl; window = refl; scale = refl; shift = refl; marked = refl }
+
+  pub plain_nxt : (left kind.Plain).remote_last_seq ≡ later_of u.remote_last_seq (seq_add s.seq_number (segment_len s))
+  unfolding after_sending sending_timed snd_nxt_moved after_any
+  plain_nxt = go (segment_len s == 0)
+    where
+      go : (z : Bool) → (timed_if z).remote_last_seq ≡ later_of u.remote_last_seq (seq_add s.seq_number (segment_len s))
+      go true = refl
+      go false = refl
+
+  pub plain_ack : (left kind.Plain).remote_last_ack ≡ s.ack_number
+  unfolding after_sending sending_timed snd_nxt_moved after_any
+  plain_ack = go (segment_len s == 0)
+    where
+      go : (z : Bool) → (timed_if z).remote_last_ack ≡ s.ack_number
+      go true = refl
+      go false = refl
+
+  pub plain_window : (left kind.Plain).remote_last_win ≡ s.window_len
+  unfolding after_sending sending_timed snd_nxt_moved after_any
+  plain_window = go (segment_len s == 0)
+    where
+      go : (z : Bool) → (timed_if z).remote_last_win ≡ s.window_len
+      go true = refl
+      go false = refl
+
+  pub plain_timer : (z : Bool) → (segment_len s == 0) ≡ z → (left kind.Plain).timer ≡ (if z then keep_alive_renewed u.timer now u.keep_alive else retransmit_unless_set (keep_alive_renewed u.timer now u.keep_alive) now u.rtte)
+  unfolding after_sending sending_timed snd_nxt_moved after_any
+  plain_timer true z = rw z refl
+  plain_timer false z = rw z refl
+
+  pub probe_sent : SentOf u (left kind.Probe)
+  unfolding after_sending after_any after_probe
+  probe_sent = record { state = refl; peer = refl; timeout = refl; keep_alive = refl; una = refl; tx = refl; rx = refl; rcv = refl; window = refl; scale = refl; shift = refl; marked = refl }
+
+  pub probe_nxt : (left kind.Probe).remote_last_seq ≡ u.remote_last_seq
+  unfolding after_sending after_any after_probe
+  probe_nxt = refl
+
+  pub probe_timer : (left kind.Probe).timer ≡ probe_doubled (keep_alive_renewed u.timer now u.keep_alive) now
+  unfolding after_sending after_any after_probe
+  probe_timer = refl
+
+  pub kept_sent : SentOf u (left kind.KeepAlive)
+  unfolding after_sending after_any
+  kept_sent = record { state = refl; peer = refl; timeout = refl; keep_alive = refl; una = refl; tx = refl; rx = refl; rcv = refl; window = refl; scale = refl; shift = refl; marked = refl }
+
+  pub kept_nxt : (left kind.KeepAlive).remote_last_seq ≡ u.remote_last_seq
+  unfolding after_sending after_any
+  kept_nxt = refl
+
+  pub kept_ack : (left kind.KeepAlive).remote_last_ack ≡ u.remote_last_ack
+  unfolding after_sending after_any
+  kept_ack = refl
+
+  pub kept_delay : (left kind.KeepAlive).ack_delay_timer ≡ ack_delay.Idle
+  unfolding after_sending after_any
+  kept_delay = refl
+
+  pub kept_timer : (left kind.KeepAlive).timer ≡ keep_alive_renewed u.timer now u.keep_alive
+  unfolding after_sending after_any
+  kept_timer = refl
+
+-- ---- the segment of a socket in ESTABLISHED
+
+pub data_bit : (u : View) (n : ℕ) → u.state ≡ state.Established → IsData (data_control u n)
+data_bit u n established = go (offset_of u + n == length u.tx_buffer.bytes) (is_closing u.state) (ap is_closing established) (n == 0)
+  where
+    go : (a b : Bool) → b ≡ false → (d : Bool) → IsData (if a then (if b then control.Fin else (if d then control.None else control.Psh)) else control.None)
+    go true true e d = absurd cc
+    go true false e true = tt
+    go true false e false = tt
+    go false b e d = tt
+
+module _ (u : View) (p : Tuple) (stamp : Option ℕ) (bytes : List ℕ) (established : u.state ≡ state.Established) (nothing_marked : u.pending_fast_retransmit ≡ false) where
+  abbrev b : Segment
+  b = segment_for u p stamp bytes
+
+  pub segment_bit : IsData b.control
+  segment_bit = data_bit u (length bytes) established
+
+  pub segment_number : b.seq_number ≡ u.remote_last_seq
+  segment_number = rw nothing_marked refl
+
+  pub segment_ack : b.ack_number ≡ Some (next_ack u)
+  unfolding plain_segment
+  segment_ack = refl
+
+  pub segment_window : b.window_len ≡ window_field u
+  unfolding plain_segment
+  segment_window = refl
+
+  length_of : (c : TcpControl) → IsData c → (n : ℕ) → n + control_len c ≡ n
+  length_of control.None d n = omega arith
+  length_of control.Psh d n = omega arith
+  length_of _ d n = absurd d
+
+  pub segment_length : segment_len b ≡ length bytes
+  segment_length = length_of b.control segment_bit (length bytes)
+
+  plain_bit : (c : TcpControl) → IsData c → is_plain c ≡ true
+  plain_bit control.None d = refl
+  plain_bit control.Psh d = refl
+  plain_bit _ d = absurd d
+
+  -- with bytes it goes out as it is
+  pub with_bytes : (now : Instant) → is_probing u now ≡ false → 0 < length bytes → emission_kind u now b ≡ kind.Plain
+  with_bytes now none some = rw (none, no_bytes) (ap (λ c. if c then kind.KeepAlive else kind.Plain) (and_no (is_keep_alive_over u.timer now)))
+    where
+      no_bytes : is_empty_segment b ≡ false
+      no_bytes = rw (not_zero (length bytes) some) refl
+
+  -- without any it is a keep-alive at its moment, and an acknowledgement at another
+  pub without_bytes : (now : Instant) → is_probing u now ≡ false → length bytes ≡ 0 → (k : Bool) → is_keep_alive_over u.timer now ≡ k → emission_kind u now b ≡ (if k then kind.KeepAlive else kind.Plain)
+  without_bytes now none z k over = rw (none, over, empty) (by k)
+    where
+      empty : is_empty_segment b ≡ true
+      empty = rw (plain_bit b.control segment_bit, z) refl
+
+      by : (k : Bool) → (if k && true then kind.KeepAlive else kind.Plain) ≡ (if k then kind.KeepAlive else kind.Plain)
+      by true = refl
+      by false = refl

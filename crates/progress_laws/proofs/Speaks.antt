@@ -1,0 +1,438 @@
+-- What a sender in step says at the moment of its keep-alive.
+use Rattle.std.proofs.Common.{◌≡◌, ℕ, ◌⊎◌, ◌^◌, Bool, ◌-◌, ◌<◌, ◌≤◌, inl, true, false, not, ◌&&◌, refl, sym, ap, subst, ◌∙◌, List, length, take, drop, min, Option, Some, None, arith}
+use Rattle.std.proofs.lemmas.Option.{none-some}
+use Rattle.std.specs.Prelude.{if◌then◌else◌}
+use Rattle.net_base.specs.Ring.{in_one_piece}
+use Rattle.net_base.specs.declared.time.Duration.{Duration}
+use Rattle.net_base.specs.declared.time.Instant.{Instant}
+use Rattle.control_wire.specs.Segment.{Segment, segment_len}
+use Rattle.control_wire.specs.Seq.{seq_add, seq_minus, seq_sub}
+use Rattle.sock_core.specs.Bounds.{IsMtu}
+use Rattle.sock_core.specs.Congestion.{congestion_window}
+use Rattle.sock_core.specs.Facts.{Facts}
+use Rattle.sock_core.specs.Seq.{later_of}
+use Rattle.sock_core.specs.declared.congestion.AnyController.{AnyController}
+use Rattle.sock_core.specs.declared.congestion.AnyController.TheVariants as controller
+use Rattle.sock_tcp.proofs.Lending.{lent_at_most, lent_beginning}
+use Rattle.sock_tcp.specs.Begin.{after_timer, after_timers, readied, retransmission_begun}
+use Rattle.sock_tcp.specs.Content.{Sending, asked, carries_data, emission_kind, is_probing, offset_of, sent_as, window_left}
+use Rattle.sock_tcp.specs.Due.{congestion_left, data_due, effective_mss, flight, is_due}
+use Rattle.sock_tcp.specs.Polls.{is_reached, timeout_poll}
+use Rattle.sock_tcp.specs.Queue.{IsLent, Queue}
+use Rattle.sock_tcp.specs.Timers.{after as moment_after, idle_from, is_close_over, is_keep_alive_over, is_over, is_probe_over, keep_alive_renewed, retransmit_unless_set}
+use Rattle.sock_tcp.specs.View.{View}
+use Rattle.sock_tcp.specs.Window.{next_ack}
+use Rattle.sock_tcp.specs.declared.emission.Kind.{Kind}
+use Rattle.sock_tcp.specs.declared.emission.Kind.TheVariants as kind
+use Rattle.sock_tcp.specs.declared.state.State.TheVariants as state
+use Rattle.sock_tcp.specs.declared.timer.Timer.TheVariants as timer
+use Rattle.sock_tcp.specs.declared.tuple.Tuple.{Tuple}
+use Rattle.tcp_laws.specs.Polling.{IsReached}
+use Rattle.tcp_laws.proofs.Ordered.{IsOpen, IsOrdered, Row, no_distance}
+use Rattle.tcp_laws.proofs.OrderedCalls.{reached_ordered, readied_ordered, timers_ordered}
+use Rattle.tcp_laws.proofs.Sleeping.{window_sends}
+use Rattle.tcp_laws.proofs.Probing.{reached_probing}
+use Rattle.progress_laws.specs.InStep.{ForAnswer, ForKeepAlive, ForProbe, IsSender, Rests, told}
+use Rattle.progress_laws.specs.Speech.{DispatchesOk, GoesOn, SendsOk}
+use Rattle.progress_laws.proofs.Begins.{readied_alike, beginning, content_is, dispatch_reached, not_zero, quiet_so, segment_for, sends_so}
+use Rattle.progress_laws.proofs.Edges.{is_earlier, is_not_before, later_is, later_stays}
+use Rattle.progress_laws.proofs.Hears.{IsData, IsOpenTimer, idle_is, idle_moment}
+use Rattle.progress_laws.proofs.Lends.{lent_some, mss_some}
+use Rattle.progress_laws.proofs.Says.{keep_alive_due, no_probe}
+use Rattle.progress_laws.proofs.Sends.{SentOf, kept_nxt, kept_sent, kept_timer, left, plain_nxt, plain_sent, plain_timer, segment_ack, segment_bit, segment_length, segment_number, with_bytes, without_bytes}
+
+-- ---- what is left of the sender
+
+-- x is as the sender v but for SND.NXT, and waits for an answer
+pub record Waits (v x : View) : Type 0 where
+  pub reached : IsReached x
+  pub state : x.state ≡ v.state
+  pub peer : x.tuple ≡ v.tuple
+  pub timeout : x.timeout ≡ v.timeout
+  pub keep_alive : x.keep_alive ≡ v.keep_alive
+  pub una : x.local_seq_no ≡ v.local_seq_no
+  pub tx : x.tx_buffer ≡ v.tx_buffer
+  pub rx : x.rx_buffer ≡ v.rx_buffer
+  pub rcv : x.remote_seq_no ≡ v.remote_seq_no
+  pub scale : x.remote_win_scale ≡ v.remote_win_scale
+  pub nothing_marked : x.pending_fast_retransmit ≡ false
+  pub timer : IsOpenTimer x.timer
+
+-- the dispatch emits this segment, and leaves x
+pub record Speaks (f : Facts) (v : View) (out : Sending) (x : View) : Type 0 where
+  pub dispatch : DispatchesOk f false v (Some out) x
+  pub bit : IsData out.segment.control
+  pub ack : out.segment.ack_number ≡ Some (next_ack v)
+  pub waits : Waits v x
+
+-- the first bytes of the transmit queue, within the peer's window, or one that probes for it
+pub record SpeaksBytes (f : Facts) (v : View) : Type 0 where
+  pub out : Sending
+  pub after : View
+  pub speaks : Speaks f v out after
+  pub number : out.segment.seq_number ≡ v.local_seq_no
+  pub some : 0 < length out.segment.payload
+  pub within : (length out.segment.payload ≤ v.remote_win_len) ⊎ (length out.segment.payload ≡ 1)
+  pub queued : length out.segment.payload ≤ length v.tx_buffer.bytes
+  pub first : out.segment.payload ≡ take (length out.segment.payload) v.tx_buffer.bytes
+  pub sent : ℕ
+  pub sent_within : sent ≤ length out.segment.payload
+  pub nxt : after.remote_last_seq ≡ seq_add v.local_seq_no sent
+
+-- a byte before SND.UNA
+pub record SpeaksNothing (f : Facts) (v : View) : Type 0 where
+  pub out : Sending
+  pub after : View
+  pub speaks : Speaks f v out after
+  pub number : out.segment.seq_number ≡ seq_minus v.local_seq_no 1
+  pub one : length out.segment.payload ≡ 1
+  pub nxt : after.remote_last_seq ≡ v.local_seq_no
+
+-- without a window nothing, or an acknowledgement; it waits for its keep-alive then, with nothing in flight
+pub record FallsSilent (f : Facts) (v : View) : Type 0 where
+  pub out : Option Sending
+  pub after : View
+  pub dispatch : DispatchesOk f false v out after
+  pub waits : Waits v after
+  pub moment : Instant
+  pub timer : after.timer ≡ timer.Idle (Some moment)
+  pub nxt : after.remote_last_seq ≡ after.local_seq_no
+  pub window : after.remote_win_len ≡ v.remote_win_len
+
+open_window : (c : AnyController) → IsOpen c → 0 < congestion_window c
+open_window (controller.None x) h = omega arith
+open_window (controller.Reno r) h = h.cwnd
+
+open_idle : (now : Instant) (keep : Option Duration) → IsOpenTimer (idle_from now keep)
+open_idle now None = tt
+open_idle now (Some d) = tt
+
+-- ---- how its dispatch begins
+
+-- u has of v all that matters here, with SND.NXT at SND.UNA, and its timer is idle
+pub record Front (v u : View) : Type 0 where
+  pub state : u.state ≡ v.state
+  pub peer : u.tuple ≡ v.tuple
+  pub timeout : u.timeout ≡ v.timeout
+  pub keep_alive : u.keep_alive ≡ v.keep_alive
+  pub una : u.local_seq_no ≡ v.local_seq_no
+  pub nxt : u.remote_last_seq ≡ v.local_seq_no
+  pub tx : u.tx_buffer ≡ v.tx_buffer
+  pub rx : u.rx_buffer ≡ v.rx_buffer
+  pub rcv : u.remote_seq_no ≡ v.remote_seq_no
+  pub window : u.remote_win_len ≡ v.remote_win_len
+  pub scale : u.remote_win_scale ≡ v.remote_win_scale
+  pub marked : u.pending_fast_retransmit ≡ v.pending_fast_retransmit
+  pub mss : u.remote_mss ≡ v.remote_mss
+  pub moment : Option Instant
+  pub idle : u.timer ≡ timer.Idle moment
+  pub ordered : IsOrdered u
+
+-- at the moment of a keep-alive
+kept_front : (v : View) (now at : Instant) → IsReached v → v.timer ≡ timer.Idle (Some at) → v.remote_last_seq ≡ v.local_seq_no → Front v (readied v now)
+kept_front v now at r idle nxt =
+    let al = readied_alike v now in
+    record {
+      state = al.state;
+      peer = al.peer;
+      timeout = al.timeout;
+      keep_alive = al.keep_alive;
+      una = al.una;
+      nxt = al.nxt ∙ nxt;
+      tx = al.tx;
+      rx = al.rx;
+      rcv = al.rcv;
+      window = al.window;
+      scale = al.scale;
+      marked = al.marked;
+      mss = al.mss;
+      moment = Some at;
+      idle = al.timer ∙ idle;
+      ordered = readied_ordered v now (reached_ordered v r);
+    }
+
+begins_again : (x : View) (now at : Instant) → x.timeout ≡ None → x.timer ≡ timer.Retransmit at → is_over at now ≡ true → after_timers x now ≡ retransmission_begun x now
+unfolding after_timers
+begins_again x now at none waits over = ap (λ b. if b then record x { state = state.Closed } else after_timer x.timer x now) alive ∙ ap (λ tm. after_timer tm x now) waits ∙ ap (λ c. if c then retransmission_begun x now else x) over
+  where
+    alive : is_reached (timeout_poll x.timeout x.remote_last_ts) now ≡ false
+    alive = ap (λ o. is_reached (timeout_poll o x.remote_last_ts) now) none
+
+-- once the retransmission timer is over
+again_front : (v : View) (now at : Instant) → IsReached v → v.timeout ≡ None → v.timer ≡ timer.Retransmit at → is_over at now ≡ true → Front v (retransmission_begun (readied v now) now)
+unfolding retransmission_begun
+again_front v now at r no_timeout waits over =
+    let al = readied_alike v now in
+    record {
+      state = al.state;
+      peer = al.peer;
+      timeout = al.timeout;
+      keep_alive = al.keep_alive;
+      una = al.una;
+      nxt = al.una;
+      tx = al.tx;
+      rx = al.rx;
+      rcv = al.rcv;
+      window = al.window;
+      scale = al.scale;
+      marked = al.marked;
+      mss = al.mss;
+      moment = idle_moment now (readied v now).keep_alive;
+      idle = idle_is now (readied v now).keep_alive;
+      ordered = subst IsOrdered (begins_again (readied v now) now at (al.timeout ∙ no_timeout) (al.timer ∙ waits) over) (timers_ordered (readied v now) now (readied_ordered v now (reached_ordered v r)));
+    }
+
+module _ (d : Duration) (t : Tuple) (v : View) (f : Facts) (now : Instant) (mtu : IsMtu f.mtu) (s : IsSender d t v) (on : GoesOn v t (told f now)) (carries : carries_data v.state ≡ true) (u : View) (fr : Front v u) (u_is : beginning v t (told f now) false on carries ≡ u) where
+  abbrev fa : Facts
+  fa = told f now
+
+  established : u.state ≡ state.Established
+  established = fr.state ∙ s.state
+
+  nothing_marked : u.pending_fast_retransmit ≡ false
+  nothing_marked = fr.marked ∙ s.nothing_marked
+
+  mss : 48 ≤ u.remote_mss
+  mss = subst (λ n. 48 ≤ n) (sym fr.mss) (reached_probing v s.reached).mss
+
+  no_flight : flight u ≡ 0
+  no_flight = ap (λ n. seq_sub n u.local_seq_no) (fr.nxt ∙ sym fr.una) ∙ no_distance u.local_seq_no fr.ordered.una_small
+
+  no_probing : is_probing u now ≡ false
+  no_probing = no_probe u now (ap (λ tm. is_probe_over tm now) fr.idle)
+
+  start : offset_of u ≡ 0
+  start = rw nothing_marked no_flight
+
+  abbrev bytes : List ℕ
+  bytes = take (min (asked u t fa false) (in_one_piece u.tx_buffer.until_end (length u.tx_buffer.bytes) (offset_of u))) (drop (offset_of u) u.tx_buffer.bytes)
+
+  lent : IsLent u.tx_buffer (offset_of u) (asked u t fa false) bytes
+  lent = refl
+
+  asked_is : asked u t fa false ≡ min (min (window_left u) (effective_mss u t fa false)) (congestion_left u)
+  unfolding asked
+  asked_is = rw (no_probing, established, nothing_marked) refl
+
+  few : length bytes ≤ min (asked u t fa false) (length u.tx_buffer.bytes - offset_of u)
+  few = lent_at_most u.tx_buffer (offset_of u) (asked u t fa false) bytes lent
+
+  abbrev b : Segment
+  b = segment_for u t None bytes
+
+  bit : IsData b.control
+  bit = segment_bit u t None bytes established nothing_marked
+
+  number : b.seq_number ≡ v.local_seq_no
+  number = segment_number u t None bytes established nothing_marked ∙ fr.nxt
+
+  ack : b.ack_number ≡ Some (next_ack v)
+  ack = segment_ack u t None bytes established nothing_marked ∙ (λ i. Some (seq_add (fr.rcv i) (length ((fr.rx i).bytes))))
+
+  carries_on : carries_data u.state ≡ true
+  carries_on = ap carries_data established
+
+  goes_out : (k : Kind) → emission_kind u now b ≡ k → is_due u t fa false ≡ true → DispatchesOk fa false v (Some (sent_as u t k b)) (left u t now b established k)
+  goes_out k e due = sends_so v t fa false on carries (Some (sent_as u t k b)) (left u t now b established k) (ap (λ x. is_due x t fa false) u_is ∙ due) (subst (λ x. SendsOk fa t false x (Some (sent_as u t k b)) (left u t now b established k)) (sym u_is) (record {
+    stamp = None;
+    told = refl;
+    bytes = bytes;
+    lent = lent;
+    sends = sym (content_is u t fa None bytes carries_on ∙ ap (λ c. Some (sent_as u t c b)) e);
+    view = refl;
+  }))
+
+  data_is_due : data_due u t fa false ≡ true → is_due u t fa false ≡ true
+  unfolding is_due
+  data_is_due e = rw e refl
+
+  waits : (k : Kind) → DispatchesOk fa false v (Some (sent_as u t k b)) (left u t now b established k) → SentOf u (left u t now b established k) → IsOpenTimer (left u t now b established k).timer → Waits v (left u t now b established k)
+  waits k h l o = record {
+    reached = dispatch_reached fa false v (Some (sent_as u t k b)) (left u t now b established k) s.reached h;
+    state = l.state ∙ fr.state;
+    peer = l.peer ∙ fr.peer;
+    timeout = l.timeout ∙ fr.timeout;
+    keep_alive = l.keep_alive ∙ fr.keep_alive;
+    una = l.una ∙ fr.una;
+    tx = l.tx ∙ fr.tx;
+    rx = l.rx ∙ fr.rx;
+    rcv = l.rcv ∙ fr.rcv;
+    scale = l.scale ∙ fr.scale;
+    nothing_marked = l.marked ∙ ap (λ m. m && not (carries_data u.state)) nothing_marked;
+    timer = o;
+  }
+
+  renewed : keep_alive_renewed u.timer now u.keep_alive ≡ idle_from now u.keep_alive
+  renewed = ap (λ tm. keep_alive_renewed tm now u.keep_alive) fr.idle
+
+  -- with a window and bytes
+  speaks_bytes : 0 < v.remote_win_len → 0 < length v.tx_buffer.bytes → SpeaksBytes fa v
+  speaks_bytes win queue =
+      let win_u : 0 < u.remote_win_len = subst (λ n. 0 < n) (sym fr.window) win in
+      let queue_u : 0 < length u.tx_buffer.bytes = subst (λ (q : Queue). 0 < length q.bytes) (sym fr.tx) queue in
+      let asks : 0 < asked u t fa false = omega (arith, asked_is, win_u, no_flight, mss_some u t fa false mtu.0 mss, open_window u.congestion_controller fr.ordered.congestion) in
+      let some : 0 < length bytes = lent_some u.tx_buffer (offset_of u) (asked u t fa false) bytes lent asks (omega (arith, start, queue_u)) in
+      let plain : emission_kind u now b ≡ kind.Plain = with_bytes u t None bytes established nothing_marked now no_probing some in
+      let h = goes_out kind.Plain plain (data_is_due (window_sends u t fa false fr.ordered win_u no_flight (inl queue_u))) in
+      let long : segment_len b ≡ length bytes = segment_length u t None bytes established nothing_marked in
+      let same : length u.tx_buffer.bytes ≡ length v.tx_buffer.bytes = ap (λ (q : Queue). length q.bytes) fr.tx in
+      record {
+        out = sent_as u t kind.Plain b;
+        after = left u t now b established kind.Plain;
+        speaks = record { dispatch = h; bit = bit; ack = ack; waits = waits kind.Plain h (plain_sent u t now b established) (timed (omega (arith, long, some))) };
+        number = number;
+        some = some;
+        within = inl (omega (arith, few, asked_is, fr.window));
+        queued = omega (arith, few, same);
+        first = lent_beginning u.tx_buffer (offset_of u) (asked u t fa false) bytes lent ∙ ap (λ o. take (length bytes) (drop o u.tx_buffer.bytes)) start ∙ ap (λ (q : Queue). take (length bytes) q.bytes) fr.tx;
+        sent = length bytes;
+        sent_within = omega arith;
+        nxt = plain_nxt u t now b established ∙ (λ i. later_of (fr.nxt i) (seq_add (number i) (long i))) ∙ later_is v.local_seq_no (seq_add v.local_seq_no (length bytes)) (is_earlier v.local_seq_no (seq_add v.local_seq_no (length bytes)) (omega (arith, some, few, fr.ordered.room, (reached_ordered v s.reached).una_small)));
+      }
+    where
+      timed : 0 < segment_len b → IsOpenTimer (left u t now b established kind.Plain).timer
+      timed some = subst IsOpenTimer (sym (plain_timer u t now b established false (not_zero (segment_len b) some) ∙ ap (λ tm. retransmit_unless_set tm now u.rtte) renewed)) (by u.keep_alive)
+        where
+          by : (keep : Option Duration) → IsOpenTimer (retransmit_unless_set (idle_from now keep) now u.rtte)
+          by None = tt
+          by (Some d) = tt
+
+  -- without a window, at the moment of a keep-alive
+  speaks_nothing : v.remote_win_len ≡ 0 → is_keep_alive_over u.timer now ≡ true → SpeaksNothing fa v
+  speaks_nothing win keep_over =
+      let shut : u.remote_win_len ≡ 0 = fr.window ∙ win in
+      let none : length bytes ≡ 0 = omega (arith, few, asked_is, shut) in
+      let kept : emission_kind u now b ≡ kind.KeepAlive = without_bytes u t None bytes established nothing_marked now no_probing none true keep_over in
+      let h = goes_out kind.KeepAlive kept (keep_alive_due u t fa false keep_over) in
+      record {
+        out = sent_as u t kind.KeepAlive b;
+        after = left u t now b established kind.KeepAlive;
+        speaks = record { dispatch = h; bit = bit; ack = ack; waits = waits kind.KeepAlive h (kept_sent u t now b established) (subst IsOpenTimer (sym (kept_timer u t now b established ∙ renewed)) (open_idle now u.keep_alive)) };
+        number = ap (λ n. seq_minus n 1) fr.una;
+        one = refl;
+        nxt = kept_nxt u t now b established ∙ fr.nxt;
+      }
+
+  -- without a window it is silent, or acknowledges
+  silent : v.remote_win_len ≡ 0 → FallsSilent fa v
+  silent win = by (is_due u t fa false) refl
+    where
+      keep : u.keep_alive ≡ Some d
+      keep = fr.keep_alive ∙ s.keep_alive
+
+      waits_then : idle_from now u.keep_alive ≡ timer.Idle (Some (moment_after now d))
+      waits_then = ap (idle_from now) keep
+
+      none : length bytes ≡ 0
+      none = omega (arith, few, asked_is, fr.window, win)
+
+      long : segment_len b ≡ 0
+      long = segment_length u t None bytes established nothing_marked ∙ none
+
+      small : v.local_seq_no.0 < 2 ^ 32
+      small = (reached_ordered v s.reached).una_small
+
+      stays : later_of v.local_seq_no (seq_add v.local_seq_no 0) ≡ v.local_seq_no
+      stays = later_stays v.local_seq_no (seq_add v.local_seq_no 0) (is_not_before v.local_seq_no (seq_add v.local_seq_no 0) (omega (arith, small)))
+
+      sends : is_due u t fa false ≡ true → (k : Bool) → is_keep_alive_over u.timer now ≡ k → FallsSilent fa v
+      sends due true over =
+          let h = goes_out kind.KeepAlive (without_bytes u t None bytes established nothing_marked now no_probing none true over) due in
+          let l = kept_sent u t now b established in
+          record {
+            out = Some (sent_as u t kind.KeepAlive b);
+            after = left u t now b established kind.KeepAlive;
+            dispatch = h;
+            waits = waits kind.KeepAlive h l (subst IsOpenTimer (sym (kept_timer u t now b established ∙ renewed)) (open_idle now u.keep_alive));
+            moment = moment_after now d;
+            timer = kept_timer u t now b established ∙ renewed ∙ waits_then;
+            nxt = kept_nxt u t now b established ∙ fr.nxt ∙ sym (l.una ∙ fr.una);
+            window = l.window ∙ fr.window;
+          }
+      sends due false over =
+          let h = goes_out kind.Plain (without_bytes u t None bytes established nothing_marked now no_probing none false over) due in
+          let l = plain_sent u t now b established in
+          let tm : (left u t now b established kind.Plain).timer ≡ idle_from now u.keep_alive = plain_timer u t now b established true (rw long refl) ∙ renewed in
+          record {
+            out = Some (sent_as u t kind.Plain b);
+            after = left u t now b established kind.Plain;
+            dispatch = h;
+            waits = waits kind.Plain h l (subst IsOpenTimer (sym tm) (open_idle now u.keep_alive));
+            moment = moment_after now d;
+            timer = tm ∙ waits_then;
+            nxt = plain_nxt u t now b established ∙ (λ i. later_of (fr.nxt i) (seq_add (number i) (long i))) ∙ stays ∙ sym (l.una ∙ fr.una);
+            window = l.window ∙ fr.window;
+          }
+
+      no_moment : u.timer ≡ timer.Idle None → u.keep_alive ≡ None
+      no_moment idle = (subst (λ tm. Row state.Established tm u.keep_alive (flight u) (length u.tx_buffer.bytes)) idle (subst (λ st. Row st u.timer u.keep_alive (flight u) (length u.tx_buffer.bytes)) established fr.ordered.row)).0
+
+      at_rest : DispatchesOk fa false v None u → (o : Option Instant) → u.timer ≡ timer.Idle o → FallsSilent fa v
+      at_rest h None idle = absurd (none-some d (sym (no_moment idle) ∙ keep))
+      at_rest h (Some m) idle = record {
+        out = None;
+        after = u;
+        dispatch = h;
+        waits = record { reached = dispatch_reached fa false v None u s.reached h; state = fr.state; peer = fr.peer; timeout = fr.timeout; keep_alive = fr.keep_alive; una = fr.una; tx = fr.tx; rx = fr.rx; rcv = fr.rcv; scale = fr.scale; nothing_marked = nothing_marked; timer = subst IsOpenTimer (sym idle) tt };
+        moment = m;
+        timer = idle;
+        nxt = fr.nxt ∙ sym fr.una;
+        window = fr.window;
+      }
+
+      by : (due : Bool) → is_due u t fa false ≡ due → FallsSilent fa v
+      by true e = sends e (is_keep_alive_over u.timer now) refl
+      by false e =
+          let h : DispatchesOk fa false v None u = subst (DispatchesOk fa false v None) u_is (quiet_so v t fa false on carries (ap (λ x. is_due x t fa false) u_is ∙ e)) in
+          at_rest h fr.moment fr.idle
+
+-- ---- by the timer
+
+-- the moment for which it waits
+abbrev pub wakes : {v : View} → Rests v → Instant
+wakes (ForKeepAlive at timer nxt) = at
+wakes (ForAnswer at timer) = at
+wakes (ForProbe at delay timer nxt some) = at
+
+-- not to probe
+abbrev pub IsNoProbe : {v : View} → Rests v → Type 0
+IsNoProbe (ForProbe at delay timer nxt some) = ⊥
+IsNoProbe _ = Unit {0}
+
+-- u is what a dispatch of it begins with
+pub record Begins (t : Tuple) (f : Facts) (v : View) (now : Instant) : Type 0 where
+  pub view : View
+  pub front : Front v view
+  pub no_end : is_close_over v.timer now ≡ false
+  pub is : (on : GoesOn v t (told f now)) (carries : carries_data v.state ≡ true) → beginning v t (told f now) false on carries ≡ view
+
+pub begins : (t : Tuple) (f : Facts) (v : View) (now : Instant) → IsReached v → v.timeout ≡ None → (r : Rests v) → IsNoProbe r → is_over (wakes r) now ≡ true → Begins t f v now
+begins t f v now r none (ForProbe at delay probes nxt some) other over = absurd other
+begins t f v now r none (ForKeepAlive at idle nxt) other over = record {
+  view = readied v now;
+  front = kept_front v now at r idle nxt;
+  no_end = rw idle refl;
+  is = λ on carries. ap (λ tm. after_timer tm (readied v now) now) idle;
+}
+begins t f v now r none (ForAnswer at again) other over = record {
+  view = retransmission_begun (readied v now) now;
+  front = again_front v now at r none again over;
+  no_end = rw again refl;
+  is = λ on carries. ap (λ tm. after_timer tm (readied v now) now) again ∙ ap (λ c. if c then retransmission_begun (readied v now) now else readied v now) over;
+}
+
+module _ (d : Duration) (t : Tuple) (v : View) (f : Facts) (now : Instant) (mtu : IsMtu f.mtu) (address : f.has_address t.local.addr ≡ true) (s : IsSender d t v) where
+  carries_so : carries_data v.state ≡ true
+  carries_so = ap carries_data s.state
+
+  goes_on : is_close_over v.timer now ≡ false → GoesOn v t (told f now)
+  goes_on e = record { peer = s.peer; address = address; alive = rw s.no_timeout refl; no_end = e }
+
+  pub says_bytes : (r : Rests v) → IsNoProbe r → is_over (wakes r) now ≡ true → 0 < v.remote_win_len → 0 < length v.tx_buffer.bytes → SpeaksBytes (told f now) v
+  says_bytes r other over win queue = let b = begins t f v now s.reached s.no_timeout r other over in speaks_bytes d t v f now mtu s (goes_on b.no_end) carries_so b.view b.front (b.is (goes_on b.no_end) carries_so) win queue
+
+  pub says_nothing : (at : Instant) → v.timer ≡ timer.Idle (Some at) → v.remote_last_seq ≡ v.local_seq_no → is_over at now ≡ true → v.remote_win_len ≡ 0 → SpeaksNothing (told f now) v
+  says_nothing at idle nxt over win = speaks_nothing d t v f now mtu s (goes_on (rw idle refl)) carries_so (readied v now) (kept_front v now at s.reached idle nxt) (ap (λ tm. after_timer tm (readied v now) now) idle) win (ap (λ tm. is_keep_alive_over tm now) ((readied_alike v now).timer ∙ idle) ∙ over)
+
+  pub falls_silent : (r : Rests v) → IsNoProbe r → is_over (wakes r) now ≡ true → v.remote_win_len ≡ 0 → FallsSilent (told f now) v
+  falls_silent r other over win = let b = begins t f v now s.reached s.no_timeout r other over in silent d t v f now mtu s (goes_on b.no_end) carries_so b.view b.front (b.is (goes_on b.no_end) carries_so) win

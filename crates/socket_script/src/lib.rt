@@ -1,0 +1,19 @@
+//! Drills: scripts of sockets of every kind, run, with what differs from what they expect.
+#![tactic(auto)]
+
+mod calls;
+mod capture;
+mod clock;
+mod getters;
+mod memory;
+mod outbox;
+mod packet;
+mod play;
+mod seat;
+mod shown;
+mod storage;
+mod takes;
+mod tally;
+
+pub use play::{Stop, run};
+pub use tally::{Tally, Unwritten};

@@ -1,0 +1,422 @@
+//! The run of a drill.
+ghost use Rattle.std.specs.Prelude.{◌≡◌, MatchResult};
+ghost use Rattle.socket_script.specs.Stops.{IfNoDrill};
+
+use crate::calls::perform;
+use crate::clock::Clock;
+use crate::getters::{Served, state_name};
+use crate::memory::{Halt, NoMemory};
+use crate::packet::Packet;
+use crate::seat::{Now, Seat};
+use crate::storage::{Memory, socket_over};
+use crate::takes::hear;
+use crate::tally::{Output, Tally, Unwritten, put, put_both};
+use drill_lines::reader::{Numbered, Reader};
+use drill_lines::request::{Call, Counted, Expected, Request, Which};
+use drill_lines::room::Room;
+use smoltcp_socket::Socket;
+use sock_pair::script::ScriptError;
+use std::alloc::Global;
+use std::fmt::Write as _;
+use std::io::Write;
+
+/// Why there was no run, or why it ended before the end of the drill.
+#[derive(Clone, Copy)]
+pub enum Stop {
+    /// The text is no drill; nothing was run.
+    Script(ScriptError),
+    /// The output cannot be written.
+    Write,
+    /// Memory ran out.
+    Memory,
+}
+
+/// Runs a drill. Where `packets` is set, the packets that came and went are written, as the records of a pcap stream;
+/// else, where it says what it expects, what differs; else the line of each event.
+///
+/// The fault of a text that is no drill is that of its first line that has one; nothing is written then. `file` stands
+/// before each difference.
+pub fn run<'t, W: Write>(
+    alloc: Global,
+    packets: bool,
+    file: &'t str,
+    text: &'t [u8],
+    writer: &mut W,
+) -> Result<Tally, Stop>
+    ensures { MatchResult result (λ _. Unit {0})
+        (λ e. IfNoDrill (W.contents writer.new ≡ W.contents writer.old) e) }
+{
+    let checks = match read_through(alloc, text) {
+        Ok(checks) => checks,
+        Err(ScriptError::Memory) => return Err(Stop::Memory),
+        Err(error) => return Err(Stop::Script(error)),
+    };
+    match play_all(alloc, output_of(packets, checks), file, text, writer) {
+        Ok(tally) => Ok(tally),
+        Err(Halt::Write) => Err(Stop::Write),
+        Err(Halt::Memory) => Err(Stop::Memory),
+    }
+}
+
+// Plays all lines of a text that was read through.
+fn play_all<'t, W: Write>(
+    alloc: Global,
+    output: Output,
+    file: &'t str,
+    text: &'t [u8],
+    writer: &mut W,
+) -> Result<Tally, Halt> {
+    let mut player = Player {
+        alloc,
+        file,
+        reader: Reader::new(alloc, text),
+        output,
+        tally: Tally::new(),
+        line: String::new(alloc),
+    };
+    for _ in 0..u64::MAX {
+        if !example(alloc, &mut player, writer)? {
+            break;
+        }
+    }
+    Ok(player.tally)
+}
+
+fn output_of(packets: bool, checks: bool) -> Output {
+    if packets {
+        Output::Packets
+    } else if checks {
+        Output::Differences
+    } else {
+        Output::Events
+    }
+}
+
+// Plays the lines up to the next example. False where there is none.
+fn example<W: Write>(alloc: Global, player: &mut Player<'_>, writer: &mut W) -> Result<bool, Halt> {
+    let mut memory = memory_of(alloc, player.reader.rest())?;
+    with_memory(alloc, memory.as_mut_slice(), player, writer)
+}
+
+// Reads all lines, and tells whether any says what is expected.
+fn read_through(alloc: Global, text: &[u8]) -> Result<bool, ScriptError> {
+    let mut reader = Reader::new(alloc, text);
+    let mut checks = false;
+    for _ in 0..u64::MAX {
+        let Some(numbered) = reader.next()? else {
+            break;
+        };
+        if let Request::Line(_) | Request::Expect(..) = numbered.request {
+            checks = true;
+        }
+    }
+    Ok(checks)
+}
+
+// A text that was read through has no fault, so that its lines end here for want of memory alone.
+fn end(error: ScriptError) -> Result<(), Halt> {
+    match error {
+        ScriptError::Memory => Err(Halt::Memory),
+        _ => Ok(()),
+    }
+}
+
+// The memory of the sockets up to the next example.
+fn memory_of(alloc: Global, text: &[u8]) -> Result<Vec<Memory>, Halt> {
+    let mut reader = Reader::new(alloc, text);
+    let mut memory = Vec::new(alloc);
+    for _ in 0..u64::MAX {
+        match reader.next() {
+            Ok(Some(numbered)) => match numbered.request {
+                Request::Example(_) => break,
+                Request::Make(room) => add(alloc, &mut memory, room)?,
+                _ => {}
+            },
+            Ok(None) => break,
+            Err(error) => {
+                end(error)?;
+                break;
+            }
+        }
+    }
+    Ok(memory)
+}
+
+fn add(alloc: Global, memory: &mut Vec<Memory>, room: Room) -> Result<(), NoMemory> {
+    let one = Memory::of(alloc, room)?;
+    memory.push(one)?;
+    Ok(())
+}
+
+// Makes the sockets, and plays the lines.
+fn with_memory<W: Write>(
+    alloc: Global,
+    memory: &mut [Memory],
+    player: &mut Player<'_>,
+    writer: &mut W,
+) -> Result<bool, Halt> {
+    let mut seats = Vec::new(alloc);
+    let each = memory.iter_mut();
+    for one in each {
+        let seat = Seat::new(alloc, socket_over(one));
+        if seats.push(seat).is_err() {
+            return Err(Halt::Memory);
+        }
+    }
+    player.example(seats, writer)
+}
+
+// The lines that are left, what was found so far, and the line of the latest event.
+#[derive(Drop)]
+struct Player<'t> {
+    alloc: Global,
+    file: &'t str,
+    reader: Reader<'t>,
+    output: Output,
+    tally: Tally,
+    line: String,
+}
+
+impl<'t> Player<'t> {
+    fn example<W: Write>(&mut self, seats: Vec<Seat<'_>>, writer: &mut W) -> Result<bool, Halt> {
+        let mut sockets = Sockets {
+            seats,
+            now: Now { millis: 0, word: 0 },
+        };
+        for _ in 0..u64::MAX {
+            let numbered = match self.reader.next() {
+                Ok(Some(numbered)) => numbered,
+                Ok(None) => return Ok(false),
+                Err(error) => {
+                    end(error)?;
+                    return Ok(false);
+                }
+            };
+            if let Request::Example(name) = numbered.request {
+                self.begin(name, writer)?;
+                return Ok(true);
+            }
+            self.play(&mut sockets, &numbered, writer)?;
+        }
+        Ok(false)
+    }
+
+    fn begin<W: Write>(&mut self, name: &[u8], writer: &mut W) -> Result<(), Unwritten> {
+        self.tally.examples = self.tally.examples.saturating_add(1);
+        self.line.clear();
+        let Output::Events = self.output else {
+            return Ok(());
+        };
+        put(writer, b"example ")?;
+        put(writer, name)?;
+        put(writer, b"\n")
+    }
+
+    fn play<W: Write>(
+        &mut self,
+        sockets: &mut Sockets<'_>,
+        numbered: &Numbered<'t>,
+        writer: &mut W,
+    ) -> Result<(), Halt> {
+        match numbered.request {
+            Request::Line(text) => self.compare_line(numbered.line, text, writer)?,
+            Request::Expect(place, expected) => {
+                self.expect(sockets, numbered.line, place, &expected, writer)?;
+            }
+            request => {
+                self.line.clear();
+                sockets.perform(self.alloc, &request, &mut self.line)?;
+                self.print(sockets, writer)?;
+            }
+        }
+        Ok(())
+    }
+
+    // Prints the line of an event, or its packets.
+    fn print<W: Write>(&self, sockets: &mut Sockets<'_>, writer: &mut W) -> Result<(), Halt> {
+        match self.output {
+            Output::Differences => Ok(()),
+            Output::Events => Ok(put_line(writer, self.line.as_bytes())?),
+            Output::Packets => sockets.put_packets(self.alloc, writer),
+        }
+    }
+
+    fn compare_line<W: Write>(
+        &mut self,
+        number: usize,
+        text: &[u8],
+        writer: &mut W,
+    ) -> Result<(), Unwritten> {
+        if self.tally.compare(text, self.line.as_bytes()) {
+            return Ok(());
+        }
+        match self.output {
+            Output::Packets => Ok(()),
+            _ => put_both(writer, self.file, number, text, self.line.as_bytes()),
+        }
+    }
+
+    fn expect<W: Write>(
+        &mut self,
+        sockets: &Sockets<'_>,
+        number: usize,
+        place: usize,
+        expected: &Expected<'_>,
+        writer: &mut W,
+    ) -> Result<(), Halt> {
+        let mut text = String::new(self.alloc);
+        sockets.tell(self.alloc, place, expected, &mut text)?;
+        let word = match expected {
+            Expected::State(word) | Expected::Poll(word) => word,
+        };
+        if self.tally.compare(word, text.as_bytes()) {
+            return Ok(());
+        }
+        if let Output::Packets = self.output {
+            return Ok(());
+        }
+        put_both(writer, self.file, number, word, text.as_bytes())?;
+        Ok(())
+    }
+}
+
+// A line that is not empty, and a line feed.
+fn put_line<W: Write>(writer: &mut W, line: &[u8]) -> Result<(), Unwritten> {
+    if line.is_empty() {
+        return Ok(());
+    }
+    put(writer, line)?;
+    put(writer, b"\n")
+}
+
+// The sockets of an example, and the moment.
+#[derive(Drop)]
+struct Sockets<'a> {
+    seats: Vec<Seat<'a>>,
+    now: Now,
+}
+
+impl Sockets<'_> {
+    // Writes the packets that came and went and are not written yet.
+    fn put_packets<W: Write>(&mut self, alloc: Global, writer: &mut W) -> Result<(), Halt> {
+        let millis = self.now.millis;
+        for seat in &mut self.seats {
+            seat.put_packets(alloc, millis, writer)?;
+        }
+        Ok(())
+    }
+}
+
+impl Sockets<'_> {
+    // What a line asks for, and its answer as text.
+    fn perform(
+        &mut self,
+        alloc: Global,
+        request: &Request<'_>,
+        line: &mut String,
+    ) -> Result<(), NoMemory> {
+        match request {
+            Request::Clock(millis) => self.now.millis = *millis,
+            Request::Word(word) => self.now.word = *word,
+            Request::Call(place, call) => self.call(alloc, *place, call, line)?,
+            Request::Deliver(from, which, to) => self.deliver(alloc, *from, *which, *to, line)?,
+            _ => {}
+        }
+        Ok(())
+    }
+
+    fn call(
+        &mut self,
+        alloc: Global,
+        place: usize,
+        call: &Call<'_>,
+        line: &mut String,
+    ) -> Result<(), NoMemory> {
+        let now = self.now_of(call);
+        match self.seats.get_mut(place) {
+            None => Ok(()),
+            Some(seat) => perform(seat, alloc, now, call, line),
+        }
+    }
+
+    // The moment and the word of a call. A moment that the line names is that of the calls to come.
+    fn now_of(&mut self, call: &Call<'_>) -> Now {
+        match call {
+            Call::Counted(Counted::Connect, word) => {
+                return Now {
+                    millis: self.now.millis,
+                    word: *word,
+                };
+            }
+            Call::Counted(
+                Counted::Dispatch | Counted::Fail | Counted::Gone | Counted::Poll,
+                millis,
+            ) => self.now.millis = *millis,
+            _ => {}
+        }
+        self.now
+    }
+
+    fn deliver(
+        &mut self,
+        alloc: Global,
+        from: usize,
+        which: Which,
+        to: usize,
+        line: &mut String,
+    ) -> Result<(), NoMemory> {
+        let Some(packet) = self.sent_by(alloc, from, which)? else {
+            line.push_str("no-segment")?;
+            return Ok(());
+        };
+        let now = self.now;
+        match self.seats.get_mut(to) {
+            None => Ok(()),
+            Some(seat) => hear(seat, alloc, now, &packet, line),
+        }
+    }
+
+    // What a socket emitted, once more.
+    fn sent_by(
+        &self,
+        alloc: Global,
+        from: usize,
+        which: Which,
+    ) -> Result<Option<Packet>, NoMemory> {
+        let Some(seat) = self.seats.get(from) else {
+            return Ok(None);
+        };
+        let sent = seat.sent.as_slice();
+        let packet = match which {
+            Which::Last => sent.last(),
+            Which::Number(0) => None,
+            Which::Number(number) => sent.get(number - 1),
+        };
+        match packet {
+            None => Ok(None),
+            Some(packet) => Ok(Some(packet.again(alloc)?)),
+        }
+    }
+
+    // What a socket says, as text.
+    fn tell(
+        &self,
+        alloc: Global,
+        place: usize,
+        expected: &Expected<'_>,
+        text: &mut String,
+    ) -> Result<(), NoMemory> {
+        let Some(seat) = self.seats.get(place) else {
+            return Ok(());
+        };
+        match expected {
+            Expected::State(_) => text.push_str(state_name(&seat.socket))?,
+            Expected::Poll(_) => {
+                let host = seat.host(alloc, self.now, false);
+                let served = Served(seat.socket.poll_at(&host));
+                write!(text, "{served}")?;
+            }
+        }
+        Ok(())
+    }
+}
