@@ -2,6 +2,7 @@
 use Rattle.std.proofs.Common.{◌≡◌, ℕ, zero, suc, ◌+◌, ◌<◌, ◌⊎◌, inl, inr, Bool, true, false, true≢false, ◌&&◌, refl, sym, ap, subst, ◌∙◌, List, length, Option, Some, None, arith}
 use Rattle.std.specs.Prelude.{if◌then◌else◌, ◌==◌, option_map}
 use Rattle.std.proofs.lemmas.Bool.{eq-eqb, eqb-true}
+use Rattle.std.proofs.lemmas.Option.{none-some}
 use Rattle.net_base.specs.declared.time.Duration.{Duration}
 use Rattle.net_base.specs.declared.time.Instant.{Instant}
 use Rattle.control_wire.specs.Segment.{Segment, control_len, is_empty_segment, is_plain, segment_len}
@@ -176,6 +177,13 @@ module _ (v : View) (t : Tuple) (f : Facts) (stamps : Bool) (h : GoesOn v t f) (
       by : (b : Bool) → is_due beginning t f stamps ≡ b → SendsOkTo (by_due b beginning t f).peer f stamps (by_due b beginning t f).view out w → Goes out w
       by true e s = inl (s, ap (λ (b : Begun). b.view) begins_so ∙ ap (λ b. (by_due b beginning t f).view) e)
       by false e s = inr (s.1 ∙ unchanged, e)
+
+  pub goes_out : (s : Sending) (w : View) → DispatchesOk f stamps v (Some s) w → SendsOk f t stamps beginning (Some s) w
+  goes_out s w k = by (is_due beginning t f stamps) (subst (λ (b : Begun). SendsOkTo b.peer f stamps b.view (Some s) w) begins_so k)
+    where
+      by : (b : Bool) → SendsOkTo (by_due b beginning t f).peer f stamps (by_due b beginning t f).view (Some s) w → SendsOk f t stamps beginning (Some s) w
+      by true h = h
+      by false h = absurd (none-some s (sym h.0))
 
 -- ---- what goes out
 

@@ -38,7 +38,7 @@ use Rattle.sock_tcp.specs.declared.verdict.Verdict.TheVariants as verdicts
 use Rattle.tcp_laws.specs.SocketRun.{Close}
 use Rattle.tcp_laws.proofs.Ordered.{no_distance}
 use Rattle.tcp_laws.proofs.OrderedCalls.{reached_ordered}
-use Rattle.progress_laws.specs.InStep.{Completes, Finishes, ForAnswer, ForKeepAlive, ForProbe, IsReceiver, IsSender, OneWayFinishes, Rests, told}
+use Rattle.progress_laws.specs.InStep.{Completes, Finishes, ForAnswer, ForKeepAlive, ForNothing, ForProbe, IsReceiver, IsSender, OneWayFinishes, Rests, told}
 use Rattle.progress_laws.specs.Speech.{DispatchesOk, GoesOn, SendsOk}
 use Rattle.progress_laws.proofs.Begins.{content_is, segment_for, sends_so, step_reached}
 use Rattle.progress_laws.proofs.Edges.{empty_inside_so, is_not_before, same_seq}
@@ -61,22 +61,25 @@ pub record SaysFin (f : Facts) (v : View) : Type 0 where
 
 closed_rests : (v : View) → Rests v → Rests (closed v)
 closed_rests v (ForKeepAlive at idle nxt) = ForKeepAlive at idle nxt
+closed_rests v (ForNothing idle nxt some) = ForNothing idle nxt some
 closed_rests v (ForAnswer at again) = ForAnswer at again
 closed_rests v (ForProbe at delay probes nxt some) = ForProbe at delay probes nxt some
 
 same_moment : (v : View) (r : Rests v) → wakes (closed_rests v r) ≡ wakes r
 unfolding closed_rests
 same_moment v (ForKeepAlive at idle nxt) = refl
+same_moment v (ForNothing idle nxt some) = refl
 same_moment v (ForAnswer at again) = refl
 same_moment v (ForProbe at delay probes nxt some) = refl
 
 no_probe_left : (v : View) (r : Rests v) → length v.tx_buffer.bytes ≡ 0 → IsNoProbe (closed_rests v r)
 unfolding closed_rests
 no_probe_left v (ForKeepAlive at idle nxt) z = tt
+no_probe_left v (ForNothing idle nxt some) z = tt
 no_probe_left v (ForAnswer at again) z = tt
 no_probe_left v (ForProbe at delay probes nxt some) z = absurd (omega (arith, some, z))
 
-module _ (d : Duration) (t : Tuple) (v : View) (f : Facts) (now : Instant) (here : f.has_address t.local.addr ≡ true) (s : IsSender d t v) (over : is_over (wakes s.rests) now ≡ true) (none_left : length v.tx_buffer.bytes ≡ 0) where
+module _ (d : Option Duration) (t : Tuple) (v : View) (f : Facts) (now : Instant) (here : f.has_address t.local.addr ≡ true) (s : IsSender d t v) (over : is_over (wakes s.rests) now ≡ true) (none_left : length v.tx_buffer.bytes ≡ 0) where
   abbrev fa : Facts
   fa = told f now
 
@@ -265,7 +268,7 @@ one_way_finishes d t s f at v w got mtu here there i = go (one_way_completes d t
     go : Completes d t s f at v w got i → Finishes d t s f at v w got i
     go c =
         let l = later_moment c.end (wakes c.in_step.sender.rests) in
-        let q : SaysFin (told f l.0) (closed c.sender) = says_fin d t c.sender f l.0 here c.in_step.sender l.2 c.sent in
+        let q : SaysFin (told f l.0) (closed c.sender) = says_fin (Some d) t c.sender f l.0 here c.in_step.sender l.2 c.sent in
         let w = c.receiver in
         let small : w.local_seq_no.0 < 2 ^ 32 = omega (arith, ap (λ (m : TcpSeqNumber). m.0) c.in_step.back) in
         let ack = q.ack ∙ ap Some (sym c.in_step.back) in

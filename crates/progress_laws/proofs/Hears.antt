@@ -121,6 +121,7 @@ pub record HeardAs (u : View) (k : TcpSeqNumber) (n win : ℕ) (x : View) : Type
   pub rx : x.rx_buffer ≡ u.rx_buffer
   pub rcv : x.remote_seq_no ≡ u.remote_seq_no
   pub last_ack : x.remote_last_ack ≡ u.remote_last_ack
+  pub last_win : x.remote_last_win ≡ u.remote_last_win
   pub marked : x.pending_fast_retransmit ≡ u.pending_fast_retransmit
   pub una : x.local_seq_no ≡ k
   pub nxt : x.remote_last_seq ≡ later_of u.remote_last_seq k
@@ -156,6 +157,7 @@ module _ (u : View) (now : Instant) (a : Acked) (s : Segment) (k : TcpSeqNumber)
     rx = refl;
     rcv = refl;
     last_ack = refl;
+    last_win = refl;
     marked = refl;
     una = refl;
     nxt = refl;

@@ -8,6 +8,13 @@ pub mod Sends
 pub mod Speaks
 pub mod Probes
 pub mod Receives
+pub mod Learns
 pub mod Told
 pub mod Rounds
 pub mod Closes
+pub mod Spoken
+pub mod Arrives
+pub mod Answered
+pub mod Takes
+pub mod Both
+pub mod BothRounds

@@ -1,5 +1,5 @@
 -- What a sender says that probes for a window, with nothing in flight.
-use Rattle.std.proofs.Common.{◌≡◌, ℕ, inr, ◌^◌, ◌<◌, ◌≤◌, true, false, not, ◌&&◌, refl, sym, ap, subst, ◌∙◌, List, length, take, drop, min, Some, None, arith}
+use Rattle.std.proofs.Common.{◌≡◌, ℕ, inr, ◌^◌, ◌<◌, ◌≤◌, true, false, not, ◌&&◌, refl, sym, ap, subst, ◌∙◌, List, length, take, drop, min, Option, Some, None, arith}
 use Rattle.std.proofs.lemmas.Bool.{eq-eqb}
 use Rattle.net_base.specs.Ring.{in_one_piece}
 use Rattle.net_base.specs.declared.time.Duration.{Duration}
@@ -32,7 +32,7 @@ use Rattle.progress_laws.proofs.Says.{probe_due}
 use Rattle.progress_laws.proofs.Sends.{left, segment_ack, segment_bit, segment_number, probe_nxt, probe_sent, probe_timer}
 use Rattle.progress_laws.proofs.Speaks.{SpeaksBytes}
 
-module _ (d : Duration) (t : Tuple) (v : View) (f : Facts) (now at : Instant) (delay : Duration) (mtu : IsMtu f.mtu) (address : f.has_address t.local.addr ≡ true) (s : IsSender d t v) (probes : v.timer ≡ timer.ZeroWindowProbe at delay) (sent : v.remote_last_seq ≡ v.local_seq_no) (queue : 0 < length v.tx_buffer.bytes) (over : is_over at now ≡ true) where
+module _ (d : Option Duration) (t : Tuple) (v : View) (f : Facts) (now at : Instant) (delay : Duration) (mtu : IsMtu f.mtu) (address : f.has_address t.local.addr ≡ true) (s : IsSender d t v) (probes : v.timer ≡ timer.ZeroWindowProbe at delay) (sent : v.remote_last_seq ≡ v.local_seq_no) (queue : 0 < length v.tx_buffer.bytes) (over : is_over at now ≡ true) where
   pub no_window : v.remote_win_len ≡ 0
   no_window = subst (λ tm. ProbesIn tm v.remote_win_len) probes (reached_probing v s.reached).window
 

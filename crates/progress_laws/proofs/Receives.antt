@@ -96,7 +96,7 @@ pub record Owes (s : Tuple) (w : View) (room n : ℕ) (y : View) : Type 0 where
   pub next : (next_ack y).0 ≡ (seq_add (next_ack w) n).0
 
 -- the window of a socket that told its window field with RCV.NXT
-told_window : (w : View) (room : ℕ) → w.rx_buffer.held ≡ blank room → room ≤ 2 ^ 30 → w.remote_last_ack ≡ Some (next_ack w) → w.remote_last_win ≡ min (room / 2 ^ w.remote_win_shift) 65535
+pub told_window : (w : View) (room : ℕ) → w.rx_buffer.held ≡ blank room → room ≤ 2 ^ 30 → w.remote_last_ack ≡ Some (next_ack w) → w.remote_last_win ≡ min (room / 2 ^ w.remote_win_shift) 65535
     → seq_sub (receive_window w).end (receive_window w).start ≡ unit room w.remote_win_shift
 unfolding receive_window
 told_window w room held narrow ack field =

@@ -27,7 +27,7 @@ use Rattle.sock_tcp.specs.declared.timer.Timer.TheVariants as timer
 use Rattle.sock_tcp.specs.declared.tuple.Tuple.{Tuple}
 use Rattle.tcp_laws.proofs.OrderedCalls.{reached_ordered}
 use Rattle.progress_laws.specs.Speech.{DispatchesOk}
-use Rattle.progress_laws.specs.InStep.{Carries, CarriesBack, Completes, ForAnswer, ForKeepAlive, ForProbe, GoesAstray, InStep, IsAnswered, IsLost, Moves, NoMove, OneMore, OneWayCompletes, Reads, Rests, told}
+use Rattle.progress_laws.specs.InStep.{Carries, CarriesBack, Completes, ForAnswer, ForKeepAlive, ForNothing, ForProbe, GoesAstray, InStep, IsAnswered, IsLost, Moves, NoMove, OneMore, OneWayCompletes, Reads, Rests, told}
 use Rattle.progress_laws.proofs.Begins.{some_or_none}
 use Rattle.progress_laws.proofs.Edges.{same_seq}
 use Rattle.progress_laws.proofs.Receives.{Owes, Tells, acknowledges, after, answers, fresh_length, kept_out, late_then, next_is, not_over_then, old_away, out_of, owes, renewed, renews, room_for, shut_away, still_owes, takes, tells, took, took_bytes}
@@ -51,7 +51,7 @@ late_moment a (ack_delay.Waiting at) = later_moment a at
 late_moment a ack_delay.Idle = (a, grind (arith, ints), refl)
 late_moment a ack_delay.Immediate = (a, grind (arith, ints), refl)
 
-joined : {f : Facts} (at mid end : Instant) (v w v1 w1 v2 w2 : View) (got got1 got2 : List ℕ) → Moves f at v w got mid v1 w1 got1 → Moves f mid v1 w1 got1 end v2 w2 got2 → Moves f at v w got end v2 w2 got2
+pub joined : {f : Facts} (at mid end : Instant) (v w v1 w1 v2 w2 : View) (got got1 got2 : List ℕ) → Moves f at v w got mid v1 w1 got1 → Moves f mid v1 w1 got1 end v2 w2 got2 → Moves f at v w got end v2 w2 got2
 joined at mid end v w v1 w1 v2 w2 got got1 got2 (NoMove _ _ _ _) b = b
 joined at mid end v w v1 w1 v2 w2 got got1 got2 (OneMore _ now _ _ _ u x _ _ _ more _ l m a) b = OneMore at now end v w u x v2 w2 got more got2 l m (joined now mid end u x v1 w1 v2 w2 more got1 got2 a b)
 
@@ -95,7 +95,7 @@ ready s f w room n x got now y there o = by (late_moment now y.ack_delay_timer)
     by l = over_or_not l.0 l.1 l.2 (is_keep_alive_over y.timer l.0) refl
 
 -- what was cut off behind j bytes, and the rest
-cut_and_rest : (j k : ℕ) (l : List ℕ) → j ≤ k → drop j (take k l) ++ drop k l ≡ drop j l
+pub cut_and_rest : (j k : ℕ) (l : List ℕ) → j ≤ k → drop j (take k l) ++ drop k l ≡ drop j l
 cut_and_rest zero k l h = take-append-drop k l
 cut_and_rest (suc j) zero l h = absurd (omega (arith, h))
 cut_and_rest (suc j) (suc k) [] h = refl
@@ -168,7 +168,7 @@ module _ (d : Duration) (t s : Tuple) (f : Facts) (mtu : IsMtu f.mtu) (here : f.
     -- without a window: a keep-alive and its answer
     asks : (m : Instant) → v.timer ≡ timer.Idle (Some m) → v.remote_last_seq ≡ v.local_seq_no → is_over m now ≡ true → v.remote_win_len ≡ 0 → Round d t s f at v w got i
     asks m idle sent over z =
-        let q : SpeaksNothing (told f now) v = says_nothing d t v f now mtu here i.sender m idle sent over z in
+        let q : SpeaksNothing (told f now) v = says_nothing (Some d) t v f now mtu here i.sender m idle sent over z in
         let number = ap (λ (m : TcpSeqNumber). m.0) q.number in
         let nxt = ap (λ (m : TcpSeqNumber). m.0) q.nxt in
         let within = i.taken_within in
@@ -373,11 +373,13 @@ module _ (d : Duration) (t s : Tuple) (f : Facts) (mtu : IsMtu f.mtu) (here : f.
 
       by : (v.remote_win_len ≡ 0) ⊎ (0 < v.remote_win_len) → (r : Rests v) → (z : Instant) × (at.micros ≤ℤ z.micros) × (is_over (wakes r) z ≡ true) → Round d t s f at v w got i
       by (inl none) (ForKeepAlive m idle nxt) z = asks at z.0 z.1 v w got i m idle nxt z.2 none
-      by (inl none) (ForAnswer m again) z = then_asks at z.0 z.1 v w got i (falls_silent d t v f z.0 mtu here i.sender (ForAnswer m again) tt z.2 none) none
-      by (inl none) (ForProbe m delay waits nxt some) z = probes z.0 z.1 (says_probe d t v f z.0 m delay mtu here i.sender waits nxt some z.2) (probe_unsent d t v f z.0 m delay mtu here i.sender waits nxt some z.2) (probe_one d t v f z.0 m delay mtu here i.sender waits nxt some z.2) none
-      by (inr win) (ForProbe m delay waits nxt some) z = absurd (omega (arith, win, no_window d t v f z.0 m delay mtu here i.sender waits nxt some z.2))
-      by (inr win) (ForKeepAlive m idle nxt) z = let p : SpeaksBytes (told f z.0) v = says_bytes d t v f z.0 mtu here i.sender (ForKeepAlive m idle nxt) tt z.2 win queue in goes z.0 z.1 p (known_room z.0 p win)
-      by (inr win) (ForAnswer m again) z = let p : SpeaksBytes (told f z.0) v = says_bytes d t v f z.0 mtu here i.sender (ForAnswer m again) tt z.2 win queue in goes z.0 z.1 p (known_room z.0 p win)
+      by (inl none) (ForAnswer m again) z = then_asks at z.0 z.1 v w got i (falls_silent (Some d) t v f z.0 mtu here i.sender d i.sender.keep_alive (ForAnswer m again) tt z.2 none) none
+      by (inl none) (ForProbe m delay waits nxt some) z = probes z.0 z.1 (says_probe (Some d) t v f z.0 m delay mtu here i.sender waits nxt some z.2) (probe_unsent (Some d) t v f z.0 m delay mtu here i.sender waits nxt some z.2) (probe_one (Some d) t v f z.0 m delay mtu here i.sender waits nxt some z.2) none
+      by (inl none) (ForNothing idle nxt some) z = absurd (omega (arith, none, some))
+      by (inr win) (ForNothing idle nxt some) z = let p : SpeaksBytes (told f z.0) v = says_bytes (Some d) t v f z.0 mtu here i.sender (ForNothing idle nxt some) tt z.2 win queue in goes z.0 z.1 p (known_room z.0 p win)
+      by (inr win) (ForProbe m delay waits nxt some) z = absurd (omega (arith, win, no_window (Some d) t v f z.0 m delay mtu here i.sender waits nxt some z.2))
+      by (inr win) (ForKeepAlive m idle nxt) z = let p : SpeaksBytes (told f z.0) v = says_bytes (Some d) t v f z.0 mtu here i.sender (ForKeepAlive m idle nxt) tt z.2 win queue in goes z.0 z.1 p (known_room z.0 p win)
+      by (inr win) (ForAnswer m again) z = let p : SpeaksBytes (told f z.0) v = says_bytes (Some d) t v f z.0 mtu here i.sender (ForAnswer m again) tt z.2 win queue in goes z.0 z.1 p (known_room z.0 p win)
 
   -- ---- all of them
 

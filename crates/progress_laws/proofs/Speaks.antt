@@ -1,7 +1,7 @@
 -- What a sender in step says at the moment of its keep-alive.
-use Rattle.std.proofs.Common.{◌≡◌, ℕ, ◌⊎◌, ◌^◌, Bool, ◌-◌, ◌<◌, ◌≤◌, inl, true, false, not, ◌&&◌, refl, sym, ap, subst, ◌∙◌, List, length, take, drop, min, Option, Some, None, arith}
+use Rattle.std.proofs.Common.{◌≡◌, ℕ, ◌⊎◌, ◌^◌, Bool, ◌-◌, ◌/◌, ◌<◌, ◌≤◌, inl, true, false, not, ◌&&◌, refl, sym, ap, subst, ◌∙◌, List, length, take, drop, min, Option, Some, None, arith}
 use Rattle.std.proofs.lemmas.Option.{none-some}
-use Rattle.std.specs.Prelude.{if◌then◌else◌}
+use Rattle.std.specs.Prelude.{if◌then◌else◌, pos}
 use Rattle.net_base.specs.Ring.{in_one_piece}
 use Rattle.net_base.specs.declared.time.Duration.{Duration}
 use Rattle.net_base.specs.declared.time.Instant.{Instant}
@@ -16,10 +16,10 @@ use Rattle.sock_core.specs.declared.congestion.AnyController.TheVariants as cont
 use Rattle.sock_tcp.proofs.Lending.{lent_at_most, lent_beginning}
 use Rattle.sock_tcp.specs.Begin.{after_timer, after_timers, readied, retransmission_begun}
 use Rattle.sock_tcp.specs.Content.{Sending, asked, carries_data, emission_kind, is_probing, offset_of, sent_as, window_left}
-use Rattle.sock_tcp.specs.Due.{congestion_left, data_due, effective_mss, flight, is_due}
+use Rattle.sock_tcp.specs.Due.{congestion_left, data_due, effective_mss, flight, is_due, window_field}
 use Rattle.sock_tcp.specs.Polls.{is_reached, timeout_poll}
 use Rattle.sock_tcp.specs.Queue.{IsLent, Queue}
-use Rattle.sock_tcp.specs.Timers.{after as moment_after, idle_from, is_close_over, is_keep_alive_over, is_over, is_probe_over, keep_alive_renewed, retransmit_unless_set}
+use Rattle.sock_tcp.specs.Timers.{after as moment_after, idle_from, is_close_over, is_keep_alive_over, is_over, is_probe_over, keep_alive_renewed, retransmit_unless_set, rto_of}
 use Rattle.sock_tcp.specs.View.{View}
 use Rattle.sock_tcp.specs.Window.{next_ack}
 use Rattle.sock_tcp.specs.declared.emission.Kind.{Kind}
@@ -32,14 +32,14 @@ use Rattle.tcp_laws.proofs.Ordered.{IsOpen, IsOrdered, Row, no_distance}
 use Rattle.tcp_laws.proofs.OrderedCalls.{reached_ordered, readied_ordered, timers_ordered}
 use Rattle.tcp_laws.proofs.Sleeping.{window_sends}
 use Rattle.tcp_laws.proofs.Probing.{reached_probing}
-use Rattle.progress_laws.specs.InStep.{ForAnswer, ForKeepAlive, ForProbe, IsSender, Rests, told}
+use Rattle.progress_laws.specs.InStep.{ForAnswer, ForKeepAlive, ForNothing, ForProbe, IsSender, Rests, told}
 use Rattle.progress_laws.specs.Speech.{DispatchesOk, GoesOn, SendsOk}
 use Rattle.progress_laws.proofs.Begins.{readied_alike, beginning, content_is, dispatch_reached, not_zero, quiet_so, segment_for, sends_so}
 use Rattle.progress_laws.proofs.Edges.{is_earlier, is_not_before, later_is, later_stays}
 use Rattle.progress_laws.proofs.Hears.{IsData, IsOpenTimer, idle_is, idle_moment}
 use Rattle.progress_laws.proofs.Lends.{lent_some, mss_some}
 use Rattle.progress_laws.proofs.Says.{keep_alive_due, no_probe}
-use Rattle.progress_laws.proofs.Sends.{SentOf, kept_nxt, kept_sent, kept_timer, left, plain_nxt, plain_sent, plain_timer, segment_ack, segment_bit, segment_length, segment_number, with_bytes, without_bytes}
+use Rattle.progress_laws.proofs.Sends.{SentOf, kept_nxt, kept_sent, kept_timer, left, plain_ack, plain_nxt, plain_sent, plain_timer, plain_window, segment_ack, segment_bit, segment_length, segment_number, segment_window, with_bytes, without_bytes}
 
 -- ---- what is left of the sender
 
@@ -78,6 +78,19 @@ pub record SpeaksBytes (f : Facts) (v : View) : Type 0 where
   pub sent : ℕ
   pub sent_within : sent ≤ length out.segment.payload
   pub nxt : after.remote_last_seq ≡ seq_add v.local_seq_no sent
+
+-- the same within the peer's window: it tells the own window, and an acknowledgement is waited for
+pub record SpeaksPlain (f : Facts) (v : View) : Type 0 where
+  pub bytes : SpeaksBytes f v
+  pub fits : length bytes.out.segment.payload ≤ v.remote_win_len
+  pub short : length bytes.out.segment.payload ≤ 65535
+  pub field : bytes.out.segment.window_len ≡ window_field v
+  pub at : Instant
+  pub timer : bytes.after.timer ≡ timer.Retransmit at
+  pub window : bytes.after.remote_win_len ≡ v.remote_win_len
+  pub shift : bytes.after.remote_win_shift ≡ v.remote_win_shift
+  pub last_ack : bytes.after.remote_last_ack ≡ Some (next_ack v)
+  pub last_win : bytes.after.remote_last_win ≡ window_field v
 
 -- a byte before SND.UNA
 pub record SpeaksNothing (f : Facts) (v : View) : Type 0 where
@@ -122,6 +135,7 @@ pub record Front (v u : View) : Type 0 where
   pub rcv : u.remote_seq_no ≡ v.remote_seq_no
   pub window : u.remote_win_len ≡ v.remote_win_len
   pub scale : u.remote_win_scale ≡ v.remote_win_scale
+  pub shift : u.remote_win_shift ≡ v.remote_win_shift
   pub marked : u.pending_fast_retransmit ≡ v.pending_fast_retransmit
   pub mss : u.remote_mss ≡ v.remote_mss
   pub moment : Option Instant
@@ -129,8 +143,8 @@ pub record Front (v u : View) : Type 0 where
   pub ordered : IsOrdered u
 
 -- at the moment of a keep-alive
-kept_front : (v : View) (now at : Instant) → IsReached v → v.timer ≡ timer.Idle (Some at) → v.remote_last_seq ≡ v.local_seq_no → Front v (readied v now)
-kept_front v now at r idle nxt =
+idle_front : (v : View) (now : Instant) (at : Option Instant) → IsReached v → v.timer ≡ timer.Idle at → v.remote_last_seq ≡ v.local_seq_no → Front v (readied v now)
+idle_front v now at r idle nxt =
     let al = readied_alike v now in
     record {
       state = al.state;
@@ -144,9 +158,10 @@ kept_front v now at r idle nxt =
       rcv = al.rcv;
       window = al.window;
       scale = al.scale;
+      shift = al.shift;
       marked = al.marked;
       mss = al.mss;
-      moment = Some at;
+      moment = at;
       idle = al.timer ∙ idle;
       ordered = readied_ordered v now (reached_ordered v r);
     }
@@ -175,6 +190,7 @@ again_front v now at r no_timeout waits over =
       rcv = al.rcv;
       window = al.window;
       scale = al.scale;
+      shift = al.shift;
       marked = al.marked;
       mss = al.mss;
       moment = idle_moment now (readied v now).keep_alive;
@@ -182,7 +198,7 @@ again_front v now at r no_timeout waits over =
       ordered = subst IsOrdered (begins_again (readied v now) now at (al.timeout ∙ no_timeout) (al.timer ∙ waits) over) (timers_ordered (readied v now) now (readied_ordered v now (reached_ordered v r)));
     }
 
-module _ (d : Duration) (t : Tuple) (v : View) (f : Facts) (now : Instant) (mtu : IsMtu f.mtu) (s : IsSender d t v) (on : GoesOn v t (told f now)) (carries : carries_data v.state ≡ true) (u : View) (fr : Front v u) (u_is : beginning v t (told f now) false on carries ≡ u) where
+module _ (d : Option Duration) (t : Tuple) (v : View) (f : Facts) (now : Instant) (mtu : IsMtu f.mtu) (s : IsSender d t v) (on : GoesOn v t (told f now)) (carries : carries_data v.state ≡ true) (u : View) (fr : Front v u) (u_is : beginning v t (told f now) false on carries ≡ u) where
   abbrev fa : Facts
   fa = told f now
 
@@ -297,6 +313,32 @@ module _ (d : Duration) (t : Tuple) (v : View) (f : Facts) (now : Instant) (mtu 
           by None = tt
           by (Some d) = tt
 
+  speaks_plain : 0 < v.remote_win_len → 0 < length v.tx_buffer.bytes → SpeaksPlain fa v
+  unfolding speaks_bytes
+  speaks_plain win queue =
+      let l = plain_sent u t now b established in
+      let some : 0 < length bytes = (speaks_bytes win queue).some in
+      let long : segment_len b ≡ length bytes = segment_length u t None bytes established nothing_marked in
+      record {
+        bytes = speaks_bytes win queue;
+        fits = omega (arith, few, asked_is, fr.window);
+        short = omega (arith, few, asked_is, mtu.1);
+        field = told_field;
+        at = moment_after now (rto_of u.rtte);
+        timer = plain_timer u t now b established false (not_zero (segment_len b) (omega (arith, long, some))) ∙ ap (λ tm. retransmit_unless_set tm now u.rtte) renewed ∙ waits_again u.keep_alive;
+        window = l.window ∙ fr.window;
+        shift = l.shift ∙ fr.shift;
+        last_ack = plain_ack u t now b established ∙ ack;
+        last_win = plain_window u t now b established ∙ told_field;
+      }
+    where
+      told_field : b.window_len ≡ window_field v
+      told_field = segment_window u t None bytes established nothing_marked ∙ (λ i. min (length ((fr.rx i).held) / 2 ^ fr.shift i) 65535)
+
+      waits_again : (keep : Option Duration) → retransmit_unless_set (idle_from now keep) now u.rtte ≡ timer.Retransmit (moment_after now (rto_of u.rtte))
+      waits_again None = refl
+      waits_again (Some d) = refl
+
   -- without a window, at the moment of a keep-alive
   speaks_nothing : v.remote_win_len ≡ 0 → is_keep_alive_over u.timer now ≡ true → SpeaksNothing fa v
   speaks_nothing win keep_over =
@@ -314,13 +356,13 @@ module _ (d : Duration) (t : Tuple) (v : View) (f : Facts) (now : Instant) (mtu 
       }
 
   -- without a window it is silent, or acknowledges
-  silent : v.remote_win_len ≡ 0 → FallsSilent fa v
-  silent win = by (is_due u t fa false) refl
+  silent : (e : Duration) → v.keep_alive ≡ Some e → v.remote_win_len ≡ 0 → FallsSilent fa v
+  silent e keeps win = by (is_due u t fa false) refl
     where
-      keep : u.keep_alive ≡ Some d
-      keep = fr.keep_alive ∙ s.keep_alive
+      keep : u.keep_alive ≡ Some e
+      keep = fr.keep_alive ∙ keeps
 
-      waits_then : idle_from now u.keep_alive ≡ timer.Idle (Some (moment_after now d))
+      waits_then : idle_from now u.keep_alive ≡ timer.Idle (Some (moment_after now e))
       waits_then = ap (idle_from now) keep
 
       none : length bytes ≡ 0
@@ -344,7 +386,7 @@ module _ (d : Duration) (t : Tuple) (v : View) (f : Facts) (now : Instant) (mtu 
             after = left u t now b established kind.KeepAlive;
             dispatch = h;
             waits = waits kind.KeepAlive h l (subst IsOpenTimer (sym (kept_timer u t now b established ∙ renewed)) (open_idle now u.keep_alive));
-            moment = moment_after now d;
+            moment = moment_after now e;
             timer = kept_timer u t now b established ∙ renewed ∙ waits_then;
             nxt = kept_nxt u t now b established ∙ fr.nxt ∙ sym (l.una ∙ fr.una);
             window = l.window ∙ fr.window;
@@ -358,7 +400,7 @@ module _ (d : Duration) (t : Tuple) (v : View) (f : Facts) (now : Instant) (mtu 
             after = left u t now b established kind.Plain;
             dispatch = h;
             waits = waits kind.Plain h l (subst IsOpenTimer (sym tm) (open_idle now u.keep_alive));
-            moment = moment_after now d;
+            moment = moment_after now e;
             timer = tm ∙ waits_then;
             nxt = plain_nxt u t now b established ∙ (λ i. later_of (fr.nxt i) (seq_add (number i) (long i))) ∙ stays ∙ sym (l.una ∙ fr.una);
             window = l.window ∙ fr.window;
@@ -368,7 +410,7 @@ module _ (d : Duration) (t : Tuple) (v : View) (f : Facts) (now : Instant) (mtu 
       no_moment idle = (subst (λ tm. Row state.Established tm u.keep_alive (flight u) (length u.tx_buffer.bytes)) idle (subst (λ st. Row st u.timer u.keep_alive (flight u) (length u.tx_buffer.bytes)) established fr.ordered.row)).0
 
       at_rest : DispatchesOk fa false v None u → (o : Option Instant) → u.timer ≡ timer.Idle o → FallsSilent fa v
-      at_rest h None idle = absurd (none-some d (sym (no_moment idle) ∙ keep))
+      at_rest h None idle = absurd (none-some e (sym (no_moment idle) ∙ keep))
       at_rest h (Some m) idle = record {
         out = None;
         after = u;
@@ -381,17 +423,18 @@ module _ (d : Duration) (t : Tuple) (v : View) (f : Facts) (now : Instant) (mtu 
       }
 
       by : (due : Bool) → is_due u t fa false ≡ due → FallsSilent fa v
-      by true e = sends e (is_keep_alive_over u.timer now) refl
-      by false e =
-          let h : DispatchesOk fa false v None u = subst (DispatchesOk fa false v None) u_is (quiet_so v t fa false on carries (ap (λ x. is_due x t fa false) u_is ∙ e)) in
+      by true due = sends due (is_keep_alive_over u.timer now) refl
+      by false idle =
+          let h : DispatchesOk fa false v None u = subst (DispatchesOk fa false v None) u_is (quiet_so v t fa false on carries (ap (λ x. is_due x t fa false) u_is ∙ idle)) in
           at_rest h fr.moment fr.idle
 
 -- ---- by the timer
 
--- the moment for which it waits
+-- the moment for which it waits, if any
 abbrev pub wakes : {v : View} → Rests v → Instant
 wakes (ForKeepAlive at timer nxt) = at
 wakes (ForAnswer at timer) = at
+wakes (ForNothing timer nxt some) = record { micros = pos 0 }
 wakes (ForProbe at delay timer nxt some) = at
 
 -- not to probe
@@ -410,7 +453,13 @@ pub begins : (t : Tuple) (f : Facts) (v : View) (now : Instant) → IsReached v 
 begins t f v now r none (ForProbe at delay probes nxt some) other over = absurd other
 begins t f v now r none (ForKeepAlive at idle nxt) other over = record {
   view = readied v now;
-  front = kept_front v now at r idle nxt;
+  front = idle_front v now (Some at) r idle nxt;
+  no_end = rw idle refl;
+  is = λ on carries. ap (λ tm. after_timer tm (readied v now) now) idle;
+}
+begins t f v now r none (ForNothing idle nxt some) other over = record {
+  view = readied v now;
+  front = idle_front v now None r idle nxt;
   no_end = rw idle refl;
   is = λ on carries. ap (λ tm. after_timer tm (readied v now) now) idle;
 }
@@ -421,7 +470,7 @@ begins t f v now r none (ForAnswer at again) other over = record {
   is = λ on carries. ap (λ tm. after_timer tm (readied v now) now) again ∙ ap (λ c. if c then retransmission_begun (readied v now) now else readied v now) over;
 }
 
-module _ (d : Duration) (t : Tuple) (v : View) (f : Facts) (now : Instant) (mtu : IsMtu f.mtu) (address : f.has_address t.local.addr ≡ true) (s : IsSender d t v) where
+module _ (d : Option Duration) (t : Tuple) (v : View) (f : Facts) (now : Instant) (mtu : IsMtu f.mtu) (address : f.has_address t.local.addr ≡ true) (s : IsSender d t v) where
   carries_so : carries_data v.state ≡ true
   carries_so = ap carries_data s.state
 
@@ -431,8 +480,11 @@ module _ (d : Duration) (t : Tuple) (v : View) (f : Facts) (now : Instant) (mtu 
   pub says_bytes : (r : Rests v) → IsNoProbe r → is_over (wakes r) now ≡ true → 0 < v.remote_win_len → 0 < length v.tx_buffer.bytes → SpeaksBytes (told f now) v
   says_bytes r other over win queue = let b = begins t f v now s.reached s.no_timeout r other over in speaks_bytes d t v f now mtu s (goes_on b.no_end) carries_so b.view b.front (b.is (goes_on b.no_end) carries_so) win queue
 
-  pub says_nothing : (at : Instant) → v.timer ≡ timer.Idle (Some at) → v.remote_last_seq ≡ v.local_seq_no → is_over at now ≡ true → v.remote_win_len ≡ 0 → SpeaksNothing (told f now) v
-  says_nothing at idle nxt over win = speaks_nothing d t v f now mtu s (goes_on (rw idle refl)) carries_so (readied v now) (kept_front v now at s.reached idle nxt) (ap (λ tm. after_timer tm (readied v now) now) idle) win (ap (λ tm. is_keep_alive_over tm now) ((readied_alike v now).timer ∙ idle) ∙ over)
+  pub says_plain : (r : Rests v) → IsNoProbe r → is_over (wakes r) now ≡ true → 0 < v.remote_win_len → 0 < length v.tx_buffer.bytes → SpeaksPlain (told f now) v
+  says_plain r other over win queue = let b = begins t f v now s.reached s.no_timeout r other over in speaks_plain d t v f now mtu s (goes_on b.no_end) carries_so b.view b.front (b.is (goes_on b.no_end) carries_so) win queue
 
-  pub falls_silent : (r : Rests v) → IsNoProbe r → is_over (wakes r) now ≡ true → v.remote_win_len ≡ 0 → FallsSilent (told f now) v
-  falls_silent r other over win = let b = begins t f v now s.reached s.no_timeout r other over in silent d t v f now mtu s (goes_on b.no_end) carries_so b.view b.front (b.is (goes_on b.no_end) carries_so) win
+  pub says_nothing : (at : Instant) → v.timer ≡ timer.Idle (Some at) → v.remote_last_seq ≡ v.local_seq_no → is_over at now ≡ true → v.remote_win_len ≡ 0 → SpeaksNothing (told f now) v
+  says_nothing at idle nxt over win = speaks_nothing d t v f now mtu s (goes_on (rw idle refl)) carries_so (readied v now) (idle_front v now (Some at) s.reached idle nxt) (ap (λ tm. after_timer tm (readied v now) now) idle) win (ap (λ tm. is_keep_alive_over tm now) ((readied_alike v now).timer ∙ idle) ∙ over)
+
+  pub falls_silent : (e : Duration) → v.keep_alive ≡ Some e → (r : Rests v) → IsNoProbe r → is_over (wakes r) now ≡ true → v.remote_win_len ≡ 0 → FallsSilent (told f now) v
+  falls_silent e keeps r other over win = let b = begins t f v now s.reached s.no_timeout r other over in silent d t v f now mtu s (goes_on b.no_end) carries_so b.view b.front (b.is (goes_on b.no_end) carries_so) e keeps win

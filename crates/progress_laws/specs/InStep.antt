@@ -25,12 +25,16 @@ use Rattle.progress_laws.specs.Speech.{DispatchesOk}
 
 -- ---- in step
 
--- How the sender waits: for the moment of a keep-alive, or to probe for a window while bytes wait, with nothing in
--- flight; or for an acknowledgement of whatever is in flight
+-- How the sender waits. With nothing in flight: for the moment of a keep-alive; for nothing, while the peer has a
+-- window; or to probe for a window while bytes wait. Or for an acknowledgement of whatever is in flight
 pub data Rests (v : View) : Type 0 where
   ForKeepAlive : (at : Instant)
       → v.timer ≡ timer.Idle (Some at)
       → v.remote_last_seq ≡ v.local_seq_no
+      → Rests v
+  ForNothing : v.timer ≡ timer.Idle None
+      → v.remote_last_seq ≡ v.local_seq_no
+      → 0 < v.remote_win_len
       → Rests v
   ForProbe : (at : Instant) (delay : Duration)
       → v.timer ≡ timer.ZeroWindowProbe at delay
@@ -42,19 +46,19 @@ pub data Rests (v : View) : Type 0 where
       → Rests v
 
 -- The sender v, with the peer t, is what some list of calls makes of a new socket. It is in ESTABLISHED, without a user
--- timeout, with the keep-alive interval d
-pub record IsSender (d : Duration) (t : Tuple) (v : View) : Type 0 where
+-- timeout, with the keep-alive interval d, or with none
+pub record IsSender (d : Option Duration) (t : Tuple) (v : View) : Type 0 where
   pub reached : IsReached v
   pub state : v.state ≡ state.Established
   pub peer : v.tuple ≡ Some t
   pub no_timeout : v.timeout ≡ None
-  pub keep_alive : v.keep_alive ≡ Some d
+  pub keep_alive : v.keep_alive ≡ d
   pub nothing_marked : v.pending_fast_retransmit ≡ false
   pub rests : Rests v
 
--- The receiver w, with the peer s, is in ESTABLISHED, without a user timeout, with a keep-alive interval that is not 0 or
--- with none, and has nothing to send: all that it took was read, and it holds nothing. What it acknowledged last lies not far behind that. It has
--- room for as many bytes, at least for one unit of its window field
+-- The receiver w, with the peer s, is in ESTABLISHED, without a user timeout, with a keep-alive interval that is not 0
+-- or with none, and has nothing to send: all that it took was read, and it holds nothing. What it acknowledged last lies
+-- not far behind that. It has room for as many bytes, at least for one unit of its window field
 pub record IsReceiver (s : Tuple) (w : View) : Type 0 where
   pub state : w.state ≡ state.Established
   pub peer : w.tuple ≡ Some s
@@ -75,10 +79,11 @@ pub record IsReceiver (s : Tuple) (w : View) : Type 0 where
   pub acknowledged : w.remote_last_ack ≡ Some last
   pub near : seq_sub (next_ack w) last ≤ 2 ^ 30
 
--- They agree on the numbers of both streams and on the scale of the receiver's window. The receiver took so many bytes
--- that the sender has not heard of. The window that the sender knows lies within the receiver's
+-- The sender has a keep-alive interval. They agree on the numbers of both streams and on the scale of the receiver's
+-- window. The receiver took so many bytes that the sender has not heard of. The window that the sender knows lies within
+-- the receiver's
 pub record InStep (d : Duration) (t s : Tuple) (v w : View) : Type 0 where
-  pub sender : IsSender d t v
+  pub sender : IsSender (Some d) t v
   pub receiver : IsReceiver s w
   pub taken : ℕ
   pub taken_within : taken ≤ length v.tx_buffer.bytes

@@ -1,2 +1,4 @@
 pub mod Speech
+pub mod Delivery
 pub mod InStep
+pub mod BothWays

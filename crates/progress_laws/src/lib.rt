@@ -1,9 +1,12 @@
 //! What two TCP sockets still can come to, as laws: functions whose contracts are the laws and whose bodies are empty.
 //!
-//! What to read first, in `specs`: `Speech.antt`, what a socket says once its timer is over; `InStep.antt`,
-//! two sockets of which one sends to the other, and what they can do in turn.
+//! What to read first, in `specs`: `Speech.antt`, what a socket says once its timer is over; `Delivery.antt`, what such
+//! a segment moves once it is delivered; `InStep.antt`, two sockets of which one sends to the other, and what they can
+//! do in turn; `BothWays.antt`, two that both have bytes to send.
 #![tactic(auto)]
 
+ghost use Rattle.progress_laws.specs.BothWays.{BothWaysComplete};
+ghost use Rattle.progress_laws.specs.Delivery.{DeliveryMoves};
 ghost use Rattle.progress_laws.specs.InStep.{OneWayCompletes, OneWayFinishes};
 ghost use Rattle.progress_laws.specs.Speech.{SpeaksPastItsTimers};
 
@@ -16,6 +19,16 @@ pub fn speaks_past_its_timers()
     ensures { SpeaksPastItsTimers }
 {}
 
+/// Whatever a socket so says moves something, delivered at once to the other side of its connection: bytes join the
+/// receive queue there; or the FIN is counted; or the answer, delivered at once, releases what the other side took; or
+/// nothing was taken that the sender has not heard of, and the answer tells a window above 0. The other side is in
+/// ESTABLISHED, FIN-WAIT-1 or FIN-WAIT-2, with room for one unit of its window field, and agrees on the numbers; a
+/// probe has a byte, with nothing missing before it; the number of the answer lies in the sender's receive window (RFC
+/// 9293, section 3.10.7.4); and in LAST-ACK there is something to release, or a place for a byte.
+pub fn delivery_moves()
+    ensures { DeliveryMoves }
+{}
+
 /// From any two sockets of which one sends and the other receives, which agree on their numbers (`InStep`), whatever
 /// bytes, acknowledgements and window updates were lost, some list of dispatches, deliveries and reads, at moments that do
 /// not go back, empties the sender's transmit queue, and all of it was read of the receiver, in order.
@@ -26,4 +39,12 @@ pub fn one_way_completes()
 /// Once that is done the sender may close, its FIN reaches the receiver, and reads there answer `Finished`.
 pub fn one_way_finishes()
     ensures { OneWayFinishes }
+{}
+
+/// From any two sockets in ESTABLISHED that both have bytes to send and agree on the numbers of both streams
+/// (`BothInStep`), some list of dispatches, deliveries and reads empties both transmit queues, and of either side all
+/// of the other's bytes was read, in order: first one of them sends and the other only answers, and then the other way
+/// round. What one sent may have been lost, and its acknowledgements; the other sent nothing that was not taken.
+pub fn both_ways_complete()
+    ensures { BothWaysComplete }
 {}
