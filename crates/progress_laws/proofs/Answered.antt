@@ -31,9 +31,10 @@ use Rattle.sock_tcp.specs.declared.tuple.Tuple.{Tuple}
 use Rattle.sock_tcp.specs.declared.verdict.Verdict.TheVariants as verdicts
 use Rattle.sock_tcp.specs.declared.window.Cut.{Cut}
 use Rattle.tcp_laws.proofs.OrderedCalls.{reached_ordered}
+use Rattle.tcp_laws.proofs.SocketSteps.{holds_after}
 use Rattle.tcp_laws.specs.Polling.{IsReached}
 use Rattle.progress_laws.specs.Delivery.{CountsFin, DeliveryMoves, HasSaid, HasWindow, HearsOf, Joins, Moved, Releases, TellsWindow}
-use Rattle.progress_laws.proofs.Arrives.{CountsIt, HeardSo, away, cut_at_edge, cut_some, edge_inside, fin_counts, heard_so, is_synchronized, joins, passes_so, synchronized_has, wide}
+use Rattle.progress_laws.proofs.Arrives.{CountsIt, Faces, HeardSo, away, cut_at_edge, cut_some, edge_inside, fin_counts, heard_so, is_synchronized, joins, passes_so, synchronized_has, wide}
 use Rattle.progress_laws.proofs.Begins.{and_no, not_zero, some_or_none}
 use Rattle.progress_laws.proofs.Spoken.{FinAlone, Stands, Still, WithBytes, ack, bit, reached_then, short, stands, still}
 
@@ -94,7 +95,7 @@ module _ (u : View) (reached : IsReached u) (carries : carries_data u.state ≡ 
   passes : verdict_of u g.control g.ack_number ≡ verdicts.Pass
   passes = (λ i. verdict_of u (bit i) (ack i)) ∙ passes_so u control.None k n tt open_state small queue_short (ap (λ (m : TcpSeqNumber). m.0) there) (omega (arith, within))
 
-  acked : a ≡ record { len = n; fin = false; all = is_not_after u.remote_last_seq k }
+  pub acked : a ≡ record { len = n; fin = false; all = is_not_after u.remote_last_seq k }
   unfolding acked_at
   acked = (λ i. acked_of u (bit i) (ack i)) ∙ covers u.state k u.remote_last_seq (length u.tx_buffer.bytes) (seq_sub k u.local_seq_no - syn_place u.state) n (omega (arith, ap (λ (m : TcpSeqNumber). m.0) there, no_syn u.state carries, small, within, queue_short)) within
 
@@ -146,6 +147,20 @@ module _ (t : Tuple) (f : Facts) (stamps : Bool) (v u w : View) (out : Sending) 
   goes_on : carries_data u.state ≡ true
   goes_on = ap carries_data k.state ∙ said.carries
 
+  faces : Faces w (next_ack v)
+  faces =
+      let q = r.reached in
+      let o = reached_ordered w q in
+      record {
+        receives = r.receives;
+        una_small = o.una_small;
+        short = omega (arith, o.room);
+        heard = r.heard;
+        heard_within = r.heard_within;
+        back = ap (λ (m : TcpSeqNumber). m.0) r.back;
+        room = omega (arith, (holds_after q.rx q.tx w q.counts q.rx_size q.run).room);
+      }
+
   next : next_ack w ≡ seq_add u.local_seq_no n
   next = r.there ∙ ap (λ m. seq_add m n) (sym k.una)
 
@@ -180,7 +195,7 @@ module _ (t : Tuple) (f : Facts) (stamps : Bool) (v u w : View) (out : Sending) 
     full b e = ap (λ z. if z then empty_inside (receive_window w) out.segment.seq_number else full_inside (receive_window w) out.segment.seq_number (seq_add out.segment.seq_number (length out.segment.payload))) (sym (not_zero (length out.segment.payload) some)) ∙ e
 
     wide_so : seq_sub (receive_window w).end (receive_window w).start ≤ 2 ^ 30
-    wide_so = wide v w n r now word out.ip out.segment (bit t f stamps v out u said) (ack t f stamps v out u said)
+    wide_so = wide w (next_ack v) faces now word out.ip out.segment (bit t f stamps v out u said) (ack t f stamps v out u said)
 
     with_bytes : (v.state ≡ state.LastAck → (0 < n) ⊎ ((next_ack w).0 ≡ out.segment.seq_number.0) × HasWindow w) → Moved v u w out n now word
     with_bytes last = by (is_inside (receive_window w) out.segment.seq_number (length out.segment.payload)) refl
@@ -193,15 +208,15 @@ module _ (t : Tuple) (f : Facts) (stamps : Bool) (v u w : View) (out : Sending) 
             either (inr q) = absurd (true≢false (sym (edge_inside (receive_window w) (start_small w) (end_small w) wide_so out.segment.seq_number small (length out.segment.payload) some few near (ap (λ (m : TcpSeqNumber). m.0) edge ∙ q.0) q.1) ∙ full false e))
 
         by : (b : Bool) → is_inside (receive_window w) out.segment.seq_number (length out.segment.payload) ≡ b → Moved v u w out n now word
-        by true e = Joins (joins v w n r now word out.ip out.segment (bit t f stamps v out u said) (ack t f stamps v out u said) e (cut_at_edge (receive_window w) (start_small w) (end_small w) wide_so out.segment.seq_number small (length out.segment.payload) some few near) (subst (λ m. 0 < m) (sym (length-cut (cut_of (receive_window w) out.segment.seq_number (length out.segment.payload)) out.segment.payload)) (cut_some (receive_window w) (start_small w) (end_small w) wide_so out.segment.seq_number small (length out.segment.payload) some few near (full true e))))
-        by false e = answers (away v w n r now word out.ip out.segment (bit t f stamps v out u said) (ack t f stamps v out u said) e some) (moves_then e)
+        by true e = Joins (joins w (next_ack v) faces now word out.ip out.segment (bit t f stamps v out u said) (ack t f stamps v out u said) e (cut_at_edge (receive_window w) (start_small w) (end_small w) wide_so out.segment.seq_number small (length out.segment.payload) some few near) (subst (λ m. 0 < m) (sym (length-cut (cut_of (receive_window w) out.segment.seq_number (length out.segment.payload)) out.segment.payload)) (cut_some (receive_window w) (start_small w) (end_small w) wide_so out.segment.seq_number small (length out.segment.payload) some few near (full true e))))
+        by false e = answers (away w (next_ack v) faces now word out.ip out.segment (bit t f stamps v out u said) (ack t f stamps v out u said) e some) (moves_then e)
 
 pub delivery_moves : DeliveryMoves
 delivery_moves t f stamps v u w out n now word said r probe in_reach last = by (stands t f stamps v out u said w n r probe)
   where
     by : Stands w out n → Moved v u w out n now word
     by (FinAlone fin none at) =
-        let c : CountsIt w (processed w now word out.ip out.segment) = fin_counts v w n r now word out.ip out.segment (bit t f stamps v out u said) (ack t f stamps v out u said) fin none at in
+        let c : CountsIt w (processed w now word out.ip out.segment) = fin_counts w (next_ack v) (faces t f stamps v u w out n now word said r in_reach) now word out.ip out.segment (bit t f stamps v out u said) (ack t f stamps v out u said) fin none at in
         CountsFin c.fin c.next
     by (WithBytes before some small at) = with_bytes t f stamps v u w out n now word said r in_reach before some small waits
       where

@@ -32,9 +32,6 @@ use Rattle.sock_tcp.specs.declared.verdict.Verdict.TheVariants as verdicts
 use Rattle.sock_tcp.specs.declared.window.Cut.{Cut}
 use Rattle.sock_tcp.specs.declared.window.Window.{Window}
 use Rattle.tcp_laws.proofs.Frames.{brought, bytes_keep, heard_keeps, table_keeps}
-use Rattle.tcp_laws.proofs.OrderedCalls.{reached_ordered}
-use Rattle.tcp_laws.proofs.SocketSteps.{holds_after}
-use Rattle.progress_laws.specs.Delivery.{HearsOf}
 use Rattle.progress_laws.proofs.Begins.{not_zero}
 use Rattle.progress_laws.proofs.Edges.{empty_inside_so, is_earlier, is_not_before, same_seq}
 use Rattle.progress_laws.proofs.Spoken.{IsSaid}
@@ -106,6 +103,7 @@ passes_so v c k n d e small short there within = verdict_is c d v.state e k v.lo
 -- ---- what is heard leaves alone
 
 pub record HeardSo (u : View) (a : Acked) (s : Segment) (x : View) : Type 0 where
+  pub state : x.state ≡ u.state
   pub fin : x.rx_fin_received ≡ u.rx_fin_received
   pub rcv : x.remote_seq_no ≡ u.remote_seq_no
   pub rx : x.rx_buffer ≡ u.rx_buffer
@@ -123,11 +121,11 @@ heard_so u now a s = by s.ack_number
     changed = is_window_changed u s.control s.window_len
 
     either : (b : Bool) (k : TcpSeqNumber) → HeardSo u a s (timer_set (timestamp_taken (ack_heard b x now k a.len) s.timestamp) now a)
-    either true k = record { fin = refl; rcv = refl; rx = refl; tx = refl; window = refl }
-    either false k = record { fin = refl; rcv = refl; rx = refl; tx = refl; window = refl }
+    either true k = record { state = refl; fin = refl; rcv = refl; rx = refl; tx = refl; window = refl }
+    either false k = record { state = refl; fin = refl; rcv = refl; rx = refl; tx = refl; window = refl }
 
     by : (o : Option TcpSeqNumber) → HeardSo u a s (timer_set (timestamp_taken (acknowledged x o now a.len (length s.payload) changed) s.timestamp) now a)
-    by None = record { fin = refl; rcv = refl; rx = refl; tx = refl; window = refl }
+    by None = record { state = refl; fin = refl; rcv = refl; rx = refl; tx = refl; window = refl }
     by (Some k) = either (is_duplicate x k (length s.payload) changed) k
 
 -- ---- what a cut takes
@@ -221,14 +219,27 @@ longer old new ys j some = let e = ap (λ (l : List ℕ). length l) j.queue in o
 brings : (b : Received) (bs : List ℕ) → 0 < length bs → JoinsAtOnce b (brought b 0 bs) bs
 brings b bs some = subst (λ (z : Bool). JoinsAtOnce b (if z then b else taken_in b 0 bs) bs) (sym (not_zero (length bs) some)) (joins_all_at_once b bs)
 
--- the peer's FIN is counted, and nothing else joins
+-- w takes bytes, and k acknowledges so many of the places behind its SND.UNA
+pub record Faces (w : View) (k : TcpSeqNumber) : Type 0 where
+  pub receives : receives w.state ≡ true
+  pub una_small : w.local_seq_no.0 < 2 ^ 32
+  pub short : length w.tx_buffer.bytes ≤ 2 ^ 30
+  pub heard : ℕ
+  pub heard_within : heard ≤ length w.tx_buffer.bytes + fin_place w.state
+  pub back : k.0 ≡ (seq_add w.local_seq_no heard).0
+  pub room : length w.rx_buffer.held ≤ 2 ^ 30
+
+-- the peer's FIN is counted, without an answer, and nothing else joins
 pub record CountsIt (w : View) (o : Outcome) : Type 0 where
+  pub reply : o.reply ≡ None
+  pub state : receives o.view.state ≡ false
+  pub rx : o.view.rx_buffer ≡ w.rx_buffer
   pub fin : o.view.rx_fin_received ≡ true
   pub next : next_ack o.view ≡ seq_add (next_ack w) 1
 
 -- ---- the segment
 
-module _ (v w : View) (n : ℕ) (r : HearsOf v w n) (now : Instant) (word : ℕ) (ip : IpRepr) (s : Segment) (bit : IsSaid s.control) (ack : s.ack_number ≡ Some (next_ack v)) where
+module _ (w : View) (k : TcpSeqNumber) (r : Faces w k) (now : Instant) (word : ℕ) (ip : IpRepr) (s : Segment) (bit : IsSaid s.control) (ack : s.ack_number ≡ Some k) where
   abbrev cut : Cut
   cut = cut_of (receive_window w) s.seq_number (length s.payload)
 
@@ -247,24 +258,19 @@ module _ (v w : View) (n : ℕ) (r : HearsOf v w n) (now : Instant) (word : ℕ)
   abbrev row : TcpControl → Advance
   row c = advance_in w.state c a.fin x now (tuple_of ip s) word a.len s
 
-  room : length w.rx_buffer.held ≤ 2 ^ 30
-  room = let q = r.reached in omega (arith, (holds_after q.rx q.tx w q.counts q.rx_size q.run).room)
-
   pub wide : seq_sub (receive_window w).end (receive_window w).start ≤ 2 ^ 30
-  wide = omega (arith, window_width w room, room)
+  wide = omega (arith, window_width w r.room, r.room)
 
   open_state : is_synchronized w.state ≡ true
   open_state = receives_so w.state r.receives
 
   passes : verdict_of w s.control s.ack_number ≡ verdicts.Pass
-  passes =
-      let o = reached_ordered w r.reached in
-      ap (λ q. verdict_of w s.control q) ack ∙ passes_so w s.control (next_ack v) r.heard bit open_state o.una_small (omega (arith, o.room)) (ap (λ (m : TcpSeqNumber). m.0) r.back) r.heard_within
+  passes = ap (λ q. verdict_of w s.control q) ack ∙ passes_so w s.control k r.heard bit open_state r.una_small r.short r.back r.heard_within
 
   has : has_window w.state ≡ true
   has = synchronized_has w.state open_state
 
-  in_window : is_inside (receive_window w) s.seq_number (length s.payload) ≡ true → processed w now word ip s ≡ after_table (row c) now a cut.offset bs s
+  pub in_window : is_inside (receive_window w) s.seq_number (length s.payload) ≡ true → processed w now word ip s ≡ after_table (row c) now a cut.offset bs s
   unfolding processed processed_inside advanced
   in_window i = rw (passes, has, i) refl
 
@@ -321,9 +327,12 @@ module _ (v w : View) (n : ℕ) (r : HearsOf v w n) (now : Instant) (word : ℕ)
     none : length bs ≡ 0
     none = omega (arith, length-cut cut s.payload, empty)
 
-    after_fin : (y : View) → y.rx_fin_received ≡ true → y.remote_seq_no ≡ seq_add w.remote_seq_no 1 → y.rx_buffer ≡ w.rx_buffer → CountsIt w (bytes_taken (heard y now a s) now cut.offset bs s)
+    after_fin : (y : View) → receives y.state ≡ false → y.rx_fin_received ≡ true → y.remote_seq_no ≡ seq_add w.remote_seq_no 1 → y.rx_buffer ≡ w.rx_buffer → CountsIt w (bytes_taken (heard y now a s) now cut.offset bs s)
     unfolding bytes_taken
-    after_fin y f q b = subst (CountsIt w) (sym (stops (heard y now a s))) (record {
+    after_fin y st f q b = subst (CountsIt w) (sym (stops (heard y now a s))) (record {
+      reply = refl;
+      state = ap receives h.state ∙ st;
+      rx = h.rx ∙ b;
       fin = h.fin ∙ f;
       next = same_seq (next_ack (heard y now a s)) (seq_add (next_ack w) 1) (omega (arith, ap (λ (m : TcpSeqNumber). m.0) (h.rcv ∙ q), ap (λ (d : Received). length d.bytes) (h.rx ∙ b)));
     })
@@ -336,10 +345,10 @@ module _ (v w : View) (n : ℕ) (r : HearsOf v w n) (now : Instant) (word : ℕ)
 
     rows : (st : State) (acked : Bool) → receives st ≡ true → CountsIt w (after_table (advance_in st control.Fin acked x now (tuple_of ip s) word a.len s) now a cut.offset bs s)
     unfolding fin_counted
-    rows state.Established acked e = after_fin (fin_counted state.CloseWait x) refl refl refl
-    rows state.FinWait1 true e = after_fin (waiting now (fin_counted state.TimeWait x)) refl refl refl
-    rows state.FinWait1 false e = after_fin (fin_counted state.Closing x) refl refl refl
-    rows state.FinWait2 acked e = after_fin (waiting now (fin_counted state.TimeWait x)) refl refl refl
+    rows state.Established acked e = after_fin (fin_counted state.CloseWait x) refl refl refl refl
+    rows state.FinWait1 true e = after_fin (waiting now (fin_counted state.TimeWait x)) refl refl refl refl
+    rows state.FinWait1 false e = after_fin (fin_counted state.Closing x) refl refl refl refl
+    rows state.FinWait2 acked e = after_fin (waiting now (fin_counted state.TimeWait x)) refl refl refl refl
     rows _ acked e = absurd cc
 
     pub fin_counts : CountsIt w (processed w now word ip s)

@@ -115,11 +115,20 @@ timer_no_end (timer.Idle at) x now is e = ap (λ t. is_close_over t now) is ∙ 
 timer_no_end (timer.ZeroWindowProbe at delay) x now is e = ap (λ t. is_close_over t now) is ∙ e
 timer_no_end (timer.Close at) x now is e = ap (λ t. is_close_over t now) is ∙ e
 
-not_paused : (st : State) (b : Bool) → carries_data st ≡ true → is_paused st b ≡ false
+-- a SYN|ACK alone may be paused
+abbrev pub never_pauses : State → Bool
+never_pauses state.SynReceived = false
+never_pauses st = true
+
+pub carries_runs : (st : State) → carries_data st ≡ true → never_pauses st ≡ true
+carries_runs state.SynReceived c = absurd cc
+carries_runs _ c = refl
+
+not_paused : (st : State) (b : Bool) → never_pauses st ≡ true → is_paused st b ≡ false
 not_paused state.SynReceived b c = absurd cc
 not_paused _ b c = refl
 
-module _ (v : View) (t : Tuple) (f : Facts) (stamps : Bool) (h : GoesOn v t f) (c : carries_data v.state ≡ true) where
+module _ (v : View) (t : Tuple) (f : Facts) (stamps : Bool) (h : GoesOn v t f) (c : never_pauses v.state ≡ true) where
   abbrev now : Instant
   now = moment_of f
 
@@ -140,7 +149,7 @@ module _ (v : View) (t : Tuple) (f : Facts) (stamps : Bool) (h : GoesOn v t f) (
       alive = ap (λ d. is_reached (timeout_poll d x.remote_last_ts) now) still.timeout ∙ h.alive
 
   goes_on : is_paused beginning.state beginning.synack_paused ≡ false
-  goes_on = not_paused beginning.state beginning.synack_paused (ap carries_data (timer_state v.timer x now ∙ still.state) ∙ c)
+  goes_on = not_paused beginning.state beginning.synack_paused (ap never_pauses (timer_state v.timer x now ∙ still.state) ∙ c)
 
   not_waiting : (y : View) → is_paused y.state y.synack_paused ≡ false → unless_paused y t ≡ record { view = y; peer = Some t }
   not_waiting y e = rw e refl
@@ -202,6 +211,11 @@ segment_for u p stamp bytes = with_data u bytes (plain_segment u p stamp)
 pub content_is : (u : View) (p : Tuple) (f : Facts) (stamp : Option ℕ) (bytes : List ℕ) → carries_data u.state ≡ true → content u p f stamp bytes ≡ Some (sent_as u p (emission_kind u (moment_of f) (segment_for u p stamp bytes)) (segment_for u p stamp bytes))
 unfolding content
 content_is u p f stamp bytes c = ap (option_map (λ s. sent_as u p (emission_kind u (moment_of f) s) s)) (carries u.state u p f bytes (plain_segment u p stamp) c)
+
+-- and where it has no bytes to send any more
+pub content_waiting : (u : View) (p : Tuple) (f : Facts) (stamp : Option ℕ) (bytes : List ℕ) → u.state ≡ state.FinWait2 → segment_for u p stamp bytes ≡ plain_segment u p stamp → content u p f stamp bytes ≡ Some (sent_as u p (emission_kind u (moment_of f) (segment_for u p stamp bytes)) (segment_for u p stamp bytes))
+unfolding content
+content_waiting u p f stamp bytes e same = ap (λ st. option_map (λ s. sent_as u p (emission_kind u (moment_of f) s) s) (filled st u p f bytes (plain_segment u p stamp))) e ∙ ap (λ s. Some (sent_as u p (emission_kind u (moment_of f) s) s)) (sym same)
 
 -- its control bit is FIN, or takes no number
 fin_or_plain : (u : View) (n : ℕ) → (is_plain (data_control u n) ≡ true) ⊎ (control_len (data_control u n) ≡ 1)

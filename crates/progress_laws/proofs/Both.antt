@@ -16,10 +16,10 @@ use Rattle.sock_tcp.specs.Content.{Sending}
 use Rattle.sock_tcp.specs.Due.{window_field}
 use Rattle.sock_tcp.specs.Process.{Outcome, processed}
 use Rattle.sock_tcp.specs.Queue.{Queue}
-use Rattle.sock_tcp.specs.Queues.{read_off}
+use Rattle.sock_tcp.specs.Queues.{may_send, read_off, receives}
 use Rattle.sock_tcp.specs.Replies.{ack_kept, ack_segment, reply_ip}
 use Rattle.sock_tcp.specs.Steps.{scale_of}
-use Rattle.sock_tcp.specs.Timers.{after as moment_after, idle_from}
+use Rattle.sock_tcp.specs.Timers.{idle_from}
 use Rattle.sock_tcp.specs.View.{View}
 use Rattle.sock_tcp.specs.Window.{next_ack, receive_window}
 use Rattle.sock_tcp.specs.declared.tuple.Tuple.{Tuple}
@@ -32,29 +32,30 @@ use Rattle.progress_laws.specs.InStep.{Carries, ForAnswer, ForKeepAlive, ForNoth
 use Rattle.progress_laws.proofs.Begins.{some_or_none, step_reached}
 use Rattle.progress_laws.proofs.Edges.{same_seq}
 use Rattle.progress_laws.proofs.Hears.{HeardAs, IsOpenTimer}
-use Rattle.progress_laws.proofs.Learns.{Learnt, learnt, not_listening}
+use Rattle.progress_laws.proofs.Learns.{Learnt, idle_rests, learnt}
 use Rattle.progress_laws.proofs.Receives.{told_window, unit, unit_some}
 use Rattle.progress_laws.proofs.Rounds.{cut_and_rest}
 use Rattle.progress_laws.proofs.Speaks.{SpeaksPlain}
-use Rattle.progress_laws.proofs.Takes.{IsCaughtUp, Took, fresh_bytes, old_answered, takes, took, took_bytes, took_reached, took_so, width_kept}
+use Rattle.progress_laws.proofs.States.{is_flat, not_listening, sends_flat}
+use Rattle.progress_laws.proofs.Takes.{IsCaughtUp, Took, fresh_bytes, old_answered, takes, took, took_bytes, took_reached, took_rests, took_so, width_kept}
 use Rattle.progress_laws.proofs.Taking.{blank, read_out}
 
 -- ---- what a side tells
 
-wide_so : (y : View) (room : ℕ) → y.rx_buffer.held ≡ blank room → length y.rx_buffer.held ≡ room
+pub wide_so : (y : View) (room : ℕ) → y.rx_buffer.held ≡ blank room → length y.rx_buffer.held ≡ room
 wide_so y room held = ap (λ (l : List (Option ℕ)). length l) held ∙ length-replicate room None
 
-room_small : (y : View) (room : ℕ) → y.rx_buffer.held ≡ blank room → IsReached y → room ≤ 2 ^ 30
+pub room_small : (y : View) (room : ℕ) → y.rx_buffer.held ≡ blank room → IsReached y → room ≤ 2 ^ 30
 room_small y room held r = omega (arith, wide_so y room held, (holds_after r.rx r.tx y r.counts r.rx_size r.run).room)
 
-told_some : (y : View) (room : ℕ) → y.rx_buffer.held ≡ blank room → 2 ^ y.remote_win_shift ≤ room → 0 < window_told y
+pub told_some : (y : View) (room : ℕ) → y.rx_buffer.held ≡ blank room → 2 ^ y.remote_win_shift ≤ room → 0 < window_told y
 told_some y room held at_least = unit_some (length y.rx_buffer.held) y.remote_win_shift (subst (λ n. 2 ^ y.remote_win_shift ≤ n) (sym (wide_so y room held)) at_least)
 
 told_alike : (v y : View) → y.rx_buffer ≡ v.rx_buffer → y.remote_win_shift ≡ v.remote_win_shift → window_told y ≡ window_told v
 told_alike v y rx shift = (λ i. unit (length ((rx i).held)) (shift i))
 
 -- the receive window of y is what v, with the same buffer, told
-width_told : (v y : View) (room : ℕ) → v.rx_buffer.held ≡ blank room → room ≤ 2 ^ 30 → y.rx_buffer ≡ v.rx_buffer → y.remote_seq_no ≡ v.remote_seq_no → y.remote_win_shift ≡ v.remote_win_shift → y.remote_last_ack ≡ Some (next_ack v) → y.remote_last_win ≡ window_field v → seq_sub (receive_window y).end (receive_window y).start ≡ window_told v
+pub width_told : (v y : View) (room : ℕ) → v.rx_buffer.held ≡ blank room → room ≤ 2 ^ 30 → y.rx_buffer ≡ v.rx_buffer → y.remote_seq_no ≡ v.remote_seq_no → y.remote_win_shift ≡ v.remote_win_shift → y.remote_last_ack ≡ Some (next_ack v) → y.remote_last_win ≡ window_field v → seq_sub (receive_window y).end (receive_window y).start ≡ window_told v
 width_told v y room held narrow rx rcv shift ack win =
     told_window y room (ap (λ (b : Received). b.held) rx ∙ held) narrow (ack ∙ (λ i. Some (seq_add (sym rcv i) (length ((sym rx i).bytes))))) (win ∙ (λ i. min (wide_so v room held i / 2 ^ sym shift i) 65535))
     ∙ (λ i. unit (sym (wide_so v room held) i) (shift i))
@@ -71,11 +72,6 @@ kept_rests v (ForKeepAlive at idle nxt) = ForKeepAlive at idle nxt
 kept_rests v (ForNothing idle nxt some) = ForNothing idle nxt some
 kept_rests v (ForAnswer at again) = ForAnswer at again
 kept_rests v (ForProbe at delay probes nxt some) = ForProbe at delay probes nxt some
-
--- with an idle timer and nothing in flight
-idle_rests : (v : View) (now : Instant) (keep : Option Duration) → v.timer ≡ idle_from now keep → v.remote_last_seq ≡ v.local_seq_no → 0 < v.remote_win_len → Rests v
-idle_rests v now None idle nxt some = ForNothing idle nxt some
-idle_rests v now (Some d) idle nxt some = ForKeepAlive (moment_after now d) idle nxt
 
 -- ---- one step further
 
@@ -139,7 +135,8 @@ module _ (d e : Option Duration) (t s : Tuple) (f : Facts) (at now : Instant) (s
   caught =
       let o = reached_ordered w ws.reached in
       record {
-        state = ws.state;
+        state = ap is_flat i.across.established;
+        takes = ap receives i.across.established;
         una_small = o.una_small;
         short = omega (arith, o.room);
         there = i.back.there;
@@ -161,7 +158,8 @@ module _ (d e : Option Duration) (t s : Tuple) (f : Facts) (at now : Instant) (s
   side_then =
       let k = p.bytes.speaks.waits in
       record {
-        sender = record { reached = k.reached; state = k.state ∙ vs.state; peer = k.peer ∙ vs.peer; no_timeout = k.timeout ∙ vs.no_timeout; keep_alive = k.keep_alive ∙ vs.keep_alive; nothing_marked = k.nothing_marked; rests = ForAnswer p.at p.timer };
+        sender = record { reached = k.reached; state = ap may_send k.state ∙ vs.state; peer = k.peer ∙ vs.peer; no_timeout = k.timeout ∙ vs.no_timeout; keep_alive = k.keep_alive ∙ vs.keep_alive; nothing_marked = k.nothing_marked; rests = ForAnswer p.at p.timer };
+        established = k.state ∙ i.here.established;
         read = ap (λ (b : Received). b.bytes) k.rx ∙ i.here.read;
         room = i.here.room;
         nothing_held = ap (λ (b : Received). b.held) k.rx ∙ i.here.nothing_held;
@@ -201,7 +199,7 @@ module _ (d e : Option Duration) (t s : Tuple) (f : Facts) (at now : Instant) (s
 
     l : Learnt v x now ip g (next_ack w) n
     unfolding ack_segment
-    l = learnt v x now ip g (next_ack w) n vs.state p.bytes.speaks.waits tt g_number refl refl told_back_some i.over.taken_within i.over.there near
+    l = learnt v x now ip g (next_ack w) n (sends_flat v.state vs.state) p.bytes.speaks.waits tt g_number refl refl told_back_some i.over.taken_within i.over.there near
 
     answered : Further d e t s f at v w got i
     unfolding ack_kept ack_segment
@@ -216,13 +214,14 @@ module _ (d e : Option Duration) (t s : Tuple) (f : Facts) (at now : Instant) (s
             here = record {
               sender = record {
                 reached = l.reached;
-                state = h.state ∙ side_then.sender.state;
+                state = ap may_send h.state ∙ side_then.sender.state;
                 peer = h.peer ∙ side_then.sender.peer;
                 no_timeout = h.timeout ∙ side_then.sender.no_timeout;
                 keep_alive = h.keep_alive ∙ side_then.sender.keep_alive;
                 nothing_marked = h.marked ∙ side_then.sender.nothing_marked;
                 rests = idle_rests y now d (l.timer ∙ ap (idle_from now) side_then.sender.keep_alive) l.nothing_in_flight l.window;
               };
+              established = h.state ∙ side_then.established;
               read = ap (λ (b : Received). b.bytes) h.rx ∙ side_then.read;
               room = i.here.room;
               nothing_held = ap (λ (b : Received). b.held) (h.rx ∙ p.bytes.speaks.waits.rx) ∙ i.here.nothing_held;
@@ -230,6 +229,7 @@ module _ (d e : Option Duration) (t s : Tuple) (f : Facts) (at now : Instant) (s
             };
             across = record {
               sender = record { reached = reached; state = ws.state; peer = ws.peer; no_timeout = ws.no_timeout; keep_alive = ws.keep_alive; nothing_marked = ws.nothing_marked; rests = kept_rests w ws.rests };
+              established = i.across.established;
               read = i.across.read;
               room = i.across.room;
               nothing_held = i.across.nothing_held;
@@ -280,7 +280,7 @@ module _ (d e : Option Duration) (t s : Tuple) (f : Facts) (at now : Instant) (s
         window_is = h.window ∙ ap (λ o. window_field w * 2 ^ scale_of o) p.bytes.speaks.waits.scale ∙ told_back
 
         reached : IsReached (ack_kept w)
-        reached = step_reached w (ack_kept w) (after_segment ws.reached.counts w (ack_kept w)) ws.reached (Process now 0 out.ip out.segment (omega arith) numbered p.short (λ l. absurd (not_listening w.state ws.state l)) (sym (ap (λ (o : Outcome). o.view) answer)) refl)
+        reached = step_reached w (ack_kept w) (after_segment ws.reached.counts w (ack_kept w)) ws.reached (Process now 0 out.ip out.segment (omega arith) numbered p.short (λ l. absurd (not_listening w.state (sends_flat w.state ws.state) l)) (sym (ap (λ (o : Outcome). o.view) answer)) refl)
           where
             numbered : IsNumbered out.segment
             numbered = record { seq_number = omega (arith, number_is, v_small); ack_number = λ m e. subst (λ (q : TcpSeqNumber). q.0 < 2 ^ 32) (same_Some (next_ack v) m (sym p.bytes.speaks.ack ∙ e)) (omega arith) }
@@ -328,7 +328,10 @@ module _ (d e : Option Duration) (t s : Tuple) (f : Facts) (at now : Instant) (s
     bytes = took_bytes w (next_ack v) i.back.taken i.across.room now out.ip out.segment caught p.bytes.speaks.bit p.bytes.speaks.ack n m skips close long some fits past
 
     k : Took w (next_ack v) i.back.taken i.across.room m (out.segment.window_len * 2 ^ scale_of w.remote_win_scale) now w2
-    k = took_so w (next_ack v) i.back.taken i.across.room now out.ip out.segment caught p.bytes.speaks.bit p.bytes.speaks.ack n m skips close long some fits past told_there
+    k = took_so w (next_ack v) i.back.taken i.across.room now out.ip out.segment caught p.bytes.speaks.bit p.bytes.speaks.ack n m skips close long some fits past
+
+    rests_then : w2.timer ≡ idle_from now w.keep_alive
+    rests_then = took_rests w (next_ack v) i.back.taken i.across.room now out.ip out.segment caught p.bytes.speaks.bit p.bytes.speaks.ack n m skips close long some fits past told_there
 
     reached : IsReached w2
     reached = took_reached w (next_ack v) i.back.taken i.across.room now out.ip out.segment caught p.bytes.speaks.bit p.bytes.speaks.ack n m skips close long some fits past ws.reached (omega (arith, number_is, v_small)) p.short
@@ -357,7 +360,8 @@ module _ (d e : Option Duration) (t s : Tuple) (f : Facts) (at now : Instant) (s
       in_step = record {
         here = side_then;
         across = record {
-          sender = record { reached = reached; state = k.state ∙ ws.state; peer = k.peer ∙ ws.peer; no_timeout = k.timeout ∙ ws.no_timeout; keep_alive = k.keep_alive ∙ ws.keep_alive; nothing_marked = k.marked ∙ ws.nothing_marked; rests = idle_rests w2 now e (k.timer ∙ ap (idle_from now) ws.keep_alive) (k.nxt ∙ sym k.una) (subst (λ q. 0 < q) (sym k.window) told_there) };
+          sender = record { reached = reached; state = ap may_send k.state ∙ ws.state; peer = k.peer ∙ ws.peer; no_timeout = k.timeout ∙ ws.no_timeout; keep_alive = k.keep_alive ∙ ws.keep_alive; nothing_marked = k.marked ∙ ws.nothing_marked; rests = idle_rests w2 now e (rests_then ∙ ap (idle_from now) ws.keep_alive) (k.nxt ∙ sym k.una) (subst (λ q. 0 < q) (sym k.window) told_there) };
+          established = k.state ∙ i.across.established;
           read = k.read;
           room = i.across.room;
           nothing_held = k.held;

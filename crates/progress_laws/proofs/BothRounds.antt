@@ -101,7 +101,7 @@ round_about d e t s v w i z = record { here = i.across; across = i.here; over = 
     o = reached_ordered v i.here.sender.reached
 
     none : flight v ≤ length v.tx_buffer.bytes
-    none = (subst (λ st. Row st v.timer v.keep_alive (flight v) (length v.tx_buffer.bytes)) i.here.sender.state o.row).1
+    none = (subst (λ st. Row st v.timer v.keep_alive (flight v) (length v.tx_buffer.bytes)) i.here.established o.row).1
 
     all : v.remote_last_seq ≡ next_ack w
     all = same_seq v.remote_last_seq (next_ack w) (omega (arith, none, z, i.over.taken_within, ap (λ (m : TcpSeqNumber). m.0) i.over.there, o.una_small, o.nxt_small))

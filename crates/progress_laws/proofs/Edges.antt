@@ -37,6 +37,19 @@ pub later_stays : (x y : TcpSeqNumber) → is_before x y ≡ false → later_of 
 unfolding later_of
 later_stays x y e = rw e refl
 
+-- what is not before a number is later, or the same
+pub later_all : (x y : TcpSeqNumber) → is_not_after x y ≡ true → later_of x y ≡ y
+unfolding is_not_after
+later_all x y e = go (is_before x y) refl
+  where
+    same : (b : Bool) → b ≡ false → (b || seq_eq x y) ≡ true → x ≡ y
+    same true f h = absurd cc
+    same false f h = same_seq x y (eqb-true x.0 y.0 h)
+
+    go : (b : Bool) → is_before x y ≡ b → later_of x y ≡ y
+    go true b = later_is x y b
+    go false b = later_stays x y b ∙ same (is_before x y) b e
+
 differs : (x y : TcpSeqNumber) → (x.0 ≡ y.0 → ⊥) → seq_eq x y ≡ false
 differs x y n = go (seq_eq x y) refl
   where

@@ -1,5 +1,5 @@
--- What a socket in ESTABLISHED makes of a segment in order.
-use Rattle.std.proofs.Common.{◌≡◌, ℕ, ◌+◌, ◌*◌, ◌<◌, ◌≤◌, ◌^◌, Bool, true, false, refl, sym, ap, subst, ◌∙◌, length, Option, Some, None, arith, length-drop}
+-- What a socket in ESTABLISHED, CLOSE-WAIT or FIN-WAIT-2 makes of a segment in order.
+use Rattle.std.proofs.Common.{◌≡◌, ℕ, ◌+◌, ◌-◌, ◌*◌, ◌<◌, ◌≤◌, ◌^◌, ◌⊎◌, inl, inr, Bool, true, false, refl, sym, ap, subst, ◌∙◌, length, Option, Some, None, arith, length-drop}
 use Rattle.std.specs.Prelude.{if◌then◌else◌, ◌==◌}
 use Rattle.net_base.specs.declared.time.Duration.{Duration}
 use Rattle.net_base.specs.declared.time.Instant.{Instant}
@@ -11,16 +11,17 @@ use Rattle.control_wire.specs.declared.tcp.TcpControl.{TcpControl}
 use Rattle.control_wire.specs.declared.tcp.TcpControl.TheVariants as control
 use Rattle.sock_core.specs.Seq.{is_before, is_not_after, later_of}
 use Rattle.sock_tcp.proofs.Windows.{length-cut}
-use Rattle.sock_tcp.specs.Acked.{acked_at, acked_of}
+use Rattle.sock_tcp.specs.Acked.{acked_at, acked_of, acked_places, syn_place}
 use Rattle.sock_tcp.specs.Advance.{advanced, counted_control}
-use Rattle.sock_tcp.specs.Process.{stopped, ack_sent, close_restarted, timer_restarted, outside_by, outside, bytes_taken, processed_inside, has_window, processed}
+use Rattle.sock_tcp.specs.Process.{stopped, ack_sent, close_restarted, tuple_of, outside_by, outside, bytes_taken, processed_inside, has_window, processed}
 use Rattle.sock_tcp.specs.Queue.{shortened}
-use Rattle.sock_tcp.specs.Steps.{scale_of, window_of, window_taken, released, is_duplicate, is_last_ack, is_window_changed, ack_heard, ack_counted, una_advanced, acknowledged, timestamp_taken, timer_set, timer_acked, probe_ended, probe_set, begins_probe, heard}
-use Rattle.sock_tcp.specs.Timers.{after, idle_from, probe_from}
+use Rattle.sock_tcp.specs.Steps.{duplicate_counted, retransmission_acked, scale_of, window_of, window_taken, released, is_duplicate, is_last_ack, is_window_changed, ack_heard, ack_counted, una_advanced, acknowledged, timestamp_taken, timer_set, timer_acked, probe_ended, probe_set, begins_probe, heard}
+use Rattle.sock_tcp.specs.Timers.{after, idle_from, probe_from, retransmit_from, rto_of}
 use Rattle.sock_tcp.specs.Verdict.{verdict_at, verdict_of}
 use Rattle.sock_tcp.specs.View.{View}
 use Rattle.sock_tcp.specs.Window.{receive_window, is_inside, cut_of, cut_bytes}
 use Rattle.sock_tcp.specs.declared.acked.Acked.{Acked}
+use Rattle.sock_tcp.specs.declared.state.State.{State}
 use Rattle.sock_tcp.specs.declared.state.State.TheVariants as state
 use Rattle.sock_tcp.specs.declared.timer.Timer.{Timer}
 use Rattle.sock_tcp.specs.declared.timer.Timer.TheVariants as timer
@@ -29,6 +30,7 @@ use Rattle.sock_tcp.specs.declared.window.Cut.{Cut}
 use Rattle.sock_tcp.specs.declared.window.Window.{Window}
 use Rattle.progress_laws.proofs.Begins.{and_no, not_zero}
 use Rattle.progress_laws.proofs.Edges.{is_not_before}
+use Rattle.progress_laws.proofs.States.{flat_goes_on, flat_has, flat_timer, is_flat}
 
 -- ---- control None or PSH
 
@@ -37,9 +39,9 @@ IsData control.None = Unit {0}
 IsData control.Psh = Unit {0}
 IsData c = ⊥
 
-passes : (c : TcpControl) (k una : TcpSeqNumber) (n : ℕ) → IsData c → k.0 < 2 ^ 32 → una.0 < 2 ^ 32 → seq_sub k una ≤ n → n ≤ 2 ^ 30 → verdict_at state.Established c (Some k) una n ≡ verdicts.Pass
+passes : (st : State) → is_flat st ≡ true → (c : TcpControl) (k una : TcpSeqNumber) (n : ℕ) → IsData c → k.0 < 2 ^ 32 → una.0 < 2 ^ 32 → seq_sub k una ≤ n → n ≤ 2 ^ 30 → verdict_at st c (Some k) una n ≡ verdicts.Pass
 unfolding verdict_at
-passes c k una n d hk hu within short = by c d
+passes st flat c k una n d hk hu within short = by c d
   where
     low : is_before k una ≡ false
     low = is_not_before k una (omega (arith, within, short))
@@ -47,16 +49,37 @@ passes c k una n d hk hu within short = by c d
     high : is_before (seq_add una (n + 0)) k ≡ false
     high = is_not_before (seq_add una (n + 0)) k (omega (arith, hk, hu, within, short))
 
-    by : (c : TcpControl) → IsData c → verdict_at state.Established c (Some k) una n ≡ verdicts.Pass
-    by control.None d = rw (low, high) refl
-    by control.Psh d = rw (low, high) refl
+    none : (st : State) → is_flat st ≡ true → verdict_at st control.None (Some k) una n ≡ verdicts.Pass
+    none state.Established e = rw (low, high) refl
+    none state.CloseWait e = rw (low, high) refl
+    none state.FinWait2 e = rw (low, high) refl
+    none _ e = absurd cc
+
+    psh : (st : State) → is_flat st ≡ true → verdict_at st control.Psh (Some k) una n ≡ verdicts.Pass
+    psh state.Established e = rw (low, high) refl
+    psh state.CloseWait e = rw (low, high) refl
+    psh state.FinWait2 e = rw (low, high) refl
+    psh _ e = absurd cc
+
+    by : (c : TcpControl) → IsData c → verdict_at st c (Some k) una n ≡ verdicts.Pass
+    by control.None d = none st flat
+    by control.Psh d = psh st flat
     by _ d = absurd d
 
-acks : (c : TcpControl) (k una nxt : TcpSeqNumber) (n : ℕ) → IsData c → acked_at state.Established c (Some k) una nxt n ≡ record { len = seq_sub k una; fin = false; all = is_not_after nxt k }
+acks : (st : State) → is_flat st ≡ true → (c : TcpControl) (k una nxt : TcpSeqNumber) (n : ℕ) → IsData c → acked_at st c (Some k) una nxt n ≡ record { len = seq_sub k una; fin = false; all = is_not_after nxt k }
 unfolding acked_at
-acks control.None k una nxt n d = ap (λ (m : ℕ). record { len = m; fin = false; all = is_not_after nxt k }) (omega arith)
-acks control.Psh k una nxt n d = ap (λ (m : ℕ). record { len = m; fin = false; all = is_not_after nxt k }) (omega arith)
-acks _ k una nxt n d = absurd d
+acks st flat c k una nxt n d = by c d
+  where
+    flatly : (st : State) → is_flat st ≡ true → acked_places st k nxt n (seq_sub k una - syn_place st) ≡ record { len = seq_sub k una; fin = false; all = is_not_after nxt k }
+    flatly state.Established e = ap (λ (m : ℕ). record { len = m; fin = false; all = is_not_after nxt k }) (omega arith)
+    flatly state.CloseWait e = ap (λ (m : ℕ). record { len = m; fin = false; all = is_not_after nxt k }) (omega arith)
+    flatly state.FinWait2 e = ap (λ (m : ℕ). record { len = m; fin = false; all = is_not_after nxt k }) (omega arith)
+    flatly _ e = absurd cc
+
+    by : (c : TcpControl) → IsData c → acked_at st c (Some k) una nxt n ≡ record { len = seq_sub k una; fin = false; all = is_not_after nxt k }
+    by control.None d = flatly st flat
+    by control.Psh d = flatly st flat
+    by _ d = absurd d
 
 counts : (c : TcpControl) (w : Window) (number : TcpSeqNumber) (n : ℕ) → IsData c → counted_control c w number n ≡ control.None
 unfolding counted_control
@@ -108,6 +131,42 @@ module _ (y : View) (now : Instant) (a : Acked) where
       by true = rw no_probe refl
       by false = idle_ends y.keep_alive
 
+-- it never becomes that of TIME-WAIT
+open_idle : (now : Instant) (keep : Option Duration) → IsOpenTimer (idle_from now keep)
+open_idle now None = tt
+open_idle now (Some d) = tt
+
+module _ (y : View) (now : Instant) (a : Acked) where
+  open_again : (t : Timer) → IsOpenTimer t → IsOpenTimer (retransmission_acked t y now a)
+  open_again t o = go a.all (a.len == 0)
+    where
+      go : (all none : Bool) → IsOpenTimer (if all then idle_from now y.keep_alive else (if none then t else retransmit_from now y.rtte))
+      go true none = open_idle now y.keep_alive
+      go false true = o
+      go false false = tt
+
+  open_acked : (t : Timer) → IsOpenTimer t → IsOpenTimer (timer_acked t y now a)
+  open_acked (timer.Idle at) o = open_idle now y.keep_alive
+  open_acked (timer.Retransmit at) o = open_again (timer.Retransmit at) tt
+  open_acked timer.FastRetransmit o = open_again timer.FastRetransmit tt
+  open_acked (timer.ZeroWindowProbe at delay) o = tt
+  open_acked (timer.Close at) o = absurd o
+
+  open_ended : (t : Timer) → IsOpenTimer t → IsOpenTimer (probe_ended t y now)
+  open_ended (timer.ZeroWindowProbe at delay) o = open_idle now y.keep_alive
+  open_ended (timer.Idle at) o = tt
+  open_ended (timer.Retransmit at) o = tt
+  open_ended timer.FastRetransmit o = tt
+  open_ended (timer.Close at) o = absurd o
+
+  open_set : (t : Timer) → IsOpenTimer t → IsOpenTimer (probe_set t y now a)
+  open_set t o = go (y.remote_win_len == 0) (begins_probe t y a)
+    where
+      go : (shut begins : Bool) → IsOpenTimer (if shut then (if begins then probe_from now y.rtte else t) else probe_ended t y now)
+      go true true = tt
+      go true false = o
+      go false begins = open_ended t o
+
 -- ---- what is heard of an acknowledgement of all that was sent
 
 -- x has of u all but what an acknowledgement of n bytes up to k, with this window, changes
@@ -128,6 +187,68 @@ pub record HeardAs (u : View) (k : TcpSeqNumber) (n win : ℕ) (x : View) : Type
   pub tx : x.tx_buffer ≡ shortened u.tx_buffer n
   pub window : x.remote_win_len ≡ win
 
+pub heard_as : (u : View) (now : Instant) (a : Acked) (s : Segment) (k : TcpSeqNumber) → s.ack_number ≡ Some k → IsData s.control → HeardAs u k a.len (s.window_len * 2 ^ scale_of u.remote_win_scale) (heard u now a s)
+unfolding heard acknowledged window_taken released duplicate_counted ack_counted una_advanced timestamp_taken timer_set
+heard_as u now a s k number bit = subst (λ o. HeardAs u k a.len (s.window_len * 2 ^ scale_of u.remote_win_scale) (timer_set (timestamp_taken (acknowledged x o now a.len (length s.payload) changed) s.timestamp) now a)) (sym number) (either (is_duplicate x k (length s.payload) changed))
+  where
+    x : View
+    x = released (window_taken u now s.control s.window_len) a.len
+
+    changed : Bool
+    changed = is_window_changed u s.control s.window_len
+
+    either : (b : Bool) → HeardAs u k a.len (s.window_len * 2 ^ scale_of u.remote_win_scale) (timer_set (timestamp_taken (ack_heard b x now k a.len) s.timestamp) now a)
+    either true = record { state = refl; peer = refl; timeout = refl; keep_alive = refl; scale = refl; shift = refl; rx = refl; rcv = refl; last_ack = refl; last_win = refl; marked = refl; una = refl; nxt = refl; tx = refl; window = scaled s.control s.window_len u.remote_win_scale bit }
+    either false = record { state = refl; peer = refl; timeout = refl; keep_alive = refl; scale = refl; shift = refl; rx = refl; rcv = refl; last_ack = refl; last_win = refl; marked = refl; una = refl; nxt = refl; tx = refl; window = scaled s.control s.window_len u.remote_win_scale bit }
+
+-- once something is acknowledged the timer of a retransmission is idle, or begins anew
+pub data ThenWaits (now : Instant) (keep : Option Duration) (all : Bool) (t : Timer) : Type 0 where
+  ForNone : all ≡ true → t ≡ idle_from now keep → ThenWaits now keep all t
+  ForRest : (at : Instant) → t ≡ timer.Retransmit at → ThenWaits now keep all t
+
+pub heard_waits : (u : View) (now : Instant) (a : Acked) (s : Segment) (k : TcpSeqNumber) (at : Instant) → s.ack_number ≡ Some k → IsData s.control → u.timer ≡ timer.Retransmit at → 0 < a.len → 0 < s.window_len * 2 ^ scale_of u.remote_win_scale → ThenWaits now u.keep_alive a.all (heard u now a s).timer
+unfolding heard acknowledged window_taken released duplicate_counted ack_counted una_advanced timestamp_taken timer_set
+heard_waits u now a s k at number bit waits some win = subst (λ o. ThenWaits now u.keep_alive a.all (timer_set (timestamp_taken (acknowledged x o now a.len (length s.payload) changed) s.timestamp) now a).timer) (sym number) (either (is_duplicate x k (length s.payload) changed))
+  where
+    x : View
+    x = released (window_taken u now s.control s.window_len) a.len
+
+    changed : Bool
+    changed = is_window_changed u s.control s.window_len
+
+    open_ : (window_of s.control s.window_len u.remote_win_scale == 0) ≡ false
+    open_ = not_zero (window_of s.control s.window_len u.remote_win_scale) (subst (λ n. 0 < n) (sym (scaled s.control s.window_len u.remote_win_scale bit)) win)
+
+    again : (t : Timer) (y : View) → y.keep_alive ≡ u.keep_alive → ThenWaits now u.keep_alive a.all (retransmission_acked t y now a)
+    again t y e = go a.all refl
+      where
+        go : (b : Bool) → a.all ≡ b → ThenWaits now u.keep_alive a.all (if b then idle_from now y.keep_alive else (if a.len == 0 then t else retransmit_from now y.rtte))
+        go true i = ForNone i (ap (idle_from now) e)
+        go false i = ForRest (after now (rto_of y.rtte)) (ap (λ b. if b then t else retransmit_from now y.rtte) (not_zero a.len some))
+
+    acked : (t : Timer) (y : View) → y.keep_alive ≡ u.keep_alive → (t ≡ timer.Retransmit at) ⊎ (t ≡ timer.FastRetransmit) → ThenWaits now u.keep_alive a.all (timer_acked t y now a)
+    acked t y e (inl i) = subst (λ t. ThenWaits now u.keep_alive a.all (timer_acked t y now a)) (sym i) (again (timer.Retransmit at) y e)
+    acked t y e (inr i) = subst (λ t. ThenWaits now u.keep_alive a.all (timer_acked t y now a)) (sym i) (again timer.FastRetransmit y e)
+
+    ends : (y : View) (t : Timer) → (y.remote_win_len == 0) ≡ false → ThenWaits now u.keep_alive a.all t → ThenWaits now u.keep_alive a.all (probe_set t y now a)
+    ends y t e (ForNone all is) = ForNone all (ap (λ b. if b then (if begins_probe t y a then probe_from now y.rtte else t) else probe_ended t y now) e ∙ idle is)
+      where
+        idle : t ≡ idle_from now u.keep_alive → probe_ended t y now ≡ idle_from now u.keep_alive
+        idle i = ap (λ z. probe_ended z y now) i ∙ kept u.keep_alive
+          where
+            kept : (keep : Option Duration) → probe_ended (idle_from now keep) y now ≡ idle_from now keep
+            kept None = refl
+            kept (Some d) = refl
+    ends y t e (ForRest at is) = ForRest at (ap (λ b. if b then (if begins_probe t y a then probe_from now y.rtte else t) else probe_ended t y now) e ∙ ap (λ z. probe_ended z y now) is)
+
+    fast : (c : Bool) → ((if c then timer.FastRetransmit else u.timer) ≡ timer.Retransmit at) ⊎ ((if c then timer.FastRetransmit else u.timer) ≡ timer.FastRetransmit)
+    fast true = inr refl
+    fast false = inl waits
+
+    either : (b : Bool) → ThenWaits now u.keep_alive a.all (timer_set (timestamp_taken (ack_heard b x now k a.len) s.timestamp) now a).timer
+    either true = ends (timestamp_taken (ack_heard true x now k a.len) s.timestamp) (timer_acked (if u.local_rx_dup_acks == 2 then timer.FastRetransmit else u.timer) (timestamp_taken (ack_heard true x now k a.len) s.timestamp) now a) open_ (acked (if u.local_rx_dup_acks == 2 then timer.FastRetransmit else u.timer) (timestamp_taken (ack_heard true x now k a.len) s.timestamp) refl (fast (u.local_rx_dup_acks == 2)))
+    either false = ends (timestamp_taken (ack_heard false x now k a.len) s.timestamp) (timer_acked u.timer (timestamp_taken (ack_heard false x now k a.len) s.timestamp) now a) open_ (acked u.timer (timestamp_taken (ack_heard false x now k a.len) s.timestamp) refl (inl waits))
+
 module _ (u : View) (now : Instant) (a : Acked) (s : Segment) (k : TcpSeqNumber) (number : s.ack_number ≡ Some k) (bit : IsData s.control) (last : is_before k u.remote_last_seq ≡ false) where
   abbrev x : View
   x = released (window_taken u now s.control s.window_len) a.len
@@ -145,29 +266,13 @@ module _ (u : View) (now : Instant) (a : Acked) (s : Segment) (k : TcpSeqNumber)
       no_duplicate : is_duplicate x k (length s.payload) changed ≡ false
       no_duplicate = rw last (and_no (is_last_ack x.local_rx_last_ack k))
 
-  pub heard_as : HeardAs u k a.len (s.window_len * 2 ^ scale_of u.remote_win_scale) (heard u now a s)
-  unfolding window_taken released timestamp_taken timer_set ack_counted una_advanced
-  heard_as = subst (HeardAs u k a.len (s.window_len * 2 ^ scale_of u.remote_win_scale)) (sym heard_is) (record {
-    state = refl;
-    peer = refl;
-    timeout = refl;
-    keep_alive = refl;
-    scale = refl;
-    shift = refl;
-    rx = refl;
-    rcv = refl;
-    last_ack = refl;
-    last_win = refl;
-    marked = refl;
-    una = refl;
-    nxt = refl;
-    tx = refl;
-    window = scaled s.control s.window_len u.remote_win_scale bit;
-  })
-
   pub heard_rests : IsOpenTimer u.timer → a.all ≡ true → 0 < s.window_len * 2 ^ scale_of u.remote_win_scale → (heard u now a s).timer ≡ idle_from now u.keep_alive
   unfolding window_taken released timestamp_taken timer_set ack_counted una_advanced
   heard_rests o all some = ap (λ (z : View). z.timer) heard_is ∙ rests y now a u.timer o (not_zero (window_of s.control s.window_len u.remote_win_scale) (subst (λ n. 0 < n) (sym (scaled s.control s.window_len u.remote_win_scale bit)) some)) all
+
+  pub heard_open : IsOpenTimer u.timer → IsOpenTimer (heard u now a s).timer
+  unfolding window_taken released timestamp_taken timer_set ack_counted una_advanced
+  heard_open o = subst IsOpenTimer (sym (ap (λ (z : View). z.timer) heard_is)) (open_set y now a (timer_acked u.timer y now a) (open_acked y now a u.timer o))
 
   pub heard_rests_empty : (o : Option Instant) → u.timer ≡ timer.Idle o → length u.tx_buffer.bytes ≡ 0 → (heard u now a s).timer ≡ idle_from now u.keep_alive
   unfolding window_taken released timestamp_taken timer_set ack_counted una_advanced
@@ -175,7 +280,7 @@ module _ (u : View) (now : Instant) (a : Acked) (s : Segment) (k : TcpSeqNumber)
 
 -- ---- a segment at the left edge
 
-module _ (v : View) (now : Instant) (word : ℕ) (ip : IpRepr) (s : Segment) (k : TcpSeqNumber) (established : v.state ≡ state.Established) (number : s.ack_number ≡ Some k) (bit : IsData s.control) where
+module _ (v : View) (now : Instant) (word : ℕ) (ip : IpRepr) (s : Segment) (k : TcpSeqNumber) (flat : is_flat v.state ≡ true) (number : s.ack_number ≡ Some k) (bit : IsData s.control) where
   abbrev pub seen : View
   seen = record v { local_rx_last_seq = Some s.seq_number }
 
@@ -183,22 +288,22 @@ module _ (v : View) (now : Instant) (word : ℕ) (ip : IpRepr) (s : Segment) (k 
   covered = record { len = seq_sub k v.local_seq_no; fin = false; all = is_not_after v.remote_last_seq k }
 
   covers : acked_of v s.control s.ack_number ≡ covered
-  covers = ap (λ st. acked_at st s.control s.ack_number v.local_seq_no v.remote_last_seq (length v.tx_buffer.bytes)) established ∙ ap (λ o. acked_at state.Established s.control o v.local_seq_no v.remote_last_seq (length v.tx_buffer.bytes)) number ∙ acks s.control k v.local_seq_no v.remote_last_seq (length v.tx_buffer.bytes) bit
+  covers = ap (λ o. acked_of v s.control o) number ∙ acks v.state flat s.control k v.local_seq_no v.remote_last_seq (length v.tx_buffer.bytes) bit
 
   passes_so : k.0 < 2 ^ 32 → v.local_seq_no.0 < 2 ^ 32 → seq_sub k v.local_seq_no ≤ length v.tx_buffer.bytes → length v.tx_buffer.bytes ≤ 2 ^ 30 → verdict_of v s.control s.ack_number ≡ verdicts.Pass
-  passes_so hk hu within short = ap (λ st. verdict_at st s.control s.ack_number v.local_seq_no (length v.tx_buffer.bytes)) established ∙ ap (λ o. verdict_at state.Established s.control o v.local_seq_no (length v.tx_buffer.bytes)) number ∙ passes s.control k v.local_seq_no (length v.tx_buffer.bytes) bit hk hu within short
+  passes_so hk hu within short = ap (λ o. verdict_of v s.control o) number ∙ passes v.state flat s.control k v.local_seq_no (length v.tx_buffer.bytes) bit hk hu within short
 
   module _ (small : k.0 < 2 ^ 32) (una_small : v.local_seq_no.0 < 2 ^ 32) (within : seq_sub k v.local_seq_no ≤ length v.tx_buffer.bytes) (short : length v.tx_buffer.bytes ≤ 2 ^ 30) where
     abbrev cut : Cut
     cut = cut_of (receive_window v) s.seq_number (length s.payload)
 
     has : has_window v.state ≡ true
-    has = ap has_window established
+    has = flat_has v.state flat
 
     -- inside of the window
     pub heard_inside : is_inside (receive_window v) s.seq_number (length s.payload) ≡ true → processed v now word ip s ≡ bytes_taken (heard seen now covered s) now cut.offset (cut_bytes cut s.payload) s
     unfolding processed processed_inside advanced
-    heard_inside inside = rw (passes_so small una_small within short, has, inside, counts s.control (receive_window v) s.seq_number (length s.payload) bit, covers, established) refl
+    heard_inside inside = rw (passes_so small una_small within short, has, inside, counts s.control (receive_window v) s.seq_number (length s.payload) bit, covers, flat_goes_on v.state flat seen now (tuple_of ip s) word (seq_sub k v.local_seq_no) s) refl
 
     -- outside of it, with a byte
     pub answered_outside : is_inside (receive_window v) s.seq_number (length s.payload) ≡ false → (length s.payload == 0) ≡ false → processed v now word ip s ≡ ack_sent v s
@@ -211,7 +316,7 @@ module _ (v : View) (now : Instant) (word : ℕ) (ip : IpRepr) (s : Segment) (k 
         by _ d = absurd d
 
         stays : close_restarted v now ≡ v
-        stays = ap (λ st. record v { timer = timer_restarted st v.timer now }) established
+        stays = ap (λ tm. record v { timer = tm }) (flat_timer v.state v.timer now flat)
 
   pub none_taken : (y : View) (cut : Cut) → length s.payload ≡ 0 → bytes_taken y now cut.offset (cut_bytes cut s.payload) s ≡ stopped y
   unfolding bytes_taken

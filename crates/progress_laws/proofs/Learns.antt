@@ -1,7 +1,8 @@
 -- A sender hears how much of what it sent was taken, all of what is in flight with it.
-use Rattle.std.proofs.Common.{◌≡◌, ℕ, ◌||◌, ◌*◌, ◌<◌, ◌≤◌, ◌^◌, ◌⊎◌, inl, inr, true, false, refl, sym, ap, subst, ◌∙◌, length, drop, Some, None, arith}
+use Rattle.std.proofs.Common.{◌≡◌, ℕ, ◌||◌, ◌*◌, ◌<◌, ◌≤◌, ◌^◌, ◌⊎◌, inl, inr, true, false, refl, sym, ap, subst, ◌∙◌, length, drop, Option, Some, None, arith}
 use Rattle.std.proofs.lemmas.Bool.{eq-eqb}
 use Rattle.std.proofs.lemmas.Option.{same_Some}
+use Rattle.net_base.specs.declared.time.Duration.{Duration}
 use Rattle.net_base.specs.declared.time.Instant.{Instant}
 use Rattle.ip_wire.specs.declared.repr.IpRepr.{IpRepr}
 use Rattle.control_wire.specs.Segment.{Segment}
@@ -12,24 +13,24 @@ use Rattle.sock_tcp.proofs.Windows.{end_small, start_small, window_width}
 use Rattle.sock_tcp.specs.Process.{Outcome, processed}
 use Rattle.sock_tcp.specs.Queue.{Queue}
 use Rattle.sock_tcp.specs.Steps.{heard, scale_of}
-use Rattle.sock_tcp.specs.Timers.{idle_from}
+use Rattle.sock_tcp.specs.Timers.{after as moment_after, idle_from}
 use Rattle.sock_tcp.specs.View.{View}
 use Rattle.sock_tcp.specs.Window.{cut_of, is_inside, next_ack, receive_window}
-use Rattle.sock_tcp.specs.declared.state.State.{State}
-use Rattle.sock_tcp.specs.declared.state.State.TheVariants as state
 use Rattle.tcp_laws.specs.Polling.{IsReached}
 use Rattle.tcp_laws.specs.SocketRun.{IsNumbered, Process, after_segment}
 use Rattle.tcp_laws.proofs.OrderedCalls.{reached_ordered}
 use Rattle.tcp_laws.proofs.SocketSteps.{holds_after}
+use Rattle.progress_laws.specs.InStep.{ForKeepAlive, ForNothing, Rests}
 use Rattle.progress_laws.proofs.Begins.{some_or_none, step_reached}
 use Rattle.progress_laws.proofs.Edges.{empty_inside_so, is_earlier, is_not_before, later_is, later_stays, same_seq}
 use Rattle.progress_laws.proofs.Hears.{HeardAs, IsData, covered, heard_as, heard_inside, heard_rests, none_taken, seen}
 use Rattle.progress_laws.proofs.Speaks.{Waits}
+use Rattle.progress_laws.proofs.States.{is_flat, not_listening}
 
-pub not_listening : (st : State) → st ≡ state.Established → st ≡ state.Listen → ⊥
-not_listening state.Established e l = absurd cc
-not_listening state.Listen e l = absurd cc
-not_listening _ e l = absurd cc
+-- with an idle timer and nothing in flight
+pub idle_rests : (v : View) (now : Instant) (keep : Option Duration) → v.timer ≡ idle_from now keep → v.remote_last_seq ≡ v.local_seq_no → 0 < v.remote_win_len → Rests v
+idle_rests v now None idle nxt some = ForNothing idle nxt some
+idle_rests v now (Some d) idle nxt some = ForKeepAlive (moment_after now d) idle nxt
 
 -- x hears in g that n bytes behind v's SND.UNA were taken, up to the number k, and becomes this
 pub record Learnt (v x : View) (now : Instant) (ip : IpRepr) (g : Segment) (k : TcpSeqNumber) (n : ℕ) : Type 0 where
@@ -43,9 +44,9 @@ pub record Learnt (v x : View) (now : Instant) (ip : IpRepr) (g : Segment) (k : 
   pub queue : view.tx_buffer.bytes ≡ drop n v.tx_buffer.bytes
 
 -- v sent something, or nothing, and became x; g says that n bytes behind SND.UNA were taken, and tells a window
-module _ (v x : View) (now : Instant) (ip : IpRepr) (g : Segment) (k : TcpSeqNumber) (n : ℕ) (is_established : v.state ≡ state.Established) (wait : Waits v x) (bit : IsData g.control) (at : g.seq_number ≡ next_ack v) (ack : g.ack_number ≡ Some k) (empty : length g.payload ≡ 0) (some : 0 < g.window_len * 2 ^ scale_of v.remote_win_scale) (queued : n ≤ length v.tx_buffer.bytes) (taken : k ≡ seq_add v.local_seq_no n) (near : seq_sub k x.remote_last_seq ≤ 2 ^ 30) where
-  established : x.state ≡ state.Established
-  established = wait.state ∙ is_established
+module _ (v x : View) (now : Instant) (ip : IpRepr) (g : Segment) (k : TcpSeqNumber) (n : ℕ) (is_flat_v : is_flat v.state ≡ true) (wait : Waits v x) (bit : IsData g.control) (at : g.seq_number ≡ next_ack v) (ack : g.ack_number ≡ Some k) (empty : length g.payload ≡ 0) (some : 0 < g.window_len * 2 ^ scale_of v.remote_win_scale) (queued : n ≤ length v.tx_buffer.bytes) (taken : k ≡ seq_add v.local_seq_no n) (near : seq_sub k x.remote_last_seq ≤ 2 ^ 30) where
+  flat : is_flat x.state ≡ true
+  flat = ap is_flat wait.state ∙ is_flat_v
 
   una_small : x.local_seq_no.0 < 2 ^ 32
   una_small = (reached_ordered x wait.reached).una_small
@@ -100,16 +101,16 @@ module _ (v x : View) (now : Instant) (ip : IpRepr) (g : Segment) (k : TcpSeqNum
       by (inr e) = later_is x.remote_last_seq k e
 
   abbrev a : View
-  a = seen x now 0 ip g k established ack bit
+  a = seen x now 0 ip g k flat ack bit
 
   abbrev heard_view : View
-  heard_view = heard a now (covered x now 0 ip g k established ack bit) g
+  heard_view = heard a now (covered x now 0 ip g k flat ack bit) g
 
   hears : processed x now 0 ip g ≡ record { view = heard_view; reply = None }
-  hears = heard_inside x now 0 ip g k established ack bit small una_small within short inside ∙ none_taken x now 0 ip g k established ack bit heard_view (cut_of (receive_window x) g.seq_number (length g.payload)) empty
+  hears = heard_inside x now 0 ip g k flat ack bit small una_small within short inside ∙ none_taken x now 0 ip g k flat ack bit heard_view (cut_of (receive_window x) g.seq_number (length g.payload)) empty
 
   heard_so : HeardAs a k (seq_sub k x.local_seq_no) (g.window_len * 2 ^ scale_of x.remote_win_scale) heard_view
-  heard_so = heard_as a now (covered x now 0 ip g k established ack bit) g k ack bit last
+  heard_so = heard_as a now (covered x now 0 ip g k flat ack bit) g k ack bit
 
   told_so : 0 < g.window_len * 2 ^ scale_of x.remote_win_scale
   told_so = subst (λ o. 0 < g.window_len * 2 ^ scale_of o) (sym wait.scale) some
@@ -123,13 +124,13 @@ module _ (v x : View) (now : Instant) (ip : IpRepr) (g : Segment) (k : TcpSeqNum
       by (inr e) = rw e refl
 
   idle : heard_view.timer ≡ idle_from now a.keep_alive
-  idle = heard_rests a now (covered x now 0 ip g k established ack bit) g k ack bit last wait.timer all told_so
+  idle = heard_rests a now (covered x now 0 ip g k flat ack bit) g k ack bit last wait.timer all told_so
 
   all_heard : heard_view.remote_last_seq ≡ heard_view.local_seq_no
   all_heard = heard_so.nxt ∙ later ∙ sym heard_so.una
 
   reached_so : IsReached heard_view
-  reached_so = step_reached x heard_view (after_segment wait.reached.counts x heard_view) wait.reached (Process now 0 ip g (omega arith) numbered (omega (arith, empty)) (λ l. absurd (not_listening x.state established l)) (sym (ap (λ (o : Outcome). o.view) hears)) refl)
+  reached_so = step_reached x heard_view (after_segment wait.reached.counts x heard_view) wait.reached (Process now 0 ip g (omega arith) numbered (omega (arith, empty)) (λ l. absurd (not_listening x.state flat l)) (sym (ap (λ (o : Outcome). o.view) hears)) refl)
     where
       numbered : IsNumbered g
       numbered = record { seq_number = subst (λ (m : TcpSeqNumber). m.0 < 2 ^ 32) (sym number) (start_small x); ack_number = λ m e. subst (λ (q : TcpSeqNumber). q.0 < 2 ^ 32) (same_Some k m (sym ack ∙ e)) small }

@@ -1,4 +1,5 @@
 pub mod Begins
+pub mod States
 pub mod Lends
 pub mod Says
 pub mod Edges
@@ -8,13 +9,17 @@ pub mod Sends
 pub mod Speaks
 pub mod Probes
 pub mod Receives
+pub mod Owed
 pub mod Learns
 pub mod Told
 pub mod Rounds
-pub mod Closes
 pub mod Spoken
 pub mod Arrives
+pub mod Closes
 pub mod Answered
 pub mod Takes
 pub mod Both
 pub mod BothRounds
+pub mod ClosingSays
+pub mod LastBytes
+pub mod ClosingRounds

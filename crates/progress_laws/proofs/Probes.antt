@@ -11,12 +11,12 @@ use Rattle.sock_core.specs.Facts.{Facts}
 use Rattle.sock_tcp.proofs.Lending.{lent_beginning}
 use Rattle.sock_tcp.specs.Begin.{after_timer, readied}
 use Rattle.sock_tcp.specs.Content.{asked, carries_data, emission_kind, is_probing, offset_of, sent_as, window_left}
-use Rattle.sock_tcp.specs.Due.{flight, is_due}
+use Rattle.sock_tcp.specs.Due.{flight, is_closed, is_due}
 use Rattle.sock_tcp.specs.Queue.{Queue}
+use Rattle.sock_tcp.specs.Queues.{may_send}
 use Rattle.sock_tcp.specs.Timers.{is_over, is_probe_over, keep_alive_renewed, probe_doubled}
 use Rattle.sock_tcp.specs.View.{View}
 use Rattle.sock_tcp.specs.declared.emission.Kind.TheVariants as kind
-use Rattle.sock_tcp.specs.declared.state.State.TheVariants as state
 use Rattle.sock_tcp.specs.declared.timer.Timer.TheVariants as timer
 use Rattle.sock_tcp.specs.declared.tuple.Tuple.{Tuple}
 use Rattle.tcp_laws.proofs.Ordered.{no_distance}
@@ -24,13 +24,14 @@ use Rattle.tcp_laws.proofs.OrderedCalls.{reached_ordered, readied_ordered}
 use Rattle.tcp_laws.proofs.Probing.{ProbesIn, reached_probing}
 use Rattle.progress_laws.specs.InStep.{IsSender, told}
 use Rattle.progress_laws.specs.Speech.{DispatchesOk, GoesOn, SendsOk}
-use Rattle.progress_laws.proofs.Begins.{Alike, readied_alike, beginning, content_is, dispatch_reached, segment_for, sends_so}
+use Rattle.progress_laws.proofs.Begins.{Alike, readied_alike, beginning, carries_runs, content_is, dispatch_reached, never_pauses, segment_for, sends_so}
 use Rattle.progress_laws.proofs.Edges.{same_seq}
 use Rattle.progress_laws.proofs.Hears.{IsOpenTimer}
 use Rattle.progress_laws.proofs.Lends.{probe_byte}
 use Rattle.progress_laws.proofs.Says.{probe_due}
 use Rattle.progress_laws.proofs.Sends.{left, segment_ack, segment_bit, segment_number, probe_nxt, probe_sent, probe_timer}
 use Rattle.progress_laws.proofs.Speaks.{SpeaksBytes}
+use Rattle.progress_laws.proofs.States.{flat_open, is_flat, sends_data, sends_flat}
 
 module _ (d : Option Duration) (t : Tuple) (v : View) (f : Facts) (now at : Instant) (delay : Duration) (mtu : IsMtu f.mtu) (address : f.has_address t.local.addr ≡ true) (s : IsSender d t v) (probes : v.timer ≡ timer.ZeroWindowProbe at delay) (sent : v.remote_last_seq ≡ v.local_seq_no) (queue : 0 < length v.tx_buffer.bytes) (over : is_over at now ≡ true) where
   pub no_window : v.remote_win_len ≡ 0
@@ -39,8 +40,8 @@ module _ (d : Option Duration) (t : Tuple) (v : View) (f : Facts) (now at : Inst
   probe_on : GoesOn v t (told f now)
   probe_on = record { peer = s.peer; address = address; alive = rw s.no_timeout refl; no_end = rw probes refl }
 
-  probe_carries : carries_data v.state ≡ true
-  probe_carries = ap carries_data s.state
+  probe_carries : never_pauses v.state ≡ true
+  probe_carries = carries_runs v.state (sends_data v.state s.state)
 
   abbrev p : View
   p = readied v now
@@ -51,8 +52,14 @@ module _ (d : Option Duration) (t : Tuple) (v : View) (f : Facts) (now at : Inst
   probe_is : beginning v t (told f now) false probe_on probe_carries ≡ p
   probe_is = ap (λ tm. after_timer tm p now) probes
 
-  probe_established : p.state ≡ state.Established
-  probe_established = al.state ∙ s.state
+  probe_may : may_send p.state ≡ true
+  probe_may = ap may_send al.state ∙ s.state
+
+  probe_sends : is_flat p.state ≡ true
+  probe_sends = sends_flat p.state probe_may
+
+  probe_opens : is_closed p.state ≡ false
+  probe_opens = flat_open p.state probe_sends
 
   unmarked : p.pending_fast_retransmit ≡ false
   unmarked = al.marked ∙ s.nothing_marked
@@ -61,7 +68,7 @@ module _ (d : Option Duration) (t : Tuple) (v : View) (f : Facts) (now at : Inst
   is_probe = ap (λ tm. is_probe_over tm now) (al.timer ∙ probes) ∙ over
 
   probing : is_probing p now ≡ true
-  probing = rw (probe_established, unmarked, eq-eqb (window_left p) 0 (omega (arith, al.window, no_window)), is_probe) refl
+  probing = rw (sends_data p.state probe_may, unmarked, eq-eqb (window_left p) 0 (omega (arith, al.window, no_window)), is_probe) refl
 
   probe_una : p.local_seq_no.0 < 2 ^ 32
   probe_una = (readied_ordered v now (reached_ordered v s.reached)).una_small
@@ -76,7 +83,7 @@ module _ (d : Option Duration) (t : Tuple) (v : View) (f : Facts) (now at : Inst
   probe_bytes = take (min (asked p t (told f now) false) (in_one_piece p.tx_buffer.until_end (length p.tx_buffer.bytes) (offset_of p))) (drop (offset_of p) p.tx_buffer.bytes)
 
   one_byte : length probe_bytes ≡ 1
-  one_byte = probe_byte p t (told f now) None probe_bytes mtu.0 (subst (λ n. 48 ≤ n) (sym al.mss) (reached_probing v s.reached).mss) (ap carries_data probe_established) refl unmarked probing (omega (arith, nothing_sent, queue, ap (λ (q : Queue). length q.bytes) al.tx))
+  one_byte = probe_byte p t (told f now) None probe_bytes mtu.0 (subst (λ n. 48 ≤ n) (sym al.mss) (reached_probing v s.reached).mss) (sends_data p.state probe_may) refl unmarked probing (omega (arith, nothing_sent, queue, ap (λ (q : Queue). length q.bytes) al.tx))
 
   abbrev probe : Segment
   probe = segment_for p t None probe_bytes
@@ -84,28 +91,28 @@ module _ (d : Option Duration) (t : Tuple) (v : View) (f : Facts) (now at : Inst
   kind_is : emission_kind p now probe ≡ kind.Probe
   kind_is = rw probing refl
 
-  probe_goes : DispatchesOk (told f now) false v (Some (sent_as p t kind.Probe probe)) (left p t now probe probe_established kind.Probe)
-  probe_goes = sends_so v t (told f now) false probe_on probe_carries (Some (sent_as p t kind.Probe probe)) (left p t now probe probe_established kind.Probe) (ap (λ x. is_due x t (told f now) false) probe_is ∙ probe_due p t (told f now) false is_probe) (subst (λ x. SendsOk (told f now) t false x (Some (sent_as p t kind.Probe probe)) (left p t now probe probe_established kind.Probe)) (sym probe_is) (record {
+  probe_goes : DispatchesOk (told f now) false v (Some (sent_as p t kind.Probe probe)) (left p t now probe probe_opens kind.Probe)
+  probe_goes = sends_so v t (told f now) false probe_on probe_carries (Some (sent_as p t kind.Probe probe)) (left p t now probe probe_opens kind.Probe) (ap (λ x. is_due x t (told f now) false) probe_is ∙ probe_due p t (told f now) false is_probe) (subst (λ x. SendsOk (told f now) t false x (Some (sent_as p t kind.Probe probe)) (left p t now probe probe_opens kind.Probe)) (sym probe_is) (record {
     stamp = None;
     told = refl;
     bytes = probe_bytes;
     lent = refl;
-    sends = sym (content_is p t (told f now) None probe_bytes (ap carries_data probe_established) ∙ ap (λ c. Some (sent_as p t c probe)) kind_is);
+    sends = sym (content_is p t (told f now) None probe_bytes (sends_data p.state probe_may) ∙ ap (λ c. Some (sent_as p t c probe)) kind_is);
     view = refl;
   }))
 
   pub says_probe : SpeaksBytes (told f now) v
   says_probe =
-      let l = probe_sent p t now probe probe_established in
+      let l = probe_sent p t now probe probe_opens in
       record {
         out = sent_as p t kind.Probe probe;
-        after = left p t now probe probe_established kind.Probe;
+        after = left p t now probe probe_opens kind.Probe;
         speaks = record {
           dispatch = probe_goes;
-          bit = segment_bit p t None probe_bytes probe_established unmarked;
-          ack = segment_ack p t None probe_bytes probe_established unmarked ∙ (λ i. Some (seq_add (al.rcv i) (length ((al.rx i).bytes))));
+          bit = segment_bit p t None probe_bytes probe_sends unmarked;
+          ack = segment_ack p t None probe_bytes probe_sends unmarked ∙ (λ i. Some (seq_add (al.rcv i) (length ((al.rx i).bytes))));
           waits = record {
-            reached = dispatch_reached (told f now) false v (Some (sent_as p t kind.Probe probe)) (left p t now probe probe_established kind.Probe) s.reached probe_goes;
+            reached = dispatch_reached (told f now) false v (Some (sent_as p t kind.Probe probe)) (left p t now probe probe_opens kind.Probe) s.reached probe_goes;
             state = l.state ∙ al.state;
             peer = l.peer ∙ al.peer;
             timeout = l.timeout ∙ al.timeout;
@@ -116,17 +123,17 @@ module _ (d : Option Duration) (t : Tuple) (v : View) (f : Facts) (now at : Inst
             rcv = l.rcv ∙ al.rcv;
             scale = l.scale ∙ al.scale;
             nothing_marked = l.marked ∙ ap (λ m. m && not (carries_data p.state)) unmarked;
-            timer = subst IsOpenTimer (sym (probe_timer p t now probe probe_established ∙ ap (λ tm. probe_doubled (keep_alive_renewed tm now p.keep_alive) now) (al.timer ∙ probes))) tt;
+            timer = subst IsOpenTimer (sym (probe_timer p t now probe probe_opens ∙ ap (λ tm. probe_doubled (keep_alive_renewed tm now p.keep_alive) now) (al.timer ∙ probes))) tt;
           };
         };
-        number = segment_number p t None probe_bytes probe_established unmarked ∙ al.nxt ∙ sent;
+        number = segment_number p t None probe_bytes probe_sends unmarked ∙ al.nxt ∙ sent;
         some = omega (arith, one_byte);
         within = inr one_byte;
         queued = omega (arith, one_byte, queue);
         first = lent_beginning p.tx_buffer (offset_of p) (asked p t (told f now) false) probe_bytes refl ∙ ap (λ o. take (length probe_bytes) (drop o p.tx_buffer.bytes)) probe_start ∙ ap (λ (q : Queue). take (length probe_bytes) q.bytes) al.tx;
         sent = 0;
         sent_within = omega arith;
-        nxt = probe_nxt p t now probe probe_established ∙ al.nxt ∙ sent ∙ same_seq v.local_seq_no (seq_add v.local_seq_no 0) (omega (arith, (reached_ordered v s.reached).una_small));
+        nxt = probe_nxt p t now probe probe_opens ∙ al.nxt ∙ sent ∙ same_seq v.local_seq_no (seq_add v.local_seq_no 0) (omega (arith, (reached_ordered v s.reached).una_small));
       }
 
   pub probe_unsent : says_probe.sent ≡ 0

@@ -1,47 +1,31 @@
--- What a receiver in step does with a segment, and how it acknowledges.
-use Rattle.std.proofs.Common.{◌≡◌, ℕ, ◌+◌, ◌-◌, ◌*◌, ◌/◌, ◌<◌, ◌≤◌, ◌^◌, Bool, true, false, not, ◌&&◌, ◌||◌, refl, sym, ap, subst, ◌∙◌, List, [], length, take, drop, min, Option, Some, None, arith, length-drop, div-mul-le_self, mul-le-mul_right, mul-pos}
-use Rattle.std.specs.Prelude.{if◌then◌else◌}
-use Rattle.std.proofs.lemmas.Int.{ints}
+-- What a receiver in step does with a segment.
+use Rattle.std.proofs.Common.{◌≡◌, ℕ, ◌+◌, ◌-◌, ◌*◌, ◌/◌, ◌<◌, ◌≤◌, ◌^◌, true, false, refl, sym, ap, subst, ◌∙◌, List, [], length, take, drop, min, Option, Some, None, arith, length-drop, div-mul-le_self, mul-le-mul_right, mul-pos}
 use Rattle.std.proofs.lemmas.Nat.{le-div, pow_pos}
 use Rattle.std.proofs.lemmas.List.{length-replicate}
 use Rattle.std.specs.Option.{ForSome}
-use Rattle.net_base.specs.Ring.{in_one_piece}
-use Rattle.net_base.specs.declared.time.Duration.{Duration}
 use Rattle.net_base.specs.declared.time.Instant.{Instant}
 use Rattle.ip_wire.specs.declared.repr.IpRepr.{IpRepr}
-use Rattle.control_wire.specs.Segment.{Segment, segment_len}
+use Rattle.control_wire.specs.Segment.{Segment}
 use Rattle.control_wire.specs.Seq.{seq_add, seq_sub}
 use Rattle.control_wire.specs.declared.seq_number.TcpSeqNumber.{TcpSeqNumber}
-use Rattle.sock_core.specs.Facts.{Facts}
 use Rattle.sock_core.specs.Received.{Received, holds_nothing, taken_in}
-use Rattle.sock_core.specs.Seq.{is_before, later_of}
-use Rattle.sock_core.specs.declared.context.PollAt.TheVariants as poll
-use Rattle.sock_tcp.proofs.Lending.{lent_at_most}
+use Rattle.sock_core.specs.Seq.{later_of}
 use Rattle.sock_tcp.proofs.Windows.{end_small, start_small, window_width}
-use Rattle.sock_tcp.specs.Begin.{after_timer, readied}
-use Rattle.sock_tcp.specs.Content.{Sending, asked, carries_data, emission_kind, is_probing, offset_of, sent_as}
-use Rattle.sock_tcp.specs.Due.{ack_due, ack_poll, data_due, is_ack_after, is_closed, is_due, window_doubled, window_field}
-use Rattle.sock_tcp.specs.Polls.{delay_poll, is_reached}
 use Rattle.sock_tcp.specs.Process.{bytes_taken, processed}
 use Rattle.sock_tcp.specs.Queue.{Queue}
 use Rattle.sock_tcp.specs.Queues.{read_off}
 use Rattle.sock_tcp.specs.Replies.{ack_kept, ack_segment}
 use Rattle.sock_tcp.specs.Steps.{ack_delayed, heard, joined, scale_of}
-use Rattle.sock_tcp.specs.Timers.{after as moment_after, idle_from, is_keep_alive_over, is_over, is_probe_over, keep_alive_renewed}
 use Rattle.sock_tcp.specs.View.{View}
 use Rattle.sock_tcp.specs.Window.{cut_bytes, cut_of, is_inside, kept_between, next_ack, receive_window, window_end}
-use Rattle.sock_tcp.specs.declared.state.State.TheVariants as state
-use Rattle.sock_tcp.specs.declared.emission.Kind.TheVariants as kind
 use Rattle.sock_tcp.specs.declared.timer.Timer.TheVariants as timer
 use Rattle.sock_tcp.specs.declared.tuple.Tuple.{Tuple}
 use Rattle.sock_tcp.specs.declared.window.Cut.{Cut}
-use Rattle.progress_laws.specs.InStep.{IsReceiver, told}
-use Rattle.progress_laws.specs.Speech.{DispatchesOk, GoesOn, SendsOk}
-use Rattle.progress_laws.proofs.Begins.{Alike, readied_alike, beginning, content_is, not_zero, segment_for, sends_so}
-use Rattle.progress_laws.proofs.Edges.{cut_at, is_earlier, is_not_before, later_stays, old_outside, shut_outside, tail_cut, tail_inside, told_edge}
+use Rattle.progress_laws.specs.InStep.{IsReceiver, takes_bytes}
+use Rattle.progress_laws.proofs.Begins.{not_zero}
+use Rattle.progress_laws.proofs.Edges.{cut_at, is_not_before, later_stays, old_outside, shut_outside, tail_cut, tail_inside, told_edge}
 use Rattle.progress_laws.proofs.Hears.{HeardAs, IsData, answered_outside, covered, heard_as, heard_inside, heard_rests_empty, idle_is, idle_moment, seen}
-use Rattle.progress_laws.proofs.Says.{keep_alive_due, no_probe}
-use Rattle.progress_laws.proofs.Sends.{kept_ack, kept_delay, kept_nxt, kept_sent, kept_timer, left, plain_ack, plain_nxt, plain_sent, plain_timer, plain_window, segment_ack, segment_bit, segment_length, segment_number, segment_window, without_bytes}
+use Rattle.progress_laws.proofs.States.{is_flat, takes_flat}
 use Rattle.progress_laws.proofs.Taking.{at_once, blank, blank_holds_nothing, read_bytes, read_held, take_all, taken_bytes, taken_held}
 
 -- ---- what is told
@@ -76,7 +60,7 @@ pub record Tells (w w' : View) (s : Tuple) (g : Segment) : Type 0 where
 
 -- y has nothing to send and has read all, but n bytes behind the left edge of w are not acknowledged
 pub record Owes (s : Tuple) (w : View) (room n : ℕ) (y : View) : Type 0 where
-  pub state : y.state ≡ state.Established
+  pub state : takes_bytes y.state ≡ true
   pub peer : y.tuple ≡ Some s
   pub no_timeout : y.timeout ≡ None
   pub interval : ForSome y.keep_alive (λ e. 0 < e.micros)
@@ -125,6 +109,9 @@ module _ (s : Tuple) (w : View) (r : IsReceiver s w) where
   room_for n fits = let h = window_width w (omega (arith, wide, r.room_at_most)) in omega (arith, h, wide, fits)
 
   module _ (now : Instant) (ip : IpRepr) (g : Segment) (una_small : w.local_seq_no.0 < 2 ^ 32) (bit : IsData g.control) (ack : g.ack_number ≡ Some w.local_seq_no) where
+    pub flat : is_flat w.state ≡ true
+    flat = takes_flat w.state r.state
+
     within : seq_sub w.local_seq_no w.local_seq_no ≤ length w.tx_buffer.bytes
     within = omega (arith, una_small)
 
@@ -140,7 +127,7 @@ module _ (s : Tuple) (w : View) (r : IsReceiver s w) where
 
     pub answers : 0 < length g.payload → is_inside (receive_window w) g.seq_number (length g.payload) ≡ false → (processed w now 0 ip g ≡ record { view = ack_kept w; reply = Some (ack_segment w g) }) × Tells w (ack_kept w) s (ack_segment w g)
     unfolding ack_kept ack_segment
-    answers some away = (answered_outside w now 0 ip g w.local_seq_no r.state ack bit una_small una_small within queue_short away (not_zero (length g.payload) some), tells)
+    answers some away = (answered_outside w now 0 ip g w.local_seq_no flat ack bit una_small una_small within queue_short away (not_zero (length g.payload) some), tells)
       where
         tells : Tells w (ack_kept w) s (ack_segment w g)
         tells = record {
@@ -178,7 +165,7 @@ module _ (s : Tuple) (w : View) (r : IsReceiver s w) where
 
     -- y took them, and owes an acknowledgement
     abbrev x : View
-    x = heard (seen w now 0 ip g w.local_seq_no r.state ack bit) now (covered w now 0 ip g w.local_seq_no r.state ack bit) g
+    x = heard (seen w now 0 ip g w.local_seq_no flat ack bit) now (covered w now 0 ip g w.local_seq_no flat ack bit) g
 
     module _ (j m : ℕ) (skips : seq_sub (next_ack w) g.seq_number ≡ j) (near : j < 2 ^ 31) (long : length g.payload ≡ j + m) (some : 0 < m) (fits : m ≤ seq_sub (receive_window w).end (receive_window w).start) (past : seq_sub (seq_add g.seq_number (length g.payload)) (next_ack w) ≡ m) where
       -- what is new of it
@@ -197,8 +184,8 @@ module _ (s : Tuple) (w : View) (r : IsReceiver s w) where
       room_is : r.room ≡ length fresh_bytes + k
       room_is = let h = window_width w (omega (arith, wide, r.room_at_most)) in omega (arith, h, wide, fits, fresh_length)
 
-      hears : HeardAs (seen w now 0 ip g w.local_seq_no r.state ack bit) w.local_seq_no (seq_sub w.local_seq_no w.local_seq_no) (g.window_len * 2 ^ scale_of w.remote_win_scale) x
-      hears = heard_as (seen w now 0 ip g w.local_seq_no r.state ack bit) now (covered w now 0 ip g w.local_seq_no r.state ack bit) g w.local_seq_no ack bit (is_not_before w.local_seq_no w.remote_last_seq (omega (arith, una_small, ap (λ (n : TcpSeqNumber). n.0) r.nothing_in_flight)))
+      hears : HeardAs (seen w now 0 ip g w.local_seq_no flat ack bit) w.local_seq_no (seq_sub w.local_seq_no w.local_seq_no) (g.window_len * 2 ^ scale_of w.remote_win_scale) x
+      hears = heard_as (seen w now 0 ip g w.local_seq_no flat ack bit) now (covered w now 0 ip g w.local_seq_no flat ack bit) g w.local_seq_no ack bit
 
       past_start : seq_sub (seq_add g.seq_number (length g.payload)) (receive_window w).start ≡ m
       past_start = ap (λ e. seq_sub (seq_add g.seq_number (length g.payload)) e) (start_is w) ∙ past
@@ -221,7 +208,7 @@ module _ (s : Tuple) (w : View) (r : IsReceiver s w) where
           nothing_after = ap holds_nothing (taken_held x.rx_buffer r.room k fresh_bytes (ap (λ (b : Received). b.bytes) hears.rx ∙ r.read) (ap (λ (b : Received). b.held) hears.rx ∙ r.nothing_held) room_is) ∙ blank_holds_nothing k
 
       pub takes : processed w now 0 ip g ≡ record { view = took; reply = None }
-      takes = heard_inside w now 0 ip g w.local_seq_no r.state ack bit una_small una_small within queue_short inside
+      takes = heard_inside w now 0 ip g w.local_seq_no flat ack bit una_small una_small within queue_short inside
           ∙ ap (λ (c : Cut). bytes_taken x now c.offset (cut_bytes c g.payload) g) cut_is
           ∙ ap (λ (l : List ℕ). bytes_taken x now 0 l g) (ap (λ n. take n fresh_bytes) (sym fresh_length) ∙ take_all fresh_bytes)
           ∙ all_taken
@@ -241,12 +228,12 @@ module _ (s : Tuple) (w : View) (r : IsReceiver s w) where
       pub owes : Owes s w r.room (length fresh_bytes) y
       unfolding read_off joined ack_delayed
       owes = record {
-        state = hears.state ∙ r.state;
+        state = ap takes_bytes hears.state ∙ r.state;
         peer = hears.peer ∙ r.peer;
         no_timeout = hears.timeout ∙ r.no_timeout;
         interval = subst (λ o. ForSome o (λ e. 0 < e.micros)) (sym hears.keep_alive) r.interval;
         moment = idle_moment now w.keep_alive;
-        timer = heard_rests_empty (seen w now 0 ip g w.local_seq_no r.state ack bit) now (covered w now 0 ip g w.local_seq_no r.state ack bit) g w.local_seq_no ack bit (is_not_before w.local_seq_no w.remote_last_seq (omega (arith, una_small, ap (λ (n : TcpSeqNumber). n.0) r.nothing_in_flight))) r.moment r.timer r.nothing_to_send ∙ idle_is now w.keep_alive;
+        timer = heard_rests_empty (seen w now 0 ip g w.local_seq_no flat ack bit) now (covered w now 0 ip g w.local_seq_no flat ack bit) g w.local_seq_no ack bit (is_not_before w.local_seq_no w.remote_last_seq (omega (arith, una_small, ap (λ (n : TcpSeqNumber). n.0) r.nothing_in_flight))) r.moment r.timer r.nothing_to_send ∙ idle_is now w.keep_alive;
         nothing_to_send = ap (λ (q : Queue). length q.bytes) hears.tx ∙ omega (arith, length-drop (seq_sub w.local_seq_no w.local_seq_no) w.tx_buffer.bytes, r.nothing_to_send);
         una = hears.una;
         nxt = hears.nxt ∙ ap (λ n. later_of n w.local_seq_no) r.nothing_in_flight ∙ later_stays w.local_seq_no w.local_seq_no (is_not_before w.local_seq_no w.local_seq_no (omega (arith, una_small)));
@@ -260,208 +247,3 @@ module _ (s : Tuple) (w : View) (r : IsReceiver s w) where
         near = r.near;
         next = omega (arith, ap (λ (n : TcpSeqNumber). n.0) hears.rcv, ap (λ (l : List ℕ). length l) r.read, ap (λ (l : List ℕ). length l) (read_bytes took.rx_buffer fresh_bytes took_bytes));
       }
-
--- ---- the acknowledgement that is owed
-
-not_yet : (now : Instant) (d : Duration) → 0 < d.micros → is_over (moment_after now d) now ≡ false
-not_yet now d h = go (is_over (moment_after now d) now) refl
-  where
-    go : (b : Bool) → is_over (moment_after now d) now ≡ b → b ≡ false
-    go true e = absurd (grind (arith, ints, e, h))
-    go false e = refl
-
-module _ (s : Tuple) (w : View) (room n : ℕ) (y : View) (f : Facts) (now : Instant) (address : f.has_address s.local.addr ≡ true) (o : Owes s w room n y) where
-  abbrev fa : Facts
-  fa = told f now
-
-  on : GoesOn y s fa
-  on = record { peer = o.peer; address = address; alive = rw o.no_timeout refl; no_end = rw o.timer refl }
-
-  carries : carries_data y.state ≡ true
-  carries = ap carries_data o.state
-
-  abbrev u : View
-  u = readied y now
-
-  al : Alike y u
-  al = readied_alike y now
-
-  u_is : beginning y s fa false on carries ≡ u
-  u_is = ap (λ tm. after_timer tm u now) o.timer
-
-  pub established : u.state ≡ state.Established
-  established = al.state ∙ o.state
-
-  idle : u.timer ≡ timer.Idle o.moment
-  idle = al.timer ∙ o.timer
-
-  no_probing : is_probing u now ≡ false
-  no_probing = no_probe u now (ap (λ tm. is_probe_over tm now) idle)
-
-  next : next_ack u ≡ next_ack y
-  next = (λ i. seq_add (al.rcv i) (length ((al.rx i).bytes)))
-
-  abbrev bytes : List ℕ
-  bytes = take (min (asked u s fa false) (in_one_piece u.tx_buffer.until_end (length u.tx_buffer.bytes) (offset_of u))) (drop (offset_of u) u.tx_buffer.bytes)
-
-  none : length bytes ≡ 0
-  none = omega (arith, lent_at_most u.tx_buffer (offset_of u) (asked u s fa false) bytes refl, ap (λ (q : Queue). length q.bytes) al.tx, o.nothing_to_send)
-
-  nothing_marked : u.pending_fast_retransmit ≡ false
-  nothing_marked = al.marked ∙ o.nothing_marked
-
-  abbrev b : Segment
-  b = segment_for u s None bytes
-
-  -- ---- its keep-alive comes first
-
-  module _ (over : is_keep_alive_over y.timer now ≡ true) where
-    keeps : emission_kind u now b ≡ kind.KeepAlive
-    keeps = without_bytes u s None bytes established nothing_marked now no_probing none true (ap (λ tm. is_keep_alive_over tm now) al.timer ∙ over)
-
-    abbrev pub kept_out : Sending
-    kept_out = sent_as u s kind.KeepAlive b
-
-    abbrev pub renewed : View
-    renewed = left u s now b established kind.KeepAlive
-
-    pub renews : DispatchesOk fa false y (Some kept_out) renewed
-    renews = sends_so y s fa false on carries (Some kept_out) renewed (ap (λ x. is_due x s fa false) u_is ∙ keep_alive_due u s fa false (ap (λ tm. is_keep_alive_over tm now) al.timer ∙ over)) (subst (λ x. SendsOk fa s false x (Some kept_out) renewed) (sym u_is) (record {
-      stamp = None;
-      told = refl;
-      bytes = bytes;
-      lent = refl;
-      sends = sym (content_is u s fa None bytes (ap carries_data established) ∙ ap (λ c. Some (sent_as u s c b)) keeps);
-      view = refl;
-    }))
-
-    new_timer : renewed.timer ≡ idle_from now y.keep_alive
-    new_timer = kept_timer u s now b established ∙ ap (λ tm. keep_alive_renewed tm now u.keep_alive) idle ∙ ap (idle_from now) al.keep_alive
-
-    pub still_owes : Owes s w room n renewed
-    still_owes =
-        let l = kept_sent u s now b established in
-        record {
-          state = l.state ∙ established;
-          peer = l.peer ∙ al.peer ∙ o.peer;
-          no_timeout = l.timeout ∙ al.timeout ∙ o.no_timeout;
-          interval = subst (λ q. ForSome q (λ e. 0 < e.micros)) (sym (l.keep_alive ∙ al.keep_alive)) o.interval;
-          moment = idle_moment now y.keep_alive;
-          timer = new_timer ∙ idle_is now y.keep_alive;
-          nothing_to_send = ap (λ (q : Queue). length q.bytes) (l.tx ∙ al.tx) ∙ o.nothing_to_send;
-          una = l.una ∙ al.una ∙ o.una;
-          nxt = kept_nxt u s now b established ∙ al.nxt ∙ o.nxt;
-          nothing_marked = l.marked ∙ ap (λ m. m && not (carries_data u.state)) nothing_marked;
-          read = ap (λ (q : Received). q.bytes) (l.rx ∙ al.rx) ∙ o.read;
-          nothing_held = ap (λ (q : Received). q.held) (l.rx ∙ al.rx) ∙ o.nothing_held;
-          shift = l.shift ∙ al.shift ∙ o.shift;
-          last = o.last;
-          last_small = o.last_small;
-          last_ack = kept_ack u s now b established ∙ al.last_ack ∙ o.last_ack;
-          near = o.near;
-          next = ap (λ (k : TcpSeqNumber). k.0) ((λ i. seq_add (l.rcv i) (length ((l.rx i).bytes))) ∙ next) ∙ o.next;
-        }
-
-    pub late_then : is_reached (delay_poll renewed.ack_delay_timer) now ≡ true
-    late_then = ap (λ a. is_reached (delay_poll a) now) (kept_delay u s now b established)
-
-    pub not_over_then : is_keep_alive_over renewed.timer now ≡ false
-    not_over_then = ap (λ tm. is_keep_alive_over tm now) new_timer ∙ by y.keep_alive o.interval
-      where
-        by : (keep : Option Duration) → ForSome keep (λ e. 0 < e.micros) → is_keep_alive_over (idle_from now keep) now ≡ false
-        by None h = refl
-        by (Some d) h = not_yet now d (h d refl)
-
-  -- ---- the acknowledgement
-
-  module _ (some : 0 < n) (fits : n ≤ room) (narrow : room ≤ 2 ^ 30) (at_least : 2 ^ w.remote_win_shift ≤ room) (una_small : w.local_seq_no.0 < 2 ^ 32) (late : is_reached (delay_poll y.ack_delay_timer) now ≡ true) (not_over : is_keep_alive_over y.timer now ≡ false) where
-    owed : ack_due u ≡ true
-    unfolding ack_due
-    owed = ap (λ a. is_ack_after a (next_ack u)) (al.last_ack ∙ o.last_ack) ∙ ap (is_before o.last) next ∙ is_earlier o.last (next_ack y) (omega (arith, o.next, some, fits, narrow, o.near, o.last_small))
-
-    due : is_due u s fa false ≡ true
-    unfolding is_due
-    due = by (data_due u s fa false) (is_reached (ack_poll u) now) reached
-      where
-        reached : is_reached (ack_poll u) now ≡ true
-        reached = ap (λ b. is_reached (if b then delay_poll u.ack_delay_timer else poll.Ingress) now) owed ∙ ap (λ a. is_reached (delay_poll a) now) al.delay ∙ late
-
-        by : (a k : Bool) → k ≡ true → (a || k || window_doubled u || is_closed u.state || is_keep_alive_over u.timer now || is_probe_over u.timer now) ≡ true
-        by true k e = refl
-        by false k e = rw e refl
-
-    plain : emission_kind u now b ≡ kind.Plain
-    plain = without_bytes u s None bytes established nothing_marked now no_probing none false (ap (λ tm. is_keep_alive_over tm now) al.timer ∙ not_over)
-
-    abbrev pub out_of : Sending
-    out_of = sent_as u s kind.Plain b
-
-    abbrev pub after : View
-    after = left u s now b established kind.Plain
-
-    pub acknowledges : DispatchesOk fa false y (Some out_of) after
-    acknowledges = sends_so y s fa false on carries (Some out_of) after (ap (λ x. is_due x s fa false) u_is ∙ due) (subst (λ x. SendsOk fa s false x (Some out_of) after) (sym u_is) (record {
-      stamp = None;
-      told = refl;
-      bytes = bytes;
-      lent = refl;
-      sends = sym (content_is u s fa None bytes (ap carries_data established) ∙ ap (λ c. Some (sent_as u s c b)) plain);
-      view = refl;
-    }))
-
-    long : segment_len b ≡ 0
-    long = segment_length u s None bytes established nothing_marked ∙ none
-
-    number : b.seq_number ≡ w.local_seq_no
-    number = segment_number u s None bytes established nothing_marked ∙ al.nxt ∙ o.nxt
-
-    field : window_field u ≡ min (room / 2 ^ w.remote_win_shift) 65535
-    field = (λ i. min (wide i / 2 ^ (al.shift ∙ o.shift) i) 65535)
-      where
-        wide : length u.rx_buffer.held ≡ room
-        wide = ap (λ (q : Received). length q.held) al.rx ∙ ap (λ (l : List (Option ℕ)). length l) o.nothing_held ∙ length-replicate room None
-
-    pub next_is : next_ack after ≡ next_ack y
-    next_is = let l = plain_sent u s now b established in (λ i. seq_add (l.rcv i) (length ((l.rx i).bytes))) ∙ next
-
-    pub tells : Tells w after s out_of.segment
-    tells =
-        let l = plain_sent u s now b established in
-        let rcv : next_ack after ≡ next_ack u = (λ i. seq_add (l.rcv i) (length ((l.rx i).bytes))) in
-        let shift : after.remote_win_shift ≡ w.remote_win_shift = l.shift ∙ al.shift ∙ o.shift in
-        let ack : after.remote_last_ack ≡ Some (next_ack after) = plain_ack u s now b established ∙ segment_ack u s None bytes established nothing_marked ∙ ap Some (sym rcv) in
-        let held : after.rx_buffer.held ≡ blank room = ap (λ (q : Received). q.held) (l.rx ∙ al.rx) ∙ o.nothing_held in
-        let told_field : b.window_len ≡ min (room / 2 ^ w.remote_win_shift) 65535 = segment_window u s None bytes established nothing_marked ∙ field in
-        record {
-          receiver = record {
-            state = l.state ∙ established;
-            peer = l.peer ∙ al.peer ∙ o.peer;
-            no_timeout = l.timeout ∙ al.timeout ∙ o.no_timeout;
-            interval = subst (λ q. ForSome q (λ e. 0 < e.micros)) (sym (l.keep_alive ∙ al.keep_alive)) o.interval;
-            moment = idle_moment now u.keep_alive;
-            timer = plain_timer u s now b established true (rw long refl) ∙ ap (λ tm. keep_alive_renewed tm now u.keep_alive) idle ∙ idle_is now u.keep_alive;
-            nothing_to_send = ap (λ (q : Queue). length q.bytes) (l.tx ∙ al.tx) ∙ o.nothing_to_send;
-            nothing_marked = l.marked ∙ ap (λ m. m && not (carries_data u.state)) nothing_marked;
-            nothing_in_flight = plain_nxt u s now b established ∙ (λ i. later_of ((al.nxt ∙ o.nxt) i) (seq_add (number i) (long i))) ∙ stays ∙ sym (l.una ∙ al.una ∙ o.una);
-            read = ap (λ (q : Received). q.bytes) (l.rx ∙ al.rx) ∙ o.read;
-            room = room;
-            nothing_held = held;
-            room_at_most = narrow;
-            room_at_least = subst (λ k. 2 ^ k ≤ room) (sym shift) at_least;
-            last = next_ack after;
-            last_small = omega arith;
-            acknowledged = ack;
-            near = omega arith;
-          };
-          una = l.una ∙ al.una ∙ o.una;
-          shift = shift;
-          bit = segment_bit u s None bytes established nothing_marked;
-          number = number;
-          ack = segment_ack u s None bytes established nothing_marked ∙ ap Some (sym rcv);
-          empty = none;
-          some = subst (λ n. 0 < n * 2 ^ w.remote_win_shift) (sym told_field) (unit_some room w.remote_win_shift at_least);
-          window = told_window after room held narrow ack (plain_window u s now b established ∙ told_field ∙ ap (λ k. min (room / 2 ^ k) 65535) (sym shift)) ∙ ap (unit room) shift ∙ ap (λ n. n * 2 ^ w.remote_win_shift) (sym told_field);
-        }
-      where
-        stays : later_of w.local_seq_no (seq_add w.local_seq_no 0) ≡ w.local_seq_no
-        stays = later_stays w.local_seq_no (seq_add w.local_seq_no 0) (is_not_before w.local_seq_no (seq_add w.local_seq_no 0) (omega (arith, una_small)))

@@ -1,5 +1,5 @@
 -- One round of two sockets in step, and all of them.
-use Rattle.std.proofs.Common.{◌≡◌, ℕ, zero, suc, ◌+◌, ◌-◌, ◌<◌, ◌≤◌, ◌^◌, ◌⊎◌, inl, inr, Bool, true, false, refl, sym, ap, subst, ◌∙◌, List, [], ◌∷◌, ◌++◌, length, take, drop, Some, None, arith, append_assoc, length-drop}
+use Rattle.std.proofs.Common.{◌≡◌, ℕ, zero, suc, ◌+◌, ◌-◌, ◌<◌, ◌≤◌, ◌^◌, ◌⊎◌, inl, inr, Bool, true, false, true≢false, refl, sym, ap, subst, ◌∙◌, List, [], ◌∷◌, ◌++◌, length, take, drop, Option, Some, None, is_some, arith, append_assoc, length-drop}
 use Rattle.std.specs.Prelude.{◌≤ℤ◌, int_le}
 use Rattle.std.proofs.lemmas.Int.{ints}
 use Rattle.std.proofs.lemmas.List.{append-nil, take-append-drop}
@@ -15,7 +15,7 @@ use Rattle.sock_tcp.specs.Content.{Sending}
 use Rattle.sock_tcp.specs.Polls.{delay_poll, is_reached}
 use Rattle.sock_tcp.specs.Process.{processed}
 use Rattle.sock_tcp.specs.Queue.{Queue}
-use Rattle.sock_tcp.specs.Queues.{read_off}
+use Rattle.sock_tcp.specs.Queues.{may_send, read_off}
 use Rattle.sock_tcp.specs.Replies.{ack_kept, ack_segment, reply_ip}
 use Rattle.sock_tcp.specs.Steps.{scale_of}
 use Rattle.sock_tcp.specs.Timers.{is_keep_alive_over, is_over}
@@ -30,7 +30,8 @@ use Rattle.progress_laws.specs.Speech.{DispatchesOk}
 use Rattle.progress_laws.specs.InStep.{Carries, CarriesBack, Completes, ForAnswer, ForKeepAlive, ForNothing, ForProbe, GoesAstray, InStep, IsAnswered, IsLost, Moves, NoMove, OneMore, OneWayCompletes, Reads, Rests, told}
 use Rattle.progress_laws.proofs.Begins.{some_or_none}
 use Rattle.progress_laws.proofs.Edges.{same_seq}
-use Rattle.progress_laws.proofs.Receives.{Owes, Tells, acknowledges, after, answers, fresh_length, kept_out, late_then, next_is, not_over_then, old_away, out_of, owes, renewed, renews, room_for, shut_away, still_owes, takes, tells, took, took_bytes}
+use Rattle.progress_laws.proofs.Owed.{acknowledges, after, kept_out, late_then, next_is, not_over_then, out_of, renewed, renews, still_owes, tells}
+use Rattle.progress_laws.proofs.Receives.{Owes, Tells, answers, fresh_length, old_away, owes, room_for, shut_away, takes, took, took_bytes}
 use Rattle.progress_laws.proofs.Speaks.{FallsSilent, Speaks, SpeaksBytes, SpeaksNothing, falls_silent, says_bytes, says_nothing, wakes}
 use Rattle.progress_laws.proofs.Probes.{no_window, probe_one, probe_unsent, says_probe}
 use Rattle.progress_laws.proofs.Told.{heard_view, hears, in_step_again, nothing_new, queue_left, window_told}
@@ -101,9 +102,13 @@ cut_and_rest (suc j) zero l h = absurd (omega (arith, h))
 cut_and_rest (suc j) (suc k) [] h = refl
 cut_and_rest (suc j) (suc k) (b ∷ l) h = cut_and_rest j k l (omega (arith, h))
 
+interval : (o : Option Duration) → is_some o ≡ true → (e : Duration) × (o ≡ Some e) × (is_some o ≡ true)
+interval None h = absurd (true≢false (sym h))
+interval (Some e) h = (e, refl, refl)
+
 -- what the receiver had not taken was read, but for what is left; so many bytes were released, and with a window at least
 -- one. The window is known then
-record Round (d : Duration) (t s : Tuple) (f : Facts) (at : Instant) (v w : View) (got : List ℕ) (i : InStep d t s v w) : Type 0 where
+record Round (d : Option Duration) (t s : Tuple) (f : Facts) (at : Instant) (v w : View) (got : List ℕ) (i : InStep d t s v w) : Type 0 where
   end : Instant
   sender : View
   receiver : View
@@ -117,7 +122,7 @@ record Round (d : Duration) (t s : Tuple) (f : Facts) (at : Instant) (v w : View
   some : 0 < v.remote_win_len → 0 < count
   left : length sender.tx_buffer.bytes + count ≡ length v.tx_buffer.bytes
 
-module _ (d : Duration) (t s : Tuple) (f : Facts) (mtu : IsMtu f.mtu) (here : f.has_address t.local.addr ≡ true) (there : f.has_address s.local.addr ≡ true) where
+module _ (d : Option Duration) (t s : Tuple) (f : Facts) (mtu : IsMtu f.mtu) (here : f.has_address t.local.addr ≡ true) (there : f.has_address s.local.addr ≡ true) where
   module _ (at now : Instant) (since : at.micros ≤ℤ now.micros) (v w : View) (got : List ℕ) (i : InStep d t s v w) where
     w_small : w.local_seq_no.0 < 2 ^ 32
     w_small = let e = ap (λ (m : TcpSeqNumber). m.0) i.back in omega (arith, e)
@@ -168,7 +173,7 @@ module _ (d : Duration) (t s : Tuple) (f : Facts) (mtu : IsMtu f.mtu) (here : f.
     -- without a window: a keep-alive and its answer
     asks : (m : Instant) → v.timer ≡ timer.Idle (Some m) → v.remote_last_seq ≡ v.local_seq_no → is_over m now ≡ true → v.remote_win_len ≡ 0 → Round d t s f at v w got i
     asks m idle sent over z =
-        let q : SpeaksNothing (told f now) v = says_nothing (Some d) t v f now mtu here i.sender m idle sent over z in
+        let q : SpeaksNothing (told f now) v = says_nothing d t v f now mtu here i.sender m idle sent over z in
         let number = ap (λ (m : TcpSeqNumber). m.0) q.number in
         let nxt = ap (λ (m : TcpSeqNumber). m.0) q.nxt in
         let within = i.taken_within in
@@ -304,12 +309,12 @@ module _ (d : Duration) (t s : Tuple) (f : Facts) (mtu : IsMtu f.mtu) (here : f.
           queue = queue_left d t s v w p.after w3 z o.ip o.segment n i p.speaks.waits told_so p.queued taken near
 
   -- without a window, and with whatever is in flight: what waits is given up, and a keep-alive comes next
-  module _ (at now : Instant) (since : at.micros ≤ℤ now.micros) (v w : View) (got : List ℕ) (i : InStep d t s v w) (q : FallsSilent (told f now) v) (z : v.remote_win_len ≡ 0) where
+  module _ (at now : Instant) (since : at.micros ≤ℤ now.micros) (v w : View) (got : List ℕ) (i : InStep d t s v w) (q : FallsSilent (told f now) v) (z : v.remote_win_len ≡ 0) (keeps : is_some d ≡ true) where
     still : InStep d t s q.after w
     still = record {
       sender = record {
         reached = q.waits.reached;
-        state = q.waits.state ∙ i.sender.state;
+        state = ap may_send q.waits.state ∙ i.sender.state;
         peer = q.waits.peer ∙ i.sender.peer;
         no_timeout = q.waits.timeout ∙ i.sender.no_timeout;
         keep_alive = q.waits.keep_alive ∙ i.sender.keep_alive;
@@ -323,6 +328,7 @@ module _ (d : Duration) (t s : Tuple) (f : Facts) (mtu : IsMtu f.mtu) (here : f.
       back = i.back ∙ sym (λ j. seq_add (q.waits.rcv j) (length ((q.waits.rx j).bytes)));
       scale = ap scale_of q.waits.scale ∙ i.scale;
       window = subst (λ n. n ≤ i.taken + seq_sub (receive_window w).end (receive_window w).start) (sym q.window) i.window;
+      not_last = λ at e. inr keeps;
     }
 
     next : (z : Instant) × (now.micros ≤ℤ z.micros) × (is_over q.moment z ≡ true)
@@ -346,6 +352,10 @@ module _ (d : Duration) (t s : Tuple) (f : Facts) (mtu : IsMtu f.mtu) (here : f.
           some = λ h. absurd (omega (arith, h, z));
           left = r.left ∙ ap (λ (b : Queue). length b.bytes) q.waits.tx;
         }
+
+  kept : {n : ℕ} → (0 < n) ⊎ (is_some d ≡ true) → n ≡ 0 → is_some d ≡ true
+  kept (inl some) z = absurd (omega (arith, some, z))
+  kept (inr keeps) z = keeps
 
   round : (at : Instant) (v w : View) (got : List ℕ) (i : InStep d t s v w) → 0 < length v.tx_buffer.bytes → Round d t s f at v w got i
   round at v w got i queue = by (some_or_none v.remote_win_len) i.sender.rests (later_moment at (wakes i.sender.rests))
@@ -373,13 +383,13 @@ module _ (d : Duration) (t s : Tuple) (f : Facts) (mtu : IsMtu f.mtu) (here : f.
 
       by : (v.remote_win_len ≡ 0) ⊎ (0 < v.remote_win_len) → (r : Rests v) → (z : Instant) × (at.micros ≤ℤ z.micros) × (is_over (wakes r) z ≡ true) → Round d t s f at v w got i
       by (inl none) (ForKeepAlive m idle nxt) z = asks at z.0 z.1 v w got i m idle nxt z.2 none
-      by (inl none) (ForAnswer m again) z = then_asks at z.0 z.1 v w got i (falls_silent (Some d) t v f z.0 mtu here i.sender d i.sender.keep_alive (ForAnswer m again) tt z.2 none) none
-      by (inl none) (ForProbe m delay waits nxt some) z = probes z.0 z.1 (says_probe (Some d) t v f z.0 m delay mtu here i.sender waits nxt some z.2) (probe_unsent (Some d) t v f z.0 m delay mtu here i.sender waits nxt some z.2) (probe_one (Some d) t v f z.0 m delay mtu here i.sender waits nxt some z.2) none
+      by (inl none) (ForAnswer m again) z = let k : (e : Duration) × (d ≡ Some e) × (is_some d ≡ true) = interval d (kept (i.not_last m again) none) in then_asks at z.0 z.1 v w got i (falls_silent d t v f z.0 mtu here i.sender k.0 (i.sender.keep_alive ∙ k.1) (ForAnswer m again) tt z.2 none) none k.2
+      by (inl none) (ForProbe m delay waits nxt some) z = probes z.0 z.1 (says_probe d t v f z.0 m delay mtu here i.sender waits nxt some z.2) (probe_unsent d t v f z.0 m delay mtu here i.sender waits nxt some z.2) (probe_one d t v f z.0 m delay mtu here i.sender waits nxt some z.2) none
       by (inl none) (ForNothing idle nxt some) z = absurd (omega (arith, none, some))
-      by (inr win) (ForNothing idle nxt some) z = let p : SpeaksBytes (told f z.0) v = says_bytes (Some d) t v f z.0 mtu here i.sender (ForNothing idle nxt some) tt z.2 win queue in goes z.0 z.1 p (known_room z.0 p win)
-      by (inr win) (ForProbe m delay waits nxt some) z = absurd (omega (arith, win, no_window (Some d) t v f z.0 m delay mtu here i.sender waits nxt some z.2))
-      by (inr win) (ForKeepAlive m idle nxt) z = let p : SpeaksBytes (told f z.0) v = says_bytes (Some d) t v f z.0 mtu here i.sender (ForKeepAlive m idle nxt) tt z.2 win queue in goes z.0 z.1 p (known_room z.0 p win)
-      by (inr win) (ForAnswer m again) z = let p : SpeaksBytes (told f z.0) v = says_bytes (Some d) t v f z.0 mtu here i.sender (ForAnswer m again) tt z.2 win queue in goes z.0 z.1 p (known_room z.0 p win)
+      by (inr win) (ForNothing idle nxt some) z = let p : SpeaksBytes (told f z.0) v = says_bytes d t v f z.0 mtu here i.sender (ForNothing idle nxt some) tt z.2 win queue in goes z.0 z.1 p (known_room z.0 p win)
+      by (inr win) (ForProbe m delay waits nxt some) z = absurd (omega (arith, win, no_window d t v f z.0 m delay mtu here i.sender waits nxt some z.2))
+      by (inr win) (ForKeepAlive m idle nxt) z = let p : SpeaksBytes (told f z.0) v = says_bytes d t v f z.0 mtu here i.sender (ForKeepAlive m idle nxt) tt z.2 win queue in goes z.0 z.1 p (known_room z.0 p win)
+      by (inr win) (ForAnswer m again) z = let p : SpeaksBytes (told f z.0) v = says_bytes d t v f z.0 mtu here i.sender (ForAnswer m again) tt z.2 win queue in goes z.0 z.1 p (known_room z.0 p win)
 
   -- ---- all of them
 

@@ -1,4 +1,4 @@
--- What a socket in ESTABLISHED sends from SND.UNA on, at the moment of a keep-alive, and what is left of it then.
+-- What a socket in ESTABLISHED, CLOSE-WAIT or FIN-WAIT-2 sends from SND.UNA on, at the moment of a keep-alive, and what is left of it then.
 use Rattle.std.proofs.Common.{◌≡◌, ℕ, ◌+◌, ◌<◌, Bool, true, false, not, ◌&&◌, refl, ap, List, length, Option, Some, None, arith}
 use Rattle.std.specs.Prelude.{if◌then◌else◌, ◌==◌}
 use Rattle.net_base.specs.declared.time.Instant.{Instant}
@@ -18,11 +18,11 @@ use Rattle.sock_tcp.specs.Window.{next_ack}
 use Rattle.sock_tcp.specs.declared.emission.Emitted.{Emitted}
 use Rattle.sock_tcp.specs.declared.emission.Kind.{Kind}
 use Rattle.sock_tcp.specs.declared.emission.Kind.TheVariants as kind
-use Rattle.sock_tcp.specs.declared.state.State.TheVariants as state
 use Rattle.sock_tcp.specs.declared.timer.AckDelayTimer.TheVariants as ack_delay
 use Rattle.sock_tcp.specs.declared.tuple.Tuple.{Tuple}
 use Rattle.progress_laws.proofs.Begins.{and_no, not_zero, segment_for}
 use Rattle.progress_laws.proofs.Hears.{IsData}
+use Rattle.progress_laws.proofs.States.{flat_on, is_flat}
 
 -- ---- after it went out
 
@@ -41,7 +41,7 @@ pub record SentOf (u w : View) : Type 0 where
   pub shift : w.remote_win_shift ≡ u.remote_win_shift
   pub marked : w.pending_fast_retransmit ≡ (u.pending_fast_retransmit && not (carries_data u.state))
 
-module _ (u : View) (p : Tuple) (now : Instant) (s : Segment) (established : u.state ≡ state.Established) where
+module _ (u : View) (p : Tuple) (now : Instant) (s : Segment) (not_closed : is_closed u.state ≡ false) where
   abbrev pub left : Kind → View
   left k = left_by (Some (sent_as u p k s)) u now true
 
@@ -59,7 +59,7 @@ module _ (u : View) (p : Tuple) (now : Instant) (s : Segment) (established : u.s
   plain_sent = go (segment_len s == 0)
     where
       peer : (if is_closed u.state then None else u.tuple) ≡ u.tuple
-      peer = rw established refl
+      peer = ap (λ b. if b then None else u.tuple) not_closed
 
       go : (z : Bool) → SentOf u (timed_if z)
       go true = record { state = refl; peer = peer; timeout = refl; keep_alive = refl; una = refl; tx = refl; rx = refl; rcv = refl; window = refl; scale = refl; shift = refl; marked = refl }
@@ -126,10 +126,10 @@ module _ (u : View) (p : Tuple) (now : Instant) (s : Segment) (established : u.s
   unfolding after_sending after_any
   kept_timer = refl
 
--- ---- the segment of a socket in ESTABLISHED
+-- ---- the segment of a socket in ESTABLISHED, CLOSE-WAIT or FIN-WAIT-2
 
-pub data_bit : (u : View) (n : ℕ) → u.state ≡ state.Established → IsData (data_control u n)
-data_bit u n established = go (offset_of u + n == length u.tx_buffer.bytes) (is_closing u.state) (ap is_closing established) (n == 0)
+pub data_bit : (u : View) (n : ℕ) → is_flat u.state ≡ true → IsData (data_control u n)
+data_bit u n flat = go (offset_of u + n == length u.tx_buffer.bytes) (is_closing u.state) (flat_on u.state flat) (n == 0)
   where
     go : (a b : Bool) → b ≡ false → (d : Bool) → IsData (if a then (if b then control.Fin else (if d then control.None else control.Psh)) else control.None)
     go true true e d = absurd cc
@@ -137,12 +137,12 @@ data_bit u n established = go (offset_of u + n == length u.tx_buffer.bytes) (is_
     go true false e false = tt
     go false b e d = tt
 
-module _ (u : View) (p : Tuple) (stamp : Option ℕ) (bytes : List ℕ) (established : u.state ≡ state.Established) (nothing_marked : u.pending_fast_retransmit ≡ false) where
+module _ (u : View) (p : Tuple) (stamp : Option ℕ) (bytes : List ℕ) (flat : is_flat u.state ≡ true) (nothing_marked : u.pending_fast_retransmit ≡ false) where
   abbrev b : Segment
   b = segment_for u p stamp bytes
 
   pub segment_bit : IsData b.control
-  segment_bit = data_bit u (length bytes) established
+  segment_bit = data_bit u (length bytes) flat
 
   pub segment_number : b.seq_number ≡ u.remote_last_seq
   segment_number = rw nothing_marked refl

@@ -16,9 +16,10 @@ use Rattle.sock_core.specs.declared.congestion.AnyController.TheVariants as cont
 use Rattle.sock_tcp.proofs.Lending.{lent_at_most, lent_beginning}
 use Rattle.sock_tcp.specs.Begin.{after_timer, after_timers, readied, retransmission_begun}
 use Rattle.sock_tcp.specs.Content.{Sending, asked, carries_data, emission_kind, is_probing, offset_of, sent_as, window_left}
-use Rattle.sock_tcp.specs.Due.{congestion_left, data_due, effective_mss, flight, is_due, window_field}
+use Rattle.sock_tcp.specs.Due.{congestion_left, data_due, effective_mss, flight, is_closed, is_due, window_field}
 use Rattle.sock_tcp.specs.Polls.{is_reached, timeout_poll}
 use Rattle.sock_tcp.specs.Queue.{IsLent, Queue}
+use Rattle.sock_tcp.specs.Queues.{may_send}
 use Rattle.sock_tcp.specs.Timers.{after as moment_after, idle_from, is_close_over, is_keep_alive_over, is_over, is_probe_over, keep_alive_renewed, retransmit_unless_set, rto_of}
 use Rattle.sock_tcp.specs.View.{View}
 use Rattle.sock_tcp.specs.Window.{next_ack}
@@ -28,17 +29,18 @@ use Rattle.sock_tcp.specs.declared.state.State.TheVariants as state
 use Rattle.sock_tcp.specs.declared.timer.Timer.TheVariants as timer
 use Rattle.sock_tcp.specs.declared.tuple.Tuple.{Tuple}
 use Rattle.tcp_laws.specs.Polling.{IsReached}
-use Rattle.tcp_laws.proofs.Ordered.{IsOpen, IsOrdered, Row, no_distance}
+use Rattle.tcp_laws.proofs.Ordered.{HasMoment, IsOpen, IsOrdered, no_distance}
 use Rattle.tcp_laws.proofs.OrderedCalls.{reached_ordered, readied_ordered, timers_ordered}
 use Rattle.tcp_laws.proofs.Sleeping.{window_sends}
 use Rattle.tcp_laws.proofs.Probing.{reached_probing}
 use Rattle.progress_laws.specs.InStep.{ForAnswer, ForKeepAlive, ForNothing, ForProbe, IsSender, Rests, told}
 use Rattle.progress_laws.specs.Speech.{DispatchesOk, GoesOn, SendsOk}
-use Rattle.progress_laws.proofs.Begins.{readied_alike, beginning, content_is, dispatch_reached, not_zero, quiet_so, segment_for, sends_so}
+use Rattle.progress_laws.proofs.Begins.{readied_alike, beginning, carries_runs, content_is, dispatch_reached, never_pauses, not_zero, quiet_so, segment_for, sends_so}
 use Rattle.progress_laws.proofs.Edges.{is_earlier, is_not_before, later_is, later_stays}
 use Rattle.progress_laws.proofs.Hears.{IsData, IsOpenTimer, idle_is, idle_moment}
 use Rattle.progress_laws.proofs.Lends.{lent_some, mss_some}
 use Rattle.progress_laws.proofs.Says.{keep_alive_due, no_probe}
+use Rattle.progress_laws.proofs.States.{flat_open, is_flat, row_moment, sends_data, sends_flat}
 use Rattle.progress_laws.proofs.Sends.{SentOf, kept_nxt, kept_sent, kept_timer, left, plain_ack, plain_nxt, plain_sent, plain_timer, plain_window, segment_ack, segment_bit, segment_length, segment_number, segment_window, with_bytes, without_bytes}
 
 -- ---- what is left of the sender
@@ -112,7 +114,7 @@ pub record FallsSilent (f : Facts) (v : View) : Type 0 where
   pub nxt : after.remote_last_seq ≡ after.local_seq_no
   pub window : after.remote_win_len ≡ v.remote_win_len
 
-open_window : (c : AnyController) → IsOpen c → 0 < congestion_window c
+pub open_window : (c : AnyController) → IsOpen c → 0 < congestion_window c
 open_window (controller.None x) h = omega arith
 open_window (controller.Reno r) h = h.cwnd
 
@@ -198,12 +200,18 @@ again_front v now at r no_timeout waits over =
       ordered = subst IsOrdered (begins_again (readied v now) now at (al.timeout ∙ no_timeout) (al.timer ∙ waits) over) (timers_ordered (readied v now) now (readied_ordered v now (reached_ordered v r)));
     }
 
-module _ (d : Option Duration) (t : Tuple) (v : View) (f : Facts) (now : Instant) (mtu : IsMtu f.mtu) (s : IsSender d t v) (on : GoesOn v t (told f now)) (carries : carries_data v.state ≡ true) (u : View) (fr : Front v u) (u_is : beginning v t (told f now) false on carries ≡ u) where
+module _ (d : Option Duration) (t : Tuple) (v : View) (f : Facts) (now : Instant) (mtu : IsMtu f.mtu) (s : IsSender d t v) (on : GoesOn v t (told f now)) (carries : never_pauses v.state ≡ true) (u : View) (fr : Front v u) (u_is : beginning v t (told f now) false on carries ≡ u) where
   abbrev fa : Facts
   fa = told f now
 
-  established : u.state ≡ state.Established
-  established = fr.state ∙ s.state
+  may : may_send u.state ≡ true
+  may = ap may_send fr.state ∙ s.state
+
+  sends : is_flat u.state ≡ true
+  sends = sends_flat u.state may
+
+  opens : is_closed u.state ≡ false
+  opens = flat_open u.state sends
 
   nothing_marked : u.pending_fast_retransmit ≡ false
   nothing_marked = fr.marked ∙ s.nothing_marked
@@ -228,7 +236,7 @@ module _ (d : Option Duration) (t : Tuple) (v : View) (f : Facts) (now : Instant
 
   asked_is : asked u t fa false ≡ min (min (window_left u) (effective_mss u t fa false)) (congestion_left u)
   unfolding asked
-  asked_is = rw (no_probing, established, nothing_marked) refl
+  asked_is = rw (no_probing, sends_data u.state may, nothing_marked) refl
 
   few : length bytes ≤ min (asked u t fa false) (length u.tx_buffer.bytes - offset_of u)
   few = lent_at_most u.tx_buffer (offset_of u) (asked u t fa false) bytes lent
@@ -237,19 +245,19 @@ module _ (d : Option Duration) (t : Tuple) (v : View) (f : Facts) (now : Instant
   b = segment_for u t None bytes
 
   bit : IsData b.control
-  bit = segment_bit u t None bytes established nothing_marked
+  bit = segment_bit u t None bytes sends nothing_marked
 
   number : b.seq_number ≡ v.local_seq_no
-  number = segment_number u t None bytes established nothing_marked ∙ fr.nxt
+  number = segment_number u t None bytes sends nothing_marked ∙ fr.nxt
 
   ack : b.ack_number ≡ Some (next_ack v)
-  ack = segment_ack u t None bytes established nothing_marked ∙ (λ i. Some (seq_add (fr.rcv i) (length ((fr.rx i).bytes))))
+  ack = segment_ack u t None bytes sends nothing_marked ∙ (λ i. Some (seq_add (fr.rcv i) (length ((fr.rx i).bytes))))
 
   carries_on : carries_data u.state ≡ true
-  carries_on = ap carries_data established
+  carries_on = sends_data u.state may
 
-  goes_out : (k : Kind) → emission_kind u now b ≡ k → is_due u t fa false ≡ true → DispatchesOk fa false v (Some (sent_as u t k b)) (left u t now b established k)
-  goes_out k e due = sends_so v t fa false on carries (Some (sent_as u t k b)) (left u t now b established k) (ap (λ x. is_due x t fa false) u_is ∙ due) (subst (λ x. SendsOk fa t false x (Some (sent_as u t k b)) (left u t now b established k)) (sym u_is) (record {
+  goes_out : (k : Kind) → emission_kind u now b ≡ k → is_due u t fa false ≡ true → DispatchesOk fa false v (Some (sent_as u t k b)) (left u t now b opens k)
+  goes_out k e due = sends_so v t fa false on carries (Some (sent_as u t k b)) (left u t now b opens k) (ap (λ x. is_due x t fa false) u_is ∙ due) (subst (λ x. SendsOk fa t false x (Some (sent_as u t k b)) (left u t now b opens k)) (sym u_is) (record {
     stamp = None;
     told = refl;
     bytes = bytes;
@@ -262,9 +270,9 @@ module _ (d : Option Duration) (t : Tuple) (v : View) (f : Facts) (now : Instant
   unfolding is_due
   data_is_due e = rw e refl
 
-  waits : (k : Kind) → DispatchesOk fa false v (Some (sent_as u t k b)) (left u t now b established k) → SentOf u (left u t now b established k) → IsOpenTimer (left u t now b established k).timer → Waits v (left u t now b established k)
+  waits : (k : Kind) → DispatchesOk fa false v (Some (sent_as u t k b)) (left u t now b opens k) → SentOf u (left u t now b opens k) → IsOpenTimer (left u t now b opens k).timer → Waits v (left u t now b opens k)
   waits k h l o = record {
-    reached = dispatch_reached fa false v (Some (sent_as u t k b)) (left u t now b established k) s.reached h;
+    reached = dispatch_reached fa false v (Some (sent_as u t k b)) (left u t now b opens k) s.reached h;
     state = l.state ∙ fr.state;
     peer = l.peer ∙ fr.peer;
     timeout = l.timeout ∙ fr.timeout;
@@ -288,14 +296,14 @@ module _ (d : Option Duration) (t : Tuple) (v : View) (f : Facts) (now : Instant
       let queue_u : 0 < length u.tx_buffer.bytes = subst (λ (q : Queue). 0 < length q.bytes) (sym fr.tx) queue in
       let asks : 0 < asked u t fa false = omega (arith, asked_is, win_u, no_flight, mss_some u t fa false mtu.0 mss, open_window u.congestion_controller fr.ordered.congestion) in
       let some : 0 < length bytes = lent_some u.tx_buffer (offset_of u) (asked u t fa false) bytes lent asks (omega (arith, start, queue_u)) in
-      let plain : emission_kind u now b ≡ kind.Plain = with_bytes u t None bytes established nothing_marked now no_probing some in
+      let plain : emission_kind u now b ≡ kind.Plain = with_bytes u t None bytes sends nothing_marked now no_probing some in
       let h = goes_out kind.Plain plain (data_is_due (window_sends u t fa false fr.ordered win_u no_flight (inl queue_u))) in
-      let long : segment_len b ≡ length bytes = segment_length u t None bytes established nothing_marked in
+      let long : segment_len b ≡ length bytes = segment_length u t None bytes sends nothing_marked in
       let same : length u.tx_buffer.bytes ≡ length v.tx_buffer.bytes = ap (λ (q : Queue). length q.bytes) fr.tx in
       record {
         out = sent_as u t kind.Plain b;
-        after = left u t now b established kind.Plain;
-        speaks = record { dispatch = h; bit = bit; ack = ack; waits = waits kind.Plain h (plain_sent u t now b established) (timed (omega (arith, long, some))) };
+        after = left u t now b opens kind.Plain;
+        speaks = record { dispatch = h; bit = bit; ack = ack; waits = waits kind.Plain h (plain_sent u t now b opens) (timed (omega (arith, long, some))) };
         number = number;
         some = some;
         within = inl (omega (arith, few, asked_is, fr.window));
@@ -303,11 +311,11 @@ module _ (d : Option Duration) (t : Tuple) (v : View) (f : Facts) (now : Instant
         first = lent_beginning u.tx_buffer (offset_of u) (asked u t fa false) bytes lent ∙ ap (λ o. take (length bytes) (drop o u.tx_buffer.bytes)) start ∙ ap (λ (q : Queue). take (length bytes) q.bytes) fr.tx;
         sent = length bytes;
         sent_within = omega arith;
-        nxt = plain_nxt u t now b established ∙ (λ i. later_of (fr.nxt i) (seq_add (number i) (long i))) ∙ later_is v.local_seq_no (seq_add v.local_seq_no (length bytes)) (is_earlier v.local_seq_no (seq_add v.local_seq_no (length bytes)) (omega (arith, some, few, fr.ordered.room, (reached_ordered v s.reached).una_small)));
+        nxt = plain_nxt u t now b opens ∙ (λ i. later_of (fr.nxt i) (seq_add (number i) (long i))) ∙ later_is v.local_seq_no (seq_add v.local_seq_no (length bytes)) (is_earlier v.local_seq_no (seq_add v.local_seq_no (length bytes)) (omega (arith, some, few, fr.ordered.room, (reached_ordered v s.reached).una_small)));
       }
     where
-      timed : 0 < segment_len b → IsOpenTimer (left u t now b established kind.Plain).timer
-      timed some = subst IsOpenTimer (sym (plain_timer u t now b established false (not_zero (segment_len b) some) ∙ ap (λ tm. retransmit_unless_set tm now u.rtte) renewed)) (by u.keep_alive)
+      timed : 0 < segment_len b → IsOpenTimer (left u t now b opens kind.Plain).timer
+      timed some = subst IsOpenTimer (sym (plain_timer u t now b opens false (not_zero (segment_len b) some) ∙ ap (λ tm. retransmit_unless_set tm now u.rtte) renewed)) (by u.keep_alive)
         where
           by : (keep : Option Duration) → IsOpenTimer (retransmit_unless_set (idle_from now keep) now u.rtte)
           by None = tt
@@ -316,24 +324,24 @@ module _ (d : Option Duration) (t : Tuple) (v : View) (f : Facts) (now : Instant
   speaks_plain : 0 < v.remote_win_len → 0 < length v.tx_buffer.bytes → SpeaksPlain fa v
   unfolding speaks_bytes
   speaks_plain win queue =
-      let l = plain_sent u t now b established in
+      let l = plain_sent u t now b opens in
       let some : 0 < length bytes = (speaks_bytes win queue).some in
-      let long : segment_len b ≡ length bytes = segment_length u t None bytes established nothing_marked in
+      let long : segment_len b ≡ length bytes = segment_length u t None bytes sends nothing_marked in
       record {
         bytes = speaks_bytes win queue;
         fits = omega (arith, few, asked_is, fr.window);
         short = omega (arith, few, asked_is, mtu.1);
         field = told_field;
         at = moment_after now (rto_of u.rtte);
-        timer = plain_timer u t now b established false (not_zero (segment_len b) (omega (arith, long, some))) ∙ ap (λ tm. retransmit_unless_set tm now u.rtte) renewed ∙ waits_again u.keep_alive;
+        timer = plain_timer u t now b opens false (not_zero (segment_len b) (omega (arith, long, some))) ∙ ap (λ tm. retransmit_unless_set tm now u.rtte) renewed ∙ waits_again u.keep_alive;
         window = l.window ∙ fr.window;
         shift = l.shift ∙ fr.shift;
-        last_ack = plain_ack u t now b established ∙ ack;
-        last_win = plain_window u t now b established ∙ told_field;
+        last_ack = plain_ack u t now b opens ∙ ack;
+        last_win = plain_window u t now b opens ∙ told_field;
       }
     where
       told_field : b.window_len ≡ window_field v
-      told_field = segment_window u t None bytes established nothing_marked ∙ (λ i. min (length ((fr.rx i).held) / 2 ^ fr.shift i) 65535)
+      told_field = segment_window u t None bytes sends nothing_marked ∙ (λ i. min (length ((fr.rx i).held) / 2 ^ fr.shift i) 65535)
 
       waits_again : (keep : Option Duration) → retransmit_unless_set (idle_from now keep) now u.rtte ≡ timer.Retransmit (moment_after now (rto_of u.rtte))
       waits_again None = refl
@@ -344,15 +352,15 @@ module _ (d : Option Duration) (t : Tuple) (v : View) (f : Facts) (now : Instant
   speaks_nothing win keep_over =
       let shut : u.remote_win_len ≡ 0 = fr.window ∙ win in
       let none : length bytes ≡ 0 = omega (arith, few, asked_is, shut) in
-      let kept : emission_kind u now b ≡ kind.KeepAlive = without_bytes u t None bytes established nothing_marked now no_probing none true keep_over in
+      let kept : emission_kind u now b ≡ kind.KeepAlive = without_bytes u t None bytes sends nothing_marked now no_probing none true keep_over in
       let h = goes_out kind.KeepAlive kept (keep_alive_due u t fa false keep_over) in
       record {
         out = sent_as u t kind.KeepAlive b;
-        after = left u t now b established kind.KeepAlive;
-        speaks = record { dispatch = h; bit = bit; ack = ack; waits = waits kind.KeepAlive h (kept_sent u t now b established) (subst IsOpenTimer (sym (kept_timer u t now b established ∙ renewed)) (open_idle now u.keep_alive)) };
+        after = left u t now b opens kind.KeepAlive;
+        speaks = record { dispatch = h; bit = bit; ack = ack; waits = waits kind.KeepAlive h (kept_sent u t now b opens) (subst IsOpenTimer (sym (kept_timer u t now b opens ∙ renewed)) (open_idle now u.keep_alive)) };
         number = ap (λ n. seq_minus n 1) fr.una;
         one = refl;
-        nxt = kept_nxt u t now b established ∙ fr.nxt;
+        nxt = kept_nxt u t now b opens ∙ fr.nxt;
       }
 
   -- without a window it is silent, or acknowledges
@@ -369,7 +377,7 @@ module _ (d : Option Duration) (t : Tuple) (v : View) (f : Facts) (now : Instant
       none = omega (arith, few, asked_is, fr.window, win)
 
       long : segment_len b ≡ 0
-      long = segment_length u t None bytes established nothing_marked ∙ none
+      long = segment_length u t None bytes sends nothing_marked ∙ none
 
       small : v.local_seq_no.0 < 2 ^ 32
       small = (reached_ordered v s.reached).una_small
@@ -377,37 +385,37 @@ module _ (d : Option Duration) (t : Tuple) (v : View) (f : Facts) (now : Instant
       stays : later_of v.local_seq_no (seq_add v.local_seq_no 0) ≡ v.local_seq_no
       stays = later_stays v.local_seq_no (seq_add v.local_seq_no 0) (is_not_before v.local_seq_no (seq_add v.local_seq_no 0) (omega (arith, small)))
 
-      sends : is_due u t fa false ≡ true → (k : Bool) → is_keep_alive_over u.timer now ≡ k → FallsSilent fa v
-      sends due true over =
-          let h = goes_out kind.KeepAlive (without_bytes u t None bytes established nothing_marked now no_probing none true over) due in
-          let l = kept_sent u t now b established in
+      speaks : is_due u t fa false ≡ true → (k : Bool) → is_keep_alive_over u.timer now ≡ k → FallsSilent fa v
+      speaks due true over =
+          let h = goes_out kind.KeepAlive (without_bytes u t None bytes sends nothing_marked now no_probing none true over) due in
+          let l = kept_sent u t now b opens in
           record {
             out = Some (sent_as u t kind.KeepAlive b);
-            after = left u t now b established kind.KeepAlive;
+            after = left u t now b opens kind.KeepAlive;
             dispatch = h;
-            waits = waits kind.KeepAlive h l (subst IsOpenTimer (sym (kept_timer u t now b established ∙ renewed)) (open_idle now u.keep_alive));
+            waits = waits kind.KeepAlive h l (subst IsOpenTimer (sym (kept_timer u t now b opens ∙ renewed)) (open_idle now u.keep_alive));
             moment = moment_after now e;
-            timer = kept_timer u t now b established ∙ renewed ∙ waits_then;
-            nxt = kept_nxt u t now b established ∙ fr.nxt ∙ sym (l.una ∙ fr.una);
+            timer = kept_timer u t now b opens ∙ renewed ∙ waits_then;
+            nxt = kept_nxt u t now b opens ∙ fr.nxt ∙ sym (l.una ∙ fr.una);
             window = l.window ∙ fr.window;
           }
-      sends due false over =
-          let h = goes_out kind.Plain (without_bytes u t None bytes established nothing_marked now no_probing none false over) due in
-          let l = plain_sent u t now b established in
-          let tm : (left u t now b established kind.Plain).timer ≡ idle_from now u.keep_alive = plain_timer u t now b established true (rw long refl) ∙ renewed in
+      speaks due false over =
+          let h = goes_out kind.Plain (without_bytes u t None bytes sends nothing_marked now no_probing none false over) due in
+          let l = plain_sent u t now b opens in
+          let tm : (left u t now b opens kind.Plain).timer ≡ idle_from now u.keep_alive = plain_timer u t now b opens true (rw long refl) ∙ renewed in
           record {
             out = Some (sent_as u t kind.Plain b);
-            after = left u t now b established kind.Plain;
+            after = left u t now b opens kind.Plain;
             dispatch = h;
             waits = waits kind.Plain h l (subst IsOpenTimer (sym tm) (open_idle now u.keep_alive));
             moment = moment_after now e;
             timer = tm ∙ waits_then;
-            nxt = plain_nxt u t now b established ∙ (λ i. later_of (fr.nxt i) (seq_add (number i) (long i))) ∙ stays ∙ sym (l.una ∙ fr.una);
+            nxt = plain_nxt u t now b opens ∙ (λ i. later_of (fr.nxt i) (seq_add (number i) (long i))) ∙ stays ∙ sym (l.una ∙ fr.una);
             window = l.window ∙ fr.window;
           }
 
       no_moment : u.timer ≡ timer.Idle None → u.keep_alive ≡ None
-      no_moment idle = (subst (λ tm. Row state.Established tm u.keep_alive (flight u) (length u.tx_buffer.bytes)) idle (subst (λ st. Row st u.timer u.keep_alive (flight u) (length u.tx_buffer.bytes)) established fr.ordered.row)).0
+      no_moment idle = subst (λ tm. HasMoment tm u.keep_alive) idle (row_moment u.state u.timer u.keep_alive (flight u) (length u.tx_buffer.bytes) may fr.ordered.row)
 
       at_rest : DispatchesOk fa false v None u → (o : Option Instant) → u.timer ≡ timer.Idle o → FallsSilent fa v
       at_rest h None idle = absurd (none-some e (sym (no_moment idle) ∙ keep))
@@ -423,7 +431,7 @@ module _ (d : Option Duration) (t : Tuple) (v : View) (f : Facts) (now : Instant
       }
 
       by : (due : Bool) → is_due u t fa false ≡ due → FallsSilent fa v
-      by true due = sends due (is_keep_alive_over u.timer now) refl
+      by true due = speaks due (is_keep_alive_over u.timer now) refl
       by false idle =
           let h : DispatchesOk fa false v None u = subst (DispatchesOk fa false v None) u_is (quiet_so v t fa false on carries (ap (λ x. is_due x t fa false) u_is ∙ idle)) in
           at_rest h fr.moment fr.idle
@@ -447,7 +455,7 @@ pub record Begins (t : Tuple) (f : Facts) (v : View) (now : Instant) : Type 0 wh
   pub view : View
   pub front : Front v view
   pub no_end : is_close_over v.timer now ≡ false
-  pub is : (on : GoesOn v t (told f now)) (carries : carries_data v.state ≡ true) → beginning v t (told f now) false on carries ≡ view
+  pub is : (on : GoesOn v t (told f now)) (carries : never_pauses v.state ≡ true) → beginning v t (told f now) false on carries ≡ view
 
 pub begins : (t : Tuple) (f : Facts) (v : View) (now : Instant) → IsReached v → v.timeout ≡ None → (r : Rests v) → IsNoProbe r → is_over (wakes r) now ≡ true → Begins t f v now
 begins t f v now r none (ForProbe at delay probes nxt some) other over = absurd other
@@ -471,8 +479,8 @@ begins t f v now r none (ForAnswer at again) other over = record {
 }
 
 module _ (d : Option Duration) (t : Tuple) (v : View) (f : Facts) (now : Instant) (mtu : IsMtu f.mtu) (address : f.has_address t.local.addr ≡ true) (s : IsSender d t v) where
-  carries_so : carries_data v.state ≡ true
-  carries_so = ap carries_data s.state
+  carries_so : never_pauses v.state ≡ true
+  carries_so = carries_runs v.state (sends_data v.state s.state)
 
   goes_on : is_close_over v.timer now ≡ false → GoesOn v t (told f now)
   goes_on e = record { peer = s.peer; address = address; alive = rw s.no_timeout refl; no_end = e }

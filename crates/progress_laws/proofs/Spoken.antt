@@ -32,7 +32,7 @@ use Rattle.tcp_laws.proofs.OrderedCalls.{reached_ordered}
 use Rattle.tcp_laws.specs.Polling.{IsReached}
 use Rattle.progress_laws.specs.Delivery.{HasSaid, HearsOf, ProbesNext}
 use Rattle.progress_laws.specs.Speech.{FromUna, KeepsAlive, Probes, SendsOk, Speech}
-use Rattle.progress_laws.proofs.Begins.{Alike, beginning, content_is, dispatch_reached, goes_out, readied_alike, segment_for}
+use Rattle.progress_laws.proofs.Begins.{Alike, beginning, carries_runs, content_is, dispatch_reached, goes_out, readied_alike, segment_for}
 
 -- ---- what a dispatch leaves alone
 
@@ -86,7 +86,7 @@ IsSaid control.Psh = Unit {0}
 IsSaid control.Fin = Unit {0}
 IsSaid c = ⊥
 
-data_said : (u : View) (n : ℕ) → IsSaid (data_control u n)
+pub data_said : (u : View) (n : ℕ) → IsSaid (data_control u n)
 data_said u n = go (offset_of u + n == length u.tx_buffer.bytes) (is_closing u.state) (n == 0)
   where
     go : (a b d : Bool) → IsSaid (if a then (if b then control.Fin else (if d then control.None else control.Psh)) else control.None)
@@ -128,7 +128,7 @@ module _ (t : Tuple) (f : Facts) (stamps : Bool) (v : View) (out : Sending) (u :
   now = moment_of f
 
   abbrev b : View
-  b = beginning v t f stamps h.on h.carries
+  b = beginning v t f stamps h.on (carries_runs v.state h.carries)
 
   begun_still : Still v b
   begun_still =
@@ -136,7 +136,7 @@ module _ (t : Tuple) (f : Facts) (stamps : Bool) (v : View) (out : Sending) (u :
       then_still v (readied v now) b (record { state = al.state; una = al.una; tx = al.tx; rx = al.rx; rcv = al.rcv }) (timer_still v.timer (readied v now) now)
 
   o : SendsOk f t stamps b (Some out) u
-  o = goes_out v t f stamps h.on h.carries out u h.dispatch
+  o = goes_out v t f stamps h.on (carries_runs v.state h.carries) out u h.dispatch
 
   abbrev g : Segment
   g = segment_for b t o.stamp o.bytes

@@ -19,21 +19,21 @@ use Rattle.sock_tcp.specs.Steps.{ack_delayed, heard, joined, scale_of}
 use Rattle.sock_tcp.specs.Timers.{idle_from}
 use Rattle.sock_tcp.specs.View.{View}
 use Rattle.sock_tcp.specs.Window.{cut_bytes, cut_of, is_inside, kept_between, next_ack, receive_window, window_end}
-use Rattle.sock_tcp.specs.declared.state.State.TheVariants as state
 use Rattle.sock_tcp.specs.declared.window.Cut.{Cut}
 use Rattle.tcp_laws.specs.Polling.{IsReached}
 use Rattle.tcp_laws.specs.SocketRun.{IsNumbered, Process, RecvSlice, after_segment, handed_slice, with_handed}
 use Rattle.progress_laws.proofs.Begins.{not_zero, step_reached}
 use Rattle.progress_laws.proofs.Edges.{cut_at, is_not_before, later_stays, old_outside, tail_cut, tail_inside}
-use Rattle.progress_laws.proofs.Hears.{HeardAs, IsData, IsOpenTimer, answered_outside, covered, heard_as, heard_inside, heard_rests, seen}
-use Rattle.progress_laws.proofs.Learns.{not_listening}
+use Rattle.progress_laws.proofs.Hears.{HeardAs, IsData, IsOpenTimer, answered_outside, covered, heard_as, heard_inside, heard_open, heard_rests, seen}
 use Rattle.progress_laws.proofs.Receives.{start_is}
+use Rattle.progress_laws.proofs.States.{is_flat, not_listening}
 use Rattle.progress_laws.proofs.Taking.{at_once, blank, blank_holds_nothing, read_bytes, read_held, take_all, taken_bytes, taken_held}
 
--- w is in ESTABLISHED and has read all, with room for so many bytes. Its peer acknowledges all that it sent, n bytes of
+-- w takes bytes, in ESTABLISHED or FIN-WAIT-2, and has read all, with room for so many bytes. Its peer acknowledges all that it sent, n bytes of
 -- its queue, by k
 pub record IsCaughtUp (w : View) (k : TcpSeqNumber) (n room : ℕ) : Type 0 where
-  pub state : w.state ≡ state.Established
+  pub state : is_flat w.state ≡ true
+  pub takes : receives w.state ≡ true
   pub una_small : w.local_seq_no.0 < 2 ^ 32
   pub short : length w.tx_buffer.bytes ≤ 2 ^ 30
   pub there : k ≡ seq_add w.local_seq_no n
@@ -57,7 +57,6 @@ pub record Took (w : View) (k : TcpSeqNumber) (n room m win : ℕ) (now : Instan
   pub nxt : y.remote_last_seq ≡ k
   pub tx : y.tx_buffer.bytes ≡ drop n w.tx_buffer.bytes
   pub window : y.remote_win_len ≡ win
-  pub timer : y.timer ≡ idle_from now w.keep_alive
   pub read : y.rx_buffer.bytes ≡ []
   pub held : y.rx_buffer.held ≡ blank room
   pub last_ack : y.remote_last_ack ≡ w.remote_last_ack
@@ -88,6 +87,11 @@ reads_reached w n takes few r = step_reached w (read_off w n) (with_handed r.cou
     size : readable w (length bs) ≡ n
     size = omega (arith, long, few)
 
+-- what lies before the window is outside of it
+pub before_window : (w : View) (g : Segment) → seq_sub (receive_window w).end (receive_window w).start ≤ 2 ^ 30 → 0 < length g.payload → g.seq_number.0 < 2 ^ 32 → 0 < seq_sub (next_ack w) g.seq_number → seq_sub (next_ack w) g.seq_number < 2 ^ 31 → seq_sub (next_ack w) (seq_add g.seq_number (length g.payload)) < 2 ^ 31 → is_inside (receive_window w) g.seq_number (length g.payload) ≡ false
+unfolding is_inside
+before_window w g narrow some there before near behind = rw (not_zero (length g.payload) some) (old_outside (receive_window w) (start_small w) (end_small w) narrow g.seq_number (seq_add g.seq_number (length g.payload)) there (subst (λ m. 0 < seq_sub m g.seq_number) (sym (start_is w)) before) (subst (λ m. seq_sub m g.seq_number < 2 ^ 31) (sym (start_is w)) near) (subst (λ m. seq_sub m (seq_add g.seq_number (length g.payload)) < 2 ^ 31) (sym (start_is w)) behind))
+
 module _ (w : View) (k : TcpSeqNumber) (n room : ℕ) (now : Instant) (ip : IpRepr) (g : Segment) (c : IsCaughtUp w k n room) (bit : IsData g.control) (ack : g.ack_number ≡ Some k) where
   wide : length w.rx_buffer.held ≡ room
   wide = ap (λ (l : List (Option ℕ)). length l) c.held ∙ length-replicate room None
@@ -106,11 +110,7 @@ module _ (w : View) (k : TcpSeqNumber) (n room : ℕ) (now : Instant) (ip : IpRe
 
   -- what lies before the window is answered
   pub old_answered : 0 < length g.payload → g.seq_number.0 < 2 ^ 32 → 0 < seq_sub (next_ack w) g.seq_number → seq_sub (next_ack w) g.seq_number < 2 ^ 31 → seq_sub (next_ack w) (seq_add g.seq_number (length g.payload)) < 2 ^ 31 → processed w now 0 ip g ≡ ack_sent w g
-  unfolding is_inside
-  old_answered some there before near behind = answered_outside w now 0 ip g k c.state ack bit small c.una_small within c.short away (not_zero (length g.payload) some)
-    where
-      away : is_inside (receive_window w) g.seq_number (length g.payload) ≡ false
-      away = rw (not_zero (length g.payload) some) (old_outside (receive_window w) (start_small w) (end_small w) width_small g.seq_number (seq_add g.seq_number (length g.payload)) there (subst (λ m. 0 < seq_sub m g.seq_number) (sym (start_is w)) before) (subst (λ m. seq_sub m g.seq_number < 2 ^ 31) (sym (start_is w)) near) (subst (λ m. seq_sub m (seq_add g.seq_number (length g.payload)) < 2 ^ 31) (sym (start_is w)) behind))
+  old_answered some there before near behind = answered_outside w now 0 ip g k c.state ack bit small c.una_small within c.short (before_window w g width_small some there before near behind) (not_zero (length g.payload) some)
 
   -- of what lies in it, but for j bytes before it, m bytes are taken
   abbrev z : View
@@ -127,7 +127,7 @@ module _ (w : View) (k : TcpSeqNumber) (n room : ℕ) (now : Instant) (ip : IpRe
   all = rw (c.nxt, is_not_before k k (omega (arith, small)), eq-eqb k.0 k.0 refl) refl
 
   hears : HeardAs z k (seq_sub k w.local_seq_no) (g.window_len * 2 ^ scale_of w.remote_win_scale) x
-  hears = heard_as z now (covered w now 0 ip g k c.state ack bit) g k ack bit last
+  hears = heard_as z now (covered w now 0 ip g k c.state ack bit) g k ack bit
 
   module _ (j m : ℕ) (skips : seq_sub (next_ack w) g.seq_number ≡ j) (near : j < 2 ^ 31) (long : length g.payload ≡ j + m) (some : 0 < m) (fits : m ≤ seq_sub (receive_window w).end (receive_window w).start) (past : seq_sub (seq_add g.seq_number (length g.payload)) (next_ack w) ≡ m) where
     abbrev pub fresh_bytes : List ℕ
@@ -188,9 +188,9 @@ module _ (w : View) (k : TcpSeqNumber) (n room : ℕ) (now : Instant) (ip : IpRe
     abbrev pub y : View
     y = read_off took (length fresh_bytes)
 
-    pub took_so : 0 < g.window_len * 2 ^ scale_of w.remote_win_scale → Took w k n room m (g.window_len * 2 ^ scale_of w.remote_win_scale) now y
+    pub took_so : Took w k n room m (g.window_len * 2 ^ scale_of w.remote_win_scale) now y
     unfolding read_off joined ack_delayed
-    took_so told = record {
+    took_so = record {
       state = hears.state;
       peer = hears.peer;
       timeout = hears.timeout;
@@ -202,7 +202,6 @@ module _ (w : View) (k : TcpSeqNumber) (n room : ℕ) (now : Instant) (ip : IpRe
       nxt = hears.nxt ∙ ap (λ q. later_of q k) c.nxt ∙ later_stays k k (is_not_before k k (omega (arith, small)));
       tx = ap (λ (q : Queue). q.bytes) hears.tx ∙ ap (λ q. drop q w.tx_buffer.bytes) covers_n;
       window = hears.window;
-      timer = heard_rests z now (covered w now 0 ip g k c.state ack bit) g k ack bit last c.timer all told;
       read = read_bytes took.rx_buffer fresh_bytes took_bytes;
       held = read_held took.rx_buffer rest (length fresh_bytes) took_held ∙ ap blank (omega (arith, room_is));
       last_ack = hears.last_ack;
@@ -210,12 +209,20 @@ module _ (w : View) (k : TcpSeqNumber) (n room : ℕ) (now : Instant) (ip : IpRe
       next = omega (arith, ap (λ (q : TcpSeqNumber). q.0) hears.rcv, ap (λ (l : List ℕ). length l) c.read, ap (λ (l : List ℕ). length l) (read_bytes took.rx_buffer fresh_bytes took_bytes), fresh_length);
     }
 
+    pub took_rests : 0 < g.window_len * 2 ^ scale_of w.remote_win_scale → y.timer ≡ idle_from now w.keep_alive
+    unfolding read_off joined ack_delayed
+    took_rests told = heard_rests z now (covered w now 0 ip g k c.state ack bit) g k ack bit last c.timer all told
+
+    pub took_open : IsOpenTimer y.timer
+    unfolding read_off joined ack_delayed
+    took_open = heard_open z now (covered w now 0 ip g k c.state ack bit) g k ack bit last c.timer
+
     pub took_reached : IsReached w → g.seq_number.0 < 2 ^ 32 → length g.payload ≤ 65535 → IsReached y
     unfolding joined ack_delayed
     took_reached r number few = reads_reached took (length fresh_bytes) receiving (omega (arith, ap (λ (l : List ℕ). length l) took_bytes)) then_reached
       where
         receiving : receives took.state ≡ true
-        receiving = ap receives (hears.state ∙ c.state)
+        receiving = ap receives hears.state ∙ c.takes
 
         numbered : IsNumbered g
         numbered = record { seq_number = number; ack_number = λ q e. subst (λ (b : TcpSeqNumber). b.0 < 2 ^ 32) (same_Some k q (sym ack ∙ e)) small }

@@ -1,24 +1,26 @@
 -- The sender hears that all it sent was taken, and the two stand in step again.
-use Rattle.std.proofs.Common.{◌≡◌, ℕ, ◌*◌, ◌<◌, ◌≤◌, ◌^◌, refl, sym, ap, subst, ◌∙◌, length, drop, None, arith}
+use Rattle.std.proofs.Common.{◌≡◌, ℕ, ◌*◌, ◌<◌, ◌≤◌, ◌^◌, refl, sym, ap, subst, ◌∙◌, length, drop, Option, None, inl, arith}
 use Rattle.net_base.specs.declared.time.Duration.{Duration}
 use Rattle.net_base.specs.declared.time.Instant.{Instant}
 use Rattle.ip_wire.specs.declared.repr.IpRepr.{IpRepr}
 use Rattle.control_wire.specs.Segment.{Segment}
 use Rattle.control_wire.specs.Seq.{seq_add, seq_sub}
 use Rattle.sock_tcp.specs.Process.{processed}
+use Rattle.sock_tcp.specs.Queues.{may_send}
 use Rattle.sock_tcp.specs.Steps.{scale_of}
-use Rattle.sock_tcp.specs.Timers.{after as moment_after, idle_from}
+use Rattle.sock_tcp.specs.Timers.{idle_from}
 use Rattle.sock_tcp.specs.View.{View}
 use Rattle.sock_tcp.specs.Window.{next_ack, receive_window}
 use Rattle.sock_tcp.specs.declared.tuple.Tuple.{Tuple}
-use Rattle.progress_laws.specs.InStep.{ForKeepAlive, InStep}
+use Rattle.progress_laws.specs.InStep.{InStep}
 use Rattle.progress_laws.proofs.Edges.{same_seq}
-use Rattle.progress_laws.proofs.Learns.{Learnt, learnt}
+use Rattle.progress_laws.proofs.Learns.{Learnt, idle_rests, learnt}
 use Rattle.progress_laws.proofs.Receives.{Tells}
 use Rattle.progress_laws.proofs.Speaks.{Waits}
+use Rattle.progress_laws.proofs.States.{sends_flat}
 
 -- v sent n bytes, or none, and became x; w' tells in g that it took them
-module _ (d : Duration) (t s : Tuple) (v w x w' : View) (now : Instant) (ip : IpRepr) (g : Segment) (n : ℕ) (i : InStep d t s v w) (wait : Waits v x) (tell : Tells w w' s g) (queued : n ≤ length v.tx_buffer.bytes) (taken : next_ack w' ≡ seq_add v.local_seq_no n) (near : seq_sub (next_ack w') x.remote_last_seq ≤ 2 ^ 30) where
+module _ (d : Option Duration) (t s : Tuple) (v w x w' : View) (now : Instant) (ip : IpRepr) (g : Segment) (n : ℕ) (i : InStep d t s v w) (wait : Waits v x) (tell : Tells w w' s g) (queued : n ≤ length v.tx_buffer.bytes) (taken : next_ack w' ≡ seq_add v.local_seq_no n) (near : seq_sub (next_ack w') x.remote_last_seq ≤ 2 ^ 30) where
   number : g.seq_number ≡ next_ack v
   number = tell.number ∙ i.back
 
@@ -26,7 +28,7 @@ module _ (d : Duration) (t s : Tuple) (v w x w' : View) (now : Instant) (ip : Ip
   some = subst (λ m. 0 < g.window_len * 2 ^ m) (sym i.scale) tell.some
 
   pub learns : Learnt v x now ip g (next_ack w') n
-  learns = learnt v x now ip g (next_ack w') n i.sender.state wait tell.bit number tell.ack tell.empty some queued taken near
+  learns = learnt v x now ip g (next_ack w') n (sends_flat v.state i.sender.state) wait tell.bit number tell.ack tell.empty some queued taken near
 
   abbrev pub heard_view : View
   heard_view = learns.view
@@ -43,12 +45,12 @@ module _ (d : Duration) (t s : Tuple) (v w x w' : View) (now : Instant) (ip : Ip
       record {
         sender = record {
           reached = learns.reached;
-          state = h.state ∙ wait.state ∙ i.sender.state;
+          state = ap may_send (h.state ∙ wait.state) ∙ i.sender.state;
           peer = h.peer ∙ wait.peer ∙ i.sender.peer;
           no_timeout = h.timeout ∙ wait.timeout ∙ i.sender.no_timeout;
           keep_alive = h.keep_alive ∙ keep;
           nothing_marked = h.marked ∙ wait.nothing_marked;
-          rests = ForKeepAlive (moment_after now d) (learns.timer ∙ ap (idle_from now) keep) learns.nothing_in_flight;
+          rests = idle_rests learns.view now d (learns.timer ∙ ap (idle_from now) keep) learns.nothing_in_flight learns.window;
         };
         receiver = tell.receiver;
         taken = 0;
@@ -57,6 +59,7 @@ module _ (d : Duration) (t s : Tuple) (v w x w' : View) (now : Instant) (ip : Ip
         back = tell.una ∙ i.back ∙ sym own;
         scale = ap scale_of h.scale ∙ scale ∙ sym tell.shift;
         window = let e : heard_view.remote_win_len ≡ seq_sub (receive_window w').end (receive_window w').start = h.window ∙ ap (λ m. g.window_len * 2 ^ m) scale ∙ sym tell.window in omega (arith, e);
+        not_last = λ at e. inl learns.window;
       }
 
   -- nothing is taken then that the sender has not heard of

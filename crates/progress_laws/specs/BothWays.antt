@@ -9,15 +9,17 @@ use Rattle.sock_tcp.specs.Due.{window_field}
 use Rattle.sock_tcp.specs.Steps.{scale_of}
 use Rattle.sock_tcp.specs.View.{View}
 use Rattle.sock_tcp.specs.Window.{next_ack, receive_window}
+use Rattle.sock_tcp.specs.declared.state.State.TheVariants as state
 use Rattle.sock_tcp.specs.declared.tuple.Tuple.{Tuple}
 use Rattle.progress_laws.specs.InStep.{IsSender, Move}
 
 -- ---- the two sides
 
--- A side v with the peer t is a sender (`IsSender`: in ESTABLISHED, with the keep-alive interval d or with none). All
+-- A side v with the peer t is a sender (`IsSender`), in ESTABLISHED, with the keep-alive interval d or with none. All
 -- that it took was read, and it holds nothing. It has room for so many bytes, at least for one unit of its window field
 pub record IsSide (d : Option Duration) (t : Tuple) (v : View) : Type 0 where
   pub sender : IsSender d t v
+  pub established : v.state ≡ state.Established
   pub read : v.rx_buffer.bytes ≡ []
   pub room : ℕ
   pub nothing_held : v.rx_buffer.held ≡ replicate room None
@@ -28,8 +30,8 @@ abbrev pub window_told : View → ℕ
 window_told v = window_field v * 2 ^ v.remote_win_shift
 
 -- The bytes from v to w. They agree on the numbers, and on the scale of the window. The side w took so many bytes that
--- v has not heard of. The window that v knows is above 0, lies within the receive window of w, and is no more than what w
--- tells now
+-- v has not heard of. The window that v knows is above 0, lies within the receive window of w, and is no more than what
+-- w tells now
 pub record Toward (v w : View) : Type 0 where
   pub taken : ℕ
   pub taken_within : taken ≤ length v.tx_buffer.bytes

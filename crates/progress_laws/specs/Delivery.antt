@@ -31,8 +31,8 @@ pub record HasSaid (t : Tuple) (f : Facts) (stamps : Bool) (v : View) (out : Sen
   pub speech : Speech v out
 
 -- The other side w is what some list of calls makes of a new socket, in ESTABLISHED, FIN-WAIT-1 or FIN-WAIT-2, with
--- room for one unit of its window field, whatever waits in its queues. They agree on the numbers of both streams: w took n
--- bytes of v's transmit queue, and v some of what w has not heard of yet, of its queue and its FIN
+-- room for one unit of its window field, whatever waits in its queues. They agree on the numbers of both streams: w
+-- took n bytes of v's transmit queue, and v some of what w has not heard of yet, of its queue and its FIN
 pub record HearsOf (v w : View) (n : ℕ) : Type 0 where
   pub reached : IsReached w
   pub receives : receives w.state ≡ true

@@ -1,5 +1,5 @@
 -- Two sockets that stand in step, of which one sends to the other, and what they can do in turn.
-use Rattle.std.specs.Prelude.{ℕ, ◌≡◌, ◌+◌, ◌^◌, ◌<◌, ◌≤◌, ◌≤ℤ◌, List, [], ◌++◌, length, take, drop, replicate, Option, Some, None, Err, true, false}
+use Rattle.std.specs.Prelude.{ℕ, ◌≡◌, ◌⊎◌, ◌+◌, ◌^◌, ◌<◌, ◌≤◌, ◌≤ℤ◌, List, [], ◌++◌, length, take, drop, replicate, Option, Some, None, is_some, Err, Bool, true, false}
 use Rattle.std.specs.Option.{ForSome}
 use Rattle.net_base.specs.declared.time.Duration.{Duration}
 use Rattle.net_base.specs.declared.time.Instant.{Instant}
@@ -11,12 +11,13 @@ use Rattle.sock_core.specs.Facts.{Facts}
 use Rattle.sock_tcp.specs.Closing.{closed}
 use Rattle.sock_tcp.specs.Content.{Sending}
 use Rattle.sock_tcp.specs.Process.{processed}
-use Rattle.sock_tcp.specs.Queues.{read_off, recv_check}
+use Rattle.sock_tcp.specs.Queues.{may_send, read_off, recv_check}
 use Rattle.sock_tcp.specs.Replies.{reply_ip}
 use Rattle.sock_tcp.specs.Steps.{scale_of}
 use Rattle.sock_tcp.specs.View.{View}
 use Rattle.sock_tcp.specs.Window.{next_ack, receive_window}
 use Rattle.sock_tcp.specs.declared.error.RecvError.TheVariants as recv_error
+use Rattle.sock_tcp.specs.declared.state.State.{State}
 use Rattle.sock_tcp.specs.declared.state.State.TheVariants as state
 use Rattle.sock_tcp.specs.declared.timer.Timer.TheVariants as timer
 use Rattle.sock_tcp.specs.declared.tuple.Tuple.{Tuple}
@@ -45,22 +46,28 @@ pub data Rests (v : View) : Type 0 where
       → v.timer ≡ timer.Retransmit at
       → Rests v
 
--- The sender v, with the peer t, is what some list of calls makes of a new socket. It is in ESTABLISHED, without a user
--- timeout, with the keep-alive interval d, or with none
+-- The sender v, with the peer t, is what some list of calls makes of a new socket. It is in ESTABLISHED or CLOSE-WAIT,
+-- without a user timeout, with the keep-alive interval d, or with none
 pub record IsSender (d : Option Duration) (t : Tuple) (v : View) : Type 0 where
   pub reached : IsReached v
-  pub state : v.state ≡ state.Established
+  pub state : may_send v.state ≡ true
   pub peer : v.tuple ≡ Some t
   pub no_timeout : v.timeout ≡ None
   pub keep_alive : v.keep_alive ≡ d
   pub nothing_marked : v.pending_fast_retransmit ≡ false
   pub rests : Rests v
 
--- The receiver w, with the peer s, is in ESTABLISHED, without a user timeout, with a keep-alive interval that is not 0
--- or with none, and has nothing to send: all that it took was read, and it holds nothing. What it acknowledged last lies
--- not far behind that. It has room for as many bytes, at least for one unit of its window field
+-- in ESTABLISHED, and in FIN-WAIT-2, where the own FIN is acknowledged, bytes are still taken
+abbrev pub takes_bytes : State → Bool
+takes_bytes state.Established = true
+takes_bytes state.FinWait2 = true
+takes_bytes _ = false
+
+-- The receiver w, with the peer s, is in one of these, without a user timeout, with a keep-alive interval that is not 0
+-- or with none, and has nothing to send: all that it took was read, and it holds nothing. What it acknowledged last
+-- lies not far behind that. It has room for as many bytes, at least for one unit of its window field
 pub record IsReceiver (s : Tuple) (w : View) : Type 0 where
-  pub state : w.state ≡ state.Established
+  pub state : takes_bytes w.state ≡ true
   pub peer : w.tuple ≡ Some s
   pub no_timeout : w.timeout ≡ None
   pub interval : ForSome w.keep_alive (λ e. 0 < e.micros)
@@ -79,11 +86,11 @@ pub record IsReceiver (s : Tuple) (w : View) : Type 0 where
   pub acknowledged : w.remote_last_ack ≡ Some last
   pub near : seq_sub (next_ack w) last ≤ 2 ^ 30
 
--- The sender has a keep-alive interval. They agree on the numbers of both streams and on the scale of the receiver's
--- window. The receiver took so many bytes that the sender has not heard of. The window that the sender knows lies within
--- the receiver's
-pub record InStep (d : Duration) (t s : Tuple) (v w : View) : Type 0 where
-  pub sender : IsSender (Some d) t v
+-- They agree on the numbers of both streams and on the scale of the receiver's window. The receiver took so many bytes
+-- that the sender has not heard of. The window that the sender knows lies within the receiver's. While the sender's
+-- retransmission timer runs, it knows a window above 0, or has a keep-alive interval
+pub record InStep (d : Option Duration) (t s : Tuple) (v w : View) : Type 0 where
+  pub sender : IsSender d t v
   pub receiver : IsReceiver s w
   pub taken : ℕ
   pub taken_within : taken ≤ length v.tx_buffer.bytes
@@ -91,6 +98,7 @@ pub record InStep (d : Duration) (t s : Tuple) (v w : View) : Type 0 where
   pub back : w.local_seq_no ≡ next_ack v
   pub scale : scale_of v.remote_win_scale ≡ w.remote_win_shift
   pub window : v.remote_win_len ≤ taken + seq_sub (receive_window w).end (receive_window w).start
+  pub not_last : (at : Instant) → v.timer ≡ timer.Retransmit at → (0 < v.remote_win_len) ⊎ (is_some d ≡ true)
 
 -- ---- what they do in turn
 
@@ -153,7 +161,7 @@ pub data Moves (f : Facts) : Instant → View → View → List ℕ → Instant 
 
 -- Some such list empties the sender's transmit queue, and all of it that the receiver had not taken before was read of
 -- the receiver, in order. They stand in step again, and the receiver took nothing that the sender has not heard of
-pub record Completes (d : Duration) (t s : Tuple) (f : Facts) (at : Instant) (v w : View) (got : List ℕ)
+pub record Completes (d : Option Duration) (t s : Tuple) (f : Facts) (at : Instant) (v w : View) (got : List ℕ)
     (i : InStep d t s v w) : Type 0 where
   pub end : Instant
   pub sender : View
@@ -164,7 +172,7 @@ pub record Completes (d : Duration) (t s : Tuple) (f : Facts) (at : Instant) (v 
 
 -- from any moment on, in any context that has both addresses
 abbrev pub OneWayCompletes : Type 0
-OneWayCompletes = (d : Duration) (t s : Tuple) (f : Facts) (at : Instant) (v w : View) (got : List ℕ)
+OneWayCompletes = (d : Option Duration) (t s : Tuple) (f : Facts) (at : Instant) (v w : View) (got : List ℕ)
     → IsMtu f.mtu
     → f.has_address t.local.addr ≡ true
     → f.has_address s.local.addr ≡ true
@@ -174,7 +182,7 @@ OneWayCompletes = (d : Duration) (t s : Tuple) (f : Facts) (at : Instant) (v w :
 -- ---- the end of the stream
 
 -- After such a list the sender closes, its FIN reaches the receiver, and reads there answer `Finished`
-pub record Finishes (d : Duration) (t s : Tuple) (f : Facts) (at : Instant) (v w : View) (got : List ℕ)
+pub record Finishes (d : Option Duration) (t s : Tuple) (f : Facts) (at : Instant) (v w : View) (got : List ℕ)
     (i : InStep d t s v w) : Type 0 where
   pub bytes : Completes d t s f at v w got i
   pub now : Instant
@@ -187,7 +195,7 @@ pub record Finishes (d : Duration) (t s : Tuple) (f : Facts) (at : Instant) (v w
   pub finished : recv_check receiver ≡ Err recv_error.Finished
 
 abbrev pub OneWayFinishes : Type 0
-OneWayFinishes = (d : Duration) (t s : Tuple) (f : Facts) (at : Instant) (v w : View) (got : List ℕ)
+OneWayFinishes = (d : Option Duration) (t s : Tuple) (f : Facts) (at : Instant) (v w : View) (got : List ℕ)
     → IsMtu f.mtu
     → f.has_address t.local.addr ≡ true
     → f.has_address s.local.addr ≡ true

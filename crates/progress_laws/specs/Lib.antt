@@ -2,3 +2,4 @@ pub mod Speech
 pub mod Delivery
 pub mod InStep
 pub mod BothWays
+pub mod AfterClose

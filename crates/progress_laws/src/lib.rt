@@ -5,6 +5,7 @@
 //! do in turn; `BothWays.antt`, two that both have bytes to send.
 #![tactic(auto)]
 
+ghost use Rattle.progress_laws.specs.AfterClose.{ClosedSenderFinishes};
 ghost use Rattle.progress_laws.specs.BothWays.{BothWaysComplete};
 ghost use Rattle.progress_laws.specs.Delivery.{DeliveryMoves};
 ghost use Rattle.progress_laws.specs.InStep.{OneWayCompletes, OneWayFinishes};
@@ -12,9 +13,9 @@ ghost use Rattle.progress_laws.specs.Speech.{SpeaksPastItsTimers};
 
 /// Of three dispatches of a socket with a keep-alive interval, and with bytes or a FIN that are not acknowledged, one
 /// says so, each being at or after the moment of the timer that stands then and none of their emits failing: a segment
-/// from SND.UNA on, with a byte of the stream or the FIN; a probe of the peer's window (RFC 9293, section 3.8.6.1); or a
-/// keep-alive (RFC 1122, section 4.2.3.6). After any list of calls on a new socket over any two buffers of at most 2^30
-/// bytes, in ESTABLISHED, FIN-WAIT-1, CLOSE-WAIT, CLOSING and LAST-ACK.
+/// from SND.UNA on, with a byte of the stream or the FIN; a probe of the peer's window (RFC 9293, section 3.8.6.1); or
+/// a keep-alive (RFC 1122, section 4.2.3.6). After any list of calls on a new socket over any two buffers of at most
+/// 2^30 bytes, in ESTABLISHED, FIN-WAIT-1, CLOSE-WAIT, CLOSING and LAST-ACK.
 pub fn speaks_past_its_timers()
     ensures { SpeaksPastItsTimers }
 {}
@@ -30,8 +31,8 @@ pub fn delivery_moves()
 {}
 
 /// From any two sockets of which one sends and the other receives, which agree on their numbers (`InStep`), whatever
-/// bytes, acknowledgements and window updates were lost, some list of dispatches, deliveries and reads, at moments that do
-/// not go back, empties the sender's transmit queue, and all of it was read of the receiver, in order.
+/// bytes, acknowledgements and window updates were lost, some list of dispatches, deliveries and reads, at moments that
+/// do not go back, empties the sender's transmit queue, and all of it was read of the receiver, in order.
 pub fn one_way_completes()
     ensures { OneWayCompletes }
 {}
@@ -47,4 +48,11 @@ pub fn one_way_finishes()
 /// round. What one sent may have been lost, and its acknowledgements; the other sent nothing that was not taken.
 pub fn both_ways_complete()
     ensures { BothWaysComplete }
+{}
+
+/// From a sender that was closed with bytes to send, in FIN-WAIT-1, CLOSING or LAST-ACK, that knows a window above 0,
+/// and a receiver in ESTABLISHED or FIN-WAIT-2 (`AfterClose`), some list of dispatches, deliveries and reads brings
+/// over all bytes, in order, and then reads answer `Finished`.
+pub fn closed_sender_finishes()
+    ensures { ClosedSenderFinishes }
 {}

@@ -1,0 +1,489 @@
+-- A sender that was closed sends all that it has, and its FIN with the last of it.
+use Rattle.std.proofs.Common.{◌≡◌, ℕ, zero, suc, ◌+◌, ◌-◌, ◌*◌, ◌<◌, ◌≤◌, ◌^◌, ◌⊎◌, inl, inr, refl, sym, ap, subst, ◌∙◌, List, [], ◌∷◌, ◌++◌, length, take, drop, Option, Some, None, true, false, arith, append_assoc, length-drop}
+use Rattle.std.specs.Prelude.{◌≤ℤ◌}
+use Rattle.std.proofs.lemmas.Int.{ints}
+use Rattle.std.proofs.lemmas.List.{append-nil}
+use Rattle.std.proofs.lemmas.Option.{same_Some}
+use Rattle.net_base.specs.declared.time.Duration.{Duration}
+use Rattle.net_base.specs.declared.time.Instant.{Instant}
+use Rattle.ip_wire.specs.declared.repr.IpRepr.{IpRepr}
+use Rattle.control_wire.specs.Segment.{Segment}
+use Rattle.control_wire.specs.Seq.{seq_add, seq_sub}
+use Rattle.control_wire.specs.declared.seq_number.TcpSeqNumber.{TcpSeqNumber}
+use Rattle.sock_core.specs.Bounds.{IsMtu}
+use Rattle.sock_core.specs.Facts.{Facts}
+use Rattle.sock_core.specs.Seq.{is_not_after}
+use Rattle.sock_tcp.proofs.Windows.{end_small, start_small, window_width}
+use Rattle.sock_tcp.specs.Acked.{acked_of}
+use Rattle.sock_tcp.specs.Content.{Sending, carries_data}
+use Rattle.sock_tcp.specs.Due.{is_closing, window_field}
+use Rattle.sock_tcp.specs.Process.{Outcome, processed}
+use Rattle.sock_tcp.specs.Queue.{Queue}
+use Rattle.sock_tcp.specs.Queues.{read_off}
+use Rattle.sock_tcp.specs.Replies.{ack_kept, ack_segment, reply_ip}
+use Rattle.sock_tcp.specs.Steps.{heard, scale_of}
+use Rattle.sock_tcp.specs.Timers.{is_over}
+use Rattle.sock_tcp.specs.View.{View}
+use Rattle.sock_tcp.specs.Window.{is_inside, next_ack, receive_window}
+use Rattle.sock_tcp.specs.declared.acked.Acked.{Acked}
+use Rattle.sock_tcp.specs.declared.state.State.{State}
+use Rattle.sock_tcp.specs.declared.state.State.TheVariants as state
+use Rattle.sock_tcp.specs.declared.timer.Timer.{Timer}
+use Rattle.sock_tcp.specs.declared.timer.Timer.TheVariants as timer
+use Rattle.sock_tcp.specs.declared.tuple.Tuple.{Tuple}
+use Rattle.tcp_laws.specs.Polling.{IsReached}
+use Rattle.tcp_laws.specs.SocketRun.{IsNumbered, Process, after_segment}
+use Rattle.tcp_laws.proofs.OrderedCalls.{reached_ordered}
+use Rattle.tcp_laws.proofs.Probing.{ProbesIn, reached_probing}
+use Rattle.tcp_laws.proofs.SocketSteps.{holds_after}
+use Rattle.progress_laws.specs.AfterClose.{AfterClose, BringsAll, ClosedSenderFinishes}
+use Rattle.progress_laws.specs.BothWays.{window_told}
+use Rattle.progress_laws.specs.InStep.{Carries, ForAnswer, ForKeepAlive, ForNothing, ForProbe, IsAnswered, Moves, NoMove, OneMore, Reads, Rests, takes_bytes, told}
+use Rattle.progress_laws.proofs.Answered.{acked, heard_answer}
+use Rattle.progress_laws.proofs.Arrives.{CountsIt, Faces, away, fin_counts}
+use Rattle.progress_laws.proofs.Begins.{some_or_none, step_reached}
+use Rattle.progress_laws.proofs.Both.{measure, room_small, told_some, wide_so, width_told}
+use Rattle.progress_laws.proofs.Closes.{SaysFin, finished, says_fin}
+use Rattle.progress_laws.proofs.ClosingSays.{SaysOn, says_on}
+use Rattle.progress_laws.proofs.Edges.{empty_inside_so, later_all, same_seq}
+use Rattle.progress_laws.proofs.Hears.{ForNone, ForRest, HeardAs, IsOpenTimer, ThenWaits, heard_as, heard_waits}
+use Rattle.progress_laws.proofs.LastBytes.{TookLast, took_last}
+use Rattle.progress_laws.proofs.Learns.{idle_rests}
+use Rattle.progress_laws.proofs.Receives.{unit}
+use Rattle.progress_laws.proofs.Rounds.{cut_and_rest, joined, later_moment}
+use Rattle.progress_laws.proofs.Speaks.{IsNoProbe, wakes}
+use Rattle.progress_laws.proofs.Spoken.{IsSaid}
+use Rattle.progress_laws.proofs.States.{closing_carries, takes_flat, takes_receives}
+use Rattle.progress_laws.proofs.Takes.{IsCaughtUp, Took, before_window, fresh_bytes, takes, took, took_bytes, took_open, took_reached, took_so, width_kept}
+use Rattle.progress_laws.proofs.Taking.{read_out, take_all}
+
+-- ---- one step further
+
+record Onward (d : Option Duration) (t : Tuple) (f : Facts) (at : Instant) (v w : View) (got : List ℕ) (i : AfterClose d t v w) : Type 0 where
+  end : Instant
+  sender : View
+  receiver : View
+  more : List ℕ
+  moves : Moves f at v w got end sender receiver more
+  in_step : AfterClose d t sender receiver
+  whole : more ++ drop in_step.over.taken sender.tx_buffer.bytes ≡ got ++ drop i.over.taken v.tx_buffer.bytes
+  less : measure sender in_step.over.taken < measure v i.over.taken
+
+open_timer : (tm : Timer) → ((at : Instant) → tm ≡ timer.Close at → ⊥) → IsOpenTimer tm
+open_timer (timer.Close at) h = h at refl
+open_timer (timer.Idle at) h = tt
+open_timer (timer.Retransmit at) h = tt
+open_timer timer.FastRetransmit h = tt
+open_timer (timer.ZeroWindowProbe at delay) h = tt
+
+module _ (d : Option Duration) (t : Tuple) (f : Facts) (at now : Instant) (since : at.micros ≤ℤ now.micros) (v w : View) (got : List ℕ) (i : AfterClose d t v w) where
+  abbrev n : ℕ
+  n = i.over.taken
+
+  v_small : v.local_seq_no.0 < 2 ^ 32
+  v_small = (reached_ordered v i.sender.reached).una_small
+
+  queue_short : length v.tx_buffer.bytes ≤ 2 ^ 30
+  queue_short = omega (arith, (reached_ordered v i.sender.reached).room)
+
+  edge : (next_ack w).0 ≡ (seq_add v.local_seq_no n).0
+  edge = ap (λ (m : TcpSeqNumber). m.0) i.over.there
+
+  narrow : i.receiver.room ≤ 2 ^ 30
+  narrow = room_small w i.receiver.room i.receiver.nothing_held i.receiver.reached
+
+  faces : Faces w (next_ack v)
+  faces =
+      let o = reached_ordered w i.receiver.reached in
+      record {
+        receives = takes_receives w.state i.receiver.state;
+        una_small = o.una_small;
+        short = omega (arith, o.room);
+        heard = i.heard;
+        heard_within = omega (arith, i.heard_within);
+        back = ap (λ (m : TcpSeqNumber). m.0) i.back;
+        room = omega (arith, wide_so w i.receiver.room i.receiver.nothing_held, narrow);
+      }
+
+  width_small : seq_sub (receive_window w).end (receive_window w).start ≤ 2 ^ 30
+  width_small = omega (arith, window_width w faces.room, faces.room)
+
+  -- ---- the FIN alone
+
+  fin_alone : (q : SaysFin (told f now) v) → length v.tx_buffer.bytes ≡ 0 → BringsAll d t f at v w got i
+  fin_alone q none =
+      let number : q.out.segment.seq_number.0 ≡ (next_ack w).0 = omega (arith, ap (λ (m : TcpSeqNumber). m.0) q.number, edge, i.over.taken_within, none, v_small) in
+      let c : CountsIt w (processed w now 0 q.out.ip q.out.segment) = fin_counts w (next_ack v) faces now 0 q.out.ip q.out.segment (subst IsSaid (sym q.bit) tt) q.ack q.bit q.empty number in
+      let w' : View = (processed w now 0 q.out.ip q.out.segment).view in
+      record {
+        end = now;
+        sender = q.after;
+        receiver = w';
+        moves = subst (λ l. Moves f at v w got now q.after w' l) (sym (ap (λ (l : List ℕ). got ++ l) (no_bytes (drop n v.tx_buffer.bytes) (omega (arith, none, length-drop n v.tx_buffer.bytes))) ∙ append-nil got)) (OneMore at now now v w q.after w' q.after w' got got got since (Carries q.out q.dispatch (ap (λ r. record { view = w'; reply = r }) c.reply) refl) (NoMove now q.after w' got));
+        finished = finished w (processed w now 0 q.out.ip q.out.segment) (ap (λ (l : List ℕ). length l) i.receiver.read) c;
+      }
+    where
+      no_bytes : (l : List ℕ) → length l ≡ 0 → l ≡ []
+      no_bytes [] e = refl
+      no_bytes (x ∷ l) e = absurd (omega (arith, e))
+
+  module _ (p : SaysOn d t (told f now) v) where
+    abbrev out : Sending
+    out = p.out
+
+    abbrev x : View
+    x = p.after
+
+    abbrev size : ℕ
+    size = length p.out.segment.payload
+
+    number_is : out.segment.seq_number.0 ≡ v.local_seq_no.0
+    number_is = ap (λ (m : TcpSeqNumber). m.0) p.number
+
+    own : next_ack x ≡ next_ack v
+    own = (λ j. seq_add (p.rcv j) (length ((p.rx j).bytes)))
+
+    numbered : IsNumbered out.segment
+    numbered = record { seq_number = omega (arith, number_is, v_small); ack_number = λ m e. subst (λ (q : TcpSeqNumber). q.0 < 2 ^ 32) (same_Some (next_ack v) m (sym p.ack ∙ e)) (omega arith) }
+
+    not_listening : w.state ≡ state.Listen → ⊥
+    not_listening e = by w.state e i.receiver.state
+      where
+        by : (st : State) → st ≡ state.Listen → takes_bytes st ≡ true → ⊥
+        by state.Listen e h = cc
+        by state.Established e h = cc
+        by state.FinWait2 e h = cc
+        by _ e h = cc
+
+    -- ---- w has it already, and answers
+
+    module _ (few : size ≤ n) where
+      abbrev g : Segment
+      g = ack_segment w out.segment
+
+      abbrev ip : IpRepr
+      ip = reply_ip out.ip g
+
+      answer : processed w now 0 out.ip out.segment ≡ record { view = ack_kept w; reply = Some g }
+      answer =
+          let within = i.over.taken_within in
+          let some = p.some in
+          away w (next_ack v) faces now 0 out.ip out.segment p.said p.ack (before_window w out.segment width_small some (omega (arith, number_is, v_small)) (omega (arith, number_is, edge, v_small, within, queue_short, few, some)) (omega (arith, number_is, edge, v_small, within, queue_short)) (omega (arith, number_is, edge, v_small, within, queue_short, few))) some
+
+      carries : carries_data x.state ≡ true
+      carries = closing_carries x.state p.closer.state
+
+      there : next_ack w ≡ seq_add x.local_seq_no n
+      there = i.over.there ∙ ap (λ m. seq_add m n) (sym p.una)
+
+      within_x : n ≤ length x.tx_buffer.bytes
+      within_x = subst (λ (q : Queue). n ≤ length q.bytes) (sym p.tx) i.over.taken_within
+
+      some_n : 0 < n
+      some_n = omega (arith, few, p.some)
+
+      room_x : length x.rx_buffer.held ≤ 2 ^ 30
+      room_x = let r = p.closer.reached in omega (arith, (holds_after r.rx r.tx x r.counts r.rx_size r.run).room)
+
+      lies : is_inside (receive_window x) g.seq_number 0 ≡ true
+      unfolding is_inside ack_segment receive_window
+      lies = ap (λ m. is_inside (receive_window x) m 0) (i.caught_up ∙ sym own) ∙ empty_inside_so (receive_window x) (start_small x) (end_small x) (omega (arith, window_width x room_x, room_x))
+
+      abbrev z : View
+      z = record x { local_rx_last_seq = Some g.seq_number }
+
+      abbrev a : Acked
+      a = acked_of x g.control g.ack_number
+
+      abbrev y : View
+      y = heard z now a g
+
+      hears : processed x now 0 ip g ≡ record { view = y; reply = None }
+      unfolding ack_segment
+      hears = heard_answer x p.closer.reached carries (next_ack w) n there within_x (λ e. some_n) now 0 ip g refl refl refl lies
+
+      acked_is : a ≡ record { len = n; fin = false; all = is_not_after x.remote_last_seq (next_ack w) }
+      unfolding ack_segment
+      acked_is = acked x p.closer.reached carries (next_ack w) n there within_x (λ e. some_n) now 0 ip g refl refl refl lies
+
+      h : HeardAs z (next_ack w) a.len (g.window_len * 2 ^ scale_of x.remote_win_scale) y
+      unfolding ack_segment
+      h = heard_as z now a g (next_ack w) refl tt
+
+      window_is : g.window_len * 2 ^ scale_of x.remote_win_scale ≡ window_told w
+      unfolding ack_segment
+      window_is = ap (λ m. window_field w * 2 ^ m) (ap scale_of p.scale ∙ i.over.scale)
+
+      told_back : 0 < g.window_len * 2 ^ scale_of x.remote_win_scale
+      told_back = subst (λ m. 0 < m) (sym window_is) (told_some w i.receiver.room i.receiver.nothing_held i.receiver.room_at_least)
+
+      window_then : 0 < y.remote_win_len
+      window_then = subst (λ m. 0 < m) (sym h.window) told_back
+
+      waits : ThenWaits now x.keep_alive a.all y.timer
+      unfolding ack_segment
+      waits = heard_waits z now a g (next_ack w) p.at refl tt p.timer (omega (arith, ap (λ (m : Acked). m.len) acked_is, some_n)) told_back
+
+      rests : Rests y
+      rests = by waits
+        where
+          by : ThenWaits now x.keep_alive a.all y.timer → Rests y
+          by (ForNone all idle) = idle_rests y now x.keep_alive idle (h.nxt ∙ later_all x.remote_last_seq (next_ack w) (sym (ap (λ (m : Acked). m.all) acked_is) ∙ all) ∙ sym h.una) window_then
+          by (ForRest at again) = ForAnswer at again
+
+      numbered_g : IsNumbered g
+      unfolding ack_segment
+      numbered_g = record { seq_number = subst (λ (q : TcpSeqNumber). q.0 < 2 ^ 32) (sym i.caught_up) (omega arith); ack_number = λ m e. subst (λ (q : TcpSeqNumber). q.0 < 2 ^ 32) (same_Some (next_ack w) m e) (omega arith) }
+
+      reached_y : IsReached y
+      unfolding ack_segment
+      reached_y = step_reached x y (after_segment p.closer.reached.counts x y) p.closer.reached (Process now 0 ip g (omega arith) numbered_g (omega arith) (λ l. absurd (not_open x.state l p.closer.state)) (sym (ap (λ (o : Outcome). o.view) hears)) refl)
+        where
+          not_open : (st : State) → st ≡ state.Listen → is_closing st ≡ true → ⊥
+          not_open state.Listen e h = cc
+          not_open _ e h = cc
+
+      queue : y.tx_buffer.bytes ≡ drop n v.tx_buffer.bytes
+      queue = ap (λ (q : Queue). q.bytes) h.tx ∙ ap (λ (m : Acked). drop m.len x.tx_buffer.bytes) acked_is ∙ ap (λ (q : Queue). drop n q.bytes) p.tx
+
+      own_y : next_ack y ≡ next_ack v
+      own_y = (λ j. seq_add (h.rcv j) (length ((h.rx j).bytes))) ∙ own
+
+      answered : Onward d t f at v w got i
+      unfolding ack_kept
+      answered = record {
+        end = now;
+        sender = y;
+        receiver = ack_kept w;
+        more = got;
+        moves = OneMore at now now v w y (ack_kept w) y (ack_kept w) got got got since (IsAnswered out x g p.dispatch answer hears refl) (NoMove now y (ack_kept w) got);
+        in_step = record {
+          sender = record {
+            reached = reached_y;
+            state = ap is_closing h.state ∙ p.closer.state;
+            peer = h.peer ∙ p.closer.peer;
+            no_timeout = h.timeout ∙ p.closer.no_timeout;
+            keep_alive = h.keep_alive ∙ p.closer.keep_alive;
+            nothing_marked = h.marked ∙ p.closer.nothing_marked;
+            rests = rests;
+          };
+          receiver = record {
+            reached = step_reached w (ack_kept w) (after_segment i.receiver.reached.counts w (ack_kept w)) i.receiver.reached (Process now 0 out.ip out.segment (omega arith) numbered p.short (λ l. absurd (not_listening l)) (sym (ap (λ (o : Outcome). o.view) answer)) refl);
+            state = i.receiver.state;
+            timer = i.receiver.timer;
+            read = i.receiver.read;
+            room = i.receiver.room;
+            nothing_held = i.receiver.nothing_held;
+            room_at_least = i.receiver.room_at_least;
+          };
+          over = record {
+            taken = 0;
+            taken_within = omega arith;
+            there = same_seq (next_ack w) (seq_add (next_ack w) 0) (omega arith) ∙ ap (λ m. seq_add m 0) (sym h.una);
+            scale = ap scale_of (h.scale ∙ p.scale) ∙ i.over.scale;
+            some = window_then;
+            window = omega (arith, h.window, window_is, width_told w (ack_kept w) i.receiver.room i.receiver.nothing_held narrow refl refl refl refl refl);
+            at_most = omega (arith, h.window, window_is);
+          };
+          heard = i.heard;
+          heard_within = i.heard_within;
+          back = own_y ∙ i.back;
+          caught_up = i.caught_up ∙ sym own_y;
+        };
+        whole = ap (λ (l : List ℕ). got ++ l) queue;
+        less = omega (arith, ap (λ (l : List ℕ). length l) queue, length-drop n v.tx_buffer.bytes, i.over.taken_within, few, p.some);
+      }
+
+    -- ---- some of it is new
+
+    module _ (new : n < size) where
+      abbrev m : ℕ
+      m = size - n
+
+      within : n ≤ length v.tx_buffer.bytes
+      within = i.over.taken_within
+
+      skips : seq_sub (next_ack w) out.segment.seq_number ≡ n
+      skips = omega (arith, number_is, edge, v_small, within, queue_short)
+
+      close : n < 2 ^ 31
+      close = omega (arith, within, queue_short)
+
+      long : size ≡ n + m
+      long = omega (arith, new)
+
+      some : 0 < m
+      some = omega (arith, new)
+
+      fits : m ≤ seq_sub (receive_window w).end (receive_window w).start
+      fits = omega (arith, p.fits, i.over.window, new)
+
+      past : seq_sub (seq_add out.segment.seq_number size) (next_ack w) ≡ m
+      past = omega (arith, number_is, edge, v_small, within, p.queued, queue_short, new)
+
+      -- the last of it, with the FIN
+      last : size ≡ length v.tx_buffer.bytes → BringsAll d t f at v w got i
+      last all = record {
+        end = now;
+        sender = x;
+        receiver = read_off o.view (length ys);
+        moves = subst (λ l. Moves f at v w got now x (read_off o.view (length ys)) (got ++ l)) whole (OneMore at now now v w x o.view x (read_off o.view (length ys)) got got (got ++ ys) since (Carries out p.dispatch (ap (λ r. record { view = o.view; reply = r }) k.reply) refl) (OneMore now now now x o.view x (read_off o.view (length ys)) x (read_off o.view (length ys)) got (got ++ ys) (got ++ ys) (grind (arith, ints)) (Reads (length ys) (omega (arith, ap (λ (l : List ℕ). length l) k.bytes)) refl refl (ap (λ (l : List ℕ). got ++ l) (sym (read_out o.view.rx_buffer ys k.bytes)))) (NoMove now x (read_off o.view (length ys)) (got ++ ys))));
+        finished = k.finished;
+      }
+        where
+          o : Outcome
+          o = processed w now 0 out.ip out.segment
+
+          ys : List ℕ
+          ys = drop n out.segment.payload
+
+          k : TookLast ys o
+          k = took_last w (next_ack v) faces i.receiver.room i.receiver.read i.receiver.nothing_held now out.ip out.segment (p.fin all) p.ack n m (omega (arith, number_is, v_small)) skips close long some fits past
+
+          whole : ys ≡ drop n v.tx_buffer.bytes
+          whole = ap (drop n) (p.first ∙ ap (λ q. take q v.tx_buffer.bytes) all ∙ take_all v.tx_buffer.bytes)
+
+      -- or not yet
+      module _ (less : size < length v.tx_buffer.bytes) where
+        caught : IsCaughtUp w (next_ack v) i.heard i.receiver.room
+        caught = record {
+          state = takes_flat w.state i.receiver.state;
+          takes = takes_receives w.state i.receiver.state;
+          una_small = faces.una_small;
+          short = faces.short;
+          there = i.back;
+          queued = i.heard_within;
+          nxt = i.caught_up;
+          timer = open_timer w.timer i.receiver.timer;
+          read = i.receiver.read;
+          held = i.receiver.nothing_held;
+          narrow = narrow;
+        }
+
+        abbrev ys : List ℕ
+        ys = fresh_bytes w (next_ack v) i.heard i.receiver.room now out.ip out.segment caught (p.plain less) p.ack n m skips close long some fits past
+
+        abbrev w1 : View
+        w1 = took w (next_ack v) i.heard i.receiver.room now out.ip out.segment caught (p.plain less) p.ack n m skips close long some fits past
+
+        abbrev w2 : View
+        w2 = read_off w1 (length ys)
+
+        takes_it : processed w now 0 out.ip out.segment ≡ record { view = w1; reply = None }
+        takes_it = takes w (next_ack v) i.heard i.receiver.room now out.ip out.segment caught (p.plain less) p.ack n m skips close long some fits past
+
+        bytes : w1.rx_buffer.bytes ≡ ys
+        bytes = took_bytes w (next_ack v) i.heard i.receiver.room now out.ip out.segment caught (p.plain less) p.ack n m skips close long some fits past
+
+        k : Took w (next_ack v) i.heard i.receiver.room m (out.segment.window_len * 2 ^ scale_of w.remote_win_scale) now w2
+        k = took_so w (next_ack v) i.heard i.receiver.room now out.ip out.segment caught (p.plain less) p.ack n m skips close long some fits past
+
+        not_close : IsOpenTimer w2.timer
+        not_close = took_open w (next_ack v) i.heard i.receiver.room now out.ip out.segment caught (p.plain less) p.ack n m skips close long some fits past
+
+        reached_w : IsReached w2
+        reached_w = took_reached w (next_ack v) i.heard i.receiver.room now out.ip out.segment caught (p.plain less) p.ack n m skips close long some fits past i.receiver.reached (omega (arith, number_is, v_small)) p.short
+
+        wide_w : length w.rx_buffer.held ≡ i.receiver.room
+        wide_w = wide_so w i.receiver.room i.receiver.nothing_held
+
+        wide_w2 : length w2.rx_buffer.held ≡ i.receiver.room
+        wide_w2 = wide_so w2 i.receiver.room k.held
+
+        told_w2 : window_told w2 ≡ window_told w
+        told_w2 = (λ j. unit ((wide_w2 ∙ sym wide_w) j) (k.shift j))
+
+        brings : Onward d t f at v w got i
+        brings = record {
+          end = now;
+          sender = x;
+          receiver = w2;
+          more = got ++ ys;
+          moves =
+              OneMore at now now v w x w1 x w2 got got (got ++ ys) since (Carries out p.dispatch takes_it refl)
+              (OneMore now now now x w1 x w2 x w2 got (got ++ ys) (got ++ ys) (grind (arith, ints)) (Reads (length ys) (omega (arith, ap (λ (l : List ℕ). length l) bytes)) refl refl (ap (λ (l : List ℕ). got ++ l) (sym (read_out w1.rx_buffer ys bytes)))) (NoMove now x w2 (got ++ ys)));
+          in_step = record {
+            sender = p.closer;
+            receiver = record {
+              reached = reached_w;
+              state = ap takes_bytes k.state ∙ i.receiver.state;
+              timer = λ at e. subst IsOpenTimer e not_close;
+              read = k.read;
+              room = i.receiver.room;
+              nothing_held = k.held;
+              room_at_least = subst (λ q. 2 ^ q ≤ i.receiver.room) (sym k.shift) i.receiver.room_at_least;
+            };
+            over = record {
+              taken = size;
+              taken_within = subst (λ (q : Queue). size ≤ length q.bytes) (sym p.tx) p.queued;
+              there = same_seq (next_ack w2) (seq_add x.local_seq_no size) (omega (arith, k.next, edge, new, v_small, ap (λ (q : TcpSeqNumber). q.0) p.una));
+              scale = ap scale_of p.scale ∙ i.over.scale ∙ sym k.shift;
+              some = subst (λ q. 0 < q) (sym p.window) i.over.some;
+              window = omega (arith, p.window, i.over.window, new, width_kept w w2 m i.receiver.room wide_w wide_w2 narrow k.last_ack k.last_win k.shift k.next fits);
+              at_most = omega (arith, p.window, i.over.at_most, told_w2);
+            };
+            heard = 0;
+            heard_within = omega arith;
+            back = own ∙ same_seq (next_ack v) (seq_add (next_ack v) 0) (omega arith) ∙ ap (λ q. seq_add q 0) (sym k.una);
+            caught_up = k.nxt ∙ sym own;
+          };
+          whole = append_assoc got ys (drop size x.tx_buffer.bytes) ∙ ap (λ (q : Queue). got ++ (ys ++ drop size q.bytes)) p.tx ∙ ap (λ (l : List ℕ). got ++ (drop n l ++ drop size v.tx_buffer.bytes)) p.first ∙ ap (λ (l : List ℕ). got ++ l) (cut_and_rest n size v.tx_buffer.bytes (omega (arith, new)));
+          less = omega (arith, ap (λ (q : Queue). length q.bytes) p.tx, p.queued, within, new);
+        }
+
+    goes_on : Onward d t f at v w got i ⊎ BringsAll d t f at v w got i
+    goes_on = elim (some_or_none (size - n)) [
+      | inl z ↦ inl (answered (omega (arith, z)))
+      | inr z ↦ elim (some_or_none (length v.tx_buffer.bytes - size)) [
+        | inl e ↦ inr (last (omega (arith, z)) (omega (arith, e, p.queued)))
+        | inr e ↦ inl (brings (omega (arith, z)) (omega (arith, e)))
+      ]
+    ]
+
+-- ---- all of it
+
+module _ (d : Option Duration) (t : Tuple) (f : Facts) (mtu : IsMtu f.mtu) (address : f.has_address t.local.addr ≡ true) where
+  step : (at : Instant) (v w : View) (got : List ℕ) (i : AfterClose d t v w) → 0 < length v.tx_buffer.bytes → Onward d t f at v w got i ⊎ BringsAll d t f at v w got i
+  step at v w got i queue = by (later_moment at (wakes i.sender.rests))
+    where
+      no_probing : (r : Rests v) → IsNoProbe r
+      no_probing (ForProbe m delay probes nxt some) = let z : v.remote_win_len ≡ 0 = subst (λ tm. ProbesIn tm v.remote_win_len) probes (reached_probing v i.sender.reached).window in absurd (omega (arith, z, i.over.some))
+      no_probing (ForKeepAlive m idle nxt) = tt
+      no_probing (ForNothing idle nxt some) = tt
+      no_probing (ForAnswer m again) = tt
+
+      by : (z : Instant) × (at.micros ≤ℤ z.micros) × (is_over (wakes i.sender.rests) z ≡ true) → Onward d t f at v w got i ⊎ BringsAll d t f at v w got i
+      by z = goes_on d t f at z.0 z.1 v w got i (says_on d t v f z.0 mtu address i.sender (no_probing i.sender.rests) z.2 i.over.some queue)
+
+  done : (at : Instant) (v w : View) (got : List ℕ) (i : AfterClose d t v w) → length v.tx_buffer.bytes ≡ 0 → BringsAll d t f at v w got i
+  done at v w got i none = let z = later_moment at (wakes i.sender.rests) in fin_alone d t f at z.0 z.1 v w got i (says_fin d t v f z.0 address i.sender z.2 none) none
+
+  then_rest : (at : Instant) (v w : View) (got : List ℕ) (i : AfterClose d t v w) (r : Onward d t f at v w got i) → BringsAll d t f r.end r.sender r.receiver r.more r.in_step → BringsAll d t f at v w got i
+  then_rest at v w got i r c = record {
+    end = c.end;
+    sender = c.sender;
+    receiver = c.receiver;
+    moves = joined at r.end c.end v w r.sender r.receiver c.sender c.receiver got r.more (got ++ drop i.over.taken v.tx_buffer.bytes) r.moves (subst (λ l. Moves f r.end r.sender r.receiver r.more c.end c.sender c.receiver l) r.whole c.moves);
+    finished = c.finished;
+  }
+
+  abbrev Brings : ℕ → Type 0
+  Brings m = (at : Instant) (v w : View) (got : List ℕ) (i : AfterClose d t v w) → measure v i.over.taken ≤ m → BringsAll d t f at v w got i
+
+  more : (m : ℕ) → Brings m → Brings (suc m)
+  more m rest at v w got i few = by (some_or_none (length v.tx_buffer.bytes))
+    where
+      on : Onward d t f at v w got i ⊎ BringsAll d t f at v w got i → BringsAll d t f at v w got i
+      on (inl r) = then_rest at v w got i r (rest r.end r.sender r.receiver r.more r.in_step (omega (arith, r.less, few)))
+      on (inr c) = c
+
+      by : (length v.tx_buffer.bytes ≡ 0) ⊎ (0 < length v.tx_buffer.bytes) → BringsAll d t f at v w got i
+      by (inl z) = done at v w got i z
+      by (inr some) = on (step at v w got i some)
+
+  brings_all : (m : ℕ) → Brings m
+  brings_all zero at v w got i few = done at v w got i (omega (arith, few, i.over.taken_within))
+  brings_all (suc m) at v w got i few = more m (brings_all m) at v w got i few
+
+pub closed_sender_finishes : ClosedSenderFinishes
+closed_sender_finishes d t f at v w got mtu here i = brings_all d t f mtu here (measure v i.over.taken) at v w got i (omega arith)

@@ -1,0 +1,202 @@
+-- What a sender that was closed says of its bytes, with a window: from SND.UNA on, and the FIN with the last of them.
+use Rattle.std.proofs.Common.{◌≡◌, ℕ, ◌+◌, ◌-◌, ◌<◌, ◌≤◌, inl, Bool, true, false, not, ◌&&◌, refl, sym, ap, subst, ◌∙◌, List, length, take, drop, min, Option, Some, None, arith}
+use Rattle.std.specs.Prelude.{if◌then◌else◌, ◌==◌}
+use Rattle.std.proofs.lemmas.Bool.{eq-eqb, eqb-true}
+use Rattle.net_base.specs.Ring.{in_one_piece}
+use Rattle.net_base.specs.declared.time.Duration.{Duration}
+use Rattle.net_base.specs.declared.time.Instant.{Instant}
+use Rattle.control_wire.specs.Segment.{Segment, is_empty_segment, segment_len}
+use Rattle.control_wire.specs.Seq.{seq_add, seq_sub}
+use Rattle.control_wire.specs.declared.tcp.TcpControl.TheVariants as control
+use Rattle.sock_core.specs.Bounds.{IsMtu}
+use Rattle.sock_core.specs.Facts.{Facts}
+use Rattle.sock_tcp.proofs.Lending.{lent_at_most, lent_beginning}
+use Rattle.sock_tcp.specs.Content.{Sending, asked, carries_data, data_control, emission_kind, is_probing, offset_of, plain_segment, sent_as, window_left}
+use Rattle.sock_tcp.specs.Due.{congestion_left, effective_mss, flight, is_closed, is_closing, is_due}
+use Rattle.sock_tcp.specs.Queue.{IsLent, Queue}
+use Rattle.sock_tcp.specs.Timers.{after as moment_after, idle_from, is_keep_alive_over, is_over, is_probe_over, keep_alive_renewed, retransmit_unless_set, rto_of}
+use Rattle.sock_tcp.specs.View.{View}
+use Rattle.sock_tcp.specs.Window.{next_ack}
+use Rattle.sock_tcp.specs.declared.emission.Kind.TheVariants as kind
+use Rattle.sock_tcp.specs.declared.timer.Timer.TheVariants as timer
+use Rattle.sock_tcp.specs.declared.tuple.Tuple.{Tuple}
+use Rattle.tcp_laws.proofs.Ordered.{no_distance}
+use Rattle.tcp_laws.proofs.Probing.{reached_probing}
+use Rattle.tcp_laws.proofs.Sleeping.{window_sends}
+use Rattle.progress_laws.specs.AfterClose.{IsCloser}
+use Rattle.progress_laws.specs.InStep.{ForAnswer, told}
+use Rattle.progress_laws.specs.Speech.{DispatchesOk, GoesOn, SendsOk}
+use Rattle.progress_laws.proofs.Begins.{and_no, carries_runs, content_is, dispatch_reached, never_pauses, not_zero, segment_for, sends_so}
+use Rattle.progress_laws.proofs.Hears.{IsData}
+use Rattle.progress_laws.proofs.Lends.{lent_some, mss_some}
+use Rattle.progress_laws.proofs.Says.{no_probe}
+use Rattle.progress_laws.proofs.Sends.{left, plain_sent, plain_timer}
+use Rattle.progress_laws.proofs.Speaks.{Begins, Front, IsNoProbe, begins, open_window, wakes}
+use Rattle.progress_laws.proofs.Spoken.{IsSaid, data_said}
+use Rattle.progress_laws.proofs.States.{closing_carries, closing_open}
+
+pub record SaysOn (d : Option Duration) (t : Tuple) (f : Facts) (v : View) : Type 0 where
+  pub out : Sending
+  pub after : View
+  pub dispatch : DispatchesOk f false v (Some out) after
+  pub said : IsSaid out.segment.control
+  pub plain : length out.segment.payload < length v.tx_buffer.bytes → IsData out.segment.control
+  pub fin : length out.segment.payload ≡ length v.tx_buffer.bytes → out.segment.control ≡ control.Fin
+  pub ack : out.segment.ack_number ≡ Some (next_ack v)
+  pub number : out.segment.seq_number ≡ v.local_seq_no
+  pub some : 0 < length out.segment.payload
+  pub fits : length out.segment.payload ≤ v.remote_win_len
+  pub queued : length out.segment.payload ≤ length v.tx_buffer.bytes
+  pub short : length out.segment.payload ≤ 65535
+  pub first : out.segment.payload ≡ take (length out.segment.payload) v.tx_buffer.bytes
+  pub closer : IsCloser d t after
+  pub at : Instant
+  pub timer : after.timer ≡ timer.Retransmit at
+  pub una : after.local_seq_no ≡ v.local_seq_no
+  pub tx : after.tx_buffer ≡ v.tx_buffer
+  pub rx : after.rx_buffer ≡ v.rx_buffer
+  pub rcv : after.remote_seq_no ≡ v.remote_seq_no
+  pub scale : after.remote_win_scale ≡ v.remote_win_scale
+  pub window : after.remote_win_len ≡ v.remote_win_len
+
+module _ (d : Option Duration) (t : Tuple) (v : View) (f : Facts) (now : Instant) (mtu : IsMtu f.mtu) (here : f.has_address t.local.addr ≡ true) (s : IsCloser d t v) (other : IsNoProbe s.rests) (over : is_over (wakes s.rests) now ≡ true) (win : 0 < v.remote_win_len) (queue : 0 < length v.tx_buffer.bytes) where
+  abbrev fa : Facts
+  fa = told f now
+
+  runs : never_pauses v.state ≡ true
+  runs = carries_runs v.state (closing_carries v.state s.state)
+
+  start : Begins t f v now
+  start = begins t f v now s.reached s.no_timeout s.rests other over
+
+  on : GoesOn v t fa
+  on = record { peer = s.peer; address = here; alive = rw s.no_timeout refl; no_end = start.no_end }
+
+  abbrev u : View
+  u = start.view
+
+  fr : Front v u
+  fr = start.front
+
+  closing : is_closing u.state ≡ true
+  closing = ap is_closing fr.state ∙ s.state
+
+  carries : carries_data u.state ≡ true
+  carries = closing_carries u.state closing
+
+  not_closed : is_closed u.state ≡ false
+  not_closed = closing_open u.state closing
+
+  nothing_marked : u.pending_fast_retransmit ≡ false
+  nothing_marked = fr.marked ∙ s.nothing_marked
+
+  mss : 48 ≤ u.remote_mss
+  mss = subst (λ n. 48 ≤ n) (sym fr.mss) (reached_probing v s.reached).mss
+
+  no_flight : flight u ≡ 0
+  no_flight = ap (λ n. seq_sub n u.local_seq_no) (fr.nxt ∙ sym fr.una) ∙ no_distance u.local_seq_no fr.ordered.una_small
+
+  no_probing : is_probing u now ≡ false
+  no_probing = no_probe u now (ap (λ tm. is_probe_over tm now) fr.idle)
+
+  at_front : offset_of u ≡ 0
+  at_front = rw nothing_marked no_flight
+
+  abbrev bytes : List ℕ
+  bytes = take (min (asked u t fa false) (in_one_piece u.tx_buffer.until_end (length u.tx_buffer.bytes) (offset_of u))) (drop (offset_of u) u.tx_buffer.bytes)
+
+  lent : IsLent u.tx_buffer (offset_of u) (asked u t fa false) bytes
+  lent = refl
+
+  asked_is : asked u t fa false ≡ min (min (window_left u) (effective_mss u t fa false)) (congestion_left u)
+  unfolding asked
+  asked_is = rw (no_probing, carries, nothing_marked) refl
+
+  few : length bytes ≤ min (asked u t fa false) (length u.tx_buffer.bytes - offset_of u)
+  few = lent_at_most u.tx_buffer (offset_of u) (asked u t fa false) bytes lent
+
+  win_u : 0 < u.remote_win_len
+  win_u = subst (λ n. 0 < n) (sym fr.window) win
+
+  same : length u.tx_buffer.bytes ≡ length v.tx_buffer.bytes
+  same = ap (λ (q : Queue). length q.bytes) fr.tx
+
+  some : 0 < length bytes
+  some = lent_some u.tx_buffer (offset_of u) (asked u t fa false) bytes lent (omega (arith, asked_is, win_u, no_flight, mss_some u t fa false mtu.0 mss, open_window u.congestion_controller fr.ordered.congestion)) (omega (arith, at_front, queue, same))
+
+  abbrev b : Segment
+  b = segment_for u t None bytes
+
+  plain_kind : emission_kind u now b ≡ kind.Plain
+  plain_kind = rw (no_probing, no_bytes) (ap (λ c. if c then kind.KeepAlive else kind.Plain) (and_no (is_keep_alive_over u.timer now)))
+    where
+      no_bytes : is_empty_segment b ≡ false
+      no_bytes = rw (not_zero (length bytes) some) refl
+
+  due : is_due u t fa false ≡ true
+  unfolding is_due
+  due = rw (window_sends u t fa false fr.ordered win_u no_flight (inl (subst (λ n. 0 < n) (sym same) queue))) refl
+
+  abbrev after : View
+  after = left u t now b not_closed kind.Plain
+
+  goes : DispatchesOk fa false v (Some (sent_as u t kind.Plain b)) after
+  goes = sends_so v t fa false on runs (Some (sent_as u t kind.Plain b)) after (ap (λ x. is_due x t fa false) (start.is on runs) ∙ due) (subst (λ x. SendsOk fa t false x (Some (sent_as u t kind.Plain b)) after) (sym (start.is on runs)) (record {
+    stamp = None;
+    told = refl;
+    bytes = bytes;
+    lent = lent;
+    sends = sym (content_is u t fa None bytes carries ∙ ap (λ c. Some (sent_as u t c b)) plain_kind);
+    view = refl;
+  }))
+
+  long : 0 < segment_len b
+  long = omega (arith, some)
+
+  again : after.timer ≡ timer.Retransmit (moment_after now (rto_of u.rtte))
+  again = plain_timer u t now b not_closed false (not_zero (segment_len b) long) ∙ ap (λ tm. retransmit_unless_set tm now u.rtte) (ap (λ tm. keep_alive_renewed tm now u.keep_alive) fr.idle) ∙ by u.keep_alive
+    where
+      by : (keep : Option Duration) → retransmit_unless_set (idle_from now keep) now u.rtte ≡ timer.Retransmit (moment_after now (rto_of u.rtte))
+      by None = refl
+      by (Some d) = refl
+
+  pub says_on : SaysOn d t fa v
+  unfolding plain_segment
+  says_on =
+      let l = plain_sent u t now b not_closed in
+      record {
+        out = sent_as u t kind.Plain b;
+        after = after;
+        dispatch = goes;
+        said = data_said u (length bytes);
+        plain = λ less. before_end (offset_of u + length bytes == length u.tx_buffer.bytes) refl less;
+        fin = λ all. rw (eq-eqb (offset_of u + length bytes) (length u.tx_buffer.bytes) (omega (arith, at_front, all, same)), closing) refl;
+        ack = (λ i. Some (seq_add (fr.rcv i) (length ((fr.rx i).bytes))));
+        number = rw nothing_marked fr.nxt;
+        some = some;
+        fits = omega (arith, few, asked_is, fr.window);
+        queued = omega (arith, few, same);
+        short = omega (arith, few, asked_is, mtu.1);
+        first = lent_beginning u.tx_buffer (offset_of u) (asked u t fa false) bytes lent ∙ ap (λ o. take (length bytes) (drop o u.tx_buffer.bytes)) at_front ∙ ap (λ (q : Queue). take (length bytes) q.bytes) fr.tx;
+        closer = record {
+          reached = dispatch_reached fa false v (Some (sent_as u t kind.Plain b)) after s.reached goes;
+          state = ap is_closing l.state ∙ closing;
+          peer = l.peer ∙ fr.peer ∙ s.peer;
+          no_timeout = l.timeout ∙ fr.timeout ∙ s.no_timeout;
+          keep_alive = l.keep_alive ∙ fr.keep_alive ∙ s.keep_alive;
+          nothing_marked = l.marked ∙ ap (λ m. m && not (carries_data u.state)) nothing_marked;
+          rests = ForAnswer (moment_after now (rto_of u.rtte)) again;
+        };
+        at = moment_after now (rto_of u.rtte);
+        timer = again;
+        una = l.una ∙ fr.una;
+        tx = l.tx ∙ fr.tx;
+        rx = l.rx ∙ fr.rx;
+        rcv = l.rcv ∙ fr.rcv;
+        scale = l.scale ∙ fr.scale;
+        window = l.window ∙ fr.window;
+      }
+    where
+      before_end : (e : Bool) → (offset_of u + length bytes == length u.tx_buffer.bytes) ≡ e → length bytes < length v.tx_buffer.bytes → IsData (data_control u (length bytes))
+      before_end true e less = let at = eqb-true (offset_of u + length bytes) (length u.tx_buffer.bytes) e in absurd (omega (arith, at, at_front, less, same))
+      before_end false e less = subst (λ c. IsData (if c then (if is_closing u.state then control.Fin else (if length bytes == 0 then control.None else control.Psh)) else control.None)) (sym e) tt

@@ -1,0 +1,114 @@
+-- What holds of the states in which a socket may send, and of those in which nothing of its own FIN is in question.
+use Rattle.std.proofs.Common.{◌≡◌, ℕ, Bool, true, false, refl, Option}
+use Rattle.net_base.specs.declared.time.Duration.{Duration}
+use Rattle.net_base.specs.declared.time.Instant.{Instant}
+use Rattle.control_wire.specs.Segment.{Segment}
+use Rattle.control_wire.specs.declared.tcp.TcpControl.TheVariants as control
+use Rattle.sock_tcp.specs.Advance.{advance_in, continues}
+use Rattle.sock_tcp.specs.Closing.{closed_from}
+use Rattle.sock_tcp.specs.Content.{carries_data}
+use Rattle.sock_tcp.specs.Due.{is_closed, is_closing}
+use Rattle.sock_tcp.specs.Process.{has_window, timer_restarted}
+use Rattle.sock_tcp.specs.Queues.{may_send, receives}
+use Rattle.sock_tcp.specs.View.{View}
+use Rattle.sock_tcp.specs.declared.state.State.{State}
+use Rattle.sock_tcp.specs.declared.state.State.TheVariants as state
+use Rattle.sock_tcp.specs.declared.timer.Timer.{Timer}
+use Rattle.sock_tcp.specs.declared.tuple.Tuple.{Tuple}
+use Rattle.progress_laws.specs.InStep.{takes_bytes}
+use Rattle.progress_laws.proofs.Begins.{never_pauses}
+use Rattle.tcp_laws.proofs.Ordered.{HasMoment, Row}
+
+-- ---- ESTABLISHED and CLOSE-WAIT
+
+pub sends_data : (st : State) → may_send st ≡ true → carries_data st ≡ true
+sends_data state.Established e = refl
+sends_data state.CloseWait e = refl
+sends_data _ e = absurd cc
+
+pub sends_closing : (st : State) → may_send st ≡ true → is_closing (closed_from st) ≡ true
+sends_closing state.Established e = refl
+sends_closing state.CloseWait e = refl
+sends_closing _ e = absurd cc
+
+pub closing_carries : (st : State) → is_closing st ≡ true → carries_data st ≡ true
+closing_carries state.FinWait1 e = refl
+closing_carries state.Closing e = refl
+closing_carries state.LastAck e = refl
+closing_carries _ e = absurd cc
+
+pub closing_open : (st : State) → is_closing st ≡ true → is_closed st ≡ false
+closing_open state.FinWait1 e = refl
+closing_open state.Closing e = refl
+closing_open state.LastAck e = refl
+closing_open _ e = absurd cc
+
+pub row_moment : (st : State) (t : Timer) (keep : Option Duration) (i n : ℕ) → may_send st ≡ true → Row st t keep i n → HasMoment t keep
+row_moment state.Established t keep i n e r = r.0
+row_moment state.CloseWait t keep i n e r = r.0
+row_moment _ t keep i n e r = absurd cc
+
+-- ---- with FIN-WAIT-2: no own FIN waits for an acknowledgement
+
+abbrev pub is_flat : State → Bool
+is_flat state.Established = true
+is_flat state.CloseWait = true
+is_flat state.FinWait2 = true
+is_flat _ = false
+
+pub sends_flat : (st : State) → may_send st ≡ true → is_flat st ≡ true
+sends_flat state.Established e = refl
+sends_flat state.CloseWait e = refl
+sends_flat _ e = absurd cc
+
+pub flat_open : (st : State) → is_flat st ≡ true → is_closed st ≡ false
+flat_open state.Established e = refl
+flat_open state.CloseWait e = refl
+flat_open state.FinWait2 e = refl
+flat_open _ e = absurd cc
+
+pub flat_on : (st : State) → is_flat st ≡ true → is_closing st ≡ false
+flat_on state.Established e = refl
+flat_on state.CloseWait e = refl
+flat_on state.FinWait2 e = refl
+flat_on _ e = absurd cc
+
+pub takes_flat : (st : State) → takes_bytes st ≡ true → is_flat st ≡ true
+takes_flat state.Established e = refl
+takes_flat state.FinWait2 e = refl
+takes_flat _ e = absurd cc
+
+pub takes_runs : (st : State) → takes_bytes st ≡ true → never_pauses st ≡ true
+takes_runs state.Established e = refl
+takes_runs state.FinWait2 e = refl
+takes_runs _ e = absurd cc
+
+pub takes_receives : (st : State) → takes_bytes st ≡ true → receives st ≡ true
+takes_receives state.Established e = refl
+takes_receives state.FinWait2 e = refl
+takes_receives _ e = absurd cc
+
+pub flat_has : (st : State) → is_flat st ≡ true → has_window st ≡ true
+flat_has state.Established e = refl
+flat_has state.CloseWait e = refl
+flat_has state.FinWait2 e = refl
+flat_has _ e = absurd cc
+
+pub flat_timer : (st : State) (t : Timer) (now : Instant) → is_flat st ≡ true → timer_restarted st t now ≡ t
+flat_timer state.Established t now e = refl
+flat_timer state.CloseWait t now e = refl
+flat_timer state.FinWait2 t now e = refl
+flat_timer _ t now e = absurd cc
+
+pub flat_goes_on : (st : State) → is_flat st ≡ true → (x : View) (now : Instant) (t : Tuple) (word n : ℕ) (s : Segment) → advance_in st control.None false x now t word n s ≡ continues x
+flat_goes_on state.Established e x now t word n s = refl
+flat_goes_on state.CloseWait e x now t word n s = refl
+flat_goes_on state.FinWait2 e x now t word n s = refl
+flat_goes_on _ e x now t word n s = absurd cc
+
+pub not_listening : (st : State) → is_flat st ≡ true → st ≡ state.Listen → ⊥
+not_listening state.Listen e l = absurd cc
+not_listening state.Established e l = absurd cc
+not_listening state.CloseWait e l = absurd cc
+not_listening state.FinWait2 e l = absurd cc
+not_listening _ e l = absurd cc

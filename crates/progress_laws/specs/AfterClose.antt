@@ -1,0 +1,73 @@
+-- A sender that was closed with bytes to send, and how they and its FIN come over.
+use Rattle.std.specs.Prelude.{ℕ, ◌≡◌, ◌^◌, ◌≤◌, List, [], ◌++◌, length, drop, replicate, Option, Some, None, Err, true, false}
+use Rattle.net_base.specs.declared.time.Duration.{Duration}
+use Rattle.net_base.specs.declared.time.Instant.{Instant}
+use Rattle.control_wire.specs.Seq.{seq_add}
+use Rattle.sock_core.specs.Bounds.{IsMtu}
+use Rattle.sock_core.specs.Facts.{Facts}
+use Rattle.sock_tcp.specs.Due.{is_closing}
+use Rattle.sock_tcp.specs.Queues.{recv_check}
+use Rattle.sock_tcp.specs.View.{View}
+use Rattle.sock_tcp.specs.Window.{next_ack}
+use Rattle.sock_tcp.specs.declared.error.RecvError.TheVariants as recv_error
+use Rattle.sock_tcp.specs.declared.timer.Timer.TheVariants as timer
+use Rattle.sock_tcp.specs.declared.tuple.Tuple.{Tuple}
+use Rattle.tcp_laws.specs.Polling.{IsReached}
+use Rattle.progress_laws.specs.BothWays.{Toward}
+use Rattle.progress_laws.specs.InStep.{Moves, Rests, takes_bytes}
+
+-- ---- the two sides
+
+-- The sender v, with the peer t, is what some list of calls makes of a new socket. It was closed, and is in FIN-WAIT-1,
+-- CLOSING or LAST-ACK, without a user timeout, with the keep-alive interval d, or with none
+pub record IsCloser (d : Option Duration) (t : Tuple) (v : View) : Type 0 where
+  pub reached : IsReached v
+  pub state : is_closing v.state ≡ true
+  pub peer : v.tuple ≡ Some t
+  pub no_timeout : v.timeout ≡ None
+  pub keep_alive : v.keep_alive ≡ d
+  pub nothing_marked : v.pending_fast_retransmit ≡ false
+  pub rests : Rests v
+
+-- The receiver w is what some list of calls makes of a new socket. It is in ESTABLISHED or FIN-WAIT-2, whatever it has
+-- to send, and not in the timer of TIME-WAIT. All that it took was read, and it holds nothing. It has room for so many
+-- bytes, at least for one unit of its window field
+pub record IsTaker (w : View) : Type 0 where
+  pub reached : IsReached w
+  pub state : takes_bytes w.state ≡ true
+  pub timer : (at : Instant) → w.timer ≡ timer.Close at → ⊥
+  pub read : w.rx_buffer.bytes ≡ []
+  pub room : ℕ
+  pub nothing_held : w.rx_buffer.held ≡ replicate room None
+  pub room_at_least : 2 ^ w.remote_win_shift ≤ room
+
+-- The sender knows a window above 0 (`Toward`). They agree on the numbers of w's stream, too: all that w sent was
+-- taken, so many bytes of its queue
+pub record AfterClose (d : Option Duration) (t : Tuple) (v w : View) : Type 0 where
+  pub sender : IsCloser d t v
+  pub receiver : IsTaker w
+  pub over : Toward v w
+  pub heard : ℕ
+  pub heard_within : heard ≤ length w.tx_buffer.bytes
+  pub back : next_ack v ≡ seq_add w.local_seq_no heard
+  pub caught_up : w.remote_last_seq ≡ next_ack v
+
+-- ---- the law
+
+-- Some list of dispatches, deliveries and reads brings over all that the receiver had not taken before, in order, and
+-- then reads there answer `Finished`
+pub record BringsAll (d : Option Duration) (t : Tuple) (f : Facts) (at : Instant) (v w : View) (got : List ℕ)
+    (i : AfterClose d t v w) : Type 0 where
+  pub end : Instant
+  pub sender : View
+  pub receiver : View
+  pub moves : Moves f at v w got end sender receiver (got ++ drop i.over.taken v.tx_buffer.bytes)
+  pub finished : recv_check receiver ≡ Err recv_error.Finished
+
+-- from any moment on, in any context that has the sender's address
+abbrev pub ClosedSenderFinishes : Type 0
+ClosedSenderFinishes = (d : Option Duration) (t : Tuple) (f : Facts) (at : Instant) (v w : View) (got : List ℕ)
+    → IsMtu f.mtu
+    → f.has_address t.local.addr ≡ true
+    → (i : AfterClose d t v w)
+    → BringsAll d t f at v w got i
