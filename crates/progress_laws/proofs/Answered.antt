@@ -34,7 +34,7 @@ use Rattle.tcp_laws.proofs.OrderedCalls.{reached_ordered}
 use Rattle.tcp_laws.proofs.SocketSteps.{holds_after}
 use Rattle.tcp_laws.specs.Polling.{IsReached}
 use Rattle.progress_laws.specs.Delivery.{CountsFin, DeliveryMoves, HasSaid, HasWindow, HearsOf, Joins, Moved, Releases, TellsWindow}
-use Rattle.progress_laws.proofs.Arrives.{CountsIt, Faces, HeardSo, away, cut_at_edge, cut_some, edge_inside, fin_counts, heard_so, is_synchronized, joins, passes_so, synchronized_has, wide}
+use Rattle.progress_laws.proofs.Arrives.{CountsIt, Faces, HeardSo, away, cut_at_edge, cut_some, edge_inside, fin_counts, heard_so, is_synchronized, joins, passes_so, receives_so, synchronized_has, wide}
 use Rattle.progress_laws.proofs.Begins.{and_no, not_zero, some_or_none}
 use Rattle.progress_laws.proofs.Spoken.{FinAlone, Stands, Still, WithBytes, ack, bit, reached_then, short, stands, still}
 
@@ -152,7 +152,7 @@ module _ (t : Tuple) (f : Facts) (stamps : Bool) (v u w : View) (out : Sending) 
       let q = r.reached in
       let o = reached_ordered w q in
       record {
-        receives = r.receives;
+        state = receives_so w.state r.receives;
         una_small = o.una_small;
         short = omega (arith, o.room);
         heard = r.heard;
@@ -208,7 +208,7 @@ module _ (t : Tuple) (f : Facts) (stamps : Bool) (v u w : View) (out : Sending) 
             either (inr q) = absurd (true≢false (sym (edge_inside (receive_window w) (start_small w) (end_small w) wide_so out.segment.seq_number small (length out.segment.payload) some few near (ap (λ (m : TcpSeqNumber). m.0) edge ∙ q.0) q.1) ∙ full false e))
 
         by : (b : Bool) → is_inside (receive_window w) out.segment.seq_number (length out.segment.payload) ≡ b → Moved v u w out n now word
-        by true e = Joins (joins w (next_ack v) faces now word out.ip out.segment (bit t f stamps v out u said) (ack t f stamps v out u said) e (cut_at_edge (receive_window w) (start_small w) (end_small w) wide_so out.segment.seq_number small (length out.segment.payload) some few near) (subst (λ m. 0 < m) (sym (length-cut (cut_of (receive_window w) out.segment.seq_number (length out.segment.payload)) out.segment.payload)) (cut_some (receive_window w) (start_small w) (end_small w) wide_so out.segment.seq_number small (length out.segment.payload) some few near (full true e))))
+        by true e = Joins (joins w (next_ack v) faces now word out.ip out.segment (bit t f stamps v out u said) (ack t f stamps v out u said) r.receives e (cut_at_edge (receive_window w) (start_small w) (end_small w) wide_so out.segment.seq_number small (length out.segment.payload) some few near) (subst (λ m. 0 < m) (sym (length-cut (cut_of (receive_window w) out.segment.seq_number (length out.segment.payload)) out.segment.payload)) (cut_some (receive_window w) (start_small w) (end_small w) wide_so out.segment.seq_number small (length out.segment.payload) some few near (full true e))))
         by false e = answers (away w (next_ack v) faces now word out.ip out.segment (bit t f stamps v out u said) (ack t f stamps v out u said) e some) (moves_then e)
 
 pub delivery_moves : DeliveryMoves
@@ -216,7 +216,7 @@ delivery_moves t f stamps v u w out n now word said r probe in_reach last = by (
   where
     by : Stands w out n → Moved v u w out n now word
     by (FinAlone fin none at) =
-        let c : CountsIt w (processed w now word out.ip out.segment) = fin_counts w (next_ack v) (faces t f stamps v u w out n now word said r in_reach) now word out.ip out.segment (bit t f stamps v out u said) (ack t f stamps v out u said) fin none at in
+        let c : CountsIt w (processed w now word out.ip out.segment) = fin_counts w (next_ack v) (faces t f stamps v u w out n now word said r in_reach) now word out.ip out.segment (bit t f stamps v out u said) (ack t f stamps v out u said) fin none at r.receives in
         CountsFin c.fin c.next
     by (WithBytes before some small at) = with_bytes t f stamps v u w out n now word said r in_reach before some small waits
       where

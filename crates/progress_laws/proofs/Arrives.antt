@@ -1,6 +1,6 @@
 -- What a socket that still takes bytes makes of a segment at the left edge of its window, or from before it.
 use Rattle.std.proofs.Common.{◌≡◌, ℕ, ◌+◌, ◌-◌, ◌<◌, ◌≤◌, ◌^◌, ◌⊎◌, inl, inr, Bool, true, false, ◌&&◌, ◌||◌, refl, sym, ap, subst, ◌∙◌, List, length, min, Option, Some, None, arith, length-append}
-use Rattle.std.specs.Prelude.{if◌then◌else◌, ◌++◌}
+use Rattle.std.specs.Prelude.{int_lt, if◌then◌else◌, ◌++◌}
 use Rattle.std.proofs.lemmas.Bool.{and_parts, eq-eqb, eqb-true}
 use Rattle.ip_wire.specs.declared.repr.IpRepr.{IpRepr}
 use Rattle.net_base.specs.declared.time.Instant.{Instant}
@@ -15,9 +15,10 @@ use Rattle.sock_core.specs.Seq.{is_before, is_not_after, later_of}
 use Rattle.sock_tcp.proofs.Windows.{end_small, far, length-cut, not_after, start_small, window_width}
 use Rattle.sock_tcp.specs.Acked.{acked_of}
 use Rattle.sock_tcp.specs.Advance.{Advance, advance_in, advanced, counted_control, fin_counted, waiting}
-use Rattle.sock_tcp.specs.Process.{Outcome, ack_sent, after_advance, after_table, bytes_taken, close_restarted, has_window, outside, outside_by, processed, processed_inside, stopped, timer_restarted, tuple_of}
+use Rattle.sock_tcp.specs.Process.{Outcome, ack_sent, after_advance, challenged, after_table, bytes_taken, close_restarted, has_window, outside, outside_by, processed, processed_inside, stopped, timer_restarted, tuple_of}
 use Rattle.sock_tcp.specs.Queue.{shortened}
 use Rattle.sock_tcp.specs.Queues.{receives}
+use Rattle.sock_tcp.specs.Replies.{ack_segment, sack_range}
 use Rattle.sock_tcp.specs.Steps.{ack_counted, ack_heard, acknowledged, duplicate_counted, heard, is_duplicate, is_window_changed, released, timer_set, timestamp_taken, una_advanced, window_of, window_taken}
 use Rattle.sock_tcp.specs.Verdict.{fin_place, open_verdict, verdict_at, verdict_of}
 use Rattle.sock_tcp.specs.View.{View}
@@ -27,6 +28,7 @@ use Rattle.sock_tcp.specs.declared.advance.Next.{Next}
 use Rattle.sock_tcp.specs.declared.advance.Next.TheVariants as next
 use Rattle.sock_tcp.specs.declared.state.State.{State}
 use Rattle.sock_tcp.specs.declared.state.State.TheVariants as state
+use Rattle.sock_tcp.specs.declared.timer.Timer.{Timer}
 use Rattle.sock_tcp.specs.declared.tuple.Tuple.{Tuple}
 use Rattle.sock_tcp.specs.declared.verdict.Verdict.TheVariants as verdicts
 use Rattle.sock_tcp.specs.declared.window.Cut.{Cut}
@@ -51,6 +53,10 @@ pub synchronized_has : (st : State) → is_synchronized st ≡ true → has_wind
 synchronized_has state.Listen e = absurd cc
 synchronized_has state.SynSent e = absurd cc
 synchronized_has _ e = refl
+
+pub synchronized_stays : (st : State) (t : Timer) (now : Instant) → is_synchronized st ≡ true → timer_restarted st t now ≡ t
+synchronized_stays state.TimeWait t now e = absurd cc
+synchronized_stays _ t now e = refl
 
 pub receives_so : (st : State) → receives st ≡ true → is_synchronized st ≡ true
 receives_so state.Established e = refl
@@ -219,9 +225,9 @@ longer old new ys j some = let e = ap (λ (l : List ℕ). length l) j.queue in o
 brings : (b : Received) (bs : List ℕ) → 0 < length bs → JoinsAtOnce b (brought b 0 bs) bs
 brings b bs some = subst (λ (z : Bool). JoinsAtOnce b (if z then b else taken_in b 0 bs) bs) (sym (not_zero (length bs) some)) (joins_all_at_once b bs)
 
--- w takes bytes, and k acknowledges so many of the places behind its SND.UNA
+-- w is synchronized, and k acknowledges so many of the places behind its SND.UNA
 pub record Faces (w : View) (k : TcpSeqNumber) : Type 0 where
-  pub receives : receives w.state ≡ true
+  pub state : is_synchronized w.state ≡ true
   pub una_small : w.local_seq_no.0 < 2 ^ 32
   pub short : length w.tx_buffer.bytes ≤ 2 ^ 30
   pub heard : ℕ
@@ -261,14 +267,11 @@ module _ (w : View) (k : TcpSeqNumber) (r : Faces w k) (now : Instant) (word : �
   pub wide : seq_sub (receive_window w).end (receive_window w).start ≤ 2 ^ 30
   wide = omega (arith, window_width w r.room, r.room)
 
-  open_state : is_synchronized w.state ≡ true
-  open_state = receives_so w.state r.receives
-
   passes : verdict_of w s.control s.ack_number ≡ verdicts.Pass
-  passes = ap (λ q. verdict_of w s.control q) ack ∙ passes_so w s.control k r.heard bit open_state r.una_small r.short r.back r.heard_within
+  passes = ap (λ q. verdict_of w s.control q) ack ∙ passes_so w s.control k r.heard bit r.state r.una_small r.short r.back r.heard_within
 
   has : has_window w.state ≡ true
-  has = synchronized_has w.state open_state
+  has = synchronized_has w.state r.state
 
   pub in_window : is_inside (receive_window w) s.seq_number (length s.payload) ≡ true → processed w now word ip s ≡ after_table (row c) now a cut.offset bs s
   unfolding processed processed_inside advanced
@@ -277,7 +280,7 @@ module _ (w : View) (k : TcpSeqNumber) (r : Faces w k) (now : Instant) (word : �
   -- outside of the window, with a byte
   pub away : is_inside (receive_window w) s.seq_number (length s.payload) ≡ false → 0 < length s.payload → processed w now word ip s ≡ ack_sent w s
   unfolding processed outside close_restarted
-  away e some = rw (passes, has, e) (by s.control bit ∙ ap (λ tm. ack_sent (record w { timer = tm }) s) (stays w.state r.receives))
+  away e some = rw (passes, has, e) (by s.control bit ∙ ap (λ tm. ack_sent (record w { timer = tm }) s) (synchronized_stays w.state w.timer now r.state))
     where
       by : (c : TcpControl) → IsSaid c → outside_by c (length s.payload) w now s ≡ ack_sent (close_restarted w now) s
       by control.None d = rw (not_zero (length s.payload) some) refl
@@ -285,15 +288,20 @@ module _ (w : View) (k : TcpSeqNumber) (r : Faces w k) (now : Instant) (word : �
       by control.Fin d = rw (not_zero (length s.payload) some) refl
       by _ d = absurd d
 
-      stays : (st : State) → receives st ≡ true → timer_restarted st w.timer now ≡ w.timer
-      stays state.Established e = refl
-      stays state.FinWait1 e = refl
-      stays state.FinWait2 e = refl
-      stays _ e = absurd cc
+  -- and without one, a challenge: at most one a second
+  pub away_empty : is_inside (receive_window w) s.seq_number (length s.payload) ≡ false → length s.payload ≡ 0 → int_lt now.micros w.challenge_ack_timer.micros ≡ false → (processed w now word ip s).reply ≡ Some (ack_segment w s)
+  unfolding processed outside challenged close_restarted ack_segment sack_range
+  away_empty e none over = rw (passes, has, e) (by s.control bit)
+    where
+      by : (c : TcpControl) → IsSaid c → (outside_by c (length s.payload) w now s).reply ≡ Some (ack_segment w s)
+      by control.None d = rw (none, over) refl
+      by control.Psh d = rw (none, over) refl
+      by control.Fin d = rw (none, over) refl
+      by _ d = absurd d
 
   -- inside of it, with bytes in order
-  pub joins : is_inside (receive_window w) s.seq_number (length s.payload) ≡ true → cut.offset ≡ 0 → 0 < length bs → length w.rx_buffer.bytes < length (processed w now word ip s).view.rx_buffer.bytes
-  joins i at some = subst (λ (o : Outcome). length w.rx_buffer.bytes < length o.view.rx_buffer.bytes) (sym (in_window i)) (grows (row c).next (row c).view (goes_on c (counted_so s.control (receive_window w) s.seq_number (length s.payload) bit) w.state a.fin r.receives x now (tuple_of ip s) word a.len s) (table_keeps s now x (tuple_of ip s) word a.len w.state c a.fin).rx)
+  pub joins : receives w.state ≡ true → is_inside (receive_window w) s.seq_number (length s.payload) ≡ true → cut.offset ≡ 0 → 0 < length bs → length w.rx_buffer.bytes < length (processed w now word ip s).view.rx_buffer.bytes
+  joins takes i at some = subst (λ (o : Outcome). length w.rx_buffer.bytes < length o.view.rx_buffer.bytes) (sym (in_window i)) (grows (row c).next (row c).view (goes_on c (counted_so s.control (receive_window w) s.seq_number (length s.payload) bit) w.state a.fin takes x now (tuple_of ip s) word a.len s) (table_keeps s now x (tuple_of ip s) word a.len w.state c a.fin).rx)
     where
       grows : (m : Next) (y : View) → m ≡ next.Continue → y.rx_buffer ≡ w.rx_buffer → length w.rx_buffer.bytes < length (after_advance m y now a cut.offset bs s).view.rx_buffer.bytes
       grows next.Stop y e q = absurd cc
@@ -327,9 +335,13 @@ module _ (w : View) (k : TcpSeqNumber) (r : Faces w k) (now : Instant) (word : �
     none : length bs ≡ 0
     none = omega (arith, length-cut cut s.payload, empty)
 
+    none_taken : (z : View) → bytes_taken z now cut.offset bs s ≡ stopped z
+    unfolding bytes_taken
+    none_taken z = rw none refl
+
     after_fin : (y : View) → receives y.state ≡ false → y.rx_fin_received ≡ true → y.remote_seq_no ≡ seq_add w.remote_seq_no 1 → y.rx_buffer ≡ w.rx_buffer → CountsIt w (bytes_taken (heard y now a s) now cut.offset bs s)
     unfolding bytes_taken
-    after_fin y st f q b = subst (CountsIt w) (sym (stops (heard y now a s))) (record {
+    after_fin y st f q b = subst (CountsIt w) (sym (none_taken (heard y now a s))) (record {
       reply = refl;
       state = ap receives h.state ∙ st;
       rx = h.rx ∙ b;
@@ -340,8 +352,8 @@ module _ (w : View) (k : TcpSeqNumber) (r : Faces w k) (now : Instant) (word : �
         h : HeardSo y a s (heard y now a s)
         h = heard_so y now a s
 
-        stops : (z : View) → bytes_taken z now cut.offset bs s ≡ stopped z
-        stops z = rw none refl
+    pub fin_row : w.state ≡ state.Established → processed w now word ip s ≡ stopped (heard (fin_counted state.CloseWait x) now a s)
+    fin_row e = in_window inside ∙ ap (λ m. after_table (row m) now a cut.offset bs s) counts ∙ ap (λ st. after_table (advance_in st control.Fin a.fin x now (tuple_of ip s) word a.len s) now a cut.offset bs s) e ∙ none_taken (heard (fin_counted state.CloseWait x) now a s)
 
     rows : (st : State) (acked : Bool) → receives st ≡ true → CountsIt w (after_table (advance_in st control.Fin acked x now (tuple_of ip s) word a.len s) now a cut.offset bs s)
     unfolding fin_counted
@@ -351,5 +363,5 @@ module _ (w : View) (k : TcpSeqNumber) (r : Faces w k) (now : Instant) (word : �
     rows state.FinWait2 acked e = after_fin (waiting now (fin_counted state.TimeWait x)) refl refl refl refl
     rows _ acked e = absurd cc
 
-    pub fin_counts : CountsIt w (processed w now word ip s)
-    fin_counts = subst (CountsIt w) (sym (in_window inside ∙ ap (λ m. after_table (row m) now a cut.offset bs s) counts)) (rows w.state a.fin r.receives)
+    pub fin_counts : receives w.state ≡ true → CountsIt w (processed w now word ip s)
+    fin_counts takes = subst (CountsIt w) (sym (in_window inside ∙ ap (λ m. after_table (row m) now a cut.offset bs s) counts)) (rows w.state a.fin takes)

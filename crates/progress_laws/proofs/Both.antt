@@ -60,7 +60,7 @@ width_told v y room held narrow rx rcv shift ack win =
     told_window y room (ap (λ (b : Received). b.held) rx ∙ held) narrow (ack ∙ (λ i. Some (seq_add (sym rcv i) (length ((sym rx i).bytes))))) (win ∙ (λ i. min (wide_so v room held i / 2 ^ sym shift i) 65535))
     ∙ (λ i. unit (sym (wide_so v room held) i) (shift i))
 
-open_rests : (v : View) → Rests v → IsOpenTimer v.timer
+pub open_rests : (v : View) → Rests v → IsOpenTimer v.timer
 open_rests v (ForKeepAlive at idle nxt) = subst IsOpenTimer (sym idle) tt
 open_rests v (ForNothing idle nxt some) = subst IsOpenTimer (sym idle) tt
 open_rests v (ForAnswer at again) = subst IsOpenTimer (sym again) tt

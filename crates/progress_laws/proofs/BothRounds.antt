@@ -94,7 +94,7 @@ module _ (d e : Option Duration) (t s : Tuple) (f : Facts) (mtu : IsMtu f.mtu) (
 -- ---- the other way round
 
 -- with an empty queue nothing is in flight
-round_about : (d e : Option Duration) (t s : Tuple) (v w : View) (i : BothInStep d e t s v w) → length v.tx_buffer.bytes ≡ 0 → BothInStep e d s t w v
+pub round_about : (d e : Option Duration) (t s : Tuple) (v w : View) (i : BothInStep d e t s v w) → length v.tx_buffer.bytes ≡ 0 → BothInStep e d s t w v
 round_about d e t s v w i z = record { here = i.across; across = i.here; over = i.back; back = i.over; caught_up = all }
   where
     o : IsOrdered v

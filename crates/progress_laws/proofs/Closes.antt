@@ -1,5 +1,5 @@
 -- The sender closes, and its FIN reaches the receiver.
-use Rattle.std.proofs.Common.{◌≡◌, ℕ, ◌+◌, ◌<◌, ◌^◌, Bool, true, false, not, ◌&&◌, ◌||◌, refl, sym, ap, subst, ◌∙◌, List, length, take, drop, min, Option, Some, None, arith}
+use Rattle.std.proofs.Common.{◌≡◌, ℕ, ◌+◌, ◌/◌, ◌<◌, ◌^◌, Bool, true, false, not, ◌&&◌, ◌||◌, refl, sym, ap, subst, ◌∙◌, List, length, take, drop, min, Option, Some, None, arith}
 use Rattle.std.specs.Prelude.{if◌then◌else◌, ◌==◌, Err}
 use Rattle.std.proofs.lemmas.Bool.{eq-eqb}
 use Rattle.std.proofs.lemmas.List.{length-replicate}
@@ -15,11 +15,11 @@ use Rattle.sock_core.specs.Received.{Received}
 use Rattle.sock_tcp.proofs.Lending.{lent_at_most}
 use Rattle.sock_tcp.specs.Closing.{closed}
 use Rattle.sock_tcp.specs.Content.{Sending, asked, carries_data, emission_kind, offset_of, plain_segment, sent_as}
-use Rattle.sock_tcp.specs.Due.{data_due, effective_mss, flight, is_closing, is_due, is_held_back, is_opening, sendable}
+use Rattle.sock_tcp.specs.Due.{data_due, effective_mss, flight, is_closing, is_due, is_held_back, is_opening, sendable, window_field}
 use Rattle.sock_tcp.specs.Process.{Outcome, processed}
 use Rattle.sock_tcp.specs.Queue.{Queue}
 use Rattle.sock_tcp.specs.Queues.{recv_check}
-use Rattle.sock_tcp.specs.Sent.{left_by}
+use Rattle.sock_tcp.specs.Sent.{emitted_as, left_by}
 use Rattle.sock_tcp.specs.Timers.{is_keep_alive_over, is_over, is_probe_over}
 use Rattle.sock_tcp.specs.View.{View}
 use Rattle.sock_tcp.specs.Window.{next_ack}
@@ -35,8 +35,8 @@ use Rattle.progress_laws.specs.Speech.{DispatchesOk, GoesOn, SendsOk}
 use Rattle.progress_laws.proofs.Begins.{carries_runs, content_is, never_pauses, segment_for, sends_so, step_reached}
 use Rattle.progress_laws.proofs.Rounds.{later_moment, one_way_completes}
 use Rattle.progress_laws.proofs.Says.{no_probe}
-use Rattle.progress_laws.proofs.Arrives.{CountsIt, Faces, fin_counts}
-use Rattle.progress_laws.proofs.Spoken.{IsSaid}
+use Rattle.progress_laws.proofs.Arrives.{CountsIt, Faces, fin_counts, receives_so}
+use Rattle.progress_laws.proofs.Spoken.{IsSaid, Still, sent_still, then_still}
 use Rattle.progress_laws.proofs.States.{closing_carries, sends_closing, takes_receives}
 use Rattle.progress_laws.proofs.Speaks.{Begins, Front, IsNoProbe, begins, wakes}
 
@@ -51,8 +51,10 @@ pub record SaysFin (f : Facts) (v : View) : Type 0 where
   pub number : out.segment.seq_number ≡ v.local_seq_no
   pub ack : out.segment.ack_number ≡ Some (next_ack v)
   pub empty : length out.segment.payload ≡ 0
+  pub field : out.segment.window_len ≡ window_field v
+  pub still : Still v after
 
-closed_rests : (v : View) → Rests v → Rests (closed v)
+pub closed_rests : (v : View) → Rests v → Rests (closed v)
 closed_rests v (ForKeepAlive at idle nxt) = ForKeepAlive at idle nxt
 closed_rests v (ForNothing idle nxt some) = ForNothing idle nxt some
 closed_rests v (ForAnswer at again) = ForAnswer at again
@@ -169,13 +171,15 @@ module _ (d : Option Duration) (t : Tuple) (c : View) (f : Facts) (now : Instant
     number = rw nothing_marked fr.nxt;
     ack = (λ i. Some (seq_add (fr.rcv i) (length ((fr.rx i).bytes))));
     empty = none;
+    field = (λ i. min (length ((fr.rx i).held) / 2 ^ fr.shift i) 65535);
+    still = then_still c u (left_by (Some (sent_as u t kind.Plain b)) u now true) (record { state = fr.state; una = fr.una; tx = fr.tx; rx = fr.rx; rcv = fr.rcv }) (sent_still u now (emitted_as kind.Plain b));
   }
 
 -- ---- and is counted
 
 facing : (s : Tuple) (w : View) (r : IsReceiver s w) (k : TcpSeqNumber) → w.local_seq_no.0 < 2 ^ 32 → k ≡ w.local_seq_no → Faces w k
 facing s w r k small at = record {
-  receives = takes_receives w.state r.state;
+  state = receives_so w.state (takes_receives w.state r.state);
   una_small = small;
   short = omega (arith, r.nothing_to_send);
   heard = 0;
@@ -201,7 +205,7 @@ one_way_finishes d t s f at v w got mtu here there i = go (one_way_completes d t
         let at = ap (λ (m : TcpSeqNumber). m.0) q.number in
         let small : w.local_seq_no.0 < 2 ^ 32 = omega (arith, ap (λ (m : TcpSeqNumber). m.0) c.in_step.back) in
         let number : q.out.segment.seq_number.0 ≡ (next_ack w).0 = omega (arith, at, edge, c.in_step.taken_within, c.sent, (reached_ordered c.sender c.in_step.sender.reached).una_small) in
-        let n : CountsIt w (processed w l.0 0 q.out.ip q.out.segment) = fin_counts w (next_ack c.sender) (facing s w c.in_step.receiver (next_ack c.sender) small (sym c.in_step.back)) l.0 0 q.out.ip q.out.segment (subst IsSaid (sym q.bit) tt) q.ack q.bit q.empty number in
+        let n : CountsIt w (processed w l.0 0 q.out.ip q.out.segment) = fin_counts w (next_ack c.sender) (facing s w c.in_step.receiver (next_ack c.sender) small (sym c.in_step.back)) l.0 0 q.out.ip q.out.segment (subst IsSaid (sym q.bit) tt) q.ack q.bit q.empty number (takes_receives w.state c.in_step.receiver.state) in
         record {
           bytes = c;
           now = l.0;

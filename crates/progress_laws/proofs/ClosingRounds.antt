@@ -40,7 +40,7 @@ use Rattle.progress_laws.specs.AfterClose.{AfterClose, BringsAll, ClosedSenderFi
 use Rattle.progress_laws.specs.BothWays.{window_told}
 use Rattle.progress_laws.specs.InStep.{Carries, ForAnswer, ForKeepAlive, ForNothing, ForProbe, IsAnswered, Moves, NoMove, OneMore, Reads, Rests, takes_bytes, told}
 use Rattle.progress_laws.proofs.Answered.{acked, heard_answer}
-use Rattle.progress_laws.proofs.Arrives.{CountsIt, Faces, away, fin_counts}
+use Rattle.progress_laws.proofs.Arrives.{CountsIt, Faces, away, fin_counts, receives_so}
 use Rattle.progress_laws.proofs.Begins.{some_or_none, step_reached}
 use Rattle.progress_laws.proofs.Both.{measure, room_small, told_some, wide_so, width_told}
 use Rattle.progress_laws.proofs.Closes.{SaysFin, finished, says_fin}
@@ -96,7 +96,7 @@ module _ (d : Option Duration) (t : Tuple) (f : Facts) (at now : Instant) (since
   faces =
       let o = reached_ordered w i.receiver.reached in
       record {
-        receives = takes_receives w.state i.receiver.state;
+        state = receives_so w.state (takes_receives w.state i.receiver.state);
         una_small = o.una_small;
         short = omega (arith, o.room);
         heard = i.heard;
@@ -113,7 +113,7 @@ module _ (d : Option Duration) (t : Tuple) (f : Facts) (at now : Instant) (since
   fin_alone : (q : SaysFin (told f now) v) → length v.tx_buffer.bytes ≡ 0 → BringsAll d t f at v w got i
   fin_alone q none =
       let number : q.out.segment.seq_number.0 ≡ (next_ack w).0 = omega (arith, ap (λ (m : TcpSeqNumber). m.0) q.number, edge, i.over.taken_within, none, v_small) in
-      let c : CountsIt w (processed w now 0 q.out.ip q.out.segment) = fin_counts w (next_ack v) faces now 0 q.out.ip q.out.segment (subst IsSaid (sym q.bit) tt) q.ack q.bit q.empty number in
+      let c : CountsIt w (processed w now 0 q.out.ip q.out.segment) = fin_counts w (next_ack v) faces now 0 q.out.ip q.out.segment (subst IsSaid (sym q.bit) tt) q.ack q.bit q.empty number (takes_receives w.state i.receiver.state) in
       let w' : View = (processed w now 0 q.out.ip q.out.segment).view in
       record {
         end = now;
@@ -338,7 +338,7 @@ module _ (d : Option Duration) (t : Tuple) (f : Facts) (at now : Instant) (since
           ys = drop n out.segment.payload
 
           k : TookLast ys o
-          k = took_last w (next_ack v) faces i.receiver.room i.receiver.read i.receiver.nothing_held now out.ip out.segment (p.fin all) p.ack n m (omega (arith, number_is, v_small)) skips close long some fits past
+          k = took_last w (next_ack v) faces i.receiver.room i.receiver.read i.receiver.nothing_held now out.ip out.segment (p.fin all) p.ack n m (omega (arith, number_is, v_small)) skips close long some fits past (takes_receives w.state i.receiver.state)
 
           whole : ys ≡ drop n v.tx_buffer.bytes
           whole = ap (drop n) (p.first ∙ ap (λ q. take q v.tx_buffer.bytes) all ∙ take_all v.tx_buffer.bytes)

@@ -87,9 +87,23 @@ counts control.None w number n d = refl
 counts control.Psh w number n d = refl
 counts _ w number n d = absurd d
 
-scaled : (c : TcpControl) (n : ℕ) (scale : Option ℕ) → IsData c → window_of c n scale ≡ n * 2 ^ scale_of scale
+-- ---- control None, PSH or FIN
+
+abbrev pub IsSaid : TcpControl → Type 0
+IsSaid control.None = Unit {0}
+IsSaid control.Psh = Unit {0}
+IsSaid control.Fin = Unit {0}
+IsSaid c = ⊥
+
+pub data_is_said : (c : TcpControl) → IsData c → IsSaid c
+data_is_said control.None d = tt
+data_is_said control.Psh d = tt
+data_is_said _ d = absurd d
+
+scaled : (c : TcpControl) (n : ℕ) (scale : Option ℕ) → IsSaid c → window_of c n scale ≡ n * 2 ^ scale_of scale
 scaled control.None n scale d = refl
 scaled control.Psh n scale d = refl
+scaled control.Fin n scale d = refl
 scaled _ n scale d = absurd d
 
 -- ---- the timer, once all is acknowledged
@@ -187,7 +201,7 @@ pub record HeardAs (u : View) (k : TcpSeqNumber) (n win : ℕ) (x : View) : Type
   pub tx : x.tx_buffer ≡ shortened u.tx_buffer n
   pub window : x.remote_win_len ≡ win
 
-pub heard_as : (u : View) (now : Instant) (a : Acked) (s : Segment) (k : TcpSeqNumber) → s.ack_number ≡ Some k → IsData s.control → HeardAs u k a.len (s.window_len * 2 ^ scale_of u.remote_win_scale) (heard u now a s)
+pub heard_as : (u : View) (now : Instant) (a : Acked) (s : Segment) (k : TcpSeqNumber) → s.ack_number ≡ Some k → IsSaid s.control → HeardAs u k a.len (s.window_len * 2 ^ scale_of u.remote_win_scale) (heard u now a s)
 unfolding heard acknowledged window_taken released duplicate_counted ack_counted una_advanced timestamp_taken timer_set
 heard_as u now a s k number bit = subst (λ o. HeardAs u k a.len (s.window_len * 2 ^ scale_of u.remote_win_scale) (timer_set (timestamp_taken (acknowledged x o now a.len (length s.payload) changed) s.timestamp) now a)) (sym number) (either (is_duplicate x k (length s.payload) changed))
   where
@@ -206,7 +220,7 @@ pub data ThenWaits (now : Instant) (keep : Option Duration) (all : Bool) (t : Ti
   ForNone : all ≡ true → t ≡ idle_from now keep → ThenWaits now keep all t
   ForRest : (at : Instant) → t ≡ timer.Retransmit at → ThenWaits now keep all t
 
-pub heard_waits : (u : View) (now : Instant) (a : Acked) (s : Segment) (k : TcpSeqNumber) (at : Instant) → s.ack_number ≡ Some k → IsData s.control → u.timer ≡ timer.Retransmit at → 0 < a.len → 0 < s.window_len * 2 ^ scale_of u.remote_win_scale → ThenWaits now u.keep_alive a.all (heard u now a s).timer
+pub heard_waits : (u : View) (now : Instant) (a : Acked) (s : Segment) (k : TcpSeqNumber) (at : Instant) → s.ack_number ≡ Some k → IsSaid s.control → u.timer ≡ timer.Retransmit at → 0 < a.len → 0 < s.window_len * 2 ^ scale_of u.remote_win_scale → ThenWaits now u.keep_alive a.all (heard u now a s).timer
 unfolding heard acknowledged window_taken released duplicate_counted ack_counted una_advanced timestamp_taken timer_set
 heard_waits u now a s k at number bit waits some win = subst (λ o. ThenWaits now u.keep_alive a.all (timer_set (timestamp_taken (acknowledged x o now a.len (length s.payload) changed) s.timestamp) now a).timer) (sym number) (either (is_duplicate x k (length s.payload) changed))
   where
@@ -249,7 +263,7 @@ heard_waits u now a s k at number bit waits some win = subst (λ o. ThenWaits no
     either true = ends (timestamp_taken (ack_heard true x now k a.len) s.timestamp) (timer_acked (if u.local_rx_dup_acks == 2 then timer.FastRetransmit else u.timer) (timestamp_taken (ack_heard true x now k a.len) s.timestamp) now a) open_ (acked (if u.local_rx_dup_acks == 2 then timer.FastRetransmit else u.timer) (timestamp_taken (ack_heard true x now k a.len) s.timestamp) refl (fast (u.local_rx_dup_acks == 2)))
     either false = ends (timestamp_taken (ack_heard false x now k a.len) s.timestamp) (timer_acked u.timer (timestamp_taken (ack_heard false x now k a.len) s.timestamp) now a) open_ (acked u.timer (timestamp_taken (ack_heard false x now k a.len) s.timestamp) refl (inl waits))
 
-module _ (u : View) (now : Instant) (a : Acked) (s : Segment) (k : TcpSeqNumber) (number : s.ack_number ≡ Some k) (bit : IsData s.control) (last : is_before k u.remote_last_seq ≡ false) where
+module _ (u : View) (now : Instant) (a : Acked) (s : Segment) (k : TcpSeqNumber) (number : s.ack_number ≡ Some k) (bit : IsSaid s.control) (last : is_before k u.remote_last_seq ≡ false) where
   abbrev x : View
   x = released (window_taken u now s.control s.window_len) a.len
 

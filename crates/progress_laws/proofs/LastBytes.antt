@@ -121,5 +121,5 @@ module _ (w : View) (k : TcpSeqNumber) (r : Faces w k) (room : ℕ) (read : w.rx
   rows state.FinWait2 acked e = taken (waiting now (fin_counted state.TimeWait x)) refl refl refl
   rows _ acked e = absurd cc
 
-  pub took_last : TookLast fresh (processed w now 0 ip g)
-  took_last = subst (TookLast fresh) (sym (in_window w k r now 0 ip g bit ack inside ∙ (λ i. after_table (advance_in w.state (counts i) a.fin x now (tuple_of ip g) 0 a.len g) now a (cut_is i).offset (cut_bytes (cut_is i) g.payload) g) ∙ ap (λ (l : List ℕ). after_table (advance_in w.state control.Fin a.fin x now (tuple_of ip g) 0 a.len g) now a 0 l g) (ap (λ n. take n fresh) (sym fresh_length) ∙ take_all fresh))) (rows w.state a.fin r.receives)
+  pub took_last : receives w.state ≡ true → TookLast fresh (processed w now 0 ip g)
+  took_last takes = subst (TookLast fresh) (sym (in_window w k r now 0 ip g bit ack inside ∙ (λ i. after_table (advance_in w.state (counts i) a.fin x now (tuple_of ip g) 0 a.len g) now a (cut_is i).offset (cut_bytes (cut_is i) g.payload) g) ∙ ap (λ (l : List ℕ). after_table (advance_in w.state control.Fin a.fin x now (tuple_of ip g) 0 a.len g) now a 0 l g) (ap (λ n. take n fresh) (sym fresh_length) ∙ take_all fresh))) (rows w.state a.fin takes)

@@ -23,7 +23,7 @@ use Rattle.tcp_laws.proofs.SocketSteps.{holds_after}
 use Rattle.progress_laws.specs.InStep.{ForKeepAlive, ForNothing, Rests}
 use Rattle.progress_laws.proofs.Begins.{some_or_none, step_reached}
 use Rattle.progress_laws.proofs.Edges.{empty_inside_so, is_earlier, is_not_before, later_is, later_stays, same_seq}
-use Rattle.progress_laws.proofs.Hears.{HeardAs, IsData, covered, heard_as, heard_inside, heard_rests, none_taken, seen}
+use Rattle.progress_laws.proofs.Hears.{HeardAs, IsData, data_is_said, covered, heard_as, heard_inside, heard_rests, none_taken, seen}
 use Rattle.progress_laws.proofs.Speaks.{Waits}
 use Rattle.progress_laws.proofs.States.{is_flat, not_listening}
 
@@ -110,7 +110,7 @@ module _ (v x : View) (now : Instant) (ip : IpRepr) (g : Segment) (k : TcpSeqNum
   hears = heard_inside x now 0 ip g k flat ack bit small una_small within short inside ∙ none_taken x now 0 ip g k flat ack bit heard_view (cut_of (receive_window x) g.seq_number (length g.payload)) empty
 
   heard_so : HeardAs a k (seq_sub k x.local_seq_no) (g.window_len * 2 ^ scale_of x.remote_win_scale) heard_view
-  heard_so = heard_as a now (covered x now 0 ip g k flat ack bit) g k ack bit
+  heard_so = heard_as a now (covered x now 0 ip g k flat ack bit) g k ack (data_is_said g.control bit)
 
   told_so : 0 < g.window_len * 2 ^ scale_of x.remote_win_scale
   told_so = subst (λ o. 0 < g.window_len * 2 ^ scale_of o) (sym wait.scale) some
@@ -124,7 +124,7 @@ module _ (v x : View) (now : Instant) (ip : IpRepr) (g : Segment) (k : TcpSeqNum
       by (inr e) = rw e refl
 
   idle : heard_view.timer ≡ idle_from now a.keep_alive
-  idle = heard_rests a now (covered x now 0 ip g k flat ack bit) g k ack bit last wait.timer all told_so
+  idle = heard_rests a now (covered x now 0 ip g k flat ack bit) g k ack (data_is_said g.control bit) last wait.timer all told_so
 
   all_heard : heard_view.remote_last_seq ≡ heard_view.local_seq_no
   all_heard = heard_so.nxt ∙ later ∙ sym heard_so.una

@@ -1,3 +1,4 @@
+pub mod Wakes
 pub mod Begins
 pub mod States
 pub mod Lends
@@ -23,3 +24,5 @@ pub mod BothRounds
 pub mod ClosingSays
 pub mod LastBytes
 pub mod ClosingRounds
+pub mod BothFinish
+pub mod Counted

@@ -24,7 +24,7 @@ use Rattle.sock_tcp.specs.declared.window.Cut.{Cut}
 use Rattle.progress_laws.specs.InStep.{IsReceiver, takes_bytes}
 use Rattle.progress_laws.proofs.Begins.{not_zero}
 use Rattle.progress_laws.proofs.Edges.{cut_at, is_not_before, later_stays, old_outside, shut_outside, tail_cut, tail_inside, told_edge}
-use Rattle.progress_laws.proofs.Hears.{HeardAs, IsData, answered_outside, covered, heard_as, heard_inside, heard_rests_empty, idle_is, idle_moment, seen}
+use Rattle.progress_laws.proofs.Hears.{HeardAs, IsData, data_is_said, answered_outside, covered, heard_as, heard_inside, heard_rests_empty, idle_is, idle_moment, seen}
 use Rattle.progress_laws.proofs.States.{is_flat, takes_flat}
 use Rattle.progress_laws.proofs.Taking.{at_once, blank, blank_holds_nothing, read_bytes, read_held, take_all, taken_bytes, taken_held}
 
@@ -185,7 +185,7 @@ module _ (s : Tuple) (w : View) (r : IsReceiver s w) where
       room_is = let h = window_width w (omega (arith, wide, r.room_at_most)) in omega (arith, h, wide, fits, fresh_length)
 
       hears : HeardAs (seen w now 0 ip g w.local_seq_no flat ack bit) w.local_seq_no (seq_sub w.local_seq_no w.local_seq_no) (g.window_len * 2 ^ scale_of w.remote_win_scale) x
-      hears = heard_as (seen w now 0 ip g w.local_seq_no flat ack bit) now (covered w now 0 ip g w.local_seq_no flat ack bit) g w.local_seq_no ack bit
+      hears = heard_as (seen w now 0 ip g w.local_seq_no flat ack bit) now (covered w now 0 ip g w.local_seq_no flat ack bit) g w.local_seq_no ack (data_is_said g.control bit)
 
       past_start : seq_sub (seq_add g.seq_number (length g.payload)) (receive_window w).start ≡ m
       past_start = ap (λ e. seq_sub (seq_add g.seq_number (length g.payload)) e) (start_is w) ∙ past
@@ -233,7 +233,7 @@ module _ (s : Tuple) (w : View) (r : IsReceiver s w) where
         no_timeout = hears.timeout ∙ r.no_timeout;
         interval = subst (λ o. ForSome o (λ e. 0 < e.micros)) (sym hears.keep_alive) r.interval;
         moment = idle_moment now w.keep_alive;
-        timer = heard_rests_empty (seen w now 0 ip g w.local_seq_no flat ack bit) now (covered w now 0 ip g w.local_seq_no flat ack bit) g w.local_seq_no ack bit (is_not_before w.local_seq_no w.remote_last_seq (omega (arith, una_small, ap (λ (n : TcpSeqNumber). n.0) r.nothing_in_flight))) r.moment r.timer r.nothing_to_send ∙ idle_is now w.keep_alive;
+        timer = heard_rests_empty (seen w now 0 ip g w.local_seq_no flat ack bit) now (covered w now 0 ip g w.local_seq_no flat ack bit) g w.local_seq_no ack (data_is_said g.control bit) (is_not_before w.local_seq_no w.remote_last_seq (omega (arith, una_small, ap (λ (n : TcpSeqNumber). n.0) r.nothing_in_flight))) r.moment r.timer r.nothing_to_send ∙ idle_is now w.keep_alive;
         nothing_to_send = ap (λ (q : Queue). length q.bytes) hears.tx ∙ omega (arith, length-drop (seq_sub w.local_seq_no w.local_seq_no) w.tx_buffer.bytes, r.nothing_to_send);
         una = hears.una;
         nxt = hears.nxt ∙ ap (λ n. later_of n w.local_seq_no) r.nothing_in_flight ∙ later_stays w.local_seq_no w.local_seq_no (is_not_before w.local_seq_no w.local_seq_no (omega (arith, una_small)));

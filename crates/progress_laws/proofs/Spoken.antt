@@ -32,6 +32,7 @@ use Rattle.tcp_laws.proofs.OrderedCalls.{reached_ordered}
 use Rattle.tcp_laws.specs.Polling.{IsReached}
 use Rattle.progress_laws.specs.Delivery.{HasSaid, HearsOf, ProbesNext}
 use Rattle.progress_laws.specs.Speech.{FromUna, KeepsAlive, Probes, SendsOk, Speech}
+pub use Rattle.progress_laws.proofs.Hears.{IsSaid}
 use Rattle.progress_laws.proofs.Begins.{Alike, beginning, carries_runs, content_is, dispatch_reached, goes_out, readied_alike, segment_for}
 
 -- ---- what a dispatch leaves alone
@@ -47,7 +48,7 @@ pub record Still (v x : View) : Type 0 where
 unmoved : (v : View) → Still v v
 unmoved v = record { state = refl; una = refl; tx = refl; rx = refl; rcv = refl }
 
-then_still : (a b c : View) → Still a b → Still b c → Still a c
+pub then_still : (a b c : View) → Still a b → Still b c → Still a c
 then_still a b c x y = record { state = y.state ∙ x.state; una = y.una ∙ x.una; tx = y.tx ∙ x.tx; rx = y.rx ∙ x.rx; rcv = y.rcv ∙ x.rcv }
 
 timer_still : (tm : Timer) (x : View) (now : Instant) → Still x (after_timer tm x now)
@@ -62,7 +63,7 @@ timer_still (timer.Idle at) x now = unmoved x
 timer_still (timer.ZeroWindowProbe at delay) x now = unmoved x
 timer_still (timer.Close at) x now = unmoved x
 
-sent_still : (b : View) (now : Instant) (e : Emitted) → Still b (after_sending b now e)
+pub sent_still : (b : View) (now : Instant) (e : Emitted) → Still b (after_sending b now e)
 unfolding after_sending sending_timed snd_nxt_moved after_any after_probe
 sent_still b now e = by e.kind
   where
@@ -78,13 +79,7 @@ sent_still b now e = by e.kind
     by kind.Probe = record { state = refl; una = refl; tx = refl; rx = refl; rcv = refl }
     by kind.KeepAlive = record { state = refl; una = refl; tx = refl; rx = refl; rcv = refl }
 
--- ---- control None, PSH or FIN
-
-abbrev pub IsSaid : TcpControl → Type 0
-IsSaid control.None = Unit {0}
-IsSaid control.Psh = Unit {0}
-IsSaid control.Fin = Unit {0}
-IsSaid c = ⊥
+-- ---- its control bit
 
 pub data_said : (u : View) (n : ℕ) → IsSaid (data_control u n)
 data_said u n = go (offset_of u + n == length u.tx_buffer.bytes) (is_closing u.state) (n == 0)
@@ -103,7 +98,7 @@ fin_at_end u n = go (offset_of u + n == length u.tx_buffer.bytes) refl (is_closi
     go true e b d f = eqb-true (offset_of u + n) (length u.tx_buffer.bytes) e
     go false e b d f = absurd cc
 
-is_fin : (c : TcpControl) → IsSaid c → 0 < control_len c → c ≡ control.Fin
+pub is_fin : (c : TcpControl) → IsSaid c → 0 < control_len c → c ≡ control.Fin
 is_fin control.Fin d some = refl
 is_fin control.None d some = absurd (omega (arith, some))
 is_fin control.Psh d some = absurd (omega (arith, some))
@@ -188,15 +183,22 @@ module _ (t : Tuple) (f : Facts) (stamps : Bool) (v : View) (out : Sending) (u :
   same_segment kind.Probe n = refl
   same_segment kind.KeepAlive n = absurd (n refl)
 
+  segment_is : (out.kind ≡ kind.KeepAlive → ⊥) → out.segment ≡ g
+  segment_is nk = ap (λ (s : Sending). s.segment) out_is ∙ same_segment k (λ e. nk (ap (λ (s : Sending). s.kind) out_is ∙ e))
+
+  -- of bytes it has no more than the queue
+  pub queued : (out.kind ≡ kind.KeepAlive → ⊥) → length out.segment.payload ≤ length v.tx_buffer.bytes
+  queued nk = omega (arith, ap (λ (s : Segment). length s.payload) (segment_is nk), lent_at_most b.tx_buffer (offset_of b) (asked b t f (is_some o.stamp)) o.bytes o.lent, ap (λ (q : Queue). length q.bytes) begun_still.tx)
+
   una_small : v.local_seq_no.0 < 2 ^ 32
   una_small = (reached_ordered v h.reached).una_small
 
   -- a FIN alone at SND.UNA has no byte before it
-  fin_alone : (out.kind ≡ kind.KeepAlive → ⊥) → out.segment.seq_number ≡ v.local_seq_no → length out.segment.payload ≡ 0 → out.segment.control ≡ control.Fin → length v.tx_buffer.bytes ≡ 0
+  pub fin_alone : (out.kind ≡ kind.KeepAlive → ⊥) → out.segment.seq_number ≡ v.local_seq_no → length out.segment.payload ≡ 0 → out.segment.control ≡ control.Fin → length v.tx_buffer.bytes ≡ 0
   fin_alone nk number none fin = omega (arith, fin_at_end b (length o.bytes) (sym (ap (λ (s : Segment). s.control) is) ∙ fin), at_front b.pending_fast_retransmit refl, none_left, ap (λ (q : Queue). length q.bytes) begun_still.tx)
     where
       is : out.segment ≡ g
-      is = ap (λ (s : Sending). s.segment) out_is ∙ same_segment k (λ e. nk (ap (λ (s : Sending). s.kind) out_is ∙ e))
+      is = segment_is nk
 
       none_left : length o.bytes ≡ 0
       none_left = sym (ap (λ (s : Segment). length s.payload) is) ∙ none

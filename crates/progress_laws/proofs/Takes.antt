@@ -24,7 +24,7 @@ use Rattle.tcp_laws.specs.Polling.{IsReached}
 use Rattle.tcp_laws.specs.SocketRun.{IsNumbered, Process, RecvSlice, after_segment, handed_slice, with_handed}
 use Rattle.progress_laws.proofs.Begins.{not_zero, step_reached}
 use Rattle.progress_laws.proofs.Edges.{cut_at, is_not_before, later_stays, old_outside, tail_cut, tail_inside}
-use Rattle.progress_laws.proofs.Hears.{HeardAs, IsData, IsOpenTimer, answered_outside, covered, heard_as, heard_inside, heard_open, heard_rests, seen}
+use Rattle.progress_laws.proofs.Hears.{HeardAs, IsData, data_is_said, IsOpenTimer, answered_outside, covered, heard_as, heard_inside, heard_open, heard_rests, seen}
 use Rattle.progress_laws.proofs.Receives.{start_is}
 use Rattle.progress_laws.proofs.States.{is_flat, not_listening}
 use Rattle.progress_laws.proofs.Taking.{at_once, blank, blank_holds_nothing, read_bytes, read_held, take_all, taken_bytes, taken_held}
@@ -127,7 +127,7 @@ module _ (w : View) (k : TcpSeqNumber) (n room : ℕ) (now : Instant) (ip : IpRe
   all = rw (c.nxt, is_not_before k k (omega (arith, small)), eq-eqb k.0 k.0 refl) refl
 
   hears : HeardAs z k (seq_sub k w.local_seq_no) (g.window_len * 2 ^ scale_of w.remote_win_scale) x
-  hears = heard_as z now (covered w now 0 ip g k c.state ack bit) g k ack bit
+  hears = heard_as z now (covered w now 0 ip g k c.state ack bit) g k ack (data_is_said g.control bit)
 
   module _ (j m : ℕ) (skips : seq_sub (next_ack w) g.seq_number ≡ j) (near : j < 2 ^ 31) (long : length g.payload ≡ j + m) (some : 0 < m) (fits : m ≤ seq_sub (receive_window w).end (receive_window w).start) (past : seq_sub (seq_add g.seq_number (length g.payload)) (next_ack w) ≡ m) where
     abbrev pub fresh_bytes : List ℕ
@@ -211,11 +211,11 @@ module _ (w : View) (k : TcpSeqNumber) (n room : ℕ) (now : Instant) (ip : IpRe
 
     pub took_rests : 0 < g.window_len * 2 ^ scale_of w.remote_win_scale → y.timer ≡ idle_from now w.keep_alive
     unfolding read_off joined ack_delayed
-    took_rests told = heard_rests z now (covered w now 0 ip g k c.state ack bit) g k ack bit last c.timer all told
+    took_rests told = heard_rests z now (covered w now 0 ip g k c.state ack bit) g k ack (data_is_said g.control bit) last c.timer all told
 
     pub took_open : IsOpenTimer y.timer
     unfolding read_off joined ack_delayed
-    took_open = heard_open z now (covered w now 0 ip g k c.state ack bit) g k ack bit last c.timer
+    took_open = heard_open z now (covered w now 0 ip g k c.state ack bit) g k ack (data_is_said g.control bit) last c.timer
 
     pub took_reached : IsReached w → g.seq_number.0 < 2 ^ 32 → length g.payload ≤ 65535 → IsReached y
     unfolding joined ack_delayed

@@ -1,17 +1,23 @@
 -- Two sockets in ESTABLISHED that both have bytes to send, and what they can do in turn.
-use Rattle.std.specs.Prelude.{ℕ, ◌≡◌, ◌+◌, ◌*◌, ◌^◌, ◌<◌, ◌≤◌, ◌≤ℤ◌, List, [], ◌++◌, length, drop, replicate, Option, None, true}
+use Rattle.std.specs.Prelude.{ℕ, ◌≡◌, ◌+◌, ◌*◌, ◌^◌, ◌<◌, ◌≤◌, ◌≤ℤ◌, List, [], ◌++◌, length, drop, replicate, Option, Some, None, Err, true, false}
 use Rattle.net_base.specs.declared.time.Duration.{Duration}
 use Rattle.net_base.specs.declared.time.Instant.{Instant}
 use Rattle.control_wire.specs.Seq.{seq_add, seq_sub}
 use Rattle.sock_core.specs.Bounds.{IsMtu}
 use Rattle.sock_core.specs.Facts.{Facts}
+use Rattle.sock_tcp.specs.Closing.{closed}
+use Rattle.sock_tcp.specs.Content.{Sending}
 use Rattle.sock_tcp.specs.Due.{window_field}
+use Rattle.sock_tcp.specs.Process.{processed}
+use Rattle.sock_tcp.specs.Queues.{recv_check}
 use Rattle.sock_tcp.specs.Steps.{scale_of}
 use Rattle.sock_tcp.specs.View.{View}
 use Rattle.sock_tcp.specs.Window.{next_ack, receive_window}
+use Rattle.sock_tcp.specs.declared.error.RecvError.TheVariants as recv_error
 use Rattle.sock_tcp.specs.declared.state.State.TheVariants as state
 use Rattle.sock_tcp.specs.declared.tuple.Tuple.{Tuple}
-use Rattle.progress_laws.specs.InStep.{IsSender, Move}
+use Rattle.progress_laws.specs.InStep.{IsSender, Move, told}
+use Rattle.progress_laws.specs.Speech.{DispatchesOk}
 
 -- ---- the two sides
 
@@ -90,3 +96,35 @@ BothWaysComplete = (d e : Option Duration) (t s : Tuple) (f : Facts) (at : Insta
     → f.has_address s.local.addr ≡ true
     → (i : BothInStep d e t s v w)
     → BothComplete d e t s f at v w got back i
+
+-- ---- both streams end
+
+-- v closes; its FIN goes out, which leaves v', and reaches w, which becomes w'; reads there answer `Finished`
+pub record ClosesTo (f : Facts) (now : Instant) (v w v' w' : View) : Type 0 where
+  pub out : Sending
+  pub dispatch : DispatchesOk (told f now) false (closed v) (Some out) v'
+  pub reaches : processed w now 0 out.ip out.segment ≡ record { view = w'; reply = None }
+  pub finished : recv_check w' ≡ Err recv_error.Finished
+
+-- After such a list the one closes, and then the other
+pub record BothFinish (d e : Option Duration) (t s : Tuple) (f : Facts) (at : Instant) (v w : View)
+    (got back : List ℕ) (i : BothInStep d e t s v w) : Type 0 where
+  pub bytes : BothComplete d e t s f at v w got back i
+  pub now : Instant
+  pub later : bytes.end.micros ≤ℤ now.micros
+  pub here : View
+  pub across : View
+  pub one : ClosesTo f now bytes.here bytes.across here across
+  pub end : Instant
+  pub later_still : now.micros ≤ℤ end.micros
+  pub last_here : View
+  pub last_across : View
+  pub other : ClosesTo f end across here last_across last_here
+
+abbrev pub BothWaysFinish : Type 0
+BothWaysFinish = (d e : Option Duration) (t s : Tuple) (f : Facts) (at : Instant) (v w : View) (got back : List ℕ)
+    → IsMtu f.mtu
+    → f.has_address t.local.addr ≡ true
+    → f.has_address s.local.addr ≡ true
+    → (i : BothInStep d e t s v w)
+    → BothFinish d e t s f at v w got back i

@@ -1,5 +1,5 @@
 -- What a segment that a socket says moves, delivered at once to the other side.
-use Rattle.std.specs.Prelude.{ℕ, ◌≡◌, ◌+◌, ◌<◌, ◌≤◌, ◌^◌, ◌⊎◌, length, drop, Option, Some, Bool, true}
+use Rattle.std.specs.Prelude.{ℕ, ◌≡◌, ◌+◌, ◌<◌, ◌≤◌, ◌^◌, ◌⊎◌, length, drop, int_lt, Option, Some, Bool, true, false}
 use Rattle.ip_wire.specs.declared.repr.IpRepr.{IpRepr}
 use Rattle.net_base.specs.declared.time.Instant.{Instant}
 use Rattle.control_wire.specs.Segment.{Segment}
@@ -7,13 +7,14 @@ use Rattle.control_wire.specs.Seq.{seq_add, seq_sub}
 use Rattle.control_wire.specs.declared.tcp.TcpTimestampRepr.{TcpTimestampRepr}
 use Rattle.sock_core.specs.Facts.{Facts}
 use Rattle.sock_tcp.specs.Content.{Sending, carries_data}
-use Rattle.sock_tcp.specs.Due.{flight}
+use Rattle.sock_tcp.specs.Due.{flight, is_closing}
 use Rattle.sock_tcp.specs.Process.{processed}
 use Rattle.sock_tcp.specs.Queues.{receives}
 use Rattle.sock_tcp.specs.Verdict.{fin_place}
 use Rattle.sock_tcp.specs.View.{View}
 use Rattle.sock_tcp.specs.Window.{is_inside, next_ack, receive_window}
 use Rattle.sock_tcp.specs.declared.emission.Kind.TheVariants as kind
+use Rattle.sock_tcp.specs.declared.state.State.{State}
 use Rattle.sock_tcp.specs.declared.state.State.TheVariants as state
 use Rattle.sock_tcp.specs.declared.tuple.Tuple.{Tuple}
 use Rattle.tcp_laws.specs.Polling.{IsReached}
@@ -51,6 +52,13 @@ pub record ProbesNext (v : View) (n : ℕ) : Type 0 where
 -- the receive window of w has a place
 abbrev pub HasWindow : View → Type 0
 HasWindow w = 0 < seq_sub (receive_window w).end (receive_window w).start
+
+-- the peer's FIN is counted, and TIME-WAIT has not begun
+abbrev pub has_counted : State → Bool
+has_counted state.CloseWait = true
+has_counted state.Closing = true
+has_counted state.LastAck = true
+has_counted _ = false
 
 -- ---- what moves
 
@@ -92,3 +100,36 @@ DeliveryMoves = (t : Tuple) (f : Facts) (stamps : Bool) (v u w : View) (out : Se
     → is_inside (receive_window u) w.remote_last_seq 0 ≡ true
     → (v.state ≡ state.LastAck → (0 < n) ⊎ ((out.kind ≡ kind.KeepAlive → ⊥) × HasWindow w))
     → Moved v u w out n now word
+
+-- ---- where the FIN was counted already
+
+-- All of v's queue was taken, and its FIN was counted, which v has not heard of: w is in CLOSE-WAIT, CLOSING or
+-- LAST-ACK. They agree on the numbers of both streams, as above
+pub record HasCounted (v w : View) : Type 0 where
+  pub reached : IsReached w
+  pub state : has_counted w.state ≡ true
+  pub there : next_ack w ≡ seq_add v.local_seq_no (length v.tx_buffer.bytes + 1)
+  pub heard : ℕ
+  pub heard_within : heard ≤ length w.tx_buffer.bytes + fin_place w.state
+  pub back : next_ack v ≡ seq_add w.local_seq_no heard
+
+-- It is answered; and the answer, in whatever header and with whatever timestamp, empties the transmit queue of v, and
+-- acknowledges its FIN
+pub record EndsFin (u w : View) (out : Sending) (now : Instant) (word : ℕ) : Type 0 where
+  pub answer : Segment
+  pub answered : (processed w now word out.ip out.segment).reply ≡ Some answer
+  pub empties : (ip : IpRepr) (stamp : Option TcpTimestampRepr)
+      → length (processed u now word ip (record answer { timestamp = stamp })).view.tx_buffer.bytes ≡ 0
+  pub ends : (ip : IpRepr) (stamp : Option TcpTimestampRepr)
+      → is_closing (processed u now word ip (record answer { timestamp = stamp })).view.state ≡ false
+
+-- Of a FIN alone only where no challenge ACK was sent within the second before
+abbrev pub CountedFinIsHeard : Type 0
+CountedFinIsHeard = (t : Tuple) (f : Facts) (stamps : Bool) (v u w : View) (out : Sending) (now : Instant) (word : ℕ)
+    → HasSaid t f stamps v out u
+    → is_closing v.state ≡ true
+    → HasCounted v w
+    → (out.kind ≡ kind.Probe → flight v < length v.tx_buffer.bytes)
+    → (length out.segment.payload ≡ 0 → int_lt now.micros w.challenge_ack_timer.micros ≡ false)
+    → is_inside (receive_window u) w.remote_last_seq 0 ≡ true
+    → EndsFin u w out now word

@@ -1,3 +1,4 @@
+pub mod Wakes
 pub mod Speech
 pub mod Delivery
 pub mod InStep

@@ -6,10 +6,19 @@
 #![tactic(auto)]
 
 ghost use Rattle.progress_laws.specs.AfterClose.{ClosedSenderFinishes};
-ghost use Rattle.progress_laws.specs.BothWays.{BothWaysComplete};
-ghost use Rattle.progress_laws.specs.Delivery.{DeliveryMoves};
+ghost use Rattle.progress_laws.specs.BothWays.{BothWaysComplete, BothWaysFinish};
+ghost use Rattle.progress_laws.specs.Delivery.{CountedFinIsHeard, DeliveryMoves};
 ghost use Rattle.progress_laws.specs.InStep.{OneWayCompletes, OneWayFinishes};
 ghost use Rattle.progress_laws.specs.Speech.{SpeaksPastItsTimers};
+ghost use Rattle.progress_laws.specs.Wakes.{WorkWakesOrSleeps};
+
+/// A socket with a peer and with work to do (`Socket::has_work`), and without a user timeout, sleeps in one of the ways
+/// of `tcp_laws::poll::sleeps_only_so`; or `poll_at` answers at the latest the latest moment told, plus the longest of
+/// a minute and of the keep-alive intervals and acknowledgement delays that were set. Over any list of calls as below,
+/// with a clock that begins at 0 or later and does not go back.
+pub fn work_wakes_or_sleeps()
+    ensures { WorkWakesOrSleeps }
+{}
 
 /// Of three dispatches of a socket with a keep-alive interval, and with bytes or a FIN that are not acknowledged, one
 /// says so, each being at or after the moment of the timer that stands then and none of their emits failing: a segment
@@ -30,6 +39,14 @@ pub fn delivery_moves()
     ensures { DeliveryMoves }
 {}
 
+/// And where the other side took all and counted the FIN, in CLOSE-WAIT, CLOSING or LAST-ACK, it is answered, and the
+/// answer, delivered at once, empties the sender's transmit queue and acknowledges its FIN: the sender is in
+/// FIN-WAIT-2, TIME-WAIT or CLOSED then. A FIN alone is so answered where no challenge ACK was sent within the second
+/// before.
+pub fn counted_fin_is_heard()
+    ensures { CountedFinIsHeard }
+{}
+
 /// From any two sockets of which one sends and the other receives, which agree on their numbers (`InStep`), whatever
 /// bytes, acknowledgements and window updates were lost, some list of dispatches, deliveries and reads, at moments that
 /// do not go back, empties the sender's transmit queue, and all of it was read of the receiver, in order.
@@ -48,6 +65,12 @@ pub fn one_way_finishes()
 /// round. What one sent may have been lost, and its acknowledgements; the other sent nothing that was not taken.
 pub fn both_ways_complete()
     ensures { BothWaysComplete }
+{}
+
+/// Once that is done the one may close, its FIN reaches the other, and reads there answer `Finished`; and then the
+/// other may close, and so it is the other way round.
+pub fn both_ways_finish()
+    ensures { BothWaysFinish }
 {}
 
 /// From a sender that was closed with bytes to send, in FIN-WAIT-1, CLOSING or LAST-ACK, that knows a window above 0,
