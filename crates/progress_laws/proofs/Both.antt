@@ -1,5 +1,5 @@
 -- Of two sides that both have bytes to send, one sends all that it has, and the other only answers.
-use Rattle.std.proofs.Common.{◌≡◌, ℕ, ◌+◌, ◌-◌, ◌*◌, ◌/◌, ◌<◌, ◌≤◌, ◌^◌, ◌⊎◌, inl, inr, refl, sym, ap, subst, ◌∙◌, List, ◌++◌, length, drop, min, Option, Some, None, arith, append_assoc, length-drop}
+use Rattle.std.proofs.Common.{◌≡◌, ℕ, ◌+◌, ◌-◌, ◌*◌, ◌/◌, ◌<◌, ◌≤◌, ◌^◌, ◌⊎◌, inl, inr, refl, sym, ap, subst, ◌∙◌, List, ◌++◌, length, drop, min, Option, Some, None, arith, append_assoc, length-drop, true}
 use Rattle.std.specs.Prelude.{◌≤ℤ◌}
 use Rattle.std.proofs.lemmas.Int.{ints}
 use Rattle.std.proofs.lemmas.List.{length-replicate}
@@ -12,6 +12,7 @@ use Rattle.control_wire.specs.Seq.{seq_add, seq_sub}
 use Rattle.control_wire.specs.declared.seq_number.TcpSeqNumber.{TcpSeqNumber}
 use Rattle.sock_core.specs.Facts.{Facts}
 use Rattle.sock_core.specs.Received.{Received}
+use Rattle.sock_tcp.proofs.Windows.{end_small, start_small}
 use Rattle.sock_tcp.specs.Content.{Sending}
 use Rattle.sock_tcp.specs.Due.{window_field}
 use Rattle.sock_tcp.specs.Process.{Outcome, processed}
@@ -21,7 +22,7 @@ use Rattle.sock_tcp.specs.Replies.{ack_kept, ack_segment, reply_ip}
 use Rattle.sock_tcp.specs.Steps.{scale_of}
 use Rattle.sock_tcp.specs.Timers.{idle_from}
 use Rattle.sock_tcp.specs.View.{View}
-use Rattle.sock_tcp.specs.Window.{next_ack, receive_window}
+use Rattle.sock_tcp.specs.Window.{is_inside, next_ack, receive_window}
 use Rattle.sock_tcp.specs.declared.tuple.Tuple.{Tuple}
 use Rattle.tcp_laws.specs.Polling.{IsReached}
 use Rattle.tcp_laws.specs.SocketRun.{IsNumbered, Process, after_segment}
@@ -30,10 +31,10 @@ use Rattle.tcp_laws.proofs.SocketSteps.{holds_after}
 use Rattle.progress_laws.specs.BothWays.{BothInStep, IsSide, window_told}
 use Rattle.progress_laws.specs.InStep.{Carries, ForAnswer, ForKeepAlive, ForNothing, ForProbe, IsAnswered, IsSender, Moves, NoMove, OneMore, Reads, Rests, told}
 use Rattle.progress_laws.proofs.Begins.{some_or_none, step_reached}
-use Rattle.progress_laws.proofs.Edges.{same_seq}
+use Rattle.progress_laws.proofs.Edges.{reach_inside, same_seq}
 use Rattle.progress_laws.proofs.Hears.{HeardAs, IsOpenTimer}
 use Rattle.progress_laws.proofs.Learns.{Learnt, idle_rests, learnt}
-use Rattle.progress_laws.proofs.Receives.{told_window, unit, unit_some}
+use Rattle.progress_laws.proofs.Receives.{told_window, unit, unit_some, unit_within}
 use Rattle.progress_laws.proofs.Rounds.{cut_and_rest}
 use Rattle.progress_laws.proofs.Speaks.{SpeaksPlain}
 use Rattle.progress_laws.proofs.States.{is_flat, not_listening, sends_flat}
@@ -51,14 +52,14 @@ room_small y room held r = omega (arith, wide_so y room held, (holds_after r.rx 
 pub told_some : (y : View) (room : ℕ) → y.rx_buffer.held ≡ blank room → 2 ^ y.remote_win_shift ≤ room → 0 < window_told y
 told_some y room held at_least = unit_some (length y.rx_buffer.held) y.remote_win_shift (subst (λ n. 2 ^ y.remote_win_shift ≤ n) (sym (wide_so y room held)) at_least)
 
-told_alike : (v y : View) → y.rx_buffer ≡ v.rx_buffer → y.remote_win_shift ≡ v.remote_win_shift → window_told y ≡ window_told v
+pub told_alike : (v y : View) → y.rx_buffer ≡ v.rx_buffer → y.remote_win_shift ≡ v.remote_win_shift → window_told y ≡ window_told v
 told_alike v y rx shift = (λ i. unit (length ((rx i).held)) (shift i))
 
 -- the receive window of y is what v, with the same buffer, told
-pub width_told : (v y : View) (room : ℕ) → v.rx_buffer.held ≡ blank room → room ≤ 2 ^ 30 → y.rx_buffer ≡ v.rx_buffer → y.remote_seq_no ≡ v.remote_seq_no → y.remote_win_shift ≡ v.remote_win_shift → y.remote_last_ack ≡ Some (next_ack v) → y.remote_last_win ≡ window_field v → seq_sub (receive_window y).end (receive_window y).start ≡ window_told v
-width_told v y room held narrow rx rcv shift ack win =
-    told_window y room (ap (λ (b : Received). b.held) rx ∙ held) narrow (ack ∙ (λ i. Some (seq_add (sym rcv i) (length ((sym rx i).bytes))))) (win ∙ (λ i. min (wide_so v room held i / 2 ^ sym shift i) 65535))
-    ∙ (λ i. unit (sym (wide_so v room held) i) (shift i))
+pub width_told : (v y : View) (room : ℕ) → length v.rx_buffer.held ≡ room → room ≤ 2 ^ 30 → y.rx_buffer ≡ v.rx_buffer → y.remote_seq_no ≡ v.remote_seq_no → y.remote_win_shift ≡ v.remote_win_shift → y.remote_last_ack ≡ Some (next_ack v) → y.remote_last_win ≡ window_field v → seq_sub (receive_window y).end (receive_window y).start ≡ window_told v
+width_told v y room wide narrow rx rcv shift ack win =
+    told_window y room (ap (λ (b : Received). length b.held) rx ∙ wide) narrow (ack ∙ (λ i. Some (seq_add (sym rcv i) (length ((sym rx i).bytes))))) (win ∙ (λ i. min (wide i / 2 ^ sym shift i) 65535))
+    ∙ (λ i. unit (sym wide i) (shift i))
 
 pub open_rests : (v : View) → Rests v → IsOpenTimer v.timer
 open_rests v (ForKeepAlive at idle nxt) = subst IsOpenTimer (sym idle) tt
@@ -131,6 +132,12 @@ module _ (d e : Option Duration) (t s : Tuple) (f : Facts) (at now : Instant) (s
   narrow_w : i.across.room ≤ 2 ^ 30
   narrow_w = room_small w i.across.room i.across.nothing_held ws.reached
 
+  told_small : window_told v ≤ 2 ^ 30
+  told_small = omega (arith, unit_within (length v.rx_buffer.held) v.remote_win_shift, wide_so v i.here.room i.here.nothing_held, narrow_v)
+
+  width_x : seq_sub (receive_window x).end (receive_window x).start ≡ window_told v
+  width_x = width_told v x i.here.room (wide_so v i.here.room i.here.nothing_held) narrow_v p.bytes.speaks.waits.rx p.bytes.speaks.waits.rcv p.shift p.last_ack p.last_win
+
   caught : IsCaughtUp w (next_ack v) i.back.taken i.across.room
   caught =
       let o = reached_ordered w ws.reached in
@@ -141,7 +148,8 @@ module _ (d e : Option Duration) (t s : Tuple) (f : Facts) (at now : Instant) (s
         short = omega (arith, o.room);
         there = i.back.there;
         queued = i.back.taken_within;
-        nxt = i.caught_up;
+        nxt_small = o.nxt_small;
+        ahead = omega (arith, i.in_reach, told_small);
         timer = open_rests w ws.rests;
         read = i.across.read;
         held = i.across.nothing_held;
@@ -193,13 +201,21 @@ module _ (d e : Option Duration) (t s : Tuple) (f : Facts) (at now : Instant) (s
         let nxt = ap (λ (m : TcpSeqNumber). m.0) p.bytes.nxt in
         omega (arith, nxt, edge, v_small, i.over.taken_within, queue_short, few, p.bytes.sent_within)
 
-    g_number : g.seq_number ≡ next_ack v
+    edge_x : (receive_window x).start ≡ next_ack v
+    unfolding receive_window
+    edge_x = own
+
+    lies : is_inside (receive_window x) g.seq_number (length g.payload) ≡ true
+    unfolding is_inside ack_segment
+    lies = reach_inside (receive_window x) (start_small x) (end_small x) (omega (arith, width_x, told_small)) w.remote_last_seq (reached_ordered w ws.reached).nxt_small (omega (arith, width_x, ap (λ (q : TcpSeqNumber). q.0) edge_x, i.in_reach))
+
+    g_small : g.seq_number.0 < 2 ^ 32
     unfolding ack_segment
-    g_number = i.caught_up
+    g_small = (reached_ordered w ws.reached).nxt_small
 
     l : Learnt v x now ip g (next_ack w) n
     unfolding ack_segment
-    l = learnt v x now ip g (next_ack w) n (sends_flat v.state vs.state) p.bytes.speaks.waits tt g_number refl refl told_back_some i.over.taken_within i.over.there near
+    l = learnt v x now ip g (next_ack w) n (sends_flat v.state vs.state) p.bytes.speaks.waits tt g_small lies refl refl told_back_some i.over.taken_within i.over.there near
 
     answered : Further d e t s f at v w got i
     unfolding ack_kept ack_segment
@@ -241,7 +257,7 @@ module _ (d e : Option Duration) (t s : Tuple) (f : Facts) (at now : Instant) (s
               there = same_seq (next_ack w) (seq_add (next_ack w) 0) (omega arith) ∙ ap (λ m. seq_add m 0) (sym h.una);
               scale = ap scale_of (h.scale ∙ p.bytes.speaks.waits.scale) ∙ i.over.scale;
               some = l.window;
-              window = omega (arith, window_is, width_told w (ack_kept w) i.across.room i.across.nothing_held narrow_w refl refl refl refl refl);
+              window = omega (arith, window_is, width_told w (ack_kept w) i.across.room (wide_so w i.across.room i.across.nothing_held) narrow_w refl refl refl refl refl);
               at_most = omega (arith, window_is);
             };
             back = record {
@@ -250,10 +266,10 @@ module _ (d e : Option Duration) (t s : Tuple) (f : Facts) (at now : Instant) (s
               there = own_then ∙ i.back.there;
               scale = i.back.scale ∙ sym shift;
               some = i.back.some;
-              window = omega (arith, i.back.at_most, width_told v y i.here.room i.here.nothing_held narrow_v (h.rx ∙ p.bytes.speaks.waits.rx) (h.rcv ∙ p.bytes.speaks.waits.rcv) shift (h.last_ack ∙ p.last_ack) (h.last_win ∙ p.last_win));
+              window = omega (arith, i.back.at_most, width_told v y i.here.room (wide_so v i.here.room i.here.nothing_held) narrow_v (h.rx ∙ p.bytes.speaks.waits.rx) (h.rcv ∙ p.bytes.speaks.waits.rcv) shift (h.last_ack ∙ p.last_ack) (h.last_win ∙ p.last_win));
               at_most = subst (λ m. w.remote_win_len ≤ m) (sym (told_alike v y (h.rx ∙ p.bytes.speaks.waits.rx) shift)) i.back.at_most;
             };
-            caught_up = i.caught_up ∙ sym own_then;
+            in_reach = omega (arith, i.in_reach, ap (λ (q : TcpSeqNumber). q.0) own_then, told_alike v y (h.rx ∙ p.bytes.speaks.waits.rx) shift);
           };
           whole = ap (λ (l : List ℕ). got ++ l) queue;
           others = refl;
@@ -330,8 +346,8 @@ module _ (d e : Option Duration) (t s : Tuple) (f : Facts) (at now : Instant) (s
     k : Took w (next_ack v) i.back.taken i.across.room m (out.segment.window_len * 2 ^ scale_of w.remote_win_scale) now w2
     k = took_so w (next_ack v) i.back.taken i.across.room now out.ip out.segment caught p.bytes.speaks.bit p.bytes.speaks.ack n m skips close long some fits past
 
-    rests_then : w2.timer ≡ idle_from now w.keep_alive
-    rests_then = took_rests w (next_ack v) i.back.taken i.across.room now out.ip out.segment caught p.bytes.speaks.bit p.bytes.speaks.ack n m skips close long some fits past told_there
+    rests_then : Rests w2
+    rests_then = took_rests w (next_ack v) i.back.taken i.across.room now out.ip out.segment caught p.bytes.speaks.bit p.bytes.speaks.ack n m skips close long some fits past told_there ws.rests
 
     reached : IsReached w2
     reached = took_reached w (next_ack v) i.back.taken i.across.room now out.ip out.segment caught p.bytes.speaks.bit p.bytes.speaks.ack n m skips close long some fits past ws.reached (omega (arith, number_is, v_small)) p.short
@@ -360,7 +376,7 @@ module _ (d e : Option Duration) (t s : Tuple) (f : Facts) (at now : Instant) (s
       in_step = record {
         here = side_then;
         across = record {
-          sender = record { reached = reached; state = ap may_send k.state ∙ ws.state; peer = k.peer ∙ ws.peer; no_timeout = k.timeout ∙ ws.no_timeout; keep_alive = k.keep_alive ∙ ws.keep_alive; nothing_marked = k.marked ∙ ws.nothing_marked; rests = idle_rests w2 now e (rests_then ∙ ap (idle_from now) ws.keep_alive) (k.nxt ∙ sym k.una) (subst (λ q. 0 < q) (sym k.window) told_there) };
+          sender = record { reached = reached; state = ap may_send k.state ∙ ws.state; peer = k.peer ∙ ws.peer; no_timeout = k.timeout ∙ ws.no_timeout; keep_alive = k.keep_alive ∙ ws.keep_alive; nothing_marked = k.marked ∙ ws.nothing_marked; rests = rests_then };
           established = k.state ∙ i.across.established;
           read = k.read;
           room = i.across.room;
@@ -382,10 +398,10 @@ module _ (d e : Option Duration) (t s : Tuple) (f : Facts) (at now : Instant) (s
           there = own ∙ same_seq (next_ack v) (seq_add (next_ack v) 0) (omega arith) ∙ ap (λ q. seq_add q 0) (sym k.una);
           scale = ap scale_of k.scale ∙ i.back.scale ∙ sym p.shift;
           some = subst (λ q. 0 < q) (sym k.window) told_there;
-          window = omega (arith, k.window, told_is, width_told v x i.here.room i.here.nothing_held narrow_v p.bytes.speaks.waits.rx p.bytes.speaks.waits.rcv p.shift p.last_ack p.last_win);
+          window = omega (arith, k.window, told_is, width_x);
           at_most = omega (arith, k.window, told_is, told_x);
         };
-        caught_up = k.nxt ∙ sym own;
+        in_reach = omega (arith, i.in_reach, ap (λ (q : TcpSeqNumber). q.0) k.nxt, ap (λ (q : TcpSeqNumber). q.0) own, told_x);
       };
       whole = append_assoc got fresh (drop size x.tx_buffer.bytes) ∙ ap (λ (q : Queue). got ++ (fresh ++ drop size q.bytes)) p.bytes.speaks.waits.tx ∙ ap (λ (l : List ℕ). got ++ (drop n l ++ drop size v.tx_buffer.bytes)) p.bytes.first ∙ ap (λ (l : List ℕ). got ++ l) (cut_and_rest n size v.tx_buffer.bytes (omega (arith, new)));
       others = k.tx;

@@ -34,10 +34,10 @@ use Rattle.progress_laws.specs.InStep.{told}
 use Rattle.progress_laws.proofs.Arrives.{CountsIt, Faces, fin_counts, fin_row, is_synchronized}
 use Rattle.progress_laws.proofs.Begins.{dispatch_reached, step_reached}
 use Rattle.progress_laws.proofs.Both.{open_rests, room_small, told_some, wide_so}
-use Rattle.progress_laws.proofs.BothRounds.{both_ways_complete, round_about}
+use Rattle.progress_laws.proofs.BothRounds.{both_ways_complete, nothing_out}
 use Rattle.progress_laws.proofs.Closes.{SaysFin, closed_rests, closer_of, finished, says_fin}
 use Rattle.progress_laws.proofs.Edges.{is_not_before, later_all}
-use Rattle.progress_laws.proofs.Hears.{HeardAs, IsOpenTimer, IsSaid, heard_as, heard_rests}
+use Rattle.progress_laws.proofs.Hears.{HeardAs, IsOpenTimer, IsSaid, all_no_duplicate, heard_as, heard_rests}
 use Rattle.progress_laws.proofs.Learns.{idle_rests}
 use Rattle.progress_laws.proofs.Rounds.{later_moment}
 use Rattle.progress_laws.proofs.Speaks.{wakes}
@@ -107,7 +107,7 @@ module _ (d e : Option Duration) (t s : Tuple) (f : Facts) (w v : View) (i : Bot
   h = heard_as x now a g k q.ack said
 
   nothing_in_flight : w.remote_last_seq.0 ≡ k.0
-  nothing_in_flight = ap (λ (m : TcpSeqNumber). m.0) (round_about e d s t w v i none_w).caught_up
+  nothing_in_flight = ap (λ (m : TcpSeqNumber). m.0) (nothing_out e d s t w v i none_w)
 
   last : is_before k x.remote_last_seq ≡ false
   unfolding fin_counted
@@ -127,7 +127,7 @@ module _ (d e : Option Duration) (t s : Tuple) (f : Facts) (w v : View) (i : Bot
 
   timer_is : y.timer ≡ idle_from now x.keep_alive
   unfolding fin_counted
-  timer_is = heard_rests x now a g k q.ack said last timer_open all told_there
+  timer_is = heard_rests x now a g k q.ack said (all_no_duplicate x now a g k last) timer_open all told_there
     where
       timer_open : IsOpenTimer x.timer
       timer_open = open_rests w i.here.sender.rests

@@ -17,7 +17,7 @@ use Rattle.tcp_laws.proofs.OrderedCalls.{reached_ordered}
 use Rattle.progress_laws.specs.BothWays.{BothComplete, BothInStep, BothWaysComplete, NextTurn, NoTurn, OfThat, OfThis, Turns}
 use Rattle.progress_laws.specs.InStep.{ForAnswer, ForKeepAlive, ForNothing, ForProbe, Moves, NoMove, OneMore, Rests}
 use Rattle.progress_laws.proofs.Begins.{some_or_none}
-use Rattle.progress_laws.proofs.Both.{Further, further, measure}
+use Rattle.progress_laws.proofs.Both.{Further, further, measure, told_some}
 use Rattle.progress_laws.proofs.Edges.{same_seq}
 use Rattle.progress_laws.proofs.Probes.{no_window}
 use Rattle.progress_laws.proofs.Rounds.{joined, later_moment}
@@ -94,8 +94,8 @@ module _ (d e : Option Duration) (t s : Tuple) (f : Facts) (mtu : IsMtu f.mtu) (
 -- ---- the other way round
 
 -- with an empty queue nothing is in flight
-pub round_about : (d e : Option Duration) (t s : Tuple) (v w : View) (i : BothInStep d e t s v w) → length v.tx_buffer.bytes ≡ 0 → BothInStep e d s t w v
-round_about d e t s v w i z = record { here = i.across; across = i.here; over = i.back; back = i.over; caught_up = all }
+pub nothing_out : (d e : Option Duration) (t s : Tuple) (v w : View) (i : BothInStep d e t s v w) → length v.tx_buffer.bytes ≡ 0 → v.remote_last_seq ≡ next_ack w
+nothing_out d e t s v w i z = same_seq v.remote_last_seq (next_ack w) (omega (arith, none, z, i.over.taken_within, ap (λ (m : TcpSeqNumber). m.0) i.over.there, o.una_small, o.nxt_small))
   where
     o : IsOrdered v
     o = reached_ordered v i.here.sender.reached
@@ -103,8 +103,8 @@ round_about d e t s v w i z = record { here = i.across; across = i.here; over = 
     none : flight v ≤ length v.tx_buffer.bytes
     none = (subst (λ st. Row st v.timer v.keep_alive (flight v) (length v.tx_buffer.bytes)) i.here.established o.row).1
 
-    all : v.remote_last_seq ≡ next_ack w
-    all = same_seq v.remote_last_seq (next_ack w) (omega (arith, none, z, i.over.taken_within, ap (λ (m : TcpSeqNumber). m.0) i.over.there, o.una_small, o.nxt_small))
+round_about : (d e : Option Duration) (t s : Tuple) (v w : View) (i : BothInStep d e t s v w) → length v.tx_buffer.bytes ≡ 0 → BothInStep e d s t w v
+round_about d e t s v w i z = record { here = i.across; across = i.here; over = i.back; back = i.over; in_reach = omega (arith, ap (λ (m : TcpSeqNumber). m.0) (nothing_out d e t s v w i z), told_some w i.across.room i.across.nothing_held i.across.room_at_least) }
 
 this_way : {f : Facts} (at end : Instant) (v w v' w' : View) (got got' back : List ℕ) → Moves f at v w got end v' w' got' → Turns f at v w got back end v' w' got' back
 this_way at end v w v' w' got got' back (NoMove _ _ _ _) = NoTurn at v w got back

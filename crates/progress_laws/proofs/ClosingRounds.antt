@@ -1,5 +1,5 @@
--- A sender that was closed sends all that it has, and its FIN with the last of it.
-use Rattle.std.proofs.Common.{◌≡◌, ℕ, zero, suc, ◌+◌, ◌-◌, ◌*◌, ◌<◌, ◌≤◌, ◌^◌, ◌⊎◌, inl, inr, refl, sym, ap, subst, ◌∙◌, List, [], ◌∷◌, ◌++◌, length, take, drop, Option, Some, None, true, false, arith, append_assoc, length-drop}
+-- A sender that was closed sends some of what it has, or the last of it with its FIN.
+use Rattle.std.proofs.Common.{◌≡◌, ℕ, ◌+◌, ◌-◌, ◌*◌, ◌<◌, ◌≤◌, ◌^◌, ◌⊎◌, inl, inr, refl, sym, ap, subst, ◌∙◌, List, [], ◌∷◌, ◌++◌, length, take, drop, Option, Some, None, true, false, arith, append_assoc, length-drop}
 use Rattle.std.specs.Prelude.{◌≤ℤ◌}
 use Rattle.std.proofs.lemmas.Int.{ints}
 use Rattle.std.proofs.lemmas.List.{append-nil}
@@ -10,7 +10,6 @@ use Rattle.ip_wire.specs.declared.repr.IpRepr.{IpRepr}
 use Rattle.control_wire.specs.Segment.{Segment}
 use Rattle.control_wire.specs.Seq.{seq_add, seq_sub}
 use Rattle.control_wire.specs.declared.seq_number.TcpSeqNumber.{TcpSeqNumber}
-use Rattle.sock_core.specs.Bounds.{IsMtu}
 use Rattle.sock_core.specs.Facts.{Facts}
 use Rattle.sock_core.specs.Seq.{is_not_after}
 use Rattle.sock_tcp.proofs.Windows.{end_small, start_small, window_width}
@@ -22,9 +21,8 @@ use Rattle.sock_tcp.specs.Queue.{Queue}
 use Rattle.sock_tcp.specs.Queues.{read_off}
 use Rattle.sock_tcp.specs.Replies.{ack_kept, ack_segment, reply_ip}
 use Rattle.sock_tcp.specs.Steps.{heard, scale_of}
-use Rattle.sock_tcp.specs.Timers.{is_over}
 use Rattle.sock_tcp.specs.View.{View}
-use Rattle.sock_tcp.specs.Window.{is_inside, next_ack, receive_window}
+use Rattle.sock_tcp.specs.Window.{empty_inside, is_inside, next_ack, receive_window}
 use Rattle.sock_tcp.specs.declared.acked.Acked.{Acked}
 use Rattle.sock_tcp.specs.declared.state.State.{State}
 use Rattle.sock_tcp.specs.declared.state.State.TheVariants as state
@@ -34,24 +32,22 @@ use Rattle.sock_tcp.specs.declared.tuple.Tuple.{Tuple}
 use Rattle.tcp_laws.specs.Polling.{IsReached}
 use Rattle.tcp_laws.specs.SocketRun.{IsNumbered, Process, after_segment}
 use Rattle.tcp_laws.proofs.OrderedCalls.{reached_ordered}
-use Rattle.tcp_laws.proofs.Probing.{ProbesIn, reached_probing}
 use Rattle.tcp_laws.proofs.SocketSteps.{holds_after}
-use Rattle.progress_laws.specs.AfterClose.{AfterClose, BringsAll, ClosedSenderFinishes}
+use Rattle.progress_laws.specs.AfterClose.{AfterClose, BringsAll}
 use Rattle.progress_laws.specs.BothWays.{window_told}
-use Rattle.progress_laws.specs.InStep.{Carries, ForAnswer, ForKeepAlive, ForNothing, ForProbe, IsAnswered, Moves, NoMove, OneMore, Reads, Rests, takes_bytes, told}
+use Rattle.progress_laws.specs.InStep.{Carries, ForAnswer, IsAnswered, Moves, NoMove, OneMore, Reads, Rests, takes_bytes, told}
 use Rattle.progress_laws.proofs.Answered.{acked, heard_answer}
 use Rattle.progress_laws.proofs.Arrives.{CountsIt, Faces, away, fin_counts, receives_so}
 use Rattle.progress_laws.proofs.Begins.{some_or_none, step_reached}
-use Rattle.progress_laws.proofs.Both.{measure, room_small, told_some, wide_so, width_told}
-use Rattle.progress_laws.proofs.Closes.{SaysFin, finished, says_fin}
-use Rattle.progress_laws.proofs.ClosingSays.{SaysOn, says_on}
-use Rattle.progress_laws.proofs.Edges.{empty_inside_so, later_all, same_seq}
+use Rattle.progress_laws.proofs.Both.{measure, room_small, told_alike, told_some, wide_so, width_told}
+use Rattle.progress_laws.proofs.Closes.{SaysFin, finished}
+use Rattle.progress_laws.proofs.ClosingSays.{SaysOn}
+use Rattle.progress_laws.proofs.Edges.{empty_inside_so, later_all, reach_inside, same_seq}
 use Rattle.progress_laws.proofs.Hears.{ForNone, ForRest, HeardAs, IsOpenTimer, ThenWaits, heard_as, heard_waits}
 use Rattle.progress_laws.proofs.LastBytes.{TookLast, took_last}
 use Rattle.progress_laws.proofs.Learns.{idle_rests}
-use Rattle.progress_laws.proofs.Receives.{unit}
-use Rattle.progress_laws.proofs.Rounds.{cut_and_rest, joined, later_moment}
-use Rattle.progress_laws.proofs.Speaks.{IsNoProbe, wakes}
+use Rattle.progress_laws.proofs.Receives.{unit, unit_within}
+use Rattle.progress_laws.proofs.Rounds.{cut_and_rest}
 use Rattle.progress_laws.proofs.Spoken.{IsSaid}
 use Rattle.progress_laws.proofs.States.{closing_carries, takes_flat, takes_receives}
 use Rattle.progress_laws.proofs.Takes.{IsCaughtUp, Took, before_window, fresh_bytes, takes, took, took_bytes, took_open, took_reached, took_so, width_kept}
@@ -59,15 +55,15 @@ use Rattle.progress_laws.proofs.Taking.{read_out, take_all}
 
 -- ---- one step further
 
-record Onward (d : Option Duration) (t : Tuple) (f : Facts) (at : Instant) (v w : View) (got : List ℕ) (i : AfterClose d t v w) : Type 0 where
-  end : Instant
-  sender : View
-  receiver : View
-  more : List ℕ
-  moves : Moves f at v w got end sender receiver more
-  in_step : AfterClose d t sender receiver
-  whole : more ++ drop in_step.over.taken sender.tx_buffer.bytes ≡ got ++ drop i.over.taken v.tx_buffer.bytes
-  less : measure sender in_step.over.taken < measure v i.over.taken
+pub record Onward (d : Option Duration) (t : Tuple) (f : Facts) (at : Instant) (v w : View) (got : List ℕ) (i : AfterClose d t v w) : Type 0 where
+  pub end : Instant
+  pub sender : View
+  pub receiver : View
+  pub more : List ℕ
+  pub moves : Moves f at v w got end sender receiver more
+  pub in_step : AfterClose d t sender receiver
+  pub whole : more ++ drop in_step.over.taken sender.tx_buffer.bytes ≡ got ++ drop i.over.taken v.tx_buffer.bytes
+  pub less : measure sender in_step.over.taken < measure v i.over.taken
 
 open_timer : (tm : Timer) → ((at : Instant) → tm ≡ timer.Close at → ⊥) → IsOpenTimer tm
 open_timer (timer.Close at) h = h at refl
@@ -105,12 +101,33 @@ module _ (d : Option Duration) (t : Tuple) (f : Facts) (at now : Instant) (since
         room = omega (arith, wide_so w i.receiver.room i.receiver.nothing_held, narrow);
       }
 
+  v_room : length v.rx_buffer.held ≤ 2 ^ 30
+  v_room = let r = i.sender.reached in omega (arith, (holds_after r.rx r.tx v r.counts r.rx_size r.run).room)
+
+  told_small : window_told v ≤ 2 ^ 30
+  told_small = omega (arith, unit_within (length v.rx_buffer.held) v.remote_win_shift, v_room)
+
+  ahead : seq_sub w.remote_last_seq (next_ack v) ≤ 2 ^ 30
+  ahead = by i.in_reach
+    where
+      by : (w.remote_last_seq ≡ next_ack v) ⊎ (seq_sub w.remote_last_seq (next_ack v) < window_told v) → seq_sub w.remote_last_seq (next_ack v) ≤ 2 ^ 30
+      by (inl e) = omega (arith, ap (λ (m : TcpSeqNumber). m.0) e)
+      by (inr h) = omega (arith, h, told_small)
+
+  -- the same, once v has sent something or heard of it
+  still_in_reach : (y z : View) → next_ack y ≡ next_ack v → window_told y ≡ window_told v → z.remote_last_seq ≡ w.remote_last_seq → (z.remote_last_seq ≡ next_ack y) ⊎ (seq_sub z.remote_last_seq (next_ack y) < window_told y)
+  still_in_reach y z own told nxt = by i.in_reach
+    where
+      by : (w.remote_last_seq ≡ next_ack v) ⊎ (seq_sub w.remote_last_seq (next_ack v) < window_told v) → (z.remote_last_seq ≡ next_ack y) ⊎ (seq_sub z.remote_last_seq (next_ack y) < window_told y)
+      by (inl e) = inl (nxt ∙ e ∙ sym own)
+      by (inr h) = inr (omega (arith, h, told, ap (λ (m : TcpSeqNumber). m.0) own, ap (λ (m : TcpSeqNumber). m.0) nxt))
+
   width_small : seq_sub (receive_window w).end (receive_window w).start ≤ 2 ^ 30
   width_small = omega (arith, window_width w faces.room, faces.room)
 
   -- ---- the FIN alone
 
-  fin_alone : (q : SaysFin (told f now) v) → length v.tx_buffer.bytes ≡ 0 → BringsAll d t f at v w got i
+  pub fin_alone : (q : SaysFin (told f now) v) → length v.tx_buffer.bytes ≡ 0 → BringsAll d t f at v w got i
   fin_alone q none =
       let number : q.out.segment.seq_number.0 ≡ (next_ack w).0 = omega (arith, ap (λ (m : TcpSeqNumber). m.0) q.number, edge, i.over.taken_within, none, v_small) in
       let c : CountsIt w (processed w now 0 q.out.ip q.out.segment) = fin_counts w (next_ack v) faces now 0 q.out.ip q.out.segment (subst IsSaid (sym q.bit) tt) q.ack q.bit q.empty number (takes_receives w.state i.receiver.state) in
@@ -185,9 +202,20 @@ module _ (d : Option Duration) (t : Tuple) (f : Facts) (at now : Instant) (since
       room_x : length x.rx_buffer.held ≤ 2 ^ 30
       room_x = let r = p.closer.reached in omega (arith, (holds_after r.rx r.tx x r.counts r.rx_size r.run).room)
 
+      width_x : seq_sub (receive_window x).end (receive_window x).start ≡ window_told v
+      width_x = width_told v x (length v.rx_buffer.held) refl v_room p.rx p.rcv p.shift p.last_ack p.last_win
+
+      edge_x : (receive_window x).start ≡ next_ack v
+      unfolding receive_window
+      edge_x = own
+
       lies : is_inside (receive_window x) g.seq_number 0 ≡ true
-      unfolding is_inside ack_segment receive_window
-      lies = ap (λ m. is_inside (receive_window x) m 0) (i.caught_up ∙ sym own) ∙ empty_inside_so (receive_window x) (start_small x) (end_small x) (omega (arith, window_width x room_x, room_x))
+      unfolding is_inside ack_segment
+      lies = by i.in_reach
+        where
+          by : (w.remote_last_seq ≡ next_ack v) ⊎ (seq_sub w.remote_last_seq (next_ack v) < window_told v) → empty_inside (receive_window x) w.remote_last_seq ≡ true
+          by (inl e) = ap (empty_inside (receive_window x)) (e ∙ sym edge_x) ∙ empty_inside_so (receive_window x) (start_small x) (end_small x) (omega (arith, width_x, told_small))
+          by (inr h) = reach_inside (receive_window x) (start_small x) (end_small x) (omega (arith, width_x, told_small)) w.remote_last_seq (reached_ordered w i.receiver.reached).nxt_small (omega (arith, width_x, ap (λ (m : TcpSeqNumber). m.0) edge_x, h))
 
       abbrev z : View
       z = record x { local_rx_last_seq = Some g.seq_number }
@@ -233,7 +261,7 @@ module _ (d : Option Duration) (t : Tuple) (f : Facts) (at now : Instant) (since
 
       numbered_g : IsNumbered g
       unfolding ack_segment
-      numbered_g = record { seq_number = subst (λ (q : TcpSeqNumber). q.0 < 2 ^ 32) (sym i.caught_up) (omega arith); ack_number = λ m e. subst (λ (q : TcpSeqNumber). q.0 < 2 ^ 32) (same_Some (next_ack w) m e) (omega arith) }
+      numbered_g = record { seq_number = (reached_ordered w i.receiver.reached).nxt_small; ack_number = λ m e. subst (λ (q : TcpSeqNumber). q.0 < 2 ^ 32) (same_Some (next_ack w) m e) (omega arith) }
 
       reached_y : IsReached y
       unfolding ack_segment
@@ -282,13 +310,13 @@ module _ (d : Option Duration) (t : Tuple) (f : Facts) (at now : Instant) (since
             there = same_seq (next_ack w) (seq_add (next_ack w) 0) (omega arith) ∙ ap (λ m. seq_add m 0) (sym h.una);
             scale = ap scale_of (h.scale ∙ p.scale) ∙ i.over.scale;
             some = window_then;
-            window = omega (arith, h.window, window_is, width_told w (ack_kept w) i.receiver.room i.receiver.nothing_held narrow refl refl refl refl refl);
+            window = omega (arith, h.window, window_is, width_told w (ack_kept w) i.receiver.room (wide_so w i.receiver.room i.receiver.nothing_held) narrow refl refl refl refl refl);
             at_most = omega (arith, h.window, window_is);
           };
           heard = i.heard;
           heard_within = i.heard_within;
           back = own_y ∙ i.back;
-          caught_up = i.caught_up ∙ sym own_y;
+          in_reach = still_in_reach y w own_y (told_alike v y (h.rx ∙ p.rx) (h.shift ∙ p.shift)) refl;
         };
         whole = ap (λ (l : List ℕ). got ++ l) queue;
         less = omega (arith, ap (λ (l : List ℕ). length l) queue, length-drop n v.tx_buffer.bytes, i.over.taken_within, few, p.some);
@@ -353,7 +381,8 @@ module _ (d : Option Duration) (t : Tuple) (f : Facts) (at now : Instant) (since
           short = faces.short;
           there = i.back;
           queued = i.heard_within;
-          nxt = i.caught_up;
+          nxt_small = (reached_ordered w i.receiver.reached).nxt_small;
+          ahead = ahead;
           timer = open_timer w.timer i.receiver.timer;
           read = i.receiver.read;
           held = i.receiver.nothing_held;
@@ -425,13 +454,13 @@ module _ (d : Option Duration) (t : Tuple) (f : Facts) (at now : Instant) (since
             heard = 0;
             heard_within = omega arith;
             back = own ∙ same_seq (next_ack v) (seq_add (next_ack v) 0) (omega arith) ∙ ap (λ q. seq_add q 0) (sym k.una);
-            caught_up = k.nxt ∙ sym own;
+            in_reach = still_in_reach x w2 own (told_alike v x p.rx p.shift) k.nxt;
           };
           whole = append_assoc got ys (drop size x.tx_buffer.bytes) ∙ ap (λ (q : Queue). got ++ (ys ++ drop size q.bytes)) p.tx ∙ ap (λ (l : List ℕ). got ++ (drop n l ++ drop size v.tx_buffer.bytes)) p.first ∙ ap (λ (l : List ℕ). got ++ l) (cut_and_rest n size v.tx_buffer.bytes (omega (arith, new)));
           less = omega (arith, ap (λ (q : Queue). length q.bytes) p.tx, p.queued, within, new);
         }
 
-    goes_on : Onward d t f at v w got i ⊎ BringsAll d t f at v w got i
+    pub goes_on : Onward d t f at v w got i ⊎ BringsAll d t f at v w got i
     goes_on = elim (some_or_none (size - n)) [
       | inl z ↦ inl (answered (omega (arith, z)))
       | inr z ↦ elim (some_or_none (length v.tx_buffer.bytes - size)) [
@@ -439,51 +468,3 @@ module _ (d : Option Duration) (t : Tuple) (f : Facts) (at now : Instant) (since
         | inr e ↦ inl (brings (omega (arith, z)) (omega (arith, e)))
       ]
     ]
-
--- ---- all of it
-
-module _ (d : Option Duration) (t : Tuple) (f : Facts) (mtu : IsMtu f.mtu) (address : f.has_address t.local.addr ≡ true) where
-  step : (at : Instant) (v w : View) (got : List ℕ) (i : AfterClose d t v w) → 0 < length v.tx_buffer.bytes → Onward d t f at v w got i ⊎ BringsAll d t f at v w got i
-  step at v w got i queue = by (later_moment at (wakes i.sender.rests))
-    where
-      no_probing : (r : Rests v) → IsNoProbe r
-      no_probing (ForProbe m delay probes nxt some) = let z : v.remote_win_len ≡ 0 = subst (λ tm. ProbesIn tm v.remote_win_len) probes (reached_probing v i.sender.reached).window in absurd (omega (arith, z, i.over.some))
-      no_probing (ForKeepAlive m idle nxt) = tt
-      no_probing (ForNothing idle nxt some) = tt
-      no_probing (ForAnswer m again) = tt
-
-      by : (z : Instant) × (at.micros ≤ℤ z.micros) × (is_over (wakes i.sender.rests) z ≡ true) → Onward d t f at v w got i ⊎ BringsAll d t f at v w got i
-      by z = goes_on d t f at z.0 z.1 v w got i (says_on d t v f z.0 mtu address i.sender (no_probing i.sender.rests) z.2 i.over.some queue)
-
-  done : (at : Instant) (v w : View) (got : List ℕ) (i : AfterClose d t v w) → length v.tx_buffer.bytes ≡ 0 → BringsAll d t f at v w got i
-  done at v w got i none = let z = later_moment at (wakes i.sender.rests) in fin_alone d t f at z.0 z.1 v w got i (says_fin d t v f z.0 address i.sender z.2 none) none
-
-  then_rest : (at : Instant) (v w : View) (got : List ℕ) (i : AfterClose d t v w) (r : Onward d t f at v w got i) → BringsAll d t f r.end r.sender r.receiver r.more r.in_step → BringsAll d t f at v w got i
-  then_rest at v w got i r c = record {
-    end = c.end;
-    sender = c.sender;
-    receiver = c.receiver;
-    moves = joined at r.end c.end v w r.sender r.receiver c.sender c.receiver got r.more (got ++ drop i.over.taken v.tx_buffer.bytes) r.moves (subst (λ l. Moves f r.end r.sender r.receiver r.more c.end c.sender c.receiver l) r.whole c.moves);
-    finished = c.finished;
-  }
-
-  abbrev Brings : ℕ → Type 0
-  Brings m = (at : Instant) (v w : View) (got : List ℕ) (i : AfterClose d t v w) → measure v i.over.taken ≤ m → BringsAll d t f at v w got i
-
-  more : (m : ℕ) → Brings m → Brings (suc m)
-  more m rest at v w got i few = by (some_or_none (length v.tx_buffer.bytes))
-    where
-      on : Onward d t f at v w got i ⊎ BringsAll d t f at v w got i → BringsAll d t f at v w got i
-      on (inl r) = then_rest at v w got i r (rest r.end r.sender r.receiver r.more r.in_step (omega (arith, r.less, few)))
-      on (inr c) = c
-
-      by : (length v.tx_buffer.bytes ≡ 0) ⊎ (0 < length v.tx_buffer.bytes) → BringsAll d t f at v w got i
-      by (inl z) = done at v w got i z
-      by (inr some) = on (step at v w got i some)
-
-  brings_all : (m : ℕ) → Brings m
-  brings_all zero at v w got i few = done at v w got i (omega (arith, few, i.over.taken_within))
-  brings_all (suc m) at v w got i few = more m (brings_all m) at v w got i few
-
-pub closed_sender_finishes : ClosedSenderFinishes
-closed_sender_finishes d t f at v w got mtu here i = brings_all d t f mtu here (measure v i.over.taken) at v w got i (omega arith)

@@ -1,5 +1,5 @@
 -- What a sender that was closed says of its bytes, with a window: from SND.UNA on, and the FIN with the last of them.
-use Rattle.std.proofs.Common.{◌≡◌, ℕ, ◌+◌, ◌-◌, ◌<◌, ◌≤◌, inl, Bool, true, false, not, ◌&&◌, refl, sym, ap, subst, ◌∙◌, List, length, take, drop, min, Option, Some, None, arith}
+use Rattle.std.proofs.Common.{◌≡◌, ℕ, ◌+◌, ◌-◌, ◌/◌, ◌<◌, ◌≤◌, inl, Bool, true, false, not, ◌&&◌, refl, sym, ap, subst, ◌∙◌, List, length, take, drop, min, Option, Some, None, arith, ◌^◌}
 use Rattle.std.specs.Prelude.{if◌then◌else◌, ◌==◌}
 use Rattle.std.proofs.lemmas.Bool.{eq-eqb, eqb-true}
 use Rattle.net_base.specs.Ring.{in_one_piece}
@@ -12,7 +12,7 @@ use Rattle.sock_core.specs.Bounds.{IsMtu}
 use Rattle.sock_core.specs.Facts.{Facts}
 use Rattle.sock_tcp.proofs.Lending.{lent_at_most, lent_beginning}
 use Rattle.sock_tcp.specs.Content.{Sending, asked, carries_data, data_control, emission_kind, is_probing, offset_of, plain_segment, sent_as, window_left}
-use Rattle.sock_tcp.specs.Due.{congestion_left, effective_mss, flight, is_closed, is_closing, is_due}
+use Rattle.sock_tcp.specs.Due.{congestion_left, effective_mss, flight, is_closed, is_closing, is_due, window_field}
 use Rattle.sock_tcp.specs.Queue.{IsLent, Queue}
 use Rattle.sock_tcp.specs.Timers.{after as moment_after, idle_from, is_keep_alive_over, is_over, is_probe_over, keep_alive_renewed, retransmit_unless_set, rto_of}
 use Rattle.sock_tcp.specs.View.{View}
@@ -30,7 +30,7 @@ use Rattle.progress_laws.proofs.Begins.{and_no, carries_runs, content_is, dispat
 use Rattle.progress_laws.proofs.Hears.{IsData}
 use Rattle.progress_laws.proofs.Lends.{lent_some, mss_some}
 use Rattle.progress_laws.proofs.Says.{no_probe}
-use Rattle.progress_laws.proofs.Sends.{left, plain_sent, plain_timer}
+use Rattle.progress_laws.proofs.Sends.{left, plain_ack, plain_sent, plain_timer, plain_window}
 use Rattle.progress_laws.proofs.Speaks.{Begins, Front, IsNoProbe, begins, open_window, wakes}
 use Rattle.progress_laws.proofs.Spoken.{IsSaid, data_said}
 use Rattle.progress_laws.proofs.States.{closing_carries, closing_open}
@@ -58,6 +58,9 @@ pub record SaysOn (d : Option Duration) (t : Tuple) (f : Facts) (v : View) : Typ
   pub rcv : after.remote_seq_no ≡ v.remote_seq_no
   pub scale : after.remote_win_scale ≡ v.remote_win_scale
   pub window : after.remote_win_len ≡ v.remote_win_len
+  pub shift : after.remote_win_shift ≡ v.remote_win_shift
+  pub last_ack : after.remote_last_ack ≡ Some (next_ack v)
+  pub last_win : after.remote_last_win ≡ window_field v
 
 module _ (d : Option Duration) (t : Tuple) (v : View) (f : Facts) (now : Instant) (mtu : IsMtu f.mtu) (here : f.has_address t.local.addr ≡ true) (s : IsCloser d t v) (other : IsNoProbe s.rests) (over : is_over (wakes s.rests) now ≡ true) (win : 0 < v.remote_win_len) (queue : 0 < length v.tx_buffer.bytes) where
   abbrev fa : Facts
@@ -195,6 +198,9 @@ module _ (d : Option Duration) (t : Tuple) (v : View) (f : Facts) (now : Instant
         rcv = l.rcv ∙ fr.rcv;
         scale = l.scale ∙ fr.scale;
         window = l.window ∙ fr.window;
+        shift = l.shift ∙ fr.shift;
+        last_ack = plain_ack u t now b not_closed ∙ (λ i. Some (seq_add (fr.rcv i) (length ((fr.rx i).bytes))));
+        last_win = plain_window u t now b not_closed ∙ (λ i. min (length ((fr.rx i).held) / 2 ^ fr.shift i) 65535);
       }
     where
       before_end : (e : Bool) → (offset_of u + length bytes == length u.tx_buffer.bytes) ≡ e → length bytes < length v.tx_buffer.bytes → IsData (data_control u (length bytes))

@@ -50,7 +50,7 @@ later_all x y e = go (is_before x y) refl
     go true b = later_is x y b
     go false b = later_stays x y b ∙ same (is_before x y) b e
 
-differs : (x y : TcpSeqNumber) → (x.0 ≡ y.0 → ⊥) → seq_eq x y ≡ false
+pub differs : (x y : TcpSeqNumber) → (x.0 ≡ y.0 → ⊥) → seq_eq x y ≡ false
 differs x y n = go (seq_eq x y) refl
   where
     go : (b : Bool) → seq_eq x y ≡ b → seq_eq x y ≡ false
@@ -93,6 +93,17 @@ module _ (w : Window) (start_small : w.start.0 < 2 ^ 32) (end_small : w.end.0 < 
       go : (width ≡ 0) ⊎ (0 < width) → empty_inside w w.start ≡ true
       go (inl z) = rw (not_one_before, shut z, eq-eqb w.start.0 w.start.0 refl) refl
       go (inr some) = rw (not_one_before, apart some, at_start, is_earlier w.start w.end (omega (arith, some, start_small, end_small, wide))) refl
+
+  pub reach_inside : (number : TcpSeqNumber) → number.0 < 2 ^ 32 → seq_sub number w.start < width → empty_inside w number ≡ true
+  unfolding is_not_after
+  reach_inside number small reach = rw (not_one_before, apart (omega (arith, reach)), is_earlier number w.end (omega (arith, reach, wide, small, start_small, end_small))) (go (is_before w.start number) refl)
+    where
+      not_one_before : seq_eq number (seq_minus w.start 1) ≡ false
+      not_one_before = differs number (seq_minus w.start 1) (λ e. omega (arith, e, reach, wide, start_small))
+
+      go : (b : Bool) → is_before w.start number ≡ b → ((b || seq_eq w.start number) && true) ≡ true
+      go true e = refl
+      go false e = let h = not_far w.start number e in rw (eq-eqb w.start.0 number.0 (omega (arith, h, reach, wide, small, start_small))) refl
 
   -- a shut window has no place for bytes
   pub shut_outside : (number end : TcpSeqNumber) → width ≡ 0 → full_inside w number end ≡ false

@@ -1,6 +1,6 @@
 -- What a socket in ESTABLISHED, CLOSE-WAIT or FIN-WAIT-2 makes of a segment in order.
 use Rattle.std.proofs.Common.{◌≡◌, ℕ, ◌+◌, ◌-◌, ◌*◌, ◌<◌, ◌≤◌, ◌^◌, ◌⊎◌, inl, inr, Bool, true, false, refl, sym, ap, subst, ◌∙◌, length, Option, Some, None, arith, length-drop}
-use Rattle.std.specs.Prelude.{if◌then◌else◌, ◌==◌}
+use Rattle.std.specs.Prelude.{if◌then◌else◌, ◌==◌, ◌&&◌}
 use Rattle.net_base.specs.declared.time.Duration.{Duration}
 use Rattle.net_base.specs.declared.time.Instant.{Instant}
 use Rattle.ip_wire.specs.declared.repr.IpRepr.{IpRepr}
@@ -263,7 +263,19 @@ heard_waits u now a s k at number bit waits some win = subst (λ o. ThenWaits no
     either true = ends (timestamp_taken (ack_heard true x now k a.len) s.timestamp) (timer_acked (if u.local_rx_dup_acks == 2 then timer.FastRetransmit else u.timer) (timestamp_taken (ack_heard true x now k a.len) s.timestamp) now a) open_ (acked (if u.local_rx_dup_acks == 2 then timer.FastRetransmit else u.timer) (timestamp_taken (ack_heard true x now k a.len) s.timestamp) refl (fast (u.local_rx_dup_acks == 2)))
     either false = ends (timestamp_taken (ack_heard false x now k a.len) s.timestamp) (timer_acked u.timer (timestamp_taken (ack_heard false x now k a.len) s.timestamp) now a) open_ (acked u.timer (timestamp_taken (ack_heard false x now k a.len) s.timestamp) refl (inl waits))
 
-module _ (u : View) (now : Instant) (a : Acked) (s : Segment) (k : TcpSeqNumber) (number : s.ack_number ≡ Some k) (bit : IsSaid s.control) (last : is_before k u.remote_last_seq ≡ false) where
+-- it is no duplicate where it acknowledges all that was sent, and where it brings bytes
+abbrev pub IsNoDuplicate : View → Instant → Acked → Segment → TcpSeqNumber → Type 0
+IsNoDuplicate u now a s k = is_duplicate (released (window_taken u now s.control s.window_len) a.len) k (length s.payload) (is_window_changed u s.control s.window_len) ≡ false
+
+pub all_no_duplicate : (u : View) (now : Instant) (a : Acked) (s : Segment) (k : TcpSeqNumber) → is_before k u.remote_last_seq ≡ false → IsNoDuplicate u now a s k
+unfolding window_taken released
+all_no_duplicate u now a s k last = rw last (and_no (is_last_ack u.local_rx_last_ack k))
+
+pub bytes_no_duplicate : (u : View) (now : Instant) (a : Acked) (s : Segment) (k : TcpSeqNumber) → 0 < length s.payload → IsNoDuplicate u now a s k
+unfolding window_taken released
+bytes_no_duplicate u now a s k some = rw (not_zero (length s.payload) some) (ap (λ b. is_last_ack u.local_rx_last_ack k && b) (and_no (is_before k u.remote_last_seq)) ∙ and_no (is_last_ack u.local_rx_last_ack k))
+
+module _ (u : View) (now : Instant) (a : Acked) (s : Segment) (k : TcpSeqNumber) (number : s.ack_number ≡ Some k) (bit : IsSaid s.control) (no_duplicate : IsNoDuplicate u now a s k) where
   abbrev x : View
   x = released (window_taken u now s.control s.window_len) a.len
 
@@ -276,13 +288,22 @@ module _ (u : View) (now : Instant) (a : Acked) (s : Segment) (k : TcpSeqNumber)
   heard_is : heard u now a s ≡ timer_set y now a
   unfolding heard acknowledged window_taken released
   heard_is = ap (λ o. timer_set (timestamp_taken (acknowledged x o now a.len (length s.payload) changed) s.timestamp) now a) number ∙ ap (λ b. timer_set (timestamp_taken (ack_heard b x now k a.len) s.timestamp) now a) no_duplicate
-    where
-      no_duplicate : is_duplicate x k (length s.payload) changed ≡ false
-      no_duplicate = rw last (and_no (is_last_ack x.local_rx_last_ack k))
 
   pub heard_rests : IsOpenTimer u.timer → a.all ≡ true → 0 < s.window_len * 2 ^ scale_of u.remote_win_scale → (heard u now a s).timer ≡ idle_from now u.keep_alive
   unfolding window_taken released timestamp_taken timer_set ack_counted una_advanced
   heard_rests o all some = ap (λ (z : View). z.timer) heard_is ∙ rests y now a u.timer o (not_zero (window_of s.control s.window_len u.remote_win_scale) (subst (λ n. 0 < n) (sym (scaled s.control s.window_len u.remote_win_scale bit)) some)) all
+
+  -- the timer of a retransmission runs on, or begins anew, where something is still in flight
+  pub heard_again : (at : Instant) → u.timer ≡ timer.Retransmit at → a.all ≡ false → 0 < s.window_len * 2 ^ scale_of u.remote_win_scale → (later : Instant) × ((heard u now a s).timer ≡ timer.Retransmit later)
+  unfolding window_taken released timestamp_taken timer_set ack_counted una_advanced
+  heard_again at waits all some = by (a.len == 0) refl
+    where
+      open_ : (window_of s.control s.window_len u.remote_win_scale == 0) ≡ false
+      open_ = not_zero (window_of s.control s.window_len u.remote_win_scale) (subst (λ n. 0 < n) (sym (scaled s.control s.window_len u.remote_win_scale bit)) some)
+
+      by : (b : Bool) → (a.len == 0) ≡ b → (later : Instant) × ((heard u now a s).timer ≡ timer.Retransmit later)
+      by true e = (at, ap (λ (z : View). z.timer) heard_is ∙ ap (λ t. probe_set (timer_acked t y now a) y now a) waits ∙ rw (open_, all, e) refl)
+      by false e = (after now (rto_of y.rtte), ap (λ (z : View). z.timer) heard_is ∙ ap (λ t. probe_set (timer_acked t y now a) y now a) waits ∙ rw (open_, all, e) refl)
 
   pub heard_open : IsOpenTimer u.timer → IsOpenTimer (heard u now a s).timer
   unfolding window_taken released timestamp_taken timer_set ack_counted una_advanced

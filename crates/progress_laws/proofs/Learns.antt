@@ -23,7 +23,7 @@ use Rattle.tcp_laws.proofs.SocketSteps.{holds_after}
 use Rattle.progress_laws.specs.InStep.{ForKeepAlive, ForNothing, Rests}
 use Rattle.progress_laws.proofs.Begins.{some_or_none, step_reached}
 use Rattle.progress_laws.proofs.Edges.{empty_inside_so, is_earlier, is_not_before, later_is, later_stays, same_seq}
-use Rattle.progress_laws.proofs.Hears.{HeardAs, IsData, data_is_said, covered, heard_as, heard_inside, heard_rests, none_taken, seen}
+use Rattle.progress_laws.proofs.Hears.{HeardAs, IsData, all_no_duplicate, data_is_said, covered, heard_as, heard_inside, heard_rests, none_taken, seen}
 use Rattle.progress_laws.proofs.Speaks.{Waits}
 use Rattle.progress_laws.proofs.States.{is_flat, not_listening}
 
@@ -43,8 +43,16 @@ pub record Learnt (v x : View) (now : Instant) (ip : IpRepr) (g : Segment) (k : 
   pub window : 0 < view.remote_win_len
   pub queue : view.tx_buffer.bytes ≡ drop n v.tx_buffer.bytes
 
+-- a segment without bytes at the left edge lies in the window
+pub lies_at_edge : (x : View) (g : Segment) → IsReached x → length g.payload ≡ 0 → g.seq_number ≡ next_ack x → is_inside (receive_window x) g.seq_number (length g.payload) ≡ true
+unfolding is_inside receive_window
+lies_at_edge x g r empty at = rw (empty, at) (empty_inside_so (receive_window x) (start_small x) (end_small x) (omega (arith, window_width x room, room)))
+  where
+    room : length x.rx_buffer.held ≤ 2 ^ 30
+    room = omega (arith, (holds_after r.rx r.tx x r.counts r.rx_size r.run).room)
+
 -- v sent something, or nothing, and became x; g says that n bytes behind SND.UNA were taken, and tells a window
-module _ (v x : View) (now : Instant) (ip : IpRepr) (g : Segment) (k : TcpSeqNumber) (n : ℕ) (is_flat_v : is_flat v.state ≡ true) (wait : Waits v x) (bit : IsData g.control) (at : g.seq_number ≡ next_ack v) (ack : g.ack_number ≡ Some k) (empty : length g.payload ≡ 0) (some : 0 < g.window_len * 2 ^ scale_of v.remote_win_scale) (queued : n ≤ length v.tx_buffer.bytes) (taken : k ≡ seq_add v.local_seq_no n) (near : seq_sub k x.remote_last_seq ≤ 2 ^ 30) where
+module _ (v x : View) (now : Instant) (ip : IpRepr) (g : Segment) (k : TcpSeqNumber) (n : ℕ) (is_flat_v : is_flat v.state ≡ true) (wait : Waits v x) (bit : IsData g.control) (number_small : g.seq_number.0 < 2 ^ 32) (inside : is_inside (receive_window x) g.seq_number (length g.payload) ≡ true) (ack : g.ack_number ≡ Some k) (empty : length g.payload ≡ 0) (some : 0 < g.window_len * 2 ^ scale_of v.remote_win_scale) (queued : n ≤ length v.tx_buffer.bytes) (taken : k ≡ seq_add v.local_seq_no n) (near : seq_sub k x.remote_last_seq ≤ 2 ^ 30) where
   flat : is_flat x.state ≡ true
   flat = ap is_flat wait.state ∙ is_flat_v
 
@@ -68,20 +76,6 @@ module _ (v x : View) (now : Instant) (ip : IpRepr) (g : Segment) (k : TcpSeqNum
 
   small : k.0 < 2 ^ 32
   small = omega (arith, ap (λ (m : TcpSeqNumber). m.0) taken)
-
-  own : next_ack x ≡ next_ack v
-  own = (λ j. seq_add (wait.rcv j) (length ((wait.rx j).bytes)))
-
-  number : g.seq_number ≡ (receive_window x).start
-  unfolding receive_window
-  number = at ∙ sym own
-
-  room : length x.rx_buffer.held ≤ 2 ^ 30
-  room = let r = wait.reached in omega (arith, (holds_after r.rx r.tx x r.counts r.rx_size r.run).room)
-
-  inside : is_inside (receive_window x) g.seq_number (length g.payload) ≡ true
-  unfolding is_inside
-  inside = rw (empty, number) (empty_inside_so (receive_window x) (start_small x) (end_small x) (omega (arith, window_width x room, room)))
 
   nxt_small : x.remote_last_seq.0 < 2 ^ 32
   nxt_small = (reached_ordered x wait.reached).nxt_small
@@ -124,7 +118,7 @@ module _ (v x : View) (now : Instant) (ip : IpRepr) (g : Segment) (k : TcpSeqNum
       by (inr e) = rw e refl
 
   idle : heard_view.timer ≡ idle_from now a.keep_alive
-  idle = heard_rests a now (covered x now 0 ip g k flat ack bit) g k ack (data_is_said g.control bit) last wait.timer all told_so
+  idle = heard_rests a now (covered x now 0 ip g k flat ack bit) g k ack (data_is_said g.control bit) (all_no_duplicate a now (covered x now 0 ip g k flat ack bit) g k last) wait.timer all told_so
 
   all_heard : heard_view.remote_last_seq ≡ heard_view.local_seq_no
   all_heard = heard_so.nxt ∙ later ∙ sym heard_so.una
@@ -133,7 +127,7 @@ module _ (v x : View) (now : Instant) (ip : IpRepr) (g : Segment) (k : TcpSeqNum
   reached_so = step_reached x heard_view (after_segment wait.reached.counts x heard_view) wait.reached (Process now 0 ip g (omega arith) numbered (omega (arith, empty)) (λ l. absurd (not_listening x.state flat l)) (sym (ap (λ (o : Outcome). o.view) hears)) refl)
     where
       numbered : IsNumbered g
-      numbered = record { seq_number = subst (λ (m : TcpSeqNumber). m.0 < 2 ^ 32) (sym number) (start_small x); ack_number = λ m e. subst (λ (q : TcpSeqNumber). q.0 < 2 ^ 32) (same_Some k m (sym ack ∙ e)) small }
+      numbered = record { seq_number = number_small; ack_number = λ m e. subst (λ (q : TcpSeqNumber). q.0 < 2 ^ 32) (same_Some k m (sym ack ∙ e)) small }
 
   window_told : 0 < heard_view.remote_win_len
   window_told = subst (λ m. 0 < m) (sym heard_so.window) told_so

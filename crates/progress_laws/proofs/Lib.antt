@@ -24,5 +24,6 @@ pub mod BothRounds
 pub mod ClosingSays
 pub mod LastBytes
 pub mod ClosingRounds
+pub mod ClosingAll
 pub mod BothFinish
 pub mod Counted

@@ -272,7 +272,7 @@ module _ (s : Tuple) (w : View) (room n : ℕ) (y : View) (f : Facts) (now : Ins
           ack = segment_ack u s None bytes sends nothing_marked ∙ ap Some (sym rcv);
           empty = none;
           some = subst (λ n. 0 < n * 2 ^ w.remote_win_shift) (sym told_field) (unit_some room w.remote_win_shift at_least);
-          window = told_window after room held narrow ack (plain_window u s now b opens ∙ told_field ∙ ap (λ k. min (room / 2 ^ k) 65535) (sym shift)) ∙ ap (unit room) shift ∙ ap (λ n. n * 2 ^ w.remote_win_shift) (sym told_field);
+          window = told_window after room (ap (λ (l : List (Option ℕ)). length l) held ∙ length-replicate room None) narrow ack (plain_window u s now b opens ∙ told_field ∙ ap (λ k. min (room / 2 ^ k) 65535) (sym shift)) ∙ ap (unit room) shift ∙ ap (λ n. n * 2 ^ w.remote_win_shift) (sym told_field);
         }
       where
         stays : later_of w.local_seq_no (seq_add w.local_seq_no 0) ≡ w.local_seq_no

@@ -24,7 +24,7 @@ use Rattle.sock_tcp.specs.declared.window.Cut.{Cut}
 use Rattle.progress_laws.specs.InStep.{IsReceiver, takes_bytes}
 use Rattle.progress_laws.proofs.Begins.{not_zero}
 use Rattle.progress_laws.proofs.Edges.{cut_at, is_not_before, later_stays, old_outside, shut_outside, tail_cut, tail_inside, told_edge}
-use Rattle.progress_laws.proofs.Hears.{HeardAs, IsData, data_is_said, answered_outside, covered, heard_as, heard_inside, heard_rests_empty, idle_is, idle_moment, seen}
+use Rattle.progress_laws.proofs.Hears.{HeardAs, IsData, all_no_duplicate, data_is_said, answered_outside, covered, heard_as, heard_inside, heard_rests_empty, idle_is, idle_moment, seen}
 use Rattle.progress_laws.proofs.States.{is_flat, takes_flat}
 use Rattle.progress_laws.proofs.Taking.{at_once, blank, blank_holds_nothing, read_bytes, read_held, take_all, taken_bytes, taken_held}
 
@@ -80,16 +80,13 @@ pub record Owes (s : Tuple) (w : View) (room n : ℕ) (y : View) : Type 0 where
   pub next : (next_ack y).0 ≡ (seq_add (next_ack w) n).0
 
 -- the window of a socket that told its window field with RCV.NXT
-pub told_window : (w : View) (room : ℕ) → w.rx_buffer.held ≡ blank room → room ≤ 2 ^ 30 → w.remote_last_ack ≡ Some (next_ack w) → w.remote_last_win ≡ min (room / 2 ^ w.remote_win_shift) 65535
+pub told_window : (w : View) (room : ℕ) → length w.rx_buffer.held ≡ room → room ≤ 2 ^ 30 → w.remote_last_ack ≡ Some (next_ack w) → w.remote_last_win ≡ min (room / 2 ^ w.remote_win_shift) 65535
     → seq_sub (receive_window w).end (receive_window w).start ≡ unit room w.remote_win_shift
 unfolding receive_window
-told_window w room held narrow ack field =
+told_window w room wide narrow ack field =
     ap (λ o. seq_sub (window_end w o) (next_ack w)) ack
     ∙ (λ i. seq_sub (kept_between (next_ack w) (seq_add (next_ack w) (wide i)) (seq_add (next_ack w) (field i * 2 ^ w.remote_win_shift))) (next_ack w))
     ∙ told_edge (next_ack w) room (unit room w.remote_win_shift) (omega arith) (unit_within room w.remote_win_shift) narrow
-  where
-    wide : length w.rx_buffer.held ≡ room
-    wide = ap (λ (l : List (Option ℕ)). length l) held ∙ length-replicate room None
 
 pub start_is : (w : View) → (receive_window w).start ≡ next_ack w
 unfolding receive_window
@@ -158,7 +155,7 @@ module _ (s : Tuple) (w : View) (r : IsReceiver s w) where
           ack = refl;
           empty = refl;
           some = subst (λ n. 0 < min (n / 2 ^ w.remote_win_shift) 65535 * 2 ^ w.remote_win_shift) (sym wide) (unit_some r.room w.remote_win_shift r.room_at_least);
-          window = told_window (ack_kept w) r.room r.nothing_held r.room_at_most refl (ap (λ n. min (n / 2 ^ w.remote_win_shift) 65535) wide) ∙ ap (λ n. min (n / 2 ^ w.remote_win_shift) 65535 * 2 ^ w.remote_win_shift) (sym wide);
+          window = told_window (ack_kept w) r.room wide r.room_at_most refl (ap (λ n. min (n / 2 ^ w.remote_win_shift) 65535) wide) ∙ ap (λ n. min (n / 2 ^ w.remote_win_shift) 65535 * 2 ^ w.remote_win_shift) (sym wide);
         }
 
     -- ---- bytes in order are taken
@@ -233,7 +230,7 @@ module _ (s : Tuple) (w : View) (r : IsReceiver s w) where
         no_timeout = hears.timeout ∙ r.no_timeout;
         interval = subst (λ o. ForSome o (λ e. 0 < e.micros)) (sym hears.keep_alive) r.interval;
         moment = idle_moment now w.keep_alive;
-        timer = heard_rests_empty (seen w now 0 ip g w.local_seq_no flat ack bit) now (covered w now 0 ip g w.local_seq_no flat ack bit) g w.local_seq_no ack (data_is_said g.control bit) (is_not_before w.local_seq_no w.remote_last_seq (omega (arith, una_small, ap (λ (n : TcpSeqNumber). n.0) r.nothing_in_flight))) r.moment r.timer r.nothing_to_send ∙ idle_is now w.keep_alive;
+        timer = heard_rests_empty (seen w now 0 ip g w.local_seq_no flat ack bit) now (covered w now 0 ip g w.local_seq_no flat ack bit) g w.local_seq_no ack (data_is_said g.control bit) (all_no_duplicate (seen w now 0 ip g w.local_seq_no flat ack bit) now (covered w now 0 ip g w.local_seq_no flat ack bit) g w.local_seq_no (is_not_before w.local_seq_no w.remote_last_seq (omega (arith, una_small, ap (λ (n : TcpSeqNumber). n.0) r.nothing_in_flight)))) r.moment r.timer r.nothing_to_send ∙ idle_is now w.keep_alive;
         nothing_to_send = ap (λ (q : Queue). length q.bytes) hears.tx ∙ omega (arith, length-drop (seq_sub w.local_seq_no w.local_seq_no) w.tx_buffer.bytes, r.nothing_to_send);
         una = hears.una;
         nxt = hears.nxt ∙ ap (λ n. later_of n w.local_seq_no) r.nothing_in_flight ∙ later_stays w.local_seq_no w.local_seq_no (is_not_before w.local_seq_no w.local_seq_no (omega (arith, una_small)));

@@ -1,5 +1,5 @@
 -- A socket that also has bytes to send takes bytes in order, and answers what it has.
-use Rattle.std.proofs.Common.{◌≡◌, ℕ, ◌+◌, ◌-◌, ◌*◌, ◌<◌, ◌≤◌, ◌^◌, Bool, true, false, refl, sym, ap, subst, ◌∙◌, List, [], length, take, drop, Option, Some, None, arith, length-drop, length-take}
+use Rattle.std.proofs.Common.{◌≡◌, ℕ, ◌+◌, ◌-◌, ◌*◌, ◌<◌, ◌≤◌, ◌^◌, ◌⊎◌, inl, inr, Bool, true, false, refl, sym, ap, subst, ◌∙◌, List, [], length, take, drop, Option, Some, None, arith, length-drop, length-take}
 use Rattle.std.specs.Prelude.{if◌then◌else◌, ◌++◌, Ok}
 use Rattle.std.proofs.lemmas.List.{length-replicate}
 use Rattle.std.proofs.lemmas.Bool.{eq-eqb}
@@ -10,21 +10,23 @@ use Rattle.control_wire.specs.Segment.{Segment}
 use Rattle.control_wire.specs.Seq.{seq_add, seq_sub}
 use Rattle.control_wire.specs.declared.seq_number.TcpSeqNumber.{TcpSeqNumber}
 use Rattle.sock_core.specs.Received.{Received, holds_nothing, taken_in}
-use Rattle.sock_core.specs.Seq.{is_before, is_not_after, later_of}
+use Rattle.sock_core.specs.Seq.{is_before, is_not_after}
 use Rattle.sock_tcp.proofs.Windows.{end_small, far, not_far, start_small, window_width}
 use Rattle.sock_tcp.specs.Process.{Outcome, ack_sent, bytes_taken, processed}
 use Rattle.sock_tcp.specs.Queue.{Queue}
 use Rattle.sock_tcp.specs.Queues.{read_off, readable, receives}
 use Rattle.sock_tcp.specs.Steps.{ack_delayed, heard, joined, scale_of}
-use Rattle.sock_tcp.specs.Timers.{idle_from}
 use Rattle.sock_tcp.specs.View.{View}
 use Rattle.sock_tcp.specs.Window.{cut_bytes, cut_of, is_inside, kept_between, next_ack, receive_window, window_end}
+use Rattle.sock_tcp.specs.declared.timer.Timer.TheVariants as timer
 use Rattle.sock_tcp.specs.declared.window.Cut.{Cut}
 use Rattle.tcp_laws.specs.Polling.{IsReached}
 use Rattle.tcp_laws.specs.SocketRun.{IsNumbered, Process, RecvSlice, after_segment, handed_slice, with_handed}
-use Rattle.progress_laws.proofs.Begins.{not_zero, step_reached}
-use Rattle.progress_laws.proofs.Edges.{cut_at, is_not_before, later_stays, old_outside, tail_cut, tail_inside}
-use Rattle.progress_laws.proofs.Hears.{HeardAs, IsData, data_is_said, IsOpenTimer, answered_outside, covered, heard_as, heard_inside, heard_open, heard_rests, seen}
+use Rattle.progress_laws.specs.InStep.{ForAnswer, ForKeepAlive, ForNothing, ForProbe, Rests}
+use Rattle.progress_laws.proofs.Begins.{not_zero, some_or_none, step_reached}
+use Rattle.progress_laws.proofs.Edges.{cut_at, is_not_before, later_stays, old_outside, tail_cut, tail_inside, differs, same_seq}
+use Rattle.progress_laws.proofs.Hears.{HeardAs, IsData, IsNoDuplicate, data_is_said, IsOpenTimer, answered_outside, covered, heard_as, bytes_no_duplicate, heard_again, heard_inside, heard_open, heard_rests, seen}
+use Rattle.progress_laws.proofs.Learns.{idle_rests}
 use Rattle.progress_laws.proofs.Receives.{start_is}
 use Rattle.progress_laws.proofs.States.{is_flat, not_listening}
 use Rattle.progress_laws.proofs.Taking.{at_once, blank, blank_holds_nothing, read_bytes, read_held, take_all, taken_bytes, taken_held}
@@ -38,7 +40,8 @@ pub record IsCaughtUp (w : View) (k : TcpSeqNumber) (n room : ℕ) : Type 0 wher
   pub short : length w.tx_buffer.bytes ≤ 2 ^ 30
   pub there : k ≡ seq_add w.local_seq_no n
   pub queued : n ≤ length w.tx_buffer.bytes
-  pub nxt : w.remote_last_seq ≡ k
+  pub nxt_small : w.remote_last_seq.0 < 2 ^ 32
+  pub ahead : seq_sub w.remote_last_seq k ≤ 2 ^ 30
   pub timer : IsOpenTimer w.timer
   pub read : w.rx_buffer.bytes ≡ []
   pub held : w.rx_buffer.held ≡ blank room
@@ -54,7 +57,7 @@ pub record Took (w : View) (k : TcpSeqNumber) (n room m win : ℕ) (now : Instan
   pub shift : y.remote_win_shift ≡ w.remote_win_shift
   pub marked : y.pending_fast_retransmit ≡ w.pending_fast_retransmit
   pub una : y.local_seq_no ≡ k
-  pub nxt : y.remote_last_seq ≡ k
+  pub nxt : y.remote_last_seq ≡ w.remote_last_seq
   pub tx : y.tx_buffer.bytes ≡ drop n w.tx_buffer.bytes
   pub window : y.remote_win_len ≡ win
   pub read : y.rx_buffer.bytes ≡ []
@@ -92,6 +95,14 @@ pub before_window : (w : View) (g : Segment) → seq_sub (receive_window w).end 
 unfolding is_inside
 before_window w g narrow some there before near behind = rw (not_zero (length g.payload) some) (old_outside (receive_window w) (start_small w) (end_small w) narrow g.seq_number (seq_add g.seq_number (length g.payload)) there (subst (λ m. 0 < seq_sub m g.seq_number) (sym (start_is w)) before) (subst (λ m. seq_sub m g.seq_number < 2 ^ 31) (sym (start_is w)) near) (subst (λ m. seq_sub m (seq_add g.seq_number (length g.payload)) < 2 ^ 31) (sym (start_is w)) behind))
 
+not_after_itself : (k : TcpSeqNumber) → k.0 < 2 ^ 32 → is_not_after k k ≡ true
+unfolding is_not_after
+not_after_itself k small = rw (is_not_before k k (omega (arith, small)), eq-eqb k.0 k.0 refl) refl
+
+not_after_ahead : (a k : TcpSeqNumber) → a.0 < 2 ^ 32 → k.0 < 2 ^ 32 → 0 < seq_sub a k → seq_sub a k ≤ 2 ^ 30 → is_not_after a k ≡ false
+unfolding is_not_after
+not_after_ahead a k ha hk some ahead = rw (is_not_before a k (omega (arith, ahead)), differs a k (λ e. omega (arith, e, some, ha, hk))) refl
+
 module _ (w : View) (k : TcpSeqNumber) (n room : ℕ) (now : Instant) (ip : IpRepr) (g : Segment) (c : IsCaughtUp w k n room) (bit : IsData g.control) (ack : g.ack_number ≡ Some k) where
   wide : length w.rx_buffer.held ≡ room
   wide = ap (λ (l : List (Option ℕ)). length l) c.held ∙ length-replicate room None
@@ -118,13 +129,6 @@ module _ (w : View) (k : TcpSeqNumber) (n room : ℕ) (now : Instant) (ip : IpRe
 
   abbrev x : View
   x = heard z now (covered w now 0 ip g k c.state ack bit) g
-
-  last : is_before k w.remote_last_seq ≡ false
-  last = ap (is_before k) c.nxt ∙ is_not_before k k (omega (arith, small))
-
-  all : is_not_after w.remote_last_seq k ≡ true
-  unfolding is_not_after
-  all = rw (c.nxt, is_not_before k k (omega (arith, small)), eq-eqb k.0 k.0 refl) refl
 
   hears : HeardAs z k (seq_sub k w.local_seq_no) (g.window_len * 2 ^ scale_of w.remote_win_scale) x
   hears = heard_as z now (covered w now 0 ip g k c.state ack bit) g k ack (data_is_said g.control bit)
@@ -199,7 +203,7 @@ module _ (w : View) (k : TcpSeqNumber) (n room : ℕ) (now : Instant) (ip : IpRe
       shift = hears.shift;
       marked = hears.marked;
       una = hears.una;
-      nxt = hears.nxt ∙ ap (λ q. later_of q k) c.nxt ∙ later_stays k k (is_not_before k k (omega (arith, small)));
+      nxt = hears.nxt ∙ later_stays w.remote_last_seq k (is_not_before w.remote_last_seq k (omega (arith, c.ahead)));
       tx = ap (λ (q : Queue). q.bytes) hears.tx ∙ ap (λ q. drop q w.tx_buffer.bytes) covers_n;
       window = hears.window;
       read = read_bytes took.rx_buffer fresh_bytes took_bytes;
@@ -209,13 +213,45 @@ module _ (w : View) (k : TcpSeqNumber) (n room : ℕ) (now : Instant) (ip : IpRe
       next = omega (arith, ap (λ (q : TcpSeqNumber). q.0) hears.rcv, ap (λ (l : List ℕ). length l) c.read, ap (λ (l : List ℕ). length l) (read_bytes took.rx_buffer fresh_bytes took_bytes), fresh_length);
     }
 
-    pub took_rests : 0 < g.window_len * 2 ^ scale_of w.remote_win_scale → y.timer ≡ idle_from now w.keep_alive
-    unfolding read_off joined ack_delayed
-    took_rests told = heard_rests z now (covered w now 0 ip g k c.state ack bit) g k ack (data_is_said g.control bit) last c.timer all told
+    no_duplicate : IsNoDuplicate z now (covered w now 0 ip g k c.state ack bit) g k
+    no_duplicate = bytes_no_duplicate z now (covered w now 0 ip g k c.state ack bit) g k (omega (arith, long, some))
 
     pub took_open : IsOpenTimer y.timer
     unfolding read_off joined ack_delayed
-    took_open = heard_open z now (covered w now 0 ip g k c.state ack bit) g k ack (data_is_said g.control bit) last c.timer
+    took_open = heard_open z now (covered w now 0 ip g k c.state ack bit) g k ack (data_is_said g.control bit) no_duplicate c.timer
+
+    -- it still waits, where it has bytes in flight that were not taken, and else its timer is idle
+    pub took_rests : 0 < g.window_len * 2 ^ scale_of w.remote_win_scale → Rests w → Rests y
+    unfolding read_off joined ack_delayed
+    took_rests told r = by (some_or_none (seq_sub w.remote_last_seq k)) r
+      where
+        t : Took w k n room m (g.window_len * 2 ^ scale_of w.remote_win_scale) now y
+        t = took_so
+
+        all : w.remote_last_seq ≡ k → is_not_after w.remote_last_seq k ≡ true
+        all e = ap (λ q. is_not_after q k) e ∙ same
+          where
+            same : is_not_after k k ≡ true
+            same = not_after_itself k (omega (arith, small))
+
+        rests : w.remote_last_seq ≡ k → Rests y
+        rests e = idle_rests y now w.keep_alive (heard_rests z now (covered w now 0 ip g k c.state ack bit) g k ack (data_is_said g.control bit) no_duplicate c.timer (all e) told) (t.nxt ∙ e ∙ sym t.una) (subst (λ q. 0 < q) (sym t.window) told)
+
+        some_out : 0 < seq_sub w.remote_last_seq k → is_not_after w.remote_last_seq k ≡ false
+        some_out h = not_after_ahead w.remote_last_seq k c.nxt_small (omega (arith, small)) h c.ahead
+
+        again : (at : Instant) → w.timer ≡ timer.Retransmit at → 0 < seq_sub w.remote_last_seq k → Rests y
+        again at e h = let l = heard_again z now (covered w now 0 ip g k c.state ack bit) g k ack (data_is_said g.control bit) no_duplicate at e (some_out h) told in ForAnswer l.0 l.1
+
+        behind : w.remote_last_seq ≡ w.local_seq_no → 0 < seq_sub w.remote_last_seq k → ⊥
+        behind e h = omega (arith, h, c.ahead, ap (λ (q : TcpSeqNumber). q.0) e, ap (λ (q : TcpSeqNumber). q.0) c.there, c.una_small, c.queued, c.short)
+
+        by : (seq_sub w.remote_last_seq k ≡ 0) ⊎ (0 < seq_sub w.remote_last_seq k) → Rests w → Rests y
+        by (inl e) r = rests (same_seq w.remote_last_seq k (omega (arith, e, small, c.nxt_small)))
+        by (inr h) (ForAnswer at e) = again at e h
+        by (inr h) (ForKeepAlive at idle nxt) = absurd (behind nxt h)
+        by (inr h) (ForNothing idle nxt some) = absurd (behind nxt h)
+        by (inr h) (ForProbe at delay probes nxt some) = absurd (behind nxt h)
 
     pub took_reached : IsReached w → g.seq_number.0 < 2 ^ 32 → length g.payload ≤ 65535 → IsReached y
     unfolding joined ack_delayed

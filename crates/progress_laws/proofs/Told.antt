@@ -5,6 +5,7 @@ use Rattle.net_base.specs.declared.time.Instant.{Instant}
 use Rattle.ip_wire.specs.declared.repr.IpRepr.{IpRepr}
 use Rattle.control_wire.specs.Segment.{Segment}
 use Rattle.control_wire.specs.Seq.{seq_add, seq_sub}
+use Rattle.control_wire.specs.declared.seq_number.TcpSeqNumber.{TcpSeqNumber}
 use Rattle.sock_tcp.specs.Process.{processed}
 use Rattle.sock_tcp.specs.Queues.{may_send}
 use Rattle.sock_tcp.specs.Steps.{scale_of}
@@ -14,7 +15,7 @@ use Rattle.sock_tcp.specs.Window.{next_ack, receive_window}
 use Rattle.sock_tcp.specs.declared.tuple.Tuple.{Tuple}
 use Rattle.progress_laws.specs.InStep.{InStep}
 use Rattle.progress_laws.proofs.Edges.{same_seq}
-use Rattle.progress_laws.proofs.Learns.{Learnt, idle_rests, learnt}
+use Rattle.progress_laws.proofs.Learns.{Learnt, idle_rests, learnt, lies_at_edge}
 use Rattle.progress_laws.proofs.Receives.{Tells}
 use Rattle.progress_laws.proofs.Speaks.{Waits}
 use Rattle.progress_laws.proofs.States.{sends_flat}
@@ -24,11 +25,14 @@ module _ (d : Option Duration) (t s : Tuple) (v w x w' : View) (now : Instant) (
   number : g.seq_number ≡ next_ack v
   number = tell.number ∙ i.back
 
+  own : next_ack x ≡ next_ack v
+  own = (λ j. seq_add (wait.rcv j) (length ((wait.rx j).bytes)))
+
   some : 0 < g.window_len * 2 ^ scale_of v.remote_win_scale
   some = subst (λ m. 0 < g.window_len * 2 ^ m) (sym i.scale) tell.some
 
   pub learns : Learnt v x now ip g (next_ack w') n
-  learns = learnt v x now ip g (next_ack w') n (sends_flat v.state i.sender.state) wait tell.bit number tell.ack tell.empty some queued taken near
+  learns = learnt v x now ip g (next_ack w') n (sends_flat v.state i.sender.state) wait tell.bit (subst (λ (m : TcpSeqNumber). m.0 < 2 ^ 32) (sym number) (omega arith)) (lies_at_edge x g wait.reached tell.empty (number ∙ sym own)) tell.ack tell.empty some queued taken near
 
   abbrev pub heard_view : View
   heard_view = learns.view
@@ -41,7 +45,7 @@ module _ (d : Option Duration) (t s : Tuple) (v w x w' : View) (now : Instant) (
       let h = learns.heard in
       let keep = wait.keep_alive ∙ i.sender.keep_alive in
       let scale : scale_of x.remote_win_scale ≡ w.remote_win_shift = ap scale_of wait.scale ∙ i.scale in
-      let own : next_ack heard_view ≡ next_ack v = (λ j. seq_add ((h.rcv ∙ wait.rcv) j) (length (((h.rx ∙ wait.rx) j).bytes))) in
+      let own_then : next_ack heard_view ≡ next_ack v = (λ j. seq_add ((h.rcv ∙ wait.rcv) j) (length (((h.rx ∙ wait.rx) j).bytes))) in
       record {
         sender = record {
           reached = learns.reached;
@@ -56,7 +60,7 @@ module _ (d : Option Duration) (t s : Tuple) (v w x w' : View) (now : Instant) (
         taken = 0;
         taken_within = omega arith;
         there = same_seq (next_ack w') (seq_add (next_ack w') 0) (omega arith) ∙ ap (λ m. seq_add m 0) (sym h.una);
-        back = tell.una ∙ i.back ∙ sym own;
+        back = tell.una ∙ i.back ∙ sym own_then;
         scale = ap scale_of h.scale ∙ scale ∙ sym tell.shift;
         window = let e : heard_view.remote_win_len ≡ seq_sub (receive_window w').end (receive_window w').start = h.window ∙ ap (λ m. g.window_len * 2 ^ m) scale ∙ sym tell.window in omega (arith, e);
         not_last = λ at e. inl learns.window;

@@ -1,8 +1,8 @@
 -- A sender that was closed with bytes to send, and how they and its FIN come over.
-use Rattle.std.specs.Prelude.{ℕ, ◌≡◌, ◌^◌, ◌≤◌, List, [], ◌++◌, length, drop, replicate, Option, Some, None, Err, true, false}
+use Rattle.std.specs.Prelude.{ℕ, ◌≡◌, ◌⊎◌, ◌<◌, ◌^◌, ◌≤◌, List, [], ◌++◌, length, drop, replicate, Option, Some, None, Err, true, false}
 use Rattle.net_base.specs.declared.time.Duration.{Duration}
 use Rattle.net_base.specs.declared.time.Instant.{Instant}
-use Rattle.control_wire.specs.Seq.{seq_add}
+use Rattle.control_wire.specs.Seq.{seq_add, seq_sub}
 use Rattle.sock_core.specs.Bounds.{IsMtu}
 use Rattle.sock_core.specs.Facts.{Facts}
 use Rattle.sock_tcp.specs.Due.{is_closing}
@@ -13,7 +13,7 @@ use Rattle.sock_tcp.specs.declared.error.RecvError.TheVariants as recv_error
 use Rattle.sock_tcp.specs.declared.timer.Timer.TheVariants as timer
 use Rattle.sock_tcp.specs.declared.tuple.Tuple.{Tuple}
 use Rattle.tcp_laws.specs.Polling.{IsReached}
-use Rattle.progress_laws.specs.BothWays.{Toward}
+use Rattle.progress_laws.specs.BothWays.{Toward, window_told}
 use Rattle.progress_laws.specs.InStep.{Moves, Rests, takes_bytes}
 
 -- ---- the two sides
@@ -41,8 +41,8 @@ pub record IsTaker (w : View) : Type 0 where
   pub nothing_held : w.rx_buffer.held ≡ replicate room None
   pub room_at_least : 2 ^ w.remote_win_shift ≤ room
 
--- The sender knows a window above 0 (`Toward`). They agree on the numbers of w's stream, too: all that w sent was
--- taken, so many bytes of its queue
+-- The sender knows a window above 0 (`Toward`). They agree on the numbers of w's stream, too: v took so many bytes of
+-- its queue. SND.NXT of w is RCV.NXT of v, or lies in the window that v tells now
 pub record AfterClose (d : Option Duration) (t : Tuple) (v w : View) : Type 0 where
   pub sender : IsCloser d t v
   pub receiver : IsTaker w
@@ -50,7 +50,7 @@ pub record AfterClose (d : Option Duration) (t : Tuple) (v w : View) : Type 0 wh
   pub heard : ℕ
   pub heard_within : heard ≤ length w.tx_buffer.bytes
   pub back : next_ack v ≡ seq_add w.local_seq_no heard
-  pub caught_up : w.remote_last_seq ≡ next_ack v
+  pub in_reach : (w.remote_last_seq ≡ next_ack v) ⊎ (seq_sub w.remote_last_seq (next_ack v) < window_told v)
 
 -- ---- the law
 

@@ -47,13 +47,13 @@ pub record Toward (v w : View) : Type 0 where
   pub window : v.remote_win_len ≤ taken + seq_sub (receive_window w).end (receive_window w).start
   pub at_most : v.remote_win_len ≤ window_told w
 
--- Both ways. One of them, w, sent nothing that v did not take
+-- Both ways. SND.NXT of w lies in the window that v tells now, which begins at RCV.NXT of v
 pub record BothInStep (d e : Option Duration) (t s : Tuple) (v w : View) : Type 0 where
   pub here : IsSide d t v
   pub across : IsSide e s w
   pub over : Toward v w
   pub back : Toward w v
-  pub caught_up : w.remote_last_seq ≡ next_ack v
+  pub in_reach : seq_sub w.remote_last_seq (next_ack v) < window_told v
 
 -- ---- what they do in turn
 

@@ -1,8 +1,9 @@
 //! What two TCP sockets still can come to, as laws: functions whose contracts are the laws and whose bodies are empty.
 //!
-//! What to read first, in `specs`: `Speech.antt`, what a socket says once its timer is over; `Delivery.antt`, what such
-//! a segment moves once it is delivered; `InStep.antt`, two sockets of which one sends to the other, and what they can
-//! do in turn; `BothWays.antt`, two that both have bytes to send.
+//! What to read first, in `specs`: `Wakes.antt`, when a socket is to be called again; `Speech.antt`, what it says once
+//! its timer is over; `Delivery.antt`, what such a segment moves once it is delivered; `InStep.antt`, two sockets of
+//! which one sends to the other, and what they can do in turn; `BothWays.antt`, two that both have bytes to send;
+//! `AfterClose.antt`, a sender that was closed.
 #![tactic(auto)]
 
 ghost use Rattle.progress_laws.specs.AfterClose.{ClosedSenderFinishes};
@@ -62,7 +63,8 @@ pub fn one_way_finishes()
 /// From any two sockets in ESTABLISHED that both have bytes to send and agree on the numbers of both streams
 /// (`BothInStep`), some list of dispatches, deliveries and reads empties both transmit queues, and of either side all
 /// of the other's bytes was read, in order: first one of them sends and the other only answers, and then the other way
-/// round. What one sent may have been lost, and its acknowledgements; the other sent nothing that was not taken.
+/// round. What they sent may have been lost, and their acknowledgements; but SND.NXT of the second lies in the window
+/// that the first tells now. Both know a window above 0, so neither needs a keep-alive interval.
 pub fn both_ways_complete()
     ensures { BothWaysComplete }
 {}

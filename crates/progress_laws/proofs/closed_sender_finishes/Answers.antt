@@ -1,4 +1,4 @@
-use Rattle.progress_laws.proofs.ClosingRounds.{closed_sender_finishes}
+use Rattle.progress_laws.proofs.ClosingAll.{closed_sender_finishes}
 use Rattle.progress_laws.proofs.closed_sender_finishes.Goals as goal
 
 pub returns : goal.returns
