@@ -6,26 +6,8 @@ use Rattle.smoltcp_socket.specs.Kinds.{raw_of, icmp_of, udp_of, tcp_of}
 use Rattle.smoltcp_socket.specs.declared.socket.Socket.{Socket}
 use Rattle.smoltcp_socket.specs.declared.socket.Socket.TheVariants.{Raw, Icmp, Udp, Tcp}
 
-pub found_raw : {G : Type 0} (h : Socket G) → Found 0 Raw raw_of h
-found_raw (Raw y) = inl (y, refl)
-found_raw (Icmp y) = inr (tt, refl)
-found_raw (Udp y) = inr (tt, refl)
-found_raw (Tcp y) = inr (tt, refl)
-
-pub found_icmp : {G : Type 0} (h : Socket G) → Found 1 Icmp icmp_of h
-found_icmp (Raw y) = inr (tt, refl)
-found_icmp (Icmp y) = inl (y, refl)
-found_icmp (Udp y) = inr (tt, refl)
-found_icmp (Tcp y) = inr (tt, refl)
-
-pub found_udp : {G : Type 0} (h : Socket G) → Found 2 Udp udp_of h
-found_udp (Raw y) = inr (tt, refl)
-found_udp (Icmp y) = inr (tt, refl)
-found_udp (Udp y) = inl (y, refl)
-found_udp (Tcp y) = inr (tt, refl)
-
-pub found_tcp : {G : Type 0} (h : Socket G) → Found 3 Tcp tcp_of h
-found_tcp (Raw y) = inr (tt, refl)
-found_tcp (Icmp y) = inr (tt, refl)
-found_tcp (Udp y) = inr (tt, refl)
-found_tcp (Tcp y) = inl (y, refl)
+pub found : {G : Type 0} (h : Socket G) → Found 0 Raw raw_of h × Found 1 Icmp icmp_of h × Found 2 Udp udp_of h × Found 3 Tcp tcp_of h
+found (Raw y) = (inl (y, refl), inr (tt, refl), inr (tt, refl), inr (tt, refl))
+found (Icmp y) = (inr (tt, refl), inl (y, refl), inr (tt, refl), inr (tt, refl))
+found (Udp y) = (inr (tt, refl), inr (tt, refl), inl (y, refl), inr (tt, refl))
+found (Tcp y) = (inr (tt, refl), inr (tt, refl), inr (tt, refl), inl (y, refl))

@@ -66,8 +66,7 @@ impl<'a, G> AnySocket<'a, G> for Socket<'a, G> {
 }
 
 impl<'a, G> AnySocket<'a, G> for raw::Socket<'a> {
-    ghost use Rattle.std.specs.Prelude.{refl};
-    ghost use Rattle.std.proofs.Common.{rules};
+    ghost use Rattle.std.proofs.Common.{refl, rules};
     ghost use Rattle.smoltcp_socket.specs.Kinds.{raw_of};
     ghost use Rattle.smoltcp_socket.specs.declared.socket.Socket.TheVariants.{Raw};
 
@@ -99,8 +98,7 @@ impl<'a, G> AnySocket<'a, G> for raw::Socket<'a> {
 }
 
 impl<'a, G> AnySocket<'a, G> for icmp::Socket<'a> {
-    ghost use Rattle.std.specs.Prelude.{refl};
-    ghost use Rattle.std.proofs.Common.{rules};
+    ghost use Rattle.std.proofs.Common.{refl, rules};
     ghost use Rattle.smoltcp_socket.specs.Kinds.{icmp_of};
     ghost use Rattle.smoltcp_socket.specs.declared.socket.Socket.TheVariants.{Icmp};
 
@@ -132,8 +130,7 @@ impl<'a, G> AnySocket<'a, G> for icmp::Socket<'a> {
 }
 
 impl<'a, G> AnySocket<'a, G> for udp::Socket<'a> {
-    ghost use Rattle.std.specs.Prelude.{refl};
-    ghost use Rattle.std.proofs.Common.{rules};
+    ghost use Rattle.std.proofs.Common.{refl, rules};
     ghost use Rattle.smoltcp_socket.specs.Kinds.{udp_of};
     ghost use Rattle.smoltcp_socket.specs.declared.socket.Socket.TheVariants.{Udp};
 
@@ -165,8 +162,7 @@ impl<'a, G> AnySocket<'a, G> for udp::Socket<'a> {
 }
 
 impl<'a, G> AnySocket<'a, G> for sock_tcp::Socket<'a, G> {
-    ghost use Rattle.std.specs.Prelude.{refl};
-    ghost use Rattle.std.proofs.Common.{rules};
+    ghost use Rattle.std.proofs.Common.{refl, rules};
     ghost use Rattle.smoltcp_socket.specs.Kinds.{tcp_of};
     ghost use Rattle.smoltcp_socket.specs.declared.socket.Socket.TheVariants.{Tcp};
 

@@ -8,7 +8,6 @@ pub mod Orders
 pub mod RawOrders
 pub mod RawSetting
 pub mod RawTwice
-pub mod Reading
 pub mod Refusals
 pub mod SendWalk
 pub mod Storing

@@ -4,12 +4,14 @@ use Rattle.std.proofs.lemmas.Bool.{false≢true}
 use Rattle.std.proofs.lemmas.List.{map-append, take_at}
 use Rattle.std.proofs.lemmas.Option.{none-some, same_Some}
 use Rattle.std.specs.Borrow.{MutBor}
-use Rattle.std.specs.Fn.{Once, FnOnceReturnsAtMut}
-use Rattle.std.specs.Prelude.{◌+◌, IfOk, OnErr, is_ok, nat_lt, slice_get, if◌then◌else◌}
-use Rattle.net_base.specs.Packets.{Packets, packets, Enqueues}
+use Rattle.std.specs.Fn.{Once}
+use Rattle.std.specs.Prelude.{◌+◌, IfOk, is_ok, nat_lt, slice_get, if◌then◌else◌}
+use Rattle.net_base.specs.Packets.{Packets, packets}
 use Rattle.net_base.specs.Ring.{overwrite}
-use Rattle.sock_dgram.specs.Datagrams.{answered, take_answer, copy_answer, copied}
+use Rattle.sock_dgram.specs.Addressed as addressed
+use Rattle.sock_dgram.specs.Datagrams.{answered, take_answer, copy_answer, copied, stored}
 use Rattle.sock_dgram.specs.Transfers.{Cleared, Transfers, Written, nothing, followed_by, sends, exit_of, departs, queues, read, reads, copied_out, copies_out, clears, InOrder, Reads, Copies, Runs}
+use Rattle.sock_dgram.specs.declared.error.BindError.{BindError}
 use Rattle.sock_dgram.specs.declared.error.RecvError.{RecvError}
 use Rattle.sock_dgram.specs.declared.error.RecvError.TheVariants as recv_error
 
@@ -77,31 +79,30 @@ module _ {M : Type 0} where
 
 -- ---- both queues
 
+module _ {M O : Type 0} {x r y q : List (M × List ℕ)} where
+  pub idle : y ≡ x → q ≡ r → InOrder (nothing {M = M} {O = O}) x r y q
+  idle transmit receive = record { transmit = still x y transmit; receive = still r q receive }
+
+  pub sending : (ok : Bool) (d : M × List ℕ) → y ≡ cond ok (x ++ d ∷ []) x → q ≡ r → InOrder (sends {O = O} ok d) x r y q
+  sending ok d transmit receive = record { transmit = added ok d x y transmit; receive = still r q receive }
+
+  pub departing : (ok : Bool) (out : Option O) → y ≡ cond ok (drop 1 x) x → q ≡ r → InOrder (departs ok out x) x r y q
+  departing ok out transmit receive = record { transmit = removed ok (exit_of out) x y transmit; receive = still r q receive }
+
+  pub queueing : (ok : Bool) (d : M × List ℕ) → y ≡ x → q ≡ cond ok (r ++ d ∷ []) r → InOrder (queues {O = O} ok d) x r y q
+  queueing ok d transmit receive = record { transmit = still x y transmit; receive = added ok d r q receive }
+
 module _ {M O : Type 0} where
-  pub idle : (t : Transfers M O) (x r y q : List (M × List ℕ)) → t ≡ nothing → y ≡ x → q ≡ r → InOrder t x r y q
-  idle t x r y q e transmit receive = subst (λ (s : Transfers M O). InOrder s x r y q) (sym e) (record { transmit = still x y transmit; receive = still r q receive })
+  pub clearing : (x r : List (M × List ℕ)) → InOrder (clears {O = O} x r) x r [] []
+  clearing x r = record { transmit = cleared Cleared x; receive = cleared Cleared r }
 
-  pub sending : (t : Transfers M O) (ok : Bool) (d : M × List ℕ) (x r y q : List (M × List ℕ)) → t ≡ sends ok d → y ≡ cond ok (x ++ d ∷ []) x → q ≡ r → InOrder t x r y q
-  sending t ok d x r y q e transmit receive = subst (λ (s : Transfers M O). InOrder s x r y q) (sym e) (record { transmit = added ok d x y transmit; receive = still r q receive })
+  module _ {x y : List (M × List ℕ)} (p q : Packets M) where
+    pub receiving : (r : Result (M × List ℕ) RecvError) → Reads p r → packets q.entries ≡ drop 1 (packets p.entries) → y ≡ x → InOrder (reads {O = O} r) x (packets p.entries) y (packets q.entries)
+    receiving r h receive transmit = record { transmit = still x y transmit; receive = reading p q r h receive }
 
-  pub departing : (t : Transfers M O) (ok : Bool) (out : Option O) (x r y q : List (M × List ℕ)) → t ≡ departs ok out x → y ≡ cond ok (drop 1 x) x → q ≡ r → InOrder t x r y q
-  departing t ok out x r y q e transmit receive = subst (λ (s : Transfers M O). InOrder s x r y q) (sym e) (record { transmit = removed ok (exit_of out) x y transmit; receive = still r q receive })
-
-  pub queueing : (t : Transfers M O) (ok : Bool) (d : M × List ℕ) (x r y q : List (M × List ℕ)) → t ≡ queues ok d → y ≡ x → q ≡ cond ok (r ++ d ∷ []) r → InOrder t x r y q
-  queueing t ok d x r y q e transmit receive = subst (λ (s : Transfers M O). InOrder s x r y q) (sym e) (record { transmit = still x y transmit; receive = added ok d r q receive })
-
-  pub clearing : (t : Transfers M O) (x r : List (M × List ℕ)) → t ≡ clears x r → InOrder t x r [] []
-  clearing t x r e = subst (λ (s : Transfers M O). InOrder s x r [] []) (sym e) (record { transmit = cleared Cleared x; receive = cleared Cleared r })
-
-  pub receiving : (t : Transfers M O) (r : Result (M × List ℕ) RecvError) (p q : Packets M) (x y : List (M × List ℕ)) → t ≡ reads r → Reads p r → packets q.entries ≡ drop 1 (packets p.entries) → y ≡ x
-      → InOrder t x (packets p.entries) y (packets q.entries)
-  receiving t r p q x y e h receive transmit =
-      subst (λ (s : Transfers M O). InOrder s x (packets p.entries) y (packets q.entries)) (sym e) (record { transmit = still x y transmit; receive = reading p q r h receive })
-
-  pub copying_out : (t : Transfers M O) (slice left : List ℕ) (r : Result (ℕ × M) RecvError) (p q : Packets M) (x y : List (M × List ℕ)) → t ≡ copies_out r left (slice_get (packets p.entries) 0) → Copies p slice left r
-      → packets q.entries ≡ drop 1 (packets p.entries) → y ≡ x → InOrder t x (packets p.entries) y (packets q.entries)
-  copying_out t slice left r p q x y e h receive transmit =
-      subst (λ (s : Transfers M O). InOrder s x (packets p.entries) y (packets q.entries)) (sym e) (record { transmit = still x y transmit; receive = copying p q slice left r h receive })
+    pub copying_out : (slice left : List ℕ) (r : Result (ℕ × M) RecvError) → Copies p slice left r → packets q.entries ≡ drop 1 (packets p.entries) → y ≡ x
+        → InOrder (copies_out {O = O} r left (slice_get (packets p.entries) 0)) x (packets p.entries) y (packets q.entries)
+    copying_out slice left r h receive transmit = record { transmit = still x y transmit; receive = copying p q slice left r h receive }
 
   pub in_turn : (a b : Transfers M O) (x r y q z s : List (M × List ℕ)) → InOrder a x r y q → InOrder b y q z s → InOrder (followed_by a b) x r z s
   in_turn a b x r y q z s first second = record {
@@ -109,18 +110,32 @@ module _ {M O : Type 0} where
     receive = chain a.taken b.taken a.queued b.queued r q s first.receive second.receive;
   }
 
+  -- of other transfers that are the same
+  pub by_transfers : {t s : Transfers M O} {x r y q : List (M × List ℕ)} → t ≡ s → InOrder s x r y q → InOrder t x r y q
+  by_transfers {t} {s} {x} {r} {y} {q} e h = subst (λ (u : Transfers M O). InOrder u x r y q) (sym e) h
+
 -- ---- `send_with`, of a socket of which the transmit buffer alone changed
 
 module _ {M O G E : Type 0} (write : Once G (MutBor (List ℕ) × Unit {0}) (ℕ × (MutBor (List ℕ) × Unit {0}))) where
-  pub written : (r : Result ℕ E) (size : ℕ) (m : M) (f : G) (old new : Packets M) → IfOk r (λ kept. Enqueues (FnOnceReturnsAtMut write f) size m old kept new) → OnErr r (packets new.entries ≡ packets old.entries)
-      → (t : Transfers M O) × Written write r size m f old t new
-  written (Ok kept) size m f old new e same = (sends true (m, take kept e.appends.left), (e, refl))
-  written (Err x) size m f old new e same = (nothing, (same, refl))
-
   pub sent_with : (r : Result ℕ E) (size : ℕ) (m : M) (f : G) (t : Transfers M O) (old new : Packets M) (x y : List (M × List ℕ)) → Written write r size m f old t new → y ≡ x
       → InOrder t (packets old.entries) x (packets new.entries) y
-  sent_with (Ok kept) size m f t old new x y h same = sending t true (m, take kept h.0.appends.left) (packets old.entries) x (packets new.entries) y h.1 h.0.packets same
-  sent_with (Err e) size m f t old new x y h same = idle t (packets old.entries) x (packets new.entries) y h.1 h.0 same
+  sent_with (Ok kept) size m f t old new x y h same = by_transfers h.1 (sending true (m, take kept h.0.0.appends.left) h.0.0.packets same)
+  sent_with (Err e) size m f t old new x y h same = by_transfers h.1 (idle h.0.1 same)
+
+-- ---- what other calls of a socket whose packets have an address leave as it was
+
+module _ {E M : Type 0} where
+  pub bound_waiting : (r : Result (Unit {0}) BindError) (v : addressed.View E M) (e : E) → addressed.waiting (addressed.after_bind r v e) ≡ addressed.waiting v
+  bound_waiting (Ok u) v e = refl
+  bound_waiting (Err x) v e = refl
+
+  pub bound_received : (r : Result (Unit {0}) BindError) (v : addressed.View E M) (e : E) → addressed.received (addressed.after_bind r v e) ≡ addressed.received v
+  bound_received (Ok u) v e = refl
+  bound_received (Err x) v e = refl
+
+  pub sent_received : (b : Bool) (v : addressed.View E M) (m : M) (bs : List ℕ) → addressed.received (if b then record v { tx_buffer = stored m bs v.tx_buffer } else v) ≡ addressed.received v
+  sent_received true v m bs = refl
+  sent_received false v m bs = refl
 
 -- ---- lists of calls, whose packets are seen in some way
 
@@ -128,10 +143,9 @@ module _ {V K M O : Type 0} (effect : K → V → Transfers M O → V → Type 0
     (both : (a b : Transfers M O) → see (followed_by a b) ≡ followed_by (see a) (see b))
     (step : (k : K) (v : V) (t : Transfers M O) (w : V) → effect k v t w → InOrder (see t) (waiting v) (received v) (waiting w) (received w)) where
   pub runs : (ks : List K) (v : V) (t : Transfers M O) (w : V) → Runs effect ks v t w → InOrder (see t) (waiting v) (received v) (waiting w) (received w)
-  runs [] v t w h = idle (see t) (waiting v) (received v) (waiting w) (received w) (ap see h.0 ∙ none) (ap waiting h.1) (ap received h.1)
+  runs [] v t w h = by_transfers (ap see h.0 ∙ none) (idle (ap waiting h.1) (ap received h.1))
   runs (k ∷ ks) v t w h =
       let u = h.0 in
       let a = h.1 in
       let b = h.2 in
-      subst (λ (s : Transfers M O). InOrder s (waiting v) (received v) (waiting w) (received w)) (sym (ap see h.5 ∙ both a b))
-      (in_turn (see a) (see b) (waiting v) (received v) (waiting u) (received u) (waiting w) (received w) (step k v a u h.3) (runs ks u b w h.4))
+      by_transfers (ap see h.5 ∙ both a b) (in_turn (see a) (see b) (waiting v) (received v) (waiting u) (received u) (waiting w) (received w) (step k v a u h.3) (runs ks u b w h.4))

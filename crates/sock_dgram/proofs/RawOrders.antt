@@ -10,13 +10,13 @@ use Rattle.net_base.proofs.PacketLists.{packets_skipped}
 use Rattle.net_base.specs.Packets.{first_packet, takes}
 use Rattle.sock_core.specs.Emission.{Emit}
 use Rattle.sock_core.specs.Facts.{Facts}
-use Rattle.sock_dgram.proofs.Orders.{idle, sending, departing, queueing, receiving, copying_out, runs}
+use Rattle.sock_dgram.proofs.Orders.{idle, sending, departing, queueing, receiving, copying_out, by_transfers, runs}
 use Rattle.sock_dgram.proofs.RawTwice.{prepared_again}
 use Rattle.sock_dgram.specs.Datagrams.{answered, take_answer, with_metadata}
 use Rattle.sock_dgram.specs.Raw.{View, received, waiting, whole_packet}
-use Rattle.sock_dgram.specs.RawCalls.{Call, Look, SendSlice, SendWith, Recv, RecvSlice, Peek, Process, Dispatch, beside_metadata, Effect, without_checksum, bare, bare_traffic}
+use Rattle.sock_dgram.specs.RawCalls.{Call, Look, SendSlice, Recv, RecvSlice, Peek, Process, beside_metadata, Effect, moved, AnyEffect, without_checksum, bare, bare_traffic}
 use Rattle.sock_dgram.specs.RawDispatch.{Outgoing, first_prepared}
-use Rattle.sock_dgram.specs.Transfers.{Exit, Transfers, Written, followed_by, sends, departs, InOrder, Runs}
+use Rattle.sock_dgram.specs.Transfers.{AnyCall, Plain, SendWith, Dispatch, Exit, Transfers, Written, followed_by, sends, departs, InOrder, Runs}
 use Rattle.sock_dgram.specs.declared.error.RecvError.{RecvError}
 use Rattle.sock_dgram.specs.declared.raw.error.SendError.{SendError}
 
@@ -58,32 +58,33 @@ values : (r : Result (List ℕ) RecvError) (first : Option (Unit {0} × List ℕ
 values (Ok bs) first e = e
 values (Err x) first e = e
 
+keeps : (k : Call) (v w : View) → Effect k v w → InOrder (bare_traffic (moved k v)) (bare (waiting v)) (received v) (bare (waiting w)) (received w)
+keeps Look v w h = idle (ap (λ x. bare (waiting x)) h) (ap received h)
+keeps (SendSlice bs r) v w h =
+    by_transfers (bare_sends (is_ok r) (tt, bs)) (sending (is_ok r) (without_checksum (tt, bs)) (ap bare h.2 ∙ bare_added (is_ok r) (tt, bs) (waiting v)) (ap received h.1))
+keeps (Recv r) v w h =
+    let first = first_packet v.rx_buffer in
+    receiving v.rx_buffer w.rx_buffer (beside_metadata r) (record { answer = answers r first h.0; value = values r first h.1 }) h.2.queue.packets (ap (λ x. bare (waiting x)) h.2.same)
+keeps (RecvSlice before after r) v w h = copying_out v.rx_buffer w.rx_buffer before after (with_metadata tt r) h.0 h.1.queue.packets (ap (λ x. bare (waiting x)) h.1.same)
+keeps Peek v w h = idle (ap (λ x. bare (waiting x)) h) (ap received h ∙ packets_skipped v.rx_buffer)
+keeps (Process f ip payload) v w h =
+    let packet = whole_packet f.checksums ip payload in queueing (takes (length packet) v.rx_buffer) (tt, packet) (ap (λ x. bare (waiting x)) h.0) h.1
+
 module _ {C E F G : Type 0} (facts : C → Facts) (emit : Emit F C (IpRepr × Bor (List ℕ)) E)
     (write : Once G (MutBor (List ℕ) × Unit {0}) (ℕ × (MutBor (List ℕ) × Unit {0}))) where
-  written : (r : Result ℕ SendError) (size : ℕ) (f : G) (v : View) (t : Transfers (Unit {0}) Outgoing) (w : View) → Written write r size tt f v.tx_buffer t w.tx_buffer → received w ≡ received v
+  written : (r : Result ℕ SendError) (size : ℕ) (m : Unit {0}) (f : G) (v : View) (t : Transfers (Unit {0}) Outgoing) (w : View) → Written write r size m f v.tx_buffer t w.tx_buffer → received w ≡ received v
       → InOrder (bare_traffic t) (bare (waiting v)) (received v) (bare (waiting w)) (received w)
-  written (Ok kept) size f v t w h same =
-      let d : Unit {0} × List ℕ = (tt, take kept h.0.appends.left) in
-      sending (bare_traffic t) true (without_checksum d) (bare (waiting v)) (received v) (bare (waiting w)) (received w) (ap bare_traffic h.1) (ap bare h.0.packets ∙ bare_added true d (waiting v)) same
-  written (Err x) size f v t w h same = idle (bare_traffic t) (bare (waiting v)) (received v) (bare (waiting w)) (received w) (ap bare_traffic h.1) (ap bare h.0) same
+  written (Ok kept) size m f v t w h same =
+      let d : Unit {0} × List ℕ = (m, take kept h.0.0.appends.left) in
+      by_transfers (ap bare_traffic h.1) (sending true (without_checksum d) (ap bare h.0.0.packets ∙ bare_added true d (waiting v)) same)
+  written (Err x) size m f v t w h same = by_transfers (ap bare_traffic h.1) (idle (ap bare h.0.1) same)
 
-  step : (k : Call C E F G) (v : View) (t : Transfers (Unit {0}) Outgoing) (w : View) → Effect facts emit write k v t w → InOrder (bare_traffic t) (bare (waiting v)) (received v) (bare (waiting w)) (received w)
-  step Look v t w h = idle (bare_traffic t) (bare (waiting v)) (received v) (bare (waiting w)) (received w) (ap bare_traffic h.1) (ap (λ x. bare (waiting x)) h.0) (ap received h.0)
-  step (SendSlice bs r) v t w h =
-      sending (bare_traffic t) (is_ok r) (without_checksum (tt, bs)) (bare (waiting v)) (received v) (bare (waiting w)) (received w) (ap bare_traffic h.3 ∙ bare_sends (is_ok r) (tt, bs)) (ap bare h.2 ∙ bare_added (is_ok r) (tt, bs) (waiting v)) (ap received h.1)
-  step (SendWith size f r) v t w h = written r size f v t w h.0 (ap received h.1)
-  step (Recv r) v t w h =
-      let first = first_packet v.rx_buffer in
-      receiving (bare_traffic t) (beside_metadata r) v.rx_buffer w.rx_buffer (bare (waiting v)) (bare (waiting w)) (ap bare_traffic h.3) (record { answer = answers r first h.0; value = values r first h.1 }) h.2.queue.packets (ap (λ x. bare (waiting x)) h.2.same)
-  step (RecvSlice before after r) v t w h =
-      copying_out (bare_traffic t) before after (with_metadata tt r) v.rx_buffer w.rx_buffer (bare (waiting v)) (bare (waiting w)) (ap bare_traffic h.2) h.0 h.1.queue.packets (ap (λ x. bare (waiting x)) h.1.same)
-  step Peek v t w h = idle (bare_traffic t) (bare (waiting v)) (received v) (bare (waiting w)) (received w) (ap bare_traffic h.1) (ap (λ x. bare (waiting x)) h.0) (ap received h.0 ∙ packets_skipped v.rx_buffer)
-  step (Process c ip payload) v t w h =
-      let packet = whole_packet (facts c).checksums ip payload in
-      queueing (bare_traffic t) (takes (length packet) v.rx_buffer) (tt, packet) (bare (waiting v)) (received v) (bare (waiting w)) (received w) (ap bare_traffic h.2) (ap (λ x. bare (waiting x)) h.0) h.1
+  step : (k : AnyCall Call (Unit {0}) SendError C E F G) (v : View) (t : Transfers (Unit {0}) Outgoing) (w : View) → AnyEffect facts emit write k v t w → InOrder (bare_traffic t) (bare (waiting v)) (received v) (bare (waiting w)) (received w)
+  step (Plain k) v t w h = by_transfers (ap bare_traffic h.1) (keeps k v w h.0)
+  step (SendWith size m f r) v t w h = written r size m f v t w h.0 (ap received h.1)
   step (Dispatch before after f r) v t w h =
-      departing (bare_traffic t) (is_ok r) h.0.planned (bare (waiting v)) (received v) (bare (waiting w)) (received w) (ap bare_traffic h.1 ∙ bare_departs (is_ok r) h.0.planned (waiting v))
-      (ap bare h.0.queue ∙ bare_removed (is_ok r) (is_sent (facts before).checksums.ipv4) (waiting v)) (ap received h.0.same)
+      by_transfers (ap bare_traffic h.1 ∙ bare_departs (is_ok r) h.0.planned (waiting v))
+      (departing (is_ok r) h.0.planned (ap bare h.0.queue ∙ bare_removed (is_ok r) (is_sent (facts before).checksums.ipv4) (waiting v)) (ap received h.0.same))
 
-  pub in_order : (calls : List (Call C E F G)) (v w : View) (t : Transfers (Unit {0}) Outgoing) → Runs (Effect facts emit write) calls v t w → InOrder (bare_traffic t) (bare (waiting v)) (received v) (bare (waiting w)) (received w)
-  in_order calls v w t h = runs (Effect facts emit write) (λ x. bare (waiting x)) received bare_traffic refl bare_both step calls v t w h
+  pub in_order : (calls : List (AnyCall Call (Unit {0}) SendError C E F G)) (v w : View) (t : Transfers (Unit {0}) Outgoing) → Runs (AnyEffect facts emit write) calls v t w → InOrder (bare_traffic t) (bare (waiting v)) (received v) (bare (waiting w)) (received w)
+  in_order calls v w t h = runs (AnyEffect facts emit write) (λ x. bare (waiting x)) received bare_traffic refl bare_both step calls v t w h

@@ -37,7 +37,7 @@ use denote.Follow.{follows, follows_then}
 use denote.Laws.{Is, Typed, shows}
 use denote.Lend.{lends_again, comes_back, LentAgain}
 use denote.Param.{arg, layout}
-use denote.Param.Laws.{Laws, arg_laws}
+use denote.Param.Laws.{Laws}
 use denote.Plain.{uint_vals, uint_Tells, uint_Makes}
 use denote.RattleType.{RattleType, owns}
 use denote.Ref.{MutBor, MutRef, NamedLft, mut_vals, mut_Tells}
@@ -76,7 +76,7 @@ use denote.Model.{View}
 use denote.Param.Laws.{Told}
 use denote.Triple.Clauses.{Clauses, Ended, closing}
 use denote.Triple.Spec.{Meets}
-use Rattle.std.specs.Prelude.{IfOk, Option}
+use Rattle.std.specs.Prelude.{IfOk}
 
 refused : (t : Bool) → T (not t) → t ≡ false
 refused true h = absurd h

@@ -1,9 +1,9 @@
 -- What the datagram sockets share: queues of packets, each with metadata.
-use Rattle.std.specs.Prelude.{ℕ, List, [], ◌∷◌, ◌++◌, length, nat_lt, Bool, not, ◌==◌, Option, None, Some, Result, Ok}
+use Rattle.std.specs.Prelude.{ℕ, ◌≡◌, List, [], ◌∷◌, ◌++◌, length, nat_lt, Bool, not, ◌==◌, Option, None, Some, Result, Ok}
 use Rattle.std.specs.Prelude.{Err, if◌then◌else◌}
 use Rattle.std.specs.Borrow.{Bor}
 use Rattle.net_base.specs.Ring.{overwrite}
-use Rattle.net_base.specs.Packets.{Packets, packets_with, end_of, made_room, takes}
+use Rattle.net_base.specs.Packets.{Packets, Dequeues, packets_with, end_of, made_room, takes}
 use Rattle.sock_core.specs.declared.context.PollAt.{PollAt}
 use Rattle.sock_core.specs.declared.context.PollAt.TheVariants as poll_at
 use Rattle.sock_dgram.specs.declared.error.RecvError.{RecvError}
@@ -52,11 +52,6 @@ module _ {M : Type 0} where
   take_answer None = Err recv_error.Exhausted
   take_answer (Some d) = Ok tt
 
-  -- the same with the packet, by value
-  abbrev pub read_answer : Option (M × List ℕ) → Result (M × List ℕ) RecvError
-  read_answer None = Err recv_error.Exhausted
-  read_answer (Some d) = Ok d
-
   -- an answer that lends the metadata, by value
   abbrev pub copied_of : Result (ℕ × Bor M) RecvError → Result (ℕ × M) RecvError
   copied_of (Ok r) = Ok (r.0, r.1.now)
@@ -76,6 +71,12 @@ module _ {M : Type 0} where
   abbrev pub copied : Option (M × List ℕ) → List ℕ → List ℕ
   copied None bs = bs
   copied (Some d) bs = if nat_lt (length bs) (length d.1) then bs else overwrite bs 0 d.1
+
+  -- the first packet left, if there was one, of the receive queue that is read by `rx`, and put into a socket by
+  -- `with_rx`
+  pub record TakesBy {V : Type 0} (rx : V → Packets M) (with_rx : V → Packets M → V) (old new : V) : Type 0 where
+    pub queue : Dequeues (rx old) (rx new)
+    pub same : new ≡ with_rx old (rx new)
 
   -- ---- sending n bytes or these bytes, where `sendable` says whether the addresses allow it: they come first, then the
   -- room. The transmit buffer of a socket is read by `tx`, and put into it by `with_tx`

@@ -1,36 +1,23 @@
 -- What contracts see of an ICMP socket, and what its calls do to it.
-use Rattle.std.specs.Prelude.{ℕ, List, Option, None, Result, Ok, Err, Bool, true, false, not, ◌==◌, if◌then◌else◌}
+use Rattle.std.specs.Prelude.{ℕ, List, Result, Ok, Err, Bool, true, false, not, ◌==◌, if◌then◌else◌}
 use Rattle.ip_wire.specs.Address.{is_unspecified}
 use Rattle.ip_wire.specs.declared.address.IpAddress.{IpAddress}
-use Rattle.net_base.specs.Packets.{Packets, packets}
+use Rattle.net_base.specs.Packets.{Packets}
+use Rattle.sock_dgram.specs.Addressed as addressed
 use Rattle.sock_dgram.specs.Datagrams.{send_answer_if, after_send_if, refused_send_if}
 use Rattle.sock_dgram.specs.declared.error.BindError.{BindError}
 use Rattle.sock_dgram.specs.declared.error.BindError.TheVariants as bind_error
 use Rattle.sock_dgram.specs.declared.error.SendError.{SendError}
 use Rattle.sock_dgram.specs.declared.icmp.endpoint.Endpoint.{Endpoint}
 use Rattle.sock_dgram.specs.declared.icmp.endpoint.Endpoint.TheVariants as endpoint
+pub use Rattle.sock_dgram.specs.Addressed.{with_rx, with_tx, received, waiting, after_bind}
 
-pub record View : Type 0 where
-  pub endpoint : Endpoint  -- what the socket is bound to; `Unspecified` where it is not open
-  pub rx_buffer : Packets IpAddress
-  pub tx_buffer : Packets IpAddress
-  pub hop_limit : Option ℕ
+-- `Unspecified` as the endpoint where the socket is not open
+abbrev pub View : Type 0
+View = addressed.View Endpoint IpAddress
 
 abbrev pub fresh : Packets IpAddress → Packets IpAddress → View
-fresh rx tx = record { endpoint = endpoint.Unspecified; rx_buffer = rx; tx_buffer = tx; hop_limit = None }
-
-abbrev pub with_rx : View → Packets IpAddress → View
-with_rx v p = record v { rx_buffer = p }
-
-abbrev pub with_tx : View → Packets IpAddress → View
-with_tx v p = record v { tx_buffer = p }
-
--- the messages that came and were not read, and those that were not emitted yet, the oldest first
-abbrev pub received : View → List (IpAddress × List ℕ)
-received v = packets v.rx_buffer.entries
-
-abbrev pub waiting : View → List (IpAddress × List ℕ)
-waiting v = packets v.tx_buffer.entries
+fresh rx tx = addressed.bound_to endpoint.Unspecified rx tx
 
 -- ---- opening
 
@@ -54,11 +41,6 @@ abbrev pub bind_answer : View → Endpoint → Result (Unit {0}) BindError
 bind_answer v e =
     if is_specified e then (if is_open v then Err bind_error.InvalidState else Ok tt)
     else Err bind_error.Unaddressable
-
--- a refusal changes nothing
-abbrev pub after_bind : Result (Unit {0}) BindError → View → Endpoint → View
-after_bind (Ok u) v e = record v { endpoint = e }
-after_bind (Err x) v e = v
 
 -- ---- sending
 

@@ -1,5 +1,6 @@
 -- `dispatch` of an ICMP socket.
-use Rattle.std.specs.Prelude.{ℕ, ◌≡◌, List, drop, cond, Option, None, Some, Result, is_ok, true, false}
+use Rattle.std.specs.Prelude.{ℕ, ◌≡◌, List, Option, None, Some, Result, false}
+use Rattle.ip_wire.specs.IpHeader.{ipv4_header, ipv6_header}
 use Rattle.ip_wire.specs.declared.address.IpAddress.{IpAddress}
 use Rattle.ip_wire.specs.declared.address.IpAddress.TheVariants as address
 use Rattle.ip_wire.specs.declared.address.Ipv4Address.{Ipv4Address}
@@ -12,11 +13,11 @@ use Rattle.ip_wire.specs.declared.repr.Ipv6Repr.{Ipv6Repr}
 use Rattle.control_wire.specs.Icmp.{Message, message_len, message_v4, message_v6, icmpv4_parsed, icmpv6_parsed}
 use Rattle.control_wire.specs.declared.icmp.IcmpRepr.{IcmpRepr}
 use Rattle.control_wire.specs.declared.icmp.IcmpRepr.TheVariants as icmp
-use Rattle.net_base.specs.Packets.{first_packet, Dequeues, skipped}
-use Rattle.sock_core.specs.Emission.{Emit, Emits}
+use Rattle.net_base.specs.Packets.{first_packet}
+use Rattle.sock_core.specs.Emission.{Emit}
 use Rattle.sock_core.specs.Facts.{Facts}
-use Rattle.sock_dgram.specs.Icmp.{View, waiting}
-use Rattle.sock_dgram.specs.UdpDispatch.{hops_of}
+use Rattle.sock_dgram.specs.Addressed.{Dispatches, hops_of}
+use Rattle.sock_dgram.specs.Icmp.{View}
 
 -- a message of either version by value
 pub data AnyMessage : Type 0 where
@@ -41,34 +42,17 @@ Counts (header.Ipv4 h) (OverIpv4 m) = h.payload_len ≡ message_len 20 m
 Counts (header.Ipv6 h) (OverIpv6 m) = h.payload_len ≡ message_len 40 m
 Counts _ _ = ⊥
 
--- a malformed message is not sent; the others have this hop limit
+-- a malformed message is not sent; the others in a packet with this header, which is longer by the message
+abbrev pub in_packet : {H : Type 0} → (ℕ → IpRepr) → (Message H → AnyMessage) → ℕ → Option (Message H)
+    → Option Outgoing
+in_packet ip any quoted None = None
+in_packet ip any quoted (Some m) = Some (record { ip = ip (message_len quoted m); message = any m })
+
 abbrev pub from_ipv4 : ℕ → Ipv4Address → Ipv4Address → Option (Message Ipv4Repr) → Option Outgoing
-from_ipv4 hops src dst None = None
-from_ipv4 hops src dst (Some m) =
-    Some (record {
-      ip = header.Ipv4 (record {
-        src_addr = src;
-        dst_addr = dst;
-        next_header = protocol.Icmp;
-        payload_len = message_len 20 m;
-        hop_limit = hops;
-      });
-      message = OverIpv4 m;
-    })
+from_ipv4 hops src dst m = in_packet (λ n. ipv4_header src dst protocol.Icmp n hops) OverIpv4 20 m
 
 abbrev pub from_ipv6 : ℕ → Ipv6Address → Ipv6Address → Option (Message Ipv6Repr) → Option Outgoing
-from_ipv6 hops src dst None = None
-from_ipv6 hops src dst (Some m) =
-    Some (record {
-      ip = header.Ipv6 (record {
-        src_addr = src;
-        dst_addr = dst;
-        next_header = protocol.Icmpv6;
-        payload_len = message_len 40 m;
-        hop_limit = hops;
-      });
-      message = OverIpv6 m;
-    })
+from_ipv6 hops src dst m = in_packet (λ n. ipv6_header src dst protocol.Icmpv6 n hops) OverIpv6 40 m
 
 -- nor one over IPv4 without a source
 abbrev pub from_source : ℕ → Option Ipv4Address → Ipv4Address → List ℕ → Option Outgoing
@@ -88,13 +72,7 @@ from_first v f (Some d) = to_remote (hops_of v.hop_limit) f d.0 d.1
 abbrev pub outgoing : View → Facts → Option Outgoing
 outgoing v f = from_first v f (first_packet v.tx_buffer)
 
--- the whole: at Ok the first message leaves; at Err it stays first, and the next dispatch in the same context offers it
--- again
-pub record Dispatched {F C E : Type 0} (g : Emit F C (IpRepr × IcmpRepr) E) (f : F) (v : View)
-    (facts : Facts) (c : C) (r : Result (Unit {0}) E) (c' : C) (w : View) : Type 0 where
-  pub emits : Emits g outgoing_of f (outgoing v facts) c r c'
-  pub queue : waiting w ≡ cond (is_ok r) (drop 1 (waiting v)) (waiting v)
-  pub sent : is_ok r ≡ true → Dequeues v.tx_buffer w.tx_buffer
-  pub failed : is_ok r ≡ false → w.tx_buffer ≡ skipped v.tx_buffer
-  pub again : is_ok r ≡ false → outgoing w facts ≡ outgoing v facts
-  pub same : w ≡ record v { tx_buffer = w.tx_buffer }
+-- the one call of `emit`, and what becomes of the queue
+abbrev pub Dispatched : {F C E : Type 0} → Emit F C (IpRepr × IcmpRepr) E → F → View → Facts → C
+    → Result (Unit {0}) E → C → View → Type 0
+Dispatched g f v facts c r c' w = Dispatches (λ x. outgoing x facts) outgoing_of g f v c r c' w

@@ -2,25 +2,17 @@
 use Rattle.std.specs.Prelude.{◌≡◌, ℕ, List, length, Result}
 use Rattle.std.specs.Borrow.{LendsSoOk, MutBor, Fml, Array, u8}
 use Rattle.ip_wire.specs.declared.address.IpAddress.{IpAddress}
-use Rattle.sock_dgram.specs.Lends.{TakesBy, TakesFirstBy}
-use Rattle.sock_dgram.specs.Icmp.{View, with_rx, after_send, refused_send}
+use Rattle.sock_dgram.specs.Lends.{lent_first}
+use Rattle.sock_dgram.specs.Icmp.{View, after_send, refused_send}
 use Rattle.sock_dgram.specs.declared.error.SendError.{SendError}
 use Rattle.sock_dgram.specs.contracts.icmp.socket.Socket.{the_row}
 use denote.RattleType.{RattleType}
-use mir.Syntax.{named}
-use mathlib.Core.List.{[]}
 
-abbrev socket : RattleType
-socket = the_row (record { mir = named 1; lft = [] })
-
-abbrev pub Takes : View → View → Type 0
-Takes = TakesBy (λ v. v.rx_buffer) with_rx
-
-abbrev pub TakesFirst : MutBor View → Fml
-TakesFirst = TakesFirstBy socket (λ v. v.rx_buffer) with_rx
+abbrev pub lender : RattleType
+lender = lent_first the_row
 
 -- `send_slice` of the bytes that stand in the slice as the loan ends
 abbrev pub LendsMessage : ℕ → IpAddress → MutBor View → Result (MutBor (List ℕ)) SendError → Fml
 LendsMessage size m s r =
-    LendsSoOk socket (Array u8 0) s r (λ v w. length w ≡ size → v ≡ after_send s.now m w)
+    LendsSoOk lender (Array u8 0) s r (λ v w. length w ≡ size → v ≡ after_send s.now m w)
     (λ v. v ≡ refused_send s.now m size)

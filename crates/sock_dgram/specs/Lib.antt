@@ -1,3 +1,4 @@
+pub mod Addressed
 pub mod Datagrams
 pub mod Icmp
 pub mod IcmpCalls

@@ -8,6 +8,7 @@ use Rattle.ip_wire.specs.declared.protocol.IpVersion.{IpVersion}
 use Rattle.ip_wire.specs.declared.protocol.IpProtocol.{IpProtocol}
 use Rattle.ip_wire.specs.declared.repr.IpRepr.{IpRepr}
 use Rattle.net_base.specs.Packets.{Packets, packets, takes}
+use Rattle.sock_dgram.specs.Datagrams.{TakesBy}
 use Rattle.sock_dgram.specs.declared.raw.error.SendError.{SendError}
 use Rattle.sock_dgram.specs.declared.raw.error.SendError.TheVariants as send_error
 
@@ -22,6 +23,10 @@ fresh version protocol rx tx = record { ip_version = version; ip_protocol = prot
 
 abbrev pub with_rx : View → Packets (Unit {0}) → View
 with_rx v p = record v { rx_buffer = p }
+
+-- the first packet of the receive queue left, if there was one
+abbrev pub Takes : View → View → Type 0
+Takes = TakesBy (λ v. v.rx_buffer) with_rx
 
 -- the packets that came and were not read, and those that were not emitted yet, the oldest first
 abbrev pub received : View → List (Unit {0} × List ℕ)

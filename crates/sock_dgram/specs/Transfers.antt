@@ -1,6 +1,6 @@
 -- Lists of calls of a datagram socket: what they put into its two queues, and what leaves these.
 use Rattle.std.specs.Prelude.{ℕ, ◌≡◌, List, [], ◌∷◌, ◌++◌, length, map, take, cond, Bool, Option, None, Some}
-use Rattle.std.specs.Prelude.{Result, Ok, Err, IfOk, true}
+use Rattle.std.specs.Prelude.{Result, Ok, Err, IfOk, OnErr, true}
 use Rattle.std.specs.Borrow.{MutBor}
 use Rattle.std.specs.Fn.{Once, FnOnceReturnsAtMut}
 use Rattle.net_base.specs.Packets.{Packets, packets, first_packet, Enqueues}
@@ -104,13 +104,25 @@ pub record Copies {M : Type 0} (old : Packets M) (slice left : List ℕ) (r : Re
 
 -- ---- what `send_with` puts behind the transmit queue: the bytes that the closure left, as many as it answered
 
-module _ {M O G E : Type 0} (write : Once G (MutBor (List ℕ) × Unit {0}) (ℕ × (MutBor (List ℕ) × Unit {0}))) where
-  abbrev pub Written : Result ℕ E → ℕ → M → G → Packets M → Transfers M O → Packets M → Type 0
+module _ {M G E : Type 0} (write : Once G (MutBor (List ℕ) × Unit {0}) (ℕ × (MutBor (List ℕ) × Unit {0}))) where
+  abbrev pub Writes : Result ℕ E → ℕ → M → G → Packets M → Packets M → Type 0
+  Writes r size m f old new = IfOk r (λ kept. Enqueues (FnOnceReturnsAtMut write f) size m old kept new)
+      × OnErr r (packets new.entries ≡ packets old.entries)
+
+  abbrev pub Written : {O : Type 0} → Result ℕ E → ℕ → M → G → Packets M → Transfers M O → Packets M → Type 0
   Written (Ok kept) size m f old t new =
-      (e : Enqueues (FnOnceReturnsAtMut write f) size m old kept new) × (t ≡ sends true (m, take kept e.appends.left))
-  Written (Err x) size m f old t new = (packets new.entries ≡ packets old.entries) × (t ≡ nothing)
+      (h : Writes (Ok kept) size m f old new) × (t ≡ sends true (m, take kept h.0.appends.left))
+  Written (Err x) size m f old t new = Writes (Err x) size m f old new × (t ≡ nothing)
 
 -- ---- lists of calls
+
+-- a call that takes no closure, of type K, or one that does, with what it is given and what it answers: M is the
+-- metadata of a packet, and S why a send is refused; C, E and F are the context, the error and the closure of
+-- `dispatch`, whose context stands as it was before and after the call; G is the closure of `send_with`
+pub data AnyCall (K M S C E F G : Type 0) : Type 0 where
+  Plain : K → AnyCall K M S C E F G
+  SendWith : ℕ → M → G → Result ℕ S → AnyCall K M S C E F G
+  Dispatch : (before after : C) → F → Result (Unit {0}) E → AnyCall K M S C E F G
 
 -- one call after the other, each with its effect, from the one socket to the other
 abbrev pub Runs : {V K M O : Type 0} → (K → V → Transfers M O → V → Type 0) → List K → V → Transfers M O → V → Type 0

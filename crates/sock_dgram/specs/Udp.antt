@@ -7,32 +7,19 @@ use Rattle.ip_wire.specs.declared.address.IpAddress.{IpAddress}
 use Rattle.ip_wire.specs.declared.endpoint.IpListenEndpoint.{IpListenEndpoint}
 use Rattle.ip_wire.specs.declared.repr.IpRepr.{IpRepr}
 use Rattle.control_wire.specs.declared.udp.UdpRepr.{UdpRepr}
-use Rattle.net_base.specs.Packets.{Packets, packets}
+use Rattle.net_base.specs.Packets.{Packets}
 use Rattle.sock_core.specs.Facts.{Facts}
+use Rattle.sock_dgram.specs.Addressed as addressed
 use Rattle.sock_dgram.specs.Datagrams.{emptied, send_answer_if, after_send_if, refused_send_if}
 use Rattle.sock_dgram.specs.declared.udp.socket.UdpMetadata.{UdpMetadata}
 use Rattle.sock_dgram.specs.declared.error.BindError.{BindError}
 use Rattle.sock_dgram.specs.declared.error.BindError.TheVariants as bind_error
 use Rattle.sock_dgram.specs.declared.error.SendError.{SendError}
+pub use Rattle.sock_dgram.specs.Addressed.{with_rx, with_tx, received, waiting, after_bind}
 
-pub record View : Type 0 where
-  pub endpoint : IpListenEndpoint  -- what the socket is bound to; port 0 where it is not open
-  pub rx_buffer : Packets UdpMetadata
-  pub tx_buffer : Packets UdpMetadata
-  pub hop_limit : Option ℕ
-
-abbrev pub with_rx : View → Packets UdpMetadata → View
-with_rx v p = record v { rx_buffer = p }
-
-abbrev pub with_tx : View → Packets UdpMetadata → View
-with_tx v p = record v { tx_buffer = p }
-
--- the datagrams that came and were not read, and those that were not emitted yet, the oldest first
-abbrev pub received : View → List (UdpMetadata × List ℕ)
-received v = packets v.rx_buffer.entries
-
-abbrev pub waiting : View → List (UdpMetadata × List ℕ)
-waiting v = packets v.tx_buffer.entries
+-- port 0 of the endpoint where the socket is not open
+abbrev pub View : Type 0
+View = addressed.View IpListenEndpoint UdpMetadata
 
 -- ---- opening and closing
 
@@ -40,7 +27,7 @@ abbrev pub no_endpoint : IpListenEndpoint
 no_endpoint = record { addr = None; port = 0 }
 
 abbrev pub fresh : Packets UdpMetadata → Packets UdpMetadata → View
-fresh rx tx = record { endpoint = no_endpoint; rx_buffer = rx; tx_buffer = tx; hop_limit = None }
+fresh rx tx = addressed.bound_to no_endpoint rx tx
 
 abbrev pub is_open : View → Bool
 is_open v = not (v.endpoint.port == 0)
@@ -50,11 +37,6 @@ abbrev pub bind_answer : View → IpListenEndpoint → Result (Unit {0}) BindErr
 bind_answer v e =
     if e.port == 0 then Err bind_error.Unaddressable
     else (if is_open v then Err bind_error.InvalidState else Ok tt)
-
--- a refusal changes nothing
-abbrev pub after_bind : Result (Unit {0}) BindError → View → IpListenEndpoint → View
-after_bind (Ok u) v e = record v { endpoint = e }
-after_bind (Err x) v e = v
 
 abbrev pub closed : View → View
 closed v = record v { endpoint = no_endpoint; rx_buffer = emptied v.rx_buffer; tx_buffer = emptied v.tx_buffer }

@@ -1,6 +1,5 @@
 -- `dispatch` of a UDP socket.
-use Rattle.std.specs.Prelude.{ℕ, ◌≡◌, ◌+◌, List, drop, length, cond, Option, None, Some, Result, is_ok, true, false}
-use Rattle.std.specs.Prelude.{if◌then◌else◌}
+use Rattle.std.specs.Prelude.{ℕ, ◌+◌, List, length, Option, None, Some, Result, if◌then◌else◌}
 use Rattle.std.specs.Borrow.{Bor}
 use Rattle.ip_wire.specs.IpHeader.{ip_header}
 use Rattle.ip_wire.specs.declared.address.IpAddress.{IpAddress}
@@ -8,17 +7,14 @@ use Rattle.ip_wire.specs.declared.protocol.IpProtocol.TheVariants as protocol
 use Rattle.ip_wire.specs.declared.repr.IpRepr.{IpRepr}
 use Rattle.control_wire.specs.Datagram.{udp_header_len}
 use Rattle.control_wire.specs.declared.udp.UdpRepr.{UdpRepr}
-use Rattle.net_base.specs.Packets.{first_packet, Dequeues, skipped}
+use Rattle.net_base.specs.Packets.{first_packet}
 use Rattle.sock_core.specs.Facts.{Facts}
-use Rattle.sock_core.specs.Emission.{Emit, Emits}
+use Rattle.sock_core.specs.Emission.{Emit}
 use Rattle.ip_wire.specs.Address.{same_version}
-use Rattle.sock_dgram.specs.Udp.{View, waiting, known_source}
+use Rattle.sock_dgram.specs.Addressed.{Dispatches}
+use Rattle.sock_dgram.specs.Udp.{View, known_source}
 use Rattle.sock_dgram.specs.declared.udp.socket.UdpMetadata.{UdpMetadata}
-
--- the hop limit where none is set (RFC 1122, section 3.2.1.7)
-abbrev pub hops_of : Option ℕ → ℕ
-hops_of None = 64
-hops_of (Some n) = n
+pub use Rattle.sock_dgram.specs.Addressed.{hops_of}
 
 -- a datagram that goes out
 pub record Outgoing : Type 0 where
@@ -60,13 +56,7 @@ outgoing_of s = record { ip = s.0; udp = s.1; payload = s.2.now }
 abbrev pub outgoing_with : List ℕ → IpRepr × UdpRepr → Outgoing
 outgoing_with payload s = record { ip = s.0; udp = s.1; payload = payload }
 
--- the whole: at Ok the first datagram leaves; at Err it stays first, and the next dispatch in the same context offers
--- it again
-pub record Dispatched {F C E : Type 0} (g : Emit F C (IpRepr × UdpRepr × Bor (List ℕ)) E) (f : F) (v : View)
-    (facts : Facts) (c : C) (r : Result (Unit {0}) E) (c' : C) (w : View) : Type 0 where
-  pub emits : Emits g outgoing_of f (outgoing v facts) c r c'
-  pub queue : waiting w ≡ cond (is_ok r) (drop 1 (waiting v)) (waiting v)
-  pub sent : is_ok r ≡ true → Dequeues v.tx_buffer w.tx_buffer
-  pub failed : is_ok r ≡ false → w.tx_buffer ≡ skipped v.tx_buffer
-  pub again : is_ok r ≡ false → outgoing w facts ≡ outgoing v facts
-  pub same : w ≡ record v { tx_buffer = w.tx_buffer }
+-- the one call of `emit`, and what becomes of the queue
+abbrev pub Dispatched : {F C E : Type 0} → Emit F C (IpRepr × UdpRepr × Bor (List ℕ)) E → F → View → Facts → C
+    → Result (Unit {0}) E → C → View → Type 0
+Dispatched g f v facts c r c' w = Dispatches (λ x. outgoing x facts) outgoing_of g f v c r c' w

@@ -8,7 +8,6 @@ mod process;
 mod receive;
 mod send;
 pub mod socket;
-pub mod steps;
 
 pub use crate::error::{BindError, RecvError, SendError};
 pub use endpoint::Endpoint;

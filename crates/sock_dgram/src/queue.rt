@@ -1,10 +1,31 @@
-//! What the datagram sockets share: adding a packet to a queue, and copying its first one.
+//! What the datagram sockets share: adding a packet to a queue, copying its first one, and the moment and the hop limit of
+//! what is sent.
 ghost use Rattle.std.specs.Prelude.{◌≡◌, ◌+◌, ◌++◌, [], ◌∷◌, length, take, drop, min, cond, false};
 ghost use Rattle.net_base.specs.Packets.{packets, takes, first_packet, starts_padded, Dequeues};
-ghost use Rattle.sock_dgram.specs.Datagrams.{stored, copied_of, copy_answer, copied};
+ghost use Rattle.sock_dgram.specs.Addressed.{hops_of};
+ghost use Rattle.sock_dgram.specs.Datagrams.{stored, copied_of, copy_answer, copied, poll_moment};
 
 use crate::error::RecvError;
 use net_base::packet_buffer::PacketBuffer;
+use sock_core::PollAt;
+
+// The hop limit of what is sent: 64 where none is set (RFC 1122, section 3.2.1.7).
+pub(crate) fn hops_of(hop_limit: Option<u8>) -> u8
+    ensures { result ≡ hops_of hop_limit }
+{
+    hop_limit.unwrap_or(64)
+}
+
+// When a socket with this transmit buffer wants its next dispatch.
+pub(crate) fn poll_moment<M: Copy>(tx_buffer: &PacketBuffer<'_, M>) -> PollAt
+    ensures { result ≡ poll_moment tx_buffer.now }
+{
+    if tx_buffer.is_empty() {
+        PollAt::Ingress
+    } else {
+        PollAt::Now
+    }
+}
 
 // Writes as many bytes of a beginning of `data` as fit to the beginning of `lent`, and answers how many.
 fn filled(lent: &mut [u8], data: &[u8]) -> usize

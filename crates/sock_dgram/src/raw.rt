@@ -7,7 +7,6 @@ mod process;
 mod receive;
 mod send;
 pub mod socket;
-pub mod steps;
 
 pub use crate::error::{BindError, RecvError};
 pub use error::SendError;

@@ -5,9 +5,10 @@ ghost use Rattle.net_base.specs.Packets.{starts_padded};
 ghost use Rattle.sock_core.specs.Emission.{Emits};
 ghost use Rattle.sock_dgram.specs.IcmpDispatch.{Counts, any_message, from_ipv4, from_ipv6, to_remote, outgoing};
 ghost use Rattle.sock_dgram.specs.IcmpDispatch.{outgoing_of, Dispatched};
-ghost use Rattle.sock_dgram.specs.UdpDispatch.{hops_of};
+ghost use Rattle.sock_dgram.specs.Addressed.{hops_of};
 
 use crate::icmp::socket::Socket;
+use crate::queue::hops_of;
 use control_wire::{IcmpRepr, Icmpv4Repr, Icmpv6Repr};
 use ip_wire::{
     ChecksumCapabilities, IpAddress, IpProtocol, IpRepr, Ipv4Address, Ipv4Repr, Ipv6Address,
@@ -15,16 +16,7 @@ use ip_wire::{
 };
 use sock_core::Context;
 
-// The hop limit where none is set (RFC 1122, section 3.2.1.7).
-const DEFAULT_HOP_LIMIT: u8 = 64;
-
 impl<'a> Socket<'a> {
-    fn hops(&self) -> u8
-        ensures { result ≡ hops_of self.now.hop_limit }
-    {
-        self.hop_limit.unwrap_or(DEFAULT_HOP_LIMIT)
-    }
-
     fn outgoing_v4<'b>(
         &self,
         src_addr: Ipv4Address,
@@ -41,7 +33,7 @@ impl<'a> Socket<'a> {
             dst_addr,
             next_header: IpProtocol::Icmp,
             payload_len: repr.buffer_len(),
-            hop_limit: self.hops(),
+            hop_limit: hops_of(self.hop_limit),
         };
         Some((IpRepr::Ipv4(ip_repr), IcmpRepr::Ipv4(repr)))
     }
@@ -64,7 +56,7 @@ impl<'a> Socket<'a> {
             dst_addr,
             next_header: IpProtocol::Icmpv6,
             payload_len: repr.buffer_len(),
-            hop_limit: self.hops(),
+            hop_limit: hops_of(self.hop_limit),
         };
         Some((IpRepr::Ipv6(ip_repr), IcmpRepr::Ipv6(repr)))
     }

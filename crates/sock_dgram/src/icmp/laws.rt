@@ -2,9 +2,10 @@
 ghost use Rattle.std.specs.Prelude.{List};
 ghost use Rattle.ip_wire.specs.declared.address.IpAddress.{IpAddress};
 ghost use Rattle.sock_dgram.specs.Icmp.{View, received, waiting};
-ghost use Rattle.sock_dgram.specs.IcmpCalls.{Call, Effect};
+ghost use Rattle.sock_dgram.specs.IcmpCalls.{AnyEffect, Call};
 ghost use Rattle.sock_dgram.specs.IcmpDispatch.{Outgoing};
-ghost use Rattle.sock_dgram.specs.Transfers.{InOrder, Runs, Transfers};
+ghost use Rattle.sock_dgram.specs.Transfers.{AnyCall, InOrder, Runs, Transfers};
+ghost use Rattle.sock_dgram.specs.declared.error.SendError.{SendError};
 
 use control_wire::IcmpRepr;
 use ip_wire::IpRepr;
@@ -15,15 +16,15 @@ use sock_core::Context;
 /// was received, with what a short slice dropped at its place, followed by what then waits, is what waited at the
 /// start, followed by what `process_v4` and `process_v6` queued since, in this order.
 ///
-/// A `send` comes into the list as the `send_slice` of the bytes that are left in what it lends, as its own contract
-/// says. The calls of a list share the types of their contexts, errors and closures.
+/// What each call does to the socket is what its own contract says. A `send` comes into the list as the `send_slice` of
+/// the bytes that are left in what it lends. The calls of a list share the types of their contexts, errors and closures.
 pub fn datagrams_keep_their_order<
     C: Context,
     E,
     F: FnOnce(&mut C, (IpRepr, IcmpRepr<'_>)) -> Result<(), E>,
     G: FnOnce(&mut [u8]) -> usize,
 >()
-    ensures { (calls : List (Call C E F G)) (v w : View) (t : Transfers IpAddress Outgoing)
-        → Runs (Effect C.facts F.FnOnce G.FnOnce) calls v t w
+    ensures { (calls : List (AnyCall Call IpAddress SendError C E F G)) (v w : View)
+        (t : Transfers IpAddress Outgoing) → Runs (AnyEffect C.facts F.FnOnce G.FnOnce) calls v t w
         → InOrder t (waiting v) (received v) (waiting w) (received w) }
 {}

@@ -6,6 +6,7 @@ ghost use Rattle.net_base.specs.Packets.{takes};
 ghost use Rattle.ip_wire.specs.declared.address.IpAddress.TheVariants as address;
 ghost use Rattle.sock_dgram.specs.Datagrams.{stored_as};
 ghost use Rattle.sock_dgram.specs.Icmp.{received};
+ghost use Rattle.sock_dgram.specs.IcmpCalls.{Effect, ProcessV4, ProcessV6};
 ghost use Rattle.sock_dgram.specs.IcmpKinds.{with_body};
 ghost use Rattle.sock_dgram.specs.IcmpFilter.{Accepts, Ends, TakesError, TakesIdent, WritesV4, WritesV6, ends_v4};
 ghost use Rattle.sock_dgram.specs.IcmpFilter.{ends_v6, octets_v4, octets_v6, queued_v4, queued_v6};
@@ -126,6 +127,7 @@ impl<'a> Socket<'a> {
             ≡ cond (takes (message_len 20 (message_v4 icmp_repr.now)) self.old.rx_buffer)
             (received self.old ++ (address.Ipv4 ip_repr.now.src_addr, octets_v4 (message_v4 icmp_repr.now)) ∷ [])
             (received self.old) }
+        ensures effect { Effect (ProcessV4 ip_repr.now (message_v4 icmp_repr.now)) self.old self.new }
     {
         let remote = IpAddress::Ipv4(ip_repr.src_addr);
         store_v4(&mut self.rx_buffer, remote, icmp_repr);
@@ -147,6 +149,7 @@ impl<'a> Socket<'a> {
             (received self.old
             ++ (address.Ipv6 ip_repr.now.src_addr, octets_v6 ip_repr.now (message_v6 icmp_repr.now)) ∷ [])
             (received self.old) }
+        ensures effect { Effect (ProcessV6 ip_repr.now (message_v6 icmp_repr.now)) self.old self.new }
     {
         let remote = IpAddress::Ipv6(ip_repr.src_addr);
         store_v6(&mut self.rx_buffer, remote, ip_repr, icmp_repr);

@@ -3,6 +3,7 @@ ghost use Rattle.std.specs.Prelude.{◌≡◌, length, Some, IfOk};
 ghost use Rattle.std.specs.Borrow.{sem};
 ghost use Rattle.net_base.specs.Packets.{first_packet, Dequeues};
 ghost use Rattle.sock_dgram.specs.Datagrams.{answered, take_answer, copy_answer, copied};
+ghost use Rattle.sock_dgram.specs.IcmpCalls.{Effect, RecvSlice};
 
 use crate::error::RecvError;
 use crate::icmp::socket::Socket;
@@ -10,11 +11,13 @@ use crate::queue::take_into;
 use ip_wire::IpAddress;
 
 impl<'a> Socket<'a> {
-    ghost use Rattle.sock_dgram.specs.IcmpLends.{TakesFirst};
+    ghost use Rattle.sock_dgram.specs.Lends.{TakesFirst};
+    ghost use Rattle.sock_dgram.specs.Icmp.{with_rx};
+    ghost use Rattle.sock_dgram.specs.IcmpLends.{lender};
 
     /// Takes the first message of the receive queue, and lends its bytes. `Exhausted` where there is none.
     pub fn recv(&mut self) -> Result<(&[u8], IpAddress), RecvError>
-        ensures* after { sem 𝓛 (TakesFirst self.entry) }
+        ensures* after { sem 𝓛 (TakesFirst lender (λ v. v.rx_buffer) with_rx self.entry) }
         ensures answer { answered result ≡ take_answer (first_packet self.old.rx_buffer) }
         ensures value { IfOk result (λ r. first_packet self.old.rx_buffer ≡ Some (r.1, r.0.now)) }
     {
@@ -32,6 +35,7 @@ impl<'a> Socket<'a> {
         ensures bytes { «data».new ≡ copied (first_packet self.old.rx_buffer) «data».old }
         ensures queue { Dequeues self.old.rx_buffer self.new.rx_buffer }
         ensures same { self.new ≡ record self.old { rx_buffer = self.new.rx_buffer } }
+        ensures effect { Effect (RecvSlice «data».old «data».new result) self.old self.new }
     {
         take_into(&mut self.rx_buffer, data)
     }

@@ -7,7 +7,9 @@ ghost use Rattle.ip_wire.specs.Address.{is_unspecified};
 ghost use Rattle.net_base.specs.Packets.{made_room, end_of, Claims, Enqueues};
 ghost use Rattle.sock_dgram.specs.Datagrams.{answered};
 ghost use Rattle.sock_dgram.specs.Icmp.{waiting, send_answer, after_send, refused_send};
+ghost use Rattle.sock_dgram.specs.IcmpCalls.{Effect, SendSlice};
 ghost use Rattle.sock_dgram.specs.IcmpLends.{LendsMessage};
+ghost use Rattle.sock_dgram.specs.Transfers.{Writes};
 
 use crate::error::SendError;
 use crate::icmp::socket::Socket;
@@ -70,6 +72,7 @@ impl<'a> Socket<'a> {
         ensures refused { OnErr result (self.new ≡ refused_send self.old endpoint max_size) }
         ensures kept { OnErr result (waiting self.new ≡ waiting self.old) }
         ensures same { self.new ≡ record self.old { tx_buffer = self.new.tx_buffer } }
+        ensures effect { Writes F.FnOnce result max_size endpoint f self.old.tx_buffer self.new.tx_buffer }
     {
         if endpoint.is_unspecified() {
             return Err(SendError::Unaddressable);
@@ -88,6 +91,7 @@ impl<'a> Socket<'a> {
         ensures view { self.new ≡ after_send self.old endpoint «data».now }
         ensures queue { waiting self.new ≡ cond (is_ok result) (waiting self.old ++ (endpoint, «data».now) ∷ [])
             (waiting self.old) }
+        ensures effect { Effect (SendSlice «data».now endpoint result) self.old self.new }
     {
         if endpoint.is_unspecified() {
             return Err(SendError::Unaddressable);

@@ -3,9 +3,11 @@ ghost use Rattle.std.specs.Prelude.{◌≡◌, length, Some};
 ghost use Rattle.net_base.specs.Packets.{taken};
 ghost use Rattle.sock_dgram.specs.Datagrams.{has_place, has_entry, poll_moment};
 ghost use Rattle.sock_dgram.specs.Icmp.{fresh, is_open, bind_answer, after_bind};
+ghost use Rattle.sock_dgram.specs.IcmpCalls.{Bind, Effect, SetHopLimit};
 
 use crate::error::BindError;
 use crate::icmp::endpoint::Endpoint;
+use crate::queue::poll_moment;
 use ip_wire::IpAddress;
 use sock_core::{Context, PollAt};
 use std::marker::Model;
@@ -58,6 +60,7 @@ impl<'a> Socket<'a> {
     pub fn bind(&mut self, endpoint: Endpoint) -> Result<(), BindError>
         ensures answer { result ≡ bind_answer self.old endpoint }
         ensures view { self.new ≡ after_bind (bind_answer self.old endpoint) self.old endpoint }
+        ensures effect { Effect (Bind endpoint) self.old self.new }
     {
         if !endpoint.is_specified() {
             return Err(BindError::Unaddressable);
@@ -86,7 +89,8 @@ impl<'a> Socket<'a> {
     /// Sets the hop limit of what is sent, 1 to 255, or none for 64 (RFC 1122, section 3.2.1.7).
     pub fn set_hop_limit(&mut self, hop_limit: Option<u8>)
         requires { hop_limit ≡ Some 0 → ⊥ }
-        ensures { self.new ≡ record self.old { hop_limit = hop_limit } }
+        ensures view { self.new ≡ record self.old { hop_limit = hop_limit } }
+        ensures effect { Effect (SetHopLimit hop_limit) self.old self.new }
     {
         self.hop_limit = hop_limit;
     }
@@ -151,10 +155,6 @@ impl<'a> Socket<'a> {
     pub fn poll_at<C: Context>(&self, _cx: &C) -> PollAt
         ensures { result ≡ poll_moment self.now.tx_buffer }
     {
-        if self.tx_buffer.is_empty() {
-            PollAt::Ingress
-        } else {
-            PollAt::Now
-        }
+        poll_moment(&self.tx_buffer)
     }
 }

@@ -1,9 +1,10 @@
 //! Laws of raw sockets, in the words of the contracts.
 ghost use Rattle.std.specs.Prelude.{List};
 ghost use Rattle.sock_dgram.specs.Raw.{View, received, waiting};
-ghost use Rattle.sock_dgram.specs.RawCalls.{Call, Effect, bare, bare_traffic};
+ghost use Rattle.sock_dgram.specs.RawCalls.{AnyEffect, Call, bare, bare_traffic};
 ghost use Rattle.sock_dgram.specs.RawDispatch.{Outgoing};
-ghost use Rattle.sock_dgram.specs.Transfers.{InOrder, Runs, Transfers};
+ghost use Rattle.sock_dgram.specs.Transfers.{AnyCall, InOrder, Runs, Transfers};
+ghost use Rattle.sock_dgram.specs.declared.raw.error.SendError.{SendError};
 
 use ip_wire::IpRepr;
 use sock_core::Context;
@@ -14,15 +15,15 @@ use sock_core::Context;
 /// its place, followed by what then waits, is what waited at the start, followed by what `process` queued since, in
 /// this order.
 ///
-/// A `send` comes into the list as the `send_slice` of the bytes that are left in what it lends, as its own contract
-/// says. The calls of a list share the types of their contexts, errors and closures.
+/// What each call does to the socket is what its own contract says. A `send` comes into the list as the `send_slice` of
+/// the bytes that are left in what it lends. The calls of a list share the types of their contexts, errors and closures.
 pub fn datagrams_keep_their_order<
     C: Context,
     E,
     F: FnOnce(&mut C, (IpRepr, &[u8])) -> Result<(), E>,
     G: FnOnce(&mut [u8]) -> usize,
 >()
-    ensures { (calls : List (Call C E F G)) (v w : View) (t : Transfers (Unit {0}) Outgoing)
-        → Runs (Effect C.facts F.FnOnce G.FnOnce) calls v t w
+    ensures { (calls : List (AnyCall Call (Unit {0}) SendError C E F G)) (v w : View)
+        (t : Transfers (Unit {0}) Outgoing) → Runs (AnyEffect C.facts F.FnOnce G.FnOnce) calls v t w
         → InOrder (bare_traffic t) (bare (waiting v)) (received v) (bare (waiting w)) (received w) }
 {}

@@ -5,6 +5,7 @@ ghost use Rattle.ip_wire.specs.Checksum.{is_sent};
 ghost use Rattle.ip_wire.specs.Packet.{header_octets};
 ghost use Rattle.sock_dgram.specs.Datagrams.{stored};
 ghost use Rattle.sock_dgram.specs.Raw.{received, Accepts, whole_packet};
+ghost use Rattle.sock_dgram.specs.RawCalls.{Effect, Process};
 
 use crate::queue::store_both;
 use crate::raw::socket::Socket;
@@ -32,6 +33,7 @@ impl<'a> Socket<'a> {
         ensures queue { let packet = whole_packet (C.facts cx.now).checksums ip_repr.now payload.now in
             received self.new ≡ cond (takes (length packet) self.old.rx_buffer)
             (received self.old ++ (tt, packet) ∷ []) (received self.old) }
+        ensures effect { Effect (Process (C.facts cx.now) ip_repr.now payload.now) self.old self.new }
     {
         let caps = cx.checksum_caps();
         let mut octets = [0; 40];

@@ -3,17 +3,20 @@ ghost use Rattle.std.specs.Prelude.{◌≡◌, length, Some, IfOk};
 ghost use Rattle.std.specs.Borrow.{sem};
 ghost use Rattle.net_base.specs.Packets.{first_packet, skipped, Dequeues};
 ghost use Rattle.sock_dgram.specs.Datagrams.{answered, take_answer, copy_answer, copied, with_metadata};
+ghost use Rattle.sock_dgram.specs.RawCalls.{Effect, Peek, RecvSlice};
 
 use crate::error::RecvError;
 use crate::queue::{copy_first, take_into};
 use crate::raw::socket::Socket;
 
 impl<'a> Socket<'a> {
-    ghost use Rattle.sock_dgram.specs.RawLends.{TakesFirst, KeepsFirst};
+    ghost use Rattle.sock_dgram.specs.Lends.{TakesFirst, KeepsFirst};
+    ghost use Rattle.sock_dgram.specs.Raw.{with_rx};
+    ghost use Rattle.sock_dgram.specs.RawLends.{lender};
 
     /// Takes the first packet of the receive queue, and lends its bytes. `Exhausted` where there is none.
     pub fn recv(&mut self) -> Result<&[u8], RecvError>
-        ensures* after { sem 𝓛 (TakesFirst self.entry) }
+        ensures* after { sem 𝓛 (TakesFirst lender (λ v. v.rx_buffer) with_rx self.entry) }
         ensures answer { answered result ≡ take_answer (first_packet self.old.rx_buffer) }
         ensures value { IfOk result (λ bytes. first_packet self.old.rx_buffer ≡ Some (tt, bytes.now)) }
     {
@@ -23,7 +26,7 @@ impl<'a> Socket<'a> {
 
     /// Lends the bytes of the first packet of the receive queue, which stays. `Exhausted` where there is none.
     pub fn peek(&mut self) -> Result<&[u8], RecvError>
-        ensures* after { sem 𝓛 (KeepsFirst self.entry) }
+        ensures* after { sem 𝓛 (KeepsFirst lender (λ v. v.rx_buffer) with_rx self.entry) }
         ensures answer { answered result ≡ take_answer (first_packet self.old.rx_buffer) }
         ensures value { IfOk result (λ bytes. first_packet self.old.rx_buffer ≡ Some (tt, bytes.now)) }
     {
@@ -40,6 +43,7 @@ impl<'a> Socket<'a> {
         ensures answer { with_metadata tt result ≡ copy_answer (first_packet self.old.rx_buffer) (length «data».old) }
         ensures bytes { «data».new ≡ copied (first_packet self.old.rx_buffer) «data».old }
         ensures view { self.new ≡ record self.old { rx_buffer = skipped self.old.rx_buffer } }
+        ensures effect { Effect Peek self.old self.new }
     {
         self.rx_buffer.skip_padding();
         let (size, _) = copy_first(&self.rx_buffer, data)?;
@@ -55,6 +59,7 @@ impl<'a> Socket<'a> {
         ensures bytes { «data».new ≡ copied (first_packet self.old.rx_buffer) «data».old }
         ensures queue { Dequeues self.old.rx_buffer self.new.rx_buffer }
         ensures same { self.new ≡ record self.old { rx_buffer = self.new.rx_buffer } }
+        ensures effect { Effect (RecvSlice «data».old «data».new result) self.old self.new }
     {
         let (size, _) = take_into(&mut self.rx_buffer, data)?;
         Ok(size)

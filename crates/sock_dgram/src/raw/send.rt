@@ -5,7 +5,9 @@ ghost use Rattle.std.specs.Fn.{FnOnceReturnsAtMut};
 ghost use Rattle.net_base.specs.Packets.{made_room, end_of, Claims, Enqueues};
 ghost use Rattle.sock_dgram.specs.Datagrams.{answered, stored};
 ghost use Rattle.sock_dgram.specs.Raw.{waiting, send_answer};
+ghost use Rattle.sock_dgram.specs.RawCalls.{Effect, SendSlice};
 ghost use Rattle.sock_dgram.specs.RawLends.{LendsPacket};
+ghost use Rattle.sock_dgram.specs.Transfers.{Writes};
 
 use crate::queue::store;
 use crate::raw::error::SendError;
@@ -56,6 +58,7 @@ impl<'a> Socket<'a> {
         ensures refused { OnErr result (self.new.tx_buffer ≡ made_room max_size self.old.tx_buffer) }
         ensures kept { OnErr result (waiting self.new ≡ waiting self.old) }
         ensures same { self.new ≡ record self.old { tx_buffer = self.new.tx_buffer } }
+        ensures effect { Writes F.FnOnce result max_size tt f self.old.tx_buffer self.new.tx_buffer }
     {
         self.tx_buffer
             .enqueue_with_infallible(max_size, (), f)
@@ -70,6 +73,7 @@ impl<'a> Socket<'a> {
         ensures view { self.new ≡ record self.old { tx_buffer = stored tt «data».now self.old.tx_buffer } }
         ensures queue { waiting self.new
             ≡ cond (is_ok result) (waiting self.old ++ (tt, «data».now) ∷ []) (waiting self.old) }
+        ensures effect { Effect (SendSlice «data».now result) self.old self.new }
     {
         if !store(&mut self.tx_buffer, (), data) {
             return Err(SendError::BufferFull);

@@ -4,6 +4,7 @@ ghost use Rattle.net_base.specs.Packets.{taken};
 ghost use Rattle.sock_dgram.specs.Datagrams.{has_place, has_entry, poll_moment};
 ghost use Rattle.sock_dgram.specs.Raw.{fresh};
 
+use crate::queue::poll_moment;
 use ip_wire::{IpProtocol, IpVersion};
 use sock_core::{Context, PollAt};
 use std::marker::Model;
@@ -128,10 +129,6 @@ impl<'a> Socket<'a> {
     pub fn poll_at<C: Context>(&self, _cx: &C) -> PollAt
         ensures { result ≡ poll_moment self.now.tx_buffer }
     {
-        if self.tx_buffer.is_empty() {
-            PollAt::Ingress
-        } else {
-            PollAt::Now
-        }
+        poll_moment(&self.tx_buffer)
     }
 }

@@ -5,17 +5,15 @@ ghost use Rattle.ip_wire.specs.declared.protocol.IpProtocol.TheVariants.{Udp};
 ghost use Rattle.control_wire.specs.Datagram.{udp_header_len};
 ghost use Rattle.net_base.specs.Packets.{starts_padded};
 ghost use Rattle.sock_dgram.specs.Datagrams.{poll_moment};
-ghost use Rattle.sock_dgram.specs.UdpDispatch.{source_of, hops_of, from_source, outgoing, outgoing_of, outgoing_with};
+ghost use Rattle.sock_dgram.specs.UdpDispatch.{source_of, from_source, outgoing, outgoing_of, outgoing_with};
 ghost use Rattle.sock_dgram.specs.UdpDispatch.{Dispatched};
 ghost use Rattle.sock_core.specs.Emission.{Emits};
 
+use crate::queue::{hops_of, poll_moment};
 use crate::udp::socket::{Socket, UdpMetadata};
 use control_wire::UdpRepr;
 use ip_wire::{IpAddress, IpProtocol, IpRepr};
 use sock_core::{Context, PollAt};
-
-// The hop limit where none is set (RFC 1122, section 3.2.1.7).
-const DEFAULT_HOP_LIMIT: u8 = 64;
 
 impl<'a> Socket<'a> {
     // The address that a datagram is sent from.
@@ -24,12 +22,6 @@ impl<'a> Socket<'a> {
     {
         self.known_source(meta)
             .or_else(|| cx.get_source_address(&meta.endpoint.addr))
-    }
-
-    fn hops(&self) -> u8
-        ensures { result ≡ hops_of self.now.hop_limit }
-    {
-        self.hop_limit.unwrap_or(DEFAULT_HOP_LIMIT)
     }
 
     /// The headers with which `dispatch` sends a datagram of these bytes: for a caller that keeps no queue.
@@ -59,7 +51,7 @@ impl<'a> Socket<'a> {
             meta.endpoint.addr,
             IpProtocol::Udp,
             repr.header_len() + payload.len(),
-            self.hops(),
+            hops_of(self.hop_limit),
         );
         Some((ip_repr, repr))
     }
@@ -115,10 +107,6 @@ impl<'a> Socket<'a> {
     pub fn poll_at<C: Context>(&self, _cx: &C) -> PollAt
         ensures { result ≡ poll_moment self.now.tx_buffer }
     {
-        if self.tx_buffer.is_empty() {
-            PollAt::Ingress
-        } else {
-            PollAt::Now
-        }
+        poll_moment(&self.tx_buffer)
     }
 }

@@ -5,10 +5,11 @@ ghost use Rattle.ip_wire.specs.Address.{SameVersion};
 ghost use Rattle.ip_wire.specs.declared.address.IpAddress.{IpAddress};
 ghost use Rattle.sock_core.specs.Facts.{Facts};
 ghost use Rattle.ip_wire.specs.Address.{same_version};
-ghost use Rattle.sock_dgram.specs.Transfers.{InOrder, Runs, Transfers};
+ghost use Rattle.sock_dgram.specs.Transfers.{AnyCall, InOrder, Runs, Transfers};
 ghost use Rattle.sock_dgram.specs.Udp.{View, is_sendable, received, waiting};
-ghost use Rattle.sock_dgram.specs.UdpCalls.{Call, Effect};
+ghost use Rattle.sock_dgram.specs.UdpCalls.{AnyEffect, Call};
 ghost use Rattle.sock_dgram.specs.UdpDispatch.{Outgoing, source_of};
+ghost use Rattle.sock_dgram.specs.declared.error.SendError.{SendError};
 ghost use Rattle.sock_dgram.specs.declared.udp.socket.UdpMetadata.{UdpMetadata};
 
 use control_wire::UdpRepr;
@@ -30,15 +31,15 @@ pub fn sources_of_what_was_taken()
 /// its place, followed by what then waits, is what waited at the start, followed by what `process` queued since, in
 /// this order.
 ///
-/// A `send` comes into the list as the `send_slice` of the bytes that are left in what it lends, as its own contract
-/// says. The calls of a list share the types of their contexts, errors and closures.
+/// What each call does to the socket is what its own contract says. A `send` comes into the list as the `send_slice` of
+/// the bytes that are left in what it lends. The calls of a list share the types of their contexts, errors and closures.
 pub fn datagrams_keep_their_order<
     C: Context,
     E,
     F: FnOnce(&mut C, (IpRepr, UdpRepr, &[u8])) -> Result<(), E>,
     G: FnOnce(&mut [u8]) -> usize,
 >()
-    ensures { (calls : List (Call C E F G)) (v w : View) (t : Transfers UdpMetadata Outgoing)
-        → Runs (Effect C.facts F.FnOnce G.FnOnce) calls v t w
+    ensures { (calls : List (AnyCall Call UdpMetadata SendError C E F G)) (v w : View)
+        (t : Transfers UdpMetadata Outgoing) → Runs (AnyEffect C.facts F.FnOnce G.FnOnce) calls v t w
         → InOrder t (waiting v) (received v) (waiting w) (received w) }
 {}

@@ -3,6 +3,7 @@ ghost use Rattle.std.specs.Prelude.{◌≡◌, ◌↔◌, ◌++◌, [], ◌∷�
 ghost use Rattle.net_base.specs.Packets.{takes};
 ghost use Rattle.sock_dgram.specs.Datagrams.{stored};
 ghost use Rattle.sock_dgram.specs.Udp.{received, IsAddressed, Accepts, metadata_of};
+ghost use Rattle.sock_dgram.specs.UdpCalls.{Effect, Process};
 
 use crate::queue::store;
 use crate::udp::socket::{Socket, UdpMetadata};
@@ -39,6 +40,7 @@ impl<'a> Socket<'a> {
         } }
         ensures queue { received self.new ≡ cond (takes (length payload.now) self.old.rx_buffer)
             (received self.old ++ (metadata_of ip_repr.now repr.now, payload.now) ∷ []) (received self.old) }
+        ensures effect { Effect (Process ip_repr.now repr.now payload.now) self.old self.new }
     {
         let meta = UdpMetadata {
             endpoint: IpEndpoint {

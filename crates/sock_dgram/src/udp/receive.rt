@@ -3,17 +3,20 @@ ghost use Rattle.std.specs.Prelude.{◌≡◌, length, Some, IfOk};
 ghost use Rattle.std.specs.Borrow.{sem};
 ghost use Rattle.net_base.specs.Packets.{first_packet, Dequeues};
 ghost use Rattle.sock_dgram.specs.Datagrams.{answered, take_answer, copy_answer, copied, copied_of};
+ghost use Rattle.sock_dgram.specs.UdpCalls.{Effect, RecvSlice};
 
 use crate::error::RecvError;
 use crate::queue::{copy_first, take_into};
 use crate::udp::socket::{Socket, UdpMetadata};
 
 impl<'a> Socket<'a> {
-    ghost use Rattle.sock_dgram.specs.UdpLends.{TakesFirst, KeepsFirst};
+    ghost use Rattle.sock_dgram.specs.Lends.{TakesFirst, KeepsFirst};
+    ghost use Rattle.sock_dgram.specs.Udp.{with_rx};
+    ghost use Rattle.sock_dgram.specs.UdpLends.{lender};
 
     /// Takes the first datagram of the receive queue, and lends its bytes. `Exhausted` where there is none.
     pub fn recv(&mut self) -> Result<(&[u8], UdpMetadata), RecvError>
-        ensures* after { sem 𝓛 (TakesFirst self.entry) }
+        ensures* after { sem 𝓛 (TakesFirst lender (λ v. v.rx_buffer) with_rx self.entry) }
         ensures answer { answered result ≡ take_answer (first_packet self.old.rx_buffer) }
         ensures value { IfOk result (λ r. first_packet self.old.rx_buffer ≡ Some (r.1, r.0.now)) }
     {
@@ -23,7 +26,7 @@ impl<'a> Socket<'a> {
 
     /// Lends the bytes of the first datagram of the receive queue, which stays. `Exhausted` where there is none.
     pub fn peek(&mut self) -> Result<(&[u8], &UdpMetadata), RecvError>
-        ensures* after { sem 𝓛 (KeepsFirst self.entry) }
+        ensures* after { sem 𝓛 (KeepsFirst lender (λ v. v.rx_buffer) with_rx self.entry) }
         ensures answer { answered result ≡ take_answer (first_packet self.old.rx_buffer) }
         ensures value { IfOk result (λ r. first_packet self.old.rx_buffer ≡ Some (r.1.now, r.0.now)) }
     {
@@ -37,7 +40,7 @@ impl<'a> Socket<'a> {
     ///
     /// `Exhausted` where there is none; `Truncated` where `data` is too short, which then stays as it was.
     pub fn peek_slice(&mut self, data: &mut [u8]) -> Result<(usize, &UdpMetadata), RecvError>
-        ensures* after { sem 𝓛 (KeepsFirst self.entry) }
+        ensures* after { sem 𝓛 (KeepsFirst lender (λ v. v.rx_buffer) with_rx self.entry) }
         ensures answer { copied_of result ≡ copy_answer (first_packet self.old.rx_buffer) (length «data».old) }
         ensures bytes { «data».new ≡ copied (first_packet self.old.rx_buffer) «data».old }
     {
@@ -55,6 +58,7 @@ impl<'a> Socket<'a> {
         ensures bytes { «data».new ≡ copied (first_packet self.old.rx_buffer) «data».old }
         ensures queue { Dequeues self.old.rx_buffer self.new.rx_buffer }
         ensures same { self.new ≡ record self.old { rx_buffer = self.new.rx_buffer } }
+        ensures effect { Effect (RecvSlice «data».old «data».new result) self.old self.new }
     {
         take_into(&mut self.rx_buffer, data)
     }

@@ -7,7 +7,9 @@ ghost use Rattle.net_base.specs.Packets.{made_room, end_of, Claims, Enqueues};
 ghost use Rattle.sock_dgram.specs.Datagrams.{answered};
 ghost use Rattle.sock_dgram.specs.Udp.{waiting, is_possible_source, known_source, is_sendable, send_answer};
 ghost use Rattle.sock_dgram.specs.Udp.{after_send, refused_send};
+ghost use Rattle.sock_dgram.specs.UdpCalls.{Effect, SendSlice};
 ghost use Rattle.sock_dgram.specs.UdpLends.{LendsDatagram};
+ghost use Rattle.sock_dgram.specs.Transfers.{Writes};
 
 use crate::error::SendError;
 use crate::queue::store;
@@ -98,6 +100,7 @@ impl<'a> Socket<'a> {
         ensures refused { OnErr result (self.new ≡ refused_send self.old meta max_size) }
         ensures kept { OnErr result (waiting self.new ≡ waiting self.old) }
         ensures same { self.new ≡ record self.old { tx_buffer = self.new.tx_buffer } }
+        ensures effect { Writes F.FnOnce result max_size meta f self.old.tx_buffer self.new.tx_buffer }
     {
         if !self.is_sendable(&meta) {
             return Err(SendError::Unaddressable);
@@ -117,6 +120,7 @@ impl<'a> Socket<'a> {
         ensures view { self.new ≡ after_send self.old meta «data».now }
         ensures queue { waiting self.new ≡ cond (is_ok result) (waiting self.old ++ (meta, «data».now) ∷ [])
             (waiting self.old) }
+        ensures effect { Effect (SendSlice «data».now meta result) self.old self.new }
     {
         if !self.is_sendable(&meta) {
             return Err(SendError::Unaddressable);

@@ -4,6 +4,7 @@ ghost use Rattle.net_base.specs.Packets.{taken};
 ghost use Rattle.ip_wire.specs.Endpoint.{endpoint_text};
 ghost use Rattle.sock_dgram.specs.Datagrams.{has_place, has_entry};
 ghost use Rattle.sock_dgram.specs.Udp.{fresh, is_open, bind_answer, after_bind, closed};
+ghost use Rattle.sock_dgram.specs.UdpCalls.{Bind, Close, Effect, SetHopLimit};
 
 use crate::error::BindError;
 use ip_wire::{IpAddress, IpEndpoint, IpListenEndpoint};
@@ -90,6 +91,7 @@ impl<'a> Socket<'a> {
     pub fn bind(&mut self, endpoint: IpListenEndpoint) -> Result<(), BindError>
         ensures answer { result ≡ bind_answer self.old endpoint }
         ensures view { self.new ≡ after_bind (bind_answer self.old endpoint) self.old endpoint }
+        ensures effect { Effect (Bind endpoint) self.old self.new }
     {
         if endpoint.port == 0 {
             return Err(BindError::Unaddressable);
@@ -103,7 +105,8 @@ impl<'a> Socket<'a> {
 
     /// Closes the socket: it is bound to nothing, and both queues are empty.
     pub fn close(&mut self)
-        ensures { self.new ≡ closed self.old }
+        ensures view { self.new ≡ closed self.old }
+        ensures effect { Effect Close self.old self.new }
     {
         self.endpoint = IpListenEndpoint::default();
         self.rx_buffer.reset();
@@ -134,7 +137,8 @@ impl<'a> Socket<'a> {
     /// Sets the hop limit of what is sent, 1 to 255, or none for 64 (RFC 1122, section 3.2.1.7).
     pub fn set_hop_limit(&mut self, hop_limit: Option<u8>)
         requires { hop_limit ≡ Some 0 → ⊥ }
-        ensures { self.new ≡ record self.old { hop_limit = hop_limit } }
+        ensures view { self.new ≡ record self.old { hop_limit = hop_limit } }
+        ensures effect { Effect (SetHopLimit hop_limit) self.old self.new }
     {
         self.hop_limit = hop_limit;
     }

@@ -11,7 +11,7 @@ use Rattle.smoltcp_socket.specs.Kinds.{raw_of}
 use Rattle.smoltcp_socket.specs.declared.socket.Socket.TheVariants.{Raw}
 use Rattle.smoltcp_socket.specs.contracts.any_socket.RawSocketAnySocket.downcast_mut.Key.{name}
 use Rattle.smoltcp_socket.proofs.LentKind.{unnamed, lent_met}
-use Rattle.smoltcp_socket.proofs.FoundKinds.{found_raw}
+use Rattle.smoltcp_socket.proofs.FoundKinds.{found}
 use Rattle.smoltcp_socket.proofs.any_socket.RawSocketAnySocket.downcast_mut.Statement.{statement}
 use Rattle.smoltcp_socket.proofs.any_socket.RawSocketAnySocket.downcast_mut.Code as code
 
@@ -19,4 +19,4 @@ pub downcast_mut_spec : {M : Type 1} → statement M
 downcast_mut_spec 𝓤 𝓛 𝓜 𝓡 wired G L =
     let args : Args = layouts (a_type ∷ []) (G, tt) in let function : Fn = inst_fn args code.function in
     lent_met G (λ κs. the_row (named_lft 3 1 tt κs)) (λ κs. Raw) (λ κs. raw_of) 0 (1 ∷ 2 ∷ 3 ∷ []) (lone (the_row unnamed).mir) refl tt tt
-    (λ κs. refl) (λ κs. refl) (λ κs y vs. refl) (λ κs y. refl) function _ _ _ 𝓛 𝓜 𝓡 (name args) (code.unfolded 𝓤 𝓛.H 𝓜 𝓡 wired (G, tt)) (λ κs. found_raw)
+    (λ κs. refl) (λ κs. refl) (λ κs y vs. refl) (λ κs y. refl) function _ _ _ 𝓛 𝓜 𝓡 (name args) (code.unfolded 𝓤 𝓛.H 𝓜 𝓡 wired (G, tt)) (λ κs h. (found h).0)
