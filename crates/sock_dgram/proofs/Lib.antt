@@ -1,7 +1,6 @@
 pub mod Answering
 pub mod Claimed
 pub mod Emitting
-pub mod Filling
 pub mod IcmpOrders
 pub mod LentField
 pub mod Orders

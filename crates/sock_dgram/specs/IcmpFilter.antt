@@ -13,7 +13,6 @@ use Rattle.ip_wire.specs.declared.checksum.Checksum.TheVariants as checksum
 use Rattle.net_base.specs.Packets.{Packets}
 use Rattle.sock_core.specs.Facts.{Facts}
 use Rattle.sock_dgram.specs.Datagrams.{stored_as}
-use Rattle.sock_dgram.specs.Writing.{WritesWhole}
 use Rattle.sock_dgram.specs.declared.icmp.endpoint.Endpoint.{Endpoint}
 use Rattle.sock_dgram.specs.declared.icmp.endpoint.Endpoint.TheVariants as endpoint
 
@@ -60,9 +59,3 @@ queued_v4 ip m p = stored_as (message_len 20 m) (address.Ipv4 ip.src_addr) (octe
 
 abbrev pub queued_v6 : Ipv6Repr → Message Ipv6Repr → Packets IpAddress → Packets IpAddress
 queued_v6 ip m p = stored_as (message_len 40 m) (address.Ipv6 ip.src_addr) (octets_v6 ip m) p
-
-abbrev pub WritesV4 : Message Ipv4Repr → List ℕ → ℕ → List ℕ → Type 0
-WritesV4 m lent count left = WritesWhole (message_len 20 m) (octets_v4 m) lent count left
-
-abbrev pub WritesV6 : Ipv6Repr → Message Ipv6Repr → List ℕ → ℕ → List ℕ → Type 0
-WritesV6 ip m lent count left = WritesWhole (message_len 40 m) (octets_v6 ip m) lent count left

@@ -4,7 +4,6 @@ pub mod Icmp
 pub mod IcmpCalls
 pub mod IcmpDispatch
 pub mod IcmpFilter
-pub mod IcmpKinds
 pub mod IcmpLends
 pub mod Lends
 pub mod Raw
@@ -17,4 +16,3 @@ pub mod Udp
 pub mod UdpCalls
 pub mod UdpDispatch
 pub mod UdpLends
-pub mod Writing

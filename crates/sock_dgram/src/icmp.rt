@@ -2,7 +2,6 @@
 
 mod dispatch;
 pub mod endpoint;
-mod kind;
 pub mod laws;
 mod process;
 mod receive;

@@ -6,6 +6,7 @@ ghost use Rattle.sock_dgram.specs.Addressed.{hops_of};
 ghost use Rattle.sock_dgram.specs.Datagrams.{stored, copied_of, copy_answer, copied, poll_moment};
 
 use crate::error::RecvError;
+use ip_wire::octets::put_two;
 use net_base::packet_buffer::PacketBuffer;
 use sock_core::PollAt;
 
@@ -27,53 +28,46 @@ pub(crate) fn poll_moment<M: Copy>(tx_buffer: &PacketBuffer<'_, M>) -> PollAt
     }
 }
 
-// Writes as many bytes of a beginning of `data` as fit to the beginning of `lent`, and answers how many.
-fn filled(lent: &mut [u8], data: &[u8]) -> usize
-    ensures count { result ≡ min (length lent.old) (length «data».now) }
-    ensures bytes { lent.new ≡ take result «data».now ++ drop result lent.old }
+// Appends a packet, where there is room for it. Answers whether there was.
+fn append<M: Copy>(buffer: &mut PacketBuffer<'_, M>, meta: M, data: &[u8]) -> bool
+    ensures takes { result ≡ takes (length «data».now) buffer.old }
+    ensures after { buffer.new ≡ stored meta «data».now buffer.old }
 {
-    let count = lent.len().min(data.len());
-    lent[..count].copy_from_slice(&data[..count]);
-    count
+    let size = data.len();
+    let (taken, from) = buffer.claim(size, meta);
+    if !taken {
+        return false;
+    }
+    buffer.part_mut(from, size).copy_from_slice(data);
+    true
 }
 
-// Appends a packet, where there is room for it. Answers whether there was.
+// The same, and what then waits.
+#[tactic(auto, using(crate::proofs::Storing::stored_queue))]
 pub(crate) fn store<M: Copy>(buffer: &mut PacketBuffer<'_, M>, meta: M, data: &[u8]) -> bool
     ensures takes { result ≡ takes (length «data».now) buffer.old }
     ensures after { buffer.new ≡ stored meta «data».now buffer.old }
     ensures packets { packets buffer.new.entries ≡ cond result (packets buffer.old.entries
         ++ (meta, «data».now) ∷ []) (packets buffer.old.entries) }
 {
-    buffer
-        .enqueue_with_infallible(data.len(), meta, |lent| filled(lent, data))
-        .is_ok()
-}
-
-// Writes as many bytes of a beginning of `head` and `data` behind it as fit to the beginning of `lent`, and answers how
-// many.
-fn filled_twice(lent: &mut [u8], head: &[u8], data: &[u8]) -> usize
-    ensures count { result ≡ min (length lent.old) (length head.now + length «data».now) }
-    ensures bytes { lent.new ≡ take result (head.now ++ «data».now) ++ drop result lent.old }
-{
-    let first = filled(lent, head);
-    let second = filled(&mut lent[first..], data);
-    first + second
+    append(buffer, meta, data)
 }
 
 // Appends a packet that is given in two pieces, where there is room for it.
-#[tactic(auto, using(crate::proofs::Storing::stored_queue))]
 pub(crate) fn store_both<M: Copy>(
     buffer: &mut PacketBuffer<'_, M>,
     meta: M,
     head: &[u8],
     data: &[u8],
 )
-    ensures after { buffer.new ≡ stored meta (head.now ++ «data».now) buffer.old }
-    ensures packets { packets buffer.new.entries ≡ cond (takes (length (head.now ++ «data».now)) buffer.old)
-        (packets buffer.old.entries ++ (meta, head.now ++ «data».now) ∷ []) (packets buffer.old.entries) }
+    ensures { buffer.new ≡ stored meta (head.now ++ «data».now) buffer.old }
 {
     let size = head.len() + data.len();
-    let _ = buffer.enqueue_with_infallible(size, meta, |lent| filled_twice(lent, head, data));
+    let (taken, from) = buffer.claim(size, meta);
+    if !taken {
+        return;
+    }
+    put_two(buffer.part_mut(from, size), head, data);
 }
 
 // Takes the first packet and copies its bytes into `data`. Answers how many they are, and the metadata.

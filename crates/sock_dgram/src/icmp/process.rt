@@ -7,12 +7,10 @@ ghost use Rattle.ip_wire.specs.declared.address.IpAddress.TheVariants as address
 ghost use Rattle.sock_dgram.specs.Datagrams.{stored_as};
 ghost use Rattle.sock_dgram.specs.Icmp.{received};
 ghost use Rattle.sock_dgram.specs.IcmpCalls.{Effect, ProcessV4, ProcessV6};
-ghost use Rattle.sock_dgram.specs.IcmpKinds.{with_body};
-ghost use Rattle.sock_dgram.specs.IcmpFilter.{Accepts, Ends, TakesError, TakesIdent, WritesV4, WritesV6, ends_v4};
-ghost use Rattle.sock_dgram.specs.IcmpFilter.{ends_v6, octets_v4, octets_v6, queued_v4, queued_v6};
+ghost use Rattle.sock_dgram.specs.IcmpFilter.{Accepts, Ends, TakesError, TakesIdent, ends_v4, ends_v6, octets_v4};
+ghost use Rattle.sock_dgram.specs.IcmpFilter.{octets_v6, queued_v4, queued_v6};
 
 use crate::icmp::endpoint::Endpoint;
-use crate::icmp::kind::{apart_v4, apart_v6, whole_v4, whole_v6};
 use crate::icmp::socket::{PacketBuffer, Socket};
 use control_wire::{Icmpv4Repr, Icmpv6Repr, tcp_source, udp_source};
 use ip_wire::{ChecksumCapabilities, IpAddress, IpListenEndpoint, Ipv4Repr, Ipv6Repr};
@@ -161,26 +159,15 @@ fn store_v4(buffer: &mut PacketBuffer<'_>, remote: IpAddress, icmp_repr: &Icmpv4
     ensures { buffer.new ≡ stored_as (message_len 20 (message_v4 icmp_repr.now)) remote
         (octets_v4 (message_v4 icmp_repr.now)) buffer.old }
 {
-    let (kind, body) = apart_v4(icmp_repr);
-    let _ = buffer.enqueue_with_infallible(
-        icmp_repr.buffer_len(),
-        remote,
-        move |lent: &mut [u8]| -> usize
-            ensures within { result ≤ length lent.old }
-            ensures written { WritesV4 (with_body kind body.entry.now) lent.old result lent.new }
-        { write_v4(lent, &whole_v4(&kind, body)) },
-    );
-}
-
-// Writes the message where there are as many bytes as it has, and answers how many.
-fn write_v4(lent: &mut [u8], icmp_repr: &Icmpv4Repr<'_>) -> usize
-    ensures { WritesV4 (message_v4 icmp_repr.now) lent.old result lent.new }
-{
-    if lent.len() != icmp_repr.buffer_len() {
-        return 0;
+    let size = icmp_repr.buffer_len();
+    let (taken, from) = buffer.claim(size, remote);
+    if !taken {
+        return;
     }
-    icmp_repr.emit(lent, &ChecksumCapabilities::default());
-    lent.len()
+    icmp_repr.emit(
+        buffer.part_mut(from, size),
+        &ChecksumCapabilities::default(),
+    );
 }
 
 fn store_v6(
@@ -192,25 +179,15 @@ fn store_v6(
     ensures { buffer.new ≡ stored_as (message_len 40 (message_v6 icmp_repr.now)) remote
         (octets_v6 ip_repr.now (message_v6 icmp_repr.now)) buffer.old }
 {
-    let ip = *ip_repr;
-    let (kind, body) = apart_v6(icmp_repr);
-    let _ = buffer.enqueue_with_infallible(
-        icmp_repr.buffer_len(),
-        remote,
-        move |lent: &mut [u8]| -> usize
-            ensures within { result ≤ length lent.old }
-            ensures written { WritesV6 ip (with_body kind body.entry.now) lent.old result lent.new }
-        { write_v6(lent, &ip, &whole_v6(&kind, body)) },
-    );
-}
-
-fn write_v6(lent: &mut [u8], ip_repr: &Ipv6Repr, icmp_repr: &Icmpv6Repr<'_>) -> usize
-    ensures { WritesV6 ip_repr.now (message_v6 icmp_repr.now) lent.old result lent.new }
-{
-    if lent.len() != icmp_repr.buffer_len() {
-        return 0;
+    let size = icmp_repr.buffer_len();
+    let (taken, from) = buffer.claim(size, remote);
+    if !taken {
+        return;
     }
-    let caps = ChecksumCapabilities::default();
-    icmp_repr.emit(&ip_repr.src_addr, &ip_repr.dst_addr, lent, &caps);
-    lent.len()
+    icmp_repr.emit(
+        &ip_repr.src_addr,
+        &ip_repr.dst_addr,
+        buffer.part_mut(from, size),
+        &ChecksumCapabilities::default(),
+    );
 }

@@ -4,6 +4,9 @@ ghost use Rattle.std.specs.Borrow.{sem};
 ghost use Rattle.net_base.specs.Packets.{first_packet, Dequeues};
 ghost use Rattle.sock_dgram.specs.Datagrams.{answered, take_answer, copy_answer, copied};
 ghost use Rattle.sock_dgram.specs.IcmpCalls.{Effect, RecvSlice};
+ghost use Rattle.sock_dgram.specs.Lends.{TakesFirst};
+ghost use Rattle.sock_dgram.specs.Icmp.{with_rx};
+ghost use Rattle.sock_dgram.specs.IcmpLends.{lender};
 
 use crate::error::RecvError;
 use crate::icmp::socket::Socket;
@@ -11,10 +14,6 @@ use crate::queue::take_into;
 use ip_wire::IpAddress;
 
 impl<'a> Socket<'a> {
-    ghost use Rattle.sock_dgram.specs.Lends.{TakesFirst};
-    ghost use Rattle.sock_dgram.specs.Icmp.{with_rx};
-    ghost use Rattle.sock_dgram.specs.IcmpLends.{lender};
-
     /// Takes the first message of the receive queue, and lends its bytes. `Exhausted` where there is none.
     pub fn recv(&mut self) -> Result<(&[u8], IpAddress), RecvError>
         ensures* after { sem 𝓛 (TakesFirst lender (λ v. v.rx_buffer) with_rx self.entry) }

@@ -26,6 +26,7 @@ impl<'a> Socket<'a> {
 
     /// Puts a packet into the receive queue: its header as `IpRepr::emit` writes it with the checksum settings of the
     /// context, and its payload. Where the receive buffer has no room for it, it is dropped.
+    #[tactic(auto, using(crate::proofs::Storing::stored_queue))]
     pub fn process<C: Context>(&mut self, cx: &C, ip_repr: &IpRepr, payload: &[u8])
         ensures view { self.new ≡ record self.old {
           rx_buffer = stored tt (whole_packet (C.facts cx.now).checksums ip_repr.now payload.now) self.old.rx_buffer;

@@ -4,16 +4,15 @@ ghost use Rattle.std.specs.Borrow.{sem};
 ghost use Rattle.net_base.specs.Packets.{first_packet, skipped, Dequeues};
 ghost use Rattle.sock_dgram.specs.Datagrams.{answered, take_answer, copy_answer, copied, with_metadata};
 ghost use Rattle.sock_dgram.specs.RawCalls.{Effect, Peek, RecvSlice};
+ghost use Rattle.sock_dgram.specs.Lends.{TakesFirst, KeepsFirst};
+ghost use Rattle.sock_dgram.specs.Raw.{with_rx};
+ghost use Rattle.sock_dgram.specs.RawLends.{lender};
 
 use crate::error::RecvError;
 use crate::queue::{copy_first, take_into};
 use crate::raw::socket::Socket;
 
 impl<'a> Socket<'a> {
-    ghost use Rattle.sock_dgram.specs.Lends.{TakesFirst, KeepsFirst};
-    ghost use Rattle.sock_dgram.specs.Raw.{with_rx};
-    ghost use Rattle.sock_dgram.specs.RawLends.{lender};
-
     /// Takes the first packet of the receive queue, and lends its bytes. `Exhausted` where there is none.
     pub fn recv(&mut self) -> Result<&[u8], RecvError>
         ensures* after { sem 𝓛 (TakesFirst lender (λ v. v.rx_buffer) with_rx self.entry) }

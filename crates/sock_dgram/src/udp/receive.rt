@@ -4,16 +4,15 @@ ghost use Rattle.std.specs.Borrow.{sem};
 ghost use Rattle.net_base.specs.Packets.{first_packet, Dequeues};
 ghost use Rattle.sock_dgram.specs.Datagrams.{answered, take_answer, copy_answer, copied, copied_of};
 ghost use Rattle.sock_dgram.specs.UdpCalls.{Effect, RecvSlice};
+ghost use Rattle.sock_dgram.specs.Lends.{TakesFirst, KeepsFirst};
+ghost use Rattle.sock_dgram.specs.Udp.{with_rx};
+ghost use Rattle.sock_dgram.specs.UdpLends.{lender};
 
 use crate::error::RecvError;
 use crate::queue::{copy_first, take_into};
 use crate::udp::socket::{Socket, UdpMetadata};
 
 impl<'a> Socket<'a> {
-    ghost use Rattle.sock_dgram.specs.Lends.{TakesFirst, KeepsFirst};
-    ghost use Rattle.sock_dgram.specs.Udp.{with_rx};
-    ghost use Rattle.sock_dgram.specs.UdpLends.{lender};
-
     /// Takes the first datagram of the receive queue, and lends its bytes. `Exhausted` where there is none.
     pub fn recv(&mut self) -> Result<(&[u8], UdpMetadata), RecvError>
         ensures* after { sem 𝓛 (TakesFirst lender (λ v. v.rx_buffer) with_rx self.entry) }

@@ -1,14 +1,14 @@
-use Rattle.std.proofs.Common.{◌≤◌, length, subst}
-use Rattle.control_wire.specs.Icmp.{message_v6}
-use Rattle.sock_dgram.specs.IcmpFilter.{WritesV6}
-use Rattle.sock_dgram.proofs.Storing.{stores}
+use Rattle.std.proofs.Common.{◌≡◌, length, ◌∙◌, ap}
+use Rattle.control_wire.specs.Icmp.{icmpv6_octets, message_v6}
+use Rattle.sock_dgram.specs.Datagrams.{stored_as}
+use Rattle.sock_dgram.specs.IcmpFilter.{octets_v6}
+use Rattle.sock_dgram.proofs.Claimed.{left_long, left_whole}
 use Rattle.sock_dgram.proofs.icmp.process.store_v6.Goals as goal
-
-pub enqueue_with_infallible-requires-clause-sized : goal.enqueue_with_infallible-requires-clause-sized
-enqueue_with_infallible-requires-clause-sized c = λ s k s' h. subst (λ l. k ≤ length l) h.shows h.met.0
 
 pub returns : goal.returns
 returns c =
-    stores _ _ _ c.args.buffer.now c.enqueue_with_infallible.new.self _
-    (λ s k s' h. subst (λ l. WritesV6 c.args.ip_repr.now (message_v6 c.args.icmp_repr.now) l k s') h.shows (subst (λ l. WritesV6 c.args.ip_repr.now (message_v6 c.args.icmp_repr.now) h.shown.now k l) h.leaves (subst (λ m. WritesV6 c.args.ip_repr.now m h.shown.now k h.left.now) c.apart_v6-kind.ensures h.met.1)))
-    c.enqueue_with_infallible.result (rw c.buffer_len.ensures at c.enqueue_with_infallible.ensures.variant) (rw c.buffer_len.ensures at c.enqueue_with_infallible.ensures.err) (rw c.buffer_len.ensures at c.enqueue_with_infallible.ensures.ok)
+    let a = c.claim-taken in let size = c.buffer_len-size.result in let w = c.emit.new.buffer in let ip = c.args.ip_repr.now in let m = message_v6 c.args.icmp_repr.now in
+    let is : w ≡ octets_v6 ip m = c.emit.ensures ∙ ap (λ caps. icmpv6_octets caps ip.src_addr ip.dst_addr m) c.default.ensures in
+    let long : length w ≡ size = left_long size c.args.remote c.args.buffer.now a.new.self a.result.0 a.result.1 a.ensures c.if-not-taken.false c.part_mut.result.now w c.part_mut.ensures.value c.emit.auto.buffer in
+    left_whole size c.args.remote c.args.buffer.now a.new.self a.result.0 a.result.1 a.ensures c.if-not-taken.false w long
+    ∙ (λ i. stored_as (c.buffer_len-size.ensures i) c.args.remote (is i) c.args.buffer.now)
