@@ -7,6 +7,7 @@ use Rattle.sock_dgram.specs.Icmp.{View, after_send, refused_send}
 use Rattle.sock_dgram.specs.declared.error.SendError.{SendError}
 use Rattle.sock_dgram.specs.contracts.icmp.socket.Socket.{the_row}
 use denote.RattleType.{RattleType}
+pub use Rattle.sock_dgram.specs.Lends.{TakesFirst}
 
 abbrev pub lender : RattleType
 lender = lent_first the_row

@@ -8,6 +8,7 @@ use Rattle.sock_dgram.specs.Raw.{View}
 use Rattle.sock_dgram.specs.declared.raw.error.SendError.{SendError}
 use Rattle.sock_dgram.specs.contracts.raw.socket.Socket.{the_row}
 use denote.RattleType.{RattleType}
+pub use Rattle.sock_dgram.specs.Lends.{TakesFirst, KeepsFirst}
 
 abbrev pub lender : RattleType
 lender = lent_first the_row

@@ -7,6 +7,7 @@ use Rattle.sock_dgram.specs.declared.udp.socket.UdpMetadata.{UdpMetadata}
 use Rattle.sock_dgram.specs.declared.error.SendError.{SendError}
 use Rattle.sock_dgram.specs.contracts.udp.socket.Socket.{the_row}
 use denote.RattleType.{RattleType}
+pub use Rattle.sock_dgram.specs.Lends.{TakesFirst, KeepsFirst}
 
 abbrev pub lender : RattleType
 lender = lent_first the_row

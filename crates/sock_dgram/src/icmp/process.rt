@@ -164,10 +164,8 @@ fn store_v4(buffer: &mut PacketBuffer<'_>, remote: IpAddress, icmp_repr: &Icmpv4
     if !taken {
         return;
     }
-    icmp_repr.emit(
-        buffer.part_mut(from, size),
-        &ChecksumCapabilities::default(),
-    );
+    let lent = buffer.part_mut(from, size);
+    icmp_repr.emit(lent, &ChecksumCapabilities::default());
 }
 
 fn store_v6(
@@ -184,10 +182,7 @@ fn store_v6(
     if !taken {
         return;
     }
-    icmp_repr.emit(
-        &ip_repr.src_addr,
-        &ip_repr.dst_addr,
-        buffer.part_mut(from, size),
-        &ChecksumCapabilities::default(),
-    );
+    let lent = buffer.part_mut(from, size);
+    let caps = ChecksumCapabilities::default();
+    icmp_repr.emit(&ip_repr.src_addr, &ip_repr.dst_addr, lent, &caps);
 }

@@ -4,9 +4,8 @@ ghost use Rattle.std.specs.Borrow.{sem};
 ghost use Rattle.net_base.specs.Packets.{first_packet, Dequeues};
 ghost use Rattle.sock_dgram.specs.Datagrams.{answered, take_answer, copy_answer, copied};
 ghost use Rattle.sock_dgram.specs.IcmpCalls.{Effect, RecvSlice};
-ghost use Rattle.sock_dgram.specs.Lends.{TakesFirst};
 ghost use Rattle.sock_dgram.specs.Icmp.{with_rx};
-ghost use Rattle.sock_dgram.specs.IcmpLends.{lender};
+ghost use Rattle.sock_dgram.specs.IcmpLends.{lender, TakesFirst};
 
 use crate::error::RecvError;
 use crate::icmp::socket::Socket;

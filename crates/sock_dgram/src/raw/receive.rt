@@ -4,9 +4,8 @@ ghost use Rattle.std.specs.Borrow.{sem};
 ghost use Rattle.net_base.specs.Packets.{first_packet, skipped, Dequeues};
 ghost use Rattle.sock_dgram.specs.Datagrams.{answered, take_answer, copy_answer, copied, with_metadata};
 ghost use Rattle.sock_dgram.specs.RawCalls.{Effect, Peek, RecvSlice};
-ghost use Rattle.sock_dgram.specs.Lends.{TakesFirst, KeepsFirst};
 ghost use Rattle.sock_dgram.specs.Raw.{with_rx};
-ghost use Rattle.sock_dgram.specs.RawLends.{lender};
+ghost use Rattle.sock_dgram.specs.RawLends.{lender, TakesFirst, KeepsFirst};
 
 use crate::error::RecvError;
 use crate::queue::{copy_first, take_into};

@@ -4,9 +4,8 @@ ghost use Rattle.std.specs.Borrow.{sem};
 ghost use Rattle.net_base.specs.Packets.{first_packet, Dequeues};
 ghost use Rattle.sock_dgram.specs.Datagrams.{answered, take_answer, copy_answer, copied, copied_of};
 ghost use Rattle.sock_dgram.specs.UdpCalls.{Effect, RecvSlice};
-ghost use Rattle.sock_dgram.specs.Lends.{TakesFirst, KeepsFirst};
 ghost use Rattle.sock_dgram.specs.Udp.{with_rx};
-ghost use Rattle.sock_dgram.specs.UdpLends.{lender};
+ghost use Rattle.sock_dgram.specs.UdpLends.{lender, TakesFirst, KeepsFirst};
 
 use crate::error::RecvError;
 use crate::queue::{copy_first, take_into};
