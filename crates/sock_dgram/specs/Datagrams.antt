@@ -1,6 +1,6 @@
 -- What the datagram sockets share: queues of packets, each with metadata.
-use Rattle.std.specs.Prelude.{ℕ, ◌≡◌, List, [], ◌∷◌, ◌++◌, length, nat_lt, Bool, not, ◌==◌, Option, None, Some, Result, Ok}
-use Rattle.std.specs.Prelude.{Err, if◌then◌else◌}
+use Rattle.std.specs.Prelude.{ℕ, ◌≡◌, List, [], ◌∷◌, ◌++◌, length, nat_lt, Bool, not, ◌==◌, Option, None, Some}
+use Rattle.std.specs.Prelude.{Result, Ok, Err, if◌then◌else◌}
 use Rattle.std.specs.Borrow.{Bor}
 use Rattle.net_base.specs.Ring.{overwrite}
 use Rattle.net_base.specs.Packets.{Packets, Dequeues, packets_with, end_of, made_room, takes}
@@ -78,8 +78,8 @@ module _ {M : Type 0} where
     pub queue : Dequeues (rx old) (rx new)
     pub same : new ≡ with_rx old (rx new)
 
-  -- ---- sending n bytes or these bytes, where `sendable` says whether the addresses allow it: they come first, then the
-  -- room. The transmit buffer of a socket is read by `tx`, and put into it by `with_tx`
+  -- ---- sending n bytes or these bytes, where `sendable` says whether the addresses allow it: they come first, then
+  -- the room. The transmit buffer of a socket is read by `tx`, and put into it by `with_tx`
 
   abbrev pub send_answer_if : Bool → ℕ → Packets M → Result (Unit {0}) SendError
   send_answer_if sendable n p =

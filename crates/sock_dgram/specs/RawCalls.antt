@@ -56,7 +56,8 @@ moved _ v = nothing
 
 module _ {C E F G : Type 0} (facts : C → Facts) (emit : Emit F C (IpRepr × Bor (List ℕ)) E)
     (write : Once G (MutBor (List ℕ) × Unit {0}) (ℕ × (MutBor (List ℕ) × Unit {0}))) where
-  abbrev pub AnyEffect : AnyCall Call (Unit {0}) SendError C E F G → View → Transfers (Unit {0}) Outgoing → View → Type 0
+  abbrev pub AnyEffect : AnyCall Call (Unit {0}) SendError C E F G → View → Transfers (Unit {0}) Outgoing → View
+      → Type 0
   AnyEffect (Plain k) v t w = Effect k v w × (t ≡ moved k v)
   AnyEffect (SendWith size m f r) v t w =
       Written write r size m f v.tx_buffer t w.tx_buffer × (w ≡ record v { tx_buffer = w.tx_buffer })

@@ -1,5 +1,5 @@
-//! What the datagram sockets share: adding a packet to a queue, copying its first one, and the moment and the hop limit of
-//! what is sent.
+//! What the datagram sockets share: adding a packet to a queue, copying its first one, and the hop limit and the moment
+//! of what is sent.
 ghost use Rattle.std.specs.Prelude.{◌≡◌, ◌+◌, ◌++◌, [], ◌∷◌, length, take, drop, min, cond, false};
 ghost use Rattle.net_base.specs.Packets.{packets, takes, first_packet, starts_padded, Dequeues};
 ghost use Rattle.sock_dgram.specs.Addressed.{hops_of};

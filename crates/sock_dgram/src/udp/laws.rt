@@ -31,8 +31,9 @@ pub fn sources_of_what_was_taken()
 /// its place, followed by what then waits, is what waited at the start, followed by what `process` queued since, in
 /// this order.
 ///
-/// What each call does to the socket is what its own contract says. A `send` comes into the list as the `send_slice` of
-/// the bytes that are left in what it lends. The calls of a list share the types of their contexts, errors and closures.
+/// What each call does to the socket is what its own contract says. A `send` comes into the list as the `send_slice`
+/// of the bytes that are left in what it lends. The calls of a list share the types of their contexts, errors and
+/// closures.
 pub fn datagrams_keep_their_order<
     C: Context,
     E,
