@@ -1,9 +1,10 @@
 //! The numbers that the calls answer.
-ghost use Rattle.std.specs.Prelude.{◌≡◌};
-ghost use Rattle.smoltcp_c.specs.Answers.{listen_answer, connect_answer, bind_answer, send_answer, recv_answer, sent_answer, flag_answer, state_answer, UpTo30};
+ghost use Rattle.std.specs.Prelude.{◌≡◌, ◌^◌, min, pos};
+ghost use Rattle.smoltcp_c.specs.Answers.{listen_answer, connect_answer, bind_answer, datagram_answer, refused_copy, send_answer, recv_answer, sent_answer, flag_answer, state_answer, UpTo30};
 
+use crate::queue::LARGEST;
 use crate::wire::{Full, LONGEST_PACKET};
-use sock_dgram::error::BindError;
+use sock_dgram::error::{BindError, RecvError as CopyError, SendError as DatagramError};
 use sock_tcp::{ConnectError, ListenError, RecvError, SendError, State};
 
 /// The call was done.
@@ -70,6 +71,34 @@ pub fn bind_answer(answer: Result<(), BindError>) -> i64
         Err(BindError::InvalidState) => ERROR_STATE,
         Err(BindError::Unaddressable) => ERROR_ADDRESS,
     }
+}
+
+/// The number for what `send_slice` of a UDP or ICMP socket answered: 0, `ERROR_ADDRESS` or `ERROR_ROOM`.
+pub fn datagram_answer(answer: Result<(), DatagramError>) -> i64
+    ensures { result ≡ datagram_answer answer }
+{
+    match answer {
+        Ok(()) => OK,
+        Err(DatagramError::Unaddressable) => ERROR_ADDRESS,
+        Err(DatagramError::BufferFull) => ERROR_ROOM,
+    }
+}
+
+/// The number for why no packet was copied: `ERROR_EMPTY` or `ERROR_ROOM`.
+pub fn refused_copy(error: CopyError) -> i64
+    ensures { result ≡ refused_copy error }
+{
+    match error {
+        CopyError::Exhausted => ERROR_EMPTY,
+        CopyError::Truncated => ERROR_ROOM,
+    }
+}
+
+/// A count: 2^30 at most.
+pub fn count_answer(count: usize) -> i64
+    ensures { result ≡ pos (min count (2 ^ 30)) }
+{
+    count.min(LARGEST) as i64
 }
 
 /// The number for what `send` of a TCP socket answered: how many bytes it took, or `ERROR_STATE`.

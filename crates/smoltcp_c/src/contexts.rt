@@ -75,8 +75,8 @@ pub extern "C" fn smoltcp_tcp_poll_at_checked(h: &mut TcpHandle, cx: &Cx, at: &m
     told(poll, cx.now, at)
 }
 
-// Writes the moment, and answers whether there is one.
-fn told(poll: PollAt, now: i64, at: &mut i64) -> i64
+/// Writes the moment, and answers whether there is one: 0, or 1 where there is none.
+pub fn told(poll: PollAt, now: i64, at: &mut i64) -> i64
     ensures answer { result ≡ poll_answer poll }
     ensures written { at.new ≡ poll_written poll now at.old }
 {

@@ -1,6 +1,6 @@
 //! Addresses and endpoints as numbers.
 ghost use Rattle.std.specs.Prelude.{◌≡◌, ◌==◌, false};
-ghost use Rattle.smoltcp_c.specs.Numbers.{address_in, address_told, endpoint_in, endpoint_told, listen_in, listen_told};
+ghost use Rattle.smoltcp_c.specs.Numbers.{address_in, address_or_none_told, address_told, endpoint_in, endpoint_told, listen_in, listen_told};
 
 use ip_wire::{IpAddress, IpEndpoint, IpListenEndpoint, Ipv4Address, Ipv6Address};
 
@@ -60,6 +60,16 @@ pub fn address_of(address: IpAddress) -> Address
                 v6,
             }
         }
+    }
+}
+
+/// The numbers for an address, with the version 0 where there is none.
+pub fn address_or_none_of(address: Option<IpAddress>) -> Address
+    ensures { result ≡ address_or_none_told address }
+{
+    match address {
+        None => NO_ADDRESS,
+        Some(address) => address_of(address),
     }
 }
 

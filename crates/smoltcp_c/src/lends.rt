@@ -7,10 +7,14 @@ ghost use types.Logic.{sem};
 ghost use Rattle.smoltcp_c.specs.contracts.clock.Clock.{the_row as clock_row};
 ghost use Rattle.sock_tcp.specs.contracts.socket.Socket.{the_row as socket_row};
 ghost use Rattle.smoltcp_c.specs.contracts.tcp_handle.TcpHandle.{the_row as handle_row};
+ghost use Rattle.smoltcp_c.specs.contracts.udp_handle.UdpHandle.{the_row as udp_handle_row};
+ghost use Rattle.sock_dgram.specs.contracts.udp.socket.Socket.{the_row as udp_row};
 
 use crate::clock::Clock;
 use crate::memory::{Bytes, Place};
 use crate::tcp_handle::{TcpHandle, TcpRoom};
+use crate::udp_handle::{UdpHandle, UdpPlaceRoom, UdpPlaces, UdpRoom};
+use sock_dgram::udp;
 use sock_tcp::Socket;
 
 impl TcpHandle {
@@ -33,6 +37,52 @@ impl TcpRoom {
         unsafe {
             (self.at as *mut Socket<'static, Clock>).write(socket);
         }
+    }
+}
+
+impl UdpHandle {
+    /// The socket: what is done to it is done to the handle's.
+    pub fn socket(&mut self) -> &mut udp::Socket<'static>
+        ensures* writes_back { sem 𝓛 (follows udp_handle_row (udp_row static_lft) self.entry.ghost_name
+            result.ghost_name (λ w. record self.old { socket = w })) }
+        ensures value { result.now ≡ self.old.socket }
+    {
+        unsafe { &mut *(self.at as *mut udp::Socket<'static>) }
+    }
+}
+
+impl UdpRoom {
+    /// Puts the socket there.
+    pub fn fill(&mut self, socket: udp::Socket<'static>)
+        requires empty { self.old.made ≡ None }
+        ensures made { self.new ≡ record self.old { made = Some socket.entry } }
+    {
+        unsafe {
+            (self.at as *mut udp::Socket<'static>).write(socket);
+        }
+    }
+}
+
+impl UdpPlaceRoom {
+    /// Puts the place there.
+    pub fn fill(&mut self, place: udp::PacketMetadata)
+        requires empty { self.old.made ≡ None }
+        ensures made { self.new ≡ record self.old { made = Some place } }
+    {
+        unsafe {
+            (self.at as *mut udp::PacketMetadata).write(place);
+        }
+    }
+}
+
+impl UdpPlaces {
+    /// The places, for good.
+    pub fn lend(self) -> &'static mut [udp::PacketMetadata]
+        requires short { self.len ≤ 2 ^ 30 }
+        ensures len { self.len ≡ length result.now }
+    {
+        let UdpPlaces { at, len } = self;
+        unsafe { std::slice::from_raw_parts_mut(at as *mut udp::PacketMetadata, len) }
     }
 }
 

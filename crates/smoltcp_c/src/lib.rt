@@ -20,4 +20,7 @@ pub mod streams;
 pub mod tcp;
 pub mod tcp_handle;
 pub mod udp;
+pub mod udp_handle;
+pub mod udp_numbers;
+pub mod udp_packets;
 pub mod wire;

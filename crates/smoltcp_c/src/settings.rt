@@ -61,8 +61,8 @@ fn lasting(micros: i64) -> Option<Option<Duration>>
     }
 }
 
-// None where the number is 0.
-fn byte_or_none(byte: u8) -> Option<u8>
+/// None where the number is 0.
+pub fn byte_or_none(byte: u8) -> Option<u8>
     ensures value { result ≡ byte_or_none byte }
     ensures some { result ≡ Some 0 → ⊥ }
 {
@@ -202,8 +202,8 @@ fn micros_told(duration: Option<Duration>) -> i64
     }
 }
 
-// The byte, or 0 for none.
-fn byte_told(byte: Option<u8>) -> i64
+/// The byte, or 0 for none.
+pub fn byte_told(byte: Option<u8>) -> i64
     ensures { result ≡ byte_told byte }
 {
     match byte {

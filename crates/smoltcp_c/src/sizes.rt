@@ -3,9 +3,12 @@ ghost use Rattle.std.specs.Prelude.{◌≡◌};
 ghost use Rattle.std.specs.Mem.{type_size};
 ghost use denote.Signature.{static_lft};
 ghost use Rattle.smoltcp_c.specs.contracts.clock.Clock.{the_row as clock_row};
+ghost use Rattle.sock_dgram.specs.contracts.udp.socket.Socket.{the_row as udp_row};
 ghost use Rattle.sock_tcp.specs.contracts.socket.Socket.{the_row as socket_row};
+ghost use Rattle.smoltcp_c.specs.UdpPlaces.{place_row as udp_place_row};
 
 use crate::clock::Clock;
+use sock_dgram::udp;
 use sock_tcp::Socket;
 
 /// The size of a TCP socket, in bytes.
@@ -14,4 +17,20 @@ pub extern "C" fn smoltcp_tcp_size() -> usize
     ensures { result ≡ type_size (socket_row static_lft clock_row) }
 {
     std::mem::size_of::<Socket<'static, Clock>>()
+}
+
+/// The size of a UDP socket, in bytes.
+#[unsafe(no_mangle)]
+pub extern "C" fn smoltcp_udp_size() -> usize
+    ensures { result ≡ type_size (udp_row static_lft) }
+{
+    std::mem::size_of::<udp::Socket<'static>>()
+}
+
+/// The size of a place of a UDP socket's queue, in bytes.
+#[unsafe(no_mangle)]
+pub extern "C" fn smoltcp_udp_place_size() -> usize
+    ensures { result ≡ type_size udp_place_row }
+{
+    std::mem::size_of::<udp::PacketMetadata>()
 }

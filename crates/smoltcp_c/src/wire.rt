@@ -3,13 +3,15 @@ ghost use Rattle.std.specs.Prelude.{◌≡◌, ◌≤◌, ◌↔◌, IsTrue, len
 ghost use Rattle.ip_wire.specs.Checksum.{all_checksums};
 ghost use Rattle.ip_wire.specs.declared.checksum.Checksum.TheVariants.{Both};
 ghost use Rattle.control_wire.specs.Segment.{segment_of};
+ghost use Rattle.sock_dgram.specs.UdpDispatch.{outgoing_of};
+ghost use Rattle.smoltcp_c.specs.Udp.{CountsDatagram, WritesDatagram, with_datagram};
 ghost use Rattle.smoltcp_c.specs.Wire.{IsCounted, Writes, packet_len, with_packet};
 
 use crate::context::Moment;
-use control_wire::TcpRepr;
+use control_wire::{TcpRepr, UdpRepr};
 use ip_wire::{ChecksumCapabilities, IpAddress, IpProtocol, IpRepr, Ipv4Address, Ipv6Address};
 use net_base::time::Instant;
-use segment_wire::packet::emit_tcp;
+use segment_wire::packet::{emit_tcp, emit_udp};
 use sock_core::Context;
 
 // The longest TCP header, in bytes (RFC 9293, section 3.1).
@@ -43,6 +45,28 @@ pub fn put_packet(ip: &IpRepr, repr: &TcpRepr<'_>, out: &mut [u8]) -> usize
     whole
 }
 
+// Whether the header counts the datagram, and both fit a packet.
+fn counts_datagram(ip: &IpRepr, payload: &[u8]) -> bool
+    ensures { IsTrue result ↔ CountsDatagram ip.now payload.now }
+{
+    ip.payload_len() == 8 + payload.len()
+        && ip.header_len() + ip.payload_len() <= LONGEST_PACKET
+        && ip.next_header() == IpProtocol::Udp
+}
+
+// Writes the datagram as an IP packet at the beginning of `out`, and answers the packet's length.
+fn put_datagram(ip: &IpRepr, repr: &UdpRepr, payload: &[u8], out: &mut [u8]) -> usize
+    requires counted { CountsDatagram ip.now payload.now }
+    requires room { packet_len ip.now ≤ length out.old }
+    ensures len { result ≡ packet_len ip.now }
+    ensures bytes { out.new ≡ with_datagram (outgoing_of (ip.now, repr.now, payload.entry)) out.old }
+{
+    let whole = ip.header_len() + ip.payload_len();
+    let caps = ChecksumCapabilities::default();
+    emit_udp(ip, repr, payload, &mut out[..whole], &caps);
+    whole
+}
+
 /// The context of a call that writes one packet.
 #[derive(Drop)]
 pub struct Wire<'w> {
@@ -65,6 +89,17 @@ impl<'w> Wire<'w> {
             return Err(Full);
         }
         self.len = put_packet(ip, repr, self.out);
+        Ok(())
+    }
+
+    /// Writes the datagram as an IP packet at the beginning of `out`, where it fits.
+    pub fn write_datagram(&mut self, ip: &IpRepr, repr: &UdpRepr, payload: &[u8]) -> Result<(), Full>
+        ensures { WritesDatagram (outgoing_of (ip.now, repr.now, payload.entry)) self.old result self.new }
+    {
+        if !counts_datagram(ip, payload) || self.out.len() < ip.header_len() + ip.payload_len() {
+            return Err(Full);
+        }
+        self.len = put_datagram(ip, repr, payload, self.out);
         Ok(())
     }
 }
