@@ -1,3 +1,4 @@
+mod Copied
 mod Counts
 mod Emitting
 mod Foreign
@@ -6,4 +7,6 @@ mod Free
 mod Pieces
 mod Reading
 mod Replies
+mod Sending
 mod Told
+mod UdpSending

@@ -10,7 +10,6 @@ use Rattle.smoltcp_c.specs.Icmp as icmp
 use Rattle.smoltcp_c.specs.Udp as udp
 use Rattle.smoltcp_c.specs.declared.context.Cx.{Cx}
 use Rattle.smoltcp_c.specs.declared.endpoints.Address.{Address}
-use Rattle.smoltcp_c.specs.declared.udp.UdpNumbers.{UdpNumbers}
 
 -- nothing is no packet for a socket
 pub never : {P : Type 0} → (P → ⊥) → IsTrue false ↔ P
@@ -21,16 +20,6 @@ udp_none v f packet e = subst (λ o. IsTrue false ↔ udp.AcceptsIf v f o) e (ne
 
 pub udp_some : (v : udp_view.View) (f : Facts) (packet : List ℕ) (p : UdpPacket) (b : Bool) → Some p ≡ udp.carried_datagram packet → (IsTrue b ↔ udp_view.Accepts v f p.ip p.datagram.header) → IsTrue b ↔ udp.IsFor v f packet
 udp_some v f packet p b e h = subst (λ o. IsTrue b ↔ udp.AcceptsIf v f o) e h
-
-pub udp_for_at : (v v' : udp_view.View) (cx cx' : Cx) (packet : List ℕ) (b : Bool) → v ≡ v' → cx ≡ cx' → (IsTrue b ↔ udp.IsFor v (facts_in cx) packet) → IsTrue b ↔ udp.IsFor v' (facts_in cx') packet
-udp_for_at v v' cx cx' packet b e0 e1 h =
-    let y = subst (λ w. IsTrue b ↔ udp.IsFor w (facts_in cx) packet) e0 h in
-    subst (λ y. IsTrue b ↔ udp.IsFor v' (facts_in y) packet) e1 y
-
-pub udp_given_at : (p p' : UdpPacket) (meta meta' : UdpNumbers) (bs bs' : List ℕ) (r r' : ℤ) → p ≡ p' → r' ≡ r → udp.GivesUdp p meta bs r meta' bs' → udp.GivesUdp p' meta bs r' meta' bs'
-udp_given_at p p' meta meta' bs bs' r r' e0 e1 x =
-    let y = subst (λ q. udp.GivesUdp q meta bs r meta' bs') e0 x in
-    subst (λ q. udp.GivesUdp p' meta bs q meta' bs') (sym e1) y
 
 pub icmp_none : (v : icmp_view.View) (f : Facts) (packet : List ℕ) → None ≡ icmp.carried_message packet → IsTrue false ↔ icmp.IsFor v f packet
 icmp_none v f packet e = subst (λ o. IsTrue false ↔ icmp.AcceptsIf v f o) e (never (λ x. x))

@@ -9,6 +9,10 @@ use Rattle.sock_tcp.specs.declared.error.ConnectError.{ConnectError}
 use Rattle.sock_tcp.specs.declared.error.ConnectError.TheVariants as connect_error
 use Rattle.sock_dgram.specs.declared.error.BindError.{BindError}
 use Rattle.sock_dgram.specs.declared.error.BindError.TheVariants as bind_error
+use Rattle.sock_dgram.specs.declared.error.RecvError.{RecvError as CopyError}
+use Rattle.sock_dgram.specs.declared.error.RecvError.TheVariants as copy_error
+use Rattle.sock_dgram.specs.declared.error.SendError.{SendError as DatagramError}
+use Rattle.sock_dgram.specs.declared.error.SendError.TheVariants as datagram_error
 use Rattle.sock_tcp.specs.declared.error.SendError.{SendError}
 use Rattle.sock_tcp.specs.declared.error.RecvError.{RecvError}
 use Rattle.sock_tcp.specs.declared.error.RecvError.TheVariants as recv_error
@@ -57,6 +61,20 @@ abbrev pub bind_answer : {U : Type 0} → Result U BindError → ℤ
 bind_answer (Ok u) = pos 0
 bind_answer (Err bind_error.InvalidState) = error_state
 bind_answer (Err bind_error.Unaddressable) = error_address
+
+abbrev pub datagram_answer : {U : Type 0} → Result U DatagramError → ℤ
+datagram_answer (Ok u) = pos 0
+datagram_answer (Err datagram_error.Unaddressable) = error_address
+datagram_answer (Err datagram_error.BufferFull) = error_room
+
+-- a packet that is copied out of a queue: how many bytes it has
+abbrev pub refused_copy : CopyError → ℤ
+refused_copy copy_error.Exhausted = error_empty
+refused_copy copy_error.Truncated = error_room
+
+abbrev pub copied_answer : {M : Type 0} → Result (ℕ × M) CopyError → ℤ
+copied_answer (Ok r) = pos r.0
+copied_answer (Err e) = refused_copy e
 
 -- a count of bytes that is at most 2^30
 abbrev pub UpTo30 : {E : Type 0} → Result ℕ E → Type 0

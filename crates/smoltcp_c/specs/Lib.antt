@@ -4,8 +4,10 @@ pub mod Icmp
 pub mod Memory
 pub mod Numbers
 pub mod Packets
+pub mod Places
 pub mod Ports
 pub mod Queue
+pub mod Sends
 pub mod Streams
 pub mod Tcp
 pub mod Udp

@@ -1,39 +1,36 @@
--- A UDP socket as C holds it: what it is bound to, and two queues of packets.
-use Rattle.std.specs.Prelude.{ℕ, ℤ, pos, ◌≡◌, ◌≤◌, ◌<◌, ◌==◌, ◌||◌, ◌^◌, nat_lt, Bool, List, [], ◌++◌, length, drop, Option, Some, None, if◌then◌else◌}
+-- A UDP socket in the memory of C.
+use Rattle.std.specs.Prelude.{ℕ, ℤ, pos, ◌≡◌, ◌+◌, ◌≤◌, ◌==◌, nat_le, Bool, true, false, List, ◌++◌, length, drop, cond, Option, Some, None, Result, Ok, Err, if◌then◌else◌}
 use Rattle.ip_wire.specs.Checksum.{all_checksums}
+use Rattle.ip_wire.specs.IpHeader.{header_len_of, next_header_of, payload_len_of}
 use Rattle.ip_wire.specs.declared.address.IpAddress.{IpAddress}
+use Rattle.ip_wire.specs.declared.address.IpAddress.TheVariants as address
 use Rattle.ip_wire.specs.declared.checksum.Checksum.TheVariants as checksum
-use Rattle.ip_wire.specs.declared.endpoint.IpListenEndpoint.{IpListenEndpoint}
-use Rattle.net_base.specs.Packets.{packets_with}
+use Rattle.ip_wire.specs.declared.protocol.IpProtocol.TheVariants as protocol
+use Rattle.ip_wire.specs.declared.repr.IpRepr.{IpRepr}
+use Rattle.net_base.specs.Packets.{Dequeues, skipped}
 use Rattle.segment_wire.specs.Packet.{UdpPacket, udp_packet, udp_packet_parsed}
+use Rattle.segment_wire.specs.Udp.{Datagram}
 use Rattle.sock_core.specs.Facts.{Facts}
-use Rattle.sock_dgram.specs.Udp.{View, Accepts, fresh, is_sendable, metadata_of, no_endpoint}
-use Rattle.sock_dgram.specs.UdpDispatch.{Outgoing, from_source, source_of}
+use Rattle.sock_dgram.specs.Datagrams.{stored}
+use Rattle.sock_dgram.specs.Udp.{View, Accepts, metadata_of, waiting}
+use Rattle.sock_dgram.specs.UdpDispatch.{Outgoing, outgoing}
+use Rattle.sock_dgram.specs.declared.error.RecvError.{RecvError}
 use Rattle.sock_dgram.specs.declared.udp.socket.UdpMetadata.{UdpMetadata}
-use Rattle.smoltcp_c.specs.Answers.{error_address, error_room}
-use Rattle.smoltcp_c.specs.Numbers.{address_in, address_or_none_told, byte_or_none, endpoint_in, endpoint_told, listen_in}
-use Rattle.smoltcp_c.specs.Queue.{first_of, put_answer, put_behind, queued}
+use Rattle.smoltcp_c.specs.Answers.{not_accepted}
+use Rattle.smoltcp_c.specs.Numbers.{address_in, address_or_none_told, endpoint_in, endpoint_told}
+use Rattle.smoltcp_c.specs.Sends.{Puts, SendsInto, has_room}
 use Rattle.smoltcp_c.specs.Wire.{packet_len}
 use Rattle.smoltcp_c.specs.declared.endpoints.Address.{Address}
-use Rattle.smoltcp_c.specs.declared.queue.Queue.{Queue}
-use Rattle.smoltcp_c.specs.declared.udp.UdpNumbers.{UdpNumbers}
-use Rattle.smoltcp_c.specs.declared.udp.UdpSocket.{UdpSocket}
+use Rattle.smoltcp_c.specs.declared.udp_handle.UdpHandle.{UdpHandle}
+use Rattle.smoltcp_c.specs.declared.udp_numbers.UdpNumbers.{UdpNumbers}
+use Rattle.smoltcp_c.specs.declared.wire.Full.{Full}
+use Rattle.smoltcp_c.specs.declared.wire.Wire.{Wire}
 
--- what it is bound to: nothing where the port is 0
-abbrev pub bound_in : UdpSocket → IpListenEndpoint
-bound_in s = if s.endpoint.port == 0 then no_endpoint else listen_in s.endpoint
+-- the same handle, at the same place, with another socket
+abbrev pub with_socket : UdpHandle → View → UdpHandle
+with_socket h v = record h { socket = v }
 
--- a socket with no places in its queues
-abbrev pub closed_socket : View
-closed_socket = fresh (packets_with [] 0 [] 0) (packets_with [] 0 [] 0)
-
--- the socket but for its queues
-abbrev pub udp_in : UdpSocket → View
-udp_in s = record closed_socket { endpoint = bound_in s; hop_limit = byte_or_none s.hop_limit }
-
--- a buffer is longer than a queue can have
-abbrev pub is_long : UdpSocket → Bool
-is_long s = nat_lt (2 ^ 30) (length s.rx.bytes.now) || nat_lt (2 ^ 30) (length s.tx.bytes.now)
+-- ---- metadata
 
 -- without an address where the version is 0
 abbrev pub address_or_none : Address → Option IpAddress
@@ -47,7 +44,23 @@ abbrev pub metadata_told : UdpMetadata → UdpNumbers
 metadata_told m =
     record { endpoint = endpoint_told m.endpoint; local_address = address_or_none_told m.local_address }
 
--- ---- a packet that comes
+-- of what a call that copies a datagram answers, in place of what stood there
+abbrev pub metadata_written : Result (ℕ × UdpMetadata) RecvError → UdpNumbers → UdpNumbers
+metadata_written (Ok r) meta = metadata_told r.1
+metadata_written (Err e) meta = meta
+
+-- ---- send
+
+-- how many bytes of payload a packet of 65535 bytes to this address has
+abbrev pub longest_payload : IpAddress → ℕ
+longest_payload (address.Ipv4 a) = 65507
+longest_payload (address.Ipv6 a) = 65487
+
+-- a datagram of n bytes fits a packet
+abbrev pub is_packet : UdpMetadata → ℕ → Bool
+is_packet m n = nat_le n (longest_payload m.endpoint.addr)
+
+-- ---- process
 
 -- the datagram that a packet carries, if it is whole and each checksum verifies
 unfoldable pub carried_datagram : List ℕ → Option UdpPacket
@@ -61,46 +74,41 @@ AcceptsIf v f (Some p) = Accepts v f p.ip p.datagram.header
 abbrev pub IsFor : View → Facts → List ℕ → Type 0
 IsFor v f packet = AcceptsIf v f (carried_datagram packet)
 
--- ---- recv
+-- a datagram that is not for the socket changes nothing; else it comes behind the receive queue, where it finds room
+pub record Hears (v : View) (f : Facts) (ip : IpRepr) (d : Datagram) (result : ℤ) (w : View) : Type 0 where
+  pub foreign : (Accepts v f ip d.header → ⊥) → (result ≡ not_accepted) × (w ≡ v)
+  pub answer : Accepts v f ip d.header → result ≡ pos 0
+  pub socket : Accepts v f ip d.header
+      → w ≡ record v { rx_buffer = stored (metadata_of ip d.header) d.payload v.rx_buffer }
 
-abbrev pub datagram_of : Option (List ℕ) → Option UdpPacket
-datagram_of None = None
-datagram_of (Some packet) = carried_datagram packet
+-- ---- dispatch
 
--- the first datagram of what stands in a queue
-unfoldable pub first_datagram : List ℕ → Option UdpPacket
-first_datagram bs = datagram_of (first_of bs)
-
--- the call answered an error, and nothing changed
-abbrev pub Untaken : ℤ → UdpSocket → UdpNumbers → List ℕ → ℤ → UdpSocket → UdpNumbers → List ℕ → Type 0
-Untaken error s meta bs result s' meta' bs' = (result ≡ error) × (s' ≡ s) × (meta' ≡ meta) × (bs' ≡ bs)
-
--- a payload that does not fit the buffer is lost; else it stands at the buffer's beginning, and where it came from and
--- went to in the metadata
-pub record GivesUdp (p : UdpPacket) (meta : UdpNumbers) (bs : List ℕ) (result : ℤ) (meta' : UdpNumbers) (bs' : List ℕ)
-    : Type 0 where
-  pub short : length bs < length p.datagram.payload → (result ≡ error_room) × (meta' ≡ meta) × (bs' ≡ bs)
-  pub answer : length p.datagram.payload ≤ length bs → result ≡ pos (length p.datagram.payload)
-  pub metadata : length p.datagram.payload ≤ length bs → metadata_in meta' ≡ metadata_of p.ip p.datagram.header
-  pub told : length p.datagram.payload ≤ length bs → meta' ≡ metadata_told (metadata_of p.ip p.datagram.header)
-  pub bytes : length p.datagram.payload ≤ length bs
-      → bs' ≡ p.datagram.payload ++ drop (length p.datagram.payload) bs
-
--- ---- a datagram to send
-
--- what a datagram of these bytes goes out as: what `send` lets into the queue, and `dispatch` takes from it
-abbrev pub sendable : View → Facts → UdpMetadata → List ℕ → Option Outgoing
-sendable v f m bs = if is_sendable v m then from_source v m bs (source_of v f m) else None
-
--- the packet, all checksums computed
+-- the packet, all checksums computed, and how many bytes it has
 abbrev pub datagram_packet : Outgoing → List ℕ
 datagram_packet o = udp_packet (all_checksums checksum.Both) o.ip o.udp o.payload
 
--- its packet goes into the queue, where it finds room
-abbrev pub sent_answer : Option Outgoing → Queue → ℤ
-sent_answer None q = error_address
-sent_answer (Some o) q = put_answer (packet_len o.ip) q
+abbrev pub datagram_len : Outgoing → ℕ
+datagram_len o = packet_len o.ip
 
-abbrev pub sent_behind : Option Outgoing → Queue → List ℕ
-sent_behind None q = queued q
-sent_behind (Some o) q = put_behind (packet_len o.ip) (datagram_packet o) q
+abbrev pub with_datagram : Outgoing → List ℕ → List ℕ
+with_datagram o out = datagram_packet o ++ drop (datagram_len o) out
+
+-- the header counts the datagram, and both fit a packet
+pub record CountsDatagram (ip : IpRepr) (payload : List ℕ) : Type 0 where
+  pub octets : payload_len_of ip ≡ 8 + length payload
+  pub total : packet_len ip ≤ 65535
+  pub protocol : next_header_of ip ≡ protocol.Udp
+
+abbrev pub WritesDatagram : Outgoing → Wire → Result (Unit {0}) Full → Wire → Type 0
+WritesDatagram o old result new =
+    Puts (CountsDatagram o.ip o.payload) (datagram_len o) (datagram_packet o) old result new
+
+-- the first datagram's packet is written where it has a source and fits. It leaves the queue, but for where the packet
+-- does not fit: it stays first then
+pub record DispatchesInto (v : View) (f : Facts) (out : List ℕ) (result : ℤ) (w : View) (out' : List ℕ) : Type 0 where
+  pub sends : SendsInto datagram_len datagram_packet (outgoing v f) out result out'
+  pub queue : waiting w
+      ≡ cond (has_room datagram_len datagram_packet (outgoing v f) out) (drop 1 (waiting v)) (waiting v)
+  pub sent : has_room datagram_len datagram_packet (outgoing v f) out ≡ true → Dequeues v.tx_buffer w.tx_buffer
+  pub failed : has_room datagram_len datagram_packet (outgoing v f) out ≡ false → w.tx_buffer ≡ skipped v.tx_buffer
+  pub same : w ≡ record v { tx_buffer = w.tx_buffer }

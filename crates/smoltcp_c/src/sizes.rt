@@ -5,7 +5,7 @@ ghost use denote.Signature.{static_lft};
 ghost use Rattle.smoltcp_c.specs.contracts.clock.Clock.{the_row as clock_row};
 ghost use Rattle.sock_dgram.specs.contracts.udp.socket.Socket.{the_row as udp_row};
 ghost use Rattle.sock_tcp.specs.contracts.socket.Socket.{the_row as socket_row};
-ghost use Rattle.smoltcp_c.specs.UdpPlaces.{place_row as udp_place_row};
+ghost use Rattle.smoltcp_c.specs.Places.{udp_place_row};
 
 use crate::clock::Clock;
 use sock_dgram::udp;

@@ -48,9 +48,9 @@ pub struct UdpPlaceRoom {
 
 impl Model for UdpPlaceRoom {
     ghost use Rattle.smoltcp_c.specs.Memory.{held_at};
-    ghost use Rattle.smoltcp_c.specs.UdpPlaces.{place_row};
+    ghost use Rattle.smoltcp_c.specs.Places.{udp_place_row};
 
-    ghost also_owns = { λ r. held_at place_row r.at r.made };
+    ghost also_owns = { λ r. held_at udp_place_row r.at r.made };
 }
 
 /// Places of a queue that nothing else uses from now on.
@@ -62,7 +62,7 @@ pub struct UdpPlaces {
 
 impl Model for UdpPlaces {
     ghost use Rattle.smoltcp_c.specs.Memory.{items_at};
-    ghost use Rattle.smoltcp_c.specs.UdpPlaces.{place_row};
+    ghost use Rattle.smoltcp_c.specs.Places.{udp_place_row};
 
-    ghost also_owns = { λ p. items_at place_row p.at p.len };
+    ghost also_owns = { λ p. items_at udp_place_row p.at p.len };
 }

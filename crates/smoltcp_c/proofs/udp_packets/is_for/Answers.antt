@@ -1,5 +1,5 @@
 use Rattle.smoltcp_c.proofs.Told.{udp_none, udp_some}
-use Rattle.smoltcp_c.proofs.udp.is_for.Goals as goal
+use Rattle.smoltcp_c.proofs.udp_packets.is_for.Goals as goal
 
 pub returns-in-None : goal.returns-in-None
 returns-in-None c = udp_none _ _ _ c.in-None.ensures

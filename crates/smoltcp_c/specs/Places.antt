@@ -1,0 +1,7 @@
+-- The places of the queues of datagram sockets, as types.
+use denote.RattleType.{RattleType}
+use Rattle.net_base.specs.contracts.packet_buffer.PacketMetadata.{the_row as place_row}
+use Rattle.sock_dgram.specs.contracts.udp.socket.UdpMetadata.{the_row as udp_row}
+
+abbrev pub udp_place_row : RattleType
+udp_place_row = place_row udp_row
