@@ -35,6 +35,7 @@ static struct connection {
 } connections[SOCKETS];
 
 static struct smoltcp_udp datagrams;
+static struct smoltcp_udp_place rx_places[TURN], tx_places[TURN];
 static uint8_t datagrams_rx[ROOM], datagrams_tx[ROOM];
 static struct smoltcp_context cx = {0, 0, 0, MTU, {10, 9, 0, 2}, {0}};
 static int device;
@@ -129,9 +130,8 @@ static void serve_page(struct connection *c) {
 
 static void make_datagrams(void) {
     struct smoltcp_endpoint at = any(7);
-    datagrams.rx.bytes = datagrams_rx; datagrams.rx.bytes_len = ROOM;
-    datagrams.tx.bytes = datagrams_tx; datagrams.tx.bytes_len = ROOM;
-    smoltcp_udp_init(&datagrams);
+    struct smoltcp_udp_buffer rx = {rx_places, TURN, datagrams_rx, ROOM}, tx = {tx_places, TURN, datagrams_tx, ROOM};
+    smoltcp_udp_init(&datagrams, rx, tx);
     smoltcp_udp_bind(&datagrams, &at);
 }
 
@@ -148,8 +148,8 @@ static void echo_datagrams(void) {
     for (turn = 0; turn < TURN; turn++) {
         int64_t n = smoltcp_udp_recv(&datagrams, &meta, data, sizeof data);
         if (n < 0) return;
-        smoltcp_udp_send(&datagrams, &cx, &meta, data, (size_t)n);
-        emit(packet, smoltcp_udp_dispatch(&datagrams, packet, sizeof packet));
+        smoltcp_udp_send(&datagrams, &meta, data, (size_t)n);
+        emit(packet, smoltcp_udp_dispatch(&datagrams, &cx, packet, sizeof packet));
     }
 }
 

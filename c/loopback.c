@@ -64,80 +64,121 @@ static void make_fragment(uint8_t *packet, int behind) {
     packet[10] = (uint8_t)(sum >> 8); packet[11] = (uint8_t)sum;
 }
 
-/* Sets the buffers of two queues. */
-static void lend(struct smoltcp_queue *rx, uint8_t *of_rx, struct smoltcp_queue *tx, uint8_t *of_tx) {
-    rx->bytes = of_rx; rx->bytes_len = QUEUE;
-    tx->bytes = of_tx; tx->bytes_len = QUEUE;
-}
-
 /* Gives what the one socket emits to the other, and answers what the other says of the last packet. */
-static int64_t carry(struct smoltcp_udp *from, struct smoltcp_udp *to, const struct smoltcp_context *of_to) {
+static int64_t carry(struct smoltcp_udp *from, const struct smoltcp_context *of_from, struct smoltcp_udp *to,
+                     const struct smoltcp_context *of_to) {
     uint8_t packet[MTU];
     int64_t len, answer = SMOLTCP_ERROR_EMPTY;
-    while ((len = smoltcp_udp_dispatch(from, packet, sizeof packet)) > 0)
+    while ((len = smoltcp_udp_dispatch(from, of_from, packet, sizeof packet)) > 0)
         answer = smoltcp_udp_process(to, of_to, packet, (size_t)len);
     want("all dispatched", len, 0);
     return answer;
 }
 
+/* Two places and some bytes. */
+static struct smoltcp_udp_buffer two_places(struct smoltcp_udp_place *places, uint8_t *bytes) {
+    struct smoltcp_udp_buffer buffer = {places, 2, bytes, QUEUE};
+    return buffer;
+}
+
+/* A client and a server of UDP, and the packets that only one of them takes. */
+static struct smoltcp_udp client, server;
+
+static int64_t make_datagram_sockets(void) {
+    static struct smoltcp_udp_place places[4][2];
+    static uint8_t bytes[4][QUEUE];
+    struct smoltcp_udp_buffer none = {NULL, 0, NULL, 0};
+    want("size", (int64_t)smoltcp_udp_size(), SMOLTCP_UDP_SIZE);
+    want("size of a place", (int64_t)smoltcp_udp_place_size(), SMOLTCP_UDP_PLACE_SIZE);
+    want("no buffers", smoltcp_udp_init(&client, none, none), SMOLTCP_ERROR_NULL);
+    none = two_places(places[0], bytes[0]);
+    none.count = (size_t)-1;
+    want("too many", smoltcp_udp_init(&client, none, none), SMOLTCP_ERROR_RANGE);
+    return smoltcp_udp_init(&client, two_places(places[0], bytes[0]), two_places(places[1], bytes[1]))
+           + smoltcp_udp_init(&server, two_places(places[2], bytes[2]), two_places(places[3], bytes[3]));
+}
+
+/* What a closed socket refuses, and what it says of itself. */
+static void bind_both(const struct smoltcp_udp_metadata *meta) {
+    struct smoltcp_endpoint at_a = endpoint(1, 49152), bound;
+    uint8_t byte = 0;
+    want("not open", smoltcp_udp_send(&client, meta, &byte, 1), SMOLTCP_ERROR_ADDRESS);
+    want("is open", smoltcp_udp_is_open(&client), 0);
+    want("bind", smoltcp_udp_bind(&client, &at_a), SMOLTCP_OK);
+    want("bind", smoltcp_udp_bind(&server, &meta->endpoint), SMOLTCP_OK);
+    want("open", smoltcp_udp_bind(&server, &meta->endpoint), SMOLTCP_ERROR_STATE);
+    want("endpoint", smoltcp_udp_endpoint(&client, &bound), SMOLTCP_OK);
+    want("bound to", memcmp(&bound, &at_a, sizeof bound), 0);
+    want("places", smoltcp_udp_packet_send_capacity(&client) + smoltcp_udp_packet_recv_capacity(&server), 4);
+    want("bytes", smoltcp_udp_payload_send_capacity(&client) + smoltcp_udp_payload_recv_capacity(&server), 2 * QUEUE);
+    want("hop limit", smoltcp_udp_hop_limit(&client), 0);
+    want("hop limit", smoltcp_udp_set_hop_limit(&client, 7), SMOLTCP_OK);
+    want("hop limit", smoltcp_udp_hop_limit(&client), 7);
+    want("nothing to emit", smoltcp_udp_poll_at(&client, &of_a), INT64_MAX);
+    want("can send", smoltcp_udp_can_send(&client), 1);
+}
+
+/* The packet of the client's datagram is for the server alone, whole and not damaged. */
+static void offer_to_both(uint8_t *packet, size_t len) {
+    uint8_t cut[MTU];
+    want("for another port", smoltcp_udp_process(&client, &of_a, packet, len), SMOLTCP_NOT_ACCEPTED);
+    want("accepts", smoltcp_udp_accepts(&client, &of_a, packet, len), 0);
+    packet[30] ^= 1;
+    want("damaged", smoltcp_udp_process(&server, &of_b, packet, len), SMOLTCP_NOT_ACCEPTED);
+    packet[30] ^= 1;
+    memcpy(cut, packet, len);
+    make_fragment(cut, 0);
+    want("first fragment", smoltcp_udp_process(&server, &of_b, cut, len), SMOLTCP_NOT_ACCEPTED);
+    make_fragment(cut, 1);
+    want("later fragment", smoltcp_udp_process(&server, &of_b, cut, len), SMOLTCP_NOT_ACCEPTED);
+    want("accepts", smoltcp_udp_accepts(&server, &of_b, packet, len), 1);
+    want("process", smoltcp_udp_process(&server, &of_b, packet, len), SMOLTCP_OK);
+    want("process", smoltcp_udp_process(&server, &of_b, packet, len), SMOLTCP_OK);
+    want("dropped", smoltcp_udp_process(&server, &of_b, packet, len), SMOLTCP_OK);
+}
+
 /* A datagram from a port of a to a socket of b, and one back to where it came from. */
 static void datagrams(void) {
     static const uint8_t text[] = "which address?";
-    static uint8_t client_rx[QUEUE], client_tx[QUEUE], server_rx[QUEUE], server_tx[QUEUE];
-    struct smoltcp_udp client, server;
     struct smoltcp_udp_metadata meta, from;
-    struct smoltcp_endpoint at_a = endpoint(1, 49152), at_b = endpoint(2, 53);
-    uint8_t packet[MTU], cut[MTU], bytes[64];
+    uint8_t packet[MTU], bytes[64];
     int64_t len;
 
-    memset(&client, 0, sizeof client);
-    memset(&server, 0, sizeof server);
     memset(&meta, 0, sizeof meta);
-    meta.endpoint = at_b;
-    want("no buffers", smoltcp_udp_init(&client), SMOLTCP_ERROR_NULL);
-    lend(&client.rx, client_rx, &client.tx, client_tx);
-    lend(&server.rx, server_rx, &server.tx, server_tx);
-    want("zeros", smoltcp_udp_send(&client, &of_a, &meta, text, sizeof text), SMOLTCP_ERROR_SOCKET);
-    want("init", smoltcp_udp_init(&client), SMOLTCP_OK);
-    want("init", smoltcp_udp_init(&server), SMOLTCP_OK);
-    want("not open", smoltcp_udp_send(&client, &of_a, &meta, text, sizeof text), SMOLTCP_ERROR_ADDRESS);
-    want("bind", smoltcp_udp_bind(&client, &at_a), SMOLTCP_OK);
-    want("bind", smoltcp_udp_bind(&server, &at_b), SMOLTCP_OK);
-    want("open", smoltcp_udp_bind(&server, &at_b), SMOLTCP_ERROR_STATE);
-    want("nothing to emit", smoltcp_udp_poll_at(&client, &of_a), INT64_MAX);
-    want("can send", smoltcp_udp_can_send(&client), 1);
-    want("send", smoltcp_udp_send(&client, &of_a, &meta, text, sizeof text), SMOLTCP_OK);
+    meta.endpoint = endpoint(2, 53);
+    want("init", make_datagram_sockets(), SMOLTCP_OK);
+    bind_both(&meta);
+    want("send", smoltcp_udp_send(&client, &meta, text, sizeof text), SMOLTCP_OK);
+    want("waiting", smoltcp_udp_send_queue(&client), sizeof text);
+    want("too long", smoltcp_udp_send(&client, &meta, packet, QUEUE), SMOLTCP_ERROR_ROOM);
     want("emit now", smoltcp_udp_poll_at(&client, &of_a), of_a.now);
-    want("short", smoltcp_udp_dispatch(&client, packet, 1), SMOLTCP_ERROR_ROOM);
-    len = smoltcp_udp_dispatch(&client, packet, sizeof packet);
+    want("short", smoltcp_udp_dispatch(&client, &of_a, packet, 1), SMOLTCP_ERROR_ROOM);
+    len = smoltcp_udp_dispatch(&client, &of_a, packet, sizeof packet);
     want("packet", len, 28 + sizeof text);
-    want("for another port", smoltcp_udp_process(&client, &of_a, packet, (size_t)len), SMOLTCP_NOT_ACCEPTED);
-    packet[30] ^= 1;
-    want("damaged", smoltcp_udp_process(&server, &of_b, packet, (size_t)len), SMOLTCP_NOT_ACCEPTED);
-    packet[30] ^= 1;
-    memcpy(cut, packet, (size_t)len);
-    make_fragment(cut, 0);
-    want("first fragment", smoltcp_udp_process(&server, &of_b, cut, (size_t)len), SMOLTCP_NOT_ACCEPTED);
-    make_fragment(cut, 1);
-    want("later fragment", smoltcp_udp_process(&server, &of_b, cut, (size_t)len), SMOLTCP_NOT_ACCEPTED);
-    want("process", smoltcp_udp_process(&server, &of_b, packet, (size_t)len), SMOLTCP_OK);
-    want("process", smoltcp_udp_process(&server, &of_b, packet, (size_t)len), SMOLTCP_OK);
-    want("no room", smoltcp_udp_process(&server, &of_b, packet, (size_t)len), SMOLTCP_ERROR_ROOM);
+    want("hop limit", packet[8], 7);
+    offer_to_both(packet, (size_t)len);
     want("can recv", smoltcp_udp_can_recv(&server), 1);
+    want("two came", smoltcp_udp_recv_queue(&server), 2 * sizeof text);
+    want("short", smoltcp_udp_peek(&server, &from, bytes, 1), SMOLTCP_ERROR_ROOM);
     want("lost", smoltcp_udp_recv(&server, &from, bytes, 1), SMOLTCP_ERROR_ROOM);
+    want("peek", smoltcp_udp_peek(&server, &from, bytes, sizeof bytes), sizeof text);
     len = smoltcp_udp_recv(&server, &from, bytes, sizeof bytes);
     want("payload", len, sizeof text);
     want("bytes", memcmp(bytes, text, sizeof text), 0);
     printf("server reads: %s\n", (const char *)bytes);
     want("port", from.endpoint.port, 49152);
     want("empty", smoltcp_udp_recv(&server, &from, bytes, sizeof bytes), SMOLTCP_ERROR_EMPTY);
-    want("answer", smoltcp_udp_send(&server, &of_b, &from, text, 5), SMOLTCP_OK);
-    want("carry", carry(&server, &client, &of_a), SMOLTCP_OK);
+    want("answer", smoltcp_udp_send(&server, &from, text, 5), SMOLTCP_OK);
+    want("carry", carry(&server, &of_b, &client, &of_a), SMOLTCP_OK);
     want("answer", smoltcp_udp_recv(&client, &from, bytes, sizeof bytes), 5);
-    server.rx.end = QUEUE + 1;
-    want("broken", smoltcp_udp_can_recv(&server), SMOLTCP_ERROR_SOCKET);
     want("close", smoltcp_udp_close(&server), SMOLTCP_OK);
     want("close", smoltcp_udp_close(&client), SMOLTCP_OK);
+}
+
+/* Sets the buffers of two queues. */
+static void lend(struct smoltcp_queue *rx, uint8_t *of_rx, struct smoltcp_queue *tx, uint8_t *of_tx) {
+    rx->bytes = of_rx; rx->bytes_len = QUEUE;
+    tx->bytes = of_tx; tx->bytes_len = QUEUE;
 }
 
 /* An echo request with identifier 7 and number 1 and its reply, which b sends with the same text. */

@@ -2,12 +2,12 @@
  * allocates, keeps anything elsewhere or calls back. Calls on different sockets may run at once.
  *
  * Each call answers a number: 0 or more where it was done, and below 0 an error, with nothing changed; but see
- * smoltcp_tcp_dispatch, smoltcp_udp_recv and smoltcp_icmp_recv.
+ * smoltcp_tcp_dispatch, smoltcp_udp_dispatch, smoltcp_udp_recv and smoltcp_icmp_recv.
  *
- * What the caller has to keep, which nothing tests: a TCP socket is memory that smoltcp_tcp_init made and that has not
- * been moved, copied or written since; of one socket one call runs at a time; its buffers are its own from init on, and
- * overlap neither the socket, nor each other, nor what a call is given; a pointer leads to memory of the length given,
- * and a length is one: the (size_t)-1 of a failed read is none.
+ * What the caller has to keep, which nothing tests: a TCP or UDP socket is memory that smoltcp_tcp_init or
+ * smoltcp_udp_init made and that has not been moved, copied or written since; of one socket one call runs at a time;
+ * its buffers are its own from init on, and overlap neither the socket, nor each other, nor what a call is given; a
+ * pointer leads to memory of the length given, and a length is one: the (size_t)-1 of a failed read is none.
  *
  * A host looks at a packet before a socket sees it: it refuses a destination that is not its own (multicast and
  * broadcast too), and a source that is multicast, broadcast or its own; it offers a packet to the sockets that have a
@@ -27,7 +27,7 @@ enum {
     SMOLTCP_ERROR_STATE = -1,    /* the state of the socket does not allow the call */
     SMOLTCP_ERROR_ADDRESS = -2,  /* a port or an address is missing or of another version */
     SMOLTCP_ERROR_FINISHED = -3, /* the peer has closed, and all that it sent was read */
-    SMOLTCP_ERROR_SOCKET = -4,   /* a struct of UDP or ICMP was not made by init, or a buffer has another size */
+    SMOLTCP_ERROR_SOCKET = -4,   /* a struct of ICMP was not made by init, or a buffer has another size */
     SMOLTCP_ERROR_CONTEXT = -5,  /* the context's moment or its MTU is out of range */
     SMOLTCP_ERROR_ROOM = -6,     /* a buffer or a queue has too little room for a packet */
     SMOLTCP_ERROR_NULL = -7,     /* a pointer is null */
@@ -83,12 +83,17 @@ struct smoltcp_queue {
     size_t start, end;
 };
 
-/* A UDP socket. Set the buffers of its queues, and call smoltcp_udp_init. */
-struct smoltcp_udp {
-    struct smoltcp_queue rx, tx;      /* the packets that came, and those to emit */
-    struct smoltcp_endpoint endpoint; /* what it is bound to: nothing where the port is 0 */
-    uint8_t hop_limit;                /* of what is sent; 0: 64. May be set after init */
-};
+/* Memory for a UDP socket, and for a place of its queues, as that for a TCP socket. */
+enum { SMOLTCP_UDP_SIZE = 208, SMOLTCP_UDP_PLACE_SIZE = 56 };
+struct smoltcp_udp { uint64_t opaque[SMOLTCP_UDP_SIZE / 8]; };
+struct smoltcp_udp_place { uint64_t opaque[SMOLTCP_UDP_PLACE_SIZE / 8]; };
+
+/* What a queue of a UDP socket lies in: a place for each datagram, and bytes for the payloads, at most 2^30 of both. */
+struct smoltcp_udp_buffer { struct smoltcp_udp_place *places; size_t count; uint8_t *bytes; size_t len; };
+
+/* What the library is handed: where a UDP socket lies, or room for a place; places that are a socket's for good. */
+struct smoltcp_udp_handle { uint8_t *at; };
+struct smoltcp_places { uint8_t *at; size_t len; };
 
 /* Where a datagram came from or goes to, and the own address: that to which it came, or from which it is sent (none:
  * the bound one, or else the interface's). */
@@ -112,7 +117,8 @@ _Static_assert(sizeof(struct smoltcp_endpoint) == 24, "smoltcp_endpoint");
 _Static_assert(sizeof(struct smoltcp_context) == 40, "smoltcp_context");
 _Static_assert(sizeof(struct smoltcp_tcp) == SMOLTCP_TCP_SIZE, "smoltcp_tcp");
 _Static_assert(sizeof(struct smoltcp_queue) == 40, "smoltcp_queue");
-_Static_assert(sizeof(struct smoltcp_udp) == 112, "smoltcp_udp");
+_Static_assert(sizeof(struct smoltcp_udp) == SMOLTCP_UDP_SIZE, "smoltcp_udp");
+_Static_assert(sizeof(struct smoltcp_udp_place) == SMOLTCP_UDP_PLACE_SIZE, "smoltcp_udp_place");
 _Static_assert(sizeof(struct smoltcp_udp_metadata) == 46, "smoltcp_udp_metadata");
 _Static_assert(sizeof(struct smoltcp_icmp) == 112, "smoltcp_icmp");
 #endif
@@ -169,18 +175,39 @@ int64_t smoltcp_tcp_dispatch_checked(struct smoltcp_tcp_handle *h, const struct 
                                      size_t cap);
 int64_t smoltcp_tcp_poll_at_checked(struct smoltcp_tcp_handle *h, const struct smoltcp_context *cx, int64_t *at);
 int64_t smoltcp_tcp_reset_checked(const uint8_t *packet, size_t len, uint8_t *reply, size_t cap);
-int64_t smoltcp_udp_init_checked(struct smoltcp_udp *s);
-int64_t smoltcp_udp_bind_checked(struct smoltcp_udp *s, const struct smoltcp_endpoint *endpoint);
-int64_t smoltcp_udp_close_checked(struct smoltcp_udp *s);
-int64_t smoltcp_udp_process_checked(struct smoltcp_udp *s, const struct smoltcp_context *cx, const uint8_t *packet,
-                                    size_t len);
-int64_t smoltcp_udp_recv_checked(struct smoltcp_udp *s, struct smoltcp_udp_metadata *meta, uint8_t *data, size_t cap);
-int64_t smoltcp_udp_send_checked(struct smoltcp_udp *s, const struct smoltcp_context *cx,
-                                 const struct smoltcp_udp_metadata *meta, const uint8_t *data, size_t len);
-int64_t smoltcp_udp_dispatch_checked(struct smoltcp_udp *s, uint8_t *out, size_t cap);
-int64_t smoltcp_udp_poll_at_checked(const struct smoltcp_udp *s, const struct smoltcp_context *cx, int64_t *at);
-int64_t smoltcp_udp_can_recv_checked(const struct smoltcp_udp *s);
-int64_t smoltcp_udp_can_send_checked(const struct smoltcp_udp *s);
+size_t smoltcp_udp_size(void);
+size_t smoltcp_udp_place_size(void);
+int64_t smoltcp_udp_place_checked(struct smoltcp_udp_handle *room);
+int64_t smoltcp_udp_init_checked(struct smoltcp_places rx_places, struct smoltcp_bytes rx,
+                                 struct smoltcp_places tx_places, struct smoltcp_bytes tx,
+                                 struct smoltcp_udp_handle *room);
+int64_t smoltcp_udp_bind_checked(struct smoltcp_udp_handle *h, const struct smoltcp_endpoint *endpoint);
+int64_t smoltcp_udp_close_checked(struct smoltcp_udp_handle *h);
+int64_t smoltcp_udp_endpoint_checked(struct smoltcp_udp_handle *h, struct smoltcp_endpoint *out);
+int64_t smoltcp_udp_is_open_checked(struct smoltcp_udp_handle *h);
+int64_t smoltcp_udp_can_send_checked(struct smoltcp_udp_handle *h);
+int64_t smoltcp_udp_can_recv_checked(struct smoltcp_udp_handle *h);
+int64_t smoltcp_udp_packet_send_capacity_checked(struct smoltcp_udp_handle *h);
+int64_t smoltcp_udp_packet_recv_capacity_checked(struct smoltcp_udp_handle *h);
+int64_t smoltcp_udp_payload_send_capacity_checked(struct smoltcp_udp_handle *h);
+int64_t smoltcp_udp_payload_recv_capacity_checked(struct smoltcp_udp_handle *h);
+int64_t smoltcp_udp_send_queue_checked(struct smoltcp_udp_handle *h);
+int64_t smoltcp_udp_recv_queue_checked(struct smoltcp_udp_handle *h);
+int64_t smoltcp_udp_hop_limit_checked(struct smoltcp_udp_handle *h);
+int64_t smoltcp_udp_set_hop_limit_checked(struct smoltcp_udp_handle *h, uint8_t hop_limit);
+int64_t smoltcp_udp_send_checked(struct smoltcp_udp_handle *h, const struct smoltcp_udp_metadata *meta,
+                                 const uint8_t *data, size_t len);
+int64_t smoltcp_udp_recv_checked(struct smoltcp_udp_handle *h, struct smoltcp_udp_metadata *meta, uint8_t *data,
+                                 size_t cap);
+int64_t smoltcp_udp_peek_checked(struct smoltcp_udp_handle *h, struct smoltcp_udp_metadata *meta, uint8_t *data,
+                                 size_t cap);
+int64_t smoltcp_udp_accepts_checked(struct smoltcp_udp_handle *h, const struct smoltcp_context *cx,
+                                    const uint8_t *packet, size_t len);
+int64_t smoltcp_udp_process_checked(struct smoltcp_udp_handle *h, const struct smoltcp_context *cx,
+                                    const uint8_t *packet, size_t len);
+int64_t smoltcp_udp_dispatch_checked(struct smoltcp_udp_handle *h, const struct smoltcp_context *cx, uint8_t *out,
+                                     size_t cap);
+int64_t smoltcp_udp_poll_at_checked(struct smoltcp_udp_handle *h, const struct smoltcp_context *cx, int64_t *at);
 int64_t smoltcp_icmp_init_checked(struct smoltcp_icmp *s);
 int64_t smoltcp_icmp_bind_checked(struct smoltcp_icmp *s, const struct smoltcp_icmp_endpoint *endpoint);
 int64_t smoltcp_icmp_close_checked(struct smoltcp_icmp *s);
@@ -557,83 +584,192 @@ static inline int64_t smoltcp_tcp_reset(const uint8_t *packet, size_t len, uint8
     return smoltcp_tcp_reset_checked(packet, len, reply, cap);
 }
 
-/* Whether the struct and the buffers of its queues are there. */
-static inline int smoltcp_udp_is_null(const struct smoltcp_udp *s) { return !s || !s->rx.bytes || !s->tx.bytes; }
-
-/* Makes the struct a closed UDP socket with empty queues over its two buffers. */
-static inline int64_t smoltcp_udp_init(struct smoltcp_udp *s) {
-    if (smoltcp_udp_is_null(s)) return SMOLTCP_ERROR_NULL;
-    return smoltcp_udp_init_checked(s);
+/* Makes a UDP socket that is not open in the memory, over the two buffers, of at most 2^30 places and 2^30 bytes each
+ * (else SMOLTCP_ERROR_RANGE, with nothing changed). As with a TCP socket, all of it is the socket's for good. */
+static inline int64_t smoltcp_udp_init(struct smoltcp_udp *s, struct smoltcp_udp_buffer rx,
+                                       struct smoltcp_udp_buffer tx) {
+    struct smoltcp_places rx_places = {(uint8_t *)rx.places, rx.count}, tx_places = {(uint8_t *)tx.places, tx.count};
+    struct smoltcp_bytes of_rx = {rx.bytes, rx.len}, of_tx = {tx.bytes, tx.len};
+    struct smoltcp_udp_handle h = {(uint8_t *)s}, place;
+    size_t i;
+    if (!s || !rx.places || !rx.bytes || !tx.places || !tx.bytes) return SMOLTCP_ERROR_NULL;
+    if (rx.count > SMOLTCP_LONGEST_BUFFER || rx.len > SMOLTCP_LONGEST_BUFFER) return SMOLTCP_ERROR_RANGE;
+    if (tx.count > SMOLTCP_LONGEST_BUFFER || tx.len > SMOLTCP_LONGEST_BUFFER) return SMOLTCP_ERROR_RANGE;
+    for (i = 0; i < rx.count; i++) {
+        place.at = (uint8_t *)&rx.places[i];
+        smoltcp_udp_place_checked(&place);
+    }
+    for (i = 0; i < tx.count; i++) {
+        place.at = (uint8_t *)&tx.places[i];
+        smoltcp_udp_place_checked(&place);
+    }
+    return smoltcp_udp_init_checked(rx_places, of_rx, tx_places, of_tx, &h);
 }
 
 /* Opens a UDP socket for datagrams to this port, and to this address where one is given. SMOLTCP_ERROR_ADDRESS where
  * the port is 0, else SMOLTCP_ERROR_STATE where it is open. */
 static inline int64_t smoltcp_udp_bind(struct smoltcp_udp *s, const struct smoltcp_endpoint *endpoint) {
-    if (smoltcp_udp_is_null(s) || !endpoint) return SMOLTCP_ERROR_NULL;
-    return smoltcp_udp_bind_checked(s, endpoint);
+    struct smoltcp_udp_handle h = {(uint8_t *)s};
+    if (!s || !endpoint) return SMOLTCP_ERROR_NULL;
+    return smoltcp_udp_bind_checked(&h, endpoint);
 }
 
 /* Binds it to nothing, and empties both queues. */
 static inline int64_t smoltcp_udp_close(struct smoltcp_udp *s) {
-    if (smoltcp_udp_is_null(s)) return SMOLTCP_ERROR_NULL;
-    return smoltcp_udp_close_checked(s);
+    struct smoltcp_udp_handle h = {(uint8_t *)s};
+    if (!s) return SMOLTCP_ERROR_NULL;
+    return smoltcp_udp_close_checked(&h);
 }
 
-/* Puts an IP packet into the receive queue, where it carries a datagram for the socket. SMOLTCP_NOT_ACCEPTED where it
- * carries no whole datagram (RFC 768) or is not for this socket; SMOLTCP_ERROR_ROOM where the queue has no room for it
- * and two bytes for its length, or it has more than 65535 bytes: it is dropped. */
-static inline int64_t smoltcp_udp_process(struct smoltcp_udp *s, const struct smoltcp_context *cx,
-                                          const uint8_t *packet, size_t len) {
-    if (smoltcp_udp_is_null(s) || !cx || !packet) return SMOLTCP_ERROR_NULL;
-    return smoltcp_udp_process_checked(s, cx, packet, len);
+/* Writes what the socket is bound to into out: port 0 where it is not open, version 0 where it has no address. */
+static inline int64_t smoltcp_udp_endpoint(struct smoltcp_udp *s, struct smoltcp_endpoint *out) {
+    struct smoltcp_udp_handle h = {(uint8_t *)s};
+    if (!s || !out) return SMOLTCP_ERROR_NULL;
+    return smoltcp_udp_endpoint_checked(&h, out);
 }
 
-/* Takes the first packet of the receive queue: the length of the payload of its datagram, which then stands in data,
- * and where it came from in meta. SMOLTCP_ERROR_EMPTY where none waits. SMOLTCP_ERROR_ROOM where data is too short: the
- * datagram is lost then, so that data should have the longest payload's length. */
+/* 1 where the socket is bound, else 0. */
+static inline int64_t smoltcp_udp_is_open(struct smoltcp_udp *s) {
+    struct smoltcp_udp_handle h = {(uint8_t *)s};
+    if (!s) return SMOLTCP_ERROR_NULL;
+    return smoltcp_udp_is_open_checked(&h);
+}
+
+/* 1 where the transmit queue has a free place, else 0. */
+static inline int64_t smoltcp_udp_can_send(struct smoltcp_udp *s) {
+    struct smoltcp_udp_handle h = {(uint8_t *)s};
+    if (!s) return SMOLTCP_ERROR_NULL;
+    return smoltcp_udp_can_send_checked(&h);
+}
+
+/* 1 where a place of the receive queue is taken, else 0. */
+static inline int64_t smoltcp_udp_can_recv(struct smoltcp_udp *s) {
+    struct smoltcp_udp_handle h = {(uint8_t *)s};
+    if (!s) return SMOLTCP_ERROR_NULL;
+    return smoltcp_udp_can_recv_checked(&h);
+}
+
+/* How many datagrams the transmit queue has places for. */
+static inline int64_t smoltcp_udp_packet_send_capacity(struct smoltcp_udp *s) {
+    struct smoltcp_udp_handle h = {(uint8_t *)s};
+    if (!s) return SMOLTCP_ERROR_NULL;
+    return smoltcp_udp_packet_send_capacity_checked(&h);
+}
+
+/* How many datagrams the receive queue has places for. */
+static inline int64_t smoltcp_udp_packet_recv_capacity(struct smoltcp_udp *s) {
+    struct smoltcp_udp_handle h = {(uint8_t *)s};
+    if (!s) return SMOLTCP_ERROR_NULL;
+    return smoltcp_udp_packet_recv_capacity_checked(&h);
+}
+
+/* How many payload bytes the transmit queue holds. */
+static inline int64_t smoltcp_udp_payload_send_capacity(struct smoltcp_udp *s) {
+    struct smoltcp_udp_handle h = {(uint8_t *)s};
+    if (!s) return SMOLTCP_ERROR_NULL;
+    return smoltcp_udp_payload_send_capacity_checked(&h);
+}
+
+/* How many payload bytes the receive queue holds. */
+static inline int64_t smoltcp_udp_payload_recv_capacity(struct smoltcp_udp *s) {
+    struct smoltcp_udp_handle h = {(uint8_t *)s};
+    if (!s) return SMOLTCP_ERROR_NULL;
+    return smoltcp_udp_payload_recv_capacity_checked(&h);
+}
+
+/* How many payload bytes of the transmit queue are taken, padding included. */
+static inline int64_t smoltcp_udp_send_queue(struct smoltcp_udp *s) {
+    struct smoltcp_udp_handle h = {(uint8_t *)s};
+    if (!s) return SMOLTCP_ERROR_NULL;
+    return smoltcp_udp_send_queue_checked(&h);
+}
+
+/* How many payload bytes of the receive queue are taken, padding included. */
+static inline int64_t smoltcp_udp_recv_queue(struct smoltcp_udp *s) {
+    struct smoltcp_udp_handle h = {(uint8_t *)s};
+    if (!s) return SMOLTCP_ERROR_NULL;
+    return smoltcp_udp_recv_queue_checked(&h);
+}
+
+/* The hop limit of what is sent, or 0 where none is set, for 64. */
+static inline int64_t smoltcp_udp_hop_limit(struct smoltcp_udp *s) {
+    struct smoltcp_udp_handle h = {(uint8_t *)s};
+    if (!s) return SMOLTCP_ERROR_NULL;
+    return smoltcp_udp_hop_limit_checked(&h);
+}
+
+/* Sets the hop limit of what is sent; 0 for 64. */
+static inline int64_t smoltcp_udp_set_hop_limit(struct smoltcp_udp *s, uint8_t hop_limit) {
+    struct smoltcp_udp_handle h = {(uint8_t *)s};
+    if (!s) return SMOLTCP_ERROR_NULL;
+    return smoltcp_udp_set_hop_limit_checked(&h, hop_limit);
+}
+
+/* Puts a datagram of these bytes into the transmit queue. SMOLTCP_ERROR_ADDRESS where the socket is not open, the
+ * destination has no address or port, or the source is of another version of IP; SMOLTCP_ERROR_ROOM where the queue has
+ * no room for it, or its packet would have more than 65535 bytes. Whether the packet fits the MTU is the caller's to
+ * see. */
+static inline int64_t smoltcp_udp_send(struct smoltcp_udp *s, const struct smoltcp_udp_metadata *meta,
+                                       const uint8_t *data, size_t len) {
+    struct smoltcp_udp_handle h = {(uint8_t *)s};
+    if (!s || !meta || !data) return SMOLTCP_ERROR_NULL;
+    return smoltcp_udp_send_checked(&h, meta, data, len);
+}
+
+/* Takes the first datagram of the receive queue: the length of its payload, which then stands in data, and where it
+ * came from in meta. SMOLTCP_ERROR_EMPTY where none waits. SMOLTCP_ERROR_ROOM where data is too short: the datagram is
+ * lost then, so that data should have the longest payload's length. */
 static inline int64_t smoltcp_udp_recv(struct smoltcp_udp *s, struct smoltcp_udp_metadata *meta, uint8_t *data,
                                        size_t cap) {
-    if (smoltcp_udp_is_null(s) || !meta || !data) return SMOLTCP_ERROR_NULL;
-    return smoltcp_udp_recv_checked(s, meta, data, cap);
+    struct smoltcp_udp_handle h = {(uint8_t *)s};
+    if (!s || !meta || !data) return SMOLTCP_ERROR_NULL;
+    return smoltcp_udp_recv_checked(&h, meta, data, cap);
 }
 
-/* Puts a datagram of these bytes into the transmit queue, as an IP packet. SMOLTCP_ERROR_ADDRESS where the socket is
- * not open, the destination has no address or port, or the source is of another version of IP; SMOLTCP_ERROR_ROOM where
- * the packet finds no room in the queue or has more than 65535 bytes. The source and the hop limit are those of this
- * call. Whether the packet fits the MTU is the caller's to see. */
-static inline int64_t smoltcp_udp_send(struct smoltcp_udp *s, const struct smoltcp_context *cx,
-                                       const struct smoltcp_udp_metadata *meta, const uint8_t *data, size_t len) {
-    if (smoltcp_udp_is_null(s) || !cx || !meta || !data) return SMOLTCP_ERROR_NULL;
-    return smoltcp_udp_send_checked(s, cx, meta, data, len);
+/* The same, and the datagram stays. */
+static inline int64_t smoltcp_udp_peek(struct smoltcp_udp *s, struct smoltcp_udp_metadata *meta, uint8_t *data,
+                                       size_t cap) {
+    struct smoltcp_udp_handle h = {(uint8_t *)s};
+    if (!s || !meta || !data) return SMOLTCP_ERROR_NULL;
+    return smoltcp_udp_peek_checked(&h, meta, data, cap);
 }
 
-/* The length of the first packet of the transmit queue, in out, or 0 for none. A call takes one packet from the queue,
- * so that at most as many have something to emit as were sent. SMOLTCP_ERROR_ROOM where out is too short for it: it
- * stays the first. */
-static inline int64_t smoltcp_udp_dispatch(struct smoltcp_udp *s, uint8_t *out, size_t cap) {
-    if (smoltcp_udp_is_null(s) || !out) return SMOLTCP_ERROR_NULL;
-    return smoltcp_udp_dispatch_checked(s, out, cap);
+/* 1 where the IP packet carries a whole datagram (RFC 768) for the socket, so that process takes it, else 0. */
+static inline int64_t smoltcp_udp_accepts(struct smoltcp_udp *s, const struct smoltcp_context *cx,
+                                          const uint8_t *packet, size_t len) {
+    struct smoltcp_udp_handle h = {(uint8_t *)s};
+    if (!s || !cx || !packet) return SMOLTCP_ERROR_NULL;
+    return smoltcp_udp_accepts_checked(&h, cx, packet, len);
 }
 
-/* The moment of the next dispatch in microseconds: now where a packet waits, else INT64_MAX; INT64_MIN: an error. */
-static inline int64_t smoltcp_udp_poll_at(const struct smoltcp_udp *s, const struct smoltcp_context *cx) {
+/* Takes an IP packet: the datagram that it carries comes behind the receive queue, or is dropped where there is no room
+ * for it. SMOLTCP_NOT_ACCEPTED where it carries no whole datagram (RFC 768) or is not for this socket. */
+static inline int64_t smoltcp_udp_process(struct smoltcp_udp *s, const struct smoltcp_context *cx,
+                                          const uint8_t *packet, size_t len) {
+    struct smoltcp_udp_handle h = {(uint8_t *)s};
+    if (!s || !cx || !packet) return SMOLTCP_ERROR_NULL;
+    return smoltcp_udp_process_checked(&h, cx, packet, len);
+}
+
+/* The length of the packet of the first datagram of the transmit queue, in out, or 0 for none. A call takes one
+ * datagram from the queue, so that at most as many have something to emit as were sent. SMOLTCP_ERROR_ROOM where out is
+ * too short for it: it stays the first. */
+static inline int64_t smoltcp_udp_dispatch(struct smoltcp_udp *s, const struct smoltcp_context *cx, uint8_t *out,
+                                           size_t cap) {
+    struct smoltcp_udp_handle h = {(uint8_t *)s};
+    if (!s || !cx || !out) return SMOLTCP_ERROR_NULL;
+    return smoltcp_udp_dispatch_checked(&h, cx, out, cap);
+}
+
+/* The moment of the next dispatch in microseconds: now where a place of the transmit queue is taken, else INT64_MAX;
+ * INT64_MIN: an error. */
+static inline int64_t smoltcp_udp_poll_at(struct smoltcp_udp *s, const struct smoltcp_context *cx) {
+    struct smoltcp_udp_handle h = {(uint8_t *)s};
     int64_t at = 0, answer;
-    if (smoltcp_udp_is_null(s) || !cx) return INT64_MIN;
-    answer = smoltcp_udp_poll_at_checked(s, cx, &at);
+    if (!s || !cx) return INT64_MIN;
+    answer = smoltcp_udp_poll_at_checked(&h, cx, &at);
     if (answer < 0) return INT64_MIN;
     return answer == 0 ? at : INT64_MAX;
-}
-
-/* 1 where a packet waits for recv, else 0. */
-static inline int64_t smoltcp_udp_can_recv(const struct smoltcp_udp *s) {
-    if (smoltcp_udp_is_null(s)) return SMOLTCP_ERROR_NULL;
-    return smoltcp_udp_can_recv_checked(s);
-}
-
-/* 1 where an empty datagram over IPv6 would find room in the transmit queue, which takes 50 bytes, else 0. */
-static inline int64_t smoltcp_udp_can_send(const struct smoltcp_udp *s) {
-    if (smoltcp_udp_is_null(s)) return SMOLTCP_ERROR_NULL;
-    return smoltcp_udp_can_send_checked(s);
 }
 
 /* Whether the struct and the buffers of its queues are there. */
@@ -659,7 +795,8 @@ static inline int64_t smoltcp_icmp_close(struct smoltcp_icmp *s) {
 }
 
 /* Puts an IP packet into the receive queue, where it carries a message for the socket. SMOLTCP_NOT_ACCEPTED where it
- * carries no whole message or is not for this socket, SMOLTCP_ERROR_ROOM as for UDP. */
+ * carries no whole message or is not for this socket; SMOLTCP_ERROR_ROOM where the queue has no room for it and two
+ * bytes for its length, or it has more than 65535 bytes: it is dropped. */
 static inline int64_t smoltcp_icmp_process(struct smoltcp_icmp *s, const struct smoltcp_context *cx,
                                            const uint8_t *packet, size_t len) {
     if (smoltcp_icmp_is_null(s) || !cx || !packet) return SMOLTCP_ERROR_NULL;
@@ -677,7 +814,8 @@ static inline int64_t smoltcp_icmp_recv(struct smoltcp_icmp *s, struct smoltcp_a
 
 /* Puts an ICMP message into the transmit queue, as a packet to remote, its checksum computed. SMOLTCP_ERROR_ADDRESS
  * where remote is unspecified, SMOLTCP_ERROR_MESSAGE where the bytes are no echo and no error of its version,
- * SMOLTCP_ERROR_ROOM as for UDP. The socket need not be open. */
+ * SMOLTCP_ERROR_ROOM where the packet finds no room in the queue or has more than 65535 bytes. The socket need not be
+ * open. */
 static inline int64_t smoltcp_icmp_send(struct smoltcp_icmp *s, const struct smoltcp_context *cx,
                                         const struct smoltcp_address *remote, const uint8_t *data, size_t len) {
     if (smoltcp_icmp_is_null(s) || !cx || !remote || !data) return SMOLTCP_ERROR_NULL;
