@@ -5,8 +5,7 @@
 //! makes the device, which then has to be given the address 10.9.0.1/24 and set up, and ends after so many seconds.
 use smoltcp_proved::tcp::{Memory, RecvError, Socket, State};
 use smoltcp_proved::time::{Duration, Instant};
-use smoltcp_proved::udp::ProcessError;
-use smoltcp_proved::{Context, PollAt, tcp, udp};
+use smoltcp_proved::{Context, NotAccepted, PollAt, tcp, udp};
 use std::fs::File;
 use std::io::{self, Read, Write};
 
@@ -207,7 +206,7 @@ impl Host<'_> {
 
     /// Gives a packet to the socket that it is for, connections first, and answers it.
     fn take_packet(&mut self, packet: &[u8]) {
-        if !is_for_host(packet) || self.datagrams.process(&self.cx, packet) != Err(ProcessError::NotAccepted)
+        if !is_for_host(packet) || self.datagrams.process(&self.cx, packet) != Err(NotAccepted)
         {
             return;
         }
@@ -241,8 +240,8 @@ impl Host<'_> {
             let Ok((len, meta)) = self.datagrams.recv_slice(&mut data) else {
                 return;
             };
-            let _ = self.datagrams.send_slice(&self.cx, &data[..len], meta);
-            if let Ok(Some(len)) = self.datagrams.dispatch(&mut packet) {
+            let _ = self.datagrams.send_slice(&data[..len], meta);
+            if let Ok(Some(len)) = self.datagrams.dispatch(&self.cx, &mut packet) {
                 self.device.emit(&packet[..len]);
             }
         }
@@ -288,8 +287,11 @@ fn main() -> io::Result<()> {
         (0..SOCKETS).map(|_| Room { memory: Memory::new(), rx: bytes(), tx: bytes() }).collect();
     let ports = (0..SOCKETS).map(|n| if n < SOCKETS / 2 { 7 } else { 80 });
     let connections = rooms.iter_mut().zip(ports).map(|(room, port)| Connection::new(room, port, now()));
-    let (mut rx, mut tx) = (bytes(), bytes());
-    let mut datagrams = udp::Socket::new(&mut rx, &mut tx);
+    let (mut memory, mut rx, mut tx) = (udp::Memory::new(), bytes(), bytes());
+    let (mut rx_places, mut tx_places) = ([udp::PacketMetadata::EMPTY; 64], [udp::PacketMetadata::EMPTY; 64]);
+    let rx = udp::PacketBuffer::new(&mut rx_places, &mut rx);
+    let tx = udp::PacketBuffer::new(&mut tx_places, &mut tx);
+    let mut datagrams = udp::Socket::new(&mut memory, rx, tx);
     datagrams.bind(7).map_err(io::Error::other)?;
     let mut host = Host { connections: connections.collect(), datagrams, cx, device: Device::open(name)? };
     while now() < Instant::ZERO + Duration::from_secs(seconds) {

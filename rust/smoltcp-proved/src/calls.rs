@@ -1,13 +1,13 @@
 //! The calls, each once. What they ask of a caller is docs/C.md, "What C has to keep", cited below as "C.md":
 //!
-//! - *socket*: a TCP socket is memory that `init` made, not moved, copied or written since. `Tcp::new` makes it in
-//!   memory that is borrowed for `'a`, the `Tcp` is never copied, and nothing but the calls gets at the memory before
-//!   it ends.
-//! - *one call*: of one socket one call runs at a time. A `Tcp` is not `Sync`, and no call takes a closure.
+//! - *socket*: a TCP or UDP socket is memory that `init` made, not moved, copied or written since. `Tcp::new` and
+//!   `Udp::new` make it in memory that is borrowed for `'a`, the value is never copied, and nothing but the calls gets
+//!   at the memory before it ends.
+//! - *one call*: of one socket one call runs at a time. A socket is not `Sync`, and no call takes a closure.
 //! - *buffers*: they are the socket's own, borrowed for `'a`, and by that overlap nothing that a call is given.
 //! - *bytes*: a pointer leads to memory of the length given. Both are those of one slice.
 //!
-//! A contract of `init` takes the memory and the buffers for good. That they are free again where a `Tcp` ends rests on
+//! A contract of `init` takes the memory and the buffers for good. That they are free again where a socket ends rests on
 //! this: the library keeps nothing of them. It has no writable data of its own, starts no thread, and asks for nothing
 //! but `memcpy`, `memmove` and `memset` (`live/rust` and `live/header` look at its symbols), so that it gets at a
 //! socket only in a call that is given it; and there is no such call any more.
@@ -231,12 +231,151 @@ pub fn reset(packet: &[u8], reply: &mut [u8]) -> i64 {
     unsafe { ffi::smoltcp_tcp_reset_checked(at, len, to, cap) }
 }
 
+/// Memory for a UDP socket.
+#[repr(C, align(8))]
+pub struct UdpMemory([MaybeUninit<u8>; ffi::UDP_SIZE]);
+
+impl UdpMemory {
+    pub const fn new() -> UdpMemory {
+        UdpMemory([MaybeUninit::uninit(); ffi::UDP_SIZE])
+    }
+}
+
+/// Memory for a place of a UDP socket's queue: a datagram takes one.
+#[repr(C, align(8))]
+#[derive(Clone, Copy)]
+pub struct UdpPlace([MaybeUninit<u8>; ffi::UDP_PLACE_SIZE]);
+
+impl UdpPlace {
+    /// A place that nothing stands in.
+    pub const EMPTY: UdpPlace = UdpPlace([MaybeUninit::uninit(); ffi::UDP_PLACE_SIZE]);
+}
+
+/// The memory of a queue of a UDP socket.
+pub struct UdpBuffer<'a> {
+    places: &'a mut [UdpPlace],
+    bytes: &'a mut [u8],
+}
+
+impl<'a> UdpBuffer<'a> {
+    /// At most 2^30 places, and as many bytes.
+    pub fn new(places: &'a mut [UdpPlace], bytes: &'a mut [u8]) -> UdpBuffer<'a> {
+        assert!(places.len() <= crate::LONGEST_BUFFER, "more than 2^30 places");
+        assert!(bytes.len() <= crate::LONGEST_BUFFER, "more than 2^30 bytes");
+        UdpBuffer { places, bytes }
+    }
+
+    /// What the library is handed of it: each place is made before.
+    fn lent(self) -> (ffi::Places, ffi::Bytes) {
+        for place in self.places.iter_mut() {
+            let at = NonNull::from(place).cast().as_ptr();
+            // SAFETY: the memory has the size and the alignment of `struct smoltcp_udp_place`, and is borrowed.
+            unsafe { ffi::smoltcp_udp_place_checked(&mut ffi::UdpHandle { at }) };
+        }
+        let (places, bytes) = (self.places.as_mut_ptr().cast(), self.bytes.as_mut_ptr());
+        (
+            ffi::Places { at: places, len: self.places.len() },
+            ffi::Bytes { at: bytes, len: self.bytes.len() },
+        )
+    }
+}
+
+/// A UDP socket in memory that is borrowed for `'a`, as are its buffers.
+pub struct Udp<'a> {
+    at: NonNull<u8>,
+    borrowed: PhantomData<&'a mut [u8]>,
+}
+
+// SAFETY: as for `Tcp`.
+unsafe impl Send for Udp<'_> {}
+
+impl<'a> Udp<'a> {
+    /// Makes a socket that is not open.
+    pub fn new(memory: &'a mut UdpMemory, rx: UdpBuffer<'a>, tx: UdpBuffer<'a>) -> Udp<'a> {
+        assert!(ffi::smoltcp_udp_size() <= size_of::<UdpMemory>(), "a library with larger sockets");
+        assert!(ffi::smoltcp_udp_place_size() == size_of::<UdpPlace>(), "a library with other places");
+        let made = Udp { at: NonNull::from(memory).cast(), borrowed: PhantomData };
+        let ((rx_places, rx), (tx_places, tx)) = (rx.lent(), tx.lent());
+        // SAFETY: C.md: buffers, bytes. The memory has the size and the alignment of `struct smoltcp_udp`, and holds no
+        // socket that is used: it is borrowed for 'a by this one alone. The lengths were tested, and `lent` made the
+        // places.
+        unsafe { ffi::smoltcp_udp_init_checked(rx_places, rx, tx_places, tx, &mut made.handle()) };
+        made
+    }
+
+    fn handle(&self) -> ffi::UdpHandle {
+        ffi::UdpHandle { at: self.at.as_ptr() }
+    }
+
+    asks! {
+        close => smoltcp_udp_close_checked;
+        is_open => smoltcp_udp_is_open_checked;
+        can_send => smoltcp_udp_can_send_checked;
+        can_recv => smoltcp_udp_can_recv_checked;
+        packet_send_capacity => smoltcp_udp_packet_send_capacity_checked;
+        packet_recv_capacity => smoltcp_udp_packet_recv_capacity_checked;
+        payload_send_capacity => smoltcp_udp_payload_send_capacity_checked;
+        payload_recv_capacity => smoltcp_udp_payload_recv_capacity_checked;
+        send_queue => smoltcp_udp_send_queue_checked;
+        recv_queue => smoltcp_udp_recv_queue_checked;
+        hop_limit => smoltcp_udp_hop_limit_checked;
+    }
+
+    sets! {
+        set_hop_limit(u8) => smoltcp_udp_set_hop_limit_checked;
+    }
+
+    tells! {
+        endpoint => smoltcp_udp_endpoint_checked;
+    }
+
+    pub fn bind(&mut self, at: &ffi::Endpoint) -> i64 {
+        // SAFETY: C.md: socket, one call, buffers.
+        unsafe { ffi::smoltcp_udp_bind_checked(&mut self.handle(), at) }
+    }
+
+    pub fn send(&mut self, to: &ffi::UdpMetadata, data: &[u8]) -> i64 {
+        // SAFETY: C.md: socket, one call, buffers, bytes.
+        unsafe { ffi::smoltcp_udp_send_checked(&mut self.handle(), to, data.as_ptr(), data.len()) }
+    }
+
+    pub fn recv(&mut self, from: &mut ffi::UdpMetadata, data: &mut [u8]) -> i64 {
+        // SAFETY: C.md: socket, one call, buffers, bytes.
+        unsafe { ffi::smoltcp_udp_recv_checked(&mut self.handle(), from, data.as_mut_ptr(), data.len()) }
+    }
+
+    pub fn peek(&mut self, from: &mut ffi::UdpMetadata, data: &mut [u8]) -> i64 {
+        // SAFETY: C.md: socket, one call, buffers, bytes.
+        unsafe { ffi::smoltcp_udp_peek_checked(&mut self.handle(), from, data.as_mut_ptr(), data.len()) }
+    }
+
+    pub fn accepts(&self, cx: &ffi::Context, packet: &[u8]) -> i64 {
+        // SAFETY: C.md: socket, one call, buffers, bytes.
+        unsafe { ffi::smoltcp_udp_accepts_checked(&mut self.handle(), cx, packet.as_ptr(), packet.len()) }
+    }
+
+    pub fn process(&mut self, cx: &ffi::Context, packet: &[u8]) -> i64 {
+        // SAFETY: C.md: socket, one call, buffers, bytes.
+        unsafe { ffi::smoltcp_udp_process_checked(&mut self.handle(), cx, packet.as_ptr(), packet.len()) }
+    }
+
+    pub fn dispatch(&mut self, cx: &ffi::Context, out: &mut [u8]) -> i64 {
+        // SAFETY: C.md: socket, one call, buffers, bytes.
+        unsafe { ffi::smoltcp_udp_dispatch_checked(&mut self.handle(), cx, out.as_mut_ptr(), out.len()) }
+    }
+
+    pub fn poll_at(&self, cx: &ffi::Context, at: &mut i64) -> i64 {
+        // SAFETY: C.md: socket, one call, buffers.
+        unsafe { ffi::smoltcp_udp_poll_at_checked(&mut self.handle(), cx, at) }
+    }
+}
+
 /// A queue over a buffer, for `init`.
 fn queue(bytes: &mut [u8]) -> ffi::Queue {
     ffi::Queue { bytes: bytes.as_mut_ptr(), bytes_len: bytes.len(), size: 0, start: 0, end: 0 }
 }
 
-// A UDP or ICMP socket: the struct has no address of its own, and may be moved. Its queues are those that `init` began.
+// An ICMP socket: the struct has no address of its own, and may be moved. Its queues are those that `init` began.
 macro_rules! datagram_socket {
     ($name:ident, $raw:ident, $bound:ident: $endpoint:ident, $remote:ident, $init:ident, $bind:ident, $close:ident,
      $process:ident, $recv:ident, $send:ident, $dispatch:ident, $poll_at:ident, $can_recv:ident, $can_send:ident) => {
@@ -323,13 +462,6 @@ macro_rules! datagram_socket {
         }
     };
 }
-
-datagram_socket!(
-    Udp, Udp, endpoint: Endpoint, UdpMetadata, smoltcp_udp_init_checked, smoltcp_udp_bind_checked,
-    smoltcp_udp_close_checked, smoltcp_udp_process_checked, smoltcp_udp_recv_checked, smoltcp_udp_send_checked,
-    smoltcp_udp_dispatch_checked, smoltcp_udp_poll_at_checked, smoltcp_udp_can_recv_checked,
-    smoltcp_udp_can_send_checked
-);
 
 datagram_socket!(
     Icmp, Icmp, bound: IcmpEndpoint, Address, smoltcp_icmp_init_checked, smoltcp_icmp_bind_checked,

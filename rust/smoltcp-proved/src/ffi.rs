@@ -52,11 +52,14 @@ pub struct Queue {
 }
 
 #[repr(C)]
-pub struct Udp {
-    pub rx: Queue,
-    pub tx: Queue,
-    pub endpoint: Endpoint,
-    pub hop_limit: u8,
+pub struct UdpHandle {
+    pub at: *mut u8,
+}
+
+#[repr(C)]
+pub struct Places {
+    pub at: *mut u8,
+    pub len: usize,
 }
 
 #[repr(C)]
@@ -89,25 +92,37 @@ pub const ERROR_ROOM: i64 = -6;
 
 pub const ERROR_MESSAGE: i64 = -10;
 
-/// The size of `struct smoltcp_tcp` in bytes.
+/// The sizes of `struct smoltcp_tcp`, `struct smoltcp_udp` and `struct smoltcp_udp_place` in bytes.
 pub const TCP_SIZE: usize = 512;
+
+pub const UDP_SIZE: usize = 208;
+
+pub const UDP_PLACE_SIZE: usize = 56;
 
 // The sizes that the header asserts.
 const _: () = {
     assert!(size_of::<Endpoint>() == 24 && size_of::<Context>() == 40 && size_of::<Queue>() == 40);
-    assert!(size_of::<Udp>() == 112 && size_of::<UdpMetadata>() == 46 && size_of::<Icmp>() == 112);
+    assert!(size_of::<UdpMetadata>() == 46 && size_of::<Icmp>() == 112);
 };
 
 // A call of a socket that has no other argument.
 macro_rules! calls_of_handle {
-    ($($name:ident)*) => {
+    ($handle:ident: $($name:ident)*) => {
         // SAFETY: as below.
-        unsafe extern "C" { $(pub fn $name(h: &mut TcpHandle) -> i64;)* }
+        unsafe extern "C" { $(pub fn $name(h: &mut $handle) -> i64;)* }
     };
 }
 
 calls_of_handle! {
-    smoltcp_tcp_close_checked smoltcp_tcp_abort_checked smoltcp_tcp_state_checked smoltcp_tcp_is_listening_checked
+    UdpHandle: smoltcp_udp_place_checked smoltcp_udp_close_checked smoltcp_udp_is_open_checked
+    smoltcp_udp_can_send_checked smoltcp_udp_can_recv_checked smoltcp_udp_packet_send_capacity_checked
+    smoltcp_udp_packet_recv_capacity_checked smoltcp_udp_payload_send_capacity_checked
+    smoltcp_udp_payload_recv_capacity_checked smoltcp_udp_send_queue_checked smoltcp_udp_recv_queue_checked
+    smoltcp_udp_hop_limit_checked
+}
+
+calls_of_handle! {
+    TcpHandle: smoltcp_tcp_close_checked smoltcp_tcp_abort_checked smoltcp_tcp_state_checked smoltcp_tcp_is_listening_checked
     smoltcp_tcp_is_open_checked smoltcp_tcp_is_active_checked smoltcp_tcp_has_work_checked
     smoltcp_tcp_may_send_checked smoltcp_tcp_may_recv_checked smoltcp_tcp_can_send_checked
     smoltcp_tcp_can_recv_checked smoltcp_tcp_send_queue_checked smoltcp_tcp_recv_queue_checked
@@ -157,22 +172,30 @@ unsafe extern "C" {
     pub fn smoltcp_tcp_dispatch_checked(h: &mut TcpHandle, cx: &Context, out: *mut u8, cap: usize) -> i64;
     pub fn smoltcp_tcp_poll_at_checked(h: &mut TcpHandle, cx: &Context, at: &mut i64) -> i64;
     pub fn smoltcp_tcp_reset_checked(packet: *const u8, len: usize, reply: *mut u8, cap: usize) -> i64;
-    pub fn smoltcp_udp_init_checked(s: &mut Udp) -> i64;
-    pub fn smoltcp_udp_bind_checked(s: &mut Udp, endpoint: &Endpoint) -> i64;
-    pub fn smoltcp_udp_close_checked(s: &mut Udp) -> i64;
-    pub fn smoltcp_udp_process_checked(s: &mut Udp, cx: &Context, packet: *const u8, len: usize) -> i64;
-    pub fn smoltcp_udp_recv_checked(s: &mut Udp, meta: &mut UdpMetadata, data: *mut u8, cap: usize) -> i64;
+    pub safe fn smoltcp_udp_size() -> usize;
+    pub safe fn smoltcp_udp_place_size() -> usize;
+    pub fn smoltcp_udp_init_checked(
+        rx_places: Places,
+        rx: Bytes,
+        tx_places: Places,
+        tx: Bytes,
+        room: &mut UdpHandle,
+    ) -> i64;
+    pub fn smoltcp_udp_bind_checked(h: &mut UdpHandle, endpoint: &Endpoint) -> i64;
+    pub fn smoltcp_udp_endpoint_checked(h: &mut UdpHandle, out: &mut Endpoint) -> i64;
+    pub fn smoltcp_udp_set_hop_limit_checked(h: &mut UdpHandle, hop_limit: u8) -> i64;
     pub fn smoltcp_udp_send_checked(
-        s: &mut Udp,
-        cx: &Context,
+        h: &mut UdpHandle,
         meta: &UdpMetadata,
         data: *const u8,
         len: usize,
     ) -> i64;
-    pub fn smoltcp_udp_dispatch_checked(s: &mut Udp, out: *mut u8, cap: usize) -> i64;
-    pub fn smoltcp_udp_poll_at_checked(s: &Udp, cx: &Context, at: &mut i64) -> i64;
-    pub fn smoltcp_udp_can_recv_checked(s: &Udp) -> i64;
-    pub fn smoltcp_udp_can_send_checked(s: &Udp) -> i64;
+    pub fn smoltcp_udp_recv_checked(h: &mut UdpHandle, meta: &mut UdpMetadata, data: *mut u8, cap: usize) -> i64;
+    pub fn smoltcp_udp_peek_checked(h: &mut UdpHandle, meta: &mut UdpMetadata, data: *mut u8, cap: usize) -> i64;
+    pub fn smoltcp_udp_accepts_checked(h: &mut UdpHandle, cx: &Context, packet: *const u8, len: usize) -> i64;
+    pub fn smoltcp_udp_process_checked(h: &mut UdpHandle, cx: &Context, packet: *const u8, len: usize) -> i64;
+    pub fn smoltcp_udp_dispatch_checked(h: &mut UdpHandle, cx: &Context, out: *mut u8, cap: usize) -> i64;
+    pub fn smoltcp_udp_poll_at_checked(h: &mut UdpHandle, cx: &Context, at: &mut i64) -> i64;
     pub fn smoltcp_icmp_init_checked(s: &mut Icmp) -> i64;
     pub fn smoltcp_icmp_bind_checked(s: &mut Icmp, endpoint: &IcmpEndpoint) -> i64;
     pub fn smoltcp_icmp_close_checked(s: &mut Icmp) -> i64;

@@ -1,15 +1,15 @@
-//! UDP sockets, over two queues of whole IP packets.
-use crate::calls::Udp;
+//! UDP sockets. Each call of a [`Socket`] is one call of the library, which is proved. smoltcp's names and texts.
+use crate::calls::{self, Udp};
 use crate::numbers::{
     address_in, address_of, count_in, endpoint_in, endpoint_of, hop_limit_in, hop_limit_of,
 };
 use crate::numbers::{listen_in, listen_of};
 use crate::tcp::poll_in;
 use crate::wire::{IpAddress, IpEndpoint, IpListenEndpoint};
-use crate::{Context, PollAt, TooShort, ffi};
+use crate::{Context, NotAccepted, PollAt, TooShort, ffi};
 use core::fmt;
 
-pub use crate::icmp::{BindError, ProcessError, RecvError};
+pub use crate::icmp::{BindError, RecvError};
 
 /// Where a datagram came from or goes to. (smoltcp has `meta` too.)
 #[derive(Debug, PartialEq, Eq, Clone, Copy)]
@@ -38,7 +38,7 @@ impl fmt::Display for UdpMetadata {
 pub enum SendError {
     /// The socket is not open, the destination has no address or port, or the source is of another version of IP.
     Unaddressable,
-    /// The packet finds no room in the queue, or has more than 65535 bytes.
+    /// The datagram finds no room in the queue, or its packet would have more than 65535 bytes.
     BufferFull,
 }
 
@@ -53,26 +53,55 @@ impl fmt::Display for SendError {
 
 impl core::error::Error for SendError {}
 
-/// A UDP socket over two borrowed buffers. A packet takes its length, headers included, and two bytes more.
+/// Memory for one socket at a time. It is free again where its socket ends.
+pub struct Memory(calls::UdpMemory);
+
+impl Memory {
+    /// Memory without a socket.
+    pub const fn new() -> Memory {
+        Memory(calls::UdpMemory::new())
+    }
+}
+
+impl Default for Memory {
+    fn default() -> Memory {
+        Memory::new()
+    }
+}
+
+/// A place of a queue: a datagram takes one.
+pub use crate::calls::UdpPlace as PacketMetadata;
+
+/// A queue of datagrams over borrowed places and bytes.
+pub struct PacketBuffer<'a>(calls::UdpBuffer<'a>);
+
+impl<'a> PacketBuffer<'a> {
+    /// An empty queue.
+    ///
+    /// # Panics
+    /// Where there are more than 2^30 places or bytes.
+    pub fn new(places: &'a mut [PacketMetadata], bytes: &'a mut [u8]) -> PacketBuffer<'a> {
+        PacketBuffer(calls::UdpBuffer::new(places, bytes))
+    }
+}
+
+/// A UDP socket in borrowed memory, over two borrowed queues. The value may be moved: it is a reference to the socket.
 pub struct Socket<'a>(Udp<'a>);
 
 impl<'a> Socket<'a> {
-    /// Makes a closed socket. (smoltcp's buffers are of packets and of bytes.)
-    ///
-    /// # Panics
-    /// Where a buffer has more than 2^30 bytes.
-    pub fn new(rx_buffer: &'a mut [u8], tx_buffer: &'a mut [u8]) -> Socket<'a> {
-        Socket(Udp::new(rx_buffer, tx_buffer))
+    /// Makes a socket that is not open. (smoltcp has two buffers, and no memory.)
+    pub fn new(memory: &'a mut Memory, rx: PacketBuffer<'a>, tx: PacketBuffer<'a>) -> Socket<'a> {
+        Socket(Udp::new(&mut memory.0, rx.0, tx.0))
     }
 
     /// What it is bound to: port 0 where it is closed.
     pub fn endpoint(&self) -> IpListenEndpoint {
-        listen_in(self.0.bound())
+        listen_in(&self.0.endpoint().1)
     }
 
     /// The hop limit of what is sent; none for 64.
     pub fn hop_limit(&self) -> Option<u8> {
-        hop_limit_in(self.0.hop_limit())
+        hop_limit_in(count_in(self.0.hop_limit()) as u8)
     }
 
     /// Sets the hop limit of what is sent from now on.
@@ -99,31 +128,55 @@ impl<'a> Socket<'a> {
 
     /// Whether it is bound.
     pub fn is_open(&self) -> bool {
-        self.endpoint().port != 0
+        self.0.is_open() == 1
     }
 
-    /// Whether an empty datagram over IPv6 would find room.
+    /// Whether the transmit queue has a free place.
     pub fn can_send(&self) -> bool {
         self.0.can_send() == 1
     }
 
-    /// Whether a datagram waits.
+    /// Whether a place of the receive queue is taken.
     pub fn can_recv(&self) -> bool {
         self.0.can_recv() == 1
     }
 
-    /// Sends a datagram, as an IP packet with the source and the hop limit of this call. (smoltcp takes no context
-    /// here, and finds the source in its dispatch.) Whether the packet fits the MTU is the caller's to see.
-    pub fn send_slice(
-        &mut self,
-        cx: &Context,
-        data: &[u8],
-        meta: impl Into<UdpMetadata>,
-    ) -> Result<(), SendError> {
+    /// How many datagrams the transmit queue has places for.
+    pub fn packet_send_capacity(&self) -> usize {
+        count_in(self.0.packet_send_capacity())
+    }
+
+    /// How many datagrams the receive queue has places for.
+    pub fn packet_recv_capacity(&self) -> usize {
+        count_in(self.0.packet_recv_capacity())
+    }
+
+    /// How many payload bytes the transmit queue holds.
+    pub fn payload_send_capacity(&self) -> usize {
+        count_in(self.0.payload_send_capacity())
+    }
+
+    /// How many payload bytes the receive queue holds.
+    pub fn payload_recv_capacity(&self) -> usize {
+        count_in(self.0.payload_recv_capacity())
+    }
+
+    /// How many payload bytes of the transmit queue are taken, padding included.
+    pub fn send_queue(&self) -> usize {
+        count_in(self.0.send_queue())
+    }
+
+    /// How many payload bytes of the receive queue are taken, padding included.
+    pub fn recv_queue(&self) -> usize {
+        count_in(self.0.recv_queue())
+    }
+
+    /// Puts a datagram into the transmit queue. Whether its packet fits the MTU is the caller's to see.
+    pub fn send_slice(&mut self, data: &[u8], meta: impl Into<UdpMetadata>) -> Result<(), SendError> {
         let meta = meta.into();
         let local_address = address_of(meta.local_address);
         let meta = ffi::UdpMetadata { endpoint: endpoint_of(meta.endpoint), local_address };
-        match self.0.send(&cx.raw, &meta, data) {
+        match self.0.send(&meta, data) {
             ffi::OK => Ok(()),
             ffi::ERROR_ROOM => Err(SendError::BufferFull),
             _ => Err(SendError::Unaddressable),
@@ -134,26 +187,35 @@ impl<'a> Socket<'a> {
     /// find no room, it is lost, as in smoltcp.
     pub fn recv_slice(&mut self, data: &mut [u8]) -> Result<(usize, UdpMetadata), RecvError> {
         let mut from = ffi::UdpMetadata::default();
-        match self.0.recv(&mut from, data) {
-            ffi::ERROR_ROOM => Err(RecvError::Truncated),
-            len if len < 0 => Err(RecvError::Exhausted),
-            len => {
-                let endpoint = endpoint_in(&from.endpoint).ok_or(RecvError::Exhausted)?;
-                let local_address = address_in(&from.local_address);
-                Ok((count_in(len), UdpMetadata { endpoint, local_address }))
-            }
+        let answer = self.0.recv(&mut from, data);
+        copied(answer, &from)
+    }
+
+    /// The same, and the datagram stays.
+    pub fn peek_slice(&mut self, data: &mut [u8]) -> Result<(usize, UdpMetadata), RecvError> {
+        let mut from = ffi::UdpMetadata::default();
+        let answer = self.0.peek(&mut from, data);
+        copied(answer, &from)
+    }
+
+    /// Whether `process` takes an IP packet.
+    pub fn accepts(&self, cx: &Context, packet: &[u8]) -> bool {
+        self.0.accepts(&cx.raw, packet) == 1
+    }
+
+    /// Takes an IP packet, where it carries a datagram for the socket: that is dropped where it finds no room, as in
+    /// smoltcp.
+    pub fn process(&mut self, cx: &Context, packet: &[u8]) -> Result<(), NotAccepted> {
+        match self.0.process(&cx.raw, packet) {
+            ffi::OK => Ok(()),
+            _ => Err(NotAccepted),
         }
     }
 
-    /// Takes an IP packet, where it carries a datagram for the socket.
-    pub fn process(&mut self, cx: &Context, packet: &[u8]) -> Result<(), ProcessError> {
-        ProcessError::told(self.0.process(&cx.raw, packet))
-    }
-
-    /// Writes the first packet that was sent to the beginning of `out`, and answers its length, if there is one. Where
-    /// it finds no room, it stays the first.
-    pub fn dispatch(&mut self, out: &mut [u8]) -> Result<Option<usize>, TooShort> {
-        match self.0.dispatch(out) {
+    /// Writes the packet of the first datagram that was sent to the beginning of `out`, and answers its length, if
+    /// there is one. Where it finds no room, it stays the first.
+    pub fn dispatch(&mut self, cx: &Context, out: &mut [u8]) -> Result<Option<usize>, TooShort> {
+        match self.0.dispatch(&cx.raw, out) {
             ffi::ERROR_ROOM => Err(TooShort),
             len if len > 0 => Ok(Some(count_in(len))),
             _ => Ok(None),
@@ -165,6 +227,19 @@ impl<'a> Socket<'a> {
         let mut at = 0;
         let answer = self.0.poll_at(&cx.raw, &mut at);
         poll_in(answer, at, cx)
+    }
+}
+
+/// What a call that copies a datagram answered.
+fn copied(answer: i64, from: &ffi::UdpMetadata) -> Result<(usize, UdpMetadata), RecvError> {
+    match answer {
+        ffi::ERROR_ROOM => Err(RecvError::Truncated),
+        len if len < 0 => Err(RecvError::Exhausted),
+        len => {
+            let endpoint = endpoint_in(&from.endpoint).ok_or(RecvError::Exhausted)?;
+            let local_address = address_in(&from.local_address);
+            Ok((count_in(len), UdpMetadata { endpoint, local_address }))
+        }
     }
 }
 

@@ -1,59 +1,84 @@
 //! Worked examples of UDP and ICMP that bytes can show.
 mod common;
 use common::*;
-use smoltcp_proved::udp::{BindError, ProcessError, RecvError, UdpMetadata};
+use smoltcp_proved::icmp::ProcessError;
+use smoltcp_proved::udp::{BindError, RecvError, UdpMetadata};
 use smoltcp_proved::wire::{IpAddress, IpEndpoint};
-use smoltcp_proved::{PollAt, TooShort, icmp, tcp, udp};
+use smoltcp_proved::{NotAccepted, PollAt, TooShort, icmp, tcp, udp};
+
+/// Memory for a UDP socket with two places and 100 bytes each way.
+struct Room {
+    memory: udp::Memory,
+    places: [[udp::PacketMetadata; 2]; 2],
+    bytes: [[u8; 100]; 2],
+}
+
+impl Room {
+    fn new() -> Room {
+        let places = [[udp::PacketMetadata::EMPTY; 2]; 2];
+        Room { memory: udp::Memory::new(), places, bytes: [[0; 100]; 2] }
+    }
+
+    fn socket(&mut self) -> udp::Socket<'_> {
+        let ([rx_places, tx_places], [rx, tx]) = (&mut self.places, &mut self.bytes);
+        let (rx, tx) = (udp::PacketBuffer::new(rx_places, rx), udp::PacketBuffer::new(tx_places, tx));
+        udp::Socket::new(&mut self.memory, rx, tx)
+    }
+}
 
 /// A packet that a UDP socket of a sends to port 53 of b, with these bytes.
 fn datagram(bytes: &[u8]) -> Vec<u8> {
-    let (mut rx, mut tx, cx) = ([0; 100], [0; 100], context(1, 0));
-    let mut socket = udp::Socket::new(&mut rx, &mut tx);
-    assert_eq!(socket.send_slice(&cx, bytes, (B, 53)), Err(udp::SendError::Unaddressable));
+    let (mut room, cx) = (Room::new(), context(1, 0));
+    let mut socket = room.socket();
+    assert_eq!(socket.send_slice(bytes, (B, 53)), Err(udp::SendError::Unaddressable));
     socket.bind(49152).expect("a closed socket opens");
     assert_eq!(socket.bind(49152), Err(BindError::InvalidState));
     assert_eq!(socket.poll_at(&cx), PollAt::Ingress);
-    socket.send_slice(&cx, bytes, (B, 53)).expect("room for a packet");
-    assert_eq!(socket.poll_at(&cx), PollAt::Now);
+    socket.send_slice(bytes, (B, 53)).expect("room for a datagram");
+    assert_eq!((socket.poll_at(&cx), socket.send_queue()), (PollAt::Now, bytes.len()));
     let mut packet = vec![0; 100];
-    assert_eq!(socket.dispatch(&mut packet[..27]), Err(TooShort));
-    let len = socket.dispatch(&mut packet).expect("room").expect("a packet");
-    assert_eq!(socket.dispatch(&mut [0; 100]), Ok(None));
+    assert_eq!(socket.dispatch(&cx, &mut packet[..27]), Err(TooShort));
+    let len = socket.dispatch(&cx, &mut packet).expect("room").expect("a packet");
+    assert_eq!(socket.dispatch(&cx, &mut [0; 100]), Ok(None));
     packet.truncate(len);
     packet
 }
 
 #[test]
 fn udp_and_truncation() {
-    let (mut rx, mut tx, cx) = ([0; 100], [0; 100], context(2, 0));
-    let mut server = udp::Socket::new(&mut rx, &mut tx);
+    let (mut room, cx) = (Room::new(), context(2, 0));
+    let mut server = room.socket();
     assert_eq!(server.bind(0), Err(BindError::Unaddressable));
     server.bind(53).expect("a closed socket opens");
+    assert_eq!((server.packet_recv_capacity(), server.payload_send_capacity()), (2, 100));
     let packet = datagram(b"which address?");
     assert_eq!(packet.len(), 20 + 8 + 14);
     assert_eq!(packet[20..28][..6], [0xc0, 0x00, 0, 53, 0, 22]);
     let mut damaged = packet.clone();
     damaged[30] ^= 1;
-    assert_eq!(server.process(&cx, &damaged), Err(ProcessError::NotAccepted));
-    assert_eq!(server.process(&cx, &packet), Ok(()));
-    assert_eq!(server.process(&cx, &packet), Ok(()));
-    assert_eq!(server.process(&cx, &packet), Err(ProcessError::BufferFull));
+    assert!(server.accepts(&cx, &packet) && !server.accepts(&cx, &damaged));
+    assert_eq!(server.process(&cx, &damaged), Err(NotAccepted));
+    for _ in 0..3 {
+        assert_eq!(server.process(&cx, &packet), Ok(())); // the third finds no place, and is dropped
+    }
+    assert_eq!(server.recv_queue(), 2 * 14);
     let mut bytes = [0; 14];
     assert_eq!(server.recv_slice(&mut bytes[..13]), Err(RecvError::Truncated));
     let from = UdpMetadata { endpoint: IpEndpoint::new(A, 49152), local_address: Some(B) };
+    assert_eq!(server.peek_slice(&mut bytes), Ok((14, from)));
     assert_eq!(server.recv_slice(&mut bytes), Ok((14, from)));
     assert_eq!(&bytes, b"which address?");
     assert_eq!(server.recv_slice(&mut bytes), Err(RecvError::Exhausted));
-    assert_eq!(server.send_slice(&cx, &[0; 71], from), Err(udp::SendError::BufferFull));
+    assert_eq!(server.send_slice(&[0; 101], from), Err(udp::SendError::BufferFull));
     let meta = UdpMetadata { local_address: Some(IpAddress::v4(10, 0, 0, 9)), ..from };
     server.set_hop_limit(Some(3));
-    assert_eq!((server.send_slice(&cx, b"10.0.0.3", meta), server.hop_limit()), (Ok(()), Some(3)));
+    assert_eq!((server.send_slice(b"10.0.0.3", meta), server.hop_limit()), (Ok(()), Some(3)));
     let mut answer = [0; 100];
-    assert_eq!(server.dispatch(&mut answer), Ok(Some(20 + 8 + 8)));
+    assert_eq!(server.dispatch(&cx, &mut answer), Ok(Some(20 + 8 + 8)));
     assert_eq!((answer[8], &answer[12..20]), (3, &[10, 0, 0, 9, 10, 0, 0, 1][..]));
-    assert_eq!(server.send_slice(&cx, b"10.0.0.3", from), Ok(()));
+    assert_eq!(server.send_slice(b"10.0.0.3", from), Ok(()));
     server.close();
-    assert_eq!((server.is_open(), server.dispatch(&mut [0; 100])), (false, Ok(None)));
+    assert_eq!((server.is_open(), server.dispatch(&cx, &mut [0; 100])), (false, Ok(None)));
 }
 
 /// RFC 792: an echo request with identifier 7 and number 1, and its reply.
