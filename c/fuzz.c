@@ -1,5 +1,5 @@
-/* Random calls on pairs of TCP sockets. Packets are lost, repeated, cut, changed and made up; buffers of every length
- * lie before a page that may not be touched.
+/* Random calls on pairs of TCP and of UDP sockets. Packets are lost, repeated, cut, changed and made up; buffers of
+ * every length lie before a page that may not be touched.
  *
  *     fuzz CALLS SEED
  *
@@ -14,12 +14,14 @@
 
 #include "smoltcp_socket.h"
 
-enum { PAGE = 4096, LONGEST = 3 * PAGE, MTU = 1500, KEPT = 8, WRITTEN = 1 << 16 };
+enum { PAGE = 4096, LONGEST = 3 * PAGE, MTU = 1500, KEPT = 8, WRITTEN = 1 << 16, PLACES = 4, PAGES = 9 };
 
 /* One end: its socket, its buffers, its context, and packets that it emitted and are on their way. What it was given to
  * send since it was opened, and how much of the other's was read, where the connection was never broken. */
 struct end {
     struct smoltcp_tcp tcp;
+    struct smoltcp_udp udp;
+    struct smoltcp_udp_place places[2][PLACES];
     struct smoltcp_context cx;
     uint8_t packets[KEPT][MTU];
     size_t lengths[KEPT];
@@ -28,9 +30,9 @@ struct end {
 };
 
 static struct end ends[2];
-static uint8_t *pages[5]; /* memory before a page that may not be touched: two buffers an end, and one for calls */
+static uint8_t *pages[PAGES]; /* memory before a page that may not be touched: four buffers an end, and one for calls */
 static uint64_t state;
-static long calls, bytes;
+static long calls, bytes, datagrams;
 
 static uint32_t draw(uint32_t below) {
     state = state * 6364136223846793005u + 1442695040888963407u;
@@ -59,6 +61,13 @@ static struct smoltcp_endpoint at(int host, int port) {
     return e;
 }
 
+/* A queue of up to four datagrams over a buffer of any length. */
+static struct smoltcp_udp_buffer queue(struct smoltcp_udp_place *places, int which) {
+    struct smoltcp_udp_buffer buffer = {places, draw(PLACES + 1), NULL, draw(LONGEST)};
+    buffer.bytes = before_guard(which, buffer.len);
+    return buffer;
+}
+
 /* Both ends anew, over buffers of any length. */
 static void begin(void) {
     int i;
@@ -73,6 +82,7 @@ static void begin(void) {
         e->cx.v4[0] = 10;
         e->cx.v4[3] = (uint8_t)(i + 1);
         if (smoltcp_tcp_init(&e->tcp, before_guard(2 * i, rx), rx, before_guard(2 * i + 1, tx), tx)) fail("init", 0);
+        if (smoltcp_udp_init(&e->udp, queue(e->places[0], 5 + 2 * i), queue(e->places[1], 6 + 2 * i))) fail("init", 1);
         if (draw(2)) smoltcp_tcp_set_timestamps(&e->tcp, 1);
         if (draw(2)) smoltcp_tcp_set_keep_alive(&e->tcp, 1000000);
     }
@@ -80,6 +90,8 @@ static void begin(void) {
         struct smoltcp_endpoint a = at(0, 49152), b = at(1, 7);
         smoltcp_tcp_listen(&ends[1].tcp, &b);
         smoltcp_tcp_connect(&ends[0].tcp, &ends[0].cx, &b, &a);
+        smoltcp_udp_bind(&ends[0].udp, &a);
+        smoltcp_udp_bind(&ends[1].udp, &b);
     }
 }
 
@@ -179,9 +191,53 @@ static void recv_bytes(struct end *e, struct end *from) {
     if (smoltcp_tcp_consume(&e->tcp, (size_t)n) != n) fail("consume", n);
 }
 
+/* A datagram's bytes follow from its first one. */
+static uint8_t byte_of(const uint8_t *data, size_t i) { return (uint8_t)(data[0] + 7 * i); }
+
+static void send_datagram(struct end *e, int to) {
+    size_t len = draw(900), i;
+    uint8_t *data = before_guard(4, len);
+    struct smoltcp_udp_metadata meta;
+    memset(&meta, 0, sizeof meta);
+    meta.endpoint = at(to, to ? 7 : 49152);
+    if (len) data[0] = (uint8_t)draw(256);
+    for (i = 1; i < len; i++) data[i] = byte_of(data, i);
+    named("udp_send", smoltcp_udp_send(&e->udp, &meta, data, len), 0);
+}
+
+/* The packet of the first datagram goes to the other end, or is lost, or is changed on its way. */
+static void carry_datagram(struct end *e, struct end *to) {
+    size_t cap = draw(8) ? MTU : draw(MTU);
+    uint8_t *out = before_guard(4, cap), *packet;
+    int64_t n;
+    memset(out, 0xa5, cap);
+    n = within("udp_dispatch", smoltcp_udp_dispatch(&e->udp, &e->cx, out, cap), out, cap, 0xa5);
+    if (n <= 0 || draw(8) == 0) return;
+    packet = before_guard(4, (size_t)n);
+    memmove(packet, out, (size_t)n);
+    if (draw(16) == 0) packet[draw((uint32_t)n)] ^= (uint8_t)(1 << draw(8));
+    named("udp_process", smoltcp_udp_process(&to->udp, &to->cx, packet, (size_t)n), 0);
+}
+
+static void recv_datagram(struct end *e) {
+    size_t cap = draw(1000), i;
+    uint8_t *data = before_guard(4, cap);
+    struct smoltcp_udp_metadata meta;
+    int64_t seen, n;
+    memset(data, 0x3c, cap);
+    seen = within("udp_peek", smoltcp_udp_peek(&e->udp, &meta, data, cap), data, cap, 0x3c);
+    n = within("udp_recv", smoltcp_udp_recv(&e->udp, &meta, data, cap), data, cap, 0x3c);
+    if (seen != n) fail("udp_peek", seen);
+    if (n < 0) return;
+    for (i = 1; i < (size_t)n; i++)
+        if (data[i] != byte_of(data, i)) fail("udp_recv", n);
+    datagrams++;
+}
+
 /* Numbers out of range and null pointers change nothing. */
 static void refused(struct end *e) {
     struct smoltcp_tcp was = e->tcp;
+    struct smoltcp_udp udp_was = e->udp;
     struct smoltcp_context far = e->cx;
     uint8_t byte = 0;
     far.now = INT64_MAX;
@@ -190,20 +246,26 @@ static void refused(struct end *e) {
     if (smoltcp_tcp_dispatch(&e->tcp, &far, &byte, 1) != SMOLTCP_ERROR_CONTEXT) fail("dispatch", 0);
     if (smoltcp_tcp_process(&e->tcp, &e->cx, &byte, 1, &byte, 1) != SMOLTCP_ERROR_ROOM) fail("process", 0);
     if (smoltcp_tcp_send(&e->tcp, NULL, 1) != SMOLTCP_ERROR_NULL) fail("send", 0);
+    if (smoltcp_udp_dispatch(&e->udp, &far, &byte, 1) != SMOLTCP_ERROR_CONTEXT) fail("udp_dispatch", 0);
+    if (smoltcp_udp_process(&e->udp, &e->cx, &byte, 1) != SMOLTCP_NOT_ACCEPTED) fail("udp_process", 0);
     if (memcmp(&was, &e->tcp, sizeof was) != 0) fail("a refused call changed the socket", 0);
+    if (memcmp(&udp_was, &e->udp, sizeof udp_was) != 0) fail("a refused call changed the UDP socket", 0);
 }
 
 static void call(void) {
     int i = (int)draw(2);
     struct end *e = &ends[i], *other = &ends[1 - i];
     int64_t limit = INT64_MAX;
-    switch (draw(16)) {
+    switch (draw(20)) {
     case 0: case 1: case 2: case 3: dispatch(e); break;
     case 4: case 5: case 6: case 7: case 8: process(e, other); break;
     case 9: case 10: send_bytes(e); break;
     case 11: case 12: recv_bytes(e, other); break;
     case 13: e->cx.now += draw(200000); e->cx.tsval = (uint32_t)(e->cx.now / 1000); e->cx.word = draw(1u << 31); break;
     case 14: refused(e); break;
+    case 15: send_datagram(e, 1 - i); break;
+    case 16: case 17: carry_datagram(e, other); break;
+    case 18: recv_datagram(e); break;
     default:
         if (smoltcp_tcp_poll_at(&e->tcp, &e->cx) > limit) fail("poll_at", 0);
         if (named("state", smoltcp_tcp_state(&e->tcp), SMOLTCP_TIME_WAIT) < 0) fail("state", 0);
@@ -216,7 +278,7 @@ int main(int argc, char **argv) {
     long most = argc > 1 ? atol(argv[1]) : 100000;
     int i;
     state = argc > 2 ? (uint64_t)atoll(argv[2]) : 1;
-    for (i = 0; i < 5; i++) {
+    for (i = 0; i < PAGES; i++) {
         pages[i] = mmap(NULL, LONGEST + PAGE, PROT_READ | PROT_WRITE, MAP_PRIVATE | MAP_ANONYMOUS, -1, 0);
         if (pages[i] == MAP_FAILED || mprotect(pages[i] + LONGEST, PAGE, PROT_NONE) != 0) return perror("mmap"), 2;
     }
@@ -224,6 +286,6 @@ int main(int argc, char **argv) {
         if (calls % 2000 == 0) begin();
         call();
     }
-    printf("%ld calls, %ld bytes read as they were sent\n", calls, bytes);
+    printf("%ld calls, %ld bytes and %ld datagrams read as they were sent\n", calls, bytes, datagrams);
     return 0;
 }
