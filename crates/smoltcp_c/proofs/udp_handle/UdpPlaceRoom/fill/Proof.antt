@@ -30,7 +30,7 @@ use Rattle.std.specs.Prelude.{Option, None, Some}
 use Rattle.smoltcp_c.specs.Memory.{held_at}
 use denote.Param.Laws.{Laws}
 use denote.RawPtr.{Ptr, RawPtr, block_ptr, ptr_val, in_a_block, lies_at, room_at}
-use denote.Exit.{no}
+use denote.Exit.{yes}
 use denote.Signature.{plain, static_lft}
 use denote.Steps.{nothing, opens, closes}
 use denote.Struct.Struct.{within}
@@ -73,7 +73,7 @@ abbrev Good : Val → Type 0
 Good v = T (has_ty τ v) × WT v
 
 abbrev stayed : Stays (f.ended).signature.params (f.ended).kept
-stayed = (stay_ref (0 ∷ []) tt (plain (λ _. V)), (stay_dropped (plain (λ _. R)) no, tt))
+stayed = (stay_ref (0 ∷ []) tt (plain (λ _. V)), (stay_dropped (plain (λ _. R)) yes, tt))
 
 abbrev Empty : UdpPlaceRoom → Type 0
 Empty d = ◌≡◌ {A = Option R.Denot} d.made None
@@ -122,7 +122,7 @@ module _ {M : Type 1} {𝓤 : Ura M} (𝓛 : Logic 𝓤) (at_mem : Memory → SP
   exits : (us : List Val) (d' : UdpPlaceRoom) → d' ≡ with_made d x → ent 𝓤 (sep 𝓤 (A.obs γ ((V).coded.code d')) (sep 𝓤 (A.bor κ (Borrowed (mem V) rb ro γ)) (A.lft κ q))) (Post (vptr rb ro ∷ []) us vunit)
   exits us d' is =
       qed 𝓛 (‵ (fobs γ ((V).coded.code d')) ∷ ‵ (fbor κ (Borrowed (mem V) rb ro γ)) ∷ ‵ (flft κ q) ∷ []) ∵
-      suffices ! _ (ends_at 𝓛 f.ended stayed clauses (bound (vptr rb ro ∷ []) us) vunit tt (d', ((tt, tt), tt)) (tt, (tt, tt))) $ says ! is $
+      suffices ! _ (ends_at 𝓛 f.ended stayed clauses (bound (vptr rb ro ∷ []) us) vunit tt (d', (tt, tt)) (tt, (tt, tt))) $ says ! is $
       nothing ! $ move ! (3 ∷ 0 ∷ []) $ join ! $ frame ! $ feq_i ! (List Val) (vptr rb ro ∷ []) (vptr rb ro ∷ []) refl $ fjoin3 ! $ nothing ! $
       nothing ! $ fjoin ! $ move ! (1 ∷ 0 ∷ []) $ fjoin ! $ feq_i ! (List Val) (vunit ∷ []) (vunit ∷ []) refl $ move ! (1 ∷ 0 ∷ []) $ join ! $ done !
 
@@ -145,7 +145,6 @@ module _ {M : Type 1} {𝓤 : Ura M} (𝓛 : Logic 𝓤) (at_mem : Memory → SP
         first ! $ blocks ! $
         sets ! (of_opd ! (load ! (through ! refl (fld ! refl (stop !))) (look_in ! 1 (sub ! 0 refl (whole !))))) refl (tt, tt) $
         sets ! (of_opd ! (get ! refl)) refl (tt, tt) $
-        sets ! (of_opd ! (get ! refl)) refl t' $
         assigns_last ! (of_opd ! (get ! refl)) (through ! refl (stop !)) (init ! 0 refl t') $
         exec ! C Λ En steps.t-2 (at_ret En (Post (vptr rb ro ∷ []) (v ∷ []))) $
         sets ! (of_opd ! (unit_lit !)) refl (tt, tt) $
@@ -162,7 +161,7 @@ module _ {M : Type 1} {𝓤 : Ura M} (𝓛 : Logic 𝓤) (at_mem : Memory → SP
 meets : {M : Type 1} {𝓤 : Ura M} (𝓛 : Logic 𝓤) (at_mem : Memory → SProp 𝓤) (run : Routine → Fun 𝓤) (𝓣 : Tables 𝓤 𝓛.H)
     → Meets 𝓛 f.signature (WpFn 𝓤 𝓛.H 𝓣.C 𝓣.Λ code.function) (f.spec 𝓛 at_mem run)
 meets {𝓤 = 𝓤} 𝓛 at_mem run 𝓣 =
-    walk_Meets 𝓛 f.ended stayed (Goes-ref 𝓛 1 0 tt (plain (λ _. V)), (Goes-blank 𝓛 1 (plain (λ _. R)) no (λ κs x f. tt), tt)) (f.clauses 𝓛 at_mem run) (WpFn 𝓤 𝓛.H 𝓣.C 𝓣.Λ code.function) (WpFn-mono 𝓤 𝓛.H 𝓛.laws 𝓣 code.function)
+    walk_Meets 𝓛 f.ended stayed (Goes-ref 𝓛 1 0 tt (plain (λ _. V)), (Goes-blank 𝓛 1 (plain (λ _. R)) yes (λ κs x f. tt), tt)) (f.clauses 𝓛 at_mem run) (WpFn 𝓤 𝓛.H 𝓣.C 𝓣.Λ code.function) (WpFn-mono 𝓤 𝓛.H 𝓛.laws 𝓣 code.function)
     (λ z. let a = z.0.3 in let vss = z.0.4 in let Rs : List RattleType = MutRef (named 0) z.0.0.0 V ∷ R ∷ [] in
     needs 𝓤 (Empty a.0.now) _ (λ empty.
     fact_use 𝓤 (Are Rs (Ises Rs) a vss) (via 𝓤 (sem 𝓛 (owns Rs a vss)) (snd∗ 𝓤 (alive 𝓛 f.signature z.0.0 z.0.1) (sem 𝓛 (owns Rs a vss))) (owns_show 𝓛 Rs (Ises Rs) (showss 𝓛 Rs) a vss)) (λ are.

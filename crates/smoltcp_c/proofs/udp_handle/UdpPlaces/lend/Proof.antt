@@ -94,7 +94,7 @@ module _ {M : Type 1} {𝓤 : Ura M} (𝓛 : Logic 𝓤) (at_mem : Memory → SP
       let En : Env 𝓤 H = env (code.function).locals l in
       sets ! (of_opd ! (get_in ! (fld ! refl (stop !)) (sub ! 0 refl (whole !)))) refl (tt, tt) $
       sets ! (of_opd ! (get_in ! (fld ! refl (stop !)) (sub ! 1 refl (whole !)))) refl (tt, record { fits = fits }) $
-      first ! $ blocks ! $ sets_last ! (agg ! (and_then ! (get ! refl) (and_then ! (get ! refl) (no_more !)))) refl (tt, (tt, (record { fits = fits }, tt))) $
+      first ! $ blocks ! $ sets ! (of_opd ! (get ! refl)) refl (tt, tt) $ sets_last ! (agg ! (and_then ! (get ! refl) (and_then ! (get ! refl) (no_more !)))) refl (tt, (tt, (record { fits = fits }, tt))) $
       exec ! C Λ En steps.t-4 (at_ret En Post) $
       use1 𝓛 (‵ (cells (mem E) xs b o)) (whole_in 𝓛 E xs b o) $ feq_i ! ℕ (length xs) (length xs) refl $ fjoin ! $
       name_new ! tt ((coded_list (E).coded).code xs) (λ γ. move ! (2 ∷ 1 ∷ []) $ fjoin ! $

@@ -120,7 +120,7 @@ module _ {M : Type 1} {𝓤 : Ura M} (𝓛 : Logic 𝓤) (at_mem : Memory → SP
   exits : (us : List Val) (d' : UdpRoom) → d' ≡ with_made d x → ent 𝓤 (sep 𝓤 (A.obs γ ((V).coded.code d')) (sep 𝓤 (A.bor κ (Borrowed (mem V) rb ro γ)) (A.lft κ q))) (Post (vptr rb ro ∷ []) us vunit)
   exits us d' is =
       qed 𝓛 (‵ (fobs γ ((V).coded.code d')) ∷ ‵ (fbor κ (Borrowed (mem V) rb ro γ)) ∷ ‵ (flft κ q) ∷ []) ∵
-      suffices ! _ (ends_at 𝓛 f.ended stayed clauses (bound (vptr rb ro ∷ []) us) vunit tt (d', ((tt, tt), tt)) (tt, (tt, tt))) $ says ! is $
+      suffices ! _ (ends_at 𝓛 f.ended stayed clauses (bound (vptr rb ro ∷ []) us) vunit tt (d', (tt, tt)) (tt, (tt, tt))) $ says ! is $
       nothing ! $ move ! (3 ∷ 0 ∷ []) $ join ! $ frame ! $ feq_i ! (List Val) (vptr rb ro ∷ []) (vptr rb ro ∷ []) refl $ fjoin3 ! $ nothing ! $
       nothing ! $ fjoin ! $ move ! (1 ∷ 0 ∷ []) $ fjoin ! $ feq_i ! (List Val) (vunit ∷ []) (vunit ∷ []) refl $ move ! (1 ∷ 0 ∷ []) $ join ! $ done !
 
