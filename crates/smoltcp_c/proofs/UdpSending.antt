@@ -18,7 +18,7 @@ use Rattle.smoltcp_c.specs.Answers.{sent_answer}
 use Rattle.smoltcp_c.specs.Udp.{CountsDatagram, DispatchesInto, WritesDatagram, datagram_len, datagram_packet}
 use Rattle.smoltcp_c.specs.declared.wire.Full.{Full}
 use Rattle.smoltcp_c.specs.declared.wire.Wire.{Wire}
-use Rattle.smoltcp_c.proofs.Sending.{Sent, sent}
+use Rattle.smoltcp_c.proofs.Sending.{sent}
 
 -- the header counts the payload
 abbrev Counted : Outgoing → Type 0
@@ -47,11 +47,13 @@ counted v f o e short =
 module _ {F : Type 0} (g : Emit F Wire (IpRepr × UdpRepr × Bor (List ℕ)) Full) (f : F) (says : (shown left : MutBor Wire) (s : IpRepr × UdpRepr × Bor (List ℕ)) (r : Result (Unit {0}) Full) → g.post f (shown, (s, tt)) (r, (left, tt)) → WritesDatagram (outgoing_of s) shown.now r left.now) where
   pub dispatched : (facts : Facts) (c c' : Wire) (v w : View) (r : Result (Unit {0}) Full) → c.len ≡ 0 → Dispatched g f v facts c r c' w → DispatchesInto v facts c.out.now (sent_answer r c'.len) w c'.out.now × (c'.out.ghost_name ≡ c.out.ghost_name)
   dispatched facts c c' v w r zero d =
-      let h = sent datagram_len datagram_packet (λ o. CountsDatagram o.ip o.payload) outgoing_of g f says (outgoing v facts) c c' r zero (counted v facts) d.emits in
-      (record {
-        sends = record { answer = h.answer; written = h.written };
-        queue = d.queue ∙ ap (λ b. cond b (drop 1 (waiting v)) (waiting v)) h.ok;
-        sent = λ t. d.sent (h.ok ∙ t);
-        failed = λ t. d.failed (h.ok ∙ t);
-        same = d.same;
-      }, h.same_buffer)
+      let h = sent datagram_len datagram_packet (λ o. CountsDatagram o.ip o.payload) outgoing_of g f says (outgoing v facts) c c' r zero (counted v facts) d.emits in (
+        record {
+          sends = record { answer = h.answer; written = h.written };
+          queue = d.queue ∙ ap (λ b. cond b (drop 1 (waiting v)) (waiting v)) h.ok;
+          sent = λ t. d.sent (h.ok ∙ t);
+          failed = λ t. d.failed (h.ok ∙ t);
+          same = d.same;
+        },
+        h.same_buffer,
+      )

@@ -296,11 +296,7 @@ fn peeked(socket: &mut Socket<'_>, data: &mut [u8]) -> Result<(usize, UdpMetadat
 
 // Writes where a datagram came from, where one did, and answers how many bytes it has: at most as many as there was
 // room for.
-fn tell(
-    answer: Result<(usize, UdpMetadata), RecvError>,
-    meta: &mut UdpNumbers,
-    room: usize,
-) -> i64
+fn tell(answer: Result<(usize, UdpMetadata), RecvError>, meta: &mut UdpNumbers, room: usize) -> i64
     requires within { IfOk answer (λ r. r.0 ≤ room) }
     requires short { room < 2 ^ 63 }
     ensures answer { result ≡ copied_answer answer }

@@ -93,7 +93,12 @@ impl<'w> Wire<'w> {
     }
 
     /// Writes the datagram as an IP packet at the beginning of `out`, where it fits.
-    pub fn write_datagram(&mut self, ip: &IpRepr, repr: &UdpRepr, payload: &[u8]) -> Result<(), Full>
+    pub fn write_datagram(
+        &mut self,
+        ip: &IpRepr,
+        repr: &UdpRepr,
+        payload: &[u8],
+    ) -> Result<(), Full>
         ensures { WritesDatagram (outgoing_of (ip.now, repr.now, payload.entry)) self.old result self.new }
     {
         if !counts_datagram(ip, payload) || self.out.len() < ip.header_len() + ip.payload_len() {

@@ -5,7 +5,7 @@ use mathlib.Core.List.{List, [], ◌∷◌, ◌++◌}
 use seplogic.Ra.Ura.{Ura}
 use lib.Dec.{T}
 use base.Fraction.{full_share}
-use mir.Syntax.{Ty, erased, named}
+use mir.Syntax.{Ty, named}
 use mir.Val.{Val, vptr, vstruct, vnil, vcons, vunit, of_list, has_ty, WT}
 use base.Logic.{SProp, ent, sep, via, snd∗, id⊢, never}
 use base.Fml.{Lft, GName, Share, ftrue, froom, flft, fobs, fbor}
@@ -31,7 +31,7 @@ use Rattle.smoltcp_c.specs.Memory.{held_at}
 use denote.Param.Laws.{Laws}
 use denote.RawPtr.{Ptr, RawPtr, block_ptr, ptr_val, in_a_block, lies_at, room_at}
 use denote.Exit.{yes}
-use denote.Signature.{plain, static_lft}
+use denote.Signature.{plain}
 use denote.Steps.{nothing, opens, closes}
 use denote.Struct.Struct.{within}
 use denote.Struct.Owning.{shape}
