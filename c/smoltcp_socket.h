@@ -84,7 +84,7 @@ struct smoltcp_queue {
 };
 
 /* Memory for a UDP socket, and for a place of its queues, as that for a TCP socket. */
-enum { SMOLTCP_UDP_SIZE = 208, SMOLTCP_UDP_PLACE_SIZE = 56 };
+enum { SMOLTCP_UDP_SIZE = 160, SMOLTCP_UDP_PLACE_SIZE = 48 };
 struct smoltcp_udp { uint64_t opaque[SMOLTCP_UDP_SIZE / 8]; };
 struct smoltcp_udp_place { uint64_t opaque[SMOLTCP_UDP_PLACE_SIZE / 8]; };
 

@@ -95,9 +95,9 @@ pub const ERROR_MESSAGE: i64 = -10;
 /// The sizes of `struct smoltcp_tcp`, `struct smoltcp_udp` and `struct smoltcp_udp_place` in bytes.
 pub const TCP_SIZE: usize = 512;
 
-pub const UDP_SIZE: usize = 208;
+pub const UDP_SIZE: usize = 160;
 
-pub const UDP_PLACE_SIZE: usize = 56;
+pub const UDP_PLACE_SIZE: usize = 48;
 
 // The sizes that the header asserts.
 const _: () = {
