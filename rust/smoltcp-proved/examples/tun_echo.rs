@@ -206,8 +206,7 @@ impl Host<'_> {
 
     /// Gives a packet to the socket that it is for, connections first, and answers it.
     fn take_packet(&mut self, packet: &[u8]) {
-        if !is_for_host(packet) || self.datagrams.process(&self.cx, packet) != Err(NotAccepted)
-        {
+        if !is_for_host(packet) || self.datagrams.process(&self.cx, packet) != Err(NotAccepted) {
             return;
         }
         if self.offer(false, packet) || self.offer(true, packet) {

@@ -273,10 +273,7 @@ impl<'a> UdpBuffer<'a> {
             unsafe { ffi::smoltcp_udp_place_checked(&mut ffi::UdpHandle { at }) };
         }
         let (places, bytes) = (self.places.as_mut_ptr().cast(), self.bytes.as_mut_ptr());
-        (
-            ffi::Places { at: places, len: self.places.len() },
-            ffi::Bytes { at: bytes, len: self.bytes.len() },
-        )
+        (ffi::Places { at: places, len: self.places.len() }, ffi::Bytes { at: bytes, len: self.bytes.len() })
     }
 }
 

@@ -190,10 +190,22 @@ unsafe extern "C" {
         data: *const u8,
         len: usize,
     ) -> i64;
-    pub fn smoltcp_udp_recv_checked(h: &mut UdpHandle, meta: &mut UdpMetadata, data: *mut u8, cap: usize) -> i64;
-    pub fn smoltcp_udp_peek_checked(h: &mut UdpHandle, meta: &mut UdpMetadata, data: *mut u8, cap: usize) -> i64;
-    pub fn smoltcp_udp_accepts_checked(h: &mut UdpHandle, cx: &Context, packet: *const u8, len: usize) -> i64;
-    pub fn smoltcp_udp_process_checked(h: &mut UdpHandle, cx: &Context, packet: *const u8, len: usize) -> i64;
+    pub fn smoltcp_udp_recv_checked(
+        h: &mut UdpHandle,
+        meta: &mut UdpMetadata,
+        data: *mut u8,
+        cap: usize,
+    ) -> i64;
+    pub fn smoltcp_udp_peek_checked(
+        h: &mut UdpHandle,
+        meta: &mut UdpMetadata,
+        data: *mut u8,
+        cap: usize,
+    ) -> i64;
+    pub fn smoltcp_udp_accepts_checked(h: &mut UdpHandle, cx: &Context, packet: *const u8, len: usize)
+    -> i64;
+    pub fn smoltcp_udp_process_checked(h: &mut UdpHandle, cx: &Context, packet: *const u8, len: usize)
+    -> i64;
     pub fn smoltcp_udp_dispatch_checked(h: &mut UdpHandle, cx: &Context, out: *mut u8, cap: usize) -> i64;
     pub fn smoltcp_udp_poll_at_checked(h: &mut UdpHandle, cx: &Context, at: &mut i64) -> i64;
     pub fn smoltcp_icmp_init_checked(s: &mut Icmp) -> i64;
