@@ -2,7 +2,7 @@
 use Rattle.std.proofs.Common.{◌≡◌, ℕ, ◌≤◌, Bool, true, false, List, length, Option, Some, None, refl, sym, subst, arith}
 use Rattle.std.specs.Prelude.{Result, Ok, Err, IfOk, nat_lt, if◌then◌else◌}
 use Rattle.std.proofs.lemmas.Bool.Decides.{nat_tests}
-use Rattle.sock_dgram.specs.Datagrams.{copy_answer}
+use Rattle.sock_dgram.specs.Datagrams.{copy_answer, with_metadata}
 use Rattle.sock_dgram.specs.declared.error.RecvError.{RecvError}
 use Rattle.sock_dgram.specs.declared.error.RecvError.TheVariants as recv_error
 
@@ -16,3 +16,8 @@ copied_within {M} r o n e = subst (λ (r : Result (ℕ × M) RecvError). IfOk r 
     by : (o : Option (M × List ℕ)) → IfOk (copy_answer o n) (λ x. x.0 ≤ n)
     by None = tt
     by (Some d) = test d (nat_lt n (length d.1)) refl
+
+-- the same of a count alone
+pub bytes_within : (r : Result ℕ RecvError) (o : Option (Unit {0} × List ℕ)) (n : ℕ) → with_metadata tt r ≡ copy_answer o n → IfOk r (λ k. k ≤ n)
+bytes_within (Ok k) o n e = copied_within (Ok (k, tt)) o n e
+bytes_within (Err x) o n e = tt

@@ -5,6 +5,7 @@ mod Foreign
 mod Framing
 mod Free
 mod Pieces
+mod RawSending
 mod Reading
 mod Replies
 mod Sending

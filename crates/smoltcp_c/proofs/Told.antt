@@ -1,12 +1,14 @@
--- Equal contexts, packets and answers of a UDP or an ICMP socket are told alike.
+-- Equal contexts, packets and answers of a datagram socket are told alike.
 use Rattle.std.proofs.Common.{◌≡◌, ℤ, ℕ, List, Bool, false, Some, None, sym, subst}
 use Rattle.std.specs.Prelude.{IsTrue, ◌↔◌}
-use Rattle.segment_wire.specs.Packet.{UdpPacket}
+use Rattle.segment_wire.specs.Packet.{Carried, UdpPacket}
 use Rattle.sock_core.specs.Facts.{Facts}
 use Rattle.sock_dgram.specs.Icmp as icmp_view
+use Rattle.sock_dgram.specs.Raw as raw_view
 use Rattle.sock_dgram.specs.Udp as udp_view
 use Rattle.smoltcp_c.specs.Context.{facts_in}
 use Rattle.smoltcp_c.specs.Icmp as icmp
+use Rattle.smoltcp_c.specs.Raw as raw
 use Rattle.smoltcp_c.specs.Udp as udp
 use Rattle.smoltcp_c.specs.declared.context.Cx.{Cx}
 use Rattle.smoltcp_c.specs.declared.endpoints.Address.{Address}
@@ -20,6 +22,12 @@ udp_none v f packet e = subst (λ o. IsTrue false ↔ udp.AcceptsIf v f o) e (ne
 
 pub udp_some : (v : udp_view.View) (f : Facts) (packet : List ℕ) (p : UdpPacket) (b : Bool) → Some p ≡ udp.carried_datagram packet → (IsTrue b ↔ udp_view.Accepts v f p.ip p.datagram.header) → IsTrue b ↔ udp.IsFor v f packet
 udp_some v f packet p b e h = subst (λ o. IsTrue b ↔ udp.AcceptsIf v f o) e h
+
+pub raw_none : (v : raw_view.View) (packet : List ℕ) → None ≡ raw.carried_packet packet → IsTrue false ↔ raw.IsFor v packet
+raw_none v packet e = subst (λ o. IsTrue false ↔ raw.AcceptsIf v o) e (never (λ x. x))
+
+pub raw_some : (v : raw_view.View) (packet : List ℕ) (p : Carried) (b : Bool) → Some p ≡ raw.carried_packet packet → (IsTrue b ↔ raw_view.Accepts v p.ip) → IsTrue b ↔ raw.IsFor v packet
+raw_some v packet p b e h = subst (λ o. IsTrue b ↔ raw.AcceptsIf v o) e h
 
 pub icmp_none : (v : icmp_view.View) (f : Facts) (packet : List ℕ) → None ≡ icmp.carried_message packet → IsTrue false ↔ icmp.IsFor v f packet
 icmp_none v f packet e = subst (λ o. IsTrue false ↔ icmp.AcceptsIf v f o) e (never (λ x. x))

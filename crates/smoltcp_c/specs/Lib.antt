@@ -7,6 +7,7 @@ pub mod Packets
 pub mod Places
 pub mod Ports
 pub mod Queue
+pub mod Raw
 pub mod Sends
 pub mod Streams
 pub mod Tcp

@@ -7,14 +7,17 @@ ghost use types.Logic.{sem};
 ghost use Rattle.smoltcp_c.specs.contracts.clock.Clock.{the_row as clock_row};
 ghost use Rattle.sock_tcp.specs.contracts.socket.Socket.{the_row as socket_row};
 ghost use Rattle.smoltcp_c.specs.contracts.tcp_handle.TcpHandle.{the_row as handle_row};
+ghost use Rattle.smoltcp_c.specs.contracts.raw_handle.RawHandle.{the_row as raw_handle_row};
 ghost use Rattle.smoltcp_c.specs.contracts.udp_handle.UdpHandle.{the_row as udp_handle_row};
+ghost use Rattle.sock_dgram.specs.contracts.raw.socket.Socket.{the_row as raw_row};
 ghost use Rattle.sock_dgram.specs.contracts.udp.socket.Socket.{the_row as udp_row};
 
 use crate::clock::Clock;
 use crate::memory::{Bytes, Place};
+use crate::raw_handle::{RawHandle, RawPlaceRoom, RawPlaces, RawRoom};
 use crate::tcp_handle::{TcpHandle, TcpRoom};
 use crate::udp_handle::{UdpHandle, UdpPlaceRoom, UdpPlaces, UdpRoom};
-use sock_dgram::udp;
+use sock_dgram::{raw, udp};
 use sock_tcp::Socket;
 
 impl TcpHandle {
@@ -83,6 +86,52 @@ impl UdpPlaces {
     {
         let UdpPlaces { at, len } = self;
         unsafe { std::slice::from_raw_parts_mut(at as *mut udp::PacketMetadata, len) }
+    }
+}
+
+impl RawHandle {
+    /// The socket: what is done to it is done to the handle's.
+    pub fn socket(&mut self) -> &mut raw::Socket<'static>
+        ensures* writes_back { sem 𝓛 (follows raw_handle_row (raw_row static_lft) self.entry.ghost_name
+            result.ghost_name (λ w. record self.old { socket = w })) }
+        ensures value { result.now ≡ self.old.socket }
+    {
+        unsafe { &mut *(self.at as *mut raw::Socket<'static>) }
+    }
+}
+
+impl RawRoom {
+    /// Puts the socket there.
+    pub fn fill(&mut self, socket: raw::Socket<'static>)
+        requires empty { self.old.made ≡ None }
+        ensures made { self.new ≡ record self.old { made = Some socket.entry } }
+    {
+        unsafe {
+            (self.at as *mut raw::Socket<'static>).write(socket);
+        }
+    }
+}
+
+impl RawPlaceRoom {
+    /// Puts the place there.
+    pub fn fill(&mut self, place: raw::PacketMetadata)
+        requires empty { self.old.made ≡ None }
+        ensures made { self.new ≡ record self.old { made = Some place } }
+    {
+        unsafe {
+            (self.at as *mut raw::PacketMetadata).write(place);
+        }
+    }
+}
+
+impl RawPlaces {
+    /// The places, for good.
+    pub fn lend(self) -> &'static mut [raw::PacketMetadata]
+        requires short { self.len ≤ 2 ^ 30 }
+        ensures len { self.len ≡ length result.now }
+    {
+        let RawPlaces { at, len } = self;
+        unsafe { std::slice::from_raw_parts_mut(at as *mut raw::PacketMetadata, len) }
     }
 }
 

@@ -3,12 +3,15 @@ ghost use Rattle.std.specs.Prelude.{◌≡◌, ◌≤◌, ◌↔◌, IsTrue, len
 ghost use Rattle.ip_wire.specs.Checksum.{all_checksums};
 ghost use Rattle.ip_wire.specs.declared.checksum.Checksum.TheVariants.{Both};
 ghost use Rattle.control_wire.specs.Segment.{segment_of};
+ghost use Rattle.sock_dgram.specs.RawDispatch.{outgoing_of as raw_of};
 ghost use Rattle.sock_dgram.specs.UdpDispatch.{outgoing_of};
+ghost use Rattle.smoltcp_c.specs.Raw.{WritesRaw, raw_len, with_raw};
 ghost use Rattle.smoltcp_c.specs.Udp.{CountsDatagram, WritesDatagram, with_datagram};
 ghost use Rattle.smoltcp_c.specs.Wire.{IsCounted, Writes, packet_len, with_packet};
 
 use crate::context::Moment;
 use control_wire::{TcpRepr, UdpRepr};
+use ip_wire::octets::put;
 use ip_wire::{ChecksumCapabilities, IpAddress, IpProtocol, IpRepr, Ipv4Address, Ipv6Address};
 use net_base::time::Instant;
 use segment_wire::packet::{emit_tcp, emit_udp};
@@ -67,6 +70,19 @@ fn put_datagram(ip: &IpRepr, repr: &UdpRepr, payload: &[u8], out: &mut [u8]) -> 
     whole
 }
 
+// Writes the payload behind its header at the beginning of `out`, and answers the packet's length.
+#[tactic(auto, using(crate::proofs::RawSending::headed))]
+fn put_raw(ip: &IpRepr, payload: &[u8], out: &mut [u8]) -> usize
+    requires room { raw_len (raw_of (ip.now, payload)) ≤ length out.old }
+    ensures len { result ≡ raw_len (raw_of (ip.now, payload.entry)) }
+    ensures bytes { out.new ≡ with_raw (raw_of (ip.now, payload.entry)) out.old }
+{
+    let start = ip.header_len();
+    put(out, start, payload);
+    ip.emit(out, &ChecksumCapabilities::default());
+    start + payload.len()
+}
+
 /// The context of a call that writes one packet.
 #[derive(Drop)]
 pub struct Wire<'w> {
@@ -105,6 +121,18 @@ impl<'w> Wire<'w> {
             return Err(Full);
         }
         self.len = put_datagram(ip, repr, payload, self.out);
+        Ok(())
+    }
+
+    /// Writes an IP packet with this payload at the beginning of `out`, where it fits.
+    pub fn write_raw(&mut self, ip: &IpRepr, payload: &[u8]) -> Result<(), Full>
+        ensures { WritesRaw (raw_of (ip.now, payload.entry)) self.old result self.new }
+    {
+        let len = ip.header_len() + payload.len();
+        if LONGEST_PACKET < len || self.out.len() < len {
+            return Err(Full);
+        }
+        self.len = put_raw(ip, payload, self.out);
         Ok(())
     }
 }
