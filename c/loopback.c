@@ -1,6 +1,6 @@
 /* Sockets in one process. TCP: a connects to b, sends a line, b sends it back, and both close. UDP: a datagram goes to
- * port 53, and the answer back; one finds no room, and one is lost. ICMP: an echo request goes out, and the reply to it
- * is read. */
+ * port 53, and the answer back; one finds no room, and one is lost. Raw: the packet of a datagram is taken and sent on.
+ * ICMP: an echo request goes out, and the reply to it is read. */
 #include <stdio.h>
 #include <string.h>
 
@@ -173,6 +173,52 @@ static void datagrams(void) {
     want("answer", smoltcp_udp_recv(&client, &from, bytes, sizeof bytes), 5);
     want("close", smoltcp_udp_close(&server), SMOLTCP_OK);
     want("close", smoltcp_udp_close(&client), SMOLTCP_OK);
+}
+
+/* A raw socket takes the packet that a UDP socket emits, and sends it on: the packet is the same. */
+static void whole_packets(void) {
+    static struct smoltcp_raw_place places[2][2];
+    static uint8_t bytes[2][QUEUE];
+    struct smoltcp_raw_filter filter = {4, 0, 17};
+    struct smoltcp_raw_buffer rx = {places[0], 2, bytes[0], QUEUE}, tx = {places[1], 2, bytes[1], QUEUE};
+    struct smoltcp_udp_metadata meta;
+    struct smoltcp_raw raw;
+    uint8_t packet[MTU], same[MTU];
+    int64_t len;
+
+    memset(&meta, 0, sizeof meta);
+    meta.endpoint = endpoint(2, 53);
+    want("init", make_datagram_sockets(), SMOLTCP_OK);
+    want("bind", smoltcp_udp_bind(&client, &meta.endpoint), SMOLTCP_OK);
+    want("send", smoltcp_udp_send(&client, &meta, packet, 10), SMOLTCP_OK);
+    len = smoltcp_udp_dispatch(&client, &of_a, packet, sizeof packet);
+    want("size", (int64_t)smoltcp_raw_size(), SMOLTCP_RAW_SIZE);
+    want("size of a place", (int64_t)smoltcp_raw_place_size(), SMOLTCP_RAW_PLACE_SIZE);
+    filter.version = 5;
+    want("no version", smoltcp_raw_init(&raw, &filter, rx, tx), SMOLTCP_ERROR_RANGE);
+    filter.version = 6;
+    want("init", smoltcp_raw_init(&raw, &filter, rx, tx), SMOLTCP_OK);
+    want("other version", smoltcp_raw_process(&raw, &of_b, packet, (size_t)len), SMOLTCP_NOT_ACCEPTED);
+    filter.version = 4;
+    want("init", smoltcp_raw_init(&raw, &filter, rx, tx), SMOLTCP_OK);
+    want("filter", smoltcp_raw_ip_version(&raw) == 4 && smoltcp_raw_ip_protocol(&raw) == 17, 1);
+    want("room", smoltcp_raw_packet_recv_capacity(&raw) == 2 && smoltcp_raw_payload_send_capacity(&raw) == QUEUE, 1);
+    want("accepts", smoltcp_raw_accepts(&raw, packet, (size_t)len), 1);
+    want("process", smoltcp_raw_process(&raw, &of_b, packet, (size_t)len), SMOLTCP_OK);
+    want("waiting", smoltcp_raw_can_recv(&raw) == 1 && smoltcp_raw_recv_queue(&raw) == len, 1);
+    want("short", smoltcp_raw_peek(&raw, same, 1), SMOLTCP_ERROR_ROOM);
+    want("recv", smoltcp_raw_recv(&raw, same, sizeof same), len);
+    want("same", memcmp(packet, same, (size_t)len), 0);
+    want("empty", smoltcp_raw_recv(&raw, same, sizeof same), SMOLTCP_ERROR_EMPTY);
+    same[10] = 0; same[11] = 0; /* the checksum, which a dispatch computes */
+    want("can send", smoltcp_raw_can_send(&raw), 1);
+    want("send", smoltcp_raw_send(&raw, same, (size_t)len), SMOLTCP_OK);
+    want("waiting", smoltcp_raw_send_queue(&raw), len);
+    want("emit now", smoltcp_raw_poll_at(&raw, &of_b), of_b.now);
+    want("short", smoltcp_raw_dispatch(&raw, &of_b, same, 1), SMOLTCP_ERROR_ROOM);
+    want("dispatch", smoltcp_raw_dispatch(&raw, &of_b, same, sizeof same), len);
+    want("same", memcmp(packet, same, (size_t)len), 0);
+    want("nothing to emit", smoltcp_raw_poll_at(&raw, &of_b), INT64_MAX);
 }
 
 /* Sets the buffers of two queues. */
@@ -363,6 +409,7 @@ int main(void) {
     want("abort", smoltcp_tcp_abort(&b), SMOLTCP_OK);
     refused();
     datagrams();
+    whole_packets();
     echoes();
     puts(failed ? "failed" : "ok");
     return failed;

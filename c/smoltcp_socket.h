@@ -1,13 +1,13 @@
-/* Proved sockets for C: TCP, UDP and ICMP. A socket lies in memory of the caller, with its two buffers; no call
+/* Proved sockets for C: TCP, UDP, ICMP and raw. A socket lies in memory of the caller, with its two buffers; no call
  * allocates, keeps anything elsewhere or calls back. Calls on different sockets may run at once.
  *
  * Each call answers a number: 0 or more where it was done, and below 0 an error, with nothing changed; but see
- * smoltcp_tcp_dispatch, smoltcp_udp_dispatch, smoltcp_udp_recv and smoltcp_icmp_recv.
+ * smoltcp_tcp_dispatch, those of UDP and raw sockets, smoltcp_udp_recv, smoltcp_raw_recv and smoltcp_icmp_recv.
  *
- * What the caller has to keep, which nothing tests: a TCP or UDP socket is memory that smoltcp_tcp_init or
- * smoltcp_udp_init made and that has not been moved, copied or written since; of one socket one call runs at a time;
- * its buffers are its own from init on, and overlap neither the socket, nor each other, nor what a call is given; a
- * pointer leads to memory of the length given, and a length is one: the (size_t)-1 of a failed read is none.
+ * What the caller has to keep, which nothing tests: a TCP, UDP or raw socket is memory that its init made and that has
+ * not been moved, copied or written since; of one socket one call runs at a time; its buffers are its own from init on,
+ * and overlap neither the socket, nor each other, nor what a call is given; a pointer leads to memory of the length
+ * given, and a length is one: the (size_t)-1 of a failed read is none.
  *
  * A host looks at a packet before a socket sees it: it refuses a destination that is not its own (multicast and
  * broadcast too), and a source that is multicast, broadcast or its own; it offers a packet to the sockets that have a
@@ -91,8 +91,20 @@ struct smoltcp_udp_place { uint64_t opaque[SMOLTCP_UDP_PLACE_SIZE / 8]; };
 /* What a queue of a UDP socket lies in: a place for each datagram, and bytes for the payloads, at most 2^30 of both. */
 struct smoltcp_udp_buffer { struct smoltcp_udp_place *places; size_t count; uint8_t *bytes; size_t len; };
 
+/* The same for a raw socket, whose queues hold whole IP packets. */
+enum { SMOLTCP_RAW_SIZE = 176, SMOLTCP_RAW_PLACE_SIZE = 16 };
+struct smoltcp_raw { uint64_t opaque[SMOLTCP_RAW_SIZE / 8]; };
+struct smoltcp_raw_place { uint64_t opaque[SMOLTCP_RAW_PLACE_SIZE / 8]; };
+struct smoltcp_raw_buffer { struct smoltcp_raw_place *places; size_t count; uint8_t *bytes; size_t len; };
+
+/* Which packets a raw socket takes: of IP version 4 or 6 (0: both), and of the protocol with this number, or of any
+ * where any_protocol is not 0. */
+struct smoltcp_raw_filter { uint8_t version, any_protocol, protocol; };
+enum { SMOLTCP_RAW_ANY = 256 };
+
 /* What the library is handed: where a UDP socket lies, or room for a place; places that are a socket's for good. */
 struct smoltcp_udp_handle { uint8_t *at; };
+struct smoltcp_raw_handle { uint8_t *at; };
 struct smoltcp_places { uint8_t *at; size_t len; };
 
 /* Where a datagram came from or goes to, and the own address: that to which it came, or from which it is sent (none:
@@ -120,6 +132,8 @@ _Static_assert(sizeof(struct smoltcp_queue) == 40, "smoltcp_queue");
 _Static_assert(sizeof(struct smoltcp_udp) == SMOLTCP_UDP_SIZE, "smoltcp_udp");
 _Static_assert(sizeof(struct smoltcp_udp_place) == SMOLTCP_UDP_PLACE_SIZE, "smoltcp_udp_place");
 _Static_assert(sizeof(struct smoltcp_udp_metadata) == 46, "smoltcp_udp_metadata");
+_Static_assert(sizeof(struct smoltcp_raw) == SMOLTCP_RAW_SIZE, "smoltcp_raw");
+_Static_assert(sizeof(struct smoltcp_raw_place) == SMOLTCP_RAW_PLACE_SIZE, "smoltcp_raw_place");
 _Static_assert(sizeof(struct smoltcp_icmp) == 112, "smoltcp_icmp");
 #endif
 
@@ -208,6 +222,31 @@ int64_t smoltcp_udp_process_checked(struct smoltcp_udp_handle *h, const struct s
 int64_t smoltcp_udp_dispatch_checked(struct smoltcp_udp_handle *h, const struct smoltcp_context *cx, uint8_t *out,
                                      size_t cap);
 int64_t smoltcp_udp_poll_at_checked(struct smoltcp_udp_handle *h, const struct smoltcp_context *cx, int64_t *at);
+size_t smoltcp_raw_size(void);
+size_t smoltcp_raw_place_size(void);
+int64_t smoltcp_raw_place_checked(struct smoltcp_raw_handle *room);
+int64_t smoltcp_raw_init_checked(struct smoltcp_places rx_places, struct smoltcp_bytes rx,
+                                 struct smoltcp_places tx_places, struct smoltcp_bytes tx,
+                                 const struct smoltcp_raw_filter *filter, struct smoltcp_raw_handle *room);
+int64_t smoltcp_raw_ip_version_checked(struct smoltcp_raw_handle *h);
+int64_t smoltcp_raw_ip_protocol_checked(struct smoltcp_raw_handle *h);
+int64_t smoltcp_raw_can_send_checked(struct smoltcp_raw_handle *h);
+int64_t smoltcp_raw_can_recv_checked(struct smoltcp_raw_handle *h);
+int64_t smoltcp_raw_packet_send_capacity_checked(struct smoltcp_raw_handle *h);
+int64_t smoltcp_raw_packet_recv_capacity_checked(struct smoltcp_raw_handle *h);
+int64_t smoltcp_raw_payload_send_capacity_checked(struct smoltcp_raw_handle *h);
+int64_t smoltcp_raw_payload_recv_capacity_checked(struct smoltcp_raw_handle *h);
+int64_t smoltcp_raw_send_queue_checked(struct smoltcp_raw_handle *h);
+int64_t smoltcp_raw_recv_queue_checked(struct smoltcp_raw_handle *h);
+int64_t smoltcp_raw_send_checked(struct smoltcp_raw_handle *h, const uint8_t *data, size_t len);
+int64_t smoltcp_raw_recv_checked(struct smoltcp_raw_handle *h, uint8_t *data, size_t cap);
+int64_t smoltcp_raw_peek_checked(struct smoltcp_raw_handle *h, uint8_t *data, size_t cap);
+int64_t smoltcp_raw_accepts_checked(struct smoltcp_raw_handle *h, const uint8_t *packet, size_t len);
+int64_t smoltcp_raw_process_checked(struct smoltcp_raw_handle *h, const struct smoltcp_context *cx,
+                                    const uint8_t *packet, size_t len);
+int64_t smoltcp_raw_dispatch_checked(struct smoltcp_raw_handle *h, const struct smoltcp_context *cx, uint8_t *out,
+                                     size_t cap);
+int64_t smoltcp_raw_poll_at_checked(struct smoltcp_raw_handle *h, const struct smoltcp_context *cx, int64_t *at);
 int64_t smoltcp_icmp_init_checked(struct smoltcp_icmp *s);
 int64_t smoltcp_icmp_bind_checked(struct smoltcp_icmp *s, const struct smoltcp_icmp_endpoint *endpoint);
 int64_t smoltcp_icmp_close_checked(struct smoltcp_icmp *s);
@@ -768,6 +807,161 @@ static inline int64_t smoltcp_udp_poll_at(struct smoltcp_udp *s, const struct sm
     int64_t at = 0, answer;
     if (!s || !cx) return INT64_MIN;
     answer = smoltcp_udp_poll_at_checked(&h, cx, &at);
+    if (answer < 0) return INT64_MIN;
+    return answer == 0 ? at : INT64_MAX;
+}
+
+/* Makes a raw socket in the memory, for the packets of the filter, over the two buffers, of at most 2^30 places and
+ * 2^30 bytes each (else SMOLTCP_ERROR_RANGE, as for a version that is not 0, 4 or 6; the memory is then no socket). As
+ * with a TCP socket, all of it is the socket's for good. */
+static inline int64_t smoltcp_raw_init(struct smoltcp_raw *s, const struct smoltcp_raw_filter *filter,
+                                       struct smoltcp_raw_buffer rx, struct smoltcp_raw_buffer tx) {
+    struct smoltcp_places rx_places = {(uint8_t *)rx.places, rx.count}, tx_places = {(uint8_t *)tx.places, tx.count};
+    struct smoltcp_bytes of_rx = {rx.bytes, rx.len}, of_tx = {tx.bytes, tx.len};
+    struct smoltcp_raw_handle h = {(uint8_t *)s}, place;
+    size_t i;
+    if (!s || !filter || !rx.places || !rx.bytes || !tx.places || !tx.bytes) return SMOLTCP_ERROR_NULL;
+    if (rx.count > SMOLTCP_LONGEST_BUFFER || rx.len > SMOLTCP_LONGEST_BUFFER) return SMOLTCP_ERROR_RANGE;
+    if (tx.count > SMOLTCP_LONGEST_BUFFER || tx.len > SMOLTCP_LONGEST_BUFFER) return SMOLTCP_ERROR_RANGE;
+    for (i = 0; i < rx.count; i++) {
+        place.at = (uint8_t *)&rx.places[i];
+        smoltcp_raw_place_checked(&place);
+    }
+    for (i = 0; i < tx.count; i++) {
+        place.at = (uint8_t *)&tx.places[i];
+        smoltcp_raw_place_checked(&place);
+    }
+    return smoltcp_raw_init_checked(rx_places, of_rx, tx_places, of_tx, filter, &h);
+}
+
+/* The version of IP of the socket's packets: 4, 6, or 0 for both. */
+static inline int64_t smoltcp_raw_ip_version(struct smoltcp_raw *s) {
+    struct smoltcp_raw_handle h = {(uint8_t *)s};
+    if (!s) return SMOLTCP_ERROR_NULL;
+    return smoltcp_raw_ip_version_checked(&h);
+}
+
+/* The number of the protocol of the socket's packets, or SMOLTCP_RAW_ANY for any. */
+static inline int64_t smoltcp_raw_ip_protocol(struct smoltcp_raw *s) {
+    struct smoltcp_raw_handle h = {(uint8_t *)s};
+    int64_t answer;
+    if (!s) return SMOLTCP_ERROR_NULL;
+    answer = smoltcp_raw_ip_protocol_checked(&h);
+    return answer < 0 ? SMOLTCP_RAW_ANY : answer;
+}
+
+/* 1 where the transmit queue has a free place, else 0. */
+static inline int64_t smoltcp_raw_can_send(struct smoltcp_raw *s) {
+    struct smoltcp_raw_handle h = {(uint8_t *)s};
+    if (!s) return SMOLTCP_ERROR_NULL;
+    return smoltcp_raw_can_send_checked(&h);
+}
+
+/* 1 where a place of the receive queue is taken, else 0. */
+static inline int64_t smoltcp_raw_can_recv(struct smoltcp_raw *s) {
+    struct smoltcp_raw_handle h = {(uint8_t *)s};
+    if (!s) return SMOLTCP_ERROR_NULL;
+    return smoltcp_raw_can_recv_checked(&h);
+}
+
+/* How many packets the transmit queue has places for. */
+static inline int64_t smoltcp_raw_packet_send_capacity(struct smoltcp_raw *s) {
+    struct smoltcp_raw_handle h = {(uint8_t *)s};
+    if (!s) return SMOLTCP_ERROR_NULL;
+    return smoltcp_raw_packet_send_capacity_checked(&h);
+}
+
+/* How many packets the receive queue has places for. */
+static inline int64_t smoltcp_raw_packet_recv_capacity(struct smoltcp_raw *s) {
+    struct smoltcp_raw_handle h = {(uint8_t *)s};
+    if (!s) return SMOLTCP_ERROR_NULL;
+    return smoltcp_raw_packet_recv_capacity_checked(&h);
+}
+
+/* How many bytes of packets the transmit queue holds. */
+static inline int64_t smoltcp_raw_payload_send_capacity(struct smoltcp_raw *s) {
+    struct smoltcp_raw_handle h = {(uint8_t *)s};
+    if (!s) return SMOLTCP_ERROR_NULL;
+    return smoltcp_raw_payload_send_capacity_checked(&h);
+}
+
+/* How many bytes of packets the receive queue holds. */
+static inline int64_t smoltcp_raw_payload_recv_capacity(struct smoltcp_raw *s) {
+    struct smoltcp_raw_handle h = {(uint8_t *)s};
+    if (!s) return SMOLTCP_ERROR_NULL;
+    return smoltcp_raw_payload_recv_capacity_checked(&h);
+}
+
+/* How many bytes of the transmit queue are taken, padding included. */
+static inline int64_t smoltcp_raw_send_queue(struct smoltcp_raw *s) {
+    struct smoltcp_raw_handle h = {(uint8_t *)s};
+    if (!s) return SMOLTCP_ERROR_NULL;
+    return smoltcp_raw_send_queue_checked(&h);
+}
+
+/* How many bytes of the receive queue are taken, padding included. */
+static inline int64_t smoltcp_raw_recv_queue(struct smoltcp_raw *s) {
+    struct smoltcp_raw_handle h = {(uint8_t *)s};
+    if (!s) return SMOLTCP_ERROR_NULL;
+    return smoltcp_raw_recv_queue_checked(&h);
+}
+
+/* Puts a packet of these bytes, its IP header first, into the transmit queue. SMOLTCP_ERROR_ROOM where the queue has no
+ * room for it, or it has more than 65535 bytes. */
+static inline int64_t smoltcp_raw_send(struct smoltcp_raw *s, const uint8_t *data, size_t len) {
+    struct smoltcp_raw_handle h = {(uint8_t *)s};
+    if (!s || !data) return SMOLTCP_ERROR_NULL;
+    return smoltcp_raw_send_checked(&h, data, len);
+}
+
+/* Takes the first packet of the receive queue: its length, and it stands in data. SMOLTCP_ERROR_EMPTY where none waits.
+ * SMOLTCP_ERROR_ROOM where data is too short: the packet is lost then. */
+static inline int64_t smoltcp_raw_recv(struct smoltcp_raw *s, uint8_t *data, size_t cap) {
+    struct smoltcp_raw_handle h = {(uint8_t *)s};
+    if (!s || !data) return SMOLTCP_ERROR_NULL;
+    return smoltcp_raw_recv_checked(&h, data, cap);
+}
+
+/* The same, and the packet stays. */
+static inline int64_t smoltcp_raw_peek(struct smoltcp_raw *s, uint8_t *data, size_t cap) {
+    struct smoltcp_raw_handle h = {(uint8_t *)s};
+    if (!s || !data) return SMOLTCP_ERROR_NULL;
+    return smoltcp_raw_peek_checked(&h, data, cap);
+}
+
+/* 1 where the IP packet is whole and for the socket, so that process takes it, else 0. */
+static inline int64_t smoltcp_raw_accepts(struct smoltcp_raw *s, const uint8_t *packet, size_t len) {
+    struct smoltcp_raw_handle h = {(uint8_t *)s};
+    if (!s || !packet) return SMOLTCP_ERROR_NULL;
+    return smoltcp_raw_accepts_checked(&h, packet, len);
+}
+
+/* Takes an IP packet: it comes behind the receive queue, without the options of an IPv4 header, or is dropped where
+ * there is no room for it. SMOLTCP_NOT_ACCEPTED where it is not whole or not for this socket. */
+static inline int64_t smoltcp_raw_process(struct smoltcp_raw *s, const struct smoltcp_context *cx,
+                                          const uint8_t *packet, size_t len) {
+    struct smoltcp_raw_handle h = {(uint8_t *)s};
+    if (!s || !cx || !packet) return SMOLTCP_ERROR_NULL;
+    return smoltcp_raw_process_checked(&h, cx, packet, len);
+}
+
+/* The length of the first packet of the transmit queue, in out, the checksum of an IPv4 header computed, or 0 for none.
+ * A call takes one packet from the queue; one that is malformed, or not of the socket's version and protocol, is
+ * dropped. SMOLTCP_ERROR_ROOM where out is too short for it: it stays the first. */
+static inline int64_t smoltcp_raw_dispatch(struct smoltcp_raw *s, const struct smoltcp_context *cx, uint8_t *out,
+                                           size_t cap) {
+    struct smoltcp_raw_handle h = {(uint8_t *)s};
+    if (!s || !cx || !out) return SMOLTCP_ERROR_NULL;
+    return smoltcp_raw_dispatch_checked(&h, cx, out, cap);
+}
+
+/* The moment of the next dispatch in microseconds: now where a place of the transmit queue is taken, else INT64_MAX;
+ * INT64_MIN: an error. */
+static inline int64_t smoltcp_raw_poll_at(struct smoltcp_raw *s, const struct smoltcp_context *cx) {
+    struct smoltcp_raw_handle h = {(uint8_t *)s};
+    int64_t at = 0, answer;
+    if (!s || !cx) return INT64_MIN;
+    answer = smoltcp_raw_poll_at_checked(&h, cx, &at);
     if (answer < 0) return INT64_MIN;
     return answer == 0 ? at : INT64_MAX;
 }

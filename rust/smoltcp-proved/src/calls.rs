@@ -231,51 +231,65 @@ pub fn reset(packet: &[u8], reply: &mut [u8]) -> i64 {
     unsafe { ffi::smoltcp_tcp_reset_checked(at, len, to, cap) }
 }
 
-/// Memory for a UDP socket.
-#[repr(C, align(8))]
-pub struct UdpMemory([MaybeUninit<u8>; ffi::UDP_SIZE]);
+// Memory for a socket with two queues of packets, for a place of a queue, and for a whole queue.
+macro_rules! queue_memory {
+    ($memory:ident, $place:ident, $buffer:ident, $handle:ident, $size:ident, $place_size:ident, $make:ident) => {
+        /// Memory for a socket.
+        #[repr(C, align(8))]
+        pub struct $memory([MaybeUninit<u8>; ffi::$size]);
 
-impl UdpMemory {
-    pub const fn new() -> UdpMemory {
-        UdpMemory([MaybeUninit::uninit(); ffi::UDP_SIZE])
-    }
-}
-
-/// Memory for a place of a UDP socket's queue: a datagram takes one.
-#[repr(C, align(8))]
-#[derive(Clone, Copy)]
-pub struct UdpPlace([MaybeUninit<u8>; ffi::UDP_PLACE_SIZE]);
-
-impl UdpPlace {
-    /// A place that nothing stands in.
-    pub const EMPTY: UdpPlace = UdpPlace([MaybeUninit::uninit(); ffi::UDP_PLACE_SIZE]);
-}
-
-/// The memory of a queue of a UDP socket.
-pub struct UdpBuffer<'a> {
-    places: &'a mut [UdpPlace],
-    bytes: &'a mut [u8],
-}
-
-impl<'a> UdpBuffer<'a> {
-    /// At most 2^30 places, and as many bytes.
-    pub fn new(places: &'a mut [UdpPlace], bytes: &'a mut [u8]) -> UdpBuffer<'a> {
-        assert!(places.len() <= crate::LONGEST_BUFFER, "more than 2^30 places");
-        assert!(bytes.len() <= crate::LONGEST_BUFFER, "more than 2^30 bytes");
-        UdpBuffer { places, bytes }
-    }
-
-    /// What the library is handed of it: each place is made before.
-    fn lent(self) -> (ffi::Places, ffi::Bytes) {
-        for place in self.places.iter_mut() {
-            let at = NonNull::from(place).cast().as_ptr();
-            // SAFETY: the memory has the size and the alignment of `struct smoltcp_udp_place`, and is borrowed.
-            unsafe { ffi::smoltcp_udp_place_checked(&mut ffi::UdpHandle { at }) };
+        impl $memory {
+            pub const fn new() -> $memory {
+                $memory([MaybeUninit::uninit(); ffi::$size])
+            }
         }
-        let (places, bytes) = (self.places.as_mut_ptr().cast(), self.bytes.as_mut_ptr());
-        (ffi::Places { at: places, len: self.places.len() }, ffi::Bytes { at: bytes, len: self.bytes.len() })
-    }
+
+        /// Memory for a place of a socket's queue: a packet takes one.
+        #[repr(C, align(8))]
+        #[derive(Clone, Copy)]
+        pub struct $place([MaybeUninit<u8>; ffi::$place_size]);
+
+        impl $place {
+            /// A place that nothing stands in.
+            pub const EMPTY: $place = $place([MaybeUninit::uninit(); ffi::$place_size]);
+        }
+
+        /// The memory of a queue.
+        pub struct $buffer<'a> {
+            places: &'a mut [$place],
+            bytes: &'a mut [u8],
+        }
+
+        impl<'a> $buffer<'a> {
+            /// At most 2^30 places, and as many bytes.
+            pub fn new(places: &'a mut [$place], bytes: &'a mut [u8]) -> $buffer<'a> {
+                assert!(places.len() <= crate::LONGEST_BUFFER, "more than 2^30 places");
+                assert!(bytes.len() <= crate::LONGEST_BUFFER, "more than 2^30 bytes");
+                $buffer { places, bytes }
+            }
+
+            /// What the library is handed of it: each place is made before.
+            fn lent(self) -> (ffi::Places, ffi::Bytes) {
+                for place in self.places.iter_mut() {
+                    let at = NonNull::from(place).cast().as_ptr();
+                    // SAFETY: the memory has the size and the alignment of a place, and is borrowed.
+                    unsafe { ffi::$make(&mut ffi::$handle { at }) };
+                }
+                let (places, bytes) = (self.places.as_mut_ptr().cast(), self.bytes.as_mut_ptr());
+                let places = ffi::Places { at: places, len: self.places.len() };
+                (places, ffi::Bytes { at: bytes, len: self.bytes.len() })
+            }
+        }
+    };
 }
+
+queue_memory!(
+    UdpMemory, UdpPlace, UdpBuffer, UdpHandle, UDP_SIZE, UDP_PLACE_SIZE, smoltcp_udp_place_checked
+);
+
+queue_memory!(
+    RawMemory, RawPlace, RawBuffer, RawHandle, RAW_SIZE, RAW_PLACE_SIZE, smoltcp_raw_place_checked
+);
 
 /// A UDP socket in memory that is borrowed for `'a`, as are its buffers.
 pub struct Udp<'a> {
@@ -364,6 +378,90 @@ impl<'a> Udp<'a> {
     pub fn poll_at(&self, cx: &ffi::Context, at: &mut i64) -> i64 {
         // SAFETY: C.md: socket, one call, buffers.
         unsafe { ffi::smoltcp_udp_poll_at_checked(&mut self.handle(), cx, at) }
+    }
+}
+
+/// A raw socket in memory that is borrowed for `'a`, as are its buffers.
+pub struct Raw<'a> {
+    at: NonNull<u8>,
+    borrowed: PhantomData<&'a mut [u8]>,
+}
+
+// SAFETY: as for `Tcp`.
+unsafe impl Send for Raw<'_> {}
+
+impl<'a> Raw<'a> {
+    /// Makes a socket for the packets of the filter, whose version is 0, 4 or 6.
+    pub fn new(
+        memory: &'a mut RawMemory,
+        filter: &ffi::RawFilter,
+        rx: RawBuffer<'a>,
+        tx: RawBuffer<'a>,
+    ) -> Raw<'a> {
+        assert!(ffi::smoltcp_raw_size() <= size_of::<RawMemory>(), "a library with larger sockets");
+        assert!(ffi::smoltcp_raw_place_size() == size_of::<RawPlace>(), "a library with other places");
+        let made = Raw { at: NonNull::from(memory).cast(), borrowed: PhantomData };
+        let ((rx_places, rx), (tx_places, tx)) = (rx.lent(), tx.lent());
+        // SAFETY: C.md: buffers, bytes. The memory has the size and the alignment of `struct smoltcp_raw`, and holds no
+        // socket that is used: it is borrowed for 'a by this one alone. The lengths were tested, and `lent` made the
+        // places.
+        let answer = unsafe {
+            ffi::smoltcp_raw_init_checked(rx_places, rx, tx_places, tx, filter, &mut made.handle())
+        };
+        assert!(answer == ffi::OK, "no version of IP");
+        made
+    }
+
+    fn handle(&self) -> ffi::RawHandle {
+        ffi::RawHandle { at: self.at.as_ptr() }
+    }
+
+    asks! {
+        ip_version => smoltcp_raw_ip_version_checked;
+        ip_protocol => smoltcp_raw_ip_protocol_checked;
+        can_send => smoltcp_raw_can_send_checked;
+        can_recv => smoltcp_raw_can_recv_checked;
+        packet_send_capacity => smoltcp_raw_packet_send_capacity_checked;
+        packet_recv_capacity => smoltcp_raw_packet_recv_capacity_checked;
+        payload_send_capacity => smoltcp_raw_payload_send_capacity_checked;
+        payload_recv_capacity => smoltcp_raw_payload_recv_capacity_checked;
+        send_queue => smoltcp_raw_send_queue_checked;
+        recv_queue => smoltcp_raw_recv_queue_checked;
+    }
+
+    pub fn send(&mut self, data: &[u8]) -> i64 {
+        // SAFETY: C.md: socket, one call, buffers, bytes.
+        unsafe { ffi::smoltcp_raw_send_checked(&mut self.handle(), data.as_ptr(), data.len()) }
+    }
+
+    pub fn recv(&mut self, data: &mut [u8]) -> i64 {
+        // SAFETY: C.md: socket, one call, buffers, bytes.
+        unsafe { ffi::smoltcp_raw_recv_checked(&mut self.handle(), data.as_mut_ptr(), data.len()) }
+    }
+
+    pub fn peek(&mut self, data: &mut [u8]) -> i64 {
+        // SAFETY: C.md: socket, one call, buffers, bytes.
+        unsafe { ffi::smoltcp_raw_peek_checked(&mut self.handle(), data.as_mut_ptr(), data.len()) }
+    }
+
+    pub fn accepts(&self, packet: &[u8]) -> i64 {
+        // SAFETY: C.md: socket, one call, buffers, bytes.
+        unsafe { ffi::smoltcp_raw_accepts_checked(&mut self.handle(), packet.as_ptr(), packet.len()) }
+    }
+
+    pub fn process(&mut self, cx: &ffi::Context, packet: &[u8]) -> i64 {
+        // SAFETY: C.md: socket, one call, buffers, bytes.
+        unsafe { ffi::smoltcp_raw_process_checked(&mut self.handle(), cx, packet.as_ptr(), packet.len()) }
+    }
+
+    pub fn dispatch(&mut self, cx: &ffi::Context, out: &mut [u8]) -> i64 {
+        // SAFETY: C.md: socket, one call, buffers, bytes.
+        unsafe { ffi::smoltcp_raw_dispatch_checked(&mut self.handle(), cx, out.as_mut_ptr(), out.len()) }
+    }
+
+    pub fn poll_at(&self, cx: &ffi::Context, at: &mut i64) -> i64 {
+        // SAFETY: C.md: socket, one call, buffers.
+        unsafe { ffi::smoltcp_raw_poll_at_checked(&mut self.handle(), cx, at) }
     }
 }
 

@@ -57,6 +57,18 @@ pub struct UdpHandle {
 }
 
 #[repr(C)]
+pub struct RawHandle {
+    pub at: *mut u8,
+}
+
+#[repr(C)]
+pub struct RawFilter {
+    pub version: u8,
+    pub any_protocol: u8,
+    pub protocol: u8,
+}
+
+#[repr(C)]
 pub struct Places {
     pub at: *mut u8,
     pub len: usize,
@@ -92,12 +104,16 @@ pub const ERROR_ROOM: i64 = -6;
 
 pub const ERROR_MESSAGE: i64 = -10;
 
-/// The sizes of `struct smoltcp_tcp`, `struct smoltcp_udp` and `struct smoltcp_udp_place` in bytes.
+/// The sizes of `struct smoltcp_tcp`, `struct smoltcp_udp`, `struct smoltcp_udp_place` and so on in bytes.
 pub const TCP_SIZE: usize = 512;
 
 pub const UDP_SIZE: usize = 160;
 
 pub const UDP_PLACE_SIZE: usize = 48;
+
+pub const RAW_SIZE: usize = 176;
+
+pub const RAW_PLACE_SIZE: usize = 16;
 
 // The sizes that the header asserts.
 const _: () = {
@@ -111,6 +127,13 @@ macro_rules! calls_of_handle {
         // SAFETY: as below.
         unsafe extern "C" { $(pub fn $name(h: &mut $handle) -> i64;)* }
     };
+}
+
+calls_of_handle! {
+    RawHandle: smoltcp_raw_place_checked smoltcp_raw_ip_version_checked smoltcp_raw_ip_protocol_checked
+    smoltcp_raw_can_send_checked smoltcp_raw_can_recv_checked smoltcp_raw_packet_send_capacity_checked
+    smoltcp_raw_packet_recv_capacity_checked smoltcp_raw_payload_send_capacity_checked
+    smoltcp_raw_payload_recv_capacity_checked smoltcp_raw_send_queue_checked smoltcp_raw_recv_queue_checked
 }
 
 calls_of_handle! {
@@ -208,6 +231,24 @@ unsafe extern "C" {
     -> i64;
     pub fn smoltcp_udp_dispatch_checked(h: &mut UdpHandle, cx: &Context, out: *mut u8, cap: usize) -> i64;
     pub fn smoltcp_udp_poll_at_checked(h: &mut UdpHandle, cx: &Context, at: &mut i64) -> i64;
+    pub safe fn smoltcp_raw_size() -> usize;
+    pub safe fn smoltcp_raw_place_size() -> usize;
+    pub fn smoltcp_raw_init_checked(
+        rx_places: Places,
+        rx: Bytes,
+        tx_places: Places,
+        tx: Bytes,
+        filter: &RawFilter,
+        room: &mut RawHandle,
+    ) -> i64;
+    pub fn smoltcp_raw_send_checked(h: &mut RawHandle, data: *const u8, len: usize) -> i64;
+    pub fn smoltcp_raw_recv_checked(h: &mut RawHandle, data: *mut u8, cap: usize) -> i64;
+    pub fn smoltcp_raw_peek_checked(h: &mut RawHandle, data: *mut u8, cap: usize) -> i64;
+    pub fn smoltcp_raw_accepts_checked(h: &mut RawHandle, packet: *const u8, len: usize) -> i64;
+    pub fn smoltcp_raw_process_checked(h: &mut RawHandle, cx: &Context, packet: *const u8, len: usize)
+    -> i64;
+    pub fn smoltcp_raw_dispatch_checked(h: &mut RawHandle, cx: &Context, out: *mut u8, cap: usize) -> i64;
+    pub fn smoltcp_raw_poll_at_checked(h: &mut RawHandle, cx: &Context, at: &mut i64) -> i64;
     pub fn smoltcp_icmp_init_checked(s: &mut Icmp) -> i64;
     pub fn smoltcp_icmp_bind_checked(s: &mut Icmp, endpoint: &IcmpEndpoint) -> i64;
     pub fn smoltcp_icmp_close_checked(s: &mut Icmp) -> i64;

@@ -1,4 +1,4 @@
-//! TCP, UDP and ICMP sockets with smoltcp's names, over `libsmoltcp_c.a`: a library of sockets each call of which is
+//! TCP, UDP, ICMP and raw sockets with smoltcp's names, over `libsmoltcp_c.a`: a library of sockets each call of which is
 //! proved against its contract. This crate is not proved itself: it declares the library's calls, hands them what they
 //! ask for, and lets the borrow checker keep what their contracts ask of a caller.
 //!
@@ -103,6 +103,7 @@ mod ffi;
 mod numbers;
 
 pub mod icmp;
+pub mod raw;
 pub mod tcp;
 pub mod time;
 pub mod udp;

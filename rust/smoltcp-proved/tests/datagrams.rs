@@ -3,8 +3,8 @@ mod common;
 use common::*;
 use smoltcp_proved::icmp::ProcessError;
 use smoltcp_proved::udp::{BindError, RecvError, UdpMetadata};
-use smoltcp_proved::wire::{IpAddress, IpEndpoint};
-use smoltcp_proved::{NotAccepted, PollAt, TooShort, icmp, tcp, udp};
+use smoltcp_proved::wire::{IpAddress, IpEndpoint, IpVersion};
+use smoltcp_proved::{NotAccepted, PollAt, TooShort, icmp, raw, tcp, udp};
 
 /// Memory for a UDP socket with two places and 100 bytes each way.
 struct Room {
@@ -79,6 +79,32 @@ fn udp_and_truncation() {
     assert_eq!(server.send_slice(b"10.0.0.3", from), Ok(()));
     server.close();
     assert_eq!((server.is_open(), server.dispatch(&cx, &mut [0; 100])), (false, Ok(None)));
+}
+
+/// A raw socket takes the packet of a datagram, and sends it on.
+#[test]
+fn raw_packets() {
+    let packet = datagram(b"which address?");
+    let (mut memory, mut places, mut bytes) = (raw::Memory::new(), [[raw::PacketMetadata::EMPTY; 2]; 2], [[0; 100]; 2]);
+    let (cx, [rx_places, tx_places], [rx, tx]) = (context(2, 0), &mut places, &mut bytes);
+    let (rx, tx) = (raw::PacketBuffer::new(rx_places, rx), raw::PacketBuffer::new(tx_places, tx));
+    let mut socket = raw::Socket::new(&mut memory, Some(IpVersion::Ipv4), Some(17), rx, tx);
+    assert_eq!((socket.ip_version(), socket.ip_protocol()), (Some(IpVersion::Ipv4), Some(17)));
+    assert_eq!((socket.packet_recv_capacity(), socket.payload_send_capacity()), (2, 100));
+    let mut other = packet.clone();
+    other[9] = 1; // another protocol, with the checksum 16 more
+    other[11] = other[11].wrapping_add(16);
+    assert!(socket.accepts(&packet) && !socket.accepts(&other));
+    assert_eq!((socket.process(&cx, &packet), socket.recv_queue()), (Ok(()), packet.len()));
+    let mut out = [0; 100];
+    assert_eq!(socket.peek_slice(&mut out[..1]), Err(RecvError::Truncated));
+    assert_eq!((socket.recv_slice(&mut out), &out[..packet.len()]), (Ok(packet.len()), &packet[..]));
+    assert_eq!(socket.recv_slice(&mut out), Err(RecvError::Exhausted));
+    assert_eq!(socket.send_slice(&[0; 101]), Err(raw::SendError::BufferFull));
+    assert_eq!((socket.send_slice(&packet), socket.poll_at(&cx)), (Ok(()), PollAt::Now));
+    assert_eq!(socket.dispatch(&cx, &mut out[..9]), Err(TooShort));
+    assert_eq!((socket.dispatch(&cx, &mut out), &out[..packet.len()]), (Ok(Some(packet.len())), &packet[..]));
+    assert_eq!(socket.poll_at(&cx), PollAt::Ingress);
 }
 
 /// RFC 792: an echo request with identifier 7 and number 1, and its reply.
