@@ -92,7 +92,7 @@ struct smoltcp_udp_place { uint64_t opaque[SMOLTCP_UDP_PLACE_SIZE / 8]; };
 struct smoltcp_udp_buffer { struct smoltcp_udp_place *places; size_t count; uint8_t *bytes; size_t len; };
 
 /* The same for a raw socket, whose queues hold whole IP packets. */
-enum { SMOLTCP_RAW_SIZE = 176, SMOLTCP_RAW_PLACE_SIZE = 16 };
+enum { SMOLTCP_RAW_SIZE = 136, SMOLTCP_RAW_PLACE_SIZE = 16 };
 struct smoltcp_raw { uint64_t opaque[SMOLTCP_RAW_SIZE / 8]; };
 struct smoltcp_raw_place { uint64_t opaque[SMOLTCP_RAW_PLACE_SIZE / 8]; };
 struct smoltcp_raw_buffer { struct smoltcp_raw_place *places; size_t count; uint8_t *bytes; size_t len; };

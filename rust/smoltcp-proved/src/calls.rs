@@ -283,13 +283,9 @@ macro_rules! queue_memory {
     };
 }
 
-queue_memory!(
-    UdpMemory, UdpPlace, UdpBuffer, UdpHandle, UDP_SIZE, UDP_PLACE_SIZE, smoltcp_udp_place_checked
-);
+queue_memory!(UdpMemory, UdpPlace, UdpBuffer, UdpHandle, UDP_SIZE, UDP_PLACE_SIZE, smoltcp_udp_place_checked);
 
-queue_memory!(
-    RawMemory, RawPlace, RawBuffer, RawHandle, RAW_SIZE, RAW_PLACE_SIZE, smoltcp_raw_place_checked
-);
+queue_memory!(RawMemory, RawPlace, RawBuffer, RawHandle, RAW_SIZE, RAW_PLACE_SIZE, smoltcp_raw_place_checked);
 
 /// A UDP socket in memory that is borrowed for `'a`, as are its buffers.
 pub struct Udp<'a> {

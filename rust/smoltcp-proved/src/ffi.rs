@@ -111,7 +111,7 @@ pub const UDP_SIZE: usize = 160;
 
 pub const UDP_PLACE_SIZE: usize = 48;
 
-pub const RAW_SIZE: usize = 176;
+pub const RAW_SIZE: usize = 136;
 
 pub const RAW_PLACE_SIZE: usize = 16;
 

@@ -2,6 +2,15 @@
 use core::fmt;
 pub use core::net::{Ipv4Addr as Ipv4Address, Ipv6Addr as Ipv6Address};
 
+/// A version of IP.
+#[derive(Debug, PartialEq, Eq, PartialOrd, Ord, Hash, Clone, Copy)]
+pub enum IpVersion {
+    /// IPv4.
+    Ipv4,
+    /// IPv6.
+    Ipv6,
+}
+
 /// An address of either version.
 #[derive(Debug, PartialEq, Eq, PartialOrd, Ord, Hash, Clone, Copy)]
 pub enum IpAddress {

@@ -85,7 +85,8 @@ fn udp_and_truncation() {
 #[test]
 fn raw_packets() {
     let packet = datagram(b"which address?");
-    let (mut memory, mut places, mut bytes) = (raw::Memory::new(), [[raw::PacketMetadata::EMPTY; 2]; 2], [[0; 100]; 2]);
+    let (mut memory, mut places, mut bytes) =
+        (raw::Memory::new(), [[raw::PacketMetadata::EMPTY; 2]; 2], [[0; 100]; 2]);
     let (cx, [rx_places, tx_places], [rx, tx]) = (context(2, 0), &mut places, &mut bytes);
     let (rx, tx) = (raw::PacketBuffer::new(rx_places, rx), raw::PacketBuffer::new(tx_places, tx));
     let mut socket = raw::Socket::new(&mut memory, Some(IpVersion::Ipv4), Some(17), rx, tx);
