@@ -4,6 +4,7 @@ mod Emitting
 mod Foreign
 mod Framing
 mod Free
+mod Lending
 mod Pieces
 mod RawSending
 mod Reading
