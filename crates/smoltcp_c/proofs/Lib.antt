@@ -1,6 +1,7 @@
 mod Copied
 mod Counts
 mod Emitting
+mod Filling
 mod Foreign
 mod Framing
 mod Free
