@@ -8,6 +8,7 @@ mod Free
 mod Lending
 mod Pieces
 mod RawSending
+mod Placing
 mod Reading
 mod Replies
 mod Sending
