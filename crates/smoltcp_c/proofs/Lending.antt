@@ -40,7 +40,7 @@ use denote.Triple.Spec.{Meets}
 use denote.Triple.Walked.{says, Stays, stay_dropped, walk_of, ends_at, walked, walk_Meets, Goes-spent_ref}
 use Rattle.std.proofs.VecSteps.Shapes.{after}
 
-module _ (name : Sym) (D : Type 0) (at : D → Ptr) (coded : Coded D) (exit : Kept → Exit D) (shared : D → ℕ → ℕ → Lft → Fml) (R : RattleType) (value : D → R.Denot) (put : D → R.Denot → D) (stays : (h : D) (w : R.Denot) → at (put h w) ≡ at h) (gives : (h : D) (w : R.Denot) → value (put h w) ≡ w) where
+module _ (name : Sym) (D : Type 0) (at : D → Ptr) (coded : Coded D) (exit : Kept → Exit D) (shared : D → ℕ → ℕ → Lft → Fml) (R : RattleType) (value : D → R.Denot) (with_value : D → R.Denot → D) (stays : (h : D) (w : R.Denot) → at (with_value h w) ≡ at h) (gives : (h : D) (w : R.Denot) → value (with_value h w) ≡ w) where
   abbrev type : Owning
   type = record {
     name = name;
@@ -73,7 +73,7 @@ module _ (name : Sym) (D : Type 0) (at : D → Ptr) (coded : Coded D) (exit : Ke
   clauses {𝓤 = 𝓤} 𝓛 κs a = record {
     ghost = Unit {0};
     requires = λ _. sem 𝓛 ftrue;
-    ensures = λ _ r end. sep 𝓤 (sem 𝓛 (follows Handle R a.0.ghost_name r.ghost_name (put a.0.now))) (fact 𝓤 (r.now ≡ value a.0.now));
+    ensures = λ _ r end. sep 𝓤 (sem 𝓛 (follows Handle R a.0.ghost_name r.ghost_name (with_value a.0.now))) (fact 𝓤 (r.now ≡ value a.0.now));
   }
 
   abbrev pub lend_code : Fn → Ty → Ty → Ty → Ty → Ty → Fn
@@ -121,18 +121,18 @@ module _ (name : Sym) (D : Type 0) (at : D → Ptr) (coded : Coded D) (exit : Ke
       abbrev Rest : Fml
       Rest = cell_at full_share Handle.mir (word b o ∷ []) rb ro
 
-      back : at h ≡ block_ptr b o → (w : R.Denot) → ent 𝓤 (sep 𝓤 (sem 𝓛 ((mem R).own_at w b o)) (sem 𝓛 Rest)) (sem 𝓛 ((mem Handle).own_at (put h w) rb ro))
+      back : at h ≡ block_ptr b o → (w : R.Denot) → ent 𝓤 (sep 𝓤 (sem 𝓛 ((mem R).own_at w b o)) (sem 𝓛 Rest)) (sem 𝓛 ((mem Handle).own_at (with_value h w) rb ro))
       unfolding part_of
       back at_b w =
           qed 𝓛 (‵ (part_at R full_share w b o) ∷ ‵ Rest ∷ []) ∵
           rewrite ! 0 (λ (x : R.Denot). ‵ (part_at R full_share x b o)) (sym (gives h w)) refl $
-          handle_in ! (put h w) b o (stays h w ∙ at_b) $ move ! (1 ∷ 0 ∷ []) $ fjoin ! $
-          fpack ! (List Val) (λ us. fsep (cell_at full_share Handle.mir us rb ro) (Handle.own_val (put h w) us)) (word b o ∷ []) $ done !
+          handle_in ! (with_value h w) b o (stays h w ∙ at_b) $ move ! (1 ∷ 0 ∷ []) $ fjoin ! $
+          fpack ! (List Val) (λ us. fsep (cell_at full_share Handle.mir us rb ro) (Handle.own_val (with_value h w) us)) (word b o ∷ []) $ done !
 
       exits : (γ' : GName)
-          → ent 𝓤 (sep 𝓤 (sem 𝓛 ((MutRef (named 0) κ R).own_val (record { ref_ptr = (b, o); ghost_name = γ'; now = value h }) (vptr b o ∷ []))) (sep 𝓤 (A.lft κ q) (sem 𝓛 (follows Handle R γ γ' (put h))))) (Post (vptr b o))
+          → ent 𝓤 (sep 𝓤 (sem 𝓛 ((MutRef (named 0) κ R).own_val (record { ref_ptr = (b, o); ghost_name = γ'; now = value h }) (vptr b o ∷ []))) (sep 𝓤 (A.lft κ q) (sem 𝓛 (follows Handle R γ γ' (with_value h))))) (Post (vptr b o))
       exits γ' =
-          qed 𝓛 (‵ ((MutRef (named 0) κ R).own_val (record { ref_ptr = (b, o); ghost_name = γ'; now = value h }) (vptr b o ∷ [])) ∷ ‵ (flft κ q) ∷ ‵ (follows Handle R γ γ' (put h)) ∷ []) ∵
+          qed 𝓛 (‵ ((MutRef (named 0) κ R).own_val (record { ref_ptr = (b, o); ghost_name = γ'; now = value h }) (vptr b o ∷ [])) ∷ ‵ (flft κ q) ∷ ‵ (follows Handle R γ γ' (with_value h)) ∷ []) ∵
           suffices ! _ (ends_at 𝓛 ended stayed (clauses 𝓛) bound (vptr b o) (record { ref_ptr = (b, o); ghost_name = γ'; now = value h }) (tt, tt) (tt, tt)) $
           nothing ! $ nothing ! $ fjoin ! $ join ! $ nothing ! $ move ! (2 ∷ 0 ∷ []) $ join ! $ join ! $ frame ! $ says ! refl $ done !
 
@@ -154,8 +154,8 @@ module _ (name : Sym) (D : Type 0) (at : D → Ptr) (coded : Coded D) (exit : Ke
         exec ! C Λ En (after 1 fn.body) (at_ret En Post) $
         sets ! (of_opd ! (get ! refl)) refl (tt, tt) $
         move ! (2 ∷ 3 ∷ 4 ∷ 1 ∷ 0 ∷ []) $ group ! 5 $
-        use1 𝓛 (later (some (λ (γ' : GName). raw (Part 𝓛 Handle R (put h) (named 0) κ q rb ro b o γ (sem 𝓛 (Rest b o)) (back b o at_b) (value h) γ'))))
-        (lends_Part 𝓛 Handle R (put h) (named 0) κ q rb ro b o γ (sem 𝓛 (Rest b o)) (back b o at_b) (Handle.coded.code h) (Handle.coded.code h) (value h)) $ await ! tt $ pick ! (λ γ'.
+        use1 𝓛 (later (some (λ (γ' : GName). raw (Part 𝓛 Handle R (with_value h) (named 0) κ q rb ro b o γ (sem 𝓛 (Rest b o)) (back b o at_b) (value h) γ'))))
+        (lends_Part 𝓛 Handle R (with_value h) (named 0) κ q rb ro b o γ (sem 𝓛 (Rest b o)) (back b o at_b) (Handle.coded.code h) (Handle.coded.code h) (value h)) $ await ! tt $ pick ! (λ γ'.
         returns ! (look_at ! 0 refl) $ free_all ! refl $
         keep ! (0 ∷ []) $ by ! (exits b o γ')))))
 
