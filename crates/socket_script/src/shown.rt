@@ -2,7 +2,8 @@
 ghost use Rattle.std.specs.Prelude.{◌≡◌, ◌++◌, Some};
 ghost use Rattle.control_wire.specs.Segment.{segment_of};
 ghost use Rattle.sock_pair.specs.ReplayLines.{ack_text};
-ghost use Rattle.socket_script.specs.Shown.{head_text, mss_text, options_text, range_text, sack_text, scale_text, stamp_text};
+ghost use Rattle.socket_script.specs.Shown.{head_text, mss_text, options_text, range_text};
+ghost use Rattle.socket_script.specs.Shown.{sack_text, scale_text, stamp_text};
 
 use crate::packet::{Kind, Packet};
 use control_wire::{TcpRepr, TcpSeqNumber, TcpTimestampRepr};
