@@ -141,7 +141,7 @@ static void offer_to_both(uint8_t *packet, size_t len) {
 static void datagrams(void) {
     static const uint8_t text[] = "which address?";
     struct smoltcp_udp_metadata meta, from;
-    uint8_t packet[MTU], bytes[64];
+    uint8_t packet[MTU] = {0}, bytes[64];
     int64_t len;
 
     memset(&meta, 0, sizeof meta);
@@ -175,6 +175,21 @@ static void datagrams(void) {
     want("close", smoltcp_udp_close(&client), SMOLTCP_OK);
 }
 
+/* A raw socket sends a packet with a checksum of 0 on, and computes it. */
+static void send_on(struct smoltcp_raw *raw, const uint8_t *packet, int64_t len) {
+    uint8_t same[MTU];
+    memcpy(same, packet, (size_t)len);
+    same[10] = 0; same[11] = 0; /* the checksum, which a dispatch computes */
+    want("can send", smoltcp_raw_can_send(raw), 1);
+    want("send", smoltcp_raw_send(raw, same, (size_t)len), SMOLTCP_OK);
+    want("waiting", smoltcp_raw_send_queue(raw), len);
+    want("emit now", smoltcp_raw_poll_at(raw, &of_b), of_b.now);
+    want("short", smoltcp_raw_dispatch(raw, &of_b, same, 1), SMOLTCP_ERROR_ROOM);
+    want("dispatch", smoltcp_raw_dispatch(raw, &of_b, same, sizeof same), len);
+    want("same", memcmp(packet, same, (size_t)len), 0);
+    want("nothing to emit", smoltcp_raw_poll_at(raw, &of_b), INT64_MAX);
+}
+
 /* A raw socket takes the packet that a UDP socket emits, and sends it on: the packet is the same. */
 static void whole_packets(void) {
     static struct smoltcp_raw_place places[2][2];
@@ -183,7 +198,7 @@ static void whole_packets(void) {
     struct smoltcp_raw_buffer rx = {places[0], 2, bytes[0], QUEUE}, tx = {places[1], 2, bytes[1], QUEUE};
     struct smoltcp_udp_metadata meta;
     struct smoltcp_raw raw;
-    uint8_t packet[MTU], same[MTU];
+    uint8_t packet[MTU] = {0}, same[MTU];
     int64_t len;
 
     memset(&meta, 0, sizeof meta);
@@ -210,15 +225,7 @@ static void whole_packets(void) {
     want("recv", smoltcp_raw_recv(&raw, same, sizeof same), len);
     want("same", memcmp(packet, same, (size_t)len), 0);
     want("empty", smoltcp_raw_recv(&raw, same, sizeof same), SMOLTCP_ERROR_EMPTY);
-    same[10] = 0; same[11] = 0; /* the checksum, which a dispatch computes */
-    want("can send", smoltcp_raw_can_send(&raw), 1);
-    want("send", smoltcp_raw_send(&raw, same, (size_t)len), SMOLTCP_OK);
-    want("waiting", smoltcp_raw_send_queue(&raw), len);
-    want("emit now", smoltcp_raw_poll_at(&raw, &of_b), of_b.now);
-    want("short", smoltcp_raw_dispatch(&raw, &of_b, same, 1), SMOLTCP_ERROR_ROOM);
-    want("dispatch", smoltcp_raw_dispatch(&raw, &of_b, same, sizeof same), len);
-    want("same", memcmp(packet, same, (size_t)len), 0);
-    want("nothing to emit", smoltcp_raw_poll_at(&raw, &of_b), INT64_MAX);
+    send_on(&raw, packet, len);
 }
 
 /* Sets the buffers of two queues. */
