@@ -228,59 +228,60 @@ static void whole_packets(void) {
     send_on(&raw, packet, len);
 }
 
-/* Sets the buffers of two queues. */
-static void lend(struct smoltcp_queue *rx, uint8_t *of_rx, struct smoltcp_queue *tx, uint8_t *of_tx) {
-    rx->bytes = of_rx; rx->bytes_len = QUEUE;
-    tx->bytes = of_tx; tx->bytes_len = QUEUE;
+/* Two places and some bytes. */
+static struct smoltcp_icmp_buffer two_messages(struct smoltcp_icmp_place *places, uint8_t *bytes) {
+    struct smoltcp_icmp_buffer buffer = {places, 2, bytes, QUEUE};
+    return buffer;
 }
 
 /* An echo request with identifier 7 and number 1 and its reply, which b sends with the same text. */
 static void echoes(void) {
     static const uint8_t request[] = {8, 0, 0, 0, 0, 7, 0, 1, 'p', 'i', 'n', 'g'};
     static const uint8_t reply[] = {0, 0, 0, 0, 0, 7, 0, 1, 'p', 'i', 'n', 'g'};
-    static uint8_t pinger_rx[QUEUE], pinger_tx[QUEUE], answering_rx[QUEUE], answering_tx[QUEUE];
-    struct smoltcp_icmp pinger, answering;
+    static struct smoltcp_icmp pinger, answering;
+    static struct smoltcp_icmp_place places[4][2];
+    static uint8_t room[4][QUEUE];
     struct smoltcp_icmp_endpoint ident;
     struct smoltcp_address from, to_a = endpoint(1, 0).addr, to_b = endpoint(2, 0).addr;
     uint8_t packet[MTU], cut[MTU], bytes[64];
     int64_t len;
 
-    memset(&pinger, 0, sizeof pinger);
-    memset(&answering, 0, sizeof answering);
     memset(&ident, 0, sizeof ident);
-    lend(&pinger.rx, pinger_rx, &pinger.tx, pinger_tx);
-    lend(&answering.rx, answering_rx, &answering.tx, answering_tx);
-    want("init", smoltcp_icmp_init(&pinger), SMOLTCP_OK);
-    want("init", smoltcp_icmp_init(&answering), SMOLTCP_OK);
+    want("size", (int64_t)smoltcp_icmp_size(), SMOLTCP_ICMP_SIZE);
+    want("size of a place", (int64_t)smoltcp_icmp_place_size(), SMOLTCP_ICMP_PLACE_SIZE);
+    want("init", smoltcp_icmp_init(&pinger, two_messages(places[0], room[0]), two_messages(places[1], room[1])), 0);
+    want("init", smoltcp_icmp_init(&answering, two_messages(places[2], room[2]), two_messages(places[3], room[3])), 0);
     want("no messages", smoltcp_icmp_bind(&pinger, &ident), SMOLTCP_ERROR_ADDRESS);
     ident.kind = SMOLTCP_ICMP_IDENT;
     ident.ident = 7;
+    want("is open", smoltcp_icmp_is_open(&pinger), 0);
     want("bind", smoltcp_icmp_bind(&pinger, &ident), SMOLTCP_OK);
     want("bind", smoltcp_icmp_bind(&answering, &ident), SMOLTCP_OK);
     want("can send", smoltcp_icmp_can_send(&pinger), 1);
-    want("no message", smoltcp_icmp_send(&pinger, &of_a, &to_b, request, 3), SMOLTCP_ERROR_MESSAGE);
-    want("send", smoltcp_icmp_send(&pinger, &of_a, &to_b, request, sizeof request), SMOLTCP_OK);
+    want("no message", smoltcp_icmp_send(&pinger, &to_b, request, 3), SMOLTCP_OK);
+    want("dropped", smoltcp_icmp_dispatch(&pinger, &of_a, packet, sizeof packet), 0);
+    want("send", smoltcp_icmp_send(&pinger, &to_b, request, sizeof request), SMOLTCP_OK);
     want("emit now", smoltcp_icmp_poll_at(&pinger, &of_a), of_a.now);
-    len = smoltcp_icmp_dispatch(&pinger, packet, sizeof packet);
+    want("short", smoltcp_icmp_dispatch(&pinger, &of_a, packet, 1), SMOLTCP_ERROR_ROOM);
+    len = smoltcp_icmp_dispatch(&pinger, &of_a, packet, sizeof packet);
     want("packet", len, 20 + sizeof request);
     memcpy(cut, packet, (size_t)len);
     make_fragment(cut, 0);
     want("first fragment", smoltcp_icmp_process(&answering, &of_b, cut, (size_t)len), SMOLTCP_NOT_ACCEPTED);
     make_fragment(cut, 1);
     want("later fragment", smoltcp_icmp_process(&answering, &of_b, cut, (size_t)len), SMOLTCP_NOT_ACCEPTED);
+    want("accepts", smoltcp_icmp_accepts(&answering, &of_b, packet, (size_t)len), 1);
     want("process", smoltcp_icmp_process(&answering, &of_b, packet, (size_t)len), SMOLTCP_OK);
     want("request", smoltcp_icmp_recv(&answering, &from, bytes, sizeof bytes), sizeof request);
     want("source", memcmp(from.v4, to_a.v4, 4), 0);
-    want("send", smoltcp_icmp_send(&answering, &of_b, &from, reply, sizeof reply), SMOLTCP_OK);
-    len = smoltcp_icmp_dispatch(&answering, packet, sizeof packet);
+    want("send", smoltcp_icmp_send(&answering, &from, reply, sizeof reply), SMOLTCP_OK);
+    len = smoltcp_icmp_dispatch(&answering, &of_b, packet, sizeof packet);
     want("process", smoltcp_icmp_process(&pinger, &of_a, packet, (size_t)len), SMOLTCP_OK);
     want("can recv", smoltcp_icmp_can_recv(&pinger), 1);
     want("reply", smoltcp_icmp_recv(&pinger, &from, bytes, sizeof bytes), sizeof reply);
     want("text", memcmp(bytes + 4, reply + 4, sizeof reply - 4), 0);
     printf("echo reply: %.*s\n", 4, (const char *)bytes + 8);
     want("empty", smoltcp_icmp_recv(&pinger, &from, bytes, sizeof bytes), SMOLTCP_ERROR_EMPTY);
-    want("close", smoltcp_icmp_close(&pinger), SMOLTCP_OK);
-    want("closed", smoltcp_icmp_process(&pinger, &of_a, packet, (size_t)len), SMOLTCP_NOT_ACCEPTED);
 }
 
 /* The settings of a are read as they were set. */

@@ -2,12 +2,12 @@
  * allocates, keeps anything elsewhere or calls back. Calls on different sockets may run at once.
  *
  * Each call answers a number: 0 or more where it was done, and below 0 an error, with nothing changed; but see
- * smoltcp_tcp_dispatch, those of UDP and raw sockets, smoltcp_udp_recv, smoltcp_raw_recv and smoltcp_icmp_recv.
+ * dispatch and recv of each kind.
  *
- * What the caller has to keep, which nothing tests: a TCP, UDP or raw socket is memory that its init made and that has
- * not been moved, copied or written since; of one socket one call runs at a time; its buffers are its own from init on,
- * and overlap neither the socket, nor each other, nor what a call is given; a pointer leads to memory of the length
- * given, and a length is one: the (size_t)-1 of a failed read is none.
+ * What the caller has to keep, which nothing tests: a socket is memory that its init made and that has not been moved,
+ * copied or written since; of one socket one call runs at a time; its buffers are its own from init on, and overlap
+ * neither the socket, nor each other, nor what a call is given; a pointer leads to memory of the length given, and a
+ * length is one: the (size_t)-1 of a failed read is none.
  *
  * A host looks at a packet before a socket sees it: it refuses a destination that is not its own (multicast and
  * broadcast too), and a source that is multicast, broadcast or its own; it offers a packet to the sockets that have a
@@ -27,13 +27,11 @@ enum {
     SMOLTCP_ERROR_STATE = -1,    /* the state of the socket does not allow the call */
     SMOLTCP_ERROR_ADDRESS = -2,  /* a port or an address is missing or of another version */
     SMOLTCP_ERROR_FINISHED = -3, /* the peer has closed, and all that it sent was read */
-    SMOLTCP_ERROR_SOCKET = -4,   /* a struct of ICMP was not made by init, or a buffer has another size */
     SMOLTCP_ERROR_CONTEXT = -5,  /* the context's moment or its MTU is out of range */
     SMOLTCP_ERROR_ROOM = -6,     /* a buffer or a queue has too little room for a packet */
     SMOLTCP_ERROR_NULL = -7,     /* a pointer is null */
     SMOLTCP_NOT_ACCEPTED = -8,   /* the packet is not for this socket */
     SMOLTCP_ERROR_RANGE = -9,    /* a number is out of its range */
-    SMOLTCP_ERROR_MESSAGE = -10, /* an ICMP message is malformed */
     SMOLTCP_ERROR_EMPTY = -11    /* no packet waits */
 };
 
@@ -74,15 +72,6 @@ struct smoltcp_place { const uint8_t *at; size_t len; };
 /* The longest buffer, in bytes. */
 #define SMOLTCP_LONGEST_BUFFER ((size_t)1 << 30)
 
-/* A queue of packets in a buffer: one behind the other from start to end, each behind its length in two bytes. Set
- * bytes and bytes_len to a buffer of at most 2^30 bytes that nothing else uses; the rest is for these calls alone. */
-struct smoltcp_queue {
-    uint8_t *bytes;
-    size_t bytes_len;
-    size_t size; /* the length at init */
-    size_t start, end;
-};
-
 /* Memory for a UDP socket, and for a place of its queues, as that for a TCP socket. */
 enum { SMOLTCP_UDP_SIZE = 160, SMOLTCP_UDP_PLACE_SIZE = 48 };
 struct smoltcp_udp { uint64_t opaque[SMOLTCP_UDP_SIZE / 8]; };
@@ -102,9 +91,10 @@ struct smoltcp_raw_buffer { struct smoltcp_raw_place *places; size_t count; uint
 struct smoltcp_raw_filter { uint8_t version, any_protocol, protocol; };
 enum { SMOLTCP_RAW_ANY = 256 };
 
-/* What the library is handed: where a UDP socket lies, or room for a place; places that are a socket's for good. */
+/* What the library is handed: where a socket lies, or room for a place; places that are a socket's for good. */
 struct smoltcp_udp_handle { uint8_t *at; };
 struct smoltcp_raw_handle { uint8_t *at; };
+struct smoltcp_icmp_handle { uint8_t *at; };
 struct smoltcp_places { uint8_t *at; size_t len; };
 
 /* Where a datagram came from or goes to, and the own address: that to which it came, or from which it is sent (none:
@@ -116,25 +106,24 @@ struct smoltcp_udp_metadata { struct smoltcp_endpoint endpoint; struct smoltcp_a
 enum { SMOLTCP_ICMP_NONE = 0, SMOLTCP_ICMP_IDENT = 1, SMOLTCP_ICMP_TCP = 2, SMOLTCP_ICMP_UDP = 3 };
 struct smoltcp_icmp_endpoint { uint8_t kind; uint16_t ident; struct smoltcp_endpoint endpoint; };
 
-/* An ICMP socket (RFC 792, RFC 4443). Set the buffers of its queues, and call smoltcp_icmp_init. */
-struct smoltcp_icmp {
-    struct smoltcp_queue rx, tx;        /* the packets that came, and those to emit */
-    struct smoltcp_icmp_endpoint bound; /* what it is bound to */
-    uint8_t hop_limit;                  /* of what is sent; 0: 64. May be set after init */
-};
+/* Memory for an ICMP socket (RFC 792, RFC 4443), and what its queues lie in, as of UDP. */
+enum { SMOLTCP_ICMP_SIZE = 160, SMOLTCP_ICMP_PLACE_SIZE = 32 };
+struct smoltcp_icmp { uint64_t opaque[SMOLTCP_ICMP_SIZE / 8]; };
+struct smoltcp_icmp_place { uint64_t opaque[SMOLTCP_ICMP_PLACE_SIZE / 8]; };
+struct smoltcp_icmp_buffer { struct smoltcp_icmp_place *places; size_t count; uint8_t *bytes; size_t len; };
 
 /* The sizes that the library has, which is for x86-64. */
 #if defined(__STDC_VERSION__) && __STDC_VERSION__ >= 201112L
 _Static_assert(sizeof(struct smoltcp_endpoint) == 24, "smoltcp_endpoint");
 _Static_assert(sizeof(struct smoltcp_context) == 40, "smoltcp_context");
 _Static_assert(sizeof(struct smoltcp_tcp) == SMOLTCP_TCP_SIZE, "smoltcp_tcp");
-_Static_assert(sizeof(struct smoltcp_queue) == 40, "smoltcp_queue");
 _Static_assert(sizeof(struct smoltcp_udp) == SMOLTCP_UDP_SIZE, "smoltcp_udp");
 _Static_assert(sizeof(struct smoltcp_udp_place) == SMOLTCP_UDP_PLACE_SIZE, "smoltcp_udp_place");
 _Static_assert(sizeof(struct smoltcp_udp_metadata) == 46, "smoltcp_udp_metadata");
 _Static_assert(sizeof(struct smoltcp_raw) == SMOLTCP_RAW_SIZE, "smoltcp_raw");
 _Static_assert(sizeof(struct smoltcp_raw_place) == SMOLTCP_RAW_PLACE_SIZE, "smoltcp_raw_place");
-_Static_assert(sizeof(struct smoltcp_icmp) == 112, "smoltcp_icmp");
+_Static_assert(sizeof(struct smoltcp_icmp) == SMOLTCP_ICMP_SIZE, "smoltcp_icmp");
+_Static_assert(sizeof(struct smoltcp_icmp_place) == SMOLTCP_ICMP_PLACE_SIZE, "smoltcp_icmp_place");
 #endif
 
 /* The calls of the library, which take no null pointers. */
@@ -247,18 +236,35 @@ int64_t smoltcp_raw_process_checked(struct smoltcp_raw_handle *h, const struct s
 int64_t smoltcp_raw_dispatch_checked(struct smoltcp_raw_handle *h, const struct smoltcp_context *cx, uint8_t *out,
                                      size_t cap);
 int64_t smoltcp_raw_poll_at_checked(struct smoltcp_raw_handle *h, const struct smoltcp_context *cx, int64_t *at);
-int64_t smoltcp_icmp_init_checked(struct smoltcp_icmp *s);
-int64_t smoltcp_icmp_bind_checked(struct smoltcp_icmp *s, const struct smoltcp_icmp_endpoint *endpoint);
-int64_t smoltcp_icmp_close_checked(struct smoltcp_icmp *s);
-int64_t smoltcp_icmp_process_checked(struct smoltcp_icmp *s, const struct smoltcp_context *cx, const uint8_t *packet,
-                                     size_t len);
-int64_t smoltcp_icmp_recv_checked(struct smoltcp_icmp *s, struct smoltcp_address *remote, uint8_t *data, size_t cap);
-int64_t smoltcp_icmp_send_checked(struct smoltcp_icmp *s, const struct smoltcp_context *cx,
-                                  const struct smoltcp_address *remote, const uint8_t *data, size_t len);
-int64_t smoltcp_icmp_dispatch_checked(struct smoltcp_icmp *s, uint8_t *out, size_t cap);
-int64_t smoltcp_icmp_poll_at_checked(const struct smoltcp_icmp *s, const struct smoltcp_context *cx, int64_t *at);
-int64_t smoltcp_icmp_can_recv_checked(const struct smoltcp_icmp *s);
-int64_t smoltcp_icmp_can_send_checked(const struct smoltcp_icmp *s);
+size_t smoltcp_icmp_size(void);
+size_t smoltcp_icmp_place_size(void);
+int64_t smoltcp_icmp_place_checked(struct smoltcp_icmp_handle *room);
+int64_t smoltcp_icmp_init_checked(struct smoltcp_places rx_places, struct smoltcp_bytes rx,
+                                 struct smoltcp_places tx_places, struct smoltcp_bytes tx,
+                                 struct smoltcp_icmp_handle *room);
+int64_t smoltcp_icmp_bind_checked(struct smoltcp_icmp_handle *h, const struct smoltcp_icmp_endpoint *endpoint);
+int64_t smoltcp_icmp_is_open_checked(struct smoltcp_icmp_handle *h);
+int64_t smoltcp_icmp_can_send_checked(struct smoltcp_icmp_handle *h);
+int64_t smoltcp_icmp_can_recv_checked(struct smoltcp_icmp_handle *h);
+int64_t smoltcp_icmp_packet_send_capacity_checked(struct smoltcp_icmp_handle *h);
+int64_t smoltcp_icmp_packet_recv_capacity_checked(struct smoltcp_icmp_handle *h);
+int64_t smoltcp_icmp_payload_send_capacity_checked(struct smoltcp_icmp_handle *h);
+int64_t smoltcp_icmp_payload_recv_capacity_checked(struct smoltcp_icmp_handle *h);
+int64_t smoltcp_icmp_send_queue_checked(struct smoltcp_icmp_handle *h);
+int64_t smoltcp_icmp_recv_queue_checked(struct smoltcp_icmp_handle *h);
+int64_t smoltcp_icmp_hop_limit_checked(struct smoltcp_icmp_handle *h);
+int64_t smoltcp_icmp_set_hop_limit_checked(struct smoltcp_icmp_handle *h, uint8_t hop_limit);
+int64_t smoltcp_icmp_send_checked(struct smoltcp_icmp_handle *h, const struct smoltcp_address *remote,
+                                  const uint8_t *data, size_t len);
+int64_t smoltcp_icmp_recv_checked(struct smoltcp_icmp_handle *h, struct smoltcp_address *remote, uint8_t *data,
+                                  size_t cap);
+int64_t smoltcp_icmp_accepts_checked(struct smoltcp_icmp_handle *h, const struct smoltcp_context *cx,
+                                    const uint8_t *packet, size_t len);
+int64_t smoltcp_icmp_process_checked(struct smoltcp_icmp_handle *h, const struct smoltcp_context *cx,
+                                    const uint8_t *packet, size_t len);
+int64_t smoltcp_icmp_dispatch_checked(struct smoltcp_icmp_handle *h, const struct smoltcp_context *cx, uint8_t *out,
+                                     size_t cap);
+int64_t smoltcp_icmp_poll_at_checked(struct smoltcp_icmp_handle *h, const struct smoltcp_context *cx, int64_t *at);
 
 /* Makes a closed socket in the memory, over the two buffers, of at most 2^30 bytes each (else SMOLTCP_ERROR_RANGE, with
  * nothing changed). The memory and the buffers are the socket's for good: what is proved of the calls says nothing of a
@@ -847,7 +853,7 @@ static inline int64_t smoltcp_raw_ip_protocol(struct smoltcp_raw *s) {
     int64_t answer;
     if (!s) return SMOLTCP_ERROR_NULL;
     answer = smoltcp_raw_ip_protocol_checked(&h);
-    return answer < 0 ? SMOLTCP_RAW_ANY : answer;
+    return answer < 0 ? (int64_t)SMOLTCP_RAW_ANY : answer;
 }
 
 /* 1 where the transmit queue has a free place, else 0. */
@@ -966,83 +972,168 @@ static inline int64_t smoltcp_raw_poll_at(struct smoltcp_raw *s, const struct sm
     return answer == 0 ? at : INT64_MAX;
 }
 
-/* Whether the struct and the buffers of its queues are there. */
-static inline int smoltcp_icmp_is_null(const struct smoltcp_icmp *s) { return !s || !s->rx.bytes || !s->tx.bytes; }
-
-/* Makes the struct a closed ICMP socket with empty queues over its two buffers. */
-static inline int64_t smoltcp_icmp_init(struct smoltcp_icmp *s) {
-    if (smoltcp_icmp_is_null(s)) return SMOLTCP_ERROR_NULL;
-    return smoltcp_icmp_init_checked(s);
+/* Makes an ICMP socket that is not open in the memory, over the two buffers, of at most 2^30 places and 2^30 bytes each
+ * (else SMOLTCP_ERROR_RANGE, with nothing changed). As with a TCP socket, all of it is the socket's for good. */
+static inline int64_t smoltcp_icmp_init(struct smoltcp_icmp *s, struct smoltcp_icmp_buffer rx,
+                                       struct smoltcp_icmp_buffer tx) {
+    struct smoltcp_places rx_places = {(uint8_t *)rx.places, rx.count}, tx_places = {(uint8_t *)tx.places, tx.count};
+    struct smoltcp_bytes of_rx = {rx.bytes, rx.len}, of_tx = {tx.bytes, tx.len};
+    struct smoltcp_icmp_handle h = {(uint8_t *)s}, place;
+    size_t i;
+    if (!s || !rx.places || !rx.bytes || !tx.places || !tx.bytes) return SMOLTCP_ERROR_NULL;
+    if (rx.count > SMOLTCP_LONGEST_BUFFER || rx.len > SMOLTCP_LONGEST_BUFFER) return SMOLTCP_ERROR_RANGE;
+    if (tx.count > SMOLTCP_LONGEST_BUFFER || tx.len > SMOLTCP_LONGEST_BUFFER) return SMOLTCP_ERROR_RANGE;
+    for (i = 0; i < rx.count; i++) {
+        place.at = (uint8_t *)&rx.places[i];
+        smoltcp_icmp_place_checked(&place);
+    }
+    for (i = 0; i < tx.count; i++) {
+        place.at = (uint8_t *)&tx.places[i];
+        smoltcp_icmp_place_checked(&place);
+    }
+    return smoltcp_icmp_init_checked(rx_places, of_rx, tx_places, of_tx, &h);
 }
 
 /* Opens an ICMP socket for these messages. SMOLTCP_ERROR_ADDRESS where there are none or a port is missing, else
- * SMOLTCP_ERROR_STATE where it is open. */
+ * SMOLTCP_ERROR_STATE where it is open. It stays open. */
 static inline int64_t smoltcp_icmp_bind(struct smoltcp_icmp *s, const struct smoltcp_icmp_endpoint *endpoint) {
-    if (smoltcp_icmp_is_null(s) || !endpoint) return SMOLTCP_ERROR_NULL;
-    return smoltcp_icmp_bind_checked(s, endpoint);
+    struct smoltcp_icmp_handle h = {(uint8_t *)s};
+    if (!s || !endpoint) return SMOLTCP_ERROR_NULL;
+    return smoltcp_icmp_bind_checked(&h, endpoint);
 }
 
-/* Binds it to nothing, and empties both queues. */
-static inline int64_t smoltcp_icmp_close(struct smoltcp_icmp *s) {
-    if (smoltcp_icmp_is_null(s)) return SMOLTCP_ERROR_NULL;
-    return smoltcp_icmp_close_checked(s);
+/* 1 where the socket is bound, else 0. */
+static inline int64_t smoltcp_icmp_is_open(struct smoltcp_icmp *s) {
+    struct smoltcp_icmp_handle h = {(uint8_t *)s};
+    if (!s) return SMOLTCP_ERROR_NULL;
+    return smoltcp_icmp_is_open_checked(&h);
 }
 
-/* Puts an IP packet into the receive queue, where it carries a message for the socket. SMOLTCP_NOT_ACCEPTED where it
- * carries no whole message or is not for this socket; SMOLTCP_ERROR_ROOM where the queue has no room for it and two
- * bytes for its length, or it has more than 65535 bytes: it is dropped. */
-static inline int64_t smoltcp_icmp_process(struct smoltcp_icmp *s, const struct smoltcp_context *cx,
-                                           const uint8_t *packet, size_t len) {
-    if (smoltcp_icmp_is_null(s) || !cx || !packet) return SMOLTCP_ERROR_NULL;
-    return smoltcp_icmp_process_checked(s, cx, packet, len);
+/* 1 where the transmit queue has a free place, else 0. */
+static inline int64_t smoltcp_icmp_can_send(struct smoltcp_icmp *s) {
+    struct smoltcp_icmp_handle h = {(uint8_t *)s};
+    if (!s) return SMOLTCP_ERROR_NULL;
+    return smoltcp_icmp_can_send_checked(&h);
 }
 
-/* Takes the first packet of the receive queue: the length of its ICMP message, which then stands in data, and its
- * source in remote. SMOLTCP_ERROR_EMPTY where none waits. SMOLTCP_ERROR_ROOM where data is too short: the message is
- * lost then. */
+/* 1 where a place of the receive queue is taken, else 0. */
+static inline int64_t smoltcp_icmp_can_recv(struct smoltcp_icmp *s) {
+    struct smoltcp_icmp_handle h = {(uint8_t *)s};
+    if (!s) return SMOLTCP_ERROR_NULL;
+    return smoltcp_icmp_can_recv_checked(&h);
+}
+
+/* How many messages the transmit queue has places for. */
+static inline int64_t smoltcp_icmp_packet_send_capacity(struct smoltcp_icmp *s) {
+    struct smoltcp_icmp_handle h = {(uint8_t *)s};
+    if (!s) return SMOLTCP_ERROR_NULL;
+    return smoltcp_icmp_packet_send_capacity_checked(&h);
+}
+
+/* How many messages the receive queue has places for. */
+static inline int64_t smoltcp_icmp_packet_recv_capacity(struct smoltcp_icmp *s) {
+    struct smoltcp_icmp_handle h = {(uint8_t *)s};
+    if (!s) return SMOLTCP_ERROR_NULL;
+    return smoltcp_icmp_packet_recv_capacity_checked(&h);
+}
+
+/* How many bytes the transmit queue holds. */
+static inline int64_t smoltcp_icmp_payload_send_capacity(struct smoltcp_icmp *s) {
+    struct smoltcp_icmp_handle h = {(uint8_t *)s};
+    if (!s) return SMOLTCP_ERROR_NULL;
+    return smoltcp_icmp_payload_send_capacity_checked(&h);
+}
+
+/* How many bytes the receive queue holds. */
+static inline int64_t smoltcp_icmp_payload_recv_capacity(struct smoltcp_icmp *s) {
+    struct smoltcp_icmp_handle h = {(uint8_t *)s};
+    if (!s) return SMOLTCP_ERROR_NULL;
+    return smoltcp_icmp_payload_recv_capacity_checked(&h);
+}
+
+/* How many bytes of the transmit queue are taken, padding included. */
+static inline int64_t smoltcp_icmp_send_queue(struct smoltcp_icmp *s) {
+    struct smoltcp_icmp_handle h = {(uint8_t *)s};
+    if (!s) return SMOLTCP_ERROR_NULL;
+    return smoltcp_icmp_send_queue_checked(&h);
+}
+
+/* How many bytes of the receive queue are taken, padding included. */
+static inline int64_t smoltcp_icmp_recv_queue(struct smoltcp_icmp *s) {
+    struct smoltcp_icmp_handle h = {(uint8_t *)s};
+    if (!s) return SMOLTCP_ERROR_NULL;
+    return smoltcp_icmp_recv_queue_checked(&h);
+}
+
+/* The hop limit of what is sent, or 0 where none is set, for 64. */
+static inline int64_t smoltcp_icmp_hop_limit(struct smoltcp_icmp *s) {
+    struct smoltcp_icmp_handle h = {(uint8_t *)s};
+    if (!s) return SMOLTCP_ERROR_NULL;
+    return smoltcp_icmp_hop_limit_checked(&h);
+}
+
+/* Sets the hop limit of what is sent; 0 for 64. */
+static inline int64_t smoltcp_icmp_set_hop_limit(struct smoltcp_icmp *s, uint8_t hop_limit) {
+    struct smoltcp_icmp_handle h = {(uint8_t *)s};
+    if (!s) return SMOLTCP_ERROR_NULL;
+    return smoltcp_icmp_set_hop_limit_checked(&h, hop_limit);
+}
+
+/* Puts an ICMP message to remote into the transmit queue, its checksum computed. SMOLTCP_ERROR_ADDRESS where remote is
+ * unspecified, SMOLTCP_ERROR_ROOM where the queue has no room for it, or it has more than 65495 bytes. One that is no
+ * echo and no error of its version is dropped by dispatch. The socket need not be open. */
+static inline int64_t smoltcp_icmp_send(struct smoltcp_icmp *s, const struct smoltcp_address *remote,
+                                        const uint8_t *data, size_t len) {
+    struct smoltcp_icmp_handle h = {(uint8_t *)s};
+    if (!s || !remote || !data) return SMOLTCP_ERROR_NULL;
+    return smoltcp_icmp_send_checked(&h, remote, data, len);
+}
+
+/* Takes the first message of the receive queue: its length, it stands in data, and its source in remote.
+ * SMOLTCP_ERROR_EMPTY where none waits. SMOLTCP_ERROR_ROOM where data is too short: the message is lost then. */
 static inline int64_t smoltcp_icmp_recv(struct smoltcp_icmp *s, struct smoltcp_address *remote, uint8_t *data,
                                         size_t cap) {
-    if (smoltcp_icmp_is_null(s) || !remote || !data) return SMOLTCP_ERROR_NULL;
-    return smoltcp_icmp_recv_checked(s, remote, data, cap);
+    struct smoltcp_icmp_handle h = {(uint8_t *)s};
+    if (!s || !remote || !data) return SMOLTCP_ERROR_NULL;
+    return smoltcp_icmp_recv_checked(&h, remote, data, cap);
 }
 
-/* Puts an ICMP message into the transmit queue, as a packet to remote, its checksum computed. SMOLTCP_ERROR_ADDRESS
- * where remote is unspecified, SMOLTCP_ERROR_MESSAGE where the bytes are no echo and no error of its version,
- * SMOLTCP_ERROR_ROOM where the packet finds no room in the queue or has more than 65535 bytes. The socket need not be
- * open. */
-static inline int64_t smoltcp_icmp_send(struct smoltcp_icmp *s, const struct smoltcp_context *cx,
-                                        const struct smoltcp_address *remote, const uint8_t *data, size_t len) {
-    if (smoltcp_icmp_is_null(s) || !cx || !remote || !data) return SMOLTCP_ERROR_NULL;
-    return smoltcp_icmp_send_checked(s, cx, remote, data, len);
+/* 1 where the IP packet carries a whole message for the socket, so that process takes it, else 0. */
+static inline int64_t smoltcp_icmp_accepts(struct smoltcp_icmp *s, const struct smoltcp_context *cx,
+                                          const uint8_t *packet, size_t len) {
+    struct smoltcp_icmp_handle h = {(uint8_t *)s};
+    if (!s || !cx || !packet) return SMOLTCP_ERROR_NULL;
+    return smoltcp_icmp_accepts_checked(&h, cx, packet, len);
 }
 
-/* The length of the first packet of the transmit queue, in out, or 0 for none. A call takes one packet from the queue,
- * so that at most as many have something to emit as were sent. SMOLTCP_ERROR_ROOM where out is too short for it: it
- * stays the first. */
-static inline int64_t smoltcp_icmp_dispatch(struct smoltcp_icmp *s, uint8_t *out, size_t cap) {
-    if (smoltcp_icmp_is_null(s) || !out) return SMOLTCP_ERROR_NULL;
-    return smoltcp_icmp_dispatch_checked(s, out, cap);
+/* Takes an IP packet: the message that it carries comes behind the receive queue, or is dropped where there is no room
+ * for it. SMOLTCP_NOT_ACCEPTED where it carries no whole message or is not for this socket. */
+static inline int64_t smoltcp_icmp_process(struct smoltcp_icmp *s, const struct smoltcp_context *cx,
+                                          const uint8_t *packet, size_t len) {
+    struct smoltcp_icmp_handle h = {(uint8_t *)s};
+    if (!s || !cx || !packet) return SMOLTCP_ERROR_NULL;
+    return smoltcp_icmp_process_checked(&h, cx, packet, len);
 }
 
-/* The moment of the next dispatch in microseconds: now where a packet waits, else INT64_MAX; INT64_MIN: an error. */
-static inline int64_t smoltcp_icmp_poll_at(const struct smoltcp_icmp *s, const struct smoltcp_context *cx) {
+/* The length of the packet of the first message of the transmit queue, in out. 0 where none waits, or the first is no
+ * echo and no error of its version, or has no source: it leaves the queue too. SMOLTCP_ERROR_ROOM where out is too
+ * short for it: it stays the first. */
+static inline int64_t smoltcp_icmp_dispatch(struct smoltcp_icmp *s, const struct smoltcp_context *cx, uint8_t *out,
+                                           size_t cap) {
+    struct smoltcp_icmp_handle h = {(uint8_t *)s};
+    if (!s || !cx || !out) return SMOLTCP_ERROR_NULL;
+    return smoltcp_icmp_dispatch_checked(&h, cx, out, cap);
+}
+
+/* The moment of the next dispatch in microseconds: now where a place of the transmit queue is taken, else INT64_MAX;
+ * INT64_MIN: an error. */
+static inline int64_t smoltcp_icmp_poll_at(struct smoltcp_icmp *s, const struct smoltcp_context *cx) {
+    struct smoltcp_icmp_handle h = {(uint8_t *)s};
     int64_t at = 0, answer;
-    if (smoltcp_icmp_is_null(s) || !cx) return INT64_MIN;
-    answer = smoltcp_icmp_poll_at_checked(s, cx, &at);
+    if (!s || !cx) return INT64_MIN;
+    answer = smoltcp_icmp_poll_at_checked(&h, cx, &at);
     if (answer < 0) return INT64_MIN;
     return answer == 0 ? at : INT64_MAX;
-}
-
-/* 1 where a packet waits for recv, else 0. */
-static inline int64_t smoltcp_icmp_can_recv(const struct smoltcp_icmp *s) {
-    if (smoltcp_icmp_is_null(s)) return SMOLTCP_ERROR_NULL;
-    return smoltcp_icmp_can_recv_checked(s);
-}
-
-/* 1 where a message of 8 bytes over IPv6 would find room in the transmit queue, which takes 50 bytes, else 0. */
-static inline int64_t smoltcp_icmp_can_send(const struct smoltcp_icmp *s) {
-    if (smoltcp_icmp_is_null(s)) return SMOLTCP_ERROR_NULL;
-    return smoltcp_icmp_can_send_checked(s);
 }
 
 #ifdef __cplusplus

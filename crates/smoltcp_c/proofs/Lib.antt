@@ -3,8 +3,8 @@ mod Counts
 mod Emitting
 mod Filling
 mod Foreign
-mod Framing
 mod Free
+mod IcmpSending
 mod Lending
 mod Pieces
 mod RawSending

@@ -11,7 +11,6 @@ use Rattle.smoltcp_c.specs.Icmp as icmp
 use Rattle.smoltcp_c.specs.Raw as raw
 use Rattle.smoltcp_c.specs.Udp as udp
 use Rattle.smoltcp_c.specs.declared.context.Cx.{Cx}
-use Rattle.smoltcp_c.specs.declared.endpoints.Address.{Address}
 
 -- nothing is no packet for a socket
 pub never : {P : Type 0} → (P → ⊥) → IsTrue false ↔ P
@@ -35,12 +34,16 @@ icmp_none v f packet e = subst (λ o. IsTrue false ↔ icmp.AcceptsIf v f o) e (
 pub icmp_some : (v : icmp_view.View) (f : Facts) (packet : List ℕ) (p : icmp.IcmpPacket) (b : Bool) → Some p ≡ icmp.carried_message packet → (IsTrue b ↔ icmp.AcceptsIcmp v f p) → IsTrue b ↔ icmp.IsFor v f packet
 icmp_some v f packet p b e h = subst (λ o. IsTrue b ↔ icmp.AcceptsIf v f o) e h
 
-pub icmp_for_at : (v v' : icmp_view.View) (cx cx' : Cx) (packet : List ℕ) (b : Bool) → v ≡ v' → cx ≡ cx' → (IsTrue b ↔ icmp.IsFor v (facts_in cx) packet) → IsTrue b ↔ icmp.IsFor v' (facts_in cx') packet
-icmp_for_at v v' cx cx' packet b e0 e1 h =
-    let y = subst (λ w. IsTrue b ↔ icmp.IsFor w (facts_in cx) packet) e0 h in
-    subst (λ y. IsTrue b ↔ icmp.IsFor v' (facts_in y) packet) e1 y
+-- the same, said of equal sockets, contexts, messages and answers
+pub icmp_heard_at : (v v' : icmp_view.View) (cx cx' : Cx) (p p' : icmp.IcmpPacket) (r r' : ℤ) (w : icmp_view.View) → v ≡ v' → cx ≡ cx' → p ≡ p' → r' ≡ r → icmp.Hears v (facts_in cx) p r w → icmp.Hears v' (facts_in cx') p' r' w
+icmp_heard_at v v' cx cx' p p' r r' w e0 e1 e2 e3 h =
+    let a = subst (λ x. icmp.Hears x (facts_in cx) p r w) e0 h in
+    let b = subst (λ y. icmp.Hears v' (facts_in y) p r w) e1 a in
+    let c = subst (λ q. icmp.Hears v' (facts_in cx') q r w) e2 b in
+    subst (λ n. icmp.Hears v' (facts_in cx') p' n w) (sym e3) c
 
-pub icmp_given_at : (p p' : icmp.IcmpPacket) (from from' : Address) (bs bs' : List ℕ) (r r' : ℤ) → p ≡ p' → r' ≡ r → icmp.GivesIcmp p from bs r from' bs' → icmp.GivesIcmp p' from bs r' from' bs'
-icmp_given_at p p' from from' bs bs' r r' e0 e1 x =
-    let y = subst (λ q. icmp.GivesIcmp q from bs r from' bs') e0 x in
-    subst (λ q. icmp.GivesIcmp p' from bs q from' bs') (sym e1) y
+pub icmp_dispatched_at : (v v' : icmp_view.View) (cx cx' : Cx) (out : List ℕ) (r r' : ℤ) (w : icmp_view.View) (out' : List ℕ) → v ≡ v' → cx ≡ cx' → r' ≡ r → icmp.DispatchesInto v (facts_in cx) out r w out' → icmp.DispatchesInto v' (facts_in cx') out r' w out'
+icmp_dispatched_at v v' cx cx' out r r' w out' e0 e1 e2 h =
+    let a = subst (λ x. icmp.DispatchesInto x (facts_in cx) out r w out') e0 h in
+    let b = subst (λ y. icmp.DispatchesInto v' (facts_in y) out r w out') e1 a in
+    subst (λ n. icmp.DispatchesInto v' (facts_in cx') out n w out') (sym e2) b

@@ -26,9 +26,6 @@ error_address = negsuc 1
 abbrev pub error_finished : ℤ
 error_finished = negsuc 2
 
-abbrev pub error_socket : ℤ
-error_socket = negsuc 3
-
 abbrev pub error_context : ℤ
 error_context = negsuc 4
 
@@ -40,9 +37,6 @@ not_accepted = negsuc 7
 
 abbrev pub error_range : ℤ
 error_range = negsuc 8
-
-abbrev pub error_message : ℤ
-error_message = negsuc 9
 
 abbrev pub error_empty : ℤ
 error_empty = negsuc 10

@@ -1,6 +1,6 @@
--- An ICMP socket as C holds it: what it is bound to, and two queues of packets.
-use Rattle.std.specs.Prelude.{ℕ, ℤ, pos, ◌≡◌, ◌≤◌, ◌<◌, ◌==◌, ◌||◌, ◌^◌, nat_lt, Bool, true, List, [], ◌++◌, length, drop, Option, Some, None, if◌then◌else◌}
-use Rattle.ip_wire.specs.Address.{is_unspecified}
+-- An ICMP socket in the memory of C.
+use Rattle.std.specs.Prelude.{ℕ, ℤ, pos, ◌≡◌, ◌≤◌, ◌==◌, true, false, List, [], ◌++◌, drop, cond, Option, Some, None}
+use Rattle.std.specs.Prelude.{Result, Ok, Err, if◌then◌else◌}
 use Rattle.ip_wire.specs.Packet.{header_octets}
 use Rattle.ip_wire.specs.Protocol.{number_of}
 use Rattle.ip_wire.specs.declared.address.IpAddress.{IpAddress}
@@ -9,26 +9,27 @@ use Rattle.ip_wire.specs.declared.repr.IpRepr.{IpRepr}
 use Rattle.ip_wire.specs.declared.repr.IpRepr.TheVariants as header
 use Rattle.ip_wire.specs.declared.repr.Ipv4Repr.{Ipv4Repr}
 use Rattle.ip_wire.specs.declared.repr.Ipv6Repr.{Ipv6Repr}
-use Rattle.control_wire.specs.Icmp.{Message, message_len, message_v4, message_v6, icmpv4_parsed, icmpv6_parsed}
-use Rattle.net_base.specs.Packets.{packets_with}
+use Rattle.control_wire.specs.Icmp.{Message, message_v4, message_v6, icmpv4_parsed, icmpv6_parsed}
+use Rattle.net_base.specs.Packets.{Dequeues, skipped}
 use Rattle.segment_wire.specs.Packet.{Carried, carried}
 use Rattle.sock_core.specs.Facts.{Facts}
-use Rattle.sock_dgram.specs.Icmp.{View, fresh, is_specified}
-use Rattle.sock_dgram.specs.IcmpDispatch.{AnyMessage, OverIpv4, OverIpv6, Outgoing, to_remote}
-use Rattle.sock_dgram.specs.IcmpFilter.{Accepts, ends_v4, ends_v6, octets_v4, octets_v6}
-use Rattle.sock_dgram.specs.UdpDispatch.{hops_of}
+use Rattle.sock_dgram.specs.Icmp.{View, waiting}
+use Rattle.sock_dgram.specs.IcmpDispatch.{AnyMessage, Counts, OverIpv4, OverIpv6, Outgoing, outgoing}
+use Rattle.sock_dgram.specs.IcmpFilter.{Accepts, ends_v4, ends_v6, octets_v4, octets_v6, queued_v4, queued_v6}
+use Rattle.sock_dgram.specs.declared.error.RecvError.{RecvError}
 use Rattle.sock_dgram.specs.declared.icmp.endpoint.Endpoint.{Endpoint}
 use Rattle.sock_dgram.specs.declared.icmp.endpoint.Endpoint.TheVariants as endpoint
-use Rattle.smoltcp_c.specs.Answers.{error_address, error_message, error_room}
-use Rattle.smoltcp_c.specs.Numbers.{address_in, address_told, byte_or_none, listen_in}
-use Rattle.smoltcp_c.specs.Queue.{first_of, put_answer, put_behind, queued}
+use Rattle.smoltcp_c.specs.Answers.{not_accepted}
+use Rattle.smoltcp_c.specs.Numbers.{address_told, listen_in}
+use Rattle.smoltcp_c.specs.Sends.{Puts, SendsInto, has_room}
 use Rattle.smoltcp_c.specs.Wire.{packet_len}
 use Rattle.smoltcp_c.specs.declared.endpoints.Address.{Address}
 use Rattle.smoltcp_c.specs.declared.icmp.IcmpEndpoint.{IcmpEndpoint}
-use Rattle.smoltcp_c.specs.declared.icmp.IcmpSocket.{IcmpSocket}
-use Rattle.smoltcp_c.specs.declared.queue.Queue.{Queue}
+use Rattle.smoltcp_c.specs.declared.icmp_handle.IcmpHandle.{IcmpHandle}
 use Rattle.smoltcp_c.specs.declared.message.Packet.{Packet}
 use Rattle.smoltcp_c.specs.declared.message.Packet.TheVariants as packet
+use Rattle.smoltcp_c.specs.declared.wire.Full.{Full}
+use Rattle.smoltcp_c.specs.declared.wire.Wire.{Wire}
 
 -- which messages: none, echoes with the identifier, errors about what was sent by TCP, or by UDP
 abbrev pub icmp_endpoint_in : IcmpEndpoint → Endpoint
@@ -38,25 +39,14 @@ icmp_endpoint_in n =
     else if n.kind == 2 then endpoint.Tcp (listen_in n.endpoint)
     else endpoint.Udp (listen_in n.endpoint)
 
--- what a socket cannot be bound to counts as none
-abbrev pub bound_in : Endpoint → Endpoint
-bound_in e = if is_specified e then e else endpoint.Unspecified
+-- the same handle, at the same place, with another socket
+abbrev pub with_socket : IcmpHandle → View → IcmpHandle
+with_socket h v = record h { socket = v }
 
--- a socket with no places in its queues
-abbrev pub closed_socket : View
-closed_socket = fresh (packets_with [] 0 [] 0) (packets_with [] 0 [] 0)
-
--- the socket but for its queues
-abbrev pub icmp_in : IcmpSocket → View
-icmp_in s =
-    record closed_socket {
-      endpoint = bound_in (icmp_endpoint_in s.bound);
-      hop_limit = byte_or_none s.hop_limit;
-    }
-
--- a buffer is longer than a queue can have
-abbrev pub is_long : IcmpSocket → Bool
-is_long s = nat_lt (2 ^ 30) (length s.rx.bytes.now) || nat_lt (2 ^ 30) (length s.tx.bytes.now)
+-- of what a call that copies a message answers, in place of what stood there
+abbrev pub address_written : Result (ℕ × IpAddress) RecvError → Address → Address
+address_written (Ok r) a = address_told r.1
+address_written (Err e) a = a
 
 -- ---- a packet that comes
 
@@ -109,44 +99,18 @@ AcceptsIf v f (Some p) = AcceptsIcmp v f p
 abbrev pub IsFor : View → Facts → List ℕ → Type 0
 IsFor v f packet = AcceptsIf v f (carried_message packet)
 
--- ---- recv
+-- the socket with the message behind its receive queue, where it finds room
+abbrev pub queued_of : IcmpPacket → View → View
+queued_of (V4 h m) v = record v { rx_buffer = queued_v4 h m v.rx_buffer }
+queued_of (V6 h m) v = record v { rx_buffer = queued_v6 h m v.rx_buffer }
 
-abbrev pub message_of : Option (List ℕ) → Option IcmpPacket
-message_of None = None
-message_of (Some packet) = carried_message packet
+-- a message that is not for the socket changes nothing
+pub record Hears (v : View) (f : Facts) (p : IcmpPacket) (result : ℤ) (w : View) : Type 0 where
+  pub foreign : (AcceptsIcmp v f p → ⊥) → (result ≡ not_accepted) × (w ≡ v)
+  pub answer : AcceptsIcmp v f p → result ≡ pos 0
+  pub socket : AcceptsIcmp v f p → w ≡ queued_of p v
 
--- the first message of what stands in a queue
-unfoldable pub first_message : List ℕ → Option IcmpPacket
-first_message bs = message_of (first_of bs)
-
--- the call answered an error, and nothing changed
-abbrev pub Untaken : ℤ → IcmpSocket → Address → List ℕ → ℤ → IcmpSocket → Address → List ℕ → Type 0
-Untaken error s remote bs result s' remote' bs' =
-    (result ≡ error) × (s' ≡ s) × (remote' ≡ remote) × (bs' ≡ bs)
-
--- what is given out of it: its source, its octets with their checksum, and how many they are
-abbrev pub remote_of : IcmpPacket → IpAddress
-remote_of (V4 h m) = address.Ipv4 h.src_addr
-remote_of (V6 h m) = address.Ipv6 h.src_addr
-
-abbrev pub octets_of : IcmpPacket → List ℕ
-octets_of (V4 h m) = octets_v4 m
-octets_of (V6 h m) = octets_v6 h m
-
-abbrev pub count_of : IcmpPacket → ℕ
-count_of (V4 h m) = message_len 20 m
-count_of (V6 h m) = message_len 40 m
-
--- a message that does not fit the buffer is lost; else it stands at the buffer's beginning
-pub record GivesIcmp (p : IcmpPacket) (remote : Address) (bs : List ℕ) (result : ℤ) (remote' : Address)
-    (bs' : List ℕ) : Type 0 where
-  pub short : length bs < count_of p → (result ≡ error_room) × (remote' ≡ remote) × (bs' ≡ bs)
-  pub answer : count_of p ≤ length bs → result ≡ pos (count_of p)
-  pub source : count_of p ≤ length bs → address_in remote' ≡ remote_of p
-  pub told : count_of p ≤ length bs → remote' ≡ address_told (remote_of p)
-  pub bytes : count_of p ≤ length bs → bs' ≡ octets_of p ++ drop (count_of p) bs
-
--- ---- a message to send
+-- ---- dispatch
 
 -- a packet that carries a message, all checksums computed
 abbrev pub icmp_packet : IpRepr → AnyMessage → List ℕ
@@ -154,23 +118,29 @@ icmp_packet ip (OverIpv4 m) = header_octets true ip ++ octets_v4 m
 icmp_packet (header.Ipv6 h) (OverIpv6 m) = header_octets true (header.Ipv6 h) ++ octets_v6 h m
 icmp_packet (header.Ipv4 h) (OverIpv6 m) = []
 
--- its packet goes into the queue, where it finds room
-abbrev pub put_message_answer : Option Outgoing → Queue → ℤ
-put_message_answer None q = error_message
-put_message_answer (Some o) q = put_answer (packet_len o.ip) q
+abbrev pub sent_packet : Outgoing → List ℕ
+sent_packet o = icmp_packet o.ip o.message
 
-abbrev pub put_message_behind : Option Outgoing → Queue → List ℕ
-put_message_behind None q = queued q
-put_message_behind (Some o) q = put_behind (packet_len o.ip) (icmp_packet o.ip o.message) q
+abbrev pub sent_len : Outgoing → ℕ
+sent_len o = packet_len o.ip
 
--- what a message goes out as: what `send` lets into the queue, and `dispatch` takes from it
-abbrev pub outgoing_in : View → Facts → IpAddress → List ℕ → Option Outgoing
-outgoing_in v f remote bs = to_remote (hops_of v.hop_limit) f remote bs
+abbrev pub with_message : Outgoing → List ℕ → List ℕ
+with_message o out = sent_packet o ++ drop (sent_len o) out
 
-abbrev pub sent_answer : View → Facts → IpAddress → List ℕ → Queue → ℤ
-sent_answer v f remote bs q =
-    if is_unspecified remote then error_address else put_message_answer (outgoing_in v f remote bs) q
+-- the header counts the message, and both fit a packet
+pub record CountsMessage (ip : IpRepr) (m : AnyMessage) : Type 0 where
+  pub counted : Counts ip m
+  pub total : packet_len ip ≤ 65535
 
-abbrev pub sent_behind : View → Facts → IpAddress → List ℕ → Queue → List ℕ
-sent_behind v f remote bs q =
-    if is_unspecified remote then queued q else put_message_behind (outgoing_in v f remote bs) q
+abbrev pub WritesMessage : Outgoing → Wire → Result (Unit {0}) Full → Wire → Type 0
+WritesMessage o old result new =
+    Puts (CountsMessage o.ip o.message) (sent_len o) (sent_packet o) old result new
+
+-- the first message's packet is written where it has a source, is well formed and fits. It leaves the queue, but for
+-- where the packet does not fit: it stays first then
+pub record DispatchesInto (v : View) (f : Facts) (out : List ℕ) (result : ℤ) (w : View) (out' : List ℕ) : Type 0 where
+  pub sends : SendsInto sent_len sent_packet (outgoing v f) out result out'
+  pub queue : waiting w ≡ cond (has_room sent_len sent_packet (outgoing v f) out) (drop 1 (waiting v)) (waiting v)
+  pub sent : has_room sent_len sent_packet (outgoing v f) out ≡ true → Dequeues v.tx_buffer w.tx_buffer
+  pub failed : has_room sent_len sent_packet (outgoing v f) out ≡ false → w.tx_buffer ≡ skipped v.tx_buffer
+  pub same : w ≡ record v { tx_buffer = w.tx_buffer }

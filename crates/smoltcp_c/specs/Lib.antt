@@ -6,7 +6,6 @@ pub mod Numbers
 pub mod Packets
 pub mod Places
 pub mod Ports
-pub mod Queue
 pub mod Raw
 pub mod Sends
 pub mod Streams

@@ -1,5 +1,6 @@
 -- What the numbers of C mean, and the numbers for what C is told.
-use Rattle.std.specs.Prelude.{ℕ, ℤ, nat_le, ◌^◌, true, pos, negsuc, ◌≡◌, ◌==◌, Bool, not, Option, Some, None, List, [], ◌∷◌, if◌then◌else◌}
+use Rattle.std.specs.Prelude.{ℕ, ℤ, nat_le, ◌^◌, true, pos, negsuc, ◌≡◌, ◌==◌, Bool, not, Option, Some, None, List, []}
+use Rattle.std.specs.Prelude.{◌∷◌, if◌then◌else◌}
 use Rattle.ip_wire.specs.declared.address.IpAddress.{IpAddress}
 use Rattle.ip_wire.specs.declared.address.IpAddress.TheVariants as address
 use Rattle.ip_wire.specs.declared.endpoint.IpEndpoint.{IpEndpoint}

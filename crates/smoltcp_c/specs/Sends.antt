@@ -1,5 +1,6 @@
 -- What a dispatch of a datagram socket writes into a buffer.
-use Rattle.std.specs.Prelude.{ℕ, ℤ, pos, ◌≡◌, ◌≤◌, ◌&&◌, nat_le, Bool, true, List, ◌++◌, length, drop, Option, Some, None, Result, Ok, Err, if◌then◌else◌}
+use Rattle.std.specs.Prelude.{ℕ, ℤ, pos, ◌≡◌, ◌≤◌, ◌&&◌, nat_le, Bool, true, List, ◌++◌, length, drop, Option, Some}
+use Rattle.std.specs.Prelude.{None, Result, Ok, Err, if◌then◌else◌}
 use Rattle.smoltcp_c.specs.Answers.{error_room}
 use Rattle.smoltcp_c.specs.declared.wire.Full.{Full}
 use Rattle.smoltcp_c.specs.declared.wire.Wire.{Wire}

@@ -1,5 +1,6 @@
 -- The bytes of a connection, lent where they lie.
-use Rattle.std.specs.Prelude.{ℕ, ℤ, pos, ◌≡◌, ◌≤◌, ◌<◌, ◌^◌, min, nat_le, List, [], length, Result, Ok, Err, true, false, if◌then◌else◌}
+use Rattle.std.specs.Prelude.{ℕ, ℤ, pos, ◌≡◌, ◌≤◌, ◌<◌, ◌^◌, min, nat_le, List, [], length, Result, Ok, Err, true}
+use Rattle.std.specs.Prelude.{false, if◌then◌else◌}
 use Rattle.std.specs.Borrow.{Bor}
 use Rattle.std.specs.Ptr.{as_ptr}
 use Rattle.sock_core.specs.Received.{first_piece}

@@ -1,5 +1,6 @@
 -- A UDP socket in the memory of C.
-use Rattle.std.specs.Prelude.{ℕ, ℤ, pos, ◌≡◌, ◌+◌, ◌≤◌, ◌==◌, nat_le, Bool, true, false, List, ◌++◌, length, drop, cond, Option, Some, None, Result, Ok, Err, if◌then◌else◌}
+use Rattle.std.specs.Prelude.{ℕ, ℤ, pos, ◌≡◌, ◌+◌, ◌≤◌, ◌==◌, nat_le, Bool, true, false, List, ◌++◌, length, drop, cond}
+use Rattle.std.specs.Prelude.{Option, Some, None, Result, Ok, Err, if◌then◌else◌}
 use Rattle.ip_wire.specs.Checksum.{all_checksums}
 use Rattle.ip_wire.specs.IpHeader.{next_header_of, payload_len_of}
 use Rattle.ip_wire.specs.declared.address.IpAddress.{IpAddress}

@@ -1,8 +1,9 @@
 //! The numbers that the calls answer.
 ghost use Rattle.std.specs.Prelude.{◌≡◌, ◌^◌, min, pos};
-ghost use Rattle.smoltcp_c.specs.Answers.{listen_answer, connect_answer, bind_answer, datagram_answer, refused_copy, send_answer, recv_answer, sent_answer, flag_answer, state_answer, UpTo30};
+ghost use Rattle.smoltcp_c.specs.Answers.{listen_answer, connect_answer, bind_answer, datagram_answer, refused_copy};
+ghost use Rattle.smoltcp_c.specs.Answers.{send_answer, recv_answer, sent_answer, flag_answer, state_answer, UpTo30};
 
-use crate::queue::LARGEST;
+use crate::memory::LARGEST;
 use crate::wire::{Full, LONGEST_PACKET};
 use sock_dgram::error::{BindError, RecvError as CopyError, SendError as DatagramError};
 use sock_tcp::{ConnectError, ListenError, RecvError, SendError, State};
@@ -19,9 +20,6 @@ pub const ERROR_ADDRESS: i64 = -2;
 /// The peer has closed, and all that it sent was read.
 pub const ERROR_FINISHED: i64 = -3;
 
-/// The struct was not made by these calls, or a buffer has another size than at its beginning.
-pub const ERROR_SOCKET: i64 = -4;
-
 /// The context's moment or its MTU is out of range.
 pub const ERROR_CONTEXT: i64 = -5;
 
@@ -30,9 +28,6 @@ pub const ERROR_ROOM: i64 = -6;
 
 /// A number is out of its range.
 pub const ERROR_RANGE: i64 = -9;
-
-/// An ICMP message is malformed.
-pub const ERROR_MESSAGE: i64 = -10;
 
 /// No packet waits.
 pub const ERROR_EMPTY: i64 = -11;

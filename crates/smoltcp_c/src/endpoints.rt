@@ -1,6 +1,7 @@
 //! Addresses and endpoints as numbers.
 ghost use Rattle.std.specs.Prelude.{◌≡◌, ◌==◌, false};
-ghost use Rattle.smoltcp_c.specs.Numbers.{address_in, address_or_none_told, address_told, endpoint_in, endpoint_told, listen_in, listen_told};
+ghost use Rattle.smoltcp_c.specs.Numbers.{address_in, address_or_none_told, address_told, endpoint_in, endpoint_told};
+ghost use Rattle.smoltcp_c.specs.Numbers.{listen_in, listen_told};
 
 use ip_wire::{IpAddress, IpEndpoint, IpListenEndpoint, Ipv4Address, Ipv6Address};
 

@@ -7,17 +7,20 @@ ghost use types.Logic.{sem};
 ghost use Rattle.smoltcp_c.specs.contracts.clock.Clock.{the_row as clock_row};
 ghost use Rattle.sock_tcp.specs.contracts.socket.Socket.{the_row as socket_row};
 ghost use Rattle.smoltcp_c.specs.contracts.tcp_handle.TcpHandle.{the_row as handle_row};
+ghost use Rattle.smoltcp_c.specs.contracts.icmp_handle.IcmpHandle.{the_row as icmp_handle_row};
 ghost use Rattle.smoltcp_c.specs.contracts.raw_handle.RawHandle.{the_row as raw_handle_row};
 ghost use Rattle.smoltcp_c.specs.contracts.udp_handle.UdpHandle.{the_row as udp_handle_row};
+ghost use Rattle.sock_dgram.specs.contracts.icmp.socket.Socket.{the_row as icmp_row};
 ghost use Rattle.sock_dgram.specs.contracts.raw.socket.Socket.{the_row as raw_row};
 ghost use Rattle.sock_dgram.specs.contracts.udp.socket.Socket.{the_row as udp_row};
 
 use crate::clock::Clock;
+use crate::icmp_handle::{IcmpHandle, IcmpPlaceRoom, IcmpPlaces, IcmpRoom};
 use crate::memory::{Bytes, Place};
 use crate::raw_handle::{RawHandle, RawPlaceRoom, RawPlaces, RawRoom};
 use crate::tcp_handle::{TcpHandle, TcpRoom};
 use crate::udp_handle::{UdpHandle, UdpPlaceRoom, UdpPlaces, UdpRoom};
-use sock_dgram::{raw, udp};
+use sock_dgram::{icmp, raw, udp};
 use sock_tcp::Socket;
 
 impl TcpHandle {
@@ -40,6 +43,52 @@ impl TcpRoom {
         unsafe {
             (self.at as *mut Socket<'static, Clock>).write(socket);
         }
+    }
+}
+
+impl IcmpHandle {
+    /// The socket: what is done to it is done to the handle's.
+    pub fn socket(&mut self) -> &mut icmp::Socket<'static>
+        ensures* writes_back { sem 𝓛 (follows icmp_handle_row (icmp_row static_lft) self.entry.ghost_name
+            result.ghost_name (λ w. record self.old { socket = w })) }
+        ensures value { result.now ≡ self.old.socket }
+    {
+        unsafe { &mut *(self.at as *mut icmp::Socket<'static>) }
+    }
+}
+
+impl IcmpRoom {
+    /// Puts the socket there.
+    pub fn fill(&mut self, socket: icmp::Socket<'static>)
+        requires empty { self.old.made ≡ None }
+        ensures made { self.new ≡ record self.old { made = Some socket.entry } }
+    {
+        unsafe {
+            (self.at as *mut icmp::Socket<'static>).write(socket);
+        }
+    }
+}
+
+impl IcmpPlaceRoom {
+    /// Puts the place there.
+    pub fn fill(&mut self, place: icmp::PacketMetadata)
+        requires empty { self.old.made ≡ None }
+        ensures made { self.new ≡ record self.old { made = Some place } }
+    {
+        unsafe {
+            (self.at as *mut icmp::PacketMetadata).write(place);
+        }
+    }
+}
+
+impl IcmpPlaces {
+    /// The places, for good.
+    pub fn lend(self) -> &'static mut [icmp::PacketMetadata]
+        requires short { self.len ≤ 2 ^ 30 }
+        ensures len { self.len ≡ length result.now }
+    {
+        let IcmpPlaces { at, len } = self;
+        unsafe { std::slice::from_raw_parts_mut(at as *mut icmp::PacketMetadata, len) }
     }
 }
 

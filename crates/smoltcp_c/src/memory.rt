@@ -3,6 +3,9 @@ ghost use Rattle.std.specs.Prelude.{ℕ, List};
 
 use std::marker::Model;
 
+/// The longest buffer, in bytes.
+pub const LARGEST: usize = 1 << 30;
+
 /// Bytes that nothing else uses from now on.
 #[repr(C)]
 pub struct Bytes {

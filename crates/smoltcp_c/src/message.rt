@@ -9,20 +9,17 @@ ghost use Rattle.smoltcp_c.specs.Context.{facts_in};
 ghost use Rattle.smoltcp_c.specs.Icmp.{
   AcceptsIcmp,
   carried_message,
-  count_of,
   icmp_behind,
   icmp_behind_v4,
   icmp_behind_v6,
   icmp_packet,
   icmp_packet_of,
-  octets_of,
-  remote_of,
 };
 ghost use Rattle.smoltcp_c.specs.Wire.{packet_len};
 
 use crate::context::Moment;
 use control_wire::{IcmpRepr, Icmpv4Repr, Icmpv6Repr};
-use ip_wire::{ChecksumCapabilities, IpAddress, IpRepr, Ipv4Repr, Ipv6Repr};
+use ip_wire::{ChecksumCapabilities, IpRepr, Ipv4Repr, Ipv6Repr};
 use segment_wire::packet::carried;
 use sock_dgram::icmp::Socket;
 
@@ -88,53 +85,10 @@ impl Packet<'_> {
             Packet::V6(ip, repr) => socket.accepts_v6(moment, ip, repr),
         }
     }
-
-    /// The address that it came from.
-    pub fn remote(&self) -> IpAddress
-        ensures { result ≡ remote_of (icmp_packet_of self.now) }
-    {
-        match self {
-            Packet::V4(ip, _) => IpAddress::Ipv4(ip.src_addr),
-            Packet::V6(ip, _) => IpAddress::Ipv6(ip.src_addr),
-        }
-    }
-
-    /// How many bytes the message has.
-    pub fn len(&self) -> usize
-        ensures { result ≡ count_of (icmp_packet_of self.now) }
-    {
-        match self {
-            Packet::V4(_, repr) => repr.buffer_len(),
-            Packet::V6(_, repr) => repr.buffer_len(),
-        }
-    }
-
-    /// Writes the message, with its checksum.
-    pub fn put(&self, out: &mut [u8])
-        requires { length out.old ≡ count_of (icmp_packet_of self.now) }
-        ensures { out.new ≡ octets_of (icmp_packet_of self.now) }
-    {
-        let caps = ChecksumCapabilities::default();
-        match self {
-            Packet::V4(_, repr) => repr.emit(out, &caps),
-            Packet::V6(ip, repr) => repr.emit(&ip.src_addr, &ip.dst_addr, out, &caps),
-        }
-    }
 }
 
-/// Writes a packet with the message from `at` on.
-pub fn write_at(ip: &IpRepr, repr: &IcmpRepr<'_>, whole: usize, bytes: &mut [u8], at: usize)
-    requires counted { Counts ip.now (any_message repr.now) }
-    requires whole { whole ≡ packet_len ip.now }
-    requires room { at + whole ≤ length bytes.old }
-    ensures kept { length bytes.new ≡ length bytes.old }
-    ensures written { bytes.new ≡ take at bytes.old
-        ++ (icmp_packet ip.now (any_message repr.now) ++ drop (at + whole) bytes.old) }
-{
-    write(ip, repr, &mut bytes[at..at + whole]);
-}
-
-fn write(ip: &IpRepr, repr: &IcmpRepr<'_>, out: &mut [u8])
+/// Writes a packet with the message.
+pub fn write(ip: &IpRepr, repr: &IcmpRepr<'_>, out: &mut [u8])
     requires counted { Counts ip.now (any_message repr.now) }
     requires room { length out.old ≡ packet_len ip.now }
     ensures { out.new ≡ icmp_packet ip.now (any_message repr.now) }

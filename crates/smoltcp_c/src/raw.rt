@@ -1,5 +1,6 @@
 //! The calls of a raw socket that take no context, and no packet but as bytes of the program.
-ghost use Rattle.std.specs.Prelude.{◌≡◌, ◌≤◌, ◌<◌, ◌^◌, [], pos, min, length, true, false, None, Option, Some, is_some, IfOk};
+ghost use Rattle.std.specs.Prelude.{◌≡◌, ◌≤◌, ◌<◌, ◌^◌, [], pos, min, length, true, false, None, Option, Some, is_some};
+ghost use Rattle.std.specs.Prelude.{IfOk};
 ghost use Rattle.ip_wire.specs.declared.protocol.IpVersion.{IpVersion};
 ghost use Rattle.net_base.specs.Packets.{Dequeues, first_packet, packets_with, skipped, taken};
 ghost use Rattle.sock_dgram.specs.Datagrams.{copied, copy_answer, has_entry, has_place, stored, with_metadata};
@@ -26,8 +27,8 @@ pub extern "C" fn smoltcp_raw_place_checked(room: &mut RawPlaceRoom) -> i64
     OK
 }
 
-/// Makes a socket in the room, for the packets of the filter. Each of its two queues has places for so many packets, and
-/// at most 2^30 bytes for them. The five pieces of memory are the socket's for good. 0, or `ERROR_RANGE` where the
+/// Makes a socket in the room, for the packets of the filter. Each of its two queues has places for so many packets,
+/// and at most 2^30 bytes for them. The five pieces of memory are the socket's for good. 0, or `ERROR_RANGE` where the
 /// filter's version is not 0, 4 or 6: then no socket is made.
 #[unsafe(no_mangle)]
 pub extern "C" fn smoltcp_raw_init_checked(
@@ -187,7 +188,8 @@ fn packet_answer(answer: Result<(), SendError>) -> i64
     }
 }
 
-/// Takes the first packet of the receive queue. Copies it to the beginning of `data`, and answers how many bytes it has.
+/// Takes the first packet of the receive queue. Copies it to the beginning of `data`, and answers how many bytes it
+/// has.
 ///
 /// `ERROR_EMPTY` where none waits, `ERROR_ROOM` where `data` is shorter than it: the packet is lost then. With both
 /// `data` is as it was.

@@ -8,7 +8,8 @@ ghost use Rattle.sock_tcp.specs.View.{IsShort, View};
 ghost use Rattle.sock_tcp.specs.declared.settings.CongestionControl.{CongestionControl};
 ghost use Rattle.smoltcp_c.specs.Answers.{error_range, flag_answer};
 ghost use Rattle.smoltcp_c.specs.Numbers.{byte_or_none, control_by, flag_in, is_short, lasting, micros_in};
-ghost use Rattle.smoltcp_c.specs.Tcp.{Refuses, Sets, byte_told, clock, clock_set, kind_told, micros_told, view, with_both, with_view};
+ghost use Rattle.smoltcp_c.specs.Tcp.{Refuses, Sets, byte_told, clock, clock_set, kind_told, micros_told, view};
+ghost use Rattle.smoltcp_c.specs.Tcp.{with_both, with_view};
 
 use crate::answers::{ERROR_RANGE, OK, flag_answer};
 use crate::clock::Clock;

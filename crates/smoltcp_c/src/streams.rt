@@ -8,8 +8,7 @@ ghost use Rattle.smoltcp_c.specs.Tcp.{Answers, view, with_view};
 use crate::answers::{ERROR_RANGE, recv_answer, send_answer};
 use crate::clock::Clock;
 use crate::lends::place;
-use crate::memory::Place;
-use crate::queue::LARGEST;
+use crate::memory::{LARGEST, Place};
 use crate::tcp_handle::TcpHandle;
 use sock_tcp::{RecvError, Socket};
 
@@ -79,8 +78,8 @@ fn tell_place(bytes: Result<&[u8], RecvError>, out: &mut Place) -> i64
     }
 }
 
-/// Drops so many bytes from the front of the receive queue, and answers how many. `ERROR_RANGE` where they are more than
-/// `peek` lends; refused as `recv`. Nothing changes then.
+/// Drops so many bytes from the front of the receive queue, and answers how many. `ERROR_RANGE` where they are more
+/// than `peek` lends; refused as `recv`. Nothing changes then.
 #[unsafe(no_mangle)]
 pub extern "C" fn smoltcp_tcp_consume_checked(h: &mut TcpHandle, count: usize) -> i64
     ensures table { Consumes (view h.old) count result (view h.new) }

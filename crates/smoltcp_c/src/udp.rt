@@ -2,7 +2,8 @@
 ghost use Rattle.std.specs.Prelude.{◌≡◌, ◌≤◌, ◌<◌, ◌^◌, [], pos, min, length, true, false, None, Some, is_some, IfOk};
 ghost use Rattle.net_base.specs.Packets.{Dequeues, first_packet, packets_with, skipped, taken};
 ghost use Rattle.sock_dgram.specs.Datagrams.{copied, copy_answer, has_entry, has_place};
-ghost use Rattle.sock_dgram.specs.Udp.{after_bind, after_send, bind_answer as answer_of, closed, fresh, is_open, send_answer};
+ghost use Rattle.sock_dgram.specs.Udp.{after_bind, after_send, bind_answer as answer_of, closed, fresh, is_open};
+ghost use Rattle.sock_dgram.specs.Udp.{send_answer};
 ghost use Rattle.smoltcp_c.specs.Answers.{bind_answer, copied_answer, datagram_answer, error_room, flag_answer};
 ghost use Rattle.smoltcp_c.specs.Numbers.{byte_or_none, listen_in, listen_told};
 ghost use Rattle.smoltcp_c.specs.Tcp.{byte_told};

@@ -55,8 +55,8 @@ fn is_for(socket: &Socket<'_>, moment: &Moment, packet: &[u8]) -> bool
     }
 }
 
-/// Takes an IP packet: the datagram that it carries comes behind the receive queue, or is dropped where the queue has no
-/// room for it. 0.
+/// Takes an IP packet: the datagram that it carries comes behind the receive queue, or is dropped where the queue has
+/// no room for it. 0.
 ///
 /// `NOT_ACCEPTED` where the packet is no whole UDP datagram or is not for this socket, `ERROR_CONTEXT`. Nothing changes
 /// then.

@@ -3,14 +3,17 @@ ghost use Rattle.std.specs.Prelude.{◌≡◌, ◌≤◌, ◌↔◌, IsTrue, len
 ghost use Rattle.ip_wire.specs.Checksum.{all_checksums};
 ghost use Rattle.ip_wire.specs.declared.checksum.Checksum.TheVariants.{Both};
 ghost use Rattle.control_wire.specs.Segment.{segment_of};
+ghost use Rattle.sock_dgram.specs.IcmpDispatch.{any_message, outgoing_of as message_of};
 ghost use Rattle.sock_dgram.specs.RawDispatch.{outgoing_of as raw_of};
 ghost use Rattle.sock_dgram.specs.UdpDispatch.{outgoing_of};
+ghost use Rattle.smoltcp_c.specs.Icmp.{CountsMessage, WritesMessage, with_message};
 ghost use Rattle.smoltcp_c.specs.Raw.{WritesRaw, raw_len, with_raw};
 ghost use Rattle.smoltcp_c.specs.Udp.{CountsDatagram, WritesDatagram, with_datagram};
 ghost use Rattle.smoltcp_c.specs.Wire.{IsCounted, Writes, packet_len, with_packet};
 
 use crate::context::Moment;
-use control_wire::{TcpRepr, UdpRepr};
+use crate::message::write;
+use control_wire::{IcmpRepr, TcpRepr, UdpRepr};
 use ip_wire::octets::put;
 use ip_wire::{ChecksumCapabilities, IpAddress, IpProtocol, IpRepr, Ipv4Address, Ipv6Address};
 use net_base::time::Instant;
@@ -83,6 +86,33 @@ fn put_raw(ip: &IpRepr, payload: &[u8], out: &mut [u8]) -> usize
     start + payload.len()
 }
 
+// Whether the header counts the message, which is of its version, and both fit a packet.
+fn counts_message(ip: &IpRepr, repr: &IcmpRepr<'_>) -> bool
+    ensures { IsTrue result ↔ CountsMessage ip.now (any_message repr.now) }
+{
+    match (ip, repr) {
+        (IpRepr::Ipv4(header), IcmpRepr::Ipv4(repr)) => {
+            header.payload_len == repr.buffer_len() && header.payload_len <= LONGEST_PACKET - 20
+        }
+        (IpRepr::Ipv6(header), IcmpRepr::Ipv6(repr)) => {
+            header.payload_len == repr.buffer_len() && header.payload_len <= LONGEST_PACKET - 40
+        }
+        _ => false,
+    }
+}
+
+// Writes the message as an IP packet at the beginning of `out`, and answers the packet's length.
+fn put_message(ip: &IpRepr, repr: &IcmpRepr<'_>, out: &mut [u8]) -> usize
+    requires counted { CountsMessage ip.now (any_message repr.now) }
+    requires room { packet_len ip.now ≤ length out.old }
+    ensures len { result ≡ packet_len ip.now }
+    ensures bytes { out.new ≡ with_message (message_of (ip.now, repr.now)) out.old }
+{
+    let whole = ip.header_len() + ip.payload_len();
+    write(ip, repr, &mut out[..whole]);
+    whole
+}
+
 /// The context of a call that writes one packet.
 #[derive(Drop)]
 pub struct Wire<'w> {
@@ -121,6 +151,17 @@ impl<'w> Wire<'w> {
             return Err(Full);
         }
         self.len = put_datagram(ip, repr, payload, self.out);
+        Ok(())
+    }
+
+    /// Writes the message as an IP packet at the beginning of `out`, where it fits.
+    pub fn write_message(&mut self, ip: &IpRepr, repr: &IcmpRepr<'_>) -> Result<(), Full>
+        ensures { WritesMessage (message_of (ip.now, repr.now)) self.old result self.new }
+    {
+        if !counts_message(ip, repr) || self.out.len() < ip.header_len() + ip.payload_len() {
+            return Err(Full);
+        }
+        self.len = put_message(ip, repr, self.out);
         Ok(())
     }
 

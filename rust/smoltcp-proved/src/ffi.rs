@@ -43,21 +43,17 @@ pub struct Place {
 }
 
 #[repr(C)]
-pub struct Queue {
-    pub bytes: *mut u8,
-    pub bytes_len: usize,
-    pub size: usize,
-    pub start: usize,
-    pub end: usize,
-}
-
-#[repr(C)]
 pub struct UdpHandle {
     pub at: *mut u8,
 }
 
 #[repr(C)]
 pub struct RawHandle {
+    pub at: *mut u8,
+}
+
+#[repr(C)]
+pub struct IcmpHandle {
     pub at: *mut u8,
 }
 
@@ -89,20 +85,10 @@ pub struct IcmpEndpoint {
     pub endpoint: Endpoint,
 }
 
-#[repr(C)]
-pub struct Icmp {
-    pub rx: Queue,
-    pub tx: Queue,
-    pub bound: IcmpEndpoint,
-    pub hop_limit: u8,
-}
-
 pub const OK: i64 = 0;
 pub const ERROR_STATE: i64 = -1;
 pub const ERROR_FINISHED: i64 = -3;
 pub const ERROR_ROOM: i64 = -6;
-
-pub const ERROR_MESSAGE: i64 = -10;
 
 /// The sizes of `struct smoltcp_tcp`, `struct smoltcp_udp`, `struct smoltcp_udp_place` and so on in bytes.
 pub const TCP_SIZE: usize = 512;
@@ -115,10 +101,14 @@ pub const RAW_SIZE: usize = 136;
 
 pub const RAW_PLACE_SIZE: usize = 16;
 
+pub const ICMP_SIZE: usize = 160;
+
+pub const ICMP_PLACE_SIZE: usize = 32;
+
 // The sizes that the header asserts.
 const _: () = {
-    assert!(size_of::<Endpoint>() == 24 && size_of::<Context>() == 40 && size_of::<Queue>() == 40);
-    assert!(size_of::<UdpMetadata>() == 46 && size_of::<Icmp>() == 112);
+    assert!(size_of::<Endpoint>() == 24 && size_of::<Context>() == 40);
+    assert!(size_of::<UdpMetadata>() == 46);
 };
 
 // A call of a socket that has no other argument.
@@ -137,6 +127,14 @@ calls_of_handle! {
 }
 
 calls_of_handle! {
+    IcmpHandle: smoltcp_icmp_place_checked smoltcp_icmp_is_open_checked smoltcp_icmp_can_send_checked
+    smoltcp_icmp_can_recv_checked smoltcp_icmp_packet_send_capacity_checked
+    smoltcp_icmp_packet_recv_capacity_checked smoltcp_icmp_payload_send_capacity_checked
+    smoltcp_icmp_payload_recv_capacity_checked smoltcp_icmp_send_queue_checked smoltcp_icmp_recv_queue_checked
+    smoltcp_icmp_hop_limit_checked
+}
+
+calls_of_handle! {
     UdpHandle: smoltcp_udp_place_checked smoltcp_udp_close_checked smoltcp_udp_is_open_checked
     smoltcp_udp_can_send_checked smoltcp_udp_can_recv_checked smoltcp_udp_packet_send_capacity_checked
     smoltcp_udp_packet_recv_capacity_checked smoltcp_udp_payload_send_capacity_checked
@@ -145,7 +143,8 @@ calls_of_handle! {
 }
 
 calls_of_handle! {
-    TcpHandle: smoltcp_tcp_close_checked smoltcp_tcp_abort_checked smoltcp_tcp_state_checked smoltcp_tcp_is_listening_checked
+    TcpHandle: smoltcp_tcp_close_checked smoltcp_tcp_abort_checked smoltcp_tcp_state_checked
+    smoltcp_tcp_is_listening_checked
     smoltcp_tcp_is_open_checked smoltcp_tcp_is_active_checked smoltcp_tcp_has_work_checked
     smoltcp_tcp_may_send_checked smoltcp_tcp_may_recv_checked smoltcp_tcp_can_send_checked
     smoltcp_tcp_can_recv_checked smoltcp_tcp_send_queue_checked smoltcp_tcp_recv_queue_checked
@@ -249,20 +248,41 @@ unsafe extern "C" {
     -> i64;
     pub fn smoltcp_raw_dispatch_checked(h: &mut RawHandle, cx: &Context, out: *mut u8, cap: usize) -> i64;
     pub fn smoltcp_raw_poll_at_checked(h: &mut RawHandle, cx: &Context, at: &mut i64) -> i64;
-    pub fn smoltcp_icmp_init_checked(s: &mut Icmp) -> i64;
-    pub fn smoltcp_icmp_bind_checked(s: &mut Icmp, endpoint: &IcmpEndpoint) -> i64;
-    pub fn smoltcp_icmp_close_checked(s: &mut Icmp) -> i64;
-    pub fn smoltcp_icmp_process_checked(s: &mut Icmp, cx: &Context, packet: *const u8, len: usize) -> i64;
-    pub fn smoltcp_icmp_recv_checked(s: &mut Icmp, remote: &mut Address, data: *mut u8, cap: usize) -> i64;
+    pub safe fn smoltcp_icmp_size() -> usize;
+    pub safe fn smoltcp_icmp_place_size() -> usize;
+    pub fn smoltcp_icmp_init_checked(
+        rx_places: Places,
+        rx: Bytes,
+        tx_places: Places,
+        tx: Bytes,
+        room: &mut IcmpHandle,
+    ) -> i64;
+    pub fn smoltcp_icmp_bind_checked(h: &mut IcmpHandle, endpoint: &IcmpEndpoint) -> i64;
+    pub fn smoltcp_icmp_set_hop_limit_checked(h: &mut IcmpHandle, hop_limit: u8) -> i64;
     pub fn smoltcp_icmp_send_checked(
-        s: &mut Icmp,
-        cx: &Context,
+        h: &mut IcmpHandle,
         remote: &Address,
         data: *const u8,
         len: usize,
     ) -> i64;
-    pub fn smoltcp_icmp_dispatch_checked(s: &mut Icmp, out: *mut u8, cap: usize) -> i64;
-    pub fn smoltcp_icmp_poll_at_checked(s: &Icmp, cx: &Context, at: &mut i64) -> i64;
-    pub fn smoltcp_icmp_can_recv_checked(s: &Icmp) -> i64;
-    pub fn smoltcp_icmp_can_send_checked(s: &Icmp) -> i64;
+    pub fn smoltcp_icmp_recv_checked(
+        h: &mut IcmpHandle,
+        remote: &mut Address,
+        data: *mut u8,
+        cap: usize,
+    ) -> i64;
+    pub fn smoltcp_icmp_accepts_checked(
+        h: &mut IcmpHandle,
+        cx: &Context,
+        packet: *const u8,
+        len: usize,
+    ) -> i64;
+    pub fn smoltcp_icmp_process_checked(
+        h: &mut IcmpHandle,
+        cx: &Context,
+        packet: *const u8,
+        len: usize,
+    ) -> i64;
+    pub fn smoltcp_icmp_dispatch_checked(h: &mut IcmpHandle, cx: &Context, out: *mut u8, cap: usize) -> i64;
+    pub fn smoltcp_icmp_poll_at_checked(h: &mut IcmpHandle, cx: &Context, at: &mut i64) -> i64;
 }

@@ -1,6 +1,7 @@
-//! ICMP sockets (RFC 792, RFC 4443), over two queues of whole IP packets.
-use crate::calls::Icmp;
-use crate::numbers::{address_in, address_of, count_in, hop_limit_in, hop_limit_of, listen_in, listen_of};
+//! ICMP sockets (RFC 792, RFC 4443). Each call of a [`Socket`] is one call of the library, which is proved. smoltcp's
+//! names and texts.
+use crate::calls::{self, Icmp};
+use crate::numbers::{address_in, address_of, count_in, hop_limit_in, hop_limit_of, listen_of};
 use crate::tcp::poll_in;
 use crate::wire::{IpAddress, IpListenEndpoint};
 use crate::{Context, NotAccepted, PollAt, TooShort, ffi};
@@ -46,45 +47,13 @@ impl fmt::Display for RecvError {
 
 impl core::error::Error for RecvError {}
 
-/// An error of `process`. Nothing has changed.
-#[derive(Debug, PartialEq, Eq, Clone, Copy)]
-pub enum ProcessError {
-    /// The packet is not for this socket, or not whole: offer it to another one.
-    NotAccepted,
-    /// It is for this socket, and finds no room: it is dropped.
-    BufferFull,
-}
-
-impl ProcessError {
-    pub(crate) fn told(answer: i64) -> Result<(), ProcessError> {
-        match answer {
-            ffi::OK => Ok(()),
-            ffi::ERROR_ROOM => Err(ProcessError::BufferFull),
-            _ => Err(ProcessError::NotAccepted),
-        }
-    }
-}
-
-impl fmt::Display for ProcessError {
-    fn fmt(&self, f: &mut fmt::Formatter<'_>) -> fmt::Result {
-        match self {
-            ProcessError::NotAccepted => NotAccepted.fmt(f),
-            ProcessError::BufferFull => f.write_str("buffer full"),
-        }
-    }
-}
-
-impl core::error::Error for ProcessError {}
-
 /// An error of [`Socket::send_slice`].
 #[derive(Debug, PartialEq, Eq, Clone, Copy)]
 pub enum SendError {
     /// The address is unspecified.
     Unaddressable,
-    /// The packet finds no room in the queue, or has more than 65535 bytes.
+    /// The message finds no room in the queue, or has more than 65495 bytes.
     BufferFull,
-    /// The bytes are no echo and no error of the address's version. (smoltcp drops them in its dispatch.)
-    Malformed,
 }
 
 impl fmt::Display for SendError {
@@ -92,7 +61,6 @@ impl fmt::Display for SendError {
         f.write_str(match self {
             SendError::Unaddressable => "unaddressable",
             SendError::BufferFull => "buffer full",
-            SendError::Malformed => "malformed",
         })
     }
 }
@@ -135,30 +103,51 @@ fn endpoint_of(endpoint: Endpoint) -> ffi::IcmpEndpoint {
     ffi::IcmpEndpoint { kind, ident, endpoint: listen_of(at) }
 }
 
-fn endpoint_in(endpoint: &ffi::IcmpEndpoint) -> Endpoint {
-    match endpoint.kind {
-        0 => Endpoint::Unspecified,
-        1 => Endpoint::Ident(endpoint.ident),
-        2 => Endpoint::Tcp(listen_in(&endpoint.endpoint)),
-        _ => Endpoint::Udp(listen_in(&endpoint.endpoint)),
+/// Memory for one socket at a time. It is free again where its socket ends.
+pub struct Memory(calls::IcmpMemory);
+
+impl Memory {
+    /// Memory without a socket.
+    pub const fn new() -> Memory {
+        Memory(calls::IcmpMemory::new())
     }
 }
 
-/// An ICMP socket over two borrowed buffers. A packet takes its length, headers included, and two bytes more.
+impl Default for Memory {
+    fn default() -> Memory {
+        Memory::new()
+    }
+}
+
+/// A place of a queue: a message takes one.
+pub use crate::calls::IcmpPlace as PacketMetadata;
+
+/// A queue of messages over borrowed places and bytes.
+pub struct PacketBuffer<'a>(calls::IcmpBuffer<'a>);
+
+impl<'a> PacketBuffer<'a> {
+    /// An empty queue.
+    ///
+    /// # Panics
+    /// Where there are more than 2^30 places or bytes.
+    pub fn new(places: &'a mut [PacketMetadata], bytes: &'a mut [u8]) -> PacketBuffer<'a> {
+        PacketBuffer(calls::IcmpBuffer::new(places, bytes))
+    }
+}
+
+/// An ICMP socket in borrowed memory, over two borrowed queues. The value may be moved: it is a reference to the
+/// socket.
 pub struct Socket<'a>(Icmp<'a>);
 
 impl<'a> Socket<'a> {
-    /// Makes a closed socket. (smoltcp's buffers are of packets and of bytes.)
-    ///
-    /// # Panics
-    /// Where a buffer has more than 2^30 bytes.
-    pub fn new(rx_buffer: &'a mut [u8], tx_buffer: &'a mut [u8]) -> Socket<'a> {
-        Socket(Icmp::new(rx_buffer, tx_buffer))
+    /// Makes a socket that is not open. (smoltcp has two buffers, and no memory.)
+    pub fn new(memory: &'a mut Memory, rx: PacketBuffer<'a>, tx: PacketBuffer<'a>) -> Socket<'a> {
+        Socket(Icmp::new(&mut memory.0, rx.0, tx.0))
     }
 
     /// The hop limit of what is sent; none for 64.
     pub fn hop_limit(&self) -> Option<u8> {
-        hop_limit_in(self.0.hop_limit())
+        hop_limit_in(count_in(self.0.hop_limit()) as u8)
     }
 
     /// Sets the hop limit of what is sent from now on.
@@ -169,7 +158,7 @@ impl<'a> Socket<'a> {
         self.0.set_hop_limit(hop_limit_of(hop_limit));
     }
 
-    /// Opens the socket for these messages.
+    /// Opens the socket for these messages. It stays open, as in smoltcp.
     pub fn bind<T: Into<Endpoint>>(&mut self, endpoint: T) -> Result<(), BindError> {
         match self.0.bind(&endpoint_of(endpoint.into())) {
             ffi::OK => Ok(()),
@@ -178,33 +167,57 @@ impl<'a> Socket<'a> {
         }
     }
 
-    /// Binds it to nothing, and empties both queues. (Not in smoltcp.)
-    pub fn close(&mut self) {
-        self.0.close();
-    }
-
     /// Whether it is bound.
     pub fn is_open(&self) -> bool {
-        endpoint_in(self.0.bound()).is_specified()
+        self.0.is_open() == 1
     }
 
-    /// Whether a message of 8 bytes over IPv6 would find room.
+    /// Whether the transmit queue has a free place.
     pub fn can_send(&self) -> bool {
         self.0.can_send() == 1
     }
 
-    /// Whether a message waits.
+    /// Whether a place of the receive queue is taken.
     pub fn can_recv(&self) -> bool {
         self.0.can_recv() == 1
     }
 
-    /// Sends an ICMP message, its checksum computed, as an IP packet with the source and the hop limit of this call.
-    /// (smoltcp takes no context here.) The socket need not be open.
-    pub fn send_slice(&mut self, cx: &Context, data: &[u8], endpoint: IpAddress) -> Result<(), SendError> {
-        match self.0.send(&cx.raw, &address_of(Some(endpoint)), data) {
+    /// How many messages the transmit queue has places for.
+    pub fn packet_send_capacity(&self) -> usize {
+        count_in(self.0.packet_send_capacity())
+    }
+
+    /// How many messages the receive queue has places for.
+    pub fn packet_recv_capacity(&self) -> usize {
+        count_in(self.0.packet_recv_capacity())
+    }
+
+    /// How many bytes of messages the transmit queue holds.
+    pub fn payload_send_capacity(&self) -> usize {
+        count_in(self.0.payload_send_capacity())
+    }
+
+    /// How many bytes of messages the receive queue holds.
+    pub fn payload_recv_capacity(&self) -> usize {
+        count_in(self.0.payload_recv_capacity())
+    }
+
+    /// How many bytes of the transmit queue are taken, padding included.
+    pub fn send_queue(&self) -> usize {
+        count_in(self.0.send_queue())
+    }
+
+    /// How many bytes of the receive queue are taken, padding included.
+    pub fn recv_queue(&self) -> usize {
+        count_in(self.0.recv_queue())
+    }
+
+    /// Puts an ICMP message into the transmit queue; `dispatch` computes its checksum. Where the bytes are no echo and
+    /// no error of the address's version, `dispatch` drops them, as in smoltcp. The socket need not be open.
+    pub fn send_slice(&mut self, data: &[u8], endpoint: IpAddress) -> Result<(), SendError> {
+        match self.0.send(&address_of(Some(endpoint)), data) {
             ffi::OK => Ok(()),
             ffi::ERROR_ROOM => Err(SendError::BufferFull),
-            ffi::ERROR_MESSAGE => Err(SendError::Malformed),
             _ => Err(SendError::Unaddressable),
         }
     }
@@ -220,15 +233,24 @@ impl<'a> Socket<'a> {
         }
     }
 
-    /// Takes an IP packet, where it carries a message for the socket.
-    pub fn process(&mut self, cx: &Context, packet: &[u8]) -> Result<(), ProcessError> {
-        ProcessError::told(self.0.process(&cx.raw, packet))
+    /// Whether `process` takes an IP packet.
+    pub fn accepts(&self, cx: &Context, packet: &[u8]) -> bool {
+        self.0.accepts(&cx.raw, packet) == 1
     }
 
-    /// Writes the first packet that was sent to the beginning of `out`, and answers its length, if there is one. Where
-    /// it finds no room, it stays the first.
-    pub fn dispatch(&mut self, out: &mut [u8]) -> Result<Option<usize>, TooShort> {
-        match self.0.dispatch(out) {
+    /// Takes an IP packet, where it carries a message for the socket: that is dropped where it finds no room, as in
+    /// smoltcp.
+    pub fn process(&mut self, cx: &Context, packet: &[u8]) -> Result<(), NotAccepted> {
+        match self.0.process(&cx.raw, packet) {
+            ffi::OK => Ok(()),
+            _ => Err(NotAccepted),
+        }
+    }
+
+    /// Writes the packet of the first message that was sent to the beginning of `out`, and answers its length, if
+    /// there is one. Where it finds no room, it stays the first.
+    pub fn dispatch(&mut self, cx: &Context, out: &mut [u8]) -> Result<Option<usize>, TooShort> {
+        match self.0.dispatch(&cx.raw, out) {
             ffi::ERROR_ROOM => Err(TooShort),
             len if len > 0 => Ok(Some(count_in(len))),
             _ => Ok(None),
@@ -245,6 +267,6 @@ impl<'a> Socket<'a> {
 
 impl fmt::Debug for Socket<'_> {
     fn fmt(&self, f: &mut fmt::Formatter<'_>) -> fmt::Result {
-        f.debug_struct("Socket").field("bound", &endpoint_in(self.0.bound())).finish_non_exhaustive()
+        f.debug_struct("Socket").field("is_open", &self.is_open()).finish_non_exhaustive()
     }
 }

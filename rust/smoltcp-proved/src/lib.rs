@@ -1,6 +1,6 @@
-//! TCP, UDP, ICMP and raw sockets with smoltcp's names, over `libsmoltcp_c.a`: a library of sockets each call of which is
-//! proved against its contract. This crate is not proved itself: it declares the library's calls, hands them what they
-//! ask for, and lets the borrow checker keep what their contracts ask of a caller.
+//! TCP, UDP, ICMP and raw sockets with smoltcp's names, over `libsmoltcp_c.a`: a library of sockets each call of which
+//! is proved against its contract. This crate is not proved itself: it declares the library's calls, hands them what
+//! they ask for, and lets the borrow checker keep what their contracts ask of a caller.
 //!
 //! A socket borrows its memory and its two buffers, takes IP packets as bytes by `process`, and emits them by
 //! `dispatch`. There is no interface layer, no heap, no clock: the program that calls has them.

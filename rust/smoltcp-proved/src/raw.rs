@@ -1,5 +1,5 @@
-//! Raw sockets: whole IP packets, headers included, go in and out. Each call of a [`Socket`] is one call of the library,
-//! which is proved. smoltcp's names.
+//! Raw sockets: whole IP packets, headers included, go in and out. Each call of a [`Socket`] is one call of the
+//! library, which is proved. smoltcp's names.
 use crate::calls::{self, Raw};
 use crate::numbers::count_in;
 use crate::tcp::poll_in;

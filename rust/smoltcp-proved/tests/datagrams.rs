@@ -1,7 +1,6 @@
 //! Worked examples of UDP and ICMP that bytes can show.
 mod common;
 use common::*;
-use smoltcp_proved::icmp::ProcessError;
 use smoltcp_proved::udp::{BindError, RecvError, UdpMetadata};
 use smoltcp_proved::wire::{IpAddress, IpEndpoint, IpVersion};
 use smoltcp_proved::{NotAccepted, PollAt, TooShort, icmp, raw, tcp, udp};
@@ -108,28 +107,62 @@ fn raw_packets() {
     assert_eq!(socket.poll_at(&cx), PollAt::Ingress);
 }
 
+/// Memory for an ICMP socket with two places and 200 bytes each way.
+struct IcmpRoom {
+    memory: icmp::Memory,
+    places: [[icmp::PacketMetadata; 2]; 2],
+    bytes: [[u8; 200]; 2],
+}
+
+impl IcmpRoom {
+    fn new() -> IcmpRoom {
+        let places = [[icmp::PacketMetadata::EMPTY; 2]; 2];
+        IcmpRoom { memory: icmp::Memory::new(), places, bytes: [[0; 200]; 2] }
+    }
+
+    fn socket(&mut self) -> icmp::Socket<'_> {
+        let ([rx_places, tx_places], [rx, tx]) = (&mut self.places, &mut self.bytes);
+        let (rx, tx) = (icmp::PacketBuffer::new(rx_places, rx), icmp::PacketBuffer::new(tx_places, tx));
+        icmp::Socket::new(&mut self.memory, rx, tx)
+    }
+}
+
 /// RFC 792: an echo request with identifier 7 and number 1, and its reply.
 #[test]
 fn icmp_echo() {
     let request = [8, 0, 0, 0, 0, 7, 0, 1, b'p', b'i', b'n', b'g'];
-    let (mut rx, mut tx, of_a) = ([0; 100], [0; 100], context(1, 0));
-    let mut pinger = icmp::Socket::new(&mut rx, &mut tx);
+    let (mut room, of_a) = (IcmpRoom::new(), context(1, 0));
+    let mut pinger = room.socket();
     assert_eq!(pinger.bind(icmp::Endpoint::Unspecified), Err(BindError::Unaddressable));
     pinger.bind(icmp::Endpoint::Ident(7)).expect("a closed socket opens");
-    assert_eq!(pinger.send_slice(&of_a, &request[..3], B), Err(icmp::SendError::Malformed));
-    pinger.send_slice(&of_a, &request, B).expect("room for a packet");
+    assert_eq!(pinger.bind(icmp::Endpoint::Ident(7)), Err(BindError::InvalidState));
+    assert_eq!((pinger.packet_recv_capacity(), pinger.payload_send_capacity()), (2, 200));
+    assert_eq!(pinger.send_slice(&request, IpAddress::v4(0, 0, 0, 0)), Err(icmp::SendError::Unaddressable));
+    assert_eq!(pinger.send_slice(&[0; 201], B), Err(icmp::SendError::BufferFull));
     let mut packet = [0; 100];
-    assert_eq!(pinger.dispatch(&mut packet), Ok(Some(32)));
+    assert_eq!(pinger.send_slice(&request[..3], B), Ok(())); // no message, so that dispatch drops it
+    assert_eq!(pinger.dispatch(&of_a, &mut packet), Ok(None));
+    assert_eq!(pinger.poll_at(&of_a), PollAt::Ingress);
+    pinger.send_slice(&request, B).expect("room for a message");
+    assert_eq!((pinger.poll_at(&of_a), pinger.send_queue()), (PollAt::Now, 12));
+    assert_eq!(pinger.dispatch(&of_a, &mut packet[..31]), Err(TooShort));
+    assert_eq!(pinger.dispatch(&of_a, &mut packet), Ok(Some(32)));
     assert_eq!((packet[9], packet[20], packet[32 - 4..32].as_ref()), (1, 8, &b"ping"[..]));
     // The reply is the request with the addresses exchanged and the kind 0: its checksum is 0x0800 more.
     packet[12..20].rotate_left(4);
     packet[20] = 0;
     let sum = u32::from(u16::from_be_bytes([packet[22], packet[23]])) + 0x0800;
     packet[22..24].copy_from_slice(&((sum & 0xffff) as u16 + (sum >> 16) as u16).to_be_bytes());
-    assert_eq!(pinger.process(&of_a, &packet[..32]), Ok(()));
+    assert!(pinger.accepts(&of_a, &packet[..32]) && !pinger.accepts(&of_a, &packet[..31]));
+    for _ in 0..3 {
+        assert_eq!(pinger.process(&of_a, &packet[..32]), Ok(())); // the third finds no place, and is dropped
+    }
+    assert_eq!(pinger.recv_queue(), 2 * 12);
     let mut message = [0; 64];
-    assert_eq!(pinger.recv_slice(&mut message), Ok((12, B)));
-    assert_eq!((message[0], &message[4..12]), (0, &request[4..]));
+    for _ in 0..2 {
+        assert_eq!(pinger.recv_slice(&mut message), Ok((12, B)));
+        assert_eq!((message[0], &message[4..12]), (0, &request[4..]));
+    }
     assert_eq!(pinger.recv_slice(&mut message), Err(icmp::RecvError::Exhausted));
 }
 
@@ -144,31 +177,32 @@ fn icmp_errors() {
     let of_tcp = host.emit().expect("a SYN");
     let sources = [icmp::Endpoint::Udp(49152.into()), icmp::Endpoint::Tcp(49152.into())];
     for (n, quoted) in [&of_udp, &of_tcp].into_iter().enumerate() {
-        let (mut rx, mut tx, of_b) = ([0; 200], [0; 200], context(2, 0));
-        let mut router = icmp::Socket::new(&mut rx, &mut tx);
+        let (mut room, of_b) = (IcmpRoom::new(), context(2, 0));
+        let mut router = room.socket();
         let message = [&[3, 3, 0, 0, 0, 0, 0, 0], &quoted[..]].concat();
         router.set_hop_limit(Some(9));
-        router.send_slice(&of_b, &message, A).expect("room for a packet");
+        router.send_slice(&message, A).expect("room for a message");
         let (mut packet, len) = ([0; 100], message.len());
-        assert_eq!(router.dispatch(&mut packet), Ok(Some(20 + len)));
+        assert_eq!((router.dispatch(&of_b, &mut packet), router.hop_limit()), (Ok(Some(20 + len)), Some(9)));
         assert_eq!((packet[8], &packet[28..20 + len]), (9, &quoted[..]));
         for (k, source) in sources.into_iter().enumerate() {
-            let (mut rx, mut tx) = ([0; 200], [0; 200]);
-            let mut socket = icmp::Socket::new(&mut rx, &mut tx);
+            let mut room = IcmpRoom::new();
+            let mut socket = room.socket();
+            assert!(!socket.is_open());
             socket.bind(source).expect("a closed socket opens");
             assert!(socket.is_open());
             if k != n {
-                assert_eq!(socket.process(&host.cx, &packet[..20 + len]), Err(ProcessError::NotAccepted));
+                assert_eq!(socket.process(&host.cx, &packet[..20 + len]), Err(NotAccepted));
                 continue;
             }
             assert_eq!(socket.process(&host.cx, &packet[..20 + len]), Ok(()));
             assert_eq!(socket.process(&host.cx, &packet[..20 + len]), Ok(()));
             let mut bytes = [0; 100];
             assert_eq!(socket.recv_slice(&mut bytes[..len - 1]), Err(icmp::RecvError::Truncated));
+            assert!(socket.can_recv());
             assert_eq!(socket.recv_slice(&mut bytes), Ok((len, B)));
             assert_eq!((&bytes[..2], &bytes[8..len]), (&message[..2], &message[8..]));
-            socket.close();
-            assert_eq!((socket.is_open(), socket.can_recv()), (false, false));
+            assert!(!socket.can_recv() && socket.can_send());
         }
     }
 }

@@ -1,5 +1,5 @@
 use Rattle.smoltcp_c.proofs.Told.{icmp_none, icmp_some}
-use Rattle.smoltcp_c.proofs.icmp.is_for.Goals as goal
+use Rattle.smoltcp_c.proofs.icmp_packets.is_for.Goals as goal
 
 pub returns-in-None : goal.returns-in-None
 returns-in-None c = icmp_none c.args.socket.now _ _ c.in-None.ensures

@@ -1,0 +1,325 @@
+//! The calls of UDP, raw and ICMP sockets. What they ask of a caller is cited as in `calls`.
+use crate::ffi;
+use core::marker::PhantomData;
+use core::mem::MaybeUninit;
+use core::ptr::NonNull;
+
+// Memory for a socket with two queues of packets, for a place of a queue, and for a whole queue.
+macro_rules! queue_memory {
+    ($memory:ident, $place:ident, $buffer:ident, $handle:ident, $size:ident, $place_size:ident, $make:ident) => {
+        /// Memory for a socket.
+        #[repr(C, align(8))]
+        pub struct $memory([MaybeUninit<u8>; ffi::$size]);
+
+        impl $memory {
+            pub const fn new() -> $memory {
+                $memory([MaybeUninit::uninit(); ffi::$size])
+            }
+        }
+
+        /// Memory for a place of a socket's queue: a packet takes one.
+        #[repr(C, align(8))]
+        #[derive(Clone, Copy)]
+        pub struct $place([MaybeUninit<u8>; ffi::$place_size]);
+
+        impl $place {
+            /// A place that nothing stands in.
+            pub const EMPTY: $place = $place([MaybeUninit::uninit(); ffi::$place_size]);
+        }
+
+        /// The memory of a queue.
+        pub struct $buffer<'a> {
+            places: &'a mut [$place],
+            bytes: &'a mut [u8],
+        }
+
+        impl<'a> $buffer<'a> {
+            /// At most 2^30 places, and as many bytes.
+            pub fn new(places: &'a mut [$place], bytes: &'a mut [u8]) -> $buffer<'a> {
+                assert!(places.len() <= crate::LONGEST_BUFFER, "more than 2^30 places");
+                assert!(bytes.len() <= crate::LONGEST_BUFFER, "more than 2^30 bytes");
+                $buffer { places, bytes }
+            }
+
+            /// What the library is handed of it: each place is made before.
+            fn lent(self) -> (ffi::Places, ffi::Bytes) {
+                for place in self.places.iter_mut() {
+                    let at = NonNull::from(place).cast().as_ptr();
+                    // SAFETY: the memory has the size and the alignment of a place, and is borrowed.
+                    unsafe { ffi::$make(&mut ffi::$handle { at }) };
+                }
+                let (places, bytes) = (self.places.as_mut_ptr().cast(), self.bytes.as_mut_ptr());
+                let places = ffi::Places { at: places, len: self.places.len() };
+                (places, ffi::Bytes { at: bytes, len: self.bytes.len() })
+            }
+        }
+    };
+}
+
+queue_memory!(UdpMemory, UdpPlace, UdpBuffer, UdpHandle, UDP_SIZE, UDP_PLACE_SIZE, smoltcp_udp_place_checked);
+
+queue_memory!(RawMemory, RawPlace, RawBuffer, RawHandle, RAW_SIZE, RAW_PLACE_SIZE, smoltcp_raw_place_checked);
+
+queue_memory!(
+    IcmpMemory,
+    IcmpPlace,
+    IcmpBuffer,
+    IcmpHandle,
+    ICMP_SIZE,
+    ICMP_PLACE_SIZE,
+    smoltcp_icmp_place_checked
+);
+
+/// A UDP socket in memory that is borrowed for `'a`, as are its buffers.
+pub struct Udp<'a> {
+    at: NonNull<u8>,
+    borrowed: PhantomData<&'a mut [u8]>,
+}
+
+// SAFETY: as for `Tcp`.
+unsafe impl Send for Udp<'_> {}
+
+impl<'a> Udp<'a> {
+    /// Makes a socket that is not open.
+    pub fn new(memory: &'a mut UdpMemory, rx: UdpBuffer<'a>, tx: UdpBuffer<'a>) -> Udp<'a> {
+        assert!(ffi::smoltcp_udp_size() <= size_of::<UdpMemory>(), "a library with larger sockets");
+        assert!(ffi::smoltcp_udp_place_size() == size_of::<UdpPlace>(), "a library with other places");
+        let made = Udp { at: NonNull::from(memory).cast(), borrowed: PhantomData };
+        let ((rx_places, rx), (tx_places, tx)) = (rx.lent(), tx.lent());
+        // SAFETY: C.md: buffers, bytes. The memory has the size and the alignment of `struct smoltcp_udp`, and holds no
+        // socket that is used: it is borrowed for 'a by this one alone. The lengths were tested, and `lent` made the
+        // places.
+        unsafe { ffi::smoltcp_udp_init_checked(rx_places, rx, tx_places, tx, &mut made.handle()) };
+        made
+    }
+
+    fn handle(&self) -> ffi::UdpHandle {
+        ffi::UdpHandle { at: self.at.as_ptr() }
+    }
+
+    asks! {
+        close => smoltcp_udp_close_checked;
+        is_open => smoltcp_udp_is_open_checked;
+        can_send => smoltcp_udp_can_send_checked;
+        can_recv => smoltcp_udp_can_recv_checked;
+        packet_send_capacity => smoltcp_udp_packet_send_capacity_checked;
+        packet_recv_capacity => smoltcp_udp_packet_recv_capacity_checked;
+        payload_send_capacity => smoltcp_udp_payload_send_capacity_checked;
+        payload_recv_capacity => smoltcp_udp_payload_recv_capacity_checked;
+        send_queue => smoltcp_udp_send_queue_checked;
+        recv_queue => smoltcp_udp_recv_queue_checked;
+        hop_limit => smoltcp_udp_hop_limit_checked;
+    }
+
+    sets! {
+        set_hop_limit(u8) => smoltcp_udp_set_hop_limit_checked;
+    }
+
+    tells! {
+        endpoint => smoltcp_udp_endpoint_checked;
+    }
+
+    pub fn bind(&mut self, at: &ffi::Endpoint) -> i64 {
+        // SAFETY: C.md: socket, one call, buffers.
+        unsafe { ffi::smoltcp_udp_bind_checked(&mut self.handle(), at) }
+    }
+
+    pub fn send(&mut self, to: &ffi::UdpMetadata, data: &[u8]) -> i64 {
+        // SAFETY: C.md: socket, one call, buffers, bytes.
+        unsafe { ffi::smoltcp_udp_send_checked(&mut self.handle(), to, data.as_ptr(), data.len()) }
+    }
+
+    pub fn recv(&mut self, from: &mut ffi::UdpMetadata, data: &mut [u8]) -> i64 {
+        // SAFETY: C.md: socket, one call, buffers, bytes.
+        unsafe { ffi::smoltcp_udp_recv_checked(&mut self.handle(), from, data.as_mut_ptr(), data.len()) }
+    }
+
+    pub fn peek(&mut self, from: &mut ffi::UdpMetadata, data: &mut [u8]) -> i64 {
+        // SAFETY: C.md: socket, one call, buffers, bytes.
+        unsafe { ffi::smoltcp_udp_peek_checked(&mut self.handle(), from, data.as_mut_ptr(), data.len()) }
+    }
+
+    pub fn accepts(&self, cx: &ffi::Context, packet: &[u8]) -> i64 {
+        // SAFETY: C.md: socket, one call, buffers, bytes.
+        unsafe { ffi::smoltcp_udp_accepts_checked(&mut self.handle(), cx, packet.as_ptr(), packet.len()) }
+    }
+
+    pub fn process(&mut self, cx: &ffi::Context, packet: &[u8]) -> i64 {
+        // SAFETY: C.md: socket, one call, buffers, bytes.
+        unsafe { ffi::smoltcp_udp_process_checked(&mut self.handle(), cx, packet.as_ptr(), packet.len()) }
+    }
+
+    pub fn dispatch(&mut self, cx: &ffi::Context, out: &mut [u8]) -> i64 {
+        // SAFETY: C.md: socket, one call, buffers, bytes.
+        unsafe { ffi::smoltcp_udp_dispatch_checked(&mut self.handle(), cx, out.as_mut_ptr(), out.len()) }
+    }
+
+    pub fn poll_at(&self, cx: &ffi::Context, at: &mut i64) -> i64 {
+        // SAFETY: C.md: socket, one call, buffers.
+        unsafe { ffi::smoltcp_udp_poll_at_checked(&mut self.handle(), cx, at) }
+    }
+}
+
+/// A raw socket in memory that is borrowed for `'a`, as are its buffers.
+pub struct Raw<'a> {
+    at: NonNull<u8>,
+    borrowed: PhantomData<&'a mut [u8]>,
+}
+
+// SAFETY: as for `Tcp`.
+unsafe impl Send for Raw<'_> {}
+
+impl<'a> Raw<'a> {
+    /// Makes a socket for the packets of the filter, whose version is 0, 4 or 6.
+    pub fn new(
+        memory: &'a mut RawMemory,
+        filter: &ffi::RawFilter,
+        rx: RawBuffer<'a>,
+        tx: RawBuffer<'a>,
+    ) -> Raw<'a> {
+        assert!(ffi::smoltcp_raw_size() <= size_of::<RawMemory>(), "a library with larger sockets");
+        assert!(ffi::smoltcp_raw_place_size() == size_of::<RawPlace>(), "a library with other places");
+        let made = Raw { at: NonNull::from(memory).cast(), borrowed: PhantomData };
+        let ((rx_places, rx), (tx_places, tx)) = (rx.lent(), tx.lent());
+        // SAFETY: C.md: buffers, bytes. The memory has the size and the alignment of `struct smoltcp_raw`, and holds no
+        // socket that is used: it is borrowed for 'a by this one alone. The lengths were tested, and `lent` made the
+        // places.
+        let answer = unsafe {
+            ffi::smoltcp_raw_init_checked(rx_places, rx, tx_places, tx, filter, &mut made.handle())
+        };
+        assert!(answer == ffi::OK, "no version of IP");
+        made
+    }
+
+    fn handle(&self) -> ffi::RawHandle {
+        ffi::RawHandle { at: self.at.as_ptr() }
+    }
+
+    asks! {
+        ip_version => smoltcp_raw_ip_version_checked;
+        ip_protocol => smoltcp_raw_ip_protocol_checked;
+        can_send => smoltcp_raw_can_send_checked;
+        can_recv => smoltcp_raw_can_recv_checked;
+        packet_send_capacity => smoltcp_raw_packet_send_capacity_checked;
+        packet_recv_capacity => smoltcp_raw_packet_recv_capacity_checked;
+        payload_send_capacity => smoltcp_raw_payload_send_capacity_checked;
+        payload_recv_capacity => smoltcp_raw_payload_recv_capacity_checked;
+        send_queue => smoltcp_raw_send_queue_checked;
+        recv_queue => smoltcp_raw_recv_queue_checked;
+    }
+
+    pub fn send(&mut self, data: &[u8]) -> i64 {
+        // SAFETY: C.md: socket, one call, buffers, bytes.
+        unsafe { ffi::smoltcp_raw_send_checked(&mut self.handle(), data.as_ptr(), data.len()) }
+    }
+
+    pub fn recv(&mut self, data: &mut [u8]) -> i64 {
+        // SAFETY: C.md: socket, one call, buffers, bytes.
+        unsafe { ffi::smoltcp_raw_recv_checked(&mut self.handle(), data.as_mut_ptr(), data.len()) }
+    }
+
+    pub fn peek(&mut self, data: &mut [u8]) -> i64 {
+        // SAFETY: C.md: socket, one call, buffers, bytes.
+        unsafe { ffi::smoltcp_raw_peek_checked(&mut self.handle(), data.as_mut_ptr(), data.len()) }
+    }
+
+    pub fn accepts(&self, packet: &[u8]) -> i64 {
+        // SAFETY: C.md: socket, one call, buffers, bytes.
+        unsafe { ffi::smoltcp_raw_accepts_checked(&mut self.handle(), packet.as_ptr(), packet.len()) }
+    }
+
+    pub fn process(&mut self, cx: &ffi::Context, packet: &[u8]) -> i64 {
+        // SAFETY: C.md: socket, one call, buffers, bytes.
+        unsafe { ffi::smoltcp_raw_process_checked(&mut self.handle(), cx, packet.as_ptr(), packet.len()) }
+    }
+
+    pub fn dispatch(&mut self, cx: &ffi::Context, out: &mut [u8]) -> i64 {
+        // SAFETY: C.md: socket, one call, buffers, bytes.
+        unsafe { ffi::smoltcp_raw_dispatch_checked(&mut self.handle(), cx, out.as_mut_ptr(), out.len()) }
+    }
+
+    pub fn poll_at(&self, cx: &ffi::Context, at: &mut i64) -> i64 {
+        // SAFETY: C.md: socket, one call, buffers.
+        unsafe { ffi::smoltcp_raw_poll_at_checked(&mut self.handle(), cx, at) }
+    }
+}
+
+/// An ICMP socket in memory that is borrowed for `'a`, as are its buffers.
+pub struct Icmp<'a> {
+    at: NonNull<u8>,
+    borrowed: PhantomData<&'a mut [u8]>,
+}
+
+// SAFETY: as for `Tcp`.
+unsafe impl Send for Icmp<'_> {}
+
+impl<'a> Icmp<'a> {
+    /// Makes a socket that is not open.
+    pub fn new(memory: &'a mut IcmpMemory, rx: IcmpBuffer<'a>, tx: IcmpBuffer<'a>) -> Icmp<'a> {
+        assert!(ffi::smoltcp_icmp_size() <= size_of::<IcmpMemory>(), "a library with larger sockets");
+        assert!(ffi::smoltcp_icmp_place_size() == size_of::<IcmpPlace>(), "a library with other places");
+        let made = Icmp { at: NonNull::from(memory).cast(), borrowed: PhantomData };
+        let ((rx_places, rx), (tx_places, tx)) = (rx.lent(), tx.lent());
+        // SAFETY: C.md: buffers, bytes. The memory has the size and the alignment of `struct smoltcp_icmp`, and holds
+        // no socket that is used: it is borrowed for 'a by this one alone. The lengths were tested, and `lent` made the
+        // places.
+        unsafe { ffi::smoltcp_icmp_init_checked(rx_places, rx, tx_places, tx, &mut made.handle()) };
+        made
+    }
+
+    fn handle(&self) -> ffi::IcmpHandle {
+        ffi::IcmpHandle { at: self.at.as_ptr() }
+    }
+
+    asks! {
+        is_open => smoltcp_icmp_is_open_checked;
+        can_send => smoltcp_icmp_can_send_checked;
+        can_recv => smoltcp_icmp_can_recv_checked;
+        packet_send_capacity => smoltcp_icmp_packet_send_capacity_checked;
+        packet_recv_capacity => smoltcp_icmp_packet_recv_capacity_checked;
+        payload_send_capacity => smoltcp_icmp_payload_send_capacity_checked;
+        payload_recv_capacity => smoltcp_icmp_payload_recv_capacity_checked;
+        send_queue => smoltcp_icmp_send_queue_checked;
+        recv_queue => smoltcp_icmp_recv_queue_checked;
+        hop_limit => smoltcp_icmp_hop_limit_checked;
+    }
+
+    sets! {
+        set_hop_limit(u8) => smoltcp_icmp_set_hop_limit_checked;
+    }
+
+    pub fn bind(&mut self, at: &ffi::IcmpEndpoint) -> i64 {
+        // SAFETY: C.md: socket, one call, buffers.
+        unsafe { ffi::smoltcp_icmp_bind_checked(&mut self.handle(), at) }
+    }
+
+    pub fn send(&mut self, to: &ffi::Address, data: &[u8]) -> i64 {
+        // SAFETY: C.md: socket, one call, buffers, bytes.
+        unsafe { ffi::smoltcp_icmp_send_checked(&mut self.handle(), to, data.as_ptr(), data.len()) }
+    }
+
+    pub fn recv(&mut self, from: &mut ffi::Address, data: &mut [u8]) -> i64 {
+        // SAFETY: C.md: socket, one call, buffers, bytes.
+        unsafe { ffi::smoltcp_icmp_recv_checked(&mut self.handle(), from, data.as_mut_ptr(), data.len()) }
+    }
+
+    pub fn accepts(&self, cx: &ffi::Context, packet: &[u8]) -> i64 {
+        // SAFETY: C.md: socket, one call, buffers, bytes.
+        unsafe { ffi::smoltcp_icmp_accepts_checked(&mut self.handle(), cx, packet.as_ptr(), packet.len()) }
+    }
+
+    pub fn process(&mut self, cx: &ffi::Context, packet: &[u8]) -> i64 {
+        // SAFETY: C.md: socket, one call, buffers, bytes.
+        unsafe { ffi::smoltcp_icmp_process_checked(&mut self.handle(), cx, packet.as_ptr(), packet.len()) }
+    }
+
+    pub fn dispatch(&mut self, cx: &ffi::Context, out: &mut [u8]) -> i64 {
+        // SAFETY: C.md: socket, one call, buffers, bytes.
+        unsafe { ffi::smoltcp_icmp_dispatch_checked(&mut self.handle(), cx, out.as_mut_ptr(), out.len()) }
+    }
+
+    pub fn poll_at(&self, cx: &ffi::Context, at: &mut i64) -> i64 {
+        // SAFETY: C.md: socket, one call, buffers.
+        unsafe { ffi::smoltcp_icmp_poll_at_checked(&mut self.handle(), cx, at) }
+    }
+}
