@@ -135,7 +135,7 @@ module _ (y : View) (now : Instant) (a : Acked) where
   rests (timer.Close at) o win all = absurd o
 
   -- and so does one with nothing to send
-  rests_empty : (o : Option Instant) → length y.tx_buffer.bytes ≡ 0 → probe_set (timer_acked (timer.Idle o) y now a) y now a ≡ idle_from now y.keep_alive
+  pub rests_empty : (o : Option Instant) → length y.tx_buffer.bytes ≡ 0 → probe_set (timer_acked (timer.Idle o) y now a) y now a ≡ idle_from now y.keep_alive
   rests_empty o none = by (y.remote_win_len == 0)
     where
       no_probe : begins_probe (idle_from now y.keep_alive) y a ≡ false
@@ -201,9 +201,9 @@ pub record HeardAs (u : View) (k : TcpSeqNumber) (n win : ℕ) (x : View) : Type
   pub tx : x.tx_buffer ≡ shortened u.tx_buffer n
   pub window : x.remote_win_len ≡ win
 
-pub heard_as : (u : View) (now : Instant) (a : Acked) (s : Segment) (k : TcpSeqNumber) → s.ack_number ≡ Some k → IsSaid s.control → HeardAs u k a.len (s.window_len * 2 ^ scale_of u.remote_win_scale) (heard u now a s)
+pub heard_any : (u : View) (now : Instant) (a : Acked) (s : Segment) (k : TcpSeqNumber) → s.ack_number ≡ Some k → HeardAs u k a.len (window_of s.control s.window_len u.remote_win_scale) (heard u now a s)
 unfolding heard acknowledged window_taken released duplicate_counted ack_counted una_advanced timestamp_taken timer_set
-heard_as u now a s k number bit = subst (λ o. HeardAs u k a.len (s.window_len * 2 ^ scale_of u.remote_win_scale) (timer_set (timestamp_taken (acknowledged x o now a.len (length s.payload) changed) s.timestamp) now a)) (sym number) (either (is_duplicate x k (length s.payload) changed))
+heard_any u now a s k number = subst (λ o. HeardAs u k a.len (window_of s.control s.window_len u.remote_win_scale) (timer_set (timestamp_taken (acknowledged x o now a.len (length s.payload) changed) s.timestamp) now a)) (sym number) (either (is_duplicate x k (length s.payload) changed))
   where
     x : View
     x = released (window_taken u now s.control s.window_len) a.len
@@ -211,9 +211,12 @@ heard_as u now a s k number bit = subst (λ o. HeardAs u k a.len (s.window_len *
     changed : Bool
     changed = is_window_changed u s.control s.window_len
 
-    either : (b : Bool) → HeardAs u k a.len (s.window_len * 2 ^ scale_of u.remote_win_scale) (timer_set (timestamp_taken (ack_heard b x now k a.len) s.timestamp) now a)
-    either true = record { state = refl; peer = refl; timeout = refl; keep_alive = refl; scale = refl; shift = refl; rx = refl; rcv = refl; last_ack = refl; last_win = refl; marked = refl; una = refl; nxt = refl; tx = refl; window = scaled s.control s.window_len u.remote_win_scale bit }
-    either false = record { state = refl; peer = refl; timeout = refl; keep_alive = refl; scale = refl; shift = refl; rx = refl; rcv = refl; last_ack = refl; last_win = refl; marked = refl; una = refl; nxt = refl; tx = refl; window = scaled s.control s.window_len u.remote_win_scale bit }
+    either : (b : Bool) → HeardAs u k a.len (window_of s.control s.window_len u.remote_win_scale) (timer_set (timestamp_taken (ack_heard b x now k a.len) s.timestamp) now a)
+    either true = record { state = refl; peer = refl; timeout = refl; keep_alive = refl; scale = refl; shift = refl; rx = refl; rcv = refl; last_ack = refl; last_win = refl; marked = refl; una = refl; nxt = refl; tx = refl; window = refl }
+    either false = record { state = refl; peer = refl; timeout = refl; keep_alive = refl; scale = refl; shift = refl; rx = refl; rcv = refl; last_ack = refl; last_win = refl; marked = refl; una = refl; nxt = refl; tx = refl; window = refl }
+
+pub heard_as : (u : View) (now : Instant) (a : Acked) (s : Segment) (k : TcpSeqNumber) → s.ack_number ≡ Some k → IsSaid s.control → HeardAs u k a.len (s.window_len * 2 ^ scale_of u.remote_win_scale) (heard u now a s)
+heard_as u now a s k number bit = subst (λ n. HeardAs u k a.len n (heard u now a s)) (scaled s.control s.window_len u.remote_win_scale bit) (heard_any u now a s k number)
 
 -- once something is acknowledged the timer of a retransmission is idle, or begins anew
 pub data ThenWaits (now : Instant) (keep : Option Duration) (all : Bool) (t : Timer) : Type 0 where

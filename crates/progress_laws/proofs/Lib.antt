@@ -27,3 +27,4 @@ pub mod ClosingRounds
 pub mod ClosingAll
 pub mod BothFinish
 pub mod Counted
+pub mod Opening

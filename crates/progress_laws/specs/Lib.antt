@@ -4,3 +4,4 @@ pub mod Delivery
 pub mod InStep
 pub mod BothWays
 pub mod AfterClose
+pub mod Opening

@@ -3,13 +3,14 @@
 //! What to read first, in `specs`: `Wakes.antt`, when a socket is to be called again; `Speech.antt`, what it says once
 //! its timer is over; `Delivery.antt`, what such a segment moves once it is delivered; `InStep.antt`, two sockets of
 //! which one sends to the other, and what they can do in turn; `BothWays.antt`, two that both have bytes to send;
-//! `AfterClose.antt`, a sender that was closed.
+//! `AfterClose.antt`, a sender that was closed; `Opening.antt`, two sockets that were opened toward each other.
 #![tactic(auto)]
 
 ghost use Rattle.progress_laws.specs.AfterClose.{ClosedSenderFinishes};
 ghost use Rattle.progress_laws.specs.BothWays.{BothWaysComplete, BothWaysFinish};
 ghost use Rattle.progress_laws.specs.Delivery.{CountedFinIsHeard, DeliveryMoves};
 ghost use Rattle.progress_laws.specs.InStep.{OneWayCompletes, OneWayFinishes};
+ghost use Rattle.progress_laws.specs.Opening.{ListenerAnswersSyn};
 ghost use Rattle.progress_laws.specs.Speech.{SpeaksPastItsTimers};
 ghost use Rattle.progress_laws.specs.Wakes.{WorkWakesOrSleeps};
 
@@ -80,4 +81,11 @@ pub fn both_ways_finish()
 /// over all bytes, in order, and then reads answer `Finished`.
 pub fn closed_sender_finishes()
     ensures { ClosedSenderFinishes }
+{}
+
+/// A socket as `connect` leaves it sends its SYN; one as `listen` leaves it takes it, with the number that it draws,
+/// and sends its SYN|ACK; and that brings the first to ESTABLISHED, while the other waits in SYN-RECEIVED for the ACK.
+/// They agree on the numbers of both streams then. Nothing of it is lost, and both are without a user timeout.
+pub fn listener_answers_syn()
+    ensures { ListenerAnswersSyn }
 {}

@@ -1,0 +1,49 @@
+-- Two sockets that were opened toward each other, one by `connect` and one by `listen`.
+use Rattle.std.specs.Prelude.{ℕ, ◌≡◌, ◌<◌, ◌^◌, Some, None, true, false}
+use Rattle.ip_wire.specs.Address.{SameVersion}
+use Rattle.ip_wire.specs.declared.endpoint.IpListenEndpoint.{IpListenEndpoint}
+use Rattle.net_base.specs.declared.time.Instant.{Instant}
+use Rattle.control_wire.specs.Seq.{seq_add}
+use Rattle.sock_core.specs.Facts.{Facts}
+use Rattle.sock_tcp.specs.Content.{Sending}
+use Rattle.sock_tcp.specs.Opening.{connected, listened}
+use Rattle.sock_tcp.specs.Process.{processed}
+use Rattle.sock_tcp.specs.View.{View}
+use Rattle.sock_tcp.specs.Window.{next_ack}
+use Rattle.sock_tcp.specs.declared.state.State.TheVariants as state
+use Rattle.sock_tcp.specs.declared.tuple.Tuple.{Tuple}
+use Rattle.progress_laws.specs.InStep.{told}
+use Rattle.progress_laws.specs.Speech.{DispatchesOk}
+
+-- v dispatches its SYN, which reaches w, and w draws this word as its number; w dispatches its SYN|ACK, which reaches
+-- v. Then v is in ESTABLISHED, and w waits in SYN-RECEIVED for the ACK. They agree on the numbers of both streams
+pub record Establishes (f : Facts) (now : Instant) (word : ℕ) (v w : View) : Type 0 where
+  pub syn : Sending
+  pub sent : View
+  pub sends_syn : DispatchesOk (told f now) false v (Some syn) sent
+  pub received : View
+  pub syn_comes : processed w now word syn.ip syn.segment ≡ record { view = received; reply = None }
+  pub answer : Sending
+  pub answered : View
+  pub sends_answer : DispatchesOk (told f now) false received (Some answer) answered
+  pub established : View
+  pub answer_comes : processed sent now 0 answer.ip answer.segment ≡ record { view = established; reply = None }
+  pub state_here : established.state ≡ state.Established
+  pub state_across : answered.state ≡ state.SynReceived
+  pub over : next_ack answered ≡ established.local_seq_no
+  pub back : next_ack established ≡ seq_add answered.local_seq_no 1
+
+-- The one as `connect` leaves a socket a, with the endpoints t and this number; the other as `listen` leaves a socket
+-- b, whose SYN|ACK is not paused. Both without a user timeout, at any moment, in any context that has both addresses
+abbrev pub ListenerAnswersSyn : Type 0
+ListenerAnswersSyn = (t : Tuple) (f : Facts) (now : Instant) (number word : ℕ) (a b : View) (e : IpListenEndpoint)
+    → SameVersion t.local.addr t.remote.addr
+    → f.has_address t.local.addr ≡ true
+    → f.has_address t.remote.addr ≡ true
+    → number < 2 ^ 32
+    → word < 2 ^ 32
+    → a.timeout ≡ None
+    → b.timeout ≡ None
+    → a.synack_paused ≡ false
+    → b.synack_paused ≡ false
+    → Establishes f now word (connected a t number) (listened b e)
