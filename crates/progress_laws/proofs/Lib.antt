@@ -27,4 +27,5 @@ pub mod ClosingRounds
 pub mod ClosingAll
 pub mod BothFinish
 pub mod Counted
+pub mod SynSteps
 pub mod Opening

@@ -1,194 +1,50 @@
--- How a SYN reaches a listener, and its SYN|ACK the socket that connects.
-use Rattle.std.proofs.Common.{◌≡◌, ℕ, ◌<◌, ◌^◌, Bool, true, false, refl, sym, ap, subst, ◌∙◌, List, [], length, take, drop, min, Option, Some, None, arith}
-use Rattle.std.specs.Prelude.{if◌then◌else◌, ◌==◌, option_map}
+-- How a SYN reaches a listener, its SYN|ACK the socket that connects, and the ACK the listener.
+use Rattle.std.proofs.Common.{◌≡◌, ℕ, ◌<◌, ◌≤◌, ◌^◌, true, false, not, ◌&&◌, refl, sym, ap, subst, ◌∙◌, List, [], length, take, drop, min, Option, Some, None, arith, length-drop}
 use Rattle.std.proofs.lemmas.Bool.{eq-eqb}
 use Rattle.net_base.specs.Ring.{in_one_piece}
+use Rattle.net_base.specs.declared.time.Duration.{Duration}
 use Rattle.net_base.specs.declared.time.Instant.{Instant}
 use Rattle.ip_wire.specs.Address.{SameVersion}
-use Rattle.ip_wire.specs.IpHeader.{dst_addr_of, ip_header}
-use Rattle.ip_wire.specs.declared.address.IpAddress.{IpAddress}
-use Rattle.ip_wire.specs.declared.address.IpAddress.TheVariants as address
 use Rattle.ip_wire.specs.declared.endpoint.IpListenEndpoint.{IpListenEndpoint}
-use Rattle.ip_wire.specs.declared.protocol.IpProtocol.{IpProtocol}
-use Rattle.ip_wire.specs.declared.repr.IpRepr.{IpRepr}
-use Rattle.control_wire.specs.Segment.{Segment, is_empty_segment, is_plain}
+use Rattle.control_wire.specs.Segment.{Segment}
 use Rattle.control_wire.specs.Seq.{seq_add, seq_of, seq_sub}
 use Rattle.control_wire.specs.declared.seq_number.TcpSeqNumber.{TcpSeqNumber}
-use Rattle.control_wire.specs.declared.tcp.TcpControl.TheVariants as control
 use Rattle.sock_core.specs.Facts.{Facts}
-use Rattle.sock_core.specs.Received.{Received, cleared}
+use Rattle.sock_core.specs.Received.{Received, cleared, room_of}
+use Rattle.sock_core.specs.Seq.{is_before, is_not_after, later_of}
+use Rattle.sock_core.specs.WindowShift.{window_shift}
+use Rattle.std.proofs.lemmas.List.{length-replicate}
+use Rattle.std.specs.Option.{ForSome}
 use Rattle.sock_tcp.specs.Acked.{acked_at, acked_of, nothing_acked}
-use Rattle.sock_tcp.specs.Advance.{advanced, options_taken, syn_answered, syn_received}
-use Rattle.sock_tcp.specs.Begin.{Begun, after_timers, before_emit, before_emit_to, begun, begun_to, by_due, is_paused, last_ts_set, last_ts_set_at, readied, told_ready, unless_paused}
-use Rattle.sock_tcp.specs.Content.{Sending, asked, carries_data, content, emission_kind, filled, offset_of, plain_segment, sent_as, syn, syn_ack}
-use Rattle.sock_tcp.specs.Due.{data_due, flight, is_closed, is_due, is_opening}
+use Rattle.sock_tcp.specs.Advance.{shift_taken, options_taken, syn_answered, syn_received}
+use Rattle.sock_tcp.specs.Begin.{last_ts_set, readied}
+use Rattle.sock_tcp.specs.Content.{Sending, asked, carries_data, filled, offset_of, plain_segment, sent_as, syn, syn_ack}
+use Rattle.sock_tcp.specs.Due.{flight, is_closed, is_opening}
 use Rattle.sock_tcp.specs.Opening.{connected, listened, renewed}
-use Rattle.sock_tcp.specs.Polls.{is_reached, timeout_poll}
-use Rattle.sock_tcp.specs.Process.{bytes_taken, processed, processed_inside, stopped, tuple_of}
-use Rattle.sock_tcp.specs.Steps.{acknowledged, heard, is_window_changed, released, timer_set, timestamp_taken, window_of, window_taken}
-use Rattle.sock_tcp.specs.Timers.{is_keep_alive_over}
-use Rattle.sock_tcp.specs.Verdict.{is_next, verdict_at}
+use Rattle.sock_tcp.specs.Polls.{delay_poll, is_reached}
+use Rattle.sock_tcp.specs.Process.{processed, stopped, tuple_of}
+use Rattle.sock_tcp.specs.Queue.{Queue}
+use Rattle.sock_tcp.specs.Steps.{heard, window_of}
+use Rattle.sock_tcp.specs.Timers.{after as moment_after, idle_from, is_keep_alive_over, keep_alive_renewed, retransmit_from, retransmit_unless_set, rto_of}
+use Rattle.sock_tcp.specs.declared.acked.Acked.{Acked}
+use Rattle.sock_tcp.specs.declared.timer.AckDelayTimer.TheVariants as ack_delay
+use Rattle.sock_tcp.specs.Verdict.{is_next}
 use Rattle.sock_tcp.specs.View.{View, fresh}
 use Rattle.sock_tcp.specs.Window.{next_ack}
 use Rattle.sock_tcp.specs.declared.emission.Kind.TheVariants as kind
-use Rattle.sock_tcp.specs.declared.state.State.{State}
 use Rattle.sock_tcp.specs.declared.state.State.TheVariants as state
 use Rattle.sock_tcp.specs.declared.timer.Timer.TheVariants as timer
 use Rattle.sock_tcp.specs.declared.tuple.Tuple.{Tuple}
-use Rattle.progress_laws.specs.InStep.{told}
-use Rattle.progress_laws.specs.Opening.{Establishes, ListenerAnswersSyn}
-use Rattle.progress_laws.specs.Speech.{DispatchesOk, SendsOkTo}
-use Rattle.progress_laws.proofs.Begins.{Alike, and_no, readied_alike}
-use Rattle.progress_laws.proofs.Hears.{HeardAs, heard_any, idle_is, idle_moment, rests_empty}
-use Rattle.progress_laws.proofs.Sends.{SentOf, left, plain_sent}
-
--- ---- the states in which a SYN is sent
-
-opening_carries : (st : State) → is_opening st ≡ true → carries_data st ≡ false
-opening_carries state.SynSent e = refl
-opening_carries state.SynReceived e = refl
-opening_carries _ e = absurd cc
-
-opening_open : (st : State) → is_opening st ≡ true → is_closed st ≡ false
-opening_open state.SynSent e = refl
-opening_open state.SynReceived e = refl
-opening_open _ e = absurd cc
-
-never_paused : (st : State) → is_paused st false ≡ false
-never_paused state.SynReceived = refl
-never_paused _ = refl
-
--- ---- what goes out there, where nothing is in flight
-
-module _ (v : View) (t : Tuple) (f : Facts) (now : Instant) (moment : Option Instant) (peer : v.tuple ≡ Some t) (address : f.has_address t.local.addr ≡ true) (no_timeout : v.timeout ≡ None) (idle : v.timer ≡ timer.Idle moment) (opening : is_opening v.state ≡ true) (not_paused : v.synack_paused ≡ false) (nothing_marked : v.pending_fast_retransmit ≡ false) (none : flight v ≡ 0) where
-  abbrev fa : Facts
-  fa = told f now
-
-  abbrev u : View
-  u = readied v now
-
-  al : Alike v u
-  al = readied_alike v now
-
-  same_paused : u.synack_paused ≡ v.synack_paused
-  unfolding readied last_ts_set
-  same_paused = go v.remote_last_ts
-    where
-      go : (o : Option Instant) → (told_ready (last_ts_set_at o v now) now).synack_paused ≡ v.synack_paused
-      go None = refl
-      go (Some at) = refl
-
-  opens : is_opening u.state ≡ true
-  opens = ap is_opening al.state ∙ opening
-
-  pub open_then : is_closed u.state ≡ false
-  open_then = opening_open u.state opens
-
-  none_then : flight u ≡ 0
-  none_then = (λ i. seq_sub (al.nxt i) (al.una i)) ∙ none
-
-  timers_are : after_timers u now ≡ u
-  unfolding after_timers
-  timers_are = rw (alive, al.timer ∙ idle) refl
-    where
-      alive : is_reached (timeout_poll u.timeout u.remote_last_ts) now ≡ false
-      alive = ap (λ d. is_reached (timeout_poll d u.remote_last_ts) now) (al.timeout ∙ no_timeout)
-
-  not_waiting : is_paused u.state u.synack_paused ≡ false
-  not_waiting = ap (is_paused u.state) (same_paused ∙ not_paused) ∙ never_paused u.state
-
-  begun_so : begun_to v.tuple v fa ≡ record { view = u; peer = Some t }
-  begun_so = ap (λ o. begun_to o v fa) peer ∙ with_address ∙ ap (λ y. unless_paused y t) timers_are ∙ goes_on
-    where
-      with_address : begun_to (Some t) v fa ≡ unless_paused (after_timers u now) t
-      with_address = rw address refl
-
-      goes_on : unless_paused u t ≡ record { view = u; peer = Some t }
-      goes_on = rw not_waiting refl
-
-  due : is_due u t fa false ≡ true
-  unfolding is_due data_due
-  due = rw (al.marked ∙ nothing_marked, opens, none_then) refl
-
-  begins_so : before_emit v fa false ≡ record { view = u; peer = Some t }
-  unfolding before_emit begun
-  begins_so = ap (λ (b : Begun). before_emit_to b.peer b.view fa false) begun_so ∙ ap (λ b. by_due b u t fa) due
-
-  abbrev bytes : List ℕ
-  bytes = take (min (asked u t fa false) (in_one_piece u.tx_buffer.until_end (length u.tx_buffer.bytes) (offset_of u))) (drop (offset_of u) u.tx_buffer.bytes)
-
-  -- the segment s, whose control bit is SYN
-  pub sends : (s : Segment) → filled u.state u t fa bytes (plain_segment u t None) ≡ Some s → is_plain s.control ≡ false → DispatchesOk fa false v (Some (sent_as u t kind.Plain s)) (left u t now s open_then kind.Plain)
-  unfolding content
-  sends s is bit = subst (λ (b : Begun). SendsOkTo b.peer fa false b.view (Some (sent_as u t kind.Plain s)) (left u t now s open_then kind.Plain)) (sym begins_so) (record {
-    stamp = None;
-    told = refl;
-    bytes = bytes;
-    lent = refl;
-    sends = sym (ap (option_map (λ s. sent_as u t (emission_kind u now s) s)) is ∙ ap (λ k. Some (sent_as u t k s)) plain);
-    view = refl;
-  })
-    where
-      empty : is_empty_segment s ≡ false
-      empty = rw bit (and_no (length s.payload == 0))
-
-      plain : emission_kind u now s ≡ kind.Plain
-      plain = rw (opening_carries u.state opens, empty) (ap (λ b. if b then kind.KeepAlive else kind.Plain) (and_no (is_keep_alive_over u.timer now)))
-
--- ---- what comes
-
-syn_passes : (x : View) (now : Instant) (word : ℕ) (ip : IpRepr) (g : Segment) → x.state ≡ state.Listen → g.control ≡ control.Syn → g.ack_number ≡ None → processed x now word ip g ≡ stopped (heard (syn_received x now (tuple_of ip g) word g) now nothing_acked g)
-unfolding processed processed_inside advanced verdict_at acked_at bytes_taken
-syn_passes x now word ip g st bit number = rw (st, bit, number) refl
-
-answer_passes : (x : View) (now : Instant) (ip : IpRepr) (g : Segment) (k : TcpSeqNumber) → x.state ≡ state.SynSent → g.control ≡ control.Syn → g.ack_number ≡ Some k → is_next k x.local_seq_no ≡ true → processed x now 0 ip g ≡ stopped (heard (syn_answered x g) now (acked_of x g.control g.ack_number) g)
-unfolding processed processed_inside advanced verdict_at bytes_taken
-answer_passes x now ip g k st bit number next = rw (st, bit, number, next) refl
-
-header_dst : (a b : IpAddress) (p : IpProtocol) (n h : ℕ) → SameVersion a b → dst_addr_of (ip_header a b p n h) ≡ b
-header_dst (address.Ipv4 a) (address.Ipv4 b) p n h v = refl
-header_dst (address.Ipv6 a) (address.Ipv6 b) p n h v = refl
-header_dst (address.Ipv4 a) (address.Ipv6 b) p n h v = cc
-header_dst (address.Ipv6 a) (address.Ipv4 b) p n h v = cc
-
--- a socket that took a SYN, with its own number
-record HasTakenSyn (x : View) (t : Tuple) (number : ℕ) (from : TcpSeqNumber) : Type 0 where
-  state : x.state ≡ state.SynReceived
-  peer : x.tuple ≡ Some t
-  timeout : x.timeout ≡ None
-  moment : Option Instant
-  timer : x.timer ≡ timer.Idle moment
-  not_paused : x.synack_paused ≡ false
-  nothing_marked : x.pending_fast_retransmit ≡ false
-  una : x.local_seq_no ≡ seq_of number
-  nxt : x.remote_last_seq ≡ seq_of number
-  rcv : x.remote_seq_no ≡ seq_add from 1
-  read : x.rx_buffer.bytes ≡ []
-
-received_so : (b : View) (e : IpListenEndpoint) (now : Instant) (t : Tuple) (word : ℕ) (g : Segment) → b.timeout ≡ None → b.synack_paused ≡ false → g.ack_number ≡ None → HasTakenSyn (heard (syn_received (listened b e) now t word g) now nothing_acked g) t word g.seq_number
-unfolding heard acknowledged window_taken released timestamp_taken timer_set syn_received options_taken listened renewed fresh cleared
-received_so b e now t word g no_timeout not_paused bare = subst (λ o. HasTakenSyn (timer_set (timestamp_taken (acknowledged x o now 0 (length g.payload) changed) g.timestamp) now nothing_acked) t word g.seq_number) (sym bare) (record {
-  state = refl;
-  peer = refl;
-  timeout = no_timeout;
-  moment = idle_moment now b.keep_alive;
-  timer = ap (λ tm. (timer_set (record y { timer = tm }) now nothing_acked).timer) (idle_is now b.keep_alive) ∙ rests_empty (record y { timer = timer.Idle (idle_moment now b.keep_alive) }) now nothing_acked (idle_moment now b.keep_alive) refl ∙ idle_is now b.keep_alive;
-  not_paused = not_paused;
-  nothing_marked = refl;
-  una = refl;
-  nxt = refl;
-  rcv = refl;
-  read = refl;
-})
-  where
-    x : View
-    x = released (window_taken (syn_received (listened b e) now t word g) now g.control g.window_len) 0
-
-    changed : Bool
-    changed = is_window_changed (syn_received (listened b e) now t word g) g.control g.window_len
-
-    y : View
-    y = timestamp_taken x g.timestamp
+use Rattle.progress_laws.specs.InStep.{takes_bytes, told}
+use Rattle.progress_laws.specs.Opening.{Completes, Establishes, HandshakeCompletes, ListenerAnswersSyn}
+use Rattle.progress_laws.specs.Speech.{DispatchesOk}
+use Rattle.progress_laws.proofs.Begins.{Alike, readied_alike}
+use Rattle.progress_laws.proofs.Edges.{is_earlier, is_not_before, later_is, later_stays, same_seq}
+use Rattle.progress_laws.proofs.Hears.{HeardAs, heard_any, idle_is, idle_moment}
+use Rattle.progress_laws.proofs.Owed.{acknowledges, after, next_is, not_yet, out_of, state_is, tells}
+use Rattle.progress_laws.proofs.Receives.{Owes, Tells}
+use Rattle.progress_laws.proofs.Sends.{SentOf, left, plain_delay, plain_nxt, plain_sent, plain_timer}
+use Rattle.progress_laws.proofs.SynSteps.{HasTakenSyn, ack_passes, answer_passes, header_dst, heard_delay, heard_idle, opened, opening_open, received_so, sends, syn_passes, taken_within}
 
 module _ (t : Tuple) (f : Facts) (now : Instant) (number word : ℕ) (a b : View) (e : IpListenEndpoint) (versions : SameVersion t.local.addr t.remote.addr) (here : f.has_address t.local.addr ≡ true) (there : f.has_address t.remote.addr ≡ true) (number_small : number < 2 ^ 32) (word_small : word < 2 ^ 32) (no_timeout_a : a.timeout ≡ None) (no_timeout_b : b.timeout ≡ None) (not_paused_a : a.synack_paused ≡ false) (not_paused : b.synack_paused ≡ false) where
   abbrev v : View
@@ -246,7 +102,7 @@ module _ (t : Tuple) (f : Facts) (now : Instant) (number word : ℕ) (a b : View
   comes : processed (listened b e) now word out.ip first ≡ stopped received
   comes = syn_passes (listened b e) now word out.ip first listens refl refl
 
-  r : HasTakenSyn received s word first.seq_number
+  r : HasTakenSyn received s word first.seq_number (room_of b.rx_buffer)
   r = received_so b e now s word first no_timeout_b not_paused refl
 
   there_s : f.has_address s.local.addr ≡ true
@@ -316,7 +172,7 @@ module _ (t : Tuple) (f : Facts) (now : Instant) (number word : ℕ) (a b : View
   unfolding syn_answered options_taken plain_segment
   established_so = refl
 
-  pub establishes : Establishes f now word v (listened b e)
+  abbrev establishes : Establishes f now word v (listened b e)
   establishes = record {
     syn = out;
     sent = sent;
@@ -334,5 +190,219 @@ module _ (t : Tuple) (f : Facts) (now : Instant) (number word : ℕ) (a b : View
     back = (λ i. seq_add (h.rcv i) (length ((h.rx i).bytes))) ∙ next_here;
   }
 
+  module _ (interval : ForSome a.keep_alive (λ d. 0 < d.micros)) (some : 0 < room_of a.rx_buffer) (narrow : room_of a.rx_buffer ≤ 2 ^ 30) (narrow_b : room_of b.rx_buffer ≤ 2 ^ 30) where
+    y_kept : SentOf y sent
+    y_kept = plain_sent y t now first v_open
+
+    yal : Alike v y
+    yal = readied_alike v now
+
+    s_rx : sent.rx_buffer ≡ cleared a.rx_buffer
+    unfolding connected renewed fresh
+    s_rx = y_kept.rx ∙ yal.rx
+
+    s_tx : length sent.tx_buffer.bytes ≡ 0
+    unfolding connected renewed fresh
+    s_tx = ap (λ (q : Queue). length q.bytes) (y_kept.tx ∙ yal.tx)
+
+    s_keep : sent.keep_alive ≡ a.keep_alive
+    unfolding connected renewed fresh
+    s_keep = y_kept.keep_alive ∙ yal.keep_alive
+
+    s_peer : sent.tuple ≡ Some t
+    unfolding connected renewed fresh
+    s_peer = y_kept.peer ∙ yal.peer
+
+    s_timeout : sent.timeout ≡ None
+    unfolding connected renewed fresh
+    s_timeout = y_kept.timeout ∙ yal.timeout ∙ no_timeout_a
+
+    s_marked : sent.pending_fast_retransmit ≡ false
+    unfolding connected renewed fresh
+    s_marked = y_kept.marked ∙ ap (λ m. m && not (carries_data y.state)) yal.marked
+
+    s_shift : sent.remote_win_shift ≡ window_shift (room_of (cleared a.rx_buffer))
+    unfolding connected renewed fresh
+    s_shift = y_kept.shift ∙ yal.shift
+
+    y_idle : y.timer ≡ timer.Idle None
+    unfolding connected renewed fresh
+    y_idle = yal.timer
+
+    s_waits : sent.timer ≡ retransmit_from now y.rtte
+    unfolding plain_segment
+    s_waits = plain_timer y t now first v_open false refl ∙ ap (λ tm. retransmit_unless_set (keep_alive_renewed tm now y.keep_alive) now y.rtte) y_idle ∙ waits y.keep_alive
+      where
+        waits : (keep : Option Duration) → retransmit_unless_set (idle_from now keep) now y.rtte ≡ retransmit_from now y.rtte
+        waits None = refl
+        waits (Some d) = refl
+
+    s_nxt : (syn_answered sent g).remote_last_seq ≡ next_ack z
+    unfolding syn_answered
+    s_nxt = ap (λ q. seq_add q 1) s_una ∙ same_seq (seq_add (seq_of number) 1) (next_ack z) (sym next_z)
+
+    last : is_before (next_ack z) (syn_answered sent g).remote_last_seq ≡ false
+    last = rw s_nxt (is_not_before (next_ack z) (next_ack z) (omega arith))
+
+    wide_held : length (cleared a.rx_buffer).held ≡ room_of a.rx_buffer
+    unfolding cleared
+    wide_held = length-replicate (room_of a.rx_buffer) None
+
+    wide : room_of (cleared a.rx_buffer) ≡ room_of a.rx_buffer
+    unfolding cleared
+    wide = omega (arith, wide_held)
+
+    abbrev k : TcpSeqNumber
+    k = next_ack z
+
+    abbrev ea : Acked
+    ea = acked_of sent g.control g.ack_number
+
+    stays : later_of k k ≡ k
+    stays = later_stays k k (is_not_before k k (omega arith))
+
+    y_nxt : y.remote_last_seq ≡ seq_of number
+    unfolding connected renewed
+    y_nxt = yal.nxt
+
+    sent_nxt : sent.remote_last_seq ≡ k
+    unfolding plain_segment
+    sent_nxt = plain_nxt y t now first v_open ∙ (λ i. later_of (y_nxt i) (seq_add (first_number i) 1)) ∙ later_is (seq_of number) (seq_add (seq_of number) 1) (is_earlier (seq_of number) (seq_add (seq_of number) 1) (omega (arith, number_small))) ∙ same_seq (seq_add (seq_of number) 1) k (sym next_z)
+
+    all_acked : ea.all ≡ true
+    unfolding acked_at plain_segment is_not_after
+    all_acked = rw sent_nxt (rw (is_not_before k k (omega arith), eq-eqb k.0 k.0 refl) refl)
+
+    e_timer : established.timer ≡ idle_from now a.keep_alive
+    unfolding syn_answered options_taken
+    e_timer = heard_idle (syn_answered sent g) now ea g k g_ack (moment_after now (rto_of y.rtte)) s_waits all_acked s_tx last ∙ ap (idle_from now) s_keep
+
+    e_delay : established.ack_delay_timer ≡ ack_delay.Idle
+    unfolding syn_answered options_taken
+    e_delay = heard_delay (syn_answered sent g) now ea g k g_ack ∙ plain_delay y t now first v_open
+
+    z_una : z.local_seq_no ≡ seq_of word
+    z_una = zal.una ∙ r.una
+
+    g_small : g.seq_number.0 < 2 ^ 32
+    g_small = omega (arith, ap (λ (q : TcpSeqNumber). q.0) z_una, word_small)
+
+    e_rx : established.rx_buffer ≡ cleared a.rx_buffer
+    unfolding syn_answered options_taken
+    e_rx = h.rx ∙ s_rx
+
+    e_read : established.rx_buffer.bytes ≡ []
+    unfolding cleared
+    e_read = ap (λ (q : Received). q.bytes) e_rx
+
+    e_none : length established.rx_buffer.bytes ≡ 0
+    e_none = ap (λ (l : List ℕ). length l) e_read
+
+    e_rcv : established.remote_seq_no ≡ seq_add g.seq_number 1
+    unfolding syn_answered options_taken
+    e_rcv = h.rcv
+
+    abbrev before : View
+    before = record established { remote_seq_no = g.seq_number }
+
+    owes : Owes t before (room_of a.rx_buffer) 1 established
+    unfolding syn_answered options_taken cleared
+    owes = record {
+      state = ap takes_bytes (h.state ∙ established_so);
+      peer = h.peer ∙ s_peer;
+      no_timeout = h.timeout ∙ s_timeout;
+      interval = subst (λ q. ForSome q (λ d. 0 < d.micros)) (sym (h.keep_alive ∙ s_keep)) interval;
+      moment = idle_moment now a.keep_alive;
+      timer = e_timer ∙ idle_is now a.keep_alive;
+      nothing_to_send = omega (arith, ap (λ (q : Queue). length q.bytes) h.tx, length-drop ea.len sent.tx_buffer.bytes, s_tx);
+      una = refl;
+      nxt = h.nxt ∙ (λ i. later_of (s_nxt i) k) ∙ stays ∙ sym h.una;
+      nothing_marked = h.marked ∙ s_marked;
+      read = e_read;
+      nothing_held = ap (λ (q : Received). q.held) e_rx;
+      shift = refl;
+      last = g.seq_number;
+      last_small = g_small;
+      last_ack = h.last_ack;
+      near = omega (arith, e_none, g_small);
+      next = omega (arith, ap (λ (q : TcpSeqNumber). q.0) e_rcv, e_none);
+    }
+
+    at_least : 2 ^ established.remote_win_shift ≤ room_of a.rx_buffer
+    unfolding syn_answered options_taken
+    at_least = subst (λ n. 2 ^ n ≤ room_of a.rx_buffer) (sym (h.shift ∙ ap (λ n. shift_taken n g.window_scale) (s_shift ∙ ap window_shift wide))) (taken_within (room_of a.rx_buffer) g.window_scale some)
+
+    una_small : established.local_seq_no.0 < 2 ^ 32
+    una_small = subst (λ (q : TcpSeqNumber). q.0 < 2 ^ 32) (sym h.una) (omega arith)
+
+    late : is_reached (delay_poll established.ack_delay_timer) now ≡ true
+    late = ap (λ d. is_reached (delay_poll d) now) e_delay
+
+    not_over : is_keep_alive_over established.timer now ≡ false
+    not_over = ap (λ tm. is_keep_alive_over tm now) e_timer ∙ by a.keep_alive interval
+      where
+        by : (keep : Option Duration) → ForSome keep (λ d. 0 < d.micros) → is_keep_alive_over (idle_from now keep) now ≡ false
+        by None i = refl
+        by (Some d) i = not_yet now d (i d refl)
+
+    abbrev ack_out : Sending
+    ack_out = out_of t before (room_of a.rx_buffer) 1 established f now here owes (omega arith) (omega (arith, some)) narrow at_least una_small late not_over
+
+    abbrev settled : View
+    settled = after t before (room_of a.rx_buffer) 1 established f now here owes (omega arith) (omega (arith, some)) narrow at_least una_small late not_over
+
+    sends_ack : DispatchesOk (told f now) false established (Some ack_out) settled
+    sends_ack = acknowledges t before (room_of a.rx_buffer) 1 established f now here owes (omega arith) (omega (arith, some)) narrow at_least una_small late not_over
+
+    tell : Tells before settled t ack_out.segment
+    tell = tells t before (room_of a.rx_buffer) 1 established f now here owes (omega arith) (omega (arith, some)) narrow at_least una_small late not_over
+
+    next_settled : next_ack settled ≡ next_ack established
+    next_settled = next_is t before (room_of a.rx_buffer) 1 established f now here owes (omega arith) (omega (arith, some)) narrow at_least una_small late not_over
+
+    is_next_ack : is_next (next_ack settled) answered.local_seq_no ≡ true
+    is_next_ack = eq-eqb (next_ack settled).0 (seq_add answered.local_seq_no 1).0 (ap (λ (q : TcpSeqNumber). q.0) (next_settled ∙ establishes.back))
+
+    answered_state : answered.state ≡ state.SynReceived
+    answered_state = answered_kept.state ∙ zal.state ∙ r.state
+
+    answered_room : length answered.rx_buffer.held ≤ 2 ^ 30
+    answered_room = omega (arith, ap (λ (q : Received). length q.held) (answered_kept.rx ∙ zal.rx), r.wide, narrow_b)
+
+    abbrev across : View
+    across = opened answered now ack_out.ip ack_out.segment (next_ack settled) answered_state tell.bit tell.ack is_next_ack tell.empty (tell.number ∙ sym establishes.over) answered_room
+
+    ack_comes : processed answered now 0 ack_out.ip ack_out.segment ≡ stopped across
+    ack_comes = ack_passes answered now ack_out.ip ack_out.segment (next_ack settled) answered_state tell.bit tell.ack is_next_ack tell.empty (tell.number ∙ sym establishes.over) answered_room
+
+    abbrev told_last : View
+    told_last = record answered { state = state.Established; local_rx_last_seq = Some ack_out.segment.seq_number }
+
+    abbrev aa : Acked
+    aa = acked_of (record answered { local_rx_last_seq = Some ack_out.segment.seq_number }) ack_out.segment.control ack_out.segment.ack_number
+
+    o : HeardAs told_last (next_ack settled) aa.len (window_of ack_out.segment.control ack_out.segment.window_len told_last.remote_win_scale) (heard told_last now aa ack_out.segment)
+    o = heard_any told_last now aa ack_out.segment (next_ack settled) tell.ack
+
+    pub completes : Completes f now word v (listened b e)
+    completes = record {
+      start = establishes;
+      ack = ack_out;
+      here = settled;
+      sends_ack = sends_ack;
+      across = across;
+      ack_comes = ack_comes;
+      state_here = sent_state;
+      state_across = o.state;
+      over_then = (λ i. seq_add (o.rcv i) (length ((o.rx i).bytes))) ∙ establishes.over ∙ sym tell.una;
+      back_then = sym o.una;
+    }
+      where
+        sent_state : settled.state ≡ state.Established
+        sent_state = state_is t before (room_of a.rx_buffer) 1 established f now here owes (omega arith) (omega (arith, some)) narrow at_least una_small late not_over ∙ h.state ∙ established_so
+
 pub listener_answers_syn : ListenerAnswersSyn
 listener_answers_syn = establishes
+
+pub handshake_completes : HandshakeCompletes
+handshake_completes = completes

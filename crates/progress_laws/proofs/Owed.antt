@@ -42,7 +42,7 @@ use Rattle.progress_laws.proofs.Receives.{Owes, Tells, told_window, unit, unit_s
 
 -- ---- the acknowledgement that is owed
 
-not_yet : (now : Instant) (d : Duration) → 0 < d.micros → is_over (moment_after now d) now ≡ false
+pub not_yet : (now : Instant) (d : Duration) → 0 < d.micros → is_over (moment_after now d) now ≡ false
 not_yet now d h = go (is_over (moment_after now d) now) refl
   where
     go : (b : Bool) → is_over (moment_after now d) now ≡ b → b ≡ false
@@ -232,6 +232,9 @@ module _ (s : Tuple) (w : View) (room n : ℕ) (y : View) (f : Facts) (now : Ins
       where
         wide : length u.rx_buffer.held ≡ room
         wide = ap (λ (q : Received). length q.held) al.rx ∙ ap (λ (l : List (Option ℕ)). length l) o.nothing_held ∙ length-replicate room None
+
+    pub state_is : after.state ≡ y.state
+    state_is = (plain_sent u s now b opens).state ∙ al.state
 
     pub next_is : next_ack after ≡ next_ack y
     next_is = let l = plain_sent u s now b opens in (λ i. seq_add (l.rcv i) (length ((l.rx i).bytes))) ∙ next

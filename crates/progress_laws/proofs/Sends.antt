@@ -89,6 +89,14 @@ module _ (u : View) (p : Tuple) (now : Instant) (s : Segment) (not_closed : is_c
       go true = refl
       go false = refl
 
+  pub plain_delay : (left kind.Plain).ack_delay_timer ≡ ack_delay.Idle
+  unfolding after_sending sending_timed snd_nxt_moved after_any
+  plain_delay = go (segment_len s == 0)
+    where
+      go : (z : Bool) → (timed_if z).ack_delay_timer ≡ ack_delay.Idle
+      go true = refl
+      go false = refl
+
   pub plain_timer : (z : Bool) → (segment_len s == 0) ≡ z → (left kind.Plain).timer ≡ (if z then keep_alive_renewed u.timer now u.keep_alive else retransmit_unless_set (keep_alive_renewed u.timer now u.keep_alive) now u.rtte)
   unfolding after_sending sending_timed snd_nxt_moved after_any
   plain_timer true z = rw z refl

@@ -1,10 +1,12 @@
 -- Two sockets that were opened toward each other, one by `connect` and one by `listen`.
-use Rattle.std.specs.Prelude.{ℕ, ◌≡◌, ◌<◌, ◌^◌, Some, None, true, false}
+use Rattle.std.specs.Prelude.{ℕ, ◌≡◌, ◌<◌, ◌≤◌, ◌^◌, Some, None, true, false}
+use Rattle.std.specs.Option.{ForSome}
 use Rattle.ip_wire.specs.Address.{SameVersion}
 use Rattle.ip_wire.specs.declared.endpoint.IpListenEndpoint.{IpListenEndpoint}
 use Rattle.net_base.specs.declared.time.Instant.{Instant}
 use Rattle.control_wire.specs.Seq.{seq_add}
 use Rattle.sock_core.specs.Facts.{Facts}
+use Rattle.sock_core.specs.Received.{room_of}
 use Rattle.sock_tcp.specs.Content.{Sending}
 use Rattle.sock_tcp.specs.Opening.{connected, listened}
 use Rattle.sock_tcp.specs.Process.{processed}
@@ -47,3 +49,34 @@ ListenerAnswersSyn = (t : Tuple) (f : Facts) (now : Instant) (number word : ℕ)
     → a.synack_paused ≡ false
     → b.synack_paused ≡ false
     → Establishes f now word (connected a t number) (listened b e)
+
+-- v dispatches its ACK next, which reaches w. Then both are in ESTABLISHED, and still agree
+pub record Completes (f : Facts) (now : Instant) (word : ℕ) (v w : View) : Type 0 where
+  pub start : Establishes f now word v w
+  pub ack : Sending
+  pub here : View
+  pub sends_ack : DispatchesOk (told f now) false start.established (Some ack) here
+  pub across : View
+  pub ack_comes : processed start.answered now 0 ack.ip ack.segment ≡ record { view = across; reply = None }
+  pub state_here : here.state ≡ state.Established
+  pub state_across : across.state ≡ state.Established
+  pub over_then : next_ack across ≡ here.local_seq_no
+  pub back_then : next_ack here ≡ across.local_seq_no
+
+-- As above, where the one has a keep-alive interval that is not 0, or none, and its receive buffer a place
+abbrev pub HandshakeCompletes : Type 0
+HandshakeCompletes = (t : Tuple) (f : Facts) (now : Instant) (number word : ℕ) (a b : View) (e : IpListenEndpoint)
+    → SameVersion t.local.addr t.remote.addr
+    → f.has_address t.local.addr ≡ true
+    → f.has_address t.remote.addr ≡ true
+    → number < 2 ^ 32
+    → word < 2 ^ 32
+    → a.timeout ≡ None
+    → b.timeout ≡ None
+    → a.synack_paused ≡ false
+    → b.synack_paused ≡ false
+    → ForSome a.keep_alive (λ d. 0 < d.micros)
+    → 0 < room_of a.rx_buffer
+    → room_of a.rx_buffer ≤ 2 ^ 30
+    → room_of b.rx_buffer ≤ 2 ^ 30
+    → Completes f now word (connected a t number) (listened b e)

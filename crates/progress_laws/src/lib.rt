@@ -10,7 +10,7 @@ ghost use Rattle.progress_laws.specs.AfterClose.{ClosedSenderFinishes};
 ghost use Rattle.progress_laws.specs.BothWays.{BothWaysComplete, BothWaysFinish};
 ghost use Rattle.progress_laws.specs.Delivery.{CountedFinIsHeard, DeliveryMoves};
 ghost use Rattle.progress_laws.specs.InStep.{OneWayCompletes, OneWayFinishes};
-ghost use Rattle.progress_laws.specs.Opening.{ListenerAnswersSyn};
+ghost use Rattle.progress_laws.specs.Opening.{HandshakeCompletes, ListenerAnswersSyn};
 ghost use Rattle.progress_laws.specs.Speech.{SpeaksPastItsTimers};
 ghost use Rattle.progress_laws.specs.Wakes.{WorkWakesOrSleeps};
 
@@ -88,4 +88,10 @@ pub fn closed_sender_finishes()
 /// They agree on the numbers of both streams then. Nothing of it is lost, and both are without a user timeout.
 pub fn listener_answers_syn()
     ensures { ListenerAnswersSyn }
+{}
+
+/// Then the first sends its ACK, and that brings the other to ESTABLISHED, too; they still agree on the numbers of both
+/// streams. The first has a keep-alive interval that is not 0, or none, and a place in its receive buffer.
+pub fn handshake_completes()
+    ensures { HandshakeCompletes }
 {}
