@@ -1,13 +1,24 @@
 //! Segments, datagrams and messages that are written by hand.
 
+ghost use Rattle.std.specs.Prelude.{◌≡◌, Option, true, false, None, Some, MatchOption, MatchResult, is_some, option_copied};
+ghost use Rattle.drill_lines.specs.declared.wrong.Wrong.TheVariants as wrong;
+ghost use Rattle.drill_lines.specs.Fields.{GoesOn, ack_of, control_of, end_of, fields_of, is_as_long, is_checked, is_flags};
+ghost use Rattle.drill_lines.specs.Fields.{is_printed_so, key_named, with_one, with_range, with_two};
+ghost use Rattle.drill_lines.specs.Reads.{Reads};
+ghost use Rattle.drill_lines.specs.Requests.{carried_value, fields_value};
+ghost use Rattle.sock_pair.specs.ScriptText.{words_of};
+ghost use Rattle.sock_pair.specs.ScriptWords.{Word};
+
 use crate::places::{address, endpoint, is_hex, octet, port, word32};
-use crate::request::Call;
 use crate::wrong::{Read, Wrong, counted, meant};
 use control_wire::{TcpControl, TcpSeqNumber, TcpTimestampRepr};
 use ip_wire::IpEndpoint;
 use sock_pair::script::flags;
 use sock_pair::script::values::{is_text, number};
 use sock_pair::script::words::split_word;
+
+/// The blocks of SACK.
+type Ranges = [Option<(u32, u32)>; 3];
 
 /// The longest payload of a packet.
 pub const PAYLOAD: usize = 65535;
@@ -33,7 +44,7 @@ pub struct Fields<'t> {
     pub mss: Option<u16>,
     pub scale: Option<u8>,
     pub sack: bool,
-    pub ranges: [Option<(u32, u32)>; 3],
+    pub ranges: Ranges,
     pub timestamp: Option<TcpTimestampRepr>,
     pub len: Option<usize>,
     pub carried: Carried<'t>,
@@ -63,40 +74,52 @@ const NONE: Fields<'static> = Fields {
 
 /// The fields of a line, in any order; of those that stand twice the last. The control bits of a segment are those with
 /// which it is printed.
-pub fn read_fields(words: &[u8]) -> Read<Call<'_>> {
+#[tactic(auto, unfolding(crate::specs::Fields::fields_of))]
+pub fn read_fields(words: &[u8]) -> Read<Fields<'_>>
+    ensures { Reads fields_value (fields_of KEYS.now (words_of words.now)) result }
+{
     let mut fields = NONE;
     let mut rest = words;
-    let mut first: Option<&[u8]> = None;
-    for _ in 0..words.len() {
-        let Some((key, values)) = split_word(rest) else {
-            break;
-        };
-        if let Some(control) = control_of(key) {
+    let mut bits: Option<&[u8]> = None;
+    while let Some((word, values)) = split_word(rest) {
+        if let Some(control) = control_of(word) {
             fields.control = Some(control);
-            first = Some(key);
+            bits = Some(word);
             rest = values;
         } else {
-            rest = fields.read(meant(key_of(key))?, values)?;
+            rest = fields.read(meant(key_of(word))?, values)?;
         }
     }
-    fields.check(first)?;
-    Ok(Call::Take(fields))
+    fields.check(bits)?;
+    Ok(fields)
 }
 
 // The control bits that are printed so.
-fn control_of(word: &[u8]) -> Option<TcpControl> {
-    for control in [
-        TcpControl::None,
-        TcpControl::Psh,
-        TcpControl::Fin,
-        TcpControl::Syn,
-        TcpControl::Rst,
-    ] {
-        if flags(control, false).as_bytes() == word || flags(control, true).as_bytes() == word {
-            return Some(control);
-        }
+#[tactic(auto, unfolding(crate::specs::Fields::control_of))]
+fn control_of(word: &[u8]) -> Option<TcpControl>
+    ensures { result ≡ control_of word.now }
+{
+    if is_flags(TcpControl::None, word) {
+        Some(TcpControl::None)
+    } else if is_flags(TcpControl::Psh, word) {
+        Some(TcpControl::Psh)
+    } else if is_flags(TcpControl::Fin, word) {
+        Some(TcpControl::Fin)
+    } else if is_flags(TcpControl::Syn, word) {
+        Some(TcpControl::Syn)
+    } else if is_flags(TcpControl::Rst, word) {
+        Some(TcpControl::Rst)
+    } else {
+        None
     }
-    None
+}
+
+// Whether a segment with these bits is printed so.
+#[tactic(auto, unfolding(crate::specs::Fields::is_flags))]
+fn is_flags(control: TcpControl, word: &[u8]) -> bool
+    ensures { result ≡ is_flags control word.now }
+{
+    flags(control, false).as_bytes() == word || flags(control, true).as_bytes() == word
 }
 
 // What a field says of the packet.
@@ -123,7 +146,8 @@ enum Key {
 #[derive(Clone, Copy)]
 struct Keyed(&'static str, Key);
 
-const KEYS: &[Keyed] = &[
+/// All keys.
+pub(crate) const KEYS: &[Keyed] = &[
     Keyed("seq", Key::Seq),
     Keyed("ack", Key::Ack),
     Keyed("win", Key::Win),
@@ -141,86 +165,101 @@ const KEYS: &[Keyed] = &[
     Keyed("protocol", Key::Protocol),
 ];
 
-fn key_of(word: &[u8]) -> Option<Key> {
-    for keyed in KEYS {
-        if keyed.0.as_bytes() == word {
-            return Some(keyed.1);
-        }
-    }
-    None
-}
-
-// A word, and what stands behind it.
-type Taken<'t> = (&'t [u8], &'t [u8]);
-
-fn next(words: &[u8]) -> Read<Taken<'_>> {
-    counted(split_word(words))
+fn key_of(word: &[u8]) -> Option<Key>
+    ensures { result ≡ key_named word.now KEYS.now }
+{
+    let at = KEYS.iter().position(|keyed| keyed.0.as_bytes() == word)?;
+    let keyed = KEYS.get(at)?;
+    Some(keyed.1)
 }
 
 impl<'t> Fields<'t> {
     // The bits are printed as they are written, and the payload is as long as it is said to be.
-    fn check(&self, bits: Option<&[u8]>) -> Read<()> {
-        if let (Some(control), Some(bits)) = (self.control, bits)
-            && flags(control, self.ack.is_some()).as_bytes() != bits
-        {
-            return Err(Wrong::Word);
+    fn check(&self, bits: Option<&[u8]>) -> Read<()>
+        ensures { MatchResult result (λ _. is_checked (fields_value self.now) (option_copied bits) ≡ true)
+            (λ e. (is_checked (fields_value self.now) (option_copied bits) ≡ false) × (e ≡ wrong.Word)) }
+    {
+        if self.is_printed_so(bits) && self.is_as_long() {
+            Ok(())
+        } else {
+            Err(Wrong::Word)
         }
+    }
+
+    fn is_printed_so(&self, bits: Option<&[u8]>) -> bool
+        ensures { result ≡ is_printed_so self.now.control (is_some self.now.ack) (option_copied bits) }
+    {
+        match (self.control, bits) {
+            (Some(control), Some(bits)) => flags(control, self.ack.is_some()).as_bytes() == bits,
+            _ => true,
+        }
+    }
+
+    fn is_as_long(&self) -> bool
+        ensures { result ≡ is_as_long self.now.len (carried_value self.now.carried) }
+    {
         let len = match self.carried {
-            Carried::Unnamed => return Ok(()),
+            Carried::Unnamed => return true,
             Carried::Text(text) => text.len(),
             Carried::Hex(digits) => digits.len() / 2,
         };
-        if len > PAYLOAD || self.len.is_some_and(|said| said != len) {
-            return Err(Wrong::Word);
-        }
-        Ok(())
+        len <= PAYLOAD
+            && match self.len {
+                None => true,
+                Some(said) => said == len,
+            }
     }
 
     // Reads the values of a key, and answers what stands behind them.
-    fn read(&mut self, key: Key, values: &'t [u8]) -> Read<&'t [u8]> {
-        if let Key::Sack = key {
-            self.sack = true;
-            return Ok(values);
-        }
-        let (word, rest) = next(values)?;
+    fn read(&mut self, key: Key, values: &'t [u8]) -> Read<&'t [u8]>
+        ensures { (bits : Option Word) → GoesOn KEYS.now key (fields_value self.old, bits) (words_of values.now) result
+            (fields_value self.new, bits) }
+    {
         match key {
-            Key::Range => {
-                let (end, rest) = next(rest)?;
-                meant(self.add_range(word, end))?;
-                Ok(rest)
+            Key::Sack => {
+                self.sack = true;
+                Ok(values)
             }
-            Key::Stamp => {
-                let (echo, rest) = next(rest)?;
-                meant(self.set_timestamp(word, echo))?;
+            Key::Range | Key::Stamp => {
+                let (first, rest) = counted(split_word(values))?;
+                let (second, rest) = counted(split_word(rest))?;
+                meant(self.set_two(key, first, second))?;
                 Ok(rest)
             }
             _ => {
+                let (word, rest) = counted(split_word(values))?;
                 meant(self.set(key, word))?;
                 Ok(rest)
             }
         }
     }
 
-    fn add_range(&mut self, start: &[u8], end: &[u8]) -> Option<()> {
-        let range = (word32(start)?, word32(end)?);
-        let [first, second, third] = self.ranges;
-        self.ranges = match (first, second, third) {
-            (None, _, _) => [Some(range), None, None],
-            (_, None, _) => [first, Some(range), None],
-            (_, _, None) => [first, second, Some(range)],
+    // A key with two values; none where they are not of its form.
+    #[tactic(auto, unfolding(crate::specs::Fields::with_two))]
+    fn set_two(&mut self, key: Key, first: &[u8], second: &[u8]) -> Option<()>
+        ensures { let meant = with_two key (fields_value self.old) first.now second.now in
+            MatchOption result (meant ≡ None) (λ _. meant ≡ Some (fields_value self.new)) }
+    {
+        let (first, second) = (word32(first)?, word32(second)?);
+        match key {
+            Key::Range => self.ranges = with_range(self.ranges, (first, second))?,
+            Key::Stamp => {
+                self.timestamp = Some(TcpTimestampRepr {
+                    tsval: first,
+                    tsecr: second,
+                });
+            }
             _ => return None,
-        };
-        Some(())
-    }
-
-    fn set_timestamp(&mut self, value: &[u8], echo: &[u8]) -> Option<()> {
-        let (tsval, tsecr) = (word32(value)?, word32(echo)?);
-        self.timestamp = Some(TcpTimestampRepr { tsval, tsecr });
+        }
         Some(())
     }
 
     // A key with one value; none where the value is not of its form.
-    fn set(&mut self, key: Key, word: &'t [u8]) -> Option<()> {
+    #[tactic(auto, unfolding(crate::specs::Fields::with_one))]
+    fn set(&mut self, key: Key, word: &'t [u8]) -> Option<()>
+        ensures { let meant = with_one key (fields_value self.old) word.now in
+            MatchOption result (meant ≡ None) (λ _. meant ≡ Some (fields_value self.new)) }
+    {
         match key {
             Key::Seq => self.seq = word32(word)?,
             Key::Ack => self.ack = ack(word)?,
@@ -228,13 +267,6 @@ impl<'t> Fields<'t> {
             Key::Mss => self.mss = Some(port(word)?),
             Key::Scale => self.scale = Some(octet(word)?),
             Key::Len => self.len = Some(number(word, PAYLOAD)?),
-            _ => return self.set_other(key, word),
-        }
-        Some(())
-    }
-
-    fn set_other(&mut self, key: Key, word: &'t [u8]) -> Option<()> {
-        match key {
             Key::Data if is_text(word) => self.carried = Carried::Text(word),
             Key::Bytes if is_hex(word) => self.carried = Carried::Hex(word),
             Key::From => self.from = Some(end(word)?),
@@ -247,8 +279,23 @@ impl<'t> Fields<'t> {
     }
 }
 
+// One range more, of three at most.
+fn with_range(ranges: Ranges, range: (u32, u32)) -> Option<Ranges>
+    ensures { result ≡ with_range ranges range }
+{
+    match ranges {
+        [None, _, _] => Some([Some(range), None, None]),
+        [Some(first), None, _] => Some([Some(first), Some(range), None]),
+        [Some(first), Some(second), None] => Some([Some(first), Some(second), Some(range)]),
+        _ => None,
+    }
+}
+
 // An acknowledgement number, or `-` for none.
-fn ack(word: &[u8]) -> Option<Option<TcpSeqNumber>> {
+#[tactic(auto, unfolding(crate::specs::Fields::ack_of))]
+fn ack(word: &[u8]) -> Option<Option<TcpSeqNumber>>
+    ensures { result ≡ ack_of word.now }
+{
     if word == b"-".as_slice() {
         return Some(None);
     }
@@ -257,7 +304,10 @@ fn ack(word: &[u8]) -> Option<Option<TcpSeqNumber>> {
 }
 
 // An endpoint, or an address, with port 0.
-fn end(word: &[u8]) -> Option<IpEndpoint> {
+#[tactic(auto, unfolding(crate::specs::Fields::end_of))]
+fn end(word: &[u8]) -> Option<IpEndpoint>
+    ensures { result ≡ end_of word.now }
+{
     if let Some(endpoint) = endpoint(word) {
         return Some(endpoint);
     }

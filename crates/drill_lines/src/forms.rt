@@ -1,15 +1,22 @@
 //! What a line asks for, by its form: an unknown first word, else a wrong number of words, else a bad word.
-ghost use Rattle.std.specs.Prelude.{◌≡◌, MatchResult};
-ghost use Rattle.drill_lines.specs.Faults.{IsOfLine};
-ghost use Rattle.sock_pair.specs.ScriptWords.{number_of};
+ghost use Rattle.std.specs.Prelude.{◌≡◌, Some, option_copied};
+ghost use Rattle.drill_lines.specs.Forms.{behind, behind_space, bytes_mean, call_means, call_of, expect_means, line_means};
+ghost use Rattle.drill_lines.specs.Forms.{most_of, not_zero, number_for, optional_of, place_means, place_of, protocol_of};
+ghost use Rattle.drill_lines.specs.Forms.{queues_of, request_means, room_means, shape_named, which_of, ReadsLine, deliver_means, free, is_written};
+ghost use Rattle.drill_lines.specs.Forms.{none_means, other_means};
+ghost use Rattle.drill_lines.specs.Names.{is_free_in};
+ghost use Rattle.drill_lines.specs.Reads.{Reads, or_word};
+ghost use Rattle.drill_lines.specs.Requests.{call_value, request_value};
 ghost use Rattle.drill_lines.specs.Words.{checksum_of, congestion_of, version_of};
+ghost use Rattle.sock_pair.specs.ScriptText.{words_of};
+ghost use Rattle.sock_pair.specs.ScriptWords.{number_of};
 
-use crate::fields::read_fields;
+use crate::fields::{KEYS, read_fields};
 use crate::names::Names;
 use crate::places::{endpoint, is_hex, listen_endpoint, octet, port, word32};
 use crate::request::{Bytes, Call, Counted, Expected, Optional, Place, Request, Which};
 use crate::room::{BYTES, PLACES, Queues, Room};
-use crate::shapes::{Form, Shape, shape_of};
+use crate::shapes::{Form, SHAPES, Shape, shape_of};
 use crate::wrong::{Read, Wrong, counted, meant};
 use ip_wire::{Checksum, IpProtocol, IpVersion};
 use smoltcp_socket::icmp;
@@ -27,7 +34,8 @@ const SIZE: u32 = 1_048_576;
 
 /// What a line asks for, or its fault.
 pub fn request_of<'t>(names: &Names<'t>, line: &Line<'t>) -> Result<Request<'t>, ScriptError>
-    ensures { MatchResult result (λ _. Unit {0}) (λ e. IsOfLine line.now.number e) }
+    ensures { ReadsLine (line_means KEYS.now names.now.names.items line.now.number (shape_named line.now.name.now SHAPES.now)
+        (words_of line.now.values.now) line.now.values.now) result }
 {
     let number = line.number;
     let Some(Shape(_, _, form)) = shape_of(line.name) else {
@@ -40,14 +48,16 @@ pub fn request_of<'t>(names: &Names<'t>, line: &Line<'t>) -> Result<Request<'t>,
     }
 }
 
-fn read<'t>(names: &Names<'t>, form: Form, values: &'t [u8]) -> Read<Request<'t>> {
+#[tactic(auto, unfolding(crate::specs::Forms::request_means))]
+fn read<'t>(names: &Names<'t>, form: Form, values: &'t [u8]) -> Read<Request<'t>>
+    ensures { Reads request_value (request_means KEYS.now names.now.names.items form (words_of values.now) values.now)
+        result }
+{
     match form {
         Form::Example => Ok(Request::Example(counted(one_word(values))?)),
         Form::Clock => Ok(Request::Clock(meant(millis(counted(one_word(values))?))?)),
         Form::Word => Ok(Request::Word(meant(word32(counted(one_word(values))?))?)),
-        Form::Tcp | Form::Udp | Form::Icmp | Form::Raw => {
-            Ok(Request::Make(room(names, form, values)?))
-        }
+        Form::Tcp | Form::Udp | Form::Icmp | Form::Raw => room(names, form, values),
         Form::Line => Ok(Request::Line(behind_space(values))),
         Form::Deliver => deliver(names, values),
         Form::Expect => expect(names, values),
@@ -56,7 +66,9 @@ fn read<'t>(names: &Names<'t>, form: Form, values: &'t [u8]) -> Read<Request<'t>
 }
 
 // The text behind the first space.
-fn behind_space(values: &[u8]) -> &[u8] {
+fn behind_space(values: &[u8]) -> &[u8]
+    ensures { result.now ≡ behind_space values.now }
+{
     match values.first() {
         Some(_) => &values[1..],
         None => values,
@@ -78,7 +90,10 @@ fn at_most(word: &[u8], most: u32) -> Option<u32>
 }
 
 // `tcp S RX TX`, and the lines of the other kinds
-fn room(names: &Names<'_>, form: Form, values: &[u8]) -> Read<Room> {
+#[tactic(auto, unfolding(crate::specs::Forms::room_means))]
+fn room<'t>(names: &Names<'_>, form: Form, values: &[u8]) -> Read<Request<'t>>
+    ensures { Reads request_value (room_means names.now.names.items form (words_of values.now)) result }
+{
     match form {
         Form::Tcp => {
             let (name, rx, tx) = counted(three_words(values))?;
@@ -86,50 +101,44 @@ fn room(names: &Names<'_>, form: Form, values: &[u8]) -> Read<Room> {
             free(names, name, Room::Tcp { rx, tx })
         }
         Form::Udp => {
-            let (name, queues) = queues(values)?;
+            let (name, a, b, c, d) = counted(five_words(values))?;
+            let queues = meant(queues((a, b), (c, d)))?;
             free(names, name, Room::Udp(queues))
         }
         Form::Icmp => {
-            let (name, queues) = queues(values)?;
+            let (name, a, b, c, d) = counted(five_words(values))?;
+            let queues = meant(queues((a, b), (c, d)))?;
             free(names, name, Room::Icmp(queues))
         }
-        _ => raw_room(names, values),
+        _ => {
+            let (name, first, second, places, size) = counted(five_words(values))?;
+            let (version, protocol) = (meant(version(first))?, meant(protocol(second))?);
+            let queues = meant(queues((places, size), (places, size)))?;
+            free(names, name, Room::Raw(version, protocol, queues))
+        }
     }
 }
 
-fn free(names: &Names<'_>, name: &[u8], room: Room) -> Read<Room> {
+fn free<'t>(names: &Names<'_>, name: &[u8], room: Room) -> Read<Request<'t>>
+    ensures { Reads request_value (or_word (free names.now.names.items name.now (Some room))) result }
+{
     if names.is_free(name) {
-        Ok(room)
+        Ok(Request::Make(room))
     } else {
         Err(Wrong::Word)
     }
 }
 
-// `S PLACES BYTES PLACES BYTES`: of what comes, and of what goes
-fn queues(values: &[u8]) -> Read<(&[u8], Queues)> {
-    let (name, rx_places, rx_bytes, tx_places, tx_bytes) = counted(five_words(values))?;
-    let queues = Queues {
-        rx_places: meant(number(rx_places, PLACES))?,
-        rx_bytes: meant(number(rx_bytes, BYTES))?,
-        tx_places: meant(number(tx_places, PLACES))?,
-        tx_bytes: meant(number(tx_bytes, BYTES))?,
-    };
-    Ok((name, queues))
-}
-
-// `S VERSION PROTOCOL PLACES BYTES`, as many places and bytes each way
-fn raw_room(names: &Names<'_>, values: &[u8]) -> Read<Room> {
-    let (name, of_version, of_protocol, places, bytes) = counted(five_words(values))?;
-    let version = meant(version(of_version))?;
-    let protocol = meant(protocol(of_protocol))?;
-    let (places, bytes) = (meant(number(places, PLACES))?, meant(number(bytes, BYTES))?);
-    let queues = Queues {
-        rx_places: places,
-        rx_bytes: bytes,
-        tx_places: places,
-        tx_bytes: bytes,
-    };
-    free(names, name, Room::Raw(version, protocol, queues))
+// `PLACES BYTES` of what comes, and of what goes
+fn queues(rx: (&[u8], &[u8]), tx: (&[u8], &[u8])) -> Option<Queues>
+    ensures { result ≡ queues_of rx.0.now rx.1.now tx.0.now tx.1.now }
+{
+    Some(Queues {
+        rx_places: number(rx.0, PLACES)?,
+        rx_bytes: number(rx.1, BYTES)?,
+        tx_places: number(tx.0, PLACES)?,
+        tx_bytes: number(tx.1, BYTES)?,
+    })
 }
 
 // `4`, `6`, or `-` for both
@@ -146,7 +155,10 @@ fn version(word: &[u8]) -> Option<Option<IpVersion>>
 }
 
 // A number of at most 255, or `-` for any
-fn protocol(word: &[u8]) -> Option<Option<IpProtocol>> {
+#[tactic(auto, unfolding(crate::specs::Forms::protocol_of))]
+fn protocol(word: &[u8]) -> Option<Option<IpProtocol>>
+    ensures { result ≡ protocol_of word.now }
+{
     if word == b"-".as_slice() {
         return Some(None);
     }
@@ -155,20 +167,32 @@ fn protocol(word: &[u8]) -> Option<Option<IpProtocol>> {
 }
 
 // `S last S`, or `S N S`
-fn deliver<'t>(names: &Names<'t>, values: &'t [u8]) -> Read<Request<'t>> {
+fn deliver<'t>(names: &Names<'_>, values: &[u8]) -> Read<Request<'t>>
+    ensures { Reads request_value (deliver_means names.now.names.items (words_of values.now)) result }
+{
     let (from, which, to) = counted(three_words(values))?;
     let from = meant(names.place_of(from))?;
-    let which = if which == b"last".as_slice() {
-        Which::Last
-    } else {
-        Which::Number(meant(number(which, 9_999_999_999))?)
-    };
+    let which = meant(which_of(which))?;
     let to = meant(names.place_of(to))?;
     Ok(Request::Deliver(from, which, to))
 }
 
+#[tactic(auto, unfolding(crate::specs::Forms::which_of))]
+fn which_of(word: &[u8]) -> Option<Which>
+    ensures { result ≡ which_of word.now }
+{
+    if word == b"last".as_slice() {
+        return Some(Which::Last);
+    }
+    let number = number(word, 9_999_999_999)?;
+    Some(Which::Number(number))
+}
+
 // `S STATE`, or `S poll MOMENT`
-fn expect<'t>(names: &Names<'t>, values: &'t [u8]) -> Read<Request<'t>> {
+#[tactic(auto, unfolding(crate::specs::Forms::expect_means))]
+fn expect<'t>(names: &Names<'_>, values: &'t [u8]) -> Read<Request<'t>>
+    ensures { Reads request_value (expect_means names.now.names.items (words_of values.now)) result }
+{
     if let Some((name, state)) = two_words(values) {
         let place = meant(names.place_of(name))?;
         return Ok(Request::Expect(place, Expected::State(state)));
@@ -182,15 +206,20 @@ fn expect<'t>(names: &Names<'t>, values: &'t [u8]) -> Read<Request<'t>> {
     }
 }
 
-fn call<'t>(names: &Names<'t>, form: Form, values: &'t [u8]) -> Read<Request<'t>> {
+fn call<'t>(names: &Names<'_>, form: Form, values: &'t [u8]) -> Read<Request<'t>>
+    ensures { Reads request_value (call_of KEYS.now names.now.names.items form (words_of values.now)) result }
+{
     let (name, rest) = counted(split_word(values))?;
-    let call = call_of(form, rest)?;
+    let call = call_behind(form, rest)?;
     let place = meant(names.place_of(name))?;
     Ok(Request::Call(place, call))
 }
 
 // What stands behind the name of the socket.
-fn call_of(form: Form, rest: &[u8]) -> Read<Call<'_>> {
+#[tactic(auto, unfolding(crate::specs::Forms::call_means))]
+fn call_behind(form: Form, rest: &[u8]) -> Read<Call<'_>>
+    ensures { Reads call_value (call_means KEYS.now form (words_of rest.now)) result }
+{
     match form {
         Form::Plain(plain) => nothing(rest, Call::Plain(plain)),
         Form::Switch(which) => {
@@ -206,12 +235,15 @@ fn call_of(form: Form, rest: &[u8]) -> Read<Call<'_>> {
             Ok(Call::Optional(which, number))
         }
         Form::Bytes(which) => bytes(which, rest),
-        Form::Take => read_fields(rest),
+        Form::Take => Ok(Call::Take(read_fields(rest)?)),
         _ => other_call(form, rest),
     }
 }
 
-fn other_call(form: Form, rest: &[u8]) -> Read<Call<'_>> {
+#[tactic(auto, unfolding(crate::specs::Forms::other_means))]
+fn other_call(form: Form, rest: &[u8]) -> Read<Call<'_>>
+    ensures { Reads call_value (other_means form (words_of rest.now)) result }
+{
     match form {
         Form::Listen => Ok(Call::Listen(place(rest)?)),
         Form::Bind => Ok(Call::Bind(place(rest)?)),
@@ -230,7 +262,9 @@ fn other_call(form: Form, rest: &[u8]) -> Read<Call<'_>> {
     }
 }
 
-fn nothing<'t>(rest: &[u8], call: Call<'t>) -> Read<Call<'t>> {
+fn nothing<'t>(rest: &[u8], call: Call<'t>) -> Read<Call<'t>>
+    ensures { Reads call_value (none_means (call_value call) (words_of rest.now)) result }
+{
     match split_word(rest) {
         None => Ok(call),
         Some(_) => Err(Wrong::Number),
@@ -238,7 +272,9 @@ fn nothing<'t>(rest: &[u8], call: Call<'t>) -> Read<Call<'t>> {
 }
 
 // The largest number of such a line.
-fn most(which: Counted) -> u32 {
+fn most(which: Counted) -> u32
+    ensures { result ≡ most_of which }
+{
     match which {
         Counted::Connect => u32::MAX,
         Counted::Fill | Counted::Recv | Counted::Peek => SIZE,
@@ -247,49 +283,82 @@ fn most(which: Counted) -> u32 {
 }
 
 // `-` for none, or a number: of milliseconds, of hops from 1 to 255, or any.
-fn optional(which: Optional, word: &[u8]) -> Option<Option<u32>> {
+#[tactic(auto, unfolding(crate::specs::Forms::optional_of))]
+fn optional(which: Optional, word: &[u8]) -> Option<Option<u32>>
+    ensures { result ≡ optional_of which word.now }
+{
     if word == b"-".as_slice() {
         return Some(None);
     }
-    let number = match which {
-        Optional::Timeout | Optional::AckDelay | Optional::KeepAlive => millis(word)?,
-        Optional::HopLimit => not_zero(at_most(word, 255)?)?,
-        Optional::Timestamps => word32(word)?,
-    };
+    let number = number_for(which, word)?;
     Some(Some(number))
 }
 
-fn not_zero(number: u32) -> Option<u32> {
-    if number == 0 { None } else { Some(number) }
+fn number_for(which: Optional, word: &[u8]) -> Option<u32>
+    ensures { result ≡ number_for which word.now }
+{
+    match which {
+        Optional::Timeout | Optional::AckDelay | Optional::KeepAlive => millis(word),
+        Optional::HopLimit => not_zero(at_most(word, 255)),
+        Optional::Timestamps => word32(word),
+    }
+}
+
+fn not_zero(number: Option<u32>) -> Option<u32>
+    ensures { result ≡ not_zero number }
+{
+    match number {
+        Some(0) | None => None,
+        Some(number) => Some(number),
+    }
 }
 
 // Nothing, or one word: of printable ASCII, or of hexadecimal digits.
-fn bytes(which: Bytes, rest: &[u8]) -> Read<Call<'_>> {
-    let word = match split_word(rest) {
-        None => return Ok(Call::Bytes(which, &[])),
-        Some(_) => counted(one_word(rest))?,
+#[tactic(auto, unfolding(crate::specs::Forms::bytes_mean))]
+fn bytes(which: Bytes, rest: &[u8]) -> Read<Call<'_>>
+    ensures { Reads call_value (bytes_mean which (words_of rest.now)) result }
+{
+    let Some((word, more)) = split_word(rest) else {
+        return Ok(Call::Bytes(which, &[]));
     };
-    let fits = match which {
-        Bytes::Send | Bytes::Write => is_text(word),
-        Bytes::SendHex => is_hex(word),
-    };
-    if fits {
+    if split_word(more).is_some() {
+        return Err(Wrong::Number);
+    }
+    if is_written(which, word) {
         Ok(Call::Bytes(which, word))
     } else {
         Err(Wrong::Word)
     }
 }
 
-// Nothing, or one word.
-fn place(rest: &[u8]) -> Read<Place> {
-    match split_word(rest) {
-        None => Ok(Place::Here),
-        Some(_) => meant(place_of(counted(one_word(rest))?)),
+fn is_written(which: Bytes, word: &[u8]) -> bool
+    ensures { result ≡ is_written which word.now }
+{
+    match which {
+        Bytes::Send | Bytes::Write => is_text(word),
+        Bytes::SendHex => is_hex(word),
     }
 }
 
+// Nothing, or one word.
+#[tactic(auto, unfolding(crate::specs::Forms::place_means))]
+fn place(rest: &[u8]) -> Read<Place>
+    ensures { Reads (λ p. p) (place_means (words_of rest.now)) result }
+{
+    let Some((word, more)) = split_word(rest) else {
+        return Ok(Place::Here);
+    };
+    if split_word(more).is_some() {
+        return Err(Wrong::Number);
+    }
+    meant(place_of(word))
+}
+
 // A port, an endpoint, or what an ICMP socket is bound to: `ident:N`, `udp:WHERE`, `tcp:WHERE` or `unspecified`.
-fn place_of(word: &[u8]) -> Option<Place> {
+#[tactic(auto, unfolding(crate::specs::Forms::place_of))]
+fn place_of(word: &[u8]) -> Option<Place>
+    ensures { result ≡ place_of word.now }
+{
     if word == b"unspecified".as_slice() {
         return Some(Place::Messages(icmp::Endpoint::Unspecified));
     }
@@ -302,16 +371,16 @@ fn place_of(word: &[u8]) -> Option<Place> {
     if let Some(at) = behind(word, b"tcp:") {
         return Some(Place::Messages(icmp::Endpoint::Tcp(listen_endpoint(at)?)));
     }
-    Some(Place::At(listen_endpoint(word)?))
+    let at = listen_endpoint(word)?;
+    Some(Place::At(at))
 }
 
 // What stands behind this beginning.
-fn behind<'t>(word: &'t [u8], beginning: &[u8]) -> Option<&'t [u8]> {
-    if word.starts_with(beginning) {
-        word.get(beginning.len()..)
-    } else {
-        None
-    }
+#[tactic(auto, unfolding(crate::specs::Forms::behind))]
+fn behind<'t>(word: &'t [u8], beginning: &[u8]) -> Option<&'t [u8]>
+    ensures { option_copied result ≡ behind beginning.now word.now }
+{
+    word.strip_prefix(beginning)
 }
 
 #[tactic(auto, unfolding(crate::specs::Words::congestion_of))]

@@ -1,5 +1,8 @@
 //! The names of an example's sockets.
 
+ghost use Rattle.std.specs.Prelude.{◌≡◌, ◌++◌, ◌∷◌, [], IfOk};
+ghost use Rattle.drill_lines.specs.Names.{is_free_in, place_in};
+
 use std::alloc::{AllocFailed, Global};
 
 /// An example has at most so many sockets.
@@ -14,7 +17,9 @@ pub struct Names<'t> {
 
 impl<'t> Names<'t> {
     /// No names.
-    pub fn new(alloc: Global) -> Names<'t> {
+    pub fn new(alloc: Global) -> Names<'t>
+        ensures { result.names.items ≡ [] }
+    {
         Names {
             alloc,
             names: Vec::new(alloc),
@@ -22,27 +27,32 @@ impl<'t> Names<'t> {
     }
 
     /// The place of a name, counted from 0; none for a word that names no socket.
-    pub fn place_of(&self, word: &[u8]) -> Option<usize> {
-        for (place, name) in self.names.as_slice().iter().enumerate() {
-            if *name == word {
-                return Some(place);
-            }
-        }
-        None
+    #[tactic(auto, unfolding(crate::specs::Names::place_in))]
+    pub fn place_of(&self, word: &[u8]) -> Option<usize>
+        ensures { result ≡ place_in self.now.names.items word.now }
+    {
+        self.names.as_slice().iter().position(|name| *name == word)
     }
 
     /// Whether a socket can have this name: none has it, and there is room for one more.
-    pub fn is_free(&self, word: &[u8]) -> bool {
+    #[tactic(auto, unfolding(crate::specs::Names::is_free_in))]
+    pub fn is_free(&self, word: &[u8]) -> bool
+        ensures { result ≡ is_free_in self.now.names.items word.now }
+    {
         self.names.len() < MOST && self.place_of(word).is_none()
     }
 
     /// Adds a name.
-    pub fn add(&mut self, word: &'t [u8]) -> Result<(), AllocFailed<&'t [u8]>> {
+    pub fn add(&mut self, word: &'t [u8]) -> Result<(), AllocFailed<&'t [u8]>>
+        ensures { IfOk result (λ _. self.new.names.items ≡ self.old.names.items ++ word ∷ []) }
+    {
         self.names.push(word)
     }
 
     /// Forgets all names.
-    pub fn clear(&mut self) {
+    pub fn clear(&mut self)
+        ensures { self.new.names.items ≡ [] }
+    {
         self.names = Vec::new(self.alloc);
     }
 }

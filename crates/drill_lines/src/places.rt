@@ -1,6 +1,8 @@
 //! Addresses, endpoints and bytes as words of a line, in the form in which they are printed.
-ghost use Rattle.std.specs.Prelude.{◌≡◌};
+ghost use Rattle.std.specs.Prelude.{◌≡◌, ◌+◌, ◌≤◌, ◌<◌, ◌==◌, length, option_map, is_some, MatchOption, IfOk, IfSome, None, Some};
 ghost use Rattle.sock_pair.specs.ScriptWords.{number_of};
+ghost use Rattle.drill_lines.specs.Places.{address_of, bytes_of_hex, digit_of, endpoint_of, four_groups_at, group_at};
+ghost use Rattle.drill_lines.specs.Places.{ipv4_of, ipv6_of, is_hex, listen_endpoint_of, octet_of, parted, two_groups_at};
 
 use ip_wire::{IpAddress, IpEndpoint, IpListenEndpoint, Ipv4Address, Ipv6Address};
 use sock_pair::script::values::number;
@@ -11,7 +13,10 @@ use std::alloc::{AllocError, Global};
 const BRACKETED: usize = 41;
 
 /// `10.0.0.1`, or in brackets eight groups of four hexadecimal digits, joined by colons.
-pub fn address(word: &[u8]) -> Option<IpAddress> {
+#[tactic(auto, unfolding(crate::specs::Places::address_of))]
+pub fn address(word: &[u8]) -> Option<IpAddress>
+    ensures { result ≡ address_of word.now }
+{
     if word.first() == Some(&b'[') {
         let addr = ipv6(word)?;
         return Some(IpAddress::Ipv6(addr));
@@ -21,7 +26,10 @@ pub fn address(word: &[u8]) -> Option<IpAddress> {
 }
 
 /// `10.0.0.1:80`: an address, a colon, and a port.
-pub fn endpoint(word: &[u8]) -> Option<IpEndpoint> {
+#[tactic(auto, unfolding(crate::specs::Places::endpoint_of))]
+pub fn endpoint(word: &[u8]) -> Option<IpEndpoint>
+    ensures { result ≡ endpoint_of word.now }
+{
     let end = if word.first() == Some(&b'[') {
         BRACKETED
     } else {
@@ -36,7 +44,10 @@ pub fn endpoint(word: &[u8]) -> Option<IpEndpoint> {
 }
 
 /// A port, for any address, or an endpoint.
-pub fn listen_endpoint(word: &[u8]) -> Option<IpListenEndpoint> {
+#[tactic(auto, unfolding(crate::specs::Places::listen_endpoint_of))]
+pub fn listen_endpoint(word: &[u8]) -> Option<IpListenEndpoint>
+    ensures { result ≡ listen_endpoint_of word.now }
+{
     if let Some(port) = port(word) {
         return Some(IpListenEndpoint { addr: None, port });
     }
@@ -72,7 +83,11 @@ pub fn octet(word: &[u8]) -> Option<u8>
 }
 
 // What stands before the first such byte, and behind it.
-fn split(bytes: &[u8], stop: u8) -> Option<(&[u8], &[u8])> {
+#[tactic(auto, unfolding(crate::specs::Places::parted))]
+fn split(bytes: &[u8], stop: u8) -> Option<(&[u8], &[u8])>
+    ensures { let parts = parted stop bytes.now in
+        MatchOption result (parts ≡ None) (λ p. parts ≡ Some (p.0.now, p.1.now)) }
+{
     let end = len_before(bytes, stop);
     if end >= bytes.len() {
         return None;
@@ -80,40 +95,82 @@ fn split(bytes: &[u8], stop: u8) -> Option<(&[u8], &[u8])> {
     Some((&bytes[..end], &bytes[end + 1..]))
 }
 
-fn ipv4(word: &[u8]) -> Option<Ipv4Address> {
+#[tactic(auto, unfolding(crate::specs::Places::ipv4_of))]
+fn ipv4(word: &[u8]) -> Option<Ipv4Address>
+    ensures { result ≡ ipv4_of word.now }
+{
     let (a, rest) = split(word, b'.')?;
     let (b, rest) = split(rest, b'.')?;
     let (c, d) = split(rest, b'.')?;
     Some(Ipv4Address([octet(a)?, octet(b)?, octet(c)?, octet(d)?]))
 }
 
-fn ipv6(word: &[u8]) -> Option<Ipv6Address> {
-    if word.len() != BRACKETED || word[BRACKETED - 1] != b']' {
+#[tactic(auto, unfolding(crate::specs::Places::ipv6_of))]
+fn ipv6(word: &[u8]) -> Option<Ipv6Address>
+    ensures { result ≡ ipv6_of word.now }
+{
+    if word.len() != BRACKETED || word[40] != b']' || word[20] != b':' {
         return None;
     }
-    let mut octets = [0u8; 16];
-    for group in 0..8usize {
-        let at = 1 + 5 * group;
-        if group < 7 && word[at + 4] != b':' {
-            return None;
-        }
-        octets[2 * group] = pair(word[at], word[at + 1])?;
-        octets[2 * group + 1] = pair(word[at + 2], word[at + 3])?;
+    let [a, b, c, d, e, f, g, h] = four_groups(word, 1)?;
+    let [i, j, k, l, m, n, o, p] = four_groups(word, 21)?;
+    Some(Ipv6Address([
+        a, b, c, d, e, f, g, h, i, j, k, l, m, n, o, p,
+    ]))
+}
+
+// The octets of the four groups that begin at this place, with colons between them.
+#[tactic(auto, unfolding(crate::specs::Places::four_groups_at))]
+fn four_groups(word: &[u8], at: usize) -> Option<[u8; 8]>
+    requires { at + 19 ≤ length word.now }
+    ensures { result ≡ four_groups_at word.now at }
+{
+    if word[at + 9] != b':' {
+        return None;
     }
-    Some(Ipv6Address(octets))
+    let [a, b, c, d] = two_groups(word, at)?;
+    let [e, f, g, h] = two_groups(word, at + 10)?;
+    Some([a, b, c, d, e, f, g, h])
+}
+
+#[tactic(auto, unfolding(crate::specs::Places::two_groups_at))]
+fn two_groups(word: &[u8], at: usize) -> Option<[u8; 4]>
+    requires { at + 9 ≤ length word.now }
+    ensures { result ≡ two_groups_at word.now at }
+{
+    if word[at + 4] != b':' {
+        return None;
+    }
+    let [a, b] = group(word, at)?;
+    let [c, d] = group(word, at + 5)?;
+    Some([a, b, c, d])
+}
+
+// The octets that the four digits from this place on write.
+#[tactic(auto, unfolding(crate::specs::Places::group_at))]
+fn group(word: &[u8], at: usize) -> Option<[u8; 2]>
+    requires { at + 4 ≤ length word.now }
+    ensures { result ≡ group_at word.now at }
+{
+    let high = pair(word[at], word[at + 1])?;
+    let low = pair(word[at + 2], word[at + 3])?;
+    Some([high, low])
 }
 
 // The octet that two hexadecimal digits write.
-fn pair(high: u8, low: u8) -> Option<u8> {
+fn pair(high: u8, low: u8) -> Option<u8>
+    ensures { result ≡ octet_of high low }
+{
     let (high, low) = (digit(high)?, digit(low)?);
-    if high > 15 || low > 15 {
-        return None;
-    }
     Some(16 * high + low)
 }
 
 // The value of a hexadecimal digit, in lower case.
-fn digit(byte: u8) -> Option<u8> {
+#[tactic(auto, unfolding(crate::specs::Places::digit_of))]
+fn digit(byte: u8) -> Option<u8>
+    ensures value { result ≡ digit_of byte }
+    ensures small { IfSome result (λ n. n < 16) }
+{
     match byte {
         b'0'..=b'9' => Some(byte - b'0'),
         b'a'..=b'f' => Some(byte - b'a' + 10),
@@ -122,7 +179,10 @@ fn digit(byte: u8) -> Option<u8> {
 }
 
 /// Whether a word is hexadecimal digits in lower case, two for each byte.
-pub fn is_hex(word: &[u8]) -> bool {
+#[tactic(auto, unfolding(crate::specs::Places::is_hex))]
+pub fn is_hex(word: &[u8]) -> bool
+    ensures { result ≡ is_hex word.now }
+{
     word.len().is_multiple_of(2) && word.iter().all(|byte| digit(*byte).is_some())
 }
 

@@ -14,10 +14,12 @@ pub struct Reader<'t> {
     names: Names<'t>,
 }
 
-/// What a line asks for, and its number, counted from 1.
+/// What a line asks for, its number, counted from 1, and the words behind its first.
 #[derive(Clone, Copy)]
 pub struct Numbered<'t> {
     pub line: usize,
+    pub name: &'t [u8],
+    pub values: &'t [u8],
     pub request: Request<'t>,
 }
 
@@ -44,6 +46,8 @@ impl<'t> Reader<'t> {
         self.note(&request, &line)?;
         Ok(Some(Numbered {
             line: line.number,
+            name: line.name,
+            values: line.values,
             request,
         }))
     }

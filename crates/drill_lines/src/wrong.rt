@@ -1,4 +1,6 @@
 //! What is wrong with the words of a line.
+ghost use Rattle.std.specs.Prelude.{◌≡◌, MatchResult, None, Some};
+ghost use Rattle.drill_lines.specs.declared.wrong.Wrong.TheVariants as wrong;
 
 /// What is wrong with the words behind the first of a line.
 #[derive(Clone, Copy)]
@@ -13,11 +15,15 @@ pub enum Wrong {
 pub type Read<T> = Result<T, Wrong>;
 
 /// The meaning of a word that has one.
-pub fn meant<T>(word: Option<T>) -> Read<T> {
+pub fn meant<T>(word: Option<T>) -> Read<T>
+    ensures { MatchResult result (λ meaning. word ≡ Some meaning) (λ e. (word ≡ None) × (e ≡ wrong.Word)) }
+{
     word.ok_or(Wrong::Word)
 }
 
 /// The words of a line that has as many as it should.
-pub fn counted<T>(words: Option<T>) -> Read<T> {
+pub fn counted<T>(words: Option<T>) -> Read<T>
+    ensures { MatchResult result (λ all. words ≡ Some all) (λ e. (words ≡ None) × (e ≡ wrong.Number)) }
+{
     words.ok_or(Wrong::Number)
 }

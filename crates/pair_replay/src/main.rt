@@ -1,22 +1,31 @@
 //! Runs a script over two TCP sockets and prints what each of its lines came to.
 #![tactic(auto)]
 
+mod capture;
+mod options;
+
+use crate::capture::capture;
+use crate::options::{Task, task_of};
 use script_program::fault::{Fault, exit_code, fault_of};
 use script_program::input::{print, read_script};
 use script_program::streams::{Input, Output};
+use sock_pair::Side;
 use sock_pair::script::replay;
-use std::io::BufWriter;
+use std::io::{BufWriter, Write};
 use std::process::ExitCode;
-use std::{env, io};
+use std::io;
 
 // What `--help` prints.
 const HELP: &str = "\
-usage: pair_replay [FILE]
+usage: pair_replay [--pcap a|b] [FILE]
 
 Runs the script of FILE, or of standard input, over two TCP sockets, and prints
 a line for each event, and at the end the state of each side and how many bytes
 it accepted, handed out and has queued. A wrong script ends with status 1, the
 number of its line and what would be right, a stream that fails with 2.
+
+--pcap a|b   writes the packets that this side sent and received in place of
+             lines, each at its moment, as a pcap stream
 ";
 
 fn main(rt: HostRuntime) -> ExitCode {
@@ -26,7 +35,8 @@ fn main(rt: HostRuntime) -> ExitCode {
 fn run(rt: &HostRuntime) -> Result<(), Fault> {
     match task_of(rt)? {
         Task::Help => print(rt, HELP),
-        Task::Script(file) => replay_script(rt, file),
+        Task::Replay(file) => replay_script(rt, file),
+        Task::Capture(side, file) => capture_script(rt, side, file),
     }
 }
 
@@ -44,31 +54,15 @@ fn replay_script(rt: &HostRuntime, file: Option<String>) -> Result<(), Fault> {
     }
 }
 
-// What the arguments ask for: a script, in a file if one is named.
-enum Task {
-    Help,
-    Script(Option<String>),
-}
-
-fn task_of(rt: &HostRuntime) -> Result<Task, Fault> {
-    let Ok(mut args) = env::args(rt) else {
+// Writes the packets of the script that this side sees.
+fn capture_script(rt: &HostRuntime, side: Side, file: Option<String>) -> Result<(), Fault> {
+    let text = read_script(rt, file)?;
+    let Ok(mut output) = BufWriter::new(rt.alloc(), io::writer(rt)) else {
         return Err(Fault::Memory);
     };
-    let _program = args.next();
-    let (file, more) = (args.next(), args.next());
-    if more.is_some() {
-        return Err(Fault::Usage("pair_replay [FILE]"));
-    }
-    Ok(if is_help(&file) {
-        Task::Help
-    } else {
-        Task::Script(file)
-    })
-}
-
-fn is_help(word: &Option<String>) -> bool {
-    match word {
-        Some(word) => word.as_str() == "--help",
-        None => false,
+    let end = capture(rt.alloc(), text.as_slice(), side, &mut output);
+    match output.flush() {
+        Ok(()) => fault_of(rt.alloc(), end, text.as_slice()),
+        Err(_) => Err(Fault::Write),
     }
 }

@@ -27,6 +27,22 @@ impl fmt::Display for Quoted<'_> {
     }
 }
 
+/// Bytes as XML text, all of them.
+#[derive(Clone, Copy)]
+pub struct Marked<'a>(pub &'a [u8]);
+
+impl fmt::Display for Marked<'_> {
+    fn fmt<W: fmt::Write>(&self, f: &mut fmt::Formatter<W>) -> fmt::Result {
+        for byte in self.0 {
+            match *byte {
+                b'"' => f.write_str("\"")?,
+                byte => write_byte(f, byte)?,
+            }
+        }
+        Ok(())
+    }
+}
+
 // How many characters show a byte.
 fn width(byte: u8) -> usize {
     match byte {

@@ -6,7 +6,7 @@ use pcap::stream::stream_header;
 use script_program::fault::{Fault, exit_code};
 use script_program::input::{print, read_script};
 use sock_pair::script::ScriptError;
-use socket_script::{Stop, Tally, run};
+use socket_script::{Stop, Tally, Wanted, run};
 use std::alloc::Global;
 use std::io::{BufWriter, Write};
 use std::process::ExitCode;
@@ -15,13 +15,15 @@ use std::{env, io};
 // What `--help` prints.
 const HELP: &str = "\
 usage: socket_drill [--pcap] [FILE]..
+       socket_drill --chart [FILE]
 
 Runs the drills of the files, or of standard input: sockets of every kind, what
 is called, and what comes to them. Where a drill says what it expects, only what
 differs is printed, and then the status is 1; else a line for each event. A wrong
 line ends with status 1 too, and what would be right, a stream that fails with 2.
 
---pcap   writes the packets that come and go in place of lines, as a pcap stream
+--pcap    writes the packets that come and go in place of lines, as a pcap stream
+--chart   draws each line and what came of it, in SVG
 ";
 
 fn main(rt: HostRuntime) -> ExitCode {
@@ -52,7 +54,7 @@ fn start(rt: &HostRuntime) -> Result<Tally, Fault> {
 #[derive(Drop)]
 struct Task {
     is_help: bool,
-    packets: bool,
+    wanted: Wanted,
     files: Vec<String>,
 }
 
@@ -63,13 +65,14 @@ fn task_of(rt: &HostRuntime) -> Result<Task, Fault> {
     let _program = args.next();
     let mut task = Task {
         is_help: false,
-        packets: false,
+        wanted: Wanted::Lines,
         files: Vec::new(rt.alloc()),
     };
     for word in args {
         match word.as_str() {
             "--help" => task.is_help = true,
-            "--pcap" => task.packets = true,
+            "--pcap" => task.wanted = Wanted::Packets,
+            "--chart" => task.wanted = Wanted::Chart,
             _ => {
                 if task.files.push(word).is_err() {
                     return Err(Fault::Memory);
@@ -77,27 +80,40 @@ fn task_of(rt: &HostRuntime) -> Result<Task, Fault> {
             }
         }
     }
+    if task.files.len() > 1 && matches!(task.wanted, Wanted::Chart) {
+        return Err(Fault::Usage("socket_drill --chart [FILE]"));
+    }
     Ok(task)
 }
 
 // Runs the drill of each file, or of standard input where there is none, and writes how many lines were as expected.
 fn drills<W: Write>(rt: &HostRuntime, task: Task, output: &mut W) -> Result<Tally, Fault> {
     let mut tally = Tally::new();
-    if task.packets && output.write_all(&stream_header()).is_err() {
-        return Err(Fault::Write);
-    }
+    begin(task.wanted, output)?;
     if task.files.is_empty() {
-        tally = drill(rt, task.packets, "", None, output)?;
+        tally = drill(rt, task.wanted, "", None, output)?;
     }
     for file in task.files {
         let label = label_of(rt.alloc(), file.as_str())?;
-        let one = drill(rt, task.packets, label.as_str(), Some(file), output)?;
+        let one = drill(rt, task.wanted, label.as_str(), Some(file), output)?;
         tally = tally.with(one);
     }
-    if tally.expected > 0 && !task.packets && tally.write(output).is_err() {
-        return Err(Fault::Write);
-    }
+    end(task.wanted, &tally, output)?;
     Ok(tally)
+}
+
+fn begin<W: Write>(wanted: Wanted, output: &mut W) -> Result<(), Fault> {
+    match wanted {
+        Wanted::Packets if output.write_all(&stream_header()).is_err() => Err(Fault::Write),
+        _ => Ok(()),
+    }
+}
+
+fn end<W: Write>(wanted: Wanted, tally: &Tally, output: &mut W) -> Result<(), Fault> {
+    match wanted {
+        Wanted::Lines if tally.expected > 0 && tally.write(output).is_err() => Err(Fault::Write),
+        _ => Ok(()),
+    }
 }
 
 // What stands before a line of this file.
@@ -110,13 +126,13 @@ fn label_of(alloc: Global, file: &str) -> Result<String, Fault> {
 
 fn drill<W: Write>(
     rt: &HostRuntime,
-    packets: bool,
+    wanted: Wanted,
     label: &str,
     file: Option<String>,
     output: &mut W,
 ) -> Result<Tally, Fault> {
     let text = read_script(rt, file)?;
-    match run(rt.alloc(), packets, label, text.as_slice(), output) {
+    match run(rt.alloc(), wanted, label, text.as_slice(), output) {
         Ok(tally) => Ok(tally),
         Err(Stop::Script(error)) => {
             let advice = second_line(rt.alloc(), label, &error, text.as_slice());

@@ -3,6 +3,7 @@
 
 mod calls;
 mod capture;
+mod chart;
 mod clock;
 mod getters;
 mod memory;
@@ -16,4 +17,4 @@ mod takes;
 mod tally;
 
 pub use play::{Stop, run};
-pub use tally::{Tally, Unwritten};
+pub use tally::{Tally, Unwritten, Wanted};

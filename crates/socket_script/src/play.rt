@@ -3,6 +3,7 @@ ghost use Rattle.std.specs.Prelude.{◌≡◌, MatchResult};
 ghost use Rattle.socket_script.specs.Stops.{IfNoDrill};
 
 use crate::calls::perform;
+use crate::chart::{Chart, Drawn};
 use crate::clock::Clock;
 use crate::getters::{Served, state_name};
 use crate::memory::{Halt, NoMemory};
@@ -10,7 +11,7 @@ use crate::packet::Packet;
 use crate::seat::{Now, Seat};
 use crate::storage::{Memory, socket_over};
 use crate::takes::hear;
-use crate::tally::{Output, Tally, Unwritten, put, put_both};
+use crate::tally::{Output, Tally, Unwritten, Wanted, put, put_both};
 use drill_lines::reader::{Numbered, Reader};
 use drill_lines::request::{Call, Counted, Expected, Request, Which};
 use drill_lines::room::Room;
@@ -31,14 +32,13 @@ pub enum Stop {
     Memory,
 }
 
-/// Runs a drill. Where `packets` is set, the packets that came and went are written, as the records of a pcap stream;
-/// else, where it says what it expects, what differs; else the line of each event.
+/// Runs a drill, and writes what is wanted of it.
 ///
 /// The fault of a text that is no drill is that of its first line that has one; nothing is written then. `file` stands
 /// before each difference.
 pub fn run<'t, W: Write>(
     alloc: Global,
-    packets: bool,
+    wanted: Wanted,
     file: &'t str,
     text: &'t [u8],
     writer: &mut W,
@@ -46,50 +46,63 @@ pub fn run<'t, W: Write>(
     ensures { MatchResult result (λ _. Unit {0})
         (λ e. IfNoDrill (W.contents writer.new ≡ W.contents writer.old) e) }
 {
-    let checks = match read_through(alloc, text) {
-        Ok(checks) => checks,
+    let found = match read_through(alloc, text) {
+        Ok(found) => found,
         Err(ScriptError::Memory) => return Err(Stop::Memory),
         Err(error) => return Err(Stop::Script(error)),
     };
-    match play_all(alloc, output_of(packets, checks), file, text, writer) {
+    let player = Player {
+        alloc,
+        file,
+        reader: Reader::new(alloc, text),
+        output: output_of(wanted, found.checks),
+        tally: Tally::new(),
+        line: String::new(alloc),
+        chart: Chart::new(),
+    };
+    match play_all(alloc, player, found.rows, writer) {
         Ok(tally) => Ok(tally),
         Err(Halt::Write) => Err(Stop::Write),
         Err(Halt::Memory) => Err(Stop::Memory),
     }
 }
 
-// Plays all lines of a text that was read through.
-fn play_all<'t, W: Write>(
+// Plays all lines of a text that was read through, and has so many events and examples.
+fn play_all<W: Write>(
     alloc: Global,
-    output: Output,
-    file: &'t str,
-    text: &'t [u8],
+    player: Player<'_>,
+    rows: usize,
     writer: &mut W,
 ) -> Result<Tally, Halt> {
-    let mut player = Player {
-        alloc,
-        file,
-        reader: Reader::new(alloc, text),
-        output,
-        tally: Tally::new(),
-        line: String::new(alloc),
-    };
+    let mut player = player;
+    if let Output::Chart = player.output {
+        player.chart.open(rows, writer)?;
+    }
     for _ in 0..u64::MAX {
         if !example(alloc, &mut player, writer)? {
             break;
         }
     }
+    if let Output::Chart = player.output {
+        player.chart.close(writer)?;
+    }
     Ok(player.tally)
 }
 
-fn output_of(packets: bool, checks: bool) -> Output {
-    if packets {
-        Output::Packets
-    } else if checks {
-        Output::Differences
-    } else {
-        Output::Events
+fn output_of(wanted: Wanted, checks: bool) -> Output {
+    match wanted {
+        Wanted::Packets => Output::Packets,
+        Wanted::Chart => Output::Chart,
+        Wanted::Lines if checks => Output::Differences,
+        Wanted::Lines => Output::Events,
     }
+}
+
+// What the lines of a drill are: whether any says what is expected, and how many rows the others have in a chart.
+#[derive(Clone, Copy)]
+struct Found {
+    checks: bool,
+    rows: usize,
 }
 
 // Plays the lines up to the next example. False where there is none.
@@ -98,19 +111,23 @@ fn example<W: Write>(alloc: Global, player: &mut Player<'_>, writer: &mut W) -> 
     with_memory(alloc, memory.as_mut_slice(), player, writer)
 }
 
-// Reads all lines, and tells whether any says what is expected.
-fn read_through(alloc: Global, text: &[u8]) -> Result<bool, ScriptError> {
+// Reads all lines.
+fn read_through(alloc: Global, text: &[u8]) -> Result<Found, ScriptError> {
     let mut reader = Reader::new(alloc, text);
-    let mut checks = false;
+    let mut found = Found {
+        checks: false,
+        rows: 0,
+    };
     for _ in 0..u64::MAX {
         let Some(numbered) = reader.next()? else {
             break;
         };
-        if let Request::Line(_) | Request::Expect(..) = numbered.request {
-            checks = true;
+        match numbered.request {
+            Request::Line(_) | Request::Expect(..) => found.checks = true,
+            _ => found.rows = found.rows.saturating_add(1),
         }
     }
-    Ok(checks)
+    Ok(found)
 }
 
 // A text that was read through has no fault, so that its lines end here for want of memory alone.
@@ -175,6 +192,7 @@ struct Player<'t> {
     output: Output,
     tally: Tally,
     line: String,
+    chart: Chart,
 }
 
 impl<'t> Player<'t> {
@@ -204,12 +222,15 @@ impl<'t> Player<'t> {
     fn begin<W: Write>(&mut self, name: &[u8], writer: &mut W) -> Result<(), Unwritten> {
         self.tally.examples = self.tally.examples.saturating_add(1);
         self.line.clear();
-        let Output::Events = self.output else {
-            return Ok(());
-        };
-        put(writer, b"example ")?;
-        put(writer, name)?;
-        put(writer, b"\n")
+        match self.output {
+            Output::Events => {
+                put(writer, b"example ")?;
+                put(writer, name)?;
+                put(writer, b"\n")
+            }
+            Output::Chart => self.chart.begin(name, writer),
+            Output::Differences | Output::Packets => Ok(()),
+        }
     }
 
     fn play<W: Write>(
@@ -225,19 +246,41 @@ impl<'t> Player<'t> {
             }
             request => {
                 self.line.clear();
+                let before = sockets.state_of(&request);
                 sockets.perform(self.alloc, &request, &mut self.line)?;
-                self.print(sockets, writer)?;
+                self.print(sockets, numbered, before, writer)?;
             }
         }
         Ok(())
     }
 
-    // Prints the line of an event, or its packets.
-    fn print<W: Write>(&self, sockets: &mut Sockets<'_>, writer: &mut W) -> Result<(), Halt> {
+    // Prints the line of an event, its packets, or its row, before which its socket was in this state.
+    fn print<W: Write>(
+        &mut self,
+        sockets: &mut Sockets<'_>,
+        numbered: &Numbered<'t>,
+        before: Option<&'static str>,
+        writer: &mut W,
+    ) -> Result<(), Halt> {
         match self.output {
             Output::Differences => Ok(()),
             Output::Events => Ok(put_line(writer, self.line.as_bytes())?),
             Output::Packets => sockets.put_packets(self.alloc, writer),
+            Output::Chart => {
+                let drawn = Drawn {
+                    line: numbered.line,
+                    millis: sockets.now.millis,
+                    name: numbered.name,
+                    values: numbered.values,
+                    answer: self.line.as_bytes(),
+                    came: is_packet(&numbered.request),
+                    state: changed(before, sockets.state_of(&numbered.request)),
+                };
+                let mut chart = self.chart;
+                chart.draw(&drawn, writer)?;
+                self.chart = chart;
+                Ok(())
+            }
         }
     }
 
@@ -251,7 +294,7 @@ impl<'t> Player<'t> {
             return Ok(());
         }
         match self.output {
-            Output::Packets => Ok(()),
+            Output::Packets | Output::Chart => Ok(()),
             _ => put_both(writer, self.file, number, text, self.line.as_bytes()),
         }
     }
@@ -272,11 +315,28 @@ impl<'t> Player<'t> {
         if self.tally.compare(word, text.as_bytes()) {
             return Ok(());
         }
-        if let Output::Packets = self.output {
+        if let Output::Packets | Output::Chart = self.output {
             return Ok(());
         }
         put_both(writer, self.file, number, word, text.as_bytes())?;
         Ok(())
+    }
+}
+
+// Whether a packet comes to a socket.
+fn is_packet(request: &Request<'_>) -> bool {
+    matches!(
+        request,
+        Request::Call(_, Call::Take(_)) | Request::Deliver(..)
+    )
+}
+
+// The state behind an event, where it is another than before.
+fn changed(before: Option<&'static str>, after: Option<&'static str>) -> Option<&'static str> {
+    let state = after?;
+    match before {
+        Some(before) if before == state => None,
+        _ => Some(state),
     }
 }
 
@@ -308,6 +368,16 @@ impl Sockets<'_> {
 }
 
 impl Sockets<'_> {
+    // The state of the socket that a line is about, if there is one.
+    fn state_of(&self, request: &Request<'_>) -> Option<&'static str> {
+        let place = match request {
+            Request::Call(place, _) | Request::Deliver(_, _, place) => *place,
+            _ => return None,
+        };
+        let seat = self.seats.get(place)?;
+        Some(state_name(&seat.socket))
+    }
+
     // What a line asks for, and its answer as text.
     fn perform(
         &mut self,

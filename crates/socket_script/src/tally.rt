@@ -3,6 +3,17 @@ ghost use Rattle.std.specs.Prelude.{◌≡◌, ◌↔◌, ◌<◌, IsTrue, false
 
 use std::io::Write;
 
+/// What a run is asked to write.
+#[derive(Clone, Copy)]
+pub enum Wanted {
+    /// Lines: what differs, where the drill says what it expects, else the line of each event.
+    Lines,
+    /// The packets that came and went, as the records of a pcap stream.
+    Packets,
+    /// A chart of all events, in SVG.
+    Chart,
+}
+
 /// What a run writes.
 #[derive(Clone, Copy)]
 pub enum Output {
@@ -12,6 +23,8 @@ pub enum Output {
     Differences,
     /// The packets that came and went, as the records of a pcap stream.
     Packets,
+    /// A chart of all events.
+    Chart,
 }
 
 /// How many lines were expected, and how many of them differed.
