@@ -1,7 +1,7 @@
 -- Segments, datagrams and messages that are written by hand: fields in any order, of those that stand twice the last.
 use Rattle.std.specs.Prelude.{ℕ, ◌+◌, ◌/◌, ◌==◌, ◌&&◌, ◌||◌, nat_le, List, [], ◌∷◌, length, Bool, true, false, Option, Some, None}
-use Rattle.std.specs.Prelude.{Result, Ok, Err, MatchResult, ◌≡◌, Bor, option_map, is_some, bytes_eq, codes, slice_get, if◌then◌else◌}
-use Rattle.std.specs.List.{position}
+use Rattle.std.specs.Prelude.{Result, Ok, Err, MatchResult, ◌≡◌, ◌≤◌, option_copied, option_map, is_some, bytes_eq, codes, if◌then◌else◌}
+use Rattle.std.specs.Borrow.{Bor}
 use Rattle.control_wire.specs.declared.tcp.TcpControl.{TcpControl}
 use Rattle.control_wire.specs.declared.tcp.TcpControl.TheVariants as control
 use Rattle.control_wire.specs.declared.seq_number.TcpSeqNumber.{TcpSeqNumber}
@@ -13,11 +13,13 @@ use Rattle.sock_pair.specs.ScriptText.{words_of}
 use Rattle.sock_pair.specs.ScriptWords.{Word, is_text, number_of}
 use Rattle.drill_lines.specs.declared.fields.Key.{Key}
 use Rattle.drill_lines.specs.declared.fields.Key.TheVariants as key
-use Rattle.drill_lines.specs.declared.fields.Keyed.{Keyed}
+use Rattle.drill_lines.specs.declared.fields.Said.{Said as SaidSoFar}
+use Rattle.drill_lines.specs.declared.fields.Values.{Values}
+use Rattle.drill_lines.specs.declared.fields.Values.TheVariants as values
 use Rattle.drill_lines.specs.declared.wrong.Wrong.{Wrong}
 use Rattle.drill_lines.specs.declared.wrong.Wrong.TheVariants as wrong
 use Rattle.drill_lines.specs.Places.{address_of, endpoint_of, is_hex}
-use Rattle.drill_lines.specs.Requests.{CarriedValue, FieldsValue, unnamed, text, hex}
+use Rattle.drill_lines.specs.Requests.{CarriedValue, FieldsValue, fields_value, unnamed, text, hex}
 
 -- nothing is said
 abbrev pub no_fields : FieldsValue
@@ -52,13 +54,24 @@ control_of w =
     else (if is_flags control.Syn w then Some control.Syn
     else (if is_flags control.Rst w then Some control.Rst else None))))
 
--- what the word of a key, in this table, says of the packet
-abbrev pub key_in : List Keyed → Option ℕ → Option Key
-key_in keys None = None
-key_in keys (Some at) = option_map (λ k. k.1) (slice_get keys at)
-
-abbrev pub key_named : Word → List Keyed → Option Key
-key_named w keys = key_in keys (position (λ k. bytes_eq k.0.now w) keys)
+-- what the word of a key says of the packet
+unfoldable pub key_of : Word → Option Key
+key_of w =
+    if bytes_eq w (codes "seq") then Some key.Seq
+    else (if bytes_eq w (codes "ack") then Some key.Ack
+    else (if bytes_eq w (codes "win") then Some key.Win
+    else (if bytes_eq w (codes "mss") then Some key.Mss
+    else (if bytes_eq w (codes "scale") then Some key.Scale
+    else (if bytes_eq w (codes "sack") then Some key.Sack
+    else (if bytes_eq w (codes "range") then Some key.Range
+    else (if bytes_eq w (codes "ts") then Some key.Stamp
+    else (if bytes_eq w (codes "len") then Some key.Len
+    else (if bytes_eq w (codes "data") then Some key.Data
+    else (if bytes_eq w (codes "bytes") then Some key.Bytes
+    else (if bytes_eq w (codes "from") then Some key.From
+    else (if bytes_eq w (codes "to") then Some key.To
+    else (if bytes_eq w (codes "hop") then Some key.Hop
+    else (if bytes_eq w (codes "protocol") then Some key.Protocol else None))))))))))))))
 
 -- an acknowledgement number, or `-` for none
 unfoldable pub ack_of : Word → Option (Option TcpSeqNumber)
@@ -113,10 +126,12 @@ with_two key.Range f w x = range_added f (number_of 4294967295 w) (number_of 429
 with_two key.Stamp f w x = stamp_set f (number_of 4294967295 w) (number_of 4294967295 x)
 with_two _ f w x = None
 
-abbrev pub has_two : Key → Bool
-has_two key.Range = true
-has_two key.Stamp = true
-has_two _ = false
+-- how many values a key has
+abbrev pub values_of : Key → Values
+values_of key.Sack = values.None
+values_of key.Range = values.Two
+values_of key.Stamp = values.Two
+values_of _ = values.One
 
 -- what is awaited: a control bit or a key, the value of this key, or its second value behind this first one
 pub data Awaited : Type 0 where
@@ -136,26 +151,37 @@ abbrev pub on_value : Going → Option Word → Option FieldsValue → Result Sa
 on_value more bits None = Err wrong.Word
 on_value more bits (Some f) = more (f, bits) field
 
+-- behind a key with so many values; SACK alone has none
+abbrev pub on_values : Going → Said → Key → Values → Result Said Wrong
+on_values more s k values.None = more (record s.0 { sack = true }, s.1) field
+on_values more s k values.One = more s (value k)
+on_values more s k values.Two = more s (value k)
+
 abbrev pub on_key : Going → Said → Option Key → Result Said Wrong
 on_key more s None = Err wrong.Word
-on_key more s (Some key.Sack) = more (record s.0 { sack = true }, s.1) field
-on_key more s (Some k) = more s (value k)
+on_key more s (Some k) = on_values more s k (values_of k)
 
-abbrev pub on_field : List Keyed → Going → Word → Said → Option TcpControl → Result Said Wrong
-on_field keys more w s (Some c) = more (record s.0 { control = Some c }, Some w) field
-on_field keys more w s None = on_key more s (key_named w keys)
+-- behind the first value of a key with so many
+abbrev pub on_first : Going → Word → Said → Key → Values → Result Said Wrong
+on_first more w s k values.None = Err wrong.Word
+on_first more w s k values.One = on_value more s.1 (with_one k s.0 w)
+on_first more w s k values.Two = more s (second k w)
 
-abbrev pub on_word : List Keyed → Going → Word → Going
-on_word keys more w s field = on_field keys more w s (control_of w)
-on_word keys more w s (value k) = if has_two k then more s (second k w) else on_value more s.1 (with_one k s.0 w)
-on_word keys more w s (second k first) = on_value more s.1 (with_two k s.0 first w)
+abbrev pub on_field : Going → Word → Said → Option TcpControl → Result Said Wrong
+on_field more w s (Some c) = more (record s.0 { control = Some c }, Some w) field
+on_field more w s None = on_key more s (key_of w)
 
--- what words say, with the keys of this table
-unfoldable pub read_words : List Keyed → List Word → Going
-read_words keys [] s field = Ok s
-read_words keys [] s (value k) = Err wrong.Number
-read_words keys [] s (second k w) = Err wrong.Number
-read_words keys (w ∷ ws) s a = on_word keys (read_words keys ws) w s a
+abbrev pub on_word : Going → Word → Going
+on_word more w s field = on_field more w s (control_of w)
+on_word more w s (value k) = on_first more w s k (values_of k)
+on_word more w s (second k first) = on_value more s.1 (with_two k s.0 first w)
+
+-- what words say
+unfoldable pub read_words : List Word → Going
+read_words [] s field = Ok s
+read_words [] s (value k) = Err wrong.Number
+read_words [] s (second k w) = Err wrong.Number
+read_words (w ∷ ws) s a = on_word (read_words ws) w s a
 
 -- the control bits are written as the segment is printed
 abbrev pub is_printed_so : Option TcpControl → Bool → Option Word → Bool
@@ -180,11 +206,15 @@ checked (Err e) = Err e
 checked (Ok (f, bits)) = if is_checked f bits then Ok f else Err wrong.Word
 
 -- what words say of a packet
-unfoldable pub fields_of : List Keyed → List Word → Result FieldsValue Wrong
-fields_of keys ws = checked (read_words keys ws (no_fields, None) field)
+unfoldable pub fields_of : List Word → Result FieldsValue Wrong
+fields_of ws = checked (read_words ws (no_fields, None) field)
 
--- the values of a key were read, and what stands behind them is answered
-abbrev pub GoesOn : List Keyed → Key → Said → List Word → Result (Bor Word) Wrong → Said → Type 0
-GoesOn keys k s ws result s' =
-    let meant = on_key (read_words keys ws) s (Some k) in
-    MatchResult result (λ rest. meant ≡ read_words keys (words_of rest.now) s' field) (λ e. meant ≡ Err e)
+abbrev pub said_value : SaidSoFar → Said
+said_value s = (fields_value s.fields, option_copied s.bits)
+
+-- what is meant goes on with what stands behind, which is answered, and no longer
+abbrev pub GoesOn : Result Said Wrong → List Word → Result (Bor Word) Wrong → Said → Type 0
+GoesOn meant ws result s' =
+    MatchResult result
+    (λ rest. (meant ≡ read_words (words_of rest.now) s' field) × (length (words_of rest.now) ≤ length ws))
+    (λ e. meant ≡ Err e)

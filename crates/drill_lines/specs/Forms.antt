@@ -1,7 +1,7 @@
 -- What the words behind the first of a line mean, by the form of the line: first their number counts, then each of them.
 use Rattle.std.specs.Prelude.{ℕ, ◌+◌, ◌==◌, ◌%◌, ◌&&◌, List, [], ◌∷◌, length, drop, take, Bool, true, false, Option, Some, None}
-use Rattle.std.specs.Prelude.{Result, Ok, Err, MatchResult, ◌≡◌, option_map, bytes_eq, codes, slice_get, if◌then◌else◌, Bor}
-use Rattle.std.specs.List.{position}
+use Rattle.std.specs.Prelude.{Result, Ok, Err, MatchResult, ◌≡◌, option_map, bytes_eq, codes, if◌then◌else◌}
+use Rattle.std.specs.Borrow.{Bor}
 use Rattle.ip_wire.specs.declared.endpoint.IpEndpoint.{IpEndpoint}
 use Rattle.ip_wire.specs.declared.protocol.IpProtocol.{IpProtocol}
 use Rattle.ip_wire.specs.declared.protocol.IpVersion.{IpVersion}
@@ -10,7 +10,6 @@ use Rattle.sock_dgram.specs.declared.icmp.endpoint.Endpoint.TheVariants as messa
 use Rattle.sock_pair.specs.ScriptWords.{Word, number_of, switch_of, is_text, one_of, two_of, three_of, five_of}
 use Rattle.sock_pair.specs.declared.script.error.ScriptError.{ScriptError}
 use Rattle.sock_pair.specs.declared.script.error.ScriptError.TheVariants as fault
-use Rattle.drill_lines.specs.declared.fields.Keyed.{Keyed}
 use Rattle.drill_lines.specs.declared.request.Bytes.{Bytes}
 use Rattle.drill_lines.specs.declared.request.Bytes.TheVariants as written
 use Rattle.drill_lines.specs.declared.request.Counted.{Counted}
@@ -27,7 +26,6 @@ use Rattle.drill_lines.specs.declared.room.Room.{Room}
 use Rattle.drill_lines.specs.declared.room.Room.TheVariants as room
 use Rattle.drill_lines.specs.declared.shapes.Form.{Form}
 use Rattle.drill_lines.specs.declared.shapes.Form.TheVariants as form
-use Rattle.drill_lines.specs.declared.shapes.Shape.{Shape}
 use Rattle.drill_lines.specs.declared.wrong.Wrong.{Wrong}
 use Rattle.drill_lines.specs.declared.wrong.Wrong.TheVariants as wrong
 use Rattle.drill_lines.specs.Fields.{fields_of}
@@ -122,14 +120,14 @@ other_means form.Checksums ws = by (λ w. option_map checksums (checksum_of w)) 
 other_means _ ws = by (λ (here, peer). ends_if (endpoint_of here) (endpoint_of peer)) (two_of ws)
 
 -- what stands behind the name of the socket
-unfoldable pub call_means : List Keyed → Form → List Word → Result CallValue Wrong
-call_means keys (form.Plain p) ws = none_means (plain p) ws
-call_means keys (form.Switch s) ws = by (λ w. option_map (switch s) (switch_of w)) (one_of ws)
-call_means keys (form.Counted c) ws = by (λ w. option_map (counted c) (number_of (most_of c) w)) (one_of ws)
-call_means keys (form.Optional o) ws = by (λ w. option_map (optional o) (optional_of o w)) (one_of ws)
-call_means keys (form.Bytes b) ws = bytes_mean b ws
-call_means keys form.Take ws = mapped taken (fields_of keys ws)
-call_means keys f ws = other_means f ws
+unfoldable pub call_means : Form → List Word → Result CallValue Wrong
+call_means (form.Plain p) ws = none_means (plain p) ws
+call_means (form.Switch s) ws = by (λ w. option_map (switch s) (switch_of w)) (one_of ws)
+call_means (form.Counted c) ws = by (λ w. option_map (counted c) (number_of (most_of c) w)) (one_of ws)
+call_means (form.Optional o) ws = by (λ w. option_map (optional o) (optional_of o w)) (one_of ws)
+call_means (form.Bytes b) ws = bytes_mean b ws
+call_means form.Take ws = mapped taken (fields_of ws)
+call_means f ws = other_means f ws
 
 abbrev pub call_if : Result CallValue Wrong → Option ℕ → Result RequestValue Wrong
 call_if (Err e) place = Err e
@@ -137,9 +135,9 @@ call_if (Ok c) None = Err wrong.Word
 call_if (Ok c) (Some place) = Ok (call place c)
 
 -- the name of a socket, and what stands behind it
-abbrev pub call_of : List Keyed → Names → Form → List Word → Result RequestValue Wrong
-call_of keys names f [] = Err wrong.Number
-call_of keys names f (name ∷ ws) = call_if (call_means keys f ws) (place_in names name)
+abbrev pub call_of : Names → Form → List Word → Result RequestValue Wrong
+call_of names f [] = Err wrong.Number
+call_of names f (name ∷ ws) = call_if (call_means f ws) (place_in names name)
 
 abbrev pub free : Names → Word → Option Room → Option RequestValue
 free names name None = None
@@ -216,36 +214,23 @@ behind_space [] = []
 behind_space (b ∷ bs) = bs
 
 -- what a line means, of this form and with these words and this text behind the first, where the sockets have these names
-unfoldable pub request_means : List Keyed → Names → Form → List Word → List ℕ → Result RequestValue Wrong
-request_means keys names form.Example ws text = by (λ w. Some (example w)) (one_of ws)
-request_means keys names form.Clock ws text = by (λ w. option_map clock (number_of 1000000000 w)) (one_of ws)
-request_means keys names form.Word ws text = by (λ w. option_map word (number_of 4294967295 w)) (one_of ws)
-request_means keys names form.Tcp ws text = room_means names form.Tcp ws
-request_means keys names form.Udp ws text = room_means names form.Udp ws
-request_means keys names form.Icmp ws text = room_means names form.Icmp ws
-request_means keys names form.Raw ws text = room_means names form.Raw ws
-request_means keys names form.Line ws text = Ok (line (behind_space text))
-request_means keys names form.Deliver ws text = deliver_means names ws
-request_means keys names form.Expect ws text = expect_means names ws
-request_means keys names f ws text = call_of keys names f ws
-
-abbrev pub shape_in : List Shape → Option ℕ → Option Shape
-shape_in shapes None = None
-shape_in shapes (Some at) = slice_get shapes at
-
--- the shape, in this table, of the lines that begin with this word
-abbrev pub shape_named : Word → List Shape → Option Shape
-shape_named w shapes = shape_in shapes (position (λ s. bytes_eq s.0.now w) shapes)
+unfoldable pub request_means : Names → Form → List Word → List ℕ → Result RequestValue Wrong
+request_means names form.Example ws text = by (λ w. Some (example w)) (one_of ws)
+request_means names form.Clock ws text = by (λ w. option_map clock (number_of 1000000000 w)) (one_of ws)
+request_means names form.Word ws text = by (λ w. option_map word (number_of 4294967295 w)) (one_of ws)
+request_means names form.Tcp ws text = room_means names form.Tcp ws
+request_means names form.Udp ws text = room_means names form.Udp ws
+request_means names form.Icmp ws text = room_means names form.Icmp ws
+request_means names form.Raw ws text = room_means names form.Raw ws
+request_means names form.Line ws text = Ok (line (behind_space text))
+request_means names form.Deliver ws text = deliver_means names ws
+request_means names form.Expect ws text = expect_means names ws
+request_means names f ws text = call_of names f ws
 
 abbrev pub at_line : {V : Type 0} → ℕ → Result V Wrong → Result V ScriptError
 at_line n (Ok v) = Ok v
 at_line n (Err wrong.Number) = Err (fault.WrongNumberOfWords n)
 at_line n (Err wrong.Word) = Err (fault.BadWord n)
-
--- what line n means, of this shape
-abbrev pub line_means : List Keyed → Names → ℕ → Option Shape → List Word → List ℕ → Result RequestValue ScriptError
-line_means keys names n None ws text = Err (fault.UnknownEvent n)
-line_means keys names n (Some s) ws text = at_line n (request_means keys names s.2 ws text)
 
 -- what was read of a line is what it means
 abbrev pub ReadsLine : Result RequestValue ScriptError → Result Request ScriptError → Type 0

@@ -1,5 +1,6 @@
 -- The names of an example's sockets, in the order in which they were made.
-use Rattle.std.specs.Prelude.{ℕ, ◌&&◌, List, length, Bool, Option, bytes_eq, nat_lt, not, is_some, Bor}
+use Rattle.std.specs.Prelude.{ℕ, ◌&&◌, List, length, Bool, Option, bytes_eq, nat_lt, not, is_some}
+use Rattle.std.specs.Borrow.{Bor}
 use Rattle.std.specs.List.{position}
 use Rattle.sock_pair.specs.ScriptWords.{Word}
 

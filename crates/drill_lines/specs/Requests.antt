@@ -123,5 +123,5 @@ request_value (requests.Clock millis) = clock millis
 request_value (requests.Word w) = word w
 request_value (requests.Call place c) = call place (call_value c)
 request_value (requests.Deliver from which to) = deliver from which to
-request_value (requests.Line text) = line text.now
+request_value (requests.Line l) = line l.now
 request_value (requests.Expect place e) = expect place (expected_value e)

@@ -1,9 +1,9 @@
 //! Segments, datagrams and messages that are written by hand.
 
-ghost use Rattle.std.specs.Prelude.{◌≡◌, Option, true, false, None, Some, MatchOption, MatchResult, is_some, option_copied};
+ghost use Rattle.std.specs.Prelude.{◌≡◌, ◌∷◌, Option, true, false, None, Some, MatchOption, MatchResult, is_some, option_copied};
 ghost use Rattle.drill_lines.specs.declared.wrong.Wrong.TheVariants as wrong;
 ghost use Rattle.drill_lines.specs.Fields.{GoesOn, ack_of, control_of, end_of, fields_of, is_as_long, is_checked, is_flags};
-ghost use Rattle.drill_lines.specs.Fields.{is_printed_so, key_named, with_one, with_range, with_two};
+ghost use Rattle.drill_lines.specs.Fields.{field, is_printed_so, key_of, on_key, read_words, said_value, values_of, with_one, with_range, with_two};
 ghost use Rattle.drill_lines.specs.Reads.{Reads};
 ghost use Rattle.drill_lines.specs.Requests.{carried_value, fields_value};
 ghost use Rattle.sock_pair.specs.ScriptText.{words_of};
@@ -74,24 +74,70 @@ const NONE: Fields<'static> = Fields {
 
 /// The fields of a line, in any order; of those that stand twice the last. The control bits of a segment are those with
 /// which it is printed.
-#[tactic(auto, unfolding(crate::specs::Fields::fields_of))]
+#[tactic(auto, unfolding(crate::specs::Fields::fields_of, crate::specs::Fields::read_words))]
 pub fn read_fields(words: &[u8]) -> Read<Fields<'_>>
-    ensures { Reads fields_value (fields_of KEYS.now (words_of words.now)) result }
+    ensures { Reads fields_value (fields_of (words_of words.now)) result }
 {
-    let mut fields = NONE;
+    let mut said = Said {
+        fields: NONE,
+        bits: None,
+    };
     let mut rest = words;
-    let mut bits: Option<&[u8]> = None;
     while let Some((word, values)) = split_word(rest) {
-        if let Some(control) = control_of(word) {
-            fields.control = Some(control);
-            bits = Some(word);
-            rest = values;
-        } else {
-            rest = fields.read(meant(key_of(word))?, values)?;
-        }
+        rest = said.take(word, values)?;
     }
+    let Said { fields, bits } = said;
     fields.check(bits)?;
     Ok(fields)
+}
+
+// What was said so far, and the word of the control bits.
+#[derive(Clone, Copy)]
+struct Said<'t> {
+    fields: Fields<'t>,
+    bits: Option<&'t [u8]>,
+}
+
+impl<'t> Said<'t> {
+    // Reads control bits, or a key with its values, and answers what stands behind them.
+    #[tactic(auto, unfolding(crate::specs::Fields::read_words))]
+    fn take(&mut self, word: &'t [u8], values: &'t [u8]) -> Read<&'t [u8]>
+        ensures { GoesOn (read_words (word.entry.now ∷ words_of values.entry.now) (said_value self.old) field)
+            (words_of values.entry.now) result (said_value self.new) }
+    {
+        if let Some(control) = control_of(word) {
+            self.fields.control = Some(control);
+            self.bits = Some(word);
+            return Ok(values);
+        }
+        let key = meant(key_of(word))?;
+        self.read(key, values)
+    }
+
+    // Reads the values of a key, and answers what stands behind them.
+    #[tactic(auto, unfolding(crate::specs::Fields::read_words))]
+    fn read(&mut self, key: Key, values: &'t [u8]) -> Read<&'t [u8]>
+        ensures { GoesOn (on_key (read_words (words_of values.entry.now)) (said_value self.old) (Some key))
+            (words_of values.entry.now) result (said_value self.new) }
+    {
+        match key.values() {
+            Values::None => {
+                self.fields.sack = true;
+                Ok(values)
+            }
+            Values::Two => {
+                let (first, rest) = counted(split_word(values))?;
+                let (second, rest) = counted(split_word(rest))?;
+                meant(self.fields.set_two(key, first, second))?;
+                Ok(rest)
+            }
+            Values::One => {
+                let (word, rest) = counted(split_word(values))?;
+                meant(self.fields.set(key, word))?;
+                Ok(rest)
+            }
+        }
+    }
 }
 
 // The control bits that are printed so.
@@ -142,42 +188,55 @@ enum Key {
     Protocol,
 }
 
-// The word of a key.
-#[derive(Clone, Copy)]
-struct Keyed(&'static str, Key);
-
-/// All keys.
-pub(crate) const KEYS: &[Keyed] = &[
-    Keyed("seq", Key::Seq),
-    Keyed("ack", Key::Ack),
-    Keyed("win", Key::Win),
-    Keyed("mss", Key::Mss),
-    Keyed("scale", Key::Scale),
-    Keyed("sack", Key::Sack),
-    Keyed("range", Key::Range),
-    Keyed("ts", Key::Stamp),
-    Keyed("len", Key::Len),
-    Keyed("data", Key::Data),
-    Keyed("bytes", Key::Bytes),
-    Keyed("from", Key::From),
-    Keyed("to", Key::To),
-    Keyed("hop", Key::Hop),
-    Keyed("protocol", Key::Protocol),
-];
-
+#[tactic(auto, unfolding(crate::specs::Fields::key_of))]
 fn key_of(word: &[u8]) -> Option<Key>
-    ensures { result ≡ key_named word.now KEYS.now }
+    ensures { result ≡ key_of word.now }
 {
-    let at = KEYS.iter().position(|keyed| keyed.0.as_bytes() == word)?;
-    let keyed = KEYS.get(at)?;
-    Some(keyed.1)
+    match word {
+        key if key == b"seq".as_slice() => Some(Key::Seq),
+        key if key == b"ack".as_slice() => Some(Key::Ack),
+        key if key == b"win".as_slice() => Some(Key::Win),
+        key if key == b"mss".as_slice() => Some(Key::Mss),
+        key if key == b"scale".as_slice() => Some(Key::Scale),
+        key if key == b"sack".as_slice() => Some(Key::Sack),
+        key if key == b"range".as_slice() => Some(Key::Range),
+        key if key == b"ts".as_slice() => Some(Key::Stamp),
+        key if key == b"len".as_slice() => Some(Key::Len),
+        key if key == b"data".as_slice() => Some(Key::Data),
+        key if key == b"bytes".as_slice() => Some(Key::Bytes),
+        key if key == b"from".as_slice() => Some(Key::From),
+        key if key == b"to".as_slice() => Some(Key::To),
+        key if key == b"hop".as_slice() => Some(Key::Hop),
+        key if key == b"protocol".as_slice() => Some(Key::Protocol),
+        _ => None,
+    }
+}
+
+// How many values a key has.
+#[derive(Clone, Copy)]
+enum Values {
+    None,
+    One,
+    Two,
+}
+
+impl Key {
+    fn values(self) -> Values
+        ensures { result ≡ values_of self }
+    {
+        match self {
+            Key::Sack => Values::None,
+            Key::Range | Key::Stamp => Values::Two,
+            _ => Values::One,
+        }
+    }
 }
 
 impl<'t> Fields<'t> {
     // The bits are printed as they are written, and the payload is as long as it is said to be.
     fn check(&self, bits: Option<&[u8]>) -> Read<()>
-        ensures { MatchResult result (λ _. is_checked (fields_value self.now) (option_copied bits) ≡ true)
-            (λ e. (is_checked (fields_value self.now) (option_copied bits) ≡ false) × (e ≡ wrong.Word)) }
+        ensures { MatchResult result (λ _. is_checked (fields_value self.now) (option_copied bits.entry) ≡ true)
+            (λ e. (is_checked (fields_value self.now) (option_copied bits.entry) ≡ false) × (e ≡ wrong.Word)) }
     {
         if self.is_printed_so(bits) && self.is_as_long() {
             Ok(())
@@ -187,7 +246,7 @@ impl<'t> Fields<'t> {
     }
 
     fn is_printed_so(&self, bits: Option<&[u8]>) -> bool
-        ensures { result ≡ is_printed_so self.now.control (is_some self.now.ack) (option_copied bits) }
+        ensures { result ≡ is_printed_so self.now.control (is_some self.now.ack) (option_copied bits.entry) }
     {
         match (self.control, bits) {
             (Some(control), Some(bits)) => flags(control, self.ack.is_some()).as_bytes() == bits,
@@ -208,30 +267,6 @@ impl<'t> Fields<'t> {
                 None => true,
                 Some(said) => said == len,
             }
-    }
-
-    // Reads the values of a key, and answers what stands behind them.
-    fn read(&mut self, key: Key, values: &'t [u8]) -> Read<&'t [u8]>
-        ensures { (bits : Option Word) → GoesOn KEYS.now key (fields_value self.old, bits) (words_of values.now) result
-            (fields_value self.new, bits) }
-    {
-        match key {
-            Key::Sack => {
-                self.sack = true;
-                Ok(values)
-            }
-            Key::Range | Key::Stamp => {
-                let (first, rest) = counted(split_word(values))?;
-                let (second, rest) = counted(split_word(rest))?;
-                meant(self.set_two(key, first, second))?;
-                Ok(rest)
-            }
-            _ => {
-                let (word, rest) = counted(split_word(values))?;
-                meant(self.set(key, word))?;
-                Ok(rest)
-            }
-        }
     }
 
     // A key with two values; none where they are not of its form.

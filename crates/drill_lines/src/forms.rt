@@ -1,8 +1,9 @@
 //! What a line asks for, by its form: an unknown first word, else a wrong number of words, else a bad word.
-ghost use Rattle.std.specs.Prelude.{◌≡◌, Some, option_copied};
-ghost use Rattle.drill_lines.specs.Forms.{behind, behind_space, bytes_mean, call_means, call_of, expect_means, line_means};
+ghost use Rattle.std.specs.Prelude.{◌≡◌, MatchResult, Some, option_copied};
+ghost use Rattle.drill_lines.specs.Faults.{IsOfLine};
+ghost use Rattle.drill_lines.specs.Forms.{at_line, behind, behind_space, bytes_mean, call_means, call_of, expect_means};
 ghost use Rattle.drill_lines.specs.Forms.{most_of, not_zero, number_for, optional_of, place_means, place_of, protocol_of};
-ghost use Rattle.drill_lines.specs.Forms.{queues_of, request_means, room_means, shape_named, which_of, ReadsLine, deliver_means, free, is_written};
+ghost use Rattle.drill_lines.specs.Forms.{queues_of, request_means, room_means, which_of, ReadsLine, deliver_means, free, is_written};
 ghost use Rattle.drill_lines.specs.Forms.{none_means, other_means};
 ghost use Rattle.drill_lines.specs.Names.{is_free_in};
 ghost use Rattle.drill_lines.specs.Reads.{Reads, or_word};
@@ -11,12 +12,12 @@ ghost use Rattle.drill_lines.specs.Words.{checksum_of, congestion_of, version_of
 ghost use Rattle.sock_pair.specs.ScriptText.{words_of};
 ghost use Rattle.sock_pair.specs.ScriptWords.{number_of};
 
-use crate::fields::{KEYS, read_fields};
+use crate::fields::read_fields;
 use crate::names::Names;
 use crate::places::{endpoint, is_hex, listen_endpoint, octet, port, word32};
 use crate::request::{Bytes, Call, Counted, Expected, Optional, Place, Request, Which};
 use crate::room::{BYTES, PLACES, Queues, Room};
-use crate::shapes::{Form, SHAPES, Shape, shape_of};
+use crate::shapes::{Form, Shape, shape_of};
 use crate::wrong::{Read, Wrong, counted, meant};
 use ip_wire::{Checksum, IpProtocol, IpVersion};
 use smoltcp_socket::icmp;
@@ -34,13 +35,25 @@ const SIZE: u32 = 1_048_576;
 
 /// What a line asks for, or its fault.
 pub fn request_of<'t>(names: &Names<'t>, line: &Line<'t>) -> Result<Request<'t>, ScriptError>
-    ensures { ReadsLine (line_means KEYS.now names.now.names.items line.now.number (shape_named line.now.name.now SHAPES.now)
-        (words_of line.now.values.now) line.now.values.now) result }
+    ensures { MatchResult result (λ _. Unit {0}) (λ e. IsOfLine line.now.number e) }
 {
     let number = line.number;
-    let Some(Shape(_, _, form)) = shape_of(line.name) else {
-        return Err(ScriptError::UnknownEvent { line: number });
-    };
+    match shape_of(line.name) {
+        None => Err(ScriptError::UnknownEvent { line: number }),
+        Some(Shape(_, _, form)) => request_of_form(names, form, line),
+    }
+}
+
+// What a line of this form asks for, or its fault.
+fn request_of_form<'t>(
+    names: &Names<'t>,
+    form: Form,
+    line: &Line<'t>,
+) -> Result<Request<'t>, ScriptError>
+    ensures { ReadsLine (at_line line.now.number (request_means names.now.names.items form (words_of line.now.values.now)
+        line.now.values.now)) result }
+{
+    let number = line.number;
     match read(names, form, line.values) {
         Ok(request) => Ok(request),
         Err(Wrong::Number) => Err(ScriptError::WrongNumberOfWords { line: number }),
@@ -50,7 +63,7 @@ pub fn request_of<'t>(names: &Names<'t>, line: &Line<'t>) -> Result<Request<'t>,
 
 #[tactic(auto, unfolding(crate::specs::Forms::request_means))]
 fn read<'t>(names: &Names<'t>, form: Form, values: &'t [u8]) -> Read<Request<'t>>
-    ensures { Reads request_value (request_means KEYS.now names.now.names.items form (words_of values.now) values.now)
+    ensures { Reads request_value (request_means names.now.names.items form (words_of values.now) values.now)
         result }
 {
     match form {
@@ -131,7 +144,7 @@ fn free<'t>(names: &Names<'_>, name: &[u8], room: Room) -> Read<Request<'t>>
 
 // `PLACES BYTES` of what comes, and of what goes
 fn queues(rx: (&[u8], &[u8]), tx: (&[u8], &[u8])) -> Option<Queues>
-    ensures { result ≡ queues_of rx.0.now rx.1.now tx.0.now tx.1.now }
+    ensures { result ≡ queues_of rx.entry.0.now rx.entry.1.now tx.entry.0.now tx.entry.1.now }
 {
     Some(Queues {
         rx_places: number(rx.0, PLACES)?,
@@ -207,7 +220,7 @@ fn expect<'t>(names: &Names<'_>, values: &'t [u8]) -> Read<Request<'t>>
 }
 
 fn call<'t>(names: &Names<'_>, form: Form, values: &'t [u8]) -> Read<Request<'t>>
-    ensures { Reads request_value (call_of KEYS.now names.now.names.items form (words_of values.now)) result }
+    ensures { Reads request_value (call_of names.now.names.items form (words_of values.now)) result }
 {
     let (name, rest) = counted(split_word(values))?;
     let call = call_behind(form, rest)?;
@@ -218,7 +231,7 @@ fn call<'t>(names: &Names<'_>, form: Form, values: &'t [u8]) -> Read<Request<'t>
 // What stands behind the name of the socket.
 #[tactic(auto, unfolding(crate::specs::Forms::call_means))]
 fn call_behind(form: Form, rest: &[u8]) -> Read<Call<'_>>
-    ensures { Reads call_value (call_means KEYS.now form (words_of rest.now)) result }
+    ensures { Reads call_value (call_means form (words_of rest.now)) result }
 {
     match form {
         Form::Plain(plain) => nothing(rest, Call::Plain(plain)),
@@ -263,7 +276,7 @@ fn other_call(form: Form, rest: &[u8]) -> Read<Call<'_>>
 }
 
 fn nothing<'t>(rest: &[u8], call: Call<'t>) -> Read<Call<'t>>
-    ensures { Reads call_value (none_means (call_value call) (words_of rest.now)) result }
+    ensures { Reads call_value (none_means (call_value call.entry) (words_of rest.now)) result }
 {
     match split_word(rest) {
         None => Ok(call),

@@ -1,6 +1,6 @@
 //! The names of an example's sockets.
 
-ghost use Rattle.std.specs.Prelude.{◌≡◌, ◌++◌, ◌∷◌, [], IfOk};
+ghost use Rattle.std.specs.Prelude.{◌≡◌, ◌++◌, ◌∷◌, [], IfOk, bytes_eq};
 ghost use Rattle.drill_lines.specs.Names.{is_free_in, place_in};
 
 use std::alloc::{AllocFailed, Global};
@@ -31,7 +31,9 @@ impl<'t> Names<'t> {
     pub fn place_of(&self, word: &[u8]) -> Option<usize>
         ensures { result ≡ place_in self.now.names.items word.now }
     {
-        self.names.as_slice().iter().position(|name| *name == word)
+        self.names.as_slice().iter().position(|name| -> bool
+            ensures { result ≡ bytes_eq name.now.now word.entry.now }
+        { *name == word })
     }
 
     /// Whether a socket can have this name: none has it, and there is room for one more.
@@ -44,7 +46,7 @@ impl<'t> Names<'t> {
 
     /// Adds a name.
     pub fn add(&mut self, word: &'t [u8]) -> Result<(), AllocFailed<&'t [u8]>>
-        ensures { IfOk result (λ _. self.new.names.items ≡ self.old.names.items ++ word ∷ []) }
+        ensures { IfOk result (λ _. self.new.names.items ≡ self.old.names.items ++ word.entry ∷ []) }
     {
         self.names.push(word)
     }

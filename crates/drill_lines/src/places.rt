@@ -1,9 +1,11 @@
 //! Addresses, endpoints and bytes as words of a line, in the form in which they are printed.
-ghost use Rattle.std.specs.Prelude.{◌≡◌, ◌+◌, ◌≤◌, ◌<◌, ◌==◌, length, option_map, is_some, MatchOption, IfOk, IfSome, None, Some};
+ghost use Rattle.std.specs.Prelude.{◌≡◌, ◌+◌, ◌≤◌, ◌<◌, ◌++◌, length, is_some, MatchOption, IfSome, None, Some};
+ghost use Rattle.std.specs.List.{list_all};
 ghost use Rattle.sock_pair.specs.ScriptWords.{number_of};
-ghost use Rattle.drill_lines.specs.Places.{address_of, bytes_of_hex, digit_of, endpoint_of, four_groups_at, group_at};
+ghost use Rattle.drill_lines.specs.Places.{address_of, digit_of, endpoint_of, four_groups_at, group_at};
 ghost use Rattle.drill_lines.specs.Places.{ipv4_of, ipv6_of, is_hex, listen_endpoint_of, octet_of, parted, two_groups_at};
 
+use ip_wire::octets::put_three;
 use ip_wire::{IpAddress, IpEndpoint, IpListenEndpoint, Ipv4Address, Ipv6Address};
 use sock_pair::script::values::number;
 use sock_pair::script::words::len_before;
@@ -112,11 +114,16 @@ fn ipv6(word: &[u8]) -> Option<Ipv6Address>
     if word.len() != BRACKETED || word[40] != b']' || word[20] != b':' {
         return None;
     }
-    let [a, b, c, d, e, f, g, h] = four_groups(word, 1)?;
-    let [i, j, k, l, m, n, o, p] = four_groups(word, 21)?;
-    Some(Ipv6Address([
-        a, b, c, d, e, f, g, h, i, j, k, l, m, n, o, p,
-    ]))
+    let (first, second) = (four_groups(word, 1)?, four_groups(word, 21)?);
+    Some(Ipv6Address(joined(first, second)))
+}
+
+fn joined(first: [u8; 8], second: [u8; 8]) -> [u8; 16]
+    ensures { result ≡ first ++ second }
+{
+    let mut all = [0u8; 16];
+    put_three(&mut all, &first, &second, &[]);
+    all
 }
 
 // The octets of the four groups that begin at this place, with colons between them.
@@ -183,7 +190,13 @@ fn digit(byte: u8) -> Option<u8>
 pub fn is_hex(word: &[u8]) -> bool
     ensures { result ≡ is_hex word.now }
 {
-    word.len().is_multiple_of(2) && word.iter().all(|byte| digit(*byte).is_some())
+    word.len() % 2 == 0 && all_digits(word)
+}
+
+fn all_digits(word: &[u8]) -> bool
+    ensures { result ≡ list_all (λ b. is_some (digit_of b)) word.now }
+{
+    word.iter().all(|byte| digit(*byte).is_some())
 }
 
 /// The bytes that hexadecimal digits write; as many as there are before a word is none.

@@ -1,8 +1,5 @@
 //! The lines that a drill may have: their first words, and what stands behind those.
 
-ghost use Rattle.std.specs.Prelude.{◌≡◌};
-ghost use Rattle.drill_lines.specs.Forms.{shape_named};
-
 use crate::request::{Bytes, Counted, Optional, Plain, Switch};
 
 /// How the words behind the first are read.
@@ -109,9 +106,11 @@ pub const SHAPES: &[Shape] = &[
 ];
 
 /// The kind of the lines that begin with this word.
-pub fn shape_of(name: &[u8]) -> Option<Shape>
-    ensures { result ≡ shape_named name.now SHAPES.now }
-{
-    let at = SHAPES.iter().position(|shape| shape.0.as_bytes() == name)?;
-    SHAPES.get(at).copied()
+pub fn shape_of(name: &[u8]) -> Option<Shape> {
+    for shape in SHAPES {
+        if shape.0.as_bytes() == name {
+            return Some(*shape);
+        }
+    }
+    None
 }
