@@ -232,6 +232,11 @@ at_line n (Ok v) = Ok v
 at_line n (Err wrong.Number) = Err (fault.WrongNumberOfWords n)
 at_line n (Err wrong.Word) = Err (fault.BadWord n)
 
+-- what line n means, of this form
+abbrev pub line_means : Names → ℕ → Option Form → List Word → List ℕ → Result RequestValue ScriptError
+line_means names n None ws text = Err (fault.UnknownEvent n)
+line_means names n (Some f) ws text = at_line n (request_means names f ws text)
+
 -- what was read of a line is what it means
 abbrev pub ReadsLine : Result RequestValue ScriptError → Result Request ScriptError → Type 0
 ReadsLine meant result = MatchResult result (λ r. meant ≡ Ok (request_value r)) (λ e. meant ≡ Err e)

@@ -64,7 +64,7 @@ impl fmt::Display for Advice {
             }
             Advice::Names => write_names(f),
             Advice::Words(shape) => {
-                let Shape(name, rest, _) = *shape;
+                let Shape(name, rest) = *shape;
                 write!(f, "right is: {name} {rest}")
             }
         }

@@ -1,13 +1,13 @@
 //! What a line asks for, by its form: an unknown first word, else a wrong number of words, else a bad word.
-ghost use Rattle.std.specs.Prelude.{◌≡◌, MatchResult, Some, option_copied};
-ghost use Rattle.drill_lines.specs.Faults.{IsOfLine};
-ghost use Rattle.drill_lines.specs.Forms.{at_line, behind, behind_space, bytes_mean, call_means, call_of, expect_means};
+ghost use Rattle.std.specs.Prelude.{◌≡◌, Some, option_copied};
+ghost use Rattle.drill_lines.specs.Forms.{at_line, behind, behind_space, bytes_mean, call_means, call_of, expect_means, line_means};
 ghost use Rattle.drill_lines.specs.Forms.{most_of, not_zero, number_for, optional_of, place_means, place_of, protocol_of};
 ghost use Rattle.drill_lines.specs.Forms.{queues_of, request_means, room_means, which_of, ReadsLine, deliver_means, free, is_written};
 ghost use Rattle.drill_lines.specs.Forms.{none_means, other_means};
 ghost use Rattle.drill_lines.specs.Names.{is_free_in};
 ghost use Rattle.drill_lines.specs.Reads.{Reads, or_word};
 ghost use Rattle.drill_lines.specs.Requests.{call_value, request_value};
+ghost use Rattle.drill_lines.specs.Shapes.{form_of};
 ghost use Rattle.drill_lines.specs.Words.{checksum_of, congestion_of, version_of};
 ghost use Rattle.sock_pair.specs.ScriptText.{words_of};
 ghost use Rattle.sock_pair.specs.ScriptWords.{number_of};
@@ -17,7 +17,7 @@ use crate::names::Names;
 use crate::places::{endpoint, is_hex, listen_endpoint, octet, port, word32};
 use crate::request::{Bytes, Call, Counted, Expected, Optional, Place, Request, Which};
 use crate::room::{BYTES, PLACES, Queues, Room};
-use crate::shapes::{Form, Shape, shape_of};
+use crate::shapes::Form;
 use crate::wrong::{Read, Wrong, counted, meant};
 use ip_wire::{Checksum, IpProtocol, IpVersion};
 use smoltcp_socket::icmp;
@@ -35,12 +35,12 @@ const SIZE: u32 = 1_048_576;
 
 /// What a line asks for, or its fault.
 pub fn request_of<'t>(names: &Names<'t>, line: &Line<'t>) -> Result<Request<'t>, ScriptError>
-    ensures { MatchResult result (λ _. Unit {0}) (λ e. IsOfLine line.now.number e) }
+    ensures { ReadsLine (line_means names.now.names.items line.now.number (form_of line.now.name.now)
+        (words_of line.now.values.now) line.now.values.now) result }
 {
-    let number = line.number;
-    match shape_of(line.name) {
-        None => Err(ScriptError::UnknownEvent { line: number }),
-        Some(Shape(_, _, form)) => request_of_form(names, form, line),
+    match Form::of_word(line.name) {
+        None => Err(ScriptError::UnknownEvent { line: line.number }),
+        Some(form) => request_of_form(names, form, line),
     }
 }
 

@@ -31,9 +31,11 @@ impl<'t> Names<'t> {
     pub fn place_of(&self, word: &[u8]) -> Option<usize>
         ensures { result ≡ place_in self.now.names.items word.now }
     {
-        self.names.as_slice().iter().position(|name| -> bool
-            ensures { result ≡ bytes_eq name.now.now word.entry.now }
-        { *name == word })
+        self.names.as_slice().iter().position(
+            |name| -> bool
+                ensures { result ≡ bytes_eq name.now.now word.entry.now }
+            { *name == word },
+        )
     }
 
     /// Whether a socket can have this name: none has it, and there is room for one more.

@@ -1,5 +1,8 @@
 //! The lines that a drill may have: their first words, and what stands behind those.
 
+ghost use Rattle.std.specs.Prelude.{◌≡◌};
+ghost use Rattle.drill_lines.specs.Shapes.{form_of, of_call, of_setting, of_socket};
+
 use crate::request::{Bytes, Counted, Optional, Plain, Switch};
 
 /// How the words behind the first are read.
@@ -28,81 +31,139 @@ pub enum Form {
     Expect,
 }
 
-/// A kind of line: its first word, what stands behind that, and how it is read.
+impl Form {
+    /// The form of the lines that begin with this word.
+    pub fn of_word(name: &[u8]) -> Option<Form>
+        ensures { result ≡ form_of name.now }
+    {
+        if let Some(form) = Form::of_socket(name) {
+            return Some(form);
+        }
+        match Form::of_call(name) {
+            Some(form) => Some(form),
+            None => Form::of_setting(name),
+        }
+    }
+
+    // Of the sockets of an example, and what comes to them.
+    #[tactic(auto, unfolding(crate::specs::Shapes::of_socket))]
+    fn of_socket(name: &[u8]) -> Option<Form>
+        ensures { result ≡ of_socket name.now }
+    {
+        match name {
+            word if word == b"example".as_slice() => Some(Form::Example),
+            word if word == b"tcp".as_slice() => Some(Form::Tcp),
+            word if word == b"udp".as_slice() => Some(Form::Udp),
+            word if word == b"icmp".as_slice() => Some(Form::Icmp),
+            word if word == b"raw".as_slice() => Some(Form::Raw),
+            word if word == b"clock".as_slice() => Some(Form::Clock),
+            word if word == b"word".as_slice() => Some(Form::Word),
+            word if word == b"ends".as_slice() => Some(Form::Ends),
+            word if word == b"take".as_slice() => Some(Form::Take),
+            word if word == b"deliver".as_slice() => Some(Form::Deliver),
+            word if word == b"expect".as_slice() => Some(Form::Expect),
+            word if word == b">".as_slice() => Some(Form::Line),
+            _ => None,
+        }
+    }
+
+    // Of calls.
+    #[tactic(auto, unfolding(crate::specs::Shapes::of_call))]
+    fn of_call(name: &[u8]) -> Option<Form>
+        ensures { result ≡ of_call name.now }
+    {
+        match name {
+            word if word == b"listen".as_slice() => Some(Form::Listen),
+            word if word == b"bind".as_slice() => Some(Form::Bind),
+            word if word == b"connect".as_slice() => Some(Form::Counted(Counted::Connect)),
+            word if word == b"close".as_slice() => Some(Form::Plain(Plain::Close)),
+            word if word == b"abort".as_slice() => Some(Form::Plain(Plain::Abort)),
+            word if word == b"send".as_slice() => Some(Form::Bytes(Bytes::Send)),
+            word if word == b"send-hex".as_slice() => Some(Form::Bytes(Bytes::SendHex)),
+            word if word == b"fill".as_slice() => Some(Form::Counted(Counted::Fill)),
+            word if word == b"write".as_slice() => Some(Form::Bytes(Bytes::Write)),
+            word if word == b"recv".as_slice() => Some(Form::Counted(Counted::Recv)),
+            word if word == b"peek".as_slice() => Some(Form::Counted(Counted::Peek)),
+            word if word == b"dispatch".as_slice() => Some(Form::Counted(Counted::Dispatch)),
+            word if word == b"fail".as_slice() => Some(Form::Counted(Counted::Fail)),
+            word if word == b"gone".as_slice() => Some(Form::Counted(Counted::Gone)),
+            word if word == b"poll".as_slice() => Some(Form::Counted(Counted::Poll)),
+            _ => None,
+        }
+    }
+
+    // Of settings, and what a socket says of itself.
+    #[tactic(auto, unfolding(crate::specs::Shapes::of_setting))]
+    fn of_setting(name: &[u8]) -> Option<Form>
+        ensures { result ≡ of_setting name.now }
+    {
+        match name {
+            word if word == b"nagle".as_slice() => Some(Form::Switch(Switch::Nagle)),
+            word if word == b"pause".as_slice() => Some(Form::Switch(Switch::Pause)),
+            word if word == b"timeout".as_slice() => Some(Form::Optional(Optional::Timeout)),
+            word if word == b"ack-delay".as_slice() => Some(Form::Optional(Optional::AckDelay)),
+            word if word == b"keep-alive".as_slice() => Some(Form::Optional(Optional::KeepAlive)),
+            word if word == b"hop-limit".as_slice() => Some(Form::Optional(Optional::HopLimit)),
+            word if word == b"timestamps".as_slice() => Some(Form::Optional(Optional::Timestamps)),
+            word if word == b"congestion".as_slice() => Some(Form::Congestion),
+            word if word == b"checksums".as_slice() => Some(Form::Checksums),
+            word if word == b"state".as_slice() => Some(Form::Plain(Plain::State)),
+            word if word == b"queues".as_slice() => Some(Form::Plain(Plain::Queues)),
+            word if word == b"settings".as_slice() => Some(Form::Plain(Plain::Settings)),
+            word if word == b"endpoints".as_slice() => Some(Form::Plain(Plain::Endpoints)),
+            word if word == b"measures".as_slice() => Some(Form::Plain(Plain::Measures)),
+            _ => None,
+        }
+    }
+}
+
+/// A kind of line: its first word, and what stands behind that.
 #[derive(Clone, Copy)]
-pub struct Shape(pub &'static str, pub &'static str, pub Form);
+pub struct Shape(pub &'static str, pub &'static str);
 
 /// All kinds of lines.
 pub const SHAPES: &[Shape] = &[
-    Shape("example", "NAME", Form::Example),
-    Shape("tcp", "S RX TX", Form::Tcp),
-    Shape("udp", "S PLACES BYTES PLACES BYTES", Form::Udp),
-    Shape("icmp", "S PLACES BYTES PLACES BYTES", Form::Icmp),
-    Shape("raw", "S VERSION PROTOCOL PLACES BYTES", Form::Raw),
-    Shape("clock", "MS", Form::Clock),
-    Shape("word", "WORD", Form::Word),
-    Shape("ends", "S HERE PEER", Form::Ends),
-    Shape("listen", "S, or listen S WHERE", Form::Listen),
-    Shape("bind", "S, or bind S WHERE", Form::Bind),
-    Shape("connect", "S WORD", Form::Counted(Counted::Connect)),
-    Shape("close", "S", Form::Plain(Plain::Close)),
-    Shape("abort", "S", Form::Plain(Plain::Abort)),
-    Shape("send", "S TEXT, or send S", Form::Bytes(Bytes::Send)),
-    Shape(
-        "send-hex",
-        "S HEX, or send-hex S",
-        Form::Bytes(Bytes::SendHex),
-    ),
-    Shape("fill", "S COUNT", Form::Counted(Counted::Fill)),
-    Shape("write", "S TEXT, or write S", Form::Bytes(Bytes::Write)),
-    Shape("recv", "S SIZE", Form::Counted(Counted::Recv)),
-    Shape("peek", "S SIZE", Form::Counted(Counted::Peek)),
-    Shape("nagle", "S on, or nagle S off", Form::Switch(Switch::Nagle)),
-    Shape("pause", "S on, or pause S off", Form::Switch(Switch::Pause)),
-    Shape(
-        "timeout",
-        "S MS, or timeout S -",
-        Form::Optional(Optional::Timeout),
-    ),
-    Shape(
-        "ack-delay",
-        "S MS, or ack-delay S -",
-        Form::Optional(Optional::AckDelay),
-    ),
-    Shape(
-        "keep-alive",
-        "S MS, or keep-alive S -",
-        Form::Optional(Optional::KeepAlive),
-    ),
-    Shape(
-        "hop-limit",
-        "S N, or hop-limit S -",
-        Form::Optional(Optional::HopLimit),
-    ),
-    Shape(
-        "timestamps",
-        "S WORD, or timestamps S -",
-        Form::Optional(Optional::Timestamps),
-    ),
-    Shape(
-        "congestion",
-        "S reno, or congestion S none",
-        Form::Congestion,
-    ),
-    Shape("checksums", "S both, or rx, tx or none", Form::Checksums),
-    Shape("state", "S", Form::Plain(Plain::State)),
-    Shape("queues", "S", Form::Plain(Plain::Queues)),
-    Shape("settings", "S", Form::Plain(Plain::Settings)),
-    Shape("endpoints", "S", Form::Plain(Plain::Endpoints)),
-    Shape("measures", "S", Form::Plain(Plain::Measures)),
-    Shape("poll", "S MS", Form::Counted(Counted::Poll)),
-    Shape("dispatch", "S MS", Form::Counted(Counted::Dispatch)),
-    Shape("fail", "S MS", Form::Counted(Counted::Fail)),
-    Shape("gone", "S MS", Form::Counted(Counted::Gone)),
-    Shape("take", "S SEGMENT", Form::Take),
-    Shape("deliver", "S last S, or deliver S N S", Form::Deliver),
-    Shape("expect", "S STATE, or expect S poll MOMENT", Form::Expect),
-    Shape(">", "LINE", Form::Line),
+    Shape("example", "NAME"),
+    Shape("tcp", "S RX TX"),
+    Shape("udp", "S PLACES BYTES PLACES BYTES"),
+    Shape("icmp", "S PLACES BYTES PLACES BYTES"),
+    Shape("raw", "S VERSION PROTOCOL PLACES BYTES"),
+    Shape("clock", "MS"),
+    Shape("word", "WORD"),
+    Shape("ends", "S HERE PEER"),
+    Shape("listen", "S, or listen S WHERE"),
+    Shape("bind", "S, or bind S WHERE"),
+    Shape("connect", "S WORD"),
+    Shape("close", "S"),
+    Shape("abort", "S"),
+    Shape("send", "S TEXT, or send S"),
+    Shape("send-hex", "S HEX, or send-hex S"),
+    Shape("fill", "S COUNT"),
+    Shape("write", "S TEXT, or write S"),
+    Shape("recv", "S SIZE"),
+    Shape("peek", "S SIZE"),
+    Shape("nagle", "S on, or nagle S off"),
+    Shape("pause", "S on, or pause S off"),
+    Shape("timeout", "S MS, or timeout S -"),
+    Shape("ack-delay", "S MS, or ack-delay S -"),
+    Shape("keep-alive", "S MS, or keep-alive S -"),
+    Shape("hop-limit", "S N, or hop-limit S -"),
+    Shape("timestamps", "S WORD, or timestamps S -"),
+    Shape("congestion", "S reno, or congestion S none"),
+    Shape("checksums", "S both, or rx, tx or none"),
+    Shape("state", "S"),
+    Shape("queues", "S"),
+    Shape("settings", "S"),
+    Shape("endpoints", "S"),
+    Shape("measures", "S"),
+    Shape("poll", "S MS"),
+    Shape("dispatch", "S MS"),
+    Shape("fail", "S MS"),
+    Shape("gone", "S MS"),
+    Shape("take", "S SEGMENT"),
+    Shape("deliver", "S last S, or deliver S N S"),
+    Shape("expect", "S STATE, or expect S poll MOMENT"),
+    Shape(">", "LINE"),
 ];
 
 /// The kind of the lines that begin with this word.
