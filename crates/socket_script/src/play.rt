@@ -1,6 +1,7 @@
 //! The run of a drill.
-ghost use Rattle.std.specs.Prelude.{◌≡◌, MatchResult};
-ghost use Rattle.socket_script.specs.Stops.{IfNoDrill};
+ghost use Rattle.std.specs.Prelude.{◌≡◌, MatchResult, None};
+ghost use Rattle.drill_lines.specs.Drills.{IsFirstFault, fault_of};
+ghost use Rattle.socket_script.specs.Stops.{IfNoDrill, StopsRun};
 
 use crate::calls::perform;
 use crate::chart::{Chart, Drawn};
@@ -34,8 +35,8 @@ pub enum Stop {
 
 /// Runs a drill, and writes what is wanted of it.
 ///
-/// The fault of a text that is no drill is that of its first line that has one; nothing is written then. `file` stands
-/// before each difference.
+/// The fault of a text that is no drill is that of its first line that has one; nothing is written then. Any other text
+/// is run, but where memory ran out before it was read. `file` stands before each difference.
 pub fn run<'t, W: Write>(
     alloc: Global,
     wanted: Wanted,
@@ -43,7 +44,8 @@ pub fn run<'t, W: Write>(
     text: &'t [u8],
     writer: &mut W,
 ) -> Result<Tally, Stop>
-    ensures { MatchResult result (λ _. Unit {0})
+    ensures fault { MatchResult result (λ _. fault_of text.now ≡ None) (StopsRun (fault_of text.now)) }
+    ensures same { MatchResult result (λ _. Unit {0})
         (λ e. IfNoDrill (W.contents writer.new ≡ W.contents writer.old) e) }
 {
     let found = match read_through(alloc, text) {
@@ -111,17 +113,16 @@ fn example<W: Write>(alloc: Global, player: &mut Player<'_>, writer: &mut W) -> 
     with_memory(alloc, memory.as_mut_slice(), player, writer)
 }
 
-// Reads all lines.
-fn read_through(alloc: Global, text: &[u8]) -> Result<Found, ScriptError> {
+// Reads all lines. The error is the fault of the first line that has one, or `Memory`.
+fn read_through(alloc: Global, text: &[u8]) -> Result<Found, ScriptError>
+    ensures { MatchResult result (λ _. fault_of text.now ≡ None) (IsFirstFault (fault_of text.now)) }
+{
     let mut reader = Reader::new(alloc, text);
     let mut found = Found {
         checks: false,
         rows: 0,
     };
-    for _ in 0..u64::MAX {
-        let Some(numbered) = reader.next()? else {
-            break;
-        };
+    while let Some(numbered) = reader.next()? {
         match numbered.request {
             Request::Line(_) | Request::Expect(..) => found.checks = true,
             _ => found.rows = found.rows.saturating_add(1),
