@@ -1,19 +1,21 @@
 -- The lines of a drill, one after the other.
-use Rattle.std.proofs.Common.{ℕ, List, [], ◌∷◌, true, false, Option, Some, None, Result, Ok, Err, ◌≡◌, ◌∙◌, refl, ap, sym}
+use Rattle.std.proofs.Common.{ℕ, List, [], ◌∷◌, true, false, Option, Some, None, Result, Ok, Err, ◌≡◌, ◌∙◌, ◌<◌, length, arith, refl, ap, sym}
 use Rattle.sock_pair.specs.ScriptLines.{IsFault}
-use Rattle.sock_pair.specs.ScriptText.{words_of}
+use Rattle.sock_pair.specs.ScriptText.{lines_left, words_of}
 use Rattle.sock_pair.specs.ScriptWords.{Word}
 use Rattle.sock_pair.specs.declared.script.error.ScriptError.{ScriptError}
 use Rattle.sock_pair.specs.declared.script.error.ScriptError.TheVariants as fault
 use Rattle.sock_pair.specs.declared.script.lines.Line.{Line}
+use Rattle.drill_lines.specs.declared.reader.Numbered.{Numbered}
+use Rattle.drill_lines.specs.declared.reader.Reader.{Reader}
 use Rattle.drill_lines.specs.declared.shapes.Form.{Form}
 use Rattle.drill_lines.specs.declared.shapes.Form.TheVariants as form
 use Rattle.drill_lines.specs.declared.wrong.Wrong.{Wrong}
 use Rattle.drill_lines.specs.declared.wrong.Wrong.TheVariants as wrong
-use Rattle.drill_lines.specs.Drills.{FirstFaults, IsFirstFault, fault_or, first_fault, meaning, names_after, words_mean}
+use Rattle.drill_lines.specs.Drills.{Asks, FirstFaults, IsFirstFault, fault_of, fault_or, first_fault, known, left, line_of, meaning, names_after, words_mean}
 use Rattle.drill_lines.specs.Forms.{at_line, line_means, request_means}
 use Rattle.drill_lines.specs.Names.{Names}
-use Rattle.drill_lines.specs.Requests.{RequestValue, line}
+use Rattle.drill_lines.specs.Requests.{RequestValue, line, request_value}
 use Rattle.drill_lines.specs.Shapes.{form_of}
 
 -- ---- no line means that memory ran out
@@ -101,3 +103,20 @@ is_first_fault names (l ∷ more) (fault.BadWord k) x = fault_first names l more
 pub no_more : (names : Names) → first_fault [] names ≡ None
 unfolding first_fault
 no_more names = refl
+
+-- ---- what a reader does
+
+pub asked : (old new : Reader) (read : Numbered) → Asks old new read → first_fault (left old) (known old) ≡ first_fault (left new) (known new)
+asked old new read a = goes_on (known old) (known new) (left old) (left new) (line_of read) (request_value read.request) a.0 a.1 a.2
+
+pub shorter : (old new : Reader) (read : Numbered) → Asks old new read → length (left new) < length (left old)
+shorter old new read a = omega (arith, ap length a.0)
+
+pub failed : (r : Reader) (e : ScriptError) → FirstFaults (known r) (left r) e → IsFirstFault (first_fault (left r) (known r)) e
+failed r e x = is_first_fault (known r) (left r) e x
+
+pub ended : (r : Reader) → left r ≡ [] → first_fault (left r) (known r) ≡ None
+ended r e = ap (λ ls. first_fault ls (known r)) e ∙ no_more (known r)
+
+pub began : (r : Reader) (text : List ℕ) → left r ≡ lines_left 1 text → known r ≡ [] → fault_of text ≡ first_fault (left r) (known r)
+began r text lines names = rw (lines, names) refl

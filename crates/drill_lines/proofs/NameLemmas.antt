@@ -2,10 +2,10 @@
 use Rattle.std.proofs.Common.{ℕ, ◌+◌, List, [], ◌∷◌, ◌++◌, length, map, true, false, suc, Option, ◌≡◌, ◌∙◌, refl, ap, sym}
 use Rattle.std.specs.Prelude.{Bool, bytes_eq, not, cond}
 use Rattle.std.specs.Borrow.{Bor}
-use Rattle.std.specs.List.{position, position_or_len}
+use Rattle.std.specs.List.{position_or_len}
 use Rattle.std.proofs.lemmas.List.{map-append}
 use Rattle.sock_pair.specs.ScriptWords.{Word}
-use Rattle.drill_lines.specs.Names.{place_in, words_in}
+use Rattle.drill_lines.specs.Names.{place_among, place_in, words_in}
 
 pub count : (names : List (Bor Word)) → length (words_in names) ≡ length names
 unfolding words_in
@@ -18,8 +18,8 @@ places [] word = refl
 places (x ∷ xs) word = ap (λ n. cond (not (bytes_eq x.now word)) (1 + n) 0) (places xs word)
 
 -- the place of a name
-pub placed : (names : List (Bor Word)) (word : Word) → place_in (words_in names) word ≡ position (λ name. bytes_eq name.now word) names
-unfolding place_in
+pub placed : (names : List (Bor Word)) (word : Word) → place_in (words_in names) word ≡ place_among names word
+unfolding place_in place_among
 placed names word = rw (places names word, count names) refl
 
 -- one name more

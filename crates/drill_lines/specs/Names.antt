@@ -15,6 +15,10 @@ words_in names = map (λ name. name.now) names
 unfoldable pub place_in : Names → Word → Option ℕ
 place_in names word = position (λ name. bytes_eq name word) names
 
+-- the same among names that are lent
+unfoldable pub place_among : List (Bor Word) → Word → Option ℕ
+place_among names word = position (λ name. bytes_eq name.now word) names
+
 -- whether no socket has this name, and there is room for one more
 unfoldable pub is_free_in : Names → Word → Bool
 is_free_in names word = nat_lt (length names) 16 && not (is_some (place_in names word))

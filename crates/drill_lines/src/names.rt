@@ -1,7 +1,7 @@
 //! The names of an example's sockets.
 
 ghost use Rattle.std.specs.Prelude.{◌≡◌, ◌++◌, ◌∷◌, [], IfOk, bytes_eq};
-ghost use Rattle.drill_lines.specs.Names.{is_free_in, place_in, words_in};
+ghost use Rattle.drill_lines.specs.Names.{is_free_in, place_among, place_in, words_in};
 
 use std::alloc::{AllocFailed, Global};
 
@@ -32,11 +32,7 @@ impl<'t> Names<'t> {
     pub fn place_of(&self, word: &[u8]) -> Option<usize>
         ensures { result ≡ place_in (words_in self.now.names.items) word.now }
     {
-        self.names.as_slice().iter().position(
-            |name| -> bool
-                ensures { result ≡ bytes_eq name.now.now word.entry.now }
-            { *name == word },
-        )
+        place_among(self.names.as_slice(), word)
     }
 
     /// Whether a socket can have this name: none has it, and there is room for one more.
@@ -62,4 +58,15 @@ impl<'t> Names<'t> {
     {
         self.names = Vec::new(self.alloc);
     }
+}
+
+#[tactic(auto, unfolding(crate::specs::Names::place_among))]
+fn place_among(names: &[&[u8]], word: &[u8]) -> Option<usize>
+    ensures { result ≡ place_among names.now word.now }
+{
+    names.iter().position(
+        |name| -> bool
+            ensures { result ≡ bytes_eq name.now.now word.entry.now }
+        { *name == word },
+    )
 }

@@ -114,6 +114,8 @@ fn example<W: Write>(alloc: Global, player: &mut Player<'_>, writer: &mut W) -> 
 }
 
 // Reads all lines. The error is the fault of the first line that has one, or `Memory`.
+#[tactic(auto, using(crate::proofs::DrillReading::asked, crate::proofs::DrillReading::shorter,
+    crate::proofs::DrillReading::ended, crate::proofs::DrillReading::began))]
 fn read_through(alloc: Global, text: &[u8]) -> Result<Found, ScriptError>
     ensures { MatchResult result (λ _. fault_of text.now ≡ None) (IsFirstFault (fault_of text.now)) }
 {
