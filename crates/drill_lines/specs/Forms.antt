@@ -1,7 +1,6 @@
 -- What the words behind the first of a line mean, by the form of the line: first their number counts, then each of them.
 use Rattle.std.specs.Prelude.{ℕ, ◌+◌, ◌==◌, ◌%◌, ◌&&◌, List, [], ◌∷◌, length, drop, take, Bool, true, false, Option, Some, None}
 use Rattle.std.specs.Prelude.{Result, Ok, Err, MatchResult, ◌≡◌, option_map, bytes_eq, codes, if◌then◌else◌}
-use Rattle.std.specs.Borrow.{Bor}
 use Rattle.ip_wire.specs.declared.endpoint.IpEndpoint.{IpEndpoint}
 use Rattle.ip_wire.specs.declared.protocol.IpProtocol.{IpProtocol}
 use Rattle.ip_wire.specs.declared.protocol.IpVersion.{IpVersion}
@@ -29,17 +28,13 @@ use Rattle.drill_lines.specs.declared.shapes.Form.TheVariants as form
 use Rattle.drill_lines.specs.declared.wrong.Wrong.{Wrong}
 use Rattle.drill_lines.specs.declared.wrong.Wrong.TheVariants as wrong
 use Rattle.drill_lines.specs.Fields.{fields_of}
-use Rattle.drill_lines.specs.Names.{is_free_in, place_in}
+use Rattle.drill_lines.specs.Names.{Names, is_free_in, place_in}
 use Rattle.drill_lines.specs.Places.{endpoint_of, is_hex, listen_endpoint_of}
 use Rattle.drill_lines.specs.Reads.{by, mapped, or_word}
 use Rattle.drill_lines.specs.Requests.{CallValue, ExpectedValue, RequestValue, request_value}
 use Rattle.drill_lines.specs.Requests.{plain, switch, counted, optional, bytes, listen, bind, congestion, checksums, ends}
 use Rattle.drill_lines.specs.Requests.{take as taken, state, poll, example, make, clock, word, call, deliver, line, expect}
 use Rattle.drill_lines.specs.Words.{checksum_of, congestion_of, version_of}
-
--- the names of sockets
-abbrev pub Names : Type 0
-Names = List (Bor Word)
 
 -- the largest number of such a line
 abbrev pub most_of : Counted → ℕ

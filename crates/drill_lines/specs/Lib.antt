@@ -1,3 +1,4 @@
+pub mod Drills
 pub mod Fields
 pub mod Forms
 pub mod Names

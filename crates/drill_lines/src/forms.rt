@@ -4,7 +4,7 @@ ghost use Rattle.drill_lines.specs.Forms.{at_line, behind, behind_space, bytes_m
 ghost use Rattle.drill_lines.specs.Forms.{most_of, not_zero, number_for, optional_of, place_means, place_of, protocol_of};
 ghost use Rattle.drill_lines.specs.Forms.{queues_of, request_means, room_means, which_of, ReadsLine, deliver_means, free, is_written};
 ghost use Rattle.drill_lines.specs.Forms.{none_means, other_means};
-ghost use Rattle.drill_lines.specs.Names.{is_free_in};
+ghost use Rattle.drill_lines.specs.Names.{is_free_in, words_in};
 ghost use Rattle.drill_lines.specs.Reads.{Reads, or_word};
 ghost use Rattle.drill_lines.specs.Requests.{call_value, request_value};
 ghost use Rattle.drill_lines.specs.Shapes.{form_of};
@@ -35,7 +35,7 @@ const SIZE: u32 = 1_048_576;
 
 /// What a line asks for, or its fault.
 pub fn request_of<'t>(names: &Names<'t>, line: &Line<'t>) -> Result<Request<'t>, ScriptError>
-    ensures { ReadsLine (line_means names.now.names.items line.now.number (form_of line.now.name.now)
+    ensures { ReadsLine (line_means (words_in names.now.names.items) line.now.number (form_of line.now.name.now)
         (words_of line.now.values.now) line.now.values.now) result }
 {
     match Form::of_word(line.name) {
@@ -50,7 +50,7 @@ fn request_of_form<'t>(
     form: Form,
     line: &Line<'t>,
 ) -> Result<Request<'t>, ScriptError>
-    ensures { ReadsLine (at_line line.now.number (request_means names.now.names.items form (words_of line.now.values.now)
+    ensures { ReadsLine (at_line line.now.number (request_means (words_in names.now.names.items) form (words_of line.now.values.now)
         line.now.values.now)) result }
 {
     let number = line.number;
@@ -63,7 +63,7 @@ fn request_of_form<'t>(
 
 #[tactic(auto, unfolding(crate::specs::Forms::request_means))]
 fn read<'t>(names: &Names<'t>, form: Form, values: &'t [u8]) -> Read<Request<'t>>
-    ensures { Reads request_value (request_means names.now.names.items form (words_of values.now) values.now)
+    ensures { Reads request_value (request_means (words_in names.now.names.items) form (words_of values.now) values.now)
         result }
 {
     match form {
@@ -105,7 +105,7 @@ fn at_most(word: &[u8], most: u32) -> Option<u32>
 // `tcp S RX TX`, and the lines of the other kinds
 #[tactic(auto, unfolding(crate::specs::Forms::room_means))]
 fn room<'t>(names: &Names<'_>, form: Form, values: &[u8]) -> Read<Request<'t>>
-    ensures { Reads request_value (room_means names.now.names.items form (words_of values.now)) result }
+    ensures { Reads request_value (room_means (words_in names.now.names.items) form (words_of values.now)) result }
 {
     match form {
         Form::Tcp => {
@@ -133,7 +133,7 @@ fn room<'t>(names: &Names<'_>, form: Form, values: &[u8]) -> Read<Request<'t>>
 }
 
 fn free<'t>(names: &Names<'_>, name: &[u8], room: Room) -> Read<Request<'t>>
-    ensures { Reads request_value (or_word (free names.now.names.items name.now (Some room))) result }
+    ensures { Reads request_value (or_word (free (words_in names.now.names.items) name.now (Some room))) result }
 {
     if names.is_free(name) {
         Ok(Request::Make(room))
@@ -181,7 +181,7 @@ fn protocol(word: &[u8]) -> Option<Option<IpProtocol>>
 
 // `S last S`, or `S N S`
 fn deliver<'t>(names: &Names<'_>, values: &[u8]) -> Read<Request<'t>>
-    ensures { Reads request_value (deliver_means names.now.names.items (words_of values.now)) result }
+    ensures { Reads request_value (deliver_means (words_in names.now.names.items) (words_of values.now)) result }
 {
     let (from, which, to) = counted(three_words(values))?;
     let from = meant(names.place_of(from))?;
@@ -204,7 +204,7 @@ fn which_of(word: &[u8]) -> Option<Which>
 // `S STATE`, or `S poll MOMENT`
 #[tactic(auto, unfolding(crate::specs::Forms::expect_means))]
 fn expect<'t>(names: &Names<'_>, values: &'t [u8]) -> Read<Request<'t>>
-    ensures { Reads request_value (expect_means names.now.names.items (words_of values.now)) result }
+    ensures { Reads request_value (expect_means (words_in names.now.names.items) (words_of values.now)) result }
 {
     if let Some((name, state)) = two_words(values) {
         let place = meant(names.place_of(name))?;
@@ -220,7 +220,7 @@ fn expect<'t>(names: &Names<'_>, values: &'t [u8]) -> Read<Request<'t>>
 }
 
 fn call<'t>(names: &Names<'_>, form: Form, values: &'t [u8]) -> Read<Request<'t>>
-    ensures { Reads request_value (call_of names.now.names.items form (words_of values.now)) result }
+    ensures { Reads request_value (call_of (words_in names.now.names.items) form (words_of values.now)) result }
 {
     let (name, rest) = counted(split_word(values))?;
     let call = call_behind(form, rest)?;

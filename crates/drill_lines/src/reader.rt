@@ -1,10 +1,17 @@
 //! The lines of a drill, read one after the other.
+ghost use Rattle.std.specs.Prelude.{◌≡◌, [], MatchOption, MatchResult};
+ghost use Rattle.drill_lines.specs.Drills.{Asks, FirstFaults, Read, known, left, meaning, names_after};
+ghost use Rattle.drill_lines.specs.Requests.{request_value};
+ghost use Rattle.sock_pair.specs.ScriptLines.{IsFault};
+ghost use Rattle.sock_pair.specs.ScriptText.{lines_left, words_of};
+ghost use Rattle.sock_pair.specs.declared.script.error.ScriptError.TheVariants as fault;
 
 use crate::forms::request_of;
 use crate::names::Names;
 use crate::request::Request;
 use sock_pair::script::ScriptError;
 use sock_pair::script::lines::{Line, Lines};
+use sock_pair::script::words::split_word;
 use std::alloc::Global;
 
 /// The lines that are left, and the names of the sockets of the example.
@@ -25,7 +32,10 @@ pub struct Numbered<'t> {
 
 impl<'t> Reader<'t> {
     /// At the beginning of a text.
-    pub fn new(alloc: Global, text: &'t [u8]) -> Reader<'t> {
+    pub fn new(alloc: Global, text: &'t [u8]) -> Reader<'t>
+        ensures lines { left result ≡ lines_left 1 text.now }
+        ensures names { known result ≡ [] }
+    {
         Reader {
             lines: Lines::new(text),
             names: Names::new(alloc),
@@ -38,26 +48,44 @@ impl<'t> Reader<'t> {
     }
 
     /// The next line that is not skipped; none where there is none.
-    pub fn next(&mut self) -> Result<Option<Numbered<'t>>, ScriptError> {
+    ///
+    /// The error is the line's fault, or `Memory` where memory ran out at a line that has none.
+    pub fn next(&mut self) -> Result<Option<Numbered<'t>>, ScriptError>
+        ensures { MatchResult result (λ got. MatchOption got (left self.old ≡ []) (Asks self.old self.new))
+            (FirstFaults (known self.old) (left self.old)) }
+    {
         let Some(line) = self.lines.next() else {
             return Ok(None);
         };
-        let request = request_of(&self.names, &line)?;
-        self.note(&request, &line)?;
-        Ok(Some(Numbered {
+        let numbered = self.read(&line)?;
+        Ok(Some(numbered))
+    }
+
+    fn read(&mut self, line: &Line<'t>) -> Result<Numbered<'t>, ScriptError>
+        ensures lines { self.new.lines ≡ self.old.lines }
+        ensures read { MatchResult result (Read self.old line.now self.new)
+            (IsFault (meaning (known self.old) line.now)) }
+    {
+        let request = request_of(&self.names, line)?;
+        self.note(&request, line)?;
+        Ok(Numbered {
             line: line.number,
             name: line.name,
             values: line.values,
             request,
-        }))
+        })
     }
 
     // Keeps the names of sockets.
-    fn note(&mut self, request: &Request<'t>, line: &Line<'t>) -> Result<(), ScriptError> {
+    fn note(&mut self, request: &Request<'t>, line: &Line<'t>) -> Result<(), ScriptError>
+        ensures lines { self.new.lines ≡ self.old.lines }
+        ensures names { let after = names_after (known self.old) (words_of line.now.values.now) (request_value request.now) in
+            MatchResult result (λ _. known self.new ≡ after) (λ e. e ≡ fault.Memory) }
+    {
         match request {
             Request::Example(_) => self.names.clear(),
             Request::Make(_) => {
-                if let Some(name) = name_of(line.values) {
+                if let Some((name, _)) = split_word(line.values) {
                     self.names.add(name)?;
                 }
             }
@@ -65,9 +93,4 @@ impl<'t> Reader<'t> {
         }
         Ok(())
     }
-}
-
-fn name_of(values: &[u8]) -> Option<&[u8]> {
-    let (name, _) = sock_pair::script::words::split_word(values)?;
-    Some(name)
 }
