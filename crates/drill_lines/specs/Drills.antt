@@ -29,7 +29,8 @@ names_after names ws (example name) = []
 names_after names ws (make room) = with_name names ws
 names_after names ws _ = names
 
-abbrev pub fault_or : (Names → Option ScriptError) → Names → List Word → Result RequestValue ScriptError → Option ScriptError
+abbrev pub fault_or
+    : (Names → Option ScriptError) → Names → List Word → Result RequestValue ScriptError → Option ScriptError
 fault_or more names ws (Err e) = Some e
 fault_or more names ws (Ok r) = more (names_after names ws r)
 

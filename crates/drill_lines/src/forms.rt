@@ -50,8 +50,8 @@ fn request_of_form<'t>(
     form: Form,
     line: &Line<'t>,
 ) -> Result<Request<'t>, ScriptError>
-    ensures { ReadsLine (at_line line.now.number (request_means (words_in names.now.names.items) form (words_of line.now.values.now)
-        line.now.values.now)) result }
+    ensures { ReadsLine (at_line line.now.number (request_means (words_in names.now.names.items) form
+        (words_of line.now.values.now) line.now.values.now)) result }
 {
     let number = line.number;
     match read(names, form, line.values) {

@@ -79,7 +79,8 @@ impl<'t> Reader<'t> {
     // Keeps the names of sockets.
     fn note(&mut self, request: &Request<'t>, line: &Line<'t>) -> Result<(), ScriptError>
         ensures lines { self.new.lines ≡ self.old.lines }
-        ensures names { let after = names_after (known self.old) (words_of line.now.values.now) (request_value request.now) in
+        ensures names { let after = names_after (known self.old) (words_of line.now.values.now)
+            (request_value request.now) in
             MatchResult result (λ _. known self.new ≡ after) (λ e. e ≡ fault.Memory) }
     {
         match request {
