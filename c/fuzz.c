@@ -1,5 +1,5 @@
-/* Random calls on pairs of TCP and of UDP sockets. Packets are lost, repeated, cut, changed and made up; buffers of
- * every length lie before a page that may not be touched.
+/* Random calls on pairs of TCP, of UDP and of raw sockets. Packets are lost, repeated, cut, changed and made up; buffers
+ * of every length lie before a page that may not be touched.
  *
  *     fuzz CALLS SEED
  *
@@ -14,7 +14,8 @@
 
 #include "smoltcp_socket.h"
 
-enum { PAGE = 4096, LONGEST = 3 * PAGE, MTU = 1500, KEPT = 8, WRITTEN = 1 << 16, PLACES = 4, PAGES = 9 };
+enum { PAGE = 4096, LONGEST = 3 * PAGE, MTU = 1500, KEPT = 8, WRITTEN = 1 << 16, PLACES = 4, PAGES = 13,
+       RAW = 253 /* a protocol for experiments (RFC 3692) */ };
 
 /* One end: its socket, its buffers, its context, and packets that it emitted and are on their way. What it was given to
  * send since it was opened, and how much of the other's was read, where the connection was never broken. */
@@ -22,6 +23,8 @@ struct end {
     struct smoltcp_tcp tcp;
     struct smoltcp_udp udp;
     struct smoltcp_udp_place places[2][PLACES];
+    struct smoltcp_raw raw;
+    struct smoltcp_raw_place raw_places[2][PLACES];
     struct smoltcp_context cx;
     uint8_t packets[KEPT][MTU];
     size_t lengths[KEPT];
@@ -30,9 +33,9 @@ struct end {
 };
 
 static struct end ends[2];
-static uint8_t *pages[PAGES]; /* memory before a page that may not be touched: four buffers an end, and one for calls */
+static uint8_t *pages[PAGES]; /* memory before a page that may not be touched: six buffers an end, and one for calls */
 static uint64_t state;
-static long calls, bytes, datagrams;
+static long calls, bytes, datagrams, raws;
 
 static uint32_t draw(uint32_t below) {
     state = state * 6364136223846793005u + 1442695040888963407u;
@@ -68,12 +71,19 @@ static struct smoltcp_udp_buffer queue(struct smoltcp_udp_place *places, int whi
     return buffer;
 }
 
+static struct smoltcp_raw_buffer raw_queue(struct smoltcp_raw_place *places, int which) {
+    struct smoltcp_raw_buffer buffer = {places, draw(PLACES + 1), NULL, draw(LONGEST)};
+    buffer.bytes = before_guard(which, buffer.len);
+    return buffer;
+}
+
 /* Both ends anew, over buffers of any length. */
 static void begin(void) {
     int i;
     for (i = 0; i < 2; i++) {
         struct end *e = &ends[i];
         size_t rx = draw(4) ? 1 + draw(LONGEST) : draw(3), tx = draw(4) ? 1 + draw(LONGEST) : draw(3);
+        struct smoltcp_raw_filter filter = {(uint8_t)(draw(2) ? 4 : 0), (uint8_t)draw(2), RAW};
         memset(e->packets, 0, sizeof e->packets); /* a packet of an earlier connection could pass as one of this */
         memset(e->lengths, 0, sizeof e->lengths);
         e->sent = e->read = 0;
@@ -83,6 +93,8 @@ static void begin(void) {
         e->cx.v4[3] = (uint8_t)(i + 1);
         if (smoltcp_tcp_init(&e->tcp, before_guard(2 * i, rx), rx, before_guard(2 * i + 1, tx), tx)) fail("init", 0);
         if (smoltcp_udp_init(&e->udp, queue(e->places[0], 5 + 2 * i), queue(e->places[1], 6 + 2 * i))) fail("init", 1);
+        if (smoltcp_raw_init(&e->raw, &filter, raw_queue(e->raw_places[0], 9 + 2 * i),
+                             raw_queue(e->raw_places[1], 10 + 2 * i))) fail("init", 2);
         if (draw(2)) smoltcp_tcp_set_timestamps(&e->tcp, 1);
         if (draw(2)) smoltcp_tcp_set_keep_alive(&e->tcp, 1000000);
     }
@@ -234,10 +246,61 @@ static void recv_datagram(struct end *e) {
     datagrams++;
 }
 
+/* A whole packet, or any bytes, which leave the queue without a packet. */
+static void send_raw(struct end *e) {
+    size_t len = 20 + draw(900), i;
+    uint8_t *data = before_guard(4, len);
+    memset(data, 0, 20);
+    data[0] = 0x45;
+    data[2] = (uint8_t)(len >> 8);
+    data[3] = (uint8_t)len;
+    data[8] = 64;
+    data[9] = RAW;
+    memcpy(data + 12, e->cx.v4, 4);
+    data[16] = 10;
+    if (len > 20) data[20] = (uint8_t)draw(256);
+    for (i = 1; i < len - 20; i++) data[20 + i] = byte_of(data + 20, i);
+    if (draw(16) == 0) data[1 + draw(3)] ^= (uint8_t)(1 << draw(8));
+    if (draw(16) == 0) len = draw((uint32_t)len + 1);
+    named("raw_send", smoltcp_raw_send(&e->raw, data, len), 0);
+}
+
+/* The first packet goes to the other end, or is lost, or its header is changed on its way. */
+static void carry_raw(struct end *e, struct end *to) {
+    size_t cap = draw(8) ? MTU : draw(MTU);
+    uint8_t *out = before_guard(4, cap), *packet;
+    int64_t n, answer;
+    int changed = draw(16) == 0;
+    memset(out, 0xa5, cap);
+    n = within("raw_dispatch", smoltcp_raw_dispatch(&e->raw, &e->cx, out, cap), out, cap, 0xa5);
+    if (n <= 0 || draw(8) == 0) return;
+    packet = before_guard(4, (size_t)n);
+    memmove(packet, out, (size_t)n);
+    if (changed) packet[1 + draw(19)] ^= (uint8_t)(1 << draw(8)); /* as version 6 it would have no checksum */
+    answer = named("raw_process", smoltcp_raw_process(&to->raw, &to->cx, packet, (size_t)n), 0);
+    if (changed && answer == 0) fail("raw_process", answer);
+}
+
+static void recv_raw(struct end *e) {
+    size_t cap = draw(1000), i;
+    uint8_t *data = before_guard(4, cap);
+    int64_t seen, n;
+    memset(data, 0x3c, cap);
+    seen = within("raw_peek", smoltcp_raw_peek(&e->raw, data, cap), data, cap, 0x3c);
+    n = within("raw_recv", smoltcp_raw_recv(&e->raw, data, cap), data, cap, 0x3c);
+    if (seen != n) fail("raw_peek", seen);
+    if (n < 0) return;
+    if (n < 20 || data[0] != 0x45 || (data[2] << 8 | data[3]) != n) fail("raw_recv", n);
+    for (i = 1; i < (size_t)n - 20; i++)
+        if (data[20 + i] != byte_of(data + 20, i)) fail("raw_recv", n);
+    raws++;
+}
+
 /* Numbers out of range and null pointers change nothing. */
 static void refused(struct end *e) {
     struct smoltcp_tcp was = e->tcp;
     struct smoltcp_udp udp_was = e->udp;
+    struct smoltcp_raw raw_was = e->raw;
     struct smoltcp_context far = e->cx;
     uint8_t byte = 0;
     far.now = INT64_MAX;
@@ -248,15 +311,18 @@ static void refused(struct end *e) {
     if (smoltcp_tcp_send(&e->tcp, NULL, 1) != SMOLTCP_ERROR_NULL) fail("send", 0);
     if (smoltcp_udp_dispatch(&e->udp, &far, &byte, 1) != SMOLTCP_ERROR_CONTEXT) fail("udp_dispatch", 0);
     if (smoltcp_udp_process(&e->udp, &e->cx, &byte, 1) != SMOLTCP_NOT_ACCEPTED) fail("udp_process", 0);
+    if (smoltcp_raw_dispatch(&e->raw, &far, &byte, 1) != SMOLTCP_ERROR_CONTEXT) fail("raw_dispatch", 0);
+    if (smoltcp_raw_process(&e->raw, &e->cx, &byte, 1) != SMOLTCP_NOT_ACCEPTED) fail("raw_process", 0);
     if (memcmp(&was, &e->tcp, sizeof was) != 0) fail("a refused call changed the socket", 0);
     if (memcmp(&udp_was, &e->udp, sizeof udp_was) != 0) fail("a refused call changed the UDP socket", 0);
+    if (memcmp(&raw_was, &e->raw, sizeof raw_was) != 0) fail("a refused call changed the raw socket", 0);
 }
 
 static void call(void) {
     int i = (int)draw(2);
     struct end *e = &ends[i], *other = &ends[1 - i];
     int64_t limit = INT64_MAX;
-    switch (draw(20)) {
+    switch (draw(24)) {
     case 0: case 1: case 2: case 3: dispatch(e); break;
     case 4: case 5: case 6: case 7: case 8: process(e, other); break;
     case 9: case 10: send_bytes(e); break;
@@ -266,6 +332,9 @@ static void call(void) {
     case 15: send_datagram(e, 1 - i); break;
     case 16: case 17: carry_datagram(e, other); break;
     case 18: recv_datagram(e); break;
+    case 19: send_raw(e); break;
+    case 20: case 21: carry_raw(e, other); break;
+    case 22: recv_raw(e); break;
     default:
         if (smoltcp_tcp_poll_at(&e->tcp, &e->cx) > limit) fail("poll_at", 0);
         if (named("state", smoltcp_tcp_state(&e->tcp), SMOLTCP_TIME_WAIT) < 0) fail("state", 0);
@@ -286,6 +355,7 @@ int main(int argc, char **argv) {
         if (calls % 2000 == 0) begin();
         call();
     }
-    printf("%ld calls, %ld bytes and %ld datagrams read as they were sent\n", calls, bytes, datagrams);
+    printf("%ld calls, %ld bytes, %ld datagrams and %ld raw packets read as they were sent\n", calls, bytes, datagrams,
+           raws);
     return 0;
 }
