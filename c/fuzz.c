@@ -1,5 +1,5 @@
-/* Random calls on pairs of TCP, of UDP and of raw sockets. Packets are lost, repeated, cut, changed and made up; buffers
- * of every length lie before a page that may not be touched.
+/* Random calls on pairs of sockets of each kind. Packets are lost, repeated, cut, changed and made up; buffers of every
+ * length lie before a page that may not be touched.
  *
  *     fuzz CALLS SEED
  *
@@ -14,7 +14,7 @@
 
 #include "smoltcp_socket.h"
 
-enum { PAGE = 4096, LONGEST = 3 * PAGE, MTU = 1500, KEPT = 8, WRITTEN = 1 << 16, PLACES = 4, PAGES = 13,
+enum { PAGE = 4096, LONGEST = 3 * PAGE, MTU = 1500, KEPT = 8, WRITTEN = 1 << 16, PLACES = 4, PAGES = 17,
        RAW = 253 /* a protocol for experiments (RFC 3692) */ };
 
 /* One end: its socket, its buffers, its context, and packets that it emitted and are on their way. What it was given to
@@ -25,6 +25,8 @@ struct end {
     struct smoltcp_udp_place places[2][PLACES];
     struct smoltcp_raw raw;
     struct smoltcp_raw_place raw_places[2][PLACES];
+    struct smoltcp_icmp icmp;
+    struct smoltcp_icmp_place icmp_places[2][PLACES];
     struct smoltcp_context cx;
     uint8_t packets[KEPT][MTU];
     size_t lengths[KEPT];
@@ -33,9 +35,9 @@ struct end {
 };
 
 static struct end ends[2];
-static uint8_t *pages[PAGES]; /* memory before a page that may not be touched: six buffers an end, and one for calls */
+static uint8_t *pages[PAGES]; /* memory before a page that may not be touched: eight buffers an end, and one for calls */
 static uint64_t state;
-static long calls, bytes, datagrams, raws;
+static long calls, bytes, datagrams, raws, echoes;
 
 static uint32_t draw(uint32_t below) {
     state = state * 6364136223846793005u + 1442695040888963407u;
@@ -77,6 +79,12 @@ static struct smoltcp_raw_buffer raw_queue(struct smoltcp_raw_place *places, int
     return buffer;
 }
 
+static struct smoltcp_icmp_buffer icmp_queue(struct smoltcp_icmp_place *places, int which) {
+    struct smoltcp_icmp_buffer buffer = {places, draw(PLACES + 1), NULL, draw(LONGEST)};
+    buffer.bytes = before_guard(which, buffer.len);
+    return buffer;
+}
+
 /* Both ends anew, over buffers of any length. */
 static void begin(void) {
     int i;
@@ -95,15 +103,23 @@ static void begin(void) {
         if (smoltcp_udp_init(&e->udp, queue(e->places[0], 5 + 2 * i), queue(e->places[1], 6 + 2 * i))) fail("init", 1);
         if (smoltcp_raw_init(&e->raw, &filter, raw_queue(e->raw_places[0], 9 + 2 * i),
                              raw_queue(e->raw_places[1], 10 + 2 * i))) fail("init", 2);
+        if (smoltcp_icmp_init(&e->icmp, icmp_queue(e->icmp_places[0], 13 + 2 * i),
+                              icmp_queue(e->icmp_places[1], 14 + 2 * i))) fail("init", 3);
         if (draw(2)) smoltcp_tcp_set_timestamps(&e->tcp, 1);
         if (draw(2)) smoltcp_tcp_set_keep_alive(&e->tcp, 1000000);
     }
     {
         struct smoltcp_endpoint a = at(0, 49152), b = at(1, 7);
+        struct smoltcp_icmp_endpoint ident;
+        memset(&ident, 0, sizeof ident);
+        ident.kind = SMOLTCP_ICMP_IDENT;
+        ident.ident = 0x1234;
         smoltcp_tcp_listen(&ends[1].tcp, &b);
         smoltcp_tcp_connect(&ends[0].tcp, &ends[0].cx, &b, &a);
         smoltcp_udp_bind(&ends[0].udp, &a);
         smoltcp_udp_bind(&ends[1].udp, &b);
+        smoltcp_icmp_bind(&ends[0].icmp, &ident);
+        smoltcp_icmp_bind(&ends[1].icmp, &ident);
     }
 }
 
@@ -296,11 +312,58 @@ static void recv_raw(struct end *e) {
     raws++;
 }
 
+/* An echo request, whose checksum is the dispatch's, or bytes that are no message. */
+static void send_echo(struct end *e, int to) {
+    size_t len = 8 + draw(900), i;
+    uint8_t *data = before_guard(4, len);
+    struct smoltcp_endpoint there = at(to, 0);
+    memset(data, 0, 8);
+    data[0] = 8;
+    data[4] = 0x12;
+    data[5] = 0x34;
+    data[7] = (uint8_t)draw(256);
+    if (len > 8) data[8] = (uint8_t)draw(256);
+    for (i = 1; i < len - 8; i++) data[8 + i] = byte_of(data + 8, i);
+    if (draw(16) == 0) len = draw(8);
+    named("icmp_send", smoltcp_icmp_send(&e->icmp, &there.addr, data, len), 0);
+}
+
+/* The first message goes to the other end, or is lost, or is changed on its way. */
+static void carry_echo(struct end *e, struct end *to) {
+    size_t cap = draw(8) ? MTU : draw(MTU);
+    uint8_t *out = before_guard(4, cap), *packet;
+    int64_t n, answer;
+    int changed = draw(16) == 0;
+    memset(out, 0xa5, cap);
+    n = within("icmp_dispatch", smoltcp_icmp_dispatch(&e->icmp, &e->cx, out, cap), out, cap, 0xa5);
+    if (n <= 0 || draw(8) == 0) return;
+    packet = before_guard(4, (size_t)n);
+    memmove(packet, out, (size_t)n);
+    if (changed) packet[1 + draw((uint32_t)n - 1)] ^= (uint8_t)(1 << draw(8));
+    answer = named("icmp_process", smoltcp_icmp_process(&to->icmp, &to->cx, packet, (size_t)n), 0);
+    if (changed && answer == 0) fail("icmp_process", answer);
+}
+
+static void recv_echo(struct end *e) {
+    size_t cap = draw(1000), i;
+    uint8_t *data = before_guard(4, cap);
+    struct smoltcp_address from;
+    int64_t n;
+    memset(data, 0x3c, cap);
+    n = within("icmp_recv", smoltcp_icmp_recv(&e->icmp, &from, data, cap), data, cap, 0x3c);
+    if (n < 0) return;
+    if (n < 8 || data[0] != 8 || data[4] != 0x12 || data[5] != 0x34) fail("icmp_recv", n);
+    for (i = 1; i < (size_t)n - 8; i++)
+        if (data[8 + i] != byte_of(data + 8, i)) fail("icmp_recv", n);
+    echoes++;
+}
+
 /* Numbers out of range and null pointers change nothing. */
 static void refused(struct end *e) {
     struct smoltcp_tcp was = e->tcp;
     struct smoltcp_udp udp_was = e->udp;
     struct smoltcp_raw raw_was = e->raw;
+    struct smoltcp_icmp icmp_was = e->icmp;
     struct smoltcp_context far = e->cx;
     uint8_t byte = 0;
     far.now = INT64_MAX;
@@ -313,16 +376,19 @@ static void refused(struct end *e) {
     if (smoltcp_udp_process(&e->udp, &e->cx, &byte, 1) != SMOLTCP_NOT_ACCEPTED) fail("udp_process", 0);
     if (smoltcp_raw_dispatch(&e->raw, &far, &byte, 1) != SMOLTCP_ERROR_CONTEXT) fail("raw_dispatch", 0);
     if (smoltcp_raw_process(&e->raw, &e->cx, &byte, 1) != SMOLTCP_NOT_ACCEPTED) fail("raw_process", 0);
+    if (smoltcp_icmp_dispatch(&e->icmp, &far, &byte, 1) != SMOLTCP_ERROR_CONTEXT) fail("icmp_dispatch", 0);
+    if (smoltcp_icmp_process(&e->icmp, &e->cx, &byte, 1) != SMOLTCP_NOT_ACCEPTED) fail("icmp_process", 0);
     if (memcmp(&was, &e->tcp, sizeof was) != 0) fail("a refused call changed the socket", 0);
     if (memcmp(&udp_was, &e->udp, sizeof udp_was) != 0) fail("a refused call changed the UDP socket", 0);
     if (memcmp(&raw_was, &e->raw, sizeof raw_was) != 0) fail("a refused call changed the raw socket", 0);
+    if (memcmp(&icmp_was, &e->icmp, sizeof icmp_was) != 0) fail("a refused call changed the ICMP socket", 0);
 }
 
 static void call(void) {
     int i = (int)draw(2);
     struct end *e = &ends[i], *other = &ends[1 - i];
     int64_t limit = INT64_MAX;
-    switch (draw(24)) {
+    switch (draw(28)) {
     case 0: case 1: case 2: case 3: dispatch(e); break;
     case 4: case 5: case 6: case 7: case 8: process(e, other); break;
     case 9: case 10: send_bytes(e); break;
@@ -335,6 +401,9 @@ static void call(void) {
     case 19: send_raw(e); break;
     case 20: case 21: carry_raw(e, other); break;
     case 22: recv_raw(e); break;
+    case 23: send_echo(e, 1 - i); break;
+    case 24: case 25: carry_echo(e, other); break;
+    case 26: recv_echo(e); break;
     default:
         if (smoltcp_tcp_poll_at(&e->tcp, &e->cx) > limit) fail("poll_at", 0);
         if (named("state", smoltcp_tcp_state(&e->tcp), SMOLTCP_TIME_WAIT) < 0) fail("state", 0);
@@ -355,7 +424,7 @@ int main(int argc, char **argv) {
         if (calls % 2000 == 0) begin();
         call();
     }
-    printf("%ld calls, %ld bytes, %ld datagrams and %ld raw packets read as they were sent\n", calls, bytes, datagrams,
-           raws);
+    printf("%ld calls: %ld bytes, %ld datagrams, %ld raw packets and %ld echoes read as they were sent\n", calls, bytes,
+           datagrams, raws, echoes);
     return 0;
 }
