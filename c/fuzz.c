@@ -35,7 +35,7 @@ struct end {
 };
 
 static struct end ends[2];
-static uint8_t *pages[PAGES]; /* memory before a page that may not be touched: eight buffers an end, and one for calls */
+static uint8_t *pages[PAGES]; /* memory before a page that may not be touched: eight buffers an end, one for calls */
 static uint64_t state;
 static long calls, bytes, datagrams, raws, echoes;
 
