@@ -114,9 +114,9 @@ that_way : {f : Facts} (at end : Instant) (w v w' v' : View) (back back' got : L
 that_way at end w v w' v' back back' got (NoMove _ _ _ _) = NoTurn at v w got back
 that_way at end w v w' v' back back' got (OneMore _ now _ _ _ u x _ _ _ more _ l m a) = NextTurn at now end v w x u v' w' got back got more got back' l (OfThat m refl) (that_way now end u x w' v' more back' got a)
 
-turned : {f : Facts} (at mid end : Instant) (v w v1 w1 v2 w2 : View) (got back got1 back1 got2 back2 : List ℕ) → Turns f at v w got back mid v1 w1 got1 back1 → Turns f mid v1 w1 got1 back1 end v2 w2 got2 back2 → Turns f at v w got back end v2 w2 got2 back2
-turned at mid end v w v1 w1 v2 w2 got back got1 back1 got2 back2 (NoTurn _ _ _ _ _) b = b
-turned at mid end v w v1 w1 v2 w2 got back got1 back1 got2 back2 (NextTurn _ now _ _ _ u x _ _ _ _ more less _ _ l m a) b = NextTurn at now end v w u x v2 w2 got back more less got2 back2 l m (turned now mid end u x v1 w1 v2 w2 more less got1 back1 got2 back2 a b)
+turns_then : {f : Facts} (at mid end : Instant) (v w v1 w1 v2 w2 : View) (got back got1 back1 got2 back2 : List ℕ) → Turns f at v w got back mid v1 w1 got1 back1 → Turns f mid v1 w1 got1 back1 end v2 w2 got2 back2 → Turns f at v w got back end v2 w2 got2 back2
+turns_then at mid end v w v1 w1 v2 w2 got back got1 back1 got2 back2 (NoTurn _ _ _ _ _) b = b
+turns_then at mid end v w v1 w1 v2 w2 got back got1 back1 got2 back2 (NextTurn _ now _ _ _ u x _ _ _ _ more less _ _ l m a) b = NextTurn at now end v w u x v2 w2 got back more less got2 back2 l m (turns_then now mid end u x v1 w1 v2 w2 more less got1 back1 got2 back2 a b)
 
 -- ---- both
 
@@ -130,7 +130,7 @@ both_ways_complete d e t s f at v w got back mtu here there i =
       end = b.end;
       here = b.across;
       across = b.here;
-      turns = turned at a.end b.end v w a.here a.across b.across b.here got back (got ++ drop i.over.taken v.tx_buffer.bytes) back (got ++ drop i.over.taken v.tx_buffer.bytes) (back ++ drop i.back.taken w.tx_buffer.bytes)
+      turns = turns_then at a.end b.end v w a.here a.across b.across b.here got back (got ++ drop i.over.taken v.tx_buffer.bytes) back (got ++ drop i.over.taken v.tx_buffer.bytes) (back ++ drop i.back.taken w.tx_buffer.bytes)
           (this_way at a.end v w a.here a.across got (got ++ drop i.over.taken v.tx_buffer.bytes) back a.moves)
           (that_way a.end b.end a.across a.here b.here b.across back (back ++ drop i.back.taken w.tx_buffer.bytes) (got ++ drop i.over.taken v.tx_buffer.bytes) (subst (λ l. Moves f a.end a.across a.here back b.end b.here b.across (back ++ l)) a.others b.moves));
       sent_here = still_none;
