@@ -29,7 +29,8 @@ use Rattle.sock_tcp.specs.declared.state.State.TheVariants as state
 use Rattle.sock_tcp.specs.declared.tuple.Tuple.{Tuple}
 use Rattle.tcp_laws.proofs.DispatchFrames.{before_keeps, sends_keeps}
 use Rattle.tcp_laws.proofs.Receiving.{only_appends}
-use Rattle.tcp_laws.proofs.SocketSteps.{Holds, holds_after, listening_is, not_zero, same_number}
+use Rattle.tcp_laws.proofs.Kept.{listening_is, not_zero}
+use Rattle.tcp_laws.proofs.SocketSteps.{Holds, holds_after, same_number}
 
 -- ---- places
 

@@ -1,5 +1,5 @@
 -- Over any list of calls whose clock does not go back a wake-up has a bound.
-use Rattle.std.proofs.Common.{◌≡◌, ◌≤◌, ◌⊎◌, inl, inr, Bool, true, false, refl, sym, ap, subst, ◌∙◌, length, Option, Some, None, is_none, arith}
+use Rattle.std.proofs.Common.{◌≡◌, ◌≤◌, ◌⊎◌, inl, inr, Bool, true, false, refl, sym, ap, subst, ◌∙◌, Option, Some, None, is_none, arith}
 use Rattle.std.specs.Prelude.{◌||◌, if◌then◌else◌, nat_le, pos, ◌≤ℤ◌}
 use Rattle.std.proofs.lemmas.Bool.{and_parts, le-leb, or_parts}
 use Rattle.std.proofs.lemmas.Int.{ints}
@@ -9,53 +9,37 @@ use Rattle.net_base.specs.declared.time.Instant.{Instant}
 use Rattle.sock_core.specs.Facts.{Facts}
 use Rattle.sock_core.specs.declared.context.PollAt.{PollAt}
 use Rattle.sock_core.specs.declared.context.PollAt.TheVariants as poll
-use Rattle.sock_tcp.specs.Begin.{before_emit}
 use Rattle.sock_tcp.specs.Due.{ack_due, ack_poll, data_due, is_closed, window_doubled}
-use Rattle.sock_tcp.specs.Opening.{endpoints}
 use Rattle.sock_tcp.specs.Poll.{is_due_now, poll_moment, poll_moment_to}
 use Rattle.sock_tcp.specs.Polls.{delay_poll, earlier, timer_poll, timeout_poll}
-use Rattle.sock_tcp.specs.Queues.{fitting, may_recv, may_send, readable}
 use Rattle.sock_tcp.specs.Timers.{after, is_over}
-use Rattle.sock_tcp.specs.View.{View, fresh, moment_of}
+use Rattle.sock_tcp.specs.View.{View, fresh}
 use Rattle.sock_tcp.specs.declared.timer.AckDelayTimer.{AckDelayTimer}
 use Rattle.sock_tcp.specs.declared.timer.AckDelayTimer.TheVariants as ack_delay
 use Rattle.sock_tcp.specs.declared.timer.Timer.{Timer}
 use Rattle.sock_tcp.specs.declared.timer.Timer.TheVariants as timer
 use Rattle.sock_tcp.specs.declared.tuple.Tuple.{Tuple}
-use Rattle.tcp_laws.specs.Clocks.{IsAtMost, IsNext, IsReachedBy, KeepAliveIsBounded, NoCall, OneMore, TimedRun, WakeUpIsBounded, interval_in, latest, moment_in}
+use Rattle.tcp_laws.specs.Clocks.{IsAtMost, IsNext, IsReachedBy, KeepAliveIsBounded, NoCall, OneMore, TimedRun, WakeUpIsBounded, latest, moment_in}
 use Rattle.tcp_laws.specs.Polling.{ComesBy, IsReached}
-use Rattle.tcp_laws.specs.SocketRun.{Counts, Run, Step}
-use Rattle.tcp_laws.specs.SocketRun.{Listen, Connect, SendSlice, Send, WriteStr, RecvSlice, Recv, Close, Abort, Set, Process, Dispatch, Ends, Then}
+use Rattle.tcp_laws.specs.SocketRun.{Counts, Run}
+use Rattle.tcp_laws.specs.SocketRun.{Ends, Then}
 use Rattle.tcp_laws.proofs.Guards.{first_comes, second_comes}
 use Rattle.tcp_laws.proofs.OrderedCalls.{reached_ordered}
 use Rattle.tcp_laws.proofs.Sleeping.{no_moment}
-use Rattle.tcp_laws.proofs.Moments.{IsTimed, is_delay_by, is_timer_by, later_timed}
-use Rattle.tcp_laws.proofs.Timed.{before_timed, closure_read, closure_timed, connect_timed, listen_timed, process_timed, sends_timed, setting_timed, slice_read, slice_timed}
+use Rattle.tcp_laws.proofs.Moments.{IsTimed, is_delay_by, is_timer_by}
+use Rattle.tcp_laws.proofs.Kept.{step_kept}
+use Rattle.tcp_laws.proofs.Timed.{kept_timed}
 
 -- ---- any list of calls
 
 module _ (most : Duration) (minute : 60000000 ≤ most.micros) where
-  step_timed : (v u : View) (k i : Counts) (last : Instant) (s : Step v k u i) → pos 0 ≤ℤ last.micros → IsNext (moment_in s) last → IsAtMost (interval_in s) most → IsTimed last most v → IsTimed (latest (moment_in s) last) most u
-  step_timed v u k i last (Listen e r h is) z n m t = listen_timed most minute last z v u t e r h
-  step_timed v u k i last (Connect f word remote local small h is) z n m t = subst (IsTimed last most) (sym h) (connect_timed most minute last z (endpoints v f remote local) v word t)
-  step_timed v u k i last (SendSlice bs r h is) z n m t = slice_timed most minute last z v u (fitting v (length bs)) bs (may_send v.state) h.view t
-  step_timed v u k i last (Send r h is) z n m t = closure_timed most minute last z (may_send v.state) v u r h t
-  step_timed v u k i last (WriteStr bs all h is) z n m t = slice_timed most minute last z v u (fitting v (length bs)) bs (may_send v.state) h.view t
-  step_timed v u k i last (RecvSlice bs bs' r h is) z n m t = slice_read most minute last z v u (readable v (length bs)) (may_recv v) h.view t
-  step_timed v u k i last (Recv r h is) z n m t = closure_read most minute last z (may_recv v) v u r h t
-  step_timed v u k i last (Close h is) z n m t = subst (IsTimed last most) (sym h) (record { timer = t.timer; waits = t.waits; timeout = t.timeout; keep_short = t.keep_short; delay_short = t.delay_short })
-  step_timed v u k i last (Abort h is) z n m t = subst (IsTimed last most) (sym h) (record { timer = t.timer; waits = t.waits; timeout = t.timeout; keep_short = t.keep_short; delay_short = t.delay_short })
-  step_timed v u k i last (Set h is) z n m t = setting_timed most minute last z v u t h m
-  step_timed v u k i last (Process now word ip s small numbered short bare h is) z n m t = subst (IsTimed now most) (sym h) (process_timed most minute now word ip s v (later_timed last now most v (n now refl) t))
-  step_timed v u k i last (Dispatch f stamps out h is) z n m t = sends_timed most minute f stamps (before_emit v f stamps).peer (before_emit v f stamps).view u out h (before_timed most minute f stamps v (later_timed last (moment_of f) most v (n (moment_of f) refl) t))
-
   still_zero : (told : Option Instant) (last : Instant) → IsNext told last → pos 0 ≤ℤ last.micros → pos 0 ≤ℤ (latest told last).micros
   still_zero None last n z = z
   still_zero (Some now) last n z = let h : last.micros ≤ℤ now.micros = n now refl in grind (arith, ints)
 
   run_timed : (v w : View) (k j : Counts) (last end : Instant) → TimedRun most v k last w j end → pos 0 ≤ℤ last.micros → IsTimed last most v → IsTimed end most w
   run_timed v w k j last end (NoCall _ _ _) z t = t
-  run_timed v w k j last end (OneMore _ u _ _ i _ _ _ s n m r) z t = run_timed u w i j (latest (moment_in s) last) end r (still_zero (moment_in s) last n z) (step_timed v u k i last s z n m t)
+  run_timed v w k j last end (OneMore _ u _ _ i _ _ _ s n m r) z t = run_timed u w i j (latest (moment_in s) last) end r (still_zero (moment_in s) last n z) (step_kept (λ at. IsTimed at most) (λ at. pos 0 ≤ℤ at.micros) (λ before now. before.micros ≤ℤ now.micros) (λ d. IsAtMost d most) (kept_timed most minute) v u k i last s z n m t)
 
   untimed : (v w : View) (k j : Counts) (last end : Instant) → TimedRun most v k last w j end → Run v k w j
   untimed v w k j last end (NoCall _ _ _) = Ends v k

@@ -1,28 +1,20 @@
 -- What a dispatch leaves alone.
-use Rattle.std.proofs.Common.{◌≡◌, ℕ, Bool, true, false, not, ◌&&◌, ◌||◌, refl, sym, ap, subst, ◌∙◌, Option, Some, None, arith}
-use Rattle.std.specs.Prelude.{◌==◌, if◌then◌else◌}
+use Rattle.std.proofs.Common.{◌≡◌, ℕ, Bool, true, false, not, ◌&&◌, ◌||◌, refl, ap, ◌∙◌, Option, Some, None, arith}
+use Rattle.std.specs.Prelude.{if◌then◌else◌}
 use Rattle.std.proofs.lemmas.List.{length-replicate}
 use Rattle.net_base.specs.declared.time.Instant.{Instant}
-use Rattle.sock_core.specs.Congestion.{post_transmitted}
-use Rattle.sock_core.specs.Estimator.{sent}
 use Rattle.sock_core.specs.Facts.{Facts}
 use Rattle.sock_core.specs.Received.{Received, room_of, cleared}
-use Rattle.sock_tcp.specs.Begin.{Begun, ended, last_ts_set_at, last_ts_set, told_ready, readied, retransmission_begun, fast_retransmission_marked, after_timer, after_timers, unless_paused, begun_to, begun, nothing_due, by_due, before_emit_to, before_emit}
+use Rattle.sock_tcp.specs.Begin.{Begun, ended, readied, retransmission_begun, fast_retransmission_marked, after_timers, unless_paused, begun_to, begun, nothing_due, by_due, before_emit_to, before_emit}
 use Rattle.sock_tcp.specs.Content.{Sending}
 use Rattle.sock_tcp.specs.Due.{is_due}
 use Rattle.sock_tcp.specs.Opening.{renewed}
-use Rattle.sock_tcp.specs.Polls.{is_reached, timeout_poll}
-use Rattle.sock_tcp.specs.Sent.{emitted_as, after_any, after_probe, snd_nxt_moved, sending_timed, after_kind, after_sending, after_emit, left_by}
+use Rattle.sock_tcp.specs.Sent.{after_any, after_probe, snd_nxt_moved}
 use Rattle.tcp_laws.specs.SocketRun.{SendsTo, is_address_lost, is_wait_over, is_reset}
-use Rattle.sock_tcp.specs.Timers.{is_over, is_close_over, retransmit_unless_set}
+use Rattle.sock_tcp.specs.Timers.{is_close_over}
 use Rattle.sock_tcp.specs.View.{View, moment_of}
-use Rattle.sock_tcp.specs.declared.emission.Emitted.{Emitted}
-use Rattle.sock_tcp.specs.declared.emission.Kind.{Kind}
-use Rattle.sock_tcp.specs.declared.emission.Kind.TheVariants as kind
-use Rattle.sock_tcp.specs.declared.state.State.TheVariants as state
-use Rattle.sock_tcp.specs.declared.timer.Timer.{Timer}
-use Rattle.sock_tcp.specs.declared.timer.Timer.TheVariants as timer
 use Rattle.sock_tcp.specs.declared.tuple.Tuple.{Tuple}
+use Rattle.tcp_laws.proofs.Kept.{KeptByBeginnings, KeptBySending, readied_kept, sends_kept, timers_kept}
 
 -- both queues stay, and SND.UNA
 pub record Keeps (v w : View) : Type 0 where
@@ -38,31 +30,21 @@ keeps_both v u w a b = record { tx = b.tx ∙ a.tx; rx = b.rx ∙ a.rx; una = b.
 
 -- ---- the beginning
 
-timer_keeps : (t : Timer) (v : View) (now : Instant) → Keeps v (after_timer t v now)
+beginnings_keep : (v : View) (now : Instant) → KeptByBeginnings (Keeps v) now
 unfolding retransmission_begun fast_retransmission_marked
-timer_keeps (timer.Retransmit at) v now = go (is_over at now)
-  where
-    go : (b : Bool) → Keeps v (if b then retransmission_begun v now else v)
-    go true = record { tx = refl; rx = refl; una = refl }
-    go false = same v
-timer_keeps timer.FastRetransmit v now = record { tx = refl; rx = refl; una = refl }
-timer_keeps _ v now = same v
+beginnings_keep v now = record {
+  remembers = λ w k. record { tx = k.tx; rx = k.rx; una = k.una };
+  tells = λ w k. record { tx = k.tx; rx = k.rx; una = k.una };
+  times_out = λ w k. record { tx = k.tx; rx = k.rx; una = k.una };
+  begins_again = λ w at e k. record { tx = k.tx; rx = k.rx; una = k.una };
+  marks = λ w e k. record { tx = k.tx; rx = k.rx; una = k.una };
+}
 
 pub timers_keep : (v : View) (now : Instant) → Keeps v (after_timers v now)
-unfolding after_timers
-timers_keep v now = go (is_reached (timeout_poll v.timeout v.remote_last_ts) now)
-  where
-    go : (b : Bool) → Keeps v (if b then record v { state = state.Closed } else after_timer v.timer v now)
-    go true = record { tx = refl; rx = refl; una = refl }
-    go false = timer_keeps v.timer v now
+timers_keep v now = timers_kept (Keeps v) now (beginnings_keep v now) v (same v)
 
 pub readied_keeps : (v : View) (now : Instant) → Keeps v (readied v now)
-unfolding readied last_ts_set
-readied_keeps v now = go v.remote_last_ts
-  where
-    go : (o : Option Instant) → Keeps v (told_ready (last_ts_set_at o v now) now)
-    go None = record { tx = refl; rx = refl; una = refl }
-    go (Some at) = record { tx = refl; rx = refl; una = refl }
+readied_keeps v now = readied_kept (Keeps v) now (beginnings_keep v now) v (same v)
 
 -- ---- how the beginning ends: the queues stay, or the socket is reset
 
@@ -147,29 +129,14 @@ module _ (f : Facts) (stamps : Bool) where
 
 -- ---- what is left behind the emit
 
-timed_keeps : (v : View) (now : Instant) (s : Emitted) → Keeps v (sending_timed v now s)
-unfolding sending_timed
-timed_keeps v now s = go (s.len == 0)
-  where
-    go : (b : Bool) → Keeps v (if b then v else record v { rtte = sent v.rtte now s.end; timer = retransmit_unless_set v.timer now v.rtte; congestion_controller = post_transmitted v.congestion_controller now s.len })
-    go true = same v
-    go false = record { tx = refl; rx = refl; una = refl }
-
-kind_keeps : (k : Kind) (v : View) (now : Instant) (s : Emitted) → Keeps v (after_kind k v now s)
-unfolding snd_nxt_moved after_probe
-kind_keeps kind.Plain v now s = let k = timed_keeps (snd_nxt_moved v s) now s in record { tx = k.tx; rx = k.rx; una = k.una }
-kind_keeps kind.Probe v now s = record { tx = refl; rx = refl; una = refl }
-kind_keeps kind.KeepAlive v now s = same v
-
-emit_keeps : (ok : Bool) (v : View) (now : Instant) (s : Emitted) → Keeps v (after_emit ok v now s)
-unfolding after_sending after_any
-emit_keeps true v now s = let k = kind_keeps s.kind (after_any v now) now s in record { tx = k.tx; rx = k.rx; una = k.una }
-emit_keeps false v now s = same v
-
-left_keeps : (out : Option Sending) (v : View) (now : Instant) (ok : Bool) → Keeps v (left_by out v now ok)
-left_keeps None v now ok = same v
-left_keeps (Some s) v now ok = emit_keeps ok v now (emitted_as s.kind s.segment)
+sending_keeps : (v : View) (now : Instant) → KeptBySending (Keeps v) now
+unfolding after_any snd_nxt_moved after_probe
+sending_keeps v now = record {
+  renews = λ w k. record { tx = k.tx; rx = k.rx; una = k.una };
+  moves = λ w e k. record { tx = k.tx; rx = k.rx; una = k.una };
+  times = λ w e k. record { tx = k.tx; rx = k.rx; una = k.una };
+  probes = λ w k. record { tx = k.tx; rx = k.rx; una = k.una };
+}
 
 pub sends_keeps : (o : Option Tuple) (f : Facts) (stamps : Bool) (v : View) (out : Option Sending) (w : View) → SendsTo o f stamps v out w → Keeps v w
-sends_keeps None f stamps v out w h = subst (Keeps v) (sym h.1) (same v)
-sends_keeps (Some t) f stamps v out w h = subst (Keeps v) (sym h.view) (left_keeps out v (moment_of f) h.ok)
+sends_keeps o f stamps v out w h = sends_kept (Keeps v) f (sending_keeps v (moment_of f)) o stamps v w out h (same v)

@@ -26,6 +26,7 @@ use Rattle.sock_tcp.specs.declared.state.State.TheVariants as state
 use Rattle.sock_tcp.specs.declared.tuple.Tuple.{Tuple}
 use Rattle.sock_tcp.specs.declared.verdict.Verdict.{Verdict}
 use Rattle.sock_tcp.specs.declared.verdict.Verdict.TheVariants as verdicts
+use Rattle.tcp_laws.proofs.Kept.{KeptByAnswers, KeptByRows, challenged_kept, outside_kept, rows_kept}
 
 -- the receive buffer is b, and the rest is as it was
 pub record Keeps (v w : View) (b : Received) : Type 0 where
@@ -79,17 +80,19 @@ module _ (s : Segment) (now : Instant) where
       let k = counted_keeps (released (window_taken u now s.control s.window_len) a.len) _ a in
       record { rx = k.rx; listen = k.listen; tuple = k.tuple; state = k.state }
 
-  acked_keeps : (w : View) → Keeps w (ack_sent w s).view w.rx_buffer
+  answers_keep : (v : View) → KeptByAnswers (λ w. Keeps v w v.rx_buffer)
   unfolding ack_kept
-  acked_keeps w = record { rx = refl; listen = refl; tuple = refl; state = refl }
+  answers_keep v = record {
+    challenges = λ w at k. record { rx = k.rx; listen = k.listen; tuple = k.tuple; state = k.state };
+    acks = λ w k. record { rx = k.rx; listen = k.listen; tuple = k.tuple; state = k.state };
+  }
 
   pub challenged_keeps : (w : View) → Keeps w (challenged w now s).view w.rx_buffer
-  unfolding challenged ack_kept
-  challenged_keeps w = go (int_lt now.micros w.challenge_ack_timer.micros)
-    where
-      go : (b : Bool) → Keeps w (if b then stopped w else ack_sent (record w { challenge_ack_timer = after now challenge_interval }) s).view w.rx_buffer
-      go true = same w
-      go false = record { rx = refl; listen = refl; tuple = refl; state = refl }
+  challenged_keeps w = challenged_kept (λ u. Keeps w u w.rx_buffer) now s (answers_keep w) w (same w)
+
+  pub outside_keeps : (w : View) → Keeps w (outside w now s).view w.rx_buffer
+  unfolding close_restarted
+  outside_keeps w = outside_kept (λ u. Keeps w u w.rx_buffer) now s (answers_keep w) (λ u k. record { rx = k.rx; listen = k.listen; tuple = k.tuple; state = k.state }) w (same w)
 
   acked_back : (w : View) → GoesBack s (ack_sent w s).reply
   unfolding ack_segment
@@ -142,29 +145,6 @@ module _ (s : Segment) (now : Instant) where
   after_back next.Challenge u a o bs = challenged_back u
   after_back next.Continue u a o bs = bytes_back (heard u now a s) o bs
 
-  restarted_challenged : (w : View) → Keeps w (challenged (close_restarted w now) now s).view w.rx_buffer
-  unfolding close_restarted
-  restarted_challenged w = let k = challenged_keeps (close_restarted w now) in record { rx = k.rx; listen = k.listen; tuple = k.tuple; state = k.state }
-
-  restarted_acked : (w : View) → Keeps w (ack_sent (close_restarted w now) s).view w.rx_buffer
-  unfolding close_restarted ack_kept
-  restarted_acked w = record { rx = refl; listen = refl; tuple = refl; state = refl }
-
-  pub outside_keeps : (w : View) → Keeps w (outside w now s).view w.rx_buffer
-  unfolding outside
-  outside_keeps w = by s.control
-    where
-      bytes_or_none : (b : Bool) → Keeps w (if b then challenged (close_restarted w now) now s else ack_sent (close_restarted w now) s).view w.rx_buffer
-      bytes_or_none true = restarted_challenged w
-      bytes_or_none false = restarted_acked w
-
-      by : (c : TcpControl) → Keeps w (outside_by c (length s.payload) w now s).view w.rx_buffer
-      by control.Rst = same w
-      by control.Syn = restarted_challenged w
-      by control.None = bytes_or_none (length s.payload == 0)
-      by control.Psh = bytes_or_none (length s.payload == 0)
-      by control.Fin = bytes_or_none (length s.payload == 0)
-
   -- ---- bytes
 
   pub bytes_keep : (w : View) (o : ℕ) (bs : List ℕ) → Keeps w (bytes_taken w now o bs s).view (brought w.rx_buffer o bs)
@@ -192,28 +172,20 @@ module _ (s : Segment) (now : Instant) where
     abbrev row : State → TcpControl → Bool → Advance
     row st c fin = advance_in st c fin v now t word n s
 
-    pub table_keeps : (st : State) (c : TcpControl) (fin : Bool) → TableKeeps v (row st c fin).view
+    rows_keep : KeptByRows (TableKeeps v) now word s
     unfolding fallen_back syn_received syn_answered options_taken fin_counted
-    table_keeps state.SynReceived control.Rst fin = record { rx = refl; listen = refl }
-    table_keeps _ control.Rst fin = record { rx = refl; listen = refl }
-    table_keeps state.Listen control.Syn fin = record { rx = refl; listen = refl }
-    table_keeps state.SynSent control.Syn fin = record { rx = refl; listen = refl }
-    table_keeps state.SynReceived control.None fin = record { rx = refl; listen = refl }
-    table_keeps state.SynReceived control.Fin fin = record { rx = refl; listen = refl }
-    table_keeps state.Established control.None fin = record { rx = refl; listen = refl }
-    table_keeps state.Established control.Fin fin = record { rx = refl; listen = refl }
-    table_keeps state.FinWait1 control.None true = record { rx = refl; listen = refl }
-    table_keeps state.FinWait1 control.None false = record { rx = refl; listen = refl }
-    table_keeps state.FinWait1 control.Fin true = record { rx = refl; listen = refl }
-    table_keeps state.FinWait1 control.Fin false = record { rx = refl; listen = refl }
-    table_keeps state.FinWait2 control.None fin = record { rx = refl; listen = refl }
-    table_keeps state.FinWait2 control.Fin fin = record { rx = refl; listen = refl }
-    table_keeps state.CloseWait control.None fin = record { rx = refl; listen = refl }
-    table_keeps state.Closing control.None true = record { rx = refl; listen = refl }
-    table_keeps state.Closing control.None false = record { rx = refl; listen = refl }
-    table_keeps state.LastAck control.None true = record { rx = refl; listen = refl }
-    table_keeps state.LastAck control.None false = record { rx = refl; listen = refl }
-    table_keeps _ _ fin = record { rx = refl; listen = refl }
+    rows_keep = record {
+      falls = λ w k. record { rx = k.rx; listen = k.listen };
+      drops = λ w k. record { rx = k.rx; listen = k.listen };
+      opens = λ w t k. record { rx = k.rx; listen = k.listen };
+      answers = λ w k. record { rx = k.rx; listen = k.listen };
+      moves = λ w st k. record { rx = k.rx; listen = k.listen };
+      counts = λ w st k. record { rx = k.rx; listen = k.listen };
+      waits = λ w k. record { rx = k.rx; listen = k.listen };
+    }
+
+    pub table_keeps : (st : State) (c : TcpControl) (fin : Bool) → TableKeeps v (row st c fin).view
+    table_keeps st c fin = rows_kept (TableKeeps v) now word s rows_keep v t n (record { rx = refl; listen = refl }) st c fin
 
     -- a peer is known as long as the state has one
     pub table_peers : (st : State) (c : TcpControl) (fin : Bool) → v.state ≡ st → IsPeered st v.tuple t → IsPeered (row st c fin).view.state (row st c fin).view.tuple t

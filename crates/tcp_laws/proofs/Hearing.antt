@@ -1,6 +1,6 @@
 -- What a segment tells a socket that waits for its peer.
-use Rattle.std.proofs.Common.{◌≡◌, ℕ, ◌+◌, ◌-◌, ◌<◌, ◌≤◌, ◌^◌, ◌*◌, ◌⊎◌, inl, inr, Bool, true, false, ◌&&◌, refl, sym, ap, subst, ◌∙◌, List, length, Option, Some, None, arith}
-use Rattle.std.specs.Prelude.{if◌then◌else◌, ◌==◌, int_lt}
+use Rattle.std.proofs.Common.{◌≡◌, ℕ, ◌+◌, ◌-◌, ◌<◌, ◌≤◌, ◌^◌, ◌*◌, ◌⊎◌, inl, inr, Bool, true, false, refl, sym, ap, subst, ◌∙◌, List, length, Option, Some, None, arith}
+use Rattle.std.specs.Prelude.{if◌then◌else◌, ◌==◌}
 use Rattle.std.proofs.lemmas.Bool.{and_parts, eqb-true}
 use Rattle.std.proofs.Math.Nat.{mul-pos}
 use Rattle.std.proofs.lemmas.Nat.{pow_pos}
@@ -13,14 +13,12 @@ use Rattle.control_wire.specs.Segment.{Segment}
 use Rattle.control_wire.specs.declared.seq_number.TcpSeqNumber.{TcpSeqNumber}
 use Rattle.control_wire.specs.declared.tcp.TcpControl.{TcpControl}
 use Rattle.control_wire.specs.declared.tcp.TcpControl.TheVariants as control
-use Rattle.sock_core.specs.Received.{makes_fifth_range, holds_nothing}
 use Rattle.sock_tcp.specs.Acked.{acked_at, acked_of, is_fin_acked}
 use Rattle.sock_tcp.specs.Advance.{advance_in, advanced, counted_control, moved_to, waiting}
 use Rattle.sock_tcp.specs.Due.{flight}
-use Rattle.sock_tcp.specs.Process.{Outcome, stopped, ack_sent, challenged, close_restarted, outside_by, outside, gap_answered, bytes_taken, tuple_of, after_table, processed_inside, has_window, tested, by_verdict, processed}
+use Rattle.sock_tcp.specs.Process.{Outcome, challenged, close_restarted, outside, bytes_taken, tuple_of, after_table, processed_inside, has_window, tested, by_verdict, processed}
 use Rattle.sock_tcp.specs.Replies.{ack_kept}
 use Rattle.sock_tcp.specs.Steps.{scale_of, window_of, window_taken, released, is_duplicate, is_last_ack, is_window_changed, ack_heard, duplicate_counted, ack_counted, una_advanced, acknowledged, timestamp_taken, timer_set, heard, joined, ack_delayed}
-use Rattle.sock_tcp.specs.Timers.{after, challenge_interval}
 use Rattle.sock_tcp.specs.Verdict.{verdict_of}
 use Rattle.sock_tcp.specs.View.{View}
 use Rattle.sock_tcp.specs.Window.{receive_window, is_inside, cut_of, cut_bytes}
@@ -37,6 +35,7 @@ use Rattle.sock_tcp.specs.declared.window.Window.{Window}
 use Rattle.sock_tcp.proofs.Windows.{far, not_after}
 use Rattle.tcp_laws.specs.Waking.{AcksNothing, HeardNothing, LastAckHearsNothing, TellsWindow, ThirdDuplicateWakes, WindowWakes, hears_window}
 use Rattle.tcp_laws.proofs.Ordered.{IsOrdered, Row}
+use Rattle.tcp_laws.proofs.Kept.{KeptByAnswers, bytes_kept, challenged_kept, outside_kept}
 use Rattle.tcp_laws.proofs.OrderedCalls.{reached_ordered}
 use Rattle.tcp_laws.proofs.OrderedSegments.{process_ordered}
 use Rattle.tcp_laws.proofs.Sleeping.{window_sends}
@@ -45,61 +44,39 @@ unheard : (v : View) → HeardNothing v v
 unheard v = record { last = refl; timeout = refl; window = refl; timer = refl; queue = refl; una = refl; nxt = refl }
 
 module _ (now : Instant) (s : Segment) where
+  answers_unheard : (v : View) → KeptByAnswers (HeardNothing v)
+  unfolding ack_kept
+  answers_unheard v = record {
+    challenges = λ w at h. record { last = h.last; timeout = h.timeout; window = h.window; timer = h.timer; queue = h.queue; una = h.una; nxt = h.nxt };
+    acks = λ w h. record { last = h.last; timeout = h.timeout; window = h.window; timer = h.timer; queue = h.queue; una = h.una; nxt = h.nxt };
+  }
+
   challenged_unheard : (w : View) → HeardNothing w (challenged w now s).view
-  unfolding challenged ack_kept
-  challenged_unheard w = go (int_lt now.micros w.challenge_ack_timer.micros)
-    where
-      go : (b : Bool) → HeardNothing w (if b then stopped w else ack_sent (record w { challenge_ack_timer = after now challenge_interval }) s).view
-      go true = unheard w
-      go false = record { last = refl; timeout = refl; window = refl; timer = refl; queue = refl; una = refl; nxt = refl }
+  challenged_unheard w = challenged_kept (HeardNothing w) now s (answers_unheard w) w (unheard w)
 
   bytes_unheard : (w : View) (o : ℕ) (bs : List ℕ) → HeardNothing w (bytes_taken w now o bs s).view
-  unfolding bytes_taken joined ack_delayed ack_kept
-  bytes_unheard w o bs = go (length bs == 0)
-    where
-      u : View
-      u = ack_delayed (joined w o bs) now
-
-      gap : (b : Bool) → HeardNothing w (if b then stopped u else ack_sent u s).view
-      gap true = record { last = refl; timeout = refl; window = refl; timer = refl; queue = refl; una = refl; nxt = refl }
-      gap false = record { last = refl; timeout = refl; window = refl; timer = refl; queue = refl; una = refl; nxt = refl }
-
-      away : (b : Bool) → HeardNothing w (if b then stopped w else gap_answered w u s).view
-      away true = unheard w
-      away false = gap (holds_nothing w.rx_buffer.held && holds_nothing u.rx_buffer.held)
-
-      go : (b : Bool) → HeardNothing w (if b then stopped w else (if makes_fifth_range w.rx_buffer o bs then stopped w else gap_answered w u s)).view
-      go true = unheard w
-      go false = away (makes_fifth_range w.rx_buffer o bs)
+  unfolding joined ack_delayed
+  bytes_unheard w o bs = bytes_kept (HeardNothing w) now s (answers_unheard w) (λ u o bs h. record { last = h.last; timeout = h.timeout; window = h.window; timer = h.timer; queue = h.queue; una = h.una; nxt = h.nxt }) w o bs (unheard w)
 
   -- ---- LAST-ACK
 
   module _ (v : View) (is : v.state ≡ state.LastAck) where
-    restarted_unheard : (w : View) → HeardNothing (close_restarted v now) w → HeardNothing v w
-    unfolding close_restarted
-    restarted_unheard w h = record { last = h.last; timeout = h.timeout; window = h.window; timer = h.timer ∙ rw is refl; queue = h.queue; una = h.una; nxt = h.nxt }
+    abbrev Unheard : View → Type 0
+    Unheard w = HeardNothing v w × (w.state ≡ state.LastAck)
 
-    acked_unheard : HeardNothing v (ack_sent (close_restarted v now) s).view
+    answers_in_last_ack : KeptByAnswers Unheard
     unfolding ack_kept
-    acked_unheard = restarted_unheard (ack_kept (close_restarted v now)) (record { last = refl; timeout = refl; window = refl; timer = refl; queue = refl; una = refl; nxt = refl })
+    answers_in_last_ack = record {
+      challenges = λ w at h. (record { last = h.0.last; timeout = h.0.timeout; window = h.0.window; timer = h.0.timer; queue = h.0.queue; una = h.0.una; nxt = h.0.nxt }, h.1);
+      acks = λ w h. (record { last = h.0.last; timeout = h.0.timeout; window = h.0.window; timer = h.0.timer; queue = h.0.queue; una = h.0.una; nxt = h.0.nxt }, h.1);
+    }
+
+    restarted_unheard : (w : View) → Unheard w → Unheard (close_restarted w now)
+    unfolding close_restarted
+    restarted_unheard w h = (record { last = h.0.last; timeout = h.0.timeout; window = h.0.window; timer = rw h.1 h.0.timer; queue = h.0.queue; una = h.0.una; nxt = h.0.nxt }, h.1)
 
     outside_unheard : HeardNothing v (outside v now s).view
-    unfolding outside
-    outside_unheard = by s.control
-      where
-        again : HeardNothing v (challenged (close_restarted v now) now s).view
-        again = restarted_unheard _ (challenged_unheard (close_restarted v now))
-
-        bytes_or_none : (b : Bool) → HeardNothing v (if b then challenged (close_restarted v now) now s else ack_sent (close_restarted v now) s).view
-        bytes_or_none true = again
-        bytes_or_none false = acked_unheard
-
-        by : (c : TcpControl) → HeardNothing v (outside_by c (length s.payload) v now s).view
-        by control.Rst = unheard v
-        by control.Syn = again
-        by control.None = bytes_or_none (length s.payload == 0)
-        by control.Psh = bytes_or_none (length s.payload == 0)
-        by control.Fin = bytes_or_none (length s.payload == 0)
+    outside_unheard = (outside_kept Unheard now s answers_in_last_ack restarted_unheard v (unheard v, is)).0
 
     -- the rows of LAST-ACK, where nothing is acknowledged
     row_unheard : (u : View) (c : TcpControl) (t : Tuple) (word : ℕ) (a : Acked) (o : ℕ) (bs : List ℕ) → HeardNothing v u → HeardNothing v (after_table (advance_in state.LastAck c false u now t word 0 s) now a o bs s).view

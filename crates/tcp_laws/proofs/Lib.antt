@@ -6,6 +6,7 @@ pub mod Releasing
 pub mod DispatchFrames
 pub mod PayloadParts
 pub mod SocketSteps
+pub mod Kept
 pub mod CallsAsSteps
 pub mod SegmentsAsSteps
 pub mod BytesAtPlaces

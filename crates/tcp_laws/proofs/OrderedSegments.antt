@@ -1,6 +1,6 @@
 -- A segment keeps the order of SND.UNA, SND.NXT, the transmit queue and the timer.
 use Rattle.std.proofs.Common.{◌≡◌, ℕ, ◌+◌, ◌-◌, ◌<◌, ◌≤◌, ◌^◌, Bool, true, false, not, refl, sym, ap, subst, ◌∙◌, List, [], length, drop, Option, Some, None, arith, length-drop}
-use Rattle.std.specs.Prelude.{if◌then◌else◌, ◌==◌, ◌&&◌, int_lt}
+use Rattle.std.specs.Prelude.{if◌then◌else◌, ◌==◌, ◌&&◌}
 use Rattle.std.specs.Option.{ForSome}
 use Rattle.std.proofs.lemmas.Bool.{and_parts, eqb-true, eqb-false}
 use Rattle.ip_wire.specs.declared.repr.IpRepr.{IpRepr}
@@ -11,15 +11,13 @@ use Rattle.control_wire.specs.Seq.{seq_add, seq_sub}
 use Rattle.control_wire.specs.declared.seq_number.TcpSeqNumber.{TcpSeqNumber}
 use Rattle.control_wire.specs.declared.tcp.TcpControl.{TcpControl}
 use Rattle.control_wire.specs.declared.tcp.TcpControl.TheVariants as control
-use Rattle.sock_core.specs.Received.{makes_fifth_range, holds_nothing}
 use Rattle.sock_core.specs.Seq.{is_before, later_of}
 use Rattle.sock_tcp.specs.Acked.{acked_of, acked_at}
 use Rattle.sock_tcp.specs.Advance.{Advance, advance_in, advanced, continues, counted_control, dropped, fallen_back, fin_counted, moved_to, opened_state, options_taken, syn_answered, syn_received, waiting}
-use Rattle.sock_tcp.specs.Process.{stopped, ack_sent, challenged, close_restarted, timer_restarted, outside_by, outside, gap_answered, bytes_taken, tuple_of, after_table, processed_inside, has_window, cut_inside, tested, by_verdict, processed}
+use Rattle.sock_tcp.specs.Process.{challenged, close_restarted, timer_restarted, outside, bytes_taken, tuple_of, after_table, processed_inside, has_window, cut_inside, tested, by_verdict, processed}
 use Rattle.sock_tcp.specs.Queue.{Queue, capacity}
 use Rattle.sock_tcp.specs.Replies.{ack_kept}
 use Rattle.sock_tcp.specs.Steps.{window_taken, released, is_duplicate, is_last_ack, is_window_changed, ack_heard, duplicate_counted, ack_counted, una_advanced, acknowledged, timestamp_taken, timer_set, timer_acked, probe_set, heard, joined, ack_delayed}
-use Rattle.sock_tcp.specs.Timers.{after, challenge_interval}
 use Rattle.sock_tcp.specs.Verdict.{fin_place, is_next, open_verdict, verdict_at, verdict_of}
 use Rattle.sock_tcp.specs.View.{View}
 use Rattle.sock_tcp.specs.Window.{receive_window, is_inside, cut_of}
@@ -33,6 +31,7 @@ use Rattle.sock_tcp.specs.declared.window.Window.{Window}
 use Rattle.sock_tcp.specs.declared.verdict.Verdict.{Verdict}
 use Rattle.sock_tcp.specs.declared.verdict.Verdict.TheVariants as verdicts
 use Rattle.sock_tcp.proofs.Acking.{acked_fits, none_acked, between, fin_place_le, one_place, passes, two_guards}
+use Rattle.tcp_laws.proofs.Kept.{KeptByAnswers, bytes_kept, challenged_kept, outside_kept}
 use Rattle.tcp_laws.proofs.Ordered.{HasMoment, IsOpen, IsOrdered, IsPeeredIn, Row, is_close, acked_open, close_stays, dup_acked_open, later_small, left_in_flight, less_in_flight, set_has_moment, taken_open, window_open}
 
 -- ---- what a segment that passes acknowledges
@@ -105,14 +104,6 @@ covers st c (Some k) una nxt n nr hu hk hn e = covers_some st c una k nxt n nr h
 module _ (s : Segment) (now : Instant) where
   -- ---- steps that leave it alone
 
-  challenged_ordered : (w : View) → IsOrdered w → IsOrdered (challenged w now s).view
-  unfolding challenged ack_kept
-  challenged_ordered w h = go (int_lt now.micros w.challenge_ack_timer.micros)
-    where
-      go : (b : Bool) → IsOrdered (if b then stopped w else ack_sent (record w { challenge_ack_timer = after now challenge_interval }) s).view
-      go true = h
-      go false = record { una_small = h.una_small; nxt_small = h.nxt_small; room = h.room; congestion = h.congestion; peered = h.peered; row = h.row }
-
   restarted_row : (st : State) (t : Timer) (keep : Option Duration) (flight n : ℕ) → Row st t keep flight n → Row st (timer_restarted st t now) keep flight n
   restarted_row state.TimeWait t keep flight n r = (refl, r.1, r.2)
   restarted_row _ t keep flight n r = r
@@ -121,43 +112,16 @@ module _ (s : Segment) (now : Instant) where
   unfolding close_restarted
   restarted_ordered w h = record { una_small = h.una_small; nxt_small = h.nxt_small; room = h.room; congestion = h.congestion; peered = h.peered; row = restarted_row w.state w.timer w.keep_alive (seq_sub w.remote_last_seq w.local_seq_no) (length w.tx_buffer.bytes) h.row }
 
-  acked_ordered : (w : View) → IsOrdered w → IsOrdered (ack_sent w s).view
+  answers_ordered : KeptByAnswers IsOrdered
   unfolding ack_kept
-  acked_ordered w h = record { una_small = h.una_small; nxt_small = h.nxt_small; room = h.room; congestion = h.congestion; peered = h.peered; row = h.row }
+  answers_ordered = record { challenges = λ w at h. h; acks = λ w h. h }
 
-  pub outside_ordered : (w : View) → IsOrdered w → IsOrdered (outside w now s).view
-  unfolding outside
-  outside_ordered w h = by s.control
-    where
-      bytes_or_none : (b : Bool) → IsOrdered (if b then challenged (close_restarted w now) now s else ack_sent (close_restarted w now) s).view
-      bytes_or_none true = challenged_ordered (close_restarted w now) (restarted_ordered w h)
-      bytes_or_none false = acked_ordered (close_restarted w now) (restarted_ordered w h)
-
-      by : (c : TcpControl) → IsOrdered (outside_by c (length s.payload) w now s).view
-      by control.Rst = h
-      by control.Syn = challenged_ordered (close_restarted w now) (restarted_ordered w h)
-      by control.None = bytes_or_none (length s.payload == 0)
-      by control.Psh = bytes_or_none (length s.payload == 0)
-      by control.Fin = bytes_or_none (length s.payload == 0)
+  challenged_ordered : (w : View) → IsOrdered w → IsOrdered (challenged w now s).view
+  challenged_ordered w h = challenged_kept IsOrdered now s answers_ordered w h
 
   bytes_ordered : (w : View) (o : ℕ) (bs : List ℕ) → IsOrdered w → IsOrdered (bytes_taken w now o bs s).view
-  unfolding bytes_taken joined ack_delayed ack_kept
-  bytes_ordered w o bs h = go (length bs == 0)
-    where
-      u : View
-      u = ack_delayed (joined w o bs) now
-
-      gap : (b : Bool) → IsOrdered (if b then stopped u else ack_sent u s).view
-      gap true = record { una_small = h.una_small; nxt_small = h.nxt_small; room = h.room; congestion = h.congestion; peered = h.peered; row = h.row }
-      gap false = record { una_small = h.una_small; nxt_small = h.nxt_small; room = h.room; congestion = h.congestion; peered = h.peered; row = h.row }
-
-      away : (b : Bool) → IsOrdered (if b then stopped w else gap_answered w u s).view
-      away true = h
-      away false = gap (holds_nothing w.rx_buffer.held && holds_nothing u.rx_buffer.held)
-
-      go : (b : Bool) → IsOrdered (if b then stopped w else (if makes_fifth_range w.rx_buffer o bs then stopped w else gap_answered w u s)).view
-      go true = h
-      go false = away (makes_fifth_range w.rx_buffer o bs)
+  unfolding joined ack_delayed
+  bytes_ordered w o bs h = bytes_kept IsOrdered now s answers_ordered (λ w o bs h. h) w o bs h
 
   -- ---- the steps behind the table
 
@@ -452,8 +416,8 @@ module _ (now : Instant) (word : ℕ) (ip : IpRepr) (s : Segment) (small : word 
   tested_ordered v h bare p true = go (is_inside (receive_window v) s.seq_number (length s.payload))
     where
       go : (b : Bool) → IsOrdered (if b then cut_inside (receive_window v) (cut_of (receive_window v) s.seq_number (length s.payload)) v now word ip s else outside v now s).view
-      go false = outside_ordered s now v h
-      go true = inside_ordered (record v { local_rx_last_seq = Some s.seq_number }) (counted_control s.control (receive_window v) s.seq_number (length s.payload)) _ _ (record { una_small = h.una_small; nxt_small = h.nxt_small; room = h.room; congestion = h.congestion; peered = h.peered; row = h.row }) bare (λ e. rst_counts _ e (receive_window v) s.seq_number (length s.payload)) p
+      go false = outside_kept IsOrdered now s (answers_ordered s now) (λ w h. restarted_ordered s now w h) v h
+      go true = inside_ordered (record v { local_rx_last_seq = Some s.seq_number }) (counted_control s.control (receive_window v) s.seq_number (length s.payload)) _ _ h bare (λ e. rst_counts _ e (receive_window v) s.seq_number (length s.payload)) p
 
   pub process_ordered : (v : View) → IsOrdered v → (v.state ≡ state.Listen → s.ack_number ≡ None) → IsOrdered (processed v now word ip s).view
   unfolding processed

@@ -1,14 +1,12 @@
 -- What a segment does to the transmit queue, of which a beginning leaves, and to SND.UNA.
 use Rattle.std.proofs.Common.{◌≡◌, ℕ, ◌<◌, ◌^◌, Bool, true, false, refl, ap, ◌∙◌, List, [], length, drop, Option, Some, None, arith}
-use Rattle.std.specs.Prelude.{int_lt, ◌==◌, ◌&&◌, if◌then◌else◌}
+use Rattle.std.specs.Prelude.{if◌then◌else◌}
 use Rattle.std.specs.Option.{ForSome}
 use Rattle.ip_wire.specs.declared.repr.IpRepr.{IpRepr}
 use Rattle.net_base.specs.declared.time.Instant.{Instant}
 use Rattle.control_wire.specs.Segment.{Segment}
 use Rattle.control_wire.specs.declared.seq_number.TcpSeqNumber.{TcpSeqNumber}
 use Rattle.control_wire.specs.declared.tcp.TcpControl.{TcpControl}
-use Rattle.control_wire.specs.declared.tcp.TcpControl.TheVariants as control
-use Rattle.sock_core.specs.Received.{makes_fifth_range, holds_nothing}
 use Rattle.sock_tcp.specs.Queue.{Queue}
 use Rattle.sock_tcp.specs.View.{View}
 use Rattle.sock_tcp.specs.Verdict.{verdict_of}
@@ -16,21 +14,21 @@ use Rattle.sock_tcp.specs.Window.{receive_window, is_inside, cut_of, cut_bytes}
 use Rattle.sock_tcp.specs.Acked.{acked_of}
 use Rattle.sock_tcp.specs.Advance.{advance_in, advanced, counted_control, fallen_back, fin_counted, options_taken, syn_answered, syn_received}
 use Rattle.sock_tcp.specs.Replies.{ack_kept}
-use Rattle.sock_tcp.specs.Timers.{after, challenge_interval}
 use Rattle.sock_tcp.specs.Steps.{window_taken, released, is_duplicate, is_window_changed, ack_heard, duplicate_counted, ack_counted, una_advanced, acknowledged, timestamp_taken, timer_set, heard, joined, ack_delayed}
-use Rattle.sock_tcp.specs.Process.{stopped, ack_sent, challenged, close_restarted, outside_by, outside, gap_answered, bytes_taken, tuple_of, after_advance, after_table, processed_inside, has_window, cut_inside, tested, by_verdict, processed}
+use Rattle.sock_tcp.specs.Process.{challenged, close_restarted, outside, bytes_taken, tuple_of, after_advance, after_table, processed_inside, has_window, cut_inside, tested, by_verdict, processed}
 use Rattle.sock_tcp.specs.declared.acked.Acked.{Acked}
 use Rattle.sock_tcp.specs.declared.advance.Next.{Next}
 use Rattle.sock_tcp.specs.declared.advance.Next.TheVariants as next
-use Rattle.sock_tcp.specs.declared.state.State.{State}
-use Rattle.sock_tcp.specs.declared.state.State.TheVariants as state
-use Rattle.sock_tcp.specs.declared.tuple.Tuple.{Tuple}
 use Rattle.sock_tcp.specs.declared.verdict.Verdict.{Verdict}
 use Rattle.sock_tcp.specs.declared.verdict.Verdict.TheVariants as verdicts
+use Rattle.tcp_laws.proofs.Kept.{KeptByAnswers, KeptByRows, bytes_kept, challenged_kept, outside_kept, rows_kept}
 
 record Same (v w : View) : Type 0 where
   tx : w.tx_buffer ≡ v.tx_buffer
   una : w.local_seq_no ≡ v.local_seq_no
+
+same : (v : View) → Same v v
+same v = record { tx = refl; una = refl }
 
 -- the first bytes leave, or none, and SND.UNA stays a number of 32 bits
 pub record Releases (v w : View) : Type 0 where
@@ -67,59 +65,13 @@ module _ (s : Segment) (now : Instant) where
       go true = record { tx = refl; una = λ i. h k refl }
       go false = record { tx = refl; una = λ i. h k refl }
 
-  acked_same : (w : View) → Same w (ack_sent w s).view
+  answers_same : (v : View) → KeptByAnswers (Same v)
   unfolding ack_kept
-  acked_same w = record { tx = refl; una = refl }
-
-  challenged_same : (w : View) → Same w (challenged w now s).view
-  unfolding challenged ack_kept
-  challenged_same w = go (int_lt now.micros w.challenge_ack_timer.micros)
-    where
-      go : (b : Bool) → Same w (if b then stopped w else ack_sent (record w { challenge_ack_timer = after now challenge_interval }) s).view
-      go true = record { tx = refl; una = refl }
-      go false = record { tx = refl; una = refl }
-
-  restarted_challenged : (w : View) → Same w (challenged (close_restarted w now) now s).view
-  unfolding close_restarted
-  restarted_challenged w = let e = challenged_same (close_restarted w now) in record { tx = e.tx; una = e.una }
-
-  restarted_acked : (w : View) → Same w (ack_sent (close_restarted w now) s).view
-  unfolding close_restarted ack_kept
-  restarted_acked w = record { tx = refl; una = refl }
+  answers_same v = record { challenges = λ w at h. record { tx = h.tx; una = h.una }; acks = λ w h. record { tx = h.tx; una = h.una } }
 
   outside_same : (w : View) → Same w (outside w now s).view
-  unfolding outside
-  outside_same w = by s.control
-    where
-      bytes_or_none : (b : Bool) → Same w (if b then challenged (close_restarted w now) now s else ack_sent (close_restarted w now) s).view
-      bytes_or_none true = restarted_challenged w
-      bytes_or_none false = restarted_acked w
-
-      by : (c : TcpControl) → Same w (outside_by c (length s.payload) w now s).view
-      by control.Rst = record { tx = refl; una = refl }
-      by control.Syn = restarted_challenged w
-      by control.None = bytes_or_none (length s.payload == 0)
-      by control.Psh = bytes_or_none (length s.payload == 0)
-      by control.Fin = bytes_or_none (length s.payload == 0)
-
-  bytes_same : (w : View) (o : ℕ) (bs : List ℕ) → Same w (bytes_taken w now o bs s).view
-  unfolding bytes_taken joined ack_delayed ack_kept
-  bytes_same w o bs = go (length bs == 0)
-    where
-      u : View
-      u = ack_delayed (joined w o bs) now
-
-      gap : (b : Bool) → Same w (if b then stopped u else ack_sent u s).view
-      gap true = record { tx = refl; una = refl }
-      gap false = record { tx = refl; una = refl }
-
-      away : (b : Bool) → Same w (if b then stopped w else gap_answered w u s).view
-      away true = record { tx = refl; una = refl }
-      away false = gap (holds_nothing w.rx_buffer.held && holds_nothing u.rx_buffer.held)
-
-      go : (b : Bool) → Same w (if b then stopped w else (if makes_fifth_range w.rx_buffer o bs then stopped w else gap_answered w u s)).view
-      go true = record { tx = refl; una = refl }
-      go false = away (makes_fifth_range w.rx_buffer o bs)
+  unfolding close_restarted
+  outside_same w = outside_kept (Same w) now s (answers_same w) (λ u h. record { tx = h.tx; una = h.una }) w (same w)
 
   -- ---- the acknowledged bytes leave
 
@@ -129,35 +81,28 @@ module _ (s : Segment) (now : Instant) where
       let h = heard_from s.ack_number (released (window_taken u now s.control s.window_len) a.len) a.len (is_window_changed u s.control s.window_len) small in
       record { count = a.len; tx = ap (λ (q : Queue). q.bytes) h.tx; una = h.una }
 
+  bytes_same : (w : View) (o : ℕ) (bs : List ℕ) → Same w (bytes_taken w now o bs s).view
+  unfolding joined ack_delayed
+  bytes_same w o bs = bytes_kept (Same w) now s (answers_same w) (λ u o bs h. record { tx = h.tx; una = h.una }) w o bs (same w)
+
   after_releases : ForSome s.ack_number (λ a. a.0 < 2 ^ 32) → (x : Next) (u : View) (a : Acked) (o : ℕ) (bs : List ℕ) → Releases u (after_advance x u now a o bs s).view
-  after_releases small next.Stop u a o bs = none_leave u u (record { tx = refl; una = refl })
-  after_releases small next.Challenge u a o bs = none_leave u (challenged u now s).view (challenged_same u)
+  after_releases small next.Stop u a o bs = none_leave u u (same u)
+  after_releases small next.Challenge u a o bs = none_leave u (challenged u now s).view (challenged_kept (Same u) now s (answers_same u) u (same u))
   after_releases small next.Continue u a o bs = then_same u (heard u now a s) (bytes_taken (heard u now a s) now o bs s).view (heard_releases small u a) (bytes_same (heard u now a s) o bs)
 
   -- ---- the state table
 
-  table_numbers : (v : View) (t : Tuple) (word n : ℕ) → word < 2 ^ 32 → (st : State) (c : TcpControl) (fin : Bool) → Numbered v (advance_in st c fin v now t word n s).view
+  rows_numbered : (v : View) (word : ℕ) → word < 2 ^ 32 → KeptByRows (Numbered v) now word s
   unfolding fallen_back syn_received syn_answered options_taken fin_counted
-  table_numbers v t word n h state.SynReceived control.Rst fin = record { tx = refl; una = λ i. i }
-  table_numbers v t word n h _ control.Rst fin = record { tx = refl; una = λ i. i }
-  table_numbers v t word n h state.Listen control.Syn fin = record { tx = refl; una = λ i. h }
-  table_numbers v t word n h state.SynSent control.Syn fin = record { tx = refl; una = λ i. i }
-  table_numbers v t word n h state.SynReceived control.None fin = record { tx = refl; una = λ i. i }
-  table_numbers v t word n h state.SynReceived control.Fin fin = record { tx = refl; una = λ i. i }
-  table_numbers v t word n h state.Established control.None fin = record { tx = refl; una = λ i. i }
-  table_numbers v t word n h state.Established control.Fin fin = record { tx = refl; una = λ i. i }
-  table_numbers v t word n h state.FinWait1 control.None true = record { tx = refl; una = λ i. i }
-  table_numbers v t word n h state.FinWait1 control.None false = record { tx = refl; una = λ i. i }
-  table_numbers v t word n h state.FinWait1 control.Fin true = record { tx = refl; una = λ i. i }
-  table_numbers v t word n h state.FinWait1 control.Fin false = record { tx = refl; una = λ i. i }
-  table_numbers v t word n h state.FinWait2 control.None fin = record { tx = refl; una = λ i. i }
-  table_numbers v t word n h state.FinWait2 control.Fin fin = record { tx = refl; una = λ i. i }
-  table_numbers v t word n h state.CloseWait control.None fin = record { tx = refl; una = λ i. i }
-  table_numbers v t word n h state.Closing control.None true = record { tx = refl; una = λ i. i }
-  table_numbers v t word n h state.Closing control.None false = record { tx = refl; una = λ i. i }
-  table_numbers v t word n h state.LastAck control.None true = record { tx = refl; una = λ i. i }
-  table_numbers v t word n h state.LastAck control.None false = record { tx = refl; una = λ i. i }
-  table_numbers v t word n h _ _ fin = record { tx = refl; una = λ i. i }
+  rows_numbered v word small = record {
+    falls = λ w h. record { tx = h.tx; una = h.una };
+    drops = λ w h. record { tx = h.tx; una = h.una };
+    opens = λ w t h. record { tx = h.tx; una = λ i. small };
+    answers = λ w h. record { tx = h.tx; una = h.una };
+    moves = λ w st h. record { tx = h.tx; una = h.una };
+    counts = λ w st h. record { tx = h.tx; una = h.una };
+    waits = λ w h. record { tx = h.tx; una = h.una };
+  }
 
 -- ---- the whole
 
@@ -168,7 +113,7 @@ module _ (v : View) (now : Instant) (word : ℕ) (ip : IpRepr) (s : Segment) whe
     inside_releases u c o bs =
         let a = acked_of u s.control s.ack_number in
         let t = advance_in u.state c a.fin u now (tuple_of ip s) word a.len s in
-        numbered_then u t.view (after_table t now a o bs s).view (table_numbers s now u (tuple_of ip s) word a.len word_small u.state c a.fin) (after_releases s now ack_small t.next t.view a o bs)
+        numbered_then u t.view (after_table t now a o bs s).view (rows_kept (Numbered u) now word s (rows_numbered s now u word word_small) u (tuple_of ip s) a.len (record { tx = refl; una = λ i. i }) u.state c a.fin) (after_releases s now ack_small t.next t.view a o bs)
 
     tested_releases : (b : Bool) → Releases v (tested b v now word ip s).view
     tested_releases false = inside_releases v s.control 0 []
@@ -179,9 +124,9 @@ module _ (v : View) (now : Instant) (word : ℕ) (ip : IpRepr) (s : Segment) whe
         go true = let r = inside_releases (record v { local_rx_last_seq = Some s.seq_number }) (counted_control s.control (receive_window v) s.seq_number (length s.payload)) (cut_of (receive_window v) s.seq_number (length s.payload)).offset (cut_bytes (cut_of (receive_window v) s.seq_number (length s.payload)) s.payload) in record { count = r.count; tx = r.tx; una = r.una }
 
     by_verdict_releases : (x : Verdict) → Releases v (by_verdict x v now word ip s).view
-    by_verdict_releases verdicts.Drop = none_leave v v (record { tx = refl; una = refl })
-    by_verdict_releases verdicts.Reset = none_leave v v (record { tx = refl; una = refl })
-    by_verdict_releases verdicts.Challenge = none_leave v (challenged v now s).view (challenged_same s now v)
+    by_verdict_releases verdicts.Drop = none_leave v v (same v)
+    by_verdict_releases verdicts.Reset = none_leave v v (same v)
+    by_verdict_releases verdicts.Challenge = none_leave v (challenged v now s).view (challenged_kept (Same v) now s (answers_same s now v) v (same v))
     by_verdict_releases verdicts.Pass = tested_releases (has_window v.state)
 
     pub process_releases : Releases v (processed v now word ip s).view

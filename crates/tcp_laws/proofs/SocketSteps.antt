@@ -31,10 +31,10 @@ use Rattle.sock_tcp.specs.declared.error.ListenError.{ListenError}
 use Rattle.sock_tcp.specs.declared.error.RecvError.{RecvError}
 use Rattle.sock_tcp.specs.declared.error.SendError.{SendError}
 use Rattle.sock_tcp.specs.declared.error.SendError.TheVariants as send_error
-use Rattle.sock_tcp.specs.declared.state.State.{State}
 use Rattle.sock_tcp.specs.declared.state.State.TheVariants as state
 use Rattle.sock_tcp.specs.declared.tuple.Tuple.{Tuple}
 use Rattle.tcp_laws.proofs.DispatchFrames.{Keeps, before_keeps, before_resets, sends_keeps}
+use Rattle.tcp_laws.proofs.Kept.{listening_is, not_zero}
 use Rattle.tcp_laws.proofs.PayloadParts.{sends_part}
 use Rattle.tcp_laws.proofs.Receiving.{only_appends}
 use Rattle.tcp_laws.proofs.Releasing.{Releases, process_releases}
@@ -213,14 +213,6 @@ not_changed v w k c h =
       transmit_queue = tx ∙ c.transmit_queue;
       receive_queue = c.receive_queue ∙ ap (λ x. k.handed ++ x) (sym rx);
     }
-
-pub listening_is : (st : State) → is_listening st ≡ true → st ≡ state.Listen
-listening_is state.Listen e = refl
-listening_is _ e = absurd cc
-
-pub not_zero : (n : ℕ) → (n == 0) ≡ false → 0 < n
-not_zero zero e = absurd cc
-not_zero (suc n) e = omega arith
 
 listen_kept : (v w : View) (k : Counts) (e : IpListenEndpoint) (r : Result (Unit {0}) ListenError) → Holds v k → Listens v e r w → Holds w (starting_if (opens_listener v e) w k)
 unfolding listened renewed fresh
