@@ -6,8 +6,11 @@ use Rattle.std.proofs.lemmas.List.{drop_all, drop_more}
 use Rattle.std.proofs.lemmas.List.Elements.{recursion_from_All}
 use Rattle.ip_wire.specs.Address.{octets_of}
 use Rattle.ip_wire.specs.Octets.{IsOctets, be16, be16_at, be32, be32_at}
+use Rattle.ip_wire.specs.Packet.{ipv4_with}
+use Rattle.ip_wire.specs.Protocol.{number_of}
 use Rattle.ip_wire.specs.Sum.{IsEven, all_ones, complement, four_at, le16_at, le32_at, ones_add, pseudo_sum, sum_after, swapped_word, word_of}
 use Rattle.ip_wire.specs.declared.address.IpAddress.{IpAddress}
+use Rattle.ip_wire.specs.declared.repr.Ipv4Repr.{Ipv4Repr}
 
 -- two octets more
 pub drop_two : (xs : List ℕ) (i : ℕ) → i + 1 < length xs → drop i xs ≡ get_or xs i 0 ∷ get_or xs (i + 1) 0 ∷ drop (i + 2) xs
@@ -86,7 +89,7 @@ ones_for_zero s front back h f b e z =
     continues s front (255 ∷ 255 ∷ back) e ∙ late t 65535 back ts (omega arith) bs ∙ ap (λ u. ones_add u 65535) total
 
 -- a word more to a wide sum
-word_of_more : (n w : ℕ) → w < 65536 → ones_add (word_of n) w ≡ word_of (n + w)
+pub word_of_more : (n w : ℕ) → w < 65536 → ones_add (word_of n) w ≡ word_of (n + w)
 word_of_more n w h = grind (arith, nat_tests)
 
 -- a start and nothing more
@@ -97,7 +100,7 @@ swapped_word_zero s h = grind (arith, nat_tests)
 carried : (m k : ℕ) → k ≤ m → word_of (m + 65535 * k) ≡ word_of m
 carried m k h = grind (arith, nat_tests)
 
-word_of_carries : (n k : ℕ) → word_of (n + k) ≡ word_of (n + 65536 * k)
+pub word_of_carries : (n k : ℕ) → word_of (n + k) ≡ word_of (n + 65536 * k)
 word_of_carries n k =
     let e : n + 65536 * k ≡ n + k + 65535 * k = omega arith in
     sym (ap word_of e ∙ carried (n + k) k (omega arith))
@@ -245,3 +248,27 @@ pseudo src dst protocol len s d h ss ds =
     ∙ ap (λ v. ones_add v (0 + protocol)) (word_of_more (n + low + 65536 * high) 0 (omega arith))
     ∙ word_of_more (n + low + 65536 * high + 0) (0 + protocol) (omega (arith, h))
     ∙ ap word_of whole
+
+-- two lists of four octets after a wide sum
+pub two_after : (n : ℕ) (xs ys : List ℕ) (a b : ℕ) → length xs ≡ 4
+    → ((m : ℕ) → sum_after (word_of m) xs ≡ word_of (m + a)) → ((m : ℕ) → sum_after (word_of m) ys ≡ word_of (m + b))
+    → word_of (n + a + b) ≡ sum_after (word_of n) (xs ++ ys)
+two_after n xs ys a b l p q =
+    sym (continues (word_of n) xs ys (omega (arith, l)) ∙ ap (λ v. sum_after v ys) (p n) ∙ q (n + a))
+
+-- an IPv4 header whose checksum is 0, up to its addresses
+pub header_words : (h : Ipv4Repr) → h.hop_limit < 256 → number_of h.next_header < 256
+    → sum_after (word_of (34048 + (20 + h.payload_len) % 65536 + 256 * h.hop_limit + number_of h.next_header))
+    (h.src_addr.0 ++ h.dst_addr.0) ≡ sum_after 0 (ipv4_with h 0)
+header_words h a b =
+    let len = 256 * ((20 + h.payload_len) / 256 % 256) + (20 + h.payload_len) % 256 in
+    let hops = 256 * h.hop_limit + number_of h.next_header in
+    let rest = h.src_addr.0 ++ h.dst_addr.0 in
+    let all : 34048 + (20 + h.payload_len) % 65536 + 256 * h.hop_limit + number_of h.next_header
+    ≡ 17664 + len + 0 + 16384 + hops + 0 = omega arith in
+    sym (ap (λ v. sum_after (ones_add (ones_add (ones_add v 16384) hops) 0) rest)
+    (ap (λ v. ones_add v 0) (word_of_more 17664 len (omega arith)) ∙ word_of_more (17664 + len) 0 (omega arith))
+    ∙ ap (λ v. sum_after (ones_add (ones_add v hops) 0) rest) (word_of_more (17664 + len + 0) 16384 (omega arith))
+    ∙ ap (λ v. sum_after (ones_add v 0) rest) (word_of_more (17664 + len + 0 + 16384) hops (omega (arith, a, b)))
+    ∙ ap (λ v. sum_after v rest) (word_of_more (17664 + len + 0 + 16384 + hops) 0 (omega arith))
+    ∙ ap (λ v. sum_after (word_of v) rest) (sym all))

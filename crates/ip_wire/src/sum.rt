@@ -5,7 +5,7 @@ ghost use Rattle.ip_wire.specs.Address.{octets_of};
 ghost use Rattle.ip_wire.specs.Sum.{IsEven, all_ones, complement, four_at, le16_at, le32_at, ones_add, pseudo_sum};
 ghost use Rattle.ip_wire.specs.Sum.{sum_after, swapped_word, word_of};
 
-use crate::address::IpAddress;
+use crate::address::{IpAddress, Ipv4Address};
 use crate::octets::{be32_at, word};
 
 /// The sum of two words, a carry out of the sixteen bits added at the other end.
@@ -173,7 +173,24 @@ pub fn pseudo_sum(src: &IpAddress, dst: &IpAddress, protocol: u8, length: usize)
     ensures { result ≡ pseudo_sum src.now dst.now protocol length }
 {
     let rest = length % 0x1_0000_0000 + protocol as usize;
-    folded(halved(address_sum(src) + address_sum(dst) + rest))
+    word_of(address_sum(src) + address_sum(dst) + rest)
+}
+
+/// The sum of words that were added up without a carry at the other end, up to 2^62.
+pub fn word_of(total: usize) -> u16
+    requires { total < 2 ^ 62 }
+    ensures { result ≡ word_of total }
+{
+    folded(halved(total))
+}
+
+/// The sum of two IPv4 addresses and of words that were added up before.
+#[tactic(auto, using(crate::proofs::Sums::two_after))]
+pub fn sum_with_addresses(total: usize, src: &Ipv4Address, dst: &Ipv4Address) -> u16
+    requires { total < 2 ^ 60 }
+    ensures { result ≡ sum_after (word_of total) (src.now.0 ++ dst.now.0) }
+{
+    word_of(total + four_octets(&src.0) + four_octets(&dst.0))
 }
 
 // The sum of an address as numbers of four bytes, not folded.

@@ -4,6 +4,5 @@ use Rattle.ip_wire.proofs.sum.pseudo_sum.Goals as goal
 
 pub returns : goal.returns
 returns c =
-    c.folded.ensures
-    ∙ c.halved.ensures.word
+    c.word_of.ensures
     ∙ sym (pseudo c.args.src.now c.args.dst.now c.args.protocol c.args.length _ _ c.ranges.protocol.fits c.address_sum.ensures.value c.address_sum-2.ensures.value)

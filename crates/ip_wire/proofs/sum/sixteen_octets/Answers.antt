@@ -1,4 +1,4 @@
-use Rattle.std.proofs.Common.{◌+◌, ap, sym, ◌∙◌}
+use Rattle.std.proofs.Common.{◌+◌, sym, ◌∙◌}
 use Rattle.ip_wire.specs.Sum.{word_of}
 use Rattle.ip_wire.proofs.Sums.{sixteen_octets}
 use Rattle.ip_wire.proofs.sum.sixteen_octets.Goals as goal
