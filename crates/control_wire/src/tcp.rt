@@ -171,11 +171,16 @@ impl TcpRepr<'_> {
         ensures value { result ≡ sack_option_len (count_by is_some self.now.sack_ranges) }
         ensures small { result ≤ 26 }
     {
-        let ranges = self
-            .sack_ranges
-            .iter()
-            .filter(|range| range.is_some())
-            .count();
+        let ranges = sack_count(&self.sack_ranges);
         if ranges == 0 { 0 } else { 2 + 8 * ranges }
     }
+}
+
+/// How many blocks there are.
+pub fn sack_count(ranges: &[Option<(u32, u32)>; 3]) -> usize
+    ensures value { result ≡ count_by is_some ranges.now }
+    ensures small { result ≤ 3 }
+{
+    let [a, b, c] = ranges;
+    a.is_some() as usize + b.is_some() as usize + c.is_some() as usize
 }

@@ -2,10 +2,15 @@
 use Rattle.std.proofs.Common.{ℕ, ◌+◌, ◌-◌, ◌*◌, ◌/◌, ◌%◌, ◌<◌, ◌≤◌, ◌^◌, List, [], ◌∷◌, ◌++◌, ◌≡◌, length, drop, get_or, refl, ap, sym, ◌∙◌, arith}
 use Rattle.std.specs.List.{AllByRecursion}
 use Rattle.std.proofs.lemmas.Bool.Decides.{nat_tests}
-use Rattle.std.proofs.lemmas.List.{drop_more}
+use Rattle.std.proofs.lemmas.List.{drop_all, drop_more}
 use Rattle.std.proofs.lemmas.List.Elements.{recursion_from_All}
-use Rattle.ip_wire.specs.Octets.{IsOctets, be16}
-use Rattle.ip_wire.specs.Sum.{IsEven, all_ones, complement, four_at, le16_at, le32_at, ones_add, sum_after, swapped_word, word_of}
+use Rattle.ip_wire.specs.Address.{octets_of}
+use Rattle.ip_wire.specs.Octets.{IsOctets, be16, be16_at, be32, be32_at}
+use Rattle.ip_wire.specs.Packet.{ipv4_with}
+use Rattle.ip_wire.specs.Protocol.{number_of}
+use Rattle.ip_wire.specs.Sum.{IsEven, all_ones, complement, four_at, le16_at, le32_at, ones_add, pseudo_sum, sum_after, swapped_word, word_of}
+use Rattle.ip_wire.specs.declared.address.IpAddress.{IpAddress}
+use Rattle.ip_wire.specs.declared.repr.Ipv4Repr.{Ipv4Repr}
 
 -- two octets more
 pub drop_two : (xs : List ℕ) (i : ℕ) → i + 1 < length xs → drop i xs ≡ get_or xs i 0 ∷ get_or xs (i + 1) 0 ∷ drop (i + 2) xs
@@ -84,7 +89,7 @@ ones_for_zero s front back h f b e z =
     continues s front (255 ∷ 255 ∷ back) e ∙ late t 65535 back ts (omega arith) bs ∙ ap (λ u. ones_add u 65535) total
 
 -- a word more to a wide sum
-word_of_more : (n w : ℕ) → w < 65536 → ones_add (word_of n) w ≡ word_of (n + w)
+pub word_of_more : (n w : ℕ) → w < 65536 → ones_add (word_of n) w ≡ word_of (n + w)
 word_of_more n w h = grind (arith, nat_tests)
 
 -- a start and nothing more
@@ -95,7 +100,7 @@ swapped_word_zero s h = grind (arith, nat_tests)
 carried : (m k : ℕ) → k ≤ m → word_of (m + 65535 * k) ≡ word_of m
 carried m k h = grind (arith, nat_tests)
 
-word_of_carries : (n k : ℕ) → word_of (n + k) ≡ word_of (n + 65536 * k)
+pub word_of_carries : (n k : ℕ) → word_of (n + k) ≡ word_of (n + 65536 * k)
 word_of_carries n k =
     let e : n + 65536 * k ≡ n + k + 65535 * k = omega arith in
     sym (ap word_of e ∙ carried (n + k) k (omega arith))
@@ -174,3 +179,96 @@ sixty_four_more s n xs i h k =
     ∙ four_more s (n + a + b) xs (i + 32) (i + 48) h (omega arith) (omega arith)
     ∙ four_more s (n + a + b + c) xs (i + 48) (i + 64) h (omega arith) (omega arith)
     ∙ ap (λ v. sum_after (swapped_word s v) (drop (i + 64) xs)) all)
+
+-- four octets more to a word, as one number in network order
+number_after : (n : ℕ) (xs : List ℕ) (i j : ℕ) → ((k : ℕ) → k < length xs → get_or xs k 0 < 256) → i + 4 ≤ length xs
+    → j ≡ i + 4 → sum_after (word_of n) (drop i xs) ≡ sum_after (word_of (n + be32_at xs i)) (drop j xs)
+number_after n xs i j h k e =
+    let a = get_or xs i 0 in
+    let b = get_or xs (i + 1) 0 in
+    let c = get_or xs (i + 2) 0 in
+    let d = get_or xs (i + 3) 0 in
+    let a-small : a < 256 = h i (omega arith) in
+    let b-small : b < 256 = h (i + 1) (omega arith) in
+    let c-small : c < 256 = h (i + 2) (omega arith) in
+    let d-small : d < 256 = h (i + 3) (omega arith) in
+    let high = be16_at xs i in
+    let low = be16_at xs (i + 2) in
+    let end : i + 2 + 2 ≡ j = omega (arith, e) in
+    let turned : n + high + low ≡ n + low + high = omega arith in
+    let number : n + low + 65536 * high ≡ n + (65536 * high + low) = omega arith in
+    step_two (word_of n) xs i (omega arith)
+    ∙ ap (λ v. sum_after v (drop (i + 2) xs)) (word_of_more n high (omega arith))
+    ∙ step_two (word_of (n + high)) xs (i + 2) (omega arith)
+    ∙ ap (λ v. sum_after v (drop (i + 2 + 2) xs))
+    (word_of_more (n + high) low (omega arith) ∙ ap word_of turned ∙ word_of_carries (n + low) high ∙ ap word_of number)
+    ∙ ap (λ v. sum_after (word_of (n + be32_at xs i)) (drop v xs)) end
+
+pub four_octets : (n : ℕ) (xs : List ℕ) → ((k : ℕ) → k < length xs → get_or xs k 0 < 256) → length xs ≡ 4
+    → sum_after (word_of n) xs ≡ word_of (n + be32_at xs 0)
+four_octets n xs h e =
+    number_after n xs 0 4 h (omega (arith, e)) refl
+    ∙ ap (sum_after (word_of (n + be32_at xs 0))) (drop_all 4 xs (omega (arith, e)))
+
+pub sixteen_octets : (n : ℕ) (xs : List ℕ) → ((k : ℕ) → k < length xs → get_or xs k 0 < 256) → length xs ≡ 16
+    → sum_after (word_of n) xs ≡ word_of (n + (be32_at xs 0 + be32_at xs 4 + be32_at xs 8 + be32_at xs 12))
+sixteen_octets n xs h e =
+    let a = be32_at xs 0 in
+    let b = be32_at xs 4 in
+    let c = be32_at xs 8 in
+    let d = be32_at xs 12 in
+    let all : n + a + b + c + d ≡ n + (a + b + c + d) = omega arith in
+    number_after n xs 0 4 h (omega (arith, e)) refl
+    ∙ number_after (n + a) xs 4 8 h (omega (arith, e)) refl
+    ∙ number_after (n + a + b) xs 8 12 h (omega (arith, e)) refl
+    ∙ number_after (n + a + b + c) xs 12 16 h (omega (arith, e)) refl
+    ∙ ap (sum_after (word_of (n + a + b + c + d))) (drop_all 16 xs (omega (arith, e)))
+    ∙ ap word_of all
+
+-- the addresses' sums, and what follows them in a pseudo header
+pub pseudo : (src dst : IpAddress) (protocol len s d : ℕ) → protocol < 256
+    → ((n : ℕ) → sum_after (word_of n) (octets_of src) ≡ word_of (n + s))
+    → ((n : ℕ) → sum_after (word_of n) (octets_of dst) ≡ word_of (n + d))
+    → pseudo_sum src dst protocol len ≡ word_of (s + d + (len % 4294967296 + protocol))
+pseudo src dst protocol len s d h ss ds =
+    let a = len / 65536 / 256 % 256 in
+    let b = len / 65536 % 256 in
+    let c = len / 256 % 256 in
+    let e = len % 256 in
+    let high = 256 * a + b in
+    let low = 256 * c + e in
+    let n = 0 + s + d in
+    let end = 0 ∷ 0 ∷ 0 ∷ protocol ∷ [] in
+    let turned : n + high + low ≡ n + low + high = omega arith in
+    let whole : n + low + 65536 * high + 0 + (0 + protocol) ≡ s + d + (len % 4294967296 + protocol) = omega arith in
+    ap (λ v. sum_after (sum_after v (octets_of dst)) (be32 len ++ end)) (ss 0)
+    ∙ ap (λ v. sum_after v (be32 len ++ end)) (ds (0 + s))
+    ∙ ap (λ v. sum_after (ones_add v low) end) (word_of_more n high (omega arith))
+    ∙ ap (λ v. sum_after v end) (word_of_more (n + high) low (omega arith) ∙ ap word_of turned ∙ word_of_carries (n + low) high)
+    ∙ ap (λ v. ones_add v (0 + protocol)) (word_of_more (n + low + 65536 * high) 0 (omega arith))
+    ∙ word_of_more (n + low + 65536 * high + 0) (0 + protocol) (omega (arith, h))
+    ∙ ap word_of whole
+
+-- two lists of four octets after a wide sum
+pub two_after : (n : ℕ) (xs ys : List ℕ) (a b : ℕ) → length xs ≡ 4
+    → ((m : ℕ) → sum_after (word_of m) xs ≡ word_of (m + a)) → ((m : ℕ) → sum_after (word_of m) ys ≡ word_of (m + b))
+    → word_of (n + a + b) ≡ sum_after (word_of n) (xs ++ ys)
+two_after n xs ys a b l p q =
+    sym (continues (word_of n) xs ys (omega (arith, l)) ∙ ap (λ v. sum_after v ys) (p n) ∙ q (n + a))
+
+-- an IPv4 header whose checksum is 0, up to its addresses
+pub header_words : (h : Ipv4Repr) → h.hop_limit < 256 → number_of h.next_header < 256
+    → sum_after (word_of (34048 + (20 + h.payload_len) % 65536 + 256 * h.hop_limit + number_of h.next_header))
+    (h.src_addr.0 ++ h.dst_addr.0) ≡ sum_after 0 (ipv4_with h 0)
+header_words h a b =
+    let len = 256 * ((20 + h.payload_len) / 256 % 256) + (20 + h.payload_len) % 256 in
+    let hops = 256 * h.hop_limit + number_of h.next_header in
+    let rest = h.src_addr.0 ++ h.dst_addr.0 in
+    let all : 34048 + (20 + h.payload_len) % 65536 + 256 * h.hop_limit + number_of h.next_header
+    ≡ 17664 + len + 0 + 16384 + hops + 0 = omega arith in
+    sym (ap (λ v. sum_after (ones_add (ones_add (ones_add v 16384) hops) 0) rest)
+    (ap (λ v. ones_add v 0) (word_of_more 17664 len (omega arith)) ∙ word_of_more (17664 + len) 0 (omega arith))
+    ∙ ap (λ v. sum_after (ones_add (ones_add v hops) 0) rest) (word_of_more (17664 + len + 0) 16384 (omega arith))
+    ∙ ap (λ v. sum_after (ones_add v 0) rest) (word_of_more (17664 + len + 0 + 16384) hops (omega (arith, a, b)))
+    ∙ ap (λ v. sum_after v rest) (word_of_more (17664 + len + 0 + 16384 + hops) 0 (omega arith))
+    ∙ ap (λ v. sum_after (word_of v) rest) (sym all))

@@ -1,9 +1,7 @@
 -- Octets that are written one piece after another.
-use Rattle.std.proofs.Common.{ℕ, ◌≤◌, true, ◌+◌, ◌/◌, ◌%◌, arith, List, [], ◌∷◌, ◌++◌, ◌≡◌, length, take, drop, refl, ap, sym, ◌∙◌, append_assoc, length-append}
+use Rattle.std.proofs.Common.{ℕ, ◌≤◌, ◌+◌, ◌/◌, ◌%◌, arith, List, [], ◌∷◌, ◌++◌, ◌≡◌, length, take, drop, refl, ap, sym, ◌∙◌, append_assoc, length-append}
 use Rattle.ip_wire.specs.Octets.{be16}
-use Rattle.ip_wire.specs.Packet.{ipv4_octets, ipv4_with, with_checksum}
-use Rattle.ip_wire.specs.Sum.{complement, sum_after}
-use Rattle.ip_wire.specs.declared.repr.Ipv4Repr.{Ipv4Repr}
+use Rattle.ip_wire.specs.Packet.{with_checksum}
 use Rattle.std.proofs.lemmas.List.{drop-drop, drop_at, length-take-le, take_at}
 
 drop_further : (front rest : List ℕ) (n m : ℕ) → length front ≡ n → drop (n + m) (front ++ rest) ≡ drop m rest
@@ -42,10 +40,3 @@ checksum_again xs m n h =
     let f : take 10 (with_checksum xs m) ≡ take 10 xs = take_at (take 10 xs) (be16 m ++ drop 12 xs) 10 l in
     let d : drop 12 (with_checksum xs m) ≡ drop 12 xs = drop_further (take 10 xs) (be16 m ++ drop 12 xs) 10 2 l in
     ap (λ us. us ++ (be16 n ++ drop 12 (with_checksum xs m))) f ∙ ap (λ us. take 10 xs ++ (be16 n ++ us)) d
-
--- a header whose checksum is worked out over its first 20 octets
-pub checked_header : (h : Ipv4Repr) (xs ys rest : List ℕ) → length h.src_addr.0 ≡ 4 → length h.dst_addr.0 ≡ 4 → xs ≡ ipv4_with h 0 ++ rest → ys ≡ with_checksum xs (complement (sum_after 0 (take 20 xs))) → ys ≡ ipv4_octets true h ++ rest
-checked_header h xs ys rest s d x y =
-    let l : length (ipv4_with h 0) ≡ 20 = omega (arith, length-append h.src_addr.0 h.dst_addr.0) in
-    y ∙ ap (λ us. with_checksum us (complement (sum_after 0 (take 20 us)))) x
-    ∙ ap (λ us. ipv4_with h (complement (sum_after 0 us)) ++ rest) (take_at (ipv4_with h 0) rest 20 l)

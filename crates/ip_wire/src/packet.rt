@@ -1,5 +1,5 @@
 //! Packets of IPv4 and IPv6: their headers written and read.
-ghost use Rattle.std.specs.Prelude.{◌≡◌, ◌+◌, ◌<◌, ◌≤◌, ◌++◌, ◌↔◌, drop, take, length, slice_index, true};
+ghost use Rattle.std.specs.Prelude.{◌≡◌, ◌+◌, ◌<◌, ◌≤◌, ◌++◌, ◌↔◌, drop, take, length, slice_index, if◌then◌else◌};
 ghost use Rattle.std.specs.Result.{IfOk, IsOk, result_ok};
 ghost use Rattle.ip_wire.specs.Checksum.{is_received, is_sent};
 ghost use Rattle.ip_wire.specs.IpHeader.{header_len_of};
@@ -17,7 +17,7 @@ use crate::malformed::Error;
 use crate::octets::{be16, be16_at, put, put_three};
 use crate::protocol::IpProtocol;
 use crate::repr::{IpRepr, Ipv4Repr, Ipv6Repr};
-use crate::sum::{checksum_after, sum_after};
+use crate::sum::{checksum_after, sum_after, sum_with_addresses};
 
 fn emit_ipv6(repr: &Ipv6Repr, buffer: &mut [u8])
     requires { 40 ≤ length buffer.old }
@@ -29,14 +29,40 @@ fn emit_ipv6(repr: &Ipv6Repr, buffer: &mut [u8])
     put_three(buffer, &head, &repr.src_addr.0, &repr.dst_addr.0);
 }
 
-#[tactic(auto, using(crate::proofs::Written::total_len))]
-fn emit_ipv4(repr: &Ipv4Repr, buffer: &mut [u8])
+fn emit_ipv4(repr: &Ipv4Repr, buffer: &mut [u8], sent: bool)
     requires { 20 ≤ length buffer.old }
-    ensures value { buffer.new ≡ ipv4_with repr.now 0 ++ drop 20 buffer.old }
-    ensures length { length buffer.new ≡ length buffer.old }
+    ensures { buffer.new ≡ ipv4_octets sent repr.now ++ drop 20 buffer.old }
+{
+    let checksum = checksum_if(repr, sent);
+    write_ipv4(repr, checksum, buffer);
+}
+
+// Before the header is written: what was just written in single bytes is read slowly as words.
+fn checksum_if(repr: &Ipv4Repr, sent: bool) -> u16
+    ensures { result ≡ (if sent then complement (sum_after 0 (ipv4_with repr.now 0)) else 0) }
+{
+    if sent { 0xffff - header_sum(repr) } else { 0 }
+}
+
+// The sum of the header with a checksum of 0.
+#[tactic(auto, using(crate::proofs::Sums::header_words))]
+fn header_sum(repr: &Ipv4Repr) -> u16
+    ensures { result ≡ sum_after 0 (ipv4_with repr.now 0) }
+{
+    let protocol = u8::from(repr.next_header) as usize;
+    let length = (repr.payload_len % 0x10000 + 20) % 0x10000;
+    let total = 0x8500 + length + 256 * repr.hop_limit as usize + protocol;
+    sum_with_addresses(total, &repr.src_addr, &repr.dst_addr)
+}
+
+#[tactic(auto, using(crate::proofs::Written::total_len))]
+fn write_ipv4(repr: &Ipv4Repr, checksum: u16, buffer: &mut [u8])
+    requires { 20 ≤ length buffer.old }
+    ensures { buffer.new ≡ ipv4_with repr.now checksum ++ drop 20 buffer.old }
 {
     let [high, low] = be16(repr.payload_len % 0x10000 + 20);
     let protocol = u8::from(repr.next_header);
+    let [first, second] = be16(checksum as usize);
     let head = [
         0x45,
         0,
@@ -48,8 +74,8 @@ fn emit_ipv4(repr: &Ipv4Repr, buffer: &mut [u8])
         0,
         repr.hop_limit,
         protocol,
-        0,
-        0,
+        first,
+        second,
     ];
     put_three(buffer, &head, &repr.src_addr.0, &repr.dst_addr.0);
 }
@@ -263,30 +289,10 @@ impl IpRepr {
             ++ drop (header_len_of self.now) buffer.old }
     {
         match self {
-            IpRepr::Ipv4(repr) => emit_checked_ipv4(repr, buffer, caps.ipv4.tx()),
+            IpRepr::Ipv4(repr) => emit_ipv4(repr, buffer, caps.ipv4.tx()),
             IpRepr::Ipv6(repr) => emit_ipv6(repr, buffer),
         }
     }
-}
-
-fn emit_checked_ipv4(repr: &Ipv4Repr, buffer: &mut [u8], sent: bool)
-    requires { 20 ≤ length buffer.old }
-    ensures { buffer.new ≡ ipv4_octets sent repr.now ++ drop 20 buffer.old }
-{
-    if sent {
-        emit_with_checksum(repr, buffer);
-    } else {
-        emit_ipv4(repr, buffer);
-    }
-}
-
-#[tactic(auto, using(crate::proofs::Written::checked_header))]
-fn emit_with_checksum(repr: &Ipv4Repr, buffer: &mut [u8])
-    requires { 20 ≤ length buffer.old }
-    ensures { buffer.new ≡ ipv4_octets true repr.now ++ drop 20 buffer.old }
-{
-    emit_ipv4(repr, buffer);
-    checksum_header(buffer, 20);
 }
 
 // Writes the checksum of the first `header` bytes as they are.

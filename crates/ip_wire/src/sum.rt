@@ -5,8 +5,8 @@ ghost use Rattle.ip_wire.specs.Address.{octets_of};
 ghost use Rattle.ip_wire.specs.Sum.{IsEven, all_ones, complement, four_at, le16_at, le32_at, ones_add, pseudo_sum};
 ghost use Rattle.ip_wire.specs.Sum.{sum_after, swapped_word, word_of};
 
-use crate::address::IpAddress;
-use crate::octets::{be16, word};
+use crate::address::{IpAddress, Ipv4Address};
+use crate::octets::{be32_at, word};
 
 /// The sum of two words, a carry out of the sixteen bits added at the other end.
 pub fn ones_add(a: u16, b: u16) -> u16
@@ -54,13 +54,13 @@ fn add_sixty_four(total: usize, bytes: &[u8], at: usize) -> usize
 }
 
 fn add_four(total: usize, bytes: &[u8], at: usize) -> usize
-    requires small { total < 2 ^ 60 }
+    requires small { total < 2 ^ 62 }
     requires room { at + 4 ≤ length bytes.now }
     ensures value { (start : ℕ) → sum_after (swapped_word start result) (drop (at + 4) bytes.now)
         ≡ sum_after (swapped_word start total) (drop at bytes.now) }
-    ensures small { result < 2 ^ 60 }
+    ensures small { result < total + 2 ^ 32 }
 {
-    kept_small(total + le32_at(bytes, at))
+    total + le32_at(bytes, at)
 }
 
 // The sum of the four numbers from `at` on.
@@ -114,7 +114,7 @@ fn halved(total: usize) -> usize
 
 // A start and a wide sum of numbers with the lowest byte first, as a word.
 fn swapped_word(start: u16, total: usize) -> u16
-    requires { total < 2 ^ 60 }
+    requires { total < 2 ^ 62 }
     ensures { result ≡ swapped_word start total }
 {
     folded(halved(start as usize + 256 * halved(total)))
@@ -172,19 +172,51 @@ pub fn checksum_after(start: u16, bytes: &[u8]) -> u16
 pub fn pseudo_sum(src: &IpAddress, dst: &IpAddress, protocol: u8, length: usize) -> u16
     ensures { result ≡ pseudo_sum src.now dst.now protocol length }
 {
-    let [a, b] = be16(length / 65536);
-    let [c, d] = be16(length);
-    let addresses = add_address(add_address(0, src), dst);
-    sum_after(addresses, &[a, b, c, d, 0, 0, 0, protocol])
+    let rest = length % 0x1_0000_0000 + protocol as usize;
+    word_of(address_sum(src) + address_sum(dst) + rest)
 }
 
-fn add_address(start: u16, address: &IpAddress) -> u16
-    ensures { result ≡ sum_after start (octets_of address.now) }
+/// The sum of words that were added up without a carry at the other end, up to 2^62.
+pub fn word_of(total: usize) -> u16
+    requires { total < 2 ^ 62 }
+    ensures { result ≡ word_of total }
+{
+    folded(halved(total))
+}
+
+/// The sum of two IPv4 addresses and of words that were added up before.
+#[tactic(auto, using(crate::proofs::Sums::two_after))]
+pub fn sum_with_addresses(total: usize, src: &Ipv4Address, dst: &Ipv4Address) -> u16
+    requires { total < 2 ^ 60 }
+    ensures { result ≡ sum_after (word_of total) (src.now.0 ++ dst.now.0) }
+{
+    word_of(total + four_octets(&src.0) + four_octets(&dst.0))
+}
+
+// The sum of an address as numbers of four bytes, not folded.
+fn address_sum(address: &IpAddress) -> usize
+    ensures value { (total : ℕ) → sum_after (word_of total) (octets_of address.now) ≡ word_of (total + result) }
+    ensures small { result < 2 ^ 34 }
 {
     match address {
-        IpAddress::Ipv4(address) => sum_after(start, &address.0),
-        IpAddress::Ipv6(address) => sum_after(start, &address.0),
+        IpAddress::Ipv4(address) => four_octets(&address.0),
+        IpAddress::Ipv6(address) => sixteen_octets(&address.0),
     }
+}
+
+fn four_octets(octets: &[u8; 4]) -> usize
+    ensures value { (total : ℕ) → sum_after (word_of total) octets.now ≡ word_of (total + result) }
+    ensures small { result < 2 ^ 34 }
+{
+    be32_at(octets, 0)
+}
+
+fn sixteen_octets(octets: &[u8; 16]) -> usize
+    ensures value { (total : ℕ) → sum_after (word_of total) octets.now ≡ word_of (total + result) }
+    ensures small { result < 2 ^ 34 }
+{
+    let first = be32_at(octets, 0) + be32_at(octets, 4);
+    first + be32_at(octets, 8) + be32_at(octets, 12)
 }
 
 /// A sum over two pieces of which the first has an even length is that of both.

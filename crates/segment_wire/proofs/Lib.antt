@@ -1,3 +1,4 @@
+mod HeaderSums
 pub mod Steps
 pub mod Written
 pub mod TcpTrips

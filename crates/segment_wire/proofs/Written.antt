@@ -6,7 +6,7 @@ use Rattle.std.proofs.lemmas.List.{append-nil, drop_all, length-take-le, take_at
 use Rattle.control_wire.specs.Segment.{Segment, options_len, sack_option_len}
 use Rattle.control_wire.specs.declared.tcp.TcpTimestampRepr.{TcpTimestampRepr}
 use Rattle.segment_wire.specs.Options.{mss_octets, permitted_octets, ranges_octets, sack_if, sack_octets, scale_octets, stamp_octets}
-use Rattle.segment_wire.specs.Tcp.{tcp_octets, tcp_with}
+use Rattle.segment_wire.specs.Tcp.{tcp_header, tcp_octets, tcp_with}
 use Rattle.segment_wire.specs.Udp.{ones_if_zero, udp_octets, udp_with}
 use Rattle.control_wire.specs.declared.udp.UdpRepr.{UdpRepr}
 use Rattle.ip_wire.specs.Octets.{be16}
@@ -93,18 +93,19 @@ whole header options payload ws xs ys zs i j k x y z l =
     sym (take_all k zs l) ∙ joined_two header options payload (take j ys) (take k zs) (y ∙ ap (λ us. us ++ options) x) z
 
 -- with its checksum in the place of 0
-pub filled : (src dst : IpAddress) (s : Segment) (xs ys : List ℕ) (start : ℕ) → xs ≡ tcp_with s 0 → start ≡ pseudo_sum src dst 6 (length xs) → ys ≡ take 16 xs ++ (be16 (complement (sum_after start xs)) ++ drop 18 xs) → ys ≡ tcp_octets true src dst s
+pub filled : (src dst : IpAddress) (s : Segment) (xs ys : List ℕ) (start front : ℕ) → xs ≡ tcp_with s 0 → start ≡ pseudo_sum src dst 6 (length xs) → front ≡ sum_after start (tcp_header s 0) → ys ≡ take 16 xs ++ (be16 (complement (sum_after front (drop 20 xs))) ++ drop 18 xs) → ys ≡ tcp_octets true src dst s
 unfolding tcp_with
-filled src dst s xs ys start x p y =
-    y ∙ ap (λ t. take 16 xs ++ (be16 (complement (sum_after t xs)) ++ drop 18 xs)) p
-    ∙ ap (λ us. take 16 us ++ (be16 (complement (sum_after (pseudo_sum src dst 6 (length us)) us)) ++ drop 18 us)) x
+filled src dst s xs ys start front x p f y =
+    y ∙ ap (λ t. take 16 xs ++ (be16 (complement (sum_after t (drop 20 xs))) ++ drop 18 xs)) (f ∙ ap (λ t. sum_after t (tcp_header s 0)) p)
+    ∙ ap (λ us. take 16 us ++ (be16 (complement (sum_after (sum_after (pseudo_sum src dst 6 (length us)) (tcp_header s 0)) (drop 20 us))) ++ drop 18 us)) x
 
 -- nothing is left behind what fills the buffer
 pub ends : (xs ws zs : List ℕ) (n : ℕ) → zs ≡ xs ++ drop n ws → length ws ≡ n → zs ≡ xs
 ends xs ws zs n z l = z ∙ ap (λ us. xs ++ us) (drop_all n ws (omega arith)) ∙ append-nil xs
 
-pub filled_datagram : (src dst : IpAddress) (u : UdpRepr) (payload xs ys : List ℕ) (start : ℕ) → xs ≡ udp_with u payload 0 → start ≡ pseudo_sum src dst 17 (length xs) → ys ≡ take 6 xs ++ (be16 (ones_if_zero (complement (sum_after start xs))) ++ drop 8 xs) → ys ≡ udp_octets true src dst u payload
+pub filled_datagram : (src dst : IpAddress) (u : UdpRepr) (payload xs ys : List ℕ) (start front : ℕ) → xs ≡ udp_with u payload 0 → start ≡ pseudo_sum src dst 17 (length xs) → front ≡ sum_after start (be16 u.src_port ++ (be16 u.dst_port ++ (be16 (8 + length payload) ++ be16 0))) → ys ≡ take 6 xs ++ (be16 (ones_if_zero (complement (sum_after front (drop 8 xs)))) ++ drop 8 xs) → ys ≡ udp_octets true src dst u payload
 unfolding udp_with
-filled_datagram src dst u payload xs ys start x p y =
-    y ∙ ap (λ t. take 6 xs ++ (be16 (ones_if_zero (complement (sum_after t xs))) ++ drop 8 xs)) p
-    ∙ ap (λ us. take 6 us ++ (be16 (ones_if_zero (complement (sum_after (pseudo_sum src dst 17 (length us)) us))) ++ drop 8 us)) x
+filled_datagram src dst u payload xs ys start front x p f y =
+    let head = be16 u.src_port ++ (be16 u.dst_port ++ (be16 (8 + length payload) ++ be16 0)) in
+    y ∙ ap (λ t. take 6 xs ++ (be16 (ones_if_zero (complement (sum_after t (drop 8 xs)))) ++ drop 8 xs)) (f ∙ ap (λ t. sum_after t head) p)
+    ∙ ap (λ us. take 6 us ++ (be16 (ones_if_zero (complement (sum_after (sum_after (pseudo_sum src dst 17 (length us)) head) (drop 8 us)))) ++ drop 8 us)) x

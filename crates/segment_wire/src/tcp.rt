@@ -10,7 +10,7 @@ ghost use Rattle.segment_wire.specs.Tcp.{read_as, segment_at, tcp_checksum, tcp_
 ghost use Rattle.segment_wire.specs.Tcp.{tcp_with};
 
 use crate::options::{TcpOptions, be32_at, read_options};
-use crate::write::{fill_checksum, write};
+use crate::write::{fill_checksum, header_sum, write};
 use control_wire::source::{at_most_one, sum_holds};
 use control_wire::{TcpControl, TcpRepr, TcpSeqNumber};
 use ip_wire::octets::{be16_at, behind, word};
@@ -52,7 +52,8 @@ fn emit_with_checksum(
 {
     write(repr, buffer);
     let start = pseudo_sum(src_addr, dst_addr, 6, buffer.len());
-    fill_checksum(start, buffer);
+    let front = header_sum(start, repr);
+    fill_checksum(front, buffer);
 }
 
 /// The segment that the bytes spell, between these two addresses.

@@ -7,8 +7,8 @@ ghost use Rattle.segment_wire.specs.Tcp.{read_as};
 ghost use Rattle.segment_wire.specs.Udp.{datagram_of, ones_if_zero, udp_octets, udp_parsed, udp_with};
 
 use control_wire::{UdpRepr, udp_source};
-use ip_wire::octets::{be16, be16_at, put, put_two, word};
-use ip_wire::sum::{checksum_after, pseudo_sum};
+use ip_wire::octets::{be16, be16_at, behind, put, put_two, word};
+use ip_wire::sum::{checksum_after, pseudo_sum, word_of};
 use ip_wire::{ChecksumCapabilities, Error, IpAddress};
 
 /// Writes the header and the payload into `buffer`, between these two addresses.
@@ -45,7 +45,8 @@ fn emit_with_checksum(
 {
     write(repr, payload, buffer);
     let start = pseudo_sum(src_addr, dst_addr, 17, buffer.len());
-    fill_checksum(start, buffer);
+    let front = header_sum(start, repr, 8 + payload.len());
+    fill_checksum(front, buffer);
 }
 
 // Writes it with a checksum of 0.
@@ -61,13 +62,21 @@ fn write(repr: &UdpRepr, payload: &[u8], buffer: &mut [u8])
     put_two(buffer, &[a, b, c, d, e, f, 0, 0], payload);
 }
 
-// Writes the checksum of the bytes as they are, and of what was summed before.
-fn fill_checksum(start: u16, buffer: &mut [u8])
+// The sum of a header with a checksum of 0, and of what was summed before, worked out from the numbers.
+#[tactic(auto, using(crate::proofs::HeaderSums::udp_words))]
+fn header_sum(start: u16, repr: &UdpRepr, len: usize) -> u16
+    ensures { result ≡ sum_after start (be16 repr.now.src_port ++ (be16 repr.now.dst_port ++ (be16 len ++ be16 0))) }
+{
+    word_of(start as usize + repr.src_port as usize + repr.dst_port as usize + len % 0x10000)
+}
+
+// Writes the checksum of what was summed before, with the header, and of what stands behind the header.
+fn fill_checksum(front: u16, buffer: &mut [u8])
     requires { 8 ≤ length buffer.old }
     ensures { buffer.new ≡ take 6 buffer.old
-        ++ (be16 (ones_if_zero (complement (sum_after start buffer.old))) ++ drop 8 buffer.old) }
+        ++ (be16 (ones_if_zero (complement (sum_after front (drop 8 buffer.old)))) ++ drop 8 buffer.old) }
 {
-    let checksum = ones_if_zero(checksum_after(start, buffer));
+    let checksum = ones_if_zero(checksum_after(front, behind(buffer, 8)));
     put(buffer, 6, &be16(checksum as usize));
 }
 

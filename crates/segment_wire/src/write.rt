@@ -7,9 +7,10 @@ ghost use Rattle.segment_wire.specs.Options.{mss_octets, options_octets, padding
 ghost use Rattle.segment_wire.specs.Options.{ranges_octets, sack_if, sack_octets, scale_octets, stamp_octets};
 ghost use Rattle.segment_wire.specs.Tcp.{ack_bit, ack_field, control_bits, tcp_header, tcp_with};
 
+use control_wire::tcp::sack_count;
 use control_wire::{TcpControl, TcpRepr, TcpSeqNumber, TcpTimestampRepr};
-use ip_wire::octets::{be16, put};
-use ip_wire::sum::checksum_after;
+use ip_wire::octets::{be16, behind, put};
+use ip_wire::sum::{checksum_after, word_of};
 
 /// Writes the segment with a checksum of 0.
 #[tactic(auto, using(crate::proofs::Written::whole), unfolding(crate::specs::Tcp::tcp_with))]
@@ -46,6 +47,19 @@ fn header(repr: &TcpRepr<'_>) -> [u8; 20]
     [
         a, b, c, d, e, f, g, h, i, j, k, l, offset, flags, m, n, 0, 0, 0, 0,
     ]
+}
+
+/// The sum of a header with a checksum of 0, and of what was summed before. It is worked out from the numbers: what was
+/// just written in single bytes is read slowly as words.
+pub fn header_sum(start: u16, repr: &TcpRepr<'_>) -> u16
+    requires { options_len (segment_of repr.now) ≤ 40 }
+    ensures { result ≡ sum_after start (tcp_header (segment_of repr.now) 0) }
+{
+    let ports = repr.src_port as usize + repr.dst_port as usize;
+    let numbers = repr.seq_number.0 as usize + ack_field(repr.ack_number) as usize;
+    let flags = (control_bits(repr.control) + ack_bit(repr.ack_number)) as usize;
+    let rest = repr.header_len() / 4 * 16 * 256 + flags + repr.window_len as usize;
+    word_of(start as usize + ports + numbers + rest)
 }
 
 fn control_bits(control: TcpControl) -> u8
@@ -191,6 +205,7 @@ fn put_range(buffer: &mut [u8], at: usize, range: Option<(u32, u32)>) -> usize
     append(buffer, at, &[a, b, c, d, e, f, g, h])
 }
 
+#[tactic(auto, using(crate::proofs::Written::nothing_more))]
 fn put_padding(buffer: &mut [u8], at: usize, count: usize) -> usize
     requires few { count ≤ 3 }
     requires room { at + count ≤ length buffer.old }
@@ -198,24 +213,20 @@ fn put_padding(buffer: &mut [u8], at: usize, count: usize) -> usize
     ensures value { take result buffer.new ≡ take at buffer.old ++ take count (0 ∷ 0 ∷ 0 ∷ []) }
     ensures length { length buffer.new ≡ length buffer.old }
 {
+    if count == 0 {
+        return at;
+    }
     append(buffer, at, &[0, 0, 0][..count])
 }
 
-/// Writes the checksum of a segment as it is, and of what was summed before.
-pub fn fill_checksum(start: u16, buffer: &mut [u8])
+/// Writes the checksum of a segment, of what was summed before, with its header, and of what stands behind the header.
+pub fn fill_checksum(front: u16, buffer: &mut [u8])
     requires { 20 ≤ length buffer.old }
     ensures { buffer.new ≡ take 16 buffer.old
-        ++ (be16 (complement (sum_after start buffer.old)) ++ drop 18 buffer.old) }
+        ++ (be16 (complement (sum_after front (drop 20 buffer.old))) ++ drop 18 buffer.old) }
 {
-    let checksum = checksum_after(start, buffer);
+    let checksum = checksum_after(front, behind(buffer, 20));
     put(buffer, 16, &be16(checksum as usize));
-}
-
-fn sack_count(ranges: &[Option<(u32, u32)>; 3]) -> usize
-    ensures value { result ≡ count_by is_some ranges.now }
-    ensures small { result ≤ 3 }
-{
-    ranges.iter().filter(|range| range.is_some()).count()
 }
 
 // The option's kind and length stand before the blocks.

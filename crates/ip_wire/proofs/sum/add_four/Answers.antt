@@ -9,5 +9,5 @@ returns-clause-value c = λ start.
     let bytes = c.args.bytes.now in
     let at = c.args.at in
     ap (λ v. sum_after v (drop (at + 4) bytes))
-    (c.kept_small.ensures.value start ∙ ap (λ v. swapped_word start (total + v)) c.le32_at.ensures.value)
+    (ap (λ v. swapped_word start (total + v)) c.le32_at.ensures.value)
     ∙ four_octets_more start total bytes at (λ k h. (c.type_inv.bytes k).fits) c.requires.room
