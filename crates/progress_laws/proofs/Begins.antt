@@ -78,14 +78,15 @@ pub record Alike (v x : View) : Type 0 where
   pub marked : x.pending_fast_retransmit ≡ v.pending_fast_retransmit
   pub mss : x.remote_mss ≡ v.remote_mss
   pub delay : x.ack_delay_timer ≡ v.ack_delay_timer
+  pub paused : x.synack_paused ≡ v.synack_paused
 
 pub readied_alike : (v : View) (now : Instant) → Alike v (readied v now)
 unfolding readied last_ts_set
 readied_alike v now = go v.remote_last_ts
   where
     go : (o : Option Instant) → Alike v (told_ready (last_ts_set_at o v now) now)
-    go None = record { state = refl; peer = refl; timeout = refl; keep_alive = refl; timer = refl; una = refl; nxt = refl; tx = refl; rx = refl; rcv = refl; window = refl; scale = refl; shift = refl; last_ack = refl; marked = refl; mss = refl; delay = refl }
-    go (Some at) = record { state = refl; peer = refl; timeout = refl; keep_alive = refl; timer = refl; una = refl; nxt = refl; tx = refl; rx = refl; rcv = refl; window = refl; scale = refl; shift = refl; last_ack = refl; marked = refl; mss = refl; delay = refl }
+    go None = record { state = refl; peer = refl; timeout = refl; keep_alive = refl; timer = refl; una = refl; nxt = refl; tx = refl; rx = refl; rcv = refl; window = refl; scale = refl; shift = refl; last_ack = refl; marked = refl; mss = refl; delay = refl; paused = refl }
+    go (Some at) = record { state = refl; peer = refl; timeout = refl; keep_alive = refl; timer = refl; una = refl; nxt = refl; tx = refl; rx = refl; rcv = refl; window = refl; scale = refl; shift = refl; last_ack = refl; marked = refl; mss = refl; delay = refl; paused = refl }
 
 timer_state : (tm : Timer) (x : View) (now : Instant) → (after_timer tm x now).state ≡ x.state
 unfolding retransmission_begun fast_retransmission_marked
@@ -115,20 +116,24 @@ timer_no_end (timer.Idle at) x now is e = ap (λ t. is_close_over t now) is ∙ 
 timer_no_end (timer.ZeroWindowProbe at delay) x now is e = ap (λ t. is_close_over t now) is ∙ e
 timer_no_end (timer.Close at) x now is e = ap (λ t. is_close_over t now) is ∙ e
 
+timer_paused : (tm : Timer) (x : View) (now : Instant) → (after_timer tm x now).synack_paused ≡ x.synack_paused
+unfolding retransmission_begun fast_retransmission_marked
+timer_paused (timer.Retransmit at) x now = go (is_over at now)
+  where
+    go : (b : Bool) → (if b then retransmission_begun x now else x).synack_paused ≡ x.synack_paused
+    go true = refl
+    go false = refl
+timer_paused timer.FastRetransmit x now = refl
+timer_paused (timer.Idle at) x now = refl
+timer_paused (timer.ZeroWindowProbe at delay) x now = refl
+timer_paused (timer.Close at) x now = refl
+
 -- a SYN|ACK alone may be paused
-abbrev pub never_pauses : State → Bool
-never_pauses state.SynReceived = false
-never_pauses st = true
+pub carries_runs : (st : State) (b : Bool) → carries_data st ≡ true → is_paused st b ≡ false
+carries_runs state.SynReceived b c = absurd cc
+carries_runs _ b c = refl
 
-pub carries_runs : (st : State) → carries_data st ≡ true → never_pauses st ≡ true
-carries_runs state.SynReceived c = absurd cc
-carries_runs _ c = refl
-
-not_paused : (st : State) (b : Bool) → never_pauses st ≡ true → is_paused st b ≡ false
-not_paused state.SynReceived b c = absurd cc
-not_paused _ b c = refl
-
-module _ (v : View) (t : Tuple) (f : Facts) (stamps : Bool) (h : GoesOn v t f) (c : never_pauses v.state ≡ true) where
+module _ (v : View) (t : Tuple) (f : Facts) (stamps : Bool) (h : GoesOn v t f) (c : is_paused v.state v.synack_paused ≡ false) where
   abbrev now : Instant
   now = moment_of f
 
@@ -149,7 +154,7 @@ module _ (v : View) (t : Tuple) (f : Facts) (stamps : Bool) (h : GoesOn v t f) (
       alive = ap (λ d. is_reached (timeout_poll d x.remote_last_ts) now) still.timeout ∙ h.alive
 
   goes_on : is_paused beginning.state beginning.synack_paused ≡ false
-  goes_on = not_paused beginning.state beginning.synack_paused (ap never_pauses (timer_state v.timer x now ∙ still.state) ∙ c)
+  goes_on = (λ i. is_paused ((timer_state v.timer x now ∙ still.state) i) ((timer_paused v.timer x now ∙ still.paused) i)) ∙ c
 
   not_waiting : (y : View) → is_paused y.state y.synack_paused ≡ false → unless_paused y t ≡ record { view = y; peer = Some t }
   not_waiting y e = rw e refl

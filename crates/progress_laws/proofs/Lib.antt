@@ -27,5 +27,6 @@ pub mod ClosingRounds
 pub mod ClosingAll
 pub mod BothFinish
 pub mod Counted
+pub mod Repeats
 pub mod SynSteps
 pub mod Opening

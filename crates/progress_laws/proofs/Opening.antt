@@ -44,6 +44,7 @@ use Rattle.progress_laws.proofs.Hears.{HeardAs, heard_any, idle_is, idle_moment}
 use Rattle.progress_laws.proofs.Owed.{acknowledges, after, next_is, not_yet, out_of, state_is, tells}
 use Rattle.progress_laws.proofs.Receives.{Owes, Tells}
 use Rattle.progress_laws.proofs.Sends.{SentOf, left, plain_delay, plain_nxt, plain_sent, plain_timer}
+use Rattle.progress_laws.proofs.Repeats.{Repeats}
 use Rattle.progress_laws.proofs.SynSteps.{HasTakenSyn, ack_passes, answer_passes, header_dst, heard_delay, heard_idle, opened, opening_open, received_so, sends, syn_passes, taken_within}
 
 module _ (t : Tuple) (f : Facts) (now : Instant) (number word : ℕ) (a b : View) (e : IpListenEndpoint) (versions : SameVersion t.local.addr t.remote.addr) (here : f.has_address t.local.addr ≡ true) (there : f.has_address t.remote.addr ≡ true) (number_small : number < 2 ^ 32) (word_small : word < 2 ^ 32) (no_timeout_a : a.timeout ≡ None) (no_timeout_b : b.timeout ≡ None) (not_paused_a : a.synack_paused ≡ false) (not_paused : b.synack_paused ≡ false) where

@@ -16,7 +16,7 @@ use Rattle.sock_core.specs.Received.{Received}
 use Rattle.sock_core.specs.Seq.{is_before, later_of}
 use Rattle.sock_core.specs.declared.context.PollAt.TheVariants as poll
 use Rattle.sock_tcp.proofs.Lending.{lent_at_most}
-use Rattle.sock_tcp.specs.Begin.{after_timer, readied}
+use Rattle.sock_tcp.specs.Begin.{after_timer, is_paused, readied}
 use Rattle.sock_tcp.specs.Content.{Sending, asked, carries_data, content, emission_kind, is_probing, offset_of, plain_segment, sent_as}
 use Rattle.sock_tcp.specs.Due.{ack_due, ack_poll, data_due, is_ack_after, is_closed, is_due, window_doubled, window_field}
 use Rattle.sock_tcp.specs.Polls.{delay_poll, is_reached}
@@ -31,7 +31,7 @@ use Rattle.sock_tcp.specs.declared.timer.Timer.TheVariants as timer
 use Rattle.sock_tcp.specs.declared.tuple.Tuple.{Tuple}
 use Rattle.progress_laws.specs.InStep.{takes_bytes, told}
 use Rattle.progress_laws.specs.Speech.{DispatchesOk, GoesOn, SendsOk}
-use Rattle.progress_laws.proofs.Begins.{Alike, readied_alike, beginning, content_is, content_waiting, never_pauses, segment_for, sends_so}
+use Rattle.progress_laws.proofs.Begins.{Alike, readied_alike, beginning, content_is, content_waiting, segment_for, sends_so}
 use Rattle.progress_laws.proofs.Edges.{is_earlier, is_not_before, later_stays}
 use Rattle.progress_laws.proofs.Hears.{idle_is, idle_moment}
 use Rattle.progress_laws.proofs.Says.{keep_alive_due, no_probe}
@@ -56,8 +56,8 @@ module _ (s : Tuple) (w : View) (room n : ℕ) (y : View) (f : Facts) (now : Ins
   on : GoesOn y s fa
   on = record { peer = o.peer; address = address; alive = rw o.no_timeout refl; no_end = rw o.timer refl }
 
-  carries : never_pauses y.state ≡ true
-  carries = takes_runs y.state o.state
+  carries : is_paused y.state y.synack_paused ≡ false
+  carries = takes_runs y.state y.synack_paused o.state
 
   abbrev u : View
   u = readied y now

@@ -9,7 +9,7 @@ use Rattle.control_wire.specs.Seq.{seq_add, seq_sub}
 use Rattle.sock_core.specs.Bounds.{IsMtu}
 use Rattle.sock_core.specs.Facts.{Facts}
 use Rattle.sock_tcp.proofs.Lending.{lent_beginning}
-use Rattle.sock_tcp.specs.Begin.{after_timer, readied}
+use Rattle.sock_tcp.specs.Begin.{after_timer, is_paused, readied}
 use Rattle.sock_tcp.specs.Content.{asked, carries_data, emission_kind, is_probing, offset_of, sent_as, window_left}
 use Rattle.sock_tcp.specs.Due.{flight, is_closed, is_due}
 use Rattle.sock_tcp.specs.Queue.{Queue}
@@ -24,7 +24,7 @@ use Rattle.tcp_laws.proofs.OrderedCalls.{reached_ordered, readied_ordered}
 use Rattle.tcp_laws.proofs.Probing.{ProbesIn, reached_probing}
 use Rattle.progress_laws.specs.InStep.{IsSender, told}
 use Rattle.progress_laws.specs.Speech.{DispatchesOk, GoesOn, SendsOk}
-use Rattle.progress_laws.proofs.Begins.{Alike, readied_alike, beginning, carries_runs, content_is, dispatch_reached, never_pauses, segment_for, sends_so}
+use Rattle.progress_laws.proofs.Begins.{Alike, readied_alike, beginning, carries_runs, content_is, dispatch_reached, segment_for, sends_so}
 use Rattle.progress_laws.proofs.Edges.{same_seq}
 use Rattle.progress_laws.proofs.Hears.{IsOpenTimer}
 use Rattle.progress_laws.proofs.Lends.{probe_byte}
@@ -40,8 +40,8 @@ module _ (d : Option Duration) (t : Tuple) (v : View) (f : Facts) (now at : Inst
   probe_on : GoesOn v t (told f now)
   probe_on = record { peer = s.peer; address = address; alive = rw s.no_timeout refl; no_end = rw probes refl }
 
-  probe_carries : never_pauses v.state ≡ true
-  probe_carries = carries_runs v.state (sends_data v.state s.state)
+  probe_carries : is_paused v.state v.synack_paused ≡ false
+  probe_carries = carries_runs v.state v.synack_paused (sends_data v.state s.state)
 
   abbrev p : View
   p = readied v now

@@ -14,7 +14,7 @@ use Rattle.sock_core.specs.Seq.{later_of}
 use Rattle.sock_core.specs.declared.congestion.AnyController.{AnyController}
 use Rattle.sock_core.specs.declared.congestion.AnyController.TheVariants as controller
 use Rattle.sock_tcp.proofs.Lending.{lent_at_most, lent_beginning}
-use Rattle.sock_tcp.specs.Begin.{after_timer, after_timers, readied, retransmission_begun}
+use Rattle.sock_tcp.specs.Begin.{after_timer, after_timers, is_paused, readied, retransmission_begun}
 use Rattle.sock_tcp.specs.Content.{Sending, asked, carries_data, emission_kind, is_probing, offset_of, sent_as, window_left}
 use Rattle.sock_tcp.specs.Due.{congestion_left, data_due, effective_mss, flight, is_closed, is_due, window_field}
 use Rattle.sock_tcp.specs.Polls.{is_reached, timeout_poll}
@@ -35,7 +35,7 @@ use Rattle.tcp_laws.proofs.Sleeping.{window_sends}
 use Rattle.tcp_laws.proofs.Probing.{reached_probing}
 use Rattle.progress_laws.specs.InStep.{ForAnswer, ForKeepAlive, ForNothing, ForProbe, IsSender, Rests, told}
 use Rattle.progress_laws.specs.Speech.{DispatchesOk, GoesOn, SendsOk}
-use Rattle.progress_laws.proofs.Begins.{readied_alike, beginning, carries_runs, content_is, dispatch_reached, never_pauses, not_zero, quiet_so, segment_for, sends_so}
+use Rattle.progress_laws.proofs.Begins.{readied_alike, beginning, carries_runs, content_is, dispatch_reached, not_zero, quiet_so, segment_for, sends_so}
 use Rattle.progress_laws.proofs.Edges.{is_earlier, is_not_before, later_is, later_stays}
 use Rattle.progress_laws.proofs.Hears.{IsData, IsOpenTimer, idle_is, idle_moment}
 use Rattle.progress_laws.proofs.Lends.{lent_some, mss_some}
@@ -200,7 +200,7 @@ again_front v now at r no_timeout waits over =
       ordered = subst IsOrdered (begins_again (readied v now) now at (al.timeout ∙ no_timeout) (al.timer ∙ waits) over) (timers_ordered (readied v now) now (readied_ordered v now (reached_ordered v r)));
     }
 
-module _ (d : Option Duration) (t : Tuple) (v : View) (f : Facts) (now : Instant) (mtu : IsMtu f.mtu) (s : IsSender d t v) (on : GoesOn v t (told f now)) (carries : never_pauses v.state ≡ true) (u : View) (fr : Front v u) (u_is : beginning v t (told f now) false on carries ≡ u) where
+module _ (d : Option Duration) (t : Tuple) (v : View) (f : Facts) (now : Instant) (mtu : IsMtu f.mtu) (s : IsSender d t v) (on : GoesOn v t (told f now)) (carries : is_paused v.state v.synack_paused ≡ false) (u : View) (fr : Front v u) (u_is : beginning v t (told f now) false on carries ≡ u) where
   abbrev fa : Facts
   fa = told f now
 
@@ -455,7 +455,7 @@ pub record Begins (t : Tuple) (f : Facts) (v : View) (now : Instant) : Type 0 wh
   pub view : View
   pub front : Front v view
   pub no_end : is_close_over v.timer now ≡ false
-  pub is : (on : GoesOn v t (told f now)) (carries : never_pauses v.state ≡ true) → beginning v t (told f now) false on carries ≡ view
+  pub is : (on : GoesOn v t (told f now)) (carries : is_paused v.state v.synack_paused ≡ false) → beginning v t (told f now) false on carries ≡ view
 
 pub begins : (t : Tuple) (f : Facts) (v : View) (now : Instant) → IsReached v → v.timeout ≡ None → (r : Rests v) → IsNoProbe r → is_over (wakes r) now ≡ true → Begins t f v now
 begins t f v now r none (ForProbe at delay probes nxt some) other over = absurd other
@@ -479,8 +479,8 @@ begins t f v now r none (ForAnswer at again) other over = record {
 }
 
 module _ (d : Option Duration) (t : Tuple) (v : View) (f : Facts) (now : Instant) (mtu : IsMtu f.mtu) (address : f.has_address t.local.addr ≡ true) (s : IsSender d t v) where
-  carries_so : never_pauses v.state ≡ true
-  carries_so = carries_runs v.state (sends_data v.state s.state)
+  carries_so : is_paused v.state v.synack_paused ≡ false
+  carries_so = carries_runs v.state v.synack_paused (sends_data v.state s.state)
 
   goes_on : is_close_over v.timer now ≡ false → GoesOn v t (told f now)
   goes_on e = record { peer = s.peer; address = address; alive = rw s.no_timeout refl; no_end = e }
