@@ -1,17 +1,20 @@
 -- How a dispatch begins once the timer is over, and what comes out of it.
-use Rattle.std.proofs.Common.{◌≡◌, ℕ, zero, suc, ◌+◌, ◌<◌, ◌⊎◌, inl, inr, Bool, true, false, true≢false, ◌&&◌, refl, sym, ap, subst, ◌∙◌, List, length, Option, Some, None, arith}
+use Rattle.std.proofs.Common.{◌≡◌, ℕ, zero, suc, ◌+◌, ◌<◌, ◌≤◌, ◌^◌, ◌⊎◌, inl, inr, Bool, true, false, true≢false, ◌&&◌, refl, sym, ap, subst, ◌∙◌, List, length, Option, Some, None, arith}
 use Rattle.std.specs.Prelude.{if◌then◌else◌, ◌==◌, option_map}
 use Rattle.std.proofs.lemmas.Bool.{eq-eqb, eqb-true}
-use Rattle.std.proofs.lemmas.Option.{none-some}
+use Rattle.std.proofs.lemmas.Option.{none-some, same_Some}
 use Rattle.net_base.specs.declared.time.Duration.{Duration}
 use Rattle.net_base.specs.declared.time.Instant.{Instant}
+use Rattle.ip_wire.specs.declared.repr.IpRepr.{IpRepr}
 use Rattle.control_wire.specs.Segment.{Segment, control_len, is_empty_segment, is_plain, segment_len}
+use Rattle.control_wire.specs.declared.seq_number.TcpSeqNumber.{TcpSeqNumber}
 use Rattle.control_wire.specs.declared.tcp.TcpControl.{TcpControl}
 use Rattle.control_wire.specs.declared.tcp.TcpControl.TheVariants as control
 use Rattle.sock_core.specs.Facts.{Facts}
 use Rattle.sock_tcp.specs.Begin.{Begun, last_ts_set, last_ts_set_at, told_ready, readied, retransmission_begun, fast_retransmission_marked, after_timer, after_timers, is_paused, begun, begun_to, unless_paused, nothing_due, by_due, before_emit, before_emit_to}
 use Rattle.sock_tcp.specs.Content.{Sending, carries_data, content, data_control, emission_kind, filled, offset_of, plain_segment, sent_as, with_data}
 use Rattle.sock_tcp.specs.Due.{is_closing, is_due}
+use Rattle.sock_tcp.specs.Process.{Outcome, processed}
 use Rattle.sock_tcp.specs.Polls.{is_reached, timeout_poll}
 use Rattle.sock_tcp.specs.Timers.{idle_from, is_close_over, is_over}
 use Rattle.sock_tcp.specs.View.{View, moment_of}
@@ -21,7 +24,7 @@ use Rattle.sock_tcp.specs.declared.timer.Timer.{Timer}
 use Rattle.sock_tcp.specs.declared.timer.Timer.TheVariants as timer
 use Rattle.sock_tcp.specs.declared.tuple.Tuple.{Tuple}
 use Rattle.tcp_laws.specs.Polling.{IsReached}
-use Rattle.tcp_laws.specs.SocketRun.{Counts, Dispatch, Ends, Run, SendsTo, Step, Then, is_reset, starting_if}
+use Rattle.tcp_laws.specs.SocketRun.{Counts, Dispatch, Ends, IsNumbered, Process, Run, SendsTo, Step, Then, after_segment, is_reset, starting_if}
 use Rattle.progress_laws.specs.Speech.{DispatchesOk, GoesOn, SendsOk, SendsOkTo}
 
 -- ---- tests
@@ -56,6 +59,13 @@ any_ok (Some t) f stamps u out w h = record { stamp = h.stamp; told = h.told; by
 
 pub dispatch_reached : (f : Facts) (stamps : Bool) (v : View) (out : Option Sending) (w : View) → IsReached v → DispatchesOk f stamps v out w → IsReached w
 dispatch_reached f stamps v out w r h = step_reached v w (starting_if (is_reset v f stamps) w r.counts) r (Dispatch f stamps out (any_ok (before_emit v f stamps).peer f stamps (before_emit v f stamps).view out w h) refl)
+
+-- a segment that comes
+pub numbered_as : (g : Segment) (k : TcpSeqNumber) → g.ack_number ≡ Some k → g.seq_number.0 < 2 ^ 32 → k.0 < 2 ^ 32 → IsNumbered g
+numbered_as g k ack number small = record { seq_number = number; ack_number = λ m e. subst (λ (q : TcpSeqNumber). q.0 < 2 ^ 32) (same_Some k m (sym ack ∙ e)) small }
+
+pub segment_reached : (v w : View) (now : Instant) (word : ℕ) (ip : IpRepr) (g : Segment) (reply : Option Segment) → IsReached v → word < 2 ^ 32 → IsNumbered g → length g.payload ≤ 65535 → (v.state ≡ state.Listen → g.ack_number ≡ None) → processed v now word ip g ≡ record { view = w; reply = reply } → IsReached w
+segment_reached v w now word ip g reply r small numbered short listens comes = step_reached v w (after_segment r.counts v w) r (Process now word ip g small numbered short listens (sym (ap (λ (o : Outcome). o.view) comes)) refl)
 
 -- ---- the beginning
 

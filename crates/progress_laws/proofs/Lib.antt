@@ -29,4 +29,8 @@ pub mod BothFinish
 pub mod Counted
 pub mod Repeats
 pub mod SynSteps
+pub mod NewPair
 pub mod Opening
+pub mod Handshakes
+pub mod Accepts
+pub mod FromOpening

@@ -49,6 +49,15 @@ not_yet now d h = go (is_over (moment_after now d) now) refl
     go true e = absurd (grind (arith, ints, e, h))
     go false e = refl
 
+-- what an acknowledgement leaves alone
+pub record Kept (y w : View) : Type 0 where
+  pub state : w.state ≡ y.state
+  pub keep_alive : w.keep_alive ≡ y.keep_alive
+  pub window : w.remote_win_len ≡ y.remote_win_len
+  pub scale : w.remote_win_scale ≡ y.remote_win_scale
+  pub tx : w.tx_buffer ≡ y.tx_buffer
+  pub rx : w.rx_buffer ≡ y.rx_buffer
+
 module _ (s : Tuple) (w : View) (room n : ℕ) (y : View) (f : Facts) (now : Instant) (address : f.has_address s.local.addr ≡ true) (o : Owes s w room n y) where
   abbrev fa : Facts
   fa = told f now
@@ -233,8 +242,11 @@ module _ (s : Tuple) (w : View) (room n : ℕ) (y : View) (f : Facts) (now : Ins
         wide : length u.rx_buffer.held ≡ room
         wide = ap (λ (q : Received). length q.held) al.rx ∙ ap (λ (l : List (Option ℕ)). length l) o.nothing_held ∙ length-replicate room None
 
-    pub state_is : after.state ≡ y.state
-    state_is = (plain_sent u s now b opens).state ∙ al.state
+    pub kept_then : Kept y after
+    kept_then = let l = plain_sent u s now b opens in record { state = l.state ∙ al.state; keep_alive = l.keep_alive ∙ al.keep_alive; window = l.window ∙ al.window; scale = l.scale ∙ al.scale; tx = l.tx ∙ al.tx; rx = l.rx ∙ al.rx }
+
+    pub field_is : out_of.segment.window_len ≡ min (room / 2 ^ w.remote_win_shift) 65535
+    field_is = segment_window u s None bytes sends nothing_marked ∙ field
 
     pub next_is : next_ack after ≡ next_ack y
     next_is = let l = plain_sent u s now b opens in (λ i. seq_add (l.rcv i) (length ((l.rx i).bytes))) ∙ next
@@ -246,7 +258,7 @@ module _ (s : Tuple) (w : View) (room n : ℕ) (y : View) (f : Facts) (now : Ins
         let shift : after.remote_win_shift ≡ w.remote_win_shift = l.shift ∙ al.shift ∙ o.shift in
         let ack : after.remote_last_ack ≡ Some (next_ack after) = plain_ack u s now b opens ∙ segment_ack u s None bytes sends nothing_marked ∙ ap Some (sym rcv) in
         let held : after.rx_buffer.held ≡ blank room = ap (λ (q : Received). q.held) (l.rx ∙ al.rx) ∙ o.nothing_held in
-        let told_field : b.window_len ≡ min (room / 2 ^ w.remote_win_shift) 65535 = segment_window u s None bytes sends nothing_marked ∙ field in
+        let told_field : b.window_len ≡ min (room / 2 ^ w.remote_win_shift) 65535 = field_is in
         record {
           receiver = record {
             state = ap takes_bytes l.state ∙ takes_on;

@@ -1,5 +1,5 @@
 -- What dispatches make of a socket in SYN-SENT or SYN-RECEIVED, and the SYN or SYN|ACK that one of them sends, again too.
-use Rattle.std.proofs.Common.{◌≡◌, ℕ, ◌+◌, ◌<◌, ◌^◌, ◌⊎◌, inl, inr, Bool, true, false, not, ◌&&◌, refl, sym, ap, subst, ◌∙◌, List, length, take, drop, min, Option, Some, None, arith}
+use Rattle.std.proofs.Common.{◌≡◌, ℕ, ◌+◌, ◌<◌, ◌^◌, inl, inr, Bool, true, false, not, ◌&&◌, refl, sym, ap, subst, ◌∙◌, List, length, take, drop, min, Option, Some, None, arith}
 use Rattle.std.specs.Prelude.{if◌then◌else◌, ◌==◌, option_map}
 use Rattle.net_base.specs.Ring.{in_one_piece}
 use Rattle.net_base.specs.declared.time.Duration.{Duration}
@@ -19,14 +19,15 @@ use Rattle.sock_tcp.specs.View.{View}
 use Rattle.sock_tcp.specs.declared.emission.Kind.TheVariants as kind
 use Rattle.sock_tcp.specs.declared.state.State.{State}
 use Rattle.sock_tcp.specs.declared.state.State.TheVariants as state
+use Rattle.sock_tcp.specs.declared.timer.AckDelayTimer.TheVariants as ack_delay
 use Rattle.sock_tcp.specs.declared.timer.Timer.TheVariants as timer
 use Rattle.sock_tcp.specs.declared.tuple.Tuple.{Tuple}
 use Rattle.progress_laws.specs.InStep.{told}
-use Rattle.progress_laws.specs.Speech.{DispatchesOk, GoesOn, SendsOk}
+use Rattle.progress_laws.specs.Speech.{DispatchesOk, GoesOn}
 use Rattle.progress_laws.proofs.Begins.{Alike, Goes, and_no, beginning, goes, readied_alike, sends_so}
 use Rattle.progress_laws.proofs.Edges.{is_earlier, is_not_before, later_is, later_stays}
 use Rattle.progress_laws.proofs.Hears.{idle_is, idle_moment}
-use Rattle.progress_laws.proofs.Sends.{SentOf, left, plain_nxt, plain_sent, plain_timer}
+use Rattle.progress_laws.proofs.Sends.{SentOf, left, plain_ack, plain_delay, plain_nxt, plain_sent, plain_timer, plain_window}
 
 -- ---- the states in which a SYN is sent
 
@@ -39,6 +40,12 @@ opening_open : (st : State) → is_opening st ≡ true → is_closed st ≡ fals
 opening_open state.SynSent e = refl
 opening_open state.SynReceived e = refl
 opening_open _ e = absurd cc
+
+pub opening_listens : (st : State) → is_opening st ≡ true → st ≡ state.Listen → ⊥
+opening_listens state.Listen e l = absurd cc
+opening_listens state.SynSent e l = absurd cc
+opening_listens state.SynReceived e l = absurd cc
+opening_listens _ e l = absurd cc
 
 never_paused : (st : State) → is_paused st false ≡ false
 never_paused state.SynReceived = refl
@@ -102,19 +109,29 @@ pub record Repeats (x v : View) : Type 0 where
   pub paused : v.synack_paused ≡ x.synack_paused
   pub waits : SynWaits v
 
-module _ (st : State) (x v : View) (t : Tuple) (f : Facts) (now : Instant) (opening : is_opening st ≡ true) (state_is : x.state ≡ st) (peer : x.tuple ≡ Some t) (address : f.has_address t.local.addr ≡ true) (no_timeout : x.timeout ≡ None) (not_paused : x.synack_paused ≡ false) (una_small : x.local_seq_no.0 < 2 ^ 32) (r : Repeats x v) where
+-- x is in one of these states, with the peer t, its address, and nothing that would end or pause it
+pub record SendsSyn (st : State) (t : Tuple) (f : Facts) (x : View) : Type 0 where
+  pub opening : is_opening st ≡ true
+  pub state : x.state ≡ st
+  pub peer : x.tuple ≡ Some t
+  pub address : f.has_address t.local.addr ≡ true
+  pub no_timeout : x.timeout ≡ None
+  pub not_paused : x.synack_paused ≡ false
+  pub una_small : x.local_seq_no.0 < 2 ^ 32
+
+module _ (st : State) (t : Tuple) (f : Facts) (x : View) (c : SendsSyn st t f x) (v : View) (r : Repeats x v) (now : Instant) where
   abbrev fa : Facts
   fa = told f now
 
   pub on : GoesOn v t fa
-  on = record { peer = r.peer ∙ peer; address = address; alive = rw (r.timeout ∙ no_timeout) refl; no_end = by r.waits }
+  on = record { peer = r.peer ∙ c.peer; address = c.address; alive = rw (r.timeout ∙ c.no_timeout) refl; no_end = by r.waits }
     where
       by : SynWaits v → is_close_over v.timer now ≡ false
       by (NotSent o idle nxt) = rw idle refl
       by (IsSent at waits nxt) = rw waits refl
 
   pub runs : is_paused v.state v.synack_paused ≡ false
-  runs = ap (is_paused v.state) (r.paused ∙ not_paused) ∙ never_paused v.state
+  runs = ap (is_paused v.state) (r.paused ∙ c.not_paused) ∙ never_paused v.state
 
   abbrev pub u : View
   u = beginning v t fa false on runs
@@ -164,16 +181,16 @@ module _ (st : State) (x v : View) (t : Tuple) (f : Facts) (now : Instant) (open
       by (IsSent at waits nxt) d = subst (λ tm. (after_timer tm z now).remote_last_seq ≡ (after_timer tm z now).local_seq_no) (sym waits) (subst (λ b. (if b then retransmission_begun z now else z).remote_last_seq ≡ (if b then retransmission_begun z now else z).local_seq_no) (sym d) anew_nxt)
 
   pub state_then : u.state ≡ st
-  state_then = begun_so.state ∙ state_is
+  state_then = begun_so.state ∙ c.state
 
   opens : is_opening u.state ≡ true
-  opens = ap is_opening state_then ∙ opening
+  opens = ap is_opening state_then ∙ c.opening
 
   pub open_then : is_closed u.state ≡ false
   open_then = opening_open u.state opens
 
   u_small : u.local_seq_no.0 < 2 ^ 32
-  u_small = subst (λ (q : TcpSeqNumber). q.0 < 2 ^ 32) (sym begun_so.una) una_small
+  u_small = subst (λ (q : TcpSeqNumber). q.0 < 2 ^ 32) (sym begun_so.una) c.una_small
 
   -- ---- what it sends, with any stamp
 
@@ -188,7 +205,7 @@ module _ (st : State) (x v : View) (t : Tuple) (f : Facts) (now : Instant) (open
 
   content_so : (stamp : Option ℕ) (bytes : List ℕ) → content u t fa stamp bytes ≡ Some (out_of stamp)
   unfolding content
-  content_so stamp bytes = ap (option_map (λ s. sent_as u t (emission_kind u now s) s)) (ap (λ q. filled q u t fa bytes (plain_segment u t stamp)) state_then ∙ filled_is st opening u t fa bytes (plain_segment u t stamp)) ∙ ap (λ k. Some (sent_as u t k (segment stamp))) plain
+  content_so stamp bytes = ap (option_map (λ s. sent_as u t (emission_kind u now s) s)) (ap (λ q. filled q u t fa bytes (plain_segment u t stamp)) state_then ∙ filled_is st c.opening u t fa bytes (plain_segment u t stamp)) ∙ ap (λ k. Some (sent_as u t k (segment stamp))) plain
     where
       empty : is_empty_segment (segment stamp) ≡ false
       empty = ap (λ c. (length (segment stamp).payload == 0) && is_plain c) (syn_bit st u t fa (plain_segment u t stamp)) ∙ and_no (length (segment stamp).payload == 0)
@@ -229,6 +246,15 @@ module _ (st : State) (x v : View) (t : Tuple) (f : Facts) (now : Instant) (open
       let l = kept stamp in
       let w = waits_then stamp in
       record { state = l.state ∙ begun_so.state; peer = l.peer ∙ begun_so.peer; timeout = l.timeout ∙ begun_so.timeout; keep_alive = l.keep_alive ∙ begun_so.keep_alive; una = l.una ∙ begun_so.una; tx = l.tx ∙ begun_so.tx; rx = l.rx ∙ begun_so.rx; rcv = l.rcv ∙ begun_so.rcv; window = l.window ∙ begun_so.window; scale = l.scale ∙ begun_so.scale; shift = l.shift ∙ begun_so.shift; marked = l.marked ∙ ap (λ m. m && not (carries_data u.state)) begun_so.marked; paused = l.paused ∙ begun_so.paused; waits = IsSent w.0 w.1 w.2 }
+
+  pub ack_then : (stamp : Option ℕ) → (sent stamp).remote_last_ack ≡ (segment stamp).ack_number
+  ack_then stamp = plain_ack u t now (segment stamp) open_then
+
+  pub window_then : (stamp : Option ℕ) → (sent stamp).remote_last_win ≡ (segment stamp).window_len
+  window_then stamp = plain_window u t now (segment stamp) open_then
+
+  pub delay_then : (stamp : Option ℕ) → (sent stamp).ack_delay_timer ≡ ack_delay.Idle
+  delay_then stamp = plain_delay u t now (segment stamp) open_then
 
   -- ---- the dispatch
 

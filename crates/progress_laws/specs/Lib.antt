@@ -5,3 +5,4 @@ pub mod InStep
 pub mod BothWays
 pub mod AfterClose
 pub mod Opening
+pub mod FromOpening
