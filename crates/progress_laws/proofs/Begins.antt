@@ -85,6 +85,7 @@ pub record Alike (v x : View) : Type 0 where
   pub scale : x.remote_win_scale ≡ v.remote_win_scale
   pub shift : x.remote_win_shift ≡ v.remote_win_shift
   pub last_ack : x.remote_last_ack ≡ v.remote_last_ack
+  pub last_win : x.remote_last_win ≡ v.remote_last_win
   pub marked : x.pending_fast_retransmit ≡ v.pending_fast_retransmit
   pub mss : x.remote_mss ≡ v.remote_mss
   pub delay : x.ack_delay_timer ≡ v.ack_delay_timer
@@ -95,8 +96,8 @@ unfolding readied last_ts_set
 readied_alike v now = go v.remote_last_ts
   where
     go : (o : Option Instant) → Alike v (told_ready (last_ts_set_at o v now) now)
-    go None = record { state = refl; peer = refl; timeout = refl; keep_alive = refl; timer = refl; una = refl; nxt = refl; tx = refl; rx = refl; rcv = refl; window = refl; scale = refl; shift = refl; last_ack = refl; marked = refl; mss = refl; delay = refl; paused = refl }
-    go (Some at) = record { state = refl; peer = refl; timeout = refl; keep_alive = refl; timer = refl; una = refl; nxt = refl; tx = refl; rx = refl; rcv = refl; window = refl; scale = refl; shift = refl; last_ack = refl; marked = refl; mss = refl; delay = refl; paused = refl }
+    go None = record { state = refl; peer = refl; timeout = refl; keep_alive = refl; timer = refl; una = refl; nxt = refl; tx = refl; rx = refl; rcv = refl; window = refl; scale = refl; shift = refl; last_ack = refl; last_win = refl; marked = refl; mss = refl; delay = refl; paused = refl }
+    go (Some at) = record { state = refl; peer = refl; timeout = refl; keep_alive = refl; timer = refl; una = refl; nxt = refl; tx = refl; rx = refl; rcv = refl; window = refl; scale = refl; shift = refl; last_ack = refl; last_win = refl; marked = refl; mss = refl; delay = refl; paused = refl }
 
 timer_state : (tm : Timer) (x : View) (now : Instant) → (after_timer tm x now).state ≡ x.state
 unfolding retransmission_begun fast_retransmission_marked

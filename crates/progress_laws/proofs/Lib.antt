@@ -19,13 +19,16 @@ pub mod Arrives
 pub mod Closes
 pub mod Answered
 pub mod Takes
+pub mod Sides
 pub mod Both
 pub mod BothRounds
+pub mod Shut
 pub mod ClosingSays
 pub mod LastBytes
 pub mod ClosingRounds
 pub mod ClosingAll
 pub mod BothFinish
+pub mod ShutRounds
 pub mod Counted
 pub mod Repeats
 pub mod SynSteps

@@ -21,7 +21,7 @@ use Rattle.tcp_laws.specs.Polling.{IsReached}
 use Rattle.tcp_laws.proofs.OrderedCalls.{reached_ordered}
 use Rattle.progress_laws.specs.BothWays.{BothInStep, IsSide, Toward, window_told}
 use Rattle.progress_laws.specs.InStep.{ForKeepAlive, ForNothing, Rests}
-use Rattle.progress_laws.proofs.Both.{room_small, told_some, wide_so}
+use Rattle.progress_laws.proofs.Sides.{room_small, told_some, wide_so}
 use Rattle.progress_laws.proofs.Edges.{is_not_before, same_seq}
 use Rattle.progress_laws.proofs.Receives.{unit}
 use Rattle.progress_laws.proofs.SynSteps.{shift_within}

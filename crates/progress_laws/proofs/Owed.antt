@@ -35,7 +35,7 @@ use Rattle.progress_laws.proofs.Begins.{Alike, readied_alike, beginning, content
 use Rattle.progress_laws.proofs.Edges.{is_earlier, is_not_before, later_stays}
 use Rattle.progress_laws.proofs.Hears.{idle_is, idle_moment}
 use Rattle.progress_laws.proofs.Says.{keep_alive_due, no_probe}
-use Rattle.progress_laws.proofs.Sends.{kept_ack, kept_delay, kept_nxt, kept_sent, kept_timer, left, plain_ack, plain_nxt, plain_sent, plain_timer, plain_window, segment_ack, segment_bit, segment_length, segment_number, segment_window, without_bytes}
+use Rattle.progress_laws.proofs.Sends.{kept_delay, kept_nxt, kept_sent, kept_timer, kept_untold, left, plain_ack, plain_nxt, plain_sent, plain_timer, plain_window, segment_ack, segment_bit, segment_length, segment_number, segment_window, without_bytes}
 use Rattle.progress_laws.proofs.States.{flat_on, flat_open, is_flat, takes_flat, takes_runs}
 use Rattle.progress_laws.proofs.Taking.{blank}
 use Rattle.progress_laws.proofs.Receives.{Owes, Tells, told_window, unit, unit_some}
@@ -178,7 +178,7 @@ module _ (s : Tuple) (w : View) (room n : ℕ) (y : View) (f : Facts) (now : Ins
           shift = l.shift ∙ al.shift ∙ o.shift;
           last = o.last;
           last_small = o.last_small;
-          last_ack = kept_ack u s now b opens ∙ al.last_ack ∙ o.last_ack;
+          last_ack = (kept_untold u s now b opens).last_ack ∙ al.last_ack ∙ o.last_ack;
           near = o.near;
           next = ap (λ (k : TcpSeqNumber). k.0) ((λ i. seq_add (l.rcv i) (length ((l.rx i).bytes))) ∙ next) ∙ o.next;
         }

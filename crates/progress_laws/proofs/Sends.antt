@@ -42,6 +42,11 @@ pub record SentOf (u w : View) : Type 0 where
   pub marked : w.pending_fast_retransmit ≡ (u.pending_fast_retransmit && not (carries_data u.state))
   pub paused : w.synack_paused ≡ u.synack_paused
 
+-- what was acknowledged and told last counts as before
+pub record Untold (u w : View) : Type 0 where
+  pub last_ack : w.remote_last_ack ≡ u.remote_last_ack
+  pub last_win : w.remote_last_win ≡ u.remote_last_win
+
 module _ (u : View) (p : Tuple) (now : Instant) (s : Segment) (not_closed : is_closed u.state ≡ false) where
   abbrev pub left : Kind → View
   left k = left_by (Some (sent_as u p k s)) u now true
@@ -107,6 +112,10 @@ module _ (u : View) (p : Tuple) (now : Instant) (s : Segment) (not_closed : is_c
   unfolding after_sending after_any after_probe
   probe_sent = record { state = refl; peer = refl; timeout = refl; keep_alive = refl; una = refl; tx = refl; rx = refl; rcv = refl; window = refl; scale = refl; shift = refl; marked = refl; paused = refl }
 
+  pub probe_untold : Untold u (left kind.Probe)
+  unfolding after_sending after_any after_probe
+  probe_untold = record { last_ack = refl; last_win = refl }
+
   pub probe_nxt : (left kind.Probe).remote_last_seq ≡ u.remote_last_seq
   unfolding after_sending after_any after_probe
   probe_nxt = refl
@@ -123,9 +132,9 @@ module _ (u : View) (p : Tuple) (now : Instant) (s : Segment) (not_closed : is_c
   unfolding after_sending after_any
   kept_nxt = refl
 
-  pub kept_ack : (left kind.KeepAlive).remote_last_ack ≡ u.remote_last_ack
+  pub kept_untold : Untold u (left kind.KeepAlive)
   unfolding after_sending after_any
-  kept_ack = refl
+  kept_untold = record { last_ack = refl; last_win = refl }
 
   pub kept_delay : (left kind.KeepAlive).ack_delay_timer ≡ ack_delay.Idle
   unfolding after_sending after_any

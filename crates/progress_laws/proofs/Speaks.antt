@@ -41,7 +41,7 @@ use Rattle.progress_laws.proofs.Hears.{IsData, IsOpenTimer, idle_is, idle_moment
 use Rattle.progress_laws.proofs.Lends.{lent_some, mss_some}
 use Rattle.progress_laws.proofs.Says.{keep_alive_due, no_probe}
 use Rattle.progress_laws.proofs.States.{flat_open, is_flat, row_moment, sends_data, sends_flat}
-use Rattle.progress_laws.proofs.Sends.{SentOf, kept_nxt, kept_sent, kept_timer, left, plain_ack, plain_nxt, plain_sent, plain_timer, plain_window, segment_ack, segment_bit, segment_length, segment_number, segment_window, with_bytes, without_bytes}
+use Rattle.progress_laws.proofs.Sends.{SentOf, Untold, kept_nxt, kept_sent, kept_timer, kept_untold, left, plain_ack, plain_nxt, plain_sent, plain_timer, plain_window, segment_ack, segment_bit, segment_length, segment_number, segment_window, with_bytes, without_bytes}
 
 -- ---- what is left of the sender
 
@@ -102,6 +102,8 @@ pub record SpeaksNothing (f : Facts) (v : View) : Type 0 where
   pub number : out.segment.seq_number ≡ seq_minus v.local_seq_no 1
   pub one : length out.segment.payload ≡ 1
   pub nxt : after.remote_last_seq ≡ v.local_seq_no
+  pub shift : after.remote_win_shift ≡ v.remote_win_shift
+  pub untold : Untold v after
 
 -- without a window nothing, or an acknowledgement; it waits for its keep-alive then, with nothing in flight
 pub record FallsSilent (f : Facts) (v : View) : Type 0 where
@@ -138,6 +140,7 @@ pub record Front (v u : View) : Type 0 where
   pub window : u.remote_win_len ≡ v.remote_win_len
   pub scale : u.remote_win_scale ≡ v.remote_win_scale
   pub shift : u.remote_win_shift ≡ v.remote_win_shift
+  pub untold : Untold v u
   pub marked : u.pending_fast_retransmit ≡ v.pending_fast_retransmit
   pub mss : u.remote_mss ≡ v.remote_mss
   pub moment : Option Instant
@@ -161,6 +164,7 @@ idle_front v now at r idle nxt =
       window = al.window;
       scale = al.scale;
       shift = al.shift;
+      untold = record { last_ack = al.last_ack; last_win = al.last_win };
       marked = al.marked;
       mss = al.mss;
       moment = at;
@@ -193,6 +197,7 @@ again_front v now at r no_timeout waits over =
       window = al.window;
       scale = al.scale;
       shift = al.shift;
+      untold = record { last_ack = al.last_ack; last_win = al.last_win };
       marked = al.marked;
       mss = al.mss;
       moment = idle_moment now (readied v now).keep_alive;
@@ -361,6 +366,8 @@ module _ (d : Option Duration) (t : Tuple) (v : View) (f : Facts) (now : Instant
         number = ap (λ n. seq_minus n 1) fr.una;
         one = refl;
         nxt = kept_nxt u t now b opens ∙ fr.nxt;
+        shift = (kept_sent u t now b opens).shift ∙ fr.shift;
+        untold = let k = kept_untold u t now b opens in record { last_ack = k.last_ack ∙ fr.untold.last_ack; last_win = k.last_win ∙ fr.untold.last_win };
       }
 
   -- without a window it is silent, or acknowledges

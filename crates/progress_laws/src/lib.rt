@@ -13,6 +13,7 @@ ghost use Rattle.progress_laws.specs.Delivery.{CountedFinIsHeard, DeliveryMoves}
 ghost use Rattle.progress_laws.specs.FromOpening.{HandshakeBringsInStep, LostSynsComeAgain, OpenedPairCompletes};
 ghost use Rattle.progress_laws.specs.InStep.{OneWayCompletes, OneWayFinishes};
 ghost use Rattle.progress_laws.specs.Opening.{HandshakeCompletes, ListenerAnswersSyn};
+ghost use Rattle.progress_laws.specs.ShutWindows.{ShutWindowsOpen};
 ghost use Rattle.progress_laws.specs.Speech.{SpeaksPastItsTimers};
 ghost use Rattle.progress_laws.specs.Wakes.{WorkWakesOrSleeps};
 
@@ -76,6 +77,13 @@ pub fn both_ways_complete()
 /// other may close, and so it is the other way round.
 pub fn both_ways_finish()
     ensures { BothWaysFinish }
+{}
+
+/// The same where one of them or both know a window of 0 (`BothShut`): each that does, and does not wait for an
+/// acknowledgement, asks for one with its keep-alive or its probe, and hears the answer. Then both streams come to their
+/// end.
+pub fn shut_windows_open()
+    ensures { ShutWindowsOpen }
 {}
 
 /// `send_slice` of any bytes on either side keeps them in step, with as many bytes of each stream taken as before.
