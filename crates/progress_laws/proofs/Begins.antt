@@ -1,17 +1,20 @@
 -- How a dispatch begins once the timer is over, and what comes out of it.
-use Rattle.std.proofs.Common.{◌≡◌, ℕ, zero, suc, ◌+◌, ◌<◌, ◌⊎◌, inl, inr, Bool, true, false, true≢false, ◌&&◌, refl, sym, ap, subst, ◌∙◌, List, length, Option, Some, None, arith}
+use Rattle.std.proofs.Common.{◌≡◌, ℕ, zero, suc, ◌+◌, ◌<◌, ◌≤◌, ◌^◌, ◌⊎◌, inl, inr, Bool, true, false, true≢false, ◌&&◌, refl, sym, ap, subst, ◌∙◌, List, length, Option, Some, None, arith}
 use Rattle.std.specs.Prelude.{if◌then◌else◌, ◌==◌, option_map}
 use Rattle.std.proofs.lemmas.Bool.{eq-eqb, eqb-true}
-use Rattle.std.proofs.lemmas.Option.{none-some}
+use Rattle.std.proofs.lemmas.Option.{none-some, same_Some}
 use Rattle.net_base.specs.declared.time.Duration.{Duration}
 use Rattle.net_base.specs.declared.time.Instant.{Instant}
+use Rattle.ip_wire.specs.declared.repr.IpRepr.{IpRepr}
 use Rattle.control_wire.specs.Segment.{Segment, control_len, is_empty_segment, is_plain, segment_len}
+use Rattle.control_wire.specs.declared.seq_number.TcpSeqNumber.{TcpSeqNumber}
 use Rattle.control_wire.specs.declared.tcp.TcpControl.{TcpControl}
 use Rattle.control_wire.specs.declared.tcp.TcpControl.TheVariants as control
 use Rattle.sock_core.specs.Facts.{Facts}
 use Rattle.sock_tcp.specs.Begin.{Begun, last_ts_set, last_ts_set_at, told_ready, readied, retransmission_begun, fast_retransmission_marked, after_timer, after_timers, is_paused, begun, begun_to, unless_paused, nothing_due, by_due, before_emit, before_emit_to}
 use Rattle.sock_tcp.specs.Content.{Sending, carries_data, content, data_control, emission_kind, filled, offset_of, plain_segment, sent_as, with_data}
 use Rattle.sock_tcp.specs.Due.{is_closing, is_due}
+use Rattle.sock_tcp.specs.Process.{Outcome, processed}
 use Rattle.sock_tcp.specs.Polls.{is_reached, timeout_poll}
 use Rattle.sock_tcp.specs.Timers.{idle_from, is_close_over, is_over}
 use Rattle.sock_tcp.specs.View.{View, moment_of}
@@ -21,7 +24,7 @@ use Rattle.sock_tcp.specs.declared.timer.Timer.{Timer}
 use Rattle.sock_tcp.specs.declared.timer.Timer.TheVariants as timer
 use Rattle.sock_tcp.specs.declared.tuple.Tuple.{Tuple}
 use Rattle.tcp_laws.specs.Polling.{IsReached}
-use Rattle.tcp_laws.specs.SocketRun.{Counts, Dispatch, Ends, Run, SendsTo, Step, Then, is_reset, starting_if}
+use Rattle.tcp_laws.specs.SocketRun.{Counts, Dispatch, Ends, IsNumbered, Process, Run, SendsTo, Step, Then, after_segment, is_reset, starting_if}
 use Rattle.progress_laws.specs.Speech.{DispatchesOk, GoesOn, SendsOk, SendsOkTo}
 
 -- ---- tests
@@ -57,6 +60,13 @@ any_ok (Some t) f stamps u out w h = record { stamp = h.stamp; told = h.told; by
 pub dispatch_reached : (f : Facts) (stamps : Bool) (v : View) (out : Option Sending) (w : View) → IsReached v → DispatchesOk f stamps v out w → IsReached w
 dispatch_reached f stamps v out w r h = step_reached v w (starting_if (is_reset v f stamps) w r.counts) r (Dispatch f stamps out (any_ok (before_emit v f stamps).peer f stamps (before_emit v f stamps).view out w h) refl)
 
+-- a segment that comes
+pub numbered_as : (g : Segment) (k : TcpSeqNumber) → g.ack_number ≡ Some k → g.seq_number.0 < 2 ^ 32 → k.0 < 2 ^ 32 → IsNumbered g
+numbered_as g k ack number small = record { seq_number = number; ack_number = λ m e. subst (λ (q : TcpSeqNumber). q.0 < 2 ^ 32) (same_Some k m (sym ack ∙ e)) small }
+
+pub segment_reached : (v w : View) (now : Instant) (word : ℕ) (ip : IpRepr) (g : Segment) (reply : Option Segment) → IsReached v → word < 2 ^ 32 → IsNumbered g → length g.payload ≤ 65535 → (v.state ≡ state.Listen → g.ack_number ≡ None) → processed v now word ip g ≡ record { view = w; reply = reply } → IsReached w
+segment_reached v w now word ip g reply r small numbered short listens comes = step_reached v w (after_segment r.counts v w) r (Process now word ip g small numbered short listens (sym (ap (λ (o : Outcome). o.view) comes)) refl)
+
 -- ---- the beginning
 
 -- x has of v all that matters here
@@ -75,17 +85,19 @@ pub record Alike (v x : View) : Type 0 where
   pub scale : x.remote_win_scale ≡ v.remote_win_scale
   pub shift : x.remote_win_shift ≡ v.remote_win_shift
   pub last_ack : x.remote_last_ack ≡ v.remote_last_ack
+  pub last_win : x.remote_last_win ≡ v.remote_last_win
   pub marked : x.pending_fast_retransmit ≡ v.pending_fast_retransmit
   pub mss : x.remote_mss ≡ v.remote_mss
   pub delay : x.ack_delay_timer ≡ v.ack_delay_timer
+  pub paused : x.synack_paused ≡ v.synack_paused
 
 pub readied_alike : (v : View) (now : Instant) → Alike v (readied v now)
 unfolding readied last_ts_set
 readied_alike v now = go v.remote_last_ts
   where
     go : (o : Option Instant) → Alike v (told_ready (last_ts_set_at o v now) now)
-    go None = record { state = refl; peer = refl; timeout = refl; keep_alive = refl; timer = refl; una = refl; nxt = refl; tx = refl; rx = refl; rcv = refl; window = refl; scale = refl; shift = refl; last_ack = refl; marked = refl; mss = refl; delay = refl }
-    go (Some at) = record { state = refl; peer = refl; timeout = refl; keep_alive = refl; timer = refl; una = refl; nxt = refl; tx = refl; rx = refl; rcv = refl; window = refl; scale = refl; shift = refl; last_ack = refl; marked = refl; mss = refl; delay = refl }
+    go None = record { state = refl; peer = refl; timeout = refl; keep_alive = refl; timer = refl; una = refl; nxt = refl; tx = refl; rx = refl; rcv = refl; window = refl; scale = refl; shift = refl; last_ack = refl; last_win = refl; marked = refl; mss = refl; delay = refl; paused = refl }
+    go (Some at) = record { state = refl; peer = refl; timeout = refl; keep_alive = refl; timer = refl; una = refl; nxt = refl; tx = refl; rx = refl; rcv = refl; window = refl; scale = refl; shift = refl; last_ack = refl; last_win = refl; marked = refl; mss = refl; delay = refl; paused = refl }
 
 timer_state : (tm : Timer) (x : View) (now : Instant) → (after_timer tm x now).state ≡ x.state
 unfolding retransmission_begun fast_retransmission_marked
@@ -115,20 +127,24 @@ timer_no_end (timer.Idle at) x now is e = ap (λ t. is_close_over t now) is ∙ 
 timer_no_end (timer.ZeroWindowProbe at delay) x now is e = ap (λ t. is_close_over t now) is ∙ e
 timer_no_end (timer.Close at) x now is e = ap (λ t. is_close_over t now) is ∙ e
 
+timer_paused : (tm : Timer) (x : View) (now : Instant) → (after_timer tm x now).synack_paused ≡ x.synack_paused
+unfolding retransmission_begun fast_retransmission_marked
+timer_paused (timer.Retransmit at) x now = go (is_over at now)
+  where
+    go : (b : Bool) → (if b then retransmission_begun x now else x).synack_paused ≡ x.synack_paused
+    go true = refl
+    go false = refl
+timer_paused timer.FastRetransmit x now = refl
+timer_paused (timer.Idle at) x now = refl
+timer_paused (timer.ZeroWindowProbe at delay) x now = refl
+timer_paused (timer.Close at) x now = refl
+
 -- a SYN|ACK alone may be paused
-abbrev pub never_pauses : State → Bool
-never_pauses state.SynReceived = false
-never_pauses st = true
+pub carries_runs : (st : State) (b : Bool) → carries_data st ≡ true → is_paused st b ≡ false
+carries_runs state.SynReceived b c = absurd cc
+carries_runs _ b c = refl
 
-pub carries_runs : (st : State) → carries_data st ≡ true → never_pauses st ≡ true
-carries_runs state.SynReceived c = absurd cc
-carries_runs _ c = refl
-
-not_paused : (st : State) (b : Bool) → never_pauses st ≡ true → is_paused st b ≡ false
-not_paused state.SynReceived b c = absurd cc
-not_paused _ b c = refl
-
-module _ (v : View) (t : Tuple) (f : Facts) (stamps : Bool) (h : GoesOn v t f) (c : never_pauses v.state ≡ true) where
+module _ (v : View) (t : Tuple) (f : Facts) (stamps : Bool) (h : GoesOn v t f) (c : is_paused v.state v.synack_paused ≡ false) where
   abbrev now : Instant
   now = moment_of f
 
@@ -149,7 +165,7 @@ module _ (v : View) (t : Tuple) (f : Facts) (stamps : Bool) (h : GoesOn v t f) (
       alive = ap (λ d. is_reached (timeout_poll d x.remote_last_ts) now) still.timeout ∙ h.alive
 
   goes_on : is_paused beginning.state beginning.synack_paused ≡ false
-  goes_on = not_paused beginning.state beginning.synack_paused (ap never_pauses (timer_state v.timer x now ∙ still.state) ∙ c)
+  goes_on = (λ i. is_paused ((timer_state v.timer x now ∙ still.state) i) ((timer_paused v.timer x now ∙ still.paused) i)) ∙ c
 
   not_waiting : (y : View) → is_paused y.state y.synack_paused ≡ false → unless_paused y t ≡ record { view = y; peer = Some t }
   not_waiting y e = rw e refl

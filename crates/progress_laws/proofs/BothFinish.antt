@@ -33,7 +33,7 @@ use Rattle.progress_laws.specs.BothWays.{BothComplete, BothFinish, BothInStep, B
 use Rattle.progress_laws.specs.InStep.{told}
 use Rattle.progress_laws.proofs.Arrives.{CountsIt, Faces, fin_counts, fin_row, is_synchronized}
 use Rattle.progress_laws.proofs.Begins.{dispatch_reached, step_reached}
-use Rattle.progress_laws.proofs.Both.{open_rests, room_small, told_some, wide_so}
+use Rattle.progress_laws.proofs.Sides.{open_rests, room_small, told_some, wide_so}
 use Rattle.progress_laws.proofs.BothRounds.{both_ways_complete, nothing_out}
 use Rattle.progress_laws.proofs.Closes.{SaysFin, closed_rests, closer_of, finished, says_fin}
 use Rattle.progress_laws.proofs.Edges.{is_not_before, later_all}

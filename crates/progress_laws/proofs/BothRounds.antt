@@ -17,7 +17,8 @@ use Rattle.tcp_laws.proofs.OrderedCalls.{reached_ordered}
 use Rattle.progress_laws.specs.BothWays.{BothComplete, BothInStep, BothWaysComplete, NextTurn, NoTurn, OfThat, OfThis, Turns}
 use Rattle.progress_laws.specs.InStep.{ForAnswer, ForKeepAlive, ForNothing, ForProbe, Moves, NoMove, OneMore, Rests}
 use Rattle.progress_laws.proofs.Begins.{some_or_none}
-use Rattle.progress_laws.proofs.Both.{Further, further, measure, told_some}
+use Rattle.progress_laws.proofs.Both.{Further, further, measure}
+use Rattle.progress_laws.proofs.Sides.{told_some}
 use Rattle.progress_laws.proofs.Edges.{same_seq}
 use Rattle.progress_laws.proofs.Probes.{no_window}
 use Rattle.progress_laws.proofs.Rounds.{joined, later_moment}
@@ -106,15 +107,15 @@ nothing_out d e t s v w i z = same_seq v.remote_last_seq (next_ack w) (omega (ar
 round_about : (d e : Option Duration) (t s : Tuple) (v w : View) (i : BothInStep d e t s v w) → length v.tx_buffer.bytes ≡ 0 → BothInStep e d s t w v
 round_about d e t s v w i z = record { here = i.across; across = i.here; over = i.back; back = i.over; in_reach = omega (arith, ap (λ (m : TcpSeqNumber). m.0) (nothing_out d e t s v w i z), told_some w i.across.room i.across.nothing_held i.across.room_at_least) }
 
-this_way : {f : Facts} (at end : Instant) (v w v' w' : View) (got got' back : List ℕ) → Moves f at v w got end v' w' got' → Turns f at v w got back end v' w' got' back
+pub this_way : {f : Facts} (at end : Instant) (v w v' w' : View) (got got' back : List ℕ) → Moves f at v w got end v' w' got' → Turns f at v w got back end v' w' got' back
 this_way at end v w v' w' got got' back (NoMove _ _ _ _) = NoTurn at v w got back
 this_way at end v w v' w' got got' back (OneMore _ now _ _ _ u x _ _ _ more _ l m a) = NextTurn at now end v w u x v' w' got back more back got' back l (OfThis m refl) (this_way now end u x v' w' more got' back a)
 
-that_way : {f : Facts} (at end : Instant) (w v w' v' : View) (back back' got : List ℕ) → Moves f at w v back end w' v' back' → Turns f at v w got back end v' w' got back'
+pub that_way : {f : Facts} (at end : Instant) (w v w' v' : View) (back back' got : List ℕ) → Moves f at w v back end w' v' back' → Turns f at v w got back end v' w' got back'
 that_way at end w v w' v' back back' got (NoMove _ _ _ _) = NoTurn at v w got back
 that_way at end w v w' v' back back' got (OneMore _ now _ _ _ u x _ _ _ more _ l m a) = NextTurn at now end v w x u v' w' got back got more got back' l (OfThat m refl) (that_way now end u x w' v' more back' got a)
 
-turns_then : {f : Facts} (at mid end : Instant) (v w v1 w1 v2 w2 : View) (got back got1 back1 got2 back2 : List ℕ) → Turns f at v w got back mid v1 w1 got1 back1 → Turns f mid v1 w1 got1 back1 end v2 w2 got2 back2 → Turns f at v w got back end v2 w2 got2 back2
+pub turns_then : {f : Facts} (at mid end : Instant) (v w v1 w1 v2 w2 : View) (got back got1 back1 got2 back2 : List ℕ) → Turns f at v w got back mid v1 w1 got1 back1 → Turns f mid v1 w1 got1 back1 end v2 w2 got2 back2 → Turns f at v w got back end v2 w2 got2 back2
 turns_then at mid end v w v1 w1 v2 w2 got back got1 back1 got2 back2 (NoTurn _ _ _ _ _) b = b
 turns_then at mid end v w v1 w1 v2 w2 got back got1 back1 got2 back2 (NextTurn _ now _ _ _ u x _ _ _ _ more less _ _ l m a) b = NextTurn at now end v w u x v2 w2 got back more less got2 back2 l m (turns_then now mid end u x v1 w1 v2 w2 more less got1 back1 got2 back2 a b)
 

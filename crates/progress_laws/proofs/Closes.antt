@@ -13,6 +13,7 @@ use Rattle.control_wire.specs.declared.tcp.TcpControl.TheVariants as control
 use Rattle.sock_core.specs.Facts.{Facts}
 use Rattle.sock_core.specs.Received.{Received}
 use Rattle.sock_tcp.proofs.Lending.{lent_at_most}
+use Rattle.sock_tcp.specs.Begin.{is_paused}
 use Rattle.sock_tcp.specs.Closing.{closed}
 use Rattle.sock_tcp.specs.Content.{Sending, asked, carries_data, emission_kind, offset_of, plain_segment, sent_as}
 use Rattle.sock_tcp.specs.Due.{data_due, effective_mss, flight, is_closing, is_due, is_held_back, is_opening, sendable, window_field}
@@ -32,7 +33,7 @@ use Rattle.tcp_laws.proofs.OrderedCalls.{reached_ordered}
 use Rattle.progress_laws.specs.AfterClose.{IsCloser}
 use Rattle.progress_laws.specs.InStep.{Completes, Finishes, ForAnswer, ForKeepAlive, ForNothing, ForProbe, IsReceiver, IsSender, OneWayFinishes, Rests, told}
 use Rattle.progress_laws.specs.Speech.{DispatchesOk, GoesOn, SendsOk}
-use Rattle.progress_laws.proofs.Begins.{carries_runs, content_is, never_pauses, segment_for, sends_so, step_reached}
+use Rattle.progress_laws.proofs.Begins.{carries_runs, content_is, segment_for, sends_so, step_reached}
 use Rattle.progress_laws.proofs.Rounds.{later_moment, one_way_completes}
 use Rattle.progress_laws.proofs.Says.{no_probe}
 use Rattle.progress_laws.proofs.Arrives.{CountsIt, Faces, fin_counts, receives_so}
@@ -85,8 +86,8 @@ module _ (d : Option Duration) (t : Tuple) (c : View) (f : Facts) (now : Instant
   waits : is_closing c.state ≡ true
   waits = s.state
 
-  carries : never_pauses c.state ≡ true
-  carries = carries_runs c.state (closing_carries c.state waits)
+  carries : is_paused c.state c.synack_paused ≡ false
+  carries = carries_runs c.state c.synack_paused (closing_carries c.state waits)
 
   start : Begins t f c now
   start = begins t f c now s.reached s.no_timeout s.rests (no_probe_left c s.rests none_left) over

@@ -39,7 +39,8 @@ use Rattle.progress_laws.specs.InStep.{Carries, ForAnswer, IsAnswered, Moves, No
 use Rattle.progress_laws.proofs.Answered.{acked, heard_answer}
 use Rattle.progress_laws.proofs.Arrives.{CountsIt, Faces, away, fin_counts, receives_so}
 use Rattle.progress_laws.proofs.Begins.{some_or_none, step_reached}
-use Rattle.progress_laws.proofs.Both.{measure, room_small, told_alike, told_some, wide_so, width_told}
+use Rattle.progress_laws.proofs.Both.{measure}
+use Rattle.progress_laws.proofs.Sides.{room_small, told_alike, told_some, wide_so, width_told}
 use Rattle.progress_laws.proofs.Closes.{SaysFin, finished}
 use Rattle.progress_laws.proofs.ClosingSays.{SaysOn}
 use Rattle.progress_laws.proofs.Edges.{empty_inside_so, later_all, reach_inside, same_seq}

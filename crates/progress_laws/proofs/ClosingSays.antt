@@ -11,6 +11,7 @@ use Rattle.control_wire.specs.declared.tcp.TcpControl.TheVariants as control
 use Rattle.sock_core.specs.Bounds.{IsMtu}
 use Rattle.sock_core.specs.Facts.{Facts}
 use Rattle.sock_tcp.proofs.Lending.{lent_at_most, lent_beginning}
+use Rattle.sock_tcp.specs.Begin.{is_paused}
 use Rattle.sock_tcp.specs.Content.{Sending, asked, carries_data, data_control, emission_kind, is_probing, offset_of, plain_segment, sent_as, window_left}
 use Rattle.sock_tcp.specs.Due.{congestion_left, effective_mss, flight, is_closed, is_closing, is_due, window_field}
 use Rattle.sock_tcp.specs.Queue.{IsLent, Queue}
@@ -26,7 +27,7 @@ use Rattle.tcp_laws.proofs.Sleeping.{window_sends}
 use Rattle.progress_laws.specs.AfterClose.{IsCloser}
 use Rattle.progress_laws.specs.InStep.{ForAnswer, told}
 use Rattle.progress_laws.specs.Speech.{DispatchesOk, GoesOn, SendsOk}
-use Rattle.progress_laws.proofs.Begins.{and_no, carries_runs, content_is, dispatch_reached, never_pauses, not_zero, segment_for, sends_so}
+use Rattle.progress_laws.proofs.Begins.{and_no, carries_runs, content_is, dispatch_reached, not_zero, segment_for, sends_so}
 use Rattle.progress_laws.proofs.Hears.{IsData}
 use Rattle.progress_laws.proofs.Lends.{lent_some, mss_some}
 use Rattle.progress_laws.proofs.Says.{no_probe}
@@ -66,8 +67,8 @@ module _ (d : Option Duration) (t : Tuple) (v : View) (f : Facts) (now : Instant
   abbrev fa : Facts
   fa = told f now
 
-  runs : never_pauses v.state ≡ true
-  runs = carries_runs v.state (closing_carries v.state s.state)
+  runs : is_paused v.state v.synack_paused ≡ false
+  runs = carries_runs v.state v.synack_paused (closing_carries v.state s.state)
 
   start : Begins t f v now
   start = begins t f v now s.reached s.no_timeout s.rests other over

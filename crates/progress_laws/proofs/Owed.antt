@@ -16,7 +16,7 @@ use Rattle.sock_core.specs.Received.{Received}
 use Rattle.sock_core.specs.Seq.{is_before, later_of}
 use Rattle.sock_core.specs.declared.context.PollAt.TheVariants as poll
 use Rattle.sock_tcp.proofs.Lending.{lent_at_most}
-use Rattle.sock_tcp.specs.Begin.{after_timer, readied}
+use Rattle.sock_tcp.specs.Begin.{after_timer, is_paused, readied}
 use Rattle.sock_tcp.specs.Content.{Sending, asked, carries_data, content, emission_kind, is_probing, offset_of, plain_segment, sent_as}
 use Rattle.sock_tcp.specs.Due.{ack_due, ack_poll, data_due, is_ack_after, is_closed, is_due, window_doubled, window_field}
 use Rattle.sock_tcp.specs.Polls.{delay_poll, is_reached}
@@ -31,11 +31,11 @@ use Rattle.sock_tcp.specs.declared.timer.Timer.TheVariants as timer
 use Rattle.sock_tcp.specs.declared.tuple.Tuple.{Tuple}
 use Rattle.progress_laws.specs.InStep.{takes_bytes, told}
 use Rattle.progress_laws.specs.Speech.{DispatchesOk, GoesOn, SendsOk}
-use Rattle.progress_laws.proofs.Begins.{Alike, readied_alike, beginning, content_is, content_waiting, never_pauses, segment_for, sends_so}
+use Rattle.progress_laws.proofs.Begins.{Alike, readied_alike, beginning, content_is, content_waiting, segment_for, sends_so}
 use Rattle.progress_laws.proofs.Edges.{is_earlier, is_not_before, later_stays}
 use Rattle.progress_laws.proofs.Hears.{idle_is, idle_moment}
 use Rattle.progress_laws.proofs.Says.{keep_alive_due, no_probe}
-use Rattle.progress_laws.proofs.Sends.{kept_ack, kept_delay, kept_nxt, kept_sent, kept_timer, left, plain_ack, plain_nxt, plain_sent, plain_timer, plain_window, segment_ack, segment_bit, segment_length, segment_number, segment_window, without_bytes}
+use Rattle.progress_laws.proofs.Sends.{kept_delay, kept_nxt, kept_sent, kept_timer, kept_untold, left, plain_ack, plain_nxt, plain_sent, plain_timer, plain_window, segment_ack, segment_bit, segment_length, segment_number, segment_window, without_bytes}
 use Rattle.progress_laws.proofs.States.{flat_on, flat_open, is_flat, takes_flat, takes_runs}
 use Rattle.progress_laws.proofs.Taking.{blank}
 use Rattle.progress_laws.proofs.Receives.{Owes, Tells, told_window, unit, unit_some}
@@ -49,6 +49,15 @@ not_yet now d h = go (is_over (moment_after now d) now) refl
     go true e = absurd (grind (arith, ints, e, h))
     go false e = refl
 
+-- what an acknowledgement leaves alone
+pub record Kept (y w : View) : Type 0 where
+  pub state : w.state ≡ y.state
+  pub keep_alive : w.keep_alive ≡ y.keep_alive
+  pub window : w.remote_win_len ≡ y.remote_win_len
+  pub scale : w.remote_win_scale ≡ y.remote_win_scale
+  pub tx : w.tx_buffer ≡ y.tx_buffer
+  pub rx : w.rx_buffer ≡ y.rx_buffer
+
 module _ (s : Tuple) (w : View) (room n : ℕ) (y : View) (f : Facts) (now : Instant) (address : f.has_address s.local.addr ≡ true) (o : Owes s w room n y) where
   abbrev fa : Facts
   fa = told f now
@@ -56,8 +65,8 @@ module _ (s : Tuple) (w : View) (room n : ℕ) (y : View) (f : Facts) (now : Ins
   on : GoesOn y s fa
   on = record { peer = o.peer; address = address; alive = rw o.no_timeout refl; no_end = rw o.timer refl }
 
-  carries : never_pauses y.state ≡ true
-  carries = takes_runs y.state o.state
+  carries : is_paused y.state y.synack_paused ≡ false
+  carries = takes_runs y.state y.synack_paused o.state
 
   abbrev u : View
   u = readied y now
@@ -169,7 +178,7 @@ module _ (s : Tuple) (w : View) (room n : ℕ) (y : View) (f : Facts) (now : Ins
           shift = l.shift ∙ al.shift ∙ o.shift;
           last = o.last;
           last_small = o.last_small;
-          last_ack = kept_ack u s now b opens ∙ al.last_ack ∙ o.last_ack;
+          last_ack = (kept_untold u s now b opens).last_ack ∙ al.last_ack ∙ o.last_ack;
           near = o.near;
           next = ap (λ (k : TcpSeqNumber). k.0) ((λ i. seq_add (l.rcv i) (length ((l.rx i).bytes))) ∙ next) ∙ o.next;
         }
@@ -233,8 +242,11 @@ module _ (s : Tuple) (w : View) (room n : ℕ) (y : View) (f : Facts) (now : Ins
         wide : length u.rx_buffer.held ≡ room
         wide = ap (λ (q : Received). length q.held) al.rx ∙ ap (λ (l : List (Option ℕ)). length l) o.nothing_held ∙ length-replicate room None
 
-    pub state_is : after.state ≡ y.state
-    state_is = (plain_sent u s now b opens).state ∙ al.state
+    pub kept_then : Kept y after
+    kept_then = let l = plain_sent u s now b opens in record { state = l.state ∙ al.state; keep_alive = l.keep_alive ∙ al.keep_alive; window = l.window ∙ al.window; scale = l.scale ∙ al.scale; tx = l.tx ∙ al.tx; rx = l.rx ∙ al.rx }
+
+    pub field_is : out_of.segment.window_len ≡ min (room / 2 ^ w.remote_win_shift) 65535
+    field_is = segment_window u s None bytes sends nothing_marked ∙ field
 
     pub next_is : next_ack after ≡ next_ack y
     next_is = let l = plain_sent u s now b opens in (λ i. seq_add (l.rcv i) (length ((l.rx i).bytes))) ∙ next
@@ -246,7 +258,7 @@ module _ (s : Tuple) (w : View) (room n : ℕ) (y : View) (f : Facts) (now : Ins
         let shift : after.remote_win_shift ≡ w.remote_win_shift = l.shift ∙ al.shift ∙ o.shift in
         let ack : after.remote_last_ack ≡ Some (next_ack after) = plain_ack u s now b opens ∙ segment_ack u s None bytes sends nothing_marked ∙ ap Some (sym rcv) in
         let held : after.rx_buffer.held ≡ blank room = ap (λ (q : Received). q.held) (l.rx ∙ al.rx) ∙ o.nothing_held in
-        let told_field : b.window_len ≡ min (room / 2 ^ w.remote_win_shift) 65535 = segment_window u s None bytes sends nothing_marked ∙ field in
+        let told_field : b.window_len ≡ min (room / 2 ^ w.remote_win_shift) 65535 = field_is in
         record {
           receiver = record {
             state = ap takes_bytes l.state ∙ takes_on;

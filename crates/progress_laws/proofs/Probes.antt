@@ -1,5 +1,5 @@
 -- What a sender says that probes for a window, with nothing in flight.
-use Rattle.std.proofs.Common.{◌≡◌, ℕ, inr, ◌^◌, ◌<◌, ◌≤◌, true, false, not, ◌&&◌, refl, sym, ap, subst, ◌∙◌, List, length, take, drop, min, Option, Some, None, arith}
+use Rattle.std.proofs.Common.{◌≡◌, ℕ, inr, ◌/◌, ◌^◌, ◌<◌, ◌≤◌, true, false, not, ◌&&◌, refl, sym, ap, subst, ◌∙◌, List, length, take, drop, min, Option, Some, None, arith}
 use Rattle.std.proofs.lemmas.Bool.{eq-eqb}
 use Rattle.net_base.specs.Ring.{in_one_piece}
 use Rattle.net_base.specs.declared.time.Duration.{Duration}
@@ -9,12 +9,12 @@ use Rattle.control_wire.specs.Seq.{seq_add, seq_sub}
 use Rattle.sock_core.specs.Bounds.{IsMtu}
 use Rattle.sock_core.specs.Facts.{Facts}
 use Rattle.sock_tcp.proofs.Lending.{lent_beginning}
-use Rattle.sock_tcp.specs.Begin.{after_timer, readied}
+use Rattle.sock_tcp.specs.Begin.{after_timer, is_paused, readied}
 use Rattle.sock_tcp.specs.Content.{asked, carries_data, emission_kind, is_probing, offset_of, sent_as, window_left}
-use Rattle.sock_tcp.specs.Due.{flight, is_closed, is_due}
+use Rattle.sock_tcp.specs.Due.{flight, is_closed, is_due, window_field}
 use Rattle.sock_tcp.specs.Queue.{Queue}
 use Rattle.sock_tcp.specs.Queues.{may_send}
-use Rattle.sock_tcp.specs.Timers.{is_over, is_probe_over, keep_alive_renewed, probe_doubled}
+use Rattle.sock_tcp.specs.Timers.{after as moment_after, is_over, is_probe_over, keep_alive_renewed, probe_doubled, twice}
 use Rattle.sock_tcp.specs.View.{View}
 use Rattle.sock_tcp.specs.declared.emission.Kind.TheVariants as kind
 use Rattle.sock_tcp.specs.declared.timer.Timer.TheVariants as timer
@@ -24,12 +24,12 @@ use Rattle.tcp_laws.proofs.OrderedCalls.{reached_ordered, readied_ordered}
 use Rattle.tcp_laws.proofs.Probing.{ProbesIn, reached_probing}
 use Rattle.progress_laws.specs.InStep.{IsSender, told}
 use Rattle.progress_laws.specs.Speech.{DispatchesOk, GoesOn, SendsOk}
-use Rattle.progress_laws.proofs.Begins.{Alike, readied_alike, beginning, carries_runs, content_is, dispatch_reached, never_pauses, segment_for, sends_so}
+use Rattle.progress_laws.proofs.Begins.{Alike, readied_alike, beginning, carries_runs, content_is, dispatch_reached, segment_for, sends_so}
 use Rattle.progress_laws.proofs.Edges.{same_seq}
 use Rattle.progress_laws.proofs.Hears.{IsOpenTimer}
 use Rattle.progress_laws.proofs.Lends.{probe_byte}
 use Rattle.progress_laws.proofs.Says.{probe_due}
-use Rattle.progress_laws.proofs.Sends.{left, segment_ack, segment_bit, segment_number, probe_nxt, probe_sent, probe_timer}
+use Rattle.progress_laws.proofs.Sends.{Untold, left, segment_ack, segment_bit, segment_number, segment_window, probe_nxt, probe_sent, probe_timer, probe_untold}
 use Rattle.progress_laws.proofs.Speaks.{SpeaksBytes}
 use Rattle.progress_laws.proofs.States.{flat_open, is_flat, sends_data, sends_flat}
 
@@ -40,8 +40,8 @@ module _ (d : Option Duration) (t : Tuple) (v : View) (f : Facts) (now at : Inst
   probe_on : GoesOn v t (told f now)
   probe_on = record { peer = s.peer; address = address; alive = rw s.no_timeout refl; no_end = rw probes refl }
 
-  probe_carries : never_pauses v.state ≡ true
-  probe_carries = carries_runs v.state (sends_data v.state s.state)
+  probe_carries : is_paused v.state v.synack_paused ≡ false
+  probe_carries = carries_runs v.state v.synack_paused (sends_data v.state s.state)
 
   abbrev p : View
   p = readied v now
@@ -143,3 +143,25 @@ module _ (d : Option Duration) (t : Tuple) (v : View) (f : Facts) (now at : Inst
   pub probe_one : length says_probe.out.segment.payload ≡ 1
   unfolding says_probe
   probe_one = one_byte
+
+  -- it tells the own window, which does not count as told
+  pub probe_field : says_probe.out.segment.window_len ≡ window_field v
+  unfolding says_probe
+  probe_field = segment_window p t None probe_bytes probe_sends unmarked ∙ (λ i. min (length ((al.rx i).held) / 2 ^ al.shift i) 65535)
+
+  pub probe_shift : says_probe.after.remote_win_shift ≡ v.remote_win_shift
+  unfolding says_probe
+  probe_shift = (probe_sent p t now probe probe_opens).shift ∙ al.shift
+
+  pub probe_window_known : says_probe.after.remote_win_len ≡ v.remote_win_len
+  unfolding says_probe
+  probe_window_known = (probe_sent p t now probe probe_opens).window ∙ al.window
+
+  pub probe_tells_nothing : Untold v says_probe.after
+  unfolding says_probe
+  probe_tells_nothing = let k = probe_untold p t now probe probe_opens in record { last_ack = k.last_ack ∙ al.last_ack; last_win = k.last_win ∙ al.last_win }
+
+  -- and it probes again
+  pub probe_again : says_probe.after.timer ≡ timer.ZeroWindowProbe (moment_after now (twice delay)) (twice delay)
+  unfolding says_probe
+  probe_again = probe_timer p t now probe probe_opens ∙ ap (λ tm. probe_doubled (keep_alive_renewed tm now p.keep_alive) now) (al.timer ∙ probes)

@@ -218,7 +218,7 @@ module _ (d : Duration) (t : Tuple) where
 
   -- a keep-alive, or the first segment behind SND.UNA
   front_says : (n : ℕ) (v : View) (at : Instant) → HasToSay d v → v.timer ≡ timer.Idle (Some at) → AtFront v → SpeaksWithin (suc n) v t
-  front_says n v at s is front f stamps out w lawful h k = inl (by (goes v t f stamps h.on (carries_runs v.state s.carries) out w k))
+  front_says n v at s is front f stamps out w lawful h k = inl (by (goes v t f stamps h.on (carries_runs v.state v.synack_paused s.carries) out w k))
     where
       u : View
       u = readied v (moment_of f)
@@ -226,7 +226,7 @@ module _ (d : Duration) (t : Tuple) where
       still : Alike v u
       still = readied_alike v (moment_of f)
 
-      u_is : beginning v t f stamps h.on (carries_runs v.state s.carries) ≡ u
+      u_is : beginning v t f stamps h.on (carries_runs v.state v.synack_paused s.carries) ≡ u
       u_is = ap (λ tm. after_timer tm u (moment_of f)) is
 
       timed : u.timer ≡ timer.Idle (Some at)
@@ -254,14 +254,14 @@ module _ (d : Duration) (t : Tuple) where
         ]
       ]
 
-      by : Goes v t f stamps h.on (carries_runs v.state s.carries) out w → Says v out
+      by : Goes v t f stamps h.on (carries_runs v.state v.synack_paused s.carries) out w → Says v out
       by (inl o) = sends (subst (λ x. SendsOk f t stamps x out w) u_is o.0)
       by (inr o) = absurd (true≢false (sym (keep_alive_due u t f stamps over) ∙ ap (λ x. is_due x t f stamps) (sym u_is) ∙ o.1))
 
   -- the retransmission timer: all is sent again from SND.UNA on, or a keep-alive comes next
   again_says : (n : ℕ) (v : View) (at : Instant) → HasToSay d v → v.timer ≡ timer.Retransmit at → SpeaksWithin (suc (suc n)) v t
   unfolding retransmission_begun snd_nxt_moved after_any plain_segment
-  again_says n v at s is f stamps out w lawful h k = by (goes v t f stamps h.on (carries_runs v.state s.carries) out w k)
+  again_says n v at s is f stamps out w lawful h k = by (goes v t f stamps h.on (carries_runs v.state v.synack_paused s.carries) out w k)
     where
       x : View
       x = readied v (moment_of f)
@@ -275,7 +275,7 @@ module _ (d : Duration) (t : Tuple) where
       over : is_over at (moment_of f) ≡ true
       over = subst (λ tm. is_reached (timer_poll tm) (moment_of f) ≡ true) is h.over
 
-      u_is : beginning v t f stamps h.on (carries_runs v.state s.carries) ≡ u
+      u_is : beginning v t f stamps h.on (carries_runs v.state v.synack_paused s.carries) ≡ u
       u_is = ap (λ tm. after_timer tm x (moment_of f)) is ∙ ap (λ c. if c then u else x) over
 
       kept : u.timer ≡ timer.Idle (Some (after (moment_of f) d))
@@ -311,13 +311,13 @@ module _ (d : Duration) (t : Tuple) where
         | inr q ↦ inr (acked o q.0 q.1)
       ]
 
-      by : Goes v t f stamps h.on (carries_runs v.state s.carries) out w → Says v out ⊎ SpeaksWithin (suc n) w t
+      by : Goes v t f stamps h.on (carries_runs v.state v.synack_paused s.carries) out w → Says v out ⊎ SpeaksWithin (suc n) w t
       by (inl o) = sends (subst (λ y. SendsOk f t stamps y out w) u_is o.0)
       by (inr o) = inr (quiet (o.0 ∙ u_is))
 
   -- between: a keep-alive, or what lies behind the bytes in flight, which is waited for then
   idle_says : (n : ℕ) (v : View) (at : Instant) → HasToSay d v → v.timer ≡ timer.Idle (Some at) → SpeaksWithin (suc (suc (suc n))) v t
-  idle_says n v at s is f stamps out w lawful h k = by (goes v t f stamps h.on (carries_runs v.state s.carries) out w k)
+  idle_says n v at s is f stamps out w lawful h k = by (goes v t f stamps h.on (carries_runs v.state v.synack_paused s.carries) out w k)
     where
       u : View
       u = readied v (moment_of f)
@@ -325,7 +325,7 @@ module _ (d : Duration) (t : Tuple) where
       still : Alike v u
       still = readied_alike v (moment_of f)
 
-      u_is : beginning v t f stamps h.on (carries_runs v.state s.carries) ≡ u
+      u_is : beginning v t f stamps h.on (carries_runs v.state v.synack_paused s.carries) ≡ u
       u_is = ap (λ tm. after_timer tm u (moment_of f)) is
 
       idle : u.timer ≡ timer.Idle (Some at)
@@ -346,14 +346,14 @@ module _ (d : Duration) (t : Tuple) where
         | inr q ↦ inr (again_says n w (after (moment_of f) (rto_of u.rtte)) (plain_says f stamps v u out w s k o still.state still.tx still.keep_alive q.0) (ap (λ (z : View). z.timer) (left_plain f stamps v u out w s k o still.state still.tx still.keep_alive q.0) ∙ timed u t (moment_of f) (segment_for u t o.stamp o.bytes) q.1 ∙ ap (λ tm. retransmit_unless_set tm (moment_of f) u.rtte) waited_for))
       ]
 
-      by : Goes v t f stamps h.on (carries_runs v.state s.carries) out w → Says v out ⊎ SpeaksWithin (suc (suc n)) w t
+      by : Goes v t f stamps h.on (carries_runs v.state v.synack_paused s.carries) out w → Says v out ⊎ SpeaksWithin (suc (suc n)) w t
       by (inl o) = sends (subst (λ x. SendsOk f t stamps x out w) u_is o.0)
       by (inr o) = absurd (true≢false (sym (keep_alive_due u t f stamps over) ∙ ap (λ x. is_due x t f stamps) (sym u_is) ∙ o.1))
 
   -- a fast retransmission stands at SND.UNA, or its mark is left for the next segment
   fast_says : (n : ℕ) (v : View) → HasToSay d v → v.timer ≡ timer.FastRetransmit → SpeaksWithin (suc (suc n)) v t
   unfolding fast_retransmission_marked
-  fast_says n v s is f stamps out w lawful h k = by (goes v t f stamps h.on (carries_runs v.state s.carries) out w k)
+  fast_says n v s is f stamps out w lawful h k = by (goes v t f stamps h.on (carries_runs v.state v.synack_paused s.carries) out w k)
     where
       x : View
       x = readied v (moment_of f)
@@ -364,7 +364,7 @@ module _ (d : Duration) (t : Tuple) where
       u : View
       u = fast_retransmission_marked x (moment_of f)
 
-      u_is : beginning v t f stamps h.on (carries_runs v.state s.carries) ≡ u
+      u_is : beginning v t f stamps h.on (carries_runs v.state v.synack_paused s.carries) ≡ u
       u_is = ap (λ tm. after_timer tm x (moment_of f)) is
 
       no_probing : is_probing u (moment_of f) ≡ false
@@ -379,13 +379,13 @@ module _ (d : Duration) (t : Tuple) where
         | inr q ↦ let some = marked_some u t f o.stamp o.bytes lawful.1.0 i.mss (ap carries_data still.state ∙ s.carries) o.lent refl (waits f stamps v u out w s k o still.state still.tx still.keep_alive) in absurd (omega (arith, some, q.1))
       ]
 
-      by : Goes v t f stamps h.on (carries_runs v.state s.carries) out w → Says v out ⊎ SpeaksWithin (suc n) w t
+      by : Goes v t f stamps h.on (carries_runs v.state v.synack_paused s.carries) out w → Says v out ⊎ SpeaksWithin (suc n) w t
       by (inl o) = inl (sends (subst (λ y. SendsOk f t stamps y out w) u_is o.0) (subst IsProbing (o.1 ∙ u_is) (before_probing f stamps v (reached_probing v s.reached))))
       by (inr o) = inr (quiet (o.0 ∙ u_is))
 
   -- a probe, or a fast retransmission in its place
   probe_says : (n : ℕ) (v : View) (at : Instant) (delay : Duration) → HasToSay d v → v.timer ≡ timer.ZeroWindowProbe at delay → SpeaksWithin (suc n) v t
-  probe_says n v at delay s is f stamps out w lawful h k = inl (by (goes v t f stamps h.on (carries_runs v.state s.carries) out w k))
+  probe_says n v at delay s is f stamps out w lawful h k = inl (by (goes v t f stamps h.on (carries_runs v.state v.synack_paused s.carries) out w k))
     where
       u : View
       u = readied v (moment_of f)
@@ -393,7 +393,7 @@ module _ (d : Duration) (t : Tuple) where
       still : Alike v u
       still = readied_alike v (moment_of f)
 
-      u_is : beginning v t f stamps h.on (carries_runs v.state s.carries) ≡ u
+      u_is : beginning v t f stamps h.on (carries_runs v.state v.synack_paused s.carries) ≡ u
       u_is = ap (λ tm. after_timer tm u (moment_of f)) is
 
       probes : u.timer ≡ timer.ZeroWindowProbe at delay
@@ -427,7 +427,7 @@ module _ (d : Duration) (t : Tuple) where
               let b = segment_for u t o.stamp o.bytes in
               said f stamps v u out w s k o still.state still.tx still.keep_alive (as_kind v u t f o.stamp o.bytes still.una kind.Probe (rw probing refl) (probed o m (probe_byte u t f o.stamp o.bytes lawful.1.0 i.mss carries_on o.lent m probing)))
 
-      by : Goes v t f stamps h.on (carries_runs v.state s.carries) out w → Says v out
+      by : Goes v t f stamps h.on (carries_runs v.state v.synack_paused s.carries) out w → Says v out
       by (inl o) = sends (subst (λ y. SendsOk f t stamps y out w) u_is o.0) (subst IsProbing (o.1 ∙ u_is) (before_probing f stamps v (reached_probing v s.reached)))
       by (inr o) = absurd (true≢false (sym (probe_due u t f stamps over) ∙ ap (λ x. is_due x t f stamps) (sym u_is) ∙ o.1))
 

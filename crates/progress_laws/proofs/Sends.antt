@@ -40,6 +40,12 @@ pub record SentOf (u w : View) : Type 0 where
   pub scale : w.remote_win_scale ≡ u.remote_win_scale
   pub shift : w.remote_win_shift ≡ u.remote_win_shift
   pub marked : w.pending_fast_retransmit ≡ (u.pending_fast_retransmit && not (carries_data u.state))
+  pub paused : w.synack_paused ≡ u.synack_paused
+
+-- what was acknowledged and told last counts as before
+pub record Untold (u w : View) : Type 0 where
+  pub last_ack : w.remote_last_ack ≡ u.remote_last_ack
+  pub last_win : w.remote_last_win ≡ u.remote_last_win
 
 module _ (u : View) (p : Tuple) (now : Instant) (s : Segment) (not_closed : is_closed u.state ≡ false) where
   abbrev pub left : Kind → View
@@ -62,8 +68,8 @@ module _ (u : View) (p : Tuple) (now : Instant) (s : Segment) (not_closed : is_c
       peer = ap (λ b. if b then None else u.tuple) not_closed
 
       go : (z : Bool) → SentOf u (timed_if z)
-      go true = record { state = refl; peer = peer; timeout = refl; keep_alive = refl; una = refl; tx = refl; rx = refl; rcv = refl; window = refl; scale = refl; shift = refl; marked = refl }
-      go false = record { state = refl; peer = peer; timeout = refl; keep_alive = refl; una = refl; tx = refl; rx = refl; rcv = refl; window = refl; scale = refl; shift = refl; marked = refl }
+      go true = record { state = refl; peer = peer; timeout = refl; keep_alive = refl; una = refl; tx = refl; rx = refl; rcv = refl; window = refl; scale = refl; shift = refl; marked = refl; paused = refl }
+      go false = record { state = refl; peer = peer; timeout = refl; keep_alive = refl; una = refl; tx = refl; rx = refl; rcv = refl; window = refl; scale = refl; shift = refl; marked = refl; paused = refl }
 
   pub plain_nxt : (left kind.Plain).remote_last_seq ≡ later_of u.remote_last_seq (seq_add s.seq_number (segment_len s))
   unfolding after_sending sending_timed snd_nxt_moved after_any
@@ -104,7 +110,11 @@ module _ (u : View) (p : Tuple) (now : Instant) (s : Segment) (not_closed : is_c
 
   pub probe_sent : SentOf u (left kind.Probe)
   unfolding after_sending after_any after_probe
-  probe_sent = record { state = refl; peer = refl; timeout = refl; keep_alive = refl; una = refl; tx = refl; rx = refl; rcv = refl; window = refl; scale = refl; shift = refl; marked = refl }
+  probe_sent = record { state = refl; peer = refl; timeout = refl; keep_alive = refl; una = refl; tx = refl; rx = refl; rcv = refl; window = refl; scale = refl; shift = refl; marked = refl; paused = refl }
+
+  pub probe_untold : Untold u (left kind.Probe)
+  unfolding after_sending after_any after_probe
+  probe_untold = record { last_ack = refl; last_win = refl }
 
   pub probe_nxt : (left kind.Probe).remote_last_seq ≡ u.remote_last_seq
   unfolding after_sending after_any after_probe
@@ -116,15 +126,15 @@ module _ (u : View) (p : Tuple) (now : Instant) (s : Segment) (not_closed : is_c
 
   pub kept_sent : SentOf u (left kind.KeepAlive)
   unfolding after_sending after_any
-  kept_sent = record { state = refl; peer = refl; timeout = refl; keep_alive = refl; una = refl; tx = refl; rx = refl; rcv = refl; window = refl; scale = refl; shift = refl; marked = refl }
+  kept_sent = record { state = refl; peer = refl; timeout = refl; keep_alive = refl; una = refl; tx = refl; rx = refl; rcv = refl; window = refl; scale = refl; shift = refl; marked = refl; paused = refl }
 
   pub kept_nxt : (left kind.KeepAlive).remote_last_seq ≡ u.remote_last_seq
   unfolding after_sending after_any
   kept_nxt = refl
 
-  pub kept_ack : (left kind.KeepAlive).remote_last_ack ≡ u.remote_last_ack
+  pub kept_untold : Untold u (left kind.KeepAlive)
   unfolding after_sending after_any
-  kept_ack = refl
+  kept_untold = record { last_ack = refl; last_win = refl }
 
   pub kept_delay : (left kind.KeepAlive).ack_delay_timer ≡ ack_delay.Idle
   unfolding after_sending after_any

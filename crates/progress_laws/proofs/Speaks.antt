@@ -14,7 +14,7 @@ use Rattle.sock_core.specs.Seq.{later_of}
 use Rattle.sock_core.specs.declared.congestion.AnyController.{AnyController}
 use Rattle.sock_core.specs.declared.congestion.AnyController.TheVariants as controller
 use Rattle.sock_tcp.proofs.Lending.{lent_at_most, lent_beginning}
-use Rattle.sock_tcp.specs.Begin.{after_timer, after_timers, readied, retransmission_begun}
+use Rattle.sock_tcp.specs.Begin.{after_timer, after_timers, is_paused, readied, retransmission_begun}
 use Rattle.sock_tcp.specs.Content.{Sending, asked, carries_data, emission_kind, is_probing, offset_of, sent_as, window_left}
 use Rattle.sock_tcp.specs.Due.{congestion_left, data_due, effective_mss, flight, is_closed, is_due, window_field}
 use Rattle.sock_tcp.specs.Polls.{is_reached, timeout_poll}
@@ -35,13 +35,13 @@ use Rattle.tcp_laws.proofs.Sleeping.{window_sends}
 use Rattle.tcp_laws.proofs.Probing.{reached_probing}
 use Rattle.progress_laws.specs.InStep.{ForAnswer, ForKeepAlive, ForNothing, ForProbe, IsSender, Rests, told}
 use Rattle.progress_laws.specs.Speech.{DispatchesOk, GoesOn, SendsOk}
-use Rattle.progress_laws.proofs.Begins.{readied_alike, beginning, carries_runs, content_is, dispatch_reached, never_pauses, not_zero, quiet_so, segment_for, sends_so}
+use Rattle.progress_laws.proofs.Begins.{readied_alike, beginning, carries_runs, content_is, dispatch_reached, not_zero, quiet_so, segment_for, sends_so}
 use Rattle.progress_laws.proofs.Edges.{is_earlier, is_not_before, later_is, later_stays}
 use Rattle.progress_laws.proofs.Hears.{IsData, IsOpenTimer, idle_is, idle_moment}
 use Rattle.progress_laws.proofs.Lends.{lent_some, mss_some}
 use Rattle.progress_laws.proofs.Says.{keep_alive_due, no_probe}
 use Rattle.progress_laws.proofs.States.{flat_open, is_flat, row_moment, sends_data, sends_flat}
-use Rattle.progress_laws.proofs.Sends.{SentOf, kept_nxt, kept_sent, kept_timer, left, plain_ack, plain_nxt, plain_sent, plain_timer, plain_window, segment_ack, segment_bit, segment_length, segment_number, segment_window, with_bytes, without_bytes}
+use Rattle.progress_laws.proofs.Sends.{SentOf, Untold, kept_nxt, kept_sent, kept_timer, kept_untold, left, plain_ack, plain_nxt, plain_sent, plain_timer, plain_window, segment_ack, segment_bit, segment_length, segment_number, segment_window, with_bytes, without_bytes}
 
 -- ---- what is left of the sender
 
@@ -102,6 +102,8 @@ pub record SpeaksNothing (f : Facts) (v : View) : Type 0 where
   pub number : out.segment.seq_number ≡ seq_minus v.local_seq_no 1
   pub one : length out.segment.payload ≡ 1
   pub nxt : after.remote_last_seq ≡ v.local_seq_no
+  pub shift : after.remote_win_shift ≡ v.remote_win_shift
+  pub untold : Untold v after
 
 -- without a window nothing, or an acknowledgement; it waits for its keep-alive then, with nothing in flight
 pub record FallsSilent (f : Facts) (v : View) : Type 0 where
@@ -138,6 +140,7 @@ pub record Front (v u : View) : Type 0 where
   pub window : u.remote_win_len ≡ v.remote_win_len
   pub scale : u.remote_win_scale ≡ v.remote_win_scale
   pub shift : u.remote_win_shift ≡ v.remote_win_shift
+  pub untold : Untold v u
   pub marked : u.pending_fast_retransmit ≡ v.pending_fast_retransmit
   pub mss : u.remote_mss ≡ v.remote_mss
   pub moment : Option Instant
@@ -161,6 +164,7 @@ idle_front v now at r idle nxt =
       window = al.window;
       scale = al.scale;
       shift = al.shift;
+      untold = record { last_ack = al.last_ack; last_win = al.last_win };
       marked = al.marked;
       mss = al.mss;
       moment = at;
@@ -193,6 +197,7 @@ again_front v now at r no_timeout waits over =
       window = al.window;
       scale = al.scale;
       shift = al.shift;
+      untold = record { last_ack = al.last_ack; last_win = al.last_win };
       marked = al.marked;
       mss = al.mss;
       moment = idle_moment now (readied v now).keep_alive;
@@ -200,7 +205,7 @@ again_front v now at r no_timeout waits over =
       ordered = subst IsOrdered (begins_again (readied v now) now at (al.timeout ∙ no_timeout) (al.timer ∙ waits) over) (timers_ordered (readied v now) now (readied_ordered v now (reached_ordered v r)));
     }
 
-module _ (d : Option Duration) (t : Tuple) (v : View) (f : Facts) (now : Instant) (mtu : IsMtu f.mtu) (s : IsSender d t v) (on : GoesOn v t (told f now)) (carries : never_pauses v.state ≡ true) (u : View) (fr : Front v u) (u_is : beginning v t (told f now) false on carries ≡ u) where
+module _ (d : Option Duration) (t : Tuple) (v : View) (f : Facts) (now : Instant) (mtu : IsMtu f.mtu) (s : IsSender d t v) (on : GoesOn v t (told f now)) (carries : is_paused v.state v.synack_paused ≡ false) (u : View) (fr : Front v u) (u_is : beginning v t (told f now) false on carries ≡ u) where
   abbrev fa : Facts
   fa = told f now
 
@@ -361,6 +366,8 @@ module _ (d : Option Duration) (t : Tuple) (v : View) (f : Facts) (now : Instant
         number = ap (λ n. seq_minus n 1) fr.una;
         one = refl;
         nxt = kept_nxt u t now b opens ∙ fr.nxt;
+        shift = (kept_sent u t now b opens).shift ∙ fr.shift;
+        untold = let k = kept_untold u t now b opens in record { last_ack = k.last_ack ∙ fr.untold.last_ack; last_win = k.last_win ∙ fr.untold.last_win };
       }
 
   -- without a window it is silent, or acknowledges
@@ -455,7 +462,7 @@ pub record Begins (t : Tuple) (f : Facts) (v : View) (now : Instant) : Type 0 wh
   pub view : View
   pub front : Front v view
   pub no_end : is_close_over v.timer now ≡ false
-  pub is : (on : GoesOn v t (told f now)) (carries : never_pauses v.state ≡ true) → beginning v t (told f now) false on carries ≡ view
+  pub is : (on : GoesOn v t (told f now)) (carries : is_paused v.state v.synack_paused ≡ false) → beginning v t (told f now) false on carries ≡ view
 
 pub begins : (t : Tuple) (f : Facts) (v : View) (now : Instant) → IsReached v → v.timeout ≡ None → (r : Rests v) → IsNoProbe r → is_over (wakes r) now ≡ true → Begins t f v now
 begins t f v now r none (ForProbe at delay probes nxt some) other over = absurd other
@@ -479,8 +486,8 @@ begins t f v now r none (ForAnswer at again) other over = record {
 }
 
 module _ (d : Option Duration) (t : Tuple) (v : View) (f : Facts) (now : Instant) (mtu : IsMtu f.mtu) (address : f.has_address t.local.addr ≡ true) (s : IsSender d t v) where
-  carries_so : never_pauses v.state ≡ true
-  carries_so = carries_runs v.state (sends_data v.state s.state)
+  carries_so : is_paused v.state v.synack_paused ≡ false
+  carries_so = carries_runs v.state v.synack_paused (sends_data v.state s.state)
 
   goes_on : is_close_over v.timer now ≡ false → GoesOn v t (told f now)
   goes_on e = record { peer = s.peer; address = address; alive = rw s.no_timeout refl; no_end = e }

@@ -123,7 +123,7 @@ module _ (t : Tuple) (f : Facts) (stamps : Bool) (v : View) (out : Sending) (u :
   now = moment_of f
 
   abbrev b : View
-  b = beginning v t f stamps h.on (carries_runs v.state h.carries)
+  b = beginning v t f stamps h.on (carries_runs v.state v.synack_paused h.carries)
 
   begun_still : Still v b
   begun_still =
@@ -131,7 +131,7 @@ module _ (t : Tuple) (f : Facts) (stamps : Bool) (v : View) (out : Sending) (u :
       then_still v (readied v now) b (record { state = al.state; una = al.una; tx = al.tx; rx = al.rx; rcv = al.rcv }) (timer_still v.timer (readied v now) now)
 
   o : SendsOk f t stamps b (Some out) u
-  o = goes_out v t f stamps h.on (carries_runs v.state h.carries) out u h.dispatch
+  o = goes_out v t f stamps h.on (carries_runs v.state v.synack_paused h.carries) out u h.dispatch
 
   abbrev g : Segment
   g = segment_for b t o.stamp o.bytes

@@ -5,6 +5,7 @@ use Rattle.net_base.specs.declared.time.Instant.{Instant}
 use Rattle.control_wire.specs.Segment.{Segment}
 use Rattle.control_wire.specs.declared.tcp.TcpControl.TheVariants as control
 use Rattle.sock_tcp.specs.Advance.{advance_in, continues}
+use Rattle.sock_tcp.specs.Begin.{is_paused}
 use Rattle.sock_tcp.specs.Closing.{closed_from}
 use Rattle.sock_tcp.specs.Content.{carries_data}
 use Rattle.sock_tcp.specs.Due.{is_closed, is_closing}
@@ -16,7 +17,6 @@ use Rattle.sock_tcp.specs.declared.state.State.TheVariants as state
 use Rattle.sock_tcp.specs.declared.timer.Timer.{Timer}
 use Rattle.sock_tcp.specs.declared.tuple.Tuple.{Tuple}
 use Rattle.progress_laws.specs.InStep.{takes_bytes}
-use Rattle.progress_laws.proofs.Begins.{never_pauses}
 use Rattle.tcp_laws.proofs.Ordered.{HasMoment, Row}
 
 -- ---- ESTABLISHED and CLOSE-WAIT
@@ -78,10 +78,10 @@ takes_flat state.Established e = refl
 takes_flat state.FinWait2 e = refl
 takes_flat _ e = absurd cc
 
-pub takes_runs : (st : State) → takes_bytes st ≡ true → never_pauses st ≡ true
-takes_runs state.Established e = refl
-takes_runs state.FinWait2 e = refl
-takes_runs _ e = absurd cc
+pub takes_runs : (st : State) (b : Bool) → takes_bytes st ≡ true → is_paused st b ≡ false
+takes_runs state.Established b e = refl
+takes_runs state.FinWait2 b e = refl
+takes_runs _ b e = absurd cc
 
 pub takes_receives : (st : State) → takes_bytes st ≡ true → receives st ≡ true
 takes_receives state.Established e = refl

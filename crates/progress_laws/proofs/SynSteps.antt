@@ -1,7 +1,5 @@
 -- What a socket sends in SYN-SENT and SYN-RECEIVED, and what a SYN, a SYN|ACK and the ACK do where they come.
-use Rattle.std.proofs.Common.{◌≡◌, ℕ, zero, suc, ◌+◌, ◌<◌, ◌≤◌, ◌^◌, Bool, true, false, refl, sym, ap, subst, ◌∙◌, List, [], length, take, drop, min, Option, Some, None, arith, length-drop}
-use Rattle.std.specs.Prelude.{if◌then◌else◌, ◌==◌, option_map}
-use Rattle.net_base.specs.Ring.{in_one_piece}
+use Rattle.std.proofs.Common.{◌≡◌, ℕ, zero, suc, ◌+◌, ◌-◌, ◌<◌, ◌≤◌, ◌^◌, Bool, true, false, refl, sym, ap, subst, ◌∙◌, [], length, Option, Some, None, arith, length-drop}
 use Rattle.net_base.specs.declared.time.Instant.{Instant}
 use Rattle.ip_wire.specs.Address.{SameVersion}
 use Rattle.ip_wire.specs.IpHeader.{dst_addr_of, ip_header}
@@ -10,138 +8,36 @@ use Rattle.ip_wire.specs.declared.address.IpAddress.TheVariants as address
 use Rattle.ip_wire.specs.declared.endpoint.IpListenEndpoint.{IpListenEndpoint}
 use Rattle.ip_wire.specs.declared.protocol.IpProtocol.{IpProtocol}
 use Rattle.ip_wire.specs.declared.repr.IpRepr.{IpRepr}
-use Rattle.control_wire.specs.Segment.{Segment, is_empty_segment, is_plain}
+use Rattle.control_wire.specs.Segment.{Segment}
 use Rattle.control_wire.specs.Seq.{seq_add, seq_of, seq_sub}
 use Rattle.control_wire.specs.declared.seq_number.TcpSeqNumber.{TcpSeqNumber}
 use Rattle.control_wire.specs.declared.tcp.TcpControl.TheVariants as control
-use Rattle.sock_core.specs.Facts.{Facts}
 use Rattle.sock_core.specs.Received.{cleared, room_of}
 use Rattle.sock_core.specs.Seq.{is_before}
 use Rattle.sock_core.specs.WindowShift.{window_shift}
 use Rattle.sock_core.proofs.Shifts.{is_shift_least}
 use Rattle.std.proofs.Math.Pow.{pow_mono}
-use Rattle.std.proofs.lemmas.List.{length-replicate}
 use Rattle.sock_tcp.proofs.Windows.{end_small, length-cut, start_small, window_width}
-use Rattle.sock_tcp.specs.Acked.{acked_at, acked_of, nothing_acked}
-use Rattle.sock_tcp.specs.Advance.{advanced, counted_control, moved_to, shift_taken, options_taken, syn_answered, syn_received}
-use Rattle.sock_tcp.specs.Begin.{Begun, after_timers, before_emit, before_emit_to, begun, begun_to, by_due, is_paused, last_ts_set, last_ts_set_at, readied, told_ready, unless_paused}
-use Rattle.sock_tcp.specs.Content.{asked, carries_data, content, emission_kind, filled, offset_of, plain_segment, sent_as}
-use Rattle.sock_tcp.specs.Due.{data_due, flight, is_closed, is_due, is_opening}
+use Rattle.sock_tcp.specs.Acked.{acked_at, acked_of, acked_places, nothing_acked, syn_place}
+use Rattle.sock_tcp.specs.Advance.{advanced, counted_control, moved_to, scale_taken, shift_taken, options_taken, syn_answered, syn_received}
 use Rattle.sock_tcp.specs.Opening.{listened, renewed}
-use Rattle.sock_tcp.specs.Polls.{is_reached, timeout_poll}
+use Rattle.sock_tcp.specs.Queue.{capacity}
 use Rattle.sock_tcp.specs.Process.{bytes_taken, processed, processed_inside, stopped, tuple_of}
 use Rattle.sock_tcp.specs.Steps.{ack_counted, ack_heard, acknowledged, duplicate_counted, heard, is_duplicate, is_window_changed, probe_set, released, timer_acked, timer_set, timestamp_taken, una_advanced, window_taken}
-use Rattle.sock_tcp.specs.Timers.{idle_from, is_keep_alive_over}
+use Rattle.sock_tcp.specs.Timers.{idle_from}
 use Rattle.sock_tcp.specs.declared.acked.Acked.{Acked}
 use Rattle.sock_tcp.specs.declared.window.Cut.{Cut}
 use Rattle.control_wire.specs.declared.tcp.TcpControl.{TcpControl}
 use Rattle.sock_tcp.specs.Verdict.{is_next, verdict_at}
 use Rattle.sock_tcp.specs.View.{View, fresh}
 use Rattle.sock_tcp.specs.Window.{cut_bytes, cut_of, is_inside, next_ack, receive_window}
-use Rattle.sock_tcp.specs.declared.emission.Kind.TheVariants as kind
 use Rattle.sock_tcp.specs.declared.state.State.{State}
 use Rattle.sock_tcp.specs.declared.state.State.TheVariants as state
 use Rattle.sock_tcp.specs.declared.timer.Timer.TheVariants as timer
 use Rattle.sock_tcp.specs.declared.tuple.Tuple.{Tuple}
-use Rattle.progress_laws.specs.InStep.{told}
-use Rattle.progress_laws.specs.Speech.{DispatchesOk, SendsOkTo}
-use Rattle.progress_laws.proofs.Begins.{Alike, and_no, readied_alike}
 use Rattle.progress_laws.proofs.Edges.{empty_inside_so}
 use Rattle.progress_laws.proofs.Hears.{IsData, all_no_duplicate, idle_is, idle_moment, rests_empty}
-use Rattle.progress_laws.proofs.Sends.{left}
-
--- ---- the states in which a SYN is sent
-
-pub opening_carries : (st : State) → is_opening st ≡ true → carries_data st ≡ false
-opening_carries state.SynSent e = refl
-opening_carries state.SynReceived e = refl
-opening_carries _ e = absurd cc
-
-pub opening_open : (st : State) → is_opening st ≡ true → is_closed st ≡ false
-opening_open state.SynSent e = refl
-opening_open state.SynReceived e = refl
-opening_open _ e = absurd cc
-
-pub never_paused : (st : State) → is_paused st false ≡ false
-never_paused state.SynReceived = refl
-never_paused _ = refl
-
--- ---- what goes out there, where nothing is in flight
-
-module _ (v : View) (t : Tuple) (f : Facts) (now : Instant) (moment : Option Instant) (peer : v.tuple ≡ Some t) (address : f.has_address t.local.addr ≡ true) (no_timeout : v.timeout ≡ None) (idle : v.timer ≡ timer.Idle moment) (opening : is_opening v.state ≡ true) (not_paused : v.synack_paused ≡ false) (nothing_marked : v.pending_fast_retransmit ≡ false) (none : flight v ≡ 0) where
-  abbrev fa : Facts
-  fa = told f now
-
-  abbrev u : View
-  u = readied v now
-
-  al : Alike v u
-  al = readied_alike v now
-
-  same_paused : u.synack_paused ≡ v.synack_paused
-  unfolding readied last_ts_set
-  same_paused = go v.remote_last_ts
-    where
-      go : (o : Option Instant) → (told_ready (last_ts_set_at o v now) now).synack_paused ≡ v.synack_paused
-      go None = refl
-      go (Some at) = refl
-
-  opens : is_opening u.state ≡ true
-  opens = ap is_opening al.state ∙ opening
-
-  pub open_then : is_closed u.state ≡ false
-  open_then = opening_open u.state opens
-
-  none_then : flight u ≡ 0
-  none_then = (λ i. seq_sub (al.nxt i) (al.una i)) ∙ none
-
-  timers_are : after_timers u now ≡ u
-  unfolding after_timers
-  timers_are = rw (alive, al.timer ∙ idle) refl
-    where
-      alive : is_reached (timeout_poll u.timeout u.remote_last_ts) now ≡ false
-      alive = ap (λ d. is_reached (timeout_poll d u.remote_last_ts) now) (al.timeout ∙ no_timeout)
-
-  not_waiting : is_paused u.state u.synack_paused ≡ false
-  not_waiting = ap (is_paused u.state) (same_paused ∙ not_paused) ∙ never_paused u.state
-
-  begun_so : begun_to v.tuple v fa ≡ record { view = u; peer = Some t }
-  begun_so = ap (λ o. begun_to o v fa) peer ∙ with_address ∙ ap (λ y. unless_paused y t) timers_are ∙ goes_on
-    where
-      with_address : begun_to (Some t) v fa ≡ unless_paused (after_timers u now) t
-      with_address = rw address refl
-
-      goes_on : unless_paused u t ≡ record { view = u; peer = Some t }
-      goes_on = rw not_waiting refl
-
-  due : is_due u t fa false ≡ true
-  unfolding is_due data_due
-  due = rw (al.marked ∙ nothing_marked, opens, none_then) refl
-
-  begins_so : before_emit v fa false ≡ record { view = u; peer = Some t }
-  unfolding before_emit begun
-  begins_so = ap (λ (b : Begun). before_emit_to b.peer b.view fa false) begun_so ∙ ap (λ b. by_due b u t fa) due
-
-  abbrev bytes : List ℕ
-  bytes = take (min (asked u t fa false) (in_one_piece u.tx_buffer.until_end (length u.tx_buffer.bytes) (offset_of u))) (drop (offset_of u) u.tx_buffer.bytes)
-
-  -- the segment s, whose control bit is SYN
-  pub sends : (s : Segment) → filled u.state u t fa bytes (plain_segment u t None) ≡ Some s → is_plain s.control ≡ false → DispatchesOk fa false v (Some (sent_as u t kind.Plain s)) (left u t now s open_then kind.Plain)
-  unfolding content
-  sends s is bit = subst (λ (b : Begun). SendsOkTo b.peer fa false b.view (Some (sent_as u t kind.Plain s)) (left u t now s open_then kind.Plain)) (sym begins_so) (record {
-    stamp = None;
-    told = refl;
-    bytes = bytes;
-    lent = refl;
-    sends = sym (ap (option_map (λ s. sent_as u t (emission_kind u now s) s)) is ∙ ap (λ k. Some (sent_as u t k s)) plain);
-    view = refl;
-  })
-    where
-      empty : is_empty_segment s ≡ false
-      empty = rw bit (and_no (length s.payload == 0))
-
-      plain : emission_kind u now s ≡ kind.Plain
-      plain = rw (opening_carries u.state opens, empty) (ap (λ b. if b then kind.KeepAlive else kind.Plain) (and_no (is_keep_alive_over u.timer now)))
+use Rattle.progress_laws.proofs.Repeats.{NotSent, Repeats, SynGoesOut}
 
 -- ---- what comes
 
@@ -190,6 +86,12 @@ module _ (x : View) (now : Instant) (a : Acked) (g : Segment) (k : TcpSeqNumber)
       ends : timer_acked (timer.Retransmit at) y now a ≡ idle_from now y.keep_alive
       ends = rw all refl
 
+pub acked_data : (st : State) (c : TcpControl) (k una nxt : TcpSeqNumber) (n : ℕ) → IsData c → acked_at st c (Some k) una nxt n ≡ acked_places st k nxt n (seq_sub k una - syn_place st)
+unfolding acked_at
+acked_data st control.None k una nxt n d = refl
+acked_data st control.Psh k una nxt n d = refl
+acked_data st _ k una nxt n d = absurd d
+
 -- what acknowledges the SYN|ACK, at the left edge
 module _ (x : View) (now : Instant) (ip : IpRepr) (g : Segment) (k : TcpSeqNumber) (st : x.state ≡ state.SynReceived) (bit : IsData g.control) (number : g.ack_number ≡ Some k) (next : is_next k x.local_seq_no ≡ true) (empty : length g.payload ≡ 0) (at : g.seq_number ≡ next_ack x) (room : length x.rx_buffer.held ≤ 2 ^ 30) where
   abbrev pub noted : View
@@ -227,36 +129,40 @@ pub taken_within : (n : ℕ) (o : Option ℕ) → 0 < n → 2 ^ shift_taken (win
 taken_within n None some = omega (arith, some)
 taken_within n (Some m) some = shift_within n some
 
--- a socket that took a SYN, with its own number
-pub record HasTakenSyn (x : View) (t : Tuple) (number : ℕ) (from : TcpSeqNumber) (room : ℕ) : Type 0 where
+-- what a listener is once it took the SYN g, with its own number
+pub record HasTakenSyn (b x : View) (t : Tuple) (number : ℕ) (g : Segment) : Type 0 where
   pub state : x.state ≡ state.SynReceived
   pub peer : x.tuple ≡ Some t
-  pub timeout : x.timeout ≡ None
-  pub moment : Option Instant
-  pub timer : x.timer ≡ timer.Idle moment
-  pub not_paused : x.synack_paused ≡ false
-  pub nothing_marked : x.pending_fast_retransmit ≡ false
+  pub timeout : x.timeout ≡ b.timeout
+  pub keep_alive : x.keep_alive ≡ b.keep_alive
+  pub not_paused : x.synack_paused ≡ b.synack_paused
   pub una : x.local_seq_no ≡ seq_of number
-  pub nxt : x.remote_last_seq ≡ seq_of number
-  pub rcv : x.remote_seq_no ≡ seq_add from 1
-  pub read : x.rx_buffer.bytes ≡ []
-  pub wide : length x.rx_buffer.held ≡ room
+  pub rcv : x.remote_seq_no ≡ seq_add g.seq_number 1
+  pub rx : x.rx_buffer ≡ cleared b.rx_buffer
+  pub no_bytes : x.tx_buffer.bytes ≡ []
+  pub fits : x.tx_buffer.window ≡ capacity b.tx_buffer
+  pub scale : x.remote_win_scale ≡ scale_taken g.window_scale
+  pub shift : x.remote_win_shift ≡ shift_taken (window_shift (room_of (cleared b.rx_buffer))) g.window_scale
+  pub repeats : Repeats x x
+  pub due : (now : Instant) → SynGoesOut x repeats.waits now
 
-pub received_so : (b : View) (e : IpListenEndpoint) (now : Instant) (t : Tuple) (word : ℕ) (g : Segment) → b.timeout ≡ None → b.synack_paused ≡ false → g.ack_number ≡ None → HasTakenSyn (heard (syn_received (listened b e) now t word g) now nothing_acked g) t word g.seq_number (room_of b.rx_buffer)
-unfolding heard acknowledged window_taken released timestamp_taken timer_set syn_received options_taken listened renewed fresh cleared
-received_so b e now t word g no_timeout not_paused bare = subst (λ o. HasTakenSyn (timer_set (timestamp_taken (acknowledged x o now 0 (length g.payload) changed) g.timestamp) now nothing_acked) t word g.seq_number (room_of b.rx_buffer)) (sym bare) (record {
+pub received_so : (b : View) (e : IpListenEndpoint) (now : Instant) (t : Tuple) (word : ℕ) (g : Segment) → g.ack_number ≡ None → HasTakenSyn b (heard (syn_received (listened b e) now t word g) now nothing_acked g) t word g
+unfolding heard acknowledged window_taken released timestamp_taken timer_set syn_received options_taken listened renewed fresh
+received_so b e now t word g bare = subst (λ o. HasTakenSyn b (timer_set (timestamp_taken (acknowledged x o now 0 (length g.payload) changed) g.timestamp) now nothing_acked) t word g) (sym bare) (record {
   state = refl;
   peer = refl;
-  timeout = no_timeout;
-  moment = idle_moment now b.keep_alive;
-  timer = ap (λ tm. (timer_set (record y { timer = tm }) now nothing_acked).timer) (idle_is now b.keep_alive) ∙ rests_empty (record y { timer = timer.Idle (idle_moment now b.keep_alive) }) now nothing_acked (idle_moment now b.keep_alive) refl ∙ idle_is now b.keep_alive;
-  not_paused = not_paused;
-  nothing_marked = refl;
+  timeout = refl;
+  keep_alive = refl;
+  not_paused = refl;
   una = refl;
-  nxt = refl;
   rcv = refl;
-  read = refl;
-  wide = length-replicate (room_of b.rx_buffer) None;
+  rx = refl;
+  no_bytes = refl;
+  fits = omega arith;
+  scale = refl;
+  shift = refl;
+  repeats = record { state = refl; peer = refl; timeout = refl; keep_alive = refl; una = refl; tx = refl; rx = refl; rcv = refl; window = refl; scale = refl; shift = refl; marked = refl; paused = refl; waits = NotSent (idle_moment now b.keep_alive) waits refl };
+  due = λ now. tt;
 })
   where
     x : View
@@ -267,3 +173,6 @@ received_so b e now t word g no_timeout not_paused bare = subst (λ o. HasTakenS
 
     y : View
     y = timestamp_taken x g.timestamp
+
+    waits : (timer_set y now nothing_acked).timer ≡ timer.Idle (idle_moment now b.keep_alive)
+    waits = ap (λ tm. (timer_set (record y { timer = tm }) now nothing_acked).timer) (idle_is now b.keep_alive) ∙ rests_empty (record y { timer = timer.Idle (idle_moment now b.keep_alive) }) now nothing_acked (idle_moment now b.keep_alive) refl ∙ idle_is now b.keep_alive

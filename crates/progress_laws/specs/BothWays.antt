@@ -1,5 +1,5 @@
 -- Two sockets in ESTABLISHED that both have bytes to send, and what they can do in turn.
-use Rattle.std.specs.Prelude.{ℕ, ◌≡◌, ◌+◌, ◌*◌, ◌^◌, ◌<◌, ◌≤◌, ◌≤ℤ◌, List, [], ◌++◌, length, drop, replicate, Option, Some, None, Err, true, false}
+use Rattle.std.specs.Prelude.{ℕ, ◌≡◌, ◌+◌, ◌*◌, ◌^◌, ◌<◌, ◌≤◌, ◌≤ℤ◌, List, [], ◌++◌, length, drop, replicate, Option, Some, None, Result, Err, true, false}
 use Rattle.net_base.specs.declared.time.Duration.{Duration}
 use Rattle.net_base.specs.declared.time.Instant.{Instant}
 use Rattle.control_wire.specs.Seq.{seq_add, seq_sub}
@@ -9,11 +9,12 @@ use Rattle.sock_tcp.specs.Closing.{closed}
 use Rattle.sock_tcp.specs.Content.{Sending}
 use Rattle.sock_tcp.specs.Due.{window_field}
 use Rattle.sock_tcp.specs.Process.{processed}
-use Rattle.sock_tcp.specs.Queues.{recv_check}
+use Rattle.sock_tcp.specs.Queues.{Sends, recv_check}
 use Rattle.sock_tcp.specs.Steps.{scale_of}
 use Rattle.sock_tcp.specs.View.{View}
 use Rattle.sock_tcp.specs.Window.{next_ack, receive_window}
 use Rattle.sock_tcp.specs.declared.error.RecvError.TheVariants as recv_error
+use Rattle.sock_tcp.specs.declared.error.SendError.{SendError}
 use Rattle.sock_tcp.specs.declared.state.State.TheVariants as state
 use Rattle.sock_tcp.specs.declared.tuple.Tuple.{Tuple}
 use Rattle.progress_laws.specs.InStep.{IsSender, Move, told}
@@ -128,3 +129,18 @@ BothWaysFinish = (d e : Option Duration) (t s : Tuple) (f : Facts) (at : Instant
     → f.has_address s.local.addr ≡ true
     → (i : BothInStep d e t s v w)
     → BothFinish d e t s f at v w got back i
+
+-- ---- more bytes
+
+-- in step as before, with as many bytes taken that were not heard of
+pub record StaysInStep (d e : Option Duration) (t s : Tuple) (v w v' w' : View) (i : BothInStep d e t s v w) : Type 0
+  where
+    pub in_step : BothInStep d e t s v' w'
+    pub over : in_step.over.taken ≡ i.over.taken
+    pub back : in_step.back.taken ≡ i.back.taken
+
+-- `send_slice` of any bytes, on the one or on the other, whether they fit or not
+abbrev pub SendingKeepsInStep : Type 0
+SendingKeepsInStep = (d e : Option Duration) (t s : Tuple) (v w x : View) (bs : List ℕ) (r : Result ℕ SendError)
+    → (i : BothInStep d e t s v w)
+    → (Sends v bs r x → StaysInStep d e t s v w x w i) × (Sends w bs r x → StaysInStep d e t s v w v x i)

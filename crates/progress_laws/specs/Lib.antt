@@ -3,5 +3,7 @@ pub mod Speech
 pub mod Delivery
 pub mod InStep
 pub mod BothWays
+pub mod ShutWindows
 pub mod AfterClose
 pub mod Opening
+pub mod FromOpening

@@ -17,23 +17,46 @@ use Rattle.sock_tcp.specs.declared.tuple.Tuple.{Tuple}
 use Rattle.progress_laws.specs.InStep.{told}
 use Rattle.progress_laws.specs.Speech.{DispatchesOk}
 
--- v dispatches its SYN, which reaches w, and w draws this word as its number; w dispatches its SYN|ACK, which reaches
--- v. Then v is in ESTABLISHED, and w waits in SYN-RECEIVED for the ACK. They agree on the numbers of both streams
-pub record Establishes (f : Facts) (now : Instant) (word : ℕ) (v w : View) : Type 0 where
+-- ---- the parts of the handshake
+
+-- v dispatches its SYN, which reaches w, and w draws this word as its number
+pub record TakesSyn (f : Facts) (now : Instant) (word : ℕ) (v w : View) : Type 0 where
   pub syn : Sending
   pub sent : View
   pub sends_syn : DispatchesOk (told f now) false v (Some syn) sent
   pub received : View
   pub syn_comes : processed w now word syn.ip syn.segment ≡ record { view = received; reply = None }
+
+-- w dispatches its SYN|ACK, which reaches v. Then v is in ESTABLISHED, and w waits in SYN-RECEIVED for the ACK. They
+-- agree on the numbers of both streams
+pub record AnswersSyn (f : Facts) (now : Instant) (v w : View) : Type 0 where
   pub answer : Sending
   pub answered : View
-  pub sends_answer : DispatchesOk (told f now) false received (Some answer) answered
+  pub sends_answer : DispatchesOk (told f now) false w (Some answer) answered
   pub established : View
-  pub answer_comes : processed sent now 0 answer.ip answer.segment ≡ record { view = established; reply = None }
+  pub answer_comes : processed v now 0 answer.ip answer.segment ≡ record { view = established; reply = None }
   pub state_here : established.state ≡ state.Established
   pub state_across : answered.state ≡ state.SynReceived
   pub over : next_ack answered ≡ established.local_seq_no
   pub back : next_ack established ≡ seq_add answered.local_seq_no 1
+
+-- v dispatches its ACK, which reaches w. Then both are in ESTABLISHED, and still agree
+pub record Acknowledges (f : Facts) (now : Instant) (v w : View) : Type 0 where
+  pub ack : Sending
+  pub here : View
+  pub sends_ack : DispatchesOk (told f now) false v (Some ack) here
+  pub across : View
+  pub ack_comes : processed w now 0 ack.ip ack.segment ≡ record { view = across; reply = None }
+  pub state_here : here.state ≡ state.Established
+  pub state_across : across.state ≡ state.Established
+  pub over_then : next_ack across ≡ here.local_seq_no
+  pub back_then : next_ack here ≡ across.local_seq_no
+
+-- ---- nothing of it is lost
+
+pub record Establishes (f : Facts) (now : Instant) (word : ℕ) (v w : View) : Type 0 where
+  pub syn : TakesSyn f now word v w
+  pub answer : AnswersSyn f now syn.sent syn.received
 
 -- The one as `connect` leaves a socket a, with the endpoints t and this number; the other as `listen` leaves a socket
 -- b, whose SYN|ACK is not paused. Both without a user timeout, at any moment, in any context that has both addresses
@@ -50,18 +73,10 @@ ListenerAnswersSyn = (t : Tuple) (f : Facts) (now : Instant) (number word : ℕ)
     → b.synack_paused ≡ false
     → Establishes f now word (connected a t number) (listened b e)
 
--- v dispatches its ACK next, which reaches w. Then both are in ESTABLISHED, and still agree
+-- and v dispatches its ACK next
 pub record Completes (f : Facts) (now : Instant) (word : ℕ) (v w : View) : Type 0 where
   pub start : Establishes f now word v w
-  pub ack : Sending
-  pub here : View
-  pub sends_ack : DispatchesOk (told f now) false start.established (Some ack) here
-  pub across : View
-  pub ack_comes : processed start.answered now 0 ack.ip ack.segment ≡ record { view = across; reply = None }
-  pub state_here : here.state ≡ state.Established
-  pub state_across : across.state ≡ state.Established
-  pub over_then : next_ack across ≡ here.local_seq_no
-  pub back_then : next_ack here ≡ across.local_seq_no
+  pub ack : Acknowledges f now start.answer.established start.answer.answered
 
 -- As above, where the one has a keep-alive interval that is not 0, or none, and its receive buffer a place
 abbrev pub HandshakeCompletes : Type 0

@@ -3,14 +3,17 @@
 //! What to read first, in `specs`: `Wakes.antt`, when a socket is to be called again; `Speech.antt`, what it says once
 //! its timer is over; `Delivery.antt`, what such a segment moves once it is delivered; `InStep.antt`, two sockets of
 //! which one sends to the other, and what they can do in turn; `BothWays.antt`, two that both have bytes to send;
-//! `AfterClose.antt`, a sender that was closed; `Opening.antt`, two sockets that were opened toward each other.
+//! `AfterClose.antt`, a sender that was closed; `Opening.antt`, two sockets that were opened toward each other, and
+//! `FromOpening.antt`, these to the end of both streams, whatever SYNs were lost.
 #![tactic(auto)]
 
 ghost use Rattle.progress_laws.specs.AfterClose.{ClosedSenderFinishes};
-ghost use Rattle.progress_laws.specs.BothWays.{BothWaysComplete, BothWaysFinish};
+ghost use Rattle.progress_laws.specs.BothWays.{BothWaysComplete, BothWaysFinish, SendingKeepsInStep};
 ghost use Rattle.progress_laws.specs.Delivery.{CountedFinIsHeard, DeliveryMoves};
+ghost use Rattle.progress_laws.specs.FromOpening.{HandshakeBringsInStep, LostSynsComeAgain, OpenedPairCompletes};
 ghost use Rattle.progress_laws.specs.InStep.{OneWayCompletes, OneWayFinishes};
 ghost use Rattle.progress_laws.specs.Opening.{HandshakeCompletes, ListenerAnswersSyn};
+ghost use Rattle.progress_laws.specs.ShutWindows.{ShutWindowsOpen};
 ghost use Rattle.progress_laws.specs.Speech.{SpeaksPastItsTimers};
 ghost use Rattle.progress_laws.specs.Wakes.{WorkWakesOrSleeps};
 
@@ -76,6 +79,18 @@ pub fn both_ways_finish()
     ensures { BothWaysFinish }
 {}
 
+/// The same where one of them or both know a window of 0 (`BothShut`): each that does, and does not wait for an
+/// acknowledgement, asks for one with its keep-alive or its probe, and hears the answer. Then both streams come to their
+/// end.
+pub fn shut_windows_open()
+    ensures { ShutWindowsOpen }
+{}
+
+/// `send_slice` of any bytes on either side keeps them in step, with as many bytes of each stream taken as before.
+pub fn sending_keeps_in_step()
+    ensures { SendingKeepsInStep }
+{}
+
 /// From a sender that was closed with bytes to send, in FIN-WAIT-1, CLOSING or LAST-ACK, that knows a window above 0,
 /// and a receiver in ESTABLISHED or FIN-WAIT-2 (`AfterClose`), some list of dispatches, deliveries and reads brings
 /// over all bytes, in order, and then reads answer `Finished`.
@@ -94,4 +109,27 @@ pub fn listener_answers_syn()
 /// streams. The first has a keep-alive interval that is not 0, or none, and a place in its receive buffer.
 pub fn handshake_completes()
     ensures { HandshakeCompletes }
+{}
+
+/// Then they are in step both ways (`BothInStep`), and neither has taken or accepted a byte yet: from any two sockets
+/// that are not open, whatever they were before, each with a place in its receive buffer, without a user timeout and
+/// with a keep-alive interval that is not 0, or with none, the one after `connect` and the other after `listen`.
+pub fn handshake_brings_in_step()
+    ensures { HandshakeBringsInStep }
+{}
+
+/// From such sockets to the end of both streams: after the handshake each accepts any bytes that fit into its transmit
+/// buffer, and some list of dispatches, deliveries and reads hands out all of them, both ways, in order. Then the one
+/// closes, its FIN reaches the other, and reads there answer `Finished`; and then the other closes, and so it is the
+/// other way round.
+pub fn opened_pair_completes()
+    ensures { OpenedPairCompletes }
+{}
+
+/// The same whatever was lost before: after any list of dispatches of the one, each of whose SYNs is lost, at some
+/// moment a SYN of it goes out again, and the other takes it; and after any list of dispatches of that one, each of
+/// whose SYN|ACKs is lost, at some moment a SYN|ACK goes out again, and brings the first to ESTABLISHED. Its ACK comes,
+/// and then they stand in step, and both streams can end.
+pub fn lost_syns_come_again()
+    ensures { LostSynsComeAgain }
 {}

@@ -1,4 +1,4 @@
-use Rattle.progress_laws.proofs.Opening.{handshake_completes}
+use Rattle.progress_laws.proofs.Handshakes.{handshake_completes}
 use Rattle.progress_laws.proofs.handshake_completes.Goals as goal
 
 pub returns : goal.returns

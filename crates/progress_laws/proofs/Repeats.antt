@@ -1,0 +1,280 @@
+-- What dispatches make of a socket in SYN-SENT or SYN-RECEIVED, and the SYN or SYN|ACK that one of them sends, again too.
+use Rattle.std.proofs.Common.{◌≡◌, ℕ, ◌+◌, ◌<◌, ◌^◌, inl, inr, Bool, true, false, not, ◌&&◌, refl, sym, ap, subst, ◌∙◌, List, length, take, drop, min, Option, Some, None, arith}
+use Rattle.std.specs.Prelude.{if◌then◌else◌, ◌==◌, option_map}
+use Rattle.net_base.specs.Ring.{in_one_piece}
+use Rattle.net_base.specs.declared.time.Duration.{Duration}
+use Rattle.net_base.specs.declared.time.Instant.{Instant}
+use Rattle.control_wire.specs.Segment.{Segment, is_empty_segment, is_plain, segment_len}
+use Rattle.control_wire.specs.Seq.{seq_add, seq_sub}
+use Rattle.control_wire.specs.declared.seq_number.TcpSeqNumber.{TcpSeqNumber}
+use Rattle.control_wire.specs.declared.tcp.TcpControl.TheVariants as control
+use Rattle.sock_core.specs.Facts.{Facts}
+use Rattle.sock_core.specs.Seq.{later_of}
+use Rattle.sock_tcp.specs.Begin.{after_timer, is_paused, readied, retransmission_begun}
+use Rattle.sock_tcp.specs.Content.{Sending, asked, carries_data, content, emission_kind, filled, offset_of, plain_segment, sent_as, syn, syn_ack}
+use Rattle.sock_tcp.specs.Due.{data_due, flight, is_closed, is_due, is_opening}
+use Rattle.sock_tcp.specs.Sent.{left_by}
+use Rattle.sock_tcp.specs.Timers.{after as moment_after, idle_from, is_close_over, is_keep_alive_over, is_over, keep_alive_renewed, retransmit_from, retransmit_unless_set, rto_of}
+use Rattle.sock_tcp.specs.View.{View}
+use Rattle.sock_tcp.specs.declared.emission.Kind.TheVariants as kind
+use Rattle.sock_tcp.specs.declared.state.State.{State}
+use Rattle.sock_tcp.specs.declared.state.State.TheVariants as state
+use Rattle.sock_tcp.specs.declared.timer.AckDelayTimer.TheVariants as ack_delay
+use Rattle.sock_tcp.specs.declared.timer.Timer.TheVariants as timer
+use Rattle.sock_tcp.specs.declared.tuple.Tuple.{Tuple}
+use Rattle.progress_laws.specs.InStep.{told}
+use Rattle.progress_laws.specs.Speech.{DispatchesOk, GoesOn}
+use Rattle.progress_laws.proofs.Begins.{Alike, Goes, and_no, beginning, goes, readied_alike, sends_so}
+use Rattle.progress_laws.proofs.Edges.{is_earlier, is_not_before, later_is, later_stays}
+use Rattle.progress_laws.proofs.Hears.{idle_is, idle_moment}
+use Rattle.progress_laws.proofs.Sends.{SentOf, left, plain_ack, plain_delay, plain_nxt, plain_sent, plain_timer, plain_window}
+
+-- ---- the states in which a SYN is sent
+
+opening_carries : (st : State) → is_opening st ≡ true → carries_data st ≡ false
+opening_carries state.SynSent e = refl
+opening_carries state.SynReceived e = refl
+opening_carries _ e = absurd cc
+
+opening_open : (st : State) → is_opening st ≡ true → is_closed st ≡ false
+opening_open state.SynSent e = refl
+opening_open state.SynReceived e = refl
+opening_open _ e = absurd cc
+
+pub opening_listens : (st : State) → is_opening st ≡ true → st ≡ state.Listen → ⊥
+opening_listens state.Listen e l = absurd cc
+opening_listens state.SynSent e l = absurd cc
+opening_listens state.SynReceived e l = absurd cc
+opening_listens _ e l = absurd cc
+
+never_paused : (st : State) → is_paused st false ≡ false
+never_paused state.SynReceived = refl
+never_paused _ = refl
+
+-- ---- the segment
+
+abbrev pub syn_segment : State → View → Tuple → Facts → Segment → Segment
+syn_segment state.SynReceived u t f s = syn_ack u t f s
+syn_segment _ u t f s = syn u t f s
+
+filled_is : (st : State) → is_opening st ≡ true → (u : View) (t : Tuple) (f : Facts) (bytes : List ℕ) (s : Segment) → filled st u t f bytes s ≡ Some (syn_segment st u t f s)
+filled_is state.SynSent e u t f bytes s = refl
+filled_is state.SynReceived e u t f bytes s = refl
+filled_is _ e u t f bytes s = absurd cc
+
+syn_bit : (st : State) (u : View) (t : Tuple) (f : Facts) (s : Segment) → (syn_segment st u t f s).control ≡ control.Syn
+syn_bit state.SynReceived u t f s = refl
+syn_bit _ u t f s = refl
+
+syn_number : (st : State) (u : View) (t : Tuple) (f : Facts) (s : Segment) → (syn_segment st u t f s).seq_number ≡ u.local_seq_no
+syn_number state.SynReceived u t f s = refl
+syn_number _ u t f s = refl
+
+syn_length : (st : State) (u : View) (t : Tuple) (f : Facts) (s : Segment) → segment_len (syn_segment st u t f s) ≡ length s.payload + 1
+syn_length state.SynReceived u t f s = refl
+syn_length _ u t f s = refl
+
+-- ---- waiting for its answer
+
+-- the SYN is to be sent, or counts as sent
+pub data SynWaits (v : View) : Type 0 where
+  NotSent : (o : Option Instant)
+      → v.timer ≡ timer.Idle o
+      → v.remote_last_seq ≡ v.local_seq_no
+      → SynWaits v
+  IsSent : (at : Instant)
+      → v.timer ≡ timer.Retransmit at
+      → v.remote_last_seq ≡ seq_add v.local_seq_no 1
+      → SynWaits v
+
+-- it goes out at this moment
+abbrev pub SynGoesOut : (v : View) → SynWaits v → Instant → Type 0
+SynGoesOut v (NotSent o idle nxt) now = Unit {0}
+SynGoesOut v (IsSent at waits nxt) now = is_over at now ≡ true
+
+-- v is x after some dispatches
+pub record Repeats (x v : View) : Type 0 where
+  pub state : v.state ≡ x.state
+  pub peer : v.tuple ≡ x.tuple
+  pub timeout : v.timeout ≡ x.timeout
+  pub keep_alive : v.keep_alive ≡ x.keep_alive
+  pub una : v.local_seq_no ≡ x.local_seq_no
+  pub tx : v.tx_buffer ≡ x.tx_buffer
+  pub rx : v.rx_buffer ≡ x.rx_buffer
+  pub rcv : v.remote_seq_no ≡ x.remote_seq_no
+  pub window : v.remote_win_len ≡ x.remote_win_len
+  pub scale : v.remote_win_scale ≡ x.remote_win_scale
+  pub shift : v.remote_win_shift ≡ x.remote_win_shift
+  pub marked : v.pending_fast_retransmit ≡ false
+  pub paused : v.synack_paused ≡ x.synack_paused
+  pub waits : SynWaits v
+
+-- x is in one of these states, with the peer t, its address, and nothing that would end or pause it
+pub record SendsSyn (st : State) (t : Tuple) (f : Facts) (x : View) : Type 0 where
+  pub opening : is_opening st ≡ true
+  pub state : x.state ≡ st
+  pub peer : x.tuple ≡ Some t
+  pub address : f.has_address t.local.addr ≡ true
+  pub no_timeout : x.timeout ≡ None
+  pub not_paused : x.synack_paused ≡ false
+  pub una_small : x.local_seq_no.0 < 2 ^ 32
+
+module _ (st : State) (t : Tuple) (f : Facts) (x : View) (c : SendsSyn st t f x) (v : View) (r : Repeats x v) (now : Instant) where
+  abbrev fa : Facts
+  fa = told f now
+
+  pub on : GoesOn v t fa
+  on = record { peer = r.peer ∙ c.peer; address = c.address; alive = rw (r.timeout ∙ c.no_timeout) refl; no_end = by r.waits }
+    where
+      by : SynWaits v → is_close_over v.timer now ≡ false
+      by (NotSent o idle nxt) = rw idle refl
+      by (IsSent at waits nxt) = rw waits refl
+
+  pub runs : is_paused v.state v.synack_paused ≡ false
+  runs = ap (is_paused v.state) (r.paused ∙ c.not_paused) ∙ never_paused v.state
+
+  abbrev pub u : View
+  u = beginning v t fa false on runs
+
+  abbrev z : View
+  z = readied v now
+
+  al : Alike v z
+  al = readied_alike v now
+
+  -- ---- what a dispatch begins with
+
+  readied_so : Repeats x z
+  readied_so = record { state = al.state ∙ r.state; peer = al.peer ∙ r.peer; timeout = al.timeout ∙ r.timeout; keep_alive = al.keep_alive ∙ r.keep_alive; una = al.una ∙ r.una; tx = al.tx ∙ r.tx; rx = al.rx ∙ r.rx; rcv = al.rcv ∙ r.rcv; window = al.window ∙ r.window; scale = al.scale ∙ r.scale; shift = al.shift ∙ r.shift; marked = al.marked ∙ r.marked; paused = al.paused ∙ r.paused; waits = by r.waits }
+    where
+      by : SynWaits v → SynWaits z
+      by (NotSent o idle nxt) = NotSent o (al.timer ∙ idle) (al.nxt ∙ nxt ∙ sym al.una)
+      by (IsSent at waits nxt) = IsSent at (al.timer ∙ waits) (al.nxt ∙ nxt ∙ ap (λ q. seq_add q 1) (sym al.una))
+
+  anew : View
+  anew = retransmission_begun z now
+
+  anew_so : Repeats x (retransmission_begun z now)
+  unfolding retransmission_begun
+  anew_so = record { state = readied_so.state; peer = readied_so.peer; timeout = readied_so.timeout; keep_alive = readied_so.keep_alive; una = readied_so.una; tx = readied_so.tx; rx = readied_so.rx; rcv = readied_so.rcv; window = readied_so.window; scale = readied_so.scale; shift = readied_so.shift; marked = readied_so.marked; paused = readied_so.paused; waits = NotSent (idle_moment now z.keep_alive) (idle_is now z.keep_alive) refl }
+
+  anew_nxt : (retransmission_begun z now).remote_last_seq ≡ (retransmission_begun z now).local_seq_no
+  unfolding retransmission_begun
+  anew_nxt = refl
+
+  pub begun_so : Repeats x u
+  begun_so = by r.waits
+    where
+      go : (b : Bool) → Repeats x (if b then retransmission_begun z now else z)
+      go true = anew_so
+      go false = readied_so
+
+      by : SynWaits v → Repeats x u
+      by (NotSent o idle nxt) = subst (λ tm. Repeats x (after_timer tm z now)) (sym idle) readied_so
+      by (IsSent at waits nxt) = subst (λ tm. Repeats x (after_timer tm z now)) (sym waits) (go (is_over at now))
+
+  front : SynGoesOut v r.waits now → u.remote_last_seq ≡ u.local_seq_no
+  front d = by r.waits d
+    where
+      by : (q : SynWaits v) → SynGoesOut v q now → u.remote_last_seq ≡ u.local_seq_no
+      by (NotSent o idle nxt) d = subst (λ tm. (after_timer tm z now).remote_last_seq ≡ (after_timer tm z now).local_seq_no) (sym idle) (al.nxt ∙ nxt ∙ sym al.una)
+      by (IsSent at waits nxt) d = subst (λ tm. (after_timer tm z now).remote_last_seq ≡ (after_timer tm z now).local_seq_no) (sym waits) (subst (λ b. (if b then retransmission_begun z now else z).remote_last_seq ≡ (if b then retransmission_begun z now else z).local_seq_no) (sym d) anew_nxt)
+
+  pub state_then : u.state ≡ st
+  state_then = begun_so.state ∙ c.state
+
+  opens : is_opening u.state ≡ true
+  opens = ap is_opening state_then ∙ c.opening
+
+  pub open_then : is_closed u.state ≡ false
+  open_then = opening_open u.state opens
+
+  u_small : u.local_seq_no.0 < 2 ^ 32
+  u_small = subst (λ (q : TcpSeqNumber). q.0 < 2 ^ 32) (sym begun_so.una) c.una_small
+
+  -- ---- what it sends, with any stamp
+
+  abbrev pub segment : Option ℕ → Segment
+  segment stamp = syn_segment st u t fa (plain_segment u t stamp)
+
+  abbrev pub out_of : Option ℕ → Sending
+  out_of stamp = sent_as u t kind.Plain (segment stamp)
+
+  abbrev pub sent : Option ℕ → View
+  sent stamp = left u t now (segment stamp) open_then kind.Plain
+
+  content_so : (stamp : Option ℕ) (bytes : List ℕ) → content u t fa stamp bytes ≡ Some (out_of stamp)
+  unfolding content
+  content_so stamp bytes = ap (option_map (λ s. sent_as u t (emission_kind u now s) s)) (ap (λ q. filled q u t fa bytes (plain_segment u t stamp)) state_then ∙ filled_is st c.opening u t fa bytes (plain_segment u t stamp)) ∙ ap (λ k. Some (sent_as u t k (segment stamp))) plain
+    where
+      empty : is_empty_segment (segment stamp) ≡ false
+      empty = ap (λ c. (length (segment stamp).payload == 0) && is_plain c) (syn_bit st u t fa (plain_segment u t stamp)) ∙ and_no (length (segment stamp).payload == 0)
+
+      plain : emission_kind u now (segment stamp) ≡ kind.Plain
+      plain = rw (opening_carries u.state opens, empty) (ap (λ b. if b then kind.KeepAlive else kind.Plain) (and_no (is_keep_alive_over u.timer now)))
+
+  long : (stamp : Option ℕ) → segment_len (segment stamp) ≡ 1
+  unfolding plain_segment
+  long stamp = syn_length st u t fa (plain_segment u t stamp)
+
+  kept : (stamp : Option ℕ) → SentOf u (sent stamp)
+  kept stamp = plain_sent u t now (segment stamp) open_then
+
+  timer_then : (stamp : Option ℕ) → (sent stamp).timer ≡ retransmit_unless_set (keep_alive_renewed u.timer now u.keep_alive) now u.rtte
+  timer_then stamp = plain_timer u t now (segment stamp) open_then false (ap (λ n. n == 0) (long stamp))
+
+  nxt_then : (stamp : Option ℕ) → (sent stamp).remote_last_seq ≡ later_of u.remote_last_seq (seq_add u.local_seq_no 1)
+  nxt_then stamp = plain_nxt u t now (segment stamp) open_then ∙ (λ i. later_of u.remote_last_seq (seq_add (syn_number st u t fa (plain_segment u t stamp) i) (long stamp i)))
+
+  -- its answer is waited for then
+  pub waits_then : (stamp : Option ℕ) → (at : Instant) × ((sent stamp).timer ≡ timer.Retransmit at) × ((sent stamp).remote_last_seq ≡ seq_add (sent stamp).local_seq_no 1)
+  waits_then stamp = by begun_so.waits
+    where
+      same_una : seq_add u.local_seq_no 1 ≡ seq_add (sent stamp).local_seq_no 1
+      same_una = ap (λ q. seq_add q 1) (sym (kept stamp).una)
+
+      from : (keep : Option Duration) → retransmit_unless_set (idle_from now keep) now u.rtte ≡ retransmit_from now u.rtte
+      from None = refl
+      from (Some d) = refl
+
+      by : SynWaits u → (at : Instant) × ((sent stamp).timer ≡ timer.Retransmit at) × ((sent stamp).remote_last_seq ≡ seq_add (sent stamp).local_seq_no 1)
+      by (NotSent o idle nxt) = (moment_after now (rto_of u.rtte), timer_then stamp ∙ ap (λ tm. retransmit_unless_set (keep_alive_renewed tm now u.keep_alive) now u.rtte) idle ∙ from u.keep_alive, nxt_then stamp ∙ ap (λ q. later_of q (seq_add u.local_seq_no 1)) nxt ∙ later_is u.local_seq_no (seq_add u.local_seq_no 1) (is_earlier u.local_seq_no (seq_add u.local_seq_no 1) (omega (arith, u_small))) ∙ same_una)
+      by (IsSent at waits nxt) = (at, timer_then stamp ∙ ap (λ tm. retransmit_unless_set (keep_alive_renewed tm now u.keep_alive) now u.rtte) waits, nxt_then stamp ∙ ap (λ q. later_of q (seq_add u.local_seq_no 1)) nxt ∙ later_stays (seq_add u.local_seq_no 1) (seq_add u.local_seq_no 1) (is_not_before (seq_add u.local_seq_no 1) (seq_add u.local_seq_no 1) (omega arith)) ∙ same_una)
+
+  pub sent_so : (stamp : Option ℕ) → Repeats x (sent stamp)
+  sent_so stamp =
+      let l = kept stamp in
+      let w = waits_then stamp in
+      record { state = l.state ∙ begun_so.state; peer = l.peer ∙ begun_so.peer; timeout = l.timeout ∙ begun_so.timeout; keep_alive = l.keep_alive ∙ begun_so.keep_alive; una = l.una ∙ begun_so.una; tx = l.tx ∙ begun_so.tx; rx = l.rx ∙ begun_so.rx; rcv = l.rcv ∙ begun_so.rcv; window = l.window ∙ begun_so.window; scale = l.scale ∙ begun_so.scale; shift = l.shift ∙ begun_so.shift; marked = l.marked ∙ ap (λ m. m && not (carries_data u.state)) begun_so.marked; paused = l.paused ∙ begun_so.paused; waits = IsSent w.0 w.1 w.2 }
+
+  pub ack_then : (stamp : Option ℕ) → (sent stamp).remote_last_ack ≡ (segment stamp).ack_number
+  ack_then stamp = plain_ack u t now (segment stamp) open_then
+
+  pub window_then : (stamp : Option ℕ) → (sent stamp).remote_last_win ≡ (segment stamp).window_len
+  window_then stamp = plain_window u t now (segment stamp) open_then
+
+  pub delay_then : (stamp : Option ℕ) → (sent stamp).ack_delay_timer ≡ ack_delay.Idle
+  delay_then stamp = plain_delay u t now (segment stamp) open_then
+
+  -- ---- the dispatch
+
+  due : SynGoesOut v r.waits now → is_due u t fa false ≡ true
+  unfolding is_due data_due
+  due d = rw (begun_so.marked, opens, none) refl
+    where
+      none : flight u ≡ 0
+      none = ap (λ q. seq_sub q u.local_seq_no) (front d) ∙ omega (arith, u_small)
+
+  abbrev bytes : List ℕ
+  bytes = take (min (asked u t fa false) (in_one_piece u.tx_buffer.until_end (length u.tx_buffer.bytes) (offset_of u))) (drop (offset_of u) u.tx_buffer.bytes)
+
+  pub sends : SynGoesOut v r.waits now → DispatchesOk fa false v (Some (out_of None)) (sent None)
+  sends d = sends_so v t fa false on runs (Some (out_of None)) (sent None) (due d) (record { stamp = None; told = refl; bytes = bytes; lent = refl; sends = sym (content_so None bytes); view = refl })
+
+  -- whatever a dispatch does
+  pub goes_so : (out : Option Sending) (w : View) → DispatchesOk fa false v out w → Repeats x w
+  goes_so out w k = by (goes v t fa false on runs out w k)
+    where
+      by : Goes v t fa false on runs out w → Repeats x w
+      by (inl (s, e)) = subst (Repeats x) (sym (s.view ∙ ap (λ o. left_by o u now true) (s.sends ∙ content_so s.stamp s.bytes))) (sent_so s.stamp)
+      by (inr (e, n)) = subst (Repeats x) (sym e) begun_so

@@ -1,0 +1,371 @@
+-- A side that knows a window of 0 asks for it, and is told.
+use Rattle.std.proofs.Common.{◌≡◌, ℕ, ◌+◌, ◌*◌, ◌<◌, ◌≤◌, ◌^◌, ◌⊎◌, inl, inr, true, false, refl, sym, ap, subst, ◌∙◌, List, ◌++◌, length, take, drop, Option, Some, None, arith, append_assoc}
+use Rattle.std.specs.Prelude.{◌≤ℤ◌}
+use Rattle.net_base.specs.declared.time.Duration.{Duration}
+use Rattle.net_base.specs.declared.time.Instant.{Instant}
+use Rattle.control_wire.specs.Seq.{seq_add, seq_sub}
+use Rattle.control_wire.specs.declared.seq_number.TcpSeqNumber.{TcpSeqNumber}
+use Rattle.sock_core.specs.Bounds.{IsMtu}
+use Rattle.sock_core.specs.Facts.{Facts}
+use Rattle.sock_core.specs.Received.{Received}
+use Rattle.sock_tcp.proofs.Windows.{end_small, start_small, window_width}
+use Rattle.sock_tcp.specs.Content.{Sending}
+use Rattle.sock_tcp.specs.Due.{window_field}
+use Rattle.sock_tcp.specs.Process.{processed}
+use Rattle.sock_tcp.specs.Queue.{Queue}
+use Rattle.sock_tcp.specs.Queues.{may_send}
+use Rattle.sock_tcp.specs.Replies.{ack_kept, ack_segment}
+use Rattle.sock_tcp.specs.Steps.{scale_of}
+use Rattle.sock_tcp.specs.Timers.{after as moment_after, is_over, twice}
+use Rattle.sock_tcp.specs.View.{View}
+use Rattle.sock_tcp.specs.Window.{is_inside, kept_between, next_ack, receive_window, window_end}
+use Rattle.sock_tcp.specs.declared.timer.Timer.TheVariants as timer
+use Rattle.sock_tcp.specs.declared.tuple.Tuple.{Tuple}
+use Rattle.tcp_laws.proofs.OrderedCalls.{reached_ordered}
+use Rattle.progress_laws.specs.BothWays.{IsSide, Toward, window_told}
+use Rattle.progress_laws.specs.InStep.{ForAnswer, ForKeepAlive, ForNothing, ForProbe, Moves, NoMove, OneMore, Rests, told as told_at}
+use Rattle.progress_laws.specs.ShutWindows.{SidesShut, CanHear, KnowsOne, TowardShut, WillAsk, width}
+use Rattle.progress_laws.proofs.Begins.{not_zero, some_or_none}
+use Rattle.progress_laws.proofs.Edges.{empty_inside_so, reach_inside, same_seq, shut_outside}
+use Rattle.progress_laws.proofs.Hears.{answered_outside}
+use Rattle.progress_laws.proofs.Probes.{probe_again, probe_field, probe_one, probe_shift, probe_tells_nothing, probe_unsent, probe_window_known, says_probe}
+use Rattle.progress_laws.proofs.Receives.{start_is}
+use Rattle.progress_laws.proofs.Rounds.{cut_and_rest, joined, later_moment}
+use Rattle.progress_laws.proofs.Sends.{Untold}
+use Rattle.progress_laws.proofs.Sides.{Brought, HearsAnswer, brings_side, caught_side, hears_answer, side_narrow, told_alike, told_some, wide_so, width_told}
+use Rattle.progress_laws.proofs.Speaks.{Speaks, SpeaksBytes, SpeaksNothing, says_nothing, wakes}
+use Rattle.progress_laws.proofs.Takes.{IsCaughtUp, Took, old_answered}
+
+-- ---- the receive window of a socket that told nothing
+
+edge_of : Option TcpSeqNumber → TcpSeqNumber → Received → ℕ → ℕ → TcpSeqNumber
+edge_of None rcv rx win shift = seq_add rcv (length rx.bytes)
+edge_of (Some a) rcv rx win shift = kept_between (seq_add rcv (length rx.bytes)) (seq_add (seq_add rcv (length rx.bytes)) (length rx.held)) (seq_add a (win * 2 ^ shift))
+
+edge_is : (v : View) (o : Option TcpSeqNumber) → window_end v o ≡ edge_of o v.remote_seq_no v.rx_buffer v.remote_last_win v.remote_win_shift
+unfolding edge_of
+edge_is v None = refl
+edge_is v (Some a) = refl
+
+same_width : (v y : View) → y.rx_buffer ≡ v.rx_buffer → y.remote_seq_no ≡ v.remote_seq_no → y.remote_win_shift ≡ v.remote_win_shift → y.remote_last_ack ≡ v.remote_last_ack → y.remote_last_win ≡ v.remote_last_win → seq_sub (receive_window y).end (receive_window y).start ≡ seq_sub (receive_window v).end (receive_window v).start
+unfolding receive_window
+same_width v y rx rcv shift ack win =
+    ap (λ e. seq_sub e (next_ack y)) (edge_is y y.remote_last_ack)
+    ∙ (λ i. seq_sub (edge_of (ack i) (rcv i) (rx i) (win i) (shift i)) (seq_add (rcv i) (length ((rx i).bytes))))
+    ∙ ap (λ e. seq_sub e (next_ack v)) (sym (edge_is v v.remote_last_ack))
+
+-- ---- it asked, and knows a window
+
+shut_of : {v w : View} → Toward v w → TowardShut v w
+shut_of o = record { taken = o.taken; taken_within = o.taken_within; there = o.there; scale = o.scale; window = o.window; at_most = o.at_most }
+
+pub record Asked (d e : Option Duration) (t s : Tuple) (f : Facts) (at : Instant) (v w : View) (got : List ℕ) (i : SidesShut d e t s v w) : Type 0 where
+  pub end : Instant
+  pub here : View
+  pub across : View
+  pub more : List ℕ
+  pub moves : Moves f at v w got end here across more
+  pub in_shut : SidesShut d e t s here across
+  pub known : 0 < here.remote_win_len
+  pub still : 0 < w.remote_win_len → 0 < across.remote_win_len
+  pub reach : seq_sub w.remote_last_seq (next_ack v) < window_told v → seq_sub across.remote_last_seq (next_ack here) < window_told here
+  pub reach_own : (0 < v.remote_win_len → seq_sub v.remote_last_seq (next_ack w) < window_told w) → seq_sub here.remote_last_seq (next_ack across) < window_told across
+  pub whole : more ++ drop in_shut.over.taken here.tx_buffer.bytes ≡ got ++ drop i.over.taken v.tx_buffer.bytes
+  pub others : drop in_shut.back.taken across.tx_buffer.bytes ≡ drop i.back.taken w.tx_buffer.bytes
+
+asked_none : (d e : Option Duration) (t s : Tuple) (f : Facts) (at : Instant) (v w : View) (got : List ℕ) (i : SidesShut d e t s v w) → 0 < v.remote_win_len → Asked d e t s f at v w got i
+asked_none d e t s f at v w got i known = record { end = at; here = v; across = w; more = got; moves = NoMove at v w got; in_shut = i; known = known; still = λ h. h; reach = λ h. h; reach_own = λ h. h known; whole = refl; others = refl }
+
+module _ (d e : Option Duration) (t s : Tuple) (f : Facts) (at now : Instant) (since : at.micros ≤ℤ now.micros) (v w : View) (got : List ℕ) (i : SidesShut d e t s v w) where
+  v_small : v.local_seq_no.0 < 2 ^ 32
+  v_small = (reached_ordered v i.here.sender.reached).una_small
+
+  queue_short : length v.tx_buffer.bytes ≤ 2 ^ 30
+  queue_short = omega (arith, (reached_ordered v i.here.sender.reached).room)
+
+  edge : (next_ack w).0 ≡ (seq_add v.local_seq_no i.over.taken).0
+  edge = ap (λ (m : TcpSeqNumber). m.0) i.over.there
+
+  width_w : seq_sub (receive_window w).end (receive_window w).start ≤ 2 ^ 30
+  width_w = omega (arith, window_width w (omega (arith, wide_so w i.across.room i.across.nothing_held, side_narrow i.across)), wide_so w i.across.room i.across.nothing_held, side_narrow i.across)
+
+  width_v : seq_sub (receive_window v).end (receive_window v).start ≤ 2 ^ 30
+  width_v = omega (arith, window_width v (omega (arith, wide_so v i.here.room i.here.nothing_held, side_narrow i.here)), wide_so v i.here.room i.here.nothing_held, side_narrow i.here)
+
+  -- ---- what it said told nothing, and w has it already, or has no place for it
+
+  module _ (hears : (w.remote_last_seq ≡ next_ack v) ⊎ (seq_sub w.remote_last_seq (next_ack v) < width v)) where
+    caught : IsCaughtUp w (next_ack v) i.back.taken i.across.room
+    caught = caught_side i.across (next_ack v) i.back.taken i.back.there i.back.taken_within (by hears)
+      where
+        by : (w.remote_last_seq ≡ next_ack v) ⊎ (seq_sub w.remote_last_seq (next_ack v) < width v) → seq_sub w.remote_last_seq (next_ack v) ≤ 2 ^ 30
+        by (inl e) = omega (arith, ap (λ (q : TcpSeqNumber). q.0) e)
+        by (inr h) = omega (arith, h, width_v)
+
+  module _ (out : Sending) (x : View) (speaks : Speaks (told_at f now) v out x) (shift : x.remote_win_shift ≡ v.remote_win_shift) (untold : Untold v x) (short : length out.segment.payload ≤ 65535) (number : out.segment.seq_number.0 < 2 ^ 32) (hears : (w.remote_last_seq ≡ next_ack v) ⊎ (seq_sub w.remote_last_seq (next_ack v) < width v)) where
+    own : next_ack x ≡ next_ack v
+    own = (λ j. seq_add (speaks.waits.rcv j) (length ((speaks.waits.rx j).bytes)))
+
+    width_x : seq_sub (receive_window x).end (receive_window x).start ≡ seq_sub (receive_window v).end (receive_window v).start
+    width_x = same_width v x speaks.waits.rx speaks.waits.rcv shift untold.last_ack untold.last_win
+
+    start_x : (receive_window x).start ≡ next_ack v
+    start_x = start_is x ∙ own
+
+    lies : is_inside (receive_window x) w.remote_last_seq 0 ≡ true
+    unfolding is_inside
+    lies = by hears
+      where
+        narrow : seq_sub (receive_window x).end (receive_window x).start ≤ 2 ^ 30
+        narrow = omega (arith, width_x, width_v)
+
+        by : (w.remote_last_seq ≡ next_ack v) ⊎ (seq_sub w.remote_last_seq (next_ack v) < width v) → is_inside (receive_window x) w.remote_last_seq 0 ≡ true
+        by (inl e) = ap (λ n. is_inside (receive_window x) n 0) (e ∙ sym start_x) ∙ empty_inside_so (receive_window x) (start_small x) (end_small x) narrow
+        by (inr h) = reach_inside (receive_window x) (start_small x) (end_small x) narrow w.remote_last_seq (reached_ordered w i.across.sender.reached).nxt_small (omega (arith, width_x, h, ap (λ (q : TcpSeqNumber). q.0) start_x))
+
+    module _ (answer : processed w now 0 out.ip out.segment ≡ record { view = ack_kept w; reply = Some (ack_segment w out.segment) }) (near : seq_sub (next_ack w) x.remote_last_seq ≤ 2 ^ 30) where
+      r : HearsAnswer d e t s f now v w x i.over.taken
+      r = hears_answer d e t s f now v w i.here i.across i.over.taken i.over.taken_within i.over.there i.over.scale out x speaks shift short number answer lies near
+
+      is_told : Asked d e t s f at v w got i
+      unfolding ack_kept shut_of
+      is_told = record {
+        end = now;
+        here = r.view;
+        across = ack_kept w;
+        more = got;
+        moves = OneMore at now now v w r.view (ack_kept w) r.view (ack_kept w) got got got since (r.move got) (NoMove now r.view (ack_kept w) got);
+        in_shut = record {
+          here = r.here;
+          across = r.across;
+          over = shut_of r.over;
+          back = record {
+            taken = i.back.taken;
+            taken_within = i.back.taken_within;
+            there = r.next ∙ i.back.there;
+            scale = i.back.scale ∙ sym r.shift;
+            window = omega (arith, i.back.window, same_width v r.view r.rx r.rcv r.shift (r.last_ack ∙ untold.last_ack) (r.last_win ∙ untold.last_win));
+            at_most = subst (λ m. w.remote_win_len ≤ m) (sym (told_alike v r.view r.rx r.shift)) i.back.at_most;
+          };
+          hears_here = KnowsOne r.over.some;
+          hears_across = by i.hears_across;
+        };
+        known = r.over.some;
+        still = λ h. h;
+        reach = λ h. omega (arith, h, ap (λ (q : TcpSeqNumber). q.0) r.next, told_alike v r.view r.rx r.shift);
+        reach_own = λ h. omega (arith, ap (λ (q : TcpSeqNumber). q.0) r.nxt, told_some w i.across.room i.across.nothing_held i.across.room_at_least);
+        whole = ap (λ k. got ++ drop k r.view.tx_buffer.bytes) r.none ∙ ap (λ (l : List ℕ). got ++ l) r.queue;
+        others = refl;
+      }
+        where
+          by : CanHear w v → CanHear (ack_kept w) r.view
+          by (KnowsOne h) = KnowsOne h
+          by (WillAsk not_last h told) = WillAsk not_last (inl r.nxt) (omega (arith, width_told w (ack_kept w) i.across.room (wide_so w i.across.room i.across.nothing_held) (side_narrow i.across) refl refl refl refl refl))
+
+  -- ---- a keep-alive
+
+  keeps_alive : (hears : (w.remote_last_seq ≡ next_ack v) ⊎ (seq_sub w.remote_last_seq (next_ack v) < width v)) → SpeaksNothing (told_at f now) v → Asked d e t s f at v w got i
+  keeps_alive hears q =
+      let number = ap (λ (m : TcpSeqNumber). m.0) q.number in
+      let nxt = ap (λ (m : TcpSeqNumber). m.0) q.nxt in
+      let within = i.over.taken_within in
+      is_told q.out q.after q.speaks q.shift q.untold (omega (arith, q.one)) (omega (arith, number)) hears
+      (old_answered w (next_ack v) i.back.taken i.across.room now q.out.ip q.out.segment (caught hears) q.speaks.bit q.speaks.ack (omega (arith, q.one)) (omega (arith, number)) (omega (arith, number, edge, v_small, within, queue_short)) (omega (arith, number, edge, v_small, within, queue_short)) (omega (arith, number, q.one, edge, v_small, within, queue_short)))
+      (omega (arith, nxt, edge, v_small, within, queue_short))
+
+  -- ---- a probe
+
+  module _ (hears : (w.remote_last_seq ≡ next_ack v) ⊎ (seq_sub w.remote_last_seq (next_ack v) < width v)) (p : SpeaksBytes (told_at f now) v) (one : length p.out.segment.payload ≡ 1) (unsent : p.sent ≡ 0) (shift : p.after.remote_win_shift ≡ v.remote_win_shift) (untold : Untold v p.after) where
+    number : p.out.segment.seq_number.0 ≡ v.local_seq_no.0
+    number = ap (λ (m : TcpSeqNumber). m.0) p.number
+
+    nxt : p.after.remote_last_seq.0 ≡ (seq_add v.local_seq_no 0).0
+    nxt = ap (λ (m : TcpSeqNumber). m.0) p.nxt ∙ ap (λ k. (seq_add v.local_seq_no k).0) unsent
+
+    -- of a byte that w has
+    probes_old : 0 < i.over.taken → Asked d e t s f at v w got i
+    probes_old some =
+        let within = i.over.taken_within in
+        is_told p.out p.after p.speaks shift untold (omega (arith, one)) (omega (arith, number, v_small)) hears
+        (old_answered w (next_ack v) i.back.taken i.across.room now p.out.ip p.out.segment (caught hears) p.speaks.bit p.speaks.ack p.some (omega (arith, number, v_small)) (omega (arith, number, edge, v_small, within, queue_short, some)) (omega (arith, number, edge, v_small, within, queue_short)) (omega (arith, number, edge, v_small, within, queue_short, some, one)))
+        (omega (arith, nxt, edge, v_small, within, queue_short))
+
+    -- where w has told no place
+    probes_shut : i.over.taken ≡ 0 → seq_sub (receive_window w).end (receive_window w).start ≡ 0 → Asked d e t s f at v w got i
+    unfolding is_inside
+    probes_shut none z =
+        is_told p.out p.after p.speaks shift untold (omega (arith, one)) (omega (arith, number, v_small)) hears
+        (answered_outside w now 0 p.out.ip p.out.segment (next_ack v) (caught hears).state p.speaks.ack p.speaks.bit (omega arith) (caught hears).una_small (omega (arith, ap (λ (m : TcpSeqNumber). m.0) (caught hears).there, (caught hears).una_small, (caught hears).queued, (caught hears).short)) (caught hears).short away (not_zero (length p.out.segment.payload) p.some))
+        (omega (arith, nxt, edge, v_small, none))
+      where
+        away : is_inside (receive_window w) p.out.segment.seq_number (length p.out.segment.payload) ≡ false
+        away = rw (not_zero (length p.out.segment.payload) p.some) (shut_outside (receive_window w) (start_small w) (end_small w) width_w p.out.segment.seq_number (seq_add p.out.segment.seq_number (length p.out.segment.payload)) z)
+
+    -- of a byte that w takes: v goes on probing, and w knows a window
+    module _ (field : p.out.segment.window_len ≡ window_field v) (window : p.after.remote_win_len ≡ v.remote_win_len) (shut : v.remote_win_len ≡ 0) (later : Instant) (delay : Duration) (again : p.after.timer ≡ timer.ZeroWindowProbe later delay) (none : i.over.taken ≡ 0) (fits : 1 ≤ seq_sub (receive_window w).end (receive_window w).start) where
+      told_is : p.out.segment.window_len * 2 ^ scale_of w.remote_win_scale ≡ window_told v
+      told_is = (λ j. field j * 2 ^ i.back.scale j)
+
+      win : 0 < p.out.segment.window_len * 2 ^ scale_of w.remote_win_scale
+      win = subst (λ n. 0 < n) (sym told_is) (told_some v i.here.room i.here.nothing_held i.here.room_at_least)
+
+      b : Brought e s f now v w p.after (next_ack v) i.back.taken i.across.room 1 (p.out.segment.window_len * 2 ^ scale_of w.remote_win_scale) (drop 0 p.out.segment.payload)
+      b = brings_side e s f now v p.after w p.out p.speaks.dispatch i.across (next_ack v) i.back.taken (caught hears) p.speaks.bit p.speaks.ack (omega (arith, number, v_small)) (omega (arith, one)) win 0 1 (omega (arith, number, edge, none, v_small)) (omega arith) (omega (arith, one)) (omega arith) fits (omega (arith, number, edge, none, one, v_small))
+
+      k : Took w (next_ack v) i.back.taken i.across.room 1 (p.out.segment.window_len * 2 ^ scale_of w.remote_win_scale) now b.view
+      k = b.took
+
+      own_then : next_ack p.after ≡ next_ack v
+      own_then = (λ j. seq_add (p.speaks.waits.rcv j) (length ((p.speaks.waits.rx j).bytes)))
+
+      told_then : window_told p.after ≡ window_told v
+      told_then = told_alike v p.after p.speaks.waits.rx shift
+
+      width_then : width p.after ≡ width v
+      width_then = same_width v p.after p.speaks.waits.rx p.speaks.waits.rcv shift untold.last_ack untold.last_win
+
+      queue_then : length p.after.tx_buffer.bytes ≡ length v.tx_buffer.bytes
+      queue_then = ap (λ (q : Queue). length q.bytes) p.speaks.waits.tx
+
+      nxt_then : p.after.remote_last_seq ≡ p.after.local_seq_no
+      nxt_then = same_seq p.after.remote_last_seq p.after.local_seq_no (omega (arith, nxt, ap (λ (q : TcpSeqNumber). q.0) p.speaks.waits.una, v_small))
+
+      some_then : 0 < length p.after.tx_buffer.bytes
+      some_then = omega (arith, queue_then, p.queued, one)
+
+      side_then : IsSide d t p.after
+      side_then =
+          let h = p.speaks.waits in
+          record {
+            sender = record { reached = h.reached; state = ap may_send h.state ∙ i.here.sender.state; peer = h.peer ∙ i.here.sender.peer; no_timeout = h.timeout ∙ i.here.sender.no_timeout; keep_alive = h.keep_alive ∙ i.here.sender.keep_alive; nothing_marked = h.nothing_marked; rests = ForProbe later delay again nxt_then some_then };
+            established = h.state ∙ i.here.established;
+            read = ap (λ (q : Received). q.bytes) h.rx ∙ i.here.read;
+            room = i.here.room;
+            nothing_held = ap (λ (q : Received). q.held) h.rx ∙ i.here.nothing_held;
+            room_at_least = subst (λ m. 2 ^ m ≤ i.here.room) (sym shift) i.here.room_at_least;
+          }
+
+      -- what v did not say
+      no_wait : (z : Instant) → p.after.timer ≡ timer.Retransmit z → ⊥
+      no_wait z e = probe_or (sym again ∙ e)
+        where
+          probe_or : timer.ZeroWindowProbe later delay ≡ timer.Retransmit z → ⊥
+          probe_or x = absurd cc
+
+      hears_then : (w.remote_last_seq ≡ next_ack v) ⊎ (seq_sub w.remote_last_seq (next_ack v) < width v) → (b.view.remote_last_seq ≡ next_ack p.after) ⊎ (seq_sub b.view.remote_last_seq (next_ack p.after) < width p.after)
+      hears_then (inl h) = inl (k.nxt ∙ h ∙ sym own_then)
+      hears_then (inr h) = inr (omega (arith, h, ap (λ (q : TcpSeqNumber). q.0) k.nxt, ap (λ (q : TcpSeqNumber). q.0) own_then, width_then))
+
+      shut_then : window_told v ≤ width v → SidesShut d e t s p.after b.view
+      shut_then told = record {
+        here = side_then;
+        across = b.side;
+        over = record {
+          taken = 1;
+          taken_within = omega (arith, queue_then, p.queued, one);
+          there = same_seq (next_ack b.view) (seq_add p.after.local_seq_no 1) (omega (arith, k.next, edge, none, v_small, ap (λ (q : TcpSeqNumber). q.0) p.speaks.waits.una));
+          scale = ap scale_of p.speaks.waits.scale ∙ i.over.scale ∙ sym k.shift;
+          window = omega (arith, window, shut);
+          at_most = omega (arith, window, shut);
+        };
+        back = record {
+          taken = 0;
+          taken_within = omega arith;
+          there = own_then ∙ same_seq (next_ack v) (seq_add (next_ack v) 0) (omega arith) ∙ ap (λ q. seq_add q 0) (sym k.una);
+          scale = ap scale_of k.scale ∙ i.back.scale ∙ sym shift;
+          window = omega (arith, k.window, told_is, told, width_then);
+          at_most = omega (arith, k.window, told_is, told_then);
+        };
+        hears_here = WillAsk no_wait (hears_then hears) (omega (arith, told, told_then, width_then));
+        hears_across = KnowsOne (subst (λ n. 0 < n) (sym k.window) win);
+      }
+
+      whole_then : (got ++ drop 0 p.out.segment.payload) ++ drop 1 p.after.tx_buffer.bytes ≡ got ++ drop i.over.taken v.tx_buffer.bytes
+      whole_then =
+          append_assoc got p.out.segment.payload (drop 1 p.after.tx_buffer.bytes)
+          ∙ (λ j. got ++ ((p.first ∙ ap (λ n. take n v.tx_buffer.bytes) one) j ++ drop 1 (p.speaks.waits.tx j).bytes))
+          ∙ ap (λ (l : List ℕ). got ++ l) (cut_and_rest 0 1 v.tx_buffer.bytes (omega arith))
+          ∙ ap (λ n. got ++ drop n v.tx_buffer.bytes) (sym none)
+
+      reach_then : seq_sub w.remote_last_seq (next_ack v) < window_told v → seq_sub b.view.remote_last_seq (next_ack p.after) < window_told p.after
+      reach_then h = omega (arith, h, ap (λ (q : TcpSeqNumber). q.0) k.nxt, ap (λ (q : TcpSeqNumber). q.0) own_then, told_then)
+
+      -- and then it is answered
+      then_asked : (told : window_told v ≤ width v) → Asked d e t s f now p.after b.view (got ++ drop 0 p.out.segment.payload) (shut_then told) → Asked d e t s f at v w got i
+      unfolding shut_then
+      then_asked told a = record {
+        end = a.end;
+        here = a.here;
+        across = a.across;
+        more = a.more;
+        moves = joined at now a.end v w p.after b.view a.here a.across got (got ++ drop 0 p.out.segment.payload) a.more (b.moves at since got) a.moves;
+        in_shut = a.in_shut;
+        known = a.known;
+        still = λ h. a.still (subst (λ n. 0 < n) (sym k.window) win);
+        reach = λ h. a.reach (reach_then h);
+        reach_own = λ h. a.reach_own (λ x. absurd (omega (arith, x, window, shut)));
+        whole = a.whole ∙ whole_then;
+        others = a.others ∙ k.tx;
+      }
+
+-- ---- all its ways to ask
+
+module _ (d e : Option Duration) (t s : Tuple) (f : Facts) (mtu : IsMtu f.mtu) (address : f.has_address t.local.addr ≡ true) where
+  probes : (at now : Instant) → at.micros ≤ℤ now.micros → (v w : View) (got : List ℕ) (i : SidesShut d e t s v w) (hears : (w.remote_last_seq ≡ next_ack v) ⊎ (seq_sub w.remote_last_seq (next_ack v) < width v)) → window_told v ≤ width v → (m : Instant) (delay : Duration) → v.timer ≡ timer.ZeroWindowProbe m delay → v.remote_last_seq ≡ v.local_seq_no → 0 < length v.tx_buffer.bytes → is_over m now ≡ true → v.remote_win_len ≡ 0 → Asked d e t s f at v w got i
+  unfolding shut_then
+  probes at now since v w got i hears told m delay waits nxt queue over shut = by (some_or_none i.over.taken) (some_or_none (width w))
+    where
+      p : SpeaksBytes (told_at f now) v
+      p = says_probe d t v f now m delay mtu address i.here.sender waits nxt queue over
+
+      one : length p.out.segment.payload ≡ 1
+      one = probe_one d t v f now m delay mtu address i.here.sender waits nxt queue over
+
+      unsent : p.sent ≡ 0
+      unsent = probe_unsent d t v f now m delay mtu address i.here.sender waits nxt queue over
+
+      shift : p.after.remote_win_shift ≡ v.remote_win_shift
+      shift = probe_shift d t v f now m delay mtu address i.here.sender waits nxt queue over
+
+      untold : Untold v p.after
+      untold = probe_tells_nothing d t v f now m delay mtu address i.here.sender waits nxt queue over
+
+      twice_then : i.over.taken ≡ 0 → 0 < width w → Asked d e t s f at v w got i
+      twice_then none fits =
+          let field = probe_field d t v f now m delay mtu address i.here.sender waits nxt queue over in
+          let window = probe_window_known d t v f now m delay mtu address i.here.sender waits nxt queue over in
+          let again = probe_again d t v f now m delay mtu address i.here.sender waits nxt queue over in
+          let x = p.after in
+          let y = (b d e t s f at now since v w got i hears p one unsent shift untold field window shut (moment_after now (twice delay)) (twice delay) again none fits).view in
+          let j : SidesShut d e t s x y = shut_then d e t s f at now since v w got i hears p one unsent shift untold field window shut (moment_after now (twice delay)) (twice delay) again none fits told in
+          let h = hears_then d e t s f at now since v w got i hears p one unsent shift untold field window shut (moment_after now (twice delay)) (twice delay) again none fits hears in
+          let n = nxt_then d e t s f at now since v w got i hears p one unsent shift untold field window shut (moment_after now (twice delay)) (twice delay) again none fits in
+          let q = some_then d e t s f at now since v w got i hears p one unsent shift untold field window shut (moment_after now (twice delay)) (twice delay) again none fits in
+          let z = later_moment now (moment_after now (twice delay)) in
+          let o : SpeaksBytes (told_at f z.0) x = says_probe d t x f z.0 (moment_after now (twice delay)) (twice delay) mtu address j.here.sender again n q z.2 in
+          then_asked d e t s f at now since v w got i hears p one unsent shift untold field window shut (moment_after now (twice delay)) (twice delay) again none fits told
+          (probes_old d e t s f now z.0 z.1 x y (got ++ drop 0 p.out.segment.payload) j h o
+          (probe_one d t x f z.0 (moment_after now (twice delay)) (twice delay) mtu address j.here.sender again n q z.2)
+          (probe_unsent d t x f z.0 (moment_after now (twice delay)) (twice delay) mtu address j.here.sender again n q z.2)
+          (probe_shift d t x f z.0 (moment_after now (twice delay)) (twice delay) mtu address j.here.sender again n q z.2)
+          (probe_tells_nothing d t x f z.0 (moment_after now (twice delay)) (twice delay) mtu address j.here.sender again n q z.2)
+          (omega arith))
+
+      by : (i.over.taken ≡ 0) ⊎ (0 < i.over.taken) → (width w ≡ 0) ⊎ (0 < width w) → Asked d e t s f at v w got i
+      by (inr some) any = probes_old d e t s f at now since v w got i hears p one unsent shift untold some
+      by (inl none) (inl z) = probes_shut d e t s f at now since v w got i hears p one unsent shift untold none z
+      by (inl none) (inr fits) = twice_then none fits
+
+  pub ask : (at : Instant) (v w : View) (got : List ℕ) (i : SidesShut d e t s v w) → Asked d e t s f at v w got i
+  ask at v w got i = by i.hears_here (some_or_none v.remote_win_len)
+    where
+      asks : ((z : Instant) → v.timer ≡ timer.Retransmit z → ⊥) → (w.remote_last_seq ≡ next_ack v) ⊎ (seq_sub w.remote_last_seq (next_ack v) < width v) → window_told v ≤ width v → v.remote_win_len ≡ 0 → (r : Rests v) → (z : Instant) × (at.micros ≤ℤ z.micros) × (is_over (wakes r) z ≡ true) → Asked d e t s f at v w got i
+      asks not_last hears told none (ForNothing idle nxt some) z = absurd (omega (arith, none, some))
+      asks not_last hears told none (ForAnswer m again) z = absurd (not_last m again)
+      asks not_last hears told none (ForKeepAlive m idle nxt) z = keeps_alive d e t s f at z.0 z.1 v w got i hears (says_nothing d t v f z.0 mtu address i.here.sender m idle nxt z.2 none)
+      asks not_last hears told none (ForProbe m delay waits nxt queue) z = probes at z.0 z.1 v w got i hears told m delay waits nxt queue z.2 none
+
+      by : CanHear v w → (v.remote_win_len ≡ 0) ⊎ (0 < v.remote_win_len) → Asked d e t s f at v w got i
+      by (KnowsOne known) any = asked_none d e t s f at v w got i known
+      by (WillAsk not_last hears told) (inr known) = asked_none d e t s f at v w got i known
+      by (WillAsk not_last hears told) (inl none) = asks not_last hears told none i.here.sender.rests (later_moment at (wakes i.here.sender.rests))
