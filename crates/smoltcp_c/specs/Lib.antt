@@ -1,4 +1,5 @@
 pub mod Answers
+pub mod Asked
 pub mod Context
 pub mod Icmp
 pub mod Memory
@@ -8,6 +9,7 @@ pub mod Places
 pub mod Ports
 pub mod Raw
 pub mod Sends
+pub mod Sizes
 pub mod Streams
 pub mod Tcp
 pub mod Udp

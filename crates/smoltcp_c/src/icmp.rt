@@ -1,21 +1,18 @@
 //! The calls of an ICMP socket (RFC 792, RFC 4443) that take no context and no packet.
-ghost use Rattle.std.specs.Prelude.{◌≡◌, ◌≤◌, ◌<◌, ◌^◌, [], pos, min, length, true, false, None, Some, is_some, IfOk};
+ghost use Rattle.std.specs.Prelude.{◌≡◌, ◌≤◌, ◌<◌, ◌^◌, [], pos, min, length, true, None, Some, is_some, IfOk};
 ghost use Rattle.ip_wire.specs.declared.address.IpAddress.{IpAddress};
-ghost use Rattle.net_base.specs.Packets.{Dequeues, first_packet, packets_with, skipped, taken};
-ghost use Rattle.sock_dgram.specs.Datagrams.{copied, copy_answer, has_entry, has_place};
-ghost use Rattle.sock_dgram.specs.Icmp.{after_bind, after_send, bind_answer as answer_of, fresh, is_open, send_answer};
-ghost use Rattle.smoltcp_c.specs.Answers.{bind_answer, copied_answer, datagram_answer, error_room, flag_answer};
+ghost use Rattle.net_base.specs.Packets.{Dequeues, first_packet, packets_with};
+ghost use Rattle.sock_dgram.specs.Datagrams.{copied, copy_answer};
+ghost use Rattle.sock_dgram.specs.Icmp.{after_bind, after_send, bind_answer as answer_of, fresh, send_answer};
+ghost use Rattle.smoltcp_c.specs.Answers.{bind_answer, copied_answer, datagram_answer, error_room};
 ghost use Rattle.smoltcp_c.specs.Icmp.{address_written, icmp_endpoint_in, with_socket};
 ghost use Rattle.smoltcp_c.specs.Numbers.{address_in, byte_or_none};
-ghost use Rattle.smoltcp_c.specs.Tcp.{byte_told};
 
-use crate::answers::{
-    ERROR_ROOM, OK, bind_answer, count_answer, datagram_answer, flag_answer, refused_copy,
-};
+use crate::answers::{ERROR_ROOM, OK, bind_answer, datagram_answer, refused_copy};
 use crate::endpoints::{Address, Endpoint, address_in, address_of, listen_in};
 use crate::icmp_handle::{IcmpHandle, IcmpPlaceRoom, IcmpPlaces, IcmpRoom};
 use crate::memory::Bytes;
-use crate::settings::{byte_or_none, byte_told};
+use crate::settings::byte_or_none;
 use ip_wire::IpAddress;
 use sock_dgram::icmp;
 use sock_dgram::icmp::{PacketBuffer, PacketMetadata, RecvError, Socket};
@@ -92,106 +89,6 @@ pub extern "C" fn smoltcp_icmp_bind_checked(h: &mut IcmpHandle, endpoint: &IcmpE
 {
     let endpoint = icmp_endpoint_in(endpoint);
     bind_answer(h.socket().bind(endpoint))
-}
-
-/// 1 where the socket is bound, else 0.
-#[unsafe(no_mangle)]
-pub extern "C" fn smoltcp_icmp_is_open_checked(h: &mut IcmpHandle) -> i64
-    ensures answer { result ≡ flag_answer (is_open h.old.socket) }
-    ensures at { h.new.at ≡ h.old.at }
-    ensures same { h.new.socket ≡ h.old.socket }
-{
-    flag_answer(h.socket().is_open())
-}
-
-/// 1 where the transmit queue has a free place, else 0.
-#[unsafe(no_mangle)]
-pub extern "C" fn smoltcp_icmp_can_send_checked(h: &mut IcmpHandle) -> i64
-    ensures answer { result ≡ flag_answer (has_place h.old.socket.tx_buffer) }
-    ensures at { h.new.at ≡ h.old.at }
-    ensures same { h.new.socket ≡ h.old.socket }
-{
-    flag_answer(h.socket().can_send())
-}
-
-/// 1 where a place of the receive queue is taken, else 0.
-#[unsafe(no_mangle)]
-pub extern "C" fn smoltcp_icmp_can_recv_checked(h: &mut IcmpHandle) -> i64
-    ensures answer { result ≡ flag_answer (has_entry h.old.socket.rx_buffer) }
-    ensures at { h.new.at ≡ h.old.at }
-    ensures same { h.new.socket ≡ h.old.socket }
-{
-    flag_answer(h.socket().can_recv())
-}
-
-/// How many messages the transmit queue has places for: 2^30 at most.
-#[unsafe(no_mangle)]
-pub extern "C" fn smoltcp_icmp_packet_send_capacity_checked(h: &mut IcmpHandle) -> i64
-    ensures answer { result ≡ pos (min h.old.socket.tx_buffer.places (2 ^ 30)) }
-    ensures at { h.new.at ≡ h.old.at }
-    ensures same { h.new.socket ≡ h.old.socket }
-{
-    count_answer(h.socket().packet_send_capacity())
-}
-
-/// How many messages the receive queue has places for: 2^30 at most.
-#[unsafe(no_mangle)]
-pub extern "C" fn smoltcp_icmp_packet_recv_capacity_checked(h: &mut IcmpHandle) -> i64
-    ensures answer { result ≡ pos (min h.old.socket.rx_buffer.places (2 ^ 30)) }
-    ensures at { h.new.at ≡ h.old.at }
-    ensures same { h.new.socket ≡ h.old.socket }
-{
-    count_answer(h.socket().packet_recv_capacity())
-}
-
-/// How many bytes the transmit queue holds when it is full: 2^30 at most.
-#[unsafe(no_mangle)]
-pub extern "C" fn smoltcp_icmp_payload_send_capacity_checked(h: &mut IcmpHandle) -> i64
-    ensures answer { result ≡ pos (min (length h.old.socket.tx_buffer.storage) (2 ^ 30)) }
-    ensures at { h.new.at ≡ h.old.at }
-    ensures same { h.new.socket ≡ h.old.socket }
-{
-    count_answer(h.socket().payload_send_capacity())
-}
-
-/// How many bytes the receive queue holds when it is full: 2^30 at most.
-#[unsafe(no_mangle)]
-pub extern "C" fn smoltcp_icmp_payload_recv_capacity_checked(h: &mut IcmpHandle) -> i64
-    ensures answer { result ≡ pos (min (length h.old.socket.rx_buffer.storage) (2 ^ 30)) }
-    ensures at { h.new.at ≡ h.old.at }
-    ensures same { h.new.socket ≡ h.old.socket }
-{
-    count_answer(h.socket().payload_recv_capacity())
-}
-
-/// How many bytes of the transmit queue are taken, padding included: 2^30 at most.
-#[unsafe(no_mangle)]
-pub extern "C" fn smoltcp_icmp_send_queue_checked(h: &mut IcmpHandle) -> i64
-    ensures answer { result ≡ pos (min (taken h.old.socket.tx_buffer.entries) (2 ^ 30)) }
-    ensures at { h.new.at ≡ h.old.at }
-    ensures same { h.new.socket ≡ h.old.socket }
-{
-    count_answer(h.socket().send_queue())
-}
-
-/// How many bytes of the receive queue are taken, padding included: 2^30 at most.
-#[unsafe(no_mangle)]
-pub extern "C" fn smoltcp_icmp_recv_queue_checked(h: &mut IcmpHandle) -> i64
-    ensures answer { result ≡ pos (min (taken h.old.socket.rx_buffer.entries) (2 ^ 30)) }
-    ensures at { h.new.at ≡ h.old.at }
-    ensures same { h.new.socket ≡ h.old.socket }
-{
-    count_answer(h.socket().recv_queue())
-}
-
-/// The hop limit of what is sent, or 0 where none is set, for 64.
-#[unsafe(no_mangle)]
-pub extern "C" fn smoltcp_icmp_hop_limit_checked(h: &mut IcmpHandle) -> i64
-    ensures answer { result ≡ byte_told h.old.socket.hop_limit }
-    ensures at { h.new.at ≡ h.old.at }
-    ensures same { h.new.socket ≡ h.old.socket }
-{
-    byte_told(h.socket().hop_limit())
 }
 
 /// Sets the hop limit of what is sent, or 64 where the number is 0. Answers 0.

@@ -3,6 +3,7 @@
 #![tactic(auto)]
 
 pub mod answers;
+pub mod asked;
 pub mod clock;
 pub mod context;
 pub mod contexts;

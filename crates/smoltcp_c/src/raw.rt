@@ -1,16 +1,16 @@
 //! The calls of a raw socket that take no context, and no packet but as bytes of the program.
-ghost use Rattle.std.specs.Prelude.{◌≡◌, ◌≤◌, ◌<◌, ◌^◌, [], pos, min, length, true, false, None, Option, Some, is_some};
+ghost use Rattle.std.specs.Prelude.{◌≡◌, ◌≤◌, ◌<◌, ◌^◌, [], pos, min, length, true, None, Option, Some, is_some};
 ghost use Rattle.std.specs.Prelude.{IfOk};
 ghost use Rattle.ip_wire.specs.declared.protocol.IpVersion.{IpVersion};
-ghost use Rattle.net_base.specs.Packets.{Dequeues, first_packet, packets_with, skipped, taken};
-ghost use Rattle.sock_dgram.specs.Datagrams.{copied, copy_answer, has_entry, has_place, stored, with_metadata};
+ghost use Rattle.net_base.specs.Packets.{Dequeues, first_packet, packets_with, skipped};
+ghost use Rattle.sock_dgram.specs.Datagrams.{copied, copy_answer, stored, with_metadata};
 ghost use Rattle.sock_dgram.specs.Raw.{fresh, send_answer};
-ghost use Rattle.smoltcp_c.specs.Answers.{copied_answer, error_range, error_room, flag_answer};
-ghost use Rattle.smoltcp_c.specs.Raw.{packet_answer, protocol_in, protocol_told, version_in, version_told, with_socket};
+ghost use Rattle.smoltcp_c.specs.Answers.{copied_answer, error_range, error_room};
+ghost use Rattle.smoltcp_c.specs.Raw.{packet_answer, protocol_in, version_in, with_socket};
 
-use crate::answers::{ERROR_RANGE, ERROR_ROOM, OK, count_answer, flag_answer, refused_copy};
+use crate::answers::{ERROR_RANGE, ERROR_ROOM, OK, refused_copy};
 use crate::memory::Bytes;
-use crate::raw_filter::{RawFilter, protocol_in, protocol_of, version_in, version_of};
+use crate::raw_filter::{RawFilter, protocol_in, version_in};
 use crate::raw_handle::{RawHandle, RawPlaceRoom, RawPlaces, RawRoom};
 use crate::wire::LONGEST_PACKET;
 use sock_dgram::raw::{PacketBuffer, PacketMetadata, RecvError, SendError, Socket};
@@ -58,106 +58,6 @@ pub extern "C" fn smoltcp_raw_init_checked(
     };
     room.fill(Socket::new(version, protocol_in(filter), rx, tx));
     OK
-}
-
-/// The version of IP of the socket's packets: 4, 6, or 0 for both.
-#[unsafe(no_mangle)]
-pub extern "C" fn smoltcp_raw_ip_version_checked(h: &mut RawHandle) -> i64
-    ensures answer { result ≡ version_told h.old.socket.ip_version }
-    ensures at { h.new.at ≡ h.old.at }
-    ensures same { h.new.socket ≡ h.old.socket }
-{
-    version_of(h.socket().ip_version())
-}
-
-/// The number of the protocol of the socket's packets, or -1 for any.
-#[unsafe(no_mangle)]
-pub extern "C" fn smoltcp_raw_ip_protocol_checked(h: &mut RawHandle) -> i64
-    ensures answer { result ≡ protocol_told h.old.socket.ip_protocol }
-    ensures at { h.new.at ≡ h.old.at }
-    ensures same { h.new.socket ≡ h.old.socket }
-{
-    protocol_of(h.socket().ip_protocol())
-}
-
-/// 1 where the transmit queue has a free place, else 0.
-#[unsafe(no_mangle)]
-pub extern "C" fn smoltcp_raw_can_send_checked(h: &mut RawHandle) -> i64
-    ensures answer { result ≡ flag_answer (has_place h.old.socket.tx_buffer) }
-    ensures at { h.new.at ≡ h.old.at }
-    ensures same { h.new.socket ≡ h.old.socket }
-{
-    flag_answer(h.socket().can_send())
-}
-
-/// 1 where a place of the receive queue is taken, else 0.
-#[unsafe(no_mangle)]
-pub extern "C" fn smoltcp_raw_can_recv_checked(h: &mut RawHandle) -> i64
-    ensures answer { result ≡ flag_answer (has_entry h.old.socket.rx_buffer) }
-    ensures at { h.new.at ≡ h.old.at }
-    ensures same { h.new.socket ≡ h.old.socket }
-{
-    flag_answer(h.socket().can_recv())
-}
-
-/// How many packets the transmit queue has places for: 2^30 at most.
-#[unsafe(no_mangle)]
-pub extern "C" fn smoltcp_raw_packet_send_capacity_checked(h: &mut RawHandle) -> i64
-    ensures answer { result ≡ pos (min h.old.socket.tx_buffer.places (2 ^ 30)) }
-    ensures at { h.new.at ≡ h.old.at }
-    ensures same { h.new.socket ≡ h.old.socket }
-{
-    count_answer(h.socket().packet_send_capacity())
-}
-
-/// How many packets the receive queue has places for: 2^30 at most.
-#[unsafe(no_mangle)]
-pub extern "C" fn smoltcp_raw_packet_recv_capacity_checked(h: &mut RawHandle) -> i64
-    ensures answer { result ≡ pos (min h.old.socket.rx_buffer.places (2 ^ 30)) }
-    ensures at { h.new.at ≡ h.old.at }
-    ensures same { h.new.socket ≡ h.old.socket }
-{
-    count_answer(h.socket().packet_recv_capacity())
-}
-
-/// How many payload bytes the transmit queue holds when it is full: 2^30 at most.
-#[unsafe(no_mangle)]
-pub extern "C" fn smoltcp_raw_payload_send_capacity_checked(h: &mut RawHandle) -> i64
-    ensures answer { result ≡ pos (min (length h.old.socket.tx_buffer.storage) (2 ^ 30)) }
-    ensures at { h.new.at ≡ h.old.at }
-    ensures same { h.new.socket ≡ h.old.socket }
-{
-    count_answer(h.socket().payload_send_capacity())
-}
-
-/// How many payload bytes the receive queue holds when it is full: 2^30 at most.
-#[unsafe(no_mangle)]
-pub extern "C" fn smoltcp_raw_payload_recv_capacity_checked(h: &mut RawHandle) -> i64
-    ensures answer { result ≡ pos (min (length h.old.socket.rx_buffer.storage) (2 ^ 30)) }
-    ensures at { h.new.at ≡ h.old.at }
-    ensures same { h.new.socket ≡ h.old.socket }
-{
-    count_answer(h.socket().payload_recv_capacity())
-}
-
-/// How many payload bytes of the transmit queue are taken, padding included: 2^30 at most.
-#[unsafe(no_mangle)]
-pub extern "C" fn smoltcp_raw_send_queue_checked(h: &mut RawHandle) -> i64
-    ensures answer { result ≡ pos (min (taken h.old.socket.tx_buffer.entries) (2 ^ 30)) }
-    ensures at { h.new.at ≡ h.old.at }
-    ensures same { h.new.socket ≡ h.old.socket }
-{
-    count_answer(h.socket().send_queue())
-}
-
-/// How many payload bytes of the receive queue are taken, padding included: 2^30 at most.
-#[unsafe(no_mangle)]
-pub extern "C" fn smoltcp_raw_recv_queue_checked(h: &mut RawHandle) -> i64
-    ensures answer { result ≡ pos (min (taken h.old.socket.rx_buffer.entries) (2 ^ 30)) }
-    ensures at { h.new.at ≡ h.old.at }
-    ensures same { h.new.socket ≡ h.old.socket }
-{
-    count_answer(h.socket().recv_queue())
 }
 
 /// Puts a packet of these bytes, its IP header first, into the transmit queue. 0.

@@ -1,20 +1,17 @@
 //! The calls of a UDP socket that take no context and no packet.
 ghost use Rattle.std.specs.Prelude.{◌≡◌, ◌≤◌, ◌<◌, ◌^◌, [], pos, min, length, true, false, None, Some, is_some, IfOk};
-ghost use Rattle.net_base.specs.Packets.{Dequeues, first_packet, packets_with, skipped, taken};
-ghost use Rattle.sock_dgram.specs.Datagrams.{copied, copy_answer, has_entry, has_place};
-ghost use Rattle.sock_dgram.specs.Udp.{after_bind, after_send, bind_answer as answer_of, closed, fresh, is_open};
+ghost use Rattle.net_base.specs.Packets.{Dequeues, first_packet, packets_with, skipped};
+ghost use Rattle.sock_dgram.specs.Datagrams.{copied, copy_answer};
+ghost use Rattle.sock_dgram.specs.Udp.{after_bind, after_send, bind_answer as answer_of, closed, fresh};
 ghost use Rattle.sock_dgram.specs.Udp.{send_answer};
-ghost use Rattle.smoltcp_c.specs.Answers.{bind_answer, copied_answer, datagram_answer, error_room, flag_answer};
+ghost use Rattle.smoltcp_c.specs.Answers.{bind_answer, copied_answer, datagram_answer, error_room};
 ghost use Rattle.smoltcp_c.specs.Numbers.{byte_or_none, listen_in, listen_told};
-ghost use Rattle.smoltcp_c.specs.Tcp.{byte_told};
 ghost use Rattle.smoltcp_c.specs.Udp.{is_packet, longest_payload, metadata_in, metadata_written, with_socket};
 
-use crate::answers::{
-    ERROR_ROOM, OK, bind_answer, count_answer, datagram_answer, flag_answer, refused_copy,
-};
+use crate::answers::{ERROR_ROOM, OK, bind_answer, datagram_answer, refused_copy};
 use crate::endpoints::{Endpoint, listen_in, listen_of};
 use crate::memory::Bytes;
-use crate::settings::{byte_or_none, byte_told};
+use crate::settings::byte_or_none;
 use crate::udp_handle::{UdpHandle, UdpPlaceRoom, UdpPlaces, UdpRoom};
 use crate::udp_numbers::{UdpNumbers, metadata_in, numbers_of};
 use crate::wire::LONGEST_PACKET;
@@ -92,106 +89,6 @@ pub extern "C" fn smoltcp_udp_endpoint_checked(h: &mut UdpHandle, out: &mut Endp
 {
     *out = listen_of(h.socket().endpoint());
     OK
-}
-
-/// 1 where the socket is bound, else 0.
-#[unsafe(no_mangle)]
-pub extern "C" fn smoltcp_udp_is_open_checked(h: &mut UdpHandle) -> i64
-    ensures answer { result ≡ flag_answer (is_open h.old.socket) }
-    ensures at { h.new.at ≡ h.old.at }
-    ensures same { h.new.socket ≡ h.old.socket }
-{
-    flag_answer(h.socket().is_open())
-}
-
-/// 1 where the transmit queue has a free place, else 0.
-#[unsafe(no_mangle)]
-pub extern "C" fn smoltcp_udp_can_send_checked(h: &mut UdpHandle) -> i64
-    ensures answer { result ≡ flag_answer (has_place h.old.socket.tx_buffer) }
-    ensures at { h.new.at ≡ h.old.at }
-    ensures same { h.new.socket ≡ h.old.socket }
-{
-    flag_answer(h.socket().can_send())
-}
-
-/// 1 where a place of the receive queue is taken, else 0.
-#[unsafe(no_mangle)]
-pub extern "C" fn smoltcp_udp_can_recv_checked(h: &mut UdpHandle) -> i64
-    ensures answer { result ≡ flag_answer (has_entry h.old.socket.rx_buffer) }
-    ensures at { h.new.at ≡ h.old.at }
-    ensures same { h.new.socket ≡ h.old.socket }
-{
-    flag_answer(h.socket().can_recv())
-}
-
-/// How many datagrams the transmit queue has places for: 2^30 at most.
-#[unsafe(no_mangle)]
-pub extern "C" fn smoltcp_udp_packet_send_capacity_checked(h: &mut UdpHandle) -> i64
-    ensures answer { result ≡ pos (min h.old.socket.tx_buffer.places (2 ^ 30)) }
-    ensures at { h.new.at ≡ h.old.at }
-    ensures same { h.new.socket ≡ h.old.socket }
-{
-    count_answer(h.socket().packet_send_capacity())
-}
-
-/// How many datagrams the receive queue has places for: 2^30 at most.
-#[unsafe(no_mangle)]
-pub extern "C" fn smoltcp_udp_packet_recv_capacity_checked(h: &mut UdpHandle) -> i64
-    ensures answer { result ≡ pos (min h.old.socket.rx_buffer.places (2 ^ 30)) }
-    ensures at { h.new.at ≡ h.old.at }
-    ensures same { h.new.socket ≡ h.old.socket }
-{
-    count_answer(h.socket().packet_recv_capacity())
-}
-
-/// How many payload bytes the transmit queue holds when it is full: 2^30 at most.
-#[unsafe(no_mangle)]
-pub extern "C" fn smoltcp_udp_payload_send_capacity_checked(h: &mut UdpHandle) -> i64
-    ensures answer { result ≡ pos (min (length h.old.socket.tx_buffer.storage) (2 ^ 30)) }
-    ensures at { h.new.at ≡ h.old.at }
-    ensures same { h.new.socket ≡ h.old.socket }
-{
-    count_answer(h.socket().payload_send_capacity())
-}
-
-/// How many payload bytes the receive queue holds when it is full: 2^30 at most.
-#[unsafe(no_mangle)]
-pub extern "C" fn smoltcp_udp_payload_recv_capacity_checked(h: &mut UdpHandle) -> i64
-    ensures answer { result ≡ pos (min (length h.old.socket.rx_buffer.storage) (2 ^ 30)) }
-    ensures at { h.new.at ≡ h.old.at }
-    ensures same { h.new.socket ≡ h.old.socket }
-{
-    count_answer(h.socket().payload_recv_capacity())
-}
-
-/// How many payload bytes of the transmit queue are taken, padding included: 2^30 at most.
-#[unsafe(no_mangle)]
-pub extern "C" fn smoltcp_udp_send_queue_checked(h: &mut UdpHandle) -> i64
-    ensures answer { result ≡ pos (min (taken h.old.socket.tx_buffer.entries) (2 ^ 30)) }
-    ensures at { h.new.at ≡ h.old.at }
-    ensures same { h.new.socket ≡ h.old.socket }
-{
-    count_answer(h.socket().send_queue())
-}
-
-/// How many payload bytes of the receive queue are taken, padding included: 2^30 at most.
-#[unsafe(no_mangle)]
-pub extern "C" fn smoltcp_udp_recv_queue_checked(h: &mut UdpHandle) -> i64
-    ensures answer { result ≡ pos (min (taken h.old.socket.rx_buffer.entries) (2 ^ 30)) }
-    ensures at { h.new.at ≡ h.old.at }
-    ensures same { h.new.socket ≡ h.old.socket }
-{
-    count_answer(h.socket().recv_queue())
-}
-
-/// The hop limit of what is sent, or 0 where none is set, for 64.
-#[unsafe(no_mangle)]
-pub extern "C" fn smoltcp_udp_hop_limit_checked(h: &mut UdpHandle) -> i64
-    ensures answer { result ≡ byte_told h.old.socket.hop_limit }
-    ensures at { h.new.at ≡ h.old.at }
-    ensures same { h.new.socket ≡ h.old.socket }
-{
-    byte_told(h.socket().hop_limit())
 }
 
 /// Sets the hop limit of what is sent, or 64 where the number is 0. Answers 0.
