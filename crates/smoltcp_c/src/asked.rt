@@ -5,12 +5,9 @@ ghost use Rattle.smoltcp_c.specs.Tcp.{clock, view};
 
 use crate::answers::{ERROR_RANGE, count_answer, flag_answer, state_answer};
 use crate::clock::Clock;
-use crate::icmp_handle::IcmpHandle;
+use crate::handles::{IcmpHandle, RawHandle, TcpHandle, UdpHandle};
 use crate::raw_filter::{protocol_of, version_of};
-use crate::raw_handle::RawHandle;
 use crate::settings::{byte_told, kind_told, micros_told};
-use crate::tcp_handle::TcpHandle;
-use crate::udp_handle::UdpHandle;
 use sock_dgram::{icmp, raw, udp};
 use sock_tcp::Socket;
 

@@ -13,7 +13,7 @@ ghost use Rattle.smoltcp_c.specs.Tcp.{with_both};
 
 use crate::answers::{ERROR_RANGE, OK};
 use crate::clock::Clock;
-use crate::tcp_handle::TcpHandle;
+use crate::handles::TcpHandle;
 use net_base::time::Duration;
 use sock_tcp::CongestionControl;
 
