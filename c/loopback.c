@@ -116,6 +116,8 @@ static void bind_both(const struct smoltcp_udp_metadata *meta) {
     want("hop limit", smoltcp_udp_hop_limit(&client), 7);
     want("nothing to emit", smoltcp_udp_poll_at(&client, &of_a), INT64_MAX);
     want("can send", smoltcp_udp_can_send(&client), 1);
+    want("no question", smoltcp_udp_ask(&client, SMOLTCP_ASK_STATE), SMOLTCP_ERROR_RANGE);
+    want("null", smoltcp_udp_ask(NULL, SMOLTCP_ASK_IS_OPEN), SMOLTCP_ERROR_NULL);
 }
 
 /* The packet of the client's datagram is for the server alone, whole and not damaged. */
@@ -258,6 +260,9 @@ static void echoes(void) {
     want("bind", smoltcp_icmp_bind(&pinger, &ident), SMOLTCP_OK);
     want("bind", smoltcp_icmp_bind(&answering, &ident), SMOLTCP_OK);
     want("can send", smoltcp_icmp_can_send(&pinger), 1);
+    want("places", smoltcp_icmp_packet_send_capacity(&pinger) + smoltcp_icmp_packet_recv_capacity(&pinger), 4);
+    want("bytes", smoltcp_icmp_payload_recv_capacity(&pinger), QUEUE);
+    want("hop limit", smoltcp_icmp_hop_limit(&pinger), 0);
     want("no message", smoltcp_icmp_send(&pinger, &to_b, request, 3), SMOLTCP_OK);
     want("dropped", smoltcp_icmp_dispatch(&pinger, &of_a, packet, sizeof packet), 0);
     want("send", smoltcp_icmp_send(&pinger, &to_b, request, sizeof request), SMOLTCP_OK);
@@ -384,6 +389,9 @@ int main(void) {
     want("address", end.addr.v4[3], 2);
     want("own port", smoltcp_tcp_local_endpoint(&b, &end) == 1 && end.port == 7, 1);
     want("no peer", smoltcp_tcp_is_listening(&b), 0);
+    want("open", smoltcp_tcp_is_open(&b) == 1 && smoltcp_tcp_is_active(&b) == 1, 1);
+    want("both ways", smoltcp_tcp_may_send(&b) == 1 && smoltcp_tcp_may_recv(&b) == 1, 1);
+    want("nothing to do", smoltcp_tcp_has_work(&b), 0);
     want("send", smoltcp_tcp_send(&a, line, sizeof line - 1), sizeof line - 1);
     run();
     want("can recv", smoltcp_tcp_can_recv(&b), 1);

@@ -69,6 +69,22 @@ struct smoltcp_tcp_handle { uint8_t *at; };
 struct smoltcp_bytes { uint8_t *at; size_t len; };
 struct smoltcp_place { const uint8_t *at; size_t len; };
 
+/* The size of each kind of socket, and of a place of its queues, in bytes. */
+struct smoltcp_sizes { size_t tcp, udp, udp_place, raw, raw_place, icmp, icmp_place; };
+
+/* What a socket is asked by the calls `ask`: of all kinds, of those with queues of packets, of raw ones, of TCP. */
+enum {
+    SMOLTCP_ASK_CAN_SEND = 0, SMOLTCP_ASK_CAN_RECV = 1, SMOLTCP_ASK_SEND_QUEUE = 2, SMOLTCP_ASK_RECV_QUEUE = 3,
+    SMOLTCP_ASK_IS_OPEN = 4, SMOLTCP_ASK_HOP_LIMIT = 5,
+    SMOLTCP_ASK_PACKET_SEND_CAPACITY = 6, SMOLTCP_ASK_PACKET_RECV_CAPACITY = 7,
+    SMOLTCP_ASK_PAYLOAD_SEND_CAPACITY = 8, SMOLTCP_ASK_PAYLOAD_RECV_CAPACITY = 9,
+    SMOLTCP_ASK_IP_VERSION = 10, SMOLTCP_ASK_IP_PROTOCOL = 11,
+    SMOLTCP_ASK_STATE = 12, SMOLTCP_ASK_IS_LISTENING = 13, SMOLTCP_ASK_IS_ACTIVE = 14, SMOLTCP_ASK_HAS_WORK = 15,
+    SMOLTCP_ASK_MAY_SEND = 16, SMOLTCP_ASK_MAY_RECV = 17, SMOLTCP_ASK_SEND_CAPACITY = 18,
+    SMOLTCP_ASK_RECV_CAPACITY = 19, SMOLTCP_ASK_TIMEOUT = 20, SMOLTCP_ASK_KEEP_ALIVE = 21, SMOLTCP_ASK_ACK_DELAY = 22,
+    SMOLTCP_ASK_NAGLE_ENABLED = 23, SMOLTCP_ASK_CONGESTION_CONTROL = 24, SMOLTCP_ASK_TIMESTAMP_ENABLED = 25
+};
+
 /* The longest buffer, in bytes. */
 #define SMOLTCP_LONGEST_BUFFER ((size_t)1 << 30)
 
@@ -127,33 +143,14 @@ _Static_assert(sizeof(struct smoltcp_icmp_place) == SMOLTCP_ICMP_PLACE_SIZE, "sm
 #endif
 
 /* The calls of the library, which take no null pointers. */
-size_t smoltcp_tcp_size(void);
+int64_t smoltcp_sizes_checked(struct smoltcp_sizes *out);
 int64_t smoltcp_tcp_init_checked(struct smoltcp_tcp_handle *room, struct smoltcp_bytes rx, struct smoltcp_bytes tx);
 int64_t smoltcp_tcp_listen_checked(struct smoltcp_tcp_handle *h, const struct smoltcp_endpoint *endpoint);
 int64_t smoltcp_tcp_connect_checked(struct smoltcp_tcp_handle *h, const struct smoltcp_context *cx,
                                     const struct smoltcp_endpoint *remote, const struct smoltcp_endpoint *local);
 int64_t smoltcp_tcp_close_checked(struct smoltcp_tcp_handle *h);
 int64_t smoltcp_tcp_abort_checked(struct smoltcp_tcp_handle *h);
-int64_t smoltcp_tcp_state_checked(struct smoltcp_tcp_handle *h);
-int64_t smoltcp_tcp_is_listening_checked(struct smoltcp_tcp_handle *h);
-int64_t smoltcp_tcp_is_open_checked(struct smoltcp_tcp_handle *h);
-int64_t smoltcp_tcp_is_active_checked(struct smoltcp_tcp_handle *h);
-int64_t smoltcp_tcp_has_work_checked(struct smoltcp_tcp_handle *h);
-int64_t smoltcp_tcp_may_send_checked(struct smoltcp_tcp_handle *h);
-int64_t smoltcp_tcp_may_recv_checked(struct smoltcp_tcp_handle *h);
-int64_t smoltcp_tcp_can_send_checked(struct smoltcp_tcp_handle *h);
-int64_t smoltcp_tcp_can_recv_checked(struct smoltcp_tcp_handle *h);
-int64_t smoltcp_tcp_send_queue_checked(struct smoltcp_tcp_handle *h);
-int64_t smoltcp_tcp_recv_queue_checked(struct smoltcp_tcp_handle *h);
-int64_t smoltcp_tcp_send_capacity_checked(struct smoltcp_tcp_handle *h);
-int64_t smoltcp_tcp_recv_capacity_checked(struct smoltcp_tcp_handle *h);
-int64_t smoltcp_tcp_timeout_checked(struct smoltcp_tcp_handle *h);
-int64_t smoltcp_tcp_keep_alive_checked(struct smoltcp_tcp_handle *h);
-int64_t smoltcp_tcp_ack_delay_checked(struct smoltcp_tcp_handle *h);
-int64_t smoltcp_tcp_nagle_enabled_checked(struct smoltcp_tcp_handle *h);
-int64_t smoltcp_tcp_hop_limit_checked(struct smoltcp_tcp_handle *h);
-int64_t smoltcp_tcp_congestion_control_checked(struct smoltcp_tcp_handle *h);
-int64_t smoltcp_tcp_timestamp_enabled_checked(struct smoltcp_tcp_handle *h);
+int64_t smoltcp_tcp_ask_checked(struct smoltcp_tcp_handle *h, uint32_t what);
 int64_t smoltcp_tcp_local_endpoint_checked(struct smoltcp_tcp_handle *h, struct smoltcp_endpoint *out);
 int64_t smoltcp_tcp_remote_endpoint_checked(struct smoltcp_tcp_handle *h, struct smoltcp_endpoint *out);
 int64_t smoltcp_tcp_listen_endpoint_checked(struct smoltcp_tcp_handle *h, struct smoltcp_endpoint *out);
@@ -178,8 +175,6 @@ int64_t smoltcp_tcp_dispatch_checked(struct smoltcp_tcp_handle *h, const struct 
                                      size_t cap);
 int64_t smoltcp_tcp_poll_at_checked(struct smoltcp_tcp_handle *h, const struct smoltcp_context *cx, int64_t *at);
 int64_t smoltcp_tcp_reset_checked(const uint8_t *packet, size_t len, uint8_t *reply, size_t cap);
-size_t smoltcp_udp_size(void);
-size_t smoltcp_udp_place_size(void);
 int64_t smoltcp_udp_place_checked(struct smoltcp_udp_handle *room);
 int64_t smoltcp_udp_init_checked(struct smoltcp_places rx_places, struct smoltcp_bytes rx,
                                  struct smoltcp_places tx_places, struct smoltcp_bytes tx,
@@ -187,16 +182,7 @@ int64_t smoltcp_udp_init_checked(struct smoltcp_places rx_places, struct smoltcp
 int64_t smoltcp_udp_bind_checked(struct smoltcp_udp_handle *h, const struct smoltcp_endpoint *endpoint);
 int64_t smoltcp_udp_close_checked(struct smoltcp_udp_handle *h);
 int64_t smoltcp_udp_endpoint_checked(struct smoltcp_udp_handle *h, struct smoltcp_endpoint *out);
-int64_t smoltcp_udp_is_open_checked(struct smoltcp_udp_handle *h);
-int64_t smoltcp_udp_can_send_checked(struct smoltcp_udp_handle *h);
-int64_t smoltcp_udp_can_recv_checked(struct smoltcp_udp_handle *h);
-int64_t smoltcp_udp_packet_send_capacity_checked(struct smoltcp_udp_handle *h);
-int64_t smoltcp_udp_packet_recv_capacity_checked(struct smoltcp_udp_handle *h);
-int64_t smoltcp_udp_payload_send_capacity_checked(struct smoltcp_udp_handle *h);
-int64_t smoltcp_udp_payload_recv_capacity_checked(struct smoltcp_udp_handle *h);
-int64_t smoltcp_udp_send_queue_checked(struct smoltcp_udp_handle *h);
-int64_t smoltcp_udp_recv_queue_checked(struct smoltcp_udp_handle *h);
-int64_t smoltcp_udp_hop_limit_checked(struct smoltcp_udp_handle *h);
+int64_t smoltcp_udp_ask_checked(struct smoltcp_udp_handle *h, uint32_t what);
 int64_t smoltcp_udp_set_hop_limit_checked(struct smoltcp_udp_handle *h, uint8_t hop_limit);
 int64_t smoltcp_udp_send_checked(struct smoltcp_udp_handle *h, const struct smoltcp_udp_metadata *meta,
                                  const uint8_t *data, size_t len);
@@ -211,22 +197,11 @@ int64_t smoltcp_udp_process_checked(struct smoltcp_udp_handle *h, const struct s
 int64_t smoltcp_udp_dispatch_checked(struct smoltcp_udp_handle *h, const struct smoltcp_context *cx, uint8_t *out,
                                      size_t cap);
 int64_t smoltcp_udp_poll_at_checked(struct smoltcp_udp_handle *h, const struct smoltcp_context *cx, int64_t *at);
-size_t smoltcp_raw_size(void);
-size_t smoltcp_raw_place_size(void);
 int64_t smoltcp_raw_place_checked(struct smoltcp_raw_handle *room);
 int64_t smoltcp_raw_init_checked(struct smoltcp_places rx_places, struct smoltcp_bytes rx,
                                  struct smoltcp_places tx_places, struct smoltcp_bytes tx,
                                  const struct smoltcp_raw_filter *filter, struct smoltcp_raw_handle *room);
-int64_t smoltcp_raw_ip_version_checked(struct smoltcp_raw_handle *h);
-int64_t smoltcp_raw_ip_protocol_checked(struct smoltcp_raw_handle *h);
-int64_t smoltcp_raw_can_send_checked(struct smoltcp_raw_handle *h);
-int64_t smoltcp_raw_can_recv_checked(struct smoltcp_raw_handle *h);
-int64_t smoltcp_raw_packet_send_capacity_checked(struct smoltcp_raw_handle *h);
-int64_t smoltcp_raw_packet_recv_capacity_checked(struct smoltcp_raw_handle *h);
-int64_t smoltcp_raw_payload_send_capacity_checked(struct smoltcp_raw_handle *h);
-int64_t smoltcp_raw_payload_recv_capacity_checked(struct smoltcp_raw_handle *h);
-int64_t smoltcp_raw_send_queue_checked(struct smoltcp_raw_handle *h);
-int64_t smoltcp_raw_recv_queue_checked(struct smoltcp_raw_handle *h);
+int64_t smoltcp_raw_ask_checked(struct smoltcp_raw_handle *h, uint32_t what);
 int64_t smoltcp_raw_send_checked(struct smoltcp_raw_handle *h, const uint8_t *data, size_t len);
 int64_t smoltcp_raw_recv_checked(struct smoltcp_raw_handle *h, uint8_t *data, size_t cap);
 int64_t smoltcp_raw_peek_checked(struct smoltcp_raw_handle *h, uint8_t *data, size_t cap);
@@ -236,23 +211,12 @@ int64_t smoltcp_raw_process_checked(struct smoltcp_raw_handle *h, const struct s
 int64_t smoltcp_raw_dispatch_checked(struct smoltcp_raw_handle *h, const struct smoltcp_context *cx, uint8_t *out,
                                      size_t cap);
 int64_t smoltcp_raw_poll_at_checked(struct smoltcp_raw_handle *h, const struct smoltcp_context *cx, int64_t *at);
-size_t smoltcp_icmp_size(void);
-size_t smoltcp_icmp_place_size(void);
 int64_t smoltcp_icmp_place_checked(struct smoltcp_icmp_handle *room);
 int64_t smoltcp_icmp_init_checked(struct smoltcp_places rx_places, struct smoltcp_bytes rx,
                                  struct smoltcp_places tx_places, struct smoltcp_bytes tx,
                                  struct smoltcp_icmp_handle *room);
 int64_t smoltcp_icmp_bind_checked(struct smoltcp_icmp_handle *h, const struct smoltcp_icmp_endpoint *endpoint);
-int64_t smoltcp_icmp_is_open_checked(struct smoltcp_icmp_handle *h);
-int64_t smoltcp_icmp_can_send_checked(struct smoltcp_icmp_handle *h);
-int64_t smoltcp_icmp_can_recv_checked(struct smoltcp_icmp_handle *h);
-int64_t smoltcp_icmp_packet_send_capacity_checked(struct smoltcp_icmp_handle *h);
-int64_t smoltcp_icmp_packet_recv_capacity_checked(struct smoltcp_icmp_handle *h);
-int64_t smoltcp_icmp_payload_send_capacity_checked(struct smoltcp_icmp_handle *h);
-int64_t smoltcp_icmp_payload_recv_capacity_checked(struct smoltcp_icmp_handle *h);
-int64_t smoltcp_icmp_send_queue_checked(struct smoltcp_icmp_handle *h);
-int64_t smoltcp_icmp_recv_queue_checked(struct smoltcp_icmp_handle *h);
-int64_t smoltcp_icmp_hop_limit_checked(struct smoltcp_icmp_handle *h);
+int64_t smoltcp_icmp_ask_checked(struct smoltcp_icmp_handle *h, uint32_t what);
 int64_t smoltcp_icmp_set_hop_limit_checked(struct smoltcp_icmp_handle *h, uint8_t hop_limit);
 int64_t smoltcp_icmp_send_checked(struct smoltcp_icmp_handle *h, const struct smoltcp_address *remote,
                                   const uint8_t *data, size_t len);
@@ -265,6 +229,46 @@ int64_t smoltcp_icmp_process_checked(struct smoltcp_icmp_handle *h, const struct
 int64_t smoltcp_icmp_dispatch_checked(struct smoltcp_icmp_handle *h, const struct smoltcp_context *cx, uint8_t *out,
                                      size_t cap);
 int64_t smoltcp_icmp_poll_at_checked(struct smoltcp_icmp_handle *h, const struct smoltcp_context *cx, int64_t *at);
+
+/* The sizes that the library has. */
+static inline struct smoltcp_sizes smoltcp_sizes(void) {
+    struct smoltcp_sizes sizes;
+    smoltcp_sizes_checked(&sizes);
+    return sizes;
+}
+
+static inline size_t smoltcp_tcp_size(void) { return smoltcp_sizes().tcp; }
+static inline size_t smoltcp_udp_size(void) { return smoltcp_sizes().udp; }
+static inline size_t smoltcp_udp_place_size(void) { return smoltcp_sizes().udp_place; }
+static inline size_t smoltcp_raw_size(void) { return smoltcp_sizes().raw; }
+static inline size_t smoltcp_raw_place_size(void) { return smoltcp_sizes().raw_place; }
+static inline size_t smoltcp_icmp_size(void) { return smoltcp_sizes().icmp; }
+static inline size_t smoltcp_icmp_place_size(void) { return smoltcp_sizes().icmp_place; }
+
+/* What a socket answers to one of the numbers above. */
+static inline int64_t smoltcp_tcp_ask(struct smoltcp_tcp *s, uint32_t what) {
+    struct smoltcp_tcp_handle h = {(uint8_t *)s};
+    if (!s) return SMOLTCP_ERROR_NULL;
+    return smoltcp_tcp_ask_checked(&h, what);
+}
+
+static inline int64_t smoltcp_udp_ask(struct smoltcp_udp *s, uint32_t what) {
+    struct smoltcp_udp_handle h = {(uint8_t *)s};
+    if (!s) return SMOLTCP_ERROR_NULL;
+    return smoltcp_udp_ask_checked(&h, what);
+}
+
+static inline int64_t smoltcp_raw_ask(struct smoltcp_raw *s, uint32_t what) {
+    struct smoltcp_raw_handle h = {(uint8_t *)s};
+    if (!s) return SMOLTCP_ERROR_NULL;
+    return smoltcp_raw_ask_checked(&h, what);
+}
+
+static inline int64_t smoltcp_icmp_ask(struct smoltcp_icmp *s, uint32_t what) {
+    struct smoltcp_icmp_handle h = {(uint8_t *)s};
+    if (!s) return SMOLTCP_ERROR_NULL;
+    return smoltcp_icmp_ask_checked(&h, what);
+}
 
 /* Makes a closed socket in the memory, over the two buffers, of at most 2^30 bytes each (else SMOLTCP_ERROR_RANGE, with
  * nothing changed). The memory and the buffers are the socket's for good: what is proved of the calls says nothing of a
@@ -370,93 +374,67 @@ static inline int64_t smoltcp_tcp_commit(struct smoltcp_tcp *s, size_t count) {
 
 /* The state, as above. */
 static inline int64_t smoltcp_tcp_state(struct smoltcp_tcp *s) {
-    struct smoltcp_tcp_handle h = {(uint8_t *)s};
-    if (!s) return SMOLTCP_ERROR_NULL;
-    return smoltcp_tcp_state_checked(&h);
+    return smoltcp_tcp_ask(s, SMOLTCP_ASK_STATE);
 }
 
 /* 1 where the socket waits for a peer, else 0. */
 static inline int64_t smoltcp_tcp_is_listening(struct smoltcp_tcp *s) {
-    struct smoltcp_tcp_handle h = {(uint8_t *)s};
-    if (!s) return SMOLTCP_ERROR_NULL;
-    return smoltcp_tcp_is_listening_checked(&h);
+    return smoltcp_tcp_ask(s, SMOLTCP_ASK_IS_LISTENING);
 }
 
 /* 1 where it is in any state but CLOSED and TIME-WAIT, else 0. */
 static inline int64_t smoltcp_tcp_is_open(struct smoltcp_tcp *s) {
-    struct smoltcp_tcp_handle h = {(uint8_t *)s};
-    if (!s) return SMOLTCP_ERROR_NULL;
-    return smoltcp_tcp_is_open_checked(&h);
+    return smoltcp_tcp_ask(s, SMOLTCP_ASK_IS_OPEN);
 }
 
 /* 1 where it is open and has a peer, else 0. */
 static inline int64_t smoltcp_tcp_is_active(struct smoltcp_tcp *s) {
-    struct smoltcp_tcp_handle h = {(uint8_t *)s};
-    if (!s) return SMOLTCP_ERROR_NULL;
-    return smoltcp_tcp_is_active_checked(&h);
+    return smoltcp_tcp_ask(s, SMOLTCP_ASK_IS_ACTIVE);
 }
 
 /* 1 where the connection has something left to do, as bytes to send, else 0. */
 static inline int64_t smoltcp_tcp_has_work(struct smoltcp_tcp *s) {
-    struct smoltcp_tcp_handle h = {(uint8_t *)s};
-    if (!s) return SMOLTCP_ERROR_NULL;
-    return smoltcp_tcp_has_work_checked(&h);
+    return smoltcp_tcp_ask(s, SMOLTCP_ASK_HAS_WORK);
 }
 
 /* 1 where the state lets bytes be sent, else 0. */
 static inline int64_t smoltcp_tcp_may_send(struct smoltcp_tcp *s) {
-    struct smoltcp_tcp_handle h = {(uint8_t *)s};
-    if (!s) return SMOLTCP_ERROR_NULL;
-    return smoltcp_tcp_may_send_checked(&h);
+    return smoltcp_tcp_ask(s, SMOLTCP_ASK_MAY_SEND);
 }
 
 /* 1 where bytes may come or are there, else 0. */
 static inline int64_t smoltcp_tcp_may_recv(struct smoltcp_tcp *s) {
-    struct smoltcp_tcp_handle h = {(uint8_t *)s};
-    if (!s) return SMOLTCP_ERROR_NULL;
-    return smoltcp_tcp_may_recv_checked(&h);
+    return smoltcp_tcp_ask(s, SMOLTCP_ASK_MAY_RECV);
 }
 
 /* 1 where send would take at least one byte, else 0. */
 static inline int64_t smoltcp_tcp_can_send(struct smoltcp_tcp *s) {
-    struct smoltcp_tcp_handle h = {(uint8_t *)s};
-    if (!s) return SMOLTCP_ERROR_NULL;
-    return smoltcp_tcp_can_send_checked(&h);
+    return smoltcp_tcp_ask(s, SMOLTCP_ASK_CAN_SEND);
 }
 
 /* 1 where recv would give at least one byte, else 0. */
 static inline int64_t smoltcp_tcp_can_recv(struct smoltcp_tcp *s) {
-    struct smoltcp_tcp_handle h = {(uint8_t *)s};
-    if (!s) return SMOLTCP_ERROR_NULL;
-    return smoltcp_tcp_can_recv_checked(&h);
+    return smoltcp_tcp_ask(s, SMOLTCP_ASK_CAN_RECV);
 }
 
 /* How many bytes were sent and are not acknowledged. */
 static inline int64_t smoltcp_tcp_send_queue(struct smoltcp_tcp *s) {
-    struct smoltcp_tcp_handle h = {(uint8_t *)s};
-    if (!s) return SMOLTCP_ERROR_NULL;
-    return smoltcp_tcp_send_queue_checked(&h);
+    return smoltcp_tcp_ask(s, SMOLTCP_ASK_SEND_QUEUE);
 }
 
 /* How many bytes came and were not read. */
 static inline int64_t smoltcp_tcp_recv_queue(struct smoltcp_tcp *s) {
-    struct smoltcp_tcp_handle h = {(uint8_t *)s};
-    if (!s) return SMOLTCP_ERROR_NULL;
-    return smoltcp_tcp_recv_queue_checked(&h);
+    return smoltcp_tcp_ask(s, SMOLTCP_ASK_RECV_QUEUE);
 }
 
 /* How many bytes the transmit buffer holds. */
 static inline int64_t smoltcp_tcp_send_capacity(struct smoltcp_tcp *s) {
-    struct smoltcp_tcp_handle h = {(uint8_t *)s};
-    if (!s) return SMOLTCP_ERROR_NULL;
-    return smoltcp_tcp_send_capacity_checked(&h);
+    return smoltcp_tcp_ask(s, SMOLTCP_ASK_SEND_CAPACITY);
 }
 
 /* How many bytes the receive buffer holds. */
 static inline int64_t smoltcp_tcp_recv_capacity(struct smoltcp_tcp *s) {
-    struct smoltcp_tcp_handle h = {(uint8_t *)s};
-    if (!s) return SMOLTCP_ERROR_NULL;
-    return smoltcp_tcp_recv_capacity_checked(&h);
+    return smoltcp_tcp_ask(s, SMOLTCP_ASK_RECV_CAPACITY);
 }
 
 /* Writes the own endpoint into out, and answers 1; 0 where there is no peer. */
@@ -542,51 +520,37 @@ static inline int64_t smoltcp_tcp_set_timestamps(struct smoltcp_tcp *s, uint8_t 
 
 /* The user timeout in microseconds, or -1 for none. */
 static inline int64_t smoltcp_tcp_timeout(struct smoltcp_tcp *s) {
-    struct smoltcp_tcp_handle h = {(uint8_t *)s};
-    if (!s) return SMOLTCP_ERROR_NULL;
-    return smoltcp_tcp_timeout_checked(&h);
+    return smoltcp_tcp_ask(s, SMOLTCP_ASK_TIMEOUT);
 }
 
 /* The interval of keep-alives in microseconds, or -1 for none. */
 static inline int64_t smoltcp_tcp_keep_alive(struct smoltcp_tcp *s) {
-    struct smoltcp_tcp_handle h = {(uint8_t *)s};
-    if (!s) return SMOLTCP_ERROR_NULL;
-    return smoltcp_tcp_keep_alive_checked(&h);
+    return smoltcp_tcp_ask(s, SMOLTCP_ASK_KEEP_ALIVE);
 }
 
 /* How long an acknowledgement may wait in microseconds, or -1. */
 static inline int64_t smoltcp_tcp_ack_delay(struct smoltcp_tcp *s) {
-    struct smoltcp_tcp_handle h = {(uint8_t *)s};
-    if (!s) return SMOLTCP_ERROR_NULL;
-    return smoltcp_tcp_ack_delay_checked(&h);
+    return smoltcp_tcp_ask(s, SMOLTCP_ASK_ACK_DELAY);
 }
 
 /* 1 where small segments wait, else 0. */
 static inline int64_t smoltcp_tcp_nagle_enabled(struct smoltcp_tcp *s) {
-    struct smoltcp_tcp_handle h = {(uint8_t *)s};
-    if (!s) return SMOLTCP_ERROR_NULL;
-    return smoltcp_tcp_nagle_enabled_checked(&h);
+    return smoltcp_tcp_ask(s, SMOLTCP_ASK_NAGLE_ENABLED);
 }
 
 /* The hop limit, or 0 where none is set, for 64. */
 static inline int64_t smoltcp_tcp_hop_limit(struct smoltcp_tcp *s) {
-    struct smoltcp_tcp_handle h = {(uint8_t *)s};
-    if (!s) return SMOLTCP_ERROR_NULL;
-    return smoltcp_tcp_hop_limit_checked(&h);
+    return smoltcp_tcp_ask(s, SMOLTCP_ASK_HOP_LIMIT);
 }
 
 /* The kind of congestion control. */
 static inline int64_t smoltcp_tcp_congestion_control(struct smoltcp_tcp *s) {
-    struct smoltcp_tcp_handle h = {(uint8_t *)s};
-    if (!s) return SMOLTCP_ERROR_NULL;
-    return smoltcp_tcp_congestion_control_checked(&h);
+    return smoltcp_tcp_ask(s, SMOLTCP_ASK_CONGESTION_CONTROL);
 }
 
 /* 1 where timestamps are sent, else 0. */
 static inline int64_t smoltcp_tcp_timestamp_enabled(struct smoltcp_tcp *s) {
-    struct smoltcp_tcp_handle h = {(uint8_t *)s};
-    if (!s) return SMOLTCP_ERROR_NULL;
-    return smoltcp_tcp_timestamp_enabled_checked(&h);
+    return smoltcp_tcp_ask(s, SMOLTCP_ASK_TIMESTAMP_ENABLED);
 }
 
 /* Takes an IP packet. The length of the packet that answers it, in reply, or 0; SMOLTCP_NOT_ACCEPTED where it is no
@@ -675,72 +639,52 @@ static inline int64_t smoltcp_udp_endpoint(struct smoltcp_udp *s, struct smoltcp
 
 /* 1 where the socket is bound, else 0. */
 static inline int64_t smoltcp_udp_is_open(struct smoltcp_udp *s) {
-    struct smoltcp_udp_handle h = {(uint8_t *)s};
-    if (!s) return SMOLTCP_ERROR_NULL;
-    return smoltcp_udp_is_open_checked(&h);
+    return smoltcp_udp_ask(s, SMOLTCP_ASK_IS_OPEN);
 }
 
 /* 1 where the transmit queue has a free place, else 0. */
 static inline int64_t smoltcp_udp_can_send(struct smoltcp_udp *s) {
-    struct smoltcp_udp_handle h = {(uint8_t *)s};
-    if (!s) return SMOLTCP_ERROR_NULL;
-    return smoltcp_udp_can_send_checked(&h);
+    return smoltcp_udp_ask(s, SMOLTCP_ASK_CAN_SEND);
 }
 
 /* 1 where a place of the receive queue is taken, else 0. */
 static inline int64_t smoltcp_udp_can_recv(struct smoltcp_udp *s) {
-    struct smoltcp_udp_handle h = {(uint8_t *)s};
-    if (!s) return SMOLTCP_ERROR_NULL;
-    return smoltcp_udp_can_recv_checked(&h);
+    return smoltcp_udp_ask(s, SMOLTCP_ASK_CAN_RECV);
 }
 
 /* How many datagrams the transmit queue has places for. */
 static inline int64_t smoltcp_udp_packet_send_capacity(struct smoltcp_udp *s) {
-    struct smoltcp_udp_handle h = {(uint8_t *)s};
-    if (!s) return SMOLTCP_ERROR_NULL;
-    return smoltcp_udp_packet_send_capacity_checked(&h);
+    return smoltcp_udp_ask(s, SMOLTCP_ASK_PACKET_SEND_CAPACITY);
 }
 
 /* How many datagrams the receive queue has places for. */
 static inline int64_t smoltcp_udp_packet_recv_capacity(struct smoltcp_udp *s) {
-    struct smoltcp_udp_handle h = {(uint8_t *)s};
-    if (!s) return SMOLTCP_ERROR_NULL;
-    return smoltcp_udp_packet_recv_capacity_checked(&h);
+    return smoltcp_udp_ask(s, SMOLTCP_ASK_PACKET_RECV_CAPACITY);
 }
 
 /* How many payload bytes the transmit queue holds. */
 static inline int64_t smoltcp_udp_payload_send_capacity(struct smoltcp_udp *s) {
-    struct smoltcp_udp_handle h = {(uint8_t *)s};
-    if (!s) return SMOLTCP_ERROR_NULL;
-    return smoltcp_udp_payload_send_capacity_checked(&h);
+    return smoltcp_udp_ask(s, SMOLTCP_ASK_PAYLOAD_SEND_CAPACITY);
 }
 
 /* How many payload bytes the receive queue holds. */
 static inline int64_t smoltcp_udp_payload_recv_capacity(struct smoltcp_udp *s) {
-    struct smoltcp_udp_handle h = {(uint8_t *)s};
-    if (!s) return SMOLTCP_ERROR_NULL;
-    return smoltcp_udp_payload_recv_capacity_checked(&h);
+    return smoltcp_udp_ask(s, SMOLTCP_ASK_PAYLOAD_RECV_CAPACITY);
 }
 
 /* How many payload bytes of the transmit queue are taken, padding included. */
 static inline int64_t smoltcp_udp_send_queue(struct smoltcp_udp *s) {
-    struct smoltcp_udp_handle h = {(uint8_t *)s};
-    if (!s) return SMOLTCP_ERROR_NULL;
-    return smoltcp_udp_send_queue_checked(&h);
+    return smoltcp_udp_ask(s, SMOLTCP_ASK_SEND_QUEUE);
 }
 
 /* How many payload bytes of the receive queue are taken, padding included. */
 static inline int64_t smoltcp_udp_recv_queue(struct smoltcp_udp *s) {
-    struct smoltcp_udp_handle h = {(uint8_t *)s};
-    if (!s) return SMOLTCP_ERROR_NULL;
-    return smoltcp_udp_recv_queue_checked(&h);
+    return smoltcp_udp_ask(s, SMOLTCP_ASK_RECV_QUEUE);
 }
 
 /* The hop limit of what is sent, or 0 where none is set, for 64. */
 static inline int64_t smoltcp_udp_hop_limit(struct smoltcp_udp *s) {
-    struct smoltcp_udp_handle h = {(uint8_t *)s};
-    if (!s) return SMOLTCP_ERROR_NULL;
-    return smoltcp_udp_hop_limit_checked(&h);
+    return smoltcp_udp_ask(s, SMOLTCP_ASK_HOP_LIMIT);
 }
 
 /* Sets the hop limit of what is sent; 0 for 64. */
@@ -842,74 +786,53 @@ static inline int64_t smoltcp_raw_init(struct smoltcp_raw *s, const struct smolt
 
 /* The version of IP of the socket's packets: 4, 6, or 0 for both. */
 static inline int64_t smoltcp_raw_ip_version(struct smoltcp_raw *s) {
-    struct smoltcp_raw_handle h = {(uint8_t *)s};
-    if (!s) return SMOLTCP_ERROR_NULL;
-    return smoltcp_raw_ip_version_checked(&h);
+    return smoltcp_raw_ask(s, SMOLTCP_ASK_IP_VERSION);
 }
 
 /* The number of the protocol of the socket's packets, or SMOLTCP_RAW_ANY for any. */
 static inline int64_t smoltcp_raw_ip_protocol(struct smoltcp_raw *s) {
-    struct smoltcp_raw_handle h = {(uint8_t *)s};
-    int64_t answer;
-    if (!s) return SMOLTCP_ERROR_NULL;
-    answer = smoltcp_raw_ip_protocol_checked(&h);
-    return answer < 0 ? (int64_t)SMOLTCP_RAW_ANY : answer;
+    int64_t answer = smoltcp_raw_ask(s, SMOLTCP_ASK_IP_PROTOCOL);
+    return s && answer < 0 ? (int64_t)SMOLTCP_RAW_ANY : answer;
 }
 
 /* 1 where the transmit queue has a free place, else 0. */
 static inline int64_t smoltcp_raw_can_send(struct smoltcp_raw *s) {
-    struct smoltcp_raw_handle h = {(uint8_t *)s};
-    if (!s) return SMOLTCP_ERROR_NULL;
-    return smoltcp_raw_can_send_checked(&h);
+    return smoltcp_raw_ask(s, SMOLTCP_ASK_CAN_SEND);
 }
 
 /* 1 where a place of the receive queue is taken, else 0. */
 static inline int64_t smoltcp_raw_can_recv(struct smoltcp_raw *s) {
-    struct smoltcp_raw_handle h = {(uint8_t *)s};
-    if (!s) return SMOLTCP_ERROR_NULL;
-    return smoltcp_raw_can_recv_checked(&h);
+    return smoltcp_raw_ask(s, SMOLTCP_ASK_CAN_RECV);
 }
 
 /* How many packets the transmit queue has places for. */
 static inline int64_t smoltcp_raw_packet_send_capacity(struct smoltcp_raw *s) {
-    struct smoltcp_raw_handle h = {(uint8_t *)s};
-    if (!s) return SMOLTCP_ERROR_NULL;
-    return smoltcp_raw_packet_send_capacity_checked(&h);
+    return smoltcp_raw_ask(s, SMOLTCP_ASK_PACKET_SEND_CAPACITY);
 }
 
 /* How many packets the receive queue has places for. */
 static inline int64_t smoltcp_raw_packet_recv_capacity(struct smoltcp_raw *s) {
-    struct smoltcp_raw_handle h = {(uint8_t *)s};
-    if (!s) return SMOLTCP_ERROR_NULL;
-    return smoltcp_raw_packet_recv_capacity_checked(&h);
+    return smoltcp_raw_ask(s, SMOLTCP_ASK_PACKET_RECV_CAPACITY);
 }
 
 /* How many bytes of packets the transmit queue holds. */
 static inline int64_t smoltcp_raw_payload_send_capacity(struct smoltcp_raw *s) {
-    struct smoltcp_raw_handle h = {(uint8_t *)s};
-    if (!s) return SMOLTCP_ERROR_NULL;
-    return smoltcp_raw_payload_send_capacity_checked(&h);
+    return smoltcp_raw_ask(s, SMOLTCP_ASK_PAYLOAD_SEND_CAPACITY);
 }
 
 /* How many bytes of packets the receive queue holds. */
 static inline int64_t smoltcp_raw_payload_recv_capacity(struct smoltcp_raw *s) {
-    struct smoltcp_raw_handle h = {(uint8_t *)s};
-    if (!s) return SMOLTCP_ERROR_NULL;
-    return smoltcp_raw_payload_recv_capacity_checked(&h);
+    return smoltcp_raw_ask(s, SMOLTCP_ASK_PAYLOAD_RECV_CAPACITY);
 }
 
 /* How many bytes of the transmit queue are taken, padding included. */
 static inline int64_t smoltcp_raw_send_queue(struct smoltcp_raw *s) {
-    struct smoltcp_raw_handle h = {(uint8_t *)s};
-    if (!s) return SMOLTCP_ERROR_NULL;
-    return smoltcp_raw_send_queue_checked(&h);
+    return smoltcp_raw_ask(s, SMOLTCP_ASK_SEND_QUEUE);
 }
 
 /* How many bytes of the receive queue are taken, padding included. */
 static inline int64_t smoltcp_raw_recv_queue(struct smoltcp_raw *s) {
-    struct smoltcp_raw_handle h = {(uint8_t *)s};
-    if (!s) return SMOLTCP_ERROR_NULL;
-    return smoltcp_raw_recv_queue_checked(&h);
+    return smoltcp_raw_ask(s, SMOLTCP_ASK_RECV_QUEUE);
 }
 
 /* Puts a packet of these bytes, its IP header first, into the transmit queue. SMOLTCP_ERROR_ROOM where the queue has no
@@ -1004,72 +927,52 @@ static inline int64_t smoltcp_icmp_bind(struct smoltcp_icmp *s, const struct smo
 
 /* 1 where the socket is bound, else 0. */
 static inline int64_t smoltcp_icmp_is_open(struct smoltcp_icmp *s) {
-    struct smoltcp_icmp_handle h = {(uint8_t *)s};
-    if (!s) return SMOLTCP_ERROR_NULL;
-    return smoltcp_icmp_is_open_checked(&h);
+    return smoltcp_icmp_ask(s, SMOLTCP_ASK_IS_OPEN);
 }
 
 /* 1 where the transmit queue has a free place, else 0. */
 static inline int64_t smoltcp_icmp_can_send(struct smoltcp_icmp *s) {
-    struct smoltcp_icmp_handle h = {(uint8_t *)s};
-    if (!s) return SMOLTCP_ERROR_NULL;
-    return smoltcp_icmp_can_send_checked(&h);
+    return smoltcp_icmp_ask(s, SMOLTCP_ASK_CAN_SEND);
 }
 
 /* 1 where a place of the receive queue is taken, else 0. */
 static inline int64_t smoltcp_icmp_can_recv(struct smoltcp_icmp *s) {
-    struct smoltcp_icmp_handle h = {(uint8_t *)s};
-    if (!s) return SMOLTCP_ERROR_NULL;
-    return smoltcp_icmp_can_recv_checked(&h);
+    return smoltcp_icmp_ask(s, SMOLTCP_ASK_CAN_RECV);
 }
 
 /* How many messages the transmit queue has places for. */
 static inline int64_t smoltcp_icmp_packet_send_capacity(struct smoltcp_icmp *s) {
-    struct smoltcp_icmp_handle h = {(uint8_t *)s};
-    if (!s) return SMOLTCP_ERROR_NULL;
-    return smoltcp_icmp_packet_send_capacity_checked(&h);
+    return smoltcp_icmp_ask(s, SMOLTCP_ASK_PACKET_SEND_CAPACITY);
 }
 
 /* How many messages the receive queue has places for. */
 static inline int64_t smoltcp_icmp_packet_recv_capacity(struct smoltcp_icmp *s) {
-    struct smoltcp_icmp_handle h = {(uint8_t *)s};
-    if (!s) return SMOLTCP_ERROR_NULL;
-    return smoltcp_icmp_packet_recv_capacity_checked(&h);
+    return smoltcp_icmp_ask(s, SMOLTCP_ASK_PACKET_RECV_CAPACITY);
 }
 
 /* How many bytes the transmit queue holds. */
 static inline int64_t smoltcp_icmp_payload_send_capacity(struct smoltcp_icmp *s) {
-    struct smoltcp_icmp_handle h = {(uint8_t *)s};
-    if (!s) return SMOLTCP_ERROR_NULL;
-    return smoltcp_icmp_payload_send_capacity_checked(&h);
+    return smoltcp_icmp_ask(s, SMOLTCP_ASK_PAYLOAD_SEND_CAPACITY);
 }
 
 /* How many bytes the receive queue holds. */
 static inline int64_t smoltcp_icmp_payload_recv_capacity(struct smoltcp_icmp *s) {
-    struct smoltcp_icmp_handle h = {(uint8_t *)s};
-    if (!s) return SMOLTCP_ERROR_NULL;
-    return smoltcp_icmp_payload_recv_capacity_checked(&h);
+    return smoltcp_icmp_ask(s, SMOLTCP_ASK_PAYLOAD_RECV_CAPACITY);
 }
 
 /* How many bytes of the transmit queue are taken, padding included. */
 static inline int64_t smoltcp_icmp_send_queue(struct smoltcp_icmp *s) {
-    struct smoltcp_icmp_handle h = {(uint8_t *)s};
-    if (!s) return SMOLTCP_ERROR_NULL;
-    return smoltcp_icmp_send_queue_checked(&h);
+    return smoltcp_icmp_ask(s, SMOLTCP_ASK_SEND_QUEUE);
 }
 
 /* How many bytes of the receive queue are taken, padding included. */
 static inline int64_t smoltcp_icmp_recv_queue(struct smoltcp_icmp *s) {
-    struct smoltcp_icmp_handle h = {(uint8_t *)s};
-    if (!s) return SMOLTCP_ERROR_NULL;
-    return smoltcp_icmp_recv_queue_checked(&h);
+    return smoltcp_icmp_ask(s, SMOLTCP_ASK_RECV_QUEUE);
 }
 
 /* The hop limit of what is sent, or 0 where none is set, for 64. */
 static inline int64_t smoltcp_icmp_hop_limit(struct smoltcp_icmp *s) {
-    struct smoltcp_icmp_handle h = {(uint8_t *)s};
-    if (!s) return SMOLTCP_ERROR_NULL;
-    return smoltcp_icmp_hop_limit_checked(&h);
+    return smoltcp_icmp_ask(s, SMOLTCP_ASK_HOP_LIMIT);
 }
 
 /* Sets the hop limit of what is sent; 0 for 64. */

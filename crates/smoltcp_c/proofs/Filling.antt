@@ -49,35 +49,17 @@ use Rattle.std.proofs.VecSteps.Shapes.{after}
 use Rattle.std.proofs.alloc.Calls.{Goes-blank}
 use Rattle.std.specs.Prelude.{Option, None, Some}
 use Rattle.smoltcp_c.specs.Memory.{held_at}
+use Rattle.smoltcp_c.proofs.Owned.{ended_by, owning}
 
 module _ (name : Sym) (D : Type 0) (at : D → Ptr) (coded : Coded D) (exit : Kept → Exit D) (shared : D → ℕ → ℕ → Lft → Fml) (R : RattleType) (made : D → Option R.Denot) (put : D → R.Denot → D) (stays : (d : D) (x : R.Denot) → at (put d x) ≡ at d) (gives : (d : D) (x : R.Denot) → made (put d x) ≡ Some x) (k : Kept) where
   abbrev type : Owning
-  type = record {
-    name = name;
-    args = [];
-    types = [];
-    parts = RawPtr-field ∷ [];
-    D = D;
-    as_values = λ d. (at d, tt);
-    coded = coded;
-    heap = λ d. held_at R (at d) (made d);
-    exit = exit;
-    shr_at = shared;
-  }
+  type = owning name D coded exit shared (RawPtr-field ∷ []) (λ d. (at d, tt)) (λ d. held_at R (at d) (made d))
 
   abbrev pub Room : RattleType
   Room = row type
 
   abbrev pub ended : Ended
-  ended = record {
-    signature = record {
-      lifetimes = 1;
-      outlives = [];
-      params = mut_ref_to (0 ∷ []) tt (plain (λ _. Room)) ∷ plain (λ _. R) ∷ [];
-      result = plain (λ _. unit);
-    };
-    kept = (yes, (k, tt));
-  }
+  ended = ended_by 1 (mut_ref_to (0 ∷ []) tt (plain (λ _. Room)) ∷ plain (λ _. R) ∷ []) (plain (λ _. unit)) (yes, (k, tt))
 
   abbrev Empty : D → Type 0
   Empty d = ◌≡◌ {A = Option R.Denot} (made d) None

@@ -1,27 +1,19 @@
 -- What an ICMP socket emits is a packet, and a dispatch writes it.
-use Rattle.std.proofs.Common.{◌≡◌, ℕ, ◌≤◌, List, false, Option, Some, None, refl, ◌∙◌, ap, subst}
-use Rattle.std.specs.Prelude.{Result, cond, drop, IfSome}
-use Rattle.std.specs.Borrow.{MutBor}
+use Rattle.std.proofs.Common.{◌≡◌, ℕ, ◌≤◌, List, false, Option, Some, None, refl, subst}
+use Rattle.std.specs.Prelude.{IfSome}
 use Rattle.ip_wire.specs.declared.address.IpAddress.{IpAddress}
 use Rattle.ip_wire.specs.declared.address.IpAddress.TheVariants as address
 use Rattle.ip_wire.specs.declared.address.Ipv4Address.{Ipv4Address}
 use Rattle.ip_wire.specs.declared.address.Ipv6Address.{Ipv6Address}
-use Rattle.ip_wire.specs.declared.repr.IpRepr.{IpRepr}
 use Rattle.ip_wire.specs.declared.repr.Ipv4Repr.{Ipv4Repr}
 use Rattle.ip_wire.specs.declared.repr.Ipv6Repr.{Ipv6Repr}
 use Rattle.control_wire.specs.Icmp.{Message, icmpv4_parsed, icmpv6_parsed}
-use Rattle.control_wire.specs.declared.icmp.IcmpRepr.{IcmpRepr}
 use Rattle.net_base.specs.Packets.{first_packet}
-use Rattle.sock_core.specs.Emission.{Emit}
 use Rattle.sock_core.specs.Facts.{Facts}
-use Rattle.sock_dgram.specs.Icmp.{View, waiting}
-use Rattle.sock_dgram.specs.IcmpDispatch.{Counts, Dispatched, Outgoing, from_first, from_ipv4, from_ipv6, from_source, outgoing, outgoing_of, to_remote}
+use Rattle.sock_dgram.specs.Icmp.{View}
+use Rattle.sock_dgram.specs.IcmpDispatch.{Counts, Outgoing, from_first, from_ipv4, from_ipv6, from_source, outgoing, to_remote}
 use Rattle.sock_dgram.specs.UdpDispatch.{hops_of}
-use Rattle.smoltcp_c.specs.Answers.{sent_answer}
-use Rattle.smoltcp_c.specs.Icmp.{CountsMessage, DispatchesInto, WritesMessage, sent_len, sent_packet}
-use Rattle.smoltcp_c.specs.declared.wire.Full.{Full}
-use Rattle.smoltcp_c.specs.declared.wire.Wire.{Wire}
-use Rattle.smoltcp_c.proofs.Sending.{sent}
+use Rattle.smoltcp_c.specs.Icmp.{CountsMessage, sent_len}
 
 -- the header counts the message
 abbrev Counted : Option Outgoing → Type 0
@@ -48,19 +40,5 @@ of_first : (v : View) (f : Facts) (d : Option (IpAddress × List ℕ)) → Count
 of_first v f None = tt
 of_first v f (Some d) = of_remote (hops_of v.hop_limit) f d.0 d.1
 
-counted : (v : View) (f : Facts) (o : Outgoing) → outgoing v f ≡ Some o → sent_len o ≤ 65535 → CountsMessage o.ip o.message
+pub counted : (v : View) (f : Facts) (o : Outgoing) → outgoing v f ≡ Some o → sent_len o ≤ 65535 → CountsMessage o.ip o.message
 counted v f o e short = record { counted = subst Counted e (of_first v f (first_packet v.tx_buffer)); total = short }
-
-module _ {F : Type 0} (g : Emit F Wire (IpRepr × IcmpRepr) Full) (f : F) (says : (shown left : MutBor Wire) (s : IpRepr × IcmpRepr) (r : Result (Unit {0}) Full) → g.post f (shown, (s, tt)) (r, (left, tt)) → WritesMessage (outgoing_of s) shown.now r left.now) where
-  pub dispatched : (facts : Facts) (c c' : Wire) (v w : View) (r : Result (Unit {0}) Full) → c.len ≡ 0 → Dispatched g f v facts c r c' w → DispatchesInto v facts c.out.now (sent_answer r c'.len) w c'.out.now × (c'.out.ghost_name ≡ c.out.ghost_name)
-  dispatched facts c c' v w r zero d =
-      let h = sent sent_len sent_packet (λ o. CountsMessage o.ip o.message) outgoing_of g f says (outgoing v facts) c c' r zero (counted v facts) d.emits in (
-        record {
-          sends = record { answer = h.answer; written = h.written };
-          queue = d.queue ∙ ap (λ b. cond b (drop 1 (waiting v)) (waiting v)) h.ok;
-          sent = λ t. d.sent (h.ok ∙ t);
-          failed = λ t. d.failed (h.ok ∙ t);
-          same = d.same;
-        },
-        h.same_buffer,
-      )

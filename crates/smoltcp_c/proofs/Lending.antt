@@ -39,35 +39,17 @@ use denote.Triple.Clauses.{Clauses, Ended, closing}
 use denote.Triple.Spec.{Meets}
 use denote.Triple.Walked.{says, Stays, stay_dropped, walk_of, ends_at, walked, walk_Meets, Goes-spent_ref}
 use Rattle.std.proofs.VecSteps.Shapes.{after}
+use Rattle.smoltcp_c.proofs.Owned.{ended_by, owning}
 
 module _ (name : Sym) (D : Type 0) (at : D → Ptr) (coded : Coded D) (exit : Kept → Exit D) (shared : D → ℕ → ℕ → Lft → Fml) (R : RattleType) (value : D → R.Denot) (with_value : D → R.Denot → D) (stays : (h : D) (w : R.Denot) → at (with_value h w) ≡ at h) (gives : (h : D) (w : R.Denot) → value (with_value h w) ≡ w) where
   abbrev type : Owning
-  type = record {
-    name = name;
-    args = [];
-    types = [];
-    parts = RawPtr-field ∷ [];
-    D = D;
-    as_values = λ h. (at h, tt);
-    coded = coded;
-    heap = λ h. lies_at R full_share (at h) (value h);
-    exit = exit;
-    shr_at = shared;
-  }
+  type = owning name D coded exit shared (RawPtr-field ∷ []) (λ h. (at h, tt)) (λ h. lies_at R full_share (at h) (value h))
 
   abbrev pub Handle : RattleType
   Handle = row type
 
   abbrev pub ended : Ended
-  ended = record {
-    signature = record {
-      lifetimes = 1;
-      outlives = [];
-      params = mut_ref_to (0 ∷ []) tt (plain (λ _. Handle)) ∷ [];
-      result = mut_ref_to (0 ∷ []) tt (plain (λ _. R));
-    };
-    kept = (no, tt);
-  }
+  ended = ended_by 1 (mut_ref_to (0 ∷ []) tt (plain (λ _. Handle)) ∷ []) (mut_ref_to (0 ∷ []) tt (plain (λ _. R))) (no, tt)
 
   abbrev pub clauses : {M : Type 1} {𝓤 : Ura M} (𝓛 : Logic 𝓤) → Clauses 𝓤 ended
   clauses {𝓤 = 𝓤} 𝓛 κs a = record {

@@ -6,6 +6,7 @@ mod Foreign
 mod Free
 mod IcmpSending
 mod Lending
+mod Owned
 mod Pieces
 mod RawSending
 mod Placing

@@ -47,42 +47,17 @@ use lib.Dec.{T}
 use Rattle.std.proofs.VecSteps.Shapes.{after}
 use Rattle.std.proofs.alloc.Calls.{Goes-blank}
 use Rattle.smoltcp_c.specs.Memory.{items_at}
+use Rattle.smoltcp_c.proofs.Owned.{ended_by, owning}
 
 module _ (name : Sym) (D : Type 0) (at : D → Ptr) (len : D → ℕ) (coded : Coded D) (exit : Kept → Exit D) (shared : D → ℕ → ℕ → Lft → Fml) (E : RattleType) (one : Single E.mir) where
   abbrev type : Owning
-  type = record {
-    name = name;
-    args = [];
-    types = [];
-    parts = RawPtr-field ∷ usize-field ∷ [];
-    D = D;
-    as_values = λ d. (at d, (len d, tt));
-    coded = coded;
-    heap = λ d. items_at E (at d) (len d);
-    exit = exit;
-    shr_at = shared;
-  }
+  type = owning name D coded exit shared (RawPtr-field ∷ usize-field ∷ []) (λ d. (at d, (len d, tt))) (λ d. items_at E (at d) (len d))
 
   abbrev pub Items : RattleType
   Items = row type
 
   abbrev pub ended : Ended
-  ended = record {
-    signature = record {
-      lifetimes = 0;
-      outlives = [];
-      params = plain (λ _. Items) ∷ [];
-      result = mut_slice_of [] tt (plain (λ _. E));
-    };
-    kept = (yes, tt);
-  }
-
-  abbrev pub clauses : {M : Type 1} {𝓤 : Ura M} (𝓛 : Logic 𝓤) → Clauses 𝓤 ended
-  clauses {𝓤 = 𝓤} 𝓛 κs a = record {
-    ghost = Unit {0};
-    requires = λ _. fact 𝓤 (len a.0 ≤ 2 ^ 30);
-    ensures = λ _ r end. fact 𝓤 (len a.0 ≡ length r.now);
-  }
+  ended = ended_by 0 (plain (λ _. Items) ∷ []) (mut_slice_of [] tt (plain (λ _. E))) (yes, tt)
 
   abbrev slice : Lifetime → Ty
   slice ℓ = lone (MutSlice ℓ [] E).mir
@@ -94,6 +69,13 @@ module _ (name : Sym) (D : Type 0) (at : D → Ptr) (len : D → ℕ) (coded : C
     body = seq (assign (place 2 []) (rv_opd (copy (place 1 (field 0 ∷ []))))) (seq (assign (place 3 []) (rv_opd (copy (place 1 (field 1 ∷ [])))))
         (seq (block (seq (assign (place 5 []) (rv_opd (copy (place 2 [])))) (assign (place 4 []) (aggregate (copy (place 5 []) ∷ copy (place 3 []) ∷ [])))))
         (seq (assign (place 0 []) (rv_opd (copy (place 4 [])))) return)));
+  }
+
+  abbrev pub clauses : {M : Type 1} {𝓤 : Ura M} (𝓛 : Logic 𝓤) → Clauses 𝓤 ended
+  clauses {𝓤 = 𝓤} 𝓛 κs a = record {
+    ghost = Unit {0};
+    requires = λ _. fact 𝓤 (len a.0 ≤ 2 ^ 30);
+    ensures = λ _ r end. fact 𝓤 (len a.0 ≡ length r.now);
   }
 
   abbrev word : ℕ → ℕ → ℕ → Val

@@ -1,10 +1,11 @@
 -- From the one call of `emit` of a datagram socket to what a dispatch writes.
 use Rattle.std.proofs.Common.{◌≡◌, ℕ, pos, ◌≤◌, List, length, min, Bool, true, false, Option, Some, None, refl, ◌∙◌, ap, subst, arith}
-use Rattle.std.specs.Prelude.{Result, Ok, Err, is_ok, nat_le, ◌&&◌, if◌then◌else◌}
+use Rattle.std.specs.Prelude.{Result, Ok, Err, is_ok, nat_le, ◌&&◌, cond, drop, if◌then◌else◌}
 use Rattle.std.specs.Borrow.{MutBor}
 use Rattle.sock_core.specs.Emission.{Emit, Emits, EmitsAt}
+use Rattle.sock_dgram.specs.Addressed.{Dispatches, View, waiting}
 use Rattle.smoltcp_c.specs.Answers.{error_room, sent_answer}
-use Rattle.smoltcp_c.specs.Sends.{Puts, has_room, size_of, written_over}
+use Rattle.smoltcp_c.specs.Sends.{DispatchesInto, Puts, has_room, size_of, written_over}
 use Rattle.smoltcp_c.specs.declared.wire.Full.{Full}
 use Rattle.smoltcp_c.specs.declared.wire.Wire.{Wire}
 
@@ -46,3 +47,17 @@ module _ {O : Type 0} (len : O → ℕ) (packet : O → List ℕ) where
     pub sent : (due : Option O) (c c' : Wire) (r : Result (Unit {0}) Full) → c.len ≡ 0 → ((o : O) → due ≡ Some o → len o ≤ 65535 → IsPacket o) → Emits g of f due c r c' → Sent (has_room len packet due c.out.now) due c c' r
     sent None c c' r zero is e = quiet c c' r zero e.0 e.1
     sent (Some o) c c' r zero is e = one c c' o r (is o refl) e
+
+    -- the same of a whole dispatch of a UDP or an ICMP socket, whose emit is this one
+    pub dispatched : {E M : Type 0} (outgoing : View E M → Option O) (c c' : Wire) (v w : View E M) (r : Result (Unit {0}) Full) → c.len ≡ 0 → ((o : O) → outgoing v ≡ Some o → len o ≤ 65535 → IsPacket o) → Dispatches outgoing of g f v c r c' w → DispatchesInto len packet (outgoing v) v c.out.now (sent_answer r c'.len) w c'.out.now × (c'.out.ghost_name ≡ c.out.ghost_name)
+    dispatched outgoing c c' v w r zero is d =
+        let h = sent (outgoing v) c c' r zero is d.emits in (
+          record {
+            sends = record { answer = h.answer; written = h.written };
+            queue = d.queue ∙ ap (λ b. cond b (drop 1 (waiting v)) (waiting v)) h.ok;
+            sent = λ t. d.sent (h.ok ∙ t);
+            failed = λ t. d.failed (h.ok ∙ t);
+            same = d.same;
+          },
+          h.same_buffer,
+        )

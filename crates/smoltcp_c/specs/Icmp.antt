@@ -1,5 +1,5 @@
 -- An ICMP socket in the memory of C.
-use Rattle.std.specs.Prelude.{ℕ, ℤ, pos, ◌≡◌, ◌≤◌, ◌==◌, true, false, List, [], ◌++◌, drop, cond, Option, Some, None}
+use Rattle.std.specs.Prelude.{ℕ, ℤ, ◌≤◌, ◌==◌, true, List, [], ◌++◌, drop, Option, Some, None}
 use Rattle.std.specs.Prelude.{Result, Ok, Err, if◌then◌else◌}
 use Rattle.ip_wire.specs.Packet.{header_octets}
 use Rattle.ip_wire.specs.Protocol.{number_of}
@@ -10,22 +10,21 @@ use Rattle.ip_wire.specs.declared.repr.IpRepr.TheVariants as header
 use Rattle.ip_wire.specs.declared.repr.Ipv4Repr.{Ipv4Repr}
 use Rattle.ip_wire.specs.declared.repr.Ipv6Repr.{Ipv6Repr}
 use Rattle.control_wire.specs.Icmp.{Message, message_v4, message_v6, icmpv4_parsed, icmpv6_parsed}
-use Rattle.net_base.specs.Packets.{Dequeues, skipped}
 use Rattle.segment_wire.specs.Packet.{Carried, carried}
 use Rattle.sock_core.specs.Facts.{Facts}
-use Rattle.sock_dgram.specs.Icmp.{View, waiting}
+use Rattle.sock_dgram.specs.Icmp.{View}
 use Rattle.sock_dgram.specs.IcmpDispatch.{AnyMessage, Counts, OverIpv4, OverIpv6, Outgoing, outgoing}
 use Rattle.sock_dgram.specs.IcmpFilter.{Accepts, ends_v4, ends_v6, octets_v4, octets_v6, queued_v4, queued_v6}
 use Rattle.sock_dgram.specs.declared.error.RecvError.{RecvError}
 use Rattle.sock_dgram.specs.declared.icmp.endpoint.Endpoint.{Endpoint}
 use Rattle.sock_dgram.specs.declared.icmp.endpoint.Endpoint.TheVariants as endpoint
-use Rattle.smoltcp_c.specs.Answers.{not_accepted}
+use Rattle.smoltcp_c.specs.Heard.{AcceptsIf, Hears}
 use Rattle.smoltcp_c.specs.Numbers.{address_told, listen_in}
-use Rattle.smoltcp_c.specs.Sends.{Puts, SendsInto, has_room}
+use Rattle.smoltcp_c.specs.Sends.{DispatchesInto, Puts}
 use Rattle.smoltcp_c.specs.Wire.{packet_len}
 use Rattle.smoltcp_c.specs.declared.endpoints.Address.{Address}
-use Rattle.smoltcp_c.specs.declared.icmp.IcmpEndpoint.{IcmpEndpoint}
-use Rattle.smoltcp_c.specs.declared.icmp_handle.IcmpHandle.{IcmpHandle}
+use Rattle.smoltcp_c.specs.declared.datagrams.IcmpEndpoint.{IcmpEndpoint}
+use Rattle.smoltcp_c.specs.declared.handles.IcmpHandle.{IcmpHandle}
 use Rattle.smoltcp_c.specs.declared.message.Packet.{Packet}
 use Rattle.smoltcp_c.specs.declared.message.Packet.TheVariants as packet
 use Rattle.smoltcp_c.specs.declared.wire.Full.{Full}
@@ -87,28 +86,21 @@ icmp_of (Some c) = icmp_behind c.ip c.octets
 unfoldable pub carried_message : List ℕ → Option IcmpPacket
 carried_message packet = icmp_of (carried true packet)
 
-abbrev pub AcceptsIcmp : View → Facts → IcmpPacket → Type 0
-AcceptsIcmp v f (V4 h m) = Accepts ends_v4 v.endpoint f (address.Ipv4 h.dst_addr) m
-AcceptsIcmp v f (V6 h m) = Accepts ends_v6 v.endpoint f (address.Ipv6 h.dst_addr) m
+-- what a socket that is told so accepts
+abbrev pub AcceptsMessage : Facts → View → IcmpPacket → Type 0
+AcceptsMessage f v (V4 h m) = Accepts ends_v4 v.endpoint f (address.Ipv4 h.dst_addr) m
+AcceptsMessage f v (V6 h m) = Accepts ends_v6 v.endpoint f (address.Ipv6 h.dst_addr) m
 
-abbrev pub AcceptsIf : View → Facts → Option IcmpPacket → Type 0
-AcceptsIf v f None = ⊥
-AcceptsIf v f (Some p) = AcceptsIcmp v f p
-
--- a packet with a message that the socket accepts
-abbrev pub IsFor : View → Facts → List ℕ → Type 0
-IsFor v f packet = AcceptsIf v f (carried_message packet)
+abbrev pub IsFor : Facts → View → List ℕ → Type 0
+IsFor f v packet = AcceptsIf (AcceptsMessage f) v (carried_message packet)
 
 -- the socket with the message behind its receive queue, where it finds room
 abbrev pub queued_of : IcmpPacket → View → View
 queued_of (V4 h m) v = record v { rx_buffer = queued_v4 h m v.rx_buffer }
 queued_of (V6 h m) v = record v { rx_buffer = queued_v6 h m v.rx_buffer }
 
--- a message that is not for the socket changes nothing
-pub record Hears (v : View) (f : Facts) (p : IcmpPacket) (result : ℤ) (w : View) : Type 0 where
-  pub foreign : (AcceptsIcmp v f p → ⊥) → (result ≡ not_accepted) × (w ≡ v)
-  pub answer : AcceptsIcmp v f p → result ≡ pos 0
-  pub socket : AcceptsIcmp v f p → w ≡ queued_of p v
+abbrev pub HearsMessage : Facts → View → IcmpPacket → ℤ → View → Type 0
+HearsMessage f = Hears (AcceptsMessage f) queued_of
 
 -- ---- dispatch
 
@@ -136,11 +128,6 @@ abbrev pub WritesMessage : Outgoing → Wire → Result (Unit {0}) Full → Wire
 WritesMessage o old result new =
     Puts (CountsMessage o.ip o.message) (sent_len o) (sent_packet o) old result new
 
--- the first message's packet is written where it has a source, is well formed and fits. It leaves the queue, but for
--- where the packet does not fit: it stays first then
-pub record DispatchesInto (v : View) (f : Facts) (out : List ℕ) (result : ℤ) (w : View) (out' : List ℕ) : Type 0 where
-  pub sends : SendsInto sent_len sent_packet (outgoing v f) out result out'
-  pub queue : waiting w ≡ cond (has_room sent_len sent_packet (outgoing v f) out) (drop 1 (waiting v)) (waiting v)
-  pub sent : has_room sent_len sent_packet (outgoing v f) out ≡ true → Dequeues v.tx_buffer w.tx_buffer
-  pub failed : has_room sent_len sent_packet (outgoing v f) out ≡ false → w.tx_buffer ≡ skipped v.tx_buffer
-  pub same : w ≡ record v { tx_buffer = w.tx_buffer }
+-- the first message's packet, where it has a source and is well formed
+abbrev pub DispatchesMessage : Facts → View → List ℕ → ℤ → View → List ℕ → Type 0
+DispatchesMessage f v = DispatchesInto sent_len sent_packet (outgoing v f) v

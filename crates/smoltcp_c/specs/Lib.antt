@@ -1,5 +1,7 @@
 pub mod Answers
+pub mod Asked
 pub mod Context
+pub mod Heard
 pub mod Icmp
 pub mod Memory
 pub mod Numbers
@@ -8,6 +10,7 @@ pub mod Places
 pub mod Ports
 pub mod Raw
 pub mod Sends
+pub mod Sizes
 pub mod Streams
 pub mod Tcp
 pub mod Udp

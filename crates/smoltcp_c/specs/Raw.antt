@@ -9,17 +9,17 @@ use Rattle.ip_wire.specs.declared.checksum.Checksum.TheVariants as checksum
 use Rattle.ip_wire.specs.declared.protocol.IpProtocol.{IpProtocol}
 use Rattle.ip_wire.specs.declared.protocol.IpVersion.{IpVersion}
 use Rattle.ip_wire.specs.declared.protocol.IpVersion.TheVariants as version
-use Rattle.ip_wire.specs.declared.repr.IpRepr.{IpRepr}
 use Rattle.net_base.specs.Packets.{Dequeues, first_packet}
 use Rattle.segment_wire.specs.Packet.{Carried, carried}
 use Rattle.sock_dgram.specs.Datagrams.{stored}
 use Rattle.sock_dgram.specs.Raw.{View, Accepts, waiting, whole_packet}
 use Rattle.sock_dgram.specs.RawDispatch.{Outgoing, Plans, first_prepared, offered, prepared_buffer}
 use Rattle.sock_dgram.specs.declared.raw.error.SendError.{SendError}
-use Rattle.smoltcp_c.specs.Answers.{error_room, not_accepted}
+use Rattle.smoltcp_c.specs.Answers.{error_room}
+use Rattle.smoltcp_c.specs.Heard.{AcceptsIf, Hears}
 use Rattle.smoltcp_c.specs.Sends.{Puts, SendsInto, has_room}
 use Rattle.smoltcp_c.specs.declared.raw_filter.RawFilter.{RawFilter}
-use Rattle.smoltcp_c.specs.declared.raw_handle.RawHandle.{RawHandle}
+use Rattle.smoltcp_c.specs.declared.handles.RawHandle.{RawHandle}
 use Rattle.smoltcp_c.specs.declared.wire.Full.{Full}
 use Rattle.smoltcp_c.specs.declared.wire.Wire.{Wire}
 
@@ -59,20 +59,19 @@ packet_answer (Err e) = error_room
 abbrev pub carried_packet : List ℕ → Option Carried
 carried_packet packet = carried true packet
 
-abbrev pub AcceptsIf : View → Option Carried → Type 0
-AcceptsIf v None = ⊥
-AcceptsIf v (Some p) = Accepts v p.ip
+abbrev pub AcceptsRaw : View → Carried → Type 0
+AcceptsRaw v p = Accepts v p.ip
 
--- a packet that the socket accepts
+-- the socket with the packet behind its receive queue, where it finds room
+abbrev pub queued_of : Carried → View → View
+queued_of p v =
+    record v { rx_buffer = stored tt (whole_packet (all_checksums checksum.Both) p.ip p.octets) v.rx_buffer }
+
 abbrev pub IsFor : View → List ℕ → Type 0
-IsFor v packet = AcceptsIf v (carried_packet packet)
+IsFor v packet = AcceptsIf AcceptsRaw v (carried_packet packet)
 
--- a packet that is not for the socket changes nothing; else it comes behind the receive queue, where it finds room
-pub record Hears (v : View) (ip : IpRepr) (payload : List ℕ) (result : ℤ) (w : View) : Type 0 where
-  pub foreign : (Accepts v ip → ⊥) → (result ≡ not_accepted) × (w ≡ v)
-  pub answer : Accepts v ip → result ≡ pos 0
-  pub socket : Accepts v ip
-      → w ≡ record v { rx_buffer = stored tt (whole_packet (all_checksums checksum.Both) ip payload) v.rx_buffer }
+abbrev pub HearsRaw : View → Carried → ℤ → View → Type 0
+HearsRaw = Hears AcceptsRaw queued_of
 
 -- ---- dispatch
 
@@ -91,7 +90,7 @@ WritesRaw o old result new = Puts (raw_len o ≤ 65535) (raw_len o) (raw_packet 
 
 -- the first packet is written where the socket accepts it and it fits. It leaves the queue, but for where it does not
 -- fit: it stays first then, with its checksum computed
-pub record DispatchesInto (v : View) (out : List ℕ) (result : ℤ) (w : View) (out' : List ℕ) : Type 0 where
+pub record DispatchesRaw (v : View) (out : List ℕ) (result : ℤ) (w : View) (out' : List ℕ) : Type 0 where
   pub planned : Option Outgoing
   pub plans : Plans v (offered true (first_packet v.tx_buffer)) planned
   pub sends : SendsInto raw_len raw_packet planned out result out'

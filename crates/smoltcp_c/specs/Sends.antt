@@ -1,6 +1,8 @@
 -- What a dispatch of a datagram socket writes into a buffer.
 use Rattle.std.specs.Prelude.{ℕ, ℤ, pos, ◌≡◌, ◌≤◌, ◌&&◌, nat_le, Bool, true, List, ◌++◌, length, drop, Option, Some}
-use Rattle.std.specs.Prelude.{None, Result, Ok, Err, if◌then◌else◌}
+use Rattle.std.specs.Prelude.{None, Result, Ok, Err, cond, false, if◌then◌else◌}
+use Rattle.net_base.specs.Packets.{Dequeues, skipped}
+use Rattle.sock_dgram.specs.Addressed.{View, waiting}
 use Rattle.smoltcp_c.specs.Answers.{error_room}
 use Rattle.smoltcp_c.specs.declared.wire.Full.{Full}
 use Rattle.smoltcp_c.specs.declared.wire.Wire.{Wire}
@@ -39,3 +41,13 @@ module _ {O : Type 0} (len : O → ℕ) (packet : O → List ℕ) where
   pub record SendsInto (due : Option O) (out : List ℕ) (result : ℤ) (out' : List ℕ) : Type 0 where
     pub answer : result ≡ (if has_room due out then pos (size_of due) else error_room)
     pub written : out' ≡ (if has_room due out then written_over due out else out)
+
+  -- a dispatch of a UDP or an ICMP socket, of which this is due: it is written where it fits. The first packet leaves
+  -- the queue, but for where it does not fit: it stays first then
+  pub record DispatchesInto {E M : Type 0} (due : Option O) (v : View E M) (out : List ℕ) (result : ℤ) (w : View E M)
+      (out' : List ℕ) : Type 0 where
+    pub sends : SendsInto due out result out'
+    pub queue : waiting w ≡ cond (has_room due out) (drop 1 (waiting v)) (waiting v)
+    pub sent : has_room due out ≡ true → Dequeues v.tx_buffer w.tx_buffer
+    pub failed : has_room due out ≡ false → w.tx_buffer ≡ skipped v.tx_buffer
+    pub same : w ≡ record v { tx_buffer = w.tx_buffer }

@@ -5,7 +5,7 @@ use Rattle.sock_tcp.specs.declared.settings.CongestionControl.{CongestionControl
 use Rattle.sock_tcp.specs.declared.settings.CongestionControl.TheVariants as congestion
 use Rattle.smoltcp_c.specs.declared.clock.Clock.{Clock}
 use Rattle.sock_tcp.specs.View.{View}
-use Rattle.smoltcp_c.specs.declared.tcp_handle.TcpHandle.{TcpHandle}
+use Rattle.smoltcp_c.specs.declared.handles.TcpHandle.{TcpHandle}
 
 abbrev pub view : TcpHandle → View
 view h = h.socket.control_block

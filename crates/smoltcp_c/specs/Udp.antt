@@ -1,5 +1,5 @@
 -- A UDP socket in the memory of C.
-use Rattle.std.specs.Prelude.{ℕ, ℤ, pos, ◌≡◌, ◌+◌, ◌≤◌, ◌==◌, nat_le, Bool, true, false, List, ◌++◌, length, drop, cond}
+use Rattle.std.specs.Prelude.{ℕ, ℤ, ◌≡◌, ◌+◌, ◌≤◌, ◌==◌, nat_le, Bool, List, ◌++◌, length, drop}
 use Rattle.std.specs.Prelude.{Option, Some, None, Result, Ok, Err, if◌then◌else◌}
 use Rattle.ip_wire.specs.Checksum.{all_checksums}
 use Rattle.ip_wire.specs.IpHeader.{next_header_of, payload_len_of}
@@ -8,21 +8,19 @@ use Rattle.ip_wire.specs.declared.address.IpAddress.TheVariants as address
 use Rattle.ip_wire.specs.declared.checksum.Checksum.TheVariants as checksum
 use Rattle.ip_wire.specs.declared.protocol.IpProtocol.TheVariants as protocol
 use Rattle.ip_wire.specs.declared.repr.IpRepr.{IpRepr}
-use Rattle.net_base.specs.Packets.{Dequeues, skipped}
 use Rattle.segment_wire.specs.Packet.{UdpPacket, udp_packet, udp_packet_parsed}
-use Rattle.segment_wire.specs.Udp.{Datagram}
 use Rattle.sock_core.specs.Facts.{Facts}
 use Rattle.sock_dgram.specs.Datagrams.{stored}
-use Rattle.sock_dgram.specs.Udp.{View, Accepts, metadata_of, waiting}
+use Rattle.sock_dgram.specs.Udp.{View, Accepts, metadata_of}
 use Rattle.sock_dgram.specs.UdpDispatch.{Outgoing, outgoing}
 use Rattle.sock_dgram.specs.declared.error.RecvError.{RecvError}
 use Rattle.sock_dgram.specs.declared.udp.socket.UdpMetadata.{UdpMetadata}
-use Rattle.smoltcp_c.specs.Answers.{not_accepted}
+use Rattle.smoltcp_c.specs.Heard.{AcceptsIf, Hears}
 use Rattle.smoltcp_c.specs.Numbers.{address_in, address_or_none_told, endpoint_in, endpoint_told}
-use Rattle.smoltcp_c.specs.Sends.{Puts, SendsInto, has_room}
+use Rattle.smoltcp_c.specs.Sends.{DispatchesInto, Puts}
 use Rattle.smoltcp_c.specs.Wire.{packet_len}
 use Rattle.smoltcp_c.specs.declared.endpoints.Address.{Address}
-use Rattle.smoltcp_c.specs.declared.udp_handle.UdpHandle.{UdpHandle}
+use Rattle.smoltcp_c.specs.declared.handles.UdpHandle.{UdpHandle}
 use Rattle.smoltcp_c.specs.declared.udp_numbers.UdpNumbers.{UdpNumbers}
 use Rattle.smoltcp_c.specs.declared.wire.Full.{Full}
 use Rattle.smoltcp_c.specs.declared.wire.Wire.{Wire}
@@ -67,20 +65,19 @@ is_packet m n = nat_le n (longest_payload m.endpoint.addr)
 unfoldable pub carried_datagram : List ℕ → Option UdpPacket
 carried_datagram packet = udp_packet_parsed (all_checksums checksum.Both) packet
 
-abbrev pub AcceptsIf : View → Facts → Option UdpPacket → Type 0
-AcceptsIf v f None = ⊥
-AcceptsIf v f (Some p) = Accepts v f p.ip p.datagram.header
+-- what a socket that is told so accepts
+abbrev pub AcceptsDatagram : Facts → View → UdpPacket → Type 0
+AcceptsDatagram f v p = Accepts v f p.ip p.datagram.header
 
--- a packet with a datagram that the socket accepts
-abbrev pub IsFor : View → Facts → List ℕ → Type 0
-IsFor v f packet = AcceptsIf v f (carried_datagram packet)
+-- the socket with the datagram behind its receive queue, where it finds room
+abbrev pub queued_of : UdpPacket → View → View
+queued_of p v = record v { rx_buffer = stored (metadata_of p.ip p.datagram.header) p.datagram.payload v.rx_buffer }
 
--- a datagram that is not for the socket changes nothing; else it comes behind the receive queue, where it finds room
-pub record Hears (v : View) (f : Facts) (ip : IpRepr) (d : Datagram) (result : ℤ) (w : View) : Type 0 where
-  pub foreign : (Accepts v f ip d.header → ⊥) → (result ≡ not_accepted) × (w ≡ v)
-  pub answer : Accepts v f ip d.header → result ≡ pos 0
-  pub socket : Accepts v f ip d.header
-      → w ≡ record v { rx_buffer = stored (metadata_of ip d.header) d.payload v.rx_buffer }
+abbrev pub IsFor : Facts → View → List ℕ → Type 0
+IsFor f v packet = AcceptsIf (AcceptsDatagram f) v (carried_datagram packet)
+
+abbrev pub HearsDatagram : Facts → View → UdpPacket → ℤ → View → Type 0
+HearsDatagram f = Hears (AcceptsDatagram f) queued_of
 
 -- ---- dispatch
 
@@ -104,12 +101,6 @@ abbrev pub WritesDatagram : Outgoing → Wire → Result (Unit {0}) Full → Wir
 WritesDatagram o old result new =
     Puts (CountsDatagram o.ip o.payload) (datagram_len o) (datagram_packet o) old result new
 
--- the first datagram's packet is written where it has a source and fits. It leaves the queue, but for where the packet
--- does not fit: it stays first then
-pub record DispatchesInto (v : View) (f : Facts) (out : List ℕ) (result : ℤ) (w : View) (out' : List ℕ) : Type 0 where
-  pub sends : SendsInto datagram_len datagram_packet (outgoing v f) out result out'
-  pub queue : waiting w
-      ≡ cond (has_room datagram_len datagram_packet (outgoing v f) out) (drop 1 (waiting v)) (waiting v)
-  pub sent : has_room datagram_len datagram_packet (outgoing v f) out ≡ true → Dequeues v.tx_buffer w.tx_buffer
-  pub failed : has_room datagram_len datagram_packet (outgoing v f) out ≡ false → w.tx_buffer ≡ skipped v.tx_buffer
-  pub same : w ≡ record v { tx_buffer = w.tx_buffer }
+-- the first datagram's packet, where it has a source
+abbrev pub DispatchesDatagram : Facts → View → List ℕ → ℤ → View → List ℕ → Type 0
+DispatchesDatagram f v = DispatchesInto datagram_len datagram_packet (outgoing v f) v

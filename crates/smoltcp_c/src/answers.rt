@@ -35,37 +35,36 @@ pub const ERROR_EMPTY: i64 = -11;
 /// The packet is not for this socket.
 pub const NOT_ACCEPTED: i64 = -8;
 
+// The number for what a call that opens a socket answered.
+macro_rules! opened {
+    ($answer:ident, $error:ident) => {
+        match $answer {
+            Ok(()) => OK,
+            Err($error::InvalidState) => ERROR_STATE,
+            Err($error::Unaddressable) => ERROR_ADDRESS,
+        }
+    };
+}
+
 /// The number for what `listen` answered: 0, `ERROR_STATE` or `ERROR_ADDRESS`.
 pub fn listen_answer(answer: Result<(), ListenError>) -> i64
     ensures { result ≡ listen_answer answer }
 {
-    match answer {
-        Ok(()) => OK,
-        Err(ListenError::InvalidState) => ERROR_STATE,
-        Err(ListenError::Unaddressable) => ERROR_ADDRESS,
-    }
+    opened!(answer, ListenError)
 }
 
 /// The number for what `connect` answered: 0, `ERROR_STATE` or `ERROR_ADDRESS`.
 pub fn connect_answer(answer: Result<(), ConnectError>) -> i64
     ensures { result ≡ connect_answer answer }
 {
-    match answer {
-        Ok(()) => OK,
-        Err(ConnectError::InvalidState) => ERROR_STATE,
-        Err(ConnectError::Unaddressable) => ERROR_ADDRESS,
-    }
+    opened!(answer, ConnectError)
 }
 
 /// The number for what `bind` of a UDP or ICMP socket answered: 0, `ERROR_STATE` or `ERROR_ADDRESS`.
 pub fn bind_answer(answer: Result<(), BindError>) -> i64
     ensures { result ≡ bind_answer answer }
 {
-    match answer {
-        Ok(()) => OK,
-        Err(BindError::InvalidState) => ERROR_STATE,
-        Err(BindError::Unaddressable) => ERROR_ADDRESS,
-    }
+    opened!(answer, BindError)
 }
 
 /// The number for what `send_slice` of a UDP or ICMP socket answered: 0, `ERROR_ADDRESS` or `ERROR_ROOM`.

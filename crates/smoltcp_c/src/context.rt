@@ -54,6 +54,18 @@ pub fn moment_in(cx: &Cx) -> Option<Moment>
     Some(Moment { cx })
 }
 
+// The context of a call, within its ranges; where it is out of them, the call ends with `ERROR_CONTEXT`.
+macro_rules! in_context {
+    ($cx:ident) => {
+        match $crate::context::moment_in($cx) {
+            Some(moment) => moment,
+            None => return $crate::answers::ERROR_CONTEXT,
+        }
+    };
+}
+
+pub(crate) use in_context;
+
 impl Context for Moment {
     ghost facts = { λ m. facts_in m.cx };
 

@@ -4,14 +4,15 @@ ghost use Rattle.sock_tcp.specs.Opening.{after_connect, connect_answer as answer
 ghost use Rattle.sock_tcp.specs.Poll.{poll_moment};
 ghost use Rattle.smoltcp_c.specs.Answers.{connect_answer, error_context};
 ghost use Rattle.smoltcp_c.specs.Context.{facts_in, is_context};
+ghost use Rattle.smoltcp_c.specs.Heard.{TellsPoll};
 ghost use Rattle.smoltcp_c.specs.Packets.{ends_in, poll_answer, poll_written};
 ghost use Rattle.smoltcp_c.specs.Tcp.{Refuses, clock, view, with_view};
 
-use crate::answers::{ERROR_CONTEXT, OK, connect_answer};
+use crate::answers::{OK, connect_answer};
 use crate::clock::Clock;
-use crate::context::{Cx, Moment, moment_in};
+use crate::context::{Cx, Moment, in_context};
 use crate::endpoints::{Endpoint, endpoint_in, listen_in};
-use crate::tcp_handle::TcpHandle;
+use crate::handles::TcpHandle;
 use sock_core::PollAt;
 use sock_tcp::Socket;
 
@@ -31,9 +32,7 @@ pub extern "C" fn smoltcp_tcp_connect_checked(
     ensures socket { is_context cx.entry.now ≡ true → h.new ≡ with_view h.old
         (after_connect (ends_in cx.entry.now remote.now local.now (view h.old)) (view h.old) cx.entry.now.word) }
 {
-    let Some(moment) = moment_in(cx) else {
-        return ERROR_CONTEXT;
-    };
+    let moment = in_context!(cx);
     opened(h.socket(), &moment, remote, local)
 }
 
@@ -59,30 +58,23 @@ fn opened(
 /// wants none before a packet comes; `at` is then as it was, as with the error `ERROR_CONTEXT`.
 #[unsafe(no_mangle)]
 pub extern "C" fn smoltcp_tcp_poll_at_checked(h: &mut TcpHandle, cx: &Cx, at: &mut i64) -> i64
-    ensures context { is_context cx.entry.now ≡ false → (result ≡ error_context) × (at.new ≡ at.old) }
-    ensures answer { is_context cx.entry.now ≡ true
-        → result ≡ poll_answer (poll_moment (view h.old) (facts_in cx.entry.now) (is_some (clock h.old))) }
-    ensures written { is_context cx.entry.now ≡ true → at.new
-        ≡ poll_written (poll_moment (view h.old) (facts_in cx.entry.now) (is_some (clock h.old))) cx.entry.now.now
-        at.old }
+    ensures told { TellsPoll cx.entry.now
+        (poll_moment (view h.old) (facts_in cx.entry.now) (is_some (clock h.old))) at.old result at.new }
     ensures at { h.new.at ≡ h.old.at }
     ensures same { h.new.socket ≡ h.old.socket }
 {
-    let Some(moment) = moment_in(cx) else {
-        return ERROR_CONTEXT;
-    };
-    let poll = h.socket().poll_at(&moment);
-    told(poll, cx.now, at)
+    let moment = in_context!(cx);
+    told(h.socket().poll_at(&moment), cx, at)
 }
 
 /// Writes the moment, and answers whether there is one: 0, or 1 where there is none.
-pub fn told(poll: PollAt, now: i64, at: &mut i64) -> i64
+pub fn told(poll: PollAt, cx: &Cx, at: &mut i64) -> i64
     ensures answer { result ≡ poll_answer poll }
-    ensures written { at.new ≡ poll_written poll now at.old }
+    ensures written { at.new ≡ poll_written poll cx.entry.now.now at.old }
 {
     match poll {
         PollAt::Now => {
-            *at = now;
+            *at = cx.now;
             OK
         }
         PollAt::Time(moment) => {

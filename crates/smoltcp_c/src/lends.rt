@@ -6,20 +6,20 @@ ghost use denote.Signature.{static_lft};
 ghost use types.Logic.{sem};
 ghost use Rattle.smoltcp_c.specs.contracts.clock.Clock.{the_row as clock_row};
 ghost use Rattle.sock_tcp.specs.contracts.socket.Socket.{the_row as socket_row};
-ghost use Rattle.smoltcp_c.specs.contracts.tcp_handle.TcpHandle.{the_row as handle_row};
-ghost use Rattle.smoltcp_c.specs.contracts.icmp_handle.IcmpHandle.{the_row as icmp_handle_row};
-ghost use Rattle.smoltcp_c.specs.contracts.raw_handle.RawHandle.{the_row as raw_handle_row};
-ghost use Rattle.smoltcp_c.specs.contracts.udp_handle.UdpHandle.{the_row as udp_handle_row};
+ghost use Rattle.smoltcp_c.specs.contracts.handles.TcpHandle.{the_row as handle_row};
+ghost use Rattle.smoltcp_c.specs.contracts.handles.IcmpHandle.{the_row as icmp_handle_row};
+ghost use Rattle.smoltcp_c.specs.contracts.handles.RawHandle.{the_row as raw_handle_row};
+ghost use Rattle.smoltcp_c.specs.contracts.handles.UdpHandle.{the_row as udp_handle_row};
 ghost use Rattle.sock_dgram.specs.contracts.icmp.socket.Socket.{the_row as icmp_row};
 ghost use Rattle.sock_dgram.specs.contracts.raw.socket.Socket.{the_row as raw_row};
 ghost use Rattle.sock_dgram.specs.contracts.udp.socket.Socket.{the_row as udp_row};
 
 use crate::clock::Clock;
-use crate::icmp_handle::{IcmpHandle, IcmpPlaceRoom, IcmpPlaces, IcmpRoom};
+use crate::handles::{
+    IcmpHandle, IcmpPlaceRoom, IcmpPlaces, IcmpRoom, RawHandle, RawPlaceRoom, RawPlaces, RawRoom,
+    TcpHandle, TcpRoom, UdpHandle, UdpPlaceRoom, UdpPlaces, UdpRoom,
+};
 use crate::memory::{Bytes, Place};
-use crate::raw_handle::{RawHandle, RawPlaceRoom, RawPlaces, RawRoom};
-use crate::tcp_handle::{TcpHandle, TcpRoom};
-use crate::udp_handle::{UdpHandle, UdpPlaceRoom, UdpPlaces, UdpRoom};
 use sock_dgram::{icmp, raw, udp};
 use sock_tcp::Socket;
 

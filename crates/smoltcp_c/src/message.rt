@@ -7,7 +7,7 @@ ghost use Rattle.sock_dgram.specs.IcmpDispatch.{Counts, any_message};
 ghost use Rattle.sock_dgram.specs.IcmpFilter.{octets_v4, octets_v6};
 ghost use Rattle.smoltcp_c.specs.Context.{facts_in};
 ghost use Rattle.smoltcp_c.specs.Icmp.{
-  AcceptsIcmp,
+  AcceptsMessage,
   carried_message,
   icmp_behind,
   icmp_behind_v4,
@@ -78,7 +78,7 @@ fn behind_v6<'p>(ip: &Ipv6Repr, bytes: &'p [u8]) -> Option<Packet<'p>>
 impl Packet<'_> {
     /// Whether the socket accepts it.
     pub fn is_for(&self, socket: &Socket<'_>, moment: &Moment) -> bool
-        ensures { IsTrue result ↔ AcceptsIcmp socket.now (facts_in moment.now.cx) (icmp_packet_of self.now) }
+        ensures { IsTrue result ↔ AcceptsMessage (facts_in moment.now.cx) socket.now (icmp_packet_of self.now) }
     {
         match self {
             Packet::V4(ip, repr) => socket.accepts_v4(moment, ip, repr),

@@ -14,12 +14,12 @@ ghost use Rattle.smoltcp_c.specs.Packets.{size_of, written_over, outcome_in, rep
 ghost use Rattle.smoltcp_c.specs.Wire.{Writes};
 ghost use Rattle.smoltcp_c.specs.Tcp.{RefusesFor, clock, clock_at, view};
 
-use crate::answers::{ERROR_CONTEXT, ERROR_ROOM, NOT_ACCEPTED, OK, sent_answer};
+use crate::answers::{ERROR_ROOM, NOT_ACCEPTED, OK};
 use crate::clock::Clock;
-use crate::context::{Cx, Moment, moment_in};
+use crate::context::{Cx, Moment, in_context};
+use crate::handles::TcpHandle;
 use crate::ports::has_ports;
-use crate::tcp_handle::TcpHandle;
-use crate::wire::{Full, Wire, put_packet};
+use crate::wire::{Full, Wire, put_packet, sent};
 use control_wire::{TcpControl, TcpRepr};
 use ip_wire::{ChecksumCapabilities, Error, IpRepr};
 use segment_wire::packet::parse_tcp;
@@ -51,9 +51,7 @@ pub extern "C" fn smoltcp_tcp_process_checked(
         reply.new }
     ensures at { h.new.at ≡ h.old.at }
 {
-    let Some(moment) = moment_in(cx) else {
-        return ERROR_CONTEXT;
-    };
+    let moment = in_context!(cx);
     if reply.len() < LONGEST_REPLY {
         return ERROR_ROOM;
     }
@@ -154,9 +152,7 @@ pub extern "C" fn smoltcp_tcp_dispatch_checked(h: &mut TcpHandle, cx: &Cx, out: 
     ensures clock { is_context cx.entry.now ≡ true → clock h.new ≡ clock_at (clock h.old) cx.entry.now.tsval }
     ensures at { h.new.at ≡ h.old.at }
 {
-    let Some(moment) = moment_in(cx) else {
-        return ERROR_CONTEXT;
-    };
+    let moment = in_context!(cx);
     let socket = h.socket();
     set_clock(socket, cx.tsval);
     sent(socket, &moment, out)
@@ -168,13 +164,7 @@ fn sent(socket: &mut Socket<'_, Clock>, moment: &Moment, out: &mut [u8]) -> i64
         socket.new.control_block out.new }
     ensures clock { socket.new.tsval_generator ≡ socket.old.tsval_generator }
 {
-    let mut wire = Wire {
-        moment: *moment,
-        len: 0,
-        out,
-    };
-    let answer = emitted(socket, &mut wire);
-    sent_answer(answer, wire.len)
+    sent!(emitted, socket, moment, out)
 }
 
 // Lets the socket emit.

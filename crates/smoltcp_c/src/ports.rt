@@ -5,7 +5,7 @@ ghost use Rattle.smoltcp_c.specs.Ports.{has_ports, ports_by, start_of};
 ghost use Rattle.smoltcp_c.specs.Tcp.{view};
 
 use crate::clock::Clock;
-use crate::tcp_handle::TcpHandle;
+use crate::handles::TcpHandle;
 use ip_wire::octets::be16_at;
 use ip_wire::{IpEndpoint, IpListenEndpoint, IpVersion};
 use sock_tcp::Socket;

@@ -1,19 +1,19 @@
 //! The settings of a TCP socket.
-ghost use Rattle.std.specs.Prelude.{◌≡◌, ◌==◌, ◌↔◌, ◌≤◌, pos, None, Option, Some, true, false, is_some, if◌then◌else◌};
+ghost use Rattle.std.specs.Prelude.{◌≡◌, ◌==◌, pos, None, Option, Some, true};
 ghost use Rattle.std.specs.Option.{IfSome};
 ghost use Rattle.net_base.specs.declared.time.Duration.{Duration};
 ghost use Rattle.sock_tcp.specs.Closing.{keep_alive_set};
-ghost use Rattle.sock_tcp.specs.Settings.{kind_of, of_kind};
-ghost use Rattle.sock_tcp.specs.View.{IsShort, View};
+ghost use Rattle.sock_tcp.specs.Settings.{of_kind};
+ghost use Rattle.sock_tcp.specs.View.{IsShort};
 ghost use Rattle.sock_tcp.specs.declared.settings.CongestionControl.{CongestionControl};
-ghost use Rattle.smoltcp_c.specs.Answers.{error_range, flag_answer};
+ghost use Rattle.smoltcp_c.specs.Answers.{error_range};
 ghost use Rattle.smoltcp_c.specs.Numbers.{byte_or_none, control_by, flag_in, is_short, lasting, micros_in};
 ghost use Rattle.smoltcp_c.specs.Tcp.{Refuses, Sets, byte_told, clock, clock_set, kind_told, micros_told, view};
-ghost use Rattle.smoltcp_c.specs.Tcp.{with_both, with_view};
+ghost use Rattle.smoltcp_c.specs.Tcp.{with_both};
 
-use crate::answers::{ERROR_RANGE, OK, flag_answer};
+use crate::answers::{ERROR_RANGE, OK};
 use crate::clock::Clock;
-use crate::tcp_handle::TcpHandle;
+use crate::handles::TcpHandle;
 use net_base::time::Duration;
 use sock_tcp::CongestionControl;
 
@@ -193,8 +193,8 @@ fn clock_of(enabled: bool) -> Option<Clock>
     }
 }
 
-// The microseconds, at most 2^61, or -1 for none.
-fn micros_told(duration: Option<Duration>) -> i64
+/// The microseconds, at most 2^61, or -1 for none.
+pub fn micros_told(duration: Option<Duration>) -> i64
     ensures { result ≡ micros_told duration }
 {
     match duration {
@@ -213,82 +213,12 @@ pub fn byte_told(byte: Option<u8>) -> i64
     }
 }
 
-// The number of the kind.
-fn kind_told(kind: CongestionControl) -> i64
+/// The number of the kind.
+pub fn kind_told(kind: CongestionControl) -> i64
     ensures { result ≡ kind_told kind }
 {
     match kind {
         CongestionControl::None => 0,
         CongestionControl::Reno => 1,
     }
-}
-
-/// The user timeout in microseconds, or -1 where there is none.
-#[unsafe(no_mangle)]
-pub extern "C" fn smoltcp_tcp_timeout_checked(h: &mut TcpHandle) -> i64
-    ensures answer { result ≡ micros_told (view h.old).timeout }
-    ensures at { h.new.at ≡ h.old.at }
-    ensures same { h.new.socket ≡ h.old.socket }
-{
-    micros_told(h.socket().timeout())
-}
-
-/// The interval of keep-alives in microseconds, or -1 where none go out.
-#[unsafe(no_mangle)]
-pub extern "C" fn smoltcp_tcp_keep_alive_checked(h: &mut TcpHandle) -> i64
-    ensures answer { result ≡ micros_told (view h.old).keep_alive }
-    ensures at { h.new.at ≡ h.old.at }
-    ensures same { h.new.socket ≡ h.old.socket }
-{
-    micros_told(h.socket().keep_alive())
-}
-
-/// How long an acknowledgement may wait, in microseconds, or -1 where none waits.
-#[unsafe(no_mangle)]
-pub extern "C" fn smoltcp_tcp_ack_delay_checked(h: &mut TcpHandle) -> i64
-    ensures answer { result ≡ micros_told (view h.old).ack_delay }
-    ensures at { h.new.at ≡ h.old.at }
-    ensures same { h.new.socket ≡ h.old.socket }
-{
-    micros_told(h.socket().ack_delay())
-}
-
-/// 1 where small segments wait while bytes are in flight, else 0.
-#[unsafe(no_mangle)]
-pub extern "C" fn smoltcp_tcp_nagle_enabled_checked(h: &mut TcpHandle) -> i64
-    ensures answer { result ≡ flag_answer (view h.old).nagle }
-    ensures at { h.new.at ≡ h.old.at }
-    ensures same { h.new.socket ≡ h.old.socket }
-{
-    flag_answer(h.socket().nagle_enabled())
-}
-
-/// The hop limit of what is sent, or 0 where none is set, for 64.
-#[unsafe(no_mangle)]
-pub extern "C" fn smoltcp_tcp_hop_limit_checked(h: &mut TcpHandle) -> i64
-    ensures answer { result ≡ byte_told (view h.old).hop_limit }
-    ensures at { h.new.at ≡ h.old.at }
-    ensures same { h.new.socket ≡ h.old.socket }
-{
-    byte_told(h.socket().hop_limit())
-}
-
-/// The kind of congestion control: 0 for none, 1 for Reno.
-#[unsafe(no_mangle)]
-pub extern "C" fn smoltcp_tcp_congestion_control_checked(h: &mut TcpHandle) -> i64
-    ensures answer { result ≡ kind_told (kind_of (view h.old).congestion_controller) }
-    ensures at { h.new.at ≡ h.old.at }
-    ensures same { h.new.socket ≡ h.old.socket }
-{
-    kind_told(h.socket().congestion_control())
-}
-
-/// 1 where timestamps are sent, else 0.
-#[unsafe(no_mangle)]
-pub extern "C" fn smoltcp_tcp_timestamp_enabled_checked(h: &mut TcpHandle) -> i64
-    ensures answer { result ≡ flag_answer (is_some (clock h.old)) }
-    ensures at { h.new.at ≡ h.old.at }
-    ensures same { h.new.socket ≡ h.old.socket }
-{
-    flag_answer(h.socket().timestamp_enabled())
 }

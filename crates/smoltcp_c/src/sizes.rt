@@ -1,70 +1,40 @@
-//! How much memory a socket takes.
-ghost use Rattle.std.specs.Prelude.{◌≡◌};
-ghost use Rattle.std.specs.Mem.{type_size};
-ghost use denote.Signature.{static_lft};
-ghost use Rattle.smoltcp_c.specs.contracts.clock.Clock.{the_row as clock_row};
-ghost use Rattle.sock_dgram.specs.contracts.udp.socket.Socket.{the_row as udp_row};
-ghost use Rattle.sock_tcp.specs.contracts.socket.Socket.{the_row as socket_row};
-ghost use Rattle.sock_dgram.specs.contracts.icmp.socket.Socket.{the_row as icmp_row};
-ghost use Rattle.sock_dgram.specs.contracts.raw.socket.Socket.{the_row as raw_row};
-ghost use Rattle.smoltcp_c.specs.Places.{icmp_place_row, raw_place_row, udp_place_row};
+//! How much memory sockets take.
+ghost use Rattle.std.specs.Prelude.{◌≡◌, pos};
+ghost use Rattle.smoltcp_c.specs.Sizes.{sizes};
 
+use crate::answers::OK;
 use crate::clock::Clock;
 use sock_dgram::{icmp, raw, udp};
 use sock_tcp::Socket;
+use std::mem::size_of;
 
-/// The size of a TCP socket, in bytes.
-#[unsafe(no_mangle)]
-pub extern "C" fn smoltcp_tcp_size() -> usize
-    ensures { result ≡ type_size (socket_row static_lft clock_row) }
-{
-    std::mem::size_of::<Socket<'static, Clock>>()
+/// The size of each kind of socket, and of a place of its queues, in bytes.
+#[repr(C)]
+#[derive(Clone, Copy)]
+pub struct Sizes {
+    pub tcp: usize,
+    pub udp: usize,
+    pub udp_place: usize,
+    pub raw: usize,
+    pub raw_place: usize,
+    pub icmp: usize,
+    pub icmp_place: usize,
 }
 
-/// The size of a UDP socket, in bytes.
+/// Writes the sizes into `out`. Answers 0.
 #[unsafe(no_mangle)]
-pub extern "C" fn smoltcp_udp_size() -> usize
-    ensures { result ≡ type_size (udp_row static_lft) }
+pub extern "C" fn smoltcp_sizes_checked(out: &mut Sizes) -> i64
+    ensures answer { result ≡ pos 0 }
+    ensures told { out.new ≡ sizes }
 {
-    std::mem::size_of::<udp::Socket<'static>>()
-}
-
-/// The size of a place of a UDP socket's queue, in bytes.
-#[unsafe(no_mangle)]
-pub extern "C" fn smoltcp_udp_place_size() -> usize
-    ensures { result ≡ type_size udp_place_row }
-{
-    std::mem::size_of::<udp::PacketMetadata>()
-}
-
-/// The size of a raw socket, in bytes.
-#[unsafe(no_mangle)]
-pub extern "C" fn smoltcp_raw_size() -> usize
-    ensures { result ≡ type_size (raw_row static_lft) }
-{
-    std::mem::size_of::<raw::Socket<'static>>()
-}
-
-/// The size of a place of a raw socket's queue, in bytes.
-#[unsafe(no_mangle)]
-pub extern "C" fn smoltcp_raw_place_size() -> usize
-    ensures { result ≡ type_size raw_place_row }
-{
-    std::mem::size_of::<raw::PacketMetadata>()
-}
-
-/// The size of an ICMP socket, in bytes.
-#[unsafe(no_mangle)]
-pub extern "C" fn smoltcp_icmp_size() -> usize
-    ensures { result ≡ type_size (icmp_row static_lft) }
-{
-    std::mem::size_of::<icmp::Socket<'static>>()
-}
-
-/// The size of a place of an ICMP socket's queue, in bytes.
-#[unsafe(no_mangle)]
-pub extern "C" fn smoltcp_icmp_place_size() -> usize
-    ensures { result ≡ type_size icmp_place_row }
-{
-    std::mem::size_of::<icmp::PacketMetadata>()
+    *out = Sizes {
+        tcp: size_of::<Socket<'static, Clock>>(),
+        udp: size_of::<udp::Socket<'static>>(),
+        udp_place: size_of::<udp::PacketMetadata>(),
+        raw: size_of::<raw::Socket<'static>>(),
+        raw_place: size_of::<raw::PacketMetadata>(),
+        icmp: size_of::<icmp::Socket<'static>>(),
+        icmp_place: size_of::<icmp::PacketMetadata>(),
+    };
+    OK
 }

@@ -7,9 +7,9 @@ ghost use Rattle.smoltcp_c.specs.Tcp.{Answers, view, with_view};
 
 use crate::answers::{ERROR_RANGE, recv_answer, send_answer};
 use crate::clock::Clock;
+use crate::handles::TcpHandle;
 use crate::lends::place;
 use crate::memory::{LARGEST, Place};
-use crate::tcp_handle::TcpHandle;
 use sock_tcp::{RecvError, Socket};
 
 /// Puts as many bytes of a beginning of `data` into the transmit queue as fit, and answers how many. `ERROR_STATE`
@@ -88,6 +88,27 @@ pub extern "C" fn smoltcp_tcp_consume_checked(h: &mut TcpHandle, count: usize) -
     consumed(h.socket(), count)
 }
 
+/// Lends the free places behind the transmit queue that stand in one piece: writes into `out` where they lie and how
+/// many they are, and answers how many. `ERROR_STATE` where the state does not let bytes be sent; nothing changes then.
+/// Bytes may be written there until the next call on the socket, and `commit` sends them.
+#[unsafe(no_mangle)]
+pub extern "C" fn smoltcp_tcp_reserve_checked(h: &mut TcpHandle, out: &mut Place) -> i64
+    ensures table { LendsFree (view h.old) out.old result out.new (view h.new) }
+    ensures same { h.new ≡ with_view h.old (view h.new) }
+{
+    reserved(h.socket(), out)
+}
+
+/// Puts the first `count` bytes of what `reserve` lends into the transmit queue, as they stand there, and answers how
+/// many. `ERROR_RANGE` where it lends fewer, with the queue as it was; `ERROR_STATE` as `reserve`.
+#[unsafe(no_mangle)]
+pub extern "C" fn smoltcp_tcp_commit_checked(h: &mut TcpHandle, count: usize) -> i64
+    ensures table { Commits (view h.old) count result (view h.new) }
+    ensures same { h.new ≡ with_view h.old (view h.new) }
+{
+    committed(h.socket(), count)
+}
+
 // Drops the bytes, where they are there.
 fn consumed(socket: &mut Socket<'_, Clock>, count: usize) -> i64
     ensures table { Consumes socket.old.control_block count result socket.new.control_block }
@@ -112,17 +133,6 @@ fn consumed(socket: &mut Socket<'_, Clock>, count: usize) -> i64
     recv_answer(taken)
 }
 
-/// Lends the free places behind the transmit queue that stand in one piece: writes into `out` where they lie and how
-/// many they are, and answers how many. `ERROR_STATE` where the state does not let bytes be sent; nothing changes then.
-/// Bytes may be written there until the next call on the socket, and `commit` sends them.
-#[unsafe(no_mangle)]
-pub extern "C" fn smoltcp_tcp_reserve_checked(h: &mut TcpHandle, out: &mut Place) -> i64
-    ensures table { LendsFree (view h.old) out.old result out.new (view h.new) }
-    ensures same { h.new ≡ with_view h.old (view h.new) }
-{
-    reserved(h.socket(), out)
-}
-
 // Writes where the free places lie, where bytes may be sent.
 fn reserved(socket: &mut Socket<'_, Clock>, out: &mut Place) -> i64
     ensures table { LendsFree socket.old.control_block out.old result out.new socket.new.control_block }
@@ -141,16 +151,6 @@ fn reserved(socket: &mut Socket<'_, Clock>, out: &mut Place) -> i64
             free.len.min(LARGEST) as i64
         }
     }
-}
-
-/// Puts the first `count` bytes of what `reserve` lends into the transmit queue, as they stand there, and answers how
-/// many. `ERROR_RANGE` where it lends fewer, with the queue as it was; `ERROR_STATE` as `reserve`.
-#[unsafe(no_mangle)]
-pub extern "C" fn smoltcp_tcp_commit_checked(h: &mut TcpHandle, count: usize) -> i64
-    ensures table { Commits (view h.old) count result (view h.new) }
-    ensures same { h.new ≡ with_view h.old (view h.new) }
-{
-    committed(h.socket(), count)
 }
 
 // Sends the bytes, where there are so many places.

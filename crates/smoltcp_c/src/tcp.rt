@@ -1,23 +1,21 @@
 //! The calls of a TCP socket that take no context and no packet.
 ghost use Rattle.std.specs.Prelude.{◌≡◌, ◌+◌, ◌≤◌, ◌^◌, pos, length, None, option_map};
 ghost use Rattle.std.specs.Option.{ForSome};
-ghost use Rattle.smoltcp_c.specs.Answers.{listen_answer, send_answer, recv_answer, flag_answer, state_answer};
+ghost use Rattle.smoltcp_c.specs.Answers.{listen_answer};
 ghost use Rattle.smoltcp_c.specs.Numbers.{TellsEnd, listen_in, listen_told};
 ghost use Rattle.net_base.specs.Ring.{empty_ring};
-ghost use Rattle.sock_core.specs.Received.{receiving, room_of};
+ghost use Rattle.sock_core.specs.Received.{receiving};
 ghost use Rattle.sock_tcp.specs.Closing.{closed, aborted};
-ghost use Rattle.sock_tcp.specs.Opening.{is_listening, is_open, is_active, Listens};
-ghost use Rattle.sock_tcp.specs.Queue.{queue_of, capacity};
-ghost use Rattle.sock_tcp.specs.Queues.{may_send, can_send, may_recv, can_recv, Sends, Reads, PeeksInto};
+ghost use Rattle.sock_tcp.specs.Opening.{Listens};
+ghost use Rattle.sock_tcp.specs.Queue.{queue_of};
 ghost use Rattle.sock_tcp.specs.View.{fresh};
-ghost use Rattle.sock_tcp.specs.Work.{has_work};
 ghost use Rattle.smoltcp_c.specs.Tcp.{Answers, clock, view, with_view};
 
-use crate::answers::{OK, flag_answer, listen_answer, recv_answer, send_answer, state_answer};
+use crate::answers::{OK, listen_answer};
 use crate::clock::Clock;
 use crate::endpoints::{Endpoint, endpoint_of, listen_in, listen_of};
+use crate::handles::{TcpHandle, TcpRoom};
 use crate::memory::Bytes;
-use crate::tcp_handle::{TcpHandle, TcpRoom};
 use ip_wire::IpEndpoint;
 use net_base::ring_buffer::RingBuffer;
 use sock_tcp::Socket;
@@ -81,142 +79,6 @@ pub extern "C" fn smoltcp_tcp_abort_checked(h: &mut TcpHandle) -> i64
 {
     h.socket().abort();
     OK
-}
-
-/// The state of the connection: 0 CLOSED, 1 LISTEN, 2 SYN-SENT, 3 SYN-RECEIVED, 4 ESTABLISHED, 5 FIN-WAIT-1,
-/// 6 FIN-WAIT-2, 7 CLOSE-WAIT, 8 CLOSING, 9 LAST-ACK, 10 TIME-WAIT.
-#[unsafe(no_mangle)]
-pub extern "C" fn smoltcp_tcp_state_checked(h: &mut TcpHandle) -> i64
-    ensures answer { result ≡ state_answer (view h.old).state }
-    ensures at { h.new.at ≡ h.old.at }
-    ensures same { h.new.socket ≡ h.old.socket }
-{
-    state_answer(h.socket().state())
-}
-
-/// 1 where the socket waits for a peer, else 0.
-#[unsafe(no_mangle)]
-pub extern "C" fn smoltcp_tcp_is_listening_checked(h: &mut TcpHandle) -> i64
-    ensures answer { result ≡ flag_answer (is_listening (view h.old).state) }
-    ensures at { h.new.at ≡ h.old.at }
-    ensures same { h.new.socket ≡ h.old.socket }
-{
-    flag_answer(h.socket().is_listening())
-}
-
-/// 1 where the socket is in any state but CLOSED and TIME-WAIT, so that it cannot be opened, else 0.
-#[unsafe(no_mangle)]
-pub extern "C" fn smoltcp_tcp_is_open_checked(h: &mut TcpHandle) -> i64
-    ensures answer { result ≡ flag_answer (is_open (view h.old).state) }
-    ensures at { h.new.at ≡ h.old.at }
-    ensures same { h.new.socket ≡ h.old.socket }
-{
-    flag_answer(h.socket().is_open())
-}
-
-/// 1 where the socket is open and has a peer, else 0.
-#[unsafe(no_mangle)]
-pub extern "C" fn smoltcp_tcp_is_active_checked(h: &mut TcpHandle) -> i64
-    ensures answer { result ≡ flag_answer (is_active (view h.old).state) }
-    ensures at { h.new.at ≡ h.old.at }
-    ensures same { h.new.socket ≡ h.old.socket }
-{
-    flag_answer(h.socket().is_active())
-}
-
-/// 1 where the connection has something left to do, as bytes in the transmit queue, else 0. smoltcp has no such
-/// call.
-#[unsafe(no_mangle)]
-pub extern "C" fn smoltcp_tcp_has_work_checked(h: &mut TcpHandle) -> i64
-    ensures answer { result ≡ flag_answer (has_work (view h.old)) }
-    ensures at { h.new.at ≡ h.old.at }
-    ensures same { h.new.socket ≡ h.old.socket }
-{
-    flag_answer(h.socket().has_work())
-}
-
-/// 1 where the state lets bytes be sent, else 0.
-#[unsafe(no_mangle)]
-pub extern "C" fn smoltcp_tcp_may_send_checked(h: &mut TcpHandle) -> i64
-    ensures answer { result ≡ flag_answer (may_send (view h.old).state) }
-    ensures at { h.new.at ≡ h.old.at }
-    ensures same { h.new.socket ≡ h.old.socket }
-{
-    flag_answer(h.socket().may_send())
-}
-
-/// 1 where bytes may come or are there, else 0.
-#[unsafe(no_mangle)]
-pub extern "C" fn smoltcp_tcp_may_recv_checked(h: &mut TcpHandle) -> i64
-    ensures answer { result ≡ flag_answer (may_recv (view h.old)) }
-    ensures at { h.new.at ≡ h.old.at }
-    ensures same { h.new.socket ≡ h.old.socket }
-{
-    flag_answer(h.socket().may_recv())
-}
-
-/// 1 where `send` would take at least one byte, else 0.
-#[unsafe(no_mangle)]
-pub extern "C" fn smoltcp_tcp_can_send_checked(h: &mut TcpHandle) -> i64
-    ensures answer { result ≡ flag_answer (can_send (view h.old)) }
-    ensures at { h.new.at ≡ h.old.at }
-    ensures same { h.new.socket ≡ h.old.socket }
-{
-    flag_answer(h.socket().can_send())
-}
-
-/// 1 where the receive queue has a byte, else 0.
-#[unsafe(no_mangle)]
-pub extern "C" fn smoltcp_tcp_can_recv_checked(h: &mut TcpHandle) -> i64
-    ensures answer { result ≡ flag_answer (can_recv (view h.old)) }
-    ensures at { h.new.at ≡ h.old.at }
-    ensures same { h.new.socket ≡ h.old.socket }
-{
-    flag_answer(h.socket().can_recv())
-}
-
-/// How many bytes were given to the socket and are not acknowledged.
-#[unsafe(no_mangle)]
-pub extern "C" fn smoltcp_tcp_send_queue_checked(h: &mut TcpHandle) -> i64
-    ensures answer { result ≡ pos (length (view h.old).tx_buffer.bytes) }
-    ensures at { h.new.at ≡ h.old.at }
-    ensures same { h.new.socket ≡ h.old.socket }
-{
-    h.socket().send_queue() as i64
-}
-
-/// How many bytes came and were not read.
-#[unsafe(no_mangle)]
-pub extern "C" fn smoltcp_tcp_recv_queue_checked(h: &mut TcpHandle) -> i64
-    ensures answer { result ≡ pos (length (view h.old).rx_buffer.bytes) }
-    ensures at { h.new.at ≡ h.old.at }
-    ensures same { h.new.socket ≡ h.old.socket }
-{
-    h.socket().recv_queue() as i64
-}
-
-/// How many bytes the transmit buffer holds when it is full.
-#[unsafe(no_mangle)]
-pub extern "C" fn smoltcp_tcp_send_capacity_checked(h: &mut TcpHandle) -> i64
-    ensures answer { result ≡ pos (capacity (view h.old).tx_buffer) }
-    ensures at { h.new.at ≡ h.old.at }
-    ensures same { h.new.socket ≡ h.old.socket }
-{
-    let socket = h.socket();
-    socket.send_queue();
-    socket.send_capacity() as i64
-}
-
-/// How many bytes the receive buffer holds when it is full.
-#[unsafe(no_mangle)]
-pub extern "C" fn smoltcp_tcp_recv_capacity_checked(h: &mut TcpHandle) -> i64
-    ensures answer { result ≡ pos (room_of (view h.old).rx_buffer) }
-    ensures at { h.new.at ≡ h.old.at }
-    ensures same { h.new.socket ≡ h.old.socket }
-{
-    let socket = h.socket();
-    socket.recv_queue();
-    socket.recv_capacity() as i64
 }
 
 /// Writes the own endpoint into `out`, where there is a peer, and answers 1; else 0, with `out` as it was.

@@ -1,7 +1,5 @@
 //! Segments as IP packets in a buffer.
 ghost use Rattle.std.specs.Prelude.{◌≡◌, ◌≤◌, ◌↔◌, IsTrue, length};
-ghost use Rattle.ip_wire.specs.Checksum.{all_checksums};
-ghost use Rattle.ip_wire.specs.declared.checksum.Checksum.TheVariants.{Both};
 ghost use Rattle.control_wire.specs.Segment.{segment_of};
 ghost use Rattle.sock_dgram.specs.IcmpDispatch.{any_message, outgoing_of as message_of};
 ghost use Rattle.sock_dgram.specs.RawDispatch.{outgoing_of as raw_of};
@@ -125,6 +123,21 @@ pub struct Wire<'w> {
 /// There is no room for the packet.
 #[derive(Drop)]
 pub struct Full;
+
+// What a dispatch answers where `emitted` lets the socket emit into `out`.
+macro_rules! sent {
+    ($emitted:ident, $socket:ident, $moment:ident, $out:ident) => {{
+        let mut wire = $crate::wire::Wire {
+            moment: *$moment,
+            len: 0,
+            out: $out,
+        };
+        let answer = $emitted($socket, &mut wire);
+        $crate::answers::sent_answer(answer, wire.len)
+    }};
+}
+
+pub(crate) use sent;
 
 impl<'w> Wire<'w> {
     /// Writes the segment as an IP packet at the beginning of `out`, where it fits.

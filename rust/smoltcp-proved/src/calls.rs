@@ -63,10 +63,20 @@ pub struct Tcp<'a> {
 // library has no data of its own and no thread's. The memory and the buffers are bytes, which this value alone gets at.
 unsafe impl Send for Tcp<'_> {}
 
-// A call that has no argument but the socket.
+// What a socket is asked.
 macro_rules! asks {
-    ($($name:ident => $call:ident;)*) => {$(
+    ($call:ident: $($name:ident => $what:ident;)*) => {$(
         pub fn $name(&self) -> i64 {
+            // SAFETY: C.md: socket, one call, buffers. Any number may be asked.
+            unsafe { ffi::$call(&mut self.handle(), ffi::ask::$what) }
+        }
+    )*};
+}
+
+// A call that has no argument but the socket.
+macro_rules! acts {
+    ($($name:ident => $call:ident;)*) => {$(
+        pub fn $name(&mut self) -> i64 {
             // SAFETY: C.md: socket, one call, buffers.
             unsafe { ffi::$call(&mut self.handle()) }
         }
@@ -101,7 +111,7 @@ pub use datagrams::*;
 impl<'a> Tcp<'a> {
     /// Makes a closed socket. The buffers have at most 2^30 bytes.
     pub fn new(memory: &'a mut Memory, rx: &'a mut [u8], tx: &'a mut [u8]) -> Tcp<'a> {
-        assert!(ffi::smoltcp_tcp_size() <= size_of::<Memory>(), "a library with larger sockets");
+        assert!(ffi::sizes().tcp <= size_of::<Memory>(), "a library with larger sockets");
         assert!(rx.len() <= crate::LONGEST_BUFFER, "receiving buffer too large, cannot exceed 1 GiB");
         assert!(tx.len() <= crate::LONGEST_BUFFER, "transmitting buffer too large, cannot exceed 1 GiB");
         let at = NonNull::from(memory).cast();
@@ -118,29 +128,33 @@ impl<'a> Tcp<'a> {
         ffi::TcpHandle { at: self.at.as_ptr() }
     }
 
-    asks! {
+    acts! {
         close => smoltcp_tcp_close_checked;
         abort => smoltcp_tcp_abort_checked;
-        state => smoltcp_tcp_state_checked;
-        is_listening => smoltcp_tcp_is_listening_checked;
-        is_open => smoltcp_tcp_is_open_checked;
-        is_active => smoltcp_tcp_is_active_checked;
-        has_work => smoltcp_tcp_has_work_checked;
-        may_send => smoltcp_tcp_may_send_checked;
-        may_recv => smoltcp_tcp_may_recv_checked;
-        can_send => smoltcp_tcp_can_send_checked;
-        can_recv => smoltcp_tcp_can_recv_checked;
-        send_queue => smoltcp_tcp_send_queue_checked;
-        recv_queue => smoltcp_tcp_recv_queue_checked;
-        send_capacity => smoltcp_tcp_send_capacity_checked;
-        recv_capacity => smoltcp_tcp_recv_capacity_checked;
-        timeout => smoltcp_tcp_timeout_checked;
-        keep_alive => smoltcp_tcp_keep_alive_checked;
-        ack_delay => smoltcp_tcp_ack_delay_checked;
-        nagle_enabled => smoltcp_tcp_nagle_enabled_checked;
-        hop_limit => smoltcp_tcp_hop_limit_checked;
-        congestion_control => smoltcp_tcp_congestion_control_checked;
-        timestamp_enabled => smoltcp_tcp_timestamp_enabled_checked;
+    }
+
+    asks! {
+        smoltcp_tcp_ask_checked:
+        state => STATE;
+        is_listening => IS_LISTENING;
+        is_open => IS_OPEN;
+        is_active => IS_ACTIVE;
+        has_work => HAS_WORK;
+        may_send => MAY_SEND;
+        may_recv => MAY_RECV;
+        can_send => CAN_SEND;
+        can_recv => CAN_RECV;
+        send_queue => SEND_QUEUE;
+        recv_queue => RECV_QUEUE;
+        send_capacity => SEND_CAPACITY;
+        recv_capacity => RECV_CAPACITY;
+        timeout => TIMEOUT;
+        keep_alive => KEEP_ALIVE;
+        ack_delay => ACK_DELAY;
+        nagle_enabled => NAGLE_ENABLED;
+        hop_limit => HOP_LIMIT;
+        congestion_control => CONGESTION_CONTROL;
+        timestamp_enabled => TIMESTAMP_ENABLED;
     }
 
     sets! {

@@ -78,6 +78,25 @@ pub struct UdpMetadata {
 }
 
 #[repr(C)]
+#[derive(Default)]
+pub struct Sizes {
+    pub tcp: usize,
+    pub udp: usize,
+    pub udp_place: usize,
+    pub raw: usize,
+    pub raw_place: usize,
+    pub icmp: usize,
+    pub icmp_place: usize,
+}
+
+/// The sizes that the library has.
+pub fn sizes() -> Sizes {
+    let mut sizes = Sizes::default();
+    smoltcp_sizes_checked(&mut sizes);
+    sizes
+}
+
+#[repr(C)]
 #[derive(Clone, Copy, Default)]
 pub struct IcmpEndpoint {
     pub kind: u8,
@@ -111,52 +130,43 @@ const _: () = {
     assert!(size_of::<UdpMetadata>() == 46);
 };
 
-// A call of a socket that has no other argument.
-macro_rules! calls_of_handle {
-    ($handle:ident: $($name:ident)*) => {
-        // SAFETY: as below.
-        unsafe extern "C" { $(pub fn $name(h: &mut $handle) -> i64;)* }
-    };
-}
-
-calls_of_handle! {
-    RawHandle: smoltcp_raw_place_checked smoltcp_raw_ip_version_checked smoltcp_raw_ip_protocol_checked
-    smoltcp_raw_can_send_checked smoltcp_raw_can_recv_checked smoltcp_raw_packet_send_capacity_checked
-    smoltcp_raw_packet_recv_capacity_checked smoltcp_raw_payload_send_capacity_checked
-    smoltcp_raw_payload_recv_capacity_checked smoltcp_raw_send_queue_checked smoltcp_raw_recv_queue_checked
-}
-
-calls_of_handle! {
-    IcmpHandle: smoltcp_icmp_place_checked smoltcp_icmp_is_open_checked smoltcp_icmp_can_send_checked
-    smoltcp_icmp_can_recv_checked smoltcp_icmp_packet_send_capacity_checked
-    smoltcp_icmp_packet_recv_capacity_checked smoltcp_icmp_payload_send_capacity_checked
-    smoltcp_icmp_payload_recv_capacity_checked smoltcp_icmp_send_queue_checked smoltcp_icmp_recv_queue_checked
-    smoltcp_icmp_hop_limit_checked
-}
-
-calls_of_handle! {
-    UdpHandle: smoltcp_udp_place_checked smoltcp_udp_close_checked smoltcp_udp_is_open_checked
-    smoltcp_udp_can_send_checked smoltcp_udp_can_recv_checked smoltcp_udp_packet_send_capacity_checked
-    smoltcp_udp_packet_recv_capacity_checked smoltcp_udp_payload_send_capacity_checked
-    smoltcp_udp_payload_recv_capacity_checked smoltcp_udp_send_queue_checked smoltcp_udp_recv_queue_checked
-    smoltcp_udp_hop_limit_checked
-}
-
-calls_of_handle! {
-    TcpHandle: smoltcp_tcp_close_checked smoltcp_tcp_abort_checked smoltcp_tcp_state_checked
-    smoltcp_tcp_is_listening_checked
-    smoltcp_tcp_is_open_checked smoltcp_tcp_is_active_checked smoltcp_tcp_has_work_checked
-    smoltcp_tcp_may_send_checked smoltcp_tcp_may_recv_checked smoltcp_tcp_can_send_checked
-    smoltcp_tcp_can_recv_checked smoltcp_tcp_send_queue_checked smoltcp_tcp_recv_queue_checked
-    smoltcp_tcp_send_capacity_checked smoltcp_tcp_recv_capacity_checked smoltcp_tcp_timeout_checked
-    smoltcp_tcp_keep_alive_checked smoltcp_tcp_ack_delay_checked smoltcp_tcp_nagle_enabled_checked
-    smoltcp_tcp_hop_limit_checked smoltcp_tcp_congestion_control_checked smoltcp_tcp_timestamp_enabled_checked
+/// What a socket is asked.
+pub mod ask {
+    pub const CAN_SEND: u32 = 0;
+    pub const CAN_RECV: u32 = 1;
+    pub const SEND_QUEUE: u32 = 2;
+    pub const RECV_QUEUE: u32 = 3;
+    pub const IS_OPEN: u32 = 4;
+    pub const HOP_LIMIT: u32 = 5;
+    pub const PACKET_SEND_CAPACITY: u32 = 6;
+    pub const PACKET_RECV_CAPACITY: u32 = 7;
+    pub const PAYLOAD_SEND_CAPACITY: u32 = 8;
+    pub const PAYLOAD_RECV_CAPACITY: u32 = 9;
+    pub const IP_VERSION: u32 = 10;
+    pub const IP_PROTOCOL: u32 = 11;
+    pub const STATE: u32 = 12;
+    pub const IS_LISTENING: u32 = 13;
+    pub const IS_ACTIVE: u32 = 14;
+    pub const HAS_WORK: u32 = 15;
+    pub const MAY_SEND: u32 = 16;
+    pub const MAY_RECV: u32 = 17;
+    pub const SEND_CAPACITY: u32 = 18;
+    pub const RECV_CAPACITY: u32 = 19;
+    pub const TIMEOUT: u32 = 20;
+    pub const KEEP_ALIVE: u32 = 21;
+    pub const ACK_DELAY: u32 = 22;
+    pub const NAGLE_ENABLED: u32 = 23;
+    pub const CONGESTION_CONTROL: u32 = 24;
+    pub const TIMESTAMP_ENABLED: u32 = 25;
 }
 
 // SAFETY: the names, arguments and widths are those of c/smoltcp_socket.h, with which `live/rust` compares them, and
 // `live/header` that with the library. What each pointer has to lead to is docs/C.md, "What C has to keep".
 unsafe extern "C" {
-    pub safe fn smoltcp_tcp_size() -> usize;
+    pub safe fn smoltcp_sizes_checked(out: &mut Sizes) -> i64;
+    pub fn smoltcp_tcp_ask_checked(h: &mut TcpHandle, what: u32) -> i64;
+    pub fn smoltcp_tcp_close_checked(h: &mut TcpHandle) -> i64;
+    pub fn smoltcp_tcp_abort_checked(h: &mut TcpHandle) -> i64;
     pub fn smoltcp_tcp_init_checked(room: &mut TcpHandle, rx: Bytes, tx: Bytes) -> i64;
     pub fn smoltcp_tcp_listen_checked(h: &mut TcpHandle, endpoint: &Endpoint) -> i64;
     pub fn smoltcp_tcp_connect_checked(
@@ -194,8 +204,9 @@ unsafe extern "C" {
     pub fn smoltcp_tcp_dispatch_checked(h: &mut TcpHandle, cx: &Context, out: *mut u8, cap: usize) -> i64;
     pub fn smoltcp_tcp_poll_at_checked(h: &mut TcpHandle, cx: &Context, at: &mut i64) -> i64;
     pub fn smoltcp_tcp_reset_checked(packet: *const u8, len: usize, reply: *mut u8, cap: usize) -> i64;
-    pub safe fn smoltcp_udp_size() -> usize;
-    pub safe fn smoltcp_udp_place_size() -> usize;
+    pub fn smoltcp_udp_ask_checked(h: &mut UdpHandle, what: u32) -> i64;
+    pub fn smoltcp_udp_place_checked(room: &mut UdpHandle) -> i64;
+    pub fn smoltcp_udp_close_checked(h: &mut UdpHandle) -> i64;
     pub fn smoltcp_udp_init_checked(
         rx_places: Places,
         rx: Bytes,
@@ -230,8 +241,8 @@ unsafe extern "C" {
     -> i64;
     pub fn smoltcp_udp_dispatch_checked(h: &mut UdpHandle, cx: &Context, out: *mut u8, cap: usize) -> i64;
     pub fn smoltcp_udp_poll_at_checked(h: &mut UdpHandle, cx: &Context, at: &mut i64) -> i64;
-    pub safe fn smoltcp_raw_size() -> usize;
-    pub safe fn smoltcp_raw_place_size() -> usize;
+    pub fn smoltcp_raw_ask_checked(h: &mut RawHandle, what: u32) -> i64;
+    pub fn smoltcp_raw_place_checked(room: &mut RawHandle) -> i64;
     pub fn smoltcp_raw_init_checked(
         rx_places: Places,
         rx: Bytes,
@@ -248,8 +259,8 @@ unsafe extern "C" {
     -> i64;
     pub fn smoltcp_raw_dispatch_checked(h: &mut RawHandle, cx: &Context, out: *mut u8, cap: usize) -> i64;
     pub fn smoltcp_raw_poll_at_checked(h: &mut RawHandle, cx: &Context, at: &mut i64) -> i64;
-    pub safe fn smoltcp_icmp_size() -> usize;
-    pub safe fn smoltcp_icmp_place_size() -> usize;
+    pub fn smoltcp_icmp_ask_checked(h: &mut IcmpHandle, what: u32) -> i64;
+    pub fn smoltcp_icmp_place_checked(room: &mut IcmpHandle) -> i64;
     pub fn smoltcp_icmp_init_checked(
         rx_places: Places,
         rx: Bytes,

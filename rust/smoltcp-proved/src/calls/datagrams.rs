@@ -82,8 +82,8 @@ unsafe impl Send for Udp<'_> {}
 impl<'a> Udp<'a> {
     /// Makes a socket that is not open.
     pub fn new(memory: &'a mut UdpMemory, rx: UdpBuffer<'a>, tx: UdpBuffer<'a>) -> Udp<'a> {
-        assert!(ffi::smoltcp_udp_size() <= size_of::<UdpMemory>(), "a library with larger sockets");
-        assert!(ffi::smoltcp_udp_place_size() == size_of::<UdpPlace>(), "a library with other places");
+        assert!(ffi::sizes().udp <= size_of::<UdpMemory>(), "a library with larger sockets");
+        assert!(ffi::sizes().udp_place == size_of::<UdpPlace>(), "a library with other places");
         let made = Udp { at: NonNull::from(memory).cast(), borrowed: PhantomData };
         let ((rx_places, rx), (tx_places, tx)) = (rx.lent(), tx.lent());
         // SAFETY: C.md: buffers, bytes. The memory has the size and the alignment of `struct smoltcp_udp`, and holds no
@@ -97,18 +97,22 @@ impl<'a> Udp<'a> {
         ffi::UdpHandle { at: self.at.as_ptr() }
     }
 
-    asks! {
+    acts! {
         close => smoltcp_udp_close_checked;
-        is_open => smoltcp_udp_is_open_checked;
-        can_send => smoltcp_udp_can_send_checked;
-        can_recv => smoltcp_udp_can_recv_checked;
-        packet_send_capacity => smoltcp_udp_packet_send_capacity_checked;
-        packet_recv_capacity => smoltcp_udp_packet_recv_capacity_checked;
-        payload_send_capacity => smoltcp_udp_payload_send_capacity_checked;
-        payload_recv_capacity => smoltcp_udp_payload_recv_capacity_checked;
-        send_queue => smoltcp_udp_send_queue_checked;
-        recv_queue => smoltcp_udp_recv_queue_checked;
-        hop_limit => smoltcp_udp_hop_limit_checked;
+    }
+
+    asks! {
+        smoltcp_udp_ask_checked:
+        is_open => IS_OPEN;
+        can_send => CAN_SEND;
+        can_recv => CAN_RECV;
+        packet_send_capacity => PACKET_SEND_CAPACITY;
+        packet_recv_capacity => PACKET_RECV_CAPACITY;
+        payload_send_capacity => PAYLOAD_SEND_CAPACITY;
+        payload_recv_capacity => PAYLOAD_RECV_CAPACITY;
+        send_queue => SEND_QUEUE;
+        recv_queue => RECV_QUEUE;
+        hop_limit => HOP_LIMIT;
     }
 
     sets! {
@@ -177,8 +181,8 @@ impl<'a> Raw<'a> {
         rx: RawBuffer<'a>,
         tx: RawBuffer<'a>,
     ) -> Raw<'a> {
-        assert!(ffi::smoltcp_raw_size() <= size_of::<RawMemory>(), "a library with larger sockets");
-        assert!(ffi::smoltcp_raw_place_size() == size_of::<RawPlace>(), "a library with other places");
+        assert!(ffi::sizes().raw <= size_of::<RawMemory>(), "a library with larger sockets");
+        assert!(ffi::sizes().raw_place == size_of::<RawPlace>(), "a library with other places");
         let made = Raw { at: NonNull::from(memory).cast(), borrowed: PhantomData };
         let ((rx_places, rx), (tx_places, tx)) = (rx.lent(), tx.lent());
         // SAFETY: C.md: buffers, bytes. The memory has the size and the alignment of `struct smoltcp_raw`, and holds no
@@ -196,16 +200,17 @@ impl<'a> Raw<'a> {
     }
 
     asks! {
-        ip_version => smoltcp_raw_ip_version_checked;
-        ip_protocol => smoltcp_raw_ip_protocol_checked;
-        can_send => smoltcp_raw_can_send_checked;
-        can_recv => smoltcp_raw_can_recv_checked;
-        packet_send_capacity => smoltcp_raw_packet_send_capacity_checked;
-        packet_recv_capacity => smoltcp_raw_packet_recv_capacity_checked;
-        payload_send_capacity => smoltcp_raw_payload_send_capacity_checked;
-        payload_recv_capacity => smoltcp_raw_payload_recv_capacity_checked;
-        send_queue => smoltcp_raw_send_queue_checked;
-        recv_queue => smoltcp_raw_recv_queue_checked;
+        smoltcp_raw_ask_checked:
+        ip_version => IP_VERSION;
+        ip_protocol => IP_PROTOCOL;
+        can_send => CAN_SEND;
+        can_recv => CAN_RECV;
+        packet_send_capacity => PACKET_SEND_CAPACITY;
+        packet_recv_capacity => PACKET_RECV_CAPACITY;
+        payload_send_capacity => PAYLOAD_SEND_CAPACITY;
+        payload_recv_capacity => PAYLOAD_RECV_CAPACITY;
+        send_queue => SEND_QUEUE;
+        recv_queue => RECV_QUEUE;
     }
 
     pub fn send(&mut self, data: &[u8]) -> i64 {
@@ -256,8 +261,8 @@ unsafe impl Send for Icmp<'_> {}
 impl<'a> Icmp<'a> {
     /// Makes a socket that is not open.
     pub fn new(memory: &'a mut IcmpMemory, rx: IcmpBuffer<'a>, tx: IcmpBuffer<'a>) -> Icmp<'a> {
-        assert!(ffi::smoltcp_icmp_size() <= size_of::<IcmpMemory>(), "a library with larger sockets");
-        assert!(ffi::smoltcp_icmp_place_size() == size_of::<IcmpPlace>(), "a library with other places");
+        assert!(ffi::sizes().icmp <= size_of::<IcmpMemory>(), "a library with larger sockets");
+        assert!(ffi::sizes().icmp_place == size_of::<IcmpPlace>(), "a library with other places");
         let made = Icmp { at: NonNull::from(memory).cast(), borrowed: PhantomData };
         let ((rx_places, rx), (tx_places, tx)) = (rx.lent(), tx.lent());
         // SAFETY: C.md: buffers, bytes. The memory has the size and the alignment of `struct smoltcp_icmp`, and holds
@@ -272,16 +277,17 @@ impl<'a> Icmp<'a> {
     }
 
     asks! {
-        is_open => smoltcp_icmp_is_open_checked;
-        can_send => smoltcp_icmp_can_send_checked;
-        can_recv => smoltcp_icmp_can_recv_checked;
-        packet_send_capacity => smoltcp_icmp_packet_send_capacity_checked;
-        packet_recv_capacity => smoltcp_icmp_packet_recv_capacity_checked;
-        payload_send_capacity => smoltcp_icmp_payload_send_capacity_checked;
-        payload_recv_capacity => smoltcp_icmp_payload_recv_capacity_checked;
-        send_queue => smoltcp_icmp_send_queue_checked;
-        recv_queue => smoltcp_icmp_recv_queue_checked;
-        hop_limit => smoltcp_icmp_hop_limit_checked;
+        smoltcp_icmp_ask_checked:
+        is_open => IS_OPEN;
+        can_send => CAN_SEND;
+        can_recv => CAN_RECV;
+        packet_send_capacity => PACKET_SEND_CAPACITY;
+        packet_recv_capacity => PACKET_RECV_CAPACITY;
+        payload_send_capacity => PAYLOAD_SEND_CAPACITY;
+        payload_recv_capacity => PAYLOAD_RECV_CAPACITY;
+        send_queue => SEND_QUEUE;
+        recv_queue => RECV_QUEUE;
+        hop_limit => HOP_LIMIT;
     }
 
     sets! {

@@ -1,12 +1,20 @@
-use Rattle.std.proofs.Common.{◌≡◌, is_some, refl, rules, ◌∙◌, to_z, of_z, w64}
+use Rattle.std.proofs.Common.{◌≡◌, ap, is_some, true, false, refl, rules, ◌∙◌, to_z, of_z, w64}
+use Rattle.sock_core.specs.declared.context.PollAt.{PollAt}
 use Rattle.sock_tcp.specs.Poll.{poll_moment}
 use Rattle.smoltcp_c.specs.Context.{facts_in}
-use Rattle.smoltcp_c.specs.Packets.{poll_written}
+use Rattle.smoltcp_c.specs.Packets.{poll_answer, poll_written}
+use Rattle.smoltcp_c.specs.Tcp.{clock, view}
 use Rattle.smoltcp_c.proofs.contexts.smoltcp_tcp_poll_at_checked.Goals as goal
 
-pub returns-clause-written : goal.returns-clause-written
-returns-clause-written c = λ k.
+pub returns-clause-told : goal.returns-clause-told
+returns-clause-told c =
     let m : c.in-Some.moment.cx ≡ c.args.cx.now = c.in-Some.ensures.value _ refl in
     let s : c.socket.result.now ≡ c.args.h.now.socket = c.socket.ensures.value in
-    let w : to_z w64 (of_z w64 c.args.cx.now.now) ≡ c.args.cx.now.now = search rules in
-    c.told.ensures.written ∙ ((λ i. poll_written (c.poll_at-poll.ensures i) (w i) c.args.at.now) ∙ (λ i. poll_written (poll_moment (s i).control_block (facts_in (m i)) (is_some (s i).tsval_generator)) c.args.cx.now.now c.args.at.now))
+    let poll : c.poll_at.result ≡ poll_moment (view c.args.h.now) (facts_in c.args.cx.now) (is_some (clock c.args.h.now)) =
+    c.poll_at.ensures ∙ (λ i. poll_moment (s i).control_block (facts_in (m i)) (is_some (s i).tsval_generator)) in
+    let e : to_z w64 (of_z w64 c.told.result) ≡ c.told.result = search rules in
+    record {
+      context = λ f. let no : true ≡ false = c.in-Some.ensures.range ∙ f in absurd cc;
+      answer = λ t. e ∙ c.told.ensures.answer ∙ ap poll_answer poll;
+      written = λ t. c.told.ensures.written ∙ ap (λ (x : PollAt). poll_written x c.args.cx.now.now c.args.at.now) poll;
+    }

@@ -1,0 +1,10 @@
+use Rattle.smoltcp_c.specs.Context.{facts_in}
+use Rattle.smoltcp_c.specs.Udp.{AcceptsDatagram}
+use Rattle.smoltcp_c.proofs.Told.{none_for, some_for}
+use Rattle.smoltcp_c.proofs.datagram_packets.is_for_udp.Goals as goal
+
+pub returns-in-None : goal.returns-in-None
+returns-in-None c = none_for (AcceptsDatagram (facts_in c.args.moment.now.cx)) c.args.socket.now _ c.in-None.ensures
+
+pub returns-in-Some : goal.returns-in-Some
+returns-in-Some c = some_for (AcceptsDatagram (facts_in c.args.moment.now.cx)) c.args.socket.now _ _ _ c.in-Some.ensures c.accepts.ensures

@@ -1,0 +1,22 @@
+-- `fill` writes the place into the room. Assumes `Logic`.
+use Rattle.net_base.proofs.packet_buffer.PacketMetadata.TheLaws.{the_row_laws}
+use Rattle.net_base.specs.declared.packet_buffer.PacketMetadata.{PacketMetadata}
+use denote.Builtin.{unit}
+use Rattle.sock_dgram.proofs.Refusals.{unit_laws}
+use Rattle.smoltcp_c.specs.Places.{raw_place_row}
+use Rattle.smoltcp_c.specs.declared.handles.RawPlaceRoom.{RawPlaceRoom}
+use Rattle.smoltcp_c.specs.contracts.handles.RawPlaceRoom.{the_type}
+use Rattle.smoltcp_c.specs.contracts.handles.RawPlaceRoom.fill as f
+use Rattle.smoltcp_c.specs.contracts.handles.RawPlaceRoom.fill.Key.{name}
+use Rattle.smoltcp_c.proofs.Filling.{copy_met}
+use Rattle.smoltcp_c.proofs.Owned.{Some, entered, refl, tables, tables_of, triple_of, yes}
+use Rattle.smoltcp_c.proofs.handles.RawPlaceRoom.fill.Statement.{statement}
+use Rattle.smoltcp_c.proofs.handles.RawPlaceRoom.fill.Code as code
+
+pub fill_spec : {M : Type 1} → statement M
+unfolding tables_of
+fill_spec 𝓤 𝓛 𝓜 𝓡 wired =
+    let 𝓣 = tables 𝓤 𝓛.H 𝓜 𝓡 𝓡.env in
+    entered 𝓤 𝓛.H (triple_of 𝓛 f.signature (f.spec 𝓛 𝓜.mem 𝓡.returns)) 𝓣.C 𝓣.Λ name code.function (code.unfolded 𝓤 𝓛.H 𝓜 𝓡 wired)
+    (copy_met (the_type).name RawPlaceRoom (λ d. d.at) (the_type).coded (the_type).exit (the_type).shr_at raw_place_row (λ d. d.made) (λ d (x : PacketMetadata (Unit {0})). record d { made = Some x }) (λ d x. refl) (λ d x. refl) yes
+    (the_row_laws unit unit_laws) (λ x z. tt) 𝓛 (tables_of 𝓤 𝓛.H 𝓜 𝓣) code.function _ _ refl _ _ refl refl)
