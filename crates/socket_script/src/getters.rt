@@ -84,55 +84,36 @@ fn write_queue(line: &mut String, name: &str, queue: Waiting) -> Result<(), NoMe
     Ok(())
 }
 
+// Both directions of a socket that keeps packets, of whichever kind.
+macro_rules! packet_queues {
+    ($socket:expr, $line:expr) => {{
+        let sending = Waiting {
+            queued: $socket.send_queue(),
+            bytes: $socket.payload_send_capacity(),
+            places: $socket.packet_send_capacity(),
+            can: $socket.can_send(),
+        };
+        write_queue($line, "send", sending)?;
+        let receiving = Waiting {
+            queued: $socket.recv_queue(),
+            bytes: $socket.payload_recv_capacity(),
+            places: $socket.packet_recv_capacity(),
+            can: $socket.can_recv(),
+        };
+        write_queue($line, " recv", receiving)
+    }};
+}
+
 fn udp_queues(socket: &udp::Socket<'_>, line: &mut String) -> Result<(), NoMemory> {
-    let sending = Waiting {
-        queued: socket.send_queue(),
-        bytes: socket.payload_send_capacity(),
-        places: socket.packet_send_capacity(),
-        can: socket.can_send(),
-    };
-    write_queue(line, "send", sending)?;
-    let receiving = Waiting {
-        queued: socket.recv_queue(),
-        bytes: socket.payload_recv_capacity(),
-        places: socket.packet_recv_capacity(),
-        can: socket.can_recv(),
-    };
-    write_queue(line, " recv", receiving)
+    packet_queues!(socket, line)
 }
 
 fn icmp_queues(socket: &icmp::Socket<'_>, line: &mut String) -> Result<(), NoMemory> {
-    let sending = Waiting {
-        queued: socket.send_queue(),
-        bytes: socket.payload_send_capacity(),
-        places: socket.packet_send_capacity(),
-        can: socket.can_send(),
-    };
-    write_queue(line, "send", sending)?;
-    let receiving = Waiting {
-        queued: socket.recv_queue(),
-        bytes: socket.payload_recv_capacity(),
-        places: socket.packet_recv_capacity(),
-        can: socket.can_recv(),
-    };
-    write_queue(line, " recv", receiving)
+    packet_queues!(socket, line)
 }
 
 fn raw_queues(socket: &raw::Socket<'_>, line: &mut String) -> Result<(), NoMemory> {
-    let sending = Waiting {
-        queued: socket.send_queue(),
-        bytes: socket.payload_send_capacity(),
-        places: socket.packet_send_capacity(),
-        can: socket.can_send(),
-    };
-    write_queue(line, "send", sending)?;
-    let receiving = Waiting {
-        queued: socket.recv_queue(),
-        bytes: socket.payload_recv_capacity(),
-        places: socket.packet_recv_capacity(),
-        can: socket.can_recv(),
-    };
-    write_queue(line, " recv", receiving)
+    packet_queues!(socket, line)
 }
 
 // Milliseconds, or `-`.
