@@ -282,7 +282,7 @@ module _ (P : View → Type 0) (now : Instant) (k : KeptBySending P now) where
   kind_kept kind.Probe u e h = k.probes u h
   kind_kept kind.KeepAlive u e h = h
 
-  left_kept : (o : Option Sending) (ok : Bool) (u : View) → P u → P (left_by o u now ok)
+  pub left_kept : (o : Option Sending) (ok : Bool) (u : View) → P u → P (left_by o u now ok)
   unfolding after_sending
   left_kept None ok u h = h
   left_kept (Some s) true u h = kind_kept s.kind (after_any u now) (emitted_as s.kind s.segment) (k.renews u h)
