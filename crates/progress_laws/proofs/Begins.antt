@@ -99,17 +99,17 @@ readied_alike v now = go v.remote_last_ts
     go None = record { state = refl; peer = refl; timeout = refl; keep_alive = refl; timer = refl; una = refl; nxt = refl; tx = refl; rx = refl; rcv = refl; window = refl; scale = refl; shift = refl; last_ack = refl; last_win = refl; marked = refl; mss = refl; delay = refl; paused = refl }
     go (Some at) = record { state = refl; peer = refl; timeout = refl; keep_alive = refl; timer = refl; una = refl; nxt = refl; tx = refl; rx = refl; rcv = refl; window = refl; scale = refl; shift = refl; last_ack = refl; last_win = refl; marked = refl; mss = refl; delay = refl; paused = refl }
 
-timer_state : (tm : Timer) (x : View) (now : Instant) → (after_timer tm x now).state ≡ x.state
+timer_kept : (tm : Timer) (x : View) (now : Instant) → ((after_timer tm x now).state ≡ x.state) × ((after_timer tm x now).synack_paused ≡ x.synack_paused)
 unfolding retransmission_begun fast_retransmission_marked
-timer_state (timer.Retransmit at) x now = go (is_over at now)
+timer_kept (timer.Retransmit at) x now = go (is_over at now)
   where
-    go : (b : Bool) → (if b then retransmission_begun x now else x).state ≡ x.state
-    go true = refl
-    go false = refl
-timer_state timer.FastRetransmit x now = refl
-timer_state (timer.Idle at) x now = refl
-timer_state (timer.ZeroWindowProbe at delay) x now = refl
-timer_state (timer.Close at) x now = refl
+    go : (b : Bool) → ((if b then retransmission_begun x now else x).state ≡ x.state) × ((if b then retransmission_begun x now else x).synack_paused ≡ x.synack_paused)
+    go true = (refl, refl)
+    go false = (refl, refl)
+timer_kept timer.FastRetransmit x now = (refl, refl)
+timer_kept (timer.Idle at) x now = (refl, refl)
+timer_kept (timer.ZeroWindowProbe at delay) x now = (refl, refl)
+timer_kept (timer.Close at) x now = (refl, refl)
 
 idle_is_no_end : (now : Instant) (keep : Option Duration) → is_close_over (idle_from now keep) now ≡ false
 idle_is_no_end now None = refl
@@ -126,18 +126,6 @@ timer_no_end timer.FastRetransmit x now is e = idle_is_no_end now x.keep_alive
 timer_no_end (timer.Idle at) x now is e = ap (λ t. is_close_over t now) is ∙ e
 timer_no_end (timer.ZeroWindowProbe at delay) x now is e = ap (λ t. is_close_over t now) is ∙ e
 timer_no_end (timer.Close at) x now is e = ap (λ t. is_close_over t now) is ∙ e
-
-timer_paused : (tm : Timer) (x : View) (now : Instant) → (after_timer tm x now).synack_paused ≡ x.synack_paused
-unfolding retransmission_begun fast_retransmission_marked
-timer_paused (timer.Retransmit at) x now = go (is_over at now)
-  where
-    go : (b : Bool) → (if b then retransmission_begun x now else x).synack_paused ≡ x.synack_paused
-    go true = refl
-    go false = refl
-timer_paused timer.FastRetransmit x now = refl
-timer_paused (timer.Idle at) x now = refl
-timer_paused (timer.ZeroWindowProbe at delay) x now = refl
-timer_paused (timer.Close at) x now = refl
 
 -- a SYN|ACK alone may be paused
 pub carries_runs : (st : State) (b : Bool) → carries_data st ≡ true → is_paused st b ≡ false
@@ -165,7 +153,7 @@ module _ (v : View) (t : Tuple) (f : Facts) (stamps : Bool) (h : GoesOn v t f) (
       alive = ap (λ d. is_reached (timeout_poll d x.remote_last_ts) now) still.timeout ∙ h.alive
 
   goes_on : is_paused beginning.state beginning.synack_paused ≡ false
-  goes_on = (λ i. is_paused ((timer_state v.timer x now ∙ still.state) i) ((timer_paused v.timer x now ∙ still.paused) i)) ∙ c
+  goes_on = (λ i. is_paused (((timer_kept v.timer x now).0 ∙ still.state) i) (((timer_kept v.timer x now).1 ∙ still.paused) i)) ∙ c
 
   not_waiting : (y : View) → is_paused y.state y.synack_paused ≡ false → unless_paused y t ≡ record { view = y; peer = Some t }
   not_waiting y e = rw e refl

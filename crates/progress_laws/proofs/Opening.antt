@@ -5,7 +5,6 @@ use Rattle.std.proofs.lemmas.Bool.{eq-eqb}
 use Rattle.std.proofs.lemmas.List.{length-replicate}
 use Rattle.net_base.specs.declared.time.Duration.{Duration}
 use Rattle.net_base.specs.declared.time.Instant.{Instant}
-use Rattle.ip_wire.specs.Address.{SameVersion}
 use Rattle.ip_wire.specs.declared.endpoint.IpListenEndpoint.{IpListenEndpoint}
 use Rattle.control_wire.specs.Segment.{Segment}
 use Rattle.control_wire.specs.Seq.{seq_add, seq_of, seq_sub}
@@ -36,7 +35,7 @@ use Rattle.sock_tcp.specs.declared.tuple.Tuple.{Tuple}
 use Rattle.tcp_laws.specs.Polling.{IsReached}
 use Rattle.progress_laws.specs.FromOpening.{StandNew}
 use Rattle.progress_laws.specs.InStep.{takes_bytes, told}
-use Rattle.progress_laws.specs.Opening.{Acknowledges, AnswersSyn, TakesSyn}
+use Rattle.progress_laws.specs.Opening.{Acknowledges, AnswersSyn, CanMeet, TakesSyn}
 use Rattle.progress_laws.specs.Speech.{DispatchesOk}
 use Rattle.progress_laws.proofs.Begins.{dispatch_reached, numbered_as, segment_reached}
 use Rattle.progress_laws.proofs.Edges.{is_not_before, later_stays, same_seq}
@@ -47,23 +46,11 @@ use Rattle.progress_laws.proofs.Receives.{Owes, Tells}
 use Rattle.progress_laws.proofs.Repeats.{NotSent, Repeats, SendsSyn, SynGoesOut, ack_then, begun_so, delay_then, opening_listens, out_of as syn_out, segment, sends, sent as syn_sent, sent_so, u as before_syn, waits_then, window_then}
 use Rattle.progress_laws.proofs.SynSteps.{HasTakenSyn, ack_passes, acked_data, answer_passes, header_dst, heard_delay, heard_idle, opened, received_so, syn_passes, taken_within}
 
--- the two sockets before they are opened, and the numbers that they will have
-pub record Meets (t : Tuple) (f : Facts) (number word : ℕ) (a b : View) : Type 0 where
-  pub versions : SameVersion t.local.addr t.remote.addr
-  pub here : f.has_address t.local.addr ≡ true
-  pub there : f.has_address t.remote.addr ≡ true
-  pub number_small : number < 2 ^ 32
-  pub word_small : word < 2 ^ 32
-  pub no_timeout_a : a.timeout ≡ None
-  pub no_timeout_b : b.timeout ≡ None
-  pub not_paused_a : a.synack_paused ≡ false
-  pub not_paused_b : b.synack_paused ≡ false
-
 room_cleared : (b : Received) → length (cleared b).held ≡ room_of b
 unfolding cleared
 room_cleared b = length-replicate (room_of b) None
 
-module _ (t : Tuple) (f : Facts) (number word : ℕ) (a b : View) (e : IpListenEndpoint) (m : Meets t f number word a b) where
+module _ (t : Tuple) (f : Facts) (number word : ℕ) (a b : View) (e : IpListenEndpoint) (m : CanMeet t f number word a b) where
   abbrev pub x : View
   x = connected a t number
 
