@@ -149,11 +149,19 @@ pub record HasTakenSyn (b x : View) (t : Tuple) (number : ℕ) (g : Segment) : T
 pub received_so : (b : View) (e : IpListenEndpoint) (now : Instant) (t : Tuple) (word : ℕ) (g : Segment) → g.ack_number ≡ None → HasTakenSyn b (heard (syn_received (listened b e) now t word g) now nothing_acked g) t word g
 unfolding heard acknowledged window_taken released timestamp_taken timer_set syn_received options_taken listened renewed fresh
 received_so b e now t word g bare = subst (λ o. HasTakenSyn b (timer_set (timestamp_taken (acknowledged x o now 0 (length g.payload) changed) g.timestamp) now nothing_acked) t word g) (sym bare) (record {
-  state = refl; peer = refl; timeout = refl; keep_alive = refl; not_paused = refl; una = refl; rcv = refl; rx = refl;
+  state = refl;
+  peer = refl;
+  timeout = refl;
+  keep_alive = refl;
+  not_paused = refl;
+  una = refl;
+  rcv = refl;
+  rx = refl;
   no_bytes = refl;
   fits = omega arith;
-  scale = refl; shift = refl;
-  repeats = record { state = refl; peer = refl; timeout = refl; keep_alive = refl; una = refl; tx = refl; rx = refl; rcv = refl; window = refl; scale = refl; shift = refl; marked = refl; paused = refl; waits = NotSent (idle_moment now b.keep_alive) waits refl };
+  scale = refl;
+  shift = refl;
+  repeats = record { same = record { state = refl; peer = refl; timeout = refl; keep_alive = refl; una = refl; tx = refl; rx = refl; rcv = refl; window = refl; scale = refl; shift = refl; paused = refl }; marked = refl; waits = NotSent (idle_moment now b.keep_alive) waits refl };
   due = λ now. tt;
 })
   where
