@@ -25,7 +25,7 @@ use Rattle.progress_laws.proofs.Begins.{some_or_none, step_reached}
 use Rattle.progress_laws.proofs.Edges.{empty_inside_so, is_earlier, is_not_before, later_is, later_stays, same_seq}
 use Rattle.progress_laws.proofs.Hears.{HeardAs, IsData, all_no_duplicate, data_is_said, covered, heard_as, heard_inside, heard_rests, none_taken, seen}
 use Rattle.progress_laws.proofs.Speaks.{Waits}
-use Rattle.progress_laws.proofs.States.{is_flat, not_listening}
+use Rattle.progress_laws.proofs.States.{flat_steady, is_flat, is_steady, not_listening}
 
 -- with an idle timer and nothing in flight
 pub idle_rests : (v : View) (now : Instant) (keep : Option Duration) → v.timer ≡ idle_from now keep → v.remote_last_seq ≡ v.local_seq_no → 0 < v.remote_win_len → Rests v
@@ -53,8 +53,8 @@ lies_at_edge x g r empty at = rw (empty, at) (empty_inside_so (receive_window x)
 
 -- v sent something, or nothing, and became x; g says that n bytes behind SND.UNA were taken, and tells a window
 module _ (v x : View) (now : Instant) (ip : IpRepr) (g : Segment) (k : TcpSeqNumber) (n : ℕ) (is_flat_v : is_flat v.state ≡ true) (wait : Waits v x) (bit : IsData g.control) (number_small : g.seq_number.0 < 2 ^ 32) (inside : is_inside (receive_window x) g.seq_number (length g.payload) ≡ true) (ack : g.ack_number ≡ Some k) (empty : length g.payload ≡ 0) (some : 0 < g.window_len * 2 ^ scale_of v.remote_win_scale) (queued : n ≤ length v.tx_buffer.bytes) (taken : k ≡ seq_add v.local_seq_no n) (near : seq_sub k x.remote_last_seq ≤ 2 ^ 30) where
-  flat : is_flat x.state ≡ true
-  flat = ap is_flat wait.same.state ∙ is_flat_v
+  flat : is_steady x.state ≡ true
+  flat = ap is_steady wait.same.state ∙ flat_steady v.state is_flat_v
 
   una_small : x.local_seq_no.0 < 2 ^ 32
   una_small = (reached_ordered x wait.reached).una_small

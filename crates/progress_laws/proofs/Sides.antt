@@ -32,7 +32,7 @@ use Rattle.progress_laws.proofs.Hears.{HeardAs, IsData, IsOpenTimer}
 use Rattle.progress_laws.proofs.Learns.{Learnt, idle_rests, learnt}
 use Rattle.progress_laws.proofs.Receives.{told_window, unit, unit_some}
 use Rattle.progress_laws.proofs.Speaks.{Speaks}
-use Rattle.progress_laws.proofs.States.{is_flat, not_listening, sends_flat}
+use Rattle.progress_laws.proofs.States.{is_steady, not_listening, sends_flat}
 use Rattle.progress_laws.proofs.Takes.{IsCaughtUp, Took, fresh_bytes, takes, took, took_bytes, took_reached, took_rests, took_so}
 use Rattle.progress_laws.proofs.Taking.{blank, read_out}
 
@@ -116,7 +116,7 @@ module _ (d e : Option Duration) (t s : Tuple) (f : Facts) (now : Instant) (v w 
   window_is = h.window ∙ ap (λ o. g.window_len * 2 ^ scale_of o) speaks.waits.same.scale ∙ told_back
 
   reached : IsReached (ack_kept w)
-  reached = segment_reached w (ack_kept w) now 0 out.ip out.segment (Some g) b.sender.reached (omega arith) (numbered_as out.segment (next_ack v) speaks.ack number (omega arith)) short (λ l. absurd (not_listening w.state (sends_flat w.state b.sender.state) l)) answer
+  reached = segment_reached w (ack_kept w) now 0 out.ip out.segment (Some g) b.sender.reached (omega arith) (numbered_as out.segment (next_ack v) speaks.ack number (omega arith)) short (λ l. absurd (not_listening w.state (ap is_steady b.established) l)) answer
 
   pub hears_answer : HearsAnswer d e t s f now v w x n
   unfolding ack_kept
@@ -175,7 +175,7 @@ module _ (d e : Option Duration) (t s : Tuple) (f : Facts) (now : Instant) (v w 
 pub caught_side : {e : Option Duration} {s : Tuple} {w : View} → (b : IsSide e s w) → (k : TcpSeqNumber) (n : ℕ) → k ≡ seq_add w.local_seq_no n → n ≤ length w.tx_buffer.bytes → seq_sub w.remote_last_seq k ≤ 2 ^ 30 → IsCaughtUp w k n b.room
 caught_side {e} {s} {w} b k n there queued ahead =
     let o = reached_ordered w b.sender.reached in
-    record { state = ap is_flat b.established; takes = ap receives b.established; una_small = o.una_small; short = omega (arith, o.room); there = there; queued = queued; nxt_small = o.nxt_small; ahead = ahead; timer = open_rests w b.sender.rests; read = b.read; held = b.nothing_held; narrow = side_narrow b }
+    record { state = ap is_steady b.established; takes = ap receives b.established; una_small = o.una_small; short = omega (arith, o.room); there = there; queued = queued; nxt_small = o.nxt_small; ahead = ahead; timer = open_rests w b.sender.rests; read = b.read; held = b.nothing_held; narrow = side_narrow b }
 
 -- w took m bytes behind the first j of the segment, and they were read
 pub record Brought (e : Option Duration) (s : Tuple) (f : Facts) (now : Instant) (v w x : View) (k : TcpSeqNumber) (n room m win : ℕ) (fresh : List ℕ) : Type 0 where
