@@ -69,47 +69,62 @@ segment_reached v w now word ip g reply r small numbered short listens comes = s
 
 -- ---- the beginning
 
--- x has of v all that matters here
-pub record Alike (v x : View) : Type 0 where
+-- x has of v what neither a timer nor a sending changes
+pub record Same (v x : View) : Type 0 where
   pub state : x.state ≡ v.state
   pub peer : x.tuple ≡ v.tuple
   pub timeout : x.timeout ≡ v.timeout
   pub keep_alive : x.keep_alive ≡ v.keep_alive
-  pub timer : x.timer ≡ v.timer
   pub una : x.local_seq_no ≡ v.local_seq_no
-  pub nxt : x.remote_last_seq ≡ v.remote_last_seq
   pub tx : x.tx_buffer ≡ v.tx_buffer
   pub rx : x.rx_buffer ≡ v.rx_buffer
   pub rcv : x.remote_seq_no ≡ v.remote_seq_no
   pub window : x.remote_win_len ≡ v.remote_win_len
   pub scale : x.remote_win_scale ≡ v.remote_win_scale
   pub shift : x.remote_win_shift ≡ v.remote_win_shift
+  pub paused : x.synack_paused ≡ v.synack_paused
+
+pub same_then : {u v x : View} → Same u v → Same v x → Same u x
+same_then a b = record { state = b.state ∙ a.state; peer = b.peer ∙ a.peer; timeout = b.timeout ∙ a.timeout; keep_alive = b.keep_alive ∙ a.keep_alive; una = b.una ∙ a.una; tx = b.tx ∙ a.tx; rx = b.rx ∙ a.rx; rcv = b.rcv ∙ a.rcv; window = b.window ∙ a.window; scale = b.scale ∙ a.scale; shift = b.shift ∙ a.shift; paused = b.paused ∙ a.paused }
+
+pub same_again : (x : View) (now : Instant) → Same x (retransmission_begun x now)
+unfolding retransmission_begun
+same_again x now = record { state = refl; peer = refl; timeout = refl; keep_alive = refl; una = refl; tx = refl; rx = refl; rcv = refl; window = refl; scale = refl; shift = refl; paused = refl }
+
+-- and all else that matters here
+pub record Alike (v x : View) : Type 0 where
+  pub same : Same v x
+  pub timer : x.timer ≡ v.timer
+  pub nxt : x.remote_last_seq ≡ v.remote_last_seq
   pub last_ack : x.remote_last_ack ≡ v.remote_last_ack
   pub last_win : x.remote_last_win ≡ v.remote_last_win
   pub marked : x.pending_fast_retransmit ≡ v.pending_fast_retransmit
   pub mss : x.remote_mss ≡ v.remote_mss
   pub delay : x.ack_delay_timer ≡ v.ack_delay_timer
-  pub paused : x.synack_paused ≡ v.synack_paused
 
 pub readied_alike : (v : View) (now : Instant) → Alike v (readied v now)
 unfolding readied last_ts_set
 readied_alike v now = go v.remote_last_ts
   where
-    go : (o : Option Instant) → Alike v (told_ready (last_ts_set_at o v now) now)
-    go None = record { state = refl; peer = refl; timeout = refl; keep_alive = refl; timer = refl; una = refl; nxt = refl; tx = refl; rx = refl; rcv = refl; window = refl; scale = refl; shift = refl; last_ack = refl; last_win = refl; marked = refl; mss = refl; delay = refl; paused = refl }
-    go (Some at) = record { state = refl; peer = refl; timeout = refl; keep_alive = refl; timer = refl; una = refl; nxt = refl; tx = refl; rx = refl; rcv = refl; window = refl; scale = refl; shift = refl; last_ack = refl; last_win = refl; marked = refl; mss = refl; delay = refl; paused = refl }
+    same : (o : Option Instant) → Same v (told_ready (last_ts_set_at o v now) now)
+    same None = record { state = refl; peer = refl; timeout = refl; keep_alive = refl; una = refl; tx = refl; rx = refl; rcv = refl; window = refl; scale = refl; shift = refl; paused = refl }
+    same (Some at) = record { state = refl; peer = refl; timeout = refl; keep_alive = refl; una = refl; tx = refl; rx = refl; rcv = refl; window = refl; scale = refl; shift = refl; paused = refl }
 
-timer_state : (tm : Timer) (x : View) (now : Instant) → (after_timer tm x now).state ≡ x.state
+    go : (o : Option Instant) → Alike v (told_ready (last_ts_set_at o v now) now)
+    go None = record { same = same None; timer = refl; nxt = refl; last_ack = refl; last_win = refl; marked = refl; mss = refl; delay = refl }
+    go (Some at) = record { same = same (Some at); timer = refl; nxt = refl; last_ack = refl; last_win = refl; marked = refl; mss = refl; delay = refl }
+
+timer_kept : (tm : Timer) (x : View) (now : Instant) → ((after_timer tm x now).state ≡ x.state) × ((after_timer tm x now).synack_paused ≡ x.synack_paused)
 unfolding retransmission_begun fast_retransmission_marked
-timer_state (timer.Retransmit at) x now = go (is_over at now)
+timer_kept (timer.Retransmit at) x now = go (is_over at now)
   where
-    go : (b : Bool) → (if b then retransmission_begun x now else x).state ≡ x.state
-    go true = refl
-    go false = refl
-timer_state timer.FastRetransmit x now = refl
-timer_state (timer.Idle at) x now = refl
-timer_state (timer.ZeroWindowProbe at delay) x now = refl
-timer_state (timer.Close at) x now = refl
+    go : (b : Bool) → ((if b then retransmission_begun x now else x).state ≡ x.state) × ((if b then retransmission_begun x now else x).synack_paused ≡ x.synack_paused)
+    go true = (refl, refl)
+    go false = (refl, refl)
+timer_kept timer.FastRetransmit x now = (refl, refl)
+timer_kept (timer.Idle at) x now = (refl, refl)
+timer_kept (timer.ZeroWindowProbe at delay) x now = (refl, refl)
+timer_kept (timer.Close at) x now = (refl, refl)
 
 idle_is_no_end : (now : Instant) (keep : Option Duration) → is_close_over (idle_from now keep) now ≡ false
 idle_is_no_end now None = refl
@@ -126,18 +141,6 @@ timer_no_end timer.FastRetransmit x now is e = idle_is_no_end now x.keep_alive
 timer_no_end (timer.Idle at) x now is e = ap (λ t. is_close_over t now) is ∙ e
 timer_no_end (timer.ZeroWindowProbe at delay) x now is e = ap (λ t. is_close_over t now) is ∙ e
 timer_no_end (timer.Close at) x now is e = ap (λ t. is_close_over t now) is ∙ e
-
-timer_paused : (tm : Timer) (x : View) (now : Instant) → (after_timer tm x now).synack_paused ≡ x.synack_paused
-unfolding retransmission_begun fast_retransmission_marked
-timer_paused (timer.Retransmit at) x now = go (is_over at now)
-  where
-    go : (b : Bool) → (if b then retransmission_begun x now else x).synack_paused ≡ x.synack_paused
-    go true = refl
-    go false = refl
-timer_paused timer.FastRetransmit x now = refl
-timer_paused (timer.Idle at) x now = refl
-timer_paused (timer.ZeroWindowProbe at delay) x now = refl
-timer_paused (timer.Close at) x now = refl
 
 -- a SYN|ACK alone may be paused
 pub carries_runs : (st : State) (b : Bool) → carries_data st ≡ true → is_paused st b ≡ false
@@ -162,10 +165,10 @@ module _ (v : View) (t : Tuple) (f : Facts) (stamps : Bool) (h : GoesOn v t f) (
   timers_are = rw (alive, still.timer) refl
     where
       alive : is_reached (timeout_poll x.timeout x.remote_last_ts) now ≡ false
-      alive = ap (λ d. is_reached (timeout_poll d x.remote_last_ts) now) still.timeout ∙ h.alive
+      alive = ap (λ d. is_reached (timeout_poll d x.remote_last_ts) now) still.same.timeout ∙ h.alive
 
   goes_on : is_paused beginning.state beginning.synack_paused ≡ false
-  goes_on = (λ i. is_paused ((timer_state v.timer x now ∙ still.state) i) ((timer_paused v.timer x now ∙ still.paused) i)) ∙ c
+  goes_on = (λ i. is_paused (((timer_kept v.timer x now).0 ∙ still.same.state) i) (((timer_kept v.timer x now).1 ∙ still.same.paused) i)) ∙ c
 
   not_waiting : (y : View) → is_paused y.state y.synack_paused ≡ false → unless_paused y t ≡ record { view = y; peer = Some t }
   not_waiting y e = rw e refl

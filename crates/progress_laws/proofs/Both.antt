@@ -78,7 +78,7 @@ module _ (d e : Option Duration) (t s : Tuple) (f : Facts) (at now : Instant) (s
   number_is = ap (λ (m : TcpSeqNumber). m.0) p.bytes.number
 
   own : next_ack x ≡ next_ack v
-  own = (λ j. seq_add (p.bytes.speaks.waits.rcv j) (length ((p.bytes.speaks.waits.rx j).bytes)))
+  own = (λ j. seq_add (p.bytes.speaks.waits.same.rcv j) (length ((p.bytes.speaks.waits.same.rx j).bytes)))
 
   narrow_v : i.here.room ≤ 2 ^ 30
   narrow_v = room_small v i.here.room i.here.nothing_held vs.reached
@@ -90,7 +90,7 @@ module _ (d e : Option Duration) (t s : Tuple) (f : Facts) (at now : Instant) (s
   told_small = omega (arith, unit_within (length v.rx_buffer.held) v.remote_win_shift, wide_so v i.here.room i.here.nothing_held, narrow_v)
 
   width_x : seq_sub (receive_window x).end (receive_window x).start ≡ window_told v
-  width_x = width_told v x i.here.room (wide_so v i.here.room i.here.nothing_held) narrow_v p.bytes.speaks.waits.rx p.bytes.speaks.waits.rcv p.shift p.last_ack p.last_win
+  width_x = width_told v x i.here.room (wide_so v i.here.room i.here.nothing_held) narrow_v p.bytes.speaks.waits.same.rx p.bytes.speaks.waits.same.rcv p.shift p.last_ack p.last_win
 
   caught : IsCaughtUp w (next_ack v) i.back.taken i.across.room
   caught = caught_side i.across (next_ack v) i.back.taken i.back.there i.back.taken_within (omega (arith, i.in_reach, told_small))
@@ -105,11 +105,11 @@ module _ (d e : Option Duration) (t s : Tuple) (f : Facts) (at now : Instant) (s
   side_then =
       let k = p.bytes.speaks.waits in
       record {
-        sender = record { reached = k.reached; state = ap may_send k.state ∙ vs.state; peer = k.peer ∙ vs.peer; no_timeout = k.timeout ∙ vs.no_timeout; keep_alive = k.keep_alive ∙ vs.keep_alive; nothing_marked = k.nothing_marked; rests = ForAnswer p.at p.timer };
-        established = k.state ∙ i.here.established;
-        read = ap (λ (b : Received). b.bytes) k.rx ∙ i.here.read;
+        sender = record { reached = k.reached; state = ap may_send k.same.state ∙ vs.state; peer = k.same.peer ∙ vs.peer; no_timeout = k.same.timeout ∙ vs.no_timeout; keep_alive = k.same.keep_alive ∙ vs.keep_alive; nothing_marked = k.nothing_marked; rests = ForAnswer p.at p.timer };
+        established = k.same.state ∙ i.here.established;
+        read = ap (λ (b : Received). b.bytes) k.same.rx ∙ i.here.read;
         room = i.here.room;
-        nothing_held = ap (λ (b : Received). b.held) k.rx ∙ i.here.nothing_held;
+        nothing_held = ap (λ (b : Received). b.held) k.same.rx ∙ i.here.nothing_held;
         room_at_least = subst (λ m. 2 ^ m ≤ i.here.room) (sym p.shift) i.here.room_at_least;
       }
 
@@ -217,7 +217,7 @@ module _ (d e : Option Duration) (t s : Tuple) (f : Facts) (at now : Instant) (s
     told_w2 = (λ j. unit ((wide_w2 ∙ sym wide_w) j) (k.shift j))
 
     told_x : window_told x ≡ window_told v
-    told_x = told_alike v x p.bytes.speaks.waits.rx p.shift
+    told_x = told_alike v x p.bytes.speaks.waits.same.rx p.shift
 
     brings : Further d e t s f at v w got i
     brings = record {
@@ -231,9 +231,9 @@ module _ (d e : Option Duration) (t s : Tuple) (f : Facts) (at now : Instant) (s
         across = b.side;
         over = record {
           taken = size;
-          taken_within = subst (λ (q : Queue). size ≤ length q.bytes) (sym p.bytes.speaks.waits.tx) p.bytes.queued;
-          there = same_seq (next_ack w2) (seq_add x.local_seq_no size) (omega (arith, k.next, edge, new, v_small, ap (λ (q : TcpSeqNumber). q.0) p.bytes.speaks.waits.una));
-          scale = ap scale_of p.bytes.speaks.waits.scale ∙ i.over.scale ∙ sym k.shift;
+          taken_within = subst (λ (q : Queue). size ≤ length q.bytes) (sym p.bytes.speaks.waits.same.tx) p.bytes.queued;
+          there = same_seq (next_ack w2) (seq_add x.local_seq_no size) (omega (arith, k.next, edge, new, v_small, ap (λ (q : TcpSeqNumber). q.0) p.bytes.speaks.waits.same.una));
+          scale = ap scale_of p.bytes.speaks.waits.same.scale ∙ i.over.scale ∙ sym k.shift;
           some = subst (λ q. 0 < q) (sym p.window) i.over.some;
           window = omega (arith, p.window, i.over.window, new, width_kept w w2 m i.across.room wide_w wide_w2 narrow_w k.last_ack k.last_win k.shift k.next fits);
           at_most = omega (arith, p.window, i.over.at_most, told_w2);
@@ -249,10 +249,10 @@ module _ (d e : Option Duration) (t s : Tuple) (f : Facts) (at now : Instant) (s
         };
         in_reach = omega (arith, i.in_reach, ap (λ (q : TcpSeqNumber). q.0) k.nxt, ap (λ (q : TcpSeqNumber). q.0) own, told_x);
       };
-      whole = append_assoc got fresh (drop size x.tx_buffer.bytes) ∙ ap (λ (q : Queue). got ++ (fresh ++ drop size q.bytes)) p.bytes.speaks.waits.tx ∙ ap (λ (l : List ℕ). got ++ (drop n l ++ drop size v.tx_buffer.bytes)) p.bytes.first ∙ ap (λ (l : List ℕ). got ++ l) (cut_and_rest n size v.tx_buffer.bytes (omega (arith, new)));
+      whole = append_assoc got fresh (drop size x.tx_buffer.bytes) ∙ ap (λ (q : Queue). got ++ (fresh ++ drop size q.bytes)) p.bytes.speaks.waits.same.tx ∙ ap (λ (l : List ℕ). got ++ (drop n l ++ drop size v.tx_buffer.bytes)) p.bytes.first ∙ ap (λ (l : List ℕ). got ++ l) (cut_and_rest n size v.tx_buffer.bytes (omega (arith, new)));
       others = k.tx;
       fewer = omega (arith, ap (λ (l : List ℕ). length l) k.tx, length-drop i.back.taken w.tx_buffer.bytes);
-      less = omega (arith, ap (λ (q : Queue). length q.bytes) p.bytes.speaks.waits.tx, p.bytes.queued, within, new);
+      less = omega (arith, ap (λ (q : Queue). length q.bytes) p.bytes.speaks.waits.same.tx, p.bytes.queued, within, new);
     }
 
   pub further : Further d e t s f at v w got i

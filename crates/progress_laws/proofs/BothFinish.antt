@@ -41,7 +41,7 @@ use Rattle.progress_laws.proofs.Hears.{HeardAs, IsOpenTimer, IsSaid, all_no_dupl
 use Rattle.progress_laws.proofs.Learns.{idle_rests}
 use Rattle.progress_laws.proofs.Rounds.{later_moment}
 use Rattle.progress_laws.proofs.Speaks.{wakes}
-use Rattle.progress_laws.proofs.States.{not_listening, sends_flat}
+use Rattle.progress_laws.proofs.States.{is_steady, not_listening}
 
 -- ---- the one closes: w, in ESTABLISHED, counts the FIN of v
 
@@ -149,7 +149,7 @@ module _ (d e : Option Duration) (t s : Tuple) (f : Facts) (w v : View) (i : Bot
       numbered = record { seq_number = omega (arith, number); ack_number = λ m p. subst (λ (b : TcpSeqNumber). b.0 < 2 ^ 32) (same_Some k m (sym q.ack ∙ p)) (omega arith) }
 
       reached : IsReached y
-      reached = step_reached w y (after_segment i.here.sender.reached.counts w y) i.here.sender.reached (Process now 0 q.out.ip g (omega arith) numbered (omega (arith, q.empty)) (λ l. absurd (not_listening w.state (sends_flat w.state i.here.sender.state) l)) (sym (ap (λ (o : Outcome). o.view) takes_fin)) refl)
+      reached = step_reached w y (after_segment i.here.sender.reached.counts w y) i.here.sender.reached (Process now 0 q.out.ip g (omega arith) numbered (omega (arith, q.empty)) (λ l. absurd (not_listening w.state (ap is_steady i.here.established) l)) (sym (ap (λ (o : Outcome). o.view) takes_fin)) refl)
 
   pub empty_y : length (closed y).tx_buffer.bytes ≡ 0
   unfolding fin_counted

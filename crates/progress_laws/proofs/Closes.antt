@@ -102,7 +102,7 @@ module _ (d : Option Duration) (t : Tuple) (c : View) (f : Facts) (now : Instant
   fr = start.front
 
   closing : is_closing u.state ≡ true
-  closing = ap is_closing fr.state ∙ waits
+  closing = ap is_closing fr.same.state ∙ waits
 
   carries_on : carries_data u.state ≡ true
   carries_on = closing_carries u.state closing
@@ -111,10 +111,10 @@ module _ (d : Option Duration) (t : Tuple) (c : View) (f : Facts) (now : Instant
   nothing_marked = fr.marked ∙ s.nothing_marked
 
   no_flight : flight u ≡ 0
-  no_flight = ap (λ n. seq_sub n u.local_seq_no) (fr.nxt ∙ sym fr.una) ∙ no_distance u.local_seq_no fr.ordered.una_small
+  no_flight = ap (λ n. seq_sub n u.local_seq_no) (fr.nxt ∙ sym fr.same.una) ∙ no_distance u.local_seq_no fr.ordered.una_small
 
   no_queue : length u.tx_buffer.bytes ≡ 0
-  no_queue = ap (λ (q : Queue). length q.bytes) fr.tx ∙ none_left
+  no_queue = ap (λ (q : Queue). length q.bytes) fr.same.tx ∙ none_left
 
   abbrev bytes : List ℕ
   bytes = take (min (asked u t fa false) (in_one_piece u.tx_buffer.until_end (length u.tx_buffer.bytes) (offset_of u))) (drop (offset_of u) u.tx_buffer.bytes)
@@ -145,7 +145,7 @@ module _ (d : Option Duration) (t : Tuple) (c : View) (f : Facts) (now : Instant
   fin_due = last ((u.pending_fast_retransmit && not (length u.tx_buffer.bytes == 0)) || (is_opening u.state && (flight u == 0)) || (not (sendable u == 0) && not (is_held_back u (effective_mss u t fa false)))) (is_closing u.state) (seq_eq u.remote_last_seq (seq_add u.local_seq_no (length u.tx_buffer.bytes))) closing at_nxt
     where
       at_nxt : seq_eq u.remote_last_seq (seq_add u.local_seq_no (length u.tx_buffer.bytes)) ≡ true
-      at_nxt = eq-eqb u.remote_last_seq.0 (seq_add u.local_seq_no (length u.tx_buffer.bytes)).0 (omega (arith, no_queue, ap (λ (m : TcpSeqNumber). m.0) (fr.nxt ∙ sym fr.una), fr.ordered.una_small))
+      at_nxt = eq-eqb u.remote_last_seq.0 (seq_add u.local_seq_no (length u.tx_buffer.bytes)).0 (omega (arith, no_queue, ap (λ (m : TcpSeqNumber). m.0) (fr.nxt ∙ sym fr.same.una), fr.ordered.una_small))
 
       last : (x a e : Bool) → a ≡ true → e ≡ true → (x || (a && e)) ≡ true
       last true a e p q = refl
@@ -170,10 +170,10 @@ module _ (d : Option Duration) (t : Tuple) (c : View) (f : Facts) (now : Instant
     }));
     bit = fin;
     number = rw nothing_marked fr.nxt;
-    ack = (λ i. Some (seq_add (fr.rcv i) (length ((fr.rx i).bytes))));
+    ack = (λ i. Some (seq_add (fr.same.rcv i) (length ((fr.same.rx i).bytes))));
     empty = none;
-    field = (λ i. min (length ((fr.rx i).held) / 2 ^ fr.shift i) 65535);
-    still = then_still c u (left_by (Some (sent_as u t kind.Plain b)) u now true) (record { state = fr.state; una = fr.una; tx = fr.tx; rx = fr.rx; rcv = fr.rcv }) (sent_still u now (emitted_as kind.Plain b));
+    field = (λ i. min (length ((fr.same.rx i).held) / 2 ^ fr.same.shift i) 65535);
+    still = then_still c u (left_by (Some (sent_as u t kind.Plain b)) u now true) (record { state = fr.same.state; una = fr.same.una; tx = fr.same.tx; rx = fr.same.rx; rcv = fr.same.rcv }) (sent_still u now (emitted_as kind.Plain b));
   }
 
 -- ---- and is counted

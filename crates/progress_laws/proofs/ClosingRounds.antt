@@ -18,7 +18,7 @@ use Rattle.sock_tcp.specs.Content.{Sending, carries_data}
 use Rattle.sock_tcp.specs.Due.{is_closing, window_field}
 use Rattle.sock_tcp.specs.Process.{Outcome, processed}
 use Rattle.sock_tcp.specs.Queue.{Queue}
-use Rattle.sock_tcp.specs.Queues.{read_off}
+use Rattle.sock_tcp.specs.Queues.{read_off, receives}
 use Rattle.sock_tcp.specs.Replies.{ack_kept, ack_segment, reply_ip}
 use Rattle.sock_tcp.specs.Steps.{heard, scale_of}
 use Rattle.sock_tcp.specs.View.{View}
@@ -35,7 +35,7 @@ use Rattle.tcp_laws.proofs.OrderedCalls.{reached_ordered}
 use Rattle.tcp_laws.proofs.SocketSteps.{holds_after}
 use Rattle.progress_laws.specs.AfterClose.{AfterClose, BringsAll}
 use Rattle.progress_laws.specs.BothWays.{window_told}
-use Rattle.progress_laws.specs.InStep.{Carries, ForAnswer, IsAnswered, Moves, NoMove, OneMore, Reads, Rests, takes_bytes, told}
+use Rattle.progress_laws.specs.InStep.{Carries, ForAnswer, IsAnswered, Moves, NoMove, OneMore, Reads, Rests, told}
 use Rattle.progress_laws.proofs.Answered.{acked, heard_answer}
 use Rattle.progress_laws.proofs.Arrives.{CountsIt, Faces, away, fin_counts, receives_so}
 use Rattle.progress_laws.proofs.Begins.{some_or_none, step_reached}
@@ -50,7 +50,7 @@ use Rattle.progress_laws.proofs.Learns.{idle_rests}
 use Rattle.progress_laws.proofs.Receives.{unit, unit_within}
 use Rattle.progress_laws.proofs.Rounds.{cut_and_rest}
 use Rattle.progress_laws.proofs.Spoken.{IsSaid}
-use Rattle.progress_laws.proofs.States.{closing_carries, takes_flat, takes_receives}
+use Rattle.progress_laws.proofs.States.{closing_carries, not_listening as steady_listens, receives_steady}
 use Rattle.progress_laws.proofs.Takes.{IsCaughtUp, Took, before_window, fresh_bytes, takes, took, took_bytes, took_open, took_reached, took_so, width_kept}
 use Rattle.progress_laws.proofs.Taking.{read_out, take_all}
 
@@ -93,7 +93,7 @@ module _ (d : Option Duration) (t : Tuple) (f : Facts) (at now : Instant) (since
   faces =
       let o = reached_ordered w i.receiver.reached in
       record {
-        state = receives_so w.state (takes_receives w.state i.receiver.state);
+        state = receives_so w.state i.receiver.state;
         una_small = o.una_small;
         short = omega (arith, o.room);
         heard = i.heard;
@@ -131,7 +131,7 @@ module _ (d : Option Duration) (t : Tuple) (f : Facts) (at now : Instant) (since
   pub fin_alone : (q : SaysFin (told f now) v) → length v.tx_buffer.bytes ≡ 0 → BringsAll d t f at v w got i
   fin_alone q none =
       let number : q.out.segment.seq_number.0 ≡ (next_ack w).0 = omega (arith, ap (λ (m : TcpSeqNumber). m.0) q.number, edge, i.over.taken_within, none, v_small) in
-      let c : CountsIt w (processed w now 0 q.out.ip q.out.segment) = fin_counts w (next_ack v) faces now 0 q.out.ip q.out.segment (subst IsSaid (sym q.bit) tt) q.ack q.bit q.empty number (takes_receives w.state i.receiver.state) in
+      let c : CountsIt w (processed w now 0 q.out.ip q.out.segment) = fin_counts w (next_ack v) faces now 0 q.out.ip q.out.segment (subst IsSaid (sym q.bit) tt) q.ack q.bit q.empty number i.receiver.state in
       let w' : View = (processed w now 0 q.out.ip q.out.segment).view in
       record {
         end = now;
@@ -165,13 +165,7 @@ module _ (d : Option Duration) (t : Tuple) (f : Facts) (at now : Instant) (since
     numbered = record { seq_number = omega (arith, number_is, v_small); ack_number = λ m e. subst (λ (q : TcpSeqNumber). q.0 < 2 ^ 32) (same_Some (next_ack v) m (sym p.ack ∙ e)) (omega arith) }
 
     not_listening : w.state ≡ state.Listen → ⊥
-    not_listening e = by w.state e i.receiver.state
-      where
-        by : (st : State) → st ≡ state.Listen → takes_bytes st ≡ true → ⊥
-        by state.Listen e h = cc
-        by state.Established e h = cc
-        by state.FinWait2 e h = cc
-        by _ e h = cc
+    not_listening = steady_listens w.state (receives_steady w.state i.receiver.state)
 
     -- ---- w has it already, and answers
 
@@ -367,7 +361,7 @@ module _ (d : Option Duration) (t : Tuple) (f : Facts) (at now : Instant) (since
           ys = drop n out.segment.payload
 
           k : TookLast ys o
-          k = took_last w (next_ack v) faces i.receiver.room i.receiver.read i.receiver.nothing_held now out.ip out.segment (p.fin all) p.ack n m (omega (arith, number_is, v_small)) skips close long some fits past (takes_receives w.state i.receiver.state)
+          k = took_last w (next_ack v) faces i.receiver.room i.receiver.read i.receiver.nothing_held now out.ip out.segment (p.fin all) p.ack n m (omega (arith, number_is, v_small)) skips close long some fits past i.receiver.state
 
           whole : ys ≡ drop n v.tx_buffer.bytes
           whole = ap (drop n) (p.first ∙ ap (λ q. take q v.tx_buffer.bytes) all ∙ take_all v.tx_buffer.bytes)
@@ -376,8 +370,8 @@ module _ (d : Option Duration) (t : Tuple) (f : Facts) (at now : Instant) (since
       module _ (less : size < length v.tx_buffer.bytes) where
         caught : IsCaughtUp w (next_ack v) i.heard i.receiver.room
         caught = record {
-          state = takes_flat w.state i.receiver.state;
-          takes = takes_receives w.state i.receiver.state;
+          state = receives_steady w.state i.receiver.state;
+          takes = i.receiver.state;
           una_small = faces.una_small;
           short = faces.short;
           there = i.back;
@@ -436,7 +430,7 @@ module _ (d : Option Duration) (t : Tuple) (f : Facts) (at now : Instant) (since
             sender = p.closer;
             receiver = record {
               reached = reached_w;
-              state = ap takes_bytes k.state ∙ i.receiver.state;
+              state = ap receives k.state ∙ i.receiver.state;
               timer = λ at e. subst IsOpenTimer e not_close;
               read = k.read;
               room = i.receiver.room;

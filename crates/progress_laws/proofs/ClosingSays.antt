@@ -31,7 +31,7 @@ use Rattle.progress_laws.proofs.Begins.{and_no, carries_runs, content_is, dispat
 use Rattle.progress_laws.proofs.Hears.{IsData}
 use Rattle.progress_laws.proofs.Lends.{lent_some, mss_some}
 use Rattle.progress_laws.proofs.Says.{no_probe}
-use Rattle.progress_laws.proofs.Sends.{left, plain_ack, plain_sent, plain_timer, plain_window}
+use Rattle.progress_laws.proofs.Sends.{left, plain_sent, plain_timer, plain_told}
 use Rattle.progress_laws.proofs.Speaks.{Begins, Front, IsNoProbe, begins, open_window, wakes}
 use Rattle.progress_laws.proofs.Spoken.{IsSaid, data_said}
 use Rattle.progress_laws.proofs.States.{closing_carries, closing_open}
@@ -83,7 +83,7 @@ module _ (d : Option Duration) (t : Tuple) (v : View) (f : Facts) (now : Instant
   fr = start.front
 
   closing : is_closing u.state ≡ true
-  closing = ap is_closing fr.state ∙ s.state
+  closing = ap is_closing fr.same.state ∙ s.state
 
   carries : carries_data u.state ≡ true
   carries = closing_carries u.state closing
@@ -98,7 +98,7 @@ module _ (d : Option Duration) (t : Tuple) (v : View) (f : Facts) (now : Instant
   mss = subst (λ n. 48 ≤ n) (sym fr.mss) (reached_probing v s.reached).mss
 
   no_flight : flight u ≡ 0
-  no_flight = ap (λ n. seq_sub n u.local_seq_no) (fr.nxt ∙ sym fr.una) ∙ no_distance u.local_seq_no fr.ordered.una_small
+  no_flight = ap (λ n. seq_sub n u.local_seq_no) (fr.nxt ∙ sym fr.same.una) ∙ no_distance u.local_seq_no fr.ordered.una_small
 
   no_probing : is_probing u now ≡ false
   no_probing = no_probe u now (ap (λ tm. is_probe_over tm now) fr.idle)
@@ -120,10 +120,10 @@ module _ (d : Option Duration) (t : Tuple) (v : View) (f : Facts) (now : Instant
   few = lent_at_most u.tx_buffer (offset_of u) (asked u t fa false) bytes lent
 
   win_u : 0 < u.remote_win_len
-  win_u = subst (λ n. 0 < n) (sym fr.window) win
+  win_u = subst (λ n. 0 < n) (sym fr.same.window) win
 
   same : length u.tx_buffer.bytes ≡ length v.tx_buffer.bytes
-  same = ap (λ (q : Queue). length q.bytes) fr.tx
+  same = ap (λ (q : Queue). length q.bytes) fr.same.tx
 
   some : 0 < length bytes
   some = lent_some u.tx_buffer (offset_of u) (asked u t fa false) bytes lent (omega (arith, asked_is, win_u, no_flight, mss_some u t fa false mtu.0 mss, open_window u.congestion_controller fr.ordered.congestion)) (omega (arith, at_front, queue, same))
@@ -175,33 +175,33 @@ module _ (d : Option Duration) (t : Tuple) (v : View) (f : Facts) (now : Instant
         said = data_said u (length bytes);
         plain = λ less. before_end (offset_of u + length bytes == length u.tx_buffer.bytes) refl less;
         fin = λ all. rw (eq-eqb (offset_of u + length bytes) (length u.tx_buffer.bytes) (omega (arith, at_front, all, same)), closing) refl;
-        ack = (λ i. Some (seq_add (fr.rcv i) (length ((fr.rx i).bytes))));
+        ack = (λ i. Some (seq_add (fr.same.rcv i) (length ((fr.same.rx i).bytes))));
         number = rw nothing_marked fr.nxt;
         some = some;
-        fits = omega (arith, few, asked_is, fr.window);
+        fits = omega (arith, few, asked_is, fr.same.window);
         queued = omega (arith, few, same);
         short = omega (arith, few, asked_is, mtu.1);
-        first = lent_beginning u.tx_buffer (offset_of u) (asked u t fa false) bytes lent ∙ ap (λ o. take (length bytes) (drop o u.tx_buffer.bytes)) at_front ∙ ap (λ (q : Queue). take (length bytes) q.bytes) fr.tx;
+        first = lent_beginning u.tx_buffer (offset_of u) (asked u t fa false) bytes lent ∙ ap (λ o. take (length bytes) (drop o u.tx_buffer.bytes)) at_front ∙ ap (λ (q : Queue). take (length bytes) q.bytes) fr.same.tx;
         closer = record {
           reached = dispatch_reached fa false v (Some (sent_as u t kind.Plain b)) after s.reached goes;
-          state = ap is_closing l.state ∙ closing;
-          peer = l.peer ∙ fr.peer ∙ s.peer;
-          no_timeout = l.timeout ∙ fr.timeout ∙ s.no_timeout;
-          keep_alive = l.keep_alive ∙ fr.keep_alive ∙ s.keep_alive;
+          state = ap is_closing l.same.state ∙ closing;
+          peer = l.same.peer ∙ fr.same.peer ∙ s.peer;
+          no_timeout = l.same.timeout ∙ fr.same.timeout ∙ s.no_timeout;
+          keep_alive = l.same.keep_alive ∙ fr.same.keep_alive ∙ s.keep_alive;
           nothing_marked = l.marked ∙ ap (λ m. m && not (carries_data u.state)) nothing_marked;
           rests = ForAnswer (moment_after now (rto_of u.rtte)) again;
         };
         at = moment_after now (rto_of u.rtte);
         timer = again;
-        una = l.una ∙ fr.una;
-        tx = l.tx ∙ fr.tx;
-        rx = l.rx ∙ fr.rx;
-        rcv = l.rcv ∙ fr.rcv;
-        scale = l.scale ∙ fr.scale;
-        window = l.window ∙ fr.window;
-        shift = l.shift ∙ fr.shift;
-        last_ack = plain_ack u t now b not_closed ∙ (λ i. Some (seq_add (fr.rcv i) (length ((fr.rx i).bytes))));
-        last_win = plain_window u t now b not_closed ∙ (λ i. min (length ((fr.rx i).held) / 2 ^ fr.shift i) 65535);
+        una = l.same.una ∙ fr.same.una;
+        tx = l.same.tx ∙ fr.same.tx;
+        rx = l.same.rx ∙ fr.same.rx;
+        rcv = l.same.rcv ∙ fr.same.rcv;
+        scale = l.same.scale ∙ fr.same.scale;
+        window = l.same.window ∙ fr.same.window;
+        shift = l.same.shift ∙ fr.same.shift;
+        last_ack = (plain_told u t now b not_closed).ack ∙ (λ i. Some (seq_add (fr.same.rcv i) (length ((fr.same.rx i).bytes))));
+        last_win = (plain_told u t now b not_closed).window ∙ (λ i. min (length ((fr.same.rx i).held) / 2 ^ fr.same.shift i) 65535);
       }
     where
       before_end : (e : Bool) → (offset_of u + length bytes == length u.tx_buffer.bytes) ≡ e → length bytes < length v.tx_buffer.bytes → IsData (data_control u (length bytes))

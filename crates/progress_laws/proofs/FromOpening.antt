@@ -19,12 +19,12 @@ use Rattle.sock_tcp.specs.declared.error.SendError.TheVariants as send_error
 use Rattle.progress_laws.specs.BothWays.{BothFinish, StaysInStep, Turns}
 use Rattle.progress_laws.specs.FromOpening.{AnswersAgain, BothEnd, IsUnopened, Losses, LostSynsComeAgain, NoLoss, OneLoss, OpenedPairCompletes, OpensInStep, StandNew}
 use Rattle.progress_laws.specs.InStep.{told}
-use Rattle.progress_laws.specs.Opening.{AnswersSyn, TakesSyn}
+use Rattle.progress_laws.specs.Opening.{AnswersSyn, CanMeet, TakesSyn}
 use Rattle.progress_laws.proofs.Begins.{dispatch_reached}
 use Rattle.progress_laws.proofs.Accepts.{sending_keeps_in_step}
 use Rattle.progress_laws.proofs.BothFinish.{both_ways_finish}
-use Rattle.progress_laws.proofs.Handshakes.{handshake_brings_in_step, meets, narrow, reached_l, reached_received, reached_x, same_versions}
-use Rattle.progress_laws.proofs.Opening.{Meets, acknowledged, answered, answers_syn, back_out, begins, can, can_z, out, q, received, s, sent, stands, takes_syn}
+use Rattle.progress_laws.proofs.Handshakes.{handshake_brings_in_step, meets, narrow, reached_l, reached_received, reached_x}
+use Rattle.progress_laws.proofs.Opening.{acknowledged, answered, answers_syn, back_out, begins, can, can_z, out, q, received, s, sent, stands, takes_syn}
 use Rattle.progress_laws.proofs.Repeats.{IsSent, NotSent, Repeats, SendsSyn, SynGoesOut, SynWaits, goes_so}
 use Rattle.progress_laws.proofs.Rounds.{later_moment}
 use Rattle.progress_laws.proofs.Taking.{take_all}
@@ -78,9 +78,9 @@ new_pair_ends d e t f fits back_fits v w mtu here n now xs ys short back_short =
     }
 
 pub opened_pair_completes : OpenedPairCompletes
-opened_pair_completes t f g now number word a b remote own e ua ub ends port here there number_small word_small mtu =
-    let o : OpensInStep t f now word a b (connected a t number) (listened b e) = handshake_brings_in_step t f g now number word a b remote own e ua ub ends port here there number_small word_small in
-    record { opens = o; ends = λ xs ys fits back_fits. new_pair_ends a.keep_alive b.keep_alive t f (capacity a.tx_buffer) (capacity b.tx_buffer) o.handshake.ack.here o.handshake.ack.across mtu here o.new now xs ys fits back_fits }
+opened_pair_completes t f g now number word a b remote own e p mtu =
+    let o : OpensInStep t f now word a b (connected a t number) (listened b e) = handshake_brings_in_step t f g now number word a b remote own e p in
+    record { opens = o; ends = λ xs ys fits back_fits. new_pair_ends a.keep_alive b.keep_alive t f (capacity a.tx_buffer) (capacity b.tx_buffer) o.handshake.ack.here o.handshake.ack.across mtu p.has_local o.new now xs ys fits back_fits }
 
 -- ---- whatever was lost before
 
@@ -93,7 +93,7 @@ losses_keep : (st : State) (t : Tuple) (f : Facts) (x : View) (c : SendsSyn st t
 losses_keep st t f x c at end v w (NoLoss _ _) r p = (r, p)
 losses_keep st t f x c at end v w (OneLoss _ now _ _ u _ out l d rest) r p = losses_keep st t f x c now end u w rest (goes_so st t f x c v r now out u d) (dispatch_reached (told f now) false v out u p d)
 
-module _ (t : Tuple) (f : Facts) (number word : ℕ) (a b : View) (e : IpListenEndpoint) (m : Meets t f number word a b) (ua : IsUnopened a) (ub : IsUnopened b) (mtu : IsMtu f.mtu) (reached_l : IsReached (listened b e)) (now : Instant) (v : View) (r : Repeats (connected a t number) v) (reached_s : IsReached (sent t f number word a b e m now v r)) where
+module _ (t : Tuple) (f : Facts) (number word : ℕ) (a b : View) (e : IpListenEndpoint) (m : CanMeet t f number word a b) (ua : IsUnopened a) (ub : IsUnopened b) (mtu : IsMtu f.mtu) (reached_l : IsReached (listened b e)) (now : Instant) (v : View) (r : Repeats (connected a t number) v) (reached_s : IsReached (sent t f number word a b e m now v r)) where
   abbrev w : View
   w = received t f number word a b e m now v r
 
@@ -114,9 +114,9 @@ module _ (t : Tuple) (f : Facts) (number word : ℕ) (a b : View) (e : IpListenE
 
 pub lost_syns_come_again : LostSynsComeAgain
 unfolding takes_syn
-lost_syns_come_again t f g at last number word a b v remote own e ua ub ends port here there number_small word_small mtu l =
-    let m = meets t f number word a b (same_versions t a g remote own ends) here there number_small word_small ua.no_timeout ub.no_timeout ua.not_paused ub.not_paused in
-    let k = losses_keep state.SynSent t f (connected a t number) (can t f number word a b e m) at last (connected a t number) v l (begins t f number word a b e m) (reached_x t f g number word a b remote own e ua ub ends port m) in
+lost_syns_come_again t f g at last number word a b v remote own e p mtu l =
+    let m = meets t f g number word a b remote own e p in
+    let k = losses_keep state.SynSent t f (connected a t number) (can t f number word a b e m) at last (connected a t number) v l (begins t f number word a b e m) (reached_x t f g number word a b remote own e p) in
     let o = goes_out v k.0.waits last in
     let y : TakesSyn f o.0 word v (listened b e) = takes_syn t f number word a b e m o.0 v k.0 o.2 in
-    record { now = o.0; later = o.1; syn = y; answers = answers_losses t f number word a b e m ua ub mtu (reached_l t f g number word a b remote own e ua ub ends port m) o.0 v k.0 (dispatch_reached (told f o.0) false v (Some (out t f number word a b e m o.0 v k.0)) (sent t f number word a b e m o.0 v k.0) k.1 y.sends_syn) }
+    record { now = o.0; later = o.1; syn = y; answers = answers_losses t f number word a b e m p.here p.across mtu (reached_l t f g number word a b remote own e p) o.0 v k.0 (dispatch_reached (told f o.0) false v (Some (out t f number word a b e m o.0 v k.0)) (sent t f number word a b e m o.0 v k.0) k.1 y.sends_syn) }

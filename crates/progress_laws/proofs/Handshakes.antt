@@ -21,19 +21,16 @@ use Rattle.sock_tcp.specs.declared.tuple.Tuple.{Tuple}
 use Rattle.tcp_laws.specs.Polling.{IsReached}
 use Rattle.tcp_laws.specs.SocketRun.{Connect, IsNumbered, Listen, opens_listener, starting_if}
 use Rattle.tcp_laws.proofs.SocketSteps.{holds_after}
-use Rattle.progress_laws.specs.FromOpening.{HandshakeBringsInStep, IsUnopened}
+use Rattle.progress_laws.specs.FromOpening.{AreOpened, HandshakeBringsInStep}
 use Rattle.progress_laws.specs.InStep.{told}
-use Rattle.progress_laws.specs.Opening.{Completes, Establishes, HandshakeCompletes, ListenerAnswersSyn}
+use Rattle.progress_laws.specs.Opening.{CanMeet, Completes, Establishes, HandshakeCompletes, ListenerAnswersSyn}
 use Rattle.progress_laws.proofs.Begins.{dispatch_reached, segment_reached, step_reached}
-use Rattle.progress_laws.proofs.Opening.{Meets, acknowledged, answered, answers_syn, back_out, begins, begins_now, comes, first, first_number, out, q, received, sent, stands, takes_syn}
+use Rattle.progress_laws.proofs.Opening.{acknowledged, answered, answers_syn, back_out, begins, begins_now, comes, first, first_number, out, q, received, sent, stands, takes_syn}
 use Rattle.progress_laws.proofs.Repeats.{Repeats}
 
 -- ---- the laws
 
-pub meets : (t : Tuple) (f : Facts) (number word : ℕ) (a b : View) → SameVersion t.local.addr t.remote.addr → f.has_address t.local.addr ≡ true → f.has_address t.remote.addr ≡ true → number < 2 ^ 32 → word < 2 ^ 32 → a.timeout ≡ None → b.timeout ≡ None → a.synack_paused ≡ false → b.synack_paused ≡ false → Meets t f number word a b
-meets t f number word a b versions here there number_small word_small no_timeout_a no_timeout_b not_paused_a not_paused_b = record { versions = versions; here = here; there = there; number_small = number_small; word_small = word_small; no_timeout_a = no_timeout_a; no_timeout_b = no_timeout_b; not_paused_a = not_paused_a; not_paused_b = not_paused_b }
-
-pub establishes : (t : Tuple) (f : Facts) (now : Instant) (number word : ℕ) (a b : View) (e : IpListenEndpoint) → Meets t f number word a b → Establishes f now word (connected a t number) (listened b e)
+pub establishes : (t : Tuple) (f : Facts) (now : Instant) (number word : ℕ) (a b : View) (e : IpListenEndpoint) → CanMeet t f number word a b → Establishes f now word (connected a t number) (listened b e)
 unfolding takes_syn
 establishes t f now number word a b e m =
     let r = begins t f number word a b e m in
@@ -41,12 +38,11 @@ establishes t f now number word a b e m =
     record { syn = takes_syn t f number word a b e m now (connected a t number) r (begins_now t f number word a b e m now); answer = answers_syn t f number word a b e m now (connected a t number) r now (received t f number word a b e m now (connected a t number) r) z.repeats (z.due now) }
 
 pub listener_answers_syn : ListenerAnswersSyn
-listener_answers_syn t f now number word a b e versions here there number_small word_small no_timeout_a no_timeout_b not_paused_a not_paused_b = establishes t f now number word a b e (meets t f number word a b versions here there number_small word_small no_timeout_a no_timeout_b not_paused_a not_paused_b)
+listener_answers_syn = establishes
 
 pub handshake_completes : HandshakeCompletes
 unfolding takes_syn answers_syn establishes
-handshake_completes t f now number word a b e versions here there number_small word_small no_timeout_a no_timeout_b not_paused_a not_paused_b interval some narrow narrow_b =
-    let m = meets t f number word a b versions here there number_small word_small no_timeout_a no_timeout_b not_paused_a not_paused_b in
+handshake_completes t f now number word a b e m interval some narrow narrow_b =
     let r = begins t f number word a b e m in
     let z = (q t f number word a b e m now (connected a t number) r).repeats in
     record { start = establishes t f now number word a b e m; ack = acknowledged t f number word a b e m now (connected a t number) r now (received t f number word a b e m now (connected a t number) r) z interval some narrow narrow_b }
@@ -101,15 +97,18 @@ listens_so b e shut port = record {
     listening : b.state ≡ state.Listen → ⊥
     listening l = true≢false (sym (ap is_open l) ∙ shut)
 
-module _ (t : Tuple) (f g : Facts) (number word : ℕ) (a b : View) (remote : IpEndpoint) (own e : IpListenEndpoint) (here : IsUnopened a) (there : IsUnopened b) (ends : endpoints a g remote own ≡ Ok t) (port : 0 < e.port) (m : Meets t f number word a b) where
+module _ (t : Tuple) (f g : Facts) (number word : ℕ) (a b : View) (remote : IpEndpoint) (own e : IpListenEndpoint) (o : AreOpened t f g number word a b remote own e) where
   pub reached_x : IsReached (connected a t number)
-  reached_x = step_reached a (connected a t number) (starting_if (is_ok (endpoints a g remote own)) (connected a t number) here.reached.counts) here.reached (Connect g number remote own m.number_small (sym (ap (λ r. after_connect r a number) ends)) refl)
+  reached_x = step_reached a (connected a t number) (starting_if (is_ok (endpoints a g remote own)) (connected a t number) o.here.reached.counts) o.here.reached (Connect g number remote own o.number_small (sym (ap (λ r. after_connect r a number) o.ends)) refl)
 
   pub reached_l : IsReached (listened b e)
-  reached_l = step_reached b (listened b e) (starting_if (opens_listener b e) (listened b e) there.reached.counts) there.reached (Listen e (Ok tt) (listens_so b e there.not_open port) refl)
+  reached_l = step_reached b (listened b e) (starting_if (opens_listener b e) (listened b e) o.across.reached.counts) o.across.reached (Listen e (Ok tt) (listens_so b e o.across.not_open o.port) refl)
+
+  pub meets : CanMeet t f number word a b
+  meets = record { versions = same_versions t a g remote own o.ends; here = o.has_local; there = o.has_remote; number_small = o.number_small; word_small = o.word_small; no_timeout_a = o.here.no_timeout; no_timeout_b = o.across.no_timeout; not_paused_a = o.here.not_paused; not_paused_b = o.across.not_paused }
 
 -- the listener, once it took the SYN
-module _ (t : Tuple) (f : Facts) (number word : ℕ) (a b : View) (e : IpListenEndpoint) (m : Meets t f number word a b) (now : Instant) (v : View) (r : Repeats (connected a t number) v) where
+module _ (t : Tuple) (f : Facts) (number word : ℕ) (a b : View) (e : IpListenEndpoint) (m : CanMeet t f number word a b) (now : Instant) (v : View) (r : Repeats (connected a t number) v) where
   pub reached_received : IsReached (listened b e) → IsReached (received t f number word a b e m now v r)
   unfolding plain_segment
   reached_received l = segment_reached (listened b e) (received t f number word a b e m now v r) now word (out t f number word a b e m now v r).ip (first t f number word a b e m now v r) None l m.word_small numbered (omega arith) (λ l. refl) (comes t f number word a b e m now v r)
@@ -119,15 +118,16 @@ module _ (t : Tuple) (f : Facts) (number word : ℕ) (a b : View) (e : IpListenE
 
 pub handshake_brings_in_step : HandshakeBringsInStep
 unfolding handshake_completes
-handshake_brings_in_step t f g now number word a b remote own e ua ub ends port here there number_small word_small =
-    let versions = same_versions t a g remote own ends in
-    let m = meets t f number word a b versions here there number_small word_small ua.no_timeout ub.no_timeout ua.not_paused ub.not_paused in
+handshake_brings_in_step t f g now number word a b remote own e o =
+    let m = meets t f g number word a b remote own e o in
     let x = connected a t number in
     let r = begins t f number word a b e m in
     let z = q t f number word a b e m now x r in
     let y = received t f number word a b e m now x r in
-    let h : Completes f now word x (listened b e) = handshake_completes t f now number word a b e versions here there number_small word_small ua.no_timeout ub.no_timeout ua.not_paused ub.not_paused ua.interval ua.some (narrow a ua.reached) (narrow b ub.reached) in
-    let reached_s = dispatch_reached (told f now) false x (Some (out t f number word a b e m now x r)) (sent t f number word a b e m now x r) (reached_x t f g number word a b remote own e ua ub ends port m) h.start.syn.sends_syn in
-    let reached_y = reached_received t f number word a b e m now x r (reached_l t f g number word a b remote own e ua ub ends port m) in
+    let fits_a = narrow a o.here.reached in
+    let fits_b = narrow b o.across.reached in
+    let h : Completes f now word x (listened b e) = handshake_completes t f now number word a b e m o.here.interval o.here.some fits_a fits_b in
+    let reached_s = dispatch_reached (told f now) false x (Some (out t f number word a b e m now x r)) (sent t f number word a b e m now x r) (reached_x t f g number word a b remote own e o) h.start.syn.sends_syn in
+    let reached_y = reached_received t f number word a b e m now x r (reached_l t f g number word a b remote own e o) in
     let reached_z = dispatch_reached (told f now) false y (Some (back_out t f number word a b e m now x r now y z.repeats)) (answered t f number word a b e m now x r now y z.repeats) reached_y h.start.answer.sends_answer in
-    record { handshake = h; new = stands t f number word a b e m now x r now y z.repeats ua.interval ua.some (narrow a ua.reached) (narrow b ub.reached) ub.some reached_s reached_z }
+    record { handshake = h; new = stands t f number word a b e m now x r now y z.repeats o.here.interval o.here.some fits_a fits_b o.across.some reached_s reached_z }

@@ -1,6 +1,7 @@
 -- What a socket in ESTABLISHED, CLOSE-WAIT or FIN-WAIT-2 makes of a segment in order.
 use Rattle.std.proofs.Common.{◌≡◌, ℕ, ◌+◌, ◌-◌, ◌*◌, ◌<◌, ◌≤◌, ◌^◌, ◌⊎◌, inl, inr, Bool, true, false, refl, sym, ap, subst, ◌∙◌, length, Option, Some, None, arith, length-drop}
 use Rattle.std.specs.Prelude.{if◌then◌else◌, ◌==◌, ◌&&◌}
+use Rattle.std.proofs.lemmas.Bool.{eqb-true}
 use Rattle.net_base.specs.declared.time.Duration.{Duration}
 use Rattle.net_base.specs.declared.time.Instant.{Instant}
 use Rattle.ip_wire.specs.declared.repr.IpRepr.{IpRepr}
@@ -30,7 +31,7 @@ use Rattle.sock_tcp.specs.declared.window.Cut.{Cut}
 use Rattle.sock_tcp.specs.declared.window.Window.{Window}
 use Rattle.progress_laws.proofs.Begins.{and_no, not_zero}
 use Rattle.progress_laws.proofs.Edges.{is_not_before}
-use Rattle.progress_laws.proofs.States.{flat_goes_on, flat_has, flat_timer, is_flat}
+use Rattle.progress_laws.proofs.States.{is_steady, steady_by, steady_goes_on, steady_has, steady_timer}
 
 -- ---- control None or PSH
 
@@ -39,46 +40,47 @@ IsData control.None = Unit {0}
 IsData control.Psh = Unit {0}
 IsData c = ⊥
 
-passes : (st : State) → is_flat st ≡ true → (c : TcpControl) (k una : TcpSeqNumber) (n : ℕ) → IsData c → k.0 < 2 ^ 32 → una.0 < 2 ^ 32 → seq_sub k una ≤ n → n ≤ 2 ^ 30 → verdict_at st c (Some k) una n ≡ verdicts.Pass
+passes : (st : State) → is_steady st ≡ true → (c : TcpControl) (k una : TcpSeqNumber) (n : ℕ) → IsData c → k.0 < 2 ^ 32 → una.0 < 2 ^ 32 → seq_sub k una ≤ n → n ≤ 2 ^ 30 → verdict_at st c (Some k) una n ≡ verdicts.Pass
 unfolding verdict_at
-passes st flat c k una n d hk hu within short = by c d
+passes st steady c k una n d hk hu within short = by c d
   where
     low : is_before k una ≡ false
     low = is_not_before k una (omega (arith, within, short))
 
-    high : is_before (seq_add una (n + 0)) k ≡ false
-    high = is_not_before (seq_add una (n + 0)) k (omega (arith, hk, hu, within, short))
+    high : (m : ℕ) → m ≤ 1 → is_before (seq_add una (n + m)) k ≡ false
+    high m few = is_not_before (seq_add una (n + m)) k (omega (arith, hk, hu, within, short, few))
 
-    none : (st : State) → is_flat st ≡ true → verdict_at st control.None (Some k) una n ≡ verdicts.Pass
-    none state.Established e = rw (low, high) refl
-    none state.CloseWait e = rw (low, high) refl
-    none state.FinWait2 e = rw (low, high) refl
-    none _ e = absurd cc
-
-    psh : (st : State) → is_flat st ≡ true → verdict_at st control.Psh (Some k) una n ≡ verdicts.Pass
-    psh state.Established e = rw (low, high) refl
-    psh state.CloseWait e = rw (low, high) refl
-    psh state.FinWait2 e = rw (low, high) refl
-    psh _ e = absurd cc
+    none : (m : ℕ) → m ≤ 1 → (if is_before k una then verdicts.Drop else (if is_before (seq_add una (n + m)) k then verdicts.Challenge else verdicts.Pass)) ≡ verdicts.Pass
+    none m few = rw (low, high m few) refl
 
     by : (c : TcpControl) → IsData c → verdict_at st c (Some k) una n ≡ verdicts.Pass
-    by control.None d = none st flat
-    by control.Psh d = psh st flat
+    by control.None d = steady_by (λ st. verdict_at st control.None (Some k) una n ≡ verdicts.Pass) (none 0 (omega arith)) (none 0 (omega arith)) (none 1 (omega arith)) (none 0 (omega arith)) st steady
+    by control.Psh d = steady_by (λ st. verdict_at st control.Psh (Some k) una n ≡ verdicts.Pass) (none 0 (omega arith)) (none 0 (omega arith)) (none 1 (omega arith)) (none 0 (omega arith)) st steady
     by _ d = absurd d
 
-acks : (st : State) → is_flat st ≡ true → (c : TcpControl) (k una nxt : TcpSeqNumber) (n : ℕ) → IsData c → acked_at st c (Some k) una nxt n ≡ record { len = seq_sub k una; fin = false; all = is_not_after nxt k }
-unfolding acked_at
-acks st flat c k una nxt n d = by c d
+less_differs : (a b : ℕ) → a < b → (a == b) ≡ false
+less_differs a b h = go (a == b) refl
   where
-    flatly : (st : State) → is_flat st ≡ true → acked_places st k nxt n (seq_sub k una - syn_place st) ≡ record { len = seq_sub k una; fin = false; all = is_not_after nxt k }
-    flatly state.Established e = ap (λ (m : ℕ). record { len = m; fin = false; all = is_not_after nxt k }) (omega arith)
-    flatly state.CloseWait e = ap (λ (m : ℕ). record { len = m; fin = false; all = is_not_after nxt k }) (omega arith)
-    flatly state.FinWait2 e = ap (λ (m : ℕ). record { len = m; fin = false; all = is_not_after nxt k }) (omega arith)
-    flatly _ e = absurd cc
+    go : (c : Bool) → (a == b) ≡ c → (a == b) ≡ false
+    go true e = let z : a ≡ b = eqb-true a b e in absurd (omega (arith, z, h))
+    go false e = e
+
+acks : (st : State) → is_steady st ≡ true → (c : TcpControl) (k una nxt : TcpSeqNumber) (n : ℕ) → IsData c → seq_sub k una ≤ n → acked_at st c (Some k) una nxt n ≡ record { len = seq_sub k una; fin = false; all = is_not_after nxt k }
+unfolding acked_at
+acks st steady c k una nxt n d within = by c d
+  where
+    so_many : ℕ → Acked
+    so_many m = record { len = m; fin = false; all = is_not_after nxt k }
+
+    open_ : acked_places state.FinWait1 k nxt n (seq_sub k una - 0) ≡ so_many (seq_sub k una)
+    open_ = rw (less_differs (seq_sub k una - 0) (n + 1) (omega (arith, within))) (ap so_many (omega arith))
+
+    flatly : acked_places st k nxt n (seq_sub k una - syn_place st) ≡ so_many (seq_sub k una)
+    flatly = steady_by (λ st. acked_places st k nxt n (seq_sub k una - syn_place st) ≡ so_many (seq_sub k una)) (ap so_many (omega arith)) (ap so_many (omega arith)) open_ (ap so_many (omega arith)) st steady
 
     by : (c : TcpControl) → IsData c → acked_at st c (Some k) una nxt n ≡ record { len = seq_sub k una; fin = false; all = is_not_after nxt k }
-    by control.None d = flatly st flat
-    by control.Psh d = flatly st flat
+    by control.None d = flatly
+    by control.Psh d = flatly
     by _ d = absurd d
 
 counts : (c : TcpControl) (w : Window) (number : TcpSeqNumber) (n : ℕ) → IsData c → counted_control c w number n ≡ control.None
@@ -318,30 +320,30 @@ module _ (u : View) (now : Instant) (a : Acked) (s : Segment) (k : TcpSeqNumber)
 
 -- ---- a segment at the left edge
 
-module _ (v : View) (now : Instant) (word : ℕ) (ip : IpRepr) (s : Segment) (k : TcpSeqNumber) (flat : is_flat v.state ≡ true) (number : s.ack_number ≡ Some k) (bit : IsData s.control) where
+module _ (v : View) (now : Instant) (word : ℕ) (ip : IpRepr) (s : Segment) (k : TcpSeqNumber) (steady : is_steady v.state ≡ true) (number : s.ack_number ≡ Some k) (bit : IsData s.control) where
   abbrev pub seen : View
   seen = record v { local_rx_last_seq = Some s.seq_number }
 
   abbrev pub covered : Acked
   covered = record { len = seq_sub k v.local_seq_no; fin = false; all = is_not_after v.remote_last_seq k }
 
-  covers : acked_of v s.control s.ack_number ≡ covered
-  covers = ap (λ o. acked_of v s.control o) number ∙ acks v.state flat s.control k v.local_seq_no v.remote_last_seq (length v.tx_buffer.bytes) bit
-
   passes_so : k.0 < 2 ^ 32 → v.local_seq_no.0 < 2 ^ 32 → seq_sub k v.local_seq_no ≤ length v.tx_buffer.bytes → length v.tx_buffer.bytes ≤ 2 ^ 30 → verdict_of v s.control s.ack_number ≡ verdicts.Pass
-  passes_so hk hu within short = ap (λ o. verdict_of v s.control o) number ∙ passes v.state flat s.control k v.local_seq_no (length v.tx_buffer.bytes) bit hk hu within short
+  passes_so hk hu within short = ap (λ o. verdict_of v s.control o) number ∙ passes v.state steady s.control k v.local_seq_no (length v.tx_buffer.bytes) bit hk hu within short
 
   module _ (small : k.0 < 2 ^ 32) (una_small : v.local_seq_no.0 < 2 ^ 32) (within : seq_sub k v.local_seq_no ≤ length v.tx_buffer.bytes) (short : length v.tx_buffer.bytes ≤ 2 ^ 30) where
     abbrev cut : Cut
     cut = cut_of (receive_window v) s.seq_number (length s.payload)
 
+    covers : acked_of v s.control s.ack_number ≡ covered
+    covers = ap (λ o. acked_of v s.control o) number ∙ acks v.state steady s.control k v.local_seq_no v.remote_last_seq (length v.tx_buffer.bytes) bit within
+
     has : has_window v.state ≡ true
-    has = flat_has v.state flat
+    has = steady_has v.state steady
 
     -- inside of the window
     pub heard_inside : is_inside (receive_window v) s.seq_number (length s.payload) ≡ true → processed v now word ip s ≡ bytes_taken (heard seen now covered s) now cut.offset (cut_bytes cut s.payload) s
     unfolding processed processed_inside advanced
-    heard_inside inside = rw (passes_so small una_small within short, has, inside, counts s.control (receive_window v) s.seq_number (length s.payload) bit, covers, flat_goes_on v.state flat seen now (tuple_of ip s) word (seq_sub k v.local_seq_no) s) refl
+    heard_inside inside = rw (passes_so small una_small within short, has, inside, counts s.control (receive_window v) s.seq_number (length s.payload) bit, covers, steady_goes_on v.state steady seen now (tuple_of ip s) word (seq_sub k v.local_seq_no) s) refl
 
     -- outside of it, with a byte
     pub answered_outside : is_inside (receive_window v) s.seq_number (length s.payload) ≡ false → (length s.payload == 0) ≡ false → processed v now word ip s ≡ ack_sent v s
@@ -354,7 +356,7 @@ module _ (v : View) (now : Instant) (word : ℕ) (ip : IpRepr) (s : Segment) (k 
         by _ d = absurd d
 
         stays : close_restarted v now ≡ v
-        stays = ap (λ tm. record v { timer = tm }) (flat_timer v.state v.timer now flat)
+        stays = ap (λ tm. record v { timer = tm }) (steady_timer v.state v.timer now steady)
 
   pub none_taken : (y : View) (cut : Cut) → length s.payload ≡ 0 → bytes_taken y now cut.offset (cut_bytes cut s.payload) s ≡ stopped y
   unfolding bytes_taken

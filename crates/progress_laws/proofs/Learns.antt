@@ -25,7 +25,7 @@ use Rattle.progress_laws.proofs.Begins.{some_or_none, step_reached}
 use Rattle.progress_laws.proofs.Edges.{empty_inside_so, is_earlier, is_not_before, later_is, later_stays, same_seq}
 use Rattle.progress_laws.proofs.Hears.{HeardAs, IsData, all_no_duplicate, data_is_said, covered, heard_as, heard_inside, heard_rests, none_taken, seen}
 use Rattle.progress_laws.proofs.Speaks.{Waits}
-use Rattle.progress_laws.proofs.States.{is_flat, not_listening}
+use Rattle.progress_laws.proofs.States.{flat_steady, is_flat, is_steady, not_listening}
 
 -- with an idle timer and nothing in flight
 pub idle_rests : (v : View) (now : Instant) (keep : Option Duration) → v.timer ≡ idle_from now keep → v.remote_last_seq ≡ v.local_seq_no → 0 < v.remote_win_len → Rests v
@@ -53,8 +53,8 @@ lies_at_edge x g r empty at = rw (empty, at) (empty_inside_so (receive_window x)
 
 -- v sent something, or nothing, and became x; g says that n bytes behind SND.UNA were taken, and tells a window
 module _ (v x : View) (now : Instant) (ip : IpRepr) (g : Segment) (k : TcpSeqNumber) (n : ℕ) (is_flat_v : is_flat v.state ≡ true) (wait : Waits v x) (bit : IsData g.control) (number_small : g.seq_number.0 < 2 ^ 32) (inside : is_inside (receive_window x) g.seq_number (length g.payload) ≡ true) (ack : g.ack_number ≡ Some k) (empty : length g.payload ≡ 0) (some : 0 < g.window_len * 2 ^ scale_of v.remote_win_scale) (queued : n ≤ length v.tx_buffer.bytes) (taken : k ≡ seq_add v.local_seq_no n) (near : seq_sub k x.remote_last_seq ≤ 2 ^ 30) where
-  flat : is_flat x.state ≡ true
-  flat = ap is_flat wait.state ∙ is_flat_v
+  flat : is_steady x.state ≡ true
+  flat = ap is_steady wait.same.state ∙ flat_steady v.state is_flat_v
 
   una_small : x.local_seq_no.0 < 2 ^ 32
   una_small = (reached_ordered x wait.reached).una_small
@@ -63,10 +63,10 @@ module _ (v x : View) (now : Instant) (ip : IpRepr) (g : Segment) (k : TcpSeqNum
   short = omega (arith, (reached_ordered x wait.reached).room)
 
   same_queue : length x.tx_buffer.bytes ≡ length v.tx_buffer.bytes
-  same_queue = ap (λ (q : Queue). length q.bytes) wait.tx
+  same_queue = ap (λ (q : Queue). length q.bytes) wait.same.tx
 
   same_una : x.local_seq_no.0 ≡ v.local_seq_no.0
-  same_una = ap (λ (m : TcpSeqNumber). m.0) wait.una
+  same_una = ap (λ (m : TcpSeqNumber). m.0) wait.same.una
 
   covers_n : seq_sub k x.local_seq_no ≡ n
   covers_n = omega (arith, ap (λ (m : TcpSeqNumber). m.0) taken, una_small, same_una, queued, short, same_queue)
@@ -107,7 +107,7 @@ module _ (v x : View) (now : Instant) (ip : IpRepr) (g : Segment) (k : TcpSeqNum
   heard_so = heard_as a now (covered x now 0 ip g k flat ack bit) g k ack (data_is_said g.control bit)
 
   told_so : 0 < g.window_len * 2 ^ scale_of x.remote_win_scale
-  told_so = subst (λ o. 0 < g.window_len * 2 ^ scale_of o) (sym wait.scale) some
+  told_so = subst (λ o. 0 < g.window_len * 2 ^ scale_of o) (sym wait.same.scale) some
 
   all : is_not_after x.remote_last_seq k ≡ true
   unfolding is_not_after
@@ -133,16 +133,7 @@ module _ (v x : View) (now : Instant) (ip : IpRepr) (g : Segment) (k : TcpSeqNum
   window_told = subst (λ m. 0 < m) (sym heard_so.window) told_so
 
   queue_left : heard_view.tx_buffer.bytes ≡ drop n v.tx_buffer.bytes
-  queue_left = ap (λ (q : Queue). q.bytes) heard_so.tx ∙ ap (λ m. drop m x.tx_buffer.bytes) covers_n ∙ ap (λ (q : Queue). drop n q.bytes) wait.tx
+  queue_left = ap (λ (q : Queue). q.bytes) heard_so.tx ∙ ap (λ m. drop m x.tx_buffer.bytes) covers_n ∙ ap (λ (q : Queue). drop n q.bytes) wait.same.tx
 
   pub learnt : Learnt v x now ip g k n
-  learnt = record {
-    view = heard_view;
-    hears = hears;
-    heard = heard_so;
-    reached = reached_so;
-    timer = idle;
-    nothing_in_flight = all_heard;
-    window = window_told;
-    queue = queue_left;
-  }
+  learnt = record { view = heard_view; hears = hears; heard = heard_so; reached = reached_so; timer = idle; nothing_in_flight = all_heard; window = window_told; queue = queue_left }

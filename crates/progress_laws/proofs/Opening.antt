@@ -5,7 +5,6 @@ use Rattle.std.proofs.lemmas.Bool.{eq-eqb}
 use Rattle.std.proofs.lemmas.List.{length-replicate}
 use Rattle.net_base.specs.declared.time.Duration.{Duration}
 use Rattle.net_base.specs.declared.time.Instant.{Instant}
-use Rattle.ip_wire.specs.Address.{SameVersion}
 use Rattle.ip_wire.specs.declared.endpoint.IpListenEndpoint.{IpListenEndpoint}
 use Rattle.control_wire.specs.Segment.{Segment}
 use Rattle.control_wire.specs.Seq.{seq_add, seq_of, seq_sub}
@@ -36,7 +35,7 @@ use Rattle.sock_tcp.specs.declared.tuple.Tuple.{Tuple}
 use Rattle.tcp_laws.specs.Polling.{IsReached}
 use Rattle.progress_laws.specs.FromOpening.{StandNew}
 use Rattle.progress_laws.specs.InStep.{takes_bytes, told}
-use Rattle.progress_laws.specs.Opening.{Acknowledges, AnswersSyn, TakesSyn}
+use Rattle.progress_laws.specs.Opening.{Acknowledges, AnswersSyn, CanMeet, TakesSyn}
 use Rattle.progress_laws.specs.Speech.{DispatchesOk}
 use Rattle.progress_laws.proofs.Begins.{dispatch_reached, numbered_as, segment_reached}
 use Rattle.progress_laws.proofs.Edges.{is_not_before, later_stays, same_seq}
@@ -47,23 +46,11 @@ use Rattle.progress_laws.proofs.Receives.{Owes, Tells}
 use Rattle.progress_laws.proofs.Repeats.{NotSent, Repeats, SendsSyn, SynGoesOut, ack_then, begun_so, delay_then, opening_listens, out_of as syn_out, segment, sends, sent as syn_sent, sent_so, u as before_syn, waits_then, window_then}
 use Rattle.progress_laws.proofs.SynSteps.{HasTakenSyn, ack_passes, acked_data, answer_passes, header_dst, heard_delay, heard_idle, opened, received_so, syn_passes, taken_within}
 
--- the two sockets before they are opened, and the numbers that they will have
-pub record Meets (t : Tuple) (f : Facts) (number word : ℕ) (a b : View) : Type 0 where
-  pub versions : SameVersion t.local.addr t.remote.addr
-  pub here : f.has_address t.local.addr ≡ true
-  pub there : f.has_address t.remote.addr ≡ true
-  pub number_small : number < 2 ^ 32
-  pub word_small : word < 2 ^ 32
-  pub no_timeout_a : a.timeout ≡ None
-  pub no_timeout_b : b.timeout ≡ None
-  pub not_paused_a : a.synack_paused ≡ false
-  pub not_paused_b : b.synack_paused ≡ false
-
 room_cleared : (b : Received) → length (cleared b).held ≡ room_of b
 unfolding cleared
 room_cleared b = length-replicate (room_of b) None
 
-module _ (t : Tuple) (f : Facts) (number word : ℕ) (a b : View) (e : IpListenEndpoint) (m : Meets t f number word a b) where
+module _ (t : Tuple) (f : Facts) (number word : ℕ) (a b : View) (e : IpListenEndpoint) (m : CanMeet t f number word a b) where
   abbrev pub x : View
   x = connected a t number
 
@@ -73,7 +60,7 @@ module _ (t : Tuple) (f : Facts) (number word : ℕ) (a b : View) (e : IpListenE
 
   pub begins : Repeats x x
   unfolding connected renewed fresh
-  begins = record { state = refl; peer = refl; timeout = refl; keep_alive = refl; una = refl; tx = refl; rx = refl; rcv = refl; window = refl; scale = refl; shift = refl; marked = refl; paused = refl; waits = NotSent None refl refl }
+  begins = record { same = record { state = refl; peer = refl; timeout = refl; keep_alive = refl; una = refl; tx = refl; rx = refl; rcv = refl; window = refl; scale = refl; shift = refl; paused = refl }; marked = refl; waits = NotSent None refl refl }
 
   pub begins_now : (now : Instant) → SynGoesOut x begins.waits now
   unfolding begins
@@ -124,30 +111,30 @@ module _ (t : Tuple) (f : Facts) (number word : ℕ) (a b : View) (e : IpListenE
 
     pub first_number : first.seq_number ≡ seq_of number
     unfolding connected
-    first_number = ys.una
+    first_number = ys.same.una
 
     s_una : sent.local_seq_no ≡ seq_of number
     unfolding connected
-    s_una = ss.una
+    s_una = ss.same.una
 
     s_state : sent.state ≡ state.SynSent
-    s_state = ss.state ∙ can.state
+    s_state = ss.same.state ∙ can.state
 
     s_rx : sent.rx_buffer ≡ cleared a.rx_buffer
     unfolding connected renewed fresh
-    s_rx = ss.rx
+    s_rx = ss.same.rx
 
     s_tx : sent.tx_buffer.bytes ≡ []
     unfolding connected renewed fresh
-    s_tx = ap (λ (q : Queue). q.bytes) ss.tx
+    s_tx = ap (λ (q : Queue). q.bytes) ss.same.tx
 
     s_fits : sent.tx_buffer.window ≡ capacity a.tx_buffer
     unfolding connected renewed fresh
-    s_fits = ap (λ (q : Queue). q.window) ss.tx
+    s_fits = ap (λ (q : Queue). q.window) ss.same.tx
 
     s_keep : sent.keep_alive ≡ a.keep_alive
     unfolding connected renewed fresh
-    s_keep = ss.keep_alive
+    s_keep = ss.same.keep_alive
 
     wide_a : room_of (cleared a.rx_buffer) ≡ room_of a.rx_buffer
     unfolding cleared
@@ -187,13 +174,13 @@ module _ (t : Tuple) (f : Facts) (number word : ℕ) (a b : View) (e : IpListenE
 
       z_read : zu.rx_buffer.bytes ≡ []
       unfolding cleared
-      z_read = ap (λ (q : Received). q.bytes) (zs.rx ∙ q.rx)
+      z_read = ap (λ (q : Received). q.bytes) (zs.same.rx ∙ q.rx)
 
       abbrev k : TcpSeqNumber
       k = next_ack zu
 
       next_z : k.0 ≡ (seq_add (seq_of number) 1).0
-      next_z = ap (λ (q : TcpSeqNumber). q.0) ((λ i. seq_add (zs.rcv i) (length (z_read i))) ∙ (λ i. seq_add (q.rcv i) 0) ∙ ap (λ n. seq_add (seq_add n 1) 0) first_number) ∙ omega arith
+      next_z = ap (λ (q : TcpSeqNumber). q.0) ((λ i. seq_add (zs.same.rcv i) (length (z_read i))) ∙ (λ i. seq_add (q.rcv i) 0) ∙ ap (λ n. seq_add (seq_add n 1) 0) first_number) ∙ omega arith
 
       g_ack : g.ack_number ≡ Some k
       unfolding plain_segment
@@ -216,14 +203,14 @@ module _ (t : Tuple) (f : Facts) (number word : ℕ) (a b : View) (e : IpListenE
 
       pub next_here : next_ack (syn_answered sent g) ≡ seq_add answered.local_seq_no 1
       unfolding syn_answered options_taken cleared
-      next_here = ap (λ (q : Received). seq_add (seq_add g.seq_number 1) (length q.bytes)) s_rx ∙ ap (λ m. seq_of m) (omega arith) ∙ ap (λ q. seq_add q 1) (zs.una ∙ sym ans.una)
+      next_here = ap (λ (q : Received). seq_add (seq_add g.seq_number 1) (length q.bytes)) s_rx ∙ ap (λ m. seq_of m) (omega arith) ∙ ap (λ q. seq_add q 1) (zs.same.una ∙ sym ans.same.una)
 
       pub established_so : (syn_answered sent g).state ≡ state.Established
       unfolding syn_answered options_taken plain_segment
       established_so = refl
 
       pub same_next : next_ack answered ≡ k
-      same_next = (λ i. seq_add ((ans.rcv ∙ sym zs.rcv) i) (length (((ans.rx ∙ sym zs.rx) i).bytes)))
+      same_next = (λ i. seq_add ((ans.same.rcv ∙ sym zs.same.rcv) i) (length (((ans.same.rx ∙ sym zs.same.rx) i).bytes)))
 
       unfoldable pub answers_syn : SynGoesOut z rz.waits then → AnswersSyn f then sent z
       answers_syn d = record {
@@ -233,7 +220,7 @@ module _ (t : Tuple) (f : Facts) (number word : ℕ) (a b : View) (e : IpListenE
         established = established;
         answer_comes = answer_comes;
         state_here = h.state ∙ established_so;
-        state_across = ans.state ∙ q.state;
+        state_across = ans.same.state ∙ q.state;
         over = same_next ∙ sym h.una;
         back = (λ i. seq_add (h.rcv i) (length ((h.rx i).bytes))) ∙ next_here;
       }
@@ -274,7 +261,7 @@ module _ (t : Tuple) (f : Facts) (number word : ℕ) (a b : View) (e : IpListenE
         e_delay = heard_delay (syn_answered sent g) then ea g k g_ack ∙ delay_then state.SynSent t f x can v r now None
 
         g_small : g.seq_number.0 < 2 ^ 32
-        g_small = omega (arith, ap (λ (q : TcpSeqNumber). q.0) (zs.una ∙ q.una), m.word_small)
+        g_small = omega (arith, ap (λ (q : TcpSeqNumber). q.0) (zs.same.una ∙ q.una), m.word_small)
 
         e_rx : established.rx_buffer ≡ cleared a.rx_buffer
         unfolding syn_answered options_taken
@@ -298,8 +285,8 @@ module _ (t : Tuple) (f : Facts) (number word : ℕ) (a b : View) (e : IpListenE
         unfolding syn_answered options_taken cleared
         owes = record {
           state = ap takes_bytes (h.state ∙ established_so);
-          peer = h.peer ∙ ss.peer ∙ can.peer;
-          no_timeout = h.timeout ∙ ss.timeout ∙ can.no_timeout;
+          peer = h.peer ∙ ss.same.peer ∙ can.peer;
+          no_timeout = h.timeout ∙ ss.same.timeout ∙ can.no_timeout;
           interval = subst (λ q. ForSome q (λ d. 0 < d.micros)) (sym (h.keep_alive ∙ s_keep)) interval;
           moment = idle_moment then a.keep_alive;
           timer = e_timer ∙ idle_is then a.keep_alive;
@@ -319,7 +306,7 @@ module _ (t : Tuple) (f : Facts) (number word : ℕ) (a b : View) (e : IpListenE
 
         at_least : 2 ^ established.remote_win_shift ≤ room_of a.rx_buffer
         unfolding syn_answered options_taken
-        at_least = subst (λ n. 2 ^ n ≤ room_of a.rx_buffer) (sym (h.shift ∙ ap (λ n. shift_taken n g.window_scale) (ss.shift ∙ shift_a))) (taken_within (room_of a.rx_buffer) g.window_scale some)
+        at_least = subst (λ n. 2 ^ n ≤ room_of a.rx_buffer) (sym (h.shift ∙ ap (λ n. shift_taken n g.window_scale) (ss.same.shift ∙ shift_a))) (taken_within (room_of a.rx_buffer) g.window_scale some)
 
         una_small : established.local_seq_no.0 < 2 ^ 32
         una_small = subst (λ (q : TcpSeqNumber). q.0 < 2 ^ 32) (sym h.una) (omega arith)
@@ -356,10 +343,10 @@ module _ (t : Tuple) (f : Facts) (number word : ℕ) (a b : View) (e : IpListenE
         is_next_ack = eq-eqb (next_ack settled).0 (seq_add answered.local_seq_no 1).0 (ap (λ (q : TcpSeqNumber). q.0) next_settled)
 
         answered_state : answered.state ≡ state.SynReceived
-        answered_state = ans.state ∙ q.state
+        answered_state = ans.same.state ∙ q.state
 
         answered_rx : answered.rx_buffer ≡ cleared b.rx_buffer
-        answered_rx = ans.rx ∙ q.rx
+        answered_rx = ans.same.rx ∙ q.rx
 
         answered_room : length answered.rx_buffer.held ≤ 2 ^ 30
         answered_room = omega (arith, ap (λ (q : Received). length q.held) answered_rx, room_cleared b.rx_buffer, narrow_b)
@@ -421,7 +408,7 @@ module _ (t : Tuple) (f : Facts) (number word : ℕ) (a b : View) (e : IpListenE
           aa_is = ap (λ o. acked_of (record answered { local_rx_last_seq = Some ack_out.segment.seq_number }) ack_out.segment.control o) tell.ack ∙ acked_data answered.state ack_out.segment.control (next_ack settled) answered.local_seq_no answered.remote_last_seq (length answered.tx_buffer.bytes) tell.bit ∙ ap (λ st. acked_places st (next_ack settled) answered.remote_last_seq (length answered.tx_buffer.bytes) (seq_sub (next_ack settled) answered.local_seq_no - syn_place st)) answered_state
 
           aa_none : aa.len ≡ 0
-          aa_none = ap (λ (p : Acked). p.len) aa_is ∙ omega (arith, ap (λ (q : TcpSeqNumber). q.0) next_settled, ap (λ (q : TcpSeqNumber). q.0) (ans.una ∙ q.una), m.word_small)
+          aa_none = ap (λ (p : Acked). p.len) aa_is ∙ omega (arith, ap (λ (q : TcpSeqNumber). q.0) next_settled, ap (λ (q : TcpSeqNumber). q.0) (ans.same.una ∙ q.una), m.word_small)
 
           aa_all : aa.all ≡ true
           unfolding is_not_after
@@ -431,32 +418,32 @@ module _ (t : Tuple) (f : Facts) (number word : ℕ) (a b : View) (e : IpListenE
           a_last = rw a_nxt (is_not_before (next_ack settled) (next_ack settled) (omega arith))
 
           a_none : length answered.tx_buffer.bytes ≡ 0
-          a_none = ap (λ (q : Queue). length q.bytes) ans.tx ∙ ap (λ (l : List ℕ). length l) q.no_bytes
+          a_none = ap (λ (q : Queue). length q.bytes) ans.same.tx ∙ ap (λ (l : List ℕ). length l) q.no_bytes
 
           a_timer : across.timer ≡ idle_from then answered.keep_alive
           a_timer = heard_idle told_last then aa ack_out.segment (next_ack settled) tell.ack a_waits.0 a_waits.1 aa_all a_none a_last
 
           -- the scales that both know
           own_b : zu.remote_win_shift ≡ window_shift (room_of b.rx_buffer)
-          own_b = zs.shift ∙ q.shift ∙ ap window_shift wide_b
+          own_b = zs.same.shift ∙ q.shift ∙ ap window_shift wide_b
 
           g_scale : g.window_scale ≡ Some (window_shift (room_of b.rx_buffer))
-          g_scale = ap (λ o. scale_back o zu.remote_win_shift) (zs.scale ∙ q.scale) ∙ ap Some own_b
+          g_scale = ap (λ o. scale_back o zu.remote_win_shift) (zs.same.scale ∙ q.scale) ∙ ap Some own_b
 
           e_shift : established.remote_win_shift ≡ window_shift (room_of a.rx_buffer)
           unfolding syn_answered options_taken
-          e_shift = h.shift ∙ ap (λ o. shift_taken sent.remote_win_shift o) g_scale ∙ ss.shift ∙ shift_a
+          e_shift = h.shift ∙ ap (λ o. shift_taken sent.remote_win_shift o) g_scale ∙ ss.same.shift ∙ shift_a
 
           e_scale : scale_of established.remote_win_scale ≡ window_shift (room_of b.rx_buffer)
           unfolding syn_answered options_taken
           e_scale = ap scale_of (h.scale ∙ ap scale_taken g_scale) ∙ omega (arith, shift_at_most (room_of b.rx_buffer))
 
           a_scale : scale_of answered.remote_win_scale ≡ window_shift (room_of a.rx_buffer)
-          a_scale = ap scale_of (ans.scale ∙ q.scale ∙ ap (λ n. scale_taken (Some n)) (ys.shift ∙ shift_a)) ∙ omega (arith, shift_at_most (room_of a.rx_buffer))
+          a_scale = ap scale_of (ans.same.scale ∙ q.scale ∙ ap (λ n. scale_taken (Some n)) (ys.same.shift ∙ shift_a)) ∙ omega (arith, shift_at_most (room_of a.rx_buffer))
 
           -- and what was told of both windows
           g_field : g.window_len ≡ min (room_of b.rx_buffer) 65535
-          g_field = ap (λ n. min n 65535) (ap (λ (q : Received). length q.held) (zs.rx ∙ q.rx) ∙ room_cleared b.rx_buffer)
+          g_field = ap (λ n. min n 65535) (ap (λ (q : Received). length q.held) (zs.same.rx ∙ q.rx) ∙ room_cleared b.rx_buffer)
 
           e_field : ack_out.segment.window_len ≡ min (room_of a.rx_buffer / 2 ^ window_shift (room_of a.rx_buffer)) 65535
           e_field = field_is t before (room_of a.rx_buffer) 1 established f then m.here owes (omega arith) (omega (arith, some)) narrow at_least una_small late not_over ∙ ap (λ n. min (room_of a.rx_buffer / 2 ^ n) 65535) e_shift
@@ -470,7 +457,7 @@ module _ (t : Tuple) (f : Facts) (number word : ℕ) (a b : View) (e : IpListenE
 
           side_across : IsNew b.keep_alive s (room_of b.rx_buffer) across
           unfolding cleared
-          side_across = record { reached = reached_across; established = o.state; peer = o.peer ∙ ans.peer ∙ q.peer; no_timeout = o.timeout ∙ ans.timeout ∙ can_z.no_timeout; keep_alive = o.keep_alive ∙ ans.keep_alive ∙ q.keep_alive; nothing_marked = o.marked ∙ ans.marked; moment = idle_moment then answered.keep_alive; timer = a_timer ∙ idle_is then answered.keep_alive; nxt = o.nxt ∙ ap (λ n. later_of n (next_ack settled)) a_nxt ∙ later_stays (next_ack settled) (next_ack settled) (is_not_before (next_ack settled) (next_ack settled) (omega arith)) ∙ sym o.una; read = ap (λ (q : Received). q.bytes) (o.rx ∙ answered_rx); nothing_held = ap (λ (q : Received). q.held) (o.rx ∙ answered_rx); some = some_b; shift = o.shift ∙ ans.shift ∙ q.shift ∙ ap window_shift wide_b }
+          side_across = record { reached = reached_across; established = o.state; peer = o.peer ∙ ans.same.peer ∙ q.peer; no_timeout = o.timeout ∙ ans.same.timeout ∙ can_z.no_timeout; keep_alive = o.keep_alive ∙ ans.same.keep_alive ∙ q.keep_alive; nothing_marked = o.marked ∙ ans.marked; moment = idle_moment then answered.keep_alive; timer = a_timer ∙ idle_is then answered.keep_alive; nxt = o.nxt ∙ ap (λ n. later_of n (next_ack settled)) a_nxt ∙ later_stays (next_ack settled) (next_ack settled) (is_not_before (next_ack settled) (next_ack settled) (omega arith)) ∙ sym o.una; read = ap (λ (q : Received). q.bytes) (o.rx ∙ answered_rx); nothing_held = ap (λ (q : Received). q.held) (o.rx ∙ answered_rx); some = some_b; shift = o.shift ∙ ans.same.shift ∙ q.shift ∙ ap window_shift wide_b }
 
           agree : Agree (room_of a.rx_buffer) (room_of b.rx_buffer) settled across
           agree = record {
@@ -494,7 +481,7 @@ module _ (t : Tuple) (f : Facts) (number word : ℕ) (a b : View) (e : IpListenE
             none_over = none_over a.keep_alive b.keep_alive t s (room_of a.rx_buffer) (room_of b.rx_buffer) settled across side_here side_across agree;
             none_back = none_back a.keep_alive b.keep_alive t s (room_of a.rx_buffer) (room_of b.rx_buffer) settled across side_here side_across agree;
             empty_here = ap (λ (q : Queue). q.bytes) (kept.tx ∙ h.tx) ∙ ap (λ n. drop n sent.tx_buffer.bytes) none_acked ∙ s_tx;
-            empty_across = ap (λ (q : Queue). q.bytes) o.tx ∙ ap (λ n. drop n answered.tx_buffer.bytes) aa_none ∙ ap (λ (q : Queue). q.bytes) ans.tx ∙ q.no_bytes;
+            empty_across = ap (λ (q : Queue). q.bytes) o.tx ∙ ap (λ n. drop n answered.tx_buffer.bytes) aa_none ∙ ap (λ (q : Queue). q.bytes) ans.same.tx ∙ q.no_bytes;
             room_here = omega (arith, ap (λ (q : Queue). q.window) (kept.tx ∙ h.tx), none_acked, s_fits);
-            room_across = omega (arith, ap (λ (q : Queue). q.window) o.tx, aa_none, ap (λ (q : Queue). q.window) ans.tx, q.fits);
+            room_across = omega (arith, ap (λ (q : Queue). q.window) o.tx, aa_none, ap (λ (q : Queue). q.window) ans.same.tx, q.fits);
           }

@@ -35,7 +35,7 @@ use Rattle.progress_laws.proofs.Begins.{Alike, readied_alike, beginning, content
 use Rattle.progress_laws.proofs.Edges.{is_earlier, is_not_before, later_stays}
 use Rattle.progress_laws.proofs.Hears.{idle_is, idle_moment}
 use Rattle.progress_laws.proofs.Says.{keep_alive_due, no_probe}
-use Rattle.progress_laws.proofs.Sends.{kept_delay, kept_nxt, kept_sent, kept_timer, kept_untold, left, plain_ack, plain_nxt, plain_sent, plain_timer, plain_window, segment_ack, segment_bit, segment_length, segment_number, segment_window, without_bytes}
+use Rattle.progress_laws.proofs.Sends.{kept_delay, kept_nxt, kept_sent, kept_timer, kept_untold, left, plain_sent, plain_timer, plain_told, segment_ack, segment_bit, segment_length, segment_number, segment_window, without_bytes}
 use Rattle.progress_laws.proofs.States.{flat_on, flat_open, is_flat, takes_flat, takes_runs}
 use Rattle.progress_laws.proofs.Taking.{blank}
 use Rattle.progress_laws.proofs.Receives.{Owes, Tells, told_window, unit, unit_some}
@@ -78,7 +78,7 @@ module _ (s : Tuple) (w : View) (room n : ℕ) (y : View) (f : Facts) (now : Ins
   u_is = ap (λ tm. after_timer tm u now) o.timer
 
   takes_on : takes_bytes u.state ≡ true
-  takes_on = ap takes_bytes al.state ∙ o.state
+  takes_on = ap takes_bytes al.same.state ∙ o.state
 
   pub sends : is_flat u.state ≡ true
   sends = takes_flat u.state takes_on
@@ -93,13 +93,13 @@ module _ (s : Tuple) (w : View) (room n : ℕ) (y : View) (f : Facts) (now : Ins
   no_probing = no_probe u now (ap (λ tm. is_probe_over tm now) idle)
 
   next : next_ack u ≡ next_ack y
-  next = (λ i. seq_add (al.rcv i) (length ((al.rx i).bytes)))
+  next = (λ i. seq_add (al.same.rcv i) (length ((al.same.rx i).bytes)))
 
   abbrev bytes : List ℕ
   bytes = take (min (asked u s fa false) (in_one_piece u.tx_buffer.until_end (length u.tx_buffer.bytes) (offset_of u))) (drop (offset_of u) u.tx_buffer.bytes)
 
   none : length bytes ≡ 0
-  none = omega (arith, lent_at_most u.tx_buffer (offset_of u) (asked u s fa false) bytes refl, ap (λ (q : Queue). length q.bytes) al.tx, o.nothing_to_send)
+  none = omega (arith, lent_at_most u.tx_buffer (offset_of u) (asked u s fa false) bytes refl, ap (λ (q : Queue). length q.bytes) al.same.tx, o.nothing_to_send)
 
   nothing_marked : u.pending_fast_retransmit ≡ false
   nothing_marked = al.marked ∙ o.nothing_marked
@@ -157,30 +157,30 @@ module _ (s : Tuple) (w : View) (room n : ℕ) (y : View) (f : Facts) (now : Ins
     }))
 
     new_timer : renewed.timer ≡ idle_from now y.keep_alive
-    new_timer = kept_timer u s now b opens ∙ ap (λ tm. keep_alive_renewed tm now u.keep_alive) idle ∙ ap (idle_from now) al.keep_alive
+    new_timer = kept_timer u s now b opens ∙ ap (λ tm. keep_alive_renewed tm now u.keep_alive) idle ∙ ap (idle_from now) al.same.keep_alive
 
     pub still_owes : Owes s w room n renewed
     still_owes =
         let l = kept_sent u s now b opens in
         record {
-          state = ap takes_bytes l.state ∙ takes_on;
-          peer = l.peer ∙ al.peer ∙ o.peer;
-          no_timeout = l.timeout ∙ al.timeout ∙ o.no_timeout;
-          interval = subst (λ q. ForSome q (λ e. 0 < e.micros)) (sym (l.keep_alive ∙ al.keep_alive)) o.interval;
+          state = ap takes_bytes l.same.state ∙ takes_on;
+          peer = l.same.peer ∙ al.same.peer ∙ o.peer;
+          no_timeout = l.same.timeout ∙ al.same.timeout ∙ o.no_timeout;
+          interval = subst (λ q. ForSome q (λ e. 0 < e.micros)) (sym (l.same.keep_alive ∙ al.same.keep_alive)) o.interval;
           moment = idle_moment now y.keep_alive;
           timer = new_timer ∙ idle_is now y.keep_alive;
-          nothing_to_send = ap (λ (q : Queue). length q.bytes) (l.tx ∙ al.tx) ∙ o.nothing_to_send;
-          una = l.una ∙ al.una ∙ o.una;
+          nothing_to_send = ap (λ (q : Queue). length q.bytes) (l.same.tx ∙ al.same.tx) ∙ o.nothing_to_send;
+          una = l.same.una ∙ al.same.una ∙ o.una;
           nxt = kept_nxt u s now b opens ∙ al.nxt ∙ o.nxt;
           nothing_marked = l.marked ∙ ap (λ m. m && not (carries_data u.state)) nothing_marked;
-          read = ap (λ (q : Received). q.bytes) (l.rx ∙ al.rx) ∙ o.read;
-          nothing_held = ap (λ (q : Received). q.held) (l.rx ∙ al.rx) ∙ o.nothing_held;
-          shift = l.shift ∙ al.shift ∙ o.shift;
+          read = ap (λ (q : Received). q.bytes) (l.same.rx ∙ al.same.rx) ∙ o.read;
+          nothing_held = ap (λ (q : Received). q.held) (l.same.rx ∙ al.same.rx) ∙ o.nothing_held;
+          shift = l.same.shift ∙ al.same.shift ∙ o.shift;
           last = o.last;
           last_small = o.last_small;
           last_ack = (kept_untold u s now b opens).last_ack ∙ al.last_ack ∙ o.last_ack;
           near = o.near;
-          next = ap (λ (k : TcpSeqNumber). k.0) ((λ i. seq_add (l.rcv i) (length ((l.rx i).bytes))) ∙ next) ∙ o.next;
+          next = ap (λ (k : TcpSeqNumber). k.0) ((λ i. seq_add (l.same.rcv i) (length ((l.same.rx i).bytes))) ∙ next) ∙ o.next;
         }
 
     pub late_then : is_reached (delay_poll renewed.ack_delay_timer) now ≡ true
@@ -237,40 +237,40 @@ module _ (s : Tuple) (w : View) (room n : ℕ) (y : View) (f : Facts) (now : Ins
     number = segment_number u s None bytes sends nothing_marked ∙ al.nxt ∙ o.nxt
 
     field : window_field u ≡ min (room / 2 ^ w.remote_win_shift) 65535
-    field = (λ i. min (wide i / 2 ^ (al.shift ∙ o.shift) i) 65535)
+    field = (λ i. min (wide i / 2 ^ (al.same.shift ∙ o.shift) i) 65535)
       where
         wide : length u.rx_buffer.held ≡ room
-        wide = ap (λ (q : Received). length q.held) al.rx ∙ ap (λ (l : List (Option ℕ)). length l) o.nothing_held ∙ length-replicate room None
+        wide = ap (λ (q : Received). length q.held) al.same.rx ∙ ap (λ (l : List (Option ℕ)). length l) o.nothing_held ∙ length-replicate room None
 
     pub kept_then : Kept y after
-    kept_then = let l = plain_sent u s now b opens in record { state = l.state ∙ al.state; keep_alive = l.keep_alive ∙ al.keep_alive; window = l.window ∙ al.window; scale = l.scale ∙ al.scale; tx = l.tx ∙ al.tx; rx = l.rx ∙ al.rx }
+    kept_then = let l = plain_sent u s now b opens in record { state = l.same.state ∙ al.same.state; keep_alive = l.same.keep_alive ∙ al.same.keep_alive; window = l.same.window ∙ al.same.window; scale = l.same.scale ∙ al.same.scale; tx = l.same.tx ∙ al.same.tx; rx = l.same.rx ∙ al.same.rx }
 
     pub field_is : out_of.segment.window_len ≡ min (room / 2 ^ w.remote_win_shift) 65535
     field_is = segment_window u s None bytes sends nothing_marked ∙ field
 
     pub next_is : next_ack after ≡ next_ack y
-    next_is = let l = plain_sent u s now b opens in (λ i. seq_add (l.rcv i) (length ((l.rx i).bytes))) ∙ next
+    next_is = let l = plain_sent u s now b opens in (λ i. seq_add (l.same.rcv i) (length ((l.same.rx i).bytes))) ∙ next
 
     pub tells : Tells w after s out_of.segment
     tells =
         let l = plain_sent u s now b opens in
-        let rcv : next_ack after ≡ next_ack u = (λ i. seq_add (l.rcv i) (length ((l.rx i).bytes))) in
-        let shift : after.remote_win_shift ≡ w.remote_win_shift = l.shift ∙ al.shift ∙ o.shift in
-        let ack : after.remote_last_ack ≡ Some (next_ack after) = plain_ack u s now b opens ∙ segment_ack u s None bytes sends nothing_marked ∙ ap Some (sym rcv) in
-        let held : after.rx_buffer.held ≡ blank room = ap (λ (q : Received). q.held) (l.rx ∙ al.rx) ∙ o.nothing_held in
+        let rcv : next_ack after ≡ next_ack u = (λ i. seq_add (l.same.rcv i) (length ((l.same.rx i).bytes))) in
+        let shift : after.remote_win_shift ≡ w.remote_win_shift = l.same.shift ∙ al.same.shift ∙ o.shift in
+        let ack : after.remote_last_ack ≡ Some (next_ack after) = (plain_told u s now b opens).ack ∙ segment_ack u s None bytes sends nothing_marked ∙ ap Some (sym rcv) in
+        let held : after.rx_buffer.held ≡ blank room = ap (λ (q : Received). q.held) (l.same.rx ∙ al.same.rx) ∙ o.nothing_held in
         let told_field : b.window_len ≡ min (room / 2 ^ w.remote_win_shift) 65535 = field_is in
         record {
           receiver = record {
-            state = ap takes_bytes l.state ∙ takes_on;
-            peer = l.peer ∙ al.peer ∙ o.peer;
-            no_timeout = l.timeout ∙ al.timeout ∙ o.no_timeout;
-            interval = subst (λ q. ForSome q (λ e. 0 < e.micros)) (sym (l.keep_alive ∙ al.keep_alive)) o.interval;
+            state = ap takes_bytes l.same.state ∙ takes_on;
+            peer = l.same.peer ∙ al.same.peer ∙ o.peer;
+            no_timeout = l.same.timeout ∙ al.same.timeout ∙ o.no_timeout;
+            interval = subst (λ q. ForSome q (λ e. 0 < e.micros)) (sym (l.same.keep_alive ∙ al.same.keep_alive)) o.interval;
             moment = idle_moment now u.keep_alive;
             timer = plain_timer u s now b opens true (rw long refl) ∙ ap (λ tm. keep_alive_renewed tm now u.keep_alive) idle ∙ idle_is now u.keep_alive;
-            nothing_to_send = ap (λ (q : Queue). length q.bytes) (l.tx ∙ al.tx) ∙ o.nothing_to_send;
+            nothing_to_send = ap (λ (q : Queue). length q.bytes) (l.same.tx ∙ al.same.tx) ∙ o.nothing_to_send;
             nothing_marked = l.marked ∙ ap (λ m. m && not (carries_data u.state)) nothing_marked;
-            nothing_in_flight = plain_nxt u s now b opens ∙ (λ i. later_of ((al.nxt ∙ o.nxt) i) (seq_add (number i) (long i))) ∙ stays ∙ sym (l.una ∙ al.una ∙ o.una);
-            read = ap (λ (q : Received). q.bytes) (l.rx ∙ al.rx) ∙ o.read;
+            nothing_in_flight = (plain_told u s now b opens).nxt ∙ (λ i. later_of ((al.nxt ∙ o.nxt) i) (seq_add (number i) (long i))) ∙ stays ∙ sym (l.same.una ∙ al.same.una ∙ o.una);
+            read = ap (λ (q : Received). q.bytes) (l.same.rx ∙ al.same.rx) ∙ o.read;
             room = room;
             nothing_held = held;
             room_at_most = narrow;
@@ -280,14 +280,14 @@ module _ (s : Tuple) (w : View) (room n : ℕ) (y : View) (f : Facts) (now : Ins
             acknowledged = ack;
             near = omega arith;
           };
-          una = l.una ∙ al.una ∙ o.una;
+          una = l.same.una ∙ al.same.una ∙ o.una;
           shift = shift;
           bit = segment_bit u s None bytes sends nothing_marked;
           number = number;
           ack = segment_ack u s None bytes sends nothing_marked ∙ ap Some (sym rcv);
           empty = none;
           some = subst (λ n. 0 < n * 2 ^ w.remote_win_shift) (sym told_field) (unit_some room w.remote_win_shift at_least);
-          window = told_window after room (ap (λ (l : List (Option ℕ)). length l) held ∙ length-replicate room None) narrow ack (plain_window u s now b opens ∙ told_field ∙ ap (λ k. min (room / 2 ^ k) 65535) (sym shift)) ∙ ap (unit room) shift ∙ ap (λ n. n * 2 ^ w.remote_win_shift) (sym told_field);
+          window = told_window after room (ap (λ (l : List (Option ℕ)). length l) held ∙ length-replicate room None) narrow ack ((plain_told u s now b opens).window ∙ told_field ∙ ap (λ k. min (room / 2 ^ k) 65535) (sym shift)) ∙ ap (unit room) shift ∙ ap (λ n. n * 2 ^ w.remote_win_shift) (sym told_field);
         }
       where
         stays : later_of w.local_seq_no (seq_add w.local_seq_no 0) ≡ w.local_seq_no

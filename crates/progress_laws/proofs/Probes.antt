@@ -24,7 +24,7 @@ use Rattle.tcp_laws.proofs.OrderedCalls.{reached_ordered, readied_ordered}
 use Rattle.tcp_laws.proofs.Probing.{ProbesIn, reached_probing}
 use Rattle.progress_laws.specs.InStep.{IsSender, told}
 use Rattle.progress_laws.specs.Speech.{DispatchesOk, GoesOn, SendsOk}
-use Rattle.progress_laws.proofs.Begins.{Alike, readied_alike, beginning, carries_runs, content_is, dispatch_reached, segment_for, sends_so}
+use Rattle.progress_laws.proofs.Begins.{Alike, readied_alike, same_then, beginning, carries_runs, content_is, dispatch_reached, segment_for, sends_so}
 use Rattle.progress_laws.proofs.Edges.{same_seq}
 use Rattle.progress_laws.proofs.Hears.{IsOpenTimer}
 use Rattle.progress_laws.proofs.Lends.{probe_byte}
@@ -53,7 +53,7 @@ module _ (d : Option Duration) (t : Tuple) (v : View) (f : Facts) (now at : Inst
   probe_is = ap (λ tm. after_timer tm p now) probes
 
   probe_may : may_send p.state ≡ true
-  probe_may = ap may_send al.state ∙ s.state
+  probe_may = ap may_send al.same.state ∙ s.state
 
   probe_sends : is_flat p.state ≡ true
   probe_sends = sends_flat p.state probe_may
@@ -68,13 +68,13 @@ module _ (d : Option Duration) (t : Tuple) (v : View) (f : Facts) (now at : Inst
   is_probe = ap (λ tm. is_probe_over tm now) (al.timer ∙ probes) ∙ over
 
   probing : is_probing p now ≡ true
-  probing = rw (sends_data p.state probe_may, unmarked, eq-eqb (window_left p) 0 (omega (arith, al.window, no_window)), is_probe) refl
+  probing = rw (sends_data p.state probe_may, unmarked, eq-eqb (window_left p) 0 (omega (arith, al.same.window, no_window)), is_probe) refl
 
   probe_una : p.local_seq_no.0 < 2 ^ 32
   probe_una = (readied_ordered v now (reached_ordered v s.reached)).una_small
 
   nothing_sent : flight p ≡ 0
-  nothing_sent = ap (λ n. seq_sub n p.local_seq_no) (al.nxt ∙ sent ∙ sym al.una) ∙ no_distance p.local_seq_no probe_una
+  nothing_sent = ap (λ n. seq_sub n p.local_seq_no) (al.nxt ∙ sent ∙ sym al.same.una) ∙ no_distance p.local_seq_no probe_una
 
   probe_start : offset_of p ≡ 0
   probe_start = rw unmarked nothing_sent
@@ -83,7 +83,7 @@ module _ (d : Option Duration) (t : Tuple) (v : View) (f : Facts) (now at : Inst
   probe_bytes = take (min (asked p t (told f now) false) (in_one_piece p.tx_buffer.until_end (length p.tx_buffer.bytes) (offset_of p))) (drop (offset_of p) p.tx_buffer.bytes)
 
   one_byte : length probe_bytes ≡ 1
-  one_byte = probe_byte p t (told f now) None probe_bytes mtu.0 (subst (λ n. 48 ≤ n) (sym al.mss) (reached_probing v s.reached).mss) (sends_data p.state probe_may) refl unmarked probing (omega (arith, nothing_sent, queue, ap (λ (q : Queue). length q.bytes) al.tx))
+  one_byte = probe_byte p t (told f now) None probe_bytes mtu.0 (subst (λ n. 48 ≤ n) (sym al.mss) (reached_probing v s.reached).mss) (sends_data p.state probe_may) refl unmarked probing (omega (arith, nothing_sent, queue, ap (λ (q : Queue). length q.bytes) al.same.tx))
 
   abbrev probe : Segment
   probe = segment_for p t None probe_bytes
@@ -110,18 +110,10 @@ module _ (d : Option Duration) (t : Tuple) (v : View) (f : Facts) (now at : Inst
         speaks = record {
           dispatch = probe_goes;
           bit = segment_bit p t None probe_bytes probe_sends unmarked;
-          ack = segment_ack p t None probe_bytes probe_sends unmarked ∙ (λ i. Some (seq_add (al.rcv i) (length ((al.rx i).bytes))));
+          ack = segment_ack p t None probe_bytes probe_sends unmarked ∙ (λ i. Some (seq_add (al.same.rcv i) (length ((al.same.rx i).bytes))));
           waits = record {
             reached = dispatch_reached (told f now) false v (Some (sent_as p t kind.Probe probe)) (left p t now probe probe_opens kind.Probe) s.reached probe_goes;
-            state = l.state ∙ al.state;
-            peer = l.peer ∙ al.peer;
-            timeout = l.timeout ∙ al.timeout;
-            keep_alive = l.keep_alive ∙ al.keep_alive;
-            una = l.una ∙ al.una;
-            tx = l.tx ∙ al.tx;
-            rx = l.rx ∙ al.rx;
-            rcv = l.rcv ∙ al.rcv;
-            scale = l.scale ∙ al.scale;
+            same = same_then al.same l.same;
             nothing_marked = l.marked ∙ ap (λ m. m && not (carries_data p.state)) unmarked;
             timer = subst IsOpenTimer (sym (probe_timer p t now probe probe_opens ∙ ap (λ tm. probe_doubled (keep_alive_renewed tm now p.keep_alive) now) (al.timer ∙ probes))) tt;
           };
@@ -130,7 +122,7 @@ module _ (d : Option Duration) (t : Tuple) (v : View) (f : Facts) (now at : Inst
         some = omega (arith, one_byte);
         within = inr one_byte;
         queued = omega (arith, one_byte, queue);
-        first = lent_beginning p.tx_buffer (offset_of p) (asked p t (told f now) false) probe_bytes refl ∙ ap (λ o. take (length probe_bytes) (drop o p.tx_buffer.bytes)) probe_start ∙ ap (λ (q : Queue). take (length probe_bytes) q.bytes) al.tx;
+        first = lent_beginning p.tx_buffer (offset_of p) (asked p t (told f now) false) probe_bytes refl ∙ ap (λ o. take (length probe_bytes) (drop o p.tx_buffer.bytes)) probe_start ∙ ap (λ (q : Queue). take (length probe_bytes) q.bytes) al.same.tx;
         sent = 0;
         sent_within = omega arith;
         nxt = probe_nxt p t now probe probe_opens ∙ al.nxt ∙ sent ∙ same_seq v.local_seq_no (seq_add v.local_seq_no 0) (omega (arith, (reached_ordered v s.reached).una_small));
@@ -147,15 +139,15 @@ module _ (d : Option Duration) (t : Tuple) (v : View) (f : Facts) (now at : Inst
   -- it tells the own window, which does not count as told
   pub probe_field : says_probe.out.segment.window_len ≡ window_field v
   unfolding says_probe
-  probe_field = segment_window p t None probe_bytes probe_sends unmarked ∙ (λ i. min (length ((al.rx i).held) / 2 ^ al.shift i) 65535)
+  probe_field = segment_window p t None probe_bytes probe_sends unmarked ∙ (λ i. min (length ((al.same.rx i).held) / 2 ^ al.same.shift i) 65535)
 
   pub probe_shift : says_probe.after.remote_win_shift ≡ v.remote_win_shift
   unfolding says_probe
-  probe_shift = (probe_sent p t now probe probe_opens).shift ∙ al.shift
+  probe_shift = (probe_sent p t now probe probe_opens).same.shift ∙ al.same.shift
 
   pub probe_window_known : says_probe.after.remote_win_len ≡ v.remote_win_len
   unfolding says_probe
-  probe_window_known = (probe_sent p t now probe probe_opens).window ∙ al.window
+  probe_window_known = (probe_sent p t now probe probe_opens).same.window ∙ al.same.window
 
   pub probe_tells_nothing : Untold v says_probe.after
   unfolding says_probe

@@ -25,7 +25,7 @@ use Rattle.progress_laws.specs.InStep.{IsReceiver, takes_bytes}
 use Rattle.progress_laws.proofs.Begins.{not_zero}
 use Rattle.progress_laws.proofs.Edges.{cut_at, is_not_before, later_stays, old_outside, shut_outside, tail_cut, tail_inside, told_edge}
 use Rattle.progress_laws.proofs.Hears.{HeardAs, IsData, all_no_duplicate, data_is_said, answered_outside, covered, heard_as, heard_inside, heard_rests_empty, idle_is, idle_moment, seen}
-use Rattle.progress_laws.proofs.States.{is_flat, takes_flat}
+use Rattle.progress_laws.proofs.States.{flat_steady, is_steady, takes_flat}
 use Rattle.progress_laws.proofs.Taking.{at_once, blank, blank_holds_nothing, read_bytes, read_held, take_all, taken_bytes, taken_held}
 
 -- ---- what is told
@@ -106,8 +106,8 @@ module _ (s : Tuple) (w : View) (r : IsReceiver s w) where
   room_for n fits = let h = window_width w (omega (arith, wide, r.room_at_most)) in omega (arith, h, wide, fits)
 
   module _ (now : Instant) (ip : IpRepr) (g : Segment) (una_small : w.local_seq_no.0 < 2 ^ 32) (bit : IsData g.control) (ack : g.ack_number ≡ Some w.local_seq_no) where
-    pub flat : is_flat w.state ≡ true
-    flat = takes_flat w.state r.state
+    pub flat : is_steady w.state ≡ true
+    flat = flat_steady w.state (takes_flat w.state r.state)
 
     within : seq_sub w.local_seq_no w.local_seq_no ≤ length w.tx_buffer.bytes
     within = omega (arith, una_small)

@@ -24,10 +24,10 @@ use Rattle.sock_tcp.specs.declared.timer.Timer.TheVariants as timer
 use Rattle.sock_tcp.specs.declared.tuple.Tuple.{Tuple}
 use Rattle.progress_laws.specs.InStep.{told}
 use Rattle.progress_laws.specs.Speech.{DispatchesOk, GoesOn}
-use Rattle.progress_laws.proofs.Begins.{Alike, Goes, and_no, beginning, goes, readied_alike, sends_so}
+use Rattle.progress_laws.proofs.Begins.{Alike, Goes, Same, and_no, beginning, goes, readied_alike, same_again, same_then, sends_so}
 use Rattle.progress_laws.proofs.Edges.{is_earlier, is_not_before, later_is, later_stays}
 use Rattle.progress_laws.proofs.Hears.{idle_is, idle_moment}
-use Rattle.progress_laws.proofs.Sends.{SentOf, left, plain_ack, plain_delay, plain_nxt, plain_sent, plain_timer, plain_window}
+use Rattle.progress_laws.proofs.Sends.{SentOf, left, plain_sent, plain_timer, plain_told}
 
 -- ---- the states in which a SYN is sent
 
@@ -94,19 +94,8 @@ SynGoesOut v (IsSent at waits nxt) now = is_over at now ≡ true
 
 -- v is x after some dispatches
 pub record Repeats (x v : View) : Type 0 where
-  pub state : v.state ≡ x.state
-  pub peer : v.tuple ≡ x.tuple
-  pub timeout : v.timeout ≡ x.timeout
-  pub keep_alive : v.keep_alive ≡ x.keep_alive
-  pub una : v.local_seq_no ≡ x.local_seq_no
-  pub tx : v.tx_buffer ≡ x.tx_buffer
-  pub rx : v.rx_buffer ≡ x.rx_buffer
-  pub rcv : v.remote_seq_no ≡ x.remote_seq_no
-  pub window : v.remote_win_len ≡ x.remote_win_len
-  pub scale : v.remote_win_scale ≡ x.remote_win_scale
-  pub shift : v.remote_win_shift ≡ x.remote_win_shift
+  pub same : Same x v
   pub marked : v.pending_fast_retransmit ≡ false
-  pub paused : v.synack_paused ≡ x.synack_paused
   pub waits : SynWaits v
 
 -- x is in one of these states, with the peer t, its address, and nothing that would end or pause it
@@ -124,14 +113,14 @@ module _ (st : State) (t : Tuple) (f : Facts) (x : View) (c : SendsSyn st t f x)
   fa = told f now
 
   pub on : GoesOn v t fa
-  on = record { peer = r.peer ∙ c.peer; address = c.address; alive = rw (r.timeout ∙ c.no_timeout) refl; no_end = by r.waits }
+  on = record { peer = r.same.peer ∙ c.peer; address = c.address; alive = rw (r.same.timeout ∙ c.no_timeout) refl; no_end = by r.waits }
     where
       by : SynWaits v → is_close_over v.timer now ≡ false
       by (NotSent o idle nxt) = rw idle refl
       by (IsSent at waits nxt) = rw waits refl
 
   pub runs : is_paused v.state v.synack_paused ≡ false
-  runs = ap (is_paused v.state) (r.paused ∙ c.not_paused) ∙ never_paused v.state
+  runs = ap (is_paused v.state) (r.same.paused ∙ c.not_paused) ∙ never_paused v.state
 
   abbrev pub u : View
   u = beginning v t fa false on runs
@@ -145,18 +134,18 @@ module _ (st : State) (t : Tuple) (f : Facts) (x : View) (c : SendsSyn st t f x)
   -- ---- what a dispatch begins with
 
   readied_so : Repeats x z
-  readied_so = record { state = al.state ∙ r.state; peer = al.peer ∙ r.peer; timeout = al.timeout ∙ r.timeout; keep_alive = al.keep_alive ∙ r.keep_alive; una = al.una ∙ r.una; tx = al.tx ∙ r.tx; rx = al.rx ∙ r.rx; rcv = al.rcv ∙ r.rcv; window = al.window ∙ r.window; scale = al.scale ∙ r.scale; shift = al.shift ∙ r.shift; marked = al.marked ∙ r.marked; paused = al.paused ∙ r.paused; waits = by r.waits }
+  readied_so = record { same = same_then r.same al.same; marked = al.marked ∙ r.marked; waits = by r.waits }
     where
       by : SynWaits v → SynWaits z
-      by (NotSent o idle nxt) = NotSent o (al.timer ∙ idle) (al.nxt ∙ nxt ∙ sym al.una)
-      by (IsSent at waits nxt) = IsSent at (al.timer ∙ waits) (al.nxt ∙ nxt ∙ ap (λ q. seq_add q 1) (sym al.una))
+      by (NotSent o idle nxt) = NotSent o (al.timer ∙ idle) (al.nxt ∙ nxt ∙ sym al.same.una)
+      by (IsSent at waits nxt) = IsSent at (al.timer ∙ waits) (al.nxt ∙ nxt ∙ ap (λ q. seq_add q 1) (sym al.same.una))
 
   anew : View
   anew = retransmission_begun z now
 
   anew_so : Repeats x (retransmission_begun z now)
   unfolding retransmission_begun
-  anew_so = record { state = readied_so.state; peer = readied_so.peer; timeout = readied_so.timeout; keep_alive = readied_so.keep_alive; una = readied_so.una; tx = readied_so.tx; rx = readied_so.rx; rcv = readied_so.rcv; window = readied_so.window; scale = readied_so.scale; shift = readied_so.shift; marked = readied_so.marked; paused = readied_so.paused; waits = NotSent (idle_moment now z.keep_alive) (idle_is now z.keep_alive) refl }
+  anew_so = record { same = same_then readied_so.same (same_again z now); marked = readied_so.marked; waits = NotSent (idle_moment now z.keep_alive) (idle_is now z.keep_alive) refl }
 
   anew_nxt : (retransmission_begun z now).remote_last_seq ≡ (retransmission_begun z now).local_seq_no
   unfolding retransmission_begun
@@ -177,11 +166,11 @@ module _ (st : State) (t : Tuple) (f : Facts) (x : View) (c : SendsSyn st t f x)
   front d = by r.waits d
     where
       by : (q : SynWaits v) → SynGoesOut v q now → u.remote_last_seq ≡ u.local_seq_no
-      by (NotSent o idle nxt) d = subst (λ tm. (after_timer tm z now).remote_last_seq ≡ (after_timer tm z now).local_seq_no) (sym idle) (al.nxt ∙ nxt ∙ sym al.una)
+      by (NotSent o idle nxt) d = subst (λ tm. (after_timer tm z now).remote_last_seq ≡ (after_timer tm z now).local_seq_no) (sym idle) (al.nxt ∙ nxt ∙ sym al.same.una)
       by (IsSent at waits nxt) d = subst (λ tm. (after_timer tm z now).remote_last_seq ≡ (after_timer tm z now).local_seq_no) (sym waits) (subst (λ b. (if b then retransmission_begun z now else z).remote_last_seq ≡ (if b then retransmission_begun z now else z).local_seq_no) (sym d) anew_nxt)
 
   pub state_then : u.state ≡ st
-  state_then = begun_so.state ∙ c.state
+  state_then = begun_so.same.state ∙ c.state
 
   opens : is_opening u.state ≡ true
   opens = ap is_opening state_then ∙ c.opening
@@ -190,7 +179,7 @@ module _ (st : State) (t : Tuple) (f : Facts) (x : View) (c : SendsSyn st t f x)
   open_then = opening_open u.state opens
 
   u_small : u.local_seq_no.0 < 2 ^ 32
-  u_small = subst (λ (q : TcpSeqNumber). q.0 < 2 ^ 32) (sym begun_so.una) c.una_small
+  u_small = subst (λ (q : TcpSeqNumber). q.0 < 2 ^ 32) (sym begun_so.same.una) c.una_small
 
   -- ---- what it sends, with any stamp
 
@@ -224,14 +213,14 @@ module _ (st : State) (t : Tuple) (f : Facts) (x : View) (c : SendsSyn st t f x)
   timer_then stamp = plain_timer u t now (segment stamp) open_then false (ap (λ n. n == 0) (long stamp))
 
   nxt_then : (stamp : Option ℕ) → (sent stamp).remote_last_seq ≡ later_of u.remote_last_seq (seq_add u.local_seq_no 1)
-  nxt_then stamp = plain_nxt u t now (segment stamp) open_then ∙ (λ i. later_of u.remote_last_seq (seq_add (syn_number st u t fa (plain_segment u t stamp) i) (long stamp i)))
+  nxt_then stamp = (plain_told u t now (segment stamp) open_then).nxt ∙ (λ i. later_of u.remote_last_seq (seq_add (syn_number st u t fa (plain_segment u t stamp) i) (long stamp i)))
 
   -- its answer is waited for then
   pub waits_then : (stamp : Option ℕ) → (at : Instant) × ((sent stamp).timer ≡ timer.Retransmit at) × ((sent stamp).remote_last_seq ≡ seq_add (sent stamp).local_seq_no 1)
   waits_then stamp = by begun_so.waits
     where
       same_una : seq_add u.local_seq_no 1 ≡ seq_add (sent stamp).local_seq_no 1
-      same_una = ap (λ q. seq_add q 1) (sym (kept stamp).una)
+      same_una = ap (λ q. seq_add q 1) (sym (kept stamp).same.una)
 
       from : (keep : Option Duration) → retransmit_unless_set (idle_from now keep) now u.rtte ≡ retransmit_from now u.rtte
       from None = refl
@@ -245,16 +234,16 @@ module _ (st : State) (t : Tuple) (f : Facts) (x : View) (c : SendsSyn st t f x)
   sent_so stamp =
       let l = kept stamp in
       let w = waits_then stamp in
-      record { state = l.state ∙ begun_so.state; peer = l.peer ∙ begun_so.peer; timeout = l.timeout ∙ begun_so.timeout; keep_alive = l.keep_alive ∙ begun_so.keep_alive; una = l.una ∙ begun_so.una; tx = l.tx ∙ begun_so.tx; rx = l.rx ∙ begun_so.rx; rcv = l.rcv ∙ begun_so.rcv; window = l.window ∙ begun_so.window; scale = l.scale ∙ begun_so.scale; shift = l.shift ∙ begun_so.shift; marked = l.marked ∙ ap (λ m. m && not (carries_data u.state)) begun_so.marked; paused = l.paused ∙ begun_so.paused; waits = IsSent w.0 w.1 w.2 }
+      record { same = same_then begun_so.same l.same; marked = l.marked ∙ ap (λ m. m && not (carries_data u.state)) begun_so.marked; waits = IsSent w.0 w.1 w.2 }
 
   pub ack_then : (stamp : Option ℕ) → (sent stamp).remote_last_ack ≡ (segment stamp).ack_number
-  ack_then stamp = plain_ack u t now (segment stamp) open_then
+  ack_then stamp = (plain_told u t now (segment stamp) open_then).ack
 
   pub window_then : (stamp : Option ℕ) → (sent stamp).remote_last_win ≡ (segment stamp).window_len
-  window_then stamp = plain_window u t now (segment stamp) open_then
+  window_then stamp = (plain_told u t now (segment stamp) open_then).window
 
   pub delay_then : (stamp : Option ℕ) → (sent stamp).ack_delay_timer ≡ ack_delay.Idle
-  delay_then stamp = plain_delay u t now (segment stamp) open_then
+  delay_then stamp = (plain_told u t now (segment stamp) open_then).delay
 
   -- ---- the dispatch
 

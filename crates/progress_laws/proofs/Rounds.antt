@@ -314,19 +314,19 @@ module _ (d : Option Duration) (t s : Tuple) (f : Facts) (mtu : IsMtu f.mtu) (he
     still = record {
       sender = record {
         reached = q.waits.reached;
-        state = ap may_send q.waits.state ∙ i.sender.state;
-        peer = q.waits.peer ∙ i.sender.peer;
-        no_timeout = q.waits.timeout ∙ i.sender.no_timeout;
-        keep_alive = q.waits.keep_alive ∙ i.sender.keep_alive;
+        state = ap may_send q.waits.same.state ∙ i.sender.state;
+        peer = q.waits.same.peer ∙ i.sender.peer;
+        no_timeout = q.waits.same.timeout ∙ i.sender.no_timeout;
+        keep_alive = q.waits.same.keep_alive ∙ i.sender.keep_alive;
         nothing_marked = q.waits.nothing_marked;
         rests = ForKeepAlive q.moment q.timer q.nxt;
       };
       receiver = i.receiver;
       taken = i.taken;
-      taken_within = subst (λ (b : Queue). i.taken ≤ length b.bytes) (sym q.waits.tx) i.taken_within;
-      there = i.there ∙ ap (λ m. seq_add m i.taken) (sym q.waits.una);
-      back = i.back ∙ sym (λ j. seq_add (q.waits.rcv j) (length ((q.waits.rx j).bytes)));
-      scale = ap scale_of q.waits.scale ∙ i.scale;
+      taken_within = subst (λ (b : Queue). i.taken ≤ length b.bytes) (sym q.waits.same.tx) i.taken_within;
+      there = i.there ∙ ap (λ m. seq_add m i.taken) (sym q.waits.same.una);
+      back = i.back ∙ sym (λ j. seq_add (q.waits.same.rcv j) (length ((q.waits.same.rx j).bytes)));
+      scale = ap scale_of q.waits.same.scale ∙ i.scale;
       window = subst (λ n. n ≤ i.taken + seq_sub (receive_window w).end (receive_window w).start) (sym q.window) i.window;
       not_last = λ at e. inr keeps;
     }
@@ -346,11 +346,11 @@ module _ (d : Option Duration) (t s : Tuple) (f : Facts) (mtu : IsMtu f.mtu) (he
           moves = OneMore at now r.end v w q.after w r.sender r.receiver got got r.more since (GoesAstray q.out q.dispatch refl refl) r.moves;
           in_step = r.in_step;
           none_new = r.none_new;
-          whole = r.whole ∙ ap (λ (b : Queue). got ++ drop i.taken b.bytes) q.waits.tx;
+          whole = r.whole ∙ ap (λ (b : Queue). got ++ drop i.taken b.bytes) q.waits.same.tx;
           told_then = r.told_then;
           count = r.count;
           some = λ h. absurd (omega (arith, h, z));
-          left = r.left ∙ ap (λ (b : Queue). length b.bytes) q.waits.tx;
+          left = r.left ∙ ap (λ (b : Queue). length b.bytes) q.waits.same.tx;
         }
 
   kept : {n : ℕ} → (0 < n) ⊎ (is_some d ≡ true) → n ≡ 0 → is_some d ≡ true

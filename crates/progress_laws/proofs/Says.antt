@@ -243,13 +243,13 @@ module _ (d : Duration) (t : Tuple) where
         where
           by : AtFront v → AtFront u
           by (inl m) = inl (still.marked ∙ m)
-          by (inr e) = inr (still.nxt ∙ e ∙ sym still.una)
+          by (inr e) = inr (still.nxt ∙ e ∙ sym still.same.una)
 
       sends : SendsOk f t stamps u out w → Says v out
-      sends o = elim (says_or_ack v u t f o.stamp o.bytes still.una at_front no_probing) [
-        | inl h ↦ said f stamps v u out w s k o still.state still.tx still.keep_alive h
-        | inr q ↦ elim (keeps_or_bytes v u t f o.stamp o.bytes still.una no_probing over) [
-          | inl h ↦ said f stamps v u out w s k o still.state still.tx still.keep_alive h
+      sends o = elim (says_or_ack v u t f o.stamp o.bytes still.same.una at_front no_probing) [
+        | inl h ↦ said f stamps v u out w s k o still.same.state still.same.tx still.same.keep_alive h
+        | inr q ↦ elim (keeps_or_bytes v u t f o.stamp o.bytes still.same.una no_probing over) [
+          | inl h ↦ said f stamps v u out w s k o still.same.state still.same.tx still.same.keep_alive h
           | inr r ↦ absurd (omega (arith, q.1, r.1))
         ]
       ]
@@ -279,7 +279,7 @@ module _ (d : Duration) (t : Tuple) where
       u_is = ap (λ tm. after_timer tm x (moment_of f)) is ∙ ap (λ c. if c then u else x) over
 
       kept : u.timer ≡ timer.Idle (Some (after (moment_of f) d))
-      kept = ap (λ o. idle_from (moment_of f) o) (still.keep_alive ∙ s.keep_alive)
+      kept = ap (λ o. idle_from (moment_of f) o) (still.same.keep_alive ∙ s.keep_alive)
 
       no_probing : is_probing u (moment_of f) ≡ false
       no_probing = no_probe u (moment_of f) (idle_no_probe (moment_of f) x.keep_alive)
@@ -291,23 +291,23 @@ module _ (d : Duration) (t : Tuple) where
       next y q e a = front_says n y (after (moment_of f) d) q e a
 
       quiet : w ≡ u → SpeaksWithin (suc n) w t
-      quiet e = next w (still_says d f stamps v out w s k (ap (λ (y : View). y.state) e ∙ still.state) (ap (λ (y : View). y.tx_buffer) e ∙ still.tx) (ap (λ (y : View). y.keep_alive) e ∙ still.keep_alive)) (ap (λ (y : View). y.timer) e ∙ kept) (inr (ap (λ (y : View). y.remote_last_seq) e ∙ ap (λ (y : View). y.local_seq_no) (sym e)))
+      quiet e = next w (still_says d f stamps v out w s k (ap (λ (y : View). y.state) e ∙ still.same.state) (ap (λ (y : View). y.tx_buffer) e ∙ still.same.tx) (ap (λ (y : View). y.keep_alive) e ∙ still.same.keep_alive)) (ap (λ (y : View). y.timer) e ∙ kept) (inr (ap (λ (y : View). y.remote_last_seq) e ∙ ap (λ (y : View). y.local_seq_no) (sym e)))
 
       -- an acknowledgement alone leaves SND.NXT at SND.UNA
       acked : (o : SendsOk f t stamps u out w) → emission_kind u (moment_of f) (segment_for u t o.stamp o.bytes) ≡ kind.Plain → segment_len (segment_for u t o.stamp o.bytes) ≡ 0 → SpeaksWithin (suc n) w t
       acked o e none =
           let b = segment_for u t o.stamp o.bytes in
           let y : View = snd_nxt_moved (after_any u (moment_of f)) (emitted_as kind.Plain b) in
-          let w_is : w ≡ y = left_plain f stamps v u out w s k o still.state still.tx still.keep_alive e ∙ untimed u t (moment_of f) b none in
+          let w_is : w ≡ y = left_plain f stamps v u out w s k o still.same.state still.same.tx still.same.keep_alive e ∙ untimed u t (moment_of f) b none in
           let number : b.seq_number ≡ u.local_seq_no = front_number u.pending_fast_retransmit u.local_seq_no u.remote_last_seq (inr refl) in
-          let here : seq_add b.seq_number (segment_len b) ≡ u.local_seq_no = ap₂ seq_add number none ∙ ap (λ m. record { 0 = m }) (omega (arith, small, ap (λ (m : TcpSeqNumber). m.0) still.una)) in
-          next w (plain_says f stamps v u out w s k o still.state still.tx still.keep_alive e)
+          let here : seq_add b.seq_number (segment_len b) ≡ u.local_seq_no = ap₂ seq_add number none ∙ ap (λ m. record { 0 = m }) (omega (arith, small, ap (λ (m : TcpSeqNumber). m.0) still.same.una)) in
+          next w (plain_says f stamps v u out w s k o still.same.state still.same.tx still.same.keep_alive e)
           (ap (λ (z : View). z.timer) w_is ∙ ap (λ tm. keep_alive_renewed tm (moment_of f) x.keep_alive) kept ∙ kept)
           (inr (ap (λ (z : View). z.remote_last_seq) w_is ∙ not_after_itself u.local_seq_no (seq_add b.seq_number (segment_len b)) here ∙ ap (λ (z : View). z.local_seq_no) (sym w_is)))
 
       sends : SendsOk f t stamps u out w → Says v out ⊎ SpeaksWithin (suc n) w t
-      sends o = elim (says_or_ack v u t f o.stamp o.bytes still.una (inr refl) no_probing) [
-        | inl h ↦ inl (said f stamps v u out w s k o still.state still.tx still.keep_alive h)
+      sends o = elim (says_or_ack v u t f o.stamp o.bytes still.same.una (inr refl) no_probing) [
+        | inl h ↦ inl (said f stamps v u out w s k o still.same.state still.same.tx still.same.keep_alive h)
         | inr q ↦ inr (acked o q.0 q.1)
       ]
 
@@ -338,12 +338,12 @@ module _ (d : Duration) (t : Tuple) where
       no_probing = no_probe u (moment_of f) (ap (λ tm. is_probe_over tm (moment_of f)) idle)
 
       waited_for : keep_alive_renewed u.timer (moment_of f) u.keep_alive ≡ timer.Idle (Some (after (moment_of f) d))
-      waited_for = ap (λ tm. keep_alive_renewed tm (moment_of f) u.keep_alive) idle ∙ ap (λ o. idle_from (moment_of f) o) (still.keep_alive ∙ s.keep_alive)
+      waited_for = ap (λ tm. keep_alive_renewed tm (moment_of f) u.keep_alive) idle ∙ ap (λ o. idle_from (moment_of f) o) (still.same.keep_alive ∙ s.keep_alive)
 
       sends : SendsOk f t stamps u out w → Says v out ⊎ SpeaksWithin (suc (suc n)) w t
-      sends o = elim (keeps_or_bytes v u t f o.stamp o.bytes still.una no_probing over) [
-        | inl h ↦ inl (said f stamps v u out w s k o still.state still.tx still.keep_alive h)
-        | inr q ↦ inr (again_says n w (after (moment_of f) (rto_of u.rtte)) (plain_says f stamps v u out w s k o still.state still.tx still.keep_alive q.0) (ap (λ (z : View). z.timer) (left_plain f stamps v u out w s k o still.state still.tx still.keep_alive q.0) ∙ timed u t (moment_of f) (segment_for u t o.stamp o.bytes) q.1 ∙ ap (λ tm. retransmit_unless_set tm (moment_of f) u.rtte) waited_for))
+      sends o = elim (keeps_or_bytes v u t f o.stamp o.bytes still.same.una no_probing over) [
+        | inl h ↦ inl (said f stamps v u out w s k o still.same.state still.same.tx still.same.keep_alive h)
+        | inr q ↦ inr (again_says n w (after (moment_of f) (rto_of u.rtte)) (plain_says f stamps v u out w s k o still.same.state still.same.tx still.same.keep_alive q.0) (ap (λ (z : View). z.timer) (left_plain f stamps v u out w s k o still.same.state still.same.tx still.same.keep_alive q.0) ∙ timed u t (moment_of f) (segment_for u t o.stamp o.bytes) q.1 ∙ ap (λ tm. retransmit_unless_set tm (moment_of f) u.rtte) waited_for))
       ]
 
       by : Goes v t f stamps h.on (carries_runs v.state v.synack_paused s.carries) out w → Says v out ⊎ SpeaksWithin (suc (suc n)) w t
@@ -371,12 +371,12 @@ module _ (d : Duration) (t : Tuple) where
       no_probing = no_probe u (moment_of f) (idle_no_probe (moment_of f) x.keep_alive)
 
       quiet : w ≡ u → SpeaksWithin (suc n) w t
-      quiet e = front_says n w (after (moment_of f) d) (still_says d f stamps v out w s k (ap (λ (y : View). y.state) e ∙ still.state) (ap (λ (y : View). y.tx_buffer) e ∙ still.tx) (ap (λ (y : View). y.keep_alive) e ∙ still.keep_alive)) (ap (λ (y : View). y.timer) e ∙ ap (λ o. idle_from (moment_of f) o) (still.keep_alive ∙ s.keep_alive)) (inl (ap (λ (y : View). y.pending_fast_retransmit) e))
+      quiet e = front_says n w (after (moment_of f) d) (still_says d f stamps v out w s k (ap (λ (y : View). y.state) e ∙ still.same.state) (ap (λ (y : View). y.tx_buffer) e ∙ still.same.tx) (ap (λ (y : View). y.keep_alive) e ∙ still.same.keep_alive)) (ap (λ (y : View). y.timer) e ∙ ap (λ o. idle_from (moment_of f) o) (still.same.keep_alive ∙ s.keep_alive)) (inl (ap (λ (y : View). y.pending_fast_retransmit) e))
 
       sends : (o : SendsOk f t stamps u out w) → IsProbing u → Says v out
-      sends o i = elim (says_or_ack v u t f o.stamp o.bytes still.una (inl refl) no_probing) [
-        | inl h ↦ said f stamps v u out w s k o still.state still.tx still.keep_alive h
-        | inr q ↦ let some = marked_some u t f o.stamp o.bytes lawful.1.0 i.mss (ap carries_data still.state ∙ s.carries) o.lent refl (waits f stamps v u out w s k o still.state still.tx still.keep_alive) in absurd (omega (arith, some, q.1))
+      sends o i = elim (says_or_ack v u t f o.stamp o.bytes still.same.una (inl refl) no_probing) [
+        | inl h ↦ said f stamps v u out w s k o still.same.state still.same.tx still.same.keep_alive h
+        | inr q ↦ let some = marked_some u t f o.stamp o.bytes lawful.1.0 i.mss (ap carries_data still.same.state ∙ s.carries) o.lent refl (waits f stamps v u out w s k o still.same.state still.same.tx still.same.keep_alive) in absurd (omega (arith, some, q.1))
       ]
 
       by : Goes v t f stamps h.on (carries_runs v.state v.synack_paused s.carries) out w → Says v out ⊎ SpeaksWithin (suc n) w t
@@ -403,13 +403,13 @@ module _ (d : Duration) (t : Tuple) where
       over = ap (λ tm. is_probe_over tm (moment_of f)) probes ∙ subst (λ tm. is_reached (timer_poll tm) (moment_of f) ≡ true) is h.over
 
       carries_on : carries_data u.state ≡ true
-      carries_on = ap carries_data still.state ∙ s.carries
+      carries_on = ap carries_data still.same.state ∙ s.carries
 
       same_flight : flight u ≡ flight v
-      same_flight = ap₂ seq_sub still.nxt still.una
+      same_flight = ap₂ seq_sub still.nxt still.same.una
 
       probed : (o : SendsOk f t stamps u out w) → u.pending_fast_retransmit ≡ false → (flight u < length u.tx_buffer.bytes → length o.bytes ≡ 1) → Speech v (sent_as u t kind.Probe (segment_for u t o.stamp o.bytes))
-      probed o m byte = Probes refl (ap (λ c. if c then u.local_seq_no else u.remote_last_seq) m ∙ still.nxt) (subst (λ q. q < length v.tx_buffer.bytes → length o.bytes ≡ 1) same_flight (subst (λ (q : Queue). flight u < length q.bytes → length o.bytes ≡ 1) still.tx byte))
+      probed o m byte = Probes refl (ap (λ c. if c then u.local_seq_no else u.remote_last_seq) m ∙ still.nxt) (subst (λ q. q < length v.tx_buffer.bytes → length o.bytes ≡ 1) same_flight (subst (λ (q : Queue). flight u < length q.bytes → length o.bytes ≡ 1) still.same.tx byte))
 
       sends : (o : SendsOk f t stamps u out w) → IsProbing u → Says v out
       sends o i = marked u.pending_fast_retransmit refl
@@ -418,14 +418,14 @@ module _ (d : Duration) (t : Tuple) where
           shut = let z : u.remote_win_len ≡ 0 = subst (λ tm. ProbesIn tm u.remote_win_len) probes i.window in eq-eqb (window_left u) 0 (omega (arith, z))
 
           marked : (m : Bool) → u.pending_fast_retransmit ≡ m → Says v out
-          marked true m = elim (says_or_ack v u t f o.stamp o.bytes still.una (inl m) (rw (carries_on, m) refl)) [
-            | inl h ↦ said f stamps v u out w s k o still.state still.tx still.keep_alive h
-            | inr q ↦ let some = marked_some u t f o.stamp o.bytes lawful.1.0 i.mss carries_on o.lent m (waits f stamps v u out w s k o still.state still.tx still.keep_alive) in absurd (omega (arith, some, q.1))
+          marked true m = elim (says_or_ack v u t f o.stamp o.bytes still.same.una (inl m) (rw (carries_on, m) refl)) [
+            | inl h ↦ said f stamps v u out w s k o still.same.state still.same.tx still.same.keep_alive h
+            | inr q ↦ let some = marked_some u t f o.stamp o.bytes lawful.1.0 i.mss carries_on o.lent m (waits f stamps v u out w s k o still.same.state still.same.tx still.same.keep_alive) in absurd (omega (arith, some, q.1))
           ]
           marked false m =
               let probing : is_probing u (moment_of f) ≡ true = rw (carries_on, m, shut, over) refl in
               let b = segment_for u t o.stamp o.bytes in
-              said f stamps v u out w s k o still.state still.tx still.keep_alive (as_kind v u t f o.stamp o.bytes still.una kind.Probe (rw probing refl) (probed o m (probe_byte u t f o.stamp o.bytes lawful.1.0 i.mss carries_on o.lent m probing)))
+              said f stamps v u out w s k o still.same.state still.same.tx still.same.keep_alive (as_kind v u t f o.stamp o.bytes still.same.una kind.Probe (rw probing refl) (probed o m (probe_byte u t f o.stamp o.bytes lawful.1.0 i.mss carries_on o.lent m probing)))
 
       by : Goes v t f stamps h.on (carries_runs v.state v.synack_paused s.carries) out w → Says v out
       by (inl o) = sends (subst (λ y. SendsOk f t stamps y out w) u_is o.0) (subst IsProbing (o.1 ∙ u_is) (before_probing f stamps v (reached_probing v s.reached)))

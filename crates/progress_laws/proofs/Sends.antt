@@ -20,7 +20,7 @@ use Rattle.sock_tcp.specs.declared.emission.Kind.{Kind}
 use Rattle.sock_tcp.specs.declared.emission.Kind.TheVariants as kind
 use Rattle.sock_tcp.specs.declared.timer.AckDelayTimer.TheVariants as ack_delay
 use Rattle.sock_tcp.specs.declared.tuple.Tuple.{Tuple}
-use Rattle.progress_laws.proofs.Begins.{and_no, not_zero, segment_for}
+use Rattle.progress_laws.proofs.Begins.{Same, and_no, not_zero, segment_for}
 use Rattle.progress_laws.proofs.Hears.{IsData}
 use Rattle.progress_laws.proofs.States.{flat_on, is_flat}
 
@@ -28,19 +28,15 @@ use Rattle.progress_laws.proofs.States.{flat_on, is_flat}
 
 -- w has of u all but SND.NXT, what was told, and the timer
 pub record SentOf (u w : View) : Type 0 where
-  pub state : w.state ≡ u.state
-  pub peer : w.tuple ≡ u.tuple
-  pub timeout : w.timeout ≡ u.timeout
-  pub keep_alive : w.keep_alive ≡ u.keep_alive
-  pub una : w.local_seq_no ≡ u.local_seq_no
-  pub tx : w.tx_buffer ≡ u.tx_buffer
-  pub rx : w.rx_buffer ≡ u.rx_buffer
-  pub rcv : w.remote_seq_no ≡ u.remote_seq_no
-  pub window : w.remote_win_len ≡ u.remote_win_len
-  pub scale : w.remote_win_scale ≡ u.remote_win_scale
-  pub shift : w.remote_win_shift ≡ u.remote_win_shift
+  pub same : Same u w
   pub marked : w.pending_fast_retransmit ≡ (u.pending_fast_retransmit && not (carries_data u.state))
-  pub paused : w.synack_paused ≡ u.synack_paused
+
+-- the segment s counts as sent, and what it acknowledges and tells as told
+pub record TellsAs (u : View) (s : Segment) (w : View) : Type 0 where
+  pub nxt : w.remote_last_seq ≡ later_of u.remote_last_seq (seq_add s.seq_number (segment_len s))
+  pub ack : w.remote_last_ack ≡ s.ack_number
+  pub window : w.remote_last_win ≡ s.window_len
+  pub delay : w.ack_delay_timer ≡ ack_delay.Idle
 
 -- what was acknowledged and told last counts as before
 pub record Untold (u w : View) : Type 0 where
@@ -68,40 +64,16 @@ module _ (u : View) (p : Tuple) (now : Instant) (s : Segment) (not_closed : is_c
       peer = ap (λ b. if b then None else u.tuple) not_closed
 
       go : (z : Bool) → SentOf u (timed_if z)
-      go true = record { state = refl; peer = peer; timeout = refl; keep_alive = refl; una = refl; tx = refl; rx = refl; rcv = refl; window = refl; scale = refl; shift = refl; marked = refl; paused = refl }
-      go false = record { state = refl; peer = peer; timeout = refl; keep_alive = refl; una = refl; tx = refl; rx = refl; rcv = refl; window = refl; scale = refl; shift = refl; marked = refl; paused = refl }
+      go true = record { same = record { state = refl; peer = peer; timeout = refl; keep_alive = refl; una = refl; tx = refl; rx = refl; rcv = refl; window = refl; scale = refl; shift = refl; paused = refl }; marked = refl }
+      go false = record { same = record { state = refl; peer = peer; timeout = refl; keep_alive = refl; una = refl; tx = refl; rx = refl; rcv = refl; window = refl; scale = refl; shift = refl; paused = refl }; marked = refl }
 
-  pub plain_nxt : (left kind.Plain).remote_last_seq ≡ later_of u.remote_last_seq (seq_add s.seq_number (segment_len s))
+  pub plain_told : TellsAs u s (left kind.Plain)
   unfolding after_sending sending_timed snd_nxt_moved after_any
-  plain_nxt = go (segment_len s == 0)
+  plain_told = go (segment_len s == 0)
     where
-      go : (z : Bool) → (timed_if z).remote_last_seq ≡ later_of u.remote_last_seq (seq_add s.seq_number (segment_len s))
-      go true = refl
-      go false = refl
-
-  pub plain_ack : (left kind.Plain).remote_last_ack ≡ s.ack_number
-  unfolding after_sending sending_timed snd_nxt_moved after_any
-  plain_ack = go (segment_len s == 0)
-    where
-      go : (z : Bool) → (timed_if z).remote_last_ack ≡ s.ack_number
-      go true = refl
-      go false = refl
-
-  pub plain_window : (left kind.Plain).remote_last_win ≡ s.window_len
-  unfolding after_sending sending_timed snd_nxt_moved after_any
-  plain_window = go (segment_len s == 0)
-    where
-      go : (z : Bool) → (timed_if z).remote_last_win ≡ s.window_len
-      go true = refl
-      go false = refl
-
-  pub plain_delay : (left kind.Plain).ack_delay_timer ≡ ack_delay.Idle
-  unfolding after_sending sending_timed snd_nxt_moved after_any
-  plain_delay = go (segment_len s == 0)
-    where
-      go : (z : Bool) → (timed_if z).ack_delay_timer ≡ ack_delay.Idle
-      go true = refl
-      go false = refl
+      go : (z : Bool) → TellsAs u s (timed_if z)
+      go true = record { nxt = refl; ack = refl; window = refl; delay = refl }
+      go false = record { nxt = refl; ack = refl; window = refl; delay = refl }
 
   pub plain_timer : (z : Bool) → (segment_len s == 0) ≡ z → (left kind.Plain).timer ≡ (if z then keep_alive_renewed u.timer now u.keep_alive else retransmit_unless_set (keep_alive_renewed u.timer now u.keep_alive) now u.rtte)
   unfolding after_sending sending_timed snd_nxt_moved after_any
@@ -110,7 +82,7 @@ module _ (u : View) (p : Tuple) (now : Instant) (s : Segment) (not_closed : is_c
 
   pub probe_sent : SentOf u (left kind.Probe)
   unfolding after_sending after_any after_probe
-  probe_sent = record { state = refl; peer = refl; timeout = refl; keep_alive = refl; una = refl; tx = refl; rx = refl; rcv = refl; window = refl; scale = refl; shift = refl; marked = refl; paused = refl }
+  probe_sent = record { same = record { state = refl; peer = refl; timeout = refl; keep_alive = refl; una = refl; tx = refl; rx = refl; rcv = refl; window = refl; scale = refl; shift = refl; paused = refl }; marked = refl }
 
   pub probe_untold : Untold u (left kind.Probe)
   unfolding after_sending after_any after_probe
@@ -126,7 +98,7 @@ module _ (u : View) (p : Tuple) (now : Instant) (s : Segment) (not_closed : is_c
 
   pub kept_sent : SentOf u (left kind.KeepAlive)
   unfolding after_sending after_any
-  kept_sent = record { state = refl; peer = refl; timeout = refl; keep_alive = refl; una = refl; tx = refl; rx = refl; rcv = refl; window = refl; scale = refl; shift = refl; marked = refl; paused = refl }
+  kept_sent = record { same = record { state = refl; peer = refl; timeout = refl; keep_alive = refl; una = refl; tx = refl; rx = refl; rcv = refl; window = refl; scale = refl; shift = refl; paused = refl }; marked = refl }
 
   pub kept_nxt : (left kind.KeepAlive).remote_last_seq ≡ u.remote_last_seq
   unfolding after_sending after_any

@@ -104,10 +104,10 @@ module _ (d e : Option Duration) (t s : Tuple) (f : Facts) (at now : Instant) (s
 
   module _ (out : Sending) (x : View) (speaks : Speaks (told_at f now) v out x) (shift : x.remote_win_shift ≡ v.remote_win_shift) (untold : Untold v x) (short : length out.segment.payload ≤ 65535) (number : out.segment.seq_number.0 < 2 ^ 32) (hears : (w.remote_last_seq ≡ next_ack v) ⊎ (seq_sub w.remote_last_seq (next_ack v) < width v)) where
     own : next_ack x ≡ next_ack v
-    own = (λ j. seq_add (speaks.waits.rcv j) (length ((speaks.waits.rx j).bytes)))
+    own = (λ j. seq_add (speaks.waits.same.rcv j) (length ((speaks.waits.same.rx j).bytes)))
 
     width_x : seq_sub (receive_window x).end (receive_window x).start ≡ seq_sub (receive_window v).end (receive_window v).start
-    width_x = same_width v x speaks.waits.rx speaks.waits.rcv shift untold.last_ack untold.last_win
+    width_x = same_width v x speaks.waits.same.rx speaks.waits.same.rcv shift untold.last_ack untold.last_win
 
     start_x : (receive_window x).start ≡ next_ack v
     start_x = start_is x ∙ own
@@ -216,19 +216,19 @@ module _ (d e : Option Duration) (t s : Tuple) (f : Facts) (at now : Instant) (s
       k = b.took
 
       own_then : next_ack p.after ≡ next_ack v
-      own_then = (λ j. seq_add (p.speaks.waits.rcv j) (length ((p.speaks.waits.rx j).bytes)))
+      own_then = (λ j. seq_add (p.speaks.waits.same.rcv j) (length ((p.speaks.waits.same.rx j).bytes)))
 
       told_then : window_told p.after ≡ window_told v
-      told_then = told_alike v p.after p.speaks.waits.rx shift
+      told_then = told_alike v p.after p.speaks.waits.same.rx shift
 
       width_then : width p.after ≡ width v
-      width_then = same_width v p.after p.speaks.waits.rx p.speaks.waits.rcv shift untold.last_ack untold.last_win
+      width_then = same_width v p.after p.speaks.waits.same.rx p.speaks.waits.same.rcv shift untold.last_ack untold.last_win
 
       queue_then : length p.after.tx_buffer.bytes ≡ length v.tx_buffer.bytes
-      queue_then = ap (λ (q : Queue). length q.bytes) p.speaks.waits.tx
+      queue_then = ap (λ (q : Queue). length q.bytes) p.speaks.waits.same.tx
 
       nxt_then : p.after.remote_last_seq ≡ p.after.local_seq_no
-      nxt_then = same_seq p.after.remote_last_seq p.after.local_seq_no (omega (arith, nxt, ap (λ (q : TcpSeqNumber). q.0) p.speaks.waits.una, v_small))
+      nxt_then = same_seq p.after.remote_last_seq p.after.local_seq_no (omega (arith, nxt, ap (λ (q : TcpSeqNumber). q.0) p.speaks.waits.same.una, v_small))
 
       some_then : 0 < length p.after.tx_buffer.bytes
       some_then = omega (arith, queue_then, p.queued, one)
@@ -237,11 +237,11 @@ module _ (d e : Option Duration) (t s : Tuple) (f : Facts) (at now : Instant) (s
       side_then =
           let h = p.speaks.waits in
           record {
-            sender = record { reached = h.reached; state = ap may_send h.state ∙ i.here.sender.state; peer = h.peer ∙ i.here.sender.peer; no_timeout = h.timeout ∙ i.here.sender.no_timeout; keep_alive = h.keep_alive ∙ i.here.sender.keep_alive; nothing_marked = h.nothing_marked; rests = ForProbe later delay again nxt_then some_then };
-            established = h.state ∙ i.here.established;
-            read = ap (λ (q : Received). q.bytes) h.rx ∙ i.here.read;
+            sender = record { reached = h.reached; state = ap may_send h.same.state ∙ i.here.sender.state; peer = h.same.peer ∙ i.here.sender.peer; no_timeout = h.same.timeout ∙ i.here.sender.no_timeout; keep_alive = h.same.keep_alive ∙ i.here.sender.keep_alive; nothing_marked = h.nothing_marked; rests = ForProbe later delay again nxt_then some_then };
+            established = h.same.state ∙ i.here.established;
+            read = ap (λ (q : Received). q.bytes) h.same.rx ∙ i.here.read;
             room = i.here.room;
-            nothing_held = ap (λ (q : Received). q.held) h.rx ∙ i.here.nothing_held;
+            nothing_held = ap (λ (q : Received). q.held) h.same.rx ∙ i.here.nothing_held;
             room_at_least = subst (λ m. 2 ^ m ≤ i.here.room) (sym shift) i.here.room_at_least;
           }
 
@@ -263,8 +263,8 @@ module _ (d e : Option Duration) (t s : Tuple) (f : Facts) (at now : Instant) (s
         over = record {
           taken = 1;
           taken_within = omega (arith, queue_then, p.queued, one);
-          there = same_seq (next_ack b.view) (seq_add p.after.local_seq_no 1) (omega (arith, k.next, edge, none, v_small, ap (λ (q : TcpSeqNumber). q.0) p.speaks.waits.una));
-          scale = ap scale_of p.speaks.waits.scale ∙ i.over.scale ∙ sym k.shift;
+          there = same_seq (next_ack b.view) (seq_add p.after.local_seq_no 1) (omega (arith, k.next, edge, none, v_small, ap (λ (q : TcpSeqNumber). q.0) p.speaks.waits.same.una));
+          scale = ap scale_of p.speaks.waits.same.scale ∙ i.over.scale ∙ sym k.shift;
           window = omega (arith, window, shut);
           at_most = omega (arith, window, shut);
         };
@@ -283,7 +283,7 @@ module _ (d e : Option Duration) (t s : Tuple) (f : Facts) (at now : Instant) (s
       whole_then : (got ++ drop 0 p.out.segment.payload) ++ drop 1 p.after.tx_buffer.bytes ≡ got ++ drop i.over.taken v.tx_buffer.bytes
       whole_then =
           append_assoc got p.out.segment.payload (drop 1 p.after.tx_buffer.bytes)
-          ∙ (λ j. got ++ ((p.first ∙ ap (λ n. take n v.tx_buffer.bytes) one) j ++ drop 1 (p.speaks.waits.tx j).bytes))
+          ∙ (λ j. got ++ ((p.first ∙ ap (λ n. take n v.tx_buffer.bytes) one) j ++ drop 1 (p.speaks.waits.same.tx j).bytes))
           ∙ ap (λ (l : List ℕ). got ++ l) (cut_and_rest 0 1 v.tx_buffer.bytes (omega arith))
           ∙ ap (λ n. got ++ drop n v.tx_buffer.bytes) (sym none)
 

@@ -32,7 +32,7 @@ use Rattle.progress_laws.proofs.Hears.{HeardAs, IsData, IsOpenTimer}
 use Rattle.progress_laws.proofs.Learns.{Learnt, idle_rests, learnt}
 use Rattle.progress_laws.proofs.Receives.{told_window, unit, unit_some}
 use Rattle.progress_laws.proofs.Speaks.{Speaks}
-use Rattle.progress_laws.proofs.States.{is_flat, not_listening, sends_flat}
+use Rattle.progress_laws.proofs.States.{is_steady, not_listening, sends_flat}
 use Rattle.progress_laws.proofs.Takes.{IsCaughtUp, Took, fresh_bytes, takes, took, took_bytes, took_reached, took_rests, took_so}
 use Rattle.progress_laws.proofs.Taking.{blank, read_out}
 
@@ -113,10 +113,10 @@ module _ (d e : Option Duration) (t s : Tuple) (f : Facts) (now : Instant) (v w 
   h = l.heard
 
   window_is : l.view.remote_win_len ≡ window_told w
-  window_is = h.window ∙ ap (λ o. g.window_len * 2 ^ scale_of o) speaks.waits.scale ∙ told_back
+  window_is = h.window ∙ ap (λ o. g.window_len * 2 ^ scale_of o) speaks.waits.same.scale ∙ told_back
 
   reached : IsReached (ack_kept w)
-  reached = segment_reached w (ack_kept w) now 0 out.ip out.segment (Some g) b.sender.reached (omega arith) (numbered_as out.segment (next_ack v) speaks.ack number (omega arith)) short (λ l. absurd (not_listening w.state (sends_flat w.state b.sender.state) l)) answer
+  reached = segment_reached w (ack_kept w) now 0 out.ip out.segment (Some g) b.sender.reached (omega arith) (numbered_as out.segment (next_ack v) speaks.ack number (omega arith)) short (λ l. absurd (not_listening w.state (ap is_steady b.established) l)) answer
 
   pub hears_answer : HearsAnswer d e t s f now v w x n
   unfolding ack_kept
@@ -128,17 +128,17 @@ module _ (d e : Option Duration) (t s : Tuple) (f : Facts) (now : Instant) (v w 
         here = record {
           sender = record {
             reached = l.reached;
-            state = ap may_send (h.state ∙ k.state) ∙ a.sender.state;
-            peer = h.peer ∙ k.peer ∙ a.sender.peer;
-            no_timeout = h.timeout ∙ k.timeout ∙ a.sender.no_timeout;
-            keep_alive = h.keep_alive ∙ k.keep_alive ∙ a.sender.keep_alive;
+            state = ap may_send (h.state ∙ k.same.state) ∙ a.sender.state;
+            peer = h.peer ∙ k.same.peer ∙ a.sender.peer;
+            no_timeout = h.timeout ∙ k.same.timeout ∙ a.sender.no_timeout;
+            keep_alive = h.keep_alive ∙ k.same.keep_alive ∙ a.sender.keep_alive;
             nothing_marked = h.marked ∙ k.nothing_marked;
             rests = idle_rests l.view now x.keep_alive l.timer l.nothing_in_flight l.window;
           };
-          established = h.state ∙ k.state ∙ a.established;
-          read = ap (λ (q : Received). q.bytes) (h.rx ∙ k.rx) ∙ a.read;
+          established = h.state ∙ k.same.state ∙ a.established;
+          read = ap (λ (q : Received). q.bytes) (h.rx ∙ k.same.rx) ∙ a.read;
           room = a.room;
-          nothing_held = ap (λ (q : Received). q.held) (h.rx ∙ k.rx) ∙ a.nothing_held;
+          nothing_held = ap (λ (q : Received). q.held) (h.rx ∙ k.same.rx) ∙ a.nothing_held;
           room_at_least = subst (λ m. 2 ^ m ≤ a.room) (sym (h.shift ∙ shift)) a.room_at_least;
         };
         across = record {
@@ -153,16 +153,16 @@ module _ (d e : Option Duration) (t s : Tuple) (f : Facts) (now : Instant) (v w 
           taken = 0;
           taken_within = omega arith;
           there = same_seq (next_ack w) (seq_add (next_ack w) 0) (omega arith) ∙ ap (λ m. seq_add m 0) (sym h.una);
-          scale = ap scale_of (h.scale ∙ k.scale) ∙ scale;
+          scale = ap scale_of (h.scale ∙ k.same.scale) ∙ scale;
           some = l.window;
           window = omega (arith, window_is, width_told w (ack_kept w) b.room (wide_so w b.room b.nothing_held) (side_narrow b) refl refl refl refl refl);
           at_most = omega (arith, window_is);
         };
         none = refl;
-        next = (λ j. seq_add ((h.rcv ∙ k.rcv) j) (length (((h.rx ∙ k.rx) j).bytes)));
+        next = (λ j. seq_add ((h.rcv ∙ k.same.rcv) j) (length (((h.rx ∙ k.same.rx) j).bytes)));
         shift = h.shift ∙ shift;
-        rx = h.rx ∙ k.rx;
-        rcv = h.rcv ∙ k.rcv;
+        rx = h.rx ∙ k.same.rx;
+        rcv = h.rcv ∙ k.same.rcv;
         last_ack = h.last_ack;
         last_win = h.last_win;
         nxt = l.nothing_in_flight ∙ h.una;
@@ -175,7 +175,7 @@ module _ (d e : Option Duration) (t s : Tuple) (f : Facts) (now : Instant) (v w 
 pub caught_side : {e : Option Duration} {s : Tuple} {w : View} → (b : IsSide e s w) → (k : TcpSeqNumber) (n : ℕ) → k ≡ seq_add w.local_seq_no n → n ≤ length w.tx_buffer.bytes → seq_sub w.remote_last_seq k ≤ 2 ^ 30 → IsCaughtUp w k n b.room
 caught_side {e} {s} {w} b k n there queued ahead =
     let o = reached_ordered w b.sender.reached in
-    record { state = ap is_flat b.established; takes = ap receives b.established; una_small = o.una_small; short = omega (arith, o.room); there = there; queued = queued; nxt_small = o.nxt_small; ahead = ahead; timer = open_rests w b.sender.rests; read = b.read; held = b.nothing_held; narrow = side_narrow b }
+    record { state = ap is_steady b.established; takes = ap receives b.established; una_small = o.una_small; short = omega (arith, o.room); there = there; queued = queued; nxt_small = o.nxt_small; ahead = ahead; timer = open_rests w b.sender.rests; read = b.read; held = b.nothing_held; narrow = side_narrow b }
 
 -- w took m bytes behind the first j of the segment, and they were read
 pub record Brought (e : Option Duration) (s : Tuple) (f : Facts) (now : Instant) (v w x : View) (k : TcpSeqNumber) (n room m win : ℕ) (fresh : List ℕ) : Type 0 where

@@ -35,28 +35,20 @@ use Rattle.tcp_laws.proofs.Sleeping.{window_sends}
 use Rattle.tcp_laws.proofs.Probing.{reached_probing}
 use Rattle.progress_laws.specs.InStep.{ForAnswer, ForKeepAlive, ForNothing, ForProbe, IsSender, Rests, told}
 use Rattle.progress_laws.specs.Speech.{DispatchesOk, GoesOn, SendsOk}
-use Rattle.progress_laws.proofs.Begins.{readied_alike, beginning, carries_runs, content_is, dispatch_reached, not_zero, quiet_so, segment_for, sends_so}
+use Rattle.progress_laws.proofs.Begins.{Same, readied_alike, same_again, same_then, beginning, carries_runs, content_is, dispatch_reached, not_zero, quiet_so, segment_for, sends_so}
 use Rattle.progress_laws.proofs.Edges.{is_earlier, is_not_before, later_is, later_stays}
 use Rattle.progress_laws.proofs.Hears.{IsData, IsOpenTimer, idle_is, idle_moment}
 use Rattle.progress_laws.proofs.Lends.{lent_some, mss_some}
 use Rattle.progress_laws.proofs.Says.{keep_alive_due, no_probe}
 use Rattle.progress_laws.proofs.States.{flat_open, is_flat, row_moment, sends_data, sends_flat}
-use Rattle.progress_laws.proofs.Sends.{SentOf, Untold, kept_nxt, kept_sent, kept_timer, kept_untold, left, plain_ack, plain_nxt, plain_sent, plain_timer, plain_window, segment_ack, segment_bit, segment_length, segment_number, segment_window, with_bytes, without_bytes}
+use Rattle.progress_laws.proofs.Sends.{SentOf, Untold, kept_nxt, kept_sent, kept_timer, kept_untold, left, plain_sent, plain_timer, plain_told, segment_ack, segment_bit, segment_length, segment_number, segment_window, with_bytes, without_bytes}
 
 -- ---- what is left of the sender
 
 -- x is as the sender v but for SND.NXT, and waits for an answer
 pub record Waits (v x : View) : Type 0 where
   pub reached : IsReached x
-  pub state : x.state ≡ v.state
-  pub peer : x.tuple ≡ v.tuple
-  pub timeout : x.timeout ≡ v.timeout
-  pub keep_alive : x.keep_alive ≡ v.keep_alive
-  pub una : x.local_seq_no ≡ v.local_seq_no
-  pub tx : x.tx_buffer ≡ v.tx_buffer
-  pub rx : x.rx_buffer ≡ v.rx_buffer
-  pub rcv : x.remote_seq_no ≡ v.remote_seq_no
-  pub scale : x.remote_win_scale ≡ v.remote_win_scale
+  pub same : Same v x
   pub nothing_marked : x.pending_fast_retransmit ≡ false
   pub timer : IsOpenTimer x.timer
 
@@ -128,18 +120,8 @@ open_idle now (Some d) = tt
 
 -- u has of v all that matters here, with SND.NXT at SND.UNA, and its timer is idle
 pub record Front (v u : View) : Type 0 where
-  pub state : u.state ≡ v.state
-  pub peer : u.tuple ≡ v.tuple
-  pub timeout : u.timeout ≡ v.timeout
-  pub keep_alive : u.keep_alive ≡ v.keep_alive
-  pub una : u.local_seq_no ≡ v.local_seq_no
+  pub same : Same v u
   pub nxt : u.remote_last_seq ≡ v.local_seq_no
-  pub tx : u.tx_buffer ≡ v.tx_buffer
-  pub rx : u.rx_buffer ≡ v.rx_buffer
-  pub rcv : u.remote_seq_no ≡ v.remote_seq_no
-  pub window : u.remote_win_len ≡ v.remote_win_len
-  pub scale : u.remote_win_scale ≡ v.remote_win_scale
-  pub shift : u.remote_win_shift ≡ v.remote_win_shift
   pub untold : Untold v u
   pub marked : u.pending_fast_retransmit ≡ v.pending_fast_retransmit
   pub mss : u.remote_mss ≡ v.remote_mss
@@ -151,26 +133,7 @@ pub record Front (v u : View) : Type 0 where
 idle_front : (v : View) (now : Instant) (at : Option Instant) → IsReached v → v.timer ≡ timer.Idle at → v.remote_last_seq ≡ v.local_seq_no → Front v (readied v now)
 idle_front v now at r idle nxt =
     let al = readied_alike v now in
-    record {
-      state = al.state;
-      peer = al.peer;
-      timeout = al.timeout;
-      keep_alive = al.keep_alive;
-      una = al.una;
-      nxt = al.nxt ∙ nxt;
-      tx = al.tx;
-      rx = al.rx;
-      rcv = al.rcv;
-      window = al.window;
-      scale = al.scale;
-      shift = al.shift;
-      untold = record { last_ack = al.last_ack; last_win = al.last_win };
-      marked = al.marked;
-      mss = al.mss;
-      moment = at;
-      idle = al.timer ∙ idle;
-      ordered = readied_ordered v now (reached_ordered v r);
-    }
+    record { same = al.same; nxt = al.nxt ∙ nxt; untold = record { last_ack = al.last_ack; last_win = al.last_win }; marked = al.marked; mss = al.mss; moment = at; idle = al.timer ∙ idle; ordered = readied_ordered v now (reached_ordered v r) }
 
 begins_again : (x : View) (now at : Instant) → x.timeout ≡ None → x.timer ≡ timer.Retransmit at → is_over at now ≡ true → after_timers x now ≡ retransmission_begun x now
 unfolding after_timers
@@ -184,33 +147,14 @@ again_front : (v : View) (now at : Instant) → IsReached v → v.timeout ≡ No
 unfolding retransmission_begun
 again_front v now at r no_timeout waits over =
     let al = readied_alike v now in
-    record {
-      state = al.state;
-      peer = al.peer;
-      timeout = al.timeout;
-      keep_alive = al.keep_alive;
-      una = al.una;
-      nxt = al.una;
-      tx = al.tx;
-      rx = al.rx;
-      rcv = al.rcv;
-      window = al.window;
-      scale = al.scale;
-      shift = al.shift;
-      untold = record { last_ack = al.last_ack; last_win = al.last_win };
-      marked = al.marked;
-      mss = al.mss;
-      moment = idle_moment now (readied v now).keep_alive;
-      idle = idle_is now (readied v now).keep_alive;
-      ordered = subst IsOrdered (begins_again (readied v now) now at (al.timeout ∙ no_timeout) (al.timer ∙ waits) over) (timers_ordered (readied v now) now (readied_ordered v now (reached_ordered v r)));
-    }
+    record { same = same_then al.same (same_again (readied v now) now); nxt = al.same.una; untold = record { last_ack = al.last_ack; last_win = al.last_win }; marked = al.marked; mss = al.mss; moment = idle_moment now (readied v now).keep_alive; idle = idle_is now (readied v now).keep_alive; ordered = subst IsOrdered (begins_again (readied v now) now at (al.same.timeout ∙ no_timeout) (al.timer ∙ waits) over) (timers_ordered (readied v now) now (readied_ordered v now (reached_ordered v r))) }
 
 module _ (d : Option Duration) (t : Tuple) (v : View) (f : Facts) (now : Instant) (mtu : IsMtu f.mtu) (s : IsSender d t v) (on : GoesOn v t (told f now)) (carries : is_paused v.state v.synack_paused ≡ false) (u : View) (fr : Front v u) (u_is : beginning v t (told f now) false on carries ≡ u) where
   abbrev fa : Facts
   fa = told f now
 
   may : may_send u.state ≡ true
-  may = ap may_send fr.state ∙ s.state
+  may = ap may_send fr.same.state ∙ s.state
 
   sends : is_flat u.state ≡ true
   sends = sends_flat u.state may
@@ -225,7 +169,7 @@ module _ (d : Option Duration) (t : Tuple) (v : View) (f : Facts) (now : Instant
   mss = subst (λ n. 48 ≤ n) (sym fr.mss) (reached_probing v s.reached).mss
 
   no_flight : flight u ≡ 0
-  no_flight = ap (λ n. seq_sub n u.local_seq_no) (fr.nxt ∙ sym fr.una) ∙ no_distance u.local_seq_no fr.ordered.una_small
+  no_flight = ap (λ n. seq_sub n u.local_seq_no) (fr.nxt ∙ sym fr.same.una) ∙ no_distance u.local_seq_no fr.ordered.una_small
 
   no_probing : is_probing u now ≡ false
   no_probing = no_probe u now (ap (λ tm. is_probe_over tm now) fr.idle)
@@ -256,7 +200,7 @@ module _ (d : Option Duration) (t : Tuple) (v : View) (f : Facts) (now : Instant
   number = segment_number u t None bytes sends nothing_marked ∙ fr.nxt
 
   ack : b.ack_number ≡ Some (next_ack v)
-  ack = segment_ack u t None bytes sends nothing_marked ∙ (λ i. Some (seq_add (fr.rcv i) (length ((fr.rx i).bytes))))
+  ack = segment_ack u t None bytes sends nothing_marked ∙ (λ i. Some (seq_add (fr.same.rcv i) (length ((fr.same.rx i).bytes))))
 
   carries_on : carries_data u.state ≡ true
   carries_on = sends_data u.state may
@@ -276,20 +220,7 @@ module _ (d : Option Duration) (t : Tuple) (v : View) (f : Facts) (now : Instant
   data_is_due e = rw e refl
 
   waits : (k : Kind) → DispatchesOk fa false v (Some (sent_as u t k b)) (left u t now b opens k) → SentOf u (left u t now b opens k) → IsOpenTimer (left u t now b opens k).timer → Waits v (left u t now b opens k)
-  waits k h l o = record {
-    reached = dispatch_reached fa false v (Some (sent_as u t k b)) (left u t now b opens k) s.reached h;
-    state = l.state ∙ fr.state;
-    peer = l.peer ∙ fr.peer;
-    timeout = l.timeout ∙ fr.timeout;
-    keep_alive = l.keep_alive ∙ fr.keep_alive;
-    una = l.una ∙ fr.una;
-    tx = l.tx ∙ fr.tx;
-    rx = l.rx ∙ fr.rx;
-    rcv = l.rcv ∙ fr.rcv;
-    scale = l.scale ∙ fr.scale;
-    nothing_marked = l.marked ∙ ap (λ m. m && not (carries_data u.state)) nothing_marked;
-    timer = o;
-  }
+  waits k h l o = record { reached = dispatch_reached fa false v (Some (sent_as u t k b)) (left u t now b opens k) s.reached h; same = same_then fr.same l.same; nothing_marked = l.marked ∙ ap (λ m. m && not (carries_data u.state)) nothing_marked; timer = o }
 
   renewed : keep_alive_renewed u.timer now u.keep_alive ≡ idle_from now u.keep_alive
   renewed = ap (λ tm. keep_alive_renewed tm now u.keep_alive) fr.idle
@@ -297,26 +228,26 @@ module _ (d : Option Duration) (t : Tuple) (v : View) (f : Facts) (now : Instant
   -- with a window and bytes
   speaks_bytes : 0 < v.remote_win_len → 0 < length v.tx_buffer.bytes → SpeaksBytes fa v
   speaks_bytes win queue =
-      let win_u : 0 < u.remote_win_len = subst (λ n. 0 < n) (sym fr.window) win in
-      let queue_u : 0 < length u.tx_buffer.bytes = subst (λ (q : Queue). 0 < length q.bytes) (sym fr.tx) queue in
+      let win_u : 0 < u.remote_win_len = subst (λ n. 0 < n) (sym fr.same.window) win in
+      let queue_u : 0 < length u.tx_buffer.bytes = subst (λ (q : Queue). 0 < length q.bytes) (sym fr.same.tx) queue in
       let asks : 0 < asked u t fa false = omega (arith, asked_is, win_u, no_flight, mss_some u t fa false mtu.0 mss, open_window u.congestion_controller fr.ordered.congestion) in
       let some : 0 < length bytes = lent_some u.tx_buffer (offset_of u) (asked u t fa false) bytes lent asks (omega (arith, start, queue_u)) in
       let plain : emission_kind u now b ≡ kind.Plain = with_bytes u t None bytes sends nothing_marked now no_probing some in
       let h = goes_out kind.Plain plain (data_is_due (window_sends u t fa false fr.ordered win_u no_flight (inl queue_u))) in
       let long : segment_len b ≡ length bytes = segment_length u t None bytes sends nothing_marked in
-      let same : length u.tx_buffer.bytes ≡ length v.tx_buffer.bytes = ap (λ (q : Queue). length q.bytes) fr.tx in
+      let same : length u.tx_buffer.bytes ≡ length v.tx_buffer.bytes = ap (λ (q : Queue). length q.bytes) fr.same.tx in
       record {
         out = sent_as u t kind.Plain b;
         after = left u t now b opens kind.Plain;
         speaks = record { dispatch = h; bit = bit; ack = ack; waits = waits kind.Plain h (plain_sent u t now b opens) (timed (omega (arith, long, some))) };
         number = number;
         some = some;
-        within = inl (omega (arith, few, asked_is, fr.window));
+        within = inl (omega (arith, few, asked_is, fr.same.window));
         queued = omega (arith, few, same);
-        first = lent_beginning u.tx_buffer (offset_of u) (asked u t fa false) bytes lent ∙ ap (λ o. take (length bytes) (drop o u.tx_buffer.bytes)) start ∙ ap (λ (q : Queue). take (length bytes) q.bytes) fr.tx;
+        first = lent_beginning u.tx_buffer (offset_of u) (asked u t fa false) bytes lent ∙ ap (λ o. take (length bytes) (drop o u.tx_buffer.bytes)) start ∙ ap (λ (q : Queue). take (length bytes) q.bytes) fr.same.tx;
         sent = length bytes;
         sent_within = omega arith;
-        nxt = plain_nxt u t now b opens ∙ (λ i. later_of (fr.nxt i) (seq_add (number i) (long i))) ∙ later_is v.local_seq_no (seq_add v.local_seq_no (length bytes)) (is_earlier v.local_seq_no (seq_add v.local_seq_no (length bytes)) (omega (arith, some, few, fr.ordered.room, (reached_ordered v s.reached).una_small)));
+        nxt = (plain_told u t now b opens).nxt ∙ (λ i. later_of (fr.nxt i) (seq_add (number i) (long i))) ∙ later_is v.local_seq_no (seq_add v.local_seq_no (length bytes)) (is_earlier v.local_seq_no (seq_add v.local_seq_no (length bytes)) (omega (arith, some, few, fr.ordered.room, (reached_ordered v s.reached).una_small)));
       }
     where
       timed : 0 < segment_len b → IsOpenTimer (left u t now b opens kind.Plain).timer
@@ -334,19 +265,19 @@ module _ (d : Option Duration) (t : Tuple) (v : View) (f : Facts) (now : Instant
       let long : segment_len b ≡ length bytes = segment_length u t None bytes sends nothing_marked in
       record {
         bytes = speaks_bytes win queue;
-        fits = omega (arith, few, asked_is, fr.window);
+        fits = omega (arith, few, asked_is, fr.same.window);
         short = omega (arith, few, asked_is, mtu.1);
         field = told_field;
         at = moment_after now (rto_of u.rtte);
         timer = plain_timer u t now b opens false (not_zero (segment_len b) (omega (arith, long, some))) ∙ ap (λ tm. retransmit_unless_set tm now u.rtte) renewed ∙ waits_again u.keep_alive;
-        window = l.window ∙ fr.window;
-        shift = l.shift ∙ fr.shift;
-        last_ack = plain_ack u t now b opens ∙ ack;
-        last_win = plain_window u t now b opens ∙ told_field;
+        window = l.same.window ∙ fr.same.window;
+        shift = l.same.shift ∙ fr.same.shift;
+        last_ack = (plain_told u t now b opens).ack ∙ ack;
+        last_win = (plain_told u t now b opens).window ∙ told_field;
       }
     where
       told_field : b.window_len ≡ window_field v
-      told_field = segment_window u t None bytes sends nothing_marked ∙ (λ i. min (length ((fr.rx i).held) / 2 ^ fr.shift i) 65535)
+      told_field = segment_window u t None bytes sends nothing_marked ∙ (λ i. min (length ((fr.same.rx i).held) / 2 ^ fr.same.shift i) 65535)
 
       waits_again : (keep : Option Duration) → retransmit_unless_set (idle_from now keep) now u.rtte ≡ timer.Retransmit (moment_after now (rto_of u.rtte))
       waits_again None = refl
@@ -355,7 +286,7 @@ module _ (d : Option Duration) (t : Tuple) (v : View) (f : Facts) (now : Instant
   -- without a window, at the moment of a keep-alive
   speaks_nothing : v.remote_win_len ≡ 0 → is_keep_alive_over u.timer now ≡ true → SpeaksNothing fa v
   speaks_nothing win keep_over =
-      let shut : u.remote_win_len ≡ 0 = fr.window ∙ win in
+      let shut : u.remote_win_len ≡ 0 = fr.same.window ∙ win in
       let none : length bytes ≡ 0 = omega (arith, few, asked_is, shut) in
       let kept : emission_kind u now b ≡ kind.KeepAlive = without_bytes u t None bytes sends nothing_marked now no_probing none true keep_over in
       let h = goes_out kind.KeepAlive kept (keep_alive_due u t fa false keep_over) in
@@ -363,10 +294,10 @@ module _ (d : Option Duration) (t : Tuple) (v : View) (f : Facts) (now : Instant
         out = sent_as u t kind.KeepAlive b;
         after = left u t now b opens kind.KeepAlive;
         speaks = record { dispatch = h; bit = bit; ack = ack; waits = waits kind.KeepAlive h (kept_sent u t now b opens) (subst IsOpenTimer (sym (kept_timer u t now b opens ∙ renewed)) (open_idle now u.keep_alive)) };
-        number = ap (λ n. seq_minus n 1) fr.una;
+        number = ap (λ n. seq_minus n 1) fr.same.una;
         one = refl;
         nxt = kept_nxt u t now b opens ∙ fr.nxt;
-        shift = (kept_sent u t now b opens).shift ∙ fr.shift;
+        shift = (kept_sent u t now b opens).same.shift ∙ fr.same.shift;
         untold = let k = kept_untold u t now b opens in record { last_ack = k.last_ack ∙ fr.untold.last_ack; last_win = k.last_win ∙ fr.untold.last_win };
       }
 
@@ -375,13 +306,13 @@ module _ (d : Option Duration) (t : Tuple) (v : View) (f : Facts) (now : Instant
   silent e keeps win = by (is_due u t fa false) refl
     where
       keep : u.keep_alive ≡ Some e
-      keep = fr.keep_alive ∙ keeps
+      keep = fr.same.keep_alive ∙ keeps
 
       waits_then : idle_from now u.keep_alive ≡ timer.Idle (Some (moment_after now e))
       waits_then = ap (idle_from now) keep
 
       none : length bytes ≡ 0
-      none = omega (arith, few, asked_is, fr.window, win)
+      none = omega (arith, few, asked_is, fr.same.window, win)
 
       long : segment_len b ≡ 0
       long = segment_length u t None bytes sends nothing_marked ∙ none
@@ -403,8 +334,8 @@ module _ (d : Option Duration) (t : Tuple) (v : View) (f : Facts) (now : Instant
             waits = waits kind.KeepAlive h l (subst IsOpenTimer (sym (kept_timer u t now b opens ∙ renewed)) (open_idle now u.keep_alive));
             moment = moment_after now e;
             timer = kept_timer u t now b opens ∙ renewed ∙ waits_then;
-            nxt = kept_nxt u t now b opens ∙ fr.nxt ∙ sym (l.una ∙ fr.una);
-            window = l.window ∙ fr.window;
+            nxt = kept_nxt u t now b opens ∙ fr.nxt ∙ sym (l.same.una ∙ fr.same.una);
+            window = l.same.window ∙ fr.same.window;
           }
       speaks due false over =
           let h = goes_out kind.Plain (without_bytes u t None bytes sends nothing_marked now no_probing none false over) due in
@@ -417,8 +348,8 @@ module _ (d : Option Duration) (t : Tuple) (v : View) (f : Facts) (now : Instant
             waits = waits kind.Plain h l (subst IsOpenTimer (sym tm) (open_idle now u.keep_alive));
             moment = moment_after now e;
             timer = tm ∙ waits_then;
-            nxt = plain_nxt u t now b opens ∙ (λ i. later_of (fr.nxt i) (seq_add (number i) (long i))) ∙ stays ∙ sym (l.una ∙ fr.una);
-            window = l.window ∙ fr.window;
+            nxt = (plain_told u t now b opens).nxt ∙ (λ i. later_of (fr.nxt i) (seq_add (number i) (long i))) ∙ stays ∙ sym (l.same.una ∙ fr.same.una);
+            window = l.same.window ∙ fr.same.window;
           }
 
       no_moment : u.timer ≡ timer.Idle None → u.keep_alive ≡ None
@@ -430,11 +361,11 @@ module _ (d : Option Duration) (t : Tuple) (v : View) (f : Facts) (now : Instant
         out = None;
         after = u;
         dispatch = h;
-        waits = record { reached = dispatch_reached fa false v None u s.reached h; state = fr.state; peer = fr.peer; timeout = fr.timeout; keep_alive = fr.keep_alive; una = fr.una; tx = fr.tx; rx = fr.rx; rcv = fr.rcv; scale = fr.scale; nothing_marked = nothing_marked; timer = subst IsOpenTimer (sym idle) tt };
+        waits = record { reached = dispatch_reached fa false v None u s.reached h; same = fr.same; nothing_marked = nothing_marked; timer = subst IsOpenTimer (sym idle) tt };
         moment = m;
         timer = idle;
-        nxt = fr.nxt ∙ sym fr.una;
-        window = fr.window;
+        nxt = fr.nxt ∙ sym fr.same.una;
+        window = fr.same.window;
       }
 
       by : (due : Bool) → is_due u t fa false ≡ due → FallsSilent fa v

@@ -128,7 +128,7 @@ module _ (t : Tuple) (f : Facts) (stamps : Bool) (v : View) (out : Sending) (u :
   begun_still : Still v b
   begun_still =
       let al : Alike v (readied v now) = readied_alike v now in
-      then_still v (readied v now) b (record { state = al.state; una = al.una; tx = al.tx; rx = al.rx; rcv = al.rcv }) (timer_still v.timer (readied v now) now)
+      then_still v (readied v now) b (record { state = al.same.state; una = al.same.una; tx = al.same.tx; rx = al.same.rx; rcv = al.same.rcv }) (timer_still v.timer (readied v now) now)
 
   o : SendsOk f t stamps b (Some out) u
   o = goes_out v t f stamps h.on (carries_runs v.state v.synack_paused h.carries) out u h.dispatch

@@ -61,54 +61,71 @@ sends_flat state.Established e = refl
 sends_flat state.CloseWait e = refl
 sends_flat _ e = absurd cc
 
+-- what holds in the three
+pub flat_by : (P : State → Type 0) → P state.Established → P state.CloseWait → P state.FinWait2 → (st : State) → is_flat st ≡ true → P st
+flat_by P a b c state.Established e = a
+flat_by P a b c state.CloseWait e = b
+flat_by P a b c state.FinWait2 e = c
+flat_by P a b c _ e = absurd cc
+
 pub flat_open : (st : State) → is_flat st ≡ true → is_closed st ≡ false
-flat_open state.Established e = refl
-flat_open state.CloseWait e = refl
-flat_open state.FinWait2 e = refl
-flat_open _ e = absurd cc
+flat_open = flat_by (λ st. is_closed st ≡ false) refl refl refl
 
 pub flat_on : (st : State) → is_flat st ≡ true → is_closing st ≡ false
-flat_on state.Established e = refl
-flat_on state.CloseWait e = refl
-flat_on state.FinWait2 e = refl
-flat_on _ e = absurd cc
+flat_on = flat_by (λ st. is_closing st ≡ false) refl refl refl
+
+pub takes_by : (P : State → Type 0) → P state.Established → P state.FinWait2 → (st : State) → takes_bytes st ≡ true → P st
+takes_by P a b state.Established e = a
+takes_by P a b state.FinWait2 e = b
+takes_by P a b _ e = absurd cc
 
 pub takes_flat : (st : State) → takes_bytes st ≡ true → is_flat st ≡ true
-takes_flat state.Established e = refl
-takes_flat state.FinWait2 e = refl
-takes_flat _ e = absurd cc
+takes_flat = takes_by (λ st. is_flat st ≡ true) refl refl
 
 pub takes_runs : (st : State) (b : Bool) → takes_bytes st ≡ true → is_paused st b ≡ false
-takes_runs state.Established b e = refl
-takes_runs state.FinWait2 b e = refl
-takes_runs _ b e = absurd cc
+takes_runs st b e = takes_by (λ st. is_paused st b ≡ false) refl refl st e
 
 pub takes_receives : (st : State) → takes_bytes st ≡ true → receives st ≡ true
-takes_receives state.Established e = refl
-takes_receives state.FinWait2 e = refl
-takes_receives _ e = absurd cc
+takes_receives = takes_by (λ st. receives st ≡ true) refl refl
 
-pub flat_has : (st : State) → is_flat st ≡ true → has_window st ≡ true
-flat_has state.Established e = refl
-flat_has state.CloseWait e = refl
-flat_has state.FinWait2 e = refl
-flat_has _ e = absurd cc
+-- ---- with FIN-WAIT-1: of the own FIN, if there is one, nothing new is acknowledged
 
-pub flat_timer : (st : State) (t : Timer) (now : Instant) → is_flat st ≡ true → timer_restarted st t now ≡ t
-flat_timer state.Established t now e = refl
-flat_timer state.CloseWait t now e = refl
-flat_timer state.FinWait2 t now e = refl
-flat_timer _ t now e = absurd cc
+abbrev pub is_steady : State → Bool
+is_steady state.Established = true
+is_steady state.CloseWait = true
+is_steady state.FinWait1 = true
+is_steady state.FinWait2 = true
+is_steady _ = false
 
-pub flat_goes_on : (st : State) → is_flat st ≡ true → (x : View) (now : Instant) (t : Tuple) (word n : ℕ) (s : Segment) → advance_in st control.None false x now t word n s ≡ continues x
-flat_goes_on state.Established e x now t word n s = refl
-flat_goes_on state.CloseWait e x now t word n s = refl
-flat_goes_on state.FinWait2 e x now t word n s = refl
-flat_goes_on _ e x now t word n s = absurd cc
+pub steady_by : (P : State → Type 0) → P state.Established → P state.CloseWait → P state.FinWait1 → P state.FinWait2 → (st : State) → is_steady st ≡ true → P st
+steady_by P a b c d state.Established e = a
+steady_by P a b c d state.CloseWait e = b
+steady_by P a b c d state.FinWait1 e = c
+steady_by P a b c d state.FinWait2 e = d
+steady_by P a b c d _ e = absurd cc
 
-pub not_listening : (st : State) → is_flat st ≡ true → st ≡ state.Listen → ⊥
+pub flat_steady : (st : State) → is_flat st ≡ true → is_steady st ≡ true
+flat_steady = flat_by (λ st. is_steady st ≡ true) refl refl refl
+
+pub receives_steady : (st : State) → receives st ≡ true → is_steady st ≡ true
+receives_steady state.Established e = refl
+receives_steady state.FinWait1 e = refl
+receives_steady state.FinWait2 e = refl
+receives_steady _ e = absurd cc
+
+pub steady_has : (st : State) → is_steady st ≡ true → has_window st ≡ true
+steady_has = steady_by (λ st. has_window st ≡ true) refl refl refl refl
+
+pub steady_timer : (st : State) (t : Timer) (now : Instant) → is_steady st ≡ true → timer_restarted st t now ≡ t
+steady_timer st t now e = steady_by (λ st. timer_restarted st t now ≡ t) refl refl refl refl st e
+
+pub steady_goes_on : (st : State) → is_steady st ≡ true → (x : View) (now : Instant) (t : Tuple) (word n : ℕ) (s : Segment) → advance_in st control.None false x now t word n s ≡ continues x
+steady_goes_on st e x now t word n s = steady_by (λ st. advance_in st control.None false x now t word n s ≡ continues x) refl refl refl refl st e
+
+pub not_listening : (st : State) → is_steady st ≡ true → st ≡ state.Listen → ⊥
 not_listening state.Listen e l = absurd cc
 not_listening state.Established e l = absurd cc
 not_listening state.CloseWait e l = absurd cc
+not_listening state.FinWait1 e l = absurd cc
 not_listening state.FinWait2 e l = absurd cc
 not_listening _ e l = absurd cc

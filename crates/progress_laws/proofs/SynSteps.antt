@@ -161,7 +161,7 @@ received_so b e now t word g bare = subst (λ o. HasTakenSyn b (timer_set (times
   fits = omega arith;
   scale = refl;
   shift = refl;
-  repeats = record { state = refl; peer = refl; timeout = refl; keep_alive = refl; una = refl; tx = refl; rx = refl; rcv = refl; window = refl; scale = refl; shift = refl; marked = refl; paused = refl; waits = NotSent (idle_moment now b.keep_alive) waits refl };
+  repeats = record { same = record { state = refl; peer = refl; timeout = refl; keep_alive = refl; una = refl; tx = refl; rx = refl; rcv = refl; window = refl; scale = refl; shift = refl; paused = refl }; marked = refl; waits = NotSent (idle_moment now b.keep_alive) waits refl };
   due = λ now. tt;
 })
   where

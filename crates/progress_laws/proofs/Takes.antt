@@ -28,13 +28,12 @@ use Rattle.progress_laws.proofs.Edges.{cut_at, is_not_before, later_stays, old_o
 use Rattle.progress_laws.proofs.Hears.{HeardAs, IsData, IsNoDuplicate, data_is_said, IsOpenTimer, answered_outside, covered, heard_as, bytes_no_duplicate, heard_again, heard_inside, heard_open, heard_rests, seen}
 use Rattle.progress_laws.proofs.Learns.{idle_rests}
 use Rattle.progress_laws.proofs.Receives.{start_is}
-use Rattle.progress_laws.proofs.States.{is_flat, not_listening}
+use Rattle.progress_laws.proofs.States.{is_steady, not_listening}
 use Rattle.progress_laws.proofs.Taking.{at_once, blank, blank_holds_nothing, read_bytes, read_held, take_all, taken_bytes, taken_held}
 
--- w takes bytes, in ESTABLISHED or FIN-WAIT-2, and has read all, with room for so many bytes. Its peer acknowledges all that it sent, n bytes of
--- its queue, by k
+-- w takes bytes, and has read all, with room for so many bytes. Its peer acknowledges n bytes of its queue, by k
 pub record IsCaughtUp (w : View) (k : TcpSeqNumber) (n room : ℕ) : Type 0 where
-  pub state : is_flat w.state ≡ true
+  pub state : is_steady w.state ≡ true
   pub takes : receives w.state ≡ true
   pub una_small : w.local_seq_no.0 < 2 ^ 32
   pub short : length w.tx_buffer.bytes ≤ 2 ^ 30

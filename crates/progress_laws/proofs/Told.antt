@@ -26,7 +26,7 @@ module _ (d : Option Duration) (t s : Tuple) (v w x w' : View) (now : Instant) (
   number = tell.number ∙ i.back
 
   own : next_ack x ≡ next_ack v
-  own = (λ j. seq_add (wait.rcv j) (length ((wait.rx j).bytes)))
+  own = (λ j. seq_add (wait.same.rcv j) (length ((wait.same.rx j).bytes)))
 
   some : 0 < g.window_len * 2 ^ scale_of v.remote_win_scale
   some = subst (λ m. 0 < g.window_len * 2 ^ m) (sym i.scale) tell.some
@@ -43,15 +43,15 @@ module _ (d : Option Duration) (t s : Tuple) (v w x w' : View) (now : Instant) (
   pub in_step_again : InStep d t s heard_view w'
   in_step_again =
       let h = learns.heard in
-      let keep = wait.keep_alive ∙ i.sender.keep_alive in
-      let scale : scale_of x.remote_win_scale ≡ w.remote_win_shift = ap scale_of wait.scale ∙ i.scale in
-      let own_then : next_ack heard_view ≡ next_ack v = (λ j. seq_add ((h.rcv ∙ wait.rcv) j) (length (((h.rx ∙ wait.rx) j).bytes))) in
+      let keep = wait.same.keep_alive ∙ i.sender.keep_alive in
+      let scale : scale_of x.remote_win_scale ≡ w.remote_win_shift = ap scale_of wait.same.scale ∙ i.scale in
+      let own_then : next_ack heard_view ≡ next_ack v = (λ j. seq_add ((h.rcv ∙ wait.same.rcv) j) (length (((h.rx ∙ wait.same.rx) j).bytes))) in
       record {
         sender = record {
           reached = learns.reached;
-          state = ap may_send (h.state ∙ wait.state) ∙ i.sender.state;
-          peer = h.peer ∙ wait.peer ∙ i.sender.peer;
-          no_timeout = h.timeout ∙ wait.timeout ∙ i.sender.no_timeout;
+          state = ap may_send (h.state ∙ wait.same.state) ∙ i.sender.state;
+          peer = h.peer ∙ wait.same.peer ∙ i.sender.peer;
+          no_timeout = h.timeout ∙ wait.same.timeout ∙ i.sender.no_timeout;
           keep_alive = h.keep_alive ∙ keep;
           nothing_marked = h.marked ∙ wait.nothing_marked;
           rests = idle_rests learns.view now d (learns.timer ∙ ap (idle_from now) keep) learns.nothing_in_flight learns.window;

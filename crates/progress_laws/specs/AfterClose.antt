@@ -6,7 +6,7 @@ use Rattle.control_wire.specs.Seq.{seq_add, seq_sub}
 use Rattle.sock_core.specs.Bounds.{IsMtu}
 use Rattle.sock_core.specs.Facts.{Facts}
 use Rattle.sock_tcp.specs.Due.{is_closing}
-use Rattle.sock_tcp.specs.Queues.{recv_check}
+use Rattle.sock_tcp.specs.Queues.{receives, recv_check}
 use Rattle.sock_tcp.specs.View.{View}
 use Rattle.sock_tcp.specs.Window.{next_ack}
 use Rattle.sock_tcp.specs.declared.error.RecvError.TheVariants as recv_error
@@ -14,7 +14,7 @@ use Rattle.sock_tcp.specs.declared.timer.Timer.TheVariants as timer
 use Rattle.sock_tcp.specs.declared.tuple.Tuple.{Tuple}
 use Rattle.tcp_laws.specs.Polling.{IsReached}
 use Rattle.progress_laws.specs.BothWays.{Toward, window_told}
-use Rattle.progress_laws.specs.InStep.{Moves, Rests, takes_bytes}
+use Rattle.progress_laws.specs.InStep.{Moves, Rests}
 
 -- ---- the two sides
 
@@ -29,12 +29,12 @@ pub record IsCloser (d : Option Duration) (t : Tuple) (v : View) : Type 0 where
   pub nothing_marked : v.pending_fast_retransmit ≡ false
   pub rests : Rests v
 
--- The receiver w is what some list of calls makes of a new socket. It is in ESTABLISHED or FIN-WAIT-2, whatever it has
--- to send, and not in the timer of TIME-WAIT. All that it took was read, and it holds nothing. It has room for so many
--- bytes, at least for one unit of its window field
+-- The receiver w is what some list of calls makes of a new socket. It is in ESTABLISHED, FIN-WAIT-1 or FIN-WAIT-2,
+-- whatever it has to send, and not in the timer of TIME-WAIT. All that it took was read, and it holds nothing. It has
+-- room for so many bytes, at least for one unit of its window field
 pub record IsTaker (w : View) : Type 0 where
   pub reached : IsReached w
-  pub state : takes_bytes w.state ≡ true
+  pub state : receives w.state ≡ true
   pub timer : (at : Instant) → w.timer ≡ timer.Close at → ⊥
   pub read : w.rx_buffer.bytes ≡ []
   pub room : ℕ
@@ -42,7 +42,8 @@ pub record IsTaker (w : View) : Type 0 where
   pub room_at_least : 2 ^ w.remote_win_shift ≤ room
 
 -- The sender knows a window above 0 (`Toward`). They agree on the numbers of w's stream, too: v took so many bytes of
--- its queue. SND.NXT of w is RCV.NXT of v, or lies in the window that v tells now
+-- its queue, and has not counted a FIN of w that waits for its acknowledgement. SND.NXT of w is RCV.NXT of v, or lies
+-- in the window that v tells now
 pub record AfterClose (d : Option Duration) (t : Tuple) (v w : View) : Type 0 where
   pub sender : IsCloser d t v
   pub receiver : IsTaker w

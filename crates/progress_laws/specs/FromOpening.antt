@@ -50,18 +50,23 @@ pub record OpensInStep (t : Tuple) (f : Facts) (now : Instant) (word : ℕ) (a b
   pub new : StandNew a.keep_alive b.keep_alive t f (capacity a.tx_buffer) (capacity b.tx_buffer) handshake.ack.here
       handshake.ack.across
 
--- The call of `connect` has found the endpoints t, in a context g; the port that is listened on is not 0
+-- The call of `connect` has found the endpoints t, in a context g, and the port that is listened on is not 0. What they
+-- do then is in a context f that has both addresses
+pub record AreOpened (t : Tuple) (f g : Facts) (number word : ℕ) (a b : View) (remote : IpEndpoint)
+    (local e : IpListenEndpoint) : Type 0 where
+  pub here : IsUnopened a
+  pub across : IsUnopened b
+  pub ends : endpoints a g remote local ≡ Ok t
+  pub port : 0 < e.port
+  pub has_local : f.has_address t.local.addr ≡ true
+  pub has_remote : f.has_address t.remote.addr ≡ true
+  pub number_small : number < 2 ^ 32
+  pub word_small : word < 2 ^ 32
+
 abbrev pub HandshakeBringsInStep : Type 0
 HandshakeBringsInStep = (t : Tuple) (f g : Facts) (now : Instant) (number word : ℕ) (a b : View) (remote : IpEndpoint)
     (local e : IpListenEndpoint)
-    → IsUnopened a
-    → IsUnopened b
-    → endpoints a g remote local ≡ Ok t
-    → 0 < e.port
-    → f.has_address t.local.addr ≡ true
-    → f.has_address t.remote.addr ≡ true
-    → number < 2 ^ 32
-    → word < 2 ^ 32
+    → AreOpened t f g number word a b remote local e
     → OpensInStep t f now word a b (connected a t number) (listened b e)
 
 -- ---- to the end of both streams
@@ -100,14 +105,7 @@ pub record OpenedCompletes (t : Tuple) (f : Facts) (now : Instant) (word : ℕ) 
 abbrev pub OpenedPairCompletes : Type 0
 OpenedPairCompletes = (t : Tuple) (f g : Facts) (now : Instant) (number word : ℕ) (a b : View) (remote : IpEndpoint)
     (local e : IpListenEndpoint)
-    → IsUnopened a
-    → IsUnopened b
-    → endpoints a g remote local ≡ Ok t
-    → 0 < e.port
-    → f.has_address t.local.addr ≡ true
-    → f.has_address t.remote.addr ≡ true
-    → number < 2 ^ 32
-    → word < 2 ^ 32
+    → AreOpened t f g number word a b remote local e
     → IsMtu f.mtu
     → OpenedCompletes t f now word a b (connected a t number) (listened b e)
 
@@ -145,14 +143,7 @@ pub record OpensAgain (t : Tuple) (f : Facts) (last : Instant) (word : ℕ) (a b
 abbrev pub LostSynsComeAgain : Type 0
 LostSynsComeAgain = (t : Tuple) (f g : Facts) (at last : Instant) (number word : ℕ) (a b v : View) (remote : IpEndpoint)
     (local e : IpListenEndpoint)
-    → IsUnopened a
-    → IsUnopened b
-    → endpoints a g remote local ≡ Ok t
-    → 0 < e.port
-    → f.has_address t.local.addr ≡ true
-    → f.has_address t.remote.addr ≡ true
-    → number < 2 ^ 32
-    → word < 2 ^ 32
+    → AreOpened t f g number word a b remote local e
     → IsMtu f.mtu
     → Losses f at (connected a t number) last v
     → OpensAgain t f last word a b v (listened b e)

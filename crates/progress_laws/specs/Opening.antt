@@ -59,18 +59,23 @@ pub record Establishes (f : Facts) (now : Instant) (word : ℕ) (v w : View) : T
   pub answer : AnswersSyn f now syn.sent syn.received
 
 -- The one as `connect` leaves a socket a, with the endpoints t and this number; the other as `listen` leaves a socket
--- b, whose SYN|ACK is not paused. Both without a user timeout, at any moment, in any context that has both addresses
+-- b, which draws word as its number, and whose SYN|ACK is not paused. Both without a user timeout, in a context that has
+-- both addresses
+pub record CanMeet (t : Tuple) (f : Facts) (number word : ℕ) (a b : View) : Type 0 where
+  pub versions : SameVersion t.local.addr t.remote.addr
+  pub here : f.has_address t.local.addr ≡ true
+  pub there : f.has_address t.remote.addr ≡ true
+  pub number_small : number < 2 ^ 32
+  pub word_small : word < 2 ^ 32
+  pub no_timeout_a : a.timeout ≡ None
+  pub no_timeout_b : b.timeout ≡ None
+  pub not_paused_a : a.synack_paused ≡ false
+  pub not_paused_b : b.synack_paused ≡ false
+
+-- at any moment
 abbrev pub ListenerAnswersSyn : Type 0
 ListenerAnswersSyn = (t : Tuple) (f : Facts) (now : Instant) (number word : ℕ) (a b : View) (e : IpListenEndpoint)
-    → SameVersion t.local.addr t.remote.addr
-    → f.has_address t.local.addr ≡ true
-    → f.has_address t.remote.addr ≡ true
-    → number < 2 ^ 32
-    → word < 2 ^ 32
-    → a.timeout ≡ None
-    → b.timeout ≡ None
-    → a.synack_paused ≡ false
-    → b.synack_paused ≡ false
+    → CanMeet t f number word a b
     → Establishes f now word (connected a t number) (listened b e)
 
 -- and v dispatches its ACK next
@@ -81,15 +86,7 @@ pub record Completes (f : Facts) (now : Instant) (word : ℕ) (v w : View) : Typ
 -- As above, where the one has a keep-alive interval that is not 0, or none, and its receive buffer a place
 abbrev pub HandshakeCompletes : Type 0
 HandshakeCompletes = (t : Tuple) (f : Facts) (now : Instant) (number word : ℕ) (a b : View) (e : IpListenEndpoint)
-    → SameVersion t.local.addr t.remote.addr
-    → f.has_address t.local.addr ≡ true
-    → f.has_address t.remote.addr ≡ true
-    → number < 2 ^ 32
-    → word < 2 ^ 32
-    → a.timeout ≡ None
-    → b.timeout ≡ None
-    → a.synack_paused ≡ false
-    → b.synack_paused ≡ false
+    → CanMeet t f number word a b
     → ForSome a.keep_alive (λ d. 0 < d.micros)
     → 0 < room_of a.rx_buffer
     → room_of a.rx_buffer ≤ 2 ^ 30

@@ -2,7 +2,8 @@
 //!
 //! What to read first, in `specs`: `Wakes.antt`, when a socket is to be called again; `Speech.antt`, what it says once
 //! its timer is over; `Delivery.antt`, what such a segment moves once it is delivered; `InStep.antt`, two sockets of
-//! which one sends to the other, and what they can do in turn; `BothWays.antt`, two that both have bytes to send;
+//! which one sends to the other, and what they can do in turn; `BothWays.antt`, two that both have bytes to send, and
+//! `ShutWindows.antt`, the same where a window of 0 is known;
 //! `AfterClose.antt`, a sender that was closed; `Opening.antt`, two sockets that were opened toward each other, and
 //! `FromOpening.antt`, these to the end of both streams, whatever SYNs were lost.
 #![tactic(auto)]
@@ -92,8 +93,8 @@ pub fn sending_keeps_in_step()
 {}
 
 /// From a sender that was closed with bytes to send, in FIN-WAIT-1, CLOSING or LAST-ACK, that knows a window above 0,
-/// and a receiver in ESTABLISHED or FIN-WAIT-2 (`AfterClose`), some list of dispatches, deliveries and reads brings
-/// over all bytes, in order, and then reads answer `Finished`.
+/// and a receiver in ESTABLISHED, FIN-WAIT-1 or FIN-WAIT-2 (`AfterClose`), some list of dispatches, deliveries and reads
+/// brings over all bytes, in order, and then reads answer `Finished`.
 pub fn closed_sender_finishes()
     ensures { ClosedSenderFinishes }
 {}
