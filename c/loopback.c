@@ -116,7 +116,7 @@ static void bind_both(const struct smoltcp_udp_metadata *meta) {
     want("hop limit", smoltcp_udp_hop_limit(&client), 7);
     want("nothing to emit", smoltcp_udp_poll_at(&client, &of_a), INT64_MAX);
     want("can send", smoltcp_udp_can_send(&client), 1);
-    want("no question", smoltcp_udp_ask(&client, SMOLTCP_ASK_STATE), SMOLTCP_ERROR_RANGE);
+    want("no question", smoltcp_udp_ask(&client, SMOLTCP_ASK_IS_ACTIVE), SMOLTCP_ERROR_RANGE);
     want("null", smoltcp_udp_ask(NULL, SMOLTCP_ASK_IS_OPEN), SMOLTCP_ERROR_NULL);
 }
 

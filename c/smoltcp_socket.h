@@ -79,10 +79,10 @@ enum {
     SMOLTCP_ASK_PACKET_SEND_CAPACITY = 6, SMOLTCP_ASK_PACKET_RECV_CAPACITY = 7,
     SMOLTCP_ASK_PAYLOAD_SEND_CAPACITY = 8, SMOLTCP_ASK_PAYLOAD_RECV_CAPACITY = 9,
     SMOLTCP_ASK_IP_VERSION = 10, SMOLTCP_ASK_IP_PROTOCOL = 11,
-    SMOLTCP_ASK_STATE = 12, SMOLTCP_ASK_IS_LISTENING = 13, SMOLTCP_ASK_IS_ACTIVE = 14, SMOLTCP_ASK_HAS_WORK = 15,
-    SMOLTCP_ASK_MAY_SEND = 16, SMOLTCP_ASK_MAY_RECV = 17, SMOLTCP_ASK_SEND_CAPACITY = 18,
-    SMOLTCP_ASK_RECV_CAPACITY = 19, SMOLTCP_ASK_TIMEOUT = 20, SMOLTCP_ASK_KEEP_ALIVE = 21, SMOLTCP_ASK_ACK_DELAY = 22,
-    SMOLTCP_ASK_NAGLE_ENABLED = 23, SMOLTCP_ASK_CONGESTION_CONTROL = 24, SMOLTCP_ASK_TIMESTAMP_ENABLED = 25
+    SMOLTCP_ASK_IS_LISTENING = 12, SMOLTCP_ASK_IS_ACTIVE = 13, SMOLTCP_ASK_HAS_WORK = 14, SMOLTCP_ASK_MAY_RECV = 15,
+    SMOLTCP_ASK_SEND_CAPACITY = 16, SMOLTCP_ASK_RECV_CAPACITY = 17,
+    SMOLTCP_ASK_TIMEOUT = 18, SMOLTCP_ASK_KEEP_ALIVE = 19, SMOLTCP_ASK_ACK_DELAY = 20,
+    SMOLTCP_ASK_NAGLE_ENABLED = 21, SMOLTCP_ASK_CONGESTION_CONTROL = 22, SMOLTCP_ASK_TIMESTAMP_ENABLED = 23
 };
 
 /* The longest buffer, in bytes. */
@@ -151,6 +151,10 @@ int64_t smoltcp_tcp_connect_checked(struct smoltcp_tcp_handle *h, const struct s
 int64_t smoltcp_tcp_close_checked(struct smoltcp_tcp_handle *h);
 int64_t smoltcp_tcp_abort_checked(struct smoltcp_tcp_handle *h);
 int64_t smoltcp_tcp_ask_checked(struct smoltcp_tcp_handle *h, uint32_t what);
+int64_t smoltcp_tcp_state_checked(struct smoltcp_tcp_handle *h);
+int64_t smoltcp_tcp_may_send_checked(struct smoltcp_tcp_handle *h);
+int64_t smoltcp_tcp_can_send_checked(struct smoltcp_tcp_handle *h);
+int64_t smoltcp_tcp_can_recv_checked(struct smoltcp_tcp_handle *h);
 int64_t smoltcp_tcp_local_endpoint_checked(struct smoltcp_tcp_handle *h, struct smoltcp_endpoint *out);
 int64_t smoltcp_tcp_remote_endpoint_checked(struct smoltcp_tcp_handle *h, struct smoltcp_endpoint *out);
 int64_t smoltcp_tcp_listen_endpoint_checked(struct smoltcp_tcp_handle *h, struct smoltcp_endpoint *out);
@@ -374,7 +378,9 @@ static inline int64_t smoltcp_tcp_commit(struct smoltcp_tcp *s, size_t count) {
 
 /* The state, as above. */
 static inline int64_t smoltcp_tcp_state(struct smoltcp_tcp *s) {
-    return smoltcp_tcp_ask(s, SMOLTCP_ASK_STATE);
+    struct smoltcp_tcp_handle h = {(uint8_t *)s};
+    if (!s) return SMOLTCP_ERROR_NULL;
+    return smoltcp_tcp_state_checked(&h);
 }
 
 /* 1 where the socket waits for a peer, else 0. */
@@ -399,7 +405,9 @@ static inline int64_t smoltcp_tcp_has_work(struct smoltcp_tcp *s) {
 
 /* 1 where the state lets bytes be sent, else 0. */
 static inline int64_t smoltcp_tcp_may_send(struct smoltcp_tcp *s) {
-    return smoltcp_tcp_ask(s, SMOLTCP_ASK_MAY_SEND);
+    struct smoltcp_tcp_handle h = {(uint8_t *)s};
+    if (!s) return SMOLTCP_ERROR_NULL;
+    return smoltcp_tcp_may_send_checked(&h);
 }
 
 /* 1 where bytes may come or are there, else 0. */
@@ -409,12 +417,16 @@ static inline int64_t smoltcp_tcp_may_recv(struct smoltcp_tcp *s) {
 
 /* 1 where send would take at least one byte, else 0. */
 static inline int64_t smoltcp_tcp_can_send(struct smoltcp_tcp *s) {
-    return smoltcp_tcp_ask(s, SMOLTCP_ASK_CAN_SEND);
+    struct smoltcp_tcp_handle h = {(uint8_t *)s};
+    if (!s) return SMOLTCP_ERROR_NULL;
+    return smoltcp_tcp_can_send_checked(&h);
 }
 
 /* 1 where recv would give at least one byte, else 0. */
 static inline int64_t smoltcp_tcp_can_recv(struct smoltcp_tcp *s) {
-    return smoltcp_tcp_ask(s, SMOLTCP_ASK_CAN_RECV);
+    struct smoltcp_tcp_handle h = {(uint8_t *)s};
+    if (!s) return SMOLTCP_ERROR_NULL;
+    return smoltcp_tcp_can_recv_checked(&h);
 }
 
 /* How many bytes were sent and are not acknowledged. */

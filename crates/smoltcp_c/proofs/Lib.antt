@@ -3,11 +3,10 @@ mod Counts
 mod Emitting
 mod Filling
 mod Foreign
-mod Free
 mod IcmpSending
 mod Lending
+mod Lent
 mod Owned
-mod Pieces
 mod RawSending
 mod Placing
 mod Reading

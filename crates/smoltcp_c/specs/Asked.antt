@@ -8,11 +8,11 @@ use Rattle.sock_dgram.specs.Raw as raw
 use Rattle.sock_dgram.specs.Udp as udp
 use Rattle.sock_tcp.specs.Opening.{is_active, is_listening, is_open}
 use Rattle.sock_tcp.specs.Queue.{capacity}
-use Rattle.sock_tcp.specs.Queues.{can_recv, can_send, may_recv, may_send}
+use Rattle.sock_tcp.specs.Queues.{may_recv}
 use Rattle.sock_tcp.specs.Settings.{kind_of}
 use Rattle.sock_tcp.specs.View.{View}
 use Rattle.sock_tcp.specs.Work.{has_work}
-use Rattle.smoltcp_c.specs.Answers.{error_range, flag_answer, state_answer}
+use Rattle.smoltcp_c.specs.Answers.{error_range, flag_answer}
 use Rattle.smoltcp_c.specs.Raw.{protocol_told, version_told}
 use Rattle.smoltcp_c.specs.Tcp.{byte_told, kind_told, micros_told}
 use Rattle.smoltcp_c.specs.declared.clock.Clock.{Clock}
@@ -46,28 +46,24 @@ raw_told n v = queues_told n v.tx_buffer v.rx_buffer
 unfoldable pub setting_told : ℕ → View → Option Clock → ℤ
 setting_told n v clock =
     if n == 5 then byte_told v.hop_limit
-    else if n == 20 then micros_told v.timeout
-    else if n == 21 then micros_told v.keep_alive
-    else if n == 22 then micros_told v.ack_delay
-    else if n == 23 then flag_answer v.nagle
-    else if n == 24 then kind_told (kind_of v.congestion_controller)
-    else if n == 25 then flag_answer (is_some clock)
+    else if n == 18 then micros_told v.timeout
+    else if n == 19 then micros_told v.keep_alive
+    else if n == 20 then micros_told v.ack_delay
+    else if n == 21 then flag_answer v.nagle
+    else if n == 22 then kind_told (kind_of v.congestion_controller)
+    else if n == 23 then flag_answer (is_some clock)
     else error_range
 
 -- a TCP socket
 unfoldable pub tcp_told : ℕ → View → Option Clock → ℤ
 tcp_told n v clock =
-    if n == 0 then flag_answer (can_send v)
-    else if n == 1 then flag_answer (can_recv v)
-    else if n == 2 then pos (length v.tx_buffer.bytes)
+    if n == 2 then pos (length v.tx_buffer.bytes)
     else if n == 3 then pos (length v.rx_buffer.bytes)
     else if n == 4 then flag_answer (is_open v.state)
-    else if n == 12 then state_answer v.state
-    else if n == 13 then flag_answer (is_listening v.state)
-    else if n == 14 then flag_answer (is_active v.state)
-    else if n == 15 then flag_answer (has_work v)
-    else if n == 16 then flag_answer (may_send v.state)
-    else if n == 17 then flag_answer (may_recv v)
-    else if n == 18 then pos (capacity v.tx_buffer)
-    else if n == 19 then pos (room_of v.rx_buffer)
+    else if n == 12 then flag_answer (is_listening v.state)
+    else if n == 13 then flag_answer (is_active v.state)
+    else if n == 14 then flag_answer (has_work v)
+    else if n == 15 then flag_answer (may_recv v)
+    else if n == 16 then pos (capacity v.tx_buffer)
+    else if n == 17 then pos (room_of v.rx_buffer)
     else setting_told n v clock

@@ -76,7 +76,7 @@ macro_rules! asks {
 // A call that has no argument but the socket.
 macro_rules! acts {
     ($($name:ident => $call:ident;)*) => {$(
-        pub fn $name(&mut self) -> i64 {
+        pub fn $name(&self) -> i64 {
             // SAFETY: C.md: socket, one call, buffers.
             unsafe { ffi::$call(&mut self.handle()) }
         }
@@ -131,19 +131,19 @@ impl<'a> Tcp<'a> {
     acts! {
         close => smoltcp_tcp_close_checked;
         abort => smoltcp_tcp_abort_checked;
+        state => smoltcp_tcp_state_checked;
+        may_send => smoltcp_tcp_may_send_checked;
+        can_send => smoltcp_tcp_can_send_checked;
+        can_recv => smoltcp_tcp_can_recv_checked;
     }
 
     asks! {
         smoltcp_tcp_ask_checked:
-        state => STATE;
         is_listening => IS_LISTENING;
         is_open => IS_OPEN;
         is_active => IS_ACTIVE;
         has_work => HAS_WORK;
-        may_send => MAY_SEND;
         may_recv => MAY_RECV;
-        can_send => CAN_SEND;
-        can_recv => CAN_RECV;
         send_queue => SEND_QUEUE;
         recv_queue => RECV_QUEUE;
         send_capacity => SEND_CAPACITY;

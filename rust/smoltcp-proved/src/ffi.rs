@@ -144,20 +144,18 @@ pub mod ask {
     pub const PAYLOAD_RECV_CAPACITY: u32 = 9;
     pub const IP_VERSION: u32 = 10;
     pub const IP_PROTOCOL: u32 = 11;
-    pub const STATE: u32 = 12;
-    pub const IS_LISTENING: u32 = 13;
-    pub const IS_ACTIVE: u32 = 14;
-    pub const HAS_WORK: u32 = 15;
-    pub const MAY_SEND: u32 = 16;
-    pub const MAY_RECV: u32 = 17;
-    pub const SEND_CAPACITY: u32 = 18;
-    pub const RECV_CAPACITY: u32 = 19;
-    pub const TIMEOUT: u32 = 20;
-    pub const KEEP_ALIVE: u32 = 21;
-    pub const ACK_DELAY: u32 = 22;
-    pub const NAGLE_ENABLED: u32 = 23;
-    pub const CONGESTION_CONTROL: u32 = 24;
-    pub const TIMESTAMP_ENABLED: u32 = 25;
+    pub const IS_LISTENING: u32 = 12;
+    pub const IS_ACTIVE: u32 = 13;
+    pub const HAS_WORK: u32 = 14;
+    pub const MAY_RECV: u32 = 15;
+    pub const SEND_CAPACITY: u32 = 16;
+    pub const RECV_CAPACITY: u32 = 17;
+    pub const TIMEOUT: u32 = 18;
+    pub const KEEP_ALIVE: u32 = 19;
+    pub const ACK_DELAY: u32 = 20;
+    pub const NAGLE_ENABLED: u32 = 21;
+    pub const CONGESTION_CONTROL: u32 = 22;
+    pub const TIMESTAMP_ENABLED: u32 = 23;
 }
 
 // SAFETY: the names, arguments and widths are those of c/smoltcp_socket.h, with which `live/rust` compares them, and
@@ -165,6 +163,10 @@ pub mod ask {
 unsafe extern "C" {
     pub safe fn smoltcp_sizes_checked(out: &mut Sizes) -> i64;
     pub fn smoltcp_tcp_ask_checked(h: &mut TcpHandle, what: u32) -> i64;
+    pub fn smoltcp_tcp_state_checked(h: &mut TcpHandle) -> i64;
+    pub fn smoltcp_tcp_may_send_checked(h: &mut TcpHandle) -> i64;
+    pub fn smoltcp_tcp_can_send_checked(h: &mut TcpHandle) -> i64;
+    pub fn smoltcp_tcp_can_recv_checked(h: &mut TcpHandle) -> i64;
     pub fn smoltcp_tcp_close_checked(h: &mut TcpHandle) -> i64;
     pub fn smoltcp_tcp_abort_checked(h: &mut TcpHandle) -> i64;
     pub fn smoltcp_tcp_init_checked(room: &mut TcpHandle, rx: Bytes, tx: Bytes) -> i64;

@@ -1,5 +1,4 @@
-use Rattle.std.proofs.Common.{◌≡◌, ap, is_some, true, false, refl, rules, ◌∙◌, to_z, of_z, w64}
-use Rattle.sock_core.specs.declared.context.PollAt.{PollAt}
+use Rattle.std.proofs.Common.{◌≡◌, is_some, true, false, refl, rules, ◌∙◌, to_z, of_z, w64}
 use Rattle.sock_tcp.specs.Poll.{poll_moment}
 use Rattle.smoltcp_c.specs.Context.{facts_in}
 use Rattle.smoltcp_c.specs.Packets.{poll_answer, poll_written}
@@ -15,6 +14,6 @@ returns-clause-told c =
     let e : to_z w64 (of_z w64 c.told.result) ≡ c.told.result = search rules in
     record {
       context = λ f. let no : true ≡ false = c.in-Some.ensures.range ∙ f in absurd cc;
-      answer = λ t. e ∙ c.told.ensures.answer ∙ ap poll_answer poll;
-      written = λ t. c.told.ensures.written ∙ ap (λ (x : PollAt). poll_written x c.args.cx.now.now c.args.at.now) poll;
+      answer = λ t. e ∙ c.told.ensures.answer ∙ (λ i. poll_answer (poll i));
+      written = λ t. c.told.ensures.written ∙ (λ i. poll_written (poll i) c.args.cx.now.now c.args.at.now);
     }

@@ -1,6 +1,6 @@
 use Rattle.std.proofs.Common.{◌≡◌, pos, ◌^◌, min, rules, subst, sym, to_z, w64}
 use Rattle.smoltcp_c.specs.Streams.{LendsFree}
-use Rattle.smoltcp_c.proofs.Free.{reserved}
+use Rattle.smoltcp_c.proofs.Lent.{reserved}
 use Rattle.smoltcp_c.proofs.streams.reserved.Goals as goal
 
 pub returns-in-Ok-clause-table : goal.returns-in-Ok-clause-table

@@ -1,18 +1,42 @@
--- What a socket lends of its free places.
-use Rattle.std.proofs.Common.{◌≡◌, ℕ, pos, ◌<◌, ◌^◌, min, Bool, true, false, List, [], length, refl, sym, ap, ◌∙◌, arith}
-use Rattle.std.specs.Prelude.{Ok, nat_le, if◌then◌else◌}
+-- What a socket lends of its queues, and more than that.
+use Rattle.std.proofs.Common.{◌≡◌, ℕ, pos, ◌<◌, ◌≤◌, ◌-◌, ◌^◌, min, Bool, true, false, List, [], length, refl, sym, ap, ◌∙◌, arith, length-take}
+use Rattle.std.specs.Prelude.{Ok, nat_le, nat_lt, if◌then◌else◌}
 use Rattle.std.specs.Borrow.{MutBor}
 use Rattle.std.specs.Fn.{FnOnceReturnsAtMut, Once}
 use Rattle.std.proofs.lemmas.Bool.Decides.{nat_tests}
+use Rattle.net_base.specs.Ring.{in_one_piece}
+use Rattle.sock_core.specs.Received.{first_piece}
 use Rattle.sock_tcp.specs.Queue.{free_piece}
-use Rattle.sock_tcp.specs.Queues.{SendsWith, SendsWithIf, may_send, queued}
+use Rattle.sock_tcp.specs.Queues.{PeeksIf, SendsWith, SendsWithIf, may_recv, may_send, queued}
 use Rattle.sock_tcp.specs.View.{View}
 use Rattle.smoltcp_c.specs.Answers.{error_range}
-use Rattle.smoltcp_c.specs.Streams.{Commits, LendsFree, taken_of}
+use Rattle.smoltcp_c.specs.Streams.{Commits, Consumes, LendsFree, taken_of}
 use Rattle.smoltcp_c.specs.declared.memory.Place.{Place}
 
 differ : true ≡ false → ⊥
 differ e = absurd cc
+
+-- a piece is no longer than the queue
+piece_within : (e n : ℕ) → in_one_piece e n 0 ≤ n
+unfolding in_one_piece
+piece_within e n = by_test (nat_lt 0 e)
+  where
+    by_test : (b : Bool) → (if b then min n e else n) - 0 ≤ n
+    by_test true = omega arith
+    by_test false = omega arith
+
+pub beyond_queue : (v : View) (n : ℕ) (bs : List ℕ) → PeeksIf (may_recv v) v n (Ok bs) → length bs < n → Consumes v n error_range v
+beyond_queue v n bs h short = go (may_recv v) refl h
+  where
+    go : (b : Bool) → may_recv v ≡ b → PeeksIf b v n (Ok bs) → Consumes v n error_range v
+    go false e h = absurd h
+    go true e h = record {
+      refused = λ f. absurd (differ (sym e ∙ f));
+      beyond = λ t m. (refl, refl);
+      done = λ t le.
+          let whole : first_piece v.rx_buffer ≤ length v.rx_buffer.bytes = piece_within v.rx_buffer.until_end (length v.rx_buffer.bytes) in
+          absurd (omega (arith, short, ap length h, length-take (min n (first_piece v.rx_buffer)) v.rx_buffer.bytes, le, whole));
+    }
 
 -- no byte joins the queue
 none_queued : (v : View) (n : ℕ) (bs : List ℕ) → n ≡ 0 → queued v n bs ≡ queued v 0 []
@@ -44,8 +68,8 @@ module _ {F : Type 0} (g : Once F (MutBor (List ℕ) × Unit {0}) ((ℕ × ℕ) 
       by_test true e = absurd (differ e)
       by_test false e = refl
 
-  pub beyond : (v w : View) (there : ℕ) → there < count → SendsWith (FnOnceReturnsAtMut g f) v (Ok there) w → Commits v count error_range w
-  beyond v w there more h = go (may_send v.state) refl h
+  pub beyond_free : (v w : View) (there : ℕ) → there < count → SendsWith (FnOnceReturnsAtMut g f) v (Ok there) w → Commits v count error_range w
+  beyond_free v w there more h = go (may_send v.state) refl h
     where
       go : (b : Bool) → may_send v.state ≡ b → SendsWithIf b (FnOnceReturnsAtMut g f) v (Ok there) w → Commits v count error_range w
       go false e h = absurd h
