@@ -20,6 +20,34 @@ use smoltcp_socket::wire::{
 use smoltcp_socket::{Context, tcp, udp};
 use std::alloc::{AllocError, Global};
 
+// The echo reply to an echo request, with the header that takes it back; none to any other message.
+macro_rules! echo_reply {
+    ($Header:ident, $Message:ident, $protocol:expr, $ip:expr, $message:expr) => {
+        match *$message {
+            $Message::EchoRequest {
+                ident,
+                seq_no,
+                body,
+            } => {
+                let reply = $Message::EchoReply {
+                    ident,
+                    seq_no,
+                    body,
+                };
+                let header = $Header {
+                    src_addr: $ip.dst_addr,
+                    dst_addr: $ip.src_addr,
+                    next_header: $protocol,
+                    payload_len: reply.buffer_len(),
+                    hop_limit: 64,
+                };
+                Some((header, reply))
+            }
+            _ => None,
+        }
+    };
+}
+
 // The broadcast to every host on the wire (RFC 919).
 const ALL: IpAddress = IpAddress::Ipv4(Ipv4Address([255, 255, 255, 255]));
 
@@ -283,52 +311,16 @@ impl Host<'_> {
 
     // A ping is answered with what it carries (RFC 792).
     fn answer_v4(&mut self, ip: &Ipv4Repr, repr: &Icmpv4Repr<'_>) {
-        let Icmpv4Repr::EchoRequest {
-            ident,
-            seq_no,
-            body,
-        } = *repr
-        else {
-            return;
-        };
-        let reply = Icmpv4Repr::EchoReply {
-            ident,
-            seq_no,
-            body,
-        };
-        let ip = Ipv4Repr {
-            src_addr: ip.dst_addr,
-            dst_addr: ip.src_addr,
-            next_header: IpProtocol::Icmp,
-            payload_len: reply.buffer_len(),
-            hop_limit: 64,
-        };
-        let _ = emit_icmpv4(&mut self.interface, &ip, &reply);
+        if let Some((ip, reply)) = echo_reply!(Ipv4Repr, Icmpv4Repr, IpProtocol::Icmp, ip, repr) {
+            let _ = emit_icmpv4(&mut self.interface, &ip, &reply);
+        }
     }
 
     // The same over IPv6 (RFC 4443, section 4.2).
     fn answer_v6(&mut self, ip: &Ipv6Repr, repr: &Icmpv6Repr<'_>) {
-        let Icmpv6Repr::EchoRequest {
-            ident,
-            seq_no,
-            body,
-        } = *repr
-        else {
-            return;
-        };
-        let reply = Icmpv6Repr::EchoReply {
-            ident,
-            seq_no,
-            body,
-        };
-        let ip = Ipv6Repr {
-            src_addr: ip.dst_addr,
-            dst_addr: ip.src_addr,
-            next_header: IpProtocol::Icmpv6,
-            payload_len: reply.buffer_len(),
-            hop_limit: 64,
-        };
-        let _ = emit_icmpv6(&mut self.interface, &ip, &reply);
+        if let Some((ip, reply)) = echo_reply!(Ipv6Repr, Icmpv6Repr, IpProtocol::Icmpv6, ip, repr) {
+            let _ = emit_icmpv6(&mut self.interface, &ip, &reply);
+        }
     }
 }
 

@@ -6,10 +6,12 @@
 pub mod client;
 pub mod server;
 
+use crate::context::Interface;
+use crate::host::Host;
 use crate::trace::Trace;
-use smoltcp_socket::tcp;
 use smoltcp_socket::tcp::State;
 use smoltcp_socket::wire::{IpListenEndpoint, IpProtocol};
+use smoltcp_socket::{Socket, tcp};
 use std::alloc::AllocError;
 use std::fmt::Write;
 
@@ -30,6 +32,29 @@ const READ: usize = 256;
 
 // How many packets may wait in a datagram socket.
 const PLACES: usize = 4;
+
+/// What runs on a host.
+pub trait Application {
+    /// Uses one of the host's sockets.
+    fn use_socket(
+        &mut self,
+        socket: &mut Socket<'_>,
+        interface: &Interface,
+        trace: &mut Trace,
+    ) -> Result<(), AllocError>;
+}
+
+/// Asks an application: it uses the sockets of its host.
+pub fn ask<A: Application>(
+    application: &mut A,
+    host: &mut Host<'_>,
+    trace: &mut Trace,
+) -> Result<(), AllocError> {
+    for entry in &mut host.sockets {
+        application.use_socket(&mut entry.socket, &host.interface, trace)?;
+    }
+    Ok(())
+}
 
 // A port, at every address of the host.
 fn port(port: u16) -> IpListenEndpoint {

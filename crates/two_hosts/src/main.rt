@@ -17,7 +17,7 @@ mod wire;
 
 use crate::applications::client::Client;
 use crate::applications::server::Server;
-use crate::applications::{client, server};
+use crate::applications::{ask, client, server};
 use crate::context::{A, B, take_outbox};
 use crate::fault::Fault;
 use crate::host::Host;
@@ -235,8 +235,8 @@ impl Simulation<'_> {
     }
 
     fn run_applications(&mut self) -> Result<(), AllocError> {
-        self.client.run(&mut self.a, &mut self.trace)?;
-        self.server.run(&mut self.b, &mut self.trace)
+        ask(&mut self.client, &mut self.a, &mut self.trace)?;
+        ask(&mut self.server, &mut self.b, &mut self.trace)
     }
 
     fn deliver(&mut self, packet: &Packet) -> Result<(), AllocError> {

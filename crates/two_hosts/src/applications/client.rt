@@ -1,6 +1,8 @@
 //! The client on host a.
 
-use super::{ECHO_PORT, EXPERIMENT, NAME_PORT, PING_IDENT, PLACES, READ, note_state, port};
+use super::{
+    Application, ECHO_PORT, EXPERIMENT, NAME_PORT, PING_IDENT, PLACES, READ, note_state, port,
+};
 use crate::context::{A, B, Interface};
 use crate::host::Host;
 use crate::memory::Memory;
@@ -77,6 +79,25 @@ pub struct Client {
     raw_sent: bool,
 }
 
+impl Application for Client {
+    fn use_socket(
+        &mut self,
+        socket: &mut Socket<'_>,
+        interface: &Interface,
+        trace: &mut Trace,
+    ) -> Result<(), AllocError> {
+        match socket {
+            Socket::Tcp(socket) => self.run_tcp(socket, interface, trace),
+            Socket::Udp(socket) => self.ask_name(socket, interface, trace),
+            Socket::Icmp(socket) => self.ping(socket, interface, trace),
+            Socket::Raw(socket) => {
+                self.send_raw(socket);
+                Ok(())
+            }
+        }
+    }
+}
+
 impl Client {
     /// A client that has not begun.
     pub fn new(alloc: Global) -> Client {
@@ -105,31 +126,6 @@ impl Client {
             next = next.min(moment(self.next_piece));
         }
         next
-    }
-
-    /// Lets the client use the sockets of its host.
-    pub fn run(&mut self, host: &mut Host<'_>, trace: &mut Trace) -> Result<(), AllocError> {
-        for entry in &mut host.sockets {
-            self.use_socket(&mut entry.socket, &host.interface, trace)?;
-        }
-        Ok(())
-    }
-
-    fn use_socket(
-        &mut self,
-        socket: &mut Socket<'_>,
-        interface: &Interface,
-        trace: &mut Trace,
-    ) -> Result<(), AllocError> {
-        match socket {
-            Socket::Tcp(socket) => self.run_tcp(socket, interface, trace),
-            Socket::Udp(socket) => self.ask_name(socket, interface, trace),
-            Socket::Icmp(socket) => self.ping(socket, interface, trace),
-            Socket::Raw(socket) => {
-                self.send_raw(socket);
-                Ok(())
-            }
-        }
     }
 
     // Sends the text, reads what comes back, and closes when all of it is there.

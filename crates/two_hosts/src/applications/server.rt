@@ -1,6 +1,8 @@
 //! The servers on host b.
 
-use super::{ECHO_PORT, EXPERIMENT, NAME_PORT, PING_IDENT, PLACES, READ, note_state, port};
+use super::{
+    Application, ECHO_PORT, EXPERIMENT, NAME_PORT, PING_IDENT, PLACES, READ, note_state, port,
+};
 use crate::context::Interface;
 use crate::host::Host;
 use crate::memory::Memory;
@@ -32,22 +34,7 @@ pub struct Server {
     state: State,
 }
 
-impl Server {
-    /// Servers that wait.
-    pub fn new() -> Server {
-        Server {
-            state: State::Listen,
-        }
-    }
-
-    /// Lets the servers use the sockets of their host.
-    pub fn run(&mut self, host: &mut Host<'_>, trace: &mut Trace) -> Result<(), AllocError> {
-        for entry in &mut host.sockets {
-            self.use_socket(&mut entry.socket, &host.interface, trace)?;
-        }
-        Ok(())
-    }
-
+impl Application for Server {
     fn use_socket(
         &mut self,
         socket: &mut Socket<'_>,
@@ -59,6 +46,15 @@ impl Server {
             Socket::Udp(socket) => tell_name(socket, interface, trace),
             Socket::Icmp(socket) => answer_pings(socket, interface),
             Socket::Raw(socket) => show_packets(socket, interface, trace),
+        }
+    }
+}
+
+impl Server {
+    /// Servers that wait.
+    pub fn new() -> Server {
+        Server {
+            state: State::Listen,
         }
     }
 
