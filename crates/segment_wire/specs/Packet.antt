@@ -38,6 +38,12 @@ pub record Carried : Type 0 where
 abbrev pub carried_of : IpRepr × Bor (List ℕ) → Carried
 carried_of found = record { ip = found.0; octets = found.1.now }
 
+abbrev pub whole_v4_of : Ipv4Repr × Bor (List ℕ) → Carried
+whole_v4_of found = record { ip = header.Ipv4 found.0; octets = found.1.now }
+
+abbrev pub whole_v6_of : Ipv6Repr × Bor (List ℕ) → Carried
+whole_v6_of found = record { ip = header.Ipv6 found.0; octets = found.1.now }
+
 -- MF, the lowest of the three flags: more fragments follow (RFC 791, section 3.1)
 abbrev pub more_follow : List ℕ → Bool
 more_follow octets = slice_index octets 6 / 32 % 2 == 1

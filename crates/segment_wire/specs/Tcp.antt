@@ -1,5 +1,5 @@
 -- TCP segments as octets, written and read (RFC 9293, section 3.1).
-use Rattle.std.specs.Prelude.{ℕ, ◌+◌, ◌-◌, ◌*◌, ◌/◌, ◌%◌, ◌==◌, ◌&&◌, ◌||◌, nat_le, not, Bool, if◌then◌else◌}
+use Rattle.std.specs.Prelude.{ℕ, ◌+◌, ◌-◌, ◌*◌, ◌/◌, ◌%◌, ◌==◌, ◌&&◌, ◌||◌, nat_le, not, Bool, true, false, if◌then◌else◌}
 use Rattle.std.specs.Prelude.{List, ◌∷◌, ◌++◌, length, take, drop, slice_index, Option, Some, None, Result, Ok, Err}
 use Rattle.ip_wire.specs.Octets.{be16, be16_at, be32, be32_at}
 use Rattle.ip_wire.specs.Sum.{complement, pseudo_sum, sum_after}
@@ -105,3 +105,8 @@ tcp_parsed tested src dst octets =
 abbrev pub read_as : {R V : Type 0} → (R → V) → Result R Error → Option V
 read_as view (Ok found) = Some (view found)
 read_as view (Err e) = None
+
+-- a segment that was read into a place, where there is one
+abbrev pub filled : Bool → Segment → Option Segment
+filled true s = Some s
+filled false s = None

@@ -7,13 +7,15 @@ ghost use Rattle.ip_wire.specs.declared.protocol.IpProtocol.TheVariants.{Tcp, Ud
 ghost use Rattle.control_wire.specs.Segment.{options_len, segment_header_len, segment_of};
 ghost use Rattle.segment_wire.specs.Packet.{carried, carried_if, carried_of, carried_v4, carried_v6, is_fragment};
 ghost use Rattle.segment_wire.specs.Packet.{is_whole_v4, is_whole_v6, tcp_packet, tcp_packet_of, tcp_packet_parsed};
-ghost use Rattle.segment_wire.specs.Packet.{udp_packet, udp_packet_of, udp_packet_parsed};
-ghost use Rattle.segment_wire.specs.Tcp.{read_as};
+ghost use Rattle.segment_wire.specs.Packet.{tcp_of, udp_packet, udp_packet_of, udp_packet_parsed, whole_v4_of};
+ghost use Rattle.segment_wire.specs.Packet.{whole_v6_of, with_segment};
+ghost use Rattle.segment_wire.specs.Tcp.{filled, read_as};
 
 use crate::{tcp, udp};
 use control_wire::{TcpRepr, UdpRepr};
 use ip_wire::{
-    ChecksumCapabilities, Error, IpRepr, IpVersion, Ipv4Packet, Ipv4Repr, Ipv6Packet, Ipv6Repr,
+    ChecksumCapabilities, Error, IpAddress, IpRepr, IpVersion, Ipv4Packet, Ipv4Repr, Ipv6Packet,
+    Ipv6Repr,
 };
 
 /// Writes an IP header and a segment behind it, whose bytes the header counts.
@@ -79,6 +81,91 @@ pub fn parse_tcp<'a>(
     Ok((ip, repr))
 }
 
+/// Reads a packet, as [`parse_tcp`], into `ip` and `repr`. Whether it carries a segment: else they say nothing.
+///
+/// An answer that is handed up by value is copied at each return.
+#[tactic(auto, unfolding(crate::specs::Packet::carried))]
+pub fn read_tcp<'a>(
+    packet: &'a [u8],
+    caps: &ChecksumCapabilities,
+    ip: &mut IpRepr,
+    repr: &mut TcpRepr<'a>,
+) -> bool
+    ensures { with_segment ip.new (filled result (segment_of repr.new)) ≡ tcp_packet_parsed caps.now packet.now }
+{
+    match IpVersion::of_packet(packet) {
+        Ok(IpVersion::Ipv4) => read_v4(packet, caps, ip, repr),
+        Ok(IpVersion::Ipv6) => read_v6(packet, caps, ip, repr),
+        Err(Error) => false,
+    }
+}
+
+fn read_v4<'a>(
+    packet: &'a [u8],
+    caps: &ChecksumCapabilities,
+    ip: &mut IpRepr,
+    repr: &mut TcpRepr<'a>,
+) -> bool
+    ensures { with_segment ip.new (filled result (segment_of repr.new))
+        ≡ tcp_of (is_received caps.now.tcp) (carried_if 6 (if is_whole_v4 packet.now
+        then carried_v4 packet.now (ipv4_parsed (is_received caps.now.ipv4) packet.now) else None)) }
+{
+    let Some((header, bytes)) = whole_v4(packet, caps) else {
+        return false;
+    };
+    if u8::from(header.next_header) != 6 {
+        return false;
+    }
+    *ip = IpRepr::Ipv4(header);
+    let src = IpAddress::Ipv4(header.src_addr);
+    let dst = IpAddress::Ipv4(header.dst_addr);
+    tcp::parse_into(repr, bytes, &src, &dst, caps)
+}
+
+// The header of a whole packet, and what stands behind it.
+fn whole_v4<'a>(packet: &'a [u8], caps: &ChecksumCapabilities) -> Option<(Ipv4Repr, &'a [u8])>
+    ensures { option_map whole_v4_of result ≡ (if is_whole_v4 packet.now
+        then carried_v4 packet.now (ipv4_parsed (is_received caps.now.ipv4) packet.now) else None) }
+{
+    let packet = Ipv4Packet::new_checked(packet).ok()?;
+    if is_fragment(&packet) {
+        return None;
+    }
+    let repr = Ipv4Repr::parse(&packet, caps).ok()?;
+    Some((repr, packet.payload()))
+}
+
+fn read_v6<'a>(
+    packet: &'a [u8],
+    caps: &ChecksumCapabilities,
+    ip: &mut IpRepr,
+    repr: &mut TcpRepr<'a>,
+) -> bool
+    ensures { with_segment ip.new (filled result (segment_of repr.new))
+        ≡ tcp_of (is_received caps.now.tcp) (carried_if 6 (if is_whole_v6 packet.now
+        then carried_v6 packet.now (ipv6_parsed packet.now) else None)) }
+{
+    let Some((header, bytes)) = whole_v6(packet) else {
+        return false;
+    };
+    if u8::from(header.next_header) != 6 {
+        return false;
+    }
+    *ip = IpRepr::Ipv6(header);
+    let src = IpAddress::Ipv6(header.src_addr);
+    let dst = IpAddress::Ipv6(header.dst_addr);
+    tcp::parse_into(repr, bytes, &src, &dst, caps)
+}
+
+fn whole_v6(packet: &[u8]) -> Option<(Ipv6Repr, &[u8])>
+    ensures { option_map whole_v6_of result
+        ≡ (if is_whole_v6 packet.now then carried_v6 packet.now (ipv6_parsed packet.now) else None) }
+{
+    let packet = Ipv6Packet::new_checked(packet).ok()?;
+    let repr = Ipv6Repr::parse(&packet).ok()?;
+    Some((repr, packet.payload()))
+}
+
 /// The header of a packet, and the header and the payload of the datagram that it carries.
 ///
 /// An error where its lengths do not fit, a tested checksum of its IPv4 header fails, it is a fragment, its protocol is
@@ -129,12 +216,8 @@ fn carried_v4<'a>(packet: &'a [u8], caps: &ChecksumCapabilities) -> Option<(IpRe
     ensures { option_map carried_of result ≡ (if is_whole_v4 packet.now
         then carried_v4 packet.now (ipv4_parsed (is_received caps.now.ipv4) packet.now) else None) }
 {
-    let packet = Ipv4Packet::new_checked(packet).ok()?;
-    if is_fragment(&packet) {
-        return None;
-    }
-    let repr = Ipv4Repr::parse(&packet, caps).ok()?;
-    Some((IpRepr::Ipv4(repr), packet.payload()))
+    let (repr, bytes) = whole_v4(packet, caps)?;
+    Some((IpRepr::Ipv4(repr), bytes))
 }
 
 /// Whether a packet is a fragment, that is, whether its payload is one of several pieces of another packet's: more
@@ -152,7 +235,6 @@ fn carried_v6(packet: &[u8]) -> Option<(IpRepr, &[u8])>
     ensures { option_map carried_of result
         ≡ (if is_whole_v6 packet.now then carried_v6 packet.now (ipv6_parsed packet.now) else None) }
 {
-    let packet = Ipv6Packet::new_checked(packet).ok()?;
-    let repr = Ipv6Repr::parse(&packet).ok()?;
-    Some((IpRepr::Ipv6(repr), packet.payload()))
+    let (repr, bytes) = whole_v6(packet)?;
+    Some((IpRepr::Ipv6(repr), bytes))
 }

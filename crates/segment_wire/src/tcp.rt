@@ -6,7 +6,7 @@ ghost use Rattle.control_wire.specs.Segment.{options_len, segment_header_len, se
 ghost use Rattle.control_wire.specs.Source.{tcp_header_len};
 ghost use Rattle.segment_wire.specs.Options.{options_octets};
 ghost use Rattle.segment_wire.specs.Tcp.{ack_bit, ack_field, ack_of, control_bits, control_of, is_head, options_of};
-ghost use Rattle.segment_wire.specs.Tcp.{read_as, segment_at, tcp_checksum, tcp_header, tcp_octets, tcp_parsed};
+ghost use Rattle.segment_wire.specs.Tcp.{filled, read_as, segment_at, tcp_checksum, tcp_header, tcp_octets, tcp_parsed};
 ghost use Rattle.segment_wire.specs.Tcp.{tcp_with};
 
 use crate::options::{TcpOptions, be32_at, read_options};
@@ -76,6 +76,52 @@ pub fn parse<'a>(
         Some(options) => Ok(segment_at(bytes, &options)),
         None => Err(Error),
     }
+}
+
+/// Reads the segment that the bytes spell, as [`parse`], into `repr`. Whether there is one: else `repr` is as it was.
+///
+/// An answer that is handed up by value is copied at each return.
+pub fn parse_into<'a>(
+    repr: &mut TcpRepr<'a>,
+    bytes: &'a [u8],
+    src_addr: &IpAddress,
+    dst_addr: &IpAddress,
+    caps: &ChecksumCapabilities,
+) -> bool
+    ensures { filled result (segment_of repr.new)
+        ≡ tcp_parsed (is_received caps.now.tcp) src_addr.now dst_addr.now bytes.now }
+{
+    if !is_head(bytes) || (caps.tcp.rx() && !sum_holds(bytes, src_addr, dst_addr, 6)) {
+        return false;
+    }
+    match read_options(options_of(bytes)) {
+        Some(options) => {
+            fill(repr, bytes, &options);
+            true
+        }
+        None => false,
+    }
+}
+
+// Sets each field.
+fn fill<'a>(repr: &mut TcpRepr<'a>, bytes: &'a [u8], options: &TcpOptions)
+    requires least { 20 ≤ tcp_header_len bytes.now }
+    requires fits { tcp_header_len bytes.now ≤ length bytes.now }
+    ensures { segment_of repr.new ≡ segment_at bytes.now options.now }
+{
+    let flags = bytes[13];
+    repr.src_port = word(bytes[0], bytes[1]);
+    repr.dst_port = word(bytes[2], bytes[3]);
+    repr.control = control_of(flags);
+    repr.seq_number = TcpSeqNumber(be32_at(bytes, 4));
+    repr.ack_number = ack_of(flags, be32_at(bytes, 8));
+    repr.window_len = word(bytes[14], bytes[15]);
+    repr.window_scale = options.window_scale;
+    repr.max_seg_size = options.max_seg_size;
+    repr.sack_permitted = options.sack_permitted;
+    repr.sack_ranges = options.sack_ranges;
+    repr.timestamp = options.timestamp;
+    repr.payload = behind(bytes, (bytes[12] / 16) as usize * 4);
 }
 
 #[tactic(auto, unfolding(crate::specs::Tcp::is_head))]

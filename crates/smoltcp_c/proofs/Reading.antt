@@ -1,13 +1,12 @@
 -- What a packet carries has at most 65535 bytes, as the lengths that it states of itself have 16 bits.
 use Rattle.std.proofs.Common.{◌≡◌, ℕ, ◌+◌, ◌-◌, ◌<◌, ◌≤◌, List, Bool, true, false, Option, Some, None, sym, subst, length, drop, not, ◌&&◌, ◌||◌, arith, length-take, length-drop}
-use Rattle.std.specs.Prelude.{◌==◌, if◌then◌else◌, slice_index, IfSome, IfOk, Result, Ok, Err}
+use Rattle.std.specs.Prelude.{◌==◌, if◌then◌else◌, slice_index, IfSome, IsTrue}
 use Rattle.ip_wire.specs.Checksum.{is_received}
 use Rattle.ip_wire.specs.IpHeader.{next_header_of, src_addr_of, dst_addr_of}
 use Rattle.ip_wire.specs.Octets.{be16_at}
 use Rattle.ip_wire.specs.Packet.{ipv4_header_len, ipv4_parsed, ipv4_total_len, ipv6_parsed}
 use Rattle.ip_wire.specs.Protocol.{number_of, version_of_packet}
 use Rattle.ip_wire.specs.declared.checksum.ChecksumCapabilities.{ChecksumCapabilities}
-use Rattle.ip_wire.specs.declared.malformed.Error.{Error}
 use Rattle.ip_wire.specs.declared.protocol.IpVersion.{IpVersion}
 use Rattle.ip_wire.specs.declared.protocol.IpVersion.TheVariants as version
 use Rattle.ip_wire.specs.declared.repr.IpRepr.{IpRepr}
@@ -15,10 +14,9 @@ use Rattle.ip_wire.specs.declared.repr.Ipv4Repr.{Ipv4Repr}
 use Rattle.ip_wire.specs.declared.repr.Ipv6Repr.{Ipv6Repr}
 use Rattle.control_wire.specs.Segment.{Segment}
 use Rattle.control_wire.specs.Source.{tcp_header_len, sum_holds}
-use Rattle.control_wire.specs.declared.tcp.TcpRepr.{TcpRepr}
 use Rattle.segment_wire.specs.Options.{no_options, options_read}
-use Rattle.segment_wire.specs.Packet.{Carried, carried, carried_as, carried_v4, carried_v6, carried_if, is_whole_v4, is_whole_v6, tcp_of, tcp_packet_of, tcp_packet_parsed, with_segment, TcpPacket}
-use Rattle.segment_wire.specs.Tcp.{is_head, options_of, read_as, segment_if, tcp_parsed}
+use Rattle.segment_wire.specs.Packet.{Carried, carried, carried_as, carried_v4, carried_v6, carried_if, is_whole_v4, is_whole_v6, tcp_of, tcp_packet_parsed, with_segment, TcpPacket}
+use Rattle.segment_wire.specs.Tcp.{filled, is_head, options_of, segment_if, tcp_parsed}
 use Rattle.segment_wire.specs.declared.options.TcpOptions.{TcpOptions}
 
 abbrev Short : Option TcpPacket → Type 0
@@ -77,9 +75,6 @@ module _ (packet : List ℕ) (fits : (i : ℕ) → slice_index packet i < 256) w
   read_short : (caps : ChecksumCapabilities) → Short (tcp_packet_parsed caps packet)
   read_short caps = tcp_short (is_received caps.tcp) (carried_if 6 (carried (is_received caps.ipv4) packet)) (if_small 6 (carried (is_received caps.ipv4) packet) (carried_small (is_received caps.ipv4)))
 
-  pub found_short : (caps : ChecksumCapabilities) (found : Result (IpRepr × TcpRepr) Error) → read_as tcp_packet_of found ≡ tcp_packet_parsed caps packet → IfOk found (λ p. length p.1.payload.now ≤ 65535)
-  found_short caps found e = by_result found (subst Short (sym e) (read_short caps))
-    where
-      by_result : (found : Result (IpRepr × TcpRepr) Error) → Short (read_as tcp_packet_of found) → IfOk found (λ p. length p.1.payload.now ≤ 65535)
-      by_result (Ok p) h = h
-      by_result (Err e) h = tt
+  pub filled_short : (caps : ChecksumCapabilities) (ip : IpRepr) (s : Segment) (b : Bool) → with_segment ip (filled b s) ≡ tcp_packet_parsed caps packet → IsTrue b → length s.payload ≤ 65535
+  filled_short caps ip s true e h = subst Short (sym e) (read_short caps)
+  filled_short caps ip s false e h = absurd (cc h)

@@ -1,12 +1,12 @@
 //! The calls of a TCP socket that take and give packets.
-ghost use Rattle.std.specs.Prelude.{◌≡◌, ◌<◌, ◌≤◌, pos, [], length, None, Some, true, false, option_map, IfOk};
+ghost use Rattle.std.specs.Prelude.{◌≡◌, ◌<◌, ◌≤◌, pos, [], length, None, Some, true, false, option_map, IsTrue};
 ghost use Rattle.std.specs.Option.{ForSome};
 ghost use Rattle.ip_wire.specs.Checksum.{all_checksums};
 ghost use Rattle.ip_wire.specs.declared.checksum.Checksum.TheVariants.{Both};
 ghost use Rattle.control_wire.specs.Fits.{FitsPacket};
 ghost use Rattle.control_wire.specs.Segment.{segment_of};
-ghost use Rattle.segment_wire.specs.Packet.{TcpPacket, tcp_packet_of, tcp_packet_parsed};
-ghost use Rattle.segment_wire.specs.Tcp.{read_as};
+ghost use Rattle.segment_wire.specs.Packet.{TcpPacket, tcp_packet_parsed, with_segment};
+ghost use Rattle.segment_wire.specs.Tcp.{filled};
 ghost use Rattle.sock_tcp.specs.Process.{Accepts, generator_after, reply_of};
 ghost use Rattle.smoltcp_c.specs.Answers.{sent_answer, error_context, error_room, not_accepted};
 ghost use Rattle.smoltcp_c.specs.Context.{is_context};
@@ -20,9 +20,9 @@ use crate::context::{Cx, Moment, in_context};
 use crate::handles::TcpHandle;
 use crate::ports::has_ports;
 use crate::wire::{Full, Wire, put_packet, sent};
-use control_wire::{TcpControl, TcpRepr};
-use ip_wire::{ChecksumCapabilities, Error, IpRepr};
-use segment_wire::packet::parse_tcp;
+use control_wire::{TcpControl, TcpRepr, TcpSeqNumber};
+use ip_wire::{ChecksumCapabilities, IpProtocol, IpRepr, Ipv4Address, Ipv4Repr};
+use segment_wire::packet::read_tcp;
 use sock_tcp::{Reply, Socket};
 
 // An IPv6 header and the longest TCP header, in bytes: no reply is longer.
@@ -58,18 +58,44 @@ pub extern "C" fn smoltcp_tcp_process_checked(
     if !has_ports(h, packet) {
         return NOT_ACCEPTED;
     }
-    let Ok((ip, repr)) = read(packet) else {
+    let (mut ip, mut repr) = (NO_HEADER, NO_SEGMENT);
+    if !read(packet, &mut ip, &mut repr) {
         return NOT_ACCEPTED;
-    };
+    }
     heard(h.socket(), &moment, &ip, &repr, reply)
 }
 
-// The segment that the packet carries.
-fn read(packet: &[u8]) -> Result<(IpRepr, TcpRepr<'_>), Error>
-    ensures value { read_as tcp_packet_of result ≡ tcp_packet_parsed (all_checksums Both) packet.now }
-    ensures short { IfOk result (λ p. length p.1.payload.now ≤ 65535) }
+// What packets are read into.
+const NO_HEADER: IpRepr = IpRepr::Ipv4(Ipv4Repr {
+    src_addr: Ipv4Address([0; 4]),
+    dst_addr: Ipv4Address([0; 4]),
+    next_header: IpProtocol::Tcp,
+    payload_len: 0,
+    hop_limit: 0,
+});
+
+const NO_SEGMENT: TcpRepr<'static> = TcpRepr {
+    src_port: 0,
+    dst_port: 0,
+    control: TcpControl::None,
+    seq_number: TcpSeqNumber(0),
+    ack_number: None,
+    window_len: 0,
+    window_scale: None,
+    max_seg_size: None,
+    sack_permitted: false,
+    sack_ranges: [None, None, None],
+    timestamp: None,
+    payload: &[],
+};
+
+// Reads the segment that the packet carries. Whether it carries one.
+fn read<'a>(packet: &'a [u8], ip: &mut IpRepr, repr: &mut TcpRepr<'a>) -> bool
+    ensures value { with_segment ip.new (filled result (segment_of repr.new))
+        ≡ tcp_packet_parsed (all_checksums Both) packet.now }
+    ensures short { IsTrue result → length repr.new.payload.now ≤ 65535 }
 {
-    parse_tcp(packet, &ChecksumCapabilities::default())
+    read_tcp(packet, &ChecksumCapabilities::default(), ip, repr)
 }
 
 // Sets the socket's clock, where it has one.
@@ -201,9 +227,10 @@ pub extern "C" fn smoltcp_tcp_reset_checked(packet: &[u8], reply: &mut [u8]) -> 
     if reply.len() < LONGEST_REPLY {
         return ERROR_ROOM;
     }
-    let Ok((ip, repr)) = read(packet) else {
+    let (mut ip, mut repr) = (NO_HEADER, NO_SEGMENT);
+    if !read(packet, &mut ip, &mut repr) {
         return NOT_ACCEPTED;
-    };
+    }
     let answer = reset_of(&ip, &repr);
     put_reply(&answer, reply)
 }
