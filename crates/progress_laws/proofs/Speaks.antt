@@ -1,5 +1,5 @@
 -- What a sender in step says at the moment of its keep-alive.
-use Rattle.std.proofs.Common.{◌≡◌, ℕ, ◌⊎◌, ◌^◌, Bool, ◌-◌, ◌/◌, ◌<◌, ◌≤◌, inl, true, false, not, ◌&&◌, refl, sym, ap, subst, ◌∙◌, List, length, take, drop, min, Option, Some, None, arith}
+use Rattle.std.proofs.Common.{◌≡◌, ℕ, ◌⊎◌, ◌^◌, Bool, ◌-◌, ◌/◌, ◌<◌, ◌≤◌, inl, inr, true, false, not, ◌&&◌, refl, sym, ap, subst, ◌∙◌, List, length, take, drop, min, Option, Some, None, arith}
 use Rattle.std.proofs.lemmas.Option.{none-some}
 use Rattle.std.specs.Prelude.{if◌then◌else◌, pos}
 use Rattle.net_base.specs.Ring.{in_one_piece}
@@ -97,6 +97,11 @@ pub record SpeaksNothing (f : Facts) (v : View) : Type 0 where
   pub shift : after.remote_win_shift ≡ v.remote_win_shift
   pub untold : Untold v after
 
+-- the own window is told, with RCV.NXT
+pub record HasTold (v x : View) : Type 0 where
+  pub last_ack : x.remote_last_ack ≡ Some (next_ack v)
+  pub last_win : x.remote_last_win ≡ window_field v
+
 -- without a window nothing, or an acknowledgement; it waits for its keep-alive then, with nothing in flight
 pub record FallsSilent (f : Facts) (v : View) : Type 0 where
   pub out : Option Sending
@@ -107,6 +112,8 @@ pub record FallsSilent (f : Facts) (v : View) : Type 0 where
   pub timer : after.timer ≡ timer.Idle (Some moment)
   pub nxt : after.remote_last_seq ≡ after.local_seq_no
   pub window : after.remote_win_len ≡ v.remote_win_len
+  pub shift : after.remote_win_shift ≡ v.remote_win_shift
+  pub told : Untold v after ⊎ HasTold v after
 
 pub open_window : (c : AnyController) → IsOpen c → 0 < congestion_window c
 open_window (controller.None x) h = omega arith
@@ -202,6 +209,9 @@ module _ (d : Option Duration) (t : Tuple) (v : View) (f : Facts) (now : Instant
   ack : b.ack_number ≡ Some (next_ack v)
   ack = segment_ack u t None bytes sends nothing_marked ∙ (λ i. Some (seq_add (fr.same.rcv i) (length ((fr.same.rx i).bytes))))
 
+  told_field : b.window_len ≡ window_field v
+  told_field = segment_window u t None bytes sends nothing_marked ∙ (λ i. min (length ((fr.same.rx i).held) / 2 ^ fr.same.shift i) 65535)
+
   carries_on : carries_data u.state ≡ true
   carries_on = sends_data u.state may
 
@@ -276,9 +286,6 @@ module _ (d : Option Duration) (t : Tuple) (v : View) (f : Facts) (now : Instant
         last_win = (plain_told u t now b opens).window ∙ told_field;
       }
     where
-      told_field : b.window_len ≡ window_field v
-      told_field = segment_window u t None bytes sends nothing_marked ∙ (λ i. min (length ((fr.same.rx i).held) / 2 ^ fr.same.shift i) 65535)
-
       waits_again : (keep : Option Duration) → retransmit_unless_set (idle_from now keep) now u.rtte ≡ timer.Retransmit (moment_after now (rto_of u.rtte))
       waits_again None = refl
       waits_again (Some d) = refl
@@ -336,6 +343,8 @@ module _ (d : Option Duration) (t : Tuple) (v : View) (f : Facts) (now : Instant
             timer = kept_timer u t now b opens ∙ renewed ∙ waits_then;
             nxt = kept_nxt u t now b opens ∙ fr.nxt ∙ sym (l.same.una ∙ fr.same.una);
             window = l.same.window ∙ fr.same.window;
+            shift = l.same.shift ∙ fr.same.shift;
+            told = inl (let k = kept_untold u t now b opens in record { last_ack = k.last_ack ∙ fr.untold.last_ack; last_win = k.last_win ∙ fr.untold.last_win });
           }
       speaks due false over =
           let h = goes_out kind.Plain (without_bytes u t None bytes sends nothing_marked now no_probing none false over) due in
@@ -350,6 +359,8 @@ module _ (d : Option Duration) (t : Tuple) (v : View) (f : Facts) (now : Instant
             timer = tm ∙ waits_then;
             nxt = (plain_told u t now b opens).nxt ∙ (λ i. later_of (fr.nxt i) (seq_add (number i) (long i))) ∙ stays ∙ sym (l.same.una ∙ fr.same.una);
             window = l.same.window ∙ fr.same.window;
+            shift = l.same.shift ∙ fr.same.shift;
+            told = inr (record { last_ack = (plain_told u t now b opens).ack ∙ ack; last_win = (plain_told u t now b opens).window ∙ told_field });
           }
 
       no_moment : u.timer ≡ timer.Idle None → u.keep_alive ≡ None
@@ -366,6 +377,8 @@ module _ (d : Option Duration) (t : Tuple) (v : View) (f : Facts) (now : Instant
         timer = idle;
         nxt = fr.nxt ∙ sym fr.same.una;
         window = fr.same.window;
+        shift = fr.same.shift;
+        told = inl fr.untold;
       }
 
       by : (due : Bool) → is_due u t fa false ≡ due → FallsSilent fa v

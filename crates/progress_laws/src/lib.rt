@@ -80,9 +80,9 @@ pub fn both_ways_finish()
     ensures { BothWaysFinish }
 {}
 
-/// The same where one of them or both know a window of 0 (`BothShut`): each that does, and does not wait for an
-/// acknowledgement, asks for one with its keep-alive or its probe, and hears the answer. Then both streams come to their
-/// end.
+/// The same where one of them or both know a window of 0 (`BothShut`): each that does asks for one with its keep-alive or
+/// its probe, and hears the answer; while its retransmission timer runs it has a keep-alive interval. Then both streams
+/// come to their end.
 pub fn shut_windows_open()
     ensures { ShutWindowsOpen }
 {}
