@@ -225,7 +225,7 @@ module _ (d e : Option Duration) (t s : Tuple) (f : Facts) (at now : Instant) (s
       win = subst (λ n. 0 < n) (sym told_is) (told_some v i.here.room i.here.nothing_held i.here.room_at_least)
 
       b : Brought e s f now v w p.after (next_ack v) i.back.taken i.across.room 1 (p.out.segment.window_len * 2 ^ scale_of w.remote_win_scale) (drop 0 p.out.segment.payload)
-      b = brings_side e s f now v p.after w p.out p.speaks.dispatch i.across (next_ack v) i.back.taken (caught hears told) p.speaks.bit p.speaks.ack (omega (arith, number, v_small)) (omega (arith, one)) win 0 1 (omega (arith, number, edge, none, v_small)) (omega arith) (omega (arith, one)) (omega arith) fits (omega (arith, number, edge, none, one, v_small))
+      b = brings_side e s f now v p.after w p.out p.speaks.dispatch i.across (next_ack v) i.back.taken (caught hears told) p.speaks.bit p.speaks.ack (omega (arith, number, v_small)) (omega (arith, one)) win 0 1 (record { skips = omega (arith, number, edge, none, v_small); near = omega arith; long = omega (arith, one); some = omega arith; fits = fits; past = omega (arith, number, edge, none, one, v_small) })
 
       k : Took w (next_ack v) i.back.taken i.across.room 1 (p.out.segment.window_len * 2 ^ scale_of w.remote_win_scale) now b.view
       k = b.took
