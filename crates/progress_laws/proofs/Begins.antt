@@ -1,8 +1,9 @@
 -- How a dispatch begins once the timer is over, and what comes out of it.
-use Rattle.std.proofs.Common.{◌≡◌, ℕ, zero, suc, ◌+◌, ◌<◌, ◌≤◌, ◌^◌, ◌⊎◌, inl, inr, Bool, true, false, true≢false, ◌&&◌, refl, sym, ap, subst, ◌∙◌, List, length, Option, Some, None, arith}
+use Rattle.std.proofs.Common.{◌≡◌, ℕ, zero, suc, ◌+◌, ◌<◌, ◌≤◌, ◌^◌, ◌⊎◌, inl, inr, Bool, true, false, true≢false, ◌&&◌, refl, sym, ap, subst, ◌∙◌, List, length, take, drop, min, Option, Some, None, arith}
 use Rattle.std.specs.Prelude.{if◌then◌else◌, ◌==◌, option_map}
 use Rattle.std.proofs.lemmas.Bool.{eq-eqb, eqb-true}
 use Rattle.std.proofs.lemmas.Option.{none-some, same_Some}
+use Rattle.net_base.specs.Ring.{in_one_piece}
 use Rattle.net_base.specs.declared.time.Duration.{Duration}
 use Rattle.net_base.specs.declared.time.Instant.{Instant}
 use Rattle.ip_wire.specs.declared.repr.IpRepr.{IpRepr}
@@ -12,7 +13,7 @@ use Rattle.control_wire.specs.declared.tcp.TcpControl.{TcpControl}
 use Rattle.control_wire.specs.declared.tcp.TcpControl.TheVariants as control
 use Rattle.sock_core.specs.Facts.{Facts}
 use Rattle.sock_tcp.specs.Begin.{Begun, last_ts_set, last_ts_set_at, told_ready, readied, retransmission_begun, fast_retransmission_marked, after_timer, after_timers, is_paused, begun, begun_to, unless_paused, nothing_due, by_due, before_emit, before_emit_to}
-use Rattle.sock_tcp.specs.Content.{Sending, carries_data, content, data_control, emission_kind, filled, offset_of, plain_segment, sent_as, with_data}
+use Rattle.sock_tcp.specs.Content.{Sending, asked, carries_data, content, data_control, emission_kind, filled, offset_of, plain_segment, sent_as, with_data}
 use Rattle.sock_tcp.specs.Due.{is_closing, is_due}
 use Rattle.sock_tcp.specs.Process.{Outcome, processed}
 use Rattle.sock_tcp.specs.Polls.{is_reached, timeout_poll}
@@ -214,6 +215,10 @@ module _ (v : View) (t : Tuple) (f : Facts) (stamps : Bool) (h : GoesOn v t f) (
       by false h = absurd (none-some s (sym h.0))
 
 -- ---- what goes out
+
+-- the bytes that the transmit queue lends
+abbrev pub lent_for : View → Tuple → Facts → List ℕ
+lent_for u t f = take (min (asked u t f false) (in_one_piece u.tx_buffer.until_end (length u.tx_buffer.bytes) (offset_of u))) (drop (offset_of u) u.tx_buffer.bytes)
 
 carries : (st : State) (u : View) (p : Tuple) (f : Facts) (bytes : List ℕ) (s : Segment) → carries_data st ≡ true → filled st u p f bytes s ≡ Some (with_data u bytes s)
 carries state.Established u p f bytes s c = refl

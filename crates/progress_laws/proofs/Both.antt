@@ -22,7 +22,7 @@ use Rattle.progress_laws.specs.BothWays.{BothInStep, IsSide, window_told}
 use Rattle.progress_laws.specs.InStep.{ForAnswer, IsSender, Moves, NoMove, OneMore, told}
 use Rattle.progress_laws.proofs.Begins.{some_or_none}
 use Rattle.progress_laws.proofs.Edges.{reach_inside, same_seq}
-use Rattle.progress_laws.proofs.Receives.{unit, unit_within}
+use Rattle.progress_laws.proofs.Receives.{NewPart, new_part, unit, unit_within}
 use Rattle.progress_laws.proofs.Rounds.{cut_and_rest}
 use Rattle.progress_laws.proofs.Sides.{Brought, HearsAnswer, brings_side, caught_side, hears_answer, room_small, told_alike, told_some, wide_so, width_told}
 use Rattle.progress_laws.proofs.Speaks.{SpeaksPlain}
@@ -177,26 +177,11 @@ module _ (d e : Option Duration) (t s : Tuple) (f : Facts) (at now : Instant) (s
     within : n ≤ length v.tx_buffer.bytes
     within = i.over.taken_within
 
-    skips : seq_sub (next_ack w) out.segment.seq_number ≡ n
-    skips = omega (arith, number_is, edge, v_small, within, queue_short)
-
-    close : n < 2 ^ 31
-    close = omega (arith, within, queue_short)
-
-    long : size ≡ n + m
-    long = omega (arith, new)
-
-    some : 0 < m
-    some = omega (arith, new)
-
-    fits : m ≤ seq_sub (receive_window w).end (receive_window w).start
-    fits = omega (arith, p.fits, i.over.window, new)
-
-    past : seq_sub (seq_add out.segment.seq_number size) (next_ack w) ≡ m
-    past = omega (arith, number_is, edge, v_small, within, p.bytes.queued, queue_short, new)
+    np : NewPart w out.segment n m
+    np = new_part w out.segment v.local_seq_no n (length v.tx_buffer.bytes) number_is edge v_small within p.bytes.queued queue_short new (omega (arith, p.fits, i.over.window))
 
     b : Brought e s f now v w x (next_ack v) i.back.taken i.across.room m (out.segment.window_len * 2 ^ scale_of w.remote_win_scale) (drop n out.segment.payload)
-    b = brings_side e s f now v x w out p.bytes.speaks.dispatch i.across (next_ack v) i.back.taken caught p.bytes.speaks.bit p.bytes.speaks.ack (omega (arith, number_is, v_small)) p.short told_there n m skips close long some fits past
+    b = brings_side e s f now v x w out p.bytes.speaks.dispatch i.across (next_ack v) i.back.taken caught p.bytes.speaks.bit p.bytes.speaks.ack (omega (arith, number_is, v_small)) p.short told_there n m np
 
     abbrev w2 : View
     w2 = b.view
@@ -235,7 +220,7 @@ module _ (d e : Option Duration) (t s : Tuple) (f : Facts) (at now : Instant) (s
           there = same_seq (next_ack w2) (seq_add x.local_seq_no size) (omega (arith, k.next, edge, new, v_small, ap (λ (q : TcpSeqNumber). q.0) p.bytes.speaks.waits.same.una));
           scale = ap scale_of p.bytes.speaks.waits.same.scale ∙ i.over.scale ∙ sym k.shift;
           some = subst (λ q. 0 < q) (sym p.window) i.over.some;
-          window = omega (arith, p.window, i.over.window, new, width_kept w w2 m i.across.room wide_w wide_w2 narrow_w k.last_ack k.last_win k.shift k.next fits);
+          window = omega (arith, p.window, i.over.window, new, width_kept w w2 m i.across.room wide_w wide_w2 narrow_w k.last_ack k.last_win k.shift k.next np.fits);
           at_most = omega (arith, p.window, i.over.at_most, told_w2);
         };
         back = record {

@@ -47,7 +47,7 @@ use Rattle.progress_laws.proofs.Edges.{empty_inside_so, later_all, reach_inside,
 use Rattle.progress_laws.proofs.Hears.{ForNone, ForRest, HeardAs, IsOpenTimer, ThenWaits, heard_as, heard_waits}
 use Rattle.progress_laws.proofs.LastBytes.{TookLast, took_last}
 use Rattle.progress_laws.proofs.Learns.{idle_rests}
-use Rattle.progress_laws.proofs.Receives.{unit, unit_within}
+use Rattle.progress_laws.proofs.Receives.{NewPart, new_part, unit, unit_within}
 use Rattle.progress_laws.proofs.Rounds.{cut_and_rest}
 use Rattle.progress_laws.proofs.Spoken.{IsSaid}
 use Rattle.progress_laws.proofs.States.{closing_carries, not_listening as steady_listens, receives_steady}
@@ -326,23 +326,8 @@ module _ (d : Option Duration) (t : Tuple) (f : Facts) (at now : Instant) (since
       within : n ≤ length v.tx_buffer.bytes
       within = i.over.taken_within
 
-      skips : seq_sub (next_ack w) out.segment.seq_number ≡ n
-      skips = omega (arith, number_is, edge, v_small, within, queue_short)
-
-      close : n < 2 ^ 31
-      close = omega (arith, within, queue_short)
-
-      long : size ≡ n + m
-      long = omega (arith, new)
-
-      some : 0 < m
-      some = omega (arith, new)
-
-      fits : m ≤ seq_sub (receive_window w).end (receive_window w).start
-      fits = omega (arith, p.fits, i.over.window, new)
-
-      past : seq_sub (seq_add out.segment.seq_number size) (next_ack w) ≡ m
-      past = omega (arith, number_is, edge, v_small, within, p.queued, queue_short, new)
+      np : NewPart w out.segment n m
+      np = new_part w out.segment v.local_seq_no n (length v.tx_buffer.bytes) number_is edge v_small within p.queued queue_short new (omega (arith, p.fits, i.over.window))
 
       -- the last of it, with the FIN
       last : size ≡ length v.tx_buffer.bytes → BringsAll d t f at v w got i
@@ -361,7 +346,7 @@ module _ (d : Option Duration) (t : Tuple) (f : Facts) (at now : Instant) (since
           ys = drop n out.segment.payload
 
           k : TookLast ys o
-          k = took_last w (next_ack v) faces i.receiver.room i.receiver.read i.receiver.nothing_held now out.ip out.segment (p.fin all) p.ack n m (omega (arith, number_is, v_small)) skips close long some fits past i.receiver.state
+          k = took_last w (next_ack v) faces i.receiver.room i.receiver.read i.receiver.nothing_held now out.ip out.segment (p.fin all) p.ack n m (omega (arith, number_is, v_small)) np i.receiver.state
 
           whole : ys ≡ drop n v.tx_buffer.bytes
           whole = ap (drop n) (p.first ∙ ap (λ q. take q v.tx_buffer.bytes) all ∙ take_all v.tx_buffer.bytes)
@@ -385,28 +370,28 @@ module _ (d : Option Duration) (t : Tuple) (f : Facts) (at now : Instant) (since
         }
 
         abbrev ys : List ℕ
-        ys = fresh_bytes w (next_ack v) i.heard i.receiver.room now out.ip out.segment caught (p.plain less) p.ack n m skips close long some fits past
+        ys = fresh_bytes w (next_ack v) i.heard i.receiver.room now out.ip out.segment caught (p.plain less) p.ack n m np
 
         abbrev w1 : View
-        w1 = took w (next_ack v) i.heard i.receiver.room now out.ip out.segment caught (p.plain less) p.ack n m skips close long some fits past
+        w1 = took w (next_ack v) i.heard i.receiver.room now out.ip out.segment caught (p.plain less) p.ack n m np
 
         abbrev w2 : View
         w2 = read_off w1 (length ys)
 
         takes_it : processed w now 0 out.ip out.segment ≡ record { view = w1; reply = None }
-        takes_it = takes w (next_ack v) i.heard i.receiver.room now out.ip out.segment caught (p.plain less) p.ack n m skips close long some fits past
+        takes_it = takes w (next_ack v) i.heard i.receiver.room now out.ip out.segment caught (p.plain less) p.ack n m np
 
         bytes : w1.rx_buffer.bytes ≡ ys
-        bytes = took_bytes w (next_ack v) i.heard i.receiver.room now out.ip out.segment caught (p.plain less) p.ack n m skips close long some fits past
+        bytes = took_bytes w (next_ack v) i.heard i.receiver.room now out.ip out.segment caught (p.plain less) p.ack n m np
 
         k : Took w (next_ack v) i.heard i.receiver.room m (out.segment.window_len * 2 ^ scale_of w.remote_win_scale) now w2
-        k = took_so w (next_ack v) i.heard i.receiver.room now out.ip out.segment caught (p.plain less) p.ack n m skips close long some fits past
+        k = took_so w (next_ack v) i.heard i.receiver.room now out.ip out.segment caught (p.plain less) p.ack n m np
 
         not_close : IsOpenTimer w2.timer
-        not_close = took_open w (next_ack v) i.heard i.receiver.room now out.ip out.segment caught (p.plain less) p.ack n m skips close long some fits past
+        not_close = took_open w (next_ack v) i.heard i.receiver.room now out.ip out.segment caught (p.plain less) p.ack n m np
 
         reached_w : IsReached w2
-        reached_w = took_reached w (next_ack v) i.heard i.receiver.room now out.ip out.segment caught (p.plain less) p.ack n m skips close long some fits past i.receiver.reached (omega (arith, number_is, v_small)) p.short
+        reached_w = took_reached w (next_ack v) i.heard i.receiver.room now out.ip out.segment caught (p.plain less) p.ack n m np i.receiver.reached (omega (arith, number_is, v_small)) p.short
 
         wide_w : length w.rx_buffer.held ≡ i.receiver.room
         wide_w = wide_so w i.receiver.room i.receiver.nothing_held
@@ -443,7 +428,7 @@ module _ (d : Option Duration) (t : Tuple) (f : Facts) (at now : Instant) (since
               there = same_seq (next_ack w2) (seq_add x.local_seq_no size) (omega (arith, k.next, edge, new, v_small, ap (λ (q : TcpSeqNumber). q.0) p.una));
               scale = ap scale_of p.scale ∙ i.over.scale ∙ sym k.shift;
               some = subst (λ q. 0 < q) (sym p.window) i.over.some;
-              window = omega (arith, p.window, i.over.window, new, width_kept w w2 m i.receiver.room wide_w wide_w2 narrow k.last_ack k.last_win k.shift k.next fits);
+              window = omega (arith, p.window, i.over.window, new, width_kept w w2 m i.receiver.room wide_w wide_w2 narrow k.last_ack k.last_win k.shift k.next np.fits);
               at_most = omega (arith, p.window, i.over.at_most, told_w2);
             };
             heard = 0;

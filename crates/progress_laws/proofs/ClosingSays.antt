@@ -2,37 +2,33 @@
 use Rattle.std.proofs.Common.{◌≡◌, ℕ, ◌+◌, ◌-◌, ◌/◌, ◌<◌, ◌≤◌, inl, Bool, true, false, not, ◌&&◌, refl, sym, ap, subst, ◌∙◌, List, length, take, drop, min, Option, Some, None, arith, ◌^◌}
 use Rattle.std.specs.Prelude.{if◌then◌else◌, ◌==◌}
 use Rattle.std.proofs.lemmas.Bool.{eq-eqb, eqb-true}
-use Rattle.net_base.specs.Ring.{in_one_piece}
 use Rattle.net_base.specs.declared.time.Duration.{Duration}
 use Rattle.net_base.specs.declared.time.Instant.{Instant}
 use Rattle.control_wire.specs.Segment.{Segment, is_empty_segment, segment_len}
-use Rattle.control_wire.specs.Seq.{seq_add, seq_sub}
+use Rattle.control_wire.specs.Seq.{seq_add}
 use Rattle.control_wire.specs.declared.tcp.TcpControl.TheVariants as control
 use Rattle.sock_core.specs.Bounds.{IsMtu}
 use Rattle.sock_core.specs.Facts.{Facts}
 use Rattle.sock_tcp.proofs.Lending.{lent_at_most, lent_beginning}
 use Rattle.sock_tcp.specs.Begin.{is_paused}
-use Rattle.sock_tcp.specs.Content.{Sending, asked, carries_data, data_control, emission_kind, is_probing, offset_of, plain_segment, sent_as, window_left}
-use Rattle.sock_tcp.specs.Due.{congestion_left, effective_mss, flight, is_closed, is_closing, is_due, window_field}
-use Rattle.sock_tcp.specs.Queue.{IsLent, Queue}
-use Rattle.sock_tcp.specs.Timers.{after as moment_after, idle_from, is_keep_alive_over, is_over, is_probe_over, keep_alive_renewed, retransmit_unless_set, rto_of}
+use Rattle.sock_tcp.specs.Content.{Sending, asked, carries_data, data_control, emission_kind, offset_of, plain_segment, sent_as, window_left}
+use Rattle.sock_tcp.specs.Due.{congestion_left, effective_mss, is_closed, is_closing, is_due, window_field}
+use Rattle.sock_tcp.specs.Queue.{Queue}
+use Rattle.sock_tcp.specs.Timers.{after as moment_after, idle_from, is_keep_alive_over, is_over, keep_alive_renewed, retransmit_unless_set, rto_of}
 use Rattle.sock_tcp.specs.View.{View}
 use Rattle.sock_tcp.specs.Window.{next_ack}
 use Rattle.sock_tcp.specs.declared.emission.Kind.TheVariants as kind
 use Rattle.sock_tcp.specs.declared.timer.Timer.TheVariants as timer
 use Rattle.sock_tcp.specs.declared.tuple.Tuple.{Tuple}
-use Rattle.tcp_laws.proofs.Ordered.{no_distance}
-use Rattle.tcp_laws.proofs.Probing.{reached_probing}
 use Rattle.tcp_laws.proofs.Sleeping.{window_sends}
 use Rattle.progress_laws.specs.AfterClose.{IsCloser}
 use Rattle.progress_laws.specs.InStep.{ForAnswer, told}
 use Rattle.progress_laws.specs.Speech.{DispatchesOk, GoesOn, SendsOk}
-use Rattle.progress_laws.proofs.Begins.{and_no, carries_runs, content_is, dispatch_reached, not_zero, segment_for, sends_so}
+use Rattle.progress_laws.proofs.Begins.{and_no, carries_runs, content_is, dispatch_reached, lent_for, not_zero, segment_for, sends_so}
 use Rattle.progress_laws.proofs.Hears.{IsData}
 use Rattle.progress_laws.proofs.Lends.{lent_some, mss_some}
-use Rattle.progress_laws.proofs.Says.{no_probe}
 use Rattle.progress_laws.proofs.Sends.{left, plain_sent, plain_timer, plain_told}
-use Rattle.progress_laws.proofs.Speaks.{Begins, Front, IsNoProbe, begins, open_window, wakes}
+use Rattle.progress_laws.proofs.Speaks.{Begins, FromFront, Front, IsNoProbe, asked_so, begins, from_front, open_window, wakes}
 use Rattle.progress_laws.proofs.Spoken.{IsSaid, data_said}
 use Rattle.progress_laws.proofs.States.{closing_carries, closing_open}
 
@@ -91,33 +87,17 @@ module _ (d : Option Duration) (t : Tuple) (v : View) (f : Facts) (now : Instant
   not_closed : is_closed u.state ≡ false
   not_closed = closing_open u.state closing
 
-  nothing_marked : u.pending_fast_retransmit ≡ false
-  nothing_marked = fr.marked ∙ s.nothing_marked
-
-  mss : 48 ≤ u.remote_mss
-  mss = subst (λ n. 48 ≤ n) (sym fr.mss) (reached_probing v s.reached).mss
-
-  no_flight : flight u ≡ 0
-  no_flight = ap (λ n. seq_sub n u.local_seq_no) (fr.nxt ∙ sym fr.same.una) ∙ no_distance u.local_seq_no fr.ordered.una_small
-
-  no_probing : is_probing u now ≡ false
-  no_probing = no_probe u now (ap (λ tm. is_probe_over tm now) fr.idle)
-
-  at_front : offset_of u ≡ 0
-  at_front = rw nothing_marked no_flight
+  ft : FromFront u now
+  ft = from_front v u now fr s.reached s.nothing_marked
 
   abbrev bytes : List ℕ
-  bytes = take (min (asked u t fa false) (in_one_piece u.tx_buffer.until_end (length u.tx_buffer.bytes) (offset_of u))) (drop (offset_of u) u.tx_buffer.bytes)
-
-  lent : IsLent u.tx_buffer (offset_of u) (asked u t fa false) bytes
-  lent = refl
+  bytes = lent_for u t fa
 
   asked_is : asked u t fa false ≡ min (min (window_left u) (effective_mss u t fa false)) (congestion_left u)
-  unfolding asked
-  asked_is = rw (no_probing, carries, nothing_marked) refl
+  asked_is = asked_so u t f now ft carries
 
   few : length bytes ≤ min (asked u t fa false) (length u.tx_buffer.bytes - offset_of u)
-  few = lent_at_most u.tx_buffer (offset_of u) (asked u t fa false) bytes lent
+  few = lent_at_most u.tx_buffer (offset_of u) (asked u t fa false) bytes refl
 
   win_u : 0 < u.remote_win_len
   win_u = subst (λ n. 0 < n) (sym fr.same.window) win
@@ -126,20 +106,20 @@ module _ (d : Option Duration) (t : Tuple) (v : View) (f : Facts) (now : Instant
   same = ap (λ (q : Queue). length q.bytes) fr.same.tx
 
   some : 0 < length bytes
-  some = lent_some u.tx_buffer (offset_of u) (asked u t fa false) bytes lent (omega (arith, asked_is, win_u, no_flight, mss_some u t fa false mtu.0 mss, open_window u.congestion_controller fr.ordered.congestion)) (omega (arith, at_front, queue, same))
+  some = lent_some u.tx_buffer (offset_of u) (asked u t fa false) bytes refl (omega (arith, asked_is, win_u, ft.no_flight, mss_some u t fa false mtu.0 ft.mss, open_window u.congestion_controller fr.ordered.congestion)) (omega (arith, ft.start, queue, same))
 
   abbrev b : Segment
   b = segment_for u t None bytes
 
   plain_kind : emission_kind u now b ≡ kind.Plain
-  plain_kind = rw (no_probing, no_bytes) (ap (λ c. if c then kind.KeepAlive else kind.Plain) (and_no (is_keep_alive_over u.timer now)))
+  plain_kind = rw (ft.no_probing, no_bytes) (ap (λ c. if c then kind.KeepAlive else kind.Plain) (and_no (is_keep_alive_over u.timer now)))
     where
       no_bytes : is_empty_segment b ≡ false
       no_bytes = rw (not_zero (length bytes) some) refl
 
   due : is_due u t fa false ≡ true
   unfolding is_due
-  due = rw (window_sends u t fa false fr.ordered win_u no_flight (inl (subst (λ n. 0 < n) (sym same) queue))) refl
+  due = rw (window_sends u t fa false fr.ordered win_u ft.no_flight (inl (subst (λ n. 0 < n) (sym same) queue))) refl
 
   abbrev after : View
   after = left u t now b not_closed kind.Plain
@@ -149,7 +129,7 @@ module _ (d : Option Duration) (t : Tuple) (v : View) (f : Facts) (now : Instant
     stamp = None;
     told = refl;
     bytes = bytes;
-    lent = lent;
+    lent = refl;
     sends = sym (content_is u t fa None bytes carries ∙ ap (λ c. Some (sent_as u t c b)) plain_kind);
     view = refl;
   }))
@@ -174,21 +154,21 @@ module _ (d : Option Duration) (t : Tuple) (v : View) (f : Facts) (now : Instant
         dispatch = goes;
         said = data_said u (length bytes);
         plain = λ less. before_end (offset_of u + length bytes == length u.tx_buffer.bytes) refl less;
-        fin = λ all. rw (eq-eqb (offset_of u + length bytes) (length u.tx_buffer.bytes) (omega (arith, at_front, all, same)), closing) refl;
+        fin = λ all. rw (eq-eqb (offset_of u + length bytes) (length u.tx_buffer.bytes) (omega (arith, ft.start, all, same)), closing) refl;
         ack = (λ i. Some (seq_add (fr.same.rcv i) (length ((fr.same.rx i).bytes))));
-        number = rw nothing_marked fr.nxt;
+        number = rw ft.nothing_marked fr.nxt;
         some = some;
         fits = omega (arith, few, asked_is, fr.same.window);
         queued = omega (arith, few, same);
         short = omega (arith, few, asked_is, mtu.1);
-        first = lent_beginning u.tx_buffer (offset_of u) (asked u t fa false) bytes lent ∙ ap (λ o. take (length bytes) (drop o u.tx_buffer.bytes)) at_front ∙ ap (λ (q : Queue). take (length bytes) q.bytes) fr.same.tx;
+        first = lent_beginning u.tx_buffer (offset_of u) (asked u t fa false) bytes refl ∙ ap (λ o. take (length bytes) (drop o u.tx_buffer.bytes)) ft.start ∙ ap (λ (q : Queue). take (length bytes) q.bytes) fr.same.tx;
         closer = record {
           reached = dispatch_reached fa false v (Some (sent_as u t kind.Plain b)) after s.reached goes;
           state = ap is_closing l.same.state ∙ closing;
           peer = l.same.peer ∙ fr.same.peer ∙ s.peer;
           no_timeout = l.same.timeout ∙ fr.same.timeout ∙ s.no_timeout;
           keep_alive = l.same.keep_alive ∙ fr.same.keep_alive ∙ s.keep_alive;
-          nothing_marked = l.marked ∙ ap (λ m. m && not (carries_data u.state)) nothing_marked;
+          nothing_marked = l.marked ∙ ap (λ m. m && not (carries_data u.state)) ft.nothing_marked;
           rests = ForAnswer (moment_after now (rto_of u.rtte)) again;
         };
         at = moment_after now (rto_of u.rtte);
@@ -205,5 +185,5 @@ module _ (d : Option Duration) (t : Tuple) (v : View) (f : Facts) (now : Instant
       }
     where
       before_end : (e : Bool) → (offset_of u + length bytes == length u.tx_buffer.bytes) ≡ e → length bytes < length v.tx_buffer.bytes → IsData (data_control u (length bytes))
-      before_end true e less = let at = eqb-true (offset_of u + length bytes) (length u.tx_buffer.bytes) e in absurd (omega (arith, at, at_front, less, same))
+      before_end true e less = let at = eqb-true (offset_of u + length bytes) (length u.tx_buffer.bytes) e in absurd (omega (arith, at, ft.start, less, same))
       before_end false e less = subst (λ c. IsData (if c then (if is_closing u.state then control.Fin else (if length bytes == 0 then control.None else control.Psh)) else control.None)) (sym e) tt

@@ -17,7 +17,7 @@ use Rattle.sock_tcp.specs.Process.{Outcome, after_table, bytes_taken, processed,
 use Rattle.sock_tcp.specs.Queues.{read_off, receives, recv_check}
 use Rattle.sock_tcp.specs.Steps.{ack_delayed, heard, joined}
 use Rattle.sock_tcp.specs.View.{View}
-use Rattle.sock_tcp.specs.Window.{cut_bytes, cut_of, is_inside, next_ack, receive_window}
+use Rattle.sock_tcp.specs.Window.{cut_bytes, cut_of, is_inside, receive_window}
 use Rattle.sock_tcp.specs.declared.acked.Acked.{Acked}
 use Rattle.sock_tcp.specs.declared.error.RecvError.TheVariants as recv_error
 use Rattle.sock_tcp.specs.declared.state.State.{State}
@@ -25,7 +25,7 @@ use Rattle.sock_tcp.specs.declared.state.State.TheVariants as state
 use Rattle.progress_laws.proofs.Arrives.{Faces, HeardSo, heard_so, in_window}
 use Rattle.progress_laws.proofs.Begins.{not_zero}
 use Rattle.progress_laws.proofs.Edges.{cut_at, is_not_before, tail_cut, tail_inside}
-use Rattle.progress_laws.proofs.Receives.{start_is}
+use Rattle.progress_laws.proofs.Receives.{NewPart, start_is}
 use Rattle.progress_laws.proofs.Spoken.{IsSaid}
 use Rattle.progress_laws.proofs.Taking.{at_once, blank, blank_holds_nothing, read_bytes, take_all, taken_bytes, taken_held}
 
@@ -35,7 +35,7 @@ pub record TookLast (ys : List ℕ) (o : Outcome) : Type 0 where
   pub bytes : o.view.rx_buffer.bytes ≡ ys
   pub finished : recv_check (read_off o.view (length ys)) ≡ Err recv_error.Finished
 
-module _ (w : View) (k : TcpSeqNumber) (r : Faces w k) (room : ℕ) (read : w.rx_buffer.bytes ≡ []) (held : w.rx_buffer.held ≡ blank room) (now : Instant) (ip : IpRepr) (g : Segment) (fin : g.control ≡ control.Fin) (ack : g.ack_number ≡ Some k) (j m : ℕ) (there : g.seq_number.0 < 2 ^ 32) (skips : seq_sub (next_ack w) g.seq_number ≡ j) (near : j < 2 ^ 31) (long : length g.payload ≡ j + m) (some : 0 < m) (fits : m ≤ seq_sub (receive_window w).end (receive_window w).start) (past : seq_sub (seq_add g.seq_number (length g.payload)) (next_ack w) ≡ m) where
+module _ (w : View) (k : TcpSeqNumber) (r : Faces w k) (room : ℕ) (read : w.rx_buffer.bytes ≡ []) (held : w.rx_buffer.held ≡ blank room) (now : Instant) (ip : IpRepr) (g : Segment) (fin : g.control ≡ control.Fin) (ack : g.ack_number ≡ Some k) (j m : ℕ) (there : g.seq_number.0 < 2 ^ 32) (np : NewPart w g j m) where
   abbrev pub fresh : List ℕ
   fresh = drop j g.payload
 
@@ -55,30 +55,30 @@ module _ (w : View) (k : TcpSeqNumber) (r : Faces w k) (room : ℕ) (read : w.rx
   width_small = omega (arith, window_width w r.room, r.room)
 
   fresh_length : length fresh ≡ m
-  fresh_length = length-drop j g.payload ∙ omega (arith, long)
+  fresh_length = length-drop j g.payload ∙ omega (arith, np.long)
 
   room_is : room ≡ length fresh + (room - m)
-  room_is = omega (arith, window_width w r.room, wide, fits, fresh_length)
+  room_is = omega (arith, window_width w r.room, wide, np.fits, fresh_length)
 
   past_start : seq_sub (seq_add g.seq_number (length g.payload)) (receive_window w).start ≡ m
-  past_start = ap (λ e. seq_sub (seq_add g.seq_number (length g.payload)) e) (start_is w) ∙ past
+  past_start = ap (λ e. seq_sub (seq_add g.seq_number (length g.payload)) e) (start_is w) ∙ np.past
 
   inside : is_inside (receive_window w) g.seq_number (length g.payload) ≡ true
   unfolding is_inside
-  inside = rw (not_zero (length g.payload) (omega (arith, long, some))) (tail_inside (receive_window w) (start_small w) (end_small w) width_small g.seq_number (seq_add g.seq_number (length g.payload)) m (omega arith) some fits past_start)
+  inside = rw (not_zero (length g.payload) (omega (arith, np.long, np.some))) (tail_inside (receive_window w) (start_small w) (end_small w) width_small g.seq_number (seq_add g.seq_number (length g.payload)) m (omega arith) np.some np.fits past_start)
 
   cut_is : cut_of (receive_window w) g.seq_number (length g.payload) ≡ cut_at j m 0
-  cut_is = tail_cut (receive_window w) (start_small w) (end_small w) width_small g.seq_number (seq_add g.seq_number (length g.payload)) m (omega arith) some fits past_start j (length g.payload) (ap (λ e. seq_sub e g.seq_number) (start_is w) ∙ skips) near refl
+  cut_is = tail_cut (receive_window w) (start_small w) (end_small w) width_small g.seq_number (seq_add g.seq_number (length g.payload)) m (omega arith) np.some np.fits past_start j (length g.payload) (ap (λ e. seq_sub e g.seq_number) (start_is w) ∙ np.skips) np.near refl
 
   counts : counted_control g.control (receive_window w) g.seq_number (length g.payload) ≡ control.Fin
   unfolding counted_control
   counts = rw (fin, left_edge, right_edge) refl
     where
       left_edge : is_before (receive_window w).start g.seq_number ≡ false
-      left_edge = is_not_before (receive_window w).start g.seq_number (subst (λ e. seq_sub e g.seq_number < 2 ^ 31) (sym (start_is w)) (omega (arith, skips, near)))
+      left_edge = is_not_before (receive_window w).start g.seq_number (subst (λ e. seq_sub e g.seq_number < 2 ^ 31) (sym (start_is w)) (omega (arith, np.skips, np.near)))
 
       right_edge : is_before (receive_window w).end (seq_add g.seq_number (length g.payload)) ≡ false
-      right_edge = is_not_before (receive_window w).end (seq_add g.seq_number (length g.payload)) (omega (arith, past_start, fits, width_small, start_small w, end_small w))
+      right_edge = is_not_before (receive_window w).end (seq_add g.seq_number (length g.payload)) (omega (arith, past_start, np.fits, width_small, start_small w, end_small w))
 
   -- whatever the state was
   taken : (y : View) → receives y.state ≡ false → y.rx_fin_received ≡ true → y.rx_buffer ≡ w.rx_buffer → TookLast fresh (bytes_taken (heard y now a g) now 0 fresh g)
@@ -111,7 +111,7 @@ module _ (w : View) (k : TcpSeqNumber) (r : Faces w k) (room : ℕ) (read : w.rx
       nothing_after = ap holds_nothing (taken_held z.rx_buffer room (room - m) fresh no_bytes none_held room_is) ∙ blank_holds_nothing (room - m)
 
       takes : bytes_taken z now 0 fresh g ≡ record { view = ack_delayed (joined z 0 fresh) now; reply = None }
-      takes = rw (not_zero (length fresh) (omega (arith, fresh_length, some)), at_once z.rx_buffer fresh, nothing_before, nothing_after) refl
+      takes = rw (not_zero (length fresh) (omega (arith, fresh_length, np.some)), at_once z.rx_buffer fresh, nothing_before, nothing_after) refl
 
   rows : (st : State) (acked : Bool) → receives st ≡ true → TookLast fresh (after_table (advance_in st control.Fin acked x now (tuple_of ip g) 0 a.len g) now a 0 fresh g)
   unfolding fin_counted

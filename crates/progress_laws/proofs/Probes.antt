@@ -1,7 +1,6 @@
 -- What a sender says that probes for a window, with nothing in flight.
 use Rattle.std.proofs.Common.{◌≡◌, ℕ, inr, ◌/◌, ◌^◌, ◌<◌, ◌≤◌, true, false, not, ◌&&◌, refl, sym, ap, subst, ◌∙◌, List, length, take, drop, min, Option, Some, None, arith}
 use Rattle.std.proofs.lemmas.Bool.{eq-eqb}
-use Rattle.net_base.specs.Ring.{in_one_piece}
 use Rattle.net_base.specs.declared.time.Duration.{Duration}
 use Rattle.net_base.specs.declared.time.Instant.{Instant}
 use Rattle.control_wire.specs.Segment.{Segment}
@@ -24,7 +23,7 @@ use Rattle.tcp_laws.proofs.OrderedCalls.{reached_ordered, readied_ordered}
 use Rattle.tcp_laws.proofs.Probing.{ProbesIn, reached_probing}
 use Rattle.progress_laws.specs.InStep.{IsSender, told}
 use Rattle.progress_laws.specs.Speech.{DispatchesOk, GoesOn, SendsOk}
-use Rattle.progress_laws.proofs.Begins.{Alike, readied_alike, same_then, beginning, carries_runs, content_is, dispatch_reached, segment_for, sends_so}
+use Rattle.progress_laws.proofs.Begins.{Alike, beginning, carries_runs, content_is, dispatch_reached, lent_for, readied_alike, same_then, segment_for, sends_so}
 use Rattle.progress_laws.proofs.Edges.{same_seq}
 use Rattle.progress_laws.proofs.Hears.{IsOpenTimer}
 use Rattle.progress_laws.proofs.Lends.{probe_byte}
@@ -80,7 +79,7 @@ module _ (d : Option Duration) (t : Tuple) (v : View) (f : Facts) (now at : Inst
   probe_start = rw unmarked nothing_sent
 
   abbrev probe_bytes : List ℕ
-  probe_bytes = take (min (asked p t (told f now) false) (in_one_piece p.tx_buffer.until_end (length p.tx_buffer.bytes) (offset_of p))) (drop (offset_of p) p.tx_buffer.bytes)
+  probe_bytes = lent_for p t (told f now)
 
   one_byte : length probe_bytes ≡ 1
   one_byte = probe_byte p t (told f now) None probe_bytes mtu.0 (subst (λ n. 48 ≤ n) (sym al.mss) (reached_probing v s.reached).mss) (sends_data p.state probe_may) refl unmarked probing (omega (arith, nothing_sent, queue, ap (λ (q : Queue). length q.bytes) al.same.tx))

@@ -92,6 +92,26 @@ pub start_is : (w : View) → (receive_window w).start ≡ next_ack w
 unfolding receive_window
 start_is w = refl
 
+-- behind its first j bytes, which w has, the segment g has m bytes that are new and fit
+pub record NewPart (w : View) (g : Segment) (j m : ℕ) : Type 0 where
+  pub skips : seq_sub (next_ack w) g.seq_number ≡ j
+  pub near : j < 2 ^ 31
+  pub long : length g.payload ≡ j + m
+  pub some : 0 < m
+  pub fits : m ≤ seq_sub (receive_window w).end (receive_window w).start
+  pub past : seq_sub (seq_add g.seq_number (length g.payload)) (next_ack w) ≡ m
+
+-- it begins at una, of whose queue of q bytes w took n
+pub new_part : (w : View) (g : Segment) (una : TcpSeqNumber) (n q : ℕ) → g.seq_number.0 ≡ una.0 → (next_ack w).0 ≡ (seq_add una n).0 → una.0 < 2 ^ 32 → n ≤ q → length g.payload ≤ q → q ≤ 2 ^ 30 → n < length g.payload → length g.payload ≤ n + seq_sub (receive_window w).end (receive_window w).start → NewPart w g n (length g.payload - n)
+new_part w g una n q number edge small within queued short new fits = record {
+  skips = omega (arith, number, edge, small, within, short);
+  near = omega (arith, within, short);
+  long = omega (arith, new);
+  some = omega (arith, new);
+  fits = omega (arith, fits, new);
+  past = omega (arith, number, edge, small, within, queued, short, new);
+}
+
 module _ (s : Tuple) (w : View) (r : IsReceiver s w) where
   wide : length w.rx_buffer.held ≡ r.room
   wide = ap (λ (l : List (Option ℕ)). length l) r.nothing_held ∙ length-replicate r.room None
@@ -164,7 +184,7 @@ module _ (s : Tuple) (w : View) (r : IsReceiver s w) where
     abbrev x : View
     x = heard (seen w now 0 ip g w.local_seq_no flat ack bit) now (covered w now 0 ip g w.local_seq_no flat ack bit) g
 
-    module _ (j m : ℕ) (skips : seq_sub (next_ack w) g.seq_number ≡ j) (near : j < 2 ^ 31) (long : length g.payload ≡ j + m) (some : 0 < m) (fits : m ≤ seq_sub (receive_window w).end (receive_window w).start) (past : seq_sub (seq_add g.seq_number (length g.payload)) (next_ack w) ≡ m) where
+    module _ (j m : ℕ) (np : NewPart w g j m) where
       -- what is new of it
       abbrev pub fresh_bytes : List ℕ
       fresh_bytes = drop j g.payload
@@ -173,30 +193,30 @@ module _ (s : Tuple) (w : View) (r : IsReceiver s w) where
       took = ack_delayed (joined x 0 fresh_bytes) now
 
       pub fresh_length : length fresh_bytes ≡ m
-      fresh_length = length-drop j g.payload ∙ omega (arith, long)
+      fresh_length = length-drop j g.payload ∙ omega (arith, np.long)
 
       abbrev k : ℕ
       k = r.room - m
 
       room_is : r.room ≡ length fresh_bytes + k
-      room_is = let h = window_width w (omega (arith, wide, r.room_at_most)) in omega (arith, h, wide, fits, fresh_length)
+      room_is = let h = window_width w (omega (arith, wide, r.room_at_most)) in omega (arith, h, wide, np.fits, fresh_length)
 
       hears : HeardAs (seen w now 0 ip g w.local_seq_no flat ack bit) w.local_seq_no (seq_sub w.local_seq_no w.local_seq_no) (g.window_len * 2 ^ scale_of w.remote_win_scale) x
       hears = heard_as (seen w now 0 ip g w.local_seq_no flat ack bit) now (covered w now 0 ip g w.local_seq_no flat ack bit) g w.local_seq_no ack (data_is_said g.control bit)
 
       past_start : seq_sub (seq_add g.seq_number (length g.payload)) (receive_window w).start ≡ m
-      past_start = ap (λ e. seq_sub (seq_add g.seq_number (length g.payload)) e) (start_is w) ∙ past
+      past_start = ap (λ e. seq_sub (seq_add g.seq_number (length g.payload)) e) (start_is w) ∙ np.past
 
       inside : is_inside (receive_window w) g.seq_number (length g.payload) ≡ true
       unfolding is_inside
-      inside = rw (not_zero (length g.payload) (omega (arith, long, some))) (tail_inside (receive_window w) (start_small w) (end_small w) width_small g.seq_number (seq_add g.seq_number (length g.payload)) m (omega arith) some fits past_start)
+      inside = rw (not_zero (length g.payload) (omega (arith, np.long, np.some))) (tail_inside (receive_window w) (start_small w) (end_small w) width_small g.seq_number (seq_add g.seq_number (length g.payload)) m (omega arith) np.some np.fits past_start)
 
       cut_is : cut_of (receive_window w) g.seq_number (length g.payload) ≡ cut_at j m 0
-      cut_is = tail_cut (receive_window w) (start_small w) (end_small w) width_small g.seq_number (seq_add g.seq_number (length g.payload)) m (omega arith) some fits past_start j (length g.payload) (ap (λ e. seq_sub e g.seq_number) (start_is w) ∙ skips) near refl
+      cut_is = tail_cut (receive_window w) (start_small w) (end_small w) width_small g.seq_number (seq_add g.seq_number (length g.payload)) m (omega arith) np.some np.fits past_start j (length g.payload) (ap (λ e. seq_sub e g.seq_number) (start_is w) ∙ np.skips) np.near refl
 
       all_taken : bytes_taken x now 0 fresh_bytes g ≡ record { view = took; reply = None }
       unfolding bytes_taken joined ack_delayed
-      all_taken = rw (not_zero (length fresh_bytes) (omega (arith, fresh_length, some)), at_once x.rx_buffer fresh_bytes, nothing_before, nothing_after) refl
+      all_taken = rw (not_zero (length fresh_bytes) (omega (arith, fresh_length, np.some)), at_once x.rx_buffer fresh_bytes, nothing_before, nothing_after) refl
         where
           nothing_before : holds_nothing x.rx_buffer.held ≡ true
           nothing_before = ap (λ (b : Received). holds_nothing b.held) hears.rx ∙ ap holds_nothing r.nothing_held ∙ blank_holds_nothing r.room

@@ -1,7 +1,6 @@
 -- What dispatches make of a socket in SYN-SENT or SYN-RECEIVED, and the SYN or SYN|ACK that one of them sends, again too.
-use Rattle.std.proofs.Common.{◌≡◌, ℕ, ◌+◌, ◌<◌, ◌^◌, inl, inr, Bool, true, false, not, ◌&&◌, refl, sym, ap, subst, ◌∙◌, List, length, take, drop, min, Option, Some, None, arith}
+use Rattle.std.proofs.Common.{◌≡◌, ℕ, ◌+◌, ◌<◌, ◌^◌, inl, inr, Bool, true, false, not, ◌&&◌, refl, sym, ap, subst, ◌∙◌, List, length, Option, Some, None, arith}
 use Rattle.std.specs.Prelude.{if◌then◌else◌, ◌==◌, option_map}
-use Rattle.net_base.specs.Ring.{in_one_piece}
 use Rattle.net_base.specs.declared.time.Duration.{Duration}
 use Rattle.net_base.specs.declared.time.Instant.{Instant}
 use Rattle.control_wire.specs.Segment.{Segment, is_empty_segment, is_plain, segment_len}
@@ -11,7 +10,7 @@ use Rattle.control_wire.specs.declared.tcp.TcpControl.TheVariants as control
 use Rattle.sock_core.specs.Facts.{Facts}
 use Rattle.sock_core.specs.Seq.{later_of}
 use Rattle.sock_tcp.specs.Begin.{after_timer, is_paused, readied, retransmission_begun}
-use Rattle.sock_tcp.specs.Content.{Sending, asked, carries_data, content, emission_kind, filled, offset_of, plain_segment, sent_as, syn, syn_ack}
+use Rattle.sock_tcp.specs.Content.{Sending, carries_data, content, emission_kind, filled, plain_segment, sent_as, syn, syn_ack}
 use Rattle.sock_tcp.specs.Due.{data_due, flight, is_closed, is_due, is_opening}
 use Rattle.sock_tcp.specs.Sent.{left_by}
 use Rattle.sock_tcp.specs.Timers.{after as moment_after, idle_from, is_close_over, is_keep_alive_over, is_over, keep_alive_renewed, retransmit_from, retransmit_unless_set, rto_of}
@@ -24,7 +23,7 @@ use Rattle.sock_tcp.specs.declared.timer.Timer.TheVariants as timer
 use Rattle.sock_tcp.specs.declared.tuple.Tuple.{Tuple}
 use Rattle.progress_laws.specs.InStep.{told}
 use Rattle.progress_laws.specs.Speech.{DispatchesOk, GoesOn}
-use Rattle.progress_laws.proofs.Begins.{Alike, Goes, Same, and_no, beginning, goes, readied_alike, same_again, same_then, sends_so}
+use Rattle.progress_laws.proofs.Begins.{Alike, Goes, Same, and_no, beginning, goes, lent_for, readied_alike, same_again, same_then, sends_so}
 use Rattle.progress_laws.proofs.Edges.{is_earlier, is_not_before, later_is, later_stays}
 use Rattle.progress_laws.proofs.Hears.{idle_is, idle_moment}
 use Rattle.progress_laws.proofs.Sends.{SentOf, left, plain_sent, plain_timer, plain_told}
@@ -255,7 +254,7 @@ module _ (st : State) (t : Tuple) (f : Facts) (x : View) (c : SendsSyn st t f x)
       none = ap (λ q. seq_sub q u.local_seq_no) (front d) ∙ omega (arith, u_small)
 
   abbrev bytes : List ℕ
-  bytes = take (min (asked u t fa false) (in_one_piece u.tx_buffer.until_end (length u.tx_buffer.bytes) (offset_of u))) (drop (offset_of u) u.tx_buffer.bytes)
+  bytes = lent_for u t fa
 
   pub sends : SynGoesOut v r.waits now → DispatchesOk fa false v (Some (out_of None)) (sent None)
   sends d = sends_so v t fa false on runs (Some (out_of None)) (sent None) (due d) (record { stamp = None; told = refl; bytes = bytes; lent = refl; sends = sym (content_so None bytes); view = refl })

@@ -31,7 +31,7 @@ use Rattle.progress_laws.specs.InStep.{Carries, CarriesBack, Completes, ForAnswe
 use Rattle.progress_laws.proofs.Begins.{some_or_none}
 use Rattle.progress_laws.proofs.Edges.{same_seq}
 use Rattle.progress_laws.proofs.Owed.{acknowledges, after, kept_out, late_then, next_is, not_over_then, out_of, renewed, renews, still_owes, tells}
-use Rattle.progress_laws.proofs.Receives.{Owes, Tells, answers, fresh_length, old_away, owes, room_for, shut_away, takes, took, took_bytes}
+use Rattle.progress_laws.proofs.Receives.{NewPart, Owes, Tells, answers, fresh_length, new_part, old_away, owes, room_for, shut_away, takes, took, took_bytes}
 use Rattle.progress_laws.proofs.Speaks.{FallsSilent, Speaks, SpeaksBytes, SpeaksNothing, falls_silent, says_bytes, says_nothing, wakes}
 use Rattle.progress_laws.proofs.Probes.{no_window, probe_one, probe_unsent, says_probe}
 use Rattle.progress_laws.proofs.Told.{heard_view, hears, in_step_again, nothing_new, queue_left, window_told}
@@ -227,53 +227,38 @@ module _ (d : Option Duration) (t s : Tuple) (f : Facts) (mtu : IsMtu f.mtu) (he
           ack : p.out.segment.ack_number ≡ Some w.local_seq_no
           ack = p.speaks.ack ∙ ap Some (sym i.back)
 
-          skips : seq_sub (next_ack w) p.out.segment.seq_number ≡ i.taken
-          skips = omega (arith, number_is, edge, v_small, i.taken_within, queue_short)
-
-          close : i.taken < 2 ^ 31
-          close = omega (arith, i.taken_within, queue_short)
-
-          long : n ≡ i.taken + m
-          long = omega (arith, new)
-
-          some : 0 < m
-          some = omega (arith, new)
-
-          fits : m ≤ seq_sub (receive_window w).end (receive_window w).start
-          fits = omega (arith, room_there, new)
-
-          past : seq_sub (seq_add p.out.segment.seq_number n) (next_ack w) ≡ m
-          past = omega (arith, number_is, edge, v_small, i.taken_within, p.queued, queue_short, new)
+          np : NewPart w p.out.segment i.taken m
+          np = new_part w p.out.segment v.local_seq_no i.taken (length v.tx_buffer.bytes) number_is edge v_small i.taken_within p.queued queue_short new room_there
 
           fresh : List ℕ
           fresh = drop i.taken p.out.segment.payload
 
           fresh_is : length fresh ≡ m
-          fresh_is = fresh_length s w i.receiver now p.out.ip p.out.segment w_small p.speaks.bit ack i.taken m skips close long some fits past
+          fresh_is = fresh_length s w i.receiver now p.out.ip p.out.segment w_small p.speaks.bit ack i.taken m np
 
           more : List ℕ
           more = got ++ fresh
 
           w1 : View
-          w1 = took s w i.receiver now p.out.ip p.out.segment w_small p.speaks.bit ack i.taken m skips close long some fits past
+          w1 = took s w i.receiver now p.out.ip p.out.segment w_small p.speaks.bit ack i.taken m np
 
           took_so : processed w now 0 p.out.ip p.out.segment ≡ record { view = w1; reply = None }
-          took_so = takes s w i.receiver now p.out.ip p.out.segment w_small p.speaks.bit ack i.taken m skips close long some fits past
+          took_so = takes s w i.receiver now p.out.ip p.out.segment w_small p.speaks.bit ack i.taken m np
 
           bytes : w1.rx_buffer.bytes ≡ fresh
-          bytes = took_bytes s w i.receiver now p.out.ip p.out.segment w_small p.speaks.bit ack i.taken m skips close long some fits past
+          bytes = took_bytes s w i.receiver now p.out.ip p.out.segment w_small p.speaks.bit ack i.taken m np
 
           w2 : View
           w2 = read_off w1 (length fresh)
 
           owing : Owes s w i.receiver.room (length fresh) w2
-          owing = owes s w i.receiver now p.out.ip p.out.segment w_small p.speaks.bit ack i.taken m skips close long some fits past
+          owing = owes s w i.receiver now p.out.ip p.out.segment w_small p.speaks.bit ack i.taken m np
 
           any : 0 < length fresh
-          any = omega (arith, fresh_is, some)
+          any = omega (arith, fresh_is, np.some)
 
           room : length fresh ≤ i.receiver.room
-          room = omega (arith, fresh_is, room_for s w i.receiver m fits)
+          room = omega (arith, fresh_is, room_for s w i.receiver m np.fits)
 
           r : Ready s f w i.receiver.room (length fresh) p.after more now w2
           r = ready s f w i.receiver.room (length fresh) p.after more now w2 there owing
@@ -297,7 +282,7 @@ module _ (d : Option Duration) (t s : Tuple) (f : Facts) (mtu : IsMtu f.mtu) (he
           next = next_is s w i.receiver.room (length fresh) r.receiver f z there r.owes any room i.receiver.room_at_most i.receiver.room_at_least w_small r.late r.not_over
 
           taken : next_ack w3 ≡ seq_add v.local_seq_no n
-          taken = next ∙ same_seq (next_ack r.receiver) (seq_add v.local_seq_no n) (omega (arith, r.owes.next, edge, fresh_is, long, v_small))
+          taken = next ∙ same_seq (next_ack r.receiver) (seq_add v.local_seq_no n) (omega (arith, r.owes.next, edge, fresh_is, np.long, v_small))
 
           near : seq_sub (next_ack w3) p.after.remote_last_seq ≤ 2 ^ 30
           near = let e = ap (λ (m : TcpSeqNumber). m.0) taken in omega (arith, e, nxt, p.sent_within, p.queued, queue_short, v_small)

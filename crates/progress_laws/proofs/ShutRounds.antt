@@ -15,10 +15,10 @@ unfolding toward
 shut_windows_open d e t s f at v w got back mtu here there i = by (ask d e t s f mtu here at v w got i.sides)
   where
     -- seen from the other side
-    swapped : (a : Asked d e t s f at v w got i.sides) → SidesShut e d s t a.across a.here
+    swapped : (a : Asked d e t s f at v w got i.sides.over.taken i.sides.back.taken) → SidesShut e d s t a.across a.here
     swapped a = let j = a.in_shut in record { here = j.across; across = j.here; over = j.back; back = j.over; hears_here = j.hears_across; hears_across = j.hears_here }
 
-    opens : (a : Asked d e t s f at v w got i.sides) → Asked e d s t f a.end a.across a.here back (swapped a) → WindowsOpen d e t s f at v w got back i
+    opens : (a : Asked d e t s f at v w got i.sides.over.taken i.sides.back.taken) → Asked e d s t f a.end a.across a.here back a.in_shut.back.taken a.in_shut.over.taken → WindowsOpen d e t s f at v w got back i
     opens a b = record {
       end = b.end;
       here = b.across;
@@ -37,5 +37,5 @@ shut_windows_open d e t s f at v w got back mtu here there i = by (ask d e t s f
       whole_back = b.whole ∙ ap (λ (l : List ℕ). back ++ l) a.others;
     }
 
-    by : Asked d e t s f at v w got i.sides → ShutFinish d e t s f at v w got back i
+    by : Asked d e t s f at v w got i.sides.over.taken i.sides.back.taken → ShutFinish d e t s f at v w got back i
     by a = let o = opens a (ask e d s t f mtu there a.end a.across a.here back (swapped a)) in record { windows = o; ends = both_ways_finish d e t s f o.end o.here o.across o.more o.less mtu here there o.in_step }

@@ -30,7 +30,7 @@ use Rattle.progress_laws.proofs.Begins.{numbered_as, segment_reached}
 use Rattle.progress_laws.proofs.Edges.{same_seq}
 use Rattle.progress_laws.proofs.Hears.{HeardAs, IsData, IsOpenTimer}
 use Rattle.progress_laws.proofs.Learns.{Learnt, idle_rests, learnt}
-use Rattle.progress_laws.proofs.Receives.{told_window, unit, unit_some}
+use Rattle.progress_laws.proofs.Receives.{NewPart, told_window, unit, unit_some}
 use Rattle.progress_laws.proofs.Speaks.{Speaks}
 use Rattle.progress_laws.proofs.States.{is_steady, not_listening, sends_flat}
 use Rattle.progress_laws.proofs.Takes.{IsCaughtUp, Took, fresh_bytes, takes, took, took_bytes, took_reached, took_rests, took_so}
@@ -184,25 +184,25 @@ pub record Brought (e : Option Duration) (s : Tuple) (f : Facts) (now : Instant)
   pub side : IsSide e s view
   pub moves : (at : Instant) → at.micros ≤ℤ now.micros → (got : List ℕ) → Moves f at v w got now x view (got ++ fresh)
 
-module _ (e : Option Duration) (s : Tuple) (f : Facts) (now : Instant) (v x w : View) (out : Sending) (dispatch : DispatchesOk (told f now) false v (Some out) x) (b : IsSide e s w) (k : TcpSeqNumber) (n : ℕ) (c : IsCaughtUp w k n b.room) (bit : IsData out.segment.control) (ack : out.segment.ack_number ≡ Some k) (number : out.segment.seq_number.0 < 2 ^ 32) (short : length out.segment.payload ≤ 65535) (win : 0 < out.segment.window_len * 2 ^ scale_of w.remote_win_scale) (j m : ℕ) (skips : seq_sub (next_ack w) out.segment.seq_number ≡ j) (near : j < 2 ^ 31) (long : length out.segment.payload ≡ j + m) (some : 0 < m) (fits : m ≤ seq_sub (receive_window w).end (receive_window w).start) (past : seq_sub (seq_add out.segment.seq_number (length out.segment.payload)) (next_ack w) ≡ m) where
+module _ (e : Option Duration) (s : Tuple) (f : Facts) (now : Instant) (v x w : View) (out : Sending) (dispatch : DispatchesOk (told f now) false v (Some out) x) (b : IsSide e s w) (k : TcpSeqNumber) (n : ℕ) (c : IsCaughtUp w k n b.room) (bit : IsData out.segment.control) (ack : out.segment.ack_number ≡ Some k) (number : out.segment.seq_number.0 < 2 ^ 32) (short : length out.segment.payload ≤ 65535) (win : 0 < out.segment.window_len * 2 ^ scale_of w.remote_win_scale) (j m : ℕ) (np : NewPart w out.segment j m) where
   abbrev fresh : List ℕ
-  fresh = fresh_bytes w k n b.room now out.ip out.segment c bit ack j m skips near long some fits past
+  fresh = fresh_bytes w k n b.room now out.ip out.segment c bit ack j m np
 
   abbrev w1 : View
-  w1 = took w k n b.room now out.ip out.segment c bit ack j m skips near long some fits past
+  w1 = took w k n b.room now out.ip out.segment c bit ack j m np
 
   bytes : w1.rx_buffer.bytes ≡ fresh
-  bytes = took_bytes w k n b.room now out.ip out.segment c bit ack j m skips near long some fits past
+  bytes = took_bytes w k n b.room now out.ip out.segment c bit ack j m np
 
   pub brings_side : Brought e s f now v w x k n b.room m (out.segment.window_len * 2 ^ scale_of w.remote_win_scale) (drop j out.segment.payload)
   brings_side =
-      let h : Took w k n b.room m (out.segment.window_len * 2 ^ scale_of w.remote_win_scale) now (read_off w1 (length fresh)) = took_so w k n b.room now out.ip out.segment c bit ack j m skips near long some fits past in
-      let r = took_reached w k n b.room now out.ip out.segment c bit ack j m skips near long some fits past b.sender.reached number short in
+      let h : Took w k n b.room m (out.segment.window_len * 2 ^ scale_of w.remote_win_scale) now (read_off w1 (length fresh)) = took_so w k n b.room now out.ip out.segment c bit ack j m np in
+      let r = took_reached w k n b.room now out.ip out.segment c bit ack j m np b.sender.reached number short in
       record {
         view = read_off w1 (length fresh);
         took = h;
         side = record {
-          sender = record { reached = r; state = ap may_send h.state ∙ b.sender.state; peer = h.peer ∙ b.sender.peer; no_timeout = h.timeout ∙ b.sender.no_timeout; keep_alive = h.keep_alive ∙ b.sender.keep_alive; nothing_marked = h.marked ∙ b.sender.nothing_marked; rests = took_rests w k n b.room now out.ip out.segment c bit ack j m skips near long some fits past win b.sender.rests };
+          sender = record { reached = r; state = ap may_send h.state ∙ b.sender.state; peer = h.peer ∙ b.sender.peer; no_timeout = h.timeout ∙ b.sender.no_timeout; keep_alive = h.keep_alive ∙ b.sender.keep_alive; nothing_marked = h.marked ∙ b.sender.nothing_marked; rests = took_rests w k n b.room now out.ip out.segment c bit ack j m np win b.sender.rests };
           established = h.state ∙ b.established;
           read = h.read;
           room = b.room;
@@ -210,6 +210,6 @@ module _ (e : Option Duration) (s : Tuple) (f : Facts) (now : Instant) (v x w : 
           room_at_least = subst (λ q. 2 ^ q ≤ b.room) (sym h.shift) b.room_at_least;
         };
         moves = λ at since got.
-            OneMore at now now v w x w1 x (read_off w1 (length fresh)) got got (got ++ fresh) since (Carries out dispatch (takes w k n b.room now out.ip out.segment c bit ack j m skips near long some fits past) refl)
+            OneMore at now now v w x w1 x (read_off w1 (length fresh)) got got (got ++ fresh) since (Carries out dispatch (takes w k n b.room now out.ip out.segment c bit ack j m np) refl)
             (OneMore now now now x w1 x (read_off w1 (length fresh)) x (read_off w1 (length fresh)) got (got ++ fresh) (got ++ fresh) (grind (arith, ints)) (Reads (length fresh) (omega (arith, ap (λ (l : List ℕ). length l) bytes)) refl refl (ap (λ (l : List ℕ). got ++ l) (sym (read_out w1.rx_buffer fresh bytes)))) (NoMove now x (read_off w1 (length fresh)) (got ++ fresh)));
       }

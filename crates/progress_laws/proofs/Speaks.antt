@@ -1,8 +1,7 @@
 -- What a sender in step says at the moment of its keep-alive.
-use Rattle.std.proofs.Common.{◌≡◌, ℕ, ◌⊎◌, ◌^◌, Bool, ◌-◌, ◌/◌, ◌<◌, ◌≤◌, inl, true, false, not, ◌&&◌, refl, sym, ap, subst, ◌∙◌, List, length, take, drop, min, Option, Some, None, arith}
+use Rattle.std.proofs.Common.{◌≡◌, ℕ, ◌⊎◌, ◌^◌, Bool, ◌-◌, ◌/◌, ◌<◌, ◌≤◌, inl, inr, true, false, not, ◌&&◌, refl, sym, ap, subst, ◌∙◌, List, length, take, drop, min, Option, Some, None, arith}
 use Rattle.std.proofs.lemmas.Option.{none-some}
 use Rattle.std.specs.Prelude.{if◌then◌else◌, pos}
-use Rattle.net_base.specs.Ring.{in_one_piece}
 use Rattle.net_base.specs.declared.time.Duration.{Duration}
 use Rattle.net_base.specs.declared.time.Instant.{Instant}
 use Rattle.control_wire.specs.Segment.{Segment, segment_len}
@@ -18,7 +17,7 @@ use Rattle.sock_tcp.specs.Begin.{after_timer, after_timers, is_paused, readied, 
 use Rattle.sock_tcp.specs.Content.{Sending, asked, carries_data, emission_kind, is_probing, offset_of, sent_as, window_left}
 use Rattle.sock_tcp.specs.Due.{congestion_left, data_due, effective_mss, flight, is_closed, is_due, window_field}
 use Rattle.sock_tcp.specs.Polls.{is_reached, timeout_poll}
-use Rattle.sock_tcp.specs.Queue.{IsLent, Queue}
+use Rattle.sock_tcp.specs.Queue.{Queue}
 use Rattle.sock_tcp.specs.Queues.{may_send}
 use Rattle.sock_tcp.specs.Timers.{after as moment_after, idle_from, is_close_over, is_keep_alive_over, is_over, is_probe_over, keep_alive_renewed, retransmit_unless_set, rto_of}
 use Rattle.sock_tcp.specs.View.{View}
@@ -35,7 +34,7 @@ use Rattle.tcp_laws.proofs.Sleeping.{window_sends}
 use Rattle.tcp_laws.proofs.Probing.{reached_probing}
 use Rattle.progress_laws.specs.InStep.{ForAnswer, ForKeepAlive, ForNothing, ForProbe, IsSender, Rests, told}
 use Rattle.progress_laws.specs.Speech.{DispatchesOk, GoesOn, SendsOk}
-use Rattle.progress_laws.proofs.Begins.{Same, readied_alike, same_again, same_then, beginning, carries_runs, content_is, dispatch_reached, not_zero, quiet_so, segment_for, sends_so}
+use Rattle.progress_laws.proofs.Begins.{Same, beginning, carries_runs, content_is, dispatch_reached, lent_for, not_zero, quiet_so, readied_alike, same_again, same_then, segment_for, sends_so}
 use Rattle.progress_laws.proofs.Edges.{is_earlier, is_not_before, later_is, later_stays}
 use Rattle.progress_laws.proofs.Hears.{IsData, IsOpenTimer, idle_is, idle_moment}
 use Rattle.progress_laws.proofs.Lends.{lent_some, mss_some}
@@ -97,6 +96,11 @@ pub record SpeaksNothing (f : Facts) (v : View) : Type 0 where
   pub shift : after.remote_win_shift ≡ v.remote_win_shift
   pub untold : Untold v after
 
+-- the own window is told, with RCV.NXT
+pub record HasTold (v x : View) : Type 0 where
+  pub last_ack : x.remote_last_ack ≡ Some (next_ack v)
+  pub last_win : x.remote_last_win ≡ window_field v
+
 -- without a window nothing, or an acknowledgement; it waits for its keep-alive then, with nothing in flight
 pub record FallsSilent (f : Facts) (v : View) : Type 0 where
   pub out : Option Sending
@@ -107,6 +111,8 @@ pub record FallsSilent (f : Facts) (v : View) : Type 0 where
   pub timer : after.timer ≡ timer.Idle (Some moment)
   pub nxt : after.remote_last_seq ≡ after.local_seq_no
   pub window : after.remote_win_len ≡ v.remote_win_len
+  pub shift : after.remote_win_shift ≡ v.remote_win_shift
+  pub told : Untold v after ⊎ HasTold v after
 
 pub open_window : (c : AnyController) → IsOpen c → 0 < congestion_window c
 open_window (controller.None x) h = omega arith
@@ -149,6 +155,28 @@ again_front v now at r no_timeout waits over =
     let al = readied_alike v now in
     record { same = same_then al.same (same_again (readied v now) now); nxt = al.same.una; untold = record { last_ack = al.last_ack; last_win = al.last_win }; marked = al.marked; mss = al.mss; moment = idle_moment now (readied v now).keep_alive; idle = idle_is now (readied v now).keep_alive; ordered = subst IsOrdered (begins_again (readied v now) now at (al.same.timeout ∙ no_timeout) (al.timer ∙ waits) over) (timers_ordered (readied v now) now (readied_ordered v now (reached_ordered v r))) }
 
+-- nothing is in flight then, nothing is marked, and no probe goes out
+pub record FromFront (u : View) (now : Instant) : Type 0 where
+  pub nothing_marked : u.pending_fast_retransmit ≡ false
+  pub mss : 48 ≤ u.remote_mss
+  pub no_flight : flight u ≡ 0
+  pub no_probing : is_probing u now ≡ false
+  pub start : offset_of u ≡ 0
+
+pub from_front : (v u : View) (now : Instant) → Front v u → IsReached v → v.pending_fast_retransmit ≡ false → FromFront u now
+from_front v u now fr reached unmarked = record { nothing_marked = marked; mss = subst (λ n. 48 ≤ n) (sym fr.mss) (reached_probing v reached).mss; no_flight = none; no_probing = no_probe u now (ap (λ tm. is_probe_over tm now) fr.idle); start = rw marked none }
+  where
+    marked : u.pending_fast_retransmit ≡ false
+    marked = fr.marked ∙ unmarked
+
+    none : flight u ≡ 0
+    none = ap (λ n. seq_sub n u.local_seq_no) (fr.nxt ∙ sym fr.same.una) ∙ no_distance u.local_seq_no fr.ordered.una_small
+
+-- what is asked for keeps to both windows
+pub asked_so : (u : View) (t : Tuple) (f : Facts) (now : Instant) → FromFront u now → carries_data u.state ≡ true → asked u t (told f now) false ≡ min (min (window_left u) (effective_mss u t (told f now) false)) (congestion_left u)
+unfolding asked
+asked_so u t f now ft carries = rw (ft.no_probing, carries, ft.nothing_marked) refl
+
 module _ (d : Option Duration) (t : Tuple) (v : View) (f : Facts) (now : Instant) (mtu : IsMtu f.mtu) (s : IsSender d t v) (on : GoesOn v t (told f now)) (carries : is_paused v.state v.synack_paused ≡ false) (u : View) (fr : Front v u) (u_is : beginning v t (told f now) false on carries ≡ u) where
   abbrev fa : Facts
   fa = told f now
@@ -162,45 +190,32 @@ module _ (d : Option Duration) (t : Tuple) (v : View) (f : Facts) (now : Instant
   opens : is_closed u.state ≡ false
   opens = flat_open u.state sends
 
-  nothing_marked : u.pending_fast_retransmit ≡ false
-  nothing_marked = fr.marked ∙ s.nothing_marked
-
-  mss : 48 ≤ u.remote_mss
-  mss = subst (λ n. 48 ≤ n) (sym fr.mss) (reached_probing v s.reached).mss
-
-  no_flight : flight u ≡ 0
-  no_flight = ap (λ n. seq_sub n u.local_seq_no) (fr.nxt ∙ sym fr.same.una) ∙ no_distance u.local_seq_no fr.ordered.una_small
-
-  no_probing : is_probing u now ≡ false
-  no_probing = no_probe u now (ap (λ tm. is_probe_over tm now) fr.idle)
-
-  start : offset_of u ≡ 0
-  start = rw nothing_marked no_flight
+  ft : FromFront u now
+  ft = from_front v u now fr s.reached s.nothing_marked
 
   abbrev bytes : List ℕ
-  bytes = take (min (asked u t fa false) (in_one_piece u.tx_buffer.until_end (length u.tx_buffer.bytes) (offset_of u))) (drop (offset_of u) u.tx_buffer.bytes)
-
-  lent : IsLent u.tx_buffer (offset_of u) (asked u t fa false) bytes
-  lent = refl
+  bytes = lent_for u t fa
 
   asked_is : asked u t fa false ≡ min (min (window_left u) (effective_mss u t fa false)) (congestion_left u)
-  unfolding asked
-  asked_is = rw (no_probing, sends_data u.state may, nothing_marked) refl
+  asked_is = asked_so u t f now ft (sends_data u.state may)
 
   few : length bytes ≤ min (asked u t fa false) (length u.tx_buffer.bytes - offset_of u)
-  few = lent_at_most u.tx_buffer (offset_of u) (asked u t fa false) bytes lent
+  few = lent_at_most u.tx_buffer (offset_of u) (asked u t fa false) bytes refl
 
   abbrev b : Segment
   b = segment_for u t None bytes
 
   bit : IsData b.control
-  bit = segment_bit u t None bytes sends nothing_marked
+  bit = segment_bit u t None bytes sends ft.nothing_marked
 
   number : b.seq_number ≡ v.local_seq_no
-  number = segment_number u t None bytes sends nothing_marked ∙ fr.nxt
+  number = segment_number u t None bytes sends ft.nothing_marked ∙ fr.nxt
 
   ack : b.ack_number ≡ Some (next_ack v)
-  ack = segment_ack u t None bytes sends nothing_marked ∙ (λ i. Some (seq_add (fr.same.rcv i) (length ((fr.same.rx i).bytes))))
+  ack = segment_ack u t None bytes sends ft.nothing_marked ∙ (λ i. Some (seq_add (fr.same.rcv i) (length ((fr.same.rx i).bytes))))
+
+  told_field : b.window_len ≡ window_field v
+  told_field = segment_window u t None bytes sends ft.nothing_marked ∙ (λ i. min (length ((fr.same.rx i).held) / 2 ^ fr.same.shift i) 65535)
 
   carries_on : carries_data u.state ≡ true
   carries_on = sends_data u.state may
@@ -210,7 +225,7 @@ module _ (d : Option Duration) (t : Tuple) (v : View) (f : Facts) (now : Instant
     stamp = None;
     told = refl;
     bytes = bytes;
-    lent = lent;
+    lent = refl;
     sends = sym (content_is u t fa None bytes carries_on ∙ ap (λ c. Some (sent_as u t c b)) e);
     view = refl;
   }))
@@ -220,7 +235,7 @@ module _ (d : Option Duration) (t : Tuple) (v : View) (f : Facts) (now : Instant
   data_is_due e = rw e refl
 
   waits : (k : Kind) → DispatchesOk fa false v (Some (sent_as u t k b)) (left u t now b opens k) → SentOf u (left u t now b opens k) → IsOpenTimer (left u t now b opens k).timer → Waits v (left u t now b opens k)
-  waits k h l o = record { reached = dispatch_reached fa false v (Some (sent_as u t k b)) (left u t now b opens k) s.reached h; same = same_then fr.same l.same; nothing_marked = l.marked ∙ ap (λ m. m && not (carries_data u.state)) nothing_marked; timer = o }
+  waits k h l o = record { reached = dispatch_reached fa false v (Some (sent_as u t k b)) (left u t now b opens k) s.reached h; same = same_then fr.same l.same; nothing_marked = l.marked ∙ ap (λ m. m && not (carries_data u.state)) ft.nothing_marked; timer = o }
 
   renewed : keep_alive_renewed u.timer now u.keep_alive ≡ idle_from now u.keep_alive
   renewed = ap (λ tm. keep_alive_renewed tm now u.keep_alive) fr.idle
@@ -230,11 +245,11 @@ module _ (d : Option Duration) (t : Tuple) (v : View) (f : Facts) (now : Instant
   speaks_bytes win queue =
       let win_u : 0 < u.remote_win_len = subst (λ n. 0 < n) (sym fr.same.window) win in
       let queue_u : 0 < length u.tx_buffer.bytes = subst (λ (q : Queue). 0 < length q.bytes) (sym fr.same.tx) queue in
-      let asks : 0 < asked u t fa false = omega (arith, asked_is, win_u, no_flight, mss_some u t fa false mtu.0 mss, open_window u.congestion_controller fr.ordered.congestion) in
-      let some : 0 < length bytes = lent_some u.tx_buffer (offset_of u) (asked u t fa false) bytes lent asks (omega (arith, start, queue_u)) in
-      let plain : emission_kind u now b ≡ kind.Plain = with_bytes u t None bytes sends nothing_marked now no_probing some in
-      let h = goes_out kind.Plain plain (data_is_due (window_sends u t fa false fr.ordered win_u no_flight (inl queue_u))) in
-      let long : segment_len b ≡ length bytes = segment_length u t None bytes sends nothing_marked in
+      let asks : 0 < asked u t fa false = omega (arith, asked_is, win_u, ft.no_flight, mss_some u t fa false mtu.0 ft.mss, open_window u.congestion_controller fr.ordered.congestion) in
+      let some : 0 < length bytes = lent_some u.tx_buffer (offset_of u) (asked u t fa false) bytes refl asks (omega (arith, ft.start, queue_u)) in
+      let plain : emission_kind u now b ≡ kind.Plain = with_bytes u t None bytes sends ft.nothing_marked now ft.no_probing some in
+      let h = goes_out kind.Plain plain (data_is_due (window_sends u t fa false fr.ordered win_u ft.no_flight (inl queue_u))) in
+      let long : segment_len b ≡ length bytes = segment_length u t None bytes sends ft.nothing_marked in
       let same : length u.tx_buffer.bytes ≡ length v.tx_buffer.bytes = ap (λ (q : Queue). length q.bytes) fr.same.tx in
       record {
         out = sent_as u t kind.Plain b;
@@ -244,7 +259,7 @@ module _ (d : Option Duration) (t : Tuple) (v : View) (f : Facts) (now : Instant
         some = some;
         within = inl (omega (arith, few, asked_is, fr.same.window));
         queued = omega (arith, few, same);
-        first = lent_beginning u.tx_buffer (offset_of u) (asked u t fa false) bytes lent ∙ ap (λ o. take (length bytes) (drop o u.tx_buffer.bytes)) start ∙ ap (λ (q : Queue). take (length bytes) q.bytes) fr.same.tx;
+        first = lent_beginning u.tx_buffer (offset_of u) (asked u t fa false) bytes refl ∙ ap (λ o. take (length bytes) (drop o u.tx_buffer.bytes)) ft.start ∙ ap (λ (q : Queue). take (length bytes) q.bytes) fr.same.tx;
         sent = length bytes;
         sent_within = omega arith;
         nxt = (plain_told u t now b opens).nxt ∙ (λ i. later_of (fr.nxt i) (seq_add (number i) (long i))) ∙ later_is v.local_seq_no (seq_add v.local_seq_no (length bytes)) (is_earlier v.local_seq_no (seq_add v.local_seq_no (length bytes)) (omega (arith, some, few, fr.ordered.room, (reached_ordered v s.reached).una_small)));
@@ -262,7 +277,7 @@ module _ (d : Option Duration) (t : Tuple) (v : View) (f : Facts) (now : Instant
   speaks_plain win queue =
       let l = plain_sent u t now b opens in
       let some : 0 < length bytes = (speaks_bytes win queue).some in
-      let long : segment_len b ≡ length bytes = segment_length u t None bytes sends nothing_marked in
+      let long : segment_len b ≡ length bytes = segment_length u t None bytes sends ft.nothing_marked in
       record {
         bytes = speaks_bytes win queue;
         fits = omega (arith, few, asked_is, fr.same.window);
@@ -276,9 +291,6 @@ module _ (d : Option Duration) (t : Tuple) (v : View) (f : Facts) (now : Instant
         last_win = (plain_told u t now b opens).window ∙ told_field;
       }
     where
-      told_field : b.window_len ≡ window_field v
-      told_field = segment_window u t None bytes sends nothing_marked ∙ (λ i. min (length ((fr.same.rx i).held) / 2 ^ fr.same.shift i) 65535)
-
       waits_again : (keep : Option Duration) → retransmit_unless_set (idle_from now keep) now u.rtte ≡ timer.Retransmit (moment_after now (rto_of u.rtte))
       waits_again None = refl
       waits_again (Some d) = refl
@@ -288,7 +300,7 @@ module _ (d : Option Duration) (t : Tuple) (v : View) (f : Facts) (now : Instant
   speaks_nothing win keep_over =
       let shut : u.remote_win_len ≡ 0 = fr.same.window ∙ win in
       let none : length bytes ≡ 0 = omega (arith, few, asked_is, shut) in
-      let kept : emission_kind u now b ≡ kind.KeepAlive = without_bytes u t None bytes sends nothing_marked now no_probing none true keep_over in
+      let kept : emission_kind u now b ≡ kind.KeepAlive = without_bytes u t None bytes sends ft.nothing_marked now ft.no_probing none true keep_over in
       let h = goes_out kind.KeepAlive kept (keep_alive_due u t fa false keep_over) in
       record {
         out = sent_as u t kind.KeepAlive b;
@@ -315,7 +327,7 @@ module _ (d : Option Duration) (t : Tuple) (v : View) (f : Facts) (now : Instant
       none = omega (arith, few, asked_is, fr.same.window, win)
 
       long : segment_len b ≡ 0
-      long = segment_length u t None bytes sends nothing_marked ∙ none
+      long = segment_length u t None bytes sends ft.nothing_marked ∙ none
 
       small : v.local_seq_no.0 < 2 ^ 32
       small = (reached_ordered v s.reached).una_small
@@ -325,7 +337,7 @@ module _ (d : Option Duration) (t : Tuple) (v : View) (f : Facts) (now : Instant
 
       speaks : is_due u t fa false ≡ true → (k : Bool) → is_keep_alive_over u.timer now ≡ k → FallsSilent fa v
       speaks due true over =
-          let h = goes_out kind.KeepAlive (without_bytes u t None bytes sends nothing_marked now no_probing none true over) due in
+          let h = goes_out kind.KeepAlive (without_bytes u t None bytes sends ft.nothing_marked now ft.no_probing none true over) due in
           let l = kept_sent u t now b opens in
           record {
             out = Some (sent_as u t kind.KeepAlive b);
@@ -336,9 +348,11 @@ module _ (d : Option Duration) (t : Tuple) (v : View) (f : Facts) (now : Instant
             timer = kept_timer u t now b opens ∙ renewed ∙ waits_then;
             nxt = kept_nxt u t now b opens ∙ fr.nxt ∙ sym (l.same.una ∙ fr.same.una);
             window = l.same.window ∙ fr.same.window;
+            shift = l.same.shift ∙ fr.same.shift;
+            told = inl (let k = kept_untold u t now b opens in record { last_ack = k.last_ack ∙ fr.untold.last_ack; last_win = k.last_win ∙ fr.untold.last_win });
           }
       speaks due false over =
-          let h = goes_out kind.Plain (without_bytes u t None bytes sends nothing_marked now no_probing none false over) due in
+          let h = goes_out kind.Plain (without_bytes u t None bytes sends ft.nothing_marked now ft.no_probing none false over) due in
           let l = plain_sent u t now b opens in
           let tm : (left u t now b opens kind.Plain).timer ≡ idle_from now u.keep_alive = plain_timer u t now b opens true (rw long refl) ∙ renewed in
           record {
@@ -350,6 +364,8 @@ module _ (d : Option Duration) (t : Tuple) (v : View) (f : Facts) (now : Instant
             timer = tm ∙ waits_then;
             nxt = (plain_told u t now b opens).nxt ∙ (λ i. later_of (fr.nxt i) (seq_add (number i) (long i))) ∙ stays ∙ sym (l.same.una ∙ fr.same.una);
             window = l.same.window ∙ fr.same.window;
+            shift = l.same.shift ∙ fr.same.shift;
+            told = inr (record { last_ack = (plain_told u t now b opens).ack ∙ ack; last_win = (plain_told u t now b opens).window ∙ told_field });
           }
 
       no_moment : u.timer ≡ timer.Idle None → u.keep_alive ≡ None
@@ -361,11 +377,13 @@ module _ (d : Option Duration) (t : Tuple) (v : View) (f : Facts) (now : Instant
         out = None;
         after = u;
         dispatch = h;
-        waits = record { reached = dispatch_reached fa false v None u s.reached h; same = fr.same; nothing_marked = nothing_marked; timer = subst IsOpenTimer (sym idle) tt };
+        waits = record { reached = dispatch_reached fa false v None u s.reached h; same = fr.same; nothing_marked = ft.nothing_marked; timer = subst IsOpenTimer (sym idle) tt };
         moment = m;
         timer = idle;
         nxt = fr.nxt ∙ sym fr.same.una;
         window = fr.same.window;
+        shift = fr.same.shift;
+        told = inl fr.untold;
       }
 
       by : (due : Bool) → is_due u t fa false ≡ due → FallsSilent fa v

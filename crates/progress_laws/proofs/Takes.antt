@@ -27,7 +27,7 @@ use Rattle.progress_laws.proofs.Begins.{not_zero, some_or_none, step_reached}
 use Rattle.progress_laws.proofs.Edges.{cut_at, is_not_before, later_stays, old_outside, tail_cut, tail_inside, differs, same_seq}
 use Rattle.progress_laws.proofs.Hears.{HeardAs, IsData, IsNoDuplicate, data_is_said, IsOpenTimer, answered_outside, covered, heard_as, bytes_no_duplicate, heard_again, heard_inside, heard_open, heard_rests, seen}
 use Rattle.progress_laws.proofs.Learns.{idle_rests}
-use Rattle.progress_laws.proofs.Receives.{start_is}
+use Rattle.progress_laws.proofs.Receives.{NewPart, start_is}
 use Rattle.progress_laws.proofs.States.{is_steady, not_listening}
 use Rattle.progress_laws.proofs.Taking.{at_once, blank, blank_holds_nothing, read_bytes, read_held, take_all, taken_bytes, taken_held}
 
@@ -132,7 +132,7 @@ module _ (w : View) (k : TcpSeqNumber) (n room : ℕ) (now : Instant) (ip : IpRe
   hears : HeardAs z k (seq_sub k w.local_seq_no) (g.window_len * 2 ^ scale_of w.remote_win_scale) x
   hears = heard_as z now (covered w now 0 ip g k c.state ack bit) g k ack (data_is_said g.control bit)
 
-  module _ (j m : ℕ) (skips : seq_sub (next_ack w) g.seq_number ≡ j) (near : j < 2 ^ 31) (long : length g.payload ≡ j + m) (some : 0 < m) (fits : m ≤ seq_sub (receive_window w).end (receive_window w).start) (past : seq_sub (seq_add g.seq_number (length g.payload)) (next_ack w) ≡ m) where
+  module _ (j m : ℕ) (np : NewPart w g j m) where
     abbrev pub fresh_bytes : List ℕ
     fresh_bytes = drop j g.payload
 
@@ -140,23 +140,23 @@ module _ (w : View) (k : TcpSeqNumber) (n room : ℕ) (now : Instant) (ip : IpRe
     took = ack_delayed (joined x 0 fresh_bytes) now
 
     pub fresh_length : length fresh_bytes ≡ m
-    fresh_length = length-drop j g.payload ∙ omega (arith, long)
+    fresh_length = length-drop j g.payload ∙ omega (arith, np.long)
 
     abbrev rest : ℕ
     rest = room - m
 
     room_is : room ≡ length fresh_bytes + rest
-    room_is = let h = window_width w (omega (arith, wide, c.narrow)) in omega (arith, h, wide, fits, fresh_length)
+    room_is = let h = window_width w (omega (arith, wide, c.narrow)) in omega (arith, h, wide, np.fits, fresh_length)
 
     past_start : seq_sub (seq_add g.seq_number (length g.payload)) (receive_window w).start ≡ m
-    past_start = ap (λ e. seq_sub (seq_add g.seq_number (length g.payload)) e) (start_is w) ∙ past
+    past_start = ap (λ e. seq_sub (seq_add g.seq_number (length g.payload)) e) (start_is w) ∙ np.past
 
     inside : is_inside (receive_window w) g.seq_number (length g.payload) ≡ true
     unfolding is_inside
-    inside = rw (not_zero (length g.payload) (omega (arith, long, some))) (tail_inside (receive_window w) (start_small w) (end_small w) width_small g.seq_number (seq_add g.seq_number (length g.payload)) m (omega arith) some fits past_start)
+    inside = rw (not_zero (length g.payload) (omega (arith, np.long, np.some))) (tail_inside (receive_window w) (start_small w) (end_small w) width_small g.seq_number (seq_add g.seq_number (length g.payload)) m (omega arith) np.some np.fits past_start)
 
     cut_is : cut_of (receive_window w) g.seq_number (length g.payload) ≡ cut_at j m 0
-    cut_is = tail_cut (receive_window w) (start_small w) (end_small w) width_small g.seq_number (seq_add g.seq_number (length g.payload)) m (omega arith) some fits past_start j (length g.payload) (ap (λ e. seq_sub e g.seq_number) (start_is w) ∙ skips) near refl
+    cut_is = tail_cut (receive_window w) (start_small w) (end_small w) width_small g.seq_number (seq_add g.seq_number (length g.payload)) m (omega arith) np.some np.fits past_start j (length g.payload) (ap (λ e. seq_sub e g.seq_number) (start_is w) ∙ np.skips) np.near refl
 
     no_bytes : x.rx_buffer.bytes ≡ []
     no_bytes = ap (λ (b : Received). b.bytes) hears.rx ∙ c.read
@@ -166,7 +166,7 @@ module _ (w : View) (k : TcpSeqNumber) (n room : ℕ) (now : Instant) (ip : IpRe
 
     all_taken : bytes_taken x now 0 fresh_bytes g ≡ record { view = took; reply = None }
     unfolding bytes_taken joined ack_delayed
-    all_taken = rw (not_zero (length fresh_bytes) (omega (arith, fresh_length, some)), at_once x.rx_buffer fresh_bytes, nothing_before, nothing_after) refl
+    all_taken = rw (not_zero (length fresh_bytes) (omega (arith, fresh_length, np.some)), at_once x.rx_buffer fresh_bytes, nothing_before, nothing_after) refl
       where
         nothing_before : holds_nothing x.rx_buffer.held ≡ true
         nothing_before = ap holds_nothing none_held ∙ blank_holds_nothing room
@@ -213,7 +213,7 @@ module _ (w : View) (k : TcpSeqNumber) (n room : ℕ) (now : Instant) (ip : IpRe
     }
 
     no_duplicate : IsNoDuplicate z now (covered w now 0 ip g k c.state ack bit) g k
-    no_duplicate = bytes_no_duplicate z now (covered w now 0 ip g k c.state ack bit) g k (omega (arith, long, some))
+    no_duplicate = bytes_no_duplicate z now (covered w now 0 ip g k c.state ack bit) g k (omega (arith, np.long, np.some))
 
     pub took_open : IsOpenTimer y.timer
     unfolding read_off joined ack_delayed

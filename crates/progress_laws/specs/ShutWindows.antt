@@ -1,5 +1,5 @@
 -- Two sockets in ESTABLISHED of which one or both know a window of 0, and what they can do in turn.
-use Rattle.std.specs.Prelude.{ℕ, ◌≡◌, ◌⊎◌, ◌+◌, ◌<◌, ◌≤◌, List, ◌++◌, length, drop, Option, true}
+use Rattle.std.specs.Prelude.{ℕ, ◌≡◌, ◌⊎◌, ◌+◌, ◌<◌, ◌≤◌, List, ◌++◌, length, drop, Option, is_some, true}
 use Rattle.net_base.specs.declared.time.Duration.{Duration}
 use Rattle.net_base.specs.declared.time.Instant.{Instant}
 use Rattle.control_wire.specs.Seq.{seq_add, seq_sub}
@@ -27,13 +27,13 @@ pub record TowardShut (v w : View) : Type 0 where
   pub window : v.remote_win_len ≤ taken + width w
   pub at_most : v.remote_win_len ≤ window_told w
 
--- The side v knows a window above 0; or it waits for no acknowledgement, so that it is to send a keep-alive or a probe,
--- and hears the answer: SND.NXT of w is RCV.NXT of v, or lies in the receive window of v. What it tells now of that
--- window it has told before
+-- The side v knows a window above 0; or it has a keep-alive interval, at least while its retransmission timer runs, so
+-- that it comes to send a keep-alive or a probe, and hears the answer: SND.NXT of w is RCV.NXT of v, or lies in the
+-- window that v tells now. That it has told before
 pub data CanHear (v w : View) : Type 0 where
   KnowsOne : 0 < v.remote_win_len → CanHear v w
-  WillAsk : ((at : Instant) → v.timer ≡ timer.Retransmit at → ⊥)
-      → (w.remote_last_seq ≡ next_ack v) ⊎ (seq_sub w.remote_last_seq (next_ack v) < width v)
+  WillAsk : ((at : Instant) → v.timer ≡ timer.Retransmit at → is_some v.keep_alive ≡ true)
+      → (w.remote_last_seq ≡ next_ack v) ⊎ (seq_sub w.remote_last_seq (next_ack v) < window_told v)
       → window_told v ≤ width v
       → CanHear v w
 

@@ -80,9 +80,9 @@ pub fn both_ways_finish()
     ensures { BothWaysFinish }
 {}
 
-/// The same where one of them or both know a window of 0 (`BothShut`): each that does, and does not wait for an
-/// acknowledgement, asks for one with its keep-alive or its probe, and hears the answer. Then both streams come to their
-/// end.
+/// The same where one of them or both know a window of 0 (`BothShut`): each that does asks for one with its keep-alive
+/// or its probe, and hears the answer; while its retransmission timer runs it has a keep-alive interval. Then both
+/// streams come to their end.
 pub fn shut_windows_open()
     ensures { ShutWindowsOpen }
 {}
@@ -93,8 +93,8 @@ pub fn sending_keeps_in_step()
 {}
 
 /// From a sender that was closed with bytes to send, in FIN-WAIT-1, CLOSING or LAST-ACK, that knows a window above 0,
-/// and a receiver in ESTABLISHED, FIN-WAIT-1 or FIN-WAIT-2 (`AfterClose`), some list of dispatches, deliveries and reads
-/// brings over all bytes, in order, and then reads answer `Finished`.
+/// and a receiver in ESTABLISHED, FIN-WAIT-1 or FIN-WAIT-2 (`AfterClose`), some list of dispatches, deliveries and
+/// reads brings over all bytes, in order, and then reads answer `Finished`.
 pub fn closed_sender_finishes()
     ensures { ClosedSenderFinishes }
 {}
