@@ -72,7 +72,8 @@ struct smoltcp_place { const uint8_t *at; size_t len; };
 /* The size of each kind of socket, and of a place of its queues, in bytes. */
 struct smoltcp_sizes { size_t tcp, udp, udp_place, raw, raw_place, icmp, icmp_place; };
 
-/* What a socket is asked by the calls `ask`: of all kinds, of those with queues of packets, of raw ones, of TCP. */
+/* What smoltcp_tcp_ask, smoltcp_udp_ask and so on are asked; for each there is a call of its name too. What a kind of
+ * socket is not asked is answered by SMOLTCP_ERROR_RANGE: of TCP also 0 and 1, which have calls of their own. */
 enum {
     SMOLTCP_ASK_CAN_SEND = 0, SMOLTCP_ASK_CAN_RECV = 1, SMOLTCP_ASK_SEND_QUEUE = 2, SMOLTCP_ASK_RECV_QUEUE = 3,
     SMOLTCP_ASK_IS_OPEN = 4, SMOLTCP_ASK_HOP_LIMIT = 5,

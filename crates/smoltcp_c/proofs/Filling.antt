@@ -15,13 +15,13 @@ use mir.Raw.{raw as raw_ty}
 use mir.Syntax.{Fn, Sym, Ty, named, mut, ty_ptr, ty_ref, ty_unit, local, value_local, seq, block, assign, return, place, deref, field, rv_opd, copy, opd_unit}
 use mir.Val.{Val, vptr, vstruct, vnil, vcons, vunit, of_list, has_ty, WT}
 use base.Logic.{SProp, ent, sep, via, snd∗, id⊢, never}
-use base.Fml.{Lft, GName, Share, Fml, ftrue, froom, flft, fobs, fbor}
+use base.Fml.{Lft, GName, Share, Fml, ftrue, froom, flft, fobs, fbor, fobor, fauth}
 use contract.Monad.{fact, fact_use}
 use prog.Memory.{field_of}
 use prog.Wp.{Env, Calls, Loops, WpFn, Tables}
 use types.Logic.{Logic, sem}
 use sound.WpLaws.{WpFn-mono}
-use types.Kit.{fsplit3, fjoin3, frame, Goal as Aim, Step, step, Seq, Item, ‵, ◌⊛◌, at_ret, ◌$◌, ◌∵◌, !, qed, by, move, keep, use1, use2, drop, split, join, fsplit, fjoin, fpick, fpack, feq_l, feq_i, rewrite, suffices, done}
+use types.Kit.{Go, Soaks, fsplit3, fjoin3, frame, Goal as Aim, Step, step, Seq, Item, ‵, ◌⊛◌, at_ret, ◌$◌, ◌∵◌, !, qed, by, move, keep, use1, use2, drop, split, join, fsplit, fjoin, fpick, fpack, feq_l, feq_i, rewrite, suffices, done}
 use types.Part.{whole, sub, look_in}
 use types.Run.{init, stop, fld, load, of_opd, unit_lit, assigns_last, first, blocks, exec, returns, enter}
 use types.ByLocal.{alloc_all, pass_all, free_all, look_at, get, through, sets, env}
@@ -142,6 +142,16 @@ module _ (name : Sym) (D : Type 0) (at : D → Ptr) (coded : Coded D) (exit : Ke
       abbrev Goal : Fn → List Val → List Val → Type 1
       Goal fn us ws = ent 𝓤 (on_entry 𝓛 ended.signature (κ, tt) (q, tt) (self, (x, tt)) (us, (ws, tt))) (WpFn 𝓤 H C Λ fn (us ++ (ws ++ [])) (Post us ws))
 
+      -- the room at the pointer, its word and the open borrow of the struct, and what the value owns
+      opened : (ρ₃ : Ty) → raw_ty τ ≡ raw_ty ρ₃ → (v : Val) → Empty d → {Γ : List (Item 𝓤)} {G : Aim 𝓤 H} → Soaks G
+          → ((b o : ℕ) → at d ≡ block_ptr b o → Seq Go 𝓛 (‵ (froom ρ₃ b o) ∷ ‵ (cell_at full_share Room.mir (word b o ∷ []) rb ro) ∷ ‵ (fobor κ q (Borrowed (mem Room) rb ro γ)) ∷ ‵ (fobs γ (Room.coded.code d)) ∷ ‵ (fauth γ (Room.coded.code d)) ∷ ‵ (R.own_val x (v ∷ [])) ∷ ‵ ftrue ∷ ‵ ftrue ∷ Γ) G)
+          → Seq Go 𝓛 ((‵ (flft κ q) ⊛ ‵ ftrue) ∷ ‵ (owns (MutRef (named 0) κ Room ∷ R ∷ []) (self, (x, tt)) (vptr rb ro ∷ [], (v ∷ [], tt))) ∷ Γ) G
+      opened ρ₃ e₃ v empty z k =
+          move ! (1 ∷ []) $ fsplit ! $ fsplit3 ! $ drop ! $ move ! (3 ∷ []) $ split ! $ move ! (4 ∷ []) $ fsplit ! $ move ! (4 ∷ 5 ∷ 2 ∷ 0 ∷ []) $
+          opens ! z Room {h = d} rb ro (λ us. move ! (1 ∷ []) $ room_out ! d us empty (λ b o at_b ws. move ! (1 ∷ []) $
+          rewrite ! 0 (λ (zs : List Val). ‵ (cell_at full_share Room.mir zs rb ro)) ws refl $ move ! (1 ∷ []) $
+          use1 𝓛 (‵ (froom ρ₃ b o)) (reroom 𝓛 τ ρ₃ e₃ b o) $ k b o at_b))
+
       fills : (f : Fn) (σ₀ σ₁ ρ₁ ρ₂ ρ₃ : Ty) → field_of σ₁ 0 ≡ has (ty_ptr, 0) → raw_ty τ ≡ raw_ty ρ₁ → raw_ty τ ≡ raw_ty ρ₂ → raw_ty τ ≡ raw_ty ρ₃ → (v : Val) → Empty d → Good τ v → Goal (fill_code f σ₀ σ₁ ρ₁ ρ₂ ρ₃) (vptr rb ro ∷ []) (v ∷ [])
       fills f σ₀ σ₁ ρ₁ ρ₂ ρ₃ first_is e₁ e₂ e₃ v empty t =
           let fn : Fn = fill_code f σ₀ σ₁ ρ₁ ρ₂ ρ₃ in
@@ -149,12 +159,7 @@ module _ (name : Sym) (D : Type 0) (at : D → Ptr) (coded : Coded D) (exit : Ke
           enter ! C Λ fn (vptr rb ro ∷ v ∷ []) _ $
           alloc_all ! (λ l. pass_all ! refl ((tt, tt), (wt_as τ ρ₁ e₁ v t, tt)) $
           let En : Env 𝓤 H = env fn.locals l in
-          move ! (1 ∷ []) $ fsplit ! $ fsplit3 ! $ drop ! $ move ! (3 ∷ []) $ split ! $ move ! (4 ∷ []) $ fsplit ! $ move ! (4 ∷ 5 ∷ 2 ∷ 0 ∷ []) $
-          opens ! tt Room {h = d} rb ro (λ us. move ! (1 ∷ []) $ room_out ! d us empty (λ b o at_b ws. move ! (1 ∷ []) $
-          rewrite ! 0 (λ (zs : List Val). ‵ (cell_at full_share Room.mir zs rb ro)) ws refl $ move ! (1 ∷ []) $
-          -- [the room; the word; the open borrow; obs; auth; what the value owns]
-          use1 𝓛 (‵ (froom ρ₃ b o)) (reroom 𝓛 τ ρ₃ e₃ b o) $
-          first ! $ blocks ! $
+          opened ρ₃ e₃ v empty tt (λ b o at_b. first ! $ blocks ! $
           sets ! (of_opd ! (load ! (through ! refl (fld ! first_is (stop !))) (look_in ! 1 (sub ! 0 refl (whole !))))) refl (tt, tt) $
           sets ! (of_opd ! (get ! refl)) refl (tt, tt) $
           sets ! (of_opd ! (get ! refl)) refl (wt_as τ ρ₂ e₂ v t) $
@@ -163,7 +168,7 @@ module _ (name : Sym) (D : Type 0) (at : D → Ptr) (coded : Coded D) (exit : Ke
           sets ! (of_opd ! (unit_lit !)) refl (tt, tt) $
           move ! (0 ∷ 5 ∷ []) $ use2 𝓛 (‵ (part_at R full_share x b o)) (part_in_at 𝓛 R laws.one full_share x b o ρ₃ (sym e₃) v) $ room_in ! d b o x at_b $
           move ! (1 ∷ 0 ∷ []) $ closes ! tt Room (put d x) (word b o ∷ []) rb ro $
-          returns ! (look_at ! 0 refl) $ free_all ! refl $ keep ! (0 ∷ 1 ∷ 2 ∷ []) $ by ! (exits (v ∷ [])))))
+          returns ! (look_at ! 0 refl) $ free_all ! refl $ keep ! (0 ∷ 1 ∷ 2 ∷ []) $ by ! (exits (v ∷ []))))
 
       copies : (f : Fn) (σ₀ σ₁ ρ₁ ρ₃ : Ty) → field_of σ₁ 0 ≡ has (ty_ptr, 0) → raw_ty τ ≡ raw_ty ρ₁ → raw_ty τ ≡ raw_ty ρ₃ → (v : Val) → Empty d → Good τ v → Goal (copy_code f σ₀ σ₁ ρ₁ ρ₃) (vptr rb ro ∷ []) (v ∷ [])
       copies f σ₀ σ₁ ρ₁ ρ₃ first_is e₁ e₃ v empty t =
@@ -172,11 +177,7 @@ module _ (name : Sym) (D : Type 0) (at : D → Ptr) (coded : Coded D) (exit : Ke
           enter ! C Λ fn (vptr rb ro ∷ v ∷ []) _ $
           alloc_all ! (λ l. pass_all ! refl ((tt, tt), (wt_as τ ρ₁ e₁ v t, tt)) $
           let En : Env 𝓤 H = env fn.locals l in
-          move ! (1 ∷ []) $ fsplit ! $ fsplit3 ! $ drop ! $ move ! (3 ∷ []) $ split ! $ move ! (4 ∷ []) $ fsplit ! $ move ! (4 ∷ 5 ∷ 2 ∷ 0 ∷ []) $
-          opens ! tt Room {h = d} rb ro (λ us. move ! (1 ∷ []) $ room_out ! d us empty (λ b o at_b ws. move ! (1 ∷ []) $
-          rewrite ! 0 (λ (zs : List Val). ‵ (cell_at full_share Room.mir zs rb ro)) ws refl $ move ! (1 ∷ []) $
-          use1 𝓛 (‵ (froom ρ₃ b o)) (reroom 𝓛 τ ρ₃ e₃ b o) $
-          first ! $ blocks ! $
+          opened ρ₃ e₃ v empty tt (λ b o at_b. first ! $ blocks ! $
           sets ! (of_opd ! (load ! (through ! refl (fld ! first_is (stop !))) (look_in ! 1 (sub ! 0 refl (whole !))))) refl (tt, tt) $
           sets ! (of_opd ! (get ! refl)) refl (tt, tt) $
           assigns_last ! (of_opd ! (get ! refl)) (through ! refl (stop !)) (init ! 0 refl (wt_as τ ρ₃ e₃ v t)) $
@@ -184,7 +185,7 @@ module _ (name : Sym) (D : Type 0) (at : D → Ptr) (coded : Coded D) (exit : Ke
           sets ! (of_opd ! (unit_lit !)) refl (tt, tt) $
           move ! (0 ∷ 5 ∷ []) $ use2 𝓛 (‵ (part_at R full_share x b o)) (part_in_at 𝓛 R laws.one full_share x b o ρ₃ (sym e₃) v) $ room_in ! d b o x at_b $
           move ! (1 ∷ 0 ∷ []) $ closes ! tt Room (put d x) (word b o ∷ []) rb ro $
-          returns ! (look_at ! 0 refl) $ free_all ! refl $ keep ! (0 ∷ 1 ∷ 2 ∷ []) $ by ! (exits (v ∷ [])))))
+          returns ! (look_at ! 0 refl) $ free_all ! refl $ keep ! (0 ∷ 1 ∷ 2 ∷ []) $ by ! (exits (v ∷ []))))
 
       -- the reference's machine value is its pointer, and the other's is one value of its type
       entry : (fn : Fn) → ((v : Val) → Empty d → Good τ v → Goal fn (vptr rb ro ∷ []) (v ∷ [])) → Empty d → (us ws : List Val) → us ≡ vptr rb ro ∷ [] → Typed (τ ∷ []) ws → Goal fn us ws

@@ -1,4 +1,4 @@
--- What an ICMP socket emits is a packet, and a dispatch writes it.
+-- What an ICMP socket emits is a packet.
 use Rattle.std.proofs.Common.{◌≡◌, ℕ, ◌≤◌, List, false, Option, Some, None, refl, subst}
 use Rattle.std.specs.Prelude.{IfSome}
 use Rattle.ip_wire.specs.declared.address.IpAddress.{IpAddress}

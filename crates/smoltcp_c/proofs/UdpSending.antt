@@ -1,4 +1,4 @@
--- What a UDP socket emits is a packet, and a dispatch writes it.
+-- What a UDP socket emits is a packet.
 use Rattle.std.proofs.Common.{◌≡◌, ℕ, ◌+◌, ◌≤◌, List, length, Bool, true, false, Option, Some, None, refl, subst}
 use Rattle.std.specs.Prelude.{IfSome, if◌then◌else◌}
 use Rattle.ip_wire.specs.IpHeader.{ip_header, next_header_of, payload_len_of}

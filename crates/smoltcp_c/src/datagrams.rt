@@ -1,5 +1,4 @@
-//! The calls of datagram sockets that take no context, and no packet but as bytes of the program: UDP, ICMP (RFC 792,
-//! RFC 4443), raw.
+//! The calls of UDP, ICMP (RFC 792, RFC 4443) and raw sockets that take no context and no packet of the interface.
 ghost use Rattle.std.specs.Prelude.{◌≡◌, ◌≤◌, ◌<◌, ◌^◌, [], pos, length, true, false, None, Option, Some, is_some};
 ghost use Rattle.std.specs.Prelude.{IfOk};
 ghost use Rattle.ip_wire.specs.declared.protocol.IpVersion.{IpVersion};
