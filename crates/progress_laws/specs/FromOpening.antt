@@ -153,8 +153,8 @@ LostSynsComeAgain = (t : Tuple) (f g : Facts) (at last : Instant) (number word :
     → Losses f at (connected a t number) last v
     → OpensAgain t f last word a b v (listened b e)
 
--- At some moment w sends its SYN|ACK again. It reaches v, which is in ESTABLISHED and answers it, and the answer reaches
--- w. Then both are in ESTABLISHED, and agree on the numbers of both streams
+-- At some moment w sends its SYN|ACK again. It reaches v, which is in ESTABLISHED and answers it, and the answer
+-- reaches w. Then both are in ESTABLISHED, and agree on the numbers of both streams
 pub record AnswersLate (f : Facts) (last : Instant) (v w : View) : Type 0 where
   pub now : Instant
   pub later : last.micros ≤ℤ now.micros

@@ -11,7 +11,8 @@
 ghost use Rattle.progress_laws.specs.AfterClose.{ClosedSenderFinishes};
 ghost use Rattle.progress_laws.specs.BothWays.{BothWaysComplete, BothWaysFinish, SendingKeepsInStep};
 ghost use Rattle.progress_laws.specs.Delivery.{CountedFinIsHeard, DeliveryMoves};
-ghost use Rattle.progress_laws.specs.FromOpening.{HandshakeBringsInStep, LostAckComesAgain, LostSynsComeAgain, OpenedPairCompletes};
+ghost use Rattle.progress_laws.specs.FromOpening.{HandshakeBringsInStep, OpenedPairCompletes};
+ghost use Rattle.progress_laws.specs.FromOpening.{LostAckComesAgain, LostSynsComeAgain};
 ghost use Rattle.progress_laws.specs.InStep.{OneWayCompletes, OneWayFinishes};
 ghost use Rattle.progress_laws.specs.Opening.{HandshakeCompletes, ListenerAnswersSyn};
 ghost use Rattle.progress_laws.specs.ShutWindows.{ShutWindowsOpen};
