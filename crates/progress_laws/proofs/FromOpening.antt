@@ -85,11 +85,11 @@ opened_pair_completes t f g now number word a b remote own e p mtu =
 -- ---- whatever was lost before
 
 -- the moment at which the SYN goes out
-goes_out : (v : View) (q : SynWaits v) (last : Instant) → (z : Instant) × (last.micros ≤ℤ z.micros) × SynGoesOut v q z
+pub goes_out : (v : View) (q : SynWaits v) (last : Instant) → (z : Instant) × (last.micros ≤ℤ z.micros) × SynGoesOut v q z
 goes_out v (NotSent o idle nxt) last = (last, grind (arith, ints), tt)
 goes_out v (IsSent at waits nxt) last = later_moment last at
 
-losses_keep : (st : State) (t : Tuple) (f : Facts) (x : View) (c : SendsSyn st t f x) (at end : Instant) (v w : View) → Losses f at v end w → Repeats x v → IsReached v → Repeats x w × IsReached w
+pub losses_keep : (st : State) (t : Tuple) (f : Facts) (x : View) (c : SendsSyn st t f x) (at end : Instant) (v w : View) → Losses f at v end w → Repeats x v → IsReached v → Repeats x w × IsReached w
 losses_keep st t f x c at end v w (NoLoss _ _) r p = (r, p)
 losses_keep st t f x c at end v w (OneLoss _ now _ _ u _ out l d rest) r p = losses_keep st t f x c now end u w rest (goes_so st t f x c v r now out u d) (dispatch_reached (told f now) false v out u p d)
 

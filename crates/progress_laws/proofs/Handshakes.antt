@@ -30,7 +30,7 @@ use Rattle.progress_laws.proofs.Repeats.{Repeats}
 
 -- ---- the laws
 
-pub establishes : (t : Tuple) (f : Facts) (now : Instant) (number word : ℕ) (a b : View) (e : IpListenEndpoint) → CanMeet t f number word a b → Establishes f now word (connected a t number) (listened b e)
+unfoldable pub establishes : (t : Tuple) (f : Facts) (now : Instant) (number word : ℕ) (a b : View) (e : IpListenEndpoint) → CanMeet t f number word a b → Establishes f now word (connected a t number) (listened b e)
 unfolding takes_syn
 establishes t f now number word a b e m =
     let r = begins t f number word a b e m in

@@ -37,3 +37,4 @@ pub mod Opening
 pub mod Handshakes
 pub mod Accepts
 pub mod FromOpening
+pub mod LostAck

@@ -46,7 +46,7 @@ use Rattle.progress_laws.proofs.Receives.{Owes, Tells}
 use Rattle.progress_laws.proofs.Repeats.{NotSent, Repeats, SendsSyn, SynGoesOut, ack_then, begun_so, delay_then, opening_listens, out_of as syn_out, segment, sends, sent as syn_sent, sent_so, u as before_syn, waits_then, window_then}
 use Rattle.progress_laws.proofs.SynSteps.{HasTakenSyn, ack_passes, acked_data, answer_passes, header_dst, heard_delay, heard_idle, opened, received_so, syn_passes, taken_within}
 
-room_cleared : (b : Received) → length (cleared b).held ≡ room_of b
+pub room_cleared : (b : Received) → length (cleared b).held ≡ room_of b
 unfolding cleared
 room_cleared b = length-replicate (room_of b) None
 
@@ -384,6 +384,18 @@ module _ (t : Tuple) (f : Facts) (number word : ℕ) (a b : View) (e : IpListenE
           over_then = (λ i. seq_add (o.rcv i) (length ((o.rx i).bytes))) ∙ same_next ∙ sym h.una ∙ sym tell.una;
           back_then = sym o.una;
         }
+
+        pub edge_here : acknowledged.here.local_seq_no ≡ next_ack answered
+        unfolding acknowledged
+        edge_here = tell.una ∙ h.una ∙ sym same_next
+
+        pub ack_here : next_ack acknowledged.here ≡ seq_add answered.local_seq_no 1
+        unfolding acknowledged
+        ack_here = next_settled
+
+        pub nxt_here : acknowledged.here.remote_last_seq ≡ acknowledged.here.local_seq_no
+        unfolding acknowledged
+        nxt_here = tell.receiver.nothing_in_flight
 
         -- ---- both stand in step then
 

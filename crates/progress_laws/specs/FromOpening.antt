@@ -1,5 +1,5 @@
 -- Two sockets from the calls that open them toward each other to the end of both streams.
-use Rattle.std.specs.Prelude.{ℕ, ◌≡◌, ◌<◌, ◌≤◌, ◌^◌, ◌≤ℤ◌, List, [], length, Option, None, Ok, true, false}
+use Rattle.std.specs.Prelude.{ℕ, ◌≡◌, ◌<◌, ◌≤◌, ◌^◌, ◌≤ℤ◌, List, [], length, Option, Some, None, Ok, true, false}
 use Rattle.std.specs.Option.{ForSome}
 use Rattle.ip_wire.specs.declared.endpoint.IpEndpoint.{IpEndpoint}
 use Rattle.ip_wire.specs.declared.endpoint.IpListenEndpoint.{IpListenEndpoint}
@@ -10,9 +10,14 @@ use Rattle.sock_core.specs.Facts.{Facts}
 use Rattle.sock_core.specs.Received.{room_of}
 use Rattle.sock_tcp.specs.Content.{Sending}
 use Rattle.sock_tcp.specs.Opening.{connected, endpoints, is_open, listened}
+use Rattle.control_wire.specs.Segment.{Segment}
+use Rattle.sock_tcp.specs.Process.{processed}
 use Rattle.sock_tcp.specs.Queue.{capacity}
 use Rattle.sock_tcp.specs.Queues.{Sends}
+use Rattle.sock_tcp.specs.Replies.{reply_ip}
 use Rattle.sock_tcp.specs.View.{View}
+use Rattle.sock_tcp.specs.Window.{next_ack}
+use Rattle.sock_tcp.specs.declared.state.State.TheVariants as state
 use Rattle.sock_tcp.specs.declared.tuple.Tuple.{Tuple}
 use Rattle.tcp_laws.specs.Polling.{IsReached}
 use Rattle.progress_laws.specs.BothWays.{BothInStep, ClosesTo, Turns}
@@ -147,3 +152,34 @@ LostSynsComeAgain = (t : Tuple) (f g : Facts) (at last : Instant) (number word :
     → IsMtu f.mtu
     → Losses f at (connected a t number) last v
     → OpensAgain t f last word a b v (listened b e)
+
+-- At some moment w sends its SYN|ACK again. It reaches v, which is in ESTABLISHED and answers it, and the answer
+-- reaches w. Then both are in ESTABLISHED, and agree on the numbers of both streams
+pub record AnswersLate (f : Facts) (last : Instant) (v w : View) : Type 0 where
+  pub now : Instant
+  pub later : last.micros ≤ℤ now.micros
+  pub syn_ack : Sending
+  pub answered : View
+  pub sends_again : DispatchesOk (told f now) false w (Some syn_ack) answered
+  pub here : View
+  pub ack : Segment
+  pub answers : processed v now 0 syn_ack.ip syn_ack.segment ≡ record { view = here; reply = Some ack }
+  pub across : View
+  pub ack_comes : processed answered now 0 (reply_ip syn_ack.ip ack) ack ≡ record { view = across; reply = None }
+  pub state_here : here.state ≡ state.Established
+  pub state_across : across.state ≡ state.Established
+  pub over_then : next_ack across ≡ here.local_seq_no
+  pub back_then : next_ack here ≡ across.local_seq_no
+
+-- the handshake whose ACK is lost, and whatever SYN|ACKs of w are lost then
+pub record LosesAck (t : Tuple) (f : Facts) (now : Instant) (word : ℕ) (v w : View) : Type 0 where
+  pub handshake : Completes f now word v w
+  pub answers : (last : Instant) (z : View)
+      → Losses f now handshake.start.answer.answered last z
+      → AnswersLate f last handshake.ack.here z
+
+abbrev pub LostAckComesAgain : Type 0
+LostAckComesAgain = (t : Tuple) (f g : Facts) (now : Instant) (number word : ℕ) (a b : View) (remote : IpEndpoint)
+    (local e : IpListenEndpoint)
+    → AreOpened t f g number word a b remote local e
+    → LosesAck t f now word (connected a t number) (listened b e)

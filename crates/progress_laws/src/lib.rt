@@ -11,7 +11,8 @@
 ghost use Rattle.progress_laws.specs.AfterClose.{ClosedSenderFinishes};
 ghost use Rattle.progress_laws.specs.BothWays.{BothWaysComplete, BothWaysFinish, SendingKeepsInStep};
 ghost use Rattle.progress_laws.specs.Delivery.{CountedFinIsHeard, DeliveryMoves};
-ghost use Rattle.progress_laws.specs.FromOpening.{HandshakeBringsInStep, LostSynsComeAgain, OpenedPairCompletes};
+ghost use Rattle.progress_laws.specs.FromOpening.{HandshakeBringsInStep, OpenedPairCompletes};
+ghost use Rattle.progress_laws.specs.FromOpening.{LostAckComesAgain, LostSynsComeAgain};
 ghost use Rattle.progress_laws.specs.InStep.{OneWayCompletes, OneWayFinishes};
 ghost use Rattle.progress_laws.specs.Opening.{HandshakeCompletes, ListenerAnswersSyn};
 ghost use Rattle.progress_laws.specs.ShutWindows.{ShutWindowsOpen};
@@ -133,4 +134,11 @@ pub fn opened_pair_completes()
 /// and then they stand in step, and both streams can end.
 pub fn lost_syns_come_again()
     ensures { LostSynsComeAgain }
+{}
+
+/// And where the ACK is lost: after any list of dispatches of the other, each of whose SYN|ACKs is lost, too, at some
+/// moment a SYN|ACK goes out again. The first is in ESTABLISHED and answers it, and the answer brings the other there;
+/// they agree on the numbers of both streams.
+pub fn lost_ack_comes_again()
+    ensures { LostAckComesAgain }
 {}
