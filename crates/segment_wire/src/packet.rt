@@ -123,6 +123,7 @@ fn read_v4<'a>(
 }
 
 // The header of a whole packet, and what stands behind it.
+#[inline(always)]
 fn whole_v4<'a>(packet: &'a [u8], caps: &ChecksumCapabilities) -> Option<(Ipv4Repr, &'a [u8])>
     ensures { option_map whole_v4_of result ≡ (if is_whole_v4 packet.now
         then carried_v4 packet.now (ipv4_parsed (is_received caps.now.ipv4) packet.now) else None) }
@@ -157,6 +158,7 @@ fn read_v6<'a>(
     tcp::parse_into(repr, bytes, &src, &dst, caps)
 }
 
+#[inline(always)]
 fn whole_v6(packet: &[u8]) -> Option<(Ipv6Repr, &[u8])>
     ensures { option_map whole_v6_of result
         ≡ (if is_whole_v6 packet.now then carried_v6 packet.now (ipv6_parsed packet.now) else None) }

@@ -81,6 +81,7 @@ pub fn parse<'a>(
 /// Reads the segment that the bytes spell, as [`parse`], into `repr`. Whether there is one: else `repr` is as it was.
 ///
 /// An answer that is handed up by value is copied at each return.
+#[inline(always)]
 pub fn parse_into<'a>(
     repr: &mut TcpRepr<'a>,
     bytes: &'a [u8],
