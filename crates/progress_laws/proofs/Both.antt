@@ -26,7 +26,7 @@ use Rattle.progress_laws.proofs.Receives.{NewPart, new_part, unit, unit_within}
 use Rattle.progress_laws.proofs.Rounds.{cut_and_rest}
 use Rattle.progress_laws.proofs.Sides.{Brought, HearsAnswer, brings_side, caught_side, hears_answer, room_small, told_alike, told_some, wide_so, width_told}
 use Rattle.progress_laws.proofs.Speaks.{SpeaksPlain}
-use Rattle.progress_laws.proofs.Takes.{IsCaughtUp, Took, old_answered, took, width_kept}
+use Rattle.progress_laws.proofs.Takes.{IsCaughtUp, Took, old_answered, width_kept}
 
 -- ---- one step further
 

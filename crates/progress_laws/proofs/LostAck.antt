@@ -1,5 +1,5 @@
 -- The ACK of a handshake is lost: the SYN|ACK comes again, and is answered.
-use Rattle.std.proofs.Common.{◌≡◌, ◌+◌, ◌-◌, ◌*◌, ◌<◌, ◌≤◌, ◌^◌, true, false, refl, sym, ap, subst, ◌∙◌, length, Some, None, arith}
+use Rattle.std.proofs.Common.{◌≡◌, ◌+◌, ◌*◌, ◌<◌, ◌≤◌, ◌^◌, true, false, refl, sym, ap, subst, ◌∙◌, length, Some, None, arith}
 use Rattle.std.specs.Prelude.{◌≤ℤ◌, int_lt}
 use Rattle.std.proofs.lemmas.Bool.{eq-eqb}
 use Rattle.std.proofs.lemmas.Int.{ints}

@@ -1,5 +1,5 @@
 -- A side that knows a window of 0 asks for it, and is told.
-use Rattle.std.proofs.Common.{◌≡◌, ℕ, ◌+◌, ◌*◌, ◌<◌, ◌≤◌, ◌^◌, ◌⊎◌, inl, inr, true, false, true≢false, refl, sym, ap, subst, ◌∙◌, List, ◌++◌, length, take, drop, Option, Some, None, arith, append_assoc}
+use Rattle.std.proofs.Common.{◌≡◌, ℕ, ◌*◌, ◌<◌, ◌≤◌, ◌^◌, ◌⊎◌, inl, inr, true, false, true≢false, refl, sym, ap, subst, ◌∙◌, List, ◌++◌, length, take, drop, Option, Some, None, arith, append_assoc}
 use Rattle.std.specs.Prelude.{◌≤ℤ◌, is_some}
 use Rattle.net_base.specs.declared.time.Duration.{Duration}
 use Rattle.net_base.specs.declared.time.Instant.{Instant}
