@@ -142,7 +142,7 @@ closes_unacknowledged w e i =
       closed = refl;
       released = refl;
       taken = refl;
-      sending = λ k. record { place = t.place; snd_una = t.snd_una; acked = t.acked; flight = t.flight; snd_nxt = t.snd_nxt; flight_le = t.flight_le; queue = t.queue; at = inl (says.0, syn_empty w.local.view i.outgoing t.place says.0 t.at); phase = inl says.0 };
+      sending = λ k. record { place = t.place; snd_una = t.snd_una; acked = t.acked; flight = t.flight; snd_nxt = t.snd_nxt; flight_le = t.flight_le; queue = t.queue; at = inl (says.0, syn_empty w.local.view i.outgoing t.place says.0 t.at); phase = inl says };
       unsent = λ k. absurd k;
       receiving = λ k. receiving_view w.local.view (closed_unacknowledged w.local).view w.local.handed_out i.remote_origin i.incoming (record { rcv_nxt = refl; receive_queue = refl; held = refl; fin = refl }) (i.incoming_holds.receiving m);
       delivered = i.incoming_holds.delivered;

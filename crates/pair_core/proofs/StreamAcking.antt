@@ -27,8 +27,8 @@ phase_released Listening f place n e h = h
 phase_released SynSent f place n e h = absurd (omega (arith, h.0))
 phase_released SynReceived f place n e h = absurd (omega (arith, h.0))
 phase_released Open f place n e h = (refl, h.1)
-phase_released FinQueued f place n e h = ⊎_elim (λ a. absurd (omega (arith, a))) (λ a. inr (refl, a.1)) h
-phase_released Silent f place n e h = tt
+phase_released FinQueued f place n e h = ⊎_elim (λ a. absurd (omega (arith, a.0))) (λ a. inr (refl, a.1)) h
+phase_released Silent f place n e h = ⊎_elim (λ a. inl (refl, a.1)) (λ a. absurd (omega (arith, e, a.0))) h
 phase_released Dead f place n e h = h
 
 module _ (o : ℕ) (f : Stream) (x w : SocketView) (g : StreamSegment) (s : IsSound f) (fits : QueueFits f) (t : SendingMatches x o f) (is : HasTrueAck g o f) (young : length f.joined < g.taken_at + 2 ^ 29) where
@@ -73,10 +73,11 @@ module _ (o : ℕ) (f : Stream) (x w : SocketView) (g : StreamSegment) (s : IsSo
       ))
       (λ p.
       let none : n ≡ 0 = omega (arith, p.1, len, le) in
-      let silent : w.phase ≡ Silent = ph ∙ p.2 in (
+      let silent : w.phase ≡ Silent = ph ∙ p.2 in
+      let says : PhaseAllows Silent (released_more f n) (k.0 + 2) = ⊎_elim (λ c. absurd (omega (arith, p.0, c.0))) (λ c. inr (omega (arith, k.1, p.0), omega (arith, p.1), c.2)) (subst (λ ph. PhaseAllows ph f t.place) p.2 t.phase) in (
         n,
         released_grows f n k.0 k.2 (omega (arith, k.1, p.0)) (omega (arith, p.1)),
-        sending_after a k.0 n b k.3 k.2 (queue_after n q) nf (inr (inr (omega (arith, k.1, p.0), omega (arith, p.1), silent))) (subst (λ ph. PhaseAllows ph (released_more f n) (k.0 + 2)) (sym silent) tt),
+        sending_after a k.0 n b k.3 k.2 (queue_after n q) nf (inr (inr (omega (arith, k.1, p.0), omega (arith, p.1), silent))) (subst (λ ph. PhaseAllows ph (released_more f n) (k.0 + 2)) (sym silent) says),
       ))
       r)
       t.at
@@ -108,18 +109,18 @@ module _ (o : ℕ) (f : Stream) (x w : SocketView) (g : StreamSegment) (s : IsSo
       let k = ack_place a (n + 1) e rel' (omega arith) in
       let len = queue_length o f x s t in
       let gone : w.transmit_queue ≡ drop (f.released + n) f.accepted = q ∙ sym (drop_all (f.released + n) f.accepted (omega (arith, len))) in
-      let silent : PhaseAllows w.phase (released_more f n) (k.0 + 2) = subst (λ ph. PhaseAllows ph (released_more f n) (k.0 + 2)) (sym to) tt in
+      let silent = subst (λ ph. PhaseAllows ph (released_more f n) (k.0 + 2)) (sym to) in
       ⊎_elim
       (λ c.
-      let none = on_syn c in (
+      let none = on_syn c.0 in (
         n,
         released_grows f n k.0 k.2 (omega (arith, k.1, none.0, none.1)) (omega (arith, len)),
-        sending_after a k.0 n b k.3 k.2 gone nf (inr (inl (omega (arith, k.1, c, none.0, none.1)))) silent,
+        sending_after a k.0 n b k.3 k.2 gone nf (inr (inl (omega (arith, k.1, c.0, none.0, none.1)))) (silent (inl (omega (arith, k.1, c.0, none.0, none.1), c.1))),
       ))
       (λ c. (
         n,
         released_grows f n k.0 k.2 (omega (arith, k.1, c.0)) (omega (arith, len)),
-        sending_after a k.0 n b k.3 k.2 gone nf (inr (inr (omega (arith, k.1, c.0), omega (arith, len), to))) silent,
+        sending_after a k.0 n b k.3 k.2 gone nf (inr (inr (omega (arith, k.1, c.0), omega (arith, len), to))) (silent (inr (omega (arith, k.1, c.0), omega (arith, len), c.1))),
       ))
       (subst (λ p. PhaseAllows p f t.place) ph t.phase)
 

@@ -9,7 +9,7 @@ use Rattle.pair_core.specs.Network.{Endpoint}
 use Rattle.pair_core.specs.NetworkInvariant.{HasFallenBack, HasTrueAck, PhaseAllows, QueueFits, SameNumbers, SendingMatches}
 use Rattle.pair_core.specs.StreamEffects.{AcksBytes, AcksFin, AcksSyn, HearsAck, SndNxtWithin}
 use Rattle.pair_core.specs.StreamModel.{Grows, IsSound, Stream, counted}
-use Rattle.pair_core.specs.StreamViews.{Open, Silent, SocketView, StreamSegment}
+use Rattle.pair_core.specs.StreamViews.{FinQueued, Open, Silent, SocketView, StreamSegment}
 use Rattle.pair_core.proofs.StreamAcking.{ack_grows, released_grows, released_more}
 use Rattle.pair_core.proofs.StreamMatches.{SameSent, sending_same, syn_unacked}
 use Rattle.pair_core.proofs.StreamSending.{queue_length}
@@ -88,10 +88,10 @@ module _ (o ax : ℕ) (f : Stream) (x w : SocketView) (g : StreamSegment) (s : I
       let two = second a (syn_unacked x.phase f t.place ph t.phase).0 rel in
       (released_zero (to_two a two b (q ∙ t.queue) nf (subst (λ p. PhaseAllows p f 2) (sym to) (omega (arith, nothing_yet.1), open_yet))), inl (numbers_agree a e two))
   fallen_back_ack (AcksFin a e rel ph to b q nf) =
-      let says : (t.place ≡ 1) ⊎ ((t.place ≡ f.released + 2) × (f.closed ≡ true)) = subst (λ p. PhaseAllows p f t.place) ph t.phase in
+      let says : PhaseAllows FinQueued f t.place = subst (λ p. PhaseAllows p f t.place) ph t.phase in
       let rel' : a ≡ (x.snd_una + 1) % 2 ^ 32 = rel ∙ ap (λ m. m % 2 ^ 32) (omega (arith, nothing_yet.2)) in
-      let one_code : t.place ≡ 1 = ⊎_elim (λ c. c) (λ c. let no : true ≡ false = sym c.1 ∙ open_yet in cc) says in
-      (released_zero (to_two a (second a one_code rel') b (q ∙ sym (drop_all f.released f.accepted (omega (arith, ap length empty)))) nf (subst (λ p. PhaseAllows p f 2) (sym to) tt)), inr (λ no c. let bad : Silent ≡ Open = sym to ∙ c in cc))
+      let one_code : t.place ≡ 1 = ⊎_elim (λ c. c.0) (λ c. let no : true ≡ false = sym c.1 ∙ open_yet in cc) says in
+      (released_zero (to_two a (second a one_code rel') b (q ∙ sym (drop_all f.released f.accepted (omega (arith, ap length empty)))) nf (subst (λ p. PhaseAllows p f 2) (sym to) (inl (omega (arith, nothing_yet.1), open_yet)))), inr (λ no c. let bad : Silent ≡ Open = sym to ∙ c in cc))
 
 -- an acknowledgement that comes, whatever number it speaks of
 pub any_ack : (o ax : ℕ) (f : Stream) (x y z : Endpoint) (g : StreamSegment) → IsSound f → QueueFits f → SendingMatches x.view o f → HasTrueAck g ax f → (young : length f.joined < g.taken_at + 2 ^ 29) → SameNumbers ax o ⊎ HasFallenBack x y f → HearsAck x.view z.view g

@@ -54,8 +54,11 @@ phase_same Listening f g place e h = h
 phase_same SynSent f g place e h = (h.0, e.closed ∙ h.1)
 phase_same SynReceived f g place e h = (h.0, e.closed ∙ h.1)
 phase_same Open f g place e h = (omega (arith, h.0, e.released), e.closed ∙ h.1)
-phase_same FinQueued f g place e h = ⊎_elim (λ a. inl a) (λ a. inr (omega (arith, a.0, e.released), e.closed ∙ a.1)) h
-phase_same Silent f g place e h = tt
+phase_same FinQueued f g place e h = ⊎_elim (λ a. inl (a.0, e.closed ∙ a.1)) (λ a. inr (omega (arith, a.0, e.released), e.closed ∙ a.1)) h
+phase_same Silent f g place e h = ⊎_elim
+    (λ a. inl (omega (arith, a.0, e.released), e.closed ∙ a.1))
+    (λ a. inr (omega (arith, a.0, e.released), e.released ∙ a.1 ∙ ap length (sym e.accepted), e.closed ∙ a.2))
+    h
 phase_same Dead f g place e h = h
 
 -- a sender that matched still does, also where the receiver counted more

@@ -51,8 +51,8 @@ module _ (o : ℕ) (f : Stream) (x : SocketView) (s : IsSound f) (t : SendingMat
         let says : PhaseAllows FinQueued f t.place = subst (λ p. PhaseAllows p f t.place) (d.fin e).0 t.phase in
         ⊎_elim
         (λ a. ⊎_elim
-        (λ b. inl (omega (arith, at_end, a, ap length b.1, queue_length)))
-        (λ r. absurd (⊎_elim (λ c. omega (arith, a, c)) (λ c. omega (arith, a, c.0)) r))
+        (λ b. inl (omega (arith, at_end, a.0, ap length b.1, queue_length)))
+        (λ r. absurd (⊎_elim (λ c. omega (arith, a.0, c)) (λ c. omega (arith, a.0, c.0)) r))
         t.at)
         (λ a. inr (a.1, omega (arith, at_end, a.0, queue_length)))
         says

@@ -27,15 +27,16 @@ SndUnaAt v f place = ((place ≡ 1) × (f.accepted ≡ [])) ⊎ (place ≡ f.rel
     ⊎ ((place ≡ f.released + 3) × (f.released ≡ length f.accepted) × (v.phase ≡ Silent))
 
 -- What the phase says of the place of SND.UNA and of close. FinQueued with SND.UNA on the SYN comes of a close in
--- SYN-RECEIVED
+-- SYN-RECEIVED, and so does Silent with SND.UNA on the first byte: that close does not end the stream
 abbrev pub PhaseAllows : Phase → Stream → ℕ → Type 0
 PhaseAllows Unopened f place = ⊥
 PhaseAllows Listening f place = ⊥
 PhaseAllows SynSent f place = (place ≡ 1) × (f.closed ≡ false)
 PhaseAllows SynReceived f place = (place ≡ 1) × (f.closed ≡ false)
 PhaseAllows Open f place = (place ≡ f.released + 2) × (f.closed ≡ false)
-PhaseAllows FinQueued f place = (place ≡ 1) ⊎ ((place ≡ f.released + 2) × (f.closed ≡ true))
-PhaseAllows Silent f place = Unit {0}
+PhaseAllows FinQueued f place = ((place ≡ 1) × (f.closed ≡ false)) ⊎ ((place ≡ f.released + 2) × (f.closed ≡ true))
+PhaseAllows Silent f place = ((place ≡ f.released + 2) × (f.closed ≡ false))
+    ⊎ ((place ≡ f.released + 3) × (f.released ≡ length f.accepted) × (f.closed ≡ true))
 PhaseAllows Dead f place = ⊥
 
 -- the sending half of v against its stream, whose places have the origin o
