@@ -45,4 +45,5 @@ pub mod PairAdding
 pub mod PairAmounts
 pub mod Running
 pub mod ShownWindow
+pub mod PairAgrees
 pub mod PairQuiet

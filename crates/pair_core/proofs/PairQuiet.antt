@@ -6,27 +6,18 @@ use Rattle.sock_tcp.specs.declared.state.State.{State}
 use Rattle.sock_tcp.specs.declared.state.State.TheVariants as state
 use Rattle.pair_core.specs.NetworkInvariant.{StreamInvariant}
 use Rattle.pair_core.specs.PairInvariant.{IsHost, IsPair}
-use Rattle.pair_core.specs.PairNetwork.{endpoint_of, phase_of, seen, shown}
+use Rattle.pair_core.specs.PairNetwork.{endpoint_of, phase_of, shown}
 use Rattle.pair_core.specs.PairPromises.{IsReleased}
 use Rattle.pair_core.specs.PairQuiet.{NoWorkMeansTaken}
 use Rattle.pair_core.specs.PairViews.{HostView, PairView}
 use Rattle.pair_core.specs.StreamModel.{Stream}
 use Rattle.pair_core.specs.StreamViews.{HasIss, HasNoIss, SocketView}
-use Rattle.pair_core.specs.declared.host.Opening.{Opening}
-use Rattle.pair_core.specs.declared.host.Opening.TheVariants as opening
+use Rattle.pair_core.proofs.PairAgrees.{shows}
 use Rattle.pair_core.proofs.PairPromises.{keeps_release}
 
 module _ {G : Type 0} (law : NoWorkNoBytes) (sender receiver : HostView G) (o : ℕ) (f : Stream) (i : IsHost sender) (s : StreamInvariant (endpoint_of sender) (endpoint_of receiver) o f) where
   abbrev v : View
   v = sender.control_block
-
-  shows : (v.state ≡ state.Closed → ⊥) → (endpoint_of sender).view ≡ shown v
-  shows alive = go sender.opening refl
-    where
-      go : (e : Opening) → sender.opening ≡ e → seen e v ≡ shown v
-      go opening.Unopened e = absurd (alive (i.idle e).state)
-      go opening.Listener e = refl
-      go opening.Connector e = refl
 
   -- the transmit queue is what was accepted less what was released
   sent_all : length v.tx_buffer.bytes ≡ 0 → (endpoint_of sender).view ≡ shown v → HasIss (phase_of v.state) → length sender.accepted ≤ sender.released
@@ -54,14 +45,14 @@ module _ {G : Type 0} (law : NoWorkNoBytes) (sender receiver : HostView G) (o : 
       none = law v i.reached alive idle
 
       has : HasIss (phase_of v.state) → length sender.accepted ≤ sender.released
-      has h = sent_all none (shows alive) h
+      has h = sent_all none (shows sender i alive) h
 
       at : (st : State) → v.state ≡ st → HasIss (phase_of st) → length sender.accepted ≤ sender.released
       at st e h = has (subst (λ x. HasIss (phase_of x)) (sym e) h)
 
       go : (st : State) → v.state ≡ st → length sender.accepted ≤ sender.released
       go state.Closed e = absurd (alive e)
-      go state.Listen e = sent_nothing (shows alive) (subst (λ x. HasNoIss (phase_of x)) (sym e) tt)
+      go state.Listen e = sent_nothing (shows sender i alive) (subst (λ x. HasNoIss (phase_of x)) (sym e) tt)
       go state.SynSent e = at state.SynSent e tt
       go state.SynReceived e = at state.SynReceived e tt
       go state.Established e = at state.Established e tt

@@ -29,3 +29,4 @@ pub mod Network
 pub mod NetworkInvariant
 pub mod NetworkRuns
 pub mod PairQuiet
+pub mod PairAgrees

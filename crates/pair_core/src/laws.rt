@@ -24,6 +24,7 @@ ghost use Rattle.sock_tcp.specs.Window.{receive_window};
 ghost use Rattle.tcp_laws.specs.Polling.{IsReached};
 ghost use Rattle.sock_tcp.specs.declared.tuple.Tuple.{Tuple};
 ghost use Rattle.pair_core.specs.NetworkRuns.{Reaches, start, unopened};
+ghost use Rattle.pair_core.specs.PairAgrees.{SynchronizedSidesAgree};
 ghost use Rattle.pair_core.specs.PairInvariant.{IsPair, IsSized};
 ghost use Rattle.pair_core.specs.PairLaws.{IsBounded, MayEmit};
 ghost use Rattle.pair_core.specs.PairNetwork.{is_passive, network_of, shown, stream_segment, IsSmall};
@@ -160,3 +161,11 @@ pub fn no_work_means_taken<G>()
 {
     tcp_laws::poll::no_work_no_bytes()
 }
+
+/// The two sides of a pair agree on the numbers of both streams (`SidesAgree`), where the one sends and the other is in
+/// ESTABLISHED or behind it: what the receiver handed out, what waits there, and what of the transmit queue it has not
+/// taken are together what the sender accepted.
+pub fn sides_agree<G>()
+    ensures of_a { (p : PairView G) → IsPair p → SynchronizedSidesAgree p.a p.b }
+    ensures of_b { (p : PairView G) → IsPair p → SynchronizedSidesAgree p.b p.a }
+{}
