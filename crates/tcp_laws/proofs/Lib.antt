@@ -19,6 +19,7 @@ pub mod Sleeping
 pub mod Hearing
 pub mod TimingOut
 pub mod Probing
+pub mod Scaled
 pub mod AckAlone
 pub mod Repeating
 pub mod Moments

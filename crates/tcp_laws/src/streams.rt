@@ -10,6 +10,7 @@ ghost use Rattle.control_wire.specs.Segment.{Segment, segment_of};
 ghost use Rattle.sock_core.specs.Received.{receiving, room_of};
 ghost use Rattle.sock_tcp.specs.Closing.{aborted, closed, keep_alive_set};
 ghost use Rattle.tcp_laws.specs.Laws.{MayTake};
+ghost use Rattle.tcp_laws.specs.Polling.{IsReached};
 ghost use Rattle.sock_tcp.specs.Opening.{Connects, Listens};
 ghost use Rattle.sock_tcp.specs.Process.{generator_after, processed, Accepts, Processes};
 ghost use Rattle.sock_tcp.specs.Queue.{queue_of};
@@ -65,6 +66,13 @@ pub fn bytes_stay_at_their_places()
         → (s : Step v k w j)
         → begins v k w j s ≡ false
         → KeepsPlaces v k w j s }
+{}
+
+/// A receive buffer that is not of 0 bytes has room for one unit of the socket's window field, after any list of calls on
+/// a new socket. So once all of it was read, and none of it is held, it tells a window above 0 (RFC 7323, section 2.3).
+pub fn window_unit_fits()
+    ensures { (v : View) → IsReached v → 0 < room_of v.rx_buffer
+        → 2 ^ v.remote_win_shift ≤ room_of v.rx_buffer }
 {}
 
 /// A `dispatch` in the words of the law on lists of calls: there is a segment, or none, that the socket sends, and
