@@ -1,12 +1,12 @@
 -- How the numbers of a pair's two sockets stand to each other.
-use Rattle.std.proofs.Common.{◌≡◌, ℕ, ◌+◌, ◌-◌, ◌%◌, ◌^◌, ◌≤◌, ◌⊎◌, Bool, true, false, List, ◌++◌, length, drop, refl, sym, ap, subst, ◌∙◌, arith, inl, inr, ⊎_elim}
+use Rattle.std.proofs.Common.{◌≡◌, ℕ, ◌+◌, ◌-◌, ◌%◌, ◌^◌, ◌≤◌, ◌⊎◌, Bool, true, false, List, ◌++◌, length, drop, refl, sym, ap, subst, ◌∙◌, arith, inl, inr, ⊎_elim, Some}
 use Rattle.std.proofs.Math.Seq.{drop-append_seam}
 use Rattle.std.proofs.lemmas.List.{drop-drop}
 use Rattle.control_wire.specs.Seq.{seq_of}
 use Rattle.sock_core.specs.Places.{number_at}
-use Rattle.sock_core.specs.Streams.{fin_length}
+use Rattle.sock_core.specs.Streams.{ByteAt, fin_length}
 use Rattle.sock_core.proofs.Numbers.{number_add}
-use Rattle.sock_core.proofs.Streams.{le_from_at}
+use Rattle.sock_core.proofs.Streams.{byte_drop, byte_right, le_from_at}
 use Rattle.sock_tcp.specs.Content.{carries_data}
 use Rattle.sock_tcp.specs.Due.{is_closing}
 use Rattle.sock_tcp.specs.Verdict.{fin_place}
@@ -44,6 +44,7 @@ record Taken (v w : SocketView) (handed_out accepted : List ℕ) : Type 0 where
   there : w.rcv_nxt ≡ (v.snd_una + (count + fin_length w.fin_counted)) % 2 ^ 32
   fin : w.fin_counted ≡ true → count ≡ length v.transmit_queue
   whole : handed_out ++ w.receive_queue ++ drop count v.transmit_queue ≡ accepted
+  held : (k b : ℕ) → w.held k ≡ Some b → ByteAt v.transmit_queue (count + k) b
 
 -- what the receiver counted past SND.UNA
 record Heard (v w : SocketView) (most : ℕ) : Type 0 where
@@ -89,6 +90,11 @@ module _ (x y : Endpoint) (o : ℕ) (f : Stream) (s : StreamInvariant x y o f) (
         there = r.rcv_nxt ∙ ap (number_at o) at ∙ sym (number_add o m.place (n + fin_length f.fin_counted)) ∙ (λ i. (sym m.snd_una i + (n + fin_length (sym r.fin i))) % 2 ^ 32);
         fin = λ e. omega (arith, (s.sound.fin (sym r.fin ∙ e)).1, room);
         whole = (λ i. r.queue i ++ rest i) ∙ front.1 ∙ s.accepted;
+        held = λ k b e.
+            let there : ByteAt (f.joined ++ front.0) (length f.joined + k) b = subst (λ xs. ByteAt xs (length f.joined + k) b) (sym front.1) (s.sound.held (length f.joined + k) b (omega arith) (r.held k b e)) in
+            let behind : ByteAt front.0 (length f.joined + k - length f.joined) b = byte_right f.joined front.0 (length f.joined + k) b (omega arith) there in
+            let here : ByteAt (drop n x.view.transmit_queue) k b = subst (λ xs. ByteAt xs k b) (sym rest) (subst (λ j. ByteAt front.0 j b) (omega arith) behind) in
+            byte_drop x.view.transmit_queue n k b here;
       }
 
   heard_by_place : (most : ℕ) → counted f + 2 ≤ m.place + length x.view.transmit_queue + most → Heard x.view y.view most
@@ -183,6 +189,7 @@ module _ {G : Type 0} (h o : HostView G) (i : IsHost h) (j : IsHost o) (oh oo : 
     there = ap seq_of a.there;
     fin = a.fin;
     whole = a.whole;
+    held = a.held;
     heard = b.count;
     heard_within = subst (λ n. b.count ≤ length w.tx_buffer.bytes + n) (fins_of w.state) b.within;
     back = ap seq_of b.there;
