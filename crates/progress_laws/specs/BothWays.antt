@@ -90,13 +90,17 @@ pub record BothComplete (d e : Option Duration) (t s : Tuple) (f : Facts) (at : 
   pub in_step : BothInStep e d s t across here
 
 -- from any moment on, in any context that has both addresses
-abbrev pub BothWaysComplete : Type 0
-BothWaysComplete = (d e : Option Duration) (t s : Tuple) (f : Facts) (at : Instant) (v w : View) (got back : List ℕ)
+abbrev pub FromBothInStep : ((d e : Option Duration) (t s : Tuple) (f : Facts) (at : Instant) (v w : View)
+    (got back : List ℕ) → BothInStep d e t s v w → Type 0) → Type 0
+FromBothInStep Comes = (d e : Option Duration) (t s : Tuple) (f : Facts) (at : Instant) (v w : View) (got back : List ℕ)
     → IsMtu f.mtu
     → f.has_address t.local.addr ≡ true
     → f.has_address s.local.addr ≡ true
     → (i : BothInStep d e t s v w)
-    → BothComplete d e t s f at v w got back i
+    → Comes d e t s f at v w got back i
+
+abbrev pub BothWaysComplete : Type 0
+BothWaysComplete = FromBothInStep (λ d e t s f at v w got back i. BothComplete d e t s f at v w got back i)
 
 -- ---- both streams end
 
@@ -123,12 +127,7 @@ pub record BothFinish (d e : Option Duration) (t s : Tuple) (f : Facts) (at : In
   pub other : ClosesTo f end across here last_across last_here
 
 abbrev pub BothWaysFinish : Type 0
-BothWaysFinish = (d e : Option Duration) (t s : Tuple) (f : Facts) (at : Instant) (v w : View) (got back : List ℕ)
-    → IsMtu f.mtu
-    → f.has_address t.local.addr ≡ true
-    → f.has_address s.local.addr ≡ true
-    → (i : BothInStep d e t s v w)
-    → BothFinish d e t s f at v w got back i
+BothWaysFinish = FromBothInStep (λ d e t s f at v w got back i. BothFinish d e t s f at v w got back i)
 
 -- ---- more bytes
 

@@ -171,13 +171,17 @@ pub record Completes (d : Option Duration) (t s : Tuple) (f : Facts) (at : Insta
   pub in_step : InStep d t s sender receiver
 
 -- from any moment on, in any context that has both addresses
-abbrev pub OneWayCompletes : Type 0
-OneWayCompletes = (d : Option Duration) (t s : Tuple) (f : Facts) (at : Instant) (v w : View) (got : List ℕ)
+abbrev pub FromInStep : ((d : Option Duration) (t s : Tuple) (f : Facts) (at : Instant) (v w : View) (got : List ℕ)
+    → InStep d t s v w → Type 0) → Type 0
+FromInStep Comes = (d : Option Duration) (t s : Tuple) (f : Facts) (at : Instant) (v w : View) (got : List ℕ)
     → IsMtu f.mtu
     → f.has_address t.local.addr ≡ true
     → f.has_address s.local.addr ≡ true
     → (i : InStep d t s v w)
-    → Completes d t s f at v w got i
+    → Comes d t s f at v w got i
+
+abbrev pub OneWayCompletes : Type 0
+OneWayCompletes = FromInStep (λ d t s f at v w got i. Completes d t s f at v w got i)
 
 -- ---- the end of the stream
 
@@ -195,9 +199,4 @@ pub record Finishes (d : Option Duration) (t s : Tuple) (f : Facts) (at : Instan
   pub finished : recv_check receiver ≡ Err recv_error.Finished
 
 abbrev pub OneWayFinishes : Type 0
-OneWayFinishes = (d : Option Duration) (t s : Tuple) (f : Facts) (at : Instant) (v w : View) (got : List ℕ)
-    → IsMtu f.mtu
-    → f.has_address t.local.addr ≡ true
-    → f.has_address s.local.addr ≡ true
-    → (i : InStep d t s v w)
-    → Finishes d t s f at v w got i
+OneWayFinishes = FromInStep (λ d t s f at v w got i. Finishes d t s f at v w got i)
