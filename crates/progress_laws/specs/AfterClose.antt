@@ -1,5 +1,5 @@
 -- A sender that was closed with bytes to send, and how they and its FIN come over.
-use Rattle.std.specs.Prelude.{ℕ, ◌≡◌, ◌⊎◌, ◌<◌, ◌^◌, ◌≤◌, List, [], ◌++◌, length, drop, replicate, Option, Some, None, Err, true, false}
+use Rattle.std.specs.Prelude.{ℕ, ◌≡◌, ◌⊎◌, ◌<◌, ◌^◌, ◌≤◌, List, [], ◌++◌, length, drop, replicate, Option, None, Err, true}
 use Rattle.net_base.specs.declared.time.Duration.{Duration}
 use Rattle.net_base.specs.declared.time.Instant.{Instant}
 use Rattle.control_wire.specs.Seq.{seq_add, seq_sub}
@@ -14,20 +14,13 @@ use Rattle.sock_tcp.specs.declared.timer.Timer.TheVariants as timer
 use Rattle.sock_tcp.specs.declared.tuple.Tuple.{Tuple}
 use Rattle.tcp_laws.specs.Polling.{IsReached}
 use Rattle.progress_laws.specs.BothWays.{Toward, window_told}
-use Rattle.progress_laws.specs.InStep.{Moves, Rests}
+use Rattle.progress_laws.specs.InStep.{IsSenderIn, Moves}
 
 -- ---- the two sides
 
--- The sender v, with the peer t, is what some list of calls makes of a new socket. It was closed, and is in FIN-WAIT-1,
--- CLOSING or LAST-ACK, without a user timeout, with the keep-alive interval d, or with none
-pub record IsCloser (d : Option Duration) (t : Tuple) (v : View) : Type 0 where
-  pub reached : IsReached v
-  pub state : is_closing v.state ≡ true
-  pub peer : v.tuple ≡ Some t
-  pub no_timeout : v.timeout ≡ None
-  pub keep_alive : v.keep_alive ≡ d
-  pub nothing_marked : v.pending_fast_retransmit ≡ false
-  pub rests : Rests v
+-- a sender that was closed, in FIN-WAIT-1, CLOSING or LAST-ACK
+abbrev pub IsCloser : Option Duration → Tuple → View → Type 0
+IsCloser d t v = IsSenderIn is_closing d t v
 
 -- The receiver w is what some list of calls makes of a new socket. It is in ESTABLISHED, FIN-WAIT-1 or FIN-WAIT-2,
 -- whatever it has to send, and not in the timer of TIME-WAIT. All that it took was read, and it holds nothing. It has

@@ -46,16 +46,20 @@ pub data Rests (v : View) : Type 0 where
       → v.timer ≡ timer.Retransmit at
       → Rests v
 
--- The sender v, with the peer t, is what some list of calls makes of a new socket. It is in ESTABLISHED or CLOSE-WAIT,
--- without a user timeout, with the keep-alive interval d, or with none
-pub record IsSender (d : Option Duration) (t : Tuple) (v : View) : Type 0 where
+-- The socket v, with the peer t, is what some list of calls makes of a new one. It is in one of these states, without a
+-- user timeout, with the keep-alive interval d, or with none
+pub record IsSenderIn (states : State → Bool) (d : Option Duration) (t : Tuple) (v : View) : Type 0 where
   pub reached : IsReached v
-  pub state : may_send v.state ≡ true
+  pub state : states v.state ≡ true
   pub peer : v.tuple ≡ Some t
   pub no_timeout : v.timeout ≡ None
   pub keep_alive : v.keep_alive ≡ d
   pub nothing_marked : v.pending_fast_retransmit ≡ false
   pub rests : Rests v
+
+-- a sender, in ESTABLISHED or CLOSE-WAIT
+abbrev pub IsSender : Option Duration → Tuple → View → Type 0
+IsSender d t v = IsSenderIn may_send d t v
 
 -- in ESTABLISHED, and in FIN-WAIT-2, where the own FIN is acknowledged, bytes are still taken
 abbrev pub takes_bytes : State → Bool
