@@ -1,14 +1,16 @@
 -- Two sockets of one connection that agree on their numbers, whatever waits in their queues, is held out of order, is in
 -- flight or was lost; and how the bytes and the FIN of the one come over.
-use Rattle.std.specs.Prelude.{ℕ, ◌≡◌, ◌⊎◌, ◌+◌, ◌^◌, ◌<◌, ◌≤◌, List, ◌++◌, length, drop, slice_get, Option, Some, None, Err, true, false}
+use Rattle.std.specs.Prelude.{ℕ, ◌≡◌, ◌⊎◌, ◌+◌, ◌^◌, ◌<◌, ◌≤◌, ◌≤ℤ◌, List, ◌++◌, length, drop, slice_get, Option, Some, None, Err, true, false}
 use Rattle.net_base.specs.declared.time.Duration.{Duration}
 use Rattle.net_base.specs.declared.time.Instant.{Instant}
+use Rattle.control_wire.specs.Segment.{Segment}
 use Rattle.control_wire.specs.Seq.{seq_add, seq_sub}
 use Rattle.sock_core.specs.Bounds.{IsMtu}
 use Rattle.sock_core.specs.Facts.{Facts}
 use Rattle.sock_core.specs.Received.{byte_at, room_of}
-use Rattle.sock_tcp.specs.Content.{carries_data}
+use Rattle.sock_tcp.specs.Content.{Sending, carries_data}
 use Rattle.sock_tcp.specs.Due.{is_closing}
+use Rattle.sock_tcp.specs.Process.{processed}
 use Rattle.sock_tcp.specs.Queues.{may_send, receives, recv_check}
 use Rattle.sock_tcp.specs.Verdict.{fin_place}
 use Rattle.sock_tcp.specs.View.{View}
@@ -19,9 +21,9 @@ use Rattle.sock_tcp.specs.declared.timer.Timer.TheVariants as timer
 use Rattle.sock_tcp.specs.declared.tuple.Tuple.{Tuple}
 use Rattle.tcp_laws.specs.Polling.{IsReached}
 use Rattle.progress_laws.specs.BothWays.{window_told}
-use Rattle.progress_laws.specs.Delivery.{HasWindow}
-use Rattle.progress_laws.specs.InStep.{Moves}
+use Rattle.progress_laws.specs.InStep.{Move, told}
 use Rattle.progress_laws.specs.ShutWindows.{width}
+use Rattle.progress_laws.specs.Speech.{DispatchesOk}
 
 -- ---- the one that speaks
 
@@ -69,64 +71,85 @@ InReach v w =
 
 -- They agree on the numbers of both streams: w took so many bytes of v's transmit queue, and v heard so many places of
 -- w's, perhaps its FIN with them, that w has not heard of. What w holds out of order are bytes of v's queue, at their
--- places. In LAST-ACK w took something that v has not heard of; or v knows a window above 0, and w's has a place
--- (`stall_last_ack`)
-pub record Agreement (d : Duration) (t : Tuple) (v w : View) : Type 0 where
+-- places. In LAST-ACK w took something that v has not heard of, or v knows a window above 0 (`stall_last_ack`)
+pub record Agreement (d : Duration) (t : Tuple) (v w : View) (taken heard : ℕ) : Type 0 where
   pub speaker : IsSpeaker d t v
   pub taker : IsTaking w
-  pub taken : ℕ
   pub taken_within : taken ≤ length v.tx_buffer.bytes
   pub there : next_ack w ≡ seq_add v.local_seq_no taken
   pub held : (k b : ℕ) → byte_at w.rx_buffer.held k ≡ Some b → slice_get v.tx_buffer.bytes (taken + k) ≡ Some b
-  pub heard : ℕ
   pub heard_within : heard ≤ length w.tx_buffer.bytes + fin_place w.state
   pub back : next_ack v ≡ seq_add w.local_seq_no heard
   pub in_reach : InReach v w
-  pub last : v.state ≡ state.LastAck → (0 < taken) ⊎ ((0 < v.remote_win_len) × HasWindow w)
+  pub last : v.state ≡ state.LastAck → (0 < taken) ⊎ (0 < v.remote_win_len)
+
+-- ---- what they do in turn
+
+-- A move (`Move`), or one more: v dispatches, what it emits reaches w at once, and the answer is lost. So it is where
+-- bytes fill the receive buffer of w, and the answer tells a window of 0: heard, it can set the probe timer while
+-- something is in flight, and nothing goes on any more (`stall_empty_probe`)
+pub data Exchange (f : Facts) (now : Instant) (v w : View) (got : List ℕ) (v' w' : View) (got' : List ℕ) : Type 0 where
+  IsMove : Move f now v w got v' w' got' → Exchange f now v w got v' w' got'
+  AnswerIsLost : (out : Sending) (answer : Segment)
+      → DispatchesOk (told f now) false v (Some out) v'
+      → processed w now 0 out.ip out.segment ≡ record { view = w'; reply = Some answer }
+      → got' ≡ got
+      → Exchange f now v w got v' w' got'
+
+-- a list of them, whose moments do not go back
+pub data Exchanges (f : Facts) : Instant → View → View → List ℕ → Instant → View → View → List ℕ → Type 0 where
+  NoMore : (at : Instant) (v w : View) (got : List ℕ) → Exchanges f at v w got at v w got
+  NextOne : (at now end : Instant) (v w u x v' w' : View) (got more got' : List ℕ)
+      → at.micros ≤ℤ now.micros
+      → Exchange f now v w got u x more
+      → Exchanges f now u x more end v' w' got'
+      → Exchanges f at v w got end v' w' got'
 
 -- ---- the bytes
 
--- Some list of dispatches, deliveries and reads empties the transmit queue of v, and what was read of w then is what
--- waited there, and all that it had not taken, in order. They still agree. Of w's stream v took nothing, and nothing is
--- lost: what v has not heard of it is what it was
+-- Some such list empties the transmit queue of v, and what was read of w then is what waited there, and all that it had
+-- not taken, in order. They still agree. Of w's stream v took nothing, and nothing is lost: what v has not heard of it
+-- is what it was
 pub record BytesArrive (d : Duration) (t : Tuple) (f : Facts) (at : Instant) (v w : View) (got : List ℕ)
-    (i : Agreement d t v w) : Type 0 where
+    (taken heard : ℕ) : Type 0 where
   pub end : Instant
   pub sender : View
   pub receiver : View
-  pub moves : Moves f at v w got end sender receiver
-      (got ++ (w.rx_buffer.bytes ++ drop i.taken v.tx_buffer.bytes))
+  pub exchanges : Exchanges f at v w got end sender receiver
+      (got ++ (w.rx_buffer.bytes ++ drop taken v.tx_buffer.bytes))
   pub sent : length sender.tx_buffer.bytes ≡ 0
-  pub agrees : Agreement d t sender receiver
+  pub then_heard : ℕ
+  pub agrees : Agreement d t sender receiver 0 then_heard
   pub state : sender.state ≡ v.state
   pub nothing_taken : sender.rx_buffer ≡ v.rx_buffer
-  pub nothing_lost : drop agrees.heard receiver.tx_buffer.bytes ≡ drop i.heard w.tx_buffer.bytes
+  pub nothing_lost : drop then_heard receiver.tx_buffer.bytes ≡ drop heard w.tx_buffer.bytes
 
 -- from any moment on, in any context that has the speaker's address; the speaker was not closed
 abbrev pub AgreeingBytesArrive : Type 0
 AgreeingBytesArrive = (d : Duration) (t : Tuple) (f : Facts) (at : Instant) (v w : View) (got : List ℕ)
+    (taken heard : ℕ)
     → IsMtu f.mtu
     → f.has_address t.local.addr ≡ true
     → may_send v.state ≡ true
-    → (i : Agreement d t v w)
-    → BytesArrive d t f at v w got i
+    → Agreement d t v w taken heard
+    → BytesArrive d t f at v w got taken heard
 
 -- ---- the FIN
 
 -- Where v was closed, the same list brings its FIN, too: reads of w answer `Finished`
-pub record FinArrives (d : Duration) (t : Tuple) (f : Facts) (at : Instant) (v w : View) (got : List ℕ)
-    (i : Agreement d t v w) : Type 0 where
+pub record FinArrives (f : Facts) (at : Instant) (v w : View) (got : List ℕ) (taken : ℕ) : Type 0 where
   pub end : Instant
   pub sender : View
   pub receiver : View
-  pub moves : Moves f at v w got end sender receiver
-      (got ++ (w.rx_buffer.bytes ++ drop i.taken v.tx_buffer.bytes))
+  pub exchanges : Exchanges f at v w got end sender receiver
+      (got ++ (w.rx_buffer.bytes ++ drop taken v.tx_buffer.bytes))
   pub finished : recv_check receiver ≡ Err recv_error.Finished
 
 abbrev pub AgreeingFinArrives : Type 0
 AgreeingFinArrives = (d : Duration) (t : Tuple) (f : Facts) (at : Instant) (v w : View) (got : List ℕ)
+    (taken heard : ℕ)
     → IsMtu f.mtu
     → f.has_address t.local.addr ≡ true
     → is_closing v.state ≡ true
-    → (i : Agreement d t v w)
-    → FinArrives d t f at v w got i
+    → Agreement d t v w taken heard
+    → FinArrives f at v w got taken
