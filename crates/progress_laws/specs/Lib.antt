@@ -4,6 +4,7 @@ pub mod Delivery
 pub mod InStep
 pub mod BothWays
 pub mod ShutWindows
+pub mod Agreement
 pub mod AfterClose
 pub mod Opening
 pub mod FromOpening
