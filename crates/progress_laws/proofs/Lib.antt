@@ -38,3 +38,4 @@ pub mod Handshakes
 pub mod Accepts
 pub mod FromOpening
 pub mod LostAck
+pub mod Pairs

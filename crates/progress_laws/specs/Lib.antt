@@ -8,3 +8,4 @@ pub mod Agreement
 pub mod AfterClose
 pub mod Opening
 pub mod FromOpening
+pub mod Pairs

@@ -8,13 +8,18 @@
 //! `FromOpening.antt`, these to the end of both streams, whatever SYNs were lost.
 #![tactic(auto)]
 
+ghost use Rattle.std.specs.Prelude.{◌≡◌};
+ghost use Rattle.pair_core.specs.PairInvariant.{IsPair};
+ghost use Rattle.pair_core.specs.PairViews.{PairView};
 ghost use Rattle.progress_laws.specs.AfterClose.{ClosedSenderFinishes};
+ghost use Rattle.progress_laws.specs.Agreement.{AgreeingBytesArrive, AgreeingFinArrives};
 ghost use Rattle.progress_laws.specs.BothWays.{BothWaysComplete, BothWaysFinish, SendingKeepsInStep};
 ghost use Rattle.progress_laws.specs.Delivery.{CountedFinIsHeard, DeliveryMoves};
 ghost use Rattle.progress_laws.specs.FromOpening.{HandshakeBringsInStep, OpenedPairCompletes};
 ghost use Rattle.progress_laws.specs.FromOpening.{LostAckComesAgain, LostSynsComeAgain};
 ghost use Rattle.progress_laws.specs.InStep.{OneWayCompletes, OneWayFinishes};
 ghost use Rattle.progress_laws.specs.Opening.{HandshakeCompletes, ListenerAnswersSyn};
+ghost use Rattle.progress_laws.specs.Pairs.{CanAlways};
 ghost use Rattle.progress_laws.specs.ShutWindows.{ShutWindowsOpen};
 ghost use Rattle.progress_laws.specs.Speech.{SpeaksPastItsTimers};
 ghost use Rattle.progress_laws.specs.Wakes.{WorkWakesOrSleeps};
@@ -142,3 +147,24 @@ pub fn lost_syns_come_again()
 pub fn lost_ack_comes_again()
     ensures { LostAckComesAgain }
 {}
+
+pub fn agreeing_bytes_arrive()
+    ensures { AgreeingBytesArrive }
+{}
+
+pub fn agreeing_fin_arrives()
+    ensures { AgreeingFinArrives }
+{}
+
+/// Of every pair, whatever happened to it: from any moment on, some list of dispatches, deliveries and reads hands out
+/// of one side all that the other ever accepted, and where that was closed, a read answers `Finished` then
+/// (`CanComeOver` says of which sides, in which states and with which settings).
+pub fn pairs_can_go_on<G>()
+    ensures of_a { (p : PairView G) → IsPair p → CanAlways p.a p.b }
+    ensures of_b { (p : PairView G) → IsPair p → CanAlways p.b p.a }
+{
+    tcp_laws::streams::window_unit_fits();
+    agreeing_bytes_arrive();
+    agreeing_fin_arrives();
+    pair_core::laws::sides_agree::<G>();
+}
