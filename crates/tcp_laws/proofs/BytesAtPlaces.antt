@@ -17,8 +17,8 @@ use Rattle.sock_tcp.specs.Opening.{Listens, after_connect, endpoints, is_listeni
 use Rattle.sock_tcp.specs.Queue.{queue_of}
 use Rattle.sock_tcp.specs.Queues.{ReadsWithIf, SendsWithIf, fitting, may_recv, may_send, queued, read_off, readable}
 use Rattle.tcp_laws.specs.SocketBytes.{IsBrought, KeepsPlaces, begins, byte_of}
-use Rattle.tcp_laws.specs.SocketRun.{Counts, Dispatched, Run, Sets, Step, any_filling, any_taking, is_reset, listens_again, opens_listener, starting, starting_if, with_segment}
-use Rattle.tcp_laws.specs.SocketRun.{Listen, Connect, SendSlice, Send, WriteStr, RecvSlice, Recv, Close, Abort, Set, Process, Dispatch, SetCongestionControl, SetTimeout, SetAckDelay, SetNagle, SetKeepAlive, SetHopLimit, PauseSynAck, SetTsvalGenerator}
+use Rattle.tcp_laws.specs.SocketRun.{Counts, Dispatched, Run, Step, any_filling, any_taking, is_reset, listens_again, opens_listener, starting, starting_if, with_segment}
+use Rattle.tcp_laws.specs.SocketRun.{Listen, Connect, SendSlice, Send, WriteStr, RecvSlice, Recv, Close, Abort, Set, Process, Dispatch}
 use Rattle.sock_tcp.specs.View.{View, fresh}
 use Rattle.sock_tcp.specs.Window.{receive_window, is_inside, cut_of, cut_bytes}
 use Rattle.sock_tcp.specs.declared.error.ConnectError.{ConnectError}
@@ -30,7 +30,7 @@ use Rattle.sock_tcp.specs.declared.tuple.Tuple.{Tuple}
 use Rattle.tcp_laws.proofs.DispatchFrames.{before_keeps, sends_keeps}
 use Rattle.tcp_laws.proofs.Receiving.{only_appends}
 use Rattle.tcp_laws.proofs.Kept.{listening_is, not_zero}
-use Rattle.tcp_laws.proofs.SocketSteps.{Holds, holds_after, same_number}
+use Rattle.tcp_laws.proofs.SocketSteps.{Holds, holds_after, same_number, setting_leaves}
 
 -- ---- places
 
@@ -186,16 +186,6 @@ closure_held true v w (Err e) h d = absurd h
 closure_held false v w (Ok x) h d = absurd h
 closure_held false v w (Err e) h d = ap (λ (x : View). byte_at x.rx_buffer.held d) h.1
 
-setting_rx : (v w : View) → Sets v w → w.rx_buffer ≡ v.rx_buffer
-setting_rx v w (SetCongestionControl x e) = ap (λ (x : View). x.rx_buffer) e
-setting_rx v w (SetTimeout x e) = ap (λ (x : View). x.rx_buffer) e
-setting_rx v w (SetAckDelay x e) = ap (λ (x : View). x.rx_buffer) e
-setting_rx v w (SetNagle x e) = ap (λ (x : View). x.rx_buffer) e
-setting_rx v w (SetKeepAlive x e) = ap (λ (x : View). x.rx_buffer) e
-setting_rx v w (SetHopLimit x e) = ap (λ (x : View). x.rx_buffer) e
-setting_rx v w (PauseSynAck x e) = ap (λ (x : View). x.rx_buffer) e
-setting_rx v w (SetTsvalGenerator e) = ap (λ (x : View). x.rx_buffer) e
-
 dispatch_rx : (v w : View) (f : Facts) (stamps : Bool) (out : Option Sending) → is_reset v f stamps ≡ false → Dispatched f stamps v out w → w.rx_buffer ≡ v.rx_buffer
 dispatch_rx v w f stamps out e h = (sends_keeps (before_emit v f stamps).peer f stamps (before_emit v f stamps).view out w h).rx ∙ (before_keeps f stamps v e).rx
 
@@ -214,7 +204,7 @@ step_keeps_places v w k j c (RecvSlice bs bs' r h is) b = calm_keeps v w k j (Re
 step_keeps_places v w k j c (Recv r h is) b = calm_keeps v w k j (Recv r h is) refl (record { joined = ap (λ (c : Counts). c.joined) is; held = closure_held (may_recv v) v w r h })
 step_keeps_places v w k j c (Close h is) b = calm_keeps v w k j (Close h is) refl (calm_rx v w k j (same_joined k j is) (ap (λ (x : View). x.rx_buffer) h))
 step_keeps_places v w k j c (Abort h is) b = calm_keeps v w k j (Abort h is) refl (calm_rx v w k j (same_joined k j is) (ap (λ (x : View). x.rx_buffer) h))
-step_keeps_places v w k j c (Set h is) b = calm_keeps v w k j (Set h is) refl (calm_rx v w k j (same_joined k j is) (setting_rx v w h))
+step_keeps_places v w k j c (Set h is) b = calm_keeps v w k j (Set h is) refl (calm_rx v w k j (same_joined k j is) (setting_leaves (λ u. u.rx_buffer ≡ v.rx_buffer) v w (λ x. refl) (λ x. refl) (λ timeout delay nagle hops paused. refl) h))
 step_keeps_places v w k j c (Process now word ip s small numbered short bare h is) b =
     let m : MayTake v s w = subst (MayTake v s) (sym h) (only_appends v now word ip s c.room numbered.seq_number short) in
     segment_keeps v w k j (Process now word ip s small numbered short bare h is) s m (no_start (listens_again v.state w.state) w (with_segment k v w) j b is) (λ o bs x. x)

@@ -18,7 +18,6 @@ use Rattle.sock_tcp.specs.Queue.{capacity, queue_of}
 use Rattle.sock_tcp.specs.Queues.{first_probe, may_send, queued, read_off}
 use Rattle.sock_tcp.specs.Settings.{keep_alive_timer}
 use Rattle.tcp_laws.specs.SocketRun.{Sets}
-use Rattle.tcp_laws.specs.SocketRun.{SetCongestionControl, SetTimeout, SetAckDelay, SetNagle, SetKeepAlive, SetHopLimit, PauseSynAck, SetTsvalGenerator}
 use Rattle.sock_tcp.specs.Timers.{idle_from, is_idle}
 use Rattle.sock_tcp.specs.View.{View, fresh, moment_of}
 use Rattle.tcp_laws.specs.Polling.{IsReached}
@@ -32,7 +31,7 @@ use Rattle.tcp_laws.proofs.Kept.{Kept, KeptByBeginnings, KeptByCalls, before_kep
 use Rattle.tcp_laws.proofs.Ordered.{HasMoment, IsOpen, IsOpening, IsOrdered, IsPeeredIn, Row, is_close, idle_has_moment, kind_open, lost_open, no_distance, pre_transmitted_open, timed_out_open}
 use Rattle.tcp_laws.proofs.OrderedSegments.{process_ordered}
 use Rattle.tcp_laws.proofs.OrderedSendings.{sends_ordered}
-use Rattle.tcp_laws.proofs.SocketSteps.{same_number}
+use Rattle.tcp_laws.proofs.SocketSteps.{same_number, setting_leaves}
 
 -- ---- a socket that is reset
 
@@ -206,14 +205,10 @@ open_by (controller.Reno r) a b d = record { cwnd = a; mss = b; ssthresh = d }
 
 module _ (v w : View) (h : IsOrdered v) where
   setting_ordered : Sets v w → IsOrdered w
-  setting_ordered (SetCongestionControl x e) = subst IsOrdered (sym e) (record { una_small = h.una_small; nxt_small = h.nxt_small; room = h.room; congestion = kind_open x; peered = h.peered; row = h.row })
-  setting_ordered (SetTimeout x e) = subst IsOrdered (sym e) h
-  setting_ordered (SetAckDelay x e) = subst IsOrdered (sym e) h
-  setting_ordered (SetNagle x e) = subst IsOrdered (sym e) h
-  setting_ordered (SetKeepAlive x e) = subst IsOrdered (sym e) (record { una_small = h.una_small; nxt_small = h.nxt_small; room = h.room; congestion = h.congestion; peered = h.peered; row = keep_row v.state x v.timer v.keep_alive _ _ h.row })
-  setting_ordered (SetHopLimit x e) = subst IsOrdered (sym e) h
-  setting_ordered (PauseSynAck x e) = subst IsOrdered (sym e) h
-  setting_ordered (SetTsvalGenerator e) = subst IsOrdered (sym e) h
+  setting_ordered = setting_leaves IsOrdered v w
+      (λ x. record { una_small = h.una_small; nxt_small = h.nxt_small; room = h.room; congestion = kind_open x; peered = h.peered; row = h.row })
+      (λ x. record { una_small = h.una_small; nxt_small = h.nxt_small; room = h.room; congestion = h.congestion; peered = h.peered; row = keep_row v.state x v.timer v.keep_alive _ _ h.row })
+      (λ timeout delay nagle hops paused. h)
 
   -- ---- closing
 

@@ -1,5 +1,5 @@
 -- Any call keeps two facts: a probe timer runs only while the peer has no window, and its MSS is at least 48.
-use Rattle.std.proofs.Common.{◌≡◌, ℕ, ◌≤◌, Bool, true, false, not, ◌&&◌, refl, sym, ap, subst, ◌∙◌, List, length, max, Option, Some, None, arith}
+use Rattle.std.proofs.Common.{◌≡◌, ℕ, ◌≤◌, Bool, true, false, not, ◌&&◌, refl, ap, ◌∙◌, List, length, max, Option, Some, None, arith}
 use Rattle.std.specs.Prelude.{if◌then◌else◌, ◌==◌}
 use Rattle.std.proofs.lemmas.Bool.{and_parts, eqb-true}
 use Rattle.net_base.specs.declared.time.Duration.{Duration}
@@ -26,9 +26,8 @@ use Rattle.sock_tcp.specs.declared.timer.Timer.{Timer}
 use Rattle.sock_tcp.specs.declared.timer.Timer.TheVariants as timer
 use Rattle.tcp_laws.specs.Polling.{IsReached}
 use Rattle.tcp_laws.specs.SocketRun.{Sets}
-use Rattle.tcp_laws.specs.SocketRun.{SetCongestionControl, SetTimeout, SetAckDelay, SetNagle, SetKeepAlive, SetHopLimit, PauseSynAck, SetTsvalGenerator}
 use Rattle.tcp_laws.proofs.Kept.{Kept, KeptByBeginnings, KeptByCalls, KeptByRows, KeptBySegments, KeptBySending, before_kept, process_kept, reached_kept, sends_kept}
-use Rattle.tcp_laws.proofs.SocketSteps.{same_number}
+use Rattle.tcp_laws.proofs.SocketSteps.{same_number, setting_leaves}
 
 abbrev pub ProbesIn : Timer → ℕ → Type 0
 ProbesIn (timer.ZeroWindowProbe at delay) window = window ≡ 0
@@ -211,14 +210,7 @@ module _ (v w : View) (h : IsProbing v) where
       number f = same_number (f w) (f v) (λ d. n (λ e. d (ap f e)))
 
   setting_probing : Sets v w → IsProbing w
-  setting_probing (SetCongestionControl x e) = subst IsProbing (sym e) h
-  setting_probing (SetTimeout x e) = subst IsProbing (sym e) h
-  setting_probing (SetAckDelay x e) = subst IsProbing (sym e) h
-  setting_probing (SetNagle x e) = subst IsProbing (sym e) h
-  setting_probing (SetKeepAlive x e) = subst IsProbing (sym e) (record { window = kept_probes x v.timer v.remote_win_len h.window; mss = h.mss })
-  setting_probing (SetHopLimit x e) = subst IsProbing (sym e) h
-  setting_probing (PauseSynAck x e) = subst IsProbing (sym e) h
-  setting_probing (SetTsvalGenerator e) = subst IsProbing (sym e) h
+  setting_probing = setting_leaves IsProbing v w (λ x. h) (λ x. record { window = kept_probes x v.timer v.remote_win_len h.window; mss = h.mss }) (λ timeout delay nagle hops paused. h)
 
 calls_probing : KeptByCalls IsProbing (λ d. Unit {0})
 unfolding read_off connected listened

@@ -19,10 +19,8 @@ use Rattle.sock_tcp.specs.Steps.{is_duplicate, is_window_changed, window_taken, 
 use Rattle.sock_tcp.specs.View.{View, fresh, moment_of}
 use Rattle.sock_tcp.specs.declared.acked.Acked.{Acked}
 use Rattle.tcp_laws.specs.Polling.{IsReached}
-use Rattle.tcp_laws.specs.SocketRun.{Sets}
-use Rattle.tcp_laws.specs.SocketRun.{SetCongestionControl, SetTimeout, SetAckDelay, SetNagle, SetKeepAlive, SetHopLimit, PauseSynAck, SetTsvalGenerator}
 use Rattle.tcp_laws.proofs.Kept.{Kept, KeptByBeginnings, KeptByCalls, KeptByRows, KeptBySegments, KeptBySending, process_kept, reached_kept, sends_kept}
-use Rattle.tcp_laws.proofs.SocketSteps.{same_number}
+use Rattle.tcp_laws.proofs.SocketSteps.{same_number, setting_leaves}
 
 abbrev pub HasUnit : ℕ → ℕ → Type 0
 HasUnit room shift = 2 ^ shift ≤ max 1 room
@@ -145,16 +143,6 @@ module _ (v w : View) (h : IsScaled v) where
       number : (f : View → ℕ) → f w ≡ f v
       number f = same_number (f w) (f v) (λ d. n (λ e. d (ap f e)))
 
-  setting_scaled : Sets v w → IsScaled w
-  setting_scaled (SetCongestionControl x e) = subst IsScaled (sym e) h
-  setting_scaled (SetTimeout x e) = subst IsScaled (sym e) h
-  setting_scaled (SetAckDelay x e) = subst IsScaled (sym e) h
-  setting_scaled (SetNagle x e) = subst IsScaled (sym e) h
-  setting_scaled (SetKeepAlive x e) = subst IsScaled (sym e) h
-  setting_scaled (SetHopLimit x e) = subst IsScaled (sym e) h
-  setting_scaled (PauseSynAck x e) = subst IsScaled (sym e) h
-  setting_scaled (SetTsvalGenerator e) = subst IsScaled (sym e) h
-
 calls_scaled : KeptByCalls IsScaled (λ d. Unit {0})
 unfolding queued read_off connected listened
 calls_scaled = record {
@@ -165,7 +153,7 @@ calls_scaled = record {
   decided = λ v w is n h. same_scaled v w h n;
   closes = λ v h. h;
   aborts = λ v h. h;
-  sets = λ v w x m h. setting_scaled v w h x;
+  sets = λ v w x m h. setting_leaves IsScaled v w (λ x. h) (λ x. h) (λ timeout delay nagle hops paused. h) x;
 }
 
 kept_scaled : Kept (λ at. IsScaled) (λ at. Unit {0}) (λ last now. Unit {0}) (λ d. Unit {0})

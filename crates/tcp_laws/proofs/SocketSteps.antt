@@ -9,6 +9,7 @@ use Rattle.ip_wire.specs.declared.endpoint.IpListenEndpoint.{IpListenEndpoint}
 use Rattle.ip_wire.specs.declared.repr.IpRepr.{IpRepr}
 use Rattle.net_base.specs.Ring.{Ring}
 use Rattle.net_base.specs.declared.time.Instant.{Instant}
+use Rattle.net_base.specs.declared.time.Duration.{Duration}
 use Rattle.control_wire.specs.Segment.{Segment}
 use Rattle.control_wire.specs.Seq.{seq_sub}
 use Rattle.control_wire.specs.declared.seq_number.TcpSeqNumber.{TcpSeqNumber}
@@ -16,6 +17,7 @@ use Rattle.sock_core.specs.Facts.{Facts}
 use Rattle.sock_core.specs.Received.{Received, byte_at, cleared, handed_out, merged, receiving, room_of}
 use Rattle.sock_tcp.proofs.Lending.{first_within}
 use Rattle.sock_tcp.specs.Begin.{Begun, before_emit}
+use Rattle.sock_tcp.specs.Closing.{keep_alive_set}
 use Rattle.sock_tcp.specs.Content.{Sending}
 use Rattle.tcp_laws.specs.Laws.{MayTake}
 use Rattle.sock_tcp.specs.Opening.{Listens, after_connect, connected, endpoints, is_listening, is_open, listened, renewed}
@@ -24,6 +26,7 @@ use Rattle.sock_tcp.specs.Queue.{Queue, queue_of}
 use Rattle.sock_tcp.specs.Queues.{Reads, ReadsWithIf, Sends, SendsWithIf, fitting, may_recv, may_send, queued, read_off, readable, recv_refusal}
 use Rattle.tcp_laws.specs.SocketRun.{Counts, Dispatched, IsNumbered, IsPart, Promised, Run, SendsTo, Sets, Step, accepted, any_filling, any_taking, filled_in, handed_slice, is_reset, listens_again, opens_listener, starting, starting_if, taken_out, with_handed, with_segment, with_sent}
 use Rattle.tcp_laws.specs.SocketRun.{Listen, Connect, SendSlice, Send, WriteStr, RecvSlice, Recv, Close, Abort, Set, Process, Dispatch, SetCongestionControl, SetTimeout, SetAckDelay, SetNagle, SetKeepAlive, SetHopLimit, PauseSynAck, SetTsvalGenerator, Ends, Then}
+use Rattle.sock_tcp.specs.Settings.{of_kind}
 use Rattle.sock_tcp.specs.View.{View, fresh}
 use Rattle.sock_tcp.specs.declared.emission.Kind.TheVariants as kind
 use Rattle.sock_tcp.specs.declared.error.ConnectError.{ConnectError}
@@ -31,6 +34,7 @@ use Rattle.sock_tcp.specs.declared.error.ListenError.{ListenError}
 use Rattle.sock_tcp.specs.declared.error.RecvError.{RecvError}
 use Rattle.sock_tcp.specs.declared.error.SendError.{SendError}
 use Rattle.sock_tcp.specs.declared.error.SendError.TheVariants as send_error
+use Rattle.sock_tcp.specs.declared.settings.CongestionControl.{CongestionControl}
 use Rattle.sock_tcp.specs.declared.state.State.TheVariants as state
 use Rattle.sock_tcp.specs.declared.tuple.Tuple.{Tuple}
 use Rattle.tcp_laws.proofs.DispatchFrames.{Keeps, before_keeps, before_resets, sends_keeps}
@@ -159,15 +163,16 @@ closure_read false v w k (Err e) h c = subst (Holds w) (sym (none_read k)) (unch
 
 -- ---- the setters
 
-setting_kept : (v w : View) (k : Counts) → Sets v w → Holds v k → Holds w k
-setting_kept v w k (SetCongestionControl x e) c = subst (λ u. Holds u k) (sym e) c
-setting_kept v w k (SetTimeout x e) c = subst (λ u. Holds u k) (sym e) c
-setting_kept v w k (SetAckDelay x e) c = subst (λ u. Holds u k) (sym e) c
-setting_kept v w k (SetNagle x e) c = subst (λ u. Holds u k) (sym e) c
-setting_kept v w k (SetKeepAlive x e) c = subst (λ u. Holds u k) (sym e) c
-setting_kept v w k (SetHopLimit x e) c = subst (λ u. Holds u k) (sym e) c
-setting_kept v w k (PauseSynAck x e) c = subst (λ u. Holds u k) (sym e) c
-setting_kept v w k (SetTsvalGenerator e) c = subst (λ u. Holds u k) (sym e) c
+-- what holds of v with any settings holds after a setting; the controller and the interval of keep-alives change more
+pub setting_leaves : (P : View → Type 0) (v w : View) → ((x : CongestionControl) → P (record v { congestion_controller = of_kind x })) → ((x : Option Duration) → P (keep_alive_set v x)) → ((timeout delay : Option Duration) (nagle : Bool) (hops : Option ℕ) (paused : Bool) → P (record v { timeout = timeout; ack_delay = delay; nagle = nagle; hop_limit = hops; synack_paused = paused })) → Sets v w → P w
+setting_leaves P v w c k o (SetCongestionControl x e) = subst P (sym e) (c x)
+setting_leaves P v w c k o (SetTimeout x e) = subst P (sym e) (o x v.ack_delay v.nagle v.hop_limit v.synack_paused)
+setting_leaves P v w c k o (SetAckDelay x e) = subst P (sym e) (o v.timeout x v.nagle v.hop_limit v.synack_paused)
+setting_leaves P v w c k o (SetNagle x e) = subst P (sym e) (o v.timeout v.ack_delay x v.hop_limit v.synack_paused)
+setting_leaves P v w c k o (SetKeepAlive x e) = subst P (sym e) (k x)
+setting_leaves P v w c k o (SetHopLimit x e) = subst P (sym e) (o v.timeout v.ack_delay v.nagle x v.synack_paused)
+setting_leaves P v w c k o (PauseSynAck x e) = subst P (sym e) (o v.timeout v.ack_delay v.nagle v.hop_limit x)
+setting_leaves P v w c k o (SetTsvalGenerator e) = subst P (sym e) (o v.timeout v.ack_delay v.nagle v.hop_limit v.synack_paused)
 
 -- ---- connect
 
@@ -317,7 +322,7 @@ step_keeps v w k j (RecvSlice bs bs' r h is) c = subst (Holds w) (sym is) (slice
 step_keeps v w k j (Recv r h is) c = subst (Holds w) (sym is) (closure_read (may_recv v) v w k r h c)
 step_keeps v w k j (Close h is) c = subst (Holds w) (sym is) (subst (λ u. Holds u k) (sym h) c)
 step_keeps v w k j (Abort h is) c = subst (Holds w) (sym is) (subst (λ u. Holds u k) (sym h) c)
-step_keeps v w k j (Set h is) c = subst (Holds w) (sym is) (setting_kept v w k h c)
+step_keeps v w k j (Set h is) c = subst (Holds w) (sym is) (setting_leaves (λ u. Holds u k) v w (λ x. c) (λ x. c) (λ timeout delay nagle hops paused. c) h)
 step_keeps v w k j (Process now word ip s small numbered short bare h is) c = subst (Holds w) (sym is) (process_kept v w k now word ip s c small numbered short h)
 step_keeps v w k j (Dispatch f stamps out h is) c = subst (Holds w) (sym is) (dispatch_kept v w k f stamps out c h)
 
