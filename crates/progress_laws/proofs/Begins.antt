@@ -85,6 +85,9 @@ pub record Same (v x : View) : Type 0 where
   pub shift : x.remote_win_shift ≡ v.remote_win_shift
   pub paused : x.synack_paused ≡ v.synack_paused
 
+pub same_self : (v : View) → Same v v
+same_self v = record { state = refl; peer = refl; timeout = refl; keep_alive = refl; una = refl; tx = refl; rx = refl; rcv = refl; window = refl; scale = refl; shift = refl; paused = refl }
+
 pub same_then : {u v x : View} → Same u v → Same v x → Same u x
 same_then a b = record { state = b.state ∙ a.state; peer = b.peer ∙ a.peer; timeout = b.timeout ∙ a.timeout; keep_alive = b.keep_alive ∙ a.keep_alive; una = b.una ∙ a.una; tx = b.tx ∙ a.tx; rx = b.rx ∙ a.rx; rcv = b.rcv ∙ a.rcv; window = b.window ∙ a.window; scale = b.scale ∙ a.scale; shift = b.shift ∙ a.shift; paused = b.paused ∙ a.paused }
 

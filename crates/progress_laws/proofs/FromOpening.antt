@@ -4,7 +4,6 @@ use Rattle.std.specs.Prelude.{if◌then◌else◌, ◌≤ℤ◌, true, false, Ok
 use Rattle.std.proofs.lemmas.Int.{ints}
 use Rattle.net_base.specs.declared.time.Duration.{Duration}
 use Rattle.net_base.specs.declared.time.Instant.{Instant}
-use Rattle.ip_wire.specs.declared.endpoint.IpListenEndpoint.{IpListenEndpoint}
 use Rattle.sock_core.specs.Bounds.{IsMtu}
 use Rattle.sock_core.specs.Facts.{Facts}
 use Rattle.sock_tcp.specs.Queue.{capacity}
@@ -24,9 +23,10 @@ use Rattle.progress_laws.proofs.Begins.{dispatch_reached}
 use Rattle.progress_laws.proofs.Accepts.{sending_keeps_in_step}
 use Rattle.progress_laws.proofs.BothFinish.{both_ways_finish}
 use Rattle.progress_laws.proofs.Handshakes.{handshake_brings_in_step, meets, narrow, reached_l, reached_received, reached_x}
-use Rattle.progress_laws.proofs.Opening.{acknowledged, answered, answers_syn, back_out, begins, can, can_z, out, q, received, s, sent, stands, takes_syn}
+use Rattle.progress_laws.proofs.Opening.{acknowledged, answered, answers_syn, back_out, begins, can, first, may_answer, out, q, received, s, sent, stands, takes_syn, there_s}
 use Rattle.progress_laws.proofs.Repeats.{IsSent, NotSent, Repeats, SendsSyn, SynGoesOut, SynWaits, goes_so}
 use Rattle.progress_laws.proofs.Rounds.{later_moment}
+use Rattle.progress_laws.proofs.SynSteps.{HasTakenSyn}
 use Rattle.progress_laws.proofs.Taking.{take_all}
 
 -- bytes that fit into an empty queue
@@ -93,30 +93,32 @@ pub losses_keep : (st : State) (t : Tuple) (f : Facts) (x : View) (c : SendsSyn 
 losses_keep st t f x c at end v w (NoLoss _ _) r p = (r, p)
 losses_keep st t f x c at end v w (OneLoss _ now _ _ u _ out l d rest) r p = losses_keep st t f x c now end u w rest (goes_so st t f x c v r now out u d) (dispatch_reached (told f now) false v out u p d)
 
-module _ (t : Tuple) (f : Facts) (number word : ℕ) (a b : View) (e : IpListenEndpoint) (m : CanMeet t f number word a b) (ua : IsUnopened a) (ub : IsUnopened b) (mtu : IsMtu f.mtu) (reached_l : IsReached (listened b e)) (now : Instant) (v : View) (r : Repeats (connected a t number) v) (reached_s : IsReached (sent t f number word a b e m now v r)) where
-  abbrev w : View
-  w = received t f number word a b e m now v r
-
-  answers_again : (end : Instant) (z : View) → Repeats w z → IsReached z → AnswersAgain a.keep_alive b.keep_alive t f (capacity a.tx_buffer) (capacity b.tx_buffer) end (sent t f number word a b e m now v r) z
+module _ (t : Tuple) (f : Facts) (number word : ℕ) (a b : View) (m : CanMeet t f number word a b) (ua : IsUnopened a) (ub : IsUnopened b) (mtu : IsMtu f.mtu) (now : Instant) (v : View) (r : Repeats (connected a t number) v) (reached_s : IsReached (sent t f number word a b m now v r)) (s : Tuple) (w : View) (there : f.has_address s.local.addr ≡ true) (q : HasTakenSyn b w s word (first t f number word a b m now v r)) (reached_w : IsReached w) where
+  answers_again : (end : Instant) (z : View) → Repeats w z → IsReached z → AnswersAgain a.keep_alive b.keep_alive t f (capacity a.tx_buffer) (capacity b.tx_buffer) end (sent t f number word a b m now v r) z
   unfolding answers_syn
   answers_again end z rz reached =
       let g = goes_out z rz.waits end in
-      let y : AnswersSyn f g.0 (sent t f number word a b e m now v r) z = answers_syn t f number word a b e m now v r g.0 z rz g.2 in
-      let k = acknowledged t f number word a b e m now v r g.0 z rz ua.interval ua.some (narrow a ua.reached) (narrow b ub.reached) in
-      let n = stands t f number word a b e m now v r g.0 z rz ua.interval ua.some (narrow a ua.reached) (narrow b ub.reached) ub.some reached_s (dispatch_reached (told f g.0) false z (Some (back_out t f number word a b e m now v r g.0 z rz)) (answered t f number word a b e m now v r g.0 z rz) reached y.sends_answer) in
+      let y : AnswersSyn f g.0 (sent t f number word a b m now v r) z = answers_syn t f number word a b m now v r s w there q g.0 z rz g.2 in
+      let k = acknowledged t f number word a b m now v r s w there q g.0 z rz ua.interval ua.some (narrow a ua.reached) (narrow b ub.reached) in
+      let n = stands t f number word a b m now v r s w there q g.0 z rz ua.interval ua.some (narrow a ua.reached) (narrow b ub.reached) ub.some reached_s (dispatch_reached (told f g.0) false z (Some (back_out t f number word a b m now v r s w there q g.0 z rz)) (answered t f number word a b m now v r s w there q g.0 z rz) reached y.sends_answer) in
       record { now = g.0; later = g.1; answer = y; ack = k; new = n; ends = new_pair_ends a.keep_alive b.keep_alive t f (capacity a.tx_buffer) (capacity b.tx_buffer) k.here k.across mtu m.here n g.0 }
 
-  answers_losses : (end : Instant) (z : View) → Losses f now w end z → AnswersAgain a.keep_alive b.keep_alive t f (capacity a.tx_buffer) (capacity b.tx_buffer) end (sent t f number word a b e m now v r) z
+  answers_losses : (end : Instant) (z : View) → Losses f now w end z → AnswersAgain a.keep_alive b.keep_alive t f (capacity a.tx_buffer) (capacity b.tx_buffer) end (sent t f number word a b m now v r) z
   answers_losses end z l =
-      let h = q t f number word a b e m now v r in
-      let k = losses_keep state.SynReceived (s t f number word a b e m now v r) f w (can_z t f number word a b e m now v r) now end w z l h.repeats (reached_received t f number word a b e m now v r reached_l) in
+      let k = losses_keep state.SynReceived s f w (may_answer t f number word a b m now v r s w there q) now end w z l q.repeats reached_w in
       answers_again end z k.0 k.1
 
 pub lost_syns_come_again : LostSynsComeAgain
 unfolding takes_syn
 lost_syns_come_again t f g at last number word a b v remote own e p mtu l =
     let m = meets t f g number word a b remote own e p in
-    let k = losses_keep state.SynSent t f (connected a t number) (can t f number word a b e m) at last (connected a t number) v l (begins t f number word a b e m) (reached_x t f g number word a b remote own e p) in
+    let k = losses_keep state.SynSent t f (connected a t number) (can t f number word a b m) at last (connected a t number) v l (begins t f number word a b m) (reached_x t f g number word a b remote own e p) in
     let o = goes_out v k.0.waits last in
-    let y : TakesSyn f o.0 word v (listened b e) = takes_syn t f number word a b e m o.0 v k.0 o.2 in
-    record { now = o.0; later = o.1; syn = y; answers = answers_losses t f number word a b e m p.here p.across mtu (reached_l t f g number word a b remote own e p) o.0 v k.0 (dispatch_reached (told f o.0) false v (Some (out t f number word a b e m o.0 v k.0)) (sent t f number word a b e m o.0 v k.0) k.1 y.sends_syn) }
+    let y : TakesSyn f o.0 word v (listened b e) = takes_syn t f number word a b m e o.0 v k.0 o.2 in
+    record {
+      now = o.0;
+      later = o.1;
+      syn = y;
+      answers = answers_losses t f number word a b m p.here p.across mtu o.0 v k.0 (dispatch_reached (told f o.0) false v (Some (out t f number word a b m o.0 v k.0)) (sent t f number word a b m o.0 v k.0) k.1 y.sends_syn)
+          (s t f number word a b m e o.0 v k.0) (received t f number word a b m e o.0 v k.0) (there_s t f number word a b m e o.0 v k.0) (q t f number word a b m e o.0 v k.0).taken (reached_received t f number word a b m e o.0 v k.0 (reached_l t f g number word a b remote own e p));
+    }

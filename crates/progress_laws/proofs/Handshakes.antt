@@ -1,5 +1,5 @@
 -- The laws on two sockets that were opened toward each other.
-use Rattle.std.proofs.Common.{◌≡◌, ℕ, ◌<◌, ◌≤◌, ◌^◌, Bool, true, false, true≢false, refl, sym, ap, subst, ◌∙◌, Option, Some, None, arith}
+use Rattle.std.proofs.Common.{◌≡◌, ℕ, ◌<◌, ◌≤◌, ◌^◌, Bool, true, false, true≢false, refl, sym, ap, subst, ◌∙◌, length, Option, Some, None, arith}
 use Rattle.std.specs.Prelude.{Result, Ok, Err, is_ok, if◌then◌else◌, ◌==◌, ◌||◌}
 use Rattle.std.proofs.lemmas.Option.{none-some}
 use Rattle.net_base.specs.declared.time.Instant.{Instant}
@@ -8,12 +8,15 @@ use Rattle.ip_wire.specs.declared.address.IpAddress.{IpAddress}
 use Rattle.ip_wire.specs.declared.address.IpAddress.TheVariants as address
 use Rattle.ip_wire.specs.declared.endpoint.IpEndpoint.{IpEndpoint}
 use Rattle.ip_wire.specs.declared.endpoint.IpListenEndpoint.{IpListenEndpoint}
+use Rattle.control_wire.specs.Seq.{seq_add}
 use Rattle.control_wire.specs.declared.seq_number.TcpSeqNumber.{TcpSeqNumber}
 use Rattle.sock_core.specs.Facts.{Facts}
-use Rattle.sock_core.specs.Received.{room_of}
+use Rattle.sock_core.specs.Received.{Received, room_of}
 use Rattle.sock_tcp.specs.Content.{plain_segment}
 use Rattle.sock_tcp.specs.Opening.{Listens, after_connect, checked_local, checked_source, connected, endpoints, is_open, listened, no_address}
+use Rattle.sock_tcp.specs.Queue.{capacity}
 use Rattle.sock_tcp.specs.View.{View}
+use Rattle.sock_tcp.specs.Window.{next_ack}
 use Rattle.sock_tcp.specs.declared.error.ConnectError.{ConnectError}
 use Rattle.sock_tcp.specs.declared.error.ConnectError.TheVariants as connect_error
 use Rattle.sock_tcp.specs.declared.state.State.TheVariants as state
@@ -21,21 +24,23 @@ use Rattle.sock_tcp.specs.declared.tuple.Tuple.{Tuple}
 use Rattle.tcp_laws.specs.Polling.{IsReached}
 use Rattle.tcp_laws.specs.SocketRun.{Connect, IsNumbered, Listen, opens_listener, starting_if}
 use Rattle.tcp_laws.proofs.SocketSteps.{holds_after}
-use Rattle.progress_laws.specs.FromOpening.{AreOpened, HandshakeBringsInStep}
+use Rattle.progress_laws.specs.FromOpening.{AreOpened, HandshakeBringsInStep, StandNew}
 use Rattle.progress_laws.specs.InStep.{told}
-use Rattle.progress_laws.specs.Opening.{CanMeet, Completes, Establishes, HandshakeCompletes, ListenerAnswersSyn}
+use Rattle.progress_laws.specs.Opening.{Acknowledges, CanMeet, Completes, Establishes, HandshakeCompletes, ListenerAnswersSyn}
 use Rattle.progress_laws.proofs.Begins.{dispatch_reached, segment_reached, step_reached}
-use Rattle.progress_laws.proofs.Opening.{acknowledged, answered, answers_syn, back_out, begins, begins_now, comes, first, first_number, out, q, received, sent, stands, takes_syn}
-use Rattle.progress_laws.proofs.Repeats.{Repeats}
+use Rattle.progress_laws.proofs.Opening.{ack_here, acknowledged, ans, answered, answers_syn, back_out, begins, begins_now, comes, edge_here, established, first, first_number, may_answer, nxt_here, out, q, received, room_cleared, s, sent, stands, takes_syn, there_s}
+use Rattle.progress_laws.proofs.Repeats.{Repeats, SendsSyn}
+use Rattle.progress_laws.proofs.SynSteps.{HasTakenSyn}
 
 -- ---- the laws
 
 unfoldable pub establishes : (t : Tuple) (f : Facts) (now : Instant) (number word : ℕ) (a b : View) (e : IpListenEndpoint) → CanMeet t f number word a b → Establishes f now word (connected a t number) (listened b e)
 unfolding takes_syn
 establishes t f now number word a b e m =
-    let r = begins t f number word a b e m in
-    let z = q t f number word a b e m now (connected a t number) r in
-    record { syn = takes_syn t f number word a b e m now (connected a t number) r (begins_now t f number word a b e m now); answer = answers_syn t f number word a b e m now (connected a t number) r now (received t f number word a b e m now (connected a t number) r) z.repeats (z.due now) }
+    let x = connected a t number in
+    let r = begins t f number word a b m in
+    let z = q t f number word a b m e now x r in
+    record { syn = takes_syn t f number word a b m e now x r (begins_now t f number word a b m now); answer = answers_syn t f number word a b m now x r (s t f number word a b m e now x r) (received t f number word a b m e now x r) (there_s t f number word a b m e now x r) z.taken now (received t f number word a b m e now x r) z.taken.repeats (z.due now) }
 
 pub listener_answers_syn : ListenerAnswersSyn
 listener_answers_syn = establishes
@@ -43,9 +48,10 @@ listener_answers_syn = establishes
 pub handshake_completes : HandshakeCompletes
 unfolding takes_syn answers_syn establishes
 handshake_completes t f now number word a b e m interval some narrow narrow_b =
-    let r = begins t f number word a b e m in
-    let z = (q t f number word a b e m now (connected a t number) r).repeats in
-    record { start = establishes t f now number word a b e m; ack = acknowledged t f number word a b e m now (connected a t number) r now (received t f number word a b e m now (connected a t number) r) z interval some narrow narrow_b }
+    let x = connected a t number in
+    let r = begins t f number word a b m in
+    let z = q t f number word a b m e now x r in
+    record { start = establishes t f now number word a b e m; ack = acknowledged t f number word a b m now x r (s t f number word a b m e now x r) (received t f number word a b m e now x r) (there_s t f number word a b m e now x r) z.taken now (received t f number word a b m e now x r) z.taken.repeats interval some narrow narrow_b }
 
 -- ---- in step from the start
 
@@ -108,26 +114,87 @@ module _ (t : Tuple) (f g : Facts) (number word : ℕ) (a b : View) (remote : Ip
   meets = record { versions = same_versions t a g remote own o.ends; here = o.has_local; there = o.has_remote; number_small = o.number_small; word_small = o.word_small; no_timeout_a = o.here.no_timeout; no_timeout_b = o.across.no_timeout; not_paused_a = o.here.not_paused; not_paused_b = o.across.not_paused }
 
 -- the listener, once it took the SYN
-module _ (t : Tuple) (f : Facts) (number word : ℕ) (a b : View) (e : IpListenEndpoint) (m : CanMeet t f number word a b) (now : Instant) (v : View) (r : Repeats (connected a t number) v) where
-  pub reached_received : IsReached (listened b e) → IsReached (received t f number word a b e m now v r)
+module _ (t : Tuple) (f : Facts) (number word : ℕ) (a b : View) (m : CanMeet t f number word a b) (e : IpListenEndpoint) (now : Instant) (v : View) (r : Repeats (connected a t number) v) where
+  pub reached_received : IsReached (listened b e) → IsReached (received t f number word a b m e now v r)
   unfolding plain_segment
-  reached_received l = segment_reached (listened b e) (received t f number word a b e m now v r) now word (out t f number word a b e m now v r).ip (first t f number word a b e m now v r) None l m.word_small numbered (omega arith) (λ l. refl) (comes t f number word a b e m now v r)
+  reached_received l = segment_reached (listened b e) (received t f number word a b m e now v r) now word (out t f number word a b m now v r).ip (first t f number word a b m now v r) None l m.word_small numbered (omega arith) (λ l. refl) (comes t f number word a b m e now v r)
     where
-      numbered : IsNumbered (first t f number word a b e m now v r)
-      numbered = record { seq_number = subst (λ (n : TcpSeqNumber). n.0 < 2 ^ 32) (sym (first_number t f number word a b e m now v r)) m.number_small; ack_number = λ k i. absurd (none-some k i) }
+      numbered : IsNumbered (first t f number word a b m now v r)
+      numbered = record { seq_number = subst (λ (n : TcpSeqNumber). n.0 < 2 ^ 32) (sym (first_number t f number word a b m now v r)) m.number_small; ack_number = λ k i. absurd (none-some k i) }
+
+-- ---- from the calls that open them
+
+module _ (t : Tuple) (f g : Facts) (now : Instant) (number word : ℕ) (a b : View) (remote : IpEndpoint) (own e : IpListenEndpoint) (o : AreOpened t f g number word a b remote own e) where
+  abbrev pub can_meet : CanMeet t f number word a b
+  can_meet = meets t f g number word a b remote own e o
+
+  abbrev pub caller : View
+  caller = connected a t number
+
+  abbrev pub new_caller : Repeats caller caller
+  new_caller = begins t f number word a b can_meet
+
+  abbrev pub peer : Tuple
+  peer = s t f number word a b can_meet e now caller new_caller
+
+  abbrev pub taker : View
+  taker = received t f number word a b can_meet e now caller new_caller
+
+  pub there : f.has_address peer.local.addr ≡ true
+  there = there_s t f number word a b can_meet e now caller new_caller
+
+  pub has_taken : HasTakenSyn b taker peer word (first t f number word a b can_meet now caller new_caller)
+  has_taken = (q t f number word a b can_meet e now caller new_caller).taken
+
+  abbrev pub waits : View
+  waits = answered t f number word a b can_meet now caller new_caller peer taker there has_taken now taker has_taken.repeats
+
+  pub fits_here : room_of a.rx_buffer ≤ 2 ^ 30
+  fits_here = narrow a o.here.reached
+
+  pub fits_across : room_of b.rx_buffer ≤ 2 ^ 30
+  fits_across = narrow b o.across.reached
+
+  abbrev pub done : Acknowledges f now (established t f number word a b can_meet now caller new_caller peer taker there has_taken now taker has_taken.repeats) waits
+  done = acknowledged t f number word a b can_meet now caller new_caller peer taker there has_taken now taker has_taken.repeats o.here.interval o.here.some fits_here fits_across
+
+  abbrev start : Establishes f now word caller (listened b e)
+  start = establishes t f now number word a b e can_meet
+
+  unfoldable pub handshake : Completes f now word caller (listened b e)
+  unfolding establishes takes_syn answers_syn there has_taken
+  handshake = record { start = start; ack = done }
+
+  reached_sent : IsReached (sent t f number word a b can_meet now caller new_caller)
+  unfolding establishes takes_syn
+  reached_sent = dispatch_reached (told f now) false caller (Some (out t f number word a b can_meet now caller new_caller)) (sent t f number word a b can_meet now caller new_caller) (reached_x t f g number word a b remote own e o) start.syn.sends_syn
+
+  pub reached_waits : IsReached waits
+  unfolding establishes takes_syn answers_syn there has_taken
+  reached_waits = dispatch_reached (told f now) false taker (Some (back_out t f number word a b can_meet now caller new_caller peer taker there has_taken now taker has_taken.repeats)) waits (reached_received t f number word a b can_meet e now caller new_caller (reached_l t f g number word a b remote own e o)) start.answer.sends_answer
+
+  pub new_pair : StandNew a.keep_alive b.keep_alive t f (capacity a.tx_buffer) (capacity b.tx_buffer) done.here done.across
+  new_pair = stands t f number word a b can_meet now caller new_caller peer taker there has_taken now taker has_taken.repeats o.here.interval o.here.some fits_here fits_across o.across.some reached_sent reached_waits
+
+  -- what is left to a SYN|ACK that goes out again
+  pub may : SendsSyn state.SynReceived peer f taker
+  may = may_answer t f number word a b can_meet now caller new_caller peer taker there has_taken
+
+  pub kept : Repeats taker waits
+  kept = ans t f number word a b can_meet now caller new_caller peer taker there has_taken now taker has_taken.repeats
+
+  pub edge : done.here.local_seq_no ≡ next_ack waits
+  edge = edge_here t f number word a b can_meet now caller new_caller peer taker there has_taken now taker has_taken.repeats o.here.interval o.here.some fits_here fits_across
+
+  pub nothing_sent : done.here.remote_last_seq ≡ done.here.local_seq_no
+  nothing_sent = nxt_here t f number word a b can_meet now caller new_caller peer taker there has_taken now taker has_taken.repeats o.here.interval o.here.some fits_here fits_across
+
+  pub next : next_ack done.here ≡ seq_add waits.local_seq_no 1
+  next = ack_here t f number word a b can_meet now caller new_caller peer taker there has_taken now taker has_taken.repeats o.here.interval o.here.some fits_here fits_across
+
+  pub room : length taker.rx_buffer.held ≤ 2 ^ 30
+  room = omega (arith, ap (λ (l : Received). length l.held) has_taken.rx, room_cleared b.rx_buffer, fits_across)
 
 pub handshake_brings_in_step : HandshakeBringsInStep
-unfolding handshake_completes
-handshake_brings_in_step t f g now number word a b remote own e o =
-    let m = meets t f g number word a b remote own e o in
-    let x = connected a t number in
-    let r = begins t f number word a b e m in
-    let z = q t f number word a b e m now x r in
-    let y = received t f number word a b e m now x r in
-    let fits_a = narrow a o.here.reached in
-    let fits_b = narrow b o.across.reached in
-    let h : Completes f now word x (listened b e) = handshake_completes t f now number word a b e m o.here.interval o.here.some fits_a fits_b in
-    let reached_s = dispatch_reached (told f now) false x (Some (out t f number word a b e m now x r)) (sent t f number word a b e m now x r) (reached_x t f g number word a b remote own e o) h.start.syn.sends_syn in
-    let reached_y = reached_received t f number word a b e m now x r (reached_l t f g number word a b remote own e o) in
-    let reached_z = dispatch_reached (told f now) false y (Some (back_out t f number word a b e m now x r now y z.repeats)) (answered t f number word a b e m now x r now y z.repeats) reached_y h.start.answer.sends_answer in
-    record { handshake = h; new = stands t f number word a b e m now x r now y z.repeats o.here.interval o.here.some fits_a fits_b o.across.some reached_s reached_z }
+unfolding handshake
+handshake_brings_in_step t f g now number word a b remote own e o = record { handshake = handshake t f g now number word a b remote own e o; new = new_pair t f g now number word a b remote own e o }

@@ -14,7 +14,6 @@ use Rattle.sock_core.specs.Received.{Received}
 use Rattle.sock_core.specs.Seq.{is_before}
 use Rattle.sock_tcp.specs.Acked.{acked_of}
 use Rattle.sock_tcp.specs.Content.{Sending, plain_segment}
-use Rattle.sock_tcp.specs.Opening.{connected, listened}
 use Rattle.sock_tcp.specs.Process.{ack_sent, challenged, close_restarted, outside, processed, stopped}
 use Rattle.sock_tcp.specs.Replies.{ack_kept, ack_segment, reply_ip}
 use Rattle.sock_tcp.specs.Steps.{scale_of}
@@ -27,14 +26,11 @@ use Rattle.sock_tcp.specs.declared.tuple.Tuple.{Tuple}
 use Rattle.tcp_laws.specs.Polling.{IsReached}
 use Rattle.tcp_laws.proofs.OrderedCalls.{reached_ordered}
 use Rattle.progress_laws.specs.FromOpening.{AnswersLate, LostAckComesAgain}
-use Rattle.progress_laws.specs.InStep.{told}
-use Rattle.progress_laws.specs.Opening.{Acknowledges, Completes}
 use Rattle.progress_laws.proofs.Edges.{is_not_before}
 use Rattle.progress_laws.proofs.FromOpening.{goes_out, losses_keep}
-use Rattle.progress_laws.proofs.Begins.{dispatch_reached}
-use Rattle.progress_laws.proofs.Handshakes.{establishes, meets, narrow, reached_l, reached_received, reached_x}
+use Rattle.progress_laws.proofs.Handshakes.{done, edge, establishes, handshake, kept, may, new_pair, next, nothing_sent, peer, reached_waits, room, taker, waits}
 use Rattle.progress_laws.proofs.Hears.{HeardAs, IsData, data_is_said, heard_as}
-use Rattle.progress_laws.proofs.Opening.{ack_here, acknowledged, ans, answered, answers_syn, back_out, begins, can_z, edge_here, established, nxt_here, out as out_first, q, received, room_cleared, s, sent as sent_first, stands, takes_syn}
+use Rattle.progress_laws.proofs.Opening.{answers_syn, takes_syn}
 use Rattle.progress_laws.proofs.Repeats.{IsSent, NotSent, Repeats, SendsSyn, SynGoesOut, SynWaits, begun_so, out_of, segment, sends, sent, sent_so, u as begun}
 use Rattle.progress_laws.proofs.Rounds.{later_moment}
 use Rattle.progress_laws.proofs.SynSteps.{ack_passes, opened}
@@ -164,30 +160,21 @@ module _ (s : Tuple) (f : Facts) (x : View) (c : SendsSyn state.SynReceived s f 
       answers_late last b.0 (grind (arith, ints, a.1, b.1)) (still_out z rz.waits a.0 b.0 b.1 a.2) (not_early v.challenge_ack_timer b.0 b.2)
 
 pub lost_ack_comes_again : LostAckComesAgain
-unfolding takes_syn answers_syn establishes
+unfolding takes_syn answers_syn establishes handshake
 lost_ack_comes_again t f g now number word a b remote own e o =
-    let m = meets t f g number word a b remote own e o in
-    let x = connected a t number in
-    let r = begins t f number word a b e m in
-    let q0 = q t f number word a b e m now x r in
-    let y = received t f number word a b e m now x r in
-    let fits_a = narrow a o.here.reached in
-    let fits_b = narrow b o.across.reached in
-    let z0 = answered t f number word a b e m now x r now y q0.repeats in
-    let k : Acknowledges f now (established t f number word a b e m now x r now y q0.repeats) z0 = acknowledged t f number word a b e m now x r now y q0.repeats o.here.interval o.here.some fits_a fits_b in
-    let h : Completes f now word x (listened b e) = record { start = establishes t f now number word a b e m; ack = k } in
-    let reached_s = dispatch_reached (told f now) false x (Some (out_first t f number word a b e m now x r)) (sent_first t f number word a b e m now x r) (reached_x t f g number word a b remote own e o) h.start.syn.sends_syn in
-    let reached_y = reached_received t f number word a b e m now x r (reached_l t f g number word a b remote own e o) in
-    let reached_z = dispatch_reached (told f now) false y (Some (back_out t f number word a b e m now x r now y q0.repeats)) z0 reached_y h.start.answer.sends_answer in
-    let n = stands t f number word a b e m now x r now y q0.repeats o.here.interval o.here.some fits_a fits_b o.across.some reached_s reached_z in
-    let y_room : length y.rx_buffer.held ≤ 2 ^ 30 = omega (arith, ap (λ (l : Received). length l.held) q0.rx, room_cleared b.rx_buffer, fits_b) in
+    let x = taker t f g now number word a b remote own e o in
+    let y = waits t f g now number word a b remote own e o in
+    let k = done t f g now number word a b remote own e o in
+    let n = (new_pair t f g now number word a b remote own e o).in_step.here in
+    let c = may t f g now number word a b remote own e o in
+    let ry = kept t f g now number word a b remote own e o in
     record {
-      handshake = h;
+      handshake = handshake t f g now number word a b remote own e o;
       answers = λ last z l.
-          let w = losses_keep state.SynReceived (s t f number word a b e m now x r) f y (can_z t f number word a b e m now x r) now last z0 z l (ans t f number word a b e m now x r now y q0.repeats) reached_z in
-          answers_any (s t f number word a b e m now x r) f y (can_z t f number word a b e m now x r) z0 z k.here (ans t f number word a b e m now x r now y q0.repeats) w.0 n.in_step.here.established n.in_step.here.sender.reached
-          (edge_here t f number word a b e m now x r now y q0.repeats o.here.interval o.here.some fits_a fits_b)
-          (nxt_here t f number word a b e m now x r now y q0.repeats o.here.interval o.here.some fits_a fits_b)
-          (ack_here t f number word a b e m now x r now y q0.repeats o.here.interval o.here.some fits_a fits_b)
-          y_room last;
+          let w = losses_keep state.SynReceived (peer t f g now number word a b remote own e o) f x c now last y z l ry (reached_waits t f g now number word a b remote own e o) in
+          answers_any (peer t f g now number word a b remote own e o) f x c y z k.here ry w.0 n.established n.sender.reached
+          (edge t f g now number word a b remote own e o)
+          (nothing_sent t f g now number word a b remote own e o)
+          (next t f g now number word a b remote own e o)
+          (room t f g now number word a b remote own e o) last;
     }

@@ -44,13 +44,13 @@ use Rattle.progress_laws.proofs.NewPair.{Agree, IsNew, new_in_step, none_back, n
 use Rattle.progress_laws.proofs.Owed.{Kept, acknowledges, after, field_is, kept_then, next_is, not_yet, out_of, tells}
 use Rattle.progress_laws.proofs.Receives.{Owes, Tells}
 use Rattle.progress_laws.proofs.Repeats.{NotSent, Repeats, SendsSyn, SynGoesOut, ack_then, begun_so, delay_then, opening_listens, out_of as syn_out, segment, sends, sent as syn_sent, sent_so, u as before_syn, waits_then, window_then}
-use Rattle.progress_laws.proofs.SynSteps.{HasTakenSyn, ack_passes, acked_data, answer_passes, header_dst, heard_delay, heard_idle, opened, received_so, syn_passes, taken_within}
+use Rattle.progress_laws.proofs.SynSteps.{HasTakenSyn, IsNewListener, ack_passes, acked_data, answer_passes, header_dst, heard_delay, heard_idle, opened, received_so, syn_passes, taken_within}
 
 pub room_cleared : (b : Received) → length (cleared b).held ≡ room_of b
 unfolding cleared
 room_cleared b = length-replicate (room_of b) None
 
-module _ (t : Tuple) (f : Facts) (number word : ℕ) (a b : View) (e : IpListenEndpoint) (m : CanMeet t f number word a b) where
+module _ (t : Tuple) (f : Facts) (number word : ℕ) (a b : View) (m : CanMeet t f number word a b) where
   abbrev pub x : View
   x = connected a t number
 
@@ -83,31 +83,6 @@ module _ (t : Tuple) (f : Facts) (number word : ℕ) (a b : View) (e : IpListenE
 
     pub ss : Repeats x sent
     ss = sent_so state.SynSent t f x can v r now None
-
-    abbrev pub s : Tuple
-    s = tuple_of out.ip first
-
-    pub there_s : f.has_address s.local.addr ≡ true
-    there_s = ap f.has_address (header_dst t.local.addr t.remote.addr _ _ _ m.versions) ∙ m.there
-
-    abbrev pub received : View
-    received = heard (syn_received (listened b e) now s word first) now nothing_acked first
-
-    listens : (listened b e).state ≡ state.Listen
-    unfolding listened renewed
-    listens = refl
-
-    pub comes : processed (listened b e) now word out.ip first ≡ stopped received
-    comes = syn_passes (listened b e) now word out.ip first listens refl refl
-
-    pub q : HasTakenSyn b received s word first
-    q = received_so b e now s word first refl
-
-    pub can_z : SendsSyn state.SynReceived s f received
-    can_z = record { opening = refl; state = q.state; peer = q.peer; address = there_s; no_timeout = q.timeout ∙ m.no_timeout_b; not_paused = q.not_paused ∙ m.not_paused_b; una_small = subst (λ (n : TcpSeqNumber). n.0 < 2 ^ 32) (sym q.una) m.word_small }
-
-    unfoldable pub takes_syn : SynGoesOut v r.waits now → TakesSyn f now word v (listened b e)
-    takes_syn d = record { syn = out; sent = sent; sends_syn = sends state.SynSent t f x can v r now d; received = received; syn_comes = comes }
 
     pub first_number : first.seq_number ≡ seq_of number
     unfolding connected
@@ -151,9 +126,15 @@ module _ (t : Tuple) (f : Facts) (number word : ℕ) (a b : View) (e : IpListenE
     s_waits : (at : Instant) × (sent.timer ≡ timer.Retransmit at) × (sent.remote_last_seq ≡ seq_add sent.local_seq_no 1)
     s_waits = waits_then state.SynSent t f x can v r now None
 
-    -- ---- z, which took it, after some dispatches, sends its SYN|ACK
+    -- ---- the other took it, and z, which it is after some dispatches, sends its SYN|ACK
 
-    module _ (then : Instant) (z : View) (rz : Repeats received z) where
+    pub may_answer : (s : Tuple) (received : View) → f.has_address s.local.addr ≡ true → HasTakenSyn b received s word first → SendsSyn state.SynReceived s f received
+    may_answer s received there q = record { opening = refl; state = q.state; peer = q.peer; address = there; no_timeout = q.timeout ∙ m.no_timeout_b; not_paused = q.not_paused ∙ m.not_paused_b; una_small = subst (λ (n : TcpSeqNumber). n.0 < 2 ^ 32) (sym q.una) m.word_small }
+
+    module _ (s : Tuple) (received : View) (there_s : f.has_address s.local.addr ≡ true) (q : HasTakenSyn b received s word first) (then : Instant) (z : View) (rz : Repeats received z) where
+      abbrev can_z : SendsSyn state.SynReceived s f received
+      can_z = may_answer s received there_s q
+
       abbrev pub back_out : Sending
       back_out = syn_out state.SynReceived s f received can_z z rz then None
 
@@ -497,3 +478,31 @@ module _ (t : Tuple) (f : Facts) (number word : ℕ) (a b : View) (e : IpListenE
             room_here = omega (arith, ap (λ (q : Queue). q.window) (kept.tx ∙ h.tx), none_acked, s_fits);
             room_across = omega (arith, ap (λ (q : Queue). q.window) o.tx, aa_none, ap (λ (q : Queue). q.window) ans.same.tx, q.fits);
           }
+
+-- ---- a listener takes the SYN
+
+module _ (t : Tuple) (f : Facts) (number word : ℕ) (a b : View) (m : CanMeet t f number word a b) (e : IpListenEndpoint) (now : Instant) (v : View) (r : Repeats (connected a t number) v) where
+  abbrev pub call : Sending
+  call = out t f number word a b m now v r
+
+  abbrev pub s : Tuple
+  s = tuple_of call.ip call.segment
+
+  pub there_s : f.has_address s.local.addr ≡ true
+  there_s = ap f.has_address (header_dst t.local.addr t.remote.addr _ _ _ m.versions) ∙ m.there
+
+  abbrev pub received : View
+  received = heard (syn_received (listened b e) now s word call.segment) now nothing_acked call.segment
+
+  listens : (listened b e).state ≡ state.Listen
+  unfolding listened renewed
+  listens = refl
+
+  pub comes : processed (listened b e) now word call.ip call.segment ≡ stopped received
+  comes = syn_passes (listened b e) now word call.ip call.segment listens refl refl
+
+  pub q : IsNewListener b received s word call.segment
+  q = received_so b e now s word call.segment refl
+
+  unfoldable pub takes_syn : SynGoesOut v r.waits now → TakesSyn f now word v (listened b e)
+  takes_syn d = record { syn = call; sent = sent t f number word a b m now v r; sends_syn = sends state.SynSent t f (connected a t number) (can t f number word a b m) v r now d; received = received; syn_comes = comes }

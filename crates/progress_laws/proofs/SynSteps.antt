@@ -1,5 +1,6 @@
 -- What a socket sends in SYN-SENT and SYN-RECEIVED, and what a SYN, a SYN|ACK and the ACK do where they come.
-use Rattle.std.proofs.Common.{◌≡◌, ℕ, zero, suc, ◌+◌, ◌-◌, ◌<◌, ◌≤◌, ◌^◌, Bool, true, false, refl, sym, ap, subst, ◌∙◌, [], length, Option, Some, None, arith, length-drop}
+use Rattle.std.proofs.Common.{◌≡◌, ℕ, zero, suc, ◌+◌, ◌-◌, ◌<◌, ◌≤◌, ◌^◌, Bool, true, false, refl, sym, ap, subst, if◌then◌else◌, ◌∙◌, [], length, Option, Some, None, arith, length-drop}
+use Rattle.std.specs.Prelude.{◌==◌}
 use Rattle.net_base.specs.declared.time.Instant.{Instant}
 use Rattle.ip_wire.specs.Address.{SameVersion}
 use Rattle.ip_wire.specs.IpHeader.{dst_addr_of, ip_header}
@@ -19,12 +20,12 @@ use Rattle.sock_core.proofs.Shifts.{is_shift_least}
 use Rattle.std.proofs.Math.Pow.{pow_mono}
 use Rattle.sock_tcp.proofs.Windows.{end_small, length-cut, start_small, window_width}
 use Rattle.sock_tcp.specs.Acked.{acked_at, acked_of, acked_places, nothing_acked, syn_place}
-use Rattle.sock_tcp.specs.Advance.{advanced, counted_control, moved_to, scale_taken, shift_taken, options_taken, syn_answered, syn_received}
-use Rattle.sock_tcp.specs.Opening.{listened, renewed}
-use Rattle.sock_tcp.specs.Queue.{capacity}
+use Rattle.sock_tcp.specs.Advance.{advanced, counted_control, moved_to, opened_state, scale_taken, shift_taken, options_taken, syn_answered, syn_received}
+use Rattle.sock_tcp.specs.Opening.{connected, listened, renewed}
+use Rattle.sock_tcp.specs.Queue.{Queue, capacity}
 use Rattle.sock_tcp.specs.Process.{bytes_taken, processed, processed_inside, stopped, tuple_of}
-use Rattle.sock_tcp.specs.Steps.{ack_counted, ack_heard, acknowledged, duplicate_counted, heard, is_duplicate, is_window_changed, probe_set, released, timer_acked, timer_set, timestamp_taken, una_advanced, window_taken}
-use Rattle.sock_tcp.specs.Timers.{idle_from}
+use Rattle.sock_tcp.specs.Steps.{ack_counted, ack_heard, acknowledged, begins_probe, duplicate_counted, heard, is_duplicate, is_window_changed, probe_ended, probe_set, released, timer_acked, timer_set, timestamp_taken, una_advanced, window_taken}
+use Rattle.sock_tcp.specs.Timers.{idle_from, probe_from}
 use Rattle.sock_tcp.specs.declared.acked.Acked.{Acked}
 use Rattle.sock_tcp.specs.declared.window.Cut.{Cut}
 use Rattle.control_wire.specs.declared.tcp.TcpControl.{TcpControl}
@@ -35,9 +36,10 @@ use Rattle.sock_tcp.specs.declared.state.State.{State}
 use Rattle.sock_tcp.specs.declared.state.State.TheVariants as state
 use Rattle.sock_tcp.specs.declared.timer.Timer.TheVariants as timer
 use Rattle.sock_tcp.specs.declared.tuple.Tuple.{Tuple}
+use Rattle.progress_laws.proofs.Begins.{same_self}
 use Rattle.progress_laws.proofs.Edges.{empty_inside_so}
 use Rattle.progress_laws.proofs.Hears.{IsData, all_no_duplicate, idle_is, idle_moment, rests_empty}
-use Rattle.progress_laws.proofs.Repeats.{NotSent, Repeats, SynGoesOut}
+use Rattle.progress_laws.proofs.Repeats.{IsSent, NotSent, Repeats, SynGoesOut}
 
 -- ---- what comes
 
@@ -144,24 +146,16 @@ pub record HasTakenSyn (b x : View) (t : Tuple) (number : ℕ) (g : Segment) : T
   pub scale : x.remote_win_scale ≡ scale_taken g.window_scale
   pub shift : x.remote_win_shift ≡ shift_taken (window_shift (room_of (cleared b.rx_buffer))) g.window_scale
   pub repeats : Repeats x x
-  pub due : (now : Instant) → SynGoesOut x repeats.waits now
 
-pub received_so : (b : View) (e : IpListenEndpoint) (now : Instant) (t : Tuple) (word : ℕ) (g : Segment) → g.ack_number ≡ None → HasTakenSyn b (heard (syn_received (listened b e) now t word g) now nothing_acked g) t word g
+-- and its SYN|ACK is due
+pub record IsNewListener (b x : View) (t : Tuple) (number : ℕ) (g : Segment) : Type 0 where
+  pub taken : HasTakenSyn b x t number g
+  pub due : (now : Instant) → SynGoesOut x taken.repeats.waits now
+
+pub received_so : (b : View) (e : IpListenEndpoint) (now : Instant) (t : Tuple) (word : ℕ) (g : Segment) → g.ack_number ≡ None → IsNewListener b (heard (syn_received (listened b e) now t word g) now nothing_acked g) t word g
 unfolding heard acknowledged window_taken released timestamp_taken timer_set syn_received options_taken listened renewed fresh
-received_so b e now t word g bare = subst (λ o. HasTakenSyn b (timer_set (timestamp_taken (acknowledged x o now 0 (length g.payload) changed) g.timestamp) now nothing_acked) t word g) (sym bare) (record {
-  state = refl;
-  peer = refl;
-  timeout = refl;
-  keep_alive = refl;
-  not_paused = refl;
-  una = refl;
-  rcv = refl;
-  rx = refl;
-  no_bytes = refl;
-  fits = omega arith;
-  scale = refl;
-  shift = refl;
-  repeats = record { same = record { state = refl; peer = refl; timeout = refl; keep_alive = refl; una = refl; tx = refl; rx = refl; rcv = refl; window = refl; scale = refl; shift = refl; paused = refl }; marked = refl; waits = NotSent (idle_moment now b.keep_alive) waits refl };
+received_so b e now t word g bare = subst (λ o. IsNewListener b (timer_set (timestamp_taken (acknowledged x o now 0 (length g.payload) changed) g.timestamp) now nothing_acked) t word g) (sym bare) (record {
+  taken = record { state = refl; peer = refl; timeout = refl; keep_alive = refl; not_paused = refl; una = refl; rcv = refl; rx = refl; no_bytes = refl; fits = omega arith; scale = refl; shift = refl; repeats = record { same = same_self _; marked = refl; waits = NotSent (idle_moment now b.keep_alive) waits refl } };
   due = λ now. tt;
 })
   where
@@ -176,3 +170,49 @@ received_so b e now t word g bare = subst (λ o. HasTakenSyn b (timer_set (times
 
     waits : (timer_set y now nothing_acked).timer ≡ timer.Idle (idle_moment now b.keep_alive)
     waits = ap (λ tm. (timer_set (record y { timer = tm }) now nothing_acked).timer) (idle_is now b.keep_alive) ∙ rests_empty (record y { timer = timer.Idle (idle_moment now b.keep_alive) }) now nothing_acked (idle_moment now b.keep_alive) refl ∙ idle_is now b.keep_alive
+
+-- so does one that connects itself, while its own SYN waits for an answer
+pub crossing_passes : (x : View) (now : Instant) (word : ℕ) (ip : IpRepr) (g : Segment) → x.state ≡ state.SynSent → g.control ≡ control.Syn → g.ack_number ≡ None → processed x now word ip g ≡ stopped (heard (syn_answered x g) now nothing_acked g)
+unfolding processed processed_inside advanced verdict_at acked_at bytes_taken
+crossing_passes x now word ip g st bit number = rw (st, bit, number) refl
+
+module _ (b w : View) (t : Tuple) (word : ℕ) (now : Instant) (g : Segment) (bare : g.ack_number ≡ None) (r : Repeats (connected b t word) w) (at : Instant) (sent : w.timer ≡ timer.Retransmit at) where
+  abbrev crossed : View
+  crossed = heard (syn_answered w g) now nothing_acked g
+
+  pub crossed_so : HasTakenSyn b crossed t word g
+  unfolding heard acknowledged window_taken released timestamp_taken timer_set syn_answered options_taken connected renewed fresh
+  crossed_so = subst (λ o. HasTakenSyn b (timer_set (timestamp_taken (acknowledged x o now 0 (length g.payload) changed) g.timestamp) now nothing_acked) t word g) (sym bare) (record {
+    state = ap opened_state bare;
+    peer = r.same.peer;
+    timeout = r.same.timeout;
+    keep_alive = r.same.keep_alive;
+    not_paused = r.same.paused;
+    una = r.same.una;
+    rcv = refl;
+    rx = r.same.rx;
+    no_bytes = ap (λ (q : Queue). q.bytes) r.same.tx;
+    fits = omega (arith, ap (λ (q : Queue). q.window) r.same.tx);
+    scale = refl;
+    shift = ap (λ n. shift_taken n g.window_scale) r.same.shift;
+    repeats = record { same = same_self _; marked = r.marked; waits = IsSent at timed refl };
+  })
+    where
+      x : View
+      x = released (window_taken (syn_answered w g) now g.control g.window_len) 0
+
+      changed : Bool
+      changed = is_window_changed (syn_answered w g) g.control g.window_len
+
+      y : View
+      y = timestamp_taken x g.timestamp
+
+      empty : length y.tx_buffer.bytes ≡ 0
+      empty = ap (λ (q : Queue). length q.bytes) r.same.tx
+
+      kept : (b : Bool) → (if b then (if begins_probe (timer.Retransmit at) y nothing_acked then probe_from now y.rtte else timer.Retransmit at) else probe_ended (timer.Retransmit at) y now) ≡ timer.Retransmit at
+      kept true = rw empty refl
+      kept false = refl
+
+      timed : (timer_set y now nothing_acked).timer ≡ timer.Retransmit at
+      timed = ap (λ tm. probe_set (timer_acked tm y now nothing_acked) y now nothing_acked) sent ∙ kept (y.remote_win_len == 0)
