@@ -1,5 +1,5 @@
 -- From the calls that open two sockets to the end of both streams.
-use Rattle.std.proofs.Common.{◌≡◌, ℕ, ◌≤◌, sym, ap, subst, ◌∙◌, List, [], ◌++◌, length, take, drop, Option, Some, arith}
+use Rattle.std.proofs.Common.{◌≡◌, ℕ, ◌≤◌, sym, ap, subst, ◌∙◌, List, [], ◌++◌, length, take, drop, Option, Some, None, refl, arith}
 use Rattle.std.specs.Prelude.{if◌then◌else◌, ◌≤ℤ◌, true, false, Ok, Err}
 use Rattle.std.proofs.lemmas.Int.{ints}
 use Rattle.net_base.specs.declared.time.Duration.{Duration}
@@ -9,6 +9,7 @@ use Rattle.sock_core.specs.Facts.{Facts}
 use Rattle.sock_tcp.specs.Queue.{capacity}
 use Rattle.sock_tcp.specs.declared.state.State.{State}
 use Rattle.sock_tcp.specs.declared.state.State.TheVariants as state
+use Rattle.sock_tcp.specs.declared.timer.Timer.TheVariants as timer
 use Rattle.sock_tcp.specs.declared.tuple.Tuple.{Tuple}
 use Rattle.tcp_laws.specs.Polling.{IsReached}
 use Rattle.sock_tcp.specs.Opening.{connected, listened}
@@ -16,17 +17,17 @@ use Rattle.sock_tcp.specs.Queues.{Sends, fitting, may_send, queued, written}
 use Rattle.sock_tcp.specs.View.{View}
 use Rattle.sock_tcp.specs.declared.error.SendError.TheVariants as send_error
 use Rattle.progress_laws.specs.BothWays.{BothFinish, StaysInStep, Turns}
-use Rattle.progress_laws.specs.FromOpening.{AnswersAgain, BothEnd, IsUnopened, Losses, LostSynsComeAgain, NoLoss, OneLoss, OpenedPairCompletes, OpensInStep, StandNew}
+use Rattle.progress_laws.specs.FromOpening.{AnswersAgain, BothEnd, CrossedSynsComeAgain, IsUnopened, Losses, LostSynsComeAgain, NoLoss, OneLoss, OpenedPairCompletes, OpensAgain, OpensInStep, StandNew, mirrored}
 use Rattle.progress_laws.specs.InStep.{told}
 use Rattle.progress_laws.specs.Opening.{AnswersSyn, CanMeet, TakesSyn}
-use Rattle.progress_laws.proofs.Begins.{dispatch_reached}
+use Rattle.progress_laws.proofs.Begins.{dispatch_reached, segment_reached}
 use Rattle.progress_laws.proofs.Accepts.{sending_keeps_in_step}
 use Rattle.progress_laws.proofs.BothFinish.{both_ways_finish}
-use Rattle.progress_laws.proofs.Handshakes.{handshake_brings_in_step, meets, narrow, reached_l, reached_received, reached_x}
+use Rattle.progress_laws.proofs.Handshakes.{connected_reached, first_short, handshake_brings_in_step, meets, narrow, numbered_first, reached_l, reached_received, reached_x, same_versions}
 use Rattle.progress_laws.proofs.Opening.{acknowledged, answered, answers_syn, back_out, begins, can, first, may_answer, out, q, received, s, sent, stands, takes_syn, there_s}
-use Rattle.progress_laws.proofs.Repeats.{IsSent, NotSent, Repeats, SendsSyn, SynGoesOut, SynWaits, goes_so}
+use Rattle.progress_laws.proofs.Repeats.{IsSent, NotSent, Repeats, SendsSyn, SynGoesOut, SynWaits, goes_so, sends, sent_so, waits_then}
 use Rattle.progress_laws.proofs.Rounds.{later_moment}
-use Rattle.progress_laws.proofs.SynSteps.{HasTakenSyn}
+use Rattle.progress_laws.proofs.SynSteps.{HasTakenSyn, crossed, crossed_so, crossing_passes}
 use Rattle.progress_laws.proofs.Taking.{take_all}
 
 -- bytes that fit into an empty queue
@@ -121,4 +122,49 @@ lost_syns_come_again t f g at last number word a b v remote own e p mtu l =
       syn = y;
       answers = answers_losses t f number word a b m p.here p.across mtu o.0 v k.0 (dispatch_reached (told f o.0) false v (Some (out t f number word a b m o.0 v k.0)) (sent t f number word a b m o.0 v k.0) k.1 y.sends_syn)
           (s t f number word a b m e o.0 v k.0) (received t f number word a b m e o.0 v k.0) (there_s t f number word a b m e o.0 v k.0) (q t f number word a b m e o.0 v k.0).taken (reached_received t f number word a b m e o.0 v k.0 (reached_l t f g number word a b remote own e p));
+    }
+
+-- ---- both connect
+
+-- the other one sent its SYN, and takes the one that comes
+module _ (t : Tuple) (f : Facts) (number word : ℕ) (a b : View) (m : CanMeet t f number word a b) (ua : IsUnopened a) (ub : IsUnopened b) (mtu : IsMtu f.mtu) (v w : View) (rv : Repeats (connected a t number) v) (across : Repeats (connected b (mirrored t) word) w) (reached_v : IsReached v) (reached_w : IsReached w) (at : Instant) (waits : w.timer ≡ timer.Retransmit at) (first_at : Instant) where
+  opens_again : OpensAgain t f first_at word a b v w
+  unfolding connected
+  opens_again =
+      let o = goes_out v rv.waits first_at in
+      let g = first t f number word a b m o.0 v rv in
+      let q = crossed_so b w (mirrored t) word o.0 g refl across at waits in
+      let comes = crossing_passes w o.0 word (out t f number word a b m o.0 v rv).ip g (w_state across) refl refl in
+      let y : TakesSyn f o.0 word v w = record { syn = out t f number word a b m o.0 v rv; sent = sent t f number word a b m o.0 v rv; sends_syn = sends state.SynSent t f (connected a t number) (can t f number word a b m) v rv o.0 o.2; received = crossed b w (mirrored t) word o.0 g refl across at waits; syn_comes = comes } in
+      record {
+        now = o.0;
+        later = o.1;
+        syn = y;
+        answers = answers_losses t f number word a b m ua ub mtu o.0 v rv (dispatch_reached (told f o.0) false v (Some (out t f number word a b m o.0 v rv)) (sent t f number word a b m o.0 v rv) reached_v y.sends_syn)
+            (mirrored t) (crossed b w (mirrored t) word o.0 g refl across at waits) m.there q (segment_reached w (crossed b w (mirrored t) word o.0 g refl across at waits) o.0 word (out t f number word a b m o.0 v rv).ip g None reached_w m.word_small (numbered_first t f number word a b m o.0 v rv) (first_short t f number word a b m o.0 v rv) (λ l. refl) comes);
+      }
+    where
+      w_state : Repeats (connected b (mirrored t) word) w → w.state ≡ state.SynSent
+      w_state r = r.same.state
+
+pub crossed_syns_come_again : CrossedSynsComeAgain
+crossed_syns_come_again t f at last from since number word a b v w p c here there mtu l k =
+    let m : CanMeet t f number word a b = record { versions = same_versions t a p.context p.remote p.local p.ends; here = here; there = there; number_small = p.small; word_small = c.small; no_timeout_a = p.unopened.no_timeout; no_timeout_b = c.unopened.no_timeout; not_paused_a = p.unopened.not_paused; not_paused_b = c.unopened.not_paused } in
+    let back : CanMeet (mirrored t) f word number b a = record { versions = same_versions (mirrored t) b c.context c.remote c.local c.ends; here = there; there = here; number_small = c.small; word_small = p.small; no_timeout_a = c.unopened.no_timeout; no_timeout_b = p.unopened.no_timeout; not_paused_a = c.unopened.not_paused; not_paused_b = p.unopened.not_paused } in
+    let rv = losses_keep state.SynSent t f (connected a t number) (can t f number word a b m) at last (connected a t number) v l (begins t f number word a b m) (connected_reached t p.context number a p.remote p.local p.unopened.reached p.small p.ends) in
+    let rk = losses_keep state.SynSent (mirrored t) f (connected b (mirrored t) word) (can (mirrored t) f word number b a back) from since (connected b (mirrored t) word) w k (begins (mirrored t) f word number b a back) (connected_reached (mirrored t) c.context word b c.remote c.local c.unopened.reached c.small c.ends) in
+    let both = later_moment last since in
+    let o = goes_out w rk.0.waits both.0 in
+    let x = sent (mirrored t) f word number b a back o.0 w rk.0 in
+    let sends_x = sends state.SynSent (mirrored t) f (connected b (mirrored t) word) (can (mirrored t) f word number b a back) w rk.0 o.0 o.2 in
+    let waits = waits_then state.SynSent (mirrored t) f (connected b (mirrored t) word) (can (mirrored t) f word number b a back) w rk.0 o.0 None in
+    record {
+      first = o.0;
+      later = grind (arith, ints, both.1, o.1);
+      later_across = grind (arith, ints, both.2, o.1);
+      syn = out (mirrored t) f word number b a back o.0 w rk.0;
+      across = x;
+      sends_syn = sends_x;
+      opens = opens_again t f number word a b m p.unopened c.unopened mtu v x rv.0 (sent_so state.SynSent (mirrored t) f (connected b (mirrored t) word) (can (mirrored t) f word number b a back) w rk.0 o.0 None) rv.1
+          (dispatch_reached (told f o.0) false w (Some (out (mirrored t) f word number b a back o.0 w rk.0)) x rk.1 sends_x) waits.0 waits.1 o.0;
     }

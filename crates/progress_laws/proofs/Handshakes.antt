@@ -103,9 +103,12 @@ listens_so b e shut port = record {
     listening : b.state ≡ state.Listen → ⊥
     listening l = true≢false (sym (ap is_open l) ∙ shut)
 
+pub connected_reached : (t : Tuple) (g : Facts) (number : ℕ) (a : View) (remote : IpEndpoint) (own : IpListenEndpoint) → IsReached a → number < 2 ^ 32 → endpoints a g remote own ≡ Ok t → IsReached (connected a t number)
+connected_reached t g number a remote own r small ends = step_reached a (connected a t number) (starting_if (is_ok (endpoints a g remote own)) (connected a t number) r.counts) r (Connect g number remote own small (sym (ap (λ r. after_connect r a number) ends)) refl)
+
 module _ (t : Tuple) (f g : Facts) (number word : ℕ) (a b : View) (remote : IpEndpoint) (own e : IpListenEndpoint) (o : AreOpened t f g number word a b remote own e) where
   pub reached_x : IsReached (connected a t number)
-  reached_x = step_reached a (connected a t number) (starting_if (is_ok (endpoints a g remote own)) (connected a t number) o.here.reached.counts) o.here.reached (Connect g number remote own o.number_small (sym (ap (λ r. after_connect r a number) o.ends)) refl)
+  reached_x = connected_reached t g number a remote own o.here.reached o.number_small o.ends
 
   pub reached_l : IsReached (listened b e)
   reached_l = step_reached b (listened b e) (starting_if (opens_listener b e) (listened b e) o.across.reached.counts) o.across.reached (Listen e (Ok tt) (listens_so b e o.across.not_open o.port) refl)
@@ -113,14 +116,19 @@ module _ (t : Tuple) (f g : Facts) (number word : ℕ) (a b : View) (remote : Ip
   pub meets : CanMeet t f number word a b
   meets = record { versions = same_versions t a g remote own o.ends; here = o.has_local; there = o.has_remote; number_small = o.number_small; word_small = o.word_small; no_timeout_a = o.here.no_timeout; no_timeout_b = o.across.no_timeout; not_paused_a = o.here.not_paused; not_paused_b = o.across.not_paused }
 
+-- the SYN that comes has numbers
+pub numbered_first : (t : Tuple) (f : Facts) (number word : ℕ) (a b : View) (m : CanMeet t f number word a b) (now : Instant) (v : View) (r : Repeats (connected a t number) v) → IsNumbered (first t f number word a b m now v r)
+unfolding plain_segment
+numbered_first t f number word a b m now v r = record { seq_number = subst (λ (n : TcpSeqNumber). n.0 < 2 ^ 32) (sym (first_number t f number word a b m now v r)) m.number_small; ack_number = λ k i. absurd (none-some k i) }
+
+pub first_short : (t : Tuple) (f : Facts) (number word : ℕ) (a b : View) (m : CanMeet t f number word a b) (now : Instant) (v : View) (r : Repeats (connected a t number) v) → length (first t f number word a b m now v r).payload ≤ 65535
+unfolding plain_segment
+first_short t f number word a b m now v r = omega arith
+
 -- the listener, once it took the SYN
-module _ (t : Tuple) (f : Facts) (number word : ℕ) (a b : View) (m : CanMeet t f number word a b) (e : IpListenEndpoint) (now : Instant) (v : View) (r : Repeats (connected a t number) v) where
-  pub reached_received : IsReached (listened b e) → IsReached (received t f number word a b m e now v r)
-  unfolding plain_segment
-  reached_received l = segment_reached (listened b e) (received t f number word a b m e now v r) now word (out t f number word a b m now v r).ip (first t f number word a b m now v r) None l m.word_small numbered (omega arith) (λ l. refl) (comes t f number word a b m e now v r)
-    where
-      numbered : IsNumbered (first t f number word a b m now v r)
-      numbered = record { seq_number = subst (λ (n : TcpSeqNumber). n.0 < 2 ^ 32) (sym (first_number t f number word a b m now v r)) m.number_small; ack_number = λ k i. absurd (none-some k i) }
+pub reached_received : (t : Tuple) (f : Facts) (number word : ℕ) (a b : View) (m : CanMeet t f number word a b) (e : IpListenEndpoint) (now : Instant) (v : View) (r : Repeats (connected a t number) v) → IsReached (listened b e) → IsReached (received t f number word a b m e now v r)
+unfolding plain_segment
+reached_received t f number word a b m e now v r l = segment_reached (listened b e) (received t f number word a b m e now v r) now word (out t f number word a b m now v r).ip (first t f number word a b m now v r) None l m.word_small (numbered_first t f number word a b m now v r) (omega arith) (λ l. refl) (comes t f number word a b m e now v r)
 
 -- ---- from the calls that open them
 

@@ -177,7 +177,7 @@ unfolding processed processed_inside advanced verdict_at acked_at bytes_taken
 crossing_passes x now word ip g st bit number = rw (st, bit, number) refl
 
 module _ (b w : View) (t : Tuple) (word : ℕ) (now : Instant) (g : Segment) (bare : g.ack_number ≡ None) (r : Repeats (connected b t word) w) (at : Instant) (sent : w.timer ≡ timer.Retransmit at) where
-  abbrev crossed : View
+  abbrev pub crossed : View
   crossed = heard (syn_answered w g) now nothing_acked g
 
   pub crossed_so : HasTakenSyn b crossed t word g

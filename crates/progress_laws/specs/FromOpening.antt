@@ -153,6 +153,46 @@ LostSynsComeAgain = (t : Tuple) (f g : Facts) (at last : Instant) (number word :
     → Losses f at (connected a t number) last v
     → OpensAgain t f last word a b v (listened b e)
 
+-- ---- both connect
+
+-- the other way round
+abbrev pub mirrored : Tuple → Tuple
+mirrored t = record { local = t.remote; remote = t.local }
+
+-- the socket a is to be opened, and its call of `connect` finds the endpoints t, and draws this number
+pub record IsCaller (t : Tuple) (number : ℕ) (a : View) : Type 0 where
+  pub unopened : IsUnopened a
+  pub context : Facts
+  pub remote : IpEndpoint
+  pub local : IpListenEndpoint
+  pub ends : endpoints a context remote local ≡ Ok t
+  pub small : number < 2 ^ 32
+
+-- At some moment w sends its SYN again, and that is lost; and at some later moment a SYN of v reaches w, which answers
+-- it. It goes on so whatever SYN|ACKs of w are lost then
+pub record OpensCrossed (t : Tuple) (f : Facts) (last since : Instant) (word : ℕ) (a b v w : View) : Type 0 where
+  pub first : Instant
+  pub later : last.micros ≤ℤ first.micros
+  pub later_across : since.micros ≤ℤ first.micros
+  pub syn : Sending
+  pub across : View
+  pub sends_syn : DispatchesOk (told f first) false w (Some syn) across
+  pub opens : OpensAgain t f first word a b v across
+
+-- whatever SYNs of both were lost before
+abbrev pub CrossedSynsComeAgain : Type 0
+CrossedSynsComeAgain = (t : Tuple) (f : Facts) (at last from since : Instant) (number word : ℕ) (a b v w : View)
+    → IsCaller t number a
+    → IsCaller (mirrored t) word b
+    → f.has_address t.local.addr ≡ true
+    → f.has_address t.remote.addr ≡ true
+    → IsMtu f.mtu
+    → Losses f at (connected a t number) last v
+    → Losses f from (connected b (mirrored t) word) since w
+    → OpensCrossed t f last since word a b v w
+
+-- ---- the last ACK
+
 -- At some moment w sends its SYN|ACK again. It reaches v, which is in ESTABLISHED and answers it, and the answer
 -- reaches w. Then both are in ESTABLISHED, and agree on the numbers of both streams
 pub record AnswersLate (f : Facts) (last : Instant) (v w : View) : Type 0 where

@@ -16,7 +16,7 @@ ghost use Rattle.progress_laws.specs.Agreement.{AgreeingBytesArrive, AgreeingFin
 ghost use Rattle.progress_laws.specs.BothWays.{BothWaysComplete, BothWaysFinish, SendingKeepsInStep};
 ghost use Rattle.progress_laws.specs.Delivery.{CountedFinIsHeard, DeliveryMoves};
 ghost use Rattle.progress_laws.specs.FromOpening.{HandshakeBringsInStep, OpenedPairCompletes};
-ghost use Rattle.progress_laws.specs.FromOpening.{LostAckComesAgain, LostSynsComeAgain};
+ghost use Rattle.progress_laws.specs.FromOpening.{CrossedSynsComeAgain, LostAckComesAgain, LostSynsComeAgain};
 ghost use Rattle.progress_laws.specs.InStep.{OneWayCompletes, OneWayFinishes};
 ghost use Rattle.progress_laws.specs.Opening.{HandshakeCompletes, ListenerAnswersSyn};
 ghost use Rattle.progress_laws.specs.Pairs.{CanAlways};
@@ -139,6 +139,13 @@ pub fn opened_pair_completes()
 /// and then they stand in step, and both streams can end.
 pub fn lost_syns_come_again()
     ensures { LostSynsComeAgain }
+{}
+
+/// The same where both connect, each with its own number, whatever SYNs of both were lost: at some moment a SYN of the
+/// one goes out again, and is lost; then a SYN of the other reaches it, and it answers in SYN-RECEIVED (RFC 9293, figure
+/// 7, where one of the two SYNs is lost).
+pub fn crossed_syns_come_again()
+    ensures { CrossedSynsComeAgain }
 {}
 
 /// And where the ACK is lost: after any list of dispatches of the other, each of whose SYN|ACKs is lost, too, at some
