@@ -1,6 +1,7 @@
 -- How a dispatch begins once the timer is over, and what comes out of it.
 use Rattle.std.proofs.Common.{◌≡◌, ℕ, zero, suc, ◌+◌, ◌<◌, ◌≤◌, ◌^◌, ◌⊎◌, inl, inr, Bool, true, false, true≢false, ◌&&◌, refl, sym, ap, subst, ◌∙◌, List, length, take, drop, min, Option, Some, None, arith}
-use Rattle.std.specs.Prelude.{if◌then◌else◌, ◌==◌, option_map}
+use Rattle.std.specs.Prelude.{if◌then◌else◌, ◌==◌, option_map, ◌≤ℤ◌, int_le}
+use Rattle.std.proofs.lemmas.Int.{ints}
 use Rattle.std.proofs.lemmas.Bool.{eq-eqb, eqb-true}
 use Rattle.std.proofs.lemmas.Option.{none-some, same_Some}
 use Rattle.net_base.specs.Ring.{in_one_piece}
@@ -44,6 +45,14 @@ not_zero n h = go (n == 0) refl
 pub some_or_none : (n : ℕ) → (n ≡ 0) ⊎ (0 < n)
 some_or_none zero = inl refl
 some_or_none (suc n) = inr (omega arith)
+
+-- the later of two moments
+pub later_moment : (a b : Instant) → (z : Instant) × (a.micros ≤ℤ z.micros) × (is_over b z ≡ true)
+later_moment a b = go (int_le b.micros a.micros) refl
+  where
+    go : (c : Bool) → int_le b.micros a.micros ≡ c → (z : Instant) × (a.micros ≤ℤ z.micros) × (is_over b z ≡ true)
+    go true e = (a, grind (arith, ints), e)
+    go false e = (b, grind (arith, ints, e), grind (arith, ints))
 
 -- ---- a further call
 
@@ -161,7 +170,7 @@ module _ (v : View) (t : Tuple) (f : Facts) (stamps : Bool) (h : GoesOn v t f) (
   still : Alike v x
   still = readied_alike v now
 
-  timers_are : after_timers x now ≡ beginning
+  pub timers_are : after_timers x now ≡ beginning
   unfolding after_timers
   timers_are = rw (alive, still.timer) refl
     where

@@ -32,8 +32,8 @@ use Rattle.tcp_laws.proofs.OrderedCalls.{reached_ordered}
 use Rattle.progress_laws.specs.AfterClose.{IsCloser}
 use Rattle.progress_laws.specs.InStep.{Completes, Finishes, ForAnswer, ForKeepAlive, ForNothing, ForProbe, IsReceiver, IsSender, OneWayFinishes, Rests, told}
 use Rattle.progress_laws.specs.Speech.{DispatchesOk, GoesOn, SendsOk}
-use Rattle.progress_laws.proofs.Begins.{carries_runs, content_is, lent_for, segment_for, sends_so, step_reached}
-use Rattle.progress_laws.proofs.Rounds.{later_moment, one_way_completes}
+use Rattle.progress_laws.proofs.Begins.{carries_runs, content_is, later_moment, lent_for, segment_for, sends_so, step_reached}
+use Rattle.progress_laws.proofs.Rounds.{one_way_completes}
 use Rattle.progress_laws.proofs.Says.{no_probe}
 use Rattle.progress_laws.proofs.Arrives.{CountsIt, Faces, fin_counts, receives_so}
 use Rattle.progress_laws.proofs.Spoken.{IsSaid, Still, sent_still, then_still}

@@ -27,8 +27,8 @@ use Rattle.progress_laws.specs.Speech.{DispatchesOk, GoesOn, SendsOk}
 use Rattle.progress_laws.proofs.Begins.{and_no, carries_runs, content_is, dispatch_reached, lent_for, not_zero, segment_for, sends_so}
 use Rattle.progress_laws.proofs.Hears.{IsData}
 use Rattle.progress_laws.proofs.Lends.{lent_some, mss_some}
-use Rattle.progress_laws.proofs.Sends.{left, plain_sent, plain_timer, plain_told}
-use Rattle.progress_laws.proofs.Speaks.{Begins, FromFront, Front, IsNoProbe, asked_so, begins, from_front, open_window, wakes}
+use Rattle.progress_laws.proofs.Sends.{left, open_window, plain_sent, plain_timer, plain_told}
+use Rattle.progress_laws.proofs.Speaks.{Begins, FromFront, Front, IsNoProbe, asked_so, begins, from_front, wakes}
 use Rattle.progress_laws.proofs.Spoken.{IsSaid, data_said}
 use Rattle.progress_laws.proofs.States.{closing_carries, closing_open}
 

@@ -20,13 +20,12 @@ use Rattle.progress_laws.specs.BothWays.{BothFinish, StaysInStep, Turns}
 use Rattle.progress_laws.specs.FromOpening.{AnswersAgain, BothEnd, IsUnopened, Losses, LostSynsComeAgain, NoLoss, OneLoss, OpenedPairCompletes, OpensInStep, StandNew}
 use Rattle.progress_laws.specs.InStep.{told}
 use Rattle.progress_laws.specs.Opening.{AnswersSyn, CanMeet, TakesSyn}
-use Rattle.progress_laws.proofs.Begins.{dispatch_reached}
+use Rattle.progress_laws.proofs.Begins.{dispatch_reached, later_moment}
 use Rattle.progress_laws.proofs.Accepts.{sending_keeps_in_step}
 use Rattle.progress_laws.proofs.BothFinish.{both_ways_finish}
 use Rattle.progress_laws.proofs.Handshakes.{handshake_brings_in_step, meets, narrow, reached_l, reached_received, reached_x}
 use Rattle.progress_laws.proofs.Opening.{acknowledged, answered, answers_syn, back_out, begins, can, can_z, out, q, received, s, sent, stands, takes_syn}
 use Rattle.progress_laws.proofs.Repeats.{IsSent, NotSent, Repeats, SendsSyn, SynGoesOut, SynWaits, goes_so}
-use Rattle.progress_laws.proofs.Rounds.{later_moment}
 use Rattle.progress_laws.proofs.Taking.{take_all}
 
 -- bytes that fit into an empty queue

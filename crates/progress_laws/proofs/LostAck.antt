@@ -31,12 +31,11 @@ use Rattle.progress_laws.specs.InStep.{told}
 use Rattle.progress_laws.specs.Opening.{Acknowledges, Completes}
 use Rattle.progress_laws.proofs.Edges.{is_not_before}
 use Rattle.progress_laws.proofs.FromOpening.{goes_out, losses_keep}
-use Rattle.progress_laws.proofs.Begins.{dispatch_reached}
+use Rattle.progress_laws.proofs.Begins.{dispatch_reached, later_moment}
 use Rattle.progress_laws.proofs.Handshakes.{establishes, meets, narrow, reached_l, reached_received, reached_x}
 use Rattle.progress_laws.proofs.Hears.{HeardAs, IsData, data_is_said, heard_as}
 use Rattle.progress_laws.proofs.Opening.{ack_here, acknowledged, ans, answered, answers_syn, back_out, begins, can_z, edge_here, established, nxt_here, out as out_first, q, received, room_cleared, s, sent as sent_first, stands, takes_syn}
 use Rattle.progress_laws.proofs.Repeats.{IsSent, NotSent, Repeats, SendsSyn, SynGoesOut, SynWaits, begun_so, out_of, segment, sends, sent, sent_so, u as begun}
-use Rattle.progress_laws.proofs.Rounds.{later_moment}
 use Rattle.progress_laws.proofs.SynSteps.{ack_passes, opened}
 
 -- ---- a SYN|ACK that comes again is challenged

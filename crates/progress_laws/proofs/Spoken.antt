@@ -1,5 +1,5 @@
 -- What a socket says, number by number, and what stays of it.
-use Rattle.std.proofs.Common.{◌≡◌, ℕ, zero, suc, ◌+◌, ◌<◌, ◌≤◌, ◌^◌, Bool, true, false, refl, sym, ap, subst, ◌∙◌, List, length, Some, is_some, arith}
+use Rattle.std.proofs.Common.{◌≡◌, ℕ, zero, suc, ◌+◌, ◌<◌, ◌≤◌, ◌^◌, Bool, true, false, refl, sym, ap, subst, ◌∙◌, List, length, take, drop, Some, is_some, arith}
 use Rattle.std.specs.Prelude.{if◌then◌else◌, ◌==◌}
 use Rattle.std.proofs.lemmas.Bool.{eqb-true}
 use Rattle.std.proofs.lemmas.Option.{same_Some}
@@ -12,7 +12,7 @@ use Rattle.control_wire.specs.declared.tcp.TcpControl.TheVariants as control
 use Rattle.sock_core.specs.Congestion.{post_transmitted}
 use Rattle.sock_core.specs.Estimator.{sent}
 use Rattle.sock_core.specs.Facts.{Facts}
-use Rattle.sock_tcp.proofs.Lending.{lent_at_most}
+use Rattle.sock_tcp.proofs.Lending.{lent_at_most, lent_beginning}
 use Rattle.sock_tcp.specs.Begin.{after_timer, fast_retransmission_marked, readied, retransmission_begun}
 use Rattle.sock_tcp.specs.Content.{Sending, asked, carries_data, data_control, emission_kind, offset_of, plain_segment, sent_as}
 use Rattle.sock_tcp.specs.Due.{flight, is_closing}
@@ -97,6 +97,15 @@ fin_at_end u n = go (offset_of u + n == length u.tx_buffer.bytes) refl (is_closi
     go : (a : Bool) → (offset_of u + n == length u.tx_buffer.bytes) ≡ a → (b d : Bool) → (if a then (if b then control.Fin else (if d then control.None else control.Psh)) else control.None) ≡ control.Fin → offset_of u + n ≡ length u.tx_buffer.bytes
     go true e b d f = eqb-true (offset_of u + n) (length u.tx_buffer.bytes) e
     go false e b d f = absurd cc
+
+fin_closing : (u : View) (n : ℕ) → data_control u n ≡ control.Fin → is_closing u.state ≡ true
+fin_closing u n = go (offset_of u + n == length u.tx_buffer.bytes) (is_closing u.state) (n == 0)
+  where
+    go : (a b d : Bool) → (if a then (if b then control.Fin else (if d then control.None else control.Psh)) else control.None) ≡ control.Fin → b ≡ true
+    go true true d f = refl
+    go true false true f = absurd cc
+    go true false false f = absurd cc
+    go false b d f = absurd cc
 
 pub is_fin : (c : TcpControl) → IsSaid c → 0 < control_len c → c ≡ control.Fin
 is_fin control.Fin d some = refl
@@ -193,24 +202,41 @@ module _ (t : Tuple) (f : Facts) (stamps : Bool) (v : View) (out : Sending) (u :
   una_small : v.local_seq_no.0 < 2 ^ 32
   una_small = (reached_ordered v h.reached).una_small
 
+  -- ---- from SND.UNA on
+
+  module _ (nk : out.kind ≡ kind.KeepAlive → ⊥) (number : out.segment.seq_number ≡ v.local_seq_no) where
+    is : out.segment ≡ g
+    is = segment_is nk
+
+    at_front : offset_of b ≡ 0
+    at_front = by b.pending_fast_retransmit refl
+      where
+        here : g.seq_number ≡ v.local_seq_no
+        here = sym (ap (λ (s : Segment). s.seq_number) is) ∙ number
+
+        by : (m : Bool) → b.pending_fast_retransmit ≡ m → offset_of b ≡ 0
+        by true e = rw e refl
+        by false e =
+            let nxt : b.remote_last_seq ≡ v.local_seq_no = ap (λ m. if m then b.local_seq_no else b.remote_last_seq) (sym e) ∙ here in
+            ap (λ m. if m then 0 else flight b) e ∙ (λ i. seq_sub (nxt i) (begun_still.una i)) ∙ no_distance v.local_seq_no una_small
+
+    same_bytes : out.segment.payload ≡ o.bytes
+    same_bytes = ap (λ (s : Segment). s.payload) is
+
+    -- its payload is a beginning of the transmit queue
+    pub first_bytes : out.segment.payload ≡ take (length out.segment.payload) v.tx_buffer.bytes
+    first_bytes = same_bytes ∙ lent_beginning b.tx_buffer (offset_of b) (asked b t f (is_some o.stamp)) o.bytes o.lent ∙ (λ i. take (length (sym same_bytes i)) (drop (at_front i) ((begun_still.tx i).bytes)))
+
+    -- with the FIN all of it
+    pub fin_ends : out.segment.control ≡ control.Fin → length out.segment.payload ≡ length v.tx_buffer.bytes
+    fin_ends fin = omega (arith, ap (λ (l : List ℕ). length l) same_bytes, fin_at_end b (length o.bytes) (sym (ap (λ (s : Segment). s.control) is) ∙ fin), at_front, ap (λ (q : Queue). length q.bytes) begun_still.tx)
+
+    pub fin_of_closing : out.segment.control ≡ control.Fin → is_closing v.state ≡ true
+    fin_of_closing fin = ap is_closing (sym begun_still.state) ∙ fin_closing b (length o.bytes) (sym (ap (λ (s : Segment). s.control) is) ∙ fin)
+
   -- a FIN alone at SND.UNA has no byte before it
   pub fin_alone : (out.kind ≡ kind.KeepAlive → ⊥) → out.segment.seq_number ≡ v.local_seq_no → length out.segment.payload ≡ 0 → out.segment.control ≡ control.Fin → length v.tx_buffer.bytes ≡ 0
-  fin_alone nk number none fin = omega (arith, fin_at_end b (length o.bytes) (sym (ap (λ (s : Segment). s.control) is) ∙ fin), at_front b.pending_fast_retransmit refl, none_left, ap (λ (q : Queue). length q.bytes) begun_still.tx)
-    where
-      is : out.segment ≡ g
-      is = segment_is nk
-
-      none_left : length o.bytes ≡ 0
-      none_left = sym (ap (λ (s : Segment). length s.payload) is) ∙ none
-
-      here : g.seq_number ≡ v.local_seq_no
-      here = sym (ap (λ (s : Segment). s.seq_number) is) ∙ number
-
-      at_front : (m : Bool) → b.pending_fast_retransmit ≡ m → offset_of b ≡ 0
-      at_front true e = rw e refl
-      at_front false e =
-          let nxt : b.remote_last_seq ≡ v.local_seq_no = ap (λ m. if m then b.local_seq_no else b.remote_last_seq) (sym e) ∙ here in
-          ap (λ m. if m then 0 else flight b) e ∙ (λ i. seq_sub (nxt i) (begun_still.una i)) ∙ no_distance v.local_seq_no una_small
+  fin_alone nk number none fin = omega (arith, fin_ends nk number fin, none)
 
   module _ (w : View) (n : ℕ) (r : HearsOf v w n) (probe : out.kind ≡ kind.Probe → ProbesNext v n) where
     start : (next_ack w).0 ≡ (seq_add v.local_seq_no n).0

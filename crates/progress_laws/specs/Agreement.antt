@@ -1,6 +1,6 @@
 -- Two sockets of one connection that agree on their numbers, whatever waits in their queues, is held out of order, is in
 -- flight or was lost; and how the bytes and the FIN of the one come over.
-use Rattle.std.specs.Prelude.{ℕ, ◌≡◌, ◌⊎◌, ◌+◌, ◌^◌, ◌<◌, ◌≤◌, ◌≤ℤ◌, List, ◌++◌, length, drop, slice_get, Option, Some, None, Err, true, false}
+use Rattle.std.specs.Prelude.{ℕ, ◌≡◌, ◌⊎◌, ◌+◌, ◌<◌, ◌≤◌, ◌≤ℤ◌, List, ◌++◌, length, drop, slice_get, Option, Some, None, Err, true, false}
 use Rattle.net_base.specs.declared.time.Duration.{Duration}
 use Rattle.net_base.specs.declared.time.Instant.{Instant}
 use Rattle.control_wire.specs.Segment.{Segment}
@@ -54,11 +54,11 @@ pub record IsSpeaker (d : Duration) (t : Tuple) (v : View) : Type 0 where
 -- ---- the one that takes
 
 -- The taker w is what some list of calls makes of a new socket, in ESTABLISHED, FIN-WAIT-1 or FIN-WAIT-2, whatever it
--- has to send and however it waits. Its receive buffer has room for one unit of its window field
+-- has to send and however it waits. Its receive buffer has a place
 pub record IsTaking (w : View) : Type 0 where
   pub reached : IsReached w
   pub state : receives w.state ≡ true
-  pub room : 2 ^ w.remote_win_shift ≤ room_of w.rx_buffer
+  pub room : 0 < room_of w.rx_buffer
 
 -- ---- they agree
 

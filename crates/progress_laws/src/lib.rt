@@ -3,12 +3,13 @@
 //! What to read first, in `specs`: `Wakes.antt`, when a socket is to be called again; `Speech.antt`, what it says once
 //! its timer is over; `Delivery.antt`, what such a segment moves once it is delivered; `InStep.antt`, two sockets of
 //! which one sends to the other, and what they can do in turn; `BothWays.antt`, two that both have bytes to send, and
-//! `ShutWindows.antt`, the same where a window of 0 is known;
-//! `AfterClose.antt`, a sender that was closed; `Opening.antt`, two sockets that were opened toward each other, and
-//! `FromOpening.antt`, these to the end of both streams, whatever SYNs were lost.
+//! `ShutWindows.antt`, the same where a window of 0 is known; `AfterClose.antt`, a sender that was closed;
+//! `Agreement.antt`, any two that agree on their numbers, whatever waits; `Opening.antt`, two sockets that were opened
+//! toward each other, and `FromOpening.antt`, these to the end of both streams, whatever SYNs were lost.
 #![tactic(auto)]
 
 ghost use Rattle.progress_laws.specs.AfterClose.{ClosedSenderFinishes};
+ghost use Rattle.progress_laws.specs.Agreement.{AgreeingBytesArrive, AgreeingFinArrives};
 ghost use Rattle.progress_laws.specs.BothWays.{BothWaysComplete, BothWaysFinish, SendingKeepsInStep};
 ghost use Rattle.progress_laws.specs.Delivery.{CountedFinIsHeard, DeliveryMoves};
 ghost use Rattle.progress_laws.specs.FromOpening.{HandshakeBringsInStep, OpenedPairCompletes};
@@ -98,6 +99,22 @@ pub fn sending_keeps_in_step()
 /// reads brings over all bytes, in order, and then reads answer `Finished`.
 pub fn closed_sender_finishes()
     ensures { ClosedSenderFinishes }
+{}
+
+/// From any two sockets of one connection that agree on their numbers (`Agreement`), whatever waits in their queues, is
+/// held out of order, is in flight or was lost, whatever windows and scales they know, and whatever congestion control
+/// they have: all bytes of the one that speaks come to the other, in order. The speaker is in ESTABLISHED or CLOSE-WAIT,
+/// without a user timeout and with a keep-alive interval; the taker is in ESTABLISHED, FIN-WAIT-1 or FIN-WAIT-2, with a
+/// place in its receive buffer, and dispatches nothing. Some list of dispatches, deliveries and reads does it, in which
+/// an answer may be lost. They agree again then, and what the speaker has not heard of the taker's stream is what it was.
+pub fn agreeing_bytes_arrive()
+    ensures { AgreeingBytesArrive }
+{}
+
+/// And where the speaker was closed, in FIN-WAIT-1, CLOSING or LAST-ACK, its FIN comes with them: reads of the taker
+/// answer `Finished`.
+pub fn agreeing_fin_arrives()
+    ensures { AgreeingFinArrives }
 {}
 
 /// A socket as `connect` leaves it sends its SYN; one as `listen` leaves it takes it, with the number that it draws,
