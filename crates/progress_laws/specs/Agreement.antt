@@ -1,5 +1,5 @@
--- Two sockets of one connection that agree on their numbers, whatever waits in their queues, is held out of order, is in
--- flight or was lost; and how the bytes and the FIN of the one come over.
+-- Two sockets of one connection that agree on their numbers, whatever waits in their queues, is held out of order, is
+-- in flight or was lost; and how the bytes and the FIN of the one come over.
 use Rattle.std.specs.Prelude.{ℕ, ◌≡◌, ◌⊎◌, ◌+◌, ◌<◌, ◌≤◌, ◌≤ℤ◌, List, ◌++◌, length, drop, slice_get, Option, Some, None, Err, true, false}
 use Rattle.net_base.specs.declared.time.Duration.{Duration}
 use Rattle.net_base.specs.declared.time.Instant.{Instant}
@@ -62,8 +62,8 @@ pub record IsTaking (w : View) : Type 0 where
 
 -- ---- they agree
 
--- SND.NXT of w is RCV.NXT of v, or lies in the receive window of v and in the one that v tells now: else v hears nothing
--- of w (`stall_both_again` in docs/STALLS.md)
+-- SND.NXT of w is RCV.NXT of v, or lies in the receive window of v and in the one that v tells now: else v hears
+-- nothing of w (`stall_both_again` in docs/STALLS.md)
 abbrev pub InReach : View → View → Type 0
 InReach v w =
     (w.remote_last_seq ≡ next_ack v)

@@ -103,10 +103,11 @@ pub fn closed_sender_finishes()
 
 /// From any two sockets of one connection that agree on their numbers (`Agreement`), whatever waits in their queues, is
 /// held out of order, is in flight or was lost, whatever windows and scales they know, and whatever congestion control
-/// they have: all bytes of the one that speaks come to the other, in order. The speaker is in ESTABLISHED or CLOSE-WAIT,
-/// without a user timeout and with a keep-alive interval; the taker is in ESTABLISHED, FIN-WAIT-1 or FIN-WAIT-2, with a
-/// place in its receive buffer, and dispatches nothing. Some list of dispatches, deliveries and reads does it, in which
-/// an answer may be lost. They agree again then, and what the speaker has not heard of the taker's stream is what it was.
+/// they have: all bytes of the one that speaks come to the other, in order. The speaker is in ESTABLISHED or
+/// CLOSE-WAIT, without a user timeout and with a keep-alive interval; the taker is in ESTABLISHED, FIN-WAIT-1 or
+/// FIN-WAIT-2, with a place in its receive buffer, and dispatches nothing. Some list of dispatches, deliveries and reads
+/// does it, in which an answer may be lost. They agree again then, and what the speaker has not heard of the taker's
+/// stream is what it was.
 pub fn agreeing_bytes_arrive()
     ensures { AgreeingBytesArrive }
 {}
