@@ -198,6 +198,9 @@ module _ (d : Duration) (t : Tuple) (v w : View) (n h : ℕ) (i : Agreement d t 
     pub same_state : then_heard.state ≡ v.state
     same_state = h_as.state
 
+    pub same_shift : then_heard.remote_win_shift ≡ v.remote_win_shift
+    same_shift = h_as.shift
+
     pub same_rx : then_heard.rx_buffer ≡ v.rx_buffer
     same_rx = h_as.rx
 

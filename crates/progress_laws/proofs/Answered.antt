@@ -52,7 +52,7 @@ no_syn state.SynReceived e = absurd cc
 no_syn _ e = refl
 
 -- of bytes alone the FIN is not acknowledged
-not_fin : (st : State) (q n : ℕ) → n ≤ q → is_fin_acked st q n ≡ false
+pub not_fin : (st : State) (q n : ℕ) → n ≤ q → is_fin_acked st q n ≡ false
 not_fin st q n within = ap (λ b. (fin_place st == 1) && b) (go (n == q + 1) refl) ∙ and_no (fin_place st == 1)
   where
     go : (b : Bool) → (n == q + 1) ≡ b → (n == q + 1) ≡ false

@@ -1,5 +1,5 @@
 -- All bytes of a speaker come to a taker that agrees with it, and its FIN where it was closed.
-use Rattle.std.proofs.Common.{◌≡◌, ℕ, zero, suc, ◌+◌, ◌<◌, ◌≤◌, ◌⊎◌, inl, inr, true, refl, sym, ap, subst, ◌∙◌, List, [], ◌++◌, length, drop, arith, append_assoc, length-drop}
+use Rattle.std.proofs.Common.{◌≡◌, ℕ, zero, suc, ◌+◌, ◌<◌, ◌≤◌, ◌⊎◌, inl, inr, true, refl, sym, ap, subst, ◌∙◌, List, [], ◌++◌, length, drop, arith, append_assoc, length-drop, ◌/◌, ◌^◌, min}
 use Rattle.std.proofs.lemmas.Int.{ints}
 use Rattle.std.proofs.lemmas.List.{append-nil, drop_all}
 use Rattle.net_base.specs.declared.time.Duration.{Duration}
@@ -14,7 +14,7 @@ use Rattle.sock_tcp.specs.declared.state.State.{State}
 use Rattle.sock_tcp.specs.declared.state.State.TheVariants as state
 use Rattle.sock_tcp.specs.declared.tuple.Tuple.{Tuple}
 use Rattle.tcp_laws.specs.Waking.{HasToSend}
-use Rattle.progress_laws.specs.Agreement.{Agreement, AgreeingBytesArrive, AgreeingFinArrives, BytesArrive, Exchanges, FinArrives, IsMove, NextOne, NoMore}
+use Rattle.progress_laws.specs.Agreement.{Agreement, AgreeingBytesArrive, AgreeingFinArrives, BytesArrive, Exchanges, FinArrives, IsMove, IsSpeaker, NextOne, NoMore}
 use Rattle.progress_laws.specs.InStep.{Reads}
 use Rattle.progress_laws.specs.ShutWindows.{width}
 use Rattle.progress_laws.proofs.Agrees.{all_read, nothing_left, reads_agree}
@@ -31,13 +31,13 @@ carries_splits state.Closing e = inr refl
 carries_splits state.LastAck e = inr refl
 carries_splits _ e = absurd cc
 
-not_both : (st : State) → may_send st ≡ true → is_closing st ≡ true → ⊥
+pub not_both : (st : State) → may_send st ≡ true → is_closing st ≡ true → ⊥
 not_both state.Established e c = absurd cc
 not_both state.CloseWait e c = absurd cc
 not_both _ e c = absurd cc
 
 -- all was sent, of one that was not closed; or the FIN came
-data Comes (d : Duration) (t : Tuple) (f : Facts) (at : Instant) (v w : View) (got : List ℕ) (n h : ℕ) : Type 0 where
+pub data Comes (d : Duration) (t : Tuple) (f : Facts) (at : Instant) (v w : View) (got : List ℕ) (n h : ℕ) : Type 0 where
   AllSent : (o : Onward d t f at v w got n h)
       → length o.sender.tx_buffer.bytes ≡ 0
       → may_send v.state ≡ true
@@ -61,6 +61,12 @@ module _ (d : Duration) (t : Tuple) (f : Facts) where
       read = p.read;
       state = p.state ∙ o.state;
       nothing_taken = p.nothing_taken ∙ o.nothing_taken;
+      shift = p.shift ∙ o.shift;
+      fewer = omega (arith, p.fewer, o.fewer);
+      speaks = λ e r sp within field.
+          let q : IsSpeaker e r o.receiver × (o.heard ≤ length o.receiver.tx_buffer.bytes) × (o.receiver.state ≡ w.state) = o.speaks e r sp within field in
+          let z : IsSpeaker e r p.receiver × (p.heard ≤ length p.receiver.tx_buffer.bytes) × (p.receiver.state ≡ o.receiver.state) = p.speaks e r q.0 q.1 (subst (λ m. 0 < m) (λ i. min (length ((sym o.nothing_taken i).held) / 2 ^ sym o.shift i) 65535) field) in
+          (z.0, z.1, z.2 ∙ q.2);
       whole = p.whole ∙ o.whole;
       nothing_lost = p.nothing_lost ∙ o.nothing_lost;
     }
@@ -162,7 +168,7 @@ module _ (d : Duration) (t : Tuple) (f : Facts) where
     rests (suc m) b at v w got n h few o q more = after_comes at v w got n h o (b o.end o.sender o.receiver o.more o.taken o.heard o.agrees o.read (omega (arith, ap (λ (l : List ℕ). length l) q, few, more)))
 
     stay : (at : Instant) (v w : View) (got : List ℕ) (n h : ℕ) → Agreement d t v w n h → w.rx_buffer.bytes ≡ [] → Onward d t f at v w got n h
-    stay at v w got n h i read = record { end = at; sender = v; receiver = w; more = got; taken = n; heard = h; exchanges = NoMore at v w got; agrees = i; read = read; state = refl; nothing_taken = refl; whole = refl; nothing_lost = refl }
+    stay at v w got n h i read = record { end = at; sender = v; receiver = w; more = got; taken = n; heard = h; exchanges = NoMore at v w got; agrees = i; read = read; state = refl; nothing_taken = refl; shift = refl; fewer = omega arith; speaks = λ e r sp within field. (sp, within, refl); whole = refl; nothing_lost = refl }
 
     -- where all that was taken is released
     from_zero : (m : ℕ) → Before m → (at : Instant) (v w : View) (got : List ℕ) (h : ℕ) → Agreement d t v w 0 h → w.rx_buffer.bytes ≡ [] → length v.tx_buffer.bytes ≤ m → Comes d t f at v w got 0 h
@@ -206,10 +212,10 @@ module _ (d : Duration) (t : Tuple) (f : Facts) (at : Instant) (v w : View) (got
   abbrev got' : List ℕ
   got' = got ++ w.rx_buffer.bytes
 
-  reads : Exchanges f at v w got at v w' got'
+  pub reads : Exchanges f at v w got at v w' got'
   reads = NextOne at at at v w v w' v w' got got' got' (grind (arith, ints)) (IsMove (Reads (length w.rx_buffer.bytes) (omega arith) refl refl (ap (λ (l : List ℕ). got ++ l) (sym (take_all w.rx_buffer.bytes))))) (NoMore at v w' got')
 
-  comes : Comes d t f at v w' got' n h
+  pub comes : Comes d t f at v w' got' n h
   comes = brings d t f mtu here (length v.tx_buffer.bytes) at v w' got' n h (reads_agree d t v w n h i) (nothing_left d t v w n h i) (omega arith)
 
   regroup : got' ++ drop n v.tx_buffer.bytes ≡ got ++ (w.rx_buffer.bytes ++ drop n v.tx_buffer.bytes)

@@ -1,5 +1,5 @@
 -- What a speaker says reaches the taker: something joins its queue, or its FIN is counted, or it is answered.
-use Rattle.std.proofs.Common.{◌≡◌, ℕ, ◌+◌, ◌<◌, ◌≤◌, ◌^◌, ◌⊎◌, inl, inr, true, false, refl, sym, ap, subst, ◌∙◌, List, [], ◌++◌, length, drop, Option, Some, None, arith, append_assoc}
+use Rattle.std.proofs.Common.{◌≡◌, ℕ, ◌+◌, ◌<◌, ◌≤◌, ◌^◌, ◌⊎◌, inl, inr, true, false, refl, sym, ap, subst, ◌∙◌, List, [], ◌++◌, length, drop, Option, Some, None, arith, append_assoc, length-drop, ◌/◌, min}
 use Rattle.std.specs.Prelude.{Err, if◌then◌else◌, not, ◌==◌, Ok}
 use Rattle.std.proofs.lemmas.Int.{ints}
 use Rattle.std.proofs.lemmas.List.{drop_all}
@@ -10,7 +10,7 @@ use Rattle.control_wire.specs.Seq.{seq_add, seq_minus}
 use Rattle.control_wire.specs.declared.seq_number.TcpSeqNumber.{TcpSeqNumber}
 use Rattle.sock_core.specs.Facts.{Facts}
 use Rattle.sock_core.specs.Received.{handed_out}
-use Rattle.sock_tcp.specs.Due.{is_closing}
+use Rattle.sock_tcp.specs.Due.{is_closing, window_field}
 use Rattle.sock_tcp.specs.Process.{Outcome, ack_sent, processed}
 use Rattle.sock_tcp.specs.Queue.{Queue}
 use Rattle.sock_tcp.specs.Queues.{read_off, receives, recv_check}
@@ -22,16 +22,16 @@ use Rattle.sock_tcp.specs.declared.state.State.TheVariants as state
 use Rattle.sock_tcp.specs.declared.tuple.Tuple.{Tuple}
 use Rattle.tcp_laws.specs.Polling.{IsReached}
 use Rattle.tcp_laws.proofs.OrderedCalls.{reached_ordered}
-use Rattle.progress_laws.specs.Agreement.{Agreement, AnswerIsLost, Exchange, Exchanges, IsMove, NextOne, NoMore}
+use Rattle.progress_laws.specs.Agreement.{Agreement, AnswerIsLost, Exchange, Exchanges, ForAnswer, ForKeepAlive, ForProbe, ForRepeat, IsMove, IsSpeaker, NextOne, NoMore, Waits}
 use Rattle.progress_laws.specs.Delivery.{HasSaid}
 use Rattle.progress_laws.specs.InStep.{Carries, IsAnswered, Reads, told}
 use Rattle.progress_laws.specs.ShutWindows.{width}
 use Rattle.progress_laws.specs.Speech.{FromUna, KeepsAlive, Speech}
-use Rattle.progress_laws.proofs.Agrees.{answers_agree, answers_open, hears, hears_agrees, left_agrees, nothing_left, queue_left, reads_agree, same_rx, same_state, then_heard, width_small, window_open}
+use Rattle.progress_laws.proofs.Agrees.{answers_agree, answers_open, hears, hears_agrees, left_agrees, nothing_left, queue_left, reads_agree, same_rx, same_shift, same_state, then_heard, width_small, window_open}
 use Rattle.progress_laws.proofs.Arrives.{away, before_window}
 use Rattle.progress_laws.proofs.Begins.{dispatch_reached, some_or_none}
-use Rattle.progress_laws.proofs.Delivers.{Arrived, CountsFin, FromFront, IsAnswered as Answers, Joins, arrives, faces_so}
-use Rattle.progress_laws.proofs.Spoken.{ack, bit, fin_ends, fin_of_closing, first_bytes, queued}
+use Rattle.progress_laws.proofs.Delivers.{Arrived, CountsFin, FromFront, IsAnswered as Answers, Joins, SpeaksOn, arrives, faces_so}
+use Rattle.progress_laws.proofs.Spoken.{ack, bit, field, fin_ends, fin_of_closing, first_bytes}
 use Rattle.progress_laws.proofs.Taking.{take_all}
 use Rattle.progress_laws.proofs.Talks.{AsksOnly, StartsAtUna}
 use Rattle.progress_laws.proofs.Units.{reached_unit}
@@ -52,6 +52,9 @@ pub record Onward (d : Duration) (t : Tuple) (f : Facts) (at : Instant) (v w : V
   pub read : receiver.rx_buffer.bytes ≡ []
   pub state : sender.state ≡ v.state
   pub nothing_taken : sender.rx_buffer ≡ v.rx_buffer
+  pub shift : sender.remote_win_shift ≡ v.remote_win_shift
+  pub fewer : length receiver.tx_buffer.bytes ≤ length w.tx_buffer.bytes
+  pub speaks : (e : Duration) (r : Tuple) → IsSpeaker e r w → h ≤ length w.tx_buffer.bytes → 0 < window_field v → IsSpeaker e r receiver × (heard ≤ length receiver.tx_buffer.bytes) × (receiver.state ≡ w.state)
   pub whole : more ++ drop taken sender.tx_buffer.bytes ≡ got ++ drop n v.tx_buffer.bytes
   pub nothing_lost : drop heard receiver.tx_buffer.bytes ≡ drop h w.tx_buffer.bytes
 
@@ -112,6 +115,9 @@ module _ (d : Duration) (t : Tuple) (f : Facts) (at : Instant) (v w : View) (got
   same_win : u.remote_win_len ≡ v.remote_win_len
   same_win = p.left.same.window ∙ p.same.window
 
+  same_field : window_field x ≡ window_field v
+  same_field = λ i. min (length ((p.same.rx i).held) / 2 ^ p.same.shift i) 65535
+
   said : Speech x p.out → HasSaid t fa false x p.out u
   said sp = record { reached = p.agrees.speaker.reached; carries = p.agrees.speaker.carries; on = p.on; dispatch = p.dispatch; speech = sp }
 
@@ -127,9 +133,16 @@ module _ (d : Duration) (t : Tuple) (f : Facts) (at : Instant) (v w : View) (got
   reads : Exchanges f at v w got p.now u z (got ++ o.view.rx_buffer.bytes)
   reads = onward at p.mid p.now v w x w u z got got (got ++ o.view.rx_buffer.bytes) p.before (NextOne p.mid p.now p.now x w u o.view u z got got (got ++ o.view.rx_buffer.bytes) p.since (carried o.reply refl) (NextOne p.now p.now p.now u o.view u z u z got (got ++ o.view.rx_buffer.bytes) (got ++ o.view.rx_buffer.bytes) (grind (arith, ints)) (IsMove (Reads (length o.view.rx_buffer.bytes) (omega arith) refl refl (ap (λ (l : List ℕ). got ++ l) (sym (take_all o.view.rx_buffer.bytes))))) (NoMore p.now u z (got ++ o.view.rx_buffer.bytes))))
 
-  grew : (run : List ℕ) → 0 < length run → o.view.rx_buffer.bytes ≡ run → run ++ drop (n + length run) x.tx_buffer.bytes ≡ drop n x.tx_buffer.bytes → Agreement d t x o.view (n + length run) 0 → o.view.tx_buffer.bytes ≡ drop h w.tx_buffer.bytes → Round d t f at v w got n h
+  kept_waits : Waits o.view → Waits z
   unfolding read_off
-  grew run some is whole agrees tx =
+  kept_waits (ForAnswer at e) = ForAnswer at e
+  kept_waits (ForRepeat e) = ForRepeat e
+  kept_waits (ForKeepAlive o e f) = ForKeepAlive o e f
+  kept_waits (ForProbe at delay e f) = ForProbe at delay e f
+
+  grew : (run : List ℕ) → 0 < length run → o.view.rx_buffer.bytes ≡ run → run ++ drop (n + length run) x.tx_buffer.bytes ≡ drop n x.tx_buffer.bytes → Agreement d t x o.view (n + length run) 0 → o.view.tx_buffer.bytes ≡ drop h w.tx_buffer.bytes → SpeaksOn x w h o.view → Round d t f at v w got n h
+  unfolding read_off
+  grew run some is whole agrees tx speaks =
       let j : Agreement d t u o.view (n + length run) 0 = left_agrees d t x o.view (n + length run) 0 agrees u p.left reached p.waits in
       Grew (record {
         end = p.now;
@@ -143,6 +156,12 @@ module _ (d : Duration) (t : Tuple) (f : Facts) (at : Instant) (v w : View) (got
         read = nothing_left d t u o.view (n + length run) 0 j;
         state = p.left.same.state ∙ p.same.state;
         nothing_taken = p.left.same.rx ∙ p.same.rx;
+        shift = p.left.same.shift ∙ p.same.shift;
+        fewer = omega (arith, ap (λ (l : List ℕ). length l) tx, length-drop h w.tx_buffer.bytes);
+        speaks = λ e r sp within field.
+            let p' : IsSpeaker e r o.view × (o.view.state ≡ w.state) = speaks e r sp within (subst (λ m. 0 < m) (sym same_field) field) in
+            let q = p'.0 in
+            (record { reached = (reads_agree d t u o.view (n + length run) 0 j).taker.reached; carries = q.carries; peer = q.peer; no_timeout = q.no_timeout; keep_alive = q.keep_alive; waits = kept_waits q.waits }, omega arith, p'.1);
         whole = append_assoc got o.view.rx_buffer.bytes (drop (n + length run) u.tx_buffer.bytes) ∙ (λ i. got ++ (is i ++ drop (n + length run) ((p.left.same.tx i).bytes))) ∙ ap (λ (l : List ℕ). got ++ l) whole ∙ ap (λ (q : Queue). got ++ drop n q.bytes) p.same.tx;
         nothing_lost = tx;
       }) same_tx (omega (arith, some))
@@ -173,6 +192,16 @@ module _ (d : Duration) (t : Tuple) (f : Facts) (at : Instant) (v w : View) (got
     open_ : 0 < width y
     open_ = answers_open d t x w n h p.agrees room
 
+    y_speaks : (e : Duration) (r : Tuple) → IsSpeaker e r w → h ≤ length w.tx_buffer.bytes → IsSpeaker e r y × (h ≤ length y.tx_buffer.bytes) × (y.state ≡ w.state)
+    unfolding ack_kept
+    y_speaks e r sp within = (record { reached = j.taker.reached; carries = sp.carries; peer = sp.peer; no_timeout = sp.no_timeout; keep_alive = sp.keep_alive; waits = by sp.waits }, within, refl)
+      where
+        by : Waits w → Waits y
+        by (ForAnswer at e) = ForAnswer at e
+        by (ForRepeat e) = ForRepeat e
+        by (ForKeepAlive o e f) = ForKeepAlive o e f
+        by (ForProbe at delay e f) = ForProbe at delay e f
+
     -- and the answer is heard
     heard_so : (x.state ≡ state.LastAck → 0 < n) → (u' : View) → processed u p.now 0 (reply_ip p.out.ip (ack_segment w s)) (ack_segment w s) ≡ record { view = u'; reply = None } → Exchanges f at v w got p.now u' y got
     heard_so last u' e = onward at p.mid p.now v w x w u' y got got got p.before (NextOne p.mid p.now p.now x w u' y u' y got got got p.since (IsMove (IsAnswered p.out u (ack_segment w s) p.dispatch is e refl)) (NoMore p.now u' y got))
@@ -195,6 +224,9 @@ module _ (d : Duration) (t : Tuple) (f : Facts) (at : Instant) (v w : View) (got
           read = read;
           state = same_state d t u y n h j room some p.now ip g refl refl refl refl refl ∙ p.left.same.state ∙ p.same.state;
           nothing_taken = same_rx d t u y n h j room some p.now ip g refl refl refl refl refl ∙ p.left.same.rx ∙ p.same.rx;
+          shift = same_shift d t u y n h j room some p.now ip g refl refl refl refl refl ∙ p.left.same.shift ∙ p.same.shift;
+          fewer = omega arith;
+          speaks = λ e r sp within field. y_speaks e r sp within;
           whole = ap (λ (l : List ℕ). got ++ l) (queue_left d t u y n h j room some p.now ip g refl refl refl refl refl ∙ ap (drop n) same_tx);
           nothing_lost = refl;
         }) refl (queue_left d t u y n h j room some p.now ip g refl refl refl refl refl ∙ ap (drop n) same_tx) open_ (why (then_heard d t u y n h j room some p.now ip g refl refl refl refl refl) (window_open d t u y n h j room some p.now ip g refl refl refl refl refl))
@@ -214,6 +246,9 @@ module _ (d : Duration) (t : Tuple) (f : Facts) (at : Instant) (v w : View) (got
       read = read;
       state = p.left.same.state ∙ p.same.state;
       nothing_taken = p.left.same.rx ∙ p.same.rx;
+      shift = p.left.same.shift ∙ p.same.shift;
+      fewer = omega arith;
+      speaks = λ e r sp within field. y_speaks e r sp within;
       whole = ap (λ (l : List ℕ). got ++ drop n l) same_tx;
       nothing_lost = refl;
     }) none (same_tx ∙ ap (λ m. drop m v.tx_buffer.bytes) (sym none)) open_ (WasShut shut same_win)
@@ -235,7 +270,7 @@ module _ (d : Duration) (t : Tuple) (f : Facts) (at : Instant) (v w : View) (got
         ack = ack t fa false x p.out u sp;
         number = q.number;
         first = first_bytes t fa false x p.out u sp q.kind q.number;
-        queued = queued t fa false x p.out u sp q.kind;
+        field = field t fa false x p.out u sp;
         fin = fin_ends t fa false x p.out u sp q.kind q.number;
         closing = fin_of_closing t fa false x p.out u sp q.kind q.number;
         some = q.some;
@@ -250,7 +285,7 @@ module _ (d : Duration) (t : Tuple) (f : Facts) (at : Instant) (v w : View) (got
       answered is shut (inr some) = hears_it is small q.short front.ack (λ e. some) (λ u' win. Released some)
 
       by : Arrived d t x w n h s o → Round d t f at v w got n h
-      by (Joins run some is whole agrees tx) = grew run some is whole agrees tx
+      by (Joins run some is whole agrees tx speaks) = grew run some is whole agrees tx speaks
       by (CountsFin closing stops fin rest) = ended closing stops fin rest
       by (Answers is shut) = answered is shut (some_or_none n)
 

@@ -1,8 +1,9 @@
 -- What becomes of the taker when a segment from SND.UNA on reaches it.
-use Rattle.std.proofs.Common.{◌≡◌, ℕ, ◌+◌, ◌-◌, ◌<◌, ◌≤◌, ◌^◌, ◌⊎◌, inl, inr, Bool, true, false, ◌||◌, true≢false, refl, sym, ap, subst, ◌∙◌, List, [], ◌++◌, length, take, drop, Some, arith, length-append}
+use Rattle.std.proofs.Common.{◌≡◌, ℕ, ◌+◌, ◌*◌, mul-pos, ◌-◌, ◌<◌, ◌≤◌, ◌^◌, ◌⊎◌, inl, inr, Bool, true, false, ◌||◌, true≢false, refl, sym, ap, subst, ◌∙◌, List, [], ◌++◌, length, take, drop, Some, arith, length-append}
 use Rattle.std.specs.Prelude.{if◌then◌else◌, ◌==◌}
 use Rattle.std.proofs.lemmas.Bool.{and_parts, eqb-true}
 use Rattle.std.proofs.lemmas.List.{append-nil, drop_all}
+use Rattle.std.proofs.lemmas.Nat.{pow_pos}
 use Rattle.net_base.specs.declared.time.Duration.{Duration}
 use Rattle.net_base.specs.declared.time.Instant.{Instant}
 use Rattle.ip_wire.specs.declared.repr.IpRepr.{IpRepr}
@@ -16,12 +17,13 @@ use Rattle.sock_core.specs.Seq.{is_before, later_of}
 use Rattle.sock_tcp.proofs.Windows.{end_small, length-cut, start_small}
 use Rattle.sock_tcp.specs.Acked.{acked_at, acked_of, acked_places, is_fin_acked, syn_place}
 use Rattle.sock_tcp.specs.Advance.{advance_in, counted_control, fin_counted, moved_to, waiting}
-use Rattle.sock_tcp.specs.Due.{is_closing}
+use Rattle.sock_tcp.specs.Content.{carries_data}
+use Rattle.sock_tcp.specs.Due.{is_closing, window_field}
 use Rattle.sock_tcp.specs.Process.{Outcome, ack_sent, after_table, bytes_taken, processed, tuple_of}
 use Rattle.sock_tcp.specs.Queue.{Queue}
 use Rattle.sock_tcp.specs.Queues.{receives}
 use Rattle.sock_tcp.specs.Replies.{ack_kept}
-use Rattle.sock_tcp.specs.Steps.{ack_delayed, heard, joined, window_of}
+use Rattle.sock_tcp.specs.Steps.{ack_delayed, heard, joined, scale_of, window_of}
 use Rattle.sock_tcp.specs.Verdict.{fin_place}
 use Rattle.sock_tcp.specs.View.{View}
 use Rattle.sock_tcp.specs.Window.{cut_bytes, cut_of, full_inside, empty_inside, is_inside, next_ack, receive_window}
@@ -35,13 +37,15 @@ use Rattle.tcp_laws.proofs.Kept.{bytes_kept}
 use Rattle.tcp_laws.proofs.OrderedCalls.{reached_ordered}
 use Rattle.tcp_laws.proofs.Receiving.{only_appends}
 use Rattle.tcp_laws.specs.Laws.{MayTake}
-use Rattle.progress_laws.specs.Agreement.{Agreement, InReach}
+use Rattle.progress_laws.specs.Agreement.{Agreement, ForAnswer, ForKeepAlive, ForProbe, ForRepeat, InReach, IsSpeaker, Waits}
 use Rattle.progress_laws.specs.BothWays.{window_told}
 use Rattle.progress_laws.specs.ShutWindows.{width}
 use Rattle.progress_laws.proofs.Agrees.{no_listener, reached_room, width_small}
+use Rattle.progress_laws.proofs.Answered.{not_fin}
 use Rattle.progress_laws.proofs.Arrives.{CountsIt, Faces, IsCounted, away, count_to_end, counted_so, cut_at_edge, cut_some, edge_inside, fin_counts, fin_place_small, heard_so, in_window, joins, receives_so, skip_at_edge}
 use Rattle.progress_laws.proofs.Begins.{not_zero, numbered_as, segment_reached, some_or_none}
 use Rattle.progress_laws.proofs.Edges.{is_not_before, later_stays, same_seq}
+use Rattle.progress_laws.proofs.Heeds.{waits_on}
 use Rattle.progress_laws.proofs.Hears.{HeardAs, IsSaid, heard_any}
 use Rattle.progress_laws.proofs.Matches.{Grows, IsPart, all_join, cut_part, grows}
 use Rattle.progress_laws.proofs.Spoken.{is_fin}
@@ -56,13 +60,26 @@ record Rest (z u : View) : Type 0 where
   tx : u.tx_buffer ≡ z.tx_buffer
   rcv : u.remote_seq_no ≡ z.remote_seq_no
   shift : u.remote_win_shift ≡ z.remote_win_shift
+  peer : u.tuple ≡ z.tuple
+  timeout : u.timeout ≡ z.timeout
+  keep_alive : u.keep_alive ≡ z.keep_alive
+  marked : u.pending_fast_retransmit ≡ z.pending_fast_retransmit
+  timer : u.timer ≡ z.timer
 
 bytes_rest : (now : Instant) (s : Segment) (z : View) (o : ℕ) (bs : List ℕ) → Rest z (bytes_taken z now o bs s).view
 unfolding ack_kept joined ack_delayed
 bytes_rest now s z o bs = bytes_kept (Rest z) now s (record {
-  challenges = λ w at r. record { state = r.state; fin = r.fin; una = r.una; nxt = r.nxt; tx = r.tx; rcv = r.rcv; shift = r.shift };
-  acks = λ w r. record { state = r.state; fin = r.fin; una = r.una; nxt = r.nxt; tx = r.tx; rcv = r.rcv; shift = r.shift };
-}) (λ w o bs r. record { state = r.state; fin = r.fin; una = r.una; nxt = r.nxt; tx = r.tx; rcv = r.rcv; shift = r.shift }) z o bs (record { state = refl; fin = refl; una = refl; nxt = refl; tx = refl; rcv = refl; shift = refl })
+  challenges = λ w at r. record { state = r.state; fin = r.fin; una = r.una; nxt = r.nxt; tx = r.tx; rcv = r.rcv; shift = r.shift; peer = r.peer; timeout = r.timeout; keep_alive = r.keep_alive; marked = r.marked; timer = r.timer };
+  acks = λ w r. record { state = r.state; fin = r.fin; una = r.una; nxt = r.nxt; tx = r.tx; rcv = r.rcv; shift = r.shift; peer = r.peer; timeout = r.timeout; keep_alive = r.keep_alive; marked = r.marked; timer = r.timer };
+}) (λ w o bs r. record { state = r.state; fin = r.fin; una = r.una; nxt = r.nxt; tx = r.tx; rcv = r.rcv; shift = r.shift; peer = r.peer; timeout = r.timeout; keep_alive = r.keep_alive; marked = r.marked; timer = r.timer }) z o bs (record { state = refl; fin = refl; una = refl; nxt = refl; tx = refl; rcv = refl; shift = refl; peer = refl; timeout = refl; keep_alive = refl; marked = refl; timer = refl })
+
+rest_waits : (z u : View) → Rest z u → Waits z → Waits u
+rest_waits z u r (ForAnswer at e) = ForAnswer at (r.timer ∙ e)
+rest_waits z u r (ForRepeat e) = ForRepeat (r.timer ∙ e)
+rest_waits z u r (ForKeepAlive o e (inl m)) = ForKeepAlive o (r.timer ∙ e) (inl (r.marked ∙ m))
+rest_waits z u r (ForKeepAlive o e (inr n)) = ForKeepAlive o (r.timer ∙ e) (inr (r.nxt ∙ n ∙ sym r.una))
+rest_waits z u r (ForProbe at delay e (inl m)) = ForProbe at delay (r.timer ∙ e) (inl (r.marked ∙ m))
+rest_waits z u r (ForProbe at delay e (inr n)) = ForProbe at delay (r.timer ∙ e) (inr (r.nxt ∙ n.0 ∙ sym r.una, subst (λ (b : Queue). 0 < length b.bytes) (sym r.tx) n.1))
 
 -- ---- what is said
 
@@ -72,11 +89,15 @@ pub record FromFront (v : View) (s : Segment) : Type 0 where
   pub ack : s.ack_number ≡ Some (next_ack v)
   pub number : s.seq_number ≡ v.local_seq_no
   pub first : s.payload ≡ take (length s.payload) v.tx_buffer.bytes
-  pub queued : length s.payload ≤ length v.tx_buffer.bytes
+  pub field : s.window_len ≡ window_field v
   pub fin : s.control ≡ control.Fin → length s.payload ≡ length v.tx_buffer.bytes
   pub closing : s.control ≡ control.Fin → is_closing v.state ≡ true
   pub some : 0 < segment_len s
   pub short : length s.payload ≤ 65535
+
+-- where w can speak, and waits for no acknowledgement of a FIN of its own, so can u, once v told a window
+abbrev pub SpeaksOn : View → View → ℕ → View → Type 0
+SpeaksOn v w h u = (e : Duration) (r : Tuple) → IsSpeaker e r w → h ≤ length w.tx_buffer.bytes → 0 < window_field v → IsSpeaker e r u × (u.state ≡ w.state)
 
 -- what w becomes: a run of what it had not taken joins the queue; or the FIN is counted, and all of it is there; or it is
 -- answered, and without anything that v has not heard of only where the window has no place
@@ -87,6 +108,7 @@ pub data Arrived (d : Duration) (t : Tuple) (v w : View) (n h : ℕ) (s : Segmen
       → run ++ drop (n + length run) v.tx_buffer.bytes ≡ drop n v.tx_buffer.bytes
       → Agreement d t v o.view (n + length run) 0
       → o.view.tx_buffer.bytes ≡ drop h w.tx_buffer.bytes
+      → SpeaksOn v w h o.view
       → Arrived d t v w n h s o
   CountsFin : is_closing v.state ≡ true
       → receives o.view.state ≡ false
@@ -106,12 +128,18 @@ record Took (w : View) (k : TcpSeqNumber) (h : ℕ) (u : View) (st : State) (fir
   nxt : u.remote_last_seq ≡ later_of w.remote_last_seq k
   tx : u.tx_buffer.bytes ≡ drop h w.tx_buffer.bytes
   shift : u.remote_win_shift ≡ w.remote_win_shift
+  peer : u.tuple ≡ w.tuple
+  timeout : u.timeout ≡ w.timeout
+  keep_alive : u.keep_alive ≡ w.keep_alive
 
 -- y is as w but for the state, the timer and what of the peer's stream was counted
 record Like (w y : View) : Type 0 where
   nxt : y.remote_last_seq ≡ w.remote_last_seq
   tx : y.tx_buffer ≡ w.tx_buffer
   shift : y.remote_win_shift ≡ w.remote_win_shift
+  peer : y.tuple ≡ w.tuple
+  timeout : y.timeout ≡ w.timeout
+  keep_alive : y.keep_alive ≡ w.keep_alive
 
 pub faces_so : (d : Duration) (t : Tuple) (v w : View) (n h : ℕ) → Agreement d t v w n h → Faces w (next_ack v)
 faces_so d t v w n h i =
@@ -237,24 +265,49 @@ module _ (d : Duration) (t : Tuple) (v w : View) (n h : ℕ) (i : Agreement d t 
         nxt = r.nxt ∙ g.nxt ∙ ap (λ m. later_of m k) l.nxt;
         tx = ap (λ (b : Queue). b.bytes) r.tx ∙ ap (λ (b : Queue). b.bytes) g.tx ∙ ap (λ (b : Queue). drop a.len b.bytes) l.tx ∙ leaves;
         shift = r.shift ∙ g.shift ∙ l.shift;
+        peer = r.peer ∙ g.peer ∙ l.peer;
+        timeout = r.timeout ∙ g.timeout ∙ l.timeout;
+        keep_alive = r.keep_alive ∙ g.keep_alive ∙ l.keep_alive;
       }
 
-  like : (y : View) → y.remote_last_seq ≡ w.remote_last_seq → y.tx_buffer ≡ w.tx_buffer → y.remote_win_shift ≡ w.remote_win_shift → Like w y
-  like y a b c = record { nxt = a; tx = b; shift = c }
+  like : (y : View) → y.remote_last_seq ≡ w.remote_last_seq → y.tx_buffer ≡ w.tx_buffer → y.remote_win_shift ≡ w.remote_win_shift → y.tuple ≡ w.tuple → y.timeout ≡ w.timeout → y.keep_alive ≡ w.keep_alive → Like w y
+  like y nxt tx shift peer timeout keep = record { nxt = nxt; tx = tx; shift = shift; peer = peer; timeout = timeout; keep_alive = keep }
 
   abbrev table : TcpControl → Outcome
   table c = after_table (advance_in w.state c a.fin x now (tuple_of ip s) 0 a.len s) now a cut.offset bs s
 
   -- no FIN counts
-  abbrev Goes : View → Type 0
-  Goes z = (st : State) × (receives st ≡ true) × Took w k h z st w.remote_seq_no w.rx_fin_received
+  abbrev WaitsOn : View → Type 0
+  WaitsOn z = Waits w → h ≤ length w.tx_buffer.bytes → 0 < window_field v → (z.state ≡ w.state) × Waits z
 
-  goes_rows : (st : State) → receives st ≡ true → (fin : Bool) → Goes (after_table (advance_in st control.None fin x now (tuple_of ip s) 0 a.len s) now a cut.offset bs s).view
-  goes_rows state.Established e fin = (w.state, i.taker.state, took x (like x refl refl refl))
-  goes_rows state.FinWait1 e true = (state.FinWait2, refl, took (moved_to state.FinWait2 x) (like (moved_to state.FinWait2 x) refl refl refl))
-  goes_rows state.FinWait1 e false = (w.state, i.taker.state, took x (like x refl refl refl))
-  goes_rows state.FinWait2 e fin = (w.state, i.taker.state, took x (like x refl refl refl))
-  goes_rows _ e fin = absurd cc
+  abbrev Goes : View → Type 0
+  Goes z = (st : State) × (receives st ≡ true) × Took w k h z st w.remote_seq_no w.rx_fin_received × WaitsOn z
+
+  -- it waits as it may
+  waits_on_then : WaitsOn (bytes_taken (heard x now a s) now cut.offset bs s).view
+  waits_on_then waits within field = ((took x (like x refl refl refl refl refl refl)).state, rest_waits (heard x now a s) (bytes_taken (heard x now a s) now cut.offset bs s).view (bytes_rest now s (heard x now a s) cut.offset bs) (waits_on x now a s k q.ack q.bit window (by waits) (λ e. ap (λ (m : Acked). m.all) (sym places) ∙ e) w_small (omega arith) (omega (arith, ap (λ (m : TcpSeqNumber). m.0) i.back, w_small, w_short, within))))
+    where
+      window : 0 < s.window_len * 2 ^ scale_of w.remote_win_scale
+      window = mul-pos (subst (λ m. 0 < m) (sym q.field) field) (pow_pos (scale_of w.remote_win_scale))
+
+      by : Waits w → Waits x
+      by (ForAnswer at e) = ForAnswer at e
+      by (ForRepeat e) = ForRepeat e
+      by (ForKeepAlive o e f) = ForKeepAlive o e f
+      by (ForProbe at delay e f) = ForProbe at delay e f
+
+  on : Goes (bytes_taken (heard x now a s) now cut.offset bs s).view
+  on = (w.state, i.taker.state, took x (like x refl refl refl refl refl refl), waits_on_then)
+
+  no_own_fin : a.fin ≡ true → h ≤ length w.tx_buffer.bytes → ⊥
+  no_own_fin e within = true≢false (sym e ∙ ap (λ (m : Acked). m.fin) places ∙ not_fin w.state (length w.tx_buffer.bytes) h within)
+
+  goes_rows : (st : State) → receives st ≡ true → (fin : Bool) → a.fin ≡ fin → Goes (after_table (advance_in st control.None fin x now (tuple_of ip s) 0 a.len s) now a cut.offset bs s).view
+  goes_rows state.Established e fin f = on
+  goes_rows state.FinWait1 e true f = (state.FinWait2, refl, took (moved_to state.FinWait2 x) (like (moved_to state.FinWait2 x) refl refl refl refl refl refl), λ waits within field. absurd (no_own_fin f within))
+  goes_rows state.FinWait1 e false f = on
+  goes_rows state.FinWait2 e fin f = on
+  goes_rows _ e fin f = absurd cc
 
   -- the FIN counts
   abbrev Stops : View → Type 0
@@ -262,10 +315,10 @@ module _ (d : Duration) (t : Tuple) (v w : View) (n h : ℕ) (i : Agreement d t 
 
   stops_rows : (st : State) → receives st ≡ true → (fin : Bool) → Stops (after_table (advance_in st control.Fin fin x now (tuple_of ip s) 0 a.len s) now a cut.offset bs s).view
   unfolding fin_counted
-  stops_rows state.Established e fin = (state.CloseWait, refl, took (fin_counted state.CloseWait x) (like (fin_counted state.CloseWait x) refl refl refl))
-  stops_rows state.FinWait1 e true = (state.TimeWait, refl, took (waiting now (fin_counted state.TimeWait x)) (like (waiting now (fin_counted state.TimeWait x)) refl refl refl))
-  stops_rows state.FinWait1 e false = (state.Closing, refl, took (fin_counted state.Closing x) (like (fin_counted state.Closing x) refl refl refl))
-  stops_rows state.FinWait2 e fin = (state.TimeWait, refl, took (waiting now (fin_counted state.TimeWait x)) (like (waiting now (fin_counted state.TimeWait x)) refl refl refl))
+  stops_rows state.Established e fin = (state.CloseWait, refl, took (fin_counted state.CloseWait x) (like (fin_counted state.CloseWait x) refl refl refl refl refl refl))
+  stops_rows state.FinWait1 e true = (state.TimeWait, refl, took (waiting now (fin_counted state.TimeWait x)) (like (waiting now (fin_counted state.TimeWait x)) refl refl refl refl refl refl))
+  stops_rows state.FinWait1 e false = (state.Closing, refl, took (fin_counted state.Closing x) (like (fin_counted state.Closing x) refl refl refl refl refl refl))
+  stops_rows state.FinWait2 e fin = (state.TimeWait, refl, took (waiting now (fin_counted state.TimeWait x)) (like (waiting now (fin_counted state.TimeWait x)) refl refl refl refl refl refl))
   stops_rows _ e fin = absurd cc
 
   abbrev counted : TcpControl
@@ -348,10 +401,15 @@ module _ (d : Duration) (t : Tuple) (v w : View) (n h : ℕ) (i : Agreement d t 
         last = λ e. inl (omega (arith, run_some));
       }
 
+      speaks : Goes u → SpeaksOn v w h u
+      speaks g e r sp within field =
+          let z : (u.state ≡ w.state) × Waits u = g.3 sp.waits within field in
+          (record { reached = (agrees g).taker.reached; carries = ap carries_data z.0 ∙ sp.carries; peer = g.2.peer ∙ sp.peer; no_timeout = g.2.timeout ∙ sp.no_timeout; keep_alive = g.2.keep_alive ∙ sp.keep_alive; waits = z.1 }, z.0)
+
       goes_on : counted ≡ control.None → Arrived d t v w n h s o
       goes_on e =
-          let g : Goes u = subst (λ (z : Outcome). Goes z.view) (sym (is_table control.None e)) (goes_rows w.state i.taker.state a.fin) in
-          Joins grown.run run_some rx_is grown.whole (agrees g) g.2.tx
+          let g : Goes u = subst (λ (z : Outcome). Goes z.view) (sym (is_table control.None e)) (goes_rows w.state i.taker.state a.fin refl) in
+          Joins grown.run run_some rx_is grown.whole (agrees g) g.2.tx (speaks g)
 
       -- with the FIN all of it came
       ends : (c : TcpControl) → IsSaid c → counted_control c win s.seq_number (length s.payload) ≡ control.Fin → (c ≡ control.Fin) × (is_before win.end (seq_add s.seq_number (length s.payload)) ≡ false)

@@ -39,6 +39,7 @@ pub mod Delivers
 pub mod Utters
 pub mod Comes
 pub mod Arrivals
+pub mod Streams
 pub mod Repeats
 pub mod Units
 pub mod SynSteps

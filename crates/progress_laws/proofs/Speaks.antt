@@ -30,8 +30,8 @@ use Rattle.tcp_laws.proofs.OrderedCalls.{reached_ordered, readied_ordered, timer
 use Rattle.tcp_laws.proofs.Sleeping.{window_sends}
 use Rattle.tcp_laws.proofs.Probing.{reached_probing}
 use Rattle.progress_laws.specs.InStep.{ForAnswer, ForKeepAlive, ForNothing, ForProbe, IsSender, Rests, told}
-use Rattle.progress_laws.specs.Speech.{DispatchesOk, GoesOn, SendsOk}
-use Rattle.progress_laws.proofs.Begins.{Same, beginning, carries_runs, content_is, dispatch_reached, lent_for, not_zero, quiet_so, readied_alike, same_again, same_then, segment_for, sends_so}
+use Rattle.progress_laws.specs.Speech.{DispatchesOk, GoesOn}
+use Rattle.progress_laws.proofs.Begins.{Same, beginning, carries_runs, dispatch_reached, lent_for, not_zero, quiet_so, readied_alike, same_again, same_then, segment_for, sends_as}
 use Rattle.progress_laws.proofs.Edges.{is_earlier, is_not_before, later_is, later_stays}
 use Rattle.progress_laws.proofs.Hears.{IsData, IsOpenTimer, idle_is, idle_moment}
 use Rattle.progress_laws.proofs.Lends.{lent_some, mss_some}
@@ -209,14 +209,7 @@ module _ (d : Option Duration) (t : Tuple) (v : View) (f : Facts) (now : Instant
   carries_on = sends_data u.state may
 
   goes_out : (k : Kind) → emission_kind u now b ≡ k → is_due u t fa false ≡ true → DispatchesOk fa false v (Some (sent_as u t k b)) (left u t now b opens k)
-  goes_out k e due = sends_so v t fa false on carries (Some (sent_as u t k b)) (left u t now b opens k) (ap (λ x. is_due x t fa false) u_is ∙ due) (subst (λ x. SendsOk fa t false x (Some (sent_as u t k b)) (left u t now b opens k)) (sym u_is) (record {
-    stamp = None;
-    told = refl;
-    bytes = bytes;
-    lent = refl;
-    sends = sym (content_is u t fa None bytes carries_on ∙ ap (λ c. Some (sent_as u t c b)) e);
-    view = refl;
-  }))
+  goes_out = sends_as v t fa on carries u u_is carries_on
 
   data_is_due : data_due u t fa false ≡ true → is_due u t fa false ≡ true
   unfolding is_due

@@ -1,5 +1,5 @@
 -- What a socket says, number by number, and what stays of it.
-use Rattle.std.proofs.Common.{◌≡◌, ℕ, zero, suc, ◌+◌, ◌<◌, ◌≤◌, ◌^◌, Bool, true, false, refl, sym, ap, subst, ◌∙◌, List, length, take, drop, Some, is_some, arith}
+use Rattle.std.proofs.Common.{◌≡◌, ℕ, zero, suc, ◌+◌, ◌/◌, min, ◌<◌, ◌≤◌, ◌^◌, Bool, true, false, refl, sym, ap, subst, ◌∙◌, List, length, take, drop, Some, is_some, arith}
 use Rattle.std.specs.Prelude.{if◌then◌else◌, ◌==◌}
 use Rattle.std.proofs.lemmas.Bool.{eqb-true}
 use Rattle.std.proofs.lemmas.Option.{same_Some}
@@ -15,7 +15,7 @@ use Rattle.sock_core.specs.Facts.{Facts}
 use Rattle.sock_tcp.proofs.Lending.{lent_at_most, lent_beginning}
 use Rattle.sock_tcp.specs.Begin.{after_timer, fast_retransmission_marked, readied, retransmission_begun}
 use Rattle.sock_tcp.specs.Content.{Sending, asked, carries_data, data_control, emission_kind, offset_of, plain_segment, sent_as}
-use Rattle.sock_tcp.specs.Due.{flight, is_closing}
+use Rattle.sock_tcp.specs.Due.{flight, is_closing, window_field}
 use Rattle.sock_tcp.specs.Queue.{Queue}
 use Rattle.sock_tcp.specs.Sent.{after_any, after_kind, after_probe, after_sending, emitted_as, sending_timed, snd_nxt_moved}
 use Rattle.sock_tcp.specs.Timers.{is_over, retransmit_unless_set}
@@ -44,21 +44,22 @@ pub record Still (v x : View) : Type 0 where
   pub tx : x.tx_buffer ≡ v.tx_buffer
   pub rx : x.rx_buffer ≡ v.rx_buffer
   pub rcv : x.remote_seq_no ≡ v.remote_seq_no
+  pub shift : x.remote_win_shift ≡ v.remote_win_shift
 
 unmoved : (v : View) → Still v v
-unmoved v = record { state = refl; una = refl; tx = refl; rx = refl; rcv = refl }
+unmoved v = record { state = refl; una = refl; tx = refl; rx = refl; rcv = refl; shift = refl }
 
 pub then_still : (a b c : View) → Still a b → Still b c → Still a c
-then_still a b c x y = record { state = y.state ∙ x.state; una = y.una ∙ x.una; tx = y.tx ∙ x.tx; rx = y.rx ∙ x.rx; rcv = y.rcv ∙ x.rcv }
+then_still a b c x y = record { state = y.state ∙ x.state; una = y.una ∙ x.una; tx = y.tx ∙ x.tx; rx = y.rx ∙ x.rx; rcv = y.rcv ∙ x.rcv; shift = y.shift ∙ x.shift }
 
 timer_still : (tm : Timer) (x : View) (now : Instant) → Still x (after_timer tm x now)
 unfolding retransmission_begun fast_retransmission_marked
 timer_still (timer.Retransmit at) x now = go (is_over at now)
   where
     go : (b : Bool) → Still x (if b then retransmission_begun x now else x)
-    go true = record { state = refl; una = refl; tx = refl; rx = refl; rcv = refl }
+    go true = record { state = refl; una = refl; tx = refl; rx = refl; rcv = refl; shift = refl }
     go false = unmoved x
-timer_still timer.FastRetransmit x now = record { state = refl; una = refl; tx = refl; rx = refl; rcv = refl }
+timer_still timer.FastRetransmit x now = record { state = refl; una = refl; tx = refl; rx = refl; rcv = refl; shift = refl }
 timer_still (timer.Idle at) x now = unmoved x
 timer_still (timer.ZeroWindowProbe at delay) x now = unmoved x
 timer_still (timer.Close at) x now = unmoved x
@@ -71,13 +72,13 @@ sent_still b now e = by e.kind
     x = snd_nxt_moved (after_any b now) e
 
     timed : (z : Bool) → Still b (if z then x else record x { rtte = sent x.rtte now e.end; timer = retransmit_unless_set x.timer now x.rtte; congestion_controller = post_transmitted x.congestion_controller now e.len })
-    timed true = record { state = refl; una = refl; tx = refl; rx = refl; rcv = refl }
-    timed false = record { state = refl; una = refl; tx = refl; rx = refl; rcv = refl }
+    timed true = record { state = refl; una = refl; tx = refl; rx = refl; rcv = refl; shift = refl }
+    timed false = record { state = refl; una = refl; tx = refl; rx = refl; rcv = refl; shift = refl }
 
     by : (k : Kind) → Still b (after_kind k (after_any b now) now e)
     by kind.Plain = timed (e.len == 0)
-    by kind.Probe = record { state = refl; una = refl; tx = refl; rx = refl; rcv = refl }
-    by kind.KeepAlive = record { state = refl; una = refl; tx = refl; rx = refl; rcv = refl }
+    by kind.Probe = record { state = refl; una = refl; tx = refl; rx = refl; rcv = refl; shift = refl }
+    by kind.KeepAlive = record { state = refl; una = refl; tx = refl; rx = refl; rcv = refl; shift = refl }
 
 -- ---- its control bit
 
@@ -137,7 +138,7 @@ module _ (t : Tuple) (f : Facts) (stamps : Bool) (v : View) (out : Sending) (u :
   begun_still : Still v b
   begun_still =
       let al : Alike v (readied v now) = readied_alike v now in
-      then_still v (readied v now) b (record { state = al.same.state; una = al.same.una; tx = al.same.tx; rx = al.same.rx; rcv = al.same.rcv }) (timer_still v.timer (readied v now) now)
+      then_still v (readied v now) b (record { state = al.same.state; una = al.same.una; tx = al.same.tx; rx = al.same.rx; rcv = al.same.rcv; shift = al.same.shift }) (timer_still v.timer (readied v now) now)
 
   o : SendsOk f t stamps b (Some out) u
   o = goes_out v t f stamps h.on (carries_runs v.state v.synack_paused h.carries) out u h.dispatch
@@ -165,6 +166,16 @@ module _ (t : Tuple) (f : Facts) (stamps : Bool) (v : View) (out : Sending) (u :
 
   pub ack : out.segment.ack_number ≡ Some (next_ack v)
   ack = ap (λ (s : Sending). s.segment.ack_number) out_is ∙ said_ack k ∙ (λ i. Some (seq_add (begun_still.rcv i) (length ((begun_still.rx i).bytes))))
+
+  said_field : (k : Kind) → (sent_as b t k g).segment.window_len ≡ window_field b
+  unfolding plain_segment
+  said_field kind.KeepAlive = refl
+  said_field kind.Plain = refl
+  said_field kind.Probe = refl
+
+  -- it tells the window that v tells now
+  pub field : out.segment.window_len ≡ window_field v
+  field = ap (λ (s : Sending). s.segment.window_len) out_is ∙ said_field k ∙ (λ i. min (length ((begun_still.rx i).held) / 2 ^ begun_still.shift i) 65535)
 
   said_bit : (k : Kind) → IsSaid (sent_as b t k g).segment.control
   said_bit kind.KeepAlive = data_said b (length o.bytes)

@@ -30,8 +30,8 @@ use Rattle.tcp_laws.proofs.Probing.{ProbesIn, reached_probing}
 use Rattle.tcp_laws.proofs.Repeating.{empty_parts}
 use Rattle.progress_laws.specs.Agreement.{ForAnswer, ForKeepAlive, ForProbe, ForRepeat, IsSpeaker, Waits}
 use Rattle.progress_laws.specs.InStep.{told}
-use Rattle.progress_laws.specs.Speech.{DispatchesOk, GoesOn, SendsOk}
-use Rattle.progress_laws.proofs.Begins.{Alike, Same, and_no, beginning, carries_runs, content_is, fin_len, lent_for, not_empty, not_zero, quiet_so, readied_alike, same_again, same_then, segment_for, sends_so, some_or_none, timers_are}
+use Rattle.progress_laws.specs.Speech.{DispatchesOk, GoesOn}
+use Rattle.progress_laws.proofs.Begins.{Alike, Same, and_no, beginning, carries_runs, fin_len, lent_for, not_empty, not_zero, quiet_so, readied_alike, same_again, same_then, segment_for, sends_as, some_or_none, timers_are}
 use Rattle.progress_laws.proofs.Edges.{is_not_before, later_stays}
 use Rattle.progress_laws.proofs.Lends.{lent_some, marked_some, mss_some, probe_byte}
 use Rattle.progress_laws.proofs.Says.{AtFront, front_number, keep_alive_due, no_probe, probe_due}
@@ -127,14 +127,7 @@ module _ (d : Duration) (t : Tuple) (v : View) (f : Facts) (now : Instant) (mtu 
   g = segment_for b t None bytes
 
   goes_out : (k : Kind) → emission_kind b now g ≡ k → is_due b t fa false ≡ true → DispatchesOk fa false v (Some (sent_as b t k g)) (left b t now g opens k)
-  goes_out k e due = sends_so v t fa false on runs (Some (sent_as b t k g)) (left b t now g opens k) (ap (λ x. is_due x t fa false) b_is ∙ due) (subst (λ x. SendsOk fa t false x (Some (sent_as b t k g)) (left b t now g opens k)) (sym b_is) (record {
-    stamp = None;
-    told = refl;
-    bytes = bytes;
-    lent = refl;
-    sends = sym (content_is b t fa None bytes carries ∙ ap (λ c. Some (sent_as b t c g)) e);
-    view = refl;
-  }))
+  goes_out = sends_as v t fa on runs b b_is carries
 
   short : length bytes ≤ 65535
   unfolding asked

@@ -9,7 +9,7 @@
 #![tactic(auto)]
 
 ghost use Rattle.progress_laws.specs.AfterClose.{ClosedSenderFinishes};
-ghost use Rattle.progress_laws.specs.Agreement.{AgreeingBytesArrive, AgreeingFinArrives};
+ghost use Rattle.progress_laws.specs.Agreement.{AgreeingBytesArrive, AgreeingFinArrives, AgreeingStreamsArrive};
 ghost use Rattle.progress_laws.specs.BothWays.{BothWaysComplete, BothWaysFinish, SendingKeepsInStep};
 ghost use Rattle.progress_laws.specs.Delivery.{CountedFinIsHeard, DeliveryMoves};
 ghost use Rattle.progress_laws.specs.FromOpening.{HandshakeBringsInStep, OpenedPairCompletes};
@@ -116,6 +116,12 @@ pub fn agreeing_bytes_arrive()
 /// answer `Finished`.
 pub fn agreeing_fin_arrives()
     ensures { AgreeingFinArrives }
+{}
+
+/// And both streams come over where both sides speak, the first of them not closed (`AgreeBothWays`): first all bytes of
+/// the one, and then all of the other, and its FIN, where that was closed.
+pub fn agreeing_streams_arrive()
+    ensures { AgreeingStreamsArrive }
 {}
 
 /// A socket as `connect` leaves it sends its SYN; one as `listen` leaves it takes it, with the number that it draws,
