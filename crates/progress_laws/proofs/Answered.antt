@@ -38,7 +38,7 @@ use Rattle.progress_laws.proofs.Arrives.{CountsIt, Faces, HeardSo, away, cut_at_
 use Rattle.progress_laws.proofs.Begins.{and_no, not_zero, some_or_none}
 use Rattle.progress_laws.proofs.Spoken.{FinAlone, Stands, Still, WithBytes, ack, bit, reached_then, short, stands, still}
 
-carries_so : (st : State) → carries_data st ≡ true → is_synchronized st ≡ true
+pub carries_so : (st : State) → carries_data st ≡ true → is_synchronized st ≡ true
 carries_so state.Established e = refl
 carries_so state.CloseWait e = refl
 carries_so state.FinWait1 e = refl
@@ -46,13 +46,13 @@ carries_so state.Closing e = refl
 carries_so state.LastAck e = refl
 carries_so _ e = absurd cc
 
-no_syn : (st : State) → carries_data st ≡ true → syn_place st ≡ 0
+pub no_syn : (st : State) → carries_data st ≡ true → syn_place st ≡ 0
 no_syn state.SynSent e = absurd cc
 no_syn state.SynReceived e = absurd cc
 no_syn _ e = refl
 
 -- of bytes alone the FIN is not acknowledged
-not_fin : (st : State) (q n : ℕ) → n ≤ q → is_fin_acked st q n ≡ false
+pub not_fin : (st : State) (q n : ℕ) → n ≤ q → is_fin_acked st q n ≡ false
 not_fin st q n within = ap (λ b. (fin_place st == 1) && b) (go (n == q + 1) refl) ∙ and_no (fin_place st == 1)
   where
     go : (b : Bool) → (n == q + 1) ≡ b → (n == q + 1) ≡ false
@@ -132,7 +132,7 @@ module _ (u : View) (reached : IsReached u) (carries : carries_data u.state ≡ 
       window : window_of g.control g.window_len u.remote_win_scale ≡ g.window_len * 2 ^ scale_of u.remote_win_scale
       window = rw bit refl
 
-field_some : (w : View) → 2 ^ w.remote_win_shift ≤ length w.rx_buffer.held → 0 < window_field w
+pub field_some : (w : View) → 2 ^ w.remote_win_shift ≤ length w.rx_buffer.held → 0 < window_field w
 field_some w room = omega (arith, one)
   where
     one : 1 ≤ length w.rx_buffer.held / 2 ^ w.remote_win_shift

@@ -1,6 +1,6 @@
 -- What a socket that still takes bytes makes of a segment at the left edge of its window, or from before it.
-use Rattle.std.proofs.Common.{◌≡◌, ℕ, ◌+◌, ◌-◌, ◌<◌, ◌≤◌, ◌^◌, ◌⊎◌, inl, inr, Bool, true, false, ◌&&◌, ◌||◌, refl, sym, ap, subst, ◌∙◌, List, length, min, Option, Some, None, arith, length-append}
-use Rattle.std.specs.Prelude.{int_lt, if◌then◌else◌, ◌++◌}
+use Rattle.std.proofs.Common.{◌≡◌, ℕ, ◌+◌, ◌-◌, ◌<◌, ◌≤◌, ◌^◌, ◌⊎◌, inl, inr, Bool, true, false, ◌&&◌, ◌||◌, refl, sym, ap, subst, ◌∙◌, List, length, min, Option, Some, None, arith, length-append, take, drop, length-take}
+use Rattle.std.specs.Prelude.{int_lt, if◌then◌else◌, ◌++◌, Ok}
 use Rattle.std.proofs.lemmas.Bool.{and_parts, eq-eqb, eqb-true}
 use Rattle.ip_wire.specs.declared.repr.IpRepr.{IpRepr}
 use Rattle.net_base.specs.declared.time.Instant.{Instant}
@@ -12,12 +12,12 @@ use Rattle.control_wire.specs.declared.tcp.TcpControl.TheVariants as control
 use Rattle.sock_core.proofs.Receiving.{joins_all_at_once}
 use Rattle.sock_core.specs.Received.{JoinsAtOnce, Received, taken_in}
 use Rattle.sock_core.specs.Seq.{is_before, is_not_after, later_of}
-use Rattle.sock_tcp.proofs.Windows.{end_small, far, length-cut, not_after, start_small, window_width}
+use Rattle.sock_tcp.proofs.Windows.{end_small, far, length-cut, not_after, not_far, start_small, window_width}
 use Rattle.sock_tcp.specs.Acked.{acked_of}
 use Rattle.sock_tcp.specs.Advance.{Advance, advance_in, advanced, counted_control, fin_counted, waiting}
 use Rattle.sock_tcp.specs.Process.{Outcome, ack_sent, after_advance, challenged, after_table, bytes_taken, close_restarted, has_window, outside, outside_by, processed, processed_inside, stopped, timer_restarted, tuple_of}
 use Rattle.sock_tcp.specs.Queue.{shortened}
-use Rattle.sock_tcp.specs.Queues.{receives}
+use Rattle.sock_tcp.specs.Queues.{receives, read_off, readable}
 use Rattle.sock_tcp.specs.Replies.{ack_segment, sack_range}
 use Rattle.sock_tcp.specs.Steps.{ack_counted, ack_heard, acknowledged, duplicate_counted, heard, is_duplicate, is_window_changed, released, timer_set, timestamp_taken, una_advanced, window_of, window_taken}
 use Rattle.sock_tcp.specs.Verdict.{fin_place, open_verdict, verdict_at, verdict_of}
@@ -34,8 +34,11 @@ use Rattle.sock_tcp.specs.declared.verdict.Verdict.TheVariants as verdicts
 use Rattle.sock_tcp.specs.declared.window.Cut.{Cut}
 use Rattle.sock_tcp.specs.declared.window.Window.{Window}
 use Rattle.tcp_laws.proofs.Frames.{brought, bytes_keep, heard_keeps, table_keeps}
-use Rattle.progress_laws.proofs.Begins.{not_zero}
-use Rattle.progress_laws.proofs.Edges.{empty_inside_so, is_earlier, is_not_before, same_seq}
+use Rattle.tcp_laws.specs.Polling.{IsReached}
+use Rattle.tcp_laws.specs.SocketRun.{RecvSlice, handed_slice, with_handed}
+use Rattle.progress_laws.proofs.Widths.{start_is}
+use Rattle.progress_laws.proofs.Begins.{not_zero, step_reached}
+use Rattle.progress_laws.proofs.Edges.{empty_inside_so, is_earlier, is_not_before, same_seq, old_outside}
 use Rattle.progress_laws.proofs.Spoken.{IsSaid}
 
 -- ---- synchronized states
@@ -150,6 +153,19 @@ module _ (w : Window) (start_there : w.start.0 < 2 ^ 32) (end_there : w.end.0 < 
   unfolding cut_of
   cut_at_edge = ap (λ m. seq_sub m w.start) at_edge ∙ omega (arith, start_there)
 
+  pub skip_at_edge : (cut_of w number n).skip ≡ seq_sub w.start number
+  unfolding cut_of
+  skip_at_edge = ap (λ m. seq_sub m number) at_edge
+
+  -- all of what lies behind the left edge, where the right one does not lie before its end
+  pub count_to_end : is_before w.end (seq_add number n) ≡ false → seq_sub w.start number ≤ n → (cut_of w number n).count ≡ n - seq_sub w.start number
+  unfolding cut_of
+  count_to_end e within = ap (λ m. seq_sub (cut_end w (seq_add number n)) m) at_edge ∙ go (is_before (seq_add number n) w.end) refl
+    where
+      go : (b : Bool) → is_before (seq_add number n) w.end ≡ b → seq_sub (if b then seq_add number n else w.end) w.start ≡ n - seq_sub w.start number
+      go true f = omega (arith, within, near, short, small, start_there)
+      go false f = omega (arith, within, near, short, small, start_there, end_there, not_far (seq_add number n) w.end f, not_far w.end (seq_add number n) e)
+
   pub cut_some : full_inside w number (seq_add number n) ≡ true → 0 < min (cut_of w number n).count (n - (cut_of w number n).skip)
   unfolding cut_of
   cut_some inside = subst (λ m. 0 < min (seq_sub (cut_end w (seq_add number n)) m) (n - seq_sub m number)) (sym at_edge) (go (seq_eq w.start w.end) refl)
@@ -187,6 +203,35 @@ module _ (w : Window) (start_there : w.start.0 < 2 ^ 32) (end_there : w.end.0 < 
       apart true e = let same = eqb-true w.start.0 w.end.0 e in absurd (omega (arith, same, open_, start_there, end_there))
       apart false e = e
 
+-- a read is a call
+pub reads_reached : (w : View) (n : ℕ) → receives w.state ≡ true → n ≤ length w.rx_buffer.bytes → IsReached w → IsReached (read_off w n)
+reads_reached w n takes few r = step_reached w (read_off w n) (with_handed r.counts (handed_slice bs' (Ok (length bs)))) r (RecvSlice bs bs' (Ok (length bs)) (record {
+  answer = rw takes (ap Ok (sym all));
+  view = rw takes (ap (read_off w) (sym size));
+  read = refl;
+  refused = tt;
+}) refl)
+  where
+    bs : List ℕ
+    bs = take n w.rx_buffer.bytes
+
+    long : length bs ≡ n
+    long = length-take n w.rx_buffer.bytes ∙ omega (arith, few)
+
+    bs' : List ℕ
+    bs' = take (length bs) w.rx_buffer.bytes ++ drop (length bs) bs
+
+    all : readable w (length bs) ≡ length bs
+    all = omega (arith, long, few)
+
+    size : readable w (length bs) ≡ n
+    size = omega (arith, long, few)
+
+-- what lies before the window is outside of it
+pub before_window : (w : View) (g : Segment) → seq_sub (receive_window w).end (receive_window w).start ≤ 2 ^ 30 → 0 < length g.payload → g.seq_number.0 < 2 ^ 32 → 0 < seq_sub (next_ack w) g.seq_number → seq_sub (next_ack w) g.seq_number < 2 ^ 31 → seq_sub (next_ack w) (seq_add g.seq_number (length g.payload)) < 2 ^ 31 → is_inside (receive_window w) g.seq_number (length g.payload) ≡ false
+unfolding is_inside
+before_window w g narrow some there before near behind = rw (not_zero (length g.payload) some) (old_outside (receive_window w) (start_small w) (end_small w) narrow g.seq_number (seq_add g.seq_number (length g.payload)) there (subst (λ m. 0 < seq_sub m g.seq_number) (sym (start_is w)) before) (subst (λ m. seq_sub m g.seq_number < 2 ^ 31) (sym (start_is w)) near) (subst (λ m. seq_sub m (seq_add g.seq_number (length g.payload)) < 2 ^ 31) (sym (start_is w)) behind))
+
 -- ---- the state table
 
 -- control None or FIN
@@ -195,7 +240,7 @@ IsCounted control.None = Unit {0}
 IsCounted control.Fin = Unit {0}
 IsCounted c = ⊥
 
-counted_so : (c : TcpControl) (w : Window) (number : TcpSeqNumber) (n : ℕ) → IsSaid c → IsCounted (counted_control c w number n)
+pub counted_so : (c : TcpControl) (w : Window) (number : TcpSeqNumber) (n : ℕ) → IsSaid c → IsCounted (counted_control c w number n)
 unfolding counted_control
 counted_so control.None w number n d = tt
 counted_so control.Psh w number n d = tt
@@ -314,17 +359,17 @@ module _ (w : View) (k : TcpSeqNumber) (r : Faces w k) (now : Instant) (word : �
   -- ---- a FIN alone, in order
 
   module _ (fin : s.control ≡ control.Fin) (empty : length s.payload ≡ 0) (number : s.seq_number.0 ≡ (next_ack w).0) where
-    start_is : s.seq_number ≡ (receive_window w).start
+    number_is : s.seq_number ≡ (receive_window w).start
     unfolding receive_window
-    start_is = same_seq s.seq_number (next_ack w) number
+    number_is = same_seq s.seq_number (next_ack w) number
 
     inside : is_inside (receive_window w) s.seq_number (length s.payload) ≡ true
     unfolding is_inside
-    inside = rw (empty, start_is) (empty_inside_so (receive_window w) (start_small w) (end_small w) wide)
+    inside = rw (empty, number_is) (empty_inside_so (receive_window w) (start_small w) (end_small w) wide)
 
     counts : c ≡ control.Fin
     unfolding counted_control
-    counts = rw (fin, empty, start_is, left_edge, right_edge) refl
+    counts = rw (fin, empty, number_is, left_edge, right_edge) refl
       where
         left_edge : is_before (receive_window w).start (receive_window w).start ≡ false
         left_edge = is_not_before (receive_window w).start (receive_window w).start (omega (arith, start_small w))

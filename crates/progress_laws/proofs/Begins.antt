@@ -1,6 +1,7 @@
 -- How a dispatch begins once the timer is over, and what comes out of it.
 use Rattle.std.proofs.Common.{◌≡◌, ℕ, zero, suc, ◌+◌, ◌<◌, ◌≤◌, ◌^◌, ◌⊎◌, inl, inr, Bool, true, false, true≢false, ◌&&◌, refl, sym, ap, subst, ◌∙◌, List, length, take, drop, min, Option, Some, None, arith}
-use Rattle.std.specs.Prelude.{if◌then◌else◌, ◌==◌, option_map}
+use Rattle.std.specs.Prelude.{if◌then◌else◌, ◌==◌, option_map, ◌≤ℤ◌, int_le}
+use Rattle.std.proofs.lemmas.Int.{ints}
 use Rattle.std.proofs.lemmas.Bool.{eq-eqb, eqb-true}
 use Rattle.std.proofs.lemmas.Option.{none-some, same_Some}
 use Rattle.net_base.specs.Ring.{in_one_piece}
@@ -17,8 +18,10 @@ use Rattle.sock_tcp.specs.Content.{Sending, asked, carries_data, content, data_c
 use Rattle.sock_tcp.specs.Due.{is_closing, is_due}
 use Rattle.sock_tcp.specs.Process.{Outcome, processed}
 use Rattle.sock_tcp.specs.Polls.{is_reached, timeout_poll}
+use Rattle.sock_tcp.specs.Sent.{left_by}
 use Rattle.sock_tcp.specs.Timers.{idle_from, is_close_over, is_over}
 use Rattle.sock_tcp.specs.View.{View, moment_of}
+use Rattle.sock_tcp.specs.declared.emission.Kind.{Kind}
 use Rattle.sock_tcp.specs.declared.state.State.{State}
 use Rattle.sock_tcp.specs.declared.state.State.TheVariants as state
 use Rattle.sock_tcp.specs.declared.timer.Timer.{Timer}
@@ -44,6 +47,14 @@ not_zero n h = go (n == 0) refl
 pub some_or_none : (n : ℕ) → (n ≡ 0) ⊎ (0 < n)
 some_or_none zero = inl refl
 some_or_none (suc n) = inr (omega arith)
+
+-- the later of two moments
+pub later_moment : (a b : Instant) → (z : Instant) × (a.micros ≤ℤ z.micros) × (is_over b z ≡ true)
+later_moment a b = go (int_le b.micros a.micros) refl
+  where
+    go : (c : Bool) → int_le b.micros a.micros ≡ c → (z : Instant) × (a.micros ≤ℤ z.micros) × (is_over b z ≡ true)
+    go true e = (a, grind (arith, ints), e)
+    go false e = (b, grind (arith, ints, e), grind (arith, ints))
 
 -- ---- a further call
 
@@ -164,7 +175,7 @@ module _ (v : View) (t : Tuple) (f : Facts) (stamps : Bool) (h : GoesOn v t f) (
   still : Alike v x
   still = readied_alike v now
 
-  timers_are : after_timers x now ≡ beginning
+  pub timers_are : after_timers x now ≡ beginning
   unfolding after_timers
   timers_are = rw (alive, still.timer) refl
     where
@@ -238,6 +249,24 @@ segment_for u p stamp bytes = with_data u bytes (plain_segment u p stamp)
 pub content_is : (u : View) (p : Tuple) (f : Facts) (stamp : Option ℕ) (bytes : List ℕ) → carries_data u.state ≡ true → content u p f stamp bytes ≡ Some (sent_as u p (emission_kind u (moment_of f) (segment_for u p stamp bytes)) (segment_for u p stamp bytes))
 unfolding content
 content_is u p f stamp bytes c = ap (option_map (λ s. sent_as u p (emission_kind u (moment_of f) s) s)) (carries u.state u p f bytes (plain_segment u p stamp) c)
+
+-- what goes out of u, with which the dispatch begins, and what is left
+pub sends_as : (v : View) (t : Tuple) (f : Facts) (on : GoesOn v t f) (runs : is_paused v.state v.synack_paused ≡ false) (u : View) → beginning v t f false on runs ≡ u → carries_data u.state ≡ true → (k : Kind) → emission_kind u (moment_of f) (segment_for u t None (lent_for u t f)) ≡ k → is_due u t f false ≡ true
+    → DispatchesOk f false v (Some (sent_as u t k (segment_for u t None (lent_for u t f)))) (left_by (Some (sent_as u t k (segment_for u t None (lent_for u t f)))) u (moment_of f) true)
+sends_as v t f on runs u is c k e due = sends_so v t f false on runs out after (ap (λ x. is_due x t f false) is ∙ due) (subst (λ x. SendsOk f t false x out after) (sym is) (record {
+  stamp = None;
+  told = refl;
+  bytes = lent_for u t f;
+  lent = refl;
+  sends = sym (content_is u t f None (lent_for u t f) c ∙ ap (λ k. Some (sent_as u t k (segment_for u t None (lent_for u t f)))) e);
+  view = refl;
+}))
+  where
+    out : Option Sending
+    out = Some (sent_as u t k (segment_for u t None (lent_for u t f)))
+
+    after : View
+    after = left_by (Some (sent_as u t k (segment_for u t None (lent_for u t f)))) u (moment_of f) true
 
 -- and where it has no bytes to send any more
 pub content_waiting : (u : View) (p : Tuple) (f : Facts) (stamp : Option ℕ) (bytes : List ℕ) → u.state ≡ state.FinWait2 → segment_for u p stamp bytes ≡ plain_segment u p stamp → content u p f stamp bytes ≡ Some (sent_as u p (emission_kind u (moment_of f) (segment_for u p stamp bytes)) (segment_for u p stamp bytes))

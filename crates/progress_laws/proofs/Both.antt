@@ -22,11 +22,12 @@ use Rattle.progress_laws.specs.BothWays.{BothInStep, IsSide, window_told}
 use Rattle.progress_laws.specs.InStep.{ForAnswer, IsSender, Moves, NoMove, OneMore, told}
 use Rattle.progress_laws.proofs.Begins.{some_or_none}
 use Rattle.progress_laws.proofs.Edges.{reach_inside, same_seq}
-use Rattle.progress_laws.proofs.Receives.{NewPart, new_part, unit, unit_within}
+use Rattle.progress_laws.proofs.Receives.{NewPart, new_part}
 use Rattle.progress_laws.proofs.Rounds.{cut_and_rest}
-use Rattle.progress_laws.proofs.Sides.{Brought, HearsAnswer, brings_side, caught_side, hears_answer, room_small, told_alike, told_some, wide_so, width_told}
+use Rattle.progress_laws.proofs.Sides.{Brought, HearsAnswer, brings_side, caught_side, hears_answer, room_small, told_some, wide_so}
 use Rattle.progress_laws.proofs.Speaks.{SpeaksPlain}
 use Rattle.progress_laws.proofs.Takes.{IsCaughtUp, Took, old_answered, width_kept}
+use Rattle.progress_laws.proofs.Widths.{told_alike, unit, unit_within, width_told}
 
 -- ---- one step further
 

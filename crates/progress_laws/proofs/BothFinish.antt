@@ -32,14 +32,13 @@ use Rattle.progress_laws.specs.AfterClose.{IsCloser}
 use Rattle.progress_laws.specs.BothWays.{BothComplete, BothFinish, BothInStep, BothWaysFinish}
 use Rattle.progress_laws.specs.InStep.{told}
 use Rattle.progress_laws.proofs.Arrives.{CountsIt, Faces, fin_counts, fin_row, is_synchronized}
-use Rattle.progress_laws.proofs.Begins.{dispatch_reached, step_reached}
+use Rattle.progress_laws.proofs.Begins.{dispatch_reached, later_moment, step_reached}
 use Rattle.progress_laws.proofs.Sides.{open_rests, room_small, told_some, wide_so}
 use Rattle.progress_laws.proofs.BothRounds.{both_ways_complete, nothing_out}
 use Rattle.progress_laws.proofs.Closes.{SaysFin, closed_rests, closer_of, finished, says_fin}
 use Rattle.progress_laws.proofs.Edges.{is_not_before, later_all}
 use Rattle.progress_laws.proofs.Hears.{HeardAs, IsOpenTimer, IsSaid, all_no_duplicate, heard_as, heard_rests}
 use Rattle.progress_laws.proofs.Learns.{idle_rests}
-use Rattle.progress_laws.proofs.Rounds.{later_moment}
 use Rattle.progress_laws.proofs.Speaks.{wakes}
 use Rattle.progress_laws.proofs.States.{is_steady, not_listening}
 

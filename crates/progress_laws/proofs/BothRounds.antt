@@ -16,12 +16,12 @@ use Rattle.tcp_laws.proofs.Ordered.{IsOrdered, Row}
 use Rattle.tcp_laws.proofs.OrderedCalls.{reached_ordered}
 use Rattle.progress_laws.specs.BothWays.{BothComplete, BothInStep, BothWaysComplete, NextTurn, NoTurn, OfThat, OfThis, Turns}
 use Rattle.progress_laws.specs.InStep.{ForAnswer, ForKeepAlive, ForNothing, ForProbe, Moves, NoMove, OneMore, Rests}
-use Rattle.progress_laws.proofs.Begins.{some_or_none}
+use Rattle.progress_laws.proofs.Begins.{later_moment, some_or_none}
 use Rattle.progress_laws.proofs.Both.{Further, further, measure}
 use Rattle.progress_laws.proofs.Sides.{told_some}
 use Rattle.progress_laws.proofs.Edges.{same_seq}
 use Rattle.progress_laws.proofs.Probes.{no_window}
-use Rattle.progress_laws.proofs.Rounds.{joined, later_moment}
+use Rattle.progress_laws.proofs.Rounds.{joined}
 use Rattle.progress_laws.proofs.Speaks.{says_plain, wakes}
 
 -- ---- one way

@@ -31,9 +31,9 @@ use Rattle.tcp_laws.proofs.Ordered.{no_distance}
 use Rattle.tcp_laws.proofs.OrderedCalls.{reached_ordered}
 use Rattle.progress_laws.specs.AfterClose.{IsCloser}
 use Rattle.progress_laws.specs.InStep.{Completes, Finishes, ForAnswer, ForKeepAlive, ForNothing, ForProbe, IsReceiver, IsSender, OneWayFinishes, Rests, told}
-use Rattle.progress_laws.specs.Speech.{DispatchesOk, GoesOn, SendsOk}
-use Rattle.progress_laws.proofs.Begins.{carries_runs, content_is, lent_for, segment_for, sends_so, step_reached}
-use Rattle.progress_laws.proofs.Rounds.{later_moment, one_way_completes}
+use Rattle.progress_laws.specs.Speech.{DispatchesOk, GoesOn}
+use Rattle.progress_laws.proofs.Begins.{carries_runs, later_moment, lent_for, segment_for, sends_as, step_reached}
+use Rattle.progress_laws.proofs.Rounds.{one_way_completes}
 use Rattle.progress_laws.proofs.Says.{no_probe}
 use Rattle.progress_laws.proofs.Arrives.{CountsIt, Faces, fin_counts, receives_so}
 use Rattle.progress_laws.proofs.Spoken.{IsSaid, Still, sent_still, then_still}
@@ -159,20 +159,13 @@ module _ (d : Option Duration) (t : Tuple) (c : View) (f : Facts) (now : Instant
   says_fin = record {
     out = sent_as u t kind.Plain b;
     after = left_by (Some (sent_as u t kind.Plain b)) u now true;
-    dispatch = sends_so c t fa false on carries (Some (sent_as u t kind.Plain b)) (left_by (Some (sent_as u t kind.Plain b)) u now true) (ap (λ x. is_due x t fa false) (start.is on carries) ∙ due) (subst (λ x. SendsOk fa t false x (Some (sent_as u t kind.Plain b)) (left_by (Some (sent_as u t kind.Plain b)) u now true)) (sym (start.is on carries)) (record {
-      stamp = None;
-      told = refl;
-      bytes = bytes;
-      lent = refl;
-      sends = sym (content_is u t fa None bytes carries_on ∙ ap (λ k. Some (sent_as u t k b)) plain);
-      view = refl;
-    }));
+    dispatch = sends_as c t fa on carries u (start.is on carries) carries_on kind.Plain plain due;
     bit = fin;
     number = rw nothing_marked fr.nxt;
     ack = (λ i. Some (seq_add (fr.same.rcv i) (length ((fr.same.rx i).bytes))));
     empty = none;
     field = (λ i. min (length ((fr.same.rx i).held) / 2 ^ fr.same.shift i) 65535);
-    still = then_still c u (left_by (Some (sent_as u t kind.Plain b)) u now true) (record { state = fr.same.state; una = fr.same.una; tx = fr.same.tx; rx = fr.same.rx; rcv = fr.same.rcv }) (sent_still u now (emitted_as kind.Plain b));
+    still = then_still c u (left_by (Some (sent_as u t kind.Plain b)) u now true) (record { state = fr.same.state; una = fr.same.una; tx = fr.same.tx; rx = fr.same.rx; rcv = fr.same.rcv; shift = fr.same.shift }) (sent_still u now (emitted_as kind.Plain b));
   }
 
 -- ---- and is counted

@@ -11,11 +11,11 @@ use Rattle.sock_tcp.specs.declared.tuple.Tuple.{Tuple}
 use Rattle.tcp_laws.proofs.Probing.{ProbesIn, reached_probing}
 use Rattle.progress_laws.specs.AfterClose.{AfterClose, BringsAll, ClosedSenderFinishes}
 use Rattle.progress_laws.specs.InStep.{ForAnswer, ForKeepAlive, ForNothing, ForProbe, Moves, Rests}
-use Rattle.progress_laws.proofs.Begins.{some_or_none}
+use Rattle.progress_laws.proofs.Begins.{later_moment, some_or_none}
 use Rattle.progress_laws.proofs.Both.{measure}
 use Rattle.progress_laws.proofs.Closes.{says_fin}
 use Rattle.progress_laws.proofs.ClosingSays.{says_on}
-use Rattle.progress_laws.proofs.Rounds.{joined, later_moment}
+use Rattle.progress_laws.proofs.Rounds.{joined}
 use Rattle.progress_laws.proofs.Speaks.{IsNoProbe, wakes}
 use Rattle.progress_laws.proofs.ClosingRounds.{Onward, fin_alone, goes_on}
 

@@ -37,22 +37,23 @@ use Rattle.progress_laws.specs.AfterClose.{AfterClose, BringsAll}
 use Rattle.progress_laws.specs.BothWays.{window_told}
 use Rattle.progress_laws.specs.InStep.{Carries, ForAnswer, IsAnswered, Moves, NoMove, OneMore, Reads, Rests, told}
 use Rattle.progress_laws.proofs.Answered.{acked, heard_answer}
-use Rattle.progress_laws.proofs.Arrives.{CountsIt, Faces, away, fin_counts, receives_so}
+use Rattle.progress_laws.proofs.Arrives.{CountsIt, Faces, away, before_window, fin_counts, receives_so}
 use Rattle.progress_laws.proofs.Begins.{some_or_none, step_reached}
 use Rattle.progress_laws.proofs.Both.{measure}
-use Rattle.progress_laws.proofs.Sides.{room_small, told_alike, told_some, wide_so, width_told}
+use Rattle.progress_laws.proofs.Sides.{room_small, told_some, wide_so}
 use Rattle.progress_laws.proofs.Closes.{SaysFin, finished}
 use Rattle.progress_laws.proofs.ClosingSays.{SaysOn}
 use Rattle.progress_laws.proofs.Edges.{empty_inside_so, later_all, reach_inside, same_seq}
 use Rattle.progress_laws.proofs.Hears.{ForNone, ForRest, HeardAs, IsOpenTimer, ThenWaits, heard_as, heard_waits}
 use Rattle.progress_laws.proofs.LastBytes.{TookLast, took_last}
 use Rattle.progress_laws.proofs.Learns.{idle_rests}
-use Rattle.progress_laws.proofs.Receives.{NewPart, new_part, unit, unit_within}
+use Rattle.progress_laws.proofs.Receives.{NewPart, new_part}
 use Rattle.progress_laws.proofs.Rounds.{cut_and_rest}
 use Rattle.progress_laws.proofs.Spoken.{IsSaid}
 use Rattle.progress_laws.proofs.States.{closing_carries, not_listening as steady_listens, receives_steady}
-use Rattle.progress_laws.proofs.Takes.{IsCaughtUp, Took, before_window, fresh_bytes, takes, took, took_bytes, took_open, took_reached, took_so, width_kept}
+use Rattle.progress_laws.proofs.Takes.{IsCaughtUp, Took, fresh_bytes, takes, took, took_bytes, took_open, took_reached, took_so, width_kept}
 use Rattle.progress_laws.proofs.Taking.{read_out, take_all}
+use Rattle.progress_laws.proofs.Widths.{told_alike, unit, unit_within, width_told}
 
 -- ---- one step further
 

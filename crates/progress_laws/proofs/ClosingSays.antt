@@ -23,12 +23,12 @@ use Rattle.sock_tcp.specs.declared.tuple.Tuple.{Tuple}
 use Rattle.tcp_laws.proofs.Sleeping.{window_sends}
 use Rattle.progress_laws.specs.AfterClose.{IsCloser}
 use Rattle.progress_laws.specs.InStep.{ForAnswer, told}
-use Rattle.progress_laws.specs.Speech.{DispatchesOk, GoesOn, SendsOk}
-use Rattle.progress_laws.proofs.Begins.{and_no, carries_runs, content_is, dispatch_reached, lent_for, not_zero, segment_for, sends_so}
+use Rattle.progress_laws.specs.Speech.{DispatchesOk, GoesOn}
+use Rattle.progress_laws.proofs.Begins.{and_no, carries_runs, dispatch_reached, lent_for, not_zero, segment_for, sends_as}
 use Rattle.progress_laws.proofs.Hears.{IsData}
 use Rattle.progress_laws.proofs.Lends.{lent_some, mss_some}
-use Rattle.progress_laws.proofs.Sends.{left, plain_sent, plain_timer, plain_told}
-use Rattle.progress_laws.proofs.Speaks.{Begins, FromFront, Front, IsNoProbe, asked_so, begins, from_front, open_window, wakes}
+use Rattle.progress_laws.proofs.Sends.{left, open_window, plain_sent, plain_timer, plain_told}
+use Rattle.progress_laws.proofs.Speaks.{Begins, FromFront, Front, IsNoProbe, asked_so, begins, from_front, wakes}
 use Rattle.progress_laws.proofs.Spoken.{IsSaid, data_said}
 use Rattle.progress_laws.proofs.States.{closing_carries, closing_open}
 
@@ -125,14 +125,7 @@ module _ (d : Option Duration) (t : Tuple) (v : View) (f : Facts) (now : Instant
   after = left u t now b not_closed kind.Plain
 
   goes : DispatchesOk fa false v (Some (sent_as u t kind.Plain b)) after
-  goes = sends_so v t fa false on runs (Some (sent_as u t kind.Plain b)) after (ap (λ x. is_due x t fa false) (start.is on runs) ∙ due) (subst (λ x. SendsOk fa t false x (Some (sent_as u t kind.Plain b)) after) (sym (start.is on runs)) (record {
-    stamp = None;
-    told = refl;
-    bytes = bytes;
-    lent = refl;
-    sends = sym (content_is u t fa None bytes carries ∙ ap (λ c. Some (sent_as u t c b)) plain_kind);
-    view = refl;
-  }))
+  goes = sends_as v t fa on runs u (start.is on runs) carries kind.Plain plain_kind due
 
   long : 0 < segment_len b
   long = omega (arith, some)

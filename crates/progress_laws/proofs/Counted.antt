@@ -34,9 +34,8 @@ use Rattle.tcp_laws.proofs.OrderedCalls.{reached_ordered}
 use Rattle.tcp_laws.proofs.SocketSteps.{holds_after}
 use Rattle.progress_laws.specs.Delivery.{CountedFinIsHeard, EndsFin, HasCounted, HasSaid, has_counted}
 use Rattle.progress_laws.specs.Speech.{FromUna, KeepsAlive, Probes, Speech}
-use Rattle.progress_laws.proofs.Arrives.{Faces, HeardSo, away, away_empty, heard_so, is_synchronized, passes_so, synchronized_has}
+use Rattle.progress_laws.proofs.Arrives.{Faces, HeardSo, away, away_empty, before_window, heard_so, is_synchronized, passes_so, synchronized_has}
 use Rattle.progress_laws.proofs.Spoken.{Still, ack, bit, fin_alone, is_fin, queued, reached_then, still}
-use Rattle.progress_laws.proofs.Takes.{before_window}
 
 closing_synchronized : (st : State) → is_closing st ≡ true → is_synchronized st ≡ true
 closing_synchronized state.FinWait1 e = refl

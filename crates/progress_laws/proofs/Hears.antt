@@ -102,7 +102,7 @@ data_is_said control.None d = tt
 data_is_said control.Psh d = tt
 data_is_said _ d = absurd d
 
-scaled : (c : TcpControl) (n : ℕ) (scale : Option ℕ) → IsSaid c → window_of c n scale ≡ n * 2 ^ scale_of scale
+pub scaled : (c : TcpControl) (n : ℕ) (scale : Option ℕ) → IsSaid c → window_of c n scale ≡ n * 2 ^ scale_of scale
 scaled control.None n scale d = refl
 scaled control.Psh n scale d = refl
 scaled control.Fin n scale d = refl
@@ -124,7 +124,7 @@ IsOpenTimer (timer.Close at) = ⊥
 IsOpenTimer t = Unit {0}
 
 module _ (y : View) (now : Instant) (a : Acked) where
-  idle_ends : (keep : Option Duration) → probe_ended (idle_from now keep) y now ≡ idle_from now keep
+  pub idle_ends : (keep : Option Duration) → probe_ended (idle_from now keep) y now ≡ idle_from now keep
   idle_ends None = refl
   idle_ends (Some d) = refl
 

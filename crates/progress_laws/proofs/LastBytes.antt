@@ -25,9 +25,10 @@ use Rattle.sock_tcp.specs.declared.state.State.TheVariants as state
 use Rattle.progress_laws.proofs.Arrives.{Faces, HeardSo, heard_so, in_window}
 use Rattle.progress_laws.proofs.Begins.{not_zero}
 use Rattle.progress_laws.proofs.Edges.{cut_at, is_not_before, tail_cut, tail_inside}
-use Rattle.progress_laws.proofs.Receives.{NewPart, start_is}
+use Rattle.progress_laws.proofs.Receives.{NewPart}
 use Rattle.progress_laws.proofs.Spoken.{IsSaid}
 use Rattle.progress_laws.proofs.Taking.{at_once, blank, blank_holds_nothing, read_bytes, take_all, taken_bytes, taken_held}
+use Rattle.progress_laws.proofs.Widths.{start_is}
 
 -- ys were taken, and nothing comes behind them
 pub record TookLast (ys : List ℕ) (o : Outcome) : Type 0 where

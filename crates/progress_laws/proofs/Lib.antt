@@ -19,6 +19,7 @@ pub mod Arrives
 pub mod Closes
 pub mod Answered
 pub mod Takes
+pub mod Widths
 pub mod Sides
 pub mod Both
 pub mod BothRounds
@@ -30,6 +31,15 @@ pub mod ClosingAll
 pub mod BothFinish
 pub mod ShutRounds
 pub mod Counted
+pub mod Talks
+pub mod Heeds
+pub mod Matches
+pub mod Agrees
+pub mod Delivers
+pub mod Utters
+pub mod Comes
+pub mod Arrivals
+pub mod Streams
 pub mod Repeats
 pub mod SynSteps
 pub mod NewPair

@@ -23,9 +23,9 @@ use Rattle.progress_laws.specs.BothWays.{BothInStep, IsSide, Toward, window_told
 use Rattle.progress_laws.specs.InStep.{ForKeepAlive, ForNothing, Rests}
 use Rattle.progress_laws.proofs.Sides.{room_small, told_some, wide_so}
 use Rattle.progress_laws.proofs.Edges.{is_not_before, same_seq}
-use Rattle.progress_laws.proofs.Receives.{unit}
-use Rattle.progress_laws.proofs.SynSteps.{shift_within}
 use Rattle.progress_laws.proofs.Taking.{blank}
+use Rattle.progress_laws.proofs.Widths.{unit}
+use Rattle.tcp_laws.proofs.Scaled.{shift_within}
 
 -- ---- what a SYN tells of a window, which it does not shift
 

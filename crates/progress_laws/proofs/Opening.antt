@@ -44,7 +44,8 @@ use Rattle.progress_laws.proofs.NewPair.{Agree, IsNew, new_in_step, none_back, n
 use Rattle.progress_laws.proofs.Owed.{Kept, acknowledges, after, field_is, kept_then, next_is, not_yet, out_of, tells}
 use Rattle.progress_laws.proofs.Receives.{Owes, Tells}
 use Rattle.progress_laws.proofs.Repeats.{NotSent, Repeats, SendsSyn, SynGoesOut, ack_then, begun_so, delay_then, opening_listens, out_of as syn_out, segment, sends, sent as syn_sent, sent_so, u as before_syn, waits_then, window_then}
-use Rattle.progress_laws.proofs.SynSteps.{HasTakenSyn, IsNewListener, ack_passes, acked_data, answer_passes, header_dst, heard_delay, heard_idle, opened, received_so, syn_passes, taken_within}
+use Rattle.progress_laws.proofs.SynSteps.{HasTakenSyn, IsNewListener, ack_passes, acked_data, answer_passes, header_dst, heard_delay, heard_idle, opened, received_so, syn_passes}
+use Rattle.tcp_laws.proofs.Scaled.{taken_within}
 
 pub room_cleared : (b : Received) → length (cleared b).held ≡ room_of b
 unfolding cleared

@@ -37,7 +37,8 @@ use Rattle.progress_laws.proofs.Says.{keep_alive_due, no_probe}
 use Rattle.progress_laws.proofs.Sends.{kept_delay, kept_nxt, kept_sent, kept_timer, kept_untold, left, plain_sent, plain_timer, plain_told, segment_ack, segment_bit, segment_length, segment_number, segment_window, without_bytes}
 use Rattle.progress_laws.proofs.States.{flat_on, flat_open, is_flat, takes_flat, takes_runs}
 use Rattle.progress_laws.proofs.Taking.{blank}
-use Rattle.progress_laws.proofs.Receives.{Owes, Tells, told_window, unit, unit_some}
+use Rattle.progress_laws.proofs.Receives.{Owes, Tells}
+use Rattle.progress_laws.proofs.Widths.{told_window, unit, unit_some}
 
 -- ---- the acknowledgement that is owed
 

@@ -1,6 +1,5 @@
 -- What a receiver in step does with a segment.
-use Rattle.std.proofs.Common.{◌≡◌, ℕ, ◌+◌, ◌-◌, ◌*◌, ◌/◌, ◌<◌, ◌≤◌, ◌^◌, true, false, refl, sym, ap, subst, ◌∙◌, List, [], length, take, drop, min, Option, Some, None, arith, length-drop, div-mul-le_self, mul-le-mul_right, mul-pos}
-use Rattle.std.proofs.lemmas.Nat.{le-div, pow_pos}
+use Rattle.std.proofs.Common.{◌≡◌, ℕ, ◌+◌, ◌-◌, ◌*◌, ◌/◌, ◌<◌, ◌≤◌, ◌^◌, true, false, refl, sym, ap, subst, ◌∙◌, List, [], length, take, drop, min, Option, Some, None, arith, length-drop}
 use Rattle.std.proofs.lemmas.List.{length-replicate}
 use Rattle.std.specs.Option.{ForSome}
 use Rattle.net_base.specs.declared.time.Instant.{Instant}
@@ -17,34 +16,19 @@ use Rattle.sock_tcp.specs.Queues.{read_off}
 use Rattle.sock_tcp.specs.Replies.{ack_kept, ack_segment}
 use Rattle.sock_tcp.specs.Steps.{ack_delayed, heard, joined, scale_of}
 use Rattle.sock_tcp.specs.View.{View}
-use Rattle.sock_tcp.specs.Window.{cut_bytes, cut_of, is_inside, kept_between, next_ack, receive_window, window_end}
+use Rattle.sock_tcp.specs.Window.{cut_bytes, cut_of, is_inside, next_ack, receive_window}
 use Rattle.sock_tcp.specs.declared.timer.Timer.TheVariants as timer
 use Rattle.sock_tcp.specs.declared.tuple.Tuple.{Tuple}
 use Rattle.sock_tcp.specs.declared.window.Cut.{Cut}
 use Rattle.progress_laws.specs.InStep.{IsReceiver, takes_bytes}
 use Rattle.progress_laws.proofs.Begins.{not_zero}
-use Rattle.progress_laws.proofs.Edges.{cut_at, is_not_before, later_stays, old_outside, shut_outside, tail_cut, tail_inside, told_edge}
+use Rattle.progress_laws.proofs.Edges.{cut_at, is_not_before, later_stays, old_outside, shut_outside, tail_cut, tail_inside}
 use Rattle.progress_laws.proofs.Hears.{HeardAs, IsData, all_no_duplicate, data_is_said, answered_outside, covered, heard_as, heard_inside, heard_rests_empty, idle_is, idle_moment, seen}
 use Rattle.progress_laws.proofs.States.{flat_steady, is_steady, takes_flat}
 use Rattle.progress_laws.proofs.Taking.{at_once, blank, blank_holds_nothing, read_bytes, read_held, take_all, taken_bytes, taken_held}
+use Rattle.progress_laws.proofs.Widths.{start_is, told_window, unit_some}
 
 -- ---- what is told
-
--- with room for so many bytes, and a shift, the window field tells at least one unit and no more than there is
-abbrev pub unit : ℕ → ℕ → ℕ
-unit room shift = min (room / 2 ^ shift) 65535 * 2 ^ shift
-
-pub unit_within : (room shift : ℕ) → unit room shift ≤ room
-unit_within room shift =
-    let a = mul-le-mul_right {m = min (room / 2 ^ shift) 65535} {n = room / 2 ^ shift} (2 ^ shift) (omega arith) in
-    let b = div-mul-le_self room (2 ^ shift) in
-    omega (arith, a, b)
-
-pub unit_some : (room shift : ℕ) → 2 ^ shift ≤ room → 0 < unit room shift
-unit_some room shift h = mul-pos (omega (arith, one)) (pow_pos shift)
-  where
-    one : 1 ≤ room / 2 ^ shift
-    one = le-div 1 room (2 ^ shift) (pow_pos shift) (omega (arith, h))
 
 -- the receiver w' has told all, in this segment
 pub record Tells (w w' : View) (s : Tuple) (g : Segment) : Type 0 where
@@ -78,19 +62,6 @@ pub record Owes (s : Tuple) (w : View) (room n : ℕ) (y : View) : Type 0 where
   pub last_ack : y.remote_last_ack ≡ Some last
   pub near : seq_sub (next_ack w) last ≤ 2 ^ 30
   pub next : (next_ack y).0 ≡ (seq_add (next_ack w) n).0
-
--- the window of a socket that told its window field with RCV.NXT
-pub told_window : (w : View) (room : ℕ) → length w.rx_buffer.held ≡ room → room ≤ 2 ^ 30 → w.remote_last_ack ≡ Some (next_ack w) → w.remote_last_win ≡ min (room / 2 ^ w.remote_win_shift) 65535
-    → seq_sub (receive_window w).end (receive_window w).start ≡ unit room w.remote_win_shift
-unfolding receive_window
-told_window w room wide narrow ack field =
-    ap (λ o. seq_sub (window_end w o) (next_ack w)) ack
-    ∙ (λ i. seq_sub (kept_between (next_ack w) (seq_add (next_ack w) (wide i)) (seq_add (next_ack w) (field i * 2 ^ w.remote_win_shift))) (next_ack w))
-    ∙ told_edge (next_ack w) room (unit room w.remote_win_shift) (omega arith) (unit_within room w.remote_win_shift) narrow
-
-pub start_is : (w : View) → (receive_window w).start ≡ next_ack w
-unfolding receive_window
-start_is w = refl
 
 -- behind its first j bytes, which w has, the segment g has m bytes that are new and fit
 pub record NewPart (w : View) (g : Segment) (j m : ℕ) : Type 0 where

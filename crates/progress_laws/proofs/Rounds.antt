@@ -1,6 +1,6 @@
 -- One round of two sockets in step, and all of them.
 use Rattle.std.proofs.Common.{◌≡◌, ℕ, zero, suc, ◌+◌, ◌-◌, ◌<◌, ◌≤◌, ◌^◌, ◌⊎◌, inl, inr, Bool, true, false, true≢false, refl, sym, ap, subst, ◌∙◌, List, [], ◌∷◌, ◌++◌, length, take, drop, Option, Some, None, is_some, arith, append_assoc, length-drop}
-use Rattle.std.specs.Prelude.{◌≤ℤ◌, int_le}
+use Rattle.std.specs.Prelude.{◌≤ℤ◌}
 use Rattle.std.proofs.lemmas.Int.{ints}
 use Rattle.std.proofs.lemmas.List.{append-nil, take-append-drop}
 use Rattle.net_base.specs.declared.time.Duration.{Duration}
@@ -28,7 +28,7 @@ use Rattle.sock_tcp.specs.declared.tuple.Tuple.{Tuple}
 use Rattle.tcp_laws.proofs.OrderedCalls.{reached_ordered}
 use Rattle.progress_laws.specs.Speech.{DispatchesOk}
 use Rattle.progress_laws.specs.InStep.{Carries, CarriesBack, Completes, ForAnswer, ForKeepAlive, ForNothing, ForProbe, GoesAstray, InStep, IsAnswered, IsLost, Moves, NoMove, OneMore, OneWayCompletes, Reads, Rests, told}
-use Rattle.progress_laws.proofs.Begins.{some_or_none}
+use Rattle.progress_laws.proofs.Begins.{later_moment, some_or_none}
 use Rattle.progress_laws.proofs.Edges.{same_seq}
 use Rattle.progress_laws.proofs.Owed.{acknowledges, after, kept_out, late_then, next_is, not_over_then, out_of, renewed, renews, still_owes, tells}
 use Rattle.progress_laws.proofs.Receives.{NewPart, Owes, Tells, answers, fresh_length, new_part, old_away, owes, room_for, shut_away, takes, took, took_bytes}
@@ -38,13 +38,6 @@ use Rattle.progress_laws.proofs.Told.{heard_view, hears, in_step_again, nothing_
 use Rattle.progress_laws.proofs.Taking.{read_out}
 
 -- ---- one round
-
-pub later_moment : (a b : Instant) → (z : Instant) × (a.micros ≤ℤ z.micros) × (is_over b z ≡ true)
-later_moment a b = go (int_le b.micros a.micros) refl
-  where
-    go : (c : Bool) → int_le b.micros a.micros ≡ c → (z : Instant) × (a.micros ≤ℤ z.micros) × (is_over b z ≡ true)
-    go true e = (a, grind (arith, ints), e)
-    go false e = (b, grind (arith, ints, e), grind (arith, ints))
 
 -- a moment at which an acknowledgement may wait no longer
 late_moment : (a : Instant) (t : AckDelayTimer) → (z : Instant) × (a.micros ≤ℤ z.micros) × (is_reached (delay_poll t) z ≡ true)

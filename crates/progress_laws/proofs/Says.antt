@@ -49,7 +49,7 @@ AtFront v = (v.pending_fast_retransmit ≡ true) ⊎ (v.remote_last_seq ≡ v.lo
 -- ---- what an emission says
 
 -- the number of the segment, where it stands at SND.UNA
-front_number : (b : Bool) (una nxt : TcpSeqNumber) → (b ≡ true) ⊎ (nxt ≡ una) → (if b then una else nxt) ≡ una
+pub front_number : (b : Bool) (una nxt : TcpSeqNumber) → (b ≡ true) ⊎ (nxt ≡ una) → (if b then una else nxt) ≡ una
 front_number true una nxt h = refl
 front_number false una nxt (inl e) = absurd (true≢false (sym e))
 front_number false una nxt (inr e) = e

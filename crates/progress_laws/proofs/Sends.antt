@@ -6,7 +6,7 @@ use Rattle.control_wire.specs.Segment.{Segment, control_len, is_empty_segment, i
 use Rattle.control_wire.specs.Seq.{seq_add}
 use Rattle.control_wire.specs.declared.tcp.TcpControl.{TcpControl}
 use Rattle.control_wire.specs.declared.tcp.TcpControl.TheVariants as control
-use Rattle.sock_core.specs.Congestion.{post_transmitted}
+use Rattle.sock_core.specs.Congestion.{post_transmitted, congestion_window}
 use Rattle.sock_core.specs.Estimator.{sent}
 use Rattle.sock_core.specs.Seq.{later_of}
 use Rattle.sock_tcp.specs.Content.{carries_data, data_control, emission_kind, is_probing, offset_of, plain_segment, sent_as}
@@ -20,6 +20,9 @@ use Rattle.sock_tcp.specs.declared.emission.Kind.{Kind}
 use Rattle.sock_tcp.specs.declared.emission.Kind.TheVariants as kind
 use Rattle.sock_tcp.specs.declared.timer.AckDelayTimer.TheVariants as ack_delay
 use Rattle.sock_tcp.specs.declared.tuple.Tuple.{Tuple}
+use Rattle.sock_core.specs.declared.congestion.AnyController.{AnyController}
+use Rattle.sock_core.specs.declared.congestion.AnyController.TheVariants as controller
+use Rattle.tcp_laws.proofs.Ordered.{IsOpen}
 use Rattle.progress_laws.proofs.Begins.{Same, and_no, not_zero, segment_for}
 use Rattle.progress_laws.proofs.Hears.{IsData}
 use Rattle.progress_laws.proofs.States.{flat_on, is_flat}
@@ -42,6 +45,15 @@ pub record TellsAs (u : View) (s : Segment) (w : View) : Type 0 where
 pub record Untold (u w : View) : Type 0 where
   pub last_ack : w.remote_last_ack ≡ u.remote_last_ack
   pub last_win : w.remote_last_win ≡ u.remote_last_win
+
+-- the own window is told, with RCV.NXT
+pub record HasTold (v x : View) : Type 0 where
+  pub last_ack : x.remote_last_ack ≡ Some (next_ack v)
+  pub last_win : x.remote_last_win ≡ window_field v
+
+pub open_window : (c : AnyController) → IsOpen c → 0 < congestion_window c
+open_window (controller.None x) h = omega arith
+open_window (controller.Reno r) h = h.cwnd
 
 module _ (u : View) (p : Tuple) (now : Instant) (s : Segment) (not_closed : is_closed u.state ≡ false) where
   abbrev pub left : Kind → View

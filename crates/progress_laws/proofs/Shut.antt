@@ -18,41 +18,23 @@ use Rattle.sock_tcp.specs.Replies.{ack_kept, ack_segment}
 use Rattle.sock_tcp.specs.Steps.{scale_of}
 use Rattle.sock_tcp.specs.Timers.{after as moment_after, is_over, twice}
 use Rattle.sock_tcp.specs.View.{View}
-use Rattle.sock_tcp.specs.Window.{is_inside, kept_between, next_ack, receive_window, window_end}
+use Rattle.sock_tcp.specs.Window.{is_inside, next_ack, receive_window}
 use Rattle.sock_tcp.specs.declared.timer.Timer.TheVariants as timer
 use Rattle.sock_tcp.specs.declared.tuple.Tuple.{Tuple}
 use Rattle.tcp_laws.proofs.OrderedCalls.{reached_ordered}
 use Rattle.progress_laws.specs.BothWays.{IsSide, Toward, window_told}
 use Rattle.progress_laws.specs.InStep.{ForAnswer, ForKeepAlive, ForNothing, ForProbe, GoesAstray, Moves, NoMove, OneMore, Rests, told as told_at}
 use Rattle.progress_laws.specs.ShutWindows.{SidesShut, CanHear, KnowsOne, TowardShut, WillAsk, width}
-use Rattle.progress_laws.proofs.Begins.{not_zero, some_or_none}
+use Rattle.progress_laws.proofs.Begins.{later_moment, not_zero, some_or_none}
 use Rattle.progress_laws.proofs.Edges.{empty_inside_so, reach_inside, same_seq, shut_outside}
 use Rattle.progress_laws.proofs.Hears.{answered_outside}
 use Rattle.progress_laws.proofs.Probes.{probe_again, probe_field, probe_one, probe_shift, probe_tells_nothing, probe_unsent, probe_window_known, says_probe}
-use Rattle.progress_laws.proofs.Receives.{start_is}
-use Rattle.progress_laws.proofs.Rounds.{cut_and_rest, joined, later_moment}
-use Rattle.progress_laws.proofs.Sends.{Untold}
-use Rattle.progress_laws.proofs.Sides.{Brought, HearsAnswer, brings_side, caught_side, hears_answer, side_narrow, told_alike, told_some, wide_so, width_told}
-use Rattle.progress_laws.proofs.Speaks.{FallsSilent, HasTold, Speaks, SpeaksBytes, SpeaksNothing, falls_silent, says_nothing, wakes}
+use Rattle.progress_laws.proofs.Rounds.{cut_and_rest, joined}
+use Rattle.progress_laws.proofs.Sends.{HasTold, Untold}
+use Rattle.progress_laws.proofs.Sides.{Brought, HearsAnswer, brings_side, caught_side, hears_answer, side_narrow, told_some, wide_so}
+use Rattle.progress_laws.proofs.Speaks.{FallsSilent, Speaks, SpeaksBytes, SpeaksNothing, falls_silent, says_nothing, wakes}
 use Rattle.progress_laws.proofs.Takes.{IsCaughtUp, Took, old_answered}
-
--- ---- the receive window of a socket that told nothing
-
-edge_of : Option TcpSeqNumber → TcpSeqNumber → Received → ℕ → ℕ → TcpSeqNumber
-edge_of None rcv rx win shift = seq_add rcv (length rx.bytes)
-edge_of (Some a) rcv rx win shift = kept_between (seq_add rcv (length rx.bytes)) (seq_add (seq_add rcv (length rx.bytes)) (length rx.held)) (seq_add a (win * 2 ^ shift))
-
-edge_is : (v : View) (o : Option TcpSeqNumber) → window_end v o ≡ edge_of o v.remote_seq_no v.rx_buffer v.remote_last_win v.remote_win_shift
-unfolding edge_of
-edge_is v None = refl
-edge_is v (Some a) = refl
-
-same_width : (v y : View) → y.rx_buffer ≡ v.rx_buffer → y.remote_seq_no ≡ v.remote_seq_no → y.remote_win_shift ≡ v.remote_win_shift → y.remote_last_ack ≡ v.remote_last_ack → y.remote_last_win ≡ v.remote_last_win → seq_sub (receive_window y).end (receive_window y).start ≡ seq_sub (receive_window v).end (receive_window v).start
-unfolding receive_window
-same_width v y rx rcv shift ack win =
-    ap (λ e. seq_sub e (next_ack y)) (edge_is y y.remote_last_ack)
-    ∙ (λ i. seq_sub (edge_of (ack i) (rcv i) (rx i) (win i) (shift i)) (seq_add (rcv i) (length ((rx i).bytes))))
-    ∙ ap (λ e. seq_sub e (next_ack v)) (sym (edge_is v v.remote_last_ack))
+use Rattle.progress_laws.proofs.Widths.{same_width, start_is, told_alike, width_told}
 
 -- ---- it asked, and knows a window
 

@@ -1,5 +1,5 @@
 -- What a side tells, what it hears of an answer to it, and what it takes.
-use Rattle.std.proofs.Common.{◌≡◌, ℕ, ◌*◌, ◌/◌, ◌<◌, ◌≤◌, ◌^◌, true, false, refl, sym, ap, subst, ◌∙◌, List, ◌++◌, length, drop, min, Option, Some, None, arith}
+use Rattle.std.proofs.Common.{◌≡◌, ℕ, ◌*◌, ◌<◌, ◌≤◌, ◌^◌, true, false, refl, sym, ap, subst, ◌∙◌, List, ◌++◌, length, drop, Option, Some, None, arith}
 use Rattle.std.specs.Prelude.{◌≤ℤ◌}
 use Rattle.std.proofs.lemmas.Int.{ints}
 use Rattle.std.proofs.lemmas.List.{length-replicate}
@@ -30,11 +30,12 @@ use Rattle.progress_laws.proofs.Begins.{numbered_as, segment_reached}
 use Rattle.progress_laws.proofs.Edges.{same_seq}
 use Rattle.progress_laws.proofs.Hears.{HeardAs, IsData, IsOpenTimer}
 use Rattle.progress_laws.proofs.Learns.{Learnt, idle_rests, learnt}
-use Rattle.progress_laws.proofs.Receives.{NewPart, told_window, unit, unit_some}
+use Rattle.progress_laws.proofs.Receives.{NewPart}
 use Rattle.progress_laws.proofs.Speaks.{Speaks}
 use Rattle.progress_laws.proofs.States.{is_steady, not_listening, sends_flat}
 use Rattle.progress_laws.proofs.Takes.{IsCaughtUp, Took, fresh_bytes, takes, took, took_bytes, took_reached, took_rests, took_so}
 use Rattle.progress_laws.proofs.Taking.{blank, read_out}
+use Rattle.progress_laws.proofs.Widths.{unit_some, width_told}
 
 -- ---- what a side tells
 
@@ -46,15 +47,6 @@ room_small y room held r = omega (arith, wide_so y room held, (holds_after r.rx 
 
 pub told_some : (y : View) (room : ℕ) → y.rx_buffer.held ≡ blank room → 2 ^ y.remote_win_shift ≤ room → 0 < window_told y
 told_some y room held at_least = unit_some (length y.rx_buffer.held) y.remote_win_shift (subst (λ n. 2 ^ y.remote_win_shift ≤ n) (sym (wide_so y room held)) at_least)
-
-pub told_alike : (v y : View) → y.rx_buffer ≡ v.rx_buffer → y.remote_win_shift ≡ v.remote_win_shift → window_told y ≡ window_told v
-told_alike v y rx shift = (λ i. unit (length ((rx i).held)) (shift i))
-
--- the receive window of y is what v, with the same buffer, told
-pub width_told : (v y : View) (room : ℕ) → length v.rx_buffer.held ≡ room → room ≤ 2 ^ 30 → y.rx_buffer ≡ v.rx_buffer → y.remote_seq_no ≡ v.remote_seq_no → y.remote_win_shift ≡ v.remote_win_shift → y.remote_last_ack ≡ Some (next_ack v) → y.remote_last_win ≡ window_field v → seq_sub (receive_window y).end (receive_window y).start ≡ window_told v
-width_told v y room wide narrow rx rcv shift ack win =
-    told_window y room (ap (λ (b : Received). length b.held) rx ∙ wide) narrow (ack ∙ (λ i. Some (seq_add (sym rcv i) (length ((sym rx i).bytes))))) (win ∙ (λ i. min (wide i / 2 ^ sym shift i) 65535))
-    ∙ (λ i. unit (sym wide i) (shift i))
 
 pub open_rests : (v : View) → Rests v → IsOpenTimer v.timer
 open_rests v (ForKeepAlive at idle nxt) = subst IsOpenTimer (sym idle) tt

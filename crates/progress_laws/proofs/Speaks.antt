@@ -7,11 +7,8 @@ use Rattle.net_base.specs.declared.time.Instant.{Instant}
 use Rattle.control_wire.specs.Segment.{Segment, segment_len}
 use Rattle.control_wire.specs.Seq.{seq_add, seq_minus, seq_sub}
 use Rattle.sock_core.specs.Bounds.{IsMtu}
-use Rattle.sock_core.specs.Congestion.{congestion_window}
 use Rattle.sock_core.specs.Facts.{Facts}
 use Rattle.sock_core.specs.Seq.{later_of}
-use Rattle.sock_core.specs.declared.congestion.AnyController.{AnyController}
-use Rattle.sock_core.specs.declared.congestion.AnyController.TheVariants as controller
 use Rattle.sock_tcp.proofs.Lending.{lent_at_most, lent_beginning}
 use Rattle.sock_tcp.specs.Begin.{after_timer, after_timers, is_paused, readied, retransmission_begun}
 use Rattle.sock_tcp.specs.Content.{Sending, asked, carries_data, emission_kind, is_probing, offset_of, sent_as, window_left}
@@ -28,19 +25,19 @@ use Rattle.sock_tcp.specs.declared.state.State.TheVariants as state
 use Rattle.sock_tcp.specs.declared.timer.Timer.TheVariants as timer
 use Rattle.sock_tcp.specs.declared.tuple.Tuple.{Tuple}
 use Rattle.tcp_laws.specs.Polling.{IsReached}
-use Rattle.tcp_laws.proofs.Ordered.{HasMoment, IsOpen, IsOrdered, no_distance}
+use Rattle.tcp_laws.proofs.Ordered.{HasMoment, IsOrdered, no_distance}
 use Rattle.tcp_laws.proofs.OrderedCalls.{reached_ordered, readied_ordered, timers_ordered}
 use Rattle.tcp_laws.proofs.Sleeping.{window_sends}
 use Rattle.tcp_laws.proofs.Probing.{reached_probing}
 use Rattle.progress_laws.specs.InStep.{ForAnswer, ForKeepAlive, ForNothing, ForProbe, IsSender, Rests, told}
-use Rattle.progress_laws.specs.Speech.{DispatchesOk, GoesOn, SendsOk}
-use Rattle.progress_laws.proofs.Begins.{Same, beginning, carries_runs, content_is, dispatch_reached, lent_for, not_zero, quiet_so, readied_alike, same_again, same_then, segment_for, sends_so}
+use Rattle.progress_laws.specs.Speech.{DispatchesOk, GoesOn}
+use Rattle.progress_laws.proofs.Begins.{Same, beginning, carries_runs, dispatch_reached, lent_for, not_zero, quiet_so, readied_alike, same_again, same_then, segment_for, sends_as}
 use Rattle.progress_laws.proofs.Edges.{is_earlier, is_not_before, later_is, later_stays}
 use Rattle.progress_laws.proofs.Hears.{IsData, IsOpenTimer, idle_is, idle_moment}
 use Rattle.progress_laws.proofs.Lends.{lent_some, mss_some}
 use Rattle.progress_laws.proofs.Says.{keep_alive_due, no_probe}
 use Rattle.progress_laws.proofs.States.{flat_open, is_flat, row_moment, sends_data, sends_flat}
-use Rattle.progress_laws.proofs.Sends.{SentOf, Untold, kept_nxt, kept_sent, kept_timer, kept_untold, left, plain_sent, plain_timer, plain_told, segment_ack, segment_bit, segment_length, segment_number, segment_window, with_bytes, without_bytes}
+use Rattle.progress_laws.proofs.Sends.{HasTold, SentOf, Untold, kept_nxt, kept_sent, kept_timer, kept_untold, left, open_window, plain_sent, plain_timer, plain_told, segment_ack, segment_bit, segment_length, segment_number, segment_window, with_bytes, without_bytes}
 
 -- ---- what is left of the sender
 
@@ -96,11 +93,6 @@ pub record SpeaksNothing (f : Facts) (v : View) : Type 0 where
   pub shift : after.remote_win_shift ≡ v.remote_win_shift
   pub untold : Untold v after
 
--- the own window is told, with RCV.NXT
-pub record HasTold (v x : View) : Type 0 where
-  pub last_ack : x.remote_last_ack ≡ Some (next_ack v)
-  pub last_win : x.remote_last_win ≡ window_field v
-
 -- without a window nothing, or an acknowledgement; it waits for its keep-alive then, with nothing in flight
 pub record FallsSilent (f : Facts) (v : View) : Type 0 where
   pub out : Option Sending
@@ -113,10 +105,6 @@ pub record FallsSilent (f : Facts) (v : View) : Type 0 where
   pub window : after.remote_win_len ≡ v.remote_win_len
   pub shift : after.remote_win_shift ≡ v.remote_win_shift
   pub told : Untold v after ⊎ HasTold v after
-
-pub open_window : (c : AnyController) → IsOpen c → 0 < congestion_window c
-open_window (controller.None x) h = omega arith
-open_window (controller.Reno r) h = h.cwnd
 
 open_idle : (now : Instant) (keep : Option Duration) → IsOpenTimer (idle_from now keep)
 open_idle now None = tt
@@ -221,14 +209,7 @@ module _ (d : Option Duration) (t : Tuple) (v : View) (f : Facts) (now : Instant
   carries_on = sends_data u.state may
 
   goes_out : (k : Kind) → emission_kind u now b ≡ k → is_due u t fa false ≡ true → DispatchesOk fa false v (Some (sent_as u t k b)) (left u t now b opens k)
-  goes_out k e due = sends_so v t fa false on carries (Some (sent_as u t k b)) (left u t now b opens k) (ap (λ x. is_due x t fa false) u_is ∙ due) (subst (λ x. SendsOk fa t false x (Some (sent_as u t k b)) (left u t now b opens k)) (sym u_is) (record {
-    stamp = None;
-    told = refl;
-    bytes = bytes;
-    lent = refl;
-    sends = sym (content_is u t fa None bytes carries_on ∙ ap (λ c. Some (sent_as u t c b)) e);
-    view = refl;
-  }))
+  goes_out = sends_as v t fa on carries u u_is carries_on
 
   data_is_due : data_due u t fa false ≡ true → is_due u t fa false ≡ true
   unfolding is_due

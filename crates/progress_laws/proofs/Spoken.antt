@@ -1,5 +1,5 @@
 -- What a socket says, number by number, and what stays of it.
-use Rattle.std.proofs.Common.{◌≡◌, ℕ, zero, suc, ◌+◌, ◌<◌, ◌≤◌, ◌^◌, Bool, true, false, refl, sym, ap, subst, ◌∙◌, List, length, Some, is_some, arith}
+use Rattle.std.proofs.Common.{◌≡◌, ℕ, zero, suc, ◌+◌, ◌/◌, min, ◌<◌, ◌≤◌, ◌^◌, Bool, true, false, refl, sym, ap, subst, ◌∙◌, List, length, take, drop, Some, is_some, arith}
 use Rattle.std.specs.Prelude.{if◌then◌else◌, ◌==◌}
 use Rattle.std.proofs.lemmas.Bool.{eqb-true}
 use Rattle.std.proofs.lemmas.Option.{same_Some}
@@ -12,10 +12,10 @@ use Rattle.control_wire.specs.declared.tcp.TcpControl.TheVariants as control
 use Rattle.sock_core.specs.Congestion.{post_transmitted}
 use Rattle.sock_core.specs.Estimator.{sent}
 use Rattle.sock_core.specs.Facts.{Facts}
-use Rattle.sock_tcp.proofs.Lending.{lent_at_most}
+use Rattle.sock_tcp.proofs.Lending.{lent_at_most, lent_beginning}
 use Rattle.sock_tcp.specs.Begin.{after_timer, fast_retransmission_marked, readied, retransmission_begun}
 use Rattle.sock_tcp.specs.Content.{Sending, asked, carries_data, data_control, emission_kind, offset_of, plain_segment, sent_as}
-use Rattle.sock_tcp.specs.Due.{flight, is_closing}
+use Rattle.sock_tcp.specs.Due.{flight, is_closing, window_field}
 use Rattle.sock_tcp.specs.Queue.{Queue}
 use Rattle.sock_tcp.specs.Sent.{after_any, after_kind, after_probe, after_sending, emitted_as, sending_timed, snd_nxt_moved}
 use Rattle.sock_tcp.specs.Timers.{is_over, retransmit_unless_set}
@@ -44,21 +44,22 @@ pub record Still (v x : View) : Type 0 where
   pub tx : x.tx_buffer ≡ v.tx_buffer
   pub rx : x.rx_buffer ≡ v.rx_buffer
   pub rcv : x.remote_seq_no ≡ v.remote_seq_no
+  pub shift : x.remote_win_shift ≡ v.remote_win_shift
 
 unmoved : (v : View) → Still v v
-unmoved v = record { state = refl; una = refl; tx = refl; rx = refl; rcv = refl }
+unmoved v = record { state = refl; una = refl; tx = refl; rx = refl; rcv = refl; shift = refl }
 
 pub then_still : (a b c : View) → Still a b → Still b c → Still a c
-then_still a b c x y = record { state = y.state ∙ x.state; una = y.una ∙ x.una; tx = y.tx ∙ x.tx; rx = y.rx ∙ x.rx; rcv = y.rcv ∙ x.rcv }
+then_still a b c x y = record { state = y.state ∙ x.state; una = y.una ∙ x.una; tx = y.tx ∙ x.tx; rx = y.rx ∙ x.rx; rcv = y.rcv ∙ x.rcv; shift = y.shift ∙ x.shift }
 
 timer_still : (tm : Timer) (x : View) (now : Instant) → Still x (after_timer tm x now)
 unfolding retransmission_begun fast_retransmission_marked
 timer_still (timer.Retransmit at) x now = go (is_over at now)
   where
     go : (b : Bool) → Still x (if b then retransmission_begun x now else x)
-    go true = record { state = refl; una = refl; tx = refl; rx = refl; rcv = refl }
+    go true = record { state = refl; una = refl; tx = refl; rx = refl; rcv = refl; shift = refl }
     go false = unmoved x
-timer_still timer.FastRetransmit x now = record { state = refl; una = refl; tx = refl; rx = refl; rcv = refl }
+timer_still timer.FastRetransmit x now = record { state = refl; una = refl; tx = refl; rx = refl; rcv = refl; shift = refl }
 timer_still (timer.Idle at) x now = unmoved x
 timer_still (timer.ZeroWindowProbe at delay) x now = unmoved x
 timer_still (timer.Close at) x now = unmoved x
@@ -71,13 +72,13 @@ sent_still b now e = by e.kind
     x = snd_nxt_moved (after_any b now) e
 
     timed : (z : Bool) → Still b (if z then x else record x { rtte = sent x.rtte now e.end; timer = retransmit_unless_set x.timer now x.rtte; congestion_controller = post_transmitted x.congestion_controller now e.len })
-    timed true = record { state = refl; una = refl; tx = refl; rx = refl; rcv = refl }
-    timed false = record { state = refl; una = refl; tx = refl; rx = refl; rcv = refl }
+    timed true = record { state = refl; una = refl; tx = refl; rx = refl; rcv = refl; shift = refl }
+    timed false = record { state = refl; una = refl; tx = refl; rx = refl; rcv = refl; shift = refl }
 
     by : (k : Kind) → Still b (after_kind k (after_any b now) now e)
     by kind.Plain = timed (e.len == 0)
-    by kind.Probe = record { state = refl; una = refl; tx = refl; rx = refl; rcv = refl }
-    by kind.KeepAlive = record { state = refl; una = refl; tx = refl; rx = refl; rcv = refl }
+    by kind.Probe = record { state = refl; una = refl; tx = refl; rx = refl; rcv = refl; shift = refl }
+    by kind.KeepAlive = record { state = refl; una = refl; tx = refl; rx = refl; rcv = refl; shift = refl }
 
 -- ---- its control bit
 
@@ -97,6 +98,15 @@ fin_at_end u n = go (offset_of u + n == length u.tx_buffer.bytes) refl (is_closi
     go : (a : Bool) → (offset_of u + n == length u.tx_buffer.bytes) ≡ a → (b d : Bool) → (if a then (if b then control.Fin else (if d then control.None else control.Psh)) else control.None) ≡ control.Fin → offset_of u + n ≡ length u.tx_buffer.bytes
     go true e b d f = eqb-true (offset_of u + n) (length u.tx_buffer.bytes) e
     go false e b d f = absurd cc
+
+fin_closing : (u : View) (n : ℕ) → data_control u n ≡ control.Fin → is_closing u.state ≡ true
+fin_closing u n = go (offset_of u + n == length u.tx_buffer.bytes) (is_closing u.state) (n == 0)
+  where
+    go : (a b d : Bool) → (if a then (if b then control.Fin else (if d then control.None else control.Psh)) else control.None) ≡ control.Fin → b ≡ true
+    go true true d f = refl
+    go true false true f = absurd cc
+    go true false false f = absurd cc
+    go false b d f = absurd cc
 
 pub is_fin : (c : TcpControl) → IsSaid c → 0 < control_len c → c ≡ control.Fin
 is_fin control.Fin d some = refl
@@ -128,7 +138,7 @@ module _ (t : Tuple) (f : Facts) (stamps : Bool) (v : View) (out : Sending) (u :
   begun_still : Still v b
   begun_still =
       let al : Alike v (readied v now) = readied_alike v now in
-      then_still v (readied v now) b (record { state = al.same.state; una = al.same.una; tx = al.same.tx; rx = al.same.rx; rcv = al.same.rcv }) (timer_still v.timer (readied v now) now)
+      then_still v (readied v now) b (record { state = al.same.state; una = al.same.una; tx = al.same.tx; rx = al.same.rx; rcv = al.same.rcv; shift = al.same.shift }) (timer_still v.timer (readied v now) now)
 
   o : SendsOk f t stamps b (Some out) u
   o = goes_out v t f stamps h.on (carries_runs v.state v.synack_paused h.carries) out u h.dispatch
@@ -156,6 +166,16 @@ module _ (t : Tuple) (f : Facts) (stamps : Bool) (v : View) (out : Sending) (u :
 
   pub ack : out.segment.ack_number ≡ Some (next_ack v)
   ack = ap (λ (s : Sending). s.segment.ack_number) out_is ∙ said_ack k ∙ (λ i. Some (seq_add (begun_still.rcv i) (length ((begun_still.rx i).bytes))))
+
+  said_field : (k : Kind) → (sent_as b t k g).segment.window_len ≡ window_field b
+  unfolding plain_segment
+  said_field kind.KeepAlive = refl
+  said_field kind.Plain = refl
+  said_field kind.Probe = refl
+
+  -- it tells the window that v tells now
+  pub field : out.segment.window_len ≡ window_field v
+  field = ap (λ (s : Sending). s.segment.window_len) out_is ∙ said_field k ∙ (λ i. min (length ((begun_still.rx i).held) / 2 ^ begun_still.shift i) 65535)
 
   said_bit : (k : Kind) → IsSaid (sent_as b t k g).segment.control
   said_bit kind.KeepAlive = data_said b (length o.bytes)
@@ -193,24 +213,41 @@ module _ (t : Tuple) (f : Facts) (stamps : Bool) (v : View) (out : Sending) (u :
   una_small : v.local_seq_no.0 < 2 ^ 32
   una_small = (reached_ordered v h.reached).una_small
 
+  -- ---- from SND.UNA on
+
+  module _ (nk : out.kind ≡ kind.KeepAlive → ⊥) (number : out.segment.seq_number ≡ v.local_seq_no) where
+    is : out.segment ≡ g
+    is = segment_is nk
+
+    at_front : offset_of b ≡ 0
+    at_front = by b.pending_fast_retransmit refl
+      where
+        here : g.seq_number ≡ v.local_seq_no
+        here = sym (ap (λ (s : Segment). s.seq_number) is) ∙ number
+
+        by : (m : Bool) → b.pending_fast_retransmit ≡ m → offset_of b ≡ 0
+        by true e = rw e refl
+        by false e =
+            let nxt : b.remote_last_seq ≡ v.local_seq_no = ap (λ m. if m then b.local_seq_no else b.remote_last_seq) (sym e) ∙ here in
+            ap (λ m. if m then 0 else flight b) e ∙ (λ i. seq_sub (nxt i) (begun_still.una i)) ∙ no_distance v.local_seq_no una_small
+
+    same_bytes : out.segment.payload ≡ o.bytes
+    same_bytes = ap (λ (s : Segment). s.payload) is
+
+    -- its payload is a beginning of the transmit queue
+    pub first_bytes : out.segment.payload ≡ take (length out.segment.payload) v.tx_buffer.bytes
+    first_bytes = same_bytes ∙ lent_beginning b.tx_buffer (offset_of b) (asked b t f (is_some o.stamp)) o.bytes o.lent ∙ (λ i. take (length (sym same_bytes i)) (drop (at_front i) ((begun_still.tx i).bytes)))
+
+    -- with the FIN all of it
+    pub fin_ends : out.segment.control ≡ control.Fin → length out.segment.payload ≡ length v.tx_buffer.bytes
+    fin_ends fin = omega (arith, ap (λ (l : List ℕ). length l) same_bytes, fin_at_end b (length o.bytes) (sym (ap (λ (s : Segment). s.control) is) ∙ fin), at_front, ap (λ (q : Queue). length q.bytes) begun_still.tx)
+
+    pub fin_of_closing : out.segment.control ≡ control.Fin → is_closing v.state ≡ true
+    fin_of_closing fin = ap is_closing (sym begun_still.state) ∙ fin_closing b (length o.bytes) (sym (ap (λ (s : Segment). s.control) is) ∙ fin)
+
   -- a FIN alone at SND.UNA has no byte before it
   pub fin_alone : (out.kind ≡ kind.KeepAlive → ⊥) → out.segment.seq_number ≡ v.local_seq_no → length out.segment.payload ≡ 0 → out.segment.control ≡ control.Fin → length v.tx_buffer.bytes ≡ 0
-  fin_alone nk number none fin = omega (arith, fin_at_end b (length o.bytes) (sym (ap (λ (s : Segment). s.control) is) ∙ fin), at_front b.pending_fast_retransmit refl, none_left, ap (λ (q : Queue). length q.bytes) begun_still.tx)
-    where
-      is : out.segment ≡ g
-      is = segment_is nk
-
-      none_left : length o.bytes ≡ 0
-      none_left = sym (ap (λ (s : Segment). length s.payload) is) ∙ none
-
-      here : g.seq_number ≡ v.local_seq_no
-      here = sym (ap (λ (s : Segment). s.seq_number) is) ∙ number
-
-      at_front : (m : Bool) → b.pending_fast_retransmit ≡ m → offset_of b ≡ 0
-      at_front true e = rw e refl
-      at_front false e =
-          let nxt : b.remote_last_seq ≡ v.local_seq_no = ap (λ m. if m then b.local_seq_no else b.remote_last_seq) (sym e) ∙ here in
-          ap (λ m. if m then 0 else flight b) e ∙ (λ i. seq_sub (nxt i) (begun_still.una i)) ∙ no_distance v.local_seq_no una_small
+  fin_alone nk number none fin = omega (arith, fin_ends nk number fin, none)
 
   module _ (w : View) (n : ℕ) (r : HearsOf v w n) (probe : out.kind ≡ kind.Probe → ProbesNext v n) where
     start : (next_ack w).0 ≡ (seq_add v.local_seq_no n).0

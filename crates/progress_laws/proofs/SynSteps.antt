@@ -1,5 +1,5 @@
 -- What a socket sends in SYN-SENT and SYN-RECEIVED, and what a SYN, a SYN|ACK and the ACK do where they come.
-use Rattle.std.proofs.Common.{◌≡◌, ℕ, zero, suc, ◌+◌, ◌-◌, ◌<◌, ◌≤◌, ◌^◌, Bool, true, false, refl, sym, ap, subst, if◌then◌else◌, ◌∙◌, [], length, Option, Some, None, arith, length-drop}
+use Rattle.std.proofs.Common.{◌≡◌, ℕ, ◌-◌, ◌≤◌, ◌^◌, Bool, true, false, refl, sym, ap, subst, if◌then◌else◌, ◌∙◌, [], length, Some, None, arith, length-drop}
 use Rattle.std.specs.Prelude.{◌==◌}
 use Rattle.net_base.specs.declared.time.Instant.{Instant}
 use Rattle.ip_wire.specs.Address.{SameVersion}
@@ -16,8 +16,6 @@ use Rattle.control_wire.specs.declared.tcp.TcpControl.TheVariants as control
 use Rattle.sock_core.specs.Received.{cleared, room_of}
 use Rattle.sock_core.specs.Seq.{is_before}
 use Rattle.sock_core.specs.WindowShift.{window_shift}
-use Rattle.sock_core.proofs.Shifts.{is_shift_least}
-use Rattle.std.proofs.Math.Pow.{pow_mono}
 use Rattle.sock_tcp.proofs.Windows.{end_small, length-cut, start_small, window_width}
 use Rattle.sock_tcp.specs.Acked.{acked_at, acked_of, acked_places, nothing_acked, syn_place}
 use Rattle.sock_tcp.specs.Advance.{advanced, counted_control, moved_to, opened_state, scale_taken, shift_taken, options_taken, syn_answered, syn_received}
@@ -118,18 +116,6 @@ module _ (x : View) (now : Instant) (ip : IpRepr) (g : Segment) (k : TcpSeqNumbe
       by control.None e d = rw (st, e, number, next, inside) refl
       by control.Psh e d = rw (st, e, number, next, inside) refl
       by _ e d = absurd d
-
--- the shift of a window leaves a unit of it
-pub shift_within : (n : ℕ) → 0 < n → 2 ^ window_shift n ≤ n
-shift_within n some = by (window_shift n) refl
-  where
-    by : (r : ℕ) → r ≡ window_shift n → 2 ^ window_shift n ≤ n
-    by zero e = rw (sym e) (omega (arith, some))
-    by (suc r) e = let h = is_shift_least n (suc r) e (omega arith) in let m : 2 ^ suc r ≤ 2 ^ (15 + suc r) = pow_mono {i = suc r} {j = 15 + suc r} (omega arith) in rw (sym e) (omega (arith, h, m))
-
-pub taken_within : (n : ℕ) (o : Option ℕ) → 0 < n → 2 ^ shift_taken (window_shift n) o ≤ n
-taken_within n None some = omega (arith, some)
-taken_within n (Some m) some = shift_within n some
 
 -- what a listener is once it took the SYN g, with its own number
 pub record HasTakenSyn (b x : View) (t : Tuple) (number : ℕ) (g : Segment) : Type 0 where

@@ -1,6 +1,6 @@
 -- A socket that also has bytes to send takes bytes in order, and answers what it has.
-use Rattle.std.proofs.Common.{◌≡◌, ℕ, ◌+◌, ◌-◌, ◌*◌, ◌<◌, ◌≤◌, ◌^◌, ◌⊎◌, inl, inr, Bool, true, false, refl, sym, ap, subst, ◌∙◌, List, [], length, take, drop, Option, Some, None, arith, length-drop, length-take}
-use Rattle.std.specs.Prelude.{if◌then◌else◌, ◌++◌, Ok}
+use Rattle.std.proofs.Common.{◌≡◌, ℕ, ◌+◌, ◌-◌, ◌*◌, ◌<◌, ◌≤◌, ◌^◌, ◌⊎◌, inl, inr, Bool, true, false, refl, sym, ap, subst, ◌∙◌, List, [], length, take, drop, Option, Some, None, arith, length-drop}
+use Rattle.std.specs.Prelude.{if◌then◌else◌}
 use Rattle.std.proofs.lemmas.List.{length-replicate}
 use Rattle.std.proofs.lemmas.Bool.{eq-eqb}
 use Rattle.std.proofs.lemmas.Option.{same_Some}
@@ -14,22 +14,24 @@ use Rattle.sock_core.specs.Seq.{is_before, is_not_after}
 use Rattle.sock_tcp.proofs.Windows.{end_small, far, not_far, start_small, window_width}
 use Rattle.sock_tcp.specs.Process.{Outcome, ack_sent, bytes_taken, processed}
 use Rattle.sock_tcp.specs.Queue.{Queue}
-use Rattle.sock_tcp.specs.Queues.{read_off, readable, receives}
+use Rattle.sock_tcp.specs.Queues.{read_off, receives}
 use Rattle.sock_tcp.specs.Steps.{ack_delayed, heard, joined, scale_of}
 use Rattle.sock_tcp.specs.View.{View}
 use Rattle.sock_tcp.specs.Window.{cut_bytes, cut_of, is_inside, kept_between, next_ack, receive_window, window_end}
 use Rattle.sock_tcp.specs.declared.timer.Timer.TheVariants as timer
 use Rattle.sock_tcp.specs.declared.window.Cut.{Cut}
 use Rattle.tcp_laws.specs.Polling.{IsReached}
-use Rattle.tcp_laws.specs.SocketRun.{IsNumbered, Process, RecvSlice, after_segment, handed_slice, with_handed}
+use Rattle.tcp_laws.specs.SocketRun.{IsNumbered, Process, after_segment}
 use Rattle.progress_laws.specs.InStep.{ForAnswer, ForKeepAlive, ForNothing, ForProbe, Rests}
 use Rattle.progress_laws.proofs.Begins.{not_zero, some_or_none, step_reached}
-use Rattle.progress_laws.proofs.Edges.{cut_at, is_not_before, later_stays, old_outside, tail_cut, tail_inside, differs, same_seq}
+use Rattle.progress_laws.proofs.Edges.{cut_at, is_not_before, later_stays, tail_cut, tail_inside, differs, same_seq}
 use Rattle.progress_laws.proofs.Hears.{HeardAs, IsData, IsNoDuplicate, data_is_said, IsOpenTimer, answered_outside, covered, heard_as, bytes_no_duplicate, heard_again, heard_inside, heard_open, heard_rests, seen}
 use Rattle.progress_laws.proofs.Learns.{idle_rests}
-use Rattle.progress_laws.proofs.Receives.{NewPart, start_is}
+use Rattle.progress_laws.proofs.Receives.{NewPart}
 use Rattle.progress_laws.proofs.States.{is_steady, not_listening}
 use Rattle.progress_laws.proofs.Taking.{at_once, blank, blank_holds_nothing, read_bytes, read_held, take_all, taken_bytes, taken_held}
+use Rattle.progress_laws.proofs.Widths.{start_is}
+use Rattle.progress_laws.proofs.Arrives.{before_window, reads_reached}
 
 -- w takes bytes, and has read all, with room for so many bytes. Its peer acknowledges n bytes of its queue, by k
 pub record IsCaughtUp (w : View) (k : TcpSeqNumber) (n room : ℕ) : Type 0 where
@@ -64,35 +66,6 @@ pub record Took (w : View) (k : TcpSeqNumber) (n room m win : ℕ) (now : Instan
   pub last_ack : y.remote_last_ack ≡ w.remote_last_ack
   pub last_win : y.remote_last_win ≡ w.remote_last_win
   pub next : (next_ack y).0 ≡ (seq_add (next_ack w) m).0
-
--- a read is a call
-pub reads_reached : (w : View) (n : ℕ) → receives w.state ≡ true → n ≤ length w.rx_buffer.bytes → IsReached w → IsReached (read_off w n)
-reads_reached w n takes few r = step_reached w (read_off w n) (with_handed r.counts (handed_slice bs' (Ok (length bs)))) r (RecvSlice bs bs' (Ok (length bs)) (record {
-  answer = rw takes (ap Ok (sym all));
-  view = rw takes (ap (read_off w) (sym size));
-  read = refl;
-  refused = tt;
-}) refl)
-  where
-    bs : List ℕ
-    bs = take n w.rx_buffer.bytes
-
-    long : length bs ≡ n
-    long = length-take n w.rx_buffer.bytes ∙ omega (arith, few)
-
-    bs' : List ℕ
-    bs' = take (length bs) w.rx_buffer.bytes ++ drop (length bs) bs
-
-    all : readable w (length bs) ≡ length bs
-    all = omega (arith, long, few)
-
-    size : readable w (length bs) ≡ n
-    size = omega (arith, long, few)
-
--- what lies before the window is outside of it
-pub before_window : (w : View) (g : Segment) → seq_sub (receive_window w).end (receive_window w).start ≤ 2 ^ 30 → 0 < length g.payload → g.seq_number.0 < 2 ^ 32 → 0 < seq_sub (next_ack w) g.seq_number → seq_sub (next_ack w) g.seq_number < 2 ^ 31 → seq_sub (next_ack w) (seq_add g.seq_number (length g.payload)) < 2 ^ 31 → is_inside (receive_window w) g.seq_number (length g.payload) ≡ false
-unfolding is_inside
-before_window w g narrow some there before near behind = rw (not_zero (length g.payload) some) (old_outside (receive_window w) (start_small w) (end_small w) narrow g.seq_number (seq_add g.seq_number (length g.payload)) there (subst (λ m. 0 < seq_sub m g.seq_number) (sym (start_is w)) before) (subst (λ m. seq_sub m g.seq_number < 2 ^ 31) (sym (start_is w)) near) (subst (λ m. seq_sub m (seq_add g.seq_number (length g.payload)) < 2 ^ 31) (sym (start_is w)) behind))
 
 not_after_itself : (k : TcpSeqNumber) → k.0 < 2 ^ 32 → is_not_after k k ≡ true
 unfolding is_not_after

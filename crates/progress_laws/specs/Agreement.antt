@@ -1,6 +1,6 @@
--- Two sockets of one connection that agree on their numbers, whatever waits in their queues, is held out of order, is in
--- flight or was lost; and how the bytes and the FIN of the one come over.
-use Rattle.std.specs.Prelude.{ℕ, ◌≡◌, ◌⊎◌, ◌+◌, ◌^◌, ◌<◌, ◌≤◌, ◌≤ℤ◌, List, ◌++◌, length, drop, slice_get, Option, Some, None, Err, true, false}
+-- Two sockets of one connection that agree on their numbers, whatever waits in their queues, is held out of order, is
+-- in flight or was lost; and how the bytes and the FIN of the one come over.
+use Rattle.std.specs.Prelude.{ℕ, ◌≡◌, ◌⊎◌, ◌+◌, ◌<◌, ◌≤◌, ◌≤ℤ◌, List, ◌++◌, length, drop, slice_get, Option, Some, None, Err, true, false}
 use Rattle.net_base.specs.declared.time.Duration.{Duration}
 use Rattle.net_base.specs.declared.time.Instant.{Instant}
 use Rattle.control_wire.specs.Segment.{Segment}
@@ -54,16 +54,16 @@ pub record IsSpeaker (d : Duration) (t : Tuple) (v : View) : Type 0 where
 -- ---- the one that takes
 
 -- The taker w is what some list of calls makes of a new socket, in ESTABLISHED, FIN-WAIT-1 or FIN-WAIT-2, whatever it
--- has to send and however it waits. Its receive buffer has room for one unit of its window field
+-- has to send and however it waits. Its receive buffer has a place
 pub record IsTaking (w : View) : Type 0 where
   pub reached : IsReached w
   pub state : receives w.state ≡ true
-  pub room : 2 ^ w.remote_win_shift ≤ room_of w.rx_buffer
+  pub room : 0 < room_of w.rx_buffer
 
 -- ---- they agree
 
--- SND.NXT of w is RCV.NXT of v, or lies in the receive window of v and in the one that v tells now: else v hears nothing
--- of w (`stall_both_again` in docs/STALLS.md)
+-- SND.NXT of w is RCV.NXT of v, or lies in the receive window of v and in the one that v tells now: else v hears
+-- nothing of w (`stall_both_again` in docs/STALLS.md)
 abbrev pub InReach : View → View → Type 0
 InReach v w =
     (w.remote_last_seq ≡ next_ack v)
@@ -90,19 +90,15 @@ pub record Agreement (d : Duration) (t : Tuple) (v w : View) (taken heard : ℕ)
 -- something is in flight, and nothing goes on any more (`stall_empty_probe`)
 pub data Exchange (f : Facts) (now : Instant) (v w : View) (got : List ℕ) (v' w' : View) (got' : List ℕ) : Type 0 where
   IsMove : Move f now v w got v' w' got' → Exchange f now v w got v' w' got'
-  AnswerIsLost : (out : Sending) (answer : Segment)
-      → DispatchesOk (told f now) false v (Some out) v'
-      → processed w now 0 out.ip out.segment ≡ record { view = w'; reply = Some answer }
-      → got' ≡ got
+  AnswerIsLost : (out : Sending) (answer : Segment) → DispatchesOk (told f now) false v (Some out) v'
+      → processed w now 0 out.ip out.segment ≡ record { view = w'; reply = Some answer } → got' ≡ got
       → Exchange f now v w got v' w' got'
 
 -- a list of them, whose moments do not go back
 pub data Exchanges (f : Facts) : Instant → View → View → List ℕ → Instant → View → View → List ℕ → Type 0 where
   NoMore : (at : Instant) (v w : View) (got : List ℕ) → Exchanges f at v w got at v w got
-  NextOne : (at now end : Instant) (v w u x v' w' : View) (got more got' : List ℕ)
-      → at.micros ≤ℤ now.micros
-      → Exchange f now v w got u x more
-      → Exchanges f now u x more end v' w' got'
+  NextOne : (at now end : Instant) (v w u x v' w' : View) (got more got' : List ℕ) → at.micros ≤ℤ now.micros
+      → Exchange f now v w got u x more → Exchanges f now u x more end v' w' got'
       → Exchanges f at v w got end v' w' got'
 
 -- ---- the bytes
@@ -153,3 +149,56 @@ AgreeingFinArrives = (d : Duration) (t : Tuple) (f : Facts) (at : Instant) (v w 
     → is_closing v.state ≡ true
     → Agreement d t v w taken heard
     → FinArrives f at v w got taken
+
+-- ---- both streams
+
+-- The taker w speaks, too, with the peer s and the keep-alive interval e, and v still takes bytes, with a place in its
+-- receive buffer. Of the places that v heard of w's stream none is a FIN, and what v holds out of order are bytes of
+-- w's queue
+pub record AgreeBothWays (d e : Duration) (t s : Tuple) (v w : View) (taken heard : ℕ) : Type 0 where
+  pub over : Agreement d t v w taken heard
+  pub here : IsTaking v
+  pub across : IsSpeaker e s w
+  pub heard_within : heard ≤ length w.tx_buffer.bytes
+  pub held : (k b : ℕ) → byte_at v.rx_buffer.held k ≡ Some b → slice_get w.tx_buffer.bytes (heard + k) ≡ Some b
+
+-- an exchange from the one to the other, or back. got: what was read of w; back: what was read of v
+pub data EitherWay (f : Facts) (now : Instant) (v w : View) (got back : List ℕ) (v' w' : View) (got' back' : List ℕ)
+    : Type 0 where
+  ToThat : Exchange f now v w got v' w' got'
+      → back' ≡ back
+      → EitherWay f now v w got back v' w' got' back'
+  ToThis : Exchange f now w v back w' v' back'
+      → got' ≡ got
+      → EitherWay f now v w got back v' w' got' back'
+
+-- a list of them, whose moments do not go back
+pub data EitherWays (f : Facts) : Instant → View → View → List ℕ → List ℕ → Instant → View → View → List ℕ → List ℕ
+    → Type 0 where
+  NoOther : (at : Instant) (v w : View) (got back : List ℕ) → EitherWays f at v w got back at v w got back
+  Another : (at now end : Instant) (v w u x v' w' : View) (got back more less got' back' : List ℕ)
+      → at.micros ≤ℤ now.micros → EitherWay f now v w got back u x more less
+      → EitherWays f now u x more less end v' w' got' back' → EitherWays f at v w got back end v' w' got' back'
+
+-- Some such list brings over all that waited and was not taken, both ways, in order. Where w was not closed, both
+-- transmit queues are empty then; where it was, reads of v answer `Finished`
+pub record StreamsArrive (f : Facts) (at : Instant) (v w : View) (got back : List ℕ) (taken heard : ℕ) : Type 0 where
+  pub end : Instant
+  pub here : View
+  pub across : View
+  pub exchanges : EitherWays f at v w got back end here across
+      (got ++ (w.rx_buffer.bytes ++ drop taken v.tx_buffer.bytes))
+      (back ++ (v.rx_buffer.bytes ++ drop heard w.tx_buffer.bytes))
+  pub sent : may_send w.state ≡ true → (length here.tx_buffer.bytes ≡ 0) × (length across.tx_buffer.bytes ≡ 0)
+  pub finished : is_closing w.state ≡ true → recv_check here ≡ Err recv_error.Finished
+
+-- v, which speaks first, was not closed
+abbrev pub AgreeingStreamsArrive : Type 0
+AgreeingStreamsArrive = (d e : Duration) (t s : Tuple) (f : Facts) (at : Instant) (v w : View) (got back : List ℕ)
+    (taken heard : ℕ)
+    → IsMtu f.mtu
+    → f.has_address t.local.addr ≡ true
+    → f.has_address s.local.addr ≡ true
+    → may_send v.state ≡ true
+    → AgreeBothWays d e t s v w taken heard
+    → StreamsArrive f at v w got back taken heard

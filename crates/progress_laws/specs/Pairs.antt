@@ -1,4 +1,4 @@
--- Of every pair, whatever happened to it: how the bytes of one side, and its FIN, still come over.
+-- Of every pair, whatever happened to it: how the bytes of its sides, and their FINs, still come over.
 use Rattle.std.specs.Prelude.{◌≡◌, ◌⊎◌, ◌<◌, Some, None, Err, true}
 use Rattle.net_base.specs.declared.time.Duration.{Duration}
 use Rattle.net_base.specs.declared.time.Instant.{Instant}
@@ -7,32 +7,51 @@ use Rattle.sock_core.specs.Facts.{Facts}
 use Rattle.sock_core.specs.Received.{room_of}
 use Rattle.sock_tcp.specs.Content.{carries_data}
 use Rattle.sock_tcp.specs.Due.{is_closing}
-use Rattle.sock_tcp.specs.Queues.{receives, recv_check}
+use Rattle.sock_tcp.specs.Queues.{may_send, receives, recv_check}
 use Rattle.sock_tcp.specs.View.{View}
 use Rattle.sock_tcp.specs.Window.{next_ack}
 use Rattle.sock_tcp.specs.declared.error.RecvError.TheVariants as recv_error
 use Rattle.sock_tcp.specs.declared.state.State.TheVariants as state
 use Rattle.pair_core.specs.PairInvariant.{IsSocket}
 use Rattle.pair_core.specs.PairViews.{HostView}
-use Rattle.progress_laws.specs.Agreement.{Exchanges, InReach, Waits}
+use Rattle.progress_laws.specs.Agreement.{EitherWays, Exchanges, InReach, Waits}
 
--- The side h, with the keep-alive interval d and without a user timeout, has bytes or a FIN to bring over, or nothing:
--- it is in ESTABLISHED, CLOSE-WAIT, FIN-WAIT-1, CLOSING or LAST-ACK, where it was closed after its SYN was acknowledged.
--- The side o is in ESTABLISHED, FIN-WAIT-1 or FIN-WAIT-2, with a receive buffer of at least a byte. Three scripts of
--- docs/STALLS.md show why h waits so (`stall_empty_probe`), why o is in reach (`stall_both_again`), and what LAST-ACK
--- asks (`stall_last_ack`). The types say of o that its buffers have at most 2^30 bytes, and that no FIN is counted there
-pub record CanComeOver {G : Type 0} (d : Duration) (h o : HostView G) : Type 0 where
+-- ---- the sides
+
+-- The side h, with the keep-alive interval d and without a user timeout, is in ESTABLISHED, CLOSE-WAIT, FIN-WAIT-1,
+-- CLOSING or LAST-ACK; where it was closed, that was after its SYN was acknowledged. How it waits is that of `Waits`
+-- (`stall_empty_probe` in docs/STALLS.md)
+pub record MaySpeak {G : Type 0} (d : Duration) (h : HostView G) : Type 0 where
   pub carries : carries_data h.control_block.state ≡ true
   pub closed : is_closing h.control_block.state ≡ true → h.closed ≡ true
   pub no_timeout : h.control_block.timeout ≡ None
   pub keep_alive : h.control_block.keep_alive ≡ Some d
   pub waits : Waits h.control_block
+
+-- The side o is in ESTABLISHED, FIN-WAIT-1 or FIN-WAIT-2, with a receive buffer of at least a byte. Its types say that no
+-- FIN is counted in these states
+pub record MayTake {G : Type 0} (o : HostView G) : Type 0 where
   pub receives : receives o.control_block.state ≡ true
   pub types : IsSocket o.control_block
   pub place : 0 < room_of o.control_block.rx_buffer
+
+-- h hears o (`stall_both_again`); and in LAST-ACK o took something that h has not heard of, or h knows a window above 0
+-- (`stall_last_ack`)
+pub record CanComeOver {G : Type 0} (d : Duration) (h o : HostView G) : Type 0 where
+  pub speaks : MaySpeak d h
+  pub takes : MayTake o
   pub in_reach : InReach h.control_block o.control_block
   pub last : h.control_block.state ≡ state.LastAck
       → (next_ack o.control_block ≡ h.control_block.local_seq_no → ⊥) ⊎ (0 < h.control_block.remote_win_len)
+
+-- and the other way round, where h was not closed
+pub record BothCanComeOver {G : Type 0} (d e : Duration) (h o : HostView G) : Type 0 where
+  pub over : CanComeOver d h o
+  pub not_closed : may_send h.control_block.state ≡ true
+  pub speaks_back : MaySpeak e o
+  pub takes_back : MayTake h
+
+-- ---- what comes over
 
 -- Some list of dispatches, deliveries and reads, at moments that do not go back, hands out of o all that h ever accepted
 -- (o handed out the beginning of it before); and where h was closed, a read answers `Finished` then
@@ -43,6 +62,15 @@ pub record ComesOver {G : Type 0} (f : Facts) (at : Instant) (h o : HostView G) 
   pub exchanges : Exchanges f at h.control_block o.control_block o.handed_out end sender receiver h.accepted
   pub finished : is_closing h.control_block.state ≡ true → recv_check receiver ≡ Err recv_error.Finished
 
+-- and some list does so both ways; where o was closed, reads of h answer `Finished` then
+pub record BothComeOver {G : Type 0} (f : Facts) (at : Instant) (h o : HostView G) : Type 0 where
+  pub end : Instant
+  pub here : View
+  pub across : View
+  pub exchanges : EitherWays f at h.control_block o.control_block o.handed_out h.handed_out end here across h.accepted
+      o.accepted
+  pub finished : is_closing o.control_block.state ≡ true → recv_check here ≡ Err recv_error.Finished
+
 -- from any moment on, in any context that has the address of h
 abbrev pub CanAlways : {G : Type 0} → HostView G → HostView G → Type 0
 CanAlways h o = (d : Duration) (f : Facts) (at : Instant)
@@ -50,3 +78,12 @@ CanAlways h o = (d : Duration) (f : Facts) (at : Instant)
     → f.has_address h.endpoint.addr ≡ true
     → CanComeOver d h o
     → ComesOver f at h o
+
+-- or both addresses
+abbrev pub BothCanAlways : {G : Type 0} → HostView G → HostView G → Type 0
+BothCanAlways h o = (d e : Duration) (f : Facts) (at : Instant)
+    → IsMtu f.mtu
+    → f.has_address h.endpoint.addr ≡ true
+    → f.has_address o.endpoint.addr ≡ true
+    → BothCanComeOver d e h o
+    → BothComeOver f at h o

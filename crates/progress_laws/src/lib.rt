@@ -3,23 +3,23 @@
 //! What to read first, in `specs`: `Wakes.antt`, when a socket is to be called again; `Speech.antt`, what it says once
 //! its timer is over; `Delivery.antt`, what such a segment moves once it is delivered; `InStep.antt`, two sockets of
 //! which one sends to the other, and what they can do in turn; `BothWays.antt`, two that both have bytes to send, and
-//! `ShutWindows.antt`, the same where a window of 0 is known;
-//! `AfterClose.antt`, a sender that was closed; `Opening.antt`, two sockets that were opened toward each other, and
-//! `FromOpening.antt`, these to the end of both streams, whatever SYNs were lost.
+//! `ShutWindows.antt`, the same where a window of 0 is known; `AfterClose.antt`, a sender that was closed;
+//! `Agreement.antt`, any two that agree on their numbers, whatever waits; `Opening.antt`, two sockets that were opened
+//! toward each other, and `FromOpening.antt`, these to the end of both streams, whatever SYNs were lost.
 #![tactic(auto)]
 
 ghost use Rattle.std.specs.Prelude.{◌≡◌};
 ghost use Rattle.pair_core.specs.PairInvariant.{IsPair};
 ghost use Rattle.pair_core.specs.PairViews.{PairView};
 ghost use Rattle.progress_laws.specs.AfterClose.{ClosedSenderFinishes};
-ghost use Rattle.progress_laws.specs.Agreement.{AgreeingBytesArrive, AgreeingFinArrives};
+ghost use Rattle.progress_laws.specs.Agreement.{AgreeingBytesArrive, AgreeingFinArrives, AgreeingStreamsArrive};
 ghost use Rattle.progress_laws.specs.BothWays.{BothWaysComplete, BothWaysFinish, SendingKeepsInStep};
 ghost use Rattle.progress_laws.specs.Delivery.{CountedFinIsHeard, DeliveryMoves};
 ghost use Rattle.progress_laws.specs.FromOpening.{HandshakeBringsInStep, OpenedPairCompletes};
 ghost use Rattle.progress_laws.specs.FromOpening.{CrossedSynsComeAgain, LostAckComesAgain, LostSynsComeAgain};
 ghost use Rattle.progress_laws.specs.InStep.{OneWayCompletes, OneWayFinishes};
 ghost use Rattle.progress_laws.specs.Opening.{HandshakeCompletes, ListenerAnswersSyn};
-ghost use Rattle.progress_laws.specs.Pairs.{CanAlways};
+ghost use Rattle.progress_laws.specs.Pairs.{BothCanAlways, CanAlways};
 ghost use Rattle.progress_laws.specs.ShutWindows.{ShutWindowsOpen};
 ghost use Rattle.progress_laws.specs.Speech.{SpeaksPastItsTimers};
 ghost use Rattle.progress_laws.specs.Wakes.{WorkWakesOrSleeps};
@@ -105,6 +105,29 @@ pub fn closed_sender_finishes()
     ensures { ClosedSenderFinishes }
 {}
 
+/// From any two sockets of one connection that agree on their numbers (`Agreement`), whatever waits in their queues, is
+/// held out of order, is in flight or was lost, whatever windows and scales they know, and whatever congestion control
+/// they have: all bytes of the one that speaks come to the other, in order. The speaker is in ESTABLISHED or
+/// CLOSE-WAIT, without a user timeout and with a keep-alive interval; the taker is in ESTABLISHED, FIN-WAIT-1 or
+/// FIN-WAIT-2, with a place in its receive buffer, and dispatches nothing. Some list of dispatches, deliveries and reads
+/// does it, in which an answer may be lost. They agree again then, and what the speaker has not heard of the taker's
+/// stream is what it was.
+pub fn agreeing_bytes_arrive()
+    ensures { AgreeingBytesArrive }
+{}
+
+/// And where the speaker was closed, in FIN-WAIT-1, CLOSING or LAST-ACK, its FIN comes with them: reads of the taker
+/// answer `Finished`.
+pub fn agreeing_fin_arrives()
+    ensures { AgreeingFinArrives }
+{}
+
+/// And both streams come over where both sides speak, the first of them not closed (`AgreeBothWays`): first all bytes of
+/// the one, and then all of the other, and its FIN, where that was closed.
+pub fn agreeing_streams_arrive()
+    ensures { AgreeingStreamsArrive }
+{}
+
 /// A socket as `connect` leaves it sends its SYN; one as `listen` leaves it takes it, with the number that it draws,
 /// and sends its SYN|ACK; and that brings the first to ESTABLISHED, while the other waits in SYN-RECEIVED for the ACK.
 /// They agree on the numbers of both streams then. Nothing of it is lost, and both are without a user timeout.
@@ -155,23 +178,18 @@ pub fn lost_ack_comes_again()
     ensures { LostAckComesAgain }
 {}
 
-pub fn agreeing_bytes_arrive()
-    ensures { AgreeingBytesArrive }
-{}
-
-pub fn agreeing_fin_arrives()
-    ensures { AgreeingFinArrives }
-{}
-
 /// Of every pair, whatever happened to it: from any moment on, some list of dispatches, deliveries and reads hands out
 /// of one side all that the other ever accepted, and where that was closed, a read answers `Finished` then
-/// (`CanComeOver` says of which sides, in which states and with which settings).
+/// (`CanComeOver` says of which sides, in which states and with which settings). And some list does so both ways, where
+/// the side that speaks first was not closed (`BothCanComeOver`).
 pub fn pairs_can_go_on<G>()
     ensures of_a { (p : PairView G) → IsPair p → CanAlways p.a p.b }
     ensures of_b { (p : PairView G) → IsPair p → CanAlways p.b p.a }
+    ensures a_first { (p : PairView G) → IsPair p → BothCanAlways p.a p.b }
+    ensures b_first { (p : PairView G) → IsPair p → BothCanAlways p.b p.a }
 {
-    tcp_laws::streams::window_unit_fits();
     agreeing_bytes_arrive();
     agreeing_fin_arrives();
+    agreeing_streams_arrive();
     pair_core::laws::sides_agree::<G>();
 }

@@ -1,6 +1,6 @@
 -- Any call keeps it: a receive buffer that has a byte has room for one unit of the own window field.
 use Rattle.std.proofs.Common.{◌≡◌, ℕ, zero, suc, ◌+◌, ◌^◌, ◌<◌, ◌≤◌, Bool, true, false, refl, sym, ap, subst, if◌then◌else◌, List, [], ◌∷◌, ◌++◌, length, take, drop, map, min, replicate, Option, Some, None, arith, length-append, length-drop, max}
-use Rattle.std.proofs.Math.Nat.{pow-le-pow_right}
+use Rattle.std.proofs.Math.Pow.{pow_mono}
 use Rattle.std.proofs.lemmas.List.{length-replicate, length-take}
 use Rattle.net_base.specs.declared.time.Instant.{Instant}
 use Rattle.control_wire.specs.Segment.{Segment}
@@ -30,15 +30,22 @@ IsScaled v = HasUnit (room_of v.rx_buffer) v.remote_win_shift
 
 -- ---- the buffer has no fewer places than before
 
-unit_of : (n : ℕ) → HasUnit n (window_shift n)
-unit_of n = by (window_shift n) refl
+-- the shift of a window leaves a unit of it
+pub shift_within : (n : ℕ) → 0 < n → 2 ^ window_shift n ≤ n
+shift_within n some = by (window_shift n) refl
   where
-    by : (r : ℕ) → r ≡ window_shift n → 2 ^ r ≤ max 1 n
-    by zero e = omega arith
-    by (suc r) e =
-        let least : 2 ^ (15 + suc r) ≤ n = is_shift_least n (suc r) e (omega arith) in
-        let more : 2 ^ suc r ≤ 2 ^ (15 + suc r) = pow-le-pow_right {n = 2} (omega arith) {i = suc r} {j = 15 + suc r} (omega arith) in
-        omega (arith, least, more)
+    by : (r : ℕ) → r ≡ window_shift n → 2 ^ window_shift n ≤ n
+    by zero e = rw (sym e) (omega (arith, some))
+    by (suc r) e = let h = is_shift_least n (suc r) e (omega arith) in let m : 2 ^ suc r ≤ 2 ^ (15 + suc r) = pow_mono {i = suc r} {j = 15 + suc r} (omega arith) in rw (sym e) (omega (arith, h, m))
+
+pub taken_within : (n : ℕ) (o : Option ℕ) → 0 < n → 2 ^ shift_taken (window_shift n) o ≤ n
+taken_within n None some = omega (arith, some)
+taken_within n (Some m) some = shift_within n some
+
+unit_of : (n : ℕ) → HasUnit n (window_shift n)
+unfolding window_shift
+unit_of zero = omega arith
+unit_of (suc n) = let h : 2 ^ window_shift (suc n) ≤ suc n = shift_within (suc n) (omega arith) in omega (arith, h)
 
 written_room : (hs : List (Option ℕ)) (o : ℕ) (ys : List ℕ) → length hs ≤ length (written hs o ys)
 written_room hs o ys =

@@ -1,0 +1,337 @@
+-- What a speaker says reaches the taker: something joins its queue, or its FIN is counted, or it is answered.
+use Rattle.std.proofs.Common.{◌≡◌, ℕ, ◌+◌, ◌<◌, ◌≤◌, ◌^◌, ◌⊎◌, inl, inr, true, false, refl, sym, ap, subst, ◌∙◌, List, [], ◌++◌, length, drop, Option, Some, None, arith, append_assoc, length-drop, ◌/◌, min}
+use Rattle.std.specs.Prelude.{Err, if◌then◌else◌, not, ◌==◌, Ok}
+use Rattle.std.proofs.lemmas.Int.{ints}
+use Rattle.std.proofs.lemmas.List.{drop_all}
+use Rattle.net_base.specs.declared.time.Duration.{Duration}
+use Rattle.net_base.specs.declared.time.Instant.{Instant}
+use Rattle.control_wire.specs.Segment.{Segment}
+use Rattle.control_wire.specs.Seq.{seq_add, seq_minus}
+use Rattle.control_wire.specs.declared.seq_number.TcpSeqNumber.{TcpSeqNumber}
+use Rattle.sock_core.specs.Facts.{Facts}
+use Rattle.sock_core.specs.Received.{handed_out}
+use Rattle.sock_tcp.specs.Due.{is_closing, window_field}
+use Rattle.sock_tcp.specs.Process.{Outcome, ack_sent, processed}
+use Rattle.sock_tcp.specs.Queue.{Queue}
+use Rattle.sock_tcp.specs.Queues.{read_off, receives, recv_check}
+use Rattle.sock_tcp.specs.Replies.{ack_kept, ack_segment, reply_ip}
+use Rattle.sock_tcp.specs.View.{View}
+use Rattle.sock_tcp.specs.Window.{next_ack}
+use Rattle.sock_tcp.specs.declared.error.RecvError.TheVariants as recv_error
+use Rattle.sock_tcp.specs.declared.state.State.TheVariants as state
+use Rattle.sock_tcp.specs.declared.tuple.Tuple.{Tuple}
+use Rattle.tcp_laws.specs.Polling.{IsReached}
+use Rattle.tcp_laws.proofs.OrderedCalls.{reached_ordered}
+use Rattle.progress_laws.specs.Agreement.{Agreement, AnswerIsLost, Exchange, Exchanges, ForAnswer, ForKeepAlive, ForProbe, ForRepeat, IsMove, IsSpeaker, NextOne, NoMore, Waits}
+use Rattle.progress_laws.specs.Delivery.{HasSaid}
+use Rattle.progress_laws.specs.InStep.{Carries, IsAnswered, Reads, told}
+use Rattle.progress_laws.specs.ShutWindows.{width}
+use Rattle.progress_laws.specs.Speech.{FromUna, KeepsAlive, Speech}
+use Rattle.progress_laws.proofs.Agrees.{answers_agree, answers_open, hears, hears_agrees, left_agrees, nothing_left, queue_left, reads_agree, same_rx, same_shift, same_state, then_heard, width_small, window_open}
+use Rattle.progress_laws.proofs.Arrives.{away, before_window}
+use Rattle.progress_laws.proofs.Begins.{dispatch_reached, some_or_none}
+use Rattle.progress_laws.proofs.Delivers.{Arrived, CountsFin, FromFront, IsAnswered as Answers, Joins, SpeaksOn, arrives, faces_so}
+use Rattle.progress_laws.proofs.Spoken.{ack, bit, field, fin_ends, fin_of_closing, first_bytes}
+use Rattle.progress_laws.proofs.Taking.{take_all}
+use Rattle.progress_laws.proofs.Talks.{AsksOnly, StartsAtUna}
+use Rattle.tcp_laws.proofs.Scaled.{unit_fits}
+use Rattle.progress_laws.proofs.Utters.{Utters, onward}
+
+-- ---- what comes of it
+
+-- they agree again, all that came was read, and nothing of either stream is lost
+pub record Onward (d : Duration) (t : Tuple) (f : Facts) (at : Instant) (v w : View) (got : List ℕ) (n h : ℕ) : Type 0 where
+  pub end : Instant
+  pub sender : View
+  pub receiver : View
+  pub more : List ℕ
+  pub taken : ℕ
+  pub heard : ℕ
+  pub exchanges : Exchanges f at v w got end sender receiver more
+  pub agrees : Agreement d t sender receiver taken heard
+  pub read : receiver.rx_buffer.bytes ≡ []
+  pub state : sender.state ≡ v.state
+  pub nothing_taken : sender.rx_buffer ≡ v.rx_buffer
+  pub shift : sender.remote_win_shift ≡ v.remote_win_shift
+  pub fewer : length receiver.tx_buffer.bytes ≤ length w.tx_buffer.bytes
+  pub speaks : (e : Duration) (r : Tuple) → IsSpeaker e r w → h ≤ length w.tx_buffer.bytes → 0 < window_field v → IsSpeaker e r receiver × (heard ≤ length receiver.tx_buffer.bytes) × (receiver.state ≡ w.state)
+  pub whole : more ++ drop taken sender.tx_buffer.bytes ≡ got ++ drop n v.tx_buffer.bytes
+  pub nothing_lost : drop heard receiver.tx_buffer.bytes ≡ drop h w.tx_buffer.bytes
+
+-- the FIN was counted, and all was read
+pub record Ends (f : Facts) (at : Instant) (v w : View) (got : List ℕ) (n : ℕ) : Type 0 where
+  pub end : Instant
+  pub sender : View
+  pub receiver : View
+  pub exchanges : Exchanges f at v w got end sender receiver (got ++ drop n v.tx_buffer.bytes)
+  pub finished : recv_check receiver ≡ Err recv_error.Finished
+  pub closing : is_closing v.state ≡ true
+
+-- why nothing joined: w had it; or its window had no place; or it was a keep-alive, as v knew no window
+pub data Reason (v w u : View) (n : ℕ) : Type 0 where
+  Released : 0 < n → Reason v w u n
+  WasShut : width w ≡ 0 → u.remote_win_len ≡ v.remote_win_len → Reason v w u n
+  Asked : v.remote_win_len ≡ 0 → 0 < u.remote_win_len → Reason v w u n
+
+-- Something joined; or the FIN was counted; or what w had taken is released, its window has a place, and that is told
+pub data Round (d : Duration) (t : Tuple) (f : Facts) (at : Instant) (v w : View) (got : List ℕ) (n h : ℕ) : Type 0 where
+  Grew : (o : Onward d t f at v w got n h)
+      → o.sender.tx_buffer.bytes ≡ v.tx_buffer.bytes
+      → n < o.taken
+      → Round d t f at v w got n h
+  Ended : Ends f at v w got n → Round d t f at v w got n h
+  Opened : (o : Onward d t f at v w got n h)
+      → o.taken ≡ 0
+      → o.sender.tx_buffer.bytes ≡ drop n v.tx_buffer.bytes
+      → 0 < width o.receiver
+      → Reason v w o.sender n
+      → Round d t f at v w got n h
+
+module _ (d : Duration) (t : Tuple) (f : Facts) (at : Instant) (v w : View) (got : List ℕ) (n h : ℕ) (read : w.rx_buffer.bytes ≡ []) (p : Utters d t f at v w got n h) where
+  abbrev fa : Facts
+  fa = told f p.now
+
+  abbrev x : View
+  x = p.sender
+
+  abbrev u : View
+  u = p.after
+
+  abbrev s : Segment
+  s = p.out.segment
+
+  abbrev o : Outcome
+  o = processed w p.now 0 p.out.ip s
+
+  room : 2 ^ w.remote_win_shift ≤ length w.rx_buffer.held
+  room = omega (arith, unit_fits w p.agrees.taker.reached p.agrees.taker.room, ap (λ (l : List ℕ). length l) read)
+
+  reached : IsReached u
+  reached = dispatch_reached fa false x (Some p.out) u p.agrees.speaker.reached p.dispatch
+
+  same_tx : u.tx_buffer.bytes ≡ v.tx_buffer.bytes
+  same_tx = ap (λ (q : Queue). q.bytes) (p.left.same.tx ∙ p.same.tx)
+
+  same_win : u.remote_win_len ≡ v.remote_win_len
+  same_win = p.left.same.window ∙ p.same.window
+
+  same_field : window_field x ≡ window_field v
+  same_field = λ i. min (length ((p.same.rx i).held) / 2 ^ p.same.shift i) 65535
+
+  said : Speech x p.out → HasSaid t fa false x p.out u
+  said sp = record { reached = p.agrees.speaker.reached; carries = p.agrees.speaker.carries; on = p.on; dispatch = p.dispatch; speech = sp }
+
+  -- ---- what w took is read
+
+  carried : (r : Option Segment) → o.reply ≡ r → Exchange f p.now x w got u o.view got
+  carried None e = IsMove (Carries p.out p.dispatch (ap (λ r. record { view = o.view; reply = r }) e) refl)
+  carried (Some answer) e = AnswerIsLost p.out answer p.dispatch (ap (λ r. record { view = o.view; reply = r }) e) refl
+
+  abbrev z : View
+  z = read_off o.view (length o.view.rx_buffer.bytes)
+
+  reads : Exchanges f at v w got p.now u z (got ++ o.view.rx_buffer.bytes)
+  reads = onward at p.mid p.now v w x w u z got got (got ++ o.view.rx_buffer.bytes) p.before (NextOne p.mid p.now p.now x w u o.view u z got got (got ++ o.view.rx_buffer.bytes) p.since (carried o.reply refl) (NextOne p.now p.now p.now u o.view u z u z got (got ++ o.view.rx_buffer.bytes) (got ++ o.view.rx_buffer.bytes) (grind (arith, ints)) (IsMove (Reads (length o.view.rx_buffer.bytes) (omega arith) refl refl (ap (λ (l : List ℕ). got ++ l) (sym (take_all o.view.rx_buffer.bytes))))) (NoMore p.now u z (got ++ o.view.rx_buffer.bytes))))
+
+  kept_waits : Waits o.view → Waits z
+  unfolding read_off
+  kept_waits (ForAnswer at e) = ForAnswer at e
+  kept_waits (ForRepeat e) = ForRepeat e
+  kept_waits (ForKeepAlive o e f) = ForKeepAlive o e f
+  kept_waits (ForProbe at delay e f) = ForProbe at delay e f
+
+  grew : (run : List ℕ) → 0 < length run → o.view.rx_buffer.bytes ≡ run → run ++ drop (n + length run) x.tx_buffer.bytes ≡ drop n x.tx_buffer.bytes → Agreement d t x o.view (n + length run) 0 → o.view.tx_buffer.bytes ≡ drop h w.tx_buffer.bytes → SpeaksOn x w h o.view → Round d t f at v w got n h
+  unfolding read_off
+  grew run some is whole agrees tx speaks =
+      let j : Agreement d t u o.view (n + length run) 0 = left_agrees d t x o.view (n + length run) 0 agrees u p.left reached p.waits in
+      Grew (record {
+        end = p.now;
+        sender = u;
+        receiver = z;
+        more = got ++ o.view.rx_buffer.bytes;
+        taken = n + length run;
+        heard = 0;
+        exchanges = reads;
+        agrees = reads_agree d t u o.view (n + length run) 0 j;
+        read = nothing_left d t u o.view (n + length run) 0 j;
+        state = p.left.same.state ∙ p.same.state;
+        nothing_taken = p.left.same.rx ∙ p.same.rx;
+        shift = p.left.same.shift ∙ p.same.shift;
+        fewer = omega (arith, ap (λ (l : List ℕ). length l) tx, length-drop h w.tx_buffer.bytes);
+        speaks = λ e r sp within field.
+            let p' : IsSpeaker e r o.view × (o.view.state ≡ w.state) = speaks e r sp within (subst (λ m. 0 < m) (sym same_field) field) in
+            let q = p'.0 in
+            (record { reached = (reads_agree d t u o.view (n + length run) 0 j).taker.reached; carries = q.carries; peer = q.peer; no_timeout = q.no_timeout; keep_alive = q.keep_alive; waits = kept_waits q.waits }, omega arith, p'.1);
+        whole = append_assoc got o.view.rx_buffer.bytes (drop (n + length run) u.tx_buffer.bytes) ∙ (λ i. got ++ (is i ++ drop (n + length run) ((p.left.same.tx i).bytes))) ∙ ap (λ (l : List ℕ). got ++ l) whole ∙ ap (λ (q : Queue). got ++ drop n q.bytes) p.same.tx;
+        nothing_lost = tx;
+      }) same_tx (omega (arith, some))
+
+  ended : is_closing x.state ≡ true → receives o.view.state ≡ false → o.view.rx_fin_received ≡ true → o.view.rx_buffer.bytes ≡ drop n x.tx_buffer.bytes → Round d t f at v w got n h
+  unfolding read_off handed_out
+  ended closing stops fin rest = Ended (record {
+    closing = ap is_closing (sym p.same.state) ∙ closing;
+    end = p.now;
+    sender = u;
+    receiver = z;
+    exchanges = subst (λ l. Exchanges f at v w got p.now u z (got ++ l)) (rest ∙ ap (λ (q : Queue). drop n q.bytes) p.same.tx) reads;
+    finished = ap (λ b. if (if b then true else not (length z.rx_buffer.bytes == 0)) then Ok tt else Err (if z.rx_fin_received then recv_error.Finished else recv_error.InvalidState)) stops ∙ ap (λ (l : List ℕ). if not (length l == 0) then Ok tt else Err (if z.rx_fin_received then recv_error.Finished else recv_error.InvalidState)) none ∙ ap (λ b. Err (if b then recv_error.Finished else recv_error.InvalidState)) fin;
+  })
+    where
+      none : z.rx_buffer.bytes ≡ []
+      none = drop_all (length o.view.rx_buffer.bytes) o.view.rx_buffer.bytes (omega arith)
+
+  -- ---- it is answered
+
+  module _ (is : o ≡ ack_sent w s) (small : s.seq_number.0 < 2 ^ 32) (short : length s.payload ≤ 65535) (number : s.ack_number ≡ Some (next_ack x)) where
+    abbrev y : View
+    y = ack_kept w
+
+    j : Agreement d t u y n h
+    j = left_agrees d t x y n h (answers_agree d t x w n h p.agrees p.now p.out.ip s small short number is) u p.left reached p.waits
+
+    open_ : 0 < width y
+    open_ = answers_open d t x w n h p.agrees room
+
+    y_speaks : (e : Duration) (r : Tuple) → IsSpeaker e r w → h ≤ length w.tx_buffer.bytes → IsSpeaker e r y × (h ≤ length y.tx_buffer.bytes) × (y.state ≡ w.state)
+    unfolding ack_kept
+    y_speaks e r sp within = (record { reached = j.taker.reached; carries = sp.carries; peer = sp.peer; no_timeout = sp.no_timeout; keep_alive = sp.keep_alive; waits = by sp.waits }, within, refl)
+      where
+        by : Waits w → Waits y
+        by (ForAnswer at e) = ForAnswer at e
+        by (ForRepeat e) = ForRepeat e
+        by (ForKeepAlive o e f) = ForKeepAlive o e f
+        by (ForProbe at delay e f) = ForProbe at delay e f
+
+    -- and the answer is heard
+    heard_so : (x.state ≡ state.LastAck → 0 < n) → (u' : View) → processed u p.now 0 (reply_ip p.out.ip (ack_segment w s)) (ack_segment w s) ≡ record { view = u'; reply = None } → Exchanges f at v w got p.now u' y got
+    heard_so last u' e = onward at p.mid p.now v w x w u' y got got got p.before (NextOne p.mid p.now p.now x w u' y u' y got got got p.since (IsMove (IsAnswered p.out u (ack_segment w s) p.dispatch is e refl)) (NoMore p.now u' y got))
+
+    hears_it : (x.state ≡ state.LastAck → 0 < n) → ((u' : View) → 0 < u'.remote_win_len → Reason v w u' n) → Round d t f at v w got n h
+    unfolding ack_kept ack_segment
+    hears_it last why =
+        let g : Segment = ack_segment w s in
+        let some : u.state ≡ state.LastAck → 0 < n = λ e. last (sym p.left.same.state ∙ e) in
+        let ip = reply_ip p.out.ip g in
+        Opened (record {
+          end = p.now;
+          sender = then_heard d t u y n h j room some p.now ip g refl refl refl refl refl;
+          receiver = y;
+          more = got;
+          taken = 0;
+          heard = h;
+          exchanges = heard_so last (then_heard d t u y n h j room some p.now ip g refl refl refl refl refl) (hears d t u y n h j room some p.now ip g refl refl refl refl refl);
+          agrees = hears_agrees d t u y n h j room some p.now ip g refl refl refl refl refl;
+          read = read;
+          state = same_state d t u y n h j room some p.now ip g refl refl refl refl refl ∙ p.left.same.state ∙ p.same.state;
+          nothing_taken = same_rx d t u y n h j room some p.now ip g refl refl refl refl refl ∙ p.left.same.rx ∙ p.same.rx;
+          shift = same_shift d t u y n h j room some p.now ip g refl refl refl refl refl ∙ p.left.same.shift ∙ p.same.shift;
+          fewer = omega arith;
+          speaks = λ e r sp within field. y_speaks e r sp within;
+          whole = ap (λ (l : List ℕ). got ++ l) (queue_left d t u y n h j room some p.now ip g refl refl refl refl refl ∙ ap (drop n) same_tx);
+          nothing_lost = refl;
+        }) refl (queue_left d t u y n h j room some p.now ip g refl refl refl refl refl ∙ ap (drop n) same_tx) open_ (why (then_heard d t u y n h j room some p.now ip g refl refl refl refl refl) (window_open d t u y n h j room some p.now ip g refl refl refl refl refl))
+
+    -- or it is lost
+    loses_it : n ≡ 0 → width w ≡ 0 → Round d t f at v w got n h
+    unfolding ack_kept
+    loses_it none shut = Opened (record {
+      end = p.now;
+      sender = u;
+      receiver = y;
+      more = got;
+      taken = n;
+      heard = h;
+      exchanges = onward at p.mid p.now v w x w u y got got got p.before (NextOne p.mid p.now p.now x w u y u y got got got p.since (AnswerIsLost p.out (ack_segment w s) p.dispatch is refl) (NoMore p.now u y got));
+      agrees = j;
+      read = read;
+      state = p.left.same.state ∙ p.same.state;
+      nothing_taken = p.left.same.rx ∙ p.same.rx;
+      shift = p.left.same.shift ∙ p.same.shift;
+      fewer = omega arith;
+      speaks = λ e r sp within field. y_speaks e r sp within;
+      whole = ap (λ (l : List ℕ). got ++ drop n l) same_tx;
+      nothing_lost = refl;
+    }) none (same_tx ∙ ap (λ m. drop m v.tx_buffer.bytes) (sym none)) open_ (WasShut shut same_win)
+
+  -- ---- the round
+
+  una_small : x.local_seq_no.0 < 2 ^ 32
+  una_small = (reached_ordered x p.agrees.speaker.reached).una_small
+
+  from_front : StartsAtUna x p.out → Round d t f at v w got n h
+  from_front q = by (arrives d t x w n h p.agrees read p.now p.out.ip s front)
+    where
+      sp : HasSaid t fa false x p.out u
+      sp = said (FromUna q.kind q.number q.some)
+
+      front : FromFront x s
+      front = record {
+        bit = bit t fa false x p.out u sp;
+        ack = ack t fa false x p.out u sp;
+        number = q.number;
+        first = first_bytes t fa false x p.out u sp q.kind q.number;
+        field = field t fa false x p.out u sp;
+        fin = fin_ends t fa false x p.out u sp q.kind q.number;
+        closing = fin_of_closing t fa false x p.out u sp q.kind q.number;
+        some = q.some;
+        short = q.short;
+      }
+
+      small : s.seq_number.0 < 2 ^ 32
+      small = omega (arith, ap (λ (m : TcpSeqNumber). m.0) q.number, una_small)
+
+      answered : o ≡ ack_sent w s → (n ≡ 0 → width w ≡ 0) → (n ≡ 0) ⊎ (0 < n) → Round d t f at v w got n h
+      answered is shut (inl none) = loses_it is small q.short front.ack none (shut none)
+      answered is shut (inr some) = hears_it is small q.short front.ack (λ e. some) (λ u' win. Released some)
+
+      by : Arrived d t x w n h s o → Round d t f at v w got n h
+      by (Joins run some is whole agrees tx speaks) = grew run some is whole agrees tx speaks
+      by (CountsFin closing stops fin rest) = ended closing stops fin rest
+      by (Answers is shut) = answered is shut (some_or_none n)
+
+  asks : AsksOnly x p.out → Round d t f at v w got n h
+  asks q = hears_it is small short number last why
+    where
+      sp : HasSaid t fa false x p.out u
+      sp = said (KeepsAlive q.kind q.number q.byte)
+
+      number : s.ack_number ≡ Some (next_ack x)
+      number = ack t fa false x p.out u sp
+
+      at_one : s.seq_number.0 ≡ (seq_minus x.local_seq_no 1).0
+      at_one = ap (λ (m : TcpSeqNumber). m.0) q.number
+
+      small : s.seq_number.0 < 2 ^ 32
+      small = omega (arith, at_one)
+
+      long : length s.payload ≡ 1
+      long = ap (λ (l : List ℕ). length l) q.byte
+
+      short : length s.payload ≤ 65535
+      short = omega (arith, long)
+
+      edge : (next_ack w).0 ≡ (seq_add x.local_seq_no n).0
+      edge = ap (λ (m : TcpSeqNumber). m.0) p.agrees.there
+
+      few : n ≤ 2 ^ 30
+      few = omega (arith, p.agrees.taken_within, (reached_ordered x p.agrees.speaker.reached).room)
+
+      is : o ≡ ack_sent w s
+      is = away w (next_ack x) (faces_so d t x w n h p.agrees) p.now 0 p.out.ip s (bit t fa false x p.out u sp) number (before_window w s (width_small w p.agrees.taker.reached) (omega (arith, long)) small (omega (arith, edge, at_one, una_small, few)) (omega (arith, edge, at_one, una_small, few)) (omega (arith, edge, at_one, una_small, few, long))) (omega (arith, long))
+
+      last : x.state ≡ state.LastAck → 0 < n
+      last e = by (p.agrees.last e)
+        where
+          by : (0 < n) ⊎ (0 < x.remote_win_len) → 0 < n
+          by (inl some) = some
+          by (inr win) = absurd (omega (arith, win, q.shut))
+
+      why : (u' : View) → 0 < u'.remote_win_len → Reason v w u' n
+      why u' win = Asked (sym p.same.window ∙ q.shut) win
+
+  pub round : Round d t f at v w got n h
+  round = by p.said
+    where
+      by : StartsAtUna x p.out ⊎ AsksOnly x p.out → Round d t f at v w got n h
+      by (inl q) = from_front q
+      by (inr q) = asks q
