@@ -170,7 +170,12 @@ impl Heard<'_> {
         let mut highest = 0;
         for segment in self.segments {
             if segment.from == self.side && length(segment) > 0 {
-                let end = segment.header.repr.seq_number.0.wrapping_add(length(segment));
+                let end = segment
+                    .header
+                    .repr
+                    .seq_number
+                    .0
+                    .wrapping_add(length(segment));
                 highest = highest.max(self.offset(end));
             }
         }

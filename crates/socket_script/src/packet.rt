@@ -89,5 +89,3 @@ pub fn header(
         _ => None,
     }
 }
-
-}

@@ -75,8 +75,6 @@ pub fn icmp_bytes(alloc: Global, repr: &Icmpv4Repr<'_>) -> Result<Vec<u8>, Alloc
     Ok(bytes)
 }
 
-}
-
 fn copy(alloc: Global, bytes: &[u8]) -> Result<Vec<u8>, AllocError> {
     let mut all = Vec::new(alloc);
     all.extend_from_slice(bytes)?;
