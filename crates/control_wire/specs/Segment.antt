@@ -1,6 +1,7 @@
 -- TCP segments by value, their payload as a list.
-use Rattle.std.specs.Prelude.{ℕ, ◌+◌, ◌*◌, ◌/◌, List, length, Option, Bool, true, false, is_some, if◌then◌else◌, ◌==◌}
-use Rattle.std.specs.Prelude.{◌&&◌, count_by}
+use Rattle.std.specs.Prelude.{ℕ, ◌+◌, ◌*◌, ◌/◌, List, [], ◌∷◌, length, Option, None, Bool, true, false, is_some}
+use Rattle.std.specs.Prelude.{if◌then◌else◌, ◌==◌, ◌&&◌, count_by}
+use Rattle.control_wire.specs.Seq.{seq_of}
 use Rattle.control_wire.specs.declared.seq_number.TcpSeqNumber.{TcpSeqNumber}
 use Rattle.control_wire.specs.declared.tcp.TcpControl.{TcpControl}
 use Rattle.control_wire.specs.declared.tcp.TcpControl.TheVariants as control
@@ -36,6 +37,24 @@ segment_of t =
       sack_ranges = t.sack_ranges;
       timestamp = t.timestamp;
       payload = t.payload.now;
+    }
+
+-- between these ports, with nothing else set
+abbrev pub bare_segment : ℕ → ℕ → Segment
+bare_segment src dst =
+    record {
+      src_port = src;
+      dst_port = dst;
+      control = control.None;
+      seq_number = seq_of 0;
+      ack_number = None;
+      window_len = 0;
+      window_scale = None;
+      max_seg_size = None;
+      sack_permitted = false;
+      sack_ranges = None ∷ None ∷ None ∷ [];
+      timestamp = None;
+      payload = [];
     }
 
 -- what SYN and FIN take of the sequence space

@@ -1,8 +1,8 @@
 //! TCP segments as values.
-ghost use Rattle.std.specs.Prelude.{◌≡◌, ◌+◌, ◌≤◌, None, IsSomeAnd, MatchOption, is_some, count_by, length};
+ghost use Rattle.std.specs.Prelude.{◌≡◌, ◌+◌, ◌≤◌, None, IsSomeAnd, MatchOption, is_some, count_by, length, []};
 ghost use Rattle.std.specs.Option.{ForSome};
-ghost use Rattle.control_wire.specs.Segment.{control_len, is_empty_segment, is_plain, options_len, sack_option_len};
-ghost use Rattle.control_wire.specs.Segment.{segment_header_len, segment_len, segment_of, without_psh};
+ghost use Rattle.control_wire.specs.Segment.{bare_segment, control_len, is_empty_segment, is_plain, options_len};
+ghost use Rattle.control_wire.specs.Segment.{sack_option_len, segment_header_len, segment_len, segment_of, without_psh};
 
 use crate::seq_number::TcpSeqNumber;
 
@@ -117,6 +117,54 @@ pub struct TcpRepr<'a> {
 }
 
 impl TcpRepr<'_> {
+    /// A segment between these ports in which nothing else is set.
+    pub const fn bare(src_port: u16, dst_port: u16) -> TcpRepr<'static>
+        ensures segment { segment_of result ≡ bare_segment src_port dst_port }
+        ensures bare { result.payload.now ≡ [] }
+    {
+        TcpRepr {
+            src_port,
+            dst_port,
+            control: TcpControl::None,
+            seq_number: TcpSeqNumber(0),
+            ack_number: None,
+            window_len: 0,
+            window_scale: None,
+            max_seg_size: None,
+            sack_permitted: false,
+            sack_ranges: [None, None, None],
+            timestamp: None,
+            payload: &[],
+        }
+    }
+
+    /// The same segment with this payload in place of its own.
+    pub fn with_payload<'p>(&self, payload: &'p [u8]) -> TcpRepr<'p>
+        ensures { segment_of result ≡ record (segment_of self.now) { payload = payload.now } }
+    {
+        TcpRepr {
+            src_port: self.src_port,
+            dst_port: self.dst_port,
+            control: self.control,
+            seq_number: self.seq_number,
+            ack_number: self.ack_number,
+            window_len: self.window_len,
+            window_scale: self.window_scale,
+            max_seg_size: self.max_seg_size,
+            sack_permitted: self.sack_permitted,
+            sack_ranges: self.sack_ranges,
+            timestamp: self.timestamp,
+            payload,
+        }
+    }
+
+    /// The same segment without its payload.
+    pub fn without_payload(&self) -> TcpRepr<'static>
+        ensures { segment_of result ≡ record (segment_of self.now) { payload = [] } }
+    {
+        self.with_payload(&[])
+    }
+
     /// How many bytes the header takes with its options, a multiple of 4 (RFC 9293, section 3.1).
     pub fn header_len(&self) -> usize
         ensures { result ≡ segment_header_len (segment_of self.now) }

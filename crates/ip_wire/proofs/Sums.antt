@@ -195,13 +195,13 @@ number_after n xs i j h k e =
     let high = be16_at xs i in
     let low = be16_at xs (i + 2) in
     let end : i + 2 + 2 ≡ j = omega (arith, e) in
-    let turned : n + high + low ≡ n + low + high = omega arith in
+    let regrouped : n + high + low ≡ n + low + high = omega arith in
     let number : n + low + 65536 * high ≡ n + (65536 * high + low) = omega arith in
     step_two (word_of n) xs i (omega arith)
     ∙ ap (λ v. sum_after v (drop (i + 2) xs)) (word_of_more n high (omega arith))
     ∙ step_two (word_of (n + high)) xs (i + 2) (omega arith)
     ∙ ap (λ v. sum_after v (drop (i + 2 + 2) xs))
-    (word_of_more (n + high) low (omega arith) ∙ ap word_of turned ∙ word_of_carries (n + low) high ∙ ap word_of number)
+    (word_of_more (n + high) low (omega arith) ∙ ap word_of regrouped ∙ word_of_carries (n + low) high ∙ ap word_of number)
     ∙ ap (λ v. sum_after (word_of (n + be32_at xs i)) (drop v xs)) end
 
 pub four_octets : (n : ℕ) (xs : List ℕ) → ((k : ℕ) → k < length xs → get_or xs k 0 < 256) → length xs ≡ 4
@@ -239,12 +239,12 @@ pseudo src dst protocol len s d h ss ds =
     let low = 256 * c + e in
     let n = 0 + s + d in
     let end = 0 ∷ 0 ∷ 0 ∷ protocol ∷ [] in
-    let turned : n + high + low ≡ n + low + high = omega arith in
+    let regrouped : n + high + low ≡ n + low + high = omega arith in
     let whole : n + low + 65536 * high + 0 + (0 + protocol) ≡ s + d + (len % 4294967296 + protocol) = omega arith in
     ap (λ v. sum_after (sum_after v (octets_of dst)) (be32 len ++ end)) (ss 0)
     ∙ ap (λ v. sum_after v (be32 len ++ end)) (ds (0 + s))
     ∙ ap (λ v. sum_after (ones_add v low) end) (word_of_more n high (omega arith))
-    ∙ ap (λ v. sum_after v end) (word_of_more (n + high) low (omega arith) ∙ ap word_of turned ∙ word_of_carries (n + low) high)
+    ∙ ap (λ v. sum_after v end) (word_of_more (n + high) low (omega arith) ∙ ap word_of regrouped ∙ word_of_carries (n + low) high)
     ∙ ap (λ v. ones_add v (0 + protocol)) (word_of_more (n + low + 65536 * high) 0 (omega arith))
     ∙ word_of_more (n + low + 65536 * high + 0) (0 + protocol) (omega (arith, h))
     ∙ ap word_of whole

@@ -371,3 +371,5 @@ module _ {X R : Type 0} (ms : Ring (PacketMetadata X)) (bytes : List ℕ) (k n :
     met = subst (λ (bs : List ℕ). called bs r lent.left) (sym (first-view ms bytes k n p is laid m rest starts ∙ (λ i. take m.size (drop (start-view ms bytes k n p is laid i) (sym (ap (λ (p : Packets X). p.storage) is) i))))) lent.met;
     after = view_written;
   }
+
+pub ruleset restarts = (laid_restarted, restarted_is, not_restarted_is)

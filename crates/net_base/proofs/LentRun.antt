@@ -9,10 +9,10 @@ use mir.Syntax.{Lifetime}
 use mir.Val.{Val, of_list, vstruct, vnil}
 use base.Logic.{SProp, ent, sep, ex, emp, via, id⊢}
 use base.Stored.{coded_list}
-use base.Fml.{Lft, GName, Share, Fml, fsep, feq, flft, fobs, fbor}
+use base.Fml.{Lft, GName, Share, flft, fobs, fbor}
 use types.Logic.{Logic, sem}
-use types.Kit.{‵, ◌⊛◌, raw, ◌$◌, ◌∵◌, !, qed, by, move, drop, fsplit, fsplit3, fjoin, fpack, updating, await, later, some, use1, use2, group, pick, now, show, done, split, split3, join, rewrite, feq_l, feq_i}
-use types.SemTy.{SemTy, cells, Arr, Body}
+use types.Kit.{‵, ◌⊛◌, ◌$◌, ◌∵◌, !, qed, move, drop, fsplit, fsplit3, fjoin, fpack, updating, await, later, some, use1, use2, group, pick, now, show, done, split, split3, join, rewrite, feq_l, feq_i}
+use types.SemTy.{cells, Arr, Body}
 use types.Follow.{takes_part}
 use types.Match.{live}
 use types.Mut.{open_ref}
@@ -30,7 +30,7 @@ use denote.Enum.Row.{tagged_with}
 use denote.Enum.Enum.{form_of, in_a_row}
 use denote.Enum.Declared.{shape}
 use borrow.Table.Elements.{at, cut_app, join_app}
-use Rattle.std.specs.Prelude.{Result, Ok, Err}
+use Rattle.std.specs.Prelude.{Ok, Err}
 use Rattle.std.specs.contracts.result.Result as RS
 use Rattle.net_base.specs.contracts.packet_buffer.Full as Fu
 

@@ -119,14 +119,6 @@ module _ {X : Type 0} where
       subst (λ (q : Packets X). size ≤ run_of q) (sym (q_is ∙ ap (λ r. appended None r p) run_is))
       (padded_run p size start within (subst (λ r. r < size) run_is short) (subst (λ r. size ≤ room_of p - r) run_is (subst (λ r. size ≤ r - run) room_is left)))
 
-  pub restarted_free : (p q : Packets X) → q ≡ restarted p → (length p.entries == p.places) ≡ false → length p.entries ≤ p.places → length q.entries < q.places
-  restarted_free p q q_is some few =
-      subst (λ (q : Packets X). length q.entries < q.places) (sym q_is)
-      (omega (arith, ap (λ (es : List (Option X × List ℕ)). length es) (restarted-entries p), restarted-places p, free_from p some few))
-    where
-      free_from : (p : Packets X) → (length p.entries == p.places) ≡ false → length p.entries ≤ p.places → length p.entries < p.places
-      free_from p some few = grind (arith, nat_tests)
-
   -- one entry of padding less leaves the same
   step_from : (m k : ℕ) (es : List (Option X × List ℕ)) → starts_padded es ≡ true → skipped_from m (place_of m k (length (first_bytes es))) (drop 1 es) ≡ skipped_from m k es
   step_from m k [] h = absurd (false≢true h)

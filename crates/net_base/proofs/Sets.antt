@@ -350,3 +350,5 @@ module _ (o n : ℕ) (ranges all : List Range) (count m : ℕ) (rs : List Range)
     added =
         same_first ∙ sym (joined_is o n rs held_tidy some all m with_added first long few far)
         ∙ ap (λ b. cond b rs (ranges_after o n rs)) (sym (refused_is o n rs held_tidy some all m with_added first long few far ∙ le-ltb 4 m fits))
+
+pub ruleset additions = (front_answered, front_apart, added_apart, added)

@@ -83,7 +83,7 @@ impl Assembler {
     /// answered, and the other offsets fall by this length. The length is 0 where offset 0 was not added.
     ///
     /// Refused exactly where `offset` is not 0 and the addition would make a fifth range; then nothing changes.
-    #[tactic(auto, using(crate::proofs::Sets::front_answered, crate::proofs::Sets::front_apart, crate::proofs::Sets::added_apart, crate::proofs::Sets::added))]
+    #[tactic(auto, using(crate::proofs::Sets::additions))]
     pub fn add_then_remove_front(
         &mut self,
         offset: usize,

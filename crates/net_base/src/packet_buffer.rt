@@ -13,7 +13,7 @@ ghost use Rattle.net_base.specs.Packets.{first_bytes, first_header, starts_padde
 ghost use Rattle.net_base.specs.Packets.{restarted, fits, padded_for, made_room, takes, with_storage, written_behind};
 ghost use Rattle.net_base.specs.Packets.{first_packet, Dequeues, Claims, WritesBoth, WritesFirst, TakesFirst};
 ghost use Rattle.net_base.specs.Packets.{AppendsWith, Enqueues};
-ghost use Rattle.net_base.specs.PacketLends.{LendsAll, ShowsFirst, TakesPacket, LendsPacket, with_packet};
+ghost use Rattle.net_base.specs.PacketLends.{LendsAll, ShowsFirst, TakesPacket, with_packet};
 
 use crate::ring_buffer::{RingBuffer, place};
 use std::marker::Model;
@@ -154,9 +154,11 @@ impl<'a, H: Copy> PacketBuffer<'a, H> {
     }
 
     // An empty payload ring starts anew at the storage's first place.
-    #[tactic(auto, using(crate::proofs::Entries::laid_restarted, crate::proofs::Entries::restarted_is, crate::proofs::Entries::not_restarted_is))]
+    #[tactic(auto, using(crate::proofs::Entries::restarts))]
     fn restart(&mut self)
-        ensures { self.new ≡ restarted self.old }
+        ensures after { self.new ≡ restarted self.old }
+        ensures entries { self.new.entries ≡ self.old.entries }
+        ensures places { self.new.places ≡ self.old.places }
     {
         if self.length == 0 {
             self.start = 0;
@@ -200,7 +202,7 @@ impl<'a, H: Copy> PacketBuffer<'a, H> {
     }
 
     // Makes room for an entry of `size` bytes behind the others. Answers whether there is room.
-    #[tactic(auto, using(crate::proofs::PacketLists::restarted_free), unfolding(crate::specs::Packets::made_room, crate::specs::Packets::takes))]
+    #[tactic(auto, unfolding(crate::specs::Packets::made_room, crate::specs::Packets::takes))]
     fn make_room(&mut self, size: usize) -> bool
         ensures after { self.new ≡ made_room size self.old }
         ensures takes { result ≡ takes size self.old }
@@ -222,24 +224,6 @@ impl<'a, H: Copy> PacketBuffer<'a, H> {
             return (false, 0);
         }
         (true, self.append(size, Some(header)))
-    }
-
-    /// Appends a packet, and lends its `size` bytes for writing. What stands in them as the borrow ends is the packet.
-    ///
-    /// `Full` where no place is left, or `size` bytes in one piece are not; the packets then stay as they were.
-    pub fn enqueue(&mut self, size: usize, header: H) -> Result<&mut [u8], Full>
-        ensures* after { sem 𝓛 (LendsPacket H.row size header self.entry result) }
-        ensures variant { IsOk result ↔ IsTrue (takes size self.old) }
-        ensures size { IfOk result (λ bytes. length bytes.now ≡ size) }
-        ensures value { IfOk result (λ bytes. bytes.now
-            ≡ take size (drop (end_of (made_room size self.old)) self.old.storage)) }
-    {
-        let (taken, from) = self.claim(size, header);
-        if !taken {
-            return Err(Full);
-        }
-        let all = self.all();
-        Ok(&mut all[from..from + size])
     }
 
     // Appends an entry of the first of the `size` bytes behind the others, as `f` leaves them.

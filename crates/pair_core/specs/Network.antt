@@ -31,12 +31,11 @@ pub record Network : Type 0 where
 -- the same network, as the other side sees it
 abbrev pub swapped : Network → Network
 swapped w =
-    record {
+    record w {
       local = w.remote;
       remote = w.local;
       local_segments = w.remote_segments;
       remote_segments = w.local_segments;
-      limit = w.limit;
     }
 
 abbrev pub with_local : Network → Endpoint → Network

@@ -4,26 +4,17 @@ ghost use Rattle.control_wire.specs.Fits.{FitsPacket};
 ghost use Rattle.pair_core.specs.Headers.{segment_at};
 
 use crate::side::Side;
-use control_wire::{TcpControl, TcpRepr, TcpSeqNumber, TcpTimestampRepr};
+use control_wire::TcpRepr;
 use ip_wire::IpRepr;
 use std::alloc::Global;
 
-/// The headers of a segment: all of it but its payload. The fields after the first are those of `TcpRepr`.
+/// The headers of a segment: all of it but its payload.
 #[derive(Debug, Clone, Copy, PartialEq, Eq)]
 pub struct Header {
     /// The IP header.
     pub ip_repr: IpRepr,
-    pub src_port: u16,
-    pub dst_port: u16,
-    pub control: TcpControl,
-    pub seq_number: TcpSeqNumber,
-    pub ack_number: Option<TcpSeqNumber>,
-    pub window_len: u16,
-    pub window_scale: Option<u8>,
-    pub max_seg_size: Option<u16>,
-    pub sack_permitted: bool,
-    pub sack_ranges: [Option<(u32, u32)>; 3],
-    pub timestamp: Option<TcpTimestampRepr>,
+    /// The TCP header, whose payload is left empty.
+    pub repr: TcpRepr<'static>,
 }
 
 impl Header {
@@ -35,17 +26,7 @@ impl Header {
     {
         Header {
             ip_repr,
-            src_port: repr.src_port,
-            dst_port: repr.dst_port,
-            control: repr.control,
-            seq_number: repr.seq_number,
-            ack_number: repr.ack_number,
-            window_len: repr.window_len,
-            window_scale: repr.window_scale,
-            max_seg_size: repr.max_seg_size,
-            sack_permitted: repr.sack_permitted,
-            sack_ranges: repr.sack_ranges,
-            timestamp: repr.timestamp,
+            repr: repr.without_payload(),
         }
     }
 }
@@ -75,20 +56,7 @@ impl Segment {
     pub fn as_repr(&self) -> TcpRepr<'_>
         ensures { segment_of result ≡ (stored_of self.now).segment }
     {
-        TcpRepr {
-            src_port: self.header.src_port,
-            dst_port: self.header.dst_port,
-            control: self.header.control,
-            seq_number: self.header.seq_number,
-            ack_number: self.header.ack_number,
-            window_len: self.header.window_len,
-            window_scale: self.header.window_scale,
-            max_seg_size: self.header.max_seg_size,
-            sack_permitted: self.header.sack_permitted,
-            sack_ranges: self.header.sack_ranges,
-            timestamp: self.header.timestamp,
-            payload: self.payload.as_slice(),
-        }
+        self.header.repr.with_payload(self.payload.as_slice())
     }
 
     /// Says that it can be written as a packet of at most 65535 bytes and read back.
@@ -105,8 +73,8 @@ impl Segment {
         ensures short { length (stored_of self.now).segment.payload ≤ 65535 }
     {
         self.fits(); // for its contract
-        self.header.seq_number.in_range(); // for its contract
-        match self.header.ack_number {
+        self.header.repr.seq_number.in_range(); // for its contract
+        match self.header.repr.ack_number {
             None => {}
             Some(ack) => ack.in_range(),
         }

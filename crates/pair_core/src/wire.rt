@@ -135,7 +135,7 @@ fn refusal(segment: &Segment) -> Option<Reply>
 {
     segment.in_range(); // for its contract
     segment.fits(); // for its contract
-    match segment.header.control {
+    match segment.header.repr.control {
         TcpControl::Rst => None,
         _ => Some(Socket::rst_reply(&segment.header.ip_repr, &segment.as_repr())),
     }
@@ -172,7 +172,7 @@ pub(crate) fn deliver<G: TsvalSource>(
         return Ok(Outcome::TooOld);
     }
     let accepted = host.accepts(moment, segment);
-    if !accepted && segment.header.control == TcpControl::Rst {
+    if !accepted && segment.header.repr.control == TcpControl::Rst {
         return Ok(Outcome::NotAccepted(None));
     }
     if let Err(_) = segments.reserve(1) {

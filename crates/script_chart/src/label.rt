@@ -91,7 +91,7 @@ struct Headers<'a> {
 
 impl fmt::Display for Headers<'_> {
     fn fmt<W: fmt::Write>(&self, f: &mut fmt::Formatter<W>) -> fmt::Result {
-        let (header, from) = (&self.segment.header, self.segment.from);
+        let (header, from) = (&self.segment.header.repr, self.segment.from);
         let flags = flags(header.control, header.ack_number.is_some());
         let seq = self.numbers.of(from, header.seq_number.0);
         write!(f, "{flags} seq {seq} ack ")?;
@@ -108,13 +108,13 @@ impl fmt::Display for Headers<'_> {
 
 // The options of a SYN: the largest payload, whether SACK is permitted, and the window scale.
 fn write_syn_options<W: fmt::Write>(f: &mut fmt::Formatter<W>, segment: &Segment) -> fmt::Result {
-    if let Some(size) = segment.header.max_seg_size {
+    if let Some(size) = segment.header.repr.max_seg_size {
         write!(f, " mss {size}")?;
     }
-    if segment.header.sack_permitted {
+    if segment.header.repr.sack_permitted {
         f.write_str(" sackOK")?;
     }
-    match segment.header.window_scale {
+    match segment.header.repr.window_scale {
         Some(scale) => write!(f, " wscale {scale}"),
         None => Ok(()),
     }
@@ -123,7 +123,7 @@ fn write_syn_options<W: fmt::Write>(f: &mut fmt::Formatter<W>, segment: &Segment
 impl Headers<'_> {
     // The ranges of the other side's numbers that came out of order: the first number, and that behind the last.
     fn write_sack<W: fmt::Write>(&self, f: &mut fmt::Formatter<W>) -> fmt::Result {
-        let [first, second, third] = self.segment.header.sack_ranges;
+        let [first, second, third] = self.segment.header.repr.sack_ranges;
         if first.is_some() || second.is_some() || third.is_some() {
             f.write_str(" sack")?;
         }

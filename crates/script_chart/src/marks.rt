@@ -66,13 +66,13 @@ impl Emitted {
 
     // How many of a segment's numbers were used. A SYN that now answers one says so for the first time.
     fn used_again(&mut self, segment: &Segment) -> u32 {
-        let answers = segment.header.control == TcpControl::Syn
-            && segment.header.ack_number.is_some();
+        let answers = segment.header.repr.control == TcpControl::Syn
+            && segment.header.repr.ack_number.is_some();
         if answers && !self.answered {
             self.answered = true;
             return 0;
         }
-        self.used_from(segment.header.seq_number.0)
+        self.used_from(segment.header.repr.seq_number.0)
             .min(length(segment))
     }
 
@@ -120,8 +120,8 @@ impl Marker {
 
     /// The other side took this segment.
     pub fn hear(&mut self, segment: &Segment) {
-        if let (Some(ack), false) = (segment.header.ack_number, is_reset(segment)) {
-            let heard = Some((ack.0, segment.header.window_len));
+        if let (Some(ack), false) = (segment.header.repr.ack_number, is_reset(segment)) {
+            let heard = Some((ack.0, segment.header.repr.window_len));
             match segment.from {
                 Side::A => self.b.heard = heard,
                 Side::B => self.a.heard = heard,
@@ -142,15 +142,15 @@ fn repeated(own: &mut Emitted, other: &Emitted, segment: &Segment) -> Mark {
     if is_zero_byte(segment) {
         return Mark::KeepAlive;
     }
-    let (number, length) = (segment.header.seq_number.0, length(segment));
+    let (number, length) = (segment.header.repr.seq_number.0, length(segment));
     let again = own.used_again(segment);
     own.count(number, length);
-    let Some(ack) = segment.header.ack_number else {
+    let Some(ack) = segment.header.repr.ack_number else {
         return of_numbers(again);
     };
     let may_repeat = length == 0 && !is_reset(segment) && other.used_from(ack.0) > 0;
     let probes = !segment.payload.is_empty() && own.heard == Some((number, 0));
-    match own.acknowledge(ack.0, segment.header.window_len, may_repeat) {
+    match own.acknowledge(ack.0, segment.header.repr.window_len, may_repeat) {
         Mark::New if probes => Mark::Probe(again),
         Mark::New => of_numbers(again),
         mark => mark,
@@ -170,12 +170,12 @@ fn is_zero_byte(segment: &Segment) -> bool {
 }
 
 fn is_reset(segment: &Segment) -> bool {
-    segment.header.control == TcpControl::Rst
+    segment.header.repr.control == TcpControl::Rst
 }
 
 /// How many sequence numbers a segment takes: one for each byte, one for a SYN, and one for a FIN.
 pub fn length(segment: &Segment) -> u32 {
-    let flag = match segment.header.control {
+    let flag = match segment.header.repr.control {
         TcpControl::Syn | TcpControl::Fin => 1,
         TcpControl::None | TcpControl::Psh | TcpControl::Rst => 0,
     };

@@ -42,8 +42,8 @@ impl Numbers {
 // The sequence number of the first SYN of a side.
 fn first_number(segments: &[Segment], side: Side) -> Option<u32> {
     for segment in segments {
-        if segment.from == side && segment.header.control == TcpControl::Syn {
-            return Some(segment.header.seq_number.0);
+        if segment.from == side && segment.header.repr.control == TcpControl::Syn {
+            return Some(segment.header.repr.seq_number.0);
         }
     }
     None

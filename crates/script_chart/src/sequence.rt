@@ -111,8 +111,8 @@ fn shift(segments: &[Segment], side: Side) -> u8 {
 // The window scale of a side's SYN.
 fn scale(segments: &[Segment], side: Side) -> Option<u8> {
     for segment in segments {
-        if segment.from == side && segment.header.control == TcpControl::Syn {
-            return segment.header.window_scale;
+        if segment.from == side && segment.header.repr.control == TcpControl::Syn {
+            return segment.header.repr.window_scale;
         }
     }
     None
@@ -124,7 +124,7 @@ fn is_reset(segments: &[Segment], index: Option<usize>, side: Side) -> bool {
         return false;
     };
     match segments.get(index) {
-        Some(segment) => segment.from == side && segment.header.control == TcpControl::Rst,
+        Some(segment) => segment.from == side && segment.header.repr.control == TcpControl::Rst,
         None => false,
     }
 }
@@ -138,8 +138,8 @@ impl Heard<'_> {
     // The segment that a step delivered to this side, with its acknowledgement. A reset opens and shuts no window.
     fn heard(&self, step: &Step<'_>) -> Option<(&Segment, u64)> {
         let segment = self.segments.get(step.delivered()?)?;
-        let ack = segment.header.ack_number?;
-        if segment.from == self.side || segment.header.control == TcpControl::Rst {
+        let ack = segment.header.repr.ack_number?;
+        if segment.from == self.side || segment.header.repr.control == TcpControl::Rst {
             return None;
         }
         Some((segment, self.offset(ack.0)))
@@ -147,8 +147,8 @@ impl Heard<'_> {
 
     // The window of such a segment, in bytes.
     fn window(&self, segment: &Segment) -> u64 {
-        let window = u64::from(segment.header.window_len);
-        match segment.header.control {
+        let window = u64::from(segment.header.repr.window_len);
+        match segment.header.repr.control {
             TcpControl::Syn => window,
             _ => window.saturating_mul(1u64 << u32::from(self.shift.min(14))),
         }
@@ -170,7 +170,12 @@ impl Heard<'_> {
         let mut highest = 0;
         for segment in self.segments {
             if segment.from == self.side && length(segment) > 0 {
-                let end = segment.header.seq_number.0.wrapping_add(length(segment));
+                let end = segment
+                    .header
+                    .repr
+                    .seq_number
+                    .0
+                    .wrapping_add(length(segment));
                 highest = highest.max(self.offset(end));
             }
         }
@@ -333,7 +338,7 @@ impl<W: Write> Picture<'_, '_, W> {
     }
 
     fn ranges(&mut self, x: u64, segment: &Segment) -> io::Result<()> {
-        let [first, second, third] = segment.header.sack_ranges;
+        let [first, second, third] = segment.header.repr.sack_ranges;
         self.range(x, first)?;
         self.range(x, second)?;
         self.range(x, third)
@@ -399,7 +404,7 @@ impl<W: Write> Picture<'_, '_, W> {
     // A segment: its numbers that were sent before, and the others.
     fn bar(&mut self, x: u64, segment: &Segment, mark: Mark, arrived: bool) -> io::Result<()> {
         let heard = self.heard;
-        let from = heard.offset(segment.header.seq_number.0);
+        let from = heard.offset(segment.header.repr.seq_number.0);
         let to = from.saturating_add(u64::from(length(segment)));
         let again = match mark {
             Mark::Retransmission(count) | Mark::Probe(count) => u64::from(count),
@@ -440,7 +445,7 @@ impl<W: Write> Picture<'_, '_, W> {
 
     // The name of a SYN or FIN, above its last number.
     fn flag(&mut self, x: u64, last: u64, segment: &Segment) -> io::Result<()> {
-        let name = match segment.header.control {
+        let name = match segment.header.repr.control {
             TcpControl::Syn => "SYN",
             TcpControl::Fin => "FIN",
             _ => return Ok(()),

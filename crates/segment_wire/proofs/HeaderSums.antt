@@ -15,10 +15,10 @@ number : (n x : ℕ) (rest : List ℕ) → x < 2 ^ 32 → sum_after (word_of n) 
 number n x rest h =
     let high = 256 * (x / 65536 / 256 % 256) + x / 65536 % 256 in
     let low = 256 * (x / 256 % 256) + x % 256 in
-    let turned : n + high + low ≡ n + low + high = omega arith in
+    let regrouped : n + high + low ≡ n + low + high = omega arith in
     let whole : n + low + 65536 * high ≡ n + x = omega (arith, h) in
     two_words n high low rest (omega arith) (omega arith)
-    ∙ ap (λ v. sum_after v rest) (ap word_of turned ∙ word_of_carries (n + low) high ∙ ap word_of whole)
+    ∙ ap (λ v. sum_after v rest) (ap word_of regrouped ∙ word_of_carries (n + low) high ∙ ap word_of whole)
 
 -- a number of two octets more
 short : (n x : ℕ) (rest : List ℕ) → x < 65536 → sum_after (word_of n) (be16 x ++ rest) ≡ sum_after (word_of (n + x)) rest

@@ -67,10 +67,10 @@ padding_read o (suc (suc n)) = refl
 
 pub options_back : (s : Segment) → IsWritable s → options_read 0 no_options (options_octets s) ≡ Some (made s.max_seg_size s.window_scale s.sack_permitted s.sack_ranges s.timestamp)
 options_back s is =
-    mss_read s.max_seg_size _ is.size_fits ∙ scale_read s.max_seg_size s.window_scale _ is.scale
+    mss_read s.max_seg_size _ is.numbers.max_seg_size ∙ scale_read s.max_seg_size s.window_scale _ is.scale
     ∙ permitted_read s.max_seg_size s.window_scale s.sack_permitted _
     ∙ sack_read s.max_seg_size s.window_scale s.sack_permitted s.sack_ranges _ is.ranges
-    ∙ stamp_read s.max_seg_size s.window_scale s.sack_permitted s.sack_ranges s.timestamp _ is.stamp_fits
+    ∙ stamp_read s.max_seg_size s.window_scale s.sack_permitted s.sack_ranges s.timestamp _ is.numbers.timestamp
     ∙ padding_read (made s.max_seg_size s.window_scale s.sack_permitted s.sack_ranges s.timestamp) _
 
 -- the octets of what is written
@@ -141,17 +141,24 @@ options_are s is =
 abbrev flags_of : Segment → ℕ
 flags_of s = control_bits s.control + ack_bit s.ack_number
 
-flags_small : (c : TcpControl) (a : Option TcpSeqNumber) → control_bits c + ack_bit a < 256
-flags_small control.None None = omega arith
-flags_small control.None (Some n) = omega arith
-flags_small control.Psh None = omega arith
-flags_small control.Psh (Some n) = omega arith
-flags_small control.Fin None = omega arith
-flags_small control.Fin (Some n) = omega arith
-flags_small control.Syn None = omega arith
-flags_small control.Syn (Some n) = omega arith
-flags_small control.Rst None = omega arith
-flags_small control.Rst (Some n) = omega arith
+-- the bits of a control and of an acknowledgement
+record FlagsBack (c : TcpControl) (a : Option TcpSeqNumber) : Type 0 where
+  small : control_bits c + ack_bit a < 256
+  one_at_most : at_most_one ((control_bits c + ack_bit a) % 8) ≡ true
+  control_is : control_of (control_bits c + ack_bit a) ≡ c
+  ack_is : (n : ℕ) → n ≡ ack_field a → ack_of (control_bits c + ack_bit a) n ≡ a
+
+flags_back : (c : TcpControl) (a : Option TcpSeqNumber) → FlagsBack c a
+flags_back control.None None = record { small = omega arith; one_at_most = refl; control_is = refl; ack_is = λ n e. refl }
+flags_back control.None (Some m) = record { small = omega arith; one_at_most = refl; control_is = refl; ack_is = λ n e. ap (λ k. Some (seq_of k)) e }
+flags_back control.Psh None = record { small = omega arith; one_at_most = refl; control_is = refl; ack_is = λ n e. refl }
+flags_back control.Psh (Some m) = record { small = omega arith; one_at_most = refl; control_is = refl; ack_is = λ n e. ap (λ k. Some (seq_of k)) e }
+flags_back control.Fin None = record { small = omega arith; one_at_most = refl; control_is = refl; ack_is = λ n e. refl }
+flags_back control.Fin (Some m) = record { small = omega arith; one_at_most = refl; control_is = refl; ack_is = λ n e. ap (λ k. Some (seq_of k)) e }
+flags_back control.Syn None = record { small = omega arith; one_at_most = refl; control_is = refl; ack_is = λ n e. refl }
+flags_back control.Syn (Some m) = record { small = omega arith; one_at_most = refl; control_is = refl; ack_is = λ n e. ap (λ k. Some (seq_of k)) e }
+flags_back control.Rst None = record { small = omega arith; one_at_most = refl; control_is = refl; ack_is = λ n e. refl }
+flags_back control.Rst (Some m) = record { small = omega arith; one_at_most = refl; control_is = refl; ack_is = λ n e. ap (λ k. Some (seq_of k)) e }
 
 -- a header up to its checksum
 abbrev front : Segment → List ℕ
@@ -163,7 +170,7 @@ front_are : (s : Segment) → IsWritable s → IsOctets (front s)
 front_are s is =
     let offset : segment_header_len s / 4 * 16 < 256 = omega (arith, is.options) in
     let a : List ℕ = (segment_header_len s / 4 * 16) ∷ flags_of s ∷ be16 s.window_len in
-    let oa : IsOctets a = pair (segment_header_len s / 4 * 16) (flags_of s) (be16 s.window_len) offset (flags_small s.control s.ack_number) (be16_octets s.window_len) in
+    let oa : IsOctets a = pair (segment_header_len s / 4 * 16) (flags_of s) (be16 s.window_len) offset (flags_back s.control s.ack_number).small (be16_octets s.window_len) in
     let b : List ℕ = be32 (ack_field s.ack_number) ++ a in
     let ob : IsOctets b = wide (ack_field s.ack_number) a oa in
     let d : List ℕ = be32 s.seq_number.0 ++ b in
@@ -184,45 +191,9 @@ small_start words src dst protocol len p s d =
 verified : Verifies → (start : ℕ) (s : Segment) → start < 2 ^ 16 → IsWritable s → sum_after start (tcp_with s (complement (sum_after start (tcp_with s 0)))) ≡ all_ones
 unfolding tcp_with
 verified law start s h is =
-    law start (front s) (0 ∷ 0 ∷ (options_octets s ++ s.payload)) h (front_are s is) (pair 0 0 (options_octets s ++ s.payload) (omega arith) (omega arith) (joined (options_octets s) s.payload (options_are s is) is.octets)) refl
+    law start (front s) (0 ∷ 0 ∷ (options_octets s ++ s.payload)) h (front_are s is) (pair 0 0 (options_octets s ++ s.payload) (omega arith) (omega arith) (joined (options_octets s) s.payload (options_are s is) is.numbers.payload)) refl
 
 -- what is read
-control_back : (c : TcpControl) (a : Option TcpSeqNumber) → control_of (control_bits c + ack_bit a) ≡ c
-control_back control.None None = refl
-control_back control.None (Some n) = refl
-control_back control.Psh None = refl
-control_back control.Psh (Some n) = refl
-control_back control.Fin None = refl
-control_back control.Fin (Some n) = refl
-control_back control.Syn None = refl
-control_back control.Syn (Some n) = refl
-control_back control.Rst None = refl
-control_back control.Rst (Some n) = refl
-
-ack_back : (c : TcpControl) (a : Option TcpSeqNumber) (n : ℕ) → n ≡ ack_field a → ack_of (control_bits c + ack_bit a) n ≡ a
-ack_back control.None None n e = refl
-ack_back control.None (Some m) n e = ap (λ k. Some (seq_of k)) e
-ack_back control.Psh None n e = refl
-ack_back control.Psh (Some m) n e = ap (λ k. Some (seq_of k)) e
-ack_back control.Fin None n e = refl
-ack_back control.Fin (Some m) n e = ap (λ k. Some (seq_of k)) e
-ack_back control.Syn None n e = refl
-ack_back control.Syn (Some m) n e = ap (λ k. Some (seq_of k)) e
-ack_back control.Rst None n e = refl
-ack_back control.Rst (Some m) n e = ap (λ k. Some (seq_of k)) e
-
-one_at_most : (c : TcpControl) (a : Option TcpSeqNumber) → at_most_one ((control_bits c + ack_bit a) % 8) ≡ true
-one_at_most control.None None = refl
-one_at_most control.None (Some n) = refl
-one_at_most control.Psh None = refl
-one_at_most control.Psh (Some n) = refl
-one_at_most control.Fin None = refl
-one_at_most control.Fin (Some n) = refl
-one_at_most control.Syn None = refl
-one_at_most control.Syn (Some n) = refl
-one_at_most control.Rst None = refl
-one_at_most control.Rst (Some n) = refl
-
 ack_small : (a : Option TcpSeqNumber) → NumberFits a → ack_field a < 4294967296
 ack_small None h = omega arith
 ack_small (Some n) h = h
@@ -269,9 +240,9 @@ head_back s n is =
     let e : tcp_header_len o ≡ segment_header_len s = header_size s n in
     let p : nat_le 20 (tcp_header_len o) ≡ true = ap (nat_le 20) e ∙ le_true 20 (segment_header_len s) (omega arith) in
     let q : nat_le (tcp_header_len o) (length o) ≡ true = ap (λ l. nat_le l (length o)) e ∙ le_true (segment_header_len s) (length o) (room s n) in
-    let r : not (256 * (s.src_port / 256 % 256) + s.src_port % 256 == 0) ≡ true = ap (λ k. not (k == 0)) (from_two s.src_port is.src_fits) ∙ there s.src_port is.src_there in
-    let t : not (256 * (s.dst_port / 256 % 256) + s.dst_port % 256 == 0) ≡ true = ap (λ k. not (k == 0)) (from_two s.dst_port is.dst_fits) ∙ there s.dst_port is.dst_there in
-    all_five _ _ _ _ _ p q r t (one_at_most s.control s.ack_number)
+    let r : not (256 * (s.src_port / 256 % 256) + s.src_port % 256 == 0) ≡ true = ap (λ k. not (k == 0)) (from_two s.src_port is.numbers.src_port) ∙ there s.src_port is.ports.src_port in
+    let t : not (256 * (s.dst_port / 256 % 256) + s.dst_port % 256 == 0) ≡ true = ap (λ k. not (k == 0)) (from_two s.dst_port is.numbers.dst_port) ∙ there s.dst_port is.ports.dst_port in
+    all_five _ _ _ _ _ p q r t (flags_back s.control s.ack_number).one_at_most
 
 options_at : (s : Segment) (n : ℕ) → options_of (tcp_with s n) ≡ options_octets s
 unfolding tcp_with
@@ -300,12 +271,12 @@ fields_back s n is =
     let w = 256 * (s.window_len / 256 % 256) + s.window_len % 256 in
     let b = 256 * (s.dst_port / 256 % 256) + s.dst_port % 256 in
     let flags = control_bits s.control + ack_bit s.ack_number in
-    ap (λ x. built x b (control_of flags) (seq_of seq) (ack_of flags ack) w o p) (from_two s.src_port is.src_fits)
-    ∙ ap (λ x. built s.src_port x (control_of flags) (seq_of seq) (ack_of flags ack) w o p) (from_two s.dst_port is.dst_fits)
-    ∙ ap (λ x. built s.src_port s.dst_port x (seq_of seq) (ack_of flags ack) w o p) (control_back s.control s.ack_number)
-    ∙ ap (λ x. built s.src_port s.dst_port s.control (seq_of x) (ack_of flags ack) w o p) (from_four s.seq_number.0 is.seq_fits)
-    ∙ ap (λ x. built s.src_port s.dst_port s.control s.seq_number x w o p) (ack_back s.control s.ack_number ack (from_four (ack_field s.ack_number) (ack_small s.ack_number is.ack_fits)))
-    ∙ ap (λ x. built s.src_port s.dst_port s.control s.seq_number s.ack_number x o p) (from_two s.window_len is.window_fits)
+    ap (λ x. built x b (control_of flags) (seq_of seq) (ack_of flags ack) w o p) (from_two s.src_port is.numbers.src_port)
+    ∙ ap (λ x. built s.src_port x (control_of flags) (seq_of seq) (ack_of flags ack) w o p) (from_two s.dst_port is.numbers.dst_port)
+    ∙ ap (λ x. built s.src_port s.dst_port x (seq_of seq) (ack_of flags ack) w o p) (flags_back s.control s.ack_number).control_is
+    ∙ ap (λ x. built s.src_port s.dst_port s.control (seq_of x) (ack_of flags ack) w o p) (from_four s.seq_number.0 is.numbers.seq_number)
+    ∙ ap (λ x. built s.src_port s.dst_port s.control s.seq_number x w o p) ((flags_back s.control s.ack_number).ack_is ack (from_four (ack_field s.ack_number) (ack_small s.ack_number is.numbers.ack_number)))
+    ∙ ap (λ x. built s.src_port s.dst_port s.control s.seq_number s.ack_number x o p) (from_two s.window_len is.numbers.window_len)
     ∙ ap (λ x. built s.src_port s.dst_port s.control s.seq_number s.ack_number s.window_len o x) (payload_at s n)
 
 same_size : (s : Segment) (n : ℕ) → length (tcp_with s n) ≡ length (tcp_with s 0)

@@ -6,6 +6,7 @@ use Rattle.ip_wire.specs.RoundTrip.{IsIpv4Header, IsIpv6Header}
 use Rattle.ip_wire.specs.declared.checksum.ChecksumCapabilities.{ChecksumCapabilities}
 use Rattle.ip_wire.specs.declared.repr.IpRepr.{IpRepr}
 use Rattle.ip_wire.specs.declared.repr.IpRepr.TheVariants as header
+use Rattle.control_wire.specs.Fits.{HasPorts}
 use Rattle.control_wire.specs.Segment.{Segment, options_len}
 use Rattle.control_wire.specs.declared.seq_number.TcpSeqNumber.{TcpSeqNumber}
 use Rattle.control_wire.specs.declared.tcp.TcpTimestampRepr.{TcpTimestampRepr}
@@ -38,21 +39,24 @@ abbrev pub StampFits : Option TcpTimestampRepr → Type 0
 StampFits None = Unit
 StampFits (Some stamp) = (stamp.tsval < 2 ^ 32) × (stamp.tsecr < 2 ^ 32)
 
+-- each number but a SACK option's fits its field, and the payload has octets
+pub record NumbersFit (s : Segment) : Type 0 where
+  pub src_port : s.src_port < 2 ^ 16
+  pub dst_port : s.dst_port < 2 ^ 16
+  pub seq_number : s.seq_number.0 < 2 ^ 32
+  pub ack_number : NumberFits s.ack_number
+  pub window_len : s.window_len < 2 ^ 16
+  pub max_seg_size : SizeFits s.max_seg_size
+  pub timestamp : StampFits s.timestamp
+  pub payload : IsOctets s.payload
+
 -- a segment with both ports, whose numbers fit their fields and whose options fit 40 octets
 pub record IsWritable (s : Segment) : Type 0 where
-  pub src_there : 0 < s.src_port
-  pub src_fits : s.src_port < 2 ^ 16
-  pub dst_there : 0 < s.dst_port
-  pub dst_fits : s.dst_port < 2 ^ 16
-  pub seq_fits : s.seq_number.0 < 2 ^ 32
-  pub ack_fits : NumberFits s.ack_number
-  pub window_fits : s.window_len < 2 ^ 16
+  pub ports : HasPorts s
+  pub numbers : NumbersFit s
   pub scale : IsShift s.window_scale
-  pub size_fits : SizeFits s.max_seg_size
   pub ranges : AreRanges s.sack_ranges
-  pub stamp_fits : StampFits s.timestamp
   pub options : options_len s ≤ 40
-  pub octets : IsOctets s.payload
 
 -- a datagram with a destination port, whose length is not cut
 pub record IsDatagram (u : UdpRepr) (payload : List ℕ) : Type 0 where

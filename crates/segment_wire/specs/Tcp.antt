@@ -1,6 +1,7 @@
 -- TCP segments as octets, written and read (RFC 9293, section 3.1).
-use Rattle.std.specs.Prelude.{ℕ, ◌+◌, ◌-◌, ◌*◌, ◌/◌, ◌%◌, ◌==◌, ◌&&◌, ◌||◌, nat_le, not, Bool, true, false, if◌then◌else◌}
-use Rattle.std.specs.Prelude.{List, ◌∷◌, ◌++◌, length, take, drop, slice_index, Option, Some, None, Result, Ok, Err}
+use Rattle.std.specs.Prelude.{ℕ, ◌+◌, ◌-◌, ◌*◌, ◌/◌, ◌%◌, ◌==◌, ◌&&◌, ◌||◌, nat_le, not, Bool, true, false, length}
+use Rattle.std.specs.Prelude.{if◌then◌else◌, List, ◌∷◌, ◌++◌, take, drop, slice_index, Option, Some, None}
+use Rattle.std.specs.Prelude.{Result, Ok, Err}
 use Rattle.ip_wire.specs.Octets.{be16, be16_at, be32, be32_at}
 use Rattle.ip_wire.specs.Sum.{complement, pseudo_sum, sum_after}
 use Rattle.ip_wire.specs.declared.address.IpAddress.{IpAddress}

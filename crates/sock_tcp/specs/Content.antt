@@ -1,11 +1,11 @@
 -- What a dispatch emits.
-use Rattle.std.specs.Prelude.{ℕ, ◌+◌, ◌-◌, List, [], ◌∷◌, length, min, Option, Some, None, Bool, true, false, not}
+use Rattle.std.specs.Prelude.{ℕ, ◌+◌, ◌-◌, List, [], ◌∷◌, length, min, Option, Some, None, Bool, true, not}
 use Rattle.std.specs.Prelude.{◌&&◌, ◌==◌, if◌then◌else◌, option_map}
 use Rattle.ip_wire.specs.IpHeader.{ip_header}
 use Rattle.ip_wire.specs.declared.protocol.IpProtocol.TheVariants as protocol
 use Rattle.ip_wire.specs.declared.repr.IpRepr.{IpRepr}
 use Rattle.net_base.specs.declared.time.Instant.{Instant}
-use Rattle.control_wire.specs.Segment.{Segment, segment_header_len, is_empty_segment}
+use Rattle.control_wire.specs.Segment.{Segment, bare_segment, segment_header_len, is_empty_segment}
 use Rattle.control_wire.specs.Seq.{seq_minus}
 use Rattle.control_wire.specs.declared.tcp.TcpControl.{TcpControl}
 use Rattle.control_wire.specs.declared.tcp.TcpControl.TheVariants as control
@@ -62,19 +62,11 @@ timestamp_of (Some tsval) last = Some (record { tsval = tsval; tsecr = last })
 
 unfoldable pub plain_segment : View → Tuple → Option ℕ → Segment
 plain_segment v t stamp =
-    record {
-      src_port = t.local.port;
-      dst_port = t.remote.port;
-      control = control.None;
+    record (bare_segment t.local.port t.remote.port) {
       seq_number = v.remote_last_seq;
       ack_number = Some (next_ack v);
       window_len = window_field v;
-      window_scale = None;
-      max_seg_size = None;
-      sack_permitted = false;
-      sack_ranges = None ∷ None ∷ None ∷ [];
       timestamp = timestamp_of stamp v.last_remote_tsval;
-      payload = [];
     }
 
 -- a SYN stands at SND.UNA, and its window is not shifted

@@ -1,10 +1,10 @@
 -- The segments that answer others.
-use Rattle.std.specs.Prelude.{ℕ, ◌≡◌, ⊤, [], ◌∷◌, ◌+◌, List, length, slice_get, Option, Some, None, option_map, false}
+use Rattle.std.specs.Prelude.{ℕ, ◌≡◌, ⊤, [], ◌∷◌, ◌+◌, List, length, slice_get, Option, Some, None, option_map}
 use Rattle.std.specs.Prelude.{if◌then◌else◌}
 use Rattle.ip_wire.specs.IpHeader.{ip_header, src_addr_of, dst_addr_of}
 use Rattle.ip_wire.specs.declared.protocol.IpProtocol.TheVariants as protocol
 use Rattle.ip_wire.specs.declared.repr.IpRepr.{IpRepr}
-use Rattle.control_wire.specs.Segment.{Segment, segment_header_len, segment_len}
+use Rattle.control_wire.specs.Segment.{Segment, bare_segment, segment_header_len, segment_len}
 use Rattle.control_wire.specs.Seq.{seq_of, seq_add, seq_sub}
 use Rattle.control_wire.specs.declared.seq_number.TcpSeqNumber.{TcpSeqNumber}
 use Rattle.control_wire.specs.declared.tcp.TcpControl.{TcpControl}
@@ -22,21 +22,7 @@ reply_ip ip s = ip_header (dst_addr_of ip) (src_addr_of ip) protocol.Tcp (segmen
 
 -- nothing but the ports, the other way round
 abbrev pub bare_reply : Segment → Segment
-bare_reply s =
-    record {
-      src_port = s.dst_port;
-      dst_port = s.src_port;
-      control = control.None;
-      seq_number = seq_of 0;
-      ack_number = None;
-      window_len = 0;
-      window_scale = None;
-      max_seg_size = None;
-      sack_permitted = false;
-      sack_ranges = None ∷ None ∷ None ∷ [];
-      timestamp = None;
-      payload = [];
-    }
+bare_reply s = bare_segment s.dst_port s.src_port
 
 -- the number of an RST: what the segment acknowledges, or 0
 abbrev pub rst_number : Option TcpSeqNumber → TcpSeqNumber

@@ -49,20 +49,7 @@ pub(crate) fn bare_reply(repr: &TcpRepr<'_>) -> TcpRepr<'static>
     ensures segment { segment_of result ≡ bare_reply (segment_of repr.now) }
     ensures bare { result.payload.now ≡ [] }
 {
-    TcpRepr {
-        src_port: repr.dst_port,
-        dst_port: repr.src_port,
-        control: TcpControl::None,
-        seq_number: TcpSeqNumber(0),
-        ack_number: None,
-        window_len: 0,
-        window_scale: None,
-        max_seg_size: None,
-        sack_permitted: false,
-        sack_ranges: [None, None, None],
-        timestamp: None,
-        payload: &[],
-    }
+    TcpRepr::bare(repr.dst_port, repr.src_port)
 }
 
 // The RST that answers a segment.

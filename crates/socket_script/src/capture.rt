@@ -1,7 +1,7 @@
 //! Packets as the records of a pcap stream.
 
 use crate::memory::Halt;
-use crate::packet::{Kind, Packet, with_payload};
+use crate::packet::{Kind, Packet};
 use crate::tally::{Unwritten, put};
 use host_context::Outbox;
 use ip_wire::ChecksumCapabilities;
@@ -32,7 +32,7 @@ fn add(outbox: &mut Outbox, packet: &Packet) -> Result<(), AllocError> {
     let (ip, payload) = (&packet.ip, packet.payload.as_slice());
     match &packet.kind {
         Kind::Tcp(header) => {
-            let _is_carried = outbox.emit_tcp(ip, &with_payload(header, payload), &caps)?;
+            let _is_carried = outbox.emit_tcp(ip, &header.with_payload(payload), &caps)?;
         }
         Kind::Udp(repr) => {
             let _is_carried = outbox.emit_udp(ip, repr, payload, &caps)?;

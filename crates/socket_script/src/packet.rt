@@ -42,7 +42,7 @@ impl Packet {
 
     /// A packet with a segment.
     pub fn of_segment(alloc: Global, ip: IpRepr, repr: &TcpRepr<'_>) -> Result<Packet, AllocError> {
-        Packet::new(alloc, ip, Kind::Tcp(without_payload(repr)), repr.payload)
+        Packet::new(alloc, ip, Kind::Tcp(repr.without_payload()), repr.payload)
     }
 
     /// A packet with an ICMP message.
@@ -87,27 +87,5 @@ pub fn header(
             Some(IpRepr::new(src, dst, protocol, payload_len, hop_limit))
         }
         _ => None,
-    }
-}
-
-/// A segment with this header and these bytes.
-pub fn with_payload<'a>(header: &TcpRepr<'static>, payload: &'a [u8]) -> TcpRepr<'a> {
-    TcpRepr { payload, ..*header }
-}
-
-fn without_payload(repr: &TcpRepr<'_>) -> TcpRepr<'static> {
-    TcpRepr {
-        src_port: repr.src_port,
-        dst_port: repr.dst_port,
-        control: repr.control,
-        seq_number: repr.seq_number,
-        ack_number: repr.ack_number,
-        window_len: repr.window_len,
-        window_scale: repr.window_scale,
-        max_seg_size: repr.max_seg_size,
-        sack_permitted: repr.sack_permitted,
-        sack_ranges: repr.sack_ranges,
-        timestamp: repr.timestamp,
-        payload: &[],
     }
 }

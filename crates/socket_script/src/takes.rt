@@ -3,7 +3,7 @@
 use crate::clock::Clock;
 use crate::memory::NoMemory;
 use crate::outbox::Host;
-use crate::packet::{Kind, Packet, header, with_payload};
+use crate::packet::{Kind, Packet, header};
 use crate::seat::{Now, Seat};
 use control_wire::{Icmpv4Repr, Icmpv6Repr, TcpControl, TcpRepr, TcpSeqNumber, UdpRepr};
 use drill_lines::fields::{Carried, Fields, PAYLOAD};
@@ -156,7 +156,7 @@ fn heard_by(socket: &mut Socket<'_, Clock>, host: &mut Host, packet: &Packet) ->
     let (ip, payload) = (&packet.ip, packet.payload.as_slice());
     match (socket, &packet.kind) {
         (Socket::Tcp(socket), Kind::Tcp(header)) => {
-            let repr = with_payload(header, payload);
+            let repr = header.with_payload(payload);
             hear_segment(socket, host, ip, &repr)
         }
         (Socket::Udp(socket), Kind::Udp(repr)) => {

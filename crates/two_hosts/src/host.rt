@@ -4,7 +4,7 @@ ghost use Rattle.std.specs.Prelude.{◌≤◌, length};
 use crate::context::{Interface, MTU, Outbox, Words, emit_tcp};
 use crate::entry::Entry;
 use crate::memory::Sockets;
-use crate::packet::{Body, Packet, with_payload};
+use crate::packet::{Body, Packet};
 use smoltcp_socket::wire::{
     Icmpv4Repr, IpRepr, Ipv4Address, Ipv4Repr, TcpControl, TcpRepr, UdpRepr,
 };
@@ -65,7 +65,7 @@ impl<'a> Host<'a> {
     pub fn receive(&mut self, packet: &Packet) -> Result<(), AllocError> {
         match &packet.body {
             Body::Tcp(header, payload) => {
-                self.receive_tcp(&packet.ip, &with_payload(header, payload.as_slice()))?;
+                self.receive_tcp(&packet.ip, &header.with_payload(payload.as_slice()))?;
             }
             Body::Udp(repr, payload) => self.receive_udp(&packet.ip, repr, payload.as_slice()),
             Body::Icmp(message) => self.receive_icmp(&packet.ip, message.as_slice()),

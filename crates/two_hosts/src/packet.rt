@@ -31,7 +31,7 @@ impl Packet {
         let payload = copy(alloc, repr.payload)?;
         Ok(Packet {
             ip,
-            body: Body::Tcp(without_payload(repr), payload),
+            body: Body::Tcp(repr.without_payload(), payload),
         })
     }
 
@@ -75,30 +75,8 @@ pub fn icmp_bytes(alloc: Global, repr: &Icmpv4Repr<'_>) -> Result<Vec<u8>, Alloc
     Ok(bytes)
 }
 
-/// A segment with this header and these bytes.
-pub fn with_payload<'a>(header: &TcpRepr<'static>, payload: &'a [u8]) -> TcpRepr<'a> {
-    TcpRepr { payload, ..*header }
-}
-
 fn copy(alloc: Global, bytes: &[u8]) -> Result<Vec<u8>, AllocError> {
     let mut all = Vec::new(alloc);
     all.extend_from_slice(bytes)?;
     Ok(all)
-}
-
-fn without_payload(repr: &TcpRepr<'_>) -> TcpRepr<'static> {
-    TcpRepr {
-        src_port: repr.src_port,
-        dst_port: repr.dst_port,
-        control: repr.control,
-        seq_number: repr.seq_number,
-        ack_number: repr.ack_number,
-        window_len: repr.window_len,
-        window_scale: repr.window_scale,
-        max_seg_size: repr.max_seg_size,
-        sack_permitted: repr.sack_permitted,
-        sack_ranges: repr.sack_ranges,
-        timestamp: repr.timestamp,
-        payload: &[],
-    }
 }

@@ -48,19 +48,11 @@ are_ranges (a ∷ b ∷ c ∷ d ∷ xs) p h = absurd h
 is_writable : (ip : IpRepr) (s : Segment) → FitsPacket ip s → HasWidths ip s → HasPorts s → IsWritable s
 is_writable ip s f w p =
     record {
-      src_there = p.src_port;
-      src_fits = w.src_port;
-      dst_there = p.dst_port;
-      dst_fits = w.dst_port;
-      seq_fits = w.seq_number;
-      ack_fits = w.ack_number;
-      window_fits = w.window_len;
+      ports = p;
+      numbers = w.numbers;
       scale = is_shift s.window_scale f.header.scale;
-      size_fits = w.max_seg_size;
       ranges = are_ranges s.sack_ranges f.header.ranges w.sack_ranges;
-      stamp_fits = w.timestamp;
       options = f.header.options;
-      octets = w.payload;
     }
 
 named : (p : IpProtocol) → p ≡ protocol.Tcp → IsNamed p

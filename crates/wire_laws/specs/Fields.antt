@@ -1,10 +1,10 @@
 -- What the types of a segment and of an IP header say of their numbers.
-use Rattle.std.specs.Prelude.{ℕ, ◌≡◌, ◌<◌, ◌^◌, List, [], ◌∷◌, length, Option, Some, None}
+use Rattle.std.specs.Prelude.{ℕ, ◌≡◌, ◌<◌, List, [], ◌∷◌, length, Option, Some, None}
 use Rattle.ip_wire.specs.Octets.{IsOctets}
 use Rattle.ip_wire.specs.declared.repr.IpRepr.{IpRepr}
 use Rattle.ip_wire.specs.declared.repr.IpRepr.TheVariants as header
 use Rattle.control_wire.specs.Segment.{Segment}
-use Rattle.segment_wire.specs.RoundTrip.{IsRange, NumberFits, SizeFits, StampFits}
+use Rattle.segment_wire.specs.RoundTrip.{IsRange, NumbersFit}
 
 abbrev pub RangeFits : Option (ℕ × ℕ) → Type 0
 RangeFits None = Unit {0}
@@ -30,12 +30,5 @@ HeaderFits (header.Ipv6 h) = AddressesFit 16 h.src_addr.0 h.dst_addr.0 h.hop_lim
 -- each number has the bits of its type, and the payload has octets
 pub record HasWidths (ip : IpRepr) (s : Segment) : Type 0 where
   pub header : HeaderFits ip
-  pub src_port : s.src_port < 2 ^ 16
-  pub dst_port : s.dst_port < 2 ^ 16
-  pub seq_number : s.seq_number.0 < 2 ^ 32
-  pub ack_number : NumberFits s.ack_number
-  pub window_len : s.window_len < 2 ^ 16
-  pub max_seg_size : SizeFits s.max_seg_size
+  pub numbers : NumbersFit s
   pub sack_ranges : RangesFit s.sack_ranges
-  pub timestamp : StampFits s.timestamp
-  pub payload : IsOctets s.payload

@@ -92,7 +92,7 @@ fn put_segment<W: Sink>(sink: &mut W, segment: &Segment) -> Result<(), StreamFau
     ensures { Takes (W.contents sink.old) result (segment_text (stored_of segment.now).segment) (W.contents sink.new)
         (W.has_failed sink.new) }
 {
-    let header = &segment.header;
+    let header = &segment.header.repr;
     put(sink, flags(header.control, header.ack_number.is_some()))?;
     put_count(sink, " seq ", header.seq_number.0 as usize)?;
     put(sink, " ack ")?;

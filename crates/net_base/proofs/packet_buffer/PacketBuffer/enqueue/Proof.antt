@@ -1,66 +1,61 @@
 -- `enqueue` appends a packet of the bytes that stand in the storage, and then lends them. Assumes `Logic`.
-use Rattle.std.proofs.Common.{arith, ◌^◌, ◌≡◌, ℕ, ◌+◌, ◌≤◌, ◌<◌, List, [], ◌∷◌, ◌-◌, ◌++◌, length, take, drop as without, Bor, Option, None, Some, refl, sym, ap, ◌∙◌}
-use Rattle.std.specs.Prelude.{Result, Ok, Err, IsOk, IsSome, IfOk, IfSome, IsTrue, ◌↔◌, ⊤}
+use Rattle.std.proofs.Common.{arith, ◌≡◌, ℕ, ◌+◌, ◌≤◌, List, [], ◌∷◌, ◌++◌, length, take, drop as without, Some, refl, sym, ap, ◌∙◌}
+use Rattle.std.specs.Prelude.{Ok, Err, IsOk, IsTrue, ◌↔◌, ⊤}
 use Rattle.std.proofs.raw_atomic.Walks.{proved, leaves}
 use Rattle.std.proofs.raw_atomic.Calls.{fm}
-use Rattle.std.specs.contracts.result.Result as result_type
 use mathlib.Core.Option.{none, some as has}
 use mathlib.Core.List.{mem-append_left, mem-append_right}
-use lib.ListN.{take-append-drop, length-drop}
-use borrow.Table.Elements.{at, at_mul, length-take-le}
+use lib.ListN.{length-drop}
+use borrow.Table.Elements.{length-take-le}
 use mathlib.Core.Bool.{Bool, true, false, not}
-use mir.Syntax.{w64, a_type, dcons, dnil, named, erased}
-use mir.Val.{Val, vptr, vint, vbool, vstruct, vcons, vnil, of_list}
+use mir.Syntax.{w64, a_type, dcons, dnil, named}
+use mir.Val.{Val, vptr, vint, vstruct, vnil, of_list}
 use mir.MapTy.{inst_fn}
-use base.Logic.{SProp, ent, sep, emp, id⊢, wand, apply∗}
+use base.Logic.{SProp, emp, id⊢, wand, apply∗}
 use base.Fraction.{full_share}
 use base.Share
-use base.Fml.{fdead, Incl, Incl-trans, Lft, Share, Fml, GName, ftrue, fsep, feq, flft, fres, fbor, fex}
-use types.Logic.{sem}
-use types.Kit.{at_ret, rewrite, fpick, feq_l, frame, ‵, raw, ◌⊛◌, some, later, ◌$◌, ◌∵◌, !, qed, by, move, keep, drop, split, split3, join, fsplit, fsplit3, fjoin, fpack, pick, await, use0, use1, use2, use3, feq_i, suffices, done}
-use types.Run.{lit, bin, un, fld, first, branches, skips, exec, returns_within, stop, addr, of_opd, no_more, and_then, returns, enter}
-use types.ByLocal.{alloc_all, pass_all, free_all, look_at, get, through, sets, lands_as, get_in, env, is}
+use base.Fml.{fdead, Incl, Incl-trans, Lft, Share, Fml, GName, ftrue, fsep, flft, fres}
+use types.Kit.{at_ret, rewrite, fpick, feq_l, ‵, raw, ◌⊛◌, some, later, ◌$◌, ◌∵◌, !, qed, by, move, keep, drop, split, join, fsplit, fsplit3, fjoin, pick, await, use0, use1, use2, use3}
+use types.Run.{lit, un, fld, first, branches, skips, exec, returns_within, stop, addr, of_opd, no_more, and_then, returns, enter}
+use types.ByLocal.{alloc_all, pass_all, free_all, look_at, get, through, sets, lands_as, get_in, env}
 use types.Part.{agg, sub, whole}
 use types.Match.{live}
 use types.Tokens.{lft_end, lft_new}
 use lib.Dec.{lit<, T}
 use contract.Monad.{fact, fact_i}
 use contract.Running.{tables}
-use contract.BorrowLft.{◌⊑◌, ⊑_trans}
+use contract.BorrowLft.{◌⊑◌}
 use denote.Builtin.{usize, u8, bool}
 use denote.Exit.{yes, no}
-use denote.Follow.{follows, follows_if, follows_by, follows_then}
+use denote.Follow.{follows, follows_if}
 use denote.Laws.{Is, shows}
-use denote.Plain.{uint_vals, uint_Tells}
+use denote.Plain.{uint_vals, uint_Tells, uint_Makes}
 use denote.Lend.{lends_again, comes_back, LentAgain}
-use denote.Slice.{MutSlice, Room, slice_val, mut_slice_vals}
+use denote.Slice.{MutSlice, slice_val}
 use denote.Array.{Array}
-use denote.Memory.{mem, hidden_shr}
-use denote.Param.{copied, param, layouts, bounded}
-use denote.Param.Laws.{Laws, copied_laws, copied_copy}
+use denote.Param.{copied, bounded}
+use denote.Param.Laws.{copied_laws, copied_copy}
 use denote.RattleType.{RattleType, owns}
-use denote.Ref.{MutBor, MutRef, NamedLft, mut_vals, mut_Tells, shr_vals}
-use denote.Signature.{types_at, type_at, plain, mut_ref_to, named_lft}
-use denote.Steps.{nothing, heard, peeks, only}
+use denote.Ref.{MutBor, MutRef, mut_vals, mut_Tells}
+use denote.Signature.{types_at, plain, mut_ref_to, named_lft}
+use denote.Steps.{nothing, heard, owned, peeks, only}
 use denote.Struct.Tuple.{Tuple}
 use denote.Triple.Call.{calls_at}
 use denote.Triple.Clauses.{lasts}
-use denote.Triple.Entry.{on_entry}
 use denote.Triple.Spec.{triple_of}
 use denote.Triple.Walked.{Stays, stay_dropped, walk_of, Goes-spent_ref, Goes-dropped}
-use Rattle.net_base.specs.Packets.{Packets, packets, Claims, takes, made_room, appended, end_of}
+use Rattle.net_base.specs.Packets.{Packets, Claims, takes, made_room, appended, end_of}
 use Rattle.std.proofs.lemmas.Bool.{false≢true}
 use Rattle.net_base.specs.declared.packet_buffer.Full.{Full}
 use Rattle.net_base.specs.PacketLends.{with_all, with_packet, around}
-use Rattle.net_base.proofs.LentRun.{lends_run, RunLent, full_result, ok_of, full_err, ends_unlent, ends_lent}
+use Rattle.net_base.proofs.LentRun.{full_result, ok_of, full_err, ends_unlent, ends_lent}
 use Rattle.net_base.proofs.PacketLists.{made_room-storage}
 use Rattle.std.proofs.VecSteps.Shapes.{after}
 use Rattle.net_base.specs.contracts.packet_buffer.PacketBuffer.claim as K
 use Rattle.net_base.proofs.packet_buffer.PacketBuffer.claim.Met.{met as claim_met}
-use Rattle.net_base.specs.contracts.packet_buffer.PacketBuffer.all as A
-use Rattle.net_base.proofs.packet_buffer.PacketBuffer.all.Met.{met as all_met}
+use Rattle.net_base.specs.contracts.packet_buffer.PacketBuffer.part_mut as B
+use Rattle.net_base.proofs.packet_buffer.PacketBuffer.part_mut.Met.{met as part_met}
 use Rattle.net_base.specs.contracts.packet_buffer.PacketBuffer.{the_row}
-use Rattle.net_base.proofs.packet_buffer.PacketBuffer.TheLaws.{the_row_laws as buffer_laws, the_within}
 use Rattle.net_base.specs.contracts.packet_buffer.PacketBuffer.enqueue as F
 use Rattle.net_base.specs.contracts.packet_buffer.PacketBuffer.enqueue.Key.{name as #self}
 use Rattle.net_base.proofs.packet_buffer.PacketBuffer.enqueue.Statement.{statement}
@@ -147,58 +142,39 @@ enqueue_spec 𝓤 𝓛 𝓜 𝓡 wired X Xl Xc gc dc bd =
     by ! (leaves 𝓛 En hs c y (live 1 (of_list (vstruct vnil ∷ []))) (Err (record {})) (tt, (tt, (tt, tt))) (tt, (tt, (tt, tt)))))
     (λ room. let some_left : r.0 ≡ true = granted r.0 room in
     skips ! $ exec ! 𝓣.C 𝓣.Λ En₁ (after 6 fn.body) (at_ret En₁ Post) $ sets ! (addr ! (through ! refl (stop !))) refl (tt, tt) $
-    nothing ! $ move ! (4 ∷ 0 ∷ []) $ fjoin ! $ move ! (3 ∷ 6 ∷ []) $ join ! $ join ! $
-    let G₂ = triple_of 𝓛 (A.signature X) (A.spec X 𝓛 𝓜.mem 𝓡.returns) in
+    -- [the place; nothing; the token of κ; the reference; the borrow; nothing; the others]
+    nothing ! $ owned ! usize _ (uint_Makes 𝓛 w64) size _ (refl, are.1.0.1) $ fjoin ! $ owned ! usize _ (uint_Makes 𝓛 w64) from _ (refl, place_is.1) $ fjoin ! $
+    move ! (4 ∷ 0 ∷ []) $ fjoin ! $ move ! (3 ∷ 6 ∷ []) $ join ! $ join ! $
+    let G₂ = triple_of 𝓛 (B.signature X) (B.spec X 𝓛 𝓜.mem 𝓡.returns) in
     let self : MutBor (Packets X.Denot) = record { ref_ptr = (b, o); ghost_name = γ; now = new } in
-    let z₂ : G₂.Ghost = ((κs, qs, bounds, (self, tt), (vptr b o ∷ [], tt)), tt) in
-    nothing ! $ use0 𝓛 (raw (fact 𝓤 Asked)) (fact_i 𝓤 Asked (emp 𝓤) asked) $ join ! $ move ! (1 ∷ 0 ∷ []) $ use2 𝓛 (raw (G₂.pre z₂)) (id⊢ 𝓤 _) $
-    calls_at ! (fm 𝓛 𝓜 𝓡) G₂ (all_met 𝓤 𝓛 𝓜 𝓡 (code.calls-net_base::packet_buffer::PacketBuffer::all 𝓡.env wired) X Xl) z₂ (and_then ! (get ! refl) (no_more !)) (λ u.
-    use1 𝓛 (later (some (λ (x : MutBor (List ℕ)). ((‵ (flft κ q) ⊛ ‵ others) ⊛ ‵ (Lent.own_val x (u ∷ []))) ⊛ some (λ (xs : Unit {0} × Unit {0}). ‵ (lasts (A.ended X) κs (self, tt) xs)
-    ⊛ ‵ (follows R (Array u8 0) γ x.ghost_name (with_all new)) ⊛ raw (fact 𝓤 (x.now ≡ new.storage)))))) (id⊢ 𝓤 _) $
-    await ! tt $ pick ! (λ x. split ! $ split ! $ split ! $ move ! (3 ∷ []) $ pick ! (λ xs. split ! $ drop ! $ split ! $ move ! (1 ∷ []) $ heard ! (x.now ≡ new.storage) (λ all_is.
-    -- [what follows; the token of κ; the others; all bytes]
+    let z₂ : G₂.Ghost = ((κs, qs, bounds, (self, (from, (size, tt))), (vptr b o ∷ [], (vint w64 from ∷ [], (vint w64 size ∷ [], tt)))), tt) in
+    let Within : Type 0 = from + size ≤ length new.storage in
+    use0 𝓛 (raw (fact 𝓤 Within)) (fact_i 𝓤 Within (emp 𝓤) (claimed.within some_left)) $ use0 𝓛 (raw (fact 𝓤 Asked)) (fact_i 𝓤 Asked (emp 𝓤) asked) $ join ! $
+    move ! (1 ∷ 0 ∷ []) $ use2 𝓛 (raw (G₂.pre z₂)) (id⊢ 𝓤 _) $
+    calls_at ! (fm 𝓛 𝓜 𝓡) G₂ (part_met 𝓤 𝓛 𝓜 𝓡 (code.calls-net_base::packet_buffer::PacketBuffer::part_mut 𝓡.env wired) X Xl) z₂
+    (and_then ! (get ! refl) (and_then ! (get ! refl) (and_then ! (get ! refl) (no_more !)))) (λ u. let In : List ℕ → Packets X.Denot = λ w. with_all new (around new.storage from size w) in
+    use1 𝓛 (later (some (λ (x : MutBor (List ℕ)). ((‵ (flft κ q) ⊛ ‵ others) ⊛ ‵ (Lent.own_val x (u ∷ []))) ⊛ some (λ (xs : Unit {0} × (Unit {0} × (Unit {0} × Unit {0}))). ‵ (lasts (B.ended X) κs (self, (from, (size, tt))) xs)
+    ⊛ ‵ (follows R (Array u8 0) γ x.ghost_name In) ⊛ raw (fact 𝓤 (x.now ≡ take size (without from new.storage))))))) (id⊢ 𝓤 _) $
+    await ! tt $ pick ! (λ x. split ! $ split ! $ split ! $ move ! (3 ∷ []) $ pick ! (λ xs. split ! $ drop ! $ split ! $ move ! (1 ∷ []) $ heard ! _ (λ part_is.
+    -- [what follows; the token of κ; the others; the bytes]
     move ! (3 ∷ []) $ peeks ! Lent (Is Lent) (shows 𝓛 Lent) x (u ∷ []) (λ bytes_are.
     lands_as ! (ap only bytes_are.0.0) refl (tt, (tt, (record { fits = bytes_are.0.1.0 }, tt))) $
-    let bytes : List ℕ = x.now in let p : ℕ = from + x.ref_ptr.1 in
-    let all_long : length bytes ≡ length new.storage = ap length all_is in
-    let enough : from + size ≤ length bytes = omega (arith, all_long, claimed.within some_left) in
-    let room : length bytes < 2 ^ 64 = bytes_are.0.1.0 in
-    let front : List ℕ = take from bytes in let mid : List ℕ = take size (without from bytes) in let back : List ℕ = without size (without from bytes) in
-    let front_long : length front ≡ from = length-take-le from bytes (omega arith) in
-    let mid_long : length mid ≡ size = length-take-le size (without from bytes) (omega (arith, length-drop from bytes)) in
-    let cut : bytes ≡ front ++ (mid ++ back) = sym (take-append-drop from bytes) ∙ ap (λ (l : List ℕ). front ++ l) (sym (take-append-drop size (without from bytes))) in
-    let on : at x.ref_ptr.1 1 (length front) ≡ p = omega (arith, at_mul x.ref_ptr.1 1 (length front), front_long) in
-    let few : length mid < 2 ^ 64 = omega (arith, mid_long) in
-    let mid_room : Room u8 (length mid) = (few, omega (arith, mid_long, bytes_are.0.1.1)) in
-    let sum_fits : from + size < 2 ^ 64 = omega arith in
-    let long_is : from + size - from ≡ length mid = omega (arith, mid_long) in
-    sets ! (bin ! (get ! refl) (get ! refl) (record { fits = sum_fits })) refl (tt, record { fits = sum_fits }) $
-    sets ! (bin ! (get_in ! (fld ! refl (stop !)) (sub ! 0 refl (whole !))) (get ! refl) tt) refl (tt, tt) $
-    sets ! (is ! (bin ! (get ! refl) (get ! refl) (omega arith)) (ap (vint w64) long_is)) refl (tt, record { fits = few }) $
-    sets ! (addr ! (through ! refl (stop !))) refl (tt, tt) $
-    sets ! (agg ! (and_then ! (get ! refl) (and_then ! (get ! refl) (no_more !)))) refl (tt, (tt, (record { fits = few }, tt))) $
-    sets ! (agg ! (and_then ! (lit ! tt) (and_then ! (get ! refl) (no_more !)))) refl (tt, (record { fits = lit< tt }, ((tt, (record { fits = few }, tt)), tt))) $
-    -- [all bytes; what follows; the token of κ; the others]
-    move ! (0 ∷ 2 ∷ []) $
-    use2 𝓛 (later (some (λ (δ' : GName). ‵ (Lent.own_val (record { ref_ptr = (x.ref_ptr.0, p); ghost_name = δ'; now = mid }) (slice_val (x.ref_ptr.0, p) (length mid) ∷ [])) ⊛ ‵ (flft κ q)
-    ⊛ ‵ (follows (Array u8 0) (Array u8 0) x.ghost_name δ' (λ w. front ++ (w ++ back))))))
-    (lends_run 𝓛 (named 0) κ q x.ref_ptr.0 x.ref_ptr.1 x.ghost_name u8 bytes front mid back cut p on mid_room (u ∷ [])) $ await ! tt $ pick ! (λ δ'. split3 ! $
-    -- [the packet's bytes; the token of κ; what follows in the storage; what follows; the others]
-    let out : MutBor (List ℕ) = record { ref_ptr = (x.ref_ptr.0, p); ghost_name = δ'; now = mid } in let word : Val = slice_val (x.ref_ptr.0, p) (length mid) in
+    sets ! (agg ! (and_then ! (lit ! tt) (and_then ! (get ! refl) (no_more !)))) refl (tt, (record { fits = lit< tt }, ((tt, (record { fits = bytes_are.0.1.0 }, tt)), tt))) $
+    let word : Val = slice_val x.ref_ptr (length x.now) in
     let from_is : from ≡ end_of (made_room size old) = claimed.place some_left in
     let new_is : new ≡ appended (Some header) size (made_room size old) = claimed.after some_left in
-    let bytes_is : bytes ≡ old.storage = all_is ∙ ap (λ (p : Packets X.Denot). p.storage) new_is ∙ made_room-storage size old in
-    let same : (λ (w : List ℕ). with_all new (front ++ (w ++ back))) ≡ F = λ i w. with_all (new_is i) (take (from_is i) (bytes_is i) ++ (w ++ without size (without (from_is i) (bytes_is i)))) in
-    move ! (3 ∷ 2 ∷ []) $ use2 𝓛 (‵ (follows R (Array u8 0) γ δ' (λ w. with_all new (front ++ (w ++ back)))))
-    (follows_then 𝓛 R (Array u8 0) (Array u8 0) (with_all new) (λ w. front ++ (w ++ back)) γ x.ghost_name δ') $
-    rewrite ! 0 (λ (g : List ℕ → Packets X.Denot). ‵ (follows R (Array u8 0) γ δ' g)) same refl $
-    use1 𝓛 (‵ (follows_if R (Array u8 0) γ (has δ') F (made_room size old))) (ends_lent 𝓛 R (Array u8 0) γ F (made_room size old) δ') $ move ! (1 ∷ []) $
-    use1 𝓛 (‵ (Res.own_val (Ok out) (live 0 (of_list (word ∷ [])) ∷ []))) (ok_of 𝓛 Lent out word) $
+    let storage_is : new.storage ≡ old.storage = ap (λ (p : Packets X.Denot). p.storage) new_is ∙ made_room-storage size old in
+    let same : In ≡ F = λ i w. with_all (new_is i) (around (storage_is i) (from_is i) size w) in
+    rewrite ! 0 (λ (us : List Val). ‵ (Lent.own_val x us)) bytes_are.0.0 refl $ move ! (1 ∷ []) $
+    rewrite ! 0 (λ (g : List ℕ → Packets X.Denot). ‵ (follows R (Array u8 0) γ x.ghost_name g)) same refl $
+    use1 𝓛 (‵ (follows_if R (Array u8 0) γ (has x.ghost_name) F (made_room size old))) (ends_lent 𝓛 R (Array u8 0) γ F (made_room size old) x.ghost_name) $ move ! (1 ∷ []) $
+    use1 𝓛 (‵ (Res.own_val (Ok x) (live 0 (of_list (word ∷ [])) ∷ []))) (ok_of 𝓛 Lent x word) $
     returns ! (look_at ! 0 refl) $ free_all ! refl $ keep ! (0 ∷ 1 ∷ 2 ∷ 3 ∷ []) $
-    let Variant : Type 0 = IsOk {T = MutBor (List ℕ)} {E = Full} (Ok out) ↔ IsTrue (takes size old) in
-    let Size : Type 0 = length mid ≡ size in let Value : Type 0 = mid ≡ take size (without (end_of (made_room size old)) old.storage) in
-    use0 𝓛 (raw (fact 𝓤 Value)) (fact_i 𝓤 Value (emp 𝓤) (λ i. take size (without (from_is i) (bytes_is i)))) $ use0 𝓛 (raw (fact 𝓤 Size)) (fact_i 𝓤 Size (emp 𝓤) mid_long) $ join ! $
+    let Variant : Type 0 = IsOk {T = MutBor (List ℕ)} {E = Full} (Ok x) ↔ IsTrue (takes size old) in
+    let Size : Type 0 = length x.now ≡ size in let Value : Type 0 = x.now ≡ take size (without (end_of (made_room size old)) old.storage) in
+    use0 𝓛 (raw (fact 𝓤 Value)) (fact_i 𝓤 Value (emp 𝓤) (part_is ∙ (λ i. take size (without (from_is i) (storage_is i))))) $
+    use0 𝓛 (raw (fact 𝓤 Size)) (fact_i 𝓤 Size (emp 𝓤) (ap length part_is ∙ length-take-le size (without from new.storage) (omega (arith, length-drop from new.storage, claimed.within some_left)))) $ join ! $
     use0 𝓛 (raw (fact 𝓤 Variant)) (fact_i 𝓤 Variant (emp 𝓤) ((λ _. sym claimed.variant ∙ some_left), (λ _. refl))) $ join ! $
     -- [the facts; the result; what follows; the token of κ; the others]
     move ! (2 ∷ 0 ∷ []) $ join ! $ nothing ! $ nothing ! $ fjoin ! $ nothing ! $ fjoin ! $ nothing ! $ fjoin ! $ move ! (3 ∷ 4 ∷ []) $ join ! $ move ! (0 ∷ 1 ∷ 3 ∷ 2 ∷ []) $
-    by ! (leaves 𝓛 En hs c y (live 0 (of_list (word ∷ []))) (Ok out) (tt, (tt, (tt, tt))) (tt, (tt, (tt, tt))))))))))))))))))))))))
+    by ! (leaves 𝓛 En hs c y (live 0 (of_list (word ∷ []))) (Ok x) (tt, (tt, (tt, tt))) (tt, (tt, (tt, tt)))))))))))))))))))))))
