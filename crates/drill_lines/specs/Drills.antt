@@ -45,9 +45,12 @@ fault_of text = first_fault (lines_left 1 text) []
 
 -- ---- what a reader has, and does
 
--- the lines that are left
+-- the text and the lines that are left
+abbrev pub left_text : Reader → List ℕ
+left_text r = r.lines.rest.now
+
 abbrev pub left : Reader → List (ℕ × List Word)
-left r = lines_left r.lines.number r.lines.rest.now
+left r = lines_left r.lines.number (left_text r)
 
 -- the names of the sockets that were made
 abbrev pub known : Reader → Names

@@ -12,7 +12,7 @@ use Rattle.ip_wire.specs.declared.address.IpAddress.{IpAddress}
 use Rattle.ip_wire.specs.declared.endpoint.IpEndpoint.{IpEndpoint}
 use Rattle.sock_pair.specs.ReplayLines.{flags_text}
 use Rattle.sock_pair.specs.ScriptText.{words_of}
-use Rattle.sock_pair.specs.ScriptWords.{Word, is_text, number_of}
+use Rattle.sock_pair.specs.ScriptWords.{Word, is_text, named, number_of}
 use Rattle.drill_lines.specs.declared.fields.Key.{Key}
 use Rattle.drill_lines.specs.declared.fields.Key.TheVariants as key
 use Rattle.drill_lines.specs.declared.fields.Said.{Said as SaidSoFar}
@@ -58,22 +58,12 @@ control_of w =
 
 -- what the word of a key says of the packet
 unfoldable pub key_of : Word → Option Key
-key_of w =
-    if bytes_eq w (codes "seq") then Some key.Seq
-    else (if bytes_eq w (codes "ack") then Some key.Ack
-    else (if bytes_eq w (codes "win") then Some key.Win
-    else (if bytes_eq w (codes "mss") then Some key.Mss
-    else (if bytes_eq w (codes "scale") then Some key.Scale
-    else (if bytes_eq w (codes "sack") then Some key.Sack
-    else (if bytes_eq w (codes "range") then Some key.Range
-    else (if bytes_eq w (codes "ts") then Some key.Stamp
-    else (if bytes_eq w (codes "len") then Some key.Len
-    else (if bytes_eq w (codes "data") then Some key.Data
-    else (if bytes_eq w (codes "bytes") then Some key.Bytes
-    else (if bytes_eq w (codes "from") then Some key.From
-    else (if bytes_eq w (codes "to") then Some key.To
-    else (if bytes_eq w (codes "hop") then Some key.Hop
-    else (if bytes_eq w (codes "protocol") then Some key.Protocol else None))))))))))))))
+key_of =
+    named
+    ((codes "seq", key.Seq) ∷ (codes "ack", key.Ack) ∷ (codes "win", key.Win) ∷ (codes "mss", key.Mss)
+    ∷ (codes "scale", key.Scale) ∷ (codes "sack", key.Sack) ∷ (codes "range", key.Range) ∷ (codes "ts", key.Stamp)
+    ∷ (codes "len", key.Len) ∷ (codes "data", key.Data) ∷ (codes "bytes", key.Bytes) ∷ (codes "from", key.From)
+    ∷ (codes "to", key.To) ∷ (codes "hop", key.Hop) ∷ (codes "protocol", key.Protocol) ∷ [])
 
 -- an acknowledgement number, or `-` for none
 unfoldable pub ack_of : Word → Option (Option TcpSeqNumber)

@@ -1,5 +1,5 @@
 -- The form of a line, by its first word.
-use Rattle.std.specs.Prelude.{Option, Some, None, bytes_eq, codes, if◌then◌else◌}
+use Rattle.std.specs.Prelude.{Option, Some, None, [], ◌∷◌, codes}
 use Rattle.drill_lines.specs.declared.request.Bytes.TheVariants as bytes
 use Rattle.drill_lines.specs.declared.request.Counted.TheVariants as counted
 use Rattle.drill_lines.specs.declared.request.Optional.TheVariants as optional
@@ -7,60 +7,40 @@ use Rattle.drill_lines.specs.declared.request.Plain.TheVariants as plain
 use Rattle.drill_lines.specs.declared.request.Switch.TheVariants as switch
 use Rattle.drill_lines.specs.declared.shapes.Form.{Form}
 use Rattle.drill_lines.specs.declared.shapes.Form.TheVariants as form
-use Rattle.sock_pair.specs.ScriptWords.{Word}
+use Rattle.sock_pair.specs.ScriptWords.{Word, named}
 
 -- of the sockets of an example, and what comes to them
 unfoldable pub of_socket : Word → Option Form
-of_socket w =
-    if bytes_eq w (codes "example") then Some form.Example
-    else (if bytes_eq w (codes "tcp") then Some form.Tcp
-    else (if bytes_eq w (codes "udp") then Some form.Udp
-    else (if bytes_eq w (codes "icmp") then Some form.Icmp
-    else (if bytes_eq w (codes "raw") then Some form.Raw
-    else (if bytes_eq w (codes "clock") then Some form.Clock
-    else (if bytes_eq w (codes "word") then Some form.Word
-    else (if bytes_eq w (codes "ends") then Some form.Ends
-    else (if bytes_eq w (codes "take") then Some form.Take
-    else (if bytes_eq w (codes "deliver") then Some form.Deliver
-    else (if bytes_eq w (codes "expect") then Some form.Expect
-    else (if bytes_eq w (codes ">") then Some form.Line else None)))))))))))
+of_socket =
+    named
+    ((codes "example", form.Example) ∷ (codes "tcp", form.Tcp) ∷ (codes "udp", form.Udp)
+    ∷ (codes "icmp", form.Icmp) ∷ (codes "raw", form.Raw) ∷ (codes "clock", form.Clock) ∷ (codes "word", form.Word)
+    ∷ (codes "ends", form.Ends) ∷ (codes "take", form.Take) ∷ (codes "deliver", form.Deliver)
+    ∷ (codes "expect", form.Expect) ∷ (codes ">", form.Line) ∷ [])
 
 -- of calls
 unfoldable pub of_call : Word → Option Form
-of_call w =
-    if bytes_eq w (codes "listen") then Some form.Listen
-    else (if bytes_eq w (codes "bind") then Some form.Bind
-    else (if bytes_eq w (codes "connect") then Some (form.Counted counted.Connect)
-    else (if bytes_eq w (codes "close") then Some (form.Plain plain.Close)
-    else (if bytes_eq w (codes "abort") then Some (form.Plain plain.Abort)
-    else (if bytes_eq w (codes "send") then Some (form.Bytes bytes.Send)
-    else (if bytes_eq w (codes "send-hex") then Some (form.Bytes bytes.SendHex)
-    else (if bytes_eq w (codes "fill") then Some (form.Counted counted.Fill)
-    else (if bytes_eq w (codes "write") then Some (form.Bytes bytes.Write)
-    else (if bytes_eq w (codes "recv") then Some (form.Counted counted.Recv)
-    else (if bytes_eq w (codes "peek") then Some (form.Counted counted.Peek)
-    else (if bytes_eq w (codes "dispatch") then Some (form.Counted counted.Dispatch)
-    else (if bytes_eq w (codes "fail") then Some (form.Counted counted.Fail)
-    else (if bytes_eq w (codes "gone") then Some (form.Counted counted.Gone)
-    else (if bytes_eq w (codes "poll") then Some (form.Counted counted.Poll) else None))))))))))))))
+of_call =
+    named
+    ((codes "listen", form.Listen) ∷ (codes "bind", form.Bind) ∷ (codes "connect", form.Counted counted.Connect)
+    ∷ (codes "close", form.Plain plain.Close) ∷ (codes "abort", form.Plain plain.Abort)
+    ∷ (codes "send", form.Bytes bytes.Send) ∷ (codes "send-hex", form.Bytes bytes.SendHex)
+    ∷ (codes "fill", form.Counted counted.Fill) ∷ (codes "write", form.Bytes bytes.Write)
+    ∷ (codes "recv", form.Counted counted.Recv) ∷ (codes "peek", form.Counted counted.Peek)
+    ∷ (codes "dispatch", form.Counted counted.Dispatch) ∷ (codes "fail", form.Counted counted.Fail)
+    ∷ (codes "gone", form.Counted counted.Gone) ∷ (codes "poll", form.Counted counted.Poll) ∷ [])
 
 -- of settings, and what a socket says of itself
 unfoldable pub of_setting : Word → Option Form
-of_setting w =
-    if bytes_eq w (codes "nagle") then Some (form.Switch switch.Nagle)
-    else (if bytes_eq w (codes "pause") then Some (form.Switch switch.Pause)
-    else (if bytes_eq w (codes "timeout") then Some (form.Optional optional.Timeout)
-    else (if bytes_eq w (codes "ack-delay") then Some (form.Optional optional.AckDelay)
-    else (if bytes_eq w (codes "keep-alive") then Some (form.Optional optional.KeepAlive)
-    else (if bytes_eq w (codes "hop-limit") then Some (form.Optional optional.HopLimit)
-    else (if bytes_eq w (codes "timestamps") then Some (form.Optional optional.Timestamps)
-    else (if bytes_eq w (codes "congestion") then Some form.Congestion
-    else (if bytes_eq w (codes "checksums") then Some form.Checksums
-    else (if bytes_eq w (codes "state") then Some (form.Plain plain.State)
-    else (if bytes_eq w (codes "queues") then Some (form.Plain plain.Queues)
-    else (if bytes_eq w (codes "settings") then Some (form.Plain plain.Settings)
-    else (if bytes_eq w (codes "endpoints") then Some (form.Plain plain.Endpoints)
-    else (if bytes_eq w (codes "measures") then Some (form.Plain plain.Measures) else None)))))))))))))
+of_setting =
+    named
+    ((codes "nagle", form.Switch switch.Nagle) ∷ (codes "pause", form.Switch switch.Pause)
+    ∷ (codes "timeout", form.Optional optional.Timeout) ∷ (codes "ack-delay", form.Optional optional.AckDelay)
+    ∷ (codes "keep-alive", form.Optional optional.KeepAlive) ∷ (codes "hop-limit", form.Optional optional.HopLimit)
+    ∷ (codes "timestamps", form.Optional optional.Timestamps) ∷ (codes "congestion", form.Congestion)
+    ∷ (codes "checksums", form.Checksums) ∷ (codes "state", form.Plain plain.State)
+    ∷ (codes "queues", form.Plain plain.Queues) ∷ (codes "settings", form.Plain plain.Settings)
+    ∷ (codes "endpoints", form.Plain plain.Endpoints) ∷ (codes "measures", form.Plain plain.Measures) ∷ [])
 
 abbrev pub or_form : Option Form → Option Form → Option Form
 or_form (Some f) g = Some f

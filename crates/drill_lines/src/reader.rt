@@ -1,6 +1,7 @@
 //! The lines of a drill, read one after the other.
 ghost use Rattle.std.specs.Prelude.{◌≡◌, [], MatchOption, MatchResult};
-ghost use Rattle.drill_lines.specs.Drills.{Asks, FirstFaults, Read, known, left, meaning, names_after};
+ghost use Rattle.drill_lines.specs.Drills.{Asks, FirstFaults, Read, known, left, left_text, meaning};
+ghost use Rattle.drill_lines.specs.Drills.{names_after};
 ghost use Rattle.drill_lines.specs.Requests.{request_value};
 ghost use Rattle.sock_pair.specs.ScriptLines.{IsFault};
 ghost use Rattle.sock_pair.specs.ScriptText.{lines_left, words_of};
@@ -33,6 +34,7 @@ pub struct Numbered<'t> {
 impl<'t> Reader<'t> {
     /// At the beginning of a text.
     pub fn new(alloc: Global, text: &'t [u8]) -> Reader<'t>
+        ensures text { left_text result ≡ text.now }
         ensures lines { left result ≡ lines_left 1 text.now }
         ensures names { known result ≡ [] }
     {
@@ -43,7 +45,9 @@ impl<'t> Reader<'t> {
     }
 
     /// The text that is left.
-    pub fn rest(&self) -> &'t [u8] {
+    pub fn rest(&self) -> &'t [u8]
+        ensures { result.now ≡ left_text self.now }
+    {
         self.lines.rest
     }
 

@@ -1,6 +1,6 @@
 //! The lines that a drill may have: their first words, and what stands behind those.
 
-ghost use Rattle.std.specs.Prelude.{◌≡◌};
+ghost use Rattle.std.specs.Prelude.{◌≡◌, IfSome};
 ghost use Rattle.drill_lines.specs.Shapes.{form_of, of_call, of_setting, of_socket};
 
 use crate::request::{Bytes, Counted, Optional, Plain, Switch};
@@ -167,7 +167,9 @@ pub const SHAPES: &[Shape] = &[
 ];
 
 /// The kind of the lines that begin with this word.
-pub fn shape_of(name: &[u8]) -> Option<Shape> {
+pub fn shape_of(name: &[u8]) -> Option<Shape>
+    ensures { IfSome result (λ shape. shape.0.now ≡ name.now) }
+{
     for shape in SHAPES {
         if shape.0.as_bytes() == name {
             return Some(*shape);

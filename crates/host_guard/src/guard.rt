@@ -104,8 +104,8 @@ impl Guard {
     }
 
     /// Whether the socket may be dispatched at this moment: at most `TURNS` times, and in FIN-WAIT-2 not within `PACE`
-    /// of the last dispatch that was allowed there. What is allowed is remembered, so that a loop which asks before each
-    /// dispatch ends, however often it is begun at one moment.
+    /// of the last dispatch that was allowed there. What is allowed is remembered, so that a loop which asks before
+    /// each dispatch ends, however often it is begun at one moment.
     pub fn take_turn(&mut self, now: Instant) -> bool
         requires { IsMoment now.micros }
         ensures turn { result

@@ -47,10 +47,7 @@ fn draw_script(rt: &HostRuntime, picture: Picture, file: Option<String>) -> Resu
         return Err(Fault::Memory);
     };
     let end = draw(rt.alloc(), text.as_slice(), picture, &mut output);
-    match output.flush() {
-        Ok(()) => fault_of(rt.alloc(), end, text.as_slice()),
-        Err(_) => Err(Fault::Write),
-    }
+    fault_of(rt.alloc(), end, output.flush(), text.as_slice())
 }
 
 #[cfg(test)]

@@ -21,9 +21,8 @@ use Rattle.sock_core.specs.Emission.{Emits, EmitsAt}
 use Rattle.sock_tcp.specs.Outgoing.{packet_of}
 use Rattle.sock_tcp.specs.Sent.{left_by}
 use Rattle.sock_tcp.specs.Dispatch.{packet_in, EmitsDue, EmitsTo, Dispatches}
-use Rattle.sock_tcp.specs.declared.state.State.{State}
-use Rattle.sock_tcp.specs.declared.state.State.TheVariants as state
 use Rattle.sock_tcp.specs.declared.tuple.Tuple.{Tuple}
+use Rattle.tcp_laws.proofs.PayloadWindows.{len_in, payload_of, plain_is_empty_segment}
 use Rattle.pair_core.specs.Holding.{IsHeaderOf, segment_at}
 use Rattle.pair_core.specs.declared.segment.Header.{Header}
 use Rattle.pair_core.specs.Captures.{Holds, FitsSent, sent_with, sent_of, Records, SendsFrom, SocketDispatches}
@@ -44,33 +43,15 @@ pub record EmitSays (fail : Bool) (old new : Capture) (s : IpRepr × TcpRepr) (r
 
 -- ---- a segment's payload is what the ring lent, or nothing
 
-payload_len : Option Segment → ℕ
-payload_len (Some s) = length s.payload
-payload_len None = 0
-
-filled_len : (st : State) (v : View) (t : Tuple) (f : Facts) (bytes : List ℕ) (p : Segment) → length p.payload ≡ 0 → payload_len (filled st v t f bytes p) ≤ length bytes
-unfolding payload_len
-filled_len state.Closed v t f bytes p e = omega (arith, e)
-filled_len state.Listen v t f bytes p e = omega arith
-filled_len state.SynSent v t f bytes p e = omega (arith, e)
-filled_len state.SynReceived v t f bytes p e = omega (arith, e)
-filled_len state.FinWait2 v t f bytes p e = omega (arith, e)
-filled_len state.TimeWait v t f bytes p e = omega (arith, e)
-filled_len _ v t f bytes p e = omega arith
-
-plain_len : (v : View) (t : Tuple) (stamp : Option ℕ) → length (plain_segment v t stamp).payload ≡ 0
-unfolding plain_segment
-plain_len v t stamp = refl
-
 -- a keep-alive has one byte
 kind_len : (v : View) (now : Instant) (s : Segment) (n : ℕ) → length s.payload ≤ n → 1 ≤ n → length (of_kind (emission_kind v now s) v s).payload ≤ n
 kind_len v now s n h one = by_kinds v (λ x. length x.payload ≤ n) now s h (λ e. omega (arith, one))
 
 content_len : (v : View) (t : Tuple) (f : Facts) (stamp : Option ℕ) (bytes : List ℕ) (n : ℕ) → length bytes ≤ n → 1 ≤ n → (s : Sending) → content v t f stamp bytes ≡ Some s → length s.segment.payload ≤ n
-unfolding content payload_len
-content_len v t f stamp bytes n h one s e = go (filled v.state v t f bytes (plain_segment v t stamp)) (filled_len v.state v t f bytes (plain_segment v t stamp) (plain_len v t stamp)) e
+unfolding content
+content_len v t f stamp bytes n h one s e = go (filled v.state v t f bytes (plain_segment v t stamp)) (payload_of v.state v t f bytes (plain_segment v t stamp) (plain_is_empty_segment v t stamp)) e
   where
-    go : (o : Option Segment) → payload_len o ≤ length bytes → option_map (λ s. sent_as v t (emission_kind v (moment_of f) s) s) o ≡ Some s → length s.segment.payload ≤ n
+    go : (o : Option Segment) → len_in o ≤ length bytes → option_map (λ s. sent_as v t (emission_kind v (moment_of f) s) s) o ≡ Some s → length s.segment.payload ≤ n
     go None le e = absurd (none-some s e)
     go (Some x) le e =
         let q : sent_as v t (emission_kind v (moment_of f) x) x ≡ s = same_Some (sent_as v t (emission_kind v (moment_of f) x) x) s e in

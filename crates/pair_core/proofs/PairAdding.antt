@@ -35,26 +35,23 @@ nothing h k a d = record { accepted_bytes = a ∙ sym (append-nil h.accepted); h
 same : {G : Type 0} (h k : HostView G) → k ≡ h → HostAdds h k [] []
 same h k e = nothing h k (ap (λ (x : HostView _). x.accepted) e) (ap (λ (x : HostView _). x.handed_out) e)
 
+kept : (xs none : List ℕ) → none ≡ [] → xs ≡ xs ++ none
+kept xs none e = sym (append-nil xs) ∙ ap (λ ys. xs ++ ys) (sym e)
+
+each : (P : Side → Type 0) → P A → P B → (s : Side) → P s
+each P a b A = a
+each P a b B = b
+
 -- an event of the side t adds nothing to the other
 on_side : {G : Type 0} (t : Side) (p : PairView G) (k : HostView G) (ks : List StoredView) (accepted handed_out : Side → List ℕ) → HostAdds (host_of t p) k (accepted t) (handed_out t) → accepted (other_side t) ≡ [] → handed_out (other_side t) ≡ [] → AddsUp p (exchanged t p k ks) accepted handed_out
-on_side A p k ks accepted handed_out d no_a no_h = record { accepted_bytes = own; handed_out_bytes = given }
-  where
-    own : (s : Side) → (host_of s (exchanged A p k ks)).accepted ≡ (host_of s p).accepted ++ accepted s
-    own A = d.accepted_bytes
-    own B = sym (append-nil p.b.accepted) ∙ ap (λ xs. p.b.accepted ++ xs) (sym no_a)
-
-    given : (s : Side) → (host_of s (exchanged A p k ks)).handed_out ≡ (host_of s p).handed_out ++ handed_out s
-    given A = d.handed_out_bytes
-    given B = sym (append-nil p.b.handed_out) ∙ ap (λ xs. p.b.handed_out ++ xs) (sym no_h)
-on_side B p k ks accepted handed_out d no_a no_h = record { accepted_bytes = own; handed_out_bytes = given }
-  where
-    own : (s : Side) → (host_of s (exchanged B p k ks)).accepted ≡ (host_of s p).accepted ++ accepted s
-    own B = d.accepted_bytes
-    own A = sym (append-nil p.a.accepted) ∙ ap (λ xs. p.a.accepted ++ xs) (sym no_a)
-
-    given : (s : Side) → (host_of s (exchanged B p k ks)).handed_out ≡ (host_of s p).handed_out ++ handed_out s
-    given B = d.handed_out_bytes
-    given A = sym (append-nil p.a.handed_out) ∙ ap (λ xs. p.a.handed_out ++ xs) (sym no_h)
+on_side A p k ks accepted handed_out d no_a no_h = record {
+  accepted_bytes = each (λ s. (host_of s (exchanged A p k ks)).accepted ≡ (host_of s p).accepted ++ accepted s) d.accepted_bytes (kept p.b.accepted (accepted B) no_a);
+  handed_out_bytes = each (λ s. (host_of s (exchanged A p k ks)).handed_out ≡ (host_of s p).handed_out ++ handed_out s) d.handed_out_bytes (kept p.b.handed_out (handed_out B) no_h);
+}
+on_side B p k ks accepted handed_out d no_a no_h = record {
+  accepted_bytes = each (λ s. (host_of s (exchanged B p k ks)).accepted ≡ (host_of s p).accepted ++ accepted s) (kept p.a.accepted (accepted A) no_a) d.accepted_bytes;
+  handed_out_bytes = each (λ s. (host_of s (exchanged B p k ks)).handed_out ≡ (host_of s p).handed_out ++ handed_out s) (kept p.a.handed_out (handed_out A) no_h) d.handed_out_bytes;
+}
 
 -- ---- each call
 

@@ -21,7 +21,7 @@ use Rattle.sock_tcp.specs.declared.tuple.Tuple.{Tuple}
 use Rattle.ip_wire.specs.declared.endpoint.IpListenEndpoint.{IpListenEndpoint}
 use Rattle.pair_core.specs.Moments.{facts_of}
 use Rattle.pair_core.specs.NetworkInvariant.{IsInvariant, IsLimit}
-use Rattle.pair_core.specs.PairCalls.{listening, connecting, OpensAs, sending, Sends, SendsUnder, SendsIf, is_over, receiving, Receives, ReceivesIf, closing, Closes, aborting, Aborts, setting as setting_host, Sets}
+use Rattle.pair_core.specs.PairCalls.{listening, connecting, OpensAs, sending, Sends, SendsUnder, SendsIf, is_over, receiving, Receives, ReceivesIf, closing, Closes, aborting, Aborts, setting as setting_host, Sets, Calls}
 use Rattle.pair_core.specs.Settings.{set_in}
 use Rattle.pair_core.specs.declared.setting.Setting.{Setting}
 use Rattle.pair_core.specs.declared.setting.Setting.TheVariants as setting
@@ -31,6 +31,8 @@ use Rattle.pair_core.specs.PairNetwork.{network_of, IsSmall}
 use Rattle.pair_core.specs.PairSteps.{HostDispatches, Dispatches, DeliversTo, DeliversIf, delivered_to, exchanged, processed_by}
 use Rattle.pair_core.specs.PairViews.{HostView, StoredView, PairView, host_of, with_host, new_host}
 use Rattle.pair_core.specs.Captures.{SocketDispatches, SendsFrom}
+use Rattle.pair_core.specs.declared.host.Call.{Call}
+use Rattle.pair_core.specs.declared.host.Call.TheVariants as call
 use Rattle.pair_core.specs.declared.host.Opening.{Opening}
 use Rattle.pair_core.specs.declared.host.Opening.TheVariants as opening
 use Rattle.pair_core.specs.declared.moment.Moment.{Moment}
@@ -89,7 +91,7 @@ opens {remote} opening.Unopened h n k o i s e = subst (StaysHost remote h) (sym 
 opens opening.Listener h n k o i s e = unchanged h k i e.1
 opens opening.Connector h n k o i s e = unchanged h k i e.1
 
-pub listen_stays : {remote : IpEndpoint} {G : Type 0} (h k : HostView G) (o : Outcome) → IsHost h → OpensAs h.opening h (listening h) o k → StaysHost remote h k
+listen_stays : {remote : IpEndpoint} {G : Type 0} (h k : HostView G) (o : Outcome) → IsHost h → OpensAs h.opening h (listening h) o k → StaysHost remote h k
 listen_stays h k o i e = opens h.opening h (listening h) k o i (λ u. record { host = record { reachable = i.reachable; idle = λ n. let no : opening.Listener ≡ opening.Unopened = n in cc; passive = λ shut live. listened_passive h.control_block (record { addr = Some h.endpoint.addr; port = h.endpoint.port }) i.reachable.port; reached = called_reached h.control_block (listening h).control_block (listen_call h.control_block (record { addr = Some h.endpoint.addr; port = h.endpoint.port }) (i.idle u).state i.reachable.port) i.reached }; endpoint = refl; peer = λ p. listened_peer h.control_block (record { addr = Some h.endpoint.addr; port = h.endpoint.port }) (tuple_to h _) }) e
 
 pub connect_stays : {G : Type 0} (h k : HostView G) (m : Moment) (remote : IpEndpoint) (o : Outcome) → IsHost h → IsReachable remote → SameVersion h.endpoint.addr remote.addr → OpensAs h.opening h (connecting h m remote) o k → StaysHost remote h k
@@ -137,10 +139,10 @@ closed_idle v i = record { state = ap closed_from i.state; tuple = i.tuple; rx =
 aborted_idle : (v : View) → IsIdle v → IsIdle (aborted v)
 aborted_idle v i = record { state = refl; tuple = i.tuple; rx = i.rx; tx = i.tx; no_fin = i.no_fin }
 
-pub close_stays : {remote : IpEndpoint} {G : Type 0} (h k : HostView G) (o : Outcome) → IsHost h → Closes h o k → StaysHost remote h k
+close_stays : {remote : IpEndpoint} {G : Type 0} (h k : HostView G) (o : Outcome) → IsHost h → Closes h o k → StaysHost remote h k
 close_stays {remote} h k o i e = subst (StaysHost remote h) (sym e.1) (record { host = record { reachable = i.reachable; idle = λ u. closed_idle h.control_block (i.idle u); passive = passive_kept h (closing h) i refl (closed_listens h.control_block); reached = called_reached h.control_block (closed h.control_block) (close_call h.control_block) i.reached }; endpoint = refl; peer = λ p. closed_peers h.control_block.state h.control_block.tuple (tuple_to h _) p })
 
-pub abort_stays : {remote : IpEndpoint} {G : Type 0} (h k : HostView G) (o : Outcome) → IsHost h → Aborts h o k → StaysHost remote h k
+abort_stays : {remote : IpEndpoint} {G : Type 0} (h k : HostView G) (o : Outcome) → IsHost h → Aborts h o k → StaysHost remote h k
 abort_stays {remote} h k o i e = subst (StaysHost remote h) (sym e.1) (record { host = record { reachable = i.reachable; idle = λ u. aborted_idle h.control_block (i.idle u); passive = passive_kept h (aborting h) i refl (aborted_listens h.control_block); reached = called_reached h.control_block (aborted h.control_block) (abort_call h.control_block) i.reached }; endpoint = refl; peer = λ p. closed_peer h.control_block.state h.control_block.tuple (tuple_to h _) p })
 
 -- ---- settings
@@ -153,8 +155,14 @@ set_listens : (s : Setting) (v : View) → KeepsListener v (set_in s v)
 set_listens (setting.KeepAlive t) v = λ n. (n, refl)
 set_listens _ v = λ n. (n, refl)
 
-pub set_stays : {remote : IpEndpoint} {G : Type 0} (h k : HostView G) (s : Setting) (o : Outcome) → IsHost h → Sets s h o k → StaysHost remote h k
+set_stays : {remote : IpEndpoint} {G : Type 0} (h k : HostView G) (s : Setting) (o : Outcome) → IsHost h → Sets s h o k → StaysHost remote h k
 set_stays {remote} h k s o i e = subst (StaysHost remote h) (sym e.1) (record { host = record { reachable = i.reachable; idle = λ u. set_idle s h.control_block (i.idle u); passive = passive_kept h (setting_host h s) i refl (set_listens s h.control_block); reached = called_reached h.control_block (set_in s h.control_block) (set_call s h.control_block) i.reached }; endpoint = refl; peer = λ p. set_peer s h.control_block (tuple_to h _) p })
+
+pub call_stays : {remote : IpEndpoint} {G : Type 0} (x : Call) (h k : HostView G) (o : Outcome) → IsHost h → Calls x h o k → StaysHost remote h k
+call_stays call.Listen h k o i e = listen_stays h k o i e
+call_stays call.Close h k o i e = close_stays h k o i e
+call_stays call.Abort h k o i e = abort_stays h k o i e
+call_stays (call.Set s) h k o i e = set_stays h k s o i e
 
 -- ---- dispatches and deliveries
 

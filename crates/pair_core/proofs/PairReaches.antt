@@ -31,6 +31,8 @@ use Rattle.pair_core.specs.Network.{Accepts as TakesBytes, AnswersRefused, Arriv
 use Rattle.pair_core.specs.PairLaws.{IsBounded, MayEmit}
 use Rattle.pair_core.specs.declared.event.Event.{Event}
 use Rattle.pair_core.specs.declared.event.Event.TheVariants as event
+use Rattle.pair_core.specs.declared.host.Call.{Call}
+use Rattle.pair_core.specs.declared.host.Call.TheVariants as call
 use Rattle.pair_core.specs.declared.host.Opening.{Opening}
 use Rattle.pair_core.specs.declared.host.Opening.TheVariants as opening
 use Rattle.pair_core.proofs.NetworkDeliveries.{sending_bounds, nothing_received}
@@ -47,7 +49,7 @@ use Rattle.pair_core.specs.PairAddresses.{GoesFrom, HasPeer, endpoint_at}
 use Rattle.pair_core.specs.PairInvariant.{IsSocket, IsIdle, IsHost, IsPair, IsSized}
 use Rattle.pair_core.specs.PairNetwork.{phase_of, seen, is_listener, is_rst, is_passive, shown, stream_segment, endpoint_of, shown_segment, network_at, network_of, IsSmall}
 use Rattle.pair_core.specs.PairViews.{HostView, StoredView, PairView, host_of, with_host, new_host, new_pair}
-use Rattle.pair_core.specs.PairCalls.{listening, connecting, OpensAs, is_over, sending, Sends, SendsIf, SendsUnder, receiving, Receives, ReceivesIf, closing, Closes, aborting, Aborts, setting, Sets}
+use Rattle.pair_core.specs.PairCalls.{listening, connecting, OpensAs, is_over, sending, Sends, SendsIf, SendsUnder, receiving, Receives, ReceivesIf, closing, Closes, aborting, Aborts, setting, Sets, Calls}
 use Rattle.pair_core.specs.declared.setting.Setting.{Setting}
 use Rattle.pair_core.proofs.PairAmounts.{takes_some, hands_some}
 use Rattle.pair_core.specs.PairSteps.{EventStep, refusal_of, refusal_reply, Delivers, Dispatches, stored_at, DeliversTo, DeliversIf, is_old, exchanged, processed_by, delivered_to}
@@ -400,8 +402,11 @@ module _ {G : Type 0} (s : Side) (p : PairView G) (host : IsHost (host_of s p)) 
 
   -- ---- so each keeps the invariant
 
-  pub listen_keeps : (o : Outcome) (k : HostView G) → OpensAs (host_of s p).opening (host_of s p) (listening (host_of s p)) o k → IsInvariant (network_of (with_host s p k))
-  listen_keeps o k e = reach_keeps _ _ (listen_reaches o k e) i
+  pub call_keeps : (x : Call) (o : Outcome) (k : HostView G) → Calls x (host_of s p) o k → IsInvariant (network_of (with_host s p k))
+  call_keeps call.Listen o k e = reach_keeps _ _ (listen_reaches o k e) i
+  call_keeps call.Close o k e = reach_keeps _ _ (close_reaches o k e) i
+  call_keeps call.Abort o k e = reach_keeps _ _ (abort_reaches o k e) i
+  call_keeps (call.Set x) o k e = reach_keeps _ _ (set_reaches x o k e) i
 
   pub connect_keeps : (m : Moment) (remote : IpEndpoint) (o : Outcome) (k : HostView G) → m.word < 2 ^ 32 → OpensAs (host_of s p).opening (host_of s p) (connecting (host_of s p) m remote) o k → IsInvariant (network_of (with_host s p k))
   connect_keeps m remote o k w e = reach_keeps _ _ (connect_reaches m remote o k w e) i
@@ -411,15 +416,6 @@ module _ {G : Type 0} (s : Side) (p : PairView G) (host : IsHost (host_of s p)) 
 
   pub recv_keeps : (piece : Bool) (size : ℕ) (o : Outcome) (k : HostView G) → Receives piece size (host_of s p) o k → IsInvariant (network_of (with_host s p k))
   recv_keeps piece size o k e = reach_keeps _ _ (recv_reaches piece size o k e) i
-
-  pub close_keeps : (o : Outcome) (k : HostView G) → Closes (host_of s p) o k → IsInvariant (network_of (with_host s p k))
-  close_keeps o k e = reach_keeps _ _ (close_reaches o k e) i
-
-  pub abort_keeps : (o : Outcome) (k : HostView G) → Aborts (host_of s p) o k → IsInvariant (network_of (with_host s p k))
-  abort_keeps o k e = reach_keeps _ _ (abort_reaches o k e) i
-
-  pub set_keeps : (x : Setting) (o : Outcome) (k : HostView G) → Sets x (host_of s p) o k → IsInvariant (network_of (with_host s p k))
-  set_keeps x o k e = reach_keeps _ _ (set_reaches x o k e) i
 
   pub dispatch_keeps : (tells : G → ℕ → Type 0) (m : Moment) (fail : Bool) (o : Outcome) (k : HostView G) (ks : List StoredView) → Dispatches tells s m fail o (host_of s p) p.segments k ks → IsInvariant (network_of (exchanged s p k ks))
   dispatch_keeps tells m fail o k ks e = reach_keeps _ _ (dispatch_reaches tells m fail o k ks e) i

@@ -124,15 +124,7 @@ module _ (v : View) (now : Instant) (word : ℕ) (ip : IpRepr) (s : Segment) (at
     ends : (phase_of u.state ≡ p) ⊎ (phase_of u.state ≡ phase.Dead)
 
   no_fin : (u : View) (p : Phase) → u.rx_buffer ≡ v.rx_buffer → u.rx_fin_received ≡ v.rx_fin_received → u.remote_seq_no ≡ v.remote_seq_no → (phase_of u.state ≡ p) ⊎ (phase_of u.state ≡ phase.Dead) → IsRow u p
-  no_fin u p rx fin nxt ends = record {
-    rx = rx;
-    fin = λ e. inl (sym fin ∙ e);
-    kept = λ e. fin ∙ e;
-    fins = 0;
-    counts = omega (arith, ap fin_length fin);
-    nxt = λ m. ap (λ (n : TcpSeqNumber). (n.0 + m) % 2 ^ 32) nxt ∙ ap (λ n. n % 2 ^ 32) (omega arith);
-    ends = ends;
-  }
+  no_fin u p rx fin nxt ends = record { rx = rx; fin = λ e. inl (sym fin ∙ e); kept = λ e. fin ∙ e; fins = 0; counts = omega (arith, ap fin_length fin); nxt = λ m. ap (λ (n : TcpSeqNumber). (n.0 + m) % 2 ^ 32) nxt ∙ ap (λ n. n % 2 ^ 32) (omega arith); ends = ends }
 
   with_fin : (u : View) (p : Phase) → the_control ≡ control.Fin → v.rx_fin_received ≡ false → u.rx_buffer ≡ v.rx_buffer → u.rx_fin_received ≡ true → u.remote_seq_no ≡ seq_add v.remote_seq_no 1 → (phase_of u.state ≡ p) ⊎ (phase_of u.state ≡ phase.Dead) → IsRow u p
   with_fin u p ec none rx fin nxt ends = record {

@@ -8,6 +8,8 @@ use Rattle.sock_tcp.specs.Closing.{closed, aborted}
 use Rattle.sock_tcp.specs.Queue.{free_piece}
 use Rattle.sock_tcp.specs.Queues.{may_send, may_recv, fitting, queued, readable, read_off, recv_refusal}
 use Rattle.sock_tcp.specs.declared.error.SendError.TheVariants as send_error
+use Rattle.pair_core.specs.declared.host.Call.{Call}
+use Rattle.pair_core.specs.declared.host.Call.TheVariants as call
 use Rattle.pair_core.specs.declared.host.Opening.{Opening}
 use Rattle.pair_core.specs.declared.host.Opening.TheVariants as opening
 use Rattle.pair_core.specs.declared.moment.Moment.{Moment}
@@ -142,3 +144,11 @@ setting h s = record h { control_block = set_in s h.control_block }
 
 abbrev pub Sets : {G : Type 0} → Setting → HostView G → Outcome → HostView G → Type 0
 Sets s h o new = (o ≡ outcome.Done) × (new ≡ setting h s)
+
+-- ---- the calls that take nothing, or a setting
+
+abbrev pub Calls : {G : Type 0} → Call → HostView G → Outcome → HostView G → Type 0
+Calls call.Listen h o new = OpensAs h.opening h (listening h) o new
+Calls call.Close h o new = Closes h o new
+Calls call.Abort h o new = Aborts h o new
+Calls (call.Set s) h o new = Sets s h o new

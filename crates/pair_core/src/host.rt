@@ -1,10 +1,13 @@
 //! One side of a pair: its socket, and what it accepted and handed out.
 ghost use Rattle.std.specs.Prelude.{◌≡◌, ◌+◌, ◌-◌, ◌≤◌, ◌<◌, ◌^◌, ◌++◌, ◌↔◌, IsTrue, length, option_map, Some, []};
 ghost use Rattle.std.specs.Prelude.{not, false, IfOk, OnOk, OnErr, vec_len, vec_capacity, min, take, true};
-ghost use Rattle.std.specs.Prelude.{MatchOption, is_some};
+ghost use Rattle.std.specs.Prelude.{MatchOption, None, is_some};
 ghost use Rattle.std.specs.Option.{ForSome};
 ghost use Rattle.control_wire.specs.Fits.{FitsPacket};
 ghost use Rattle.control_wire.specs.Segment.{segment_of};
+ghost use Rattle.sock_core.specs.Received.{receiving};
+ghost use Rattle.sock_tcp.specs.View.{fresh};
+ghost use Rattle.sock_tcp.specs.Queue.{queue_of};
 ghost use Rattle.sock_tcp.specs.Process.{Accepts, generator_after, processed, reply_of};
 ghost use Rattle.sock_tcp.specs.Replies.{Answers, IsReplyStamp};
 ghost use Rattle.pair_core.specs.Moments.{facts_of};
@@ -12,6 +15,7 @@ ghost use Rattle.pair_core.specs.Holding.{stored_of};
 ghost use Rattle.pair_core.specs.PairSteps.{ReadTakesMemory, processed_at};
 ghost use Rattle.pair_core.specs.Pieces.{SendsPiece, ReceivesPiece};
 ghost use Rattle.pair_core.specs.Captures.{Holds, FitsSent, SocketDispatches};
+ghost use Rattle.pair_core.specs.PairViews.{new_host};
 
 use crate::capture::{Capture, EmitFailed, Sent};
 use crate::moment::Moment;
@@ -31,6 +35,15 @@ pub enum Opening {
     Unopened,
     Listener,
     Connector,
+}
+
+/// A call that takes nothing, or a setting.
+#[derive(Clone, Copy)]
+pub enum Call {
+    Listen,
+    Close,
+    Abort,
+    Set(Setting),
 }
 
 // The type parameter is the socket's: contracts see the source of timestamps as a value of that type, since a function
@@ -66,11 +79,6 @@ impl<'a, G> Model for Host<'a, G> {
 }
 
 impl<'a> Host<'a> {
-    ghost use Rattle.sock_core.specs.Received.{receiving};
-    ghost use Rattle.sock_tcp.specs.View.{fresh};
-    ghost use Rattle.sock_tcp.specs.Queue.{queue_of};
-    ghost use Rattle.pair_core.specs.PairViews.{new_host};
-
     pub(crate) fn new(
         alloc: Global,
         rx: SocketBuffer<'a>,
@@ -84,28 +92,13 @@ impl<'a> Host<'a> {
         ensures host { result ≡ new_host (fresh (receiving rx.entry) (queue_of tx.entry)) endpoint result.source }
         ensures source { option_map (λ g. g.call) result.source ≡ generator }
     {
-        let mut socket = Socket::new(rx, tx);
-        socket.set_tsval_generator(generator);
-        Host {
-            socket,
-            endpoint,
-            opening: Opening::Unopened,
-            accepted: Vec::new(alloc),
-            handed_out: Vec::new(alloc),
-            released: 0,
-            taken: 0,
-            closed: false,
-        }
+        let mut host = Host::without_timestamps(alloc, rx, tx, endpoint);
+        host.socket.set_tsval_generator(generator);
+        host
     }
 }
 
 impl<'a, G> Host<'a, G> {
-    ghost use Rattle.std.specs.Prelude.{None};
-    ghost use Rattle.sock_core.specs.Received.{receiving};
-    ghost use Rattle.sock_tcp.specs.View.{fresh};
-    ghost use Rattle.sock_tcp.specs.Queue.{queue_of};
-    ghost use Rattle.pair_core.specs.PairViews.{new_host};
-
     pub(crate) fn without_timestamps(
         alloc: Global,
         rx: SocketBuffer<'a>,
@@ -132,7 +125,7 @@ impl<'a, G> Host<'a, G> {
 impl<'a, G: TsvalSource> Host<'a, G> {
     ghost use Rattle.sock_tcp.specs.Queues.{may_send};
     ghost use Rattle.pair_core.specs.PairCalls.{listening, connecting, OpensAs, SendsIf, Receives, Closes, Aborts};
-    ghost use Rattle.pair_core.specs.PairCalls.{Sets};
+    ghost use Rattle.pair_core.specs.PairCalls.{Calls, Sets};
     ghost use Rattle.pair_core.specs.PairSteps.{HostDispatches};
     ghost use Rattle.pair_core.specs.PairInvariant.{IsSocket, IsHost, IsReachable};
     ghost use Rattle.ip_wire.specs.Address.{SameVersion};
@@ -175,7 +168,7 @@ impl<'a, G: TsvalSource> Host<'a, G> {
         }
     }
 
-    pub(crate) fn listen(&mut self) -> Outcome
+    fn listen(&mut self) -> Outcome
         requires { IsHost self.old }
         ensures { OpensAs self.old.opening self.old (listening self.old) result self.new }
     {
@@ -285,7 +278,7 @@ impl<'a, G: TsvalSource> Host<'a, G> {
     }
 
     // A close in ESTABLISHED or CLOSE-WAIT is what ends the side's stream.
-    pub(crate) fn close(&mut self) -> Outcome
+    fn close(&mut self) -> Outcome
         ensures { Closes self.old result self.new }
     {
         if self.socket.may_send() {
@@ -295,14 +288,14 @@ impl<'a, G: TsvalSource> Host<'a, G> {
         Outcome::Done
     }
 
-    pub(crate) fn abort(&mut self) -> Outcome
+    fn abort(&mut self) -> Outcome
         ensures { Aborts self.old result self.new }
     {
         self.socket.abort();
         Outcome::Done
     }
 
-    pub(crate) fn set(&mut self, setting: Setting) -> Outcome
+    fn set(&mut self, setting: Setting) -> Outcome
         ensures { Sets setting self.old result self.new }
     {
         match setting {
@@ -315,6 +308,18 @@ impl<'a, G: TsvalSource> Host<'a, G> {
             Setting::Pause(on) => self.socket.pause_synack(on),
         }
         Outcome::Done
+    }
+
+    pub(crate) fn call(&mut self, call: Call) -> Outcome
+        requires { IsHost self.old }
+        ensures { Calls call self.old result self.new }
+    {
+        match call {
+            Call::Listen => self.listen(),
+            Call::Close => self.close(),
+            Call::Abort => self.abort(),
+            Call::Set(setting) => self.set(setting),
+        }
     }
 
     // One dispatch, into a room that was made before: no payload is longer than the largest IP packet.

@@ -1,9 +1,16 @@
 //! Two sockets, and every segment that they emitted.
 ghost use Rattle.std.specs.Prelude.{◌≡◌, ◌+◌, ◌<◌, ◌≤◌, ◌^◌, length, IfOk, OnOk, OnErr, [], None, false, slice_get};
 ghost use Rattle.std.specs.Prelude.{MatchOption, option_map};
+ghost use Rattle.ip_wire.specs.Address.{SameVersion};
+ghost use Rattle.sock_core.specs.Received.{receiving};
+ghost use Rattle.sock_tcp.specs.View.{fresh};
+ghost use Rattle.sock_tcp.specs.Queue.{queue_of};
+ghost use Rattle.pair_core.specs.PairViews.{new_host, new_pair};
+ghost use Rattle.pair_core.specs.PairInvariant.{IsReachable};
+ghost use Rattle.pair_core.specs.NetworkInvariant.{IsLimit};
 
 use crate::event::Event;
-use crate::host::Host;
+use crate::host::{Call, Host};
 use crate::moment::Moment;
 use crate::outcome::{Outcome, PairError};
 use crate::segment::Segment;
@@ -55,14 +62,6 @@ impl<'a, G> Model for Pair<'a, G> {
 }
 
 impl<'a> Pair<'a> {
-    ghost use Rattle.ip_wire.specs.Address.{SameVersion};
-    ghost use Rattle.sock_core.specs.Received.{receiving};
-    ghost use Rattle.sock_tcp.specs.View.{fresh};
-    ghost use Rattle.sock_tcp.specs.Queue.{queue_of};
-    ghost use Rattle.pair_core.specs.PairViews.{new_host, new_pair};
-    ghost use Rattle.pair_core.specs.PairInvariant.{IsReachable};
-    ghost use Rattle.pair_core.specs.NetworkInvariant.{IsLimit};
-
     /// Two closed sockets and no segment.
     ///
     /// The buffers are empty and of at most 2^30 bytes each; the endpoints are different, specified, of one version,
@@ -97,14 +96,6 @@ impl<'a> Pair<'a> {
 }
 
 impl<'a, G> Pair<'a, G> {
-    ghost use Rattle.ip_wire.specs.Address.{SameVersion};
-    ghost use Rattle.sock_core.specs.Received.{receiving};
-    ghost use Rattle.sock_tcp.specs.View.{fresh};
-    ghost use Rattle.sock_tcp.specs.Queue.{queue_of};
-    ghost use Rattle.pair_core.specs.PairViews.{new_host, new_pair};
-    ghost use Rattle.pair_core.specs.PairInvariant.{IsReachable};
-    ghost use Rattle.pair_core.specs.NetworkInvariant.{IsLimit};
-
     /// As `new`, of two sockets that never have a source of timestamps, whatever the setups say of that; so the type of
     /// the sources may be any.
     pub fn without_timestamps(
@@ -140,8 +131,7 @@ impl<'a, G: TsvalSource> Pair<'a, G> {
     ghost use Rattle.control_wire.specs.Fits.{FitsPacket, HasPorts};
     ghost use Rattle.std.specs.Prelude.{map};
     ghost use Rattle.pair_core.specs.PairViews.{host_of};
-    ghost use Rattle.pair_core.specs.PairCalls.{listening, connecting, OpensAs, is_over, Sends, Receives, Closes};
-    ghost use Rattle.pair_core.specs.PairCalls.{Aborts, Sets};
+    ghost use Rattle.pair_core.specs.PairCalls.{Calls, connecting, OpensAs, is_over, Sends, Receives};
     ghost use Rattle.pair_core.specs.PairSteps.{OneSide, OneSideAndSegments, Dispatches, Delivers};
     ghost use Rattle.pair_core.specs.PairSteps.{DeliveryTakesMemory, ReadTakesMemory, TakesMemory, EventStep};
     ghost use Rattle.pair_core.specs.PairRuns.{Ran};
@@ -215,12 +205,12 @@ impl<'a, G: TsvalSource> Pair<'a, G> {
         self.segments.as_slice()
     }
 
-    fn listen(&mut self, side: Side) -> Outcome
-        ensures { OneSide side self.old self.new (λ h k. OpensAs h.opening h (listening h) result k) }
+    fn call(&mut self, side: Side, call: Call) -> Outcome
+        ensures { OneSide side self.old self.new (λ h k. Calls call h result k) }
     {
         match side {
-            Side::A => self.a.listen(),
-            Side::B => self.b.listen(),
+            Side::A => self.a.call(call),
+            Side::B => self.b.call(call),
         }
     }
 
@@ -278,33 +268,6 @@ impl<'a, G: TsvalSource> Pair<'a, G> {
         match side {
             Side::A => self.a.recv(self.alloc, size, piece),
             Side::B => self.b.recv(self.alloc, size, piece),
-        }
-    }
-
-    fn close(&mut self, side: Side) -> Outcome
-        ensures { OneSide side self.old self.new (λ h k. Closes h result k) }
-    {
-        match side {
-            Side::A => self.a.close(),
-            Side::B => self.b.close(),
-        }
-    }
-
-    fn abort(&mut self, side: Side) -> Outcome
-        ensures { OneSide side self.old self.new (λ h k. Aborts h result k) }
-    {
-        match side {
-            Side::A => self.a.abort(),
-            Side::B => self.b.abort(),
-        }
-    }
-
-    fn set(&mut self, side: Side, setting: Setting) -> Outcome
-        ensures { OneSide side self.old self.new (λ h k. Sets setting h result k) }
-    {
-        match side {
-            Side::A => self.a.set(setting),
-            Side::B => self.b.set(setting),
         }
     }
 
@@ -436,15 +399,15 @@ impl<'a, G: TsvalSource> Pair<'a, G> {
         ensures takes_memory { OnErr result (TakesMemory event.entry.now self.old) }
     {
         match event {
-            Event::Listen { side } => Ok(self.listen(*side)),
+            Event::Listen { side } => Ok(self.call(*side, Call::Listen)),
             Event::Connect { side, moment } => Ok(self.connect(*side, moment)),
             Event::SendSlice { side, bytes } => self.send(*side, bytes.as_slice(), None),
             Event::Send { side, bytes, take } => self.send(*side, bytes.as_slice(), Some(*take)),
             Event::RecvSlice { side, size } => self.recv(*side, *size, false),
             Event::Recv { side, take } => self.recv(*side, *take, true),
-            Event::Close { side } => Ok(self.close(*side)),
-            Event::Abort { side } => Ok(self.abort(*side)),
-            Event::Set { side, setting } => Ok(self.set(*side, *setting)),
+            Event::Close { side } => Ok(self.call(*side, Call::Close)),
+            Event::Abort { side } => Ok(self.call(*side, Call::Abort)),
+            Event::Set { side, setting } => Ok(self.call(*side, Call::Set(*setting))),
             Event::Dispatch { side, moment, fail } => self.dispatch(*side, moment, *fail),
             Event::Deliver { index, moment } => self.deliver(*index, moment),
         }

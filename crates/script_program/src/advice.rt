@@ -50,80 +50,32 @@ impl fmt::Display for Form {
 
 // A line that a script may have: its first word, the others, and what each of those may be.
 #[derive(Clone, Copy)]
-struct Shape {
-    name: &'static str,
-    rest: &'static str,
-    forms: &'static [Form],
-}
+struct Shape(&'static str, &'static str, &'static [Form]);
 
-const PAIR: Shape = Shape {
-    name: "pair",
-    rest: "ARX ATX BRX BTX LIMIT",
-    forms: &[SIZE, SIZE, SIZE, SIZE, Form::Limit],
-};
+const PAIR: Shape = Shape(
+    "pair",
+    "ARX ATX BRX BTX LIMIT",
+    &[SIZE, SIZE, SIZE, SIZE, Form::Limit],
+);
 
 const EVENTS: &[Shape] = &[
-    Shape {
-        name: "listen",
-        rest: "S",
-        forms: &[Form::Side],
-    },
-    Shape {
-        name: "connect",
-        rest: "S WORD",
-        forms: &[Form::Side, WORD],
-    },
-    Shape {
-        name: "send",
-        rest: "S TEXT, or send S",
-        forms: &[Form::Side, Form::Text],
-    },
-    Shape {
-        name: "recv",
-        rest: "S SIZE",
-        forms: &[Form::Side, SIZE],
-    },
-    Shape {
-        name: "close",
-        rest: "S",
-        forms: &[Form::Side],
-    },
-    Shape {
-        name: "abort",
-        rest: "S",
-        forms: &[Form::Side],
-    },
-    Shape {
-        name: "nagle",
-        rest: "S on, or nagle S off",
-        forms: &[Form::Side, Form::Switch],
-    },
-    Shape {
-        name: "dispatch",
-        rest: "S MS",
-        forms: &[Form::Side, MILLIS],
-    },
-    Shape {
-        name: "fail",
-        rest: "S MS",
-        forms: &[Form::Side, MILLIS],
-    },
-    Shape {
-        name: "gone",
-        rest: "S MS",
-        forms: &[Form::Side, MILLIS],
-    },
-    Shape {
-        name: "deliver",
-        rest: "INDEX MS WORD",
-        forms: &[INDEX, MILLIS, WORD],
-    },
+    Shape("listen", "S", &[Form::Side]),
+    Shape("connect", "S WORD", &[Form::Side, WORD]),
+    Shape("send", "S TEXT, or send S", &[Form::Side, Form::Text]),
+    Shape("recv", "S SIZE", &[Form::Side, SIZE]),
+    Shape("close", "S", &[Form::Side]),
+    Shape("abort", "S", &[Form::Side]),
+    Shape("nagle", "S on, or nagle S off", &[Form::Side, Form::Switch]),
+    Shape("dispatch", "S MS", &[Form::Side, MILLIS]),
+    Shape("fail", "S MS", &[Form::Side, MILLIS]),
+    Shape("gone", "S MS", &[Form::Side, MILLIS]),
+    Shape("deliver", "INDEX MS WORD", &[INDEX, MILLIS, WORD]),
 ];
 
 // The shape of the lines that begin with this word.
 fn shape_of(name: &[u8]) -> Option<Shape> {
     for shape in EVENTS {
-        if shape.name.as_bytes() == name {
+        if shape.0.as_bytes() == name {
             return Some(*shape);
         }
     }
@@ -199,15 +151,15 @@ fn wrong_number(line: Line<'_>) -> Option<Advice<'_>> {
     if ends_in_return(line.values) {
         return Some(Advice::CarriageReturn);
     }
-    let shape = shape_of(line.name)?;
-    Some(Advice::Words(shape.name, shape.rest))
+    let Shape(name, rest, _) = shape_of(line.name)?;
+    Some(Advice::Words(name, rest))
 }
 
 // The first word that is not of its form.
 fn bad_word(line: Line<'_>) -> Option<Advice<'_>> {
-    let shape = shape_of(line.name)?;
+    let Shape(_, _, forms) = shape_of(line.name)?;
     let mut rest = line.values;
-    for (place, form) in shape.forms.iter().enumerate() {
+    for (place, form) in forms.iter().enumerate() {
         let (word, after) = split_word(rest)?;
         if !form.fits(word) {
             return Some(advice_on_word(place.saturating_add(2), word, *form));
@@ -238,7 +190,7 @@ impl fmt::Display for Advice<'_> {
             Advice::SecondPair => f.write_str(
                 "a second pair line; a script has one, before its events",
             ),
-            Advice::NoPair => { write!(f, "right is a first line: {} {}", PAIR.name, PAIR.rest) }
+            Advice::NoPair => { write!(f, "right is a first line: {} {}", PAIR.0, PAIR.1) }
             Advice::Name(word) => write_names(f, word),
             Advice::Words(name, rest) => write!(f, "right is: {name} {rest}"),
             Advice::Word(place, word, form) => {
@@ -257,7 +209,7 @@ impl fmt::Display for Advice<'_> {
 fn write_names<W: fmt::Write>(f: &mut fmt::Formatter<W>, word: &[u8]) -> fmt::Result {
     write!(f, "word 1 is \"{}\"; right is one of:", Shown(word))?;
     for shape in EVENTS {
-        write!(f, " {}", shape.name)?;
+        write!(f, " {}", shape.0)?;
     }
     Ok(())
 }

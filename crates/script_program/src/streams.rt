@@ -6,32 +6,32 @@ ghost use Rattle.sock_pair.specs.ReplayStreams.{NotesFault};
 use sock_pair::script::{Sink, Source, StreamFault};
 use std::io::{Read, Write};
 
-/// A reader, and whether it has failed.
+/// A reader or a writer, and whether it has failed.
 #[derive(Drop)]
-pub struct Input<R> {
-    reader: R,
+pub struct Stream<S> {
+    stream: S,
     failed: bool,
 }
 
-impl<R> Input<R> {
-    /// A reader that has not failed.
-    pub fn new(reader: R) -> Input<R>
+impl<S> Stream<S> {
+    /// A stream that has not failed.
+    pub fn new(stream: S) -> Stream<S>
         ensures { result.failed ≡ false }
     {
-        Input {
-            reader,
+        Stream {
+            stream,
             failed: false,
         }
     }
 }
 
-impl<R: Read> Source for Input<R> {
-    ghost remaining = { λ s. R.remaining s.reader };
+impl<R: Read> Source for Stream<R> {
+    ghost remaining = { λ s. R.remaining s.stream };
 
     ghost has_failed = { λ s. s.failed };
 
     fn read(&mut self, buf: &mut [u8]) -> Result<usize, StreamFault> {
-        match self.reader.read(buf) {
+        match self.stream.read(buf) {
             Ok(count) => Ok(count),
             Err(_) => {
                 self.failed = true;
@@ -45,32 +45,13 @@ impl<R: Read> Source for Input<R> {
     }
 }
 
-/// A writer, and whether it has failed.
-#[derive(Drop)]
-pub struct Output<W> {
-    writer: W,
-    failed: bool,
-}
-
-impl<W> Output<W> {
-    /// A writer that has not failed.
-    pub fn new(writer: W) -> Output<W>
-        ensures { result.failed ≡ false }
-    {
-        Output {
-            writer,
-            failed: false,
-        }
-    }
-}
-
-impl<W: Write> Output<W> {
+impl<W: Write> Stream<W> {
     /// Writes out what the writer holds back.
     pub fn flush(&mut self) -> Result<(), StreamFault>
-        ensures bytes { Keeps (W.contents self.old.writer) (W.contents self.new.writer) }
+        ensures bytes { Keeps (W.contents self.old.stream) (W.contents self.new.stream) }
         ensures failed { NotesFault self.old.failed result self.new.failed }
     {
-        match self.writer.flush() {
+        match self.stream.flush() {
             Ok(()) => Ok(()),
             Err(_) => {
                 self.failed = true;
@@ -80,13 +61,13 @@ impl<W: Write> Output<W> {
     }
 }
 
-impl<W: Write> Sink for Output<W> {
-    ghost contents = { λ s. W.contents s.writer };
+impl<W: Write> Sink for Stream<W> {
+    ghost contents = { λ s. W.contents s.stream };
 
     ghost has_failed = { λ s. s.failed };
 
     fn write_all(&mut self, bytes: &[u8]) -> Result<(), StreamFault> {
-        match self.writer.write_all(bytes) {
+        match self.stream.write_all(bytes) {
             Ok(()) => Ok(()),
             Err(_) => {
                 self.failed = true;

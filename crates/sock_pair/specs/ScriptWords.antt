@@ -51,31 +51,19 @@ is_text word = list_all (λ b. nat_le 33 b && nat_le b 126) word
 abbrev pub text_of : Word → Option (List ℕ)
 text_of word = if is_text word then Some word else None
 
--- the name of a call of a socket, or of a setting
-unfoldable pub call_keyword_of : Word → Option Keyword
-call_keyword_of word =
-    if bytes_eq word (codes "listen") then Some keyword.Listen
-    else (if bytes_eq word (codes "connect") then Some keyword.Connect
-    else (if bytes_eq word (codes "close") then Some keyword.Close
-    else (if bytes_eq word (codes "abort") then Some keyword.Abort
-    else (if bytes_eq word (codes "send") then Some keyword.Send
-    else (if bytes_eq word (codes "recv") then Some keyword.Recv
-    else (if bytes_eq word (codes "nagle") then Some keyword.Nagle else None))))))
+-- what stands beside the first of these names that the word is
+abbrev pub named : {V : Type 0} → List (Word × V) → Word → Option V
+named [] word = None
+named ((name, v) ∷ others) word = if bytes_eq word name then Some v else named others word
 
--- the name of what happens on the network
-unfoldable pub network_keyword_of : Word → Option Keyword
-network_keyword_of word =
-    if bytes_eq word (codes "dispatch") then Some keyword.Dispatch
-    else (if bytes_eq word (codes "fail") then Some keyword.Fail
-    else (if bytes_eq word (codes "gone") then Some keyword.Gone
-    else (if bytes_eq word (codes "deliver") then Some keyword.Deliver else None)))
-
--- what a line begins with
-abbrev pub keyword_of : Word → Option Keyword
-keyword_of word = call_or (call_keyword_of word) where
-  call_or : Option Keyword → Option Keyword
-  call_or (Some found) = Some found
-  call_or None = network_keyword_of word
+-- what a line begins with: a call of a socket, or what happens on the network
+unfoldable pub keyword_of : Word → Option Keyword
+keyword_of =
+    named
+    ((codes "listen", keyword.Listen) ∷ (codes "connect", keyword.Connect) ∷ (codes "close", keyword.Close)
+    ∷ (codes "abort", keyword.Abort) ∷ (codes "send", keyword.Send) ∷ (codes "recv", keyword.Recv)
+    ∷ (codes "nagle", keyword.Nagle) ∷ (codes "dispatch", keyword.Dispatch) ∷ (codes "fail", keyword.Fail)
+    ∷ (codes "gone", keyword.Gone) ∷ (codes "deliver", keyword.Deliver) ∷ [])
 
 -- the words, where there are just so many
 abbrev pub one_of : List Word → Option Word

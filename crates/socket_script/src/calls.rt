@@ -250,8 +250,8 @@ fn perform_counted(
             let bytes = vec![in alloc; b'x'; count as usize]?;
             send(seat, bytes.as_slice(), line)
         }
-        Counted::Recv => recv(seat, alloc, count as usize, line),
-        Counted::Peek => peek(seat, alloc, count as usize, line),
+        Counted::Recv => read(seat, alloc, count as usize, true, line),
+        Counted::Peek => read(seat, alloc, count as usize, false, line),
         Counted::Dispatch => {
             let mut host = seat.host(alloc, now, false);
             seat.dispatch(&mut host, line)
@@ -385,29 +385,41 @@ fn read_bytes<E: fmt::Display + Drop>(
     Ok(())
 }
 
-fn recv(
+// What comes first, which is taken, or only looked at.
+fn read(
     seat: &mut Seat<'_>,
     alloc: Global,
     size: usize,
+    takes: bool,
     line: &mut String,
 ) -> Result<(), NoMemory> {
     let mut bytes = vec![in alloc; 0u8; size]?;
     let out = bytes.as_mut_slice();
     match &mut seat.socket {
         Socket::Tcp(socket) => {
-            let answer = socket.recv_slice(out);
+            let answer = match takes {
+                true => socket.recv_slice(out),
+                false => socket.peek_slice(out),
+            };
             read_bytes(answer, out, line)
         }
         Socket::Udp(socket) => {
-            let answer = socket.recv_slice(out);
+            let answer = match takes {
+                true => socket.recv_slice(out),
+                false => peek_udp(socket, out),
+            };
             came_udp(answer, out, line)
         }
-        Socket::Icmp(socket) => {
+        Socket::Icmp(socket) if takes => {
             let answer = socket.recv_slice(out);
             came_icmp(answer, out, line)
         }
+        Socket::Icmp(_) => say(line, NO_SUCH_CALL),
         Socket::Raw(socket) => {
-            let answer = socket.recv_slice(out);
+            let answer = match takes {
+                true => socket.recv_slice(out),
+                false => socket.peek_slice(out),
+            };
             read_bytes(answer, out, line)
         }
     }
@@ -446,31 +458,6 @@ fn came_icmp(
             Ok(())
         }
         Err(error) => read_bytes(Err(error), bytes, line),
-    }
-}
-
-fn peek(
-    seat: &mut Seat<'_>,
-    alloc: Global,
-    size: usize,
-    line: &mut String,
-) -> Result<(), NoMemory> {
-    let mut bytes = vec![in alloc; 0u8; size]?;
-    let out = bytes.as_mut_slice();
-    match &mut seat.socket {
-        Socket::Tcp(socket) => {
-            let answer = socket.peek_slice(out);
-            read_bytes(answer, out, line)
-        }
-        Socket::Udp(socket) => {
-            let answer = peek_udp(socket, out);
-            came_udp(answer, out, line)
-        }
-        Socket::Raw(socket) => {
-            let answer = socket.peek_slice(out);
-            read_bytes(answer, out, line)
-        }
-        Socket::Icmp(_) => say(line, NO_SUCH_CALL),
     }
 }
 

@@ -2,38 +2,19 @@
 
 use crate::clock::Clock;
 use drill_lines::room::{BYTES, PLACES, Queues, Room};
-use ip_wire::{IpProtocol, IpVersion};
-use smoltcp_socket::storage::{PacketBuffer, RingBuffer};
+use ip_wire::{IpAddress, IpProtocol, IpVersion};
+use smoltcp_socket::storage::{PacketBuffer, PacketMetadata, RingBuffer};
+use smoltcp_socket::udp::UdpMetadata;
 use smoltcp_socket::{Socket, icmp, raw, tcp, udp};
 use std::alloc::{AllocError, Global};
 
 /// The memory of a socket.
 #[derive(Drop)]
 pub enum Memory {
-    Tcp {
-        rx: Vec<u8>,
-        tx: Vec<u8>,
-    },
-    Udp {
-        rx_places: Vec<udp::PacketMetadata>,
-        rx: Vec<u8>,
-        tx_places: Vec<udp::PacketMetadata>,
-        tx: Vec<u8>,
-    },
-    Icmp {
-        rx_places: Vec<icmp::PacketMetadata>,
-        rx: Vec<u8>,
-        tx_places: Vec<icmp::PacketMetadata>,
-        tx: Vec<u8>,
-    },
-    Raw {
-        version: Option<IpVersion>,
-        protocol: Option<IpProtocol>,
-        rx_places: Vec<raw::PacketMetadata>,
-        rx: Vec<u8>,
-        tx_places: Vec<raw::PacketMetadata>,
-        tx: Vec<u8>,
-    },
+    Tcp { rx: Vec<u8>, tx: Vec<u8> },
+    Udp(PacketMemory<UdpMetadata>),
+    Icmp(PacketMemory<IpAddress>),
+    Raw(Option<IpVersion>, Option<IpProtocol>, PacketMemory<()>),
 }
 
 impl Memory {
@@ -44,9 +25,13 @@ impl Memory {
                 rx: bytes(alloc, rx)?,
                 tx: bytes(alloc, tx)?,
             }),
-            Room::Udp(queues) => of_udp(alloc, queues),
-            Room::Icmp(queues) => of_icmp(alloc, queues),
-            Room::Raw(version, protocol, queues) => of_raw(alloc, version, protocol, queues),
+            Room::Udp(queues) => Ok(Memory::Udp(PacketMemory::of(alloc, queues)?)),
+            Room::Icmp(queues) => Ok(Memory::Icmp(PacketMemory::of(alloc, queues)?)),
+            Room::Raw(version, protocol, queues) => Ok(Memory::Raw(
+                version,
+                protocol,
+                PacketMemory::of(alloc, queues)?,
+            )),
         }
     }
 }
@@ -55,78 +40,50 @@ fn bytes(alloc: Global, count: usize) -> Result<Vec<u8>, AllocError> {
     vec![in alloc; 0u8; count.min(BYTES)]
 }
 
-fn of_udp(alloc: Global, queues: Queues) -> Result<Memory, AllocError> {
-    let empty = udp::PacketMetadata::EMPTY;
-    Ok(Memory::Udp {
-        rx_places: vec![in alloc; empty; queues.rx_places.min(PLACES)]?,
-        rx: bytes(alloc, queues.rx_bytes)?,
-        tx_places: vec![in alloc; empty; queues.tx_places.min(PLACES)]?,
-        tx: bytes(alloc, queues.tx_bytes)?,
-    })
+/// The memory of a socket of packets: places for them and their bytes, of what comes and of what goes.
+#[derive(Drop)]
+pub struct PacketMemory<H> {
+    rx_places: Vec<PacketMetadata<H>>,
+    rx: Vec<u8>,
+    tx_places: Vec<PacketMetadata<H>>,
+    tx: Vec<u8>,
 }
 
-fn of_icmp(alloc: Global, queues: Queues) -> Result<Memory, AllocError> {
-    let empty = icmp::PacketMetadata::EMPTY;
-    Ok(Memory::Icmp {
-        rx_places: vec![in alloc; empty; queues.rx_places.min(PLACES)]?,
-        rx: bytes(alloc, queues.rx_bytes)?,
-        tx_places: vec![in alloc; empty; queues.tx_places.min(PLACES)]?,
-        tx: bytes(alloc, queues.tx_bytes)?,
-    })
-}
+impl<H: Copy> PacketMemory<H> {
+    fn of(alloc: Global, queues: Queues) -> Result<PacketMemory<H>, AllocError> {
+        Ok(PacketMemory {
+            rx_places: vec![in alloc; PacketMetadata::EMPTY; queues.rx_places.min(PLACES)]?,
+            rx: bytes(alloc, queues.rx_bytes)?,
+            tx_places: vec![in alloc; PacketMetadata::EMPTY; queues.tx_places.min(PLACES)]?,
+            tx: bytes(alloc, queues.tx_bytes)?,
+        })
+    }
 
-fn of_raw(
-    alloc: Global,
-    version: Option<IpVersion>,
-    protocol: Option<IpProtocol>,
-    queues: Queues,
-) -> Result<Memory, AllocError> {
-    let empty = raw::PacketMetadata::EMPTY;
-    Ok(Memory::Raw {
-        version,
-        protocol,
-        rx_places: vec![in alloc; empty; queues.rx_places.min(PLACES)]?,
-        rx: bytes(alloc, queues.rx_bytes)?,
-        tx_places: vec![in alloc; empty; queues.tx_places.min(PLACES)]?,
-        tx: bytes(alloc, queues.tx_bytes)?,
-    })
+    // The queues of what comes and of what goes.
+    fn buffers(&mut self) -> (PacketBuffer<'_, H>, PacketBuffer<'_, H>) {
+        (
+            PacketBuffer::new(self.rx_places.as_mut_slice(), self.rx.as_mut_slice()),
+            PacketBuffer::new(self.tx_places.as_mut_slice(), self.tx.as_mut_slice()),
+        )
+    }
 }
 
 /// A socket over this memory, closed and not bound.
 pub fn socket_over(memory: &mut Memory) -> Socket<'_, Clock> {
     match memory {
         Memory::Tcp { rx, tx } => Socket::Tcp(tcp_over(rx.as_mut_slice(), tx.as_mut_slice())),
-        Memory::Udp {
-            rx_places,
-            rx,
-            tx_places,
-            tx,
-        } => Socket::Udp(udp::Socket::new(
-            PacketBuffer::new(rx_places.as_mut_slice(), rx.as_mut_slice()),
-            PacketBuffer::new(tx_places.as_mut_slice(), tx.as_mut_slice()),
-        )),
-        Memory::Icmp {
-            rx_places,
-            rx,
-            tx_places,
-            tx,
-        } => Socket::Icmp(icmp::Socket::new(
-            PacketBuffer::new(rx_places.as_mut_slice(), rx.as_mut_slice()),
-            PacketBuffer::new(tx_places.as_mut_slice(), tx.as_mut_slice()),
-        )),
-        Memory::Raw {
-            version,
-            protocol,
-            rx_places,
-            rx,
-            tx_places,
-            tx,
-        } => Socket::Raw(raw::Socket::new(
-            *version,
-            *protocol,
-            PacketBuffer::new(rx_places.as_mut_slice(), rx.as_mut_slice()),
-            PacketBuffer::new(tx_places.as_mut_slice(), tx.as_mut_slice()),
-        )),
+        Memory::Udp(packets) => {
+            let (rx, tx) = packets.buffers();
+            Socket::Udp(udp::Socket::new(rx, tx))
+        }
+        Memory::Icmp(packets) => {
+            let (rx, tx) = packets.buffers();
+            Socket::Icmp(icmp::Socket::new(rx, tx))
+        }
+        Memory::Raw(version, protocol, packets) => {
+            let (rx, tx) = packets.buffers();
+            Socket::Raw(raw::Socket::new(*version, *protocol, rx, tx))
+        }
     }
 }
 

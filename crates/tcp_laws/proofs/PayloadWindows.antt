@@ -30,12 +30,12 @@ asked_at_most : (v : View) (t : Tuple) (f : Facts) (stamps : Bool) → v.pending
 unfolding asked
 asked_at_most v t f stamps e p = or_none (carries_data v.state) (size_of v t f stamps) (min (window_left v) (congestion_left v)) (neither v.pending_fast_retransmit (is_probing v (moment_of f)) (effective_mss v t f stamps) (window_left v) (congestion_left v) e p)
 
-abbrev len_in : Option Segment → ℕ
+abbrev pub len_in : Option Segment → ℕ
 len_in None = 0
 len_in (Some u) = length u.payload
 
 -- the payload is what the ring lent, or nothing
-payload_of : (st : State) (v : View) (t : Tuple) (f : Facts) (bytes : List ℕ) (s : Segment) → length s.payload ≡ 0 → len_in (filled st v t f bytes s) ≤ length bytes
+pub payload_of : (st : State) (v : View) (t : Tuple) (f : Facts) (bytes : List ℕ) (s : Segment) → length s.payload ≡ 0 → len_in (filled st v t f bytes s) ≤ length bytes
 payload_of state.Closed v t f bytes s z = omega (arith, z)
 payload_of state.SynSent v t f bytes s z = omega (arith, z)
 payload_of state.SynReceived v t f bytes s z = omega (arith, z)
@@ -43,7 +43,7 @@ payload_of state.FinWait2 v t f bytes s z = omega (arith, z)
 payload_of state.TimeWait v t f bytes s z = omega (arith, z)
 payload_of _ v t f bytes s z = omega arith
 
-plain_is_empty_segment : (v : View) (t : Tuple) (stamp : Option ℕ) → length (plain_segment v t stamp).payload ≡ 0
+pub plain_is_empty_segment : (v : View) (t : Tuple) (stamp : Option ℕ) → length (plain_segment v t stamp).payload ≡ 0
 unfolding plain_segment
 plain_is_empty_segment v t stamp = refl
 

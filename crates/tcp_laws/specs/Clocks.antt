@@ -68,7 +68,8 @@ pub record IsReachedBy (v : View) (last : Instant) (most : Duration) : Type 0 wh
   pub tx_size : length tx.queue + length tx.spare ≤ 2 ^ 30
   pub from_zero : pos 0 ≤ℤ first.micros
   pub minute : 60000000 ≤ most.micros
-  pub run : TimedRun most (fresh (receiving rx) (queue_of tx)) (starting (fresh (receiving rx) (queue_of tx))) first v counts last
+  pub run : TimedRun most (fresh (receiving rx) (queue_of tx)) (starting (fresh (receiving rx) (queue_of tx))) first v
+      counts last
 
 -- ---- the law
 

@@ -1,4 +1,4 @@
-use Rattle.std.proofs.Common.{◌≡◌, ◌∙◌, ◌<◌, Some, sym, ap, map, length, arith}
+use Rattle.std.proofs.Common.{◌≡◌, ◌∙◌, Some, sym, ap, map, arith}
 use Rattle.std.specs.Prelude.{slice_get}
 use Rattle.pair_core.specs.Holding.{stored_of}
 use Rattle.pair_core.specs.Aging.{DeliversAt}
@@ -34,57 +34,37 @@ deliver-requires-in-B-clause-taken g c =
 pub invariant_of-self : goal.invariant_of-self
 invariant_of-self g c =
     let p : PairView _ = record { a = c.self.inside.a; b = c.self.inside.b; segments = map stored_of c.self.inside.segments.items; limit = c.self.inside.limit } in
-    let items = c.self.inside.segments.items in
     let t = stored_of c.index-segment.result.now in
-    let k = c.deliver.new.host in
-    let ts = map stored_of c.deliver.new.segments.items in
-    let m = c.args.moment.now in
-    let within : c.args.index < length items = omega (arith, c.if-index-len.false, c.len.ensures, c.self.inside.segments.ok.0) in
-    let at : slice_get p.segments c.args.index ≡ Some t = get_map stored_of items c.args.index c.index-segment.result.now within ∙ ap (λ x. Some (stored_of x)) (sym c.index-segment.ensures) in
-    kept_with_segments_if (λ o. DeliversAt g.G.TsvalSource.tells (slice_get p.segments c.args.index) c.counts-counts.result.released c.counts-counts.result.taken B m o (host_of B p) p.segments k ts) B p k ts c.deliver.result c.self.invariant c.deliver.ensures.step c.deliver.ensures.memory
+    let at : slice_get p.segments c.args.index ≡ Some t = get_map stored_of c.self.inside.segments.items c.args.index c.index-segment.result.now (omega (arith, c.if-index-len.false, c.len.ensures, c.self.inside.segments.ok.0)) ∙ ap (λ x. Some (stored_of x)) (sym c.index-segment.ensures) in
+    kept_with_segments_if (λ o. DeliversAt g.G.TsvalSource.tells (slice_get p.segments c.args.index) c.counts-counts.result.released c.counts-counts.result.taken B c.args.moment.now o (host_of B p) p.segments c.deliver.new.host (map stored_of c.deliver.new.segments.items)) B p c.deliver.new.host (map stored_of c.deliver.new.segments.items) c.deliver.result c.self.invariant c.deliver.ensures.step c.deliver.ensures.memory
     (λ o d.
-    let e = delivers_to g.G.TsvalSource.tells m o t B p c.args.index k ts c.counts-counts.result.released c.counts-counts.result.taken at c.in-A.is c.counts-counts.ensures.released c.counts-counts.ensures.taken d in
+    let e = delivers_to g.G.TsvalSource.tells c.args.moment.now o t B p c.args.index c.deliver.new.host (map stored_of c.deliver.new.segments.items) c.counts-counts.result.released c.counts-counts.result.taken at c.in-A.is c.counts-counts.ensures.released c.counts-counts.ensures.taken d in
     let goes = goes_at B p c.args.index t c.self.invariant at c.in-A.is in
-    pair_exchanged B p k ts c.self.invariant (deliver_stays g.G.TsvalSource.tells _ B m t o (host_of B p) k p.segments ts (host_at B p c.self.invariant) c.in_range.ensures.numbers goes e) (deliver_all g.G.TsvalSource.tells _ B p m t o k ts c.self.invariant goes e)
-    (deliver_keeps B p (host_at B p c.self.invariant) c.self.invariant.network g.G.TsvalSource.tells m t o k ts m.fits c.in_range.ensures.numbers (contains_at p.segments c.args.index t at) c.in-A.is c.in_range-3.ensures.socket (peer_at B p c.self.invariant) goes e))
+    pair_exchanged B p c.deliver.new.host (map stored_of c.deliver.new.segments.items) c.self.invariant (deliver_stays g.G.TsvalSource.tells _ B c.args.moment.now t o (host_of B p) c.deliver.new.host p.segments (map stored_of c.deliver.new.segments.items) (host_at B p c.self.invariant) c.in_range.ensures.numbers goes e) (deliver_all g.G.TsvalSource.tells _ B p c.args.moment.now t o c.deliver.new.host (map stored_of c.deliver.new.segments.items) c.self.invariant goes e)
+    (deliver_keeps B p (host_at B p c.self.invariant) c.self.invariant.network g.G.TsvalSource.tells c.args.moment.now t o c.deliver.new.host (map stored_of c.deliver.new.segments.items) c.args.moment.now.fits c.in_range.ensures.numbers (contains_at p.segments c.args.index t at) c.in-A.is c.in_range-3.ensures.socket (peer_at B p c.self.invariant) goes e))
 
 pub returns-in-A-clause-step : goal.returns-in-A-clause-step
 returns-in-A-clause-step g c =
     let p : PairView _ = record { a = c.self.inside.a; b = c.self.inside.b; segments = map stored_of c.self.inside.segments.items; limit = c.self.inside.limit } in
-    let items = c.self.inside.segments.items in
     let t = stored_of c.index-segment.result.now in
-    let k = c.deliver.new.host in
-    let ts = map stored_of c.deliver.new.segments.items in
-    let m = c.args.moment.now in
-    let within : c.args.index < length items = omega (arith, c.if-index-len.false, c.len.ensures, c.self.inside.segments.ok.0) in
-    let at : slice_get p.segments c.args.index ≡ Some t = get_map stored_of items c.args.index c.index-segment.result.now within ∙ ap (λ x. Some (stored_of x)) (sym c.index-segment.ensures) in
-    pair_delivers_if g.G.TsvalSource.tells m t B p c.args.self.now c.args.index k ts c.counts-counts.result.released c.counts-counts.result.taken c.deliver.result at c.in-A.is c.self.view_is c.counts-counts.ensures.released c.counts-counts.ensures.taken c.deliver.ensures.step
+    let at : slice_get p.segments c.args.index ≡ Some t = get_map stored_of c.self.inside.segments.items c.args.index c.index-segment.result.now (omega (arith, c.if-index-len.false, c.len.ensures, c.self.inside.segments.ok.0)) ∙ ap (λ x. Some (stored_of x)) (sym c.index-segment.ensures) in
+    pair_delivers_if g.G.TsvalSource.tells c.args.moment.now t B p c.args.self.now c.args.index c.deliver.new.host (map stored_of c.deliver.new.segments.items) c.counts-counts.result.released c.counts-counts.result.taken c.deliver.result at c.in-A.is c.self.view_is c.counts-counts.ensures.released c.counts-counts.ensures.taken c.deliver.ensures.step
 
 pub invariant_of-self-in-B : goal.invariant_of-self-in-B
 invariant_of-self-in-B g c =
     let p : PairView _ = record { a = c.self.inside.a; b = c.self.inside.b; segments = map stored_of c.self.inside.segments.items; limit = c.self.inside.limit } in
-    let items = c.self.inside.segments.items in
     let t = stored_of c.index-segment.result.now in
-    let k = c.deliver-in-B.new.host in
-    let ts = map stored_of c.deliver-in-B.new.segments.items in
-    let m = c.args.moment.now in
-    let within : c.args.index < length items = omega (arith, c.if-index-len.false, c.len.ensures, c.self.inside.segments.ok.0) in
-    let at : slice_get p.segments c.args.index ≡ Some t = get_map stored_of items c.args.index c.index-segment.result.now within ∙ ap (λ x. Some (stored_of x)) (sym c.index-segment.ensures) in
-    kept_with_segments_if (λ o. DeliversAt g.G.TsvalSource.tells (slice_get p.segments c.args.index) c.counts-counts-in-B.result.released c.counts-counts-in-B.result.taken A m o (host_of A p) p.segments k ts) A p k ts c.deliver-in-B.result c.self.invariant c.deliver-in-B.ensures.step c.deliver-in-B.ensures.memory
+    let at : slice_get p.segments c.args.index ≡ Some t = get_map stored_of c.self.inside.segments.items c.args.index c.index-segment.result.now (omega (arith, c.if-index-len.false, c.len.ensures, c.self.inside.segments.ok.0)) ∙ ap (λ x. Some (stored_of x)) (sym c.index-segment.ensures) in
+    kept_with_segments_if (λ o. DeliversAt g.G.TsvalSource.tells (slice_get p.segments c.args.index) c.counts-counts-in-B.result.released c.counts-counts-in-B.result.taken A c.args.moment.now o (host_of A p) p.segments c.deliver-in-B.new.host (map stored_of c.deliver-in-B.new.segments.items)) A p c.deliver-in-B.new.host (map stored_of c.deliver-in-B.new.segments.items) c.deliver-in-B.result c.self.invariant c.deliver-in-B.ensures.step c.deliver-in-B.ensures.memory
     (λ o d.
-    let e = delivers_to g.G.TsvalSource.tells m o t A p c.args.index k ts c.counts-counts-in-B.result.released c.counts-counts-in-B.result.taken at c.in-B.is c.counts-counts-in-B.ensures.released c.counts-counts-in-B.ensures.taken d in
+    let e = delivers_to g.G.TsvalSource.tells c.args.moment.now o t A p c.args.index c.deliver-in-B.new.host (map stored_of c.deliver-in-B.new.segments.items) c.counts-counts-in-B.result.released c.counts-counts-in-B.result.taken at c.in-B.is c.counts-counts-in-B.ensures.released c.counts-counts-in-B.ensures.taken d in
     let goes = goes_at A p c.args.index t c.self.invariant at c.in-B.is in
-    pair_exchanged A p k ts c.self.invariant (deliver_stays g.G.TsvalSource.tells _ A m t o (host_of A p) k p.segments ts (host_at A p c.self.invariant) c.in_range.ensures.numbers goes e) (deliver_all g.G.TsvalSource.tells _ A p m t o k ts c.self.invariant goes e)
-    (deliver_keeps A p (host_at A p c.self.invariant) c.self.invariant.network g.G.TsvalSource.tells m t o k ts m.fits c.in_range.ensures.numbers (contains_at p.segments c.args.index t at) c.in-B.is c.in_range-2.ensures.socket (peer_at A p c.self.invariant) goes e))
+    pair_exchanged A p c.deliver-in-B.new.host (map stored_of c.deliver-in-B.new.segments.items) c.self.invariant (deliver_stays g.G.TsvalSource.tells _ A c.args.moment.now t o (host_of A p) c.deliver-in-B.new.host p.segments (map stored_of c.deliver-in-B.new.segments.items) (host_at A p c.self.invariant) c.in_range.ensures.numbers goes e) (deliver_all g.G.TsvalSource.tells _ A p c.args.moment.now t o c.deliver-in-B.new.host (map stored_of c.deliver-in-B.new.segments.items) c.self.invariant goes e)
+    (deliver_keeps A p (host_at A p c.self.invariant) c.self.invariant.network g.G.TsvalSource.tells c.args.moment.now t o c.deliver-in-B.new.host (map stored_of c.deliver-in-B.new.segments.items) c.args.moment.now.fits c.in_range.ensures.numbers (contains_at p.segments c.args.index t at) c.in-B.is c.in_range-2.ensures.socket (peer_at A p c.self.invariant) goes e))
 
 pub returns-in-B-clause-step : goal.returns-in-B-clause-step
 returns-in-B-clause-step g c =
     let p : PairView _ = record { a = c.self.inside.a; b = c.self.inside.b; segments = map stored_of c.self.inside.segments.items; limit = c.self.inside.limit } in
-    let items = c.self.inside.segments.items in
     let t = stored_of c.index-segment.result.now in
-    let k = c.deliver-in-B.new.host in
-    let ts = map stored_of c.deliver-in-B.new.segments.items in
-    let m = c.args.moment.now in
-    let within : c.args.index < length items = omega (arith, c.if-index-len.false, c.len.ensures, c.self.inside.segments.ok.0) in
-    let at : slice_get p.segments c.args.index ≡ Some t = get_map stored_of items c.args.index c.index-segment.result.now within ∙ ap (λ x. Some (stored_of x)) (sym c.index-segment.ensures) in
-    pair_delivers_if g.G.TsvalSource.tells m t A p c.args.self.now c.args.index k ts c.counts-counts-in-B.result.released c.counts-counts-in-B.result.taken c.deliver-in-B.result at c.in-B.is c.self.view_is c.counts-counts-in-B.ensures.released c.counts-counts-in-B.ensures.taken c.deliver-in-B.ensures.step
+    let at : slice_get p.segments c.args.index ≡ Some t = get_map stored_of c.self.inside.segments.items c.args.index c.index-segment.result.now (omega (arith, c.if-index-len.false, c.len.ensures, c.self.inside.segments.ok.0)) ∙ ap (λ x. Some (stored_of x)) (sym c.index-segment.ensures) in
+    pair_delivers_if g.G.TsvalSource.tells c.args.moment.now t A p c.args.self.now c.args.index c.deliver-in-B.new.host (map stored_of c.deliver-in-B.new.segments.items) c.counts-counts-in-B.result.released c.counts-counts-in-B.result.taken c.deliver-in-B.result at c.in-B.is c.self.view_is c.counts-counts-in-B.ensures.released c.counts-counts-in-B.ensures.taken c.deliver-in-B.ensures.step
