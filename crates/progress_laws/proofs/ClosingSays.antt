@@ -1,5 +1,5 @@
 -- What a sender that was closed says of its bytes, with a window: from SND.UNA on, and the FIN with the last of them.
-use Rattle.std.proofs.Common.{◌≡◌, ℕ, ◌+◌, ◌-◌, ◌/◌, ◌<◌, ◌≤◌, inl, Bool, true, false, not, ◌&&◌, refl, sym, ap, subst, ◌∙◌, List, length, take, drop, min, Option, Some, None, arith, ◌^◌}
+use Rattle.std.proofs.Common.{◌≡◌, ℕ, ◌+◌, ◌/◌, ◌<◌, ◌≤◌, inl, Bool, true, false, not, ◌&&◌, refl, sym, ap, subst, ◌∙◌, List, length, take, drop, min, Option, Some, None, arith, ◌^◌}
 use Rattle.std.specs.Prelude.{if◌then◌else◌, ◌==◌}
 use Rattle.std.proofs.lemmas.Bool.{eq-eqb, eqb-true}
 use Rattle.net_base.specs.declared.time.Duration.{Duration}
@@ -9,7 +9,7 @@ use Rattle.control_wire.specs.Seq.{seq_add}
 use Rattle.control_wire.specs.declared.tcp.TcpControl.TheVariants as control
 use Rattle.sock_core.specs.Bounds.{IsMtu}
 use Rattle.sock_core.specs.Facts.{Facts}
-use Rattle.sock_tcp.proofs.Lending.{lent_at_most, lent_beginning}
+use Rattle.sock_tcp.proofs.Lending.{lent_beginning}
 use Rattle.sock_tcp.specs.Begin.{is_paused}
 use Rattle.sock_tcp.specs.Content.{Sending, asked, carries_data, data_control, emission_kind, offset_of, plain_segment, sent_as, window_left}
 use Rattle.sock_tcp.specs.Due.{congestion_left, effective_mss, is_closed, is_closing, is_due, window_field}
@@ -28,7 +28,7 @@ use Rattle.progress_laws.proofs.Begins.{and_no, carries_runs, dispatch_reached, 
 use Rattle.progress_laws.proofs.Hears.{IsData}
 use Rattle.progress_laws.proofs.Lends.{lent_some, mss_some}
 use Rattle.progress_laws.proofs.Sends.{left, open_window, plain_sent, plain_timer, plain_told}
-use Rattle.progress_laws.proofs.Speaks.{Begins, FromFront, Front, IsNoProbe, asked_so, begins, from_front, wakes}
+use Rattle.progress_laws.proofs.Speaks.{Begins, FromFront, Front, IsNoProbe, asked_so, begins, from_front, lent_few, wakes}
 use Rattle.progress_laws.proofs.Spoken.{IsSaid, data_said}
 use Rattle.progress_laws.proofs.States.{closing_carries, closing_open}
 
@@ -96,9 +96,6 @@ module _ (d : Option Duration) (t : Tuple) (v : View) (f : Facts) (now : Instant
   asked_is : asked u t fa false ≡ min (min (window_left u) (effective_mss u t fa false)) (congestion_left u)
   asked_is = asked_so u t f now ft carries
 
-  few : length bytes ≤ min (asked u t fa false) (length u.tx_buffer.bytes - offset_of u)
-  few = lent_at_most u.tx_buffer (offset_of u) (asked u t fa false) bytes refl
-
   win_u : 0 < u.remote_win_len
   win_u = subst (λ n. 0 < n) (sym fr.same.window) win
 
@@ -151,9 +148,9 @@ module _ (d : Option Duration) (t : Tuple) (v : View) (f : Facts) (now : Instant
         ack = (λ i. Some (seq_add (fr.same.rcv i) (length ((fr.same.rx i).bytes))));
         number = rw ft.nothing_marked fr.nxt;
         some = some;
-        fits = omega (arith, few, asked_is, fr.same.window);
-        queued = omega (arith, few, same);
-        short = omega (arith, few, asked_is, mtu.1);
+        fits = omega (arith, lent_few u t fa, asked_is, fr.same.window);
+        queued = omega (arith, lent_few u t fa, same);
+        short = omega (arith, lent_few u t fa, asked_is, mtu.1);
         first = lent_beginning u.tx_buffer (offset_of u) (asked u t fa false) bytes refl ∙ ap (λ o. take (length bytes) (drop o u.tx_buffer.bytes)) ft.start ∙ ap (λ (q : Queue). take (length bytes) q.bytes) fr.same.tx;
         closer = record {
           reached = dispatch_reached fa false v (Some (sent_as u t kind.Plain b)) after s.reached goes;

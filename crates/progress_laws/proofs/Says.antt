@@ -30,7 +30,7 @@ use Rattle.tcp_laws.specs.Waking.{HasToSend}
 use Rattle.tcp_laws.proofs.OrderedCalls.{reached_ordered}
 use Rattle.tcp_laws.proofs.Probing.{IsProbing, ProbesIn, before_probing, reached_probing}
 use Rattle.tcp_laws.proofs.Repeating.{empty_parts}
-use Rattle.progress_laws.specs.Speech.{DispatchesOk, FromUna, KeepsAlive, Probes, Says, SendsOk, SpeaksPastItsTimers, SpeaksWithin, Speech}
+use Rattle.progress_laws.specs.Speech.{DispatchesOk, FromUna, IsPastTimer, KeepsAlive, Probes, Says, SendsOk, SpeaksPastItsTimers, SpeaksWithin, Speech}
 use Rattle.progress_laws.proofs.Lends.{marked_some, probe_byte}
 use Rattle.progress_laws.proofs.Begins.{Goes, Alike, and_no, beginning, carries_runs, content_is, dispatch_reached, goes, not_empty, not_zero, readied_alike, segment_for}
 
@@ -216,27 +216,39 @@ module _ (d : Duration) (t : Tuple) where
         by (inl some) = inl (subst (λ (q : Queue). 0 < length q.bytes) (sym tx) some)
         by (inr c) = inr (ap is_closing state ∙ c)
 
+  -- the moment of the keep-alive has come
+  module _ (v : View) (at : Instant) (is : v.timer ≡ timer.Idle (Some at)) (f : Facts) (h : IsPastTimer v t f) where
+    abbrev idle_view : View
+    idle_view = readied v (moment_of f)
+
+    idle_at : idle_view.timer ≡ timer.Idle (Some at)
+    idle_at = (readied_alike v (moment_of f)).timer ∙ is
+
+    idle_over : is_keep_alive_over idle_view.timer (moment_of f) ≡ true
+    idle_over = ap (λ tm. is_keep_alive_over tm (moment_of f)) idle_at ∙ subst (λ tm. is_reached (timer_poll tm) (moment_of f) ≡ true) is h.over
+
+    idle_quiet : is_probing idle_view (moment_of f) ≡ false
+    idle_quiet = no_probe idle_view (moment_of f) (ap (λ tm. is_probe_over tm (moment_of f)) idle_at)
+
+    idle_goes : {R : Type 0} (s : HasToSay d v) (stamps : Bool) (out : Option Sending) (w : View) → DispatchesOk f stamps v out w → (SendsOk f t stamps idle_view out w → R) → R
+    idle_goes {R} s stamps out w k sends = by (goes v t f stamps h.on (carries_runs v.state v.synack_paused s.carries) out w k)
+      where
+        u_is : beginning v t f stamps h.on (carries_runs v.state v.synack_paused s.carries) ≡ idle_view
+        u_is = ap (λ tm. after_timer tm idle_view (moment_of f)) is
+
+        by : Goes v t f stamps h.on (carries_runs v.state v.synack_paused s.carries) out w → R
+        by (inl o) = sends (subst (λ x. SendsOk f t stamps x out w) u_is o.0)
+        by (inr o) = absurd (true≢false (sym (keep_alive_due idle_view t f stamps idle_over) ∙ ap (λ x. is_due x t f stamps) (sym u_is) ∙ o.1))
+
   -- a keep-alive, or the first segment behind SND.UNA
   front_says : (n : ℕ) (v : View) (at : Instant) → HasToSay d v → v.timer ≡ timer.Idle (Some at) → AtFront v → SpeaksWithin (suc n) v t
-  front_says n v at s is front f stamps out w lawful h k = inl (by (goes v t f stamps h.on (carries_runs v.state v.synack_paused s.carries) out w k))
+  front_says n v at s is front f stamps out w lawful h k = inl (idle_goes v at is f h s stamps out w k sends)
     where
       u : View
       u = readied v (moment_of f)
 
       still : Alike v u
       still = readied_alike v (moment_of f)
-
-      u_is : beginning v t f stamps h.on (carries_runs v.state v.synack_paused s.carries) ≡ u
-      u_is = ap (λ tm. after_timer tm u (moment_of f)) is
-
-      timed : u.timer ≡ timer.Idle (Some at)
-      timed = still.timer ∙ is
-
-      over : is_keep_alive_over u.timer (moment_of f) ≡ true
-      over = ap (λ tm. is_keep_alive_over tm (moment_of f)) timed ∙ subst (λ tm. is_reached (timer_poll tm) (moment_of f) ≡ true) is h.over
-
-      no_probing : is_probing u (moment_of f) ≡ false
-      no_probing = no_probe u (moment_of f) (ap (λ tm. is_probe_over tm (moment_of f)) timed)
 
       at_front : AtFront u
       at_front = by front
@@ -246,17 +258,13 @@ module _ (d : Duration) (t : Tuple) where
           by (inr e) = inr (still.nxt ∙ e ∙ sym still.same.una)
 
       sends : SendsOk f t stamps u out w → Says v out
-      sends o = elim (says_or_ack v u t f o.stamp o.bytes still.same.una at_front no_probing) [
+      sends o = elim (says_or_ack v u t f o.stamp o.bytes still.same.una at_front (idle_quiet v at is f h)) [
         | inl h ↦ said f stamps v u out w s k o still.same.state still.same.tx still.same.keep_alive h
-        | inr q ↦ elim (keeps_or_bytes v u t f o.stamp o.bytes still.same.una no_probing over) [
+        | inr q ↦ elim (keeps_or_bytes v u t f o.stamp o.bytes still.same.una (idle_quiet v at is f h) (idle_over v at is f h)) [
           | inl h ↦ said f stamps v u out w s k o still.same.state still.same.tx still.same.keep_alive h
           | inr r ↦ absurd (omega (arith, q.1, r.1))
         ]
       ]
-
-      by : Goes v t f stamps h.on (carries_runs v.state v.synack_paused s.carries) out w → Says v out
-      by (inl o) = sends (subst (λ x. SendsOk f t stamps x out w) u_is o.0)
-      by (inr o) = absurd (true≢false (sym (keep_alive_due u t f stamps over) ∙ ap (λ x. is_due x t f stamps) (sym u_is) ∙ o.1))
 
   -- the retransmission timer: all is sent again from SND.UNA on, or a keep-alive comes next
   again_says : (n : ℕ) (v : View) (at : Instant) → HasToSay d v → v.timer ≡ timer.Retransmit at → SpeaksWithin (suc (suc n)) v t
@@ -317,7 +325,7 @@ module _ (d : Duration) (t : Tuple) where
 
   -- between: a keep-alive, or what lies behind the bytes in flight, which is waited for then
   idle_says : (n : ℕ) (v : View) (at : Instant) → HasToSay d v → v.timer ≡ timer.Idle (Some at) → SpeaksWithin (suc (suc (suc n))) v t
-  idle_says n v at s is f stamps out w lawful h k = by (goes v t f stamps h.on (carries_runs v.state v.synack_paused s.carries) out w k)
+  idle_says n v at s is f stamps out w lawful h k = idle_goes v at is f h s stamps out w k sends
     where
       u : View
       u = readied v (moment_of f)
@@ -325,30 +333,14 @@ module _ (d : Duration) (t : Tuple) where
       still : Alike v u
       still = readied_alike v (moment_of f)
 
-      u_is : beginning v t f stamps h.on (carries_runs v.state v.synack_paused s.carries) ≡ u
-      u_is = ap (λ tm. after_timer tm u (moment_of f)) is
-
-      idle : u.timer ≡ timer.Idle (Some at)
-      idle = still.timer ∙ is
-
-      over : is_keep_alive_over u.timer (moment_of f) ≡ true
-      over = ap (λ tm. is_keep_alive_over tm (moment_of f)) idle ∙ subst (λ tm. is_reached (timer_poll tm) (moment_of f) ≡ true) is h.over
-
-      no_probing : is_probing u (moment_of f) ≡ false
-      no_probing = no_probe u (moment_of f) (ap (λ tm. is_probe_over tm (moment_of f)) idle)
-
       waited_for : keep_alive_renewed u.timer (moment_of f) u.keep_alive ≡ timer.Idle (Some (after (moment_of f) d))
-      waited_for = ap (λ tm. keep_alive_renewed tm (moment_of f) u.keep_alive) idle ∙ ap (λ o. idle_from (moment_of f) o) (still.same.keep_alive ∙ s.keep_alive)
+      waited_for = ap (λ tm. keep_alive_renewed tm (moment_of f) u.keep_alive) (idle_at v at is f h) ∙ ap (λ o. idle_from (moment_of f) o) (still.same.keep_alive ∙ s.keep_alive)
 
       sends : SendsOk f t stamps u out w → Says v out ⊎ SpeaksWithin (suc (suc n)) w t
-      sends o = elim (keeps_or_bytes v u t f o.stamp o.bytes still.same.una no_probing over) [
+      sends o = elim (keeps_or_bytes v u t f o.stamp o.bytes still.same.una (idle_quiet v at is f h) (idle_over v at is f h)) [
         | inl h ↦ inl (said f stamps v u out w s k o still.same.state still.same.tx still.same.keep_alive h)
         | inr q ↦ inr (again_says n w (after (moment_of f) (rto_of u.rtte)) (plain_says f stamps v u out w s k o still.same.state still.same.tx still.same.keep_alive q.0) (ap (λ (z : View). z.timer) (left_plain f stamps v u out w s k o still.same.state still.same.tx still.same.keep_alive q.0) ∙ timed u t (moment_of f) (segment_for u t o.stamp o.bytes) q.1 ∙ ap (λ tm. retransmit_unless_set tm (moment_of f) u.rtte) waited_for))
       ]
-
-      by : Goes v t f stamps h.on (carries_runs v.state v.synack_paused s.carries) out w → Says v out ⊎ SpeaksWithin (suc (suc n)) w t
-      by (inl o) = sends (subst (λ x. SendsOk f t stamps x out w) u_is o.0)
-      by (inr o) = absurd (true≢false (sym (keep_alive_due u t f stamps over) ∙ ap (λ x. is_due x t f stamps) (sym u_is) ∙ o.1))
 
   -- a fast retransmission stands at SND.UNA, or its mark is left for the next segment
   fast_says : (n : ℕ) (v : View) → HasToSay d v → v.timer ≡ timer.FastRetransmit → SpeaksWithin (suc (suc n)) v t

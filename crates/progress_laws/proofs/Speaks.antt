@@ -165,6 +165,10 @@ pub asked_so : (u : View) (t : Tuple) (f : Facts) (now : Instant) → FromFront 
 unfolding asked
 asked_so u t f now ft carries = rw (ft.no_probing, carries, ft.nothing_marked) refl
 
+-- and no more than that is lent, nor than what waits
+pub lent_few : (u : View) (t : Tuple) (f : Facts) → length (lent_for u t f) ≤ min (asked u t f false) (length u.tx_buffer.bytes - offset_of u)
+lent_few u t f = lent_at_most u.tx_buffer (offset_of u) (asked u t f false) (lent_for u t f) refl
+
 module _ (d : Option Duration) (t : Tuple) (v : View) (f : Facts) (now : Instant) (mtu : IsMtu f.mtu) (s : IsSender d t v) (on : GoesOn v t (told f now)) (carries : is_paused v.state v.synack_paused ≡ false) (u : View) (fr : Front v u) (u_is : beginning v t (told f now) false on carries ≡ u) where
   abbrev fa : Facts
   fa = told f now
@@ -186,9 +190,6 @@ module _ (d : Option Duration) (t : Tuple) (v : View) (f : Facts) (now : Instant
 
   asked_is : asked u t fa false ≡ min (min (window_left u) (effective_mss u t fa false)) (congestion_left u)
   asked_is = asked_so u t f now ft (sends_data u.state may)
-
-  few : length bytes ≤ min (asked u t fa false) (length u.tx_buffer.bytes - offset_of u)
-  few = lent_at_most u.tx_buffer (offset_of u) (asked u t fa false) bytes refl
 
   abbrev b : Segment
   b = segment_for u t None bytes
@@ -238,12 +239,12 @@ module _ (d : Option Duration) (t : Tuple) (v : View) (f : Facts) (now : Instant
         speaks = record { dispatch = h; bit = bit; ack = ack; waits = waits kind.Plain h (plain_sent u t now b opens) (timed (omega (arith, long, some))) };
         number = number;
         some = some;
-        within = inl (omega (arith, few, asked_is, fr.same.window));
-        queued = omega (arith, few, same);
+        within = inl (omega (arith, lent_few u t fa, asked_is, fr.same.window));
+        queued = omega (arith, lent_few u t fa, same);
         first = lent_beginning u.tx_buffer (offset_of u) (asked u t fa false) bytes refl ∙ ap (λ o. take (length bytes) (drop o u.tx_buffer.bytes)) ft.start ∙ ap (λ (q : Queue). take (length bytes) q.bytes) fr.same.tx;
         sent = length bytes;
         sent_within = omega arith;
-        nxt = (plain_told u t now b opens).nxt ∙ (λ i. later_of (fr.nxt i) (seq_add (number i) (long i))) ∙ later_is v.local_seq_no (seq_add v.local_seq_no (length bytes)) (is_earlier v.local_seq_no (seq_add v.local_seq_no (length bytes)) (omega (arith, some, few, fr.ordered.room, (reached_ordered v s.reached).una_small)));
+        nxt = (plain_told u t now b opens).nxt ∙ (λ i. later_of (fr.nxt i) (seq_add (number i) (long i))) ∙ later_is v.local_seq_no (seq_add v.local_seq_no (length bytes)) (is_earlier v.local_seq_no (seq_add v.local_seq_no (length bytes)) (omega (arith, some, lent_few u t fa, fr.ordered.room, (reached_ordered v s.reached).una_small)));
       }
     where
       timed : 0 < segment_len b → IsOpenTimer (left u t now b opens kind.Plain).timer
@@ -261,8 +262,8 @@ module _ (d : Option Duration) (t : Tuple) (v : View) (f : Facts) (now : Instant
       let long : segment_len b ≡ length bytes = segment_length u t None bytes sends ft.nothing_marked in
       record {
         bytes = speaks_bytes win queue;
-        fits = omega (arith, few, asked_is, fr.same.window);
-        short = omega (arith, few, asked_is, mtu.1);
+        fits = omega (arith, lent_few u t fa, asked_is, fr.same.window);
+        short = omega (arith, lent_few u t fa, asked_is, mtu.1);
         field = told_field;
         at = moment_after now (rto_of u.rtte);
         timer = plain_timer u t now b opens false (not_zero (segment_len b) (omega (arith, long, some))) ∙ ap (λ tm. retransmit_unless_set tm now u.rtte) renewed ∙ waits_again u.keep_alive;
@@ -280,7 +281,7 @@ module _ (d : Option Duration) (t : Tuple) (v : View) (f : Facts) (now : Instant
   speaks_nothing : v.remote_win_len ≡ 0 → is_keep_alive_over u.timer now ≡ true → SpeaksNothing fa v
   speaks_nothing win keep_over =
       let shut : u.remote_win_len ≡ 0 = fr.same.window ∙ win in
-      let none : length bytes ≡ 0 = omega (arith, few, asked_is, shut) in
+      let none : length bytes ≡ 0 = omega (arith, lent_few u t fa, asked_is, shut) in
       let kept : emission_kind u now b ≡ kind.KeepAlive = without_bytes u t None bytes sends ft.nothing_marked now ft.no_probing none true keep_over in
       let h = goes_out kind.KeepAlive kept (keep_alive_due u t fa false keep_over) in
       record {
@@ -305,7 +306,7 @@ module _ (d : Option Duration) (t : Tuple) (v : View) (f : Facts) (now : Instant
       waits_then = ap (idle_from now) keep
 
       none : length bytes ≡ 0
-      none = omega (arith, few, asked_is, fr.same.window, win)
+      none = omega (arith, lent_few u t fa, asked_is, fr.same.window, win)
 
       long : segment_len b ≡ 0
       long = segment_length u t None bytes sends ft.nothing_marked ∙ none

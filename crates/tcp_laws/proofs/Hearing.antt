@@ -18,7 +18,7 @@ use Rattle.sock_tcp.specs.Advance.{advance_in, advanced, counted_control, moved_
 use Rattle.sock_tcp.specs.Due.{flight}
 use Rattle.sock_tcp.specs.Process.{Outcome, challenged, close_restarted, outside, bytes_taken, tuple_of, after_table, processed_inside, has_window, tested, by_verdict, processed}
 use Rattle.sock_tcp.specs.Replies.{ack_kept}
-use Rattle.sock_tcp.specs.Steps.{scale_of, window_of, window_taken, released, is_duplicate, is_last_ack, is_window_changed, ack_heard, duplicate_counted, ack_counted, una_advanced, acknowledged, timestamp_taken, timer_set, heard, joined, ack_delayed}
+use Rattle.sock_tcp.specs.Steps.{scale_of, window_of, window_taken, released, is_duplicate, is_last_ack, is_window_changed, duplicate_counted, ack_counted, una_advanced, acknowledged, timestamp_taken, timer_set, heard, joined, ack_delayed}
 use Rattle.sock_tcp.specs.Verdict.{verdict_of}
 use Rattle.sock_tcp.specs.View.{View}
 use Rattle.sock_tcp.specs.Window.{receive_window, is_inside, cut_of, cut_bytes}
@@ -35,7 +35,7 @@ use Rattle.sock_tcp.specs.declared.window.Window.{Window}
 use Rattle.sock_tcp.proofs.Windows.{far, not_after}
 use Rattle.tcp_laws.specs.Waking.{AcksNothing, HeardNothing, LastAckHearsNothing, TellsWindow, ThirdDuplicateWakes, WindowWakes, hears_window}
 use Rattle.tcp_laws.proofs.Ordered.{IsOrdered, Row}
-use Rattle.tcp_laws.proofs.Kept.{KeptByAnswers, bytes_kept, challenged_kept, outside_kept}
+use Rattle.tcp_laws.proofs.Kept.{KeptByAnswers, bytes_kept, challenged_kept, heard_kept, outside_kept}
 use Rattle.tcp_laws.proofs.OrderedCalls.{reached_ordered}
 use Rattle.tcp_laws.proofs.OrderedSegments.{process_ordered}
 use Rattle.tcp_laws.proofs.Sleeping.{window_sends}
@@ -91,22 +91,8 @@ module _ (now : Instant) (s : Segment) where
   -- ---- a window
 
   heard_window : (u : View) (a : Acked) → (heard u now a s).remote_win_len ≡ window_of s.control s.window_len u.remote_win_scale
-  unfolding heard window_taken released timestamp_taken timer_set acknowledged duplicate_counted ack_counted una_advanced
-  heard_window u a = by s.ack_number
-    where
-      x : View
-      x = released (window_taken u now s.control s.window_len) a.len
-
-      changed : Bool
-      changed = is_window_changed u s.control s.window_len
-
-      either : (b : Bool) (k : TcpSeqNumber) → (timer_set (timestamp_taken (ack_heard b x now k a.len) s.timestamp) now a).remote_win_len ≡ window_of s.control s.window_len u.remote_win_scale
-      either true k = refl
-      either false k = refl
-
-      by : (o : Option TcpSeqNumber) → (timer_set (timestamp_taken (acknowledged x o now a.len (length s.payload) changed) s.timestamp) now a).remote_win_len ≡ window_of s.control s.window_len u.remote_win_scale
-      by None = refl
-      by (Some k) = either (is_duplicate x k (length s.payload) changed) k
+  unfolding window_taken released timestamp_taken timer_set duplicate_counted ack_counted una_advanced
+  heard_window u a = heard_kept (λ w. w.remote_win_len ≡ window_of s.control s.window_len u.remote_win_scale) now s u a refl (λ k. refl) (λ k. refl)
 
   -- the timer, of a third duplicate in a window
   heard_third : (u : View) (a : Acked) (k : TcpSeqNumber) → s.ack_number ≡ Some k → a.all ≡ false → a.len ≡ 0 → u.local_rx_dup_acks ≡ 2 → is_duplicate u k (length s.payload) (is_window_changed u s.control s.window_len) ≡ true

@@ -30,7 +30,7 @@ use Rattle.sock_tcp.specs.Queue.{queue_of}
 use Rattle.sock_tcp.specs.Queues.{ReadsWithIf, SendsWithIf, fitting, may_recv, may_send, queued, read_off, readable}
 use Rattle.sock_tcp.specs.Replies.{ack_kept}
 use Rattle.sock_tcp.specs.Sent.{after_any, after_kind, after_probe, after_sending, emitted_as, left_by, sending_timed, snd_nxt_moved}
-use Rattle.sock_tcp.specs.Steps.{heard, joined, ack_delayed}
+use Rattle.sock_tcp.specs.Steps.{ack_delayed, ack_heard, acknowledged, heard, is_duplicate, is_window_changed, joined, released, timer_set, timestamp_taken, window_taken}
 use Rattle.sock_tcp.specs.Timers.{after, challenge_interval, is_close_over, is_over, retransmit_unless_set}
 use Rattle.sock_tcp.specs.Verdict.{verdict_of}
 use Rattle.sock_tcp.specs.View.{View, fresh, moment_of}
@@ -68,6 +68,29 @@ not_zero zero e = absurd cc
 not_zero (suc n) e = omega arith
 
 -- ---- a segment
+
+-- what holds of what is heard of a segment, whether it is a duplicate or not
+module _ (P : View → Type 0) (now : Instant) (s : Segment) (u : View) (a : Acked) where
+  abbrev pub acked_view : View
+  acked_view = released (window_taken u now s.control s.window_len) a.len
+
+  abbrev pub timer_then : View → View
+  timer_then y = timer_set (timestamp_taken y s.timestamp) now a
+
+  pub heard_kept : P (timer_then acked_view) → ((k : TcpSeqNumber) → P (timer_then (ack_heard true acked_view now k a.len))) → ((k : TcpSeqNumber) → P (timer_then (ack_heard false acked_view now k a.len))) → P (heard u now a s)
+  unfolding heard acknowledged
+  heard_kept none duplicate other = by s.ack_number
+    where
+      changed : Bool
+      changed = is_window_changed u s.control s.window_len
+
+      either : (b : Bool) (k : TcpSeqNumber) → P (timer_then (ack_heard b acked_view now k a.len))
+      either true k = duplicate k
+      either false k = other k
+
+      by : (o : Option TcpSeqNumber) → P (timer_then (acknowledged acked_view o now a.len (length s.payload) changed))
+      by None = none
+      by (Some k) = either (is_duplicate acked_view k (length s.payload) changed) k
 
 -- P stays where a segment is answered
 pub record KeptByAnswers (P : View → Type 0) : Type 0 where

@@ -1,11 +1,10 @@
 -- Any call keeps two facts: a probe timer runs only while the peer has no window, and its MSS is at least 48.
-use Rattle.std.proofs.Common.{◌≡◌, ℕ, ◌≤◌, Bool, true, false, not, ◌&&◌, refl, ap, ◌∙◌, List, length, max, Option, Some, None, arith}
+use Rattle.std.proofs.Common.{◌≡◌, ℕ, ◌≤◌, Bool, true, false, not, ◌&&◌, refl, ap, ◌∙◌, List, max, Option, Some, None, arith}
 use Rattle.std.specs.Prelude.{if◌then◌else◌, ◌==◌}
 use Rattle.std.proofs.lemmas.Bool.{and_parts, eqb-true}
 use Rattle.net_base.specs.declared.time.Duration.{Duration}
 use Rattle.net_base.specs.declared.time.Instant.{Instant}
 use Rattle.control_wire.specs.Segment.{Segment}
-use Rattle.control_wire.specs.declared.seq_number.TcpSeqNumber.{TcpSeqNumber}
 use Rattle.sock_core.specs.Estimator.{Estimator}
 use Rattle.sock_core.specs.Facts.{Facts}
 use Rattle.sock_tcp.specs.Advance.{fallen_back, fin_counted, mss_taken, options_taken, syn_answered, syn_received}
@@ -16,7 +15,7 @@ use Rattle.sock_tcp.specs.Queues.{first_probe, queued, read_off}
 use Rattle.sock_tcp.specs.Replies.{ack_kept}
 use Rattle.sock_tcp.specs.Sent.{after_any, after_probe, snd_nxt_moved}
 use Rattle.sock_tcp.specs.Settings.{keep_alive_timer}
-use Rattle.sock_tcp.specs.Steps.{is_duplicate, is_window_changed, window_taken, released, ack_heard, duplicate_counted, ack_counted, una_advanced, acknowledged, timestamp_taken, timer_set, timer_acked, probe_ended, probe_set, begins_probe, heard, joined, ack_delayed}
+use Rattle.sock_tcp.specs.Steps.{window_taken, released, ack_heard, duplicate_counted, ack_counted, una_advanced, timestamp_taken, timer_set, timer_acked, probe_ended, probe_set, begins_probe, heard, joined, ack_delayed}
 use Rattle.sock_tcp.specs.Timers.{idle_from, is_idle, keep_alive_renewed, probe_doubled, probe_from, retransmit_unless_set}
 use Rattle.sock_tcp.specs.View.{View, fresh, moment_of}
 use Rattle.sock_tcp.specs.declared.acked.Acked.{Acked}
@@ -26,7 +25,7 @@ use Rattle.sock_tcp.specs.declared.timer.Timer.{Timer}
 use Rattle.sock_tcp.specs.declared.timer.Timer.TheVariants as timer
 use Rattle.tcp_laws.specs.Polling.{IsReached}
 use Rattle.tcp_laws.specs.SocketRun.{Sets}
-use Rattle.tcp_laws.proofs.Kept.{Kept, KeptByBeginnings, KeptByCalls, KeptByRows, KeptBySegments, KeptBySending, before_kept, process_kept, reached_kept, sends_kept}
+use Rattle.tcp_laws.proofs.Kept.{Kept, KeptByBeginnings, KeptByCalls, KeptByRows, KeptBySegments, KeptBySending, acked_view, before_kept, heard_kept, process_kept, reached_kept, sends_kept, timer_then}
 use Rattle.tcp_laws.proofs.SocketSteps.{same_number, setting_leaves}
 
 abbrev pub ProbesIn : Timer → ℕ → Type 0
@@ -104,25 +103,14 @@ mss_kept old (Some n) h = go (n == 0)
 
 module _ (s : Segment) (now : Instant) where
   heard_probing : (u : View) (a : Acked) → IsProbing u → IsProbing (heard u now a s)
-  unfolding heard window_taken released timestamp_taken timer_set acknowledged duplicate_counted ack_counted una_advanced
-  heard_probing u a h = by s.ack_number
+  unfolding window_taken released timestamp_taken timer_set duplicate_counted ack_counted una_advanced
+  heard_probing u a h = heard_kept IsProbing now s u a (probes x h.mss) (λ k. probes (ack_heard true x now k a.len) h.mss) (λ k. probes (ack_heard false x now k a.len) h.mss)
     where
       x : View
-      x = released (window_taken u now s.control s.window_len) a.len
+      x = acked_view IsProbing now s u a
 
-      changed : Bool
-      changed = is_window_changed u s.control s.window_len
-
-      set_on : View → View
-      set_on y = timer_set (timestamp_taken y s.timestamp) now a
-
-      either : (b : Bool) (k : TcpSeqNumber) → IsProbing (set_on (ack_heard b x now k a.len))
-      either true k = let y = timestamp_taken (ack_heard true x now k a.len) s.timestamp in record { window = set_probes now (timer_acked y.timer y now a) y a; mss = h.mss }
-      either false k = let y = timestamp_taken (ack_heard false x now k a.len) s.timestamp in record { window = set_probes now (timer_acked y.timer y now a) y a; mss = h.mss }
-
-      by : (o : Option TcpSeqNumber) → IsProbing (set_on (acknowledged x o now a.len (length s.payload) changed))
-      by None = let y = timestamp_taken x s.timestamp in record { window = set_probes now (timer_acked y.timer y now a) y a; mss = h.mss }
-      by (Some k) = either (is_duplicate x k (length s.payload) changed) k
+      probes : (y : View) → 48 ≤ y.remote_mss → IsProbing (timer_then IsProbing now s u a y)
+      probes y mss = let z = timestamp_taken y s.timestamp in record { window = set_probes now (timer_acked z.timer z now a) z a; mss = mss }
 
   rows_probing : (word : ℕ) → KeptByRows IsProbing now word s
   unfolding fallen_back syn_received syn_answered options_taken fin_counted

@@ -4,7 +4,6 @@ use Rattle.std.proofs.Math.Pow.{pow_mono}
 use Rattle.std.proofs.lemmas.List.{length-replicate, length-take}
 use Rattle.net_base.specs.declared.time.Instant.{Instant}
 use Rattle.control_wire.specs.Segment.{Segment}
-use Rattle.control_wire.specs.declared.seq_number.TcpSeqNumber.{TcpSeqNumber}
 use Rattle.sock_core.specs.Received.{Received, behind_run, cleared, gathered, handed_out, makes_fifth_range, receiving, received, room_of, run_of, taken_in, written}
 use Rattle.sock_core.specs.WindowShift.{window_shift}
 use Rattle.sock_core.proofs.Shifts.{is_shift_least}
@@ -15,11 +14,11 @@ use Rattle.sock_tcp.specs.Process.{close_restarted}
 use Rattle.sock_tcp.specs.Queues.{queued, read_off}
 use Rattle.sock_tcp.specs.Replies.{ack_kept}
 use Rattle.sock_tcp.specs.Sent.{after_any, after_probe, snd_nxt_moved}
-use Rattle.sock_tcp.specs.Steps.{is_duplicate, is_window_changed, window_taken, released, ack_heard, duplicate_counted, ack_counted, una_advanced, acknowledged, timestamp_taken, timer_set, heard, joined, ack_delayed}
+use Rattle.sock_tcp.specs.Steps.{window_taken, released, duplicate_counted, ack_counted, una_advanced, timestamp_taken, timer_set, heard, joined, ack_delayed}
 use Rattle.sock_tcp.specs.View.{View, fresh, moment_of}
 use Rattle.sock_tcp.specs.declared.acked.Acked.{Acked}
 use Rattle.tcp_laws.specs.Polling.{IsReached}
-use Rattle.tcp_laws.proofs.Kept.{Kept, KeptByBeginnings, KeptByCalls, KeptByRows, KeptBySegments, KeptBySending, process_kept, reached_kept, sends_kept}
+use Rattle.tcp_laws.proofs.Kept.{Kept, KeptByBeginnings, KeptByCalls, KeptByRows, KeptBySegments, KeptBySending, heard_kept, process_kept, reached_kept, sends_kept}
 use Rattle.tcp_laws.proofs.SocketSteps.{same_number, setting_leaves}
 
 abbrev pub HasUnit : ℕ → ℕ → Type 0
@@ -78,25 +77,8 @@ shift_kept room old (Some n) h = h
 
 module _ (s : Segment) (now : Instant) where
   heard_scaled : (u : View) (a : Acked) → IsScaled u → IsScaled (heard u now a s)
-  unfolding heard window_taken released timestamp_taken timer_set acknowledged duplicate_counted ack_counted una_advanced
-  heard_scaled u a h = by s.ack_number
-    where
-      x : View
-      x = released (window_taken u now s.control s.window_len) a.len
-
-      changed : Bool
-      changed = is_window_changed u s.control s.window_len
-
-      set_on : View → View
-      set_on y = timer_set (timestamp_taken y s.timestamp) now a
-
-      either : (b : Bool) (k : TcpSeqNumber) → IsScaled (set_on (ack_heard b x now k a.len))
-      either true k = h
-      either false k = h
-
-      by : (o : Option TcpSeqNumber) → IsScaled (set_on (acknowledged x o now a.len (length s.payload) changed))
-      by None = h
-      by (Some k) = either (is_duplicate x k (length s.payload) changed) k
+  unfolding window_taken released timestamp_taken timer_set duplicate_counted ack_counted una_advanced
+  heard_scaled u a h = heard_kept IsScaled now s u a h (λ k. h) (λ k. h)
 
   rows_scaled : (word : ℕ) → KeptByRows IsScaled now word s
   unfolding fallen_back syn_received syn_answered options_taken fin_counted
