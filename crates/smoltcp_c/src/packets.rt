@@ -20,7 +20,7 @@ use crate::context::{Cx, Moment, in_context};
 use crate::handles::TcpHandle;
 use crate::ports::has_ports;
 use crate::wire::{Full, Wire, put_packet, sent};
-use control_wire::{TcpControl, TcpRepr};
+use control_wire::{TcpControl, TcpRepr, TcpSeqNumber};
 use ip_wire::{ChecksumCapabilities, IpProtocol, IpRepr, Ipv4Address, Ipv4Repr};
 use segment_wire::packet::read_tcp;
 use sock_tcp::{Reply, Socket};
@@ -58,14 +58,14 @@ pub extern "C" fn smoltcp_tcp_process_checked(
     if !has_ports(h, packet) {
         return NOT_ACCEPTED;
     }
-    let (mut ip, mut repr) = (NO_HEADER, TcpRepr::bare(0, 0));
+    let (mut ip, mut repr) = (NO_HEADER, NO_SEGMENT);
     if !read(packet, &mut ip, &mut repr) {
         return NOT_ACCEPTED;
     }
     heard(h.socket(), &moment, &ip, &repr, reply)
 }
 
-// What the IP header of a packet is read into.
+// What packets are read into.
 const NO_HEADER: IpRepr = IpRepr::Ipv4(Ipv4Repr {
     src_addr: Ipv4Address([0; 4]),
     dst_addr: Ipv4Address([0; 4]),
@@ -73,6 +73,21 @@ const NO_HEADER: IpRepr = IpRepr::Ipv4(Ipv4Repr {
     payload_len: 0,
     hop_limit: 0,
 });
+
+const NO_SEGMENT: TcpRepr<'static> = TcpRepr {
+    src_port: 0,
+    dst_port: 0,
+    control: TcpControl::None,
+    seq_number: TcpSeqNumber(0),
+    ack_number: None,
+    window_len: 0,
+    window_scale: None,
+    max_seg_size: None,
+    sack_permitted: false,
+    sack_ranges: [None, None, None],
+    timestamp: None,
+    payload: &[],
+};
 
 // Reads the segment that the packet carries. Whether it carries one.
 fn read<'a>(packet: &'a [u8], ip: &mut IpRepr, repr: &mut TcpRepr<'a>) -> bool
@@ -212,7 +227,7 @@ pub extern "C" fn smoltcp_tcp_reset_checked(packet: &[u8], reply: &mut [u8]) -> 
     if reply.len() < LONGEST_REPLY {
         return ERROR_ROOM;
     }
-    let (mut ip, mut repr) = (NO_HEADER, TcpRepr::bare(0, 0));
+    let (mut ip, mut repr) = (NO_HEADER, NO_SEGMENT);
     if !read(packet, &mut ip, &mut repr) {
         return NOT_ACCEPTED;
     }
