@@ -47,7 +47,10 @@ fn draw_script(rt: &HostRuntime, picture: Picture, file: Option<String>) -> Resu
         return Err(Fault::Memory);
     };
     let end = draw(rt.alloc(), text.as_slice(), picture, &mut output);
-    fault_of(rt.alloc(), end, output.flush(), text.as_slice())
+    match output.flush() {
+        Ok(()) => fault_of(rt.alloc(), end, text.as_slice()),
+        Err(_) => Err(Fault::Write),
+    }
 }
 
 #[cfg(test)]

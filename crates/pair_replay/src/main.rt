@@ -8,7 +8,7 @@ use crate::capture::capture;
 use crate::options::{Task, task_of};
 use script_program::fault::{Fault, exit_code, fault_of};
 use script_program::input::{print, read_script};
-use script_program::streams::Stream;
+use script_program::streams::{Input, Output};
 use sock_pair::Side;
 use sock_pair::script::replay;
 use std::io;
@@ -46,9 +46,12 @@ fn replay_script(rt: &HostRuntime, file: Option<String>) -> Result<(), Fault> {
     let Ok(writer) = BufWriter::new(rt.alloc(), io::writer(rt)) else {
         return Err(Fault::Memory);
     };
-    let mut output = Stream::new(writer);
-    let end = replay(rt.alloc(), &mut Stream::new(text.as_slice()), &mut output);
-    fault_of(rt.alloc(), end, output.flush(), text.as_slice())
+    let mut output = Output::new(writer);
+    let end = replay(rt.alloc(), &mut Input::new(text.as_slice()), &mut output);
+    match output.flush() {
+        Ok(()) => fault_of(rt.alloc(), end, text.as_slice()),
+        Err(_) => Err(Fault::Write),
+    }
 }
 
 // Writes the packets of the script that this side sees.
@@ -58,5 +61,8 @@ fn capture_script(rt: &HostRuntime, side: Side, file: Option<String>) -> Result<
         return Err(Fault::Memory);
     };
     let end = capture(rt.alloc(), text.as_slice(), side, &mut output);
-    fault_of(rt.alloc(), end, output.flush(), text.as_slice())
+    match output.flush() {
+        Ok(()) => fault_of(rt.alloc(), end, text.as_slice()),
+        Err(_) => Err(Fault::Write),
+    }
 }

@@ -56,16 +56,9 @@ impl Fault {
     }
 }
 
-/// What the end of a script's run is for the program, whose output was then written out, or was not; `text` is the
-/// script.
-pub fn fault_of<E: Drop>(
-    alloc: Global,
-    end: End,
-    written_out: Result<(), E>,
-    text: &[u8],
-) -> Result<(), Fault> {
+/// What the end of a script's run is for the program; `text` is the script.
+pub fn fault_of(alloc: Global, end: End, text: &[u8]) -> Result<(), Fault> {
     match end {
-        _ if written_out.is_err() => Err(Fault::Write),
         End::Done => Ok(()),
         End::Script(error) => Err(Fault::Script(error, second_line(alloc, &error, text))),
         End::Read => Err(Fault::Read),

@@ -6,32 +6,32 @@ ghost use Rattle.sock_pair.specs.ReplayStreams.{NotesFault};
 use sock_pair::script::{Sink, Source, StreamFault};
 use std::io::{Read, Write};
 
-/// A reader or a writer, and whether it has failed.
+/// A reader, and whether it has failed.
 #[derive(Drop)]
-pub struct Stream<S> {
-    stream: S,
+pub struct Input<R> {
+    reader: R,
     failed: bool,
 }
 
-impl<S> Stream<S> {
-    /// A stream that has not failed.
-    pub fn new(stream: S) -> Stream<S>
+impl<R> Input<R> {
+    /// A reader that has not failed.
+    pub fn new(reader: R) -> Input<R>
         ensures { result.failed ≡ false }
     {
-        Stream {
-            stream,
+        Input {
+            reader,
             failed: false,
         }
     }
 }
 
-impl<R: Read> Source for Stream<R> {
-    ghost remaining = { λ s. R.remaining s.stream };
+impl<R: Read> Source for Input<R> {
+    ghost remaining = { λ s. R.remaining s.reader };
 
     ghost has_failed = { λ s. s.failed };
 
     fn read(&mut self, buf: &mut [u8]) -> Result<usize, StreamFault> {
-        match self.stream.read(buf) {
+        match self.reader.read(buf) {
             Ok(count) => Ok(count),
             Err(_) => {
                 self.failed = true;
@@ -45,13 +45,32 @@ impl<R: Read> Source for Stream<R> {
     }
 }
 
-impl<W: Write> Stream<W> {
+/// A writer, and whether it has failed.
+#[derive(Drop)]
+pub struct Output<W> {
+    writer: W,
+    failed: bool,
+}
+
+impl<W> Output<W> {
+    /// A writer that has not failed.
+    pub fn new(writer: W) -> Output<W>
+        ensures { result.failed ≡ false }
+    {
+        Output {
+            writer,
+            failed: false,
+        }
+    }
+}
+
+impl<W: Write> Output<W> {
     /// Writes out what the writer holds back.
     pub fn flush(&mut self) -> Result<(), StreamFault>
-        ensures bytes { Keeps (W.contents self.old.stream) (W.contents self.new.stream) }
+        ensures bytes { Keeps (W.contents self.old.writer) (W.contents self.new.writer) }
         ensures failed { NotesFault self.old.failed result self.new.failed }
     {
-        match self.stream.flush() {
+        match self.writer.flush() {
             Ok(()) => Ok(()),
             Err(_) => {
                 self.failed = true;
@@ -61,13 +80,13 @@ impl<W: Write> Stream<W> {
     }
 }
 
-impl<W: Write> Sink for Stream<W> {
-    ghost contents = { λ s. W.contents s.stream };
+impl<W: Write> Sink for Output<W> {
+    ghost contents = { λ s. W.contents s.writer };
 
     ghost has_failed = { λ s. s.failed };
 
     fn write_all(&mut self, bytes: &[u8]) -> Result<(), StreamFault> {
-        match self.stream.write_all(bytes) {
+        match self.writer.write_all(bytes) {
             Ok(()) => Ok(()),
             Err(_) => {
                 self.failed = true;

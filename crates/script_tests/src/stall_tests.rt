@@ -79,41 +79,42 @@ fn second() -> Interval {
 }
 
 // The fast retransmission of nothing left its mark, so what a keep-alive is due for goes out as the FIN.
-fn fin_goes(rt: &(impl Abort), pair: &mut Pair<'_>, alloc: Global) -> Result<(), Fail> {
-    falls_asleep(rt, pair, alloc, (OPENING, FIN), Side::B)?;
+fn fin_goes(rt: &(impl Abort), pair: &mut Pair<'_>) {
     sets(rt, pair, Side::B, Setting::KeepAlive(second()));
     sends(rt, pair, Side::B, 1000, Outcome::Emitted(5));
     comes(rt, pair, 5, 1000, None);
     assert!(rt; pair.socket(Side::A).state() == State::CloseWait);
-    Ok(())
 }
 
 #[test]
 fn lost_fin_sleeps_until_a_keep_alive(rt: HostRuntime) -> Result<(), Fail> {
     let mut room = Room::new();
-    fin_goes(&rt, &mut room.plain_pair(rt.alloc()), rt.alloc())
+    let mut pair = room.plain_pair(rt.alloc());
+    falls_asleep(&rt, &mut pair, rt.alloc(), (OPENING, FIN), Side::B)?;
+    fin_goes(&rt, &mut pair);
+    Ok(())
 }
 
-fn gives_up(rt: &(impl Abort), pair: &mut Pair<'_>, alloc: Global) -> Result<(), Fail> {
-    falls_asleep(rt, pair, alloc, (OPENING, FIN), Side::B)?;
+fn gives_up(rt: &(impl Abort), pair: &mut Pair<'_>) {
     sets(rt, pair, Side::B, Setting::Timeout(second()));
     assert!(rt;
         pair.socket(Side::B).poll_at(&at(1000)) == PollAt::Time(Instant::from_millis(3001))
     );
     sends(rt, pair, Side::B, 1000, Outcome::Emitted(5));
     assert!(rt; pair.socket(Side::B).state() == State::Closed);
-    Ok(())
 }
 
 #[test]
 fn lost_fin_sleeps_until_a_timeout(rt: HostRuntime) -> Result<(), Fail> {
     let mut room = Room::new();
-    gives_up(&rt, &mut room.plain_pair(rt.alloc()), rt.alloc())
+    let mut pair = room.plain_pair(rt.alloc());
+    falls_asleep(&rt, &mut pair, rt.alloc(), (OPENING, FIN), Side::B)?;
+    gives_up(&rt, &mut pair);
+    Ok(())
 }
 
 // The answer to a keep-alive tells the window, and the bytes go out.
-fn window_comes(rt: &(impl Abort), pair: &mut Pair<'_>, alloc: Global) -> Result<(), Fail> {
-    falls_asleep(rt, pair, alloc, (OPENING, WINDOW), Side::A)?;
+fn window_comes(rt: &(impl Abort), pair: &mut Pair<'_>) {
     sets(rt, pair, Side::A, Setting::KeepAlive(second()));
     sends(rt, pair, Side::A, 1000, Outcome::Emitted(7));
     comes(rt, pair, 7, 1000, Some(8));
@@ -121,13 +122,15 @@ fn window_comes(rt: &(impl Abort), pair: &mut Pair<'_>, alloc: Global) -> Result
     sends(rt, pair, Side::A, 1000, Outcome::Emitted(9));
     comes(rt, pair, 9, 1000, None);
     assert!(rt; pair.taken(Side::B) == 7);
-    Ok(())
 }
 
 #[test]
 fn late_zero_window_sleeps_until_a_keep_alive(rt: HostRuntime) -> Result<(), Fail> {
     let mut room = Room::new();
-    window_comes(&rt, &mut room.narrow_pair(rt.alloc(), 4), rt.alloc())
+    let mut pair = room.narrow_pair(rt.alloc(), 4);
+    falls_asleep(&rt, &mut pair, rt.alloc(), (OPENING, WINDOW), Side::A)?;
+    window_comes(&rt, &mut pair);
+    Ok(())
 }
 
 // A keep-alive of A and its answer, from this index on.
@@ -138,8 +141,7 @@ fn is_answered(rt: &(impl Abort), pair: &mut Pair<'_>, secs: u16, index: usize) 
 }
 
 // The answers to three keep-alives are duplicates, and the bytes go out again.
-fn bytes_go(rt: &(impl Abort), pair: &mut Pair<'_>, alloc: Global) -> Result<(), Fail> {
-    falls_asleep(rt, pair, alloc, (OPENING, PROBE), Side::A)?;
+fn bytes_go(rt: &(impl Abort), pair: &mut Pair<'_>) {
     sets(rt, pair, Side::A, Setting::KeepAlive(second()));
     is_answered(rt, pair, 1000, 11);
     is_answered(rt, pair, 1001, 13);
@@ -147,7 +149,6 @@ fn bytes_go(rt: &(impl Abort), pair: &mut Pair<'_>, alloc: Global) -> Result<(),
     sends(rt, pair, Side::A, 1002, Outcome::Emitted(17));
     comes(rt, pair, 17, 1002, None);
     assert!(rt; pair.taken(Side::B) == 12);
-    Ok(())
 }
 
 #[test]
@@ -155,24 +156,28 @@ fn probe_in_place_of_retransmission_sleeps_until_three_keep_alives(
     rt: HostRuntime,
 ) -> Result<(), Fail> {
     let mut room = Room::new();
-    bytes_go(&rt, &mut room.narrow_pair(rt.alloc(), 8), rt.alloc())
+    let mut pair = room.narrow_pair(rt.alloc(), 8);
+    falls_asleep(&rt, &mut pair, rt.alloc(), (OPENING, PROBE), Side::A)?;
+    bytes_go(&rt, &mut pair);
+    Ok(())
 }
 
 // What the keep-alive is due for goes out as the SYN|ACK, and its answer opens the connection.
-fn syn_goes(rt: &(impl Abort), pair: &mut Pair<'_>, alloc: Global) -> Result<(), Fail> {
-    falls_asleep(rt, pair, alloc, ("", SYN), Side::A)?;
+fn syn_goes(rt: &(impl Abort), pair: &mut Pair<'_>) {
     sets(rt, pair, Side::A, Setting::KeepAlive(second()));
     sends(rt, pair, Side::A, 1000, Outcome::Emitted(4));
     comes(rt, pair, 4, 1000, Some(5));
     comes(rt, pair, 5, 1000, None);
     assert!(rt; pair.socket(Side::A).state() == State::Established);
-    Ok(())
 }
 
 #[test]
 fn answered_syn_sleeps_until_a_keep_alive(rt: HostRuntime) -> Result<(), Fail> {
     let mut room = Room::new();
-    syn_goes(&rt, &mut room.plain_pair(rt.alloc()), rt.alloc())
+    let mut pair = room.plain_pair(rt.alloc());
+    falls_asleep(&rt, &mut pair, rt.alloc(), ("", SYN), Side::A)?;
+    syn_goes(&rt, &mut pair);
+    Ok(())
 }
 
 // The answer to a keep-alive tells a window of 4, but acknowledges nothing new: it is challenged, and nothing goes out.
@@ -199,20 +204,21 @@ fn waits_in_last_ack(rt: &(impl Abort), pair: &mut Pair<'_>) {
 }
 
 // The moment of the last segment that said something is 1.1 s, whatever was challenged since.
-fn ends_last_ack(rt: &(impl Abort), pair: &mut Pair<'_>, alloc: Global) -> Result<(), Fail> {
-    falls_asleep(rt, pair, alloc, (OPENING, LAST_ACK), Side::A)?;
-    waits_in_last_ack(rt, pair);
+fn ends_last_ack(rt: &(impl Abort), pair: &mut Pair<'_>) {
     sets(rt, pair, Side::A, Setting::Timeout(second()));
     assert!(rt;
         pair.socket(Side::A).poll_at(&at(1001)) == PollAt::Time(Instant::from_millis(2100))
     );
     sends(rt, pair, Side::A, 1001, Outcome::Emitted(16));
     assert!(rt; pair.socket(Side::A).state() == State::Closed);
-    Ok(())
 }
 
 #[test]
 fn last_ack_sleeps_through_keep_alives(rt: HostRuntime) -> Result<(), Fail> {
     let mut room = Room::new();
-    ends_last_ack(&rt, &mut room.narrow_pair(rt.alloc(), 4), rt.alloc())
+    let mut pair = room.narrow_pair(rt.alloc(), 4);
+    falls_asleep(&rt, &mut pair, rt.alloc(), (OPENING, LAST_ACK), Side::A)?;
+    waits_in_last_ack(&rt, &mut pair);
+    ends_last_ack(&rt, &mut pair);
+    Ok(())
 }

@@ -1,5 +1,5 @@
 //! What becomes of a writer's fault.
-use script_program::streams::Stream;
+use script_program::streams::Output;
 use sock_pair::script::Sink;
 use std::io;
 use std::io::Write;
@@ -22,7 +22,7 @@ impl Write for Full {
 // A flush that fails is answered, and noted, though each write before it was done.
 #[test]
 fn a_flush_that_fails(rt: HostRuntime) -> Result<(), Fail> {
-    let mut output = Stream::new(Full);
+    let mut output = Output::new(Full);
     assert!(rt; output.write_all(b"done\n").is_ok());
     assert!(rt; !output.failed());
     assert!(rt; output.flush().is_err());

@@ -1,6 +1,6 @@
 //! What moments do to a pair: segments that are held back, sent for a timeout, or kept alive.
 use crate::pair_tests::{Room, arrives, emits, happens, is_quiet, joins, listens, sets};
-use control_wire::{TcpControl, TcpRepr, TcpSeqNumber};
+use control_wire::{TcpControl, TcpSeqNumber};
 use net_base::time::{Duration, Instant};
 use sock_core::PollAt;
 use sock_pair::{Event, Interval, Moment, Outcome, Pair, Setting, Side};
@@ -30,19 +30,12 @@ fn polls(pair: &Pair<'_>, millis: u16) -> PollAt {
     pair.socket(Side::A).poll_at(&at(millis))
 }
 
-// The segment of this index.
-fn repr_at<'p>(pair: &'p Pair<'_>, index: usize) -> Option<TcpRepr<'p>> {
-    match pair.segments().get(index) {
-        None => None,
-        Some(stored) => Some(stored.as_repr()),
-    }
-}
-
 // Whether the segment of this index resets, from this number on.
 fn is_reset(pair: &Pair<'_>, index: usize, seq_number: u32) -> bool {
-    match repr_at(pair, index) {
+    match pair.segments().get(index) {
         None => false,
-        Some(repr) => {
+        Some(stored) => {
+            let repr = stored.as_repr();
             repr.control == TcpControl::Rst
                 && repr.seq_number == TcpSeqNumber(seq_number)
                 && repr.ack_number == Some(TcpSeqNumber(0))
@@ -103,9 +96,10 @@ fn opens(rt: &(impl Abort), pair: &mut Pair<'_>) {
 
 // The keep-alive at this index: a zero byte before SND.UNA.
 fn is_keep_alive(pair: &Pair<'_>, index: usize) -> bool {
-    match repr_at(pair, index) {
+    match pair.segments().get(index) {
         None => false,
-        Some(repr) => {
+        Some(stored) => {
+            let repr = stored.as_repr();
             repr.seq_number == TcpSeqNumber(1000)
                 && repr.ack_number == Some(TcpSeqNumber(5001))
                 && repr.window_len == 64
@@ -139,9 +133,10 @@ fn keep_alive_zero_byte(rt: HostRuntime) -> Result<(), Fail> {
 
 // Whether B's segment of this index acknowledges A's SYN, with all 64 bytes free.
 fn is_first_ack(pair: &Pair<'_>, index: usize) -> bool {
-    match repr_at(pair, index) {
+    match pair.segments().get(index) {
         None => false,
-        Some(repr) => {
+        Some(stored) => {
+            let repr = stored.as_repr();
             repr.control == TcpControl::None
                 && repr.seq_number == TcpSeqNumber(5001)
                 && repr.ack_number == Some(TcpSeqNumber(1001))
@@ -168,9 +163,10 @@ fn keep_alive_is_answered(rt: HostRuntime) -> Result<(), Fail> {
 
 // Whether the segment of this index is the SYN|ACK that answers A's SYN.
 fn is_syn_ack(pair: &Pair<'_>, index: usize) -> bool {
-    match repr_at(pair, index) {
+    match pair.segments().get(index) {
         None => false,
-        Some(repr) => {
+        Some(stored) => {
+            let repr = stored.as_repr();
             repr.control == TcpControl::Syn && repr.ack_number == Some(TcpSeqNumber(1001))
         }
     }
