@@ -11,7 +11,7 @@ use Rattle.control_wire.specs.declared.seq_number.TcpSeqNumber.{TcpSeqNumber}
 use Rattle.control_wire.specs.declared.tcp.TcpControl.TheVariants as control
 use Rattle.sock_core.proofs.Receiving.{held_stays, room_handed_out}
 use Rattle.sock_core.specs.Received.{handed_out, room_of}
-use Rattle.sock_core.specs.Seq.{is_not_after}
+use Rattle.sock_core.specs.Seq.{is_not_after, later_of}
 use Rattle.sock_tcp.proofs.Windows.{end_small, start_small, window_width}
 use Rattle.sock_tcp.specs.Acked.{acked_of}
 use Rattle.sock_tcp.specs.Content.{carries_data}
@@ -30,20 +30,20 @@ use Rattle.sock_tcp.specs.declared.tuple.Tuple.{Tuple}
 use Rattle.tcp_laws.specs.Polling.{IsReached}
 use Rattle.tcp_laws.proofs.OrderedCalls.{reached_ordered}
 use Rattle.tcp_laws.proofs.SocketSteps.{holds_after}
-use Rattle.progress_laws.specs.Agreement.{Agreement, ForAnswer, ForKeepAlive, ForProbe, ForRepeat, InReach, Waits}
+use Rattle.progress_laws.specs.Agreement.{Agreement, ForAnswer, ForKeepAlive, ForProbe, ForRepeat, InReach, IsSpeaker, Waits}
 use Rattle.progress_laws.specs.BothWays.{window_told}
 use Rattle.progress_laws.specs.Delivery.{HasWindow}
 use Rattle.progress_laws.specs.ShutWindows.{width}
 use Rattle.progress_laws.proofs.Answered.{acked, field_some, heard_answer}
 use Rattle.progress_laws.proofs.Begins.{numbered_as, segment_reached}
-use Rattle.progress_laws.proofs.Edges.{empty_inside_so, reach_inside, same_seq}
+use Rattle.progress_laws.proofs.Edges.{empty_inside_so, is_not_before, later_stays, reach_inside, same_seq}
 use Rattle.progress_laws.proofs.Heeds.{waits_on}
 use Rattle.progress_laws.proofs.Hears.{HeardAs, IsSaid, heard_as}
 use Rattle.progress_laws.proofs.Matches.{get_drop}
 use Rattle.progress_laws.proofs.Sends.{HasTold, Untold}
 use Rattle.progress_laws.proofs.Talks.{Left}
 use Rattle.progress_laws.proofs.Widths.{same_width, told_alike, width_told}
-use Rattle.progress_laws.proofs.Arrives.{reads_reached}
+use Rattle.progress_laws.proofs.Arrives.{reads_reached, receives_may}
 
 pub reached_room : (v : View) → IsReached v → room_of v.rx_buffer ≤ 2 ^ 30
 reached_room v r = omega (arith, (holds_after r.rx r.tx v r.counts r.rx_size r.run).room)
@@ -84,28 +84,42 @@ unfolding is_inside receive_window
 reach_is_inside v w r small (inl e) = ap (λ m. is_inside (receive_window v) m 0) e ∙ empty_inside_so (receive_window v) (start_small v) (end_small v) (width_small v r)
 reach_is_inside v w r small (inr h) = reach_inside (receive_window v) (start_small v) (end_small v) (width_small v r) w.remote_last_seq small h.0
 
+-- a dispatch leaves it so
+pub left_reach : (v u w : View) → IsReached v → Left v u → InReach v w → InReach u w
+left_reach v u w r l i = reach_kept v u w w (λ j. seq_add (l.same.rcv j) (length ((l.same.rx j).bytes))) (told_alike v u l.same.rx l.same.shift) (wide l.told) refl i
+  where
+    wide : Untold v u ⊎ HasTold v u → (width u ≡ width v) ⊎ (width u ≡ window_told v)
+    wide (inl e) = inl (same_width v u l.same.rx l.same.rcv l.same.shift e.last_ack e.last_win)
+    wide (inr e) = inr (width_told v u (length v.rx_buffer.held) refl (omega (arith, reached_room v r)) l.same.rx l.same.rcv l.same.shift e.last_ack e.last_win)
+
+-- and so does what w hears of v
+pub later_reach : (v w x : View) → IsReached v → x.remote_last_seq ≡ later_of w.remote_last_seq (next_ack v) → InReach v w → InReach v x
+later_reach v w x r e (inl p) = inl (e ∙ ap (λ m. later_of m (next_ack v)) p ∙ later_stays (next_ack v) (next_ack v) (is_not_before (next_ack v) (next_ack v) (omega arith)))
+later_reach v w x r e (inr p) =
+    let stays : x.remote_last_seq ≡ w.remote_last_seq = e ∙ later_stays w.remote_last_seq (next_ack v) (is_not_before w.remote_last_seq (next_ack v) (omega (arith, p.0, width_small v r))) in
+    inr (subst (λ m. seq_sub m (next_ack v) < width v) (sym stays) p.0, subst (λ m. seq_sub m (next_ack v) < window_told v) (sym stays) p.1)
+
+pub left_speaks : (d : Duration) (t : Tuple) (v u : View) → IsSpeaker d t v → Left v u → IsReached u → Waits u → IsSpeaker d t u
+left_speaks d t v u s l r waits = record { reached = r; carries = ap carries_data l.same.state ∙ s.carries; peer = l.same.peer ∙ s.peer; no_timeout = l.same.timeout ∙ s.no_timeout; keep_alive = l.same.keep_alive ∙ s.keep_alive; waits = waits }
+
 module _ (d : Duration) (t : Tuple) (v w : View) (n h : ℕ) (i : Agreement d t v w n h) where
   -- ---- the speaker dispatched
 
   pub left_agrees : (u : View) → Left v u → IsReached u → Waits u → Agreement d t u w n h
   left_agrees u l r waits = record {
-    speaker = record { reached = r; carries = ap carries_data l.same.state ∙ i.speaker.carries; peer = l.same.peer ∙ i.speaker.peer; no_timeout = l.same.timeout ∙ i.speaker.no_timeout; keep_alive = l.same.keep_alive ∙ i.speaker.keep_alive; waits = waits };
+    speaker = left_speaks d t v u i.speaker l r waits;
     taker = i.taker;
     taken_within = subst (λ (q : Queue). n ≤ length q.bytes) (sym l.same.tx) i.taken_within;
     there = i.there ∙ ap (λ m. seq_add m n) (sym l.same.una);
     held = λ k b e. ap (λ (q : Queue). slice_get q.bytes (n + k)) l.same.tx ∙ i.held k b e;
     heard_within = i.heard_within;
     back = own ∙ i.back;
-    in_reach = reach_kept v u w w own (told_alike v u l.same.rx l.same.shift) (wide l.told) refl i.in_reach;
+    in_reach = left_reach v u w i.speaker.reached l i.in_reach;
     last = λ e. by (i.last (sym l.same.state ∙ e));
   }
     where
       own : next_ack u ≡ next_ack v
       own = λ j. seq_add (l.same.rcv j) (length ((l.same.rx j).bytes))
-
-      wide : Untold v u ⊎ HasTold v u → (width u ≡ width v) ⊎ (width u ≡ window_told v)
-      wide (inl e) = inl (same_width v u l.same.rx l.same.rcv l.same.shift e.last_ack e.last_win)
-      wide (inr e) = inr (width_told v u (length v.rx_buffer.held) refl (omega (arith, reached_room v i.speaker.reached)) l.same.rx l.same.rcv l.same.shift e.last_ack e.last_win)
 
       by : (0 < n) ⊎ (0 < v.remote_win_len) → (0 < n) ⊎ (0 < u.remote_win_len)
       by (inl some) = inl some
@@ -124,7 +138,7 @@ module _ (d : Duration) (t : Tuple) (v w : View) (n h : ℕ) (i : Agreement d t 
   unfolding read_off
   reads_agree = record {
     speaker = i.speaker;
-    taker = record { reached = reads_reached w (length w.rx_buffer.bytes) i.taker.state (omega arith) i.taker.reached; state = i.taker.state; room = omega (arith, i.taker.room, room_handed_out w.rx_buffer (length w.rx_buffer.bytes) (omega arith)) };
+    taker = record { reached = reads_reached w (length w.rx_buffer.bytes) (receives_may w i.taker.state) (omega arith) i.taker.reached; state = i.taker.state; room = omega (arith, i.taker.room, room_handed_out w.rx_buffer (length w.rx_buffer.bytes) (omega arith)) };
     taken_within = i.taken_within;
     there = same_seq (next_ack all_read) (next_ack w) (omega (arith, ap (λ (l : List ℕ). length l) nothing_left)) ∙ i.there;
     held = λ k b e. i.held k b (sym (held_stays w.rx_buffer (length w.rx_buffer.bytes) k) ∙ e);

@@ -16,6 +16,7 @@ use Rattle.sock_tcp.specs.declared.tuple.Tuple.{Tuple}
 use Rattle.tcp_laws.specs.Waking.{HasToSend}
 use Rattle.progress_laws.specs.Agreement.{Agreement, AgreeingBytesArrive, AgreeingFinArrives, BytesArrive, Exchanges, FinArrives, IsMove, IsSpeaker, NextOne, NoMore}
 use Rattle.progress_laws.specs.InStep.{Reads}
+use Rattle.progress_laws.specs.Delivery.{has_counted}
 use Rattle.progress_laws.specs.ShutWindows.{width}
 use Rattle.progress_laws.proofs.Agrees.{all_read, nothing_left, reads_agree}
 use Rattle.progress_laws.proofs.Begins.{some_or_none}
@@ -42,7 +43,7 @@ pub data Comes (d : Duration) (t : Tuple) (f : Facts) (at : Instant) (v w : View
       → length o.sender.tx_buffer.bytes ≡ 0
       → may_send v.state ≡ true
       → Comes d t f at v w got n h
-  AllEnded : is_closing v.state ≡ true → Ends f at v w got n → Comes d t f at v w got n h
+  AllEnded : is_closing v.state ≡ true → Ends d t f at v w got n h → Comes d t f at v w got n h
 
 module _ (d : Duration) (t : Tuple) (f : Facts) where
   -- ---- one thing after another
@@ -71,7 +72,7 @@ module _ (d : Duration) (t : Tuple) (f : Facts) where
       nothing_lost = p.nothing_lost ∙ o.nothing_lost;
     }
 
-    after_ends : Ends f o.end o.sender o.receiver o.more o.taken → Ends f at v w got n
+    after_ends : Ends d t f o.end o.sender o.receiver o.more o.taken o.heard → Ends d t f at v w got n h
     after_ends p = record {
       end = p.end;
       sender = p.sender;
@@ -79,6 +80,18 @@ module _ (d : Duration) (t : Tuple) (f : Facts) where
       exchanges = onward at o.end p.end v w o.sender o.receiver p.sender p.receiver got o.more (got ++ drop n v.tx_buffer.bytes) o.exchanges (subst (λ l. Exchanges f o.end o.sender o.receiver o.more p.end p.sender p.receiver l) o.whole p.exchanges);
       finished = p.finished;
       closing = ap is_closing (sym o.state) ∙ p.closing;
+      speaker = p.speaker;
+      state = p.state ∙ o.state;
+      nothing_taken = p.nothing_taken ∙ o.nothing_taken;
+      reach = p.reach;
+      reached = p.reached;
+      next = p.next;
+      una = p.una;
+      rest = p.rest ∙ o.nothing_lost;
+      speaks = λ e r sp within field.
+          let q : IsSpeaker e r o.receiver × (o.heard ≤ length o.receiver.tx_buffer.bytes) × (o.receiver.state ≡ w.state) = o.speaks e r sp within field in
+          let z : IsSpeaker e r p.receiver × (has_counted p.receiver.state ≡ true) × (is_closing p.receiver.state ≡ is_closing o.receiver.state) × (p.receiver.state ≡ state.LastAck → ⊥) = p.speaks e r q.0 q.1 (subst (λ m. 0 < m) (λ i. min (length ((sym o.nothing_taken i).held) / 2 ^ sym o.shift i) 65535) field) in
+          (z.0, z.1, z.2 ∙ ap is_closing q.2, z.3);
     }
 
     after_comes : Comes d t f o.end o.sender o.receiver o.more o.taken o.heard → Comes d t f at v w got n h
@@ -90,7 +103,7 @@ module _ (d : Duration) (t : Tuple) (f : Facts) where
 
   data Grows (at : Instant) (v w : View) (got : List ℕ) (n h : ℕ) : Type 0 where
     Joined : (o : Onward d t f at v w got n h) → o.sender.tx_buffer.bytes ≡ v.tx_buffer.bytes → n < o.taken → Grows at v w got n h
-    Ending : Ends f at v w got n → Grows at v w got n h
+    Ending : Ends d t f at v w got n h → Grows at v w got n h
 
   -- where it opened a window before, with nothing taken
   module _ (at : Instant) (v w : View) (got : List ℕ) (n h : ℕ) (zero_taken : n ≡ 0) (o : Onward d t f at v w got n h) (same : o.sender.tx_buffer.bytes ≡ drop n v.tx_buffer.bytes) where
@@ -104,7 +117,7 @@ module _ (d : Duration) (t : Tuple) (f : Facts) where
 
   module _ (mtu : IsMtu f.mtu) (here : f.has_address t.local.addr ≡ true) where
     turn : (at : Instant) (v w : View) (got : List ℕ) (n h : ℕ) → Agreement d t v w n h → w.rx_buffer.bytes ≡ [] → HasToSend v → Round d t f at v w got n h
-    turn at v w got n h i read work = round d t f at v w got n h read (utters d t f mtu here at v w got n h i work)
+    turn at v w got n h i read work = round d t f at v w got n h read i (utters d t f mtu here at at (grind (arith, ints)) v w got i.speaker work)
 
     works : (v u : View) → u.state ≡ v.state → u.tx_buffer.bytes ≡ v.tx_buffer.bytes → HasToSend v → HasToSend u
     works v u st q (inl some) = inl (subst (λ (l : List ℕ). 0 < length l) (sym q) some)

@@ -17,7 +17,7 @@ use Rattle.sock_tcp.specs.Acked.{acked_of}
 use Rattle.sock_tcp.specs.Advance.{Advance, advance_in, advanced, counted_control, fin_counted, waiting}
 use Rattle.sock_tcp.specs.Process.{Outcome, ack_sent, after_advance, challenged, after_table, bytes_taken, close_restarted, has_window, outside, outside_by, processed, processed_inside, stopped, timer_restarted, tuple_of}
 use Rattle.sock_tcp.specs.Queue.{shortened}
-use Rattle.sock_tcp.specs.Queues.{receives, read_off, readable}
+use Rattle.sock_tcp.specs.Queues.{can_recv, may_recv, receives, read_off, readable}
 use Rattle.sock_tcp.specs.Replies.{ack_segment, sack_range}
 use Rattle.sock_tcp.specs.Steps.{ack_counted, ack_heard, acknowledged, duplicate_counted, heard, is_duplicate, is_window_changed, released, timer_set, timestamp_taken, una_advanced, window_of, window_taken}
 use Rattle.sock_tcp.specs.Verdict.{fin_place, open_verdict, verdict_at, verdict_of}
@@ -204,7 +204,10 @@ module _ (w : Window) (start_there : w.start.0 < 2 ^ 32) (end_there : w.end.0 < 
       apart false e = e
 
 -- a read is a call
-pub reads_reached : (w : View) (n : ℕ) → receives w.state ≡ true → n ≤ length w.rx_buffer.bytes → IsReached w → IsReached (read_off w n)
+pub receives_may : (w : View) → receives w.state ≡ true → may_recv w ≡ true
+receives_may w e = ap (λ b. if b then true else can_recv w) e
+
+pub reads_reached : (w : View) (n : ℕ) → may_recv w ≡ true → n ≤ length w.rx_buffer.bytes → IsReached w → IsReached (read_off w n)
 reads_reached w n takes few r = step_reached w (read_off w n) (with_handed r.counts (handed_slice bs' (Ok (length bs)))) r (RecvSlice bs bs' (Ok (length bs)) (record {
   answer = rw takes (ap Ok (sym all));
   view = rw takes (ap (read_off w) (sym size));
@@ -322,6 +325,10 @@ module _ (w : View) (k : TcpSeqNumber) (r : Faces w k) (now : Instant) (word : �
   unfolding processed processed_inside advanced
   in_window i = rw (passes, has, i) refl
 
+  pub from_outside : is_inside (receive_window w) s.seq_number (length s.payload) ≡ false → processed w now word ip s ≡ outside w now s
+  unfolding processed
+  from_outside e = rw (passes, has, e) refl
+
   -- outside of the window, with a byte
   pub away : is_inside (receive_window w) s.seq_number (length s.payload) ≡ false → 0 < length s.payload → processed w now word ip s ≡ ack_sent w s
   unfolding processed outside close_restarted
@@ -363,11 +370,11 @@ module _ (w : View) (k : TcpSeqNumber) (r : Faces w k) (now : Instant) (word : �
     unfolding receive_window
     number_is = same_seq s.seq_number (next_ack w) number
 
-    inside : is_inside (receive_window w) s.seq_number (length s.payload) ≡ true
+    pub inside : is_inside (receive_window w) s.seq_number (length s.payload) ≡ true
     unfolding is_inside
     inside = rw (empty, number_is) (empty_inside_so (receive_window w) (start_small w) (end_small w) wide)
 
-    counts : c ≡ control.Fin
+    pub counts : c ≡ control.Fin
     unfolding counted_control
     counts = rw (fin, empty, number_is, left_edge, right_edge) refl
       where

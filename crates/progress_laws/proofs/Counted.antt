@@ -55,7 +55,7 @@ no_syn state.Closing e = refl
 no_syn state.LastAck e = refl
 no_syn _ e = absurd cc
 
-counted_synchronized : (st : State) → has_counted st ≡ true → is_synchronized st ≡ true
+pub counted_synchronized : (st : State) → has_counted st ≡ true → is_synchronized st ≡ true
 counted_synchronized state.CloseWait e = refl
 counted_synchronized state.Closing e = refl
 counted_synchronized state.LastAck e = refl
@@ -90,7 +90,7 @@ module _ (u : View) (reached : IsReached u) (closing : is_closing u.state ≡ tr
   all_places : seq_sub k u.local_seq_no - syn_place u.state ≡ length u.tx_buffer.bytes + 1
   all_places = omega (arith, ap (λ (m : TcpSeqNumber). m.0) there, no_syn u.state closing, small, queue_short)
 
-  acked : a ≡ record { len = length u.tx_buffer.bytes + 1 - 1; fin = true; all = is_not_after u.remote_last_seq k }
+  pub acked : a ≡ record { len = length u.tx_buffer.bytes + 1 - 1; fin = true; all = is_not_after u.remote_last_seq k }
   unfolding acked_at
   acked = (λ i. acked_of u (plain i) (number i)) ∙ ap (acked_places u.state k u.remote_last_seq (length u.tx_buffer.bytes)) all_places ∙ ap (λ b. record { len = if b then length u.tx_buffer.bytes + 1 - 1 else length u.tx_buffer.bytes + 1; fin = b; all = is_not_after u.remote_last_seq k }) is_all
     where
@@ -130,6 +130,14 @@ module _ (u : View) (reached : IsReached u) (closing : is_closing u.state ≡ tr
 
   pub ended : Ended u a.len (processed u now word ip g)
   ended = subst (Ended u a.len) (sym (in_window ∙ (λ i. after_table (advance_in u.state (counts i) ((acked i).fin) x now (tuple_of ip g) word a.len g) now a cut.offset (cut_bytes cut g.payload) g))) (rows u.state closing a.len)
+
+  -- in FIN-WAIT-1
+  pub heard_fin : u.state ≡ state.FinWait1 → processed u now word ip g ≡ stopped (heard (moved_to state.FinWait2 x) now a g)
+  unfolding bytes_taken
+  heard_fin e = in_window ∙ (λ i. after_table (advance_in (e i) (counts i) ((acked i).fin) x now (tuple_of ip g) word a.len g) now a cut.offset (cut_bytes cut g.payload) g) ∙ none
+    where
+      none : bytes_taken (heard (moved_to state.FinWait2 x) now a g) now cut.offset (cut_bytes cut g.payload) g ≡ stopped (heard (moved_to state.FinWait2 x) now a g)
+      none = let z : length (cut_bytes cut g.payload) ≡ 0 = omega (arith, length-cut cut g.payload, empty) in rw z refl
 
   pub empties : length (processed u now word ip g).view.tx_buffer.bytes ≡ 0
   empties = ended.tx ∙ omega (arith, ap (λ (m : Acked). m.len) acked)

@@ -7,13 +7,13 @@ use Rattle.std.proofs.lemmas.Nat.{pow_pos}
 use Rattle.net_base.specs.declared.time.Duration.{Duration}
 use Rattle.net_base.specs.declared.time.Instant.{Instant}
 use Rattle.ip_wire.specs.declared.repr.IpRepr.{IpRepr}
-use Rattle.control_wire.specs.Segment.{Segment, segment_len}
+use Rattle.control_wire.specs.Segment.{Segment}
 use Rattle.control_wire.specs.Seq.{seq_add, seq_sub}
 use Rattle.control_wire.specs.declared.seq_number.TcpSeqNumber.{TcpSeqNumber}
 use Rattle.control_wire.specs.declared.tcp.TcpControl.{TcpControl}
 use Rattle.control_wire.specs.declared.tcp.TcpControl.TheVariants as control
 use Rattle.sock_core.specs.Received.{Received, TakesIn}
-use Rattle.sock_core.specs.Seq.{is_before, later_of}
+use Rattle.sock_core.specs.Seq.{is_before, is_not_after, later_of}
 use Rattle.sock_tcp.proofs.Windows.{end_small, length-cut, start_small}
 use Rattle.sock_tcp.specs.Acked.{acked_at, acked_of, acked_places, is_fin_acked, syn_place}
 use Rattle.sock_tcp.specs.Advance.{advance_in, counted_control, fin_counted, moved_to, waiting}
@@ -22,8 +22,7 @@ use Rattle.sock_tcp.specs.Due.{is_closing, window_field}
 use Rattle.sock_tcp.specs.Process.{Outcome, ack_sent, after_table, bytes_taken, processed, tuple_of}
 use Rattle.sock_tcp.specs.Queue.{Queue}
 use Rattle.sock_tcp.specs.Queues.{receives}
-use Rattle.sock_tcp.specs.Replies.{ack_kept}
-use Rattle.sock_tcp.specs.Steps.{ack_delayed, heard, joined, scale_of, window_of}
+use Rattle.sock_tcp.specs.Steps.{heard, scale_of, window_of}
 use Rattle.sock_tcp.specs.Verdict.{fin_place}
 use Rattle.sock_tcp.specs.View.{View}
 use Rattle.sock_tcp.specs.Window.{cut_bytes, cut_of, full_inside, empty_inside, is_inside, next_ack, receive_window}
@@ -33,71 +32,23 @@ use Rattle.sock_tcp.specs.declared.state.State.TheVariants as state
 use Rattle.sock_tcp.specs.declared.tuple.Tuple.{Tuple}
 use Rattle.sock_tcp.specs.declared.window.Cut.{Cut}
 use Rattle.sock_tcp.specs.declared.window.Window.{Window}
-use Rattle.tcp_laws.proofs.Kept.{bytes_kept}
+use Rattle.tcp_laws.specs.Polling.{IsReached}
 use Rattle.tcp_laws.proofs.OrderedCalls.{reached_ordered}
 use Rattle.tcp_laws.proofs.Receiving.{only_appends}
 use Rattle.tcp_laws.specs.Laws.{MayTake}
-use Rattle.progress_laws.specs.Agreement.{Agreement, ForAnswer, ForKeepAlive, ForProbe, ForRepeat, InReach, IsSpeaker, Waits}
-use Rattle.progress_laws.specs.BothWays.{window_told}
+use Rattle.progress_laws.specs.Agreement.{Agreement, ForAnswer, ForKeepAlive, ForProbe, ForRepeat, Waits}
+use Rattle.progress_laws.specs.Delivery.{has_counted}
 use Rattle.progress_laws.specs.ShutWindows.{width}
-use Rattle.progress_laws.proofs.Agrees.{no_listener, reached_room, width_small}
+use Rattle.progress_laws.proofs.Agrees.{later_reach, no_listener, reached_room, width_small}
 use Rattle.progress_laws.proofs.Answered.{not_fin}
-use Rattle.progress_laws.proofs.Arrives.{CountsIt, Faces, IsCounted, away, count_to_end, counted_so, cut_at_edge, cut_some, edge_inside, fin_counts, fin_place_small, heard_so, in_window, joins, receives_so, skip_at_edge}
+use Rattle.progress_laws.proofs.Arrives.{CountsIt, Faces, IsCounted, away, count_to_end, counted_so, cut_at_edge, cut_some, edge_inside, fin_counts, fin_place_small, inside as fin_inside, counts as fin_counted_so, heard_so, in_window, joins, skip_at_edge}
 use Rattle.progress_laws.proofs.Begins.{not_zero, numbered_as, segment_reached, some_or_none}
-use Rattle.progress_laws.proofs.Edges.{is_not_before, later_stays, same_seq}
+use Rattle.progress_laws.proofs.Edges.{same_seq}
 use Rattle.progress_laws.proofs.Heeds.{waits_on}
 use Rattle.progress_laws.proofs.Hears.{HeardAs, IsSaid, heard_any}
 use Rattle.progress_laws.proofs.Matches.{Grows, IsPart, all_join, cut_part, grows}
 use Rattle.progress_laws.proofs.Spoken.{is_fin}
-
--- ---- what bytes leave alone
-
-record Rest (z u : View) : Type 0 where
-  state : u.state ≡ z.state
-  fin : u.rx_fin_received ≡ z.rx_fin_received
-  una : u.local_seq_no ≡ z.local_seq_no
-  nxt : u.remote_last_seq ≡ z.remote_last_seq
-  tx : u.tx_buffer ≡ z.tx_buffer
-  rcv : u.remote_seq_no ≡ z.remote_seq_no
-  shift : u.remote_win_shift ≡ z.remote_win_shift
-  peer : u.tuple ≡ z.tuple
-  timeout : u.timeout ≡ z.timeout
-  keep_alive : u.keep_alive ≡ z.keep_alive
-  marked : u.pending_fast_retransmit ≡ z.pending_fast_retransmit
-  timer : u.timer ≡ z.timer
-
-bytes_rest : (now : Instant) (s : Segment) (z : View) (o : ℕ) (bs : List ℕ) → Rest z (bytes_taken z now o bs s).view
-unfolding ack_kept joined ack_delayed
-bytes_rest now s z o bs = bytes_kept (Rest z) now s (record {
-  challenges = λ w at r. record { state = r.state; fin = r.fin; una = r.una; nxt = r.nxt; tx = r.tx; rcv = r.rcv; shift = r.shift; peer = r.peer; timeout = r.timeout; keep_alive = r.keep_alive; marked = r.marked; timer = r.timer };
-  acks = λ w r. record { state = r.state; fin = r.fin; una = r.una; nxt = r.nxt; tx = r.tx; rcv = r.rcv; shift = r.shift; peer = r.peer; timeout = r.timeout; keep_alive = r.keep_alive; marked = r.marked; timer = r.timer };
-}) (λ w o bs r. record { state = r.state; fin = r.fin; una = r.una; nxt = r.nxt; tx = r.tx; rcv = r.rcv; shift = r.shift; peer = r.peer; timeout = r.timeout; keep_alive = r.keep_alive; marked = r.marked; timer = r.timer }) z o bs (record { state = refl; fin = refl; una = refl; nxt = refl; tx = refl; rcv = refl; shift = refl; peer = refl; timeout = refl; keep_alive = refl; marked = refl; timer = refl })
-
-rest_waits : (z u : View) → Rest z u → Waits z → Waits u
-rest_waits z u r (ForAnswer at e) = ForAnswer at (r.timer ∙ e)
-rest_waits z u r (ForRepeat e) = ForRepeat (r.timer ∙ e)
-rest_waits z u r (ForKeepAlive o e (inl m)) = ForKeepAlive o (r.timer ∙ e) (inl (r.marked ∙ m))
-rest_waits z u r (ForKeepAlive o e (inr n)) = ForKeepAlive o (r.timer ∙ e) (inr (r.nxt ∙ n ∙ sym r.una))
-rest_waits z u r (ForProbe at delay e (inl m)) = ForProbe at delay (r.timer ∙ e) (inl (r.marked ∙ m))
-rest_waits z u r (ForProbe at delay e (inr n)) = ForProbe at delay (r.timer ∙ e) (inr (r.nxt ∙ n.0 ∙ sym r.una, subst (λ (b : Queue). 0 < length b.bytes) (sym r.tx) n.1))
-
--- ---- what is said
-
--- s goes from SND.UNA of v on, with at least a byte or the FIN, which comes with the end of the transmit queue
-pub record FromFront (v : View) (s : Segment) : Type 0 where
-  pub bit : IsSaid s.control
-  pub ack : s.ack_number ≡ Some (next_ack v)
-  pub number : s.seq_number ≡ v.local_seq_no
-  pub first : s.payload ≡ take (length s.payload) v.tx_buffer.bytes
-  pub field : s.window_len ≡ window_field v
-  pub fin : s.control ≡ control.Fin → length s.payload ≡ length v.tx_buffer.bytes
-  pub closing : s.control ≡ control.Fin → is_closing v.state ≡ true
-  pub some : 0 < segment_len s
-  pub short : length s.payload ≤ 65535
-
--- where w can speak, and waits for no acknowledgement of a FIN of its own, so can u, once v told a window
-abbrev pub SpeaksOn : View → View → ℕ → View → Type 0
-SpeaksOn v w h u = (e : Duration) (r : Tuple) → IsSpeaker e r w → h ≤ length w.tx_buffer.bytes → 0 < window_field v → IsSpeaker e r u × (u.state ≡ w.state)
+use Rattle.progress_laws.proofs.Taken.{FromFront, Like, Rest, SpeaksOn, Stopped, Took, bytes_rest, counted_carries, faces_so, no_syn, rest_waits}
 
 -- what w becomes: a run of what it had not taken joins the queue; or the FIN is counted, and all of it is there; or it is
 -- answered, and without anything that v has not heard of only where the window has no place
@@ -114,51 +65,11 @@ pub data Arrived (d : Duration) (t : Tuple) (v w : View) (n h : ℕ) (s : Segmen
       → receives o.view.state ≡ false
       → o.view.rx_fin_received ≡ true
       → o.view.rx_buffer.bytes ≡ drop n v.tx_buffer.bytes
+      → Stopped v w h o.view
       → Arrived d t v w n h s o
   IsAnswered : o ≡ ack_sent w s
       → (n ≡ 0 → width w ≡ 0)
       → Arrived d t v w n h s o
-
--- u is as this but for what joined
-record Took (w : View) (k : TcpSeqNumber) (h : ℕ) (u : View) (st : State) (first : TcpSeqNumber) (counts : Bool) : Type 0 where
-  state : u.state ≡ st
-  rcv : u.remote_seq_no ≡ first
-  fin : u.rx_fin_received ≡ counts
-  una : u.local_seq_no ≡ k
-  nxt : u.remote_last_seq ≡ later_of w.remote_last_seq k
-  tx : u.tx_buffer.bytes ≡ drop h w.tx_buffer.bytes
-  shift : u.remote_win_shift ≡ w.remote_win_shift
-  peer : u.tuple ≡ w.tuple
-  timeout : u.timeout ≡ w.timeout
-  keep_alive : u.keep_alive ≡ w.keep_alive
-
--- y is as w but for the state, the timer and what of the peer's stream was counted
-record Like (w y : View) : Type 0 where
-  nxt : y.remote_last_seq ≡ w.remote_last_seq
-  tx : y.tx_buffer ≡ w.tx_buffer
-  shift : y.remote_win_shift ≡ w.remote_win_shift
-  peer : y.tuple ≡ w.tuple
-  timeout : y.timeout ≡ w.timeout
-  keep_alive : y.keep_alive ≡ w.keep_alive
-
-pub faces_so : (d : Duration) (t : Tuple) (v w : View) (n h : ℕ) → Agreement d t v w n h → Faces w (next_ack v)
-faces_so d t v w n h i =
-    let o = reached_ordered w i.taker.reached in
-    record {
-      state = receives_so w.state i.taker.state;
-      una_small = o.una_small;
-      short = omega (arith, o.room);
-      heard = h;
-      heard_within = i.heard_within;
-      back = ap (λ (m : TcpSeqNumber). m.0) i.back;
-      room = omega (arith, reached_room w i.taker.reached);
-    }
-
-no_syn : (st : State) → receives st ≡ true → syn_place st ≡ 0
-no_syn state.Established e = refl
-no_syn state.FinWait1 e = refl
-no_syn state.FinWait2 e = refl
-no_syn _ e = absurd cc
 
 module _ (d : Duration) (t : Tuple) (v w : View) (n h : ℕ) (i : Agreement d t v w n h) (read : w.rx_buffer.bytes ≡ []) (now : Instant) (ip : IpRepr) (s : Segment) (q : FromFront v s) where
   abbrev k : TcpSeqNumber
@@ -284,12 +195,15 @@ module _ (d : Duration) (t : Tuple) (v w : View) (n h : ℕ) (i : Agreement d t 
   Goes z = (st : State) × (receives st ≡ true) × Took w k h z st w.remote_seq_no w.rx_fin_received × WaitsOn z
 
   -- it waits as it may
-  waits_on_then : WaitsOn (bytes_taken (heard x now a s) now cut.offset bs s).view
-  waits_on_then waits within field = ((took x (like x refl refl refl refl refl refl)).state, rest_waits (heard x now a s) (bytes_taken (heard x now a s) now cut.offset bs s).view (bytes_rest now s (heard x now a s) cut.offset bs) (waits_on x now a s k q.ack q.bit window (by waits) (λ e. ap (λ (m : Acked). m.all) (sym places) ∙ e) w_small (omega arith) (omega (arith, ap (λ (m : TcpSeqNumber). m.0) i.back, w_small, w_short, within))))
+  waits_from : (y : View) → Waits y → y.remote_last_seq ≡ w.remote_last_seq → y.local_seq_no ≡ w.local_seq_no → h ≤ length w.tx_buffer.bytes → 0 < window_field v → Waits (bytes_taken (heard y now a s) now cut.offset bs s).view
+  waits_from y waits nxt una within field = rest_waits (heard y now a s) (bytes_taken (heard y now a s) now cut.offset bs s).view (bytes_rest now s (heard y now a s) cut.offset bs) (waits_on y now a s k q.ack q.bit window waits (λ e. ap (λ m. is_not_after m k) nxt ∙ ap (λ (m : Acked). m.all) (sym places) ∙ e) (subst (λ (m : TcpSeqNumber). m.0 < 2 ^ 32) (sym una) w_small) (omega arith) (omega (arith, ap (λ m. seq_sub k m) una, ap (λ (m : TcpSeqNumber). m.0) i.back, w_small, w_short, within)))
     where
-      window : 0 < s.window_len * 2 ^ scale_of w.remote_win_scale
-      window = mul-pos (subst (λ m. 0 < m) (sym q.field) field) (pow_pos (scale_of w.remote_win_scale))
+      window : 0 < s.window_len * 2 ^ scale_of y.remote_win_scale
+      window = mul-pos (subst (λ m. 0 < m) (sym q.field) field) (pow_pos (scale_of y.remote_win_scale))
 
+  waits_on_then : WaitsOn (bytes_taken (heard x now a s) now cut.offset bs s).view
+  waits_on_then waits within field = ((took x (like x refl refl refl refl refl refl)).state, waits_from x (by waits) refl refl within field)
+    where
       by : Waits w → Waits x
       by (ForAnswer at e) = ForAnswer at e
       by (ForRepeat e) = ForRepeat e
@@ -310,19 +224,56 @@ module _ (d : Duration) (t : Tuple) (v w : View) (n h : ℕ) (i : Agreement d t 
   goes_rows _ e fin f = absurd cc
 
   -- the FIN counts
-  abbrev Stops : View → Type 0
-  Stops z = (st : State) × (receives st ≡ false) × Took w k h z st (seq_add w.remote_seq_no 1) true
+  abbrev StopsOn : View → Type 0
+  StopsOn z = carries_data w.state ≡ true → Waits w → h ≤ length w.tx_buffer.bytes → 0 < window_field v → Waits z × (has_counted z.state ≡ true) × (is_closing z.state ≡ is_closing w.state) × (z.state ≡ state.LastAck → ⊥)
 
-  stops_rows : (st : State) → receives st ≡ true → (fin : Bool) → Stops (after_table (advance_in st control.Fin fin x now (tuple_of ip s) 0 a.len s) now a cut.offset bs s).view
+  abbrev Stops : View → Type 0
+  Stops z = (st : State) × (receives st ≡ false) × Took w k h z st (seq_add w.remote_seq_no 1) true × StopsOn z
+
+  abbrev after_fin : View → View
+  after_fin y = (bytes_taken (heard y now a s) now cut.offset bs s).view
+
+  -- in CLOSE-WAIT or CLOSING it waits as it may
+  counts_on : (st : State) → has_counted st ≡ true → is_closing st ≡ is_closing w.state → (st ≡ state.LastAck → ⊥) → StopsOn (after_fin (fin_counted st x))
   unfolding fin_counted
-  stops_rows state.Established e fin = (state.CloseWait, refl, took (fin_counted state.CloseWait x) (like (fin_counted state.CloseWait x) refl refl refl refl refl refl))
-  stops_rows state.FinWait1 e true = (state.TimeWait, refl, took (waiting now (fin_counted state.TimeWait x)) (like (waiting now (fin_counted state.TimeWait x)) refl refl refl refl refl refl))
-  stops_rows state.FinWait1 e false = (state.Closing, refl, took (fin_counted state.Closing x) (like (fin_counted state.Closing x) refl refl refl refl refl refl))
-  stops_rows state.FinWait2 e fin = (state.TimeWait, refl, took (waiting now (fin_counted state.TimeWait x)) (like (waiting now (fin_counted state.TimeWait x)) refl refl refl refl refl refl))
-  stops_rows _ e fin = absurd cc
+  counts_on st counted same apart c waits within field =
+      let g : Took w k h (after_fin (fin_counted st x)) st (seq_add w.remote_seq_no 1) true = took (fin_counted st x) (like (fin_counted st x) refl refl refl refl refl refl) in
+      (waits_from (fin_counted st x) (by waits) refl refl within field, ap has_counted g.state ∙ counted, ap is_closing g.state ∙ same, λ l. apart (sym g.state ∙ l))
+    where
+      by : Waits w → Waits (fin_counted st x)
+      by (ForAnswer at e) = ForAnswer at e
+      by (ForRepeat e) = ForRepeat e
+      by (ForKeepAlive o e f) = ForKeepAlive o e f
+      by (ForProbe at delay e f) = ForProbe at delay e f
+
+  stops_rows : (st : State) → w.state ≡ st → receives st ≡ true → (fin : Bool) → a.fin ≡ fin → Stops (after_table (advance_in st control.Fin fin x now (tuple_of ip s) 0 a.len s) now a cut.offset bs s).view
+  unfolding fin_counted
+  stops_rows state.Established is e fin f = (state.CloseWait, refl, took (fin_counted state.CloseWait x) (like (fin_counted state.CloseWait x) refl refl refl refl refl refl), counts_on state.CloseWait refl (sym (ap is_closing is)) (λ l. absurd cc))
+  stops_rows state.FinWait1 is e true f = (state.TimeWait, refl, took (waiting now (fin_counted state.TimeWait x)) (like (waiting now (fin_counted state.TimeWait x)) refl refl refl refl refl refl), λ c waits within field. absurd (no_own_fin f within))
+  stops_rows state.FinWait1 is e false f = (state.Closing, refl, took (fin_counted state.Closing x) (like (fin_counted state.Closing x) refl refl refl refl refl refl), counts_on state.Closing refl (sym (ap is_closing is)) (λ l. absurd cc))
+  stops_rows state.FinWait2 is e fin f = (state.TimeWait, refl, took (waiting now (fin_counted state.TimeWait x)) (like (waiting now (fin_counted state.TimeWait x)) refl refl refl refl refl refl), λ c waits within field. absurd (true≢false (sym (ap carries_data (sym is) ∙ c))))
+  stops_rows _ is e fin f = absurd cc
+
+  reached_then : IsReached u
+  reached_then = segment_reached w u now 0 ip s o.reply i.taker.reached (omega arith) (numbered_as s k q.ack small (omega arith)) q.short (λ e. absurd (no_listener w.state i.taker.state e)) refl
+
+  stopped : Stops u → length u.rx_buffer.bytes + n ≡ length v.tx_buffer.bytes → Stopped v w h u
+  stopped g all = record {
+    reached = reached_then;
+    next = same_seq (next_ack u) (seq_add v.local_seq_no (length v.tx_buffer.bytes + 1)) (omega (arith, ap (λ (m : TcpSeqNumber). m.0) g.2.rcv, ap (λ (l : List ℕ). length l) read, edge, v_small, all));
+    una = g.2.una;
+    nxt = g.2.nxt;
+    tx = g.2.tx;
+    speaks = λ e r sp within field.
+        let z : Waits u × (has_counted u.state ≡ true) × (is_closing u.state ≡ is_closing w.state) × (u.state ≡ state.LastAck → ⊥) = g.3 sp.carries sp.waits within field in
+        (record { reached = reached_then; carries = counted_carries u.state z.1; peer = g.2.peer ∙ sp.peer; no_timeout = g.2.timeout ∙ sp.no_timeout; keep_alive = g.2.keep_alive ∙ sp.keep_alive; waits = z.0 }, z.1, z.2, z.3);
+  }
 
   abbrev counted : TcpControl
   counted = counted_control s.control win s.seq_number (length s.payload)
+
+  is_table : is_inside win s.seq_number (length s.payload) ≡ true → (c : TcpControl) → counted ≡ c → o ≡ table c
+  is_table inside c e = in_window w k faces now 0 ip s q.bit q.ack inside ∙ ap (λ c. table c) e
 
   -- ---- with bytes
 
@@ -342,9 +293,6 @@ module _ (d : Duration) (t : Tuple) (v w : View) (n h : ℕ) (i : Agreement d t 
             by (inr place) = absurd (true≢false (sym (edge_inside win (start_small w) (end_small w) narrow s.seq_number small (length s.payload) some few near (omega (arith, ap (λ (m : TcpSeqNumber). m.0) start_is, edge, at, z, v_small)) place) ∙ full false e))
 
     module _ (inside : is_inside win s.seq_number (length s.payload) ≡ true) where
-      is_table : (c : TcpControl) → counted ≡ c → o ≡ table c
-      is_table c e = in_window w k faces now 0 ip s q.bit q.ack inside ∙ ap (λ c. table c) e
-
       first_offset : cut.offset ≡ 0
       first_offset = cut_at_edge win (start_small w) (end_small w) narrow s.seq_number small (length s.payload) some few near
 
@@ -376,28 +324,19 @@ module _ (d : Duration) (t : Tuple) (v w : View) (n h : ℕ) (i : Agreement d t 
       run_some : 0 < length grown.run
       run_some = omega (arith, longer, ap (λ (l : List ℕ). length l) rx_is)
 
-      in_reach : u.remote_last_seq ≡ later_of w.remote_last_seq k → InReach v u
-      in_reach e = by i.in_reach
-        where
-          by : InReach v w → InReach v u
-          by (inl p) = inl (e ∙ ap (λ m. later_of m k) p ∙ later_stays k k (is_not_before k k (omega arith)))
-          by (inr p) =
-              let stays : u.remote_last_seq ≡ w.remote_last_seq = e ∙ later_stays w.remote_last_seq k (is_not_before w.remote_last_seq k (omega (arith, p.0, width_small v i.speaker.reached))) in
-              inr (subst (λ m. seq_sub m k < width v) (sym stays) p.0, subst (λ m. seq_sub m k < window_told v) (sym stays) p.1)
-
       next_is : u.remote_seq_no ≡ w.remote_seq_no → next_ack u ≡ seq_add v.local_seq_no (n + length grown.run)
       next_is e = same_seq (next_ack u) (seq_add v.local_seq_no (n + length grown.run)) (omega (arith, ap (λ (m : TcpSeqNumber). m.0) e, ap (λ (l : List ℕ). length l) rx_is, ap (λ (l : List ℕ). length l) read, edge, v_small))
 
       agrees : Goes u → Agreement d t v u (n + length grown.run) 0
       agrees g = record {
         speaker = i.speaker;
-        taker = record { reached = segment_reached w u now 0 ip s o.reply i.taker.reached (omega arith) (numbered_as s k q.ack small (omega arith)) q.short (λ e. absurd (no_listener w.state i.taker.state e)) refl; state = ap receives g.2.state ∙ g.1; room = omega (arith, i.taker.room, grown.room) };
+        taker = record { reached = reached_then; state = ap receives g.2.state ∙ g.1; room = omega (arith, i.taker.room, grown.room) };
         taken_within = grown.within;
         there = next_is g.2.rcv;
         held = grown.held;
         heard_within = omega arith;
         back = same_seq k (seq_add u.local_seq_no 0) (omega (arith, ap (λ (m : TcpSeqNumber). m.0) g.2.una));
-        in_reach = in_reach g.2.nxt;
+        in_reach = later_reach v w u i.speaker.reached g.2.nxt i.in_reach;
         last = λ e. inl (omega (arith, run_some));
       }
 
@@ -408,7 +347,7 @@ module _ (d : Duration) (t : Tuple) (v w : View) (n h : ℕ) (i : Agreement d t 
 
       goes_on : counted ≡ control.None → Arrived d t v w n h s o
       goes_on e =
-          let g : Goes u = subst (λ (z : Outcome). Goes z.view) (sym (is_table control.None e)) (goes_rows w.state i.taker.state a.fin refl) in
+          let g : Goes u = subst (λ (z : Outcome). Goes z.view) (sym (is_table inside control.None e)) (goes_rows w.state i.taker.state a.fin refl) in
           Joins grown.run run_some rx_is grown.whole (agrees g) g.2.tx (speaks g)
 
       -- with the FIN all of it came
@@ -425,10 +364,10 @@ module _ (d : Duration) (t : Tuple) (v w : View) (n h : ℕ) (i : Agreement d t 
       ends _ b e = absurd b
 
       stops : counted ≡ control.Fin → Arrived d t v w n h s o
-      stops e = CountsFin (q.closing f.0) (ap receives g.2.state ∙ g.1) g.2.fin (rx_is ∙ sym (append-nil grown.run) ∙ ap (λ (l : List ℕ). grown.run ++ l) (sym (drop_all (n + length grown.run) v.tx_buffer.bytes all)) ∙ grown.whole)
+      stops e = CountsFin (q.closing f.0) (ap receives g.2.state ∙ g.1) g.2.fin (rx_is ∙ sym (append-nil grown.run) ∙ ap (λ (l : List ℕ). grown.run ++ l) (sym (drop_all (n + length grown.run) v.tx_buffer.bytes all)) ∙ grown.whole) (stopped g (omega (arith, all, grown.within, ap (λ (l : List ℕ). length l) rx_is)))
         where
           g : Stops u
-          g = subst (λ (z : Outcome). Stops z.view) (sym (is_table control.Fin e)) (stops_rows w.state i.taker.state a.fin)
+          g = subst (λ (z : Outcome). Stops z.view) (sym (is_table inside control.Fin e)) (stops_rows w.state refl i.taker.state a.fin refl)
 
           f : (s.control ≡ control.Fin) × (is_before win.end (seq_add s.seq_number (length s.payload)) ≡ false)
           f = ends s.control q.bit e
@@ -463,7 +402,7 @@ module _ (d : Duration) (t : Tuple) (v w : View) (n h : ℕ) (i : Agreement d t 
   -- ---- a FIN alone
 
   fin_lands : length s.payload ≡ 0 → Arrived d t v w n h s o
-  fin_lands none = CountsFin (q.closing fin) c.state c.fin (ap (λ (b : Received). b.bytes) c.rx ∙ read ∙ sym (drop_all n v.tx_buffer.bytes (omega (arith, empty))))
+  fin_lands none = CountsFin (q.closing fin) c.state c.fin (ap (λ (b : Received). b.bytes) c.rx ∙ read ∙ sym (drop_all n v.tx_buffer.bytes (omega (arith, empty)))) (stopped g (omega (arith, ap (λ (b : Received). length b.bytes) c.rx, ap (λ (l : List ℕ). length l) read, empty, i.taken_within)))
     where
       fin : s.control ≡ control.Fin
       fin = is_fin s.control q.bit (omega (arith, q.some, none))
@@ -471,8 +410,14 @@ module _ (d : Duration) (t : Tuple) (v w : View) (n h : ℕ) (i : Agreement d t 
       empty : length v.tx_buffer.bytes ≡ 0
       empty = sym (q.fin fin) ∙ none
 
+      next : s.seq_number.0 ≡ (next_ack w).0
+      next = omega (arith, at, edge, empty, i.taken_within, v_small)
+
       c : CountsIt w o
-      c = fin_counts w k faces now 0 ip s q.bit q.ack fin none (omega (arith, at, edge, empty, i.taken_within, v_small)) i.taker.state
+      c = fin_counts w k faces now 0 ip s q.bit q.ack fin none next i.taker.state
+
+      g : Stops u
+      g = subst (λ (z : Outcome). Stops z.view) (sym (is_table (fin_inside w k faces now 0 ip s q.bit q.ack fin none next) control.Fin (fin_counted_so w k faces now 0 ip s q.bit q.ack fin none next))) (stops_rows w.state refl i.taker.state a.fin refl)
 
   pub arrives : Arrived d t v w n h s o
   arrives = by (some_or_none (length s.payload))

@@ -35,11 +35,14 @@ pub mod Talks
 pub mod Heeds
 pub mod Matches
 pub mod Agrees
+pub mod Taken
 pub mod Delivers
 pub mod Utters
 pub mod Comes
 pub mod Arrivals
 pub mod Streams
+pub mod Acks
+pub mod Closers
 pub mod Repeats
 pub mod SynSteps
 pub mod NewPair

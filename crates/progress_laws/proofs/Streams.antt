@@ -31,7 +31,7 @@ use Rattle.progress_laws.specs.ShutWindows.{width}
 use Rattle.progress_laws.proofs.Agrees.{reached_room}
 use Rattle.progress_laws.proofs.Answered.{field_some}
 use Rattle.progress_laws.proofs.Arrivals.{AllEnded, AllSent, Comes, comes, not_both, reads}
-use Rattle.progress_laws.proofs.Arrives.{reads_reached}
+use Rattle.progress_laws.proofs.Arrives.{reads_reached, receives_may}
 use Rattle.progress_laws.proofs.Comes.{Onward}
 use Rattle.progress_laws.proofs.Edges.{same_seq}
 use Rattle.progress_laws.proofs.Matches.{get_drop}
@@ -116,7 +116,7 @@ module _ (v : View) where
 
   pub speaks_then : (e : Duration) (r : Tuple) → receives v.state ≡ true → IsSpeaker e r v → IsSpeaker e r v'
   unfolding read_off
-  speaks_then e r takes sp = record { reached = reads_reached v (length v.rx_buffer.bytes) takes (omega arith) sp.reached; carries = sp.carries; peer = sp.peer; no_timeout = sp.no_timeout; keep_alive = sp.keep_alive; waits = waits_then sp.waits }
+  speaks_then e r takes sp = record { reached = reads_reached v (length v.rx_buffer.bytes) (receives_may v takes) (omega arith) sp.reached; carries = sp.carries; peer = sp.peer; no_timeout = sp.no_timeout; keep_alive = sp.keep_alive; waits = waits_then sp.waits }
 
 -- ---- the one, and then the other
 
@@ -131,7 +131,7 @@ not_last state.FinWait1 c e = absurd cc
 not_last state.FinWait2 c e = absurd cc
 not_last _ c e = absurd cc
 
-module _ (d e : Duration) (t s : Tuple) (f : Facts) (at : Instant) (v w : View) (got back : List ℕ) (n h : ℕ) (mtu : IsMtu f.mtu) (here : f.has_address t.local.addr ≡ true) (there : f.has_address s.local.addr ≡ true) (may : may_send v.state ≡ true) (i : AgreeBothWays d e t s v w n h) where
+module _ (d e : Duration) (t s : Tuple) (f : Facts) (at : Instant) (v w : View) (got back : List ℕ) (n h : ℕ) (mtu : IsMtu f.mtu) (here : f.has_address t.local.addr ≡ true) (there : f.has_address s.local.addr ≡ true) (i : AgreeBothWays d e t s v w n h) where
   abbrev v1 : View
   v1 = v' v
 
@@ -147,7 +147,7 @@ module _ (d e : Duration) (t s : Tuple) (f : Facts) (at : Instant) (v w : View) 
   few : room_of v.rx_buffer ≤ 2 ^ 30
   few = reached_room v i.over.speaker.reached
 
-  over1 : Agreement d t v1 w n h
+  pub over1 : Agreement d t v1 w n h
   unfolding read_off
   over1 = record {
     speaker = speaks_then v d t i.here.state i.over.speaker;
@@ -161,14 +161,14 @@ module _ (d e : Duration) (t s : Tuple) (f : Facts) (at : Instant) (v w : View) 
     last = i.over.last;
   }
 
-  field : 0 < window_field v1
+  pub field : 0 < window_field v1
   unfolding read_off
   field = field_some v1 (omega (arith, unit_fits v i.here.reached i.here.room, places v))
 
-  this_read : EitherWays f at v w got back at v1 w got back1
+  pub this_read : EitherWays f at v w got back at v1 w got back1
   this_read = Another at at at v w v1 w v1 w got back got back1 got back1 (grind (arith, ints)) (ToThis (IsMove (Reads (length v.rx_buffer.bytes) (omega arith) refl refl (ap (λ (l : List ℕ). back ++ l) (sym (take_all v.rx_buffer.bytes))))) refl) (NoOther at v1 w got back1)
 
-  module _ (o : Onward d t f at v1 w1 got1 n h) (sent : length o.sender.tx_buffer.bytes ≡ 0) where
+  module _ (may : may_send v.state ≡ true) (o : Onward d t f at v1 w1 got1 n h) (sent : length o.sender.tx_buffer.bytes ≡ 0) where
     abbrev x : View
     x = o.sender
 
@@ -262,10 +262,10 @@ module _ (d e : Duration) (t s : Tuple) (f : Facts) (at : Instant) (v w : View) 
       finished = λ m. p.finished;
     }
 
-  first : Comes d t f at v1 w1 got1 n h → StreamsArrive f at v w got back n h
+  first : may_send v.state ≡ true → Comes d t f at v1 w1 got1 n h → StreamsArrive f at v w got back n h
   unfolding read_off
-  first (AllEnded c p) = absurd (not_both v.state may c)
-  first (AllSent o sent m) = second o sent (comes e s f o.end o.receiver o.sender back1 o.heard 0 mtu there (turned o sent))
+  first may (AllEnded c p) = absurd (not_both v.state may c)
+  first may (AllSent o sent m) = second may o sent (comes e s f o.end o.receiver o.sender back1 o.heard 0 mtu there (turned may o sent))
 
 pub agreeing_streams_arrive : AgreeingStreamsArrive
-agreeing_streams_arrive d e t s f at v w got back n h mtu here there may i = first d e t s f at v w got back n h mtu here there may i (comes d t f at (v' v) w got n h mtu here (over1 d e t s f at v w got back n h mtu here there may i))
+agreeing_streams_arrive d e t s f at v w got back n h mtu here there may i = first d e t s f at v w got back n h mtu here there i may (comes d t f at (v' v) w got n h mtu here (over1 d e t s f at v w got back n h mtu here there i))

@@ -31,7 +31,7 @@ use Rattle.progress_laws.proofs.Receives.{NewPart}
 use Rattle.progress_laws.proofs.States.{is_steady, not_listening}
 use Rattle.progress_laws.proofs.Taking.{at_once, blank, blank_holds_nothing, read_bytes, read_held, take_all, taken_bytes, taken_held}
 use Rattle.progress_laws.proofs.Widths.{start_is}
-use Rattle.progress_laws.proofs.Arrives.{before_window, reads_reached}
+use Rattle.progress_laws.proofs.Arrives.{before_window, reads_reached, receives_may}
 
 -- w takes bytes, and has read all, with room for so many bytes. Its peer acknowledges n bytes of its queue, by k
 pub record IsCaughtUp (w : View) (k : TcpSeqNumber) (n room : ℕ) : Type 0 where
@@ -227,7 +227,7 @@ module _ (w : View) (k : TcpSeqNumber) (n room : ℕ) (now : Instant) (ip : IpRe
 
     pub took_reached : IsReached w → g.seq_number.0 < 2 ^ 32 → length g.payload ≤ 65535 → IsReached y
     unfolding joined ack_delayed
-    took_reached r number few = reads_reached took (length fresh_bytes) receiving (omega (arith, ap (λ (l : List ℕ). length l) took_bytes)) then_reached
+    took_reached r number few = reads_reached took (length fresh_bytes) (receives_may took receiving) (omega (arith, ap (λ (l : List ℕ). length l) took_bytes)) then_reached
       where
         receiving : receives took.state ≡ true
         receiving = ap receives hears.state ∙ c.takes

@@ -22,10 +22,10 @@ use Rattle.sock_tcp.specs.declared.tuple.Tuple.{Tuple}
 use Rattle.tcp_laws.specs.Waking.{HasToSend}
 use Rattle.tcp_laws.proofs.Ordered.{HasMoment, Row}
 use Rattle.tcp_laws.proofs.OrderedCalls.{reached_ordered}
-use Rattle.progress_laws.specs.Agreement.{Agreement, Exchanges, ForAnswer, ForKeepAlive, ForProbe, ForRepeat, IsMove, IsSpeaker, NextOne, NoMore, Waits}
+use Rattle.progress_laws.specs.Agreement.{Exchanges, ForAnswer, ForKeepAlive, ForProbe, ForRepeat, IsMove, IsSpeaker, NextOne, NoMore, Waits}
 use Rattle.progress_laws.specs.InStep.{GoesAstray, told}
 use Rattle.progress_laws.specs.Speech.{DispatchesOk, GoesOn}
-use Rattle.progress_laws.proofs.Agrees.{left_agrees}
+use Rattle.progress_laws.proofs.Agrees.{left_speaks}
 use Rattle.progress_laws.proofs.Begins.{Same, dispatch_reached, later_moment}
 use Rattle.progress_laws.proofs.Talks.{AsksOnly, Call, Left, Says, Silent, StartsAtUna, calls, goes_on}
 
@@ -59,14 +59,15 @@ wakes d t v at s = by s.waits
 -- ---- it says something
 
 -- after the dispatches before, if any, x says out, and becomes u
-pub record Utters (d : Duration) (t : Tuple) (f : Facts) (at : Instant) (v w : View) (got : List ℕ) (n h : ℕ) : Type 0 where
+pub record Utters (d : Duration) (t : Tuple) (f : Facts) (at bound : Instant) (v w : View) (got : List ℕ) : Type 0 where
   pub mid : Instant
   pub sender : View
   pub before : Exchanges f at v w got mid sender w got
-  pub agrees : Agreement d t sender w n h
-  pub same : Same v sender
+  pub earlier : Left v sender
+  pub speaker : IsSpeaker d t sender
   pub now : Instant
   pub since : mid.micros ≤ℤ now.micros
+  pub long_since : bound.micros ≤ℤ now.micros
   pub out : Sending
   pub after : View
   pub on : GoesOn sender t (told f now)
@@ -75,29 +76,30 @@ pub record Utters (d : Duration) (t : Tuple) (f : Facts) (at : Instant) (v w : V
   pub left : Left sender after
   pub waits : Waits after
 
-module _ (d : Duration) (t : Tuple) (f : Facts) (mtu : IsMtu f.mtu) (here : f.has_address t.local.addr ≡ true) (at : Instant) (v w : View) (got : List ℕ) (n h : ℕ) where
-  pub utters : Agreement d t v w n h → HasToSend v → Utters d t f at v w got n h
-  utters i work = first (wakes d t v at i.speaker)
+module _ (d : Duration) (t : Tuple) (f : Facts) (mtu : IsMtu f.mtu) (here : f.has_address t.local.addr ≡ true) (at bound : Instant) (later : at.micros ≤ℤ bound.micros) (v w : View) (got : List ℕ) where
+  pub utters : IsSpeaker d t v → HasToSend v → Utters d t f at bound v w got
+  utters s work = first (wakes d t v bound s)
     where
       again : (u : View) → Same v u → HasToSend v → HasToSend u
       again u s (inl some) = inl (subst (λ (q : Queue). 0 < length q.bytes) (sym s.tx) some)
       again u s (inr c) = inr (ap is_closing s.state ∙ c)
 
-      second : (z : Instant) → at.micros ≤ℤ z.micros → (u : View) (out : Option Sending) → DispatchesOk (told f z) false v out u → (l : Left v u) → (m : Instant) → u.timer ≡ timer.Idle (Some m) → (j : Agreement d t u w n h) → (y : Instant) × (z.micros ≤ℤ y.micros) × (is_reached (timer_poll u.timer) y ≡ true) → Utters d t f at v w got n h
-      second z since u out disp l m idle j y = by (calls d t f u y.0 mtu here j.speaker y.2 (again u l.same work))
+      second : (z : Instant) → bound.micros ≤ℤ z.micros → (u : View) (out : Option Sending) → DispatchesOk (told f z) false v out u → (l : Left v u) → (m : Instant) → u.timer ≡ timer.Idle (Some m) → (q : IsSpeaker d t u) → (y : Instant) × (z.micros ≤ℤ y.micros) × (is_reached (timer_poll u.timer) y ≡ true) → Utters d t f at bound v w got
+      second z since u out disp l m idle q y = by (calls d t f u y.0 mtu here q y.2 (again u l.same work))
         where
-          by : Call (told f y.0) u y.0 → Utters d t f at v w got n h
+          by : Call (told f y.0) u y.0 → Utters d t f at bound v w got
           by (Says out' u' disp' said left waits) = record {
             mid = z;
             sender = u;
-            before = NextOne at z z v w u w u w got got got since (IsMove (GoesAstray out disp refl refl)) (NoMore z u w got);
-            agrees = j;
-            same = l.same;
+            before = NextOne at z z v w u w u w got got got (grind (arith, ints, since, later)) (IsMove (GoesAstray out disp refl refl)) (NoMore z u w got);
+            earlier = l;
+            speaker = q;
             now = y.0;
             since = y.1;
+            long_since = let a = y.1 in grind (arith, ints, since, a);
             out = out';
             after = u';
-            on = goes_on d t f u y.0 mtu here j.speaker y.2;
+            on = goes_on d t f u y.0 mtu here q y.2;
             dispatch = disp';
             said = said;
             left = left;
@@ -105,26 +107,27 @@ module _ (d : Duration) (t : Tuple) (f : Facts) (mtu : IsMtu f.mtu) (here : f.ha
           }
           by (Silent out' u' disp' left m' idle' front quiet) = absurd (true≢false (sym (subst (λ tm. is_reached (timer_poll tm) y.0 ≡ true) idle y.2) ∙ subst (λ tm. is_keep_alive_over tm y.0 ≡ false) idle quiet))
 
-      first : (z : Instant) × (at.micros ≤ℤ z.micros) × (is_reached (timer_poll v.timer) z ≡ true) → Utters d t f at v w got n h
-      first z = by (calls d t f v z.0 mtu here i.speaker z.2 work)
+      first : (z : Instant) × (bound.micros ≤ℤ z.micros) × (is_reached (timer_poll v.timer) z ≡ true) → Utters d t f at bound v w got
+      first z = by (calls d t f v z.0 mtu here s z.2 work)
         where
-          by : Call (told f z.0) v z.0 → Utters d t f at v w got n h
+          by : Call (told f z.0) v z.0 → Utters d t f at bound v w got
           by (Says out u disp said left waits) = record {
             mid = at;
             sender = v;
             before = NoMore at v w got;
-            agrees = i;
-            same = record { state = refl; peer = refl; timeout = refl; keep_alive = refl; una = refl; tx = refl; rx = refl; rcv = refl; window = refl; scale = refl; shift = refl; paused = refl };
+            earlier = record { same = record { state = refl; peer = refl; timeout = refl; keep_alive = refl; una = refl; tx = refl; rx = refl; rcv = refl; window = refl; scale = refl; shift = refl; paused = refl }; told = inl (record { last_ack = refl; last_win = refl }) };
+            speaker = s;
             now = z.0;
-            since = z.1;
+            since = let a = z.1 in grind (arith, ints, a, later);
+            long_since = z.1;
             out = out;
             after = u;
-            on = goes_on d t f v z.0 mtu here i.speaker z.2;
+            on = goes_on d t f v z.0 mtu here s z.2;
             dispatch = disp;
             said = said;
             left = left;
             waits = waits;
           }
           by (Silent out u disp left m idle front quiet) =
-              let j : Agreement d t u w n h = left_agrees d t v w n h i u left (dispatch_reached (told f z.0) false v out u i.speaker.reached disp) (ForKeepAlive (Some m) idle front) in
-              second z.0 z.1 u out disp left m idle j (wakes d t u z.0 j.speaker)
+              let q : IsSpeaker d t u = left_speaks d t v u s left (dispatch_reached (told f z.0) false v out u s.reached disp) (ForKeepAlive (Some m) idle front) in
+              second z.0 z.1 u out disp left m idle q (wakes d t u z.0 q)

@@ -202,3 +202,36 @@ AgreeingStreamsArrive = (d e : Duration) (t s : Tuple) (f : Facts) (at : Instant
     → may_send v.state ≡ true
     → AgreeBothWays d e t s v w taken heard
     → StreamsArrive f at v w got back taken heard
+
+-- ---- both were closed
+
+-- First all bytes of the one come over, and its FIN: reads of w answer `Finished`, and v heard of it. Then it is the
+-- other way round
+pub record BothEnd (f : Facts) (at : Instant) (v w : View) (got back : List ℕ) (taken heard : ℕ) : Type 0 where
+  pub mid : Instant
+  pub here : View
+  pub across : View
+  pub one : EitherWays f at v w got back mid here across
+      (got ++ (w.rx_buffer.bytes ++ drop taken v.tx_buffer.bytes)) (back ++ v.rx_buffer.bytes)
+  pub finished_across : recv_check across ≡ Err recv_error.Finished
+  pub acknowledged : here.state ≡ state.FinWait2
+  pub end : Instant
+  pub last_here : View
+  pub last_across : View
+  pub other : EitherWays f mid here across
+      (got ++ (w.rx_buffer.bytes ++ drop taken v.tx_buffer.bytes)) (back ++ v.rx_buffer.bytes)
+      end last_here last_across
+      (got ++ (w.rx_buffer.bytes ++ drop taken v.tx_buffer.bytes))
+      ((back ++ v.rx_buffer.bytes) ++ drop heard w.tx_buffer.bytes)
+  pub finished_here : recv_check last_here ≡ Err recv_error.Finished
+
+abbrev pub AgreeingClosersFinish : Type 0
+AgreeingClosersFinish = (d e : Duration) (t s : Tuple) (f : Facts) (at : Instant) (v w : View) (got back : List ℕ)
+    (taken heard : ℕ)
+    → IsMtu f.mtu
+    → f.has_address t.local.addr ≡ true
+    → f.has_address s.local.addr ≡ true
+    → is_closing v.state ≡ true
+    → is_closing w.state ≡ true
+    → AgreeBothWays d e t s v w taken heard
+    → BothEnd f at v w got back taken heard

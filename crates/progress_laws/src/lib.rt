@@ -12,7 +12,8 @@ ghost use Rattle.std.specs.Prelude.{◌≡◌};
 ghost use Rattle.pair_core.specs.PairInvariant.{IsPair};
 ghost use Rattle.pair_core.specs.PairViews.{PairView};
 ghost use Rattle.progress_laws.specs.AfterClose.{ClosedSenderFinishes};
-ghost use Rattle.progress_laws.specs.Agreement.{AgreeingBytesArrive, AgreeingFinArrives, AgreeingStreamsArrive};
+ghost use Rattle.progress_laws.specs.Agreement.{AgreeingBytesArrive, AgreeingClosersFinish, AgreeingFinArrives};
+ghost use Rattle.progress_laws.specs.Agreement.{AgreeingStreamsArrive};
 ghost use Rattle.progress_laws.specs.BothWays.{BothWaysComplete, BothWaysFinish, SendingKeepsInStep};
 ghost use Rattle.progress_laws.specs.Delivery.{CountedFinIsHeard, DeliveryMoves};
 ghost use Rattle.progress_laws.specs.FromOpening.{HandshakeBringsInStep, OpenedPairCompletes};
@@ -109,9 +110,9 @@ pub fn closed_sender_finishes()
 /// held out of order, is in flight or was lost, whatever windows and scales they know, and whatever congestion control
 /// they have: all bytes of the one that speaks come to the other, in order. The speaker is in ESTABLISHED or
 /// CLOSE-WAIT, without a user timeout and with a keep-alive interval; the taker is in ESTABLISHED, FIN-WAIT-1 or
-/// FIN-WAIT-2, with a place in its receive buffer, and dispatches nothing. Some list of dispatches, deliveries and reads
-/// does it, in which an answer may be lost. They agree again then, and what the speaker has not heard of the taker's
-/// stream is what it was.
+/// FIN-WAIT-2, with a place in its receive buffer, and dispatches nothing. Some list of dispatches, deliveries and
+/// reads does it, in which an answer may be lost. They agree again then, and what the speaker has not heard of the
+/// taker's stream is what it was.
 pub fn agreeing_bytes_arrive()
     ensures { AgreeingBytesArrive }
 {}
@@ -122,10 +123,16 @@ pub fn agreeing_fin_arrives()
     ensures { AgreeingFinArrives }
 {}
 
-/// And both streams come over where both sides speak, the first of them not closed (`AgreeBothWays`): first all bytes of
-/// the one, and then all of the other, and its FIN, where that was closed.
+/// And both streams come over where both sides speak, the first of them not closed (`AgreeBothWays`): first all bytes
+/// of the one, and then all of the other, and its FIN, where that was closed.
 pub fn agreeing_streams_arrive()
     ensures { AgreeingStreamsArrive }
+{}
+
+/// And where both were closed at once, in FIN-WAIT-1: the bytes of the one come over, and its FIN, which is
+/// acknowledged; and then those of the other, and its FIN. Reads of both answer `Finished`.
+pub fn agreeing_closers_finish()
+    ensures { AgreeingClosersFinish }
 {}
 
 /// A socket as `connect` leaves it sends its SYN; one as `listen` leaves it takes it, with the number that it draws,
