@@ -1,5 +1,5 @@
 -- Of every pair: the agreement of its sides, and what follows of it.
-use Rattle.std.proofs.Common.{◌≡◌, ℕ, zero, suc, ◌+◌, ◌%◌, ◌^◌, ◌<◌, ◌≤◌, ◌⊎◌, inl, inr, ⊎_elim, Bool, true, false, refl, sym, ap, subst, ◌∙◌, ◌++◌, length, drop, Option, Some, arith}
+use Rattle.std.proofs.Common.{◌≡◌, ℕ, zero, suc, ◌+◌, ◌%◌, ◌^◌, ◌<◌, ◌≤◌, ◌⊎◌, inl, inr, ⊎_elim, Bool, true, false, refl, sym, ap, subst, ◌∙◌, List, ◌++◌, length, drop, Option, Some, arith}
 use Rattle.std.proofs.lemmas.List.{append_assoc}
 use Rattle.net_base.specs.declared.time.Duration.{Duration}
 use Rattle.net_base.specs.declared.time.Instant.{Instant}
@@ -24,8 +24,8 @@ use Rattle.pair_core.specs.PairInvariant.{IsHost, IsPair}
 use Rattle.pair_core.specs.PairNetwork.{phase_of}
 use Rattle.pair_core.specs.PairViews.{HostView, PairView}
 use Rattle.pair_core.specs.StreamViews.{IsSynchronized}
-use Rattle.progress_laws.specs.Agreement.{AgreeBothWays, Agreement, AgreeingBytesArrive, AgreeingFinArrives, AgreeingStreamsArrive, EitherWays, Exchanges, IsSpeaker, IsTaking}
-use Rattle.progress_laws.specs.Pairs.{BothCanAlways, BothCanComeOver, BothComeOver, CanAlways, CanComeOver, ComesOver, MaySpeak, MayTake}
+use Rattle.progress_laws.specs.Agreement.{AgreeBothWays, Agreement, AgreeingBytesArrive, AgreeingClosersFinish, AgreeingFinArrives, AgreeingStreamsArrive, EitherWays, Exchanges, IsSpeaker, IsTaking}
+use Rattle.progress_laws.specs.Pairs.{BothCanAlways, BothCanComeOver, BothClosedCanAlways, BothComeOver, BothFinish, CanAlways, CanComeOver, ComesOver, MaySpeak, MayTake}
 
 -- ---- what the states say
 
@@ -154,11 +154,29 @@ module _ {G : Type 0} (h o : HostView G) (i : IsHost h) (j : IsHost o) (peer : H
     held = back.held;
   }
 
-  both_come_over : AgreeingStreamsArrive → (f : Facts) (at : Instant) → IsMtu f.mtu → f.has_address h.endpoint.addr ≡ true → f.has_address o.endpoint.addr ≡ true → BothComeOver f at h o
-  both_come_over streams f at mtu here there =
-      let b = streams d e (tuple_to h o.endpoint) (tuple_to o h.endpoint) f at h.control_block o.control_block o.handed_out h.handed_out forth.taken back.taken mtu here there c.not_closed both in
+  both_come_over : AgreeingStreamsArrive → (f : Facts) (at : Instant) → IsMtu f.mtu → f.has_address h.endpoint.addr ≡ true → f.has_address o.endpoint.addr ≡ true → may_send h.control_block.state ≡ true → BothComeOver f at h o
+  both_come_over streams f at mtu here there not_closed =
+      let b = streams d e (tuple_to h o.endpoint) (tuple_to o h.endpoint) f at h.control_block o.control_block o.handed_out h.handed_out forth.taken back.taken mtu here there not_closed both in
       let x = subst (λ xs. EitherWays f at h.control_block o.control_block o.handed_out h.handed_out b.end b.here b.across xs (h.handed_out ++ (h.control_block.rx_buffer.bytes ++ drop back.taken o.control_block.tx_buffer.bytes))) (all h o i j agree d c.over.speaks c.over.takes) b.exchanges in
       record { end = b.end; here = b.here; across = b.across; exchanges = subst (λ ys. EitherWays f at h.control_block o.control_block o.handed_out h.handed_out b.end b.here b.across h.accepted ys) (all o h j i agree_back e c.speaks_back c.takes_back) x; finished = b.finished }
+
+  both_finish : AgreeingClosersFinish → (f : Facts) (at : Instant) → IsMtu f.mtu → f.has_address h.endpoint.addr ≡ true → f.has_address o.endpoint.addr ≡ true → is_closing h.control_block.state ≡ true → is_closing o.control_block.state ≡ true → BothFinish f at h o
+  both_finish closers f at mtu here there closed closed_across =
+      let b = closers d e (tuple_to h o.endpoint) (tuple_to o h.endpoint) f at h.control_block o.control_block o.handed_out h.handed_out forth.taken back.taken mtu here there closed closed_across both in
+      let waits : List ℕ = h.handed_out ++ h.control_block.rx_buffer.bytes in
+      let gone = all h o i j agree d c.over.speaks c.over.takes in
+      record {
+        mid = b.mid;
+        here = b.here;
+        across = b.across;
+        one = subst (λ xs. EitherWays f at h.control_block o.control_block o.handed_out h.handed_out b.mid b.here b.across xs waits) gone b.one;
+        finished_across = b.finished_across;
+        end = b.end;
+        last_here = b.last_here;
+        last_across = b.last_across;
+        other = subst (λ xs. EitherWays f b.mid b.here b.across xs waits b.end b.last_here b.last_across xs o.accepted) gone (subst (λ ys. EitherWays f b.mid b.here b.across (o.handed_out ++ (o.control_block.rx_buffer.bytes ++ drop forth.taken h.control_block.tx_buffer.bytes)) waits b.end b.last_here b.last_across (o.handed_out ++ (o.control_block.rx_buffer.bytes ++ drop forth.taken h.control_block.tx_buffer.bytes)) ys) back.whole b.other);
+        finished_here = b.finished_here;
+      }
 
 -- ---- of every pair
 
@@ -170,7 +188,10 @@ module _ {G : Type 0} (to_b : (p : PairView G) → IsPair p → SynchronizedSide
   b_can bytes fin d f at mtu here c = comes_over p.b p.a i.b i.a i.peer_of_b (to_a p i) d c bytes fin f at mtu here
 
   pub a_first : AgreeingStreamsArrive → BothCanAlways p.a p.b
-  a_first streams d e f at mtu here there c = both_come_over p.a p.b i.a i.b i.peer_of_a i.peer_of_b (to_b p i) (to_a p i) d e c streams f at mtu here there
+  a_first streams d e f at mtu here there not_closed c = both_come_over p.a p.b i.a i.b i.peer_of_a i.peer_of_b (to_b p i) (to_a p i) d e c streams f at mtu here there not_closed
 
   pub b_first : AgreeingStreamsArrive → BothCanAlways p.b p.a
-  b_first streams d e f at mtu here there c = both_come_over p.b p.a i.b i.a i.peer_of_b i.peer_of_a (to_a p i) (to_b p i) d e c streams f at mtu here there
+  b_first streams d e f at mtu here there not_closed c = both_come_over p.b p.a i.b i.a i.peer_of_b i.peer_of_a (to_a p i) (to_b p i) d e c streams f at mtu here there not_closed
+
+  pub both_closed : AgreeingClosersFinish → BothClosedCanAlways p.a p.b
+  both_closed closers d e f at mtu here there closed closed_across c = both_finish p.a p.b i.a i.b i.peer_of_a i.peer_of_b (to_b p i) (to_a p i) d e c closers f at mtu here there closed closed_across

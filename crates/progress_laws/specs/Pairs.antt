@@ -1,5 +1,5 @@
 -- Of every pair, whatever happened to it: how the bytes of its sides, and their FINs, still come over.
-use Rattle.std.specs.Prelude.{◌≡◌, ◌⊎◌, ◌<◌, Some, None, Err, true}
+use Rattle.std.specs.Prelude.{◌≡◌, ◌⊎◌, ◌<◌, ◌++◌, Some, None, Err, true}
 use Rattle.net_base.specs.declared.time.Duration.{Duration}
 use Rattle.net_base.specs.declared.time.Instant.{Instant}
 use Rattle.sock_core.specs.Bounds.{IsMtu}
@@ -44,10 +44,9 @@ pub record CanComeOver {G : Type 0} (d : Duration) (h o : HostView G) : Type 0 w
   pub last : h.control_block.state ≡ state.LastAck
       → (next_ack o.control_block ≡ h.control_block.local_seq_no → ⊥) ⊎ (0 < h.control_block.remote_win_len)
 
--- and the other way round, where h was not closed
+-- and the other way round
 pub record BothCanComeOver {G : Type 0} (d e : Duration) (h o : HostView G) : Type 0 where
   pub over : CanComeOver d h o
-  pub not_closed : may_send h.control_block.state ≡ true
   pub speaks_back : MaySpeak e o
   pub takes_back : MayTake h
 
@@ -71,6 +70,22 @@ pub record BothComeOver {G : Type 0} (f : Facts) (at : Instant) (h o : HostView 
       o.accepted
   pub finished : is_closing o.control_block.state ≡ true → recv_check here ≡ Err recv_error.Finished
 
+-- and where both were closed, first all of h comes over, and reads of o answer `Finished`; and then it is the other way
+-- round
+pub record BothFinish {G : Type 0} (f : Facts) (at : Instant) (h o : HostView G) : Type 0 where
+  pub mid : Instant
+  pub here : View
+  pub across : View
+  pub one : EitherWays f at h.control_block o.control_block o.handed_out h.handed_out mid here across h.accepted
+      (h.handed_out ++ h.control_block.rx_buffer.bytes)
+  pub finished_across : recv_check across ≡ Err recv_error.Finished
+  pub end : Instant
+  pub last_here : View
+  pub last_across : View
+  pub other : EitherWays f mid here across h.accepted (h.handed_out ++ h.control_block.rx_buffer.bytes) end last_here
+      last_across h.accepted o.accepted
+  pub finished_here : recv_check last_here ≡ Err recv_error.Finished
+
 -- from any moment on, in any context that has the address of h
 abbrev pub CanAlways : {G : Type 0} → HostView G → HostView G → Type 0
 CanAlways h o = (d : Duration) (f : Facts) (at : Instant)
@@ -79,11 +94,22 @@ CanAlways h o = (d : Duration) (f : Facts) (at : Instant)
     → CanComeOver d h o
     → ComesOver f at h o
 
--- or both addresses
+-- or both addresses; h was not closed, or both were
 abbrev pub BothCanAlways : {G : Type 0} → HostView G → HostView G → Type 0
 BothCanAlways h o = (d e : Duration) (f : Facts) (at : Instant)
     → IsMtu f.mtu
     → f.has_address h.endpoint.addr ≡ true
     → f.has_address o.endpoint.addr ≡ true
+    → may_send h.control_block.state ≡ true
     → BothCanComeOver d e h o
     → BothComeOver f at h o
+
+abbrev pub BothClosedCanAlways : {G : Type 0} → HostView G → HostView G → Type 0
+BothClosedCanAlways h o = (d e : Duration) (f : Facts) (at : Instant)
+    → IsMtu f.mtu
+    → f.has_address h.endpoint.addr ≡ true
+    → f.has_address o.endpoint.addr ≡ true
+    → is_closing h.control_block.state ≡ true
+    → is_closing o.control_block.state ≡ true
+    → BothCanComeOver d e h o
+    → BothFinish f at h o

@@ -20,7 +20,7 @@ ghost use Rattle.progress_laws.specs.FromOpening.{HandshakeBringsInStep, OpenedP
 ghost use Rattle.progress_laws.specs.FromOpening.{CrossedSynsComeAgain, LostAckComesAgain, LostSynsComeAgain};
 ghost use Rattle.progress_laws.specs.InStep.{OneWayCompletes, OneWayFinishes};
 ghost use Rattle.progress_laws.specs.Opening.{HandshakeCompletes, ListenerAnswersSyn};
-ghost use Rattle.progress_laws.specs.Pairs.{BothCanAlways, CanAlways};
+ghost use Rattle.progress_laws.specs.Pairs.{BothCanAlways, BothClosedCanAlways, CanAlways};
 ghost use Rattle.progress_laws.specs.ShutWindows.{ShutWindowsOpen};
 ghost use Rattle.progress_laws.specs.Speech.{SpeaksPastItsTimers};
 ghost use Rattle.progress_laws.specs.Wakes.{WorkWakesOrSleeps};
@@ -188,15 +188,17 @@ pub fn lost_ack_comes_again()
 /// Of every pair, whatever happened to it: from any moment on, some list of dispatches, deliveries and reads hands out
 /// of one side all that the other ever accepted, and where that was closed, a read answers `Finished` then
 /// (`CanComeOver` says of which sides, in which states and with which settings). And some list does so both ways, where
-/// the side that speaks first was not closed (`BothCanComeOver`).
+/// the side that speaks first was not closed, or both were (`BothCanComeOver`).
 pub fn pairs_can_go_on<G>()
     ensures of_a { (p : PairView G) → IsPair p → CanAlways p.a p.b }
     ensures of_b { (p : PairView G) → IsPair p → CanAlways p.b p.a }
     ensures a_first { (p : PairView G) → IsPair p → BothCanAlways p.a p.b }
     ensures b_first { (p : PairView G) → IsPair p → BothCanAlways p.b p.a }
+    ensures closed { (p : PairView G) → IsPair p → BothClosedCanAlways p.a p.b }
 {
     agreeing_bytes_arrive();
     agreeing_fin_arrives();
     agreeing_streams_arrive();
+    agreeing_closers_finish();
     pair_core::laws::sides_agree::<G>();
 }
