@@ -35,13 +35,14 @@ use Rattle.progress_laws.specs.Delivery.{HasSaid, has_counted}
 use Rattle.progress_laws.specs.InStep.{IsAnswered, told}
 use Rattle.progress_laws.specs.Speech.{FromUna, KeepsAlive, Speech}
 use Rattle.progress_laws.proofs.Agrees.{carries_listens, left_reach, reach_is_inside, reached_room, width_small}
+use Rattle.progress_laws.proofs.Answered.{carries_so}
 use Rattle.progress_laws.proofs.Arrives.{Faces, away, away_empty, before_window, from_outside, is_synchronized, synchronized_stays}
 use Rattle.progress_laws.proofs.Begins.{dispatch_reached, later_moment, numbered_as, segment_reached}
-use Rattle.progress_laws.proofs.Counted.{counted_synchronized, heard_fin}
+use Rattle.progress_laws.proofs.Counted.{heard_fin}
 use Rattle.progress_laws.proofs.Edges.{later_is, later_stays, same_seq}
 use Rattle.progress_laws.proofs.Hears.{HeardAs, heard_any}
 use Rattle.progress_laws.proofs.Spoken.{ack, bit, fin_alone, is_fin, queued}
-use Rattle.progress_laws.proofs.Taken.{Rest}
+use Rattle.progress_laws.proofs.Taken.{Rest, counted_carries}
 use Rattle.progress_laws.proofs.Talks.{AsksOnly, StartsAtUna}
 use Rattle.progress_laws.proofs.Utters.{Utters, onward, utters}
 
@@ -96,23 +97,23 @@ module _ (d : Duration) (t : Tuple) (f : Facts) (mtu : IsMtu f.mtu) (here : f.ha
   p : Utters d t f at bound.0 v z got
   p = utters d t f mtu here at bound.0 bound.1 v z got sp (inr (ap is_closing waits))
 
-  abbrev fa : Facts
-  fa = told f p.now
-
-  abbrev x : View
-  x = p.sender
-
-  abbrev u : View
-  u = p.after
-
   abbrev s : Segment
   s = p.out.segment
 
   abbrev o : Outcome
   o = processed z p.now 0 p.out.ip s
 
+  abbrev x : View
+  x = p.sender
+
   own : next_ack x ≡ next_ack v
   own = λ i. seq_add (p.earlier.same.rcv i) (length ((p.earlier.same.rx i).bytes))
+
+  abbrev fa : Facts
+  fa = told f p.now
+
+  abbrev u : View
+  u = p.after
 
   next_x : next_ack z ≡ seq_add x.local_seq_no (length x.tx_buffer.bytes + 1)
   next_x = next ∙ (λ i. seq_add (sym p.earlier.same.una i) (length ((sym p.earlier.same.tx i).bytes) + 1))
@@ -127,7 +128,7 @@ module _ (d : Duration) (t : Tuple) (f : Facts) (mtu : IsMtu f.mtu) (here : f.ha
   edge = ap (λ (m : TcpSeqNumber). m.0) next_x
 
   synchronized : is_synchronized z.state ≡ true
-  synchronized = counted_synchronized z.state counted
+  synchronized = carries_so z.state (counted_carries z.state counted)
 
   faces : Faces z (next_ack x)
   faces =

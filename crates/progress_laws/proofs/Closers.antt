@@ -44,6 +44,9 @@ module _ (d e : Duration) (t s : Tuple) (f : Facts) (at : Instant) (v w : View) 
   abbrev v1 : View
   v1 = v' v
 
+  over : Agreement d t v1 w n h
+  over = over1 d e t s f at v w got back n h mtu here there i
+
   abbrev w1 : View
   w1 = v' w
 
@@ -55,9 +58,6 @@ module _ (d e : Duration) (t s : Tuple) (f : Facts) (at : Instant) (v w : View) 
 
   abbrev got2 : List ℕ
   got2 = got1 ++ drop n v.tx_buffer.bytes
-
-  over : Agreement d t v1 w n h
-  over = over1 d e t s f at v w got back n h mtu here there i
 
   module _ (c : Ends d t f at v1 w1 got1 n h) where
     abbrev u : View

@@ -55,7 +55,7 @@ no_syn state.Closing e = refl
 no_syn state.LastAck e = refl
 no_syn _ e = absurd cc
 
-pub counted_synchronized : (st : State) → has_counted st ≡ true → is_synchronized st ≡ true
+counted_synchronized : (st : State) → has_counted st ≡ true → is_synchronized st ≡ true
 counted_synchronized state.CloseWait e = refl
 counted_synchronized state.Closing e = refl
 counted_synchronized state.LastAck e = refl

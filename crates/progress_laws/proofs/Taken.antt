@@ -37,6 +37,7 @@ pub record Rest (z u : View) : Type 0 where
   pub una : u.local_seq_no ≡ z.local_seq_no
   pub nxt : u.remote_last_seq ≡ z.remote_last_seq
   pub tx : u.tx_buffer ≡ z.tx_buffer
+  -- and what was counted of the peer's stream, and how it waits
   pub rcv : u.remote_seq_no ≡ z.remote_seq_no
   pub shift : u.remote_win_shift ≡ z.remote_win_shift
   pub peer : u.tuple ≡ z.tuple
@@ -119,12 +120,6 @@ no_syn state.FinWait1 e = refl
 no_syn state.FinWait2 e = refl
 no_syn _ e = absurd cc
 
-pub counted_carries : (st : State) → has_counted st ≡ true → carries_data st ≡ true
-counted_carries state.CloseWait e = refl
-counted_carries state.Closing e = refl
-counted_carries state.LastAck e = refl
-counted_carries _ e = absurd cc
-
 -- v's FIN was counted, behind all of v's transmit queue; and where w can speak, and waits for no acknowledgement of a FIN
 -- of its own, so can z, once v told a window
 pub record Stopped (v w : View) (h : ℕ) (z : View) : Type 0 where
@@ -134,3 +129,9 @@ pub record Stopped (v w : View) (h : ℕ) (z : View) : Type 0 where
   pub nxt : z.remote_last_seq ≡ later_of w.remote_last_seq (next_ack v)
   pub tx : z.tx_buffer.bytes ≡ drop h w.tx_buffer.bytes
   pub speaks : (e : Duration) (r : Tuple) → IsSpeaker e r w → h ≤ length w.tx_buffer.bytes → 0 < window_field v → IsSpeaker e r z × (has_counted z.state ≡ true) × (is_closing z.state ≡ is_closing w.state) × (z.state ≡ state.LastAck → ⊥)
+
+pub counted_carries : (st : State) → has_counted st ≡ true → carries_data st ≡ true
+counted_carries state.CloseWait e = refl
+counted_carries state.Closing e = refl
+counted_carries state.LastAck e = refl
+counted_carries _ e = absurd cc
