@@ -23,8 +23,8 @@ use Rattle.progress_laws.specs.Opening.{AnswersSyn, CanMeet, TakesSyn}
 use Rattle.progress_laws.proofs.Begins.{dispatch_reached, later_moment, segment_reached}
 use Rattle.progress_laws.proofs.Accepts.{sending_keeps_in_step}
 use Rattle.progress_laws.proofs.BothFinish.{both_ways_finish}
-use Rattle.progress_laws.proofs.Handshakes.{connected_reached, first_short, handshake_brings_in_step, meets, narrow, numbered_first, reached_l, reached_received, reached_x, same_versions}
-use Rattle.progress_laws.proofs.Opening.{acknowledged, answered, answers_syn, back_out, begins, can, first, may_answer, out, q, received, s, sent, stands, takes_syn, there_s}
+use Rattle.progress_laws.proofs.Handshakes.{connected_reached, first_short, handshake_brings_in_step, meets, narrow, numbered_first, q, reached_l, reached_received, reached_x, received, s, same_versions, takes_syn, there_s}
+use Rattle.progress_laws.proofs.Opening.{acknowledged, answered, answers_syn, back_out, begins, can, first, may_answer, out, sent, stands}
 use Rattle.progress_laws.proofs.Repeats.{IsSent, NotSent, Repeats, SendsSyn, SynGoesOut, SynWaits, goes_so, sends, sent_so, waits_then}
 use Rattle.progress_laws.proofs.SynSteps.{HasTakenSyn, crossed, crossed_so, crossing_passes}
 use Rattle.progress_laws.proofs.Taking.{take_all}

@@ -12,8 +12,8 @@ use Rattle.control_wire.specs.Seq.{seq_add}
 use Rattle.control_wire.specs.declared.seq_number.TcpSeqNumber.{TcpSeqNumber}
 use Rattle.sock_core.specs.Facts.{Facts}
 use Rattle.sock_core.specs.Received.{Received, room_of}
-use Rattle.sock_tcp.specs.Content.{plain_segment}
-use Rattle.sock_tcp.specs.Opening.{Listens, after_connect, checked_local, checked_source, connected, endpoints, is_open, listened, no_address}
+use Rattle.sock_tcp.specs.Content.{plain_segment, Sending}
+use Rattle.sock_tcp.specs.Opening.{Listens, after_connect, checked_local, checked_source, connected, endpoints, is_open, listened, no_address, renewed}
 use Rattle.sock_tcp.specs.Queue.{capacity}
 use Rattle.sock_tcp.specs.View.{View}
 use Rattle.sock_tcp.specs.Window.{next_ack}
@@ -24,13 +24,45 @@ use Rattle.sock_tcp.specs.declared.tuple.Tuple.{Tuple}
 use Rattle.tcp_laws.specs.Polling.{IsReached}
 use Rattle.tcp_laws.specs.SocketRun.{Connect, IsNumbered, Listen, opens_listener, starting_if}
 use Rattle.tcp_laws.proofs.SocketSteps.{holds_after}
+use Rattle.sock_tcp.specs.Acked.{nothing_acked}
+use Rattle.sock_tcp.specs.Advance.{syn_received}
+use Rattle.sock_tcp.specs.Process.{processed, stopped, tuple_of}
+use Rattle.sock_tcp.specs.Steps.{heard}
 use Rattle.progress_laws.specs.FromOpening.{AreOpened, HandshakeBringsInStep, StandNew}
 use Rattle.progress_laws.specs.InStep.{told}
-use Rattle.progress_laws.specs.Opening.{Acknowledges, CanMeet, Completes, Establishes, HandshakeCompletes, ListenerAnswersSyn}
+use Rattle.progress_laws.specs.Opening.{Acknowledges, CanMeet, Completes, Establishes, HandshakeCompletes, ListenerAnswersSyn, TakesSyn}
 use Rattle.progress_laws.proofs.Begins.{dispatch_reached, segment_reached, step_reached}
-use Rattle.progress_laws.proofs.Opening.{ack_here, acknowledged, ans, answered, answers_syn, back_out, begins, begins_now, comes, edge_here, established, first, first_number, may_answer, nxt_here, out, q, received, room_cleared, s, sent, stands, takes_syn, there_s}
-use Rattle.progress_laws.proofs.Repeats.{Repeats, SendsSyn}
-use Rattle.progress_laws.proofs.SynSteps.{HasTakenSyn}
+use Rattle.progress_laws.proofs.Opening.{can, ack_here, acknowledged, ans, answered, answers_syn, back_out, begins, begins_now, edge_here, established, first, first_number, may_answer, nxt_here, out, room_cleared, sent, stands}
+use Rattle.progress_laws.proofs.Repeats.{Repeats, SendsSyn, SynGoesOut, sends}
+use Rattle.progress_laws.proofs.SynSteps.{HasTakenSyn, IsNewListener, header_dst, received_so, syn_passes}
+
+-- ---- a listener takes the SYN
+
+module _ (t : Tuple) (f : Facts) (number word : ℕ) (a b : View) (m : CanMeet t f number word a b) (e : IpListenEndpoint) (now : Instant) (v : View) (r : Repeats (connected a t number) v) where
+  abbrev pub call : Sending
+  call = out t f number word a b m now v r
+
+  abbrev pub s : Tuple
+  s = tuple_of call.ip call.segment
+
+  pub there_s : f.has_address s.local.addr ≡ true
+  there_s = ap f.has_address (header_dst t.local.addr t.remote.addr _ _ _ m.versions) ∙ m.there
+
+  abbrev pub received : View
+  received = heard (syn_received (listened b e) now s word call.segment) now nothing_acked call.segment
+
+  listens : (listened b e).state ≡ state.Listen
+  unfolding listened renewed
+  listens = refl
+
+  pub comes : processed (listened b e) now word call.ip call.segment ≡ stopped received
+  comes = syn_passes (listened b e) now word call.ip call.segment listens refl refl
+
+  pub q : IsNewListener b received s word call.segment
+  q = received_so b e now s word call.segment refl
+
+  unfoldable pub takes_syn : SynGoesOut v r.waits now → TakesSyn f now word v (listened b e)
+  takes_syn d = record { syn = call; sent = sent t f number word a b m now v r; sends_syn = sends state.SynSent t f (connected a t number) (can t f number word a b m) v r now d; received = received; syn_comes = comes }
 
 -- ---- the laws
 

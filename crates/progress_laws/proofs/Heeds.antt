@@ -22,18 +22,18 @@ use Rattle.progress_laws.proofs.Says.{AtFront}
 -- ---- its timer
 
 -- that of a retransmission runs, or of a fast one; or it is idle, which wants F, or that all is acknowledged
-data Turned (F : Type 0) (all : Bool) (t : Timer) : Type 0 where
-  Again : (at : Instant) → t ≡ timer.Retransmit at → Turned F all t
-  Repeats : t ≡ timer.FastRetransmit → Turned F all t
-  Idles : (o : Option Instant) → t ≡ timer.Idle o → F ⊎ (all ≡ true) → Turned F all t
+data TimerThen (F : Type 0) (all : Bool) (t : Timer) : Type 0 where
+  Again : (at : Instant) → t ≡ timer.Retransmit at → TimerThen F all t
+  Repeats : t ≡ timer.FastRetransmit → TimerThen F all t
+  Idles : (o : Option Instant) → t ≡ timer.Idle o → F ⊎ (all ≡ true) → TimerThen F all t
 
 -- with an idle timer, and with that of probes, F holds
-abbrev Fronted : Timer → Type 0 → Type 0
-Fronted (timer.Idle o) F = F
-Fronted (timer.Retransmit at) F = Unit {0}
-Fronted timer.FastRetransmit F = Unit {0}
-Fronted (timer.ZeroWindowProbe at delay) F = F
-Fronted (timer.Close at) F = ⊥
+abbrev AsksFront : Timer → Type 0 → Type 0
+AsksFront (timer.Idle o) F = F
+AsksFront (timer.Retransmit at) F = Unit {0}
+AsksFront timer.FastRetransmit F = Unit {0}
+AsksFront (timer.ZeroWindowProbe at delay) F = F
+AsksFront (timer.Close at) F = ⊥
 
 module _ (F : Type 0) (y : View) (now : Instant) (a : Acked) (open_ : (y.remote_win_len == 0) ≡ false) where
   abbrev ends : Timer → Timer
@@ -45,26 +45,26 @@ module _ (F : Type 0) (y : View) (now : Instant) (a : Acked) (open_ : (y.remote_
   idle : probe_ended (idle_from now y.keep_alive) y now ≡ timer.Idle (idle_moment now y.keep_alive)
   idle = idle_ends y now a y.keep_alive ∙ idle_is now y.keep_alive
 
-  again : (t : Timer) → probe_ended t y now ≡ t → Turned F a.all t → Turned F a.all (probe_ended (retransmission_acked t y now a) y now)
+  again : (t : Timer) → probe_ended t y now ≡ t → TimerThen F a.all t → TimerThen F a.all (probe_ended (retransmission_acked t y now a) y now)
   again t stays kept = go a.all refl (a.len == 0)
     where
-      go : (all : Bool) → a.all ≡ all → (none : Bool) → Turned F a.all (probe_ended (if all then idle_from now y.keep_alive else (if none then t else retransmit_from now y.rtte)) y now)
+      go : (all : Bool) → a.all ≡ all → (none : Bool) → TimerThen F a.all (probe_ended (if all then idle_from now y.keep_alive else (if none then t else retransmit_from now y.rtte)) y now)
       go true e none = Idles (idle_moment now y.keep_alive) idle (inr e)
-      go false e true = subst (Turned F a.all) (sym stays) kept
+      go false e true = subst (TimerThen F a.all) (sym stays) kept
       go false e false = Again (after now (rto_of y.rtte)) refl
 
-  turned : (t : Timer) → Fronted t F → Turned F a.all (ends t)
-  turned (timer.Idle o) f = Idles (idle_moment now y.keep_alive) (ended (timer.Idle o) ∙ idle) (inl f)
-  turned (timer.Retransmit at) f = subst (Turned F a.all) (sym (ended (timer.Retransmit at))) (again (timer.Retransmit at) refl (Again at refl))
-  turned timer.FastRetransmit f = subst (Turned F a.all) (sym (ended timer.FastRetransmit)) (again timer.FastRetransmit refl (Repeats refl))
-  turned (timer.ZeroWindowProbe at delay) f = Idles (idle_moment now y.keep_alive) (ended (timer.ZeroWindowProbe at delay) ∙ idle_is now y.keep_alive) (inl f)
-  turned (timer.Close at) f = absurd f
+  timer_then : (t : Timer) → AsksFront t F → TimerThen F a.all (ends t)
+  timer_then (timer.Idle o) f = Idles (idle_moment now y.keep_alive) (ended (timer.Idle o) ∙ idle) (inl f)
+  timer_then (timer.Retransmit at) f = subst (TimerThen F a.all) (sym (ended (timer.Retransmit at))) (again (timer.Retransmit at) refl (Again at refl))
+  timer_then timer.FastRetransmit f = subst (TimerThen F a.all) (sym (ended timer.FastRetransmit)) (again timer.FastRetransmit refl (Repeats refl))
+  timer_then (timer.ZeroWindowProbe at delay) f = Idles (idle_moment now y.keep_alive) (ended (timer.ZeroWindowProbe at delay) ∙ idle_is now y.keep_alive) (inl f)
+  timer_then (timer.Close at) f = absurd f
 
-fronted : (x : View) → Waits x → Fronted x.timer (AtFront x)
-fronted x (ForAnswer at e) = subst (λ t. Fronted t (AtFront x)) (sym e) tt
-fronted x (ForRepeat e) = subst (λ t. Fronted t (AtFront x)) (sym e) tt
-fronted x (ForKeepAlive o e front) = subst (λ t. Fronted t (AtFront x)) (sym e) front
-fronted x (ForProbe at delay e front) = subst (λ t. Fronted t (AtFront x)) (sym e) (by front)
+asks_front : (x : View) → Waits x → AsksFront x.timer (AtFront x)
+asks_front x (ForAnswer at e) = subst (λ t. AsksFront t (AtFront x)) (sym e) tt
+asks_front x (ForRepeat e) = subst (λ t. AsksFront t (AtFront x)) (sym e) tt
+asks_front x (ForKeepAlive o e front) = subst (λ t. AsksFront t (AtFront x)) (sym e) front
+asks_front x (ForProbe at delay e front) = subst (λ t. AsksFront t (AtFront x)) (sym e) (by front)
   where
     by : (x.pending_fast_retransmit ≡ true) ⊎ ((x.remote_last_seq ≡ x.local_seq_no) × (0 < length x.tx_buffer.bytes)) → AtFront x
     by (inl m) = inl m
@@ -74,9 +74,9 @@ module _ (x : View) (now : Instant) (a : Acked) (s : Segment) (k : TcpSeqNumber)
   abbrev heard_view : View
   heard_view = heard x now a s
 
-  heard_turned : Turned (AtFront x) a.all heard_view.timer
+  heard_timer : TimerThen (AtFront x) a.all heard_view.timer
   unfolding heard acknowledged window_taken released duplicate_counted ack_counted una_advanced timestamp_taken timer_set
-  heard_turned = subst (λ o. Turned (AtFront x) a.all (timer_set (timestamp_taken (acknowledged z o now a.len (length s.payload) changed) s.timestamp) now a).timer) (sym number) (either (is_duplicate z k (length s.payload) changed))
+  heard_timer = subst (λ o. TimerThen (AtFront x) a.all (timer_set (timestamp_taken (acknowledged z o now a.len (length s.payload) changed) s.timestamp) now a).timer) (sym number) (either (is_duplicate z k (length s.payload) changed))
     where
       z : View
       z = released (window_taken x now s.control s.window_len) a.len
@@ -87,17 +87,17 @@ module _ (x : View) (now : Instant) (a : Acked) (s : Segment) (k : TcpSeqNumber)
       open_ : (window_of s.control s.window_len x.remote_win_scale == 0) ≡ false
       open_ = not_zero (window_of s.control s.window_len x.remote_win_scale) (subst (λ n. 0 < n) (sym (scaled s.control s.window_len x.remote_win_scale bit)) win)
 
-      third : (b : Bool) → Fronted (if b then timer.FastRetransmit else x.timer) (AtFront x)
+      third : (b : Bool) → AsksFront (if b then timer.FastRetransmit else x.timer) (AtFront x)
       third true = tt
-      third false = fronted x waits
+      third false = asks_front x waits
 
-      either : (b : Bool) → Turned (AtFront x) a.all (timer_set (timestamp_taken (ack_heard b z now k a.len) s.timestamp) now a).timer
-      either true = turned (AtFront x) (timestamp_taken (ack_heard true z now k a.len) s.timestamp) now a open_ (if x.local_rx_dup_acks == 2 then timer.FastRetransmit else x.timer) (third (x.local_rx_dup_acks == 2))
-      either false = turned (AtFront x) (timestamp_taken (ack_heard false z now k a.len) s.timestamp) now a open_ x.timer (fronted x waits)
+      either : (b : Bool) → TimerThen (AtFront x) a.all (timer_set (timestamp_taken (ack_heard b z now k a.len) s.timestamp) now a).timer
+      either true = timer_then (AtFront x) (timestamp_taken (ack_heard true z now k a.len) s.timestamp) now a open_ (if x.local_rx_dup_acks == 2 then timer.FastRetransmit else x.timer) (third (x.local_rx_dup_acks == 2))
+      either false = timer_then (AtFront x) (timestamp_taken (ack_heard false z now k a.len) s.timestamp) now a open_ x.timer (asks_front x waits)
 
   -- where k acknowledges what lies not far behind SND.UNA
   pub waits_on : (a.all ≡ true → is_not_after x.remote_last_seq k ≡ true) → x.local_seq_no.0 < 2 ^ 32 → k.0 < 2 ^ 32 → seq_sub k x.local_seq_no ≤ 2 ^ 30 → Waits heard_view
-  waits_on all una_small small near = by heard_turned
+  waits_on all una_small small near = by heard_timer
     where
       h : HeardAs x k a.len (s.window_len * 2 ^ scale_of x.remote_win_scale) heard_view
       h = heard_as x now a s k number bit
@@ -113,7 +113,7 @@ module _ (x : View) (now : Instant) (a : Acked) (s : Segment) (k : TcpSeqNumber)
       front (inl m) = inl (h.marked ∙ m)
       front (inr e) = inr (h.nxt ∙ ap (λ m. later_of m k) e ∙ reach ∙ sym h.una)
 
-      by : Turned (AtFront x) a.all heard_view.timer → Waits heard_view
+      by : TimerThen (AtFront x) a.all heard_view.timer → Waits heard_view
       by (Again at e) = ForAnswer at e
       by (Repeats e) = ForRepeat e
       by (Idles o e (inl f)) = ForKeepAlive o e (front f)

@@ -29,9 +29,9 @@ use Rattle.progress_laws.specs.FromOpening.{AnswersLate, LostAckComesAgain}
 use Rattle.progress_laws.proofs.Edges.{is_not_before}
 use Rattle.progress_laws.proofs.FromOpening.{goes_out, losses_keep}
 use Rattle.progress_laws.proofs.Begins.{later_moment}
-use Rattle.progress_laws.proofs.Handshakes.{done, edge, establishes, handshake, kept, may, new_pair, next, nothing_sent, peer, reached_waits, room, taker, waits}
+use Rattle.progress_laws.proofs.Handshakes.{done, edge, establishes, handshake, kept, may, new_pair, next, nothing_sent, peer, reached_waits, room, taker, takes_syn, waits}
 use Rattle.progress_laws.proofs.Hears.{HeardAs, IsData, data_is_said, heard_as}
-use Rattle.progress_laws.proofs.Opening.{answers_syn, takes_syn}
+use Rattle.progress_laws.proofs.Opening.{answers_syn}
 use Rattle.progress_laws.proofs.Repeats.{IsSent, NotSent, Repeats, SendsSyn, SynGoesOut, SynWaits, begun_so, out_of, segment, sends, sent, sent_so, u as begun}
 use Rattle.progress_laws.proofs.SynSteps.{ack_passes, opened}
 

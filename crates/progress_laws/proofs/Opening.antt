@@ -5,7 +5,6 @@ use Rattle.std.proofs.lemmas.Bool.{eq-eqb}
 use Rattle.std.proofs.lemmas.List.{length-replicate}
 use Rattle.net_base.specs.declared.time.Duration.{Duration}
 use Rattle.net_base.specs.declared.time.Instant.{Instant}
-use Rattle.ip_wire.specs.declared.endpoint.IpListenEndpoint.{IpListenEndpoint}
 use Rattle.control_wire.specs.Segment.{Segment}
 use Rattle.control_wire.specs.Seq.{seq_add, seq_of, seq_sub}
 use Rattle.control_wire.specs.declared.seq_number.TcpSeqNumber.{TcpSeqNumber}
@@ -14,13 +13,13 @@ use Rattle.sock_core.specs.Received.{Received, cleared, room_of}
 use Rattle.sock_core.specs.Seq.{is_before, is_not_after, later_of}
 use Rattle.sock_core.specs.WindowShift.{window_shift}
 use Rattle.sock_core.proofs.Shifts.{shift_at_most}
-use Rattle.sock_tcp.specs.Acked.{acked_at, acked_of, acked_places, nothing_acked, syn_place}
-use Rattle.sock_tcp.specs.Advance.{options_taken, scale_taken, shift_taken, syn_answered, syn_received}
+use Rattle.sock_tcp.specs.Acked.{acked_at, acked_of, acked_places, syn_place}
+use Rattle.sock_tcp.specs.Advance.{options_taken, scale_taken, shift_taken, syn_answered}
 use Rattle.sock_tcp.specs.Content.{Sending, plain_segment, scale_back}
 use Rattle.sock_tcp.specs.Due.{is_opening}
-use Rattle.sock_tcp.specs.Opening.{connected, listened, renewed}
+use Rattle.sock_tcp.specs.Opening.{connected, renewed}
 use Rattle.sock_tcp.specs.Polls.{delay_poll, is_reached}
-use Rattle.sock_tcp.specs.Process.{processed, stopped, tuple_of}
+use Rattle.sock_tcp.specs.Process.{processed, stopped}
 use Rattle.sock_tcp.specs.Queue.{Queue, capacity}
 use Rattle.sock_tcp.specs.Steps.{heard, scale_of, window_of}
 use Rattle.sock_tcp.specs.Timers.{idle_from, is_keep_alive_over}
@@ -35,7 +34,7 @@ use Rattle.sock_tcp.specs.declared.tuple.Tuple.{Tuple}
 use Rattle.tcp_laws.specs.Polling.{IsReached}
 use Rattle.progress_laws.specs.FromOpening.{StandNew}
 use Rattle.progress_laws.specs.InStep.{takes_bytes, told}
-use Rattle.progress_laws.specs.Opening.{Acknowledges, AnswersSyn, CanMeet, TakesSyn}
+use Rattle.progress_laws.specs.Opening.{Acknowledges, AnswersSyn, CanMeet}
 use Rattle.progress_laws.specs.Speech.{DispatchesOk}
 use Rattle.progress_laws.proofs.Begins.{dispatch_reached, numbered_as, segment_reached}
 use Rattle.progress_laws.proofs.Edges.{is_not_before, later_stays, same_seq}
@@ -44,7 +43,7 @@ use Rattle.progress_laws.proofs.NewPair.{Agree, IsNew, new_in_step, none_back, n
 use Rattle.progress_laws.proofs.Owed.{Kept, acknowledges, after, field_is, kept_then, next_is, not_yet, out_of, tells}
 use Rattle.progress_laws.proofs.Receives.{Owes, Tells}
 use Rattle.progress_laws.proofs.Repeats.{NotSent, Repeats, SendsSyn, SynGoesOut, ack_then, begun_so, delay_then, opening_listens, out_of as syn_out, segment, sends, sent as syn_sent, sent_so, u as before_syn, waits_then, window_then}
-use Rattle.progress_laws.proofs.SynSteps.{HasTakenSyn, IsNewListener, ack_passes, acked_data, answer_passes, header_dst, heard_delay, heard_idle, opened, received_so, syn_passes}
+use Rattle.progress_laws.proofs.SynSteps.{HasTakenSyn, ack_passes, acked_data, answer_passes, heard_delay, heard_idle, opened}
 use Rattle.tcp_laws.proofs.Scaled.{taken_within}
 
 pub room_cleared : (b : Received) → length (cleared b).held ≡ room_of b
@@ -479,31 +478,3 @@ module _ (t : Tuple) (f : Facts) (number word : ℕ) (a b : View) (m : CanMeet t
             room_here = omega (arith, ap (λ (q : Queue). q.window) (kept.tx ∙ h.tx), none_acked, s_fits);
             room_across = omega (arith, ap (λ (q : Queue). q.window) o.tx, aa_none, ap (λ (q : Queue). q.window) ans.same.tx, q.fits);
           }
-
--- ---- a listener takes the SYN
-
-module _ (t : Tuple) (f : Facts) (number word : ℕ) (a b : View) (m : CanMeet t f number word a b) (e : IpListenEndpoint) (now : Instant) (v : View) (r : Repeats (connected a t number) v) where
-  abbrev pub call : Sending
-  call = out t f number word a b m now v r
-
-  abbrev pub s : Tuple
-  s = tuple_of call.ip call.segment
-
-  pub there_s : f.has_address s.local.addr ≡ true
-  there_s = ap f.has_address (header_dst t.local.addr t.remote.addr _ _ _ m.versions) ∙ m.there
-
-  abbrev pub received : View
-  received = heard (syn_received (listened b e) now s word call.segment) now nothing_acked call.segment
-
-  listens : (listened b e).state ≡ state.Listen
-  unfolding listened renewed
-  listens = refl
-
-  pub comes : processed (listened b e) now word call.ip call.segment ≡ stopped received
-  comes = syn_passes (listened b e) now word call.ip call.segment listens refl refl
-
-  pub q : IsNewListener b received s word call.segment
-  q = received_so b e now s word call.segment refl
-
-  unfoldable pub takes_syn : SynGoesOut v r.waits now → TakesSyn f now word v (listened b e)
-  takes_syn d = record { syn = call; sent = sent t f number word a b m now v r; sends_syn = sends state.SynSent t f (connected a t number) (can t f number word a b m) v r now d; received = received; syn_comes = comes }
