@@ -203,14 +203,14 @@ module _ (d : Duration) (t : Tuple) (f : Facts) where
         zero_at : (at : Instant) (v w : View) (got : List ℕ) (k h : ℕ) → k ≡ 0 → Agreement d t v w k h → w.rx_buffer.bytes ≡ [] → length v.tx_buffer.bytes ≤ m → Comes d t f at v w got k h
         zero_at at v w got k h e i read few = subst (λ k. Comes d t f at v w got k h) (sym e) (from_zero m b at v w got h (agrees_at v w k h e i) read few)
 
-        turned : Round d t f at v w got n h → Comes d t f at v w got n h
-        turned (Grew o q more) = rests m b at v w got n h few o q more
-        turned (Ended e) = AllEnded e.closing e
-        turned (Opened o none q open_ why) = after_comes at v w got n h o (zero_at o.end o.sender o.receiver o.more o.taken o.heard none o.agrees o.read (omega (arith, ap (λ (l : List ℕ). length l) q, length-drop n v.tx_buffer.bytes, few)))
+        after_round : Round d t f at v w got n h → Comes d t f at v w got n h
+        after_round (Grew o q more) = rests m b at v w got n h few o q more
+        after_round (Ended e) = AllEnded e.closing e
+        after_round (Opened o none q open_ why) = after_comes at v w got n h o (zero_at o.end o.sender o.receiver o.more o.taken o.heard none o.agrees o.read (omega (arith, ap (λ (l : List ℕ). length l) q, length-drop n v.tx_buffer.bytes, few)))
 
         by : (n ≡ 0) ⊎ (0 < n) → Comes d t f at v w got n h
         by (inl z) = zero_at at v w got n h z i read (omega (arith, few, z))
-        by (inr some) = turned (turn at v w got n h i read (inl (omega (arith, some, i.taken_within))))
+        by (inr some) = after_round (turn at v w got n h i read (inl (omega (arith, some, i.taken_within))))
 
     brings : (m : ℕ) → Brings m
     brings zero = from_any zero tt

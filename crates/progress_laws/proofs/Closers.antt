@@ -103,8 +103,8 @@ module _ (d e : Duration) (t s : Tuple) (f : Facts) (at : Instant) (v w : View) 
     next_is : next_ack x ≡ y.local_seq_no
     next_is = q.own ∙ sym c.una ∙ sym q.rest.una
 
-    turned : Agreement e s y x 0 0
-    turned = record {
+    swapped : Agreement e s y x 0 0
+    swapped = record {
       speaker = speaker;
       taker = record { reached = q.reached; state = ap receives q.state; room = some_room };
       taken_within = omega arith;
@@ -151,14 +151,14 @@ module _ (d e : Duration) (t s : Tuple) (f : Facts) (at : Instant) (v w : View) 
       end = p.end;
       last_here = p.receiver;
       last_across = p.sender;
-      other = subst (λ g. EitherWays f q.end x y g back1 p.end p.receiver p.sender g (back1 ++ drop h w.tx_buffer.bytes)) whole_got (subst (λ l. EitherWays f q.end x y got2 back1 p.end p.receiver p.sender got2 l) rest_back (joined q.end q.end p.end x y x1 y p.receiver p.sender got2 back1 got2 back2 got2 (back2 ++ drop 0 y.tx_buffer.bytes) (to_this q.end q.end x y x1 y got2 back1 back2 (reads e s f q.end y x back1 0 0 mtu there turned)) (to_this q.end p.end x1 y p.receiver p.sender got2 back2 (back2 ++ drop 0 y.tx_buffer.bytes) p.exchanges)));
+      other = subst (λ g. EitherWays f q.end x y g back1 p.end p.receiver p.sender g (back1 ++ drop h w.tx_buffer.bytes)) whole_got (subst (λ l. EitherWays f q.end x y got2 back1 p.end p.receiver p.sender got2 l) rest_back (joined q.end q.end p.end x y x1 y p.receiver p.sender got2 back1 got2 back2 got2 (back2 ++ drop 0 y.tx_buffer.bytes) (to_this q.end q.end x y x1 y got2 back1 back2 (reads e s f q.end y x back1 0 0 mtu there swapped)) (to_this q.end p.end x1 y p.receiver p.sender got2 back2 (back2 ++ drop 0 y.tx_buffer.bytes) p.exchanges)));
       finished_here = p.finished;
     }
 
   first : Comes d t f at v1 w1 got1 n h → BothEnd f at v w got back n h
   unfolding read_off
   first (AllSent o sent may) = absurd (not_both v.state may closing)
-  first (AllEnded closes c) = second c (comes e s f (q c).end (q c).receiver (q c).sender back1 0 0 mtu there (turned c))
+  first (AllEnded closes c) = second c (comes e s f (q c).end (q c).receiver (q c).sender back1 0 0 mtu there (swapped c))
 
 pub agreeing_closers_finish : AgreeingClosersFinish
 agreeing_closers_finish d e t s f at v w got back n h mtu here there closing closing_there i = first d e t s f at v w got back n h mtu here there closing closing_there i (comes d t f at (v' v) w got n h mtu here (over1 d e t s f at v w got back n h mtu here there i))

@@ -203,8 +203,8 @@ module _ (d e : Duration) (t s : Tuple) (f : Facts) (at : Instant) (v w : View) 
     unfolding read_off
     some_room = omega (arith, ap room_of o.nothing_taken, room_handed_out v.rx_buffer (length v.rx_buffer.bytes) (omega arith), i.here.room)
 
-    turned : Agreement e s y x o.heard 0
-    turned = record {
+    swapped : Agreement e s y x o.heard 0
+    swapped = record {
       speaker = speaks.0;
       taker = record { reached = o.agrees.speaker.reached; state = ap receives same_state ∙ i.here.state; room = some_room };
       taken_within = speaks.1;
@@ -238,7 +238,7 @@ module _ (d e : Duration) (t s : Tuple) (f : Facts) (at : Instant) (v w : View) 
         joined at at o.end v w v1 w x1 y got back got back1 o.more back2 this_read
         (joined at at o.end v1 w v1 w1 x1 y got back1 got1 back1 o.more back2 (to_that at at v1 w v1 w1 got got1 back1 (reads d t f at v1 w got n h mtu here over1))
         (joined at o.end o.end v1 w1 x y x1 y got1 back1 o.more back1 o.more back2 (to_that at o.end v1 w1 x y got1 o.more back1 o.exchanges)
-        (to_this o.end o.end x y x1 y o.more back1 back2 (reads e s f o.end y x back1 o.heard 0 mtu there turned))))
+        (to_this o.end o.end x y x1 y o.more back1 back2 (reads e s f o.end y x back1 o.heard 0 mtu there swapped))))
 
     whole : (end : Instant) (a b : View) (last : List ℕ) → Exchanges f o.end y x1 back2 end b a last → last ≡ back2 ++ drop o.heard y.tx_buffer.bytes → EitherWays f at v w got back end a b (got ++ (w.rx_buffer.bytes ++ drop n v.tx_buffer.bytes)) (back ++ (v.rx_buffer.bytes ++ drop h w.tx_buffer.bytes))
     whole end a b last x2 is = subst (λ g. EitherWays f at v w got back end a b g (back ++ (v.rx_buffer.bytes ++ drop h w.tx_buffer.bytes))) all (subst (λ l. EitherWays f at v w got back end a b o.more l) (is ∙ all_back) (joined at o.end end v w x1 y a b got back o.more back2 o.more last before (to_this o.end end x1 y a b o.more back2 last x2)))
@@ -265,7 +265,7 @@ module _ (d e : Duration) (t s : Tuple) (f : Facts) (at : Instant) (v w : View) 
   first : may_send v.state ≡ true → Comes d t f at v1 w1 got1 n h → StreamsArrive f at v w got back n h
   unfolding read_off
   first may (AllEnded c p) = absurd (not_both v.state may c)
-  first may (AllSent o sent m) = second may o sent (comes e s f o.end o.receiver o.sender back1 o.heard 0 mtu there (turned may o sent))
+  first may (AllSent o sent m) = second may o sent (comes e s f o.end o.receiver o.sender back1 o.heard 0 mtu there (swapped may o sent))
 
 pub agreeing_streams_arrive : AgreeingStreamsArrive
 agreeing_streams_arrive d e t s f at v w got back n h mtu here there may i = first d e t s f at v w got back n h mtu here there i may (comes d t f at (v' v) w got n h mtu here (over1 d e t s f at v w got back n h mtu here there i))

@@ -5,8 +5,8 @@
 //! which one sends to the other, and what they can do in turn; `BothWays.antt`, two that both have bytes to send, and
 //! `ShutWindows.antt`, the same where a window of 0 is known; `AfterClose.antt`, a sender that was closed;
 //! `Agreement.antt`, any two that agree on their numbers, whatever waits; `Pairs.antt`, the two of a pair, whatever
-//! happened to it; `Opening.antt`, two sockets that were opened toward each other, and `FromOpening.antt`, these to the end
-//! of both streams, whatever SYNs were lost.
+//! happened to it; `Opening.antt`, two sockets that were opened toward each other, and `FromOpening.antt`, these to the
+//! end of both streams, whatever SYNs were lost.
 #![tactic(auto)]
 
 ghost use Rattle.std.specs.Prelude.{◌≡◌};
