@@ -173,8 +173,8 @@ pub fn lost_syns_come_again()
 {}
 
 /// The same where both connect, each with its own number, whatever SYNs of both were lost: at some moment a SYN of the
-/// one goes out again, and is lost; then a SYN of the other reaches it, and it answers in SYN-RECEIVED (RFC 9293, figure
-/// 7, where one of the two SYNs is lost).
+/// one goes out again, and is lost; then a SYN of the other reaches it, and it answers in SYN-RECEIVED (RFC 9293,
+/// section 3.5, where both sides open at once and one of the two SYNs is lost).
 pub fn crossed_syns_come_again()
     ensures { CrossedSynsComeAgain }
 {}
