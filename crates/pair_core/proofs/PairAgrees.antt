@@ -83,7 +83,7 @@ module _ (x y : Endpoint) (o : ℕ) (f : Stream) (s : StreamInvariant x y o f) (
       let all : f.released + n ≡ length f.joined = omega (arith, s.sound.released) in
       let at : counted f + 2 ≡ m.place + (n + fin_length f.fin_counted) = omega (arith, two, s.sound.released) in
       let rest : drop n x.view.transmit_queue ≡ front.0 =
-          ap (drop n) m.queue ∙ drop-drop n f.released f.accepted ∙ (λ i. drop (all i) (sym front.1 i)) ∙ drop-append_seam f.joined front.0 in
+      ap (drop n) m.queue ∙ drop-drop n f.released f.accepted ∙ (λ i. drop (all i) (sym front.1 i)) ∙ drop-append_seam f.joined front.0 in
       record {
         count = n;
         within = omega (arith, room, joined_le);
@@ -212,8 +212,10 @@ module _ {G : Type 0} (h o : HostView G) (i : IsHost h) (j : IsHost o) (oh oo : 
 
       iss_h : HasIss (endpoint_of h).view.phase
       iss_h = synced_iss (endpoint_of h).view.phase synced_h
+
       knows_o : KnowsPeer (endpoint_of o).view.phase
       knows_o = synced_knows (endpoint_of o).view.phase synced_o
+
       says : (p : Phase) → phase_of v.state ≡ p → PhaseAllows p f (s.sending iss_h).place
       says p e = subst (λ q. PhaseAllows q f (s.sending iss_h).place) (ap (λ (x : SocketView). x.phase) seen_h ∙ e) (s.sending iss_h).phase
 
