@@ -19,8 +19,8 @@ use sock_pair::{Event, Outcome, Segment, Side};
 use sock_tcp::State;
 use std::alloc::Global;
 use std::fmt::Display;
-use std::io;
 use std::io::Write;
+use std::{fmt, io};
 
 /// A chart on its way to a writer.
 #[derive(Drop)]
@@ -41,6 +41,16 @@ struct Chart<'w, 's, W> {
     marker: Marker,
     // The moment of the last step that had one.
     millis: Option<u64>,
+}
+
+// How many steps in a row were the same.
+#[derive(Clone, Copy)]
+struct Times(usize);
+
+impl Display for Times {
+    fn fmt<W: fmt::Write>(&self, f: &mut fmt::Formatter<W>) -> fmt::Result {
+        write!(f, "{} times", self.0)
+    }
 }
 
 // How a segment set out.
@@ -191,9 +201,7 @@ impl<W: Write> Chart<'_, '_, W> {
             self.number(TIME, y, millis)?;
         }
         match last.event {
-            Event::Dispatch { side, .. } => {
-                self.beside(*side, "quiet", format_args!("{count} times"))
-            }
+            Event::Dispatch { side, .. } => { self.beside(*side, "quiet", Times(count)) }
             _ => Ok(()),
         }
     }

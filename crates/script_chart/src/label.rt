@@ -123,7 +123,8 @@ fn write_syn_options<W: fmt::Write>(f: &mut fmt::Formatter<W>, segment: &Segment
 impl Headers<'_> {
     // The ranges of the other side's numbers that came out of order: the first number, and that behind the last.
     fn write_sack<W: fmt::Write>(&self, f: &mut fmt::Formatter<W>) -> fmt::Result {
-        let [first, second, third] = self.segment.header.repr.sack_ranges;
+        let segment = self.segment;
+        let [first, second, third] = segment.header.repr.sack_ranges;
         if first.is_some() || second.is_some() || third.is_some() {
             f.write_str(" sack")?;
         }
