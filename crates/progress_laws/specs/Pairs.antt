@@ -28,8 +28,8 @@ pub record MaySpeak {G : Type 0} (d : Duration) (h : HostView G) : Type 0 where
   pub keep_alive : h.control_block.keep_alive ≡ Some d
   pub waits : Waits h.control_block
 
--- The side o is in ESTABLISHED, FIN-WAIT-1 or FIN-WAIT-2, with a receive buffer of at least a byte. Its types say that no
--- FIN is counted in these states
+-- The side o is in ESTABLISHED, FIN-WAIT-1 or FIN-WAIT-2, with a receive buffer of at least a byte. Its types say that
+-- no FIN is counted in these states
 pub record MayTake {G : Type 0} (o : HostView G) : Type 0 where
   pub receives : receives o.control_block.state ≡ true
   pub types : IsSocket o.control_block
@@ -52,8 +52,8 @@ pub record BothCanComeOver {G : Type 0} (d e : Duration) (h o : HostView G) : Ty
 
 -- ---- what comes over
 
--- Some list of dispatches, deliveries and reads, at moments that do not go back, hands out of o all that h ever accepted
--- (o handed out the beginning of it before); and where h was closed, a read answers `Finished` then
+-- Some list of dispatches, deliveries and reads, at moments that do not go back, hands out of o all that h ever
+-- accepted (o handed out the beginning of it before); and where h was closed, a read answers `Finished` then
 pub record ComesOver {G : Type 0} (f : Facts) (at : Instant) (h o : HostView G) : Type 0 where
   pub end : Instant
   pub sender : View
