@@ -1,0 +1,120 @@
+//! The jobs that users of the sockets wait for, on inputs made from a seed: what `bench/run` takes the time of.
+//!
+//! `sock_bench JOB SEED SHARE` prints a digest of all that the job's calls answered, and no times.
+#![tactic(auto)]
+
+mod clock;
+mod conversation;
+mod datagrams;
+mod digest;
+mod plan;
+mod random;
+mod station;
+mod talks;
+mod transfer;
+mod wire;
+
+use crate::datagrams::datagrams;
+use crate::digest::Digest;
+use crate::plan::{clean_transfers, lossy_transfers};
+use crate::random::Random;
+use crate::talks::talks;
+use std::alloc::{AllocError, Global};
+use std::env;
+use std::process::ExitCode;
+
+// How many bytes the applications take what they send from.
+const SOURCE: usize = 1 << 17;
+
+const USAGE: &str = "\
+usage: sock_bench JOB SEED SHARE
+
+Runs a job on inputs made from SEED and prints a digest of what came of it.
+
+JOB    bytes, lossy, conversations, datagrams, or all
+SEED   0 to 4294967295
+SHARE  how much of the job is done, in thousandths: 1 to 1000
+";
+
+fn main(rt: HostRuntime) -> ExitCode {
+    let Some(task) = task_of(&rt) else {
+        let _ = rt.eprint(USAGE);
+        return ExitCode::FAILURE;
+    };
+    match run(&rt, &task) {
+        Ok(()) => ExitCode::SUCCESS,
+        Err(_) => ExitCode::FAILURE,
+    }
+}
+
+// What the arguments ask for.
+#[derive(Drop)]
+struct Task {
+    job: String,
+    seed: u32,
+    share: u32,
+}
+
+fn task_of(rt: &HostRuntime) -> Option<Task> {
+    let mut args = env::args(rt).ok()?;
+    let _program = args.next();
+    let job = args.next()?;
+    let seed = args.next()?.as_str().parse::<u32>().ok()?;
+    let share = args.next()?.as_str().parse::<u32>().ok()?;
+    if share > 1000 || args.next().is_some() {
+        return None;
+    }
+    Some(Task { job, seed, share })
+}
+
+fn run(rt: &HostRuntime, task: &Task) -> Result<(), AllocError> {
+    let mut random = Random::new(task.seed);
+    let source = source(rt.alloc(), &mut random)?;
+    for job in ["bytes", "lossy", "conversations", "datagrams"] {
+        if task.job.as_str() == job || task.job.as_str() == "all" {
+            let mut digest = Digest::new();
+            run_job(
+                rt.alloc(),
+                job,
+                task.share,
+                source.as_slice(),
+                &mut random,
+                &mut digest,
+            )?;
+            let _ = rt.println(format_args!(
+                "{job} {:016x} of {} bytes",
+                digest.value(),
+                digest.bytes
+            ));
+        }
+    }
+    Ok(())
+}
+
+fn run_job(
+    alloc: Global,
+    job: &str,
+    share: u32,
+    source: &[u8],
+    random: &mut Random,
+    digest: &mut Digest,
+) -> Result<(), AllocError> {
+    if job == "bytes" {
+        clean_transfers(alloc, share, source, random, digest)
+    } else if job == "lossy" {
+        lossy_transfers(alloc, share, source, random, digest)
+    } else if job == "conversations" {
+        talks(alloc, share, source, random, digest)
+    } else {
+        datagrams(alloc, share, source, random, digest)
+    }
+}
+
+// Bytes that no two places of which begin alike.
+fn source(alloc: Global, random: &mut Random) -> Result<Vec<u8>, AllocError> {
+    let mut bytes = vec![in alloc; 0u8; SOURCE]?;
+    for byte in bytes.iter_mut() {
+        *byte = random.below(256) as u8;
+    }
+    Ok(bytes)
+}

@@ -1,0 +1,210 @@
+//! Many short conversations between two hosts: small requests and answers of up to some thousand bytes, each over a
+//! connection of its own, beside sockets that sleep, with a few hostile packets.
+ghost use Rattle.std.specs.Prelude.{◌≤◌, ◌^◌, length};
+
+use crate::conversation::{Role, SERVICE, Slot};
+use crate::digest::Digest;
+use crate::random::Random;
+use crate::station::Station;
+use crate::wire::{Faults, Wire};
+use smoltcp_socket::Context;
+use smoltcp_socket::storage::RingBuffer;
+use smoltcp_socket::tcp::Socket;
+use smoltcp_socket::wire::{IpAddress, IpEndpoint, IpListenEndpoint, Ipv4Address};
+use std::alloc::{AllocError, Global};
+
+const CLIENT: Ipv4Address = Ipv4Address([10, 0, 0, 1]);
+
+const SERVER: Ipv4Address = Ipv4Address([10, 0, 0, 2]);
+
+// The size of each buffer.
+const BUFFER: usize = 4096;
+
+// How many bytes an application reads at once.
+const PIECE: usize = 2048;
+
+// The hosts end after so many moments, whatever is left to do.
+const MOMENTS: u32 = 1_000_000;
+
+const FAULTS: Faults = Faults {
+    lost: 5,
+    late: 10,
+    twice: 5,
+    flipped: 5,
+};
+
+// How many sockets each host has, how many of them sleep, and how many conversations they have.
+const SIZES: [[usize; 3]; 2] = [[32, 4, 60_000], [256, 200, 12_000]];
+
+// What is still to do.
+#[derive(Debug, Drop)]
+struct Work {
+    left: usize,
+    port: u16,
+}
+
+/// Runs the conversations of hosts of several sizes.
+pub fn talks(
+    alloc: Global,
+    share: u32,
+    source: &[u8],
+    random: &mut Random,
+    digest: &mut Digest,
+) -> Result<(), AllocError> {
+    for size in SIZES {
+        let [sockets, sleepers, conversations] = size;
+        let left = conversations.min(1_000_000) * share.min(1000) as usize / 1000;
+        let sockets = sockets.min(1000);
+        let mut bytes = vec![in alloc; 0u8; sockets * 4 * BUFFER]?;
+        let mut client = Station::new(alloc, CLIENT, random.word());
+        let mut server = Station::new(alloc, SERVER, random.word());
+        fill(bytes.as_mut_slice(), sleepers, &mut client, &mut server)?;
+        let work = Work { left, port: 20_000 };
+        run(
+            alloc,
+            work,
+            (&mut client, &mut server),
+            source,
+            random,
+            digest,
+        )?;
+        client.add_to(digest);
+        server.add_to(digest);
+    }
+    Ok(())
+}
+
+// Makes the sockets of both hosts.
+fn fill<'a>(
+    bytes: &'a mut [u8],
+    sleepers: usize,
+    client: &mut Station<'a>,
+    server: &mut Station<'a>,
+) -> Result<(), AllocError> {
+    let mut made: usize = 0;
+    let mut buffers = bytes.chunks_exact_mut(BUFFER);
+    for _ in 0..1000 {
+        let (Some(rx), Some(tx)) = (buffers.next(), buffers.next()) else {
+            break;
+        };
+        let role = if made < sleepers {
+            Role::Sleeper
+        } else {
+            Role::Client
+        };
+        add(client, rx, tx, role)?;
+        let (Some(rx), Some(tx)) = (buffers.next(), buffers.next()) else {
+            break;
+        };
+        add(server, rx, tx, Role::Server)?;
+        made = made.saturating_add(1);
+    }
+    Ok(())
+}
+
+fn add<'a>(
+    station: &mut Station<'a>,
+    rx: &'a mut [u8],
+    tx: &'a mut [u8],
+    role: Role,
+) -> Result<(), AllocError> {
+    // a socket wants to know that its buffers are no longer
+    if rx.len() > BUFFER || tx.len() > BUFFER {
+        return Ok(());
+    }
+    let socket = Socket::closed(RingBuffer::new(rx), RingBuffer::new(tx), None);
+    station.slots.push(Slot::new(socket, role))?;
+    Ok(())
+}
+
+// Moment after moment, until all conversations were had.
+fn run(
+    alloc: Global,
+    mut work: Work,
+    hosts: (&mut Station<'_>, &mut Station<'_>),
+    source: &[u8],
+    random: &mut Random,
+    digest: &mut Digest,
+) -> Result<(), AllocError> {
+    let (client, server) = hosts;
+    let mut there = Wire::new(alloc, FAULTS);
+    let mut back = Wire::new(alloc, FAULTS);
+    let mut scratch = vec![in alloc; 0u8; PIECE]?;
+    wake_sleepers(client, &mut work);
+    for now in 0..MOMENTS {
+        client.host.set_millis(now);
+        server.host.set_millis(now);
+        server.listen();
+        let busy = begin(client, &mut work, random, digest);
+        if !busy {
+            break;
+        }
+        client.serve(scratch.as_mut_slice(), source, random, digest)?;
+        client.pass(server, &mut there, random)?;
+        server.serve(scratch.as_mut_slice(), source, random, digest)?;
+        server.pass(client, &mut back, random)?;
+    }
+    Ok(())
+}
+
+// Begins a conversation on each socket that has none; whether there are still conversations.
+fn begin(
+    client: &mut Station<'_>,
+    work: &mut Work,
+    random: &mut Random,
+    digest: &mut Digest,
+) -> bool {
+    let mut busy = work.left > 0;
+    for slot in &mut client.slots {
+        if !slot.is_idle() {
+            busy = busy || slot.role == Role::Client;
+            continue;
+        }
+        slot.add_to(digest);
+        if work.left == 0 {
+            continue;
+        }
+        work.left -= 1;
+        let answer = answer_len(random);
+        slot.begin(20 + random.below(480) as usize, answer);
+        connect(slot, &mut client.host, work, random.happens(20));
+    }
+    busy
+}
+
+// 100 to 600 bytes, and of some 600 to 8,000.
+fn answer_len(random: &mut Random) -> usize {
+    let small = 100 + random.below(500) as usize;
+    if random.happens(300) {
+        600 + random.below(7400) as usize
+    } else {
+        small
+    }
+}
+
+// The sockets that sleep are connected at the beginning.
+fn wake_sleepers(client: &mut Station<'_>, work: &mut Work) {
+    for slot in &mut client.slots {
+        if slot.role == Role::Sleeper {
+            connect(slot, &mut client.host, work, false);
+        }
+    }
+}
+
+// Connects from the next port to the service, or to a port where nobody is.
+fn connect<C: Context>(slot: &mut Slot<'_>, host: &mut C, work: &mut Work, wrong: bool) {
+    work.port = if work.port > 60_000 {
+        20_000
+    } else {
+        work.port + 1
+    };
+    let remote = IpEndpoint {
+        addr: IpAddress::Ipv4(SERVER),
+        port: if wrong { SERVICE + 1 } else { SERVICE },
+    };
+    let local = IpListenEndpoint {
+        addr: None,
+        port: work.port,
+    };
+    let _ = slot.socket.connect(host, remote, local);
+}
