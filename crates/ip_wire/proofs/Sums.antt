@@ -8,7 +8,7 @@ use Rattle.ip_wire.specs.Address.{octets_of}
 use Rattle.ip_wire.specs.Octets.{IsOctets, be16, be16_at, be32, be32_at}
 use Rattle.ip_wire.specs.Packet.{ipv4_with}
 use Rattle.ip_wire.specs.Protocol.{number_of}
-use Rattle.ip_wire.specs.Sum.{IsEven, all_ones, complement, four_at, le16_at, le32_at, ones_add, pseudo_sum, sum_after, swapped_word, word_of}
+use Rattle.ip_wire.specs.Sum.{IsEven, all_ones, complement, le16_at, le32_at, le64_at, ones_add, pseudo_sum, sum_after, swapped_word, word_of}
 use Rattle.ip_wire.specs.declared.address.IpAddress.{IpAddress}
 use Rattle.ip_wire.specs.declared.repr.Ipv4Repr.{Ipv4Repr}
 
@@ -116,6 +116,12 @@ halves_swapped s n =
     let e : s + 256 * n ≡ s + 256 * (n % 4294967296 + n / 4294967296) + 65535 * (16777472 * (n / 4294967296)) = omega arith in
     grind (arith, nat_tests)
 
+-- 2^32 comes to 1
+carry_swapped : (s n k : ℕ) → swapped_word s (n + k) ≡ swapped_word s (n + 4294967296 * k)
+carry_swapped s n k =
+    let e : s + 256 * (n + 4294967296 * k) ≡ s + 256 * (n + k) + 65535 * (16777472 * k) = omega arith in
+    grind (arith, nat_tests)
+
 -- two octets more to a wide sum
 two_more : (s n : ℕ) (xs : List ℕ) (i j : ℕ) → ((k : ℕ) → k < length xs → get_or xs k 0 < 256) → i + 1 < length xs
     → j ≡ i + 2 → sum_after (swapped_word s n) (drop i xs) ≡ sum_after (swapped_word s (n + le16_at xs i)) (drop j xs)
@@ -145,40 +151,52 @@ number_more s n xs i j h k e =
     ∙ ap (λ v. sum_after v (drop j xs))
     (ap word_of apart ∙ word_of_carries (s + 256 * (n + low)) (256 * high) ∙ ap word_of number)
 
--- four such numbers more
-four_more : (s n : ℕ) (xs : List ℕ) (i j : ℕ) → ((k : ℕ) → k < length xs → get_or xs k 0 < 256) → i + 16 ≤ length xs
-    → j ≡ i + 16 → sum_after (swapped_word s n) (drop i xs) ≡ sum_after (swapped_word s (n + four_at xs i)) (drop j xs)
-four_more s n xs i j h k e =
-    let a = le32_at xs i in
-    let b = le32_at xs (i + 4) in
-    let c = le32_at xs (i + 8) in
-    let d = le32_at xs (i + 12) in
-    let all : n + a + b + c + d ≡ n + (a + b + c + d) = omega arith in
+-- the quarters of a wide sum added up
+pub quarters_swapped : (s n : ℕ) → swapped_word s (n % 18446744073709551616 % 4294967296 + n % 18446744073709551616 / 4294967296
+    + (n / 18446744073709551616 % 4294967296 + n / 18446744073709551616 / 4294967296)) ≡ swapped_word s n
+quarters_swapped s n =
+    let low = n % 18446744073709551616 in
+    let high = n / 18446744073709551616 in
+    let b = low / 4294967296 in
+    let c = high % 4294967296 in
+    let d = high / 4294967296 in
+    let q = low % 4294967296 + b + (c + d) in
+    let e : s + 256 * n ≡ s + 256 * q
+    + 65535 * (16777472 * b + 72058693566333184 * c + 309489732259886631936327936 * d) = omega arith in
+    grind (arith, nat_tests)
+
+-- eight octets more, as one number
+eight_more : (s n : ℕ) (xs : List ℕ) (i j : ℕ) → ((k : ℕ) → k < length xs → get_or xs k 0 < 256) → i + 8 ≤ length xs
+    → j ≡ i + 8 → sum_after (swapped_word s n) (drop i xs) ≡ sum_after (swapped_word s (n + le64_at xs i)) (drop j xs)
+eight_more s n xs i j h k e =
+    let low = le32_at xs i in
+    let high = le32_at xs (i + 4) in
+    let regrouped : n + low + 4294967296 * high ≡ n + (low + 4294967296 * high) = omega arith in
     number_more s n xs i (i + 4) h (omega arith) refl
-    ∙ number_more s (n + a) xs (i + 4) (i + 8) h (omega arith) (omega arith)
-    ∙ number_more s (n + a + b) xs (i + 8) (i + 12) h (omega arith) (omega arith)
-    ∙ number_more s (n + a + b + c) xs (i + 12) j h (omega arith) (omega arith)
-    ∙ ap (λ v. sum_after (swapped_word s v) (drop j xs)) all
+    ∙ number_more s (n + low) xs (i + 4) j h (omega arith) (omega arith)
+    ∙ ap (λ v. sum_after v (drop j xs)) (carry_swapped s (n + low) high)
+    ∙ ap (λ v. sum_after (swapped_word s v) (drop j xs)) regrouped
+
+pub eight_octets_more : (s n : ℕ) (xs : List ℕ) (i : ℕ) → ((k : ℕ) → k < length xs → get_or xs k 0 < 256) → i + 8 ≤ length xs
+    → sum_after (swapped_word s (n + le64_at xs i)) (drop (i + 8) xs) ≡ sum_after (swapped_word s n) (drop i xs)
+eight_octets_more s n xs i h k = sym (eight_more s n xs i (i + 8) h k refl)
+
+pub thirty_two_more : (s n : ℕ) (xs : List ℕ) (i : ℕ) → ((k : ℕ) → k < length xs → get_or xs k 0 < 256)
+    → i + 32 ≤ length xs
+    → sum_after (swapped_word s (n + le64_at xs i + le64_at xs (i + 8) + le64_at xs (i + 16) + le64_at xs (i + 24)))
+    (drop (i + 32) xs) ≡ sum_after (swapped_word s n) (drop i xs)
+thirty_two_more s n xs i h k =
+    let a = le64_at xs i in
+    let b = le64_at xs (i + 8) in
+    let c = le64_at xs (i + 16) in
+    sym (eight_more s n xs i (i + 8) h (omega arith) refl
+    ∙ eight_more s (n + a) xs (i + 8) (i + 16) h (omega arith) (omega arith)
+    ∙ eight_more s (n + a + b) xs (i + 16) (i + 24) h (omega arith) (omega arith)
+    ∙ eight_more s (n + a + b + c) xs (i + 24) (i + 32) h (omega arith) (omega arith))
 
 pub four_octets_more : (s n : ℕ) (xs : List ℕ) (i : ℕ) → ((k : ℕ) → k < length xs → get_or xs k 0 < 256) → i + 4 ≤ length xs
     → sum_after (swapped_word s (n + le32_at xs i)) (drop (i + 4) xs) ≡ sum_after (swapped_word s n) (drop i xs)
 four_octets_more s n xs i h k = sym (number_more s n xs i (i + 4) h k refl)
-
-pub sixty_four_more : (s n : ℕ) (xs : List ℕ) (i : ℕ) → ((k : ℕ) → k < length xs → get_or xs k 0 < 256)
-    → i + 64 ≤ length xs
-    → sum_after (swapped_word s (n + (four_at xs i + four_at xs (i + 16)) + (four_at xs (i + 32) + four_at xs (i + 48))))
-    (drop (i + 64) xs) ≡ sum_after (swapped_word s n) (drop i xs)
-sixty_four_more s n xs i h k =
-    let a = four_at xs i in
-    let b = four_at xs (i + 16) in
-    let c = four_at xs (i + 32) in
-    let d = four_at xs (i + 48) in
-    let all : n + a + b + c + d ≡ n + (a + b) + (c + d) = omega arith in
-    sym (four_more s n xs i (i + 16) h (omega arith) refl
-    ∙ four_more s (n + a) xs (i + 16) (i + 32) h (omega arith) (omega arith)
-    ∙ four_more s (n + a + b) xs (i + 32) (i + 48) h (omega arith) (omega arith)
-    ∙ four_more s (n + a + b + c) xs (i + 48) (i + 64) h (omega arith) (omega arith)
-    ∙ ap (λ v. sum_after (swapped_word s v) (drop (i + 64) xs)) all)
 
 -- four octets more to a word, as one number in network order
 number_after : (n : ℕ) (xs : List ℕ) (i j : ℕ) → ((k : ℕ) → k < length xs → get_or xs k 0 < 256) → i + 4 ≤ length xs

@@ -28,9 +28,9 @@ le16_at octets i = slice_index octets i + 256 * slice_index octets (i + 1)
 abbrev pub le32_at : List ℕ → ℕ → ℕ
 le32_at octets i = le16_at octets i + 65536 * le16_at octets (i + 2)
 
--- the sum of the four numbers of four octets each from an offset on
-abbrev pub four_at : List ℕ → ℕ → ℕ
-four_at octets i = le32_at octets i + le32_at octets (i + 4) + le32_at octets (i + 8) + le32_at octets (i + 12)
+-- the number of the eight octets at offset i, the lowest first
+abbrev pub le64_at : List ℕ → ℕ → ℕ
+le64_at octets i = le32_at octets i + 4294967296 * le32_at octets (i + 4)
 
 -- a start and a wide sum of numbers with the lowest octet first, as a word: 256 times as much has the octets of each
 -- word swapped, since 65536 comes to 1

@@ -2,7 +2,7 @@
 ghost use Rattle.std.specs.Prelude.{◌≡◌, ◌+◌, ◌*◌, ℕ, List, ◌∷◌, ◌++◌, ◌<◌, ◌≤◌, ◌^◌, drop, length};
 ghost use Rattle.ip_wire.specs.Octets.{IsOctets, be16};
 ghost use Rattle.ip_wire.specs.Address.{octets_of};
-ghost use Rattle.ip_wire.specs.Sum.{IsEven, all_ones, complement, four_at, le16_at, le32_at, ones_add, pseudo_sum};
+ghost use Rattle.ip_wire.specs.Sum.{IsEven, all_ones, complement, le16_at, le32_at, le64_at, ones_add, pseudo_sum};
 ghost use Rattle.ip_wire.specs.Sum.{sum_after, swapped_word, word_of};
 
 use crate::address::{IpAddress, Ipv4Address};
@@ -28,29 +28,73 @@ pub fn sum_after(start: u16, bytes: &[u8]) -> u16
 {
     let mut total = 0;
     let mut at = 0;
-    while bytes.len() - at >= 64 {
-        total = add_sixty_four(total, bytes, at);
-        at += 64;
+    while bytes.len() - at >= 32 {
+        total = add_thirty_two(total, bytes, at);
+        at += 32;
     }
-    while bytes.len() - at >= 4 {
-        total = add_four(total, bytes, at);
-        at += 4;
+    while bytes.len() - at >= 8 {
+        total = add_eight(total, bytes, at);
+        at += 8;
     }
-    sum_of_rest(swapped_word(start, total), bytes, at)
+    sum_of_few(start, narrowed(total), bytes, at)
 }
 
-// Adds the 64 bytes from `at` on to a wide sum, as numbers of four bytes with the lowest first, which x86-64 loads
-// without a swap: the sum's two bytes are then swapped too (RFC 1071, section 2 (B)).
-fn add_sixty_four(total: usize, bytes: &[u8], at: usize) -> usize
-    requires small { total < 2 ^ 60 }
-    requires room { at + 64 ≤ length bytes.now }
-    ensures value { (start : ℕ) → sum_after (swapped_word start result) (drop (at + 64) bytes.now)
+// Adds the 32 bytes from `at` on to a wide sum, as numbers of eight bytes with the lowest first, which x86-64 loads
+// without a swap: the sum's two bytes are then swapped too (RFC 1071, section 2 (B)). An addition of eight bytes and one
+// of its carry take the place of two additions of four.
+fn add_thirty_two(total: u128, bytes: &[u8], at: usize) -> u128
+    requires small { total < 2 ^ 64 * at + 1 }
+    requires room { at + 32 ≤ length bytes.now }
+    ensures value { (start : ℕ) → sum_after (swapped_word start result) (drop (at + 32) bytes.now)
         ≡ sum_after (swapped_word start total) (drop at bytes.now) }
-    ensures small { result < 2 ^ 60 }
+    ensures small { result < 2 ^ 64 * (at + 32) + 1 }
 {
-    let first = four_at(bytes, at) + four_at(bytes, at + 16);
-    let second = four_at(bytes, at + 32) + four_at(bytes, at + 48);
-    kept_small(total + first + second)
+    let first = total + le64_at(bytes, at) + le64_at(bytes, at + 8);
+    first + le64_at(bytes, at + 16) + le64_at(bytes, at + 24)
+}
+
+fn add_eight(total: u128, bytes: &[u8], at: usize) -> u128
+    requires small { total < 2 ^ 64 * at + 1 }
+    requires room { at + 8 ≤ length bytes.now }
+    ensures value { (start : ℕ) → sum_after (swapped_word start result) (drop (at + 8) bytes.now)
+        ≡ sum_after (swapped_word start total) (drop at bytes.now) }
+    ensures small { result < 2 ^ 64 * (at + 8) + 1 }
+{
+    total + le64_at(bytes, at)
+}
+
+// The number of the eight bytes at `at`, the lowest first.
+fn le64_at(bytes: &[u8], at: usize) -> u128
+    requires { at + 8 ≤ length bytes.now }
+    ensures value { result ≡ le64_at bytes.now at }
+    ensures small { result < 2 ^ 64 }
+{
+    (le32_at(bytes, at) + 0x1_0000_0000 * le32_at(bytes, at + 4)) as u128
+}
+
+// A wide sum with its four quarters added up: it comes to the same.
+fn narrowed(total: u128) -> usize
+    ensures value { (start : ℕ) → swapped_word start result ≡ swapped_word start total }
+    ensures small { result < 2 ^ 34 }
+{
+    let low = (total % 0x1_0000_0000_0000_0000) as usize;
+    let high = (total / 0x1_0000_0000_0000_0000) as usize;
+    let lower = low % 0x1_0000_0000 + low / 0x1_0000_0000;
+    lower + (high % 0x1_0000_0000 + high / 0x1_0000_0000)
+}
+
+// Adds the last bytes, fewer than eight, to a start and a wide sum.
+fn sum_of_few(start: u16, total: usize, bytes: &[u8], at: usize) -> u16
+    requires small { total < 2 ^ 34 }
+    requires within { at ≤ length bytes.now }
+    requires few { length bytes.now < at + 8 }
+    ensures { result ≡ sum_after (swapped_word start total) (drop at bytes.now) }
+{
+    if bytes.len() - at < 4 {
+        return sum_of_rest(swapped_word(start, total), bytes, at);
+    }
+    let total = add_four(total, bytes, at);
+    sum_of_rest(swapped_word(start, total), bytes, at + 4)
 }
 
 fn add_four(total: usize, bytes: &[u8], at: usize) -> usize
@@ -61,15 +105,6 @@ fn add_four(total: usize, bytes: &[u8], at: usize) -> usize
     ensures small { result < total + 2 ^ 32 }
 {
     total + le32_at(bytes, at)
-}
-
-// The sum of the four numbers from `at` on.
-fn four_at(bytes: &[u8], at: usize) -> usize
-    requires { at + 16 ≤ length bytes.now }
-    ensures value { result ≡ four_at bytes.now at }
-    ensures small { result < 2 ^ 34 }
-{
-    le32_at(bytes, at) + le32_at(bytes, at + 4) + le32_at(bytes, at + 8) + le32_at(bytes, at + 12)
 }
 
 // The number of the four bytes at `at`, the lowest first.
@@ -87,19 +122,6 @@ fn le16_at(bytes: &[u8], at: usize) -> usize
     ensures small { result < 65536 }
 {
     bytes[at] as usize + 256 * bytes[at + 1] as usize
-}
-
-// A wide sum, or a smaller one that comes to the same.
-fn kept_small(total: usize) -> usize
-    requires { total < 2 ^ 62 }
-    ensures value { (start : ℕ) → swapped_word start result ≡ swapped_word start total }
-    ensures small { result < 2 ^ 60 }
-{
-    if total < 0x1000_0000_0000_0000 {
-        total
-    } else {
-        halved(total)
-    }
 }
 
 // A wide sum with its upper half added to the lower one: it comes to the same.

@@ -6,7 +6,7 @@ abbrev pub invariant-loop-at : goal.invariant-loop-at
 invariant-loop-at l =
     record {
       within : l.at ≤ length l.bytes;
-      small : l.total < 2 ^ 60;
+      small : l.total < 2 ^ 64 * l.at + 1;
       rest : sum_after (swapped_word l.fn.start l.total) (drop l.at l.bytes) ≡ sum_after l.fn.start l.bytes;
     }
 
@@ -17,7 +17,7 @@ abbrev pub invariant-loop-at-2 : goal.invariant-loop-at-2
 invariant-loop-at-2 l =
     record {
       within : l.at ≤ length l.bytes;
-      small : l.total + 4294967296 * (length l.bytes - l.at) < 2 ^ 61;
+      small : l.total < 2 ^ 64 * l.at + 1;
       rest : sum_after (swapped_word l.fn.start l.total) (drop l.at l.bytes) ≡ sum_after l.fn.start l.bytes;
     }
 
