@@ -81,6 +81,12 @@ sendable v = min (min v.remote_win_len (length v.tx_buffer.bytes) - flight v) (c
 abbrev pub is_held_back : View → ℕ → Bool
 is_held_back v mss = v.nagle && not (flight v == 0) && nat_lt (sendable v) mss && not (is_closing v.state)
 
+-- a SYN or a FIN
+unfoldable pub control_due : View → Bool
+control_due v =
+    (is_opening v.state && (flight v == 0))
+    || (is_closing v.state && seq_eq v.remote_last_seq (seq_add v.local_seq_no (length v.tx_buffer.bytes)))
+
 -- a fast retransmission, a SYN, data, or a FIN
 unfoldable pub data_due : View → Tuple → Facts → Bool → Bool
 data_due v t f stamps =

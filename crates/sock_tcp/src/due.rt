@@ -2,7 +2,7 @@
 ghost use Rattle.std.specs.Prelude.{◌≡◌, ◌≤◌, ◌<◌, ◌^◌};
 ghost use Rattle.sock_core.specs.Bounds.{IsMoment};
 ghost use Rattle.sock_tcp.specs.View.{moment_of};
-ghost use Rattle.sock_tcp.specs.Due.{own_mss, effective_mss};
+ghost use Rattle.sock_tcp.specs.Due.{control_due, own_mss, effective_mss};
 ghost use Rattle.sock_tcp.specs.Due.{flight, congestion_left, sendable, is_held_back, data_due, ack_due, ack_poll};
 ghost use Rattle.sock_tcp.specs.Due.{edge_sent, field_left, is_doubled, window_doubled, is_due};
 
@@ -73,17 +73,28 @@ impl<'a> ControlBlock<'a> {
         self.nagle && self.flight() != 0 && self.sendable() < mss && !self.state.is_closing()
     }
 
-    #[tactic(auto, unfolding(crate::specs::Due::data_due))]
+    #[tactic(auto, unfolding(crate::specs::Due::data_due, crate::specs::Due::control_due))]
     pub(crate) fn data_due<C: Context>(&self, cx: &C, tuple: &Tuple, stamps: bool) -> bool
         ensures { result ≡ data_due self.now tuple.now (C.facts cx.now) stamps }
     {
-        let marked = self.pending_fast_retransmit && self.tx_buffer.len() != 0;
-        let syn = self.state.is_opening() && self.flight() == 0;
+        if self.tx_buffer.is_empty() {
+            return self.control_due();
+        }
+        let marked = self.pending_fast_retransmit;
         let some = self.sendable() != 0
             && !self.is_held_back(self.effective_mss(cx, tuple, stamps));
+        marked || some || self.control_due()
+    }
+
+    // Whether a SYN or a FIN is due: all that can be while nothing is queued, as in most sockets that are asked.
+    #[tactic(auto, unfolding(crate::specs::Due::control_due))]
+    fn control_due(&self) -> bool
+        ensures { result ≡ control_due self.now }
+    {
+        let syn = self.state.is_opening() && self.flight() == 0;
         let end = self.local_seq_no.plus(self.tx_buffer.len());
         let fin = self.state.is_closing() && self.remote_last_seq == end;
-        marked || syn || some || fin
+        syn || fin
     }
 
     #[tactic(auto, unfolding(crate::specs::Due::ack_due))]

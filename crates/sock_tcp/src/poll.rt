@@ -2,13 +2,13 @@
 ghost use Rattle.std.specs.Prelude.{◌≡◌, is_some};
 ghost use Rattle.sock_tcp.specs.View.{IsShort};
 ghost use Rattle.sock_tcp.specs.Timers.{IsLastTs};
-ghost use Rattle.sock_tcp.specs.Polls.{is_reached, earlier, timeout_poll};
+ghost use Rattle.sock_tcp.specs.Polls.{is_reached, earlier, timeout_poll, timer_poll};
 ghost use Rattle.sock_tcp.specs.Poll.{is_due_now, poll_moment};
 ghost use Rattle.sock_tcp.specs.Work.{has_work};
 
 use crate::control_block::ControlBlock;
 use crate::socket::Socket;
-use crate::timer::{after, is_over};
+use crate::timer::{Timer, after, is_over};
 use crate::tuple::Tuple;
 use net_base::time::{Duration, Instant};
 use sock_core::{Context, PollAt};
@@ -84,7 +84,23 @@ impl<'a> ControlBlock<'a> {
             return PollAt::Now;
         }
         let timeout = timeout_poll(self.timeout, self.remote_last_ts);
-        earlier(self.timer.poll_at(), earlier(timeout, self.ack_poll()))
+        match self.ack_poll() {
+            PollAt::Ingress => self.timer_or(timeout),
+            ack => earlier(self.timer.poll_at(), earlier(timeout, ack)),
+        }
+    }
+
+    // The earlier of what the timer waits for and another moment: that one, in a socket that is idle, as most are that
+    // are asked.
+    fn timer_or(&self, other: PollAt) -> PollAt
+        ensures { result ≡ earlier (timer_poll self.now.timer) other }
+    {
+        match self.timer {
+            Timer::Idle {
+                keep_alive_at: None,
+            } => other,
+            timer => earlier(timer.poll_at(), other),
+        }
     }
 }
 

@@ -51,8 +51,9 @@ impl Tuple {
     pub(crate) fn is_of_segment(&self, ip_repr: &IpRepr, repr: &TcpRepr<'_>) -> bool
         ensures { IsTrue result ↔ IsBetween self.now ip_repr.now (segment_of repr.now) }
     {
-        self.is_of_header(ip_repr)
+        // ports first: they tell most connections of a host apart, and are compared in one step each
+        repr.src_port == self.remote.port
             && repr.dst_port == self.local.port
-            && repr.src_port == self.remote.port
+            && self.is_of_header(ip_repr)
     }
 }
