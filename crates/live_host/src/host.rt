@@ -5,6 +5,7 @@ use crate::interface::{
     Interface, clear, emit_icmpv4, emit_icmpv6, emit_tcp, emit_udp, records, set_time,
 };
 use crate::outbox::Full;
+use crate::pattern::Patterns;
 use crate::service::{SERVICES, Service};
 use crate::slot::Slot;
 use ip_wire::{Error, IpVersion, Ipv4Packet, Ipv6Packet};
@@ -71,6 +72,7 @@ pub struct Host<'a> {
     slots: Vec<Slot<'a>>,
     udp: udp::Socket<'a>,
     interface: Interface,
+    patterns: Patterns,
     counts: Counts,
 }
 
@@ -87,6 +89,7 @@ impl<'a> Host<'a> {
             slots,
             udp,
             interface,
+            patterns: Patterns::new(),
             counts: Counts::default(),
         }
     }
@@ -146,7 +149,7 @@ impl<'a> Host<'a> {
     fn serve(&mut self) -> Result<(), AllocError> {
         for slot in &mut self.slots {
             slot.watch(&self.interface);
-            slot.serve(self.alloc)?;
+            slot.serve(self.alloc, &self.patterns)?;
         }
         echo_datagrams(&mut self.udp);
         for slot in &mut self.slots {

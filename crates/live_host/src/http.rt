@@ -1,13 +1,11 @@
 //! One request and its answer (RFC 9110, RFC 9112).
 
 use crate::page::{Traffic, answer};
+use crate::pattern::{PIECE, Patterns};
 use crate::request::{LONGEST_HEAD, Request};
 use smoltcp_socket::tcp;
 use smoltcp_socket::tcp::State;
 use std::alloc::{AllocError, Global};
-
-// How many bytes are made at once.
-const PIECE: usize = 4096;
 
 // How many pieces one socket may send before the next one has its turn.
 const PIECES: usize = 32;
@@ -44,6 +42,7 @@ impl Http {
     pub fn serve(
         &mut self,
         alloc: Global,
+        patterns: &Patterns,
         socket: &mut tcp::Socket<'_>,
         traffic: &mut Traffic,
     ) -> Result<(), AllocError> {
@@ -51,7 +50,7 @@ impl Http {
             self.read(alloc, socket, traffic)?;
         }
         match &mut self.answer {
-            Some(answer) => answer.send(socket, traffic),
+            Some(answer) => answer.send(patterns, socket, traffic),
             None => {
                 // no request comes any more
                 if socket.state() == State::CloseWait && !socket.can_recv() {
@@ -95,10 +94,10 @@ impl Http {
 
 impl Answer {
     // Sends what fits, and closes behind the last byte. What the client still sends is taken and forgotten.
-    fn send(&mut self, socket: &mut tcp::Socket<'_>, traffic: &mut Traffic) {
+    fn send(&mut self, patterns: &Patterns, socket: &mut tcp::Socket<'_>, traffic: &mut Traffic) {
         let _ = socket.recv(|bytes: &[u8]| (bytes.len(), ()));
         for _ in 0..PIECES {
-            let count = self.send_piece(socket);
+            let count = self.send_piece(patterns, socket);
             if count == 0 {
                 break;
             }
@@ -109,7 +108,7 @@ impl Answer {
         }
     }
 
-    fn send_piece(&mut self, socket: &mut tcp::Socket<'_>) -> usize {
+    fn send_piece(&mut self, patterns: &Patterns, socket: &mut tcp::Socket<'_>) -> usize {
         if self.sent < self.text.len() {
             let count = socket
                 .send_slice(&self.text.as_bytes()[self.sent..])
@@ -117,27 +116,23 @@ impl Answer {
             self.sent = self.sent.saturating_add(count);
             count
         } else {
-            let count = self.send_bytes(socket);
+            let count = self.send_bytes(patterns, socket);
             self.bytes_sent = self.bytes_sent.saturating_add(count as u64);
             count
         }
     }
 
-    // Byte k is k modulo 251, so that a piece that is left out or comes twice is seen.
-    fn send_bytes(&mut self, socket: &mut tcp::Socket<'_>) -> usize {
+    fn send_bytes(&mut self, patterns: &Patterns, socket: &mut tcp::Socket<'_>) -> usize {
         let left = self.bytes.saturating_sub(self.bytes_sent);
         let count = if left < PIECE as u64 {
             left as usize
         } else {
             PIECE
         };
-        let mut bytes = [0u8; PIECE];
-        for (i, byte) in bytes.iter_mut().enumerate() {
-            *byte = (self.bytes_sent.wrapping_add(i as u64) % 251) as u8;
-        }
         if count == 0 {
             return 0;
         }
-        socket.send_slice(&bytes[..count]).unwrap_or(0)
+        let piece = patterns.numbers(self.bytes_sent);
+        socket.send_slice(&piece[..count]).unwrap_or(0)
     }
 }

@@ -10,6 +10,7 @@ mod http;
 mod interface;
 mod outbox;
 mod page;
+mod pattern;
 mod request;
 mod run;
 mod service;

@@ -5,6 +5,7 @@ use crate::http::Http;
 use crate::interface::{Interface, emit_tcp};
 use crate::outbox::Full;
 use crate::page::Traffic;
+use crate::pattern::{PIECE, Patterns};
 use crate::service::Service;
 use host_guard::guard::{Guard, KEEP_ALIVE, TURNS};
 use smoltcp_socket::tcp::State;
@@ -12,9 +13,6 @@ use smoltcp_socket::time::Instant;
 use smoltcp_socket::wire::{IpRepr, TcpRepr};
 use smoltcp_socket::{Context, PollAt, tcp};
 use std::alloc::{AllocError, Global};
-
-// How many bytes are copied at once.
-const PIECE: usize = 4096;
 
 // How many pieces one socket may move before the next one has its turn.
 const PIECES: usize = 32;
@@ -106,7 +104,7 @@ impl<'a> Slot<'a> {
     }
 
     /// Lets the service read and write.
-    pub fn serve(&mut self, alloc: Global) -> Result<(), AllocError> {
+    pub fn serve(&mut self, alloc: Global, patterns: &Patterns) -> Result<(), AllocError> {
         match self.socket.state() {
             State::Closed | State::Listen | State::SynReceived | State::TimeWait => return Ok(()),
             _ => {}
@@ -114,8 +112,10 @@ impl<'a> Slot<'a> {
         match self.service {
             Service::Echo => self.echo(),
             Service::Discard => self.discard(),
-            Service::Chargen => self.generate(),
-            Service::Http => self.http.serve(alloc, &mut self.socket, &mut self.traffic)?,
+            Service::Chargen => self.generate(patterns),
+            Service::Http => self
+                .http
+                .serve(alloc, patterns, &mut self.socket, &mut self.traffic)?,
         }
         // the client has closed, and all that it sent has been read
         if self.socket.state() == State::CloseWait
@@ -182,14 +182,9 @@ impl Slot<'_> {
         }
     }
 
-    // 95 lines of 72 characters, each line begins one character later (RFC 864).
-    fn generate(&mut self) {
-        let mut bytes = [0u8; PIECE];
+    fn generate(&mut self, patterns: &Patterns) {
         for _ in 0..PIECES {
-            for (i, byte) in bytes.iter_mut().enumerate() {
-                *byte = character(self.traffic.sent.wrapping_add(i as u64));
-            }
-            let Ok(count) = self.socket.send_slice(&bytes) else {
+            let Ok(count) = self.socket.send_slice(patterns.lines(self.traffic.sent)) else {
                 break;
             };
             if count == 0 {
@@ -197,14 +192,5 @@ impl Slot<'_> {
             }
             self.traffic.sent = self.traffic.sent.wrapping_add(count as u64);
         }
-    }
-}
-
-fn character(at: u64) -> u8 {
-    let (line, column) = (at / 74 % 95, at % 74);
-    match column {
-        72 => b'\r',
-        73 => b'\n',
-        _ => (32 + (line + column) % 95) as u8,
     }
 }
