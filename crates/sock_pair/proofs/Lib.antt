@@ -1,4 +1,5 @@
 pub mod ScriptEvents
+pub mod ScriptLanes
 pub mod ScriptNumbers
 pub mod ScriptTextLemmas
 pub mod ReplaySinks

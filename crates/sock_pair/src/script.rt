@@ -11,6 +11,7 @@ mod end;
 mod error;
 mod forms;
 mod keyword;
+mod lanes;
 pub mod lines;
 mod output;
 mod pair_line;

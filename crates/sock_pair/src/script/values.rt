@@ -5,6 +5,7 @@ ghost use Rattle.std.specs.List.{list_all};
 ghost use Rattle.pair_core.specs.NetworkInvariant.{IsLimit};
 ghost use Rattle.sock_pair.specs.ScriptWords.{is_number, is_text, limit_of, number_of, side_of, switch_of, value_of};
 
+use crate::script::lanes::{LANES, lanes_are_text};
 use pair_core::Side;
 
 /// `a` or `b`; none for any other word.
@@ -62,6 +63,20 @@ pub fn limit(word: &[u8]) -> Option<Option<u32>>
 #[tactic(auto, unfolding(crate::specs::ScriptWords::is_text))]
 pub fn is_text(word: &[u8]) -> bool
     ensures { result ≡ is_text word.now }
+{
+    let mut at = 0;
+    while word.len() - at >= LANES {
+        if !lanes_are_text(word, at) {
+            return false;
+        }
+        at += LANES;
+    }
+    few_are_text(&word[at..])
+}
+
+// The same, byte by byte.
+fn few_are_text(word: &[u8]) -> bool
+    ensures { result ≡ list_all (λ b. nat_le 33 b && nat_le b 126) word.now }
 {
     word.iter().all(|b| 33 <= *b && *b <= 126)
 }

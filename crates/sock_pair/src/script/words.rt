@@ -5,8 +5,26 @@ ghost use Rattle.std.specs.List.{position_or_len, prefix_len};
 ghost use Rattle.sock_pair.specs.ScriptText.{words_of};
 ghost use Rattle.sock_pair.specs.ScriptWords.{five_of, one_and_text_of, one_of, three_of, two_of};
 
+use crate::script::lanes::{LANES, lanes_before};
+
 /// How many bytes stand before the first `stop`, or how many there are where there is none.
 pub fn len_before(bytes: &[u8], stop: u8) -> usize
+    ensures value { result ≡ position_or_len (λ b. b == stop) bytes.now }
+    ensures within { result ≤ length bytes.now }
+{
+    let mut at = 0;
+    while bytes.len() - at >= LANES {
+        let before = lanes_before(bytes, at, stop);
+        if before < LANES {
+            return at + before;
+        }
+        at += LANES;
+    }
+    at + few_before(&bytes[at..], stop)
+}
+
+// The same, byte by byte.
+fn few_before(bytes: &[u8], stop: u8) -> usize
     ensures value { result ≡ position_or_len (λ b. b == stop) bytes.now }
     ensures within { result ≤ length bytes.now }
 {
