@@ -1,5 +1,5 @@
 -- From the one call of `emit` to what a host records of a dispatch.
-use Rattle.std.proofs.Common.{◌≡◌, ℕ, ◌+◌, ◌<◌, ◌≤◌, List, [], ◌++◌, length, min, Bool, true, false, Option, Some, None, refl, sym, ◌∙◌, ap, subst, arith, is_some}
+use Rattle.std.proofs.Common.{◌≡◌, ℕ, ◌+◌, ◌<◌, ◌≤◌, List, [], ◌++◌, length, min, max, Bool, true, false, Option, Some, None, refl, sym, ◌∙◌, ap, subst, arith, is_some}
 use Rattle.std.specs.Prelude.{Result, Ok, Err, OnOk, OnErr, is_ok, is_some, not, IsTrue, vec_len, vec_capacity, if◌then◌else◌, option_map, IsSomeAnd}
 use Rattle.std.proofs.lemmas.Option.{none-some, same_Some}
 use Rattle.std.specs.Borrow.{MutBor}
@@ -13,8 +13,10 @@ use Rattle.control_wire.specs.declared.tcp.TcpRepr.{TcpRepr}
 use Rattle.sock_core.specs.Facts.{Facts}
 use Rattle.sock_tcp.proofs.Lending.{lent_at_most}
 use Rattle.sock_tcp.specs.Queue.{IsLent}
-use Rattle.sock_tcp.specs.View.{View, moment_of}
-use Rattle.sock_tcp.specs.Begin.{before_emit}
+use Rattle.sock_tcp.specs.View.{View, fresh, moment_of}
+use Rattle.sock_tcp.specs.Begin.{before_emit, fast_retransmission_marked, retransmission_begun}
+use Rattle.sock_tcp.specs.Opening.{renewed}
+use Rattle.tcp_laws.proofs.Kept.{before_kept}
 use Rattle.sock_tcp.specs.Due.{congestion_left, effective_mss}
 use Rattle.sock_tcp.specs.Content.{Sending, asked, offset_of, is_probing, content, filled, emission_kind, of_kind, sent_as, carries_data, window_left, plain_segment}
 use Rattle.sock_core.specs.Emission.{Emits, EmitsAt}
@@ -67,8 +69,16 @@ asked_len v t f stamps = go (carries_data v.state) v.pending_fast_retransmit (is
     go true false false = omega arith
     go false b p = omega arith
 
-pub payload_at_most : (v : View) (t : Tuple) (f : Facts) (stamp : Option ℕ) (bytes : List ℕ) (s : Sending) → 1 ≤ f.mtu → IsLent v.tx_buffer (offset_of v) (asked v t f (is_some stamp)) bytes → content v t f stamp bytes ≡ Some s → length s.segment.payload ≤ f.mtu
-payload_at_most v t f stamp bytes s one lent e = content_len v t f stamp bytes f.mtu (omega (arith, asked_len v t f (is_some stamp), lent_at_most v.tx_buffer (offset_of v) (asked v t f (is_some stamp)) bytes lent)) one s e
+pub payload_at_most : (v : View) (t : Tuple) (f : Facts) (stamp : Option ℕ) (bytes : List ℕ) (s : Sending) → 1 ≤ f.mtu → IsLent v.tx_buffer (offset_of v) (asked v t f (is_some stamp)) bytes → content v t f stamp bytes ≡ Some s → length s.segment.payload ≤ min f.mtu (max 1 (length v.tx_buffer.bytes))
+payload_at_most v t f stamp bytes s one lent e = content_len v t f stamp bytes (min f.mtu (max 1 (length v.tx_buffer.bytes))) (omega (arith, asked_len v t f (is_some stamp), lent_at_most v.tx_buffer (offset_of v) (asked v t f (is_some stamp)) bytes lent)) (omega (arith, one)) s e
+
+-- a dispatch finds no more bytes queued when it emits than when it begins
+queue_at_most : (v : View) (f : Facts) (stamps : Bool) (n : ℕ) → length v.tx_buffer.bytes ≤ n → length (before_emit v f stamps).view.tx_buffer.bytes ≤ n
+unfolding retransmission_begun fast_retransmission_marked renewed fresh
+queue_at_most v f stamps n h =
+    before_kept (λ w. length w.tx_buffer.bytes ≤ n) f stamps
+    (record { remembers = λ w k. k; tells = λ w k. k; times_out = λ w k. k; begins_again = λ w at e k. k; marks = λ w e k. k })
+    (λ w k. omega arith) v h
 
 -- ---- the emit's answer
 
@@ -127,7 +137,7 @@ module _ {F : Type 0} (g : Once F (MutBor Capture × ((IpRepr × TcpRepr) × Uni
           (went u x (held (kept_at (Ok u) x).1), left (Ok u) x)
       go false b (Err d) x = absurd (full b d x)
 
-  pub socket_dispatched : {G : Type 0} (tells : G → ℕ → Type 0) (clock : Option G) (c c' : Capture) (v new : View) (facts : Facts) (r : Result (Unit {0}) EmitFailed) → IsReady c → 1 ≤ facts.mtu → facts.mtu ≤ mtu → Dispatches g f facts tells clock v c r new c' → SocketDispatches tells clock v facts fail (sent_of r c') new
+  pub socket_dispatched : {G : Type 0} (tells : G → ℕ → Type 0) (clock : Option G) (c c' : Capture) (v new : View) (facts : Facts) (r : Result (Unit {0}) EmitFailed) → IsReady c → 1 ≤ facts.mtu → min facts.mtu (max 1 (length v.tx_buffer.bytes)) ≤ mtu → Dispatches g f facts tells clock v c r new c' → SocketDispatches tells clock v facts fail (sent_of r c') new
   unfolding Dispatches SocketDispatches
   socket_dispatched tells clock c c' v new facts r ready one small h = to (before_emit v facts (is_some clock)).peer h
     where
@@ -146,7 +156,7 @@ module _ {F : Type 0} (g : Once F (MutBor Capture × ((IpRepr × TcpRepr) × Uni
 
           both : (o : Option Sending) → content w t facts x.stamp d.bytes ≡ o → Emits g packet_of f (option_map packet_in o) c r c' → new ≡ left_by o w (moment_of facts) (is_ok r) → Records fail o (sent_of r c') × (new ≡ left_by o w (moment_of facts) (not fail))
           both None z e y = (quiet w e.0 e.1 y, y)
-          both (Some s) z e y = emitted c c' s w new (moment_of facts) r ready (omega (arith, small, payload_at_most w t facts x.stamp d.bytes s one d.lent z)) e y
+          both (Some s) z e y = emitted c c' s w new (moment_of facts) r ready (omega (arith, small, queue_at_most v facts (is_some clock) (length v.tx_buffer.bytes) (omega arith), payload_at_most w t facts x.stamp d.bytes s one d.lent z)) e y
 
 -- ---- what is stored of a dispatch fits a packet
 

@@ -1,6 +1,6 @@
 //! One side of a pair: its socket, and what it accepted and handed out.
 ghost use Rattle.std.specs.Prelude.{◌≡◌, ◌+◌, ◌-◌, ◌≤◌, ◌<◌, ◌^◌, ◌++◌, ◌↔◌, IsTrue, length, option_map, Some, []};
-ghost use Rattle.std.specs.Prelude.{not, false, IfOk, OnOk, OnErr, vec_len, vec_capacity, min, take, true};
+ghost use Rattle.std.specs.Prelude.{not, false, IfOk, OnOk, OnErr, vec_len, vec_capacity, min, max, take, true};
 ghost use Rattle.std.specs.Prelude.{MatchOption, None, is_some};
 ghost use Rattle.std.specs.Option.{ForSome};
 ghost use Rattle.control_wire.specs.Fits.{FitsPacket};
@@ -322,10 +322,19 @@ impl<'a, G: TsvalSource> Host<'a, G> {
         }
     }
 
-    // One dispatch, into a room that was made before: no payload is longer than the largest IP packet.
+    // How many bytes the payload of a dispatch has at most: no more than are queued, or the one of a keep-alive, and no
+    // more than the largest IP packet. A dispatch of which nothing comes asks for a byte of memory, and not for a packet.
+    pub(crate) fn payload_at_most(&self, moment: &Moment) -> usize
+        ensures { result ≡ min moment.entry.now.ip_mtu (max 1 (length self.entry.now.control_block.tx_buffer.bytes)) }
+    {
+        moment.ip_mtu.min(self.socket.send_queue().max(1))
+    }
+
+    // One dispatch, into a room that was made before.
     pub(crate) fn dispatch(&mut self, moment: &Moment, room: Vec<u8>, fail: bool) -> Sent
         requires empty { room.items ≡ [] }
-        requires roomy { moment.now.ip_mtu ≤ vec_capacity room }
+        requires roomy { min moment.now.ip_mtu (max 1 (length self.old.control_block.tx_buffer.bytes))
+            ≤ vec_capacity room }
         ensures table { HostDispatches G.tells moment.entry.now fail self.old result self.new }
         ensures fits { FitsSent result }
     {

@@ -84,7 +84,7 @@ pub(crate) fn dispatch<G: TsvalSource>(
     if let Err(_) = segments.reserve(1) {
         return Err(PairError::Memory);
     }
-    let room = match Vec::with_capacity(alloc, moment.ip_mtu) {
+    let room = match Vec::with_capacity(alloc, host.payload_at_most(moment)) {
         Err(_) => return Err(PairError::Memory),
         Ok(room) => room,
     };
