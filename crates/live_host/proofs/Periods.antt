@@ -3,7 +3,7 @@ use Rattle.std.proofs.Math.Nat.{div-add-mod, add-mul-div_right, add-mul-mod_self
 use Rattle.std.proofs.lemmas.List.{get_or-take, get_or-drop}
 use Rattle.live_host.specs.Patterns.{character, place_of_line}
 
--- Seven thousand and thirty bytes are 95 lines.
+-- A period of 7030 bytes is 95 lines of 74.
 in_lines : (m q : ℕ) → m + q * 7030 ≡ m + (q * 95) * 74
 in_lines m q = omega arith
 
@@ -25,7 +25,9 @@ character_again at k =
     sym (ap character whole ∙ same_character (at % 7030 + k) (at / 7030))
 
 -- A piece of the lines that are written out, from any place of the first period.
-pub piece_of_lines : (lines : List ℕ) → ((k : ℕ) → k < 11126 → slice_index lines k ≡ character k) → (at count k : ℕ) → count ≡ 4096 → k < 4096 → slice_index (take count (drop (at % 7030) lines)) k ≡ character (at + k)
+pub piece_of_lines : (lines : List ℕ) → ((k : ℕ) → k < 11126 → slice_index lines k ≡ character k)
+    → (at count k : ℕ) → count ≡ 4096 → k < 4096
+    → slice_index (take count (drop (at % 7030) lines)) k ≡ character (at + k)
 piece_of_lines lines lined at count k whole h =
     let within : at % 7030 < 7030 = mod-lt at (lit< tt) in
     get_or-take count (drop (at % 7030) lines) k 0 (omega (arith, whole, h))
