@@ -40,8 +40,8 @@ pub fn sum_after(start: u16, bytes: &[u8]) -> u16
 }
 
 // Adds the 32 bytes from `at` on to a wide sum, as numbers of eight bytes with the lowest first, which x86-64 loads
-// without a swap: the sum's two bytes are then swapped too (RFC 1071, section 2 (B)). An addition of eight bytes and one
-// of its carry take the place of two additions of four.
+// without a swap: the sum's two bytes are then swapped too (RFC 1071, section 2 (B)). An addition of eight bytes and
+// one of its carry take the place of two additions of four.
 fn add_thirty_two(total: u128, bytes: &[u8], at: usize) -> u128
     requires small { total < 2 ^ 64 * at + 1 }
     requires room { at + 32 ≤ length bytes.now }

@@ -323,7 +323,8 @@ impl<'a, G: TsvalSource> Host<'a, G> {
     }
 
     // How many bytes the payload of a dispatch has at most: no more than are queued, or the one of a keep-alive, and no
-    // more than the largest IP packet. A dispatch of which nothing comes asks for a byte of memory, and not for a packet.
+    // more than the largest IP packet. Where nothing is queued, a dispatch asks for a byte of memory, and not for a
+    // packet.
     pub(crate) fn payload_at_most(&self, moment: &Moment) -> usize
         ensures { result ≡ min moment.entry.now.ip_mtu (max 1 (length self.entry.now.control_block.tx_buffer.bytes)) }
     {

@@ -68,8 +68,9 @@ pub fn bytes_stay_at_their_places()
         → KeepsPlaces v k w j s }
 {}
 
-/// A receive buffer that is not of 0 bytes has room for one unit of the socket's window field, after any list of calls on
-/// a new socket. So once all of it was read, and none of it is held, it tells a window above 0 (RFC 7323, section 2.3).
+/// A receive buffer that is not of 0 bytes has room for one unit of the socket's window field, after any list of calls
+/// on a new socket. So once all of it was read, and none of it is held, it tells a window above 0 (RFC 7323,
+/// section 2.3).
 pub fn window_unit_fits()
     ensures { (v : View) → IsReached v → 0 < room_of v.rx_buffer
         → 2 ^ v.remote_win_shift ≤ room_of v.rx_buffer }
