@@ -2,7 +2,7 @@
 use Rattle.std.proofs.Common.{ℕ, suc, ◌+◌, ◌*◌, ◌≤◌, Bool, true, false, List, [], ◌∷◌, ◌++◌, ◌≡◌, length, take, drop, refl, ap, sym, ◌∙◌, arith, append_assoc, length-append}
 use Rattle.std.specs.Prelude.{Option, Some, None, is_some, cond, count_by, if◌then◌else◌, ◌==◌}
 use Rattle.std.specs.List.{fold}
-use Rattle.std.proofs.lemmas.List.{append-nil, drop_all, length-take-le, take_at, take_all}
+use Rattle.std.proofs.lemmas.List.{append-nil, drop_all, drop_at, drop-drop, length-take-le, take_at, take_all}
 use Rattle.control_wire.specs.Segment.{Segment, options_len, sack_option_len}
 use Rattle.control_wire.specs.declared.tcp.TcpTimestampRepr.{TcpTimestampRepr}
 use Rattle.segment_wire.specs.Options.{mss_octets, permitted_octets, ranges_octets, sack_if, sack_octets, scale_octets, stamp_octets}
@@ -23,14 +23,11 @@ front_kept xs ys piece at h y =
     ap (take (at + length piece)) (y ∙ sym (append_assoc (take at xs) piece (drop (at + length piece) xs)))
     ∙ take_at (take at xs ++ piece) (drop (at + length piece) xs) (at + length piece) (length-append (take at xs) piece ∙ ap (λ n. n + length piece) l)
 
-joined_two : (xs a b y z : List ℕ) → y ≡ xs ++ a → z ≡ y ++ b → z ≡ xs ++ (a ++ b)
-joined_two xs a b y z e f = f ∙ ap (λ us. us ++ b) e ∙ append_assoc xs a b
-
 pub two : (xs a b y z : List ℕ) → y ≡ xs ++ a → z ≡ y ++ b → z ≡ xs ++ (a ++ b)
-two xs a b y z e f = joined_two xs a b y z e f
+two xs a b y z e f = f ∙ ap (λ us. us ++ b) e ∙ append_assoc xs a b
 
 pub three : (xs a b c y z w : List ℕ) → y ≡ xs ++ a → z ≡ y ++ b → w ≡ z ++ c → w ≡ xs ++ (a ++ (b ++ c))
-three xs a b c y z w e f g = joined_two y b c z w f g ∙ ap (λ us. us ++ (b ++ c)) e ∙ append_assoc xs a (b ++ c)
+three xs a b c y z w e f g = two y b c z w f g ∙ ap (λ us. us ++ (b ++ c)) e ∙ append_assoc xs a (b ++ c)
 
 pub six : (xs a b c d e f x1 x2 x3 x4 x5 x6 : List ℕ) → x1 ≡ xs ++ a → x2 ≡ x1 ++ b → x3 ≡ x2 ++ c → x4 ≡ x3 ++ d → x5 ≡ x4 ++ e → x6 ≡ x5 ++ f → x6 ≡ xs ++ (a ++ (b ++ (c ++ (d ++ (e ++ f)))))
 six xs a b c d e f x1 x2 x3 x4 x5 x6 p q r s t u =
@@ -87,10 +84,9 @@ sack_count rs = go (count_by is_some rs == 0) (count_by is_some rs) (range_count
 pub options_count : (s : Segment) → length (mss_octets s.max_seg_size) + (length (scale_octets s.window_scale) + (length (permitted_octets s.sack_permitted) + (length (sack_octets s.sack_ranges) + length (stamp_octets s.timestamp)))) ≡ options_len s
 options_count s = omega (arith, mss_count s.max_seg_size, scale_count s.window_scale, permitted_count s.sack_permitted, sack_count s.sack_ranges, stamp_count s.timestamp)
 
--- the header, its options and the payload fill the buffer
-pub whole : (header options payload ws xs ys zs : List ℕ) (i j k : ℕ) → take i xs ≡ take 0 ws ++ header → take j ys ≡ take i xs ++ options → take k zs ≡ take j ys ++ payload → length zs ≤ k → zs ≡ header ++ (options ++ payload)
-whole header options payload ws xs ys zs i j k x y z l =
-    sym (take_all k zs l) ∙ joined_two header options payload (take j ys) (take k zs) (y ∙ ap (λ us. us ++ options) x) z
+-- the header and its options fill the buffer
+pub whole : (header options ws xs ys : List ℕ) (i j : ℕ) → take i xs ≡ take 0 ws ++ header → take j ys ≡ take i xs ++ options → length ys ≤ j → ys ≡ header ++ options
+whole header options ws xs ys i j x y l = sym (take_all j ys l) ∙ y ∙ ap (λ us. us ++ options) x
 
 -- with its checksum in the place of 0
 pub filled : (src dst : IpAddress) (s : Segment) (xs ys : List ℕ) (start front : ℕ) → xs ≡ tcp_with s 0 → start ≡ pseudo_sum src dst 6 (length xs) → front ≡ sum_after start (tcp_header s 0) → ys ≡ take 16 xs ++ (be16 (complement (sum_after front (drop 20 xs))) ++ drop 18 xs) → ys ≡ tcp_octets true src dst s
@@ -109,3 +105,12 @@ filled_datagram src dst u payload xs ys start front x p f y =
     let head = be16 u.src_port ++ (be16 u.dst_port ++ (be16 (8 + length payload) ++ be16 0)) in
     y ∙ ap (λ t. take 6 xs ++ (be16 (ones_if_zero (complement (sum_after t (drop 8 xs)))) ++ drop 8 xs)) (f ∙ ap (λ t. sum_after t head) p)
     ∙ ap (λ us. take 6 us ++ (be16 (ones_if_zero (complement (sum_after (sum_after (pseudo_sum src dst 17 (length us)) head) (drop 8 us)))) ++ drop 8 us)) x
+
+-- a payload that was put behind n octets stands behind them, and nothing behind it
+pub payload_behind : (xs payload ys : List ℕ) (n : ℕ) → length xs ≡ n + length payload → ys ≡ take n xs ++ (payload ++ drop (n + length payload) xs) → drop n ys ≡ payload
+payload_behind xs payload ys n l y =
+    ends payload xs (drop n ys) (n + length payload) (ap (drop n) y ∙ drop_at (take n xs) _ n (length-take-le n xs (omega (arith, l)))) l
+
+-- what stands behind both headers of a packet stands behind the second one, in what stands behind the first
+pub behind_both : (xs payload : List ℕ) (m n : ℕ) → drop (m + n) xs ≡ payload → drop n (drop m xs) ≡ payload
+behind_both xs payload m n e = drop-drop n m xs ∙ e

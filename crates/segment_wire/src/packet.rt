@@ -13,12 +13,14 @@ ghost use Rattle.segment_wire.specs.Tcp.{filled, read_as};
 
 use crate::{tcp, udp};
 use control_wire::{TcpRepr, UdpRepr};
+use ip_wire::octets::put;
 use ip_wire::{
     ChecksumCapabilities, Error, IpAddress, IpRepr, IpVersion, Ipv4Packet, Ipv4Repr, Ipv6Packet,
     Ipv6Repr,
 };
 
 /// Writes an IP header and a segment behind it, whose bytes the header counts.
+#[tactic(auto, using(crate::proofs::Written::payload_behind))]
 pub fn emit_tcp(ip: &IpRepr, repr: &TcpRepr<'_>, buffer: &mut [u8], caps: &ChecksumCapabilities)
     requires counted { payload_len_of ip.now
         ≡ segment_header_len (segment_of repr.now) + length repr.now.payload.now }
@@ -27,9 +29,31 @@ pub fn emit_tcp(ip: &IpRepr, repr: &TcpRepr<'_>, buffer: &mut [u8], caps: &Check
     requires room { length buffer.old ≡ header_len_of ip.now + payload_len_of ip.now }
     ensures { buffer.new ≡ tcp_packet caps.now ip.now (segment_of repr.now) }
 {
+    put(buffer, ip.header_len() + repr.header_len(), repr.payload);
+    emit_tcp_front(ip, repr, buffer, caps);
+}
+
+/// Writes an IP header and the header of a segment before a copy of its payload, which stands in `buffer` already,
+/// behind as many bytes as both headers have. The packet is then that of [`emit_tcp`].
+#[tactic(auto, using(crate::proofs::Written::behind_both))]
+pub fn emit_tcp_front(
+    ip: &IpRepr,
+    repr: &TcpRepr<'_>,
+    buffer: &mut [u8],
+    caps: &ChecksumCapabilities,
+)
+    requires counted { payload_len_of ip.now
+        ≡ segment_header_len (segment_of repr.now) + length repr.now.payload.now }
+    requires protocol { next_header_of ip.now ≡ Tcp }
+    requires options { options_len (segment_of repr.now) ≤ 40 }
+    requires room { length buffer.old ≡ header_len_of ip.now + payload_len_of ip.now }
+    requires payload { drop (header_len_of ip.now + segment_header_len (segment_of repr.now)) buffer.old
+        ≡ repr.now.payload.now }
+    ensures { buffer.new ≡ tcp_packet caps.now ip.now (segment_of repr.now) }
+{
     ip.emit(buffer, caps);
     let start = ip.header_len();
-    tcp::emit(
+    tcp::emit_front(
         repr,
         &mut buffer[start..],
         &ip.src_addr(),

@@ -10,10 +10,10 @@ ghost use Rattle.segment_wire.specs.Tcp.{filled, read_as, segment_at, tcp_checks
 ghost use Rattle.segment_wire.specs.Tcp.{tcp_with};
 
 use crate::options::{TcpOptions, be32_at, read_options};
-use crate::write::{fill_checksum, header_sum, write};
+use crate::write::{fill_checksum, header_sum, write_front};
 use control_wire::source::{at_most_one, sum_holds};
 use control_wire::{TcpControl, TcpRepr, TcpSeqNumber};
-use ip_wire::octets::{be16_at, behind, word};
+use ip_wire::octets::{be16_at, behind, put, word};
 use ip_wire::sum::pseudo_sum;
 use ip_wire::{ChecksumCapabilities, Error, IpAddress};
 
@@ -22,6 +22,7 @@ use ip_wire::{ChecksumCapabilities, Error, IpAddress};
 /// The options stand in the order MSS, window scale, SACK permitted, SACK, timestamp, and END fills the header up to a
 /// multiple of 4 bytes. They take 40 bytes at most. Of the flags FIN, SYN, RST, PSH and ACK alone are set; the urgent
 /// pointer is 0. The checksum is 0 where it is not computed before sending.
+#[tactic(auto, using(crate::proofs::Written::payload_behind))]
 pub fn emit(
     repr: &TcpRepr<'_>,
     buffer: &mut [u8],
@@ -33,26 +34,49 @@ pub fn emit(
     requires options { options_len (segment_of repr.now) ≤ 40 }
     ensures { buffer.new ≡ tcp_octets (is_sent caps.now.tcp) src_addr.now dst_addr.now (segment_of repr.now) }
 {
-    if caps.tcp.tx() {
-        emit_with_checksum(repr, buffer, src_addr, dst_addr);
-    } else {
-        write(repr, buffer);
-    }
+    put(buffer, repr.header_len(), repr.payload);
+    emit_front(repr, buffer, src_addr, dst_addr, caps);
 }
 
-fn emit_with_checksum(
+/// Writes the segment's header, with its options and its checksum, before a copy of its payload, which stands in
+/// `buffer` already, behind `header_len` bytes. The bytes are then those of [`emit`]. So a new buffer need not be
+/// filled first.
+#[tactic(auto, unfolding(crate::specs::Tcp::tcp_with))]
+pub fn emit_front(
     repr: &TcpRepr<'_>,
     buffer: &mut [u8],
     src_addr: &IpAddress,
     dst_addr: &IpAddress,
+    caps: &ChecksumCapabilities,
 )
-    requires room { length buffer.old ≡ segment_header_len (segment_of repr.now) + length repr.now.payload.now }
+    requires room { segment_header_len (segment_of repr.now) ≤ length buffer.old }
+    requires payload { drop (segment_header_len (segment_of repr.now)) buffer.old ≡ repr.now.payload.now }
+    requires options { options_len (segment_of repr.now) ≤ 40 }
+    ensures { buffer.new ≡ tcp_octets (is_sent caps.now.tcp) src_addr.now dst_addr.now (segment_of repr.now) }
+{
+    let header_len = repr.header_len();
+    write_front(repr, header_len, buffer);
+    if caps.tcp.tx() {
+        write_checksum(repr, header_len, buffer, src_addr, dst_addr);
+    }
+}
+
+// Writes the checksum of a segment that has 0 in its place.
+fn write_checksum(
+    repr: &TcpRepr<'_>,
+    header_len: usize,
+    buffer: &mut [u8],
+    src_addr: &IpAddress,
+    dst_addr: &IpAddress,
+)
+    requires counted { header_len ≡ segment_header_len (segment_of repr.now) }
+    requires written { buffer.old ≡ tcp_with (segment_of repr.now) 0 }
+    requires room { 20 ≤ length buffer.old }
     requires options { options_len (segment_of repr.now) ≤ 40 }
     ensures { buffer.new ≡ tcp_octets true src_addr.now dst_addr.now (segment_of repr.now) }
 {
-    write(repr, buffer);
     let start = pseudo_sum(src_addr, dst_addr, 6, buffer.len());
-    let front = header_sum(start, repr);
+    let front = header_sum(start, repr, header_len);
     fill_checksum(front, buffer);
 }
 

@@ -1,4 +1,5 @@
-//! The pieces of a TCP segment, written one behind the other.
+//! The pieces of a TCP header, written one behind the other. `header_len` is how many bytes it takes with its options,
+//! worked out once for all of them.
 ghost use Rattle.std.specs.Prelude.{◌≡◌, ◌+◌, ◌-◌, ◌≤◌, ◌++◌, ◌∷◌, [], count_by, is_some, drop, take, length};
 ghost use Rattle.ip_wire.specs.Octets.{be16, be32};
 ghost use Rattle.ip_wire.specs.Sum.{complement, sum_after};
@@ -12,18 +13,31 @@ use control_wire::{TcpControl, TcpRepr, TcpSeqNumber, TcpTimestampRepr};
 use ip_wire::octets::{be16, behind, put};
 use ip_wire::sum::{checksum_after, word_of};
 
-/// Writes the segment with a checksum of 0.
-#[tactic(auto, using(crate::proofs::Written::whole), unfolding(crate::specs::Tcp::tcp_with))]
-pub fn write(repr: &TcpRepr<'_>, buffer: &mut [u8])
-    requires room { length buffer.old ≡ segment_header_len (segment_of repr.now) + length repr.now.payload.now }
+/// Writes the segment's header, with a checksum of 0. What stands behind it stays.
+pub fn write_front(repr: &TcpRepr<'_>, header_len: usize, buffer: &mut [u8])
+    requires counted { header_len ≡ segment_header_len (segment_of repr.now) }
+    requires room { segment_header_len (segment_of repr.now) ≤ length buffer.old }
     requires options { options_len (segment_of repr.now) ≤ 40 }
-    ensures value { buffer.new ≡ tcp_with (segment_of repr.now) 0 }
+    ensures value { buffer.new ≡ tcp_header (segment_of repr.now) 0 ++ (options_octets (segment_of repr.now)
+        ++ drop (segment_header_len (segment_of repr.now)) buffer.old) }
     ensures length { length buffer.new ≡ length buffer.old }
 {
+    let (front, _behind) = buffer.split_at_mut(header_len);
+    write_header(repr, header_len, front);
+}
+
+// Writes a header with a checksum of 0 into as many bytes as it has.
+#[tactic(auto, using(crate::proofs::Written::whole))]
+fn write_header(repr: &TcpRepr<'_>, header_len: usize, front: &mut [u8])
+    requires counted { header_len ≡ segment_header_len (segment_of repr.now) }
+    requires room { length front.old ≡ segment_header_len (segment_of repr.now) }
+    requires options { options_len (segment_of repr.now) ≤ 40 }
+    ensures value { front.new ≡ tcp_header (segment_of repr.now) 0 ++ options_octets (segment_of repr.now) }
+    ensures length { length front.new ≡ length front.old }
+{
     options_count(repr);
-    let at = append(buffer, 0, &header(repr));
-    let at = put_options(repr, buffer, at);
-    append(buffer, at, repr.payload);
+    let at = append(front, 0, &header(repr, header_len));
+    put_options(repr, header_len, front, at);
 }
 
 // Says that the options' bytes are as many as the header counts, which a proof does not see by itself.
@@ -33,15 +47,16 @@ fn options_count(repr: &TcpRepr<'_>)
         + length (stamp_octets repr.now.timestamp)))) ≡ options_len (segment_of repr.now) }
 {}
 
-fn header(repr: &TcpRepr<'_>) -> [u8; 20]
-    requires { options_len (segment_of repr.now) ≤ 40 }
+fn header(repr: &TcpRepr<'_>, header_len: usize) -> [u8; 20]
+    requires counted { header_len ≡ segment_header_len (segment_of repr.now) }
+    requires options { options_len (segment_of repr.now) ≤ 40 }
     ensures { result ≡ tcp_header (segment_of repr.now) 0 }
 {
     let [a, b] = be16(repr.src_port as usize);
     let [c, d] = be16(repr.dst_port as usize);
     let [e, f, g, h] = be32(repr.seq_number.0);
     let [i, j, k, l] = be32(ack_field(repr.ack_number));
-    let offset = (repr.header_len() / 4 * 16) as u8;
+    let offset = (header_len / 4 * 16) as u8;
     let flags = control_bits(repr.control) + ack_bit(repr.ack_number);
     let [m, n] = be16(repr.window_len as usize);
     [
@@ -51,14 +66,15 @@ fn header(repr: &TcpRepr<'_>) -> [u8; 20]
 
 /// The sum of a header with a checksum of 0, and of what was summed before. It is worked out from the numbers: what was
 /// just written in single bytes is read slowly as words.
-pub fn header_sum(start: u16, repr: &TcpRepr<'_>) -> u16
-    requires { options_len (segment_of repr.now) ≤ 40 }
+pub fn header_sum(start: u16, repr: &TcpRepr<'_>, header_len: usize) -> u16
+    requires counted { header_len ≡ segment_header_len (segment_of repr.now) }
+    requires options { options_len (segment_of repr.now) ≤ 40 }
     ensures { result ≡ sum_after start (tcp_header (segment_of repr.now) 0) }
 {
     let ports = repr.src_port as usize + repr.dst_port as usize;
     let numbers = repr.seq_number.0 as usize + ack_field(repr.ack_number) as usize;
     let flags = (control_bits(repr.control) + ack_bit(repr.ack_number)) as usize;
-    let rest = repr.header_len() / 4 * 16 * 256 + flags + repr.window_len as usize;
+    let rest = header_len / 4 * 16 * 256 + flags + repr.window_len as usize;
     word_of(start as usize + ports + numbers + rest)
 }
 
@@ -105,7 +121,8 @@ fn be32(number: u32) -> [u8; 4]
 
 // Writes the options, and END up to the end of the header.
 #[tactic(auto, using(crate::proofs::Written::six))]
-fn put_options(repr: &TcpRepr<'_>, buffer: &mut [u8], at: usize) -> usize
+fn put_options(repr: &TcpRepr<'_>, header_len: usize, buffer: &mut [u8], at: usize) -> usize
+    requires counted { header_len ≡ segment_header_len (segment_of repr.now) }
     requires start { at ≡ 20 }
     requires room { segment_header_len (segment_of repr.now) ≤ length buffer.old }
     ensures at { result ≡ segment_header_len (segment_of repr.now) }
@@ -120,7 +137,7 @@ fn put_options(repr: &TcpRepr<'_>, buffer: &mut [u8], at: usize) -> usize
     let count = sack_count(&repr.sack_ranges);
     let at = put_sack(buffer, at, count == 0, count, a, b, c);
     let at = put_stamp(buffer, at, repr.timestamp);
-    put_padding(buffer, at, repr.header_len() - at)
+    put_padding(buffer, at, header_len - at)
 }
 
 // Writes `piece` at `at`. Answers where it ends.

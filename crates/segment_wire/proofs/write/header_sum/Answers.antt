@@ -9,8 +9,8 @@ returns c =
     let r = c.args.repr.now in
     c.word_of.ensures
     ∙ (λ i. word_of (c.args.start + (r.src_port + r.dst_port) + (r.seq_number.0 + c.ack_field.ensures i)
-    + (c.header_len.ensures i / 4 * 16 * 256 + (c.control_bits.ensures.value i + c.ack_bit.ensures.value i) + r.window_len)))
+    + (c.requires.counted i / 4 * 16 * 256 + (c.control_bits.ensures.value i + c.ack_bit.ensures.value i) + r.window_len)))
     ∙ tcp_words (segment_of r) c.args.start c.ranges.start.fits (search rules) (search rules) (search rules)
-    (subst (λ v. v < 4294967296) c.ack_field.ensures (search rules)) (omega (arith, c.requires))
+    (subst (λ v. v < 4294967296) c.ack_field.ensures (search rules)) (omega (arith, c.requires.options))
     (omega (arith, c.control_bits.ensures.small, c.control_bits.ensures.value, c.ack_bit.ensures.small, c.ack_bit.ensures.value))
     (search rules)

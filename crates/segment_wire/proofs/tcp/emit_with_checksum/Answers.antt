@@ -1,6 +1,0 @@
-use Rattle.control_wire.specs.Segment.{segment_of}
-use Rattle.segment_wire.proofs.Written.{filled}
-use Rattle.segment_wire.proofs.tcp.emit_with_checksum.Goals as goal
-
-pub returns : goal.returns
-returns c = filled c.args.src_addr.now c.args.dst_addr.now (segment_of c.args.repr.now) c.write.new.buffer c.fill_checksum.new.buffer c.pseudo_sum-start.result c.header_sum-front.result c.write.ensures.value c.pseudo_sum-start.ensures c.header_sum-front.ensures c.fill_checksum.ensures
