@@ -1,5 +1,5 @@
 //! Packets that were emitted, as bytes.
-ghost use Rattle.std.specs.Prelude.{◌≡◌, ◌++◌, ◌+◌, ◌↔◌, IsTrue, [], ◌∷◌, IfOk, cond, length};
+ghost use Rattle.std.specs.Prelude.{◌≡◌, ◌≤◌, ◌++◌, ◌+◌, ◌↔◌, IsTrue, [], ◌∷◌, IfOk, cond, drop, length};
 ghost use Rattle.control_wire.specs.Segment.{segment_of};
 ghost use Rattle.ip_wire.specs.Checksum.{is_sent};
 ghost use Rattle.ip_wire.specs.IpHeader.{header_len_of};
@@ -65,10 +65,23 @@ impl Outbox {
         if !carries_tcp(ip, repr) {
             return Ok(false);
         }
-        let mut bytes = vec![in self.alloc; 0u8; ip.header_len() + repr.buffer_len()]?;
-        packet::emit_tcp(ip, repr, bytes.as_mut_slice(), caps);
+        let mut bytes = self.with_room_before(ip.header_len() + repr.header_len(), repr.payload)?;
+        packet::emit_tcp_front(ip, repr, bytes.as_mut_slice(), caps);
         self.add(bytes)?;
         Ok(true)
+    }
+
+    // A payload behind the room for the headers of its packet, which have 100 bytes at most. A packet that is filled
+    // with zeros first is written twice.
+    fn with_room_before(&self, room: usize, payload: &[u8]) -> Result<Vec<u8>, AllocError>
+        requires { room ≤ 100 }
+        ensures length { IfOk result (λ v. length v.items ≡ room + length payload.now) }
+        ensures payload { IfOk result (λ v. drop room v.items ≡ payload.now) }
+    {
+        let mut bytes = Vec::with_capacity(self.alloc, room + payload.len())?;
+        bytes.resize(room, 0)?;
+        bytes.extend_from_slice(payload)?;
+        Ok(bytes)
     }
 
     /// The same with this datagram.
@@ -103,11 +116,8 @@ impl Outbox {
         ensures { IfOk result (λ _. octets self.new.packets.items ≡ octets self.old.packets.items
             ++ (header_octets (is_sent caps.now.ipv4) ip.now ++ payload.now) ∷ []) }
     {
-        let start = ip.header_len();
-        let mut bytes = Vec::new(self.alloc);
-        bytes.extend_from_slice(&[0; 40][..start])?;
+        let mut bytes = self.with_room_before(ip.header_len(), payload)?;
         ip.emit(bytes.as_mut_slice(), caps);
-        bytes.extend_from_slice(payload)?;
         self.add(bytes)
     }
 
