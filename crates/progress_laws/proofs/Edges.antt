@@ -5,19 +5,13 @@ use Rattle.std.proofs.lemmas.Bool.{eq-eqb, eqb-true}
 use Rattle.control_wire.specs.Seq.{seq_add, seq_eq, seq_minus, seq_sub}
 use Rattle.control_wire.specs.declared.seq_number.TcpSeqNumber.{TcpSeqNumber}
 use Rattle.sock_core.specs.Seq.{is_before, is_not_after, later_of}
-use Rattle.sock_tcp.proofs.Windows.{far, not_far}
+use Rattle.sock_tcp.proofs.Windows.{not_far}
+pub use Rattle.sock_tcp.proofs.Windows.{is_not_before, same_seq}
 use Rattle.sock_tcp.specs.Window.{cut_end, cut_of, empty_inside, full_inside, kept_between, starts_inside}
 use Rattle.sock_tcp.specs.declared.window.Cut.{Cut}
 use Rattle.sock_tcp.specs.declared.window.Window.{Window}
 
 -- ---- comparisons
-
-pub is_not_before : (x y : TcpSeqNumber) → seq_sub x y < 2 ^ 31 → is_before x y ≡ false
-is_not_before x y h = go (is_before x y) refl
-  where
-    go : (b : Bool) → is_before x y ≡ b → is_before x y ≡ false
-    go true e = absurd (omega (arith, h, far x y e))
-    go false e = e
 
 pub is_earlier : (x y : TcpSeqNumber) → 2 ^ 31 ≤ seq_sub x y → is_before x y ≡ true
 is_earlier x y h = go (is_before x y) refl
@@ -25,9 +19,6 @@ is_earlier x y h = go (is_before x y) refl
     go : (b : Bool) → is_before x y ≡ b → is_before x y ≡ true
     go false e = absurd (omega (arith, h, not_far x y e))
     go true e = e
-
-pub same_seq : (x y : TcpSeqNumber) → x.0 ≡ y.0 → x ≡ y
-same_seq x y e = ap (λ n. record { 0 = n }) e
 
 pub later_is : (x y : TcpSeqNumber) → is_before x y ≡ true → later_of x y ≡ y
 unfolding later_of

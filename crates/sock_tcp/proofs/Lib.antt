@@ -5,4 +5,5 @@ pub mod FittingReplies
 pub mod Beginning
 pub mod Emitting
 pub mod Lending
+pub mod Quiet
 pub mod Sending

@@ -1,7 +1,10 @@
 -- The receive window lies within the free space, and so does what is cut to it.
-use Rattle.std.proofs.Common.{◌≡◌, ℕ, ◌+◌, ◌-◌, ◌*◌, ◌^◌, ◌<◌, ◌≤◌, ◌⊎◌, Bool, true, false, cond, ◌&&◌, ◌||◌, List, length, drop, min, Option, Some, None, refl, ap, sym, ◌∙◌, arith, inl, inr, ⊎_elim, length-drop, length-take}
+use Rattle.std.proofs.Common.{◌≡◌, ℕ, ◌+◌, ◌-◌, ◌*◌, ◌/◌, ◌^◌, ◌<◌, ◌≤◌, ◌⊎◌, Bool, true, false, cond, ◌&&◌, ◌||◌, List, length, drop, min, Option, Some, None, refl, ap, sym, ◌∙◌, arith, inl, inr, ⊎_elim, length-drop, length-take}
 use Rattle.std.specs.Prelude.{if◌then◌else◌, ◌==◌}
-use Rattle.std.proofs.lemmas.Bool.{leb-true, leb-false, eqb-true}
+use Rattle.std.proofs.lemmas.Bool.{leb-true, leb-false, eqb-true, lt-leb}
+use Rattle.std.proofs.Math.Nat.{mul-div_cancel, mul-le-mul_left}
+use Rattle.std.proofs.Math.Pow.{pow_mono}
+use Rattle.std.proofs.lemmas.Nat.{pow_pos}
 use Rattle.std.proofs.lemmas.Bool.Decides.{nat_tests}
 use Rattle.control_wire.specs.Seq.{seq_add, seq_sub, seq_minus, seq_eq}
 use Rattle.control_wire.specs.declared.seq_number.TcpSeqNumber.{TcpSeqNumber}
@@ -22,6 +25,27 @@ not_far x y e = leb-false (2 ^ 31) (seq_sub x y) e
 pub far : (x y : TcpSeqNumber) → is_before x y ≡ true → 2 ^ 31 ≤ seq_sub x y
 unfolding is_before number_is_before number_distance
 far x y e = leb-true (2 ^ 31) (seq_sub x y) e
+
+pub same_seq : (x y : TcpSeqNumber) → x.0 ≡ y.0 → x ≡ y
+same_seq x y e = ap (λ n. record { 0 = n }) e
+
+pub is_not_before : (x y : TcpSeqNumber) → seq_sub x y < 2 ^ 31 → is_before x y ≡ false
+unfolding is_before number_is_before number_distance
+is_not_before x y h = lt-leb (2 ^ 31) (seq_sub x y) h
+
+-- what is left of a window that was just told, from the next number on, is told by the same field
+pub left_is_told : (next : TcpSeqNumber) (field shift : ℕ) → next.0 < 2 ^ 32 → field < 2 ^ 16 → field * 2 ^ shift ≤ 2 ^ 30 → (if is_before (seq_add next (field * 2 ^ shift)) next then 0 else min (seq_sub (seq_add next (field * 2 ^ shift)) next / 2 ^ shift) 65535) ≡ field
+left_is_told next field shift range small fits =
+    let far_on : seq_sub (seq_add next (field * 2 ^ shift)) next ≡ field * 2 ^ shift = omega (arith, range, fits) in
+    let whole : seq_sub (seq_add next (field * 2 ^ shift)) next / 2 ^ shift ≡ field = ap (λ n. n / 2 ^ shift) far_on ∙ mul-div_cancel field (pow_pos shift) in
+    ap (λ b. cond b 0 (min (seq_sub (seq_add next (field * 2 ^ shift)) next / 2 ^ shift) 65535)) (is_not_before (seq_add next (field * 2 ^ shift)) next (omega (arith, far_on, fits)))
+    ∙ omega (arith, whole, small)
+
+-- a field of 16 bits, shifted by 14 bits at most
+pub shifted_fits : (field shift : ℕ) → field < 2 ^ 16 → shift ≤ 14 → field * 2 ^ shift ≤ 2 ^ 30
+shifted_fits field shift small few =
+    let p : field * 2 ^ shift ≤ field * 2 ^ 14 = mul-le-mul_left field (pow_mono few) in
+    omega (arith, p, small)
 
 both : (a b : Bool) → (a && b) ≡ true → (a ≡ true) × (b ≡ true)
 both true true e = (refl, refl)

@@ -73,6 +73,7 @@ impl<'a> ControlBlock<'a> {
         self.nagle && self.flight() != 0 && self.sendable() < mss && !self.state.is_closing()
     }
 
+    #[inline(always)]
     #[tactic(auto, unfolding(crate::specs::Due::data_due, crate::specs::Due::control_due))]
     pub(crate) fn data_due<C: Context>(&self, cx: &C, tuple: &Tuple, stamps: bool) -> bool
         ensures { result ≡ data_due self.now tuple.now (C.facts cx.now) stamps }

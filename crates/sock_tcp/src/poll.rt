@@ -1,13 +1,18 @@
 //! When a socket wants its next dispatch.
-ghost use Rattle.std.specs.Prelude.{◌≡◌, is_some};
+ghost use Rattle.std.specs.Prelude.{◌≡◌, IsTrue, Bool, Some, false, is_some};
 ghost use Rattle.sock_tcp.specs.View.{IsShort};
 ghost use Rattle.sock_tcp.specs.Timers.{IsLastTs};
 ghost use Rattle.sock_tcp.specs.Polls.{is_reached, earlier, timeout_poll, timer_poll};
-ghost use Rattle.sock_tcp.specs.Poll.{is_due_now, poll_moment};
+ghost use Rattle.sock_tcp.specs.Poll.{is_due_now, poll_moment, poll_moment_to};
+ghost use Rattle.sock_tcp.specs.Window.{next_ack};
+ghost use Rattle.sock_tcp.specs.Due.{ack_due, ack_poll, window_doubled};
+ghost use Rattle.sock_core.specs.Facts.{Facts};
+ghost use Rattle.sock_tcp.specs.declared.tuple.Tuple.{Tuple};
 ghost use Rattle.sock_tcp.specs.Work.{has_work};
 
 use crate::control_block::ControlBlock;
 use crate::socket::Socket;
+use crate::state::State;
 use crate::timer::{Timer, after, is_over};
 use crate::tuple::Tuple;
 use net_base::time::{Duration, Instant};
@@ -76,17 +81,74 @@ impl<'a> ControlBlock<'a> {
     fn poll_at<C: Context>(&self, cx: &C, stamps: bool) -> PollAt
         ensures { result ≡ poll_moment self.now (C.facts cx.now) stamps }
     {
-        let tuple = match self.tuple {
+        let tuple = match &self.tuple {
             None => return PollAt::Ingress,
             Some(tuple) => tuple,
         };
-        if self.is_due_now(cx, &tuple, stamps) {
+        let timeout = timeout_poll(self.timeout, self.remote_last_ts);
+        if self.is_quiet() {
+            return self.timer_or(timeout);
+        }
+        self.poll_at_in_full(cx, tuple, stamps, timeout)
+    }
+
+    // The poll moment of a socket with a peer, by all that it may wait for. Not inlined, so that the path of a quiet
+    // socket has no registers to save.
+    #[inline(never)]
+    fn poll_at_in_full<C: Context>(
+        &self,
+        cx: &C,
+        tuple: &Tuple,
+        stamps: bool,
+        timeout: PollAt,
+    ) -> PollAt
+        requires { timeout ≡ timeout_poll self.now.timeout self.now.remote_last_ts }
+        ensures { result ≡ poll_moment_to (Some tuple.now) self.now (C.facts cx.now) stamps }
+    {
+        if self.is_due_now(cx, tuple, stamps) {
             return PollAt::Now;
         }
-        let timeout = timeout_poll(self.timeout, self.remote_last_ts);
         match self.ack_poll() {
             PollAt::Ingress => self.timer_or(timeout),
             ack => earlier(self.timer.poll_at(), earlier(timeout, ack)),
+        }
+    }
+
+    // Whether this is a connection that is open both ways, with nothing queued and nothing to tell. Most sockets that
+    // are asked are such, and are spared the questions for the others. Where the answer is no, it says nothing.
+    #[tactic(auto, using(crate::proofs::Quiet::no_reason, crate::proofs::Quiet::waits_for_a_segment))]
+    fn is_quiet(&self) -> bool
+        ensures due { IsTrue result
+            → (t : Tuple) (f : Facts) (stamps : Bool) → is_due_now self.now t f stamps ≡ false }
+        ensures acknowledged { IsTrue result → ack_poll self.now ≡ PollAt.Ingress }
+    {
+        match (self.state, self.remote_last_ts) {
+            (State::Established, Some(_)) => self.tx_buffer.is_empty() && self.has_told_all(),
+            _ => false,
+        }
+    }
+
+    // Whether the peer was told what it is to be told: the last acknowledgement that was sent is for all that came, and
+    // a window field that went out now would be 0, or less than twice the one that went out with it.
+    #[tactic(auto, using(crate::proofs::Quiet::no_window, crate::proofs::Quiet::not_doubled))]
+    fn has_told_all(&self) -> bool
+        ensures acknowledged { IsTrue result → ack_due self.now ≡ false }
+        ensures window { IsTrue result → window_doubled self.now ≡ false }
+    {
+        let told = self.remote_last_win;
+        let field = self.window_field();
+        self.has_acknowledged() && (field == 0 || field / 2 < told)
+    }
+
+    // Whether the last acknowledgement that was sent is for all that came.
+    #[tactic(auto, using(crate::proofs::Quiet::same_number, crate::proofs::Quiet::not_owed))]
+    fn has_acknowledged(&self) -> bool
+        ensures number { IsTrue result → self.now.remote_last_ack ≡ Some (next_ack self.now) }
+        ensures acknowledged { IsTrue result → ack_due self.now ≡ false }
+    {
+        match self.remote_last_ack {
+            Some(ack) => ack == self.next_ack(),
+            None => false,
         }
     }
 

@@ -1,10 +1,9 @@
 -- When a dispatch that sent nothing but an acknowledgement wants another one at once.
 use Rattle.std.proofs.Common.{◌≡◌, ℕ, ◌+◌, ◌-◌, ◌*◌, ◌/◌, ◌%◌, ◌<◌, ◌≤◌, ◌^◌, ◌⊎◌, inl, inr, Bool, true, false, true≢false, not, ◌&&◌, ◌||◌, refl, sym, ap, subst, ◌∙◌, List, length, min, Option, Some, None, is_none, is_some, arith}
 use Rattle.std.specs.Prelude.{if◌then◌else◌, ◌==◌, int_le, nat_le, option_map}
-use Rattle.std.proofs.Math.Nat.{div-mul-le_self, mul-div_cancel, mul-le-mul_right}
+use Rattle.std.proofs.Math.Nat.{div-mul-le_self, mul-le-mul_right}
 use Rattle.std.proofs.lemmas.Bool.{and_parts, eqb-false, eqb-true, leb-true}
 use Rattle.std.proofs.lemmas.Int.{ints}
-use Rattle.std.proofs.lemmas.Nat.{pow_pos}
 use Rattle.std.proofs.lemmas.Option.{none-some, same_Some}
 use Rattle.net_base.specs.declared.time.Duration.{Duration}
 use Rattle.net_base.specs.declared.time.Instant.{Instant}
@@ -19,7 +18,7 @@ use Rattle.sock_core.specs.Received.{room_of}
 use Rattle.sock_core.specs.Seq.{is_before, later_of}
 use Rattle.sock_core.specs.declared.context.PollAt.{PollAt}
 use Rattle.sock_core.specs.declared.context.PollAt.TheVariants as poll
-use Rattle.sock_tcp.proofs.Windows.{far}
+use Rattle.sock_tcp.proofs.Windows.{far, left_is_told}
 use Rattle.sock_tcp.specs.Begin.{Begun, readied, after_timers}
 use Rattle.sock_tcp.specs.Content.{Sending, asked, carries_data, content, emission_kind, filled, is_probing, of_kind, offset_of, plain_segment, sent_as, window_left}
 use Rattle.sock_tcp.specs.Due.{ack_due, ack_poll, data_due, edge_sent, effective_mss, field_left, flight, is_ack_after, is_closed, is_closing, is_doubled, is_held_back, is_opening, sendable, tells_window, window_doubled, window_field}
@@ -215,17 +214,8 @@ module _ (next : TcpSeqNumber) (small : next.0 < 2 ^ 32) (field shift held : ℕ
   places_fit : places ≤ 2 ^ 30
   places_fit = let a : field ≤ held / 2 ^ shift = omega (arith, is) in let b : places ≤ held / 2 ^ shift * 2 ^ shift = mul-le-mul_right (2 ^ shift) a in let c = div-mul-le_self held (2 ^ shift) in omega (arith, b, c, room)
 
-  distance : seq_sub (seq_add next places) next ≡ places
-  distance = let h = places_fit in omega (arith, h, small)
-
   left_whole : (if is_before (seq_add next places) next then 0 else min (seq_sub (seq_add next places) next / 2 ^ shift) 65535) ≡ field
-  left_whole = go (is_before (seq_add next places) next) refl
-    where
-      go : (b : Bool) → is_before (seq_add next places) next ≡ b → (if b then 0 else min (seq_sub (seq_add next places) next / 2 ^ shift) 65535) ≡ field
-      go true e = absurd (omega (arith, far (seq_add next places) next e, distance, places_fit))
-      go false e =
-          let d : seq_sub (seq_add next places) next / 2 ^ shift ≡ field = ap (λ k. k / 2 ^ shift) distance ∙ mul-div_cancel field (pow_pos shift) in
-          ap (λ k. min k 65535) d ∙ omega (arith, is)
+  left_whole = left_is_told next field shift small (omega (arith, is)) places_fit
 
 half_less : (n m : ℕ) → m ≡ n → not (n == 0) ≡ true → nat_le m (n / 2) ≡ true → ⊥
 half_less n m e some h = go (n == 0) refl
