@@ -52,3 +52,4 @@ pub mod Accepts
 pub mod FromOpening
 pub mod LostAck
 pub mod Pairs
+pub mod Premises

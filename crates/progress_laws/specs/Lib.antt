@@ -9,3 +9,4 @@ pub mod AfterClose
 pub mod Opening
 pub mod FromOpening
 pub mod Pairs
+pub mod Premises

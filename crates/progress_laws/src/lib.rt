@@ -22,6 +22,7 @@ ghost use Rattle.progress_laws.specs.FromOpening.{CrossedSynsComeAgain, LostAckC
 ghost use Rattle.progress_laws.specs.InStep.{OneWayCompletes, OneWayFinishes};
 ghost use Rattle.progress_laws.specs.Opening.{HandshakeCompletes, ListenerAnswersSyn};
 ghost use Rattle.progress_laws.specs.Pairs.{BothCanAlways, BothClosedCanAlways, CanAlways};
+ghost use Rattle.progress_laws.specs.Premises.{PremisesCanBeMet};
 ghost use Rattle.progress_laws.specs.ShutWindows.{ShutWindowsOpen};
 ghost use Rattle.progress_laws.specs.Speech.{SpeaksPastItsTimers};
 ghost use Rattle.progress_laws.specs.Wakes.{WorkWakesOrSleeps};
@@ -203,3 +204,12 @@ pub fn pairs_can_go_on<G>()
     agreeing_closers_finish();
     pair_core::laws::sides_agree::<G>();
 }
+
+/// What the laws ask for can be met: of their premises, as records of the sockets and sides that they speak of, there
+/// are instances. Two sockets that are to be opened toward each other, and two that both connect (`AreOpened`,
+/// `IsCaller`); one that hears of the other's stream, and one that has counted its end (`HearsOf`, `HasCounted`); two in
+/// step but for their windows (`BothShut`); and two that agree on their numbers, as sides whose bytes can come over both
+/// ways (`AgreeBothWays`, `BothCanComeOver`).
+pub fn premises_can_be_met()
+    ensures { PremisesCanBeMet }
+{}
