@@ -152,7 +152,7 @@ impl fmt::Display for TooShort {
 
 impl core::error::Error for TooShort {}
 
-/// The program of docs/RUST.md is a test.
+/// The program of README.md, which is docs/RUST.md of the repository, is a test.
 #[cfg(doctest)]
-#[doc = include_str!("../../../docs/RUST.md")]
+#[doc = include_str!("../README.md")]
 struct Page;
