@@ -73,10 +73,20 @@ macro_rules! asks {
     )*};
 }
 
-// A call that has no argument but the socket.
-macro_rules! acts {
+// What a socket is asked by a call of its own.
+macro_rules! looks {
     ($($name:ident => $call:ident;)*) => {$(
         pub fn $name(&self) -> i64 {
+            // SAFETY: C.md: socket, one call, buffers.
+            unsafe { ffi::$call(&mut self.handle()) }
+        }
+    )*};
+}
+
+// A call that has no argument but the socket, and changes it.
+macro_rules! acts {
+    ($($name:ident => $call:ident;)*) => {$(
+        pub fn $name(&mut self) -> i64 {
             // SAFETY: C.md: socket, one call, buffers.
             unsafe { ffi::$call(&mut self.handle()) }
         }
@@ -131,6 +141,9 @@ impl<'a> Tcp<'a> {
     acts! {
         close => smoltcp_tcp_close_checked;
         abort => smoltcp_tcp_abort_checked;
+    }
+
+    looks! {
         state => smoltcp_tcp_state_checked;
         may_send => smoltcp_tcp_may_send_checked;
         can_send => smoltcp_tcp_can_send_checked;

@@ -95,6 +95,9 @@
 #![no_std]
 #![deny(missing_docs, unsafe_code, unsafe_op_in_unsafe_fn, clippy::undocumented_unsafe_blocks)]
 
+#[cfg(feature = "std")]
+extern crate std;
+
 #[allow(unsafe_code)]
 mod calls;
 mod context;

@@ -52,7 +52,7 @@ pub(crate) fn hop_limit_in(byte: u8) -> Option<u8> {
     if byte == 0 { None } else { Some(byte) }
 }
 
-/// A count that a call answered, which is 0 or more.
+/// A count that a call answered, which is 0 or more: the contracts of those calls have no error.
 pub(crate) fn count_in(answer: i64) -> usize {
-    usize::try_from(answer).unwrap_or(0)
+    usize::try_from(answer).unwrap_or_else(|_| unreachable!("a call that has no error answered {answer}"))
 }

@@ -372,7 +372,19 @@ pub(crate) fn poll_in(answer: i64, at: i64, cx: &Context) -> PollAt {
     match answer {
         ffi::OK if at <= cx.raw.now => PollAt::Now,
         ffi::OK => PollAt::Time(Instant::from_micros(at)),
-        _ => PollAt::Ingress,
+        ffi::NO_MOMENT => PollAt::Ingress,
+        // a context's moment and MTU are in their ranges
+        _ => unreachable!("poll_at answered {answer}"),
+    }
+}
+
+/// Writes a text as far as there is room; an error where not all of it was taken, as smoltcp.
+impl fmt::Write for Socket<'_> {
+    fn write_str(&mut self, text: &str) -> fmt::Result {
+        match self.send_slice(text.as_bytes()) {
+            Ok(len) if len == text.len() => Ok(()),
+            _ => Err(fmt::Error),
+        }
     }
 }
 

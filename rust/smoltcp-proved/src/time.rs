@@ -26,6 +26,32 @@ impl Instant {
         Instant { micros: secs.into().saturating_mul(1_000_000) }
     }
 
+    /// As `from_micros`, in a constant.
+    pub const fn from_micros_const(micros: i64) -> Instant {
+        Instant { micros }
+    }
+
+    /// As `from_millis`, in a constant.
+    pub const fn from_millis_const(millis: i64) -> Instant {
+        Instant { micros: millis.saturating_mul(1000) }
+    }
+
+    /// The moment by the system's clock, since 1970 began; that clock may go back. Behind the feature `std`.
+    #[cfg(feature = "std")]
+    pub fn now() -> Instant {
+        Instant::from(std::time::SystemTime::now())
+    }
+
+    /// The microseconds behind the last whole second.
+    pub const fn micros(&self) -> i64 {
+        self.micros % 1_000_000
+    }
+
+    /// The whole milliseconds behind the last whole second.
+    pub const fn millis(&self) -> i64 {
+        self.micros % 1_000_000 / 1000
+    }
+
     /// The microseconds since the beginning.
     pub const fn total_micros(&self) -> i64 {
         self.micros
@@ -48,6 +74,27 @@ impl fmt::Display for Instant {
     }
 }
 
+/// Since 1970 began; a moment before it is negative, and one too far is the last.
+#[cfg(feature = "std")]
+impl From<std::time::SystemTime> for Instant {
+    fn from(other: std::time::SystemTime) -> Instant {
+        let micros = |length: std::time::Duration| i64::try_from(length.as_micros()).unwrap_or(i64::MAX);
+        match other.duration_since(std::time::UNIX_EPOCH) {
+            Ok(after) => Instant { micros: micros(after) },
+            Err(before) => Instant { micros: -micros(before.duration()) },
+        }
+    }
+}
+
+/// Behind the beginning of 1970, or before it.
+#[cfg(feature = "std")]
+impl From<Instant> for std::time::SystemTime {
+    fn from(other: Instant) -> std::time::SystemTime {
+        let length = std::time::Duration::from_micros(other.micros.unsigned_abs());
+        if other.micros < 0 { std::time::UNIX_EPOCH - length } else { std::time::UNIX_EPOCH + length }
+    }
+}
+
 /// A sum that would be too far is the last moment.
 impl ops::Add<Duration> for Instant {
     type Output = Instant;
@@ -60,6 +107,21 @@ impl ops::Add<Duration> for Instant {
 impl ops::AddAssign<Duration> for Instant {
     fn add_assign(&mut self, after: Duration) {
         *self = *self + after;
+    }
+}
+
+/// A difference that would be too far is the first moment.
+impl ops::Sub<Duration> for Instant {
+    type Output = Instant;
+
+    fn sub(self, before: Duration) -> Instant {
+        Instant { micros: self.micros.saturating_sub_unsigned(before.micros) }
+    }
+}
+
+impl ops::SubAssign<Duration> for Instant {
+    fn sub_assign(&mut self, before: Duration) {
+        *self = *self - before;
     }
 }
 
@@ -82,6 +144,9 @@ impl Duration {
     /// No time.
     pub const ZERO: Duration = Duration { micros: 0 };
 
+    /// The longest.
+    pub const MAX: Duration = Duration { micros: u64::MAX };
+
     /// So many microseconds.
     pub const fn from_micros(micros: u64) -> Duration {
         Duration { micros }
@@ -95,6 +160,16 @@ impl Duration {
     /// So many seconds.
     pub const fn from_secs(secs: u64) -> Duration {
         Duration { micros: secs.saturating_mul(1_000_000) }
+    }
+
+    /// The microseconds behind the last whole second.
+    pub const fn micros(&self) -> u64 {
+        self.micros % 1_000_000
+    }
+
+    /// The whole milliseconds behind the last whole second.
+    pub const fn millis(&self) -> u64 {
+        self.micros % 1_000_000 / 1000
     }
 
     /// The microseconds.
@@ -116,6 +191,70 @@ impl Duration {
 impl fmt::Display for Duration {
     fn fmt(&self, f: &mut fmt::Formatter<'_>) -> fmt::Result {
         write!(f, "{}.{:03}s", self.secs(), self.total_millis() % 1000)
+    }
+}
+
+/// A sum that would be too long is the longest.
+impl ops::Add<Duration> for Duration {
+    type Output = Duration;
+
+    fn add(self, more: Duration) -> Duration {
+        Duration { micros: self.micros.saturating_add(more.micros) }
+    }
+}
+
+impl ops::AddAssign<Duration> for Duration {
+    fn add_assign(&mut self, more: Duration) {
+        *self = *self + more;
+    }
+}
+
+/// # Panics
+/// Where the other is longer, as smoltcp.
+impl ops::Sub<Duration> for Duration {
+    type Output = Duration;
+
+    fn sub(self, less: Duration) -> Duration {
+        Duration {
+            micros: self.micros.checked_sub(less.micros).expect("overflow when subtracting durations"),
+        }
+    }
+}
+
+impl ops::SubAssign<Duration> for Duration {
+    fn sub_assign(&mut self, less: Duration) {
+        *self = *self - less;
+    }
+}
+
+/// A product that would be too long is the longest.
+impl ops::Mul<u32> for Duration {
+    type Output = Duration;
+
+    fn mul(self, times: u32) -> Duration {
+        Duration { micros: self.micros.saturating_mul(times.into()) }
+    }
+}
+
+impl ops::MulAssign<u32> for Duration {
+    fn mul_assign(&mut self, times: u32) {
+        *self = *self * times;
+    }
+}
+
+/// # Panics
+/// Where the divisor is 0.
+impl ops::Div<u32> for Duration {
+    type Output = Duration;
+
+    fn div(self, parts: u32) -> Duration {
+        Duration { micros: self.micros / u64::from(parts) }
+    }
+}
+
+impl ops::DivAssign<u32> for Duration {
+    fn div_assign(&mut self, parts: u32) {
+        *self = *self / parts;
     }
 }
 

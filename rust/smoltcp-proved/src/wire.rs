@@ -1,6 +1,11 @@
-//! Addresses and endpoints, as smoltcp's.
+//! Addresses, endpoints and prefixes, as smoltcp's.
+mod cidr;
+
+pub use cidr::{IpCidr, Ipv4Cidr, Ipv6Cidr};
 use core::fmt;
+use core::net::{IpAddr, SocketAddr, SocketAddrV4, SocketAddrV6};
 pub use core::net::{Ipv4Addr as Ipv4Address, Ipv6Addr as Ipv6Address};
+use core::str::FromStr;
 
 /// A version of IP.
 #[derive(Debug, PartialEq, Eq, PartialOrd, Ord, Hash, Clone, Copy)]
@@ -26,6 +31,49 @@ impl IpAddress {
         IpAddress::Ipv4(Ipv4Address::new(a, b, c, d))
     }
 
+    /// The IPv6 address of eight groups.
+    #[allow(clippy::too_many_arguments)]
+    pub const fn v6(a: u16, b: u16, c: u16, d: u16, e: u16, f: u16, g: u16, h: u16) -> IpAddress {
+        IpAddress::Ipv6(Ipv6Address::new(a, b, c, d, e, f, g, h))
+    }
+
+    /// Its version.
+    pub const fn version(&self) -> IpVersion {
+        match self {
+            IpAddress::Ipv4(_) => IpVersion::Ipv4,
+            IpAddress::Ipv6(_) => IpVersion::Ipv6,
+        }
+    }
+
+    /// Whether it is of one interface: neither unspecified, nor a group's, nor the broadcast address.
+    pub fn is_unicast(&self) -> bool {
+        !(self.is_unspecified() || self.is_multicast() || self.is_broadcast())
+    }
+
+    /// Whether it is of a group.
+    pub fn is_multicast(&self) -> bool {
+        match self {
+            IpAddress::Ipv4(addr) => addr.is_multicast(),
+            IpAddress::Ipv6(addr) => addr.is_multicast(),
+        }
+    }
+
+    /// Whether it is 255.255.255.255; never of IPv6.
+    pub fn is_broadcast(&self) -> bool {
+        match self {
+            IpAddress::Ipv4(addr) => addr.is_broadcast(),
+            IpAddress::Ipv6(_) => false,
+        }
+    }
+
+    /// Whether it is of the host itself: in 127.0.0.0/8, or ::1.
+    pub fn is_loopback(&self) -> bool {
+        match self {
+            IpAddress::Ipv4(addr) => addr.is_loopback(),
+            IpAddress::Ipv6(addr) => addr.is_loopback(),
+        }
+    }
+
     /// Whether all its octets are 0.
     pub fn is_unspecified(&self) -> bool {
         match self {
@@ -44,6 +92,33 @@ impl From<Ipv4Address> for IpAddress {
 impl From<Ipv6Address> for IpAddress {
     fn from(addr: Ipv6Address) -> IpAddress {
         IpAddress::Ipv6(addr)
+    }
+}
+
+impl From<IpAddr> for IpAddress {
+    fn from(addr: IpAddr) -> IpAddress {
+        match addr {
+            IpAddr::V4(addr) => IpAddress::Ipv4(addr),
+            IpAddr::V6(addr) => IpAddress::Ipv6(addr),
+        }
+    }
+}
+
+impl From<IpAddress> for IpAddr {
+    fn from(addr: IpAddress) -> IpAddr {
+        match addr {
+            IpAddress::Ipv4(addr) => IpAddr::V4(addr),
+            IpAddress::Ipv6(addr) => IpAddr::V6(addr),
+        }
+    }
+}
+
+/// As `core::net` reads it; the error is the unit, as smoltcp's.
+impl FromStr for IpAddress {
+    type Err = ();
+
+    fn from_str(text: &str) -> Result<IpAddress, ()> {
+        text.parse::<IpAddr>().map(IpAddress::from).map_err(|_| ())
     }
 }
 
@@ -88,6 +163,40 @@ impl<T: Into<IpAddress>> From<(T, u16)> for IpEndpoint {
     }
 }
 
+impl From<SocketAddr> for IpEndpoint {
+    fn from(at: SocketAddr) -> IpEndpoint {
+        IpEndpoint { addr: at.ip().into(), port: at.port() }
+    }
+}
+
+impl From<SocketAddrV4> for IpEndpoint {
+    fn from(at: SocketAddrV4) -> IpEndpoint {
+        SocketAddr::V4(at).into()
+    }
+}
+
+/// Without its flow and its scope.
+impl From<SocketAddrV6> for IpEndpoint {
+    fn from(at: SocketAddrV6) -> IpEndpoint {
+        SocketAddr::V6(at).into()
+    }
+}
+
+impl From<IpEndpoint> for SocketAddr {
+    fn from(at: IpEndpoint) -> SocketAddr {
+        SocketAddr::new(at.addr.into(), at.port)
+    }
+}
+
+/// As `core::net` reads it: `10.0.0.1:80`, `[fd00::1]:80`; the error is the unit, as smoltcp's.
+impl FromStr for IpEndpoint {
+    type Err = ();
+
+    fn from_str(text: &str) -> Result<IpEndpoint, ()> {
+        text.parse::<SocketAddr>().map(IpEndpoint::from).map_err(|_| ())
+    }
+}
+
 /// A port at one address, or at any.
 #[derive(Debug, Default, PartialEq, Eq, PartialOrd, Ord, Hash, Clone, Copy)]
 pub struct IpListenEndpoint {
@@ -95,6 +204,13 @@ pub struct IpListenEndpoint {
     pub addr: Option<IpAddress>,
     /// The port.
     pub port: u16,
+}
+
+impl IpListenEndpoint {
+    /// Whether it has an address, and a port that is not 0.
+    pub const fn is_specified(&self) -> bool {
+        self.addr.is_some() && self.port != 0
+    }
 }
 
 impl fmt::Display for IpListenEndpoint {
@@ -121,5 +237,11 @@ impl From<IpEndpoint> for IpListenEndpoint {
 impl<T: Into<IpAddress>> From<(T, u16)> for IpListenEndpoint {
     fn from((addr, port): (T, u16)) -> IpListenEndpoint {
         IpListenEndpoint { addr: Some(addr.into()), port }
+    }
+}
+
+impl From<SocketAddr> for IpListenEndpoint {
+    fn from(at: SocketAddr) -> IpListenEndpoint {
+        IpEndpoint::from(at).into()
     }
 }
