@@ -105,8 +105,6 @@ pub struct IcmpEndpoint {
 }
 
 pub const OK: i64 = 0;
-/// What `poll_at` answers where no moment is wanted.
-pub const NO_MOMENT: i64 = 1;
 pub const ERROR_STATE: i64 = -1;
 pub const ERROR_FINISHED: i64 = -3;
 pub const ERROR_ROOM: i64 = -6;

@@ -368,11 +368,14 @@ pub fn reset(packet: &[u8], reply: &mut [u8]) -> Result<Option<usize>, NotAccept
     replied(calls::reset(packet, reply))
 }
 
+/// What `poll_at` answers where no moment is wanted.
+const NO_MOMENT: i64 = 1;
+
 pub(crate) fn poll_in(answer: i64, at: i64, cx: &Context) -> PollAt {
     match answer {
         ffi::OK if at <= cx.raw.now => PollAt::Now,
         ffi::OK => PollAt::Time(Instant::from_micros(at)),
-        ffi::NO_MOMENT => PollAt::Ingress,
+        NO_MOMENT => PollAt::Ingress,
         // a context's moment and MTU are in their ranges
         _ => unreachable!("poll_at answered {answer}"),
     }
