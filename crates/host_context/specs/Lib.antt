@@ -1,3 +1,4 @@
 pub mod Facts
+pub mod Layer
 pub mod Outbox
 pub mod Words

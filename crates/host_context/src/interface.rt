@@ -13,7 +13,11 @@ use smoltcp_socket::wire::{ChecksumCapabilities, IpAddress, Ipv4Address, Ipv6Add
 // No moment is later, in microseconds: some 36,000 years.
 const LATEST: usize = 1 << 60;
 
-/// An interface with one address of each version of IP: the context of every call of a socket.
+/// An interface with at most one address of each version of IP: the context of every call of a socket.
+///
+/// An unspecified address (all zeros) is none: nothing is sent from it, so that `connect` to that version of IP is
+/// refused as `Unaddressable` and a datagram to it leaves the queue without a packet, and `has_ip_addr` denies it. The
+/// one exception is an ICMPv6 message: a socket asks for its source by a call that always answers one.
 ///
 /// `W` is the source of random words. `O` is where packets that sockets emit are put, as `Outbox`: the closure of
 /// `dispatch` is lent the interface, and reaches it there.
@@ -58,21 +62,21 @@ impl<W, O> Interface<W, O> {
         }
     }
 
-    /// Its IPv4 address.
+    /// Its IPv4 address; unspecified where it has none.
     pub fn ipv4_addr(&self) -> Ipv4Address
         ensures { result ≡ self.now.v4 }
     {
         self.v4
     }
 
-    /// Its IPv6 address.
+    /// Its IPv6 address; unspecified where it has none.
     pub fn ipv6_addr(&self) -> Ipv6Address
         ensures { result ≡ self.now.v6 }
     {
         self.v6
     }
 
-    /// Sets the IPv6 address.
+    /// Sets the IPv6 address; the unspecified one takes it away.
     pub fn set_ipv6_addr(&mut self, v6: Ipv6Address)
         ensures { self.new ≡ record self.old { v6 = v6 } }
     {
@@ -130,19 +134,23 @@ impl<W: Words, O> Context for Interface<W, O> {
 
     fn has_ip_addr(&self, addr: IpAddress) -> bool {
         match addr {
-            IpAddress::Ipv4(_) => addr == IpAddress::Ipv4(self.v4),
-            IpAddress::Ipv6(_) => addr == IpAddress::Ipv6(self.v6),
+            IpAddress::Ipv4(_) => !self.v4.is_unspecified() && addr == IpAddress::Ipv4(self.v4),
+            IpAddress::Ipv6(_) => !self.v6.is_unspecified() && addr == IpAddress::Ipv6(self.v6),
         }
     }
 
     fn get_source_address(&self, dst: &IpAddress) -> Option<IpAddress> {
         match dst {
-            IpAddress::Ipv4(_) => Some(IpAddress::Ipv4(self.v4)),
-            IpAddress::Ipv6(_) => Some(IpAddress::Ipv6(self.v6)),
+            IpAddress::Ipv4(_) if !self.v4.is_unspecified() => Some(IpAddress::Ipv4(self.v4)),
+            IpAddress::Ipv6(_) if !self.v6.is_unspecified() => Some(IpAddress::Ipv6(self.v6)),
+            _ => None,
         }
     }
 
     fn get_source_address_ipv4(&self, _dst: &Ipv4Address) -> Option<Ipv4Address> {
+        if self.v4.is_unspecified() {
+            return None;
+        }
         Some(self.v4)
     }
 

@@ -1,20 +1,25 @@
 //! Packets that were emitted, as bytes.
-ghost use Rattle.std.specs.Prelude.{◌≡◌, ◌≤◌, ◌++◌, ◌+◌, ◌↔◌, IsTrue, [], ◌∷◌, IfOk, cond, drop, length};
+ghost use Rattle.std.specs.Prelude.{◌≡◌, ◌≤◌, ◌++◌, ◌+◌, ◌↔◌, IsTrue, [], ◌∷◌, IfOk, cond, drop, length, OnErr};
+ghost use Rattle.control_wire.specs.Icmp.{icmpv4_octets, icmpv6_octets, message_v4, message_v6};
 ghost use Rattle.control_wire.specs.Segment.{segment_of};
 ghost use Rattle.ip_wire.specs.Checksum.{is_sent};
 ghost use Rattle.ip_wire.specs.IpHeader.{header_len_of};
 ghost use Rattle.ip_wire.specs.Packet.{header_octets};
 ghost use Rattle.segment_wire.specs.Packet.{tcp_packet, udp_packet};
-ghost use Rattle.host_context.specs.Outbox.{CarriesTcp, CarriesUdp, octets};
+ghost use Rattle.host_context.specs.Outbox.{CarriesTcp, CarriesUdp, icmp_packet, octets, with_packet};
 
 use segment_wire::packet;
-use smoltcp_socket::wire::{ChecksumCapabilities, IcmpRepr, IpProtocol, IpRepr, TcpRepr, UdpRepr};
+use smoltcp_socket::wire::{
+    ChecksumCapabilities, IcmpRepr, Icmpv4Repr, Icmpv6Repr, IpProtocol, IpRepr, Ipv6Repr, TcpRepr,
+    UdpRepr,
+};
 use std::alloc::{AllocError, Global};
 use std::mem;
 
 /// The packets that were emitted and not taken out yet, the oldest first.
 ///
-/// The sockets emit no packet whose header does not count what it carries.
+/// The sockets emit no packet whose header does not count what it carries. A call that is refused for want of memory
+/// leaves the packets as they were.
 #[derive(Drop)]
 pub struct Outbox {
     alloc: Global,
@@ -43,8 +48,9 @@ impl Outbox {
 
     #[tactic(auto, using(crate::proofs::Added::octets_added))]
     fn add(&mut self, packet: Vec<u8>) -> Result<(), AllocError>
-        ensures { IfOk result (λ _. octets self.new.packets.items
+        ensures added { IfOk result (λ _. octets self.new.packets.items
             ≡ octets self.old.packets.items ++ packet.items ∷ []) }
+        ensures kept { OnErr result (self.new.packets.items ≡ self.old.packets.items) }
     {
         self.packets.push(packet)?;
         Ok(())
@@ -61,6 +67,7 @@ impl Outbox {
         ensures added { IfOk result (λ r. octets self.new.packets.items
             ≡ cond r (octets self.old.packets.items ++ tcp_packet caps.now ip.now (segment_of repr.now) ∷ [])
             (octets self.old.packets.items)) }
+        ensures kept { OnErr result (self.new.packets.items ≡ self.old.packets.items) }
     {
         if !carries_tcp(ip, repr) {
             return Ok(false);
@@ -96,6 +103,7 @@ impl Outbox {
         ensures added { IfOk result (λ r. octets self.new.packets.items
             ≡ cond r (octets self.old.packets.items ++ udp_packet caps.now ip.now repr.now payload.now ∷ [])
             (octets self.old.packets.items)) }
+        ensures kept { OnErr result (self.new.packets.items ≡ self.old.packets.items) }
     {
         if !carries_udp(ip, payload) {
             return Ok(false);
@@ -113,8 +121,9 @@ impl Outbox {
         payload: &[u8],
         caps: &ChecksumCapabilities,
     ) -> Result<(), AllocError>
-        ensures { IfOk result (λ _. octets self.new.packets.items ≡ octets self.old.packets.items
+        ensures added { IfOk result (λ _. octets self.new.packets.items ≡ octets self.old.packets.items
             ++ (header_octets (is_sent caps.now.ipv4) ip.now ++ payload.now) ∷ []) }
+        ensures kept { OnErr result (self.new.packets.items ≡ self.old.packets.items) }
     {
         let mut bytes = self.with_room_before(ip.header_len(), payload)?;
         ip.emit(bytes.as_mut_slice(), caps);
@@ -127,22 +136,54 @@ impl Outbox {
         ip: &IpRepr,
         repr: &IcmpRepr<'_>,
         caps: &ChecksumCapabilities,
-    ) -> Result<(), AllocError> {
-        let mut bytes = vec![in self.alloc; 0u8; repr.buffer_len()]?;
+    ) -> Result<(), AllocError>
+        ensures added { IfOk result (λ _. octets self.new.packets.items
+            ≡ with_packet (octets self.old.packets.items) (icmp_packet caps.now ip.now repr.now)) }
+        ensures kept { OnErr result (self.new.packets.items ≡ self.old.packets.items) }
+    {
         match (ip, repr) {
-            (IpRepr::Ipv4(_), IcmpRepr::Ipv4(message)) => {
-                message.emit(bytes.as_mut_slice(), caps);
-            }
+            (IpRepr::Ipv4(_), IcmpRepr::Ipv4(message)) => self.emit_icmpv4(ip, message, caps),
             (IpRepr::Ipv6(header), IcmpRepr::Ipv6(message)) => {
-                message.emit(
-                    &header.src_addr,
-                    &header.dst_addr,
-                    bytes.as_mut_slice(),
-                    caps,
-                );
+                self.emit_icmpv6(ip, header, message, caps)
             }
-            _ => return Ok(()),
+            _ => Ok(()),
         }
+    }
+
+    fn emit_icmpv4(
+        &mut self,
+        ip: &IpRepr,
+        message: &Icmpv4Repr<'_>,
+        caps: &ChecksumCapabilities,
+    ) -> Result<(), AllocError>
+        ensures added { IfOk result (λ _. octets self.new.packets.items ≡ octets self.old.packets.items
+            ++ (header_octets (is_sent caps.now.ipv4) ip.now ++ icmpv4_octets caps.now (message_v4 message.now)) ∷ []) }
+        ensures kept { OnErr result (self.new.packets.items ≡ self.old.packets.items) }
+    {
+        let mut bytes = vec![in self.alloc; 0u8; message.buffer_len()]?;
+        message.emit(bytes.as_mut_slice(), caps);
+        self.emit_raw(ip, bytes.as_slice(), caps)
+    }
+
+    fn emit_icmpv6(
+        &mut self,
+        ip: &IpRepr,
+        header: &Ipv6Repr,
+        message: &Icmpv6Repr<'_>,
+        caps: &ChecksumCapabilities,
+    ) -> Result<(), AllocError>
+        ensures added { IfOk result (λ _. octets self.new.packets.items ≡ octets self.old.packets.items
+            ++ (header_octets (is_sent caps.now.ipv4) ip.now
+            ++ icmpv6_octets caps.now header.now.src_addr header.now.dst_addr (message_v6 message.now)) ∷ []) }
+        ensures kept { OnErr result (self.new.packets.items ≡ self.old.packets.items) }
+    {
+        let mut bytes = vec![in self.alloc; 0u8; message.buffer_len()]?;
+        message.emit(
+            &header.src_addr,
+            &header.dst_addr,
+            bytes.as_mut_slice(),
+            caps,
+        );
         self.emit_raw(ip, bytes.as_slice(), caps)
     }
 }

@@ -1,5 +1,5 @@
 -- Lemmas about the entries of a packet buffer.
-use Rattle.std.proofs.Common.{◌≡◌, ℕ, suc, ◌+◌, ◌-◌, ◌<◌, ◌≤◌, List, [], ◌∷◌, ◌++◌, length, take, drop, Option, refl, sym, ap, ap₂, subst, ◌∙◌, inl, inr, arith, length-take, length-drop, length-append, length-take-le}
+use Rattle.std.proofs.Common.{◌≡◌, ℕ, suc, ◌+◌, ◌-◌, ◌<◌, ◌≤◌, nat_lt, List, [], ◌∷◌, ◌++◌, length, take, drop, Option, refl, sym, ap, ap₂, subst, ◌∙◌, inl, inr, arith, length-take, length-drop, length-append, length-take-le}
 use Rattle.std.proofs.lemmas.Bool.{cases_lt}
 use Rattle.std.proofs.lemmas.Bool.Decides.{nat_tests}
 use Rattle.std.specs.Prelude.{◌==◌}
@@ -99,8 +99,14 @@ module _ {X : Type 0} where
     pub empty_view : (length ms.queue == 0) ≡ (length p.entries == 0)
     empty_view = ap (λ j. j == 0) (sym count-view)
 
+    pub bare_view : (n == 0) ≡ (taken p.entries == 0)
+    bare_view = ap (λ j. j == 0) (sym taken_view)
+
     pub full_view : (length ms.spare == 0) ≡ (length p.entries == p.places)
     full_view = grind (arith, nat_tests, count-view, places-view)
+
+    pub two_view : nat_lt 1 (length ms.spare) ≡ nat_lt (length p.entries + 1) p.places
+    two_view = grind (arith, nat_tests, count-view, places-view)
 
     pub places_within : length p.entries ≤ p.places
     places_within = omega (arith, count-view, places-view)

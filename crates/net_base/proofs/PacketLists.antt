@@ -1,8 +1,8 @@
 -- Lemmas on what a contract sees of a packet buffer.
-use Rattle.std.proofs.Common.{◌≡◌, ℕ, ◌+◌, ◌-◌, ◌<◌, ◌≤◌, Bool, true, false, cond, eq-eqb, List, [], ◌∷◌, ◌++◌, length, take, drop, Option, None, Some, refl, sym, ap, subst, ◌∙◌, inl, inr, arith, length-drop, length-take-le}
+use Rattle.std.proofs.Common.{◌≡◌, ℕ, ◌+◌, ◌-◌, ◌<◌, ◌≤◌, Bool, true, false, cond, eq-eqb, List, [], ◌∷◌, ◌++◌, length, take, drop, Option, None, Some, refl, sym, ap, subst, ◌∙◌, inl, inr, arith, length-append, length-drop, length-take-le}
 use Rattle.std.proofs.lemmas.Bool.{cases_lt, false≢true}
 use Rattle.std.proofs.lemmas.Bool.Decides.{nat_tests}
-use Rattle.std.specs.Prelude.{◌==◌, ◌&&◌, ◌||◌, not, nat_le, nat_lt, is_none}
+use Rattle.std.specs.Prelude.{◌==◌, ◌&&◌, ◌||◌, not, nat_le, nat_lt, is_none, if◌then◌else◌}
 use Rattle.net_base.specs.Packets.{Packets, packets_with, taken, place_of, end_of, run_of, room_of, first_bytes, starts_padded, put_packet, packets, Enqueues, without_first, skipped_from, skipped, restarted, fits_behind, fits_before, fits, padded_for, made_room, takes, appended, AppendsWith}
 use Rattle.net_base.proofs.Around.{place_of-high, place_of-low, place_of-place_of, place_of-within}
 
@@ -31,13 +31,32 @@ module _ {X : Type 0} where
   pub made_room-storage : (size : ℕ) (p : Packets X) → (made_room size p).storage ≡ p.storage
   unfolding made_room padded_for
   made_room-storage size p =
-      elim (length p.entries == p.places) as (λ b. (cond b p (cond (fits_behind size (restarted p)) (restarted p) (cond (fits_before size (restarted p)) (appended None (run_of (restarted p)) (restarted p)) (restarted p)))).storage ≡ p.storage) [
-        | true ↦ refl
-        | false ↦ elim (fits_behind size (restarted p)) as (λ b. (cond b (restarted p) (cond (fits_before size (restarted p)) (appended None (run_of (restarted p)) (restarted p)) (restarted p))).storage ≡ p.storage) [
-          | true ↦ restarted-storage p
-          | false ↦ elim (fits_before size (restarted p)) as (λ b. (cond b (appended None (run_of (restarted p)) (restarted p)) (restarted p)).storage ≡ p.storage) [ true ↦ restarted-storage p | false ↦ restarted-storage p ]
-        ]
+      elim (takes size p) as (λ b. (cond b (cond (fits_behind size (restarted p)) (restarted p) (appended None (run_of (restarted p)) (restarted p))) p).storage ≡ p.storage) [
+        | false ↦ refl
+        | true ↦ elim (fits_behind size (restarted p)) as (λ b. (cond b (restarted p) (appended None (run_of (restarted p)) (restarted p))).storage ≡ p.storage) [ true ↦ restarted-storage p | false ↦ restarted-storage p ]
       ]
+
+  -- where there is none, nothing changes
+  pub refused_room : (size : ℕ) (p : Packets X) → takes size p ≡ false → made_room size p ≡ p
+  unfolding made_room
+  refused_room size p h = ap (λ b. if b then padded_for size (restarted p) else p) h
+
+  -- no place is left
+  pub takes_full : (size : ℕ) (p : Packets X) → (length p.entries == p.places) ≡ true → takes size p ≡ false
+  unfolding takes
+  takes_full size p h = ap (λ b. not b && fits size (restarted p)) h
+
+  pub made_room_full : (size : ℕ) (p : Packets X) → (length p.entries == p.places) ≡ true → made_room size p ≡ p
+  made_room_full size p h = refused_room size p (takes_full size p h)
+
+  -- a place is left, and some payload bytes are taken
+  pub takes_some : (size : ℕ) (p : Packets X) → (length p.entries == p.places) ≡ false → (taken p.entries == 0) ≡ false → takes size p ≡ fits size p
+  unfolding takes restarted
+  takes_some size p h some = ap (λ b. not b && fits size (restarted p)) h ∙ ap (λ b. fits size (cond b (packets_with p.entries p.places p.storage 0) p)) some
+
+  pub made_room_some : (size : ℕ) (p : Packets X) → (length p.entries == p.places) ≡ false → (taken p.entries == 0) ≡ false → made_room size p ≡ (if fits size p then padded_for size p else p)
+  unfolding made_room restarted
+  made_room_some size p h some = ap (λ b. if b then padded_for size (restarted p) else p) (takes_some size p h some) ∙ ap (λ b. if fits size p then padded_for size (cond b (packets_with p.entries p.places p.storage 0) p) else p) some
 
   packets-padded : (es : List (Option X × List ℕ)) (bs : List ℕ) → packets (es ++ (None, bs) ∷ []) ≡ packets es
   packets-padded [] bs = refl
@@ -55,12 +74,9 @@ module _ {X : Type 0} where
   unfolding made_room padded_for
   made_room_packets size p =
       let same : packets (restarted p).entries ≡ packets p.entries = ap (λ (es : List (Option X × List ℕ)). packets es) (restarted-entries p) in
-      elim (length p.entries == p.places) as (λ b. packets (cond b p (cond (fits_behind size (restarted p)) (restarted p) (cond (fits_before size (restarted p)) (appended None (run_of (restarted p)) (restarted p)) (restarted p)))).entries ≡ packets p.entries) [
-        | true ↦ refl
-        | false ↦ elim (fits_behind size (restarted p)) as (λ b. packets (cond b (restarted p) (cond (fits_before size (restarted p)) (appended None (run_of (restarted p)) (restarted p)) (restarted p))).entries ≡ packets p.entries) [
-          | true ↦ same
-          | false ↦ elim (fits_before size (restarted p)) as (λ b. packets (cond b (appended None (run_of (restarted p)) (restarted p)) (restarted p)).entries ≡ packets p.entries) [ true ↦ packets-padded (restarted p).entries _ ∙ same | false ↦ same ]
-        ]
+      elim (takes size p) as (λ b. packets (cond b (cond (fits_behind size (restarted p)) (restarted p) (appended None (run_of (restarted p)) (restarted p))) p).entries ≡ packets p.entries) [
+        | false ↦ refl
+        | true ↦ elim (fits_behind size (restarted p)) as (λ b. packets (cond b (restarted p) (appended None (run_of (restarted p)) (restarted p))).entries ≡ packets p.entries) [ true ↦ same | false ↦ packets-padded (restarted p).entries _ ∙ same ]
       ]
 
   -- with a free place and no payload byte taken, exactly what the storage holds fits
@@ -82,6 +98,37 @@ module _ {X : Type 0} where
 
       only : (b : Bool) → (nat_le size (length p.storage) || (nat_le size (length p.storage - length p.storage) && b)) ≡ nat_le size (length p.storage)
       only b = grind (arith, nat_tests)
+
+  -- of an empty payload ring all of the storage is one run
+  pub run_empty : (p q : Packets X) → taken p.entries ≡ 0 → q ≡ restarted p → run_of q ≡ length p.storage
+  run_empty p q none is =
+      let m = length p.storage in
+      let first : place_of m 0 (taken p.entries) ≡ 0 = ap (place_of m 0) none ∙ first_place m in
+      let fresh : q ≡ packets_with p.entries p.places p.storage 0 = is ∙ restarted-none p none in
+      ap run_of fresh ∙ omega (arith, none, first)
+    where
+      first_place : (m : ℕ) → place_of m 0 0 ≡ 0
+      first_place m = elim (cases_lt (0 + 0) m) [ inl low ↦ place_of-low m 0 0 low | inr high ↦ place_of-high m 0 0 high ∙ omega arith ]
+
+  -- with a free place and no payload byte taken, size bytes fit just where the storage has as many
+  module _ (size : ℕ) (p : Packets X) (free : length p.entries < p.places) (none : taken p.entries ≡ 0) where
+    pub takes_bare : size ≤ length p.storage → true ≡ takes size p
+    takes_bare le = sym (takes_empty size p free none ∙ grind (arith, nat_tests, le))
+
+    pub refuses_bare : length p.storage < size → false ≡ takes size p
+    refuses_bare lt = sym (takes_empty size p free none ∙ grind (arith, nat_tests, lt))
+
+    pub stays_bare : length p.storage < size → p ≡ made_room size p
+    stays_bare lt = sym (refused_room size p (sym (refuses_bare lt)))
+
+    pub restarts_bare : (q : Packets X) → q ≡ restarted p → size ≤ length p.storage → q ≡ made_room size p
+    unfolding made_room padded_for
+    restarts_bare q is le =
+        let b : fits_behind size (restarted p) ≡ true = ap (λ n. nat_le size n) (run_empty p (restarted p) none refl) ∙ grind (arith, nat_tests, le) in
+        is ∙ sym (ap (λ b. if b then padded_for size (restarted p) else p) (sym (takes_bare le)) ∙ ap (λ b. if b then restarted p else appended None (run_of (restarted p)) (restarted p)) b)
+
+    pub run_bare : (q : Packets X) → q ≡ restarted p → size ≤ length p.storage → size ≤ run_of q
+    run_bare q is le = omega (arith, le, run_empty p q none is)
 
   pub enqueues : (called : List ℕ → ℕ → List ℕ → Type 0) (size : ℕ) (h : X) (p q : Packets X) (kept : ℕ) → AppendsWith called size (Some h) (made_room size p) kept q → Enqueues called size h p kept q
   enqueues called size h p q kept a = record {
@@ -113,6 +160,11 @@ module _ {X : Type 0} where
       let first : place_of m p.start (t + r) ≡ 0 = sym (place_of-place_of m p.start t r start (omega arith)) ∙ place_of-high m e r (omega arith) ∙ omega arith in
       let last : place_of m p.start (taken (p.entries ++ (None, take r (drop e p.storage)) ∷ [])) ≡ 0 = ap (place_of m p.start) all ∙ first in
       omega (arith, all, last)
+
+  pub padded_place : (p q : Packets X) (run : ℕ) → q ≡ appended None run p → nat_lt (length p.entries + 1) p.places ≡ true → length q.entries < q.places
+  padded_place p q run is h =
+      let n : length (appended None run p).entries ≡ length p.entries + 1 = length-append p.entries ((None, take run (drop (end_of p) p.storage)) ∷ []) in
+      subst (λ (q : Packets X). length q.entries < q.places) (sym is) (grind (arith, nat_tests, h, n))
 
   pub padded_room : (p q : Packets X) (size run room : ℕ) → q ≡ appended None run p → run ≡ run_of p → room ≡ room_of p → p.start ≤ length p.storage - 1 → taken p.entries ≤ length p.storage → run < size → size ≤ room - run → size ≤ run_of q
   padded_room p q size run room q_is run_is room_is start within short left =

@@ -110,12 +110,9 @@ module _ {X : Type 0} where
   abbrev pub fits_before : ℕ → Packets X → Bool
   fits_before size p = nat_le size (room_of p - run_of p)
 
-  -- where they fit in the others alone, the free run behind the entries becomes padding
+  -- where they do not fit behind the entries, the free run behind these becomes padding
   unfoldable pub padded_for : ℕ → Packets X → Packets X
-  padded_for size p = if fits_behind size p then p else if fits_before size p then appended None (run_of p) p else p
-
-  unfoldable pub made_room : ℕ → Packets X → Packets X
-  made_room size p = if length p.entries == p.places then p else padded_for size (restarted p)
+  padded_for size p = if fits_behind size p then p else appended None (run_of p) p
 
   -- they fit behind the entries, or in the other free places with one more place left for the padding
   abbrev pub fits : ℕ → Packets X → Bool
@@ -124,6 +121,10 @@ module _ {X : Type 0} where
   -- whether size more bytes can become an entry
   unfoldable pub takes : ℕ → Packets X → Bool
   takes size p = not (length p.entries == p.places) && fits size (restarted p)
+
+  -- where they cannot, nothing changes
+  unfoldable pub made_room : ℕ → Packets X → Packets X
+  made_room size p = if takes size p then padded_for size (restarted p) else p
 
 -- other payload bytes, cut into the entries' parts as the old ones were
 abbrev pub recut : {X : Type 0} → List (Option X × List ℕ) → List ℕ → List (Option X × List ℕ)

@@ -2,7 +2,7 @@
 //!
 //! A packet's bytes stand in one piece. Where they don't fit before the end of the payload storage but fit at its
 //! beginning, the bytes up to the end become padding: an entry with no header, which is in no list of packets.
-ghost use Rattle.std.specs.Prelude.{◌≡◌, ℕ, ◌+◌, ◌-◌, ◌<◌, ◌≤◌, ◌==◌, ◌&&◌, nat_le, ◌↔◌, List, [], ◌∷◌, ◌++◌, length};
+ghost use Rattle.std.specs.Prelude.{nat_lt, ◌≡◌, ℕ, ◌+◌, ◌-◌, ◌<◌, ◌≤◌, ◌==◌, ◌&&◌, nat_le, ◌↔◌, List, [], ◌∷◌, ◌++◌, length};
 ghost use Rattle.std.specs.Prelude.{take, drop, min, true, false, Some, None, IfOk, IfSome, OnErr, IsOk, IsSome};
 ghost use Rattle.std.specs.Prelude.{IsTrue, if◌then◌else◌};
 ghost use Rattle.std.specs.Fn.{FnOnceReturnsAtMut};
@@ -181,12 +181,21 @@ impl<'a, H: Copy> PacketBuffer<'a, H> {
         from
     }
 
-    // Where `size` bytes fit in the free places that are not behind the entries, the run behind them becomes padding.
-    // Answers whether `size` bytes now fit behind the entries, with a place for them.
+    // Whether two places are free at least.
+    #[tactic(auto, using(crate::proofs::Entries::two_view))]
+    fn has_two_places(&self) -> bool
+        ensures { result ≡ nat_lt (length self.now.entries + 1) self.now.places }
+    {
+        1 < self.metadata.window()
+    }
+
+    // Where `size` bytes fit in the free places that are not behind the entries, and a place is left for padding too,
+    // the run behind the entries becomes padding. Answers whether `size` bytes now fit behind the entries, with a place
+    // for them; where not, nothing changed.
     #[tactic(auto, unfolding(crate::specs::Packets::padded_for))]
     fn pad_for(&mut self, size: usize) -> bool
         requires { length self.old.entries < self.old.places }
-        ensures after { self.new ≡ padded_for size self.old }
+        ensures after { self.new ≡ (if fits size self.old then padded_for size self.old else self.old) }
         ensures fits { result ≡ fits size self.old }
         ensures room { result ≡ true → (size ≤ run_of self.new) × (length self.new.entries < self.new.places) }
     {
@@ -194,15 +203,40 @@ impl<'a, H: Copy> PacketBuffer<'a, H> {
         if size <= run {
             return true;
         }
-        if self.room() - run < size {
+        if self.room() - run < size || !self.has_two_places() {
             return false;
         }
         self.append(run, None);
-        !self.is_full()
+        true
     }
 
-    // Makes room for an entry of `size` bytes behind the others. Answers whether there is room.
-    #[tactic(auto, unfolding(crate::specs::Packets::made_room, crate::specs::Packets::takes))]
+    // The same where no payload byte is taken: all of the storage is free.
+    #[tactic(auto, using(crate::proofs::PacketLists::takes_bare, crate::proofs::PacketLists::refuses_bare, crate::proofs::PacketLists::stays_bare, crate::proofs::PacketLists::restarts_bare, crate::proofs::PacketLists::run_bare))]
+    fn restart_for(&mut self, size: usize) -> bool
+        requires place { length self.old.entries < self.old.places }
+        requires none { taken self.old.entries ≡ 0 }
+        ensures after { self.new ≡ made_room size self.old }
+        ensures takes { result ≡ takes size self.old }
+        ensures room { result ≡ true → (size ≤ run_of self.new) × (length self.new.entries < self.new.places) }
+    {
+        if self.payload_capacity() < size {
+            return false;
+        }
+        self.restart();
+        true
+    }
+
+    // Whether no payload byte is taken.
+    #[tactic(auto, using(crate::proofs::Entries::bare_view))]
+    fn is_bare(&self) -> bool
+        ensures { result ≡ (taken self.now.entries == 0) }
+    {
+        self.length == 0
+    }
+
+    // Makes room for an entry of `size` bytes behind the others. Answers whether there is room; where not, nothing
+    // changed.
+    #[tactic(auto, using(crate::proofs::PacketLists::takes_some, crate::proofs::PacketLists::made_room_some, crate::proofs::PacketLists::made_room_full, crate::proofs::PacketLists::takes_full))]
     fn make_room(&mut self, size: usize) -> bool
         ensures after { self.new ≡ made_room size self.old }
         ensures takes { result ≡ takes size self.old }
@@ -211,7 +245,9 @@ impl<'a, H: Copy> PacketBuffer<'a, H> {
         if self.is_full() {
             return false;
         }
-        self.restart();
+        if self.is_bare() {
+            return self.restart_for(size);
+        }
         self.pad_for(size)
     }
 
@@ -250,7 +286,7 @@ impl<'a, H: Copy> PacketBuffer<'a, H> {
     /// Appends a packet whose bytes `f` writes: it is lent `max_size` bytes and answers how many of them, from the
     /// first on, to keep. This count is answered.
     ///
-    /// `Full` where no place is left, or `max_size` bytes in one piece are not; the packets then stay as they were.
+    /// `Full` where no place is left, or `max_size` bytes in one piece are not; nothing changes then.
     pub fn enqueue_with_infallible<F: FnOnce(&mut [u8]) -> usize>(
         &mut self,
         max_size: usize,
@@ -465,6 +501,12 @@ fn lend_packet<H, R, F: FnOnce(&H, &mut [u8]) -> R>(
 #[tactic(auto, using(crate::proofs::PacketLists::made_room_packets))]
 pub fn room_keeps_packets<H: Copy>()
     ensures { (size : ℕ) (p : Packets H) → packets (made_room size p).entries ≡ packets p.entries }
+{}
+
+/// Where there is no room for a packet, it stays as it is: a refusal changes nothing.
+#[tactic(auto, using(crate::proofs::PacketLists::refused_room))]
+pub fn refusal_changes_nothing<H: Copy>()
+    ensures { (size : ℕ) (p : Packets H) → takes size p ≡ false → made_room size p ≡ p }
 {}
 
 /// Whatever is left in the bytes that `enqueue` lends, the packets have the headers of before, and then the new one.
