@@ -20,7 +20,7 @@ use Rattle.sock_tcp.proofs.Lending.{free_within}
 pub use Rattle.sock_tcp.proofs.KeptSegments.{acked_view, timer_then, heard_kept, KeptByAnswers, challenged_kept, outside_kept, bytes_kept, KeptByRows, rows_kept, KeptBySegments, process_kept}
 use Rattle.sock_tcp.specs.Acked.{acked_of}
 use Rattle.sock_tcp.specs.Advance.{advance_in, advanced, counted_control, dropped, fallen_back, fin_counted, moved_to, syn_answered, syn_received, waiting}
-use Rattle.sock_tcp.specs.Begin.{last_ts_set, last_ts_set_at, told_ready, readied, retransmission_begun, fast_retransmission_marked, after_timer, after_timers, begun, begun_to, unless_paused, ended, nothing_due, by_due, before_emit, before_emit_to}
+use Rattle.sock_tcp.specs.Begin.{last_ts_set, last_ts_set_at, told_ready, readied, retransmission_begun, fast_retransmission_marked, after_timer, after_timers, begun, begun_to, unless_paused, ended, nothing_due, by_due, before_emit, before_emit_to, peer_of}
 use Rattle.sock_tcp.specs.Closing.{aborted, closed}
 use Rattle.sock_tcp.specs.Content.{Sending}
 use Rattle.sock_tcp.specs.Due.{is_due}
@@ -105,7 +105,7 @@ module _ (P : View → Type 0) (now : Instant) (k : KeptByBeginnings P now) wher
       go false = timer_kept v.timer v refl h
 
 -- and by a reset
-module _ (P : View → Type 0) (f : Facts) (stamps : Bool) (k : KeptByBeginnings P (moment_of f)) (resets : (v : View) → P v → P (renewed v)) where
+module _ (P : View → Type 0) (f : Facts) (k : KeptByBeginnings P (moment_of f)) (resets : (v : View) → P v → P (renewed v)) where
   abbrev now : Instant
   now = moment_of f
 
@@ -113,26 +113,26 @@ module _ (P : View → Type 0) (f : Facts) (stamps : Bool) (k : KeptByBeginnings
   begun_kept None v h = h
   begun_kept (Some t) v h = go (f.has_address t.local.addr)
     where
-      go : (b : Bool) → P (if b then unless_paused (after_timers (readied v now) now) t else ended (renewed v)).view
+      go : (b : Bool) → P (if b then unless_paused (after_timers (readied v now) now) else ended (renewed v)).view
       go true = timers_kept P now k (readied v now) (readied_kept P now k v h)
       go false = resets v h
 
-  ends_kept : (o : Option Tuple) (u : View) → P u → P (before_emit_to o u f stamps).view
+  ends_kept : (o : Option Tuple) (u : View) → P u → P (before_emit_to o u f).view
   unfolding nothing_due
   ends_kept None u h = h
-  ends_kept (Some t) u h = go (is_due u t f stamps)
+  ends_kept (Some t) u h = go (is_due u t f)
     where
       over : (b : Bool) → P (if b then renewed u else u)
       over true = resets u h
       over false = h
 
-      go : (b : Bool) → P (by_due b u t f).view
+      go : (b : Bool) → P (by_due b u f).view
       go true = h
       go false = over (is_close_over u.timer now)
 
-  pub before_kept : (v : View) → P v → P (before_emit v f stamps).view
+  pub before_kept : (v : View) → P v → P (before_emit v f).view
   unfolding before_emit begun
-  before_kept v h = ends_kept (begun_to v.tuple v f).peer (begun_to v.tuple v f).view (begun_kept v.tuple v h)
+  before_kept v h = ends_kept (peer_of (begun_to v.tuple v f)) (begun_to v.tuple v f).view (begun_kept v.tuple v h)
 
 -- and by what a segment that goes out leaves, whatever it is
 pub record KeptBySending (P : View → Type 0) (now : Instant) : Type 0 where
@@ -161,9 +161,9 @@ module _ (P : View → Type 0) (now : Instant) (k : KeptBySending P now) where
   left_kept (Some s) true u h = kind_kept s.kind (after_any u now) (emitted_as s.kind s.segment) (k.renews u h)
   left_kept (Some s) false u h = h
 
-pub sends_kept : (P : View → Type 0) (f : Facts) → KeptBySending P (moment_of f) → (o : Option Tuple) (stamps : Bool) (u w : View) (out : Option Sending) → SendsTo o f stamps u out w → P u → P w
-sends_kept P f k None stamps u w out h i = subst P (sym h.1) i
-sends_kept P f k (Some t) stamps u w out h i = subst P (sym h.view) (left_kept P (moment_of f) k out h.ok u i)
+pub sends_kept : (P : View → Type 0) (f : Facts) → KeptBySending P (moment_of f) → (o : Option Tuple) (u w : View) (out : Option Sending) → SendsTo o f u out w → P u → P w
+sends_kept P f k None u w out h i = subst P (sym h.1) i
+sends_kept P f k (Some t) u w out h i = subst P (sym h.view) (left_kept P (moment_of f) k out h.ok u i)
 
 -- ---- the other calls
 
@@ -230,7 +230,7 @@ pub record Kept (P : Instant → View → Type 0) (Begins : Instant → Type 0) 
   pub segments : (now : Instant) (word : ℕ) (ip : IpRepr) (s : Segment) (v : View) → word < 2 ^ 32 → IsNumbered s → (v.state ≡ state.Listen → s.ack_number ≡ None) → P now v → P now (processed v now word ip s).view
   pub beginnings : (now : Instant) → KeptByBeginnings (P now) now
   pub resets : (now : Instant) (v : View) → P now v → P now (renewed v)
-  pub sendings : (o : Option Tuple) (f : Facts) (stamps : Bool) (u w : View) (out : Option Sending) → SendsTo o f stamps u out w → P (moment_of f) u → P (moment_of f) w
+  pub sendings : (o : Option Tuple) (f : Facts) (u w : View) (out : Option Sending) → SendsTo o f u out w → P (moment_of f) u → P (moment_of f) w
 
 module _ (P : Instant → View → Type 0) (Begins : Instant → Type 0) (Comes : Instant → Instant → Type 0) (Allows : Option Duration → Type 0) (k : Kept P Begins Comes Allows) where
   pub step_kept : (v w : View) (i j : Counts) (last : Instant) (s : Step v i w j) → Begins last → ForSome (moment_in s) (Comes last) → Allows (interval_in s) → P last v → P (latest (moment_in s) last) w
@@ -245,9 +245,9 @@ module _ (P : Instant → View → Type 0) (Begins : Instant → Type 0) (Comes 
   step_kept v w i j last (Abort h is) b n m p = subst (P last) (sym h) ((k.calls last b).aborts v p)
   step_kept v w i j last (Set x is) b n m p = (k.calls last b).sets v w x m p
   step_kept v w i j last (Process now word ip s small numbered short bare h is) b n m p = subst (P now) (sym h) (k.segments now word ip s v small numbered bare (k.later last now v (n now refl) p))
-  step_kept v w i j last (Dispatch f stamps out h is) b n m p =
+  step_kept v w i j last (Dispatch f out h is) b n m p =
       let now = moment_of f in
-      k.sendings (before_emit v f stamps).peer f stamps (before_emit v f stamps).view w out h (before_kept (P now) f stamps (k.beginnings now) (k.resets now) v (k.later last now v (n now refl) p))
+      k.sendings (peer_of (before_emit v f)) f (before_emit v f).view w out h (before_kept (P now) f (k.beginnings now) (k.resets now) v (k.later last now v (n now refl) p))
 
 -- and what holds of a socket, whatever the clock says, holds after any list of calls on a new one
 module _ (P : View → Type 0) (k : Kept (λ at. P) (λ at. Unit {0}) (λ last now. Unit {0}) (λ d. Unit {0})) where
