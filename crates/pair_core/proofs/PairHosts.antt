@@ -7,7 +7,7 @@ use Rattle.sock_core.specs.Facts.{Facts}
 use Rattle.sock_core.specs.Received.{Received}
 use Rattle.sock_tcp.specs.Queue.{Queue}
 use Rattle.sock_tcp.specs.View.{View, fresh}
-use Rattle.sock_tcp.specs.Begin.{Begun, begun, begun_to, before_emit, before_emit_to, ended}
+use Rattle.sock_tcp.specs.Begin.{Begun, begun, begun_to, before_emit, before_emit_to, ended, peer_of}
 use Rattle.sock_tcp.specs.Process.{Accepts, AcceptsIn, tuple_of}
 use Rattle.sock_tcp.specs.Closing.{closed, aborted, closed_from}
 use Rattle.sock_tcp.specs.Queues.{may_send, may_recv, queued, read_off, receives, can_recv}
@@ -166,13 +166,13 @@ call_stays (call.Set s) h k o i e = set_stays h k s o i e
 
 -- ---- dispatches and deliveries
 
-pub no_peer_readies : (v : View) (f : Facts) (stamps : Bool) → v.tuple ≡ None → before_emit v f stamps ≡ ended v
+pub no_peer_readies : (v : View) (f : Facts) → v.tuple ≡ None → before_emit v f ≡ ended v
 unfolding before_emit begun
-no_peer_readies v f stamps e = ap (λ (b : Begun). before_emit_to b.peer b.view f stamps) (ap (λ o. begun_to o v f) e)
+no_peer_readies v f e = ap (λ (b : Begun). before_emit_to (peer_of b) b.view f) (ap (λ o. begun_to o v f) e)
 
 pub idle_dispatches : {G : Type 0} (tells : G → ℕ → Type 0) (source : Option G) (v w : View) (f : Facts) (fail : Bool) (r : Sent) → v.tuple ≡ None → SocketDispatches tells source v f fail r w → w ≡ v
 unfolding SocketDispatches
-idle_dispatches tells source v w f fail r e d = (subst (λ (b : Begun). SendsFrom tells source b.peer b.view f fail r w) (no_peer_readies v f (is_some source) e) d).1
+idle_dispatches tells source v w f fail r e d = (subst (λ (b : Begun). SendsFrom tells source (peer_of b) b.view f fail r w) (no_peer_readies v f e) d).1
 
 pub dispatch_stays : {remote : IpEndpoint} {G : Type 0} (tells : G → ℕ → Type 0) (s : Side) (m : Moment) (fail : Bool) (o : Outcome) (h k : HostView G) (ts ts' : List StoredView) → IsHost h → Dispatches tells s m fail o h ts k ts' → StaysHost remote h k
 dispatch_stays {remote} tells s m fail o h k ts ts' i d =

@@ -12,7 +12,7 @@ use Rattle.sock_core.specs.Facts.{Facts}
 use Rattle.sock_tcp.specs.Queue.{capacity}
 use Rattle.sock_tcp.specs.View.{View, moment_of}
 use Rattle.sock_tcp.specs.Queues.{may_send, may_recv, queued}
-use Rattle.sock_tcp.specs.Begin.{Begun, before_emit}
+use Rattle.sock_tcp.specs.Begin.{Begun, before_emit, peer_of}
 use Rattle.sock_tcp.specs.Content.{Sending, content}
 use Rattle.sock_tcp.specs.Sent.{left_by}
 use Rattle.control_wire.specs.declared.tcp.TcpControl.{TcpControl}
@@ -191,7 +191,7 @@ module _ {G : Type 0} (s : Side) (h o : HostView G) (ks : List StoredView) (limi
       subst (Reaches (at_view v ks)) (stored_is s (opened h b (left_by (Some c) v now true)) (endpoint_of o) ks (record { emitter = s; ip = c.ip; segment = c.segment; released_at = h.released; taken_at = h.taken }) limit refl)
       (emission_reaches (at_view v ks) (shown (left_by (Some c) v now true)) (stream_segment c.segment h.released h.taken) (record { released = omega arith; taken = omega arith }) may.sends may.leaves)
 
-  sends_to : (tells : G → ℕ → Type 0) (source : Option G) (v w : View) (t : Tuple) (f : Facts) (fail : Bool) (r : Sent) → SendsTo tells source v t f fail r w → IsInvariant (at_view v ks) → Reaches (at_view v ks) (at_view w (ks ++ stored_at s r h.released h.taken))
+  sends_to : (tells : G → ℕ → Type 0) (source : Option G) (v w : View) (t : Tuple) (f : Facts) (fail : Bool) (r : Sent) → SendsTo tells source t f fail r w → IsInvariant (at_view v ks) → Reaches (at_view v ks) (at_view w (ks ++ stored_at s r h.released h.taken))
   sends_to tells source v w t f fail r d i = subst (λ u. Reaches (at_view v ks) (at_view u (ks ++ stored_at s r h.released h.taken))) (sym d.view) (go fail (content v t f d.stamp d.bytes) refl d.records)
     where
       go : (fail : Bool) (c : Option Sending) → content v t f d.stamp d.bytes ≡ c → Records fail c r → Reaches (at_view v ks) (at_view (left_by c v (moment_of f) (not fail)) (ks ++ stored_at s r h.released h.taken))
@@ -207,14 +207,14 @@ module _ {G : Type 0} (s : Side) (h o : HostView G) (ks : List StoredView) (limi
   dispatches_as : (tells : G → ℕ → Type 0) (source : Option G) (w : View) (f : Facts) (fail : Bool) (r : Sent) → SocketDispatches tells source h.control_block f fail r w → IsInvariant (at_view h.control_block ks) → Reaches (at_view h.control_block ks) (at_view w (ks ++ stored_at s r h.released h.taken))
   unfolding SocketDispatches
   dispatches_as tells source w f fail r d i =
-      let u : View = (before_emit h.control_block f (is_some source)).view in
-      let begins : Reaches (at_view h.control_block ks) (at_view u ks) = begins_reach (at_view h.control_block ks) (shown u) (begun_shows h.control_block f (is_some source) (bounded s h b h.control_block o ks limit i)) in
-      reach_then _ (at_view u ks) _ begins (sends_from tells source (before_emit h.control_block f (is_some source)).peer u w f fail r d (reach_keeps _ _ begins i))
+      let u : View = (before_emit h.control_block f).view in
+      let begins : Reaches (at_view h.control_block ks) (at_view u ks) = begins_reach (at_view h.control_block ks) (shown u) (begun_shows h.control_block f (bounded s h b h.control_block o ks limit i)) in
+      reach_then _ (at_view u ks) _ begins (sends_from tells source (peer_of (before_emit h.control_block f)) u w f fail r d (reach_keeps _ _ begins i))
 
 -- a dispatch of a socket without a peer stores nothing
 idle_stores : {G : Type 0} (tells : G → ℕ → Type 0) (source : Option G) (v w : View) (f : Facts) (fail : Bool) (r : Sent) → v.tuple ≡ None → SocketDispatches tells source v f fail r w → r ≡ sent.Quiet
 unfolding SocketDispatches
-idle_stores tells source v w f fail r e d = (subst (λ (b : Begun). SendsFrom tells source b.peer b.view f fail r w) (no_peer_readies v f (is_some source) e) d).0
+idle_stores tells source v w f fail r e d = (subst (λ (b : Begun). SendsFrom tells source (peer_of b) b.view f fail r w) (no_peer_readies v f e) d).0
 
 dispatches_in : {G : Type 0} (tells : G → ℕ → Type 0) (source : Option G) (s : Side) (h o : HostView G) (ks : List StoredView) (limit : Option ℕ) (w : View) (f : Facts) (fail : Bool) (r : Sent) → SocketDispatches tells source h.control_block f fail r w → (e : Opening) → (e ≡ opening.Unopened → IsIdle h.control_block) → IsInvariant (network_at s (record h { opening = e }) o ks limit)
     → Reaches (network_at s (record h { opening = e }) o ks limit) (network_at s (record h { opening = e; control_block = w }) o (ks ++ stored_at s r h.released h.taken) limit)

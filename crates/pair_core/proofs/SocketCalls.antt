@@ -14,7 +14,7 @@ use Rattle.net_base.specs.Ring.{Ring}
 use Rattle.control_wire.specs.Segment.{Segment}
 use Rattle.sock_core.specs.Facts.{Facts}
 use Rattle.sock_core.specs.Received.{receiving}
-use Rattle.sock_tcp.specs.Begin.{before_emit}
+use Rattle.sock_tcp.specs.Begin.{before_emit, peer_of}
 use Rattle.sock_tcp.specs.Closing.{aborted, closed}
 use Rattle.sock_tcp.specs.Content.{Sending, content}
 use Rattle.sock_tcp.specs.Opening.{after_connect, connected, endpoints, is_open, listened, no_address}
@@ -187,7 +187,7 @@ module _ {G : Type 0} (tells : G → ℕ → Type 0) (source : Option G) (f : Fa
 
   pub dispatch_call : (v : View) → SocketDispatches tells source v f fail r w → IsCall v w
   unfolding SocketDispatches
-  dispatch_call v d k = let x = goes_out (before_emit v f (is_some source)).peer (before_emit v f (is_some source)).view d in (starting_if (is_reset v f (is_some source)) w k, calls.Dispatch f (is_some source) x.0 x.1 refl)
+  dispatch_call v d k = let x = goes_out (peer_of (before_emit v f)) (before_emit v f).view d in (starting_if (is_reset v f) w k, calls.Dispatch f (is_some source) x.0 x.1 refl)
 
 -- LISTEN lets no segment with an acknowledgement in
 bare : (v : View) (ip : IpRepr) (s : Segment) → Accepts v ip s → v.state ≡ state.Listen → s.ack_number ≡ None

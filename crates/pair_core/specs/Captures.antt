@@ -9,7 +9,7 @@ use Rattle.control_wire.specs.Segment.{Segment}
 use Rattle.sock_core.specs.Facts.{Facts}
 use Rattle.sock_tcp.specs.Queue.{IsLent}
 use Rattle.sock_tcp.specs.View.{View, moment_of}
-use Rattle.sock_tcp.specs.Begin.{before_emit}
+use Rattle.sock_tcp.specs.Begin.{before_emit, peer_of}
 use Rattle.sock_tcp.specs.Content.{Sending, asked, offset_of, content}
 use Rattle.sock_tcp.specs.Dispatch.{IsStamp}
 use Rattle.sock_tcp.specs.Sent.{left_by}
@@ -49,12 +49,12 @@ Records false (Some s) _ = ⊥
 
 -- the socket sends to its peer, with what its source of timestamps tells, where it has one, and for some bytes that its
 -- ring lent
-pub record SendsTo {G : Type 0} (tells : G → ℕ → Type 0) (source : Option G) (v : View) (t : Tuple) (f : Facts)
+pub record SendsTo {G : Type 0} (tells : G → ℕ → Type 0) (source : Option G) (t : Tuple) (f : Facts)
     (fail : Bool) (r : Sent) (w : View) : Type 0 where
   pub stamp : Option ℕ
   pub told : IsStamp tells source stamp
   pub bytes : List ℕ
-  pub lent : IsLent v.tx_buffer (offset_of v) (asked v t f (is_some stamp)) bytes
+  pub lent : IsLent v.tx_buffer (offset_of v) (asked v t f) bytes
   pub records : Records fail (content v t f stamp bytes) r
   pub view : w ≡ left_by (content v t f stamp bytes) v (moment_of f) (not fail)
   pub fits : ForSome (content v t f stamp bytes) (λ s. FitsPacket s.ip s.segment)
@@ -62,10 +62,10 @@ pub record SendsTo {G : Type 0} (tells : G → ℕ → Type 0) (source : Option 
 abbrev pub SendsFrom : {G : Type 0} → (G → ℕ → Type 0) → Option G → Option Tuple → View → Facts → Bool → Sent → View
     → Type 0
 SendsFrom tells source None v f fail r w = (r ≡ sent.Quiet) × (w ≡ v)
-SendsFrom tells source (Some t) v f fail r w = SendsTo tells source v t f fail r w
+SendsFrom tells source (Some t) v f fail r w = SendsTo tells source t f fail r w
 
 -- a whole dispatch of the socket v
 unfoldable pub SocketDispatches : {G : Type 0} → (G → ℕ → Type 0) → Option G → View → Facts → Bool → Sent → View
     → Type 0
 SocketDispatches tells source v f fail r w =
-    SendsFrom tells source (before_emit v f (is_some source)).peer (before_emit v f (is_some source)).view f fail r w
+    SendsFrom tells source (peer_of (before_emit v f)) (before_emit v f).view f fail r w

@@ -13,7 +13,7 @@ use Rattle.control_wire.specs.declared.seq_number.TcpSeqNumber.{TcpSeqNumber}
 use Rattle.control_wire.specs.declared.tcp.TcpControl.{TcpControl}
 use Rattle.control_wire.specs.declared.tcp.TcpControl.TheVariants as control
 use Rattle.sock_core.specs.Facts.{Facts}
-use Rattle.sock_tcp.specs.Begin.{Begun, last_ts_set, last_ts_set_at, told_ready, readied, retransmission_begun, fast_retransmission_marked, after_timer, after_timers, is_paused, begun, begun_to, unless_paused, nothing_due, by_due, before_emit, before_emit_to}
+use Rattle.sock_tcp.specs.Begin.{Begun, last_ts_set, last_ts_set_at, told_ready, readied, retransmission_begun, fast_retransmission_marked, after_timer, after_timers, is_paused, begun, begun_to, unless_paused, nothing_due, by_due, before_emit, before_emit_to, peer_of}
 use Rattle.sock_tcp.specs.Content.{Sending, asked, carries_data, content, data_control, emission_kind, filled, offset_of, plain_segment, sent_as, with_data}
 use Rattle.sock_tcp.specs.Due.{is_closing, is_due}
 use Rattle.sock_tcp.specs.Process.{Outcome, processed}
@@ -60,17 +60,17 @@ later_moment a b = go (int_le b.micros a.micros) refl
 
 run_on : (v u w : View) (k i j : Counts) → Run v k u i → Step u i w j → Run v k w j
 run_on v u w k i j (Ends _ _) s = Then v w w k j j s (Ends w j)
-run_on v u w k i j (Then _ x _ _ l _ s r) last = Then v x w k l j s (run_on x u w l i j r last)
+run_on v u w k i j (Then _ x _ _ l s r) last = Then v x w k l j s (run_on x u w l i j r last)
 
 pub step_reached : (v w : View) (j : Counts) (r : IsReached v) → Step v r.counts w j → IsReached w
 step_reached v w j r s = record { rx = r.rx; tx = r.tx; counts = j; rx_size = r.rx_size; tx_size = r.tx_size; run = run_on _ v w _ r.counts j r.run s }
 
-any_ok : (o : Option Tuple) (f : Facts) (stamps : Bool) (u : View) (out : Option Sending) (w : View) → SendsOkTo o f stamps u out w → SendsTo o f stamps u out w
-any_ok None f stamps u out w h = h
-any_ok (Some t) f stamps u out w h = record { stamp = h.stamp; told = h.told; bytes = h.bytes; lent = h.lent; ok = true; sends = h.sends; view = h.view }
+any_ok : (o : Option Tuple) (f : Facts) (u : View) (out : Option Sending) (w : View) → SendsOkTo o f u out w → SendsTo o f u out w
+any_ok None f u out w h = h
+any_ok (Some t) f u out w h = record { stamp = h.stamp; told = h.told; bytes = h.bytes; lent = h.lent; ok = true; sends = h.sends; view = h.view }
 
-pub dispatch_reached : (f : Facts) (stamps : Bool) (v : View) (out : Option Sending) (w : View) → IsReached v → DispatchesOk f stamps v out w → IsReached w
-dispatch_reached f stamps v out w r h = step_reached v w (starting_if (is_reset v f stamps) w r.counts) r (Dispatch f stamps out (any_ok (before_emit v f stamps).peer f stamps (before_emit v f stamps).view out w h) refl)
+pub dispatch_reached : (f : Facts) (v : View) (out : Option Sending) (w : View) → IsReached v → DispatchesOk f v out w → IsReached w
+dispatch_reached f v out w r h = step_reached v w (starting_if (is_reset v f) w r.counts) r (Dispatch f out (any_ok (peer_of (before_emit v f)) f (before_emit v f).view out w h) refl)
 
 -- a segment that comes
 pub numbered_as : (g : Segment) (k : TcpSeqNumber) → g.ack_number ≡ Some k → g.seq_number.0 < 2 ^ 32 → k.0 < 2 ^ 32 → IsNumbered g
@@ -100,7 +100,7 @@ pub same_self : (v : View) → Same v v
 same_self v = record { state = refl; peer = refl; timeout = refl; keep_alive = refl; una = refl; tx = refl; rx = refl; rcv = refl; window = refl; scale = refl; shift = refl; paused = refl }
 
 pub same_then : {u v x : View} → Same u v → Same v x → Same u x
-same_then a b = record { state = b.state ∙ a.state; peer = b.peer ∙ a.peer; timeout = b.timeout ∙ a.timeout; keep_alive = b.keep_alive ∙ a.keep_alive; una = b.una ∙ a.una; tx = b.tx ∙ a.tx; rx = b.rx ∙ a.rx; rcv = b.rcv ∙ a.rcv; window = b.window ∙ a.window; scale = b.scale ∙ a.scale; shift = b.shift ∙ a.shift; paused = b.paused ∙ a.paused }
+same_then a b = record { state = b.state ∙ a.state; peer = (peer_of b) ∙ a.peer; timeout = b.timeout ∙ a.timeout; keep_alive = b.keep_alive ∙ a.keep_alive; una = b.una ∙ a.una; tx = b.tx ∙ a.tx; rx = b.rx ∙ a.rx; rcv = b.rcv ∙ a.rcv; window = b.window ∙ a.window; scale = b.scale ∙ a.scale; shift = b.shift ∙ a.shift; paused = b.paused ∙ a.paused }
 
 pub same_again : (x : View) (now : Instant) → Same x (retransmission_begun x now)
 unfolding retransmission_begun
@@ -162,7 +162,7 @@ pub carries_runs : (st : State) (b : Bool) → carries_data st ≡ true → is_p
 carries_runs state.SynReceived b c = absurd cc
 carries_runs _ b c = refl
 
-module _ (v : View) (t : Tuple) (f : Facts) (stamps : Bool) (h : GoesOn v t f) (c : is_paused v.state v.synack_paused ≡ false) where
+module _ (v : View) (t : Tuple) (f : Facts) (h : GoesOn v t f) (c : is_paused v.state v.synack_paused ≡ false) where
   abbrev now : Instant
   now = moment_of f
 
@@ -185,46 +185,46 @@ module _ (v : View) (t : Tuple) (f : Facts) (stamps : Bool) (h : GoesOn v t f) (
   goes_on : is_paused beginning.state beginning.synack_paused ≡ false
   goes_on = (λ i. is_paused (((timer_kept v.timer x now).0 ∙ still.same.state) i) (((timer_kept v.timer x now).1 ∙ still.same.paused) i)) ∙ c
 
-  not_waiting : (y : View) → is_paused y.state y.synack_paused ≡ false → unless_paused y t ≡ record { view = y; peer = Some t }
+  not_waiting : (y : View) → is_paused y.state y.synack_paused ≡ false → unless_paused y ≡ record { view = y; peer = Some t }
   not_waiting y e = rw e refl
 
-  with_address : begun_to (Some t) v f ≡ unless_paused (after_timers x now) t
+  with_address : begun_to (Some t) v f ≡ unless_paused (after_timers x now)
   with_address = rw h.address refl
 
   begun_so : begun_to v.tuple v f ≡ record { view = beginning; peer = Some t }
-  begun_so = ap (λ o. begun_to o v f) h.peer ∙ with_address ∙ ap (λ y. unless_paused y t) timers_are ∙ not_waiting beginning goes_on
+  begun_so = ap (λ o. begun_to o v f) h.peer ∙ with_address ∙ ap (λ y. unless_paused y) timers_are ∙ not_waiting beginning goes_on
 
-  begins_so : before_emit v f stamps ≡ by_due (is_due beginning t f stamps) beginning t f
+  begins_so : before_emit v f ≡ by_due (is_due beginning t f) beginning f
   unfolding before_emit begun
-  begins_so = ap (λ (b : Begun). before_emit_to b.peer b.view f stamps) begun_so
+  begins_so = ap (λ (b : Begun). before_emit_to (peer_of b) b.view f) begun_so
 
   unchanged : nothing_due beginning now ≡ beginning
   unfolding nothing_due
   unchanged = rw (timer_no_end v.timer x now still.timer h.no_end) refl
 
   -- what is due goes out
-  pub sends_so : (out : Option Sending) (w : View) → is_due beginning t f stamps ≡ true → SendsOk f t stamps beginning out w → DispatchesOk f stamps v out w
-  sends_so out w e s = subst (λ (b : Begun). SendsOkTo b.peer f stamps b.view out w) (sym (begins_so ∙ ap (λ b. by_due b beginning t f) e)) s
+  pub sends_so : (out : Option Sending) (w : View) → is_due beginning t f ≡ true → SendsOk f t beginning out w → DispatchesOk f v out w
+  sends_so out w e s = subst (λ (b : Begun). SendsOkTo (peer_of b) f b.view out w) (sym (begins_so ∙ ap (λ b. by_due b beginning f) e)) s
 
   -- and nothing else
-  pub quiet_so : is_due beginning t f stamps ≡ false → DispatchesOk f stamps v None beginning
-  quiet_so e = subst (λ (b : Begun). SendsOkTo b.peer f stamps b.view None beginning) (sym (begins_so ∙ ap (λ b. by_due b beginning t f) e)) (refl, sym unchanged)
+  pub quiet_so : is_due beginning t f ≡ false → DispatchesOk f v None beginning
+  quiet_so e = subst (λ (b : Begun). SendsOkTo (peer_of b) f b.view None beginning) (sym (begins_so ∙ ap (λ b. by_due b beginning f) e)) (refl, sym unchanged)
 
   -- something goes out, or nothing is due
   abbrev pub Goes : Option Sending → View → Type 0
-  Goes out w = (SendsOk f t stamps beginning out w × ((before_emit v f stamps).view ≡ beginning)) ⊎ ((w ≡ beginning) × (is_due beginning t f stamps ≡ false))
+  Goes out w = (SendsOk f t beginning out w × ((before_emit v f).view ≡ beginning)) ⊎ ((w ≡ beginning) × (is_due beginning t f ≡ false))
 
-  pub goes : (out : Option Sending) (w : View) → DispatchesOk f stamps v out w → Goes out w
-  goes out w k = by (is_due beginning t f stamps) refl (subst (λ (b : Begun). SendsOkTo b.peer f stamps b.view out w) begins_so k)
+  pub goes : (out : Option Sending) (w : View) → DispatchesOk f v out w → Goes out w
+  goes out w k = by (is_due beginning t f) refl (subst (λ (b : Begun). SendsOkTo (peer_of b) f b.view out w) begins_so k)
     where
-      by : (b : Bool) → is_due beginning t f stamps ≡ b → SendsOkTo (by_due b beginning t f).peer f stamps (by_due b beginning t f).view out w → Goes out w
-      by true e s = inl (s, ap (λ (b : Begun). b.view) begins_so ∙ ap (λ b. (by_due b beginning t f).view) e)
+      by : (b : Bool) → is_due beginning t f ≡ b → SendsOkTo (peer_of (by_due b beginning f)) f (by_due b beginning f).view out w → Goes out w
+      by true e s = inl (s, ap (λ (b : Begun). b.view) begins_so ∙ ap (λ b. (by_due b beginning f).view) e)
       by false e s = inr (s.1 ∙ unchanged, e)
 
-  pub goes_out : (s : Sending) (w : View) → DispatchesOk f stamps v (Some s) w → SendsOk f t stamps beginning (Some s) w
-  goes_out s w k = by (is_due beginning t f stamps) (subst (λ (b : Begun). SendsOkTo b.peer f stamps b.view (Some s) w) begins_so k)
+  pub goes_out : (s : Sending) (w : View) → DispatchesOk f v (Some s) w → SendsOk f t beginning (Some s) w
+  goes_out s w k = by (is_due beginning t f) (subst (λ (b : Begun). SendsOkTo (peer_of b) f b.view (Some s) w) begins_so k)
     where
-      by : (b : Bool) → SendsOkTo (by_due b beginning t f).peer f stamps (by_due b beginning t f).view (Some s) w → SendsOk f t stamps beginning (Some s) w
+      by : (b : Bool) → SendsOkTo (peer_of (by_due b beginning f)) f (by_due b beginning f).view (Some s) w → SendsOk f t beginning (Some s) w
       by true h = h
       by false h = absurd (none-some s (sym h.0))
 
@@ -232,7 +232,7 @@ module _ (v : View) (t : Tuple) (f : Facts) (stamps : Bool) (h : GoesOn v t f) (
 
 -- the bytes that the transmit queue lends
 abbrev pub lent_for : View → Tuple → Facts → List ℕ
-lent_for u t f = take (min (asked u t f false) (in_one_piece u.tx_buffer.until_end (length u.tx_buffer.bytes) (offset_of u))) (drop (offset_of u) u.tx_buffer.bytes)
+lent_for u t f = take (min (asked u t f) (in_one_piece u.tx_buffer.until_end (length u.tx_buffer.bytes) (offset_of u))) (drop (offset_of u) u.tx_buffer.bytes)
 
 carries : (st : State) (u : View) (p : Tuple) (f : Facts) (bytes : List ℕ) (s : Segment) → carries_data st ≡ true → filled st u p f bytes s ≡ Some (with_data u bytes s)
 carries state.Established u p f bytes s c = refl
@@ -251,9 +251,9 @@ unfolding content
 content_is u p f stamp bytes c = ap (option_map (λ s. sent_as u p (emission_kind u (moment_of f) s) s)) (carries u.state u p f bytes (plain_segment u p stamp) c)
 
 -- what goes out of u, with which the dispatch begins, and what is left
-pub sends_as : (v : View) (t : Tuple) (f : Facts) (on : GoesOn v t f) (runs : is_paused v.state v.synack_paused ≡ false) (u : View) → beginning v t f false on runs ≡ u → carries_data u.state ≡ true → (k : Kind) → emission_kind u (moment_of f) (segment_for u t None (lent_for u t f)) ≡ k → is_due u t f false ≡ true
-    → DispatchesOk f false v (Some (sent_as u t k (segment_for u t None (lent_for u t f)))) (left_by (Some (sent_as u t k (segment_for u t None (lent_for u t f)))) u (moment_of f) true)
-sends_as v t f on runs u is c k e due = sends_so v t f false on runs out after (ap (λ x. is_due x t f false) is ∙ due) (subst (λ x. SendsOk f t false x out after) (sym is) (record {
+pub sends_as : (v : View) (t : Tuple) (f : Facts) (on : GoesOn v t f) (runs : is_paused v.state v.synack_paused ≡ false) (u : View) → beginning v t f on runs ≡ u → carries_data u.state ≡ true → (k : Kind) → emission_kind u (moment_of f) (segment_for u t None (lent_for u t f)) ≡ k → is_due u t f ≡ true
+    → DispatchesOk f v (Some (sent_as u t k (segment_for u t None (lent_for u t f)))) (left_by (Some (sent_as u t k (segment_for u t None (lent_for u t f)))) u (moment_of f) true)
+sends_as v t f on runs u is c k e due = sends_so v t f on runs out after (ap (λ x. is_due x t f) is ∙ due) (subst (λ x. SendsOk f t x out after) (sym is) (record {
   stamp = None;
   told = refl;
   bytes = lent_for u t f;

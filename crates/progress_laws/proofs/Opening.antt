@@ -308,7 +308,7 @@ module _ (t : Tuple) (f : Facts) (number word : ℕ) (a b : View) (m : CanMeet t
         abbrev settled : View
         settled = after t before (room_of a.rx_buffer) 1 established f then m.here owes (omega arith) (omega (arith, some)) narrow at_least una_small late not_over
 
-        sends_ack : DispatchesOk (told f then) false established (Some ack_out) settled
+        sends_ack : DispatchesOk (told f then) established (Some ack_out) settled
         sends_ack = acknowledges t before (room_of a.rx_buffer) 1 established f then m.here owes (omega arith) (omega (arith, some)) narrow at_least una_small late not_over
 
         tell : Tells before settled t ack_out.segment
@@ -446,7 +446,7 @@ module _ (t : Tuple) (f : Facts) (number word : ℕ) (a b : View) (m : CanMeet t
 
           side_here : IsNew a.keep_alive t (room_of a.rx_buffer) settled
           unfolding cleared syn_answered options_taken
-          side_here = let c = tell.receiver in record { reached = dispatch_reached (told f then) false established (Some ack_out) settled reached_e sends_ack; established = settled_state; peer = c.peer; no_timeout = c.no_timeout; keep_alive = kept.keep_alive ∙ h.keep_alive ∙ s_keep; nothing_marked = c.nothing_marked; moment = c.moment; timer = c.timer; nxt = c.nothing_in_flight; read = c.read; nothing_held = ap (λ (q : Received). q.held) (kept.rx ∙ e_rx); some = some; shift = tell.shift ∙ e_shift }
+          side_here = let c = tell.receiver in record { reached = dispatch_reached (told f then) established (Some ack_out) settled reached_e sends_ack; established = settled_state; peer = c.peer; no_timeout = c.no_timeout; keep_alive = kept.keep_alive ∙ h.keep_alive ∙ s_keep; nothing_marked = c.nothing_marked; moment = c.moment; timer = c.timer; nxt = c.nothing_in_flight; read = c.read; nothing_held = ap (λ (q : Received). q.held) (kept.rx ∙ e_rx); some = some; shift = tell.shift ∙ e_shift }
 
           side_across : IsNew b.keep_alive s (room_of b.rx_buffer) across
           unfolding cleared

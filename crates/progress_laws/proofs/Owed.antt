@@ -74,7 +74,7 @@ module _ (s : Tuple) (w : View) (room n : ℕ) (y : View) (f : Facts) (now : Ins
   al : Alike y u
   al = readied_alike y now
 
-  u_is : beginning y s fa false on carries ≡ u
+  u_is : beginning y s fa on carries ≡ u
   u_is = ap (λ tm. after_timer tm u now) o.timer
 
   takes_on : takes_bytes u.state ≡ true
@@ -99,7 +99,7 @@ module _ (s : Tuple) (w : View) (room n : ℕ) (y : View) (f : Facts) (now : Ins
   bytes = lent_for u s fa
 
   none : length bytes ≡ 0
-  none = omega (arith, lent_at_most u.tx_buffer (offset_of u) (asked u s fa false) bytes refl, ap (λ (q : Queue). length q.bytes) al.same.tx, o.nothing_to_send)
+  none = omega (arith, lent_at_most u.tx_buffer (offset_of u) (asked u s fa) bytes refl, ap (λ (q : Queue). length q.bytes) al.same.tx, o.nothing_to_send)
 
   nothing_marked : u.pending_fast_retransmit ≡ false
   nothing_marked = al.marked ∙ o.nothing_marked
@@ -146,8 +146,8 @@ module _ (s : Tuple) (w : View) (room n : ℕ) (y : View) (f : Facts) (now : Ins
     abbrev pub renewed : View
     renewed = left u s now b opens kind.KeepAlive
 
-    pub renews : DispatchesOk fa false y (Some kept_out) renewed
-    renews = sends_so y s fa false on carries (Some kept_out) renewed (ap (λ x. is_due x s fa false) u_is ∙ keep_alive_due u s fa false (ap (λ tm. is_keep_alive_over tm now) al.timer ∙ over)) (subst (λ x. SendsOk fa s false x (Some kept_out) renewed) (sym u_is) (record {
+    pub renews : DispatchesOk fa y (Some kept_out) renewed
+    renews = sends_so y s fa on carries (Some kept_out) renewed (ap (λ x. is_due x s fa) u_is ∙ keep_alive_due u s fa (ap (λ tm. is_keep_alive_over tm now) al.timer ∙ over)) (subst (λ x. SendsOk fa s x (Some kept_out) renewed) (sym u_is) (record {
       stamp = None;
       told = refl;
       bytes = bytes;
@@ -200,9 +200,9 @@ module _ (s : Tuple) (w : View) (room n : ℕ) (y : View) (f : Facts) (now : Ins
     unfolding ack_due
     owed = ap (λ a. is_ack_after a (next_ack u)) (al.last_ack ∙ o.last_ack) ∙ ap (is_before o.last) next ∙ is_earlier o.last (next_ack y) (omega (arith, o.next, some, fits, narrow, o.near, o.last_small))
 
-    due : is_due u s fa false ≡ true
+    due : is_due u s fa ≡ true
     unfolding is_due
-    due = by (data_due u s fa false) (is_reached (ack_poll u) now) reached
+    due = by (data_due u s fa) (is_reached (ack_poll u) now) reached
       where
         reached : is_reached (ack_poll u) now ≡ true
         reached = ap (λ b. is_reached (if b then delay_poll u.ack_delay_timer else poll.Ingress) now) owed ∙ ap (λ a. is_reached (delay_poll a) now) al.delay ∙ late
@@ -220,8 +220,8 @@ module _ (s : Tuple) (w : View) (room n : ℕ) (y : View) (f : Facts) (now : Ins
     abbrev pub after : View
     after = left u s now b opens kind.Plain
 
-    pub acknowledges : DispatchesOk fa false y (Some out_of) after
-    acknowledges = sends_so y s fa false on carries (Some out_of) after (ap (λ x. is_due x s fa false) u_is ∙ due) (subst (λ x. SendsOk fa s false x (Some out_of) after) (sym u_is) (record {
+    pub acknowledges : DispatchesOk fa y (Some out_of) after
+    acknowledges = sends_so y s fa on carries (Some out_of) after (ap (λ x. is_due x s fa) u_is ∙ due) (subst (λ x. SendsOk fa s x (Some out_of) after) (sym u_is) (record {
       stamp = None;
       told = refl;
       bytes = bytes;

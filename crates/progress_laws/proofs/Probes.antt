@@ -48,7 +48,7 @@ module _ (d : Option Duration) (t : Tuple) (v : View) (f : Facts) (now at : Inst
   al : Alike v p
   al = readied_alike v now
 
-  probe_is : beginning v t (told f now) false probe_on probe_carries ≡ p
+  probe_is : beginning v t (told f now) probe_on probe_carries ≡ p
   probe_is = ap (λ tm. after_timer tm p now) probes
 
   probe_may : may_send p.state ≡ true
@@ -90,8 +90,8 @@ module _ (d : Option Duration) (t : Tuple) (v : View) (f : Facts) (now at : Inst
   kind_is : emission_kind p now probe ≡ kind.Probe
   kind_is = rw probing refl
 
-  probe_goes : DispatchesOk (told f now) false v (Some (sent_as p t kind.Probe probe)) (left p t now probe probe_opens kind.Probe)
-  probe_goes = sends_so v t (told f now) false probe_on probe_carries (Some (sent_as p t kind.Probe probe)) (left p t now probe probe_opens kind.Probe) (ap (λ x. is_due x t (told f now) false) probe_is ∙ probe_due p t (told f now) false is_probe) (subst (λ x. SendsOk (told f now) t false x (Some (sent_as p t kind.Probe probe)) (left p t now probe probe_opens kind.Probe)) (sym probe_is) (record {
+  probe_goes : DispatchesOk (told f now) v (Some (sent_as p t kind.Probe probe)) (left p t now probe probe_opens kind.Probe)
+  probe_goes = sends_so v t (told f now) probe_on probe_carries (Some (sent_as p t kind.Probe probe)) (left p t now probe probe_opens kind.Probe) (ap (λ x. is_due x t (told f now)) probe_is ∙ probe_due p t (told f now) is_probe) (subst (λ x. SendsOk (told f now) t x (Some (sent_as p t kind.Probe probe)) (left p t now probe probe_opens kind.Probe)) (sym probe_is) (record {
     stamp = None;
     told = refl;
     bytes = probe_bytes;
@@ -111,7 +111,7 @@ module _ (d : Option Duration) (t : Tuple) (v : View) (f : Facts) (now at : Inst
           bit = segment_bit p t None probe_bytes probe_sends unmarked;
           ack = segment_ack p t None probe_bytes probe_sends unmarked ∙ (λ i. Some (seq_add (al.same.rcv i) (length ((al.same.rx i).bytes))));
           waits = record {
-            reached = dispatch_reached (told f now) false v (Some (sent_as p t kind.Probe probe)) (left p t now probe probe_opens kind.Probe) s.reached probe_goes;
+            reached = dispatch_reached (told f now) v (Some (sent_as p t kind.Probe probe)) (left p t now probe probe_opens kind.Probe) s.reached probe_goes;
             same = same_then al.same l.same;
             nothing_marked = l.marked ∙ ap (λ m. m && not (carries_data p.state)) unmarked;
             timer = subst IsOpenTimer (sym (probe_timer p t now probe probe_opens ∙ ap (λ tm. probe_doubled (keep_alive_renewed tm now p.keep_alive) now) (al.timer ∙ probes))) tt;
@@ -121,7 +121,7 @@ module _ (d : Option Duration) (t : Tuple) (v : View) (f : Facts) (now at : Inst
         some = omega (arith, one_byte);
         within = inr one_byte;
         queued = omega (arith, one_byte, queue);
-        first = lent_beginning p.tx_buffer (offset_of p) (asked p t (told f now) false) probe_bytes refl ∙ ap (λ o. take (length probe_bytes) (drop o p.tx_buffer.bytes)) probe_start ∙ ap (λ (q : Queue). take (length probe_bytes) q.bytes) al.same.tx;
+        first = lent_beginning p.tx_buffer (offset_of p) (asked p t (told f now)) probe_bytes refl ∙ ap (λ o. take (length probe_bytes) (drop o p.tx_buffer.bytes)) probe_start ∙ ap (λ (q : Queue). take (length probe_bytes) q.bytes) al.same.tx;
         sent = 0;
         sent_within = omega arith;
         nxt = probe_nxt p t now probe probe_opens ∙ al.nxt ∙ sent ∙ same_seq v.local_seq_no (seq_add v.local_seq_no 0) (omega (arith, (reached_ordered v s.reached).una_small));

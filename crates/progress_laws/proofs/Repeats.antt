@@ -122,7 +122,7 @@ module _ (st : State) (t : Tuple) (f : Facts) (x : View) (c : SendsSyn st t f x)
   runs = ap (is_paused v.state) (r.same.paused ∙ c.not_paused) ∙ never_paused v.state
 
   abbrev pub u : View
-  u = beginning v t fa false on runs
+  u = beginning v t fa on runs
 
   abbrev z : View
   z = readied v now
@@ -246,7 +246,7 @@ module _ (st : State) (t : Tuple) (f : Facts) (x : View) (c : SendsSyn st t f x)
 
   -- ---- the dispatch
 
-  due : SynGoesOut v r.waits now → is_due u t fa false ≡ true
+  due : SynGoesOut v r.waits now → is_due u t fa ≡ true
   unfolding is_due data_due
   due d = rw (begun_so.marked, opens, none) refl
     where
@@ -256,13 +256,13 @@ module _ (st : State) (t : Tuple) (f : Facts) (x : View) (c : SendsSyn st t f x)
   abbrev bytes : List ℕ
   bytes = lent_for u t fa
 
-  pub sends : SynGoesOut v r.waits now → DispatchesOk fa false v (Some (out_of None)) (sent None)
-  sends d = sends_so v t fa false on runs (Some (out_of None)) (sent None) (due d) (record { stamp = None; told = refl; bytes = bytes; lent = refl; sends = sym (content_so None bytes); view = refl })
+  pub sends : SynGoesOut v r.waits now → DispatchesOk fa v (Some (out_of None)) (sent None)
+  sends d = sends_so v t fa on runs (Some (out_of None)) (sent None) (due d) (record { stamp = None; told = refl; bytes = bytes; lent = refl; sends = sym (content_so None bytes); view = refl })
 
   -- whatever a dispatch does
-  pub goes_so : (out : Option Sending) (w : View) → DispatchesOk fa false v out w → Repeats x w
-  goes_so out w k = by (goes v t fa false on runs out w k)
+  pub goes_so : (out : Option Sending) (w : View) → DispatchesOk fa v out w → Repeats x w
+  goes_so out w k = by (goes v t fa on runs out w k)
     where
-      by : Goes v t fa false on runs out w → Repeats x w
+      by : Goes v t fa on runs out w → Repeats x w
       by (inl (s, e)) = subst (Repeats x) (sym (s.view ∙ ap (λ o. left_by o u now true) (s.sends ∙ content_so s.stamp s.bytes))) (sent_so s.stamp)
       by (inr (e, n)) = subst (Repeats x) (sym e) begun_so

@@ -265,7 +265,7 @@ module _ (d : Option Duration) (t s : Tuple) (f : Facts) (mtu : IsMtu f.mtu) (he
           w3 : View
           w3 = after s w i.receiver.room (length fresh) r.receiver f z there r.owes any room i.receiver.room_at_most i.receiver.room_at_least w_small r.late r.not_over
 
-          back : DispatchesOk (told f z) false r.receiver (Some o) w3
+          back : DispatchesOk (told f z) r.receiver (Some o) w3
           back = acknowledges s w i.receiver.room (length fresh) r.receiver f z there r.owes any room i.receiver.room_at_most i.receiver.room_at_least w_small r.late r.not_over
 
           told_so : Tells w w3 s o.segment

@@ -176,7 +176,7 @@ pub record Brought (e : Option Duration) (s : Tuple) (f : Facts) (now : Instant)
   pub side : IsSide e s view
   pub moves : (at : Instant) → at.micros ≤ℤ now.micros → (got : List ℕ) → Moves f at v w got now x view (got ++ fresh)
 
-module _ (e : Option Duration) (s : Tuple) (f : Facts) (now : Instant) (v x w : View) (out : Sending) (dispatch : DispatchesOk (told f now) false v (Some out) x) (b : IsSide e s w) (k : TcpSeqNumber) (n : ℕ) (c : IsCaughtUp w k n b.room) (bit : IsData out.segment.control) (ack : out.segment.ack_number ≡ Some k) (number : out.segment.seq_number.0 < 2 ^ 32) (short : length out.segment.payload ≤ 65535) (win : 0 < out.segment.window_len * 2 ^ scale_of w.remote_win_scale) (j m : ℕ) (np : NewPart w out.segment j m) where
+module _ (e : Option Duration) (s : Tuple) (f : Facts) (now : Instant) (v x w : View) (out : Sending) (dispatch : DispatchesOk (told f now) v (Some out) x) (b : IsSide e s w) (k : TcpSeqNumber) (n : ℕ) (c : IsCaughtUp w k n b.room) (bit : IsData out.segment.control) (ack : out.segment.ack_number ≡ Some k) (number : out.segment.seq_number.0 < 2 ^ 32) (short : length out.segment.payload ≤ 65535) (win : 0 < out.segment.window_len * 2 ^ scale_of w.remote_win_scale) (j m : ℕ) (np : NewPart w out.segment j m) where
   abbrev fresh : List ℕ
   fresh = fresh_bytes w k n b.room now out.ip out.segment c bit ack j m np
 

@@ -90,7 +90,7 @@ pub record Agreement (d : Duration) (t : Tuple) (v w : View) (taken heard : ℕ)
 -- something is in flight, and nothing goes on any more (`stall_empty_probe`)
 pub data Exchange (f : Facts) (now : Instant) (v w : View) (got : List ℕ) (v' w' : View) (got' : List ℕ) : Type 0 where
   IsMove : Move f now v w got v' w' got' → Exchange f now v w got v' w' got'
-  AnswerIsLost : (out : Sending) (answer : Segment) → DispatchesOk (told f now) false v (Some out) v'
+  AnswerIsLost : (out : Sending) (answer : Segment) → DispatchesOk (told f now) v (Some out) v'
       → processed w now 0 out.ip out.segment ≡ record { view = w'; reply = Some answer } → got' ≡ got
       → Exchange f now v w got v' w' got'
 

@@ -107,7 +107,7 @@ BothWaysComplete = FromBothInStep (λ d e t s f at v w got back i. BothComplete 
 -- v closes; its FIN goes out, which leaves v', and reaches w, which becomes w'; reads there answer `Finished`
 pub record ClosesTo (f : Facts) (now : Instant) (v w v' w' : View) : Type 0 where
   pub out : Sending
-  pub dispatch : DispatchesOk (told f now) false (closed v) (Some out) v'
+  pub dispatch : DispatchesOk (told f now) (closed v) (Some out) v'
   pub reaches : processed w now 0 out.ip out.segment ≡ record { view = w'; reply = None }
   pub finished : recv_check w' ≡ Err recv_error.Finished
 

@@ -121,7 +121,7 @@ pub data Losses (f : Facts) : Instant → View → Instant → View → Type 0 w
   NoLoss : (at : Instant) (v : View) → Losses f at v at v
   OneLoss : (at now end : Instant) (v u w : View) (out : Option Sending)
       → at.micros ≤ℤ now.micros
-      → DispatchesOk (told f now) false v out u
+      → DispatchesOk (told f now) v out u
       → Losses f now u end w
       → Losses f at v end w
 
@@ -176,7 +176,7 @@ pub record OpensCrossed (t : Tuple) (f : Facts) (last since : Instant) (word : �
   pub later_across : since.micros ≤ℤ first.micros
   pub syn : Sending
   pub across : View
-  pub sends_syn : DispatchesOk (told f first) false w (Some syn) across
+  pub sends_syn : DispatchesOk (told f first) w (Some syn) across
   pub opens : OpensAgain t f first word a b v across
 
 -- whatever SYNs of both were lost before
@@ -200,7 +200,7 @@ pub record AnswersLate (f : Facts) (last : Instant) (v w : View) : Type 0 where
   pub later : last.micros ≤ℤ now.micros
   pub syn_ack : Sending
   pub answered : View
-  pub sends_again : DispatchesOk (told f now) false w (Some syn_ack) answered
+  pub sends_again : DispatchesOk (told f now) w (Some syn_ack) answered
   pub here : View
   pub ack : Segment
   pub answers : processed v now 0 syn_ack.ip syn_ack.segment ≡ record { view = here; reply = Some ack }

@@ -115,32 +115,32 @@ told f now = record f { now = now.micros }
 pub data Move (f : Facts) (now : Instant) (v w : View) (got : List ℕ) (v' w' : View) (got' : List ℕ) : Type 0 where
   -- v dispatches, and w has no answer
   Carries : (out : Sending)
-      → DispatchesOk (told f now) false v (Some out) v'
+      → DispatchesOk (told f now) v (Some out) v'
       → processed w now 0 out.ip out.segment ≡ record { view = w'; reply = None }
       → got' ≡ got
       → Move f now v w got v' w' got'
   -- v dispatches, and the answer of w reaches v
   IsAnswered : (out : Sending) (u : View) (answer : Segment)
-      → DispatchesOk (told f now) false v (Some out) u
+      → DispatchesOk (told f now) v (Some out) u
       → processed w now 0 out.ip out.segment ≡ record { view = w'; reply = Some answer }
       → processed u now 0 (reply_ip out.ip answer) answer ≡ record { view = v'; reply = None }
       → got' ≡ got
       → Move f now v w got v' w' got'
   -- w dispatches, and v has no answer
   CarriesBack : (out : Sending)
-      → DispatchesOk (told f now) false w (Some out) w'
+      → DispatchesOk (told f now) w (Some out) w'
       → processed v now 0 out.ip out.segment ≡ record { view = v'; reply = None }
       → got' ≡ got
       → Move f now v w got v' w' got'
   -- v dispatches, and what it emits, if anything, is lost
   GoesAstray : (out : Option Sending)
-      → DispatchesOk (told f now) false v out v'
+      → DispatchesOk (told f now) v out v'
       → w' ≡ w
       → got' ≡ got
       → Move f now v w got v' w' got'
   -- w dispatches, and what it emits is lost
   IsLost : (out : Sending)
-      → DispatchesOk (told f now) false w (Some out) w'
+      → DispatchesOk (told f now) w (Some out) w'
       → v' ≡ v
       → got' ≡ got
       → Move f now v w got v' w' got'
@@ -198,7 +198,7 @@ pub record Finishes (d : Option Duration) (t s : Tuple) (f : Facts) (at : Instan
   pub out : Sending
   pub sender : View
   pub receiver : View
-  pub dispatch : DispatchesOk (told f now) false (closed bytes.sender) (Some out) sender
+  pub dispatch : DispatchesOk (told f now) (closed bytes.sender) (Some out) sender
   pub reaches : processed bytes.receiver now 0 out.ip out.segment ≡ record { view = receiver; reply = None }
   pub finished : recv_check receiver ≡ Err recv_error.Finished
 

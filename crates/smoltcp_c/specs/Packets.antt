@@ -9,7 +9,7 @@ use Rattle.control_wire.specs.declared.tcp.TcpTimestampRepr.{TcpTimestampRepr}
 use Rattle.sock_core.specs.Facts.{Facts}
 use Rattle.sock_core.specs.declared.context.PollAt.{PollAt}
 use Rattle.sock_core.specs.declared.context.PollAt.TheVariants as poll
-use Rattle.sock_tcp.specs.Begin.{before_emit}
+use Rattle.sock_tcp.specs.Begin.{before_emit, peer_of}
 use Rattle.sock_tcp.specs.Content.{asked, offset_of, content}
 use Rattle.sock_tcp.specs.Dispatch.{packet_in}
 use Rattle.sock_tcp.specs.Opening.{endpoints}
@@ -114,7 +114,7 @@ stamp_told clock = option_map (λ c. c.tsval) clock
 pub record SendsInto (f : Facts) (stamp : Option ℕ) (t : Tuple) (v : View) (out : List ℕ) (result : ℤ) (w : View)
     (out' : List ℕ) : Type 0 where
   pub bytes : List ℕ
-  pub lent : IsLent v.tx_buffer (offset_of v) (asked v t f (is_some stamp)) bytes
+  pub lent : IsLent v.tx_buffer (offset_of v) (asked v t f) bytes
   pub answer : result ≡ (if has_room (option_map packet_in (content v t f stamp bytes)) out
       then pos (size_of (option_map packet_in (content v t f stamp bytes))) else error_room)
   pub written : out' ≡ (if has_room (option_map packet_in (content v t f stamp bytes)) out
@@ -130,5 +130,5 @@ SendsIf (Some t) f stamp v out result w out' = SendsInto f stamp t v out result 
 -- the whole of a dispatch: the beginning, and what is due after it
 unfoldable pub DispatchesInto : Cx → Option Clock → View → List ℕ → ℤ → View → List ℕ → Type 0
 DispatchesInto cx clock v out result w out' =
-    SendsIf (before_emit v (facts_in cx) (is_some clock)).peer (facts_in cx) (stamp_told clock)
-    (before_emit v (facts_in cx) (is_some clock)).view out result w out'
+    SendsIf (peer_of (before_emit v (facts_in cx))) (facts_in cx) (stamp_told clock)
+    (before_emit v (facts_in cx)).view out result w out'

@@ -9,8 +9,8 @@ pub returns-clause-told : goal.returns-clause-told
 returns-clause-told c =
     let m : c.in-Some.moment.cx ≡ c.args.cx.now = c.in-Some.ensures.value _ refl in
     let s : c.socket.result.now ≡ c.args.h.now.socket = c.socket.ensures.value in
-    let poll : c.poll_at.result ≡ poll_moment (view c.args.h.now) (facts_in c.args.cx.now) (is_some (clock c.args.h.now)) =
-    c.poll_at.ensures ∙ (λ i. poll_moment (s i).control_block (facts_in (m i)) (is_some (s i).tsval_generator)) in
+    let poll : c.poll_at.result ≡ poll_moment (view c.args.h.now) (facts_in c.args.cx.now) =
+    c.poll_at.ensures ∙ (λ i. poll_moment (s i).control_block (facts_in (m i))) in
     let e : to_z w64 (of_z w64 c.told.result) ≡ c.told.result = search rules in
     record {
       context = λ f. let no : true ≡ false = c.in-Some.ensures.range ∙ f in absurd cc;
