@@ -9,3 +9,4 @@ pub mod Emitting
 pub mod Lending
 pub mod Quiet
 pub mod Sending
+pub mod Refusing

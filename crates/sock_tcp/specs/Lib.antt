@@ -14,6 +14,8 @@ pub mod Acked
 pub mod Arrival
 pub mod Advance
 pub mod Steps
+pub mod Inside
+pub mod Rfc
 pub mod Process
 pub mod Draw
 pub mod Due

@@ -47,6 +47,7 @@ renewed v =
       nagle = v.nagle;
       synack_paused = v.synack_paused;
       stamps = v.stamps;
+      rules = v.rules;
       congestion_controller = of_kind (kind_of v.congestion_controller);
       remote_has_sack = v.remote_has_sack;
       local_rx_last_seq = v.local_rx_last_seq;

@@ -20,6 +20,8 @@ use Rattle.sock_tcp.specs.declared.timer.AckDelayTimer.{AckDelayTimer}
 use Rattle.sock_tcp.specs.declared.timer.AckDelayTimer.TheVariants as ack_delay
 use Rattle.sock_tcp.specs.declared.timer.Timer.{Timer}
 use Rattle.sock_tcp.specs.declared.timer.Timer.TheVariants as timer
+use Rattle.sock_tcp.specs.declared.rules.Rules.{Rules}
+use Rattle.sock_tcp.specs.declared.rules.Rules.TheVariants as rules
 use Rattle.sock_tcp.specs.declared.state.State.{State}
 use Rattle.sock_tcp.specs.declared.state.State.TheVariants as state
 use Rattle.sock_tcp.specs.declared.tuple.Tuple.{Tuple}
@@ -60,6 +62,7 @@ pub record View : Type 0 where
   pub last_remote_tsval : ℕ  -- the last timestamp value of the peer
   pub synack_paused : Bool  -- a SYN|ACK waits
   pub stamps : Bool  -- segments carry a timestamp (RFC 7323, section 3)
+  pub rules : Rules  -- where smoltcp's differ from the RFCs'
 
 -- the moment that a context tells
 abbrev pub moment_of : Facts → Instant
@@ -136,4 +139,5 @@ fresh rx tx =
       last_remote_tsval = 0;
       synack_paused = false;
       stamps = false;
+      rules = rules.Smoltcp;
     }

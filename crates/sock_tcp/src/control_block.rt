@@ -1,5 +1,6 @@
 //! The transmission control block (RFC 9293, section 3.3.1), and the value that contracts see.
 
+use crate::rules::Rules;
 use crate::state::State;
 use crate::timer::{AckDelayTimer, Timer};
 use crate::tuple::Tuple;
@@ -83,6 +84,8 @@ pub struct ControlBlock<'a> {
     pub(crate) synack_paused: bool,
     // segments carry a timestamp (RFC 7323, section 3)
     pub(crate) stamps: bool,
+    // where smoltcp's differ from the RFCs'
+    pub(crate) rules: Rules,
 }
 
 impl<'a> Model for ControlBlock<'a> {
@@ -126,6 +129,7 @@ impl<'a> Model for ControlBlock<'a> {
       last_remote_tsval = s.last_remote_tsval;
       synack_paused = s.synack_paused;
       stamps = s.stamps;
+      rules = s.rules;
     } };
 
     ghost invariant = { λ s. IsSound s.rx_buffer (queue_of s.tx_buffer) s.tuple

@@ -4,6 +4,7 @@
 //!
 //! - `advance_in` in `Advance.antt`: the state table, a row for each state and control bit.
 //! - `processed` and what stands above it in `Process.antt`, read from the end: the rules of `process` in their order.
+//! - `rfc_refused` in `Rfc/Refused.antt`: what `Rules::Rfc` does in place of a row of `processed`.
 //! - `Accepts` in `Process.antt` and `verdict_of` in `Verdict.antt`: which segments get that far.
 //! - `content` in `Content.antt` and `before_emit` in `Begin.antt`: what `dispatch` sends, and what it does before.
 //! - `View` in `View.antt`: the fields that all of these speak of.
@@ -27,7 +28,9 @@ mod open;
 pub mod poll;
 mod process;
 mod queues;
+mod refused;
 mod reply;
+pub mod rules;
 pub mod settings;
 pub mod socket;
 pub mod state;
@@ -41,6 +44,7 @@ pub use control_block::ControlBlock;
 pub use error::{ConnectError, ListenError, RecvError, SendError};
 pub use generator::{Generator, TsvalSource};
 pub use reply::Reply;
+pub use rules::{Rules, RulesError};
 pub use settings::CongestionControl;
 pub use socket::{Socket, SocketBuffer};
 pub use state::State;

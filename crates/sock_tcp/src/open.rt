@@ -10,6 +10,7 @@ ghost use Rattle.sock_tcp.specs.Opening.{Connects};
 
 use crate::control_block::ControlBlock;
 use crate::error::{ConnectError, ListenError};
+use crate::rules::Rules;
 use crate::state::State;
 use crate::timer::{AckDelayTimer, Timer};
 use crate::tuple::Tuple;
@@ -79,6 +80,7 @@ impl<'a> ControlBlock<'a> {
             last_remote_tsval: 0,
             synack_paused: false,
             stamps: false,
+            rules: Rules::Smoltcp,
         }
     }
 

@@ -37,10 +37,10 @@ pub enum Answer {
 // What the receive window takes of a segment: the control bit that counts, and the bytes, the first of which stands so
 // far past RCV.NXT.
 #[derive(Clone, Copy)]
-struct Taken<'b> {
-    control: TcpControl,
-    offset: usize,
-    bytes: &'b [u8],
+pub(crate) struct Taken<'b> {
+    pub(crate) control: TcpControl,
+    pub(crate) offset: usize,
+    pub(crate) bytes: &'b [u8],
 }
 
 // Whether a segment goes to a listener on this endpoint.
@@ -89,7 +89,7 @@ impl<'a> ControlBlock<'a> {
     }
 
     // An ACK, at most one a second.
-    #[tactic(auto, unfolding(crate::specs::Process::challenged))]
+    #[tactic(auto, unfolding(crate::specs::Inside::challenged))]
     fn challenge(&mut self, now: Instant) -> Answer
         requires { IsMoment now.micros }
         ensures table { (s : Segment) → answered result self.new s ≡ challenged self.old now s }
@@ -103,7 +103,7 @@ impl<'a> ControlBlock<'a> {
     }
 
     // In TIME-WAIT its time begins anew.
-    #[tactic(auto, unfolding(crate::specs::Process::close_restarted))]
+    #[tactic(auto, unfolding(crate::specs::Inside::close_restarted))]
     fn restart_close(&mut self, now: Instant)
         requires { IsMoment now.micros }
         ensures { self.new ≡ close_restarted self.old now }
@@ -116,8 +116,8 @@ impl<'a> ControlBlock<'a> {
     // The answer to a segment outside of the window. One with bytes is answered each time, whatever the limit on
     // challenge ACKs (RFC 5961, section 7) says: its sender has not heard that they came, and sends them until it does.
     // One without is what two sides could answer each other with for ever.
-    #[tactic(auto, unfolding(crate::specs::Process::outside))]
-    fn answer_outside(&mut self, now: Instant, repr: &TcpRepr<'_>) -> Answer
+    #[tactic(auto, unfolding(crate::specs::Inside::outside))]
+    pub(crate) fn answer_outside(&mut self, now: Instant, repr: &TcpRepr<'_>) -> Answer
         requires { IsMoment now.micros }
         ensures table { answered result self.new (segment_of repr.now)
             ≡ outside self.old now (segment_of repr.now) }
@@ -136,7 +136,7 @@ impl<'a> ControlBlock<'a> {
     }
 
     // The bytes that the window takes, the first of them so far past RCV.NXT; an ACK tells of a gap.
-    #[tactic(auto, unfolding(crate::specs::Process::bytes_taken))]
+    #[tactic(auto, unfolding(crate::specs::Inside::bytes_taken))]
     fn take_bytes(&mut self, now: Instant, offset: usize, bytes: &[u8]) -> Answer
         requires moment { IsMoment now.micros }
         requires fits { offset + length bytes.now ≤ length self.old.rx_buffer.held }
@@ -157,8 +157,8 @@ impl<'a> ControlBlock<'a> {
     }
 
     // The state table, and the steps behind it.
-    #[tactic(auto, unfolding(crate::specs::Process::processed_inside))]
-    fn process_inside<C: Context>(
+    #[tactic(auto, unfolding(crate::specs::Inside::processed_inside))]
+    pub(crate) fn process_inside<C: Context>(
         &mut self,
         cx: &mut C,
         now: Instant,
@@ -213,7 +213,7 @@ impl<'a> ControlBlock<'a> {
         number.in_range(); // for its contract
         let window = self.receive_window();
         if !window.is_inside(number, length) {
-            return self.answer_outside(now, repr);
+            return self.refuse(cx, now, &window, ip_repr, repr);
         }
         let control = window.counted_control(repr.control, number, length);
         let cut = window.cut(number, length);

@@ -1,0 +1,56 @@
+//! Which rules a socket follows, where smoltcp's differ from the RFCs'.
+ghost use Rattle.std.specs.Prelude.{◌≡◌, Ok, Err, true, false};
+ghost use Rattle.sock_tcp.specs.Opening.{is_open};
+ghost use Rattle.sock_tcp.specs.declared.rules.RulesError.TheVariants as rules_error;
+
+use crate::socket::Socket;
+use std::fmt;
+
+/// The rules of a TCP socket.
+#[derive(Debug, Clone, Copy, PartialEq, Eq)]
+pub enum Rules {
+    /// smoltcp's case tables, whole: a new socket has these.
+    Smoltcp,
+    /// The same, but for what lies outside of the receive window (RFC 9293, sections 3.4 and 3.10.7.4): a FIN at RCV.NXT
+    /// is taken, wherever the bytes before it lie; and acknowledgements and windows are heard of a peer whose number
+    /// lies near the window, as of one that counts the byte of its probe of a window of 0.
+    Rfc,
+}
+
+/// Why a socket keeps its rules.
+#[derive(Debug, Clone, Copy, PartialEq, Eq)]
+pub enum RulesError {
+    /// It is open.
+    InvalidState,
+}
+
+impl fmt::Display for RulesError {
+    fn fmt<W: fmt::Write>(&self, f: &mut fmt::Formatter<W>) -> fmt::Result {
+        f.write_str("invalid state")
+    }
+}
+
+impl<'a, G> Socket<'a, G> {
+    /// The socket's rules.
+    pub fn rules(&self) -> Rules
+        ensures { result ≡ self.now.control_block.rules }
+    {
+        self.control_block.rules
+    }
+
+    /// Chooses the rules of a socket that is not open, for all its connections from now on. An open one answers
+    /// `RulesError::InvalidState`, and nothing changes.
+    pub fn set_rules(&mut self, rules: Rules) -> Result<(), RulesError>
+        ensures refused { is_open self.old.control_block.state ≡ true
+            → (result ≡ Err rules_error.InvalidState) × (self.new.control_block ≡ self.old.control_block) }
+        ensures set { is_open self.old.control_block.state ≡ false
+            → (result ≡ Ok tt) × (self.new.control_block ≡ record self.old.control_block { rules = rules }) }
+        ensures generator { self.new.tsval_generator ≡ self.old.tsval_generator }
+    {
+        if self.control_block.is_open() {
+            return Err(RulesError::InvalidState);
+        }
+        self.control_block.rules = rules;
+        Ok(())
+    }
+}
