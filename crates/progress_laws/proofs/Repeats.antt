@@ -23,7 +23,7 @@ use Rattle.sock_tcp.specs.declared.timer.Timer.TheVariants as timer
 use Rattle.sock_tcp.specs.declared.tuple.Tuple.{Tuple}
 use Rattle.progress_laws.specs.InStep.{told}
 use Rattle.progress_laws.specs.Speech.{DispatchesOk, GoesOn}
-use Rattle.progress_laws.proofs.Begins.{Alike, Goes, Same, and_no, beginning, goes, lent_for, readied_alike, same_again, same_then, sends_so}
+use Rattle.progress_laws.proofs.Begins.{Alike, Goes, Same, and_no, beginning, goes, lent_for, readied_alike, same_again, same_then, sends_so, stamp_for, stamp_is}
 use Rattle.progress_laws.proofs.Edges.{is_earlier, is_not_before, later_is, later_stays}
 use Rattle.progress_laws.proofs.Hears.{idle_is, idle_moment}
 use Rattle.progress_laws.proofs.Sends.{SentOf, left, plain_sent, plain_timer, plain_told}
@@ -256,8 +256,8 @@ module _ (st : State) (t : Tuple) (f : Facts) (x : View) (c : SendsSyn st t f x)
   abbrev bytes : List ℕ
   bytes = lent_for u t fa
 
-  pub sends : SynGoesOut v r.waits now → DispatchesOk fa v (Some (out_of None)) (sent None)
-  sends d = sends_so v t fa on runs (Some (out_of None)) (sent None) (due d) (record { stamp = None; told = refl; bytes = bytes; lent = refl; sends = sym (content_so None bytes); view = refl })
+  pub sends : SynGoesOut v r.waits now → DispatchesOk fa v (Some (out_of (stamp_for u))) (sent (stamp_for u))
+  sends d = sends_so v t fa on runs (Some (out_of (stamp_for u))) (sent (stamp_for u)) (due d) (record { stamp = stamp_for u; told = stamp_is u; bytes = bytes; lent = refl; sends = sym (content_so (stamp_for u) bytes); view = refl })
 
   -- whatever a dispatch does
   pub goes_so : (out : Option Sending) (w : View) → DispatchesOk fa v out w → Repeats x w
