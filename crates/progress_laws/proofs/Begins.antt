@@ -60,7 +60,7 @@ later_moment a b = go (int_le b.micros a.micros) refl
 
 run_on : (v u w : View) (k i j : Counts) → Run v k u i → Step u i w j → Run v k w j
 run_on v u w k i j (Ends _ _) s = Then v w w k j j s (Ends w j)
-run_on v u w k i j (Then _ x _ _ l s r) last = Then v x w k l j s (run_on x u w l i j r last)
+run_on v u w k i j (Then _ x _ _ l _ s r) last = Then v x w k l j s (run_on x u w l i j r last)
 
 pub step_reached : (v w : View) (j : Counts) (r : IsReached v) → Step v r.counts w j → IsReached w
 step_reached v w j r s = record { rx = r.rx; tx = r.tx; counts = j; rx_size = r.rx_size; tx_size = r.tx_size; run = run_on _ v w _ r.counts j r.run s }
@@ -100,7 +100,7 @@ pub same_self : (v : View) → Same v v
 same_self v = record { state = refl; peer = refl; timeout = refl; keep_alive = refl; una = refl; tx = refl; rx = refl; rcv = refl; window = refl; scale = refl; shift = refl; paused = refl }
 
 pub same_then : {u v x : View} → Same u v → Same v x → Same u x
-same_then a b = record { state = b.state ∙ a.state; peer = (peer_of b) ∙ a.peer; timeout = b.timeout ∙ a.timeout; keep_alive = b.keep_alive ∙ a.keep_alive; una = b.una ∙ a.una; tx = b.tx ∙ a.tx; rx = b.rx ∙ a.rx; rcv = b.rcv ∙ a.rcv; window = b.window ∙ a.window; scale = b.scale ∙ a.scale; shift = b.shift ∙ a.shift; paused = b.paused ∙ a.paused }
+same_then a b = record { state = b.state ∙ a.state; peer = b.peer ∙ a.peer; timeout = b.timeout ∙ a.timeout; keep_alive = b.keep_alive ∙ a.keep_alive; una = b.una ∙ a.una; tx = b.tx ∙ a.tx; rx = b.rx ∙ a.rx; rcv = b.rcv ∙ a.rcv; window = b.window ∙ a.window; scale = b.scale ∙ a.scale; shift = b.shift ∙ a.shift; paused = b.paused ∙ a.paused }
 
 pub same_again : (x : View) (now : Instant) → Same x (retransmission_begun x now)
 unfolding retransmission_begun
