@@ -99,6 +99,7 @@ fn read<'a>(packet: &'a [u8], ip: &mut IpRepr, repr: &mut TcpRepr<'a>) -> bool
 }
 
 // Sets the socket's clock, where it has one.
+#[tactic(auto, using(crate::proofs::Clocks::still_stamped))]
 fn set_clock(socket: &mut Socket<'_, Clock>, tsval: u32)
     ensures view { socket.new.control_block ≡ socket.old.control_block }
     ensures clock { socket.new.tsval_generator ≡ clock_at socket.old.tsval_generator tsval }

@@ -40,6 +40,7 @@ pub extern "C" fn smoltcp_tcp_init_checked(room: &mut TcpRoom, rx: Bytes, tx: By
 }
 
 // A closed socket.
+#[tactic(auto, unfolding(sock_tcp::specs::View::fresh))]
 fn closed_over(rx: RingBuffer<'static, u8>, tx: RingBuffer<'static, u8>) -> Socket<'static, Clock>
     requires rx { length rx.queue + length rx.spare ≤ 2 ^ 30 }
     requires tx { length tx.queue + length tx.spare ≤ 2 ^ 30 }
