@@ -14,7 +14,7 @@ use Rattle.control_wire.specs.declared.tcp.TcpControl.{TcpControl}
 use Rattle.control_wire.specs.declared.tcp.TcpTimestampRepr.{TcpTimestampRepr}
 use Rattle.sock_core.specs.Facts.{Facts}
 use Rattle.tcp_laws.proofs.Frames.{GoesBack}
-use Rattle.sock_tcp.specs.Begin.{after_timers, before_emit, before_emit_to, begun, begun_to, by_due, ended, readied, unless_paused, peer_of}
+use Rattle.sock_tcp.specs.Begin.{before_emit, peer_of}
 use Rattle.sock_tcp.specs.Content.{Sending, content, filled, emission_kind, of_kind, plain_segment, sent_as}
 use Rattle.sock_tcp.specs.Due.{is_due}
 use Rattle.tcp_laws.specs.Laws.{IsPeered}
@@ -27,6 +27,7 @@ use Rattle.sock_tcp.specs.declared.emission.Kind.TheVariants as kind
 use Rattle.sock_tcp.specs.declared.state.State.{State}
 use Rattle.sock_tcp.specs.declared.state.State.TheVariants as state
 use Rattle.sock_tcp.specs.declared.tuple.Tuple.{Tuple}
+use Rattle.pair_core.proofs.DispatchKeeps.{before_emit_keeps}
 use Rattle.pair_core.specs.Holding.{kept_at}
 use Rattle.pair_core.specs.PairAddresses.{AllGo, GoesFrom}
 use Rattle.pair_core.specs.PairSteps.{stored_at}
@@ -93,31 +94,10 @@ module _ (ends : Side → IpEndpoint) (s : Side) (t : StoredView) (version : Sam
 the_tuple : {a b : Tuple} → Some a ≡ Some b → a ≡ b
 the_tuple e = cc
 
--- the peer of a dispatch is the socket's
-module _ (v : View) (f : Facts) (t : Tuple) where
-  paused_peer : (w : View) (u : Tuple) (b : Bool) → (if b then None else Some u) ≡ Some t → Some u ≡ Some t
-  paused_peer w u true e = let no : None ≡ Some t = e in cc
-  paused_peer w u false e = e
-
-  due_peer : (b : Bool) (w : View) (u : Tuple) → peer_of (by_due b w f) ≡ Some t → Some u ≡ Some t
-  due_peer true w u e = e
-  due_peer false w u e = let no : None ≡ Some t = e in cc
-
-  begun_peer : (o : Option Tuple) → peer_of (begun_to o v f) ≡ Some t → o ≡ Some t
-  begun_peer None e = e
-  begun_peer (Some u) e = go (f.has_address u.local.addr) e
-    where
-      go : (b : Bool) → (peer_of (if b then unless_paused (after_timers (readied v (moment_of f)) (moment_of f)) else ended (renewed v))) ≡ Some t → Some u ≡ Some t
-      go true e = paused_peer v u _ e
-      go false e = let no : None ≡ Some t = e in cc
-
-  reasons_peer : (o : Option Tuple) (w : View) → peer_of (before_emit_to o w f) ≡ Some t → o ≡ Some t
-  reasons_peer None w e = e
-  reasons_peer (Some u) w e = due_peer (is_due w u f) w u e
-
-  peer_is : peer_of (before_emit v f) ≡ Some t → v.tuple ≡ Some t
-  unfolding before_emit begun
-  peer_is e = begun_peer v.tuple (reasons_peer (peer_of (begun v f)) (begun v f).view e)
+-- a dispatch goes on to the socket's peer
+peer_is : (goes_on : Bool) (o : Option Tuple) (t : Tuple) → (if goes_on then o else None) ≡ Some t → o ≡ Some t
+peer_is true o t e = e
+peer_is false o t e = let no : None ≡ Some t = e in cc
 
 peered : (st : State) (o : Option Tuple) (t u : Tuple) → IsPeered st o u → o ≡ Some t → t ≡ u
 peered state.Closed o t u p e = ⊎_elim (λ h. let no : None ≡ Some t = sym h ∙ e in cc) (λ h. the_tuple (sym e ∙ h)) p
@@ -202,9 +182,9 @@ module _ (ends : Side → IpEndpoint) (s : Side) (released taken : ℕ) where
       u : View
       u = (before_emit v f).view
 
-      to : (t : Tuple) → peer_of (before_emit v f) ≡ Some t → SendsTo tells source t f fail r w → AllGo ends (stored_at s r released taken)
+      to : (t : Tuple) → peer_of (before_emit v f) ≡ Some t → SendsTo tells source u t f fail r w → AllGo ends (stored_at s r released taken)
       to t e d =
-          let is = peered v.state v.tuple t _ p (peer_is v f t e) in
+          let is = peered u.state u.tuple t _ ((before_emit_keeps v f).peer _ p) (peer_is (before_emit v f).goes_on u.tuple t e) in
           recorded_goes u t f d.stamp d.bytes fail (content u t f d.stamp d.bytes) r (subst (λ (z : Tuple). SameVersion z.local.addr z.remote.addr) (sym is) version) is refl d.records
 
       go : (o : Option Tuple) → peer_of (before_emit v f) ≡ o → SendsFrom tells source o u f fail r w → AllGo ends (stored_at s r released taken)

@@ -149,7 +149,7 @@ module _ {F : Type 0} (g : Once F (MutBor Capture × ((IpRepr × TcpRepr) × Uni
 
       to : (o : Option Tuple) → EmitsTo g f facts tells clock o w c r new c' → SendsFrom tells clock o w facts fail (sent_of r c') new
       to None q = (quiet w q.answer q.context q.view, q.view)
-      to (Some t) x = record { stamp = x.stamp; told = x.told; bytes = d.bytes; lent = d.lent; records = (both (content w t facts x.stamp d.bytes) refl d.emits d.view).0; view = (both (content w t facts x.stamp d.bytes) refl d.emits d.view).1; fits = d.fits }
+      to (Some t) x = record { stamp = x.stamp; told = x.told; stamped = d.stamped; bytes = d.bytes; lent = d.lent; records = (both (content w t facts x.stamp d.bytes) refl d.emits d.view).0; view = (both (content w t facts x.stamp d.bytes) refl d.emits d.view).1; fits = d.fits }
         where
           d : EmitsDue g f facts t x.stamp w c r new c'
           d = x.emits

@@ -50,7 +50,7 @@ beginnings_keep v now = record {
   marks = λ w e k. record { listener = k.listener; peer = k.peer };
 }
 
-before_emit_keeps : (v : View) (f : Facts) → Keeps v (before_emit v f).view
+pub before_emit_keeps : (v : View) (f : Facts) → Keeps v (before_emit v f).view
 before_emit_keeps v f = before_kept (Keeps v) f (beginnings_keep v (moment_of f)) (λ w k. in_turn v w (renewed w) k (reset_keeps w)) v (same v)
 
 -- ---- the emit

@@ -191,7 +191,7 @@ module _ {G : Type 0} (s : Side) (h o : HostView G) (ks : List StoredView) (limi
       subst (Reaches (at_view v ks)) (stored_is s (opened h b (left_by (Some c) v now true)) (endpoint_of o) ks (record { emitter = s; ip = c.ip; segment = c.segment; released_at = h.released; taken_at = h.taken }) limit refl)
       (emission_reaches (at_view v ks) (shown (left_by (Some c) v now true)) (stream_segment c.segment h.released h.taken) (record { released = omega arith; taken = omega arith }) may.sends may.leaves)
 
-  sends_to : (tells : G → ℕ → Type 0) (source : Option G) (v w : View) (t : Tuple) (f : Facts) (fail : Bool) (r : Sent) → SendsTo tells source t f fail r w → IsInvariant (at_view v ks) → Reaches (at_view v ks) (at_view w (ks ++ stored_at s r h.released h.taken))
+  sends_to : (tells : G → ℕ → Type 0) (source : Option G) (v w : View) (t : Tuple) (f : Facts) (fail : Bool) (r : Sent) → SendsTo tells source v t f fail r w → IsInvariant (at_view v ks) → Reaches (at_view v ks) (at_view w (ks ++ stored_at s r h.released h.taken))
   sends_to tells source v w t f fail r d i = subst (λ u. Reaches (at_view v ks) (at_view u (ks ++ stored_at s r h.released h.taken))) (sym d.view) (go fail (content v t f d.stamp d.bytes) refl d.records)
     where
       go : (fail : Bool) (c : Option Sending) → content v t f d.stamp d.bytes ≡ c → Records fail c r → Reaches (at_view v ks) (at_view (left_by c v (moment_of f) (not fail)) (ks ++ stored_at s r h.released h.taken))

@@ -245,7 +245,7 @@ module _ (v : View) (released taken : ℕ) where
 
   pub content_goes : HasSendingBounds (shown v) → HasIss (phase_of v.state) → (t : Tuple) (f : Facts) (stamp : Option ℕ) (bytes : List ℕ) → IsLent v.tx_buffer (offset_of v) (asked v t f) bytes → (c : Sending) → content v t f stamp bytes ≡ Some c → GoesOut v released taken c.segment
   unfolding content
-  content_goes b iss t f stamp bytes lent c e = out t (moment_of f) (filled v.state v t f bytes (plain_segment v t stamp)) (fills b iss t f stamp (is_some stamp) bytes (moment_of f) v.state refl) c e
+  content_goes b iss t f stamp bytes lent c e = out t (moment_of f) (filled v.state v t f bytes (plain_segment v t stamp)) (fills b iss t f stamp bytes (moment_of f) lent v.state refl) c e
 
   -- ---- the RST of a closed socket
 

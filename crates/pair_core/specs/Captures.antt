@@ -49,10 +49,11 @@ Records false (Some s) _ = ⊥
 
 -- the socket sends to its peer, with what its source of timestamps tells, where it has one, and for some bytes that its
 -- ring lent
-pub record SendsTo {G : Type 0} (tells : G → ℕ → Type 0) (source : Option G) (t : Tuple) (f : Facts)
+pub record SendsTo {G : Type 0} (tells : G → ℕ → Type 0) (source : Option G) (v : View) (t : Tuple) (f : Facts)
     (fail : Bool) (r : Sent) (w : View) : Type 0 where
   pub stamp : Option ℕ
   pub told : IsStamp tells source stamp
+  pub stamped : is_some stamp ≡ v.stamps
   pub bytes : List ℕ
   pub lent : IsLent v.tx_buffer (offset_of v) (asked v t f) bytes
   pub records : Records fail (content v t f stamp bytes) r
@@ -62,7 +63,7 @@ pub record SendsTo {G : Type 0} (tells : G → ℕ → Type 0) (source : Option 
 abbrev pub SendsFrom : {G : Type 0} → (G → ℕ → Type 0) → Option G → Option Tuple → View → Facts → Bool → Sent → View
     → Type 0
 SendsFrom tells source None v f fail r w = (r ≡ sent.Quiet) × (w ≡ v)
-SendsFrom tells source (Some t) v f fail r w = SendsTo tells source t f fail r w
+SendsFrom tells source (Some t) v f fail r w = SendsTo tells source v t f fail r w
 
 -- a whole dispatch of the socket v
 unfoldable pub SocketDispatches : {G : Type 0} → (G → ℕ → Type 0) → Option G → View → Facts → Bool → Sent → View

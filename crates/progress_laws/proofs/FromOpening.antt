@@ -25,7 +25,7 @@ use Rattle.progress_laws.proofs.Accepts.{sending_keeps_in_step}
 use Rattle.progress_laws.proofs.BothFinish.{both_ways_finish}
 use Rattle.progress_laws.proofs.Handshakes.{connected_reached, first_short, handshake_brings_in_step, meets, narrow, numbered_first, q, reached_l, reached_received, reached_x, received, s, same_versions, takes_syn, there_s}
 use Rattle.progress_laws.proofs.Opening.{acknowledged, answered, answers_syn, back_out, begins, can, first, may_answer, out, sent, stands}
-use Rattle.progress_laws.proofs.Repeats.{IsSent, NotSent, Repeats, SendsSyn, SynGoesOut, SynWaits, goes_so, sends, sent_so, waits_then}
+use Rattle.progress_laws.proofs.Repeats.{IsSent, NotSent, Repeats, SendsSyn, SynGoesOut, SynWaits, goes_so, sends, sent_so, waits_then, own_stamp}
 use Rattle.progress_laws.proofs.SynSteps.{HasTakenSyn, crossed, crossed_so, crossing_passes}
 use Rattle.progress_laws.proofs.Taking.{take_all}
 
@@ -156,7 +156,7 @@ crossed_syns_come_again t f at last from since number word a b v w p c here ther
     let o = goes_out w rk.0.waits both.0 in
     let x = sent (mirrored t) f word number b a back o.0 w rk.0 in
     let sends_x = sends state.SynSent (mirrored t) f (connected b (mirrored t) word) (can (mirrored t) f word number b a back) w rk.0 o.0 o.2 in
-    let waits = waits_then state.SynSent (mirrored t) f (connected b (mirrored t) word) (can (mirrored t) f word number b a back) w rk.0 o.0 None in
+    let waits = waits_then state.SynSent (mirrored t) f (connected b (mirrored t) word) (can (mirrored t) f word number b a back) w rk.0 o.0 (own_stamp state.SynSent (mirrored t) f (connected b (mirrored t) word) (can (mirrored t) f word number b a back) w rk.0 o.0) in
     record {
       first = o.0;
       later = grind (arith, ints, both.1, o.1);
@@ -164,6 +164,6 @@ crossed_syns_come_again t f at last from since number word a b v w p c here ther
       syn = out (mirrored t) f word number b a back o.0 w rk.0;
       across = x;
       sends_syn = sends_x;
-      opens = opens_again t f number word a b m p.unopened c.unopened mtu v x rv.0 (sent_so state.SynSent (mirrored t) f (connected b (mirrored t) word) (can (mirrored t) f word number b a back) w rk.0 o.0 None) rv.1
+      opens = opens_again t f number word a b m p.unopened c.unopened mtu v x rv.0 (sent_so state.SynSent (mirrored t) f (connected b (mirrored t) word) (can (mirrored t) f word number b a back) w rk.0 o.0 (own_stamp state.SynSent (mirrored t) f (connected b (mirrored t) word) (can (mirrored t) f word number b a back) w rk.0 o.0)) rv.1
           (dispatch_reached (told f o.0) w (Some (out (mirrored t) f word number b a back o.0 w rk.0)) x rk.1 sends_x) waits.0 waits.1 o.0;
     }

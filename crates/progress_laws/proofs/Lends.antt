@@ -25,7 +25,7 @@ lent_some q o n bs lent some within = go (in_one_piece q.until_end (length q.byt
         omega (arith, long, z, some, within, length-drop o q.bytes)
 
 pub mss_some : (v : View) (t : Tuple) (f : Facts) → 576 ≤ f.mtu → 48 ≤ v.remote_mss → 0 < effective_mss v t f
-mss_some v t f mtu mss = go t.local.addr
+mss_some v t f mtu mss = go t.local.addr v.stamps
   where
     go : (a : IpAddress) (b : Bool) → 0 < min (f.mtu - ip_header_len a - 20) v.remote_mss - timestamp_room b
     go (address.Ipv4 a) true = omega (arith, mtu, mss)

@@ -32,7 +32,7 @@ use Rattle.progress_laws.proofs.Begins.{later_moment}
 use Rattle.progress_laws.proofs.Handshakes.{done, edge, establishes, handshake, kept, may, new_pair, next, nothing_sent, peer, reached_waits, room, taker, takes_syn, waits}
 use Rattle.progress_laws.proofs.Hears.{HeardAs, IsData, data_is_said, heard_as}
 use Rattle.progress_laws.proofs.Opening.{answers_syn}
-use Rattle.progress_laws.proofs.Repeats.{IsSent, NotSent, Repeats, SendsSyn, SynGoesOut, SynWaits, begun_so, out_of, segment, sends, sent, sent_so, u as begun}
+use Rattle.progress_laws.proofs.Repeats.{IsSent, NotSent, Repeats, SendsSyn, SynGoesOut, SynWaits, begun_so, out_of, segment, sends, sent, sent_so, u as begun, own_stamp}
 use Rattle.progress_laws.proofs.SynSteps.{ack_passes, opened}
 
 -- ---- a SYN|ACK that comes again is challenged
@@ -99,19 +99,19 @@ module _ (s : Tuple) (f : Facts) (x : View) (c : SendsSyn state.SynReceived s f 
     u = begun state.SynReceived s f x c z rz now
 
     abbrev g : Segment
-    g = segment state.SynReceived s f x c z rz now None
+    g = segment state.SynReceived s f x c z rz now (own_stamp state.SynReceived s f x c z rz now)
 
     abbrev out : Sending
-    out = out_of state.SynReceived s f x c z rz now None
+    out = out_of state.SynReceived s f x c z rz now (own_stamp state.SynReceived s f x c z rz now)
 
     abbrev z1 : View
-    z1 = sent state.SynReceived s f x c z rz now None
+    z1 = sent state.SynReceived s f x c z rz now (own_stamp state.SynReceived s f x c z rz now)
 
     us : Repeats x u
     us = begun_so state.SynReceived s f x c z rz now
 
     ss : Repeats x z1
-    ss = sent_so state.SynReceived s f x c z rz now None
+    ss = sent_so state.SynReceived s f x c z rz now (own_stamp state.SynReceived s f x c z rz now)
 
     g_ack : g.ack_number ≡ Some (next_ack u)
     unfolding plain_segment

@@ -31,7 +31,7 @@ use Rattle.tcp_laws.proofs.Sleeping.{window_sends}
 use Rattle.tcp_laws.proofs.Probing.{reached_probing}
 use Rattle.progress_laws.specs.InStep.{ForAnswer, ForKeepAlive, ForNothing, ForProbe, IsSender, Rests, told}
 use Rattle.progress_laws.specs.Speech.{DispatchesOk, GoesOn}
-use Rattle.progress_laws.proofs.Begins.{Same, beginning, carries_runs, dispatch_reached, lent_for, not_zero, quiet_so, readied_alike, same_again, same_then, segment_for, sends_as}
+use Rattle.progress_laws.proofs.Begins.{Same, beginning, carries_runs, dispatch_reached, lent_for, not_zero, quiet_so, readied_alike, same_again, same_then, segment_for, sends_as, stamp_for}
 use Rattle.progress_laws.proofs.Edges.{is_earlier, is_not_before, later_is, later_stays}
 use Rattle.progress_laws.proofs.Hears.{IsData, IsOpenTimer, idle_is, idle_moment}
 use Rattle.progress_laws.proofs.Lends.{lent_some, mss_some}
@@ -192,19 +192,19 @@ module _ (d : Option Duration) (t : Tuple) (v : View) (f : Facts) (now : Instant
   asked_is = asked_so u t f now ft (sends_data u.state may)
 
   abbrev b : Segment
-  b = segment_for u t None bytes
+  b = segment_for u t (stamp_for u) bytes
 
   bit : IsData b.control
-  bit = segment_bit u t None bytes sends ft.nothing_marked
+  bit = segment_bit u t (stamp_for u) bytes sends ft.nothing_marked
 
   number : b.seq_number ≡ v.local_seq_no
-  number = segment_number u t None bytes sends ft.nothing_marked ∙ fr.nxt
+  number = segment_number u t (stamp_for u) bytes sends ft.nothing_marked ∙ fr.nxt
 
   ack : b.ack_number ≡ Some (next_ack v)
-  ack = segment_ack u t None bytes sends ft.nothing_marked ∙ (λ i. Some (seq_add (fr.same.rcv i) (length ((fr.same.rx i).bytes))))
+  ack = segment_ack u t (stamp_for u) bytes sends ft.nothing_marked ∙ (λ i. Some (seq_add (fr.same.rcv i) (length ((fr.same.rx i).bytes))))
 
   told_field : b.window_len ≡ window_field v
-  told_field = segment_window u t None bytes sends ft.nothing_marked ∙ (λ i. min (length ((fr.same.rx i).held) / 2 ^ fr.same.shift i) 65535)
+  told_field = segment_window u t (stamp_for u) bytes sends ft.nothing_marked ∙ (λ i. min (length ((fr.same.rx i).held) / 2 ^ fr.same.shift i) 65535)
 
   carries_on : carries_data u.state ≡ true
   carries_on = sends_data u.state may
@@ -229,9 +229,9 @@ module _ (d : Option Duration) (t : Tuple) (v : View) (f : Facts) (now : Instant
       let queue_u : 0 < length u.tx_buffer.bytes = subst (λ (q : Queue). 0 < length q.bytes) (sym fr.same.tx) queue in
       let asks : 0 < asked u t fa = omega (arith, asked_is, win_u, ft.no_flight, mss_some u t fa mtu.0 ft.mss, open_window u.congestion_controller fr.ordered.congestion) in
       let some : 0 < length bytes = lent_some u.tx_buffer (offset_of u) (asked u t fa) bytes refl asks (omega (arith, ft.start, queue_u)) in
-      let plain : emission_kind u now b ≡ kind.Plain = with_bytes u t None bytes sends ft.nothing_marked now ft.no_probing some in
+      let plain : emission_kind u now b ≡ kind.Plain = with_bytes u t (stamp_for u) bytes sends ft.nothing_marked now ft.no_probing some in
       let h = goes_out kind.Plain plain (data_is_due (window_sends u t fa fr.ordered win_u ft.no_flight (inl queue_u))) in
-      let long : segment_len b ≡ length bytes = segment_length u t None bytes sends ft.nothing_marked in
+      let long : segment_len b ≡ length bytes = segment_length u t (stamp_for u) bytes sends ft.nothing_marked in
       let same : length u.tx_buffer.bytes ≡ length v.tx_buffer.bytes = ap (λ (q : Queue). length q.bytes) fr.same.tx in
       record {
         out = sent_as u t kind.Plain b;
@@ -259,7 +259,7 @@ module _ (d : Option Duration) (t : Tuple) (v : View) (f : Facts) (now : Instant
   speaks_plain win queue =
       let l = plain_sent u t now b opens in
       let some : 0 < length bytes = (speaks_bytes win queue).some in
-      let long : segment_len b ≡ length bytes = segment_length u t None bytes sends ft.nothing_marked in
+      let long : segment_len b ≡ length bytes = segment_length u t (stamp_for u) bytes sends ft.nothing_marked in
       record {
         bytes = speaks_bytes win queue;
         fits = omega (arith, lent_few u t fa, asked_is, fr.same.window);
@@ -282,7 +282,7 @@ module _ (d : Option Duration) (t : Tuple) (v : View) (f : Facts) (now : Instant
   speaks_nothing win keep_over =
       let shut : u.remote_win_len ≡ 0 = fr.same.window ∙ win in
       let none : length bytes ≡ 0 = omega (arith, lent_few u t fa, asked_is, shut) in
-      let kept : emission_kind u now b ≡ kind.KeepAlive = without_bytes u t None bytes sends ft.nothing_marked now ft.no_probing none true keep_over in
+      let kept : emission_kind u now b ≡ kind.KeepAlive = without_bytes u t (stamp_for u) bytes sends ft.nothing_marked now ft.no_probing none true keep_over in
       let h = goes_out kind.KeepAlive kept (keep_alive_due u t fa keep_over) in
       record {
         out = sent_as u t kind.KeepAlive b;
@@ -309,7 +309,7 @@ module _ (d : Option Duration) (t : Tuple) (v : View) (f : Facts) (now : Instant
       none = omega (arith, lent_few u t fa, asked_is, fr.same.window, win)
 
       long : segment_len b ≡ 0
-      long = segment_length u t None bytes sends ft.nothing_marked ∙ none
+      long = segment_length u t (stamp_for u) bytes sends ft.nothing_marked ∙ none
 
       small : v.local_seq_no.0 < 2 ^ 32
       small = (reached_ordered v s.reached).una_small
@@ -319,7 +319,7 @@ module _ (d : Option Duration) (t : Tuple) (v : View) (f : Facts) (now : Instant
 
       speaks : is_due u t fa ≡ true → (k : Bool) → is_keep_alive_over u.timer now ≡ k → FallsSilent fa v
       speaks due true over =
-          let h = goes_out kind.KeepAlive (without_bytes u t None bytes sends ft.nothing_marked now ft.no_probing none true over) due in
+          let h = goes_out kind.KeepAlive (without_bytes u t (stamp_for u) bytes sends ft.nothing_marked now ft.no_probing none true over) due in
           let l = kept_sent u t now b opens in
           record {
             out = Some (sent_as u t kind.KeepAlive b);
@@ -334,7 +334,7 @@ module _ (d : Option Duration) (t : Tuple) (v : View) (f : Facts) (now : Instant
             told = inl (let k = kept_untold u t now b opens in record { last_ack = k.last_ack ∙ fr.untold.last_ack; last_win = k.last_win ∙ fr.untold.last_win });
           }
       speaks due false over =
-          let h = goes_out kind.Plain (without_bytes u t None bytes sends ft.nothing_marked now ft.no_probing none false over) due in
+          let h = goes_out kind.Plain (without_bytes u t (stamp_for u) bytes sends ft.nothing_marked now ft.no_probing none false over) due in
           let l = plain_sent u t now b opens in
           let tm : (left u t now b opens kind.Plain).timer ≡ idle_from now u.keep_alive = plain_timer u t now b opens true (rw long refl) ∙ renewed in
           record {

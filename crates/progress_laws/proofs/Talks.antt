@@ -31,7 +31,7 @@ use Rattle.tcp_laws.proofs.Repeating.{empty_parts}
 use Rattle.progress_laws.specs.Agreement.{ForAnswer, ForKeepAlive, ForProbe, ForRepeat, IsSpeaker, Waits}
 use Rattle.progress_laws.specs.InStep.{told}
 use Rattle.progress_laws.specs.Speech.{DispatchesOk, GoesOn}
-use Rattle.progress_laws.proofs.Begins.{Alike, Same, and_no, beginning, carries_runs, fin_len, lent_for, not_empty, not_zero, quiet_so, readied_alike, same_again, same_then, segment_for, sends_as, some_or_none, timers_are}
+use Rattle.progress_laws.proofs.Begins.{Alike, Same, and_no, beginning, carries_runs, fin_len, lent_for, not_empty, not_zero, quiet_so, readied_alike, same_again, same_then, segment_for, sends_as, some_or_none, timers_are, stamp_for}
 use Rattle.progress_laws.proofs.Edges.{is_not_before, later_stays}
 use Rattle.progress_laws.proofs.Lends.{lent_some, marked_some, mss_some, probe_byte}
 use Rattle.progress_laws.proofs.Says.{AtFront, front_number, keep_alive_due, no_probe, probe_due}
@@ -124,7 +124,7 @@ module _ (d : Duration) (t : Tuple) (v : View) (f : Facts) (now : Instant) (mtu 
   bytes = lent_for b t fa
 
   abbrev g : Segment
-  g = segment_for b t None bytes
+  g = segment_for b t (stamp_for b) bytes
 
   goes_out : (k : Kind) → emission_kind b now g ≡ k → is_due b t fa ≡ true → DispatchesOk fa v (Some (sent_as b t k g)) (left b t now g opens k)
   goes_out = sends_as v t fa on runs b b_is carries
@@ -180,7 +180,7 @@ module _ (d : Duration) (t : Tuple) (v : View) (f : Facts) (now : Instant) (mtu 
       no_probing = rw (carries, m) refl
 
       some : 0 < segment_len g
-      some = marked_some b t fa None bytes mtu.0 st.mss carries refl m work_then
+      some = marked_some b t fa (stamp_for b) bytes mtu.0 st.mss carries refl m work_then
 
   -- ---- nothing is in flight, and nothing marked
 
@@ -208,7 +208,7 @@ module _ (d : Duration) (t : Tuple) (v : View) (f : Facts) (now : Instant) (mtu 
         by : (length b.tx_buffer.bytes ≡ 0) ⊎ (0 < length b.tx_buffer.bytes) → HasToSend b → 0 < segment_len g
         by (inr queue) h = bytes_go queue
         by (inl z) (inl queue) = absurd (omega (arith, z, queue))
-        by (inl z) (inr c) = fin_len b t None bytes c (omega (arith, start, z, no_bytes z))
+        by (inl z) (inr c) = fin_len b t (stamp_for b) bytes c (omega (arith, start, z, no_bytes z))
 
     shut_then : is_probing b now ≡ false → segment_len g ≡ 0 → v.remote_win_len ≡ 0
     shut_then no_probing z = by (some_or_none v.remote_win_len)
@@ -227,7 +227,7 @@ module _ (d : Duration) (t : Tuple) (v : View) (f : Facts) (now : Instant) (mtu 
         renewed = ap (λ tm. keep_alive_renewed tm now b.keep_alive) idle ∙ keeps
 
         by : (e : Bool) → is_empty_segment g ≡ e → (k : Bool) → is_keep_alive_over b.timer now ≡ k → Call fa v now
-        by false x k y = says_plain due no_probing x (not_empty b t None bytes x)
+        by false x k y = says_plain due no_probing x (not_empty b t (stamp_for b) bytes x)
         by true x true y = Says (sent_as b t kind.KeepAlive g) (left b t now g opens kind.KeepAlive) (goes_out kind.KeepAlive kept due) (inr (record { kind = refl; number = ap (λ n. seq_minus n 1) st.same.una; byte = refl; shut = shut_then no_probing (empty_parts g x).0 })) (record { same = same_then st.same (kept_sent b t now g opens).same; told = inl (let u = kept_untold b t now g opens in record { last_ack = u.last_ack ∙ st.untold.last_ack; last_win = u.last_win ∙ st.untold.last_win }) }) (ForKeepAlive (Some (after now d)) (kept_timer b t now g opens ∙ renewed) (inr (kept_nxt b t now g opens ∙ nxt ∙ sym (kept_sent b t now g opens).same.una)))
           where
             kept : emission_kind b now g ≡ kind.KeepAlive
@@ -263,7 +263,7 @@ module _ (d : Duration) (t : Tuple) (v : View) (f : Facts) (now : Instant) (mtu 
         kind_is = rw probing refl
 
         byte : length bytes ≡ 1
-        byte = probe_byte b t fa None bytes mtu.0 st.mss carries refl m probing (omega (arith, none, queue))
+        byte = probe_byte b t fa (stamp_for b) bytes mtu.0 st.mss carries refl m probing (omega (arith, none, queue))
 
   -- ---- by the reasons to send
 

@@ -22,17 +22,17 @@ use Rattle.tcp_laws.specs.Waking.{HasToSend}
 -- the socket u sends this, or nothing, and becomes w
 pub record SendsOk (f : Facts) (t : Tuple) (u : View) (out : Option Sending) (w : View) : Type 0 where
   pub stamp : Option ℕ
-  pub told : is_some stamp ≡
+  pub told : is_some stamp ≡ u.stamps
   pub bytes : List ℕ
   pub lent : IsLent u.tx_buffer (offset_of u) (asked u t f) bytes
   pub sends : out ≡ content u t f stamp bytes
   pub view : w ≡ left_by out u (moment_of f) true
 
-abbrev pub SendsOkTo : Option Tuple → Facts → Bool → View → Option Sending → View → Type 0
+abbrev pub SendsOkTo : Option Tuple → Facts → View → Option Sending → View → Type 0
 SendsOkTo None f u out w = (out ≡ None) × (w ≡ u)
 SendsOkTo (Some t) f u out w = SendsOk f t u out w
 
-abbrev pub DispatchesOk : Facts → Bool → View → Option Sending → View → Type 0
+abbrev pub DispatchesOk : Facts → View → Option Sending → View → Type 0
 DispatchesOk f v out w = SendsOkTo (peer_of (before_emit v f)) f (before_emit v f).view out w
 
 -- ---- past its timer
@@ -72,7 +72,7 @@ Says v None = ⊥
 Says v (Some s) = Speech v s
 
 -- Of at most so many dispatches, each once the timer that stands then is over, the last one says it, whatever moments
--- and they have
+-- and stamps they have
 abbrev pub SpeaksWithin : ℕ → View → Tuple → Type 0
 SpeaksWithin zero v t = ⊥
 SpeaksWithin (suc n) v t =

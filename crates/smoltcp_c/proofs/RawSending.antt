@@ -20,7 +20,7 @@ headed h p out a b n room written last =
     last ∙ ap (λ x. h ++ x) (ap (drop n) written ∙ drop_at (take n out) (p ++ drop (n + length p) out) n l) ∙ sym (append_assoc h p (drop (n + length p) out))
 
 module _ {F : Type 0} (g : Emit F Wire (IpRepr × Bor (List ℕ)) Full) (f : F) (says : (shown left : MutBor Wire) (s : IpRepr × Bor (List ℕ)) (r : Result (Unit {0}) Full) → g.post f (shown, (s, tt)) (r, (left, tt)) → WritesRaw (outgoing_of s) shown.now r left.now) where
-  pub dispatched : (c c' : Wire) (v w : View) (r : Result (Unit {0}) Full) → c.len ≡ 0 → Dispatched g true v c r c' w → DispatchesRaw v c.out.now (sent_answer r c'.len) w c'.out.now × (c'.out.ghost_name ≡ c.out.ghost_name)
+  pub dispatched : (c c' : Wire) (v w : View) (r : Result (Unit {0}) Full) → c.len ≡ 0 → Dispatched g f true v c r c' w → DispatchesRaw v c.out.now (sent_answer r c'.len) w c'.out.now × (c'.out.ghost_name ≡ c.out.ghost_name)
   dispatched c c' v w r zero d =
       let h = sent raw_len raw_packet (λ o. raw_len o ≤ 65535) outgoing_of g f says d.planned c c' r zero (λ o e short. short) d.emits in (
         record {

@@ -13,7 +13,7 @@ use Rattle.sock_tcp.specs.Begin.{before_emit, peer_of}
 use Rattle.sock_tcp.specs.Content.{asked, offset_of, content}
 use Rattle.sock_tcp.specs.Dispatch.{packet_in}
 use Rattle.sock_tcp.specs.Opening.{endpoints}
-use Rattle.sock_tcp.specs.Process.{Accepts, Outcome, processed, generator_after}
+use Rattle.sock_tcp.specs.Process.{Accepts, Outcome, processed, source_kept}
 use Rattle.sock_tcp.specs.Queue.{IsLent}
 use Rattle.sock_tcp.specs.Replies.{rst_segment, with_header}
 use Rattle.sock_tcp.specs.Sent.{left_by}
@@ -83,7 +83,8 @@ outcome_in cx v ip s = processed v (moment_of (facts_in cx)) cx.word ip s
 
 -- the packet that answers it
 abbrev pub reply_in : Cx → Option Clock → View → IpRepr → Segment → Option (IpRepr × Segment)
-reply_in cx clock v ip s = replied (generator_after v s clock) s.timestamp ip (outcome_in cx v ip s).reply
+reply_in cx clock v ip s = replied (source_kept (outcome_in cx v ip s).view.stamps clock) s.timestamp ip
+    (outcome_in cx v ip s).reply
 
 -- a segment that is not for the socket changes nothing; else the socket, its clock and the reply are those of
 -- `processed` at the context's clock, and the reply's packet stands at the beginning of the buffer
@@ -92,7 +93,7 @@ pub record Hears (cx : Cx) (clock : Option Clock) (v : View) (ip : IpRepr) (s : 
   pub foreign : (Accepts v ip s → ⊥)
       → (result ≡ not_accepted) × (w ≡ v) × (clock' ≡ clock) × (out' ≡ out)
   pub socket : Accepts v ip s → w ≡ (outcome_in cx v ip s).view
-  pub clocked : Accepts v ip s → clock' ≡ generator_after v s (clock_at clock cx.tsval)
+  pub clocked : Accepts v ip s → clock' ≡ source_kept w.stamps (clock_at clock cx.tsval)
   pub answer : Accepts v ip s → result ≡ pos (size_of (reply_in cx (clock_at clock cx.tsval) v ip s))
   pub bytes : Accepts v ip s → out' ≡ written_over (reply_in cx (clock_at clock cx.tsval) v ip s) out
 
