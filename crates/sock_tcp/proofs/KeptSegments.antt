@@ -11,9 +11,9 @@ use Rattle.sock_core.specs.Received.{makes_fifth_range, holds_nothing}
 use Rattle.sock_tcp.specs.Acked.{acked_of}
 use Rattle.sock_tcp.specs.Advance.{advance_in, advanced, counted_control, dropped, fallen_back, fin_counted, moved_to, syn_answered, syn_received, waiting}
 use Rattle.sock_tcp.specs.Arrival.{Arrival, arrival}
-use Rattle.sock_tcp.specs.Process.{Outcome, acked_by, stopped, ack_sent, challenged, close_restarted, outside_by, outside, gap_answered, bytes_taken, tuple_of, after_advance, processed_inside, has_window, cut_inside, tested, by_verdict, processed}
+use Rattle.sock_tcp.specs.Process.{stopped, ack_sent, challenged, close_restarted, outside_by, outside, gap_answered, bytes_taken, tuple_of, after_advance, processed_inside, has_window, cut_inside, tested, by_verdict, processed}
 use Rattle.sock_tcp.specs.Replies.{ack_kept}
-use Rattle.sock_tcp.specs.Rfc.Refused.{answered_if_not, has_ended, is_heard_outside, is_next_fin, refused, rfc_refused, then_answered}
+use Rattle.sock_tcp.specs.Rfc.Refused.{refused}
 use Rattle.sock_tcp.specs.Steps.{ack_delayed, ack_heard, acknowledged, heard, is_duplicate, is_window_changed, joined, released, timer_set, timestamp_taken, window_taken}
 use Rattle.sock_tcp.specs.Timers.{after, challenge_interval}
 use Rattle.sock_tcp.specs.Verdict.{verdict_of}
@@ -23,12 +23,12 @@ use Rattle.sock_tcp.specs.declared.acked.Acked.{Acked}
 use Rattle.sock_tcp.specs.declared.advance.Next.{Next}
 use Rattle.sock_tcp.specs.declared.advance.Next.TheVariants as next
 use Rattle.sock_tcp.specs.declared.rules.Rules.{Rules}
-use Rattle.sock_tcp.specs.declared.rules.Rules.TheVariants as rules
 use Rattle.sock_tcp.specs.declared.state.State.{State}
 use Rattle.sock_tcp.specs.declared.state.State.TheVariants as state
 use Rattle.sock_tcp.specs.declared.tuple.Tuple.{Tuple}
 use Rattle.sock_tcp.specs.declared.verdict.Verdict.{Verdict}
 use Rattle.sock_tcp.specs.declared.verdict.Verdict.TheVariants as verdicts
+use Rattle.sock_tcp.proofs.Refusing.{heard_alone, refused_as}
 
 -- what holds of what is heard of a segment, whether it is a duplicate or not
 module _ (P : View → Type 0) (now : Instant) (s : Segment) (u : View) (a : Acked) where
@@ -166,25 +166,16 @@ module _ (P : View → Type 0) (now : Instant) (word : ℕ) (ip : IpRepr) (s : S
 
   -- outside of the window, by either rules
   refused_kept : (r : Rules) (v : View) → P v → P (refused r v come).view
-  unfolding rfc_refused
-  refused_kept rules.Smoltcp v h = outside_kept P now s k.answers k.restarts v h
-  refused_kept rules.Rfc v h = by (is_next_fin s.control (receive_window v) s.seq_number (length s.payload)) (is_heard_outside v s (acked_by v come))
+  refused_kept r v h = refused_as (λ o. P o.view) r v come (record {
+    answers = outside_kept P now s k.answers k.restarts v h;
+    counts = λ e. inside_kept v control.Fin 0 [] h;
+    hears = λ e. alone;
+    ends = λ e. alone;
+    goes_on = λ e. outside_kept P now s k.answers k.restarts (heard_alone v come).view alone;
+  })
     where
-      ended_or_not : (u : View) → P u → (b : Bool) → P (if b then stopped u else outside u now s).view
-      ended_or_not u h true = h
-      ended_or_not u h false = outside_kept P now s k.answers k.restarts u h
-
-      or_answered : (o : Outcome) → P o.view → (r : Option Segment) → P (answered_if_not r o come).view
-      or_answered o h (Some x) = h
-      or_answered o h None = ended_or_not o.view h (has_ended o.view.state)
-
-      then_kept : (o : Outcome) → P o.view → P (then_answered o come).view
-      then_kept o h = or_answered o h o.reply
-
-      by : (fin heard : Bool) → P (if fin then processed_inside v come control.Fin 0 [] else (if heard then then_answered (processed_inside v come control.None 0 []) come else outside v now s)).view
-      by true heard = inside_kept v control.Fin 0 [] h
-      by false true = then_kept (processed_inside v come control.None 0 []) (inside_kept v control.None 0 [] h)
-      by false false = outside_kept P now s k.answers k.restarts v h
+      alone : P (heard_alone v come).view
+      alone = inside_kept v control.None 0 [] h
 
   pub tested_kept : (v : View) → P v → (b : Bool) → P (tested b v come).view
   tested_kept v h false = inside_kept v s.control 0 [] h

@@ -1,4 +1,5 @@
 pub mod Acking
+pub mod Refusing
 pub mod KeptSegments
 pub mod Stamping
 pub mod Windows
@@ -9,4 +10,3 @@ pub mod Emitting
 pub mod Lending
 pub mod Quiet
 pub mod Sending
-pub mod Refusing

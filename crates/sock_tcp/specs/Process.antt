@@ -69,10 +69,10 @@ Accepts v ip s = AcceptsIn v.state v ip s
 -- ---- process
 -- Each definition stands below those that it names, so the rules are read from the end, in this order: `processed`
 -- asks for the verdict; `by_verdict` drops, resets, challenges or lets pass; `tested` tests the receive window, in a
--- state that has one; `refused` answers what lies outside, as `outside`, or hears it; `cut_inside` cuts what lies inside; `processed_inside`
--- goes through the state table; `after_advance` stops, challenges or hears the acknowledgement; `bytes_taken` takes
--- the bytes and answers a gap. From `outside` on they stand in `Inside.antt`; what `refused` does under the rules of the
--- RFCs, in `Rfc/Refused.antt`.
+-- state that has one; `cut_inside` cuts what lies inside, and `refused` (`Rfc/Refused.antt`) does by the socket's rules
+-- what is done outside. The rest stands in `Inside.antt`: `outside` answers a segment; `processed_inside` goes through
+-- the state table; `after_advance` stops, challenges or hears the acknowledgement; `bytes_taken` takes the bytes and
+-- answers a gap.
 
 -- LISTEN and SYN-SENT have no receive window, and take no bytes
 abbrev pub has_window : State → Bool

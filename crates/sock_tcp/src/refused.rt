@@ -71,7 +71,7 @@ impl<'a> ControlBlock<'a> {
     }
 
     // Its acknowledgement and its window are heard, and then it is answered.
-    #[tactic(auto, using(crate::proofs::Refusing::nothing_said, crate::proofs::Refusing::acknowledged, crate::proofs::Refusing::reset))]
+    #[tactic(auto, using(crate::proofs::Refusing::then_said))]
     fn hear_outside<C: Context>(
         &mut self,
         cx: &mut C,

@@ -11,9 +11,9 @@ use std::fmt;
 pub enum Rules {
     /// smoltcp's case tables, whole: a new socket has these.
     Smoltcp,
-    /// The same, but for what lies outside of the receive window (RFC 9293, sections 3.4 and 3.10.7.4): a FIN at RCV.NXT
-    /// is taken, wherever the bytes before it lie; and acknowledgements and windows are heard of a peer whose number
-    /// lies near the window, as of one that counts the byte of its probe of a window of 0.
+    /// The same, but for what lies outside of the receive window (RFC 9293, sections 3.4 and 3.10.7.4): a FIN at
+    /// RCV.NXT is taken, wherever the bytes before it lie; and acknowledgements and windows are heard of a peer whose
+    /// number lies near the window, as of one that counts the byte of its probe of a window of 0.
     Rfc,
 }
 

@@ -28,6 +28,9 @@ use Rattle.sock_tcp.specs.declared.tuple.Tuple.{Tuple}
 use Rattle.sock_tcp.specs.declared.verdict.Verdict.{Verdict}
 use Rattle.sock_tcp.specs.declared.verdict.Verdict.TheVariants as verdicts
 use Rattle.tcp_laws.proofs.Kept.{KeptByAnswers, KeptByRows, challenged_kept, outside_kept, rows_kept}
+use Rattle.sock_tcp.specs.Rfc.Refused.{refused}
+use Rattle.sock_tcp.specs.declared.rules.Rules.{Rules}
+use Rattle.sock_tcp.proofs.Refusing.{heard_alone, refused_as}
 
 -- the receive buffer is b, and the rest is as it was
 pub record Keeps (v w : View) (b : Received) : Type 0 where
@@ -267,6 +270,29 @@ module _ (v : View) (now : Instant) (word : ℕ) (ip : IpRepr) (s : Segment) whe
       go x w k (inl h) = f w (h.listen ∙ k.listen ∙ listen) (inl (h.rx ∙ k.rx ∙ rx))
       go x w k (inr h) = f w (h.0.listen ∙ k.listen ∙ listen) (inr (h.0.rx ∙ ap (λ b. brought b o bs) (k.rx ∙ rx)))
 
+  -- brings nothing, and leaves where the socket listens
+  abbrev Stays : View → Type 0
+  Stays w = (w.listen_endpoint ≡ v.listen_endpoint) × (w.rx_buffer ≡ v.rx_buffer)
+
+  none_brought : (c : TcpControl) → Stays (processed_inside v (arrival now (tuple_of ip s) word s) c 0 []).view
+  none_brought c = inside_brings v c 0 [] refl refl Stays (λ w l r. (l, alone w r))
+    where
+      alone : (w : View) → (w.rx_buffer ≡ v.rx_buffer) ⊎ (w.rx_buffer ≡ brought v.rx_buffer 0 []) → w.rx_buffer ≡ v.rx_buffer
+      alone w (inl e) = e
+      alone w (inr e) = e
+
+  stays_brings : (w : View) → Stays w → Brings w
+  stays_brings w h = record { listen = h.0; rx = inl h.1 }
+
+  refused_brings : (r : Rules) → Brings (refused r v (arrival now (tuple_of ip s) word s)).view
+  refused_brings r = refused_as (λ o. Brings o.view) r v (arrival now (tuple_of ip s) word s) (record {
+    answers = kept _ (outside_keeps s now v);
+    counts = λ e. stays_brings _ (none_brought control.Fin);
+    hears = λ e. stays_brings _ (none_brought control.None);
+    ends = λ e. stays_brings _ (none_brought control.None);
+    goes_on = λ e. let h = none_brought control.None in let k = outside_keeps s now (heard_alone v (arrival now (tuple_of ip s) word s)).view in record { listen = k.listen ∙ h.0; rx = inl (k.rx ∙ h.1) };
+  })
+
   tested_brings : (b : Bool) → Brings (tested b v (arrival now (tuple_of ip s) word s)).view
   tested_brings false = inside_brings v s.control 0 [] refl refl Brings (λ w l r. record { listen = l; rx = inl (alone w r) })
     where
@@ -275,8 +301,8 @@ module _ (v : View) (now : Instant) (word : ℕ) (ip : IpRepr) (s : Segment) whe
       alone w (inr e) = e
   tested_brings true = go (is_inside (receive_window v) s.seq_number (length s.payload)) refl
     where
-      go : (b : Bool) → is_inside (receive_window v) s.seq_number (length s.payload) ≡ b → Brings (if b then cut_inside (receive_window v) (cut_of (receive_window v) s.seq_number (length s.payload)) v (arrival now (tuple_of ip s) word s) else outside v now s).view
-      go false e = kept _ (outside_keeps s now v)
+      go : (b : Bool) → is_inside (receive_window v) s.seq_number (length s.payload) ≡ b → Brings (if b then cut_inside (receive_window v) (cut_of (receive_window v) s.seq_number (length s.payload)) v (arrival now (tuple_of ip s) word s) else refused v.rules v (arrival now (tuple_of ip s) word s)).view
+      go false e = refused_brings v.rules
       go true e = inside_brings numbered (counted_control s.control (receive_window v) s.seq_number (length s.payload)) offset_in bytes_in refl refl Brings (λ w l r. record { listen = l; rx = there w r })
         where
           there : (w : View) → (w.rx_buffer ≡ v.rx_buffer) ⊎ (w.rx_buffer ≡ brought v.rx_buffer offset_in bytes_in) → (w.rx_buffer ≡ v.rx_buffer) ⊎ ((is_inside (receive_window v) s.seq_number (length s.payload) ≡ true) × (w.rx_buffer ≡ brought v.rx_buffer offset_in bytes_in))
@@ -312,12 +338,24 @@ module _ (v : View) (now : Instant) (word : ℕ) (ip : IpRepr) (s : Segment) whe
   kept_peered : (w : View) → Keeps v w v.rx_buffer → Peered v → Peered w
   kept_peered w k q = subst (λ st. IsPeered st w.tuple (tuple_of ip s)) (sym k.state) (subst (λ z. IsPeered v.state z (tuple_of ip s)) (sym k.tuple) q)
 
+  refused_peers : (r : Rules) → Peered v → Peered (refused r v (arrival now (tuple_of ip s) word s)).view
+  refused_peers r p = refused_as (λ o. Peered o.view) r v (arrival now (tuple_of ip s) word s) (record {
+    answers = kept_peered _ (outside_keeps s now v) p;
+    counts = λ e. inside_peers v control.Fin 0 [] p;
+    hears = λ e. alone;
+    ends = λ e. alone;
+    goes_on = λ e. let k = outside_keeps s now (heard_alone v (arrival now (tuple_of ip s) word s)).view in subst (λ st. IsPeered st (outside (heard_alone v (arrival now (tuple_of ip s) word s)).view now s).view.tuple (tuple_of ip s)) (sym k.state) (subst (λ z. IsPeered (heard_alone v (arrival now (tuple_of ip s) word s)).view.state z (tuple_of ip s)) (sym k.tuple) alone);
+  })
+    where
+      alone : Peered (heard_alone v (arrival now (tuple_of ip s) word s)).view
+      alone = inside_peers v control.None 0 [] p
+
   tested_peers : (b : Bool) → Peered v → Peered (tested b v (arrival now (tuple_of ip s) word s)).view
   tested_peers false p = inside_peers v s.control 0 [] p
   tested_peers true p = go (is_inside (receive_window v) s.seq_number (length s.payload))
     where
-      go : (b : Bool) → Peered (if b then cut_inside (receive_window v) (cut_of (receive_window v) s.seq_number (length s.payload)) v (arrival now (tuple_of ip s) word s) else outside v now s).view
-      go false = kept_peered _ (outside_keeps s now v) p
+      go : (b : Bool) → Peered (if b then cut_inside (receive_window v) (cut_of (receive_window v) s.seq_number (length s.payload)) v (arrival now (tuple_of ip s) word s) else refused v.rules v (arrival now (tuple_of ip s) word s)).view
+      go false = refused_peers v.rules p
       go true = inside_peers numbered (counted_control s.control (receive_window v) s.seq_number (length s.payload)) offset_in bytes_in p
 
   by_verdict_peers : (x : Verdict) → Peered v → Peered (by_verdict x v (arrival now (tuple_of ip s) word s)).view
@@ -336,12 +374,21 @@ module _ (v : View) (now : Instant) (word : ℕ) (ip : IpRepr) (s : Segment) whe
   unfolding processed_inside
   inside_back u c o bs = after_back s now (tuple_of ip s) word _ _ _ o bs
 
+  refused_back : (r : Rules) → GoesBack s (refused r v (arrival now (tuple_of ip s) word s)).reply
+  refused_back r = refused_as (λ o. GoesBack s o.reply) r v (arrival now (tuple_of ip s) word s) (record {
+    answers = outside_back s now v;
+    counts = λ e. inside_back v control.Fin 0 [];
+    hears = λ e. inside_back v control.None 0 [];
+    ends = λ e. tt;
+    goes_on = λ e. outside_back s now (heard_alone v (arrival now (tuple_of ip s) word s)).view;
+  })
+
   tested_back : (b : Bool) → GoesBack s (tested b v (arrival now (tuple_of ip s) word s)).reply
   tested_back false = inside_back v s.control 0 []
   tested_back true = go (is_inside (receive_window v) s.seq_number (length s.payload))
     where
-      go : (b : Bool) → GoesBack s (if b then cut_inside (receive_window v) (cut_of (receive_window v) s.seq_number (length s.payload)) v (arrival now (tuple_of ip s) word s) else outside v now s).reply
-      go false = outside_back s now v
+      go : (b : Bool) → GoesBack s (if b then cut_inside (receive_window v) (cut_of (receive_window v) s.seq_number (length s.payload)) v (arrival now (tuple_of ip s) word s) else refused v.rules v (arrival now (tuple_of ip s) word s)).reply
+      go false = refused_back v.rules
       go true = inside_back numbered (counted_control s.control (receive_window v) s.seq_number (length s.payload)) offset_in bytes_in
 
   by_verdict_back : (x : Verdict) → GoesBack s (by_verdict x v (arrival now (tuple_of ip s) word s)).reply

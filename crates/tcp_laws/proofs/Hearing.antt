@@ -1,5 +1,5 @@
 -- What a segment tells a socket that waits for its peer.
-use Rattle.std.proofs.Common.{◌≡◌, ℕ, ◌+◌, ◌-◌, ◌<◌, ◌≤◌, ◌^◌, ◌*◌, ◌⊎◌, inl, inr, Bool, true, false, refl, sym, ap, subst, ◌∙◌, List, length, Option, Some, None, arith}
+use Rattle.std.proofs.Common.{◌≡◌, ℕ, ◌+◌, ◌-◌, ◌<◌, ◌≤◌, ◌^◌, ◌*◌, ◌⊎◌, inl, inr, Bool, true, false, refl, sym, ap, subst, ◌∙◌, List, [], length, Option, Some, None, arith}
 use Rattle.std.specs.Prelude.{if◌then◌else◌, ◌==◌}
 use Rattle.std.proofs.lemmas.Bool.{and_parts, eqb-true}
 use Rattle.std.proofs.Math.Nat.{mul-pos}
@@ -13,7 +13,7 @@ use Rattle.control_wire.specs.Segment.{Segment}
 use Rattle.control_wire.specs.declared.seq_number.TcpSeqNumber.{TcpSeqNumber}
 use Rattle.control_wire.specs.declared.tcp.TcpControl.{TcpControl}
 use Rattle.control_wire.specs.declared.tcp.TcpControl.TheVariants as control
-use Rattle.sock_tcp.specs.Arrival.{arrival}
+use Rattle.sock_tcp.specs.Arrival.{Arrival, arrival}
 use Rattle.sock_tcp.specs.Acked.{acked_at, acked_of, is_fin_acked}
 use Rattle.sock_tcp.specs.Advance.{advance_in, advanced, counted_control, moved_to, waiting}
 use Rattle.sock_tcp.specs.Due.{flight}
@@ -40,6 +40,9 @@ use Rattle.tcp_laws.proofs.Kept.{KeptByAnswers, bytes_kept, challenged_kept, hea
 use Rattle.tcp_laws.proofs.OrderedCalls.{reached_ordered}
 use Rattle.tcp_laws.proofs.OrderedSegments.{process_ordered}
 use Rattle.tcp_laws.proofs.Sleeping.{window_sends}
+use Rattle.sock_tcp.specs.Rfc.Refused.{refused}
+use Rattle.sock_tcp.specs.declared.rules.Rules.{Rules}
+use Rattle.sock_tcp.proofs.Refusing.{heard_alone, refused_as}
 
 unheard : (v : View) → HeardNothing v v
 unheard v = record { last = refl; timeout = refl; window = refl; timer = refl; queue = refl; una = refl; nxt = refl }
@@ -136,10 +139,30 @@ module _ (v : View) (now : Instant) (word : ℕ) (ip : IpRepr) (s : Segment) whe
 
   -- ---- LAST-ACK
 
-  last_ack_by : v.state ≡ state.LastAck → AcksNothing v s → (b : Bool) → HeardNothing v (if b then processed_inside u (arrival now (tuple_of ip s) word s) c cut.offset (cut_bytes cut s.payload) else outside v now s).view
+  -- outside of the window, by either rules: a FIN stops there, and an acknowledgement of nothing is challenged
+  abbrev come : Arrival
+  come = arrival now (tuple_of ip s) word s
+
+  table_unheard : v.state ≡ state.LastAck → AcksNothing v s → (P : View → Type 0) (b : TcpControl) → P (after_table (advance_in state.LastAck b false v come 0) come a 0 []).view → P (processed_inside v come b 0 []).view
+  unfolding processed_inside advanced
+  table_unheard is h P b p = subst (λ st. P (after_table (advance_in st b a.fin v come a.len) come a 0 []).view) (sym is) (subst (λ z. P (after_table (advance_in state.LastAck b z v come a.len) come a 0 []).view) (sym h.fin) (subst (λ n. P (after_table (advance_in state.LastAck b false v come n) come a 0 []).view) (sym h.bytes) p))
+
+  refused_unheard : v.state ≡ state.LastAck → AcksNothing v s → (r : Rules) → HeardNothing v (refused r v come).view
+  refused_unheard is h r = refused_as (λ o. HeardNothing v o.view) r v come (record {
+    answers = outside_unheard now s v is;
+    counts = λ e. table_unheard is h (HeardNothing v) control.Fin (unheard v);
+    hears = λ e. alone.0;
+    ends = λ e. alone.0;
+    goes_on = λ e. let k = outside_unheard now s (heard_alone v come).view alone.1 in record { last = k.last ∙ alone.0.last; timeout = k.timeout ∙ alone.0.timeout; window = k.window ∙ alone.0.window; timer = k.timer ∙ alone.0.timer; queue = k.queue ∙ alone.0.queue; una = k.una ∙ alone.0.una; nxt = k.nxt ∙ alone.0.nxt };
+  })
+    where
+      alone : HeardNothing v (heard_alone v come).view × ((heard_alone v come).view.state ≡ state.LastAck)
+      alone = table_unheard is h (Unheard now s v is) control.None (challenged_kept (Unheard now s v is) now s (answers_in_last_ack now s v is) v (unheard v, is))
+
+  last_ack_by : v.state ≡ state.LastAck → AcksNothing v s → (b : Bool) → HeardNothing v (if b then processed_inside u (arrival now (tuple_of ip s) word s) c cut.offset (cut_bytes cut s.payload) else refused v.rules v (arrival now (tuple_of ip s) word s)).view
   unfolding processed_inside advanced
   last_ack_by is h true = subst (λ st. HeardNothing v (after_table (advance_in st c a.fin u (arrival now (tuple_of ip s) word s) a.len) (arrival now (tuple_of ip s) word s) a cut.offset (cut_bytes cut s.payload)).view) (sym is) (subst (λ z. HeardNothing v (after_table (advance_in state.LastAck c z u (arrival now (tuple_of ip s) word s) a.len) (arrival now (tuple_of ip s) word s) a cut.offset (cut_bytes cut s.payload)).view) (sym h.fin) (subst (λ n. HeardNothing v (after_table (advance_in state.LastAck c false u (arrival now (tuple_of ip s) word s) n) (arrival now (tuple_of ip s) word s) a cut.offset (cut_bytes cut s.payload)).view) (sym h.bytes) (row_unheard now s v is u c (tuple_of ip s) word a cut.offset (cut_bytes cut s.payload) (record { last = refl; timeout = refl; window = refl; timer = refl; queue = refl; una = refl; nxt = refl }))))
-  last_ack_by is h false = outside_unheard now s v is
+  last_ack_by is h false = refused_unheard is h v.rules
 
   last_ack : v.state ≡ state.LastAck → AcksNothing v s → (x : Verdict) → HeardNothing v (by_verdict x v (arrival now (tuple_of ip s) word s)).view
   last_ack is h verdicts.Drop = unheard v

@@ -34,6 +34,9 @@ use Rattle.sock_tcp.specs.declared.verdict.Verdict.TheVariants as verdicts
 use Rattle.sock_tcp.proofs.Acking.{acked_fits, none_acked, between, fin_place_le, one_place, passes, two_guards}
 use Rattle.tcp_laws.proofs.Kept.{KeptByAnswers, bytes_kept, challenged_kept, outside_kept}
 use Rattle.tcp_laws.proofs.Ordered.{HasMoment, IsOpen, IsOrdered, IsPeeredIn, Row, is_close, acked_open, close_stays, dup_acked_open, later_small, left_in_flight, less_in_flight, set_has_moment, taken_open, window_open}
+use Rattle.sock_tcp.specs.Rfc.Refused.{is_plain_control, refused}
+use Rattle.sock_tcp.specs.declared.rules.Rules.{Rules}
+use Rattle.sock_tcp.proofs.Refusing.{fin_is_plain, heard_alone, plain_is_no_rst, refused_as}
 
 -- ---- what a segment that passes acknowledges
 
@@ -412,12 +415,24 @@ module _ (now : Instant) (word : ℕ) (ip : IpRepr) (s : Segment) (small : word 
       by control.Syn e = goes (λ r. absurd (syn_not_rst (sym e ∙ r)))
       by control.Fin e = goes (λ r. absurd (fin_not_rst (sym e ∙ r)))
 
+  refused_ordered : (r : Rules) (v : View) → IsOrdered v → (v.state ≡ state.Listen → s.ack_number ≡ None) → verdict_of v s.control s.ack_number ≡ verdicts.Pass → IsOrdered (refused r v (arrival now (tuple_of ip s) word s)).view
+  refused_ordered r v h bare p = refused_as (λ o. IsOrdered o.view) r v (arrival now (tuple_of ip s) word s) (record {
+    answers = outside_kept IsOrdered now s (answers_ordered s now) (λ w h. restarted_ordered s now w h) v h;
+    counts = λ e. inside_ordered v control.Fin 0 [] h bare (λ i. absurd (plain_is_no_rst s.control (fin_is_plain v (arrival now (tuple_of ip s) word s) e) i)) p;
+    hears = alone;
+    ends = alone;
+    goes_on = λ e. outside_kept IsOrdered now s (answers_ordered s now) (λ w h. restarted_ordered s now w h) (heard_alone v (arrival now (tuple_of ip s) word s)).view (alone e);
+  })
+    where
+      alone : is_plain_control s.control ≡ true → IsOrdered (heard_alone v (arrival now (tuple_of ip s) word s)).view
+      alone e = inside_ordered v control.None 0 [] h bare (λ i. absurd (plain_is_no_rst s.control e i)) p
+
   tested_ordered : (v : View) → IsOrdered v → (v.state ≡ state.Listen → s.ack_number ≡ None) → verdict_of v s.control s.ack_number ≡ verdicts.Pass → (b : Bool) → IsOrdered (tested b v (arrival now (tuple_of ip s) word s)).view
   tested_ordered v h bare p false = inside_ordered v s.control 0 [] h bare (λ e. e) p
   tested_ordered v h bare p true = go (is_inside (receive_window v) s.seq_number (length s.payload))
     where
-      go : (b : Bool) → IsOrdered (if b then cut_inside (receive_window v) (cut_of (receive_window v) s.seq_number (length s.payload)) v (arrival now (tuple_of ip s) word s) else outside v now s).view
-      go false = outside_kept IsOrdered now s (answers_ordered s now) (λ w h. restarted_ordered s now w h) v h
+      go : (b : Bool) → IsOrdered (if b then cut_inside (receive_window v) (cut_of (receive_window v) s.seq_number (length s.payload)) v (arrival now (tuple_of ip s) word s) else refused v.rules v (arrival now (tuple_of ip s) word s)).view
+      go false = refused_ordered v.rules v h bare p
       go true = inside_ordered (record v { local_rx_last_seq = Some s.seq_number }) (counted_control s.control (receive_window v) s.seq_number (length s.payload)) _ _ h bare (λ e. rst_counts _ e (receive_window v) s.seq_number (length s.payload)) p
 
   pub process_ordered : (v : View) → IsOrdered v → (v.state ≡ state.Listen → s.ack_number ≡ None) → IsOrdered (processed v now word ip s).view

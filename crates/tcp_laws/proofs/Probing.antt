@@ -198,7 +198,7 @@ module _ (v w : View) (h : IsProbing v) where
       number f = same_number (f w) (f v) (λ d. n (λ e. d (ap f e)))
 
   setting_probing : Sets v w → IsProbing w
-  setting_probing = setting_leaves IsProbing v w (λ x. h) (λ x. record { window = kept_probes x v.timer v.remote_win_len h.window; mss = h.mss }) (λ timeout delay nagle hops paused is_there. h)
+  setting_probing = setting_leaves IsProbing v w (λ x. h) (λ x. record { window = kept_probes x v.timer v.remote_win_len h.window; mss = h.mss }) (λ timeout delay nagle hops paused is_there rules. h)
 
 calls_probing : KeptByCalls IsProbing (λ d. Unit {0})
 unfolding read_off connected listened

@@ -24,6 +24,10 @@ use Rattle.sock_tcp.specs.declared.tuple.Tuple.{Tuple}
 use Rattle.sock_tcp.specs.declared.verdict.Verdict.{Verdict}
 use Rattle.sock_tcp.specs.declared.verdict.Verdict.TheVariants as verdicts
 use Rattle.tcp_laws.proofs.Kept.{KeptByAnswers, KeptByRows, bytes_kept, challenged_kept, outside_kept, rows_kept}
+use Rattle.sock_tcp.specs.Rfc.Refused.{refused}
+use Rattle.sock_tcp.specs.declared.rules.Rules.{Rules}
+use Rattle.sock_tcp.proofs.Refusing.{heard_alone, refused_as}
+use Rattle.control_wire.specs.declared.tcp.TcpControl.TheVariants as control
 
 record Same (v w : View) : Type 0 where
   tx : w.tx_buffer ≡ v.tx_buffer
@@ -117,12 +121,21 @@ module _ (v : View) (now : Instant) (word : ℕ) (ip : IpRepr) (s : Segment) whe
         let t = advance_in u.state c a.fin u (arrival now (tuple_of ip s) word s) a.len in
         numbered_then u t.view (after_table t (arrival now (tuple_of ip s) word s) a o bs).view (rows_kept (Numbered u) now word s (rows_numbered s now u word word_small) u (tuple_of ip s) a.len (record { tx = refl; una = λ i. i }) u.state c a.fin) (after_releases s now ack_small (tuple_of ip s) word t.next t.view a o bs)
 
+    refused_releases : (r : Rules) → Releases v (refused r v (arrival now (tuple_of ip s) word s)).view
+    refused_releases r = refused_as (λ o. Releases v o.view) r v (arrival now (tuple_of ip s) word s) (record {
+      answers = none_leave v (outside v now s).view (outside_same s now v);
+      counts = λ e. inside_releases v control.Fin 0 [];
+      hears = λ e. inside_releases v control.None 0 [];
+      ends = λ e. inside_releases v control.None 0 [];
+      goes_on = λ e. let w = (heard_alone v (arrival now (tuple_of ip s) word s)).view in then_same v w (outside w now s).view (inside_releases v control.None 0 []) (outside_same s now w);
+    })
+
     tested_releases : (b : Bool) → Releases v (tested b v (arrival now (tuple_of ip s) word s)).view
     tested_releases false = inside_releases v s.control 0 []
     tested_releases true = go (is_inside (receive_window v) s.seq_number (length s.payload))
       where
-        go : (b : Bool) → Releases v (if b then cut_inside (receive_window v) (cut_of (receive_window v) s.seq_number (length s.payload)) v (arrival now (tuple_of ip s) word s) else outside v now s).view
-        go false = none_leave v (outside v now s).view (outside_same s now v)
+        go : (b : Bool) → Releases v (if b then cut_inside (receive_window v) (cut_of (receive_window v) s.seq_number (length s.payload)) v (arrival now (tuple_of ip s) word s) else refused v.rules v (arrival now (tuple_of ip s) word s)).view
+        go false = refused_releases v.rules
         go true = let r = inside_releases (record v { local_rx_last_seq = Some s.seq_number }) (counted_control s.control (receive_window v) s.seq_number (length s.payload)) (cut_of (receive_window v) s.seq_number (length s.payload)).offset (cut_bytes (cut_of (receive_window v) s.seq_number (length s.payload)) s.payload) in record { count = r.count; tx = r.tx; una = r.una }
 
     by_verdict_releases : (x : Verdict) → Releases v (by_verdict x v (arrival now (tuple_of ip s) word s)).view

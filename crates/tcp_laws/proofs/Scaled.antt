@@ -142,7 +142,7 @@ calls_scaled = record {
   decided = λ v w is n h. same_scaled v w h n;
   closes = λ v h. h;
   aborts = λ v h. h;
-  sets = λ v w x m h. setting_leaves IsScaled v w (λ x. h) (λ x. h) (λ timeout delay nagle hops paused is_there. h) x;
+  sets = λ v w x m h. setting_leaves IsScaled v w (λ x. h) (λ x. h) (λ timeout delay nagle hops paused is_there rules. h) x;
 }
 
 kept_scaled : Kept (λ at. IsScaled) (λ at. Unit {0}) (λ last now. Unit {0}) (λ d. Unit {0})

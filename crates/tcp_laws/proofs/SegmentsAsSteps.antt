@@ -1,5 +1,5 @@
 -- `process` and `connect` in the words of the law on lists of calls: where no random word is drawn, any does.
-use Rattle.std.proofs.Common.{◌≡◌, ℕ, ◌<◌, ◌≤◌, ◌^◌, ◌∙◌, List, [], Bool, true, false, Some, None, refl, sym, ap, subst, length, arith}
+use Rattle.std.proofs.Common.{◌≡◌, ℕ, ◌<◌, ◌≤◌, ◌^◌, ◌∙◌, List, [], Bool, true, false, Some, None, refl, sym, ap, subst, length, arith, ap₂, Option}
 use Rattle.std.specs.Prelude.{Result, Ok, Err, is_ok, if◌then◌else◌}
 use Rattle.ip_wire.specs.declared.endpoint.IpEndpoint.{IpEndpoint}
 use Rattle.ip_wire.specs.declared.endpoint.IpListenEndpoint.{IpListenEndpoint}
@@ -28,6 +28,10 @@ use Rattle.sock_tcp.specs.declared.advance.Next.TheVariants as next
 use Rattle.sock_tcp.specs.declared.tuple.Tuple.{Tuple}
 use Rattle.sock_tcp.specs.declared.verdict.Verdict.{Verdict}
 use Rattle.sock_tcp.specs.declared.verdict.Verdict.TheVariants as verdicts
+use Rattle.sock_tcp.specs.Rfc.Refused.{answered_if_not, is_heard_outside, refused, rfc_refused, then_answered}
+use Rattle.sock_tcp.specs.declared.rules.Rules.{Rules}
+use Rattle.sock_tcp.specs.declared.rules.Rules.TheVariants as rules
+use Rattle.sock_tcp.proofs.Refusing.{counts_fin, heard_alone}
 
 -- ---- a segment that draws no word
 
@@ -59,12 +63,27 @@ module _ (now : Instant) (m n : ℕ) (ip : IpRepr) (s : Segment) where
   windowed_draws state.Listen c w = absurd cc
   windowed_draws _ c w = refl
 
+  refused_alike : (r : Rules) (v : View) → has_window v.state ≡ true → refused r v (arrival now (tuple_of ip s) m s) ≡ refused r v (arrival now (tuple_of ip s) n s)
+  unfolding rfc_refused
+  refused_alike rules.Smoltcp v w = refl
+  refused_alike rules.Rfc v w =
+      let x = inside_alike v control.Fin 0 [] (windowed_draws v.state _ w) in
+      let y = inside_alike v control.None 0 [] (windowed_draws v.state _ w) in
+      ap₂ (λ x y. by x (then_answered y (arrival now (tuple_of ip s) m s))) x y ∙ ap (by (processed_inside v (arrival now (tuple_of ip s) n s) control.Fin 0 [])) (answered_alike (heard_alone v (arrival now (tuple_of ip s) n s)).reply (heard_alone v (arrival now (tuple_of ip s) n s)))
+    where
+      by : Outcome → Outcome → Outcome
+      by x y = if counts_fin v (arrival now (tuple_of ip s) n s) then x else (if is_heard_outside v s (acked_of v s.control s.ack_number) then y else outside v now s)
+
+      answered_alike : (r : Option Segment) (o : Outcome) → answered_if_not r o (arrival now (tuple_of ip s) m s) ≡ answered_if_not r o (arrival now (tuple_of ip s) n s)
+      answered_alike (Some x) o = refl
+      answered_alike None o = refl
+
   tested_alike : (v : View) (b : Bool) → has_window v.state ≡ b → draws verdicts.Pass v.state s.control ≡ false → tested b v (arrival now (tuple_of ip s) m s) ≡ tested b v (arrival now (tuple_of ip s) n s)
   tested_alike v false w e = inside_alike v s.control 0 [] e
   tested_alike v true w e = go (is_inside (receive_window v) s.seq_number (length s.payload))
     where
-      go : (b : Bool) → (if b then cut_inside (receive_window v) (cut_of (receive_window v) s.seq_number (length s.payload)) v (arrival now (tuple_of ip s) m s) else outside v now s) ≡ (if b then cut_inside (receive_window v) (cut_of (receive_window v) s.seq_number (length s.payload)) v (arrival now (tuple_of ip s) n s) else outside v now s)
-      go false = refl
+      go : (b : Bool) → (if b then cut_inside (receive_window v) (cut_of (receive_window v) s.seq_number (length s.payload)) v (arrival now (tuple_of ip s) m s) else refused v.rules v (arrival now (tuple_of ip s) m s)) ≡ (if b then cut_inside (receive_window v) (cut_of (receive_window v) s.seq_number (length s.payload)) v (arrival now (tuple_of ip s) n s) else refused v.rules v (arrival now (tuple_of ip s) n s))
+      go false = refused_alike v.rules v w
       go true = inside_alike (record v { local_rx_last_seq = Some s.seq_number }) (counted_control s.control (receive_window v) s.seq_number (length s.payload)) _ _ (windowed_draws v.state _ w)
 
   verdict_alike : (v : View) (x : Verdict) → draws x v.state s.control ≡ false → by_verdict x v (arrival now (tuple_of ip s) m s) ≡ by_verdict x v (arrival now (tuple_of ip s) n s)

@@ -25,7 +25,7 @@ use Rattle.sock_tcp.specs.Process.{processed}
 use Rattle.sock_tcp.specs.Queue.{Queue, queue_of}
 use Rattle.sock_tcp.specs.Queues.{Reads, ReadsWithIf, Sends, SendsWithIf, fitting, may_recv, may_send, queued, read_off, readable, recv_refusal}
 use Rattle.tcp_laws.specs.SocketRun.{Counts, Dispatched, IsNumbered, IsPart, Promised, Run, SendsTo, Sets, Step, accepted, any_filling, any_taking, filled_in, handed_slice, is_reset, listens_again, opens_listener, starting, starting_if, taken_out, with_handed, with_segment, with_sent}
-use Rattle.tcp_laws.specs.SocketRun.{Listen, Connect, SendSlice, Send, WriteStr, RecvSlice, Recv, Close, Abort, Set, Process, Dispatch, SetCongestionControl, SetTimeout, SetAckDelay, SetNagle, SetKeepAlive, SetHopLimit, PauseSynAck, SetTsvalGenerator, Ends, Then}
+use Rattle.tcp_laws.specs.SocketRun.{Listen, Connect, SendSlice, Send, WriteStr, RecvSlice, Recv, Close, Abort, Set, Process, Dispatch, SetCongestionControl, SetTimeout, SetAckDelay, SetNagle, SetKeepAlive, SetHopLimit, PauseSynAck, SetTsvalGenerator, SetRules, Ends, Then}
 use Rattle.sock_tcp.specs.Settings.{of_kind}
 use Rattle.sock_tcp.specs.View.{View, fresh}
 use Rattle.sock_tcp.specs.declared.emission.Kind.TheVariants as kind
@@ -35,6 +35,7 @@ use Rattle.sock_tcp.specs.declared.error.RecvError.{RecvError}
 use Rattle.sock_tcp.specs.declared.error.SendError.{SendError}
 use Rattle.sock_tcp.specs.declared.error.SendError.TheVariants as send_error
 use Rattle.sock_tcp.specs.declared.settings.CongestionControl.{CongestionControl}
+use Rattle.sock_tcp.specs.declared.rules.Rules.{Rules}
 use Rattle.sock_tcp.specs.declared.state.State.TheVariants as state
 use Rattle.sock_tcp.specs.declared.tuple.Tuple.{Tuple}
 use Rattle.tcp_laws.proofs.DispatchFrames.{Keeps, before_keeps, before_resets, sends_keeps}
@@ -164,15 +165,16 @@ closure_read false v w k (Err e) h c = subst (Holds w) (sym (none_read k)) (unch
 -- ---- the setters
 
 -- what holds of v with any settings holds after a setting; the controller and the interval of keep-alives change more
-pub setting_leaves : (P : View → Type 0) (v w : View) → ((x : CongestionControl) → P (record v { congestion_controller = of_kind x })) → ((x : Option Duration) → P (keep_alive_set v x)) → ((timeout delay : Option Duration) (nagle : Bool) (hops : Option ℕ) (paused is_there : Bool) → P (record v { timeout = timeout; ack_delay = delay; nagle = nagle; hop_limit = hops; synack_paused = paused; stamps = is_there })) → Sets v w → P w
+pub setting_leaves : (P : View → Type 0) (v w : View) → ((x : CongestionControl) → P (record v { congestion_controller = of_kind x })) → ((x : Option Duration) → P (keep_alive_set v x)) → ((timeout delay : Option Duration) (nagle : Bool) (hops : Option ℕ) (paused is_there : Bool) (rules : Rules) → P (record v { timeout = timeout; ack_delay = delay; nagle = nagle; hop_limit = hops; synack_paused = paused; stamps = is_there; rules = rules })) → Sets v w → P w
 setting_leaves P v w c k o (SetCongestionControl x e) = subst P (sym e) (c x)
-setting_leaves P v w c k o (SetTimeout x e) = subst P (sym e) (o x v.ack_delay v.nagle v.hop_limit v.synack_paused v.stamps)
-setting_leaves P v w c k o (SetAckDelay x e) = subst P (sym e) (o v.timeout x v.nagle v.hop_limit v.synack_paused v.stamps)
-setting_leaves P v w c k o (SetNagle x e) = subst P (sym e) (o v.timeout v.ack_delay x v.hop_limit v.synack_paused v.stamps)
+setting_leaves P v w c k o (SetTimeout x e) = subst P (sym e) (o x v.ack_delay v.nagle v.hop_limit v.synack_paused v.stamps v.rules)
+setting_leaves P v w c k o (SetAckDelay x e) = subst P (sym e) (o v.timeout x v.nagle v.hop_limit v.synack_paused v.stamps v.rules)
+setting_leaves P v w c k o (SetNagle x e) = subst P (sym e) (o v.timeout v.ack_delay x v.hop_limit v.synack_paused v.stamps v.rules)
 setting_leaves P v w c k o (SetKeepAlive x e) = subst P (sym e) (k x)
-setting_leaves P v w c k o (SetHopLimit x e) = subst P (sym e) (o v.timeout v.ack_delay v.nagle x v.synack_paused v.stamps)
-setting_leaves P v w c k o (PauseSynAck x e) = subst P (sym e) (o v.timeout v.ack_delay v.nagle v.hop_limit x v.stamps)
-setting_leaves P v w c k o (SetTsvalGenerator x e) = subst P (sym e) (o v.timeout v.ack_delay v.nagle v.hop_limit v.synack_paused x)
+setting_leaves P v w c k o (SetHopLimit x e) = subst P (sym e) (o v.timeout v.ack_delay v.nagle x v.synack_paused v.stamps v.rules)
+setting_leaves P v w c k o (PauseSynAck x e) = subst P (sym e) (o v.timeout v.ack_delay v.nagle v.hop_limit x v.stamps v.rules)
+setting_leaves P v w c k o (SetTsvalGenerator x e) = subst P (sym e) (o v.timeout v.ack_delay v.nagle v.hop_limit v.synack_paused x v.rules)
+setting_leaves P v w c k o (SetRules x e) = subst P (sym e) (o v.timeout v.ack_delay v.nagle v.hop_limit v.synack_paused v.stamps x)
 
 -- ---- connect
 
@@ -322,7 +324,7 @@ step_keeps v w k j (RecvSlice bs bs' r h is) c = subst (Holds w) (sym is) (slice
 step_keeps v w k j (Recv r h is) c = subst (Holds w) (sym is) (closure_read (may_recv v) v w k r h c)
 step_keeps v w k j (Close h is) c = subst (Holds w) (sym is) (subst (λ u. Holds u k) (sym h) c)
 step_keeps v w k j (Abort h is) c = subst (Holds w) (sym is) (subst (λ u. Holds u k) (sym h) c)
-step_keeps v w k j (Set h is) c = subst (Holds w) (sym is) (setting_leaves (λ u. Holds u k) v w (λ x. c) (λ x. c) (λ timeout delay nagle hops paused is_there. c) h)
+step_keeps v w k j (Set h is) c = subst (Holds w) (sym is) (setting_leaves (λ u. Holds u k) v w (λ x. c) (λ x. c) (λ timeout delay nagle hops paused is_there rules. c) h)
 step_keeps v w k j (Process now word ip s small numbered short bare h is) c = subst (Holds w) (sym is) (process_kept v w k now word ip s c small numbered short h)
 step_keeps v w k j (Dispatch f out h is) c = subst (Holds w) (sym is) (dispatch_kept v w k f out c h)
 

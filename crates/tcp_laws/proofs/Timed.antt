@@ -23,7 +23,7 @@ use Rattle.sock_tcp.specs.declared.timer.Timer.{Timer}
 use Rattle.sock_tcp.specs.declared.timer.Timer.TheVariants as timer
 use Rattle.tcp_laws.specs.Clocks.{IsAtMost, interval_set}
 use Rattle.tcp_laws.specs.SocketRun.{Sets}
-use Rattle.tcp_laws.specs.SocketRun.{SetCongestionControl, SetTimeout, SetAckDelay, SetNagle, SetKeepAlive, SetHopLimit, PauseSynAck, SetTsvalGenerator}
+use Rattle.tcp_laws.specs.SocketRun.{SetCongestionControl, SetTimeout, SetAckDelay, SetNagle, SetKeepAlive, SetHopLimit, PauseSynAck, SetTsvalGenerator, SetRules}
 use Rattle.tcp_laws.proofs.Kept.{Kept, KeptByBeginnings, KeptByCalls, KeptByRows, KeptBySegments, KeptBySending, process_kept, sends_kept}
 use Rattle.tcp_laws.proofs.SocketSteps.{same_number}
 use Rattle.tcp_laws.proofs.OrderedCalls.{same_flag}
@@ -167,6 +167,7 @@ module _ (most : Duration) (minute : 60000000 ≤ most.micros) where
       setting_timed (SetHopLimit x e) m = subst Now (sym e) h
       setting_timed (PauseSynAck x e) m = subst Now (sym e) h
       setting_timed (SetTsvalGenerator x e) m = subst Now (sym e) h
+      setting_timed (SetRules x e) m = subst Now (sym e) h
 
     calls_timed : KeptByCalls Now (λ d. IsAtMost d most)
     unfolding read_off connected listened

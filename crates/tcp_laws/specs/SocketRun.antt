@@ -34,6 +34,7 @@ use Rattle.sock_tcp.specs.declared.error.ListenError.{ListenError}
 use Rattle.sock_tcp.specs.declared.error.RecvError.{RecvError}
 use Rattle.sock_tcp.specs.declared.error.SendError.{SendError}
 use Rattle.sock_tcp.specs.declared.settings.CongestionControl.{CongestionControl}
+use Rattle.sock_tcp.specs.declared.rules.Rules.{Rules}
 use Rattle.sock_tcp.specs.declared.state.State.{State}
 use Rattle.sock_tcp.specs.declared.state.State.TheVariants as state
 use Rattle.sock_tcp.specs.declared.tuple.Tuple.{Tuple}
@@ -153,6 +154,7 @@ pub data Sets (v w : View) : Type 0 where
   SetHopLimit : (x : Option ℕ) → w ≡ record v { hop_limit = x } → Sets v w
   PauseSynAck : (x : Bool) → w ≡ record v { synack_paused = x } → Sets v w
   SetTsvalGenerator : (is_there : Bool) → w ≡ record v { stamps = is_there } → Sets v w
+  SetRules : (x : Rules) → w ≡ record v { rules = x } → Sets v w
 
 -- the socket v sends out, or nothing, and becomes w, whether the emit answers Ok or an error
 pub record SendsDue (f : Facts) (t : Tuple) (v : View) (out : Option Sending) (w : View) : Type 0 where

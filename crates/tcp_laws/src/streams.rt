@@ -22,6 +22,7 @@ ghost use Rattle.tcp_laws.specs.SocketRun.{IsNumbered, after_segment, opens_list
 ghost use Rattle.sock_tcp.specs.Replies.{IsReplyStamp};
 ghost use Rattle.sock_tcp.specs.Settings.{of_kind};
 ghost use Rattle.sock_tcp.specs.View.{View, fresh};
+ghost use Rattle.sock_tcp.specs.declared.rules.Rules.{Rules};
 ghost use Rattle.sock_tcp.specs.declared.settings.CongestionControl.{CongestionControl};
 
 use control_wire::TcpRepr;
@@ -205,4 +206,5 @@ pub fn settings_are_calls()
     ensures hop_limit { (v : View) (k : Counts) (x : Option ℕ) → Step v k (record v { hop_limit = x }) k }
     ensures pause { (v : View) (k : Counts) (x : Bool) → Step v k (record v { synack_paused = x }) k }
     ensures generator { (v : View) (k : Counts) (x : Bool) → Step v k (record v { stamps = x }) k }
+    ensures rules { (v : View) (k : Counts) (x : Rules) → Step v k (record v { rules = x }) k }
 {}
