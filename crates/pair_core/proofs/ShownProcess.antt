@@ -1,7 +1,8 @@
 -- What `process` does to a socket is an effect of a segment on the two streams.
-use Rattle.std.proofs.Common.{◌≡◌, ℕ, ◌+◌, ◌-◌, ◌%◌, ◌^◌, ◌<◌, ◌≤◌, ◌⊎◌, Bool, true, false, refl, sym, ap, subst, ◌∙◌, arith, List, [], length, drop, Option, Some, None, inl, inr, ⊎_elim}
+use Rattle.std.proofs.Common.{◌≡◌, ℕ, ◌+◌, ◌-◌, ◌%◌, ◌^◌, ◌<◌, ◌≤◌, ◌⊎◌, Bool, true, false, true≢false, refl, sym, ap, subst, ◌∙◌, arith, List, [], length, drop, append-nil, Option, Some, None, inl, inr, ⊎_elim}
 use Rattle.std.specs.Prelude.{option_map, not, ◌==◌, if◌then◌else◌}
-use Rattle.std.proofs.lemmas.Bool.{eqb-true}
+use Rattle.std.proofs.lemmas.Bool.{and_parts, eqb-true}
+use Rattle.std.proofs.lemmas.Option.{none-some}
 use Rattle.std.proofs.lemmas.Bool.Decides.{nat_tests}
 use Rattle.std.proofs.lemmas.List.{drop_all}
 use Rattle.ip_wire.specs.declared.repr.IpRepr.{IpRepr}
@@ -15,10 +16,10 @@ use Rattle.sock_core.specs.Places.{number_distance, number_is_before}
 use Rattle.sock_core.specs.Received.{Received, room_of}
 use Rattle.sock_core.specs.Seq.{is_not_after, later_of}
 use Rattle.sock_core.specs.Streams.{fin_length}
-use Rattle.sock_tcp.specs.Arrival.{arrival}
+use Rattle.sock_tcp.specs.Arrival.{Arrival, arrival}
 use Rattle.sock_tcp.specs.View.{View, FinSays}
 use Rattle.sock_tcp.specs.Verdict.{verdict_at, verdict_of}
-use Rattle.sock_tcp.specs.Window.{receive_window, is_inside, cut_of, cut_bytes}
+use Rattle.sock_tcp.specs.Window.{next_ack, receive_window, is_inside, cut_of, cut_bytes}
 use Rattle.sock_tcp.specs.Acked.{syn_place, acked_places, acked_at, acked_of, nothing_acked}
 use Rattle.sock_tcp.specs.Advance.{advanced, advance_in, counted_control, dropped, fallen_back, fin_counted, moved_to, opened_state, options_taken, syn_answered, syn_received, waiting}
 use Rattle.sock_tcp.specs.Process.{Outcome, stopped, tuple_of, after_table, after_advance, has_window, challenged, outside, bytes_taken, processed_inside, cut_inside, tested, by_verdict, processed, Accepts, AcceptsIn}
@@ -35,7 +36,7 @@ use Rattle.sock_tcp.proofs.Acking.{acked_fits}
 use Rattle.tcp_laws.proofs.Frames.{brought}
 use Rattle.sock_tcp.proofs.Windows.{start_small, end_small, window_width, cut_fits}
 use Rattle.pair_core.specs.PairLaws.{IsBounded}
-use Rattle.pair_core.specs.PairNetwork.{phase_of, shown, stream_segment, is_passive, is_rst, is_syn, IsSmall}
+use Rattle.pair_core.specs.PairNetwork.{phase_of, shown, stream_segment, is_fin, is_passive, is_rst, is_syn, IsSmall}
 use Rattle.pair_core.specs.StreamCalls.{HearEffect, ProcessEffect, Nothing, Acknowledgement, FallBack, ResetReply, Syn, SynAck, SynAlone}
 use Rattle.pair_core.specs.StreamEffects.{HearsAck, HearsData}
 use Rattle.pair_core.specs.StreamTables.{OfBytes, OfFin, OfSyn, segment_end}
@@ -46,6 +47,24 @@ use Rattle.pair_core.proofs.ShownRows.{answer_in, heard_within, knows_iss, later
 use Rattle.pair_core.proofs.ShownSteps.{FinInside, acked_none, acked_some, acked_view, acked_when, challenge_says, counted_fin, counted_plain, counted_rst, heard_shown, knows_peer, passes_syn, passes_with, reset_says}
 use Rattle.pair_core.proofs.ShownWindow.{FinCounts, before_shown, comes, cut_heard, cut_shown, edge_shown, grows, inside_shown, later_shown, offset_shown}
 use Rattle.pair_core.proofs.StreamTables.{passes_heard}
+use Rattle.sock_tcp.specs.Rfc.Refused.{is_plain_control, refused}
+use Rattle.sock_tcp.specs.Rfc.Refused.{is_fin as rfc_fin}
+use Rattle.sock_tcp.specs.declared.rules.Rules.{Rules}
+use Rattle.sock_tcp.proofs.Refusing.{counts_fin, fin_is_plain, heard_alone, refused_as}
+
+fin_is : (c : TcpControl) → rfc_fin c ≡ true → is_fin c ≡ true
+fin_is control.Fin e = refl
+fin_is control.None e = absurd (true≢false (sym e))
+fin_is control.Psh e = absurd (true≢false (sym e))
+fin_is control.Syn e = absurd (true≢false (sym e))
+fin_is control.Rst e = absurd (true≢false (sym e))
+
+plain_unreset : (c : TcpControl) → is_plain_control c ≡ true → is_rst c ≡ false
+plain_unreset control.Fin e = refl
+plain_unreset control.None e = refl
+plain_unreset control.Psh e = refl
+plain_unreset control.Syn e = absurd (true≢false (sym e))
+plain_unreset control.Rst e = absurd (true≢false (sym e))
 
 module _ (v : View) (now : Instant) (word : ℕ) (ip : IpRepr) (s : Segment) (at_release at_take then_release then_take : ℕ) (small : IsSmall s) (room : room_of v.rx_buffer ≤ 2 ^ 30) (says : FinSays v.state v.rx_fin_received) (bounds : IsBounded v) (accepted : Accepts v ip s) where
   abbrev the_segment : StreamSegment
@@ -53,6 +72,9 @@ module _ (v : View) (now : Instant) (word : ℕ) (ip : IpRepr) (s : Segment) (at
 
   abbrev IsEffect : Outcome → Type 0
   IsEffect o = ProcessEffect (is_passive v) (shown v) (shown o.view) the_segment (option_map (λ (x : Segment). stream_segment x then_release then_take) o.reply)
+
+  abbrev come : Arrival
+  come = arrival now (tuple_of ip s) word s
 
   -- its number is remembered
   abbrev numbered : View
@@ -114,30 +136,6 @@ module _ (v : View) (now : Instant) (word : ℕ) (ip : IpRepr) (s : Segment) (at
 
   -- ---- rows that go on
 
-  -- what such a row leaves: u, in the phase p or CLOSED, with a FIN that counts or none
-  record IsRow (u : View) (p : Phase) : Type 0 where
-    rx : u.rx_buffer ≡ v.rx_buffer
-    fin : u.rx_fin_received ≡ true → (v.rx_fin_received ≡ true) ⊎ FinInside the_window s.seq_number (length s.payload) s.control
-    kept : v.rx_fin_received ≡ true → u.rx_fin_received ≡ true
-    fins : ℕ
-    counts : fin_length u.rx_fin_received ≡ fin_length v.rx_fin_received + fins
-    nxt : (m : ℕ) → (u.remote_seq_no.0 + m) % 2 ^ 32 ≡ (v.remote_seq_no.0 + m + fins) % 2 ^ 32
-    ends : (phase_of u.state ≡ p) ⊎ (phase_of u.state ≡ phase.Dead)
-
-  no_fin : (u : View) (p : Phase) → u.rx_buffer ≡ v.rx_buffer → u.rx_fin_received ≡ v.rx_fin_received → u.remote_seq_no ≡ v.remote_seq_no → (phase_of u.state ≡ p) ⊎ (phase_of u.state ≡ phase.Dead) → IsRow u p
-  no_fin u p rx fin nxt ends = record { rx = rx; fin = λ e. inl (sym fin ∙ e); kept = λ e. fin ∙ e; fins = 0; counts = omega (arith, ap fin_length fin); nxt = λ m. ap (λ (n : TcpSeqNumber). (n.0 + m) % 2 ^ 32) nxt ∙ ap (λ n. n % 2 ^ 32) (omega arith); ends = ends }
-
-  with_fin : (u : View) (p : Phase) → the_control ≡ control.Fin → v.rx_fin_received ≡ false → u.rx_buffer ≡ v.rx_buffer → u.rx_fin_received ≡ true → u.remote_seq_no ≡ seq_add v.remote_seq_no 1 → (phase_of u.state ≡ p) ⊎ (phase_of u.state ≡ phase.Dead) → IsRow u p
-  with_fin u p ec none rx fin nxt ends = record {
-    rx = rx;
-    fin = λ e. inr (counted_fin the_window s.seq_number (length s.payload) s.control ec);
-    kept = λ e. fin;
-    fins = 1;
-    counts = omega (arith, ap fin_length fin, ap fin_length none);
-    nxt = λ m. ap (λ (n : TcpSeqNumber). (n.0 + m) % 2 ^ 32) nxt ∙ nxt_past_fin v.remote_seq_no.0 m;
-    ends = ends;
-  }
-
   acks : (k : TcpSeqNumber) → s.ack_number ≡ Some k → the_segment.ack ≡ Some k.0
   acks k e = ap (λ (o : Option TcpSeqNumber). option_map (λ (x : TcpSeqNumber). x.0) o) e
 
@@ -160,214 +158,266 @@ module _ (v : View) (now : Instant) (word : ℕ) (ip : IpRepr) (s : Segment) (at
     of_fin from ph is all =
         passes_heard _ _ _ (bounds.sending iss) (OfFin k.0 (acks k ek) (small.ack k ek) (omega (arith, is, all)) from ph una (queue ∙ drop_all n v.tx_buffer.bytes (omega (arith, all))) (nxt ∙ later_shown v.remote_last_seq k))
 
-  -- ---- the bytes of the cut join, or are held
+  -- ---- the control bit the_bit counts, and the bytes come_bytes come, at_offset past RCV.NXT
+
+  module _ (last : Option TcpSeqNumber) (the_bit : TcpControl) (at_offset : ℕ) (come_bytes : List ℕ) (IsFin : Type 0) (is_fin_of : the_bit ≡ control.Fin → IsFin) where
+    abbrev based : View
+    based = record v { local_rx_last_seq = last }
+
+    -- what such a row leaves: u, in the phase p or CLOSED, with a FIN that counts or none
+    record IsRow (u : View) (p : Phase) : Type 0 where
+      rx : u.rx_buffer ≡ v.rx_buffer
+      fin : u.rx_fin_received ≡ true → (v.rx_fin_received ≡ true) ⊎ IsFin
+      kept : v.rx_fin_received ≡ true → u.rx_fin_received ≡ true
+      fins : ℕ
+      counts : fin_length u.rx_fin_received ≡ fin_length v.rx_fin_received + fins
+      nxt : (m : ℕ) → (u.remote_seq_no.0 + m) % 2 ^ 32 ≡ (v.remote_seq_no.0 + m + fins) % 2 ^ 32
+      ends : (phase_of u.state ≡ p) ⊎ (phase_of u.state ≡ phase.Dead)
+
+    no_fin : (u : View) (p : Phase) → u.rx_buffer ≡ v.rx_buffer → u.rx_fin_received ≡ v.rx_fin_received → u.remote_seq_no ≡ v.remote_seq_no → (phase_of u.state ≡ p) ⊎ (phase_of u.state ≡ phase.Dead) → IsRow u p
+    no_fin u p rx fin nxt ends = record { rx = rx; fin = λ e. inl (sym fin ∙ e); kept = λ e. fin ∙ e; fins = 0; counts = omega (arith, ap fin_length fin); nxt = λ m. ap (λ (n : TcpSeqNumber). (n.0 + m) % 2 ^ 32) nxt ∙ ap (λ n. n % 2 ^ 32) (omega arith); ends = ends }
+
+    with_fin : (u : View) (p : Phase) → the_bit ≡ control.Fin → v.rx_fin_received ≡ false → u.rx_buffer ≡ v.rx_buffer → u.rx_fin_received ≡ true → u.remote_seq_no ≡ seq_add v.remote_seq_no 1 → (phase_of u.state ≡ p) ⊎ (phase_of u.state ≡ phase.Dead) → IsRow u p
+    with_fin u p ec none rx fin nxt ends = record {
+      rx = rx;
+      fin = λ e. inr (is_fin_of ec);
+      kept = λ e. fin;
+      fins = 1;
+      counts = omega (arith, ap fin_length fin, ap fin_length none);
+      nxt = λ m. ap (λ (n : TcpSeqNumber). (n.0 + m) % 2 ^ 32) nxt ∙ nxt_past_fin v.remote_seq_no.0 m;
+      ends = ends;
+    }
+
+    -- the bytes join, or are held
+    module _ (plain : is_rst s.control ≡ false) (knows : KnowsPeer (phase_of v.state)) (k : TcpSeqNumber) (ek : s.ack_number ≡ Some k) where
+      abbrev after_bytes : View → ℕ → View
+      after_bytes u n = record (acked_view u n (Some k)) { rx_buffer = brought v.rx_buffer at_offset come_bytes }
+
+      abbrev heard_as : View → ℕ → Phase → SocketView
+      heard_as u n p = record (shown (after_bytes u n)) { phase = p }
+
+      module _ (data_heard : (u : View) (n : ℕ) (p : Phase) → IsRow u p → HearsData (shown v) (heard_as u n p) the_segment) (windowed : has_window v.state ≡ true) where
+        -- such an outcome, or whatever is answered from where it leaves the socket
+        abbrev GoesOn : Outcome → Type 0
+        GoesOn x = IsEffect x × ((y : Outcome) → Answered s (shown x.view) y → IsEffect y)
+
+        told : (x : Outcome) → Answered s (shown v) x → GoesOn x
+        told x a = (answered windowed x a, λ y b. answered windowed y (subst (λ z. Answered s z y) a.view b))
+
+        stops : (w : View) → shown w ≡ shown v → GoesOn (stopped w)
+        stops w e = (silent w e, λ y b. answered windowed y (subst (λ z. Answered s z y) e b))
+
+        -- a row that goes on
+        row_heard : (u : View) (a : Acked) (p : Phase) → IsRow u p → HearsAck (shown v) (heard_as u a.len p) the_segment → IsSynchronized p → KnowsPeer p → GoesOn (bytes_taken (heard u now a s) now at_offset come_bytes s)
+        row_heard u a p r ack sync known = (effect o here, λ y b. effect y (subst (λ q. Answered s q y) here.view b))
+          where
+            o : Outcome
+            o = bytes_taken (heard u now a s) now at_offset come_bytes s
+
+            z : SocketView
+            z = shown (after_bytes u a.len)
+
+            e : shown (record (heard u now a s) { rx_buffer = brought (heard u now a s).rx_buffer at_offset come_bytes }) ≡ z
+            e = heard_shown now a s at_offset come_bytes u (Some k) ek ∙ ap (λ (b : Received). shown (record (acked_view u a.len (Some k)) { rx_buffer = brought b at_offset come_bytes })) r.rx
+
+            here : Answered s z o
+            here = subst (λ q. Answered s q o) e (bytes_there s now (heard u now a s) at_offset come_bytes)
+
+            effect : (y : Outcome) → Answered s z y → IsEffect y
+            effect y x = record {
+              heard = heard_as u a.len p;
+              hears = Acknowledgement plain knows (data_heard u a.len p r) ack sync;
+              answers = answers_as s then_release then_take (heard_as u a.len p) y.reply the_segment (knows_iss p known) known (heard_within _ _ _ ack) (answer_in s z p y.reply x.answer);
+              ends = ⊎_elim (λ h. inl (x.view ∙ ap (λ q. record z { phase = q }) h)) (λ h. inr (record {
+                phase = ap (λ (y : SocketView). y.phase) x.view ∙ h;
+                transmit_queue = ap (λ (y : SocketView). y.transmit_queue) x.view;
+                receive_queue = ap (λ (y : SocketView). y.receive_queue) x.view;
+                fin = λ f. sym (ap (λ (y : SocketView). y.fin_counted) x.view) ∙ f;
+              })) r.ends;
+            }
+
+        -- ---- the rows of a segment that is no RST
+
+        abbrev places : ℕ
+        places = seq_sub k v.local_seq_no - 0
+
+        abbrev syn_places : ℕ
+        syn_places = seq_sub k v.local_seq_no - 1
+
+        abbrev all_acked : Bool
+        all_acked = is_not_after v.remote_last_seq k
+
+        abbrev row_of : State → TcpControl → Acked → Outcome
+        row_of st c a = after_table (advance_in st c a.fin based (arrival now (tuple_of ip s) word s) a.len) (arrival now (tuple_of ip s) word s) a at_offset come_bytes
+
+        abbrev the_acked : Acked
+        the_acked = acked_of v s.control s.ack_number
+
+        acked_in : (st : State) → v.state ≡ st → the_acked ≡ acked_places st k v.remote_last_seq queued (seq_sub k v.local_seq_no - syn_place st)
+        acked_in st es = (λ i. acked_at (es i) s.control (ek i) v.local_seq_no v.remote_last_seq queued) ∙ acked_some s.control st k v.local_seq_no v.remote_last_seq queued plain
+
+        module _ (passed : verdict_of v s.control s.ack_number ≡ verdicts.Pass) where
+          iss : HasIss (phase_of v.state)
+          iss = knows_iss (phase_of v.state) knows
+
+          fits : the_acked.len ≤ queued
+          fits =
+              let b = bounds.sending iss in
+              subst (λ o. (acked_of v s.control o).len ≤ queued) (sym ek) (acked_fits s.control v k b.snd_una (small.ack k ek) b.room (subst (λ o. verdict_of v s.control o ≡ verdicts.Pass) ek passed))
+
+          fits_in : (st : State) → v.state ≡ st → (acked_places st k v.remote_last_seq queued (seq_sub k v.local_seq_no - syn_place st)).len ≤ queued
+          fits_in st es = subst (λ (a : Acked). a.len ≤ queued) (acked_in st es) fits
+
+          unchanged_by : (n : ℕ) → n ≡ n - 0
+          unchanged_by n = omega arith
+
+          -- the acknowledgement of bytes, which leaves the phase
+          bytes_row : (u : View) (a : Acked) → IsRow u (phase_of v.state) → a.len ≡ seq_sub k v.local_seq_no → a.len ≤ queued → u.tx_buffer.bytes ≡ v.tx_buffer.bytes → u.remote_last_seq ≡ v.remote_last_seq → IsSynchronized (phase_of v.state) → GoesOn (bytes_taken (heard u now a s) now at_offset come_bytes s)
+          bytes_row u a r is le tx nxt sync = row_heard u a (phase_of v.state) r
+              (of_bytes (heard_as u a.len (phase_of v.state)) k a.len iss ek refl (ap (drop a.len) tx) (ap (λ (n : TcpSeqNumber). (later_of n k).0) nxt) refl is le) sync knows
+
+          -- the acknowledgement of the own FIN
+          fin_row : (u : View) (a : Acked) → IsRow u phase.Silent → phase_of v.state ≡ phase.FinQueued → a.len + 1 ≡ seq_sub k v.local_seq_no → a.len ≡ queued → u.tx_buffer.bytes ≡ v.tx_buffer.bytes → u.remote_last_seq ≡ v.remote_last_seq → GoesOn (bytes_taken (heard u now a s) now at_offset come_bytes s)
+          fin_row u a r from is all tx nxt = row_heard u a phase.Silent r
+              (of_fin (heard_as u a.len phase.Silent) k a.len iss ek refl (ap (drop a.len) tx) (ap (λ (n : TcpSeqNumber). (later_of n k).0) nxt) from refl is all) tt tt
+
+          -- the acknowledgement of the own SYN
+          syn_row : (u : View) (a : Acked) → v.state ≡ state.SynReceived → IsRow u phase.Open → a.len ≡ syn_places → u.tx_buffer.bytes ≡ v.tx_buffer.bytes → u.remote_last_seq ≡ v.remote_last_seq → GoesOn (bytes_taken (heard u now a s) now at_offset come_bytes s)
+          syn_row u a es r is tx nxt = row_heard u a phase.Open r
+              (of_syn (heard_as u a.len phase.Open) k a.len iss ek refl (ap (drop a.len) tx) (ap (λ (n : TcpSeqNumber). (later_of n k).0) nxt) (ap phase_of es) refl is
+              (passes_syn s.control k v.local_seq_no queued plain ((λ i. verdict_at (sym es i) s.control (sym ek i) v.local_seq_no queued) ∙ passed))) tt tt
+
+          stays_in : (st : State) → v.state ≡ st → (phase_of v.state ≡ phase_of v.state) ⊎ (phase_of v.state ≡ phase.Dead)
+          stays_in st es = inl refl
+
+          says_none : (st : State) → v.state ≡ st → (FinSays st v.rx_fin_received → v.rx_fin_received ≡ false) → v.rx_fin_received ≡ false
+          says_none st es f = f (subst (λ x. FinSays x v.rx_fin_received) es says)
+
+          -- SYN-RECEIVED
+          syn_received_rows : (c : TcpControl) → v.state ≡ state.SynReceived → the_bit ≡ c → (c ≡ control.Rst → ⊥) → GoesOn (row_of state.SynReceived c (acked_when false syn_places all_acked))
+          unfolding fin_counted
+          syn_received_rows control.None es ec unreset = syn_row (moved_to state.Established based) (acked_when false syn_places all_acked) es (no_fin _ _ refl refl refl (inl refl)) refl refl refl
+          syn_received_rows control.Fin es ec unreset = syn_row (fin_counted state.CloseWait based) (acked_when false syn_places all_acked) es (with_fin _ _ ec (says_none _ es (λ e. e)) refl refl refl (inl refl)) refl refl refl
+          syn_received_rows control.Psh es ec unreset = stops based refl
+          syn_received_rows control.Syn es ec unreset = stops based refl
+          syn_received_rows control.Rst es ec unreset = absurd (unreset refl)
+
+          -- ESTABLISHED
+          established_rows : (c : TcpControl) → v.state ≡ state.Established → the_bit ≡ c → (c ≡ control.Rst → ⊥) → places ≤ queued → GoesOn (row_of state.Established c (acked_when false places all_acked))
+          unfolding fin_counted
+          established_rows control.None es ec unreset le = bytes_row based (acked_when false places all_acked) (no_fin _ _ refl refl refl (inl refl)) (sym (unchanged_by _)) le refl refl (subst (λ st. IsSynchronized (phase_of st)) (sym es) tt)
+          established_rows control.Fin es ec unreset le = bytes_row (fin_counted state.CloseWait based) (acked_when false places all_acked) (with_fin _ _ ec (says_none _ es (λ e. e)) refl refl refl (inl (sym (ap phase_of es)))) (sym (unchanged_by _)) le refl refl (subst (λ st. IsSynchronized (phase_of st)) (sym es) tt)
+          established_rows control.Psh es ec unreset le = stops based refl
+          established_rows control.Syn es ec unreset le = stops based refl
+          established_rows control.Rst es ec unreset le = absurd (unreset refl)
+
+          -- FIN-WAIT-2
+          fin_wait_2_rows : (c : TcpControl) → v.state ≡ state.FinWait2 → the_bit ≡ c → (c ≡ control.Rst → ⊥) → places ≤ queued → GoesOn (row_of state.FinWait2 c (acked_when false places all_acked))
+          unfolding fin_counted
+          fin_wait_2_rows control.None es ec unreset le = bytes_row based (acked_when false places all_acked) (no_fin _ _ refl refl refl (inl refl)) (sym (unchanged_by _)) le refl refl (subst (λ st. IsSynchronized (phase_of st)) (sym es) tt)
+          fin_wait_2_rows control.Fin es ec unreset le = bytes_row (waiting now (fin_counted state.TimeWait based)) (acked_when false places all_acked) (with_fin _ _ ec (says_none _ es (λ e. e)) refl refl refl (inl (sym (ap phase_of es)))) (sym (unchanged_by _)) le refl refl (subst (λ st. IsSynchronized (phase_of st)) (sym es) tt)
+          fin_wait_2_rows control.Psh es ec unreset le = stops based refl
+          fin_wait_2_rows control.Syn es ec unreset le = stops based refl
+          fin_wait_2_rows control.Rst es ec unreset le = absurd (unreset refl)
+
+          -- CLOSE-WAIT
+          close_wait_rows : (c : TcpControl) → v.state ≡ state.CloseWait → (c ≡ control.Rst → ⊥) → places ≤ queued → GoesOn (row_of state.CloseWait c (acked_when false places all_acked))
+          close_wait_rows control.None es unreset le = bytes_row based (acked_when false places all_acked) (no_fin _ _ refl refl refl (inl refl)) (sym (unchanged_by _)) le refl refl (subst (λ st. IsSynchronized (phase_of st)) (sym es) tt)
+          close_wait_rows control.Fin es unreset le = stops based refl
+          close_wait_rows control.Psh es unreset le = stops based refl
+          close_wait_rows control.Syn es unreset le = stops based refl
+          close_wait_rows control.Rst es unreset le = absurd (unreset refl)
+
+          -- a FIN's place is the last
+          last_place : (places == queued + 1) ≡ true → ((places - 1) + 1 ≡ seq_sub k v.local_seq_no) × (places - 1 ≡ queued)
+          last_place e = let is : places ≡ queued + 1 = eqb-true places (queued + 1) e in (omega (arith, is), omega (arith, is))
+
+          -- FIN-WAIT-1
+          fin_wait_1_rows : (c : TcpControl) (t : Bool) → v.state ≡ state.FinWait1 → the_bit ≡ c → (c ≡ control.Rst → ⊥) → (places == queued + 1) ≡ t → (if t then places - 1 else places) ≤ queued → GoesOn (row_of state.FinWait1 c (acked_when t places all_acked))
+          unfolding fin_counted
+          fin_wait_1_rows control.None true es ec unreset e le = fin_row (moved_to state.FinWait2 based) (acked_when true places all_acked) (no_fin _ _ refl refl refl (inl refl)) (ap phase_of es) (last_place e).0 (last_place e).1 refl refl
+          fin_wait_1_rows control.None false es ec unreset e le = bytes_row based (acked_when false places all_acked) (no_fin _ _ refl refl refl (inl refl)) (sym (unchanged_by _)) le refl refl (subst (λ st. IsSynchronized (phase_of st)) (sym es) tt)
+          fin_wait_1_rows control.Fin true es ec unreset e le = fin_row (waiting now (fin_counted state.TimeWait based)) (acked_when true places all_acked) (with_fin _ _ ec (says_none _ es (λ e. e)) refl refl refl (inl refl)) (ap phase_of es) (last_place e).0 (last_place e).1 refl refl
+          fin_wait_1_rows control.Fin false es ec unreset e le = bytes_row (fin_counted state.Closing based) (acked_when false places all_acked) (with_fin _ _ ec (says_none _ es (λ e. e)) refl refl refl (inl (sym (ap phase_of es)))) (sym (unchanged_by _)) le refl refl (subst (λ st. IsSynchronized (phase_of st)) (sym es) tt)
+          fin_wait_1_rows control.Psh t es ec unreset e le = stops based refl
+          fin_wait_1_rows control.Syn t es ec unreset e le = stops based refl
+          fin_wait_1_rows control.Rst t es ec unreset e le = absurd (unreset refl)
+
+          -- CLOSING
+          closing_rows : (c : TcpControl) (t : Bool) → v.state ≡ state.Closing → (c ≡ control.Rst → ⊥) → (places == queued + 1) ≡ t → (if t then places - 1 else places) ≤ queued → GoesOn (row_of state.Closing c (acked_when t places all_acked))
+          closing_rows control.None true es unreset e le = fin_row (waiting now based) (acked_when true places all_acked) (no_fin _ _ refl refl refl (inl refl)) (ap phase_of es) (last_place e).0 (last_place e).1 refl refl
+          closing_rows control.None false es unreset e le = bytes_row based (acked_when false places all_acked) (no_fin _ _ refl refl refl (inl refl)) (sym (unchanged_by _)) le refl refl (subst (λ st. IsSynchronized (phase_of st)) (sym es) tt)
+          closing_rows control.Fin t es unreset e le = stops based refl
+          closing_rows control.Psh t es unreset e le = stops based refl
+          closing_rows control.Syn t es unreset e le = stops based refl
+          closing_rows control.Rst t es unreset e le = absurd (unreset refl)
+
+          -- LAST-ACK: an acknowledgement of nothing new is challenged
+          last_ack_row : (t : Bool) → v.state ≡ state.LastAck → places ≤ queued → GoesOn (after_advance (if t then next.Challenge else next.Continue) based (arrival now (tuple_of ip s) word s) (acked_when false places all_acked) at_offset come_bytes)
+          last_ack_row true es le = told (challenged based now s) (challenged_there s now based (shown v) refl)
+          last_ack_row false es le = bytes_row based (acked_when false places all_acked) (no_fin _ _ refl refl refl (inl refl)) (sym (unchanged_by _)) le refl refl (subst (λ st. IsSynchronized (phase_of st)) (sym es) tt)
+
+          last_ack_rows : (c : TcpControl) (t : Bool) → v.state ≡ state.LastAck → (c ≡ control.Rst → ⊥) → (places == queued + 1) ≡ t → (if t then places - 1 else places) ≤ queued → GoesOn (row_of state.LastAck c (acked_when t places all_acked))
+          last_ack_rows control.None true es unreset e le = fin_row (dropped based) (acked_when true places all_acked) (no_fin _ _ refl refl refl (inr refl)) (ap phase_of es) (last_place e).0 (last_place e).1 refl refl
+          last_ack_rows control.None false es unreset e le = last_ack_row (places == 0) es le
+          last_ack_rows control.Fin t es unreset e le = stops based refl
+          last_ack_rows control.Psh t es unreset e le = stops based refl
+          last_ack_rows control.Syn t es unreset e le = stops based refl
+          last_ack_rows control.Rst t es unreset e le = absurd (unreset refl)
+
+          -- TIME-WAIT
+          time_wait_rows : (c : TcpControl) → (c ≡ control.Rst → ⊥) → GoesOn (row_of state.TimeWait c (acked_when false places all_acked))
+          time_wait_rows control.None unreset = stops based refl
+          time_wait_rows control.Fin unreset = stops based refl
+          time_wait_rows control.Psh unreset = stops based refl
+          time_wait_rows control.Syn unreset = stops based refl
+          time_wait_rows control.Rst unreset = absurd (unreset refl)
+
+          rows : (st : State) → v.state ≡ st → has_window st ≡ true → (the_bit ≡ control.Rst → ⊥) → GoesOn (row_of st the_bit (acked_places st k v.remote_last_seq queued (seq_sub k v.local_seq_no - syn_place st)))
+          rows state.Closed es w unreset = absurd (not_closed es)
+          rows state.Listen es w unreset = cc
+          rows state.SynSent es w unreset = cc
+          rows state.SynReceived es w unreset = syn_received_rows the_bit es refl unreset
+          rows state.Established es w unreset = established_rows the_bit es refl unreset (fits_in state.Established es)
+          rows state.FinWait1 es w unreset = fin_wait_1_rows the_bit (places == queued + 1) es refl unreset refl (fits_in state.FinWait1 es)
+          rows state.FinWait2 es w unreset = fin_wait_2_rows the_bit es refl unreset (fits_in state.FinWait2 es)
+          rows state.CloseWait es w unreset = close_wait_rows the_bit es unreset (fits_in state.CloseWait es)
+          rows state.Closing es w unreset = closing_rows the_bit (places == queued + 1) es unreset refl (fits_in state.Closing es)
+          rows state.LastAck es w unreset = last_ack_rows the_bit (places == queued + 1) es unreset refl (fits_in state.LastAck es)
+          rows state.TimeWait es w unreset = time_wait_rows the_bit unreset
+
+          plain_rows : has_window v.state ≡ true → (the_bit ≡ control.Rst → ⊥) → GoesOn (row_of v.state the_bit the_acked)
+          plain_rows w unreset = subst (λ a. GoesOn (row_of v.state the_bit a)) (sym (acked_in v.state refl)) (rows v.state refl w unreset)
+
+  -- ---- what lies inside the window
+
+  abbrev FinIn : Type 0
+  FinIn = FinInside the_window s.seq_number (length s.payload) s.control
+
+  fin_in : the_control ≡ control.Fin → FinIn
+  fin_in ec = counted_fin the_window s.seq_number (length s.payload) s.control ec
 
   module _ (here : in_window ≡ true) (plain : is_rst s.control ≡ false) (knows : KnowsPeer (phase_of v.state)) (k : TcpSeqNumber) (ek : s.ack_number ≡ Some k) where
     held_small : length v.rx_buffer.held ≤ 2 ^ 30
     held_small = omega (arith, room)
 
-    abbrev after_bytes : View → ℕ → View
-    after_bytes u n = record (acked_view u n (Some k)) { rx_buffer = brought v.rx_buffer the_cut.offset the_bytes }
-
-    abbrev heard_as : View → ℕ → Phase → SocketView
-    heard_as u n p = record (shown (after_bytes u n)) { phase = p }
-
-    data_heard : (u : View) (n : ℕ) (p : Phase) → IsRow u p → HearsData (shown v) (heard_as u n p) the_segment
+    data_heard : (u : View) (n : ℕ) (p : Phase) → IsRow (Some s.seq_number) the_control the_cut.offset the_bytes FinIn fin_in u p → HearsData (shown v) (heard_as (Some s.seq_number) the_control the_cut.offset the_bytes FinIn fin_in plain knows k ek u n p) the_segment
     unfolding receive_window
     data_heard u n p r =
-        let come = comes v.rx_buffer the_cut.offset the_bytes (cut_fits v s.seq_number s.payload held_small small.seq small.payload here) in
+        let brings = comes v.rx_buffer the_cut.offset the_bytes (cut_fits v s.seq_number s.payload held_small small.seq small.payload here) in
         let wide : seq_sub the_window.end the_window.start ≤ 2 ^ 30 = omega (arith, window_width v held_small, held_small) in
         let edge = edge_shown the_window.start the_window.end (start_small v) (end_small v) in
         let c = brought v.rx_buffer the_cut.offset the_bytes in
-        let f : FinCounts (shown v) (heard_as u n p) the_segment ((the_window.start.0 + seq_sub the_window.end the_window.start) % 2 ^ 32) = record {
+        let f : FinCounts (shown v) (heard_as (Some s.seq_number) the_control the_cut.offset the_bytes FinIn fin_in plain knows k ek u n p) the_segment ((the_window.start.0 + seq_sub the_window.end the_window.start) % 2 ^ 32) = record {
           fin = λ e. ⊎_elim inl (λ x. inr (x.is, before_shown the_window.start s.seq_number ∙ x.begins, ap (λ m. number_is_before m (segment_end the_segment)) edge ∙ before_shown the_window.end (seq_add s.seq_number (length s.payload)) ∙ x.ends)) (r.fin e);
           kept = r.kept;
           fins = r.fins;
           counts = r.counts;
         } in
-        cut_heard (shown v) (heard_as u n p) the_segment (seq_sub the_window.end the_window.start) the_cut.offset the_bytes v.rx_buffer c come (start_small v) small.seq wide small.payload
+        cut_heard (shown v) (heard_as (Some s.seq_number) the_control the_cut.offset the_bytes FinIn fin_in plain knows k ek u n p) the_segment (seq_sub the_window.end the_window.start) the_cut.offset the_bytes v.rx_buffer c brings (start_small v) small.seq wide small.payload
         (inside_shown the_window s.seq_number (length s.payload) (start_small v) (end_small v) small.seq wide small.payload here)
         (cut_shown the_window s.seq_number the_segment (start_small v) (end_small v) refl) (offset_shown the_window s.seq_number the_segment refl) f
-        (r.nxt (length c.bytes) ∙ nxt_joins v.remote_seq_no.0 (length v.rx_buffer.bytes) (length c.bytes) r.fins (grows _ _ _ _ come))
-
-    -- a row that goes on
-    row_heard : (u : View) (a : Acked) (p : Phase) → IsRow u p → HearsAck (shown v) (heard_as u a.len p) the_segment → IsSynchronized p → KnowsPeer p → IsEffect (bytes_taken (heard u now a s) now the_cut.offset the_bytes s)
-    row_heard u a p r ack sync known = record {
-      heard = heard_as u a.len p;
-      hears = Acknowledgement plain knows (data_heard u a.len p r) ack sync;
-      answers = answers_as s then_release then_take (heard_as u a.len p) o.reply the_segment (knows_iss p known) known (heard_within _ _ _ ack) (answer_in s z p o.reply (subst (λ y. IsAnswer s y o.reply) e x.answer));
-      ends = ⊎_elim (λ h. inl (x.view ∙ e ∙ ap (λ q. record z { phase = q }) h)) (λ h. inr (record {
-        phase = ap (λ (y : SocketView). y.phase) (x.view ∙ e) ∙ h;
-        transmit_queue = ap (λ (y : SocketView). y.transmit_queue) (x.view ∙ e);
-        receive_queue = ap (λ (y : SocketView). y.receive_queue) (x.view ∙ e);
-        fin = λ f. sym (ap (λ (y : SocketView). y.fin_counted) (x.view ∙ e)) ∙ f;
-      })) r.ends;
-    }
-      where
-        o : Outcome
-        o = bytes_taken (heard u now a s) now the_cut.offset the_bytes s
-
-        z : SocketView
-        z = shown (after_bytes u a.len)
-
-        x : Answered s (shown (record (heard u now a s) { rx_buffer = brought (heard u now a s).rx_buffer the_cut.offset the_bytes })) o
-        x = bytes_there s now (heard u now a s) the_cut.offset the_bytes
-
-        e : shown (record (heard u now a s) { rx_buffer = brought (heard u now a s).rx_buffer the_cut.offset the_bytes }) ≡ z
-        e = heard_shown now a s the_cut.offset the_bytes u (Some k) ek ∙ ap (λ (b : Received). shown (record (acked_view u a.len (Some k)) { rx_buffer = brought b the_cut.offset the_bytes })) r.rx
-
-    -- ---- the rows of a segment that is no RST
-
-    abbrev places : ℕ
-    places = seq_sub k v.local_seq_no - 0
-
-    abbrev syn_places : ℕ
-    syn_places = seq_sub k v.local_seq_no - 1
-
-    abbrev all_acked : Bool
-    all_acked = is_not_after v.remote_last_seq k
-
-    abbrev row_of : State → TcpControl → Acked → Outcome
-    row_of st c a = after_table (advance_in st c a.fin numbered (arrival now (tuple_of ip s) word s) a.len) (arrival now (tuple_of ip s) word s) a the_cut.offset the_bytes
-
-    abbrev the_acked : Acked
-    the_acked = acked_of v s.control s.ack_number
-
-    acked_in : (st : State) → v.state ≡ st → the_acked ≡ acked_places st k v.remote_last_seq queued (seq_sub k v.local_seq_no - syn_place st)
-    acked_in st es = (λ i. acked_at (es i) s.control (ek i) v.local_seq_no v.remote_last_seq queued) ∙ acked_some s.control st k v.local_seq_no v.remote_last_seq queued plain
-
-    module _ (passed : verdict_of v s.control s.ack_number ≡ verdicts.Pass) where
-      iss : HasIss (phase_of v.state)
-      iss = knows_iss (phase_of v.state) knows
-
-      fits : the_acked.len ≤ queued
-      fits =
-          let b = bounds.sending iss in
-          subst (λ o. (acked_of v s.control o).len ≤ queued) (sym ek) (acked_fits s.control v k b.snd_una (small.ack k ek) b.room (subst (λ o. verdict_of v s.control o ≡ verdicts.Pass) ek passed))
-
-      fits_in : (st : State) → v.state ≡ st → (acked_places st k v.remote_last_seq queued (seq_sub k v.local_seq_no - syn_place st)).len ≤ queued
-      fits_in st es = subst (λ (a : Acked). a.len ≤ queued) (acked_in st es) fits
-
-      unchanged_by : (n : ℕ) → n ≡ n - 0
-      unchanged_by n = omega arith
-
-      -- the acknowledgement of bytes, which leaves the phase
-      bytes_row : (u : View) (a : Acked) → IsRow u (phase_of v.state) → a.len ≡ seq_sub k v.local_seq_no → a.len ≤ queued → u.tx_buffer.bytes ≡ v.tx_buffer.bytes → u.remote_last_seq ≡ v.remote_last_seq → IsSynchronized (phase_of v.state) → IsEffect (bytes_taken (heard u now a s) now the_cut.offset the_bytes s)
-      bytes_row u a r is le tx nxt sync = row_heard u a (phase_of v.state) r
-          (of_bytes (heard_as u a.len (phase_of v.state)) k a.len iss ek refl (ap (drop a.len) tx) (ap (λ (n : TcpSeqNumber). (later_of n k).0) nxt) refl is le) sync knows
-
-      -- the acknowledgement of the own FIN
-      fin_row : (u : View) (a : Acked) → IsRow u phase.Silent → phase_of v.state ≡ phase.FinQueued → a.len + 1 ≡ seq_sub k v.local_seq_no → a.len ≡ queued → u.tx_buffer.bytes ≡ v.tx_buffer.bytes → u.remote_last_seq ≡ v.remote_last_seq → IsEffect (bytes_taken (heard u now a s) now the_cut.offset the_bytes s)
-      fin_row u a r from is all tx nxt = row_heard u a phase.Silent r
-          (of_fin (heard_as u a.len phase.Silent) k a.len iss ek refl (ap (drop a.len) tx) (ap (λ (n : TcpSeqNumber). (later_of n k).0) nxt) from refl is all) tt tt
-
-      -- the acknowledgement of the own SYN
-      syn_row : (u : View) (a : Acked) → v.state ≡ state.SynReceived → IsRow u phase.Open → a.len ≡ syn_places → u.tx_buffer.bytes ≡ v.tx_buffer.bytes → u.remote_last_seq ≡ v.remote_last_seq → IsEffect (bytes_taken (heard u now a s) now the_cut.offset the_bytes s)
-      syn_row u a es r is tx nxt = row_heard u a phase.Open r
-          (of_syn (heard_as u a.len phase.Open) k a.len iss ek refl (ap (drop a.len) tx) (ap (λ (n : TcpSeqNumber). (later_of n k).0) nxt) (ap phase_of es) refl is
-          (passes_syn s.control k v.local_seq_no queued plain ((λ i. verdict_at (sym es i) s.control (sym ek i) v.local_seq_no queued) ∙ passed))) tt tt
-
-      stays_in : (st : State) → v.state ≡ st → (phase_of v.state ≡ phase_of v.state) ⊎ (phase_of v.state ≡ phase.Dead)
-      stays_in st es = inl refl
-
-      says_none : (st : State) → v.state ≡ st → (FinSays st v.rx_fin_received → v.rx_fin_received ≡ false) → v.rx_fin_received ≡ false
-      says_none st es f = f (subst (λ x. FinSays x v.rx_fin_received) es says)
-
-      -- SYN-RECEIVED
-      syn_received_rows : (c : TcpControl) → v.state ≡ state.SynReceived → the_control ≡ c → (c ≡ control.Rst → ⊥) → IsEffect (row_of state.SynReceived c (acked_when false syn_places all_acked))
-      unfolding fin_counted
-      syn_received_rows control.None es ec unreset = syn_row (moved_to state.Established numbered) (acked_when false syn_places all_acked) es (no_fin _ _ refl refl refl (inl refl)) refl refl refl
-      syn_received_rows control.Fin es ec unreset = syn_row (fin_counted state.CloseWait numbered) (acked_when false syn_places all_acked) es (with_fin _ _ ec (says_none _ es (λ e. e)) refl refl refl (inl refl)) refl refl refl
-      syn_received_rows control.Psh es ec unreset = silent numbered refl
-      syn_received_rows control.Syn es ec unreset = silent numbered refl
-      syn_received_rows control.Rst es ec unreset = absurd (unreset refl)
-
-      -- ESTABLISHED
-      established_rows : (c : TcpControl) → v.state ≡ state.Established → the_control ≡ c → (c ≡ control.Rst → ⊥) → places ≤ queued → IsEffect (row_of state.Established c (acked_when false places all_acked))
-      unfolding fin_counted
-      established_rows control.None es ec unreset le = bytes_row numbered (acked_when false places all_acked) (no_fin _ _ refl refl refl (inl refl)) (sym (unchanged_by _)) le refl refl (subst (λ st. IsSynchronized (phase_of st)) (sym es) tt)
-      established_rows control.Fin es ec unreset le = bytes_row (fin_counted state.CloseWait numbered) (acked_when false places all_acked) (with_fin _ _ ec (says_none _ es (λ e. e)) refl refl refl (inl (sym (ap phase_of es)))) (sym (unchanged_by _)) le refl refl (subst (λ st. IsSynchronized (phase_of st)) (sym es) tt)
-      established_rows control.Psh es ec unreset le = silent numbered refl
-      established_rows control.Syn es ec unreset le = silent numbered refl
-      established_rows control.Rst es ec unreset le = absurd (unreset refl)
-
-      -- FIN-WAIT-2
-      fin_wait_2_rows : (c : TcpControl) → v.state ≡ state.FinWait2 → the_control ≡ c → (c ≡ control.Rst → ⊥) → places ≤ queued → IsEffect (row_of state.FinWait2 c (acked_when false places all_acked))
-      unfolding fin_counted
-      fin_wait_2_rows control.None es ec unreset le = bytes_row numbered (acked_when false places all_acked) (no_fin _ _ refl refl refl (inl refl)) (sym (unchanged_by _)) le refl refl (subst (λ st. IsSynchronized (phase_of st)) (sym es) tt)
-      fin_wait_2_rows control.Fin es ec unreset le = bytes_row (waiting now (fin_counted state.TimeWait numbered)) (acked_when false places all_acked) (with_fin _ _ ec (says_none _ es (λ e. e)) refl refl refl (inl (sym (ap phase_of es)))) (sym (unchanged_by _)) le refl refl (subst (λ st. IsSynchronized (phase_of st)) (sym es) tt)
-      fin_wait_2_rows control.Psh es ec unreset le = silent numbered refl
-      fin_wait_2_rows control.Syn es ec unreset le = silent numbered refl
-      fin_wait_2_rows control.Rst es ec unreset le = absurd (unreset refl)
-
-      -- CLOSE-WAIT
-      close_wait_rows : (c : TcpControl) → v.state ≡ state.CloseWait → (c ≡ control.Rst → ⊥) → places ≤ queued → IsEffect (row_of state.CloseWait c (acked_when false places all_acked))
-      close_wait_rows control.None es unreset le = bytes_row numbered (acked_when false places all_acked) (no_fin _ _ refl refl refl (inl refl)) (sym (unchanged_by _)) le refl refl (subst (λ st. IsSynchronized (phase_of st)) (sym es) tt)
-      close_wait_rows control.Fin es unreset le = silent numbered refl
-      close_wait_rows control.Psh es unreset le = silent numbered refl
-      close_wait_rows control.Syn es unreset le = silent numbered refl
-      close_wait_rows control.Rst es unreset le = absurd (unreset refl)
-
-      -- a FIN's place is the last
-      last_place : (places == queued + 1) ≡ true → ((places - 1) + 1 ≡ seq_sub k v.local_seq_no) × (places - 1 ≡ queued)
-      last_place e = let is : places ≡ queued + 1 = eqb-true places (queued + 1) e in (omega (arith, is), omega (arith, is))
-
-      -- FIN-WAIT-1
-      fin_wait_1_rows : (c : TcpControl) (t : Bool) → v.state ≡ state.FinWait1 → the_control ≡ c → (c ≡ control.Rst → ⊥) → (places == queued + 1) ≡ t → (if t then places - 1 else places) ≤ queued → IsEffect (row_of state.FinWait1 c (acked_when t places all_acked))
-      unfolding fin_counted
-      fin_wait_1_rows control.None true es ec unreset e le = fin_row (moved_to state.FinWait2 numbered) (acked_when true places all_acked) (no_fin _ _ refl refl refl (inl refl)) (ap phase_of es) (last_place e).0 (last_place e).1 refl refl
-      fin_wait_1_rows control.None false es ec unreset e le = bytes_row numbered (acked_when false places all_acked) (no_fin _ _ refl refl refl (inl refl)) (sym (unchanged_by _)) le refl refl (subst (λ st. IsSynchronized (phase_of st)) (sym es) tt)
-      fin_wait_1_rows control.Fin true es ec unreset e le = fin_row (waiting now (fin_counted state.TimeWait numbered)) (acked_when true places all_acked) (with_fin _ _ ec (says_none _ es (λ e. e)) refl refl refl (inl refl)) (ap phase_of es) (last_place e).0 (last_place e).1 refl refl
-      fin_wait_1_rows control.Fin false es ec unreset e le = bytes_row (fin_counted state.Closing numbered) (acked_when false places all_acked) (with_fin _ _ ec (says_none _ es (λ e. e)) refl refl refl (inl (sym (ap phase_of es)))) (sym (unchanged_by _)) le refl refl (subst (λ st. IsSynchronized (phase_of st)) (sym es) tt)
-      fin_wait_1_rows control.Psh t es ec unreset e le = silent numbered refl
-      fin_wait_1_rows control.Syn t es ec unreset e le = silent numbered refl
-      fin_wait_1_rows control.Rst t es ec unreset e le = absurd (unreset refl)
-
-      -- CLOSING
-      closing_rows : (c : TcpControl) (t : Bool) → v.state ≡ state.Closing → (c ≡ control.Rst → ⊥) → (places == queued + 1) ≡ t → (if t then places - 1 else places) ≤ queued → IsEffect (row_of state.Closing c (acked_when t places all_acked))
-      closing_rows control.None true es unreset e le = fin_row (waiting now numbered) (acked_when true places all_acked) (no_fin _ _ refl refl refl (inl refl)) (ap phase_of es) (last_place e).0 (last_place e).1 refl refl
-      closing_rows control.None false es unreset e le = bytes_row numbered (acked_when false places all_acked) (no_fin _ _ refl refl refl (inl refl)) (sym (unchanged_by _)) le refl refl (subst (λ st. IsSynchronized (phase_of st)) (sym es) tt)
-      closing_rows control.Fin t es unreset e le = silent numbered refl
-      closing_rows control.Psh t es unreset e le = silent numbered refl
-      closing_rows control.Syn t es unreset e le = silent numbered refl
-      closing_rows control.Rst t es unreset e le = absurd (unreset refl)
-
-      -- LAST-ACK: an acknowledgement of nothing new is challenged
-      last_ack_row : (t : Bool) → v.state ≡ state.LastAck → places ≤ queued → IsEffect (after_advance (if t then next.Challenge else next.Continue) numbered (arrival now (tuple_of ip s) word s) (acked_when false places all_acked) the_cut.offset the_bytes)
-      last_ack_row true es le = answered (ap has_window es) (challenged numbered now s) (challenged_there s now numbered (shown v) refl)
-      last_ack_row false es le = bytes_row numbered (acked_when false places all_acked) (no_fin _ _ refl refl refl (inl refl)) (sym (unchanged_by _)) le refl refl (subst (λ st. IsSynchronized (phase_of st)) (sym es) tt)
-
-      last_ack_rows : (c : TcpControl) (t : Bool) → v.state ≡ state.LastAck → (c ≡ control.Rst → ⊥) → (places == queued + 1) ≡ t → (if t then places - 1 else places) ≤ queued → IsEffect (row_of state.LastAck c (acked_when t places all_acked))
-      last_ack_rows control.None true es unreset e le = fin_row (dropped numbered) (acked_when true places all_acked) (no_fin _ _ refl refl refl (inr refl)) (ap phase_of es) (last_place e).0 (last_place e).1 refl refl
-      last_ack_rows control.None false es unreset e le = last_ack_row (places == 0) es le
-      last_ack_rows control.Fin t es unreset e le = silent numbered refl
-      last_ack_rows control.Psh t es unreset e le = silent numbered refl
-      last_ack_rows control.Syn t es unreset e le = silent numbered refl
-      last_ack_rows control.Rst t es unreset e le = absurd (unreset refl)
-
-      -- TIME-WAIT
-      time_wait_rows : (c : TcpControl) → (c ≡ control.Rst → ⊥) → IsEffect (row_of state.TimeWait c (acked_when false places all_acked))
-      time_wait_rows control.None unreset = silent numbered refl
-      time_wait_rows control.Fin unreset = silent numbered refl
-      time_wait_rows control.Psh unreset = silent numbered refl
-      time_wait_rows control.Syn unreset = silent numbered refl
-      time_wait_rows control.Rst unreset = absurd (unreset refl)
-
-      rows : (st : State) → v.state ≡ st → has_window st ≡ true → (the_control ≡ control.Rst → ⊥) → IsEffect (row_of st the_control (acked_places st k v.remote_last_seq queued (seq_sub k v.local_seq_no - syn_place st)))
-      rows state.Closed es w unreset = absurd (not_closed es)
-      rows state.Listen es w unreset = cc
-      rows state.SynSent es w unreset = cc
-      rows state.SynReceived es w unreset = syn_received_rows the_control es refl unreset
-      rows state.Established es w unreset = established_rows the_control es refl unreset (fits_in state.Established es)
-      rows state.FinWait1 es w unreset = fin_wait_1_rows the_control (places == queued + 1) es refl unreset refl (fits_in state.FinWait1 es)
-      rows state.FinWait2 es w unreset = fin_wait_2_rows the_control es refl unreset (fits_in state.FinWait2 es)
-      rows state.CloseWait es w unreset = close_wait_rows the_control es unreset (fits_in state.CloseWait es)
-      rows state.Closing es w unreset = closing_rows the_control (places == queued + 1) es unreset refl (fits_in state.Closing es)
-      rows state.LastAck es w unreset = last_ack_rows the_control (places == queued + 1) es unreset refl (fits_in state.LastAck es)
-      rows state.TimeWait es w unreset = time_wait_rows the_control unreset
-
-      pub plain_rows : has_window v.state ≡ true → (the_control ≡ control.Rst → ⊥) → IsEffect (row_of v.state the_control the_acked)
-      plain_rows w unreset = subst (λ a. IsEffect (row_of v.state the_control a)) (sym (acked_in v.state refl)) (rows v.state refl w unreset)
+        (r.nxt (length c.bytes) ∙ nxt_joins v.remote_seq_no.0 (length v.rx_buffer.bytes) (length c.bytes) r.fins (grows _ _ _ _ brings))
 
   -- ---- an RST inside the window
 
@@ -383,7 +433,8 @@ module _ (v : View) (now : Instant) (word : ℕ) (ip : IpRepr) (s : Segment) (at
       other unreset =
           let plain = counted_plain the_window s.seq_number (length s.payload) s.control unreset in
           let p = passes_with v.state s.control s.ack_number v.local_seq_no queued w plain passed in
-          plain_rows here plain (knows_peer v.state w not_closed) p.0 p.1 passed w unreset
+          let knows = knows_peer v.state w not_closed in
+          (plain_rows (Some s.seq_number) the_control the_cut.offset the_bytes FinIn fin_in plain knows p.0 p.1 (data_heard here plain knows p.0 p.1) w passed w unreset).0
 
       go : (c : TcpControl) → the_control ≡ c → IsEffect (after_table (advance_in v.state the_control (acked_of v s.control s.ack_number).fin numbered (arrival now (tuple_of ip s) word s) (acked_of v s.control s.ack_number).len) (arrival now (tuple_of ip s) word s) (acked_of v s.control s.ack_number) the_cut.offset the_bytes)
       go control.Rst e = subst (λ c. IsEffect (after_table (advance_in v.state c (acked_of v s.control s.ack_number).fin numbered (arrival now (tuple_of ip s) word s) (acked_of v s.control s.ack_number).len) (arrival now (tuple_of ip s) word s) (acked_of v s.control s.ack_number) the_cut.offset the_bytes)) (sym e) (rst_row v.state (acked_of v s.control s.ack_number) refl (counted_rst the_window s.seq_number (length s.payload) s.control e))
@@ -462,9 +513,59 @@ module _ (v : View) (now : Instant) (word : ℕ) (ip : IpRepr) (s : Segment) (at
   unfolding processed_inside advanced
   unwindowed w p small_word = alone_rows v.state refl w p small_word
 
-  windowed : (b : Bool) → in_window ≡ b → has_window v.state ≡ true → verdict_of v s.control s.ack_number ≡ verdicts.Pass → IsEffect (if b then cut_inside the_window the_cut v (arrival now (tuple_of ip s) word s) else outside v now s)
+  -- ---- what lies outside of the window
+
+  -- the number of the FIN is RCV.NXT
+  record FinNext : Type 0 where
+    is : the_segment.fin ≡ true
+    there : segment_end the_segment ≡ (next_ack v).0
+
+  -- no bytes come
+  module _ (bit : TcpControl) (is_fin_of : bit ≡ control.Fin → FinNext) (plain : is_rst s.control ≡ false) (knows : KnowsPeer (phase_of v.state)) (k : TcpSeqNumber) (ek : s.ack_number ≡ Some k) where
+    bare_data : (u : View) (n : ℕ) (p : Phase) → IsRow v.local_rx_last_seq bit 0 [] FinNext is_fin_of u p → HearsData (shown v) (heard_as v.local_rx_last_seq bit 0 [] FinNext is_fin_of plain knows k ek u n p) the_segment
+    bare_data u n p r = record {
+      more = [];
+      receive_queue = sym (append-nil v.rx_buffer.bytes);
+      joined = λ m b h. absurd (none-some b h);
+      held = λ m b h. inl (subst (λ j. (shown v).held j ≡ Some b) {x = m} {y = 0 + m} (omega arith) h);
+      fin = λ e. ⊎_elim inl (λ x. inr (0, x.is, omega arith, omega arith, x.there ∙ next_small)) (r.fin e);
+      kept = r.kept;
+      fins = r.fins;
+      fin_counts = r.counts;
+      rcv_nxt = r.nxt (length v.rx_buffer.bytes) ∙ omega arith;
+    }
+      where
+        next_small : (next_ack v).0 ≡ ((next_ack v).0 + 0) % 2 ^ 32
+        next_small = omega arith
+
+  -- by the state table alone
+  bare_rows : (bit : TcpControl) → (bit ≡ control.Rst → ⊥) → (bit ≡ control.Fin → FinNext) → is_plain_control s.control ≡ true → has_window v.state ≡ true → verdict_of v s.control s.ack_number ≡ verdicts.Pass → IsEffect (processed_inside v come bit 0 []) × ((y : Outcome) → Answered s (shown (processed_inside v come bit 0 []).view) y → IsEffect y)
+  unfolding processed_inside advanced
+  bare_rows bit unreset f e w passed =
+      let plain = plain_unreset s.control e in
+      let p = passes_with v.state s.control s.ack_number v.local_seq_no queued w plain passed in
+      let knows = knows_peer v.state w not_closed in
+      plain_rows v.local_rx_last_seq bit 0 [] FinNext f plain knows p.0 p.1 (bare_data bit f plain knows p.0 p.1) w passed w unreset
+
+  next_fin : counts_fin v come ≡ true → FinNext
+  unfolding receive_window
+  next_fin e = let h = and_parts (rfc_fin s.control) (seq_eq (seq_add s.seq_number (length s.payload)) (next_ack v)) e in record { is = fin_is s.control h.0; there = eqb-true _ _ h.1 }
+
+  refuses : (r : Rules) → has_window v.state ≡ true → verdict_of v s.control s.ack_number ≡ verdicts.Pass → IsEffect (refused r v come)
+  refuses r w passed = refused_as IsEffect r v come (record {
+    answers = answered w (outside v now s) (outside_there s now v);
+    counts = λ e. (bare_rows control.Fin (λ h. let no : control.Fin ≡ control.Rst = h in cc) (λ _. next_fin e) (fin_is_plain v come e) w passed).0;
+    hears = λ e. (alone_rows e).0;
+    ends = λ e. (alone_rows e).1 (stopped (heard_alone v come).view) (record { view = refl; answer = inl refl });
+    goes_on = λ e. (alone_rows e).1 (outside (heard_alone v come).view now s) (outside_there s now (heard_alone v come).view);
+  })
+    where
+      alone_rows : is_plain_control s.control ≡ true → IsEffect (heard_alone v come) × ((y : Outcome) → Answered s (shown (heard_alone v come).view) y → IsEffect y)
+      alone_rows e = bare_rows control.None (λ h. let no : control.None ≡ control.Rst = h in cc) (λ h. let no : control.None ≡ control.Fin = h in cc) e w passed
+
+  windowed : (b : Bool) → in_window ≡ b → has_window v.state ≡ true → verdict_of v s.control s.ack_number ≡ verdicts.Pass → IsEffect (if b then cut_inside the_window the_cut v (arrival now (tuple_of ip s) word s) else refused v.rules v (arrival now (tuple_of ip s) word s))
   windowed true here w p = inside here w p
-  windowed false here w p = answered w (outside v now s) (outside_there s now v)
+  windowed false here w p = refuses v.rules w p
 
   is_tested : (b : Bool) → has_window v.state ≡ b → verdict_of v s.control s.ack_number ≡ verdicts.Pass → word < 2 ^ 32 → IsEffect (tested b v (arrival now (tuple_of ip s) word s))
   is_tested true w p small_word = windowed in_window refl w p

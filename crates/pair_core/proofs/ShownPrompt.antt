@@ -13,6 +13,7 @@ use Rattle.control_wire.specs.declared.tcp.TcpControl.{TcpControl}
 use Rattle.sock_tcp.specs.Arrival.{arrival}
 use Rattle.sock_tcp.specs.View.{View}
 use Rattle.sock_core.specs.Seq.{is_before, later_of}
+use Rattle.sock_tcp.specs.Rfc.Refused.{refused}
 use Rattle.sock_tcp.specs.Window.{next_ack, receive_window, cut_of}
 use Rattle.sock_tcp.specs.declared.window.Cut.{Cut}
 use Rattle.sock_tcp.specs.Acked.{acked_of}
@@ -73,7 +74,7 @@ module _ (v : View) (now : Instant) (word : ℕ) (ip : IpRepr) (s : Segment) (i 
       goes_on t.next t.view i.goes_on (table_keeps s now numbered (tuple_of ip s) word the_acked.len v.state the_control the_acked.fin).rx
 
   is_cut : tested (has_window v.state) v (arrival now (tuple_of ip s) word s) ≡ cut_inside (receive_window v) the_cut v (arrival now (tuple_of ip s) word s)
-  is_cut = ap (λ b. tested b v (arrival now (tuple_of ip s) word s)) i.window ∙ ap (λ b. if b then cut_inside (receive_window v) the_cut v (arrival now (tuple_of ip s) word s) else outside v now s) i.inside
+  is_cut = ap (λ b. tested b v (arrival now (tuple_of ip s) word s)) i.window ∙ ap (λ b. if b then cut_inside (receive_window v) the_cut v (arrival now (tuple_of ip s) word s) else refused v.rules v (arrival now (tuple_of ip s) word s)) i.inside
 
   pub queued_at_once : JoinsAtOnce v.rx_buffer (processed v now word ip s).view.rx_buffer (in_window v s)
   unfolding processed

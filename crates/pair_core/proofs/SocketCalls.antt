@@ -16,7 +16,7 @@ use Rattle.sock_core.specs.Received.{receiving}
 use Rattle.sock_tcp.specs.Begin.{before_emit, peer_of}
 use Rattle.sock_tcp.specs.Closing.{aborted, closed}
 use Rattle.sock_tcp.specs.Content.{Sending, content}
-use Rattle.sock_tcp.specs.Opening.{after_connect, connected, endpoints, is_open, listened, no_address}
+use Rattle.sock_tcp.specs.Opening.{after_connect, connected, endpoints, is_open, listened, no_address, rules_set}
 use Rattle.sock_tcp.specs.Process.{Accepts, AcceptsIn}
 use Rattle.sock_tcp.specs.Queue.{appended, queue_of}
 use Rattle.sock_tcp.specs.Queues.{Reads, Sends, fitting, last_ts_after, may_recv, may_send, queued, read_off, readable, recv_refusal, timer_after, written}
@@ -170,6 +170,7 @@ set_call (setting.Nagle on) v k = (k, calls.Set (calls.SetNagle on refl) refl)
 set_call (setting.HopLimit n) v k = (k, calls.Set (calls.SetHopLimit n.hop_limit refl) refl)
 set_call (setting.Congestion c) v k = (k, calls.Set (calls.SetCongestionControl c refl) refl)
 set_call (setting.Pause on) v k = (k, calls.Set (calls.PauseSynAck on refl) refl)
+set_call (setting.Rules x) v k = (k, calls.Set (calls.SetRules (rules_set v x).rules refl) refl)
 
 -- the source of timestamps that a new socket has
 pub source_call : (v : View) (is_there : Bool) → IsCall v (record v { stamps = is_there })

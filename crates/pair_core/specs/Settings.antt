@@ -1,5 +1,6 @@
 -- What setting a value does to a socket.
 use Rattle.sock_tcp.specs.Closing.{keep_alive_set}
+use Rattle.sock_tcp.specs.Opening.{rules_set}
 use Rattle.sock_tcp.specs.Settings.{of_kind}
 use Rattle.sock_tcp.specs.View.{View}
 use Rattle.pair_core.specs.declared.setting.Setting.{Setting}
@@ -13,3 +14,4 @@ set_in (setting.Nagle on) v = record v { nagle = on }
 set_in (setting.HopLimit n) v = record v { hop_limit = n.hop_limit }
 set_in (setting.Congestion c) v = record v { congestion_controller = of_kind c }
 set_in (setting.Pause on) v = record v { synack_paused = on }
+set_in (setting.Rules x) v = rules_set v x

@@ -306,6 +306,9 @@ impl<'a, G: TsvalSource> Host<'a, G> {
             Setting::HopLimit(n) => self.socket.set_hop_limit(n.hop_limit),
             Setting::Congestion(kind) => self.socket.set_congestion_control(kind),
             Setting::Pause(on) => self.socket.pause_synack(on),
+            Setting::Rules(rules) => {
+                let _ = self.socket.set_rules(rules);
+            }
         }
         Outcome::Done
     }

@@ -3,7 +3,7 @@ ghost use Rattle.std.specs.Prelude.{◌≡◌, Some};
 ghost use Rattle.sock_tcp.specs.View.{IsShort};
 
 use net_base::time::Duration;
-use sock_tcp::CongestionControl;
+use sock_tcp::{CongestionControl, Rules};
 
 /// A duration of at most 2^61 microseconds, or none.
 #[derive(Debug, Clone, Copy, PartialEq, Eq)]
@@ -58,4 +58,6 @@ pub enum Setting {
     Congestion(CongestionControl),
     /// Of `pause_synack`.
     Pause(bool),
+    /// Of `set_rules`, which changes nothing of an open socket.
+    Rules(Rules),
 }

@@ -12,6 +12,9 @@ use Rattle.sock_tcp.specs.Draw.{Draws}
 use Rattle.sock_tcp.specs.Queue.{emptied}
 use Rattle.sock_tcp.specs.Settings.{kind_of, of_kind}
 use Rattle.sock_tcp.specs.View.{View, fresh}
+use Rattle.sock_tcp.specs.declared.rules.Rules.{Rules}
+use Rattle.sock_tcp.specs.declared.rules.RulesError.{RulesError}
+use Rattle.sock_tcp.specs.declared.rules.RulesError.TheVariants as rules_error
 use Rattle.sock_tcp.specs.declared.state.State.{State}
 use Rattle.sock_tcp.specs.declared.state.State.TheVariants as state
 use Rattle.sock_tcp.specs.declared.tuple.Tuple.{Tuple}
@@ -54,6 +57,14 @@ renewed v =
       local_rx_last_ack = v.local_rx_last_ack;
       last_remote_tsval = v.last_remote_tsval;
     }
+
+-- ---- the rules, which an open socket keeps
+
+abbrev pub rules_set : View → Rules → View
+rules_set v x = record v { rules = if is_open v.state then v.rules else x }
+
+abbrev pub rules_answer : View → Result (Unit {0}) RulesError
+rules_answer v = if is_open v.state then Err rules_error.InvalidState else Ok tt
 
 -- ---- listen
 

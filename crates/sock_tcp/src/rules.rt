@@ -1,7 +1,6 @@
 //! Which rules a socket follows, where smoltcp's differ from the RFCs'.
-ghost use Rattle.std.specs.Prelude.{◌≡◌, Ok, Err, true, false};
-ghost use Rattle.sock_tcp.specs.Opening.{is_open};
-ghost use Rattle.sock_tcp.specs.declared.rules.RulesError.TheVariants as rules_error;
+ghost use Rattle.std.specs.Prelude.{◌≡◌};
+ghost use Rattle.sock_tcp.specs.Opening.{rules_answer, rules_set};
 
 use crate::socket::Socket;
 use std::fmt;
@@ -41,10 +40,8 @@ impl<'a, G> Socket<'a, G> {
     /// Chooses the rules of a socket that is not open, for all its connections from now on. An open one answers
     /// `RulesError::InvalidState`, and nothing changes.
     pub fn set_rules(&mut self, rules: Rules) -> Result<(), RulesError>
-        ensures refused { is_open self.old.control_block.state ≡ true
-            → (result ≡ Err rules_error.InvalidState) × (self.new.control_block ≡ self.old.control_block) }
-        ensures set { is_open self.old.control_block.state ≡ false
-            → (result ≡ Ok tt) × (self.new.control_block ≡ record self.old.control_block { rules = rules }) }
+        ensures answer { result ≡ rules_answer self.old.control_block }
+        ensures control_block { self.new.control_block ≡ rules_set self.old.control_block rules }
         ensures generator { self.new.tsval_generator ≡ self.old.tsval_generator }
     {
         if self.control_block.is_open() {
