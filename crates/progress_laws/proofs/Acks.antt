@@ -34,6 +34,7 @@ use Rattle.progress_laws.specs.Agreement.{Exchanges, InReach, IsMove, IsSpeaker,
 use Rattle.progress_laws.specs.Delivery.{HasSaid, has_counted}
 use Rattle.progress_laws.specs.InStep.{IsAnswered, told}
 use Rattle.progress_laws.specs.Speech.{FromUna, KeepsAlive, Speech}
+use Rattle.progress_laws.proofs.Stamped.{stamped_ack, answer_stamp, ack_stamped}
 use Rattle.progress_laws.proofs.Agrees.{carries_listens, left_reach, reach_is_inside, reached_room, width_small}
 use Rattle.progress_laws.proofs.Answered.{carries_so}
 use Rattle.progress_laws.proofs.Arrives.{Faces, away, away_empty, before_window, from_outside, is_synchronized, synchronized_stays}
@@ -160,10 +161,10 @@ module _ (d : Duration) (t : Tuple) (f : Facts) (mtu : IsMtu f.mtu) (here : f.ha
 
   module _ (away_so : is_inside (receive_window z) s.seq_number (length s.payload) ≡ false) (reply : o.reply ≡ Some (ack_segment z s)) (h : HasSaid t fa x p.out u) (small : s.seq_number.0 < 2 ^ 32) (short : length s.payload ≤ 65535) where
     abbrev g : Segment
-    g = ack_segment z s
+    g = stamped_ack z o.view s
 
     abbrev ip : IpRepr
-    ip = reply_ip p.out.ip (ack_segment z s)
+    ip = reply_ip p.out.ip g
 
     abbrev y : View
     y = record u { local_rx_last_seq = Some g.seq_number }
@@ -210,7 +211,7 @@ module _ (d : Duration) (t : Tuple) (f : Facts) (mtu : IsMtu f.mtu) (here : f.ha
       end = p.now;
       sender = v';
       receiver = o.view;
-      exchanges = onward at p.mid p.now v z x z v' o.view got got got p.before (NextOne p.mid p.now p.now x z v' o.view v' o.view got got got p.since (IsMove (IsAnswered p.out u g p.dispatch (ap (λ r. record { view = o.view; reply = r }) reply) hears refl)) (NoMore p.now v' o.view got));
+      exchanges = onward at p.mid p.now v z x z v' o.view got got got p.before (NextOne p.mid p.now p.now x z v' o.view v' o.view got got got p.since (IsMove (IsAnswered p.out u (ack_segment z s) (answer_stamp o.view s) p.dispatch (ap (λ r. record { view = o.view; reply = r }) reply) (ack_stamped z o.view s) hears refl)) (NoMore p.now v' o.view got));
       reached = segment_reached u v' p.now 0 ip g None u_reached (omega arith) (numbered_as g (next_ack z) number (subst (λ (m : TcpSeqNumber). m.0 < 2 ^ 32) (sym seq) z_small) (omega arith)) (omega (arith, empty)) (λ e. absurd (carries_listens x.state p.speaker.carries (sym p.left.same.state ∙ e))) hears;
       state = h_as.state;
       rx = h_as.rx ∙ p.left.same.rx ∙ p.earlier.same.rx;

@@ -27,6 +27,7 @@ use Rattle.progress_laws.specs.Delivery.{HasSaid, has_counted}
 use Rattle.progress_laws.specs.InStep.{Carries, IsAnswered, Reads, told}
 use Rattle.progress_laws.specs.ShutWindows.{width}
 use Rattle.progress_laws.specs.Speech.{FromUna, KeepsAlive, Speech}
+use Rattle.progress_laws.proofs.Stamped.{stamped_ack, answer_stamp, ack_stamped}
 use Rattle.progress_laws.proofs.Agrees.{later_reach, left_reach, left_speaks, reach_kept, answers_agree, answers_open, hears, hears_agrees, left_agrees, nothing_left, queue_left, reads_agree, same_rx, same_shift, same_state, then_heard, width_small, window_open}
 use Rattle.progress_laws.proofs.Arrives.{away, before_window, reads_reached}
 use Rattle.progress_laws.proofs.Begins.{dispatch_reached, not_zero, some_or_none}
@@ -291,13 +292,13 @@ module _ (d : Duration) (t : Tuple) (f : Facts) (at : Instant) (v w : View) (got
         by (ForProbe at delay e f) = ForProbe at delay e f
 
     -- and the answer is heard
-    heard_so : (x.state ≡ states.LastAck → 0 < n) → (u' : View) → processed u p.now 0 (reply_ip p.out.ip (ack_segment w s)) (ack_segment w s) ≡ record { view = u'; reply = None } → Exchanges f at v w got p.now u' y got
-    heard_so last u' e = onward at p.mid p.now v w x w u' y got got got p.before (NextOne p.mid p.now p.now x w u' y u' y got got got p.since (IsMove (IsAnswered p.out u (ack_segment w s) p.dispatch is e refl)) (NoMore p.now u' y got))
+    heard_so : (x.state ≡ states.LastAck → 0 < n) → (u' : View) → processed u p.now 0 (reply_ip p.out.ip (stamped_ack w y s)) (stamped_ack w y s) ≡ record { view = u'; reply = None } → Exchanges f at v w got p.now u' y got
+    heard_so last u' e = onward at p.mid p.now v w x w u' y got got got p.before (NextOne p.mid p.now p.now x w u' y u' y got got got p.since (IsMove (IsAnswered p.out u (ack_segment w s) (answer_stamp y s) p.dispatch is (ack_stamped w y s) e refl)) (NoMore p.now u' y got))
 
     hears_it : (x.state ≡ states.LastAck → 0 < n) → ((u' : View) → 0 < u'.remote_win_len → Reason v w u' n) → Round d t f at v w got n h
     unfolding ack_kept ack_segment
     hears_it last why =
-        let g : Segment = ack_segment w s in
+        let g : Segment = stamped_ack w y s in
         let some : u.state ≡ states.LastAck → 0 < n = λ e. last (sym p.left.same.state ∙ e) in
         let ip = reply_ip p.out.ip g in
         Opened (record {

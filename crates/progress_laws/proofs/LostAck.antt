@@ -26,6 +26,7 @@ use Rattle.sock_tcp.specs.declared.tuple.Tuple.{Tuple}
 use Rattle.tcp_laws.specs.Polling.{IsReached}
 use Rattle.tcp_laws.proofs.OrderedCalls.{reached_ordered}
 use Rattle.progress_laws.specs.FromOpening.{AnswersLate, LostAckComesAgain}
+use Rattle.progress_laws.proofs.Stamped.{stamped_ack, answer_stamp, ack_stamped}
 use Rattle.progress_laws.proofs.Edges.{is_not_before}
 use Rattle.progress_laws.proofs.FromOpening.{goes_out, losses_keep}
 use Rattle.progress_laws.proofs.Begins.{later_moment}
@@ -127,8 +128,11 @@ module _ (s : Tuple) (f : Facts) (x : View) (c : SendsSyn state.SynReceived s f 
     challenged_so : processed v now 0 out.ip g ≡ ack_sent (noted_at v now) g
     challenged_so = challenges v now out.ip g (next_ack u) st refl g_ack g_empty (reached_ordered v reached).una_small (ap (λ (q : TcpSeqNumber). q.0) (same_edge us ry ∙ sym una)) (omega (arith, (reached_ordered v reached).room)) (omega (arith, ap (λ (q : TcpSeqNumber). q.0) us.same.una, c.una_small)) (ap (λ (q : TcpSeqNumber). q.0) (next ∙ ap (λ q. seq_add q 1) (sym u_una))) late
 
+    abbrev here : View
+    here = ack_kept (noted_at v now)
+
     abbrev p : Segment
-    p = ack_segment (noted_at v now) g
+    p = stamped_ack (noted_at v now) here g
 
     opens_z : Opens v z1 now (reply_ip out.ip p) p
     unfolding ack_segment
@@ -142,9 +146,11 @@ module _ (s : Tuple) (f : Facts) (x : View) (c : SendsSyn state.SynReceived s f 
       syn_ack = out;
       answered = z1;
       sends_again = sends state.SynReceived s f x c z rz now goes;
-      here = ack_kept (noted_at v now);
-      ack = p;
+      here = here;
+      ack = ack_segment (noted_at v now) g;
       answers = challenged_so;
+      stamp = answer_stamp here g;
+      is_stamp = ack_stamped (noted_at v now) here g;
       across = opens_z.across;
       ack_comes = opens_z.ack_comes;
       state_here = st;

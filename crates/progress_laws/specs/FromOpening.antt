@@ -11,6 +11,7 @@ use Rattle.sock_core.specs.Received.{room_of}
 use Rattle.sock_tcp.specs.Content.{Sending}
 use Rattle.sock_tcp.specs.Opening.{connected, endpoints, is_open, listened}
 use Rattle.control_wire.specs.Segment.{Segment}
+use Rattle.control_wire.specs.declared.tcp.TcpTimestampRepr.{TcpTimestampRepr}
 use Rattle.sock_tcp.specs.Process.{processed}
 use Rattle.sock_tcp.specs.Queue.{capacity}
 use Rattle.sock_tcp.specs.Queues.{Sends}
@@ -24,6 +25,7 @@ use Rattle.progress_laws.specs.BothWays.{BothInStep, ClosesTo, Turns}
 use Rattle.progress_laws.specs.InStep.{told}
 use Rattle.progress_laws.specs.Opening.{Acknowledges, AnswersSyn, Completes, TakesSyn}
 use Rattle.progress_laws.specs.Speech.{DispatchesOk}
+use Rattle.progress_laws.specs.Stamped.{IsAnswerStamp, stamped}
 
 -- ---- in step from the start
 
@@ -204,8 +206,11 @@ pub record AnswersLate (f : Facts) (last : Instant) (v w : View) : Type 0 where
   pub here : View
   pub ack : Segment
   pub answers : processed v now 0 syn_ack.ip syn_ack.segment ≡ record { view = here; reply = Some ack }
+  pub stamp : Option TcpTimestampRepr
+  pub is_stamp : IsAnswerStamp here syn_ack.segment ack stamp
   pub across : View
-  pub ack_comes : processed answered now 0 (reply_ip syn_ack.ip ack) ack ≡ record { view = across; reply = None }
+  pub ack_comes : processed answered now 0 (reply_ip syn_ack.ip (stamped ack stamp)) (stamped ack stamp)
+      ≡ record { view = across; reply = None }
   pub state_here : here.state ≡ state.Established
   pub state_across : across.state ≡ state.Established
   pub over_then : next_ack across ≡ here.local_seq_no

@@ -1,5 +1,5 @@
 -- The beginning of a dispatch, from its steps, and whether it goes on.
-use Rattle.std.proofs.Common.{◌≡◌, Bool, true, false, not, Some, refl, sym, ◌∙◌, ap, subst}
+use Rattle.std.proofs.Common.{◌≡◌, Bool, true, false, not, Some, refl, ◌∙◌, ap, subst}
 use Rattle.sock_core.specs.Facts.{Facts}
 use Rattle.net_base.specs.declared.time.Instant.{Instant}
 use Rattle.sock_tcp.specs.declared.tuple.Tuple.{Tuple}

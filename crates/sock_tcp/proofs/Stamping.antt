@@ -1,10 +1,10 @@
 -- What a segment does to timestamps: they stay, or a SYN without one takes them away.
-use Rattle.std.proofs.Common.{◌≡◌, ◌∙◌, ℕ, Bool, true, false, ◌&&◌, refl, sym, ap, subst, Option, Some, is_some}
-use Rattle.std.specs.Prelude.{◌==◌, if◌then◌else◌, IsTrue}
+use Rattle.std.proofs.Common.{◌≡◌, ◌∙◌, ℕ, Bool, true, false, ◌&&◌, refl, sym, ap, Option, is_some}
+use Rattle.std.specs.Prelude.{IsTrue}
 use Rattle.net_base.specs.declared.time.Instant.{Instant}
 use Rattle.ip_wire.specs.declared.repr.IpRepr.{IpRepr}
 use Rattle.control_wire.specs.Segment.{Segment}
-use Rattle.sock_tcp.specs.Advance.{dropped, fallen_back, fin_counted, moved_to, options_taken, syn_answered, syn_received, waiting}
+use Rattle.sock_tcp.specs.Advance.{fallen_back, fin_counted, options_taken, syn_answered, syn_received}
 use Rattle.sock_tcp.specs.Arrival.{arrival}
 use Rattle.sock_tcp.specs.Process.{Outcome, answered, close_restarted, source_kept, tested, tuple_of}
 use Rattle.sock_tcp.specs.Replies.{ack_kept}

@@ -68,7 +68,9 @@ impl<'a, G> Socket<'a, G> {
         requires rx { length rx_buffer.queue + length rx_buffer.spare ≤ 2 ^ 30 }
         requires tx { length tx_buffer.queue + length tx_buffer.spare ≤ 2 ^ 30 }
         ensures control_block { result.control_block
-            ≡ record (fresh (receiving rx_buffer.entry) (queue_of tx_buffer.entry)) { stamps = is_some tsval_generator } }
+            ≡ record (fresh (receiving rx_buffer.entry) (queue_of tx_buffer.entry)) {
+              stamps = is_some tsval_generator;
+            } }
         ensures generator { result.tsval_generator ≡ tsval_generator }
     {
         let mut control_block = ControlBlock::new(rx_buffer, tx_buffer);
