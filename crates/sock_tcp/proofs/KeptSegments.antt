@@ -11,7 +11,7 @@ use Rattle.sock_core.specs.Received.{makes_fifth_range, holds_nothing}
 use Rattle.sock_tcp.specs.Acked.{acked_of}
 use Rattle.sock_tcp.specs.Advance.{advance_in, advanced, counted_control, dropped, fallen_back, fin_counted, moved_to, syn_answered, syn_received, waiting}
 use Rattle.sock_tcp.specs.Arrival.{Arrival, arrival}
-use Rattle.sock_tcp.specs.Process.{stopped, ack_sent, challenged, close_restarted, outside_by, outside, gap_answered, bytes_taken, tuple_of, after_advance, processed_inside, has_window, cut_inside, tested, by_verdict, processed}
+use Rattle.sock_tcp.specs.Process.{stopped, ack_sent, challenged, close_restarted, outside_by, outside, gap_answered, bytes_taken, tuple_of, after_advance, processed_inside, has_window, cut_inside, tested_by, by_verdict, processed_by}
 use Rattle.sock_tcp.specs.Replies.{ack_kept}
 use Rattle.sock_tcp.specs.Rfc.Refused.{refused}
 use Rattle.sock_tcp.specs.Steps.{ack_delayed, ack_heard, acknowledged, heard, is_duplicate, is_window_changed, joined, released, timer_set, timestamp_taken, window_taken}
@@ -177,20 +177,20 @@ module _ (P : View → Type 0) (now : Instant) (word : ℕ) (ip : IpRepr) (s : S
       alone : P (heard_alone v come).view
       alone = inside_kept v control.None 0 [] h
 
-  pub tested_kept : (v : View) → P v → (b : Bool) → P (tested b v come).view
-  tested_kept v h false = inside_kept v s.control 0 [] h
-  tested_kept v h true = go (is_inside (receive_window v) s.seq_number (length s.payload))
+  pub tested_kept : (r : Rules) (v : View) → P v → (b : Bool) → P (tested_by r b v come).view
+  tested_kept r v h false = inside_kept v s.control 0 [] h
+  tested_kept r v h true = go (is_inside (receive_window v) s.seq_number (length s.payload))
     where
-      go : (b : Bool) → P (if b then cut_inside (receive_window v) (cut_of (receive_window v) s.seq_number (length s.payload)) v come else refused v.rules v come).view
-      go false = refused_kept v.rules v h
+      go : (b : Bool) → P (if b then cut_inside (receive_window v) (cut_of (receive_window v) s.seq_number (length s.payload)) v come else refused r v come).view
+      go false = refused_kept r v h
       go true = inside_kept (record v { local_rx_last_seq = Some s.seq_number }) (counted_control s.control (receive_window v) s.seq_number (length s.payload)) _ _ (k.numbers v s.seq_number h)
 
-  pub process_kept : (v : View) → P v → P (processed v now word ip s).view
-  unfolding processed
-  process_kept v h = by (verdict_of v s.control s.ack_number)
+  pub process_kept : (r : Rules) (v : View) → P v → P (processed_by r v now word ip s).view
+  unfolding processed_by
+  process_kept r v h = by (verdict_of v s.control s.ack_number)
     where
-      by : (x : Verdict) → P (by_verdict x v come).view
+      by : (x : Verdict) → P (by_verdict r x v come).view
       by verdicts.Drop = h
       by verdicts.Reset = h
       by verdicts.Challenge = challenged_kept P now s k.answers v h
-      by verdicts.Pass = tested_kept v h (has_window v.state)
+      by verdicts.Pass = tested_kept r v h (has_window v.state)

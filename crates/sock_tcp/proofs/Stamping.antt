@@ -61,7 +61,7 @@ answer_keeps answers.Ack v s = refl
 answer_keeps answers.Rst v s = refl
 
 pub stamps_fall : (r : Answer) (v w : View) (now : Instant) (word : ℕ) (ip : IpRepr) (s : Segment) (b : Bool) → answered r w s ≡ tested b v (arrival now (tuple_of ip s) word s) → IsTrue w.stamps → IsTrue v.stamps
-stamps_fall r v w now word ip s b e h = tested_kept (Falls v) now word ip s (segments_fall v now word s) v (λ i. i) b (sym (ap (λ (o : Outcome). o.view.stamps) e) ∙ answer_keeps r w s ∙ h)
+stamps_fall r v w now word ip s b e h = tested_kept (Falls v) now word ip s (segments_fall v now word s) v.rules v (λ i. i) b (sym (ap (λ (o : Outcome). o.view.stamps) e) ∙ answer_keeps r w s ∙ h)
 
 -- so the source that is kept is there exactly where they are
 pub still_stamped : {G : Type 0} (g : Option G) (old new : Bool) → is_some g ≡ old → (IsTrue new → IsTrue old) → is_some (source_kept new g) ≡ new

@@ -27,6 +27,7 @@ use Rattle.sock_tcp.specs.declared.window.Cut.{Cut}
 use Rattle.sock_tcp.specs.declared.window.Window.{Window}
 use Rattle.sock_tcp.specs.Replies.{Answers}
 use Rattle.sock_tcp.specs.Timers.{after}
+use Rattle.sock_tcp.specs.declared.rules.Rules.{Rules}
 use Rattle.sock_tcp.specs.declared.state.State.{State}
 use Rattle.sock_tcp.specs.declared.state.State.TheVariants as state
 use Rattle.sock_tcp.specs.declared.tuple.Tuple.{Tuple}
@@ -87,24 +88,31 @@ cut_inside w cut v a =
     (counted_control a.segment.control w a.segment.seq_number (length a.segment.payload)) cut.offset
     (cut_bytes cut a.segment.payload)
 
--- what lies outside is refused, by the socket's rules
-abbrev pub tested : Bool → View → Arrival → Outcome
-tested false v a = processed_inside v a a.segment.control 0 []
-tested true v a =
+-- what lies outside is refused, by these rules
+abbrev pub tested_by : Rules → Bool → View → Arrival → Outcome
+tested_by r false v a = processed_inside v a a.segment.control 0 []
+tested_by r true v a =
     if is_inside (receive_window v) a.segment.seq_number (length a.segment.payload)
     then cut_inside (receive_window v)
     (cut_of (receive_window v) a.segment.seq_number (length a.segment.payload)) v a
-    else refused v.rules v a
+    else refused r v a
 
-abbrev pub by_verdict : Verdict → View → Arrival → Outcome
-by_verdict verdicts.Drop v a = stopped v
-by_verdict verdicts.Reset v a = rst_sent v a.segment
-by_verdict verdicts.Challenge v a = challenged v a.now a.segment
-by_verdict verdicts.Pass v a = tested (has_window v.state) v a
+abbrev pub tested : Bool → View → Arrival → Outcome
+tested b v a = tested_by v.rules b v a
 
-unfoldable pub processed : View → Instant → ℕ → IpRepr → Segment → Outcome
-processed v now word ip s =
-    by_verdict (verdict_of v s.control s.ack_number) v (arrival now (tuple_of ip s) word s)
+abbrev pub by_verdict : Rules → Verdict → View → Arrival → Outcome
+by_verdict r verdicts.Drop v a = stopped v
+by_verdict r verdicts.Reset v a = rst_sent v a.segment
+by_verdict r verdicts.Challenge v a = challenged v a.now a.segment
+by_verdict r verdicts.Pass v a = tested_by r (has_window v.state) v a
+
+unfoldable pub processed_by : Rules → View → Instant → ℕ → IpRepr → Segment → Outcome
+processed_by r v now word ip s =
+    by_verdict r (verdict_of v s.control s.ack_number) v (arrival now (tuple_of ip s) word s)
+
+-- by the socket's own rules
+abbrev pub processed : View → Instant → ℕ → IpRepr → Segment → Outcome
+processed v now word ip s = processed_by v.rules v now word ip s
 
 -- ---- the source of timestamps
 

@@ -228,7 +228,7 @@ impl<'a> ControlBlock<'a> {
     }
 
     #[inline(never)]
-    #[tactic(auto, unfolding(crate::specs::Process::processed))]
+    #[tactic(auto, unfolding(crate::specs::Process::processed_by))]
     pub(crate) fn process<C: Context>(
         &mut self,
         cx: &mut C,

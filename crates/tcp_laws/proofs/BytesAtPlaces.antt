@@ -205,9 +205,9 @@ step_keeps_places v w k j c (Recv r h is) b = calm_keeps v w k j (Recv r h is) r
 step_keeps_places v w k j c (Close h is) b = calm_keeps v w k j (Close h is) refl (calm_rx v w k j (same_joined k j is) (ap (λ (x : View). x.rx_buffer) h))
 step_keeps_places v w k j c (Abort h is) b = calm_keeps v w k j (Abort h is) refl (calm_rx v w k j (same_joined k j is) (ap (λ (x : View). x.rx_buffer) h))
 step_keeps_places v w k j c (Set h is) b = calm_keeps v w k j (Set h is) refl (calm_rx v w k j (same_joined k j is) (setting_leaves (λ u. u.rx_buffer ≡ v.rx_buffer) v w (λ x. refl) (λ x. refl) (λ timeout delay nagle hops paused is_there rules. refl) h))
-step_keeps_places v w k j c (Process now word ip s small numbered short bare h is) b =
-    let m : MayTake v s w = subst (MayTake v s) (sym h) (only_appends v now word ip s c.room numbered.seq_number short) in
-    segment_keeps v w k j (Process now word ip s small numbered short bare h is) s m (no_start (listens_again v.state w.state) w (with_segment k v w) j b is) (λ o bs x. x)
+step_keeps_places v w k j c (Process r now word ip s small numbered short bare h is) b =
+    let m : MayTake v s w = subst (MayTake v s) (sym h) (only_appends r v now word ip s c.room numbered.seq_number short) in
+    segment_keeps v w k j (Process r now word ip s small numbered short bare h is) s m (no_start (listens_again v.state w.state) w (with_segment k v w) j b is) (λ o bs x. x)
 step_keeps_places v w k j c (Dispatch f out h is) b = calm_keeps v w k j (Dispatch f out h is) refl (calm_rx v w k j (same_joined k j (no_start (is_reset v f) w k j b is)) (dispatch_rx v w f out b h))
 
 pub places_stay : (rx tx : Ring ℕ) (v w : View) (k j : Counts) → length rx.queue + length rx.spare ≤ 2 ^ 30 → Run (fresh (receiving rx) (queue_of tx)) (starting (fresh (receiving rx) (queue_of tx))) v k → (s : Step v k w j) → begins v k w j s ≡ false → KeepsPlaces v k w j s

@@ -18,7 +18,7 @@ use Rattle.tcp_laws.specs.Laws.{IsPeered}
 use Rattle.sock_tcp.specs.Replies.{ack_kept, ack_segment}
 use Rattle.sock_tcp.specs.Timers.{after, challenge_interval}
 use Rattle.sock_tcp.specs.Steps.{window_taken, released, is_duplicate, ack_heard, duplicate_counted, ack_counted, una_advanced, acknowledged, timestamp_taken, timer_set, counted, heard, joined, ack_delayed}
-use Rattle.sock_tcp.specs.Process.{stopped, ack_sent, challenged, close_restarted, outside_by, outside, gap_answered, bytes_taken, tuple_of, after_advance, after_table, processed_inside, has_window, cut_inside, tested, by_verdict, processed}
+use Rattle.sock_tcp.specs.Process.{stopped, ack_sent, challenged, close_restarted, outside_by, outside, gap_answered, bytes_taken, tuple_of, after_advance, after_table, processed_inside, has_window, cut_inside, tested_by, by_verdict, processed_by}
 use Rattle.sock_tcp.specs.declared.acked.Acked.{Acked}
 use Rattle.sock_tcp.specs.declared.advance.Next.{Next}
 use Rattle.sock_tcp.specs.declared.advance.Next.TheVariants as next
@@ -293,31 +293,31 @@ module _ (v : View) (now : Instant) (word : ℕ) (ip : IpRepr) (s : Segment) whe
     goes_on = λ e. let h = none_brought control.None in let k = outside_keeps s now (heard_alone v (arrival now (tuple_of ip s) word s)).view in record { listen = k.listen ∙ h.0; rx = inl (k.rx ∙ h.1) };
   })
 
-  tested_brings : (b : Bool) → Brings (tested b v (arrival now (tuple_of ip s) word s)).view
-  tested_brings false = inside_brings v s.control 0 [] refl refl Brings (λ w l r. record { listen = l; rx = inl (alone w r) })
+  tested_brings : (r : Rules) (b : Bool) → Brings (tested_by r b v (arrival now (tuple_of ip s) word s)).view
+  tested_brings r false = inside_brings v s.control 0 [] refl refl Brings (λ w l r. record { listen = l; rx = inl (alone w r) })
     where
       alone : (w : View) → (w.rx_buffer ≡ v.rx_buffer) ⊎ (w.rx_buffer ≡ brought v.rx_buffer 0 []) → w.rx_buffer ≡ v.rx_buffer
       alone w (inl e) = e
       alone w (inr e) = e
-  tested_brings true = go (is_inside (receive_window v) s.seq_number (length s.payload)) refl
+  tested_brings r true = go (is_inside (receive_window v) s.seq_number (length s.payload)) refl
     where
-      go : (b : Bool) → is_inside (receive_window v) s.seq_number (length s.payload) ≡ b → Brings (if b then cut_inside (receive_window v) (cut_of (receive_window v) s.seq_number (length s.payload)) v (arrival now (tuple_of ip s) word s) else refused v.rules v (arrival now (tuple_of ip s) word s)).view
-      go false e = refused_brings v.rules
+      go : (b : Bool) → is_inside (receive_window v) s.seq_number (length s.payload) ≡ b → Brings (if b then cut_inside (receive_window v) (cut_of (receive_window v) s.seq_number (length s.payload)) v (arrival now (tuple_of ip s) word s) else refused r v (arrival now (tuple_of ip s) word s)).view
+      go false e = refused_brings r
       go true e = inside_brings numbered (counted_control s.control (receive_window v) s.seq_number (length s.payload)) offset_in bytes_in refl refl Brings (λ w l r. record { listen = l; rx = there w r })
         where
           there : (w : View) → (w.rx_buffer ≡ v.rx_buffer) ⊎ (w.rx_buffer ≡ brought v.rx_buffer offset_in bytes_in) → (w.rx_buffer ≡ v.rx_buffer) ⊎ ((is_inside (receive_window v) s.seq_number (length s.payload) ≡ true) × (w.rx_buffer ≡ brought v.rx_buffer offset_in bytes_in))
           there w (inl h) = inl h
           there w (inr h) = inr (e, h)
 
-  by_verdict_brings : (x : Verdict) → Brings (by_verdict x v (arrival now (tuple_of ip s) word s)).view
-  by_verdict_brings verdicts.Drop = kept v (same v)
-  by_verdict_brings verdicts.Reset = kept v (same v)
-  by_verdict_brings verdicts.Challenge = kept _ (challenged_keeps s now v)
-  by_verdict_brings verdicts.Pass = tested_brings (has_window v.state)
+  by_verdict_brings : (r : Rules) (x : Verdict) → Brings (by_verdict r x v (arrival now (tuple_of ip s) word s)).view
+  by_verdict_brings r verdicts.Drop = kept v (same v)
+  by_verdict_brings r verdicts.Reset = kept v (same v)
+  by_verdict_brings r verdicts.Challenge = kept _ (challenged_keeps s now v)
+  by_verdict_brings r verdicts.Pass = tested_brings r (has_window v.state)
 
-  pub process_brings : Brings (processed v now word ip s).view
-  unfolding processed
-  process_brings = by_verdict_brings (verdict_of v s.control s.ack_number)
+  pub process_brings : (r : Rules) → Brings (processed_by r v now word ip s).view
+  unfolding processed_by
+  process_brings r = by_verdict_brings r (verdict_of v s.control s.ack_number)
 
   -- ---- the peer
 
@@ -350,23 +350,23 @@ module _ (v : View) (now : Instant) (word : ℕ) (ip : IpRepr) (s : Segment) whe
       alone : Peered (heard_alone v (arrival now (tuple_of ip s) word s)).view
       alone = inside_peers v control.None 0 [] p
 
-  tested_peers : (b : Bool) → Peered v → Peered (tested b v (arrival now (tuple_of ip s) word s)).view
-  tested_peers false p = inside_peers v s.control 0 [] p
-  tested_peers true p = go (is_inside (receive_window v) s.seq_number (length s.payload))
+  tested_peers : (r : Rules) (b : Bool) → Peered v → Peered (tested_by r b v (arrival now (tuple_of ip s) word s)).view
+  tested_peers r false p = inside_peers v s.control 0 [] p
+  tested_peers r true p = go (is_inside (receive_window v) s.seq_number (length s.payload))
     where
-      go : (b : Bool) → Peered (if b then cut_inside (receive_window v) (cut_of (receive_window v) s.seq_number (length s.payload)) v (arrival now (tuple_of ip s) word s) else refused v.rules v (arrival now (tuple_of ip s) word s)).view
-      go false = refused_peers v.rules p
+      go : (b : Bool) → Peered (if b then cut_inside (receive_window v) (cut_of (receive_window v) s.seq_number (length s.payload)) v (arrival now (tuple_of ip s) word s) else refused r v (arrival now (tuple_of ip s) word s)).view
+      go false = refused_peers r p
       go true = inside_peers numbered (counted_control s.control (receive_window v) s.seq_number (length s.payload)) offset_in bytes_in p
 
-  by_verdict_peers : (x : Verdict) → Peered v → Peered (by_verdict x v (arrival now (tuple_of ip s) word s)).view
-  by_verdict_peers verdicts.Drop p = p
-  by_verdict_peers verdicts.Reset p = p
-  by_verdict_peers verdicts.Challenge p = kept_peered _ (challenged_keeps s now v) p
-  by_verdict_peers verdicts.Pass p = tested_peers (has_window v.state) p
+  by_verdict_peers : (r : Rules) (x : Verdict) → Peered v → Peered (by_verdict r x v (arrival now (tuple_of ip s) word s)).view
+  by_verdict_peers r verdicts.Drop p = p
+  by_verdict_peers r verdicts.Reset p = p
+  by_verdict_peers r verdicts.Challenge p = kept_peered _ (challenged_keeps s now v) p
+  by_verdict_peers r verdicts.Pass p = tested_peers r (has_window v.state) p
 
-  pub process_peers : Peered v → Peered (processed v now word ip s).view
-  unfolding processed
-  process_peers p = by_verdict_peers (verdict_of v s.control s.ack_number) p
+  pub process_peers : (r : Rules) → Peered v → Peered (processed_by r v now word ip s).view
+  unfolding processed_by
+  process_peers r p = by_verdict_peers r (verdict_of v s.control s.ack_number) p
 
   -- ---- the reply
 
@@ -383,20 +383,20 @@ module _ (v : View) (now : Instant) (word : ℕ) (ip : IpRepr) (s : Segment) whe
     goes_on = λ e. outside_back s now (heard_alone v (arrival now (tuple_of ip s) word s)).view;
   })
 
-  tested_back : (b : Bool) → GoesBack s (tested b v (arrival now (tuple_of ip s) word s)).reply
-  tested_back false = inside_back v s.control 0 []
-  tested_back true = go (is_inside (receive_window v) s.seq_number (length s.payload))
+  tested_back : (r : Rules) (b : Bool) → GoesBack s (tested_by r b v (arrival now (tuple_of ip s) word s)).reply
+  tested_back r false = inside_back v s.control 0 []
+  tested_back r true = go (is_inside (receive_window v) s.seq_number (length s.payload))
     where
-      go : (b : Bool) → GoesBack s (if b then cut_inside (receive_window v) (cut_of (receive_window v) s.seq_number (length s.payload)) v (arrival now (tuple_of ip s) word s) else refused v.rules v (arrival now (tuple_of ip s) word s)).reply
-      go false = refused_back v.rules
+      go : (b : Bool) → GoesBack s (if b then cut_inside (receive_window v) (cut_of (receive_window v) s.seq_number (length s.payload)) v (arrival now (tuple_of ip s) word s) else refused r v (arrival now (tuple_of ip s) word s)).reply
+      go false = refused_back r
       go true = inside_back numbered (counted_control s.control (receive_window v) s.seq_number (length s.payload)) offset_in bytes_in
 
-  by_verdict_back : (x : Verdict) → GoesBack s (by_verdict x v (arrival now (tuple_of ip s) word s)).reply
-  by_verdict_back verdicts.Drop = tt
-  by_verdict_back verdicts.Reset = (refl, refl)
-  by_verdict_back verdicts.Challenge = challenged_back s now v
-  by_verdict_back verdicts.Pass = tested_back (has_window v.state)
+  by_verdict_back : (r : Rules) (x : Verdict) → GoesBack s (by_verdict r x v (arrival now (tuple_of ip s) word s)).reply
+  by_verdict_back r verdicts.Drop = tt
+  by_verdict_back r verdicts.Reset = (refl, refl)
+  by_verdict_back r verdicts.Challenge = challenged_back s now v
+  by_verdict_back r verdicts.Pass = tested_back r (has_window v.state)
 
-  pub process_back : GoesBack s (processed v now word ip s).reply
-  unfolding processed
-  process_back = by_verdict_back (verdict_of v s.control s.ack_number)
+  pub process_back : (r : Rules) → GoesBack s (processed_by r v now word ip s).reply
+  unfolding processed_by
+  process_back r = by_verdict_back r (verdict_of v s.control s.ack_number)

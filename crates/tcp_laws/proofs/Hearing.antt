@@ -17,7 +17,7 @@ use Rattle.sock_tcp.specs.Arrival.{Arrival, arrival}
 use Rattle.sock_tcp.specs.Acked.{acked_at, acked_of, is_fin_acked}
 use Rattle.sock_tcp.specs.Advance.{advance_in, advanced, counted_control, moved_to, waiting}
 use Rattle.sock_tcp.specs.Due.{flight}
-use Rattle.sock_tcp.specs.Process.{Outcome, challenged, close_restarted, outside, bytes_taken, tuple_of, after_table, processed_inside, has_window, tested, by_verdict, processed}
+use Rattle.sock_tcp.specs.Process.{Outcome, challenged, close_restarted, outside, bytes_taken, tuple_of, after_table, processed_inside, has_window, tested_by, by_verdict, processed, processed_by}
 use Rattle.sock_tcp.specs.Replies.{ack_kept}
 use Rattle.sock_tcp.specs.Steps.{scale_of, window_of, window_taken, released, is_duplicate, is_last_ack, is_window_changed, duplicate_counted, ack_counted, una_advanced, acknowledged, timestamp_taken, timer_set, heard, joined, ack_delayed}
 use Rattle.sock_tcp.specs.Verdict.{verdict_of}
@@ -133,9 +133,9 @@ module _ (v : View) (now : Instant) (word : ℕ) (ip : IpRepr) (s : Segment) whe
   inside_as st b = after_table (advance_in st b a.fin u (arrival now (tuple_of ip s) word s) a.len) (arrival now (tuple_of ip s) word s) a cut.offset (cut_bytes cut s.payload)
 
   -- behind the tests of the verdict and of the window
-  in_window : verdict_of v s.control s.ack_number ≡ verdicts.Pass → has_window v.state ≡ true → is_inside (receive_window v) s.seq_number (length s.payload) ≡ true → processed v now word ip s ≡ inside_as v.state c
-  unfolding processed processed_inside advanced
-  in_window p has i = rw (p, has, i) refl
+  in_window : (r : Rules) → verdict_of v s.control s.ack_number ≡ verdicts.Pass → has_window v.state ≡ true → is_inside (receive_window v) s.seq_number (length s.payload) ≡ true → processed_by r v now word ip s ≡ inside_as v.state c
+  unfolding processed_by processed_inside advanced
+  in_window r p has i = rw (p, has, i) refl
 
   -- ---- LAST-ACK
 
@@ -159,16 +159,16 @@ module _ (v : View) (now : Instant) (word : ℕ) (ip : IpRepr) (s : Segment) whe
       alone : HeardNothing v (heard_alone v come).view × ((heard_alone v come).view.state ≡ state.LastAck)
       alone = table_unheard is h (Unheard now s v is) control.None (challenged_kept (Unheard now s v is) now s (answers_in_last_ack now s v is) v (unheard v, is))
 
-  last_ack_by : v.state ≡ state.LastAck → AcksNothing v s → (b : Bool) → HeardNothing v (if b then processed_inside u (arrival now (tuple_of ip s) word s) c cut.offset (cut_bytes cut s.payload) else refused v.rules v (arrival now (tuple_of ip s) word s)).view
+  last_ack_by : (r : Rules) → v.state ≡ state.LastAck → AcksNothing v s → (b : Bool) → HeardNothing v (if b then processed_inside u (arrival now (tuple_of ip s) word s) c cut.offset (cut_bytes cut s.payload) else refused r v (arrival now (tuple_of ip s) word s)).view
   unfolding processed_inside advanced
-  last_ack_by is h true = subst (λ st. HeardNothing v (after_table (advance_in st c a.fin u (arrival now (tuple_of ip s) word s) a.len) (arrival now (tuple_of ip s) word s) a cut.offset (cut_bytes cut s.payload)).view) (sym is) (subst (λ z. HeardNothing v (after_table (advance_in state.LastAck c z u (arrival now (tuple_of ip s) word s) a.len) (arrival now (tuple_of ip s) word s) a cut.offset (cut_bytes cut s.payload)).view) (sym h.fin) (subst (λ n. HeardNothing v (after_table (advance_in state.LastAck c false u (arrival now (tuple_of ip s) word s) n) (arrival now (tuple_of ip s) word s) a cut.offset (cut_bytes cut s.payload)).view) (sym h.bytes) (row_unheard now s v is u c (tuple_of ip s) word a cut.offset (cut_bytes cut s.payload) (record { last = refl; timeout = refl; window = refl; timer = refl; queue = refl; una = refl; nxt = refl }))))
-  last_ack_by is h false = refused_unheard is h v.rules
+  last_ack_by r is h true = subst (λ st. HeardNothing v (after_table (advance_in st c a.fin u (arrival now (tuple_of ip s) word s) a.len) (arrival now (tuple_of ip s) word s) a cut.offset (cut_bytes cut s.payload)).view) (sym is) (subst (λ z. HeardNothing v (after_table (advance_in state.LastAck c z u (arrival now (tuple_of ip s) word s) a.len) (arrival now (tuple_of ip s) word s) a cut.offset (cut_bytes cut s.payload)).view) (sym h.fin) (subst (λ n. HeardNothing v (after_table (advance_in state.LastAck c false u (arrival now (tuple_of ip s) word s) n) (arrival now (tuple_of ip s) word s) a cut.offset (cut_bytes cut s.payload)).view) (sym h.bytes) (row_unheard now s v is u c (tuple_of ip s) word a cut.offset (cut_bytes cut s.payload) (record { last = refl; timeout = refl; window = refl; timer = refl; queue = refl; una = refl; nxt = refl }))))
+  last_ack_by r is h false = refused_unheard is h r
 
-  last_ack : v.state ≡ state.LastAck → AcksNothing v s → (x : Verdict) → HeardNothing v (by_verdict x v (arrival now (tuple_of ip s) word s)).view
-  last_ack is h verdicts.Drop = unheard v
-  last_ack is h verdicts.Reset = unheard v
-  last_ack is h verdicts.Challenge = challenged_unheard now s v
-  last_ack is h verdicts.Pass = subst (λ st. HeardNothing v (tested (has_window st) v (arrival now (tuple_of ip s) word s)).view) (sym is) (last_ack_by is h (is_inside (receive_window v) s.seq_number (length s.payload)))
+  last_ack : (r : Rules) → v.state ≡ state.LastAck → AcksNothing v s → (x : Verdict) → HeardNothing v (by_verdict r x v (arrival now (tuple_of ip s) word s)).view
+  last_ack r is h verdicts.Drop = unheard v
+  last_ack r is h verdicts.Reset = unheard v
+  last_ack r is h verdicts.Challenge = challenged_unheard now s v
+  last_ack r is h verdicts.Pass = subst (λ st. HeardNothing v (tested_by r (has_window st) v (arrival now (tuple_of ip s) word s)).view) (sym is) (last_ack_by r is h (is_inside (receive_window v) s.seq_number (length s.payload)))
 
   -- ---- the states that hear a window
 
@@ -195,7 +195,7 @@ module _ (v : View) (now : Instant) (word : ℕ) (ip : IpRepr) (s : Segment) whe
   row_tells _ fin h = absurd cc
 
   tells : TellsWindow v s → Tells (processed v now word ip s)
-  tells h = rw (in_window h.passes (has v.state h.hears) h.inside, h.no_bit) (row_tells v.state a.fin h.hears)
+  tells h = rw (in_window v.rules h.passes (has v.state h.hears) h.inside, h.no_bit) (row_tells v.state a.fin h.hears)
 
   abbrev Fast : Outcome → Type 0
   Fast x = x.view.timer ≡ timer.FastRetransmit
@@ -219,14 +219,14 @@ not_listening _ h e = absurd cc
 -- ---- the laws
 
 pub last_ack_hears_nothing : LastAckHearsNothing
-unfolding processed
-last_ack_hears_nothing v now word ip s is h = last_ack v now word ip s is h (verdict_of v s.control s.ack_number)
+unfolding processed_by
+last_ack_hears_nothing v now word ip s is h = last_ack v now word ip s v.rules is h (verdict_of v s.control s.ack_number)
 
 pub window_wakes : WindowWakes
 window_wakes v now word ip s t f r small numbered h z send =
     let w : View = (processed v now word ip s).view in
     let e : w.remote_win_len ≡ window_of s.control s.window_len v.remote_win_scale = tells v now word ip s h in
-    let o : IsOrdered w = process_ordered now word ip s small numbered.ack_number v (reached_ordered v r) (λ is. absurd (not_listening v.state h.hears is)) in
+    let o : IsOrdered w = process_ordered now word ip s small numbered.ack_number v.rules v (reached_ordered v r) (λ is. absurd (not_listening v.state h.hears is)) in
     window_sends w t f o (subst (λ n. 0 < n) (sym e) (some_window s.control s.window_len v.remote_win_scale h.window)) z send
 
 -- ---- the third duplicate
@@ -296,4 +296,4 @@ third_duplicate_wakes v now word ip s k r numbered h d =
     let n = not_all v.remote_last_seq k v.local_seq_no o.nxt_small (numbered.ack_number k d.number) o.una_small (omega (arith, i, o.room)) z b in
     let all : (acked_of v s.control s.ack_number).all ≡ false = ap (λ (x : Acked). x.all) e ∙ all_sent v.state s.control k v.local_seq_no v.remote_last_seq (length v.tx_buffer.bytes) n in
     let timer = heard_third now s (u v now word ip s) (a v now word ip s) k d.number all d.nothing.bytes d.two_before d.duplicate (not_zero _ (some_window s.control s.window_len v.remote_win_scale h.window)) in
-    rw (in_window v now word ip s h.passes (has v now word ip s v.state h.hears) h.inside, h.no_bit, d.nothing.fin) (row_fast v now word ip s v.state h.hears timer)
+    rw (in_window v now word ip s v.rules h.passes (has v now word ip s v.state h.hears) h.inside, h.no_bit, d.nothing.fin) (row_fast v now word ip s v.state h.hears timer)

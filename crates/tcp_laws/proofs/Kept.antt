@@ -26,7 +26,7 @@ use Rattle.sock_tcp.specs.Content.{Sending}
 use Rattle.sock_tcp.specs.Due.{is_due}
 use Rattle.sock_tcp.specs.Opening.{Listens, after_connect, connected, endpoints, is_listening, is_open, listened, renewed}
 use Rattle.sock_tcp.specs.Polls.{is_reached, timeout_poll}
-use Rattle.sock_tcp.specs.Process.{stopped, ack_sent, challenged, close_restarted, outside_by, outside, gap_answered, bytes_taken, tuple_of, after_advance, processed_inside, has_window, cut_inside, tested, by_verdict, processed}
+use Rattle.sock_tcp.specs.Process.{stopped, ack_sent, challenged, close_restarted, outside_by, outside, gap_answered, bytes_taken, tuple_of, after_advance, processed_inside, has_window, cut_inside, by_verdict, processed_by}
 use Rattle.sock_tcp.specs.Queue.{queue_of}
 use Rattle.sock_tcp.specs.Queues.{ReadsWithIf, SendsWithIf, fitting, may_recv, may_send, queued, read_off, readable}
 use Rattle.sock_tcp.specs.Replies.{ack_kept}
@@ -57,6 +57,7 @@ use Rattle.tcp_laws.specs.Clocks.{interval_in, interval_set, latest, moment_in}
 use Rattle.tcp_laws.specs.Polling.{IsReached}
 use Rattle.tcp_laws.specs.SocketRun.{Counts, IsNumbered, Run, SendsTo, Sets, Step, any_filling, any_taking}
 use Rattle.tcp_laws.specs.SocketRun.{Listen, Connect, SendSlice, Send, WriteStr, RecvSlice, Recv, Close, Abort, Set, Process, Dispatch, Ends, Then}
+use Rattle.sock_tcp.specs.declared.rules.Rules.{Rules}
 
 -- ---- what a test says
 
@@ -227,7 +228,7 @@ module _ (P : View → Type 0) (Allows : Option Duration → Type 0) (k : KeptBy
 pub record Kept (P : Instant → View → Type 0) (Begins : Instant → Type 0) (Comes : Instant → Instant → Type 0) (Allows : Option Duration → Type 0) : Type 0 where
   pub later : (last now : Instant) (v : View) → Comes last now → P last v → P now v
   pub calls : (last : Instant) → Begins last → KeptByCalls (P last) Allows
-  pub segments : (now : Instant) (word : ℕ) (ip : IpRepr) (s : Segment) (v : View) → word < 2 ^ 32 → IsNumbered s → (v.state ≡ state.Listen → s.ack_number ≡ None) → P now v → P now (processed v now word ip s).view
+  pub segments : (r : Rules) (now : Instant) (word : ℕ) (ip : IpRepr) (s : Segment) (v : View) → word < 2 ^ 32 → IsNumbered s → (v.state ≡ state.Listen → s.ack_number ≡ None) → P now v → P now (processed_by r v now word ip s).view
   pub beginnings : (now : Instant) → KeptByBeginnings (P now) now
   pub resets : (now : Instant) (v : View) → P now v → P now (renewed v)
   pub sendings : (o : Option Tuple) (f : Facts) (u w : View) (out : Option Sending) → SendsTo o f u out w → P (moment_of f) u → P (moment_of f) w
@@ -244,7 +245,7 @@ module _ (P : Instant → View → Type 0) (Begins : Instant → Type 0) (Comes 
   step_kept v w i j last (Close h is) b n m p = subst (P last) (sym h) ((k.calls last b).closes v p)
   step_kept v w i j last (Abort h is) b n m p = subst (P last) (sym h) ((k.calls last b).aborts v p)
   step_kept v w i j last (Set x is) b n m p = (k.calls last b).sets v w x m p
-  step_kept v w i j last (Process now word ip s small numbered short bare h is) b n m p = subst (P now) (sym h) (k.segments now word ip s v small numbered bare (k.later last now v (n now refl) p))
+  step_kept v w i j last (Process r now word ip s small numbered short bare h is) b n m p = subst (P now) (sym h) (k.segments r now word ip s v small numbered bare (k.later last now v (n now refl) p))
   step_kept v w i j last (Dispatch f out h is) b n m p =
       let now = moment_of f in
       k.sendings (peer_of (before_emit v f)) f (before_emit v f).view w out h (before_kept (P now) f (k.beginnings now) (k.resets now) v (k.later last now v (n now refl) p))

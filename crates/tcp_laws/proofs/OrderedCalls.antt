@@ -269,7 +269,7 @@ kept_ordered : Kept (λ at. IsOrdered) (λ at. Unit {0}) (λ last now. Unit {0})
 kept_ordered = record {
   later = λ last now v c h. h;
   calls = λ last b. calls_ordered;
-  segments = λ now word ip s v small numbered bare h. process_ordered now word ip s small numbered.ack_number v h bare;
+  segments = λ r now word ip s v small numbered bare h. process_ordered now word ip s small numbered.ack_number r v h bare;
   beginnings = λ now. begins_ordered now;
   resets = λ now v h. renewed_ordered v h.room;
   sendings = λ o f u w out h i. sends_ordered o f u out w h i;

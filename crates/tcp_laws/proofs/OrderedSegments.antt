@@ -15,7 +15,7 @@ use Rattle.sock_core.specs.Seq.{is_before, later_of}
 use Rattle.sock_tcp.specs.Arrival.{arrival}
 use Rattle.sock_tcp.specs.Acked.{acked_of, acked_at}
 use Rattle.sock_tcp.specs.Advance.{Advance, advance_in, advanced, continues, counted_control, dropped, fallen_back, fin_counted, moved_to, opened_state, options_taken, syn_answered, syn_received, waiting}
-use Rattle.sock_tcp.specs.Process.{challenged, close_restarted, timer_restarted, outside, bytes_taken, tuple_of, after_table, processed_inside, has_window, cut_inside, tested, by_verdict, processed}
+use Rattle.sock_tcp.specs.Process.{challenged, close_restarted, timer_restarted, outside, bytes_taken, tuple_of, after_table, processed_inside, has_window, cut_inside, tested_by, by_verdict, processed_by}
 use Rattle.sock_tcp.specs.Queue.{Queue, capacity}
 use Rattle.sock_tcp.specs.Replies.{ack_kept}
 use Rattle.sock_tcp.specs.Steps.{window_taken, released, is_duplicate, is_last_ack, is_window_changed, ack_heard, duplicate_counted, ack_counted, una_advanced, acknowledged, timestamp_taken, timer_set, timer_acked, probe_set, heard, joined, ack_delayed}
@@ -427,20 +427,20 @@ module _ (now : Instant) (word : ℕ) (ip : IpRepr) (s : Segment) (small : word 
       alone : is_plain_control s.control ≡ true → IsOrdered (heard_alone v (arrival now (tuple_of ip s) word s)).view
       alone e = inside_ordered v control.None 0 [] h bare (λ i. absurd (plain_is_no_rst s.control e i)) p
 
-  tested_ordered : (v : View) → IsOrdered v → (v.state ≡ state.Listen → s.ack_number ≡ None) → verdict_of v s.control s.ack_number ≡ verdicts.Pass → (b : Bool) → IsOrdered (tested b v (arrival now (tuple_of ip s) word s)).view
-  tested_ordered v h bare p false = inside_ordered v s.control 0 [] h bare (λ e. e) p
-  tested_ordered v h bare p true = go (is_inside (receive_window v) s.seq_number (length s.payload))
+  tested_ordered : (r : Rules) (v : View) → IsOrdered v → (v.state ≡ state.Listen → s.ack_number ≡ None) → verdict_of v s.control s.ack_number ≡ verdicts.Pass → (b : Bool) → IsOrdered (tested_by r b v (arrival now (tuple_of ip s) word s)).view
+  tested_ordered r v h bare p false = inside_ordered v s.control 0 [] h bare (λ e. e) p
+  tested_ordered r v h bare p true = go (is_inside (receive_window v) s.seq_number (length s.payload))
     where
-      go : (b : Bool) → IsOrdered (if b then cut_inside (receive_window v) (cut_of (receive_window v) s.seq_number (length s.payload)) v (arrival now (tuple_of ip s) word s) else refused v.rules v (arrival now (tuple_of ip s) word s)).view
-      go false = refused_ordered v.rules v h bare p
+      go : (b : Bool) → IsOrdered (if b then cut_inside (receive_window v) (cut_of (receive_window v) s.seq_number (length s.payload)) v (arrival now (tuple_of ip s) word s) else refused r v (arrival now (tuple_of ip s) word s)).view
+      go false = refused_ordered r v h bare p
       go true = inside_ordered (record v { local_rx_last_seq = Some s.seq_number }) (counted_control s.control (receive_window v) s.seq_number (length s.payload)) _ _ h bare (λ e. rst_counts _ e (receive_window v) s.seq_number (length s.payload)) p
 
-  pub process_ordered : (v : View) → IsOrdered v → (v.state ≡ state.Listen → s.ack_number ≡ None) → IsOrdered (processed v now word ip s).view
-  unfolding processed
-  process_ordered v h bare = by (verdict_of v s.control s.ack_number) refl
+  pub process_ordered : (r : Rules) (v : View) → IsOrdered v → (v.state ≡ state.Listen → s.ack_number ≡ None) → IsOrdered (processed_by r v now word ip s).view
+  unfolding processed_by
+  process_ordered r v h bare = by (verdict_of v s.control s.ack_number) refl
     where
-      by : (x : Verdict) → verdict_of v s.control s.ack_number ≡ x → IsOrdered (by_verdict x v (arrival now (tuple_of ip s) word s)).view
+      by : (x : Verdict) → verdict_of v s.control s.ack_number ≡ x → IsOrdered (by_verdict r x v (arrival now (tuple_of ip s) word s)).view
       by verdicts.Drop e = h
       by verdicts.Reset e = h
       by verdicts.Challenge e = challenged_ordered s now v h
-      by verdicts.Pass e = tested_ordered v h bare e (has_window v.state)
+      by verdicts.Pass e = tested_ordered r v h bare e (has_window v.state)

@@ -219,7 +219,7 @@ kept_probing : Kept (λ at. IsProbing) (λ at. Unit {0}) (λ last now. Unit {0})
 kept_probing = record {
   later = λ last now v c h. h;
   calls = λ last b. calls_probing;
-  segments = λ now word ip s v small numbered bare h. process_kept IsProbing now word ip s (segments_probing s now word) v h;
+  segments = λ r now word ip s v small numbered bare h. process_kept IsProbing now word ip s (segments_probing s now word) r v h;
   beginnings = λ now. begins_probing now;
   resets = λ now v h. new_probing v;
   sendings = λ o f u w out h i. sends_kept IsProbing f (sends_probing (moment_of f)) o u w out h i;

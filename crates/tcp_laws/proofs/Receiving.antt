@@ -7,11 +7,12 @@ use Rattle.control_wire.specs.Segment.{Segment}
 use Rattle.sock_core.proofs.Receiving.{takes_in_all}
 use Rattle.sock_core.specs.Received.{Received, taken_in, makes_fifth_range, room_of, TakesIn}
 use Rattle.tcp_laws.specs.Laws.{MayTake}
-use Rattle.sock_tcp.specs.Process.{processed}
+use Rattle.sock_tcp.specs.Process.{processed_by}
 use Rattle.sock_tcp.specs.View.{View}
 use Rattle.sock_tcp.specs.Window.{receive_window, is_inside}
 use Rattle.tcp_laws.proofs.Frames.{Brings, brought, bytes_in, offset_in, process_brings, stays_as_it_is}
 use Rattle.sock_tcp.proofs.Windows.{cut_fits}
+use Rattle.sock_tcp.specs.declared.rules.Rules.{Rules}
 
 -- bytes that come are taken in, or nothing changes
 taken_or_same : (b : Received) (o : ℕ) (bs : List ℕ) → o + length bs ≤ length b.held → (brought b o bs ≡ b) ⊎ TakesIn b (brought b o bs) o bs
@@ -25,8 +26,8 @@ taken_or_same b o bs fits = go (length bs == 0)
     go true = inl refl
     go false = some (makes_fifth_range b o bs) refl
 
-pub only_appends : (v : View) (now : Instant) (word : ℕ) (ip : IpRepr) (s : Segment) → room_of v.rx_buffer ≤ 2 ^ 30 → s.seq_number.0 < 2 ^ 32 → length s.payload ≤ 65535 → MayTake v s (processed v now word ip s).view
-only_appends v now word ip s room small short = go (processed v now word ip s).view (process_brings v now word ip s)
+pub only_appends : (r : Rules) (v : View) (now : Instant) (word : ℕ) (ip : IpRepr) (s : Segment) → room_of v.rx_buffer ≤ 2 ^ 30 → s.seq_number.0 < 2 ^ 32 → length s.payload ≤ 65535 → MayTake v s (processed_by r v now word ip s).view
+only_appends r v now word ip s room small short = go (processed_by r v now word ip s).view (process_brings v now word ip s r)
   where
     go : (w : View) → Brings v now word ip s w → MayTake v s w
     go w k = by k.rx

@@ -16,7 +16,7 @@ use Rattle.sock_tcp.specs.Acked.{acked_of}
 use Rattle.sock_tcp.specs.Advance.{advance_in, advanced, counted_control, fallen_back, fin_counted, options_taken, syn_answered, syn_received}
 use Rattle.sock_tcp.specs.Replies.{ack_kept}
 use Rattle.sock_tcp.specs.Steps.{window_taken, released, is_duplicate, is_window_changed, ack_heard, duplicate_counted, ack_counted, una_advanced, acknowledged, timestamp_taken, timer_set, heard, joined, ack_delayed}
-use Rattle.sock_tcp.specs.Process.{challenged, close_restarted, outside, bytes_taken, tuple_of, after_advance, after_table, processed_inside, has_window, cut_inside, tested, by_verdict, processed}
+use Rattle.sock_tcp.specs.Process.{challenged, close_restarted, outside, bytes_taken, tuple_of, after_advance, after_table, processed_inside, has_window, cut_inside, tested_by, by_verdict, processed_by}
 use Rattle.sock_tcp.specs.declared.acked.Acked.{Acked}
 use Rattle.sock_tcp.specs.declared.advance.Next.{Next}
 use Rattle.sock_tcp.specs.declared.advance.Next.TheVariants as next
@@ -130,20 +130,20 @@ module _ (v : View) (now : Instant) (word : ℕ) (ip : IpRepr) (s : Segment) whe
       goes_on = λ e. let w = (heard_alone v (arrival now (tuple_of ip s) word s)).view in then_same v w (outside w now s).view (inside_releases v control.None 0 []) (outside_same s now w);
     })
 
-    tested_releases : (b : Bool) → Releases v (tested b v (arrival now (tuple_of ip s) word s)).view
-    tested_releases false = inside_releases v s.control 0 []
-    tested_releases true = go (is_inside (receive_window v) s.seq_number (length s.payload))
+    tested_releases : (r : Rules) (b : Bool) → Releases v (tested_by r b v (arrival now (tuple_of ip s) word s)).view
+    tested_releases r false = inside_releases v s.control 0 []
+    tested_releases r true = go (is_inside (receive_window v) s.seq_number (length s.payload))
       where
-        go : (b : Bool) → Releases v (if b then cut_inside (receive_window v) (cut_of (receive_window v) s.seq_number (length s.payload)) v (arrival now (tuple_of ip s) word s) else refused v.rules v (arrival now (tuple_of ip s) word s)).view
-        go false = refused_releases v.rules
+        go : (b : Bool) → Releases v (if b then cut_inside (receive_window v) (cut_of (receive_window v) s.seq_number (length s.payload)) v (arrival now (tuple_of ip s) word s) else refused r v (arrival now (tuple_of ip s) word s)).view
+        go false = refused_releases r
         go true = let r = inside_releases (record v { local_rx_last_seq = Some s.seq_number }) (counted_control s.control (receive_window v) s.seq_number (length s.payload)) (cut_of (receive_window v) s.seq_number (length s.payload)).offset (cut_bytes (cut_of (receive_window v) s.seq_number (length s.payload)) s.payload) in record { count = r.count; tx = r.tx; una = r.una }
 
-    by_verdict_releases : (x : Verdict) → Releases v (by_verdict x v (arrival now (tuple_of ip s) word s)).view
-    by_verdict_releases verdicts.Drop = none_leave v v (same v)
-    by_verdict_releases verdicts.Reset = none_leave v v (same v)
-    by_verdict_releases verdicts.Challenge = none_leave v (challenged v now s).view (challenged_kept (Same v) now s (answers_same s now v) v (same v))
-    by_verdict_releases verdicts.Pass = tested_releases (has_window v.state)
+    by_verdict_releases : (r : Rules) (x : Verdict) → Releases v (by_verdict r x v (arrival now (tuple_of ip s) word s)).view
+    by_verdict_releases r verdicts.Drop = none_leave v v (same v)
+    by_verdict_releases r verdicts.Reset = none_leave v v (same v)
+    by_verdict_releases r verdicts.Challenge = none_leave v (challenged v now s).view (challenged_kept (Same v) now s (answers_same s now v) v (same v))
+    by_verdict_releases r verdicts.Pass = tested_releases r (has_window v.state)
 
-    pub process_releases : Releases v (processed v now word ip s).view
-    unfolding processed
-    process_releases = by_verdict_releases (verdict_of v s.control s.ack_number)
+    pub process_releases : (r : Rules) → Releases v (processed_by r v now word ip s).view
+    unfolding processed_by
+    process_releases r = by_verdict_releases r (verdict_of v s.control s.ack_number)

@@ -149,7 +149,7 @@ kept_scaled : Kept (λ at. IsScaled) (λ at. Unit {0}) (λ last now. Unit {0}) (
 kept_scaled = record {
   later = λ last now v c h. h;
   calls = λ last b. calls_scaled;
-  segments = λ now word ip s v small numbered bare h. process_kept IsScaled now word ip s (segments_scaled s now word) v h;
+  segments = λ r now word ip s v small numbered bare h. process_kept IsScaled now word ip s (segments_scaled s now word) r v h;
   beginnings = λ now. begins_scaled now;
   resets = λ now v h. new_scaled v;
   sendings = λ o f u w out h i. sends_kept IsScaled f (sends_scaled (moment_of f)) o u w out h i;

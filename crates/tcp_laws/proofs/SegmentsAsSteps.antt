@@ -14,7 +14,7 @@ use Rattle.sock_tcp.specs.Acked.{acked_of}
 use Rattle.sock_tcp.specs.Advance.{Advance, advance_in, advanced, counted_control}
 use Rattle.sock_tcp.specs.Draw.{draws, Draws}
 use Rattle.sock_tcp.specs.Opening.{endpoints, connect_answer, after_connect, Connects}
-use Rattle.sock_tcp.specs.Process.{Outcome, AcceptsIn, Accepts, after_advance, after_table, by_verdict, cut_inside, has_window, outside, processed, processed_inside, tested, tuple_of}
+use Rattle.sock_tcp.specs.Process.{Outcome, AcceptsIn, Accepts, after_advance, after_table, by_verdict, cut_inside, has_window, outside, processed, processed_by, processed_inside, tested_by, tuple_of}
 use Rattle.tcp_laws.specs.SocketRun.{Counts, Step, Process, Connect, IsNumbered, after_segment, starting_if}
 use Rattle.sock_tcp.specs.Verdict.{verdict_of}
 use Rattle.sock_tcp.specs.View.{View}
@@ -78,23 +78,23 @@ module _ (now : Instant) (m n : ℕ) (ip : IpRepr) (s : Segment) where
       answered_alike (Some x) o = refl
       answered_alike None o = refl
 
-  tested_alike : (v : View) (b : Bool) → has_window v.state ≡ b → draws verdicts.Pass v.state s.control ≡ false → tested b v (arrival now (tuple_of ip s) m s) ≡ tested b v (arrival now (tuple_of ip s) n s)
-  tested_alike v false w e = inside_alike v s.control 0 [] e
-  tested_alike v true w e = go (is_inside (receive_window v) s.seq_number (length s.payload))
+  tested_alike : (r : Rules) (v : View) (b : Bool) → has_window v.state ≡ b → draws verdicts.Pass v.state s.control ≡ false → tested_by r b v (arrival now (tuple_of ip s) m s) ≡ tested_by r b v (arrival now (tuple_of ip s) n s)
+  tested_alike r v false w e = inside_alike v s.control 0 [] e
+  tested_alike r v true w e = go (is_inside (receive_window v) s.seq_number (length s.payload))
     where
-      go : (b : Bool) → (if b then cut_inside (receive_window v) (cut_of (receive_window v) s.seq_number (length s.payload)) v (arrival now (tuple_of ip s) m s) else refused v.rules v (arrival now (tuple_of ip s) m s)) ≡ (if b then cut_inside (receive_window v) (cut_of (receive_window v) s.seq_number (length s.payload)) v (arrival now (tuple_of ip s) n s) else refused v.rules v (arrival now (tuple_of ip s) n s))
-      go false = refused_alike v.rules v w
+      go : (b : Bool) → (if b then cut_inside (receive_window v) (cut_of (receive_window v) s.seq_number (length s.payload)) v (arrival now (tuple_of ip s) m s) else refused r v (arrival now (tuple_of ip s) m s)) ≡ (if b then cut_inside (receive_window v) (cut_of (receive_window v) s.seq_number (length s.payload)) v (arrival now (tuple_of ip s) n s) else refused r v (arrival now (tuple_of ip s) n s))
+      go false = refused_alike r v w
       go true = inside_alike (record v { local_rx_last_seq = Some s.seq_number }) (counted_control s.control (receive_window v) s.seq_number (length s.payload)) _ _ (windowed_draws v.state _ w)
 
-  verdict_alike : (v : View) (x : Verdict) → draws x v.state s.control ≡ false → by_verdict x v (arrival now (tuple_of ip s) m s) ≡ by_verdict x v (arrival now (tuple_of ip s) n s)
-  verdict_alike v verdicts.Drop e = refl
-  verdict_alike v verdicts.Reset e = refl
-  verdict_alike v verdicts.Challenge e = refl
-  verdict_alike v verdicts.Pass e = tested_alike v (has_window v.state) refl e
+  verdict_alike : (r : Rules) (v : View) (x : Verdict) → draws x v.state s.control ≡ false → by_verdict r x v (arrival now (tuple_of ip s) m s) ≡ by_verdict r x v (arrival now (tuple_of ip s) n s)
+  verdict_alike r v verdicts.Drop e = refl
+  verdict_alike r v verdicts.Reset e = refl
+  verdict_alike r v verdicts.Challenge e = refl
+  verdict_alike r v verdicts.Pass e = tested_alike r v (has_window v.state) refl e
 
-  processed_alike : (v : View) → draws (verdict_of v s.control s.ack_number) v.state s.control ≡ false → processed v now m ip s ≡ processed v now n ip s
-  unfolding processed
-  processed_alike v e = verdict_alike v (verdict_of v s.control s.ack_number) e
+  processed_alike : (r : Rules) (v : View) → draws (verdict_of v s.control s.ack_number) v.state s.control ≡ false → processed_by r v now m ip s ≡ processed_by r v now n ip s
+  unfolding processed_by
+  processed_alike r v e = verdict_alike r v (verdict_of v s.control s.ack_number) e
 
 -- ---- the calls
 
@@ -105,8 +105,8 @@ segment_is_step facts word_at v w cx cx' now ip s k accepted numbered short view
     bare e = (subst (λ st. AcceptsIn st v ip s) e accepted).0.no_ack
 
     go : (b : Bool) → draws (verdict_of v s.control s.ack_number) v.state s.control ≡ b → Draws b facts word_at cx cx' → Step v k w (after_segment k v w)
-    go true e drawn = Process now (word_at cx 0) ip s drawn.fits numbered short bare view refl
-    go false e same = Process now 0 ip s (omega arith) numbered short bare (view ∙ ap (λ (o : Outcome). o.view) (processed_alike now (word_at cx 0) 0 ip s v e)) refl
+    go true e drawn = Process v.rules now (word_at cx 0) ip s drawn.fits numbered short bare view refl
+    go false e same = Process v.rules now 0 ip s (omega arith) numbered short bare (view ∙ ap (λ (o : Outcome). o.view) (processed_alike now (word_at cx 0) 0 ip s v.rules v e)) refl
 
 pub connect_is_step : {C : Type 0} (facts : C → Facts) (word_at : C → ℕ → ℕ) (v w : View) (cx cx' : C) (remote : IpEndpoint) (local : IpListenEndpoint) (r : Result (Unit {0}) ConnectError) (k : Counts) → Connects facts word_at v cx remote local r w cx' → Step v k w (starting_if (is_ok r) w k)
 connect_is_step facts word_at v w cx cx' remote local r k h = go (endpoints v (facts cx) remote local) refl

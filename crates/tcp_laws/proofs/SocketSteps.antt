@@ -21,7 +21,7 @@ use Rattle.sock_tcp.specs.Closing.{keep_alive_set}
 use Rattle.sock_tcp.specs.Content.{Sending}
 use Rattle.tcp_laws.specs.Laws.{MayTake}
 use Rattle.sock_tcp.specs.Opening.{Listens, after_connect, connected, endpoints, is_listening, is_open, listened, renewed}
-use Rattle.sock_tcp.specs.Process.{processed}
+use Rattle.sock_tcp.specs.Process.{processed_by}
 use Rattle.sock_tcp.specs.Queue.{Queue, queue_of}
 use Rattle.sock_tcp.specs.Queues.{Reads, ReadsWithIf, Sends, SendsWithIf, fitting, may_recv, may_send, queued, read_off, readable, recv_refusal}
 use Rattle.tcp_laws.specs.SocketRun.{Counts, Dispatched, IsNumbered, IsPart, Promised, Run, SendsTo, Sets, Step, accepted, any_filling, any_taking, filled_in, handed_slice, is_reset, listens_again, opens_listener, starting, starting_if, taken_out, with_handed, with_segment, with_sent}
@@ -284,10 +284,10 @@ again_or_not : (b : Bool) (w : View) (k : Counts) → Holds w k → Holds w (sta
 again_or_not true w k c = starts w c.una_small c.room c.gapless
 again_or_not false w k c = c
 
-process_kept : (v w : View) (k : Counts) (now : Instant) (word : ℕ) (ip : IpRepr) (s : Segment) → Holds v k → word < 2 ^ 32 → IsNumbered s → length s.payload ≤ 65535 → w ≡ (processed v now word ip s).view → Holds w (starting_if (listens_again v.state w.state) w (with_segment k v w))
-process_kept v w k now word ip s c small numbered short e =
-    let r : Releases v w = subst (Releases v) (sym e) (process_releases v now word ip s small numbered.ack_number) in
-    let m : MayTake v s w = subst (MayTake v s) (sym e) (only_appends v now word ip s c.room numbered.seq_number short) in
+process_kept : (x : Rules) (v w : View) (k : Counts) (now : Instant) (word : ℕ) (ip : IpRepr) (s : Segment) → Holds v k → word < 2 ^ 32 → IsNumbered s → length s.payload ≤ 65535 → w ≡ (processed_by x v now word ip s).view → Holds w (starting_if (listens_again v.state w.state) w (with_segment k v w))
+process_kept x v w k now word ip s c small numbered short e =
+    let r : Releases v w = subst (Releases v) (sym e) (process_releases v now word ip s small numbered.ack_number x) in
+    let m : MayTake v s w = subst (MayTake v s) (sym e) (only_appends x v now word ip s c.room numbered.seq_number short) in
     again_or_not (listens_again v.state w.state) w (with_segment k v w) (segment_kept v w k s c r m)
 
 -- ---- dispatch
@@ -325,7 +325,7 @@ step_keeps v w k j (Recv r h is) c = subst (Holds w) (sym is) (closure_read (may
 step_keeps v w k j (Close h is) c = subst (Holds w) (sym is) (subst (λ u. Holds u k) (sym h) c)
 step_keeps v w k j (Abort h is) c = subst (Holds w) (sym is) (subst (λ u. Holds u k) (sym h) c)
 step_keeps v w k j (Set h is) c = subst (Holds w) (sym is) (setting_leaves (λ u. Holds u k) v w (λ x. c) (λ x. c) (λ timeout delay nagle hops paused is_there rules. c) h)
-step_keeps v w k j (Process now word ip s small numbered short bare h is) c = subst (Holds w) (sym is) (process_kept v w k now word ip s c small numbered short h)
+step_keeps v w k j (Process x now word ip s small numbered short bare h is) c = subst (Holds w) (sym is) (process_kept x v w k now word ip s c small numbered short h)
 step_keeps v w k j (Dispatch f out h is) c = subst (Holds w) (sym is) (dispatch_kept v w k f out c h)
 
 pub run_keeps : (v w : View) (k j : Counts) → Run v k w j → Holds v k → Holds w j
@@ -340,7 +340,7 @@ promises v k c = record {
   transmit_queue = c.transmit_queue;
   receive_queue = c.receive_queue;
   gapless = c.gapless;
-  appends = λ now word ip s numbered short. only_appends v now word ip s c.room numbered.seq_number short;
+  appends = λ now word ip s numbered short. only_appends v.rules v now word ip s c.room numbered.seq_number short;
   payloads = λ f out w h n. parts f out w h n;
 }
   where

@@ -188,7 +188,7 @@ module _ (most : Duration) (minute : 60000000 ≤ most.micros) where
   kept_timed = record {
     later = λ last now v c h. later_timed last now most v c h;
     calls = λ last z. calls_timed last z;
-    segments = λ now word ip s v small numbered bare h. process_kept (IsTimed now most) now word ip s (segments_timed s now word) v h;
+    segments = λ r now word ip s v small numbered bare h. process_kept (IsTimed now most) now word ip s (segments_timed s now word) r v h;
     beginnings = λ now. begins_timed now;
     resets = λ now v h. renewed_timed now v h;
     sendings = λ o f u w out h i. sends_kept (IsTimed (moment_of f) most) f (sends_timed (moment_of f)) o u w out h i;

@@ -22,7 +22,7 @@ use Rattle.tcp_laws.specs.SocketRun.{Process, Dispatch, Set, SetKeepAlive, SetAc
 
 -- the moment that a call tells
 abbrev pub moment_in : {v w : View} {k j : Counts} → Step v k w j → Option Instant
-moment_in (Process now word ip s small numbered short bare view counts) = Some now
+moment_in (Process r now word ip s small numbered short bare view counts) = Some now
 moment_in (Dispatch f out sends counts) = Some (moment_of f)
 moment_in _ = None
 

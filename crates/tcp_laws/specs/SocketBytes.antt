@@ -18,14 +18,14 @@ byte_of k v p =
 abbrev pub begins : (v : View) (k : Counts) (w : View) (j : Counts) → Step v k w j → Bool
 begins v k w j (Listen e r h is) = opens_listener v e
 begins v k w j (Connect f word remote local small h is) = is_ok (endpoints v f remote local)
-begins v k w j (Process now word ip s small numbered short bare h is) = listens_again v.state w.state
+begins v k w j (Process r now word ip s small numbered short bare h is) = listens_again v.state w.state
 begins v k w j (Dispatch f out h is) = is_reset v f
 begins v k w j _ = false
 
 -- what a call brings, and how far behind the bytes that joined: a segment what of it lies inside the window, or
 -- nothing; any other call nothing
 abbrev pub IsBrought : (v : View) (k : Counts) (w : View) (j : Counts) → Step v k w j → ℕ → List ℕ → Type 0
-IsBrought v k w j (Process now word ip s small numbered short bare h is) o bs =
+IsBrought v k w j (Process r now word ip s small numbered short bare h is) o bs =
     (bs ≡ []) ⊎ ((is_inside (receive_window v) s.seq_number (length s.payload) ≡ true)
     × (o ≡ (cut_of (receive_window v) s.seq_number (length s.payload)).offset)
     × (bs ≡ cut_bytes (cut_of (receive_window v) s.seq_number (length s.payload)) s.payload))

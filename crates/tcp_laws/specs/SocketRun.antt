@@ -20,7 +20,7 @@ use Rattle.sock_tcp.specs.Dispatch.{EmitTcp, packet_in}
 use Rattle.sock_tcp.specs.Due.{is_due}
 use Rattle.tcp_laws.specs.Laws.{MayTake}
 use Rattle.sock_tcp.specs.Opening.{after_connect, endpoints, is_listening, is_open, Listens}
-use Rattle.sock_tcp.specs.Process.{processed}
+use Rattle.sock_tcp.specs.Process.{processed, processed_by}
 use Rattle.sock_tcp.specs.Outgoing.{packet_of}
 use Rattle.sock_tcp.specs.Queue.{IsLent}
 use Rattle.sock_tcp.specs.Queues.{fitting, may_send, Sends, SendsWithIf, SendsWith, Writes}
@@ -188,7 +188,8 @@ pub record IsNumbered (s : Segment) : Type 0 where
 
 -- A call on a socket v with the counts k leaves the socket w with the counts j: what the contract of the call says of
 -- the socket, in any context and for any closure, and what is counted. A segment that comes is any, but that in LISTEN
--- it has no acknowledgement: `accepts` holds of none that has one
+-- it has no acknowledgement: `accepts` holds of none that has one. It is processed by either rules, so that what holds of
+-- all lists holds whatever rules the socket has
 pub data Step (v : View) (k : Counts) (w : View) (j : Counts) : Type 0 where
   Listen : (e : IpListenEndpoint) (r : Result (Unit {0}) ListenError)
       → Listens v e r w
@@ -216,10 +217,10 @@ pub data Step (v : View) (k : Counts) (w : View) (j : Counts) : Type 0 where
       → j ≡ k → Step v k w j
   Set : Sets v w
       → j ≡ k → Step v k w j
-  Process : (now : Instant) (word : ℕ) (ip : IpRepr) (s : Segment)
+  Process : (r : Rules) (now : Instant) (word : ℕ) (ip : IpRepr) (s : Segment)
       → word < 2 ^ 32 → IsNumbered s → length s.payload ≤ 65535
       → (v.state ≡ state.Listen → s.ack_number ≡ None)
-      → w ≡ (processed v now word ip s).view
+      → w ≡ (processed_by r v now word ip s).view
       → j ≡ after_segment k v w → Step v k w j
   Dispatch : (f : Facts) (out : Option Sending)
       → Dispatched f v out w
