@@ -195,7 +195,7 @@ deliver_stays {remote} tells false s m t o h k ts ts' i small g d = go d.accepte
     is = tuple_is t h.endpoint remote g
 
     peers : HasPeer h remote → HasPeer (delivered_to h m t) remote
-    peers p = subst (λ x. IsPeered (processed_by h m t).view.state (processed_by h m t).view.tuple x) is (process_peers h.control_block _ m.word t.ip t.segment (subst (λ x. IsPeered h.control_block.state h.control_block.tuple x) (sym is) p))
+    peers p = subst (λ x. IsPeered (processed_by h m t).view.state (processed_by h m t).view.tuple x) is (process_peers h.control_block _ m.word t.ip t.segment h.control_block.rules (subst (λ x. IsPeered h.control_block.state h.control_block.tuple x) (sym is) p))
 
     go : (b : Bool) → (IsTrue b → Accepts h.control_block t.ip t.segment) → DeliversIf tells b s m t o h ts k ts' → StaysHost remote h k
     go true a x = subst (StaysHost remote h) (sym x.host) (record { host = record { reachable = i.reachable; idle = λ u. absurd (closed_accepts_none h.control_block t (i.idle u).state (a refl)); passive = passive_kept h (delivered_to h m t) i refl (λ live. ((λ c. closed_accepts_none h.control_block t c (a refl)), process_listens h.control_block _ m.word t.ip t.segment)); reached = called_reached h.control_block (processed_by h m t).view (process_call h.control_block m t small (a refl)) i.reached }; endpoint = refl; peer = peers })

@@ -65,4 +65,4 @@ aborted_listens v = λ n. absurd (n refl)
 -- ---- process
 
 pub process_listens : (v : View) (now : Instant) (word : ℕ) (ip : IpRepr) (s : Segment) → (processed v now word ip s).view.listen_endpoint ≡ v.listen_endpoint
-process_listens v now word ip s = (process_brings v now word ip s).listen
+process_listens v now word ip s = (process_brings v now word ip s v.rules).listen

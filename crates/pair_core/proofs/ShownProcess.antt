@@ -22,7 +22,7 @@ use Rattle.sock_tcp.specs.Verdict.{verdict_at, verdict_of}
 use Rattle.sock_tcp.specs.Window.{next_ack, receive_window, is_inside, cut_of, cut_bytes}
 use Rattle.sock_tcp.specs.Acked.{syn_place, acked_places, acked_at, acked_of, nothing_acked}
 use Rattle.sock_tcp.specs.Advance.{advanced, advance_in, counted_control, dropped, fallen_back, fin_counted, moved_to, opened_state, options_taken, syn_answered, syn_received, waiting}
-use Rattle.sock_tcp.specs.Process.{Outcome, stopped, tuple_of, after_table, after_advance, has_window, challenged, outside, bytes_taken, processed_inside, cut_inside, tested, by_verdict, processed, Accepts, AcceptsIn}
+use Rattle.sock_tcp.specs.Process.{Outcome, stopped, tuple_of, after_table, after_advance, has_window, challenged, outside, bytes_taken, processed_inside, cut_inside, tested, by_verdict, processed, processed_by, Accepts, AcceptsIn}
 use Rattle.sock_tcp.specs.Steps.{heard}
 use Rattle.sock_tcp.specs.declared.acked.Acked.{Acked}
 use Rattle.sock_tcp.specs.declared.advance.Next.TheVariants as next
@@ -575,7 +575,7 @@ module _ (v : View) (now : Instant) (word : ℕ) (ip : IpRepr) (s : Segment) (at
   no_ack : v.state ≡ state.Listen → s.ack_number ≡ None
   no_ack es = (subst (λ st. AcceptsIn st v ip s) es accepted).0.no_ack
 
-  by_the_verdict : (x : Verdict) → verdict_of v s.control s.ack_number ≡ x → word < 2 ^ 32 → IsEffect (by_verdict x v (arrival now (tuple_of ip s) word s))
+  by_the_verdict : (x : Verdict) → verdict_of v s.control s.ack_number ≡ x → word < 2 ^ 32 → IsEffect (by_verdict v.rules x v (arrival now (tuple_of ip s) word s))
   by_the_verdict verdicts.Drop e small_word = silent v refl
   by_the_verdict verdicts.Reset e small_word =
       let r = reset_says v.state s.control s.ack_number v.local_seq_no queued e in
@@ -589,7 +589,7 @@ module _ (v : View) (now : Instant) (word : ℕ) (ip : IpRepr) (s : Segment) (at
   by_the_verdict verdicts.Pass e small_word = is_tested (has_window v.state) refl e small_word
 
   pub hears : word < 2 ^ 32 → IsEffect (processed v now word ip s)
-  unfolding processed
+  unfolding processed_by
   hears small_word = by_the_verdict (verdict_of v s.control s.ack_number) refl small_word
 
 pub process_heard : (v : View) (now : Instant) (word : ℕ) (ip : IpRepr) (s : Segment) (released taken released_then taken_then : ℕ) → word < 2 ^ 32 → IsSmall s → room_of v.rx_buffer ≤ 2 ^ 30 → FinSays v.state v.rx_fin_received → IsBounded v → Accepts v ip s

@@ -19,7 +19,7 @@ use Rattle.sock_tcp.specs.declared.window.Cut.{Cut}
 use Rattle.sock_tcp.specs.Acked.{acked_of}
 use Rattle.sock_tcp.specs.Advance.{Advance, advance_in, advanced, counted_control}
 use Rattle.sock_tcp.specs.Steps.{heard}
-use Rattle.sock_tcp.specs.Process.{Outcome, outside, tuple_of, has_window, after_advance, processed_inside, cut_inside, tested, by_verdict, processed}
+use Rattle.sock_tcp.specs.Process.{Outcome, outside, tuple_of, has_window, after_advance, processed_inside, cut_inside, tested, by_verdict, processed, processed_by}
 use Rattle.sock_tcp.specs.declared.acked.Acked.{Acked}
 use Rattle.sock_tcp.specs.declared.advance.Next.{Next}
 use Rattle.sock_tcp.specs.declared.advance.Next.TheVariants as next
@@ -77,5 +77,5 @@ module _ (v : View) (now : Instant) (word : ℕ) (ip : IpRepr) (s : Segment) (i 
   is_cut = ap (λ b. tested b v (arrival now (tuple_of ip s) word s)) i.window ∙ ap (λ b. if b then cut_inside (receive_window v) the_cut v (arrival now (tuple_of ip s) word s) else refused v.rules v (arrival now (tuple_of ip s) word s)) i.inside
 
   pub queued_at_once : JoinsAtOnce v.rx_buffer (processed v now word ip s).view.rx_buffer (in_window v s)
-  unfolding processed
-  queued_at_once = subst Queues (sym (ap (λ x. by_verdict x v (arrival now (tuple_of ip s) word s)) i.passes ∙ is_cut)) inside
+  unfolding processed_by
+  queued_at_once = subst Queues (sym (ap (λ x. by_verdict v.rules x v (arrival now (tuple_of ip s) word s)) i.passes ∙ is_cut)) inside

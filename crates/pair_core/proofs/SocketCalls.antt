@@ -192,4 +192,4 @@ bare : (v : View) (ip : IpRepr) (s : Segment) → Accepts v ip s → v.state ≡
 bare v ip s a e = (subst (λ st. AcceptsIn st v ip s) e a).0.no_ack
 
 pub process_call : (v : View) (m : Moment) (t : StoredView) → IsSmall t.segment → Accepts v t.ip t.segment → IsCall v (processed_at v m t).view
-process_call v m t s a k = (_, calls.Process (record { micros = m.now.micros }) m.word t.ip t.segment m.fits (record { seq_number = s.seq; ack_number = s.ack }) s.payload (bare v t.ip t.segment a) refl refl)
+process_call v m t s a k = (_, calls.Process v.rules (record { micros = m.now.micros }) m.word t.ip t.segment m.fits (record { seq_number = s.seq; ack_number = s.ack }) s.payload (bare v t.ip t.segment a) refl refl)

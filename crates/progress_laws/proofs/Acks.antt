@@ -16,7 +16,8 @@ use Rattle.sock_tcp.proofs.Windows.{not_far}
 use Rattle.sock_tcp.specs.Acked.{acked_of}
 use Rattle.sock_tcp.specs.Advance.{moved_to}
 use Rattle.sock_tcp.specs.Due.{is_closing}
-use Rattle.sock_tcp.specs.Process.{Outcome, close_restarted, outside, processed, timer_restarted}
+use Rattle.sock_tcp.specs.Process.{Outcome, close_restarted, outside, timer_restarted}
+use Rattle.progress_laws.specs.Smoltcp.{processed}
 use Rattle.sock_tcp.specs.Replies.{ack_kept, ack_segment, reply_ip}
 use Rattle.sock_tcp.specs.Steps.{heard, window_of}
 use Rattle.sock_tcp.specs.Timers.{is_over}

@@ -16,7 +16,8 @@ use Rattle.sock_tcp.proofs.Windows.{end_small, start_small, window_width}
 use Rattle.sock_tcp.specs.Acked.{acked_of}
 use Rattle.sock_tcp.specs.Content.{carries_data}
 use Rattle.sock_tcp.specs.Due.{window_field}
-use Rattle.sock_tcp.specs.Process.{ack_sent, processed}
+use Rattle.sock_tcp.specs.Process.{ack_sent}
+use Rattle.progress_laws.specs.Smoltcp.{processed}
 use Rattle.sock_tcp.specs.Queue.{Queue}
 use Rattle.sock_tcp.specs.Queues.{read_off, receives}
 use Rattle.sock_tcp.specs.Replies.{ack_kept, ack_segment}

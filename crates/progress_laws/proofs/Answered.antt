@@ -17,7 +17,8 @@ use Rattle.sock_tcp.specs.Acked.{acked_at, acked_of, acked_places, is_fin_acked,
 use Rattle.sock_tcp.specs.Advance.{advance_in, advanced, continues, counted_control}
 use Rattle.sock_tcp.specs.Content.{Sending, carries_data}
 use Rattle.sock_tcp.specs.Due.{window_field}
-use Rattle.sock_tcp.specs.Process.{Outcome, ack_sent, after_table, bytes_taken, processed, processed_inside, stopped, tuple_of}
+use Rattle.sock_tcp.specs.Process.{Outcome, ack_sent, after_table, bytes_taken, processed_inside, stopped, tuple_of, processed_by}
+use Rattle.progress_laws.specs.Smoltcp.{processed}
 use Rattle.sock_tcp.specs.Queue.{Queue}
 use Rattle.sock_tcp.specs.Replies.{ack_segment}
 use Rattle.sock_tcp.specs.Steps.{heard, scale_of, window_of}
@@ -112,7 +113,7 @@ module _ (u : View) (reached : IsReached u) (carries : carries_data u.state ≡ 
   none_taken y = let z : length (cut_bytes cut g.payload) ≡ 0 = omega (arith, length-cut cut g.payload, empty) in rw z refl
 
   in_window : processed u now word ip g ≡ after_table (advance_in u.state (counted_control g.control (receive_window u) g.seq_number (length g.payload)) a.fin x (arrival now (tuple_of ip g) word g) a.len) (arrival now (tuple_of ip g) word g) a cut.offset (cut_bytes cut g.payload)
-  unfolding processed processed_inside advanced
+  unfolding processed_by processed_inside advanced
   in_window = rw (passes, synchronized_has u.state open_state, lies_inside) refl
 
   table : advance_in u.state (counted_control g.control (receive_window u) g.seq_number (length g.payload)) a.fin x (arrival now (tuple_of ip g) word g) a.len ≡ continues x

@@ -16,7 +16,8 @@ use Rattle.sock_tcp.proofs.Windows.{end_small, far, length-cut, not_after, not_f
 use Rattle.sock_tcp.specs.Arrival.{arrival}
 use Rattle.sock_tcp.specs.Acked.{acked_of}
 use Rattle.sock_tcp.specs.Advance.{Advance, advance_in, advanced, counted_control, fin_counted, waiting}
-use Rattle.sock_tcp.specs.Process.{Outcome, ack_sent, after_advance, challenged, after_table, bytes_taken, close_restarted, has_window, outside, outside_by, processed, processed_inside, stopped, timer_restarted, tuple_of}
+use Rattle.sock_tcp.specs.Process.{Outcome, ack_sent, after_advance, challenged, after_table, bytes_taken, close_restarted, has_window, outside, outside_by, processed_inside, stopped, timer_restarted, tuple_of, processed_by}
+use Rattle.progress_laws.specs.Smoltcp.{processed}
 use Rattle.sock_tcp.specs.Queue.{shortened}
 use Rattle.sock_tcp.specs.Queues.{can_recv, may_recv, receives, read_off, readable}
 use Rattle.sock_tcp.specs.Replies.{ack_segment, sack_range}
@@ -323,16 +324,16 @@ module _ (w : View) (k : TcpSeqNumber) (r : Faces w k) (now : Instant) (word : �
   has = synchronized_has w.state r.state
 
   pub in_window : is_inside (receive_window w) s.seq_number (length s.payload) ≡ true → processed w now word ip s ≡ after_table (row c) (arrival now (tuple_of ip s) word s) a cut.offset bs
-  unfolding processed processed_inside advanced
+  unfolding processed_by processed_inside advanced
   in_window i = rw (passes, has, i) refl
 
   pub from_outside : is_inside (receive_window w) s.seq_number (length s.payload) ≡ false → processed w now word ip s ≡ outside w now s
-  unfolding processed
+  unfolding processed_by
   from_outside e = rw (passes, has, e) refl
 
   -- outside of the window, with a byte
   pub away : is_inside (receive_window w) s.seq_number (length s.payload) ≡ false → 0 < length s.payload → processed w now word ip s ≡ ack_sent w s
-  unfolding processed outside close_restarted
+  unfolding processed_by outside close_restarted
   away e some = rw (passes, has, e) (by s.control bit ∙ ap (λ tm. ack_sent (record w { timer = tm }) s) (synchronized_stays w.state w.timer now r.state))
     where
       by : (c : TcpControl) → IsSaid c → outside_by c (length s.payload) w now s ≡ ack_sent (close_restarted w now) s
@@ -343,7 +344,7 @@ module _ (w : View) (k : TcpSeqNumber) (r : Faces w k) (now : Instant) (word : �
 
   -- and without one, a challenge: at most one a second
   pub away_empty : is_inside (receive_window w) s.seq_number (length s.payload) ≡ false → length s.payload ≡ 0 → int_lt now.micros w.challenge_ack_timer.micros ≡ false → (processed w now word ip s).reply ≡ Some (ack_segment w s)
-  unfolding processed outside challenged close_restarted ack_segment sack_range
+  unfolding processed_by outside challenged close_restarted ack_segment sack_range
   away_empty e none over = rw (passes, has, e) (by s.control bit)
     where
       by : (c : TcpControl) → IsSaid c → (outside_by c (length s.payload) w now s).reply ≡ Some (ack_segment w s)

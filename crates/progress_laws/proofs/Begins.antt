@@ -16,7 +16,8 @@ use Rattle.sock_core.specs.Facts.{Facts}
 use Rattle.sock_tcp.specs.Begin.{Begun, last_ts_set, last_ts_set_at, told_ready, readied, retransmission_begun, fast_retransmission_marked, after_timer, after_timers, is_paused, begun, begun_to, unless_paused, nothing_due, by_due, before_emit, before_emit_to, going_on, peer_of}
 use Rattle.sock_tcp.specs.Content.{Sending, asked, carries_data, content, data_control, emission_kind, filled, offset_of, plain_segment, sent_as, with_data}
 use Rattle.sock_tcp.specs.Due.{is_closing, is_due}
-use Rattle.sock_tcp.specs.Process.{Outcome, processed}
+use Rattle.sock_tcp.specs.Process.{Outcome}
+use Rattle.progress_laws.specs.Smoltcp.{processed}
 use Rattle.sock_tcp.specs.Polls.{is_reached, timeout_poll}
 use Rattle.sock_tcp.specs.Sent.{left_by}
 use Rattle.sock_tcp.specs.Timers.{idle_from, is_close_over, is_over}
@@ -30,6 +31,7 @@ use Rattle.sock_tcp.specs.declared.tuple.Tuple.{Tuple}
 use Rattle.tcp_laws.specs.Polling.{IsReached}
 use Rattle.tcp_laws.specs.SocketRun.{Counts, Dispatch, Ends, IsNumbered, Process, Run, SendsTo, Step, Then, after_segment, is_reset, starting_if}
 use Rattle.progress_laws.specs.Speech.{DispatchesOk, GoesOn, SendsOk, SendsOkTo}
+use Rattle.sock_tcp.specs.declared.rules.Rules.TheVariants as rules
 
 -- ---- tests
 
@@ -77,7 +79,7 @@ pub numbered_as : (g : Segment) (k : TcpSeqNumber) → g.ack_number ≡ Some k �
 numbered_as g k ack number small = record { seq_number = number; ack_number = λ m e. subst (λ (q : TcpSeqNumber). q.0 < 2 ^ 32) (same_Some k m (sym ack ∙ e)) small }
 
 pub segment_reached : (v w : View) (now : Instant) (word : ℕ) (ip : IpRepr) (g : Segment) (reply : Option Segment) → IsReached v → word < 2 ^ 32 → IsNumbered g → length g.payload ≤ 65535 → (v.state ≡ state.Listen → g.ack_number ≡ None) → processed v now word ip g ≡ record { view = w; reply = reply } → IsReached w
-segment_reached v w now word ip g reply r small numbered short listens comes = step_reached v w (after_segment r.counts v w) r (Process now word ip g small numbered short listens (sym (ap (λ (o : Outcome). o.view) comes)) refl)
+segment_reached v w now word ip g reply r small numbered short listens comes = step_reached v w (after_segment r.counts v w) r (Process rules.Smoltcp now word ip g small numbered short listens (sym (ap (λ (o : Outcome). o.view) comes)) refl)
 
 -- ---- the beginning
 

@@ -14,7 +14,8 @@ use Rattle.sock_tcp.specs.Acked.{acked_at, acked_of}
 use Rattle.sock_tcp.specs.Advance.{fin_counted}
 use Rattle.sock_tcp.specs.Closing.{closed, closed_from}
 use Rattle.sock_tcp.specs.Due.{is_closing}
-use Rattle.sock_tcp.specs.Process.{Outcome, processed}
+use Rattle.sock_tcp.specs.Process.{Outcome}
+use Rattle.progress_laws.specs.Smoltcp.{processed}
 use Rattle.sock_tcp.specs.Queue.{Queue}
 use Rattle.sock_tcp.specs.Queues.{receives, recv_check}
 use Rattle.sock_tcp.specs.Steps.{heard, scale_of}
@@ -41,6 +42,7 @@ use Rattle.progress_laws.proofs.Hears.{HeardAs, IsOpenTimer, IsSaid, all_no_dupl
 use Rattle.progress_laws.proofs.Learns.{idle_rests}
 use Rattle.progress_laws.proofs.Speaks.{wakes}
 use Rattle.progress_laws.proofs.States.{is_steady, not_listening}
+use Rattle.sock_tcp.specs.declared.rules.Rules.TheVariants as rules
 
 -- ---- the one closes: w, in ESTABLISHED, counts the FIN of v
 
@@ -148,7 +150,7 @@ module _ (d e : Option Duration) (t s : Tuple) (f : Facts) (w v : View) (i : Bot
       numbered = record { seq_number = omega (arith, number); ack_number = λ m p. subst (λ (b : TcpSeqNumber). b.0 < 2 ^ 32) (same_Some k m (sym q.ack ∙ p)) (omega arith) }
 
       reached : IsReached y
-      reached = step_reached w y (after_segment i.here.sender.reached.counts w y) i.here.sender.reached (Process now 0 q.out.ip g (omega arith) numbered (omega (arith, q.empty)) (λ l. absurd (not_listening w.state (ap is_steady i.here.established) l)) (sym (ap (λ (o : Outcome). o.view) takes_fin)) refl)
+      reached = step_reached w y (after_segment i.here.sender.reached.counts w y) i.here.sender.reached (Process rules.Smoltcp now 0 q.out.ip g (omega arith) numbered (omega (arith, q.empty)) (λ l. absurd (not_listening w.state (ap is_steady i.here.established) l)) (sym (ap (λ (o : Outcome). o.view) takes_fin)) refl)
 
   pub empty_y : length (closed y).tx_buffer.bytes ≡ 0
   unfolding fin_counted

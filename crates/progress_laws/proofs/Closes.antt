@@ -16,7 +16,8 @@ use Rattle.sock_tcp.specs.Begin.{is_paused}
 use Rattle.sock_tcp.specs.Closing.{closed}
 use Rattle.sock_tcp.specs.Content.{Sending, asked, carries_data, emission_kind, offset_of, plain_segment, sent_as}
 use Rattle.sock_tcp.specs.Due.{data_due, effective_mss, flight, is_closing, is_due, is_held_back, is_opening, sendable, window_field}
-use Rattle.sock_tcp.specs.Process.{Outcome, processed}
+use Rattle.sock_tcp.specs.Process.{Outcome}
+use Rattle.progress_laws.specs.Smoltcp.{processed}
 use Rattle.sock_tcp.specs.Queue.{Queue}
 use Rattle.sock_tcp.specs.Queues.{recv_check}
 use Rattle.sock_tcp.specs.Sent.{emitted_as, left_by}

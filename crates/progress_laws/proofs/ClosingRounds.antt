@@ -16,7 +16,8 @@ use Rattle.sock_tcp.proofs.Windows.{end_small, start_small, window_width}
 use Rattle.sock_tcp.specs.Acked.{acked_of}
 use Rattle.sock_tcp.specs.Content.{Sending, carries_data}
 use Rattle.sock_tcp.specs.Due.{is_closing, window_field}
-use Rattle.sock_tcp.specs.Process.{Outcome, processed}
+use Rattle.sock_tcp.specs.Process.{Outcome}
+use Rattle.progress_laws.specs.Smoltcp.{processed}
 use Rattle.sock_tcp.specs.Queue.{Queue}
 use Rattle.sock_tcp.specs.Queues.{read_off, receives}
 use Rattle.sock_tcp.specs.Replies.{ack_kept, ack_segment, reply_ip}
@@ -55,6 +56,7 @@ use Rattle.progress_laws.proofs.States.{closing_carries, not_listening as steady
 use Rattle.progress_laws.proofs.Takes.{IsCaughtUp, Took, fresh_bytes, takes, took, took_bytes, took_open, took_reached, took_so, width_kept}
 use Rattle.progress_laws.proofs.Taking.{read_out, take_all}
 use Rattle.progress_laws.proofs.Widths.{told_alike, unit, unit_within, width_told}
+use Rattle.sock_tcp.specs.declared.rules.Rules.TheVariants as rules
 
 -- ---- one step further
 
@@ -262,7 +264,7 @@ module _ (d : Option Duration) (t : Tuple) (f : Facts) (at now : Instant) (since
 
       reached_y : IsReached y
       unfolding ack_segment
-      reached_y = step_reached x y (after_segment p.closer.reached.counts x y) p.closer.reached (Process now 0 ip g (omega arith) numbered_g (omega arith) (λ l. absurd (not_open x.state l p.closer.state)) (sym (ap (λ (o : Outcome). o.view) hears)) refl)
+      reached_y = step_reached x y (after_segment p.closer.reached.counts x y) p.closer.reached (Process rules.Smoltcp now 0 ip g (omega arith) numbered_g (omega arith) (λ l. absurd (not_open x.state l p.closer.state)) (sym (ap (λ (o : Outcome). o.view) hears)) refl)
         where
           not_open : (st : State) → st ≡ state.Listen → is_closing st ≡ true → ⊥
           not_open state.Listen e h = cc
@@ -293,7 +295,7 @@ module _ (d : Option Duration) (t : Tuple) (f : Facts) (at now : Instant) (since
             rests = rests;
           };
           receiver = record {
-            reached = step_reached w (ack_kept w) (after_segment i.receiver.reached.counts w (ack_kept w)) i.receiver.reached (Process now 0 out.ip out.segment (omega arith) numbered p.short (λ l. absurd (not_listening l)) (sym (ap (λ (o : Outcome). o.view) answer)) refl);
+            reached = step_reached w (ack_kept w) (after_segment i.receiver.reached.counts w (ack_kept w)) i.receiver.reached (Process rules.Smoltcp now 0 out.ip out.segment (omega arith) numbered p.short (λ l. absurd (not_listening l)) (sym (ap (λ (o : Outcome). o.view) answer)) refl);
             state = i.receiver.state;
             timer = i.receiver.timer;
             read = i.receiver.read;

@@ -11,7 +11,8 @@ use Rattle.control_wire.specs.declared.seq_number.TcpSeqNumber.{TcpSeqNumber}
 use Rattle.sock_core.specs.Facts.{Facts}
 use Rattle.sock_core.specs.Received.{handed_out}
 use Rattle.sock_tcp.specs.Due.{is_closing, window_field}
-use Rattle.sock_tcp.specs.Process.{Outcome, ack_sent, processed}
+use Rattle.sock_tcp.specs.Process.{Outcome, ack_sent}
+use Rattle.progress_laws.specs.Smoltcp.{processed}
 use Rattle.sock_tcp.specs.Queue.{Queue}
 use Rattle.sock_tcp.specs.Queues.{may_recv, read_off, receives, recv_check}
 use Rattle.sock_tcp.specs.Replies.{ack_kept, ack_segment, reply_ip}

@@ -16,7 +16,8 @@ use Rattle.sock_tcp.specs.Acked.{acked_at, acked_of, acked_places, syn_place}
 use Rattle.sock_tcp.specs.Advance.{advance_in, advanced, counted_control, dropped, moved_to, waiting}
 use Rattle.sock_tcp.specs.Content.{Sending}
 use Rattle.sock_tcp.specs.Due.{flight, is_closing}
-use Rattle.sock_tcp.specs.Process.{Outcome, after_table, bytes_taken, processed, processed_inside, stopped, tuple_of}
+use Rattle.sock_tcp.specs.Process.{Outcome, after_table, bytes_taken, processed_inside, stopped, tuple_of, processed_by}
+use Rattle.progress_laws.specs.Smoltcp.{processed}
 use Rattle.sock_tcp.specs.Queue.{Queue}
 use Rattle.sock_tcp.specs.Replies.{ack_segment}
 use Rattle.sock_tcp.specs.Steps.{heard}
@@ -106,7 +107,7 @@ module _ (u : View) (reached : IsReached u) (closing : is_closing u.state ≡ tr
   counts = rw plain refl
 
   in_window : processed u now word ip g ≡ after_table (advance_in u.state (counted_control g.control (receive_window u) g.seq_number (length g.payload)) a.fin x (arrival now (tuple_of ip g) word g) a.len) (arrival now (tuple_of ip g) word g) a cut.offset (cut_bytes cut g.payload)
-  unfolding processed processed_inside advanced
+  unfolding processed_by processed_inside advanced
   in_window = rw (passes, synchronized_has u.state (closing_synchronized u.state closing), lies_inside) refl
 
   -- whatever the state becomes

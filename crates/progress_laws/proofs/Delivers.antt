@@ -20,7 +20,8 @@ use Rattle.sock_tcp.specs.Acked.{acked_at, acked_of, acked_places, is_fin_acked,
 use Rattle.sock_tcp.specs.Advance.{advance_in, counted_control, fin_counted, moved_to, waiting}
 use Rattle.sock_tcp.specs.Content.{carries_data}
 use Rattle.sock_tcp.specs.Due.{is_closing, window_field}
-use Rattle.sock_tcp.specs.Process.{Outcome, ack_sent, after_table, bytes_taken, processed, tuple_of}
+use Rattle.sock_tcp.specs.Process.{Outcome, ack_sent, after_table, bytes_taken, tuple_of}
+use Rattle.progress_laws.specs.Smoltcp.{processed}
 use Rattle.sock_tcp.specs.Queue.{Queue}
 use Rattle.sock_tcp.specs.Queues.{receives}
 use Rattle.sock_tcp.specs.Steps.{heard, scale_of, window_of}
@@ -50,6 +51,7 @@ use Rattle.progress_laws.proofs.Hears.{HeardAs, IsSaid, heard_any}
 use Rattle.progress_laws.proofs.Matches.{Grows, IsPart, all_join, cut_part, grows}
 use Rattle.progress_laws.proofs.Spoken.{is_fin}
 use Rattle.progress_laws.proofs.Taken.{FromFront, Like, Rest, SpeaksOn, Stopped, Took, bytes_rest, counted_carries, faces_so, no_syn, rest_waits}
+use Rattle.sock_tcp.specs.declared.rules.Rules.TheVariants as rules
 
 -- what w becomes: a run of what it had not taken joins the queue; or the FIN is counted, and all of it is there; or it is
 -- answered, and without anything that v has not heard of only where the window has no place
@@ -307,7 +309,7 @@ module _ (d : Duration) (t : Tuple) (v w : View) (n h : ℕ) (i : Agreement d t 
       longer = joins w k faces now 0 ip s q.bit q.ack i.taker.state inside first_offset some_bytes
 
       takes_in : TakesIn w.rx_buffer u.rx_buffer cut.offset bs
-      takes_in = by (only_appends w now 0 ip s (reached_room w i.taker.reached) small q.short)
+      takes_in = by (only_appends rules.Smoltcp w now 0 ip s (reached_room w i.taker.reached) small q.short)
         where
           by : MayTake w s u → TakesIn w.rx_buffer u.rx_buffer cut.offset bs
           by (inl e) = absurd (omega (arith, longer, ap (λ (b : Received). length b.bytes) e))

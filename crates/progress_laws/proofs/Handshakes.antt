@@ -26,7 +26,8 @@ use Rattle.tcp_laws.specs.SocketRun.{Connect, IsNumbered, Listen, opens_listener
 use Rattle.tcp_laws.proofs.SocketSteps.{holds_after}
 use Rattle.sock_tcp.specs.Acked.{nothing_acked}
 use Rattle.sock_tcp.specs.Advance.{syn_received}
-use Rattle.sock_tcp.specs.Process.{processed, stopped, tuple_of}
+use Rattle.sock_tcp.specs.Process.{stopped, tuple_of}
+use Rattle.progress_laws.specs.Smoltcp.{processed}
 use Rattle.sock_tcp.specs.Steps.{heard}
 use Rattle.progress_laws.specs.FromOpening.{AreOpened, HandshakeBringsInStep, StandNew}
 use Rattle.progress_laws.specs.InStep.{told}

@@ -14,7 +14,8 @@ use Rattle.sock_core.specs.Seq.{is_before, is_not_after, later_of}
 use Rattle.sock_tcp.proofs.Windows.{length-cut}
 use Rattle.sock_tcp.specs.Acked.{acked_at, acked_of, acked_places, syn_place}
 use Rattle.sock_tcp.specs.Advance.{advanced, counted_control}
-use Rattle.sock_tcp.specs.Process.{stopped, ack_sent, close_restarted, tuple_of, outside_by, outside, bytes_taken, processed_inside, has_window, processed}
+use Rattle.sock_tcp.specs.Process.{stopped, ack_sent, close_restarted, tuple_of, outside_by, outside, bytes_taken, processed_inside, has_window, processed_by}
+use Rattle.progress_laws.specs.Smoltcp.{processed}
 use Rattle.sock_tcp.specs.Queue.{shortened}
 use Rattle.sock_tcp.specs.Steps.{duplicate_counted, retransmission_acked, scale_of, window_of, window_taken, released, is_duplicate, is_last_ack, is_window_changed, ack_heard, ack_counted, una_advanced, acknowledged, timestamp_taken, timer_set, timer_acked, probe_ended, probe_set, begins_probe, heard}
 use Rattle.sock_tcp.specs.Timers.{after, idle_from, probe_from, retransmit_from, rto_of}
@@ -342,12 +343,12 @@ module _ (v : View) (now : Instant) (word : ℕ) (ip : IpRepr) (s : Segment) (k 
 
     -- inside of the window
     pub heard_inside : is_inside (receive_window v) s.seq_number (length s.payload) ≡ true → processed v now word ip s ≡ bytes_taken (heard seen now covered s) now cut.offset (cut_bytes cut s.payload) s
-    unfolding processed processed_inside advanced
+    unfolding processed_by processed_inside advanced
     heard_inside inside = rw (passes_so small una_small within short, has, inside, counts s.control (receive_window v) s.seq_number (length s.payload) bit, covers, steady_goes_on v.state steady seen now (tuple_of ip s) word (seq_sub k v.local_seq_no) s) refl
 
     -- outside of it, with a byte
     pub answered_outside : is_inside (receive_window v) s.seq_number (length s.payload) ≡ false → (length s.payload == 0) ≡ false → processed v now word ip s ≡ ack_sent v s
-    unfolding processed outside close_restarted
+    unfolding processed_by outside close_restarted
     answered_outside away some = rw (passes_so small una_small within short, has, away) (by s.control bit ∙ ap (λ z. ack_sent z s) stays)
       where
         by : (c : TcpControl) → IsData c → outside_by c (length s.payload) v now s ≡ ack_sent (close_restarted v now) s

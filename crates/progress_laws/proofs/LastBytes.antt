@@ -14,7 +14,8 @@ use Rattle.sock_tcp.proofs.Windows.{end_small, start_small, window_width}
 use Rattle.sock_tcp.specs.Arrival.{arrival}
 use Rattle.sock_tcp.specs.Acked.{acked_of}
 use Rattle.sock_tcp.specs.Advance.{advance_in, counted_control, fin_counted, waiting}
-use Rattle.sock_tcp.specs.Process.{Outcome, after_table, bytes_taken, processed, tuple_of}
+use Rattle.sock_tcp.specs.Process.{Outcome, after_table, bytes_taken, tuple_of}
+use Rattle.progress_laws.specs.Smoltcp.{processed}
 use Rattle.sock_tcp.specs.Queues.{read_off, receives, recv_check}
 use Rattle.sock_tcp.specs.Steps.{ack_delayed, heard, joined}
 use Rattle.sock_tcp.specs.View.{View}

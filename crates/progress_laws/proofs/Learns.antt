@@ -10,7 +10,8 @@ use Rattle.control_wire.specs.Seq.{seq_add, seq_eq, seq_sub}
 use Rattle.control_wire.specs.declared.seq_number.TcpSeqNumber.{TcpSeqNumber}
 use Rattle.sock_core.specs.Seq.{is_before, is_not_after, later_of}
 use Rattle.sock_tcp.proofs.Windows.{end_small, start_small, window_width}
-use Rattle.sock_tcp.specs.Process.{Outcome, processed}
+use Rattle.sock_tcp.specs.Process.{Outcome}
+use Rattle.progress_laws.specs.Smoltcp.{processed}
 use Rattle.sock_tcp.specs.Queue.{Queue}
 use Rattle.sock_tcp.specs.Steps.{heard, scale_of}
 use Rattle.sock_tcp.specs.Timers.{after as moment_after, idle_from}
@@ -26,6 +27,7 @@ use Rattle.progress_laws.proofs.Edges.{empty_inside_so, is_earlier, is_not_befor
 use Rattle.progress_laws.proofs.Hears.{HeardAs, IsData, all_no_duplicate, data_is_said, covered, heard_as, heard_inside, heard_rests, none_taken, seen}
 use Rattle.progress_laws.proofs.Speaks.{Waits}
 use Rattle.progress_laws.proofs.States.{flat_steady, is_flat, is_steady, not_listening}
+use Rattle.sock_tcp.specs.declared.rules.Rules.TheVariants as rules
 
 -- with an idle timer and nothing in flight
 pub idle_rests : (v : View) (now : Instant) (keep : Option Duration) → v.timer ≡ idle_from now keep → v.remote_last_seq ≡ v.local_seq_no → 0 < v.remote_win_len → Rests v
@@ -124,7 +126,7 @@ module _ (v x : View) (now : Instant) (ip : IpRepr) (g : Segment) (k : TcpSeqNum
   all_heard = heard_so.nxt ∙ later ∙ sym heard_so.una
 
   reached_so : IsReached heard_view
-  reached_so = step_reached x heard_view (after_segment wait.reached.counts x heard_view) wait.reached (Process now 0 ip g (omega arith) numbered (omega (arith, empty)) (λ l. absurd (not_listening x.state flat l)) (sym (ap (λ (o : Outcome). o.view) hears)) refl)
+  reached_so = step_reached x heard_view (after_segment wait.reached.counts x heard_view) wait.reached (Process rules.Smoltcp now 0 ip g (omega arith) numbered (omega (arith, empty)) (λ l. absurd (not_listening x.state flat l)) (sym (ap (λ (o : Outcome). o.view) hears)) refl)
     where
       numbered : IsNumbered g
       numbered = record { seq_number = number_small; ack_number = λ m e. subst (λ (q : TcpSeqNumber). q.0 < 2 ^ 32) (same_Some k m (sym ack ∙ e)) small }

@@ -14,7 +14,8 @@ use Rattle.sock_core.specs.Received.{Received}
 use Rattle.sock_core.specs.Seq.{is_before}
 use Rattle.sock_tcp.specs.Acked.{acked_of}
 use Rattle.sock_tcp.specs.Content.{Sending, plain_segment}
-use Rattle.sock_tcp.specs.Process.{ack_sent, challenged, close_restarted, outside, processed, stopped}
+use Rattle.sock_tcp.specs.Process.{ack_sent, challenged, close_restarted, outside, stopped, processed_by}
+use Rattle.progress_laws.specs.Smoltcp.{processed}
 use Rattle.sock_tcp.specs.Replies.{ack_kept, ack_segment, reply_ip}
 use Rattle.sock_tcp.specs.Steps.{scale_of}
 use Rattle.sock_tcp.specs.Timers.{after, challenge_interval, is_over}
@@ -53,7 +54,7 @@ module _ (v : View) (now : Instant) (ip : IpRepr) (g : Segment) (k : TcpSeqNumbe
   away = rw (empty, eq-eqb g.seq_number.0 (seq_minus (next_ack v) 1).0 (omega (arith, before, small))) refl
 
   pub challenges : processed v now 0 ip g ≡ ack_sent (noted_at v now) g
-  unfolding processed verdict_at outside close_restarted challenged is_inside ack_kept ack_segment receive_window
+  unfolding processed_by verdict_at outside close_restarted challenged is_inside ack_kept ack_segment receive_window
   challenges = rw (st, bit, ack, low, high, away, late) refl
 
 -- ---- and the answer opens the other

@@ -19,7 +19,8 @@ use Rattle.sock_tcp.specs.Content.{Sending, plain_segment, scale_back}
 use Rattle.sock_tcp.specs.Due.{is_opening}
 use Rattle.sock_tcp.specs.Opening.{connected, renewed}
 use Rattle.sock_tcp.specs.Polls.{delay_poll, is_reached}
-use Rattle.sock_tcp.specs.Process.{processed, stopped}
+use Rattle.sock_tcp.specs.Process.{stopped}
+use Rattle.progress_laws.specs.Smoltcp.{processed}
 use Rattle.sock_tcp.specs.Queue.{Queue, capacity}
 use Rattle.sock_tcp.specs.Steps.{heard, scale_of, window_of}
 use Rattle.sock_tcp.specs.Timers.{idle_from, is_keep_alive_over}

@@ -27,7 +27,8 @@ use Rattle.sock_tcp.specs.Acked.{acked_at}
 use Rattle.sock_tcp.specs.Advance.{advanced, counted_control, fin_counted, options_taken, syn_answered}
 use Rattle.sock_tcp.specs.Closing.{keep_alive_set}
 use Rattle.sock_tcp.specs.Opening.{connected, renewed}
-use Rattle.sock_tcp.specs.Process.{bytes_taken, processed, processed_inside}
+use Rattle.sock_tcp.specs.Process.{bytes_taken, processed_inside, processed_by}
+use Rattle.progress_laws.specs.Smoltcp.{processed}
 use Rattle.sock_tcp.specs.Queue.{queue_of}
 use Rattle.sock_tcp.specs.Steps.{ack_counted, acknowledged, duplicate_counted, heard, released, timer_set, timestamp_taken, una_advanced, window_taken}
 use Rattle.sock_tcp.specs.Verdict.{verdict_at}
@@ -47,6 +48,7 @@ use Rattle.progress_laws.specs.ShutWindows.{KnowsOne, TowardShut}
 use Rattle.progress_laws.specs.BothWays.{BothInStep, Toward}
 use Rattle.progress_laws.proofs.Begins.{step_reached}
 use Rattle.progress_laws.proofs.Handshakes.{connected_reached, handshake_brings_in_step}
+use Rattle.sock_tcp.specs.declared.rules.Rules.TheVariants as rules
 
 -- ---- two sockets over 64 bytes each way, with keep-alives
 
@@ -165,7 +167,7 @@ abbrev counts : View
 counts = after_segment_of here control.Fin 5001 1001
 
 reached_by : (v : View) (c : TcpControl) (number ack : ℕ) → IsReached v → number < 2 ^ 32 → ack < 2 ^ 32 → (v.state ≡ state.Listen → ⊥) → IsReached (after_segment_of v c number ack)
-reached_by v c number ack r small less not_listen = step_reached v (after_segment_of v c number ack) (after_segment r.counts v (after_segment_of v c number ack)) r (Process now 0 packet (segment c number ack) (omega arith) (numbered c number ack small less) (omega arith) (λ l. absurd (not_listen l)) refl refl)
+reached_by v c number ack r small less not_listen = step_reached v (after_segment_of v c number ack) (after_segment r.counts v (after_segment_of v c number ack)) r (Process rules.Smoltcp now 0 packet (segment c number ack) (omega arith) (numbered c number ack small less) (omega arith) (λ l. absurd (not_listen l)) refl refl)
 
 here_reached : IsReached here
 unfolding connected renewed fresh
@@ -176,7 +178,7 @@ unfolding connected renewed fresh
 across_reached = reached_by (connected start (mirrored ends) 5000) control.Syn 1000 5001 (connected_reached (mirrored ends) context 5000 start (end 1 49152) (from_end (end 2 80)) start_reached (omega arith) refl) (omega arith) (omega arith) (λ e. absurd cc)
 
 counts_reached : IsReached counts
-unfolding connected renewed fresh processed verdict_at processed_inside advanced syn_answered options_taken acked_at heard window_taken released duplicate_counted ack_counted una_advanced acknowledged timestamp_taken timer_set bytes_taken later_of is_before number_is_before number_distance cleared
+unfolding connected renewed fresh processed_by verdict_at processed_inside advanced syn_answered options_taken acked_at heard window_taken released duplicate_counted ack_counted una_advanced acknowledged timestamp_taken timer_set bytes_taken later_of is_before number_is_before number_distance cleared
 counts_reached = reached_by here control.Fin 5001 1001 here_reached (omega arith) (omega arith) (λ e. absurd cc)
 
 -- ---- they agree
@@ -190,23 +192,23 @@ abbrev due : Instant
 due = record { micros = pos 15000000 }
 
 here_speaks : IsSpeaker interval ends here
-unfolding connected renewed fresh processed verdict_at processed_inside advanced syn_answered options_taken acked_at heard window_taken released duplicate_counted ack_counted una_advanced acknowledged timestamp_taken timer_set bytes_taken later_of is_before number_is_before number_distance cleared
+unfolding connected renewed fresh processed_by verdict_at processed_inside advanced syn_answered options_taken acked_at heard window_taken released duplicate_counted ack_counted una_advanced acknowledged timestamp_taken timer_set bytes_taken later_of is_before number_is_before number_distance cleared
 here_speaks = record { reached = here_reached; carries = refl; peer = refl; no_timeout = refl; keep_alive = refl; waits = ForKeepAlive (Some due) refl (inr refl) }
 
 across_speaks : IsSpeaker interval (mirrored ends) across
-unfolding connected renewed fresh processed verdict_at processed_inside advanced syn_answered options_taken acked_at heard window_taken released duplicate_counted ack_counted una_advanced acknowledged timestamp_taken timer_set bytes_taken later_of is_before number_is_before number_distance cleared
+unfolding connected renewed fresh processed_by verdict_at processed_inside advanced syn_answered options_taken acked_at heard window_taken released duplicate_counted ack_counted una_advanced acknowledged timestamp_taken timer_set bytes_taken later_of is_before number_is_before number_distance cleared
 across_speaks = record { reached = across_reached; carries = refl; peer = refl; no_timeout = refl; keep_alive = refl; waits = ForKeepAlive (Some due) refl (inr refl) }
 
 here_takes : IsTaking here
-unfolding connected renewed fresh processed verdict_at processed_inside advanced syn_answered options_taken acked_at heard window_taken released duplicate_counted ack_counted una_advanced acknowledged timestamp_taken timer_set bytes_taken later_of is_before number_is_before number_distance cleared
+unfolding connected renewed fresh processed_by verdict_at processed_inside advanced syn_answered options_taken acked_at heard window_taken released duplicate_counted ack_counted una_advanced acknowledged timestamp_taken timer_set bytes_taken later_of is_before number_is_before number_distance cleared
 here_takes = record { reached = here_reached; state = refl; room = omega arith }
 
 across_takes : IsTaking across
-unfolding connected renewed fresh processed verdict_at processed_inside advanced syn_answered options_taken acked_at heard window_taken released duplicate_counted ack_counted una_advanced acknowledged timestamp_taken timer_set bytes_taken later_of is_before number_is_before number_distance cleared
+unfolding connected renewed fresh processed_by verdict_at processed_inside advanced syn_answered options_taken acked_at heard window_taken released duplicate_counted ack_counted una_advanced acknowledged timestamp_taken timer_set bytes_taken later_of is_before number_is_before number_distance cleared
 across_takes = record { reached = across_reached; state = refl; room = omega arith }
 
 agree : AgreeBothWays interval interval ends (mirrored ends) here across 0 0
-unfolding connected renewed fresh processed verdict_at processed_inside advanced syn_answered options_taken acked_at heard window_taken released duplicate_counted ack_counted una_advanced acknowledged timestamp_taken timer_set bytes_taken later_of is_before number_is_before number_distance cleared is_inside receive_window counted_control cut_of fin_counted
+unfolding connected renewed fresh processed_by verdict_at processed_inside advanced syn_answered options_taken acked_at heard window_taken released duplicate_counted ack_counted una_advanced acknowledged timestamp_taken timer_set bytes_taken later_of is_before number_is_before number_distance cleared is_inside receive_window counted_control cut_of fin_counted
 agree = record {
   over = record {
     speaker = here_speaks;
@@ -231,23 +233,23 @@ abbrev side : View → IpEndpoint → HostView (Unit {0})
 side v e = new_host v e None
 
 here_may_speak : MaySpeak interval (side here ends.local)
-unfolding connected renewed fresh processed verdict_at processed_inside advanced syn_answered options_taken acked_at heard window_taken released duplicate_counted ack_counted una_advanced acknowledged timestamp_taken timer_set bytes_taken later_of is_before number_is_before number_distance cleared
+unfolding connected renewed fresh processed_by verdict_at processed_inside advanced syn_answered options_taken acked_at heard window_taken released duplicate_counted ack_counted una_advanced acknowledged timestamp_taken timer_set bytes_taken later_of is_before number_is_before number_distance cleared
 here_may_speak = record { carries = refl; closed = λ e. absurd (true≢false (sym e)); no_timeout = refl; keep_alive = refl; waits = here_speaks.waits }
 
 across_may_speak : MaySpeak interval (side across ends.remote)
-unfolding connected renewed fresh processed verdict_at processed_inside advanced syn_answered options_taken acked_at heard window_taken released duplicate_counted ack_counted una_advanced acknowledged timestamp_taken timer_set bytes_taken later_of is_before number_is_before number_distance cleared
+unfolding connected renewed fresh processed_by verdict_at processed_inside advanced syn_answered options_taken acked_at heard window_taken released duplicate_counted ack_counted una_advanced acknowledged timestamp_taken timer_set bytes_taken later_of is_before number_is_before number_distance cleared
 across_may_speak = record { carries = refl; closed = λ e. absurd (true≢false (sym e)); no_timeout = refl; keep_alive = refl; waits = across_speaks.waits }
 
 here_may_take : MayTake (side here ends.local)
-unfolding connected renewed fresh processed verdict_at processed_inside advanced syn_answered options_taken acked_at heard window_taken released duplicate_counted ack_counted una_advanced acknowledged timestamp_taken timer_set bytes_taken later_of is_before number_is_before number_distance cleared
+unfolding connected renewed fresh processed_by verdict_at processed_inside advanced syn_answered options_taken acked_at heard window_taken released duplicate_counted ack_counted una_advanced acknowledged timestamp_taken timer_set bytes_taken later_of is_before number_is_before number_distance cleared
 here_may_take = record { receives = refl; types = record { receive = omega arith; transmit = omega arith; fin = refl }; place = omega arith }
 
 across_may_take : MayTake (side across ends.remote)
-unfolding connected renewed fresh processed verdict_at processed_inside advanced syn_answered options_taken acked_at heard window_taken released duplicate_counted ack_counted una_advanced acknowledged timestamp_taken timer_set bytes_taken later_of is_before number_is_before number_distance cleared
+unfolding connected renewed fresh processed_by verdict_at processed_inside advanced syn_answered options_taken acked_at heard window_taken released duplicate_counted ack_counted una_advanced acknowledged timestamp_taken timer_set bytes_taken later_of is_before number_is_before number_distance cleared
 across_may_take = record { receives = refl; types = record { receive = omega arith; transmit = omega arith; fin = refl }; place = omega arith }
 
 over : BothCanComeOver interval interval (side here ends.local) (side across ends.remote)
-unfolding connected renewed fresh processed verdict_at processed_inside advanced syn_answered options_taken acked_at heard window_taken released duplicate_counted ack_counted una_advanced acknowledged timestamp_taken timer_set bytes_taken later_of is_before number_is_before number_distance cleared
+unfolding connected renewed fresh processed_by verdict_at processed_inside advanced syn_answered options_taken acked_at heard window_taken released duplicate_counted ack_counted una_advanced acknowledged timestamp_taken timer_set bytes_taken later_of is_before number_is_before number_distance cleared
 over = record {
   over = record { speaks = here_may_speak; takes = across_may_take; in_reach = agree.over.in_reach; last = λ e. absurd cc };
   speaks_back = across_may_speak;
@@ -257,11 +259,11 @@ over = record {
 -- ---- what one hears of the other
 
 hears_of : HearsOf here across 0
-unfolding connected renewed fresh processed verdict_at processed_inside advanced syn_answered options_taken acked_at heard window_taken released duplicate_counted ack_counted una_advanced acknowledged timestamp_taken timer_set bytes_taken later_of is_before number_is_before number_distance cleared
+unfolding connected renewed fresh processed_by verdict_at processed_inside advanced syn_answered options_taken acked_at heard window_taken released duplicate_counted ack_counted una_advanced acknowledged timestamp_taken timer_set bytes_taken later_of is_before number_is_before number_distance cleared
 hears_of = record { reached = across_reached; receives = refl; room = omega arith; taken_within = omega arith; there = refl; heard = 0; heard_within = omega arith; back = refl }
 
 has_counted : HasCounted across counts
-unfolding connected renewed fresh processed verdict_at processed_inside advanced syn_answered options_taken acked_at heard window_taken released duplicate_counted ack_counted una_advanced acknowledged timestamp_taken timer_set bytes_taken later_of is_before number_is_before number_distance cleared is_inside receive_window counted_control cut_of fin_counted
+unfolding connected renewed fresh processed_by verdict_at processed_inside advanced syn_answered options_taken acked_at heard window_taken released duplicate_counted ack_counted una_advanced acknowledged timestamp_taken timer_set bytes_taken later_of is_before number_is_before number_distance cleared is_inside receive_window counted_control cut_of fin_counted
 has_counted = record { reached = counts_reached; state = refl; there = refl; heard = 0; heard_within = omega arith; back = refl }
 
 -- ---- the law

@@ -10,7 +10,8 @@ use Rattle.control_wire.specs.declared.seq_number.TcpSeqNumber.{TcpSeqNumber}
 use Rattle.sock_core.specs.Received.{Received, holds_nothing, taken_in}
 use Rattle.sock_core.specs.Seq.{later_of}
 use Rattle.sock_tcp.proofs.Windows.{end_small, start_small, window_width}
-use Rattle.sock_tcp.specs.Process.{bytes_taken, processed}
+use Rattle.sock_tcp.specs.Process.{bytes_taken}
+use Rattle.progress_laws.specs.Smoltcp.{processed}
 use Rattle.sock_tcp.specs.Queue.{Queue}
 use Rattle.sock_tcp.specs.Queues.{read_off}
 use Rattle.sock_tcp.specs.Replies.{ack_kept, ack_segment}

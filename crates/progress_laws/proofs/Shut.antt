@@ -11,7 +11,7 @@ use Rattle.sock_core.specs.Received.{Received}
 use Rattle.sock_tcp.proofs.Windows.{end_small, start_small, window_width}
 use Rattle.sock_tcp.specs.Content.{Sending}
 use Rattle.sock_tcp.specs.Due.{window_field}
-use Rattle.sock_tcp.specs.Process.{processed}
+use Rattle.progress_laws.specs.Smoltcp.{processed}
 use Rattle.sock_tcp.specs.Queue.{Queue}
 use Rattle.sock_tcp.specs.Queues.{may_send}
 use Rattle.sock_tcp.specs.Replies.{ack_kept, ack_segment}

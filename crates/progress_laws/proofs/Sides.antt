@@ -13,7 +13,7 @@ use Rattle.sock_core.specs.Facts.{Facts}
 use Rattle.sock_core.specs.Received.{Received}
 use Rattle.sock_tcp.specs.Content.{Sending}
 use Rattle.sock_tcp.specs.Due.{window_field}
-use Rattle.sock_tcp.specs.Process.{processed}
+use Rattle.progress_laws.specs.Smoltcp.{processed}
 use Rattle.sock_tcp.specs.Queues.{may_send, read_off, receives}
 use Rattle.sock_tcp.specs.Replies.{ack_kept, ack_segment, reply_ip}
 use Rattle.sock_tcp.specs.Steps.{scale_of}

@@ -21,7 +21,8 @@ use Rattle.sock_tcp.specs.Acked.{acked_at, acked_of, acked_places, nothing_acked
 use Rattle.sock_tcp.specs.Advance.{advanced, counted_control, moved_to, opened_state, scale_taken, shift_taken, options_taken, syn_answered, syn_received}
 use Rattle.sock_tcp.specs.Opening.{connected, listened, renewed}
 use Rattle.sock_tcp.specs.Queue.{Queue, capacity}
-use Rattle.sock_tcp.specs.Process.{bytes_taken, processed, processed_inside, stopped, tuple_of}
+use Rattle.sock_tcp.specs.Process.{bytes_taken, processed_inside, stopped, tuple_of, processed_by}
+use Rattle.progress_laws.specs.Smoltcp.{processed}
 use Rattle.sock_tcp.specs.Steps.{ack_counted, ack_heard, acknowledged, begins_probe, duplicate_counted, heard, is_duplicate, is_window_changed, probe_ended, probe_set, released, timer_acked, timer_set, timestamp_taken, una_advanced, window_taken}
 use Rattle.sock_tcp.specs.Timers.{idle_from, probe_from}
 use Rattle.sock_tcp.specs.declared.acked.Acked.{Acked}
@@ -42,11 +43,11 @@ use Rattle.progress_laws.proofs.Repeats.{IsSent, NotSent, Repeats, SynGoesOut}
 -- ---- what comes
 
 pub syn_passes : (x : View) (now : Instant) (word : ℕ) (ip : IpRepr) (g : Segment) → x.state ≡ state.Listen → g.control ≡ control.Syn → g.ack_number ≡ None → processed x now word ip g ≡ stopped (heard (syn_received x now (tuple_of ip g) word g) now nothing_acked g)
-unfolding processed processed_inside advanced verdict_at acked_at bytes_taken
+unfolding processed_by processed_inside advanced verdict_at acked_at bytes_taken
 syn_passes x now word ip g st bit number = rw (st, bit, number) refl
 
 pub answer_passes : (x : View) (now : Instant) (ip : IpRepr) (g : Segment) (k : TcpSeqNumber) → x.state ≡ state.SynSent → g.control ≡ control.Syn → g.ack_number ≡ Some k → is_next k x.local_seq_no ≡ true → processed x now 0 ip g ≡ stopped (heard (syn_answered x g) now (acked_of x g.control g.ack_number) g)
-unfolding processed processed_inside advanced verdict_at bytes_taken
+unfolding processed_by processed_inside advanced verdict_at bytes_taken
 answer_passes x now ip g k st bit number next = rw (st, bit, number, next) refl
 
 pub header_dst : (a b : IpAddress) (p : IpProtocol) (n h : ℕ) → SameVersion a b → dst_addr_of (ip_header a b p n h) ≡ b
@@ -109,7 +110,7 @@ module _ (x : View) (now : Instant) (ip : IpRepr) (g : Segment) (k : TcpSeqNumbe
   nothing_comes y cut = let z : length (cut_bytes cut g.payload) ≡ 0 = omega (arith, length-cut cut g.payload, empty) in rw z refl
 
   pub ack_passes : processed x now 0 ip g ≡ stopped opened
-  unfolding processed processed_inside advanced verdict_at counted_control is_inside bytes_taken receive_window cut_of
+  unfolding processed_by processed_inside advanced verdict_at counted_control is_inside bytes_taken receive_window cut_of
   ack_passes = by g.control refl bit ∙ nothing_comes opened (cut_of (receive_window x) g.seq_number (length g.payload))
     where
       by : (c : TcpControl) → g.control ≡ c → IsData c → processed x now 0 ip g ≡ bytes_taken opened now (cut_of (receive_window x) g.seq_number (length g.payload)).offset (cut_bytes (cut_of (receive_window x) g.seq_number (length g.payload)) g.payload) g
@@ -159,7 +160,7 @@ received_so b e now t word g bare = subst (λ o. IsNewListener b (timer_set (tim
 
 -- so does one that connects itself, while its own SYN waits for an answer
 pub crossing_passes : (x : View) (now : Instant) (word : ℕ) (ip : IpRepr) (g : Segment) → x.state ≡ state.SynSent → g.control ≡ control.Syn → g.ack_number ≡ None → processed x now word ip g ≡ stopped (heard (syn_answered x g) now nothing_acked g)
-unfolding processed processed_inside advanced verdict_at acked_at bytes_taken
+unfolding processed_by processed_inside advanced verdict_at acked_at bytes_taken
 crossing_passes x now word ip g st bit number = rw (st, bit, number) refl
 
 module _ (b w : View) (t : Tuple) (word : ℕ) (now : Instant) (g : Segment) (bare : g.ack_number ≡ None) (r : Repeats (connected b t word) w) (at : Instant) (sent : w.timer ≡ timer.Retransmit at) where

@@ -12,7 +12,8 @@ use Rattle.control_wire.specs.declared.seq_number.TcpSeqNumber.{TcpSeqNumber}
 use Rattle.sock_core.specs.Received.{Received, holds_nothing, taken_in}
 use Rattle.sock_core.specs.Seq.{is_before, is_not_after}
 use Rattle.sock_tcp.proofs.Windows.{end_small, far, not_far, start_small, window_width}
-use Rattle.sock_tcp.specs.Process.{Outcome, ack_sent, bytes_taken, processed}
+use Rattle.sock_tcp.specs.Process.{Outcome, ack_sent, bytes_taken}
+use Rattle.progress_laws.specs.Smoltcp.{processed}
 use Rattle.sock_tcp.specs.Queue.{Queue}
 use Rattle.sock_tcp.specs.Queues.{read_off, receives}
 use Rattle.sock_tcp.specs.Steps.{ack_delayed, heard, joined, scale_of}
@@ -32,6 +33,7 @@ use Rattle.progress_laws.proofs.States.{is_steady, not_listening}
 use Rattle.progress_laws.proofs.Taking.{at_once, blank, blank_holds_nothing, read_bytes, read_held, take_all, taken_bytes, taken_held}
 use Rattle.progress_laws.proofs.Widths.{start_is}
 use Rattle.progress_laws.proofs.Arrives.{before_window, reads_reached, receives_may}
+use Rattle.sock_tcp.specs.declared.rules.Rules.TheVariants as rules
 
 -- w takes bytes, and has read all, with room for so many bytes. Its peer acknowledges n bytes of its queue, by k
 pub record IsCaughtUp (w : View) (k : TcpSeqNumber) (n room : ℕ) : Type 0 where
@@ -236,7 +238,7 @@ module _ (w : View) (k : TcpSeqNumber) (n room : ℕ) (now : Instant) (ip : IpRe
         numbered = record { seq_number = number; ack_number = λ q e. subst (λ (b : TcpSeqNumber). b.0 < 2 ^ 32) (same_Some k q (sym ack ∙ e)) small }
 
         then_reached : IsReached took
-        then_reached = step_reached w took (after_segment r.counts w took) r (Process now 0 ip g (omega arith) numbered few (λ l. absurd (not_listening w.state c.state l)) (sym (ap (λ (o : Outcome). o.view) takes)) refl)
+        then_reached = step_reached w took (after_segment r.counts w took) r (Process rules.Smoltcp now 0 ip g (omega arith) numbered few (λ l. absurd (not_listening w.state c.state l)) (sym (ap (λ (o : Outcome). o.view) takes)) refl)
 
 -- ---- the width of the window, after so many bytes were taken and read
 

@@ -6,7 +6,7 @@ use Rattle.ip_wire.specs.declared.repr.IpRepr.{IpRepr}
 use Rattle.control_wire.specs.Segment.{Segment}
 use Rattle.control_wire.specs.Seq.{seq_add, seq_sub}
 use Rattle.control_wire.specs.declared.seq_number.TcpSeqNumber.{TcpSeqNumber}
-use Rattle.sock_tcp.specs.Process.{processed}
+use Rattle.progress_laws.specs.Smoltcp.{processed}
 use Rattle.sock_tcp.specs.Queues.{may_send}
 use Rattle.sock_tcp.specs.Steps.{scale_of}
 use Rattle.sock_tcp.specs.Timers.{idle_from}

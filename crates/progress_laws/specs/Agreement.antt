@@ -10,7 +10,7 @@ use Rattle.sock_core.specs.Facts.{Facts}
 use Rattle.sock_core.specs.Received.{byte_at, room_of}
 use Rattle.sock_tcp.specs.Content.{Sending, carries_data}
 use Rattle.sock_tcp.specs.Due.{is_closing}
-use Rattle.sock_tcp.specs.Process.{processed}
+use Rattle.progress_laws.specs.Smoltcp.{processed}
 use Rattle.sock_tcp.specs.Queues.{may_send, receives, recv_check}
 use Rattle.sock_tcp.specs.Verdict.{fin_place}
 use Rattle.sock_tcp.specs.View.{View}

@@ -8,7 +8,7 @@ use Rattle.control_wire.specs.declared.tcp.TcpTimestampRepr.{TcpTimestampRepr}
 use Rattle.sock_core.specs.Facts.{Facts}
 use Rattle.sock_tcp.specs.Content.{Sending, carries_data}
 use Rattle.sock_tcp.specs.Due.{flight, is_closing}
-use Rattle.sock_tcp.specs.Process.{processed}
+use Rattle.progress_laws.specs.Smoltcp.{processed}
 use Rattle.sock_tcp.specs.Queues.{receives}
 use Rattle.sock_tcp.specs.Verdict.{fin_place}
 use Rattle.sock_tcp.specs.View.{View}

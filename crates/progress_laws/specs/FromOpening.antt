@@ -12,7 +12,7 @@ use Rattle.sock_tcp.specs.Content.{Sending}
 use Rattle.sock_tcp.specs.Opening.{connected, endpoints, is_open, listened}
 use Rattle.control_wire.specs.Segment.{Segment}
 use Rattle.control_wire.specs.declared.tcp.TcpTimestampRepr.{TcpTimestampRepr}
-use Rattle.sock_tcp.specs.Process.{processed}
+use Rattle.progress_laws.specs.Smoltcp.{processed}
 use Rattle.sock_tcp.specs.Queue.{capacity}
 use Rattle.sock_tcp.specs.Queues.{Sends}
 use Rattle.sock_tcp.specs.Replies.{reply_ip}

@@ -11,7 +11,7 @@ use Rattle.sock_core.specs.Bounds.{IsMtu}
 use Rattle.sock_core.specs.Facts.{Facts}
 use Rattle.sock_tcp.specs.Closing.{closed}
 use Rattle.sock_tcp.specs.Content.{Sending}
-use Rattle.sock_tcp.specs.Process.{processed}
+use Rattle.progress_laws.specs.Smoltcp.{processed}
 use Rattle.sock_tcp.specs.Queues.{may_send, read_off, recv_check}
 use Rattle.sock_tcp.specs.Replies.{reply_ip}
 use Rattle.sock_tcp.specs.Steps.{scale_of}

@@ -1,3 +1,4 @@
+pub mod Smoltcp
 pub mod Wakes
 pub mod Speech
 pub mod Stamped
