@@ -230,7 +230,7 @@ agree = record {
 -- ---- as sides of a pair
 
 abbrev side : View → IpEndpoint → HostView (Unit {0})
-side v e = new_host v e None
+side v e = record (new_host v e None) { control_block = v }
 
 here_may_speak : MaySpeak interval (side here ends.local)
 unfolding connected renewed fresh processed_by verdict_at processed_inside advanced syn_answered options_taken acked_at heard window_taken released duplicate_counted ack_counted una_advanced acknowledged timestamp_taken timer_set bytes_taken later_of is_before number_is_before number_distance cleared
