@@ -10,7 +10,9 @@ mod Owned
 mod RawSending
 mod Placing
 mod Reading
+mod Refused
 mod Replies
 mod Sending
 mod Told
+mod Unsent
 mod UdpSending
