@@ -1,6 +1,6 @@
 -- A dispatch whose emit does what another may do; and a segment that is processed while the packets are held apart.
-use Rattle.std.proofs.Common.{◌≡◌, ℕ, List, [], ◌∷◌, ◌++◌, Bool, true, false, Option, Some, None, refl, sym, ap, ◌∙◌, subst}
-use Rattle.std.specs.Prelude.{Result, Ok, Err, IfOk, OnErr, option_map, is_some}
+use Rattle.std.proofs.Common.{◌≡◌, ℕ, List, [], ◌∷◌, ◌++◌, Bool, true, false, Option, Some, None, sym, ap, ◌∙◌, subst}
+use Rattle.std.specs.Prelude.{Result, IfOk, OnErr, option_map, is_some}
 use Rattle.std.specs.Option.{ForSome}
 use Rattle.std.specs.declared.alloc.AllocError.{AllocError}
 use Rattle.std.specs.Borrow.{MutBor}
@@ -20,11 +20,11 @@ use Rattle.control_wire.specs.declared.tcp.TcpRepr.{TcpRepr}
 use Rattle.control_wire.specs.declared.tcp.TcpTimestampRepr.{TcpTimestampRepr}
 use Rattle.ip_wire.specs.declared.checksum.ChecksumCapabilities.{ChecksumCapabilities}
 use Rattle.segment_wire.specs.Packet.{TcpPacket, tcp_packet}
-use Rattle.sock_core.specs.Emission.{Emits, EmitsAt}
+use Rattle.sock_core.specs.Emission.{Emits}
 use Rattle.sock_core.specs.Facts.{Facts}
 use Rattle.sock_tcp.specs.Begin.{before_emit}
 use Rattle.sock_tcp.specs.Content.{content}
-use Rattle.sock_tcp.specs.Dispatch.{Dispatches, EmitTcp, EmitsDue, EmitsTo, packet_in}
+use Rattle.sock_tcp.specs.Dispatch.{Dispatches, EmitTcp, EmitsTo, packet_in}
 use Rattle.sock_tcp.specs.Draw.{Draws, draws}
 use Rattle.sock_tcp.specs.Outgoing.{packet_of}
 use Rattle.sock_tcp.specs.Process.{Processes, reply_of}

@@ -89,8 +89,8 @@ pub fn receive_tcp<W: Words, G: TsvalSource>(
     hear(socket, interface, &ip, &repr)
 }
 
-// The socket takes the segment, and its answer goes into the outbox. Of what a call does to a context only the facts and
-// the words are known: so the packets are held apart meanwhile.
+// The socket takes the segment, and its answer goes into the outbox. Of what a call does to a context only the facts
+// and the words are known: so the packets are held apart meanwhile.
 fn hear<W: Words, G: TsvalSource>(
     socket: &mut Socket<'_, G>,
     interface: &mut Interface<W, Outbox>,

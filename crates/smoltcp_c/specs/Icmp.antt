@@ -157,7 +157,8 @@ abbrev pub told_unsourced : Bool → ℤ → ℤ
 told_unsourced true n = error_address
 told_unsourced false n = n
 
-pub record DispatchesMessage (f : Facts) (v : View) (out : List ℕ) (result : ℤ) (w : View) (out' : List ℕ) : Type 0 where
+pub record DispatchesMessage (f : Facts) (v : View) (out : List ℕ) (result : ℤ) (w : View) (out' : List ℕ)
+    : Type 0 where
   pub sent : ℤ
   pub dispatches : EmitsMessage f v out sent w out'
   pub answer : result ≡ told_unsourced (lacks_source (outgoing v f)) sent

@@ -1,6 +1,6 @@
 -- What a dispatch of a datagram socket writes into a buffer.
-use Rattle.std.specs.Prelude.{ℕ, ℤ, zero, pos, ◌≡◌, ◌≤◌, ◌&&◌, nat_le, Bool, true, List, ◌++◌, length, drop, Option, Some}
-use Rattle.std.specs.Prelude.{None, Result, Ok, Err, cond, false, if◌then◌else◌}
+use Rattle.std.specs.Prelude.{ℕ, ℤ, zero, pos, ◌≡◌, ◌≤◌, ◌&&◌, nat_le, Bool, true, List, ◌++◌, length, drop}
+use Rattle.std.specs.Prelude.{Option, Some, None, Result, Ok, Err, cond, false, if◌then◌else◌}
 use Rattle.net_base.specs.Packets.{Dequeues, skipped}
 use Rattle.sock_dgram.specs.Addressed.{View, waiting}
 use Rattle.sock_dgram.specs.Datagrams.{has_entry}

@@ -8,12 +8,13 @@ ghost use Rattle.sock_dgram.specs.UdpDispatch.{outgoing_of};
 ghost use Rattle.smoltcp_c.specs.Answers.{error_context, not_accepted, sent_answer};
 ghost use Rattle.smoltcp_c.specs.Context.{facts_in, is_context};
 ghost use Rattle.smoltcp_c.specs.Heard.{Tells, TellsPoll};
-ghost use Rattle.smoltcp_c.specs.Icmp.{DispatchesMessage, EmitsMessage, HearsMessage, IcmpPacket, IsFor as IsForIcmp, WritesMessage};
+ghost use Rattle.smoltcp_c.specs.Icmp.{DispatchesMessage, EmitsMessage, HearsMessage, IcmpPacket};
+ghost use Rattle.smoltcp_c.specs.Icmp.{IsFor as IsForIcmp, WritesMessage};
 ghost use Rattle.smoltcp_c.specs.Icmp.{carried_message, icmp_packet_of, lacks_source, queued_of, told_unsourced};
 ghost use Rattle.smoltcp_c.specs.Raw.{DispatchesRaw, HearsRaw, IsFor as IsForRaw, WritesRaw, carried_packet};
-ghost use Rattle.smoltcp_c.specs.Udp.{DispatchesDatagram, EmitsDatagram, HearsDatagram, IsFor as IsForUdp, WritesDatagram};
+ghost use Rattle.smoltcp_c.specs.Udp.{DispatchesDatagram, EmitsDatagram, HearsDatagram, IsFor as IsForUdp};
 ghost use Rattle.smoltcp_c.specs.Sends.{told_unsent};
-ghost use Rattle.smoltcp_c.specs.Udp.{carried_datagram};
+ghost use Rattle.smoltcp_c.specs.Udp.{WritesDatagram, carried_datagram};
 
 use crate::answers::{ERROR_ADDRESS, NOT_ACCEPTED, OK, flag_answer, sent_answer};
 use crate::context::{Cx, Moment, in_context};
@@ -102,8 +103,9 @@ fn heard_by_udp(
 /// Writes the packet of the first datagram of the transmit queue into `out`, and answers its length; the datagram
 /// leaves. 0 where none waits.
 ///
-/// `ERROR_ADDRESS` where the first has no source: no address was given with it or bound, and the context has none of its
-/// version. It leaves too. `ERROR_ROOM` where `out` is too short for it: the next call gives it again. `ERROR_CONTEXT`.
+/// `ERROR_ADDRESS` where the first has no source: no address was given with it or bound, and the context has none of
+/// its version. It leaves too. `ERROR_ROOM` where `out` is too short for it: the next call gives it again.
+/// `ERROR_CONTEXT`.
 #[unsafe(no_mangle)]
 pub extern "C" fn smoltcp_udp_dispatch_checked(h: &mut UdpHandle, cx: &Cx, out: &mut [u8]) -> i64
     ensures context { is_context cx.entry.now ≡ false

@@ -316,9 +316,9 @@ pub extern "C" fn smoltcp_icmp_set_hop_limit_checked(h: &mut IcmpHandle, hop_lim
 
 /// Puts a message of these bytes to `remote` into the transmit queue. 0.
 ///
-/// `ERROR_ADDRESS` where the address is unspecified; `ERROR_ROOM` where the queue has no room for it, or it has more than
-/// 65495 bytes. Nothing changes then. One that is no echo and no error of the address's version leaves the queue without
-/// a packet. The socket need not be open.
+/// `ERROR_ADDRESS` where the address is unspecified; `ERROR_ROOM` where the queue has no room for it, or it has more
+/// than 65495 bytes. Nothing changes then. One that is no echo and no error of the address's version leaves the queue
+/// without a packet. The socket need not be open.
 #[unsafe(no_mangle)]
 pub extern "C" fn smoltcp_icmp_send_checked(
     h: &mut IcmpHandle,
