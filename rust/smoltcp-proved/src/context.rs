@@ -31,7 +31,7 @@ impl Words for NoWords {
 }
 
 /// What a call is told: the moment, the interface's addresses and MTU, random words and the timestamps' clock. Set the
-/// moment anew for each round.
+/// moment anew for each round. It is not `Clone`: a word would begin two connections.
 ///
 /// The interface has at most one address of each version of IP. One that was never set, which is the unspecified
 /// address, is none: nothing is sent from it, so that `connect` to that version is refused as `Unaddressable`, as is a

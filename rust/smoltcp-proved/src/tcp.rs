@@ -120,7 +120,8 @@ impl<'a> Socket<'a> {
         sent(self.0.commit(count)).map(|_| result)
     }
 
-    /// Gives as many bytes as are there and fit, and answers how many.
+    /// Gives as many bytes as are there and fit, and answers how many. When TIME-WAIT ends, bytes that were not read are
+    /// gone: read them before.
     pub fn recv_slice(&mut self, data: &mut [u8]) -> Result<usize, RecvError> {
         received(self.0.recv(data))
     }
