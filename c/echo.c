@@ -18,17 +18,18 @@
 
 #include "smoltcp_socket.h"
 
-enum { SOCKETS = 16, ROOM = 65536, MTU = 1500, TURN = 64, MICROS = 1000000 };
+enum { SOCKETS = 16, ROOM = 65536, KEPT = 4 * ROOM, MTU = 1500, TURN = 64, MICROS = 1000000 };
 
-/* In seconds: how long a connection may be silent, and how long before it stands; how long one waits for its peer's
- * FIN. In microseconds: the pause of a socket that asks for a dispatch again at once in FIN-WAIT-2. */
-enum { SILENT = 60, OPENING = 3, HALF_CLOSED = 60, PAUSE = 20000 };
+/* In seconds: how long a connection may be silent, and how long before it stands, which is longer than a peer waits
+ * between two tries, since it ends with an RST; how long one waits for its peer's FIN. In microseconds: the pause of a
+ * socket that asks for a dispatch again at once in FIN-WAIT-2. */
+enum { SILENT = 60, OPENING = 30, HALF_CLOSED = 60, PAUSE = 20000 };
 
 /* A connection: its socket, the socket's buffers, and what was read and is not answered yet; its state, and since when;
  * and before what moment it is not to be dispatched. */
 static struct connection {
     struct smoltcp_tcp tcp;
-    uint8_t rx[ROOM], tx[ROOM], kept[ROOM];
+    uint8_t rx[ROOM], tx[ROOM], kept[KEPT];
     size_t begin, end;
     int port;
     int64_t state, since, not_before;
@@ -44,6 +45,11 @@ static int64_t now(void) {
     struct timespec t;
     clock_gettime(CLOCK_MONOTONIC, &t);
     return (int64_t)t.tv_sec * MICROS + t.tv_nsec / 1000;
+}
+
+/* A word for the number of a connection that the next packet may open: none is used twice. */
+static int draw_word(void) {
+    return getrandom(&cx.word, sizeof cx.word, 0) == sizeof cx.word;
 }
 
 static int open_device(const char *name) {
@@ -90,28 +96,37 @@ static void watch(struct connection *c) {
     if (state == SMOLTCP_FIN_WAIT_2 && cx.now - c->since > HALF_CLOSED * (int64_t)MICROS) smoltcp_tcp_abort(&c->tcp);
 }
 
-/* Sends what is kept, as far as there is room. Answers whether all is sent. */
-static int send_kept(struct connection *c) {
+/* Sends what is kept, as far as there is room. */
+static void send_kept(struct connection *c) {
     int64_t n = smoltcp_tcp_send(&c->tcp, c->kept + c->begin, c->end - c->begin);
     if (n > 0) c->begin += (size_t)n;
     if (c->begin == c->end) c->begin = c->end = 0;
-    return c->end == 0;
 }
 
-/* Keeps what has come behind a whole answer, and answers what the read answered. */
+/* Keeps what has come, as far as there is room, and answers what the read answered. It is read also while nothing can
+ * be sent: a receive window of 0 stops the acknowledgements of a peer that counts the byte of its probes. */
 static int64_t keep(struct connection *c) {
-    int64_t n = smoltcp_tcp_recv(&c->tcp, c->kept + c->end, ROOM - c->end);
+    int64_t n;
+    if (c->end == KEPT && c->begin > 0) {
+        memmove(c->kept, c->kept + c->begin, c->end - c->begin);
+        c->end -= c->begin;
+        c->begin = 0;
+    }
+    n = smoltcp_tcp_recv(&c->tcp, c->kept + c->end, KEPT - c->end);
     if (n > 0) c->end += (size_t)n;
     return n;
 }
 
+/* Closes behind the last byte. */
 static void serve_echo(struct connection *c) {
+    int64_t n = 1;
     int turn;
-    for (turn = 0; turn < TURN && send_kept(c); turn++) {
-        int64_t n = keep(c);
-        if (n == SMOLTCP_ERROR_FINISHED) smoltcp_tcp_close(&c->tcp);
-        if (n <= 0) return;
+    for (turn = 0; turn < TURN && n > 0; turn++) {
+        send_kept(c);
+        n = keep(c);
     }
+    send_kept(c);
+    if (n == SMOLTCP_ERROR_FINISHED && c->end == 0) smoltcp_tcp_close(&c->tcp);
 }
 
 static void serve_page(struct connection *c) {
@@ -120,7 +135,7 @@ static void serve_page(struct connection *c) {
     int64_t n = keep(c);
     if (n == SMOLTCP_ERROR_FINISHED) smoltcp_tcp_close(&c->tcp);
     if (c->end < 4 || memcmp(c->kept + c->end - 4, "\r\n\r\n", 4) != 0) {
-        if (c->end == ROOM) smoltcp_tcp_abort(&c->tcp);
+        if (c->end == KEPT) smoltcp_tcp_abort(&c->tcp);
         return;
     }
     smoltcp_tcp_send(&c->tcp, (const uint8_t *)page, sizeof page - 1);
@@ -177,20 +192,25 @@ static int64_t offer(int listeners, const uint8_t *packet, size_t len, uint8_t *
     return SMOLTCP_NOT_ACCEPTED;
 }
 
-/* The port to which a SYN without ACK goes, or 0 for another packet. */
+/* The port to which a SYN goes that opens a connection, or 0 for another packet: it has no ACK, RST or FIN, and is a
+ * whole segment whose checksum holds. */
 static int port_of_syn(const uint8_t *packet, size_t len) {
     size_t at = (size_t)(packet[0] & 15) * 4;
-    if (packet[9] != 6 || len < at + 20 || (packet[at + 13] & 22) != 2) return 0;
+    uint8_t reply[MTU];
+    if (packet[9] != 6 || len < at + 20 || (packet[at + 13] & 23) != 2) return 0;
+    if (smoltcp_tcp_reset(packet, len, reply, sizeof reply) <= 0) return 0;
     return packet[at + 2] << 8 | packet[at + 3];
 }
 
-/* The connection of a port that has waited longest for its handshake's end gives way to another SYN. */
+/* Where nobody listens at the port, the connection that has waited longest for its handshake's end gives way to another
+ * SYN. */
 static int give_way(int port) {
     struct connection *oldest = NULL;
     uint8_t packet[MTU];
     int i;
     for (i = 0; i < SOCKETS; i++) {
         struct connection *c = &connections[i];
+        if (c->port == port && smoltcp_tcp_is_listening(&c->tcp) == 1) return 0;
         if (c->port != port || smoltcp_tcp_state(&c->tcp) != SMOLTCP_SYN_RECEIVED) continue;
         if (!oldest || c->since < oldest->since) oldest = c;
     }
@@ -210,9 +230,12 @@ static void take_packet(const uint8_t *packet, size_t len) {
     if (!is_for_host(packet, len)) return;
     if (smoltcp_udp_process(&datagrams, &cx, packet, len) != SMOLTCP_NOT_ACCEPTED) return;
     n = offer(0, packet, len, reply);
-    if (n == SMOLTCP_NOT_ACCEPTED) n = offer(1, packet, len, reply);
-    port = port_of_syn(packet, len);
-    if (n == SMOLTCP_NOT_ACCEPTED && give_way(port)) n = offer(1, packet, len, reply);
+    port = n == SMOLTCP_NOT_ACCEPTED ? port_of_syn(packet, len) : 0;
+    if (port != 0) {
+        if (!draw_word()) return;
+        n = offer(1, packet, len, reply);
+        if (n == SMOLTCP_NOT_ACCEPTED && give_way(port)) n = offer(1, packet, len, reply);
+    }
     if (n == SMOLTCP_NOT_ACCEPTED && port != 7 && port != 80) n = smoltcp_tcp_reset(packet, len, reply, sizeof reply);
     emit(reply, n);
 }
@@ -264,7 +287,6 @@ int main(int argc, char **argv) {
     make_datagrams();
     while ((cx.now = now()) < end) {
         cx.tsval = (uint32_t)(cx.now / 1000);
-        if (getrandom(&cx.word, sizeof cx.word, 0) != sizeof cx.word) return perror("getrandom"), 2;
         take_packets();
         echo_datagrams();
         for (i = 0; i < SOCKETS; i++) {

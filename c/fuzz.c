@@ -4,7 +4,8 @@
  *     fuzz CALLS SEED
  *
  * It checks that each answer is one that the header names, that nothing is written behind what was answered, that a
- * refused call leaves the socket's numbers as they were, and that the bytes read are those that were sent. */
+ * refused call changes no byte of a socket or of a place of its queues, that nothing goes out from an address that was
+ * never set, and that the bytes read are those that were sent. */
 #define _DEFAULT_SOURCE
 #include <stdio.h>
 #include <stdlib.h>
@@ -116,6 +117,7 @@ static void begin(void) {
         ident.ident = 0x1234;
         smoltcp_tcp_listen(&ends[1].tcp, &b);
         smoltcp_tcp_connect(&ends[0].tcp, &ends[0].cx, &b, &a);
+        a.addr.version = b.addr.version = 0;
         smoltcp_udp_bind(&ends[0].udp, &a);
         smoltcp_udp_bind(&ends[1].udp, &b);
         smoltcp_icmp_bind(&ends[0].icmp, &ident);
@@ -219,10 +221,30 @@ static void recv_bytes(struct end *e, struct end *from) {
     if (smoltcp_tcp_consume(&e->tcp, (size_t)n) != n) fail("consume", n);
 }
 
+/* A refused send changes no byte of the socket, nor of the places of its transmit queue. */
+static void kept(const char *what, int64_t answer, const void *was, const void *is, size_t size) {
+    if (answer < 0 && memcmp(was, is, size) != 0) fail(what, answer);
+}
+
+/* The context of an end, or the same without an address: then nothing is written. */
+static struct smoltcp_context with_or_without(const struct end *e) {
+    struct smoltcp_context cx = e->cx;
+    if (draw(16) == 0) memset(cx.v4, 0, sizeof cx.v4);
+    return cx;
+}
+
+static void from_somewhere(const char *what, int64_t answer, const struct smoltcp_context *cx) {
+    if (cx->v4[0] == 0 && answer != 0 && answer != SMOLTCP_ERROR_ADDRESS) fail(what, answer);
+    if (cx->v4[0] != 0 && answer == SMOLTCP_ERROR_ADDRESS) fail(what, answer);
+}
+
 /* A datagram's bytes follow from its first one. */
 static uint8_t byte_of(const uint8_t *data, size_t i) { return (uint8_t)(data[0] + 7 * i); }
 
 static void send_datagram(struct end *e, int to) {
+    struct smoltcp_udp was = e->udp;
+    struct smoltcp_udp_place places[PLACES];
+    int64_t answer;
     size_t len = draw(900), i;
     uint8_t *data = before_guard(4, len);
     struct smoltcp_udp_metadata meta;
@@ -230,16 +252,21 @@ static void send_datagram(struct end *e, int to) {
     meta.endpoint = at(to, to ? 7 : 49152);
     if (len) data[0] = (uint8_t)draw(256);
     for (i = 1; i < len; i++) data[i] = byte_of(data, i);
-    named("udp_send", smoltcp_udp_send(&e->udp, &meta, data, len), 0);
+    memcpy(places, e->places[1], sizeof places);
+    answer = named("udp_send", smoltcp_udp_send(&e->udp, &meta, data, len), 0);
+    kept("udp_send", answer, &was, &e->udp, sizeof was);
+    kept("udp_send", answer, places, e->places[1], sizeof places);
 }
 
 /* The packet of the first datagram goes to the other end, or is lost, or is changed on its way. */
 static void carry_datagram(struct end *e, struct end *to) {
     size_t cap = draw(8) ? MTU : draw(MTU);
     uint8_t *out = before_guard(4, cap), *packet;
+    struct smoltcp_context cx = with_or_without(e);
     int64_t n;
     memset(out, 0xa5, cap);
-    n = within("udp_dispatch", smoltcp_udp_dispatch(&e->udp, &e->cx, out, cap), out, cap, 0xa5);
+    n = within("udp_dispatch", smoltcp_udp_dispatch(&e->udp, &cx, out, cap), out, cap, 0xa5);
+    from_somewhere("udp_dispatch", n, &cx);
     if (n <= 0 || draw(8) == 0) return;
     packet = before_guard(4, (size_t)n);
     memmove(packet, out, (size_t)n);
@@ -264,6 +291,9 @@ static void recv_datagram(struct end *e) {
 
 /* A whole packet, or any bytes, which leave the queue without a packet. */
 static void send_raw(struct end *e) {
+    struct smoltcp_raw was = e->raw;
+    struct smoltcp_raw_place places[PLACES];
+    int64_t answer;
     size_t len = 20 + draw(900), i;
     uint8_t *data = before_guard(4, len);
     memset(data, 0, 20);
@@ -278,7 +308,10 @@ static void send_raw(struct end *e) {
     for (i = 1; i < len - 20; i++) data[20 + i] = byte_of(data + 20, i);
     if (draw(16) == 0) data[1 + draw(3)] ^= (uint8_t)(1 << draw(8));
     if (draw(16) == 0) len = draw((uint32_t)len + 1);
-    named("raw_send", smoltcp_raw_send(&e->raw, data, len), 0);
+    memcpy(places, e->raw_places[1], sizeof places);
+    answer = named("raw_send", smoltcp_raw_send(&e->raw, data, len), 0);
+    kept("raw_send", answer, &was, &e->raw, sizeof was);
+    kept("raw_send", answer, places, e->raw_places[1], sizeof places);
 }
 
 /* The first packet goes to the other end, or is lost, or its header is changed on its way. */
@@ -314,6 +347,9 @@ static void recv_raw(struct end *e) {
 
 /* An echo request, whose checksum is the dispatch's, or bytes that are no message. */
 static void send_echo(struct end *e, int to) {
+    struct smoltcp_icmp was = e->icmp;
+    struct smoltcp_icmp_place places[PLACES];
+    int64_t answer;
     size_t len = 8 + draw(900), i;
     uint8_t *data = before_guard(4, len);
     struct smoltcp_endpoint there = at(to, 0);
@@ -325,17 +361,22 @@ static void send_echo(struct end *e, int to) {
     if (len > 8) data[8] = (uint8_t)draw(256);
     for (i = 1; i < len - 8; i++) data[8 + i] = byte_of(data + 8, i);
     if (draw(16) == 0) len = draw(8);
-    named("icmp_send", smoltcp_icmp_send(&e->icmp, &there.addr, data, len), 0);
+    memcpy(places, e->icmp_places[1], sizeof places);
+    answer = named("icmp_send", smoltcp_icmp_send(&e->icmp, &there.addr, data, len), 0);
+    kept("icmp_send", answer, &was, &e->icmp, sizeof was);
+    kept("icmp_send", answer, places, e->icmp_places[1], sizeof places);
 }
 
 /* The first message goes to the other end, or is lost, or is changed on its way. */
 static void carry_echo(struct end *e, struct end *to) {
     size_t cap = draw(8) ? MTU : draw(MTU);
     uint8_t *out = before_guard(4, cap), *packet;
+    struct smoltcp_context cx = with_or_without(e);
     int64_t n, answer;
     int changed = draw(16) == 0;
     memset(out, 0xa5, cap);
-    n = within("icmp_dispatch", smoltcp_icmp_dispatch(&e->icmp, &e->cx, out, cap), out, cap, 0xa5);
+    n = within("icmp_dispatch", smoltcp_icmp_dispatch(&e->icmp, &cx, out, cap), out, cap, 0xa5);
+    from_somewhere("icmp_dispatch", n, &cx);
     if (n <= 0 || draw(8) == 0) return;
     packet = before_guard(4, (size_t)n);
     memmove(packet, out, (size_t)n);

@@ -354,7 +354,7 @@ int main(void) {
     int64_t n;
 
     of_a.ip_mtu = of_b.ip_mtu = MTU;
-    of_a.word = 1000; of_b.word = 5000;
+    of_a.word = 1000; of_b.word = 5000; /* one connection each: a program draws a word for each, and never the same */
     of_a.v4[0] = of_b.v4[0] = 10; of_a.v4[3] = 1; of_b.v4[3] = 2;
 
     /* What C may break is met. */

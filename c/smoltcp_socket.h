@@ -1,8 +1,8 @@
 /* Proved sockets for C: TCP, UDP, ICMP and raw. A socket lies in memory of the caller, with its two buffers; no call
  * allocates, keeps anything elsewhere or calls back. Calls on different sockets may run at once.
  *
- * Each call answers a number: 0 or more where it was done, and below 0 an error, with nothing changed; but see
- * dispatch and recv of each kind.
+ * Each call answers a number: 0 or more where it was done, and below 0 an error, with nothing changed, not a byte; but
+ * see dispatch and recv of each kind.
  *
  * What the caller has to keep, which nothing tests: a socket is memory that its init made and that has not been moved,
  * copied or written since; of one socket one call runs at a time; its buffers are its own from init on, and overlap
@@ -25,7 +25,7 @@ extern "C" {
 enum {
     SMOLTCP_OK = 0,
     SMOLTCP_ERROR_STATE = -1,    /* the state of the socket does not allow the call */
-    SMOLTCP_ERROR_ADDRESS = -2,  /* a port or an address is missing or of another version */
+    SMOLTCP_ERROR_ADDRESS = -2,  /* a port or an address is missing or of another version, also the interface's */
     SMOLTCP_ERROR_FINISHED = -3, /* the peer has closed, and all that it sent was read */
     SMOLTCP_ERROR_CONTEXT = -5,  /* the context's moment or its MTU is out of range */
     SMOLTCP_ERROR_ROOM = -6,     /* a buffer or a queue has too little room for a packet */
@@ -49,13 +49,23 @@ struct smoltcp_address { uint8_t version; uint8_t v4[4]; uint8_t v6[16]; };
 
 struct smoltcp_endpoint { struct smoltcp_address addr; uint16_t port; };
 
-/* What a call is told of the interface. */
+/* What a call is told of the interface.
+ *
+ * The word is the initial sequence number of a connection that the call opens: by connect, or by process of a SYN that a
+ * listening socket takes. A word is never used twice: draw one before each connect and before each packet that a
+ * listening socket is offered, from a source that nobody off the path can guess, as RFC 6528 asks (getrandom, or a keyed
+ * hash of addresses and ports beside a clock of 4 microseconds). Two connections of one word begin with one number, and
+ * who sees the one can put segments into the other.
+ *
+ * An address of zeros was never set, and is none: nothing is sent from it. smoltcp_tcp_connect to that version of IP
+ * answers SMOLTCP_ERROR_ADDRESS, and so does the dispatch of a UDP datagram that has no source of its own and of an ICMP
+ * message; a TCP connection from it is reset, as where an address is gone. */
 struct smoltcp_context {
     int64_t now;     /* the moment in microseconds, within 2^61 of zero */
-    uint32_t word;   /* a random word: the initial sequence number of a connection that this call opens */
+    uint32_t word;   /* a random word, never used twice */
     uint32_t tsval;  /* the clock of timestamps (RFC 7323), for a socket that sends them */
     uint32_t ip_mtu; /* the largest IP packet, from 576 to 65535 bytes */
-    uint8_t v4[4];   /* the interface's addresses */
+    uint8_t v4[4];   /* the interface's addresses; zeros where it has none of the version */
     uint8_t v6[16];
 };
 
@@ -294,7 +304,9 @@ static inline int64_t smoltcp_tcp_listen(struct smoltcp_tcp *s, const struct smo
     return smoltcp_tcp_listen_checked(&h, endpoint);
 }
 
-/* Opens a connection to remote, from local, whose address may be none: then the interface's is taken. */
+/* Opens a connection to remote, from local, whose address may be none: then the interface's is taken. The context's word
+ * is its initial sequence number. SMOLTCP_ERROR_STATE where the socket is open, SMOLTCP_ERROR_ADDRESS where a port is 0,
+ * an address is unspecified, the two are of different versions, or the interface has none of the version. */
 static inline int64_t smoltcp_tcp_connect(struct smoltcp_tcp *s, const struct smoltcp_context *cx,
                                           const struct smoltcp_endpoint *remote,
                                           const struct smoltcp_endpoint *local) {
@@ -325,7 +337,8 @@ static inline int64_t smoltcp_tcp_send(struct smoltcp_tcp *s, const uint8_t *dat
 }
 
 /* Gives as many bytes as are there and fit, and answers how many. Where smoltcp_tcp_may_recv is 0,
- * SMOLTCP_ERROR_FINISHED if the peer has closed, else SMOLTCP_ERROR_STATE. */
+ * SMOLTCP_ERROR_FINISHED if the peer has closed, else SMOLTCP_ERROR_STATE. When TIME-WAIT ends, ten seconds behind both
+ * FINs, bytes that came and were not read are gone: read them before. */
 static inline int64_t smoltcp_tcp_recv(struct smoltcp_tcp *s, uint8_t *data, size_t len) {
     struct smoltcp_tcp_handle h = {(uint8_t *)s};
     if (!s || !data) return SMOLTCP_ERROR_NULL;
@@ -709,8 +722,8 @@ static inline int64_t smoltcp_udp_set_hop_limit(struct smoltcp_udp *s, uint8_t h
 
 /* Puts a datagram of these bytes into the transmit queue. SMOLTCP_ERROR_ADDRESS where the socket is not open, the
  * destination has no address or port, or the source is of another version of IP; SMOLTCP_ERROR_ROOM where the queue has
- * no room for it, or its packet would have more than 65535 bytes. Whether the packet fits the MTU is the caller's to
- * see. */
+ * no room for it, or its packet would have more than 65535 bytes. Nothing changes then. Whether the packet fits the MTU
+ * is the caller's to see, and whether the interface has an address of the version is dispatch's, which is told. */
 static inline int64_t smoltcp_udp_send(struct smoltcp_udp *s, const struct smoltcp_udp_metadata *meta,
                                        const uint8_t *data, size_t len) {
     struct smoltcp_udp_handle h = {(uint8_t *)s};
@@ -754,8 +767,9 @@ static inline int64_t smoltcp_udp_process(struct smoltcp_udp *s, const struct sm
 }
 
 /* The length of the packet of the first datagram of the transmit queue, in out, or 0 for none. A call takes one
- * datagram from the queue, so that at most as many have something to emit as were sent. SMOLTCP_ERROR_ROOM where out is
- * too short for it: it stays the first. */
+ * datagram from the queue, so that at most as many have something to emit as were sent. SMOLTCP_ERROR_ADDRESS where it
+ * has no source: none was given or bound, and the interface has no address of its version; it has left the queue.
+ * SMOLTCP_ERROR_ROOM where out is too short for it: it stays the first. */
 static inline int64_t smoltcp_udp_dispatch(struct smoltcp_udp *s, const struct smoltcp_context *cx, uint8_t *out,
                                            size_t cap) {
     struct smoltcp_udp_handle h = {(uint8_t *)s};
@@ -849,7 +863,7 @@ static inline int64_t smoltcp_raw_recv_queue(struct smoltcp_raw *s) {
 }
 
 /* Puts a packet of these bytes, its IP header first, into the transmit queue. SMOLTCP_ERROR_ROOM where the queue has no
- * room for it, or it has more than 65535 bytes. */
+ * room for it, or it has more than 65535 bytes. Nothing changes then. Its source is the one that its header names. */
 static inline int64_t smoltcp_raw_send(struct smoltcp_raw *s, const uint8_t *data, size_t len) {
     struct smoltcp_raw_handle h = {(uint8_t *)s};
     if (!s || !data) return SMOLTCP_ERROR_NULL;
@@ -996,8 +1010,9 @@ static inline int64_t smoltcp_icmp_set_hop_limit(struct smoltcp_icmp *s, uint8_t
 }
 
 /* Puts an ICMP message to remote into the transmit queue, its checksum computed. SMOLTCP_ERROR_ADDRESS where remote is
- * unspecified, SMOLTCP_ERROR_ROOM where the queue has no room for it, or it has more than 65495 bytes. One that is no
- * echo and no error of its version is dropped by dispatch. The socket need not be open. */
+ * unspecified, SMOLTCP_ERROR_ROOM where the queue has no room for it, or it has more than 65495 bytes. Nothing changes
+ * then. One that is no echo and no error of its version is dropped by dispatch, as is one for which the interface has no
+ * address. The socket need not be open. */
 static inline int64_t smoltcp_icmp_send(struct smoltcp_icmp *s, const struct smoltcp_address *remote,
                                         const uint8_t *data, size_t len) {
     struct smoltcp_icmp_handle h = {(uint8_t *)s};
@@ -1032,8 +1047,8 @@ static inline int64_t smoltcp_icmp_process(struct smoltcp_icmp *s, const struct 
 }
 
 /* The length of the packet of the first message of the transmit queue, in out. 0 where none waits, or the first is no
- * echo and no error of its version, or has no source: it leaves the queue too. SMOLTCP_ERROR_ROOM where out is too
- * short for it: it stays the first. */
+ * echo and no error of its version: it leaves the queue too. SMOLTCP_ERROR_ADDRESS where the interface has no address of
+ * its version: it has left the queue. SMOLTCP_ERROR_ROOM where out is too short for it: it stays the first. */
 static inline int64_t smoltcp_icmp_dispatch(struct smoltcp_icmp *s, const struct smoltcp_context *cx, uint8_t *out,
                                            size_t cap) {
     struct smoltcp_icmp_handle h = {(uint8_t *)s};

@@ -1,6 +1,6 @@
 -- A dispatch whose emit does what another may do; and a segment that is processed while the packets are held apart.
-use Rattle.std.proofs.Common.{◌≡◌, ℕ, List, [], ◌∷◌, ◌++◌, Bool, true, false, Option, Some, None, refl, sym, ap, ◌∙◌, subst}
-use Rattle.std.specs.Prelude.{Result, Ok, Err, IfOk, OnErr, option_map, is_some}
+use Rattle.std.proofs.Common.{◌≡◌, ℕ, List, [], ◌∷◌, ◌++◌, Bool, true, false, Option, Some, None, sym, ap, ◌∙◌, subst}
+use Rattle.std.specs.Prelude.{Result, Ok, IfOk, OnErr, option_map, is_some}
 use Rattle.std.specs.Option.{ForSome}
 use Rattle.std.specs.declared.alloc.AllocError.{AllocError}
 use Rattle.std.specs.Borrow.{MutBor}
@@ -20,18 +20,18 @@ use Rattle.control_wire.specs.declared.tcp.TcpRepr.{TcpRepr}
 use Rattle.control_wire.specs.declared.tcp.TcpTimestampRepr.{TcpTimestampRepr}
 use Rattle.ip_wire.specs.declared.checksum.ChecksumCapabilities.{ChecksumCapabilities}
 use Rattle.segment_wire.specs.Packet.{TcpPacket, tcp_packet}
-use Rattle.sock_core.specs.Emission.{Emits, EmitsAt}
+use Rattle.sock_core.specs.Emission.{Emits}
 use Rattle.sock_core.specs.Facts.{Facts}
 use Rattle.sock_tcp.specs.Begin.{before_emit}
 use Rattle.sock_tcp.specs.Content.{content}
-use Rattle.sock_tcp.specs.Dispatch.{Dispatches, EmitTcp, EmitsDue, EmitsTo, packet_in}
+use Rattle.sock_tcp.specs.Dispatch.{Dispatches, EmitTcp, EmitsTo, packet_in}
 use Rattle.sock_tcp.specs.Draw.{Draws, draws}
 use Rattle.sock_tcp.specs.Outgoing.{packet_of}
 use Rattle.sock_tcp.specs.Process.{Processes, reply_of}
 use Rattle.sock_tcp.specs.Verdict.{verdict_of}
 use Rattle.sock_tcp.specs.View.{View}
 use Rattle.sock_tcp.specs.declared.tuple.Tuple.{Tuple}
-use Rattle.host_context.specs.Layer.{Hears, with_reply}
+use Rattle.host_context.specs.Layer.{Hears, PutsTcp, puts_tcp, with_reply}
 use Rattle.host_context.specs.Outbox.{CarriesTcp, icmp_packet, octets, with_packet}
 use Rattle.host_context.specs.declared.interface.Interface.{Interface}
 use Rattle.host_context.specs.declared.outbox.Outbox.{Outbox}
@@ -95,3 +95,33 @@ module _ {F K C E : Type 0} (g : EmitTcp F C E) (f : F) (h : EmitTcp K C E) (k :
     pub dispatches : (v w : View) → Dispatches g f facts tells clock v c r w c' → Dispatches h k facts tells clock v c r w c'
     unfolding Dispatches
     dispatches v w x = to (before_emit v facts (is_some clock)).peer (before_emit v facts (is_some clock)).view w x
+
+-- ---- what a dispatch leaves, whose emit puts a packet into the outbox
+
+module _ {W : Type 0} (c c' : Interface W Outbox) (r : Result (Unit {0}) AllocError) where
+  -- after an error the packets are those of before, and but for the outbox nothing changes at all
+  pub record Leaves : Type 0 where
+    pub kept : OnErr r (c'.outbox.packets.items ≡ c.outbox.packets.items)
+    pub same : c' ≡ record c { outbox = c'.outbox }
+
+  quiet : r ≡ Ok tt → c' ≡ c → Leaves
+  quiet a e = record { kept = subst (λ x. OnErr x (c'.outbox.packets.items ≡ c.outbox.packets.items)) (sym a) tt; same = e ∙ ap (λ (y : Interface W Outbox). record c { outbox = y.outbox }) (sym e) }
+
+  put : (shown left : Interface W Outbox) (ip : IpRepr) (s : Segment) → PutsTcp ip s shown r left → shown ≡ c → left ≡ c' → Leaves
+  put shown left ip s p a b = record {
+    kept = subst (λ y. OnErr r (y.outbox.packets.items ≡ c.outbox.packets.items)) b (subst (λ y. OnErr r (left.outbox.packets.items ≡ y.outbox.packets.items)) a p.kept);
+    same = subst (λ y. y ≡ record c { outbox = y.outbox }) b (subst (λ y. left ≡ record y { outbox = left.outbox }) a p.same);
+  }
+
+  emitted : (o : Option (IpRepr × Segment)) → Emits puts_tcp packet_of tt o c r c' → Leaves
+  emitted None x = quiet x.0 x.1
+  emitted (Some s) x = put x.shown.now x.left.now x.sent.0 (segment_of x.sent.1) x.met x.shows x.leaves
+
+  module _ (facts : Facts) {G : Type 0} (tells : G → ℕ → Type 0) (clock : Option G) where
+    given : (o : Option Tuple) (v w : View) → EmitsTo puts_tcp tt facts tells clock o v c r w c' → Leaves
+    given None v w x = quiet x.answer x.context
+    given (Some t) v w x = emitted (option_map packet_in (content v t facts x.stamp x.emits.bytes)) x.emits.emits
+
+    pub leaves : (v w : View) → Dispatches puts_tcp tt facts tells clock v c r w c' → Leaves
+    unfolding Dispatches
+    leaves v w x = given (before_emit v facts (is_some clock)).peer (before_emit v facts (is_some clock)).view w x

@@ -1,5 +1,5 @@
 -- What a context with at most one address of each version answers.
-use Rattle.std.specs.Prelude.{ℕ, ℤ, ◌++◌, [], ◌∷◌, Bool, Option, Some, None, false, replicate, if◌then◌else◌}
+use Rattle.std.specs.Prelude.{ℕ, ℤ, ◌++◌, ◌∷◌, Bool, Option, Some, None, false, replicate, if◌then◌else◌}
 use Rattle.ip_wire.specs.Address.{all_zero}
 use Rattle.ip_wire.specs.declared.address.IpAddress.{IpAddress}
 use Rattle.ip_wire.specs.declared.address.IpAddress.TheVariants as address

@@ -1,7 +1,7 @@
 -- The interface layer of a host with TCP sockets: what a dispatch and a packet that came do to a socket, to the
 -- interface, and to the packets in its outbox.
 use Rattle.std.specs.Prelude.{ℕ, ◌≡◌, ◌≤◌, ◌++◌, [], ◌∷◌, ⊤, List, length, Bool, true, false, Option, Some, None}
-use Rattle.std.specs.Prelude.{Result, Ok, IfOk, OnErr, option_map}
+use Rattle.std.specs.Prelude.{Result, Ok, IfOk, OnErr}
 use Rattle.std.specs.declared.alloc.AllocError.{AllocError}
 use Rattle.ip_wire.specs.declared.checksum.ChecksumCapabilities.{ChecksumCapabilities}
 use Rattle.ip_wire.specs.declared.repr.IpRepr.{IpRepr}
@@ -12,7 +12,7 @@ use Rattle.control_wire.specs.declared.tcp.TcpTimestampRepr.{TcpTimestampRepr}
 use Rattle.segment_wire.specs.Packet.{TcpPacket, tcp_packet}
 use Rattle.sock_core.specs.Facts.{Facts}
 use Rattle.sock_tcp.specs.Dispatch.{EmitTcp}
-use Rattle.sock_tcp.specs.Process.{Accepts, Processes, reply_of}
+use Rattle.sock_tcp.specs.Process.{Accepts, Processes}
 use Rattle.sock_tcp.specs.View.{View}
 use Rattle.host_context.specs.Outbox.{CarriesTcp, octets}
 use Rattle.host_context.specs.declared.interface.Interface.{Interface}

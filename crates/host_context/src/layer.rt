@@ -31,6 +31,8 @@ pub fn dispatch_tcp<W: Words, G: TsvalSource>(
         socket.old.tsval_generator socket.old.control_block interface.old result socket.new.control_block
         interface.new }
     ensures generator { socket.new.tsval_generator ≡ socket.old.tsval_generator }
+    ensures kept { OnErr result (interface.new.outbox.packets.items ≡ interface.old.outbox.packets.items) }
+    ensures same { interface.new ≡ record interface.old { outbox = interface.new.outbox } }
 {
     socket.dispatch(
         interface,
@@ -75,6 +77,7 @@ pub fn receive_tcp<W: Words, G: TsvalSource>(
         → Hears ⟦<Interface<W, Outbox> as Context>⟧.facts ⟦<Interface<W, Outbox> as Context>⟧.word_at
         (IsReplyStamp G.tells socket.new.tsval_generator p.segment.timestamp) socket.old.control_block interface.old p
         result socket.new.control_block interface.new }
+    ensures kept { OnErr result (interface.new.outbox.packets.items ≡ interface.old.outbox.packets.items) }
     ensures generator { (p : TcpPacket) → tcp_packet_parsed interface.old.checksums bytes.now ≡ Some p
         → IsFor socket.old.control_block p → socket.new.tsval_generator
         ≡ generator_after socket.old.control_block p.segment socket.old.tsval_generator }
@@ -89,8 +92,8 @@ pub fn receive_tcp<W: Words, G: TsvalSource>(
     hear(socket, interface, &ip, &repr)
 }
 
-// The socket takes the segment, and its answer goes into the outbox. Of what a call does to a context only the facts and
-// the words are known: so the packets are held apart meanwhile.
+// The socket takes the segment, and its answer goes into the outbox. Of what a call does to a context only the facts
+// and the words are known: so the packets are held apart meanwhile.
 fn hear<W: Words, G: TsvalSource>(
     socket: &mut Socket<'_, G>,
     interface: &mut Interface<W, Outbox>,
@@ -103,6 +106,7 @@ fn hear<W: Words, G: TsvalSource>(
         → Hears ⟦<Interface<W, Outbox> as Context>⟧.facts ⟦<Interface<W, Outbox> as Context>⟧.word_at
         (IsReplyStamp G.tells socket.new.tsval_generator p.segment.timestamp) socket.old.control_block interface.old p
         result socket.new.control_block interface.new }
+    ensures kept { OnErr result (interface.new.outbox.packets.items ≡ interface.old.outbox.packets.items) }
     ensures generator { socket.new.tsval_generator
         ≡ generator_after socket.old.control_block (segment_of repr.now) socket.old.tsval_generator }
 {

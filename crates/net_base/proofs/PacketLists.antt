@@ -3,7 +3,7 @@ use Rattle.std.proofs.Common.{◌≡◌, ℕ, ◌+◌, ◌-◌, ◌<◌, ◌≤�
 use Rattle.std.proofs.lemmas.Bool.{cases_lt, false≢true}
 use Rattle.std.proofs.lemmas.Bool.Decides.{nat_tests}
 use Rattle.std.specs.Prelude.{◌==◌, ◌&&◌, ◌||◌, not, nat_le, nat_lt, is_none, if◌then◌else◌}
-use Rattle.net_base.specs.Packets.{Packets, packets_with, taken, place_of, end_of, run_of, room_of, first_bytes, starts_padded, put_packet, packets, Enqueues, without_first, skipped_from, skipped, restarted, fits_behind, fits_before, fits, padded_for, made_room, takes, appended, AppendsWith}
+use Rattle.net_base.specs.Packets.{Packets, packets_with, taken, place_of, end_of, run_of, room_of, first_bytes, starts_padded, put_packet, packets, Enqueues, without_first, skipped_from, skipped, restarted, fits_behind, fits, padded_for, made_room, takes, appended, AppendsWith}
 use Rattle.net_base.proofs.Around.{place_of-high, place_of-low, place_of-place_of, place_of-within}
 
 module _ {X : Type 0} where
@@ -201,3 +201,8 @@ module _ {X : Type 0} where
   pub packets_skipped : (p : Packets X) → packets (skipped p).entries ≡ packets p.entries
   unfolding skipped
   packets_skipped p = packets_from (length p.storage) p.start p.entries
+
+-- room for an entry where no payload byte is taken; and where some are
+pub ruleset bare_room = (takes_bare, refuses_bare, stays_bare, restarts_bare, run_bare)
+
+pub ruleset other_room = (takes_some, made_room_some, made_room_full, takes_full)

@@ -2,9 +2,9 @@
 //!
 //! A packet's bytes stand in one piece. Where they don't fit before the end of the payload storage but fit at its
 //! beginning, the bytes up to the end become padding: an entry with no header, which is in no list of packets.
-ghost use Rattle.std.specs.Prelude.{nat_lt, ◌≡◌, ℕ, ◌+◌, ◌-◌, ◌<◌, ◌≤◌, ◌==◌, ◌&&◌, nat_le, ◌↔◌, List, [], ◌∷◌, ◌++◌, length};
+ghost use Rattle.std.specs.Prelude.{◌≡◌, ℕ, ◌+◌, ◌-◌, ◌<◌, ◌≤◌, ◌==◌, ◌&&◌, nat_le, ◌↔◌, List, [], ◌∷◌, ◌++◌, length};
 ghost use Rattle.std.specs.Prelude.{take, drop, min, true, false, Some, None, IfOk, IfSome, OnErr, IsOk, IsSome};
-ghost use Rattle.std.specs.Prelude.{IsTrue, if◌then◌else◌};
+ghost use Rattle.std.specs.Prelude.{IsTrue, if◌then◌else◌, nat_lt};
 ghost use Rattle.std.specs.Fn.{FnOnceReturnsAtMut};
 ghost use Rattle.std.specs.Borrow.{sem};
 ghost use Rattle.net_base.specs.Ring.{LeavesRun, overwrite};
@@ -211,7 +211,7 @@ impl<'a, H: Copy> PacketBuffer<'a, H> {
     }
 
     // The same where no payload byte is taken: all of the storage is free.
-    #[tactic(auto, using(crate::proofs::PacketLists::takes_bare, crate::proofs::PacketLists::refuses_bare, crate::proofs::PacketLists::stays_bare, crate::proofs::PacketLists::restarts_bare, crate::proofs::PacketLists::run_bare))]
+    #[tactic(auto, using(crate::proofs::PacketLists::bare_room))]
     fn restart_for(&mut self, size: usize) -> bool
         requires place { length self.old.entries < self.old.places }
         requires none { taken self.old.entries ≡ 0 }
@@ -236,7 +236,7 @@ impl<'a, H: Copy> PacketBuffer<'a, H> {
 
     // Makes room for an entry of `size` bytes behind the others. Answers whether there is room; where not, nothing
     // changed.
-    #[tactic(auto, using(crate::proofs::PacketLists::takes_some, crate::proofs::PacketLists::made_room_some, crate::proofs::PacketLists::made_room_full, crate::proofs::PacketLists::takes_full))]
+    #[tactic(auto, using(crate::proofs::PacketLists::other_room))]
     fn make_room(&mut self, size: usize) -> bool
         ensures after { self.new ≡ made_room size self.old }
         ensures takes { result ≡ takes size self.old }

@@ -10,8 +10,10 @@ mod Owned
 mod RawSending
 mod Placing
 mod Reading
+mod Refused
 mod Replies
 mod Sending
 mod Told
+mod Unsent
 mod UdpSending
 mod Clocks

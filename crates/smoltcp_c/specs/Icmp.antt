@@ -1,6 +1,8 @@
 -- An ICMP socket in the memory of C.
-use Rattle.std.specs.Prelude.{ℕ, ℤ, ◌≤◌, ◌==◌, true, List, [], ◌++◌, drop, Option, Some, None}
+use Rattle.std.specs.Prelude.{ℕ, ℤ, ◌≡◌, ◌≤◌, ◌==◌, Bool, not, true, false, List, [], ◌++◌, drop, Option, Some, None}
 use Rattle.std.specs.Prelude.{Result, Ok, Err, if◌then◌else◌}
+use Rattle.ip_wire.specs.Address.{is_unspecified}
+use Rattle.ip_wire.specs.IpHeader.{src_addr_of}
 use Rattle.ip_wire.specs.Packet.{header_octets}
 use Rattle.ip_wire.specs.Protocol.{number_of}
 use Rattle.ip_wire.specs.declared.address.IpAddress.{IpAddress}
@@ -18,6 +20,7 @@ use Rattle.sock_dgram.specs.IcmpFilter.{Accepts, ends_v4, ends_v6, octets_v4, oc
 use Rattle.sock_dgram.specs.declared.error.RecvError.{RecvError}
 use Rattle.sock_dgram.specs.declared.icmp.endpoint.Endpoint.{Endpoint}
 use Rattle.sock_dgram.specs.declared.icmp.endpoint.Endpoint.TheVariants as endpoint
+use Rattle.smoltcp_c.specs.Answers.{error_address}
 use Rattle.smoltcp_c.specs.Heard.{AcceptsIf, Hears}
 use Rattle.smoltcp_c.specs.Numbers.{address_told, listen_in}
 use Rattle.smoltcp_c.specs.Sends.{DispatchesInto, Puts}
@@ -124,10 +127,38 @@ pub record CountsMessage (ip : IpRepr) (m : AnyMessage) : Type 0 where
   pub counted : Counts ip m
   pub total : packet_len ip ≤ 65535
 
-abbrev pub WritesMessage : Outgoing → Wire → Result (Unit {0}) Full → Wire → Type 0
-WritesMessage o old result new =
+-- a source that was never set is none
+abbrev pub has_source : Outgoing → Bool
+has_source o = not (is_unspecified (src_addr_of o.ip))
+
+-- it is written where it is one and fits; without a source it is not written, and not refused
+abbrev pub WritesIf : Bool → Outgoing → Wire → Result (Unit {0}) Full → Wire → Type 0
+WritesIf true o old result new =
     Puts (CountsMessage o.ip o.message) (sent_len o) (sent_packet o) old result new
+WritesIf false o old result new = (result ≡ Ok tt) × (new ≡ record old { unsourced = true })
+
+abbrev pub WritesMessage : Outgoing → Wire → Result (Unit {0}) Full → Wire → Type 0
+WritesMessage o old result new = WritesIf (has_source o) o old result new
+
+abbrev pub sourced : Option Outgoing → Option Outgoing
+sourced None = None
+sourced (Some o) = if has_source o then Some o else None
+
+abbrev pub lacks_source : Option Outgoing → Bool
+lacks_source None = false
+lacks_source (Some o) = not (has_source o)
 
 -- the first message's packet, where it has a source and is well formed
-abbrev pub DispatchesMessage : Facts → View → List ℕ → ℤ → View → List ℕ → Type 0
-DispatchesMessage f v = DispatchesInto sent_len sent_packet (outgoing v f) v
+abbrev pub EmitsMessage : Facts → View → List ℕ → ℤ → View → List ℕ → Type 0
+EmitsMessage f v = DispatchesInto sent_len sent_packet (sourced (outgoing v f)) v
+
+-- a message that has no source
+abbrev pub told_unsourced : Bool → ℤ → ℤ
+told_unsourced true n = error_address
+told_unsourced false n = n
+
+pub record DispatchesMessage (f : Facts) (v : View) (out : List ℕ) (result : ℤ) (w : View) (out' : List ℕ)
+    : Type 0 where
+  pub sent : ℤ
+  pub dispatches : EmitsMessage f v out sent w out'
+  pub answer : result ≡ told_unsourced (lacks_source (outgoing v f)) sent

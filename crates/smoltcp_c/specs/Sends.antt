@@ -1,9 +1,10 @@
 -- What a dispatch of a datagram socket writes into a buffer.
-use Rattle.std.specs.Prelude.{ℕ, ℤ, pos, ◌≡◌, ◌≤◌, ◌&&◌, nat_le, Bool, true, List, ◌++◌, length, drop, Option, Some}
-use Rattle.std.specs.Prelude.{None, Result, Ok, Err, cond, false, if◌then◌else◌}
+use Rattle.std.specs.Prelude.{ℕ, ℤ, zero, pos, ◌≡◌, ◌≤◌, ◌&&◌, nat_le, Bool, true, List, ◌++◌, length, drop}
+use Rattle.std.specs.Prelude.{Option, Some, None, Result, Ok, Err, cond, false, if◌then◌else◌}
 use Rattle.net_base.specs.Packets.{Dequeues, skipped}
 use Rattle.sock_dgram.specs.Addressed.{View, waiting}
-use Rattle.smoltcp_c.specs.Answers.{error_room}
+use Rattle.sock_dgram.specs.Datagrams.{has_entry}
+use Rattle.smoltcp_c.specs.Answers.{error_address, error_room}
 use Rattle.smoltcp_c.specs.declared.wire.Full.{Full}
 use Rattle.smoltcp_c.specs.declared.wire.Wire.{Wire}
 
@@ -14,6 +15,7 @@ pub record IsPut (n : ℕ) (packet : List ℕ) (old new : Wire) : Type 0 where
   pub len : new.len ≡ n
   pub bytes : new.out.now ≡ packet ++ drop n old.out.now
   pub moment : new.moment ≡ old.moment
+  pub sourced : new.unsourced ≡ old.unsourced
   pub same_buffer : new.out.ghost_name ≡ old.out.ghost_name
 
 -- it is written where it is one and fits; else nothing changes
@@ -51,3 +53,15 @@ module _ {O : Type 0} (len : O → ℕ) (packet : O → List ℕ) where
     pub sent : has_room due out ≡ true → Dequeues v.tx_buffer w.tx_buffer
     pub failed : has_room due out ≡ false → w.tx_buffer ≡ skipped v.tx_buffer
     pub same : w ≡ record v { tx_buffer = w.tx_buffer }
+
+-- where a place of the queue was taken and nothing was written, the first packet left the queue all the same
+abbrev pub told_unsent : Bool → ℤ → ℤ
+told_unsent true (pos zero) = error_address
+told_unsent waits n = n
+
+-- a dispatch, and what it answers: 0 only where no place of the queue was taken
+pub record DispatchesOrDrops {O E M : Type 0} (len : O → ℕ) (packet : O → List ℕ) (due : Option O) (v : View E M)
+    (out : List ℕ) (result : ℤ) (w : View E M) (out' : List ℕ) : Type 0 where
+  pub sent : ℤ
+  pub dispatches : DispatchesInto len packet due v out sent w out'
+  pub answer : result ≡ told_unsent (has_entry v.tx_buffer) sent

@@ -17,7 +17,7 @@ use Rattle.sock_dgram.specs.declared.error.RecvError.{RecvError}
 use Rattle.sock_dgram.specs.declared.udp.socket.UdpMetadata.{UdpMetadata}
 use Rattle.smoltcp_c.specs.Heard.{AcceptsIf, Hears}
 use Rattle.smoltcp_c.specs.Numbers.{address_in, address_or_none_told, endpoint_in, endpoint_told}
-use Rattle.smoltcp_c.specs.Sends.{DispatchesInto, Puts}
+use Rattle.smoltcp_c.specs.Sends.{DispatchesInto, DispatchesOrDrops, Puts}
 use Rattle.smoltcp_c.specs.Wire.{packet_len}
 use Rattle.smoltcp_c.specs.declared.endpoints.Address.{Address}
 use Rattle.smoltcp_c.specs.declared.handles.UdpHandle.{UdpHandle}
@@ -102,5 +102,8 @@ WritesDatagram o old result new =
     Puts (CountsDatagram o.ip o.payload) (datagram_len o) (datagram_packet o) old result new
 
 -- the first datagram's packet, where it has a source
+abbrev pub EmitsDatagram : Facts → View → List ℕ → ℤ → View → List ℕ → Type 0
+EmitsDatagram f v = DispatchesInto datagram_len datagram_packet (outgoing v f) v
+
 abbrev pub DispatchesDatagram : Facts → View → List ℕ → ℤ → View → List ℕ → Type 0
-DispatchesDatagram f v = DispatchesInto datagram_len datagram_packet (outgoing v f) v
+DispatchesDatagram f v = DispatchesOrDrops datagram_len datagram_packet (outgoing v f) v

@@ -2,7 +2,7 @@
 ghost use Rattle.std.specs.Prelude.{◌≡◌, ◌<◌, ◌^◌, is_some};
 ghost use Rattle.std.specs.Option.{ForSome};
 ghost use Rattle.sock_core.specs.Bounds.{IsMoment, IsMtu};
-ghost use Rattle.smoltcp_c.specs.Context.{is_context, facts_in};
+ghost use Rattle.smoltcp_c.specs.Context.{is_context, facts_in, own_v4, own_v6};
 
 use ip_wire::{ChecksumCapabilities, IpAddress, Ipv4Address, Ipv6Address};
 use net_base::time::Instant;
@@ -27,9 +27,9 @@ pub struct Cx {
     pub tsval: u32,
     /// The largest IP packet, from 576 to 65535 bytes.
     pub ip_mtu: u32,
-    /// The interface's IPv4 address.
+    /// The interface's IPv4 address; all zeros where it has none.
     pub v4: [u8; 4],
-    /// The interface's IPv6 address.
+    /// The interface's IPv6 address; all zeros where it has none.
     pub v6: [u8; 16],
 }
 
@@ -66,6 +66,28 @@ macro_rules! in_context {
 
 pub(crate) use in_context;
 
+// The address of version 4, where it was set.
+fn own_v4(cx: &Cx) -> Option<Ipv4Address>
+    ensures { result ≡ own_v4 cx.entry.now }
+{
+    let own = Ipv4Address(cx.v4);
+    if own.is_unspecified() {
+        return None;
+    }
+    Some(own)
+}
+
+// The address of version 6, where it was set.
+fn own_v6(cx: &Cx) -> Option<Ipv6Address>
+    ensures { result ≡ own_v6 cx.entry.now }
+{
+    let own = Ipv6Address(cx.v6);
+    if own.is_unspecified() {
+        return None;
+    }
+    Some(own)
+}
+
 impl Context for Moment {
     ghost facts = { λ m. facts_in m.cx };
 
@@ -79,15 +101,15 @@ impl Context for Moment {
 
     fn has_ip_addr(&self, addr: IpAddress) -> bool {
         match addr {
-            IpAddress::Ipv4(addr) => addr == Ipv4Address(self.cx.v4),
-            IpAddress::Ipv6(addr) => addr == Ipv6Address(self.cx.v6),
+            IpAddress::Ipv4(addr) => addr == Ipv4Address(self.cx.v4) && !addr.is_unspecified(),
+            IpAddress::Ipv6(addr) => addr == Ipv6Address(self.cx.v6) && !addr.is_unspecified(),
         }
     }
 
     fn get_source_address(&self, dst: &IpAddress) -> Option<IpAddress> {
         match dst {
-            IpAddress::Ipv4(_) => Some(IpAddress::Ipv4(Ipv4Address(self.cx.v4))),
-            IpAddress::Ipv6(_) => Some(IpAddress::Ipv6(Ipv6Address(self.cx.v6))),
+            IpAddress::Ipv4(_) => own_v4(&self.cx).map(IpAddress::Ipv4),
+            IpAddress::Ipv6(_) => own_v6(&self.cx).map(IpAddress::Ipv6),
         }
     }
 

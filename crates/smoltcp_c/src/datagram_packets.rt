@@ -2,19 +2,21 @@
 ghost use Rattle.std.specs.Prelude.{◌≡◌, ◌↔◌, IsTrue, true, false, None, Some, option_map};
 ghost use Rattle.segment_wire.specs.Packet.{Carried, UdpPacket, carried_of, udp_packet_of};
 ghost use Rattle.sock_dgram.specs.Datagrams.{poll_moment};
-ghost use Rattle.sock_dgram.specs.IcmpDispatch.{outgoing_of as message_of};
+ghost use Rattle.sock_dgram.specs.IcmpDispatch.{outgoing as message_due, outgoing_of as message_of};
 ghost use Rattle.sock_dgram.specs.RawDispatch.{outgoing_of as raw_of};
 ghost use Rattle.sock_dgram.specs.UdpDispatch.{outgoing_of};
 ghost use Rattle.smoltcp_c.specs.Answers.{error_context, not_accepted, sent_answer};
 ghost use Rattle.smoltcp_c.specs.Context.{facts_in, is_context};
 ghost use Rattle.smoltcp_c.specs.Heard.{Tells, TellsPoll};
-ghost use Rattle.smoltcp_c.specs.Icmp.{DispatchesMessage, HearsMessage, IcmpPacket, IsFor as IsForIcmp, WritesMessage};
-ghost use Rattle.smoltcp_c.specs.Icmp.{carried_message, icmp_packet_of, queued_of};
+ghost use Rattle.smoltcp_c.specs.Icmp.{DispatchesMessage, EmitsMessage, HearsMessage, IcmpPacket};
+ghost use Rattle.smoltcp_c.specs.Icmp.{IsFor as IsForIcmp, WritesMessage};
+ghost use Rattle.smoltcp_c.specs.Icmp.{carried_message, icmp_packet_of, lacks_source, queued_of, told_unsourced};
 ghost use Rattle.smoltcp_c.specs.Raw.{DispatchesRaw, HearsRaw, IsFor as IsForRaw, WritesRaw, carried_packet};
-ghost use Rattle.smoltcp_c.specs.Udp.{DispatchesDatagram, HearsDatagram, IsFor as IsForUdp, WritesDatagram};
-ghost use Rattle.smoltcp_c.specs.Udp.{carried_datagram};
+ghost use Rattle.smoltcp_c.specs.Udp.{DispatchesDatagram, EmitsDatagram, HearsDatagram, IsFor as IsForUdp};
+ghost use Rattle.smoltcp_c.specs.Sends.{told_unsent};
+ghost use Rattle.smoltcp_c.specs.Udp.{WritesDatagram, carried_datagram};
 
-use crate::answers::{NOT_ACCEPTED, OK, flag_answer};
+use crate::answers::{ERROR_ADDRESS, NOT_ACCEPTED, OK, flag_answer, sent_answer};
 use crate::context::{Cx, Moment, in_context};
 use crate::contexts::told;
 use crate::handles::{IcmpHandle, RawHandle, UdpHandle};
@@ -23,6 +25,7 @@ use crate::wire::{Full, Wire, sent};
 use control_wire::{IcmpRepr, UdpRepr};
 use ip_wire::{ChecksumCapabilities, Error, IpRepr};
 use segment_wire::packet::{carried, parse_udp};
+use sock_core::PollAt;
 use sock_dgram::{icmp, raw, udp};
 
 /// Whether `process` takes an IP packet: 1 where it carries a datagram for the socket, else 0; `ERROR_CONTEXT`.
@@ -98,8 +101,11 @@ fn heard_by_udp(
 }
 
 /// Writes the packet of the first datagram of the transmit queue into `out`, and answers its length; the datagram
-/// leaves. 0 where none waits, or the first has no source: it leaves too. `ERROR_ROOM` where `out` is too short for it:
-/// the next call gives it again. `ERROR_CONTEXT`.
+/// leaves. 0 where none waits.
+///
+/// `ERROR_ADDRESS` where the first has no source: no address was given with it or bound, and the context has none of
+/// its version. It leaves too. `ERROR_ROOM` where `out` is too short for it: the next call gives it again.
+/// `ERROR_CONTEXT`.
 #[unsafe(no_mangle)]
 pub extern "C" fn smoltcp_udp_dispatch_checked(h: &mut UdpHandle, cx: &Cx, out: &mut [u8]) -> i64
     ensures context { is_context cx.entry.now ≡ false
@@ -116,13 +122,21 @@ pub extern "C" fn smoltcp_udp_dispatch_checked(h: &mut UdpHandle, cx: &Cx, out: 
 fn sent_by_udp(socket: &mut udp::Socket<'_>, moment: &Moment, out: &mut [u8]) -> i64
     ensures { DispatchesDatagram (facts_in moment.now.cx) socket.old out.old result socket.new out.new }
 {
+    let waits = socket.poll_at(moment) == PollAt::Now;
+    let answer = write_udp(socket, moment, out);
+    told_unsent(waits, answer)
+}
+
+fn write_udp(socket: &mut udp::Socket<'_>, moment: &Moment, out: &mut [u8]) -> i64
+    ensures { EmitsDatagram (facts_in moment.now.cx) socket.old out.old result socket.new out.new }
+{
     sent!(emitted_by_udp, socket, moment, out)
 }
 
 // Lets the socket emit.
 fn emitted_by_udp(socket: &mut udp::Socket<'_>, wire: &mut Wire<'_>) -> Result<(), Full>
     requires { wire.old.len ≡ 0 }
-    ensures table { DispatchesDatagram (facts_in wire.old.moment.cx) socket.old wire.old.out.now
+    ensures table { EmitsDatagram (facts_in wire.old.moment.cx) socket.old wire.old.out.now
         (sent_answer result wire.new.len) socket.new wire.new.out.now }
     ensures same_buffer { wire.new.out.ghost_name ≡ wire.old.out.ghost_name }
 {
@@ -132,6 +146,18 @@ fn emitted_by_udp(socket: &mut udp::Socket<'_>, wire: &mut Wire<'_>) -> Result<(
             ensures { WritesDatagram (outgoing_of sent.entry) cx.entry.now result cx.exit.now }
         { cx.write_datagram(&sent.0, &sent.1, sent.2) },
     )
+}
+
+// What a dispatch answers: `ERROR_ADDRESS` where a place of the queue was taken and nothing was written.
+#[tactic(auto, using(crate::proofs::Unsent::dropped, crate::proofs::Unsent::written, crate::proofs::Unsent::idle))]
+fn told_unsent(waits: bool, answer: i64) -> i64
+    ensures { result ≡ told_unsent waits answer }
+{
+    if waits && answer == 0 {
+        ERROR_ADDRESS
+    } else {
+        answer
+    }
 }
 
 /// When the socket wants its next dispatch: where a place of the transmit queue is taken, writes the context's moment
@@ -211,7 +237,9 @@ fn queue(socket: &mut icmp::Socket<'_>, moment: &Moment, found: &Packet<'_>)
 }
 
 /// Writes the packet of the first message of the transmit queue into `out`, and answers its length; the message leaves.
-/// 0 where none waits, or the first is no echo and no error of its version: it leaves too. `ERROR_ROOM` where `out` is
+/// 0 where none waits, or the first is no echo and no error of its version: it leaves too.
+///
+/// `ERROR_ADDRESS` where the context has no address of the first's version: it leaves too. `ERROR_ROOM` where `out` is
 /// too short for it: the next call gives it again. `ERROR_CONTEXT`.
 #[unsafe(no_mangle)]
 pub extern "C" fn smoltcp_icmp_dispatch_checked(h: &mut IcmpHandle, cx: &Cx, out: &mut [u8]) -> i64
@@ -229,14 +257,31 @@ pub extern "C" fn smoltcp_icmp_dispatch_checked(h: &mut IcmpHandle, cx: &Cx, out
 fn sent_by_icmp(socket: &mut icmp::Socket<'_>, moment: &Moment, out: &mut [u8]) -> i64
     ensures { DispatchesMessage (facts_in moment.now.cx) socket.old out.old result socket.new out.new }
 {
-    sent!(emitted_by_icmp, socket, moment, out)
+    let mut wire = Wire {
+        moment: *moment,
+        len: 0,
+        unsourced: false,
+        out,
+    };
+    let answer = emitted_by_icmp(socket, &mut wire);
+    told_unsourced(wire.unsourced, sent_answer(answer, wire.len))
+}
+
+// What a dispatch answers: `ERROR_ADDRESS` where the message has no source.
+fn told_unsourced(unsourced: bool, answer: i64) -> i64
+    ensures { result ≡ told_unsourced unsourced answer }
+{
+    if unsourced { ERROR_ADDRESS } else { answer }
 }
 
 // Lets the socket emit.
 fn emitted_by_icmp(socket: &mut icmp::Socket<'_>, wire: &mut Wire<'_>) -> Result<(), Full>
-    requires { wire.old.len ≡ 0 }
-    ensures table { DispatchesMessage (facts_in wire.old.moment.cx) socket.old wire.old.out.now
+    requires len { wire.old.len ≡ 0 }
+    requires sourced { wire.old.unsourced ≡ false }
+    ensures table { EmitsMessage (facts_in wire.old.moment.cx) socket.old wire.old.out.now
         (sent_answer result wire.new.len) socket.new wire.new.out.now }
+    ensures unsourced { wire.new.unsourced
+        ≡ lacks_source (message_due socket.old (facts_in wire.old.moment.cx)) }
     ensures same_buffer { wire.new.out.ghost_name ≡ wire.old.out.ghost_name }
 {
     socket.dispatch(

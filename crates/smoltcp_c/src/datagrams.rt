@@ -119,8 +119,7 @@ pub extern "C" fn smoltcp_udp_set_hop_limit_checked(h: &mut UdpHandle, hop_limit
 ///
 /// `ERROR_ADDRESS` where the socket is not open, the destination's address is unspecified or its port 0, or the source
 /// (the address given, else the bound one) is of another version of IP; `ERROR_ROOM` where the queue has no room for
-/// it: then the datagrams in it are those of before. `ERROR_ROOM` too where its packet would have more than 65535
-/// bytes: then nothing changes.
+/// it, or its packet would have more than 65535 bytes. Nothing changes then.
 #[unsafe(no_mangle)]
 pub extern "C" fn smoltcp_udp_send_checked(h: &mut UdpHandle, meta: &UdpNumbers, data: &[u8]) -> i64
     ensures long { is_packet (metadata_in meta.now) (length «data».now) ≡ false
@@ -129,6 +128,7 @@ pub extern "C" fn smoltcp_udp_send_checked(h: &mut UdpHandle, meta: &UdpNumbers,
         → result ≡ datagram_answer (send_answer_udp h.old.socket (metadata_in meta.now) (length «data».now)) }
     ensures socket { is_packet (metadata_in meta.now) (length «data».now) ≡ true
         → h.new ≡ with_udp h.old (after_send_udp h.old.socket (metadata_in meta.now) «data».now) }
+    ensures refused { (result ≡ pos 0 → ⊥) → h.new ≡ h.old }
 {
     let meta = metadata_in(meta);
     if !is_packet(&meta, data.len()) {
@@ -316,9 +316,9 @@ pub extern "C" fn smoltcp_icmp_set_hop_limit_checked(h: &mut IcmpHandle, hop_lim
 
 /// Puts a message of these bytes to `remote` into the transmit queue. 0.
 ///
-/// `ERROR_ADDRESS` where the address is unspecified; `ERROR_ROOM` where the queue has no room for it: then the messages
-/// in it are those of before. `ERROR_ROOM` too where it has more than 65495 bytes: then nothing changes. One that is no
-/// echo and no error of the address's version leaves the queue without a packet. The socket need not be open.
+/// `ERROR_ADDRESS` where the address is unspecified; `ERROR_ROOM` where the queue has no room for it, or it has more
+/// than 65495 bytes. Nothing changes then. One that is no echo and no error of the address's version leaves the queue
+/// without a packet. The socket need not be open.
 #[unsafe(no_mangle)]
 pub extern "C" fn smoltcp_icmp_send_checked(
     h: &mut IcmpHandle,
@@ -330,6 +330,7 @@ pub extern "C" fn smoltcp_icmp_send_checked(
         → result ≡ datagram_answer (send_answer_icmp h.old.socket (address_in remote.now) (length «data».now)) }
     ensures socket { length «data».now ≤ 65495
         → h.new ≡ with_icmp h.old (after_send_icmp h.old.socket (address_in remote.now) «data».now) }
+    ensures refused { (result ≡ pos 0 → ⊥) → h.new ≡ h.old }
 {
     if LONGEST_MESSAGE < data.len() {
         return ERROR_ROOM;
@@ -429,8 +430,7 @@ pub extern "C" fn smoltcp_raw_init_checked(
 
 /// Puts a packet of these bytes, its IP header first, into the transmit queue. 0.
 ///
-/// `ERROR_ROOM` where the queue has no room for it: then the packets in it are those of before. `ERROR_ROOM` too where
-/// it has more than 65535 bytes: then nothing changes.
+/// `ERROR_ROOM` where the queue has no room for it, or it has more than 65535 bytes. Nothing changes then.
 #[unsafe(no_mangle)]
 pub extern "C" fn smoltcp_raw_send_checked(h: &mut RawHandle, data: &[u8]) -> i64
     ensures long { 65535 < length «data».now → (result ≡ error_room) × (h.new ≡ h.old) }
@@ -438,6 +438,7 @@ pub extern "C" fn smoltcp_raw_send_checked(h: &mut RawHandle, data: &[u8]) -> i6
         → result ≡ packet_answer (send_answer_raw h.old.socket (length «data».now)) }
     ensures socket { length «data».now ≤ 65535 → h.new ≡ with_raw h.old
         (record h.old.socket { tx_buffer = stored tt «data».now h.old.socket.tx_buffer }) }
+    ensures refused { (result ≡ pos 0 → ⊥) → h.new ≡ h.old }
 {
     if LONGEST_PACKET < data.len() {
         return ERROR_ROOM;

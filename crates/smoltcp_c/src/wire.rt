@@ -117,6 +117,8 @@ pub struct Wire<'w> {
     pub moment: Moment,
     /// The length of the packet that was written, or 0.
     pub len: usize,
+    /// Whether a packet was not written since its source was never set.
+    pub unsourced: bool,
     pub out: &'w mut [u8],
 }
 
@@ -130,6 +132,7 @@ macro_rules! sent {
         let mut wire = $crate::wire::Wire {
             moment: *$moment,
             len: 0,
+            unsourced: false,
             out: $out,
         };
         let answer = $emitted($socket, &mut wire);
@@ -167,10 +170,15 @@ impl<'w> Wire<'w> {
         Ok(())
     }
 
-    /// Writes the message as an IP packet at the beginning of `out`, where it fits.
+    /// Writes the message as an IP packet at the beginning of `out`, where it fits. One from an address that was never
+    /// set is not written.
     pub fn write_message(&mut self, ip: &IpRepr, repr: &IcmpRepr<'_>) -> Result<(), Full>
         ensures { WritesMessage (message_of (ip.now, repr.now)) self.old result self.new }
     {
+        if ip.src_addr().is_unspecified() {
+            self.unsourced = true;
+            return Ok(());
+        }
         if !counts_message(ip, repr) || self.out.len() < ip.header_len() + ip.payload_len() {
             return Err(Full);
         }

@@ -4,21 +4,31 @@
 use smoltcp_proved::tcp::{Memory, Socket, State};
 use smoltcp_proved::time::{Duration, Instant};
 use smoltcp_proved::wire::IpAddress;
-use smoltcp_proved::{Context, tcp};
+use smoltcp_proved::{Context, Words, tcp};
 
 const MTU: usize = 1500;
 
 /// A socket with what it is told of its interface.
 struct Host<'a> {
     socket: Socket<'a>,
-    cx: Context,
+    cx: Context<Numbers>,
+}
+
+/// The numbers that connections begin with. A program takes words that nobody can guess (RFC 6528).
+struct Numbers(u32);
+
+impl Words for Numbers {
+    fn next(&mut self) -> Option<u32> {
+        self.0 = self.0.wrapping_add(64_000);
+        Some(self.0)
+    }
 }
 
 impl<'a> Host<'a> {
     fn new(last: u8, memory: &'a mut Memory, rx: &'a mut [u8], tx: &'a mut [u8]) -> Host<'a> {
-        let mut cx = Context::new(MTU).expect("an MTU of 576 or more");
+        let cx = Context::new(MTU).expect("an MTU of 576 or more");
+        let mut cx = cx.with_source(Numbers(1000 * u32::from(last)));
         cx.set_ipv4_addr([10, 0, 0, last].into());
-        cx.set_random(1000 * u32::from(last)); // a program takes a random word
         let mut socket = Socket::new(memory, rx, tx);
         socket.set_timeout(Some(Duration::from_secs(60)));
         socket.set_keep_alive(Some(Duration::from_secs(15)));
@@ -32,8 +42,8 @@ impl<'a> Host<'a> {
             let Ok(Some(len)) = self.socket.dispatch(&self.cx, &mut packet) else {
                 return count;
             };
-            if let Ok(Some(len)) = other.socket.process(&other.cx, &packet[..len], &mut reply) {
-                let _ = self.socket.process(&self.cx, &reply[..len], &mut packet);
+            if let Ok(Some(len)) = other.socket.process(&mut other.cx, &packet[..len], &mut reply) {
+                let _ = self.socket.process(&mut self.cx, &reply[..len], &mut packet);
             }
         }
         64
@@ -59,7 +69,7 @@ fn main() -> Result<(), Box<dyn std::error::Error>> {
     let (mut a, mut b) = (Host::new(1, m, p, q), Host::new(2, n, r, s));
 
     b.socket.listen(7)?;
-    a.socket.connect(&a.cx, (IpAddress::v4(10, 0, 0, 2), 7), 49152)?;
+    a.socket.connect(&mut a.cx, (IpAddress::v4(10, 0, 0, 2), 7), 49152)?;
     run(&mut a, &mut b);
     println!("a {}, b {}", a.socket.state(), b.socket.state());
 

@@ -5,7 +5,8 @@
 //! makes the device, which then has to be given the address 10.9.0.1/24 and set up, and ends after so many seconds.
 use smoltcp_proved::tcp::{Memory, RecvError, Socket, State};
 use smoltcp_proved::time::{Duration, Instant};
-use smoltcp_proved::{Context, NotAccepted, PollAt, tcp, udp};
+use smoltcp_proved::{Context, NotAccepted, PollAt, Words, tcp, udp};
+use std::collections::VecDeque;
 use std::fs::File;
 use std::io::{self, Read, Write};
 
@@ -15,25 +16,38 @@ use device::Device;
 
 const SOCKETS: usize = 16;
 const ROOM: usize = 65536;
+const KEPT: usize = 4 * ROOM;
 const MTU: usize = 1500;
 const TURN: usize = 64;
 const ADDRESS: [u8; 4] = [10, 9, 0, 2];
 
-/// How long a connection may be silent, and how long before it stands; how long one waits for its peer's FIN; the pause
-/// of a socket that asks for a dispatch again at once in FIN-WAIT-2.
+/// How long a connection may be silent, and how long before it stands, which is longer than a peer waits between two
+/// tries, since it ends with an RST; how long one waits for its peer's FIN; the pause of a socket that asks for a
+/// dispatch again at once in FIN-WAIT-2.
 const SILENT: Duration = Duration::from_secs(60);
-const OPENING: Duration = Duration::from_secs(3);
+const OPENING: Duration = Duration::from_secs(30);
 const HALF_CLOSED: Duration = Duration::from_secs(60);
 const PAUSE: Duration = Duration::from_millis(20);
 
 const PAGE: &[u8] = b"HTTP/1.1 200 OK\r\nContent-Type: text/plain\r\nContent-Length: 32\r\n\
                       Connection: close\r\n\r\nProved TCP sockets, out of Rust\n";
 
+/// Words of the system's random source.
+struct Random(File);
+
+impl Words for Random {
+    fn next(&mut self) -> Option<u32> {
+        let mut word = [0; 4];
+        self.0.read_exact(&mut word).ok()?;
+        Some(u32::from_ne_bytes(word))
+    }
+}
+
 /// A connection: its socket, what was read and is not answered yet; its state, and since when; and before what moment
 /// it is not to be dispatched.
 struct Connection<'a> {
     socket: Socket<'a>,
-    kept: Vec<u8>,
+    kept: VecDeque<u8>,
     port: u16,
     state: State,
     since: Instant,
@@ -51,7 +65,7 @@ impl<'a> Connection<'a> {
     fn new(room: &'a mut Room, port: u16, now: Instant) -> Connection<'a> {
         let mut socket = Socket::new(&mut room.memory, &mut room.rx, &mut room.tx);
         socket.set_keep_alive(Some(Duration::from_secs(SILENT.secs() / 4)));
-        Connection { socket, kept: Vec::new(), port, state: State::Closed, since: now, not_before: now }
+        Connection { socket, kept: VecDeque::new(), port, state: State::Closed, since: now, not_before: now }
     }
 
     /// A closed socket listens anew. Bytes of an earlier connection are gone.
@@ -78,45 +92,51 @@ impl<'a> Connection<'a> {
         }
     }
 
-    /// Keeps what has come behind a whole answer, up to `ROOM` bytes. Answers whether something came.
-    fn keep(&mut self) -> bool {
-        let room = ROOM - self.kept.len();
+    /// Keeps what has come, up to `KEPT` bytes, and answers how many came. It is read also while nothing can be sent: a
+    /// receive window of 0 stops the acknowledgements of a peer that counts the byte of its probes.
+    fn keep(&mut self) -> Result<usize, RecvError> {
+        let room = KEPT - self.kept.len();
         let kept = &mut self.kept;
-        let came = self.socket.recv(|bytes| {
+        self.socket.recv(|bytes| {
             let count = bytes.len().min(room);
-            kept.extend_from_slice(&bytes[..count]);
+            kept.extend(&bytes[..count]);
             (count, count)
-        });
-        if came == Err(RecvError::Finished) {
-            self.socket.close();
-        }
-        matches!(came, Ok(1..))
+        })
     }
 
+    fn send_kept(&mut self) {
+        let sent = self.socket.send_slice(self.kept.as_slices().0).unwrap_or(0);
+        self.kept.drain(..sent);
+    }
+
+    /// Closes behind the last byte.
     fn serve_echo(&mut self) {
         for _ in 0..TURN {
-            let sent = self.socket.send_slice(&self.kept).unwrap_or(0);
-            self.kept.drain(..sent);
-            if !self.kept.is_empty() || !self.keep() {
-                return;
+            self.send_kept();
+            match self.keep() {
+                Ok(1..) => {}
+                Err(RecvError::Finished) if self.kept.is_empty() => return self.socket.close(),
+                _ => return self.send_kept(),
             }
         }
     }
 
     fn serve_page(&mut self) {
-        self.keep();
-        if self.kept.ends_with(b"\r\n\r\n") {
+        if self.keep() == Err(RecvError::Finished) {
+            self.socket.close();
+        }
+        if self.kept.make_contiguous().ends_with(b"\r\n\r\n") {
             let _ = self.socket.send_slice(PAGE);
             self.socket.close();
             self.kept.clear();
-        } else if self.kept.len() == ROOM {
+        } else if self.kept.len() == KEPT {
             self.socket.abort();
         }
     }
 
     /// Emits what is due, at most so many packets a round. A socket in FIN-WAIT-2 emits one, and pauses where it asks
     /// for the next at once: a peer can make it do so at every dispatch.
-    fn emit_packets(&mut self, cx: &Context, device: &mut Device) {
+    fn emit_packets(&mut self, cx: &Context<Random>, device: &mut Device) {
         let (waits, now, mut packet) = (self.socket.state() == State::FinWait2, cx.now(), [0; MTU]);
         if !waits {
             self.not_before = now;
@@ -136,7 +156,7 @@ impl<'a> Connection<'a> {
     }
 
     /// When it wants to be dispatched.
-    fn due(&self, cx: &Context) -> Option<Instant> {
+    fn due(&self, cx: &Context<Random>) -> Option<Instant> {
         match self.socket.poll_at(cx) {
             PollAt::Now => Some(self.not_before.max(cx.now())),
             PollAt::Time(at) => Some(self.not_before.max(at)),
@@ -156,12 +176,14 @@ fn is_for_host(packet: &[u8]) -> bool {
     packet.len() >= 20 && packet[0] >> 4 == 4 && packet[16..20] == ADDRESS && is_another_host(&packet[12..16])
 }
 
-/// The port to which a SYN without ACK goes.
+/// The port to which a SYN goes that opens a connection: it has no ACK, RST or FIN, and is a whole segment whose checksum
+/// holds.
 fn port_of_syn(packet: &[u8]) -> Option<u16> {
     let at = usize::from(packet[0] & 15) * 4;
-    if packet[9] != 6 || packet.len() < at + 20 || packet[at + 13] & 22 != 2 {
+    if packet[9] != 6 || packet.len() < at + 20 || packet[at + 13] & 23 != 2 {
         return None;
     }
+    tcp::reset(packet, &mut [0; tcp::REPLY_LEN]).ok()?;
     Some(u16::from_be_bytes([packet[at + 2], packet[at + 3]]))
 }
 
@@ -169,7 +191,7 @@ fn port_of_syn(packet: &[u8]) -> Option<u16> {
 struct Host<'a> {
     connections: Vec<Connection<'a>>,
     datagrams: udp::Socket<'a>,
-    cx: Context,
+    cx: Context<Random>,
     device: Device,
 }
 
@@ -178,7 +200,7 @@ impl Host<'_> {
     fn offer(&mut self, listeners: bool, packet: &[u8]) -> bool {
         let mut reply = [0; tcp::REPLY_LEN];
         for connection in self.connections.iter_mut().filter(|c| c.socket.is_listening() == listeners) {
-            if let Ok(answer) = connection.socket.process(&self.cx, packet, &mut reply) {
+            if let Ok(answer) = connection.socket.process(&mut self.cx, packet, &mut reply) {
                 if let Some(len) = answer {
                     self.device.emit(&reply[..len]);
                 }
@@ -188,8 +210,12 @@ impl Host<'_> {
         false
     }
 
-    /// The connection of a port that has waited longest for its handshake's end gives way to another SYN.
+    /// Where nobody listens at the port, the connection that has waited longest for its handshake's end gives way to
+    /// another SYN.
     fn give_way(&mut self, port: Option<u16>) -> bool {
+        if self.connections.iter().any(|c| Some(c.port) == port && c.socket.is_listening()) {
+            return false;
+        }
         let waiting = |c: &&mut Connection| Some(c.port) == port && c.socket.state() == State::SynReceived;
         let Some(oldest) = self.connections.iter_mut().filter(waiting).min_by_key(|c| c.since) else {
             return false;
@@ -276,9 +302,10 @@ fn main() -> io::Result<()> {
         return Err(io::Error::other("usage: tun_echo DEVICE SECONDS"));
     };
     let seconds: u64 = seconds.parse().map_err(io::Error::other)?;
-    let (begin, mut random) = (std::time::Instant::now(), File::open("/dev/urandom")?);
+    let begin = std::time::Instant::now();
     let now = || Instant::ZERO + Duration::from(begin.elapsed());
-    let mut cx = Context::new(MTU).expect("an MTU of 576 or more");
+    let random = Random(File::open("/dev/urandom")?);
+    let mut cx = Context::new(MTU).expect("an MTU of 576 or more").with_source(random);
     cx.set_ipv4_addr(ADDRESS.into());
 
     let bytes = || vec![0; ROOM];
@@ -294,10 +321,7 @@ fn main() -> io::Result<()> {
     datagrams.bind(7).map_err(io::Error::other)?;
     let mut host = Host { connections: connections.collect(), datagrams, cx, device: Device::open(name)? };
     while now() < Instant::ZERO + Duration::from_secs(seconds) {
-        let mut word = [0; 4];
-        random.read_exact(&mut word)?;
         host.cx.set_now(now());
-        host.cx.set_random(u32::from_ne_bytes(word));
         host.serve();
         host.wait_for_work();
     }

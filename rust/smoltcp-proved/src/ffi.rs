@@ -106,6 +106,7 @@ pub struct IcmpEndpoint {
 
 pub const OK: i64 = 0;
 pub const ERROR_STATE: i64 = -1;
+pub const ERROR_ADDRESS: i64 = -2;
 pub const ERROR_FINISHED: i64 = -3;
 pub const ERROR_ROOM: i64 = -6;
 

@@ -4,7 +4,7 @@ use crate::calls::{self, Icmp};
 use crate::numbers::{address_in, address_of, count_in, hop_limit_in, hop_limit_of, listen_of};
 use crate::tcp::poll_in;
 use crate::wire::{IpAddress, IpListenEndpoint};
-use crate::{Context, NotAccepted, PollAt, TooShort, ffi};
+use crate::{Context, DispatchError, NotAccepted, PollAt, ffi};
 use core::fmt;
 
 /// An error of `bind`.
@@ -234,13 +234,13 @@ impl<'a> Socket<'a> {
     }
 
     /// Whether `process` takes an IP packet.
-    pub fn accepts(&self, cx: &Context, packet: &[u8]) -> bool {
+    pub fn accepts<W>(&self, cx: &Context<W>, packet: &[u8]) -> bool {
         self.0.accepts(&cx.raw, packet) == 1
     }
 
     /// Takes an IP packet, where it carries a message for the socket: that is dropped where it finds no room, as in
     /// smoltcp.
-    pub fn process(&mut self, cx: &Context, packet: &[u8]) -> Result<(), NotAccepted> {
+    pub fn process<W>(&mut self, cx: &Context<W>, packet: &[u8]) -> Result<(), NotAccepted> {
         match self.0.process(&cx.raw, packet) {
             ffi::OK => Ok(()),
             _ => Err(NotAccepted),
@@ -248,17 +248,18 @@ impl<'a> Socket<'a> {
     }
 
     /// Writes the packet of the first message that was sent to the beginning of `out`, and answers its length, if
-    /// there is one. Where it finds no room, it stays the first.
-    pub fn dispatch(&mut self, cx: &Context, out: &mut [u8]) -> Result<Option<usize>, TooShort> {
+    /// there is one. Where it finds no room, it stays the first; where it has no source, it is dropped.
+    pub fn dispatch<W>(&mut self, cx: &Context<W>, out: &mut [u8]) -> Result<Option<usize>, DispatchError> {
         match self.0.dispatch(&cx.raw, out) {
-            ffi::ERROR_ROOM => Err(TooShort),
+            ffi::ERROR_ROOM => Err(DispatchError::TooShort),
+            ffi::ERROR_ADDRESS => Err(DispatchError::Unaddressable),
             len if len > 0 => Ok(Some(count_in(len))),
             _ => Ok(None),
         }
     }
 
     /// When the next `dispatch` is wanted.
-    pub fn poll_at(&self, cx: &Context) -> PollAt {
+    pub fn poll_at<W>(&self, cx: &Context<W>) -> PollAt {
         let mut at = 0;
         let answer = self.0.poll_at(&cx.raw, &mut at);
         poll_in(answer, at, cx)

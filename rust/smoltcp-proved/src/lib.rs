@@ -9,11 +9,11 @@
 //! use smoltcp_proved::{Context, tcp, wire::IpAddress};
 //!
 //! let (mut memory, mut rx, mut tx) = (tcp::Memory::new(), [0; 1024], [0; 1024]);
-//! let mut cx = Context::new(1500).expect("an MTU of 576 or more");
+//! let cx = Context::new(1500).expect("an MTU of 576 or more");
+//! let mut cx = cx.with_words(|| 0x1234_5678); // a program takes a source of words that nobody can guess
 //! cx.set_ipv4_addr([10, 0, 0, 1].into());
-//! cx.set_random(0x1234_5678); // from a source of random words
 //! let mut socket = tcp::Socket::new(&mut memory, &mut rx, &mut tx);
-//! socket.connect(&cx, (IpAddress::v4(10, 0, 0, 2), 80), 49152).expect("a closed socket opens");
+//! socket.connect(&mut cx, (IpAddress::v4(10, 0, 0, 2), 80), 49152).expect("a closed socket opens");
 //! let mut packet = [0; 1500];
 //! let len = socket.dispatch(&cx, &mut packet).expect("room for a packet").expect("a SYN is due");
 //! assert_eq!(packet[20 + 13], 0x02); // the flags: SYN
@@ -112,7 +112,7 @@ pub mod time;
 pub mod udp;
 pub mod wire;
 
-pub use context::Context;
+pub use context::{Context, NoWords, Words};
 
 use core::fmt;
 use time::Instant;
@@ -154,6 +154,27 @@ impl fmt::Display for TooShort {
 }
 
 impl core::error::Error for TooShort {}
+
+/// Why a datagram's `dispatch` wrote no packet.
+#[derive(Debug, PartialEq, Eq, Clone, Copy)]
+pub enum DispatchError {
+    /// The bytes given are too few for the packet; the next `dispatch` gives it again.
+    TooShort,
+    /// The first in the queue has no source: none was given or bound, and the context has no address of its version of
+    /// IP. It has left the queue.
+    Unaddressable,
+}
+
+impl fmt::Display for DispatchError {
+    fn fmt(&self, f: &mut fmt::Formatter<'_>) -> fmt::Result {
+        f.write_str(match self {
+            DispatchError::TooShort => "buffer too short",
+            DispatchError::Unaddressable => "no source address",
+        })
+    }
+}
+
+impl core::error::Error for DispatchError {}
 
 /// The program of README.md, which is docs/RUST.md of the repository, is a test.
 #[cfg(doctest)]

@@ -158,7 +158,7 @@ impl<'a> Socket<'a> {
     }
 
     /// Takes an IP packet that is whole and for the socket: it is dropped where it finds no room, as in smoltcp.
-    pub fn process(&mut self, cx: &Context, packet: &[u8]) -> Result<(), NotAccepted> {
+    pub fn process<W>(&mut self, cx: &Context<W>, packet: &[u8]) -> Result<(), NotAccepted> {
         match self.0.process(&cx.raw, packet) {
             ffi::OK => Ok(()),
             _ => Err(NotAccepted),
@@ -167,7 +167,7 @@ impl<'a> Socket<'a> {
 
     /// Writes the first packet that was sent to the beginning of `out`, and answers its length, if there is one. Where
     /// it finds no room, it stays the first.
-    pub fn dispatch(&mut self, cx: &Context, out: &mut [u8]) -> Result<Option<usize>, TooShort> {
+    pub fn dispatch<W>(&mut self, cx: &Context<W>, out: &mut [u8]) -> Result<Option<usize>, TooShort> {
         match self.0.dispatch(&cx.raw, out) {
             ffi::ERROR_ROOM => Err(TooShort),
             len if len > 0 => Ok(Some(count_in(len))),
@@ -176,7 +176,7 @@ impl<'a> Socket<'a> {
     }
 
     /// When the next `dispatch` is wanted.
-    pub fn poll_at(&self, cx: &Context) -> PollAt {
+    pub fn poll_at<W>(&self, cx: &Context<W>) -> PollAt {
         let mut at = 0;
         let answer = self.0.poll_at(&cx.raw, &mut at);
         poll_in(answer, at, cx)

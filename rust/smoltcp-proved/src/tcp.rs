@@ -4,7 +4,7 @@ use crate::calls::{self, Tcp};
 use crate::numbers::{count_in, endpoint_in, endpoint_of, hop_limit_in, hop_limit_of, listen_in, listen_of};
 use crate::time::{Duration, Instant};
 use crate::wire::{IpEndpoint, IpListenEndpoint};
-use crate::{Context, NotAccepted, PollAt, TooShort, ffi};
+use crate::{Context, NotAccepted, PollAt, TooShort, Words, ffi};
 use core::fmt;
 
 mod kinds;
@@ -67,16 +67,23 @@ impl<'a> Socket<'a> {
         }
     }
 
-    /// Opens a connection, from the interface's address where the local one is left out. The context's random word is
-    /// the initial sequence number.
-    pub fn connect<T, U>(&mut self, cx: &Context, remote: T, local: U) -> Result<(), ConnectError>
+    /// Opens a connection, from the interface's address where the local one is left out. A word of the context's source
+    /// is the initial sequence number; without a source no connection is opened.
+    pub fn connect<W, T, U>(&mut self, cx: &mut Context<W>, remote: T, local: U) -> Result<(), ConnectError>
     where
+        W: Words,
         T: Into<IpEndpoint>,
         U: Into<IpListenEndpoint>,
     {
+        if !cx.draw() {
+            return Err(ConnectError::NoWords);
+        }
         let (remote, local) = (endpoint_of(remote.into()), listen_of(local.into()));
         match self.0.connect(&cx.raw, &remote, &local) {
-            ffi::OK => Ok(()),
+            ffi::OK => {
+                cx.spend();
+                Ok(())
+            }
             ffi::ERROR_STATE => Err(ConnectError::InvalidState),
             _ => Err(ConnectError::Unaddressable),
         }
@@ -113,7 +120,8 @@ impl<'a> Socket<'a> {
         sent(self.0.commit(count)).map(|_| result)
     }
 
-    /// Gives as many bytes as are there and fit, and answers how many.
+    /// Gives as many bytes as are there and fit, and answers how many. When TIME-WAIT ends, bytes that were not read are
+    /// gone: read them before.
     pub fn recv_slice(&mut self, data: &mut [u8]) -> Result<usize, RecvError> {
         received(self.0.recv(data))
     }
@@ -313,17 +321,26 @@ impl<'a> Socket<'a> {
     }
 
     /// Takes an IP packet, and answers the length of the one that answers it, at the beginning of `reply`, if one does.
+    /// A SYN that a listening socket takes begins with a word of the context's source; without a source it is not taken.
     ///
     /// # Panics
     /// Where `reply` has less than [`REPLY_LEN`] bytes; nothing has changed then.
-    pub fn process(
+    pub fn process<W: Words>(
         &mut self,
-        cx: &Context,
+        cx: &mut Context<W>,
         packet: &[u8],
         reply: &mut [u8],
     ) -> Result<Option<usize>, NotAccepted> {
         assert!(reply.len() >= REPLY_LEN, "a reply takes up to 100 bytes");
-        replied(self.0.process(&cx.raw, packet, reply))
+        let listened = self.is_listening();
+        if listened && !cx.draw() {
+            return Err(NotAccepted);
+        }
+        let answer = self.0.process(&cx.raw, packet, reply);
+        if listened && !self.is_listening() {
+            cx.spend();
+        }
+        replied(answer)
     }
 
     /// Writes the packet that is due to the beginning of `out`, and answers its length, if one is. Where it finds no
@@ -332,7 +349,7 @@ impl<'a> Socket<'a> {
     /// Call it a limited number of times a round, 64 say: a peer can make a socket in FIN-WAIT-2 emit at every
     /// dispatch. Wait at least a millisecond between rounds that only such sockets asked for, and abort one that stays
     /// in FIN-WAIT-2 for long (`examples/tun_echo.rs`: a minute).
-    pub fn dispatch(&mut self, cx: &Context, out: &mut [u8]) -> Result<Option<usize>, TooShort> {
+    pub fn dispatch<W>(&mut self, cx: &Context<W>, out: &mut [u8]) -> Result<Option<usize>, TooShort> {
         match self.0.dispatch(&cx.raw, out) {
             ffi::OK => Ok(None),
             len if len > 0 => Ok(Some(count_in(len))),
@@ -341,7 +358,7 @@ impl<'a> Socket<'a> {
     }
 
     /// When the next `dispatch` is wanted. A moment that has come is `Now`.
-    pub fn poll_at(&self, cx: &Context) -> PollAt {
+    pub fn poll_at<W>(&self, cx: &Context<W>) -> PollAt {
         let mut at = 0;
         let answer = self.0.poll_at(&cx.raw, &mut at);
         poll_in(answer, at, cx)
@@ -371,7 +388,7 @@ pub fn reset(packet: &[u8], reply: &mut [u8]) -> Result<Option<usize>, NotAccept
 /// What `poll_at` answers where no moment is wanted.
 const NO_MOMENT: i64 = 1;
 
-pub(crate) fn poll_in(answer: i64, at: i64, cx: &Context) -> PollAt {
+pub(crate) fn poll_in<W>(answer: i64, at: i64, cx: &Context<W>) -> PollAt {
     match answer {
         ffi::OK if at <= cx.raw.now => PollAt::Now,
         ffi::OK => PollAt::Time(Instant::from_micros(at)),

@@ -2,8 +2,9 @@
 mod common;
 use common::*;
 use smoltcp_proved::udp::{BindError, RecvError, UdpMetadata};
+use smoltcp_proved::wire::Ipv6Address;
 use smoltcp_proved::wire::{IpAddress, IpEndpoint, IpVersion};
-use smoltcp_proved::{NotAccepted, PollAt, TooShort, icmp, raw, tcp, udp};
+use smoltcp_proved::{Context, DispatchError, NotAccepted, PollAt, TooShort, icmp, raw, tcp, udp};
 
 /// Memory for a UDP socket with two places and 100 bytes each way.
 struct Room {
@@ -36,7 +37,7 @@ fn datagram(bytes: &[u8]) -> Vec<u8> {
     socket.send_slice(bytes, (B, 53)).expect("room for a datagram");
     assert_eq!((socket.poll_at(&cx), socket.send_queue()), (PollAt::Now, bytes.len()));
     let mut packet = vec![0; 100];
-    assert_eq!(socket.dispatch(&cx, &mut packet[..27]), Err(TooShort));
+    assert_eq!(socket.dispatch(&cx, &mut packet[..27]), Err(DispatchError::TooShort));
     let len = socket.dispatch(&cx, &mut packet).expect("room").expect("a packet");
     assert_eq!(socket.dispatch(&cx, &mut [0; 100]), Ok(None));
     packet.truncate(len);
@@ -78,6 +79,41 @@ fn udp_and_truncation() {
     assert_eq!(server.send_slice(b"10.0.0.3", from), Ok(()));
     server.close();
     assert_eq!((server.is_open(), server.dispatch(&cx, &mut [0; 100])), (false, Ok(None)));
+}
+
+/// Nothing goes out from an address that was never set: what would have none leaves the queue, and the next is sent.
+#[test]
+fn no_source() {
+    let (mut room, mut icmp_room) = (Room::new(), IcmpRoom::new());
+    let (mut socket, mut pinger) = (room.socket(), icmp_room.socket());
+    let mut cx = Context::new(1500).expect("an MTU");
+    cx.set_ipv4_addr([10, 0, 0, 1].into());
+    let over_ipv6 = IpAddress::Ipv6(Ipv6Address::LOCALHOST);
+    socket.bind(49152).expect("a closed socket opens");
+    socket.send_slice(b"", (over_ipv6, 53)).expect("room for a datagram");
+    socket.send_slice(b"seen", (B, 53)).expect("room for a datagram");
+    let mut out = [0; 100];
+    assert_eq!(socket.dispatch(&cx, &mut out), Err(DispatchError::Unaddressable));
+    assert_eq!(socket.dispatch(&cx, &mut out), Ok(Some(20 + 8 + 4)));
+    assert_eq!(socket.dispatch(&cx, &mut out), Ok(None));
+    // one that is given is a source, whatever the context has
+    let meta = UdpMetadata { endpoint: IpEndpoint::new(over_ipv6, 53), local_address: Some(over_ipv6) };
+    socket.send_slice(b"seen", meta).expect("room for a datagram");
+    assert_eq!(socket.dispatch(&cx, &mut out), Ok(Some(40 + 8 + 4)));
+
+    let request = [128, 0, 0, 0, 0, 7, 0, 1];
+    pinger.send_slice(&request, over_ipv6).expect("room for a message");
+    assert_eq!(pinger.dispatch(&cx, &mut out), Err(DispatchError::Unaddressable));
+    assert_eq!(pinger.dispatch(&cx, &mut out), Ok(None));
+    pinger.send_slice(&request, over_ipv6).expect("room for a message");
+    cx.set_ipv4_addr([0; 4].into());
+    cx.set_ipv6_addr(Ipv6Address::LOCALHOST);
+    assert_eq!(pinger.dispatch(&cx, &mut out), Ok(Some(40 + 8)));
+    pinger.send_slice(&[8, 0, 0, 0, 0, 7, 0, 1], B).expect("room for a message");
+    assert_eq!(pinger.dispatch(&cx, &mut out), Err(DispatchError::Unaddressable));
+    socket.send_slice(b"", (B, 53)).expect("room for a datagram");
+    assert_eq!(socket.dispatch(&cx, &mut out), Err(DispatchError::Unaddressable));
+    assert_eq!(DispatchError::Unaddressable.to_string(), "no source address");
 }
 
 /// A raw socket takes the packet of a datagram, and sends it on.
@@ -145,7 +181,7 @@ fn icmp_echo() {
     assert_eq!(pinger.poll_at(&of_a), PollAt::Ingress);
     pinger.send_slice(&request, B).expect("room for a message");
     assert_eq!((pinger.poll_at(&of_a), pinger.send_queue()), (PollAt::Now, 12));
-    assert_eq!(pinger.dispatch(&of_a, &mut packet[..31]), Err(TooShort));
+    assert_eq!(pinger.dispatch(&of_a, &mut packet[..31]), Err(DispatchError::TooShort));
     assert_eq!(pinger.dispatch(&of_a, &mut packet), Ok(Some(32)));
     assert_eq!((packet[9], packet[20], packet[32 - 4..32].as_ref()), (1, 8, &b"ping"[..]));
     // The reply is the request with the addresses exchanged and the kind 0: its checksum is 0x0800 more.
@@ -173,7 +209,7 @@ fn icmp_errors() {
     let of_udp = datagram(b"which address?");
     let (mut memory, mut rx, mut tx) = (tcp::Memory::new(), [0; 9], [0; 9]);
     let mut host = Host { socket: tcp::Socket::new(&mut memory, &mut rx, &mut tx), cx: context(1, 0) };
-    host.socket.connect(&host.cx, (B, 53), 49152).expect("a closed socket connects");
+    host.socket.connect(&mut host.cx, (B, 53), 49152).expect("a closed socket connects");
     let of_tcp = host.emit().expect("a SYN");
     let sources = [icmp::Endpoint::Udp(49152.into()), icmp::Endpoint::Tcp(49152.into())];
     for (n, quoted) in [&of_udp, &of_tcp].into_iter().enumerate() {

@@ -48,7 +48,7 @@ fn two_lost_acknowledgements(control: CongestionControl) -> (State, State) {
         host.socket.set_timeout(Some(Duration::from_secs(60)));
     }
     b.socket.listen(80).expect("a closed socket listens");
-    a.socket.connect(&a.cx, (B, 80), 49152).expect("a closed socket connects");
+    a.socket.connect(&mut a.cx, (B, 80), 49152).expect("a closed socket connects");
     settle(&mut a, &mut b);
     warm(&mut a, &mut b, 3);
 

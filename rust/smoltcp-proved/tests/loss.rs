@@ -83,7 +83,7 @@ impl<'a> Side<'a> {
                 way.push(packet.clone());
             }
             let mut reply = vec![0; tcp::REPLY_LEN];
-            if let Ok(Some(len)) = self.host.socket.process(&self.host.cx, &packet, &mut reply) {
+            if let Ok(Some(len)) = self.host.socket.process(&mut self.host.cx, &packet, &mut reply) {
                 back.push(reply[..len].to_vec());
             }
         }
@@ -125,7 +125,7 @@ fn exchange(seed: u64) -> bool {
         socket.set_timeout(Some(Duration::from_secs(600)));
     }
     of_b.socket.listen(80).expect("a closed socket listens");
-    of_a.socket.connect(&of_a.cx, (B, 80), 49152).expect("a closed socket connects");
+    of_a.socket.connect(&mut of_a.cx, (B, 80), 49152).expect("a closed socket connects");
     let (of_a_to_b, of_b_to_a) = (random.below(12_000), random.below(12_000));
     let (a_data, b_data) = (random.bytes(of_a_to_b), random.bytes(of_b_to_a));
     let (mut a, mut b) = (Side::new(of_a, &a_data), Side::new(of_b, &b_data));

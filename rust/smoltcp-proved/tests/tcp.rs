@@ -28,7 +28,7 @@ impl Room {
         let mut a = Host { socket: Socket::new(m, p, r), cx: context(1, 1000) };
         let mut b = Host { socket: Socket::new(n, q, s), cx: context(2, 5000) };
         b.socket.listen(80).expect("a closed socket listens");
-        a.socket.connect(&a.cx, (B, 80), 49152).expect("a closed socket connects");
+        a.socket.connect(&mut a.cx, (B, 80), 49152).expect("a closed socket connects");
         (a, b)
     }
 
@@ -71,22 +71,22 @@ fn refusals() {
     let (mut a, mut b) = room.opening();
     assert_eq!(b.socket.listen(0), Err(ListenError::Unaddressable));
     assert_eq!(b.socket.listen(81), Err(ListenError::InvalidState));
-    assert_eq!(a.socket.connect(&a.cx, (B, 80), 1), Err(ConnectError::InvalidState));
+    assert_eq!(a.socket.connect(&mut a.cx, (B, 80), 1), Err(ConnectError::InvalidState));
     assert_eq!(b.socket.send_slice(b"no"), Err(SendError::InvalidState));
     assert_eq!(b.socket.recv_slice(&mut [0]), Err(RecvError::InvalidState));
     assert_eq!(b.socket.recv(|_| (0, ())), Err(RecvError::InvalidState));
     assert_eq!(b.socket.peek(1), Err(RecvError::InvalidState));
     assert_eq!(a.socket.dispatch(&a.cx, &mut [0; 20]), Err(TooShort));
     let syn = a.emit().expect("the SYN again");
-    assert_eq!(a.socket.process(&a.cx, &syn, &mut [0; 100]), Err(NotAccepted));
-    assert_eq!(b.socket.process(&b.cx, &syn[..39], &mut [0; 100]), Err(NotAccepted));
+    assert_eq!(a.socket.process(&mut a.cx, &syn, &mut [0; 100]), Err(NotAccepted));
+    assert_eq!(b.socket.process(&mut b.cx, &syn[..39], &mut [0; 100]), Err(NotAccepted));
     let mut reply = [0; tcp::REPLY_LEN];
     let len = tcp::reset(&syn, &mut reply).expect("a segment").expect("an RST");
     assert_eq!((flags(&reply), number(&reply), acknowledged(&reply)), (RST | ACK, 0, 1001));
     assert_eq!(tcp::reset(&reply[..len], &mut [0; 100]), Ok(None));
     assert_eq!(a.take(&reply[..len]), None);
     assert_eq!(a.socket.state(), State::Closed);
-    assert_eq!(a.socket.connect(&a.cx, (B, 0), 1), Err(ConnectError::Unaddressable));
+    assert_eq!(a.socket.connect(&mut a.cx, (B, 0), 1), Err(ConnectError::Unaddressable));
     assert_eq!(ConnectError::Unaddressable.to_string(), "unaddressable destination");
     assert_eq!(RecvError::Finished.to_string(), "operation finished");
     assert_eq!(State::FinWait2.to_string(), "FIN-WAIT-2");
@@ -294,7 +294,7 @@ fn ipv6_and_timestamps() {
     b.cx.set_ipv6_addr(at_b.0);
     assert_eq!((a.cx.ipv4_addr().map(Into::into), b.cx.ipv6_addr()), (Some(A), Some(at_b.0)));
     b.socket.listen(at_b).expect("a closed socket listens");
-    a.socket.connect(&a.cx, at_b, 49152).expect("a closed socket connects");
+    a.socket.connect(&mut a.cx, at_b, 49152).expect("a closed socket connects");
     a.cx.set_now(Instant::from_millis(0x0102_0304));
     let syn = a.emit().expect("a SYN");
     assert_eq!((syn[0] >> 4, syn[6], &syn[8..24]), (6, 6, &Ipv6Address::LOCALHOST.octets()[..]));
@@ -310,7 +310,7 @@ fn ipv6_and_timestamps() {
 #[test]
 fn contexts() {
     assert!(Context::new(575).is_none());
-    let mut cx = Context::new(70_000).expect("an MTU");
+    let mut cx = Context::new(70_000).expect("an MTU").with_words(|| 7);
     assert_eq!(cx.ip_mtu(), 65535);
     cx.set_now(Instant::from_micros(i64::MIN));
     assert_eq!(cx.now(), Instant::from_micros(-1i64 << 61));
@@ -319,7 +319,48 @@ fn contexts() {
     assert_eq!(socket.dispatch(&cx, &mut [0; 100]), Ok(None));
     cx.set_now(Instant::from_micros(i64::MAX));
     cx.set_ipv4_addr([10, 0, 0, 1].into());
-    socket.connect(&cx, (B, 80), 49152).expect("a closed socket connects");
+    socket.connect(&mut cx, (B, 80), 49152).expect("a closed socket connects");
     assert_eq!(socket.poll_at(&cx), PollAt::Now);
     assert!(format!("{cx:?} {socket:?}").contains("SynSent"));
+}
+
+/// An address that was never set is no source.
+#[test]
+fn no_source() {
+    let mut room = Room::new(64);
+    let mut socket = Socket::new(&mut room.memory[0], &mut room.rx[0], &mut room.tx[0]);
+    let mut cx = Context::new(1500).expect("an MTU").with_words(|| 7);
+    let over_ipv6 = IpEndpoint::new(Ipv6Address::LOCALHOST.into(), 80);
+    assert_eq!((cx.ipv4_addr(), cx.ipv6_addr()), (None, None));
+    assert_eq!(socket.connect(&mut cx, (B, 80), 49152), Err(ConnectError::Unaddressable));
+    assert_eq!(socket.connect(&mut cx, over_ipv6, 49152), Err(ConnectError::Unaddressable));
+    assert_eq!((socket.state(), socket.poll_at(&cx)), (State::Closed, PollAt::Ingress));
+    cx.set_ipv4_addr([10, 0, 0, 1].into());
+    assert_eq!(socket.connect(&mut cx, over_ipv6, 49152), Err(ConnectError::Unaddressable));
+    assert_eq!(socket.connect(&mut cx, (B, 80), 49152), Ok(()));
+}
+
+/// Each connection begins with a word of its own, drawn for it; without words none begins.
+#[test]
+fn words() {
+    let (mut room, mut other) = (Room::new(64), Room::new(64));
+    let (mut a, mut b) = room.opening();
+    let syn = a.emit().expect("a SYN");
+    let mut mute = Context::new(1500).expect("an MTU");
+    mute.set_ipv4_addr([10, 0, 0, 2].into());
+    let mut reply = [0; tcp::REPLY_LEN];
+    assert_eq!(b.socket.process(&mut mute, &syn, &mut reply), Err(NotAccepted));
+    assert!(b.socket.is_listening());
+    let mut third = Socket::new(&mut other.memory[0], &mut other.rx[0], &mut other.tx[0]);
+    assert_eq!(third.connect(&mut mute, (A, 80), 1), Err(ConnectError::NoWords));
+    assert_eq!(ConnectError::NoWords.to_string(), "no random words");
+
+    // a packet that opens nothing uses no word, and two connections have two
+    assert_eq!(b.socket.process(&mut b.cx, &syn[..39], &mut reply), Err(NotAccepted));
+    assert_eq!(b.take(&syn), None);
+    assert_eq!(b.emit().map(|both| number(&both)), Some(5000));
+    third.connect(&mut b.cx, (A, 80), 49152).expect("a closed socket connects");
+    let mut packet = [0; 100];
+    assert_eq!(third.dispatch(&b.cx, &mut packet), Ok(Some(20 + 20 + 12)));
+    assert_eq!(number(&packet), 6000);
 }

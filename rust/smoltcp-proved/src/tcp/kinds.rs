@@ -26,8 +26,10 @@ impl core::error::Error for ListenError {}
 pub enum ConnectError {
     /// The socket is open.
     InvalidState,
-    /// A port is 0, or an address is unspecified or of another version.
+    /// A port is 0, or an address is unspecified or of another version, or the context has no address of the version.
     Unaddressable,
+    /// The context has no source of random words. (smoltcp's interface always has one.)
+    NoWords,
 }
 
 impl fmt::Display for ConnectError {
@@ -35,6 +37,7 @@ impl fmt::Display for ConnectError {
         f.write_str(match self {
             ConnectError::InvalidState => "invalid state",
             ConnectError::Unaddressable => "unaddressable destination",
+            ConnectError::NoWords => "no random words",
         })
     }
 }

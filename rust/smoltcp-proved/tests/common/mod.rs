@@ -2,7 +2,7 @@
 #![allow(dead_code)]
 use smoltcp_proved::time::{Duration, Instant};
 use smoltcp_proved::wire::IpAddress;
-use smoltcp_proved::{Context, PollAt, tcp};
+use smoltcp_proved::{Context, PollAt, Words, tcp};
 
 pub const A: IpAddress = IpAddress::v4(10, 0, 0, 1);
 pub const B: IpAddress = IpAddress::v4(10, 0, 0, 2);
@@ -13,10 +13,23 @@ pub const SYN: u8 = 0x02;
 pub const RST: u8 = 0x04;
 pub const ACK: u8 = 0x10;
 
-pub fn context(last: u8, word: u32) -> Context {
-    let mut cx = Context::new(1500).expect("an MTU of 576 or more");
+/// Numbers from one on, each 1000 more than the one before it.
+pub struct Numbers(u32);
+
+impl Words for Numbers {
+    fn next(&mut self) -> Option<u32> {
+        let word = self.0;
+        self.0 = word.wrapping_add(1000);
+        Some(word)
+    }
+}
+
+/// A context with these words.
+pub type Told = Context<Numbers>;
+
+pub fn context(last: u8, word: u32) -> Told {
+    let mut cx = Context::new(1500).expect("an MTU of 576 or more").with_source(Numbers(word));
     cx.set_ipv4_addr([10, 0, 0, last].into());
-    cx.set_random(word);
     cx
 }
 
@@ -47,7 +60,7 @@ pub fn payload(packet: &[u8]) -> &[u8] {
 /// A socket with its context.
 pub struct Host<'a> {
     pub socket: tcp::Socket<'a>,
-    pub cx: Context,
+    pub cx: Told,
 }
 
 impl Host<'_> {
@@ -62,7 +75,7 @@ impl Host<'_> {
     /// Takes a packet, and answers it.
     pub fn take(&mut self, packet: &[u8]) -> Option<Vec<u8>> {
         let mut reply = vec![0; tcp::REPLY_LEN];
-        let len = self.socket.process(&self.cx, packet, &mut reply).expect("a packet for the socket")?;
+        let len = self.socket.process(&mut self.cx, packet, &mut reply).expect("a packet for the socket")?;
         reply.truncate(len);
         Some(reply)
     }

@@ -1,4 +1,4 @@
-use Rattle.std.proofs.Common.{sym, ◌∙◌, rules}
+use Rattle.std.proofs.Common.{rules}
 use Rattle.net_base.proofs.PacketLists.{padded_place, padded_room}
 use Rattle.net_base.proofs.packet_buffer.PacketBuffer.pad_for.Goals as goal
 
