@@ -1,0 +1,11 @@
+pub mod Addresses
+pub mod Emissions
+pub mod Facts
+pub mod Limits
+pub mod Segments
+pub mod SheetOf
+pub mod Sheets
+pub mod Slots
+pub mod Turns
+pub mod Walks
+pub mod Wire

@@ -1,0 +1,19 @@
+//! A host of many sockets: who gets a packet, who speaks next, and when to look again.
+#![tactic(auto)]
+
+pub mod cidr;
+pub mod emission;
+pub mod environment;
+pub mod inner;
+pub mod limit;
+pub mod replies;
+pub mod secret;
+pub mod segments;
+pub mod set;
+pub mod slot;
+pub mod turn;
+pub mod wire;
+
+pub use cidr::IpCidr;
+pub use set::SocketSet;
+pub use slot::SocketHandle;
