@@ -6,6 +6,7 @@ ghost use Rattle.ip_wire.specs.Address.{SameVersion, same_version};
 ghost use Rattle.ip_wire.specs.Checksum.{all_checksums};
 ghost use Rattle.ip_wire.specs.declared.checksum.Checksum.TheVariants.{Both};
 ghost use Rattle.sock_core.specs.Bounds.{IsMoment, IsMtu};
+ghost use Rattle.net_host.specs.Moments.{lawful_micros};
 ghost use Rattle.net_host.specs.Addresses.{covers, is_broadcast, is_directed, source_of};
 
 use crate::cidr::{IpCidr, is_limited_broadcast};
@@ -45,6 +46,15 @@ impl Environment {
         ensures lawful { IsMoment result.micros }
     {
         self.now
+    }
+
+    /// Sets the moment, within 2^60 microseconds of zero; one that is further away counts as the nearest of these.
+    pub(crate) fn set_now(&mut self, now: Instant)
+        ensures now { self.new.now.micros ≡ lawful_micros now.micros }
+        ensures same { (self.new.addresses ≡ self.old.addresses) × (self.new.mtu ≡ self.old.mtu)
+            × (self.new.checksums ≡ self.old.checksums) }
+    {
+        self.now = lawful(now);
     }
 
     pub(crate) fn set_mtu(&mut self, mtu: usize)
@@ -106,4 +116,21 @@ impl Environment {
     {
         self.addresses.iter().any(|c: &IpCidr| c.is_broadcast(addr))
     }
+}
+
+// No moment is further from zero, in microseconds: some 36,000 years.
+const FARTHEST: i64 = 1 << 60;
+
+fn lawful(now: Instant) -> Instant
+    ensures value { result.micros ≡ lawful_micros now.micros }
+    ensures lawful { IsMoment result.micros }
+{
+    let micros = if now.micros < -FARTHEST {
+        -FARTHEST
+    } else if FARTHEST < now.micros {
+        FARTHEST
+    } else {
+        now.micros
+    };
+    Instant { micros }
 }

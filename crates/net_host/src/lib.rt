@@ -1,7 +1,9 @@
 //! A host of many sockets: who gets a packet, who speaks next, and when to look again.
 #![tactic(auto)]
 
+pub mod arrival;
 pub mod cidr;
+pub mod counters;
 pub mod emission;
 pub mod environment;
 pub mod inner;
@@ -11,6 +13,7 @@ pub mod secret;
 pub mod segments;
 pub mod set;
 pub mod slot;
+pub mod speak;
 pub mod turn;
 pub mod wire;
 
