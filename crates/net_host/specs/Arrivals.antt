@@ -30,7 +30,7 @@ unfoldable pub is_martian : Facts → IpAddress → Bool
 is_martian f a = is_multicast a || (f.broadcast a || (f.has_address a || is_reserved a))
 
 -- why the packet is dropped, if it is
-abbrev pub refusal : Facts → IpRepr → Option Reason
+unfoldable pub refusal : Facts → IpRepr → Option Reason
 refusal f ip =
     if is_martian f (src_addr_of ip) then Some reason.Source
     else (if f.has_address (dst_addr_of ip) then None else Some reason.Destination)

@@ -3,8 +3,10 @@ pub mod Arrivals
 pub mod Counts
 pub mod Emissions
 pub mod Facts
+pub mod HostCalls
 pub mod Limits
 pub mod Moments
+pub mod Receiving
 pub mod Segments
 pub mod SheetOf
 pub mod Sheets

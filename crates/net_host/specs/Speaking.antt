@@ -1,13 +1,21 @@
 -- Who speaks next.
 use Rattle.std.specs.Prelude.{ℕ, ◌≡◌, ◌+◌, ◌<◌, List, Bool, true, Result, Ok, Err}
 use Rattle.sock_core.specs.Facts.{Facts}
-use Rattle.net_host.specs.Turns.{TakesTurn, is_due}
+use Rattle.sock_core.specs.declared.context.PollAt.{PollAt}
+use Rattle.sock_core.specs.declared.context.PollAt.TheVariants as poll
+use Rattle.sock_tcp.specs.Polls.{earlier}
+use Rattle.std.specs.List.{fold}
+use Rattle.net_host.specs.Turns.{TakesTurn, is_due, slot_poll}
 use Rattle.net_host.specs.Walks.{ChangesAt, IsNext, Nowhere}
 use Rattle.net_host.specs.declared.slot.Slot.{Slot}
 use Rattle.net_host.specs.declared.wire.TooShort.{TooShort}
 
 abbrev pub Due : {G : Type 0} → Facts → Slot G → Type 0
 Due facts s = is_due facts s ≡ true
+
+-- when the first of the sockets wants to speak
+abbrev pub earliest : {G : Type 0} → Facts → List (Slot G) → PollAt
+earliest facts ss = fold (λ p s. earlier p (slot_poll s facts)) poll.Ingress ss
 
 module _ {G : Type 0} (facts : Facts) (tells : G → ℕ → Type 0) where
   -- the slot at i has its turn, and no other changes

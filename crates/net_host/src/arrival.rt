@@ -9,6 +9,7 @@ use smoltcp_socket::wire::{IpAddress, IpRepr, Ipv4Address, Ipv6Address};
 
 /// Why the packet is dropped, if it is: its source is one that no single other host has, so that an answer would go to
 /// many, to nobody, or come back (RFC 1122, section 3.2.1.3); or its destination is no address of the interface.
+#[tactic(auto, unfolding(crate::specs::Arrivals::refusal))]
 pub(crate) fn refusal<C: Context>(cx: &C, ip: &IpRepr) -> Option<Reason>
     ensures { result ≡ refusal (C.facts cx.now) ip.now }
 {

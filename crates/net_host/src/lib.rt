@@ -7,7 +7,9 @@ pub mod counters;
 pub mod emission;
 pub mod environment;
 pub mod inner;
+pub mod interface;
 pub mod limit;
+pub mod receive;
 pub mod replies;
 pub mod secret;
 pub mod segments;
@@ -18,5 +20,8 @@ pub mod turn;
 pub mod wire;
 
 pub use cidr::IpCidr;
+pub use interface::Interface;
+pub use secret::Secret;
 pub use set::SocketSet;
 pub use slot::SocketHandle;
+pub use wire::TooShort;

@@ -4,10 +4,11 @@ ghost use Rattle.std.specs.Option.{ForSome};
 ghost use Rattle.control_wire.specs.Fits.{FitsPacket};
 ghost use Rattle.control_wire.specs.Segment.{segment_of};
 ghost use Rattle.sock_tcp.specs.Process.{reply_of};
-ghost use Rattle.net_host.specs.Segments.{Hears, HearsAt, IsTaker, Refuses, TakenBy, listener_of, TakesSegment};
+ghost use Rattle.net_host.specs.Segments.{AnswersSegment, Hears, HearsAt, IsTaker, Refuses, TakenBy, listener_of, TakesSegment};
 ghost use Rattle.net_host.specs.Walks.{Finds};
 
 use crate::limit::Limit;
+use crate::replies::put_reply;
 use crate::slot::Slot;
 use smoltcp_socket::time::Instant;
 use smoltcp_socket::wire::{IpRepr, TcpControl, TcpRepr};
@@ -160,4 +161,26 @@ pub(crate) fn take_segment<C: Context, G: TsvalSource>(
         Taker::Listener(i) => hear_at(slots, i, cx, true, ip, repr),
         Taker::Nobody => refuse(limit, cx.now(), ip, repr),
     }
+}
+
+/// A segment arrives: who took it, and the length of the packet that answers it, at the beginning of `out`, or 0.
+pub(crate) fn hear_segment<C: Context, G: TsvalSource>(
+    slots: &mut Vec<Slot<'_, G>>,
+    cx: &mut C,
+    limit: &mut Limit,
+    ip: &IpRepr,
+    repr: &TcpRepr<'_>,
+    out: &mut [u8],
+) -> (Taker, usize)
+    requires small { length repr.now.payload.now ≤ 65535 }
+    requires room { 100 ≤ length out.old }
+    ensures taker { IsTaker slots.old.items ip.now (segment_of repr.now) result.0 }
+    ensures heard { AnswersSegment C.facts C.word_at G.tells result.0 slots.old.items cx.old limit.old ip.now
+        (segment_of repr.now) out.old result.1 slots.new.items cx.new limit.new out.new }
+{
+    let caps = cx.checksum_caps();
+    let taker = who_takes(slots, cx, ip, repr);
+    let reply = take_segment(slots, cx, limit, taker, ip, repr);
+    let len = put_reply(&reply, out, &caps);
+    (taker, len)
 }

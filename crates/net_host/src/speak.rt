@@ -2,18 +2,19 @@
 ghost use Rattle.std.specs.Prelude.{◌≡◌, ◌↔◌, ◌<◌, ◌≤◌, ◌+◌, IsTrue, Ok, length, true};
 ghost use Rattle.sock_core.specs.Bounds.{IsMoment};
 ghost use Rattle.net_host.specs.Facts.{facts_by};
-ghost use Rattle.net_host.specs.Speaking.{Due, Speaks, TurnAt};
+ghost use Rattle.net_host.specs.Speaking.{Due, Speaks, TurnAt, earliest};
+ghost use Rattle.sock_tcp.specs.Polls.{earlier};
 ghost use Rattle.net_host.specs.Turns.{Watches, is_due};
-ghost use Rattle.net_host.specs.Walks.{ChangesEach, FindsIn, FindsNext};
+ghost use Rattle.net_host.specs.Walks.{ChangesEach, FindsIn, FindsNext, Nowhere};
 
 use crate::environment::Environment;
 use crate::inner::InterfaceInner;
 use crate::slot::Slot;
 use crate::wire::TooShort;
 use host_context::Words;
-use smoltcp_socket::Context;
 use smoltcp_socket::time::Instant;
 use smoltcp_socket::wire::IpAddress;
+use smoltcp_socket::{Context, PollAt};
 use sock_tcp::TsvalSource;
 
 /// The guard of each TCP socket looks at it.
@@ -27,7 +28,12 @@ pub(crate) fn watch_all<G: TsvalSource>(slots: &mut Vec<Slot<'_, G>>, now: Insta
 }
 
 // The first socket that is due, from one place on and before another.
-fn due_between<C: Context, G: TsvalSource>(slots: &[Slot<'_, G>], cx: &C, start: usize, end: usize) -> Option<usize>
+fn due_between<C: Context, G: TsvalSource>(
+    slots: &[Slot<'_, G>],
+    cx: &C,
+    start: usize,
+    end: usize,
+) -> Option<usize>
     requires { end ≤ length slots.now }
     ensures { FindsIn (Due (C.facts cx.now)) slots.now start end result }
 {
@@ -41,7 +47,11 @@ fn due_between<C: Context, G: TsvalSource>(slots: &[Slot<'_, G>], cx: &C, start:
 
 /// The first socket that is due, from the place whose turn it is on.
 
-pub(crate) fn next_due<C: Context, G: TsvalSource>(slots: &[Slot<'_, G>], cx: &C, turn: usize) -> Option<usize>
+pub(crate) fn next_due<C: Context, G: TsvalSource>(
+    slots: &[Slot<'_, G>],
+    cx: &C,
+    turn: usize,
+) -> Option<usize>
     ensures { FindsNext (Due (C.facts cx.now)) slots.now turn result }
 {
     let start = turn.min(slots.len());
@@ -73,6 +83,20 @@ pub(crate) fn speak<W: Words, G: TsvalSource>(
     cx: &InterfaceInner<W>,
     out: &mut [u8],
 ) -> Result<usize, TooShort>
+    ensures table { Speaks (facts_by ⟦<IpAddress as PartialEq>⟧.eq cx.now.environment) G.tells slots.old.items turn.old
+        out.old result slots.new.items turn.new out.new }
+    ensures quiet { result ≡ Ok 0 → Nowhere (Due (facts_by ⟦<IpAddress as PartialEq>⟧.eq cx.now.environment))
+        slots.new.items }
+{
+    speak_on(slots, turn, cx, out)
+}
+
+fn speak_on<W: Words, G: TsvalSource>(
+    slots: &mut Vec<Slot<'_, G>>,
+    turn: &mut usize,
+    cx: &InterfaceInner<W>,
+    out: &mut [u8],
+) -> Result<usize, TooShort>
     ensures { Speaks (facts_by ⟦<IpAddress as PartialEq>⟧.eq cx.now.environment) G.tells slots.old.items turn.old out.old
         result slots.new.items turn.new out.new }
 {
@@ -87,4 +111,28 @@ pub(crate) fn speak<W: Words, G: TsvalSource>(
         }
     }
     Ok(0)
+}
+
+/// When the first of the sockets wants to speak.
+pub(crate) fn earliest<C: Context, G: TsvalSource>(slots: &[Slot<'_, G>], cx: &C) -> PollAt
+    ensures { result ≡ earliest (C.facts cx.now) slots.now }
+{
+    slots
+        .iter()
+        .fold(PollAt::Ingress, |first: PollAt, slot: &Slot<'_, G>| {
+            earlier(first, slot.poll_at(cx))
+        })
+}
+
+fn earlier(poll: PollAt, other: PollAt) -> PollAt
+    ensures { result ≡ earlier poll other }
+{
+    match (poll, other) {
+        (PollAt::Now, _) | (_, PollAt::Now) => PollAt::Now,
+        (PollAt::Ingress, _) => other,
+        (_, PollAt::Ingress) => poll,
+        (PollAt::Time(at), PollAt::Time(then)) => {
+            PollAt::Time(if at.micros <= then.micros { at } else { then })
+        }
+    }
 }

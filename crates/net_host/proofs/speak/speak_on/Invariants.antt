@@ -7,7 +7,7 @@ use Rattle.net_host.specs.Speaking.{Speaks}
 use Rattle.net_host.specs.declared.slot.Slot.{Slot}
 use Rattle.net_host.specs.declared.wire.TooShort.{TooShort}
 use Rattle.net_host.proofs.Measure.{left_turns}
-use Rattle.net_host.proofs.speak.speak.Given as goal
+use Rattle.net_host.proofs.speak.speak_on.Given as goal
 
 abbrev pub invariant-loop-i : goal.invariant-loop-i
 invariant-loop-i g l = (r : Result ℕ TooShort) (ts : List (Slot g.row.G.Denot)) (turn : ℕ) (out : List ℕ) → Speaks (facts_by eq-value.it l.cx.environment) g.G.TsvalSource.tells l.slots.items l.turn l.out r ts turn out → Speaks (facts_by eq-value.it l.cx.environment) g.G.TsvalSource.tells l.fn.slots.items l.fn.turn l.fn.out r ts turn out
