@@ -1,5 +1,5 @@
 //! What a socket emits, into a buffer.
-ghost use Rattle.std.specs.Prelude.{◌≡◌};
+ghost use Rattle.std.specs.Prelude.{◌≡◌, ◌≤◌, length};
 ghost use Rattle.control_wire.specs.Segment.{segment_of};
 ghost use Rattle.sock_tcp.specs.Dispatch.{Dispatches};
 ghost use Rattle.net_host.specs.Facts.{facts_by};
@@ -22,6 +22,7 @@ fn emit_segment<G: TsvalSource>(
         (facts_by ⟦<IpAddress as PartialEq>⟧.eq wire.old.environment.now) G.tells socket.old.tsval_generator
         socket.old.control_block (sheet_of wire.old) result socket.new.control_block (sheet_of wire.new) }
     ensures generator { socket.new.tsval_generator ≡ socket.old.tsval_generator }
+    ensures within { wire.old.len ≤ length wire.old.out.now → wire.new.len ≤ length wire.old.out.now }
     ensures same_buffer { wire.new.out.ghost_name ≡ wire.old.out.ghost_name }
     ensures environment { wire.new.environment ≡ wire.old.environment }
 {
@@ -32,6 +33,7 @@ fn emit_segment<G: TsvalSource>(
                 (sheet_of cx.entry.now) result (sheet_of cx.exit.now) }
             ensures same_buffer { cx.exit.now.out.ghost_name ≡ cx.entry.now.out.ghost_name }
             ensures environment { cx.exit.now.environment ≡ cx.entry.now.environment }
+            ensures within { cx.entry.now.len ≤ length cx.entry.now.out.now → cx.exit.now.len ≤ length cx.entry.now.out.now }
         { cx.write_segment(&sent.0, &sent.1) },
     )
 }
@@ -46,6 +48,7 @@ pub(crate) fn emit_tcp<G: TsvalSource>(
     ensures table { DispatchesSegment (facts_by ⟦<IpAddress as PartialEq>⟧.eq environment.entry.now) G.tells
         socket.old.tsval_generator socket.old.control_block out.old result.0 result.1 socket.new.control_block
         out.new }
+    ensures within { result.1 ≤ length out.old }
     ensures generator { socket.new.tsval_generator ≡ socket.old.tsval_generator }
 {
     let mut wire = Wire {

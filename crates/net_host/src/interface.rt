@@ -55,6 +55,7 @@ impl<W: Words> Interface<W> {
         ensures short { length reply.old < self.old.inner.environment.mtu
             → (self.new ≡ self.old) × (sockets.new ≡ sockets.old) × (reply.new ≡ reply.old) }
         ensures refused { IsTrue (is_err result) ↔ (length reply.old < self.old.inner.environment.mtu) }
+        ensures within { IfOk result (λ n. n ≤ length reply.old) }
         ensures taken { IfOk result (λ n. ReceivesAt ⟦<IpAddress as PartialEq>⟧.eq W.word_at G.tells now packet.now
             self.old sockets.old.slots.items reply.old n self.new sockets.new.slots.items reply.new) }
     {
@@ -72,7 +73,8 @@ impl<W: Words> Interface<W> {
         reply: &mut [u8],
     ) -> usize
         requires { 100 ≤ length reply.old }
-        ensures { ReceivesAt ⟦<IpAddress as PartialEq>⟧.eq W.word_at G.tells now packet.now self.old slots.old.items
+        ensures within { result ≤ length reply.old }
+        ensures table { ReceivesAt ⟦<IpAddress as PartialEq>⟧.eq W.word_at G.tells now packet.now self.old slots.old.items
             reply.old result self.new slots.new.items reply.new }
     {
         self.set_now(now);
@@ -98,6 +100,7 @@ impl<W: Words> Interface<W> {
     ) -> Result<usize, TooShort>
         ensures table { EmitsAt ⟦<IpAddress as PartialEq>⟧.eq G.tells now self.old sockets.old.slots.items out.old result
             self.new sockets.new.slots.items out.new }
+        ensures within { IfOk result (λ n. n ≤ length out.old) }
         ensures quiet { result ≡ Ok 0 → Nowhere (Due (facts_by ⟦<IpAddress as PartialEq>⟧.eq
             self.new.inner.environment)) sockets.new.slots.items }
     {
@@ -112,6 +115,7 @@ impl<W: Words> Interface<W> {
     ) -> Result<usize, TooShort>
         ensures table { EmitsAt ⟦<IpAddress as PartialEq>⟧.eq G.tells now self.old slots.old.items out.old result
             self.new slots.new.items out.new }
+        ensures within { IfOk result (λ n. n ≤ length out.old) }
         ensures quiet { result ≡ Ok 0 → Nowhere (Due (facts_by ⟦<IpAddress as PartialEq>⟧.eq
             self.new.inner.environment)) slots.new.items }
     {

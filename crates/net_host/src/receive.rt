@@ -29,7 +29,8 @@ impl<W: Words> Interface<W> {
         out: &mut [u8],
     ) -> usize
         requires { 100 ≤ length out.old }
-        ensures { TakesPacket ⟦<IpAddress as PartialEq>⟧.eq W.word_at G.tells packet.now self.old slots.old.items out.old
+        ensures within { result ≤ length out.old }
+        ensures table { TakesPacket ⟦<IpAddress as PartialEq>⟧.eq W.word_at G.tells packet.now self.old slots.old.items out.old
             result self.new slots.new.items out.new }
     {
         let caps = self.inner.checksum_caps();
@@ -55,7 +56,8 @@ impl<W: Words> Interface<W> {
         out: &mut [u8],
     ) -> usize
         requires { 100 ≤ length out.old }
-        ensures { ByAddresses ⟦<IpAddress as PartialEq>⟧.eq W.word_at G.tells
+        ensures within { result ≤ length out.old }
+        ensures table { ByAddresses ⟦<IpAddress as PartialEq>⟧.eq W.word_at G.tells
             (refusal (facts_by ⟦<IpAddress as PartialEq>⟧.eq self.old.inner.environment) ip.now) ip.now bytes.now
             self.old slots.old.items out.old result self.new slots.new.items out.new }
     {
@@ -73,7 +75,8 @@ impl<W: Words> Interface<W> {
         out: &mut [u8],
     ) -> usize
         requires { 100 ≤ length out.old }
-        ensures { ByProtocol ⟦<IpAddress as PartialEq>⟧.eq W.word_at G.tells (number_of (next_header_of ip.now) == 6)
+        ensures within { result ≤ length out.old }
+        ensures table { ByProtocol ⟦<IpAddress as PartialEq>⟧.eq W.word_at G.tells (number_of (next_header_of ip.now) == 6)
             ip.now bytes.now self.old slots.old.items out.old result self.new slots.new.items out.new }
     {
         if u8::from(ip.next_header()) == 6 {
@@ -91,7 +94,8 @@ impl<W: Words> Interface<W> {
         out: &mut [u8],
     ) -> usize
         requires { 100 ≤ length out.old }
-        ensures { TakesTcp ⟦<IpAddress as PartialEq>⟧.eq W.word_at G.tells ip.now bytes.now self.old slots.old.items
+        ensures within { result ≤ length out.old }
+        ensures table { TakesTcp ⟦<IpAddress as PartialEq>⟧.eq W.word_at G.tells ip.now bytes.now self.old slots.old.items
             out.old result self.new slots.new.items out.new }
     {
         let caps = self.inner.checksum_caps();
@@ -109,7 +113,8 @@ impl<W: Words> Interface<W> {
         out: &mut [u8],
     ) -> usize
         requires { 100 ≤ length out.old }
-        ensures { IfShort ⟦<IpAddress as PartialEq>⟧.eq W.word_at G.tells (nat_le (length repr.now.payload.now) 65535)
+        ensures within { result ≤ length out.old }
+        ensures table { IfShort ⟦<IpAddress as PartialEq>⟧.eq W.word_at G.tells (nat_le (length repr.now.payload.now) 65535)
             ip.now (segment_of repr.now) self.old slots.old.items out.old result self.new slots.new.items out.new }
     {
         if repr.payload.len() <= 65535 {
@@ -128,7 +133,8 @@ impl<W: Words> Interface<W> {
     ) -> usize
         requires small { length repr.now.payload.now ≤ 65535 }
         requires room { 100 ≤ length out.old }
-        ensures { TakesSegment ⟦<IpAddress as PartialEq>⟧.eq W.word_at G.tells ip.now (segment_of repr.now) self.old
+        ensures within { result ≤ length out.old }
+        ensures table { TakesSegment ⟦<IpAddress as PartialEq>⟧.eq W.word_at G.tells ip.now (segment_of repr.now) self.old
             slots.old.items out.old result self.new slots.new.items out.new }
     {
         let (taker, len) = hear_segment(slots, &mut self.inner, &mut self.resets, ip, repr, out);

@@ -22,6 +22,7 @@ pub(crate) fn put_segment(
 ) -> usize
     requires counted { IsCounted ip.now (segment_of repr.now) }
     requires room { packet_len ip.now ≤ length out.old }
+    ensures within { result ≤ length out.old }
     ensures len { result ≡ packet_len ip.now }
     ensures bytes { out.new ≡ with_segment caps.now ip.now (segment_of repr.now) out.old }
 {
@@ -35,6 +36,7 @@ pub(crate) fn put_reply(reply: &Option<Reply>, out: &mut [u8], caps: &ChecksumCa
     requires bare { ForSome reply.now (λ r. r.1.payload.now ≡ []) }
     requires fits { ForSome (option_map reply_of reply.now) (λ r. FitsPacket r.0 r.1) }
     requires room { 100 ≤ length out.old }
+    ensures within { result ≤ length out.old }
     ensures len { result ≡ reply_len (option_map reply_of reply.now) }
     ensures bytes { out.new ≡ with_reply caps.now (option_map reply_of reply.now) out.old }
 {

@@ -174,6 +174,7 @@ pub(crate) fn hear_segment<C: Context, G: TsvalSource>(
 ) -> (Taker, usize)
     requires small { length repr.now.payload.now ≤ 65535 }
     requires room { 100 ≤ length out.old }
+    ensures within { result.1 ≤ length out.old }
     ensures taker { IsTaker slots.old.items ip.now (segment_of repr.now) result.0 }
     ensures heard { AnswersSegment C.facts C.word_at G.tells result.0 slots.old.items cx.old limit.old ip.now
         (segment_of repr.now) out.old result.1 slots.new.items cx.new limit.new out.new }

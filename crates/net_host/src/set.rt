@@ -1,12 +1,12 @@
 //! A set of sockets of all kinds.
 ghost use Rattle.std.specs.Prelude.{◌≡◌, ◌<◌, IfOk, IfErr, OnErr, IfSome, IfNone, length, option_map, Some, None};
 ghost use Rattle.std.specs.List.{All};
-ghost use Rattle.net_host.specs.Slots.{IsFree, Fills, Empties, socket_at};
+ghost use Rattle.net_host.specs.Slots.{IsFree, Fills, Empties, socket_at, tcp_at};
 ghost use Rattle.net_host.specs.Walks.{Finds, ChangesAt};
 
 use crate::slot::{Slot, SocketHandle};
 use host_guard::Guard;
-use smoltcp_socket::Socket;
+use smoltcp_socket::{Socket, tcp};
 use sock_tcp::{Generator, TsvalSource};
 use std::alloc::{AllocError, Global};
 
@@ -82,6 +82,19 @@ impl<'a, G: TsvalSource> SocketSet<'a, G> {
             return None;
         }
         slot.socket.as_mut()
+    }
+}
+
+/// The sockets of one kind.
+impl<'a, G: TsvalSource> SocketSet<'a, G> {
+    /// The TCP socket of this handle, lent with every call of it; none where the handle's socket is of another kind.
+    pub fn tcp_mut(&mut self, handle: SocketHandle) -> Option<&mut tcp::Socket<'a, G>>
+        ensures { option_map (λ s. s.now) result ≡ tcp_at self.old.slots.items handle }
+    {
+        match self.get_mut(handle)? {
+            Socket::Tcp(tcp) => Some(tcp),
+            _ => None,
+        }
     }
 }
 

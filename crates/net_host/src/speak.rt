@@ -1,5 +1,5 @@
 //! Who speaks next.
-ghost use Rattle.std.specs.Prelude.{◌≡◌, ◌↔◌, ◌<◌, ◌≤◌, ◌+◌, IsTrue, Ok, length, true};
+ghost use Rattle.std.specs.Prelude.{◌≡◌, ◌↔◌, ◌<◌, ◌≤◌, ◌+◌, IsTrue, IfOk, Ok, length, true};
 ghost use Rattle.sock_core.specs.Bounds.{IsMoment};
 ghost use Rattle.net_host.specs.Facts.{facts_by};
 ghost use Rattle.net_host.specs.Speaking.{Due, Speaks, TurnAt, earliest};
@@ -69,7 +69,8 @@ fn turn_at<G: TsvalSource>(
     out: &mut [u8],
 ) -> (Result<(), TooShort>, usize)
     requires { i < length slots.old.items }
-    ensures { TurnAt (facts_by ⟦<IpAddress as PartialEq>⟧.eq environment.entry.now) G.tells slots.old.items i out.old
+    ensures within { result.1 ≤ length out.old }
+    ensures table { TurnAt (facts_by ⟦<IpAddress as PartialEq>⟧.eq environment.entry.now) G.tells slots.old.items i out.old
         result.0 result.1 slots.new.items out.new }
 {
     slots[i].take_turn(environment, out)
@@ -85,6 +86,7 @@ pub(crate) fn speak<W: Words, G: TsvalSource>(
 ) -> Result<usize, TooShort>
     ensures table { Speaks (facts_by ⟦<IpAddress as PartialEq>⟧.eq cx.now.environment) G.tells slots.old.items turn.old
         out.old result slots.new.items turn.new out.new }
+    ensures within { IfOk result (λ n. n ≤ length out.old) }
     ensures quiet { result ≡ Ok 0 → Nowhere (Due (facts_by ⟦<IpAddress as PartialEq>⟧.eq cx.now.environment))
         slots.new.items }
 {
@@ -97,7 +99,8 @@ fn speak_on<W: Words, G: TsvalSource>(
     cx: &InterfaceInner<W>,
     out: &mut [u8],
 ) -> Result<usize, TooShort>
-    ensures { Speaks (facts_by ⟦<IpAddress as PartialEq>⟧.eq cx.now.environment) G.tells slots.old.items turn.old out.old
+    ensures within { IfOk result (λ n. n ≤ length out.old) }
+    ensures table { Speaks (facts_by ⟦<IpAddress as PartialEq>⟧.eq cx.now.environment) G.tells slots.old.items turn.old out.old
         result slots.new.items turn.new out.new }
 {
     while let Some(i) = next_due(slots, cx, *turn) {

@@ -1,5 +1,5 @@
 //! What a host does with one socket and its guard: looks at it, asks when it wants to speak, and lets it speak.
-ghost use Rattle.std.specs.Prelude.{◌≡◌, pos};
+ghost use Rattle.std.specs.Prelude.{◌≡◌, ◌≤◌, length};
 ghost use Rattle.sock_core.specs.Bounds.{IsMoment};
 ghost use Rattle.net_host.specs.Facts.{facts_by};
 ghost use Rattle.host_guard.specs.Guarding.{not_before};
@@ -61,7 +61,8 @@ impl<'a, G: TsvalSource> Slot<'a, G> {
         environment: &Environment,
         out: &mut [u8],
     ) -> (Result<(), TooShort>, usize)
-        ensures { TakesTurn (facts_by ⟦<IpAddress as PartialEq>⟧.eq environment.entry.now) G.tells self.old out.old
+        ensures within { result.1 ≤ length out.old }
+        ensures table { TakesTurn (facts_by ⟦<IpAddress as PartialEq>⟧.eq environment.entry.now) G.tells self.old out.old
             result.0 result.1 self.new out.new }
     {
         if !self.guard.take_turn(environment.moment()) {
@@ -75,7 +76,8 @@ impl<'a, G: TsvalSource> Slot<'a, G> {
         environment: &Environment,
         out: &mut [u8],
     ) -> (Result<(), TooShort>, usize)
-        ensures { SlotEmits (facts_by ⟦<IpAddress as PartialEq>⟧.eq environment.entry.now) G.tells self.old out.old
+        ensures within { result.1 ≤ length out.old }
+        ensures table { SlotEmits (facts_by ⟦<IpAddress as PartialEq>⟧.eq environment.entry.now) G.tells self.old out.old
             result.0 result.1 self.new out.new }
     {
         match &mut self.socket {

@@ -1,5 +1,5 @@
 //! The context of a dispatch, which writes what is emitted into a buffer.
-ghost use Rattle.std.specs.Prelude.{◌≡◌, ◌↔◌, IsTrue};
+ghost use Rattle.std.specs.Prelude.{◌≡◌, ◌↔◌, ◌≤◌, IsTrue, length};
 ghost use Rattle.control_wire.specs.Segment.{segment_of};
 ghost use Rattle.net_host.specs.Addresses.{as_v4, as_v6, source_of};
 ghost use Rattle.net_host.specs.Facts.{facts_by};
@@ -48,6 +48,7 @@ impl<'w> Wire<'w> {
             (sheet_of self.new) }
         ensures same_buffer { self.new.out.ghost_name ≡ self.old.out.ghost_name }
         ensures environment { self.new.environment ≡ self.old.environment }
+        ensures within { self.old.len ≤ length self.old.out.now → self.new.len ≤ length self.old.out.now }
     {
         if !is_counted(ip, repr) || self.out.len() < ip.header_len() + ip.payload_len() {
             return Err(TooShort);
