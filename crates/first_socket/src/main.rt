@@ -1,21 +1,23 @@
 //! A first program: a client asks, a server answers in capitals, and each closes. Packets pass as bytes, in memory.
 #![tactic(auto)]
 
+ghost use Rattle.std.specs.Prelude.{◌≤◌, length};
+
 use net_host::{Interface, IpCidr, Secret, SocketHandle, SocketSet};
 use smoltcp_socket::Socket;
 use smoltcp_socket::storage::RingBuffer;
 use smoltcp_socket::tcp::{self, State};
 use smoltcp_socket::time::Instant;
-use smoltcp_socket::wire::{IpAddress, IpEndpoint, IpListenEndpoint};
+use smoltcp_socket::wire::{IpAddress, IpEndpoint, IpListenEndpoint, Ipv4Address};
 use std::alloc::AllocError;
 use std::process::ExitCode;
 
-const CLIENT: IpAddress = IpAddress::v4(10, 0, 0, 1);
+const CLIENT: IpAddress = IpAddress::Ipv4(Ipv4Address([10, 0, 0, 1]));
 
-const SERVER: IpAddress = IpAddress::v4(10, 0, 0, 2);
+const SERVER: IpAddress = IpAddress::Ipv4(Ipv4Address([10, 0, 0, 2]));
 
 // The program ends after so many milliseconds of its own time, whatever is left to do.
-const LONGEST: i64 = 60_000;
+const LONGEST: u32 = 60_000;
 
 // A host with one socket.
 #[derive(Drop)]
@@ -37,7 +39,11 @@ fn main(rt: HostRuntime) -> ExitCode {
     }
 }
 
-fn start(rt: &HostRuntime, client: tcp::Socket<'_>, server: tcp::Socket<'_>) -> Result<(), AllocError> {
+fn start(
+    rt: &HostRuntime,
+    client: tcp::Socket<'_>,
+    server: tcp::Socket<'_>,
+) -> Result<(), AllocError> {
     let client = Host::new(rt, CLIENT, client)?;
     let server = Host::new(rt, SERVER, server)?;
     run(rt, client, server);
@@ -46,7 +52,11 @@ fn start(rt: &HostRuntime, client: tcp::Socket<'_>, server: tcp::Socket<'_>) -> 
 
 impl<'a> Host<'a> {
     // A host on the network draws these 32 bytes anew at each start.
-    fn new(rt: &HostRuntime, address: IpAddress, socket: tcp::Socket<'a>) -> Result<Host<'a>, AllocError> {
+    fn new(
+        rt: &HostRuntime,
+        address: IpAddress,
+        socket: tcp::Socket<'a>,
+    ) -> Result<Host<'a>, AllocError> {
         let mut addresses = Vec::new(rt.alloc());
         addresses.push(IpCidr {
             address,
@@ -70,7 +80,7 @@ fn run(rt: &HostRuntime, mut client: Host<'_>, mut server: Host<'_>) {
     listen(&mut server);
     connect(&mut client);
     for millis in 0..LONGEST {
-        let now = Instant::from_millis(millis);
+        let now = Instant::from_micros(i64::from(millis) * 1000);
         let open = ask(rt, &mut client) | answer(rt, &mut server);
         pass(&mut client, &mut server, now);
         pass(&mut server, &mut client, now);
@@ -148,13 +158,28 @@ fn show(rt: &HostRuntime, who: &str, bytes: &[u8]) {
 
 // 4. What is due at one host arrives at the other, and what that answers comes back.
 fn pass(from: &mut Host<'_>, to: &mut Host<'_>, now: Instant) {
-    let mut packet = [0u8; 1500];
-    let mut reply = [0u8; 1500];
-    let Ok(count) = from.interface.emit(&mut from.sockets, now, &mut packet) else {
-        return;
-    };
-    let Ok(count) = to.interface.receive(&mut to.sockets, now, &packet[..count], &mut reply) else {
-        return;
-    };
-    let _ = from.interface.receive(&mut from.sockets, now, &reply[..count], &mut packet);
+    let (mut packet, mut reply) = ([0u8; 1500], [0u8; 1500]);
+    let count = emit(from, now, &mut packet);
+    if count > 0 {
+        let count = receive(to, now, &packet[..count], &mut reply);
+        if count > 0 {
+            receive(from, now, &reply[..count], &mut packet);
+        }
+    }
+}
+
+fn emit(host: &mut Host<'_>, now: Instant, packet: &mut [u8]) -> usize
+    ensures { result ≤ length packet.old }
+{
+    host.interface
+        .emit(&mut host.sockets, now, packet)
+        .unwrap_or(0)
+}
+
+fn receive(host: &mut Host<'_>, now: Instant, packet: &[u8], reply: &mut [u8]) -> usize
+    ensures { result ≤ length reply.old }
+{
+    host.interface
+        .receive(&mut host.sockets, now, packet, reply)
+        .unwrap_or(0)
 }
