@@ -1,19 +1,20 @@
 //! A first program: a client asks, a server answers in capitals, and each closes. Packets pass as bytes, in memory.
 #![tactic(auto)]
 
-use host_context::{Interface, Outbox, Seeded, dispatch_tcp, receive_tcp, take_packets};
-use host_guard::Guard;
-use host_guard::guard::TIMEOUT;
-use smoltcp_socket::Context;
+ghost use Rattle.std.specs.Prelude.{◌≤◌, length};
+
+use net_host::{Interface, IpCidr, Secret, SocketHandle, SocketSet};
+use smoltcp_socket::Socket;
 use smoltcp_socket::storage::RingBuffer;
-use smoltcp_socket::tcp::{Socket, State};
+use smoltcp_socket::tcp::{self, State};
+use smoltcp_socket::time::Instant;
 use smoltcp_socket::wire::{IpAddress, IpEndpoint, IpListenEndpoint, Ipv4Address};
 use std::alloc::AllocError;
 use std::process::ExitCode;
 
-const CLIENT: Ipv4Address = Ipv4Address([10, 0, 0, 1]);
+const CLIENT: IpAddress = IpAddress::Ipv4(Ipv4Address([10, 0, 0, 1]));
 
-const SERVER: Ipv4Address = Ipv4Address([10, 0, 0, 2]);
+const SERVER: IpAddress = IpAddress::Ipv4(Ipv4Address([10, 0, 0, 2]));
 
 // The program ends after so many milliseconds of its own time, whatever is left to do.
 const LONGEST: u32 = 60_000;
@@ -21,70 +22,104 @@ const LONGEST: u32 = 60_000;
 // A host with one socket.
 #[derive(Drop)]
 struct Host<'a> {
-    interface: Interface<Seeded, Outbox>,
-    socket: Socket<'a>,
-    guard: Guard,
+    interface: Interface<Secret>,
+    sockets: SocketSet<'a>,
+    handle: SocketHandle,
 }
 
 // 1. Two sockets, each over two buffers.
 fn main(rt: HostRuntime) -> ExitCode {
     let (mut rx_a, mut tx_a) = ([0u8; 64], [0u8; 64]);
     let (mut rx_b, mut tx_b) = ([0u8; 64], [0u8; 64]);
-    let client = Socket::new(RingBuffer::new(&mut rx_a), RingBuffer::new(&mut tx_a));
-    let server = Socket::new(RingBuffer::new(&mut rx_b), RingBuffer::new(&mut tx_b));
-    let client = Host::new(&rt, CLIENT, client);
-    let server = Host::new(&rt, SERVER, server);
-    match run(&rt, client, server) {
+    let client = tcp::Socket::new(RingBuffer::new(&mut rx_a), RingBuffer::new(&mut tx_a));
+    let server = tcp::Socket::new(RingBuffer::new(&mut rx_b), RingBuffer::new(&mut tx_b));
+    match start(&rt, client, server) {
         Ok(()) => ExitCode::SUCCESS,
         Err(_) => ExitCode::FAILURE,
     }
 }
 
+fn start(
+    rt: &HostRuntime,
+    client: tcp::Socket<'_>,
+    server: tcp::Socket<'_>,
+) -> Result<(), AllocError> {
+    let client = Host::new(rt, CLIENT, client)?;
+    let server = Host::new(rt, SERVER, server)?;
+    run(rt, client, server);
+    Ok(())
+}
+
 impl<'a> Host<'a> {
-    fn new(rt: &HostRuntime, addr: Ipv4Address, mut socket: Socket<'a>) -> Host<'a> {
-        socket.set_timeout(Some(TIMEOUT));
-        Host {
-            interface: Interface::new(addr, Seeded { state: 1 }, Outbox::new(rt.alloc())),
-            socket,
-            guard: Guard::new(),
-        }
+    // A host on the network draws these 32 bytes anew at each start.
+    fn new(
+        rt: &HostRuntime,
+        address: IpAddress,
+        socket: tcp::Socket<'a>,
+    ) -> Result<Host<'a>, AllocError> {
+        let mut addresses = Vec::new(rt.alloc());
+        addresses.push(IpCidr {
+            address,
+            prefix_len: 24,
+        })?;
+        let mut sockets = SocketSet::new(rt.alloc(), 1)?;
+        let handle = match sockets.add(Socket::Tcp(socket)) {
+            Ok(handle) => handle,
+            Err(_) => return Err(AllocError),
+        };
+        Ok(Host {
+            interface: Interface::new(addresses, Secret::new([7; 32])),
+            sockets,
+            handle,
+        })
     }
 }
 
 // 2. The server listens, the client connects, and time passes until both are closed.
-fn run(rt: &HostRuntime, mut client: Host<'_>, mut server: Host<'_>) -> Result<(), AllocError> {
-    open(&mut client, &mut server);
-    for now in 0..LONGEST {
-        client.interface.set_millis(now);
-        server.interface.set_millis(now);
-        ask(rt, &mut client.socket);
-        answer(rt, &mut server.socket);
-        pass(&mut client, &mut server)?;
-        pass(&mut server, &mut client)?;
-        if !client.socket.is_open() && !server.socket.is_open() {
+fn run(rt: &HostRuntime, mut client: Host<'_>, mut server: Host<'_>) {
+    listen(&mut server);
+    connect(&mut client);
+    for millis in 0..LONGEST {
+        let now = Instant::from_micros(i64::from(millis) * 1000);
+        let open = ask(rt, &mut client) | answer(rt, &mut server);
+        pass(&mut client, &mut server, now);
+        pass(&mut server, &mut client, now);
+        if !open {
             break;
         }
     }
-    Ok(())
 }
 
-fn open(client: &mut Host<'_>, server: &mut Host<'_>) {
+fn listen(host: &mut Host<'_>) {
+    if let Some(socket) = host.sockets.tcp_mut(host.handle) {
+        let _ = socket.listen(port(7));
+    }
+}
+
+fn connect(host: &mut Host<'_>) {
+    let Host {
+        interface,
+        sockets,
+        handle,
+    } = host;
     let remote = IpEndpoint {
-        addr: IpAddress::Ipv4(SERVER),
+        addr: SERVER,
         port: 7,
     };
-    let _ = server.socket.listen(port(7));
-    let _ = client
-        .socket
-        .connect(&mut client.interface, remote, port(49152));
+    if let Some(socket) = sockets.tcp_mut(*handle) {
+        let _ = socket.connect(interface.context(), remote, port(49152));
+    }
 }
 
 fn port(port: u16) -> IpListenEndpoint {
     IpListenEndpoint { addr: None, port }
 }
 
-// 3. The applications never wait: each looks whether there is something to do.
-fn ask(rt: &HostRuntime, socket: &mut Socket<'_>) {
+// 3. The applications never wait: each looks whether there is something to do, and says whether its socket is open.
+fn ask(rt: &HostRuntime, host: &mut Host<'_>) -> bool {
+    let Some(socket) = host.sockets.tcp_mut(host.handle) else {
+        return false;
+    };
     if socket.state() == State::Established {
         let _ = socket.send_slice(b"hello");
         socket.close();
@@ -93,9 +128,13 @@ fn ask(rt: &HostRuntime, socket: &mut Socket<'_>) {
     if let Ok(count) = socket.recv_slice(&mut bytes) {
         show(rt, "the client reads: ", &bytes[..count]);
     }
+    socket.is_open()
 }
 
-fn answer(rt: &HostRuntime, socket: &mut Socket<'_>) {
+fn answer(rt: &HostRuntime, host: &mut Host<'_>) -> bool {
+    let Some(socket) = host.sockets.tcp_mut(host.handle) else {
+        return false;
+    };
     let mut bytes = [0u8; 64];
     if let Ok(count) = socket.recv_slice(&mut bytes) {
         show(rt, "the server reads: ", &bytes[..count]);
@@ -105,6 +144,7 @@ fn answer(rt: &HostRuntime, socket: &mut Socket<'_>) {
     if socket.state() == State::CloseWait {
         socket.close();
     }
+    socket.is_open()
 }
 
 fn show(rt: &HostRuntime, who: &str, bytes: &[u8]) {
@@ -116,16 +156,30 @@ fn show(rt: &HostRuntime, who: &str, bytes: &[u8]) {
     }
 }
 
-// 4. The interface layer: what is due goes out, at most one packet, and what arrives is offered to the socket. The
-// guard sees to it that the peer can keep the connection no longer than it should.
-fn pass(from: &mut Host<'_>, to: &mut Host<'_>) -> Result<(), AllocError> {
-    let now = from.interface.now();
-    from.guard.watch(&mut from.socket, now);
-    if from.guard.take_turn(now) {
-        dispatch_tcp(&mut from.socket, &mut from.interface)?;
+// 4. What is due at one host arrives at the other, and what that answers comes back.
+fn pass(from: &mut Host<'_>, to: &mut Host<'_>, now: Instant) {
+    let (mut packet, mut reply) = ([0u8; 1500], [0u8; 1500]);
+    let count = emit(from, now, &mut packet);
+    if count > 0 {
+        let count = receive(to, now, &packet[..count], &mut reply);
+        if count > 0 {
+            receive(from, now, &reply[..count], &mut packet);
+        }
     }
-    for packet in take_packets(&mut from.interface) {
-        receive_tcp(&mut to.socket, &mut to.interface, packet.as_slice())?;
-    }
-    Ok(())
+}
+
+fn emit(host: &mut Host<'_>, now: Instant, packet: &mut [u8]) -> usize
+    ensures { result ≤ length packet.old }
+{
+    host.interface
+        .emit(&mut host.sockets, now, packet)
+        .unwrap_or(0)
+}
+
+fn receive(host: &mut Host<'_>, now: Instant, packet: &[u8], reply: &mut [u8]) -> usize
+    ensures { result ≤ length reply.old }
+{
+    host.interface
+        .receive(&mut host.sockets, now, packet, reply)
+        .unwrap_or(0)
 }

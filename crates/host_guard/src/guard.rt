@@ -103,6 +103,15 @@ impl Guard {
         }
     }
 
+    /// Whether `take_turn` would allow a dispatch at this moment.
+    pub fn may_take_turn(&self, now: Instant) -> bool
+        requires { IsMoment now.micros }
+        ensures { result
+            ≡ may_take (taken_at self.now.moment self.now.taken now) self.now.since self.now.last now }
+    {
+        taken_at(self.moment, self.taken, now) < TURNS && may_dispatch(self.since, self.last, now)
+    }
+
     /// Whether the socket may be dispatched at this moment: at most `TURNS` times, and in FIN-WAIT-2 not within `PACE`
     /// of the last dispatch that was allowed there. What is allowed is remembered, so that a loop which asks before
     /// each dispatch ends, however often it is begun at one moment.

@@ -1,0 +1,16 @@
+use Rattle.std.proofs.Common.{refl, subst}
+use Rattle.net_host.specs.Turns.{Watches}
+use Rattle.net_host.specs.Walks.{ChangesEach}
+use Rattle.net_host.proofs.interface.Interface.emit_at.Goals as goal
+
+pub returns-clause-table : goal.returns-clause-table
+returns-clause-table g c = record {
+  moved = c.set_now.new.self;
+  moves = c.set_now.ensures;
+  seen = c.watch_all.new.slots.items;
+  looked = subst (λ t. ChangesEach (Watches t) c.args.slots.now.items c.watch_all.new.slots.items) c.moment.ensures.value c.watch_all.ensures;
+  spoken = c.speak.ensures.table;
+  inner = refl;
+  resets = c.set_now.ensures.resets;
+  counters = c.set_now.ensures.counters;
+}

@@ -1,0 +1,36 @@
+-- Whether a packet is looked at, by its addresses.
+use Rattle.std.specs.Prelude.{ℕ, ◌==◌, ◌&&◌, ◌||◌, not, nat_le, Bool, List, slice_index, slice_range, Option, Some, None}
+use Rattle.std.specs.Prelude.{if◌then◌else◌}
+use Rattle.ip_wire.specs.Address.{all_zero, is_multicast}
+use Rattle.ip_wire.specs.IpHeader.{dst_addr_of, src_addr_of}
+use Rattle.ip_wire.specs.declared.address.IpAddress.{IpAddress}
+use Rattle.ip_wire.specs.declared.address.IpAddress.TheVariants as address
+use Rattle.ip_wire.specs.declared.repr.IpRepr.{IpRepr}
+use Rattle.sock_core.specs.Facts.{Facts}
+use Rattle.net_host.specs.declared.counters.Reason.{Reason}
+use Rattle.net_host.specs.declared.counters.Reason.TheVariants as reason
+
+-- 0.0.0.0/8, 127.0.0.0/8 and 240.0.0.0/4 (RFC 1122, section 3.2.1.3; RFC 1112, section 4)
+abbrev pub is_reserved_v4 : List ℕ → Bool
+is_reserved_v4 o = (slice_index o 0 == 0) || ((slice_index o 0 == 127) || nat_le 240 (slice_index o 0))
+
+-- ::, ::1 and ::ffff:0:0/96 (RFC 4291, sections 2.5.2, 2.5.3 and 2.5.5.2)
+abbrev pub is_reserved_v6 : List ℕ → Bool
+is_reserved_v6 o =
+    all_zero (slice_range o 0 10)
+    && ((all_zero (slice_range o 10 15) && nat_le (slice_index o 15) 1)
+    || ((slice_index o 10 == 255) && (slice_index o 11 == 255)))
+
+abbrev pub is_reserved : IpAddress → Bool
+is_reserved (address.Ipv4 a) = is_reserved_v4 a.0
+is_reserved (address.Ipv6 a) = is_reserved_v6 a.0
+
+-- a source that no single other host has
+unfoldable pub is_martian : Facts → IpAddress → Bool
+is_martian f a = is_multicast a || (f.broadcast a || (f.has_address a || is_reserved a))
+
+-- why the packet is dropped, if it is
+unfoldable pub refusal : Facts → IpRepr → Option Reason
+refusal f ip =
+    if is_martian f (src_addr_of ip) then Some reason.Source
+    else (if f.has_address (dst_addr_of ip) then None else Some reason.Destination)

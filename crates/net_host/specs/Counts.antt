@@ -1,0 +1,16 @@
+-- How many packets were dropped, by their reasons.
+use Rattle.std.specs.Prelude.{ℕ, ◌+◌, ◌%◌, ◌^◌}
+use Rattle.net_host.specs.declared.counters.Counters.{Counters}
+use Rattle.net_host.specs.declared.counters.Reason.{Reason}
+use Rattle.net_host.specs.declared.counters.Reason.TheVariants as reason
+
+abbrev pub next : ℕ → ℕ
+next n = (n + 1) % 2 ^ 64
+
+abbrev pub counted : Reason → Counters → Counters
+counted reason.Malformed k = record k { malformed = next k.malformed }
+counted reason.Source k = record k { source = next k.source }
+counted reason.Destination k = record k { destination = next k.destination }
+counted reason.Protocol k = record k { protocol = next k.protocol }
+counted reason.Segment k = record k { segment = next k.segment }
+counted reason.Nobody k = record k { nobody = next k.nobody }

@@ -1,0 +1,21 @@
+-- A socket's dispatch into a buffer.
+use Rattle.std.specs.Prelude.{ℕ, ◌≡◌, List, Result, Ok, Err, Option}
+use Rattle.sock_core.specs.Facts.{Facts}
+use Rattle.sock_tcp.specs.Dispatch.{Dispatches}
+use Rattle.sock_tcp.specs.View.{View}
+use Rattle.net_host.specs.Sheets.{Sheet, writing}
+use Rattle.net_host.specs.declared.wire.TooShort.{TooShort}
+
+-- a buffer with no packet
+abbrev pub empty_sheet : Facts → List ℕ → Sheet
+empty_sheet facts out = record { checksums = facts.checksums; octets = out; len = 0 }
+
+-- a buffer with a packet of so many octets, or none
+abbrev pub sheet_with : Facts → List ℕ → ℕ → Sheet
+sheet_with facts out n = record { checksums = facts.checksums; octets = out; len = n }
+
+-- the socket's own dispatch, whose emit writes into the buffer
+abbrev pub DispatchesSegment : {G : Type 0} → Facts → (G → ℕ → Type 0) → Option G → View → List ℕ
+    → Result (Unit {0}) TooShort → ℕ → View → List ℕ → Type 0
+DispatchesSegment facts tells clock v out r n w out' =
+    Dispatches writing tt facts tells clock v (empty_sheet facts out) r w (sheet_with facts out' n)

@@ -1,0 +1,17 @@
+pub mod Addresses
+pub mod Arrivals
+pub mod Counts
+pub mod Emissions
+pub mod Facts
+pub mod HostCalls
+pub mod Limits
+pub mod Moments
+pub mod Receiving
+pub mod Segments
+pub mod SheetOf
+pub mod Sheets
+pub mod Slots
+pub mod Speaking
+pub mod Turns
+pub mod Walks
+pub mod Wire

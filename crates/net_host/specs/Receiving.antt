@@ -1,0 +1,94 @@
+-- What becomes of a packet that arrives: the first row that fits.
+use Rattle.std.specs.Prelude.{ℕ, ◌≡◌, ◌≤◌, ◌==◌, nat_le, Bool, true, false, List, length, Option, Some, None, option_map}
+use Rattle.ip_wire.specs.Checksum.{is_received}
+use Rattle.ip_wire.specs.IpHeader.{dst_addr_of, next_header_of, src_addr_of}
+use Rattle.ip_wire.specs.Protocol.{number_of}
+use Rattle.ip_wire.specs.declared.address.IpAddress.{IpAddress}
+use Rattle.ip_wire.specs.declared.repr.IpRepr.{IpRepr}
+use Rattle.control_wire.specs.Segment.{Segment}
+use Rattle.segment_wire.specs.Packet.{Carried, carried}
+use Rattle.segment_wire.specs.Tcp.{tcp_parsed}
+use Rattle.sock_core.specs.Facts.{Facts}
+use Rattle.net_host.specs.Arrivals.{refusal}
+use Rattle.net_host.specs.Counts.{counted}
+use Rattle.net_host.specs.Facts.{facts_by}
+use Rattle.net_host.specs.Segments.{AnswersSegment, IsTaker}
+use Rattle.net_host.specs.declared.counters.Counters.{Counters}
+use Rattle.net_host.specs.declared.counters.Reason.{Reason}
+use Rattle.net_host.specs.declared.counters.Reason.TheVariants as reason
+use Rattle.net_host.specs.declared.inner.InterfaceInner.{InterfaceInner}
+use Rattle.net_host.specs.declared.interface.Interface.{Interface}
+use Rattle.net_host.specs.declared.segments.Taker.{Taker}
+use Rattle.net_host.specs.declared.segments.Taker.TheVariants as taker
+use Rattle.net_host.specs.declared.slot.Slot.{Slot}
+
+-- a segment that no socket takes is counted
+abbrev pub counted_for : Taker → Counters → Counters
+counted_for (taker.Connection i) k = k
+counted_for (taker.Listener i) k = k
+counted_for taker.Nobody k = counted reason.Nobody k
+
+module _ {W G : Type 0} (is : IpAddress → IpAddress → Bool) (word_at : W → ℕ → ℕ) (tells : G → ℕ → Type 0) where
+  abbrev pub facts_of : InterfaceInner W → Facts
+  facts_of i = facts_by is i.environment
+
+  abbrev pub words_of : InterfaceInner W → ℕ → ℕ
+  words_of i = word_at i.words
+
+  -- the packet is counted, and nothing else changes
+  pub record Drops (why : Reason) (i : Interface W) (ss : List (Slot G)) (out : List ℕ) (n : ℕ) (j : Interface W)
+      (ts : List (Slot G)) (out' : List ℕ) : Type 0 where
+    pub len : n ≡ 0
+    pub interface : j ≡ record i { counters = counted why i.counters }
+    pub sockets : ts ≡ ss
+    pub reply : out' ≡ out
+
+  -- the segment goes to its taker, or is refused
+  pub record TakesSegment (ip : IpRepr) (s : Segment) (i : Interface W) (ss : List (Slot G)) (out : List ℕ) (n : ℕ)
+      (j : Interface W) (ts : List (Slot G)) (out' : List ℕ) : Type 0 where
+    pub taker : Taker
+    pub takes : IsTaker ss ip s taker
+    pub answers : AnswersSegment facts_of words_of tells taker ss i.inner i.resets ip s out n ts j.inner j.resets out'
+    pub counters : j.counters ≡ counted_for taker i.counters
+    pub turn : j.turn ≡ i.turn
+
+  -- no segment has a payload of more than 65535 octets
+  abbrev pub IfShort : Bool → IpRepr → Segment → Interface W → List (Slot G) → List ℕ → ℕ → Interface W → List (Slot G)
+      → List ℕ → Type 0
+  IfShort true ip s i ss out n j ts out' = TakesSegment ip s i ss out n j ts out'
+  IfShort false ip s i ss out n j ts out' = Drops reason.Segment i ss out n j ts out'
+
+  abbrev pub BySegment : IpRepr → Option Segment → Interface W → List (Slot G) → List ℕ → ℕ → Interface W
+      → List (Slot G) → List ℕ → Type 0
+  BySegment ip None i ss out n j ts out' = Drops reason.Segment i ss out n j ts out'
+  BySegment ip (Some s) i ss out n j ts out' = IfShort (nat_le (length s.payload) 65535) ip s i ss out n j ts out'
+
+  -- what stands behind the header, as a TCP segment
+  abbrev pub TakesTcp : IpRepr → List ℕ → Interface W → List (Slot G) → List ℕ → ℕ → Interface W → List (Slot G)
+      → List ℕ → Type 0
+  TakesTcp ip octets i =
+      BySegment ip (tcp_parsed (is_received i.inner.environment.checksums.tcp) (src_addr_of ip) (dst_addr_of ip) octets)
+      i
+
+  -- whether it is TCP
+  abbrev pub ByProtocol : Bool → IpRepr → List ℕ → Interface W → List (Slot G) → List ℕ → ℕ → Interface W
+      → List (Slot G) → List ℕ → Type 0
+  ByProtocol true ip octets i ss out n j ts out' = TakesTcp ip octets i ss out n j ts out'
+  ByProtocol false ip octets i ss out n j ts out' = Drops reason.Protocol i ss out n j ts out'
+
+  abbrev pub ByAddresses : Option Reason → IpRepr → List ℕ → Interface W → List (Slot G) → List ℕ → ℕ → Interface W
+      → List (Slot G) → List ℕ → Type 0
+  ByAddresses (Some why) ip octets i ss out n j ts out' = Drops why i ss out n j ts out'
+  ByAddresses None ip octets i ss out n j ts out' =
+      ByProtocol (number_of (next_header_of ip) == 6) ip octets i ss out n j ts out'
+
+  -- with a header and what stands behind it, if it has them
+  abbrev pub ByHeader : Option Carried → Interface W → List (Slot G) → List ℕ → ℕ → Interface W → List (Slot G)
+      → List ℕ → Type 0
+  ByHeader None i ss out n j ts out' = Drops reason.Malformed i ss out n j ts out'
+  ByHeader (Some c) i ss out n j ts out' =
+      ByAddresses (refusal (facts_of i.inner) c.ip) c.ip c.octets i ss out n j ts out'
+
+  abbrev pub TakesPacket : List ℕ → Interface W → List (Slot G) → List ℕ → ℕ → Interface W → List (Slot G) → List ℕ
+      → Type 0
+  TakesPacket packet i = ByHeader (carried (is_received i.inner.environment.checksums.ipv4) packet) i

@@ -1,0 +1,108 @@
+-- Which socket takes a TCP segment, and what becomes of it.
+use Rattle.std.specs.Prelude.{ℕ, ◌≡◌, List, [], Option, Some, None, option_map, Bool, true, false}
+use Rattle.std.specs.Option.{ForSome}
+use Rattle.ip_wire.specs.declared.repr.IpRepr.{IpRepr}
+use Rattle.net_base.specs.declared.time.Instant.{Instant}
+use Rattle.control_wire.specs.Segment.{Segment}
+use Rattle.control_wire.specs.declared.tcp.TcpControl.{TcpControl}
+use Rattle.control_wire.specs.declared.tcp.TcpControl.TheVariants as control
+use Rattle.control_wire.specs.declared.tcp.TcpRepr.{TcpRepr}
+use Rattle.sock_core.specs.Facts.{Facts}
+use Rattle.sock_tcp.specs.Opening.{is_listening}
+use Rattle.sock_tcp.specs.Process.{Accepts, Processes, generator_after, reply_of}
+use Rattle.sock_tcp.specs.Replies.{IsReplyStamp, rst_segment, with_header}
+use Rattle.sock_tcp.specs.View.{moment_of}
+use Rattle.smoltcp_socket.specs.declared.socket.Socket.{Socket}
+use Rattle.smoltcp_socket.specs.declared.socket.Socket.TheVariants as socket
+use Rattle.net_host.specs.Limits.{allows, spent}
+use Rattle.net_host.specs.Walks.{ChangesAt, IsFirst, Nowhere}
+use Rattle.net_host.specs.Wire.{reply_len, with_reply}
+use Rattle.net_host.specs.declared.limit.Limit.{Limit}
+use Rattle.net_host.specs.declared.segments.Taker.{Taker}
+use Rattle.net_host.specs.declared.segments.Taker.TheVariants as taker
+use Rattle.net_host.specs.declared.slot.Slot.{Slot}
+
+-- ---- which socket
+
+-- a TCP socket that listens, or not, and accepts the segment
+abbrev pub TakesIn : {G : Type 0} → Option (Socket G) → Bool → IpRepr → Segment → Type 0
+TakesIn None listening ip s = ⊥
+TakesIn (Some (socket.Raw x)) listening ip s = ⊥
+TakesIn (Some (socket.Icmp x)) listening ip s = ⊥
+TakesIn (Some (socket.Udp x)) listening ip s = ⊥
+TakesIn (Some (socket.Tcp x)) listening ip s =
+    (is_listening x.control_block.state ≡ listening) × Accepts x.control_block ip s
+
+abbrev pub TakesSegment : {G : Type 0} → Bool → IpRepr → Segment → Slot G → Type 0
+TakesSegment listening ip s slot = TakesIn slot.socket listening ip s
+
+-- a connection comes before a listener, and of each the first in the order of handles
+abbrev pub IsTaker : {G : Type 0} → List (Slot G) → IpRepr → Segment → Taker → Type 0
+IsTaker ss ip s (taker.Connection i) = IsFirst (TakesSegment false ip s) ss i
+IsTaker ss ip s (taker.Listener i) = Nowhere (TakesSegment false ip s) ss × IsFirst (TakesSegment true ip s) ss i
+IsTaker ss ip s taker.Nobody = Nowhere (TakesSegment false ip s) ss × Nowhere (TakesSegment true ip s) ss
+
+abbrev pub listener_of : Option ℕ → Taker
+listener_of None = taker.Nobody
+listener_of (Some i) = taker.Listener i
+
+-- ---- what becomes of it
+
+module _ {C G : Type 0} (facts : C → Facts) (word_at : C → ℕ → ℕ) (tells : G → ℕ → Type 0) where
+  -- the call of the socket
+  abbrev pub SocketHears : Option (Socket G) → C → IpRepr → Segment → Option (IpRepr × TcpRepr) → Option (Socket G) → C
+      → Type 0
+  SocketHears (Some (socket.Tcp x)) cx ip s r (Some (socket.Tcp y)) cx' =
+      Processes facts word_at (IsReplyStamp tells y.tsval_generator s.timestamp) x.control_block cx ip s r
+      y.control_block cx'
+      × (y.tsval_generator ≡ generator_after x.control_block s x.tsval_generator)
+  SocketHears _ cx ip s r _ cx' = ⊥
+
+  pub record Hears (before : Slot G) (cx : C) (ip : IpRepr) (s : Segment) (r : Option (IpRepr × TcpRepr))
+      (after : Slot G) (cx' : C) : Type 0 where
+    pub generation : after.generation ≡ before.generation
+    pub guard : after.guard ≡ before.guard
+    pub heard : SocketHears before.socket cx ip s r after.socket cx'
+
+  -- the slot at i hears the segment, and no other changes
+  abbrev pub HearsAt : List (Slot G) → ℕ → C → IpRepr → Segment → Option (IpRepr × TcpRepr) → List (Slot G) → C → Type 0
+  HearsAt ss i cx ip s r ts cx' = ChangesAt (λ before after. Hears before cx ip s r after cx') ss i ts
+
+-- ---- a segment for nobody
+
+-- an RST answers it, unless it is one, and not too often
+abbrev pub reset_by : TcpControl → Bool → IpRepr → Segment → Option (IpRepr × Segment)
+reset_by control.Rst allowed ip s = None
+reset_by _ false ip s = None
+reset_by _ true ip s = Some (with_header ip (rst_segment s))
+
+abbrev pub limit_by : TcpControl → Limit → Instant → Limit
+limit_by control.Rst l now = l
+limit_by _ l now = spent l now
+
+abbrev pub reset_of : Limit → Instant → IpRepr → Segment → Option (IpRepr × Segment)
+reset_of l now ip s = reset_by s.control (allows l now) ip s
+
+pub record Refuses (l : Limit) (now : Instant) (ip : IpRepr) (s : Segment) (r : Option (IpRepr × TcpRepr)) (l' : Limit)
+    : Type 0 where
+  pub reply : option_map reply_of r ≡ reset_of l now ip s
+  pub limit : l' ≡ limit_by s.control l now
+
+-- ---- the whole
+
+module _ {C G : Type 0} (facts : C → Facts) (word_at : C → ℕ → ℕ) (tells : G → ℕ → Type 0) where
+  -- with this taker
+  abbrev pub TakenBy : Taker → List (Slot G) → C → Limit → IpRepr → Segment → Option (IpRepr × TcpRepr)
+      → List (Slot G) → C → Limit → Type 0
+  TakenBy (taker.Connection i) ss cx l ip s r ts cx' l' = HearsAt facts word_at tells ss i cx ip s r ts cx' × (l' ≡ l)
+  TakenBy (taker.Listener i) ss cx l ip s r ts cx' l' = HearsAt facts word_at tells ss i cx ip s r ts cx' × (l' ≡ l)
+  TakenBy taker.Nobody ss cx l ip s r ts cx' l' =
+      (ts ≡ ss) × (cx' ≡ cx) × Refuses l (moment_of (facts cx)) ip s r l'
+
+  -- and what it answers stands as a packet at the beginning of the buffer
+  pub record AnswersSegment (t : Taker) (ss : List (Slot G)) (cx : C) (l : Limit) (ip : IpRepr) (s : Segment)
+      (out : List ℕ) (n : ℕ) (ts : List (Slot G)) (cx' : C) (l' : Limit) (out' : List ℕ) : Type 0 where
+    pub reply : Option (IpRepr × TcpRepr)
+    pub taken : TakenBy t ss cx l ip s reply ts cx' l'
+    pub len : n ≡ reply_len (option_map reply_of reply)
+    pub octets : out' ≡ with_reply (facts cx).checksums (option_map reply_of reply) out

@@ -1,0 +1,36 @@
+-- What a socket emits into a buffer.
+use Rattle.std.specs.Prelude.{ℕ, ◌≡◌, ◌+◌, ◌≤◌, ⊤, List, length, Result, Ok, Err}
+use Rattle.std.specs.Borrow.{MutBor}
+use Rattle.ip_wire.specs.declared.checksum.ChecksumCapabilities.{ChecksumCapabilities}
+use Rattle.ip_wire.specs.declared.repr.IpRepr.{IpRepr}
+use Rattle.control_wire.specs.Segment.{Segment, segment_of}
+use Rattle.control_wire.specs.declared.tcp.TcpRepr.{TcpRepr}
+use Rattle.sock_core.specs.Emission.{Emit}
+use Rattle.net_host.specs.Wire.{IsCounted, packet_len, with_segment}
+use Rattle.net_host.specs.declared.wire.TooShort.{TooShort}
+
+-- a buffer, and the length of the packet at its beginning, or 0
+pub record Sheet : Type 0 where
+  pub checksums : ChecksumCapabilities  -- those that are computed here
+  pub octets : List ℕ
+  pub len : ℕ
+
+-- the packet was written
+pub record IsWritten (ip : IpRepr) (s : Segment) (old new : Sheet) : Type 0 where
+  pub counted : IsCounted ip s
+  pub room : packet_len ip ≤ length old.octets
+  pub len : new.len ≡ packet_len ip
+  pub octets : new.octets ≡ with_segment old.checksums ip s old.octets
+  pub same : new.checksums ≡ old.checksums
+
+-- it is written where it is one and fits; else nothing changes
+abbrev pub Writes : IpRepr → Segment → Sheet → Result (Unit {0}) TooShort → Sheet → Type 0
+Writes ip s old (Ok u) new = IsWritten ip s old new
+Writes ip s old (Err e) new = (IsCounted ip s → packet_len ip ≤ length old.octets → ⊥) × (new ≡ old)
+
+-- an emit that writes into the buffer
+abbrev pub writing : Emit (Unit {0}) Sheet (IpRepr × TcpRepr) TooShort
+writing = record {
+  pre = λ f a. ⊤;
+  post = λ f a b. Writes a.1.0.0 (segment_of a.1.0.1) a.0.now b.0 b.1.0.now;
+}

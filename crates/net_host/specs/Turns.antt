@@ -1,0 +1,91 @@
+-- What a host does with one socket and its guard.
+use Rattle.std.specs.Prelude.{ℕ, ◌≡◌, List, Bool, true, false, Option, Some, None, Result, Ok}
+use Rattle.net_base.specs.declared.time.Instant.{Instant}
+use Rattle.sock_core.specs.Facts.{Facts}
+use Rattle.sock_core.specs.declared.context.PollAt.{PollAt}
+use Rattle.sock_core.specs.declared.context.PollAt.TheVariants as poll
+use Rattle.sock_tcp.specs.Polls.{is_reached}
+use Rattle.sock_tcp.specs.Timers.{after}
+use Rattle.sock_tcp.specs.View.{moment_of}
+use Rattle.host_guard.specs.Guarding.{guarded_poll, last_after, last_in, may_take, not_before, since_in, taken_after}
+use Rattle.host_guard.specs.Guarding.{taken_at, watched}
+use Rattle.host_guard.specs.declared.guard.Guard.{Guard}
+use Rattle.smoltcp_socket.specs.Kinds.{polls}
+use Rattle.smoltcp_socket.specs.declared.socket.Socket.{Socket}
+use Rattle.smoltcp_socket.specs.declared.socket.Socket.TheVariants as socket
+use Rattle.net_host.specs.Emissions.{DispatchesSegment}
+use Rattle.net_host.specs.declared.slot.Slot.{Slot}
+use Rattle.net_host.specs.declared.wire.TooShort.{TooShort}
+
+-- ---- the guard looks at the socket
+
+abbrev pub WatchesIn : {G : Type 0} → Instant → Option (Socket G) → Guard → Option (Socket G) → Guard → Type 0
+WatchesIn now (Some (socket.Tcp x)) g (Some (socket.Tcp y)) h =
+    (h.since ≡ since_in x.control_block.state g.since now)
+    × (h.last ≡ last_in x.control_block.state g.last)
+    × (h.moment ≡ g.moment)
+    × (h.taken ≡ g.taken)
+    × (y.control_block ≡ watched h.since x.control_block now)
+    × (y.tsval_generator ≡ x.tsval_generator)
+WatchesIn now (Some (socket.Tcp x)) g _ h = ⊥
+WatchesIn now s g t h = (t ≡ s) × (h ≡ g)
+
+pub record Watches {G : Type 0} (now : Instant) (before after : Slot G) : Type 0 where
+  pub generation : after.generation ≡ before.generation
+  pub looked : WatchesIn now before.socket before.guard after.socket after.guard
+
+-- ---- when it wants to speak
+
+-- as the socket asks, and its guard allows
+abbrev pub asked_of : {G : Type 0} → Option Instant → Option Instant → Option (Socket G) → Facts → PollAt
+asked_of since last None f = poll.Ingress
+asked_of since last (Some s) f = guarded_poll since last (polls s f)
+
+-- whether its guard allows it to speak now
+abbrev pub may_speak : {G : Type 0} → Slot G → Instant → Bool
+may_speak s now = may_take (taken_at s.guard.moment s.guard.taken now) s.guard.since s.guard.last now
+
+-- else it waits for a microsecond
+abbrev pub delayed : Bool → Instant → PollAt → PollAt
+delayed true now asked = asked
+delayed false now asked = not_before (after now (record { micros = 1 })) asked
+
+abbrev pub slot_poll : {G : Type 0} → Slot G → Facts → PollAt
+slot_poll s f = delayed (may_speak s (moment_of f)) (moment_of f) (asked_of s.guard.since s.guard.last s.socket f)
+
+abbrev pub is_due : {G : Type 0} → Facts → Slot G → Bool
+is_due f s = is_reached (slot_poll s f) (moment_of f)
+
+-- ---- it speaks
+
+module _ {G : Type 0} (facts : Facts) (tells : G → ℕ → Type 0) where
+  abbrev pub SocketEmits : Option (Socket G) → List ℕ → Result (Unit {0}) TooShort → ℕ → Option (Socket G) → List ℕ
+      → Type 0
+  SocketEmits (Some (socket.Tcp x)) out r n (Some (socket.Tcp y)) out' =
+      DispatchesSegment facts tells x.tsval_generator x.control_block out r n y.control_block out'
+      × (y.tsval_generator ≡ x.tsval_generator)
+  SocketEmits (Some (socket.Tcp x)) out r n _ out' = ⊥
+  SocketEmits s out r n t out' = (t ≡ s) × (r ≡ Ok tt) × (n ≡ 0) × (out' ≡ out)
+
+  pub record SlotEmits (before : Slot G) (out : List ℕ) (r : Result (Unit {0}) TooShort) (n : ℕ) (after : Slot G)
+      (out' : List ℕ) : Type 0 where
+    pub generation : after.generation ≡ before.generation
+    pub guard : after.guard ≡ before.guard
+    pub emits : SocketEmits before.socket out r n after.socket out'
+
+  -- with leave of the guard or without
+  abbrev pub EmitsIf : Bool → Option (Socket G) → List ℕ → Result (Unit {0}) TooShort → ℕ → Option (Socket G) → List ℕ
+      → Type 0
+  EmitsIf true s out r n t out' = SocketEmits s out r n t out'
+  EmitsIf false s out r n t out' = (t ≡ s) × (r ≡ Ok tt) × (n ≡ 0) × (out' ≡ out)
+
+  pub record TakesTurn (before : Slot G) (out : List ℕ) (r : Result (Unit {0}) TooShort) (n : ℕ) (after : Slot G)
+      (out' : List ℕ) : Type 0 where
+    pub generation : after.generation ≡ before.generation
+    pub since : after.guard.since ≡ before.guard.since
+    pub last : after.guard.last ≡ last_after (may_speak before (moment_of facts)) before.guard.since before.guard.last
+        (moment_of facts)
+    pub moment : after.guard.moment ≡ Some (moment_of facts)
+    pub taken : after.guard.taken ≡ taken_after (may_speak before (moment_of facts))
+        (taken_at before.guard.moment before.guard.taken (moment_of facts))
+    pub emits : EmitsIf (may_speak before (moment_of facts)) before.socket out r n after.socket out'

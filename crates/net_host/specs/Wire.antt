@@ -1,0 +1,31 @@
+-- Packets in a buffer.
+use Rattle.std.specs.Prelude.{ℕ, ◌+◌, ◌≡◌, ◌≤◌, List, ◌++◌, drop, length, Option, Some, None, Result, Ok, Err}
+use Rattle.ip_wire.specs.IpHeader.{header_len_of, next_header_of, payload_len_of}
+use Rattle.ip_wire.specs.declared.checksum.ChecksumCapabilities.{ChecksumCapabilities}
+use Rattle.ip_wire.specs.declared.protocol.IpProtocol.TheVariants as protocol
+use Rattle.ip_wire.specs.declared.repr.IpRepr.{IpRepr}
+use Rattle.control_wire.specs.Segment.{Segment, options_len, segment_header_len}
+use Rattle.segment_wire.specs.Packet.{tcp_packet}
+
+-- the header counts the segment
+pub record IsCounted (ip : IpRepr) (s : Segment) : Type 0 where
+  pub header : segment_header_len s ≤ 60
+  pub octets : payload_len_of ip ≡ segment_header_len s + length s.payload
+  pub protocol : next_header_of ip ≡ protocol.Tcp
+
+abbrev pub packet_len : IpRepr → ℕ
+packet_len ip = header_len_of ip + payload_len_of ip
+
+-- a buffer with the packet of a segment at its beginning
+abbrev pub with_segment : ChecksumCapabilities → IpRepr → Segment → List ℕ → List ℕ
+with_segment caps ip s out = tcp_packet caps ip s ++ drop (packet_len ip) out
+
+-- how long the packet of a reply is, if any
+abbrev pub reply_len : Option (IpRepr × Segment) → ℕ
+reply_len None = 0
+reply_len (Some r) = packet_len r.0
+
+-- a buffer with the packet of a reply, if any, at its beginning
+abbrev pub with_reply : ChecksumCapabilities → Option (IpRepr × Segment) → List ℕ → List ℕ
+with_reply caps None out = out
+with_reply caps (Some r) out = with_segment caps r.0 r.1 out

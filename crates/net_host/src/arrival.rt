@@ -1,0 +1,58 @@
+//! Whether a packet is looked at, by its addresses.
+ghost use Rattle.std.specs.Prelude.{◌≡◌};
+ghost use Rattle.ip_wire.specs.Address.{all_zero};
+ghost use Rattle.net_host.specs.Arrivals.{is_martian, is_reserved, is_reserved_v4, is_reserved_v6, refusal};
+
+use crate::counters::Reason;
+use smoltcp_socket::Context;
+use smoltcp_socket::wire::{IpAddress, IpRepr, Ipv4Address, Ipv6Address};
+
+/// Why the packet is dropped, if it is: its source is one that no single other host has, so that an answer would go to
+/// many, to nobody, or come back (RFC 1122, section 3.2.1.3); or its destination is no address of the interface.
+#[tactic(auto, unfolding(crate::specs::Arrivals::refusal))]
+pub(crate) fn refusal<C: Context>(cx: &C, ip: &IpRepr) -> Option<Reason>
+    ensures { result ≡ refusal (C.facts cx.now) ip.now }
+{
+    if is_martian(cx, &ip.src_addr()) {
+        return Some(Reason::Source);
+    }
+    if !cx.has_ip_addr(ip.dst_addr()) {
+        return Some(Reason::Destination);
+    }
+    None
+}
+
+#[tactic(auto, unfolding(crate::specs::Arrivals::is_martian))]
+fn is_martian<C: Context>(cx: &C, addr: &IpAddress) -> bool
+    ensures { result ≡ is_martian (C.facts cx.now) addr.now }
+{
+    addr.is_multicast() || cx.is_broadcast(addr) || cx.has_ip_addr(*addr) || is_reserved(addr)
+}
+
+fn is_reserved(addr: &IpAddress) -> bool
+    ensures { result ≡ is_reserved addr.now }
+{
+    match addr {
+        IpAddress::Ipv4(addr) => is_reserved_v4(addr),
+        IpAddress::Ipv6(addr) => is_reserved_v6(addr),
+    }
+}
+
+fn is_reserved_v4(addr: &Ipv4Address) -> bool
+    ensures { result ≡ is_reserved_v4 addr.now.0 }
+{
+    addr.0[0] == 0 || addr.0[0] == 127 || 240 <= addr.0[0]
+}
+
+fn is_reserved_v6(addr: &Ipv6Address) -> bool
+    ensures { result ≡ is_reserved_v6 addr.now.0 }
+{
+    all_zero(&addr.0[..10])
+        && (all_zero(&addr.0[10..15]) && addr.0[15] <= 1 || addr.0[10] == 255 && addr.0[11] == 255)
+}
+
+fn all_zero(octets: &[u8]) -> bool
+    ensures { result ≡ all_zero octets.now }
+{
+    octets.iter().all(|octet: &u8| *octet == 0)
+}

@@ -1,0 +1,53 @@
+//! What came of the packets that arrived.
+ghost use Rattle.std.specs.Prelude.{◌≡◌};
+ghost use Rattle.net_host.specs.Counts.{counted, next};
+
+/// Why a packet is dropped.
+#[derive(Debug, Clone, Copy, PartialEq, Eq)]
+pub enum Reason {
+    /// It is no IP packet, its length or header checksum is wrong, or it is a fragment of IPv4.
+    Malformed,
+    /// Its source is one that no single other host has.
+    Source,
+    /// Its destination is no address of the interface.
+    Destination,
+    /// It carries another protocol.
+    Protocol,
+    /// It carries a TCP segment with a wrong header or checksum.
+    Segment,
+    /// It carries a segment that no socket takes.
+    Nobody,
+}
+
+/// How many packets were dropped, by their reasons. A number that is full begins anew.
+#[derive(Debug, Clone, Copy, Default, PartialEq, Eq)]
+pub struct Counters {
+    pub malformed: u64,
+    pub source: u64,
+    pub destination: u64,
+    pub protocol: u64,
+    pub segment: u64,
+    pub nobody: u64,
+}
+
+impl Counters {
+    /// One packet more was dropped for this reason.
+    pub fn count(&mut self, reason: Reason)
+        ensures { self.new ≡ counted reason self.old }
+    {
+        match reason {
+            Reason::Malformed => self.malformed = next(self.malformed),
+            Reason::Source => self.source = next(self.source),
+            Reason::Destination => self.destination = next(self.destination),
+            Reason::Protocol => self.protocol = next(self.protocol),
+            Reason::Segment => self.segment = next(self.segment),
+            Reason::Nobody => self.nobody = next(self.nobody),
+        }
+    }
+}
+
+fn next(count: u64) -> u64
+    ensures { result ≡ next count }
+{
+    count.wrapping_add(1)
+}

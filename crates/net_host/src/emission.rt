@@ -1,0 +1,61 @@
+//! What a socket emits, into a buffer.
+ghost use Rattle.std.specs.Prelude.{◌≡◌, ◌≤◌, length};
+ghost use Rattle.control_wire.specs.Segment.{segment_of};
+ghost use Rattle.sock_tcp.specs.Dispatch.{Dispatches};
+ghost use Rattle.net_host.specs.Facts.{facts_by};
+ghost use Rattle.net_host.specs.Sheets.{Writes, writing};
+ghost use Rattle.net_host.specs.SheetOf.{sheet_of};
+ghost use Rattle.net_host.specs.Emissions.{DispatchesSegment};
+
+use crate::environment::Environment;
+use crate::wire::{TooShort, Wire};
+use smoltcp_socket::tcp;
+use smoltcp_socket::wire::{IpAddress, IpRepr, TcpRepr};
+use sock_tcp::TsvalSource;
+
+// Lets the socket emit.
+fn emit_segment<G: TsvalSource>(
+    socket: &mut tcp::Socket<'_, G>,
+    wire: &mut Wire<'_>,
+) -> Result<(), TooShort>
+    ensures table { Dispatches writing tt
+        (facts_by ⟦<IpAddress as PartialEq>⟧.eq wire.old.environment.now) G.tells socket.old.tsval_generator
+        socket.old.control_block (sheet_of wire.old) result socket.new.control_block (sheet_of wire.new) }
+    ensures generator { socket.new.tsval_generator ≡ socket.old.tsval_generator }
+    ensures within { wire.old.len ≤ length wire.old.out.now → wire.new.len ≤ length wire.old.out.now }
+    ensures same_buffer { wire.new.out.ghost_name ≡ wire.old.out.ghost_name }
+    ensures environment { wire.new.environment ≡ wire.old.environment }
+{
+    socket.dispatch(
+        wire,
+        move |cx: &mut Wire<'_>, sent: (IpRepr, TcpRepr<'_>)| -> Result<(), TooShort>
+            ensures written { Writes sent.entry.0 (segment_of sent.entry.1)
+                (sheet_of cx.entry.now) result (sheet_of cx.exit.now) }
+            ensures same_buffer { cx.exit.now.out.ghost_name ≡ cx.entry.now.out.ghost_name }
+            ensures environment { cx.exit.now.environment ≡ cx.entry.now.environment }
+            ensures within { cx.entry.now.len ≤ length cx.entry.now.out.now → cx.exit.now.len ≤ length cx.entry.now.out.now }
+        { cx.write_segment(&sent.0, &sent.1) },
+    )
+}
+
+/// Lets the socket emit into the buffer. What its dispatch answered, and the length of the packet, or 0 where none
+/// went out; where the buffer is too short, the socket offers the packet again.
+pub(crate) fn emit_tcp<G: TsvalSource>(
+    socket: &mut tcp::Socket<'_, G>,
+    environment: &Environment,
+    out: &mut [u8],
+) -> (Result<(), TooShort>, usize)
+    ensures table { DispatchesSegment (facts_by ⟦<IpAddress as PartialEq>⟧.eq environment.entry.now) G.tells
+        socket.old.tsval_generator socket.old.control_block out.old result.0 result.1 socket.new.control_block
+        out.new }
+    ensures within { result.1 ≤ length out.old }
+    ensures generator { socket.new.tsval_generator ≡ socket.old.tsval_generator }
+{
+    let mut wire = Wire {
+        environment,
+        out,
+        len: 0,
+    };
+    let answer = emit_segment(socket, &mut wire);
+    (answer, wire.len)
+}

@@ -1,0 +1,136 @@
+//! What an interface knows of its network.
+ghost use Rattle.std.specs.Prelude.{◌≡◌, max, min, pos, option_map};
+ghost use Rattle.std.specs.Option.{ForSome};
+ghost use Rattle.std.specs.List.{find, list_any};
+ghost use Rattle.ip_wire.specs.Address.{SameVersion, same_version};
+ghost use Rattle.ip_wire.specs.Checksum.{all_checksums};
+ghost use Rattle.ip_wire.specs.declared.checksum.Checksum.TheVariants.{Both};
+ghost use Rattle.sock_core.specs.Bounds.{IsMoment, IsMtu};
+ghost use Rattle.net_host.specs.Moments.{lawful_micros};
+ghost use Rattle.net_host.specs.Addresses.{covers, is_broadcast, is_directed, source_of};
+
+use crate::cidr::{IpCidr, is_limited_broadcast};
+use smoltcp_socket::time::Instant;
+use smoltcp_socket::wire::{ChecksumCapabilities, IpAddress};
+
+/// The addresses of an interface, its MTU, the checksums that are computed here, and the moment.
+#[derive(Drop)]
+pub struct Environment {
+    pub(crate) addresses: Vec<IpCidr>,
+    pub(crate) now: Instant,
+    pub(crate) mtu: usize,
+    pub(crate) checksums: ChecksumCapabilities,
+    // so every moment is one that a context may have, and the MTU one that it may answer
+    ghost moment: { IsMoment now.micros },
+    ghost size: { IsMtu mtu },
+}
+
+impl Environment {
+    pub(crate) fn new(addresses: Vec<IpCidr>) -> Environment
+        ensures addresses { result.addresses ≡ addresses }
+        ensures now { result.now.micros ≡ pos 0 }
+        ensures mtu { result.mtu ≡ 1500 }
+        ensures checksums { result.checksums ≡ all_checksums Both }
+    {
+        Environment {
+            addresses,
+            now: Instant::ZERO,
+            mtu: 1500,
+            checksums: ChecksumCapabilities::default(),
+        }
+    }
+
+    /// The moment.
+    pub(crate) fn moment(&self) -> Instant
+        ensures value { result ≡ self.entry.now.now }
+        ensures lawful { IsMoment result.micros }
+    {
+        self.now
+    }
+
+    /// Sets the moment, within 2^60 microseconds of zero; one that is further away counts as the nearest of these.
+    pub(crate) fn set_now(&mut self, now: Instant)
+        ensures now { self.new.now.micros ≡ lawful_micros now.micros }
+        ensures same { (self.new.addresses ≡ self.old.addresses) × (self.new.mtu ≡ self.old.mtu)
+            × (self.new.checksums ≡ self.old.checksums) }
+    {
+        self.now = lawful(now);
+    }
+
+    pub(crate) fn set_mtu(&mut self, mtu: usize)
+        ensures mtu { self.new.mtu ≡ max 576 (min mtu 65535) }
+        ensures same { (self.new.addresses ≡ self.old.addresses) × (self.new.now ≡ self.old.now)
+            × (self.new.checksums ≡ self.old.checksums) }
+    {
+        self.mtu = mtu.min(65535).max(576);
+    }
+
+    pub(crate) fn has_ip_addr(&self, addr: &IpAddress) -> bool
+        ensures { result ≡ list_any (λ c. ⟦<IpAddress as PartialEq>⟧.eq c.address addr.now) self.entry.now.addresses.items }
+    {
+        self.addresses.iter().any(|c: &IpCidr| c.address == *addr)
+    }
+
+    pub(crate) fn source(&self, dst: &IpAddress) -> Option<IpAddress>
+        ensures value { result ≡ source_of self.entry.now.addresses.items dst.now }
+        ensures version { ForSome result (λ s. SameVersion s dst.now) }
+    {
+        self.chosen(dst)
+    }
+
+    fn chosen(&self, dst: &IpAddress) -> Option<IpAddress>
+        ensures { result ≡ source_of self.entry.now.addresses.items dst.now }
+    {
+        match self.network_of(dst) {
+            Some(own) => Some(own),
+            None => self.first_of_version(dst),
+        }
+    }
+
+    fn network_of(&self, dst: &IpAddress) -> Option<IpAddress>
+        ensures { result ≡ option_map (λ c. c.address) (find (λ c. covers c dst.now) self.entry.now.addresses.items) }
+    {
+        let found = self.addresses.iter().find(|c: &&IpCidr| c.contains(dst))?;
+        Some(found.address)
+    }
+
+    fn first_of_version(&self, dst: &IpAddress) -> Option<IpAddress>
+        ensures { result ≡ option_map (λ c. c.address) (find (λ c. same_version c.address dst.now)
+            self.entry.now.addresses.items) }
+    {
+        let found = self
+            .addresses
+            .iter()
+            .find(|c: &&IpCidr| c.address.version() == dst.version())?;
+        Some(found.address)
+    }
+
+    pub(crate) fn is_broadcast(&self, addr: &IpAddress) -> bool
+        ensures { result ≡ is_broadcast self.entry.now.addresses.items addr.now }
+    {
+        is_limited_broadcast(addr) || self.is_directed_broadcast(addr)
+    }
+
+    fn is_directed_broadcast(&self, addr: &IpAddress) -> bool
+        ensures { result ≡ list_any (λ c. is_directed c addr.now) self.entry.now.addresses.items }
+    {
+        self.addresses.iter().any(|c: &IpCidr| c.is_broadcast(addr))
+    }
+}
+
+// No moment is further from zero, in microseconds: some 36,000 years.
+const FARTHEST: i64 = 1 << 60;
+
+fn lawful(now: Instant) -> Instant
+    ensures value { result.micros ≡ lawful_micros now.micros }
+    ensures lawful { IsMoment result.micros }
+{
+    let micros = if now.micros < -FARTHEST {
+        -FARTHEST
+    } else if FARTHEST < now.micros {
+        FARTHEST
+    } else {
+        now.micros
+    };
+    Instant { micros }
+}

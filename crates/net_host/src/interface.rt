@@ -1,0 +1,198 @@
+//! An interface: what arrives goes to the sockets that it is for, and what they have to say goes out.
+ghost use Rattle.std.specs.Prelude.{◌≡◌, ◌↔◌, ◌<◌, ◌≤◌, IsTrue, IfOk, Ok, is_err, length, max, min, pos};
+ghost use Rattle.net_host.specs.Facts.{facts_by};
+ghost use Rattle.net_host.specs.HostCalls.{EmitsAt, MovesTo, ReceivesAt};
+ghost use Rattle.net_host.specs.Speaking.{Due, earliest};
+ghost use Rattle.net_host.specs.Walks.{Nowhere};
+ghost use Rattle.ip_wire.specs.Checksum.{all_checksums};
+ghost use Rattle.ip_wire.specs.declared.checksum.Checksum.TheVariants.{Both};
+
+use crate::cidr::IpCidr;
+use crate::counters::Counters;
+use crate::environment::Environment;
+use crate::inner::InterfaceInner;
+use crate::limit::Limit;
+use crate::set::SocketSet;
+use crate::slot::Slot;
+use crate::speak::{earliest, speak, watch_all};
+use crate::wire::TooShort;
+use host_context::Words;
+use smoltcp_socket::PollAt;
+use smoltcp_socket::time::Instant;
+use smoltcp_socket::wire::{ChecksumCapabilities, IpAddress};
+use sock_tcp::TsvalSource;
+
+/// An interface with one or several addresses, on which packets arrive and go out. As smoltcp's.
+///
+/// `W` is the source of random words: [`Secret`](crate::Secret) on a network, `Seeded` in tests.
+#[derive(Drop)]
+pub struct Interface<W> {
+    pub(crate) inner: InterfaceInner<W>,
+    // the place of the socket whose turn it is
+    pub(crate) turn: usize,
+    pub(crate) resets: Limit,
+    pub(crate) counters: Counters,
+}
+
+impl<W: Words> Interface<W> {
+    /// Takes an IP packet that arrives at this moment, and answers how long the packet is that answers it, at the
+    /// beginning of `reply`; 0 where none does.
+    ///
+    /// The first row that fits: a packet that is malformed, or has a source that no single other host has, or another
+    /// destination than an address of the interface, or another protocol than TCP, is dropped and counted. A segment
+    /// goes to the first connection that accepts it, in the order of handles, else to the first socket that listens
+    /// and accepts it. One for no socket is answered by an RST (RFC 9293, section 3.10.7.1), unless it is one, at most
+    /// `ANSWERS_A_SECOND` times a second. No other socket changes.
+    ///
+    /// `TooShort` where `reply` is shorter than the MTU; nothing happens then.
+    pub fn receive<G: TsvalSource>(
+        &mut self,
+        sockets: &mut SocketSet<'_, G>,
+        now: Instant,
+        packet: &[u8],
+        reply: &mut [u8],
+    ) -> Result<usize, TooShort>
+        ensures short { length reply.old < self.old.inner.environment.mtu
+            → (self.new ≡ self.old) × (sockets.new ≡ sockets.old) × (reply.new ≡ reply.old) }
+        ensures refused { IsTrue (is_err result) ↔ (length reply.old < self.old.inner.environment.mtu) }
+        ensures within { IfOk result (λ n. n ≤ length reply.old) }
+        ensures taken { IfOk result (λ n. ReceivesAt ⟦<IpAddress as PartialEq>⟧.eq W.word_at G.tells now packet.now
+            self.old sockets.old.slots.items reply.old n self.new sockets.new.slots.items reply.new) }
+    {
+        if reply.len() < self.inner.environment.mtu {
+            return Err(TooShort);
+        }
+        Ok(self.receive_at(&mut sockets.slots, now, packet, reply))
+    }
+
+    fn receive_at<G: TsvalSource>(
+        &mut self,
+        slots: &mut Vec<Slot<'_, G>>,
+        now: Instant,
+        packet: &[u8],
+        reply: &mut [u8],
+    ) -> usize
+        requires { 100 ≤ length reply.old }
+        ensures within { result ≤ length reply.old }
+        ensures table { ReceivesAt ⟦<IpAddress as PartialEq>⟧.eq W.word_at G.tells now packet.now self.old slots.old.items
+            reply.old result self.new slots.new.items reply.new }
+    {
+        self.set_now(now);
+        self.take_packet(slots, packet, reply)
+    }
+
+    fn set_now(&mut self, now: Instant)
+        ensures { MovesTo now self.old self.new }
+    {
+        self.inner.environment.set_now(now);
+    }
+
+    /// Writes the next packet of a socket that is due at this moment into `out`, and answers its length; 0 where no
+    /// socket is due. The turn goes round: it begins behind the socket that spoke last.
+    ///
+    /// First the guard of each TCP socket looks at it, as `Guard::watch`. A socket that is due and has nothing to say
+    /// after all has had its turn. Where `out` is too short for the packet, `TooShort`: its socket offers it again.
+    pub fn emit<G: TsvalSource>(
+        &mut self,
+        sockets: &mut SocketSet<'_, G>,
+        now: Instant,
+        out: &mut [u8],
+    ) -> Result<usize, TooShort>
+        ensures table { EmitsAt ⟦<IpAddress as PartialEq>⟧.eq G.tells now self.old sockets.old.slots.items out.old result
+            self.new sockets.new.slots.items out.new }
+        ensures within { IfOk result (λ n. n ≤ length out.old) }
+        ensures quiet { result ≡ Ok 0 → Nowhere (Due (facts_by ⟦<IpAddress as PartialEq>⟧.eq
+            self.new.inner.environment)) sockets.new.slots.items }
+    {
+        self.emit_at(&mut sockets.slots, now, out)
+    }
+
+    fn emit_at<G: TsvalSource>(
+        &mut self,
+        slots: &mut Vec<Slot<'_, G>>,
+        now: Instant,
+        out: &mut [u8],
+    ) -> Result<usize, TooShort>
+        ensures table { EmitsAt ⟦<IpAddress as PartialEq>⟧.eq G.tells now self.old slots.old.items out.old result
+            self.new slots.new.items out.new }
+        ensures within { IfOk result (λ n. n ≤ length out.old) }
+        ensures quiet { result ≡ Ok 0 → Nowhere (Due (facts_by ⟦<IpAddress as PartialEq>⟧.eq
+            self.new.inner.environment)) slots.new.items }
+    {
+        self.set_now(now);
+        watch_all(slots, self.inner.environment.moment());
+        speak(slots, &mut self.turn, &self.inner, out)
+    }
+}
+
+// When to look again.
+impl<W: Words> Interface<W> {
+    /// When `emit` next has something to do: the earliest moment at which a socket is due, as its guard allows. The
+    /// moment is that of the last `emit` or `receive`, and the guards are as they were left there: so ask after an
+    /// `emit` that answered 0.
+    pub fn poll_at<G: TsvalSource>(&self, sockets: &SocketSet<'_, G>) -> PollAt
+        ensures { result ≡ earliest (facts_by ⟦<IpAddress as PartialEq>⟧.eq self.now.inner.environment)
+            sockets.now.slots.items }
+    {
+        earliest(&sockets.slots, &self.inner)
+    }
+}
+
+impl<W> Interface<W> {
+    /// An interface with these addresses, at moment 0. Its MTU is 1500 bytes, and all checksums are computed here.
+    pub fn new(addresses: Vec<IpCidr>, words: W) -> Interface<W>
+        ensures addresses { result.inner.environment.addresses ≡ addresses }
+        ensures now { result.inner.environment.now.micros ≡ pos 0 }
+        ensures mtu { result.inner.environment.mtu ≡ 1500 }
+        ensures checksums { result.inner.environment.checksums ≡ all_checksums Both }
+        ensures words { result.inner.words ≡ words }
+    {
+        Interface {
+            inner: InterfaceInner {
+                environment: Environment::new(addresses),
+                words,
+            },
+            turn: 0,
+            resets: Limit::new(),
+            counters: Counters::default(),
+        }
+    }
+
+    /// The context of the sockets' calls.
+    pub fn context(&mut self) -> &mut InterfaceInner<W>
+        ensures { result.now ≡ self.old.inner }
+    {
+        &mut self.inner
+    }
+
+    /// How many packets were dropped, by their reasons.
+    pub fn counters(&self) -> Counters
+        ensures { result ≡ self.now.counters }
+    {
+        self.counters
+    }
+
+    /// Sets the largest IP packet, in bytes: 576 to 65535, and the nearest of these for any other.
+    pub fn set_mtu(&mut self, mtu: usize)
+        ensures mtu { self.new.inner.environment.mtu ≡ max 576 (min mtu 65535) }
+        ensures same { (self.new.inner.environment.addresses ≡ self.old.inner.environment.addresses)
+            × (self.new.inner.environment.now ≡ self.old.inner.environment.now)
+            × (self.new.inner.environment.checksums ≡ self.old.inner.environment.checksums)
+            × (self.new.inner.words ≡ self.old.inner.words) × (self.new.turn ≡ self.old.turn)
+            × (self.new.resets ≡ self.old.resets) × (self.new.counters ≡ self.old.counters) }
+    {
+        self.inner.environment.set_mtu(mtu);
+    }
+
+    /// Sets which checksums are computed and tested here, and which by the device.
+    pub fn set_checksums(&mut self, checksums: ChecksumCapabilities)
+        ensures checksums { self.new.inner.environment.checksums ≡ checksums }
+        ensures same { (self.new.inner.environment.addresses ≡ self.old.inner.environment.addresses)
+            × (self.new.inner.environment.now ≡ self.old.inner.environment.now)
+            × (self.new.inner.environment.mtu ≡ self.old.inner.environment.mtu)
+            × (self.new.inner.words ≡ self.old.inner.words) × (self.new.turn ≡ self.old.turn)
+            × (self.new.resets ≡ self.old.resets) × (self.new.counters ≡ self.old.counters) }
+    {
+        self.inner.environment.checksums = checksums;
+    }
+}

@@ -1,0 +1,27 @@
+//! A host of many sockets: who gets a packet, who speaks next, and when to look again.
+#![tactic(auto)]
+
+pub mod arrival;
+pub mod cidr;
+pub mod counters;
+pub mod emission;
+pub mod environment;
+pub mod inner;
+pub mod interface;
+pub mod limit;
+pub mod receive;
+pub mod replies;
+pub mod secret;
+pub mod segments;
+pub mod set;
+pub mod slot;
+pub mod speak;
+pub mod turn;
+pub mod wire;
+
+pub use cidr::IpCidr;
+pub use interface::Interface;
+pub use secret::Secret;
+pub use set::SocketSet;
+pub use slot::SocketHandle;
+pub use wire::TooShort;

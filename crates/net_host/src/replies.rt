@@ -1,0 +1,47 @@
+//! Replies as packets in a buffer.
+ghost use Rattle.std.specs.Prelude.{◌≡◌, ◌≤◌, length, [], option_map};
+ghost use Rattle.std.specs.Option.{ForSome};
+ghost use Rattle.control_wire.specs.Fits.{FitsPacket};
+ghost use Rattle.control_wire.specs.Segment.{segment_of};
+ghost use Rattle.sock_tcp.specs.Process.{reply_of};
+ghost use Rattle.net_host.specs.Wire.{IsCounted, packet_len, reply_len, with_reply, with_segment};
+
+use segment_wire::packet::emit_tcp;
+use smoltcp_socket::wire::{ChecksumCapabilities, IpRepr, TcpRepr};
+use sock_tcp::Reply;
+
+/// An IPv6 header and the longest TCP header, in bytes: no reply of a TCP socket is longer.
+pub(crate) const LONGEST_REPLY: usize = 100;
+
+/// Writes a packet at the beginning of `out`, and answers its length.
+pub(crate) fn put_segment(
+    ip: &IpRepr,
+    repr: &TcpRepr<'_>,
+    out: &mut [u8],
+    caps: &ChecksumCapabilities,
+) -> usize
+    requires counted { IsCounted ip.now (segment_of repr.now) }
+    requires room { packet_len ip.now ≤ length out.old }
+    ensures within { result ≤ length out.old }
+    ensures len { result ≡ packet_len ip.now }
+    ensures bytes { out.new ≡ with_segment caps.now ip.now (segment_of repr.now) out.old }
+{
+    let whole = ip.header_len() + ip.payload_len();
+    emit_tcp(ip, repr, &mut out[..whole], caps);
+    whole
+}
+
+/// Writes the reply, if any, at the beginning of `out`, and answers its length, or 0.
+pub(crate) fn put_reply(reply: &Option<Reply>, out: &mut [u8], caps: &ChecksumCapabilities) -> usize
+    requires bare { ForSome reply.now (λ r. r.1.payload.now ≡ []) }
+    requires fits { ForSome (option_map reply_of reply.now) (λ r. FitsPacket r.0 r.1) }
+    requires room { 100 ≤ length out.old }
+    ensures within { result ≤ length out.old }
+    ensures len { result ≡ reply_len (option_map reply_of reply.now) }
+    ensures bytes { out.new ≡ with_reply caps.now (option_map reply_of reply.now) out.old }
+{
+    match reply {
+        None => 0,
+        Some((ip, repr)) => put_segment(ip, repr, out, caps),
+    }
+}

@@ -1,0 +1,136 @@
+//! A set of sockets of all kinds.
+ghost use Rattle.std.specs.Prelude.{◌≡◌, ◌<◌, IfOk, IfErr, OnErr, IfSome, IfNone, length, option_map, Some, None};
+ghost use Rattle.std.specs.List.{All};
+ghost use Rattle.net_host.specs.Slots.{IsFree, Fills, Empties, socket_at, tcp_at};
+ghost use Rattle.net_host.specs.Walks.{Finds, ChangesAt};
+
+use crate::slot::{Slot, SocketHandle};
+use host_guard::Guard;
+use smoltcp_socket::{Socket, tcp};
+use sock_tcp::{Generator, TsvalSource};
+use std::alloc::{AllocError, Global};
+
+/// Sockets of all kinds, each under a handle. As smoltcp's, but that its room is made once.
+///
+/// `G` is the type of a TCP socket's source of timestamps, and is left out.
+#[derive(Drop)]
+pub struct SocketSet<'a, G = Generator> {
+    pub(crate) slots: Vec<Slot<'a, G>>,
+}
+
+impl<'a, G: TsvalSource> SocketSet<'a, G> {
+    /// A set with room for so many sockets. Nothing is allocated afterwards.
+    pub fn new(alloc: Global, capacity: usize) -> Result<SocketSet<'a, G>, AllocError>
+        ensures capacity { IfOk result (λ s. length s.slots.items ≡ capacity) }
+        ensures free { IfOk result (λ s. All IsFree s.slots.items) }
+    {
+        let mut slots = Vec::with_capacity(alloc, capacity)?;
+        for _ in 0..capacity {
+            slots.push(Slot::free())?;
+        }
+        Ok(SocketSet { slots })
+    }
+
+    /// How many sockets it has room for.
+    pub fn capacity(&self) -> usize
+        ensures { result ≡ length self.now.slots.items }
+    {
+        self.slots.len()
+    }
+
+    /// Puts the socket into the first place that is free. Where none is, it is given back.
+    pub fn add(&mut self, socket: Socket<'a, G>) -> Result<SocketHandle, Socket<'a, G>>
+        ensures first { IfOk result (λ h. Finds IsFree self.old.slots.items (Some h.index)) }
+        ensures filled { IfOk result
+            (λ h. ChangesAt (Fills socket.entry h) self.old.slots.items h.index self.new.slots.items) }
+        ensures full { OnErr result (Finds IsFree self.old.slots.items None) }
+        ensures same { IfErr result (λ s. (s ≡ socket.entry) × (self.new ≡ self.old)) }
+    {
+        match first_free(&self.slots) {
+            None => Err(socket),
+            Some(index) => Ok(fill(&mut self.slots, index, socket)),
+        }
+    }
+
+    /// Takes the socket out; none where the set has no socket of this handle. Afterwards no socket has it.
+    pub fn remove(&mut self, handle: SocketHandle) -> Option<Socket<'a, G>>
+        ensures socket { result ≡ socket_at self.old.slots.items handle }
+        ensures emptied { IfSome result
+            (λ s. ChangesAt (Empties s) self.old.slots.items handle.index self.new.slots.items) }
+        ensures stale { IfNone result (self.new.slots.items ≡ self.old.slots.items) }
+    {
+        take_at(&mut self.slots, handle)
+    }
+
+    /// The socket of this handle.
+    pub fn get(&self, handle: SocketHandle) -> Option<&Socket<'a, G>>
+        ensures { option_map (λ s. s.now) result ≡ socket_at self.now.slots.items handle }
+    {
+        let slot = self.slots.get(handle.index)?;
+        if slot.generation != handle.generation {
+            return None;
+        }
+        slot.socket.as_ref()
+    }
+
+    /// The same, lent with every call of it.
+    pub fn get_mut(&mut self, handle: SocketHandle) -> Option<&mut Socket<'a, G>>
+        ensures { option_map (λ s. s.now) result ≡ socket_at self.old.slots.items handle }
+    {
+        let slot = self.slots.get_mut(handle.index)?;
+        if slot.generation != handle.generation {
+            return None;
+        }
+        slot.socket.as_mut()
+    }
+}
+
+/// The sockets of one kind.
+impl<'a, G: TsvalSource> SocketSet<'a, G> {
+    /// The TCP socket of this handle, lent with every call of it; none where the handle's socket is of another kind.
+    pub fn tcp_mut(&mut self, handle: SocketHandle) -> Option<&mut tcp::Socket<'a, G>>
+        ensures { option_map (λ s. s.now) result ≡ tcp_at self.old.slots.items handle }
+    {
+        match self.get_mut(handle)? {
+            Socket::Tcp(tcp) => Some(tcp),
+            _ => None,
+        }
+    }
+}
+
+fn first_free<G>(slots: &[Slot<'_, G>]) -> Option<usize>
+    ensures { Finds IsFree slots.now result }
+{
+    for (i, slot) in slots.iter().enumerate() {
+        if slot.is_free() {
+            return Some(i);
+        }
+    }
+    None
+}
+
+fn fill<'a, G: TsvalSource>(
+    slots: &mut Vec<Slot<'a, G>>,
+    index: usize,
+    socket: Socket<'a, G>,
+) -> SocketHandle
+    requires { index < length slots.old.items }
+    ensures index { result.index ≡ index }
+    ensures filled { ChangesAt (Fills socket.entry result) slots.old.items index slots.new.items }
+{
+    slots[index].fill(index, socket)
+}
+
+fn take_at<'a, G: TsvalSource>(
+    slots: &mut Vec<Slot<'a, G>>,
+    handle: SocketHandle,
+) -> Option<Socket<'a, G>>
+    ensures socket { result ≡ socket_at slots.old.items handle }
+    ensures emptied { IfSome result (λ s. ChangesAt (Empties s) slots.old.items handle.index slots.new.items) }
+    ensures stale { IfNone result (slots.new.items ≡ slots.old.items) }
+{
+    if slots.len() <= handle.index {
+        return None;
+    }
+    slots[handle.index].take(handle.generation)
+}

@@ -1,0 +1,72 @@
+//! One place of a set of sockets.
+ghost use Rattle.std.specs.Prelude.{◌≡◌, ◌↔◌, IsTrue, IfSome, IfNone, Some, None};
+ghost use Rattle.net_host.specs.Slots.{IsFree, Fills, Empties, held};
+
+use host_guard::Guard;
+use smoltcp_socket::Socket;
+use sock_tcp::{Generator, TsvalSource};
+
+/// Names a socket of a set. A socket that is put where another one was removed has another handle.
+#[derive(Debug, Clone, Copy, PartialEq, Eq)]
+pub struct SocketHandle {
+    pub(crate) index: usize,
+    pub(crate) generation: u64,
+}
+
+/// A place for a socket, and what the host remembers beside it.
+#[derive(Drop)]
+pub struct Slot<'a, G = Generator> {
+    // how many sockets were removed from here
+    pub(crate) generation: u64,
+    pub(crate) socket: Option<Socket<'a, G>>,
+    pub(crate) guard: Guard,
+}
+
+impl<'a, G> Slot<'a, G> {
+    /// A place with no socket.
+    pub(crate) fn free() -> Slot<'a, G>
+        ensures { IsFree result }
+    {
+        Slot {
+            generation: 0,
+            socket: None,
+            guard: Guard::new(),
+        }
+    }
+
+    /// Whether there is no socket.
+    pub(crate) fn is_free(&self) -> bool
+        ensures { IsTrue result ↔ IsFree self.now }
+    {
+        self.socket.is_none()
+    }
+}
+
+impl<'a, G: TsvalSource> Slot<'a, G> {
+    /// Puts a socket here.
+    pub(crate) fn fill(&mut self, index: usize, socket: Socket<'a, G>) -> SocketHandle
+        ensures index { result.index ≡ index }
+        ensures filled { Fills socket.entry result self.old self.new }
+    {
+        self.socket = Some(socket);
+        self.guard = Guard::new();
+        SocketHandle {
+            index,
+            generation: self.generation,
+        }
+    }
+
+    /// Takes the socket out that is here under this generation.
+    pub(crate) fn take(&mut self, generation: u64) -> Option<Socket<'a, G>>
+        ensures socket { result ≡ held (Some self.old) generation }
+        ensures emptied { IfSome result (λ s. Empties s self.old self.new) }
+        ensures stale { IfNone result (self.new ≡ self.old) }
+    {
+        if self.generation != generation {
+            return None;
+        }
+        let socket = self.socket.take()?;
+        self.generation = self.generation.wrapping_add(1);
+        Some(socket)
+    }
+}

@@ -1,0 +1,123 @@
+//! What a host does with one socket and its guard: looks at it, asks when it wants to speak, and lets it speak.
+ghost use Rattle.std.specs.Prelude.{◌≡◌, ◌≤◌, length};
+ghost use Rattle.sock_core.specs.Bounds.{IsMoment};
+ghost use Rattle.net_host.specs.Facts.{facts_by};
+ghost use Rattle.host_guard.specs.Guarding.{not_before};
+ghost use Rattle.sock_tcp.specs.Polls.{is_reached};
+ghost use Rattle.net_host.specs.Turns.{SlotEmits, TakesTurn, Watches, asked_of, delayed, is_due, slot_poll};
+
+use crate::emission::emit_tcp;
+use crate::environment::Environment;
+use crate::slot::Slot;
+use crate::wire::TooShort;
+use smoltcp_socket::time::{Duration, Instant};
+use smoltcp_socket::wire::IpAddress;
+use smoltcp_socket::{Context, PollAt, Socket};
+use sock_tcp::TsvalSource;
+
+// The least time: a socket that may not speak at a moment waits so long.
+const NEXT: Duration = Duration { micros: 1 };
+
+impl<'a, G: TsvalSource> Slot<'a, G> {
+    /// The guard of a TCP socket looks at it, as `Guard::watch`.
+    pub(crate) fn watch(&mut self, now: Instant)
+        requires { IsMoment now.micros }
+        ensures { Watches now self.old self.new }
+    {
+        match &mut self.socket {
+            Some(Socket::Tcp(tcp)) => self.guard.watch(tcp, now),
+            _ => {}
+        }
+    }
+
+    /// When the socket wants to speak, as its guard allows.
+    pub(crate) fn poll_at<C: Context>(&self, cx: &C) -> PollAt
+        ensures { result ≡ slot_poll self.now (C.facts cx.now) }
+    {
+        let now = cx.now();
+        let asked = self.asked(cx);
+        delayed(self.guard.may_take_turn(now), now, asked)
+    }
+
+    fn asked<C: Context>(&self, cx: &C) -> PollAt
+        ensures { result ≡ asked_of self.now.guard.since self.now.guard.last self.now.socket (C.facts cx.now) }
+    {
+        match &self.socket {
+            Some(socket) => self.guard.poll_at(socket.poll_at(cx)),
+            None => PollAt::Ingress,
+        }
+    }
+
+    /// Whether it wants to speak now.
+    pub(crate) fn is_due<C: Context>(&self, cx: &C) -> bool
+        ensures { result ≡ is_due (C.facts cx.now) self.now }
+    {
+        is_reached(self.poll_at(cx), cx.now())
+    }
+
+    /// Lets it speak, where its guard allows it.
+    pub(crate) fn take_turn(
+        &mut self,
+        environment: &Environment,
+        out: &mut [u8],
+    ) -> (Result<(), TooShort>, usize)
+        ensures within { result.1 ≤ length out.old }
+        ensures table { TakesTurn (facts_by ⟦<IpAddress as PartialEq>⟧.eq environment.entry.now) G.tells self.old out.old
+            result.0 result.1 self.new out.new }
+    {
+        if !self.guard.take_turn(environment.moment()) {
+            return (Ok(()), 0);
+        }
+        self.dispatch(environment, out)
+    }
+
+    fn dispatch(
+        &mut self,
+        environment: &Environment,
+        out: &mut [u8],
+    ) -> (Result<(), TooShort>, usize)
+        ensures within { result.1 ≤ length out.old }
+        ensures table { SlotEmits (facts_by ⟦<IpAddress as PartialEq>⟧.eq environment.entry.now) G.tells self.old out.old
+            result.0 result.1 self.new out.new }
+    {
+        match &mut self.socket {
+            Some(Socket::Tcp(tcp)) => emit_tcp(tcp, environment, out),
+            _ => (Ok(()), 0),
+        }
+    }
+}
+
+// Not before the next moment, where the socket may not speak at this one.
+fn delayed(may: bool, now: Instant, asked: PollAt) -> PollAt
+    requires { IsMoment now.micros }
+    ensures { result ≡ delayed may now asked }
+{
+    if may {
+        return asked;
+    }
+    not_before(now + NEXT, asked)
+}
+
+fn not_before(moment: Instant, asked: PollAt) -> PollAt
+    ensures { result ≡ not_before moment asked }
+{
+    match asked {
+        PollAt::Now => PollAt::Time(moment),
+        PollAt::Time(at) => PollAt::Time(if moment.micros <= at.micros {
+            at
+        } else {
+            moment
+        }),
+        PollAt::Ingress => PollAt::Ingress,
+    }
+}
+
+fn is_reached(poll: PollAt, now: Instant) -> bool
+    ensures { result ≡ is_reached poll now }
+{
+    match poll {
+        PollAt::Now => true,
+        PollAt::Time(at) => at <= now,
+        PollAt::Ingress => false,
+    }
+}

@@ -1,0 +1,103 @@
+//! The context of a dispatch, which writes what is emitted into a buffer.
+ghost use Rattle.std.specs.Prelude.{◌≡◌, ◌↔◌, ◌≤◌, IsTrue, length};
+ghost use Rattle.control_wire.specs.Segment.{segment_of};
+ghost use Rattle.net_host.specs.Addresses.{as_v4, as_v6, source_of};
+ghost use Rattle.net_host.specs.Facts.{facts_by};
+ghost use Rattle.net_host.specs.Sheets.{Writes};
+ghost use Rattle.net_host.specs.Wire.{IsCounted};
+ghost use Rattle.net_host.specs.SheetOf.{sheet_of};
+
+use crate::environment::Environment;
+use crate::inner::{source_v4, source_v6};
+use crate::replies::put_segment;
+use smoltcp_socket::Context;
+use smoltcp_socket::time::Instant;
+use smoltcp_socket::wire::{
+    ChecksumCapabilities, IpAddress, IpProtocol, IpRepr, Ipv4Address, Ipv6Address, TcpRepr,
+};
+
+/// The buffer is too short for the packet.
+#[derive(Debug, Clone, Copy, PartialEq, Eq)]
+pub struct TooShort;
+
+/// The context of a dispatch.
+#[derive(Drop)]
+pub struct Wire<'w> {
+    pub(crate) environment: &'w Environment,
+    pub(crate) out: &'w mut [u8],
+    // the length of the packet that was written, or 0
+    pub(crate) len: usize,
+}
+
+// The longest TCP header, in bytes (RFC 9293, section 3.1).
+const LONGEST_HEADER: usize = 60;
+
+// Whether the header counts the segment.
+fn is_counted(ip: &IpRepr, repr: &TcpRepr<'_>) -> bool
+    ensures { IsTrue result ↔ IsCounted ip.now (segment_of repr.now) }
+{
+    repr.header_len() <= LONGEST_HEADER
+        && ip.payload_len() == repr.buffer_len()
+        && ip.next_header() == IpProtocol::Tcp
+}
+
+impl<'w> Wire<'w> {
+    /// Writes the segment as an IP packet at the beginning of the buffer, where it fits.
+    pub(crate) fn write_segment(&mut self, ip: &IpRepr, repr: &TcpRepr<'_>) -> Result<(), TooShort>
+        ensures written { Writes ip.now (segment_of repr.now) (sheet_of self.old) result
+            (sheet_of self.new) }
+        ensures same_buffer { self.new.out.ghost_name ≡ self.old.out.ghost_name }
+        ensures environment { self.new.environment ≡ self.old.environment }
+        ensures within { self.old.len ≤ length self.old.out.now → self.new.len ≤ length self.old.out.now }
+    {
+        if !is_counted(ip, repr) || self.out.len() < ip.header_len() + ip.payload_len() {
+            return Err(TooShort);
+        }
+        let caps = self.environment.checksums;
+        self.len = put_segment(ip, repr, self.out, &caps);
+        Ok(())
+    }
+}
+
+impl<'w> Context for Wire<'w> {
+    ghost facts = { λ r. facts_by ⟦<IpAddress as PartialEq>⟧.eq r.environment.now };
+
+    ghost word_at = { λ r _. 0 };
+
+    fn now(&self) -> Instant {
+        self.environment.now
+    }
+
+    fn has_ip_addr(&self, addr: IpAddress) -> bool {
+        self.environment.has_ip_addr(&addr)
+    }
+
+    fn get_source_address(&self, dst: &IpAddress) -> Option<IpAddress> {
+        self.environment.source(dst)
+    }
+
+    fn get_source_address_ipv4(&self, dst: &Ipv4Address) -> Option<Ipv4Address> {
+        source_v4(self.environment, dst)
+    }
+
+    fn get_source_address_ipv6(&self, dst: &Ipv6Address) -> Ipv6Address {
+        source_v6(self.environment, dst)
+    }
+
+    fn is_broadcast(&self, addr: &IpAddress) -> bool {
+        self.environment.is_broadcast(addr)
+    }
+
+    fn ip_mtu(&self) -> usize {
+        self.environment.mtu
+    }
+
+    fn checksum_caps(&self) -> ChecksumCapabilities {
+        self.environment.checksums
+    }
+
+    // a dispatch draws no word
+    fn rand_u32(&mut self) -> u32 {
+        0
+    }
+}
