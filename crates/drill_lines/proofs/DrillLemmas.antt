@@ -57,6 +57,7 @@ module _ (P : Result RequestValue ScriptError → Type 0) (said : (t : List ℕ)
   without_text (Some form.Listen) p = p
   without_text (Some form.Bind) p = p
   without_text (Some form.Congestion) p = p
+  without_text (Some form.Rules) p = p
   without_text (Some form.Checksums) p = p
   without_text (Some form.Ends) p = p
   without_text (Some form.Take) p = p

@@ -34,10 +34,10 @@ use Rattle.drill_lines.specs.Places.{endpoint_of, is_hex, listen_endpoint_of}
 use Rattle.drill_lines.specs.Reads.{by, mapped, or_word}
 use Rattle.drill_lines.specs.Requests.{CallValue, ExpectedValue, RequestValue, request_value}
 use Rattle.drill_lines.specs.Requests.{plain, switch, counted, optional, bytes}
-use Rattle.drill_lines.specs.Requests.{listen, bind, congestion, checksums, ends}
+use Rattle.drill_lines.specs.Requests.{listen, bind, congestion, rules, checksums, ends}
 use Rattle.drill_lines.specs.Requests.{take as taken, state, poll, example, make}
 use Rattle.drill_lines.specs.Requests.{clock, word, call, deliver, line, expect}
-use Rattle.drill_lines.specs.Words.{checksum_of, congestion_of, version_of}
+use Rattle.drill_lines.specs.Words.{checksum_of, congestion_of, rules_of, version_of}
 
 -- the largest number of such a line
 abbrev pub most_of : Counted → ℕ
@@ -123,6 +123,7 @@ unfoldable pub other_means : Form → List Word → Result CallValue Wrong
 other_means form.Listen ws = mapped listen (place_means ws)
 other_means form.Bind ws = mapped bind (place_means ws)
 other_means form.Congestion ws = by (λ w. option_map congestion (congestion_of w)) (one_of ws)
+other_means form.Rules ws = by (λ w. option_map rules (rules_of w)) (one_of ws)
 other_means form.Checksums ws = by (λ w. option_map checksums (checksum_of w)) (one_of ws)
 other_means _ ws = by (λ (here, peer). ends_if (endpoint_of here) (endpoint_of peer)) (two_of ws)
 

@@ -5,6 +5,7 @@ use Rattle.control_wire.specs.declared.seq_number.TcpSeqNumber.{TcpSeqNumber}
 use Rattle.control_wire.specs.declared.tcp.TcpTimestampRepr.{TcpTimestampRepr}
 use Rattle.ip_wire.specs.declared.checksum.Checksum.{Checksum}
 use Rattle.ip_wire.specs.declared.endpoint.IpEndpoint.{IpEndpoint}
+use Rattle.sock_tcp.specs.declared.rules.Rules.{Rules}
 use Rattle.sock_tcp.specs.declared.settings.CongestionControl.{CongestionControl}
 use Rattle.drill_lines.specs.declared.fields.Carried.{Carried}
 use Rattle.drill_lines.specs.declared.fields.Carried.TheVariants as carries
@@ -81,6 +82,7 @@ pub data CallValue : Type 0 where
   listen : Place → CallValue
   bind : Place → CallValue
   congestion : CongestionControl → CallValue
+  rules : Rules → CallValue
   checksums : Checksum → CallValue
   ends : IpEndpoint → IpEndpoint → CallValue
   take : FieldsValue → CallValue
@@ -94,6 +96,7 @@ call_value (calls.Bytes b bs) = bytes b bs.now
 call_value (calls.Listen p) = listen p
 call_value (calls.Bind p) = bind p
 call_value (calls.Congestion c) = congestion c
+call_value (calls.Rules r) = rules r
 call_value (calls.Checksums c) = checksums c
 call_value (calls.Ends here peer) = ends here peer
 call_value (calls.Take f) = take (fields_value f)

@@ -38,6 +38,7 @@ of_setting =
     ∷ (codes "timeout", form.Optional optional.Timeout) ∷ (codes "ack-delay", form.Optional optional.AckDelay)
     ∷ (codes "keep-alive", form.Optional optional.KeepAlive) ∷ (codes "hop-limit", form.Optional optional.HopLimit)
     ∷ (codes "timestamps", form.Optional optional.Timestamps) ∷ (codes "congestion", form.Congestion)
+    ∷ (codes "rules", form.Rules)
     ∷ (codes "checksums", form.Checksums) ∷ (codes "state", form.Plain plain.State)
     ∷ (codes "queues", form.Plain plain.Queues) ∷ (codes "settings", form.Plain plain.Settings)
     ∷ (codes "endpoints", form.Plain plain.Endpoints) ∷ (codes "measures", form.Plain plain.Measures) ∷ [])

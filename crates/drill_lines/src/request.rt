@@ -4,7 +4,7 @@ use crate::fields::Fields;
 use crate::room::Room;
 use ip_wire::{Checksum, IpEndpoint, IpListenEndpoint};
 use smoltcp_socket::icmp;
-use smoltcp_socket::tcp::CongestionControl;
+use smoltcp_socket::tcp::{CongestionControl, Rules};
 
 /// Lines of a call and a socket alone.
 #[derive(Clone, Copy)]
@@ -78,6 +78,7 @@ pub enum Call<'t> {
     Listen(Place),
     Bind(Place),
     Congestion(CongestionControl),
+    Rules(Rules),
     Checksums(Checksum),
     Ends(IpEndpoint, IpEndpoint),
     Take(Fields<'t>),

@@ -60,6 +60,7 @@ fn setting_name(setting: Setting) -> &'static str {
         Setting::HopLimit(_) => "hop limit",
         Setting::Congestion(_) => "congestion control",
         Setting::Pause(_) => "pause SYN|ACK",
+        Setting::Rules(_) => "rules",
     }
 }
 

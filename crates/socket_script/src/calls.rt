@@ -64,6 +64,10 @@ fn perform_other(seat: &mut Seat<'_>, call: &Call<'_>, line: &mut String) -> Res
             let known = set_congestion(&mut seat.socket, *control);
             done(known, line)
         }
+        Call::Rules(rules) => {
+            let known = set_rules(&mut seat.socket, *rules);
+            done(known, line)
+        }
         Call::Checksums(checksum) => {
             seat.ipv4 = *checksum;
             say(line, "done")
@@ -128,6 +132,15 @@ fn set_congestion(socket: &mut Socket<'_, Clock>, control: tcp::CongestionContro
         return false;
     };
     socket.set_congestion_control(control);
+    true
+}
+
+// An open socket keeps its rules, as `settings` shows.
+fn set_rules(socket: &mut Socket<'_, Clock>, rules: tcp::Rules) -> bool {
+    let Socket::Tcp(socket) = socket else {
+        return false;
+    };
+    let _ = socket.set_rules(rules);
     true
 }
 

@@ -176,6 +176,9 @@ fn tcp_settings(socket: &tcp::Socket<'_, Clock>, line: &mut String) -> Result<()
         line,
         " nagle {nagle} congestion {congestion} timestamps {stamps}"
     )?;
+    if let tcp::Rules::Rfc = socket.rules() {
+        line.push_str(" rules rfc")?;
+    }
     Ok(())
 }
 
