@@ -1,5 +1,5 @@
 -- A reply without a payload takes 100 octets at most.
-use Rattle.std.proofs.Common.{◌≡◌, ℕ, ◌≤◌, [], length, ap, arith}
+use Rattle.std.proofs.Common.{◌≡◌, ◌≤◌, [], length, ap, arith}
 use Rattle.ip_wire.specs.declared.repr.IpRepr.{IpRepr}
 use Rattle.ip_wire.specs.declared.repr.IpRepr.TheVariants as header
 use Rattle.control_wire.specs.Fits.{FitsPacket}

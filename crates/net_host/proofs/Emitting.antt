@@ -1,13 +1,14 @@
 -- From the one call of `emit` to what stands in the buffer: a dispatch with one emit is one with another, where each
 -- call of the first is one of the second.
-use Rattle.std.proofs.Common.{◌≡◌, ℕ, Option, Some, None, refl, ap, subst, sym}
+use Rattle.std.proofs.Common.{ℕ, Option, Some, None, ap, subst, sym}
 use Rattle.std.specs.Prelude.{Result}
 use Rattle.std.specs.Borrow.{MutBor}
 use Rattle.ip_wire.specs.declared.repr.IpRepr.{IpRepr}
 use Rattle.control_wire.specs.declared.tcp.TcpRepr.{TcpRepr}
-use Rattle.sock_core.specs.Emission.{Emit, Emits, EmitsAt}
+use Rattle.sock_core.specs.Emission.{Emit, Emits}
 use Rattle.sock_core.specs.Facts.{Facts}
-use Rattle.sock_tcp.specs.Dispatch.{Dispatches, EmitsDue, EmitsStamped, EmitsTo, EmitTcp}
+use Rattle.sock_dgram.specs.Addressed as addressed
+use Rattle.sock_tcp.specs.Dispatch.{Dispatches, EmitsTo, EmitTcp}
 use Rattle.sock_tcp.specs.View.{View}
 use Rattle.sock_tcp.specs.declared.tuple.Tuple.{Tuple}
 
@@ -64,3 +65,16 @@ module _ {F C E G : Type 0} (Q : C → C → Type 0) (same : (c : C) → Q c c) 
   pub dispatch_keeps : (facts : Facts) (tells : G → ℕ → Type 0) (clock : Option G) (v w : View) (c c' : C) (r : Result (Unit {0}) E) → Dispatches g f facts tells clock v c r w c' → Q c c'
   unfolding Dispatches
   dispatch_keeps facts tells clock v w c c' r h = to_keeps facts tells clock _ _ w c c' r h
+
+-- ---- a UDP or an ICMP socket
+
+module _ {F F2 C C2 S A O : Type 0} (m : C → C2) (g : Emit F C S A) (f : F) (g2 : Emit F2 C2 S A) (f2 : F2) (says : Becomes m g f g2 f2) where
+  pub dispatches_packet : {E M : Type 0} (outgoing : addressed.View E M → Option O) (meaning : S → O) (v w : addressed.View E M) (c c' : C) (r : Result (Unit {0}) A) → addressed.Dispatches outgoing meaning g f v c r c' w → addressed.Dispatches outgoing meaning g2 f2 v (m c) r (m c') w
+  dispatches_packet outgoing meaning v w c c' r h = record {
+    emits = emits m g f g2 f2 meaning says (outgoing v) c c' r h.emits;
+    queue = h.queue;
+    sent = h.sent;
+    failed = h.failed;
+    again = h.again;
+    same = h.same;
+  }

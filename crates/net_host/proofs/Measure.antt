@@ -1,9 +1,9 @@
 -- Each turn of a socket that is due leaves it one turn fewer at this moment.
-use Rattle.std.proofs.Common.{◌≡◌, ℕ, ◌+◌, ◌-◌, ◌<◌, List, length, get_or, Bool, true, false, Some, refl, sym, subst, ap, ◌∙◌, arith}
-use Rattle.std.specs.Prelude.{IfSome, slice_get, slice_set, nat_lt, ◌&&◌, Result, int_le, ◌-ℤ◌, unsigned_abs, ℤ, sum_by, if◌then◌else◌, ◌==◌}
+use Rattle.std.proofs.Common.{◌≡◌, ℕ, ◌+◌, ◌-◌, ◌<◌, List, get_or, Bool, true, false, Some, refl, sym, subst, ap, ◌∙◌, arith}
+use Rattle.std.specs.Prelude.{IfSome, slice_set, nat_lt, Result, int_le, ◌-ℤ◌, unsigned_abs, ℤ, sum_by, if◌then◌else◌, ◌==◌}
 use Rattle.std.proofs.lemmas.Int.{ints}
 use Rattle.std.proofs.lemmas.List.Sums.{sum_by-set}
-use Rattle.std.proofs.lemmas.Option.{get_or_from_slice_get, slice_get_within}
+use Rattle.std.proofs.lemmas.Option.{get_or_from_slice_get}
 use Rattle.std.proofs.lemmas.Bool.{and_parts}
 use Rattle.net_base.specs.declared.time.Instant.{Instant}
 use Rattle.sock_core.specs.Facts.{Facts}
@@ -12,9 +12,9 @@ use Rattle.sock_core.specs.declared.context.PollAt.TheVariants as poll
 use Rattle.sock_tcp.specs.Polls.{is_reached}
 use Rattle.sock_tcp.specs.Timers.{after, is_over}
 use Rattle.sock_tcp.specs.View.{moment_of}
-use Rattle.host_guard.specs.Guarding.{apart, later_moment, may_dispatch, may_take, not_before, taken_after, taken_at}
+use Rattle.host_guard.specs.Guarding.{may_dispatch, not_before, taken_after, taken_at}
 use Rattle.net_host.specs.Speaking.{Due, TurnAt}
-use Rattle.net_host.specs.Turns.{TakesTurn, asked_of, delayed, is_due, may_speak, slot_poll}
+use Rattle.net_host.specs.Turns.{TakesTurn, asked_of, delayed, is_due, may_speak}
 use Rattle.net_host.specs.Walks.{IsNext}
 use Rattle.net_host.specs.declared.slot.Slot.{Slot}
 use Rattle.net_host.specs.declared.wire.TooShort.{TooShort}

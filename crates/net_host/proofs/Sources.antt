@@ -1,5 +1,5 @@
 -- A source address is of the version of its destination.
-use Rattle.std.proofs.Common.{◌≡◌, ℕ, List, [], ◌∷◌, Bool, true, false, cond, Option, Some, None, refl, sym, subst}
+use Rattle.std.proofs.Common.{◌≡◌, ℕ, List, [], ◌∷◌, Bool, true, false, cond, Option, Some, None, refl, subst}
 use Rattle.std.specs.Prelude.{IfSome, option_map}
 use Rattle.std.specs.Option.{ForSome, option_or}
 use Rattle.std.specs.List.{find}

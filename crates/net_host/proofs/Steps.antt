@@ -1,5 +1,5 @@
 -- One turn, and what it makes of the walk.
-use Rattle.std.proofs.Common.{◌≡◌, ℕ, ◌+◌, ◌<◌, ◌≤◌, List, Bool, true, false, refl, sym, subst, ap, arith}
+use Rattle.std.proofs.Common.{◌≡◌, ℕ, ◌+◌, ◌<◌, List, true, false, subst, ap, arith}
 use Rattle.std.specs.Prelude.{Result, Ok, Err, is_err}
 use Rattle.sock_core.specs.Facts.{Facts}
 use Rattle.net_host.specs.Speaking.{Due, Packet, Quiet, Short, Silent, Speaks, TurnAt}

@@ -1,8 +1,8 @@
 -- Walks in turn, and walks that are one place longer.
-use Rattle.std.proofs.Common.{◌≡◌, ℕ, ◌+◌, ◌<◌, ◌≤◌, List, length, get_or, min, Bool, true, false, Option, Some, None, refl, sym, subst, ap, arith}
+use Rattle.std.proofs.Common.{◌≡◌, ℕ, ◌+◌, ◌<◌, ◌≤◌, List, length, get_or, min, Bool, true, false, Option, Some, None, refl, sym, subst, arith}
 use Rattle.std.specs.Prelude.{IfSome, slice_get, nat_lt, nat_le, ◌||◌, ◌&&◌, if◌then◌else◌}
 use Rattle.std.proofs.lemmas.Option.{slice_get_read, slice_get_past}
-use Rattle.net_host.specs.Walks.{FindsIn, FindsNext, IsFirstIn, IsNext, Nowhere, passes}
+use Rattle.net_host.specs.Walks.{FindsIn, FindsNext}
 
 pub one_more : {X : Type 0} (P : X → Type 0) (xs : List X) (start i : ℕ) (x : X) → ((k : ℕ) → start ≤ k → k < i → IfSome (slice_get xs k) (λ y. P y → ⊥)) → i < length xs → x ≡ get_or xs i x → (P x → ⊥) → (k : ℕ) → start ≤ k → k < i + 1 → IfSome (slice_get xs k) (λ y. P y → ⊥)
 one_more P xs start i x before within is not k from below = go (nat_lt k i) refl

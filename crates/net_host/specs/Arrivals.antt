@@ -1,5 +1,5 @@
 -- Whether a packet is looked at, by its addresses.
-use Rattle.std.specs.Prelude.{ℕ, ◌==◌, ◌&&◌, ◌||◌, not, nat_le, Bool, List, slice_index, slice_range, Option, Some, None}
+use Rattle.std.specs.Prelude.{ℕ, ◌==◌, ◌&&◌, ◌||◌, nat_le, Bool, true, false, List, slice_index, slice_range, Option, Some, None}
 use Rattle.std.specs.Prelude.{if◌then◌else◌}
 use Rattle.ip_wire.specs.Address.{all_zero, is_multicast}
 use Rattle.ip_wire.specs.IpHeader.{dst_addr_of, src_addr_of}
@@ -7,6 +7,8 @@ use Rattle.ip_wire.specs.declared.address.IpAddress.{IpAddress}
 use Rattle.ip_wire.specs.declared.address.IpAddress.TheVariants as address
 use Rattle.ip_wire.specs.declared.repr.IpRepr.{IpRepr}
 use Rattle.sock_core.specs.Facts.{Facts}
+use Rattle.net_host.specs.declared.arrival.Kind.{Kind}
+use Rattle.net_host.specs.declared.arrival.Kind.TheVariants as kind
 use Rattle.net_host.specs.declared.counters.Reason.{Reason}
 use Rattle.net_host.specs.declared.counters.Reason.TheVariants as reason
 
@@ -33,4 +35,9 @@ is_martian f a = is_multicast a || (f.broadcast a || (f.has_address a || is_rese
 unfoldable pub refusal : Facts → IpRepr → Option Reason
 refusal f ip =
     if is_martian f (src_addr_of ip) then Some reason.Source
-    else (if f.has_address (dst_addr_of ip) then None else Some reason.Destination)
+    else (if f.has_address (dst_addr_of ip) || f.broadcast (dst_addr_of ip) then None else Some reason.Destination)
+
+-- what the packet is looked at as, by the number of its protocol; `own` says whether it goes to the interface alone
+abbrev pub kind_of : Bool → ℕ → Kind
+kind_of true n = if n == 6 then kind.Tcp else (if n == 17 then kind.Udp else kind.Other)
+kind_of false n = if n == 17 then kind.Udp else kind.Foreign

@@ -1,9 +1,11 @@
 -- A socket's dispatch into a buffer.
-use Rattle.std.specs.Prelude.{ℕ, ◌≡◌, List, Result, Ok, Err, Option}
+use Rattle.std.specs.Prelude.{ℕ, List, Result, Option}
 use Rattle.sock_core.specs.Facts.{Facts}
+use Rattle.sock_dgram.specs.Udp as udp
+use Rattle.sock_dgram.specs.UdpDispatch.{Dispatched}
 use Rattle.sock_tcp.specs.Dispatch.{Dispatches}
 use Rattle.sock_tcp.specs.View.{View}
-use Rattle.net_host.specs.Sheets.{Sheet, writing}
+use Rattle.net_host.specs.Sheets.{Sheet, writing, writing_datagram}
 use Rattle.net_host.specs.declared.wire.TooShort.{TooShort}
 
 -- a buffer with no packet
@@ -19,3 +21,7 @@ abbrev pub DispatchesSegment : {G : Type 0} → Facts → (G → ℕ → Type 0)
     → Result (Unit {0}) TooShort → ℕ → View → List ℕ → Type 0
 DispatchesSegment facts tells clock v out r n w out' =
     Dispatches writing tt facts tells clock v (empty_sheet facts out) r w (sheet_with facts out' n)
+
+abbrev pub DispatchesDatagram : Facts → udp.View → List ℕ → Result (Unit {0}) TooShort → ℕ → udp.View → List ℕ → Type 0
+DispatchesDatagram facts v out r n w out' =
+    Dispatched writing_datagram tt v facts (empty_sheet facts out) r (sheet_with facts out' n) w

@@ -1,6 +1,7 @@
 pub mod Addresses
 pub mod Arrivals
 pub mod Counts
+pub mod Datagrams
 pub mod Emissions
 pub mod Facts
 pub mod HostCalls

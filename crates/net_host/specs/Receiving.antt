@@ -1,18 +1,24 @@
 -- What becomes of a packet that arrives: the first row that fits.
-use Rattle.std.specs.Prelude.{ℕ, ◌≡◌, ◌≤◌, ◌==◌, nat_le, Bool, true, false, List, length, Option, Some, None, option_map}
+use Rattle.std.specs.Prelude.{ℕ, ◌≡◌, nat_le, Bool, true, false, List, length, Option, Some, None}
 use Rattle.ip_wire.specs.Checksum.{is_received}
 use Rattle.ip_wire.specs.IpHeader.{dst_addr_of, next_header_of, src_addr_of}
 use Rattle.ip_wire.specs.Protocol.{number_of}
 use Rattle.ip_wire.specs.declared.address.IpAddress.{IpAddress}
+use Rattle.ip_wire.specs.declared.checksum.ChecksumCapabilities.{ChecksumCapabilities}
 use Rattle.ip_wire.specs.declared.repr.IpRepr.{IpRepr}
 use Rattle.control_wire.specs.Segment.{Segment}
 use Rattle.segment_wire.specs.Packet.{Carried, carried}
 use Rattle.segment_wire.specs.Tcp.{tcp_parsed}
 use Rattle.sock_core.specs.Facts.{Facts}
-use Rattle.net_host.specs.Arrivals.{refusal}
+use Rattle.segment_wire.specs.Udp.{Datagram, udp_parsed}
+use Rattle.net_host.specs.Arrivals.{kind_of, refusal}
 use Rattle.net_host.specs.Counts.{counted}
+use Rattle.net_host.specs.Datagrams.{HeardBy, TakesDatagram}
 use Rattle.net_host.specs.Facts.{facts_by}
 use Rattle.net_host.specs.Segments.{AnswersSegment, IsTaker}
+use Rattle.net_host.specs.Walks.{Finds}
+use Rattle.net_host.specs.declared.arrival.Kind.{Kind}
+use Rattle.net_host.specs.declared.arrival.Kind.TheVariants as kind
 use Rattle.net_host.specs.declared.counters.Counters.{Counters}
 use Rattle.net_host.specs.declared.counters.Reason.{Reason}
 use Rattle.net_host.specs.declared.counters.Reason.TheVariants as reason
@@ -27,6 +33,14 @@ abbrev pub counted_for : Taker → Counters → Counters
 counted_for (taker.Connection i) k = k
 counted_for (taker.Listener i) k = k
 counted_for taker.Nobody k = counted reason.Nobody k
+
+abbrev pub counted_if : Option ℕ → Counters → Counters
+counted_if None k = counted reason.Nobody k
+counted_if (Some i) k = k
+
+-- the UDP datagram that stands behind a header
+unfoldable pub datagram_in : ChecksumCapabilities → IpRepr → List ℕ → Option Datagram
+datagram_in caps ip octets = udp_parsed (is_received caps.udp) (src_addr_of ip) (dst_addr_of ip) octets
 
 module _ {W G : Type 0} (is : IpAddress → IpAddress → Bool) (word_at : W → ℕ → ℕ) (tells : G → ℕ → Type 0) where
   abbrev pub facts_of : InterfaceInner W → Facts
@@ -70,17 +84,43 @@ module _ {W G : Type 0} (is : IpAddress → IpAddress → Bool) (word_at : W →
       BySegment ip (tcp_parsed (is_received i.inner.environment.checksums.tcp) (src_addr_of ip) (dst_addr_of ip) octets)
       i
 
-  -- whether it is TCP
-  abbrev pub ByProtocol : Bool → IpRepr → List ℕ → Interface W → List (Slot G) → List ℕ → ℕ → Interface W
+  -- the same, where nothing is said of a reply
+  pub record Misses (why : Reason) (i : Interface W) (ss : List (Slot G)) (j : Interface W) (ts : List (Slot G))
+      : Type 0 where
+    pub interface : j ≡ record i { counters = counted why i.counters }
+    pub sockets : ts ≡ ss
+
+  -- the datagram goes to the first socket that takes it, if any
+  pub record TakesDatagramOf (ip : IpRepr) (d : Datagram) (i : Interface W) (ss : List (Slot G)) (j : Interface W)
+      (ts : List (Slot G)) : Type 0 where
+    pub found : Option ℕ
+    pub finds : Finds (TakesDatagram (facts_of i.inner) ip d.header) ss found
+    pub heard : HeardBy found ss ip d.header d.payload ts
+    pub interface : j ≡ record i { counters = counted_if found i.counters }
+
+  abbrev pub ByDatagram : IpRepr → Option Datagram → Interface W → List (Slot G) → Interface W → List (Slot G) → Type 0
+  ByDatagram ip None i ss j ts = Misses reason.Datagram i ss j ts
+  ByDatagram ip (Some d) i ss j ts = TakesDatagramOf ip d i ss j ts
+
+  -- what stands behind the header, as a UDP datagram
+  abbrev pub TakesUdp : IpRepr → List ℕ → Interface W → List (Slot G) → Interface W → List (Slot G) → Type 0
+  TakesUdp ip octets i =
+      ByDatagram ip (datagram_in i.inner.environment.checksums ip octets) i
+
+  -- by what it is looked at as
+  abbrev pub ByKind : Kind → IpRepr → List ℕ → Interface W → List (Slot G) → List ℕ → ℕ → Interface W
       → List (Slot G) → List ℕ → Type 0
-  ByProtocol true ip octets i ss out n j ts out' = TakesTcp ip octets i ss out n j ts out'
-  ByProtocol false ip octets i ss out n j ts out' = Drops reason.Protocol i ss out n j ts out'
+  ByKind kind.Tcp ip octets i ss out n j ts out' = TakesTcp ip octets i ss out n j ts out'
+  ByKind kind.Udp ip octets i ss out n j ts out' = TakesUdp ip octets i ss j ts × (n ≡ 0) × (out' ≡ out)
+  ByKind kind.Other ip octets i ss out n j ts out' = Drops reason.Protocol i ss out n j ts out'
+  ByKind kind.Foreign ip octets i ss out n j ts out' = Drops reason.Destination i ss out n j ts out'
 
   abbrev pub ByAddresses : Option Reason → IpRepr → List ℕ → Interface W → List (Slot G) → List ℕ → ℕ → Interface W
       → List (Slot G) → List ℕ → Type 0
   ByAddresses (Some why) ip octets i ss out n j ts out' = Drops why i ss out n j ts out'
   ByAddresses None ip octets i ss out n j ts out' =
-      ByProtocol (number_of (next_header_of ip) == 6) ip octets i ss out n j ts out'
+      ByKind (kind_of ((facts_of i.inner).has_address (dst_addr_of ip)) (number_of (next_header_of ip))) ip octets i ss
+      out n j ts out'
 
   -- with a header and what stands behind it, if it has them
   abbrev pub ByHeader : Option Carried → Interface W → List (Slot G) → List ℕ → ℕ → Interface W → List (Slot G)

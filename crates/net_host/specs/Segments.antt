@@ -1,6 +1,5 @@
 -- Which socket takes a TCP segment, and what becomes of it.
-use Rattle.std.specs.Prelude.{ℕ, ◌≡◌, List, [], Option, Some, None, option_map, Bool, true, false}
-use Rattle.std.specs.Option.{ForSome}
+use Rattle.std.specs.Prelude.{ℕ, ◌≡◌, List, Option, Some, None, option_map, Bool, true, false}
 use Rattle.ip_wire.specs.declared.repr.IpRepr.{IpRepr}
 use Rattle.net_base.specs.declared.time.Instant.{Instant}
 use Rattle.control_wire.specs.Segment.{Segment}

@@ -1,12 +1,13 @@
 -- What a socket emits into a buffer.
-use Rattle.std.specs.Prelude.{ℕ, ◌≡◌, ◌+◌, ◌≤◌, ⊤, List, length, Result, Ok, Err}
-use Rattle.std.specs.Borrow.{MutBor}
+use Rattle.std.specs.Prelude.{ℕ, ◌≡◌, ◌≤◌, ⊤, List, length, Result, Ok, Err}
+use Rattle.std.specs.Borrow.{Bor}
 use Rattle.ip_wire.specs.declared.checksum.ChecksumCapabilities.{ChecksumCapabilities}
 use Rattle.ip_wire.specs.declared.repr.IpRepr.{IpRepr}
 use Rattle.control_wire.specs.Segment.{Segment, segment_of}
 use Rattle.control_wire.specs.declared.tcp.TcpRepr.{TcpRepr}
+use Rattle.control_wire.specs.declared.udp.UdpRepr.{UdpRepr}
 use Rattle.sock_core.specs.Emission.{Emit}
-use Rattle.net_host.specs.Wire.{IsCounted, packet_len, with_segment}
+use Rattle.net_host.specs.Wire.{CountsDatagram, IsCounted, packet_len, with_datagram, with_segment}
 use Rattle.net_host.specs.declared.wire.TooShort.{TooShort}
 
 -- a buffer, and the length of the packet at its beginning, or 0
@@ -33,4 +34,24 @@ abbrev pub writing : Emit (Unit {0}) Sheet (IpRepr × TcpRepr) TooShort
 writing = record {
   pre = λ f a. ⊤;
   post = λ f a b. Writes a.1.0.0 (segment_of a.1.0.1) a.0.now b.0 b.1.0.now;
+}
+
+-- ---- datagrams
+
+pub record IsDatagramWritten (ip : IpRepr) (u : UdpRepr) (payload : List ℕ) (old new : Sheet) : Type 0 where
+  pub counted : CountsDatagram ip payload
+  pub room : packet_len ip ≤ length old.octets
+  pub len : new.len ≡ packet_len ip
+  pub octets : new.octets ≡ with_datagram old.checksums ip u payload old.octets
+  pub same : new.checksums ≡ old.checksums
+
+abbrev pub WritesDatagram : IpRepr → UdpRepr → List ℕ → Sheet → Result (Unit {0}) TooShort → Sheet → Type 0
+WritesDatagram ip u payload old (Ok x) new = IsDatagramWritten ip u payload old new
+WritesDatagram ip u payload old (Err e) new =
+    (CountsDatagram ip payload → packet_len ip ≤ length old.octets → ⊥) × (new ≡ old)
+
+abbrev pub writing_datagram : Emit (Unit {0}) Sheet (IpRepr × UdpRepr × Bor (List ℕ)) TooShort
+writing_datagram = record {
+  pre = λ f a. ⊤;
+  post = λ f a b. WritesDatagram a.1.0.0 a.1.0.1 a.1.0.2.now a.0.now b.0 b.1.0.now;
 }

@@ -1,11 +1,12 @@
 -- Packets in a buffer.
-use Rattle.std.specs.Prelude.{ℕ, ◌+◌, ◌≡◌, ◌≤◌, List, ◌++◌, drop, length, Option, Some, None, Result, Ok, Err}
+use Rattle.std.specs.Prelude.{ℕ, ◌+◌, ◌≡◌, ◌≤◌, List, ◌++◌, drop, length, Option, Some, None}
 use Rattle.ip_wire.specs.IpHeader.{header_len_of, next_header_of, payload_len_of}
 use Rattle.ip_wire.specs.declared.checksum.ChecksumCapabilities.{ChecksumCapabilities}
 use Rattle.ip_wire.specs.declared.protocol.IpProtocol.TheVariants as protocol
 use Rattle.ip_wire.specs.declared.repr.IpRepr.{IpRepr}
-use Rattle.control_wire.specs.Segment.{Segment, options_len, segment_header_len}
-use Rattle.segment_wire.specs.Packet.{tcp_packet}
+use Rattle.control_wire.specs.Segment.{Segment, segment_header_len}
+use Rattle.control_wire.specs.declared.udp.UdpRepr.{UdpRepr}
+use Rattle.segment_wire.specs.Packet.{tcp_packet, udp_packet}
 
 -- the header counts the segment
 pub record IsCounted (ip : IpRepr) (s : Segment) : Type 0 where
@@ -29,3 +30,14 @@ reply_len (Some r) = packet_len r.0
 abbrev pub with_reply : ChecksumCapabilities → Option (IpRepr × Segment) → List ℕ → List ℕ
 with_reply caps None out = out
 with_reply caps (Some r) out = with_segment caps r.0 r.1 out
+
+-- ---- datagrams
+
+-- the header counts the datagram
+pub record CountsDatagram (ip : IpRepr) (payload : List ℕ) : Type 0 where
+  pub octets : payload_len_of ip ≡ 8 + length payload
+  pub protocol : next_header_of ip ≡ protocol.Udp
+
+-- a buffer with the packet of a datagram at its beginning
+abbrev pub with_datagram : ChecksumCapabilities → IpRepr → UdpRepr → List ℕ → List ℕ → List ℕ
+with_datagram caps ip u payload out = udp_packet caps ip u payload ++ drop (packet_len ip) out

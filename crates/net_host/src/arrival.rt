@@ -1,14 +1,17 @@
 //! Whether a packet is looked at, by its addresses.
 ghost use Rattle.std.specs.Prelude.{◌≡◌};
 ghost use Rattle.ip_wire.specs.Address.{all_zero};
-ghost use Rattle.net_host.specs.Arrivals.{is_martian, is_reserved, is_reserved_v4, is_reserved_v6, refusal};
+ghost use Rattle.net_host.specs.Arrivals.{is_martian, is_reserved, is_reserved_v4, is_reserved_v6, kind_of, refusal};
+ghost use Rattle.ip_wire.specs.IpHeader.{dst_addr_of, next_header_of};
+ghost use Rattle.ip_wire.specs.Protocol.{number_of};
 
 use crate::counters::Reason;
 use smoltcp_socket::Context;
 use smoltcp_socket::wire::{IpAddress, IpRepr, Ipv4Address, Ipv6Address};
 
 /// Why the packet is dropped, if it is: its source is one that no single other host has, so that an answer would go to
-/// many, to nobody, or come back (RFC 1122, section 3.2.1.3); or its destination is no address of the interface.
+/// many, to nobody, or come back (RFC 1122, section 3.2.1.3); or its destination is neither
+/// an address of the interface nor a broadcast.
 #[tactic(auto, unfolding(crate::specs::Arrivals::refusal))]
 pub(crate) fn refusal<C: Context>(cx: &C, ip: &IpRepr) -> Option<Reason>
     ensures { result ≡ refusal (C.facts cx.now) ip.now }
@@ -16,7 +19,7 @@ pub(crate) fn refusal<C: Context>(cx: &C, ip: &IpRepr) -> Option<Reason>
     if is_martian(cx, &ip.src_addr()) {
         return Some(Reason::Source);
     }
-    if !cx.has_ip_addr(ip.dst_addr()) {
+    if !cx.has_ip_addr(ip.dst_addr()) && !cx.is_broadcast(&ip.dst_addr()) {
         return Some(Reason::Destination);
     }
     None
@@ -55,4 +58,36 @@ fn all_zero(octets: &[u8]) -> bool
     ensures { result ≡ all_zero octets.now }
 {
     octets.iter().all(|octet: &u8| *octet == 0)
+}
+
+/// What a packet is looked at as.
+#[derive(Debug, Clone, Copy, PartialEq, Eq)]
+pub enum Kind {
+    /// A TCP segment, to the interface alone.
+    Tcp,
+    /// A UDP datagram.
+    Udp,
+    /// Another protocol.
+    Other,
+    /// A broadcast that carries no UDP datagram.
+    Foreign,
+}
+
+/// What the packet is looked at as.
+pub(crate) fn kind_in<C: Context>(cx: &C, ip: &IpRepr) -> Kind
+    ensures { result ≡ kind_of ((C.facts cx.now).has_address (dst_addr_of ip.now)) (number_of (next_header_of ip.now)) }
+{
+    kind_of(cx.has_ip_addr(ip.dst_addr()), u8::from(ip.next_header()))
+}
+
+fn kind_of(own: bool, number: u8) -> Kind
+    ensures { result ≡ kind_of own number }
+{
+    if number == 17 {
+        return Kind::Udp;
+    }
+    if !own {
+        return Kind::Foreign;
+    }
+    if number == 6 { Kind::Tcp } else { Kind::Other }
 }

@@ -15,7 +15,9 @@ pub enum Reason {
     Protocol,
     /// It carries a TCP segment with a wrong header or checksum.
     Segment,
-    /// It carries a segment that no socket takes.
+    /// It carries a UDP datagram with a wrong length or checksum.
+    Datagram,
+    /// It carries a segment or a datagram that no socket takes.
     Nobody,
 }
 
@@ -27,6 +29,7 @@ pub struct Counters {
     pub destination: u64,
     pub protocol: u64,
     pub segment: u64,
+    pub datagram: u64,
     pub nobody: u64,
 }
 
@@ -41,6 +44,7 @@ impl Counters {
             Reason::Destination => self.destination = next(self.destination),
             Reason::Protocol => self.protocol = next(self.protocol),
             Reason::Segment => self.segment = next(self.segment),
+            Reason::Datagram => self.datagram = next(self.datagram),
             Reason::Nobody => self.nobody = next(self.nobody),
         }
     }

@@ -3,14 +3,15 @@ ghost use Rattle.std.specs.Prelude.{◌≡◌, ◌≤◌, length};
 ghost use Rattle.control_wire.specs.Segment.{segment_of};
 ghost use Rattle.sock_tcp.specs.Dispatch.{Dispatches};
 ghost use Rattle.net_host.specs.Facts.{facts_by};
-ghost use Rattle.net_host.specs.Sheets.{Writes, writing};
+ghost use Rattle.net_host.specs.Sheets.{Writes, WritesDatagram, writing, writing_datagram};
+ghost use Rattle.sock_dgram.specs.UdpDispatch.{Dispatched};
 ghost use Rattle.net_host.specs.SheetOf.{sheet_of};
-ghost use Rattle.net_host.specs.Emissions.{DispatchesSegment};
+ghost use Rattle.net_host.specs.Emissions.{DispatchesDatagram, DispatchesSegment};
 
 use crate::environment::Environment;
 use crate::wire::{TooShort, Wire};
-use smoltcp_socket::tcp;
-use smoltcp_socket::wire::{IpAddress, IpRepr, TcpRepr};
+use smoltcp_socket::wire::{IpAddress, IpRepr, TcpRepr, UdpRepr};
+use smoltcp_socket::{tcp, udp};
 use sock_tcp::TsvalSource;
 
 // Lets the socket emit.
@@ -57,5 +58,46 @@ pub(crate) fn emit_tcp<G: TsvalSource>(
         len: 0,
     };
     let answer = emit_segment(socket, &mut wire);
+    (answer, wire.len)
+}
+
+// Lets the socket emit.
+fn emit_datagram(socket: &mut udp::Socket<'_>, wire: &mut Wire<'_>) -> Result<(), TooShort>
+    ensures table { Dispatched writing_datagram tt socket.old
+        (facts_by ⟦<IpAddress as PartialEq>⟧.eq wire.old.environment.now) (sheet_of wire.old) result
+        (sheet_of wire.new) socket.new }
+    ensures within { wire.old.len ≤ length wire.old.out.now → wire.new.len ≤ length wire.old.out.now }
+    ensures same_buffer { wire.new.out.ghost_name ≡ wire.old.out.ghost_name }
+    ensures environment { wire.new.environment ≡ wire.old.environment }
+{
+    socket.dispatch(
+        wire,
+        move |cx: &mut Wire<'_>, sent: (IpRepr, UdpRepr, &[u8])| -> Result<(), TooShort>
+            ensures written { WritesDatagram sent.entry.0 sent.entry.1 sent.entry.2.now (sheet_of cx.entry.now) result
+                (sheet_of cx.exit.now) }
+            ensures same_buffer { cx.exit.now.out.ghost_name ≡ cx.entry.now.out.ghost_name }
+            ensures environment { cx.exit.now.environment ≡ cx.entry.now.environment }
+            ensures within { cx.entry.now.len ≤ length cx.entry.now.out.now
+                → cx.exit.now.len ≤ length cx.entry.now.out.now }
+        { cx.write_datagram(&sent.0, &sent.1, sent.2) },
+    )
+}
+
+/// The same of a UDP socket.
+pub(crate) fn emit_udp(
+    socket: &mut udp::Socket<'_>,
+    environment: &Environment,
+    out: &mut [u8],
+) -> (Result<(), TooShort>, usize)
+    ensures table { DispatchesDatagram (facts_by ⟦<IpAddress as PartialEq>⟧.eq environment.entry.now) socket.old out.old
+        result.0 result.1 socket.new out.new }
+    ensures within { result.1 ≤ length out.old }
+{
+    let mut wire = Wire {
+        environment,
+        out,
+        len: 0,
+    };
+    let answer = emit_datagram(socket, &mut wire);
     (answer, wire.len)
 }

@@ -39,10 +39,11 @@ impl<W: Words> Interface<W> {
     /// beginning of `reply`; 0 where none does.
     ///
     /// The first row that fits: a packet that is malformed, or has a source that no single other host has, or another
-    /// destination than an address of the interface, or another protocol than TCP, is dropped and counted. A segment
-    /// goes to the first connection that accepts it, in the order of handles, else to the first socket that listens
-    /// and accepts it. One for no socket is answered by an RST (RFC 9293, section 3.10.7.1), unless it is one, at most
-    /// `ANSWERS_A_SECOND` times a second. No other socket changes.
+    /// destination than an address of the interface or a broadcast, is dropped and counted; so is a broadcast that
+    /// carries no UDP datagram, and another protocol than TCP and UDP. A segment goes to the first connection that
+    /// accepts it, in the order of handles, else to the first socket that listens and accepts it. One for no socket is
+    /// answered by an RST (RFC 9293, section 3.10.7.1), unless it is one, at most `ANSWERS_A_SECOND` times a second. A
+    /// datagram goes to the first UDP socket that accepts it. No other socket changes.
     ///
     /// `TooShort` where `reply` is shorter than the MTU; nothing happens then.
     pub fn receive<G: TsvalSource>(

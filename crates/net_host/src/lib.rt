@@ -4,6 +4,7 @@
 pub mod arrival;
 pub mod cidr;
 pub mod counters;
+pub mod datagrams;
 pub mod emission;
 pub mod environment;
 pub mod inner;

@@ -1,23 +1,24 @@
 //! What becomes of a packet that arrives.
-ghost use Rattle.std.specs.Prelude.{◌≡◌, ◌≤◌, ◌==◌, nat_le, length};
+ghost use Rattle.std.specs.Prelude.{◌≡◌, ◌≤◌, nat_le, length, option_map};
+ghost use Rattle.segment_wire.specs.Udp.{datagram_of};
 ghost use Rattle.control_wire.specs.Segment.{segment_of};
-ghost use Rattle.ip_wire.specs.IpHeader.{next_header_of};
-ghost use Rattle.ip_wire.specs.Protocol.{number_of};
 ghost use Rattle.net_host.specs.Counts.{counted};
-ghost use Rattle.net_host.specs.Receiving.{ByAddresses, ByProtocol, IfShort, TakesPacket, TakesSegment, TakesTcp, counted_for};
+ghost use Rattle.net_host.specs.Receiving.{ByAddresses, ByKind, IfShort, TakesDatagramOf, TakesPacket};
+ghost use Rattle.net_host.specs.Receiving.{TakesSegment, TakesTcp, TakesUdp, counted_for, counted_if, datagram_in};
 ghost use Rattle.net_host.specs.Arrivals.{refusal};
 ghost use Rattle.net_host.specs.Facts.{facts_by};
 
-use crate::arrival::refusal;
+use crate::arrival::{Kind, kind_in, refusal};
 use crate::counters::{Counters, Reason};
+use crate::datagrams::hear_datagram;
 use crate::interface::Interface;
 use crate::segments::{Taker, hear_segment};
 use crate::slot::Slot;
 use host_context::Words;
 use segment_wire::packet::carried;
-use segment_wire::tcp;
+use segment_wire::{tcp, udp};
 use smoltcp_socket::Context;
-use smoltcp_socket::wire::{IpAddress, IpRepr, TcpRepr};
+use smoltcp_socket::wire::{ChecksumCapabilities, IpAddress, IpRepr, TcpRepr, UdpRepr};
 use sock_tcp::TsvalSource;
 
 impl<W: Words> Interface<W> {
@@ -63,27 +64,60 @@ impl<W: Words> Interface<W> {
     {
         match refusal(&self.inner, ip) {
             Some(reason) => self.drop_packet(reason),
-            None => self.take_protocol(slots, ip, bytes, out),
+            None => {
+                let kind = kind_in(&self.inner, ip);
+                self.take_kind(slots, kind, ip, bytes, out)
+            }
         }
     }
 
-    fn take_protocol<G: TsvalSource>(
+    fn take_kind<G: TsvalSource>(
         &mut self,
         slots: &mut Vec<Slot<'_, G>>,
+        kind: Kind,
         ip: &IpRepr,
         bytes: &[u8],
         out: &mut [u8],
     ) -> usize
         requires { 100 ≤ length out.old }
         ensures within { result ≤ length out.old }
-        ensures table { ByProtocol ⟦<IpAddress as PartialEq>⟧.eq W.word_at G.tells (number_of (next_header_of ip.now) == 6)
-            ip.now bytes.now self.old slots.old.items out.old result self.new slots.new.items out.new }
+        ensures table { ByKind ⟦<IpAddress as PartialEq>⟧.eq W.word_at G.tells kind ip.now bytes.now self.old
+            slots.old.items out.old result self.new slots.new.items out.new }
     {
-        if u8::from(ip.next_header()) == 6 {
-            self.take_tcp(slots, ip, bytes, out)
-        } else {
-            self.drop_packet(Reason::Protocol)
+        match kind {
+            Kind::Tcp => self.take_tcp(slots, ip, bytes, out),
+            Kind::Udp => {
+                self.take_udp(slots, ip, bytes);
+                0
+            }
+            Kind::Other => self.drop_packet(Reason::Protocol),
+            Kind::Foreign => self.drop_packet(Reason::Destination),
         }
+    }
+
+    fn take_udp<G: TsvalSource>(&mut self, slots: &mut Vec<Slot<'_, G>>, ip: &IpRepr, bytes: &[u8])
+        ensures { TakesUdp ⟦<IpAddress as PartialEq>⟧.eq W.word_at G.tells ip.now bytes.now self.old slots.old.items self.new
+            slots.new.items }
+    {
+        let caps = self.inner.checksum_caps();
+        match datagram_in(&caps, ip, bytes) {
+            None => self.counters.count(Reason::Datagram),
+            Some((repr, payload)) => self.take_datagram(slots, ip, &repr, payload),
+        }
+    }
+
+    fn take_datagram<G: TsvalSource>(
+        &mut self,
+        slots: &mut Vec<Slot<'_, G>>,
+        ip: &IpRepr,
+        repr: &UdpRepr,
+        payload: &[u8],
+    )
+        ensures { TakesDatagramOf ⟦<IpAddress as PartialEq>⟧.eq W.word_at G.tells ip.now
+            (record { header = repr.now; payload = payload.now }) self.old slots.old.items self.new slots.new.items }
+    {
+        let found = hear_datagram(slots, &self.inner, ip, repr, payload);
+        count_found(&mut self.counters, found);
     }
 
     fn take_tcp<G: TsvalSource>(
@@ -150,4 +184,24 @@ fn count_taker(counters: &mut Counters, taker: Taker)
         Taker::Connection(_) | Taker::Listener(_) => {}
         Taker::Nobody => counters.count(Reason::Nobody),
     }
+}
+
+fn count_found(counters: &mut Counters, found: Option<usize>)
+    ensures { counters.new ≡ counted_if found counters.old }
+{
+    if found.is_none() {
+        counters.count(Reason::Nobody);
+    }
+}
+
+// The UDP datagram that stands behind a header.
+#[tactic(auto, unfolding(crate::specs::Receiving::datagram_in))]
+fn datagram_in<'p>(
+    caps: &ChecksumCapabilities,
+    ip: &IpRepr,
+    bytes: &'p [u8],
+) -> Option<(UdpRepr, &'p [u8])>
+    ensures { option_map datagram_of result ≡ datagram_in caps.now ip.now bytes.now }
+{
+    udp::parse(bytes, &ip.src_addr(), &ip.dst_addr(), caps).ok()
 }

@@ -4,10 +4,10 @@ ghost use Rattle.std.specs.Option.{ForSome};
 ghost use Rattle.control_wire.specs.Fits.{FitsPacket};
 ghost use Rattle.control_wire.specs.Segment.{segment_of};
 ghost use Rattle.sock_tcp.specs.Process.{reply_of};
-ghost use Rattle.net_host.specs.Wire.{IsCounted, packet_len, reply_len, with_reply, with_segment};
+ghost use Rattle.net_host.specs.Wire.{CountsDatagram, IsCounted, packet_len, reply_len, with_datagram, with_reply, with_segment};
 
-use segment_wire::packet::emit_tcp;
-use smoltcp_socket::wire::{ChecksumCapabilities, IpRepr, TcpRepr};
+use segment_wire::packet::{emit_tcp, emit_udp};
+use smoltcp_socket::wire::{ChecksumCapabilities, IpRepr, TcpRepr, UdpRepr};
 use sock_tcp::Reply;
 
 /// An IPv6 header and the longest TCP header, in bytes: no reply of a TCP socket is longer.
@@ -28,6 +28,25 @@ pub(crate) fn put_segment(
 {
     let whole = ip.header_len() + ip.payload_len();
     emit_tcp(ip, repr, &mut out[..whole], caps);
+    whole
+}
+
+/// Writes a packet with this datagram at the beginning of `out`, and answers its length.
+pub(crate) fn put_datagram(
+    ip: &IpRepr,
+    repr: &UdpRepr,
+    payload: &[u8],
+    out: &mut [u8],
+    caps: &ChecksumCapabilities,
+) -> usize
+    requires counted { CountsDatagram ip.now payload.now }
+    requires room { packet_len ip.now ≤ length out.old }
+    ensures within { result ≤ length out.old }
+    ensures len { result ≡ packet_len ip.now }
+    ensures bytes { out.new ≡ with_datagram caps.now ip.now repr.now payload.now out.old }
+{
+    let whole = ip.header_len() + ip.payload_len();
+    emit_udp(ip, repr, payload, &mut out[..whole], caps);
     whole
 }
 

@@ -3,17 +3,17 @@ ghost use Rattle.std.specs.Prelude.{◌≡◌, ◌↔◌, ◌≤◌, IsTrue, len
 ghost use Rattle.control_wire.specs.Segment.{segment_of};
 ghost use Rattle.net_host.specs.Addresses.{as_v4, as_v6, source_of};
 ghost use Rattle.net_host.specs.Facts.{facts_by};
-ghost use Rattle.net_host.specs.Sheets.{Writes};
-ghost use Rattle.net_host.specs.Wire.{IsCounted};
+ghost use Rattle.net_host.specs.Sheets.{Writes, WritesDatagram};
+ghost use Rattle.net_host.specs.Wire.{CountsDatagram, IsCounted};
 ghost use Rattle.net_host.specs.SheetOf.{sheet_of};
 
 use crate::environment::Environment;
 use crate::inner::{source_v4, source_v6};
-use crate::replies::put_segment;
+use crate::replies::{put_datagram, put_segment};
 use smoltcp_socket::Context;
 use smoltcp_socket::time::Instant;
 use smoltcp_socket::wire::{
-    ChecksumCapabilities, IpAddress, IpProtocol, IpRepr, Ipv4Address, Ipv6Address, TcpRepr,
+    ChecksumCapabilities, IpAddress, IpProtocol, IpRepr, Ipv4Address, Ipv6Address, TcpRepr, UdpRepr,
 };
 
 /// The buffer is too short for the packet.
@@ -41,7 +41,36 @@ fn is_counted(ip: &IpRepr, repr: &TcpRepr<'_>) -> bool
         && ip.next_header() == IpProtocol::Tcp
 }
 
+// Whether the header counts the datagram.
+fn counts_datagram(ip: &IpRepr, payload: &[u8]) -> bool
+    ensures { IsTrue result ↔ CountsDatagram ip.now payload.now }
+{
+    ip.payload_len() >= 8
+        && ip.payload_len() - 8 == payload.len()
+        && ip.next_header() == IpProtocol::Udp
+}
+
 impl<'w> Wire<'w> {
+    /// Writes the datagram as an IP packet at the beginning of the buffer, where it fits.
+    pub(crate) fn write_datagram(
+        &mut self,
+        ip: &IpRepr,
+        repr: &UdpRepr,
+        payload: &[u8],
+    ) -> Result<(), TooShort>
+        ensures written { WritesDatagram ip.now repr.now payload.now (sheet_of self.old) result (sheet_of self.new) }
+        ensures same_buffer { self.new.out.ghost_name ≡ self.old.out.ghost_name }
+        ensures environment { self.new.environment ≡ self.old.environment }
+        ensures within { self.old.len ≤ length self.old.out.now → self.new.len ≤ length self.old.out.now }
+    {
+        if !counts_datagram(ip, payload) || self.out.len() < ip.header_len() + ip.payload_len() {
+            return Err(TooShort);
+        }
+        let caps = self.environment.checksums;
+        self.len = put_datagram(ip, repr, payload, self.out, &caps);
+        Ok(())
+    }
+
     /// Writes the segment as an IP packet at the beginning of the buffer, where it fits.
     pub(crate) fn write_segment(&mut self, ip: &IpRepr, repr: &TcpRepr<'_>) -> Result<(), TooShort>
         ensures written { Writes ip.now (segment_of repr.now) (sheet_of self.old) result

@@ -1,4 +1,4 @@
-use Rattle.std.proofs.Common.{◌≡◌, ◌∙◌, ap, option_map}
+use Rattle.std.proofs.Common.{◌∙◌, ap, option_map}
 use Rattle.sock_tcp.specs.Process.{reply_of}
 use Rattle.net_host.specs.Wire.{with_reply}
 use Rattle.net_host.proofs.segments.hear_segment.Goals as goal

@@ -1,4 +1,4 @@
-use Rattle.std.proofs.Common.{◌≡◌, ◌<◌, ◌≤◌, ℕ, true}
+use Rattle.std.proofs.Common.{◌<◌, ◌≤◌, ℕ}
 use Rattle.std.specs.Prelude.{slice_get, IfSome}
 use Rattle.net_host.specs.Speaking.{Due}
 use Rattle.net_host.proofs.speak.due_between.Given as goal

@@ -1,0 +1,80 @@
+//! Which socket takes a UDP datagram, and what becomes of it.
+ghost use Rattle.std.specs.Prelude.{◌≡◌, ◌↔◌, ◌<◌, IsTrue, IfSome, length, slice_get, Some};
+ghost use Rattle.net_host.specs.Datagrams.{HeardBy, Hears, TakesDatagram};
+ghost use Rattle.net_host.specs.Walks.{Finds};
+
+use crate::slot::Slot;
+use smoltcp_socket::wire::{IpRepr, UdpRepr};
+use smoltcp_socket::{Context, Socket};
+use sock_tcp::TsvalSource;
+
+impl<'a, G: TsvalSource> Slot<'a, G> {
+    fn takes_datagram<C: Context>(&self, cx: &C, ip: &IpRepr, repr: &UdpRepr) -> bool
+        ensures { IsTrue result ↔ TakesDatagram (C.facts cx.now) ip.now repr.now self.now }
+    {
+        match &self.socket {
+            Some(Socket::Udp(udp)) => udp.accepts(cx, ip, repr),
+            _ => false,
+        }
+    }
+
+    fn hear_datagram<C: Context>(&mut self, cx: &C, ip: &IpRepr, repr: &UdpRepr, payload: &[u8])
+        requires { TakesDatagram (C.facts cx.now) ip.now repr.now self.old }
+        ensures { Hears ip.now repr.now payload.now self.old self.new }
+    {
+        match &mut self.socket {
+            Some(Socket::Udp(udp)) => udp.process(cx, ip, repr, payload),
+            _ => {}
+        }
+    }
+}
+
+/// The first socket that takes the datagram, in the order of handles.
+fn first_for_datagram<C: Context, G: TsvalSource>(
+    slots: &[Slot<'_, G>],
+    cx: &C,
+    ip: &IpRepr,
+    repr: &UdpRepr,
+) -> Option<usize>
+    ensures { Finds (TakesDatagram (C.facts cx.now) ip.now repr.now) slots.now result }
+{
+    for (i, slot) in slots.iter().enumerate() {
+        if slot.takes_datagram(cx, ip, repr) {
+            return Some(i);
+        }
+    }
+    None
+}
+
+fn hear_datagram_at<C: Context, G: TsvalSource>(
+    slots: &mut Vec<Slot<'_, G>>,
+    i: usize,
+    cx: &C,
+    ip: &IpRepr,
+    repr: &UdpRepr,
+    payload: &[u8],
+)
+    requires within { i < length slots.old.items }
+    requires accepted { IfSome (slice_get slots.old.items i) (TakesDatagram (C.facts cx.now) ip.now repr.now) }
+    ensures { HeardBy (Some i) slots.old.items ip.now repr.now payload.now slots.new.items }
+{
+    slots[i].hear_datagram(cx, ip, repr, payload);
+}
+
+/// A datagram arrives: the place of the first socket that takes it, if any.
+pub(crate) fn hear_datagram<C: Context, G: TsvalSource>(
+    slots: &mut Vec<Slot<'_, G>>,
+    cx: &C,
+    ip: &IpRepr,
+    repr: &UdpRepr,
+    payload: &[u8],
+) -> Option<usize>
+    ensures finds { Finds (TakesDatagram (C.facts cx.now) ip.now repr.now) slots.old.items result }
+    ensures heard { HeardBy result slots.old.items ip.now repr.now payload.now slots.new.items }
+{
+    let found = first_for_datagram(slots, cx, ip, repr);
+    if let Some(i) = found {
+        hear_datagram_at(slots, i, cx, ip, repr, payload);
+    }
+    found
+}
