@@ -1,5 +1,5 @@
 -- What each event keeps of the addresses: each side's peer is the other side, and segments go from the one to the other.
-use Rattle.std.proofs.Common.{◌≡◌, ℕ, Bool, true, false, refl, sym, ap, subst, ◌∙◌, List, [], ◌∷◌, ◌++◌, Option, Some, None, ⊎_elim, is_some}
+use Rattle.std.proofs.Common.{◌≡◌, ℕ, Bool, true, false, refl, sym, ap, subst, ◌∙◌, List, [], ◌∷◌, ◌++◌, Option, Some, None, ⊎_elim}
 use Rattle.std.specs.Prelude.{option_map, slice_get, zero, suc, if◌then◌else◌}
 use Rattle.ip_wire.specs.Address.{SameVersion}
 use Rattle.ip_wire.specs.IpHeader.{ip_header, src_addr_of, dst_addr_of}
@@ -16,9 +16,7 @@ use Rattle.sock_core.specs.Facts.{Facts}
 use Rattle.tcp_laws.proofs.Frames.{GoesBack}
 use Rattle.sock_tcp.specs.Begin.{before_emit, peer_of}
 use Rattle.sock_tcp.specs.Content.{Sending, content, filled, emission_kind, of_kind, plain_segment, sent_as}
-use Rattle.sock_tcp.specs.Due.{is_due}
 use Rattle.tcp_laws.specs.Laws.{IsPeered}
-use Rattle.sock_tcp.specs.Opening.{renewed}
 use Rattle.sock_tcp.specs.Process.{AcceptsIn, IsAddressed, tuple_of}
 use Rattle.sock_tcp.specs.Replies.{Answers, with_header}
 use Rattle.sock_tcp.specs.View.{View, moment_of}

@@ -1,5 +1,5 @@
 -- What a dispatch leaves alone: where the socket listens, unless it is CLOSED then, and its peer.
-use Rattle.std.proofs.Common.{Bool, refl, sym, subst, ◌∙◌, Option, Some, None, inl, inr, is_some, ℕ}
+use Rattle.std.proofs.Common.{Bool, refl, sym, subst, ◌∙◌, Option, Some, None, inl, inr, ℕ}
 use Rattle.std.specs.Prelude.{not, if◌then◌else◌}
 use Rattle.net_base.specs.declared.time.Instant.{Instant}
 use Rattle.sock_core.specs.Facts.{Facts}

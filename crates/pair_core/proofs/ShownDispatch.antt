@@ -1,6 +1,6 @@
 -- What a dispatch does to a socket, and what it emits, is allowed on the two streams.
 use Rattle.std.proofs.Common.{◌≡◌, ℕ, Bool, true, false, cond, refl, sym, ap, subst, ◌∙◌, arith, List, Option, Some, None, inl, inr}
-use Rattle.std.specs.Prelude.{◌==◌, is_some}
+use Rattle.std.specs.Prelude.{◌==◌}
 use Rattle.net_base.specs.declared.time.Instant.{Instant}
 use Rattle.control_wire.specs.Segment.{segment_len}
 use Rattle.control_wire.specs.Seq.{seq_add}

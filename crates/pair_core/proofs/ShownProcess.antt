@@ -42,13 +42,12 @@ use Rattle.pair_core.specs.StreamEffects.{HearsAck, HearsData}
 use Rattle.pair_core.specs.StreamTables.{OfBytes, OfFin, OfSyn, segment_end}
 use Rattle.pair_core.specs.StreamViews as phase
 use Rattle.pair_core.specs.StreamViews.{Phase, SocketView, StreamSegment, HasIss, KnowsPeer, IsNonSynchronized, IsSynchronized}
-use Rattle.pair_core.proofs.ShownReplies.{Answered, IsAnswer, answers_as, bytes_there, challenged_there, outside_there}
+use Rattle.pair_core.proofs.ShownReplies.{Answered, answers_as, bytes_there, challenged_there, outside_there}
 use Rattle.pair_core.proofs.ShownRows.{answer_in, heard_within, knows_iss, later_same, nxt_alone, nxt_joins, nxt_past_fin}
 use Rattle.pair_core.proofs.ShownSteps.{FinInside, acked_none, acked_some, acked_view, acked_when, challenge_says, counted_fin, counted_plain, counted_rst, heard_shown, knows_peer, passes_syn, passes_with, reset_says}
 use Rattle.pair_core.proofs.ShownWindow.{FinCounts, before_shown, comes, cut_heard, cut_shown, edge_shown, grows, inside_shown, later_shown, offset_shown}
 use Rattle.pair_core.proofs.StreamTables.{passes_heard}
 use Rattle.sock_tcp.specs.Rfc.Refused.{is_plain_control, refused}
-use Rattle.sock_tcp.specs.Rfc.Refused.{is_fin as rfc_fin}
 use Rattle.sock_tcp.specs.declared.rules.Rules.{Rules}
 use Rattle.sock_tcp.proofs.Refusing.{counts_fin, fin_is_plain, heard_alone, refused_as}
 

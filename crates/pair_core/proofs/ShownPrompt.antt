@@ -19,7 +19,7 @@ use Rattle.sock_tcp.specs.declared.window.Cut.{Cut}
 use Rattle.sock_tcp.specs.Acked.{acked_of}
 use Rattle.sock_tcp.specs.Advance.{Advance, advance_in, advanced, counted_control}
 use Rattle.sock_tcp.specs.Steps.{heard}
-use Rattle.sock_tcp.specs.Process.{Outcome, outside, tuple_of, has_window, after_advance, processed_inside, cut_inside, tested, by_verdict, processed, processed_by}
+use Rattle.sock_tcp.specs.Process.{Outcome, tuple_of, has_window, after_advance, processed_inside, cut_inside, tested, by_verdict, processed, processed_by}
 use Rattle.sock_tcp.specs.declared.acked.Acked.{Acked}
 use Rattle.sock_tcp.specs.declared.advance.Next.{Next}
 use Rattle.sock_tcp.specs.declared.advance.Next.TheVariants as next

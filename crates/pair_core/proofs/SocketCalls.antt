@@ -1,5 +1,5 @@
 -- Each event of a side is a call on its socket, in the words of the law on any list of calls.
-use Rattle.std.proofs.Common.{◌≡◌, ℕ, ◌+◌, ◌<◌, ◌≤◌, ◌^◌, Bool, true, false, not, refl, sym, ap, subst, ◌∙◌, List, [], ◌++◌, length, take, drop, Option, Some, None, Ok, Err, arith, length-take, is_some}
+use Rattle.std.proofs.Common.{◌≡◌, ℕ, ◌+◌, ◌<◌, ◌≤◌, ◌^◌, Bool, true, false, not, refl, sym, ap, subst, ◌∙◌, List, [], ◌++◌, length, take, drop, Option, Some, None, Ok, Err, arith, length-take}
 use Rattle.std.specs.Prelude.{◌==◌, ◌||◌, if◌then◌else◌}
 use Rattle.std.proofs.lemmas.Bool.{eqb-true}
 use Rattle.std.proofs.lemmas.List.{take-take}
@@ -21,7 +21,7 @@ use Rattle.sock_tcp.specs.Process.{Accepts, AcceptsIn}
 use Rattle.sock_tcp.specs.Queue.{appended, queue_of}
 use Rattle.sock_tcp.specs.Queues.{Reads, Sends, fitting, last_ts_after, may_recv, may_send, queued, read_off, readable, recv_refusal, timer_after, written}
 use Rattle.tcp_laws.specs.SocketRun as calls
-use Rattle.tcp_laws.specs.SocketRun.{Counts, Dispatched, IsNumbered, Run, SendsTo as Emits, Step, Ends, Then, starting, starting_if, is_reset, opens_listener, with_sent, accepted, with_handed, handed_slice, with_segment, listens_again}
+use Rattle.tcp_laws.specs.SocketRun.{Counts, Run, Step, Ends, Then, starting, starting_if, is_reset, opens_listener, with_sent, accepted}
 use Rattle.sock_tcp.specs.View.{View, fresh}
 use Rattle.tcp_laws.specs.Polling.{IsReached}
 use Rattle.sock_tcp.specs.declared.error.SendError.TheVariants as send_error

@@ -1,5 +1,5 @@
 -- A sender hears that its FIN was counted.
-use Rattle.std.proofs.Common.{◌≡◌, ℕ, zero, suc, ◌+◌, ◌-◌, ◌<◌, ◌≤◌, ◌^◌, Bool, true, false, ◌&&◌, refl, sym, ap, subst, ◌∙◌, List, length, Some, arith, length-drop}
+use Rattle.std.proofs.Common.{◌≡◌, ℕ, zero, suc, ◌+◌, ◌-◌, ◌<◌, ◌≤◌, ◌^◌, true, false, ◌&&◌, refl, sym, ap, subst, ◌∙◌, List, length, Some, arith, length-drop}
 use Rattle.std.specs.Prelude.{if◌then◌else◌, ◌==◌, int_lt}
 use Rattle.std.proofs.lemmas.Bool.{eq-eqb}
 use Rattle.ip_wire.specs.declared.repr.IpRepr.{IpRepr}

@@ -1,6 +1,6 @@
 -- From the calls that open two sockets to the end of both streams.
 use Rattle.std.proofs.Common.{◌≡◌, ℕ, ◌≤◌, sym, ap, subst, ◌∙◌, List, [], ◌++◌, length, take, drop, Option, Some, None, refl, arith}
-use Rattle.std.specs.Prelude.{if◌then◌else◌, ◌≤ℤ◌, true, false, Ok, Err}
+use Rattle.std.specs.Prelude.{if◌then◌else◌, ◌≤ℤ◌, true, Ok, Err}
 use Rattle.std.proofs.lemmas.Int.{ints}
 use Rattle.net_base.specs.declared.time.Duration.{Duration}
 use Rattle.net_base.specs.declared.time.Instant.{Instant}

@@ -1,5 +1,5 @@
 -- What the transmit queue lends to a segment: a fast retransmission or a probe has a byte, or the FIN.
-use Rattle.std.proofs.Common.{◌≡◌, ℕ, zero, suc, ◌-◌, ◌<◌, ◌≤◌, ◌⊎◌, inl, inr, Bool, true, false, refl, ap, ◌∙◌, List, length, drop, min, Option, is_some, arith, length-take, length-drop}
+use Rattle.std.proofs.Common.{◌≡◌, ℕ, zero, suc, ◌-◌, ◌<◌, ◌≤◌, ◌⊎◌, inl, inr, Bool, true, false, refl, ap, ◌∙◌, List, length, drop, min, Option, arith, length-take, length-drop}
 use Rattle.net_base.specs.Ring.{in_one_piece}
 use Rattle.net_base.proofs.Cells.{piece_none}
 use Rattle.ip_wire.specs.declared.address.IpAddress.{IpAddress}

@@ -1,5 +1,5 @@
 -- An answer has a timestamp where it is to have one.
-use Rattle.std.proofs.Common.{◌≡◌, ℕ, Bool, true, false, refl, Option, Some, None}
+use Rattle.std.proofs.Common.{Bool, true, false, refl, Option, Some, None}
 use Rattle.std.specs.Prelude.{if◌then◌else◌}
 use Rattle.control_wire.specs.Segment.{Segment}
 use Rattle.control_wire.specs.declared.tcp.TcpControl.TheVariants as control

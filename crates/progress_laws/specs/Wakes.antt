@@ -1,5 +1,5 @@
 -- When a socket with work to do is to be called again.
-use Rattle.std.specs.Prelude.{◌≡◌, ◌⊎◌, Some, None, Bool, true}
+use Rattle.std.specs.Prelude.{◌≡◌, ◌⊎◌, Some, None, true}
 use Rattle.net_base.specs.declared.time.Duration.{Duration}
 use Rattle.net_base.specs.declared.time.Instant.{Instant}
 use Rattle.sock_core.specs.Facts.{Facts}

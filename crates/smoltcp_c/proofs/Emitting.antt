@@ -1,6 +1,6 @@
 -- From the one call of `emit` to what a dispatch writes.
 use Rattle.std.proofs.Common.{◌≡◌, ℕ, pos, ◌≤◌, [], length, min, Bool, true, false, Option, Some, None, refl, sym, ◌∙◌, ap, subst, arith}
-use Rattle.std.specs.Prelude.{Result, Ok, Err, is_ok, is_some, nat_le, if◌then◌else◌, option_map}
+use Rattle.std.specs.Prelude.{Result, Ok, Err, is_ok, nat_le, if◌then◌else◌, option_map}
 use Rattle.std.specs.Borrow.{MutBor}
 use Rattle.std.specs.Fn.{Once}
 use Rattle.ip_wire.specs.declared.repr.IpRepr.{IpRepr}

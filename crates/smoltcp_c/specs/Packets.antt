@@ -1,5 +1,5 @@
 -- The calls that ask for a context, and those that take and give packets.
-use Rattle.std.specs.Prelude.{ℕ, ℤ, pos, ◌≡◌, nat_le, Bool, true, List, length, Option, Some, None, is_some, option_map}
+use Rattle.std.specs.Prelude.{ℕ, ℤ, pos, ◌≡◌, nat_le, Bool, true, List, length, Option, Some, None, option_map}
 use Rattle.std.specs.Prelude.{Result, if◌then◌else◌}
 use Rattle.ip_wire.specs.declared.repr.IpRepr.{IpRepr}
 use Rattle.control_wire.specs.Segment.{Segment}

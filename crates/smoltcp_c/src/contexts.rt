@@ -1,5 +1,5 @@
 //! The calls of a TCP socket that ask for a context, but for those with packets.
-ghost use Rattle.std.specs.Prelude.{◌≡◌, true, false, is_some};
+ghost use Rattle.std.specs.Prelude.{◌≡◌, true, false};
 ghost use Rattle.sock_tcp.specs.Opening.{after_connect, connect_answer as answer_of};
 ghost use Rattle.sock_tcp.specs.Poll.{poll_moment};
 ghost use Rattle.smoltcp_c.specs.Answers.{connect_answer, error_context};

@@ -1,5 +1,5 @@
 -- A segment that takes no sequence number, and the socket just before it goes out.
-use Rattle.std.proofs.Common.{◌≡◌, ℕ, zero, suc, ◌+◌, ◌-◌, ◌<◌, ◌≤◌, ◌^◌, ◌⊎◌, inl, inr, Bool, true, false, true≢false, refl, sym, ap, subst, ◌∙◌, List, length, drop, min, Option, Some, None, is_none, is_some, arith, length-take, length-drop}
+use Rattle.std.proofs.Common.{◌≡◌, ℕ, zero, suc, ◌+◌, ◌-◌, ◌<◌, ◌≤◌, ◌^◌, ◌⊎◌, inl, inr, Bool, true, false, true≢false, refl, sym, ap, subst, ◌∙◌, List, length, drop, min, Option, Some, None, is_none, arith, length-take, length-drop}
 use Rattle.std.specs.Prelude.{if◌then◌else◌, ◌==◌}
 use Rattle.std.proofs.lemmas.Bool.{eq-eqb}
 use Rattle.std.proofs.lemmas.Option.{none-some, same_Some}
@@ -13,7 +13,7 @@ use Rattle.control_wire.specs.Seq.{seq_add}
 use Rattle.control_wire.specs.Segment.{Segment, control_len, segment_len}
 use Rattle.control_wire.specs.declared.tcp.TcpControl.TheVariants as control
 use Rattle.sock_core.specs.Facts.{Facts, IsLawful}
-use Rattle.sock_tcp.specs.Begin.{last_ts_set, last_ts_set_at, told_ready, readied, retransmission_begun, fast_retransmission_marked, after_timer, after_timers, is_paused, begun, begun_to, unless_paused, ended, by_due, before_emit, before_emit_to, peer_of}
+use Rattle.sock_tcp.specs.Begin.{last_ts_set, last_ts_set_at, told_ready, readied, retransmission_begun, fast_retransmission_marked, after_timer, after_timers, begun, begun_to, unless_paused, ended, by_due, before_emit, before_emit_to, peer_of}
 use Rattle.sock_tcp.specs.Content.{asked, carries_data, data_control, filled, is_probing, offset_of, plain_segment, size_of, window_left, with_data}
 use Rattle.sock_tcp.specs.Due.{congestion_left, effective_mss, flight, ip_header_len, is_closing, is_due, is_opening, sendable, timestamp_room, window_field}
 use Rattle.sock_tcp.specs.Opening.{renewed}

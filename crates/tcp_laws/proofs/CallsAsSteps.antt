@@ -1,5 +1,5 @@
 -- The calls with closures in the words of the law on lists of calls.
-use Rattle.std.proofs.Common.{◌≡◌, ℕ, List, Bool, true, false, Option, Some, None, refl}
+use Rattle.std.proofs.Common.{ℕ, List, Bool, true, false, Option, Some, None, refl}
 use Rattle.std.specs.Prelude.{Result, Ok, Err, is_ok, option_map}
 use Rattle.sock_core.specs.Emission.{Emits}
 use Rattle.sock_core.specs.Facts.{Facts}

@@ -1,6 +1,6 @@
 -- What each step of a call keeps is kept by any list of calls.
-use Rattle.std.proofs.Common.{◌≡◌, ℕ, zero, suc, ◌≤◌, ◌<◌, ◌^◌, Bool, true, false, true≢false, ◌&&◌, refl, sym, ap, subst, ◌∙◌, List, [], length, ◌+◌, Option, Some, None, Result, Ok, Err, arith}
-use Rattle.std.specs.Prelude.{if◌then◌else◌, ◌==◌, int_lt, pos}
+use Rattle.std.proofs.Common.{◌≡◌, ℕ, zero, suc, ◌≤◌, ◌<◌, ◌^◌, Bool, true, false, true≢false, refl, sym, ap, subst, ◌∙◌, List, length, ◌+◌, Option, Some, None, Result, Ok, Err, arith}
+use Rattle.std.specs.Prelude.{if◌then◌else◌, ◌==◌, pos}
 use Rattle.std.specs.Option.{ForSome}
 use Rattle.std.proofs.lemmas.Bool.{eqb-true}
 use Rattle.ip_wire.specs.declared.endpoint.IpListenEndpoint.{IpListenEndpoint}
@@ -9,36 +9,25 @@ use Rattle.net_base.specs.Ring.{Ring}
 use Rattle.net_base.specs.declared.time.Duration.{Duration}
 use Rattle.net_base.specs.declared.time.Instant.{Instant}
 use Rattle.control_wire.specs.Segment.{Segment}
-use Rattle.control_wire.specs.declared.seq_number.TcpSeqNumber.{TcpSeqNumber}
-use Rattle.control_wire.specs.declared.tcp.TcpControl.{TcpControl}
-use Rattle.control_wire.specs.declared.tcp.TcpControl.TheVariants as control
 use Rattle.sock_core.specs.Congestion.{post_transmitted}
 use Rattle.sock_core.specs.Estimator.{sent}
 use Rattle.sock_core.specs.Facts.{Facts}
-use Rattle.sock_core.specs.Received.{makes_fifth_range, holds_nothing, receiving}
+use Rattle.sock_core.specs.Received.{receiving}
 use Rattle.sock_tcp.proofs.Lending.{free_within}
 pub use Rattle.sock_tcp.proofs.KeptSegments.{acked_view, timer_then, heard_kept, KeptByAnswers, challenged_kept, outside_kept, bytes_kept, KeptByRows, rows_kept, KeptBySegments, process_kept}
-use Rattle.sock_tcp.specs.Acked.{acked_of}
-use Rattle.sock_tcp.specs.Advance.{advance_in, advanced, counted_control, dropped, fallen_back, fin_counted, moved_to, syn_answered, syn_received, waiting}
+use Rattle.sock_tcp.specs.Advance.{waiting}
 use Rattle.sock_tcp.specs.Begin.{last_ts_set, last_ts_set_at, told_ready, readied, retransmission_begun, fast_retransmission_marked, after_timer, after_timers, begun, begun_to, unless_paused, ended, nothing_due, by_due, before_emit, before_emit_to, peer_of}
 use Rattle.sock_tcp.specs.Closing.{aborted, closed}
 use Rattle.sock_tcp.specs.Content.{Sending}
 use Rattle.sock_tcp.specs.Due.{is_due}
 use Rattle.sock_tcp.specs.Opening.{Listens, after_connect, connected, endpoints, is_listening, is_open, listened, renewed}
 use Rattle.sock_tcp.specs.Polls.{is_reached, timeout_poll}
-use Rattle.sock_tcp.specs.Process.{stopped, ack_sent, challenged, close_restarted, outside_by, outside, gap_answered, bytes_taken, tuple_of, after_advance, processed_inside, has_window, cut_inside, by_verdict, processed_by}
+use Rattle.sock_tcp.specs.Process.{processed_by}
 use Rattle.sock_tcp.specs.Queue.{queue_of}
 use Rattle.sock_tcp.specs.Queues.{ReadsWithIf, SendsWithIf, fitting, may_recv, may_send, queued, read_off, readable}
-use Rattle.sock_tcp.specs.Replies.{ack_kept}
 use Rattle.sock_tcp.specs.Sent.{after_any, after_kind, after_probe, after_sending, emitted_as, left_by, sending_timed, snd_nxt_moved}
-use Rattle.sock_tcp.specs.Steps.{ack_delayed, ack_heard, acknowledged, heard, is_duplicate, is_window_changed, joined, released, timer_set, timestamp_taken, window_taken}
-use Rattle.sock_tcp.specs.Timers.{after, challenge_interval, is_close_over, is_over, retransmit_unless_set}
-use Rattle.sock_tcp.specs.Verdict.{verdict_of}
+use Rattle.sock_tcp.specs.Timers.{after, is_close_over, is_over, retransmit_unless_set}
 use Rattle.sock_tcp.specs.View.{View, fresh, moment_of}
-use Rattle.sock_tcp.specs.Window.{receive_window, is_inside, cut_of}
-use Rattle.sock_tcp.specs.declared.acked.Acked.{Acked}
-use Rattle.sock_tcp.specs.declared.advance.Next.{Next}
-use Rattle.sock_tcp.specs.declared.advance.Next.TheVariants as next
 use Rattle.sock_tcp.specs.declared.emission.Emitted.{Emitted}
 use Rattle.sock_tcp.specs.declared.emission.Kind.{Kind}
 use Rattle.sock_tcp.specs.declared.emission.Kind.TheVariants as kind
@@ -51,8 +40,6 @@ use Rattle.sock_tcp.specs.declared.state.State.TheVariants as state
 use Rattle.sock_tcp.specs.declared.timer.Timer.{Timer}
 use Rattle.sock_tcp.specs.declared.timer.Timer.TheVariants as timer
 use Rattle.sock_tcp.specs.declared.tuple.Tuple.{Tuple}
-use Rattle.sock_tcp.specs.declared.verdict.Verdict.{Verdict}
-use Rattle.sock_tcp.specs.declared.verdict.Verdict.TheVariants as verdicts
 use Rattle.tcp_laws.specs.Clocks.{interval_in, interval_set, latest, moment_in}
 use Rattle.tcp_laws.specs.Polling.{IsReached}
 use Rattle.tcp_laws.specs.SocketRun.{Counts, IsNumbered, Run, SendsTo, Sets, Step, any_filling, any_taking}

@@ -1,5 +1,5 @@
 -- The payload of a segment stands at its number.
-use Rattle.std.proofs.Common.{◌≡◌, ℕ, ◌+◌, ◌<◌, ◌^◌, ◌⊎◌, inl, inr, List, [], Bool, true, false, Option, Some, None, is_some, refl, sym, subst, ◌∙◌, ap, drop, take, length, arith}
+use Rattle.std.proofs.Common.{◌≡◌, ℕ, ◌+◌, ◌<◌, ◌^◌, ◌⊎◌, inl, inr, List, [], Bool, true, false, Option, Some, None, refl, sym, subst, ◌∙◌, ap, drop, take, length, arith}
 use Rattle.std.specs.Prelude.{option_map, if◌then◌else◌}
 use Rattle.std.proofs.lemmas.List.{drop-drop}
 use Rattle.std.proofs.lemmas.Option.{none-some, same_Some}

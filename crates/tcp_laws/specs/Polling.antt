@@ -1,5 +1,5 @@
 -- What is promised of `poll_at` and of the payload of a dispatch.
-use Rattle.std.specs.Prelude.{◌≡◌, ℕ, ◌+◌, ◌≤◌, ◌<◌, ◌^◌, ◌⊎◌, ◌≤ℤ◌, length, Option, Some, None, is_some, Bool, true}
+use Rattle.std.specs.Prelude.{◌≡◌, ℕ, ◌+◌, ◌≤◌, ◌<◌, ◌^◌, ◌⊎◌, ◌≤ℤ◌, length, Option, Some, None, true}
 use Rattle.std.specs.Prelude.{false, List}
 use Rattle.net_base.specs.Ring.{Ring}
 use Rattle.net_base.specs.declared.time.Duration.{Duration}

@@ -1,5 +1,5 @@
 -- When a dispatch sends bytes or a FIN.
-use Rattle.std.specs.Prelude.{◌≡◌, ◌<◌, Some, is_some, Bool, true, false}
+use Rattle.std.specs.Prelude.{◌≡◌, ◌<◌, Some, true, false}
 use Rattle.net_base.specs.declared.time.Instant.{Instant}
 use Rattle.control_wire.specs.Segment.{segment_len}
 use Rattle.sock_core.specs.Facts.{Facts, IsLawful}

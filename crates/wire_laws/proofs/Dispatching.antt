@@ -1,5 +1,5 @@
 -- What a dispatch emits survives the wire.
-use Rattle.std.proofs.Common.{ℕ, Option, Some, None, is_some}
+use Rattle.std.proofs.Common.{ℕ, Option, Some, None}
 use Rattle.std.specs.Prelude.{Result}
 use Rattle.std.proofs.lemmas.Option.{none-some}
 use Rattle.ip_wire.specs.declared.repr.IpRepr.{IpRepr}

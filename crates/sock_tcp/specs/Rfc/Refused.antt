@@ -7,7 +7,7 @@ use Rattle.control_wire.specs.declared.seq_number.TcpSeqNumber.{TcpSeqNumber}
 use Rattle.control_wire.specs.declared.tcp.TcpControl.{TcpControl}
 use Rattle.control_wire.specs.declared.tcp.TcpControl.TheVariants as control
 use Rattle.sock_core.specs.Received.{room_of}
-use Rattle.sock_core.specs.Seq.{is_before, is_not_after}
+use Rattle.sock_core.specs.Seq.{is_not_after}
 use Rattle.sock_tcp.specs.Arrival.{Arrival}
 use Rattle.sock_tcp.specs.Inside.{Outcome, acked_by, outside, processed_inside, stopped}
 use Rattle.sock_tcp.specs.View.{View}

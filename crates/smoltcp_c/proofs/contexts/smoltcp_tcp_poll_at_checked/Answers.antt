@@ -1,8 +1,8 @@
-use Rattle.std.proofs.Common.{◌≡◌, is_some, true, false, refl, rules, ◌∙◌, to_z, of_z, w64}
+use Rattle.std.proofs.Common.{◌≡◌, true, false, refl, rules, ◌∙◌, to_z, of_z, w64}
 use Rattle.sock_tcp.specs.Poll.{poll_moment}
 use Rattle.smoltcp_c.specs.Context.{facts_in}
 use Rattle.smoltcp_c.specs.Packets.{poll_answer, poll_written}
-use Rattle.smoltcp_c.specs.Tcp.{clock, view}
+use Rattle.smoltcp_c.specs.Tcp.{view}
 use Rattle.smoltcp_c.proofs.contexts.smoltcp_tcp_poll_at_checked.Goals as goal
 
 pub returns-clause-told : goal.returns-clause-told
