@@ -1,5 +1,5 @@
 -- What each event keeps of the addresses: each side's peer is the other side, and segments go from the one to the other.
-use Rattle.std.proofs.Common.{◌≡◌, ℕ, Bool, true, false, refl, sym, ap, subst, ◌∙◌, List, [], ◌∷◌, ◌++◌, Option, Some, None, ⊎_elim, is_some}
+use Rattle.std.proofs.Common.{◌≡◌, ℕ, Bool, true, false, refl, sym, ap, subst, ◌∙◌, List, [], ◌∷◌, ◌++◌, Option, Some, None, ⊎_elim}
 use Rattle.std.specs.Prelude.{option_map, slice_get, zero, suc, if◌then◌else◌}
 use Rattle.ip_wire.specs.Address.{SameVersion}
 use Rattle.ip_wire.specs.IpHeader.{ip_header, src_addr_of, dst_addr_of}
@@ -14,11 +14,9 @@ use Rattle.control_wire.specs.declared.tcp.TcpControl.{TcpControl}
 use Rattle.control_wire.specs.declared.tcp.TcpTimestampRepr.{TcpTimestampRepr}
 use Rattle.sock_core.specs.Facts.{Facts}
 use Rattle.tcp_laws.proofs.Frames.{GoesBack}
-use Rattle.sock_tcp.specs.Begin.{after_timers, before_emit, before_emit_to, begun, begun_to, by_due, ended, readied, unless_paused}
+use Rattle.sock_tcp.specs.Begin.{before_emit, peer_of}
 use Rattle.sock_tcp.specs.Content.{Sending, content, filled, emission_kind, of_kind, plain_segment, sent_as}
-use Rattle.sock_tcp.specs.Due.{is_due}
 use Rattle.tcp_laws.specs.Laws.{IsPeered}
-use Rattle.sock_tcp.specs.Opening.{renewed}
 use Rattle.sock_tcp.specs.Process.{AcceptsIn, IsAddressed, tuple_of}
 use Rattle.sock_tcp.specs.Replies.{Answers, with_header}
 use Rattle.sock_tcp.specs.View.{View, moment_of}
@@ -27,6 +25,7 @@ use Rattle.sock_tcp.specs.declared.emission.Kind.TheVariants as kind
 use Rattle.sock_tcp.specs.declared.state.State.{State}
 use Rattle.sock_tcp.specs.declared.state.State.TheVariants as state
 use Rattle.sock_tcp.specs.declared.tuple.Tuple.{Tuple}
+use Rattle.pair_core.proofs.DispatchKeeps.{before_emit_keeps}
 use Rattle.pair_core.specs.Holding.{kept_at}
 use Rattle.pair_core.specs.PairAddresses.{AllGo, GoesFrom}
 use Rattle.pair_core.specs.PairSteps.{stored_at}
@@ -93,31 +92,10 @@ module _ (ends : Side → IpEndpoint) (s : Side) (t : StoredView) (version : Sam
 the_tuple : {a b : Tuple} → Some a ≡ Some b → a ≡ b
 the_tuple e = cc
 
--- the peer of a dispatch is the socket's
-module _ (v : View) (f : Facts) (stamps : Bool) (t : Tuple) where
-  paused_peer : (w : View) (u : Tuple) (b : Bool) → (if b then None else Some u) ≡ Some t → Some u ≡ Some t
-  paused_peer w u true e = let no : None ≡ Some t = e in cc
-  paused_peer w u false e = e
-
-  due_peer : (b : Bool) (w : View) (u : Tuple) → (by_due b w u f).peer ≡ Some t → Some u ≡ Some t
-  due_peer true w u e = e
-  due_peer false w u e = let no : None ≡ Some t = e in cc
-
-  begun_peer : (o : Option Tuple) → (begun_to o v f).peer ≡ Some t → o ≡ Some t
-  begun_peer None e = e
-  begun_peer (Some u) e = go (f.has_address u.local.addr) e
-    where
-      go : (b : Bool) → (if b then unless_paused (after_timers (readied v (moment_of f)) (moment_of f)) u else ended (renewed v)).peer ≡ Some t → Some u ≡ Some t
-      go true e = paused_peer v u _ e
-      go false e = let no : None ≡ Some t = e in cc
-
-  reasons_peer : (o : Option Tuple) (w : View) → (before_emit_to o w f stamps).peer ≡ Some t → o ≡ Some t
-  reasons_peer None w e = e
-  reasons_peer (Some u) w e = due_peer (is_due w u f stamps) w u e
-
-  peer_is : (before_emit v f stamps).peer ≡ Some t → v.tuple ≡ Some t
-  unfolding before_emit begun
-  peer_is e = begun_peer v.tuple (reasons_peer (begun v f).peer (begun v f).view e)
+-- a dispatch goes on to the socket's peer
+peer_is : (goes_on : Bool) (o : Option Tuple) (t : Tuple) → (if goes_on then o else None) ≡ Some t → o ≡ Some t
+peer_is true o t e = e
+peer_is false o t e = let no : None ≡ Some t = e in cc
 
 peered : (st : State) (o : Option Tuple) (t u : Tuple) → IsPeered st o u → o ≡ Some t → t ≡ u
 peered state.Closed o t u p e = ⊎_elim (λ h. let no : None ≡ Some t = sym h ∙ e in cc) (λ h. the_tuple (sym e ∙ h)) p
@@ -197,17 +175,17 @@ module _ (ends : Side → IpEndpoint) (s : Side) (released taken : ℕ) where
 
   pub dispatch_goes : {G : Type 0} (tells : G → ℕ → Type 0) (source : Option G) (v w : View) (f : Facts) (fail : Bool) (r : Sent) → SameVersion (ends s).addr (ends (other_side s)).addr → IsPeered v.state v.tuple (record { local = ends s; remote = ends (other_side s) }) → SocketDispatches tells source v f fail r w → AllGo ends (stored_at s r released taken)
   unfolding SocketDispatches
-  dispatch_goes tells source v w f fail r version p d = go (before_emit v f (is_some source)).peer refl d
+  dispatch_goes tells source v w f fail r version p d = go (peer_of (before_emit v f)) refl d
     where
       u : View
-      u = (before_emit v f (is_some source)).view
+      u = (before_emit v f).view
 
-      to : (t : Tuple) → (before_emit v f (is_some source)).peer ≡ Some t → SendsTo tells source u t f fail r w → AllGo ends (stored_at s r released taken)
+      to : (t : Tuple) → peer_of (before_emit v f) ≡ Some t → SendsTo tells source u t f fail r w → AllGo ends (stored_at s r released taken)
       to t e d =
-          let is = peered v.state v.tuple t _ p (peer_is v f (is_some source) t e) in
+          let is = peered u.state u.tuple t _ ((before_emit_keeps v f).peer _ p) (peer_is (before_emit v f).goes_on u.tuple t e) in
           recorded_goes u t f d.stamp d.bytes fail (content u t f d.stamp d.bytes) r (subst (λ (z : Tuple). SameVersion z.local.addr z.remote.addr) (sym is) version) is refl d.records
 
-      go : (o : Option Tuple) → (before_emit v f (is_some source)).peer ≡ o → SendsFrom tells source o u f fail r w → AllGo ends (stored_at s r released taken)
+      go : (o : Option Tuple) → peer_of (before_emit v f) ≡ o → SendsFrom tells source o u f fail r w → AllGo ends (stored_at s r released taken)
       go None e d = subst (λ z. AllGo ends (stored_at s z released taken)) (sym d.0) tt
       go (Some t) e d = to t e d
 

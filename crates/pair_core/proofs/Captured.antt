@@ -1,6 +1,6 @@
 -- From the one call of `emit` to what a host records of a dispatch.
-use Rattle.std.proofs.Common.{◌≡◌, ℕ, ◌+◌, ◌<◌, ◌≤◌, List, [], ◌++◌, length, min, max, Bool, true, false, Option, Some, None, refl, sym, ◌∙◌, ap, subst, arith, is_some}
-use Rattle.std.specs.Prelude.{Result, Ok, Err, OnOk, OnErr, is_ok, is_some, not, IsTrue, vec_len, vec_capacity, if◌then◌else◌, option_map, IsSomeAnd}
+use Rattle.std.proofs.Common.{◌≡◌, ℕ, ◌+◌, ◌<◌, ◌≤◌, List, [], ◌++◌, length, min, max, Bool, true, false, Option, Some, None, refl, sym, ◌∙◌, ap, subst, arith}
+use Rattle.std.specs.Prelude.{Result, Ok, Err, OnOk, OnErr, is_ok, not, IsTrue, vec_len, vec_capacity, if◌then◌else◌, option_map, IsSomeAnd}
 use Rattle.std.proofs.lemmas.Option.{none-some, same_Some}
 use Rattle.std.specs.Borrow.{MutBor}
 use Rattle.std.specs.Option.{ForSome}
@@ -14,7 +14,7 @@ use Rattle.sock_core.specs.Facts.{Facts}
 use Rattle.sock_tcp.proofs.Lending.{lent_at_most}
 use Rattle.sock_tcp.specs.Queue.{IsLent}
 use Rattle.sock_tcp.specs.View.{View, fresh, moment_of}
-use Rattle.sock_tcp.specs.Begin.{before_emit, fast_retransmission_marked, retransmission_begun}
+use Rattle.sock_tcp.specs.Begin.{before_emit, fast_retransmission_marked, retransmission_begun, peer_of}
 use Rattle.sock_tcp.specs.Opening.{renewed}
 use Rattle.tcp_laws.proofs.Kept.{before_kept}
 use Rattle.sock_tcp.specs.Due.{congestion_left, effective_mss}
@@ -59,24 +59,24 @@ content_len v t f stamp bytes n h one s e = go (filled v.state v t f bytes (plai
         let q : sent_as v t (emission_kind v (moment_of f) x) x ≡ s = same_Some (sent_as v t (emission_kind v (moment_of f) x) x) s e in
         subst (λ (y : Sending). length y.segment.payload ≤ n) q (kind_len v (moment_of f) x n (omega (arith, le, h)) one)
 
-asked_len : (v : View) (t : Tuple) (f : Facts) (stamps : Bool) → asked v t f stamps ≤ f.mtu
+asked_len : (v : View) (t : Tuple) (f : Facts) → asked v t f ≤ f.mtu
 unfolding asked
-asked_len v t f stamps = go (carries_data v.state) v.pending_fast_retransmit (is_probing v (moment_of f))
+asked_len v t f = go (carries_data v.state) v.pending_fast_retransmit (is_probing v (moment_of f))
   where
-    go : (a b p : Bool) → (if a then (if b then effective_mss v t f stamps else (if p then min 1 (effective_mss v t f stamps) else min (min (window_left v) (effective_mss v t f stamps)) (congestion_left v))) else 0) ≤ f.mtu
+    go : (a b p : Bool) → (if a then (if b then effective_mss v t f else (if p then min 1 (effective_mss v t f) else min (min (window_left v) (effective_mss v t f)) (congestion_left v))) else 0) ≤ f.mtu
     go true true p = omega arith
     go true false true = omega arith
     go true false false = omega arith
     go false b p = omega arith
 
-pub payload_at_most : (v : View) (t : Tuple) (f : Facts) (stamp : Option ℕ) (bytes : List ℕ) (s : Sending) → 1 ≤ f.mtu → IsLent v.tx_buffer (offset_of v) (asked v t f (is_some stamp)) bytes → content v t f stamp bytes ≡ Some s → length s.segment.payload ≤ min f.mtu (max 1 (length v.tx_buffer.bytes))
-payload_at_most v t f stamp bytes s one lent e = content_len v t f stamp bytes (min f.mtu (max 1 (length v.tx_buffer.bytes))) (omega (arith, asked_len v t f (is_some stamp), lent_at_most v.tx_buffer (offset_of v) (asked v t f (is_some stamp)) bytes lent)) (omega (arith, one)) s e
+pub payload_at_most : (v : View) (t : Tuple) (f : Facts) (stamp : Option ℕ) (bytes : List ℕ) (s : Sending) → 1 ≤ f.mtu → IsLent v.tx_buffer (offset_of v) (asked v t f) bytes → content v t f stamp bytes ≡ Some s → length s.segment.payload ≤ min f.mtu (max 1 (length v.tx_buffer.bytes))
+payload_at_most v t f stamp bytes s one lent e = content_len v t f stamp bytes (min f.mtu (max 1 (length v.tx_buffer.bytes))) (omega (arith, asked_len v t f, lent_at_most v.tx_buffer (offset_of v) (asked v t f) bytes lent)) (omega (arith, one)) s e
 
 -- a dispatch finds no more bytes queued when it emits than when it begins
-queue_at_most : (v : View) (f : Facts) (stamps : Bool) (n : ℕ) → length v.tx_buffer.bytes ≤ n → length (before_emit v f stamps).view.tx_buffer.bytes ≤ n
+queue_at_most : (v : View) (f : Facts) (n : ℕ) → length v.tx_buffer.bytes ≤ n → length (before_emit v f).view.tx_buffer.bytes ≤ n
 unfolding retransmission_begun fast_retransmission_marked renewed fresh
-queue_at_most v f stamps n h =
-    before_kept (λ w. length w.tx_buffer.bytes ≤ n) f stamps
+queue_at_most v f n h =
+    before_kept (λ w. length w.tx_buffer.bytes ≤ n) f
     (record { remembers = λ w k. k; tells = λ w k. k; times_out = λ w k. k; begins_again = λ w at e k. k; marks = λ w e k. k })
     (λ w k. omega arith) v h
 
@@ -139,24 +139,24 @@ module _ {F : Type 0} (g : Once F (MutBor Capture × ((IpRepr × TcpRepr) × Uni
 
   pub socket_dispatched : {G : Type 0} (tells : G → ℕ → Type 0) (clock : Option G) (c c' : Capture) (v new : View) (facts : Facts) (r : Result (Unit {0}) EmitFailed) → IsReady c → 1 ≤ facts.mtu → min facts.mtu (max 1 (length v.tx_buffer.bytes)) ≤ mtu → Dispatches g f facts tells clock v c r new c' → SocketDispatches tells clock v facts fail (sent_of r c') new
   unfolding Dispatches SocketDispatches
-  socket_dispatched tells clock c c' v new facts r ready one small h = to (before_emit v facts (is_some clock)).peer h
+  socket_dispatched tells clock c c' v new facts r ready one small h = to (peer_of (before_emit v facts)) h
     where
       w : View
-      w = (before_emit v facts (is_some clock)).view
+      w = (before_emit v facts).view
 
       quiet : (u : View) → r ≡ Ok tt → c' ≡ c → new ≡ u → (sent_of r c' ≡ sent.Quiet)
       quiet u a b d = ap (λ x. sent_of x c') a ∙ ap (λ x. sent_with x c'.payload) (ap (λ x. x.header) b ∙ ready.header)
 
       to : (o : Option Tuple) → EmitsTo g f facts tells clock o w c r new c' → SendsFrom tells clock o w facts fail (sent_of r c') new
       to None q = (quiet w q.answer q.context q.view, q.view)
-      to (Some t) x = record { stamp = x.stamp; told = x.told; bytes = d.bytes; lent = d.lent; records = (both (content w t facts x.stamp d.bytes) refl d.emits d.view).0; view = (both (content w t facts x.stamp d.bytes) refl d.emits d.view).1; fits = d.fits }
+      to (Some t) x = record { stamp = x.stamp; told = x.told; stamped = d.stamped; bytes = d.bytes; lent = d.lent; records = (both (content w t facts x.stamp d.bytes) refl d.emits d.view).0; view = (both (content w t facts x.stamp d.bytes) refl d.emits d.view).1; fits = d.fits }
         where
           d : EmitsDue g f facts t x.stamp w c r new c'
           d = x.emits
 
           both : (o : Option Sending) → content w t facts x.stamp d.bytes ≡ o → Emits g packet_of f (option_map packet_in o) c r c' → new ≡ left_by o w (moment_of facts) (is_ok r) → Records fail o (sent_of r c') × (new ≡ left_by o w (moment_of facts) (not fail))
           both None z e y = (quiet w e.0 e.1 y, y)
-          both (Some s) z e y = emitted c c' s w new (moment_of facts) r ready (omega (arith, small, queue_at_most v facts (is_some clock) (length v.tx_buffer.bytes) (omega arith), payload_at_most w t facts x.stamp d.bytes s one d.lent z)) e y
+          both (Some s) z e y = emitted c c' s w new (moment_of facts) r ready (omega (arith, small, queue_at_most v facts (length v.tx_buffer.bytes) (omega arith), payload_at_most w t facts x.stamp d.bytes s one d.lent z)) e y
 
 -- ---- what is stored of a dispatch fits a packet
 
@@ -177,7 +177,7 @@ sent_fits tells source (Some t) v w f fail r d = recorded_fits fail (content v t
 
 pub dispatch_fits : {G : Type 0} (tells : G → ℕ → Type 0) (source : Option G) (v w : View) (f : Facts) (fail : Bool) (r : Sent) → SocketDispatches tells source v f fail r w → FitsSent r
 unfolding SocketDispatches
-dispatch_fits tells source v w f fail r d = sent_fits tells source (before_emit v f (is_some source)).peer (before_emit v f (is_some source)).view w f fail r d
+dispatch_fits tells source v w f fail r d = sent_fits tells source (peer_of (before_emit v f)) (before_emit v f).view w f fail r d
 
 -- a reply's header
 pub reply_fits : (h : Header) (ip : IpRepr) (s : Segment) → IsHeaderOf h ip s → s.payload ≡ [] → FitsPacket ip s → FitsPacket h.ip_repr (segment_at h [])

@@ -1,9 +1,9 @@
 -- What a dispatch leaves alone: where the socket listens, unless it is CLOSED then, and its peer.
-use Rattle.std.proofs.Common.{Bool, refl, sym, subst, ◌∙◌, Option, Some, None, inl, inr, is_some, ℕ}
+use Rattle.std.proofs.Common.{Bool, refl, sym, subst, ◌∙◌, Option, Some, None, inl, inr, ℕ}
 use Rattle.std.specs.Prelude.{not, if◌then◌else◌}
 use Rattle.net_base.specs.declared.time.Instant.{Instant}
 use Rattle.sock_core.specs.Facts.{Facts}
-use Rattle.sock_tcp.specs.Begin.{retransmission_begun, fast_retransmission_marked, before_emit}
+use Rattle.sock_tcp.specs.Begin.{retransmission_begun, fast_retransmission_marked, before_emit, peer_of}
 use Rattle.sock_tcp.specs.Content.{content}
 use Rattle.sock_tcp.specs.Due.{is_closed}
 use Rattle.sock_tcp.specs.Opening.{renewed}
@@ -50,8 +50,8 @@ beginnings_keep v now = record {
   marks = λ w e k. record { listener = k.listener; peer = k.peer };
 }
 
-before_emit_keeps : (v : View) (f : Facts) (stamps : Bool) → Keeps v (before_emit v f stamps).view
-before_emit_keeps v f stamps = before_kept (Keeps v) f stamps (beginnings_keep v (moment_of f)) (λ w k. in_turn v w (renewed w) k (reset_keeps w)) v (same v)
+pub before_emit_keeps : (v : View) (f : Facts) → Keeps v (before_emit v f).view
+before_emit_keeps v f = before_kept (Keeps v) f (beginnings_keep v (moment_of f)) (λ w k. in_turn v w (renewed w) k (reset_keeps w)) v (same v)
 
 -- ---- the emit
 
@@ -72,7 +72,7 @@ sending_keeps v now = record {
 
 pub keeps_in_dispatch : {G : Type 0} (tells : G → ℕ → Type 0) (source : Option G) (v w : View) (f : Facts) (fail : Bool) (r : Sent) → SocketDispatches tells source v f fail r w → Keeps v w
 unfolding SocketDispatches
-keeps_in_dispatch tells source v w f fail r d = in_turn v (before_emit v f (is_some source)).view w (before_emit_keeps v f (is_some source)) (from (before_emit v f (is_some source)).peer (before_emit v f (is_some source)).view d)
+keeps_in_dispatch tells source v w f fail r d = in_turn v (before_emit v f).view w (before_emit_keeps v f) (from (peer_of (before_emit v f)) (before_emit v f).view d)
   where
     from : (peer : Option Tuple) (u : View) → SendsFrom tells source peer u f fail r w → Keeps u w
     from None u d = subst (Keeps u) (sym d.1) (same u)

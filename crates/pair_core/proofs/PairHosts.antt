@@ -7,7 +7,7 @@ use Rattle.sock_core.specs.Facts.{Facts}
 use Rattle.sock_core.specs.Received.{Received}
 use Rattle.sock_tcp.specs.Queue.{Queue}
 use Rattle.sock_tcp.specs.View.{View, fresh}
-use Rattle.sock_tcp.specs.Begin.{Begun, begun, begun_to, before_emit, before_emit_to, ended}
+use Rattle.sock_tcp.specs.Begin.{Begun, begun, begun_to, before_emit, before_emit_to, ended, peer_of}
 use Rattle.sock_tcp.specs.Process.{Accepts, AcceptsIn, tuple_of}
 use Rattle.sock_tcp.specs.Closing.{closed, aborted, closed_from}
 use Rattle.sock_tcp.specs.Queues.{may_send, may_recv, queued, read_off, receives, can_recv}
@@ -46,7 +46,7 @@ use Rattle.pair_core.proofs.Addresses.{tuple_is}
 use Rattle.pair_core.proofs.DispatchKeeps.{Keeps, closed_peer, keeps_in_dispatch}
 use Rattle.pair_core.proofs.PairListeners.{aborted_listens, closed_listens, connected_active, listened_passive, passive_kept, process_listens, queued_listens, read_listens, KeepsListener}
 use Rattle.pair_core.proofs.PairAmounts.{takes_some, hands_some}
-use Rattle.pair_core.proofs.SocketCalls.{abort_call, called_reached, close_call, connect_call, dispatch_call, listen_call, process_call, recv_call, send_call, set_call}
+use Rattle.pair_core.proofs.SocketCalls.{abort_call, called_reached, close_call, connect_call, dispatch_call, listen_call, process_call, recv_call, send_call, set_call, source_call}
 
 -- a host that is one still, on the same endpoint
 pub record StaysHost {G : Type 0} (remote : IpEndpoint) (h k : HostView G) : Type 0 where
@@ -166,13 +166,13 @@ call_stays (call.Set s) h k o i e = set_stays h k s o i e
 
 -- ---- dispatches and deliveries
 
-pub no_peer_readies : (v : View) (f : Facts) (stamps : Bool) → v.tuple ≡ None → before_emit v f stamps ≡ ended v
+pub no_peer_readies : (v : View) (f : Facts) → v.tuple ≡ None → before_emit v f ≡ ended v
 unfolding before_emit begun
-no_peer_readies v f stamps e = ap (λ (b : Begun). before_emit_to b.peer b.view f stamps) (ap (λ o. begun_to o v f) e)
+no_peer_readies v f e = ap (λ (b : Begun). before_emit_to (peer_of b) b.view f) (ap (λ o. begun_to o v f) e)
 
 pub idle_dispatches : {G : Type 0} (tells : G → ℕ → Type 0) (source : Option G) (v w : View) (f : Facts) (fail : Bool) (r : Sent) → v.tuple ≡ None → SocketDispatches tells source v f fail r w → w ≡ v
 unfolding SocketDispatches
-idle_dispatches tells source v w f fail r e d = (subst (λ (b : Begun). SendsFrom tells source b.peer b.view f fail r w) (no_peer_readies v f (is_some source) e) d).1
+idle_dispatches tells source v w f fail r e d = (subst (λ (b : Begun). SendsFrom tells source (peer_of b) b.view f fail r w) (no_peer_readies v f e) d).1
 
 pub dispatch_stays : {remote : IpEndpoint} {G : Type 0} (tells : G → ℕ → Type 0) (s : Side) (m : Moment) (fail : Bool) (o : Outcome) (h k : HostView G) (ts ts' : List StoredView) → IsHost h → Dispatches tells s m fail o h ts k ts' → StaysHost remote h k
 dispatch_stays {remote} tells s m fail o h k ts ts' i d =
@@ -262,16 +262,16 @@ host_at B p i = i.b
 
 -- ---- a new pair
 
-new_idle : (rx : Received) (tx : Queue) → rx.bytes ≡ [] → tx.bytes ≡ [] → IsIdle (fresh rx tx)
+new_idle : (rx : Received) (tx : Queue) (is_there : Bool) → rx.bytes ≡ [] → tx.bytes ≡ [] → IsIdle (record (fresh rx tx) { stamps = is_there })
 unfolding fresh
-new_idle rx tx r t = record { state = refl; tuple = refl; rx = r; tx = t; no_fin = refl }
+new_idle rx tx is_there r t = record { state = refl; tuple = refl; rx = r; tx = t; no_fin = refl }
 
 new_peer : (rx : Received) (tx : Queue) (t : Tuple) → IsPeered (fresh rx tx).state (fresh rx tx).tuple t
 unfolding fresh
 new_peer rx tx t = inl refl
 
 new_is_host : {G : Type 0} (rx : Received) (tx : Queue) (e : IpEndpoint) (x : Option G) → rx.bytes ≡ [] → tx.bytes ≡ [] → IsReachable e → IsReached (fresh rx tx) → IsHost (new_host (fresh rx tx) e x)
-new_is_host rx tx e x r t i c = record { reachable = i; idle = λ u. new_idle rx tx r t; passive = λ shut live. absurd (shut refl); reached = c }
+new_is_host rx tx e x r t i c = record { reachable = i; idle = λ u. new_idle rx tx (is_some x) r t; passive = λ shut live. absurd (shut refl); reached = called_reached (fresh rx tx) _ (source_call (fresh rx tx) (is_some x)) c }
 
 pub new_is_pair : {G : Type 0} (arx : Received) (atx : Queue) (brx : Received) (btx : Queue) (a b : IpEndpoint) (x y : Option G) (limit : Option ℕ) (ha hb : HostView G) (ts : List StoredView) → ha ≡ new_host (fresh arx atx) a x → hb ≡ new_host (fresh brx btx) b y → ts ≡ [] → arx.bytes ≡ [] → atx.bytes ≡ [] → brx.bytes ≡ [] → btx.bytes ≡ [] → IsReachable a → IsReachable b → IsReached (fresh arx atx) → IsReached (fresh brx btx) → SameVersion a.addr b.addr → IsLimit limit → IsPair (record { a = ha; b = hb; segments = ts; limit = limit })
 new_is_pair arx atx brx btx a b x y limit ha hb ts ea eb et r1 t1 r2 t2 ia ib ca cb v l =

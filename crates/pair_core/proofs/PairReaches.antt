@@ -1,5 +1,5 @@
 -- Each event of a pair is a run of steps of the theorem on two streams.
-use Rattle.std.proofs.Common.{◌≡◌, ℕ, ◌+◌, ◌<◌, ◌≤◌, ◌^◌, List, [], ◌∷◌, length, take, ◌++◌, Bool, true, false, Option, Some, None, refl, sym, ap, subst, ◌∙◌, arith, inl, inr, ◌⊎◌, length-append, length-take, is_some}
+use Rattle.std.proofs.Common.{◌≡◌, ℕ, ◌+◌, ◌<◌, ◌≤◌, ◌^◌, List, [], ◌∷◌, length, take, ◌++◌, Bool, true, false, Option, Some, None, refl, sym, ap, subst, ◌∙◌, arith, inl, inr, ◌⊎◌, length-append, length-take}
 use Rattle.std.specs.Prelude.{IsTrue, not, if◌then◌else◌, option_map, slice_get, Result, Ok, Err, IfOk, OnErr}
 use Rattle.std.proofs.lemmas.Bool.Decides.{nat_tests}
 use Rattle.std.proofs.lemmas.List.{append-nil}
@@ -12,7 +12,7 @@ use Rattle.sock_core.specs.Facts.{Facts}
 use Rattle.sock_tcp.specs.Queue.{capacity}
 use Rattle.sock_tcp.specs.View.{View, moment_of}
 use Rattle.sock_tcp.specs.Queues.{may_send, may_recv, queued}
-use Rattle.sock_tcp.specs.Begin.{Begun, before_emit}
+use Rattle.sock_tcp.specs.Begin.{Begun, before_emit, peer_of}
 use Rattle.sock_tcp.specs.Content.{Sending, content}
 use Rattle.sock_tcp.specs.Sent.{left_by}
 use Rattle.control_wire.specs.declared.tcp.TcpControl.{TcpControl}
@@ -207,14 +207,14 @@ module _ {G : Type 0} (s : Side) (h o : HostView G) (ks : List StoredView) (limi
   dispatches_as : (tells : G → ℕ → Type 0) (source : Option G) (w : View) (f : Facts) (fail : Bool) (r : Sent) → SocketDispatches tells source h.control_block f fail r w → IsInvariant (at_view h.control_block ks) → Reaches (at_view h.control_block ks) (at_view w (ks ++ stored_at s r h.released h.taken))
   unfolding SocketDispatches
   dispatches_as tells source w f fail r d i =
-      let u : View = (before_emit h.control_block f (is_some source)).view in
-      let begins : Reaches (at_view h.control_block ks) (at_view u ks) = begins_reach (at_view h.control_block ks) (shown u) (begun_shows h.control_block f (is_some source) (bounded s h b h.control_block o ks limit i)) in
-      reach_then _ (at_view u ks) _ begins (sends_from tells source (before_emit h.control_block f (is_some source)).peer u w f fail r d (reach_keeps _ _ begins i))
+      let u : View = (before_emit h.control_block f).view in
+      let begins : Reaches (at_view h.control_block ks) (at_view u ks) = begins_reach (at_view h.control_block ks) (shown u) (begun_shows h.control_block f (bounded s h b h.control_block o ks limit i)) in
+      reach_then _ (at_view u ks) _ begins (sends_from tells source (peer_of (before_emit h.control_block f)) u w f fail r d (reach_keeps _ _ begins i))
 
 -- a dispatch of a socket without a peer stores nothing
 idle_stores : {G : Type 0} (tells : G → ℕ → Type 0) (source : Option G) (v w : View) (f : Facts) (fail : Bool) (r : Sent) → v.tuple ≡ None → SocketDispatches tells source v f fail r w → r ≡ sent.Quiet
 unfolding SocketDispatches
-idle_stores tells source v w f fail r e d = (subst (λ (b : Begun). SendsFrom tells source b.peer b.view f fail r w) (no_peer_readies v f (is_some source) e) d).0
+idle_stores tells source v w f fail r e d = (subst (λ (b : Begun). SendsFrom tells source (peer_of b) b.view f fail r w) (no_peer_readies v f e) d).0
 
 dispatches_in : {G : Type 0} (tells : G → ℕ → Type 0) (source : Option G) (s : Side) (h o : HostView G) (ks : List StoredView) (limit : Option ℕ) (w : View) (f : Facts) (fail : Bool) (r : Sent) → SocketDispatches tells source h.control_block f fail r w → (e : Opening) → (e ≡ opening.Unopened → IsIdle h.control_block) → IsInvariant (network_at s (record h { opening = e }) o ks limit)
     → Reaches (network_at s (record h { opening = e }) o ks limit) (network_at s (record h { opening = e; control_block = w }) o (ks ++ stored_at s r h.released h.taken) limit)

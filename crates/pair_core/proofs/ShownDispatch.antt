@@ -1,6 +1,6 @@
 -- What a dispatch does to a socket, and what it emits, is allowed on the two streams.
 use Rattle.std.proofs.Common.{◌≡◌, ℕ, Bool, true, false, cond, refl, sym, ap, subst, ◌∙◌, arith, List, Option, Some, None, inl, inr}
-use Rattle.std.specs.Prelude.{◌==◌, is_some}
+use Rattle.std.specs.Prelude.{◌==◌}
 use Rattle.net_base.specs.declared.time.Instant.{Instant}
 use Rattle.control_wire.specs.Segment.{segment_len}
 use Rattle.control_wire.specs.Seq.{seq_add}
@@ -10,7 +10,7 @@ use Rattle.sock_core.specs.Places.{later_number}
 use Rattle.sock_core.specs.Received.{cleared}
 use Rattle.sock_core.specs.Seq.{later_of}
 use Rattle.sock_core.specs.Congestion.{post_transmitted}
-use Rattle.sock_tcp.specs.Begin.{last_ts_set, last_ts_set_at, told_ready, readied, retransmission_begun, fast_retransmission_marked, after_timer, after_timers, unless_paused, ended, begun, begun_to, nothing_due, by_due, before_emit, before_emit_to}
+use Rattle.sock_tcp.specs.Begin.{last_ts_set, last_ts_set_at, told_ready, readied, retransmission_begun, fast_retransmission_marked, after_timer, after_timers, unless_paused, ended, begun, begun_to, nothing_due, by_due, before_emit, before_emit_to, peer_of}
 use Rattle.sock_tcp.specs.Content.{Sending, asked, offset_of, content}
 use Rattle.sock_tcp.specs.Due.{is_due}
 use Rattle.sock_tcp.specs.Opening.{renewed}
@@ -87,7 +87,7 @@ begins v f bounds = go v.tuple
     dated_bounds : HasIss (phase_of dated.state) → HasSendingBounds (shown dated)
     dated_bounds = subst (λ (z : SocketView). HasIss z.phase → HasSendingBounds z) (sym (readied_shows v (moment_of f))) bounds
 
-    two : (t : Tuple) (b : Bool) → DispatchEffect (shown v) (shown (cond b (unless_paused (after_timers dated (moment_of f)) t) (ended (renewed v))).view)
+    two : (t : Tuple) (b : Bool) → DispatchEffect (shown v) (shown (cond b (unless_paused (after_timers dated (moment_of f))) (ended (renewed v))).view)
     two t true = subst (λ z. DispatchEffect z (shown (after_timers dated (moment_of f)))) (readied_shows v (moment_of f)) (timers_show dated (moment_of f) dated_bounds)
     two t false = reset_shows (shown v) v
 
@@ -96,22 +96,22 @@ begins v f bounds = go v.tuple
     go (Some t) = two t (f.has_address t.local.addr)
 
 -- where nothing is due TIME-WAIT may be over
-reasons_show : (o : Option Tuple) (z : SocketView) (u : View) (f : Facts) (stamps : Bool) → DispatchEffect z (shown u) → DispatchEffect z (shown (before_emit_to o u f stamps).view)
+reasons_show : (o : Option Tuple) (z : SocketView) (u : View) (f : Facts) → DispatchEffect z (shown u) → DispatchEffect z (shown (before_emit_to o u f).view)
 unfolding nothing_due
-reasons_show None z u f stamps e = e
-reasons_show (Some t) z u f stamps e = go (is_due u t f stamps)
+reasons_show None z u f e = e
+reasons_show (Some t) z u f e = go (is_due u t f)
   where
     over : (b : Bool) → DispatchEffect z (shown (cond b (renewed u) u))
     over true = reset_shows z u
     over false = e
 
-    go : (b : Bool) → DispatchEffect z (shown (by_due b u t f).view)
+    go : (b : Bool) → DispatchEffect z (shown (by_due b u f).view)
     go true = e
     go false = over (is_close_over u.timer (moment_of f))
 
-pub begun_shows : (v : View) (f : Facts) (stamps : Bool) → IsBounded v → DispatchEffect (shown v) (shown (before_emit v f stamps).view)
+pub begun_shows : (v : View) (f : Facts) → IsBounded v → DispatchEffect (shown v) (shown (before_emit v f).view)
 unfolding before_emit
-begun_shows v f stamps bounds = reasons_show (begun v f).peer (shown v) (begun v f).view f stamps (begins v f bounds.sending)
+begun_shows v f bounds = reasons_show (peer_of (begun v f)) (shown v) (begun v f).view f (begins v f bounds.sending)
 
 -- ---- what an emit that succeeds leaves
 
@@ -141,7 +141,7 @@ module _ (v : View) (released taken : ℕ) (bounds : IsBounded v) where
       let h : GoesOut v released taken c.segment = goes iss in
       subst (λ n. SndNxtWithin (record (shown v) { snd_nxt = n })) (ap (later_number v.remote_last_seq.0) (sym h.ends) ∙ sym (later_shown v.remote_last_seq (seq_add c.segment.seq_number (segment_len c.segment)))) (emit_moves (shown v) h.reach b h.le)
 
-  pub emission_plans : (t : Tuple) (f : Facts) (stamp : Option ℕ) (bytes : List ℕ) → IsLent v.tx_buffer (offset_of v) (asked v t f (is_some stamp)) bytes → (c : Sending) → content v t f stamp bytes ≡ Some c → MayEmit v c (moment_of f) released taken
+  pub emission_plans : (t : Tuple) (f : Facts) (stamp : Option ℕ) (bytes : List ℕ) → IsLent v.tx_buffer (offset_of v) (asked v t f) bytes → (c : Sending) → content v t f stamp bytes ≡ Some c → MayEmit v c (moment_of f) released taken
   unfolding after_sending
   emission_plans t f stamp bytes lent c e =
       record {

@@ -15,6 +15,7 @@ use Rattle.sock_core.specs.Places.{number_distance, number_is_before}
 use Rattle.sock_core.specs.Received.{Received, room_of}
 use Rattle.sock_core.specs.Seq.{is_not_after, later_of}
 use Rattle.sock_core.specs.Streams.{fin_length}
+use Rattle.sock_tcp.specs.Arrival.{arrival}
 use Rattle.sock_tcp.specs.View.{View, FinSays}
 use Rattle.sock_tcp.specs.Verdict.{verdict_at, verdict_of}
 use Rattle.sock_tcp.specs.Window.{receive_window, is_inside, cut_of, cut_bytes}
@@ -227,7 +228,7 @@ module _ (v : View) (now : Instant) (word : ℕ) (ip : IpRepr) (s : Segment) (at
     all_acked = is_not_after v.remote_last_seq k
 
     abbrev row_of : State → TcpControl → Acked → Outcome
-    row_of st c a = after_table (advance_in st c a.fin numbered now (tuple_of ip s) word a.len s) now a the_cut.offset the_bytes s
+    row_of st c a = after_table (advance_in st c a.fin numbered (arrival now (tuple_of ip s) word s) a.len) (arrival now (tuple_of ip s) word s) a the_cut.offset the_bytes
 
     abbrev the_acked : Acked
     the_acked = acked_of v s.control s.ack_number
@@ -332,7 +333,7 @@ module _ (v : View) (now : Instant) (word : ℕ) (ip : IpRepr) (s : Segment) (at
       closing_rows control.Rst t es unreset e le = absurd (unreset refl)
 
       -- LAST-ACK: an acknowledgement of nothing new is challenged
-      last_ack_row : (t : Bool) → v.state ≡ state.LastAck → places ≤ queued → IsEffect (after_advance (if t then next.Challenge else next.Continue) numbered now (acked_when false places all_acked) the_cut.offset the_bytes s)
+      last_ack_row : (t : Bool) → v.state ≡ state.LastAck → places ≤ queued → IsEffect (after_advance (if t then next.Challenge else next.Continue) numbered (arrival now (tuple_of ip s) word s) (acked_when false places all_acked) the_cut.offset the_bytes)
       last_ack_row true es le = answered (ap has_window es) (challenged numbered now s) (challenged_there s now numbered (shown v) refl)
       last_ack_row false es le = bytes_row numbered (acked_when false places all_acked) (no_fin _ _ refl refl refl (inl refl)) (sym (unchanged_by _)) le refl refl (subst (λ st. IsSynchronized (phase_of st)) (sym es) tt)
 
@@ -370,22 +371,22 @@ module _ (v : View) (now : Instant) (word : ℕ) (ip : IpRepr) (s : Segment) (at
 
   -- ---- an RST inside the window
 
-  rst_row : (st : State) (a : Acked) → v.state ≡ st → is_rst s.control ≡ true → IsEffect (after_table (advance_in st control.Rst a.fin numbered now (tuple_of ip s) word a.len s) now a the_cut.offset the_bytes s)
+  rst_row : (st : State) (a : Acked) → v.state ≡ st → is_rst s.control ≡ true → IsEffect (after_table (advance_in st control.Rst a.fin numbered (arrival now (tuple_of ip s) word s) a.len) (arrival now (tuple_of ip s) word s) a the_cut.offset the_bytes)
   rst_row state.SynReceived a es rst = falls_back es rst
   rst_row _ a es rst = dies
 
-  inside : in_window ≡ true → has_window v.state ≡ true → verdict_of v s.control s.ack_number ≡ verdicts.Pass → IsEffect (cut_inside the_window the_cut v now word ip s)
+  inside : in_window ≡ true → has_window v.state ≡ true → verdict_of v s.control s.ack_number ≡ verdicts.Pass → IsEffect (cut_inside the_window the_cut v (arrival now (tuple_of ip s) word s))
   unfolding processed_inside advanced
   inside here w passed = go the_control refl
     where
-      other : (the_control ≡ control.Rst → ⊥) → IsEffect (after_table (advance_in v.state the_control (acked_of v s.control s.ack_number).fin numbered now (tuple_of ip s) word (acked_of v s.control s.ack_number).len s) now (acked_of v s.control s.ack_number) the_cut.offset the_bytes s)
+      other : (the_control ≡ control.Rst → ⊥) → IsEffect (after_table (advance_in v.state the_control (acked_of v s.control s.ack_number).fin numbered (arrival now (tuple_of ip s) word s) (acked_of v s.control s.ack_number).len) (arrival now (tuple_of ip s) word s) (acked_of v s.control s.ack_number) the_cut.offset the_bytes)
       other unreset =
           let plain = counted_plain the_window s.seq_number (length s.payload) s.control unreset in
           let p = passes_with v.state s.control s.ack_number v.local_seq_no queued w plain passed in
           plain_rows here plain (knows_peer v.state w not_closed) p.0 p.1 passed w unreset
 
-      go : (c : TcpControl) → the_control ≡ c → IsEffect (after_table (advance_in v.state the_control (acked_of v s.control s.ack_number).fin numbered now (tuple_of ip s) word (acked_of v s.control s.ack_number).len s) now (acked_of v s.control s.ack_number) the_cut.offset the_bytes s)
-      go control.Rst e = subst (λ c. IsEffect (after_table (advance_in v.state c (acked_of v s.control s.ack_number).fin numbered now (tuple_of ip s) word (acked_of v s.control s.ack_number).len s) now (acked_of v s.control s.ack_number) the_cut.offset the_bytes s)) (sym e) (rst_row v.state (acked_of v s.control s.ack_number) refl (counted_rst the_window s.seq_number (length s.payload) s.control e))
+      go : (c : TcpControl) → the_control ≡ c → IsEffect (after_table (advance_in v.state the_control (acked_of v s.control s.ack_number).fin numbered (arrival now (tuple_of ip s) word s) (acked_of v s.control s.ack_number).len) (arrival now (tuple_of ip s) word s) (acked_of v s.control s.ack_number) the_cut.offset the_bytes)
+      go control.Rst e = subst (λ c. IsEffect (after_table (advance_in v.state c (acked_of v s.control s.ack_number).fin numbered (arrival now (tuple_of ip s) word s) (acked_of v s.control s.ack_number).len) (arrival now (tuple_of ip s) word s) (acked_of v s.control s.ack_number) the_cut.offset the_bytes)) (sym e) (rst_row v.state (acked_of v s.control s.ack_number) refl (counted_rst the_window s.seq_number (length s.payload) s.control e))
       go control.None e = other (λ h. let no : control.None ≡ control.Rst = sym e ∙ h in cc)
       go control.Psh e = other (λ h. let no : control.Psh ≡ control.Rst = sym e ∙ h in cc)
       go control.Syn e = other (λ h. let no : control.Syn ≡ control.Rst = sym e ∙ h in cc)
@@ -394,7 +395,7 @@ module _ (v : View) (now : Instant) (word : ℕ) (ip : IpRepr) (s : Segment) (at
   -- ---- LISTEN and SYN-SENT, which take no bytes
 
   abbrev alone_of : State → TcpControl → Acked → Outcome
-  alone_of st c a = after_table (advance_in st c a.fin v now (tuple_of ip s) word a.len s) now a 0 [] s
+  alone_of st c a = after_table (advance_in st c a.fin v (arrival now (tuple_of ip s) word s) a.len) (arrival now (tuple_of ip s) word s) a 0 []
 
   alone : (u : View) (a : Acked) (k : Option TcpSeqNumber) → s.ack_number ≡ k → HearEffect (is_passive v) (shown v) (shown (acked_view u a.len k)) the_segment → IsEffect (bytes_taken (heard u now a s) now 0 [] s)
   unfolding bytes_taken
@@ -457,15 +458,15 @@ module _ (v : View) (now : Instant) (word : ℕ) (ip : IpRepr) (s : Segment) (at
   alone_rows state.SynSent es w p small_word = syn_sent_rows s.control s.ack_number es refl refl (ap (λ st. verdict_at st s.control s.ack_number v.local_seq_no queued) (sym es) ∙ p)
   alone_rows _ es w p small_word = cc
 
-  unwindowed : has_window v.state ≡ false → verdict_of v s.control s.ack_number ≡ verdicts.Pass → word < 2 ^ 32 → IsEffect (processed_inside v now word s.control 0 [] ip s)
+  unwindowed : has_window v.state ≡ false → verdict_of v s.control s.ack_number ≡ verdicts.Pass → word < 2 ^ 32 → IsEffect (processed_inside v (arrival now (tuple_of ip s) word s) s.control 0 [])
   unfolding processed_inside advanced
   unwindowed w p small_word = alone_rows v.state refl w p small_word
 
-  windowed : (b : Bool) → in_window ≡ b → has_window v.state ≡ true → verdict_of v s.control s.ack_number ≡ verdicts.Pass → IsEffect (if b then cut_inside the_window the_cut v now word ip s else outside v now s)
+  windowed : (b : Bool) → in_window ≡ b → has_window v.state ≡ true → verdict_of v s.control s.ack_number ≡ verdicts.Pass → IsEffect (if b then cut_inside the_window the_cut v (arrival now (tuple_of ip s) word s) else outside v now s)
   windowed true here w p = inside here w p
   windowed false here w p = answered w (outside v now s) (outside_there s now v)
 
-  is_tested : (b : Bool) → has_window v.state ≡ b → verdict_of v s.control s.ack_number ≡ verdicts.Pass → word < 2 ^ 32 → IsEffect (tested b v now word ip s)
+  is_tested : (b : Bool) → has_window v.state ≡ b → verdict_of v s.control s.ack_number ≡ verdicts.Pass → word < 2 ^ 32 → IsEffect (tested b v (arrival now (tuple_of ip s) word s))
   is_tested true w p small_word = windowed in_window refl w p
   is_tested false w p small_word = unwindowed w p small_word
 
@@ -473,7 +474,7 @@ module _ (v : View) (now : Instant) (word : ℕ) (ip : IpRepr) (s : Segment) (at
   no_ack : v.state ≡ state.Listen → s.ack_number ≡ None
   no_ack es = (subst (λ st. AcceptsIn st v ip s) es accepted).0.no_ack
 
-  by_the_verdict : (x : Verdict) → verdict_of v s.control s.ack_number ≡ x → word < 2 ^ 32 → IsEffect (by_verdict x v now word ip s)
+  by_the_verdict : (x : Verdict) → verdict_of v s.control s.ack_number ≡ x → word < 2 ^ 32 → IsEffect (by_verdict x v (arrival now (tuple_of ip s) word s))
   by_the_verdict verdicts.Drop e small_word = silent v refl
   by_the_verdict verdicts.Reset e small_word =
       let r = reset_says v.state s.control s.ack_number v.local_seq_no queued e in

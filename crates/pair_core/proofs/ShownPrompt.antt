@@ -10,6 +10,7 @@ use Rattle.control_wire.specs.Seq.{seq_sub}
 use Rattle.control_wire.specs.Segment.{Segment}
 use Rattle.control_wire.specs.declared.seq_number.TcpSeqNumber.{TcpSeqNumber}
 use Rattle.control_wire.specs.declared.tcp.TcpControl.{TcpControl}
+use Rattle.sock_tcp.specs.Arrival.{arrival}
 use Rattle.sock_tcp.specs.View.{View}
 use Rattle.sock_core.specs.Seq.{is_before, later_of}
 use Rattle.sock_tcp.specs.Window.{next_ack, receive_window, cut_of}
@@ -57,7 +58,7 @@ module _ (v : View) (now : Instant) (word : ℕ) (ip : IpRepr) (s : Segment) (i 
   at_once = at_the_edge (next_ack v) s.seq_number (omega arith) i.starts
 
   -- the steps go on from u
-  goes_on : (x : Next) (u : View) → x ≡ next.Continue → u.rx_buffer ≡ v.rx_buffer → Queues (after_advance x u now the_acked the_cut.offset (in_window v s) s)
+  goes_on : (x : Next) (u : View) → x ≡ next.Continue → u.rx_buffer ≡ v.rx_buffer → Queues (after_advance x u (arrival now (tuple_of ip s) word s) the_acked the_cut.offset (in_window v s))
   goes_on next.Stop u e q = cc
   goes_on next.Challenge u e q = cc
   goes_on next.Continue u e q =
@@ -65,15 +66,15 @@ module _ (v : View) (now : Instant) (word : ℕ) (ip : IpRepr) (s : Segment) (i 
       let k = bytes_keep s now (heard u now the_acked s) the_cut.offset (in_window v s) in
       subst (λ b. JoinsAtOnce v.rx_buffer b (in_window v s)) (sym (k.rx ∙ (λ j. brought ((h.rx ∙ q) j) (at_once j) (in_window v s)))) (brings_at_once v.rx_buffer (in_window v s) some)
 
-  inside : Queues (cut_inside (receive_window v) the_cut v now word ip s)
+  inside : Queues (cut_inside (receive_window v) the_cut v (arrival now (tuple_of ip s) word s))
   unfolding processed_inside advanced
   inside =
-      let t : Advance = advance_in v.state the_control the_acked.fin numbered now (tuple_of ip s) word the_acked.len s in
+      let t : Advance = advance_in v.state the_control the_acked.fin numbered (arrival now (tuple_of ip s) word s) the_acked.len in
       goes_on t.next t.view i.goes_on (table_keeps s now numbered (tuple_of ip s) word the_acked.len v.state the_control the_acked.fin).rx
 
-  is_cut : tested (has_window v.state) v now word ip s ≡ cut_inside (receive_window v) the_cut v now word ip s
-  is_cut = ap (λ b. tested b v now word ip s) i.window ∙ ap (λ b. if b then cut_inside (receive_window v) the_cut v now word ip s else outside v now s) i.inside
+  is_cut : tested (has_window v.state) v (arrival now (tuple_of ip s) word s) ≡ cut_inside (receive_window v) the_cut v (arrival now (tuple_of ip s) word s)
+  is_cut = ap (λ b. tested b v (arrival now (tuple_of ip s) word s)) i.window ∙ ap (λ b. if b then cut_inside (receive_window v) the_cut v (arrival now (tuple_of ip s) word s) else outside v now s) i.inside
 
   pub queued_at_once : JoinsAtOnce v.rx_buffer (processed v now word ip s).view.rx_buffer (in_window v s)
   unfolding processed
-  queued_at_once = subst Queues (sym (ap (λ x. by_verdict x v now word ip s) i.passes ∙ is_cut)) inside
+  queued_at_once = subst Queues (sym (ap (λ x. by_verdict x v (arrival now (tuple_of ip s) word s)) i.passes ∙ is_cut)) inside

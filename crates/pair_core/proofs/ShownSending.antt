@@ -1,6 +1,6 @@
 -- What a dispatch emits may be sent, and ends where SND.NXT may move.
 use Rattle.std.proofs.Common.{◌≡◌, ℕ, ◌+◌, ◌-◌, ◌%◌, ◌^◌, ◌<◌, ◌≤◌, ◌⊎◌, Bool, true, false, cond, ◌&&◌, List, [], ◌++◌, length, take, drop, Option, Some, None, refl, sym, ap, subst, ◌∙◌, arith, inl, inr}
-use Rattle.std.specs.Prelude.{◌==◌, option_map, is_some, if◌then◌else◌}
+use Rattle.std.specs.Prelude.{◌==◌, option_map, if◌then◌else◌}
 use Rattle.std.proofs.lemmas.Bool.{eqb-true}
 use Rattle.std.proofs.lemmas.List.{take-append-drop}
 use Rattle.std.proofs.lemmas.Option.{none-some, same_Some}
@@ -122,17 +122,17 @@ module _ (v : View) (released taken : ℕ) where
         (λ i. ((seq i).0 + (length (none i) + control_len (c i))) % 2 ^ 32)
 
     -- bytes that the ring lent, which may be none
-    data_goes : KnowsPeer (phase_of v.state) → (is_closing v.state ≡ true → phase_of v.state ≡ FinQueued) → (t : Tuple) (f : Facts) (stamp : Option ℕ) (stamps : Bool) (bytes : List ℕ)
-        → IsLent v.tx_buffer (offset_of v) (asked v t f stamps) bytes → GoesOut (with_data v bytes (plain_segment v t stamp))
+    data_goes : KnowsPeer (phase_of v.state) → (is_closing v.state ≡ true → phase_of v.state ≡ FinQueued) → (t : Tuple) (f : Facts) (stamp : Option ℕ) (bytes : List ℕ)
+        → IsLent v.tx_buffer (offset_of v) (asked v t f) bytes → GoesOut (with_data v bytes (plain_segment v t stamp))
     unfolding plain_segment
-    data_goes knows closing t f stamp stamps bytes lent =
+    data_goes knows closing t f stamp bytes lent =
         let s : Segment = with_data v bytes (plain_segment v t stamp) in
         let c : IsDataControl (data_control v (length bytes)) (offset_of v + length bytes == length v.tx_buffer.bytes) (is_closing v.state) = data_controls (offset_of v + length bytes == length v.tx_buffer.bytes) (is_closing v.state) (length bytes == 0) in
         let ole : offset_of v ≤ length v.tx_buffer.bytes + 1 = offset_le in
-        let short : length bytes ≤ length v.tx_buffer.bytes - offset_of v = omega (arith, lent_at_most v.tx_buffer (offset_of v) (asked v t f stamps) bytes lent) in
+        let short : length bytes ≤ length v.tx_buffer.bytes - offset_of v = omega (arith, lent_at_most v.tx_buffer (offset_of v) (asked v t f) bytes lent) in
         let fin : is_fin (data_control v (length bytes)) ≡ true → (phase_of v.state ≡ FinQueued) × (offset_of v + length bytes ≡ length v.tx_buffer.bytes) = λ e. (closing (c.fin e).1, eqb-true (offset_of v + length bytes) (length v.tx_buffer.bytes) (c.fin e).0) in
         goes_as s
-        (Bytes (offset_of v) offset_shows ole (lent_prefix bytes (drop (offset_of v) v.tx_buffer.bytes) (lent_beginning v.tx_buffer (offset_of v) (asked v t f stamps) bytes lent)) fin)
+        (Bytes (offset_of v) offset_shows ole (lent_prefix bytes (drop (offset_of v) v.tx_buffer.bytes) (lent_beginning v.tx_buffer (offset_of v) (asked v t f) bytes lent)) fin)
         c.rst
         (acks_next knows s refl)
         (λ e. let no : true ≡ false = sym e ∙ c.syn in absurd cc)
@@ -197,12 +197,12 @@ module _ (v : View) (released taken : ℕ) where
   Filled now (Some s) = GoesOut v released taken (of_kind (emission_kind v now s) v s)
 
   module _ (b : HasSendingBounds (shown v)) (iss : HasIss (phase_of v.state)) where
-    data_filled : KnowsPeer (phase_of v.state) → (is_closing v.state ≡ true → phase_of v.state ≡ FinQueued) → (t : Tuple) (f : Facts) (stamp : Option ℕ) (stamps : Bool) (bytes : List ℕ) (now : Instant)
-        → IsLent v.tx_buffer (offset_of v) (asked v t f stamps) bytes → Filled now (Some (with_data v bytes (plain_segment v t stamp)))
+    data_filled : KnowsPeer (phase_of v.state) → (is_closing v.state ≡ true → phase_of v.state ≡ FinQueued) → (t : Tuple) (f : Facts) (stamp : Option ℕ) (bytes : List ℕ) (now : Instant)
+        → IsLent v.tx_buffer (offset_of v) (asked v t f) bytes → Filled now (Some (with_data v bytes (plain_segment v t stamp)))
     unfolding plain_segment
-    data_filled knows closing t f stamp stamps bytes now lent =
+    data_filled knows closing t f stamp bytes now lent =
         by_kinds v (λ s. GoesOut v released taken s) now (with_data v bytes (plain_segment v t stamp))
-        (data_goes v released taken b iss knows closing t f stamp stamps bytes lent)
+        (data_goes v released taken b iss knows closing t f stamp bytes lent)
         (alive_goes v released taken b iss knows (with_data v bytes (plain_segment v t stamp)) refl)
 
     bare_filled : KnowsPeer (phase_of v.state) → (t : Tuple) (stamp : Option ℕ) (now : Instant) → Filled now (Some (plain_segment v t stamp))
@@ -216,36 +216,36 @@ module _ (v : View) (released taken : ℕ) where
     closing_in : (st : State) → v.state ≡ st → (is_closing st ≡ true → phase_of st ≡ FinQueued) → is_closing v.state ≡ true → phase_of v.state ≡ FinQueued
     closing_in st e h = subst (λ x. is_closing x ≡ true → phase_of x ≡ FinQueued) (sym e) h
 
-    fills : (t : Tuple) (f : Facts) (stamp : Option ℕ) (stamps : Bool) (bytes : List ℕ) (now : Instant) → IsLent v.tx_buffer (offset_of v) (asked v t f stamps) bytes
+    fills : (t : Tuple) (f : Facts) (stamp : Option ℕ) (bytes : List ℕ) (now : Instant) → IsLent v.tx_buffer (offset_of v) (asked v t f) bytes
         → (st : State) → v.state ≡ st → Filled now (filled st v t f bytes (plain_segment v t stamp))
     unfolding plain_segment
-    fills t f stamp stamps bytes now lent state.Closed e = absurd (subst (λ x. HasIss (phase_of x)) e iss)
-    fills t f stamp stamps bytes now lent state.Listen e = absurd (subst (λ x. HasIss (phase_of x)) e iss)
-    fills t f stamp stamps bytes now lent state.SynSent e =
+    fills t f stamp bytes now lent state.Closed e = absurd (subst (λ x. HasIss (phase_of x)) e iss)
+    fills t f stamp bytes now lent state.Listen e = absurd (subst (λ x. HasIss (phase_of x)) e iss)
+    fills t f stamp bytes now lent state.SynSent e =
         let s : Segment = syn v t f (plain_segment v t stamp) in
         by_kinds v (λ s. GoesOut v released taken s) now s
         (syn_goes v released taken b iss (inl (ap phase_of e)) s refl refl refl (acks_none v released taken b iss s refl))
         (λ h. let no : false ≡ true = h in absurd cc)
-    fills t f stamp stamps bytes now lent state.SynReceived e =
+    fills t f stamp bytes now lent state.SynReceived e =
         let s : Segment = syn_ack v t f (plain_segment v t stamp) in
         by_kinds v (λ s. GoesOut v released taken s) now s
         (syn_goes v released taken b iss (inr (ap phase_of e)) s refl refl refl (acks_next v released taken b iss (knows_in state.SynReceived e tt) s refl))
         (λ h. let no : false ≡ true = h in absurd cc)
-    fills t f stamp stamps bytes now lent state.FinWait2 e = bare_filled (knows_in state.FinWait2 e tt) t stamp now
-    fills t f stamp stamps bytes now lent state.TimeWait e = bare_filled (knows_in state.TimeWait e tt) t stamp now
-    fills t f stamp stamps bytes now lent state.Established e = data_filled (knows_in state.Established e tt) (closing_in state.Established e (λ h. absurd cc)) t f stamp stamps bytes now lent
-    fills t f stamp stamps bytes now lent state.CloseWait e = data_filled (knows_in state.CloseWait e tt) (closing_in state.CloseWait e (λ h. absurd cc)) t f stamp stamps bytes now lent
-    fills t f stamp stamps bytes now lent state.FinWait1 e = data_filled (knows_in state.FinWait1 e tt) (closing_in state.FinWait1 e (λ h. refl)) t f stamp stamps bytes now lent
-    fills t f stamp stamps bytes now lent state.Closing e = data_filled (knows_in state.Closing e tt) (closing_in state.Closing e (λ h. refl)) t f stamp stamps bytes now lent
-    fills t f stamp stamps bytes now lent state.LastAck e = data_filled (knows_in state.LastAck e tt) (closing_in state.LastAck e (λ h. refl)) t f stamp stamps bytes now lent
+    fills t f stamp bytes now lent state.FinWait2 e = bare_filled (knows_in state.FinWait2 e tt) t stamp now
+    fills t f stamp bytes now lent state.TimeWait e = bare_filled (knows_in state.TimeWait e tt) t stamp now
+    fills t f stamp bytes now lent state.Established e = data_filled (knows_in state.Established e tt) (closing_in state.Established e (λ h. absurd cc)) t f stamp bytes now lent
+    fills t f stamp bytes now lent state.CloseWait e = data_filled (knows_in state.CloseWait e tt) (closing_in state.CloseWait e (λ h. absurd cc)) t f stamp bytes now lent
+    fills t f stamp bytes now lent state.FinWait1 e = data_filled (knows_in state.FinWait1 e tt) (closing_in state.FinWait1 e (λ h. refl)) t f stamp bytes now lent
+    fills t f stamp bytes now lent state.Closing e = data_filled (knows_in state.Closing e tt) (closing_in state.Closing e (λ h. refl)) t f stamp bytes now lent
+    fills t f stamp bytes now lent state.LastAck e = data_filled (knows_in state.LastAck e tt) (closing_in state.LastAck e (λ h. refl)) t f stamp bytes now lent
 
   out : (t : Tuple) (now : Instant) (o : Option Segment) → Filled now o → (c : Sending) → option_map (λ s. sent_as v t (emission_kind v now s) s) o ≡ Some c → GoesOut v released taken c.segment
   out t now None h c e = absurd (none-some c e)
   out t now (Some s) h c e = subst (λ (x : Sending). GoesOut v released taken x.segment) (same_Some (sent_as v t (emission_kind v now s) s) c e) h
 
-  pub content_goes : HasSendingBounds (shown v) → HasIss (phase_of v.state) → (t : Tuple) (f : Facts) (stamp : Option ℕ) (bytes : List ℕ) → IsLent v.tx_buffer (offset_of v) (asked v t f (is_some stamp)) bytes → (c : Sending) → content v t f stamp bytes ≡ Some c → GoesOut v released taken c.segment
+  pub content_goes : HasSendingBounds (shown v) → HasIss (phase_of v.state) → (t : Tuple) (f : Facts) (stamp : Option ℕ) (bytes : List ℕ) → IsLent v.tx_buffer (offset_of v) (asked v t f) bytes → (c : Sending) → content v t f stamp bytes ≡ Some c → GoesOut v released taken c.segment
   unfolding content
-  content_goes b iss t f stamp bytes lent c e = out t (moment_of f) (filled v.state v t f bytes (plain_segment v t stamp)) (fills b iss t f stamp (is_some stamp) bytes (moment_of f) lent v.state refl) c e
+  content_goes b iss t f stamp bytes lent c e = out t (moment_of f) (filled v.state v t f bytes (plain_segment v t stamp)) (fills b iss t f stamp bytes (moment_of f) lent v.state refl) c e
 
   -- ---- the RST of a closed socket
 
@@ -261,7 +261,7 @@ module _ (v : View) (released taken : ℕ) where
   reset_out t now None h c e = absurd (none-some c e)
   reset_out t now (Some s) h c e = subst (λ (x : Sending). is_rst x.segment.control ≡ true) (same_Some (sent_as v t (emission_kind v now s) s) c e) h
 
-  pub content_effect : IsBounded v → (t : Tuple) (f : Facts) (stamp : Option ℕ) (bytes : List ℕ) → IsLent v.tx_buffer (offset_of v) (asked v t f (is_some stamp)) bytes → (c : Sending) → content v t f stamp bytes ≡ Some c → EmitEffect (shown v) (stream_segment c.segment released taken)
+  pub content_effect : IsBounded v → (t : Tuple) (f : Facts) (stamp : Option ℕ) (bytes : List ℕ) → IsLent v.tx_buffer (offset_of v) (asked v t f) bytes → (c : Sending) → content v t f stamp bytes ≡ Some c → EmitEffect (shown v) (stream_segment c.segment released taken)
   unfolding content
   content_effect bounds t f stamp bytes lent c e = go v.state refl
     where

@@ -1,6 +1,5 @@
 -- Each event of a side is a call on its socket, in the words of the law on any list of calls.
-use Rattle.sock_tcp.specs.Dispatch.{IsStamp}
-use Rattle.std.proofs.Common.{◌≡◌, ℕ, ◌+◌, ◌<◌, ◌≤◌, ◌^◌, Bool, true, false, not, refl, sym, ap, subst, ◌∙◌, List, [], ◌++◌, length, take, drop, Option, Some, None, Ok, Err, arith, length-take, is_some}
+use Rattle.std.proofs.Common.{◌≡◌, ℕ, ◌+◌, ◌<◌, ◌≤◌, ◌^◌, Bool, true, false, not, refl, sym, ap, subst, ◌∙◌, List, [], ◌++◌, length, take, drop, Option, Some, None, Ok, Err, arith, length-take}
 use Rattle.std.specs.Prelude.{◌==◌, ◌||◌, if◌then◌else◌}
 use Rattle.std.proofs.lemmas.Bool.{eqb-true}
 use Rattle.std.proofs.lemmas.List.{take-take}
@@ -14,7 +13,7 @@ use Rattle.net_base.specs.Ring.{Ring}
 use Rattle.control_wire.specs.Segment.{Segment}
 use Rattle.sock_core.specs.Facts.{Facts}
 use Rattle.sock_core.specs.Received.{receiving}
-use Rattle.sock_tcp.specs.Begin.{before_emit}
+use Rattle.sock_tcp.specs.Begin.{before_emit, peer_of}
 use Rattle.sock_tcp.specs.Closing.{aborted, closed}
 use Rattle.sock_tcp.specs.Content.{Sending, content}
 use Rattle.sock_tcp.specs.Opening.{after_connect, connected, endpoints, is_open, listened, no_address}
@@ -172,22 +171,20 @@ set_call (setting.HopLimit n) v k = (k, calls.Set (calls.SetHopLimit n.hop_limit
 set_call (setting.Congestion c) v k = (k, calls.Set (calls.SetCongestionControl c refl) refl)
 set_call (setting.Pause on) v k = (k, calls.Set (calls.PauseSynAck on refl) refl)
 
+-- the source of timestamps that a new socket has
+pub source_call : (v : View) (is_there : Bool) → IsCall v (record v { stamps = is_there })
+source_call v is_there k = (k, calls.Set (calls.SetTsvalGenerator is_there refl) refl)
+
 -- ---- dispatches and deliveries
 
--- a timestamp is there exactly where there is a clock
-stamp_is : {G : Type 0} (tells : G → ℕ → Type 0) (clock : Option G) (stamp : Option ℕ) → IsStamp tells clock stamp → is_some stamp ≡ is_some clock
-stamp_is tells None stamp h = ap is_some h
-stamp_is tells (Some g) (Some n) h = refl
-stamp_is tells (Some g) None h = absurd h
-
 module _ {G : Type 0} (tells : G → ℕ → Type 0) (source : Option G) (f : Facts) (fail : Bool) (r : Sent) (w : View) where
-  goes_out : (o : Option Tuple) (u : View) → SendsFrom tells source o u f fail r w → (out : Option Sending) × Emits o f (is_some source) u out w
+  goes_out : (o : Option Tuple) (u : View) → SendsFrom tells source o u f fail r w → (out : Option Sending) × Emits o f u out w
   goes_out None u d = (None, (refl, d.1))
-  goes_out (Some t) u d = (content u t f d.stamp d.bytes, record { stamp = d.stamp; told = stamp_is tells source d.stamp d.told; bytes = d.bytes; lent = d.lent; ok = not fail; sends = refl; view = d.view })
+  goes_out (Some t) u d = (content u t f d.stamp d.bytes, record { stamp = d.stamp; told = d.stamped; bytes = d.bytes; lent = d.lent; ok = not fail; sends = refl; view = d.view })
 
   pub dispatch_call : (v : View) → SocketDispatches tells source v f fail r w → IsCall v w
   unfolding SocketDispatches
-  dispatch_call v d k = let x = goes_out (before_emit v f (is_some source)).peer (before_emit v f (is_some source)).view d in (starting_if (is_reset v f (is_some source)) w k, calls.Dispatch f (is_some source) x.0 x.1 refl)
+  dispatch_call v d k = let x = goes_out (peer_of (before_emit v f)) (before_emit v f).view d in (starting_if (is_reset v f) w k, calls.Dispatch f x.0 x.1 refl)
 
 -- LISTEN lets no segment with an acknowledgement in
 bare : (v : View) (ip : IpRepr) (s : Segment) → Accepts v ip s → v.state ≡ state.Listen → s.ack_number ≡ None

@@ -9,7 +9,7 @@ use Rattle.control_wire.specs.Segment.{Segment}
 use Rattle.sock_core.specs.Facts.{Facts}
 use Rattle.sock_tcp.specs.Queue.{IsLent}
 use Rattle.sock_tcp.specs.View.{View, moment_of}
-use Rattle.sock_tcp.specs.Begin.{before_emit}
+use Rattle.sock_tcp.specs.Begin.{before_emit, peer_of}
 use Rattle.sock_tcp.specs.Content.{Sending, asked, offset_of, content}
 use Rattle.sock_tcp.specs.Dispatch.{IsStamp}
 use Rattle.sock_tcp.specs.Sent.{left_by}
@@ -53,8 +53,9 @@ pub record SendsTo {G : Type 0} (tells : G → ℕ → Type 0) (source : Option 
     (fail : Bool) (r : Sent) (w : View) : Type 0 where
   pub stamp : Option ℕ
   pub told : IsStamp tells source stamp
+  pub stamped : is_some stamp ≡ v.stamps
   pub bytes : List ℕ
-  pub lent : IsLent v.tx_buffer (offset_of v) (asked v t f (is_some stamp)) bytes
+  pub lent : IsLent v.tx_buffer (offset_of v) (asked v t f) bytes
   pub records : Records fail (content v t f stamp bytes) r
   pub view : w ≡ left_by (content v t f stamp bytes) v (moment_of f) (not fail)
   pub fits : ForSome (content v t f stamp bytes) (λ s. FitsPacket s.ip s.segment)
@@ -68,4 +69,4 @@ SendsFrom tells source (Some t) v f fail r w = SendsTo tells source v t f fail r
 unfoldable pub SocketDispatches : {G : Type 0} → (G → ℕ → Type 0) → Option G → View → Facts → Bool → Sent → View
     → Type 0
 SocketDispatches tells source v f fail r w =
-    SendsFrom tells source (before_emit v f (is_some source)).peer (before_emit v f (is_some source)).view f fail r w
+    SendsFrom tells source (peer_of (before_emit v f)) (before_emit v f).view f fail r w

@@ -7,6 +7,7 @@ use Rattle.sock_core.specs.Streams.{IsPrefix}
 use Rattle.ip_wire.specs.declared.repr.IpRepr.{IpRepr}
 use Rattle.net_base.specs.declared.time.Instant.{Instant}
 use Rattle.control_wire.specs.Segment.{Segment}
+use Rattle.sock_tcp.specs.Arrival.{arrival}
 use Rattle.sock_tcp.specs.Acked.{acked_of}
 use Rattle.sock_tcp.specs.Advance.{Advance, advanced, counted_control}
 use Rattle.sock_tcp.specs.Process.{has_window, tuple_of}
@@ -82,9 +83,7 @@ pub record Complete {G : Type 0} (e : Event) (p : PairView G) (o : Outcome) (q :
 -- the state table for a segment inside the receive window
 abbrev pub table_for : View → Instant → ℕ → IpRepr → Segment → Advance
 table_for v now word ip s =
-    advanced (record v { local_rx_last_seq = Some s.seq_number })
-    (counted_control s.control (receive_window v) s.seq_number (length s.payload)) now (tuple_of ip s) word
-    (acked_of v s.control s.ack_number) s
+    advanced (record v { local_rx_last_seq = Some s.seq_number }) (counted_control s.control (receive_window v) s.seq_number (length s.payload)) (arrival now (tuple_of ip s) word s) (acked_of v s.control s.ack_number)
 
 -- The segment s is in order for the socket v: the state has a receive window, the acknowledgement passes, the segment
 -- lies inside the window, the state table goes on with it, and it starts at RCV.NXT, the next number expected, or

@@ -5,7 +5,7 @@ use Rattle.ip_wire.specs.declared.repr.IpRepr.{IpRepr}
 use Rattle.control_wire.specs.Segment.{Segment}
 use Rattle.control_wire.specs.declared.tcp.TcpControl.{TcpControl}
 use Rattle.control_wire.specs.declared.tcp.TcpControl.TheVariants as control
-use Rattle.sock_tcp.specs.Process.{Accepts, Outcome as Processed, generator_after, processed}
+use Rattle.sock_tcp.specs.Process.{Accepts, Outcome as Processed, processed, source_kept}
 use Rattle.sock_tcp.specs.View.{View}
 use Rattle.sock_tcp.specs.Replies.{Answers, IsReplyStamp, rst_segment, with_header}
 use Rattle.pair_core.specs.Moments.{facts_of}
@@ -93,7 +93,7 @@ delivered_to h m t =
       released = h.released +
           (length h.control_block.tx_buffer.bytes - length (processed_by h m t).view.tx_buffer.bytes);
       taken = h.taken + (length (processed_by h m t).view.rx_buffer.bytes - length h.control_block.rx_buffer.bytes);
-      source = generator_after h.control_block t.segment h.source;
+      source = source_kept (processed_by h m t).view.stamps h.source;
     }
 
 abbrev pub reply_index : ℕ → Option (IpRepr × Segment) → Option ℕ

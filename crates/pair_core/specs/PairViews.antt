@@ -1,5 +1,5 @@
 -- A pair by value. G is the type of its sources of timestamps.
-use Rattle.std.specs.Prelude.{ℕ, List, [], Option, Bool, false}
+use Rattle.std.specs.Prelude.{ℕ, List, [], Option, is_some, Bool, false}
 use Rattle.ip_wire.specs.declared.endpoint.IpEndpoint.{IpEndpoint}
 use Rattle.ip_wire.specs.declared.repr.IpRepr.{IpRepr}
 use Rattle.control_wire.specs.Segment.{Segment}
@@ -46,7 +46,7 @@ with_host B p h = record p { b = h }
 abbrev pub new_host : {G : Type 0} → View → IpEndpoint → Option G → HostView G
 new_host v e source =
     record {
-      control_block = v;
+      control_block = record v { stamps = is_some source };
       endpoint = e;
       opening = opening.Unopened;
       accepted = [];

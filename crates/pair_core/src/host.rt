@@ -8,7 +8,7 @@ ghost use Rattle.control_wire.specs.Segment.{segment_of};
 ghost use Rattle.sock_core.specs.Received.{receiving};
 ghost use Rattle.sock_tcp.specs.View.{fresh};
 ghost use Rattle.sock_tcp.specs.Queue.{queue_of};
-ghost use Rattle.sock_tcp.specs.Process.{Accepts, generator_after, processed, reply_of};
+ghost use Rattle.sock_tcp.specs.Process.{Accepts, processed, reply_of, source_kept};
 ghost use Rattle.sock_tcp.specs.Replies.{Answers, IsReplyStamp};
 ghost use Rattle.pair_core.specs.Moments.{facts_of};
 ghost use Rattle.pair_core.specs.Holding.{stored_of};
@@ -408,7 +408,7 @@ fn process<G: TsvalSource>(
     ensures view { socket.new.control_block
         ≡ (processed_at socket.old.control_block moment.entry.now (stored_of segment.now)).view }
     ensures generator { socket.new.tsval_generator
-        ≡ generator_after socket.old.control_block (stored_of segment.now).segment socket.old.tsval_generator }
+        ≡ source_kept socket.new.control_block.stamps socket.old.tsval_generator }
     ensures bare { ForSome result (λ r. r.1.payload.now ≡ []) }
     ensures fits { ForSome (option_map reply_of result) (λ r. FitsPacket r.0 r.1) }
     ensures reply { Answers

@@ -2,7 +2,7 @@
 //! laws and whose bodies are empty. What is proved of a pair stands on them, and looks into no case table of a socket
 //! itself. And what is promised of a pair.
 ghost use Rattle.std.specs.Prelude.{◌≡◌, ℕ, ◌<◌, ◌≤◌, ◌+◌, ◌-◌, ◌^◌, ◌++◌, List, length, min, max, take, drop};
-ghost use Rattle.std.specs.Prelude.{Option, Some, option_map, is_some, Bool};
+ghost use Rattle.std.specs.Prelude.{Option, Some, option_map};
 ghost use Rattle.ip_wire.specs.declared.endpoint.IpEndpoint.{IpEndpoint};
 ghost use Rattle.ip_wire.specs.declared.endpoint.IpListenEndpoint.{IpListenEndpoint};
 ghost use Rattle.ip_wire.specs.declared.repr.IpRepr.{IpRepr};
@@ -61,15 +61,15 @@ pub fn process_heard()
 /// for a retransmission, or ends the connection: the user timeout is over, TIME-WAIT is, or the socket's address is
 /// gone.
 pub fn begun_shows()
-    ensures { (v : View) (f : Facts) (stamps : Bool) → IsBounded v
-        → DispatchEffect (shown v) (shown (before_emit v f stamps).view) }
+    ensures { (v : View) (f : Facts) → IsBounded v
+        → DispatchEffect (shown v) (shown (before_emit v f).view) }
 {}
 
 /// What a dispatch emits, with any timestamp and any bytes that the ring lent, may be emitted; and an emit that
 /// succeeds leaves what may be left.
 pub fn emission_plans()
     ensures { (v : View) (released taken : ℕ) → IsBounded v → (t : Tuple) (f : Facts) (stamp : Option ℕ)
-        (bytes : List ℕ) → IsLent v.tx_buffer (offset_of v) (asked v t f (is_some stamp)) bytes
+        (bytes : List ℕ) → IsLent v.tx_buffer (offset_of v) (asked v t f) bytes
         → (c : Sending) → content v t f stamp bytes ≡ Some c → MayEmit v c (moment_of f) released taken }
 {}
 

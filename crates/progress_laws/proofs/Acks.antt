@@ -34,6 +34,7 @@ use Rattle.progress_laws.specs.Agreement.{Exchanges, InReach, IsMove, IsSpeaker,
 use Rattle.progress_laws.specs.Delivery.{HasSaid, has_counted}
 use Rattle.progress_laws.specs.InStep.{IsAnswered, told}
 use Rattle.progress_laws.specs.Speech.{FromUna, KeepsAlive, Speech}
+use Rattle.progress_laws.proofs.Stamped.{stamped_ack, answer_stamp, ack_stamped}
 use Rattle.progress_laws.proofs.Agrees.{carries_listens, left_reach, reach_is_inside, reached_room, width_small}
 use Rattle.progress_laws.proofs.Answered.{carries_so}
 use Rattle.progress_laws.proofs.Arrives.{Faces, away, away_empty, before_window, from_outside, is_synchronized, synchronized_stays}
@@ -135,7 +136,7 @@ module _ (d : Duration) (t : Tuple) (f : Facts) (mtu : IsMtu f.mtu) (here : f.ha
       let q = reached_ordered z there in
       record { state = synchronized; una_small = q.una_small; short = omega (arith, q.room); heard = 0; heard_within = omega arith; back = omega (arith, ap (λ (m : TcpSeqNumber). m.0) una, ap (λ (m : TcpSeqNumber). m.0) own, q.una_small); room = omega (arith, reached_room z there) }
 
-  said : Speech x p.out → HasSaid t fa false x p.out u
+  said : Speech x p.out → HasSaid t fa x p.out u
   said q = record { reached = p.speaker.reached; carries = p.speaker.carries; on = p.on; dispatch = p.dispatch; speech = q }
 
   over : int_lt p.now.micros z.challenge_ack_timer.micros ≡ false
@@ -144,7 +145,7 @@ module _ (d : Duration) (t : Tuple) (f : Facts) (mtu : IsMtu f.mtu) (here : f.ha
   -- ---- and is heard
 
   u_reached : IsReached u
-  u_reached = dispatch_reached fa false x (Some p.out) u p.speaker.reached p.dispatch
+  u_reached = dispatch_reached fa x (Some p.out) u p.speaker.reached p.dispatch
 
   u_state : u.state ≡ state.FinWait1
   u_state = p.left.same.state ∙ p.earlier.same.state ∙ waits
@@ -158,12 +159,12 @@ module _ (d : Duration) (t : Tuple) (f : Facts) (mtu : IsMtu f.mtu) (here : f.ha
   next_u : next_ack z ≡ seq_add u.local_seq_no (length u.tx_buffer.bytes + 1)
   next_u = next_x ∙ (λ i. seq_add (sym p.left.same.una i) (length ((sym p.left.same.tx i).bytes) + 1))
 
-  module _ (away_so : is_inside (receive_window z) s.seq_number (length s.payload) ≡ false) (reply : o.reply ≡ Some (ack_segment z s)) (h : HasSaid t fa false x p.out u) (small : s.seq_number.0 < 2 ^ 32) (short : length s.payload ≤ 65535) where
+  module _ (away_so : is_inside (receive_window z) s.seq_number (length s.payload) ≡ false) (reply : o.reply ≡ Some (ack_segment z s)) (h : HasSaid t fa x p.out u) (small : s.seq_number.0 < 2 ^ 32) (short : length s.payload ≤ 65535) where
     abbrev g : Segment
-    g = ack_segment z s
+    g = stamped_ack z o.view s
 
     abbrev ip : IpRepr
-    ip = reply_ip p.out.ip (ack_segment z s)
+    ip = reply_ip p.out.ip g
 
     abbrev y : View
     y = record u { local_rx_last_seq = Some g.seq_number }
@@ -194,7 +195,7 @@ module _ (d : Duration) (t : Tuple) (f : Facts) (mtu : IsMtu f.mtu) (here : f.ha
     h_as = heard_any (moved_to state.FinWait2 y) p.now a g (next_ack z) number
 
     kept : Stays z o.view
-    kept = subst (λ (r : Outcome). Stays z r.view) (sym (from_outside z (next_ack x) faces p.now 0 p.out.ip s (bit t fa false x p.out u h) (ack t fa false x p.out u h) away_so)) (outside_stays z p.now s synchronized)
+    kept = subst (λ (r : Outcome). Stays z r.view) (sym (from_outside z (next_ack x) faces p.now 0 p.out.ip s (bit t fa x p.out u h) (ack t fa x p.out u h) away_so)) (outside_stays z p.now s synchronized)
 
     next_then : next_ack o.view ≡ next_ack z
     next_then = λ i. seq_add (kept.0.rcv i) (length ((kept.1 i).bytes))
@@ -210,14 +211,14 @@ module _ (d : Duration) (t : Tuple) (f : Facts) (mtu : IsMtu f.mtu) (here : f.ha
       end = p.now;
       sender = v';
       receiver = o.view;
-      exchanges = onward at p.mid p.now v z x z v' o.view got got got p.before (NextOne p.mid p.now p.now x z v' o.view v' o.view got got got p.since (IsMove (IsAnswered p.out u g p.dispatch (ap (λ r. record { view = o.view; reply = r }) reply) hears refl)) (NoMore p.now v' o.view got));
+      exchanges = onward at p.mid p.now v z x z v' o.view got got got p.before (NextOne p.mid p.now p.now x z v' o.view v' o.view got got got p.since (IsMove (IsAnswered p.out u (ack_segment z s) (answer_stamp o.view s) p.dispatch (ap (λ r. record { view = o.view; reply = r }) reply) (ack_stamped z o.view s) hears refl)) (NoMore p.now v' o.view got));
       reached = segment_reached u v' p.now 0 ip g None u_reached (omega arith) (numbered_as g (next_ack z) number (subst (λ (m : TcpSeqNumber). m.0 < 2 ^ 32) (sym seq) z_small) (omega arith)) (omega (arith, empty)) (λ e. absurd (carries_listens x.state p.speaker.carries (sym p.left.same.state ∙ e))) hears;
       state = h_as.state;
       rx = h_as.rx ∙ p.left.same.rx ∙ p.earlier.same.rx;
       own = (λ i. seq_add (h_as.rcv i) (length ((h_as.rx i).bytes))) ∙ (λ i. seq_add (p.left.same.rcv i) (length ((p.left.same.rx i).bytes))) ∙ own;
       una = h_as.una ∙ sym next_then;
       nxt = h_as.nxt ∙ reaches ∙ sym next_then;
-      reached_there = segment_reached z o.view p.now 0 p.out.ip s o.reply there (omega arith) (numbered_as s (next_ack x) (ack t fa false x p.out u h) small (omega arith)) short (λ e. absurd (no_listen z.state counted e)) refl;
+      reached_there = segment_reached z o.view p.now 0 p.out.ip s o.reply there (omega arith) (numbered_as s (next_ack x) (ack t fa x p.out u h) small (omega arith)) short (λ e. absurd (no_listen z.state counted e)) refl;
       rest = kept.0;
       rx_there = kept.1;
     }
@@ -231,10 +232,10 @@ module _ (d : Duration) (t : Tuple) (f : Facts) (mtu : IsMtu f.mtu) (here : f.ha
   unfolding is_inside receive_window
   one_before none at = rw (none, eq-eqb s.seq_number.0 (seq_minus (next_ack z) 1).0 at) refl
 
-  with_bytes : (h : HasSaid t fa false x p.out u) → 0 < length s.payload → (small : s.seq_number.0 < 2 ^ 32) → length s.payload ≤ 65535 → 0 < seq_sub (next_ack z) s.seq_number → seq_sub (next_ack z) s.seq_number < 2 ^ 31 → seq_sub (next_ack z) (seq_add s.seq_number (length s.payload)) < 2 ^ 31 → FinAcked f at v z got
+  with_bytes : (h : HasSaid t fa x p.out u) → 0 < length s.payload → (small : s.seq_number.0 < 2 ^ 32) → length s.payload ≤ 65535 → 0 < seq_sub (next_ack z) s.seq_number → seq_sub (next_ack z) s.seq_number < 2 ^ 31 → seq_sub (next_ack z) (seq_add s.seq_number (length s.payload)) < 2 ^ 31 → FinAcked f at v z got
   with_bytes h some small short before near behind =
       let e : is_inside (receive_window z) s.seq_number (length s.payload) ≡ false = before_window z s narrow some small before near behind in
-      fin_acked e (ap (λ (r : Outcome). r.reply) (away z (next_ack x) faces p.now 0 p.out.ip s (bit t fa false x p.out u h) (ack t fa false x p.out u h) e some)) h small short
+      fin_acked e (ap (λ (r : Outcome). r.reply) (away z (next_ack x) faces p.now 0 p.out.ip s (bit t fa x p.out u h) (ack t fa x p.out u h) e some)) h small short
 
   pub acks_fin : FinAcked f at v z got
   acks_fin = by p.said
@@ -242,14 +243,14 @@ module _ (d : Duration) (t : Tuple) (f : Facts) (mtu : IsMtu f.mtu) (here : f.ha
       front : StartsAtUna x p.out → (m : ℕ) → length s.payload ≡ m → FinAcked f at v z got
       front q (suc m) e =
           let at : s.seq_number.0 ≡ x.local_seq_no.0 = ap (λ (m : TcpSeqNumber). m.0) q.number in
-          let h : HasSaid t fa false x p.out u = said (FromUna q.kind q.number q.some) in
-          with_bytes h (omega (arith, e)) (omega (arith, at, x_small)) q.short (omega (arith, edge, at, x_small, x_short)) (omega (arith, edge, at, x_small, x_short)) (omega (arith, edge, at, x_small, x_short, queued t fa false x p.out u h q.kind))
+          let h : HasSaid t fa x p.out u = said (FromUna q.kind q.number q.some) in
+          with_bytes h (omega (arith, e)) (omega (arith, at, x_small)) q.short (omega (arith, edge, at, x_small, x_short)) (omega (arith, edge, at, x_small, x_short)) (omega (arith, edge, at, x_small, x_short, queued t fa x p.out u h q.kind))
       front q zero e =
           let at : s.seq_number.0 ≡ x.local_seq_no.0 = ap (λ (m : TcpSeqNumber). m.0) q.number in
-          let h : HasSaid t fa false x p.out u = said (FromUna q.kind q.number q.some) in
-          let none : length x.tx_buffer.bytes ≡ 0 = fin_alone t fa false x p.out u h q.kind q.number e (is_fin s.control (bit t fa false x p.out u h) (omega (arith, q.some, e))) in
+          let h : HasSaid t fa x p.out u = said (FromUna q.kind q.number q.some) in
+          let none : length x.tx_buffer.bytes ≡ 0 = fin_alone t fa x p.out u h q.kind q.number e (is_fin s.control (bit t fa x p.out u h) (omega (arith, q.some, e))) in
           let out : is_inside (receive_window z) s.seq_number (length s.payload) ≡ false = one_before e (omega (arith, edge, at, x_small, none)) in
-          fin_acked out (away_empty z (next_ack x) faces p.now 0 p.out.ip s (bit t fa false x p.out u h) (ack t fa false x p.out u h) out e over) h (omega (arith, at, x_small)) q.short
+          fin_acked out (away_empty z (next_ack x) faces p.now 0 p.out.ip s (bit t fa x p.out u h) (ack t fa x p.out u h) out e over) h (omega (arith, at, x_small)) q.short
 
       by : StartsAtUna x p.out ⊎ AsksOnly x p.out → FinAcked f at v z got
       by (inl q) = front q (length s.payload) refl

@@ -12,6 +12,7 @@ use Rattle.control_wire.specs.declared.tcp.TcpControl.TheVariants as control
 use Rattle.sock_core.specs.Facts.{Facts}
 use Rattle.sock_core.specs.Seq.{is_not_after}
 use Rattle.sock_tcp.proofs.Windows.{end_small, length-cut, start_small}
+use Rattle.sock_tcp.specs.Arrival.{arrival}
 use Rattle.sock_tcp.specs.Acked.{acked_at, acked_of, acked_places, is_fin_acked, syn_place}
 use Rattle.sock_tcp.specs.Advance.{advance_in, advanced, continues, counted_control}
 use Rattle.sock_tcp.specs.Content.{Sending, carries_data}
@@ -63,7 +64,7 @@ covers : (st : State) (k nxt : TcpSeqNumber) (q m n : ℕ) → m ≡ n → n ≤
 covers st k nxt q m n e within = ap (acked_places st k nxt q) e ∙ ap (λ b. record { len = if b then n - 1 else n; fin = b; all = is_not_after nxt k }) (not_fin st q n within)
 
 -- nothing of it counts in the state table; in LAST-ACK it must acknowledge something
-stays_on : (st : State) → carries_data st ≡ true → (x : View) (now : Instant) (t : Tuple) (word n : ℕ) (s : Segment) → (st ≡ state.LastAck → 0 < n) → advance_in st control.None false x now t word n s ≡ continues x
+stays_on : (st : State) → carries_data st ≡ true → (x : View) (now : Instant) (t : Tuple) (word n : ℕ) (s : Segment) → (st ≡ state.LastAck → 0 < n) → advance_in st control.None false x (arrival now t word s) n ≡ continues x
 stays_on state.Established e x now t word n s h = refl
 stays_on state.CloseWait e x now t word n s h = refl
 stays_on state.FinWait1 e x now t word n s h = refl
@@ -110,15 +111,15 @@ module _ (u : View) (reached : IsReached u) (carries : carries_data u.state ≡ 
   unfolding bytes_taken
   none_taken y = let z : length (cut_bytes cut g.payload) ≡ 0 = omega (arith, length-cut cut g.payload, empty) in rw z refl
 
-  in_window : processed u now word ip g ≡ after_table (advance_in u.state (counted_control g.control (receive_window u) g.seq_number (length g.payload)) a.fin x now (tuple_of ip g) word a.len g) now a cut.offset (cut_bytes cut g.payload) g
+  in_window : processed u now word ip g ≡ after_table (advance_in u.state (counted_control g.control (receive_window u) g.seq_number (length g.payload)) a.fin x (arrival now (tuple_of ip g) word g) a.len) (arrival now (tuple_of ip g) word g) a cut.offset (cut_bytes cut g.payload)
   unfolding processed processed_inside advanced
   in_window = rw (passes, synchronized_has u.state open_state, lies_inside) refl
 
-  table : advance_in u.state (counted_control g.control (receive_window u) g.seq_number (length g.payload)) a.fin x now (tuple_of ip g) word a.len g ≡ continues x
-  table = (λ i. advance_in u.state (counts i) ((acked i).fin) x now (tuple_of ip g) word ((acked i).len) g) ∙ stays_on u.state carries x now (tuple_of ip g) word n g some
+  table : advance_in u.state (counted_control g.control (receive_window u) g.seq_number (length g.payload)) a.fin x (arrival now (tuple_of ip g) word g) a.len ≡ continues x
+  table = (λ i. advance_in u.state (counts i) ((acked i).fin) x (arrival now (tuple_of ip g) word g) ((acked i).len)) ∙ stays_on u.state carries x now (tuple_of ip g) word n g some
 
   pub heard_answer : processed u now word ip g ≡ stopped (heard x now a g)
-  heard_answer = in_window ∙ ap (λ t. after_table t now a cut.offset (cut_bytes cut g.payload) g) table ∙ none_taken (heard x now a g)
+  heard_answer = in_window ∙ ap (λ t. after_table t (arrival now (tuple_of ip g) word g) a cut.offset (cut_bytes cut g.payload)) table ∙ none_taken (heard x now a g)
 
   h : HeardSo x a g (heard x now a g)
   h = heard_so x now a g
@@ -140,9 +141,9 @@ field_some w room = omega (arith, one)
 
 -- ---- the law
 
-module _ (t : Tuple) (f : Facts) (stamps : Bool) (v u w : View) (out : Sending) (n : ℕ) (now : Instant) (word : ℕ) (said : HasSaid t f stamps v out u) (r : HearsOf v w n) (in_reach : is_inside (receive_window u) w.remote_last_seq 0 ≡ true) where
+module _ (t : Tuple) (f : Facts) (v u w : View) (out : Sending) (n : ℕ) (now : Instant) (word : ℕ) (said : HasSaid t f v out u) (r : HearsOf v w n) (in_reach : is_inside (receive_window u) w.remote_last_seq 0 ≡ true) where
   k : Still v u
-  k = still t f stamps v out u said
+  k = still t f v out u said
 
   goes_on : carries_data u.state ≡ true
   goes_on = ap carries_data k.state ∙ said.carries
@@ -175,8 +176,8 @@ module _ (t : Tuple) (f : Facts) (stamps : Bool) (v u w : View) (out : Sending) 
       some_then e = some (sym k.state ∙ e)
 
       by : (n ≡ 0) ⊎ (0 < n) → Moved v u w out n now word
-      by (inl z) = TellsWindow (ack_segment w out.segment) (ap (λ (o : Outcome). o.reply) is) z (λ ip stamp. told u (reached_then t f stamps v out u said) goes_on (next_ack w) n next taken some_then now word ip (record (ack_segment w out.segment) { timestamp = stamp }) refl refl refl in_reach (field_some w r.room))
-      by (inr p) = Releases (ack_segment w out.segment) (ap (λ (o : Outcome). o.reply) is) p (λ ip stamp. released u (reached_then t f stamps v out u said) goes_on (next_ack w) n next taken some_then now word ip (record (ack_segment w out.segment) { timestamp = stamp }) refl refl refl in_reach ∙ ap (λ (q : Queue). drop n q.bytes) k.tx)
+      by (inl z) = TellsWindow (ack_segment w out.segment) (ap (λ (o : Outcome). o.reply) is) z (λ ip stamp. told u (reached_then t f v out u said) goes_on (next_ack w) n next taken some_then now word ip (record (ack_segment w out.segment) { timestamp = stamp }) refl refl refl in_reach (field_some w r.room))
+      by (inr p) = Releases (ack_segment w out.segment) (ap (λ (o : Outcome). o.reply) is) p (λ ip stamp. released u (reached_then t f v out u said) goes_on (next_ack w) n next taken some_then now word ip (record (ack_segment w out.segment) { timestamp = stamp }) refl refl refl in_reach ∙ ap (λ (q : Queue). drop n q.bytes) k.tx)
 
   -- with a byte
   module _ (before : seq_sub (next_ack w) out.segment.seq_number < 2 ^ 31) (some : 0 < length out.segment.payload) (small : out.segment.seq_number.0 < 2 ^ 32) where
@@ -188,14 +189,14 @@ module _ (t : Tuple) (f : Facts) (stamps : Bool) (v u w : View) (out : Sending) 
     near = subst (λ m. seq_sub m out.segment.seq_number < 2 ^ 31) (sym edge) before
 
     few : length out.segment.payload ≤ 2 ^ 30
-    few = short t f stamps v out u said
+    few = short t f v out u said
 
     full : (b : Bool) → is_inside (receive_window w) out.segment.seq_number (length out.segment.payload) ≡ b → full_inside (receive_window w) out.segment.seq_number (seq_add out.segment.seq_number (length out.segment.payload)) ≡ b
     unfolding is_inside
     full b e = ap (λ z. if z then empty_inside (receive_window w) out.segment.seq_number else full_inside (receive_window w) out.segment.seq_number (seq_add out.segment.seq_number (length out.segment.payload))) (sym (not_zero (length out.segment.payload) some)) ∙ e
 
     wide_so : seq_sub (receive_window w).end (receive_window w).start ≤ 2 ^ 30
-    wide_so = wide w (next_ack v) faces now word out.ip out.segment (bit t f stamps v out u said) (ack t f stamps v out u said)
+    wide_so = wide w (next_ack v) faces now word out.ip out.segment (bit t f v out u said) (ack t f v out u said)
 
     with_bytes : (v.state ≡ state.LastAck → (0 < n) ⊎ ((next_ack w).0 ≡ out.segment.seq_number.0) × HasWindow w) → Moved v u w out n now word
     with_bytes last = by (is_inside (receive_window w) out.segment.seq_number (length out.segment.payload)) refl
@@ -208,17 +209,17 @@ module _ (t : Tuple) (f : Facts) (stamps : Bool) (v u w : View) (out : Sending) 
             either (inr q) = absurd (true≢false (sym (edge_inside (receive_window w) (start_small w) (end_small w) wide_so out.segment.seq_number small (length out.segment.payload) some few near (ap (λ (m : TcpSeqNumber). m.0) edge ∙ q.0) q.1) ∙ full false e))
 
         by : (b : Bool) → is_inside (receive_window w) out.segment.seq_number (length out.segment.payload) ≡ b → Moved v u w out n now word
-        by true e = Joins (joins w (next_ack v) faces now word out.ip out.segment (bit t f stamps v out u said) (ack t f stamps v out u said) r.receives e (cut_at_edge (receive_window w) (start_small w) (end_small w) wide_so out.segment.seq_number small (length out.segment.payload) some few near) (subst (λ m. 0 < m) (sym (length-cut (cut_of (receive_window w) out.segment.seq_number (length out.segment.payload)) out.segment.payload)) (cut_some (receive_window w) (start_small w) (end_small w) wide_so out.segment.seq_number small (length out.segment.payload) some few near (full true e))))
-        by false e = answers (away w (next_ack v) faces now word out.ip out.segment (bit t f stamps v out u said) (ack t f stamps v out u said) e some) (moves_then e)
+        by true e = Joins (joins w (next_ack v) faces now word out.ip out.segment (bit t f v out u said) (ack t f v out u said) r.receives e (cut_at_edge (receive_window w) (start_small w) (end_small w) wide_so out.segment.seq_number small (length out.segment.payload) some few near) (subst (λ m. 0 < m) (sym (length-cut (cut_of (receive_window w) out.segment.seq_number (length out.segment.payload)) out.segment.payload)) (cut_some (receive_window w) (start_small w) (end_small w) wide_so out.segment.seq_number small (length out.segment.payload) some few near (full true e))))
+        by false e = answers (away w (next_ack v) faces now word out.ip out.segment (bit t f v out u said) (ack t f v out u said) e some) (moves_then e)
 
 pub delivery_moves : DeliveryMoves
-delivery_moves t f stamps v u w out n now word said r probe in_reach last = by (stands t f stamps v out u said w n r probe)
+delivery_moves t f v u w out n now word said r probe in_reach last = by (stands t f v out u said w n r probe)
   where
     by : Stands w out n → Moved v u w out n now word
     by (FinAlone fin none at) =
-        let c : CountsIt w (processed w now word out.ip out.segment) = fin_counts w (next_ack v) (faces t f stamps v u w out n now word said r in_reach) now word out.ip out.segment (bit t f stamps v out u said) (ack t f stamps v out u said) fin none at r.receives in
+        let c : CountsIt w (processed w now word out.ip out.segment) = fin_counts w (next_ack v) (faces t f v u w out n now word said r in_reach) now word out.ip out.segment (bit t f v out u said) (ack t f v out u said) fin none at r.receives in
         CountsFin c.fin c.next
-    by (WithBytes before some small at) = with_bytes t f stamps v u w out n now word said r in_reach before some small waits
+    by (WithBytes before some small at) = with_bytes t f v u w out n now word said r in_reach before some small waits
       where
         waits : v.state ≡ state.LastAck → (0 < n) ⊎ ((next_ack w).0 ≡ out.segment.seq_number.0) × HasWindow w
         waits is = either (some_or_none n) (last is)

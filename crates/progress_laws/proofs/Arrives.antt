@@ -13,6 +13,7 @@ use Rattle.sock_core.proofs.Receiving.{joins_all_at_once}
 use Rattle.sock_core.specs.Received.{JoinsAtOnce, Received, taken_in}
 use Rattle.sock_core.specs.Seq.{is_before, is_not_after, later_of}
 use Rattle.sock_tcp.proofs.Windows.{end_small, far, length-cut, not_after, not_far, start_small, window_width}
+use Rattle.sock_tcp.specs.Arrival.{arrival}
 use Rattle.sock_tcp.specs.Acked.{acked_of}
 use Rattle.sock_tcp.specs.Advance.{Advance, advance_in, advanced, counted_control, fin_counted, waiting}
 use Rattle.sock_tcp.specs.Process.{Outcome, ack_sent, after_advance, challenged, after_table, bytes_taken, close_restarted, has_window, outside, outside_by, processed, processed_inside, stopped, timer_restarted, tuple_of}
@@ -254,7 +255,7 @@ counted_so control.Fin w number n d = go (is_before w.start number || is_before 
     go false = tt
 counted_so _ w number n d = absurd d
 
-goes_on : (c : TcpControl) → IsCounted c → (st : State) (fin : Bool) → receives st ≡ true → (x : View) (now : Instant) (t : Tuple) (word n : ℕ) (s : Segment) → (advance_in st c fin x now t word n s).next ≡ next.Continue
+goes_on : (c : TcpControl) → IsCounted c → (st : State) (fin : Bool) → receives st ≡ true → (x : View) (now : Instant) (t : Tuple) (word n : ℕ) (s : Segment) → (advance_in st c fin x (arrival now t word s) n).next ≡ next.Continue
 goes_on control.None d state.Established fin r x now t word n s = refl
 goes_on control.None d state.FinWait1 true r x now t word n s = refl
 goes_on control.None d state.FinWait1 false r x now t word n s = refl
@@ -310,7 +311,7 @@ module _ (w : View) (k : TcpSeqNumber) (r : Faces w k) (now : Instant) (word : �
   x = record w { local_rx_last_seq = Some s.seq_number }
 
   abbrev row : TcpControl → Advance
-  row c = advance_in w.state c a.fin x now (tuple_of ip s) word a.len s
+  row c = advance_in w.state c a.fin x (arrival now (tuple_of ip s) word s) a.len
 
   pub wide : seq_sub (receive_window w).end (receive_window w).start ≤ 2 ^ 30
   wide = omega (arith, window_width w r.room, r.room)
@@ -321,7 +322,7 @@ module _ (w : View) (k : TcpSeqNumber) (r : Faces w k) (now : Instant) (word : �
   has : has_window w.state ≡ true
   has = synchronized_has w.state r.state
 
-  pub in_window : is_inside (receive_window w) s.seq_number (length s.payload) ≡ true → processed w now word ip s ≡ after_table (row c) now a cut.offset bs s
+  pub in_window : is_inside (receive_window w) s.seq_number (length s.payload) ≡ true → processed w now word ip s ≡ after_table (row c) (arrival now (tuple_of ip s) word s) a cut.offset bs
   unfolding processed processed_inside advanced
   in_window i = rw (passes, has, i) refl
 
@@ -355,7 +356,7 @@ module _ (w : View) (k : TcpSeqNumber) (r : Faces w k) (now : Instant) (word : �
   pub joins : receives w.state ≡ true → is_inside (receive_window w) s.seq_number (length s.payload) ≡ true → cut.offset ≡ 0 → 0 < length bs → length w.rx_buffer.bytes < length (processed w now word ip s).view.rx_buffer.bytes
   joins takes i at some = subst (λ (o : Outcome). length w.rx_buffer.bytes < length o.view.rx_buffer.bytes) (sym (in_window i)) (grows (row c).next (row c).view (goes_on c (counted_so s.control (receive_window w) s.seq_number (length s.payload) bit) w.state a.fin takes x now (tuple_of ip s) word a.len s) (table_keeps s now x (tuple_of ip s) word a.len w.state c a.fin).rx)
     where
-      grows : (m : Next) (y : View) → m ≡ next.Continue → y.rx_buffer ≡ w.rx_buffer → length w.rx_buffer.bytes < length (after_advance m y now a cut.offset bs s).view.rx_buffer.bytes
+      grows : (m : Next) (y : View) → m ≡ next.Continue → y.rx_buffer ≡ w.rx_buffer → length w.rx_buffer.bytes < length (after_advance m y (arrival now (tuple_of ip s) word s) a cut.offset bs).view.rx_buffer.bytes
       grows next.Stop y e q = absurd cc
       grows next.Challenge y e q = absurd cc
       grows next.Continue y e q =
@@ -405,9 +406,9 @@ module _ (w : View) (k : TcpSeqNumber) (r : Faces w k) (now : Instant) (word : �
         h = heard_so y now a s
 
     pub fin_row : w.state ≡ state.Established → processed w now word ip s ≡ stopped (heard (fin_counted state.CloseWait x) now a s)
-    fin_row e = in_window inside ∙ ap (λ m. after_table (row m) now a cut.offset bs s) counts ∙ ap (λ st. after_table (advance_in st control.Fin a.fin x now (tuple_of ip s) word a.len s) now a cut.offset bs s) e ∙ none_taken (heard (fin_counted state.CloseWait x) now a s)
+    fin_row e = in_window inside ∙ ap (λ m. after_table (row m) (arrival now (tuple_of ip s) word s) a cut.offset bs) counts ∙ ap (λ st. after_table (advance_in st control.Fin a.fin x (arrival now (tuple_of ip s) word s) a.len) (arrival now (tuple_of ip s) word s) a cut.offset bs) e ∙ none_taken (heard (fin_counted state.CloseWait x) now a s)
 
-    rows : (st : State) (acked : Bool) → receives st ≡ true → CountsIt w (after_table (advance_in st control.Fin acked x now (tuple_of ip s) word a.len s) now a cut.offset bs s)
+    rows : (st : State) (acked : Bool) → receives st ≡ true → CountsIt w (after_table (advance_in st control.Fin acked x (arrival now (tuple_of ip s) word s) a.len) (arrival now (tuple_of ip s) word s) a cut.offset bs)
     unfolding fin_counted
     rows state.Established acked e = after_fin (fin_counted state.CloseWait x) refl refl refl refl
     rows state.FinWait1 true e = after_fin (waiting now (fin_counted state.TimeWait x)) refl refl refl refl
@@ -416,4 +417,4 @@ module _ (w : View) (k : TcpSeqNumber) (r : Faces w k) (now : Instant) (word : �
     rows _ acked e = absurd cc
 
     pub fin_counts : receives w.state ≡ true → CountsIt w (processed w now word ip s)
-    fin_counts takes = subst (CountsIt w) (sym (in_window inside ∙ ap (λ m. after_table (row m) now a cut.offset bs s) counts)) (rows w.state a.fin takes)
+    fin_counts takes = subst (CountsIt w) (sym (in_window inside ∙ ap (λ m. after_table (row m) (arrival now (tuple_of ip s) word s) a cut.offset bs) counts)) (rows w.state a.fin takes)

@@ -1,5 +1,5 @@
 -- How a dispatch begins once the timer is over, and what comes out of it.
-use Rattle.std.proofs.Common.{◌≡◌, ℕ, zero, suc, ◌+◌, ◌<◌, ◌≤◌, ◌^◌, ◌⊎◌, inl, inr, Bool, true, false, true≢false, ◌&&◌, refl, sym, ap, subst, ◌∙◌, List, length, take, drop, min, Option, Some, None, arith}
+use Rattle.std.proofs.Common.{◌≡◌, ℕ, zero, suc, ◌+◌, ◌<◌, ◌≤◌, ◌^◌, ◌⊎◌, inl, inr, Bool, true, false, true≢false, ◌&&◌, refl, sym, ap, subst, ◌∙◌, List, length, take, drop, min, Option, Some, None, is_some, arith}
 use Rattle.std.specs.Prelude.{if◌then◌else◌, ◌==◌, option_map, ◌≤ℤ◌, int_le}
 use Rattle.std.proofs.lemmas.Int.{ints}
 use Rattle.std.proofs.lemmas.Bool.{eq-eqb, eqb-true}
@@ -13,7 +13,7 @@ use Rattle.control_wire.specs.declared.seq_number.TcpSeqNumber.{TcpSeqNumber}
 use Rattle.control_wire.specs.declared.tcp.TcpControl.{TcpControl}
 use Rattle.control_wire.specs.declared.tcp.TcpControl.TheVariants as control
 use Rattle.sock_core.specs.Facts.{Facts}
-use Rattle.sock_tcp.specs.Begin.{Begun, last_ts_set, last_ts_set_at, told_ready, readied, retransmission_begun, fast_retransmission_marked, after_timer, after_timers, is_paused, begun, begun_to, unless_paused, nothing_due, by_due, before_emit, before_emit_to}
+use Rattle.sock_tcp.specs.Begin.{Begun, last_ts_set, last_ts_set_at, told_ready, readied, retransmission_begun, fast_retransmission_marked, after_timer, after_timers, is_paused, begun, begun_to, unless_paused, nothing_due, by_due, before_emit, before_emit_to, going_on, peer_of}
 use Rattle.sock_tcp.specs.Content.{Sending, asked, carries_data, content, data_control, emission_kind, filled, offset_of, plain_segment, sent_as, with_data}
 use Rattle.sock_tcp.specs.Due.{is_closing, is_due}
 use Rattle.sock_tcp.specs.Process.{Outcome, processed}
@@ -65,12 +65,12 @@ run_on v u w k i j (Then _ x _ _ l _ s r) last = Then v x w k l j s (run_on x u 
 pub step_reached : (v w : View) (j : Counts) (r : IsReached v) → Step v r.counts w j → IsReached w
 step_reached v w j r s = record { rx = r.rx; tx = r.tx; counts = j; rx_size = r.rx_size; tx_size = r.tx_size; run = run_on _ v w _ r.counts j r.run s }
 
-any_ok : (o : Option Tuple) (f : Facts) (stamps : Bool) (u : View) (out : Option Sending) (w : View) → SendsOkTo o f stamps u out w → SendsTo o f stamps u out w
-any_ok None f stamps u out w h = h
-any_ok (Some t) f stamps u out w h = record { stamp = h.stamp; told = h.told; bytes = h.bytes; lent = h.lent; ok = true; sends = h.sends; view = h.view }
+any_ok : (o : Option Tuple) (f : Facts) (u : View) (out : Option Sending) (w : View) → SendsOkTo o f u out w → SendsTo o f u out w
+any_ok None f u out w h = h
+any_ok (Some t) f u out w h = record { stamp = h.stamp; told = h.told; bytes = h.bytes; lent = h.lent; ok = true; sends = h.sends; view = h.view }
 
-pub dispatch_reached : (f : Facts) (stamps : Bool) (v : View) (out : Option Sending) (w : View) → IsReached v → DispatchesOk f stamps v out w → IsReached w
-dispatch_reached f stamps v out w r h = step_reached v w (starting_if (is_reset v f stamps) w r.counts) r (Dispatch f stamps out (any_ok (before_emit v f stamps).peer f stamps (before_emit v f stamps).view out w h) refl)
+pub dispatch_reached : (f : Facts) (v : View) (out : Option Sending) (w : View) → IsReached v → DispatchesOk f v out w → IsReached w
+dispatch_reached f v out w r h = step_reached v w (starting_if (is_reset v f) w r.counts) r (Dispatch f out (any_ok (peer_of (before_emit v f)) f (before_emit v f).view out w h) refl)
 
 -- a segment that comes
 pub numbered_as : (g : Segment) (k : TcpSeqNumber) → g.ack_number ≡ Some k → g.seq_number.0 < 2 ^ 32 → k.0 < 2 ^ 32 → IsNumbered g
@@ -157,12 +157,30 @@ timer_no_end (timer.Idle at) x now is e = ap (λ t. is_close_over t now) is ∙ 
 timer_no_end (timer.ZeroWindowProbe at delay) x now is e = ap (λ t. is_close_over t now) is ∙ e
 timer_no_end (timer.Close at) x now is e = ap (λ t. is_close_over t now) is ∙ e
 
+readied_tuple : (v : View) (now : Instant) → (readied v now).tuple ≡ v.tuple
+unfolding readied last_ts_set
+readied_tuple v now = by v.remote_last_ts
+  where
+    by : (o : Option Instant) → (told_ready (last_ts_set_at o v now) now).tuple ≡ v.tuple
+    by None = refl
+    by (Some at) = refl
+
+timer_tuple : (m : Timer) (v : View) (now : Instant) → (after_timer m v now).tuple ≡ v.tuple
+unfolding retransmission_begun fast_retransmission_marked
+timer_tuple (timer.Retransmit at) v now = by (is_over at now)
+  where
+    by : (b : Bool) → (if b then retransmission_begun v now else v).tuple ≡ v.tuple
+    by true = refl
+    by false = refl
+timer_tuple timer.FastRetransmit v now = refl
+timer_tuple _ v now = refl
+
 -- a SYN|ACK alone may be paused
 pub carries_runs : (st : State) (b : Bool) → carries_data st ≡ true → is_paused st b ≡ false
 carries_runs state.SynReceived b c = absurd cc
 carries_runs _ b c = refl
 
-module _ (v : View) (t : Tuple) (f : Facts) (stamps : Bool) (h : GoesOn v t f) (c : is_paused v.state v.synack_paused ≡ false) where
+module _ (v : View) (t : Tuple) (f : Facts) (h : GoesOn v t f) (c : is_paused v.state v.synack_paused ≡ false) where
   abbrev now : Instant
   now = moment_of f
 
@@ -185,54 +203,58 @@ module _ (v : View) (t : Tuple) (f : Facts) (stamps : Bool) (h : GoesOn v t f) (
   goes_on : is_paused beginning.state beginning.synack_paused ≡ false
   goes_on = (λ i. is_paused (((timer_kept v.timer x now).0 ∙ still.same.state) i) (((timer_kept v.timer x now).1 ∙ still.same.paused) i)) ∙ c
 
-  not_waiting : (y : View) → is_paused y.state y.synack_paused ≡ false → unless_paused y t ≡ record { view = y; peer = Some t }
+  not_waiting : (y : View) → is_paused y.state y.synack_paused ≡ false → unless_paused y ≡ going_on y
   not_waiting y e = rw e refl
 
-  with_address : begun_to (Some t) v f ≡ unless_paused (after_timers x now) t
+  with_address : begun_to (Some t) v f ≡ unless_paused (after_timers x now)
   with_address = rw h.address refl
 
-  begun_so : begun_to v.tuple v f ≡ record { view = beginning; peer = Some t }
-  begun_so = ap (λ o. begun_to o v f) h.peer ∙ with_address ∙ ap (λ y. unless_paused y t) timers_are ∙ not_waiting beginning goes_on
+  begun_so : begun_to v.tuple v f ≡ going_on beginning
+  begun_so = ap (λ o. begun_to o v f) h.peer ∙ with_address ∙ ap unless_paused timers_are ∙ not_waiting beginning goes_on
 
-  begins_so : before_emit v f stamps ≡ by_due (is_due beginning t f stamps) beginning t f
+  -- its peer is that of v
+  to_peer : beginning.tuple ≡ Some t
+  to_peer = timer_tuple v.timer x now ∙ readied_tuple v now ∙ h.peer
+
+  begins_so : before_emit v f ≡ by_due (is_due beginning t f) beginning f
   unfolding before_emit begun
-  begins_so = ap (λ (b : Begun). before_emit_to b.peer b.view f stamps) begun_so
+  begins_so = ap (λ (b : Begun). before_emit_to (peer_of b) b.view f) begun_so ∙ ap (λ o. before_emit_to o beginning f) to_peer
 
   unchanged : nothing_due beginning now ≡ beginning
   unfolding nothing_due
   unchanged = rw (timer_no_end v.timer x now still.timer h.no_end) refl
 
   -- what is due goes out
-  pub sends_so : (out : Option Sending) (w : View) → is_due beginning t f stamps ≡ true → SendsOk f t stamps beginning out w → DispatchesOk f stamps v out w
-  sends_so out w e s = subst (λ (b : Begun). SendsOkTo b.peer f stamps b.view out w) (sym (begins_so ∙ ap (λ b. by_due b beginning t f) e)) s
+  pub sends_so : (out : Option Sending) (w : View) → is_due beginning t f ≡ true → SendsOk f t beginning out w → DispatchesOk f v out w
+  sends_so out w e s = subst (λ (b : Begun). SendsOkTo (peer_of b) f b.view out w) (sym (begins_so ∙ ap (λ b. by_due b beginning f) e)) (subst (λ o. SendsOkTo o f beginning out w) (sym to_peer) s)
 
   -- and nothing else
-  pub quiet_so : is_due beginning t f stamps ≡ false → DispatchesOk f stamps v None beginning
-  quiet_so e = subst (λ (b : Begun). SendsOkTo b.peer f stamps b.view None beginning) (sym (begins_so ∙ ap (λ b. by_due b beginning t f) e)) (refl, sym unchanged)
+  pub quiet_so : is_due beginning t f ≡ false → DispatchesOk f v None beginning
+  quiet_so e = subst (λ (b : Begun). SendsOkTo (peer_of b) f b.view None beginning) (sym (begins_so ∙ ap (λ b. by_due b beginning f) e)) (refl, sym unchanged)
 
   -- something goes out, or nothing is due
   abbrev pub Goes : Option Sending → View → Type 0
-  Goes out w = (SendsOk f t stamps beginning out w × ((before_emit v f stamps).view ≡ beginning)) ⊎ ((w ≡ beginning) × (is_due beginning t f stamps ≡ false))
+  Goes out w = (SendsOk f t beginning out w × ((before_emit v f).view ≡ beginning)) ⊎ ((w ≡ beginning) × (is_due beginning t f ≡ false))
 
-  pub goes : (out : Option Sending) (w : View) → DispatchesOk f stamps v out w → Goes out w
-  goes out w k = by (is_due beginning t f stamps) refl (subst (λ (b : Begun). SendsOkTo b.peer f stamps b.view out w) begins_so k)
+  pub goes : (out : Option Sending) (w : View) → DispatchesOk f v out w → Goes out w
+  goes out w k = by (is_due beginning t f) refl (subst (λ (b : Begun). SendsOkTo (peer_of b) f b.view out w) begins_so k)
     where
-      by : (b : Bool) → is_due beginning t f stamps ≡ b → SendsOkTo (by_due b beginning t f).peer f stamps (by_due b beginning t f).view out w → Goes out w
-      by true e s = inl (s, ap (λ (b : Begun). b.view) begins_so ∙ ap (λ b. (by_due b beginning t f).view) e)
+      by : (b : Bool) → is_due beginning t f ≡ b → SendsOkTo (peer_of (by_due b beginning f)) f (by_due b beginning f).view out w → Goes out w
+      by true e s = inl (subst (λ o. SendsOkTo o f beginning out w) to_peer s, ap (λ (b : Begun). b.view) begins_so ∙ ap (λ b. (by_due b beginning f).view) e)
       by false e s = inr (s.1 ∙ unchanged, e)
 
-  pub goes_out : (s : Sending) (w : View) → DispatchesOk f stamps v (Some s) w → SendsOk f t stamps beginning (Some s) w
-  goes_out s w k = by (is_due beginning t f stamps) (subst (λ (b : Begun). SendsOkTo b.peer f stamps b.view (Some s) w) begins_so k)
+  pub goes_out : (s : Sending) (w : View) → DispatchesOk f v (Some s) w → SendsOk f t beginning (Some s) w
+  goes_out s w k = by (is_due beginning t f) (subst (λ (b : Begun). SendsOkTo (peer_of b) f b.view (Some s) w) begins_so k)
     where
-      by : (b : Bool) → SendsOkTo (by_due b beginning t f).peer f stamps (by_due b beginning t f).view (Some s) w → SendsOk f t stamps beginning (Some s) w
-      by true h = h
+      by : (b : Bool) → SendsOkTo (peer_of (by_due b beginning f)) f (by_due b beginning f).view (Some s) w → SendsOk f t beginning (Some s) w
+      by true h = subst (λ o. SendsOkTo o f beginning (Some s) w) to_peer h
       by false h = absurd (none-some s (sym h.0))
 
 -- ---- what goes out
 
 -- the bytes that the transmit queue lends
 abbrev pub lent_for : View → Tuple → Facts → List ℕ
-lent_for u t f = take (min (asked u t f false) (in_one_piece u.tx_buffer.until_end (length u.tx_buffer.bytes) (offset_of u))) (drop (offset_of u) u.tx_buffer.bytes)
+lent_for u t f = take (min (asked u t f) (in_one_piece u.tx_buffer.until_end (length u.tx_buffer.bytes) (offset_of u))) (drop (offset_of u) u.tx_buffer.bytes)
 
 carries : (st : State) (u : View) (p : Tuple) (f : Facts) (bytes : List ℕ) (s : Segment) → carries_data st ≡ true → filled st u p f bytes s ≡ Some (with_data u bytes s)
 carries state.Established u p f bytes s c = refl
@@ -250,23 +272,37 @@ pub content_is : (u : View) (p : Tuple) (f : Facts) (stamp : Option ℕ) (bytes 
 unfolding content
 content_is u p f stamp bytes c = ap (option_map (λ s. sent_as u p (emission_kind u (moment_of f) s) s)) (carries u.state u p f bytes (plain_segment u p stamp) c)
 
+-- a timestamp, where segments carry one: no law asks which
+abbrev pub stamp_for : View → Option ℕ
+stamp_for u = if u.stamps then Some 0 else None
+
+pub stamp_is : (u : View) → is_some (stamp_for u) ≡ u.stamps
+stamp_is u = by u.stamps
+  where
+    some_or_none : Bool → Option ℕ
+    some_or_none b = if b then Some 0 else None
+
+    by : (b : Bool) → is_some (some_or_none b) ≡ b
+    by true = refl
+    by false = refl
+
 -- what goes out of u, with which the dispatch begins, and what is left
-pub sends_as : (v : View) (t : Tuple) (f : Facts) (on : GoesOn v t f) (runs : is_paused v.state v.synack_paused ≡ false) (u : View) → beginning v t f false on runs ≡ u → carries_data u.state ≡ true → (k : Kind) → emission_kind u (moment_of f) (segment_for u t None (lent_for u t f)) ≡ k → is_due u t f false ≡ true
-    → DispatchesOk f false v (Some (sent_as u t k (segment_for u t None (lent_for u t f)))) (left_by (Some (sent_as u t k (segment_for u t None (lent_for u t f)))) u (moment_of f) true)
-sends_as v t f on runs u is c k e due = sends_so v t f false on runs out after (ap (λ x. is_due x t f false) is ∙ due) (subst (λ x. SendsOk f t false x out after) (sym is) (record {
-  stamp = None;
-  told = refl;
+pub sends_as : (v : View) (t : Tuple) (f : Facts) (on : GoesOn v t f) (runs : is_paused v.state v.synack_paused ≡ false) (u : View) → beginning v t f on runs ≡ u → carries_data u.state ≡ true → (k : Kind) → emission_kind u (moment_of f) (segment_for u t (stamp_for u) (lent_for u t f)) ≡ k → is_due u t f ≡ true
+    → DispatchesOk f v (Some (sent_as u t k (segment_for u t (stamp_for u) (lent_for u t f)))) (left_by (Some (sent_as u t k (segment_for u t (stamp_for u) (lent_for u t f)))) u (moment_of f) true)
+sends_as v t f on runs u is c k e due = sends_so v t f on runs out after (ap (λ x. is_due x t f) is ∙ due) (subst (λ x. SendsOk f t x out after) (sym is) (record {
+  stamp = stamp_for u;
+  told = stamp_is u;
   bytes = lent_for u t f;
   lent = refl;
-  sends = sym (content_is u t f None (lent_for u t f) c ∙ ap (λ k. Some (sent_as u t k (segment_for u t None (lent_for u t f)))) e);
+  sends = sym (content_is u t f (stamp_for u) (lent_for u t f) c ∙ ap (λ k. Some (sent_as u t k (segment_for u t (stamp_for u) (lent_for u t f)))) e);
   view = refl;
 }))
   where
     out : Option Sending
-    out = Some (sent_as u t k (segment_for u t None (lent_for u t f)))
+    out = Some (sent_as u t k (segment_for u t (stamp_for u) (lent_for u t f)))
 
     after : View
-    after = left_by (Some (sent_as u t k (segment_for u t None (lent_for u t f)))) u (moment_of f) true
+    after = left_by (Some (sent_as u t k (segment_for u t (stamp_for u) (lent_for u t f)))) u (moment_of f) true
 
 -- and where it has no bytes to send any more
 pub content_waiting : (u : View) (p : Tuple) (f : Facts) (stamp : Option ℕ) (bytes : List ℕ) → u.state ≡ state.FinWait2 → segment_for u p stamp bytes ≡ plain_segment u p stamp → content u p f stamp bytes ≡ Some (sent_as u p (emission_kind u (moment_of f) (segment_for u p stamp bytes)) (segment_for u p stamp bytes))

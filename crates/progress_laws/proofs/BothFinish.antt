@@ -164,7 +164,7 @@ module _ (d e : Option Duration) (t s : Tuple) (f : Facts) (w v : View) (i : Bot
     z = q.after
 
     reached_z : IsReached z
-    reached_z = dispatch_reached (told f now) false (closed v) (Some q.out) z (closer_of d t v i.across.sender).reached q.dispatch
+    reached_z = dispatch_reached (told f now) (closed v) (Some q.out) z (closer_of d t v i.across.sender).reached q.dispatch
 
     same_room : length z.rx_buffer.held ≤ 2 ^ 30
     same_room = omega (arith, ap (λ (b : Received). length b.held) q.still.rx, wide_so v i.across.room i.across.nothing_held, room_small v i.across.room i.across.nothing_held i.across.sender.reached)

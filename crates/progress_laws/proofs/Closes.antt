@@ -32,7 +32,7 @@ use Rattle.tcp_laws.proofs.OrderedCalls.{reached_ordered}
 use Rattle.progress_laws.specs.AfterClose.{IsCloser}
 use Rattle.progress_laws.specs.InStep.{Completes, Finishes, ForAnswer, ForKeepAlive, ForNothing, ForProbe, IsReceiver, IsSender, OneWayFinishes, Rests, told}
 use Rattle.progress_laws.specs.Speech.{DispatchesOk, GoesOn}
-use Rattle.progress_laws.proofs.Begins.{carries_runs, later_moment, lent_for, segment_for, sends_as, step_reached}
+use Rattle.progress_laws.proofs.Begins.{carries_runs, later_moment, lent_for, segment_for, sends_as, step_reached, stamp_for}
 use Rattle.progress_laws.proofs.Rounds.{one_way_completes}
 use Rattle.progress_laws.proofs.Says.{no_probe}
 use Rattle.progress_laws.proofs.Arrives.{CountsIt, Faces, fin_counts, receives_so}
@@ -46,7 +46,7 @@ use Rattle.progress_laws.proofs.Speaks.{Begins, Front, IsNoProbe, begins, wakes}
 pub record SaysFin (f : Facts) (v : View) : Type 0 where
   pub out : Sending
   pub after : View
-  pub dispatch : DispatchesOk f false v (Some out) after
+  pub dispatch : DispatchesOk f v (Some out) after
   pub bit : out.segment.control ≡ control.Fin
   pub number : out.segment.seq_number ≡ v.local_seq_no
   pub ack : out.segment.ack_number ≡ Some (next_ack v)
@@ -119,10 +119,10 @@ module _ (d : Option Duration) (t : Tuple) (c : View) (f : Facts) (now : Instant
   bytes = lent_for u t fa
 
   none : length bytes ≡ 0
-  none = omega (arith, lent_at_most u.tx_buffer (offset_of u) (asked u t fa false) bytes refl, no_queue)
+  none = omega (arith, lent_at_most u.tx_buffer (offset_of u) (asked u t fa) bytes refl, no_queue)
 
   abbrev b : Segment
-  b = segment_for u t None bytes
+  b = segment_for u t (stamp_for u) bytes
 
   fin : b.control ≡ control.Fin
   fin = rw (at_end, closing) refl
@@ -139,18 +139,19 @@ module _ (d : Option Duration) (t : Tuple) (c : View) (f : Facts) (now : Instant
       by false true = refl
       by false false = refl
 
-  fin_due : data_due u t fa false ≡ true
+  fin_due : data_due u t fa ≡ true
   unfolding data_due
-  fin_due = last ((u.pending_fast_retransmit && not (length u.tx_buffer.bytes == 0)) || (is_opening u.state && (flight u == 0)) || (not (sendable u == 0) && not (is_held_back u (effective_mss u t fa false)))) (is_closing u.state) (seq_eq u.remote_last_seq (seq_add u.local_seq_no (length u.tx_buffer.bytes))) closing at_nxt
+  fin_due = last ((u.pending_fast_retransmit && not (length u.tx_buffer.bytes == 0)) || (not (sendable u == 0) && not (is_held_back u (effective_mss u t fa)))) (is_opening u.state && (flight u == 0)) (is_closing u.state) (seq_eq u.remote_last_seq (seq_add u.local_seq_no (length u.tx_buffer.bytes))) closing at_nxt
     where
       at_nxt : seq_eq u.remote_last_seq (seq_add u.local_seq_no (length u.tx_buffer.bytes)) ≡ true
       at_nxt = eq-eqb u.remote_last_seq.0 (seq_add u.local_seq_no (length u.tx_buffer.bytes)).0 (omega (arith, no_queue, ap (λ (m : TcpSeqNumber). m.0) (fr.nxt ∙ sym fr.same.una), fr.ordered.una_small))
 
-      last : (x a e : Bool) → a ≡ true → e ≡ true → (x || (a && e)) ≡ true
-      last true a e p q = refl
-      last false a e p q = rw (p, q) refl
+      last : (x s a e : Bool) → a ≡ true → e ≡ true → (x || (s || (a && e))) ≡ true
+      last true s a e p q = refl
+      last false true a e p q = refl
+      last false false a e p q = rw (p, q) refl
 
-  due : is_due u t fa false ≡ true
+  due : is_due u t fa ≡ true
   unfolding is_due
   due = rw fin_due refl
 

@@ -36,6 +36,7 @@ use Rattle.tcp_laws.proofs.SocketSteps.{holds_after}
 use Rattle.progress_laws.specs.AfterClose.{AfterClose, BringsAll}
 use Rattle.progress_laws.specs.BothWays.{window_told}
 use Rattle.progress_laws.specs.InStep.{Carries, ForAnswer, IsAnswered, Moves, NoMove, OneMore, Reads, Rests, told}
+use Rattle.progress_laws.proofs.Stamped.{stamped_ack, answer_stamp, ack_stamped}
 use Rattle.progress_laws.proofs.Answered.{acked, heard_answer}
 use Rattle.progress_laws.proofs.Arrives.{CountsIt, Faces, away, before_window, fin_counts, receives_so}
 use Rattle.progress_laws.proofs.Begins.{some_or_none, step_reached}
@@ -172,12 +173,12 @@ module _ (d : Option Duration) (t : Tuple) (f : Facts) (at now : Instant) (since
 
     module _ (few : size ≤ n) where
       abbrev g : Segment
-      g = ack_segment w out.segment
+      g = stamped_ack w (ack_kept w) out.segment
 
       abbrev ip : IpRepr
       ip = reply_ip out.ip g
 
-      answer : processed w now 0 out.ip out.segment ≡ record { view = ack_kept w; reply = Some g }
+      answer : processed w now 0 out.ip out.segment ≡ record { view = ack_kept w; reply = Some (ack_segment w out.segment) }
       answer =
           let within = i.over.taken_within in
           let some = p.some in
@@ -280,7 +281,7 @@ module _ (d : Option Duration) (t : Tuple) (f : Facts) (at now : Instant) (since
         sender = y;
         receiver = ack_kept w;
         more = got;
-        moves = OneMore at now now v w y (ack_kept w) y (ack_kept w) got got got since (IsAnswered out x g p.dispatch answer hears refl) (NoMove now y (ack_kept w) got);
+        moves = OneMore at now now v w y (ack_kept w) y (ack_kept w) got got got since (IsAnswered out x (ack_segment w out.segment) (answer_stamp (ack_kept w) out.segment) p.dispatch answer (ack_stamped w (ack_kept w) out.segment) hears refl) (NoMove now y (ack_kept w) got);
         in_step = record {
           sender = record {
             reached = reached_y;

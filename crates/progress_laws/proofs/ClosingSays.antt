@@ -24,7 +24,7 @@ use Rattle.tcp_laws.proofs.Sleeping.{window_sends}
 use Rattle.progress_laws.specs.AfterClose.{IsCloser}
 use Rattle.progress_laws.specs.InStep.{ForAnswer, told}
 use Rattle.progress_laws.specs.Speech.{DispatchesOk, GoesOn}
-use Rattle.progress_laws.proofs.Begins.{and_no, carries_runs, dispatch_reached, lent_for, not_zero, segment_for, sends_as}
+use Rattle.progress_laws.proofs.Begins.{and_no, carries_runs, dispatch_reached, lent_for, not_zero, segment_for, sends_as, stamp_for}
 use Rattle.progress_laws.proofs.Hears.{IsData}
 use Rattle.progress_laws.proofs.Lends.{lent_some, mss_some}
 use Rattle.progress_laws.proofs.Sends.{left, open_window, plain_sent, plain_timer, plain_told}
@@ -35,7 +35,7 @@ use Rattle.progress_laws.proofs.States.{closing_carries, closing_open}
 pub record SaysOn (d : Option Duration) (t : Tuple) (f : Facts) (v : View) : Type 0 where
   pub out : Sending
   pub after : View
-  pub dispatch : DispatchesOk f false v (Some out) after
+  pub dispatch : DispatchesOk f v (Some out) after
   pub said : IsSaid out.segment.control
   pub plain : length out.segment.payload < length v.tx_buffer.bytes → IsData out.segment.control
   pub fin : length out.segment.payload ≡ length v.tx_buffer.bytes → out.segment.control ≡ control.Fin
@@ -93,7 +93,7 @@ module _ (d : Option Duration) (t : Tuple) (v : View) (f : Facts) (now : Instant
   abbrev bytes : List ℕ
   bytes = lent_for u t fa
 
-  asked_is : asked u t fa false ≡ min (min (window_left u) (effective_mss u t fa false)) (congestion_left u)
+  asked_is : asked u t fa ≡ min (min (window_left u) (effective_mss u t fa)) (congestion_left u)
   asked_is = asked_so u t f now ft carries
 
   win_u : 0 < u.remote_win_len
@@ -103,10 +103,10 @@ module _ (d : Option Duration) (t : Tuple) (v : View) (f : Facts) (now : Instant
   same = ap (λ (q : Queue). length q.bytes) fr.same.tx
 
   some : 0 < length bytes
-  some = lent_some u.tx_buffer (offset_of u) (asked u t fa false) bytes refl (omega (arith, asked_is, win_u, ft.no_flight, mss_some u t fa false mtu.0 ft.mss, open_window u.congestion_controller fr.ordered.congestion)) (omega (arith, ft.start, queue, same))
+  some = lent_some u.tx_buffer (offset_of u) (asked u t fa) bytes refl (omega (arith, asked_is, win_u, ft.no_flight, mss_some u t fa mtu.0 ft.mss, open_window u.congestion_controller fr.ordered.congestion)) (omega (arith, ft.start, queue, same))
 
   abbrev b : Segment
-  b = segment_for u t None bytes
+  b = segment_for u t (stamp_for u) bytes
 
   plain_kind : emission_kind u now b ≡ kind.Plain
   plain_kind = rw (ft.no_probing, no_bytes) (ap (λ c. if c then kind.KeepAlive else kind.Plain) (and_no (is_keep_alive_over u.timer now)))
@@ -114,14 +114,14 @@ module _ (d : Option Duration) (t : Tuple) (v : View) (f : Facts) (now : Instant
       no_bytes : is_empty_segment b ≡ false
       no_bytes = rw (not_zero (length bytes) some) refl
 
-  due : is_due u t fa false ≡ true
+  due : is_due u t fa ≡ true
   unfolding is_due
-  due = rw (window_sends u t fa false fr.ordered win_u ft.no_flight (inl (subst (λ n. 0 < n) (sym same) queue))) refl
+  due = rw (window_sends u t fa fr.ordered win_u ft.no_flight (inl (subst (λ n. 0 < n) (sym same) queue))) refl
 
   abbrev after : View
   after = left u t now b not_closed kind.Plain
 
-  goes : DispatchesOk fa false v (Some (sent_as u t kind.Plain b)) after
+  goes : DispatchesOk fa v (Some (sent_as u t kind.Plain b)) after
   goes = sends_as v t fa on runs u (start.is on runs) carries kind.Plain plain_kind due
 
   long : 0 < segment_len b
@@ -151,9 +151,9 @@ module _ (d : Option Duration) (t : Tuple) (v : View) (f : Facts) (now : Instant
         fits = omega (arith, lent_few u t fa, asked_is, fr.same.window);
         queued = omega (arith, lent_few u t fa, same);
         short = omega (arith, lent_few u t fa, asked_is, mtu.1);
-        first = lent_beginning u.tx_buffer (offset_of u) (asked u t fa false) bytes refl ∙ ap (λ o. take (length bytes) (drop o u.tx_buffer.bytes)) ft.start ∙ ap (λ (q : Queue). take (length bytes) q.bytes) fr.same.tx;
+        first = lent_beginning u.tx_buffer (offset_of u) (asked u t fa) bytes refl ∙ ap (λ o. take (length bytes) (drop o u.tx_buffer.bytes)) ft.start ∙ ap (λ (q : Queue). take (length bytes) q.bytes) fr.same.tx;
         closer = record {
-          reached = dispatch_reached fa false v (Some (sent_as u t kind.Plain b)) after s.reached goes;
+          reached = dispatch_reached fa v (Some (sent_as u t kind.Plain b)) after s.reached goes;
           state = ap is_closing l.same.state ∙ closing;
           peer = l.same.peer ∙ fr.same.peer ∙ s.peer;
           no_timeout = l.same.timeout ∙ fr.same.timeout ∙ s.no_timeout;

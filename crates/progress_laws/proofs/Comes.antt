@@ -27,6 +27,7 @@ use Rattle.progress_laws.specs.Delivery.{HasSaid, has_counted}
 use Rattle.progress_laws.specs.InStep.{Carries, IsAnswered, Reads, told}
 use Rattle.progress_laws.specs.ShutWindows.{width}
 use Rattle.progress_laws.specs.Speech.{FromUna, KeepsAlive, Speech}
+use Rattle.progress_laws.proofs.Stamped.{stamped_ack, answer_stamp, ack_stamped}
 use Rattle.progress_laws.proofs.Agrees.{later_reach, left_reach, left_speaks, reach_kept, answers_agree, answers_open, hears, hears_agrees, left_agrees, nothing_left, queue_left, reads_agree, same_rx, same_shift, same_state, then_heard, width_small, window_open}
 use Rattle.progress_laws.proofs.Arrives.{away, before_window, reads_reached}
 use Rattle.progress_laws.proofs.Begins.{dispatch_reached, not_zero, some_or_none}
@@ -128,7 +129,7 @@ module _ (d : Duration) (t : Tuple) (f : Facts) (at : Instant) (v w : View) (got
   room = omega (arith, unit_fits w agreed.taker.reached agreed.taker.room, ap (λ (l : List ℕ). length l) read)
 
   reached : IsReached u
-  reached = dispatch_reached fa false x (Some p.out) u agreed.speaker.reached p.dispatch
+  reached = dispatch_reached fa x (Some p.out) u agreed.speaker.reached p.dispatch
 
   same_tx : u.tx_buffer.bytes ≡ v.tx_buffer.bytes
   same_tx = ap (λ (q : Queue). q.bytes) (p.left.same.tx ∙ p.earlier.same.tx)
@@ -139,7 +140,7 @@ module _ (d : Duration) (t : Tuple) (f : Facts) (at : Instant) (v w : View) (got
   same_field : window_field x ≡ window_field v
   same_field = λ i. min (length ((p.earlier.same.rx i).held) / 2 ^ p.earlier.same.shift i) 65535
 
-  said : Speech x p.out → HasSaid t fa false x p.out u
+  said : Speech x p.out → HasSaid t fa x p.out u
   said sp = record { reached = agreed.speaker.reached; carries = agreed.speaker.carries; on = p.on; dispatch = p.dispatch; speech = sp }
 
   -- ---- what w took is read
@@ -291,13 +292,13 @@ module _ (d : Duration) (t : Tuple) (f : Facts) (at : Instant) (v w : View) (got
         by (ForProbe at delay e f) = ForProbe at delay e f
 
     -- and the answer is heard
-    heard_so : (x.state ≡ states.LastAck → 0 < n) → (u' : View) → processed u p.now 0 (reply_ip p.out.ip (ack_segment w s)) (ack_segment w s) ≡ record { view = u'; reply = None } → Exchanges f at v w got p.now u' y got
-    heard_so last u' e = onward at p.mid p.now v w x w u' y got got got p.before (NextOne p.mid p.now p.now x w u' y u' y got got got p.since (IsMove (IsAnswered p.out u (ack_segment w s) p.dispatch is e refl)) (NoMore p.now u' y got))
+    heard_so : (x.state ≡ states.LastAck → 0 < n) → (u' : View) → processed u p.now 0 (reply_ip p.out.ip (stamped_ack w y s)) (stamped_ack w y s) ≡ record { view = u'; reply = None } → Exchanges f at v w got p.now u' y got
+    heard_so last u' e = onward at p.mid p.now v w x w u' y got got got p.before (NextOne p.mid p.now p.now x w u' y u' y got got got p.since (IsMove (IsAnswered p.out u (ack_segment w s) (answer_stamp y s) p.dispatch is (ack_stamped w y s) e refl)) (NoMore p.now u' y got))
 
     hears_it : (x.state ≡ states.LastAck → 0 < n) → ((u' : View) → 0 < u'.remote_win_len → Reason v w u' n) → Round d t f at v w got n h
     unfolding ack_kept ack_segment
     hears_it last why =
-        let g : Segment = ack_segment w s in
+        let g : Segment = stamped_ack w y s in
         let some : u.state ≡ states.LastAck → 0 < n = λ e. last (sym p.left.same.state ∙ e) in
         let ip = reply_ip p.out.ip g in
         Opened (record {
@@ -349,18 +350,18 @@ module _ (d : Duration) (t : Tuple) (f : Facts) (at : Instant) (v w : View) (got
   from_front : StartsAtUna x p.out → Round d t f at v w got n h
   from_front q = by (arrives d t x w n h agreed read p.now p.out.ip s front)
     where
-      sp : HasSaid t fa false x p.out u
+      sp : HasSaid t fa x p.out u
       sp = said (FromUna q.kind q.number q.some)
 
       front : FromFront x s
       front = record {
-        bit = bit t fa false x p.out u sp;
-        ack = ack t fa false x p.out u sp;
+        bit = bit t fa x p.out u sp;
+        ack = ack t fa x p.out u sp;
         number = q.number;
-        first = first_bytes t fa false x p.out u sp q.kind q.number;
-        field = field t fa false x p.out u sp;
-        fin = fin_ends t fa false x p.out u sp q.kind q.number;
-        closing = fin_of_closing t fa false x p.out u sp q.kind q.number;
+        first = first_bytes t fa x p.out u sp q.kind q.number;
+        field = field t fa x p.out u sp;
+        fin = fin_ends t fa x p.out u sp q.kind q.number;
+        closing = fin_of_closing t fa x p.out u sp q.kind q.number;
         some = q.some;
         short = q.short;
       }
@@ -380,11 +381,11 @@ module _ (d : Duration) (t : Tuple) (f : Facts) (at : Instant) (v w : View) (got
   asks : AsksOnly x p.out → Round d t f at v w got n h
   asks q = hears_it is small short number last why
     where
-      sp : HasSaid t fa false x p.out u
+      sp : HasSaid t fa x p.out u
       sp = said (KeepsAlive q.kind q.number q.byte)
 
       number : s.ack_number ≡ Some (next_ack x)
-      number = ack t fa false x p.out u sp
+      number = ack t fa x p.out u sp
 
       at_one : s.seq_number.0 ≡ (seq_minus x.local_seq_no 1).0
       at_one = ap (λ (m : TcpSeqNumber). m.0) q.number
@@ -405,7 +406,7 @@ module _ (d : Duration) (t : Tuple) (f : Facts) (at : Instant) (v w : View) (got
       few = omega (arith, agreed.taken_within, (reached_ordered x agreed.speaker.reached).room)
 
       is : o ≡ ack_sent w s
-      is = away w (next_ack x) (faces_so d t x w n h agreed) p.now 0 p.out.ip s (bit t fa false x p.out u sp) number (before_window w s (width_small w agreed.taker.reached) (omega (arith, long)) small (omega (arith, edge, at_one, una_small, few)) (omega (arith, edge, at_one, una_small, few)) (omega (arith, edge, at_one, una_small, few, long))) (omega (arith, long))
+      is = away w (next_ack x) (faces_so d t x w n h agreed) p.now 0 p.out.ip s (bit t fa x p.out u sp) number (before_window w s (width_small w agreed.taker.reached) (omega (arith, long)) small (omega (arith, edge, at_one, una_small, few)) (omega (arith, edge, at_one, una_small, few)) (omega (arith, edge, at_one, una_small, few, long))) (omega (arith, long))
 
       last : x.state ≡ states.LastAck → 0 < n
       last e = by (agreed.last e)

@@ -1,5 +1,5 @@
 -- A sender hears that its FIN was counted.
-use Rattle.std.proofs.Common.{◌≡◌, ℕ, zero, suc, ◌+◌, ◌-◌, ◌<◌, ◌≤◌, ◌^◌, Bool, true, false, ◌&&◌, refl, sym, ap, subst, ◌∙◌, List, length, Some, arith, length-drop}
+use Rattle.std.proofs.Common.{◌≡◌, ℕ, zero, suc, ◌+◌, ◌-◌, ◌<◌, ◌≤◌, ◌^◌, true, false, ◌&&◌, refl, sym, ap, subst, ◌∙◌, List, length, Some, arith, length-drop}
 use Rattle.std.specs.Prelude.{if◌then◌else◌, ◌==◌, int_lt}
 use Rattle.std.proofs.lemmas.Bool.{eq-eqb}
 use Rattle.ip_wire.specs.declared.repr.IpRepr.{IpRepr}
@@ -11,6 +11,7 @@ use Rattle.control_wire.specs.declared.tcp.TcpControl.TheVariants as control
 use Rattle.sock_core.specs.Facts.{Facts}
 use Rattle.sock_core.specs.Seq.{is_not_after}
 use Rattle.sock_tcp.proofs.Windows.{length-cut, window_width}
+use Rattle.sock_tcp.specs.Arrival.{arrival}
 use Rattle.sock_tcp.specs.Acked.{acked_at, acked_of, acked_places, syn_place}
 use Rattle.sock_tcp.specs.Advance.{advance_in, advanced, counted_control, dropped, moved_to, waiting}
 use Rattle.sock_tcp.specs.Content.{Sending}
@@ -104,7 +105,7 @@ module _ (u : View) (reached : IsReached u) (closing : is_closing u.state ≡ tr
   unfolding counted_control
   counts = rw plain refl
 
-  in_window : processed u now word ip g ≡ after_table (advance_in u.state (counted_control g.control (receive_window u) g.seq_number (length g.payload)) a.fin x now (tuple_of ip g) word a.len g) now a cut.offset (cut_bytes cut g.payload) g
+  in_window : processed u now word ip g ≡ after_table (advance_in u.state (counted_control g.control (receive_window u) g.seq_number (length g.payload)) a.fin x (arrival now (tuple_of ip g) word g) a.len) (arrival now (tuple_of ip g) word g) a cut.offset (cut_bytes cut g.payload)
   unfolding processed processed_inside advanced
   in_window = rw (passes, synchronized_has u.state (closing_synchronized u.state closing), lies_inside) refl
 
@@ -122,19 +123,19 @@ module _ (u : View) (reached : IsReached u) (closing : is_closing u.state ≡ tr
       none : (z : View) → bytes_taken z now cut.offset (cut_bytes cut g.payload) g ≡ stopped z
       none z = let e : length (cut_bytes cut g.payload) ≡ 0 = omega (arith, length-cut cut g.payload, empty) in rw e refl
 
-  rows : (st : State) → is_closing st ≡ true → (n : ℕ) → Ended u a.len (after_table (advance_in st control.None true x now (tuple_of ip g) word n g) now a cut.offset (cut_bytes cut g.payload) g)
+  rows : (st : State) → is_closing st ≡ true → (n : ℕ) → Ended u a.len (after_table (advance_in st control.None true x (arrival now (tuple_of ip g) word g) n) (arrival now (tuple_of ip g) word g) a cut.offset (cut_bytes cut g.payload))
   rows state.FinWait1 e n = leaves (moved_to state.FinWait2 x) refl refl
   rows state.Closing e n = leaves (waiting now x) refl refl
   rows state.LastAck e n = leaves (dropped x) refl refl
   rows _ e n = absurd cc
 
   pub ended : Ended u a.len (processed u now word ip g)
-  ended = subst (Ended u a.len) (sym (in_window ∙ (λ i. after_table (advance_in u.state (counts i) ((acked i).fin) x now (tuple_of ip g) word a.len g) now a cut.offset (cut_bytes cut g.payload) g))) (rows u.state closing a.len)
+  ended = subst (Ended u a.len) (sym (in_window ∙ (λ i. after_table (advance_in u.state (counts i) ((acked i).fin) x (arrival now (tuple_of ip g) word g) a.len) (arrival now (tuple_of ip g) word g) a cut.offset (cut_bytes cut g.payload)))) (rows u.state closing a.len)
 
   -- in FIN-WAIT-1
   pub heard_fin : u.state ≡ state.FinWait1 → processed u now word ip g ≡ stopped (heard (moved_to state.FinWait2 x) now a g)
   unfolding bytes_taken
-  heard_fin e = in_window ∙ (λ i. after_table (advance_in (e i) (counts i) ((acked i).fin) x now (tuple_of ip g) word a.len g) now a cut.offset (cut_bytes cut g.payload) g) ∙ none
+  heard_fin e = in_window ∙ (λ i. after_table (advance_in (e i) (counts i) ((acked i).fin) x (arrival now (tuple_of ip g) word g) a.len) (arrival now (tuple_of ip g) word g) a cut.offset (cut_bytes cut g.payload)) ∙ none
     where
       none : bytes_taken (heard (moved_to state.FinWait2 x) now a g) now cut.offset (cut_bytes cut g.payload) g ≡ stopped (heard (moved_to state.FinWait2 x) now a g)
       none = let z : length (cut_bytes cut g.payload) ≡ 0 = omega (arith, length-cut cut g.payload, empty) in rw z refl
@@ -144,7 +145,7 @@ module _ (u : View) (reached : IsReached u) (closing : is_closing u.state ≡ tr
 
 -- ---- the law
 
-module _ (t : Tuple) (f : Facts) (stamps : Bool) (v u w : View) (out : Sending) (now : Instant) (word : ℕ) (said : HasSaid t f stamps v out u) (closing : is_closing v.state ≡ true) (r : HasCounted v w) (probe : out.kind ≡ kind.Probe → flight v < length v.tx_buffer.bytes) (over : length out.segment.payload ≡ 0 → int_lt now.micros w.challenge_ack_timer.micros ≡ false) (in_reach : is_inside (receive_window u) w.remote_last_seq 0 ≡ true) where
+module _ (t : Tuple) (f : Facts) (v u w : View) (out : Sending) (now : Instant) (word : ℕ) (said : HasSaid t f v out u) (closing : is_closing v.state ≡ true) (r : HasCounted v w) (probe : out.kind ≡ kind.Probe → flight v < length v.tx_buffer.bytes) (over : length out.segment.payload ≡ 0 → int_lt now.micros w.challenge_ack_timer.micros ≡ false) (in_reach : is_inside (receive_window u) w.remote_last_seq 0 ≡ true) where
   v_small : v.local_seq_no.0 < 2 ^ 32
   v_small = (reached_ordered v said.reached).una_small
 
@@ -172,7 +173,7 @@ module _ (t : Tuple) (f : Facts) (stamps : Bool) (v u w : View) (out : Sending) 
   narrow = omega (arith, window_width w faces.room, faces.room)
 
   k : Still v u
-  k = still t f stamps v out u said
+  k = still t f v out u said
 
   there : next_ack w ≡ seq_add u.local_seq_no (length u.tx_buffer.bytes + 1)
   there = r.there ∙ (λ i. seq_add (sym k.una i) (length ((sym k.tx i).bytes) + 1))
@@ -182,13 +183,13 @@ module _ (t : Tuple) (f : Facts) (stamps : Bool) (v u w : View) (out : Sending) 
   answers is = record {
     answer = ack_segment w out.segment;
     answered = is;
-    empties = λ ip stamp. empties u (reached_then t f stamps v out u said) (ap is_closing k.state ∙ closing) (next_ack w) there now word ip (record (ack_segment w out.segment) { timestamp = stamp }) refl refl refl in_reach;
-    ends = λ ip stamp. (ended u (reached_then t f stamps v out u said) (ap is_closing k.state ∙ closing) (next_ack w) there now word ip (record (ack_segment w out.segment) { timestamp = stamp }) refl refl refl in_reach).ends;
+    empties = λ ip stamp. empties u (reached_then t f v out u said) (ap is_closing k.state ∙ closing) (next_ack w) there now word ip (record (ack_segment w out.segment) { timestamp = stamp }) refl refl refl in_reach;
+    ends = λ ip stamp. (ended u (reached_then t f v out u said) (ap is_closing k.state ∙ closing) (next_ack w) there now word ip (record (ack_segment w out.segment) { timestamp = stamp }) refl refl refl in_reach).ends;
   }
 
   -- with bytes it lies before the window
   with_bytes : 0 < length out.segment.payload → out.segment.seq_number.0 < 2 ^ 32 → 0 < seq_sub (next_ack w) out.segment.seq_number → seq_sub (next_ack w) out.segment.seq_number < 2 ^ 31 → seq_sub (next_ack w) (seq_add out.segment.seq_number (length out.segment.payload)) < 2 ^ 31 → EndsFin u w out now word
-  with_bytes some small before near behind = answers (ap (λ (o : Outcome). o.reply) (away w (next_ack v) faces now word out.ip out.segment (bit t f stamps v out u said) (ack t f stamps v out u said) (before_window w out.segment narrow some small before near behind) some))
+  with_bytes some small before near behind = answers (ap (λ (o : Outcome). o.reply) (away w (next_ack v) faces now word out.ip out.segment (bit t f v out u said) (ack t f v out u said) (before_window w out.segment narrow some small before near behind) some))
 
   -- a FIN alone lies one number before it
   one_before : length out.segment.payload ≡ 0 → out.segment.seq_number.0 ≡ (seq_minus (next_ack w) 1).0 → is_inside (receive_window w) out.segment.seq_number (length out.segment.payload) ≡ false
@@ -212,10 +213,10 @@ module _ (t : Tuple) (f : Facts) (stamps : Bool) (v u w : View) (out : Sending) 
       at = ap (λ (m : TcpSeqNumber). m.0) number
 
       go : (n : ℕ) → length out.segment.payload ≡ n → EndsFin u w out now word
-      go (suc n) e = with_bytes (omega (arith, e)) (omega (arith, at, v_small)) (omega (arith, start, at, v_small, queue)) (omega (arith, start, at, v_small, queue)) (omega (arith, start, at, v_small, queue, queued t f stamps v out u said nk))
+      go (suc n) e = with_bytes (omega (arith, e)) (omega (arith, at, v_small)) (omega (arith, start, at, v_small, queue)) (omega (arith, start, at, v_small, queue)) (omega (arith, start, at, v_small, queue, queued t f v out u said nk))
       go zero e =
-          let none : length v.tx_buffer.bytes ≡ 0 = fin_alone t f stamps v out u said nk number e (is_fin out.segment.control (bit t f stamps v out u said) (omega (arith, some, e))) in
-          answers (away_empty w (next_ack v) faces now word out.ip out.segment (bit t f stamps v out u said) (ack t f stamps v out u said) (one_before e (omega (arith, start, at, v_small, none))) e (over e))
+          let none : length v.tx_buffer.bytes ≡ 0 = fin_alone t f v out u said nk number e (is_fin out.segment.control (bit t f v out u said) (omega (arith, some, e))) in
+          answers (away_empty w (next_ack v) faces now word out.ip out.segment (bit t f v out u said) (ack t f v out u said) (one_before e (omega (arith, start, at, v_small, none))) e (over e))
 
 pub counted_fin_is_heard : CountedFinIsHeard
-counted_fin_is_heard t f stamps v u w out now word said closing r probe over in_reach = by t f stamps v u w out now word said closing r probe over in_reach said.speech
+counted_fin_is_heard t f v u w out now word said closing r probe over in_reach = by t f v u w out now word said closing r probe over in_reach said.speech

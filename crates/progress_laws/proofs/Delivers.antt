@@ -15,6 +15,7 @@ use Rattle.control_wire.specs.declared.tcp.TcpControl.TheVariants as control
 use Rattle.sock_core.specs.Received.{Received, TakesIn}
 use Rattle.sock_core.specs.Seq.{is_before, is_not_after, later_of}
 use Rattle.sock_tcp.proofs.Windows.{end_small, length-cut, start_small}
+use Rattle.sock_tcp.specs.Arrival.{arrival}
 use Rattle.sock_tcp.specs.Acked.{acked_at, acked_of, acked_places, is_fin_acked, syn_place}
 use Rattle.sock_tcp.specs.Advance.{advance_in, counted_control, fin_counted, moved_to, waiting}
 use Rattle.sock_tcp.specs.Content.{carries_data}
@@ -185,7 +186,7 @@ module _ (d : Duration) (t : Tuple) (v w : View) (n h : ℕ) (i : Agreement d t 
   like y nxt tx shift peer timeout keep = record { nxt = nxt; tx = tx; shift = shift; peer = peer; timeout = timeout; keep_alive = keep }
 
   abbrev table : TcpControl → Outcome
-  table c = after_table (advance_in w.state c a.fin x now (tuple_of ip s) 0 a.len s) now a cut.offset bs s
+  table c = after_table (advance_in w.state c a.fin x (arrival now (tuple_of ip s) 0 s) a.len) (arrival now (tuple_of ip s) 0 s) a cut.offset bs
 
   -- no FIN counts
   abbrev WaitsOn : View → Type 0
@@ -216,7 +217,7 @@ module _ (d : Duration) (t : Tuple) (v w : View) (n h : ℕ) (i : Agreement d t 
   no_own_fin : a.fin ≡ true → h ≤ length w.tx_buffer.bytes → ⊥
   no_own_fin e within = true≢false (sym e ∙ ap (λ (m : Acked). m.fin) places ∙ not_fin w.state (length w.tx_buffer.bytes) h within)
 
-  goes_rows : (st : State) → receives st ≡ true → (fin : Bool) → a.fin ≡ fin → Goes (after_table (advance_in st control.None fin x now (tuple_of ip s) 0 a.len s) now a cut.offset bs s).view
+  goes_rows : (st : State) → receives st ≡ true → (fin : Bool) → a.fin ≡ fin → Goes (after_table (advance_in st control.None fin x (arrival now (tuple_of ip s) 0 s) a.len) (arrival now (tuple_of ip s) 0 s) a cut.offset bs).view
   goes_rows state.Established e fin f = on
   goes_rows state.FinWait1 e true f = (state.FinWait2, refl, took (moved_to state.FinWait2 x) (like (moved_to state.FinWait2 x) refl refl refl refl refl refl), λ waits within field. absurd (no_own_fin f within))
   goes_rows state.FinWait1 e false f = on
@@ -246,7 +247,7 @@ module _ (d : Duration) (t : Tuple) (v w : View) (n h : ℕ) (i : Agreement d t 
       by (ForKeepAlive o e f) = ForKeepAlive o e f
       by (ForProbe at delay e f) = ForProbe at delay e f
 
-  stops_rows : (st : State) → w.state ≡ st → receives st ≡ true → (fin : Bool) → a.fin ≡ fin → Stops (after_table (advance_in st control.Fin fin x now (tuple_of ip s) 0 a.len s) now a cut.offset bs s).view
+  stops_rows : (st : State) → w.state ≡ st → receives st ≡ true → (fin : Bool) → a.fin ≡ fin → Stops (after_table (advance_in st control.Fin fin x (arrival now (tuple_of ip s) 0 s) a.len) (arrival now (tuple_of ip s) 0 s) a cut.offset bs).view
   unfolding fin_counted
   stops_rows state.Established is e fin f = (state.CloseWait, refl, took (fin_counted state.CloseWait x) (like (fin_counted state.CloseWait x) refl refl refl refl refl refl), counts_on state.CloseWait refl (sym (ap is_closing is)) (λ l. absurd cc))
   stops_rows state.FinWait1 is e true f = (state.TimeWait, refl, took (waiting now (fin_counted state.TimeWait x)) (like (waiting now (fin_counted state.TimeWait x)) refl refl refl refl refl refl), λ c waits within field. absurd (no_own_fin f within))

@@ -1,6 +1,6 @@
 -- From the calls that open two sockets to the end of both streams.
 use Rattle.std.proofs.Common.{◌≡◌, ℕ, ◌≤◌, sym, ap, subst, ◌∙◌, List, [], ◌++◌, length, take, drop, Option, Some, None, refl, arith}
-use Rattle.std.specs.Prelude.{if◌then◌else◌, ◌≤ℤ◌, true, false, Ok, Err}
+use Rattle.std.specs.Prelude.{if◌then◌else◌, ◌≤ℤ◌, true, Ok, Err}
 use Rattle.std.proofs.lemmas.Int.{ints}
 use Rattle.net_base.specs.declared.time.Duration.{Duration}
 use Rattle.net_base.specs.declared.time.Instant.{Instant}
@@ -25,7 +25,7 @@ use Rattle.progress_laws.proofs.Accepts.{sending_keeps_in_step}
 use Rattle.progress_laws.proofs.BothFinish.{both_ways_finish}
 use Rattle.progress_laws.proofs.Handshakes.{connected_reached, first_short, handshake_brings_in_step, meets, narrow, numbered_first, q, reached_l, reached_received, reached_x, received, s, same_versions, takes_syn, there_s}
 use Rattle.progress_laws.proofs.Opening.{acknowledged, answered, answers_syn, back_out, begins, can, first, may_answer, out, sent, stands}
-use Rattle.progress_laws.proofs.Repeats.{IsSent, NotSent, Repeats, SendsSyn, SynGoesOut, SynWaits, goes_so, sends, sent_so, waits_then}
+use Rattle.progress_laws.proofs.Repeats.{IsSent, NotSent, Repeats, SendsSyn, SynGoesOut, SynWaits, goes_so, sends, sent_so, waits_then, own_stamp}
 use Rattle.progress_laws.proofs.SynSteps.{HasTakenSyn, crossed, crossed_so, crossing_passes}
 use Rattle.progress_laws.proofs.Taking.{take_all}
 
@@ -91,7 +91,7 @@ goes_out v (IsSent at waits nxt) last = later_moment last at
 
 pub losses_keep : (st : State) (t : Tuple) (f : Facts) (x : View) (c : SendsSyn st t f x) (at end : Instant) (v w : View) → Losses f at v end w → Repeats x v → IsReached v → Repeats x w × IsReached w
 losses_keep st t f x c at end v w (NoLoss _ _) r p = (r, p)
-losses_keep st t f x c at end v w (OneLoss _ now _ _ u _ out l d rest) r p = losses_keep st t f x c now end u w rest (goes_so st t f x c v r now out u d) (dispatch_reached (told f now) false v out u p d)
+losses_keep st t f x c at end v w (OneLoss _ now _ _ u _ out l d rest) r p = losses_keep st t f x c now end u w rest (goes_so st t f x c v r now out u d) (dispatch_reached (told f now) v out u p d)
 
 module _ (t : Tuple) (f : Facts) (number word : ℕ) (a b : View) (m : CanMeet t f number word a b) (ua : IsUnopened a) (ub : IsUnopened b) (mtu : IsMtu f.mtu) (now : Instant) (v : View) (r : Repeats (connected a t number) v) (reached_s : IsReached (sent t f number word a b m now v r)) (s : Tuple) (w : View) (there : f.has_address s.local.addr ≡ true) (q : HasTakenSyn b w s word (first t f number word a b m now v r)) (reached_w : IsReached w) where
   answers_again : (end : Instant) (z : View) → Repeats w z → IsReached z → AnswersAgain a.keep_alive b.keep_alive t f (capacity a.tx_buffer) (capacity b.tx_buffer) end (sent t f number word a b m now v r) z
@@ -100,7 +100,7 @@ module _ (t : Tuple) (f : Facts) (number word : ℕ) (a b : View) (m : CanMeet t
       let g = goes_out z rz.waits end in
       let y : AnswersSyn f g.0 (sent t f number word a b m now v r) z = answers_syn t f number word a b m now v r s w there q g.0 z rz g.2 in
       let k = acknowledged t f number word a b m now v r s w there q g.0 z rz ua.interval ua.some (narrow a ua.reached) (narrow b ub.reached) in
-      let n = stands t f number word a b m now v r s w there q g.0 z rz ua.interval ua.some (narrow a ua.reached) (narrow b ub.reached) ub.some reached_s (dispatch_reached (told f g.0) false z (Some (back_out t f number word a b m now v r s w there q g.0 z rz)) (answered t f number word a b m now v r s w there q g.0 z rz) reached y.sends_answer) in
+      let n = stands t f number word a b m now v r s w there q g.0 z rz ua.interval ua.some (narrow a ua.reached) (narrow b ub.reached) ub.some reached_s (dispatch_reached (told f g.0) z (Some (back_out t f number word a b m now v r s w there q g.0 z rz)) (answered t f number word a b m now v r s w there q g.0 z rz) reached y.sends_answer) in
       record { now = g.0; later = g.1; answer = y; ack = k; new = n; ends = new_pair_ends a.keep_alive b.keep_alive t f (capacity a.tx_buffer) (capacity b.tx_buffer) k.here k.across mtu m.here n g.0 }
 
   answers_losses : (end : Instant) (z : View) → Losses f now w end z → AnswersAgain a.keep_alive b.keep_alive t f (capacity a.tx_buffer) (capacity b.tx_buffer) end (sent t f number word a b m now v r) z
@@ -119,7 +119,7 @@ lost_syns_come_again t f g at last number word a b v remote own e p mtu l =
       now = o.0;
       later = o.1;
       syn = y;
-      answers = answers_losses t f number word a b m p.here p.across mtu o.0 v k.0 (dispatch_reached (told f o.0) false v (Some (out t f number word a b m o.0 v k.0)) (sent t f number word a b m o.0 v k.0) k.1 y.sends_syn)
+      answers = answers_losses t f number word a b m p.here p.across mtu o.0 v k.0 (dispatch_reached (told f o.0) v (Some (out t f number word a b m o.0 v k.0)) (sent t f number word a b m o.0 v k.0) k.1 y.sends_syn)
           (s t f number word a b m e o.0 v k.0) (received t f number word a b m e o.0 v k.0) (there_s t f number word a b m e o.0 v k.0) (q t f number word a b m e o.0 v k.0).taken (reached_received t f number word a b m e o.0 v k.0 (reached_l t f g number word a b remote own e p));
     }
 
@@ -139,7 +139,7 @@ module _ (t : Tuple) (f : Facts) (number word : ℕ) (a b : View) (m : CanMeet t
         now = o.0;
         later = o.1;
         syn = y;
-        answers = answers_losses t f number word a b m ua ub mtu o.0 v rv (dispatch_reached (told f o.0) false v (Some (out t f number word a b m o.0 v rv)) (sent t f number word a b m o.0 v rv) reached_v y.sends_syn)
+        answers = answers_losses t f number word a b m ua ub mtu o.0 v rv (dispatch_reached (told f o.0) v (Some (out t f number word a b m o.0 v rv)) (sent t f number word a b m o.0 v rv) reached_v y.sends_syn)
             (mirrored t) (crossed b w (mirrored t) word o.0 g refl across at waits) m.there q (segment_reached w (crossed b w (mirrored t) word o.0 g refl across at waits) o.0 word (out t f number word a b m o.0 v rv).ip g None reached_w m.word_small (numbered_first t f number word a b m o.0 v rv) (first_short t f number word a b m o.0 v rv) (λ l. refl) comes);
       }
     where
@@ -156,7 +156,7 @@ crossed_syns_come_again t f at last from since number word a b v w p c here ther
     let o = goes_out w rk.0.waits both.0 in
     let x = sent (mirrored t) f word number b a back o.0 w rk.0 in
     let sends_x = sends state.SynSent (mirrored t) f (connected b (mirrored t) word) (can (mirrored t) f word number b a back) w rk.0 o.0 o.2 in
-    let waits = waits_then state.SynSent (mirrored t) f (connected b (mirrored t) word) (can (mirrored t) f word number b a back) w rk.0 o.0 None in
+    let waits = waits_then state.SynSent (mirrored t) f (connected b (mirrored t) word) (can (mirrored t) f word number b a back) w rk.0 o.0 (own_stamp state.SynSent (mirrored t) f (connected b (mirrored t) word) (can (mirrored t) f word number b a back) w rk.0 o.0) in
     record {
       first = o.0;
       later = grind (arith, ints, both.1, o.1);
@@ -164,6 +164,6 @@ crossed_syns_come_again t f at last from since number word a b v w p c here ther
       syn = out (mirrored t) f word number b a back o.0 w rk.0;
       across = x;
       sends_syn = sends_x;
-      opens = opens_again t f number word a b m p.unopened c.unopened mtu v x rv.0 (sent_so state.SynSent (mirrored t) f (connected b (mirrored t) word) (can (mirrored t) f word number b a back) w rk.0 o.0 None) rv.1
-          (dispatch_reached (told f o.0) false w (Some (out (mirrored t) f word number b a back o.0 w rk.0)) x rk.1 sends_x) waits.0 waits.1 o.0;
+      opens = opens_again t f number word a b m p.unopened c.unopened mtu v x rv.0 (sent_so state.SynSent (mirrored t) f (connected b (mirrored t) word) (can (mirrored t) f word number b a back) w rk.0 o.0 (own_stamp state.SynSent (mirrored t) f (connected b (mirrored t) word) (can (mirrored t) f word number b a back) w rk.0 o.0)) rv.1
+          (dispatch_reached (told f o.0) w (Some (out (mirrored t) f word number b a back o.0 w rk.0)) x rk.1 sends_x) waits.0 waits.1 o.0;
     }

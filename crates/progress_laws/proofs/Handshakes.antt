@@ -207,11 +207,11 @@ module _ (t : Tuple) (f g : Facts) (now : Instant) (number word : ℕ) (a b : Vi
 
   reached_sent : IsReached (sent t f number word a b can_meet now caller new_caller)
   unfolding establishes takes_syn
-  reached_sent = dispatch_reached (told f now) false caller (Some (out t f number word a b can_meet now caller new_caller)) (sent t f number word a b can_meet now caller new_caller) (reached_x t f g number word a b remote own e o) start.syn.sends_syn
+  reached_sent = dispatch_reached (told f now) caller (Some (out t f number word a b can_meet now caller new_caller)) (sent t f number word a b can_meet now caller new_caller) (reached_x t f g number word a b remote own e o) start.syn.sends_syn
 
   pub reached_waits : IsReached waits
   unfolding establishes takes_syn answers_syn there has_taken
-  reached_waits = dispatch_reached (told f now) false taker (Some (back_out t f number word a b can_meet now caller new_caller peer taker there has_taken now taker has_taken.repeats)) waits (reached_received t f number word a b can_meet e now caller new_caller (reached_l t f g number word a b remote own e o)) start.answer.sends_answer
+  reached_waits = dispatch_reached (told f now) taker (Some (back_out t f number word a b can_meet now caller new_caller peer taker there has_taken now taker has_taken.repeats)) waits (reached_received t f number word a b can_meet e now caller new_caller (reached_l t f g number word a b remote own e o)) start.answer.sends_answer
 
   pub new_pair : StandNew a.keep_alive b.keep_alive t f (capacity a.tx_buffer) (capacity b.tx_buffer) done.here done.across
   new_pair = stands t f number word a b can_meet now caller new_caller peer taker there has_taken now taker has_taken.repeats o.here.interval o.here.some fits_here fits_across o.across.some reached_sent reached_waits

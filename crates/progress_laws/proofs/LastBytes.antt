@@ -11,6 +11,7 @@ use Rattle.control_wire.specs.declared.tcp.TcpControl.TheVariants as control
 use Rattle.sock_core.specs.Received.{Received, holds_nothing, taken_in}
 use Rattle.sock_core.specs.Seq.{is_before}
 use Rattle.sock_tcp.proofs.Windows.{end_small, start_small, window_width}
+use Rattle.sock_tcp.specs.Arrival.{arrival}
 use Rattle.sock_tcp.specs.Acked.{acked_of}
 use Rattle.sock_tcp.specs.Advance.{advance_in, counted_control, fin_counted, waiting}
 use Rattle.sock_tcp.specs.Process.{Outcome, after_table, bytes_taken, processed, tuple_of}
@@ -114,7 +115,7 @@ module _ (w : View) (k : TcpSeqNumber) (r : Faces w k) (room : ℕ) (read : w.rx
       takes : bytes_taken z now 0 fresh g ≡ record { view = ack_delayed (joined z 0 fresh) now; reply = None }
       takes = rw (not_zero (length fresh) (omega (arith, fresh_length, np.some)), at_once z.rx_buffer fresh, nothing_before, nothing_after) refl
 
-  rows : (st : State) (acked : Bool) → receives st ≡ true → TookLast fresh (after_table (advance_in st control.Fin acked x now (tuple_of ip g) 0 a.len g) now a 0 fresh g)
+  rows : (st : State) (acked : Bool) → receives st ≡ true → TookLast fresh (after_table (advance_in st control.Fin acked x (arrival now (tuple_of ip g) 0 g) a.len) (arrival now (tuple_of ip g) 0 g) a 0 fresh)
   unfolding fin_counted
   rows state.Established acked e = taken (fin_counted state.CloseWait x) refl refl refl
   rows state.FinWait1 true e = taken (waiting now (fin_counted state.TimeWait x)) refl refl refl
@@ -123,4 +124,4 @@ module _ (w : View) (k : TcpSeqNumber) (r : Faces w k) (room : ℕ) (read : w.rx
   rows _ acked e = absurd cc
 
   pub took_last : receives w.state ≡ true → TookLast fresh (processed w now 0 ip g)
-  took_last takes = subst (TookLast fresh) (sym (in_window w k r now 0 ip g bit ack inside ∙ (λ i. after_table (advance_in w.state (counts i) a.fin x now (tuple_of ip g) 0 a.len g) now a (cut_is i).offset (cut_bytes (cut_is i) g.payload) g) ∙ ap (λ (l : List ℕ). after_table (advance_in w.state control.Fin a.fin x now (tuple_of ip g) 0 a.len g) now a 0 l g) (ap (λ n. take n fresh) (sym fresh_length) ∙ take_all fresh))) (rows w.state a.fin takes)
+  took_last takes = subst (TookLast fresh) (sym (in_window w k r now 0 ip g bit ack inside ∙ (λ i. after_table (advance_in w.state (counts i) a.fin x (arrival now (tuple_of ip g) 0 g) a.len) (arrival now (tuple_of ip g) 0 g) a (cut_is i).offset (cut_bytes (cut_is i) g.payload)) ∙ ap (λ (l : List ℕ). after_table (advance_in w.state control.Fin a.fin x (arrival now (tuple_of ip g) 0 g) a.len) (arrival now (tuple_of ip g) 0 g) a 0 l) (ap (λ n. take n fresh) (sym fresh_length) ∙ take_all fresh))) (rows w.state a.fin takes)

@@ -1,5 +1,5 @@
 -- What the transmit queue lends to a segment: a fast retransmission or a probe has a byte, or the FIN.
-use Rattle.std.proofs.Common.{◌≡◌, ℕ, zero, suc, ◌-◌, ◌<◌, ◌≤◌, ◌⊎◌, inl, inr, Bool, true, false, refl, ap, ◌∙◌, List, length, drop, min, Option, is_some, arith, length-take, length-drop}
+use Rattle.std.proofs.Common.{◌≡◌, ℕ, zero, suc, ◌-◌, ◌<◌, ◌≤◌, ◌⊎◌, inl, inr, Bool, true, false, refl, ap, ◌∙◌, List, length, drop, min, Option, arith, length-take, length-drop}
 use Rattle.net_base.specs.Ring.{in_one_piece}
 use Rattle.net_base.proofs.Cells.{piece_none}
 use Rattle.ip_wire.specs.declared.address.IpAddress.{IpAddress}
@@ -24,8 +24,8 @@ lent_some q o n bs lent some within = go (in_one_piece q.until_end (length q.byt
         let long : length bs ≡ min (min n (in_one_piece q.until_end (length q.bytes) o)) (length (drop o q.bytes)) = ap (λ (l : List ℕ). length l) lent ∙ length-take (min n (in_one_piece q.until_end (length q.bytes) o)) (drop o q.bytes) in
         omega (arith, long, z, some, within, length-drop o q.bytes)
 
-pub mss_some : (v : View) (t : Tuple) (f : Facts) (stamps : Bool) → 576 ≤ f.mtu → 48 ≤ v.remote_mss → 0 < effective_mss v t f stamps
-mss_some v t f stamps mtu mss = go t.local.addr stamps
+pub mss_some : (v : View) (t : Tuple) (f : Facts) → 576 ≤ f.mtu → 48 ≤ v.remote_mss → 0 < effective_mss v t f
+mss_some v t f mtu mss = go t.local.addr v.stamps
   where
     go : (a : IpAddress) (b : Bool) → 0 < min (f.mtu - ip_header_len a - 20) v.remote_mss - timestamp_room b
     go (address.Ipv4 a) true = omega (arith, mtu, mss)
@@ -33,9 +33,9 @@ mss_some v t f stamps mtu mss = go t.local.addr stamps
     go (address.Ipv6 a) true = omega (arith, mtu, mss)
     go (address.Ipv6 a) false = omega (arith, mtu, mss)
 
-module _ (u : View) (p : Tuple) (f : Facts) (stamp : Option ℕ) (bytes : List ℕ) (mtu : 576 ≤ f.mtu) (mss : 48 ≤ u.remote_mss) (carries : carries_data u.state ≡ true) (lent : IsLent u.tx_buffer (offset_of u) (asked u p f (is_some stamp)) bytes) where
-  room : 0 < effective_mss u p f (is_some stamp)
-  room = mss_some u p f (is_some stamp) mtu mss
+module _ (u : View) (p : Tuple) (f : Facts) (stamp : Option ℕ) (bytes : List ℕ) (mtu : 576 ≤ f.mtu) (mss : 48 ≤ u.remote_mss) (carries : carries_data u.state ≡ true) (lent : IsLent u.tx_buffer (offset_of u) (asked u p f) bytes) where
+  room : 0 < effective_mss u p f
+  room = mss_some u p f mtu mss
 
   pub marked_some : u.pending_fast_retransmit ≡ true → HasToSend u → 0 < segment_len (segment_for u p stamp bytes)
   unfolding asked
@@ -44,14 +44,14 @@ module _ (u : View) (p : Tuple) (f : Facts) (stamp : Option ℕ) (bytes : List �
       start : offset_of u ≡ 0
       start = rw m refl
 
-      whole : asked u p f (is_some stamp) ≡ effective_mss u p f (is_some stamp)
+      whole : asked u p f ≡ effective_mss u p f
       whole = rw (carries, m) refl
 
       bytes_go : 0 < length u.tx_buffer.bytes → 0 < segment_len (segment_for u p stamp bytes)
-      bytes_go some = let h = lent_some u.tx_buffer (offset_of u) (asked u p f (is_some stamp)) bytes lent (omega (arith, whole, room)) (omega (arith, start, some)) in omega (arith, h)
+      bytes_go some = let h = lent_some u.tx_buffer (offset_of u) (asked u p f) bytes lent (omega (arith, whole, room)) (omega (arith, start, some)) in omega (arith, h)
 
       none : length u.tx_buffer.bytes ≡ 0 → length bytes ≡ 0
-      none z = let h = lent_at_most u.tx_buffer (offset_of u) (asked u p f (is_some stamp)) bytes lent in omega (arith, h, z)
+      none z = let h = lent_at_most u.tx_buffer (offset_of u) (asked u p f) bytes lent in omega (arith, h, z)
 
       by : (length u.tx_buffer.bytes ≡ 0) ⊎ (0 < length u.tx_buffer.bytes) → HasToSend u → 0 < segment_len (segment_for u p stamp bytes)
       by (inr some) h = bytes_go some
@@ -62,7 +62,7 @@ module _ (u : View) (p : Tuple) (f : Facts) (stamp : Option ℕ) (bytes : List �
   unfolding asked
   probe_byte m probing within =
       let start : offset_of u ≡ flight u = rw m refl in
-      let one : asked u p f (is_some stamp) ≡ min 1 (effective_mss u p f (is_some stamp)) = rw (probing, carries, m) refl in
-      let some = lent_some u.tx_buffer (offset_of u) (asked u p f (is_some stamp)) bytes lent (omega (arith, one, room)) (omega (arith, start, within)) in
-      let few = lent_at_most u.tx_buffer (offset_of u) (asked u p f (is_some stamp)) bytes lent in
+      let one : asked u p f ≡ min 1 (effective_mss u p f) = rw (probing, carries, m) refl in
+      let some = lent_some u.tx_buffer (offset_of u) (asked u p f) bytes lent (omega (arith, one, room)) (omega (arith, start, within)) in
+      let few = lent_at_most u.tx_buffer (offset_of u) (asked u p f) bytes lent in
       omega (arith, one, some, few)

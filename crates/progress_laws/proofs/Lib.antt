@@ -1,5 +1,6 @@
 pub mod Wakes
 pub mod Begins
+pub mod Stamped
 pub mod States
 pub mod Lends
 pub mod Says

@@ -26,13 +26,14 @@ use Rattle.sock_tcp.specs.declared.tuple.Tuple.{Tuple}
 use Rattle.tcp_laws.specs.Polling.{IsReached}
 use Rattle.tcp_laws.proofs.OrderedCalls.{reached_ordered}
 use Rattle.progress_laws.specs.FromOpening.{AnswersLate, LostAckComesAgain}
+use Rattle.progress_laws.proofs.Stamped.{stamped_ack, answer_stamp, ack_stamped}
 use Rattle.progress_laws.proofs.Edges.{is_not_before}
 use Rattle.progress_laws.proofs.FromOpening.{goes_out, losses_keep}
 use Rattle.progress_laws.proofs.Begins.{later_moment}
 use Rattle.progress_laws.proofs.Handshakes.{done, edge, establishes, handshake, kept, may, new_pair, next, nothing_sent, peer, reached_waits, room, taker, takes_syn, waits}
 use Rattle.progress_laws.proofs.Hears.{HeardAs, IsData, data_is_said, heard_as}
 use Rattle.progress_laws.proofs.Opening.{answers_syn}
-use Rattle.progress_laws.proofs.Repeats.{IsSent, NotSent, Repeats, SendsSyn, SynGoesOut, SynWaits, begun_so, out_of, segment, sends, sent, sent_so, u as begun}
+use Rattle.progress_laws.proofs.Repeats.{IsSent, NotSent, Repeats, SendsSyn, SynGoesOut, SynWaits, begun_so, out_of, segment, sends, sent, sent_so, u as begun, own_stamp}
 use Rattle.progress_laws.proofs.SynSteps.{ack_passes, opened}
 
 -- ---- a SYN|ACK that comes again is challenged
@@ -99,19 +100,19 @@ module _ (s : Tuple) (f : Facts) (x : View) (c : SendsSyn state.SynReceived s f 
     u = begun state.SynReceived s f x c z rz now
 
     abbrev g : Segment
-    g = segment state.SynReceived s f x c z rz now None
+    g = segment state.SynReceived s f x c z rz now (own_stamp state.SynReceived s f x c z rz now)
 
     abbrev out : Sending
-    out = out_of state.SynReceived s f x c z rz now None
+    out = out_of state.SynReceived s f x c z rz now (own_stamp state.SynReceived s f x c z rz now)
 
     abbrev z1 : View
-    z1 = sent state.SynReceived s f x c z rz now None
+    z1 = sent state.SynReceived s f x c z rz now (own_stamp state.SynReceived s f x c z rz now)
 
     us : Repeats x u
     us = begun_so state.SynReceived s f x c z rz now
 
     ss : Repeats x z1
-    ss = sent_so state.SynReceived s f x c z rz now None
+    ss = sent_so state.SynReceived s f x c z rz now (own_stamp state.SynReceived s f x c z rz now)
 
     g_ack : g.ack_number ≡ Some (next_ack u)
     unfolding plain_segment
@@ -127,8 +128,11 @@ module _ (s : Tuple) (f : Facts) (x : View) (c : SendsSyn state.SynReceived s f 
     challenged_so : processed v now 0 out.ip g ≡ ack_sent (noted_at v now) g
     challenged_so = challenges v now out.ip g (next_ack u) st refl g_ack g_empty (reached_ordered v reached).una_small (ap (λ (q : TcpSeqNumber). q.0) (same_edge us ry ∙ sym una)) (omega (arith, (reached_ordered v reached).room)) (omega (arith, ap (λ (q : TcpSeqNumber). q.0) us.same.una, c.una_small)) (ap (λ (q : TcpSeqNumber). q.0) (next ∙ ap (λ q. seq_add q 1) (sym u_una))) late
 
+    abbrev here : View
+    here = ack_kept (noted_at v now)
+
     abbrev p : Segment
-    p = ack_segment (noted_at v now) g
+    p = stamped_ack (noted_at v now) here g
 
     opens_z : Opens v z1 now (reply_ip out.ip p) p
     unfolding ack_segment
@@ -142,9 +146,11 @@ module _ (s : Tuple) (f : Facts) (x : View) (c : SendsSyn state.SynReceived s f 
       syn_ack = out;
       answered = z1;
       sends_again = sends state.SynReceived s f x c z rz now goes;
-      here = ack_kept (noted_at v now);
-      ack = p;
+      here = here;
+      ack = ack_segment (noted_at v now) g;
       answers = challenged_so;
+      stamp = answer_stamp here g;
+      is_stamp = ack_stamped (noted_at v now) here g;
       across = opens_z.across;
       ack_comes = opens_z.ack_comes;
       state_here = st;

@@ -42,7 +42,7 @@ use Rattle.progress_laws.proofs.Hears.{HeardAs, data_is_said, heard_any, heard_a
 use Rattle.progress_laws.proofs.NewPair.{Agree, IsNew, new_in_step, none_back, none_over}
 use Rattle.progress_laws.proofs.Owed.{Kept, acknowledges, after, field_is, kept_then, next_is, not_yet, out_of, tells}
 use Rattle.progress_laws.proofs.Receives.{Owes, Tells}
-use Rattle.progress_laws.proofs.Repeats.{NotSent, Repeats, SendsSyn, SynGoesOut, ack_then, begun_so, delay_then, opening_listens, out_of as syn_out, segment, sends, sent as syn_sent, sent_so, u as before_syn, waits_then, window_then}
+use Rattle.progress_laws.proofs.Repeats.{NotSent, Repeats, SendsSyn, SynGoesOut, ack_then, begun_so, delay_then, opening_listens, out_of as syn_out, segment, sends, sent as syn_sent, sent_so, u as before_syn, waits_then, window_then, own_stamp}
 use Rattle.progress_laws.proofs.SynSteps.{HasTakenSyn, ack_passes, acked_data, answer_passes, heard_delay, heard_idle, opened}
 use Rattle.tcp_laws.proofs.Scaled.{taken_within}
 
@@ -70,19 +70,19 @@ module _ (t : Tuple) (f : Facts) (number word : ℕ) (a b : View) (m : CanMeet t
 
   module _ (now : Instant) (v : View) (r : Repeats x v) where
     abbrev pub out : Sending
-    out = syn_out state.SynSent t f x can v r now None
+    out = syn_out state.SynSent t f x can v r now (own_stamp state.SynSent t f x can v r now)
 
     abbrev pub first : Segment
-    first = segment state.SynSent t f x can v r now None
+    first = segment state.SynSent t f x can v r now (own_stamp state.SynSent t f x can v r now)
 
     abbrev pub sent : View
-    sent = syn_sent state.SynSent t f x can v r now None
+    sent = syn_sent state.SynSent t f x can v r now (own_stamp state.SynSent t f x can v r now)
 
     ys : Repeats x (before_syn state.SynSent t f x can v r now)
     ys = begun_so state.SynSent t f x can v r now
 
     pub ss : Repeats x sent
-    ss = sent_so state.SynSent t f x can v r now None
+    ss = sent_so state.SynSent t f x can v r now (own_stamp state.SynSent t f x can v r now)
 
     pub first_number : first.seq_number ≡ seq_of number
     unfolding connected
@@ -124,7 +124,7 @@ module _ (t : Tuple) (f : Facts) (number word : ℕ) (a b : View) (m : CanMeet t
     shift_a = ap window_shift wide_a
 
     s_waits : (at : Instant) × (sent.timer ≡ timer.Retransmit at) × (sent.remote_last_seq ≡ seq_add sent.local_seq_no 1)
-    s_waits = waits_then state.SynSent t f x can v r now None
+    s_waits = waits_then state.SynSent t f x can v r now (own_stamp state.SynSent t f x can v r now)
 
     -- ---- the other took it, and z, which it is after some dispatches, sends its SYN|ACK
 
@@ -136,13 +136,13 @@ module _ (t : Tuple) (f : Facts) (number word : ℕ) (a b : View) (m : CanMeet t
       can_z = may_answer s received there_s q
 
       abbrev pub back_out : Sending
-      back_out = syn_out state.SynReceived s f received can_z z rz then None
+      back_out = syn_out state.SynReceived s f received can_z z rz then (own_stamp state.SynReceived s f received can_z z rz then)
 
       abbrev pub g : Segment
-      g = segment state.SynReceived s f received can_z z rz then None
+      g = segment state.SynReceived s f received can_z z rz then (own_stamp state.SynReceived s f received can_z z rz then)
 
       abbrev pub answered : View
-      answered = syn_sent state.SynReceived s f received can_z z rz then None
+      answered = syn_sent state.SynReceived s f received can_z z rz then (own_stamp state.SynReceived s f received can_z z rz then)
 
       abbrev zu : View
       zu = before_syn state.SynReceived s f received can_z z rz then
@@ -151,7 +151,7 @@ module _ (t : Tuple) (f : Facts) (number word : ℕ) (a b : View) (m : CanMeet t
       zs = begun_so state.SynReceived s f received can_z z rz then
 
       pub ans : Repeats received answered
-      ans = sent_so state.SynReceived s f received can_z z rz then None
+      ans = sent_so state.SynReceived s f received can_z z rz then (own_stamp state.SynReceived s f received can_z z rz then)
 
       z_read : zu.rx_buffer.bytes ≡ []
       unfolding cleared
@@ -239,7 +239,7 @@ module _ (t : Tuple) (f : Facts) (number word : ℕ) (a b : View) (m : CanMeet t
 
         e_delay : established.ack_delay_timer ≡ ack_delay.Idle
         unfolding syn_answered options_taken
-        e_delay = heard_delay (syn_answered sent g) then ea g k g_ack ∙ delay_then state.SynSent t f x can v r now None
+        e_delay = heard_delay (syn_answered sent g) then ea g k g_ack ∙ delay_then state.SynSent t f x can v r now (own_stamp state.SynSent t f x can v r now)
 
         g_small : g.seq_number.0 < 2 ^ 32
         g_small = omega (arith, ap (λ (q : TcpSeqNumber). q.0) (zs.same.una ∙ q.una), m.word_small)
@@ -308,7 +308,7 @@ module _ (t : Tuple) (f : Facts) (number word : ℕ) (a b : View) (m : CanMeet t
         abbrev settled : View
         settled = after t before (room_of a.rx_buffer) 1 established f then m.here owes (omega arith) (omega (arith, some)) narrow at_least una_small late not_over
 
-        sends_ack : DispatchesOk (told f then) false established (Some ack_out) settled
+        sends_ack : DispatchesOk (told f then) established (Some ack_out) settled
         sends_ack = acknowledges t before (room_of a.rx_buffer) 1 established f then m.here owes (omega arith) (omega (arith, some)) narrow at_least una_small late not_over
 
         tell : Tells before settled t ack_out.segment
@@ -392,7 +392,7 @@ module _ (t : Tuple) (f : Facts) (number word : ℕ) (a b : View) (m : CanMeet t
           reached_across = segment_reached answered across then 0 ack_out.ip ack_out.segment None reached_z (omega arith) (numbered_as ack_out.segment (next_ack settled) tell.ack (omega (arith, ap (λ (q : TcpSeqNumber). q.0) tell.number, una_small)) (omega arith)) (omega (arith, tell.empty)) (λ l. absurd (opening_listens answered.state (ap is_opening answered_state) l)) ack_comes
 
           a_waits : (at : Instant) × (answered.timer ≡ timer.Retransmit at) × (answered.remote_last_seq ≡ seq_add answered.local_seq_no 1)
-          a_waits = waits_then state.SynReceived s f received can_z z rz then None
+          a_waits = waits_then state.SynReceived s f received can_z z rz then (own_stamp state.SynReceived s f received can_z z rz then)
 
           a_nxt : answered.remote_last_seq ≡ next_ack settled
           a_nxt = a_waits.2 ∙ sym next_settled
@@ -446,7 +446,7 @@ module _ (t : Tuple) (f : Facts) (number word : ℕ) (a b : View) (m : CanMeet t
 
           side_here : IsNew a.keep_alive t (room_of a.rx_buffer) settled
           unfolding cleared syn_answered options_taken
-          side_here = let c = tell.receiver in record { reached = dispatch_reached (told f then) false established (Some ack_out) settled reached_e sends_ack; established = settled_state; peer = c.peer; no_timeout = c.no_timeout; keep_alive = kept.keep_alive ∙ h.keep_alive ∙ s_keep; nothing_marked = c.nothing_marked; moment = c.moment; timer = c.timer; nxt = c.nothing_in_flight; read = c.read; nothing_held = ap (λ (q : Received). q.held) (kept.rx ∙ e_rx); some = some; shift = tell.shift ∙ e_shift }
+          side_here = let c = tell.receiver in record { reached = dispatch_reached (told f then) established (Some ack_out) settled reached_e sends_ack; established = settled_state; peer = c.peer; no_timeout = c.no_timeout; keep_alive = kept.keep_alive ∙ h.keep_alive ∙ s_keep; nothing_marked = c.nothing_marked; moment = c.moment; timer = c.timer; nxt = c.nothing_in_flight; read = c.read; nothing_held = ap (λ (q : Received). q.held) (kept.rx ∙ e_rx); some = some; shift = tell.shift ∙ e_shift }
 
           side_across : IsNew b.keep_alive s (room_of b.rx_buffer) across
           unfolding cleared
@@ -461,8 +461,8 @@ module _ (t : Tuple) (f : Facts) (number word : ℕ) (a b : View) (m : CanMeet t
             told_over = kept.window ∙ h.window ∙ g_field;
             told_back = o.window ∙ (λ i. e_field i * 2 ^ a_scale i);
             width_here = tell.window ∙ (λ i. e_field i * 2 ^ e_shift i);
-            last_ack = o.last_ack ∙ ack_then state.SynReceived s f received can_z z rz then None ∙ g_ack ∙ ap Some (sym next_across);
-            last_win = o.last_win ∙ window_then state.SynReceived s f received can_z z rz then None ∙ g_field;
+            last_ack = o.last_ack ∙ ack_then state.SynReceived s f received can_z z rz then (own_stamp state.SynReceived s f received can_z z rz then) ∙ g_ack ∙ ap Some (sym next_across);
+            last_win = o.last_win ∙ window_then state.SynReceived s f received can_z z rz then (own_stamp state.SynReceived s f received can_z z rz then) ∙ g_field;
           }
 
           pub stands : StandNew a.keep_alive b.keep_alive t f (capacity a.tx_buffer) (capacity b.tx_buffer) acknowledged.here acknowledged.across

@@ -30,7 +30,7 @@ use Rattle.sock_tcp.specs.declared.timer.Timer.TheVariants as timer
 use Rattle.sock_tcp.specs.declared.tuple.Tuple.{Tuple}
 use Rattle.progress_laws.specs.InStep.{takes_bytes, told}
 use Rattle.progress_laws.specs.Speech.{DispatchesOk, GoesOn, SendsOk}
-use Rattle.progress_laws.proofs.Begins.{Alike, beginning, content_is, content_waiting, lent_for, readied_alike, segment_for, sends_so}
+use Rattle.progress_laws.proofs.Begins.{Alike, beginning, content_is, content_waiting, lent_for, readied_alike, segment_for, sends_so, stamp_for, stamp_is}
 use Rattle.progress_laws.proofs.Edges.{is_earlier, is_not_before, later_stays}
 use Rattle.progress_laws.proofs.Hears.{idle_is, idle_moment}
 use Rattle.progress_laws.proofs.Says.{keep_alive_due, no_probe}
@@ -74,7 +74,7 @@ module _ (s : Tuple) (w : View) (room n : ℕ) (y : View) (f : Facts) (now : Ins
   al : Alike y u
   al = readied_alike y now
 
-  u_is : beginning y s fa false on carries ≡ u
+  u_is : beginning y s fa on carries ≡ u
   u_is = ap (λ tm. after_timer tm u now) o.timer
 
   takes_on : takes_bytes u.state ≡ true
@@ -99,18 +99,18 @@ module _ (s : Tuple) (w : View) (room n : ℕ) (y : View) (f : Facts) (now : Ins
   bytes = lent_for u s fa
 
   none : length bytes ≡ 0
-  none = omega (arith, lent_at_most u.tx_buffer (offset_of u) (asked u s fa false) bytes refl, ap (λ (q : Queue). length q.bytes) al.same.tx, o.nothing_to_send)
+  none = omega (arith, lent_at_most u.tx_buffer (offset_of u) (asked u s fa) bytes refl, ap (λ (q : Queue). length q.bytes) al.same.tx, o.nothing_to_send)
 
   nothing_marked : u.pending_fast_retransmit ≡ false
   nothing_marked = al.marked ∙ o.nothing_marked
 
   abbrev b : Segment
-  b = segment_for u s None bytes
+  b = segment_for u s (stamp_for u) bytes
 
   -- in FIN-WAIT-2 it is an acknowledgement alone
-  same_plain : b ≡ plain_segment u s None
+  same_plain : b ≡ plain_segment u s (stamp_for u)
   unfolding plain_segment
-  same_plain = (λ i. record (plain_segment u s None) { seq_number = at i; control = no_control i; payload = no_bytes bytes none i })
+  same_plain = (λ i. record (plain_segment u s (stamp_for u)) { seq_number = at i; control = no_control i; payload = no_bytes bytes none i })
     where
       at : b.seq_number ≡ u.remote_last_seq
       at = rw nothing_marked refl
@@ -126,19 +126,19 @@ module _ (s : Tuple) (w : View) (room n : ℕ) (y : View) (f : Facts) (now : Ins
       no_bytes [] e = refl
       no_bytes (x ∷ l) e = absurd (omega (arith, e))
 
-  content_here : content u s fa None bytes ≡ Some (sent_as u s (emission_kind u now b) b)
+  content_here : content u s fa (stamp_for u) bytes ≡ Some (sent_as u s (emission_kind u now b) b)
   content_here = by u.state refl takes_on
     where
-      by : (st : State) → u.state ≡ st → takes_bytes st ≡ true → content u s fa None bytes ≡ Some (sent_as u s (emission_kind u now b) b)
-      by state.Established e h = content_is u s fa None bytes (ap carries_data e)
-      by state.FinWait2 e h = content_waiting u s fa None bytes e same_plain
+      by : (st : State) → u.state ≡ st → takes_bytes st ≡ true → content u s fa (stamp_for u) bytes ≡ Some (sent_as u s (emission_kind u now b) b)
+      by state.Established e h = content_is u s fa (stamp_for u) bytes (ap carries_data e)
+      by state.FinWait2 e h = content_waiting u s fa (stamp_for u) bytes e same_plain
       by _ e h = absurd cc
 
   -- ---- its keep-alive comes first
 
   module _ (over : is_keep_alive_over y.timer now ≡ true) where
     keeps : emission_kind u now b ≡ kind.KeepAlive
-    keeps = without_bytes u s None bytes sends nothing_marked now no_probing none true (ap (λ tm. is_keep_alive_over tm now) al.timer ∙ over)
+    keeps = without_bytes u s (stamp_for u) bytes sends nothing_marked now no_probing none true (ap (λ tm. is_keep_alive_over tm now) al.timer ∙ over)
 
     abbrev pub kept_out : Sending
     kept_out = sent_as u s kind.KeepAlive b
@@ -146,10 +146,10 @@ module _ (s : Tuple) (w : View) (room n : ℕ) (y : View) (f : Facts) (now : Ins
     abbrev pub renewed : View
     renewed = left u s now b opens kind.KeepAlive
 
-    pub renews : DispatchesOk fa false y (Some kept_out) renewed
-    renews = sends_so y s fa false on carries (Some kept_out) renewed (ap (λ x. is_due x s fa false) u_is ∙ keep_alive_due u s fa false (ap (λ tm. is_keep_alive_over tm now) al.timer ∙ over)) (subst (λ x. SendsOk fa s false x (Some kept_out) renewed) (sym u_is) (record {
-      stamp = None;
-      told = refl;
+    pub renews : DispatchesOk fa y (Some kept_out) renewed
+    renews = sends_so y s fa on carries (Some kept_out) renewed (ap (λ x. is_due x s fa) u_is ∙ keep_alive_due u s fa (ap (λ tm. is_keep_alive_over tm now) al.timer ∙ over)) (subst (λ x. SendsOk fa s x (Some kept_out) renewed) (sym u_is) (record {
+      stamp = stamp_for u;
+      told = stamp_is u;
       bytes = bytes;
       lent = refl;
       sends = sym (content_here ∙ ap (λ c. Some (sent_as u s c b)) keeps);
@@ -200,9 +200,9 @@ module _ (s : Tuple) (w : View) (room n : ℕ) (y : View) (f : Facts) (now : Ins
     unfolding ack_due
     owed = ap (λ a. is_ack_after a (next_ack u)) (al.last_ack ∙ o.last_ack) ∙ ap (is_before o.last) next ∙ is_earlier o.last (next_ack y) (omega (arith, o.next, some, fits, narrow, o.near, o.last_small))
 
-    due : is_due u s fa false ≡ true
+    due : is_due u s fa ≡ true
     unfolding is_due
-    due = by (data_due u s fa false) (is_reached (ack_poll u) now) reached
+    due = by (data_due u s fa) (is_reached (ack_poll u) now) reached
       where
         reached : is_reached (ack_poll u) now ≡ true
         reached = ap (λ b. is_reached (if b then delay_poll u.ack_delay_timer else poll.Ingress) now) owed ∙ ap (λ a. is_reached (delay_poll a) now) al.delay ∙ late
@@ -212,7 +212,7 @@ module _ (s : Tuple) (w : View) (room n : ℕ) (y : View) (f : Facts) (now : Ins
         by false k e = rw e refl
 
     plain : emission_kind u now b ≡ kind.Plain
-    plain = without_bytes u s None bytes sends nothing_marked now no_probing none false (ap (λ tm. is_keep_alive_over tm now) al.timer ∙ not_over)
+    plain = without_bytes u s (stamp_for u) bytes sends nothing_marked now no_probing none false (ap (λ tm. is_keep_alive_over tm now) al.timer ∙ not_over)
 
     abbrev pub out_of : Sending
     out_of = sent_as u s kind.Plain b
@@ -220,10 +220,10 @@ module _ (s : Tuple) (w : View) (room n : ℕ) (y : View) (f : Facts) (now : Ins
     abbrev pub after : View
     after = left u s now b opens kind.Plain
 
-    pub acknowledges : DispatchesOk fa false y (Some out_of) after
-    acknowledges = sends_so y s fa false on carries (Some out_of) after (ap (λ x. is_due x s fa false) u_is ∙ due) (subst (λ x. SendsOk fa s false x (Some out_of) after) (sym u_is) (record {
-      stamp = None;
-      told = refl;
+    pub acknowledges : DispatchesOk fa y (Some out_of) after
+    acknowledges = sends_so y s fa on carries (Some out_of) after (ap (λ x. is_due x s fa) u_is ∙ due) (subst (λ x. SendsOk fa s x (Some out_of) after) (sym u_is) (record {
+      stamp = stamp_for u;
+      told = stamp_is u;
       bytes = bytes;
       lent = refl;
       sends = sym (content_here ∙ ap (λ c. Some (sent_as u s c b)) plain);
@@ -231,10 +231,10 @@ module _ (s : Tuple) (w : View) (room n : ℕ) (y : View) (f : Facts) (now : Ins
     }))
 
     long : segment_len b ≡ 0
-    long = segment_length u s None bytes sends nothing_marked ∙ none
+    long = segment_length u s (stamp_for u) bytes sends nothing_marked ∙ none
 
     number : b.seq_number ≡ w.local_seq_no
-    number = segment_number u s None bytes sends nothing_marked ∙ al.nxt ∙ o.nxt
+    number = segment_number u s (stamp_for u) bytes sends nothing_marked ∙ al.nxt ∙ o.nxt
 
     field : window_field u ≡ min (room / 2 ^ w.remote_win_shift) 65535
     field = (λ i. min (wide i / 2 ^ (al.same.shift ∙ o.shift) i) 65535)
@@ -246,7 +246,7 @@ module _ (s : Tuple) (w : View) (room n : ℕ) (y : View) (f : Facts) (now : Ins
     kept_then = let l = plain_sent u s now b opens in record { state = l.same.state ∙ al.same.state; keep_alive = l.same.keep_alive ∙ al.same.keep_alive; window = l.same.window ∙ al.same.window; scale = l.same.scale ∙ al.same.scale; tx = l.same.tx ∙ al.same.tx; rx = l.same.rx ∙ al.same.rx }
 
     pub field_is : out_of.segment.window_len ≡ min (room / 2 ^ w.remote_win_shift) 65535
-    field_is = segment_window u s None bytes sends nothing_marked ∙ field
+    field_is = segment_window u s (stamp_for u) bytes sends nothing_marked ∙ field
 
     pub next_is : next_ack after ≡ next_ack y
     next_is = let l = plain_sent u s now b opens in (λ i. seq_add (l.same.rcv i) (length ((l.same.rx i).bytes))) ∙ next
@@ -256,7 +256,7 @@ module _ (s : Tuple) (w : View) (room n : ℕ) (y : View) (f : Facts) (now : Ins
         let l = plain_sent u s now b opens in
         let rcv : next_ack after ≡ next_ack u = (λ i. seq_add (l.same.rcv i) (length ((l.same.rx i).bytes))) in
         let shift : after.remote_win_shift ≡ w.remote_win_shift = l.same.shift ∙ al.same.shift ∙ o.shift in
-        let ack : after.remote_last_ack ≡ Some (next_ack after) = (plain_told u s now b opens).ack ∙ segment_ack u s None bytes sends nothing_marked ∙ ap Some (sym rcv) in
+        let ack : after.remote_last_ack ≡ Some (next_ack after) = (plain_told u s now b opens).ack ∙ segment_ack u s (stamp_for u) bytes sends nothing_marked ∙ ap Some (sym rcv) in
         let held : after.rx_buffer.held ≡ blank room = ap (λ (q : Received). q.held) (l.same.rx ∙ al.same.rx) ∙ o.nothing_held in
         let told_field : b.window_len ≡ min (room / 2 ^ w.remote_win_shift) 65535 = field_is in
         record {
@@ -282,9 +282,9 @@ module _ (s : Tuple) (w : View) (room n : ℕ) (y : View) (f : Facts) (now : Ins
           };
           una = l.same.una ∙ al.same.una ∙ o.una;
           shift = shift;
-          bit = segment_bit u s None bytes sends nothing_marked;
+          bit = segment_bit u s (stamp_for u) bytes sends nothing_marked;
           number = number;
-          ack = segment_ack u s None bytes sends nothing_marked ∙ ap Some (sym rcv);
+          ack = segment_ack u s (stamp_for u) bytes sends nothing_marked ∙ ap Some (sym rcv);
           empty = none;
           some = subst (λ n. 0 < n * 2 ^ w.remote_win_shift) (sym told_field) (unit_some room w.remote_win_shift at_least);
           window = told_window after room (ap (λ (l : List (Option ℕ)). length l) held ∙ length-replicate room None) narrow ack ((plain_told u s now b opens).window ∙ told_field ∙ ap (λ k. min (room / 2 ^ k) 65535) (sym shift)) ∙ ap (unit room) shift ∙ ap (λ n. n * 2 ^ w.remote_win_shift) (sym told_field);

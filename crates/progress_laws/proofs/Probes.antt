@@ -1,5 +1,5 @@
 -- What a sender says that probes for a window, with nothing in flight.
-use Rattle.std.proofs.Common.{◌≡◌, ℕ, inr, ◌/◌, ◌^◌, ◌<◌, ◌≤◌, true, false, not, ◌&&◌, refl, sym, ap, subst, ◌∙◌, List, length, take, drop, min, Option, Some, None, arith}
+use Rattle.std.proofs.Common.{◌≡◌, ℕ, inr, ◌/◌, ◌^◌, ◌<◌, ◌≤◌, true, false, not, ◌&&◌, refl, sym, ap, subst, ◌∙◌, List, length, take, drop, min, Option, Some, arith}
 use Rattle.std.proofs.lemmas.Bool.{eq-eqb}
 use Rattle.net_base.specs.declared.time.Duration.{Duration}
 use Rattle.net_base.specs.declared.time.Instant.{Instant}
@@ -23,7 +23,7 @@ use Rattle.tcp_laws.proofs.OrderedCalls.{reached_ordered, readied_ordered}
 use Rattle.tcp_laws.proofs.Probing.{ProbesIn, reached_probing}
 use Rattle.progress_laws.specs.InStep.{IsSender, told}
 use Rattle.progress_laws.specs.Speech.{DispatchesOk, GoesOn, SendsOk}
-use Rattle.progress_laws.proofs.Begins.{Alike, beginning, carries_runs, content_is, dispatch_reached, lent_for, readied_alike, same_then, segment_for, sends_so}
+use Rattle.progress_laws.proofs.Begins.{Alike, beginning, carries_runs, content_is, dispatch_reached, lent_for, readied_alike, same_then, segment_for, sends_so, stamp_for, stamp_is}
 use Rattle.progress_laws.proofs.Edges.{same_seq}
 use Rattle.progress_laws.proofs.Hears.{IsOpenTimer}
 use Rattle.progress_laws.proofs.Lends.{probe_byte}
@@ -48,7 +48,7 @@ module _ (d : Option Duration) (t : Tuple) (v : View) (f : Facts) (now at : Inst
   al : Alike v p
   al = readied_alike v now
 
-  probe_is : beginning v t (told f now) false probe_on probe_carries ≡ p
+  probe_is : beginning v t (told f now) probe_on probe_carries ≡ p
   probe_is = ap (λ tm. after_timer tm p now) probes
 
   probe_may : may_send p.state ≡ true
@@ -82,21 +82,21 @@ module _ (d : Option Duration) (t : Tuple) (v : View) (f : Facts) (now at : Inst
   probe_bytes = lent_for p t (told f now)
 
   one_byte : length probe_bytes ≡ 1
-  one_byte = probe_byte p t (told f now) None probe_bytes mtu.0 (subst (λ n. 48 ≤ n) (sym al.mss) (reached_probing v s.reached).mss) (sends_data p.state probe_may) refl unmarked probing (omega (arith, nothing_sent, queue, ap (λ (q : Queue). length q.bytes) al.same.tx))
+  one_byte = probe_byte p t (told f now) (stamp_for p) probe_bytes mtu.0 (subst (λ n. 48 ≤ n) (sym al.mss) (reached_probing v s.reached).mss) (sends_data p.state probe_may) refl unmarked probing (omega (arith, nothing_sent, queue, ap (λ (q : Queue). length q.bytes) al.same.tx))
 
   abbrev probe : Segment
-  probe = segment_for p t None probe_bytes
+  probe = segment_for p t (stamp_for p) probe_bytes
 
   kind_is : emission_kind p now probe ≡ kind.Probe
   kind_is = rw probing refl
 
-  probe_goes : DispatchesOk (told f now) false v (Some (sent_as p t kind.Probe probe)) (left p t now probe probe_opens kind.Probe)
-  probe_goes = sends_so v t (told f now) false probe_on probe_carries (Some (sent_as p t kind.Probe probe)) (left p t now probe probe_opens kind.Probe) (ap (λ x. is_due x t (told f now) false) probe_is ∙ probe_due p t (told f now) false is_probe) (subst (λ x. SendsOk (told f now) t false x (Some (sent_as p t kind.Probe probe)) (left p t now probe probe_opens kind.Probe)) (sym probe_is) (record {
-    stamp = None;
-    told = refl;
+  probe_goes : DispatchesOk (told f now) v (Some (sent_as p t kind.Probe probe)) (left p t now probe probe_opens kind.Probe)
+  probe_goes = sends_so v t (told f now) probe_on probe_carries (Some (sent_as p t kind.Probe probe)) (left p t now probe probe_opens kind.Probe) (ap (λ x. is_due x t (told f now)) probe_is ∙ probe_due p t (told f now) is_probe) (subst (λ x. SendsOk (told f now) t x (Some (sent_as p t kind.Probe probe)) (left p t now probe probe_opens kind.Probe)) (sym probe_is) (record {
+    stamp = stamp_for p;
+    told = stamp_is p;
     bytes = probe_bytes;
     lent = refl;
-    sends = sym (content_is p t (told f now) None probe_bytes (sends_data p.state probe_may) ∙ ap (λ c. Some (sent_as p t c probe)) kind_is);
+    sends = sym (content_is p t (told f now) (stamp_for p) probe_bytes (sends_data p.state probe_may) ∙ ap (λ c. Some (sent_as p t c probe)) kind_is);
     view = refl;
   }))
 
@@ -108,20 +108,20 @@ module _ (d : Option Duration) (t : Tuple) (v : View) (f : Facts) (now at : Inst
         after = left p t now probe probe_opens kind.Probe;
         speaks = record {
           dispatch = probe_goes;
-          bit = segment_bit p t None probe_bytes probe_sends unmarked;
-          ack = segment_ack p t None probe_bytes probe_sends unmarked ∙ (λ i. Some (seq_add (al.same.rcv i) (length ((al.same.rx i).bytes))));
+          bit = segment_bit p t (stamp_for p) probe_bytes probe_sends unmarked;
+          ack = segment_ack p t (stamp_for p) probe_bytes probe_sends unmarked ∙ (λ i. Some (seq_add (al.same.rcv i) (length ((al.same.rx i).bytes))));
           waits = record {
-            reached = dispatch_reached (told f now) false v (Some (sent_as p t kind.Probe probe)) (left p t now probe probe_opens kind.Probe) s.reached probe_goes;
+            reached = dispatch_reached (told f now) v (Some (sent_as p t kind.Probe probe)) (left p t now probe probe_opens kind.Probe) s.reached probe_goes;
             same = same_then al.same l.same;
             nothing_marked = l.marked ∙ ap (λ m. m && not (carries_data p.state)) unmarked;
             timer = subst IsOpenTimer (sym (probe_timer p t now probe probe_opens ∙ ap (λ tm. probe_doubled (keep_alive_renewed tm now p.keep_alive) now) (al.timer ∙ probes))) tt;
           };
         };
-        number = segment_number p t None probe_bytes probe_sends unmarked ∙ al.nxt ∙ sent;
+        number = segment_number p t (stamp_for p) probe_bytes probe_sends unmarked ∙ al.nxt ∙ sent;
         some = omega (arith, one_byte);
         within = inr one_byte;
         queued = omega (arith, one_byte, queue);
-        first = lent_beginning p.tx_buffer (offset_of p) (asked p t (told f now) false) probe_bytes refl ∙ ap (λ o. take (length probe_bytes) (drop o p.tx_buffer.bytes)) probe_start ∙ ap (λ (q : Queue). take (length probe_bytes) q.bytes) al.same.tx;
+        first = lent_beginning p.tx_buffer (offset_of p) (asked p t (told f now)) probe_bytes refl ∙ ap (λ o. take (length probe_bytes) (drop o p.tx_buffer.bytes)) probe_start ∙ ap (λ (q : Queue). take (length probe_bytes) q.bytes) al.same.tx;
         sent = 0;
         sent_within = omega arith;
         nxt = probe_nxt p t now probe probe_opens ∙ al.nxt ∙ sent ∙ same_seq v.local_seq_no (seq_add v.local_seq_no 0) (omega (arith, (reached_ordered v s.reached).una_small));
@@ -138,7 +138,7 @@ module _ (d : Option Duration) (t : Tuple) (v : View) (f : Facts) (now at : Inst
   -- it tells the own window, which does not count as told
   pub probe_field : says_probe.out.segment.window_len ≡ window_field v
   unfolding says_probe
-  probe_field = segment_window p t None probe_bytes probe_sends unmarked ∙ (λ i. min (length ((al.same.rx i).held) / 2 ^ al.same.shift i) 65535)
+  probe_field = segment_window p t (stamp_for p) probe_bytes probe_sends unmarked ∙ (λ i. min (length ((al.same.rx i).held) / 2 ^ al.same.shift i) 65535)
 
   pub probe_shift : says_probe.after.remote_win_shift ≡ v.remote_win_shift
   unfolding says_probe

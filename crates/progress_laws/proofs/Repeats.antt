@@ -1,17 +1,17 @@
 -- What dispatches make of a socket in SYN-SENT or SYN-RECEIVED, and the SYN or SYN|ACK that one of them sends, again too.
-use Rattle.std.proofs.Common.{◌≡◌, ℕ, ◌+◌, ◌<◌, ◌^◌, inl, inr, Bool, true, false, not, ◌&&◌, refl, sym, ap, subst, ◌∙◌, List, length, Option, Some, None, arith}
+use Rattle.std.proofs.Common.{◌≡◌, ℕ, ◌+◌, ◌<◌, ◌^◌, inl, inr, Bool, true, false, not, ◌&&◌, ◌||◌, refl, sym, ap, subst, ◌∙◌, List, length, Option, Some, None, arith}
 use Rattle.std.specs.Prelude.{if◌then◌else◌, ◌==◌, option_map}
 use Rattle.net_base.specs.declared.time.Duration.{Duration}
 use Rattle.net_base.specs.declared.time.Instant.{Instant}
 use Rattle.control_wire.specs.Segment.{Segment, is_empty_segment, is_plain, segment_len}
-use Rattle.control_wire.specs.Seq.{seq_add, seq_sub}
+use Rattle.control_wire.specs.Seq.{seq_add, seq_eq, seq_sub}
 use Rattle.control_wire.specs.declared.seq_number.TcpSeqNumber.{TcpSeqNumber}
 use Rattle.control_wire.specs.declared.tcp.TcpControl.TheVariants as control
 use Rattle.sock_core.specs.Facts.{Facts}
 use Rattle.sock_core.specs.Seq.{later_of}
 use Rattle.sock_tcp.specs.Begin.{after_timer, is_paused, readied, retransmission_begun}
 use Rattle.sock_tcp.specs.Content.{Sending, carries_data, content, emission_kind, filled, plain_segment, sent_as, syn, syn_ack}
-use Rattle.sock_tcp.specs.Due.{data_due, flight, is_closed, is_due, is_opening}
+use Rattle.sock_tcp.specs.Due.{data_due, effective_mss, flight, is_closed, is_closing, is_due, is_held_back, is_opening, sendable}
 use Rattle.sock_tcp.specs.Sent.{left_by}
 use Rattle.sock_tcp.specs.Timers.{after as moment_after, idle_from, is_close_over, is_keep_alive_over, is_over, keep_alive_renewed, retransmit_from, retransmit_unless_set, rto_of}
 use Rattle.sock_tcp.specs.View.{View}
@@ -23,7 +23,7 @@ use Rattle.sock_tcp.specs.declared.timer.Timer.TheVariants as timer
 use Rattle.sock_tcp.specs.declared.tuple.Tuple.{Tuple}
 use Rattle.progress_laws.specs.InStep.{told}
 use Rattle.progress_laws.specs.Speech.{DispatchesOk, GoesOn}
-use Rattle.progress_laws.proofs.Begins.{Alike, Goes, Same, and_no, beginning, goes, lent_for, readied_alike, same_again, same_then, sends_so}
+use Rattle.progress_laws.proofs.Begins.{Alike, Goes, Same, and_no, beginning, goes, lent_for, readied_alike, same_again, same_then, sends_so, stamp_for, stamp_is}
 use Rattle.progress_laws.proofs.Edges.{is_earlier, is_not_before, later_is, later_stays}
 use Rattle.progress_laws.proofs.Hears.{idle_is, idle_moment}
 use Rattle.progress_laws.proofs.Sends.{SentOf, left, plain_sent, plain_timer, plain_told}
@@ -122,7 +122,7 @@ module _ (st : State) (t : Tuple) (f : Facts) (x : View) (c : SendsSyn st t f x)
   runs = ap (is_paused v.state) (r.same.paused ∙ c.not_paused) ∙ never_paused v.state
 
   abbrev pub u : View
-  u = beginning v t fa false on runs
+  u = beginning v t fa on runs
 
   abbrev z : View
   z = readied v now
@@ -181,6 +181,10 @@ module _ (st : State) (t : Tuple) (f : Facts) (x : View) (c : SendsSyn st t f x)
   u_small = subst (λ (q : TcpSeqNumber). q.0 < 2 ^ 32) (sym begun_so.same.una) c.una_small
 
   -- ---- what it sends, with any stamp
+
+  -- one that it may have
+  abbrev pub own_stamp : Option ℕ
+  own_stamp = stamp_for u
 
   abbrev pub segment : Option ℕ → Segment
   segment stamp = syn_segment st u t fa (plain_segment u t stamp)
@@ -246,23 +250,31 @@ module _ (st : State) (t : Tuple) (f : Facts) (x : View) (c : SendsSyn st t f x)
 
   -- ---- the dispatch
 
-  due : SynGoesOut v r.waits now → is_due u t fa false ≡ true
-  unfolding is_due data_due
-  due d = rw (begun_so.marked, opens, none) refl
+  data_goes : SynGoesOut v r.waits now → data_due u t fa ≡ true
+  unfolding data_due
+  data_goes d = by ((u.pending_fast_retransmit && not (length u.tx_buffer.bytes == 0)) || (not (sendable u == 0) && not (is_held_back u (effective_mss u t fa))))
     where
       none : flight u ≡ 0
       none = ap (λ q. seq_sub q u.local_seq_no) (front d) ∙ omega (arith, u_small)
 
+      by : (x : Bool) → (x || ((is_opening u.state && (flight u == 0)) || (is_closing u.state && seq_eq u.remote_last_seq (seq_add u.local_seq_no (length u.tx_buffer.bytes))))) ≡ true
+      by true = refl
+      by false = rw (opens, none) refl
+
+  due : SynGoesOut v r.waits now → is_due u t fa ≡ true
+  unfolding is_due
+  due d = rw (data_goes d) refl
+
   abbrev bytes : List ℕ
   bytes = lent_for u t fa
 
-  pub sends : SynGoesOut v r.waits now → DispatchesOk fa false v (Some (out_of None)) (sent None)
-  sends d = sends_so v t fa false on runs (Some (out_of None)) (sent None) (due d) (record { stamp = None; told = refl; bytes = bytes; lent = refl; sends = sym (content_so None bytes); view = refl })
+  pub sends : SynGoesOut v r.waits now → DispatchesOk fa v (Some (out_of own_stamp)) (sent own_stamp)
+  sends d = sends_so v t fa on runs (Some (out_of own_stamp)) (sent own_stamp) (due d) (record { stamp = own_stamp; told = stamp_is u; bytes = bytes; lent = refl; sends = sym (content_so own_stamp bytes); view = refl })
 
   -- whatever a dispatch does
-  pub goes_so : (out : Option Sending) (w : View) → DispatchesOk fa false v out w → Repeats x w
-  goes_so out w k = by (goes v t fa false on runs out w k)
+  pub goes_so : (out : Option Sending) (w : View) → DispatchesOk fa v out w → Repeats x w
+  goes_so out w k = by (goes v t fa on runs out w k)
     where
-      by : Goes v t fa false on runs out w → Repeats x w
+      by : Goes v t fa on runs out w → Repeats x w
       by (inl (s, e)) = subst (Repeats x) (sym (s.view ∙ ap (λ o. left_by o u now true) (s.sends ∙ content_so s.stamp s.bytes))) (sent_so s.stamp)
       by (inr (e, n)) = subst (Repeats x) (sym e) begun_so

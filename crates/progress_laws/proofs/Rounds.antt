@@ -28,6 +28,7 @@ use Rattle.sock_tcp.specs.declared.tuple.Tuple.{Tuple}
 use Rattle.tcp_laws.proofs.OrderedCalls.{reached_ordered}
 use Rattle.progress_laws.specs.Speech.{DispatchesOk}
 use Rattle.progress_laws.specs.InStep.{Carries, CarriesBack, Completes, ForAnswer, ForKeepAlive, ForNothing, ForProbe, GoesAstray, InStep, IsAnswered, IsLost, Moves, NoMove, OneMore, OneWayCompletes, Reads, Rests, told}
+use Rattle.progress_laws.proofs.Stamped.{stamped_ack, answer_stamp, ack_stamped}
 use Rattle.progress_laws.proofs.Begins.{later_moment, some_or_none}
 use Rattle.progress_laws.proofs.Edges.{same_seq}
 use Rattle.progress_laws.proofs.Owed.{acknowledges, after, kept_out, late_then, next_is, not_over_then, out_of, renewed, renews, still_owes, tells}
@@ -138,30 +139,36 @@ module _ (d : Option Duration) (t s : Tuple) (f : Facts) (mtu : IsMtu f.mtu) (he
         sender = v1;
         receiver = ack_kept w;
         more = got;
-        moves = OneMore at now now v w v1 (ack_kept w) v1 (ack_kept w) got got got since (IsAnswered out x g speaks.dispatch answer.0 (hears d t s v w x (ack_kept w) now ip g i.taken i speaks.waits answer.1 i.taken_within i.there near) refl) (NoMove now v1 (ack_kept w) got);
-        in_step = in_step_again d t s v w x (ack_kept w) now ip g i.taken i speaks.waits answer.1 i.taken_within i.there near;
-        none_new = nothing_new d t s v w x (ack_kept w) now ip g i.taken i speaks.waits answer.1 i.taken_within i.there near;
+        moves = OneMore at now now v w v1 (ack_kept w) v1 (ack_kept w) got got got since (IsAnswered out x r (answer_stamp (ack_kept w) out.segment) speaks.dispatch answer.0 (ack_stamped w (ack_kept w) out.segment) (hears d t s v w x (ack_kept w) now ip g i.taken i speaks.waits tells i.taken_within i.there near) refl) (NoMove now v1 (ack_kept w) got);
+        in_step = in_step_again d t s v w x (ack_kept w) now ip g i.taken i speaks.waits tells i.taken_within i.there near;
+        none_new = nothing_new d t s v w x (ack_kept w) now ip g i.taken i speaks.waits tells i.taken_within i.there near;
         whole = ap (λ (l : List ℕ). got ++ l) queue;
-        told_then = window_told d t s v w x (ack_kept w) now ip g i.taken i speaks.waits answer.1 i.taken_within i.there near;
+        told_then = window_told d t s v w x (ack_kept w) now ip g i.taken i speaks.waits tells i.taken_within i.there near;
         count = i.taken;
         some = counts;
         left = let e = ap (λ (l : List ℕ). length l) queue in omega (arith, e, length-drop i.taken v.tx_buffer.bytes, i.taken_within);
       }
         where
+          r : Segment
+          r = ack_segment w out.segment
+
           g : Segment
-          g = ack_segment w out.segment
+          g = stamped_ack w (ack_kept w) out.segment
 
           ip : IpRepr
           ip = reply_ip out.ip g
 
-          answer : (processed w now 0 out.ip out.segment ≡ record { view = ack_kept w; reply = Some g }) × Tells w (ack_kept w) s g
+          answer : (processed w now 0 out.ip out.segment ≡ record { view = ack_kept w; reply = Some r }) × Tells w (ack_kept w) s r
           answer = answers s w i.receiver now out.ip out.segment w_small speaks.bit (speaks.ack ∙ ap Some (sym i.back)) some away
 
+          tells : Tells w (ack_kept w) s g
+          tells = let a = answer.1 in record { receiver = a.receiver; una = a.una; shift = a.shift; bit = a.bit; number = a.number; ack = a.ack; empty = a.empty; some = a.some; window = a.window }
+
           v1 : View
-          v1 = heard_view d t s v w x (ack_kept w) now ip g i.taken i speaks.waits answer.1 i.taken_within i.there near
+          v1 = heard_view d t s v w x (ack_kept w) now ip g i.taken i speaks.waits tells i.taken_within i.there near
 
           queue : v1.tx_buffer.bytes ≡ drop i.taken v.tx_buffer.bytes
-          queue = queue_left d t s v w x (ack_kept w) now ip g i.taken i speaks.waits answer.1 i.taken_within i.there near
+          queue = queue_left d t s v w x (ack_kept w) now ip g i.taken i speaks.waits tells i.taken_within i.there near
 
     -- without a window: a keep-alive and its answer
     asks : (m : Instant) → v.timer ≡ timer.Idle (Some m) → v.remote_last_seq ≡ v.local_seq_no → is_over m now ≡ true → v.remote_win_len ≡ 0 → Round d t s f at v w got i
@@ -265,7 +272,7 @@ module _ (d : Option Duration) (t s : Tuple) (f : Facts) (mtu : IsMtu f.mtu) (he
           w3 : View
           w3 = after s w i.receiver.room (length fresh) r.receiver f z there r.owes any room i.receiver.room_at_most i.receiver.room_at_least w_small r.late r.not_over
 
-          back : DispatchesOk (told f z) false r.receiver (Some o) w3
+          back : DispatchesOk (told f z) r.receiver (Some o) w3
           back = acknowledges s w i.receiver.room (length fresh) r.receiver f z there r.owes any room i.receiver.room_at_most i.receiver.room_at_least w_small r.late r.not_over
 
           told_so : Tells w w3 s o.segment

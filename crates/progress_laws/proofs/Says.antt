@@ -145,9 +145,9 @@ not_after_itself a b e = go (is_before a b)
     go false = refl
 
 -- what a dispatch that goes on leaves still has to be said
-still_says : (d : Duration) (f : Facts) (stamps : Bool) (v : View) (out : Option Sending) (w : View) → HasToSay d v → DispatchesOk f stamps v out w → w.state ≡ v.state → w.tx_buffer ≡ v.tx_buffer → w.keep_alive ≡ v.keep_alive → HasToSay d w
-still_says d f stamps v out w s k state tx keep = record {
-  reached = dispatch_reached f stamps v out w s.reached k;
+still_says : (d : Duration) (f : Facts) (v : View) (out : Option Sending) (w : View) → HasToSay d v → DispatchesOk f v out w → w.state ≡ v.state → w.tx_buffer ≡ v.tx_buffer → w.keep_alive ≡ v.keep_alive → HasToSay d w
+still_says d f v out w s k state tx keep = record {
+  reached = dispatch_reached f v out w s.reached k;
   keep_alive = keep ∙ s.keep_alive;
   carries = ap carries_data state ∙ s.carries;
   waits = by s.waits;
@@ -168,17 +168,17 @@ idle_no_probe at None = refl
 idle_no_probe at (Some d) = refl
 
 -- the timer of a keep-alive, or of a probe, is a reason to send
-pub keep_alive_due : (u : View) (t : Tuple) (f : Facts) (stamps : Bool) → is_keep_alive_over u.timer (moment_of f) ≡ true → is_due u t f stamps ≡ true
+pub keep_alive_due : (u : View) (t : Tuple) (f : Facts) → is_keep_alive_over u.timer (moment_of f) ≡ true → is_due u t f ≡ true
 unfolding is_due
-keep_alive_due u t f stamps e = by (data_due u t f stamps || is_reached (ack_poll u) (moment_of f) || window_doubled u || is_closed u.state) e
+keep_alive_due u t f e = by (data_due u t f || is_reached (ack_poll u) (moment_of f) || window_doubled u || is_closed u.state) e
   where
     by : (a : Bool) → is_keep_alive_over u.timer (moment_of f) ≡ true → (a || is_keep_alive_over u.timer (moment_of f) || is_probe_over u.timer (moment_of f)) ≡ true
     by true e = refl
     by false e = rw e refl
 
-pub probe_due : (u : View) (t : Tuple) (f : Facts) (stamps : Bool) → is_probe_over u.timer (moment_of f) ≡ true → is_due u t f stamps ≡ true
+pub probe_due : (u : View) (t : Tuple) (f : Facts) → is_probe_over u.timer (moment_of f) ≡ true → is_due u t f ≡ true
 unfolding is_due
-probe_due u t f stamps e = by (data_due u t f stamps || is_reached (ack_poll u) (moment_of f) || window_doubled u || is_closed u.state || is_keep_alive_over u.timer (moment_of f)) e
+probe_due u t f e = by (data_due u t f || is_reached (ack_poll u) (moment_of f) || window_doubled u || is_closed u.state || is_keep_alive_over u.timer (moment_of f)) e
   where
     by : (a : Bool) → is_probe_over u.timer (moment_of f) ≡ true → (a || is_probe_over u.timer (moment_of f)) ≡ true
     by true e = refl
@@ -186,7 +186,7 @@ probe_due u t f stamps e = by (data_due u t f stamps || is_reached (ack_poll u) 
 
 module _ (d : Duration) (t : Tuple) where
   -- what goes out of u, where v had to say something
-  module _ (f : Facts) (stamps : Bool) (v u : View) (out : Option Sending) (w : View) (s : HasToSay d v) (k : DispatchesOk f stamps v out w) (o : SendsOk f t stamps u out w) (state : u.state ≡ v.state) (tx : u.tx_buffer ≡ v.tx_buffer) (keep : u.keep_alive ≡ v.keep_alive) where
+  module _ (f : Facts) (v u : View) (out : Option Sending) (w : View) (s : HasToSay d v) (k : DispatchesOk f v out w) (o : SendsOk f t u out w) (state : u.state ≡ v.state) (tx : u.tx_buffer ≡ v.tx_buffer) (keep : u.keep_alive ≡ v.keep_alive) where
     abbrev g : Segment
     g = segment_for u t o.stamp o.bytes
 
@@ -207,7 +207,7 @@ module _ (d : Duration) (t : Tuple) where
     plain_says e =
         let l = left_of u t (moment_of f) g in
         let is = left_plain e in
-        still_says d f stamps v out w s k (ap (λ (x : View). x.state) is ∙ l.state ∙ state) (ap (λ (x : View). x.tx_buffer) is ∙ l.tx ∙ tx) (ap (λ (x : View). x.keep_alive) is ∙ l.keep_alive ∙ keep)
+        still_says d f v out w s k (ap (λ (x : View). x.state) is ∙ l.state ∙ state) (ap (λ (x : View). x.tx_buffer) is ∙ l.tx ∙ tx) (ap (λ (x : View). x.keep_alive) is ∙ l.keep_alive ∙ keep)
 
     waits : HasToSend u
     waits = by s.waits
@@ -230,19 +230,19 @@ module _ (d : Duration) (t : Tuple) where
     idle_quiet : is_probing idle_view (moment_of f) ≡ false
     idle_quiet = no_probe idle_view (moment_of f) (ap (λ tm. is_probe_over tm (moment_of f)) idle_at)
 
-    idle_goes : {R : Type 0} (s : HasToSay d v) (stamps : Bool) (out : Option Sending) (w : View) → DispatchesOk f stamps v out w → (SendsOk f t stamps idle_view out w → R) → R
-    idle_goes {R} s stamps out w k sends = by (goes v t f stamps h.on (carries_runs v.state v.synack_paused s.carries) out w k)
+    idle_goes : {R : Type 0} (s : HasToSay d v) (out : Option Sending) (w : View) → DispatchesOk f v out w → (SendsOk f t idle_view out w → R) → R
+    idle_goes {R} s out w k sends = by (goes v t f h.on (carries_runs v.state v.synack_paused s.carries) out w k)
       where
-        u_is : beginning v t f stamps h.on (carries_runs v.state v.synack_paused s.carries) ≡ idle_view
+        u_is : beginning v t f h.on (carries_runs v.state v.synack_paused s.carries) ≡ idle_view
         u_is = ap (λ tm. after_timer tm idle_view (moment_of f)) is
 
-        by : Goes v t f stamps h.on (carries_runs v.state v.synack_paused s.carries) out w → R
-        by (inl o) = sends (subst (λ x. SendsOk f t stamps x out w) u_is o.0)
-        by (inr o) = absurd (true≢false (sym (keep_alive_due idle_view t f stamps idle_over) ∙ ap (λ x. is_due x t f stamps) (sym u_is) ∙ o.1))
+        by : Goes v t f h.on (carries_runs v.state v.synack_paused s.carries) out w → R
+        by (inl o) = sends (subst (λ x. SendsOk f t x out w) u_is o.0)
+        by (inr o) = absurd (true≢false (sym (keep_alive_due idle_view t f idle_over) ∙ ap (λ x. is_due x t f) (sym u_is) ∙ o.1))
 
   -- a keep-alive, or the first segment behind SND.UNA
   front_says : (n : ℕ) (v : View) (at : Instant) → HasToSay d v → v.timer ≡ timer.Idle (Some at) → AtFront v → SpeaksWithin (suc n) v t
-  front_says n v at s is front f stamps out w lawful h k = inl (idle_goes v at is f h s stamps out w k sends)
+  front_says n v at s is front f out w lawful h k = inl (idle_goes v at is f h s out w k sends)
     where
       u : View
       u = readied v (moment_of f)
@@ -257,11 +257,11 @@ module _ (d : Duration) (t : Tuple) where
           by (inl m) = inl (still.marked ∙ m)
           by (inr e) = inr (still.nxt ∙ e ∙ sym still.same.una)
 
-      sends : SendsOk f t stamps u out w → Says v out
+      sends : SendsOk f t u out w → Says v out
       sends o = elim (says_or_ack v u t f o.stamp o.bytes still.same.una at_front (idle_quiet v at is f h)) [
-        | inl h ↦ said f stamps v u out w s k o still.same.state still.same.tx still.same.keep_alive h
+        | inl h ↦ said f v u out w s k o still.same.state still.same.tx still.same.keep_alive h
         | inr q ↦ elim (keeps_or_bytes v u t f o.stamp o.bytes still.same.una (idle_quiet v at is f h) (idle_over v at is f h)) [
-          | inl h ↦ said f stamps v u out w s k o still.same.state still.same.tx still.same.keep_alive h
+          | inl h ↦ said f v u out w s k o still.same.state still.same.tx still.same.keep_alive h
           | inr r ↦ absurd (omega (arith, q.1, r.1))
         ]
       ]
@@ -269,7 +269,7 @@ module _ (d : Duration) (t : Tuple) where
   -- the retransmission timer: all is sent again from SND.UNA on, or a keep-alive comes next
   again_says : (n : ℕ) (v : View) (at : Instant) → HasToSay d v → v.timer ≡ timer.Retransmit at → SpeaksWithin (suc (suc n)) v t
   unfolding retransmission_begun snd_nxt_moved after_any plain_segment
-  again_says n v at s is f stamps out w lawful h k = by (goes v t f stamps h.on (carries_runs v.state v.synack_paused s.carries) out w k)
+  again_says n v at s is f out w lawful h k = by (goes v t f h.on (carries_runs v.state v.synack_paused s.carries) out w k)
     where
       x : View
       x = readied v (moment_of f)
@@ -283,7 +283,7 @@ module _ (d : Duration) (t : Tuple) where
       over : is_over at (moment_of f) ≡ true
       over = subst (λ tm. is_reached (timer_poll tm) (moment_of f) ≡ true) is h.over
 
-      u_is : beginning v t f stamps h.on (carries_runs v.state v.synack_paused s.carries) ≡ u
+      u_is : beginning v t f h.on (carries_runs v.state v.synack_paused s.carries) ≡ u
       u_is = ap (λ tm. after_timer tm x (moment_of f)) is ∙ ap (λ c. if c then u else x) over
 
       kept : u.timer ≡ timer.Idle (Some (after (moment_of f) d))
@@ -299,33 +299,33 @@ module _ (d : Duration) (t : Tuple) where
       next y q e a = front_says n y (after (moment_of f) d) q e a
 
       quiet : w ≡ u → SpeaksWithin (suc n) w t
-      quiet e = next w (still_says d f stamps v out w s k (ap (λ (y : View). y.state) e ∙ still.same.state) (ap (λ (y : View). y.tx_buffer) e ∙ still.same.tx) (ap (λ (y : View). y.keep_alive) e ∙ still.same.keep_alive)) (ap (λ (y : View). y.timer) e ∙ kept) (inr (ap (λ (y : View). y.remote_last_seq) e ∙ ap (λ (y : View). y.local_seq_no) (sym e)))
+      quiet e = next w (still_says d f v out w s k (ap (λ (y : View). y.state) e ∙ still.same.state) (ap (λ (y : View). y.tx_buffer) e ∙ still.same.tx) (ap (λ (y : View). y.keep_alive) e ∙ still.same.keep_alive)) (ap (λ (y : View). y.timer) e ∙ kept) (inr (ap (λ (y : View). y.remote_last_seq) e ∙ ap (λ (y : View). y.local_seq_no) (sym e)))
 
       -- an acknowledgement alone leaves SND.NXT at SND.UNA
-      acked : (o : SendsOk f t stamps u out w) → emission_kind u (moment_of f) (segment_for u t o.stamp o.bytes) ≡ kind.Plain → segment_len (segment_for u t o.stamp o.bytes) ≡ 0 → SpeaksWithin (suc n) w t
+      acked : (o : SendsOk f t u out w) → emission_kind u (moment_of f) (segment_for u t o.stamp o.bytes) ≡ kind.Plain → segment_len (segment_for u t o.stamp o.bytes) ≡ 0 → SpeaksWithin (suc n) w t
       acked o e none =
           let b = segment_for u t o.stamp o.bytes in
           let y : View = snd_nxt_moved (after_any u (moment_of f)) (emitted_as kind.Plain b) in
-          let w_is : w ≡ y = left_plain f stamps v u out w s k o still.same.state still.same.tx still.same.keep_alive e ∙ untimed u t (moment_of f) b none in
+          let w_is : w ≡ y = left_plain f v u out w s k o still.same.state still.same.tx still.same.keep_alive e ∙ untimed u t (moment_of f) b none in
           let number : b.seq_number ≡ u.local_seq_no = front_number u.pending_fast_retransmit u.local_seq_no u.remote_last_seq (inr refl) in
           let here : seq_add b.seq_number (segment_len b) ≡ u.local_seq_no = ap₂ seq_add number none ∙ ap (λ m. record { 0 = m }) (omega (arith, small, ap (λ (m : TcpSeqNumber). m.0) still.same.una)) in
-          next w (plain_says f stamps v u out w s k o still.same.state still.same.tx still.same.keep_alive e)
+          next w (plain_says f v u out w s k o still.same.state still.same.tx still.same.keep_alive e)
           (ap (λ (z : View). z.timer) w_is ∙ ap (λ tm. keep_alive_renewed tm (moment_of f) x.keep_alive) kept ∙ kept)
           (inr (ap (λ (z : View). z.remote_last_seq) w_is ∙ not_after_itself u.local_seq_no (seq_add b.seq_number (segment_len b)) here ∙ ap (λ (z : View). z.local_seq_no) (sym w_is)))
 
-      sends : SendsOk f t stamps u out w → Says v out ⊎ SpeaksWithin (suc n) w t
+      sends : SendsOk f t u out w → Says v out ⊎ SpeaksWithin (suc n) w t
       sends o = elim (says_or_ack v u t f o.stamp o.bytes still.same.una (inr refl) no_probing) [
-        | inl h ↦ inl (said f stamps v u out w s k o still.same.state still.same.tx still.same.keep_alive h)
+        | inl h ↦ inl (said f v u out w s k o still.same.state still.same.tx still.same.keep_alive h)
         | inr q ↦ inr (acked o q.0 q.1)
       ]
 
-      by : Goes v t f stamps h.on (carries_runs v.state v.synack_paused s.carries) out w → Says v out ⊎ SpeaksWithin (suc n) w t
-      by (inl o) = sends (subst (λ y. SendsOk f t stamps y out w) u_is o.0)
+      by : Goes v t f h.on (carries_runs v.state v.synack_paused s.carries) out w → Says v out ⊎ SpeaksWithin (suc n) w t
+      by (inl o) = sends (subst (λ y. SendsOk f t y out w) u_is o.0)
       by (inr o) = inr (quiet (o.0 ∙ u_is))
 
   -- between: a keep-alive, or what lies behind the bytes in flight, which is waited for then
   idle_says : (n : ℕ) (v : View) (at : Instant) → HasToSay d v → v.timer ≡ timer.Idle (Some at) → SpeaksWithin (suc (suc (suc n))) v t
-  idle_says n v at s is f stamps out w lawful h k = idle_goes v at is f h s stamps out w k sends
+  idle_says n v at s is f out w lawful h k = idle_goes v at is f h s out w k sends
     where
       u : View
       u = readied v (moment_of f)
@@ -336,16 +336,16 @@ module _ (d : Duration) (t : Tuple) where
       waited_for : keep_alive_renewed u.timer (moment_of f) u.keep_alive ≡ timer.Idle (Some (after (moment_of f) d))
       waited_for = ap (λ tm. keep_alive_renewed tm (moment_of f) u.keep_alive) (idle_at v at is f h) ∙ ap (λ o. idle_from (moment_of f) o) (still.same.keep_alive ∙ s.keep_alive)
 
-      sends : SendsOk f t stamps u out w → Says v out ⊎ SpeaksWithin (suc (suc n)) w t
+      sends : SendsOk f t u out w → Says v out ⊎ SpeaksWithin (suc (suc n)) w t
       sends o = elim (keeps_or_bytes v u t f o.stamp o.bytes still.same.una (idle_quiet v at is f h) (idle_over v at is f h)) [
-        | inl h ↦ inl (said f stamps v u out w s k o still.same.state still.same.tx still.same.keep_alive h)
-        | inr q ↦ inr (again_says n w (after (moment_of f) (rto_of u.rtte)) (plain_says f stamps v u out w s k o still.same.state still.same.tx still.same.keep_alive q.0) (ap (λ (z : View). z.timer) (left_plain f stamps v u out w s k o still.same.state still.same.tx still.same.keep_alive q.0) ∙ timed u t (moment_of f) (segment_for u t o.stamp o.bytes) q.1 ∙ ap (λ tm. retransmit_unless_set tm (moment_of f) u.rtte) waited_for))
+        | inl h ↦ inl (said f v u out w s k o still.same.state still.same.tx still.same.keep_alive h)
+        | inr q ↦ inr (again_says n w (after (moment_of f) (rto_of u.rtte)) (plain_says f v u out w s k o still.same.state still.same.tx still.same.keep_alive q.0) (ap (λ (z : View). z.timer) (left_plain f v u out w s k o still.same.state still.same.tx still.same.keep_alive q.0) ∙ timed u t (moment_of f) (segment_for u t o.stamp o.bytes) q.1 ∙ ap (λ tm. retransmit_unless_set tm (moment_of f) u.rtte) waited_for))
       ]
 
   -- a fast retransmission stands at SND.UNA, or its mark is left for the next segment
   fast_says : (n : ℕ) (v : View) → HasToSay d v → v.timer ≡ timer.FastRetransmit → SpeaksWithin (suc (suc n)) v t
   unfolding fast_retransmission_marked
-  fast_says n v s is f stamps out w lawful h k = by (goes v t f stamps h.on (carries_runs v.state v.synack_paused s.carries) out w k)
+  fast_says n v s is f out w lawful h k = by (goes v t f h.on (carries_runs v.state v.synack_paused s.carries) out w k)
     where
       x : View
       x = readied v (moment_of f)
@@ -356,28 +356,28 @@ module _ (d : Duration) (t : Tuple) where
       u : View
       u = fast_retransmission_marked x (moment_of f)
 
-      u_is : beginning v t f stamps h.on (carries_runs v.state v.synack_paused s.carries) ≡ u
+      u_is : beginning v t f h.on (carries_runs v.state v.synack_paused s.carries) ≡ u
       u_is = ap (λ tm. after_timer tm x (moment_of f)) is
 
       no_probing : is_probing u (moment_of f) ≡ false
       no_probing = no_probe u (moment_of f) (idle_no_probe (moment_of f) x.keep_alive)
 
       quiet : w ≡ u → SpeaksWithin (suc n) w t
-      quiet e = front_says n w (after (moment_of f) d) (still_says d f stamps v out w s k (ap (λ (y : View). y.state) e ∙ still.same.state) (ap (λ (y : View). y.tx_buffer) e ∙ still.same.tx) (ap (λ (y : View). y.keep_alive) e ∙ still.same.keep_alive)) (ap (λ (y : View). y.timer) e ∙ ap (λ o. idle_from (moment_of f) o) (still.same.keep_alive ∙ s.keep_alive)) (inl (ap (λ (y : View). y.pending_fast_retransmit) e))
+      quiet e = front_says n w (after (moment_of f) d) (still_says d f v out w s k (ap (λ (y : View). y.state) e ∙ still.same.state) (ap (λ (y : View). y.tx_buffer) e ∙ still.same.tx) (ap (λ (y : View). y.keep_alive) e ∙ still.same.keep_alive)) (ap (λ (y : View). y.timer) e ∙ ap (λ o. idle_from (moment_of f) o) (still.same.keep_alive ∙ s.keep_alive)) (inl (ap (λ (y : View). y.pending_fast_retransmit) e))
 
-      sends : (o : SendsOk f t stamps u out w) → IsProbing u → Says v out
+      sends : (o : SendsOk f t u out w) → IsProbing u → Says v out
       sends o i = elim (says_or_ack v u t f o.stamp o.bytes still.same.una (inl refl) no_probing) [
-        | inl h ↦ said f stamps v u out w s k o still.same.state still.same.tx still.same.keep_alive h
-        | inr q ↦ let some = marked_some u t f o.stamp o.bytes lawful.1.0 i.mss (ap carries_data still.same.state ∙ s.carries) o.lent refl (waits f stamps v u out w s k o still.same.state still.same.tx still.same.keep_alive) in absurd (omega (arith, some, q.1))
+        | inl h ↦ said f v u out w s k o still.same.state still.same.tx still.same.keep_alive h
+        | inr q ↦ let some = marked_some u t f o.stamp o.bytes lawful.1.0 i.mss (ap carries_data still.same.state ∙ s.carries) o.lent refl (waits f v u out w s k o still.same.state still.same.tx still.same.keep_alive) in absurd (omega (arith, some, q.1))
       ]
 
-      by : Goes v t f stamps h.on (carries_runs v.state v.synack_paused s.carries) out w → Says v out ⊎ SpeaksWithin (suc n) w t
-      by (inl o) = inl (sends (subst (λ y. SendsOk f t stamps y out w) u_is o.0) (subst IsProbing (o.1 ∙ u_is) (before_probing f stamps v (reached_probing v s.reached))))
+      by : Goes v t f h.on (carries_runs v.state v.synack_paused s.carries) out w → Says v out ⊎ SpeaksWithin (suc n) w t
+      by (inl o) = inl (sends (subst (λ y. SendsOk f t y out w) u_is o.0) (subst IsProbing (o.1 ∙ u_is) (before_probing f v (reached_probing v s.reached))))
       by (inr o) = inr (quiet (o.0 ∙ u_is))
 
   -- a probe, or a fast retransmission in its place
   probe_says : (n : ℕ) (v : View) (at : Instant) (delay : Duration) → HasToSay d v → v.timer ≡ timer.ZeroWindowProbe at delay → SpeaksWithin (suc n) v t
-  probe_says n v at delay s is f stamps out w lawful h k = inl (by (goes v t f stamps h.on (carries_runs v.state v.synack_paused s.carries) out w k))
+  probe_says n v at delay s is f out w lawful h k = inl (by (goes v t f h.on (carries_runs v.state v.synack_paused s.carries) out w k))
     where
       u : View
       u = readied v (moment_of f)
@@ -385,7 +385,7 @@ module _ (d : Duration) (t : Tuple) where
       still : Alike v u
       still = readied_alike v (moment_of f)
 
-      u_is : beginning v t f stamps h.on (carries_runs v.state v.synack_paused s.carries) ≡ u
+      u_is : beginning v t f h.on (carries_runs v.state v.synack_paused s.carries) ≡ u
       u_is = ap (λ tm. after_timer tm u (moment_of f)) is
 
       probes : u.timer ≡ timer.ZeroWindowProbe at delay
@@ -400,10 +400,10 @@ module _ (d : Duration) (t : Tuple) where
       same_flight : flight u ≡ flight v
       same_flight = ap₂ seq_sub still.nxt still.same.una
 
-      probed : (o : SendsOk f t stamps u out w) → u.pending_fast_retransmit ≡ false → (flight u < length u.tx_buffer.bytes → length o.bytes ≡ 1) → Speech v (sent_as u t kind.Probe (segment_for u t o.stamp o.bytes))
+      probed : (o : SendsOk f t u out w) → u.pending_fast_retransmit ≡ false → (flight u < length u.tx_buffer.bytes → length o.bytes ≡ 1) → Speech v (sent_as u t kind.Probe (segment_for u t o.stamp o.bytes))
       probed o m byte = Probes refl (ap (λ c. if c then u.local_seq_no else u.remote_last_seq) m ∙ still.nxt) (subst (λ q. q < length v.tx_buffer.bytes → length o.bytes ≡ 1) same_flight (subst (λ (q : Queue). flight u < length q.bytes → length o.bytes ≡ 1) still.same.tx byte))
 
-      sends : (o : SendsOk f t stamps u out w) → IsProbing u → Says v out
+      sends : (o : SendsOk f t u out w) → IsProbing u → Says v out
       sends o i = marked u.pending_fast_retransmit refl
         where
           shut : (window_left u == 0) ≡ true
@@ -411,23 +411,23 @@ module _ (d : Duration) (t : Tuple) where
 
           marked : (m : Bool) → u.pending_fast_retransmit ≡ m → Says v out
           marked true m = elim (says_or_ack v u t f o.stamp o.bytes still.same.una (inl m) (rw (carries_on, m) refl)) [
-            | inl h ↦ said f stamps v u out w s k o still.same.state still.same.tx still.same.keep_alive h
-            | inr q ↦ let some = marked_some u t f o.stamp o.bytes lawful.1.0 i.mss carries_on o.lent m (waits f stamps v u out w s k o still.same.state still.same.tx still.same.keep_alive) in absurd (omega (arith, some, q.1))
+            | inl h ↦ said f v u out w s k o still.same.state still.same.tx still.same.keep_alive h
+            | inr q ↦ let some = marked_some u t f o.stamp o.bytes lawful.1.0 i.mss carries_on o.lent m (waits f v u out w s k o still.same.state still.same.tx still.same.keep_alive) in absurd (omega (arith, some, q.1))
           ]
           marked false m =
               let probing : is_probing u (moment_of f) ≡ true = rw (carries_on, m, shut, over) refl in
               let b = segment_for u t o.stamp o.bytes in
-              said f stamps v u out w s k o still.same.state still.same.tx still.same.keep_alive (as_kind v u t f o.stamp o.bytes still.same.una kind.Probe (rw probing refl) (probed o m (probe_byte u t f o.stamp o.bytes lawful.1.0 i.mss carries_on o.lent m probing)))
+              said f v u out w s k o still.same.state still.same.tx still.same.keep_alive (as_kind v u t f o.stamp o.bytes still.same.una kind.Probe (rw probing refl) (probed o m (probe_byte u t f o.stamp o.bytes lawful.1.0 i.mss carries_on o.lent m probing)))
 
-      by : Goes v t f stamps h.on (carries_runs v.state v.synack_paused s.carries) out w → Says v out
-      by (inl o) = sends (subst (λ y. SendsOk f t stamps y out w) u_is o.0) (subst IsProbing (o.1 ∙ u_is) (before_probing f stamps v (reached_probing v s.reached)))
-      by (inr o) = absurd (true≢false (sym (probe_due u t f stamps over) ∙ ap (λ x. is_due x t f stamps) (sym u_is) ∙ o.1))
+      by : Goes v t f h.on (carries_runs v.state v.synack_paused s.carries) out w → Says v out
+      by (inl o) = sends (subst (λ y. SendsOk f t y out w) u_is o.0) (subst IsProbing (o.1 ∙ u_is) (before_probing f v (reached_probing v s.reached)))
+      by (inr o) = absurd (true≢false (sym (probe_due u t f over) ∙ ap (λ x. is_due x t f) (sym u_is) ∙ o.1))
 
 -- ---- the law
 
 sooner : (n : ℕ) (v : View) (t : Tuple) → SpeaksWithin n v t → SpeaksWithin (suc n) v t
 sooner zero v t h = absurd h
-sooner (suc n) v t h = λ f stamps out w lawful past k. by w out (h f stamps out w lawful past k) (sooner n w t)
+sooner (suc n) v t h = λ f out w lawful past k. by w out (h f out w lawful past k) (sooner n w t)
   where
     by : (w : View) (out : Option Sending) → Says v out ⊎ SpeaksWithin n w t → (SpeaksWithin n w t → SpeaksWithin (suc n) w t) → Says v out ⊎ SpeaksWithin (suc n) w t
     by w out (inl s) more = inl s
@@ -440,9 +440,9 @@ speaks_past_its_timers v t d r keep c w = by v.timer refl
     s = record { reached = r; keep_alive = keep; carries = c; waits = w }
 
     by : (tm : Timer) → v.timer ≡ tm → SpeaksWithin 3 v t
-    by (timer.Idle None) is = λ f stamps out w lawful h k. absurd (true≢false (sym h.over ∙ ap (λ tm. is_reached (timer_poll tm) (moment_of f)) is))
+    by (timer.Idle None) is = λ f out w lawful h k. absurd (true≢false (sym h.over ∙ ap (λ tm. is_reached (timer_poll tm) (moment_of f)) is))
     by (timer.Idle (Some at)) is = idle_says d t 0 v at s is
     by (timer.Retransmit at) is = sooner 2 v t (again_says d t 0 v at s is)
     by timer.FastRetransmit is = sooner 2 v t (fast_says d t 0 v s is)
     by (timer.ZeroWindowProbe at delay) is = probe_says d t 2 v at delay s is
-    by (timer.Close at) is = λ f stamps out w lawful h k. absurd (true≢false (sym (subst (λ tm. is_reached (timer_poll tm) (moment_of f) ≡ true) is h.over) ∙ subst (λ tm. is_close_over tm (moment_of f) ≡ false) is h.on.no_end))
+    by (timer.Close at) is = λ f out w lawful h k. absurd (true≢false (sym (subst (λ tm. is_reached (timer_poll tm) (moment_of f) ≡ true) is h.over) ∙ subst (λ tm. is_close_over tm (moment_of f) ≡ false) is h.on.no_end))

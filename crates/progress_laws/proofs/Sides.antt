@@ -1,5 +1,5 @@
 -- What a side tells, what it hears of an answer to it, and what it takes.
-use Rattle.std.proofs.Common.{◌≡◌, ℕ, ◌*◌, ◌<◌, ◌≤◌, ◌^◌, true, false, refl, sym, ap, subst, ◌∙◌, List, ◌++◌, length, drop, Option, Some, None, arith}
+use Rattle.std.proofs.Common.{◌≡◌, ℕ, ◌*◌, ◌<◌, ◌≤◌, ◌^◌, true, refl, sym, ap, subst, ◌∙◌, List, ◌++◌, length, drop, Option, Some, None, arith}
 use Rattle.std.specs.Prelude.{◌≤ℤ◌}
 use Rattle.std.proofs.lemmas.Int.{ints}
 use Rattle.std.proofs.lemmas.List.{length-replicate}
@@ -26,6 +26,7 @@ use Rattle.tcp_laws.proofs.SocketSteps.{holds_after}
 use Rattle.progress_laws.specs.BothWays.{IsSide, Toward, window_told}
 use Rattle.progress_laws.specs.InStep.{Carries, ForAnswer, ForKeepAlive, ForNothing, ForProbe, IsAnswered, Move, Moves, NoMove, OneMore, Reads, Rests, told}
 use Rattle.progress_laws.specs.Speech.{DispatchesOk}
+use Rattle.progress_laws.proofs.Stamped.{stamped_ack, answer_stamp, ack_stamped}
 use Rattle.progress_laws.proofs.Begins.{numbered_as, segment_reached}
 use Rattle.progress_laws.proofs.Edges.{same_seq}
 use Rattle.progress_laws.proofs.Hears.{HeardAs, IsData, IsOpenTimer}
@@ -85,7 +86,7 @@ pub record HearsAnswer (d e : Option Duration) (t s : Tuple) (f : Facts) (now : 
 
 module _ (d e : Option Duration) (t s : Tuple) (f : Facts) (now : Instant) (v w : View) (a : IsSide d t v) (b : IsSide e s w) (n : ℕ) (within : n ≤ length v.tx_buffer.bytes) (there : next_ack w ≡ seq_add v.local_seq_no n) (scale : scale_of v.remote_win_scale ≡ w.remote_win_shift) (out : Sending) (x : View) (speaks : Speaks (told f now) v out x) (shift : x.remote_win_shift ≡ v.remote_win_shift) (short : length out.segment.payload ≤ 65535) (number : out.segment.seq_number.0 < 2 ^ 32) (answer : processed w now 0 out.ip out.segment ≡ record { view = ack_kept w; reply = Some (ack_segment w out.segment) }) (lies : is_inside (receive_window x) w.remote_last_seq 0 ≡ true) (near : seq_sub (next_ack w) x.remote_last_seq ≤ 2 ^ 30) where
   abbrev g : Segment
-  g = ack_segment w out.segment
+  g = stamped_ack w (ack_kept w) out.segment
 
   abbrev ip : IpRepr
   ip = reply_ip out.ip g
@@ -108,7 +109,7 @@ module _ (d e : Option Duration) (t s : Tuple) (f : Facts) (now : Instant) (v w 
   window_is = h.window ∙ ap (λ o. g.window_len * 2 ^ scale_of o) speaks.waits.same.scale ∙ told_back
 
   reached : IsReached (ack_kept w)
-  reached = segment_reached w (ack_kept w) now 0 out.ip out.segment (Some g) b.sender.reached (omega arith) (numbered_as out.segment (next_ack v) speaks.ack number (omega arith)) short (λ l. absurd (not_listening w.state (ap is_steady b.established) l)) answer
+  reached = segment_reached w (ack_kept w) now 0 out.ip out.segment (Some (ack_segment w out.segment)) b.sender.reached (omega arith) (numbered_as out.segment (next_ack v) speaks.ack number (omega arith)) short (λ l. absurd (not_listening w.state (ap is_steady b.established) l)) answer
 
   pub hears_answer : HearsAnswer d e t s f now v w x n
   unfolding ack_kept
@@ -116,7 +117,7 @@ module _ (d e : Option Duration) (t s : Tuple) (f : Facts) (now : Instant) (v w 
       let k = speaks.waits in
       record {
         view = l.view;
-        move = λ got. IsAnswered out x g speaks.dispatch answer l.hears refl;
+        move = λ got. IsAnswered out x (ack_segment w out.segment) (answer_stamp (ack_kept w) out.segment) speaks.dispatch answer (ack_stamped w (ack_kept w) out.segment) l.hears refl;
         here = record {
           sender = record {
             reached = l.reached;
@@ -176,7 +177,7 @@ pub record Brought (e : Option Duration) (s : Tuple) (f : Facts) (now : Instant)
   pub side : IsSide e s view
   pub moves : (at : Instant) → at.micros ≤ℤ now.micros → (got : List ℕ) → Moves f at v w got now x view (got ++ fresh)
 
-module _ (e : Option Duration) (s : Tuple) (f : Facts) (now : Instant) (v x w : View) (out : Sending) (dispatch : DispatchesOk (told f now) false v (Some out) x) (b : IsSide e s w) (k : TcpSeqNumber) (n : ℕ) (c : IsCaughtUp w k n b.room) (bit : IsData out.segment.control) (ack : out.segment.ack_number ≡ Some k) (number : out.segment.seq_number.0 < 2 ^ 32) (short : length out.segment.payload ≤ 65535) (win : 0 < out.segment.window_len * 2 ^ scale_of w.remote_win_scale) (j m : ℕ) (np : NewPart w out.segment j m) where
+module _ (e : Option Duration) (s : Tuple) (f : Facts) (now : Instant) (v x w : View) (out : Sending) (dispatch : DispatchesOk (told f now) v (Some out) x) (b : IsSide e s w) (k : TcpSeqNumber) (n : ℕ) (c : IsCaughtUp w k n b.room) (bit : IsData out.segment.control) (ack : out.segment.ack_number ≡ Some k) (number : out.segment.seq_number.0 < 2 ^ 32) (short : length out.segment.payload ≤ 65535) (win : 0 < out.segment.window_len * 2 ^ scale_of w.remote_win_scale) (j m : ℕ) (np : NewPart w out.segment j m) where
   abbrev fresh : List ℕ
   fresh = fresh_bytes w k n b.room now out.ip out.segment c bit ack j m np
 

@@ -31,7 +31,7 @@ use Rattle.tcp_laws.proofs.Sleeping.{window_sends}
 use Rattle.tcp_laws.proofs.Probing.{reached_probing}
 use Rattle.progress_laws.specs.InStep.{ForAnswer, ForKeepAlive, ForNothing, ForProbe, IsSender, Rests, told}
 use Rattle.progress_laws.specs.Speech.{DispatchesOk, GoesOn}
-use Rattle.progress_laws.proofs.Begins.{Same, beginning, carries_runs, dispatch_reached, lent_for, not_zero, quiet_so, readied_alike, same_again, same_then, segment_for, sends_as}
+use Rattle.progress_laws.proofs.Begins.{Same, beginning, carries_runs, dispatch_reached, lent_for, not_zero, quiet_so, readied_alike, same_again, same_then, segment_for, sends_as, stamp_for}
 use Rattle.progress_laws.proofs.Edges.{is_earlier, is_not_before, later_is, later_stays}
 use Rattle.progress_laws.proofs.Hears.{IsData, IsOpenTimer, idle_is, idle_moment}
 use Rattle.progress_laws.proofs.Lends.{lent_some, mss_some}
@@ -50,7 +50,7 @@ pub record Waits (v x : View) : Type 0 where
 
 -- the dispatch emits this segment, and leaves x
 pub record Speaks (f : Facts) (v : View) (out : Sending) (x : View) : Type 0 where
-  pub dispatch : DispatchesOk f false v (Some out) x
+  pub dispatch : DispatchesOk f v (Some out) x
   pub bit : IsData out.segment.control
   pub ack : out.segment.ack_number ≡ Some (next_ack v)
   pub waits : Waits v x
@@ -97,7 +97,7 @@ pub record SpeaksNothing (f : Facts) (v : View) : Type 0 where
 pub record FallsSilent (f : Facts) (v : View) : Type 0 where
   pub out : Option Sending
   pub after : View
-  pub dispatch : DispatchesOk f false v out after
+  pub dispatch : DispatchesOk f v out after
   pub waits : Waits v after
   pub moment : Instant
   pub timer : after.timer ≡ timer.Idle (Some moment)
@@ -161,15 +161,15 @@ from_front v u now fr reached unmarked = record { nothing_marked = marked; mss =
     none = ap (λ n. seq_sub n u.local_seq_no) (fr.nxt ∙ sym fr.same.una) ∙ no_distance u.local_seq_no fr.ordered.una_small
 
 -- what is asked for keeps to both windows
-pub asked_so : (u : View) (t : Tuple) (f : Facts) (now : Instant) → FromFront u now → carries_data u.state ≡ true → asked u t (told f now) false ≡ min (min (window_left u) (effective_mss u t (told f now) false)) (congestion_left u)
+pub asked_so : (u : View) (t : Tuple) (f : Facts) (now : Instant) → FromFront u now → carries_data u.state ≡ true → asked u t (told f now) ≡ min (min (window_left u) (effective_mss u t (told f now))) (congestion_left u)
 unfolding asked
 asked_so u t f now ft carries = rw (ft.no_probing, carries, ft.nothing_marked) refl
 
 -- and no more than that is lent, nor than what waits
-pub lent_few : (u : View) (t : Tuple) (f : Facts) → length (lent_for u t f) ≤ min (asked u t f false) (length u.tx_buffer.bytes - offset_of u)
-lent_few u t f = lent_at_most u.tx_buffer (offset_of u) (asked u t f false) (lent_for u t f) refl
+pub lent_few : (u : View) (t : Tuple) (f : Facts) → length (lent_for u t f) ≤ min (asked u t f) (length u.tx_buffer.bytes - offset_of u)
+lent_few u t f = lent_at_most u.tx_buffer (offset_of u) (asked u t f) (lent_for u t f) refl
 
-module _ (d : Option Duration) (t : Tuple) (v : View) (f : Facts) (now : Instant) (mtu : IsMtu f.mtu) (s : IsSender d t v) (on : GoesOn v t (told f now)) (carries : is_paused v.state v.synack_paused ≡ false) (u : View) (fr : Front v u) (u_is : beginning v t (told f now) false on carries ≡ u) where
+module _ (d : Option Duration) (t : Tuple) (v : View) (f : Facts) (now : Instant) (mtu : IsMtu f.mtu) (s : IsSender d t v) (on : GoesOn v t (told f now)) (carries : is_paused v.state v.synack_paused ≡ false) (u : View) (fr : Front v u) (u_is : beginning v t (told f now) on carries ≡ u) where
   abbrev fa : Facts
   fa = told f now
 
@@ -188,36 +188,36 @@ module _ (d : Option Duration) (t : Tuple) (v : View) (f : Facts) (now : Instant
   abbrev bytes : List ℕ
   bytes = lent_for u t fa
 
-  asked_is : asked u t fa false ≡ min (min (window_left u) (effective_mss u t fa false)) (congestion_left u)
+  asked_is : asked u t fa ≡ min (min (window_left u) (effective_mss u t fa)) (congestion_left u)
   asked_is = asked_so u t f now ft (sends_data u.state may)
 
   abbrev b : Segment
-  b = segment_for u t None bytes
+  b = segment_for u t (stamp_for u) bytes
 
   bit : IsData b.control
-  bit = segment_bit u t None bytes sends ft.nothing_marked
+  bit = segment_bit u t (stamp_for u) bytes sends ft.nothing_marked
 
   number : b.seq_number ≡ v.local_seq_no
-  number = segment_number u t None bytes sends ft.nothing_marked ∙ fr.nxt
+  number = segment_number u t (stamp_for u) bytes sends ft.nothing_marked ∙ fr.nxt
 
   ack : b.ack_number ≡ Some (next_ack v)
-  ack = segment_ack u t None bytes sends ft.nothing_marked ∙ (λ i. Some (seq_add (fr.same.rcv i) (length ((fr.same.rx i).bytes))))
+  ack = segment_ack u t (stamp_for u) bytes sends ft.nothing_marked ∙ (λ i. Some (seq_add (fr.same.rcv i) (length ((fr.same.rx i).bytes))))
 
   told_field : b.window_len ≡ window_field v
-  told_field = segment_window u t None bytes sends ft.nothing_marked ∙ (λ i. min (length ((fr.same.rx i).held) / 2 ^ fr.same.shift i) 65535)
+  told_field = segment_window u t (stamp_for u) bytes sends ft.nothing_marked ∙ (λ i. min (length ((fr.same.rx i).held) / 2 ^ fr.same.shift i) 65535)
 
   carries_on : carries_data u.state ≡ true
   carries_on = sends_data u.state may
 
-  goes_out : (k : Kind) → emission_kind u now b ≡ k → is_due u t fa false ≡ true → DispatchesOk fa false v (Some (sent_as u t k b)) (left u t now b opens k)
+  goes_out : (k : Kind) → emission_kind u now b ≡ k → is_due u t fa ≡ true → DispatchesOk fa v (Some (sent_as u t k b)) (left u t now b opens k)
   goes_out = sends_as v t fa on carries u u_is carries_on
 
-  data_is_due : data_due u t fa false ≡ true → is_due u t fa false ≡ true
+  data_is_due : data_due u t fa ≡ true → is_due u t fa ≡ true
   unfolding is_due
   data_is_due e = rw e refl
 
-  waits : (k : Kind) → DispatchesOk fa false v (Some (sent_as u t k b)) (left u t now b opens k) → SentOf u (left u t now b opens k) → IsOpenTimer (left u t now b opens k).timer → Waits v (left u t now b opens k)
-  waits k h l o = record { reached = dispatch_reached fa false v (Some (sent_as u t k b)) (left u t now b opens k) s.reached h; same = same_then fr.same l.same; nothing_marked = l.marked ∙ ap (λ m. m && not (carries_data u.state)) ft.nothing_marked; timer = o }
+  waits : (k : Kind) → DispatchesOk fa v (Some (sent_as u t k b)) (left u t now b opens k) → SentOf u (left u t now b opens k) → IsOpenTimer (left u t now b opens k).timer → Waits v (left u t now b opens k)
+  waits k h l o = record { reached = dispatch_reached fa v (Some (sent_as u t k b)) (left u t now b opens k) s.reached h; same = same_then fr.same l.same; nothing_marked = l.marked ∙ ap (λ m. m && not (carries_data u.state)) ft.nothing_marked; timer = o }
 
   renewed : keep_alive_renewed u.timer now u.keep_alive ≡ idle_from now u.keep_alive
   renewed = ap (λ tm. keep_alive_renewed tm now u.keep_alive) fr.idle
@@ -227,11 +227,11 @@ module _ (d : Option Duration) (t : Tuple) (v : View) (f : Facts) (now : Instant
   speaks_bytes win queue =
       let win_u : 0 < u.remote_win_len = subst (λ n. 0 < n) (sym fr.same.window) win in
       let queue_u : 0 < length u.tx_buffer.bytes = subst (λ (q : Queue). 0 < length q.bytes) (sym fr.same.tx) queue in
-      let asks : 0 < asked u t fa false = omega (arith, asked_is, win_u, ft.no_flight, mss_some u t fa false mtu.0 ft.mss, open_window u.congestion_controller fr.ordered.congestion) in
-      let some : 0 < length bytes = lent_some u.tx_buffer (offset_of u) (asked u t fa false) bytes refl asks (omega (arith, ft.start, queue_u)) in
-      let plain : emission_kind u now b ≡ kind.Plain = with_bytes u t None bytes sends ft.nothing_marked now ft.no_probing some in
-      let h = goes_out kind.Plain plain (data_is_due (window_sends u t fa false fr.ordered win_u ft.no_flight (inl queue_u))) in
-      let long : segment_len b ≡ length bytes = segment_length u t None bytes sends ft.nothing_marked in
+      let asks : 0 < asked u t fa = omega (arith, asked_is, win_u, ft.no_flight, mss_some u t fa mtu.0 ft.mss, open_window u.congestion_controller fr.ordered.congestion) in
+      let some : 0 < length bytes = lent_some u.tx_buffer (offset_of u) (asked u t fa) bytes refl asks (omega (arith, ft.start, queue_u)) in
+      let plain : emission_kind u now b ≡ kind.Plain = with_bytes u t (stamp_for u) bytes sends ft.nothing_marked now ft.no_probing some in
+      let h = goes_out kind.Plain plain (data_is_due (window_sends u t fa fr.ordered win_u ft.no_flight (inl queue_u))) in
+      let long : segment_len b ≡ length bytes = segment_length u t (stamp_for u) bytes sends ft.nothing_marked in
       let same : length u.tx_buffer.bytes ≡ length v.tx_buffer.bytes = ap (λ (q : Queue). length q.bytes) fr.same.tx in
       record {
         out = sent_as u t kind.Plain b;
@@ -241,7 +241,7 @@ module _ (d : Option Duration) (t : Tuple) (v : View) (f : Facts) (now : Instant
         some = some;
         within = inl (omega (arith, lent_few u t fa, asked_is, fr.same.window));
         queued = omega (arith, lent_few u t fa, same);
-        first = lent_beginning u.tx_buffer (offset_of u) (asked u t fa false) bytes refl ∙ ap (λ o. take (length bytes) (drop o u.tx_buffer.bytes)) ft.start ∙ ap (λ (q : Queue). take (length bytes) q.bytes) fr.same.tx;
+        first = lent_beginning u.tx_buffer (offset_of u) (asked u t fa) bytes refl ∙ ap (λ o. take (length bytes) (drop o u.tx_buffer.bytes)) ft.start ∙ ap (λ (q : Queue). take (length bytes) q.bytes) fr.same.tx;
         sent = length bytes;
         sent_within = omega arith;
         nxt = (plain_told u t now b opens).nxt ∙ (λ i. later_of (fr.nxt i) (seq_add (number i) (long i))) ∙ later_is v.local_seq_no (seq_add v.local_seq_no (length bytes)) (is_earlier v.local_seq_no (seq_add v.local_seq_no (length bytes)) (omega (arith, some, lent_few u t fa, fr.ordered.room, (reached_ordered v s.reached).una_small)));
@@ -259,7 +259,7 @@ module _ (d : Option Duration) (t : Tuple) (v : View) (f : Facts) (now : Instant
   speaks_plain win queue =
       let l = plain_sent u t now b opens in
       let some : 0 < length bytes = (speaks_bytes win queue).some in
-      let long : segment_len b ≡ length bytes = segment_length u t None bytes sends ft.nothing_marked in
+      let long : segment_len b ≡ length bytes = segment_length u t (stamp_for u) bytes sends ft.nothing_marked in
       record {
         bytes = speaks_bytes win queue;
         fits = omega (arith, lent_few u t fa, asked_is, fr.same.window);
@@ -282,8 +282,8 @@ module _ (d : Option Duration) (t : Tuple) (v : View) (f : Facts) (now : Instant
   speaks_nothing win keep_over =
       let shut : u.remote_win_len ≡ 0 = fr.same.window ∙ win in
       let none : length bytes ≡ 0 = omega (arith, lent_few u t fa, asked_is, shut) in
-      let kept : emission_kind u now b ≡ kind.KeepAlive = without_bytes u t None bytes sends ft.nothing_marked now ft.no_probing none true keep_over in
-      let h = goes_out kind.KeepAlive kept (keep_alive_due u t fa false keep_over) in
+      let kept : emission_kind u now b ≡ kind.KeepAlive = without_bytes u t (stamp_for u) bytes sends ft.nothing_marked now ft.no_probing none true keep_over in
+      let h = goes_out kind.KeepAlive kept (keep_alive_due u t fa keep_over) in
       record {
         out = sent_as u t kind.KeepAlive b;
         after = left u t now b opens kind.KeepAlive;
@@ -297,7 +297,7 @@ module _ (d : Option Duration) (t : Tuple) (v : View) (f : Facts) (now : Instant
 
   -- without a window it is silent, or acknowledges
   silent : (e : Duration) → v.keep_alive ≡ Some e → v.remote_win_len ≡ 0 → FallsSilent fa v
-  silent e keeps win = by (is_due u t fa false) refl
+  silent e keeps win = by (is_due u t fa) refl
     where
       keep : u.keep_alive ≡ Some e
       keep = fr.same.keep_alive ∙ keeps
@@ -309,7 +309,7 @@ module _ (d : Option Duration) (t : Tuple) (v : View) (f : Facts) (now : Instant
       none = omega (arith, lent_few u t fa, asked_is, fr.same.window, win)
 
       long : segment_len b ≡ 0
-      long = segment_length u t None bytes sends ft.nothing_marked ∙ none
+      long = segment_length u t (stamp_for u) bytes sends ft.nothing_marked ∙ none
 
       small : v.local_seq_no.0 < 2 ^ 32
       small = (reached_ordered v s.reached).una_small
@@ -317,9 +317,9 @@ module _ (d : Option Duration) (t : Tuple) (v : View) (f : Facts) (now : Instant
       stays : later_of v.local_seq_no (seq_add v.local_seq_no 0) ≡ v.local_seq_no
       stays = later_stays v.local_seq_no (seq_add v.local_seq_no 0) (is_not_before v.local_seq_no (seq_add v.local_seq_no 0) (omega (arith, small)))
 
-      speaks : is_due u t fa false ≡ true → (k : Bool) → is_keep_alive_over u.timer now ≡ k → FallsSilent fa v
+      speaks : is_due u t fa ≡ true → (k : Bool) → is_keep_alive_over u.timer now ≡ k → FallsSilent fa v
       speaks due true over =
-          let h = goes_out kind.KeepAlive (without_bytes u t None bytes sends ft.nothing_marked now ft.no_probing none true over) due in
+          let h = goes_out kind.KeepAlive (without_bytes u t (stamp_for u) bytes sends ft.nothing_marked now ft.no_probing none true over) due in
           let l = kept_sent u t now b opens in
           record {
             out = Some (sent_as u t kind.KeepAlive b);
@@ -334,7 +334,7 @@ module _ (d : Option Duration) (t : Tuple) (v : View) (f : Facts) (now : Instant
             told = inl (let k = kept_untold u t now b opens in record { last_ack = k.last_ack ∙ fr.untold.last_ack; last_win = k.last_win ∙ fr.untold.last_win });
           }
       speaks due false over =
-          let h = goes_out kind.Plain (without_bytes u t None bytes sends ft.nothing_marked now ft.no_probing none false over) due in
+          let h = goes_out kind.Plain (without_bytes u t (stamp_for u) bytes sends ft.nothing_marked now ft.no_probing none false over) due in
           let l = plain_sent u t now b opens in
           let tm : (left u t now b opens kind.Plain).timer ≡ idle_from now u.keep_alive = plain_timer u t now b opens true (rw long refl) ∙ renewed in
           record {
@@ -353,13 +353,13 @@ module _ (d : Option Duration) (t : Tuple) (v : View) (f : Facts) (now : Instant
       no_moment : u.timer ≡ timer.Idle None → u.keep_alive ≡ None
       no_moment idle = subst (λ tm. HasMoment tm u.keep_alive) idle (row_moment u.state u.timer u.keep_alive (flight u) (length u.tx_buffer.bytes) may fr.ordered.row)
 
-      at_rest : DispatchesOk fa false v None u → (o : Option Instant) → u.timer ≡ timer.Idle o → FallsSilent fa v
+      at_rest : DispatchesOk fa v None u → (o : Option Instant) → u.timer ≡ timer.Idle o → FallsSilent fa v
       at_rest h None idle = absurd (none-some e (sym (no_moment idle) ∙ keep))
       at_rest h (Some m) idle = record {
         out = None;
         after = u;
         dispatch = h;
-        waits = record { reached = dispatch_reached fa false v None u s.reached h; same = fr.same; nothing_marked = ft.nothing_marked; timer = subst IsOpenTimer (sym idle) tt };
+        waits = record { reached = dispatch_reached fa v None u s.reached h; same = fr.same; nothing_marked = ft.nothing_marked; timer = subst IsOpenTimer (sym idle) tt };
         moment = m;
         timer = idle;
         nxt = fr.nxt ∙ sym fr.same.una;
@@ -368,10 +368,10 @@ module _ (d : Option Duration) (t : Tuple) (v : View) (f : Facts) (now : Instant
         told = inl fr.untold;
       }
 
-      by : (due : Bool) → is_due u t fa false ≡ due → FallsSilent fa v
+      by : (due : Bool) → is_due u t fa ≡ due → FallsSilent fa v
       by true due = speaks due (is_keep_alive_over u.timer now) refl
       by false idle =
-          let h : DispatchesOk fa false v None u = subst (DispatchesOk fa false v None) u_is (quiet_so v t fa false on carries (ap (λ x. is_due x t fa false) u_is ∙ idle)) in
+          let h : DispatchesOk fa v None u = subst (DispatchesOk fa v None) u_is (quiet_so v t fa on carries (ap (λ x. is_due x t fa) u_is ∙ idle)) in
           at_rest h fr.moment fr.idle
 
 -- ---- by the timer
@@ -393,7 +393,7 @@ pub record Begins (t : Tuple) (f : Facts) (v : View) (now : Instant) : Type 0 wh
   pub view : View
   pub front : Front v view
   pub no_end : is_close_over v.timer now ≡ false
-  pub is : (on : GoesOn v t (told f now)) (carries : is_paused v.state v.synack_paused ≡ false) → beginning v t (told f now) false on carries ≡ view
+  pub is : (on : GoesOn v t (told f now)) (carries : is_paused v.state v.synack_paused ≡ false) → beginning v t (told f now) on carries ≡ view
 
 pub begins : (t : Tuple) (f : Facts) (v : View) (now : Instant) → IsReached v → v.timeout ≡ None → (r : Rests v) → IsNoProbe r → is_over (wakes r) now ≡ true → Begins t f v now
 begins t f v now r none (ForProbe at delay probes nxt some) other over = absurd other

@@ -1,5 +1,5 @@
 -- What a socket says, number by number, and what stays of it.
-use Rattle.std.proofs.Common.{◌≡◌, ℕ, zero, suc, ◌+◌, ◌/◌, min, ◌<◌, ◌≤◌, ◌^◌, Bool, true, false, refl, sym, ap, subst, ◌∙◌, List, length, take, drop, Some, is_some, arith}
+use Rattle.std.proofs.Common.{◌≡◌, ℕ, zero, suc, ◌+◌, ◌/◌, min, ◌<◌, ◌≤◌, ◌^◌, Bool, true, false, refl, sym, ap, subst, ◌∙◌, List, length, take, drop, Some, arith}
 use Rattle.std.specs.Prelude.{if◌then◌else◌, ◌==◌}
 use Rattle.std.proofs.lemmas.Bool.{eqb-true}
 use Rattle.std.proofs.lemmas.Option.{same_Some}
@@ -128,20 +128,20 @@ pub data Stands (w : View) (out : Sending) (n : ℕ) : Type 0 where
 
 -- ---- what it says
 
-module _ (t : Tuple) (f : Facts) (stamps : Bool) (v : View) (out : Sending) (u : View) (h : HasSaid t f stamps v out u) where
+module _ (t : Tuple) (f : Facts) (v : View) (out : Sending) (u : View) (h : HasSaid t f v out u) where
   abbrev now : Instant
   now = moment_of f
 
   abbrev b : View
-  b = beginning v t f stamps h.on (carries_runs v.state v.synack_paused h.carries)
+  b = beginning v t f h.on (carries_runs v.state v.synack_paused h.carries)
 
   begun_still : Still v b
   begun_still =
       let al : Alike v (readied v now) = readied_alike v now in
       then_still v (readied v now) b (record { state = al.same.state; una = al.same.una; tx = al.same.tx; rx = al.same.rx; rcv = al.same.rcv; shift = al.same.shift }) (timer_still v.timer (readied v now) now)
 
-  o : SendsOk f t stamps b (Some out) u
-  o = goes_out v t f stamps h.on (carries_runs v.state v.synack_paused h.carries) out u h.dispatch
+  o : SendsOk f t b (Some out) u
+  o = goes_out v t f h.on (carries_runs v.state v.synack_paused h.carries) out u h.dispatch
 
   abbrev g : Segment
   g = segment_for b t o.stamp o.bytes
@@ -156,7 +156,7 @@ module _ (t : Tuple) (f : Facts) (stamps : Bool) (v : View) (out : Sending) (u :
   still = then_still v b u begun_still (subst (λ x. Still b x) (sym o.view) (sent_still b now (emitted_as out.kind out.segment)))
 
   pub reached_then : IsReached u
-  reached_then = dispatch_reached f stamps v (Some out) u h.reached h.dispatch
+  reached_then = dispatch_reached f v (Some out) u h.reached h.dispatch
 
   said_ack : (k : Kind) → (sent_as b t k g).segment.ack_number ≡ Some (next_ack b)
   unfolding plain_segment
@@ -186,7 +186,7 @@ module _ (t : Tuple) (f : Facts) (stamps : Bool) (v : View) (out : Sending) (u :
   bit = subst (λ (s : Sending). IsSaid s.segment.control) (sym out_is) (said_bit k)
 
   few : length o.bytes ≤ 2 ^ 30
-  few = omega (arith, lent_at_most b.tx_buffer (offset_of b) (asked b t f (is_some o.stamp)) o.bytes o.lent, ap (λ (q : Queue). length q.bytes) begun_still.tx, (reached_ordered v h.reached).room)
+  few = omega (arith, lent_at_most b.tx_buffer (offset_of b) (asked b t f) o.bytes o.lent, ap (λ (q : Queue). length q.bytes) begun_still.tx, (reached_ordered v h.reached).room)
 
   said_short : (k : Kind) → length (sent_as b t k g).segment.payload ≤ 2 ^ 30
   said_short kind.KeepAlive = omega arith
@@ -208,7 +208,7 @@ module _ (t : Tuple) (f : Facts) (stamps : Bool) (v : View) (out : Sending) (u :
 
   -- of bytes it has no more than the queue
   pub queued : (out.kind ≡ kind.KeepAlive → ⊥) → length out.segment.payload ≤ length v.tx_buffer.bytes
-  queued nk = omega (arith, ap (λ (s : Segment). length s.payload) (segment_is nk), lent_at_most b.tx_buffer (offset_of b) (asked b t f (is_some o.stamp)) o.bytes o.lent, ap (λ (q : Queue). length q.bytes) begun_still.tx)
+  queued nk = omega (arith, ap (λ (s : Segment). length s.payload) (segment_is nk), lent_at_most b.tx_buffer (offset_of b) (asked b t f) o.bytes o.lent, ap (λ (q : Queue). length q.bytes) begun_still.tx)
 
   una_small : v.local_seq_no.0 < 2 ^ 32
   una_small = (reached_ordered v h.reached).una_small
@@ -236,7 +236,7 @@ module _ (t : Tuple) (f : Facts) (stamps : Bool) (v : View) (out : Sending) (u :
 
     -- its payload is a beginning of the transmit queue
     pub first_bytes : out.segment.payload ≡ take (length out.segment.payload) v.tx_buffer.bytes
-    first_bytes = same_bytes ∙ lent_beginning b.tx_buffer (offset_of b) (asked b t f (is_some o.stamp)) o.bytes o.lent ∙ (λ i. take (length (sym same_bytes i)) (drop (at_front i) ((begun_still.tx i).bytes)))
+    first_bytes = same_bytes ∙ lent_beginning b.tx_buffer (offset_of b) (asked b t f) o.bytes o.lent ∙ (λ i. take (length (sym same_bytes i)) (drop (at_front i) ((begun_still.tx i).bytes)))
 
     -- with the FIN all of it
     pub fin_ends : out.segment.control ≡ control.Fin → length out.segment.payload ≡ length v.tx_buffer.bytes

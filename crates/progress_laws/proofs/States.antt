@@ -4,6 +4,7 @@ use Rattle.net_base.specs.declared.time.Duration.{Duration}
 use Rattle.net_base.specs.declared.time.Instant.{Instant}
 use Rattle.control_wire.specs.Segment.{Segment}
 use Rattle.control_wire.specs.declared.tcp.TcpControl.TheVariants as control
+use Rattle.sock_tcp.specs.Arrival.{arrival}
 use Rattle.sock_tcp.specs.Advance.{advance_in, continues}
 use Rattle.sock_tcp.specs.Begin.{is_paused}
 use Rattle.sock_tcp.specs.Closing.{closed_from}
@@ -119,8 +120,8 @@ steady_has = steady_by (λ st. has_window st ≡ true) refl refl refl refl
 pub steady_timer : (st : State) (t : Timer) (now : Instant) → is_steady st ≡ true → timer_restarted st t now ≡ t
 steady_timer st t now e = steady_by (λ st. timer_restarted st t now ≡ t) refl refl refl refl st e
 
-pub steady_goes_on : (st : State) → is_steady st ≡ true → (x : View) (now : Instant) (t : Tuple) (word n : ℕ) (s : Segment) → advance_in st control.None false x now t word n s ≡ continues x
-steady_goes_on st e x now t word n s = steady_by (λ st. advance_in st control.None false x now t word n s ≡ continues x) refl refl refl refl st e
+pub steady_goes_on : (st : State) → is_steady st ≡ true → (x : View) (now : Instant) (t : Tuple) (word n : ℕ) (s : Segment) → advance_in st control.None false x (arrival now t word s) n ≡ continues x
+steady_goes_on st e x now t word n s = steady_by (λ st. advance_in st control.None false x (arrival now t word s) n ≡ continues x) refl refl refl refl st e
 
 pub not_listening : (st : State) → is_steady st ≡ true → st ≡ state.Listen → ⊥
 not_listening state.Listen e l = absurd cc

@@ -31,7 +31,7 @@ use Rattle.tcp_laws.proofs.Repeating.{empty_parts}
 use Rattle.progress_laws.specs.Agreement.{ForAnswer, ForKeepAlive, ForProbe, ForRepeat, IsSpeaker, Waits}
 use Rattle.progress_laws.specs.InStep.{told}
 use Rattle.progress_laws.specs.Speech.{DispatchesOk, GoesOn}
-use Rattle.progress_laws.proofs.Begins.{Alike, Same, and_no, beginning, carries_runs, fin_len, lent_for, not_empty, not_zero, quiet_so, readied_alike, same_again, same_then, segment_for, sends_as, some_or_none, timers_are}
+use Rattle.progress_laws.proofs.Begins.{Alike, Same, and_no, beginning, carries_runs, fin_len, lent_for, not_empty, not_zero, quiet_so, readied_alike, same_again, same_then, segment_for, sends_as, some_or_none, timers_are, stamp_for}
 use Rattle.progress_laws.proofs.Edges.{is_not_before, later_stays}
 use Rattle.progress_laws.proofs.Lends.{lent_some, marked_some, mss_some, probe_byte}
 use Rattle.progress_laws.proofs.Says.{AtFront, front_number, keep_alive_due, no_probe, probe_due}
@@ -69,13 +69,13 @@ pub record AsksOnly (v : View) (out : Sending) : Type 0 where
 -- the dispatch says one of these; or it says nothing of them, and then waits for its keep-alive, which it did not before
 pub data Call (f : Facts) (v : View) (now : Instant) : Type 0 where
   Says : (out : Sending) (u : View)
-      → DispatchesOk f false v (Some out) u
+      → DispatchesOk f v (Some out) u
       → StartsAtUna v out ⊎ AsksOnly v out
       → Left v u
       → Waits u
       → Call f v now
   Silent : (out : Option Sending) (u : View)
-      → DispatchesOk f false v out u
+      → DispatchesOk f v out u
       → Left v u
       → (at : Instant)
       → u.timer ≡ timer.Idle (Some at)
@@ -103,7 +103,7 @@ record Started (v b : View) (now : Instant) : Type 0 where
   mss : 48 ≤ b.remote_mss
   quiet : is_keep_alive_over b.timer now ≡ false → is_keep_alive_over v.timer now ≡ false
 
-module _ (d : Duration) (t : Tuple) (v : View) (f : Facts) (now : Instant) (mtu : IsMtu f.mtu) (s : IsSpeaker d t v) (work : HasToSend v) (on : GoesOn v t (told f now)) (runs : is_paused v.state v.synack_paused ≡ false) (b : View) (st : Started v b now) (b_is : beginning v t (told f now) false on runs ≡ b) (ordered : IsOrdered b) where
+module _ (d : Duration) (t : Tuple) (v : View) (f : Facts) (now : Instant) (mtu : IsMtu f.mtu) (s : IsSpeaker d t v) (work : HasToSend v) (on : GoesOn v t (told f now)) (runs : is_paused v.state v.synack_paused ≡ false) (b : View) (st : Started v b now) (b_is : beginning v t (told f now) on runs ≡ b) (ordered : IsOrdered b) where
   abbrev fa : Facts
   fa = told f now
 
@@ -124,16 +124,16 @@ module _ (d : Duration) (t : Tuple) (v : View) (f : Facts) (now : Instant) (mtu 
   bytes = lent_for b t fa
 
   abbrev g : Segment
-  g = segment_for b t None bytes
+  g = segment_for b t (stamp_for b) bytes
 
-  goes_out : (k : Kind) → emission_kind b now g ≡ k → is_due b t fa false ≡ true → DispatchesOk fa false v (Some (sent_as b t k g)) (left b t now g opens k)
+  goes_out : (k : Kind) → emission_kind b now g ≡ k → is_due b t fa ≡ true → DispatchesOk fa v (Some (sent_as b t k g)) (left b t now g opens k)
   goes_out = sends_as v t fa on runs b b_is carries
 
   short : length bytes ≤ 65535
   unfolding asked
-  short = omega (arith, lent_at_most b.tx_buffer (offset_of b) (asked b t fa false) bytes refl, ap (λ c. if c then size_of b t fa false else 0) carries, few b.pending_fast_retransmit (is_probing b now), mtu.1)
+  short = omega (arith, lent_at_most b.tx_buffer (offset_of b) (asked b t fa) bytes refl, ap (λ c. if c then size_of b t fa else 0) carries, few b.pending_fast_retransmit (is_probing b now), mtu.1)
     where
-      few : (m p : Bool) → (if m then effective_mss b t fa false else (if p then min 1 (effective_mss b t fa false) else min (min (window_left b) (effective_mss b t fa false)) (congestion_left b))) ≤ f.mtu
+      few : (m p : Bool) → (if m then effective_mss b t fa else (if p then min 1 (effective_mss b t fa) else min (min (window_left b) (effective_mss b t fa)) (congestion_left b))) ≤ f.mtu
       few true p = omega arith
       few false true = omega arith
       few false false = omega arith
@@ -158,7 +158,7 @@ module _ (d : Duration) (t : Tuple) (v : View) (f : Facts) (now : Instant) (mtu 
   left_plain = record { same = same_then st.same (plain_sent b t now g opens).same; told = inr tells }
 
   -- with a byte or the FIN, as a plain segment
-  says_plain : is_due b t fa false ≡ true → is_probing b now ≡ false → is_empty_segment g ≡ false → 0 < segment_len g → Call fa v now
+  says_plain : is_due b t fa ≡ true → is_probing b now ≡ false → is_empty_segment g ≡ false → 0 < segment_len g → Call fa v now
   says_plain due no_probing full some = Says (sent_as b t kind.Plain g) (left b t now g opens kind.Plain) (goes_out kind.Plain plain due) (inl (record { kind = λ e. absurd cc; number = number; some = some; short = short })) left_plain (ForAnswer (after now (rto_of b.rtte)) (plain_timer b t now g opens false (not_zero (segment_len g) some) ∙ waits st.ready))
     where
       plain : emission_kind b now g ≡ kind.Plain
@@ -173,14 +173,14 @@ module _ (d : Duration) (t : Tuple) (v : View) (f : Facts) (now : Instant) (mtu 
   full_or_not false e some = e
 
   -- a fast retransmission is marked
-  says_marked : is_due b t fa false ≡ true → b.pending_fast_retransmit ≡ true → Call fa v now
+  says_marked : is_due b t fa ≡ true → b.pending_fast_retransmit ≡ true → Call fa v now
   says_marked due m = says_plain due no_probing (full_or_not (is_empty_segment g) refl some) some
     where
       no_probing : is_probing b now ≡ false
       no_probing = rw (carries, m) refl
 
       some : 0 < segment_len g
-      some = marked_some b t fa None bytes mtu.0 st.mss carries refl m work_then
+      some = marked_some b t fa (stamp_for b) bytes mtu.0 st.mss carries refl m work_then
 
   -- ---- nothing is in flight, and nothing marked
 
@@ -196,19 +196,19 @@ module _ (d : Duration) (t : Tuple) (v : View) (f : Facts) (now : Instant) (mtu 
     unfolding asked
     some_then no_probing win = by (some_or_none (length b.tx_buffer.bytes)) work_then
       where
-        asked_is : asked b t fa false ≡ min (min (window_left b) (effective_mss b t fa false)) (congestion_left b)
+        asked_is : asked b t fa ≡ min (min (window_left b) (effective_mss b t fa)) (congestion_left b)
         asked_is = rw (no_probing, carries, m) refl
 
         bytes_go : 0 < length b.tx_buffer.bytes → 0 < segment_len g
-        bytes_go queue = let h = lent_some b.tx_buffer (offset_of b) (asked b t fa false) bytes refl (omega (arith, asked_is, win, none, mss_some b t fa false mtu.0 st.mss, open_window b.congestion_controller ordered.congestion)) (omega (arith, start, queue)) in omega (arith, h)
+        bytes_go queue = let h = lent_some b.tx_buffer (offset_of b) (asked b t fa) bytes refl (omega (arith, asked_is, win, none, mss_some b t fa mtu.0 st.mss, open_window b.congestion_controller ordered.congestion)) (omega (arith, start, queue)) in omega (arith, h)
 
         no_bytes : length b.tx_buffer.bytes ≡ 0 → length bytes ≡ 0
-        no_bytes z = let h = lent_at_most b.tx_buffer (offset_of b) (asked b t fa false) bytes refl in omega (arith, h, z)
+        no_bytes z = let h = lent_at_most b.tx_buffer (offset_of b) (asked b t fa) bytes refl in omega (arith, h, z)
 
         by : (length b.tx_buffer.bytes ≡ 0) ⊎ (0 < length b.tx_buffer.bytes) → HasToSend b → 0 < segment_len g
         by (inr queue) h = bytes_go queue
         by (inl z) (inl queue) = absurd (omega (arith, z, queue))
-        by (inl z) (inr c) = fin_len b t None bytes c (omega (arith, start, z, no_bytes z))
+        by (inl z) (inr c) = fin_len b t (stamp_for b) bytes c (omega (arith, start, z, no_bytes z))
 
     shut_then : is_probing b now ≡ false → segment_len g ≡ 0 → v.remote_win_len ≡ 0
     shut_then no_probing z = by (some_or_none v.remote_win_len)
@@ -217,7 +217,7 @@ module _ (d : Duration) (t : Tuple) (v : View) (f : Facts) (now : Instant) (mtu 
         by (inl e) = e
         by (inr win) = absurd (omega (arith, some_then no_probing (omega (arith, st.same.window, win)), z))
 
-    says_idle : (at : Instant) → b.timer ≡ timer.Idle (Some at) → is_due b t fa false ≡ true → Call fa v now
+    says_idle : (at : Instant) → b.timer ≡ timer.Idle (Some at) → is_due b t fa ≡ true → Call fa v now
     says_idle at idle due = by (is_empty_segment g) refl (is_keep_alive_over b.timer now) refl
       where
         no_probing : is_probing b now ≡ false
@@ -227,7 +227,7 @@ module _ (d : Duration) (t : Tuple) (v : View) (f : Facts) (now : Instant) (mtu 
         renewed = ap (λ tm. keep_alive_renewed tm now b.keep_alive) idle ∙ keeps
 
         by : (e : Bool) → is_empty_segment g ≡ e → (k : Bool) → is_keep_alive_over b.timer now ≡ k → Call fa v now
-        by false x k y = says_plain due no_probing x (not_empty b t None bytes x)
+        by false x k y = says_plain due no_probing x (not_empty b t (stamp_for b) bytes x)
         by true x true y = Says (sent_as b t kind.KeepAlive g) (left b t now g opens kind.KeepAlive) (goes_out kind.KeepAlive kept due) (inr (record { kind = refl; number = ap (λ n. seq_minus n 1) st.same.una; byte = refl; shut = shut_then no_probing (empty_parts g x).0 })) (record { same = same_then st.same (kept_sent b t now g opens).same; told = inl (let u = kept_untold b t now g opens in record { last_ack = u.last_ack ∙ st.untold.last_ack; last_win = u.last_win ∙ st.untold.last_win }) }) (ForKeepAlive (Some (after now d)) (kept_timer b t now g opens ∙ renewed) (inr (kept_nxt b t now g opens ∙ nxt ∙ sym (kept_sent b t now g opens).same.una)))
           where
             kept : emission_kind b now g ≡ kind.KeepAlive
@@ -247,7 +247,7 @@ module _ (d : Duration) (t : Tuple) (v : View) (f : Facts) (now : Instant) (mtu 
             stays = (plain_told b t now g opens).nxt ∙ (λ i. later_of (nxt i) (seq_add (here i) (none_len i))) ∙ later_stays b.local_seq_no (seq_add b.local_seq_no 0) (is_not_before b.local_seq_no (seq_add b.local_seq_no 0) (omega (arith, ordered.una_small))) ∙ sym (plain_sent b t now g opens).same.una
 
     -- the byte of a probe
-    says_probe : (at : Instant) (delay : Duration) → b.timer ≡ timer.ZeroWindowProbe at delay → is_over at now ≡ true → b.remote_win_len ≡ 0 → 0 < length b.tx_buffer.bytes → is_due b t fa false ≡ true → Call fa v now
+    says_probe : (at : Instant) (delay : Duration) → b.timer ≡ timer.ZeroWindowProbe at delay → is_over at now ≡ true → b.remote_win_len ≡ 0 → 0 < length b.tx_buffer.bytes → is_due b t fa ≡ true → Call fa v now
     says_probe at delay probes over shut queue due = Says (sent_as b t kind.Probe g) (left b t now g opens kind.Probe) (goes_out kind.Probe kind_is due) (inl (record { kind = λ e. absurd cc; number = number; some = omega (arith, byte); short = short })) (record { same = same_then st.same (probe_sent b t now g opens).same; told = inl (let u = probe_untold b t now g opens in record { last_ack = u.last_ack ∙ st.untold.last_ack; last_win = u.last_win ∙ st.untold.last_win }) }) (ForProbe (after now (twice delay)) (twice delay) (probe_timer b t now g opens ∙ ap (λ tm. probe_doubled (keep_alive_renewed tm now b.keep_alive) now) probes) (inr (probe_nxt b t now g opens ∙ nxt ∙ sym l.una, subst (λ (q : Queue). 0 < length q.bytes) (sym l.tx) queue)))
       where
         l : Same b (left b t now g opens kind.Probe)
@@ -263,7 +263,7 @@ module _ (d : Duration) (t : Tuple) (v : View) (f : Facts) (now : Instant) (mtu 
         kind_is = rw probing refl
 
         byte : length bytes ≡ 1
-        byte = probe_byte b t fa None bytes mtu.0 st.mss carries refl m probing (omega (arith, none, queue))
+        byte = probe_byte b t fa (stamp_for b) bytes mtu.0 st.mss carries refl m probing (omega (arith, none, queue))
 
   -- ---- by the reasons to send
 
@@ -274,7 +274,7 @@ module _ (d : Duration) (t : Tuple) (v : View) (f : Facts) (now : Instant) (mtu 
       by (inl e) = absurd (true≢false (sym e ∙ m))
       by (inr e) = e
 
-  emits : is_due b t fa false ≡ true → Call fa v now
+  emits : is_due b t fa ≡ true → Call fa v now
   emits due = by b.pending_fast_retransmit refl st.ready
     where
       by : (m : Bool) → b.pending_fast_retransmit ≡ m → Ready b now → Call fa v now
@@ -283,24 +283,24 @@ module _ (d : Duration) (t : Tuple) (v : View) (f : Facts) (now : Instant) (mtu 
       by false m (IsProbe at delay probes over shut (inl e)) = absurd (true≢false (sym e ∙ m))
       by false m (IsProbe at delay probes over shut (inr queue)) = says_probe m (nxt_or m) at delay probes over shut queue due
 
-  rests : is_due b t fa false ≡ false → Call fa v now
+  rests : is_due b t fa ≡ false → Call fa v now
   rests idle = by st.ready
     where
-      quiet : DispatchesOk fa false v None b
-      quiet = subst (DispatchesOk fa false v None) b_is (quiet_so v t fa false on runs (ap (λ x. is_due x t fa false) b_is ∙ idle))
+      quiet : DispatchesOk fa v None b
+      quiet = subst (DispatchesOk fa v None) b_is (quiet_so v t fa on runs (ap (λ x. is_due x t fa) b_is ∙ idle))
 
       no_keep_alive : (k : Bool) → is_keep_alive_over b.timer now ≡ k → is_keep_alive_over b.timer now ≡ false
-      no_keep_alive true e = absurd (true≢false (sym (keep_alive_due b t fa false e) ∙ idle))
+      no_keep_alive true e = absurd (true≢false (sym (keep_alive_due b t fa e) ∙ idle))
       no_keep_alive false e = e
 
       by : Ready b now → Call fa v now
       by (IsIdle at e) = Silent None b quiet (record { same = st.same; told = inl st.untold }) at e st.front (st.quiet (no_keep_alive (is_keep_alive_over b.timer now) refl))
-      by (IsProbe at delay probes over shut some) = absurd (true≢false (sym (probe_due b t fa false (ap (λ tm. is_probe_over tm now) probes ∙ over)) ∙ idle))
+      by (IsProbe at delay probes over shut some) = absurd (true≢false (sym (probe_due b t fa (ap (λ tm. is_probe_over tm now) probes ∙ over)) ∙ idle))
 
   called : Call fa v now
-  called = by (is_due b t fa false) refl
+  called = by (is_due b t fa) refl
     where
-      by : (e : Bool) → is_due b t fa false ≡ e → Call fa v now
+      by : (e : Bool) → is_due b t fa ≡ e → Call fa v now
       by true e = emits e
       by false e = rests e
 
@@ -311,7 +311,7 @@ record Begins (t : Tuple) (f : Facts) (v : View) (now : Instant) : Type 0 where
   view : View
   started : Started v view now
   no_end : is_close_over v.timer now ≡ false
-  is : (on : GoesOn v t (told f now)) (runs : is_paused v.state v.synack_paused ≡ false) → beginning v t (told f now) false on runs ≡ view
+  is : (on : GoesOn v t (told f now)) (runs : is_paused v.state v.synack_paused ≡ false) → beginning v t (told f now) on runs ≡ view
 
 module _ (d : Duration) (t : Tuple) (f : Facts) (v : View) (now : Instant) (s : IsSpeaker d t v) (over : is_reached (timer_poll v.timer) now ≡ true) where
   abbrev x : View
@@ -371,7 +371,7 @@ module _ (d : Duration) (t : Tuple) (f : Facts) (v : View) (now : Instant) (mtu 
   goes_on = record { peer = s.peer; address = here; alive = rw s.no_timeout refl; no_end = q.no_end }
 
   pub calls : HasToSend v → Call (told f now) v now
-  calls work = called d t v f now mtu s work goes_on runs q.view q.started (q.is goes_on runs) (subst IsOrdered (timers_are v t (told f now) false goes_on runs ∙ q.is goes_on runs) (timers_ordered (readied v now) now (readied_ordered v now (reached_ordered v s.reached))))
+  calls work = called d t v f now mtu s work goes_on runs q.view q.started (q.is goes_on runs) (subst IsOrdered (timers_are v t (told f now) goes_on runs ∙ q.is goes_on runs) (timers_ordered (readied v now) now (readied_ordered v now (reached_ordered v s.reached))))
     where
       runs : is_paused v.state v.synack_paused ≡ false
       runs = carries_runs v.state v.synack_paused s.carries

@@ -71,7 +71,7 @@ pub record Utters (d : Duration) (t : Tuple) (f : Facts) (at bound : Instant) (v
   pub out : Sending
   pub after : View
   pub on : GoesOn sender t (told f now)
-  pub dispatch : DispatchesOk (told f now) false sender (Some out) after
+  pub dispatch : DispatchesOk (told f now) sender (Some out) after
   pub said : StartsAtUna sender out ⊎ AsksOnly sender out
   pub left : Left sender after
   pub waits : Waits after
@@ -84,7 +84,7 @@ module _ (d : Duration) (t : Tuple) (f : Facts) (mtu : IsMtu f.mtu) (here : f.ha
       again u s (inl some) = inl (subst (λ (q : Queue). 0 < length q.bytes) (sym s.tx) some)
       again u s (inr c) = inr (ap is_closing s.state ∙ c)
 
-      second : (z : Instant) → bound.micros ≤ℤ z.micros → (u : View) (out : Option Sending) → DispatchesOk (told f z) false v out u → (l : Left v u) → (m : Instant) → u.timer ≡ timer.Idle (Some m) → (q : IsSpeaker d t u) → (y : Instant) × (z.micros ≤ℤ y.micros) × (is_reached (timer_poll u.timer) y ≡ true) → Utters d t f at bound v w got
+      second : (z : Instant) → bound.micros ≤ℤ z.micros → (u : View) (out : Option Sending) → DispatchesOk (told f z) v out u → (l : Left v u) → (m : Instant) → u.timer ≡ timer.Idle (Some m) → (q : IsSpeaker d t u) → (y : Instant) × (z.micros ≤ℤ y.micros) × (is_reached (timer_poll u.timer) y ≡ true) → Utters d t f at bound v w got
       second z since u out disp l m idle q y = by (calls d t f u y.0 mtu here q y.2 (again u l.same work))
         where
           by : Call (told f y.0) u y.0 → Utters d t f at bound v w got
@@ -129,5 +129,5 @@ module _ (d : Duration) (t : Tuple) (f : Facts) (mtu : IsMtu f.mtu) (here : f.ha
             waits = waits;
           }
           by (Silent out u disp left m idle front quiet) =
-              let q : IsSpeaker d t u = left_speaks d t v u s left (dispatch_reached (told f z.0) false v out u s.reached disp) (ForKeepAlive (Some m) idle front) in
+              let q : IsSpeaker d t u = left_speaks d t v u s left (dispatch_reached (told f z.0) v out u s.reached disp) (ForKeepAlive (Some m) idle front) in
               second z.0 z.1 u out disp left m idle q (wakes d t u z.0 q)

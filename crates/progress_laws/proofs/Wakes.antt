@@ -36,21 +36,21 @@ has_moment timer.FastRetransmit = inr (λ e. cc)
 has_moment (timer.ZeroWindowProbe at delay) = inr (λ e. cc)
 has_moment (timer.Close at) = inr (λ e. cc)
 
-moment : (v : View) (t : Tuple) (f : Facts) (stamps b : Bool) → v.tuple ≡ Some t → v.timeout ≡ None → is_due_now v t f stamps ≡ b → timer_poll v.timer ≡ poll.Ingress → ack_due v ≡ false → poll_moment v f stamps ≡ (if b then poll.Now else poll.Ingress)
+moment : (v : View) (t : Tuple) (f : Facts) (b : Bool) → v.tuple ≡ Some t → v.timeout ≡ None → is_due_now v t f ≡ b → timer_poll v.timer ≡ poll.Ingress → ack_due v ≡ false → poll_moment v f ≡ (if b then poll.Now else poll.Ingress)
 unfolding poll_moment
-moment v t f stamps b peer none y i x = ap (λ o. poll_moment_to o v f stamps) peer ∙ (λ j. if y j then poll.Now else earlier (i j) (earlier (timeout_poll (none j) v.remote_last_ts) (if x j then delay_poll v.ack_delay_timer else poll.Ingress)))
+moment v t f b peer none y i x = ap (λ o. poll_moment_to o v f) peer ∙ (λ j. if y j then poll.Now else earlier (i j) (earlier (timeout_poll (none j) v.remote_last_ts) (if x j then delay_poll v.ack_delay_timer else poll.Ingress)))
 
 pub work_wakes_or_sleeps : WorkWakesOrSleeps
-work_wakes_or_sleeps v last most t f stamps r peer no_timeout work = by (has_moment v.timer) (ack_due v) refl (is_due_now v t f stamps) refl
+work_wakes_or_sleeps v last most t f r peer no_timeout work = by (has_moment v.timer) (ack_due v) refl (is_due_now v t f) refl
   where
-    awake : (timer_poll v.timer ≡ poll.Ingress → ack_due v ≡ true) → Sleeps v ⊎ ComesBy (poll_moment v f stamps) (after last most)
-    awake h = inr (wake_up_is_bounded v last most t f stamps r peer h)
+    awake : (timer_poll v.timer ≡ poll.Ingress → ack_due v ≡ true) → Sleeps v ⊎ ComesBy (poll_moment v f) (after last most)
+    awake h = inr (wake_up_is_bounded v last most t f r peer h)
 
-    quiet : timer_poll v.timer ≡ poll.Ingress → ack_due v ≡ false → (b : Bool) → is_due_now v t f stamps ≡ b → Sleeps v ⊎ ComesBy (poll_moment v f stamps) (after last most)
-    quiet i x true y = inr (subst (λ p. ComesBy p (after last most)) (sym (moment v t f stamps true peer no_timeout y i x)) tt)
-    quiet i x false y = inl (sleeps_only_so v f stamps (reached v last most r) work (moment v t f stamps false peer no_timeout y i x))
+    quiet : timer_poll v.timer ≡ poll.Ingress → ack_due v ≡ false → (b : Bool) → is_due_now v t f ≡ b → Sleeps v ⊎ ComesBy (poll_moment v f) (after last most)
+    quiet i x true y = inr (subst (λ p. ComesBy p (after last most)) (sym (moment v t f true peer no_timeout y i x)) tt)
+    quiet i x false y = inl (sleeps_only_so v f (reached v last most r) work (moment v t f false peer no_timeout y i x))
 
-    by : (timer_poll v.timer ≡ poll.Ingress) ⊎ (timer_poll v.timer ≡ poll.Ingress → ⊥) → (a : Bool) → ack_due v ≡ a → (b : Bool) → is_due_now v t f stamps ≡ b → Sleeps v ⊎ ComesBy (poll_moment v f stamps) (after last most)
+    by : (timer_poll v.timer ≡ poll.Ingress) ⊎ (timer_poll v.timer ≡ poll.Ingress → ⊥) → (a : Bool) → ack_due v ≡ a → (b : Bool) → is_due_now v t f ≡ b → Sleeps v ⊎ ComesBy (poll_moment v f) (after last most)
     by (inr h) a x b y = awake (λ e. absurd (h e))
     by (inl i) true x b y = awake (λ e. x)
     by (inl i) false x b y = quiet i x b y

@@ -1,6 +1,6 @@
 -- Two sockets of one connection that agree on their numbers, whatever waits in their queues, is held out of order, is
 -- in flight or was lost; and how the bytes and the FIN of the one come over.
-use Rattle.std.specs.Prelude.{ℕ, ◌≡◌, ◌⊎◌, ◌+◌, ◌<◌, ◌≤◌, ◌≤ℤ◌, List, ◌++◌, length, drop, slice_get, Option, Some, None, Err, true, false}
+use Rattle.std.specs.Prelude.{ℕ, ◌≡◌, ◌⊎◌, ◌+◌, ◌<◌, ◌≤◌, ◌≤ℤ◌, List, ◌++◌, length, drop, slice_get, Option, Some, None, Err, true}
 use Rattle.net_base.specs.declared.time.Duration.{Duration}
 use Rattle.net_base.specs.declared.time.Instant.{Instant}
 use Rattle.control_wire.specs.Segment.{Segment}
@@ -90,7 +90,7 @@ pub record Agreement (d : Duration) (t : Tuple) (v w : View) (taken heard : ℕ)
 -- something is in flight, and nothing goes on any more (`stall_empty_probe`)
 pub data Exchange (f : Facts) (now : Instant) (v w : View) (got : List ℕ) (v' w' : View) (got' : List ℕ) : Type 0 where
   IsMove : Move f now v w got v' w' got' → Exchange f now v w got v' w' got'
-  AnswerIsLost : (out : Sending) (answer : Segment) → DispatchesOk (told f now) false v (Some out) v'
+  AnswerIsLost : (out : Sending) (answer : Segment) → DispatchesOk (told f now) v (Some out) v'
       → processed w now 0 out.ip out.segment ≡ record { view = w'; reply = Some answer } → got' ≡ got
       → Exchange f now v w got v' w' got'
 

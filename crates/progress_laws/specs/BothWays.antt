@@ -1,5 +1,5 @@
 -- Two sockets in ESTABLISHED that both have bytes to send, and what they can do in turn.
-use Rattle.std.specs.Prelude.{ℕ, ◌≡◌, ◌+◌, ◌*◌, ◌^◌, ◌<◌, ◌≤◌, ◌≤ℤ◌, List, [], ◌++◌, length, drop, replicate, Option, Some, None, Result, Err, true, false}
+use Rattle.std.specs.Prelude.{ℕ, ◌≡◌, ◌+◌, ◌*◌, ◌^◌, ◌<◌, ◌≤◌, ◌≤ℤ◌, List, [], ◌++◌, length, drop, replicate, Option, Some, None, Result, Err, true}
 use Rattle.net_base.specs.declared.time.Duration.{Duration}
 use Rattle.net_base.specs.declared.time.Instant.{Instant}
 use Rattle.control_wire.specs.Seq.{seq_add, seq_sub}
@@ -107,7 +107,7 @@ BothWaysComplete = FromBothInStep (λ d e t s f at v w got back i. BothComplete 
 -- v closes; its FIN goes out, which leaves v', and reaches w, which becomes w'; reads there answer `Finished`
 pub record ClosesTo (f : Facts) (now : Instant) (v w v' w' : View) : Type 0 where
   pub out : Sending
-  pub dispatch : DispatchesOk (told f now) false (closed v) (Some out) v'
+  pub dispatch : DispatchesOk (told f now) (closed v) (Some out) v'
   pub reaches : processed w now 0 out.ip out.segment ≡ record { view = w'; reply = None }
   pub finished : recv_check w' ≡ Err recv_error.Finished
 

@@ -24,11 +24,11 @@ use Rattle.progress_laws.specs.Speech.{DispatchesOk, GoesOn, Speech}
 
 -- The sender v, with the peer t, is what some list of calls makes of a new socket, in ESTABLISHED, CLOSE-WAIT,
 -- FIN-WAIT-1, CLOSING or LAST-ACK. A dispatch of it says out, as `Speech` has it, and leaves u
-pub record HasSaid (t : Tuple) (f : Facts) (stamps : Bool) (v : View) (out : Sending) (u : View) : Type 0 where
+pub record HasSaid (t : Tuple) (f : Facts) (v : View) (out : Sending) (u : View) : Type 0 where
   pub reached : IsReached v
   pub carries : carries_data v.state ≡ true
   pub on : GoesOn v t f
-  pub dispatch : DispatchesOk f stamps v (Some out) u
+  pub dispatch : DispatchesOk f v (Some out) u
   pub speech : Speech v out
 
 -- The other side w is what some list of calls makes of a new socket, in ESTABLISHED, FIN-WAIT-1 or FIN-WAIT-2, with
@@ -92,9 +92,9 @@ pub data Moved (v u w : View) (out : Sending) (n : ℕ) (now : Instant) (word : 
 -- The answer's number, which is SND.NXT of w, lies in the receive window of v. In LAST-ACK either w took something that
 -- v has not heard of, or out is no keep-alive and w's window has a place
 abbrev pub DeliveryMoves : Type 0
-DeliveryMoves = (t : Tuple) (f : Facts) (stamps : Bool) (v u w : View) (out : Sending) (n : ℕ) (now : Instant)
+DeliveryMoves = (t : Tuple) (f : Facts) (v u w : View) (out : Sending) (n : ℕ) (now : Instant)
     (word : ℕ)
-    → HasSaid t f stamps v out u
+    → HasSaid t f v out u
     → HearsOf v w n
     → (out.kind ≡ kind.Probe → ProbesNext v n)
     → is_inside (receive_window u) w.remote_last_seq 0 ≡ true
@@ -125,8 +125,8 @@ pub record EndsFin (u w : View) (out : Sending) (now : Instant) (word : ℕ) : T
 
 -- Of a FIN alone only where no challenge ACK was sent within the second before
 abbrev pub CountedFinIsHeard : Type 0
-CountedFinIsHeard = (t : Tuple) (f : Facts) (stamps : Bool) (v u w : View) (out : Sending) (now : Instant) (word : ℕ)
-    → HasSaid t f stamps v out u
+CountedFinIsHeard = (t : Tuple) (f : Facts) (v u w : View) (out : Sending) (now : Instant) (word : ℕ)
+    → HasSaid t f v out u
     → is_closing v.state ≡ true
     → HasCounted v w
     → (out.kind ≡ kind.Probe → flight v < length v.tx_buffer.bytes)

@@ -11,6 +11,7 @@ use Rattle.sock_core.specs.Received.{room_of}
 use Rattle.sock_tcp.specs.Content.{Sending}
 use Rattle.sock_tcp.specs.Opening.{connected, endpoints, is_open, listened}
 use Rattle.control_wire.specs.Segment.{Segment}
+use Rattle.control_wire.specs.declared.tcp.TcpTimestampRepr.{TcpTimestampRepr}
 use Rattle.sock_tcp.specs.Process.{processed}
 use Rattle.sock_tcp.specs.Queue.{capacity}
 use Rattle.sock_tcp.specs.Queues.{Sends}
@@ -24,6 +25,7 @@ use Rattle.progress_laws.specs.BothWays.{BothInStep, ClosesTo, Turns}
 use Rattle.progress_laws.specs.InStep.{told}
 use Rattle.progress_laws.specs.Opening.{Acknowledges, AnswersSyn, Completes, TakesSyn}
 use Rattle.progress_laws.specs.Speech.{DispatchesOk}
+use Rattle.progress_laws.specs.Stamped.{IsAnswerStamp, stamped}
 
 -- ---- in step from the start
 
@@ -121,7 +123,7 @@ pub data Losses (f : Facts) : Instant → View → Instant → View → Type 0 w
   NoLoss : (at : Instant) (v : View) → Losses f at v at v
   OneLoss : (at now end : Instant) (v u w : View) (out : Option Sending)
       → at.micros ≤ℤ now.micros
-      → DispatchesOk (told f now) false v out u
+      → DispatchesOk (told f now) v out u
       → Losses f now u end w
       → Losses f at v end w
 
@@ -176,7 +178,7 @@ pub record OpensCrossed (t : Tuple) (f : Facts) (last since : Instant) (word : �
   pub later_across : since.micros ≤ℤ first.micros
   pub syn : Sending
   pub across : View
-  pub sends_syn : DispatchesOk (told f first) false w (Some syn) across
+  pub sends_syn : DispatchesOk (told f first) w (Some syn) across
   pub opens : OpensAgain t f first word a b v across
 
 -- whatever SYNs of both were lost before
@@ -200,12 +202,15 @@ pub record AnswersLate (f : Facts) (last : Instant) (v w : View) : Type 0 where
   pub later : last.micros ≤ℤ now.micros
   pub syn_ack : Sending
   pub answered : View
-  pub sends_again : DispatchesOk (told f now) false w (Some syn_ack) answered
+  pub sends_again : DispatchesOk (told f now) w (Some syn_ack) answered
   pub here : View
   pub ack : Segment
   pub answers : processed v now 0 syn_ack.ip syn_ack.segment ≡ record { view = here; reply = Some ack }
+  pub stamp : Option TcpTimestampRepr
+  pub is_stamp : IsAnswerStamp here syn_ack.segment ack stamp
   pub across : View
-  pub ack_comes : processed answered now 0 (reply_ip syn_ack.ip ack) ack ≡ record { view = across; reply = None }
+  pub ack_comes : processed answered now 0 (reply_ip syn_ack.ip (stamped ack stamp)) (stamped ack stamp)
+      ≡ record { view = across; reply = None }
   pub state_here : here.state ≡ state.Established
   pub state_across : across.state ≡ state.Established
   pub over_then : next_ack across ≡ here.local_seq_no

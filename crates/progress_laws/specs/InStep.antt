@@ -6,6 +6,7 @@ use Rattle.net_base.specs.declared.time.Instant.{Instant}
 use Rattle.control_wire.specs.Segment.{Segment}
 use Rattle.control_wire.specs.Seq.{seq_add, seq_sub}
 use Rattle.control_wire.specs.declared.seq_number.TcpSeqNumber.{TcpSeqNumber}
+use Rattle.control_wire.specs.declared.tcp.TcpTimestampRepr.{TcpTimestampRepr}
 use Rattle.sock_core.specs.Bounds.{IsMtu}
 use Rattle.sock_core.specs.Facts.{Facts}
 use Rattle.sock_tcp.specs.Closing.{closed}
@@ -23,6 +24,7 @@ use Rattle.sock_tcp.specs.declared.timer.Timer.TheVariants as timer
 use Rattle.sock_tcp.specs.declared.tuple.Tuple.{Tuple}
 use Rattle.tcp_laws.specs.Polling.{IsReached}
 use Rattle.progress_laws.specs.Speech.{DispatchesOk}
+use Rattle.progress_laws.specs.Stamped.{IsAnswerStamp, stamped}
 
 -- ---- in step
 
@@ -110,37 +112,40 @@ pub record InStep (d : Option Duration) (t s : Tuple) (v w : View) : Type 0 wher
 abbrev pub told : Facts → Instant → Facts
 told f now = record f { now = now.micros }
 
--- One of them calls, with emits that answer Ok and without timestamps, and what it emits reaches the other one at once.
+-- One of them calls, with emits that answer Ok, and what it emits reaches the other one at once; with timestamps where
+-- its segments carry them.
 -- got: what was read of w
 pub data Move (f : Facts) (now : Instant) (v w : View) (got : List ℕ) (v' w' : View) (got' : List ℕ) : Type 0 where
   -- v dispatches, and w has no answer
   Carries : (out : Sending)
-      → DispatchesOk (told f now) false v (Some out) v'
+      → DispatchesOk (told f now) v (Some out) v'
       → processed w now 0 out.ip out.segment ≡ record { view = w'; reply = None }
       → got' ≡ got
       → Move f now v w got v' w' got'
   -- v dispatches, and the answer of w reaches v
-  IsAnswered : (out : Sending) (u : View) (answer : Segment)
-      → DispatchesOk (told f now) false v (Some out) u
+  IsAnswered : (out : Sending) (u : View) (answer : Segment) (stamp : Option TcpTimestampRepr)
+      → DispatchesOk (told f now) v (Some out) u
       → processed w now 0 out.ip out.segment ≡ record { view = w'; reply = Some answer }
-      → processed u now 0 (reply_ip out.ip answer) answer ≡ record { view = v'; reply = None }
+      → IsAnswerStamp w' out.segment answer stamp
+      → processed u now 0 (reply_ip out.ip (stamped answer stamp)) (stamped answer stamp)
+      ≡ record { view = v'; reply = None }
       → got' ≡ got
       → Move f now v w got v' w' got'
   -- w dispatches, and v has no answer
   CarriesBack : (out : Sending)
-      → DispatchesOk (told f now) false w (Some out) w'
+      → DispatchesOk (told f now) w (Some out) w'
       → processed v now 0 out.ip out.segment ≡ record { view = v'; reply = None }
       → got' ≡ got
       → Move f now v w got v' w' got'
   -- v dispatches, and what it emits, if anything, is lost
   GoesAstray : (out : Option Sending)
-      → DispatchesOk (told f now) false v out v'
+      → DispatchesOk (told f now) v out v'
       → w' ≡ w
       → got' ≡ got
       → Move f now v w got v' w' got'
   -- w dispatches, and what it emits is lost
   IsLost : (out : Sending)
-      → DispatchesOk (told f now) false w (Some out) w'
+      → DispatchesOk (told f now) w (Some out) w'
       → v' ≡ v
       → got' ≡ got
       → Move f now v w got v' w' got'
@@ -198,7 +203,7 @@ pub record Finishes (d : Option Duration) (t s : Tuple) (f : Facts) (at : Instan
   pub out : Sending
   pub sender : View
   pub receiver : View
-  pub dispatch : DispatchesOk (told f now) false (closed bytes.sender) (Some out) sender
+  pub dispatch : DispatchesOk (told f now) (closed bytes.sender) (Some out) sender
   pub reaches : processed bytes.receiver now 0 out.ip out.segment ≡ record { view = receiver; reply = None }
   pub finished : recv_check receiver ≡ Err recv_error.Finished
 

@@ -1,5 +1,6 @@
 pub mod Wakes
 pub mod Speech
+pub mod Stamped
 pub mod Delivery
 pub mod InStep
 pub mod BothWays

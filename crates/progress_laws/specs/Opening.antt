@@ -23,7 +23,7 @@ use Rattle.progress_laws.specs.Speech.{DispatchesOk}
 pub record TakesSyn (f : Facts) (now : Instant) (word : ℕ) (v w : View) : Type 0 where
   pub syn : Sending
   pub sent : View
-  pub sends_syn : DispatchesOk (told f now) false v (Some syn) sent
+  pub sends_syn : DispatchesOk (told f now) v (Some syn) sent
   pub received : View
   pub syn_comes : processed w now word syn.ip syn.segment ≡ record { view = received; reply = None }
 
@@ -32,7 +32,7 @@ pub record TakesSyn (f : Facts) (now : Instant) (word : ℕ) (v w : View) : Type
 pub record AnswersSyn (f : Facts) (now : Instant) (v w : View) : Type 0 where
   pub answer : Sending
   pub answered : View
-  pub sends_answer : DispatchesOk (told f now) false w (Some answer) answered
+  pub sends_answer : DispatchesOk (told f now) w (Some answer) answered
   pub established : View
   pub answer_comes : processed v now 0 answer.ip answer.segment ≡ record { view = established; reply = None }
   pub state_here : established.state ≡ state.Established
@@ -44,7 +44,7 @@ pub record AnswersSyn (f : Facts) (now : Instant) (v w : View) : Type 0 where
 pub record Acknowledges (f : Facts) (now : Instant) (v w : View) : Type 0 where
   pub ack : Sending
   pub here : View
-  pub sends_ack : DispatchesOk (told f now) false v (Some ack) here
+  pub sends_ack : DispatchesOk (told f now) v (Some ack) here
   pub across : View
   pub ack_comes : processed w now 0 ack.ip ack.segment ≡ record { view = across; reply = None }
   pub state_here : here.state ≡ state.Established

@@ -1,10 +1,10 @@
 -- What a socket says of what is not acknowledged, once its timer is over.
-use Rattle.std.specs.Prelude.{ℕ, zero, suc, ◌≡◌, ◌<◌, ◌⊎◌, List, [], ◌∷◌, length, Option, Some, None, is_some, Bool, true, false}
+use Rattle.std.specs.Prelude.{ℕ, zero, suc, ◌≡◌, ◌<◌, ◌⊎◌, List, [], ◌∷◌, length, Option, Some, None, is_some, true, false}
 use Rattle.net_base.specs.declared.time.Duration.{Duration}
 use Rattle.control_wire.specs.Segment.{segment_len}
 use Rattle.control_wire.specs.Seq.{seq_minus}
 use Rattle.sock_core.specs.Facts.{Facts, IsLawful}
-use Rattle.sock_tcp.specs.Begin.{before_emit, readied}
+use Rattle.sock_tcp.specs.Begin.{before_emit, readied, peer_of}
 use Rattle.sock_tcp.specs.Content.{Sending, asked, carries_data, content, offset_of}
 use Rattle.sock_tcp.specs.Due.{flight}
 use Rattle.sock_tcp.specs.Polls.{is_reached, timeout_poll, timer_poll}
@@ -20,20 +20,20 @@ use Rattle.tcp_laws.specs.Waking.{HasToSend}
 -- ---- a dispatch whose emit answers Ok
 
 -- the socket u sends this, or nothing, and becomes w
-pub record SendsOk (f : Facts) (t : Tuple) (stamps : Bool) (u : View) (out : Option Sending) (w : View) : Type 0 where
+pub record SendsOk (f : Facts) (t : Tuple) (u : View) (out : Option Sending) (w : View) : Type 0 where
   pub stamp : Option ℕ
-  pub told : is_some stamp ≡ stamps
+  pub told : is_some stamp ≡ u.stamps
   pub bytes : List ℕ
-  pub lent : IsLent u.tx_buffer (offset_of u) (asked u t f (is_some stamp)) bytes
+  pub lent : IsLent u.tx_buffer (offset_of u) (asked u t f) bytes
   pub sends : out ≡ content u t f stamp bytes
   pub view : w ≡ left_by out u (moment_of f) true
 
-abbrev pub SendsOkTo : Option Tuple → Facts → Bool → View → Option Sending → View → Type 0
-SendsOkTo None f stamps u out w = (out ≡ None) × (w ≡ u)
-SendsOkTo (Some t) f stamps u out w = SendsOk f t stamps u out w
+abbrev pub SendsOkTo : Option Tuple → Facts → View → Option Sending → View → Type 0
+SendsOkTo None f u out w = (out ≡ None) × (w ≡ u)
+SendsOkTo (Some t) f u out w = SendsOk f t u out w
 
-abbrev pub DispatchesOk : Facts → Bool → View → Option Sending → View → Type 0
-DispatchesOk f stamps v out w = SendsOkTo (before_emit v f stamps).peer f stamps (before_emit v f stamps).view out w
+abbrev pub DispatchesOk : Facts → View → Option Sending → View → Type 0
+DispatchesOk f v out w = SendsOkTo (peer_of (before_emit v f)) f (before_emit v f).view out w
 
 -- ---- past its timer
 
@@ -76,10 +76,10 @@ Says v (Some s) = Speech v s
 abbrev pub SpeaksWithin : ℕ → View → Tuple → Type 0
 SpeaksWithin zero v t = ⊥
 SpeaksWithin (suc n) v t =
-    (f : Facts) (stamps : Bool) (out : Option Sending) (w : View)
+    (f : Facts) (out : Option Sending) (w : View)
     → IsLawful f
     → IsPastTimer v t f
-    → DispatchesOk f stamps v out w
+    → DispatchesOk f v out w
     → Says v out ⊎ SpeaksWithin n w t
 
 -- ---- the law

@@ -1,5 +1,5 @@
 -- When a socket with work to do is to be called again.
-use Rattle.std.specs.Prelude.{◌≡◌, ◌⊎◌, Some, None, Bool, true}
+use Rattle.std.specs.Prelude.{◌≡◌, ◌⊎◌, Some, None, true}
 use Rattle.net_base.specs.declared.time.Duration.{Duration}
 use Rattle.net_base.specs.declared.time.Instant.{Instant}
 use Rattle.sock_core.specs.Facts.{Facts}
@@ -14,9 +14,9 @@ use Rattle.tcp_laws.specs.Polling.{ComesBy, Sleeps}
 -- With a peer, with work to do and without a user timeout, it sleeps as `Sleeps` says, or is to be called at the latest
 -- so long after the latest moment told
 abbrev pub WorkWakesOrSleeps : Type 0
-WorkWakesOrSleeps = (v : View) (last : Instant) (most : Duration) (t : Tuple) (f : Facts) (stamps : Bool)
+WorkWakesOrSleeps = (v : View) (last : Instant) (most : Duration) (t : Tuple) (f : Facts)
     → IsReachedBy v last most
     → v.tuple ≡ Some t
     → v.timeout ≡ None
     → has_work v ≡ true
-    → Sleeps v ⊎ ComesBy (poll_moment v f stamps) (after last most)
+    → Sleeps v ⊎ ComesBy (poll_moment v f) (after last most)

@@ -1,6 +1,6 @@
 -- From the one call of `emit` to what a dispatch writes.
 use Rattle.std.proofs.Common.{◌≡◌, ℕ, pos, ◌≤◌, [], length, min, Bool, true, false, Option, Some, None, refl, sym, ◌∙◌, ap, subst, arith}
-use Rattle.std.specs.Prelude.{Result, Ok, Err, is_ok, is_some, nat_le, if◌then◌else◌, option_map}
+use Rattle.std.specs.Prelude.{Result, Ok, Err, is_ok, nat_le, if◌then◌else◌, option_map}
 use Rattle.std.specs.Borrow.{MutBor}
 use Rattle.std.specs.Fn.{Once}
 use Rattle.ip_wire.specs.declared.repr.IpRepr.{IpRepr}
@@ -10,7 +10,7 @@ use Rattle.control_wire.specs.Segment.{Segment, segment_of}
 use Rattle.control_wire.specs.declared.tcp.TcpRepr.{TcpRepr}
 use Rattle.sock_core.specs.Emission.{Emits, EmitsAt}
 use Rattle.sock_core.specs.Facts.{Facts}
-use Rattle.sock_tcp.specs.Begin.{before_emit}
+use Rattle.sock_tcp.specs.Begin.{before_emit, peer_of}
 use Rattle.sock_tcp.specs.Content.{Sending, content}
 use Rattle.sock_tcp.specs.Dispatch.{packet_in, IsStamp, EmitsDue, EmitsTo, Dispatches}
 use Rattle.sock_tcp.specs.Outgoing.{packet_of}
@@ -72,7 +72,7 @@ module _ {F : Type 0} (g : Once F (MutBor Wire × ((IpRepr × TcpRepr) × Unit {
       }
 
   pub record Dispatched (cx : Facts) (clock : Option Clock) (c c' : Wire) (v new : View) (r : Result (Unit {0}) Full) : Type 0 where
-    pub table : SendsIf (before_emit v cx (is_some clock)).peer cx (stamp_told clock) (before_emit v cx (is_some clock)).view c.out.now (sent_answer r c'.len) new c'.out.now
+    pub table : SendsIf (peer_of (before_emit v cx)) cx (stamp_told clock) (before_emit v cx).view c.out.now (sent_answer r c'.len) new c'.out.now
     pub same_buffer : c'.out.ghost_name ≡ c.out.ghost_name
 
   due : (facts : Facts) (t : Tuple) (stamp : Option ℕ) (c c' : Wire) (v new : View) (r : Result (Unit {0}) Full) → c.len ≡ 0 → EmitsDue g f facts t stamp v c r new c' → SendsInto facts stamp t v c.out.now (sent_answer r c'.len) new c'.out.now × (c'.out.ghost_name ≡ c.out.ghost_name)
@@ -96,7 +96,7 @@ module _ {F : Type 0} (g : Once F (MutBor Wire × ((IpRepr × TcpRepr) × Unit {
   dispatched facts clock c c' v new r zero h = to h
     where
       w : View
-      w = (before_emit v facts (is_some clock)).view
+      w = (before_emit v facts).view
 
       both : (o : Option Tuple) → EmitsTo g f facts (λ (k : Clock) (t : ℕ). t ≡ k.tsval) clock o w c r new c' → SendsIf o facts (stamp_told clock) w c.out.now (sent_answer r c'.len) new c'.out.now × (c'.out.ghost_name ≡ c.out.ghost_name)
       both None x =
@@ -105,5 +105,5 @@ module _ {F : Type 0} (g : Once F (MutBor Wire × ((IpRepr × TcpRepr) × Unit {
       both (Some t) x =
           due facts t (stamp_told clock) c c' w new r zero (subst (λ y. EmitsDue g f facts t y w c r new c') (told clock x.stamp x.told) x.emits)
 
-      to : EmitsTo g f facts (λ (k : Clock) (t : ℕ). t ≡ k.tsval) clock (before_emit v facts (is_some clock)).peer w c r new c' → Dispatched facts clock c c' v new r
-      to x = let k = both (before_emit v facts (is_some clock)).peer x in record { table = k.0; same_buffer = k.1 }
+      to : EmitsTo g f facts (λ (k : Clock) (t : ℕ). t ≡ k.tsval) clock (peer_of (before_emit v facts)) w c r new c' → Dispatched facts clock c c' v new r
+      to x = let k = both (peer_of (before_emit v facts)) x in record { table = k.0; same_buffer = k.1 }

@@ -14,3 +14,4 @@ mod Replies
 mod Sending
 mod Told
 mod UdpSending
+mod Clocks

@@ -1,5 +1,5 @@
 -- What a socket is asked by a number: the numbers are the same for all kinds of sockets.
-use Rattle.std.specs.Prelude.{ℕ, ℤ, pos, ◌==◌, ◌^◌, min, length, if◌then◌else◌, Option, is_some}
+use Rattle.std.specs.Prelude.{ℕ, ℤ, pos, ◌==◌, ◌^◌, min, length, if◌then◌else◌}
 use Rattle.net_base.specs.Packets.{Packets, taken}
 use Rattle.sock_core.specs.Received.{room_of}
 use Rattle.sock_dgram.specs.Datagrams.{has_entry, has_place}
@@ -15,7 +15,6 @@ use Rattle.sock_tcp.specs.Work.{has_work}
 use Rattle.smoltcp_c.specs.Answers.{error_range, flag_answer}
 use Rattle.smoltcp_c.specs.Raw.{protocol_told, version_told}
 use Rattle.smoltcp_c.specs.Tcp.{byte_told, kind_told, micros_told}
-use Rattle.smoltcp_c.specs.declared.clock.Clock.{Clock}
 
 -- how full the two queues of a datagram socket are, and how much they hold: 2^30 at most; or what else it is asked
 abbrev pub queues_told : {M : Type 0} → ℕ → Packets M → Packets M → ℤ → ℤ
@@ -43,20 +42,20 @@ raw_told n v = queues_told n v.tx_buffer v.rx_buffer
     (if n == 10 then version_told v.ip_version else if n == 11 then protocol_told v.ip_protocol else error_range)
 
 -- the settings of a TCP socket
-unfoldable pub setting_told : ℕ → View → Option Clock → ℤ
-setting_told n v clock =
+unfoldable pub setting_told : ℕ → View → ℤ
+setting_told n v =
     if n == 5 then byte_told v.hop_limit
     else if n == 18 then micros_told v.timeout
     else if n == 19 then micros_told v.keep_alive
     else if n == 20 then micros_told v.ack_delay
     else if n == 21 then flag_answer v.nagle
     else if n == 22 then kind_told (kind_of v.congestion_controller)
-    else if n == 23 then flag_answer (is_some clock)
+    else if n == 23 then flag_answer v.stamps
     else error_range
 
 -- a TCP socket
-unfoldable pub tcp_told : ℕ → View → Option Clock → ℤ
-tcp_told n v clock =
+unfoldable pub tcp_told : ℕ → View → ℤ
+tcp_told n v =
     if n == 2 then pos (length v.tx_buffer.bytes)
     else if n == 3 then pos (length v.rx_buffer.bytes)
     else if n == 4 then flag_answer (is_open v.state)
@@ -66,4 +65,4 @@ tcp_told n v clock =
     else if n == 15 then flag_answer (may_recv v)
     else if n == 16 then pos (capacity v.tx_buffer)
     else if n == 17 then pos (room_of v.rx_buffer)
-    else setting_told n v clock
+    else setting_told n v

@@ -1,5 +1,5 @@
 -- The calls that ask for a context, and those that take and give packets.
-use Rattle.std.specs.Prelude.{ℕ, ℤ, pos, ◌≡◌, nat_le, Bool, true, List, length, Option, Some, None, is_some, option_map}
+use Rattle.std.specs.Prelude.{ℕ, ℤ, pos, ◌≡◌, nat_le, Bool, true, List, length, Option, Some, None, option_map}
 use Rattle.std.specs.Prelude.{Result, if◌then◌else◌}
 use Rattle.ip_wire.specs.declared.repr.IpRepr.{IpRepr}
 use Rattle.control_wire.specs.Segment.{Segment}
@@ -9,11 +9,11 @@ use Rattle.control_wire.specs.declared.tcp.TcpTimestampRepr.{TcpTimestampRepr}
 use Rattle.sock_core.specs.Facts.{Facts}
 use Rattle.sock_core.specs.declared.context.PollAt.{PollAt}
 use Rattle.sock_core.specs.declared.context.PollAt.TheVariants as poll
-use Rattle.sock_tcp.specs.Begin.{before_emit}
+use Rattle.sock_tcp.specs.Begin.{before_emit, peer_of}
 use Rattle.sock_tcp.specs.Content.{asked, offset_of, content}
 use Rattle.sock_tcp.specs.Dispatch.{packet_in}
 use Rattle.sock_tcp.specs.Opening.{endpoints}
-use Rattle.sock_tcp.specs.Process.{Accepts, Outcome, processed, generator_after}
+use Rattle.sock_tcp.specs.Process.{Accepts, Outcome, processed, source_kept}
 use Rattle.sock_tcp.specs.Queue.{IsLent}
 use Rattle.sock_tcp.specs.Replies.{rst_segment, with_header}
 use Rattle.sock_tcp.specs.Sent.{left_by}
@@ -83,7 +83,8 @@ outcome_in cx v ip s = processed v (moment_of (facts_in cx)) cx.word ip s
 
 -- the packet that answers it
 abbrev pub reply_in : Cx → Option Clock → View → IpRepr → Segment → Option (IpRepr × Segment)
-reply_in cx clock v ip s = replied (generator_after v s clock) s.timestamp ip (outcome_in cx v ip s).reply
+reply_in cx clock v ip s = replied (source_kept (outcome_in cx v ip s).view.stamps clock) s.timestamp ip
+    (outcome_in cx v ip s).reply
 
 -- a segment that is not for the socket changes nothing; else the socket, its clock and the reply are those of
 -- `processed` at the context's clock, and the reply's packet stands at the beginning of the buffer
@@ -92,7 +93,7 @@ pub record Hears (cx : Cx) (clock : Option Clock) (v : View) (ip : IpRepr) (s : 
   pub foreign : (Accepts v ip s → ⊥)
       → (result ≡ not_accepted) × (w ≡ v) × (clock' ≡ clock) × (out' ≡ out)
   pub socket : Accepts v ip s → w ≡ (outcome_in cx v ip s).view
-  pub clocked : Accepts v ip s → clock' ≡ generator_after v s (clock_at clock cx.tsval)
+  pub clocked : Accepts v ip s → clock' ≡ source_kept w.stamps (clock_at clock cx.tsval)
   pub answer : Accepts v ip s → result ≡ pos (size_of (reply_in cx (clock_at clock cx.tsval) v ip s))
   pub bytes : Accepts v ip s → out' ≡ written_over (reply_in cx (clock_at clock cx.tsval) v ip s) out
 
@@ -114,7 +115,7 @@ stamp_told clock = option_map (λ c. c.tsval) clock
 pub record SendsInto (f : Facts) (stamp : Option ℕ) (t : Tuple) (v : View) (out : List ℕ) (result : ℤ) (w : View)
     (out' : List ℕ) : Type 0 where
   pub bytes : List ℕ
-  pub lent : IsLent v.tx_buffer (offset_of v) (asked v t f (is_some stamp)) bytes
+  pub lent : IsLent v.tx_buffer (offset_of v) (asked v t f) bytes
   pub answer : result ≡ (if has_room (option_map packet_in (content v t f stamp bytes)) out
       then pos (size_of (option_map packet_in (content v t f stamp bytes))) else error_room)
   pub written : out' ≡ (if has_room (option_map packet_in (content v t f stamp bytes)) out
@@ -130,5 +131,5 @@ SendsIf (Some t) f stamp v out result w out' = SendsInto f stamp t v out result 
 -- the whole of a dispatch: the beginning, and what is due after it
 unfoldable pub DispatchesInto : Cx → Option Clock → View → List ℕ → ℤ → View → List ℕ → Type 0
 DispatchesInto cx clock v out result w out' =
-    SendsIf (before_emit v (facts_in cx) (is_some clock)).peer (facts_in cx) (stamp_told clock)
-    (before_emit v (facts_in cx) (is_some clock)).view out result w out'
+    SendsIf (peer_of (before_emit v (facts_in cx))) (facts_in cx) (stamp_told clock)
+    (before_emit v (facts_in cx)).view out result w out'

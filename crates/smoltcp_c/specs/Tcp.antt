@@ -13,12 +13,15 @@ view h = h.socket.control_block
 abbrev pub clock : TcpHandle → Option Clock
 clock h = h.socket.tsval_generator
 
--- the same handle, at the same place, with another socket
-abbrev pub with_view : TcpHandle → View → TcpHandle
-with_view h v = record h { socket = record h.socket { control_block = v } }
+-- the same handle, at the same place, whose socket became v, with this clock
+pub record IsBoth (h : TcpHandle) (v : View) (c : Option Clock) (h' : TcpHandle) : Type 0 where
+  pub at : h'.at ≡ h.at
+  pub view : h'.socket.control_block ≡ v
+  pub clock : h'.socket.tsval_generator ≡ c
 
-abbrev pub with_both : TcpHandle → View → Option Clock → TcpHandle
-with_both h v c = record h { socket = record h.socket { control_block = v; tsval_generator = c } }
+-- with the clock that it had
+abbrev pub IsView : TcpHandle → View → TcpHandle → Type 0
+IsView h v h' = IsBoth h v (clock h) h'
 
 -- the call answered the number of what its table answers
 pub record Answers {R : Type 0} (number : R → ℤ) (table : R → Type 0) (result : ℤ) : Type 0 where
@@ -37,7 +40,7 @@ Refuses error h result h' = (result ≡ error) × (h' ≡ h)
 
 -- the call was done, and the socket is then v
 abbrev pub Sets : TcpHandle → View → ℤ → TcpHandle → Type 0
-Sets h v result h' = (result ≡ pos 0) × (h' ≡ with_view h v)
+Sets h v result h' = (result ≡ pos 0) × IsView h v h'
 
 abbrev pub clock_set : Bool → ℕ → Option Clock
 clock_set enabled n = if enabled then Some (record { tsval = n }) else None

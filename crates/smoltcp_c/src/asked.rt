@@ -3,7 +3,7 @@ ghost use Rattle.std.specs.Prelude.{◌≡◌};
 ghost use Rattle.sock_tcp.specs.Queues.{can_recv, can_send, may_send};
 ghost use Rattle.smoltcp_c.specs.Answers.{flag_answer, state_answer};
 ghost use Rattle.smoltcp_c.specs.Asked.{icmp_told, raw_told, setting_told, tcp_told, udp_told};
-ghost use Rattle.smoltcp_c.specs.Tcp.{clock, view};
+ghost use Rattle.smoltcp_c.specs.Tcp.{view};
 
 use crate::answers::{ERROR_RANGE, count_answer, flag_answer, state_answer};
 use crate::clock::Clock;
@@ -76,7 +76,7 @@ pub extern "C" fn smoltcp_raw_ask_checked(h: &mut RawHandle, what: u32) -> i64
 /// `ERROR_RANGE` for another question.
 #[unsafe(no_mangle)]
 pub extern "C" fn smoltcp_tcp_ask_checked(h: &mut TcpHandle, what: u32) -> i64
-    ensures answer { result ≡ tcp_told what (view h.old) (clock h.old) }
+    ensures answer { result ≡ tcp_told what (view h.old) }
     ensures at { h.new.at ≡ h.old.at }
     ensures same { h.new.socket ≡ h.old.socket }
 {
@@ -85,7 +85,7 @@ pub extern "C" fn smoltcp_tcp_ask_checked(h: &mut TcpHandle, what: u32) -> i64
 
 #[tactic(auto, unfolding(crate::specs::Asked::tcp_told))]
 fn told_by_tcp(socket: &Socket<'_, Clock>, what: u32) -> i64
-    ensures { result ≡ tcp_told what socket.now.control_block socket.now.tsval_generator }
+    ensures { result ≡ tcp_told what socket.now.control_block }
 {
     match what {
         2 => socket.send_queue() as i64,
@@ -109,7 +109,7 @@ fn told_by_tcp(socket: &Socket<'_, Clock>, what: u32) -> i64
 
 #[tactic(auto, unfolding(crate::specs::Asked::setting_told))]
 fn setting_told(socket: &Socket<'_, Clock>, what: u32) -> i64
-    ensures { result ≡ setting_told what socket.now.control_block socket.now.tsval_generator }
+    ensures { result ≡ setting_told what socket.now.control_block }
 {
     match what {
         5 => byte_told(socket.hop_limit()),

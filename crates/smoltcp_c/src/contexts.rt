@@ -1,12 +1,12 @@
 //! The calls of a TCP socket that ask for a context, but for those with packets.
-ghost use Rattle.std.specs.Prelude.{◌≡◌, true, false, is_some};
+ghost use Rattle.std.specs.Prelude.{◌≡◌, true, false};
 ghost use Rattle.sock_tcp.specs.Opening.{after_connect, connect_answer as answer_of};
 ghost use Rattle.sock_tcp.specs.Poll.{poll_moment};
 ghost use Rattle.smoltcp_c.specs.Answers.{connect_answer, error_context};
 ghost use Rattle.smoltcp_c.specs.Context.{facts_in, is_context};
 ghost use Rattle.smoltcp_c.specs.Heard.{TellsPoll};
 ghost use Rattle.smoltcp_c.specs.Packets.{ends_in, poll_answer, poll_written};
-ghost use Rattle.smoltcp_c.specs.Tcp.{Refuses, clock, view, with_view};
+ghost use Rattle.smoltcp_c.specs.Tcp.{Refuses, clock, view, IsView};
 
 use crate::answers::{OK, connect_answer};
 use crate::clock::Clock;
@@ -29,8 +29,8 @@ pub extern "C" fn smoltcp_tcp_connect_checked(
     ensures context { is_context cx.entry.now ≡ false → Refuses error_context h.old result h.new }
     ensures answer { is_context cx.entry.now ≡ true
         → result ≡ connect_answer (answer_of (ends_in cx.entry.now remote.now local.now (view h.old))) }
-    ensures socket { is_context cx.entry.now ≡ true → h.new ≡ with_view h.old
-        (after_connect (ends_in cx.entry.now remote.now local.now (view h.old)) (view h.old) cx.entry.now.word) }
+    ensures socket { is_context cx.entry.now ≡ true → IsView h.old
+        (after_connect (ends_in cx.entry.now remote.now local.now (view h.old)) (view h.old) cx.entry.now.word) h.new }
 {
     let moment = in_context!(cx);
     opened(h.socket(), &moment, remote, local)
@@ -58,8 +58,7 @@ fn opened(
 /// wants none before a packet comes; `at` is then as it was, as with the error `ERROR_CONTEXT`.
 #[unsafe(no_mangle)]
 pub extern "C" fn smoltcp_tcp_poll_at_checked(h: &mut TcpHandle, cx: &Cx, at: &mut i64) -> i64
-    ensures told { TellsPoll cx.entry.now
-        (poll_moment (view h.old) (facts_in cx.entry.now) (is_some (clock h.old))) at.old result at.new }
+    ensures told { TellsPoll cx.entry.now (poll_moment (view h.old) (facts_in cx.entry.now)) at.old result at.new }
     ensures at { h.new.at ≡ h.old.at }
     ensures same { h.new.socket ≡ h.old.socket }
 {

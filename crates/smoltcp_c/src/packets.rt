@@ -7,7 +7,7 @@ ghost use Rattle.control_wire.specs.Fits.{FitsPacket};
 ghost use Rattle.control_wire.specs.Segment.{segment_of};
 ghost use Rattle.segment_wire.specs.Packet.{TcpPacket, tcp_packet_parsed, with_segment};
 ghost use Rattle.segment_wire.specs.Tcp.{filled};
-ghost use Rattle.sock_tcp.specs.Process.{Accepts, generator_after, reply_of};
+ghost use Rattle.sock_tcp.specs.Process.{Accepts, reply_of, source_kept};
 ghost use Rattle.smoltcp_c.specs.Answers.{sent_answer, error_context, error_room, not_accepted};
 ghost use Rattle.smoltcp_c.specs.Context.{is_context};
 ghost use Rattle.smoltcp_c.specs.Packets.{size_of, written_over, outcome_in, reply_in, reset_of, Hears, DispatchesInto};
@@ -99,6 +99,7 @@ fn read<'a>(packet: &'a [u8], ip: &mut IpRepr, repr: &mut TcpRepr<'a>) -> bool
 }
 
 // Sets the socket's clock, where it has one.
+#[tactic(auto, using(crate::proofs::Clocks::still_stamped))]
 fn set_clock(socket: &mut Socket<'_, Clock>, tsval: u32)
     ensures view { socket.new.control_block ≡ socket.old.control_block }
     ensures clock { socket.new.tsval_generator ≡ clock_at socket.old.tsval_generator tsval }
@@ -142,7 +143,7 @@ fn processed(
     ensures view { socket.new.control_block
         ≡ (outcome_in moment.now.cx socket.old.control_block ip.now (segment_of repr.now)).view }
     ensures clock { socket.new.tsval_generator
-        ≡ generator_after socket.old.control_block (segment_of repr.now) socket.old.tsval_generator }
+        ≡ source_kept socket.new.control_block.stamps socket.old.tsval_generator }
     ensures reply { option_map reply_of result ≡ reply_in moment.now.cx socket.old.tsval_generator
         socket.old.control_block ip.now (segment_of repr.now) }
     ensures bare { ForSome result (λ r. r.1.payload.now ≡ []) }

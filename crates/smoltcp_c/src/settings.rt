@@ -9,7 +9,7 @@ ghost use Rattle.sock_tcp.specs.declared.settings.CongestionControl.{CongestionC
 ghost use Rattle.smoltcp_c.specs.Answers.{error_range};
 ghost use Rattle.smoltcp_c.specs.Numbers.{byte_or_none, control_by, flag_in, is_short, lasting, micros_in};
 ghost use Rattle.smoltcp_c.specs.Tcp.{Refuses, Sets, byte_told, clock, clock_set, kind_told, micros_told, view};
-ghost use Rattle.smoltcp_c.specs.Tcp.{with_both};
+ghost use Rattle.smoltcp_c.specs.Tcp.{IsBoth};
 
 use crate::answers::{ERROR_RANGE, OK};
 use crate::clock::Clock;
@@ -176,7 +176,8 @@ pub extern "C" fn smoltcp_tcp_set_congestion_control_checked(h: &mut TcpHandle, 
 #[unsafe(no_mangle)]
 pub extern "C" fn smoltcp_tcp_set_timestamps_checked(h: &mut TcpHandle, enabled: u8) -> i64
     ensures answer { result ≡ pos 0 }
-    ensures set { h.new ≡ with_both h.old (view h.old) (clock_set (flag_in enabled) 0) }
+    ensures set { IsBoth h.old (record (view h.old) { stamps = flag_in enabled }) (clock_set (flag_in enabled) 0)
+        h.new }
 {
     h.socket().set_tsval_source(clock_of(flag_in(enabled)));
     OK

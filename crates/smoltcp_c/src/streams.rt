@@ -3,7 +3,7 @@ ghost use Rattle.std.specs.Prelude.{◌≡◌, ◌≤◌, ◌^◌, min, length, 
 ghost use Rattle.smoltcp_c.specs.Answers.{send_answer, recv_answer};
 ghost use Rattle.sock_tcp.specs.Queues.{Sends, Reads, PeeksInto};
 ghost use Rattle.smoltcp_c.specs.Streams.{Commits, Consumes, LendsFree, LendsQueue, TellsPlace, taken_of};
-ghost use Rattle.smoltcp_c.specs.Tcp.{Answers, view, with_view};
+ghost use Rattle.smoltcp_c.specs.Tcp.{Answers, view, IsView};
 
 use crate::answers::{ERROR_RANGE, recv_answer, send_answer};
 use crate::clock::Clock;
@@ -17,7 +17,7 @@ use sock_tcp::{RecvError, Socket};
 #[unsafe(no_mangle)]
 pub extern "C" fn smoltcp_tcp_send_checked(h: &mut TcpHandle, data: &[u8]) -> i64
     ensures table { Answers send_answer (λ r. Sends (view h.old) «data».now r (view h.new)) result }
-    ensures same { h.new ≡ with_view h.old (view h.new) }
+    ensures same { IsView h.old (view h.new) h.new }
 {
     let socket = h.socket();
     socket.send_queue();
@@ -30,7 +30,7 @@ pub extern "C" fn smoltcp_tcp_send_checked(h: &mut TcpHandle, data: &[u8]) -> i6
 #[unsafe(no_mangle)]
 pub extern "C" fn smoltcp_tcp_recv_checked(h: &mut TcpHandle, data: &mut [u8]) -> i64
     ensures table { Answers recv_answer (λ r. Reads (view h.old) «data».old r (view h.new) «data».new) result }
-    ensures same { h.new ≡ with_view h.old (view h.new) }
+    ensures same { IsView h.old (view h.new) h.new }
 {
     let socket = h.socket();
     socket.recv_queue();
@@ -83,7 +83,7 @@ fn tell_place(bytes: Result<&[u8], RecvError>, out: &mut Place) -> i64
 #[unsafe(no_mangle)]
 pub extern "C" fn smoltcp_tcp_consume_checked(h: &mut TcpHandle, count: usize) -> i64
     ensures table { Consumes (view h.old) count result (view h.new) }
-    ensures same { h.new ≡ with_view h.old (view h.new) }
+    ensures same { IsView h.old (view h.new) h.new }
 {
     consumed(h.socket(), count)
 }
@@ -94,7 +94,7 @@ pub extern "C" fn smoltcp_tcp_consume_checked(h: &mut TcpHandle, count: usize) -
 #[unsafe(no_mangle)]
 pub extern "C" fn smoltcp_tcp_reserve_checked(h: &mut TcpHandle, out: &mut Place) -> i64
     ensures table { LendsFree (view h.old) out.old result out.new (view h.new) }
-    ensures same { h.new ≡ with_view h.old (view h.new) }
+    ensures same { IsView h.old (view h.new) h.new }
 {
     reserved(h.socket(), out)
 }
@@ -104,7 +104,7 @@ pub extern "C" fn smoltcp_tcp_reserve_checked(h: &mut TcpHandle, out: &mut Place
 #[unsafe(no_mangle)]
 pub extern "C" fn smoltcp_tcp_commit_checked(h: &mut TcpHandle, count: usize) -> i64
     ensures table { Commits (view h.old) count result (view h.new) }
-    ensures same { h.new ≡ with_view h.old (view h.new) }
+    ensures same { IsView h.old (view h.new) h.new }
 {
     committed(h.socket(), count)
 }

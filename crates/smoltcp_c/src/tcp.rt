@@ -9,7 +9,7 @@ ghost use Rattle.sock_tcp.specs.Closing.{closed, aborted};
 ghost use Rattle.sock_tcp.specs.Opening.{Listens};
 ghost use Rattle.sock_tcp.specs.Queue.{queue_of};
 ghost use Rattle.sock_tcp.specs.View.{fresh};
-ghost use Rattle.smoltcp_c.specs.Tcp.{Answers, clock, view, with_view};
+ghost use Rattle.smoltcp_c.specs.Tcp.{Answers, clock, view, IsView};
 
 use crate::answers::{OK, listen_answer};
 use crate::clock::Clock;
@@ -40,6 +40,7 @@ pub extern "C" fn smoltcp_tcp_init_checked(room: &mut TcpRoom, rx: Bytes, tx: By
 }
 
 // A closed socket.
+#[tactic(auto, unfolding(sock_tcp::specs::View::fresh))]
 fn closed_over(rx: RingBuffer<'static, u8>, tx: RingBuffer<'static, u8>) -> Socket<'static, Clock>
     requires rx { length rx.queue + length rx.spare ≤ 2 ^ 30 }
     requires tx { length tx.queue + length tx.spare ≤ 2 ^ 30 }
@@ -54,7 +55,7 @@ fn closed_over(rx: RingBuffer<'static, u8>, tx: RingBuffer<'static, u8>) -> Sock
 #[unsafe(no_mangle)]
 pub extern "C" fn smoltcp_tcp_listen_checked(h: &mut TcpHandle, endpoint: &Endpoint) -> i64
     ensures table { Answers listen_answer (λ r. Listens (view h.old) (listen_in endpoint.now) r (view h.new)) result }
-    ensures same { h.new ≡ with_view h.old (view h.new) }
+    ensures same { IsView h.old (view h.new) h.new }
 {
     let endpoint = listen_in(endpoint);
     listen_answer(h.socket().listen(endpoint))
@@ -64,7 +65,7 @@ pub extern "C" fn smoltcp_tcp_listen_checked(h: &mut TcpHandle, endpoint: &Endpo
 #[unsafe(no_mangle)]
 pub extern "C" fn smoltcp_tcp_close_checked(h: &mut TcpHandle) -> i64
     ensures answer { result ≡ pos 0 }
-    ensures closed { h.new ≡ with_view h.old (closed (view h.old)) }
+    ensures closed { IsView h.old (closed (view h.old)) h.new }
 {
     h.socket().close();
     OK
@@ -75,7 +76,7 @@ pub extern "C" fn smoltcp_tcp_close_checked(h: &mut TcpHandle) -> i64
 #[unsafe(no_mangle)]
 pub extern "C" fn smoltcp_tcp_abort_checked(h: &mut TcpHandle) -> i64
     ensures answer { result ≡ pos 0 }
-    ensures aborted { h.new ≡ with_view h.old (aborted (view h.old)) }
+    ensures aborted { IsView h.old (aborted (view h.old)) h.new }
 {
     h.socket().abort();
     OK

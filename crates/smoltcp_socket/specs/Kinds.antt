@@ -1,5 +1,5 @@
 -- The socket that the enum of all kinds holds, where it is of the kind asked for, and when it wants its next dispatch.
-use Rattle.std.specs.Prelude.{Option, Some, None, is_some}
+use Rattle.std.specs.Prelude.{Option, Some, None}
 use Rattle.sock_core.specs.Facts.{Facts}
 use Rattle.sock_core.specs.declared.context.PollAt.{PollAt}
 use Rattle.sock_dgram.specs.Datagrams as datagrams
@@ -40,4 +40,4 @@ abbrev pub polls : {G : Type 0} → Socket G → Facts → PollAt
 polls (Raw s) f = datagrams.poll_moment s.tx_buffer
 polls (Icmp s) f = datagrams.poll_moment s.tx_buffer
 polls (Udp s) f = datagrams.poll_moment s.tx_buffer
-polls (Tcp s) f = segments.poll_moment s.control_block f (is_some s.tsval_generator)
+polls (Tcp s) f = segments.poll_moment s.control_block f

@@ -10,7 +10,7 @@ use Rattle.control_wire.specs.Segment.{Segment, segment_of}
 use Rattle.control_wire.specs.declared.tcp.TcpRepr.{TcpRepr}
 use Rattle.sock_core.specs.Emission.{Emits}
 use Rattle.sock_core.specs.Facts.{Facts}
-use Rattle.sock_tcp.specs.Begin.{Begun, before_emit}
+use Rattle.sock_tcp.specs.Begin.{Begun, going_on, ended, peer_of, before_emit}
 use Rattle.sock_tcp.specs.Content.{Sending, asked, offset_of, plain_segment, finished, content}
 use Rattle.sock_tcp.specs.Dispatch.{EmitTcp, packet_in, EmitsDue, EmitsIf, IsStamp, IsQuiet, EmitsTo, Dispatches}
 use Rattle.sock_tcp.specs.Outgoing.{packet_of}
@@ -23,13 +23,14 @@ use Rattle.sock_tcp.specs.declared.tuple.Tuple.{Tuple}
 
 module _ {F C E : Type 0} (g : EmitTcp F C E) (f : F) (facts : Facts) where
   -- the state has no segment
-  pub silent : (t : Tuple) (stamp : Option ℕ) (v : View) (bytes : List ℕ) (stamps : Bool) (plain : Segment) (c : C) → v.tuple ≡ Some t → IsLent v.tx_buffer (offset_of v) (asked v t facts stamps) bytes → stamps ≡ is_some stamp → plain ≡ plain_segment v t stamp → None ≡ finished v t facts bytes plain → ForSome (content v t facts stamp bytes) (λ s. FitsPacket s.ip s.segment) → EmitsIf g f facts stamp v.tuple v c (Ok tt) v c
+  pub silent : (t : Tuple) (stamp : Option ℕ) (v : View) (bytes : List ℕ) (plain : Segment) (c : C) → v.tuple ≡ Some t → IsLent v.tx_buffer (offset_of v) (asked v t facts) bytes → is_some stamp ≡ v.stamps → plain ≡ plain_segment v t stamp → None ≡ finished v t facts bytes plain → ForSome (content v t facts stamp bytes) (λ s. FitsPacket s.ip s.segment) → EmitsIf g f facts stamp v.tuple v c (Ok tt) v c
   unfolding content
-  silent t stamp v bytes stamps plain c peer lent some begins ends fits =
+  silent t stamp v bytes plain c peer lent some begins ends fits =
       let is : None ≡ content v t facts stamp bytes = ends ∙ ap (λ s. finished v t facts bytes s) begins in
       let due : EmitsDue g f facts t stamp v c (Ok tt) v c = record {
+        stamped = some;
         bytes = bytes;
-        lent = subst (λ b. IsLent v.tx_buffer (offset_of v) (asked v t facts b) bytes) some lent;
+        lent = lent;
         emits = subst (λ (x : Option Sending). Emits g packet_of f (option_map packet_in x) c (Ok tt) c) is (refl, refl);
         view = subst (λ x. v ≡ left_by x v (moment_of facts) true) is refl;
         fits = fits;
@@ -37,15 +38,16 @@ module _ {F C E : Type 0} (g : EmitTcp F C E) (f : F) (facts : Facts) where
       subst (λ o. EmitsIf g f facts stamp o v c (Ok tt) v c) (sym peer) due
 
   -- emit was called, and answered r
-  pub emitted : (t : Tuple) (stamp : Option ℕ) (v : View) (bytes : List ℕ) (stamps : Bool) (plain : Segment) (k : Kind) (sent : IpRepr × TcpRepr) (now : Instant) (e : Emitted) (ok : Bool) (shown left : MutBor C) (r : Result (Unit {0}) E) (w : View) → v.tuple ≡ Some t → IsLent v.tx_buffer (offset_of v) (asked v t facts stamps) bytes → stamps ≡ is_some stamp → plain ≡ plain_segment v t stamp → Some (record { ip = sent.0; segment = segment_of sent.1; kind = k }) ≡ finished v t facts bytes plain → now.micros ≡ facts.now → e ≡ emitted_as k (segment_of sent.1) → ok ≡ is_ok r → w ≡ after_emit ok v now e → g.post f (shown, (sent, tt)) (r, (left, tt)) → ForSome (content v t facts stamp bytes) (λ s. FitsPacket s.ip s.segment) → EmitsIf g f facts stamp v.tuple v shown.now r w left.now
+  pub emitted : (t : Tuple) (stamp : Option ℕ) (v : View) (bytes : List ℕ) (plain : Segment) (k : Kind) (sent : IpRepr × TcpRepr) (now : Instant) (e : Emitted) (ok : Bool) (shown left : MutBor C) (r : Result (Unit {0}) E) (w : View) → v.tuple ≡ Some t → IsLent v.tx_buffer (offset_of v) (asked v t facts) bytes → is_some stamp ≡ v.stamps → plain ≡ plain_segment v t stamp → Some (record { ip = sent.0; segment = segment_of sent.1; kind = k }) ≡ finished v t facts bytes plain → now.micros ≡ facts.now → e ≡ emitted_as k (segment_of sent.1) → ok ≡ is_ok r → w ≡ after_emit ok v now e → g.post f (shown, (sent, tt)) (r, (left, tt)) → ForSome (content v t facts stamp bytes) (λ s. FitsPacket s.ip s.segment) → EmitsIf g f facts stamp v.tuple v shown.now r w left.now
   unfolding content
-  emitted t stamp v bytes stamps plain k sent now e ok shown left r w peer lent some begins ends moment kept answer h p fits =
+  emitted t stamp v bytes plain k sent now e ok shown left r w peer lent some begins ends moment kept answer h p fits =
       let is : Some (record { ip = sent.0; segment = segment_of sent.1; kind = k }) ≡ content v t facts stamp bytes = ends ∙ ap (λ s. finished v t facts bytes s) begins in
       let m : now ≡ moment_of facts = ap (λ x. record { micros = x }) moment in
       let a : after_emit ok v now e ≡ after_emit (is_ok r) v (moment_of facts) (emitted_as k (segment_of sent.1)) = (λ i. after_emit (answer i) v (m i) (kept i)) in
       let due : EmitsDue g f facts t stamp v shown.now r w left.now = record {
+        stamped = some;
         bytes = bytes;
-        lent = subst (λ b. IsLent v.tx_buffer (offset_of v) (asked v t facts b) bytes) some lent;
+        lent = lent;
         emits = subst (λ (x : Option Sending). Emits g packet_of f (option_map packet_in x) shown.now r left.now) is (record { shown = shown; shows = refl; sent = sent; says = refl; left = left; met = p; leaves = refl });
         view = subst (λ x. w ≡ left_by x v (moment_of facts) (is_ok r)) is (h ∙ a);
         fits = fits;
@@ -54,17 +56,20 @@ module _ {F C E : Type 0} (g : EmitTcp F C E) (f : F) (facts : Facts) where
 
   module _ {G : Type 0} (tells : G → ℕ → Type 0) (clock : Option G) where
     -- nobody to emit to
-    pub quiet : (u : View) (c : C) (v : View) → record { view = v; peer = None } ≡ before_emit u facts (is_some clock) → Dispatches g f facts tells clock u c (Ok tt) v c
+    pub quiet : (u : View) (c : C) (v : View) → ended v ≡ before_emit u facts → Dispatches g f facts tells clock u c (Ok tt) v c
     unfolding Dispatches
-    quiet u c v e = subst (λ (b : Begun). EmitsTo g f facts tells clock b.peer b.view c (Ok tt) v c) e (record { answer = refl; context = refl; view = refl })
+    quiet u c v e = subst (λ (b : Begun). EmitsTo g f facts tells clock (peer_of b) b.view c (Ok tt) v c) e (record { answer = refl; context = refl; view = refl })
 
-    -- somebody to emit to
-    pub due : (u : View) (c c' : C) (v : View) (o : Option Tuple) (stamp : Option ℕ) (r : Result (Unit {0}) E) (w : View) → record { view = v; peer = o } ≡ before_emit u facts (is_some clock) → IsStamp tells clock stamp → EmitsIf g f facts stamp o v c r w c' → Dispatches g f facts tells clock u c r w c'
+    -- it goes on to the peer, if any
+    pub due : (u : View) (c c' : C) (v : View) (stamp : Option ℕ) (r : Result (Unit {0}) E) (w : View) → going_on v ≡ before_emit u facts → IsStamp tells clock stamp → EmitsIf g f facts stamp v.tuple v c r w c' → Dispatches g f facts tells clock u c r w c'
     unfolding Dispatches
-    due u c c' v None stamp r w e told h = subst (λ (b : Begun). EmitsTo g f facts tells clock b.peer b.view c r w c') e h
-    due u c c' v (Some t) stamp r w e told h = subst (λ (b : Begun). EmitsTo g f facts tells clock b.peer b.view c r w c') e (record { stamp = stamp; told = told; emits = h })
+    due u c c' v stamp r w e told h = subst (λ (b : Begun). EmitsTo g f facts tells clock (peer_of b) b.view c r w c') e (by v.tuple h)
+      where
+        by : (o : Option Tuple) → EmitsIf g f facts stamp o v c r w c' → EmitsTo g f facts tells clock o v c r w c'
+        by None h = h
+        by (Some t) h = record { stamp = stamp; told = told; emits = h }
 
     -- a dispatch with nobody to emit to
-    pub is_quiet : (u : View) (c c' : C) (r : Result (Unit {0}) E) (w : View) → (before_emit u facts (is_some clock)).peer ≡ None → Dispatches g f facts tells clock u c r w c' → IsQuiet (before_emit u facts (is_some clock)).view c r w c'
+    pub is_quiet : (u : View) (c c' : C) (r : Result (Unit {0}) E) (w : View) → peer_of (before_emit u facts) ≡ None → Dispatches g f facts tells clock u c r w c' → IsQuiet (before_emit u facts).view c r w c'
     unfolding Dispatches
-    is_quiet u c c' r w e h = subst (λ o. EmitsTo g f facts tells clock o (before_emit u facts (is_some clock)).view c r w c') e h
+    is_quiet u c c' r w e h = subst (λ o. EmitsTo g f facts tells clock o (before_emit u facts).view c r w c') e h

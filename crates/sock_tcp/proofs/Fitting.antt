@@ -1,5 +1,5 @@
 -- What a dispatch emits fits a packet.
-use Rattle.std.proofs.Common.{◌≡◌, ℕ, ◌+◌, ◌-◌, ◌*◌, ◌/◌, ◌≤◌, List, [], ◌∷◌, Bool, true, false, Option, Some, None, is_some, refl, ap, subst, length, min, arith}
+use Rattle.std.proofs.Common.{◌≡◌, ℕ, ◌+◌, ◌-◌, ◌*◌, ◌/◌, ◌≤◌, List, [], ◌∷◌, Bool, true, false, Option, Some, None, is_some, refl, sym, ap, subst, length, min, arith}
 use Rattle.std.specs.Prelude.{count_by, option_map, if◌then◌else◌, MatchOption}
 use Rattle.std.specs.Option.{ForSome}
 use Rattle.std.proofs.lemmas.Option.{none-some, same_Some}
@@ -32,9 +32,9 @@ or_none : (b : Bool) (n k : ℕ) → n ≤ k → (if b then n else 0) ≤ k
 or_none true n k h = h
 or_none false n k h = omega arith
 
-asked_mss : (v : View) (t : Tuple) (f : Facts) (stamps : Bool) → asked v t f stamps ≤ effective_mss v t f stamps
+asked_mss : (v : View) (t : Tuple) (f : Facts) → asked v t f ≤ effective_mss v t f
 unfolding asked
-asked_mss v t f stamps = or_none (carries_data v.state) (size_of v t f stamps) (effective_mss v t f stamps) (one_of v.pending_fast_retransmit (is_probing v (moment_of f)) (effective_mss v t f stamps) (window_left v) (congestion_left v))
+asked_mss v t f = or_none (carries_data v.state) (size_of v t f) (effective_mss v t f) (one_of v.pending_fast_retransmit (is_probing v (moment_of f)) (effective_mss v t f) (window_left v) (congestion_left v))
 
 -- ---- the header of each state's segment
 
@@ -144,9 +144,9 @@ sent_fits v t f (Some s) small same m h x e =
     let k = emission_kind v (moment_of f) s in
     subst (λ (y : Sending). FitsPacket y.ip y.segment) (same_Some _ x e) (packet_of_room t.local.addr t.remote.addr f.mtu (hop_limit_of v.hop_limit) (of_kind k v s) same m (of_kind_fits v t f small (f.mtu - ip_header_len t.local.addr) (at_least t.local.addr f.mtu m.0) k s h))
 
-pub content_fits : (v : View) (t : Tuple) (f : Facts) (stamp : Option ℕ) (bytes : List ℕ) → v.remote_win_shift ≤ 14 → SameVersion t.local.addr t.remote.addr → IsMtu f.mtu → length bytes ≤ asked v t f (is_some stamp) → ForSome (content v t f stamp bytes) (λ s. FitsPacket s.ip s.segment)
+pub content_fits : (v : View) (t : Tuple) (f : Facts) (stamp : Option ℕ) (bytes : List ℕ) → v.remote_win_shift ≤ 14 → SameVersion t.local.addr t.remote.addr → IsMtu f.mtu → is_some stamp ≡ v.stamps → length bytes ≤ asked v t f → ForSome (content v t f stamp bytes) (λ s. FitsPacket s.ip s.segment)
 unfolding content
-content_fits v t f stamp bytes small same m h =
-    let a : length bytes ≤ effective_mss v t f (is_some stamp) = omega (arith, h, asked_mss v t f (is_some stamp)) in
-    let b = data_room t.local.addr f.mtu v.remote_mss (length bytes) (is_some stamp) m.0 a in
+content_fits v t f stamp bytes small same m stamped h =
+    let a : length bytes ≤ effective_mss v t f = omega (arith, h, asked_mss v t f) in
+    let b = subst (λ x. (if x then 32 else 20) + length bytes ≤ f.mtu - ip_header_len t.local.addr) (sym stamped) (data_room t.local.addr f.mtu v.remote_mss (length bytes) v.stamps m.0 a) in
     sent_fits v t f (filled v.state v t f bytes (plain_segment v t stamp)) small same m (filled_fits v t f small (f.mtu - ip_header_len t.local.addr) (at_least t.local.addr f.mtu m.0) v.state stamp bytes b)

@@ -1,4 +1,6 @@
 pub mod Acking
+pub mod KeptSegments
+pub mod Stamping
 pub mod Windows
 pub mod Fitting
 pub mod FittingReplies

@@ -42,18 +42,18 @@ module _ (v : View) (is : v.remote_last_ack ≡ Some (next_ack v)) where
 
 -- ---- an open connection with nothing in its transmit queue
 
-nothing_to_send : (marked held : Bool) (size : ℕ) → size ≡ 0 → ((marked && false) || false || (not (size == 0) && held) || false) ≡ false
+nothing_to_send : (marked held : Bool) (size : ℕ) → size ≡ 0 → ((marked && false) || (not (size == 0) && held) || (false || false)) ≡ false
 nothing_to_send true held size none = grind (arith, nat_tests, none)
 nothing_to_send false held size none = grind (arith, nat_tests, none)
 
-pub no_reason : (v : View) (last : Instant) → v.state ≡ state.Established → v.remote_last_ts ≡ Some last → (length v.tx_buffer.bytes == 0) ≡ true → window_doubled v ≡ false → (t : Tuple) (f : Facts) (stamps : Bool) → is_due_now v t f stamps ≡ false
+pub no_reason : (v : View) (last : Instant) → v.state ≡ state.Established → v.remote_last_ts ≡ Some last → (length v.tx_buffer.bytes == 0) ≡ true → window_doubled v ≡ false → (t : Tuple) (f : Facts) → is_due_now v t f ≡ false
 unfolding data_due
-no_reason v last open_ known empty told t f stamps = (λ i. is_none (known i) || is_closed (open_ i) || nothing i || told i)
+no_reason v last open_ known empty told t f = (λ i. is_none (known i) || is_closed (open_ i) || nothing i || told i)
   where
-    nothing : data_due v t f stamps ≡ false
+    nothing : data_due v t f ≡ false
     nothing =
-        (λ i. (v.pending_fast_retransmit && not (empty i)) || (is_opening (open_ i) && (flight v == 0)) || (not (sendable v == 0) && not (is_held_back v (effective_mss v t f stamps))) || (is_closing (open_ i) && seq_eq v.remote_last_seq (seq_add v.local_seq_no (length v.tx_buffer.bytes))))
-        ∙ nothing_to_send v.pending_fast_retransmit (not (is_held_back v (effective_mss v t f stamps))) (sendable v) (omega (arith, eqb-true (length v.tx_buffer.bytes) 0 empty))
+        (λ i. (v.pending_fast_retransmit && not (empty i)) || (not (sendable v == 0) && not (is_held_back v (effective_mss v t f))) || ((is_opening (open_ i) && (flight v == 0)) || (is_closing (open_ i) && seq_eq v.remote_last_seq (seq_add v.local_seq_no (length v.tx_buffer.bytes)))))
+        ∙ nothing_to_send v.pending_fast_retransmit (not (is_held_back v (effective_mss v t f))) (sendable v) (omega (arith, eqb-true (length v.tx_buffer.bytes) 0 empty))
 
 pub waits_for_a_segment : (v : View) → ack_due v ≡ false → ack_poll v ≡ poll.Ingress
 waits_for_a_segment v e = ap (λ b. cond b (delay_poll v.ack_delay_timer) poll.Ingress) e

@@ -1,5 +1,6 @@
 -- The state table of `process`.
-use Rattle.std.specs.Prelude.{ℕ, max, min, Option, Some, None, Bool, true, false, ◌==◌, ◌||◌, if◌then◌else◌}
+use Rattle.std.specs.Prelude.{ℕ, max, min, Option, Some, None, is_some, Bool, true, false, ◌==◌, ◌&&◌, ◌||◌}
+use Rattle.std.specs.Prelude.{if◌then◌else◌}
 use Rattle.net_base.specs.declared.time.Instant.{Instant}
 use Rattle.control_wire.specs.Seq.{seq_of, seq_add}
 use Rattle.control_wire.specs.Segment.{Segment}
@@ -9,6 +10,7 @@ use Rattle.control_wire.specs.declared.tcp.TcpControl.TheVariants as control
 use Rattle.sock_core.specs.Congestion.{with_mss}
 use Rattle.sock_core.specs.Seq.{is_before}
 use Rattle.sock_core.specs.declared.congestion.AnyController.{AnyController}
+use Rattle.sock_tcp.specs.Arrival.{Arrival}
 use Rattle.sock_tcp.specs.Timers.{idle_from, close_from}
 use Rattle.sock_tcp.specs.View.{View}
 use Rattle.sock_tcp.specs.declared.acked.Acked.{Acked}
@@ -48,7 +50,7 @@ abbrev pub shift_taken : ℕ → Option ℕ → ℕ
 shift_taken old None = 0
 shift_taken old (Some n) = old
 
--- the options of a SYN, and its number
+-- the options of a SYN, and its number; no timestamp in the SYN, no timestamps from us (RFC 7323, section 3.2)
 unfoldable pub options_taken : View → Segment → View
 options_taken v s =
     record v {
@@ -58,6 +60,7 @@ options_taken v s =
       remote_has_sack = s.sack_permitted;
       remote_win_scale = scale_taken s.window_scale;
       remote_win_shift = shift_taken v.remote_win_shift s.window_scale;
+      stamps = v.stamps && is_some s.timestamp;
     }
 
 -- ---- what the rows do
@@ -122,28 +125,28 @@ waiting now v = record v { state = state.TimeWait; timer = close_from now }
 abbrev pub last_ack_waits : View → ℕ → Advance
 last_ack_waits v n = record { view = v; next = if n == 0 then next.Challenge else next.Continue }
 
-abbrev pub advance_in : State → TcpControl → Bool → View → Instant → Tuple → ℕ → ℕ → Segment → Advance
-advance_in state.SynReceived control.Rst fin v now t word n s = stops (fallen_back v)
-advance_in _ control.Rst fin v now t word n s = stops (dropped v)
-advance_in state.Listen control.Syn fin v now t word n s = continues (syn_received v now t word s)
-advance_in state.SynSent control.Syn fin v now t word n s = continues (syn_answered v s)
-advance_in state.SynReceived control.None fin v now t word n s = continues (moved_to state.Established v)
-advance_in state.SynReceived control.Fin fin v now t word n s = continues (fin_counted state.CloseWait v)
-advance_in state.Established control.None fin v now t word n s = continues v
-advance_in state.Established control.Fin fin v now t word n s = continues (fin_counted state.CloseWait v)
-advance_in state.FinWait1 control.None true v now t word n s = continues (moved_to state.FinWait2 v)
-advance_in state.FinWait1 control.None false v now t word n s = continues v
-advance_in state.FinWait1 control.Fin true v now t word n s = continues (waiting now (fin_counted state.TimeWait v))
-advance_in state.FinWait1 control.Fin false v now t word n s = continues (fin_counted state.Closing v)
-advance_in state.FinWait2 control.None fin v now t word n s = continues v
-advance_in state.FinWait2 control.Fin fin v now t word n s = continues (waiting now (fin_counted state.TimeWait v))
-advance_in state.CloseWait control.None fin v now t word n s = continues v
-advance_in state.Closing control.None true v now t word n s = continues (waiting now v)
-advance_in state.Closing control.None false v now t word n s = continues v
-advance_in state.LastAck control.None true v now t word n s = continues (dropped v)
-advance_in state.LastAck control.None false v now t word n s = last_ack_waits v n
-advance_in _ _ fin v now t word n s = stops v
+abbrev pub advance_in : State → TcpControl → Bool → View → Arrival → ℕ → Advance
+advance_in state.SynReceived control.Rst fin v a n = stops (fallen_back v)
+advance_in _ control.Rst fin v a n = stops (dropped v)
+advance_in state.Listen control.Syn fin v a n = continues (syn_received v a.now a.peer a.word a.segment)
+advance_in state.SynSent control.Syn fin v a n = continues (syn_answered v a.segment)
+advance_in state.SynReceived control.None fin v a n = continues (moved_to state.Established v)
+advance_in state.SynReceived control.Fin fin v a n = continues (fin_counted state.CloseWait v)
+advance_in state.Established control.None fin v a n = continues v
+advance_in state.Established control.Fin fin v a n = continues (fin_counted state.CloseWait v)
+advance_in state.FinWait1 control.None true v a n = continues (moved_to state.FinWait2 v)
+advance_in state.FinWait1 control.None false v a n = continues v
+advance_in state.FinWait1 control.Fin true v a n = continues (waiting a.now (fin_counted state.TimeWait v))
+advance_in state.FinWait1 control.Fin false v a n = continues (fin_counted state.Closing v)
+advance_in state.FinWait2 control.None fin v a n = continues v
+advance_in state.FinWait2 control.Fin fin v a n = continues (waiting a.now (fin_counted state.TimeWait v))
+advance_in state.CloseWait control.None fin v a n = continues v
+advance_in state.Closing control.None true v a n = continues (waiting a.now v)
+advance_in state.Closing control.None false v a n = continues v
+advance_in state.LastAck control.None true v a n = continues (dropped v)
+advance_in state.LastAck control.None false v a n = last_ack_waits v n
+advance_in _ _ fin v a n = stops v
 
 -- with the control bit that counts, and what the acknowledgement covers
-unfoldable pub advanced : View → TcpControl → Instant → Tuple → ℕ → Acked → Segment → Advance
-advanced v c now t word a s = advance_in v.state c a.fin v now t word a.len s
+unfoldable pub advanced : View → TcpControl → Arrival → Acked → Advance
+advanced v c a k = advance_in v.state c k.fin v a k.len

@@ -1,5 +1,5 @@
 -- How a dispatch begins: what comes before the reasons to send.
-use Rattle.std.specs.Prelude.{Option, Some, None, Bool, true, false, if◌then◌else◌}
+use Rattle.std.specs.Prelude.{Option, Some, None, Bool, true, false, not, if◌then◌else◌}
 use Rattle.net_base.specs.declared.time.Instant.{Instant}
 use Rattle.sock_core.specs.Congestion.{lost, pre_transmitted, timed_out}
 use Rattle.sock_core.specs.Estimator.{backed_off, retransmitted}
@@ -15,18 +15,20 @@ use Rattle.sock_tcp.specs.declared.timer.Timer.{Timer}
 use Rattle.sock_tcp.specs.declared.timer.Timer.TheVariants as timer
 use Rattle.sock_tcp.specs.declared.tuple.Tuple.{Tuple}
 
--- a socket after a part of a dispatch, and the peer where the dispatch goes on
+-- a socket after a part of a dispatch, and whether the dispatch goes on
 pub record Begun : Type 0 where
   pub view : View
-  pub peer : Option Tuple
+  pub goes_on : Bool
 
 abbrev pub ended : View → Begun
-ended v = record { view = v; peer = None }
+ended v = record { view = v; goes_on = false }
 
--- the peer, where the dispatch goes on
-abbrev pub peer_if : Bool → Option Tuple → Option Tuple
-peer_if true t = t
-peer_if false t = None
+abbrev pub going_on : View → Begun
+going_on v = record { view = v; goes_on = true }
+
+-- to whom it goes on: the socket's peer
+abbrev pub peer_of : Begun → Option Tuple
+peer_of b = if b.goes_on then b.view.tuple else None
 
 -- ---- when the last segment came
 
@@ -86,15 +88,15 @@ abbrev pub is_paused : State → Bool → Bool
 is_paused state.SynReceived paused = paused
 is_paused _ paused = false
 
-abbrev pub unless_paused : View → Tuple → Begun
-unless_paused v t = record { view = v; peer = if is_paused v.state v.synack_paused then None else Some t }
+abbrev pub unless_paused : View → Begun
+unless_paused v = record { view = v; goes_on = not (is_paused v.state v.synack_paused) }
 
 -- without the local address the socket is reset
 abbrev pub begun_to : Option Tuple → View → Facts → Begun
 begun_to None v f = ended v
 begun_to (Some t) v f =
     if f.has_address t.local.addr
-    then unless_paused (after_timers (readied v (moment_of f)) (moment_of f)) t
+    then unless_paused (after_timers (readied v (moment_of f)) (moment_of f))
     else ended (renewed v)
 
 unfoldable pub begun : View → Facts → Begun
@@ -106,14 +108,14 @@ begun v f = begun_to v.tuple v f
 unfoldable pub nothing_due : View → Instant → View
 nothing_due v now = if is_close_over v.timer now then renewed v else v
 
-abbrev pub by_due : Bool → View → Tuple → Facts → Begun
-by_due true v t f = record { view = v; peer = Some t }
-by_due false v t f = ended (nothing_due v (moment_of f))
+abbrev pub by_due : Bool → View → Facts → Begun
+by_due true v f = going_on v
+by_due false v f = ended (nothing_due v (moment_of f))
 
-abbrev pub before_emit_to : Option Tuple → View → Facts → Bool → Begun
-before_emit_to None v f stamps = ended v
-before_emit_to (Some t) v f stamps = by_due (is_due v t f stamps) v t f
+abbrev pub before_emit_to : Option Tuple → View → Facts → Begun
+before_emit_to None v f = ended v
+before_emit_to (Some t) v f = by_due (is_due v t f) v f
 
--- the socket before the emit, and the peer to whom the segment of the state goes; stamps: it has a timestamp
-unfoldable pub before_emit : View → Facts → Bool → Begun
-before_emit v f stamps = before_emit_to (begun v f).peer (begun v f).view f stamps
+-- the socket before the emit, and whether the segment of the state goes to its peer
+unfoldable pub before_emit : View → Facts → Begun
+before_emit v f = before_emit_to (peer_of (begun v f)) (begun v f).view f

@@ -39,19 +39,19 @@ is_probing v now =
     carries_data v.state && not v.pending_fast_retransmit && (window_left v == 0) && is_probe_over v.timer now
 
 -- a fast retransmission keeps to neither window, a probe is one byte, and other data keeps to both windows
-abbrev pub size_of : View → Tuple → Facts → Bool → ℕ
-size_of v t f stamps =
-    if v.pending_fast_retransmit then effective_mss v t f stamps
-    else (if is_probing v (moment_of f) then min 1 (effective_mss v t f stamps)
-    else min (min (window_left v) (effective_mss v t f stamps)) (congestion_left v))
+abbrev pub size_of : View → Tuple → Facts → ℕ
+size_of v t f =
+    if v.pending_fast_retransmit then effective_mss v t f
+    else (if is_probing v (moment_of f) then min 1 (effective_mss v t f)
+    else min (min (window_left v) (effective_mss v t f)) (congestion_left v))
 
 -- where in the transmit queue the payload begins: at SND.UNA in a fast retransmission, else at SND.NXT
 abbrev pub offset_of : View → ℕ
 offset_of v = if v.pending_fast_retransmit then 0 else flight v
 
 -- how much of the transmit queue, from there on, is asked of the ring
-unfoldable pub asked : View → Tuple → Facts → Bool → ℕ
-asked v t f stamps = if carries_data v.state then size_of v t f stamps else 0
+unfoldable pub asked : View → Tuple → Facts → ℕ
+asked v t f = if carries_data v.state then size_of v t f else 0
 
 -- ---- the segment, with the payload that the ring lent
 

@@ -8,7 +8,7 @@ use Rattle.control_wire.specs.Segment.{Segment}
 use Rattle.control_wire.specs.declared.tcp.TcpRepr.{TcpRepr}
 use Rattle.sock_core.specs.Emission.{Emit, Emits}
 use Rattle.sock_core.specs.Facts.{Facts}
-use Rattle.sock_tcp.specs.Begin.{before_emit}
+use Rattle.sock_tcp.specs.Begin.{peer_of, before_emit}
 use Rattle.sock_tcp.specs.Content.{Sending, asked, offset_of, content}
 use Rattle.sock_tcp.specs.Outgoing.{packet_of}
 use Rattle.sock_tcp.specs.Queue.{IsLent}
@@ -29,8 +29,9 @@ packet_in s = (s.ip, s.segment)
 -- What goes out can be written as a packet and read back
 pub record EmitsDue {F C E : Type 0} (g : EmitTcp F C E) (f : F) (facts : Facts) (t : Tuple) (stamp : Option ℕ)
     (v : View) (c : C) (r : Result (Unit {0}) E) (w : View) (c' : C) : Type 0 where
+  pub stamped : is_some stamp ≡ v.stamps
   pub bytes : List ℕ
-  pub lent : IsLent v.tx_buffer (offset_of v) (asked v t facts (is_some stamp)) bytes
+  pub lent : IsLent v.tx_buffer (offset_of v) (asked v t facts) bytes
   pub emits : Emits g packet_of f (option_map packet_in (content v t facts stamp bytes)) c r c'
   pub view : w ≡ left_by (content v t facts stamp bytes) v (moment_of facts) (is_ok r)
   pub fits : ForSome (content v t facts stamp bytes) (λ s. FitsPacket s.ip s.segment)
@@ -67,5 +68,4 @@ EmitsTo g f facts tells clock (Some t) v c r w c' = EmitsStamped g f facts tells
 unfoldable pub Dispatches : {F C E G : Type 0} → EmitTcp F C E → F → Facts → (G → ℕ → Type 0) → Option G
     → View → C → Result (Unit {0}) E → View → C → Type 0
 Dispatches g f facts tells clock v c r w c' =
-    EmitsTo g f facts tells clock (before_emit v facts (is_some clock)).peer
-    (before_emit v facts (is_some clock)).view c r w c'
+    EmitsTo g f facts tells clock (peer_of (before_emit v facts)) (before_emit v facts).view c r w c'

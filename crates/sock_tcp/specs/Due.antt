@@ -59,9 +59,9 @@ own_mss f t = f.mtu - ip_header_len t.local.addr - 20
 abbrev pub timestamp_room : Bool → ℕ
 timestamp_room stamps = if stamps then 12 else 0
 
--- how many bytes a segment carries; stamps: it has a timestamp
-abbrev pub effective_mss : View → Tuple → Facts → Bool → ℕ
-effective_mss v t f stamps = min (own_mss f t) v.remote_mss - timestamp_room stamps
+-- how many bytes a segment carries
+abbrev pub effective_mss : View → Tuple → Facts → ℕ
+effective_mss v t f = min (own_mss f t) v.remote_mss - timestamp_room v.stamps
 
 -- how much was sent and is not acknowledged
 abbrev pub flight : View → ℕ
@@ -82,18 +82,17 @@ abbrev pub is_held_back : View → ℕ → Bool
 is_held_back v mss = v.nagle && not (flight v == 0) && nat_lt (sendable v) mss && not (is_closing v.state)
 
 -- a SYN or a FIN
-unfoldable pub control_due : View → Bool
+abbrev pub control_due : View → Bool
 control_due v =
     (is_opening v.state && (flight v == 0))
     || (is_closing v.state && seq_eq v.remote_last_seq (seq_add v.local_seq_no (length v.tx_buffer.bytes)))
 
--- a fast retransmission, a SYN, data, or a FIN
-unfoldable pub data_due : View → Tuple → Facts → Bool → Bool
-data_due v t f stamps =
+-- a fast retransmission, data, a SYN or a FIN
+unfoldable pub data_due : View → Tuple → Facts → Bool
+data_due v t f =
     (v.pending_fast_retransmit && not (length v.tx_buffer.bytes == 0))
-    || (is_opening v.state && (flight v == 0))
-    || (not (sendable v == 0) && not (is_held_back v (effective_mss v t f stamps)))
-    || (is_closing v.state && seq_eq v.remote_last_seq (seq_add v.local_seq_no (length v.tx_buffer.bytes)))
+    || (not (sendable v == 0) && not (is_held_back v (effective_mss v t f)))
+    || control_due v
 
 -- ---- an acknowledgement
 
@@ -134,9 +133,9 @@ window_doubled v = tells_window v.state && is_doubled v v.remote_last_ack
 -- ---- the reasons in their order
 
 -- data; an acknowledgement whose delay is over; a larger window; the RST of a closed socket; a keep-alive; a probe
-unfoldable pub is_due : View → Tuple → Facts → Bool → Bool
-is_due v t f stamps =
-    data_due v t f stamps
+unfoldable pub is_due : View → Tuple → Facts → Bool
+is_due v t f =
+    data_due v t f
     || is_reached (ack_poll v) (moment_of f)
     || window_doubled v
     || is_closed v.state

@@ -11,6 +11,7 @@ pub mod Verdict
 pub mod Window
 pub mod Replies
 pub mod Acked
+pub mod Arrival
 pub mod Advance
 pub mod Steps
 pub mod Process

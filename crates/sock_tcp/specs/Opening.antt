@@ -46,6 +46,7 @@ renewed v =
       ack_delay = v.ack_delay;
       nagle = v.nagle;
       synack_paused = v.synack_paused;
+      stamps = v.stamps;
       congestion_controller = of_kind (kind_of v.congestion_controller);
       remote_has_sack = v.remote_has_sack;
       local_rx_last_seq = v.local_rx_last_seq;

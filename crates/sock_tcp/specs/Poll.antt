@@ -11,17 +11,15 @@ use Rattle.sock_tcp.specs.declared.tuple.Tuple.{Tuple}
 -- ---- `poll_at`
 
 -- a dispatch has something to do at once
-abbrev pub is_due_now : View → Tuple → Facts → Bool → Bool
-is_due_now v t f stamps =
-    is_none v.remote_last_ts || is_closed v.state || data_due v t f stamps || window_doubled v
+abbrev pub is_due_now : View → Tuple → Facts → Bool
+is_due_now v t f = is_none v.remote_last_ts || is_closed v.state || data_due v t f || window_doubled v
 
 -- else it waits for the timer, the user timeout, and an acknowledgement that is due
-abbrev pub poll_moment_to : Option Tuple → View → Facts → Bool → PollAt
-poll_moment_to None v f stamps = poll.Ingress
-poll_moment_to (Some t) v f stamps =
-    if is_due_now v t f stamps then poll.Now
+abbrev pub poll_moment_to : Option Tuple → View → Facts → PollAt
+poll_moment_to None v f = poll.Ingress
+poll_moment_to (Some t) v f =
+    if is_due_now v t f then poll.Now
     else earlier (timer_poll v.timer) (earlier (timeout_poll v.timeout v.remote_last_ts) (ack_poll v))
 
--- stamps: segments have a timestamp
-unfoldable pub poll_moment : View → Facts → Bool → PollAt
-poll_moment v f stamps = poll_moment_to v.tuple v f stamps
+unfoldable pub poll_moment : View → Facts → PollAt
+poll_moment v f = poll_moment_to v.tuple v f

@@ -1,5 +1,5 @@
 -- `accepts` and `process` whole.
-use Rattle.std.specs.Prelude.{ℕ, ◌≡◌, ◌<◌, List, [], length, int_lt, Option, Some, None, is_none, Bool, true, false}
+use Rattle.std.specs.Prelude.{ℕ, ◌≡◌, ◌<◌, List, [], length, int_lt, Option, Some, None, Bool, true, false}
 use Rattle.std.specs.Prelude.{◌==◌, ◌&&◌, if◌then◌else◌, option_map}
 use Rattle.std.specs.Option.{ForSome}
 use Rattle.ip_wire.specs.IpHeader.{src_addr_of, dst_addr_of}
@@ -16,6 +16,7 @@ use Rattle.sock_core.specs.Facts.{Facts}
 use Rattle.sock_core.specs.Received.{makes_fifth_range, holds_nothing}
 use Rattle.sock_tcp.specs.Acked.{acked_of}
 use Rattle.sock_tcp.specs.Advance.{Advance, advanced, counted_control}
+use Rattle.sock_tcp.specs.Arrival.{Arrival, arrival}
 use Rattle.sock_tcp.specs.Draw.{draws, Draws}
 use Rattle.sock_tcp.specs.View.{View, moment_of}
 use Rattle.sock_tcp.specs.Verdict.{verdict_of}
@@ -142,19 +143,21 @@ bytes_taken v now o bs s =
     if length bs == 0 then stopped v
     else (if makes_fifth_range v.rx_buffer o bs then stopped v else gap_answered v (ack_delayed (joined v o bs) now) s)
 
-abbrev pub after_advance : Next → View → Instant → Acked → ℕ → List ℕ → Segment → Outcome
-after_advance next.Stop v now a o bs s = stopped v
-after_advance next.Challenge v now a o bs s = challenged v now s
-after_advance next.Continue v now a o bs s = bytes_taken (heard v now a s) now o bs s
+abbrev pub after_advance : Next → View → Arrival → Acked → ℕ → List ℕ → Outcome
+after_advance next.Stop v a k o bs = stopped v
+after_advance next.Challenge v a k o bs = challenged v a.now a.segment
+after_advance next.Continue v a k o bs = bytes_taken (heard v a.now k a.segment) a.now o bs a.segment
 
-abbrev pub after_table : Advance → Instant → Acked → ℕ → List ℕ → Segment → Outcome
-after_table t now a o bs s = after_advance t.next t.view now a o bs s
+abbrev pub after_table : Advance → Arrival → Acked → ℕ → List ℕ → Outcome
+after_table t a k o bs = after_advance t.next t.view a k o bs
+
+-- what the segment acknowledges
+abbrev pub acked_by : View → Arrival → Acked
+acked_by v a = acked_of v a.segment.control a.segment.ack_number
 
 -- with the control bit that counts, and the bytes that the window takes
-unfoldable pub processed_inside : View → Instant → ℕ → TcpControl → ℕ → List ℕ → IpRepr → Segment → Outcome
-processed_inside v now word c o bs ip s =
-    after_table (advanced v c now (tuple_of ip s) word (acked_of v s.control s.ack_number) s) now
-    (acked_of v s.control s.ack_number) o bs s
+unfoldable pub processed_inside : View → Arrival → TcpControl → ℕ → List ℕ → Outcome
+processed_inside v a c o bs = after_table (advanced v c a (acked_by v a)) a (acked_by v a) o bs
 
 -- ---- the whole
 
@@ -165,41 +168,35 @@ has_window state.SynSent = false
 has_window _ = true
 
 -- a segment inside the window is cut to it, and its number is remembered
-abbrev pub cut_inside : Window → Cut → View → Instant → ℕ → IpRepr → Segment → Outcome
-cut_inside w cut v now word ip s =
-    processed_inside (record v { local_rx_last_seq = Some s.seq_number }) now word
-    (counted_control s.control w s.seq_number (length s.payload)) cut.offset (cut_bytes cut s.payload) ip s
+abbrev pub cut_inside : Window → Cut → View → Arrival → Outcome
+cut_inside w cut v a =
+    processed_inside (record v { local_rx_last_seq = Some a.segment.seq_number }) a
+    (counted_control a.segment.control w a.segment.seq_number (length a.segment.payload)) cut.offset
+    (cut_bytes cut a.segment.payload)
 
-abbrev pub tested : Bool → View → Instant → ℕ → IpRepr → Segment → Outcome
-tested false v now word ip s = processed_inside v now word s.control 0 [] ip s
-tested true v now word ip s =
-    if is_inside (receive_window v) s.seq_number (length s.payload)
-    then cut_inside (receive_window v) (cut_of (receive_window v) s.seq_number (length s.payload)) v now word ip s
-    else outside v now s
+abbrev pub tested : Bool → View → Arrival → Outcome
+tested false v a = processed_inside v a a.segment.control 0 []
+tested true v a =
+    if is_inside (receive_window v) a.segment.seq_number (length a.segment.payload)
+    then cut_inside (receive_window v)
+    (cut_of (receive_window v) a.segment.seq_number (length a.segment.payload)) v a
+    else outside v a.now a.segment
 
-abbrev pub by_verdict : Verdict → View → Instant → ℕ → IpRepr → Segment → Outcome
-by_verdict verdicts.Drop v now word ip s = stopped v
-by_verdict verdicts.Reset v now word ip s = rst_sent v s
-by_verdict verdicts.Challenge v now word ip s = challenged v now s
-by_verdict verdicts.Pass v now word ip s = tested (has_window v.state) v now word ip s
+abbrev pub by_verdict : Verdict → View → Arrival → Outcome
+by_verdict verdicts.Drop v a = stopped v
+by_verdict verdicts.Reset v a = rst_sent v a.segment
+by_verdict verdicts.Challenge v a = challenged v a.now a.segment
+by_verdict verdicts.Pass v a = tested (has_window v.state) v a
 
 unfoldable pub processed : View → Instant → ℕ → IpRepr → Segment → Outcome
-processed v now word ip s = by_verdict (verdict_of v s.control s.ack_number) v now word ip s
+processed v now word ip s =
+    by_verdict (verdict_of v s.control s.ack_number) v (arrival now (tuple_of ip s) word s)
 
 -- ---- the source of timestamps
 
--- a SYN whose options are taken
-abbrev pub takes_options : Verdict → State → TcpControl → Bool
-takes_options verdicts.Pass state.Listen control.Syn = true
-takes_options verdicts.Pass state.SynSent control.Syn = true
-takes_options _ _ _ = false
-
--- one without a timestamp takes the own source away for good
-abbrev pub drops_generator : View → Segment → Bool
-drops_generator v s = takes_options (verdict_of v s.control s.ack_number) v.state s.control && is_none s.timestamp
-
-abbrev pub generator_after : {G : Type 0} → View → Segment → Option G → Option G
-generator_after v s g = if drops_generator v s then None else g
+-- it stays while segments carry a timestamp, and else leaves for good
+abbrev pub source_kept : {G : Type 0} → Bool → Option G → Option G
+source_kept stamps g = if stamps then g else None
 
 -- ---- the call
 

@@ -35,6 +35,7 @@ verdict_at state.SynSent control.Rst None una n = verdicts.Drop
 verdict_at state.SynSent control.Rst (Some ack) una n = if is_next ack una then verdicts.Pass else verdicts.Drop
 verdict_at _ control.Rst ack una n = verdicts.Pass
 verdict_at state.Listen c None una n = verdicts.Pass
+verdict_at state.Listen c (Some ack) una n = open_verdict state.Listen ack una n
 verdict_at state.SynSent control.Syn None una n = verdicts.Pass
 verdict_at state.SynSent control.Syn (Some ack) una n = if is_next ack una then verdicts.Pass else verdicts.Reset
 verdict_at state.SynSent control.None None una n = verdicts.Drop

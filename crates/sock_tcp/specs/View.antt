@@ -59,6 +59,7 @@ pub record View : Type 0 where
   pub congestion_controller : AnyController
   pub last_remote_tsval : ℕ  -- the last timestamp value of the peer
   pub synack_paused : Bool  -- a SYN|ACK waits
+  pub stamps : Bool  -- segments carry a timestamp (RFC 7323, section 3)
 
 -- the moment that a context tells
 abbrev pub moment_of : Facts → Instant
@@ -134,4 +135,5 @@ fresh rx tx =
       congestion_controller = controller.Reno fresh_reno;
       last_remote_tsval = 0;
       synack_paused = false;
+      stamps = false;
     }

@@ -7,6 +7,7 @@ ghost use Rattle.sock_tcp.specs.Draw.{draws, Draws};
 ghost use Rattle.sock_tcp.specs.Advance.{options_taken, fallen_back, dropped, syn_received, syn_answered, moved_to};
 ghost use Rattle.sock_tcp.specs.Advance.{fin_counted, waiting, continues, stops, advanced};
 ghost use Rattle.sock_tcp.specs.declared.state.State.TheVariants.{TimeWait};
+ghost use Rattle.sock_tcp.specs.Arrival.{arrival};
 ghost use Rattle.sock_tcp.specs.Process.{tuple_of};
 ghost use Rattle.sock_tcp.specs.Same.{SameQueues};
 ghost use Rattle.sock_tcp.specs.View.{FinSays};
@@ -43,7 +44,7 @@ pub enum Next {
 }
 
 impl<'a> ControlBlock<'a> {
-    // The options of a SYN (RFC 9293, section 3.2; RFC 7323, section 2.2; RFC 2018, section 2).
+    // The options of a SYN (RFC 9293, section 3.2; RFC 7323, sections 2.2 and 3.2; RFC 2018, section 2).
     #[tactic(auto, unfolding(crate::specs::Advance::options_taken))]
     fn take_options(&mut self, repr: &TcpRepr<'_>)
         ensures view { self.new ≡ options_taken self.old (segment_of repr.now) }
@@ -65,6 +66,7 @@ impl<'a> ControlBlock<'a> {
                 self.remote_win_shift = 0;
             }
         }
+        self.stamps = self.stamps && repr.timestamp.is_some();
     }
 
     // An RST in SYN-RECEIVED: a listener listens again.
@@ -182,8 +184,8 @@ impl<'a> ControlBlock<'a> {
     ) -> Next
         requires moment { IsMoment now.micros }
         ensures table { record { view = self.new; next = result }
-            ≡ advanced self.old control now (tuple_of ip_repr.now (segment_of repr.now)) (C.word_at cx.old 0) acked
-            (segment_of repr.now) }
+            ≡ advanced self.old control (arrival now (tuple_of ip_repr.now (segment_of repr.now)) (C.word_at cx.old 0)
+            (segment_of repr.now)) acked }
         ensures queues { SameQueues self.old self.new }
         ensures context { Draws (draws Pass self.old.state control) C.facts C.word_at cx.old cx.new }
     {

@@ -5,7 +5,7 @@ ghost use Rattle.sock_tcp.specs.View.{moment_of};
 ghost use Rattle.sock_tcp.specs.Due.{is_due};
 ghost use Rattle.sock_tcp.specs.Begin.{last_ts_set, readied, retransmission_begun, fast_retransmission_marked};
 ghost use Rattle.sock_tcp.specs.Begin.{after_timers};
-ghost use Rattle.sock_tcp.specs.Begin.{is_paused, peer_if, begun, nothing_due, before_emit_to, before_emit};
+ghost use Rattle.sock_tcp.specs.Begin.{is_paused, begun, nothing_due, before_emit_to, before_emit};
 
 use crate::control_block::ControlBlock;
 use crate::poll::{is_reached, timeout_poll};
@@ -30,7 +30,7 @@ impl<'a> ControlBlock<'a> {
     fn set_last_ts(&mut self, now: Instant)
         requires { IsMoment now.micros }
         ensures table { self.new ≡ last_ts_set self.old now }
-        ensures tuple { self.new.tuple ≡ self.old.tuple }
+        ensures stamps { self.new.stamps ≡ self.old.stamps }
     {
         if self.remote_last_ts.is_none() {
             self.remote_last_ts = Some(now);
@@ -42,7 +42,7 @@ impl<'a> ControlBlock<'a> {
     fn set_last_ts_and_tell(&mut self, now: Instant)
         requires { IsMoment now.micros }
         ensures table { self.new ≡ readied self.old now }
-        ensures tuple { self.new.tuple ≡ self.old.tuple }
+        ensures stamps { self.new.stamps ≡ self.old.stamps }
     {
         self.set_last_ts(now);
         self.congestion_controller.pre_transmit(now);
@@ -54,7 +54,7 @@ impl<'a> ControlBlock<'a> {
     fn begin_retransmission(&mut self, now: Instant)
         requires { IsMoment now.micros }
         ensures table { self.new ≡ retransmission_begun self.old now }
-        ensures tuple { self.new.tuple ≡ self.old.tuple }
+        ensures stamps { self.new.stamps ≡ self.old.stamps }
     {
         let flight = self.flight();
         self.congestion_controller.on_rto(now, flight);
@@ -69,7 +69,7 @@ impl<'a> ControlBlock<'a> {
     fn mark_fast_retransmission(&mut self, now: Instant)
         requires { IsMoment now.micros }
         ensures table { self.new ≡ fast_retransmission_marked self.old now }
-        ensures tuple { self.new.tuple ≡ self.old.tuple }
+        ensures stamps { self.new.stamps ≡ self.old.stamps }
     {
         let flight = self.flight();
         self.congestion_controller.on_loss(now, flight);
@@ -83,7 +83,7 @@ impl<'a> ControlBlock<'a> {
     fn heed_timers(&mut self, now: Instant)
         requires { IsMoment now.micros }
         ensures table { self.new ≡ after_timers self.old now }
-        ensures tuple { self.new.tuple ≡ self.old.tuple }
+        ensures stamps { self.new.stamps ≡ self.old.stamps }
     {
         if is_reached(timeout_poll(self.timeout, self.remote_last_ts), now) {
             self.state = State::Closed;
@@ -110,8 +110,8 @@ impl<'a> ControlBlock<'a> {
     // What comes before the reasons; whether the dispatch goes on to the peer.
     #[tactic(auto, unfolding(crate::specs::Begin::begun))]
     fn begin<C: Context>(&mut self, cx: &C) -> bool
-        ensures { record { view = self.new; peer = peer_if result self.new.tuple }
-            ≡ begun self.old (C.facts cx.now) }
+        ensures table { record { view = self.new; goes_on = result } ≡ begun self.old (C.facts cx.now) }
+        ensures stamps { self.new.stamps ≡ self.old.stamps }
     {
         let has_address = match &self.tuple {
             None => return false,
@@ -130,7 +130,8 @@ impl<'a> ControlBlock<'a> {
     // Nothing is due: TIME-WAIT may be over.
     #[tactic(auto, unfolding(crate::specs::Begin::nothing_due))]
     fn end_time_wait(&mut self, now: Instant)
-        ensures { self.new ≡ nothing_due self.old now }
+        ensures table { self.new ≡ nothing_due self.old now }
+        ensures stamps { self.new.stamps ≡ self.old.stamps }
     {
         if self.timer.is_close_over(now) {
             self.reset();
@@ -138,13 +139,14 @@ impl<'a> ControlBlock<'a> {
     }
 
     // The reasons; whether something is due to the peer.
-    fn look_for_reason<C: Context>(&mut self, cx: &C, stamps: bool) -> bool
-        ensures { record { view = self.new; peer = peer_if result self.new.tuple }
-            ≡ before_emit_to self.old.tuple self.old (C.facts cx.now) stamps }
+    fn look_for_reason<C: Context>(&mut self, cx: &C) -> bool
+        ensures table { record { view = self.new; goes_on = result }
+            ≡ before_emit_to self.old.tuple self.old (C.facts cx.now) }
+        ensures stamps { self.new.stamps ≡ self.old.stamps }
     {
         let due = match &self.tuple {
             None => return false,
-            Some(tuple) => self.is_due(cx, tuple, stamps),
+            Some(tuple) => self.is_due(cx, tuple),
         };
         if !due {
             self.end_time_wait(cx.now());
@@ -154,13 +156,13 @@ impl<'a> ControlBlock<'a> {
 
     // The beginning and the reasons; whether a segment goes out to the peer.
     #[tactic(auto, unfolding(crate::specs::Begin::before_emit))]
-    pub(crate) fn before_emit<C: Context>(&mut self, cx: &C, stamps: bool) -> bool
-        ensures { record { view = self.new; peer = peer_if result self.new.tuple }
-            ≡ before_emit self.old (C.facts cx.now) stamps }
+    pub(crate) fn before_emit<C: Context>(&mut self, cx: &C) -> bool
+        ensures table { record { view = self.new; goes_on = result } ≡ before_emit self.old (C.facts cx.now) }
+        ensures stamps { self.new.stamps ≡ self.old.stamps }
     {
         if !self.begin(cx) {
             return false;
         }
-        self.look_for_reason(cx, stamps)
+        self.look_for_reason(cx)
     }
 }

@@ -52,11 +52,11 @@ impl<'a> ControlBlock<'a> {
     }
 
     // How many bytes of the transmit queue are to go out.
-    fn size<C: Context>(&self, cx: &C, tuple: &Tuple, stamps: bool) -> usize
-        ensures value { result ≡ size_of self.now tuple.now (C.facts cx.now) stamps }
+    fn size<C: Context>(&self, cx: &C, tuple: &Tuple) -> usize
+        ensures value { result ≡ size_of self.now tuple.now (C.facts cx.now) }
         ensures small { result ≤ 65535 }
     {
-        let mss = self.effective_mss(cx, tuple, stamps);
+        let mss = self.effective_mss(cx, tuple);
         if self.pending_fast_retransmit {
             mss
         } else if self.is_probing(cx.now()) {
@@ -80,13 +80,13 @@ impl<'a> ControlBlock<'a> {
 
     // The bytes of the transmit queue that go out, as far as they stand in one piece.
     #[tactic(auto, unfolding(crate::specs::Content::asked))]
-    pub(crate) fn payload<C: Context>(&self, cx: &C, tuple: &Tuple, stamps: bool) -> &[u8]
-        ensures lent { IsLent self.now.tx_buffer (offset_of self.now)
-            (asked self.now tuple.now (C.facts cx.now) stamps) result.now }
+    pub(crate) fn payload<C: Context>(&self, cx: &C, tuple: &Tuple) -> &[u8]
+        ensures lent { IsLent self.now.tx_buffer (offset_of self.now) (asked self.now tuple.now (C.facts cx.now))
+            result.now }
         ensures small { length result.now ≤ 65535 }
     {
         let size = if self.state.carries_data() {
-            self.size(cx, tuple, stamps)
+            self.size(cx, tuple)
         } else {
             0
         };
@@ -367,7 +367,8 @@ impl<'a> ControlBlock<'a> {
     )
         requires lawful { IsLawful (C.facts cx.now) }
         requires tuple { self.now.tuple ≡ Some tuple.now }
-        requires asked { length payload.now ≤ asked self.now tuple.now (C.facts cx.now) (is_some stamp) }
+        requires stamped { is_some stamp ≡ self.now.stamps }
+        requires asked { length payload.now ≤ asked self.now tuple.now (C.facts cx.now) }
         ensures { ForSome (content self.now tuple.now (C.facts cx.now) stamp payload.now)
             (λ s. FitsPacket s.ip s.segment) }
     {

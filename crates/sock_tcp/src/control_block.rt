@@ -81,6 +81,8 @@ pub struct ControlBlock<'a> {
     pub(crate) last_remote_tsval: u32,
     // a SYN|ACK waits
     pub(crate) synack_paused: bool,
+    // segments carry a timestamp (RFC 7323, section 3)
+    pub(crate) stamps: bool,
 }
 
 impl<'a> Model for ControlBlock<'a> {
@@ -123,6 +125,7 @@ impl<'a> Model for ControlBlock<'a> {
       congestion_controller = s.congestion_controller;
       last_remote_tsval = s.last_remote_tsval;
       synack_paused = s.synack_paused;
+      stamps = s.stamps;
     } };
 
     ghost invariant = { λ s. IsSound s.rx_buffer (queue_of s.tx_buffer) s.tuple

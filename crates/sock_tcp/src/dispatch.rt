@@ -24,7 +24,8 @@ impl<'a> ControlBlock<'a> {
     #[tactic(auto, unfolding(crate::specs::Sent::after_any))]
     fn after_any(&mut self, now: Instant)
         requires { IsMoment now.micros }
-        ensures { self.new ≡ after_any self.old now }
+        ensures view { self.new ≡ after_any self.old now }
+        ensures stamps { self.new.stamps ≡ self.old.stamps }
     {
         self.timer = self.timer.keep_alive_renewed(now, self.keep_alive);
         self.ack_delay_timer = AckDelayTimer::Idle;
@@ -34,14 +35,16 @@ impl<'a> ControlBlock<'a> {
     #[tactic(auto, unfolding(crate::specs::Sent::after_probe))]
     fn after_probe(&mut self, now: Instant)
         requires { IsMoment now.micros }
-        ensures { self.new ≡ after_probe self.old now }
+        ensures view { self.new ≡ after_probe self.old now }
+        ensures stamps { self.new.stamps ≡ self.old.stamps }
     {
         self.timer = self.timer.probe_doubled(now);
     }
 
     #[tactic(auto, unfolding(crate::specs::Sent::snd_nxt_moved))]
     fn move_snd_nxt(&mut self, emitted: Emitted)
-        ensures { self.new ≡ snd_nxt_moved self.old emitted }
+        ensures view { self.new ≡ snd_nxt_moved self.old emitted }
+        ensures stamps { self.new.stamps ≡ self.old.stamps }
     {
         self.remote_last_seq = later(self.remote_last_seq, emitted.end);
         self.remote_last_ack = emitted.ack_number;
@@ -55,7 +58,8 @@ impl<'a> ControlBlock<'a> {
     #[tactic(auto, unfolding(crate::specs::Sent::sending_timed))]
     fn time_sending(&mut self, now: Instant, emitted: Emitted)
         requires { IsMoment now.micros }
-        ensures { self.new ≡ sending_timed self.old now emitted }
+        ensures view { self.new ≡ sending_timed self.old now emitted }
+        ensures stamps { self.new.stamps ≡ self.old.stamps }
     {
         if emitted.len == 0 {
             return;
@@ -68,7 +72,8 @@ impl<'a> ControlBlock<'a> {
     #[tactic(auto, unfolding(crate::specs::Sent::after_sending))]
     fn after_sending(&mut self, now: Instant, emitted: Emitted)
         requires { IsMoment now.micros }
-        ensures { self.new ≡ after_sending self.old now emitted }
+        ensures view { self.new ≡ after_sending self.old now emitted }
+        ensures stamps { self.new.stamps ≡ self.old.stamps }
     {
         self.after_any(now);
         match emitted.kind {
@@ -85,7 +90,8 @@ impl<'a> ControlBlock<'a> {
     #[inline(always)]
     fn after_emit(&mut self, ok: bool, now: Instant, emitted: Emitted)
         requires { IsMoment now.micros }
-        ensures { self.new ≡ after_emit ok self.old now emitted }
+        ensures view { self.new ≡ after_emit ok self.old now emitted }
+        ensures stamps { self.new.stamps ≡ self.old.stamps }
     {
         if ok {
             self.after_sending(now, emitted);
@@ -99,15 +105,17 @@ impl<'a> ControlBlock<'a> {
         F: FnOnce(&mut C, (IpRepr, TcpRepr<'_>)) -> Result<(), E>,
     >(&mut self, cx: &mut C, stamp: Option<u32>, emit: F) -> Result<(), E>
         requires callable { F.IsAlwaysCallable emit }
-        ensures { EmitsIf F.FnOnce emit (C.facts cx.old) stamp self.old.tuple self.old cx.old result self.new
+        requires stamped { is_some stamp ≡ self.old.stamps }
+        ensures table { EmitsIf F.FnOnce emit (C.facts cx.old) stamp self.old.tuple self.old cx.old result self.new
             cx.new }
+        ensures stamps { self.new.stamps ≡ self.old.stamps }
     {
         let tuple = match &self.tuple {
             None => return Ok(()),
             Some(tuple) => tuple,
         };
         let now = cx.now();
-        let payload = self.payload(cx, tuple, stamp.is_some());
+        let payload = self.payload(cx, tuple);
         self.sends_packets(cx, tuple, stamp, payload); // for its contract
         let mut packet = (NO_HEADER, self.plain(tuple, stamp));
         let kind = match self.finish_packet(cx, tuple, payload, &mut packet) {
@@ -145,10 +153,7 @@ impl<'a, G: TsvalSource> Socket<'a, G> {
             self.old.control_block cx.old result self.new.control_block cx.new }
         ensures generator { self.new.tsval_generator ≡ self.old.tsval_generator }
     {
-        if !self
-            .control_block
-            .before_emit(cx, self.tsval_generator.is_some())
-        {
+        if !self.control_block.before_emit(cx) {
             return Ok(());
         }
         let stamp = self.tsval();

@@ -31,11 +31,11 @@ pub(crate) fn own_mss<C: Context>(cx: &C, tuple: &Tuple) -> usize
 }
 
 impl<'a> ControlBlock<'a> {
-    pub(crate) fn effective_mss<C: Context>(&self, cx: &C, tuple: &Tuple, stamps: bool) -> usize
-        ensures value { result ≡ effective_mss self.now tuple.now (C.facts cx.now) stamps }
+    pub(crate) fn effective_mss<C: Context>(&self, cx: &C, tuple: &Tuple) -> usize
+        ensures value { result ≡ effective_mss self.now tuple.now (C.facts cx.now) }
         ensures small { result ≤ 65535 }
     {
-        let room = if stamps { TIMESTAMP_ROOM } else { 0 };
+        let room = if self.stamps { TIMESTAMP_ROOM } else { 0 };
         own_mss(cx, tuple).min(self.remote_mss).saturating_sub(room)
     }
 
@@ -74,21 +74,19 @@ impl<'a> ControlBlock<'a> {
     }
 
     #[inline(always)]
-    #[tactic(auto, unfolding(crate::specs::Due::data_due, crate::specs::Due::control_due))]
-    pub(crate) fn data_due<C: Context>(&self, cx: &C, tuple: &Tuple, stamps: bool) -> bool
-        ensures { result ≡ data_due self.now tuple.now (C.facts cx.now) stamps }
+    #[tactic(auto, unfolding(crate::specs::Due::data_due))]
+    pub(crate) fn data_due<C: Context>(&self, cx: &C, tuple: &Tuple) -> bool
+        ensures { result ≡ data_due self.now tuple.now (C.facts cx.now) }
     {
         if self.tx_buffer.is_empty() {
             return self.control_due();
         }
         let marked = self.pending_fast_retransmit;
-        let some = self.sendable() != 0
-            && !self.is_held_back(self.effective_mss(cx, tuple, stamps));
+        let some = self.sendable() != 0 && !self.is_held_back(self.effective_mss(cx, tuple));
         marked || some || self.control_due()
     }
 
     // Whether a SYN or a FIN is due: all that can be while nothing is queued, as in most sockets that are asked.
-    #[tactic(auto, unfolding(crate::specs::Due::control_due))]
     fn control_due(&self) -> bool
         ensures { result ≡ control_due self.now }
     {
@@ -153,11 +151,11 @@ impl<'a> ControlBlock<'a> {
 
     // The reasons to send, in their order.
     #[tactic(auto, unfolding(crate::specs::Due::is_due))]
-    pub(crate) fn is_due<C: Context>(&self, cx: &C, tuple: &Tuple, stamps: bool) -> bool
-        ensures { result ≡ is_due self.now tuple.now (C.facts cx.now) stamps }
+    pub(crate) fn is_due<C: Context>(&self, cx: &C, tuple: &Tuple) -> bool
+        ensures { result ≡ is_due self.now tuple.now (C.facts cx.now) }
     {
         let now = cx.now();
-        self.data_due(cx, tuple, stamps)
+        self.data_due(cx, tuple)
             || is_reached(self.ack_poll(), now)
             || self.window_doubled()
             || self.state.is_closed()

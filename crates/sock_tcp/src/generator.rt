@@ -1,6 +1,7 @@
 //! The source of timestamps (RFC 7323, section 3).
 ghost use Rattle.std.specs.Prelude.{◌≡◌, ℕ, MatchOption, IsSomeAnd, None, Some, is_some, option_map};
 
+use crate::control_block::ControlBlock;
 use crate::socket::Socket;
 use control_wire::TcpTimestampGenerator;
 use std::fmt;
@@ -47,14 +48,25 @@ impl fmt::Debug for Generator {
     }
 }
 
+impl<'a> ControlBlock<'a> {
+    // Whether segments carry a timestamp.
+    pub(crate) fn stamps(&self) -> bool
+        ensures { result ≡ self.now.stamps }
+    {
+        self.stamps
+    }
+}
+
 impl<'a> Socket<'a> {
     /// Sets the source of the timestamps that the socket sends, or takes it away, as smoltcp: a function that may
     /// always be called.
     pub fn set_tsval_generator(&mut self, generator: Option<TcpTimestampGenerator>)
         requires callable { MatchOption generator (Unit {0}) (λ g. IsAlwaysCallable g) }
-        ensures control_block { self.new.control_block ≡ self.old.control_block }
+        ensures control_block { self.new.control_block
+            ≡ record self.old.control_block { stamps = is_some generator } }
         ensures generator { option_map (λ g. g.call) self.new.tsval_generator ≡ generator }
     {
+        self.control_block.stamps = generator.is_some();
         self.tsval_generator = match generator {
             None => None,
             Some(call) => Some(Generator::new(call)),
@@ -65,7 +77,9 @@ impl<'a> Socket<'a> {
 impl<'a, G: TsvalSource> Socket<'a, G> {
     // The value of the socket's clock, where it has one.
     pub(crate) fn tsval(&self) -> Option<u32>
-        ensures { MatchOption self.now.tsval_generator (result ≡ None) (λ g. IsSomeAnd result (λ t. G.tells g t)) }
+        ensures told { MatchOption self.now.tsval_generator (result ≡ None)
+            (λ g. IsSomeAnd result (λ t. G.tells g t)) }
+        ensures stamps { is_some result ≡ self.now.control_block.stamps }
     {
         match &self.tsval_generator {
             None => None,
@@ -75,18 +89,20 @@ impl<'a, G: TsvalSource> Socket<'a, G> {
 
     /// Sets the source of the timestamps that the socket sends, of its own kind, or takes it away.
     pub fn set_tsval_source(&mut self, source: Option<G>)
-        ensures control_block { self.new.control_block ≡ self.old.control_block }
+        ensures control_block { self.new.control_block ≡ record self.old.control_block { stamps = is_some source } }
         ensures generator { self.new.tsval_generator ≡ source }
     {
+        self.control_block.stamps = source.is_some();
         self.tsval_generator = source;
     }
 }
 
 impl<'a, G> Socket<'a, G> {
-    /// Whether the socket has a source of timestamps; a new one has none.
+    /// Whether the socket has a source of timestamps, so that segments carry one; a new socket has none.
     pub fn timestamp_enabled(&self) -> bool
-        ensures { result ≡ is_some self.now.tsval_generator }
+        ensures stamps { result ≡ self.now.control_block.stamps }
+        ensures source { result ≡ is_some self.now.tsval_generator }
     {
-        self.tsval_generator.is_some()
+        self.control_block.stamps
     }
 }

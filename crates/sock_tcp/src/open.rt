@@ -40,7 +40,8 @@ impl<'a> ControlBlock<'a> {
     ) -> ControlBlock<'a>
         requires rx { length rx_buffer.queue + length rx_buffer.spare ≤ 2 ^ 30 }
         requires tx { length tx_buffer.queue + length tx_buffer.spare ≤ 2 ^ 30 }
-        ensures { result ≡ fresh (receiving rx_buffer.entry) (queue_of tx_buffer.entry) }
+        ensures view { result ≡ fresh (receiving rx_buffer.entry) (queue_of tx_buffer.entry) }
+        ensures stamps { result.stamps ≡ false }
     {
         let shift = window_shift(rx_buffer.capacity());
         ControlBlock {
@@ -77,12 +78,14 @@ impl<'a> ControlBlock<'a> {
             congestion_controller: AnyController::new(),
             last_remote_tsval: 0,
             synack_paused: false,
+            stamps: false,
         }
     }
 
     #[tactic(auto, unfolding(crate::specs::Opening::renewed, crate::specs::View::fresh))]
     pub(crate) fn reset(&mut self)
         ensures view { self.new ≡ renewed self.old }
+        ensures stamps { self.new.stamps ≡ self.old.stamps }
         ensures no_fin { self.new.rx_fin_received ≡ false }
     {
         self.state = State::Closed;
@@ -118,7 +121,8 @@ impl<'a> ControlBlock<'a> {
 
     #[tactic(auto, unfolding(crate::specs::Opening::listened))]
     fn begin_to_listen(&mut self, endpoint: IpListenEndpoint)
-        ensures { self.new ≡ listened self.old endpoint }
+        ensures view { self.new ≡ listened self.old endpoint }
+        ensures stamps { self.new.stamps ≡ self.old.stamps }
     {
         self.reset();
         self.state = State::Listen;
@@ -126,7 +130,8 @@ impl<'a> ControlBlock<'a> {
     }
 
     pub(crate) fn listen(&mut self, endpoint: IpListenEndpoint) -> Result<(), ListenError>
-        ensures { Listens self.old endpoint result self.new }
+        ensures table { Listens self.old endpoint result self.new }
+        ensures stamps { self.new.stamps ≡ self.old.stamps }
     {
         if endpoint.port == 0 {
             return Err(ListenError::Unaddressable);
@@ -173,7 +178,8 @@ impl<'a> ControlBlock<'a> {
     #[tactic(auto, unfolding(crate::specs::Opening::connected))]
     fn begin_to_connect(&mut self, tuple: Tuple, word: u32)
         requires { SameVersion tuple.local.addr tuple.remote.addr }
-        ensures { self.new ≡ connected self.old tuple word }
+        ensures view { self.new ≡ connected self.old tuple word }
+        ensures stamps { self.new.stamps ≡ self.old.stamps }
     {
         self.reset();
         self.state = State::SynSent;
@@ -188,7 +194,8 @@ impl<'a> ControlBlock<'a> {
         remote: IpEndpoint,
         local: IpListenEndpoint,
     ) -> Result<(), ConnectError>
-        ensures { Connects C.facts C.word_at self.old cx.old remote local result self.new cx.new }
+        ensures table { Connects C.facts C.word_at self.old cx.old remote local result self.new cx.new }
+        ensures stamps { self.new.stamps ≡ self.old.stamps }
     {
         match self.endpoints(cx, remote, local) {
             Err(e) => Err(e),

@@ -1,5 +1,5 @@
 //! When a socket wants its next dispatch.
-ghost use Rattle.std.specs.Prelude.{◌≡◌, IsTrue, Bool, Some, false, is_some};
+ghost use Rattle.std.specs.Prelude.{◌≡◌, IsTrue, Some, false};
 ghost use Rattle.sock_tcp.specs.View.{IsShort};
 ghost use Rattle.sock_tcp.specs.Timers.{IsLastTs};
 ghost use Rattle.sock_tcp.specs.Polls.{is_reached, earlier, timeout_poll, timer_poll};
@@ -68,18 +68,18 @@ impl<'a> ControlBlock<'a> {
         )
     }
 
-    fn is_due_now<C: Context>(&self, cx: &C, tuple: &Tuple, stamps: bool) -> bool
-        ensures { result ≡ is_due_now self.now tuple.now (C.facts cx.now) stamps }
+    fn is_due_now<C: Context>(&self, cx: &C, tuple: &Tuple) -> bool
+        ensures { result ≡ is_due_now self.now tuple.now (C.facts cx.now) }
     {
         self.remote_last_ts.is_none()
             || self.state.is_closed()
-            || self.data_due(cx, tuple, stamps)
+            || self.data_due(cx, tuple)
             || self.window_doubled()
     }
 
     #[tactic(auto, unfolding(crate::specs::Poll::poll_moment))]
-    fn poll_at<C: Context>(&self, cx: &C, stamps: bool) -> PollAt
-        ensures { result ≡ poll_moment self.now (C.facts cx.now) stamps }
+    fn poll_at<C: Context>(&self, cx: &C) -> PollAt
+        ensures { result ≡ poll_moment self.now (C.facts cx.now) }
     {
         let tuple = match &self.tuple {
             None => return PollAt::Ingress,
@@ -89,23 +89,17 @@ impl<'a> ControlBlock<'a> {
         if self.is_quiet() {
             return self.timer_or(timeout);
         }
-        self.poll_at_in_full(cx, tuple, stamps, timeout)
+        self.poll_at_in_full(cx, tuple, timeout)
     }
 
     // The poll moment of a socket with a peer, by all that it may wait for. Not inlined, so that the path of a quiet
     // socket has no registers to save.
     #[inline(never)]
-    fn poll_at_in_full<C: Context>(
-        &self,
-        cx: &C,
-        tuple: &Tuple,
-        stamps: bool,
-        timeout: PollAt,
-    ) -> PollAt
+    fn poll_at_in_full<C: Context>(&self, cx: &C, tuple: &Tuple, timeout: PollAt) -> PollAt
         requires { timeout ≡ timeout_poll self.now.timeout self.now.remote_last_ts }
-        ensures { result ≡ poll_moment_to (Some tuple.now) self.now (C.facts cx.now) stamps }
+        ensures { result ≡ poll_moment_to (Some tuple.now) self.now (C.facts cx.now) }
     {
-        if self.is_due_now(cx, tuple, stamps) {
+        if self.is_due_now(cx, tuple) {
             return PollAt::Now;
         }
         match self.ack_poll() {
@@ -118,8 +112,7 @@ impl<'a> ControlBlock<'a> {
     // are asked are such, and are spared the questions for the others. Where the answer is no, it says nothing.
     #[tactic(auto, using(crate::proofs::Quiet::no_reason, crate::proofs::Quiet::waits_for_a_segment))]
     fn is_quiet(&self) -> bool
-        ensures due { IsTrue result
-            → (t : Tuple) (f : Facts) (stamps : Bool) → is_due_now self.now t f stamps ≡ false }
+        ensures due { IsTrue result → (t : Tuple) (f : Facts) → is_due_now self.now t f ≡ false }
         ensures acknowledged { IsTrue result → ack_poll self.now ≡ PollAt.Ingress }
     {
         match (self.state, self.remote_last_ts) {
@@ -170,11 +163,9 @@ impl<'a, G> Socket<'a, G> {
     /// When the socket wants its next `dispatch`, in this context: at once, at a moment, or after the next segment
     /// that it takes. Before that a `dispatch` emits nothing.
     pub fn poll_at<C: Context>(&self, cx: &C) -> PollAt
-        ensures { result
-            ≡ poll_moment self.now.control_block (C.facts cx.now) (is_some self.now.tsval_generator) }
+        ensures { result ≡ poll_moment self.now.control_block (C.facts cx.now) }
     {
-        self.control_block
-            .poll_at(cx, self.tsval_generator.is_some())
+        self.control_block.poll_at(cx)
     }
 }
 

@@ -6,8 +6,8 @@ ghost use Rattle.sock_core.specs.Bounds.{IsMoment};
 ghost use Rattle.sock_tcp.specs.Verdict.{verdict_of};
 ghost use Rattle.sock_tcp.specs.declared.verdict.Verdict.TheVariants.{Pass};
 ghost use Rattle.sock_tcp.specs.View.{moment_of};
+ghost use Rattle.sock_tcp.specs.Arrival.{arrival};
 ghost use Rattle.sock_tcp.specs.Process.{IsToListener, IsAddressed, Opens, Accepts, tuple_of, has_window};
-ghost use Rattle.sock_tcp.specs.Process.{drops_generator};
 ghost use Rattle.sock_tcp.specs.Process.{answered, challenged, close_restarted, outside, bytes_taken};
 ghost use Rattle.sock_tcp.specs.Process.{processed_inside, tested, processed};
 ghost use Rattle.sock_tcp.specs.Draw.{draws, Draws};
@@ -92,7 +92,8 @@ impl<'a> ControlBlock<'a> {
     #[tactic(auto, unfolding(crate::specs::Process::challenged))]
     fn challenge(&mut self, now: Instant) -> Answer
         requires { IsMoment now.micros }
-        ensures { (s : Segment) → answered result self.new s ≡ challenged self.old now s }
+        ensures table { (s : Segment) → answered result self.new s ≡ challenged self.old now s }
+        ensures stamps { self.new.stamps ≡ self.old.stamps }
     {
         if now.micros < self.challenge_ack_timer.micros {
             return Answer::Nothing;
@@ -169,8 +170,8 @@ impl<'a> ControlBlock<'a> {
         requires passed { verdict_of self.old repr.now.control repr.now.ack_number ≡ Pass }
         requires fits { taken.offset + length taken.bytes.now ≤ length self.old.rx_buffer.held }
         ensures table { answered result self.new (segment_of repr.now)
-            ≡ processed_inside self.old now (C.word_at cx.old 0) taken.entry.control taken.entry.offset
-            taken.entry.bytes.now ip_repr.now (segment_of repr.now) }
+            ≡ processed_inside self.old (arrival now (tuple_of ip_repr.now (segment_of repr.now)) (C.word_at cx.old 0)
+            (segment_of repr.now)) taken.entry.control taken.entry.offset taken.entry.bytes.now }
         ensures context { Draws (draws Pass self.old.state taken.entry.control) C.facts C.word_at cx.old cx.new }
     {
         let acked = self.acked_by_passing(repr.control, repr.ack_number);
@@ -196,7 +197,8 @@ impl<'a> ControlBlock<'a> {
         requires passed { verdict_of self.old repr.now.control repr.now.ack_number ≡ Pass }
         requires small { length repr.now.payload.now ≤ 65535 }
         ensures table { answered result self.new (segment_of repr.now)
-            ≡ tested (has_window self.old.state) self.old now (C.word_at cx.old 0) ip_repr.now (segment_of repr.now) }
+            ≡ tested (has_window self.old.state) self.old (arrival now (tuple_of ip_repr.now (segment_of repr.now))
+            (C.word_at cx.old 0) (segment_of repr.now)) }
         ensures context { Draws (draws Pass self.old.state repr.now.control) C.facts C.word_at cx.old cx.new }
     {
         if !self.has_window() {
@@ -238,6 +240,7 @@ impl<'a> ControlBlock<'a> {
             ≡ processed self.old (moment_of (C.facts cx.old)) (C.word_at cx.old 0) ip_repr.now (segment_of repr.now) }
         ensures context { Draws (draws (verdict_of self.old repr.now.control repr.now.ack_number) self.old.state
             repr.now.control) C.facts C.word_at cx.old cx.new }
+        ensures stamps { IsTrue self.new.stamps → IsTrue self.old.stamps }
     {
         let now = cx.now();
         match self.verdict(repr.control, repr.ack_number) {
@@ -245,26 +248,6 @@ impl<'a> ControlBlock<'a> {
             Verdict::Reset => Answer::Rst,
             Verdict::Challenge => self.challenge(now),
             Verdict::Pass => self.process_passed(cx, now, ip_repr, repr),
-        }
-    }
-
-    // Not inlined: few segments are asked.
-    #[inline(never)]
-    fn is_passed(&self, repr: &TcpRepr<'_>) -> bool
-        ensures { IsTrue result ↔ (verdict_of self.now repr.now.control repr.now.ack_number ≡ Pass) }
-    {
-        self.verdict(repr.control, repr.ack_number) == Verdict::Pass
-    }
-
-    // Whether the segment is a SYN whose options are taken, and it has no timestamp.
-    pub(crate) fn drops_generator(&self, repr: &TcpRepr<'_>) -> bool
-        ensures { result ≡ drops_generator self.now (segment_of repr.now) }
-    {
-        match (self.state, repr.control) {
-            (State::Listen | State::SynSent, TcpControl::Syn) if repr.timestamp.is_none() => {
-                self.is_passed(repr)
-            }
-            _ => false,
         }
     }
 }

@@ -71,6 +71,7 @@ impl<'a> ControlBlock<'a> {
     #[tactic(auto, unfolding(crate::specs::Queues::queued))]
     pub(crate) fn send_slice(&mut self, data: &[u8]) -> Result<usize, SendError>
         ensures table { Sends self.old «data».now result self.new }
+        ensures stamps { self.new.stamps ≡ self.old.stamps }
         ensures small { length self.new.tx_buffer.bytes ≤ 2 ^ 30 }
     {
         if !self.may_send() {
@@ -90,6 +91,7 @@ impl<'a> ControlBlock<'a> {
         requires callable { F.IsAlwaysCallable f }
         requires sized { (s : List ℕ) (r : _) (s' : List ℕ) → FnOnceReturnsAtMut F.FnOnce f s r s' → r.0 ≤ length s }
         ensures table { SendsWith (FnOnceReturnsAtMut F.FnOnce f) self.old result self.new }
+        ensures stamps { self.new.stamps ≡ self.old.stamps }
         ensures small { length self.new.tx_buffer.bytes ≤ 2 ^ 30 }
     {
         if !self.may_send() {
@@ -116,7 +118,8 @@ impl<'a> ControlBlock<'a> {
 
     #[tactic(auto, unfolding(crate::specs::Queues::read_off))]
     pub(crate) fn recv_slice(&mut self, data: &mut [u8]) -> Result<usize, RecvError>
-        ensures { Reads self.old «data».old result self.new «data».new }
+        ensures table { Reads self.old «data».old result self.new «data».new }
+        ensures stamps { self.new.stamps ≡ self.old.stamps }
     {
         self.check_recv()?;
         let count = self.rx_buffer.dequeue_slice(data);
@@ -128,7 +131,8 @@ impl<'a> ControlBlock<'a> {
     pub(crate) fn recv<R, F: FnOnce(&[u8]) -> (usize, R)>(&mut self, f: F) -> Result<R, RecvError>
         requires callable { F.IsAlwaysCallable f }
         requires sized { (s : List ℕ) (r : _) → FnOnceReturnsAt F.FnOnce f s r → r.0 ≤ length s }
-        ensures { ReadsWith (FnOnceReturnsAt F.FnOnce f) self.old result self.new }
+        ensures table { ReadsWith (FnOnceReturnsAt F.FnOnce f) self.old result self.new }
+        ensures stamps { self.new.stamps ≡ self.old.stamps }
     {
         self.check_recv()?;
         let (count, result) = self.rx_buffer.dequeue_many_with(f);

@@ -118,6 +118,7 @@ impl<'a> ControlBlock<'a> {
     #[tactic(auto, unfolding(crate::specs::Replies::ack_segment, crate::specs::Replies::ack_kept))]
     pub(crate) fn ack_reply(&mut self, repr: &TcpRepr<'_>) -> TcpRepr<'static>
         ensures view { self.new ≡ ack_kept self.old }
+        ensures stamps { self.new.stamps ≡ self.old.stamps }
         ensures segment { segment_of result ≡ ack_segment self.old (segment_of repr.now) }
         ensures bare { result.payload.now ≡ [] }
     {

@@ -1,16 +1,18 @@
 //! The TCP socket as its users see it.
 ghost use Rattle.std.specs.Prelude.{◌≡◌, ◌≤◌, ◌^◌, ◌+◌, ◌↔◌, ℕ, List, IsTrue, IsOk, is_ok, true, length, option_map};
-ghost use Rattle.std.specs.Prelude.{None};
+ghost use Rattle.std.specs.Prelude.{None, is_some};
 ghost use Rattle.std.specs.Fn.{FnOnceReturnsAt, FnOnceReturnsAtMut};
 ghost use Rattle.control_wire.specs.Segment.{segment_of};
 ghost use Rattle.sock_core.specs.Received.{receiving, room_of};
 ghost use Rattle.sock_tcp.specs.Queue.{queue_of, capacity};
-ghost use Rattle.sock_tcp.specs.View.{fresh, FinSays};
+ghost use Rattle.sock_tcp.specs.View.{fresh, moment_of, FinSays};
 ghost use Rattle.sock_tcp.specs.Opening.{is_listening, is_open, is_active, Listens, Connects};
 ghost use Rattle.sock_tcp.specs.Queues.{may_send, can_send, may_recv, can_recv};
 ghost use Rattle.sock_tcp.specs.Queues.{written, Sends, SendsWith, Writes, Reads, ReadsWith, lent_bytes, Peeks};
 ghost use Rattle.sock_tcp.specs.Queues.{PeeksInto};
-ghost use Rattle.sock_tcp.specs.Process.{Accepts, Processes, generator_after};
+ghost use Rattle.sock_tcp.specs.Draw.{draws, Draws};
+ghost use Rattle.sock_tcp.specs.Process.{Accepts, Processes, answered, processed, source_kept};
+ghost use Rattle.sock_tcp.specs.Verdict.{verdict_of};
 ghost use Rattle.sock_tcp.specs.Replies.{IsReplyStamp};
 
 use crate::control_block::ControlBlock;
@@ -32,11 +34,12 @@ pub type SocketBuffer<'a> = RingBuffer<'a, u8>;
 ///
 /// Contracts speak of its transmission control block. The source of timestamps, `G`, stands beside it: a function
 /// pointer cannot be part of a value that contracts see. It is a parameter so that a struct around a socket can have
-/// such a value.
+/// such a value. There is one exactly where the control block says that segments carry a timestamp.
 #[derive(Debug, Drop)]
 pub struct Socket<'a, G = Generator> {
     pub(crate) control_block: ControlBlock<'a>,
     pub(crate) tsval_generator: Option<G>,
+    pub ghost stamped: { is_some tsval_generator ≡ control_block.stamps },
 }
 
 impl<'a> Socket<'a> {
@@ -64,11 +67,16 @@ impl<'a, G> Socket<'a, G> {
     ) -> Socket<'a, G>
         requires rx { length rx_buffer.queue + length rx_buffer.spare ≤ 2 ^ 30 }
         requires tx { length tx_buffer.queue + length tx_buffer.spare ≤ 2 ^ 30 }
-        ensures control_block { result.control_block ≡ fresh (receiving rx_buffer.entry) (queue_of tx_buffer.entry) }
+        ensures control_block { result.control_block
+            ≡ record (fresh (receiving rx_buffer.entry) (queue_of tx_buffer.entry)) {
+              stamps = is_some tsval_generator;
+            } }
         ensures generator { result.tsval_generator ≡ tsval_generator }
     {
+        let mut control_block = ControlBlock::new(rx_buffer, tx_buffer);
+        control_block.stamps = tsval_generator.is_some();
         Socket {
-            control_block: ControlBlock::new(rx_buffer, tx_buffer),
+            control_block,
             tsval_generator,
         }
     }
@@ -292,7 +300,41 @@ impl<'a, G> Socket<'a, G> {
     }
 }
 
+// The source leaves where segments carry no timestamp.
+#[inline(always)]
+fn keep_source<G: TsvalSource>(source: &mut Option<G>, stamps: bool)
+    ensures { source.new ≡ source_kept stamps source.old }
+{
+    if !stamps {
+        *source = None;
+    }
+}
+
 impl<'a, G: TsvalSource> Socket<'a, G> {
+    // What a segment changes, and how it is answered.
+    #[inline(always)]
+    #[tactic(auto, using(crate::proofs::Stamping::still_stamped))]
+    fn take_segment<C: Context>(
+        &mut self,
+        cx: &mut C,
+        ip_repr: &IpRepr,
+        repr: &TcpRepr<'_>,
+    ) -> Answer
+        requires { length repr.now.payload.now ≤ 65535 }
+        ensures table { answered result self.new.control_block (segment_of repr.now)
+            ≡ processed self.old.control_block (moment_of (C.facts cx.old)) (C.word_at cx.old 0) ip_repr.now
+            (segment_of repr.now) }
+        ensures context { Draws (draws (verdict_of self.old.control_block repr.now.control repr.now.ack_number)
+            self.old.control_block.state repr.now.control) C.facts C.word_at cx.old cx.new }
+        ensures generator { self.new.tsval_generator
+            ≡ source_kept self.new.control_block.stamps self.old.tsval_generator }
+    {
+        let answer = self.control_block.process(cx, ip_repr, repr);
+        let stamps = self.control_block.stamps();
+        keep_source(&mut self.tsval_generator, stamps);
+        answer
+    }
+
     /// Takes a segment that `accepts` holds of, with a payload of at most 65535 bytes, and gives the one that answers
     /// it, if any; that one has no payload (RFC 9293, section 3.10.7).
     ///
@@ -312,12 +354,9 @@ impl<'a, G: TsvalSource> Socket<'a, G> {
             (IsReplyStamp G.tells self.new.tsval_generator repr.now.timestamp) self.old.control_block cx.old
             ip_repr.now (segment_of repr.now) result self.new.control_block cx.new }
         ensures generator { self.new.tsval_generator
-            ≡ generator_after self.old.control_block (segment_of repr.now) self.old.tsval_generator }
+            ≡ source_kept self.new.control_block.stamps self.old.tsval_generator }
     {
-        if self.control_block.drops_generator(repr) {
-            self.tsval_generator = None;
-        }
-        match self.control_block.process(cx, ip_repr, repr) {
+        match self.take_segment(cx, ip_repr, repr) {
             Answer::Nothing => None,
             Answer::Ack => self.reply_by(Answer::Ack, ip_repr, repr),
             Answer::Rst => self.reply_by(Answer::Rst, ip_repr, repr),

@@ -30,6 +30,7 @@ impl<'a> ControlBlock<'a> {
             (State::SynSent, TcpControl::Rst, _) => Verdict::Drop,
             (_, TcpControl::Rst, _) => Verdict::Pass,
             (State::Listen, _, None) => Verdict::Pass,
+            (State::Listen, _, Some(ack)) => self.open_verdict(ack),
             (State::SynSent, TcpControl::Syn, Some(ack)) if ack != next => Verdict::Reset,
             (State::SynSent, TcpControl::Syn, _) => Verdict::Pass,
             (State::SynSent, TcpControl::None, Some(ack)) if ack != next => Verdict::Reset,

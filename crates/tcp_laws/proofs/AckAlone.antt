@@ -1,5 +1,5 @@
 -- A segment that takes no sequence number, and the socket just before it goes out.
-use Rattle.std.proofs.Common.{◌≡◌, ℕ, zero, suc, ◌+◌, ◌-◌, ◌<◌, ◌≤◌, ◌^◌, ◌⊎◌, inl, inr, Bool, true, false, true≢false, refl, sym, ap, subst, ◌∙◌, List, length, drop, min, Option, Some, None, is_none, is_some, arith, length-take, length-drop}
+use Rattle.std.proofs.Common.{◌≡◌, ℕ, zero, suc, ◌+◌, ◌-◌, ◌<◌, ◌≤◌, ◌^◌, ◌⊎◌, inl, inr, Bool, true, false, true≢false, refl, sym, ap, subst, ◌∙◌, List, length, drop, min, Option, Some, None, is_none, arith, length-take, length-drop}
 use Rattle.std.specs.Prelude.{if◌then◌else◌, ◌==◌}
 use Rattle.std.proofs.lemmas.Bool.{eq-eqb}
 use Rattle.std.proofs.lemmas.Option.{none-some, same_Some}
@@ -13,7 +13,7 @@ use Rattle.control_wire.specs.Seq.{seq_add}
 use Rattle.control_wire.specs.Segment.{Segment, control_len, segment_len}
 use Rattle.control_wire.specs.declared.tcp.TcpControl.TheVariants as control
 use Rattle.sock_core.specs.Facts.{Facts, IsLawful}
-use Rattle.sock_tcp.specs.Begin.{last_ts_set, last_ts_set_at, told_ready, readied, retransmission_begun, fast_retransmission_marked, after_timer, after_timers, is_paused, begun, begun_to, unless_paused, ended, by_due, before_emit, before_emit_to}
+use Rattle.sock_tcp.specs.Begin.{last_ts_set, last_ts_set_at, told_ready, readied, retransmission_begun, fast_retransmission_marked, after_timer, after_timers, begun, begun_to, unless_paused, ended, by_due, before_emit, before_emit_to, peer_of}
 use Rattle.sock_tcp.specs.Content.{asked, carries_data, data_control, filled, is_probing, offset_of, plain_segment, size_of, window_left, with_data}
 use Rattle.sock_tcp.specs.Due.{congestion_left, effective_mss, flight, ip_header_len, is_closing, is_due, is_opening, sendable, timestamp_room, window_field}
 use Rattle.sock_tcp.specs.Opening.{renewed}
@@ -75,28 +75,28 @@ readied_knows v now = go v.remote_last_ts refl
     go None e = refl
     go (Some at) e = ap is_none e
 
-module _ (v : View) (f : Facts) (stamps : Bool) (p : Tuple) where
+module _ (v : View) (f : Facts) (p : Tuple) where
   abbrev begins : View
   begins = after_timers (readied v (moment_of f)) (moment_of f)
 
-  due_goes : (b : Bool) (u : View) (t : Tuple) → (by_due b u t f).peer ≡ Some p → (by_due b u t f).view ≡ u
-  due_goes true u t e = refl
-  due_goes false u t e = absurd (none-some p e)
+  due_goes : (b : Bool) (u : View) → peer_of (by_due b u f) ≡ Some p → (by_due b u f).view ≡ u
+  due_goes true u e = refl
+  due_goes false u e = absurd (none-some p e)
 
-  peer_goes : (o : Option Tuple) (u : View) → (before_emit_to o u f stamps).peer ≡ Some p → (before_emit_to o u f stamps).view ≡ u
+  peer_goes : (o : Option Tuple) (u : View) → peer_of (before_emit_to o u f) ≡ Some p → (before_emit_to o u f).view ≡ u
   peer_goes None u e = absurd (none-some p e)
-  peer_goes (Some t) u e = due_goes (is_due u t f stamps) u t e
+  peer_goes (Some t) u e = due_goes (is_due u t f) u e
 
-  begun_goes : (o : Option Tuple) → (before_emit_to (begun_to o v f).peer (begun_to o v f).view f stamps).peer ≡ Some p → (before_emit_to (begun_to o v f).peer (begun_to o v f).view f stamps).view ≡ begins
+  begun_goes : (o : Option Tuple) → peer_of (before_emit_to (peer_of (begun_to o v f)) (begun_to o v f).view f) ≡ Some p → (before_emit_to (peer_of (begun_to o v f)) (begun_to o v f).view f).view ≡ begins
   begun_goes None e = absurd (none-some p e)
   begun_goes (Some t) e = go (f.has_address t.local.addr) e
     where
-      go : (b : Bool) → (before_emit_to (if b then unless_paused begins t else ended (renewed v)).peer (if b then unless_paused begins t else ended (renewed v)).view f stamps).peer ≡ Some p
-          → (before_emit_to (if b then unless_paused begins t else ended (renewed v)).peer (if b then unless_paused begins t else ended (renewed v)).view f stamps).view ≡ begins
-      go true e = peer_goes (if is_paused begins.state begins.synack_paused then None else Some t) begins e
+      go : (b : Bool) → (peer_of (before_emit_to (peer_of (if b then unless_paused begins else ended (renewed v))) (if b then unless_paused begins else ended (renewed v)).view f)) ≡ Some p
+          → (before_emit_to (peer_of (if b then unless_paused begins else ended (renewed v))) (if b then unless_paused begins else ended (renewed v)).view f).view ≡ begins
+      go true e = peer_goes (peer_of (unless_paused begins)) begins e
       go false e = absurd (none-some p e)
 
-  pub goes : (before_emit v f stamps).peer ≡ Some p → (before_emit v f stamps).view ≡ begins
+  pub goes : peer_of (before_emit v f) ≡ Some p → (before_emit v f).view ≡ begins
   unfolding before_emit begun
   goes e = begun_goes v.tuple e
 
@@ -148,8 +148,8 @@ pub record AckOf (u : View) (b : Segment) : Type 0 where
 abbrev pub RstOrAck : View → Segment → Type 0
 RstOrAck u b = ((u.state ≡ state.Closed) × (b.control ≡ control.Rst)) ⊎ AckOf u b
 
-mss_some : (v : View) (t : Tuple) (f : Facts) (stamps : Bool) → 576 ≤ f.mtu → 48 ≤ v.remote_mss → 0 < effective_mss v t f stamps
-mss_some v t f stamps mtu mss = go t.local.addr stamps
+mss_some : (v : View) (t : Tuple) (f : Facts) → 576 ≤ f.mtu → 48 ≤ v.remote_mss → 0 < effective_mss v t f
+mss_some v t f mtu mss = go t.local.addr v.stamps
   where
     room : (h : ℕ) (b : Bool) → h ≤ 40 → 0 < min (f.mtu - h - 20) v.remote_mss - (if b then 12 else 0)
     room h true e = omega (arith, mtu, mss, e)
@@ -165,15 +165,15 @@ fin_len c m n e i = rw (e, i, eq_same n) refl
     eq_same : (k : ℕ) → (k == k) ≡ true
     eq_same k = eq-eqb k k refl
 
-module _ (u : View) (p : Tuple) (f : Facts) (stamp : Option ℕ) (bytes : List ℕ) (o : IsOrdered u) (q : IsProbing u) (lawful : IsLawful f) (lent : IsLent u.tx_buffer (offset_of u) (asked u p f (is_some stamp)) bytes) where
+module _ (u : View) (p : Tuple) (f : Facts) (stamp : Option ℕ) (bytes : List ℕ) (o : IsOrdered u) (q : IsProbing u) (lawful : IsLawful f) (lent : IsLent u.tx_buffer (offset_of u) (asked u p f) bytes) where
   abbrev n : ℕ
   n = length u.tx_buffer.bytes
 
   abbrev plain : Segment
   plain = plain_segment u p stamp
 
-  mss : 0 < effective_mss u p f (is_some stamp)
-  mss = mss_some u p f (is_some stamp) lawful.1.0 q.mss
+  mss : 0 < effective_mss u p f
+  mss = mss_some u p f lawful.1.0 q.mss
 
   short : n ≤ 2 ^ 30
   short = omega (arith, o.room)
@@ -188,22 +188,22 @@ module _ (u : View) (p : Tuple) (f : Facts) (stamp : Option ℕ) (bytes : List �
   unfolding asked
   no_data c within none = by u.pending_fast_retransmit refl
     where
-      size : asked u p f (is_some stamp) ≡ size_of u p f (is_some stamp)
+      size : asked u p f ≡ size_of u p f
       size = rw c refl
 
-      either : (asked u p f (is_some stamp) ≡ 0) ⊎ (n ≤ offset_of u)
-      either = lent_none u.tx_buffer (offset_of u) (asked u p f (is_some stamp)) bytes lent none
+      either : (asked u p f ≡ 0) ⊎ (n ≤ offset_of u)
+      either = lent_none u.tx_buffer (offset_of u) (asked u p f) bytes lent none
 
       by : (b : Bool) → u.pending_fast_retransmit ≡ b → NoData
       by true e = again either
         where
-          whole : asked u p f (is_some stamp) ≡ effective_mss u p f (is_some stamp)
+          whole : asked u p f ≡ effective_mss u p f
           whole = size ∙ rw e refl
 
           start : offset_of u ≡ 0
           start = rw e refl
 
-          again : (asked u p f (is_some stamp) ≡ 0) ⊎ (n ≤ offset_of u) → NoData
+          again : (asked u p f ≡ 0) ⊎ (n ≤ offset_of u) → NoData
           again (inl z) = absurd (omega (arith, z, whole, mss))
           again (inr i) = record { all = omega (arith, i, start); again = λ m. omega (arith, i, start); fin = λ d k. omega (arith, i, start) }
       by false e = ahead either
@@ -214,16 +214,16 @@ module _ (u : View) (p : Tuple) (f : Facts) (stamp : Option ℕ) (bytes : List �
           at_end : u.remote_last_seq.0 ≡ (seq_add u.local_seq_no n).0 → offset_of u ≡ n
           at_end k = omega (arith, start, k, short, o.una_small, o.nxt_small)
 
-          ahead : (asked u p f (is_some stamp) ≡ 0) ⊎ (n ≤ offset_of u) → NoData
+          ahead : (asked u p f ≡ 0) ⊎ (n ≤ offset_of u) → NoData
           ahead (inr i) = record { all = omega (arith, i, start); again = λ m. absurd (true≢false (sym m ∙ e)); fin = λ d k. at_end k }
           ahead (inl z) = probing (is_probing u (moment_of f)) refl
             where
               probing : (b : Bool) → is_probing u (moment_of f) ≡ b → NoData
               probing true i =
-                  let one : asked u p f (is_some stamp) ≡ min 1 (effective_mss u p f (is_some stamp)) = size ∙ rw (i, e) refl in
+                  let one : asked u p f ≡ min 1 (effective_mss u p f) = size ∙ rw (i, e) refl in
                   absurd (omega (arith, one, z, mss))
               probing false i =
-                  let some : asked u p f (is_some stamp) ≡ min (min (window_left u) (effective_mss u p f (is_some stamp))) (congestion_left u) = size ∙ rw (i, e) refl in
+                  let some : asked u p f ≡ min (min (window_left u) (effective_mss u p f)) (congestion_left u) = size ∙ rw (i, e) refl in
                   record { all = omega (arith, some, z, mss); again = λ m. absurd (true≢false (sym m ∙ e)); fin = λ d k. at_end k }
 
   -- of an empty segment of a socket that carries data

@@ -10,7 +10,7 @@ use Rattle.net_base.specs.Ring.{Ring}
 use Rattle.control_wire.specs.Segment.{Segment}
 use Rattle.sock_core.specs.Facts.{Facts}
 use Rattle.sock_core.specs.Received.{Received, TakesIn, byte_at, handed_out, merged, receiving}
-use Rattle.sock_tcp.specs.Begin.{before_emit}
+use Rattle.sock_tcp.specs.Begin.{before_emit, peer_of}
 use Rattle.sock_tcp.specs.Content.{Sending}
 use Rattle.tcp_laws.specs.Laws.{MayTake}
 use Rattle.sock_tcp.specs.Opening.{Listens, after_connect, endpoints, is_listening, is_open}
@@ -186,8 +186,8 @@ closure_held true v w (Err e) h d = absurd h
 closure_held false v w (Ok x) h d = absurd h
 closure_held false v w (Err e) h d = ap (λ (x : View). byte_at x.rx_buffer.held d) h.1
 
-dispatch_rx : (v w : View) (f : Facts) (stamps : Bool) (out : Option Sending) → is_reset v f stamps ≡ false → Dispatched f stamps v out w → w.rx_buffer ≡ v.rx_buffer
-dispatch_rx v w f stamps out e h = (sends_keeps (before_emit v f stamps).peer f stamps (before_emit v f stamps).view out w h).rx ∙ (before_keeps f stamps v e).rx
+dispatch_rx : (v w : View) (f : Facts) (out : Option Sending) → is_reset v f ≡ false → Dispatched f v out w → w.rx_buffer ≡ v.rx_buffer
+dispatch_rx v w f out e h = (sends_keeps (peer_of (before_emit v f)) f (before_emit v f).view out w h).rx ∙ (before_keeps f v e).rx
 
 same_joined : (k j : Counts) → j ≡ k → j.joined ≡ k.joined
 same_joined k j e = ap (λ (c : Counts). c.joined) e
@@ -204,11 +204,11 @@ step_keeps_places v w k j c (RecvSlice bs bs' r h is) b = calm_keeps v w k j (Re
 step_keeps_places v w k j c (Recv r h is) b = calm_keeps v w k j (Recv r h is) refl (record { joined = ap (λ (c : Counts). c.joined) is; held = closure_held (may_recv v) v w r h })
 step_keeps_places v w k j c (Close h is) b = calm_keeps v w k j (Close h is) refl (calm_rx v w k j (same_joined k j is) (ap (λ (x : View). x.rx_buffer) h))
 step_keeps_places v w k j c (Abort h is) b = calm_keeps v w k j (Abort h is) refl (calm_rx v w k j (same_joined k j is) (ap (λ (x : View). x.rx_buffer) h))
-step_keeps_places v w k j c (Set h is) b = calm_keeps v w k j (Set h is) refl (calm_rx v w k j (same_joined k j is) (setting_leaves (λ u. u.rx_buffer ≡ v.rx_buffer) v w (λ x. refl) (λ x. refl) (λ timeout delay nagle hops paused. refl) h))
+step_keeps_places v w k j c (Set h is) b = calm_keeps v w k j (Set h is) refl (calm_rx v w k j (same_joined k j is) (setting_leaves (λ u. u.rx_buffer ≡ v.rx_buffer) v w (λ x. refl) (λ x. refl) (λ timeout delay nagle hops paused is_there. refl) h))
 step_keeps_places v w k j c (Process now word ip s small numbered short bare h is) b =
     let m : MayTake v s w = subst (MayTake v s) (sym h) (only_appends v now word ip s c.room numbered.seq_number short) in
     segment_keeps v w k j (Process now word ip s small numbered short bare h is) s m (no_start (listens_again v.state w.state) w (with_segment k v w) j b is) (λ o bs x. x)
-step_keeps_places v w k j c (Dispatch f stamps out h is) b = calm_keeps v w k j (Dispatch f stamps out h is) refl (calm_rx v w k j (same_joined k j (no_start (is_reset v f stamps) w k j b is)) (dispatch_rx v w f stamps out b h))
+step_keeps_places v w k j c (Dispatch f out h is) b = calm_keeps v w k j (Dispatch f out h is) refl (calm_rx v w k j (same_joined k j (no_start (is_reset v f) w k j b is)) (dispatch_rx v w f out b h))
 
 pub places_stay : (rx tx : Ring ℕ) (v w : View) (k j : Counts) → length rx.queue + length rx.spare ≤ 2 ^ 30 → Run (fresh (receiving rx) (queue_of tx)) (starting (fresh (receiving rx) (queue_of tx))) v k → (s : Step v k w j) → begins v k w j s ≡ false → KeepsPlaces v k w j s
 places_stay rx tx v w k j room r s b = step_keeps_places v w k j (holds_after rx tx v k room r) s b

@@ -1,11 +1,11 @@
 -- The calls with closures in the words of the law on lists of calls.
-use Rattle.std.proofs.Common.{◌≡◌, ℕ, List, Bool, true, false, Option, Some, None, is_some, refl}
+use Rattle.std.proofs.Common.{ℕ, List, Bool, true, false, Option, Some, None, refl}
 use Rattle.std.specs.Prelude.{Result, Ok, Err, is_ok, option_map}
 use Rattle.sock_core.specs.Emission.{Emits}
 use Rattle.sock_core.specs.Facts.{Facts}
-use Rattle.sock_tcp.specs.Begin.{before_emit}
+use Rattle.sock_tcp.specs.Begin.{before_emit, peer_of}
 use Rattle.sock_tcp.specs.Content.{Sending, content}
-use Rattle.sock_tcp.specs.Dispatch.{EmitTcp, packet_in, IsStamp, EmitsTo, Dispatches}
+use Rattle.sock_tcp.specs.Dispatch.{EmitTcp, packet_in, EmitsTo, Dispatches}
 use Rattle.sock_tcp.specs.Outgoing.{packet_of}
 use Rattle.sock_tcp.specs.Queues.{SendsWithIf, SendsWith, ReadsWithIf, ReadsWith, may_send, may_recv}
 use Rattle.tcp_laws.specs.SocketRun.{DispatchesOut, SendsTo, any_filling, answer_of, any_taking, read_answer_of}
@@ -14,31 +14,24 @@ use Rattle.sock_tcp.specs.declared.error.RecvError.{RecvError}
 use Rattle.sock_tcp.specs.declared.error.SendError.{SendError}
 use Rattle.sock_tcp.specs.declared.tuple.Tuple.{Tuple}
 
--- there is a timestamp exactly where there is a clock
-stamp_is : {G : Type 0} (tells : G → ℕ → Type 0) (clock : Option G) (stamp : Option ℕ) → IsStamp tells clock stamp → is_some stamp ≡ is_some clock
-stamp_is tells None None h = refl
-stamp_is tells None (Some n) h = absurd cc
-stamp_is tells (Some g) None h = absurd h
-stamp_is tells (Some g) (Some n) h = refl
-
 module _ {F C E G : Type 0} (g : EmitTcp F C E) (emit : F) (f : Facts) (tells : G → ℕ → Type 0) (clock : Option G) where
   record GoesOut (o : Option Tuple) (u : View) (c : C) (r : Result (Unit {0}) E) (w : View) (c' : C) : Type 0 where
     out : Option Sending
-    socket : SendsTo o f (is_some clock) u out w
+    socket : SendsTo o f u out w
     emits : Emits g packet_of emit (option_map packet_in out) c r c'
 
   goes_out : (o : Option Tuple) (u : View) (c : C) (r : Result (Unit {0}) E) (w : View) (c' : C) → EmitsTo g emit f tells clock o u c r w c' → GoesOut o u c r w c'
   goes_out None u c r w c' h = record { out = None; socket = (refl, h.view); emits = (h.answer, h.context) }
   goes_out (Some t) u c r w c' h = record {
     out = content u t f h.stamp h.emits.bytes;
-    socket = record { stamp = h.stamp; told = stamp_is tells clock h.stamp h.told; bytes = h.emits.bytes; lent = h.emits.lent; ok = is_ok r; sends = refl; view = h.emits.view };
+    socket = record { stamp = h.stamp; told = h.emits.stamped; bytes = h.emits.bytes; lent = h.emits.lent; ok = is_ok r; sends = refl; view = h.emits.view };
     emits = h.emits.emits;
   }
 
-  pub dispatches_out : (v : View) (c : C) (r : Result (Unit {0}) E) (w : View) (c' : C) → Dispatches g emit f tells clock v c r w c' → DispatchesOut g emit f (is_some clock) v c r w c'
+  pub dispatches_out : (v : View) (c : C) (r : Result (Unit {0}) E) (w : View) (c' : C) → Dispatches g emit f tells clock v c r w c' → DispatchesOut g emit f v c r w c'
   unfolding Dispatches
   dispatches_out v c r w c' h =
-      let k = goes_out (before_emit v f (is_some clock)).peer (before_emit v f (is_some clock)).view c r w c' h in
+      let k = goes_out (peer_of (before_emit v f)) (before_emit v f).view c r w c' h in
       record { out = k.out; socket = k.socket; emits = k.emits }
 
 sends_if : {R : Type 0} (called : List ℕ → ℕ × R → List ℕ → Type 0) (may : Bool) (v : View) (r : Result R SendError) (w : View) → SendsWithIf may called v r w → SendsWithIf may any_filling v (answer_of r) w

@@ -70,7 +70,7 @@ delay_comes last most ack_delay.Idle e = tt
 delay_comes last most ack_delay.Immediate e = tt
 delay_comes last most (ack_delay.Waiting at) e = comes at (after last most) e
 
-module _ (v : View) (last : Instant) (most : Duration) (t : Tuple) (f : Facts) (stamps : Bool) (r : IsReachedBy v last most) where
+module _ (v : View) (last : Instant) (most : Duration) (t : Tuple) (f : Facts) (r : IsReachedBy v last most) where
   abbrev by : Instant
   by = after last most
 
@@ -89,10 +89,10 @@ module _ (v : View) (last : Instant) (most : Duration) (t : Tuple) (f : Facts) (
       due : ComesBy (ack_poll v) by
       due = subst (λ b. ComesBy (if b then delay_poll v.ack_delay_timer else poll.Ingress) by) (sym e) (delay_comes last most v.ack_delay_timer timed.waits)
 
-  bounded : ((is_due_now v t f stamps ≡ false) → v.timer ≡ timer.Idle None → ack_due v ≡ true) → ComesBy (poll_moment_to (Some t) v f stamps) by
-  bounded awake = go (is_due_now v t f stamps) refl
+  bounded : ((is_due_now v t f ≡ false) → v.timer ≡ timer.Idle None → ack_due v ≡ true) → ComesBy (poll_moment_to (Some t) v f) by
+  bounded awake = go (is_due_now v t f) refl
     where
-      go : (b : Bool) → is_due_now v t f stamps ≡ b → ComesBy (if b then poll.Now else earlier (timer_poll v.timer) rest) by
+      go : (b : Bool) → is_due_now v t f ≡ b → ComesBy (if b then poll.Now else earlier (timer_poll v.timer) rest) by
       go true e = tt
       go false e = either (timer_comes last most v.timer timed.timer)
         where
@@ -101,17 +101,17 @@ module _ (v : View) (last : Instant) (most : Duration) (t : Tuple) (f : Facts) (
           either (inr h) = by_timer h
 
   -- with a keep-alive interval the timer has a moment
-  kept_awake : (d : Duration) → v.tuple ≡ Some t → v.keep_alive ≡ Some d → is_due_now v t f stamps ≡ false → v.timer ≡ timer.Idle None → ack_due v ≡ true
+  kept_awake : (d : Duration) → v.tuple ≡ Some t → v.keep_alive ≡ Some d → is_due_now v t f ≡ false → v.timer ≡ timer.Idle None → ack_due v ≡ true
   kept_awake d p k e i =
-      let a = or_parts (is_none v.remote_last_ts || is_closed v.state || data_due v t f stamps) (window_doubled v) e in
-      let b = or_parts (is_none v.remote_last_ts || is_closed v.state) (data_due v t f stamps) a.0 in
+      let a = or_parts (is_none v.remote_last_ts || is_closed v.state || data_due v t f) (window_doubled v) e in
+      let b = or_parts (is_none v.remote_last_ts || is_closed v.state) (data_due v t f) a.0 in
       let c = or_parts (is_none v.remote_last_ts) (is_closed v.state) b.0 in
-      absurd (none-some d (sym (no_moment v t f stamps (reached_ordered v (reached_so v last most r)) (record { timer = i; no_data = b.1; not_closed = c.1 }) v.state refl p) ∙ k))
+      absurd (none-some d (sym (no_moment v t f (reached_ordered v (reached_so v last most r)) (record { timer = i; no_data = b.1; not_closed = c.1 }) v.state refl p) ∙ k))
 
 pub wake_up_is_bounded : WakeUpIsBounded
 unfolding poll_moment
-wake_up_is_bounded v last most t f stamps r p awake = subst (λ o. ComesBy (poll_moment_to o v f stamps) (after last most)) (sym p) (bounded v last most t f stamps r (λ e i. awake (ap timer_poll i)))
+wake_up_is_bounded v last most t f r p awake = subst (λ o. ComesBy (poll_moment_to o v f) (after last most)) (sym p) (bounded v last most t f r (λ e i. awake (ap timer_poll i)))
 
 pub keep_alive_is_bounded : KeepAliveIsBounded
 unfolding poll_moment
-keep_alive_is_bounded v last most d t f stamps r p k = subst (λ o. ComesBy (poll_moment_to o v f stamps) (after last most)) (sym p) (bounded v last most t f stamps r (kept_awake v last most t f stamps r d p k))
+keep_alive_is_bounded v last most d t f r p k = subst (λ o. ComesBy (poll_moment_to o v f) (after last most)) (sym p) (bounded v last most t f r (kept_awake v last most t f r d p k))

@@ -5,7 +5,7 @@ use Rattle.std.proofs.lemmas.List.{length-replicate}
 use Rattle.net_base.specs.declared.time.Instant.{Instant}
 use Rattle.sock_core.specs.Facts.{Facts}
 use Rattle.sock_core.specs.Received.{Received, room_of, cleared}
-use Rattle.sock_tcp.specs.Begin.{Begun, ended, readied, retransmission_begun, fast_retransmission_marked, after_timers, unless_paused, begun_to, begun, nothing_due, by_due, before_emit_to, before_emit}
+use Rattle.sock_tcp.specs.Begin.{Begun, ended, readied, retransmission_begun, fast_retransmission_marked, after_timers, unless_paused, begun_to, begun, nothing_due, by_due, before_emit_to, before_emit, peer_of}
 use Rattle.sock_tcp.specs.Content.{Sending}
 use Rattle.sock_tcp.specs.Due.{is_due}
 use Rattle.sock_tcp.specs.Opening.{renewed}
@@ -48,12 +48,12 @@ readied_keeps v now = readied_kept (Keeps v) now (beginnings_keep v now) v (same
 
 -- ---- how the beginning ends: the queues stay, or the socket is reset
 
-module _ (f : Facts) (stamps : Bool) where
+module _ (f : Facts) where
   begun_keeps : (o : Option Tuple) (v : View) → is_address_lost o f ≡ false → Keeps v (begun_to o v f).view
   begun_keeps None v e = same v
   begun_keeps (Some t) v e = go (f.has_address t.local.addr) e
     where
-      go : (b : Bool) → not b ≡ false → Keeps v (if b then unless_paused (after_timers (readied v (moment_of f)) (moment_of f)) t else ended (renewed v)).view
+      go : (b : Bool) → not b ≡ false → Keeps v (if b then unless_paused (after_timers (readied v (moment_of f)) (moment_of f)) else ended (renewed v)).view
       go true e = keeps_both v (readied v (moment_of f)) (after_timers (readied v (moment_of f)) (moment_of f)) (readied_keeps v (moment_of f)) (timers_keep (readied v (moment_of f)) (moment_of f))
       go false e = absurd cc
 
@@ -61,7 +61,7 @@ module _ (f : Facts) (stamps : Bool) where
   begun_resets None v e = absurd cc
   begun_resets (Some t) v e = go (f.has_address t.local.addr) e
     where
-      go : (b : Bool) → not b ≡ true → (if b then unless_paused (after_timers (readied v (moment_of f)) (moment_of f)) t else ended (renewed v)) ≡ ended (renewed v)
+      go : (b : Bool) → not b ≡ true → (if b then unless_paused (after_timers (readied v (moment_of f)) (moment_of f)) else ended (renewed v)) ≡ ended (renewed v)
       go true e = absurd cc
       go false e = refl
 
@@ -81,19 +81,19 @@ module _ (f : Facts) (stamps : Bool) where
       go true e = refl
       go false e = absurd cc
 
-  ends_keeps : (o : Option Tuple) (u : View) → is_wait_over o u f stamps ≡ false → Keeps u (before_emit_to o u f stamps).view
+  ends_keeps : (o : Option Tuple) (u : View) → is_wait_over o u f ≡ false → Keeps u (before_emit_to o u f).view
   ends_keeps None u e = same u
-  ends_keeps (Some t) u e = go (is_due u t f stamps) e
+  ends_keeps (Some t) u e = go (is_due u t f) e
     where
-      go : (b : Bool) → (not b && is_close_over u.timer (moment_of f)) ≡ false → Keeps u (by_due b u t f).view
+      go : (b : Bool) → (not b && is_close_over u.timer (moment_of f)) ≡ false → Keeps u (by_due b u f).view
       go true e = same u
       go false e = nothing_keeps u e
 
-  ends_resets : (o : Option Tuple) (u : View) → is_wait_over o u f stamps ≡ true → before_emit_to o u f stamps ≡ ended (renewed u)
+  ends_resets : (o : Option Tuple) (u : View) → is_wait_over o u f ≡ true → before_emit_to o u f ≡ ended (renewed u)
   ends_resets None u e = absurd cc
-  ends_resets (Some t) u e = go (is_due u t f stamps) e
+  ends_resets (Some t) u e = go (is_due u t f) e
     where
-      go : (b : Bool) → (not b && is_close_over u.timer (moment_of f)) ≡ true → by_due b u t f ≡ ended (renewed u)
+      go : (b : Bool) → (not b && is_close_over u.timer (moment_of f)) ≡ true → by_due b u f ≡ ended (renewed u)
       go true e = absurd cc
       go false e = ap ended (nothing_resets u e)
 
@@ -103,11 +103,11 @@ module _ (f : Facts) (stamps : Bool) where
   neither true b e = absurd cc
   neither false b e = (refl, e)
 
-  pub before_keeps : (v : View) → is_reset v f stamps ≡ false → Keeps v (before_emit v f stamps).view
+  pub before_keeps : (v : View) → is_reset v f ≡ false → Keeps v (before_emit v f).view
   unfolding begun before_emit
   before_keeps v e =
-      let n = neither (is_address_lost v.tuple f) (is_wait_over (begun v f).peer (begun v f).view f stamps) e in
-      keeps_both v (begun v f).view (before_emit v f stamps).view (begun_keeps v.tuple v n.0) (ends_keeps (begun v f).peer (begun v f).view n.1)
+      let n = neither (is_address_lost v.tuple f) (is_wait_over (peer_of (begun v f)) (begun v f).view f) e in
+      keeps_both v (begun v f).view (before_emit v f).view (begun_keeps v.tuple v n.0) (ends_keeps (peer_of (begun v f)) (begun v f).view n.1)
 
   -- a reset of a socket with the same queues, and nobody to emit to
   pub record IsReset (v : View) (b : Begun) : Type 0 where
@@ -119,13 +119,13 @@ module _ (f : Facts) (stamps : Bool) where
   unfolding cleared
   room_cleared b = let h = length-replicate {A = Option ℕ} (room_of b) None in omega (arith, h)
 
-  pub before_resets : (v : View) → is_reset v f stamps ≡ true → IsReset v (before_emit v f stamps)
+  pub before_resets : (v : View) → is_reset v f ≡ true → IsReset v (before_emit v f)
   unfolding begun before_emit
   before_resets v e = go (is_address_lost v.tuple f) refl e
     where
-      go : (a : Bool) → is_address_lost v.tuple f ≡ a → (a || is_wait_over (begun v f).peer (begun v f).view f stamps) ≡ true → IsReset v (before_emit v f stamps)
-      go true a e = let r : begun v f ≡ ended (renewed v) = begun_resets v.tuple v a in record { from = v; kept = refl; is = ap (λ (b : Begun). before_emit_to b.peer b.view f stamps) r }
-      go false a e = record { from = (begun v f).view; kept = ap room_of (begun_keeps v.tuple v a).rx; is = ends_resets (begun v f).peer (begun v f).view e }
+      go : (a : Bool) → is_address_lost v.tuple f ≡ a → (a || is_wait_over (peer_of (begun v f)) (begun v f).view f) ≡ true → IsReset v (before_emit v f)
+      go true a e = let r : begun v f ≡ ended (renewed v) = begun_resets v.tuple v a in record { from = v; kept = refl; is = ap (λ (b : Begun). before_emit_to (peer_of b) b.view f) r }
+      go false a e = record { from = (begun v f).view; kept = ap room_of (begun_keeps v.tuple v a).rx; is = ends_resets (peer_of (begun v f)) (begun v f).view e }
 
 -- ---- what is left behind the emit
 
@@ -138,5 +138,5 @@ sending_keeps v now = record {
   probes = λ w k. record { tx = k.tx; rx = k.rx; una = k.una };
 }
 
-pub sends_keeps : (o : Option Tuple) (f : Facts) (stamps : Bool) (v : View) (out : Option Sending) (w : View) → SendsTo o f stamps v out w → Keeps v w
-sends_keeps o f stamps v out w h = sends_kept (Keeps v) f (sending_keeps v (moment_of f)) o stamps v w out h (same v)
+pub sends_keeps : (o : Option Tuple) (f : Facts) (v : View) (out : Option Sending) (w : View) → SendsTo o f v out w → Keeps v w
+sends_keeps o f v out w h = sends_kept (Keeps v) f (sending_keeps v (moment_of f)) o v w out h (same v)

@@ -8,6 +8,7 @@ use Rattle.control_wire.specs.declared.seq_number.TcpSeqNumber.{TcpSeqNumber}
 use Rattle.control_wire.specs.declared.tcp.TcpControl.{TcpControl}
 use Rattle.control_wire.specs.declared.tcp.TcpControl.TheVariants as control
 use Rattle.sock_core.specs.Received.{Received, received, written, gathered, taken_in, makes_fifth_range, holds_nothing}
+use Rattle.sock_tcp.specs.Arrival.{arrival}
 use Rattle.sock_tcp.specs.View.{View}
 use Rattle.sock_tcp.specs.Verdict.{verdict_of}
 use Rattle.sock_tcp.specs.Window.{receive_window, is_inside, cut_of, cut_bytes}
@@ -140,10 +141,10 @@ module _ (s : Segment) (now : Instant) where
       go true = tt
       go false = away (makes_fifth_range w.rx_buffer o bs)
 
-  pub after_back : (x : Next) (u : View) (a : Acked) (o : ℕ) (bs : List ℕ) → GoesBack s (after_advance x u now a o bs s).reply
-  after_back next.Stop u a o bs = tt
-  after_back next.Challenge u a o bs = challenged_back u
-  after_back next.Continue u a o bs = bytes_back (heard u now a s) o bs
+  pub after_back : (t : Tuple) (word : ℕ) (x : Next) (u : View) (a : Acked) (o : ℕ) (bs : List ℕ) → GoesBack s (after_advance x u (arrival now t word s) a o bs).reply
+  after_back t word next.Stop u a o bs = tt
+  after_back t word next.Challenge u a o bs = challenged_back u
+  after_back t word next.Continue u a o bs = bytes_back (heard u now a s) o bs
 
   -- ---- bytes
 
@@ -170,7 +171,7 @@ module _ (s : Segment) (now : Instant) where
 
   module _ (v : View) (t : Tuple) (word n : ℕ) where
     abbrev row : State → TcpControl → Bool → Advance
-    row st c fin = advance_in st c fin v now t word n s
+    row st c fin = advance_in st c fin v (arrival now t word s) n
 
     rows_keep : KeptByRows (TableKeeps v) now word s
     unfolding fallen_back syn_received syn_answered options_taken fin_counted
@@ -221,10 +222,10 @@ module _ (s : Segment) (now : Instant) where
 
   -- ---- the steps behind the table
 
-  pub after_keeps : (x : Next) (u : View) (a : Acked) (o : ℕ) (bs : List ℕ) → (Keeps u (after_advance x u now a o bs s).view u.rx_buffer) ⊎ (Keeps u (after_advance x u now a o bs s).view (brought u.rx_buffer o bs) × (x ≡ next.Continue))
-  after_keeps next.Stop u a o bs = inl (same u)
-  after_keeps next.Challenge u a o bs = inl (challenged_keeps u)
-  after_keeps next.Continue u a o bs =
+  pub after_keeps : (t : Tuple) (word : ℕ) (x : Next) (u : View) (a : Acked) (o : ℕ) (bs : List ℕ) → (Keeps u (after_advance x u (arrival now t word s) a o bs).view u.rx_buffer) ⊎ (Keeps u (after_advance x u (arrival now t word s) a o bs).view (brought u.rx_buffer o bs) × (x ≡ next.Continue))
+  after_keeps t word next.Stop u a o bs = inl (same u)
+  after_keeps t word next.Challenge u a o bs = inl (challenged_keeps u)
+  after_keeps t word next.Continue u a o bs =
       let h = heard_keeps u a in
       let k = bytes_keep (heard u now a s) o bs in
       inr (record { rx = k.rx ∙ ap (λ b. brought b o bs) h.rx; listen = k.listen ∙ h.listen; tuple = k.tuple ∙ h.tuple; state = k.state ∙ h.state }, refl)
@@ -253,20 +254,20 @@ module _ (v : View) (now : Instant) (word : ℕ) (ip : IpRepr) (s : Segment) whe
 
   -- of a socket u with the same receive buffer
   inside_brings : (u : View) (c : TcpControl) (o : ℕ) (bs : List ℕ) → u.rx_buffer ≡ v.rx_buffer → u.listen_endpoint ≡ v.listen_endpoint → (P : View → Type 0) → ((w : View) → w.listen_endpoint ≡ v.listen_endpoint → (w.rx_buffer ≡ v.rx_buffer) ⊎ (w.rx_buffer ≡ brought v.rx_buffer o bs) → P w)
-      → P (processed_inside u now word c o bs ip s).view
+      → P (processed_inside u (arrival now (tuple_of ip s) word s) c o bs).view
   unfolding processed_inside advanced
   inside_brings u c o bs rx listen P f =
       let a = acked_of u s.control s.ack_number in
-      let t = advance_in u.state c a.fin u now (tuple_of ip s) word a.len s in
+      let t = advance_in u.state c a.fin u (arrival now (tuple_of ip s) word s) a.len in
       let k = table_keeps s now u (tuple_of ip s) word a.len u.state c a.fin in
-      let w = (after_table t now a o bs s).view in
-      go t.view w k (after_keeps s now t.next t.view a o bs)
+      let w = (after_table t (arrival now (tuple_of ip s) word s) a o bs).view in
+      go t.view w k (after_keeps s now (tuple_of ip s) word t.next t.view a o bs)
     where
       go : (x w : View) → TableKeeps u x → {n : Type 0} → (Keeps x w x.rx_buffer) ⊎ (Keeps x w (brought x.rx_buffer o bs) × n) → P w
       go x w k (inl h) = f w (h.listen ∙ k.listen ∙ listen) (inl (h.rx ∙ k.rx ∙ rx))
       go x w k (inr h) = f w (h.0.listen ∙ k.listen ∙ listen) (inr (h.0.rx ∙ ap (λ b. brought b o bs) (k.rx ∙ rx)))
 
-  tested_brings : (b : Bool) → Brings (tested b v now word ip s).view
+  tested_brings : (b : Bool) → Brings (tested b v (arrival now (tuple_of ip s) word s)).view
   tested_brings false = inside_brings v s.control 0 [] refl refl Brings (λ w l r. record { listen = l; rx = inl (alone w r) })
     where
       alone : (w : View) → (w.rx_buffer ≡ v.rx_buffer) ⊎ (w.rx_buffer ≡ brought v.rx_buffer 0 []) → w.rx_buffer ≡ v.rx_buffer
@@ -274,7 +275,7 @@ module _ (v : View) (now : Instant) (word : ℕ) (ip : IpRepr) (s : Segment) whe
       alone w (inr e) = e
   tested_brings true = go (is_inside (receive_window v) s.seq_number (length s.payload)) refl
     where
-      go : (b : Bool) → is_inside (receive_window v) s.seq_number (length s.payload) ≡ b → Brings (if b then cut_inside (receive_window v) (cut_of (receive_window v) s.seq_number (length s.payload)) v now word ip s else outside v now s).view
+      go : (b : Bool) → is_inside (receive_window v) s.seq_number (length s.payload) ≡ b → Brings (if b then cut_inside (receive_window v) (cut_of (receive_window v) s.seq_number (length s.payload)) v (arrival now (tuple_of ip s) word s) else outside v now s).view
       go false e = kept _ (outside_keeps s now v)
       go true e = inside_brings numbered (counted_control s.control (receive_window v) s.seq_number (length s.payload)) offset_in bytes_in refl refl Brings (λ w l r. record { listen = l; rx = there w r })
         where
@@ -282,7 +283,7 @@ module _ (v : View) (now : Instant) (word : ℕ) (ip : IpRepr) (s : Segment) whe
           there w (inl h) = inl h
           there w (inr h) = inr (e, h)
 
-  by_verdict_brings : (x : Verdict) → Brings (by_verdict x v now word ip s).view
+  by_verdict_brings : (x : Verdict) → Brings (by_verdict x v (arrival now (tuple_of ip s) word s)).view
   by_verdict_brings verdicts.Drop = kept v (same v)
   by_verdict_brings verdicts.Reset = kept v (same v)
   by_verdict_brings verdicts.Challenge = kept _ (challenged_keeps s now v)
@@ -294,12 +295,12 @@ module _ (v : View) (now : Instant) (word : ℕ) (ip : IpRepr) (s : Segment) whe
 
   -- ---- the peer
 
-  inside_peers : (u : View) (c : TcpControl) (o : ℕ) (bs : List ℕ) → IsPeered u.state u.tuple (tuple_of ip s) → IsPeered (processed_inside u now word c o bs ip s).view.state (processed_inside u now word c o bs ip s).view.tuple (tuple_of ip s)
+  inside_peers : (u : View) (c : TcpControl) (o : ℕ) (bs : List ℕ) → IsPeered u.state u.tuple (tuple_of ip s) → IsPeered (processed_inside u (arrival now (tuple_of ip s) word s) c o bs).view.state (processed_inside u (arrival now (tuple_of ip s) word s) c o bs).view.tuple (tuple_of ip s)
   unfolding processed_inside advanced
   inside_peers u c o bs p =
       let a = acked_of u s.control s.ack_number in
-      let t = advance_in u.state c a.fin u now (tuple_of ip s) word a.len s in
-      go t.view (after_table t now a o bs s).view (table_peers s now u (tuple_of ip s) word a.len u.state c a.fin refl p) (after_keeps s now t.next t.view a o bs)
+      let t = advance_in u.state c a.fin u (arrival now (tuple_of ip s) word s) a.len in
+      go t.view (after_table t (arrival now (tuple_of ip s) word s) a o bs).view (table_peers s now u (tuple_of ip s) word a.len u.state c a.fin refl p) (after_keeps s now (tuple_of ip s) word t.next t.view a o bs)
     where
       go : (x w : View) → IsPeered x.state x.tuple (tuple_of ip s) → {n : Type 0} → (Keeps x w x.rx_buffer) ⊎ (Keeps x w (brought x.rx_buffer o bs) × n) → IsPeered w.state w.tuple (tuple_of ip s)
       go x w q (inl h) = subst (λ st. IsPeered st w.tuple (tuple_of ip s)) (sym h.state) (subst (λ z. IsPeered x.state z (tuple_of ip s)) (sym h.tuple) q)
@@ -311,15 +312,15 @@ module _ (v : View) (now : Instant) (word : ℕ) (ip : IpRepr) (s : Segment) whe
   kept_peered : (w : View) → Keeps v w v.rx_buffer → Peered v → Peered w
   kept_peered w k q = subst (λ st. IsPeered st w.tuple (tuple_of ip s)) (sym k.state) (subst (λ z. IsPeered v.state z (tuple_of ip s)) (sym k.tuple) q)
 
-  tested_peers : (b : Bool) → Peered v → Peered (tested b v now word ip s).view
+  tested_peers : (b : Bool) → Peered v → Peered (tested b v (arrival now (tuple_of ip s) word s)).view
   tested_peers false p = inside_peers v s.control 0 [] p
   tested_peers true p = go (is_inside (receive_window v) s.seq_number (length s.payload))
     where
-      go : (b : Bool) → Peered (if b then cut_inside (receive_window v) (cut_of (receive_window v) s.seq_number (length s.payload)) v now word ip s else outside v now s).view
+      go : (b : Bool) → Peered (if b then cut_inside (receive_window v) (cut_of (receive_window v) s.seq_number (length s.payload)) v (arrival now (tuple_of ip s) word s) else outside v now s).view
       go false = kept_peered _ (outside_keeps s now v) p
       go true = inside_peers numbered (counted_control s.control (receive_window v) s.seq_number (length s.payload)) offset_in bytes_in p
 
-  by_verdict_peers : (x : Verdict) → Peered v → Peered (by_verdict x v now word ip s).view
+  by_verdict_peers : (x : Verdict) → Peered v → Peered (by_verdict x v (arrival now (tuple_of ip s) word s)).view
   by_verdict_peers verdicts.Drop p = p
   by_verdict_peers verdicts.Reset p = p
   by_verdict_peers verdicts.Challenge p = kept_peered _ (challenged_keeps s now v) p
@@ -331,19 +332,19 @@ module _ (v : View) (now : Instant) (word : ℕ) (ip : IpRepr) (s : Segment) whe
 
   -- ---- the reply
 
-  inside_back : (u : View) (c : TcpControl) (o : ℕ) (bs : List ℕ) → GoesBack s (processed_inside u now word c o bs ip s).reply
+  inside_back : (u : View) (c : TcpControl) (o : ℕ) (bs : List ℕ) → GoesBack s (processed_inside u (arrival now (tuple_of ip s) word s) c o bs).reply
   unfolding processed_inside
-  inside_back u c o bs = after_back s now _ _ _ o bs
+  inside_back u c o bs = after_back s now (tuple_of ip s) word _ _ _ o bs
 
-  tested_back : (b : Bool) → GoesBack s (tested b v now word ip s).reply
+  tested_back : (b : Bool) → GoesBack s (tested b v (arrival now (tuple_of ip s) word s)).reply
   tested_back false = inside_back v s.control 0 []
   tested_back true = go (is_inside (receive_window v) s.seq_number (length s.payload))
     where
-      go : (b : Bool) → GoesBack s (if b then cut_inside (receive_window v) (cut_of (receive_window v) s.seq_number (length s.payload)) v now word ip s else outside v now s).reply
+      go : (b : Bool) → GoesBack s (if b then cut_inside (receive_window v) (cut_of (receive_window v) s.seq_number (length s.payload)) v (arrival now (tuple_of ip s) word s) else outside v now s).reply
       go false = outside_back s now v
       go true = inside_back numbered (counted_control s.control (receive_window v) s.seq_number (length s.payload)) offset_in bytes_in
 
-  by_verdict_back : (x : Verdict) → GoesBack s (by_verdict x v now word ip s).reply
+  by_verdict_back : (x : Verdict) → GoesBack s (by_verdict x v (arrival now (tuple_of ip s) word s)).reply
   by_verdict_back verdicts.Drop = tt
   by_verdict_back verdicts.Reset = (refl, refl)
   by_verdict_back verdicts.Challenge = challenged_back s now v

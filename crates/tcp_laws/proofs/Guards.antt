@@ -41,9 +41,9 @@ second_comes (poll.Time t) (poll.Time u) at h = go (int_le t.micros u.micros) re
 itself : (at : Instant) → ComesBy (poll.Time at) at
 itself at = grind (arith, ints)
 
-module _ (v : View) (t : Tuple) (d : Duration) (f : Facts) (stamps : Bool) where
-  known : (last : Instant) → v.remote_last_ts ≡ Some last → v.timeout ≡ Some d → ComesBy (poll_moment_to (Some t) v f stamps) (after last d)
-  known last e i = go (is_due_now v t f stamps)
+module _ (v : View) (t : Tuple) (d : Duration) (f : Facts) where
+  known : (last : Instant) → v.remote_last_ts ≡ Some last → v.timeout ≡ Some d → ComesBy (poll_moment_to (Some t) v f) (after last d)
+  known last e i = go (is_due_now v t f)
     where
       by_timeout : ComesBy (timeout_poll v.timeout v.remote_last_ts) (after last d)
       by_timeout = rw (e, i) (itself (after last d))
@@ -52,10 +52,10 @@ module _ (v : View) (t : Tuple) (d : Duration) (f : Facts) (stamps : Bool) where
       go true = tt
       go false = second_comes (timer_poll v.timer) (earlier (timeout_poll v.timeout v.remote_last_ts) (ack_poll v)) (after last d) (first_comes (timeout_poll v.timeout v.remote_last_ts) (ack_poll v) (after last d) by_timeout)
 
-  by_last : (o : Option Instant) → v.remote_last_ts ≡ o → v.timeout ≡ Some d → WakesWithin o d (poll_moment_to (Some t) v f stamps)
+  by_last : (o : Option Instant) → v.remote_last_ts ≡ o → v.timeout ≡ Some d → WakesWithin o d (poll_moment_to (Some t) v f)
   by_last None e i = rw e refl
   by_last (Some last) e i = known last e i
 
 pub timeout_wakes : TimeoutWakes
 unfolding poll_moment
-timeout_wakes v t d f stamps p i = subst (λ o. WakesWithin v.remote_last_ts d (poll_moment_to o v f stamps)) (sym p) (by_last v t d f stamps v.remote_last_ts refl i)
+timeout_wakes v t d f p i = subst (λ o. WakesWithin v.remote_last_ts d (poll_moment_to o v f)) (sym p) (by_last v t d f v.remote_last_ts refl i)

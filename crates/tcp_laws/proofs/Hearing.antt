@@ -1,5 +1,5 @@
 -- What a segment tells a socket that waits for its peer.
-use Rattle.std.proofs.Common.{◌≡◌, ℕ, ◌+◌, ◌-◌, ◌<◌, ◌≤◌, ◌^◌, ◌*◌, ◌⊎◌, inl, inr, Bool, true, false, refl, sym, ap, subst, ◌∙◌, List, length, Option, Some, None, arith}
+use Rattle.std.proofs.Common.{◌≡◌, ℕ, ◌+◌, ◌-◌, ◌<◌, ◌≤◌, ◌^◌, ◌*◌, ◌⊎◌, inl, inr, Bool, true, false, refl, sym, ap, subst, ◌∙◌, List, length, Option, Some, arith}
 use Rattle.std.specs.Prelude.{if◌then◌else◌, ◌==◌}
 use Rattle.std.proofs.lemmas.Bool.{and_parts, eqb-true}
 use Rattle.std.proofs.Math.Nat.{mul-pos}
@@ -13,6 +13,7 @@ use Rattle.control_wire.specs.Segment.{Segment}
 use Rattle.control_wire.specs.declared.seq_number.TcpSeqNumber.{TcpSeqNumber}
 use Rattle.control_wire.specs.declared.tcp.TcpControl.{TcpControl}
 use Rattle.control_wire.specs.declared.tcp.TcpControl.TheVariants as control
+use Rattle.sock_tcp.specs.Arrival.{arrival}
 use Rattle.sock_tcp.specs.Acked.{acked_at, acked_of, is_fin_acked}
 use Rattle.sock_tcp.specs.Advance.{advance_in, advanced, counted_control, moved_to, waiting}
 use Rattle.sock_tcp.specs.Due.{flight}
@@ -79,7 +80,7 @@ module _ (now : Instant) (s : Segment) where
     outside_unheard = (outside_kept Unheard now s answers_in_last_ack restarted_unheard v (unheard v, is)).0
 
     -- the rows of LAST-ACK, where nothing is acknowledged
-    row_unheard : (u : View) (c : TcpControl) (t : Tuple) (word : ℕ) (a : Acked) (o : ℕ) (bs : List ℕ) → HeardNothing v u → HeardNothing v (after_table (advance_in state.LastAck c false u now t word 0 s) now a o bs s).view
+    row_unheard : (u : View) (c : TcpControl) (t : Tuple) (word : ℕ) (a : Acked) (o : ℕ) (bs : List ℕ) → HeardNothing v u → HeardNothing v (after_table (advance_in state.LastAck c false u (arrival now t word s) 0) (arrival now t word s) a o bs).view
     row_unheard u control.None t word a o bs h =
         let k = challenged_unheard u in
         record { last = k.last ∙ h.last; timeout = k.timeout ∙ h.timeout; window = k.window ∙ h.window; timer = k.timer ∙ h.timer; queue = k.queue ∙ h.queue; una = k.una ∙ h.una; nxt = k.nxt ∙ h.nxt }
@@ -126,7 +127,7 @@ module _ (v : View) (now : Instant) (word : ℕ) (ip : IpRepr) (s : Segment) whe
   cut = cut_of (receive_window v) s.seq_number (length s.payload)
 
   abbrev inside_as : State → TcpControl → Outcome
-  inside_as st b = after_table (advance_in st b a.fin u now (tuple_of ip s) word a.len s) now a cut.offset (cut_bytes cut s.payload) s
+  inside_as st b = after_table (advance_in st b a.fin u (arrival now (tuple_of ip s) word s) a.len) (arrival now (tuple_of ip s) word s) a cut.offset (cut_bytes cut s.payload)
 
   -- behind the tests of the verdict and of the window
   in_window : verdict_of v s.control s.ack_number ≡ verdicts.Pass → has_window v.state ≡ true → is_inside (receive_window v) s.seq_number (length s.payload) ≡ true → processed v now word ip s ≡ inside_as v.state c
@@ -135,16 +136,16 @@ module _ (v : View) (now : Instant) (word : ℕ) (ip : IpRepr) (s : Segment) whe
 
   -- ---- LAST-ACK
 
-  last_ack_by : v.state ≡ state.LastAck → AcksNothing v s → (b : Bool) → HeardNothing v (if b then processed_inside u now word c cut.offset (cut_bytes cut s.payload) ip s else outside v now s).view
+  last_ack_by : v.state ≡ state.LastAck → AcksNothing v s → (b : Bool) → HeardNothing v (if b then processed_inside u (arrival now (tuple_of ip s) word s) c cut.offset (cut_bytes cut s.payload) else outside v now s).view
   unfolding processed_inside advanced
-  last_ack_by is h true = subst (λ st. HeardNothing v (after_table (advance_in st c a.fin u now (tuple_of ip s) word a.len s) now a cut.offset (cut_bytes cut s.payload) s).view) (sym is) (subst (λ z. HeardNothing v (after_table (advance_in state.LastAck c z u now (tuple_of ip s) word a.len s) now a cut.offset (cut_bytes cut s.payload) s).view) (sym h.fin) (subst (λ n. HeardNothing v (after_table (advance_in state.LastAck c false u now (tuple_of ip s) word n s) now a cut.offset (cut_bytes cut s.payload) s).view) (sym h.bytes) (row_unheard now s v is u c (tuple_of ip s) word a cut.offset (cut_bytes cut s.payload) (record { last = refl; timeout = refl; window = refl; timer = refl; queue = refl; una = refl; nxt = refl }))))
+  last_ack_by is h true = subst (λ st. HeardNothing v (after_table (advance_in st c a.fin u (arrival now (tuple_of ip s) word s) a.len) (arrival now (tuple_of ip s) word s) a cut.offset (cut_bytes cut s.payload)).view) (sym is) (subst (λ z. HeardNothing v (after_table (advance_in state.LastAck c z u (arrival now (tuple_of ip s) word s) a.len) (arrival now (tuple_of ip s) word s) a cut.offset (cut_bytes cut s.payload)).view) (sym h.fin) (subst (λ n. HeardNothing v (after_table (advance_in state.LastAck c false u (arrival now (tuple_of ip s) word s) n) (arrival now (tuple_of ip s) word s) a cut.offset (cut_bytes cut s.payload)).view) (sym h.bytes) (row_unheard now s v is u c (tuple_of ip s) word a cut.offset (cut_bytes cut s.payload) (record { last = refl; timeout = refl; window = refl; timer = refl; queue = refl; una = refl; nxt = refl }))))
   last_ack_by is h false = outside_unheard now s v is
 
-  last_ack : v.state ≡ state.LastAck → AcksNothing v s → (x : Verdict) → HeardNothing v (by_verdict x v now word ip s).view
+  last_ack : v.state ≡ state.LastAck → AcksNothing v s → (x : Verdict) → HeardNothing v (by_verdict x v (arrival now (tuple_of ip s) word s)).view
   last_ack is h verdicts.Drop = unheard v
   last_ack is h verdicts.Reset = unheard v
   last_ack is h verdicts.Challenge = challenged_unheard now s v
-  last_ack is h verdicts.Pass = subst (λ st. HeardNothing v (tested (has_window st) v now word ip s).view) (sym is) (last_ack_by is h (is_inside (receive_window v) s.seq_number (length s.payload)))
+  last_ack is h verdicts.Pass = subst (λ st. HeardNothing v (tested (has_window st) v (arrival now (tuple_of ip s) word s)).view) (sym is) (last_ack_by is h (is_inside (receive_window v) s.seq_number (length s.payload)))
 
   -- ---- the states that hear a window
 
@@ -161,7 +162,7 @@ module _ (v : View) (now : Instant) (word : ℕ) (ip : IpRepr) (s : Segment) whe
   taken_tells : (x : View) → x.remote_win_scale ≡ v.remote_win_scale → Tells (bytes_taken (heard x now a s) now cut.offset (cut_bytes cut s.payload) s)
   taken_tells x e = (bytes_unheard now s (heard x now a s) cut.offset (cut_bytes cut s.payload)).window ∙ heard_window now s x a ∙ ap (window_of s.control s.window_len) e
 
-  row_tells : (st : State) (fin : Bool) → hears_window st ≡ true → Tells (after_table (advance_in st control.None fin u now (tuple_of ip s) word a.len s) now a cut.offset (cut_bytes cut s.payload) s)
+  row_tells : (st : State) (fin : Bool) → hears_window st ≡ true → Tells (after_table (advance_in st control.None fin u (arrival now (tuple_of ip s) word s) a.len) (arrival now (tuple_of ip s) word s) a cut.offset (cut_bytes cut s.payload))
   row_tells state.Established fin h = taken_tells u refl
   row_tells state.CloseWait fin h = taken_tells u refl
   row_tells state.FinWait1 true h = taken_tells (moved_to state.FinWait2 u) refl
@@ -177,7 +178,7 @@ module _ (v : View) (now : Instant) (word : ℕ) (ip : IpRepr) (s : Segment) whe
   Fast x = x.view.timer ≡ timer.FastRetransmit
 
   -- nothing is acknowledged, so no state changes
-  row_fast : (st : State) → hears_window st ≡ true → (heard u now a s).timer ≡ timer.FastRetransmit → Fast (after_table (advance_in st control.None false u now (tuple_of ip s) word a.len s) now a cut.offset (cut_bytes cut s.payload) s)
+  row_fast : (st : State) → hears_window st ≡ true → (heard u now a s).timer ≡ timer.FastRetransmit → Fast (after_table (advance_in st control.None false u (arrival now (tuple_of ip s) word s) a.len) (arrival now (tuple_of ip s) word s) a cut.offset (cut_bytes cut s.payload))
   row_fast state.Established h e = (bytes_unheard now s (heard u now a s) cut.offset (cut_bytes cut s.payload)).timer ∙ e
   row_fast state.CloseWait h e = (bytes_unheard now s (heard u now a s) cut.offset (cut_bytes cut s.payload)).timer ∙ e
   row_fast state.FinWait1 h e = (bytes_unheard now s (heard u now a s) cut.offset (cut_bytes cut s.payload)).timer ∙ e
@@ -199,11 +200,11 @@ unfolding processed
 last_ack_hears_nothing v now word ip s is h = last_ack v now word ip s is h (verdict_of v s.control s.ack_number)
 
 pub window_wakes : WindowWakes
-window_wakes v now word ip s t f stamps r small numbered h z send =
+window_wakes v now word ip s t f r small numbered h z send =
     let w : View = (processed v now word ip s).view in
     let e : w.remote_win_len ≡ window_of s.control s.window_len v.remote_win_scale = tells v now word ip s h in
     let o : IsOrdered w = process_ordered now word ip s small numbered.ack_number v (reached_ordered v r) (λ is. absurd (not_listening v.state h.hears is)) in
-    window_sends w t f stamps o (subst (λ n. 0 < n) (sym e) (some_window s.control s.window_len v.remote_win_scale h.window)) z send
+    window_sends w t f o (subst (λ n. 0 < n) (sym e) (some_window s.control s.window_len v.remote_win_scale h.window)) z send
 
 -- ---- the third duplicate
 

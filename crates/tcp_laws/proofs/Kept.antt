@@ -1,6 +1,6 @@
 -- What each step of a call keeps is kept by any list of calls.
-use Rattle.std.proofs.Common.{◌≡◌, ℕ, zero, suc, ◌≤◌, ◌<◌, ◌^◌, Bool, true, false, true≢false, ◌&&◌, refl, sym, ap, subst, ◌∙◌, List, [], length, ◌+◌, Option, Some, None, Result, Ok, Err, arith}
-use Rattle.std.specs.Prelude.{if◌then◌else◌, ◌==◌, int_lt, pos}
+use Rattle.std.proofs.Common.{◌≡◌, ℕ, zero, suc, ◌≤◌, ◌<◌, ◌^◌, Bool, true, false, true≢false, refl, sym, ap, subst, ◌∙◌, List, length, ◌+◌, Option, Some, None, Result, Ok, Err, arith}
+use Rattle.std.specs.Prelude.{if◌then◌else◌, ◌==◌, pos}
 use Rattle.std.specs.Option.{ForSome}
 use Rattle.std.proofs.lemmas.Bool.{eqb-true}
 use Rattle.ip_wire.specs.declared.endpoint.IpListenEndpoint.{IpListenEndpoint}
@@ -9,35 +9,24 @@ use Rattle.net_base.specs.Ring.{Ring}
 use Rattle.net_base.specs.declared.time.Duration.{Duration}
 use Rattle.net_base.specs.declared.time.Instant.{Instant}
 use Rattle.control_wire.specs.Segment.{Segment}
-use Rattle.control_wire.specs.declared.seq_number.TcpSeqNumber.{TcpSeqNumber}
-use Rattle.control_wire.specs.declared.tcp.TcpControl.{TcpControl}
-use Rattle.control_wire.specs.declared.tcp.TcpControl.TheVariants as control
 use Rattle.sock_core.specs.Congestion.{post_transmitted}
 use Rattle.sock_core.specs.Estimator.{sent}
 use Rattle.sock_core.specs.Facts.{Facts}
-use Rattle.sock_core.specs.Received.{makes_fifth_range, holds_nothing, receiving}
+use Rattle.sock_core.specs.Received.{receiving}
 use Rattle.sock_tcp.proofs.Lending.{free_within}
-use Rattle.sock_tcp.specs.Acked.{acked_of}
-use Rattle.sock_tcp.specs.Advance.{advance_in, advanced, counted_control, dropped, fallen_back, fin_counted, moved_to, syn_answered, syn_received, waiting}
-use Rattle.sock_tcp.specs.Begin.{last_ts_set, last_ts_set_at, told_ready, readied, retransmission_begun, fast_retransmission_marked, after_timer, after_timers, begun, begun_to, unless_paused, ended, nothing_due, by_due, before_emit, before_emit_to}
+pub use Rattle.sock_tcp.proofs.KeptSegments.{acked_view, timer_then, heard_kept, KeptByAnswers, challenged_kept, outside_kept, bytes_kept, KeptByRows, rows_kept, KeptBySegments, process_kept}
+use Rattle.sock_tcp.specs.Begin.{last_ts_set, last_ts_set_at, told_ready, readied, retransmission_begun, fast_retransmission_marked, after_timer, after_timers, begun, begun_to, unless_paused, ended, nothing_due, by_due, before_emit, before_emit_to, peer_of}
 use Rattle.sock_tcp.specs.Closing.{aborted, closed}
 use Rattle.sock_tcp.specs.Content.{Sending}
 use Rattle.sock_tcp.specs.Due.{is_due}
 use Rattle.sock_tcp.specs.Opening.{Listens, after_connect, connected, endpoints, is_listening, is_open, listened, renewed}
 use Rattle.sock_tcp.specs.Polls.{is_reached, timeout_poll}
-use Rattle.sock_tcp.specs.Process.{stopped, ack_sent, challenged, close_restarted, outside_by, outside, gap_answered, bytes_taken, tuple_of, after_advance, processed_inside, has_window, cut_inside, tested, by_verdict, processed}
+use Rattle.sock_tcp.specs.Process.{processed}
 use Rattle.sock_tcp.specs.Queue.{queue_of}
 use Rattle.sock_tcp.specs.Queues.{ReadsWithIf, SendsWithIf, fitting, may_recv, may_send, queued, read_off, readable}
-use Rattle.sock_tcp.specs.Replies.{ack_kept}
 use Rattle.sock_tcp.specs.Sent.{after_any, after_kind, after_probe, after_sending, emitted_as, left_by, sending_timed, snd_nxt_moved}
-use Rattle.sock_tcp.specs.Steps.{ack_delayed, ack_heard, acknowledged, heard, is_duplicate, is_window_changed, joined, released, timer_set, timestamp_taken, window_taken}
-use Rattle.sock_tcp.specs.Timers.{after, challenge_interval, is_close_over, is_over, retransmit_unless_set}
-use Rattle.sock_tcp.specs.Verdict.{verdict_of}
+use Rattle.sock_tcp.specs.Timers.{is_close_over, is_over, retransmit_unless_set}
 use Rattle.sock_tcp.specs.View.{View, fresh, moment_of}
-use Rattle.sock_tcp.specs.Window.{receive_window, is_inside, cut_of}
-use Rattle.sock_tcp.specs.declared.acked.Acked.{Acked}
-use Rattle.sock_tcp.specs.declared.advance.Next.{Next}
-use Rattle.sock_tcp.specs.declared.advance.Next.TheVariants as next
 use Rattle.sock_tcp.specs.declared.emission.Emitted.{Emitted}
 use Rattle.sock_tcp.specs.declared.emission.Kind.{Kind}
 use Rattle.sock_tcp.specs.declared.emission.Kind.TheVariants as kind
@@ -50,8 +39,6 @@ use Rattle.sock_tcp.specs.declared.state.State.TheVariants as state
 use Rattle.sock_tcp.specs.declared.timer.Timer.{Timer}
 use Rattle.sock_tcp.specs.declared.timer.Timer.TheVariants as timer
 use Rattle.sock_tcp.specs.declared.tuple.Tuple.{Tuple}
-use Rattle.sock_tcp.specs.declared.verdict.Verdict.{Verdict}
-use Rattle.sock_tcp.specs.declared.verdict.Verdict.TheVariants as verdicts
 use Rattle.tcp_laws.specs.Clocks.{interval_in, interval_set, latest, moment_in}
 use Rattle.tcp_laws.specs.Polling.{IsReached}
 use Rattle.tcp_laws.specs.SocketRun.{Counts, IsNumbered, Run, SendsTo, Sets, Step, any_filling, any_taking}
@@ -66,157 +53,6 @@ listening_is _ e = absurd cc
 pub not_zero : (n : ℕ) → (n == 0) ≡ false → 0 < n
 not_zero zero e = absurd cc
 not_zero (suc n) e = omega arith
-
--- ---- a segment
-
--- what holds of what is heard of a segment, whether it is a duplicate or not
-module _ (P : View → Type 0) (now : Instant) (s : Segment) (u : View) (a : Acked) where
-  abbrev pub acked_view : View
-  acked_view = released (window_taken u now s.control s.window_len) a.len
-
-  abbrev pub timer_then : View → View
-  timer_then y = timer_set (timestamp_taken y s.timestamp) now a
-
-  pub heard_kept : P (timer_then acked_view) → ((k : TcpSeqNumber) → P (timer_then (ack_heard true acked_view now k a.len))) → ((k : TcpSeqNumber) → P (timer_then (ack_heard false acked_view now k a.len))) → P (heard u now a s)
-  unfolding heard acknowledged
-  heard_kept none duplicate other = by s.ack_number
-    where
-      changed : Bool
-      changed = is_window_changed u s.control s.window_len
-
-      either : (b : Bool) (k : TcpSeqNumber) → P (timer_then (ack_heard b acked_view now k a.len))
-      either true k = duplicate k
-      either false k = other k
-
-      by : (o : Option TcpSeqNumber) → P (timer_then (acknowledged acked_view o now a.len (length s.payload) changed))
-      by None = none
-      by (Some k) = either (is_duplicate acked_view k (length s.payload) changed) k
-
--- P stays where a segment is answered
-pub record KeptByAnswers (P : View → Type 0) : Type 0 where
-  pub challenges : (w : View) (at : Instant) → P w → P (record w { challenge_ack_timer = at })
-  pub acks : (w : View) → P w → P (ack_kept w)
-
-module _ (P : View → Type 0) (now : Instant) (s : Segment) (k : KeptByAnswers P) where
-  pub challenged_kept : (w : View) → P w → P (challenged w now s).view
-  unfolding challenged
-  challenged_kept w h = go (int_lt now.micros w.challenge_ack_timer.micros)
-    where
-      go : (b : Bool) → P (if b then stopped w else ack_sent (record w { challenge_ack_timer = after now challenge_interval }) s).view
-      go true = h
-      go false = k.acks _ (k.challenges w (after now challenge_interval) h)
-
-  -- where TIME-WAIT begins anew
-  pub outside_kept : ((w : View) → P w → P (close_restarted w now)) → (w : View) → P w → P (outside w now s).view
-  unfolding outside
-  outside_kept restarts w h = by s.control
-    where
-      u : View
-      u = close_restarted w now
-
-      bytes_or_none : (b : Bool) → P (if b then challenged u now s else ack_sent u s).view
-      bytes_or_none true = challenged_kept u (restarts w h)
-      bytes_or_none false = k.acks u (restarts w h)
-
-      by : (c : TcpControl) → P (outside_by c (length s.payload) w now s).view
-      by control.Rst = h
-      by control.Syn = challenged_kept u (restarts w h)
-      by control.None = bytes_or_none (length s.payload == 0)
-      by control.Psh = bytes_or_none (length s.payload == 0)
-      by control.Fin = bytes_or_none (length s.payload == 0)
-
-  -- and where its bytes join the queue
-  pub bytes_kept : ((w : View) (o : ℕ) (bs : List ℕ) → P w → P (ack_delayed (joined w o bs) now)) → (w : View) (o : ℕ) (bs : List ℕ) → P w → P (bytes_taken w now o bs s).view
-  unfolding bytes_taken
-  bytes_kept joins w o bs h = go (length bs == 0)
-    where
-      u : View
-      u = ack_delayed (joined w o bs) now
-
-      gap : (b : Bool) → P (if b then stopped u else ack_sent u s).view
-      gap true = joins w o bs h
-      gap false = k.acks u (joins w o bs h)
-
-      away : (b : Bool) → P (if b then stopped w else gap_answered w u s).view
-      away true = h
-      away false = gap (holds_nothing w.rx_buffer.held && holds_nothing u.rx_buffer.held)
-
-      go : (b : Bool) → P (if b then stopped w else (if makes_fifth_range w.rx_buffer o bs then stopped w else gap_answered w u s)).view
-      go true = h
-      go false = away (makes_fifth_range w.rx_buffer o bs)
-
--- by each row of the state table
-pub record KeptByRows (P : View → Type 0) (now : Instant) (word : ℕ) (s : Segment) : Type 0 where
-  pub falls : (v : View) → P v → P (fallen_back v)
-  pub drops : (v : View) → P v → P (dropped v)
-  pub opens : (v : View) (t : Tuple) → P v → P (syn_received v now t word s)
-  pub answers : (v : View) → P v → P (syn_answered v s)
-  pub moves : (v : View) (st : State) → P v → P (moved_to st v)
-  pub counts : (v : View) (st : State) → P v → P (fin_counted st v)
-  pub waits : (v : View) → P v → P (waiting now v)
-
-module _ (P : View → Type 0) (now : Instant) (word : ℕ) (s : Segment) (k : KeptByRows P now word s) (v : View) (t : Tuple) (n : ℕ) (h : P v) where
-  pub rows_kept : (st : State) (c : TcpControl) (fin : Bool) → P (advance_in st c fin v now t word n s).view
-  rows_kept state.SynReceived control.Rst fin = k.falls v h
-  rows_kept _ control.Rst fin = k.drops v h
-  rows_kept state.Listen control.Syn fin = k.opens v t h
-  rows_kept state.SynSent control.Syn fin = k.answers v h
-  rows_kept state.SynReceived control.None fin = k.moves v state.Established h
-  rows_kept state.SynReceived control.Fin fin = k.counts v state.CloseWait h
-  rows_kept state.Established control.None fin = h
-  rows_kept state.Established control.Fin fin = k.counts v state.CloseWait h
-  rows_kept state.FinWait1 control.None true = k.moves v state.FinWait2 h
-  rows_kept state.FinWait1 control.None false = h
-  rows_kept state.FinWait1 control.Fin true = k.waits _ (k.counts v state.TimeWait h)
-  rows_kept state.FinWait1 control.Fin false = k.counts v state.Closing h
-  rows_kept state.FinWait2 control.None fin = h
-  rows_kept state.FinWait2 control.Fin fin = k.waits _ (k.counts v state.TimeWait h)
-  rows_kept state.CloseWait control.None fin = h
-  rows_kept state.Closing control.None true = k.waits v h
-  rows_kept state.Closing control.None false = h
-  rows_kept state.LastAck control.None true = k.drops v h
-  rows_kept state.LastAck control.None false = h
-  rows_kept _ _ fin = h
-
--- and by an acknowledgement and by bytes
-pub record KeptBySegments (P : View → Type 0) (now : Instant) (word : ℕ) (s : Segment) : Type 0 where
-  pub answers : KeptByAnswers P
-  pub restarts : (w : View) → P w → P (close_restarted w now)
-  pub numbers : (v : View) (n : TcpSeqNumber) → P v → P (record v { local_rx_last_seq = Some n })
-  pub rows : KeptByRows P now word s
-  pub joins : (w : View) (o : ℕ) (bs : List ℕ) → P w → P (ack_delayed (joined w o bs) now)
-  pub hears : (u : View) (a : Acked) → P u → P (heard u now a s)
-
-module _ (P : View → Type 0) (now : Instant) (word : ℕ) (ip : IpRepr) (s : Segment) (k : KeptBySegments P now word s) where
-  after_kept : (x : Next) (u : View) (a : Acked) (o : ℕ) (bs : List ℕ) → P u → P (after_advance x u now a o bs s).view
-  after_kept next.Stop u a o bs h = h
-  after_kept next.Challenge u a o bs h = challenged_kept P now s k.answers u h
-  after_kept next.Continue u a o bs h = bytes_kept P now s k.answers k.joins (heard u now a s) o bs (k.hears u a h)
-
-  inside_kept : (u : View) (c : TcpControl) (o : ℕ) (bs : List ℕ) → P u → P (processed_inside u now word c o bs ip s).view
-  unfolding processed_inside advanced
-  inside_kept u c o bs h =
-      let a = acked_of u s.control s.ack_number in
-      let x = advance_in u.state c a.fin u now (tuple_of ip s) word a.len s in
-      after_kept x.next x.view a o bs (rows_kept P now word s k.rows u (tuple_of ip s) a.len h u.state c a.fin)
-
-  tested_kept : (v : View) → P v → (b : Bool) → P (tested b v now word ip s).view
-  tested_kept v h false = inside_kept v s.control 0 [] h
-  tested_kept v h true = go (is_inside (receive_window v) s.seq_number (length s.payload))
-    where
-      go : (b : Bool) → P (if b then cut_inside (receive_window v) (cut_of (receive_window v) s.seq_number (length s.payload)) v now word ip s else outside v now s).view
-      go false = outside_kept P now s k.answers k.restarts v h
-      go true = inside_kept (record v { local_rx_last_seq = Some s.seq_number }) (counted_control s.control (receive_window v) s.seq_number (length s.payload)) _ _ (k.numbers v s.seq_number h)
-
-  pub process_kept : (v : View) → P v → P (processed v now word ip s).view
-  unfolding processed
-  process_kept v h = by (verdict_of v s.control s.ack_number)
-    where
-      by : (x : Verdict) → P (by_verdict x v now word ip s).view
-      by verdicts.Drop = h
-      by verdicts.Reset = h
-      by verdicts.Challenge = challenged_kept P now s k.answers v h
-      by verdicts.Pass = tested_kept v h (has_window v.state)
 
 -- ---- a dispatch
 
@@ -255,7 +91,7 @@ module _ (P : View → Type 0) (now : Instant) (k : KeptByBeginnings P now) wher
       go false = timer_kept v.timer v refl h
 
 -- and by a reset
-module _ (P : View → Type 0) (f : Facts) (stamps : Bool) (k : KeptByBeginnings P (moment_of f)) (resets : (v : View) → P v → P (renewed v)) where
+module _ (P : View → Type 0) (f : Facts) (k : KeptByBeginnings P (moment_of f)) (resets : (v : View) → P v → P (renewed v)) where
   abbrev now : Instant
   now = moment_of f
 
@@ -263,26 +99,26 @@ module _ (P : View → Type 0) (f : Facts) (stamps : Bool) (k : KeptByBeginnings
   begun_kept None v h = h
   begun_kept (Some t) v h = go (f.has_address t.local.addr)
     where
-      go : (b : Bool) → P (if b then unless_paused (after_timers (readied v now) now) t else ended (renewed v)).view
+      go : (b : Bool) → P (if b then unless_paused (after_timers (readied v now) now) else ended (renewed v)).view
       go true = timers_kept P now k (readied v now) (readied_kept P now k v h)
       go false = resets v h
 
-  ends_kept : (o : Option Tuple) (u : View) → P u → P (before_emit_to o u f stamps).view
+  ends_kept : (o : Option Tuple) (u : View) → P u → P (before_emit_to o u f).view
   unfolding nothing_due
   ends_kept None u h = h
-  ends_kept (Some t) u h = go (is_due u t f stamps)
+  ends_kept (Some t) u h = go (is_due u t f)
     where
       over : (b : Bool) → P (if b then renewed u else u)
       over true = resets u h
       over false = h
 
-      go : (b : Bool) → P (by_due b u t f).view
+      go : (b : Bool) → P (by_due b u f).view
       go true = h
       go false = over (is_close_over u.timer now)
 
-  pub before_kept : (v : View) → P v → P (before_emit v f stamps).view
+  pub before_kept : (v : View) → P v → P (before_emit v f).view
   unfolding before_emit begun
-  before_kept v h = ends_kept (begun_to v.tuple v f).peer (begun_to v.tuple v f).view (begun_kept v.tuple v h)
+  before_kept v h = ends_kept (peer_of (begun_to v.tuple v f)) (begun_to v.tuple v f).view (begun_kept v.tuple v h)
 
 -- and by what a segment that goes out leaves, whatever it is
 pub record KeptBySending (P : View → Type 0) (now : Instant) : Type 0 where
@@ -311,9 +147,9 @@ module _ (P : View → Type 0) (now : Instant) (k : KeptBySending P now) where
   left_kept (Some s) true u h = kind_kept s.kind (after_any u now) (emitted_as s.kind s.segment) (k.renews u h)
   left_kept (Some s) false u h = h
 
-pub sends_kept : (P : View → Type 0) (f : Facts) → KeptBySending P (moment_of f) → (o : Option Tuple) (stamps : Bool) (u w : View) (out : Option Sending) → SendsTo o f stamps u out w → P u → P w
-sends_kept P f k None stamps u w out h i = subst P (sym h.1) i
-sends_kept P f k (Some t) stamps u w out h i = subst P (sym h.view) (left_kept P (moment_of f) k out h.ok u i)
+pub sends_kept : (P : View → Type 0) (f : Facts) → KeptBySending P (moment_of f) → (o : Option Tuple) (u w : View) (out : Option Sending) → SendsTo o f u out w → P u → P w
+sends_kept P f k None u w out h i = subst P (sym h.1) i
+sends_kept P f k (Some t) u w out h i = subst P (sym h.view) (left_kept P (moment_of f) k out h.ok u i)
 
 -- ---- the other calls
 
@@ -380,7 +216,7 @@ pub record Kept (P : Instant → View → Type 0) (Begins : Instant → Type 0) 
   pub segments : (now : Instant) (word : ℕ) (ip : IpRepr) (s : Segment) (v : View) → word < 2 ^ 32 → IsNumbered s → (v.state ≡ state.Listen → s.ack_number ≡ None) → P now v → P now (processed v now word ip s).view
   pub beginnings : (now : Instant) → KeptByBeginnings (P now) now
   pub resets : (now : Instant) (v : View) → P now v → P now (renewed v)
-  pub sendings : (o : Option Tuple) (f : Facts) (stamps : Bool) (u w : View) (out : Option Sending) → SendsTo o f stamps u out w → P (moment_of f) u → P (moment_of f) w
+  pub sendings : (o : Option Tuple) (f : Facts) (u w : View) (out : Option Sending) → SendsTo o f u out w → P (moment_of f) u → P (moment_of f) w
 
 module _ (P : Instant → View → Type 0) (Begins : Instant → Type 0) (Comes : Instant → Instant → Type 0) (Allows : Option Duration → Type 0) (k : Kept P Begins Comes Allows) where
   pub step_kept : (v w : View) (i j : Counts) (last : Instant) (s : Step v i w j) → Begins last → ForSome (moment_in s) (Comes last) → Allows (interval_in s) → P last v → P (latest (moment_in s) last) w
@@ -395,9 +231,9 @@ module _ (P : Instant → View → Type 0) (Begins : Instant → Type 0) (Comes 
   step_kept v w i j last (Abort h is) b n m p = subst (P last) (sym h) ((k.calls last b).aborts v p)
   step_kept v w i j last (Set x is) b n m p = (k.calls last b).sets v w x m p
   step_kept v w i j last (Process now word ip s small numbered short bare h is) b n m p = subst (P now) (sym h) (k.segments now word ip s v small numbered bare (k.later last now v (n now refl) p))
-  step_kept v w i j last (Dispatch f stamps out h is) b n m p =
+  step_kept v w i j last (Dispatch f out h is) b n m p =
       let now = moment_of f in
-      k.sendings (before_emit v f stamps).peer f stamps (before_emit v f stamps).view w out h (before_kept (P now) f stamps (k.beginnings now) (k.resets now) v (k.later last now v (n now refl) p))
+      k.sendings (peer_of (before_emit v f)) f (before_emit v f).view w out h (before_kept (P now) f (k.beginnings now) (k.resets now) v (k.later last now v (n now refl) p))
 
 -- and what holds of a socket, whatever the clock says, holds after any list of calls on a new one
 module _ (P : View → Type 0) (k : Kept (λ at. P) (λ at. Unit {0}) (λ last now. Unit {0}) (λ d. Unit {0})) where

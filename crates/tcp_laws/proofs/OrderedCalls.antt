@@ -111,8 +111,8 @@ timers_ordered v now h = timers_kept IsOrdered now (begins_ordered now) v h
 pub readied_ordered : (v : View) (now : Instant) → IsOrdered v → IsOrdered (readied v now)
 readied_ordered v now h = readied_kept IsOrdered now (begins_ordered now) v h
 
-pub before_ordered : (f : Facts) (stamps : Bool) (v : View) → IsOrdered v → IsOrdered (before_emit v f stamps).view
-before_ordered f stamps v h = before_kept IsOrdered f stamps (begins_ordered (moment_of f)) (λ v h. renewed_ordered v h.room) v h
+pub before_ordered : (f : Facts) (v : View) → IsOrdered v → IsOrdered (before_emit v f).view
+before_ordered f v h = before_kept IsOrdered f (begins_ordered (moment_of f)) (λ v h. renewed_ordered v h.room) v h
 
 -- ---- the calls that send
 
@@ -208,7 +208,7 @@ module _ (v w : View) (h : IsOrdered v) where
   setting_ordered = setting_leaves IsOrdered v w
       (λ x. record { una_small = h.una_small; nxt_small = h.nxt_small; room = h.room; congestion = kind_open x; peered = h.peered; row = h.row })
       (λ x. record { una_small = h.una_small; nxt_small = h.nxt_small; room = h.room; congestion = h.congestion; peered = h.peered; row = keep_row v.state x v.timer v.keep_alive _ _ h.row })
-      (λ timeout delay nagle hops paused. h)
+      (λ timeout delay nagle hops paused is_there. h)
 
   -- ---- closing
 
@@ -272,7 +272,7 @@ kept_ordered = record {
   segments = λ now word ip s v small numbered bare h. process_ordered now word ip s small numbered.ack_number v h bare;
   beginnings = λ now. begins_ordered now;
   resets = λ now v h. renewed_ordered v h.room;
-  sendings = λ o f stamps u w out h i. sends_ordered o f stamps u out w h i;
+  sendings = λ o f u w out h i. sends_ordered o f u out w h i;
 }
 
 fresh_ordered : (rx tx : Ring ℕ) → length tx.queue + length tx.spare ≤ 2 ^ 30 → IsOrdered (fresh (receiving rx) (queue_of tx))

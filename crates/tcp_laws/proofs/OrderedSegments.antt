@@ -12,6 +12,7 @@ use Rattle.control_wire.specs.declared.seq_number.TcpSeqNumber.{TcpSeqNumber}
 use Rattle.control_wire.specs.declared.tcp.TcpControl.{TcpControl}
 use Rattle.control_wire.specs.declared.tcp.TcpControl.TheVariants as control
 use Rattle.sock_core.specs.Seq.{is_before, later_of}
+use Rattle.sock_tcp.specs.Arrival.{arrival}
 use Rattle.sock_tcp.specs.Acked.{acked_of, acked_at}
 use Rattle.sock_tcp.specs.Advance.{Advance, advance_in, advanced, continues, counted_control, dropped, fallen_back, fin_counted, moved_to, opened_state, options_taken, syn_answered, syn_received, waiting}
 use Rattle.sock_tcp.specs.Process.{challenged, close_restarted, timer_restarted, outside, bytes_taken, tuple_of, after_table, processed_inside, has_window, cut_inside, tested, by_verdict, processed}
@@ -245,7 +246,7 @@ module _ (s : Segment) (now : Instant) where
     short = omega (arith, h.room)
 
     abbrev After : Advance → Type 0
-    After x = IsOrdered (after_table x now a o bs s).view
+    After x = IsOrdered (after_table x (arrival now t word s) a o bs).view
 
     own : (st : State) → v.state ≡ st → Row st v.timer v.keep_alive flight n
     own st is = subst (λ z. Row z v.timer v.keep_alive flight n) is h.row
@@ -322,7 +323,7 @@ module _ (s : Segment) (now : Instant) where
         hu = record { state = refl; una_small = small; nxt_small = small; room = h.room; congestion = taken_open v.congestion_controller s.max_seg_size h.congestion; peered = refl; covered = covered }
 
     -- with an acknowledgement
-    row_with : (st : State) (c : TcpControl) (fin : Bool) (k : TcpSeqNumber) → s.ack_number ≡ Some k → v.state ≡ st → CoversSome st fin (seq_sub k v.local_seq_no) n a.len → After (advance_in st c fin v now t word a.len s)
+    row_with : (st : State) (c : TcpControl) (fin : Bool) (k : TcpSeqNumber) → s.ack_number ≡ Some k → v.state ≡ st → CoversSome st fin (seq_sub k v.local_seq_no) n a.len → After (advance_in st c fin v (arrival now t word s) a.len)
     unfolding fin_counted
     row_with state.SynReceived control.Rst fin k e is c = fallen (own state.SynReceived is).1
     row_with _ control.Rst fin k e is c = dropped_ordered
@@ -349,7 +350,7 @@ module _ (s : Segment) (now : Instant) where
         by false = let r = own state.LastAck is in moves state.LastAck v k e (hearing state.LastAck v is (peer state.LastAck is) refl refl refl refl) (omega (arith, r.1)) (omega (arith, c.0)) (λ t m z. (m, omega (arith, r.1, c.0, c.1)))
     row_with _ _ fin k e is c = h
 
-    row_without : (st : State) (c : TcpControl) (fin : Bool) → s.ack_number ≡ None → v.state ≡ st → CoversNone st a.len → After (advance_in st c fin v now t word a.len s)
+    row_without : (st : State) (c : TcpControl) (fin : Bool) → s.ack_number ≡ None → v.state ≡ st → CoversNone st a.len → After (advance_in st c fin v (arrival now t word s) a.len)
     row_without state.Listen control.Rst fin e is c = dropped_ordered
     row_without state.Listen control.Syn fin e is c = listens None e fin is c
     row_without state.Listen _ fin e is c = h
@@ -358,12 +359,12 @@ module _ (s : Segment) (now : Instant) where
     row_without state.SynSent _ fin e is c = h
     row_without _ _ fin e is c = absurd c
 
-    pub row_ordered : (st : State) (c : TcpControl) (fin : Bool) (ack : Option TcpSeqNumber) → s.ack_number ≡ ack → v.state ≡ st → Covers st ack v.local_seq_no n fin a.len → After (advance_in st c fin v now t word a.len s)
+    pub row_ordered : (st : State) (c : TcpControl) (fin : Bool) (ack : Option TcpSeqNumber) → s.ack_number ≡ ack → v.state ≡ st → Covers st ack v.local_seq_no n fin a.len → After (advance_in st c fin v (arrival now t word s) a.len)
     row_ordered st c fin None e is cv = row_without st c fin e is cv
     row_ordered st c fin (Some k) e is cv = row_with st c fin k e is cv
 
     -- an RST
-    pub reset_ordered : (st : State) (fin : Bool) → v.state ≡ st → After (advance_in st control.Rst fin v now t word a.len s)
+    pub reset_ordered : (st : State) (fin : Bool) → v.state ≡ st → After (advance_in st control.Rst fin v (arrival now t word s) a.len)
     reset_ordered state.SynReceived fin is = fallen (own state.SynReceived is).1
     reset_ordered _ fin is = dropped_ordered
 
@@ -391,7 +392,7 @@ module _ (now : Instant) (word : ℕ) (ip : IpRepr) (s : Segment) (small : word 
   acked_within v h (Some k) e p = acked_fits s.control v k h.una_small (numbered k e) (omega (arith, h.room)) p
 
   -- of a socket u whose numbers are those of v
-  inside_ordered : (u : View) (c : TcpControl) (o : ℕ) (bs : List ℕ) → IsOrdered u → (u.state ≡ state.Listen → s.ack_number ≡ None) → (s.control ≡ control.Rst → c ≡ control.Rst) → verdict_of u s.control s.ack_number ≡ verdicts.Pass → IsOrdered (processed_inside u now word c o bs ip s).view
+  inside_ordered : (u : View) (c : TcpControl) (o : ℕ) (bs : List ℕ) → IsOrdered u → (u.state ≡ state.Listen → s.ack_number ≡ None) → (s.control ≡ control.Rst → c ≡ control.Rst) → verdict_of u s.control s.ack_number ≡ verdicts.Pass → IsOrdered (processed_inside u (arrival now (tuple_of ip s) word s) c o bs).view
   unfolding processed_inside advanced
   inside_ordered u c o bs h bare rst p = by s.control refl
     where
@@ -401,21 +402,21 @@ module _ (now : Instant) (word : ℕ) (ip : IpRepr) (s : Segment) (small : word 
       within : a.len ≤ length u.tx_buffer.bytes
       within = acked_within u h s.ack_number refl p
 
-      goes : (s.control ≡ control.Rst → ⊥) → IsOrdered (after_table (advance_in u.state c a.fin u now (tuple_of ip s) word a.len s) now a o bs s).view
+      goes : (s.control ≡ control.Rst → ⊥) → IsOrdered (after_table (advance_in u.state c a.fin u (arrival now (tuple_of ip s) word s) a.len) (arrival now (tuple_of ip s) word s) a o bs).view
       goes nr = row_ordered s now u (tuple_of ip s) word a o bs small numbered bare h within u.state c a.fin s.ack_number refl refl (covers u.state s.control s.ack_number u.local_seq_no u.remote_last_seq (length u.tx_buffer.bytes) nr h.una_small numbered (omega (arith, h.room)) p)
 
-      by : (x : TcpControl) → s.control ≡ x → IsOrdered (after_table (advance_in u.state c a.fin u now (tuple_of ip s) word a.len s) now a o bs s).view
-      by control.Rst e = subst (λ z. IsOrdered (after_table (advance_in u.state z a.fin u now (tuple_of ip s) word a.len s) now a o bs s).view) (sym (rst e)) (reset_ordered s now u (tuple_of ip s) word a o bs small numbered bare h within u.state a.fin refl)
+      by : (x : TcpControl) → s.control ≡ x → IsOrdered (after_table (advance_in u.state c a.fin u (arrival now (tuple_of ip s) word s) a.len) (arrival now (tuple_of ip s) word s) a o bs).view
+      by control.Rst e = subst (λ z. IsOrdered (after_table (advance_in u.state z a.fin u (arrival now (tuple_of ip s) word s) a.len) (arrival now (tuple_of ip s) word s) a o bs).view) (sym (rst e)) (reset_ordered s now u (tuple_of ip s) word a o bs small numbered bare h within u.state a.fin refl)
       by control.None e = goes (λ r. absurd (none_not_rst (sym e ∙ r)))
       by control.Psh e = goes (λ r. absurd (psh_not_rst (sym e ∙ r)))
       by control.Syn e = goes (λ r. absurd (syn_not_rst (sym e ∙ r)))
       by control.Fin e = goes (λ r. absurd (fin_not_rst (sym e ∙ r)))
 
-  tested_ordered : (v : View) → IsOrdered v → (v.state ≡ state.Listen → s.ack_number ≡ None) → verdict_of v s.control s.ack_number ≡ verdicts.Pass → (b : Bool) → IsOrdered (tested b v now word ip s).view
+  tested_ordered : (v : View) → IsOrdered v → (v.state ≡ state.Listen → s.ack_number ≡ None) → verdict_of v s.control s.ack_number ≡ verdicts.Pass → (b : Bool) → IsOrdered (tested b v (arrival now (tuple_of ip s) word s)).view
   tested_ordered v h bare p false = inside_ordered v s.control 0 [] h bare (λ e. e) p
   tested_ordered v h bare p true = go (is_inside (receive_window v) s.seq_number (length s.payload))
     where
-      go : (b : Bool) → IsOrdered (if b then cut_inside (receive_window v) (cut_of (receive_window v) s.seq_number (length s.payload)) v now word ip s else outside v now s).view
+      go : (b : Bool) → IsOrdered (if b then cut_inside (receive_window v) (cut_of (receive_window v) s.seq_number (length s.payload)) v (arrival now (tuple_of ip s) word s) else outside v now s).view
       go false = outside_kept IsOrdered now s (answers_ordered s now) (λ w h. restarted_ordered s now w h) v h
       go true = inside_ordered (record v { local_rx_last_seq = Some s.seq_number }) (counted_control s.control (receive_window v) s.seq_number (length s.payload)) _ _ h bare (λ e. rst_counts _ e (receive_window v) s.seq_number (length s.payload)) p
 
@@ -423,7 +424,7 @@ module _ (now : Instant) (word : ℕ) (ip : IpRepr) (s : Segment) (small : word 
   unfolding processed
   process_ordered v h bare = by (verdict_of v s.control s.ack_number) refl
     where
-      by : (x : Verdict) → verdict_of v s.control s.ack_number ≡ x → IsOrdered (by_verdict x v now word ip s).view
+      by : (x : Verdict) → verdict_of v s.control s.ack_number ≡ x → IsOrdered (by_verdict x v (arrival now (tuple_of ip s) word s)).view
       by verdicts.Drop e = h
       by verdicts.Reset e = h
       by verdicts.Challenge e = challenged_ordered s now v h

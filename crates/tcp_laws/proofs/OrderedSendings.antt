@@ -277,10 +277,10 @@ module _ (u : View) (now : Instant) (h : IsOrdered u) where
   left_ordered t f (Some s) false ends = h
   left_ordered t f (Some s) true ends = sent_ordered (emission_kind u (moment_of f) s) s ends
 
-pub sends_ordered : (o : Option Tuple) (f : Facts) (stamps : Bool) (u : View) (out : Option Sending) (w : View) → SendsTo o f stamps u out w → IsOrdered u → IsOrdered w
+pub sends_ordered : (o : Option Tuple) (f : Facts) (u : View) (out : Option Sending) (w : View) → SendsTo o f u out w → IsOrdered u → IsOrdered w
 unfolding content
-sends_ordered None f stamps u out w h i = subst IsOrdered (sym h.1) i
-sends_ordered (Some t) f stamps u out w h i =
+sends_ordered None f u out w h i = subst IsOrdered (sym h.1) i
+sends_ordered (Some t) f u out w h i =
     let fits : length h.bytes ≤ length u.tx_buffer.bytes - offset_of u = omega (arith, lent_at_most u.tx_buffer (offset_of u) _ h.bytes h.lent) in
     let left = left_ordered u (moment_of f) i t f (filled u.state u t f h.bytes (plain_segment u t h.stamp)) h.ok (filled_ends u.state u t f h.stamp h.bytes refl i fits) in
     subst IsOrdered (sym h.view) (subst (λ x. IsOrdered (left_by x u (moment_of f) h.ok)) (sym h.sends) left)

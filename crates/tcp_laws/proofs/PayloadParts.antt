@@ -1,5 +1,5 @@
 -- The payload of a segment stands at its number.
-use Rattle.std.proofs.Common.{◌≡◌, ℕ, ◌+◌, ◌<◌, ◌^◌, ◌⊎◌, inl, inr, List, [], Bool, true, false, Option, Some, None, is_some, refl, sym, subst, ◌∙◌, ap, drop, take, length, arith}
+use Rattle.std.proofs.Common.{◌≡◌, ℕ, ◌+◌, ◌<◌, ◌^◌, ◌⊎◌, inl, inr, List, [], Bool, true, false, Option, Some, None, refl, sym, subst, ◌∙◌, ap, drop, take, length, arith}
 use Rattle.std.specs.Prelude.{option_map, if◌then◌else◌}
 use Rattle.std.proofs.lemmas.List.{drop-drop}
 use Rattle.std.proofs.lemmas.Option.{none-some, same_Some}
@@ -73,6 +73,6 @@ part_is k v u n bytes s e same small lent (inr d) =
     subst (λ p. p ≡ take (length p) (drop (k.released + seq_sub s.seq_number v.local_seq_no) k.sent)) (sym d.0) (lent_beginning u.tx_buffer (offset_of u) n bytes lent ∙ ap (take (length bytes)) rest)
 
 -- u is the socket before the emit
-pub sends_part : (o : Option Tuple) (f : Facts) (stamps : Bool) (k : Counts) (v u w : View) (out : Sending) → v.tx_buffer.bytes ≡ drop k.released k.sent → Keeps v u → v.local_seq_no.0 < 2 ^ 32 → SendsTo o f stamps u (Some out) w → (out.kind ≡ kind.KeepAlive → ⊥) → IsPart k (seq_sub out.segment.seq_number v.local_seq_no) out.segment.payload
-sends_part None f stamps k v u w out e same small h n = absurd (none-some out (sym h.0))
-sends_part (Some t) f stamps k v u w out e same small h n = part_is k v u (asked u t f (is_some h.stamp)) h.bytes out.segment e same small h.lent (content_is u t f h.stamp h.bytes out (sym h.sends) n)
+pub sends_part : (o : Option Tuple) (f : Facts) (k : Counts) (v u w : View) (out : Sending) → v.tx_buffer.bytes ≡ drop k.released k.sent → Keeps v u → v.local_seq_no.0 < 2 ^ 32 → SendsTo o f u (Some out) w → (out.kind ≡ kind.KeepAlive → ⊥) → IsPart k (seq_sub out.segment.seq_number v.local_seq_no) out.segment.payload
+sends_part None f k v u w out e same small h n = absurd (none-some out (sym h.0))
+sends_part (Some t) f k v u w out e same small h n = part_is k v u (asked u t f) h.bytes out.segment e same small h.lent (content_is u t f h.stamp h.bytes out (sym h.sends) n)

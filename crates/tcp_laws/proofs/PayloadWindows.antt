@@ -1,5 +1,5 @@
 -- A payload keeps to the peer's window and to the controller's.
-use Rattle.std.proofs.Common.{◌≡◌, ℕ, ◌+◌, ◌<◌, ◌≤◌, List, Bool, true, false, Option, Some, None, is_some, refl, sym, ◌∙◌, ap, length, min, arith}
+use Rattle.std.proofs.Common.{◌≡◌, ℕ, ◌+◌, ◌<◌, ◌≤◌, List, Bool, true, false, Option, Some, None, refl, sym, ◌∙◌, ap, length, min, arith}
 use Rattle.std.specs.Prelude.{option_map, if◌then◌else◌}
 use Rattle.std.proofs.lemmas.Option.{none-some, same_Some}
 use Rattle.sock_core.specs.Facts.{Facts}
@@ -26,9 +26,9 @@ or_none true n k h = h
 or_none false n k h = omega arith
 
 -- what is asked for where nothing is sent again, nor probed
-asked_at_most : (v : View) (t : Tuple) (f : Facts) (stamps : Bool) → v.pending_fast_retransmit ≡ false → is_probing v (moment_of f) ≡ false → asked v t f stamps ≤ min (window_left v) (congestion_left v)
+asked_at_most : (v : View) (t : Tuple) (f : Facts) → v.pending_fast_retransmit ≡ false → is_probing v (moment_of f) ≡ false → asked v t f ≤ min (window_left v) (congestion_left v)
 unfolding asked
-asked_at_most v t f stamps e p = or_none (carries_data v.state) (size_of v t f stamps) (min (window_left v) (congestion_left v)) (neither v.pending_fast_retransmit (is_probing v (moment_of f)) (effective_mss v t f stamps) (window_left v) (congestion_left v) e p)
+asked_at_most v t f e p = or_none (carries_data v.state) (size_of v t f) (min (window_left v) (congestion_left v)) (neither v.pending_fast_retransmit (is_probing v (moment_of f)) (effective_mss v t f) (window_left v) (congestion_left v) e p)
 
 abbrev pub len_in : Option Segment → ℕ
 len_in None = 0
@@ -51,20 +51,20 @@ no_probe : (b : Bool) (k : Kind) → (if b then kind.Probe else k) ≡ kind.Plai
 no_probe true k e = absurd cc
 no_probe false k e = refl
 
-of_filled : (o : Option Segment) (v : View) (t : Tuple) (f : Facts) (stamps : Bool) (bytes : List ℕ) (s : Sending) → len_in o ≤ length bytes → IsLent v.tx_buffer (offset_of v) (asked v t f stamps) bytes → option_map (λ s. sent_as v t (emission_kind v (moment_of f) s) s) o ≡ Some s → s.kind ≡ kind.Plain → v.pending_fast_retransmit ≡ false → 0 < length s.segment.payload → (flight v + length s.segment.payload ≤ v.remote_win_len) × (length s.segment.payload ≤ congestion_left v)
-of_filled None v t f stamps bytes s h lent e k fast some = absurd (none-some s e)
-of_filled (Some u) v t f stamps bytes s h lent e k fast some =
+of_filled : (o : Option Segment) (v : View) (t : Tuple) (f : Facts) (bytes : List ℕ) (s : Sending) → len_in o ≤ length bytes → IsLent v.tx_buffer (offset_of v) (asked v t f) bytes → option_map (λ s. sent_as v t (emission_kind v (moment_of f) s) s) o ≡ Some s → s.kind ≡ kind.Plain → v.pending_fast_retransmit ≡ false → 0 < length s.segment.payload → (flight v + length s.segment.payload ≤ v.remote_win_len) × (length s.segment.payload ≤ congestion_left v)
+of_filled None v t f bytes s h lent e k fast some = absurd (none-some s e)
+of_filled (Some u) v t f bytes s h lent e k fast some =
     let q : sent_as v t (emission_kind v (moment_of f) u) u ≡ s = same_Some (sent_as v t (emission_kind v (moment_of f) u) u) s e in
     let j : emission_kind v (moment_of f) u ≡ kind.Plain = ap (λ (x : Sending). x.kind) q ∙ k in
     let p : is_probing v (moment_of f) ≡ false = no_probe (is_probing v (moment_of f)) _ j in
     let m : length (of_kind (emission_kind v (moment_of f) u) v u).payload ≡ length u.payload = ap (λ (k : Kind). length (of_kind k v u).payload) j in
     let l : length s.segment.payload ≡ length u.payload = ap (λ (x : Sending). length x.segment.payload) (sym q) ∙ m in
-    let a : asked v t f stamps ≤ min (window_left v) (congestion_left v) = asked_at_most v t f stamps fast p in
-    let b : length bytes ≤ asked v t f stamps = omega (arith, lent_at_most v.tx_buffer (offset_of v) (asked v t f stamps) bytes lent) in
+    let a : asked v t f ≤ min (window_left v) (congestion_left v) = asked_at_most v t f fast p in
+    let b : length bytes ≤ asked v t f = omega (arith, lent_at_most v.tx_buffer (offset_of v) (asked v t f) bytes lent) in
     let n : length s.segment.payload ≤ min (window_left v) (congestion_left v) = omega (arith, l, h, a, b) in
     (omega (arith, n, some), omega (arith, n))
 
 pub payload_keeps_to_windows : PayloadKeepsToWindows
 unfolding content
 payload_keeps_to_windows v t f stamp bytes s lent e k fast some =
-    of_filled (filled v.state v t f bytes (plain_segment v t stamp)) v t f (is_some stamp) bytes s (payload_of v.state v t f bytes (plain_segment v t stamp) (plain_is_empty_segment v t stamp)) lent e k fast some
+    of_filled (filled v.state v t f bytes (plain_segment v t stamp)) v t f bytes s (payload_of v.state v t f bytes (plain_segment v t stamp) (plain_is_empty_segment v t stamp)) lent e k fast some

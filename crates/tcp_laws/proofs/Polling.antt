@@ -1,5 +1,6 @@
 -- Where `poll_at` answers later than now, a dispatch at now emits nothing.
-use Rattle.std.proofs.Common.{◌≡◌, Bool, true, false, Option, Some, None, is_none, refl, ap, ◌∙◌, arith}
+use Rattle.std.proofs.Common.{◌≡◌, Bool, true, false, not, Option, Some, None, is_none, refl, sym, ap, subst, ◌∙◌, arith}
+use Rattle.std.proofs.lemmas.Option.{same_Some}
 use Rattle.std.specs.Prelude.{◌||◌, if◌then◌else◌, int_le, ◌<ℤ◌}
 use Rattle.std.proofs.lemmas.Bool.{or_parts}
 use Rattle.std.proofs.lemmas.Int.{ints}
@@ -10,7 +11,7 @@ use Rattle.sock_core.specs.declared.context.PollAt.TheVariants as poll
 use Rattle.sock_core.specs.Congestion.{pre_transmitted, reno_pre_transmit}
 use Rattle.sock_core.specs.declared.congestion.AnyController.{AnyController}
 use Rattle.sock_core.specs.declared.congestion.AnyController.TheVariants as controller
-use Rattle.sock_tcp.specs.Begin.{last_ts_set, last_ts_set_at, told_ready, readied, after_timer, after_timers, is_paused, begun, begun_to, unless_paused, ended, before_emit, before_emit_to}
+use Rattle.sock_tcp.specs.Begin.{last_ts_set, last_ts_set_at, told_ready, readied, after_timer, after_timers, is_paused, begun, begun_to, unless_paused, ended, before_emit, before_emit_to, peer_of}
 use Rattle.sock_tcp.specs.Due.{data_due, ack_poll, window_doubled, is_closed, is_due}
 use Rattle.sock_tcp.specs.Opening.{renewed}
 use Rattle.sock_tcp.specs.Poll.{is_due_now, poll_moment_to, poll_moment}
@@ -95,29 +96,30 @@ past_guard : (b : Bool) (p : PollAt) (now : Instant) → IsLater (if b then poll
 past_guard true p now h = absurd h
 past_guard false p now h = (refl, h)
 
-by_pause : (b : Bool) (v : View) (t : Tuple) (f : Facts) (stamps : Bool) → is_due v t f stamps ≡ false → (before_emit_to (if b then None else Some t) v f stamps).peer ≡ None
-by_pause true v t f stamps d = refl
-by_pause false v t f stamps d = rw d refl
+by_pause : (b : Bool) (o : Option Tuple) (v : View) (f : Facts) → ((t : Tuple) → o ≡ Some t → is_due v t f ≡ false) → peer_of (before_emit_to (if not b then o else None) v f) ≡ None
+by_pause true o v f d = refl
+by_pause false None v f d = refl
+by_pause false (Some t) v f d = rw (d t refl) refl
 
-by_address : (b : Bool) (v : View) (t : Tuple) (f : Facts) (stamps : Bool) → is_due v t f stamps ≡ false → (before_emit_to (if b then unless_paused v t else ended (renewed v)).peer (if b then unless_paused v t else ended (renewed v)).view f stamps).peer ≡ None
-by_address true v t f stamps d = by_pause (is_paused v.state v.synack_paused) v t f stamps d
-by_address false v t f stamps d = refl
+by_address : (b : Bool) (v : View) (f : Facts) → ((t : Tuple) → v.tuple ≡ Some t → is_due v t f ≡ false) → peer_of (before_emit_to (peer_of (if b then unless_paused v else ended (renewed v))) (if b then unless_paused v else ended (renewed v)).view f) ≡ None
+by_address true v f d = by_pause (is_paused v.state v.synack_paused) v.tuple v f d
+by_address false v f d = refl
 
-not_due : (v : View) (t : Tuple) (f : Facts) (stamps : Bool) → data_due v t f stamps ≡ false → IsLater (ack_poll v) (moment_of f) → window_doubled v ≡ false → is_closed v.state ≡ false → IsLater (timer_poll v.timer) (moment_of f) → is_due v t f stamps ≡ false
+not_due : (v : View) (t : Tuple) (f : Facts) → data_due v t f ≡ false → IsLater (ack_poll v) (moment_of f) → window_doubled v ≡ false → is_closed v.state ≡ false → IsLater (timer_poll v.timer) (moment_of f) → is_due v t f ≡ false
 unfolding is_due
-not_due v t f stamps d a w c m = rw (d, not_reached (ack_poll v) (moment_of f) a, w, c, no_keep_alive v.timer (moment_of f) m, no_probe v.timer (moment_of f) m) refl
+not_due v t f d a w c m = rw (d, not_reached (ack_poll v) (moment_of f) a, w, c, no_keep_alive v.timer (moment_of f) m, no_probe v.timer (moment_of f) m) refl
 
-nothing : (o : Option Tuple) (v : View) (f : Facts) (stamps : Bool) → IsLater (poll_moment_to o v f stamps) (moment_of f) → (before_emit_to (begun_to o v f).peer (begun_to o v f).view f stamps).peer ≡ None
-nothing None v f stamps h = refl
-nothing (Some t) v f stamps h =
-    let g = past_guard (is_due_now v t f stamps) (earlier (timer_poll v.timer) (earlier (timeout_poll v.timeout v.remote_last_ts) (ack_poll v))) (moment_of f) h in
+nothing : (o : Option Tuple) (v : View) (f : Facts) → v.tuple ≡ o → IsLater (poll_moment_to o v f) (moment_of f) → peer_of (before_emit_to (peer_of (begun_to o v f)) (begun_to o v f).view f) ≡ None
+nothing None v f p h = refl
+nothing (Some t) v f p h =
+    let g = past_guard (is_due_now v t f) (earlier (timer_poll v.timer) (earlier (timeout_poll v.timeout v.remote_last_ts) (ack_poll v))) (moment_of f) h in
     let e = both_later (timer_poll v.timer) (earlier (timeout_poll v.timeout v.remote_last_ts) (ack_poll v)) (moment_of f) g.1 in
     let l = both_later (timeout_poll v.timeout v.remote_last_ts) (ack_poll v) (moment_of f) e.1 in
-    let a = or_parts (is_none v.remote_last_ts || is_closed v.state || data_due v t f stamps) (window_doubled v) g.0 in
-    let b = or_parts (is_none v.remote_last_ts || is_closed v.state) (data_due v t f stamps) a.0 in
+    let a = or_parts (is_none v.remote_last_ts || is_closed v.state || data_due v t f) (window_doubled v) g.0 in
+    let b = or_parts (is_none v.remote_last_ts || is_closed v.state) (data_due v t f) a.0 in
     let c = or_parts (is_none v.remote_last_ts) (is_closed v.state) b.0 in
-    rw (same_begun v (moment_of f) c.0 e.0 l.0) (by_address (f.has_address t.local.addr) v t f stamps (not_due v t f stamps b.1 l.1 a.1 c.1 e.0))
+    rw (same_begun v (moment_of f) c.0 e.0 l.0) (by_address (f.has_address t.local.addr) v f (λ x k. subst (λ x. is_due v x f ≡ false) (same_Some t x (sym p ∙ k)) (not_due v t f b.1 l.1 a.1 c.1 e.0)))
 
 pub poll_hides_nothing : PollHidesNothing
 unfolding poll_moment begun before_emit
-poll_hides_nothing v f stamps h = nothing v.tuple v f stamps h
+poll_hides_nothing v f h = nothing v.tuple v f refl h

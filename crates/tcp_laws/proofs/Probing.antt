@@ -198,7 +198,7 @@ module _ (v w : View) (h : IsProbing v) where
       number f = same_number (f w) (f v) (λ d. n (λ e. d (ap f e)))
 
   setting_probing : Sets v w → IsProbing w
-  setting_probing = setting_leaves IsProbing v w (λ x. h) (λ x. record { window = kept_probes x v.timer v.remote_win_len h.window; mss = h.mss }) (λ timeout delay nagle hops paused. h)
+  setting_probing = setting_leaves IsProbing v w (λ x. h) (λ x. record { window = kept_probes x v.timer v.remote_win_len h.window; mss = h.mss }) (λ timeout delay nagle hops paused is_there. h)
 
 calls_probing : KeptByCalls IsProbing (λ d. Unit {0})
 unfolding read_off connected listened
@@ -222,11 +222,11 @@ kept_probing = record {
   segments = λ now word ip s v small numbered bare h. process_kept IsProbing now word ip s (segments_probing s now word) v h;
   beginnings = λ now. begins_probing now;
   resets = λ now v h. new_probing v;
-  sendings = λ o f stamps u w out h i. sends_kept IsProbing f (sends_probing (moment_of f)) o stamps u w out h i;
+  sendings = λ o f u w out h i. sends_kept IsProbing f (sends_probing (moment_of f)) o u w out h i;
 }
 
-pub before_probing : (f : Facts) (stamps : Bool) (v : View) → IsProbing v → IsProbing (before_emit v f stamps).view
-before_probing f stamps v h = before_kept IsProbing f stamps (begins_probing (moment_of f)) (λ v h. new_probing v) v h
+pub before_probing : (f : Facts) (v : View) → IsProbing v → IsProbing (before_emit v f).view
+before_probing f v h = before_kept IsProbing f (begins_probing (moment_of f)) (λ v h. new_probing v) v h
 
 pub reached_probing : (v : View) → IsReached v → IsProbing v
 unfolding fresh

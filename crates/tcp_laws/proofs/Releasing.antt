@@ -7,6 +7,7 @@ use Rattle.net_base.specs.declared.time.Instant.{Instant}
 use Rattle.control_wire.specs.Segment.{Segment}
 use Rattle.control_wire.specs.declared.seq_number.TcpSeqNumber.{TcpSeqNumber}
 use Rattle.control_wire.specs.declared.tcp.TcpControl.{TcpControl}
+use Rattle.sock_tcp.specs.Arrival.{arrival}
 use Rattle.sock_tcp.specs.Queue.{Queue}
 use Rattle.sock_tcp.specs.View.{View}
 use Rattle.sock_tcp.specs.Verdict.{verdict_of}
@@ -19,6 +20,7 @@ use Rattle.sock_tcp.specs.Process.{challenged, close_restarted, outside, bytes_t
 use Rattle.sock_tcp.specs.declared.acked.Acked.{Acked}
 use Rattle.sock_tcp.specs.declared.advance.Next.{Next}
 use Rattle.sock_tcp.specs.declared.advance.Next.TheVariants as next
+use Rattle.sock_tcp.specs.declared.tuple.Tuple.{Tuple}
 use Rattle.sock_tcp.specs.declared.verdict.Verdict.{Verdict}
 use Rattle.sock_tcp.specs.declared.verdict.Verdict.TheVariants as verdicts
 use Rattle.tcp_laws.proofs.Kept.{KeptByAnswers, KeptByRows, bytes_kept, challenged_kept, outside_kept, rows_kept}
@@ -85,10 +87,10 @@ module _ (s : Segment) (now : Instant) where
   unfolding joined ack_delayed
   bytes_same w o bs = bytes_kept (Same w) now s (answers_same w) (λ u o bs h. record { tx = h.tx; una = h.una }) w o bs (same w)
 
-  after_releases : ForSome s.ack_number (λ a. a.0 < 2 ^ 32) → (x : Next) (u : View) (a : Acked) (o : ℕ) (bs : List ℕ) → Releases u (after_advance x u now a o bs s).view
-  after_releases small next.Stop u a o bs = none_leave u u (same u)
-  after_releases small next.Challenge u a o bs = none_leave u (challenged u now s).view (challenged_kept (Same u) now s (answers_same u) u (same u))
-  after_releases small next.Continue u a o bs = then_same u (heard u now a s) (bytes_taken (heard u now a s) now o bs s).view (heard_releases small u a) (bytes_same (heard u now a s) o bs)
+  after_releases : ForSome s.ack_number (λ a. a.0 < 2 ^ 32) → (t : Tuple) (word : ℕ) (x : Next) (u : View) (a : Acked) (o : ℕ) (bs : List ℕ) → Releases u (after_advance x u (arrival now t word s) a o bs).view
+  after_releases small t word next.Stop u a o bs = none_leave u u (same u)
+  after_releases small t word next.Challenge u a o bs = none_leave u (challenged u now s).view (challenged_kept (Same u) now s (answers_same u) u (same u))
+  after_releases small t word next.Continue u a o bs = then_same u (heard u now a s) (bytes_taken (heard u now a s) now o bs s).view (heard_releases small u a) (bytes_same (heard u now a s) o bs)
 
   -- ---- the state table
 
@@ -108,22 +110,22 @@ module _ (s : Segment) (now : Instant) where
 
 module _ (v : View) (now : Instant) (word : ℕ) (ip : IpRepr) (s : Segment) where
   module _ (word_small : word < 2 ^ 32) (ack_small : ForSome s.ack_number (λ a. a.0 < 2 ^ 32)) where
-    inside_releases : (u : View) (c : TcpControl) (o : ℕ) (bs : List ℕ) → Releases u (processed_inside u now word c o bs ip s).view
+    inside_releases : (u : View) (c : TcpControl) (o : ℕ) (bs : List ℕ) → Releases u (processed_inside u (arrival now (tuple_of ip s) word s) c o bs).view
     unfolding processed_inside advanced
     inside_releases u c o bs =
         let a = acked_of u s.control s.ack_number in
-        let t = advance_in u.state c a.fin u now (tuple_of ip s) word a.len s in
-        numbered_then u t.view (after_table t now a o bs s).view (rows_kept (Numbered u) now word s (rows_numbered s now u word word_small) u (tuple_of ip s) a.len (record { tx = refl; una = λ i. i }) u.state c a.fin) (after_releases s now ack_small t.next t.view a o bs)
+        let t = advance_in u.state c a.fin u (arrival now (tuple_of ip s) word s) a.len in
+        numbered_then u t.view (after_table t (arrival now (tuple_of ip s) word s) a o bs).view (rows_kept (Numbered u) now word s (rows_numbered s now u word word_small) u (tuple_of ip s) a.len (record { tx = refl; una = λ i. i }) u.state c a.fin) (after_releases s now ack_small (tuple_of ip s) word t.next t.view a o bs)
 
-    tested_releases : (b : Bool) → Releases v (tested b v now word ip s).view
+    tested_releases : (b : Bool) → Releases v (tested b v (arrival now (tuple_of ip s) word s)).view
     tested_releases false = inside_releases v s.control 0 []
     tested_releases true = go (is_inside (receive_window v) s.seq_number (length s.payload))
       where
-        go : (b : Bool) → Releases v (if b then cut_inside (receive_window v) (cut_of (receive_window v) s.seq_number (length s.payload)) v now word ip s else outside v now s).view
+        go : (b : Bool) → Releases v (if b then cut_inside (receive_window v) (cut_of (receive_window v) s.seq_number (length s.payload)) v (arrival now (tuple_of ip s) word s) else outside v now s).view
         go false = none_leave v (outside v now s).view (outside_same s now v)
         go true = let r = inside_releases (record v { local_rx_last_seq = Some s.seq_number }) (counted_control s.control (receive_window v) s.seq_number (length s.payload)) (cut_of (receive_window v) s.seq_number (length s.payload)).offset (cut_bytes (cut_of (receive_window v) s.seq_number (length s.payload)) s.payload) in record { count = r.count; tx = r.tx; una = r.una }
 
-    by_verdict_releases : (x : Verdict) → Releases v (by_verdict x v now word ip s).view
+    by_verdict_releases : (x : Verdict) → Releases v (by_verdict x v (arrival now (tuple_of ip s) word s)).view
     by_verdict_releases verdicts.Drop = none_leave v v (same v)
     by_verdict_releases verdicts.Reset = none_leave v v (same v)
     by_verdict_releases verdicts.Challenge = none_leave v (challenged v now s).view (challenged_kept (Same v) now s (answers_same s now v) v (same v))

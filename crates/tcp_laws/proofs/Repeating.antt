@@ -1,5 +1,5 @@
 -- When a dispatch that sent nothing but an acknowledgement wants another one at once.
-use Rattle.std.proofs.Common.{◌≡◌, ℕ, ◌+◌, ◌-◌, ◌*◌, ◌/◌, ◌%◌, ◌<◌, ◌≤◌, ◌^◌, ◌⊎◌, inl, inr, Bool, true, false, true≢false, not, ◌&&◌, ◌||◌, refl, sym, ap, subst, ◌∙◌, List, length, min, Option, Some, None, is_none, is_some, arith}
+use Rattle.std.proofs.Common.{◌≡◌, ℕ, ◌+◌, ◌-◌, ◌*◌, ◌/◌, ◌%◌, ◌<◌, ◌≤◌, ◌^◌, ◌⊎◌, inl, inr, Bool, true, false, true≢false, not, ◌&&◌, ◌||◌, refl, sym, ap, subst, ◌∙◌, List, length, min, Option, Some, None, is_none, arith}
 use Rattle.std.specs.Prelude.{if◌then◌else◌, ◌==◌, int_le, nat_le, option_map}
 use Rattle.std.proofs.Math.Nat.{div-mul-le_self, mul-le-mul_right}
 use Rattle.std.proofs.lemmas.Bool.{and_parts, eqb-false, eqb-true, leb-true}
@@ -19,7 +19,7 @@ use Rattle.sock_core.specs.Seq.{is_before, later_of}
 use Rattle.sock_core.specs.declared.context.PollAt.{PollAt}
 use Rattle.sock_core.specs.declared.context.PollAt.TheVariants as poll
 use Rattle.sock_tcp.proofs.Windows.{far, left_is_told}
-use Rattle.sock_tcp.specs.Begin.{Begun, readied, after_timers}
+use Rattle.sock_tcp.specs.Begin.{Begun, readied, after_timers, peer_of}
 use Rattle.sock_tcp.specs.Content.{Sending, asked, carries_data, content, emission_kind, filled, is_probing, of_kind, offset_of, plain_segment, sent_as, window_left}
 use Rattle.sock_tcp.specs.Due.{ack_due, ack_poll, data_due, edge_sent, effective_mss, field_left, flight, is_ack_after, is_closed, is_closing, is_doubled, is_held_back, is_opening, sendable, tells_window, window_doubled, window_field}
 use Rattle.sock_tcp.specs.Poll.{is_due_now, poll_moment, poll_moment_to}
@@ -46,14 +46,14 @@ use Rattle.tcp_laws.proofs.AckAlone.{AckOf, IsSet, NothingDue, RstOrAck, Sends, 
 
 -- ---- why a poll moment is reached
 
-data Reason (w : View) (t : Tuple) (f : Facts) (stamps : Bool) (now : Instant) : Type 0 where
-  Forgotten : is_none w.remote_last_ts ≡ true → Reason w t f stamps now
-  IsClosedNow : is_closed w.state ≡ true → Reason w t f stamps now
-  Data : data_due w t f stamps ≡ true → Reason w t f stamps now
-  Doubled : window_doubled w ≡ true → Reason w t f stamps now
-  TimerOver : is_reached (timer_poll w.timer) now ≡ true → Reason w t f stamps now
-  TimedOut : is_reached (timeout_poll w.timeout w.remote_last_ts) now ≡ true → Reason w t f stamps now
-  Owed : ack_due w ≡ true → Reason w t f stamps now
+data Reason (w : View) (t : Tuple) (f : Facts) (now : Instant) : Type 0 where
+  Forgotten : is_none w.remote_last_ts ≡ true → Reason w t f now
+  IsClosedNow : is_closed w.state ≡ true → Reason w t f now
+  Data : data_due w t f ≡ true → Reason w t f now
+  Doubled : window_doubled w ≡ true → Reason w t f now
+  TimerOver : is_reached (timer_poll w.timer) now ≡ true → Reason w t f now
+  TimedOut : is_reached (timeout_poll w.timeout w.remote_last_ts) now ≡ true → Reason w t f now
+  Owed : ack_due w ≡ true → Reason w t f now
 
 pub or_true : (a b : Bool) → (a || b) ≡ true → (a ≡ true) ⊎ (b ≡ true)
 or_true true b e = inl refl
@@ -70,38 +70,38 @@ one_reached (poll.Time t) (poll.Time x) now e = go (int_le t.micros x.micros) e
     go true e = inl e
     go false e = inr e
 
-reason : (w : View) (t : Tuple) (f : Facts) (stamps : Bool) (now : Instant) → is_reached (poll_moment_to (Some t) w f stamps) now ≡ true → Reason w t f stamps now
-reason w t f stamps now e = go (is_due_now w t f stamps) refl e
+reason : (w : View) (t : Tuple) (f : Facts) (now : Instant) → is_reached (poll_moment_to (Some t) w f) now ≡ true → Reason w t f now
+reason w t f now e = go (is_due_now w t f) refl e
   where
     late : PollAt
     late = earlier (timer_poll w.timer) (earlier (timeout_poll w.timeout w.remote_last_ts) (ack_poll w))
 
-    owed : (b : Bool) → ack_due w ≡ b → is_reached (if b then delay_poll w.ack_delay_timer else poll.Ingress) now ≡ true → Reason w t f stamps now
+    owed : (b : Bool) → ack_due w ≡ b → is_reached (if b then delay_poll w.ack_delay_timer else poll.Ingress) now ≡ true → Reason w t f now
     owed true i e = Owed i
     owed false i e = absurd cc
 
-    last : (is_reached (timeout_poll w.timeout w.remote_last_ts) now ≡ true) ⊎ (is_reached (ack_poll w) now ≡ true) → Reason w t f stamps now
+    last : (is_reached (timeout_poll w.timeout w.remote_last_ts) now ≡ true) ⊎ (is_reached (ack_poll w) now ≡ true) → Reason w t f now
     last (inl e) = TimedOut e
     last (inr e) = owed (ack_due w) refl e
 
-    waited : (is_reached (timer_poll w.timer) now ≡ true) ⊎ (is_reached (earlier (timeout_poll w.timeout w.remote_last_ts) (ack_poll w)) now ≡ true) → Reason w t f stamps now
+    waited : (is_reached (timer_poll w.timer) now ≡ true) ⊎ (is_reached (earlier (timeout_poll w.timeout w.remote_last_ts) (ack_poll w)) now ≡ true) → Reason w t f now
     waited (inl e) = TimerOver e
     waited (inr e) = last (one_reached (timeout_poll w.timeout w.remote_last_ts) (ack_poll w) now e)
 
-    first : (is_none w.remote_last_ts ≡ true) ⊎ (is_closed w.state ≡ true) → Reason w t f stamps now
+    first : (is_none w.remote_last_ts ≡ true) ⊎ (is_closed w.state ≡ true) → Reason w t f now
     first (inl e) = Forgotten e
     first (inr e) = IsClosedNow e
 
-    second : ((is_none w.remote_last_ts || is_closed w.state) ≡ true) ⊎ (data_due w t f stamps ≡ true) → Reason w t f stamps now
+    second : ((is_none w.remote_last_ts || is_closed w.state) ≡ true) ⊎ (data_due w t f ≡ true) → Reason w t f now
     second (inl e) = first (or_true (is_none w.remote_last_ts) (is_closed w.state) e)
     second (inr e) = Data e
 
-    third : ((is_none w.remote_last_ts || is_closed w.state || data_due w t f stamps) ≡ true) ⊎ (window_doubled w ≡ true) → Reason w t f stamps now
-    third (inl e) = second (or_true (is_none w.remote_last_ts || is_closed w.state) (data_due w t f stamps) e)
+    third : ((is_none w.remote_last_ts || is_closed w.state || data_due w t f) ≡ true) ⊎ (window_doubled w ≡ true) → Reason w t f now
+    third (inl e) = second (or_true (is_none w.remote_last_ts || is_closed w.state) (data_due w t f) e)
     third (inr e) = Doubled e
 
-    go : (b : Bool) → is_due_now w t f stamps ≡ b → is_reached (if b then poll.Now else late) now ≡ true → Reason w t f stamps now
-    go true d e = third (or_true (is_none w.remote_last_ts || is_closed w.state || data_due w t f stamps) (window_doubled w) d)
+    go : (b : Bool) → is_due_now w t f ≡ b → is_reached (if b then poll.Now else late) now ≡ true → Reason w t f now
+    go true d e = third (or_true (is_none w.remote_last_ts || is_closed w.state || data_due w t f) (window_doubled w) d)
     go false d e = waited (one_reached (timer_poll w.timer) (earlier (timeout_poll w.timeout w.remote_last_ts) (ack_poll w)) now e)
 
 -- ---- the socket that is left
@@ -124,15 +124,21 @@ module _ (u w : View) (now : Instant) (l : LeftAs u w now) where
   sendable_same : sendable w ≡ sendable u
   sendable_same = λ i. min (min (l.window i) (length (l.tx i).bytes) - seq_sub (l.nxt i) (l.una i)) (congestion_window (l.congestion i) - seq_sub (l.nxt i) (l.una i))
 
-  no_data_due : (t : Tuple) (f : Facts) (stamps : Bool) → NothingDue u → data_due w t f stamps ≡ true → ⊥
+  no_data_due : (t : Tuple) (f : Facts) → NothingDue u → data_due w t f ≡ true → ⊥
   unfolding data_due
-  no_data_due t f stamps q e = fourth (or_true (marked_due || (is_opening w.state && (flight w == 0)) || data_goes_out) (is_closing w.state && seq_eq w.remote_last_seq (seq_add w.local_seq_no (length w.tx_buffer.bytes))) e)
+  no_data_due t f q e = by (or_true (marked_due || data_goes_out) (syn || fin) e)
     where
       marked_due : Bool
       marked_due = w.pending_fast_retransmit && not (length w.tx_buffer.bytes == 0)
 
       data_goes_out : Bool
-      data_goes_out = not (sendable w == 0) && not (is_held_back w (effective_mss w t f stamps))
+      data_goes_out = not (sendable w == 0) && not (is_held_back w (effective_mss w t f))
+
+      syn : Bool
+      syn = is_opening w.state && (flight w == 0)
+
+      fin : Bool
+      fin = is_closing w.state && seq_eq w.remote_last_seq (seq_add w.local_seq_no (length w.tx_buffer.bytes))
 
       zero_not : (k : ℕ) → k ≡ 0 → not (k == 0) ≡ true → ⊥
       zero_not k z e = true≢false (sym e ∙ rw z refl)
@@ -141,25 +147,22 @@ module _ (u w : View) (now : Instant) (l : LeftAs u w now) where
       by_state true c m k = true≢false (sym (and_parts u.pending_fast_retransmit false m).1)
       by_state false c m k = zero_not (length w.tx_buffer.bytes) (ap (λ (x : Queue). length x.bytes) l.tx ∙ q.marked c) k
 
-      first : marked_due ≡ true → ⊥
-      first e = let h = and_parts w.pending_fast_retransmit (not (length w.tx_buffer.bytes == 0)) e in by_state (carries_data u.state) refl (sym l.marked ∙ h.0) h.1
+      sends : (marked_due ≡ true) ⊎ (data_goes_out ≡ true) → ⊥
+      sends (inl e) = let h = and_parts w.pending_fast_retransmit (not (length w.tx_buffer.bytes == 0)) e in by_state (carries_data u.state) refl (sym l.marked ∙ h.0) h.1
+      sends (inr e) = zero_not (sendable w) (sendable_same ∙ q.sent) (and_parts (not (sendable w == 0)) (not (is_held_back w (effective_mss w t f))) e).0
 
-      either : (marked_due ≡ true) ⊎ ((is_opening w.state && (flight w == 0)) ≡ true) → ⊥
-      either (inl e) = first e
-      either (inr e) = true≢false (sym (and_parts (is_opening w.state) (flight w == 0) e).0 ∙ ap is_opening l.state ∙ q.opened)
-
-      third : ((marked_due || (is_opening w.state && (flight w == 0))) ≡ true) ⊎ (data_goes_out ≡ true) → ⊥
-      third (inl e) = either (or_true marked_due (is_opening w.state && (flight w == 0)) e)
-      third (inr e) = zero_not (sendable w) (sendable_same ∙ q.sent) (and_parts (not (sendable w == 0)) (not (is_held_back w (effective_mss w t f stamps))) e).0
-
-      fourth : ((marked_due || (is_opening w.state && (flight w == 0)) || data_goes_out) ≡ true) ⊎ ((is_closing w.state && seq_eq w.remote_last_seq (seq_add w.local_seq_no (length w.tx_buffer.bytes))) ≡ true) → ⊥
-      fourth (inl e) = third (or_true (marked_due || (is_opening w.state && (flight w == 0))) data_goes_out e)
-      fourth (inr e) =
+      opens : (syn ≡ true) ⊎ (fin ≡ true) → ⊥
+      opens (inl e) = true≢false (sym (and_parts (is_opening w.state) (flight w == 0) e).0 ∙ ap is_opening l.state ∙ q.opened)
+      opens (inr e) =
           let h = and_parts (is_closing w.state) (seq_eq w.remote_last_seq (seq_add w.local_seq_no (length w.tx_buffer.bytes))) e in
           let k : w.remote_last_seq.0 ≡ (seq_add w.local_seq_no (length w.tx_buffer.bytes)).0 = eqb-true w.remote_last_seq.0 (seq_add w.local_seq_no (length w.tx_buffer.bytes)).0 h.1 in
           let m : w.remote_last_seq.0 ≡ u.remote_last_seq.0 = ap (λ (x : TcpSeqNumber). x.0) l.nxt in
           let j : (seq_add w.local_seq_no (length w.tx_buffer.bytes)).0 ≡ (seq_add u.local_seq_no (length u.tx_buffer.bytes)).0 = (λ i. (seq_add (l.una i) (length (l.tx i).bytes)).0) in
           q.no_fin (sym (ap is_closing l.state) ∙ h.0) (sym m ∙ k ∙ j)
+
+      by : ((marked_due || data_goes_out) ≡ true) ⊎ ((syn || fin) ≡ true) → ⊥
+      by (inl e) = sends (or_true marked_due data_goes_out e)
+      by (inr e) = opens (or_true syn fin e)
 
   -- ---- the timer
 
@@ -278,52 +281,52 @@ module _ (u : View) (now : Instant) (b : Segment) (a : AckOf u b) (o : IsOrdered
 -- ---- the whole
 
 module _ (u : View) (f : Facts) (o : IsOrdered u) (q : IsProbing u) (settled : Settled u (moment_of f)) where
-  again : (w : View) (t : Tuple) (stamps : Bool) (k : Kind) (b : Segment) → AckOf u b → LeftAs u w (moment_of f) → (ack_due w ≡ true → WantsAnother w k (moment_of f)) → (window_doubled w ≡ true → WantsAnother w k (moment_of f)) → Reason w t f stamps (moment_of f) → WantsAnother w k (moment_of f)
-  again w t stamps k b a l ack window (Forgotten e) = absurd (true≢false (sym e ∙ ap is_none l.last ∙ settled.known))
-  again w t stamps k b a l ack window (IsClosedNow e) = absurd (true≢false (sym e ∙ ap is_closed l.state ∙ not_closed u.state a.sends))
-  again w t stamps k b a l ack window (Data e) = absurd (no_data_due u w (moment_of f) l t f stamps a.quiet e)
-  again w t stamps k b a l ack window (Doubled e) = window e
-  again w t stamps k b a l ack window (Owed e) = ack e
-  again w t stamps k b a l ack window (TimerOver e) = by settled.alive
+  again : (w : View) (t : Tuple) (k : Kind) (b : Segment) → AckOf u b → LeftAs u w (moment_of f) → (ack_due w ≡ true → WantsAnother w k (moment_of f)) → (window_doubled w ≡ true → WantsAnother w k (moment_of f)) → Reason w t f (moment_of f) → WantsAnother w k (moment_of f)
+  again w t k b a l ack window (Forgotten e) = absurd (true≢false (sym e ∙ ap is_none l.last ∙ settled.known))
+  again w t k b a l ack window (IsClosedNow e) = absurd (true≢false (sym e ∙ ap is_closed l.state ∙ not_closed u.state a.sends))
+  again w t k b a l ack window (Data e) = absurd (no_data_due u w (moment_of f) l t f a.quiet e)
+  again w t k b a l ack window (Doubled e) = window e
+  again w t k b a l ack window (Owed e) = ack e
+  again w t k b a l ack window (TimerOver e) = by settled.alive
     where
       by : (u.state ≡ state.Closed) ⊎ ((is_reached (timeout_poll u.timeout u.remote_last_ts) (moment_of f) ≡ false) × IsSet u.timer (moment_of f)) → WantsAnother w k (moment_of f)
       by (inl c) = absurd (true≢false (sym (ap is_closed c) ∙ not_closed u.state a.sends))
       by (inr h) = over u w (moment_of f) l k u.timer refl o q a.sends h.1 (subst (λ t. is_reached (timer_poll t) (moment_of f) ≡ true) l.timer e)
-  again w t stamps k b a l ack window (TimedOut e) = by settled.alive
+  again w t k b a l ack window (TimedOut e) = by settled.alive
     where
       by : (u.state ≡ state.Closed) ⊎ ((is_reached (timeout_poll u.timeout u.remote_last_ts) (moment_of f) ≡ false) × IsSet u.timer (moment_of f)) → WantsAnother w k (moment_of f)
       by (inl c) = absurd (true≢false (sym (ap is_closed c) ∙ not_closed u.state a.sends))
       by (inr h) = absurd (true≢false (sym e ∙ (λ i. is_reached (timeout_poll (l.timeout i) (l.last i)) (moment_of f)) ∙ h.0))
 
-  reasons : (w : View) (stamps : Bool) (k : Kind) (peer : Option Tuple) → ((t : Tuple) → Reason w t f stamps (moment_of f) → WantsAnother w k (moment_of f)) → is_reached (poll_moment_to peer w f stamps) (moment_of f) ≡ true → WantsAnother w k (moment_of f)
-  reasons w stamps k None h e = absurd cc
-  reasons w stamps k (Some t) h e = h t (reason w t f stamps (moment_of f) e)
+  reasons : (w : View) (k : Kind) (peer : Option Tuple) → ((t : Tuple) → Reason w t f (moment_of f) → WantsAnother w k (moment_of f)) → is_reached (poll_moment_to peer w f) (moment_of f) ≡ true → WantsAnother w k (moment_of f)
+  reasons w k None h e = absurd cc
+  reasons w k (Some t) h e = h t (reason w t f (moment_of f) e)
 
   -- a plain acknowledgement
-  plain_again : (b : Segment) (stamps : Bool) → RstOrAck u b → length u.rx_buffer.held ≤ 2 ^ 30 → is_reached (poll_moment (snd_nxt_moved (after_any u (moment_of f)) (emitted_as kind.Plain b)) f stamps) (moment_of f) ≡ true
+  plain_again : (b : Segment) → RstOrAck u b → length u.rx_buffer.held ≤ 2 ^ 30 → is_reached (poll_moment (snd_nxt_moved (after_any u (moment_of f)) (emitted_as kind.Plain b)) f) (moment_of f) ≡ true
       → WantsAnother (snd_nxt_moved (after_any u (moment_of f)) (emitted_as kind.Plain b)) kind.Plain (moment_of f)
   unfolding poll_moment snd_nxt_moved after_any
-  plain_again b stamps (inl c) room e = absurd (true≢false (sym e ∙ quiet))
+  plain_again b (inl c) room e = absurd (true≢false (sym e ∙ quiet))
     where
       w : View
       w = snd_nxt_moved (after_any u (moment_of f)) (emitted_as kind.Plain b)
 
-      quiet : is_reached (poll_moment_to w.tuple w f stamps) (moment_of f) ≡ false
+      quiet : is_reached (poll_moment_to w.tuple w f) (moment_of f) ≡ false
       quiet = rw c.0 refl
-  plain_again b stamps (inr a) room e =
+  plain_again b (inr a) room e =
       let w = snd_nxt_moved (after_any u (moment_of f)) (emitted_as kind.Plain b) in
-      reasons w stamps kind.Plain w.tuple (λ t. again w t stamps kind.Plain b a (left_as u (moment_of f) b a o) (λ x. absurd (no_ack_due u (moment_of f) b a o x)) (λ x. absurd (not_doubled u (moment_of f) b a o room x))) e
+      reasons w kind.Plain w.tuple (λ t. again w t kind.Plain b a (left_as u (moment_of f) b a o) (λ x. absurd (no_ack_due u (moment_of f) b a o x)) (λ x. absurd (not_doubled u (moment_of f) b a o room x))) e
 
   -- a keep-alive
   kept_as : LeftAs u (after_any u (moment_of f)) (moment_of f)
   unfolding after_any
   kept_as = record { state = refl; tx = refl; window = refl; congestion = refl; una = refl; nxt = refl; marked = refl; timer = refl; keep_alive = refl; timeout = refl; last = refl }
 
-  kept_again : (b : Segment) (stamps : Bool) → AckOf u b → is_reached (poll_moment (after_any u (moment_of f)) f stamps) (moment_of f) ≡ true → WantsAnother (after_any u (moment_of f)) kind.KeepAlive (moment_of f)
+  kept_again : (b : Segment) → AckOf u b → is_reached (poll_moment (after_any u (moment_of f)) f) (moment_of f) ≡ true → WantsAnother (after_any u (moment_of f)) kind.KeepAlive (moment_of f)
   unfolding poll_moment
-  kept_again b stamps a e =
+  kept_again b a e =
       let w = after_any u (moment_of f) in
-      reasons w stamps kind.KeepAlive w.tuple (λ t. again w t stamps kind.KeepAlive b a kept_as (λ x. AckOwed refl (inl x)) (λ x. AckOwed refl (inr x))) e
+      reasons w kind.KeepAlive w.tuple (λ t. again w t kind.KeepAlive b a kept_as (λ x. AckOwed refl (inl x)) (λ x. AckOwed refl (inr x))) e
 
 -- what an empty segment is
 pub empty_parts : (b : Segment) → is_empty_segment b ≡ true → (segment_len b ≡ 0) × (is_plain b.control ≡ true)
@@ -351,7 +354,7 @@ plain_sent : (u : View) (now : Instant) (b : Segment) → segment_len b ≡ 0 �
 unfolding after_sending sending_timed
 plain_sent u now b e = rw e refl
 
-module _ (u w : View) (f : Facts) (out : Sending) (stamp : Option ℕ) (p : Tuple) (bytes : List ℕ) (o : IsOrdered u) (q : IsProbing u) (settled : Settled u (moment_of f)) (lawful : IsLawful f) (lent : IsLent u.tx_buffer (offset_of u) (asked u p f (is_some stamp)) bytes) (room : length u.rx_buffer.held ≤ 2 ^ 30) (left : w ≡ left_by (Some out) u (moment_of f) true) (reached : is_reached (poll_moment w f (is_some stamp)) (moment_of f) ≡ true) where
+module _ (u w : View) (f : Facts) (out : Sending) (stamp : Option ℕ) (p : Tuple) (bytes : List ℕ) (o : IsOrdered u) (q : IsProbing u) (settled : Settled u (moment_of f)) (lawful : IsLawful f) (lent : IsLent u.tx_buffer (offset_of u) (asked u p f) bytes) (room : length u.rx_buffer.held ≤ 2 ^ 30) (left : w ≡ left_by (Some out) u (moment_of f) true) (reached : is_reached (poll_moment w f) (moment_of f) ≡ true) where
   abbrev now : Instant
   now = moment_of f
 
@@ -367,13 +370,13 @@ module _ (u w : View) (f : Facts) (out : Sending) (stamp : Option ℕ) (p : Tupl
       let z : segment_len b ≡ 0 = ap (λ (y : Sending). segment_len y.segment) m ∙ h.1 in
       let x : w ≡ snd_nxt_moved (after_any u now) (emitted_as kind.Plain b) = left ∙ ap (λ (y : Sending). left_by (Some y) u now true) (sym m) ∙ plain_sent u now b z in
       let a : RstOrAck u b = rst_or_ack u p f stamp bytes o q lawful lent u.state refl b e z in
-      subst (λ k. WantsAnother w k now) (ap (λ (y : Sending). y.kind) m) (subst (λ v. WantsAnother v kind.Plain now) (sym x) (plain_again u f o q settled b (is_some stamp) a room (subst (λ v. is_reached (poll_moment v f (is_some stamp)) now ≡ true) x reached)))
+      subst (λ k. WantsAnother w k now) (ap (λ (y : Sending). y.kind) m) (subst (λ v. WantsAnother v kind.Plain now) (sym x) (plain_again u f o q settled b a room (subst (λ v. is_reached (poll_moment v f) now ≡ true) x reached)))
   by_kind b kind.KeepAlive i e m h =
       let y = keep_parts (is_probing u now) (is_keep_alive_over u.timer now && is_empty_segment b) i in
       let g = empty_parts b (and_parts (is_keep_alive_over u.timer now) (is_empty_segment b) y).1 in
       let x : w ≡ after_any u now = left ∙ ap (λ (y : Sending). left_by (Some y) u now true) (sym m) ∙ kept_sent b in
       let a : AckOf u b = ack_alone u b (rst_or_ack u p f stamp bytes o q lawful lent u.state refl b e g.0) g.1 in
-      subst (λ k. WantsAnother w k now) (ap (λ (y : Sending). y.kind) m) (subst (λ v. WantsAnother v kind.KeepAlive now) (sym x) (kept_again u f o q settled b (is_some stamp) a (subst (λ v. is_reached (poll_moment v f (is_some stamp)) now ≡ true) x reached)))
+      subst (λ k. WantsAnother w k now) (ap (λ (y : Sending). y.kind) m) (subst (λ v. WantsAnother v kind.KeepAlive now) (sym x) (kept_again u f o q settled b a (subst (λ v. is_reached (poll_moment v f) now ≡ true) x reached)))
 
   by_filled : (b : Option Segment) → filled u.state u p f bytes (plain_segment u p stamp) ≡ b → option_map (λ s. sent_as u p (emission_kind u now s) s) b ≡ Some out → IsAckAlone out → WantsAnother w out.kind now
   by_filled None e m h = absurd (none-some out m)
@@ -385,10 +388,9 @@ module _ (u w : View) (f : Facts) (out : Sending) (stamp : Option ℕ) (p : Tupl
 
 pub acks_repeat_only_so : AcksRepeatOnlySo
 acks_repeat_only_so v u w f out r lawful h alone reached =
-    let stamps = is_some h.stamp in
-    let at : u ≡ after_timers (readied v (moment_of f)) (moment_of f) = sym (ap (λ (x : Begun). x.view) h.begins) ∙ goes v f stamps h.peer (ap (λ (x : Begun). x.peer) h.begins) in
-    let o : IsOrdered u = subst IsOrdered (ap (λ (x : Begun). x.view) h.begins) (before_ordered f stamps v (reached_ordered v r)) in
-    let q : IsProbing u = subst IsProbing (ap (λ (x : Begun). x.view) h.begins) (before_probing f stamps v (reached_probing v r)) in
+    let at : u ≡ after_timers (readied v (moment_of f)) (moment_of f) = sym (ap (λ (x : Begun). x.view) h.begins) ∙ goes v f h.peer (ap peer_of h.begins ∙ h.to) in
+    let o : IsOrdered u = subst IsOrdered (ap (λ (x : Begun). x.view) h.begins) (before_ordered f v (reached_ordered v r)) in
+    let q : IsProbing u = subst IsProbing (ap (λ (x : Begun). x.view) h.begins) (before_probing f v (reached_probing v r)) in
     let settled : Settled u (moment_of f) = subst (λ x. Settled x (moment_of f)) (sym at) (timers_settle (readied v (moment_of f)) (moment_of f) (readied_knows v (moment_of f))) in
     let rx : u.rx_buffer ≡ v.rx_buffer = ap (λ (x : View). x.rx_buffer) at ∙ (timers_keep (readied v (moment_of f)) (moment_of f)).rx ∙ (readied_keeps v (moment_of f)).rx in
     let own = (holds_after r.rx r.tx v r.counts r.rx_size r.run).room in

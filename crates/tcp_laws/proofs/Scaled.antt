@@ -142,7 +142,7 @@ calls_scaled = record {
   decided = λ v w is n h. same_scaled v w h n;
   closes = λ v h. h;
   aborts = λ v h. h;
-  sets = λ v w x m h. setting_leaves IsScaled v w (λ x. h) (λ x. h) (λ timeout delay nagle hops paused. h) x;
+  sets = λ v w x m h. setting_leaves IsScaled v w (λ x. h) (λ x. h) (λ timeout delay nagle hops paused is_there. h) x;
 }
 
 kept_scaled : Kept (λ at. IsScaled) (λ at. Unit {0}) (λ last now. Unit {0}) (λ d. Unit {0})
@@ -152,7 +152,7 @@ kept_scaled = record {
   segments = λ now word ip s v small numbered bare h. process_kept IsScaled now word ip s (segments_scaled s now word) v h;
   beginnings = λ now. begins_scaled now;
   resets = λ now v h. new_scaled v;
-  sendings = λ o f stamps u w out h i. sends_kept IsScaled f (sends_scaled (moment_of f)) o stamps u w out h i;
+  sendings = λ o f u w out h i. sends_kept IsScaled f (sends_scaled (moment_of f)) o u w out h i;
 }
 
 -- so after any list of calls a receive buffer that has a byte has room for one unit of the window field

@@ -9,11 +9,12 @@ use Rattle.control_wire.specs.Segment.{Segment}
 use Rattle.control_wire.specs.declared.tcp.TcpControl.{TcpControl}
 use Rattle.control_wire.specs.declared.tcp.TcpControl.TheVariants as control
 use Rattle.sock_core.specs.Facts.{Facts}
+use Rattle.sock_tcp.specs.Arrival.{arrival}
 use Rattle.sock_tcp.specs.Acked.{acked_of}
 use Rattle.sock_tcp.specs.Advance.{Advance, advance_in, advanced, counted_control}
 use Rattle.sock_tcp.specs.Draw.{draws, Draws}
 use Rattle.sock_tcp.specs.Opening.{endpoints, connect_answer, after_connect, Connects}
-use Rattle.sock_tcp.specs.Process.{Outcome, AcceptsIn, Accepts, after_table, by_verdict, cut_inside, has_window, outside, processed, processed_inside, tested, tuple_of}
+use Rattle.sock_tcp.specs.Process.{Outcome, AcceptsIn, Accepts, after_advance, after_table, by_verdict, cut_inside, has_window, outside, processed, processed_inside, tested, tuple_of}
 use Rattle.tcp_laws.specs.SocketRun.{Counts, Step, Process, Connect, IsNumbered, after_segment, starting_if}
 use Rattle.sock_tcp.specs.Verdict.{verdict_of}
 use Rattle.sock_tcp.specs.View.{View}
@@ -21,6 +22,9 @@ use Rattle.sock_tcp.specs.Window.{receive_window, is_inside, cut_of}
 use Rattle.sock_tcp.specs.declared.error.ConnectError.{ConnectError}
 use Rattle.sock_tcp.specs.declared.state.State.{State}
 use Rattle.sock_tcp.specs.declared.state.State.TheVariants as state
+use Rattle.sock_tcp.specs.declared.acked.Acked.{Acked}
+use Rattle.sock_tcp.specs.declared.advance.Next.{Next}
+use Rattle.sock_tcp.specs.declared.advance.Next.TheVariants as next
 use Rattle.sock_tcp.specs.declared.tuple.Tuple.{Tuple}
 use Rattle.sock_tcp.specs.declared.verdict.Verdict.{Verdict}
 use Rattle.sock_tcp.specs.declared.verdict.Verdict.TheVariants as verdicts
@@ -28,7 +32,7 @@ use Rattle.sock_tcp.specs.declared.verdict.Verdict.TheVariants as verdicts
 -- ---- a segment that draws no word
 
 module _ (now : Instant) (m n : ℕ) (ip : IpRepr) (s : Segment) where
-  rows_alike : (st : State) (c : TcpControl) (fin : Bool) (v : View) (len : ℕ) → draws verdicts.Pass st c ≡ false → advance_in st c fin v now (tuple_of ip s) m len s ≡ advance_in st c fin v now (tuple_of ip s) n len s
+  rows_alike : (st : State) (c : TcpControl) (fin : Bool) (v : View) (len : ℕ) → draws verdicts.Pass st c ≡ false → advance_in st c fin v (arrival now (tuple_of ip s) m s) len ≡ advance_in st c fin v (arrival now (tuple_of ip s) n s) len
   rows_alike state.Listen control.Syn fin v len e = absurd cc
   rows_alike _ control.Rst fin v len e = refl
   rows_alike state.FinWait1 control.None true v len e = refl
@@ -37,25 +41,33 @@ module _ (now : Instant) (m n : ℕ) (ip : IpRepr) (s : Segment) where
   rows_alike state.LastAck control.None true v len e = refl
   rows_alike _ _ _ v len e = refl
 
-  inside_alike : (v : View) (c : TcpControl) (o : ℕ) (bs : List ℕ) → draws verdicts.Pass v.state c ≡ false → processed_inside v now m c o bs ip s ≡ processed_inside v now n c o bs ip s
+  -- behind the table no word is drawn
+  next_alike : (x : Next) (v : View) (k : Acked) (o : ℕ) (bs : List ℕ) → after_advance x v (arrival now (tuple_of ip s) m s) k o bs ≡ after_advance x v (arrival now (tuple_of ip s) n s) k o bs
+  next_alike next.Stop v k o bs = refl
+  next_alike next.Challenge v k o bs = refl
+  next_alike next.Continue v k o bs = refl
+
+  inside_alike : (v : View) (c : TcpControl) (o : ℕ) (bs : List ℕ) → draws verdicts.Pass v.state c ≡ false → processed_inside v (arrival now (tuple_of ip s) m s) c o bs ≡ processed_inside v (arrival now (tuple_of ip s) n s) c o bs
   unfolding processed_inside advanced
   inside_alike v c o bs e =
-      ap (λ (t : Advance). after_table t now (acked_of v s.control s.ack_number) o bs s) (rows_alike v.state c (acked_of v s.control s.ack_number).fin v (acked_of v s.control s.ack_number).len e)
+      let k = acked_of v s.control s.ack_number in
+      let t = advance_in v.state c k.fin v (arrival now (tuple_of ip s) n s) k.len in
+      ap (λ (t : Advance). after_table t (arrival now (tuple_of ip s) m s) k o bs) (rows_alike v.state c k.fin v k.len e) ∙ next_alike t.next t.view k o bs
 
   -- only LISTEN draws
   windowed_draws : (st : State) (c : TcpControl) → has_window st ≡ true → draws verdicts.Pass st c ≡ false
   windowed_draws state.Listen c w = absurd cc
   windowed_draws _ c w = refl
 
-  tested_alike : (v : View) (b : Bool) → has_window v.state ≡ b → draws verdicts.Pass v.state s.control ≡ false → tested b v now m ip s ≡ tested b v now n ip s
+  tested_alike : (v : View) (b : Bool) → has_window v.state ≡ b → draws verdicts.Pass v.state s.control ≡ false → tested b v (arrival now (tuple_of ip s) m s) ≡ tested b v (arrival now (tuple_of ip s) n s)
   tested_alike v false w e = inside_alike v s.control 0 [] e
   tested_alike v true w e = go (is_inside (receive_window v) s.seq_number (length s.payload))
     where
-      go : (b : Bool) → (if b then cut_inside (receive_window v) (cut_of (receive_window v) s.seq_number (length s.payload)) v now m ip s else outside v now s) ≡ (if b then cut_inside (receive_window v) (cut_of (receive_window v) s.seq_number (length s.payload)) v now n ip s else outside v now s)
+      go : (b : Bool) → (if b then cut_inside (receive_window v) (cut_of (receive_window v) s.seq_number (length s.payload)) v (arrival now (tuple_of ip s) m s) else outside v now s) ≡ (if b then cut_inside (receive_window v) (cut_of (receive_window v) s.seq_number (length s.payload)) v (arrival now (tuple_of ip s) n s) else outside v now s)
       go false = refl
       go true = inside_alike (record v { local_rx_last_seq = Some s.seq_number }) (counted_control s.control (receive_window v) s.seq_number (length s.payload)) _ _ (windowed_draws v.state _ w)
 
-  verdict_alike : (v : View) (x : Verdict) → draws x v.state s.control ≡ false → by_verdict x v now m ip s ≡ by_verdict x v now n ip s
+  verdict_alike : (v : View) (x : Verdict) → draws x v.state s.control ≡ false → by_verdict x v (arrival now (tuple_of ip s) m s) ≡ by_verdict x v (arrival now (tuple_of ip s) n s)
   verdict_alike v verdicts.Drop e = refl
   verdict_alike v verdicts.Reset e = refl
   verdict_alike v verdicts.Challenge e = refl

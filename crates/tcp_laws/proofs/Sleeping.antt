@@ -61,28 +61,28 @@ not_owed true d e = absurd (nothing_delayed d e)
 not_owed false d e = refl
 
 -- a socket with a peer that has nothing to send at once, and whose timer has no moment
-pub record Quiet (v : View) (t : Tuple) (f : Facts) (stamps : Bool) : Type 0 where
+pub record Quiet (v : View) (t : Tuple) (f : Facts) : Type 0 where
   pub timer : v.timer ≡ timer.Idle None
-  pub no_data : data_due v t f stamps ≡ false
+  pub no_data : data_due v t f ≡ false
   pub not_closed : is_closed v.state ≡ false
 
 -- one whose `poll_at` answers `Ingress`
-record Waits (v : View) (t : Tuple) (f : Facts) (stamps : Bool) : Type 0 where
-  quiet : Quiet v t f stamps
+record Waits (v : View) (t : Tuple) (f : Facts) : Type 0 where
+  quiet : Quiet v t f
   timeout : v.timeout ≡ None
   no_ack : ack_due v ≡ false
 
-waits : (v : View) (t : Tuple) (f : Facts) (stamps : Bool) → poll_moment_to (Some t) v f stamps ≡ poll.Ingress → Waits v t f stamps
-waits v t f stamps e = go (is_due_now v t f stamps) refl e
+waits : (v : View) (t : Tuple) (f : Facts) → poll_moment_to (Some t) v f ≡ poll.Ingress → Waits v t f
+waits v t f e = go (is_due_now v t f) refl e
   where
     p : PollAt
     p = earlier (timer_poll v.timer) (earlier (timeout_poll v.timeout v.remote_last_ts) (ack_poll v))
 
-    go : (b : Bool) → is_due_now v t f stamps ≡ b → (if b then poll.Now else p) ≡ poll.Ingress → Waits v t f stamps
+    go : (b : Bool) → is_due_now v t f ≡ b → (if b then poll.Now else p) ≡ poll.Ingress → Waits v t f
     go true d e = absurd cc
     go false d e =
-        let a = or_parts (is_none v.remote_last_ts || is_closed v.state || data_due v t f stamps) (window_doubled v) d in
-        let b = or_parts (is_none v.remote_last_ts || is_closed v.state) (data_due v t f stamps) a.0 in
+        let a = or_parts (is_none v.remote_last_ts || is_closed v.state || data_due v t f) (window_doubled v) d in
+        let b = or_parts (is_none v.remote_last_ts || is_closed v.state) (data_due v t f) a.0 in
         let c = or_parts (is_none v.remote_last_ts) (is_closed v.state) b.0 in
         let m = both_wait (timer_poll v.timer) (earlier (timeout_poll v.timeout v.remote_last_ts) (ack_poll v)) e in
         let n = both_wait (timeout_poll v.timeout v.remote_last_ts) (ack_poll v) m.1 in
@@ -95,29 +95,27 @@ waits v t f stamps e = go (is_due_now v t f stamps) refl e
 -- ---- what is not due
 
 -- a SYN that counts as unsent is due
-syn_due : (v : View) (t : Tuple) (f : Facts) (stamps : Bool) → is_opening v.state ≡ true → flight v ≡ 0 → data_due v t f stamps ≡ false → ⊥
+syn_due : (v : View) (t : Tuple) (f : Facts) → is_opening v.state ≡ true → flight v ≡ 0 → data_due v t f ≡ false → ⊥
 unfolding data_due
-syn_due v t f stamps o z e =
-    let a = or_parts ((v.pending_fast_retransmit && not (length v.tx_buffer.bytes == 0)) || (is_opening v.state && (flight v == 0)) || (not (sendable v == 0) && not (is_held_back v (effective_mss v t f stamps)))) _ e in
-    let b = or_parts ((v.pending_fast_retransmit && not (length v.tx_buffer.bytes == 0)) || (is_opening v.state && (flight v == 0))) _ a.0 in
-    let c = or_parts (v.pending_fast_retransmit && not (length v.tx_buffer.bytes == 0)) _ b.0 in
-    true≢false (sym (rw (o, z) refl) ∙ c.1)
+syn_due v t f o z e =
+    let a = or_parts ((v.pending_fast_retransmit && not (length v.tx_buffer.bytes == 0)) || (not (sendable v == 0) && not (is_held_back v (effective_mss v t f)))) _ e in
+    true≢false (sym (rw (o, z) refl) ∙ (or_parts (is_opening v.state && (flight v == 0)) _ a.1).0)
 
 -- nothing in flight, and a window that lets the queue go out
-data_goes : (v : View) (t : Tuple) (f : Facts) (stamps : Bool) → data_due v t f stamps ≡ false → flight v ≡ 0 → sendable v ≡ 0
+data_goes : (v : View) (t : Tuple) (f : Facts) → data_due v t f ≡ false → flight v ≡ 0 → sendable v ≡ 0
 unfolding data_due
-data_goes v t f stamps e z = go (sendable v == 0) refl
+data_goes v t f e z = go (sendable v == 0) refl
   where
-    some : (not (sendable v == 0) && not (is_held_back v (effective_mss v t f stamps))) ≡ false
+    some : (not (sendable v == 0) && not (is_held_back v (effective_mss v t f))) ≡ false
     some =
-        let a = or_parts ((v.pending_fast_retransmit && not (length v.tx_buffer.bytes == 0)) || (is_opening v.state && (flight v == 0)) || (not (sendable v == 0) && not (is_held_back v (effective_mss v t f stamps)))) _ e in
-        (or_parts ((v.pending_fast_retransmit && not (length v.tx_buffer.bytes == 0)) || (is_opening v.state && (flight v == 0))) _ a.0).1
+        let a = or_parts ((v.pending_fast_retransmit && not (length v.tx_buffer.bytes == 0)) || (not (sendable v == 0) && not (is_held_back v (effective_mss v t f)))) _ e in
+        (or_parts (v.pending_fast_retransmit && not (length v.tx_buffer.bytes == 0)) _ a.0).1
 
-    by_nagle : (b : Bool) → (b && not (flight v == 0) && nat_lt (sendable v) (effective_mss v t f stamps) && not (is_closing v.state)) ≡ false
+    by_nagle : (b : Bool) → (b && not (flight v == 0) && nat_lt (sendable v) (effective_mss v t f) && not (is_closing v.state)) ≡ false
     by_nagle true = rw z refl
     by_nagle false = refl
 
-    not_held : is_held_back v (effective_mss v t f stamps) ≡ false
+    not_held : is_held_back v (effective_mss v t f) ≡ false
     not_held = by_nagle v.nagle
 
     go : (b : Bool) → (sendable v == 0) ≡ b → sendable v ≡ 0
@@ -125,29 +123,30 @@ data_goes v t f stamps e z = go (sendable v == 0) refl
     go false i = absurd (true≢false (sym (rw (i, not_held) refl) ∙ some))
 
 -- a FIN at SND.NXT is due
-fin_due : (v : View) (t : Tuple) (f : Facts) (stamps : Bool) → is_closing v.state ≡ true → v.local_seq_no.0 < 2 ^ 32 → v.remote_last_seq.0 < 2 ^ 32 → flight v ≡ 0 → length v.tx_buffer.bytes ≡ 0 → data_due v t f stamps ≡ false → ⊥
+fin_due : (v : View) (t : Tuple) (f : Facts) → is_closing v.state ≡ true → v.local_seq_no.0 < 2 ^ 32 → v.remote_last_seq.0 < 2 ^ 32 → flight v ≡ 0 → length v.tx_buffer.bytes ≡ 0 → data_due v t f ≡ false → ⊥
 unfolding data_due
-fin_due v t f stamps o hu hn z n e =
-    let a = or_parts ((v.pending_fast_retransmit && not (length v.tx_buffer.bytes == 0)) || (is_opening v.state && (flight v == 0)) || (not (sendable v == 0) && not (is_held_back v (effective_mss v t f stamps)))) _ e in
+fin_due v t f o hu hn z n e =
+    let a = or_parts ((v.pending_fast_retransmit && not (length v.tx_buffer.bytes == 0)) || (not (sendable v == 0) && not (is_held_back v (effective_mss v t f)))) _ e in
+    let b = or_parts (is_opening v.state && (flight v == 0)) _ a.1 in
     let x : v.remote_last_seq.0 ≡ (seq_add v.local_seq_no (length v.tx_buffer.bytes)).0 = omega (arith, z, n, hu, hn) in
-    true≢false (sym (rw (o, eq-eqb v.remote_last_seq.0 (seq_add v.local_seq_no (length v.tx_buffer.bytes)).0 x) refl) ∙ a.1)
+    true≢false (sym (rw (o, eq-eqb v.remote_last_seq.0 (seq_add v.local_seq_no (length v.tx_buffer.bytes)).0 x) refl) ∙ b.1)
 
 open_window : (c : AnyController) → IsOpen c → 0 < congestion_window c
 open_window (controller.None x) h = omega arith
 open_window (controller.Reno r) h = h.cwnd
 
 -- what waits is due where the peer has a window and nothing is in flight
-pub window_sends : (v : View) (t : Tuple) (f : Facts) (stamps : Bool) → IsOrdered v → 0 < v.remote_win_len → flight v ≡ 0 → HasToSend v → data_due v t f stamps ≡ true
-window_sends v t f stamps h win z send = go (data_due v t f stamps) refl
+pub window_sends : (v : View) (t : Tuple) (f : Facts) → IsOrdered v → 0 < v.remote_win_len → flight v ≡ 0 → HasToSend v → data_due v t f ≡ true
+window_sends v t f h win z send = go (data_due v t f) refl
   where
-    empty : data_due v t f stamps ≡ false → length v.tx_buffer.bytes ≡ 0
-    empty e = omega (arith, z, win, data_goes v t f stamps e z, open_window v.congestion_controller h.congestion)
+    empty : data_due v t f ≡ false → length v.tx_buffer.bytes ≡ 0
+    empty e = omega (arith, z, win, data_goes v t f e z, open_window v.congestion_controller h.congestion)
 
-    nothing : HasToSend v → data_due v t f stamps ≡ false → ⊥
+    nothing : HasToSend v → data_due v t f ≡ false → ⊥
     nothing (inl some) e = omega (arith, some, empty e)
-    nothing (inr c) e = fin_due v t f stamps c h.una_small h.nxt_small z (empty e) e
+    nothing (inr c) e = fin_due v t f c h.una_small h.nxt_small z (empty e) e
 
-    go : (b : Bool) → data_due v t f stamps ≡ b → data_due v t f stamps ≡ true
+    go : (b : Bool) → data_due v t f ≡ b → data_due v t f ≡ true
     go true e = e
     go false e = absurd (nothing send e)
 
@@ -155,12 +154,12 @@ zero_or_not : (n : ℕ) → (n ≡ 0) ⊎ (0 < n)
 zero_or_not zero = inl refl
 zero_or_not (suc n) = inr (omega arith)
 
-module _ (v : View) (t : Tuple) (f : Facts) (stamps : Bool) (h : IsOrdered v) (w : Quiet v t f stamps) where
+module _ (v : View) (t : Tuple) (f : Facts) (h : IsOrdered v) (w : Quiet v t f) where
   abbrev n : ℕ
   n = length v.tx_buffer.bytes
 
   no_window : flight v ≡ 0 → 0 < n → v.remote_win_len ≡ 0
-  no_window z some = omega (arith, z, some, data_goes v t f stamps w.no_data z, open_window v.congestion_controller h.congestion)
+  no_window z some = omega (arith, z, some, data_goes v t f w.no_data z, open_window v.congestion_controller h.congestion)
 
   data_waits : 0 < n → WaitsForPeer (flight v) v.remote_win_len
   data_waits some = go (zero_or_not (flight v))
@@ -173,7 +172,7 @@ module _ (v : View) (t : Tuple) (f : Facts) (stamps : Bool) (h : IsOrdered v) (w
   fin_waits c = go (zero_or_not (flight v)) (zero_or_not n)
     where
       go : (flight v ≡ 0) ⊎ (0 < flight v) → (n ≡ 0) ⊎ (0 < n) → WaitsForPeer (flight v) v.remote_win_len
-      go (inl z) (inl e) = absurd (fin_due v t f stamps c h.una_small h.nxt_small z e w.no_data)
+      go (inl z) (inl e) = absurd (fin_due v t f c h.una_small h.nxt_small z e w.no_data)
       go (inl z) (inr i) = inr (z, no_window z i)
       go (inr i) e = inl i
 
@@ -188,7 +187,7 @@ module _ (v : View) (t : Tuple) (f : Facts) (stamps : Bool) (h : IsOrdered v) (w
   pub no_moment : (st : State) → v.state ≡ st → v.tuple ≡ Some t → v.keep_alive ≡ None
   no_moment state.Closed is p = absurd (true≢false (sym (ap is_closed is) ∙ w.not_closed))
   no_moment state.Listen is p = absurd (none-some t (sym (subst (λ z. IsPeeredIn z v.tuple) is h.peered) ∙ p))
-  no_moment state.SynSent is p = absurd (syn_due v t f stamps (ap is_opening is) (row state.SynSent is).0 w.no_data)
+  no_moment state.SynSent is p = absurd (syn_due v t f (ap is_opening is) (row state.SynSent is).0 w.no_data)
   no_moment state.TimeWait is p = absurd (true≢false (sym (row state.TimeWait is).0))
   no_moment state.SynReceived is p = (row state.SynReceived is).0
   no_moment state.Established is p = (row state.Established is).0
@@ -201,12 +200,12 @@ module _ (v : View) (t : Tuple) (f : Facts) (stamps : Bool) (h : IsOrdered v) (w
   sleeps_in : (st : State) → v.state ≡ st → works_in st (is_some v.tuple) (n == 0) v.synack_paused ≡ true → SleepsIn st (flight v) v.remote_win_len
   sleeps_in state.Closed is e = true≢false (sym (ap is_closed is) ∙ w.not_closed)
   sleeps_in state.Listen is e = absurd cc
-  sleeps_in state.SynSent is e = syn_due v t f stamps (ap is_opening is) (row state.SynSent is).0 w.no_data
+  sleeps_in state.SynSent is e = syn_due v t f (ap is_opening is) (row state.SynSent is).0 w.no_data
   sleeps_in state.TimeWait is e = true≢false (sym (row state.TimeWait is).0)
   sleeps_in state.SynReceived is e = one (zero_or_not (flight v))
     where
       one : (flight v ≡ 0) ⊎ (0 < flight v) → flight v ≡ 1
-      one (inl z) = absurd (syn_due v t f stamps (ap is_opening is) z w.no_data)
+      one (inl z) = absurd (syn_due v t f (ap is_opening is) z w.no_data)
       one (inr i) = omega (arith, i, (row state.SynReceived is).2)
   sleeps_in state.Established is e = data_waits (some_bytes n e)
   sleeps_in state.CloseWait is e = data_waits (some_bytes n e)
@@ -219,9 +218,9 @@ module _ (v : View) (t : Tuple) (f : Facts) (stamps : Bool) (h : IsOrdered v) (w
 
 pub keep_alive_wakes : KeepAliveWakes
 unfolding poll_moment
-keep_alive_wakes v t d f stamps r p k e =
-    let w = waits v t f stamps (subst (λ o. poll_moment_to o v f stamps ≡ poll.Ingress) p e) in
-    none-some d (sym (no_moment v t f stamps (reached_ordered v r) w.quiet v.state refl p) ∙ k)
+keep_alive_wakes v t d f r p k e =
+    let w = waits v t f (subst (λ o. poll_moment_to o v f ≡ poll.Ingress) p e) in
+    none-some d (sym (no_moment v t f (reached_ordered v r) w.quiet v.state refl p) ∙ k)
 
 no_peer : (st : State) (peer empty paused : Bool) → (peer ≡ true → ⊥) → works_in st peer empty paused ≡ true → IsPeeredIn st None → ⊥
 no_peer state.Closed peer empty paused nr e p = nr e
@@ -230,7 +229,7 @@ no_peer _ peer empty paused nr e p = absurd cc
 
 pub sleeps_only_so : SleepsOnlySo
 unfolding has_work poll_moment
-sleeps_only_so v f stamps r work e = go v.tuple refl
+sleeps_only_so v f r work e = go v.tuple refl
   where
     h : IsOrdered v
     h = reached_ordered v r
@@ -238,13 +237,13 @@ sleeps_only_so v f stamps r work e = go v.tuple refl
     go : (o : Option Tuple) → v.tuple ≡ o → Sleeps v
     go None p = absurd (no_peer v.state (is_some v.tuple) (length v.tx_buffer.bytes == 0) v.synack_paused (λ q. true≢false (sym q ∙ ap is_some p)) work (subst (IsPeeredIn v.state) p h.peered))
     go (Some t) p =
-        let w = waits v t f stamps (subst (λ o. poll_moment_to o v f stamps ≡ poll.Ingress) p e) in
+        let w = waits v t f (subst (λ o. poll_moment_to o v f ≡ poll.Ingress) p e) in
         record {
           timer = w.quiet.timer;
           timeout = w.timeout;
-          keep_alive = no_moment v t f stamps h w.quiet v.state refl p;
+          keep_alive = no_moment v t f h w.quiet v.state refl p;
           no_ack = w.no_ack;
-          waits = sleeps_in v t f stamps h w.quiet v.state refl work;
+          waits = sleeps_in v t f h w.quiet v.state refl work;
         }
 
 pub no_work_no_bytes : NoWorkNoBytes

@@ -16,7 +16,7 @@ use Rattle.control_wire.specs.declared.seq_number.TcpSeqNumber.{TcpSeqNumber}
 use Rattle.sock_core.specs.Facts.{Facts}
 use Rattle.sock_core.specs.Received.{Received, byte_at, cleared, handed_out, merged, receiving, room_of}
 use Rattle.sock_tcp.proofs.Lending.{first_within}
-use Rattle.sock_tcp.specs.Begin.{Begun, before_emit}
+use Rattle.sock_tcp.specs.Begin.{Begun, before_emit, peer_of}
 use Rattle.sock_tcp.specs.Closing.{keep_alive_set}
 use Rattle.sock_tcp.specs.Content.{Sending}
 use Rattle.tcp_laws.specs.Laws.{MayTake}
@@ -164,15 +164,15 @@ closure_read false v w k (Err e) h c = subst (Holds w) (sym (none_read k)) (unch
 -- ---- the setters
 
 -- what holds of v with any settings holds after a setting; the controller and the interval of keep-alives change more
-pub setting_leaves : (P : View → Type 0) (v w : View) → ((x : CongestionControl) → P (record v { congestion_controller = of_kind x })) → ((x : Option Duration) → P (keep_alive_set v x)) → ((timeout delay : Option Duration) (nagle : Bool) (hops : Option ℕ) (paused : Bool) → P (record v { timeout = timeout; ack_delay = delay; nagle = nagle; hop_limit = hops; synack_paused = paused })) → Sets v w → P w
+pub setting_leaves : (P : View → Type 0) (v w : View) → ((x : CongestionControl) → P (record v { congestion_controller = of_kind x })) → ((x : Option Duration) → P (keep_alive_set v x)) → ((timeout delay : Option Duration) (nagle : Bool) (hops : Option ℕ) (paused is_there : Bool) → P (record v { timeout = timeout; ack_delay = delay; nagle = nagle; hop_limit = hops; synack_paused = paused; stamps = is_there })) → Sets v w → P w
 setting_leaves P v w c k o (SetCongestionControl x e) = subst P (sym e) (c x)
-setting_leaves P v w c k o (SetTimeout x e) = subst P (sym e) (o x v.ack_delay v.nagle v.hop_limit v.synack_paused)
-setting_leaves P v w c k o (SetAckDelay x e) = subst P (sym e) (o v.timeout x v.nagle v.hop_limit v.synack_paused)
-setting_leaves P v w c k o (SetNagle x e) = subst P (sym e) (o v.timeout v.ack_delay x v.hop_limit v.synack_paused)
+setting_leaves P v w c k o (SetTimeout x e) = subst P (sym e) (o x v.ack_delay v.nagle v.hop_limit v.synack_paused v.stamps)
+setting_leaves P v w c k o (SetAckDelay x e) = subst P (sym e) (o v.timeout x v.nagle v.hop_limit v.synack_paused v.stamps)
+setting_leaves P v w c k o (SetNagle x e) = subst P (sym e) (o v.timeout v.ack_delay x v.hop_limit v.synack_paused v.stamps)
 setting_leaves P v w c k o (SetKeepAlive x e) = subst P (sym e) (k x)
-setting_leaves P v w c k o (SetHopLimit x e) = subst P (sym e) (o v.timeout v.ack_delay v.nagle x v.synack_paused)
-setting_leaves P v w c k o (PauseSynAck x e) = subst P (sym e) (o v.timeout v.ack_delay v.nagle v.hop_limit x)
-setting_leaves P v w c k o (SetTsvalGenerator e) = subst P (sym e) (o v.timeout v.ack_delay v.nagle v.hop_limit v.synack_paused)
+setting_leaves P v w c k o (SetHopLimit x e) = subst P (sym e) (o v.timeout v.ack_delay v.nagle x v.synack_paused v.stamps)
+setting_leaves P v w c k o (PauseSynAck x e) = subst P (sym e) (o v.timeout v.ack_delay v.nagle v.hop_limit x v.stamps)
+setting_leaves P v w c k o (SetTsvalGenerator x e) = subst P (sym e) (o v.timeout v.ack_delay v.nagle v.hop_limit v.synack_paused x)
 
 -- ---- connect
 
@@ -293,22 +293,22 @@ process_kept v w k now word ip s c small numbered short e =
 keeps_holds : (v w : View) (k : Counts) → Keeps v w → Holds v k → Holds w k
 keeps_holds v w k h c = subst (λ b. Core b w.tx_buffer.bytes w.local_seq_no k) (sym h.rx) (subst (λ (q : Queue). Core v.rx_buffer q.bytes w.local_seq_no k) (sym h.tx) (subst (λ n. Core v.rx_buffer v.tx_buffer.bytes n k) (sym h.una) c))
 
-dispatch_kept : (v w : View) (k : Counts) (f : Facts) (stamps : Bool) (out : Option Sending) → Holds v k → Dispatched f stamps v out w → Holds w (starting_if (is_reset v f stamps) w k)
+dispatch_kept : (v w : View) (k : Counts) (f : Facts) (out : Option Sending) → Holds v k → Dispatched f v out w → Holds w (starting_if (is_reset v f) w k)
 unfolding renewed fresh
-dispatch_kept v w k f stamps out c h = go (is_reset v f stamps) refl
+dispatch_kept v w k f out c h = go (is_reset v f) refl
   where
     u : View
-    u = (before_emit v f stamps).view
+    u = (before_emit v f).view
 
     left : Keeps u w
-    left = sends_keeps (before_emit v f stamps).peer f stamps u out w h
+    left = sends_keeps (peer_of (before_emit v f)) f u out w h
 
-    go : (b : Bool) → is_reset v f stamps ≡ b → Holds w (starting_if b w k)
+    go : (b : Bool) → is_reset v f ≡ b → Holds w (starting_if b w k)
     go true e =
-        let r = before_resets f stamps v e in
+        let r = before_resets f v e in
         let una : w.local_seq_no.0 ≡ 0 = ap (λ (x : TcpSeqNumber). x.0) left.una ∙ ap (λ (b : Begun). b.view.local_seq_no.0) r.is in
         renewed_starts r.from w (omega (arith, una)) (omega (arith, r.kept, c.room)) (left.rx ∙ ap (λ (b : Begun). b.view.rx_buffer) r.is)
-    go false e = keeps_holds u w k left (keeps_holds v u k (before_keeps f stamps v e) c)
+    go false e = keeps_holds u w k left (keeps_holds v u k (before_keeps f v e) c)
 
 -- ---- any call
 
@@ -322,9 +322,9 @@ step_keeps v w k j (RecvSlice bs bs' r h is) c = subst (Holds w) (sym is) (slice
 step_keeps v w k j (Recv r h is) c = subst (Holds w) (sym is) (closure_read (may_recv v) v w k r h c)
 step_keeps v w k j (Close h is) c = subst (Holds w) (sym is) (subst (λ u. Holds u k) (sym h) c)
 step_keeps v w k j (Abort h is) c = subst (Holds w) (sym is) (subst (λ u. Holds u k) (sym h) c)
-step_keeps v w k j (Set h is) c = subst (Holds w) (sym is) (setting_leaves (λ u. Holds u k) v w (λ x. c) (λ x. c) (λ timeout delay nagle hops paused. c) h)
+step_keeps v w k j (Set h is) c = subst (Holds w) (sym is) (setting_leaves (λ u. Holds u k) v w (λ x. c) (λ x. c) (λ timeout delay nagle hops paused is_there. c) h)
 step_keeps v w k j (Process now word ip s small numbered short bare h is) c = subst (Holds w) (sym is) (process_kept v w k now word ip s c small numbered short h)
-step_keeps v w k j (Dispatch f stamps out h is) c = subst (Holds w) (sym is) (dispatch_kept v w k f stamps out c h)
+step_keeps v w k j (Dispatch f out h is) c = subst (Holds w) (sym is) (dispatch_kept v w k f out c h)
 
 pub run_keeps : (v w : View) (k j : Counts) → Run v k w j → Holds v k → Holds w j
 run_keeps v w k j (Ends _ _) c = c
@@ -339,15 +339,15 @@ promises v k c = record {
   receive_queue = c.receive_queue;
   gapless = c.gapless;
   appends = λ now word ip s numbered short. only_appends v now word ip s c.room numbered.seq_number short;
-  payloads = λ f stamps out w h n. parts f stamps out w h n;
+  payloads = λ f out w h n. parts f out w h n;
 }
   where
-    parts : (f : Facts) (stamps : Bool) (out : Sending) (w : View) → Dispatched f stamps v (Some out) w → (out.kind ≡ kind.KeepAlive → ⊥) → IsPart k (seq_sub out.segment.seq_number v.local_seq_no) out.segment.payload
-    parts f stamps out w h n = go (is_reset v f stamps) refl
+    parts : (f : Facts) (out : Sending) (w : View) → Dispatched f v (Some out) w → (out.kind ≡ kind.KeepAlive → ⊥) → IsPart k (seq_sub out.segment.seq_number v.local_seq_no) out.segment.payload
+    parts f out w h n = go (is_reset v f) refl
       where
-        go : (b : Bool) → is_reset v f stamps ≡ b → IsPart k (seq_sub out.segment.seq_number v.local_seq_no) out.segment.payload
-        go true e = absurd (none-some out (sym (subst (λ (b : Begun). SendsTo b.peer f stamps b.view (Some out) w) (before_resets f stamps v e).is h).0))
-        go false e = sends_part (before_emit v f stamps).peer f stamps k v (before_emit v f stamps).view w out c.transmit_queue (before_keeps f stamps v e) c.una_small h n
+        go : (b : Bool) → is_reset v f ≡ b → IsPart k (seq_sub out.segment.seq_number v.local_seq_no) out.segment.payload
+        go true e = absurd (none-some out (sym (subst (λ (b : Begun). SendsTo (peer_of b) f b.view (Some out) w) (before_resets f v e).is h).0))
+        go false e = sends_part (peer_of (before_emit v f)) f k v (before_emit v f).view w out c.transmit_queue (before_keeps f v e) c.una_small h n
 
 pub holds_after : (rx tx : Ring ℕ) (w : View) (j : Counts) → length rx.queue + length rx.spare ≤ 2 ^ 30 → Run (fresh (receiving rx) (queue_of tx)) (starting (fresh (receiving rx) (queue_of tx))) w j → Holds w j
 unfolding fresh

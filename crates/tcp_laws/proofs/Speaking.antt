@@ -1,5 +1,5 @@
 -- Where data is due, what goes out takes a sequence number; and after a retransmission timeout data is due.
-use Rattle.std.proofs.Common.{◌≡◌, ℕ, zero, suc, ◌<◌, ◌⊎◌, inl, inr, Bool, true, false, true≢false, not, ◌&&◌, ◌||◌, refl, sym, ap, subst, ◌∙◌, List, length, Option, Some, None, is_some, arith}
+use Rattle.std.proofs.Common.{◌≡◌, ℕ, zero, suc, ◌<◌, ◌⊎◌, inl, inr, Bool, true, false, true≢false, not, ◌&&◌, ◌||◌, refl, sym, ap, subst, ◌∙◌, List, length, Option, Some, None, arith}
 use Rattle.std.specs.Prelude.{◌==◌, option_map}
 use Rattle.std.proofs.lemmas.Bool.{and_parts, eqb-true}
 use Rattle.std.proofs.lemmas.Option.{none-some, same_Some}
@@ -8,7 +8,7 @@ use Rattle.net_base.specs.declared.time.Instant.{Instant}
 use Rattle.control_wire.specs.Seq.{seq_add, seq_eq, seq_sub}
 use Rattle.control_wire.specs.Segment.{Segment, segment_len}
 use Rattle.sock_core.specs.Facts.{Facts, IsLawful}
-use Rattle.sock_tcp.specs.Begin.{Begun, last_ts_set, last_ts_set_at, told_ready, readied, retransmission_begun, after_timers, is_paused, begun, begun_to, unless_paused, before_emit, before_emit_to}
+use Rattle.sock_tcp.specs.Begin.{Begun, last_ts_set, last_ts_set_at, told_ready, readied, retransmission_begun, after_timers, is_paused, begun, begun_to, unless_paused, before_emit, before_emit_to, peer_of, going_on}
 use Rattle.sock_tcp.specs.Content.{Sending, asked, content, emission_kind, filled, of_kind, offset_of, plain_segment, sent_as}
 use Rattle.sock_tcp.specs.Due.{data_due, effective_mss, flight, is_closing, is_due, is_held_back, is_opening, sendable}
 use Rattle.sock_tcp.specs.Polls.{is_reached, timeout_poll}
@@ -36,32 +36,35 @@ use Rattle.tcp_laws.proofs.Sleeping.{window_sends}
 zero_not : (k : ℕ) → k ≡ 0 → not (k == 0) ≡ true → ⊥
 zero_not k z e = true≢false (sym e ∙ rw z refl)
 
-not_due : (u : View) (t : Tuple) (f : Facts) (stamps : Bool) → NothingDue u → data_due u t f stamps ≡ true → ⊥
+not_due : (u : View) (t : Tuple) (f : Facts) → NothingDue u → data_due u t f ≡ true → ⊥
 unfolding data_due
-not_due u t f stamps q e = fourth (or_true (marked || (is_opening u.state && (flight u == 0)) || more) (is_closing u.state && seq_eq u.remote_last_seq (seq_add u.local_seq_no (length u.tx_buffer.bytes))) e)
+not_due u t f q e = by (or_true (marked || more) (syn || fin) e)
   where
     marked : Bool
     marked = u.pending_fast_retransmit && not (length u.tx_buffer.bytes == 0)
 
     more : Bool
-    more = not (sendable u == 0) && not (is_held_back u (effective_mss u t f stamps))
+    more = not (sendable u == 0) && not (is_held_back u (effective_mss u t f))
 
-    first : marked ≡ true → ⊥
-    first e = let h = and_parts u.pending_fast_retransmit (not (length u.tx_buffer.bytes == 0)) e in zero_not (length u.tx_buffer.bytes) (q.again h.0) h.1
+    syn : Bool
+    syn = is_opening u.state && (flight u == 0)
 
-    either : (marked ≡ true) ⊎ ((is_opening u.state && (flight u == 0)) ≡ true) → ⊥
-    either (inl e) = first e
-    either (inr e) = true≢false (sym (and_parts (is_opening u.state) (flight u == 0) e).0 ∙ q.opened)
+    fin : Bool
+    fin = is_closing u.state && seq_eq u.remote_last_seq (seq_add u.local_seq_no (length u.tx_buffer.bytes))
 
-    third : ((marked || (is_opening u.state && (flight u == 0))) ≡ true) ⊎ (more ≡ true) → ⊥
-    third (inl e) = either (or_true marked (is_opening u.state && (flight u == 0)) e)
-    third (inr e) = zero_not (sendable u) q.sent (and_parts (not (sendable u == 0)) (not (is_held_back u (effective_mss u t f stamps))) e).0
+    sends : (marked ≡ true) ⊎ (more ≡ true) → ⊥
+    sends (inl e) = let h = and_parts u.pending_fast_retransmit (not (length u.tx_buffer.bytes == 0)) e in zero_not (length u.tx_buffer.bytes) (q.again h.0) h.1
+    sends (inr e) = zero_not (sendable u) q.sent (and_parts (not (sendable u == 0)) (not (is_held_back u (effective_mss u t f))) e).0
 
-    fourth : ((marked || (is_opening u.state && (flight u == 0)) || more) ≡ true) ⊎ ((is_closing u.state && seq_eq u.remote_last_seq (seq_add u.local_seq_no (length u.tx_buffer.bytes))) ≡ true) → ⊥
-    fourth (inl e) = third (or_true (marked || (is_opening u.state && (flight u == 0))) more e)
-    fourth (inr e) =
+    opens : (syn ≡ true) ⊎ (fin ≡ true) → ⊥
+    opens (inl e) = true≢false (sym (and_parts (is_opening u.state) (flight u == 0) e).0 ∙ q.opened)
+    opens (inr e) =
         let h = and_parts (is_closing u.state) (seq_eq u.remote_last_seq (seq_add u.local_seq_no (length u.tx_buffer.bytes))) e in
         q.no_fin h.0 (eqb-true u.remote_last_seq.0 (seq_add u.local_seq_no (length u.tx_buffer.bytes)).0 h.1)
+
+    by : ((marked || more) ≡ true) ⊎ ((syn || fin) ≡ true) → ⊥
+    by (inl e) = sends (or_true marked more e)
+    by (inr e) = opens (or_true syn fin e)
 
 some_or_none : (n : ℕ) → (n ≡ 0) ⊎ (0 < n)
 some_or_none zero = inl refl
@@ -73,13 +76,13 @@ kind_len kind.Plain u b h = h
 kind_len kind.Probe u b h = h
 kind_len kind.KeepAlive u b h = omega arith
 
-module _ (u : View) (f : Facts) (out : Sending) (stamp : Option ℕ) (p : Tuple) (bytes : List ℕ) (o : IsOrdered u) (q : IsProbing u) (lawful : IsLawful f) (lent : IsLent u.tx_buffer (offset_of u) (asked u p f (is_some stamp)) bytes) (alive : u.state ≡ state.Closed → ⊥) (due : data_due u p f (is_some stamp) ≡ true) where
+module _ (u : View) (f : Facts) (out : Sending) (stamp : Option ℕ) (p : Tuple) (bytes : List ℕ) (o : IsOrdered u) (q : IsProbing u) (lawful : IsLawful f) (lent : IsLent u.tx_buffer (offset_of u) (asked u p f) bytes) (alive : u.state ≡ state.Closed → ⊥) (due : data_due u p f ≡ true) where
   long : (b : Segment) → filled u.state u p f bytes (plain_segment u p stamp) ≡ Some b → 0 < segment_len b
   long b e = go (some_or_none (segment_len b))
     where
       none : RstOrAck u b → ⊥
       none (inl c) = alive c.0
-      none (inr a) = not_due u p f (is_some stamp) a.quiet due
+      none (inr a) = not_due u p f a.quiet due
 
       go : (segment_len b ≡ 0) ⊎ (0 < segment_len b) → 0 < segment_len b
       go (inl z) = absurd (none (rst_or_ack u p f stamp bytes o q lawful lent u.state refl b e z))
@@ -95,9 +98,8 @@ module _ (u : View) (f : Facts) (out : Sending) (stamp : Option ℕ) (p : Tuple)
 
 pub due_data_goes_out : DueDataGoesOut
 due_data_goes_out v u w f out r lawful h alive due =
-    let stamps = is_some h.stamp in
-    let o : IsOrdered u = subst IsOrdered (ap (λ (x : Begun). x.view) h.begins) (before_ordered f stamps v (reached_ordered v r)) in
-    let q : IsProbing u = subst IsProbing (ap (λ (x : Begun). x.view) h.begins) (before_probing f stamps v (reached_probing v r)) in
+    let o : IsOrdered u = subst IsOrdered (ap (λ (x : Begun). x.view) h.begins) (before_ordered f v (reached_ordered v r)) in
+    let q : IsProbing u = subst IsProbing (ap (λ (x : Begun). x.view) h.begins) (before_probing f v (reached_probing v r)) in
     by_content u f out h.stamp h.peer h.bytes o q lawful h.lent alive due h.sends
 
 -- ---- the retransmission timer is over
@@ -110,14 +112,15 @@ record StillOf (v x : View) : Type 0 where
   tx : x.tx_buffer ≡ v.tx_buffer
   window : x.remote_win_len ≡ v.remote_win_len
   una : x.local_seq_no ≡ v.local_seq_no
+  tuple : x.tuple ≡ v.tuple
 
 readied_still : (v : View) (now : Instant) → StillOf v (readied v now)
 unfolding readied last_ts_set
 readied_still v now = go v.remote_last_ts
   where
     go : (o : Option Instant) → StillOf v (told_ready (last_ts_set_at o v now) now)
-    go None = record { timer = refl; timeout = refl; state = refl; tx = refl; window = refl; una = refl }
-    go (Some at) = record { timer = refl; timeout = refl; state = refl; tx = refl; window = refl; una = refl }
+    go None = record { timer = refl; timeout = refl; state = refl; tx = refl; window = refl; una = refl; tuple = refl }
+    go (Some at) = record { timer = refl; timeout = refl; state = refl; tx = refl; window = refl; una = refl; tuple = refl }
 
 -- in SYN-RECEIVED nothing waits
 not_paused : (st : State) (t : Timer) (keep : Option Duration) (i n : ℕ) (b : Bool) → Row st t keep i n → (0 < n) ⊎ (is_closing st ≡ true) → is_paused st b ≡ false
@@ -125,7 +128,7 @@ not_paused state.SynReceived t keep i n b r (inl h) = absurd (omega (arith, h, r
 not_paused state.SynReceived t keep i n b r (inr c) = absurd cc
 not_paused _ t keep i n b r h = refl
 
-module _ (v : View) (t : Tuple) (f : Facts) (stamps : Bool) (r : IsReached v) (h : IsRetransmissionOver v t f) (window : 0 < v.remote_win_len) (send : HasToSend v) where
+module _ (v : View) (t : Tuple) (f : Facts) (r : IsReached v) (h : IsRetransmissionOver v t f) (window : 0 < v.remote_win_len) (send : HasToSend v) where
   abbrev now : Instant
   now = moment_of f
 
@@ -174,41 +177,42 @@ module _ (v : View) (t : Tuple) (f : Facts) (stamps : Bool) (r : IsReached v) (h
   unfolding retransmission_begun
   wide = subst (λ q. 0 < q) (sym still.window) window
 
-  due : data_due u t f stamps ≡ true
-  due = window_sends u t f stamps ordered wide nothing_in_flight waits
+  due : data_due u t f ≡ true
+  due = window_sends u t f ordered wide nothing_in_flight waits
 
-  is_due_so : is_due u t f stamps ≡ true
+  is_due_so : is_due u t f ≡ true
   unfolding is_due
   is_due_so = rw due refl
 
   goes_on : is_paused u.state u.synack_paused ≡ false
   goes_on = not_paused u.state u.timer u.keep_alive (flight u) (length u.tx_buffer.bytes) u.synack_paused ordered.row waits
 
-  abbrev so : Begun
-  so = record { view = u; peer = Some t }
-
-  not_waiting : (y : View) → is_paused y.state y.synack_paused ≡ false → unless_paused y t ≡ record { view = y; peer = Some t }
+  not_waiting : (y : View) → is_paused y.state y.synack_paused ≡ false → unless_paused y ≡ going_on y
   not_waiting y e = rw e refl
 
-  with_address : begun_to (Some t) v f ≡ unless_paused (after_timers x now) t
+  with_address : begun_to (Some t) v f ≡ unless_paused (after_timers x now)
   with_address = rw h.address refl
 
-  begun_so : begun_to v.tuple v f ≡ so
-  begun_so = ap (λ o. begun_to o v f) h.peer ∙ with_address ∙ ap (λ y. unless_paused y t) begins_is ∙ not_waiting u goes_on
+  begun_so : begun_to v.tuple v f ≡ going_on u
+  begun_so = ap (λ o. begun_to o v f) h.peer ∙ with_address ∙ ap unless_paused begins_is ∙ not_waiting u goes_on
 
-  due_so : before_emit_to (Some t) u f stamps ≡ so
+  to_peer : u.tuple ≡ Some t
+  unfolding retransmission_begun
+  to_peer = still.tuple ∙ h.peer
+
+  due_so : before_emit_to (Some t) u f ≡ going_on u
   due_so = rw is_due_so refl
 
-  begins_so : before_emit v f stamps ≡ so
+  begins_so : before_emit v f ≡ going_on u
   unfolding before_emit begun
-  begins_so = ap (λ (b : Begun). before_emit_to b.peer b.view f stamps) begun_so ∙ due_so
+  begins_so = ap (λ (b : Begun). before_emit_to (peer_of b) b.view f) begun_so ∙ ap (λ o. before_emit_to o u f) to_peer ∙ due_so
 
 pub retransmission_begins : RetransmissionBegins
-retransmission_begins v t f stamps r h window send =
-    let e = begins_so v t f stamps r h window send in
+retransmission_begins v t f r h window send =
+    let e = begins_so v t f r h window send in
     record {
-      peer = ap (λ (b : Begun). b.peer) e;
-      due = ap (λ (b : Begun). data_due b.view t f stamps) e ∙ due v t f stamps r h window send;
-      una = ap (λ (b : Begun). b.view.local_seq_no) e ∙ una v t f stamps r h window send;
-      nxt = ap (λ (b : Begun). b.view.remote_last_seq) e ∙ nxt v t f stamps r h window send;
+      peer = ap peer_of e ∙ to_peer v t f r h window send;
+      due = ap (λ (b : Begun). data_due b.view t f) e ∙ due v t f r h window send;
+      una = ap (λ (b : Begun). b.view.local_seq_no) e ∙ una v t f r h window send;
+      nxt = ap (λ (b : Begun). b.view.remote_last_seq) e ∙ nxt v t f r h window send;
     }

@@ -166,7 +166,7 @@ module _ (most : Duration) (minute : 60000000 ≤ most.micros) where
       setting_timed (SetKeepAlive x e) m = subst Now (sym e) (record { timer = kept_by x v.timer h.timer; waits = h.waits; timeout = h.timeout; keep_short = short_is x m; delay_short = h.delay_short })
       setting_timed (SetHopLimit x e) m = subst Now (sym e) h
       setting_timed (PauseSynAck x e) m = subst Now (sym e) h
-      setting_timed (SetTsvalGenerator e) m = subst Now (sym e) h
+      setting_timed (SetTsvalGenerator x e) m = subst Now (sym e) h
 
     calls_timed : KeptByCalls Now (λ d. IsAtMost d most)
     unfolding read_off connected listened
@@ -190,5 +190,5 @@ module _ (most : Duration) (minute : 60000000 ≤ most.micros) where
     segments = λ now word ip s v small numbered bare h. process_kept (IsTimed now most) now word ip s (segments_timed s now word) v h;
     beginnings = λ now. begins_timed now;
     resets = λ now v h. renewed_timed now v h;
-    sendings = λ o f stamps u w out h i. sends_kept (IsTimed (moment_of f) most) f (sends_timed (moment_of f)) o stamps u w out h i;
+    sendings = λ o f u w out h i. sends_kept (IsTimed (moment_of f) most) f (sends_timed (moment_of f)) o u w out h i;
   }

@@ -1,5 +1,5 @@
 -- A user timeout that is over leaves a dispatched socket in CLOSED.
-use Rattle.std.proofs.Common.{◌≡◌, ℕ, Bool, true, false, true≢false, refl, sym, ap, ◌∙◌, Option, Some, None, is_some, Result}
+use Rattle.std.proofs.Common.{◌≡◌, ℕ, Bool, true, false, true≢false, not, refl, sym, ap, ◌∙◌, Option, Some, None, is_some, Result}
 use Rattle.std.specs.Prelude.{◌||◌, ◌==◌, if◌then◌else◌, is_ok}
 use Rattle.std.proofs.lemmas.Bool.{or_parts}
 use Rattle.net_base.specs.declared.time.Duration.{Duration}
@@ -7,7 +7,7 @@ use Rattle.net_base.specs.declared.time.Instant.{Instant}
 use Rattle.sock_core.specs.Congestion.{post_transmitted}
 use Rattle.sock_core.specs.Estimator.{sent}
 use Rattle.sock_core.specs.Facts.{Facts}
-use Rattle.sock_tcp.specs.Begin.{last_ts_set, last_ts_set_at, readied, after_timers, is_paused, begun, begun_to, unless_paused, ended, before_emit, before_emit_to}
+use Rattle.sock_tcp.specs.Begin.{last_ts_set, last_ts_set_at, readied, after_timers, is_paused, begun, begun_to, unless_paused, ended, before_emit, before_emit_to, peer_of}
 use Rattle.sock_tcp.specs.Content.{Sending, content}
 use Rattle.sock_tcp.specs.Dispatch.{Dispatches, EmitTcp, EmitsTo}
 use Rattle.sock_tcp.specs.Due.{ack_poll, data_due, is_closed, is_due, window_doubled}
@@ -66,12 +66,12 @@ timed_out : (v : View) (now : Instant) → is_reached (timeout_poll v.timeout v.
 unfolding after_timers readied last_ts_set
 timed_out v now e = rw (reached_knows v.timeout v.remote_last_ts v now e, e) refl
 
-closed_due : (u : View) (t : Tuple) (f : Facts) (stamps : Bool) → u.state ≡ state.Closed → is_due u t f stamps ≡ true
+closed_due : (u : View) (t : Tuple) (f : Facts) → u.state ≡ state.Closed → is_due u t f ≡ true
 unfolding is_due
-closed_due u t f stamps is = go (is_due_by) refl
+closed_due u t f is = go (is_due_by) refl
   where
     front : Bool
-    front = data_due u t f stamps || is_reached (ack_poll u) (moment_of f) || window_doubled u
+    front = data_due u t f || is_reached (ack_poll u) (moment_of f) || window_doubled u
 
     is_due_by : Bool
     is_due_by = front || is_closed u.state || is_keep_alive_over u.timer (moment_of f) || is_probe_over u.timer (moment_of f)
@@ -88,25 +88,26 @@ renewed_closed : (v : View) → (renewed v).state ≡ state.Closed
 unfolding renewed fresh
 renewed_closed v = refl
 
-module _ (v : View) (f : Facts) (stamps : Bool) (over : is_reached (timeout_poll v.timeout v.remote_last_ts) (moment_of f) ≡ true) where
+module _ (v : View) (f : Facts) (over : is_reached (timeout_poll v.timeout v.remote_last_ts) (moment_of f) ≡ true) where
   abbrev u : View
   u = after_timers (readied v (moment_of f)) (moment_of f)
 
-  by_pause : (t : Tuple) (b : Bool) → is_paused u.state u.synack_paused ≡ b → (before_emit_to (if b then None else Some t) u f stamps).view.state ≡ state.Closed
-  by_pause t true e = timed_out v (moment_of f) over
-  by_pause t false e = rw (closed_due u t f stamps (timed_out v (moment_of f) over)) (timed_out v (moment_of f) over)
+  by_pause : (b : Bool) (o : Option Tuple) → (before_emit_to (if not b then o else None) u f).view.state ≡ state.Closed
+  by_pause true o = timed_out v (moment_of f) over
+  by_pause false None = timed_out v (moment_of f) over
+  by_pause false (Some t) = rw (closed_due u t f (timed_out v (moment_of f) over)) (timed_out v (moment_of f) over)
 
-  by_address : (t : Tuple) (b : Bool) → (before_emit_to (if b then unless_paused u t else ended (renewed v)).peer (if b then unless_paused u t else ended (renewed v)).view f stamps).view.state ≡ state.Closed
-  by_address t true = by_pause t (is_paused u.state u.synack_paused) refl
-  by_address t false = renewed_closed v
+  by_address : (b : Bool) → (before_emit_to (peer_of (if b then unless_paused u else ended (renewed v))) (if b then unless_paused u else ended (renewed v)).view f).view.state ≡ state.Closed
+  by_address true = by_pause (is_paused u.state u.synack_paused) u.tuple
+  by_address false = renewed_closed v
 
-  by_peer : (o : Option Tuple) → is_some o ≡ true → (before_emit_to (begun_to o v f).peer (begun_to o v f).view f stamps).view.state ≡ state.Closed
+  by_peer : (o : Option Tuple) → is_some o ≡ true → (before_emit_to (peer_of (begun_to o v f)) (begun_to o v f).view f).view.state ≡ state.Closed
   by_peer None e = absurd cc
-  by_peer (Some t) e = by_address t (f.has_address t.local.addr)
+  by_peer (Some t) e = by_address (f.has_address t.local.addr)
 
-closed_before : (v : View) (f : Facts) (stamps : Bool) → IsTimedOut v (moment_of f) → (before_emit v f stamps).view.state ≡ state.Closed
+closed_before : (v : View) (f : Facts) → IsTimedOut v (moment_of f) → (before_emit v f).view.state ≡ state.Closed
 unfolding before_emit begun
-closed_before v f stamps h = by_peer v f stamps h.over v.tuple h.peer
+closed_before v f h = by_peer v f h.over v.tuple h.peer
 
 -- ---- the whole
 
@@ -117,4 +118,4 @@ module _ {F C E G : Type 0} (g : EmitTcp F C E) (emit : F) (f : Facts) (tells : 
 
   pub timeout_ends : (v : View) (c : C) (r : Result (Unit {0}) E) (w : View) (c' : C) → Dispatches g emit f tells clock v c r w c' → IsTimedOut v (moment_of f) → IsClosed w
   unfolding Dispatches
-  timeout_ends v c r w c' h t = state_stays (before_emit v f (is_some clock)).peer (before_emit v f (is_some clock)).view c r w c' h ∙ closed_before v f (is_some clock) t
+  timeout_ends v c r w c' h t = state_stays (peer_of (before_emit v f)) (before_emit v f).view c r w c' h ∙ closed_before v f t

@@ -1,5 +1,5 @@
 -- How late a wake-up may come: over any list of calls whose clock does not go back.
-use Rattle.std.specs.Prelude.{ℕ, ◌≡◌, ◌+◌, ◌≤◌, ◌^◌, ◌≤ℤ◌, pos, length, Option, Some, None, Bool, true}
+use Rattle.std.specs.Prelude.{ℕ, ◌≡◌, ◌+◌, ◌≤◌, ◌^◌, ◌≤ℤ◌, pos, length, Option, Some, None, true}
 use Rattle.std.specs.Option.{ForSome}
 use Rattle.net_base.specs.Ring.{Ring}
 use Rattle.net_base.specs.declared.time.Duration.{Duration}
@@ -23,7 +23,7 @@ use Rattle.tcp_laws.specs.SocketRun.{Process, Dispatch, Set, SetKeepAlive, SetAc
 -- the moment that a call tells
 abbrev pub moment_in : {v w : View} {k j : Counts} → Step v k w j → Option Instant
 moment_in (Process now word ip s small numbered short bare view counts) = Some now
-moment_in (Dispatch f stamps out sends counts) = Some (moment_of f)
+moment_in (Dispatch f out sends counts) = Some (moment_of f)
 moment_in _ = None
 
 -- the interval of keep-alives, or the delay of acknowledgements, that a call sets
@@ -79,16 +79,16 @@ IsAwake v = timer_poll v.timer ≡ poll.Ingress → ack_due v ≡ true
 
 -- a socket with a peer that is awake is to be called at the latest so long after the latest moment told
 abbrev pub WakeUpIsBounded : Type 0
-WakeUpIsBounded = (v : View) (last : Instant) (most : Duration) (t : Tuple) (f : Facts) (stamps : Bool)
+WakeUpIsBounded = (v : View) (last : Instant) (most : Duration) (t : Tuple) (f : Facts)
     → IsReachedBy v last most
     → v.tuple ≡ Some t
     → IsAwake v
-    → ComesBy (poll_moment v f stamps) (after last most)
+    → ComesBy (poll_moment v f) (after last most)
 
 -- and one with a keep-alive interval always is
 abbrev pub KeepAliveIsBounded : Type 0
-KeepAliveIsBounded = (v : View) (last : Instant) (most d : Duration) (t : Tuple) (f : Facts) (stamps : Bool)
+KeepAliveIsBounded = (v : View) (last : Instant) (most d : Duration) (t : Tuple) (f : Facts)
     → IsReachedBy v last most
     → v.tuple ≡ Some t
     → v.keep_alive ≡ Some d
-    → ComesBy (poll_moment v f stamps) (after last most)
+    → ComesBy (poll_moment v f) (after last most)

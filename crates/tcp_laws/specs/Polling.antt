@@ -1,5 +1,5 @@
 -- What is promised of `poll_at` and of the payload of a dispatch.
-use Rattle.std.specs.Prelude.{◌≡◌, ℕ, ◌+◌, ◌≤◌, ◌<◌, ◌^◌, ◌⊎◌, ◌≤ℤ◌, length, Option, Some, None, is_some, Bool, true}
+use Rattle.std.specs.Prelude.{◌≡◌, ℕ, ◌+◌, ◌≤◌, ◌<◌, ◌^◌, ◌⊎◌, ◌≤ℤ◌, length, Option, Some, None, true}
 use Rattle.std.specs.Prelude.{false, List}
 use Rattle.net_base.specs.Ring.{Ring}
 use Rattle.net_base.specs.declared.time.Duration.{Duration}
@@ -8,7 +8,7 @@ use Rattle.sock_core.specs.Facts.{Facts}
 use Rattle.sock_core.specs.Received.{receiving}
 use Rattle.sock_core.specs.declared.context.PollAt.TheVariants as poll
 use Rattle.sock_core.specs.declared.context.PollAt.{PollAt}
-use Rattle.sock_tcp.specs.Begin.{before_emit}
+use Rattle.sock_tcp.specs.Begin.{before_emit, peer_of}
 use Rattle.sock_tcp.specs.Content.{Sending, asked, offset_of, content}
 use Rattle.sock_tcp.specs.Due.{flight, ack_due, congestion_left}
 use Rattle.sock_tcp.specs.Poll.{poll_moment}
@@ -29,8 +29,8 @@ use Rattle.tcp_laws.specs.SocketRun.{Counts, Run, starting}
 
 -- where `poll_at` answers a moment after now, or a packet, a dispatch at now has nothing to send
 abbrev pub PollHidesNothing : Type 0
-PollHidesNothing = (v : View) (f : Facts) (stamps : Bool)
-    → IsLater (poll_moment v f stamps) (moment_of f) → (before_emit v f stamps).peer ≡ None
+PollHidesNothing = (v : View) (f : Facts)
+    → IsLater (poll_moment v f) (moment_of f) → peer_of (before_emit v f) ≡ None
 
 -- ---- windows
 
@@ -38,7 +38,7 @@ PollHidesNothing = (v : View) (f : Facts) (stamps : Bool)
 -- is at most the congestion window less what is in flight
 abbrev pub PayloadKeepsToWindows : Type 0
 PayloadKeepsToWindows = (v : View) (t : Tuple) (f : Facts) (stamp : Option ℕ) (bytes : List ℕ) (s : Sending)
-    → IsLent v.tx_buffer (offset_of v) (asked v t f (is_some stamp)) bytes
+    → IsLent v.tx_buffer (offset_of v) (asked v t f) bytes
     → content v t f stamp bytes ≡ Some s
     → s.kind ≡ kind.Plain
     → v.pending_fast_retransmit ≡ false
@@ -82,10 +82,10 @@ pub record Sleeps (v : View) : Type 0 where
 
 -- only so does a socket with work to do wait for a segment
 abbrev pub SleepsOnlySo : Type 0
-SleepsOnlySo = (v : View) (f : Facts) (stamps : Bool)
+SleepsOnlySo = (v : View) (f : Facts)
     → IsReached v
     → has_work v ≡ true
-    → poll_moment v f stamps ≡ poll.Ingress
+    → poll_moment v f ≡ poll.Ingress
     → Sleeps v
 
 -- ---- what wakes
@@ -103,18 +103,18 @@ WakesWithin (Some last) d p = ComesBy p (after last d)
 
 -- any socket that has a peer and a user timeout
 abbrev pub TimeoutWakes : Type 0
-TimeoutWakes = (v : View) (t : Tuple) (d : Duration) (f : Facts) (stamps : Bool)
+TimeoutWakes = (v : View) (t : Tuple) (d : Duration) (f : Facts)
     → v.tuple ≡ Some t
     → v.timeout ≡ Some d
-    → WakesWithin v.remote_last_ts d (poll_moment v f stamps)
+    → WakesWithin v.remote_last_ts d (poll_moment v f)
 
 -- one that has a peer and a keep-alive interval
 abbrev pub KeepAliveWakes : Type 0
-KeepAliveWakes = (v : View) (t : Tuple) (d : Duration) (f : Facts) (stamps : Bool)
+KeepAliveWakes = (v : View) (t : Tuple) (d : Duration) (f : Facts)
     → IsReached v
     → v.tuple ≡ Some t
     → v.keep_alive ≡ Some d
-    → poll_moment v f stamps ≡ poll.Ingress
+    → poll_moment v f ≡ poll.Ingress
     → ⊥
 
 -- ---- without work

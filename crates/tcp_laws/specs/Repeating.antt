@@ -1,10 +1,10 @@
 -- When a dispatch that sent nothing but an acknowledgement wants another one at the same moment.
-use Rattle.std.specs.Prelude.{ℕ, ◌≡◌, ◌⊎◌, List, Option, Some, is_some, true}
+use Rattle.std.specs.Prelude.{ℕ, ◌≡◌, ◌⊎◌, List, Option, Some, true}
 use Rattle.net_base.specs.declared.time.Duration.{Duration}
 use Rattle.net_base.specs.declared.time.Instant.{Instant}
 use Rattle.control_wire.specs.Segment.{segment_len}
 use Rattle.sock_core.specs.Facts.{Facts, IsLawful}
-use Rattle.sock_tcp.specs.Begin.{before_emit}
+use Rattle.sock_tcp.specs.Begin.{before_emit, going_on}
 use Rattle.sock_tcp.specs.Content.{Sending, asked, content, is_probing, offset_of}
 use Rattle.sock_tcp.specs.Due.{ack_due, window_doubled}
 use Rattle.sock_tcp.specs.Poll.{poll_moment}
@@ -23,9 +23,10 @@ use Rattle.tcp_laws.specs.Polling.{IsReached}
 pub record Emitted (f : Facts) (v u : View) (out : Sending) (w : View) : Type 0 where
   pub stamp : Option ℕ
   pub peer : Tuple
-  pub begins : before_emit v f (is_some stamp) ≡ record { view = u; peer = Some peer }
+  pub begins : before_emit v f ≡ going_on u
+  pub to : u.tuple ≡ Some peer
   pub bytes : List ℕ
-  pub lent : IsLent u.tx_buffer (offset_of u) (asked u peer f (is_some stamp)) bytes
+  pub lent : IsLent u.tx_buffer (offset_of u) (asked u peer f) bytes
   pub sends : content u peer f stamp bytes ≡ Some out
   pub view : w ≡ left_by (Some out) u (moment_of f) true
 
@@ -47,5 +48,5 @@ AcksRepeatOnlySo = (v u w : View) (f : Facts) (out : Sending)
     → IsLawful f
     → (h : Emitted f v u out w)
     → IsAckAlone out
-    → is_reached (poll_moment w f (is_some h.stamp)) (moment_of f) ≡ true
+    → is_reached (poll_moment w f) (moment_of f) ≡ true
     → WantsAnother w out.kind (moment_of f)

@@ -19,7 +19,7 @@ abbrev pub begins : (v : View) (k : Counts) (w : View) (j : Counts) → Step v k
 begins v k w j (Listen e r h is) = opens_listener v e
 begins v k w j (Connect f word remote local small h is) = is_ok (endpoints v f remote local)
 begins v k w j (Process now word ip s small numbered short bare h is) = listens_again v.state w.state
-begins v k w j (Dispatch f stamps out h is) = is_reset v f stamps
+begins v k w j (Dispatch f out h is) = is_reset v f
 begins v k w j _ = false
 
 -- what a call brings, and how far behind the bytes that joined: a segment what of it lies inside the window, or

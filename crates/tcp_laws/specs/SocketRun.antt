@@ -13,7 +13,7 @@ use Rattle.control_wire.specs.Seq.{seq_sub}
 use Rattle.sock_core.specs.Emission.{Emits}
 use Rattle.sock_core.specs.Facts.{Facts}
 use Rattle.sock_core.specs.Received.{byte_at}
-use Rattle.sock_tcp.specs.Begin.{before_emit, begun}
+use Rattle.sock_tcp.specs.Begin.{before_emit, begun, peer_of}
 use Rattle.sock_tcp.specs.Closing.{aborted, closed, keep_alive_set}
 use Rattle.sock_tcp.specs.Content.{Sending, asked, offset_of, content}
 use Rattle.sock_tcp.specs.Dispatch.{EmitTcp, packet_in}
@@ -134,12 +134,12 @@ is_address_lost None f = false
 is_address_lost (Some t) f = not (f.has_address t.local.addr)
 
 -- and so does one with nothing to send once TIME-WAIT is over
-abbrev pub is_wait_over : Option Tuple → View → Facts → Bool → Bool
-is_wait_over None v f stamps = false
-is_wait_over (Some t) v f stamps = not (is_due v t f stamps) && is_close_over v.timer (moment_of f)
+abbrev pub is_wait_over : Option Tuple → View → Facts → Bool
+is_wait_over None v f = false
+is_wait_over (Some t) v f = not (is_due v t f) && is_close_over v.timer (moment_of f)
 
-abbrev pub is_reset : View → Facts → Bool → Bool
-is_reset v f stamps = is_address_lost v.tuple f || is_wait_over (begun v f).peer (begun v f).view f stamps
+abbrev pub is_reset : View → Facts → Bool
+is_reset v f = is_address_lost v.tuple f || is_wait_over (peer_of (begun v f)) (begun v f).view f
 
 -- ---- one call
 
@@ -152,31 +152,31 @@ pub data Sets (v w : View) : Type 0 where
   SetKeepAlive : (x : Option Duration) → w ≡ keep_alive_set v x → Sets v w
   SetHopLimit : (x : Option ℕ) → w ≡ record v { hop_limit = x } → Sets v w
   PauseSynAck : (x : Bool) → w ≡ record v { synack_paused = x } → Sets v w
-  SetTsvalGenerator : w ≡ v → Sets v w
+  SetTsvalGenerator : (is_there : Bool) → w ≡ record v { stamps = is_there } → Sets v w
 
 -- the socket v sends out, or nothing, and becomes w, whether the emit answers Ok or an error
-pub record SendsDue (f : Facts) (t : Tuple) (stamps : Bool) (v : View) (out : Option Sending) (w : View) : Type 0 where
+pub record SendsDue (f : Facts) (t : Tuple) (v : View) (out : Option Sending) (w : View) : Type 0 where
   pub stamp : Option ℕ
-  pub told : is_some stamp ≡ stamps
+  pub told : is_some stamp ≡ v.stamps
   pub bytes : List ℕ
-  pub lent : IsLent v.tx_buffer (offset_of v) (asked v t f (is_some stamp)) bytes
+  pub lent : IsLent v.tx_buffer (offset_of v) (asked v t f) bytes
   pub ok : Bool
   pub sends : out ≡ content v t f stamp bytes
   pub view : w ≡ left_by out v (moment_of f) ok
 
-abbrev pub SendsTo : Option Tuple → Facts → Bool → View → Option Sending → View → Type 0
-SendsTo None f stamps v out w = (out ≡ None) × (w ≡ v)
-SendsTo (Some t) f stamps v out w = SendsDue f t stamps v out w
+abbrev pub SendsTo : Option Tuple → Facts → View → Option Sending → View → Type 0
+SendsTo None f v out w = (out ≡ None) × (w ≡ v)
+SendsTo (Some t) f v out w = SendsDue f t v out w
 
 -- what the contract of `dispatch` says of the socket, for any closure
-abbrev pub Dispatched : Facts → Bool → View → Option Sending → View → Type 0
-Dispatched f stamps v out w = SendsTo (before_emit v f stamps).peer f stamps (before_emit v f stamps).view out w
+abbrev pub Dispatched : Facts → View → Option Sending → View → Type 0
+Dispatched f v out w = SendsTo (peer_of (before_emit v f)) f (before_emit v f).view out w
 
 -- a dispatch, with the emit that is called once with what goes out, or not at all
-pub record DispatchesOut {F C E : Type 0} (g : EmitTcp F C E) (emit : F) (f : Facts) (stamps : Bool)
+pub record DispatchesOut {F C E : Type 0} (g : EmitTcp F C E) (emit : F) (f : Facts)
     (v : View) (c : C) (r : Result (Unit {0}) E) (w : View) (c' : C) : Type 0 where
   pub out : Option Sending
-  pub socket : Dispatched f stamps v out w
+  pub socket : Dispatched f v out w
   pub emits : Emits g packet_of emit (option_map packet_in out) c r c'
 
 -- a segment's numbers have 32 bits
@@ -219,9 +219,9 @@ pub data Step (v : View) (k : Counts) (w : View) (j : Counts) : Type 0 where
       → (v.state ≡ state.Listen → s.ack_number ≡ None)
       → w ≡ (processed v now word ip s).view
       → j ≡ after_segment k v w → Step v k w j
-  Dispatch : (f : Facts) (stamps : Bool) (out : Option Sending)
-      → Dispatched f stamps v out w
-      → j ≡ starting_if (is_reset v f stamps) w k → Step v k w j
+  Dispatch : (f : Facts) (out : Option Sending)
+      → Dispatched f v out w
+      → j ≡ starting_if (is_reset v f) w k → Step v k w j
 
 -- any list of calls
 pub data Run : View → Counts → View → Counts → Type 0 where
@@ -237,8 +237,8 @@ IsPart k n bs = bs ≡ take (length bs) (drop (k.released + n) k.sent)
 -- Whatever a dispatch of v sends, a keep-alive aside: its payload is the part of what was sent that begins as many
 -- bytes behind the released ones as its number lies behind SND.UNA
 abbrev pub SendsParts : View → Counts → Type 0
-SendsParts v k = (f : Facts) (stamps : Bool) (out : Sending) (w : View)
-    → Dispatched f stamps v (Some out) w
+SendsParts v k = (f : Facts) (out : Sending) (w : View)
+    → Dispatched f v (Some out) w
     → (out.kind ≡ kind.KeepAlive → ⊥)
     → IsPart k (seq_sub out.segment.seq_number v.local_seq_no) out.segment.payload
 

@@ -1,9 +1,9 @@
 -- When a dispatch sends bytes or a FIN.
-use Rattle.std.specs.Prelude.{◌≡◌, ◌<◌, Some, is_some, Bool, true, false}
+use Rattle.std.specs.Prelude.{◌≡◌, ◌<◌, Some, true, false}
 use Rattle.net_base.specs.declared.time.Instant.{Instant}
 use Rattle.control_wire.specs.Segment.{segment_len}
 use Rattle.sock_core.specs.Facts.{Facts, IsLawful}
-use Rattle.sock_tcp.specs.Begin.{before_emit, readied}
+use Rattle.sock_tcp.specs.Begin.{before_emit, readied, peer_of}
 use Rattle.sock_tcp.specs.Content.{Sending}
 use Rattle.sock_tcp.specs.Due.{data_due}
 use Rattle.sock_tcp.specs.Polls.{is_reached, timeout_poll}
@@ -23,7 +23,7 @@ DueDataGoesOut = (v u w : View) (f : Facts) (out : Sending)
     → IsLawful f
     → (h : Emitted f v u out w)
     → (u.state ≡ state.Closed → ⊥)
-    → data_due u h.peer f (is_some h.stamp) ≡ true
+    → data_due u h.peer f ≡ true
     → 0 < segment_len out.segment
 
 -- the retransmission timer of a socket with a peer is over, and its address is there; the user timeout is not over
@@ -36,17 +36,17 @@ pub record IsRetransmissionOver (v : View) (t : Tuple) (f : Facts) : Type 0 wher
   pub over : is_over at (moment_of f) ≡ true
 
 -- the dispatch comes to its emit as u, with data due from SND.UNA on
-pub record BeginsAgain (v : View) (t : Tuple) (f : Facts) (stamps : Bool) : Type 0 where
-  pub peer : (before_emit v f stamps).peer ≡ Some t
-  pub due : data_due (before_emit v f stamps).view t f stamps ≡ true
-  pub una : (before_emit v f stamps).view.local_seq_no ≡ v.local_seq_no
-  pub nxt : (before_emit v f stamps).view.remote_last_seq ≡ v.local_seq_no
+pub record BeginsAgain (v : View) (t : Tuple) (f : Facts) : Type 0 where
+  pub peer : peer_of (before_emit v f) ≡ Some t
+  pub due : data_due (before_emit v f).view t f ≡ true
+  pub una : (before_emit v f).view.local_seq_no ≡ v.local_seq_no
+  pub nxt : (before_emit v f).view.remote_last_seq ≡ v.local_seq_no
 
 -- with a window, and bytes or a FIN that wait, a dispatch sends again from SND.UNA on
 abbrev pub RetransmissionBegins : Type 0
-RetransmissionBegins = (v : View) (t : Tuple) (f : Facts) (stamps : Bool)
+RetransmissionBegins = (v : View) (t : Tuple) (f : Facts)
     → IsReached v
     → IsRetransmissionOver v t f
     → 0 < v.remote_win_len
     → HasToSend v
-    → BeginsAgain v t f stamps
+    → BeginsAgain v t f

@@ -81,14 +81,14 @@ HasToSend v = (0 < length v.tx_buffer.bytes) ⊎ (is_closing v.state ≡ true)
 
 -- where nothing is in flight, what waits is due after a segment that tells a window
 abbrev pub WindowWakes : Type 0
-WindowWakes = (v : View) (now : Instant) (word : ℕ) (ip : IpRepr) (s : Segment) (t : Tuple) (f : Facts) (stamps : Bool)
+WindowWakes = (v : View) (now : Instant) (word : ℕ) (ip : IpRepr) (s : Segment) (t : Tuple) (f : Facts)
     → IsReached v
     → word < 2 ^ 32
     → IsNumbered s
     → TellsWindow v s
     → flight (processed v now word ip s).view ≡ 0
     → HasToSend (processed v now word ip s).view
-    → data_due (processed v now word ip s).view t f stamps ≡ true
+    → data_due (processed v now word ip s).view t f ≡ true
 
 -- the third duplicate in turn: it acknowledges nothing new while something is in flight, without bytes and with the
 -- window as it was

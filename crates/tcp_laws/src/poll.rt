@@ -1,6 +1,6 @@
 //! What is promised of `poll_at`, of a socket that waits, and of the payload of a segment, as laws: functions whose
 //! contracts are the laws. Their bodies are empty, or the one call that the law speaks of.
-ghost use Rattle.std.specs.Prelude.{◌≡◌, Ok, is_some};
+ghost use Rattle.std.specs.Prelude.{◌≡◌, Ok};
 ghost use Rattle.sock_tcp.specs.View.{moment_of};
 ghost use Rattle.sock_tcp.specs.Polls.{IsLater};
 ghost use Rattle.sock_tcp.specs.Dispatch.{Dispatches};
@@ -31,9 +31,7 @@ pub fn dispatch_early<
     F: FnOnce(&mut C, (IpRepr, TcpRepr<'_>)) -> Result<(), E>,
 >(socket: &mut Socket<'_, G>, cx: &mut C, emit: F) -> Result<(), E>
     requires callable { F.IsAlwaysCallable emit }
-    requires later { IsLater
-        (poll_moment socket.old.control_block (C.facts cx.old) (is_some socket.old.tsval_generator))
-        (moment_of (C.facts cx.old)) }
+    requires later { IsLater (poll_moment socket.old.control_block (C.facts cx.old)) (moment_of (C.facts cx.old)) }
     ensures answer { result ≡ Ok tt }
     ensures context { cx.new ≡ cx.old }
     ensures table { Dispatches F.FnOnce emit (C.facts cx.old) G.tells socket.old.tsval_generator

@@ -1,6 +1,6 @@
 //! What is promised of one socket beyond its case tables, as laws: functions whose contracts are the laws. Their bodies
 //! are empty, or the one call that the law speaks of.
-ghost use Rattle.std.specs.Prelude.{ℕ, ◌≡◌, ◌+◌, ◌≤◌, ◌<◌, ◌^◌, Bool, List, Option, length, is_ok, is_some, false};
+ghost use Rattle.std.specs.Prelude.{ℕ, ◌≡◌, ◌+◌, ◌≤◌, ◌<◌, ◌^◌, Bool, List, Option, length, is_ok, false};
 ghost use Rattle.std.specs.Fn.{FnOnceReturnsAt, FnOnceReturnsAtMut};
 ghost use Rattle.ip_wire.specs.declared.repr.IpRepr.{IpRepr};
 ghost use Rattle.net_base.specs.Ring.{Ring};
@@ -12,7 +12,7 @@ ghost use Rattle.sock_tcp.specs.Closing.{aborted, closed, keep_alive_set};
 ghost use Rattle.tcp_laws.specs.Laws.{MayTake};
 ghost use Rattle.tcp_laws.specs.Polling.{IsReached};
 ghost use Rattle.sock_tcp.specs.Opening.{Connects, Listens};
-ghost use Rattle.sock_tcp.specs.Process.{generator_after, processed, Accepts, Processes};
+ghost use Rattle.sock_tcp.specs.Process.{source_kept, processed, Accepts, Processes};
 ghost use Rattle.sock_tcp.specs.Queue.{queue_of};
 ghost use Rattle.sock_tcp.specs.Queues.{SendsWith, ReadsWith};
 ghost use Rattle.tcp_laws.specs.SocketBytes.{begins, KeepsPlaces};
@@ -85,8 +85,8 @@ pub fn dispatch_sends<
     F: FnOnce(&mut C, (IpRepr, TcpRepr<'_>)) -> Result<(), E>,
 >(socket: &mut Socket<'_, G>, cx: &mut C, emit: F) -> Result<(), E>
     requires callable { F.IsAlwaysCallable emit }
-    ensures { DispatchesOut F.FnOnce emit (C.facts cx.old) (is_some socket.old.tsval_generator)
-        socket.old.control_block cx.old result socket.new.control_block cx.new }
+    ensures { DispatchesOut F.FnOnce emit (C.facts cx.old) socket.old.control_block cx.old result
+        socket.new.control_block cx.new }
 {
     socket.dispatch(cx, emit)
 }
@@ -185,7 +185,7 @@ pub fn process_receives<G: TsvalSource, C: Context>(
     ensures table { Processes C.facts C.word_at (IsReplyStamp G.tells socket.new.tsval_generator repr.now.timestamp)
         socket.old.control_block cx.old ip_repr.now (segment_of repr.now) result socket.new.control_block cx.new }
     ensures generator { socket.new.tsval_generator
-        ≡ generator_after socket.old.control_block (segment_of repr.now) socket.old.tsval_generator }
+        ≡ source_kept socket.new.control_block.stamps socket.old.tsval_generator }
     ensures call { (k : Counts) → Step socket.old.control_block k socket.new.control_block
         (after_segment k socket.old.control_block socket.new.control_block) }
 {
@@ -194,7 +194,7 @@ pub fn process_receives<G: TsvalSource, C: Context>(
 }
 
 /// Each setter as a call of that law, by what its contract says of the socket: nothing is counted. The source of
-/// timestamps is no part of a socket's control block, so that its setter changes nothing there.
+/// timestamps itself is no part of a socket's control block, but whether there is one.
 pub fn settings_are_calls()
     ensures congestion_control { (v : View) (k : Counts) (x : CongestionControl)
         → Step v k (record v { congestion_controller = of_kind x }) k }
@@ -204,5 +204,5 @@ pub fn settings_are_calls()
     ensures keep_alive { (v : View) (k : Counts) (x : Option Duration) → Step v k (keep_alive_set v x) k }
     ensures hop_limit { (v : View) (k : Counts) (x : Option ℕ) → Step v k (record v { hop_limit = x }) k }
     ensures pause { (v : View) (k : Counts) (x : Bool) → Step v k (record v { synack_paused = x }) k }
-    ensures generator { (v : View) (k : Counts) → Step v k v k }
+    ensures generator { (v : View) (k : Counts) (x : Bool) → Step v k (record v { stamps = x }) k }
 {}

@@ -1,12 +1,12 @@
 -- What a dispatch emits survives the wire.
-use Rattle.std.proofs.Common.{ℕ, Option, Some, None, is_some}
+use Rattle.std.proofs.Common.{ℕ, Option, Some, None}
 use Rattle.std.specs.Prelude.{Result}
 use Rattle.std.proofs.lemmas.Option.{none-some}
 use Rattle.ip_wire.specs.declared.repr.IpRepr.{IpRepr}
 use Rattle.control_wire.specs.Fits.{FitsPacket}
 use Rattle.control_wire.specs.Segment.{Segment}
 use Rattle.sock_core.specs.Facts.{Facts}
-use Rattle.sock_tcp.specs.Begin.{before_emit}
+use Rattle.sock_tcp.specs.Begin.{before_emit, peer_of}
 use Rattle.sock_tcp.specs.Content.{content}
 use Rattle.sock_tcp.specs.Dispatch.{EmitTcp, EmitsTo, Dispatches}
 use Rattle.sock_tcp.specs.View.{View}
@@ -21,4 +21,4 @@ module _ {F C E G : Type 0} (g : EmitTcp F C E) (f : F) (facts : Facts) (tells :
 
   pub dispatched : (u : View) (c : C) (r : Result (Unit {0}) E) (w : View) (c' : C) → Dispatches g f facts tells clock u c r w c' → DispatchesSurviving g f c r c'
   unfolding Dispatches
-  dispatched u c r w c' h = emits (before_emit u facts (is_some clock)).peer (before_emit u facts (is_some clock)).view c r w c' h
+  dispatched u c r w c' h = emits (peer_of (before_emit u facts)) (before_emit u facts).view c r w c' h

@@ -1,5 +1,5 @@
 use Rattle.std.proofs.Common.{refl}
-use Rattle.tcp_laws.specs.SocketRun.{Set, SetCongestionControl, SetTimeout, SetAckDelay, SetNagle, SetKeepAlive, SetHopLimit, PauseSynAck}
+use Rattle.tcp_laws.specs.SocketRun.{Set, SetCongestionControl, SetTimeout, SetAckDelay, SetNagle, SetKeepAlive, SetHopLimit, PauseSynAck, SetTsvalGenerator}
 use Rattle.tcp_laws.proofs.streams.settings_are_calls.Goals as goal
 
 pub returns-clause-congestion_control : goal.returns-clause-congestion_control
@@ -22,3 +22,6 @@ returns-clause-hop_limit c v k x = Set (SetHopLimit x refl) refl
 
 pub returns-clause-pause : goal.returns-clause-pause
 returns-clause-pause c v k x = Set (PauseSynAck x refl) refl
+
+pub returns-clause-generator : goal.returns-clause-generator
+returns-clause-generator c v k x = Set (SetTsvalGenerator x refl) refl
