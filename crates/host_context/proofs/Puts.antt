@@ -22,7 +22,7 @@ use Rattle.ip_wire.specs.declared.checksum.ChecksumCapabilities.{ChecksumCapabil
 use Rattle.segment_wire.specs.Packet.{TcpPacket, tcp_packet}
 use Rattle.sock_core.specs.Emission.{Emits}
 use Rattle.sock_core.specs.Facts.{Facts}
-use Rattle.sock_tcp.specs.Begin.{before_emit}
+use Rattle.sock_tcp.specs.Begin.{before_emit, peer_of}
 use Rattle.sock_tcp.specs.Content.{content}
 use Rattle.sock_tcp.specs.Dispatch.{Dispatches, EmitTcp, EmitsTo, packet_in}
 use Rattle.sock_tcp.specs.Draw.{Draws, draws}
@@ -84,6 +84,7 @@ module _ {F K C E : Type 0} (g : EmitTcp F C E) (f : F) (h : EmitTcp K C E) (k :
           stamp = x.stamp;
           told = x.told;
           emits = record {
+            stamped = x.emits.stamped;
             bytes = x.emits.bytes;
             lent = x.emits.lent;
             emits = emits (option_map packet_in (content v t facts x.stamp x.emits.bytes)) x.emits.emits;
@@ -94,7 +95,7 @@ module _ {F K C E : Type 0} (g : EmitTcp F C E) (f : F) (h : EmitTcp K C E) (k :
 
     pub dispatches : (v w : View) → Dispatches g f facts tells clock v c r w c' → Dispatches h k facts tells clock v c r w c'
     unfolding Dispatches
-    dispatches v w x = to (before_emit v facts (is_some clock)).peer (before_emit v facts (is_some clock)).view w x
+    dispatches v w x = to (peer_of (before_emit v facts)) (before_emit v facts).view w x
 
 -- ---- what a dispatch leaves, whose emit puts a packet into the outbox
 
@@ -124,4 +125,4 @@ module _ {W : Type 0} (c c' : Interface W Outbox) (r : Result (Unit {0}) AllocEr
 
     pub leaves : (v w : View) → Dispatches puts_tcp tt facts tells clock v c r w c' → Leaves
     unfolding Dispatches
-    leaves v w x = given (before_emit v facts (is_some clock)).peer (before_emit v facts (is_some clock)).view w x
+    leaves v w x = given (peer_of (before_emit v facts)) (before_emit v facts).view w x

@@ -5,7 +5,7 @@ ghost use Rattle.control_wire.specs.Fits.{FitsPacket};
 ghost use Rattle.control_wire.specs.Segment.{segment_of};
 ghost use Rattle.segment_wire.specs.Packet.{TcpPacket, tcp_packet_parsed};
 ghost use Rattle.sock_tcp.specs.Dispatch.{Dispatches};
-ghost use Rattle.sock_tcp.specs.Process.{Accepts, generator_after, reply_of};
+ghost use Rattle.sock_tcp.specs.Process.{Accepts, reply_of, source_kept};
 ghost use Rattle.sock_tcp.specs.Replies.{IsReplyStamp};
 ghost use Rattle.host_context.specs.Layer.{Hears, IsFor, PutsTcp, Refuses, puts_tcp, with_reply};
 ghost use Rattle.host_context.specs.Outbox.{octets};
@@ -80,7 +80,7 @@ pub fn receive_tcp<W: Words, G: TsvalSource>(
     ensures kept { OnErr result (interface.new.outbox.packets.items ≡ interface.old.outbox.packets.items) }
     ensures generator { (p : TcpPacket) → tcp_packet_parsed interface.old.checksums bytes.now ≡ Some p
         → IsFor socket.old.control_block p → socket.new.tsval_generator
-        ≡ generator_after socket.old.control_block p.segment socket.old.tsval_generator }
+        ≡ source_kept socket.new.control_block.stamps socket.old.tsval_generator }
 {
     let caps = interface.checksums;
     let Ok((ip, repr)) = packet::parse_tcp(bytes, &caps) else {
@@ -108,7 +108,7 @@ fn hear<W: Words, G: TsvalSource>(
         result socket.new.control_block interface.new }
     ensures kept { OnErr result (interface.new.outbox.packets.items ≡ interface.old.outbox.packets.items) }
     ensures generator { socket.new.tsval_generator
-        ≡ generator_after socket.old.control_block (segment_of repr.now) socket.old.tsval_generator }
+        ≡ source_kept socket.new.control_block.stamps socket.old.tsval_generator }
 {
     let packets = hold(interface);
     let answer = socket.process(interface, ip, repr);

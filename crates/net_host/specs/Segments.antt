@@ -8,7 +8,7 @@ use Rattle.control_wire.specs.declared.tcp.TcpControl.TheVariants as control
 use Rattle.control_wire.specs.declared.tcp.TcpRepr.{TcpRepr}
 use Rattle.sock_core.specs.Facts.{Facts}
 use Rattle.sock_tcp.specs.Opening.{is_listening}
-use Rattle.sock_tcp.specs.Process.{Accepts, Processes, generator_after, reply_of}
+use Rattle.sock_tcp.specs.Process.{Accepts, Processes, reply_of, source_kept}
 use Rattle.sock_tcp.specs.Replies.{IsReplyStamp, rst_segment, with_header}
 use Rattle.sock_tcp.specs.View.{moment_of}
 use Rattle.smoltcp_socket.specs.declared.socket.Socket.{Socket}
@@ -54,7 +54,7 @@ module _ {C G : Type 0} (facts : C → Facts) (word_at : C → ℕ → ℕ) (tel
   SocketHears (Some (socket.Tcp x)) cx ip s r (Some (socket.Tcp y)) cx' =
       Processes facts word_at (IsReplyStamp tells y.tsval_generator s.timestamp) x.control_block cx ip s r
       y.control_block cx'
-      × (y.tsval_generator ≡ generator_after x.control_block s x.tsval_generator)
+      × (y.tsval_generator ≡ source_kept y.control_block.stamps x.tsval_generator)
   SocketHears _ cx ip s r _ cx' = ⊥
 
   pub record Hears (before : Slot G) (cx : C) (ip : IpRepr) (s : Segment) (r : Option (IpRepr × TcpRepr))
