@@ -44,6 +44,10 @@ enum {
 /* Kinds of congestion control: none, or Reno (RFC 5681). */
 enum { SMOLTCP_CONGESTION_NONE = 0, SMOLTCP_CONGESTION_RENO = 1 };
 
+/* Rules of a TCP socket: smoltcp's, or those of RFC 9293 outside of the receive window, so that the FIN of a peer is
+ * taken that sends old bytes with it, and a peer is heard that counts the byte of its probe. */
+enum { SMOLTCP_RULES_SMOLTCP = 0, SMOLTCP_RULES_RFC = 1 };
+
 /* An address: none where version is 0, v4 where it is 4, v6 where it is 6. In network order. */
 struct smoltcp_address { uint8_t version; uint8_t v4[4]; uint8_t v6[16]; };
 
@@ -93,7 +97,8 @@ enum {
     SMOLTCP_ASK_IS_LISTENING = 12, SMOLTCP_ASK_IS_ACTIVE = 13, SMOLTCP_ASK_HAS_WORK = 14, SMOLTCP_ASK_MAY_RECV = 15,
     SMOLTCP_ASK_SEND_CAPACITY = 16, SMOLTCP_ASK_RECV_CAPACITY = 17,
     SMOLTCP_ASK_TIMEOUT = 18, SMOLTCP_ASK_KEEP_ALIVE = 19, SMOLTCP_ASK_ACK_DELAY = 20,
-    SMOLTCP_ASK_NAGLE_ENABLED = 21, SMOLTCP_ASK_CONGESTION_CONTROL = 22, SMOLTCP_ASK_TIMESTAMP_ENABLED = 23
+    SMOLTCP_ASK_NAGLE_ENABLED = 21, SMOLTCP_ASK_CONGESTION_CONTROL = 22, SMOLTCP_ASK_TIMESTAMP_ENABLED = 23,
+    SMOLTCP_ASK_RULES = 24
 };
 
 /* The longest buffer, in bytes. */
@@ -176,6 +181,7 @@ int64_t smoltcp_tcp_set_nagle_enabled_checked(struct smoltcp_tcp_handle *h, uint
 int64_t smoltcp_tcp_set_hop_limit_checked(struct smoltcp_tcp_handle *h, uint8_t hop_limit);
 int64_t smoltcp_tcp_pause_synack_checked(struct smoltcp_tcp_handle *h, uint8_t pause);
 int64_t smoltcp_tcp_set_congestion_control_checked(struct smoltcp_tcp_handle *h, uint32_t kind);
+int64_t smoltcp_tcp_set_rules_checked(struct smoltcp_tcp_handle *h, uint32_t rules);
 int64_t smoltcp_tcp_set_timestamps_checked(struct smoltcp_tcp_handle *h, uint8_t enabled);
 int64_t smoltcp_tcp_send_checked(struct smoltcp_tcp_handle *h, const uint8_t *data, size_t len);
 int64_t smoltcp_tcp_recv_checked(struct smoltcp_tcp_handle *h, uint8_t *data, size_t len);
@@ -536,6 +542,13 @@ static inline int64_t smoltcp_tcp_set_congestion_control(struct smoltcp_tcp *s, 
     return smoltcp_tcp_set_congestion_control_checked(&h, kind);
 }
 
+/* Chooses the rules of a socket that is not open: a new one has smoltcp's. SMOLTCP_ERROR_STATE where it is open. */
+static inline int64_t smoltcp_tcp_set_rules(struct smoltcp_tcp *s, uint32_t rules) {
+    struct smoltcp_tcp_handle h = {(uint8_t *)s};
+    if (!s) return SMOLTCP_ERROR_NULL;
+    return smoltcp_tcp_set_rules_checked(&h, rules);
+}
+
 /* Whether timestamps are sent (RFC 7323), at the clock of each call's context; not in a new socket. Set it while the
  * socket is closed. */
 static inline int64_t smoltcp_tcp_set_timestamps(struct smoltcp_tcp *s, uint8_t enabled) {
@@ -572,6 +585,11 @@ static inline int64_t smoltcp_tcp_hop_limit(struct smoltcp_tcp *s) {
 /* The kind of congestion control. */
 static inline int64_t smoltcp_tcp_congestion_control(struct smoltcp_tcp *s) {
     return smoltcp_tcp_ask(s, SMOLTCP_ASK_CONGESTION_CONTROL);
+}
+
+/* The rules. */
+static inline int64_t smoltcp_tcp_rules(struct smoltcp_tcp *s) {
+    return smoltcp_tcp_ask(s, SMOLTCP_ASK_RULES);
 }
 
 /* 1 where timestamps are sent, else 0. */

@@ -10,6 +10,9 @@ fn main() {
     println!("cargo:rerun-if-env-changed=SMOLTCP_C_LIB");
     let target = env::var("TARGET").expect("cargo sets TARGET");
     let root = PathBuf::from(env::var("CARGO_MANIFEST_DIR").expect("cargo sets CARGO_MANIFEST_DIR"));
+    let page = ["README.md", "../../docs/RUST.md"].map(|path| root.join(path));
+    let page = page.iter().find(|path| path.is_file()).expect("the page of this crate");
+    println!("cargo:rustc-env=SMOLTCP_PROVED_README={}", page.display());
     let places = match env::var_os("SMOLTCP_C_LIB") {
         Some(path) => vec![PathBuf::from(path)],
         None => vec![root.join("lib").join(&target), root.join("../../c/lib").join(&target)],

@@ -14,7 +14,7 @@ use Rattle.sock_tcp.specs.View.{View}
 use Rattle.sock_tcp.specs.Work.{has_work}
 use Rattle.smoltcp_c.specs.Answers.{error_range, flag_answer}
 use Rattle.smoltcp_c.specs.Raw.{protocol_told, version_told}
-use Rattle.smoltcp_c.specs.Tcp.{byte_told, kind_told, micros_told}
+use Rattle.smoltcp_c.specs.Tcp.{byte_told, kind_told, rules_told, micros_told}
 
 -- how full the two queues of a datagram socket are, and how much they hold: 2^30 at most; or what else it is asked
 abbrev pub queues_told : {M : Type 0} → ℕ → Packets M → Packets M → ℤ → ℤ
@@ -51,6 +51,7 @@ setting_told n v =
     else if n == 21 then flag_answer v.nagle
     else if n == 22 then kind_told (kind_of v.congestion_controller)
     else if n == 23 then flag_answer v.stamps
+    else if n == 24 then rules_told v.rules
     else error_range
 
 -- a TCP socket

@@ -6,6 +6,8 @@ use Rattle.ip_wire.specs.declared.address.IpAddress.TheVariants as address
 use Rattle.ip_wire.specs.declared.endpoint.IpEndpoint.{IpEndpoint}
 use Rattle.ip_wire.specs.declared.endpoint.IpListenEndpoint.{IpListenEndpoint}
 use Rattle.net_base.specs.declared.time.Duration.{Duration}
+use Rattle.sock_tcp.specs.declared.rules.Rules.{Rules}
+use Rattle.sock_tcp.specs.declared.rules.Rules.TheVariants as rules
 use Rattle.sock_tcp.specs.declared.settings.CongestionControl.{CongestionControl}
 use Rattle.sock_tcp.specs.declared.settings.CongestionControl.TheVariants as congestion
 use Rattle.smoltcp_c.specs.declared.endpoints.Address.{Address}
@@ -33,6 +35,10 @@ lasting n = if is_short (micros_in n) then Some (micros_in n) else None
 unfoldable pub control_by : ℕ → Option CongestionControl
 control_by n =
     if n == 0 then Some congestion.None else if n == 1 then Some congestion.Reno else None
+
+-- the rules with this number
+unfoldable pub rules_by : ℕ → Option Rules
+rules_by n = if n == 0 then Some rules.Smoltcp else if n == 1 then Some rules.Rfc else None
 
 -- a byte, or none where it is 0
 abbrev pub byte_or_none : ℕ → Option ℕ

@@ -1,10 +1,14 @@
 -- A TCP socket as C holds it.
 use Rattle.std.specs.Prelude.{ℕ, ℤ, pos, negsuc, ◌^◌, min, List, ◌≡◌, Bool, if◌then◌else◌, Option, Some, None}
 use Rattle.net_base.specs.declared.time.Duration.{Duration}
+use Rattle.sock_tcp.specs.declared.rules.Rules.{Rules}
+use Rattle.sock_tcp.specs.declared.rules.Rules.TheVariants as rules
 use Rattle.sock_tcp.specs.declared.settings.CongestionControl.{CongestionControl}
 use Rattle.sock_tcp.specs.declared.settings.CongestionControl.TheVariants as congestion
 use Rattle.smoltcp_c.specs.declared.clock.Clock.{Clock}
+use Rattle.sock_tcp.specs.Opening.{is_open, rules_set}
 use Rattle.sock_tcp.specs.View.{View}
+use Rattle.smoltcp_c.specs.Answers.{error_state}
 use Rattle.smoltcp_c.specs.declared.handles.TcpHandle.{TcpHandle}
 
 abbrev pub view : TcpHandle → View
@@ -57,6 +61,15 @@ byte_told (Some n) = pos n
 abbrev pub kind_told : CongestionControl → ℤ
 kind_told congestion.None = pos 0
 kind_told congestion.Reno = pos 1
+
+abbrev pub rules_told : Rules → ℤ
+rules_told rules.Smoltcp = pos 0
+rules_told rules.Rfc = pos 1
+
+-- an open socket keeps its rules, and the call answers an error
+abbrev pub SetsRules : TcpHandle → Rules → ℤ → TcpHandle → Type 0
+SetsRules h r result h' =
+    (result ≡ (if is_open (view h).state then error_state else pos 0)) × IsView h (rules_set (view h) r) h'
 
 -- the call answered an error, and neither the socket nor the buffer changed
 abbrev pub RefusesFor : ℤ → TcpHandle → List ℕ → ℤ → TcpHandle → List ℕ → Type 0

@@ -9,7 +9,7 @@ use crate::answers::{ERROR_RANGE, count_answer, flag_answer, state_answer};
 use crate::clock::Clock;
 use crate::handles::{IcmpHandle, RawHandle, TcpHandle, UdpHandle};
 use crate::raw_filter::{protocol_of, version_of};
-use crate::settings::{byte_told, kind_told, micros_told};
+use crate::settings::{byte_told, kind_told, micros_told, rules_told};
 use sock_tcp::Socket;
 
 // What a socket with two queues of packets is asked; or else by the numbers that follow.
@@ -72,8 +72,8 @@ pub extern "C" fn smoltcp_raw_ask_checked(h: &mut RawHandle, what: u32) -> i64
 
 /// Answers what a TCP socket is asked: 2 to 5 as a UDP socket, 12 `is_listening`, 13 `is_active`, 14 `has_work`,
 /// 15 `may_recv`, 16 `send_capacity`, 17 `recv_capacity`, 18 `timeout`, 19 `keep_alive`, 20 `ack_delay` (all three in
-/// microseconds, or -1 for none), 21 `nagle_enabled`, 22 `congestion_control` (0 none, 1 Reno), 23 `timestamp_enabled`.
-/// `ERROR_RANGE` for another question.
+/// microseconds, or -1 for none), 21 `nagle_enabled`, 22 `congestion_control` (0 none, 1 Reno), 23 `timestamp_enabled`,
+/// 24 `rules` (0 smoltcp's, 1 the RFCs'). `ERROR_RANGE` for another question.
 #[unsafe(no_mangle)]
 pub extern "C" fn smoltcp_tcp_ask_checked(h: &mut TcpHandle, what: u32) -> i64
     ensures answer { result ≡ tcp_told what (view h.old) }
@@ -119,6 +119,7 @@ fn setting_told(socket: &Socket<'_, Clock>, what: u32) -> i64
         21 => flag_answer(socket.nagle_enabled()),
         22 => kind_told(socket.congestion_control()),
         23 => flag_answer(socket.timestamp_enabled()),
+        24 => rules_told(socket.rules()),
         _ => ERROR_RANGE,
     }
 }

@@ -5,17 +5,19 @@ ghost use Rattle.net_base.specs.declared.time.Duration.{Duration};
 ghost use Rattle.sock_tcp.specs.Closing.{keep_alive_set};
 ghost use Rattle.sock_tcp.specs.Settings.{of_kind};
 ghost use Rattle.sock_tcp.specs.View.{IsShort};
+ghost use Rattle.sock_tcp.specs.declared.rules.Rules.{Rules};
 ghost use Rattle.sock_tcp.specs.declared.settings.CongestionControl.{CongestionControl};
 ghost use Rattle.smoltcp_c.specs.Answers.{error_range};
 ghost use Rattle.smoltcp_c.specs.Numbers.{byte_or_none, control_by, flag_in, is_short, lasting, micros_in};
+ghost use Rattle.smoltcp_c.specs.Numbers.{rules_by};
 ghost use Rattle.smoltcp_c.specs.Tcp.{Refuses, Sets, byte_told, clock, clock_set, kind_told, micros_told, view};
-ghost use Rattle.smoltcp_c.specs.Tcp.{IsBoth};
+ghost use Rattle.smoltcp_c.specs.Tcp.{IsBoth, SetsRules, rules_told};
 
-use crate::answers::{ERROR_RANGE, OK};
+use crate::answers::{ERROR_RANGE, ERROR_STATE, OK};
 use crate::clock::Clock;
 use crate::handles::TcpHandle;
 use net_base::time::Duration;
-use sock_tcp::CongestionControl;
+use sock_tcp::{CongestionControl, Rules};
 
 // Any number but 0 is true.
 fn flag_in(n: u8) -> bool
@@ -80,6 +82,20 @@ fn control_by(kind: u32) -> Option<CongestionControl>
     }
     if kind == 1 {
         return Some(CongestionControl::Reno);
+    }
+    None
+}
+
+// The rules with this number.
+#[tactic(auto, unfolding(crate::specs::Numbers::rules_by))]
+fn rules_by(rules: u32) -> Option<Rules>
+    ensures { result ≡ rules_by rules }
+{
+    if rules == 0 {
+        return Some(Rules::Smoltcp);
+    }
+    if rules == 1 {
+        return Some(Rules::Rfc);
     }
     None
 }
@@ -171,6 +187,23 @@ pub extern "C" fn smoltcp_tcp_set_congestion_control_checked(h: &mut TcpHandle, 
     OK
 }
 
+/// Chooses the rules of a socket that is not open: 0 for smoltcp's, which a new socket has, 1 for those of RFC 9293
+/// outside of the receive window (sections 3.4 and 3.10.7.4). 0; or `ERROR_STATE` where the socket is open, or
+/// `ERROR_RANGE` for another number, where nothing changes.
+#[unsafe(no_mangle)]
+pub extern "C" fn smoltcp_tcp_set_rules_checked(h: &mut TcpHandle, rules: u32) -> i64
+    ensures other { rules_by rules ≡ None → Refuses error_range h.old result h.new }
+    ensures set { (r : Rules) → rules_by rules ≡ Some r → SetsRules h.old r result h.new }
+{
+    let Some(rules) = rules_by(rules) else {
+        return ERROR_RANGE;
+    };
+    match h.socket().set_rules(rules) {
+        Ok(()) => OK,
+        Err(_) => ERROR_STATE,
+    }
+}
+
 /// Lets timestamps be sent (RFC 7323) where the number is not 0, at the clock of each call's context. A SYN without
 /// one that opens a connection ends them. Answers 0.
 #[unsafe(no_mangle)]
@@ -221,5 +254,15 @@ pub fn kind_told(kind: CongestionControl) -> i64
     match kind {
         CongestionControl::None => 0,
         CongestionControl::Reno => 1,
+    }
+}
+
+/// The number of the rules.
+pub fn rules_told(rules: Rules) -> i64
+    ensures { result ≡ rules_told rules }
+{
+    match rules {
+        Rules::Smoltcp => 0,
+        Rules::Rfc => 1,
     }
 }

@@ -167,6 +167,7 @@ impl<'a> Tcp<'a> {
         nagle_enabled => NAGLE_ENABLED;
         hop_limit => HOP_LIMIT;
         congestion_control => CONGESTION_CONTROL;
+        rules => RULES;
         timestamp_enabled => TIMESTAMP_ENABLED;
     }
 
@@ -178,6 +179,7 @@ impl<'a> Tcp<'a> {
         set_hop_limit(u8) => smoltcp_tcp_set_hop_limit_checked;
         pause_synack(u8) => smoltcp_tcp_pause_synack_checked;
         set_congestion_control(u32) => smoltcp_tcp_set_congestion_control_checked;
+        set_rules(u32) => smoltcp_tcp_set_rules_checked;
         set_timestamps(u8) => smoltcp_tcp_set_timestamps_checked;
         consume(usize) => smoltcp_tcp_consume_checked;
         commit(usize) => smoltcp_tcp_commit_checked;

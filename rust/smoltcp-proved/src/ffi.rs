@@ -156,6 +156,7 @@ pub mod ask {
     pub const ACK_DELAY: u32 = 20;
     pub const NAGLE_ENABLED: u32 = 21;
     pub const CONGESTION_CONTROL: u32 = 22;
+    pub const RULES: u32 = 24;
     pub const TIMESTAMP_ENABLED: u32 = 23;
 }
 
@@ -188,6 +189,7 @@ unsafe extern "C" {
     pub fn smoltcp_tcp_set_hop_limit_checked(h: &mut TcpHandle, hop_limit: u8) -> i64;
     pub fn smoltcp_tcp_pause_synack_checked(h: &mut TcpHandle, pause: u8) -> i64;
     pub fn smoltcp_tcp_set_congestion_control_checked(h: &mut TcpHandle, kind: u32) -> i64;
+    pub fn smoltcp_tcp_set_rules_checked(h: &mut TcpHandle, rules: u32) -> i64;
     pub fn smoltcp_tcp_set_timestamps_checked(h: &mut TcpHandle, enabled: u8) -> i64;
     pub fn smoltcp_tcp_send_checked(h: &mut TcpHandle, data: *const u8, len: usize) -> i64;
     pub fn smoltcp_tcp_recv_checked(h: &mut TcpHandle, data: *mut u8, len: usize) -> i64;

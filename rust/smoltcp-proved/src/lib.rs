@@ -176,7 +176,7 @@ impl fmt::Display for DispatchError {
 
 impl core::error::Error for DispatchError {}
 
-/// The program of README.md, which is docs/RUST.md of the repository, is a test.
+/// The program of docs/RUST.md, which is README.md in a packed crate, is a test.
 #[cfg(doctest)]
-#[doc = include_str!("../README.md")]
+#[doc = include_str!(env!("SMOLTCP_PROVED_README"))]
 struct Page;

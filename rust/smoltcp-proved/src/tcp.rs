@@ -9,7 +9,9 @@ use core::fmt;
 
 mod kinds;
 use kinds::STATES;
-pub use kinds::{CongestionControl, ConnectError, ListenError, RecvError, SendError, State};
+pub use kinds::{
+    CongestionControl, ConnectError, ListenError, RecvError, Rules, RulesError, SendError, State,
+};
 
 /// The length of the longest reply to a segment, in bytes: an IPv6 header and the longest TCP header.
 pub const REPLY_LEN: usize = 100;
@@ -307,6 +309,19 @@ impl<'a> Socket<'a> {
             CongestionControl::None => 0,
             CongestionControl::Reno => 1,
         });
+    }
+
+    /// The rules.
+    pub fn rules(&self) -> Rules {
+        if self.0.rules() == 0 { Rules::Smoltcp } else { Rules::Rfc }
+    }
+
+    /// Chooses the rules of a socket that is not open. (smoltcp has no such call.)
+    pub fn set_rules(&mut self, rules: Rules) -> Result<(), RulesError> {
+        match self.0.set_rules(rules as u32) {
+            ffi::OK => Ok(()),
+            _ => Err(RulesError::InvalidState),
+        }
     }
 
     /// Whether timestamps are sent.

@@ -125,3 +125,28 @@ pub enum CongestionControl {
     /// Reno (RFC 5681), as in a new socket.
     Reno,
 }
+
+/// Which rules a socket follows where smoltcp's differ from the RFCs'.
+#[derive(Debug, PartialEq, Eq, Clone, Copy)]
+pub enum Rules {
+    /// smoltcp's: a new socket has these.
+    Smoltcp = 0,
+    /// The same, but for what lies outside of the receive window (RFC 9293, sections 3.4 and 3.10.7.4): the FIN of a
+    /// peer is taken that sends old bytes with it, and a peer is heard that counts the byte of its probe.
+    Rfc = 1,
+}
+
+/// Why a socket keeps its rules.
+#[derive(Debug, PartialEq, Eq, Clone, Copy)]
+pub enum RulesError {
+    /// It is open.
+    InvalidState,
+}
+
+impl fmt::Display for RulesError {
+    fn fmt(&self, f: &mut fmt::Formatter<'_>) -> fmt::Result {
+        f.write_str("invalid state")
+    }
+}
+
+impl core::error::Error for RulesError {}
