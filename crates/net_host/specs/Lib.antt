@@ -6,6 +6,7 @@ pub mod Emissions
 pub mod Facts
 pub mod HostCalls
 pub mod Limits
+pub mod Messages
 pub mod Moments
 pub mod Receiving
 pub mod Segments

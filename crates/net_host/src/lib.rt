@@ -10,6 +10,7 @@ pub mod environment;
 pub mod inner;
 pub mod interface;
 pub mod limit;
+pub mod messages;
 pub mod receive;
 pub mod replies;
 pub mod secret;
