@@ -103,7 +103,14 @@ pub(crate) fn echoed<'p>(mail: &Mail<'p>) -> Option<Mail<'p>>
     ensures { option_map mail_of result ≡ echoed (mail_of mail.now) }
 {
     match mail {
-        Mail::V4(ip, Icmpv4Repr::EchoRequest { ident, seq_no, body }) => Some(Mail::V4(
+        Mail::V4(
+            ip,
+            Icmpv4Repr::EchoRequest {
+                ident,
+                seq_no,
+                body,
+            },
+        ) => Some(Mail::V4(
             Ipv4Repr {
                 src_addr: ip.dst_addr,
                 dst_addr: ip.src_addr,
@@ -117,7 +124,14 @@ pub(crate) fn echoed<'p>(mail: &Mail<'p>) -> Option<Mail<'p>>
                 body: *body,
             },
         )),
-        Mail::V6(ip, Icmpv6Repr::EchoRequest { ident, seq_no, body }) => Some(Mail::V6(
+        Mail::V6(
+            ip,
+            Icmpv6Repr::EchoRequest {
+                ident,
+                seq_no,
+                body,
+            },
+        ) => Some(Mail::V6(
             Ipv6Repr {
                 src_addr: ip.dst_addr,
                 dst_addr: ip.src_addr,
