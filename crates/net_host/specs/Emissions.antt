@@ -1,11 +1,13 @@
 -- A socket's dispatch into a buffer.
 use Rattle.std.specs.Prelude.{ℕ, List, Result, Option}
 use Rattle.sock_core.specs.Facts.{Facts}
+use Rattle.sock_dgram.specs.Icmp as icmp
+use Rattle.sock_dgram.specs.IcmpDispatch as icmp_dispatch
 use Rattle.sock_dgram.specs.Udp as udp
 use Rattle.sock_dgram.specs.UdpDispatch.{Dispatched}
 use Rattle.sock_tcp.specs.Dispatch.{Dispatches}
 use Rattle.sock_tcp.specs.View.{View}
-use Rattle.net_host.specs.Sheets.{Sheet, writing, writing_datagram}
+use Rattle.net_host.specs.Sheets.{Sheet, writing, writing_datagram, writing_message}
 use Rattle.net_host.specs.declared.wire.TooShort.{TooShort}
 
 -- a buffer with no packet
@@ -25,3 +27,7 @@ DispatchesSegment facts tells clock v out r n w out' =
 abbrev pub DispatchesDatagram : Facts → udp.View → List ℕ → Result (Unit {0}) TooShort → ℕ → udp.View → List ℕ → Type 0
 DispatchesDatagram facts v out r n w out' =
     Dispatched writing_datagram tt v facts (empty_sheet facts out) r (sheet_with facts out' n) w
+
+abbrev pub DispatchesMessage : Facts → icmp.View → List ℕ → Result (Unit {0}) TooShort → ℕ → icmp.View → List ℕ → Type 0
+DispatchesMessage facts v out r n w out' =
+    icmp_dispatch.Dispatched writing_message tt v facts (empty_sheet facts out) r (sheet_with facts out' n) w

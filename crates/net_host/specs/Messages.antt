@@ -1,5 +1,5 @@
 -- ICMP messages: which sockets take a copy, and what answers one.
-use Rattle.std.specs.Prelude.{ℕ, ◌≡◌, ◌+◌, ◌==◌, nat_le, min, Bool, true, false, List, ◌++◌, drop, length, Option, Some, None}
+use Rattle.std.specs.Prelude.{ℕ, ◌≡◌, ◌+◌, ◌==◌, nat_le, min, Bool, true, false, List, [], ◌++◌, drop, length, Option, Some, None}
 use Rattle.std.specs.Prelude.{if◌then◌else◌}
 use Rattle.ip_wire.specs.Checksum.{is_received, is_sent}
 use Rattle.ip_wire.specs.Packet.{header_octets}
@@ -19,6 +19,8 @@ use Rattle.sock_dgram.specs.IcmpCalls.{Effect, ProcessV4, ProcessV6}
 use Rattle.sock_dgram.specs.IcmpFilter.{Accepts, ends_v4, ends_v6}
 use Rattle.smoltcp_socket.specs.declared.socket.Socket.{Socket}
 use Rattle.smoltcp_socket.specs.declared.socket.Socket.TheVariants as socket
+use Rattle.sock_dgram.specs.IcmpDispatch.{AnyMessage, OverIpv4, OverIpv6}
+use Rattle.net_host.specs.Wire.{packet_len}
 use Rattle.net_host.specs.declared.messages.Mail.{Mail}
 use Rattle.net_host.specs.declared.messages.Mail.TheVariants as mail
 use Rattle.net_host.specs.declared.slot.Slot.{Slot}
@@ -136,3 +138,15 @@ answer_len (Some m) = mail_len m
 abbrev pub with_answer : ChecksumCapabilities → Option AnyMail → List ℕ → List ℕ
 with_answer caps None out = out
 with_answer caps (Some m) out = mail_octets caps m ++ drop (mail_len m) out
+
+-- ---- a message that a socket emits
+
+-- the packet of a message
+abbrev pub message_octets : ChecksumCapabilities → IpRepr → AnyMessage → List ℕ
+message_octets caps ip (OverIpv4 m) = header_octets (is_sent caps.ipv4) ip ++ icmpv4_octets caps m
+message_octets caps (header.Ipv6 h) (OverIpv6 m) =
+    header_octets (is_sent caps.ipv4) (header.Ipv6 h) ++ icmpv6_octets caps h.src_addr h.dst_addr m
+message_octets caps (header.Ipv4 h) (OverIpv6 m) = []
+
+abbrev pub with_message : ChecksumCapabilities → IpRepr → AnyMessage → List ℕ → List ℕ
+with_message caps ip m out = message_octets caps ip m ++ drop (packet_len ip) out

@@ -5,6 +5,9 @@ ghost use Rattle.ip_wire.specs.IpHeader.{header_len_of};
 ghost use Rattle.ip_wire.specs.Packet.{header_octets};
 ghost use Rattle.control_wire.specs.Icmp.{icmpv4_octets, icmpv6_octets, message_len, message_v4, message_v6};
 ghost use Rattle.net_host.specs.Messages.{Copies, answer_len, echoed, if_short, mail_in, mail_len, mail_octets, mail_of};
+ghost use Rattle.net_host.specs.Messages.{message_octets, with_message};
+ghost use Rattle.net_host.specs.Wire.{packet_len};
+ghost use Rattle.sock_dgram.specs.IcmpDispatch.{Counts, any_message};
 ghost use Rattle.net_host.specs.Messages.{MailCopies, len_within, sum_within, mail_v4, mail_v6, with_answer};
 ghost use Rattle.net_host.specs.Walks.{ChangesEach};
 
@@ -233,4 +236,34 @@ fn put_v6(
     ip.emit(out, caps);
     let start = ip.header_len();
     repr.emit(&header.src_addr, &header.dst_addr, &mut out[start..], caps);
+}
+
+/// Writes the packet of a message at the beginning of `out`, and answers its length.
+pub(crate) fn put_message(
+    ip: &IpRepr,
+    repr: &IcmpRepr<'_>,
+    out: &mut [u8],
+    caps: &ChecksumCapabilities,
+) -> usize
+    requires counted { Counts ip.now (any_message repr.now) }
+    requires room { packet_len ip.now ≤ length out.old }
+    ensures within { result ≤ length out.old }
+    ensures len { result ≡ packet_len ip.now }
+    ensures bytes { out.new ≡ with_message caps.now ip.now (any_message repr.now) out.old }
+{
+    let whole = ip.header_len() + ip.payload_len();
+    write_message(ip, repr, &mut out[..whole], caps);
+    whole
+}
+
+fn write_message(ip: &IpRepr, repr: &IcmpRepr<'_>, out: &mut [u8], caps: &ChecksumCapabilities)
+    requires counted { Counts ip.now (any_message repr.now) }
+    requires room { length out.old ≡ packet_len ip.now }
+    ensures { out.new ≡ message_octets caps.now ip.now (any_message repr.now) }
+{
+    match (ip, repr) {
+        (IpRepr::Ipv4(_), IcmpRepr::Ipv4(repr)) => put_v4(ip, repr, out, caps),
+        (IpRepr::Ipv6(header), IcmpRepr::Ipv6(repr)) => put_v6(ip, header, repr, out, caps),
+        _ => {}
+    }
 }
