@@ -8,6 +8,7 @@ pub mod HostCalls
 pub mod Limits
 pub mod Messages
 pub mod Moments
+pub mod RawCopies
 pub mod Receiving
 pub mod Segments
 pub mod SheetOf

@@ -1,5 +1,5 @@
 -- ICMP messages: which sockets take a copy, and what answers one.
-use Rattle.std.specs.Prelude.{ℕ, ◌≡◌, ◌+◌, ◌==◌, nat_le, min, Bool, true, false, List, [], ◌++◌, drop, length, Option, Some, None}
+use Rattle.std.specs.Prelude.{ℕ, ◌≡◌, ◌+◌, ◌==◌, nat_le, List, [], ◌++◌, drop, length, Option, Some, None}
 use Rattle.std.specs.Prelude.{if◌then◌else◌}
 use Rattle.ip_wire.specs.Checksum.{is_received, is_sent}
 use Rattle.ip_wire.specs.Packet.{header_octets}

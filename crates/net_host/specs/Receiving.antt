@@ -16,6 +16,7 @@ use Rattle.net_host.specs.Counts.{counted}
 use Rattle.net_host.specs.Datagrams.{HeardBy, TakesDatagram}
 use Rattle.net_host.specs.Facts.{facts_by}
 use Rattle.net_host.specs.Messages.{AnyMail, Copies, answer_len, echoed, if_short, mail_in, with_answer}
+use Rattle.net_host.specs.RawCopies.{CopiesPacket}
 use Rattle.net_host.specs.Segments.{AnswersSegment, IsTaker}
 use Rattle.net_host.specs.Walks.{ChangesEach, Finds}
 use Rattle.net_host.specs.declared.arrival.Kind.{Kind}
@@ -136,12 +137,18 @@ module _ {W G : Type 0} (is : IpAddress → IpAddress → Bool) (word_at : W →
   ByKind kind.Other ip octets i ss out n j ts out' = Drops reason.Protocol i ss out n j ts out'
   ByKind kind.Foreign ip octets i ss out n j ts out' = Drops reason.Destination i ss out n j ts out'
 
+  -- each raw socket that accepts the packet takes a copy, and then it is looked at
+  pub record TakesCarried (ip : IpRepr) (octets : List ℕ) (i : Interface W) (ss : List (Slot G)) (out : List ℕ) (n : ℕ)
+      (j : Interface W) (ts : List (Slot G)) (out' : List ℕ) : Type 0 where
+    pub seen : List (Slot G)
+    pub copied : ChangesEach (CopiesPacket (facts_of i.inner) ip octets) ss seen
+    pub taken : ByKind (kind_of ((facts_of i.inner).has_address (dst_addr_of ip)) (number_of (next_header_of ip))) ip
+        octets i seen out n j ts out'
+
   abbrev pub ByAddresses : Option Reason → IpRepr → List ℕ → Interface W → List (Slot G) → List ℕ → ℕ → Interface W
       → List (Slot G) → List ℕ → Type 0
   ByAddresses (Some why) ip octets i ss out n j ts out' = Drops why i ss out n j ts out'
-  ByAddresses None ip octets i ss out n j ts out' =
-      ByKind (kind_of ((facts_of i.inner).has_address (dst_addr_of ip)) (number_of (next_header_of ip))) ip octets i ss
-      out n j ts out'
+  ByAddresses None ip octets i ss out n j ts out' = TakesCarried ip octets i ss out n j ts out'
 
   -- with a header and what stands behind it, if it has them
   abbrev pub ByHeader : Option Carried → Interface W → List (Slot G) → List ℕ → ℕ → Interface W → List (Slot G)

@@ -4,7 +4,7 @@ ghost use Rattle.segment_wire.specs.Udp.{datagram_of};
 ghost use Rattle.control_wire.specs.Segment.{segment_of};
 ghost use Rattle.net_host.specs.Counts.{counted};
 ghost use Rattle.net_host.specs.Receiving.{ByAddresses, ByKind, IfShort, TakesDatagramOf, TakesPacket};
-ghost use Rattle.net_host.specs.Receiving.{TakesIcmp, TakesMail, TakesSegment, TakesTcp, TakesUdp, counted_for, counted_if, datagram_in};
+ghost use Rattle.net_host.specs.Receiving.{TakesCarried, TakesIcmp, TakesMail, TakesSegment, TakesTcp, TakesUdp, counted_for, counted_if, datagram_in};
 ghost use Rattle.net_host.specs.Messages.{mail_of};
 ghost use Rattle.net_host.specs.Arrivals.{refusal};
 ghost use Rattle.net_host.specs.Facts.{facts_by};
@@ -14,6 +14,7 @@ use crate::counters::{Counters, Reason};
 use crate::datagrams::hear_datagram;
 use crate::interface::Interface;
 use crate::messages::{Mail, copy_to_all, echoed, mail_in, put_answer};
+use crate::raw_copies::copy_packet_to_all;
 use crate::segments::{Taker, hear_segment};
 use crate::slot::Slot;
 use host_context::Words;
@@ -66,11 +67,25 @@ impl<W: Words> Interface<W> {
     {
         match refusal(&self.inner, ip) {
             Some(reason) => self.drop_packet(reason),
-            None => {
-                let kind = kind_in(&self.inner, ip);
-                self.take_kind(slots, kind, ip, bytes, out)
-            }
+            None => self.take_looked_at(slots, ip, bytes, out),
         }
+    }
+
+    fn take_looked_at<G: TsvalSource>(
+        &mut self,
+        slots: &mut Vec<Slot<'_, G>>,
+        ip: &IpRepr,
+        bytes: &[u8],
+        out: &mut [u8],
+    ) -> usize
+        requires { 100 ≤ length out.old }
+        ensures within { result ≤ length out.old }
+        ensures table { TakesCarried ⟦<IpAddress as PartialEq>⟧.eq W.word_at G.tells ip.now bytes.now self.old
+            slots.old.items out.old result self.new slots.new.items out.new }
+    {
+        copy_packet_to_all(slots, &self.inner, ip, bytes);
+        let kind = kind_in(&self.inner, ip);
+        self.take_kind(slots, kind, ip, bytes, out)
     }
 
     fn take_kind<G: TsvalSource>(
