@@ -1,13 +1,15 @@
 -- From the one call of `emit` to what stands in the buffer: a dispatch with one emit is one with another, where each
 -- call of the first is one of the second.
-use Rattle.std.proofs.Common.{ℕ, Option, Some, None, ap, subst, sym}
+use Rattle.std.proofs.Common.{ℕ, Bool, List, Option, Some, None, ap, subst, sym}
 use Rattle.std.specs.Prelude.{Result}
-use Rattle.std.specs.Borrow.{MutBor}
+use Rattle.std.specs.Borrow.{Bor, MutBor}
 use Rattle.ip_wire.specs.declared.repr.IpRepr.{IpRepr}
 use Rattle.control_wire.specs.declared.tcp.TcpRepr.{TcpRepr}
 use Rattle.sock_core.specs.Emission.{Emit, Emits}
 use Rattle.sock_core.specs.Facts.{Facts}
 use Rattle.sock_dgram.specs.Addressed as addressed
+use Rattle.sock_dgram.specs.Raw as raw
+use Rattle.sock_dgram.specs.RawDispatch as raw_dispatch
 use Rattle.sock_tcp.specs.Dispatch.{Dispatches, EmitsTo, EmitTcp}
 use Rattle.sock_tcp.specs.View.{View}
 use Rattle.sock_tcp.specs.declared.tuple.Tuple.{Tuple}
@@ -74,6 +76,21 @@ module _ {F F2 C C2 S A O : Type 0} (m : C → C2) (g : Emit F C S A) (f : F) (g
     emits = emits m g f g2 f2 meaning says (outgoing v) c c' r h.emits;
     queue = h.queue;
     sent = h.sent;
+    failed = h.failed;
+    again = h.again;
+    same = h.same;
+  }
+
+-- ---- a raw socket
+
+module _ {F F2 C C2 A : Type 0} (m : C → C2) (g : Emit F C (IpRepr × Bor (List ℕ)) A) (f : F) (g2 : Emit F2 C2 (IpRepr × Bor (List ℕ)) A) (f2 : F2) (says : Becomes m g f g2 f2) where
+  pub dispatches_raw : (sent : Bool) (v w : raw.View) (c c' : C) (r : Result (Unit {0}) A) → raw_dispatch.Dispatched g f sent v c r c' w → raw_dispatch.Dispatched g2 f2 sent v (m c) r (m c') w
+  dispatches_raw sent v w c c' r h = record {
+    planned = h.planned;
+    plans = h.plans;
+    emits = emits m g f g2 f2 _ says h.planned c c' r h.emits;
+    queue = h.queue;
+    emitted = h.emitted;
     failed = h.failed;
     again = h.again;
     same = h.same;

@@ -39,5 +39,7 @@ refusal f ip =
 
 -- what the packet is looked at as, by the number of its protocol; `own` says whether it goes to the interface alone
 abbrev pub kind_of : Bool → ℕ → Kind
-kind_of true n = if n == 6 then kind.Tcp else (if n == 17 then kind.Udp else kind.Other)
+kind_of true n =
+    if n == 6 then kind.Tcp
+    else (if n == 17 then kind.Udp else (if (n == 1) || (n == 58) then kind.Icmp else kind.Other))
 kind_of false n = if n == 17 then kind.Udp else kind.Foreign

@@ -14,4 +14,5 @@ counted reason.Destination k = record k { destination = next k.destination }
 counted reason.Protocol k = record k { protocol = next k.protocol }
 counted reason.Segment k = record k { segment = next k.segment }
 counted reason.Datagram k = record k { datagram = next k.datagram }
+counted reason.Message k = record k { message = next k.message }
 counted reason.Nobody k = record k { nobody = next k.nobody }

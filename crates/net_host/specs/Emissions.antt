@@ -1,11 +1,16 @@
 -- A socket's dispatch into a buffer.
 use Rattle.std.specs.Prelude.{ℕ, List, Result, Option}
 use Rattle.sock_core.specs.Facts.{Facts}
+use Rattle.sock_dgram.specs.Icmp as icmp
+use Rattle.sock_dgram.specs.IcmpDispatch as icmp_dispatch
+use Rattle.ip_wire.specs.Checksum.{is_sent}
+use Rattle.sock_dgram.specs.Raw as raw
+use Rattle.sock_dgram.specs.RawDispatch as raw_dispatch
 use Rattle.sock_dgram.specs.Udp as udp
 use Rattle.sock_dgram.specs.UdpDispatch.{Dispatched}
 use Rattle.sock_tcp.specs.Dispatch.{Dispatches}
 use Rattle.sock_tcp.specs.View.{View}
-use Rattle.net_host.specs.Sheets.{Sheet, writing, writing_datagram}
+use Rattle.net_host.specs.Sheets.{Sheet, writing, writing_datagram, writing_message, writing_raw}
 use Rattle.net_host.specs.declared.wire.TooShort.{TooShort}
 
 -- a buffer with no packet
@@ -25,3 +30,12 @@ DispatchesSegment facts tells clock v out r n w out' =
 abbrev pub DispatchesDatagram : Facts → udp.View → List ℕ → Result (Unit {0}) TooShort → ℕ → udp.View → List ℕ → Type 0
 DispatchesDatagram facts v out r n w out' =
     Dispatched writing_datagram tt v facts (empty_sheet facts out) r (sheet_with facts out' n) w
+
+abbrev pub DispatchesMessage : Facts → icmp.View → List ℕ → Result (Unit {0}) TooShort → ℕ → icmp.View → List ℕ → Type 0
+DispatchesMessage facts v out r n w out' =
+    icmp_dispatch.Dispatched writing_message tt v facts (empty_sheet facts out) r (sheet_with facts out' n) w
+
+abbrev pub DispatchesRaw : Facts → raw.View → List ℕ → Result (Unit {0}) TooShort → ℕ → raw.View → List ℕ → Type 0
+DispatchesRaw facts v out r n w out' =
+    raw_dispatch.Dispatched writing_raw tt (is_sent facts.checksums.ipv4) v (empty_sheet facts out) r
+    (sheet_with facts out' n) w

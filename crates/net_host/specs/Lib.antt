@@ -6,7 +6,9 @@ pub mod Emissions
 pub mod Facts
 pub mod HostCalls
 pub mod Limits
+pub mod Messages
 pub mod Moments
+pub mod RawCopies
 pub mod Receiving
 pub mod Segments
 pub mod SheetOf

@@ -1,5 +1,5 @@
 -- What becomes of a packet that arrives: the first row that fits.
-use Rattle.std.specs.Prelude.{ℕ, ◌≡◌, nat_le, Bool, true, false, List, length, Option, Some, None}
+use Rattle.std.specs.Prelude.{ℕ, ◌≡◌, nat_le, min, Bool, true, false, List, length, Option, Some, None}
 use Rattle.ip_wire.specs.Checksum.{is_received}
 use Rattle.ip_wire.specs.IpHeader.{dst_addr_of, next_header_of, src_addr_of}
 use Rattle.ip_wire.specs.Protocol.{number_of}
@@ -15,8 +15,10 @@ use Rattle.net_host.specs.Arrivals.{kind_of, refusal}
 use Rattle.net_host.specs.Counts.{counted}
 use Rattle.net_host.specs.Datagrams.{HeardBy, TakesDatagram}
 use Rattle.net_host.specs.Facts.{facts_by}
+use Rattle.net_host.specs.Messages.{AnyMail, Copies, answer_len, echoed, if_short, mail_in, with_answer}
+use Rattle.net_host.specs.RawCopies.{CopiesPacket}
 use Rattle.net_host.specs.Segments.{AnswersSegment, IsTaker}
-use Rattle.net_host.specs.Walks.{Finds}
+use Rattle.net_host.specs.Walks.{ChangesEach, Finds}
 use Rattle.net_host.specs.declared.arrival.Kind.{Kind}
 use Rattle.net_host.specs.declared.arrival.Kind.TheVariants as kind
 use Rattle.net_host.specs.declared.counters.Counters.{Counters}
@@ -107,20 +109,46 @@ module _ {W G : Type 0} (is : IpAddress → IpAddress → Bool) (word_at : W →
   TakesUdp ip octets i =
       ByDatagram ip (datagram_in i.inner.environment.checksums ip octets) i
 
+  -- each ICMP socket that accepts the message takes a copy, and an echo request is answered
+  pub record TakesMail (m : AnyMail) (i : Interface W) (ss : List (Slot G)) (out : List ℕ) (n : ℕ) (j : Interface W)
+      (ts : List (Slot G)) (out' : List ℕ) : Type 0 where
+    pub copied : ChangesEach (Copies (facts_of i.inner) m) ss ts
+    pub len : n ≡ answer_len (if_short (min i.inner.environment.mtu (length out)) (echoed m))
+    pub octets : out' ≡ with_answer i.inner.environment.checksums
+        (if_short (min i.inner.environment.mtu (length out)) (echoed m)) out
+    pub interface : j ≡ i
+
+  abbrev pub ByMail : Option AnyMail → Interface W → List (Slot G) → List ℕ → ℕ → Interface W → List (Slot G) → List ℕ
+      → Type 0
+  ByMail None i ss out n j ts out' = Drops reason.Message i ss out n j ts out'
+  ByMail (Some m) i ss out n j ts out' = TakesMail m i ss out n j ts out'
+
+  -- what stands behind the header, as an ICMP message
+  abbrev pub TakesIcmp : IpRepr → List ℕ → Interface W → List (Slot G) → List ℕ → ℕ → Interface W → List (Slot G)
+      → List ℕ → Type 0
+  TakesIcmp ip octets i = ByMail (mail_in i.inner.environment.checksums ip octets) i
+
   -- by what it is looked at as
   abbrev pub ByKind : Kind → IpRepr → List ℕ → Interface W → List (Slot G) → List ℕ → ℕ → Interface W
       → List (Slot G) → List ℕ → Type 0
   ByKind kind.Tcp ip octets i ss out n j ts out' = TakesTcp ip octets i ss out n j ts out'
   ByKind kind.Udp ip octets i ss out n j ts out' = TakesUdp ip octets i ss j ts × (n ≡ 0) × (out' ≡ out)
+  ByKind kind.Icmp ip octets i ss out n j ts out' = TakesIcmp ip octets i ss out n j ts out'
   ByKind kind.Other ip octets i ss out n j ts out' = Drops reason.Protocol i ss out n j ts out'
   ByKind kind.Foreign ip octets i ss out n j ts out' = Drops reason.Destination i ss out n j ts out'
+
+  -- each raw socket that accepts the packet takes a copy, and then it is looked at
+  pub record TakesCarried (ip : IpRepr) (octets : List ℕ) (i : Interface W) (ss : List (Slot G)) (out : List ℕ) (n : ℕ)
+      (j : Interface W) (ts : List (Slot G)) (out' : List ℕ) : Type 0 where
+    pub seen : List (Slot G)
+    pub copied : ChangesEach (CopiesPacket (facts_of i.inner) ip octets) ss seen
+    pub taken : ByKind (kind_of ((facts_of i.inner).has_address (dst_addr_of ip)) (number_of (next_header_of ip))) ip
+        octets i seen out n j ts out'
 
   abbrev pub ByAddresses : Option Reason → IpRepr → List ℕ → Interface W → List (Slot G) → List ℕ → ℕ → Interface W
       → List (Slot G) → List ℕ → Type 0
   ByAddresses (Some why) ip octets i ss out n j ts out' = Drops why i ss out n j ts out'
-  ByAddresses None ip octets i ss out n j ts out' =
-      ByKind (kind_of ((facts_of i.inner).has_address (dst_addr_of ip)) (number_of (next_header_of ip))) ip octets i ss
-      out n j ts out'
+  ByAddresses None ip octets i ss out n j ts out' = TakesCarried ip octets i ss out n j ts out'
 
   -- with a header and what stands behind it, if it has them
   abbrev pub ByHeader : Option Carried → Interface W → List (Slot G) → List ℕ → ℕ → Interface W → List (Slot G)

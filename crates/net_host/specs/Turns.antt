@@ -13,7 +13,7 @@ use Rattle.host_guard.specs.declared.guard.Guard.{Guard}
 use Rattle.smoltcp_socket.specs.Kinds.{polls}
 use Rattle.smoltcp_socket.specs.declared.socket.Socket.{Socket}
 use Rattle.smoltcp_socket.specs.declared.socket.Socket.TheVariants as socket
-use Rattle.net_host.specs.Emissions.{DispatchesDatagram, DispatchesSegment}
+use Rattle.net_host.specs.Emissions.{DispatchesDatagram, DispatchesMessage, DispatchesRaw, DispatchesSegment}
 use Rattle.net_host.specs.declared.slot.Slot.{Slot}
 use Rattle.net_host.specs.declared.wire.TooShort.{TooShort}
 
@@ -65,9 +65,10 @@ module _ {G : Type 0} (facts : Facts) (tells : G → ℕ → Type 0) where
       DispatchesSegment facts tells x.tsval_generator x.control_block out r n y.control_block out'
       × (y.tsval_generator ≡ x.tsval_generator)
   SocketEmits (Some (socket.Udp x)) out r n (Some (socket.Udp y)) out' = DispatchesDatagram facts x out r n y out'
-  SocketEmits (Some (socket.Tcp x)) out r n _ out' = ⊥
-  SocketEmits (Some (socket.Udp x)) out r n _ out' = ⊥
-  SocketEmits s out r n t out' = (t ≡ s) × (r ≡ Ok tt) × (n ≡ 0) × (out' ≡ out)
+  SocketEmits (Some (socket.Icmp x)) out r n (Some (socket.Icmp y)) out' = DispatchesMessage facts x out r n y out'
+  SocketEmits (Some (socket.Raw x)) out r n (Some (socket.Raw y)) out' = DispatchesRaw facts x out r n y out'
+  SocketEmits None out r n None out' = (r ≡ Ok tt) × (n ≡ 0) × (out' ≡ out)
+  SocketEmits _ out r n _ out' = ⊥
 
   pub record SlotEmits (before : Slot G) (out : List ℕ) (r : Result (Unit {0}) TooShort) (n : ℕ) (after : Slot G)
       (out' : List ℕ) : Type 0 where

@@ -1,5 +1,7 @@
 -- Packets in a buffer.
 use Rattle.std.specs.Prelude.{ℕ, ◌+◌, ◌≡◌, ◌≤◌, List, ◌++◌, drop, length, Option, Some, None}
+use Rattle.ip_wire.specs.Checksum.{is_sent}
+use Rattle.ip_wire.specs.Packet.{header_octets}
 use Rattle.ip_wire.specs.IpHeader.{header_len_of, next_header_of, payload_len_of}
 use Rattle.ip_wire.specs.declared.checksum.ChecksumCapabilities.{ChecksumCapabilities}
 use Rattle.ip_wire.specs.declared.protocol.IpProtocol.TheVariants as protocol
@@ -41,3 +43,12 @@ pub record CountsDatagram (ip : IpRepr) (payload : List ℕ) : Type 0 where
 -- a buffer with the packet of a datagram at its beginning
 abbrev pub with_datagram : ChecksumCapabilities → IpRepr → UdpRepr → List ℕ → List ℕ → List ℕ
 with_datagram caps ip u payload out = udp_packet caps ip u payload ++ drop (packet_len ip) out
+
+-- ---- any payload
+
+abbrev pub raw_len : IpRepr → List ℕ → ℕ
+raw_len ip payload = header_len_of ip + length payload
+
+-- a buffer with a header and this payload at its beginning
+abbrev pub with_raw : ChecksumCapabilities → IpRepr → List ℕ → List ℕ → List ℕ
+with_raw caps ip payload out = (header_octets (is_sent caps.ipv4) ip ++ payload) ++ drop (raw_len ip payload) out

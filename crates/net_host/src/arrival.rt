@@ -67,6 +67,8 @@ pub enum Kind {
     Tcp,
     /// A UDP datagram.
     Udp,
+    /// An ICMP message of either version, to the interface alone.
+    Icmp,
     /// Another protocol.
     Other,
     /// A broadcast that carries no UDP datagram.
@@ -89,5 +91,9 @@ fn kind_of(own: bool, number: u8) -> Kind
     if !own {
         return Kind::Foreign;
     }
-    if number == 6 { Kind::Tcp } else { Kind::Other }
+    match number {
+        6 => Kind::Tcp,
+        1 | 58 => Kind::Icmp,
+        _ => Kind::Other,
+    }
 }

@@ -17,6 +17,8 @@ pub enum Reason {
     Segment,
     /// It carries a UDP datagram with a wrong length or checksum.
     Datagram,
+    /// It carries an ICMP message with a wrong form or checksum, or of the other version of IP.
+    Message,
     /// It carries a segment or a datagram that no socket takes.
     Nobody,
 }
@@ -30,6 +32,7 @@ pub struct Counters {
     pub protocol: u64,
     pub segment: u64,
     pub datagram: u64,
+    pub message: u64,
     pub nobody: u64,
 }
 
@@ -45,6 +48,7 @@ impl Counters {
             Reason::Protocol => self.protocol = next(self.protocol),
             Reason::Segment => self.segment = next(self.segment),
             Reason::Datagram => self.datagram = next(self.datagram),
+            Reason::Message => self.message = next(self.message),
             Reason::Nobody => self.nobody = next(self.nobody),
         }
     }

@@ -3,15 +3,19 @@ ghost use Rattle.std.specs.Prelude.{◌≡◌, ◌≤◌, length};
 ghost use Rattle.control_wire.specs.Segment.{segment_of};
 ghost use Rattle.sock_tcp.specs.Dispatch.{Dispatches};
 ghost use Rattle.net_host.specs.Facts.{facts_by};
-ghost use Rattle.net_host.specs.Sheets.{Writes, WritesDatagram, writing, writing_datagram};
+ghost use Rattle.net_host.specs.Sheets.{Writes, WritesDatagram, WritesMessage, WritesRaw, writing, writing_datagram, writing_message, writing_raw};
+ghost use Rattle.ip_wire.specs.Checksum.{is_sent};
+ghost use Rattle.sock_dgram.specs.RawDispatch as raw_dispatch;
 ghost use Rattle.sock_dgram.specs.UdpDispatch.{Dispatched};
 ghost use Rattle.net_host.specs.SheetOf.{sheet_of};
-ghost use Rattle.net_host.specs.Emissions.{DispatchesDatagram, DispatchesSegment};
+ghost use Rattle.net_host.specs.Emissions.{DispatchesDatagram, DispatchesMessage, DispatchesRaw, DispatchesSegment};
+ghost use Rattle.sock_dgram.specs.IcmpDispatch as icmp_dispatch;
+ghost use Rattle.sock_dgram.specs.IcmpDispatch.{any_message};
 
 use crate::environment::Environment;
 use crate::wire::{TooShort, Wire};
-use smoltcp_socket::wire::{IpAddress, IpRepr, TcpRepr, UdpRepr};
-use smoltcp_socket::{tcp, udp};
+use smoltcp_socket::wire::{IcmpRepr, IpAddress, IpRepr, TcpRepr, UdpRepr};
+use smoltcp_socket::{icmp, raw, tcp, udp};
 use sock_tcp::TsvalSource;
 
 // Lets the socket emit.
@@ -99,5 +103,86 @@ pub(crate) fn emit_udp(
         len: 0,
     };
     let answer = emit_datagram(socket, &mut wire);
+    (answer, wire.len)
+}
+
+// Lets the socket emit.
+fn emit_message(socket: &mut icmp::Socket<'_>, wire: &mut Wire<'_>) -> Result<(), TooShort>
+    ensures table { icmp_dispatch.Dispatched writing_message tt socket.old
+        (facts_by ⟦<IpAddress as PartialEq>⟧.eq wire.old.environment.now) (sheet_of wire.old) result
+        (sheet_of wire.new) socket.new }
+    ensures within { wire.old.len ≤ length wire.old.out.now → wire.new.len ≤ length wire.old.out.now }
+    ensures same_buffer { wire.new.out.ghost_name ≡ wire.old.out.ghost_name }
+    ensures environment { wire.new.environment ≡ wire.old.environment }
+{
+    socket.dispatch(
+        wire,
+        move |cx: &mut Wire<'_>, sent: (IpRepr, IcmpRepr<'_>)| -> Result<(), TooShort>
+            ensures written { WritesMessage sent.entry.0 (any_message sent.entry.1) (sheet_of cx.entry.now) result
+                (sheet_of cx.exit.now) }
+            ensures same_buffer { cx.exit.now.out.ghost_name ≡ cx.entry.now.out.ghost_name }
+            ensures environment { cx.exit.now.environment ≡ cx.entry.now.environment }
+            ensures within { cx.entry.now.len ≤ length cx.entry.now.out.now
+                → cx.exit.now.len ≤ length cx.entry.now.out.now }
+        { cx.write_message(&sent.0, &sent.1) },
+    )
+}
+
+/// The same of an ICMP socket.
+pub(crate) fn emit_icmp(
+    socket: &mut icmp::Socket<'_>,
+    environment: &Environment,
+    out: &mut [u8],
+) -> (Result<(), TooShort>, usize)
+    ensures table { DispatchesMessage (facts_by ⟦<IpAddress as PartialEq>⟧.eq environment.entry.now) socket.old out.old
+        result.0 result.1 socket.new out.new }
+    ensures within { result.1 ≤ length out.old }
+{
+    let mut wire = Wire {
+        environment,
+        out,
+        len: 0,
+    };
+    let answer = emit_message(socket, &mut wire);
+    (answer, wire.len)
+}
+
+// Lets the socket emit.
+fn emit_packet(socket: &mut raw::Socket<'_>, wire: &mut Wire<'_>) -> Result<(), TooShort>
+    ensures table { raw_dispatch.Dispatched writing_raw tt (is_sent wire.old.environment.now.checksums.ipv4) socket.old
+        (sheet_of wire.old) result (sheet_of wire.new) socket.new }
+    ensures within { wire.old.len ≤ length wire.old.out.now → wire.new.len ≤ length wire.old.out.now }
+    ensures same_buffer { wire.new.out.ghost_name ≡ wire.old.out.ghost_name }
+    ensures environment { wire.new.environment ≡ wire.old.environment }
+{
+    socket.dispatch(
+        wire,
+        move |cx: &mut Wire<'_>, sent: (IpRepr, &[u8])| -> Result<(), TooShort>
+            ensures written { WritesRaw sent.entry.0 sent.entry.1.now (sheet_of cx.entry.now) result
+                (sheet_of cx.exit.now) }
+            ensures same_buffer { cx.exit.now.out.ghost_name ≡ cx.entry.now.out.ghost_name }
+            ensures environment { cx.exit.now.environment ≡ cx.entry.now.environment }
+            ensures within { cx.entry.now.len ≤ length cx.entry.now.out.now
+                → cx.exit.now.len ≤ length cx.entry.now.out.now }
+        { cx.write_raw(&sent.0, sent.1) },
+    )
+}
+
+/// The same of a raw socket.
+pub(crate) fn emit_raw(
+    socket: &mut raw::Socket<'_>,
+    environment: &Environment,
+    out: &mut [u8],
+) -> (Result<(), TooShort>, usize)
+    ensures table { DispatchesRaw (facts_by ⟦<IpAddress as PartialEq>⟧.eq environment.entry.now) socket.old out.old
+        result.0 result.1 socket.new out.new }
+    ensures within { result.1 ≤ length out.old }
+{
+    let mut wire = Wire {
+        environment,
+        out,
+        len: 0,
+    };
+    let answer = emit_packet(socket, &mut wire);
     (answer, wire.len)
 }

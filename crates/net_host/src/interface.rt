@@ -39,11 +39,14 @@ impl<W: Words> Interface<W> {
     /// beginning of `reply`; 0 where none does.
     ///
     /// The first row that fits: a packet that is malformed, or has a source that no single other host has, or another
-    /// destination than an address of the interface or a broadcast, is dropped and counted; so is a broadcast that
-    /// carries no UDP datagram, and another protocol than TCP and UDP. A segment goes to the first connection that
-    /// accepts it, in the order of handles, else to the first socket that listens and accepts it. One for no socket is
-    /// answered by an RST (RFC 9293, section 3.10.7.1), unless it is one, at most `ANSWERS_A_SECOND` times a second. A
-    /// datagram goes to the first UDP socket that accepts it. No other socket changes.
+    /// destination than an address of the interface or a broadcast, is dropped and counted. Of any other each raw
+    /// socket that accepts it takes a copy. Then a broadcast that carries no UDP datagram is dropped, and another
+    /// protocol than TCP, UDP and ICMP. A segment goes to the first connection that accepts it, in the order of
+    /// handles, else to the first socket that listens and accepts it. One for no socket is answered by an RST (RFC
+    /// 9293, section 3.10.7.1), unless it is one, at most `ANSWERS_A_SECOND` times a second. A datagram goes to the
+    /// first UDP socket that accepts it. Of an ICMP message each ICMP socket that accepts it takes a copy, and an echo
+    /// request is answered (RFC 792; RFC 4443, section 4.2), by at most as many bytes as the MTU. No other socket
+    /// changes.
     ///
     /// `TooShort` where `reply` is shorter than the MTU; nothing happens then.
     pub fn receive<G: TsvalSource>(

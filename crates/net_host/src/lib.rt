@@ -10,6 +10,8 @@ pub mod environment;
 pub mod inner;
 pub mod interface;
 pub mod limit;
+pub mod messages;
+pub mod raw_copies;
 pub mod receive;
 pub mod replies;
 pub mod secret;

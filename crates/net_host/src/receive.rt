@@ -4,7 +4,8 @@ ghost use Rattle.segment_wire.specs.Udp.{datagram_of};
 ghost use Rattle.control_wire.specs.Segment.{segment_of};
 ghost use Rattle.net_host.specs.Counts.{counted};
 ghost use Rattle.net_host.specs.Receiving.{ByAddresses, ByKind, IfShort, TakesDatagramOf, TakesPacket};
-ghost use Rattle.net_host.specs.Receiving.{TakesSegment, TakesTcp, TakesUdp, counted_for, counted_if, datagram_in};
+ghost use Rattle.net_host.specs.Receiving.{TakesCarried, TakesIcmp, TakesMail, TakesSegment, TakesTcp, TakesUdp, counted_for, counted_if, datagram_in};
+ghost use Rattle.net_host.specs.Messages.{mail_of};
 ghost use Rattle.net_host.specs.Arrivals.{refusal};
 ghost use Rattle.net_host.specs.Facts.{facts_by};
 
@@ -12,6 +13,8 @@ use crate::arrival::{Kind, kind_in, refusal};
 use crate::counters::{Counters, Reason};
 use crate::datagrams::hear_datagram;
 use crate::interface::Interface;
+use crate::messages::{Mail, copy_to_all, echoed, mail_in, put_answer};
+use crate::raw_copies::copy_packet_to_all;
 use crate::segments::{Taker, hear_segment};
 use crate::slot::Slot;
 use host_context::Words;
@@ -64,11 +67,25 @@ impl<W: Words> Interface<W> {
     {
         match refusal(&self.inner, ip) {
             Some(reason) => self.drop_packet(reason),
-            None => {
-                let kind = kind_in(&self.inner, ip);
-                self.take_kind(slots, kind, ip, bytes, out)
-            }
+            None => self.take_looked_at(slots, ip, bytes, out),
         }
+    }
+
+    fn take_looked_at<G: TsvalSource>(
+        &mut self,
+        slots: &mut Vec<Slot<'_, G>>,
+        ip: &IpRepr,
+        bytes: &[u8],
+        out: &mut [u8],
+    ) -> usize
+        requires { 100 ≤ length out.old }
+        ensures within { result ≤ length out.old }
+        ensures table { TakesCarried ⟦<IpAddress as PartialEq>⟧.eq W.word_at G.tells ip.now bytes.now self.old
+            slots.old.items out.old result self.new slots.new.items out.new }
+    {
+        copy_packet_to_all(slots, &self.inner, ip, bytes);
+        let kind = kind_in(&self.inner, ip);
+        self.take_kind(slots, kind, ip, bytes, out)
     }
 
     fn take_kind<G: TsvalSource>(
@@ -90,6 +107,7 @@ impl<W: Words> Interface<W> {
                 self.take_udp(slots, ip, bytes);
                 0
             }
+            Kind::Icmp => self.take_icmp(slots, ip, bytes, out),
             Kind::Other => self.drop_packet(Reason::Protocol),
             Kind::Foreign => self.drop_packet(Reason::Destination),
         }
@@ -118,6 +136,40 @@ impl<W: Words> Interface<W> {
     {
         let found = hear_datagram(slots, &self.inner, ip, repr, payload);
         count_found(&mut self.counters, found);
+    }
+
+    fn take_icmp<G: TsvalSource>(
+        &mut self,
+        slots: &mut Vec<Slot<'_, G>>,
+        ip: &IpRepr,
+        bytes: &[u8],
+        out: &mut [u8],
+    ) -> usize
+        ensures within { result ≤ length out.old }
+        ensures table { TakesIcmp ⟦<IpAddress as PartialEq>⟧.eq W.word_at G.tells ip.now bytes.now self.old
+            slots.old.items out.old result self.new slots.new.items out.new }
+    {
+        let caps = self.inner.checksum_caps();
+        match mail_in(&caps, ip, bytes) {
+            None => self.drop_packet(Reason::Message),
+            Some(mail) => self.take_mail(slots, &mail, out),
+        }
+    }
+
+    fn take_mail<G: TsvalSource>(
+        &self,
+        slots: &mut Vec<Slot<'_, G>>,
+        mail: &Mail<'_>,
+        out: &mut [u8],
+    ) -> usize
+        ensures within { result ≤ length out.old }
+        ensures table { TakesMail ⟦<IpAddress as PartialEq>⟧.eq W.word_at G.tells (mail_of mail.now) self.now
+            slots.old.items out.old result self.now slots.new.items out.new }
+    {
+        copy_to_all(slots, &self.inner, mail);
+        let answer = echoed(mail);
+        let caps = self.inner.checksum_caps();
+        put_answer(&answer, self.inner.ip_mtu(), out, &caps)
     }
 
     fn take_tcp<G: TsvalSource>(

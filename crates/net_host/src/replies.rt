@@ -1,10 +1,12 @@
 //! Replies as packets in a buffer.
-ghost use Rattle.std.specs.Prelude.{◌≡◌, ◌≤◌, length, [], option_map};
+ghost use Rattle.std.specs.Prelude.{◌≡◌, ◌≤◌, ◌++◌, length, [], option_map};
 ghost use Rattle.std.specs.Option.{ForSome};
+ghost use Rattle.ip_wire.specs.Checksum.{is_sent};
+ghost use Rattle.ip_wire.specs.Packet.{header_octets};
 ghost use Rattle.control_wire.specs.Fits.{FitsPacket};
 ghost use Rattle.control_wire.specs.Segment.{segment_of};
 ghost use Rattle.sock_tcp.specs.Process.{reply_of};
-ghost use Rattle.net_host.specs.Wire.{CountsDatagram, IsCounted, packet_len, reply_len, with_datagram, with_reply, with_segment};
+ghost use Rattle.net_host.specs.Wire.{CountsDatagram, IsCounted, packet_len, raw_len, reply_len, with_datagram, with_raw, with_reply, with_segment};
 
 use segment_wire::packet::{emit_tcp, emit_udp};
 use smoltcp_socket::wire::{ChecksumCapabilities, IpRepr, TcpRepr, UdpRepr};
@@ -48,6 +50,32 @@ pub(crate) fn put_datagram(
     let whole = ip.header_len() + ip.payload_len();
     emit_udp(ip, repr, payload, &mut out[..whole], caps);
     whole
+}
+
+/// Writes a packet with this payload at the beginning of `out`, and answers its length.
+pub(crate) fn put_raw(
+    ip: &IpRepr,
+    payload: &[u8],
+    out: &mut [u8],
+    caps: &ChecksumCapabilities,
+) -> usize
+    requires room { raw_len ip.now payload.now ≤ length out.old }
+    ensures within { result ≤ length out.old }
+    ensures len { result ≡ raw_len ip.now payload.now }
+    ensures bytes { out.new ≡ with_raw caps.now ip.now payload.now out.old }
+{
+    let whole = ip.header_len() + payload.len();
+    write_raw(ip, payload, &mut out[..whole], caps);
+    whole
+}
+
+fn write_raw(ip: &IpRepr, payload: &[u8], out: &mut [u8], caps: &ChecksumCapabilities)
+    requires { length out.old ≡ raw_len ip.now payload.now }
+    ensures { out.new ≡ header_octets (is_sent caps.now.ipv4) ip.now ++ payload.now }
+{
+    ip.emit(out, caps);
+    let start = ip.header_len();
+    out[start..].copy_from_slice(payload);
 }
 
 /// Writes the reply, if any, at the beginning of `out`, and answers its length, or 0.

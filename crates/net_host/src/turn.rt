@@ -6,7 +6,7 @@ ghost use Rattle.host_guard.specs.Guarding.{not_before};
 ghost use Rattle.sock_tcp.specs.Polls.{is_reached};
 ghost use Rattle.net_host.specs.Turns.{SlotEmits, TakesTurn, Watches, asked_of, delayed, is_due, slot_poll};
 
-use crate::emission::{emit_tcp, emit_udp};
+use crate::emission::{emit_icmp, emit_raw, emit_tcp, emit_udp};
 use crate::environment::Environment;
 use crate::slot::Slot;
 use crate::wire::TooShort;
@@ -83,7 +83,9 @@ impl<'a, G: TsvalSource> Slot<'a, G> {
         match &mut self.socket {
             Some(Socket::Tcp(tcp)) => emit_tcp(tcp, environment, out),
             Some(Socket::Udp(udp)) => emit_udp(udp, environment, out),
-            _ => (Ok(()), 0),
+            Some(Socket::Icmp(icmp)) => emit_icmp(icmp, environment, out),
+            Some(Socket::Raw(raw)) => emit_raw(raw, environment, out),
+            None => (Ok(()), 0),
         }
     }
 }

@@ -3,17 +3,20 @@ ghost use Rattle.std.specs.Prelude.{◌≡◌, ◌↔◌, ◌≤◌, IsTrue, len
 ghost use Rattle.control_wire.specs.Segment.{segment_of};
 ghost use Rattle.net_host.specs.Addresses.{as_v4, as_v6, source_of};
 ghost use Rattle.net_host.specs.Facts.{facts_by};
-ghost use Rattle.net_host.specs.Sheets.{Writes, WritesDatagram};
-ghost use Rattle.net_host.specs.Wire.{CountsDatagram, IsCounted};
+ghost use Rattle.net_host.specs.Sheets.{Writes, WritesDatagram, WritesMessage, WritesRaw};
+ghost use Rattle.sock_dgram.specs.IcmpDispatch.{Counts, any_message};
+ghost use Rattle.net_host.specs.Wire.{CountsDatagram, IsCounted, raw_len};
 ghost use Rattle.net_host.specs.SheetOf.{sheet_of};
 
 use crate::environment::Environment;
 use crate::inner::{source_v4, source_v6};
-use crate::replies::{put_datagram, put_segment};
+use crate::messages::put_message;
+use crate::replies::{put_datagram, put_raw, put_segment};
 use smoltcp_socket::Context;
 use smoltcp_socket::time::Instant;
 use smoltcp_socket::wire::{
-    ChecksumCapabilities, IpAddress, IpProtocol, IpRepr, Ipv4Address, Ipv6Address, TcpRepr, UdpRepr,
+    ChecksumCapabilities, IcmpRepr, IpAddress, IpProtocol, IpRepr, Ipv4Address, Ipv6Address,
+    TcpRepr, UdpRepr,
 };
 
 /// The buffer is too short for the packet.
@@ -41,6 +44,17 @@ fn is_counted(ip: &IpRepr, repr: &TcpRepr<'_>) -> bool
         && ip.next_header() == IpProtocol::Tcp
 }
 
+// Whether the header counts the message, and is of its version.
+fn counts_message(ip: &IpRepr, repr: &IcmpRepr<'_>) -> bool
+    ensures { IsTrue result ↔ Counts ip.now (any_message repr.now) }
+{
+    match (ip, repr) {
+        (IpRepr::Ipv4(header), IcmpRepr::Ipv4(repr)) => header.payload_len == repr.buffer_len(),
+        (IpRepr::Ipv6(header), IcmpRepr::Ipv6(repr)) => header.payload_len == repr.buffer_len(),
+        _ => false,
+    }
+}
+
 // Whether the header counts the datagram.
 fn counts_datagram(ip: &IpRepr, payload: &[u8]) -> bool
     ensures { IsTrue result ↔ CountsDatagram ip.now payload.now }
@@ -51,6 +65,39 @@ fn counts_datagram(ip: &IpRepr, payload: &[u8]) -> bool
 }
 
 impl<'w> Wire<'w> {
+    /// Writes an IP packet with this payload at the beginning of the buffer, where it fits.
+    pub(crate) fn write_raw(&mut self, ip: &IpRepr, payload: &[u8]) -> Result<(), TooShort>
+        ensures written { WritesRaw ip.now payload.now (sheet_of self.old) result (sheet_of self.new) }
+        ensures same_buffer { self.new.out.ghost_name ≡ self.old.out.ghost_name }
+        ensures environment { self.new.environment ≡ self.old.environment }
+        ensures within { self.old.len ≤ length self.old.out.now → self.new.len ≤ length self.old.out.now }
+    {
+        if self.out.len() < ip.header_len() || self.out.len() - ip.header_len() < payload.len() {
+            return Err(TooShort);
+        }
+        let caps = self.environment.checksums;
+        self.len = put_raw(ip, payload, self.out, &caps);
+        Ok(())
+    }
+
+    /// Writes the message as an IP packet at the beginning of the buffer, where it fits.
+    pub(crate) fn write_message(&mut self, ip: &IpRepr, repr: &IcmpRepr<'_>) -> Result<(), TooShort>
+        ensures written { WritesMessage ip.now (any_message repr.now) (sheet_of self.old) result (sheet_of self.new) }
+        ensures same_buffer { self.new.out.ghost_name ≡ self.old.out.ghost_name }
+        ensures environment { self.new.environment ≡ self.old.environment }
+        ensures within { self.old.len ≤ length self.old.out.now → self.new.len ≤ length self.old.out.now }
+    {
+        if !counts_message(ip, repr)
+            || self.out.len() < ip.header_len()
+            || self.out.len() - ip.header_len() < ip.payload_len()
+        {
+            return Err(TooShort);
+        }
+        let caps = self.environment.checksums;
+        self.len = put_message(ip, repr, self.out, &caps);
+        Ok(())
+    }
+
     /// Writes the datagram as an IP packet at the beginning of the buffer, where it fits.
     pub(crate) fn write_datagram(
         &mut self,

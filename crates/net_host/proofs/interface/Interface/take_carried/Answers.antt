@@ -1,10 +1,9 @@
 use Rattle.std.proofs.Common.{◌∙◌, sym, subst}
 use Rattle.ip_wire.specs.contracts.address.IpAddressPartialEq.TheImpl.{eq-value}
-use Rattle.net_host.specs.Receiving.{ByAddresses, ByKind}
+use Rattle.net_host.specs.Receiving.{ByAddresses}
 use Rattle.net_host.proofs.interface.Interface.take_carried.Goals as goal
 
 pub returns-in-None-clause-table : goal.returns-in-None-clause-table
 returns-in-None-clause-table g c =
-    subst (λ o. ByAddresses eq-value.it g.W.Words.word_at g.G.TsvalSource.tells o c.args.ip.now c.args.bytes.now c.args.self.now c.args.slots.now.items c.args.out.now c.take_kind.result c.take_kind.new.self c.take_kind.new.slots.items c.take_kind.new.out)
-    (sym c.in-None.is ∙ c.refusal.ensures)
-    (subst (λ k. ByKind eq-value.it g.W.Words.word_at g.G.TsvalSource.tells k c.args.ip.now c.args.bytes.now c.args.self.now c.args.slots.now.items c.args.out.now c.take_kind.result c.take_kind.new.self c.take_kind.new.slots.items c.take_kind.new.out) c.kind_in-kind.ensures c.take_kind.ensures.table)
+    subst (λ o. ByAddresses eq-value.it g.W.Words.word_at g.G.TsvalSource.tells o c.args.ip.now c.args.bytes.now c.args.self.now c.args.slots.now.items c.args.out.now c.take_looked_at.result c.take_looked_at.new.self c.take_looked_at.new.slots.items c.take_looked_at.new.out)
+    (sym c.in-None.is ∙ c.refusal.ensures) c.take_looked_at.ensures.table
