@@ -1,7 +1,10 @@
 -- The places of a set, and what is done to one.
 use Rattle.std.specs.Prelude.{ℕ, ◌≡◌, ◌+◌, ◌%◌, ◌^◌, ◌==◌, List, slice_get, Option, Some, None, if◌then◌else◌}
 use Rattle.smoltcp_socket.specs.declared.socket.Socket.{Socket}
-use Rattle.smoltcp_socket.specs.Kinds.{tcp_of}
+use Rattle.smoltcp_socket.specs.Kinds.{icmp_of, raw_of, tcp_of, udp_of}
+use Rattle.sock_dgram.specs.Icmp as icmp
+use Rattle.sock_dgram.specs.Raw as raw
+use Rattle.sock_dgram.specs.Udp as udp
 use Rattle.sock_tcp.specs.declared.socket.Socket as tcp
 use Rattle.net_host.specs.declared.slot.Slot.{Slot}
 use Rattle.net_host.specs.declared.slot.SocketHandle.{SocketHandle}
@@ -25,6 +28,39 @@ tcp_in (Some s) = tcp_of s
 
 abbrev pub tcp_at : {G : Type 0} → List (Slot G) → SocketHandle → Option (tcp.Socket G)
 tcp_at ss h = tcp_in (socket_at ss h)
+
+abbrev pub udp_in : {G : Type 0} → Option (Socket G) → Option udp.View
+udp_in None = None
+udp_in (Some s) = udp_of s
+
+abbrev pub udp_at : {G : Type 0} → List (Slot G) → SocketHandle → Option udp.View
+udp_at ss h = udp_in (socket_at ss h)
+
+abbrev pub icmp_in : {G : Type 0} → Option (Socket G) → Option icmp.View
+icmp_in None = None
+icmp_in (Some s) = icmp_of s
+
+abbrev pub icmp_at : {G : Type 0} → List (Slot G) → SocketHandle → Option icmp.View
+icmp_at ss h = icmp_in (socket_at ss h)
+
+abbrev pub raw_in : {G : Type 0} → Option (Socket G) → Option raw.View
+raw_in None = None
+raw_in (Some s) = raw_of s
+
+abbrev pub raw_at : {G : Type 0} → List (Slot G) → SocketHandle → Option raw.View
+raw_at ss h = raw_in (socket_at ss h)
+
+-- the handle of a place with a socket
+abbrev pub handle_of : {G : Type 0} → ℕ → ℕ → Option (Socket G) → Option SocketHandle
+handle_of i g None = None
+handle_of i g (Some s) = Some (record { index = i; generation = g })
+
+abbrev pub handle_in : {G : Type 0} → ℕ → Option (Slot G) → Option SocketHandle
+handle_in i None = None
+handle_in i (Some s) = handle_of i s.generation s.socket
+
+abbrev pub handle_at : {G : Type 0} → List (Slot G) → ℕ → Option SocketHandle
+handle_at ss i = handle_in i (slice_get ss i)
 
 -- a socket is put there, under this handle
 pub record Fills {G : Type 0} (put : Socket G) (h : SocketHandle) (before after : Slot G) : Type 0 where

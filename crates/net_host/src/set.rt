@@ -1,12 +1,12 @@
 //! A set of sockets of all kinds.
 ghost use Rattle.std.specs.Prelude.{◌≡◌, ◌<◌, IfOk, IfErr, OnErr, IfSome, IfNone, length, option_map, Some, None};
 ghost use Rattle.std.specs.List.{All};
-ghost use Rattle.net_host.specs.Slots.{IsFree, Fills, Empties, socket_at, tcp_at};
+ghost use Rattle.net_host.specs.Slots.{Empties, Fills, IsFree, handle_at, icmp_at, raw_at, socket_at, tcp_at, udp_at};
 ghost use Rattle.net_host.specs.Walks.{Finds, ChangesAt};
 
 use crate::slot::{Slot, SocketHandle};
 use host_guard::Guard;
-use smoltcp_socket::{Socket, tcp};
+use smoltcp_socket::{Socket, icmp, raw, tcp, udp};
 use sock_tcp::{Generator, TsvalSource};
 use std::alloc::{AllocError, Global};
 
@@ -36,6 +36,20 @@ impl<'a, G: TsvalSource> SocketSet<'a, G> {
         ensures { result ≡ length self.now.slots.items }
     {
         self.slots.len()
+    }
+
+    /// The handle of the socket at this place, of as many as `capacity` says; none where no socket is there.
+    pub fn handle_at(&self, index: usize) -> Option<SocketHandle>
+        ensures { result ≡ handle_at self.now.slots.items index }
+    {
+        let slot = self.slots.get(index)?;
+        if slot.is_free() {
+            return None;
+        }
+        Some(SocketHandle {
+            index,
+            generation: slot.generation,
+        })
     }
 
     /// Puts the socket into the first place that is free. Where none is, it is given back.
@@ -93,6 +107,36 @@ impl<'a, G: TsvalSource> SocketSet<'a, G> {
     {
         match self.get_mut(handle)? {
             Socket::Tcp(tcp) => Some(tcp),
+            _ => None,
+        }
+    }
+
+    /// The same of a UDP socket.
+    pub fn udp_mut(&mut self, handle: SocketHandle) -> Option<&mut udp::Socket<'a>>
+        ensures { option_map (λ s. s.now) result ≡ udp_at self.old.slots.items handle }
+    {
+        match self.get_mut(handle)? {
+            Socket::Udp(udp) => Some(udp),
+            _ => None,
+        }
+    }
+
+    /// The same of an ICMP socket.
+    pub fn icmp_mut(&mut self, handle: SocketHandle) -> Option<&mut icmp::Socket<'a>>
+        ensures { option_map (λ s. s.now) result ≡ icmp_at self.old.slots.items handle }
+    {
+        match self.get_mut(handle)? {
+            Socket::Icmp(icmp) => Some(icmp),
+            _ => None,
+        }
+    }
+
+    /// The same of a raw socket.
+    pub fn raw_mut(&mut self, handle: SocketHandle) -> Option<&mut raw::Socket<'a>>
+        ensures { option_map (λ s. s.now) result ≡ raw_at self.old.slots.items handle }
+    {
+        match self.get_mut(handle)? {
+            Socket::Raw(raw) => Some(raw),
             _ => None,
         }
     }
