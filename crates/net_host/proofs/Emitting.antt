@@ -41,6 +41,7 @@ module _ {F F2 C C2 E G : Type 0} (m : C → C2) (g : EmitTcp F C E) (f : F) (g2
     stamp = h.stamp;
     told = h.told;
     emits = record {
+      stamped = h.emits.stamped;
       bytes = h.emits.bytes;
       lent = h.emits.lent;
       emits = emits m g f g2 f2 _ says _ c c' r h.emits.emits;

@@ -21,7 +21,7 @@ use Rattle.sock_tcp.specs.Process.{Accepts, AcceptsIn}
 use Rattle.sock_tcp.specs.Queue.{appended, queue_of}
 use Rattle.sock_tcp.specs.Queues.{Reads, Sends, fitting, last_ts_after, may_recv, may_send, queued, read_off, readable, recv_refusal, timer_after, written}
 use Rattle.tcp_laws.specs.SocketRun as calls
-use Rattle.tcp_laws.specs.SocketRun.{Counts, Run, Step, Ends, Then, starting, starting_if, is_reset, opens_listener, with_sent, accepted}
+use Rattle.tcp_laws.specs.SocketRun.{Counts, Run, SendsTo as Emits, Step, Ends, Then, starting, starting_if, is_reset, opens_listener, with_sent, accepted}
 use Rattle.sock_tcp.specs.View.{View, fresh}
 use Rattle.tcp_laws.specs.Polling.{IsReached}
 use Rattle.sock_tcp.specs.declared.error.SendError.TheVariants as send_error
