@@ -55,15 +55,15 @@ struct smoltcp_endpoint { struct smoltcp_address addr; uint16_t port; };
 
 /* What a call is told of the interface.
  *
- * The word is the initial sequence number of a connection that the call opens: by connect, or by process of a SYN that a
- * listening socket takes. A word is never used twice: draw one before each connect and before each packet that a
- * listening socket is offered, from a source that nobody off the path can guess, as RFC 6528 asks (getrandom, or a keyed
- * hash of addresses and ports beside a clock of 4 microseconds). Two connections of one word begin with one number, and
- * who sees the one can put segments into the other.
+ * The word is the initial sequence number of a connection that the call opens: by connect, or by process of a SYN that
+ * a listening socket takes. A word is never used twice: draw one before each connect and before each packet that a
+ * listening socket is offered, from a source that nobody off the path can guess, as RFC 6528 asks (getrandom, or a
+ * keyed hash of addresses and ports beside a clock of 4 microseconds). Two connections of one word begin with one
+ * number, and who sees the one can put segments into the other.
  *
  * An address of zeros was never set, and is none: nothing is sent from it. smoltcp_tcp_connect to that version of IP
- * answers SMOLTCP_ERROR_ADDRESS, and so does the dispatch of a UDP datagram that has no source of its own and of an ICMP
- * message; a TCP connection from it is reset, as where an address is gone. */
+ * answers SMOLTCP_ERROR_ADDRESS, and so does the dispatch of a UDP datagram that has no source of its own and of an
+ * ICMP message; a TCP connection from it is reset, as where an address is gone. */
 struct smoltcp_context {
     int64_t now;     /* the moment in microseconds, within 2^61 of zero */
     uint32_t word;   /* a random word, never used twice */
@@ -311,8 +311,8 @@ static inline int64_t smoltcp_tcp_listen(struct smoltcp_tcp *s, const struct smo
 }
 
 /* Opens a connection to remote, from local, whose address may be none: then the interface's is taken. The context's word
- * is its initial sequence number. SMOLTCP_ERROR_STATE where the socket is open, SMOLTCP_ERROR_ADDRESS where a port is 0,
- * an address is unspecified, the two are of different versions, or the interface has none of the version. */
+ * is its initial sequence number. SMOLTCP_ERROR_STATE where the socket is open, SMOLTCP_ERROR_ADDRESS where a port is
+ * 0, an address is unspecified, the two are of different versions, or the interface has none of the version. */
 static inline int64_t smoltcp_tcp_connect(struct smoltcp_tcp *s, const struct smoltcp_context *cx,
                                           const struct smoltcp_endpoint *remote,
                                           const struct smoltcp_endpoint *local) {
@@ -1029,8 +1029,8 @@ static inline int64_t smoltcp_icmp_set_hop_limit(struct smoltcp_icmp *s, uint8_t
 
 /* Puts an ICMP message to remote into the transmit queue, its checksum computed. SMOLTCP_ERROR_ADDRESS where remote is
  * unspecified, SMOLTCP_ERROR_ROOM where the queue has no room for it, or it has more than 65495 bytes. Nothing changes
- * then. One that is no echo and no error of its version is dropped by dispatch, as is one for which the interface has no
- * address. The socket need not be open. */
+ * then. One that is no echo and no error of its version is dropped by dispatch, as is one for which the interface has
+ * no address. The socket need not be open. */
 static inline int64_t smoltcp_icmp_send(struct smoltcp_icmp *s, const struct smoltcp_address *remote,
                                         const uint8_t *data, size_t len) {
     struct smoltcp_icmp_handle h = {(uint8_t *)s};
@@ -1065,8 +1065,8 @@ static inline int64_t smoltcp_icmp_process(struct smoltcp_icmp *s, const struct 
 }
 
 /* The length of the packet of the first message of the transmit queue, in out. 0 where none waits, or the first is no
- * echo and no error of its version: it leaves the queue too. SMOLTCP_ERROR_ADDRESS where the interface has no address of
- * its version: it has left the queue. SMOLTCP_ERROR_ROOM where out is too short for it: it stays the first. */
+ * echo and no error of its version: it leaves the queue too. SMOLTCP_ERROR_ADDRESS where the interface has no address
+ * of its version: it has left the queue. SMOLTCP_ERROR_ROOM where out is too short for it: it stays the first. */
 static inline int64_t smoltcp_icmp_dispatch(struct smoltcp_icmp *s, const struct smoltcp_context *cx, uint8_t *out,
                                            size_t cap) {
     struct smoltcp_icmp_handle h = {(uint8_t *)s};

@@ -1,6 +1,6 @@
-//! Links `libsmoltcp_c.a`: the file that SMOLTCP_C_LIB names, or the one in the folder that it names; else the one in the
-//! crate's own `lib`, which a packed crate has; else the one that `make -C c` puts into the repository's `c/lib`. Without
-//! any, docs and checks still build, and a program does not link.
+//! Links `libsmoltcp_c.a`: the file that SMOLTCP_C_LIB names, or the one in the folder that it names; else the one in
+//! the crate's own `lib`, which a packed crate has; else the one that `make -C c` puts into the repository's `c/lib`.
+//! Without any, docs and checks still build, and a program does not link.
 use std::env;
 use std::path::PathBuf;
 

@@ -38,7 +38,8 @@ fn emit_segment<G: TsvalSource>(
                 (sheet_of cx.entry.now) result (sheet_of cx.exit.now) }
             ensures same_buffer { cx.exit.now.out.ghost_name ≡ cx.entry.now.out.ghost_name }
             ensures environment { cx.exit.now.environment ≡ cx.entry.now.environment }
-            ensures within { cx.entry.now.len ≤ length cx.entry.now.out.now → cx.exit.now.len ≤ length cx.entry.now.out.now }
+            ensures within { cx.entry.now.len ≤ length cx.entry.now.out.now → cx.exit.now.len ≤ length
+                cx.entry.now.out.now }
         { cx.write_segment(&sent.0, &sent.1) },
     )
 }

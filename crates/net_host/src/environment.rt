@@ -66,7 +66,8 @@ impl Environment {
     }
 
     pub(crate) fn has_ip_addr(&self, addr: &IpAddress) -> bool
-        ensures { result ≡ list_any (λ c. ⟦<IpAddress as PartialEq>⟧.eq c.address addr.now) self.entry.now.addresses.items }
+        ensures { result ≡ list_any (λ c. ⟦<IpAddress as PartialEq>⟧.eq c.address addr.now)
+            self.entry.now.addresses.items }
     {
         self.addresses.iter().any(|c: &IpCidr| c.address == *addr)
     }

@@ -78,7 +78,8 @@ impl<W: Words> Interface<W> {
     ) -> usize
         requires { 100 ≤ length reply.old }
         ensures within { result ≤ length reply.old }
-        ensures table { ReceivesAt ⟦<IpAddress as PartialEq>⟧.eq W.word_at G.tells now packet.now self.old slots.old.items
+        ensures table { ReceivesAt ⟦<IpAddress as PartialEq>⟧.eq W.word_at G.tells now packet.now self.old
+            slots.old.items
             reply.old result self.new slots.new.items reply.new }
     {
         self.set_now(now);
@@ -102,7 +103,8 @@ impl<W: Words> Interface<W> {
         now: Instant,
         out: &mut [u8],
     ) -> Result<usize, TooShort>
-        ensures table { EmitsAt ⟦<IpAddress as PartialEq>⟧.eq G.tells now self.old sockets.old.slots.items out.old result
+        ensures table { EmitsAt ⟦<IpAddress as PartialEq>⟧.eq G.tells now self.old sockets.old.slots.items out.old
+            result
             self.new sockets.new.slots.items out.new }
         ensures within { IfOk result (λ n. n ≤ length out.old) }
         ensures quiet { result ≡ Ok 0 → Nowhere (Due (facts_by ⟦<IpAddress as PartialEq>⟧.eq

@@ -162,7 +162,8 @@ pub(crate) fn put_answer(
 ) -> usize
     ensures within { result ≤ length out.old }
     ensures len { result ≡ answer_len (if_short (min room (length out.old)) (option_map mail_of answer.now)) }
-    ensures bytes { out.new ≡ with_answer caps.now (if_short (min room (length out.old)) (option_map mail_of answer.now))
+    ensures bytes { out.new ≡ with_answer caps.now (if_short (min room (length out.old)) (option_map mail_of
+        answer.now))
         out.old }
 {
     match answer {

@@ -34,7 +34,8 @@ impl<W: Words> Interface<W> {
     ) -> usize
         requires { 100 ≤ length out.old }
         ensures within { result ≤ length out.old }
-        ensures table { TakesPacket ⟦<IpAddress as PartialEq>⟧.eq W.word_at G.tells packet.now self.old slots.old.items out.old
+        ensures table { TakesPacket ⟦<IpAddress as PartialEq>⟧.eq W.word_at G.tells packet.now self.old slots.old.items
+            out.old
             result self.new slots.new.items out.new }
     {
         let caps = self.inner.checksum_caps();
@@ -114,7 +115,8 @@ impl<W: Words> Interface<W> {
     }
 
     fn take_udp<G: TsvalSource>(&mut self, slots: &mut Vec<Slot<'_, G>>, ip: &IpRepr, bytes: &[u8])
-        ensures { TakesUdp ⟦<IpAddress as PartialEq>⟧.eq W.word_at G.tells ip.now bytes.now self.old slots.old.items self.new
+        ensures { TakesUdp ⟦<IpAddress as PartialEq>⟧.eq W.word_at G.tells ip.now bytes.now self.old slots.old.items
+            self.new
             slots.new.items }
     {
         let caps = self.inner.checksum_caps();
@@ -181,7 +183,8 @@ impl<W: Words> Interface<W> {
     ) -> usize
         requires { 100 ≤ length out.old }
         ensures within { result ≤ length out.old }
-        ensures table { TakesTcp ⟦<IpAddress as PartialEq>⟧.eq W.word_at G.tells ip.now bytes.now self.old slots.old.items
+        ensures table { TakesTcp ⟦<IpAddress as PartialEq>⟧.eq W.word_at G.tells ip.now bytes.now self.old
+            slots.old.items
             out.old result self.new slots.new.items out.new }
     {
         let caps = self.inner.checksum_caps();
@@ -200,7 +203,8 @@ impl<W: Words> Interface<W> {
     ) -> usize
         requires { 100 ≤ length out.old }
         ensures within { result ≤ length out.old }
-        ensures table { IfShort ⟦<IpAddress as PartialEq>⟧.eq W.word_at G.tells (nat_le (length repr.now.payload.now) 65535)
+        ensures table { IfShort ⟦<IpAddress as PartialEq>⟧.eq W.word_at G.tells (nat_le (length repr.now.payload.now)
+            65535)
             ip.now (segment_of repr.now) self.old slots.old.items out.old result self.new slots.new.items out.new }
     {
         if repr.payload.len() <= 65535 {
@@ -220,7 +224,8 @@ impl<W: Words> Interface<W> {
         requires small { length repr.now.payload.now ≤ 65535 }
         requires room { 100 ≤ length out.old }
         ensures within { result ≤ length out.old }
-        ensures table { TakesSegment ⟦<IpAddress as PartialEq>⟧.eq W.word_at G.tells ip.now (segment_of repr.now) self.old
+        ensures table { TakesSegment ⟦<IpAddress as PartialEq>⟧.eq W.word_at G.tells ip.now (segment_of repr.now)
+            self.old
             slots.old.items out.old result self.new slots.new.items out.new }
     {
         let (taker, len) = hear_segment(slots, &mut self.inner, &mut self.resets, ip, repr, out);

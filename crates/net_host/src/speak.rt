@@ -70,7 +70,8 @@ fn turn_at<G: TsvalSource>(
 ) -> (Result<(), TooShort>, usize)
     requires { i < length slots.old.items }
     ensures within { result.1 ≤ length out.old }
-    ensures table { TurnAt (facts_by ⟦<IpAddress as PartialEq>⟧.eq environment.entry.now) G.tells slots.old.items i out.old
+    ensures table { TurnAt (facts_by ⟦<IpAddress as PartialEq>⟧.eq environment.entry.now) G.tells slots.old.items i
+        out.old
         result.0 result.1 slots.new.items out.new }
 {
     slots[i].take_turn(environment, out)
@@ -100,7 +101,8 @@ fn speak_on<W: Words, G: TsvalSource>(
     out: &mut [u8],
 ) -> Result<usize, TooShort>
     ensures within { IfOk result (λ n. n ≤ length out.old) }
-    ensures table { Speaks (facts_by ⟦<IpAddress as PartialEq>⟧.eq cx.now.environment) G.tells slots.old.items turn.old out.old
+    ensures table { Speaks (facts_by ⟦<IpAddress as PartialEq>⟧.eq cx.now.environment) G.tells slots.old.items turn.old
+        out.old
         result slots.new.items turn.new out.new }
 {
     while let Some(i) = next_due(slots, cx, *turn) {

@@ -62,7 +62,8 @@ impl<'a, G: TsvalSource> Slot<'a, G> {
         out: &mut [u8],
     ) -> (Result<(), TooShort>, usize)
         ensures within { result.1 ≤ length out.old }
-        ensures table { TakesTurn (facts_by ⟦<IpAddress as PartialEq>⟧.eq environment.entry.now) G.tells self.old out.old
+        ensures table { TakesTurn (facts_by ⟦<IpAddress as PartialEq>⟧.eq environment.entry.now) G.tells self.old
+            out.old
             result.0 result.1 self.new out.new }
     {
         if !self.guard.take_turn(environment.moment()) {
@@ -77,7 +78,8 @@ impl<'a, G: TsvalSource> Slot<'a, G> {
         out: &mut [u8],
     ) -> (Result<(), TooShort>, usize)
         ensures within { result.1 ≤ length out.old }
-        ensures table { SlotEmits (facts_by ⟦<IpAddress as PartialEq>⟧.eq environment.entry.now) G.tells self.old out.old
+        ensures table { SlotEmits (facts_by ⟦<IpAddress as PartialEq>⟧.eq environment.entry.now) G.tells self.old
+            out.old
             result.0 result.1 self.new out.new }
     {
         match &mut self.socket {

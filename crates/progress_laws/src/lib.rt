@@ -207,9 +207,9 @@ pub fn pairs_can_go_on<G>()
 
 /// What the laws ask for can be met: of their premises, as records of the sockets and sides that they speak of, there
 /// are instances. Two sockets that are to be opened toward each other, and two that both connect (`AreOpened`,
-/// `IsCaller`); one that hears of the other's stream, and one that has counted its end (`HearsOf`, `HasCounted`); two in
-/// step but for their windows (`BothShut`); and two that agree on their numbers, as sides whose bytes can come over both
-/// ways (`AgreeBothWays`, `BothCanComeOver`).
+/// `IsCaller`); one that hears of the other's stream, and one that has counted its end (`HearsOf`, `HasCounted`); two
+/// in step but for their windows (`BothShut`); and two that agree on their numbers, as sides whose bytes can come over
+/// both ways (`AgreeBothWays`, `BothCanComeOver`).
 pub fn premises_can_be_met()
     ensures { PremisesCanBeMet }
 {}

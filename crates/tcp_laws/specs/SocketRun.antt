@@ -188,8 +188,8 @@ pub record IsNumbered (s : Segment) : Type 0 where
 
 -- A call on a socket v with the counts k leaves the socket w with the counts j: what the contract of the call says of
 -- the socket, in any context and for any closure, and what is counted. A segment that comes is any, but that in LISTEN
--- it has no acknowledgement: `accepts` holds of none that has one. It is processed by either rules, so that what holds of
--- all lists holds whatever rules the socket has
+-- it has no acknowledgement: `accepts` holds of none that has one. It is processed by either rules, so that what holds
+-- of all lists holds whatever rules the socket has
 pub data Step (v : View) (k : Counts) (w : View) (j : Counts) : Type 0 where
   Listen : (e : IpListenEndpoint) (r : Result (Unit {0}) ListenError)
       → Listens v e r w

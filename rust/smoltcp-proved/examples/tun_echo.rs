@@ -176,8 +176,8 @@ fn is_for_host(packet: &[u8]) -> bool {
     packet.len() >= 20 && packet[0] >> 4 == 4 && packet[16..20] == ADDRESS && is_another_host(&packet[12..16])
 }
 
-/// The port to which a SYN goes that opens a connection: it has no ACK, RST or FIN, and is a whole segment whose checksum
-/// holds.
+/// The port to which a SYN goes that opens a connection: it has no ACK, RST or FIN, and is a whole segment whose
+/// checksum holds.
 fn port_of_syn(packet: &[u8]) -> Option<u16> {
     let at = usize::from(packet[0] & 15) * 4;
     if packet[9] != 6 || packet.len() < at + 20 || packet[at + 13] & 23 != 2 {

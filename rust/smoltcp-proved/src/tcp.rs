@@ -122,8 +122,8 @@ impl<'a> Socket<'a> {
         sent(self.0.commit(count)).map(|_| result)
     }
 
-    /// Gives as many bytes as are there and fit, and answers how many. When TIME-WAIT ends, bytes that were not read are
-    /// gone: read them before.
+    /// Gives as many bytes as are there and fit, and answers how many. When TIME-WAIT ends, bytes that were not read
+    /// are gone: read them before.
     pub fn recv_slice(&mut self, data: &mut [u8]) -> Result<usize, RecvError> {
         received(self.0.recv(data))
     }
@@ -336,7 +336,8 @@ impl<'a> Socket<'a> {
     }
 
     /// Takes an IP packet, and answers the length of the one that answers it, at the beginning of `reply`, if one does.
-    /// A SYN that a listening socket takes begins with a word of the context's source; without a source it is not taken.
+    /// A SYN that a listening socket takes begins with a word of the context's source; without a source it is not
+    /// taken.
     ///
     /// # Panics
     /// Where `reply` has less than [`REPLY_LEN`] bytes; nothing has changed then.
