@@ -16,8 +16,7 @@ struct host {
 };
 
 static struct smoltcp_endpoint endpoint(uint8_t last, uint16_t port) {
-    struct smoltcp_endpoint e = {{4, {10, 0, 0, 0}, {0}}, port};
-    e.addr.v4[3] = last;
+    struct smoltcp_endpoint e = {smoltcp_ipv4(10, 0, 0, last), port};
     return e;
 }
 
@@ -70,10 +69,15 @@ int main(int argc, char **argv) {
     struct smoltcp_endpoint here = endpoint(1, 49152), there = endpoint(2, 80);
     char request[128];
     int asked = 0, now, len = snprintf(request, sizeof request, "GET %.64s HTTP/1.0\r\n\r\n", argc > 1 ? argv[1] : "/");
-    if (!start(&client, 1, 1000) || !start(&server, 2, 5000)
-        || smoltcp_tcp_listen(&server.socket, &there) != SMOLTCP_OK
-        || smoltcp_tcp_connect(&client.socket, &client.context, &there, &here) != SMOLTCP_OK) {
+    int64_t answer;
+    if (!start(&client, 1, 1000) || !start(&server, 2, 5000)) {
         fputs("a socket was refused\n", stderr);
+        return 1;
+    }
+    answer = smoltcp_tcp_listen(&server.socket, &there);
+    if (answer == SMOLTCP_OK) answer = smoltcp_tcp_connect(&client.socket, &client.context, &there, &here);
+    if (answer != SMOLTCP_OK) {
+        fprintf(stderr, "%s\n", smoltcp_strerror(answer));
         return 1;
     }
     for (now = 0; now < LONGEST; now++) {

@@ -172,8 +172,21 @@ static void refused_sends(void) {
     send_all("room without a place", 25, SMOLTCP_ERROR_ROOM);
 }
 
+/* RFC 4291, section 2.2: fd00::2; the state's name is RFC 9293's. */
+static void words(void) {
+    static const uint8_t octets[16] = {0xfd, [15] = 2};
+    struct smoltcp_address v4 = smoltcp_ipv4(10, 0, 0, 2), v6 = smoltcp_ipv6(octets);
+    struct smoltcp_address want_v4 = endpoint(4, 2, 0).addr, want_v6 = endpoint(6, 2, 0).addr;
+    want("an address of four numbers", v4.version == 4 && !memcmp(v4.v4, want_v4.v4, 4), 1);
+    want("an address of 16 octets", v6.version == 6 && !memcmp(v6.v6, want_v6.v6, 16), 1);
+    want("a name of a state", strcmp(smoltcp_state_name(SMOLTCP_SYN_RECEIVED), "SYN-RECEIVED"), 0);
+    want("no name of a state", strcmp(smoltcp_state_name(SMOLTCP_ERROR_NULL), "UNKNOWN"), 0);
+    want("words of an error", strcmp(smoltcp_strerror(SMOLTCP_ERROR_EMPTY), "no packet waits"), 0);
+}
+
 int main(void) {
     cx.ip_mtu = MTU;
+    words();
     no_connection();
     no_source();
     refused_sends();

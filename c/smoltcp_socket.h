@@ -22,6 +22,7 @@
 extern "C" {
 #endif
 
+/* What calls answer; smoltcp_strerror has their words. -4 and -10 are no answers of any call. */
 enum {
     SMOLTCP_OK = 0,
     SMOLTCP_ERROR_STATE = -1,    /* the state of the socket does not allow the call */
@@ -52,6 +53,9 @@ enum { SMOLTCP_RULES_SMOLTCP = 0, SMOLTCP_RULES_RFC = 1 };
 struct smoltcp_address { uint8_t version; uint8_t v4[4]; uint8_t v6[16]; };
 
 struct smoltcp_endpoint { struct smoltcp_address addr; uint16_t port; };
+
+/* Room for a reply of smoltcp_tcp_process or smoltcp_tcp_reset, in bytes: none is longer. */
+enum { SMOLTCP_REPLY_ROOM = 100 };
 
 /* What a call is told of the interface.
  *
@@ -251,6 +255,55 @@ int64_t smoltcp_icmp_dispatch_checked(struct smoltcp_icmp_handle *h, const struc
                                      size_t cap);
 int64_t smoltcp_icmp_poll_at_checked(struct smoltcp_icmp_handle *h, const struct smoltcp_context *cx, int64_t *at);
 
+/* The address a.b.c.d. */
+static inline struct smoltcp_address smoltcp_ipv4(uint8_t a, uint8_t b, uint8_t c, uint8_t d) {
+    struct smoltcp_address addr = {4, {a, b, c, d}, {0}};
+    return addr;
+}
+
+/* The address of these sixteen octets. */
+static inline struct smoltcp_address smoltcp_ipv6(const uint8_t octets[16]) {
+    struct smoltcp_address addr = {6, {0}, {0}};
+    int i;
+    for (i = 0; i < 16; i++) addr.v6[i] = octets[i];
+    return addr;
+}
+
+/* What the answer of a call means, in a few words: "done" of 0 and above. */
+static inline const char *smoltcp_strerror(int64_t answer) {
+    if (answer >= 0) return "done";
+    switch (answer) {
+    case SMOLTCP_ERROR_STATE: return "not in this state of the socket";
+    case SMOLTCP_ERROR_ADDRESS: return "a port or an address is missing or of another version";
+    case SMOLTCP_ERROR_FINISHED: return "the peer has closed, and all that it sent was read";
+    case SMOLTCP_ERROR_CONTEXT: return "the context's moment or its MTU is out of range";
+    case SMOLTCP_ERROR_ROOM: return "too little room for a packet";
+    case SMOLTCP_ERROR_NULL: return "a pointer is null";
+    case SMOLTCP_NOT_ACCEPTED: return "the packet is not for this socket";
+    case SMOLTCP_ERROR_RANGE: return "a number is out of its range";
+    case SMOLTCP_ERROR_EMPTY: return "no packet waits";
+    default: return "no answer of any call";
+    }
+}
+
+/* The name of a state, as smoltcp_tcp_state answers it, in the words of RFC 9293; "UNKNOWN" of another number. */
+static inline const char *smoltcp_state_name(int64_t state) {
+    switch (state) {
+    case SMOLTCP_CLOSED: return "CLOSED";
+    case SMOLTCP_LISTEN: return "LISTEN";
+    case SMOLTCP_SYN_SENT: return "SYN-SENT";
+    case SMOLTCP_SYN_RECEIVED: return "SYN-RECEIVED";
+    case SMOLTCP_ESTABLISHED: return "ESTABLISHED";
+    case SMOLTCP_FIN_WAIT_1: return "FIN-WAIT-1";
+    case SMOLTCP_FIN_WAIT_2: return "FIN-WAIT-2";
+    case SMOLTCP_CLOSE_WAIT: return "CLOSE-WAIT";
+    case SMOLTCP_CLOSING: return "CLOSING";
+    case SMOLTCP_LAST_ACK: return "LAST-ACK";
+    case SMOLTCP_TIME_WAIT: return "TIME-WAIT";
+    default: return "UNKNOWN";
+    }
+}
+
 /* The sizes that the library has. */
 static inline struct smoltcp_sizes smoltcp_sizes(void) {
     struct smoltcp_sizes sizes;
@@ -310,9 +363,9 @@ static inline int64_t smoltcp_tcp_listen(struct smoltcp_tcp *s, const struct smo
     return smoltcp_tcp_listen_checked(&h, endpoint);
 }
 
-/* Opens a connection to remote, from local, whose address may be none: then the interface's is taken. The context's word
- * is its initial sequence number. SMOLTCP_ERROR_STATE where the socket is open, SMOLTCP_ERROR_ADDRESS where a port is
- * 0, an address is unspecified, the two are of different versions, or the interface has none of the version. */
+/* Opens a connection to remote, from local, whose address may be none: then the interface's is taken. The word of the
+ * context is its initial sequence number. SMOLTCP_ERROR_STATE where the socket is open, SMOLTCP_ERROR_ADDRESS where a
+ * port is 0, an address is unspecified, the two are of different versions, or the interface has none of the version. */
 static inline int64_t smoltcp_tcp_connect(struct smoltcp_tcp *s, const struct smoltcp_context *cx,
                                           const struct smoltcp_endpoint *remote,
                                           const struct smoltcp_endpoint *local) {
@@ -598,7 +651,7 @@ static inline int64_t smoltcp_tcp_timestamp_enabled(struct smoltcp_tcp *s) {
 }
 
 /* Takes an IP packet. The length of the packet that answers it, in reply, or 0; SMOLTCP_NOT_ACCEPTED where it is no
- * whole TCP segment or is not for this socket. reply has 100 bytes or more, else SMOLTCP_ERROR_ROOM. */
+ * whole TCP segment or is not for this socket. reply has SMOLTCP_REPLY_ROOM bytes or more, else SMOLTCP_ERROR_ROOM. */
 static inline int64_t smoltcp_tcp_process(struct smoltcp_tcp *s, const struct smoltcp_context *cx,
                                           const uint8_t *packet, size_t len, uint8_t *reply, size_t cap) {
     struct smoltcp_tcp_handle h = {(uint8_t *)s};
@@ -631,7 +684,8 @@ static inline int64_t smoltcp_tcp_poll_at(struct smoltcp_tcp *s, const struct sm
 }
 
 /* Answers a TCP segment that no socket takes: the length of an RST, in reply; 0 for an RST, which has no answer;
- * SMOLTCP_NOT_ACCEPTED where the packet is no whole TCP segment. reply has 100 bytes or more. */
+ * SMOLTCP_NOT_ACCEPTED where the packet is no whole TCP segment. reply has SMOLTCP_REPLY_ROOM bytes or more, else
+ * SMOLTCP_ERROR_ROOM. */
 static inline int64_t smoltcp_tcp_reset(const uint8_t *packet, size_t len, uint8_t *reply, size_t cap) {
     if (!packet || !reply) return SMOLTCP_ERROR_NULL;
     return smoltcp_tcp_reset_checked(packet, len, reply, cap);
