@@ -36,7 +36,7 @@ macro_rules! of_queues {
 /// another question.
 #[unsafe(no_mangle)]
 #[tactic(auto, unfolding(crate::specs::Asked::udp_told))]
-pub extern "C" fn smoltcp_udp_ask_checked(h: &mut UdpHandle, what: u32) -> i64
+pub extern "C" fn smoltcp_udp_ask_nonnull(h: &mut UdpHandle, what: u32) -> i64
     ensures answer { result ≡ udp_told what h.old.socket }
     ensures at { h.new.at ≡ h.old.at }
     ensures same { h.new.socket ≡ h.old.socket }
@@ -48,7 +48,7 @@ pub extern "C" fn smoltcp_udp_ask_checked(h: &mut UdpHandle, what: u32) -> i64
 /// Answers what an ICMP socket is asked, as a UDP socket.
 #[unsafe(no_mangle)]
 #[tactic(auto, unfolding(crate::specs::Asked::icmp_told))]
-pub extern "C" fn smoltcp_icmp_ask_checked(h: &mut IcmpHandle, what: u32) -> i64
+pub extern "C" fn smoltcp_icmp_ask_nonnull(h: &mut IcmpHandle, what: u32) -> i64
     ensures answer { result ≡ icmp_told what h.old.socket }
     ensures at { h.new.at ≡ h.old.at }
     ensures same { h.new.socket ≡ h.old.socket }
@@ -61,7 +61,7 @@ pub extern "C" fn smoltcp_icmp_ask_checked(h: &mut IcmpHandle, what: u32) -> i64
 /// and 11 `ip_protocol`, the number of the protocol, or -1 for any.
 #[unsafe(no_mangle)]
 #[tactic(auto, unfolding(crate::specs::Asked::raw_told))]
-pub extern "C" fn smoltcp_raw_ask_checked(h: &mut RawHandle, what: u32) -> i64
+pub extern "C" fn smoltcp_raw_ask_nonnull(h: &mut RawHandle, what: u32) -> i64
     ensures answer { result ≡ raw_told what h.old.socket }
     ensures at { h.new.at ≡ h.old.at }
     ensures same { h.new.socket ≡ h.old.socket }
@@ -75,7 +75,7 @@ pub extern "C" fn smoltcp_raw_ask_checked(h: &mut RawHandle, what: u32) -> i64
 /// microseconds, or -1 for none), 21 `nagle_enabled`, 22 `congestion_control` (0 none, 1 Reno), 23 `timestamp_enabled`,
 /// 24 `rules` (0 smoltcp's, 1 the RFCs'). `ERROR_RANGE` for another question.
 #[unsafe(no_mangle)]
-pub extern "C" fn smoltcp_tcp_ask_checked(h: &mut TcpHandle, what: u32) -> i64
+pub extern "C" fn smoltcp_tcp_ask_nonnull(h: &mut TcpHandle, what: u32) -> i64
     ensures answer { result ≡ tcp_told what (view h.old) }
     ensures at { h.new.at ≡ h.old.at }
     ensures same { h.new.socket ≡ h.old.socket }
@@ -127,7 +127,7 @@ fn setting_told(socket: &Socket<'_, Clock>, what: u32) -> i64
 /// The state of the connection: 0 CLOSED, 1 LISTEN, 2 SYN-SENT, 3 SYN-RECEIVED, 4 ESTABLISHED, 5 FIN-WAIT-1,
 /// 6 FIN-WAIT-2, 7 CLOSE-WAIT, 8 CLOSING, 9 LAST-ACK, 10 TIME-WAIT.
 #[unsafe(no_mangle)]
-pub extern "C" fn smoltcp_tcp_state_checked(h: &mut TcpHandle) -> i64
+pub extern "C" fn smoltcp_tcp_state_nonnull(h: &mut TcpHandle) -> i64
     ensures answer { result ≡ state_answer (view h.old).state }
     ensures at { h.new.at ≡ h.old.at }
     ensures same { h.new.socket ≡ h.old.socket }
@@ -137,7 +137,7 @@ pub extern "C" fn smoltcp_tcp_state_checked(h: &mut TcpHandle) -> i64
 
 /// 1 where the state lets bytes be sent, else 0.
 #[unsafe(no_mangle)]
-pub extern "C" fn smoltcp_tcp_may_send_checked(h: &mut TcpHandle) -> i64
+pub extern "C" fn smoltcp_tcp_may_send_nonnull(h: &mut TcpHandle) -> i64
     ensures answer { result ≡ flag_answer (may_send (view h.old).state) }
     ensures at { h.new.at ≡ h.old.at }
     ensures same { h.new.socket ≡ h.old.socket }
@@ -147,7 +147,7 @@ pub extern "C" fn smoltcp_tcp_may_send_checked(h: &mut TcpHandle) -> i64
 
 /// 1 where `send` would take at least one byte, else 0.
 #[unsafe(no_mangle)]
-pub extern "C" fn smoltcp_tcp_can_send_checked(h: &mut TcpHandle) -> i64
+pub extern "C" fn smoltcp_tcp_can_send_nonnull(h: &mut TcpHandle) -> i64
     ensures answer { result ≡ flag_answer (can_send (view h.old)) }
     ensures at { h.new.at ≡ h.old.at }
     ensures same { h.new.socket ≡ h.old.socket }
@@ -157,7 +157,7 @@ pub extern "C" fn smoltcp_tcp_can_send_checked(h: &mut TcpHandle) -> i64
 
 /// 1 where the receive queue has a byte, else 0.
 #[unsafe(no_mangle)]
-pub extern "C" fn smoltcp_tcp_can_recv_checked(h: &mut TcpHandle) -> i64
+pub extern "C" fn smoltcp_tcp_can_recv_nonnull(h: &mut TcpHandle) -> i64
     ensures answer { result ≡ flag_answer (can_recv (view h.old)) }
     ensures at { h.new.at ≡ h.old.at }
     ensures same { h.new.socket ≡ h.old.socket }

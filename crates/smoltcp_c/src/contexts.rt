@@ -20,7 +20,7 @@ use sock_tcp::Socket;
 /// `ERROR_STATE` where the socket is open, `ERROR_ADDRESS` where a port or an address is missing or the two addresses
 /// are of different versions, `ERROR_CONTEXT`. The socket is as it was then.
 #[unsafe(no_mangle)]
-pub extern "C" fn smoltcp_tcp_connect_checked(
+pub extern "C" fn smoltcp_tcp_connect_nonnull(
     h: &mut TcpHandle,
     cx: &Cx,
     remote: &Endpoint,
@@ -57,7 +57,7 @@ fn opened(
 /// When the socket wants its next dispatch: writes the moment in microseconds into `at`, and answers 0. 1 where it
 /// wants none before a packet comes; `at` is then as it was, as with the error `ERROR_CONTEXT`.
 #[unsafe(no_mangle)]
-pub extern "C" fn smoltcp_tcp_poll_at_checked(h: &mut TcpHandle, cx: &Cx, at: &mut i64) -> i64
+pub extern "C" fn smoltcp_tcp_poll_at_nonnull(h: &mut TcpHandle, cx: &Cx, at: &mut i64) -> i64
     ensures told { TellsPoll cx.entry.now (poll_moment (view h.old) (facts_in cx.entry.now)) at.old result at.new }
     ensures at { h.new.at ≡ h.old.at }
     ensures same { h.new.socket ≡ h.old.socket }

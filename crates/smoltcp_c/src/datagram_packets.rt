@@ -30,7 +30,7 @@ use sock_dgram::{icmp, raw, udp};
 
 /// Whether `process` takes an IP packet: 1 where it carries a datagram for the socket, else 0; `ERROR_CONTEXT`.
 #[unsafe(no_mangle)]
-pub extern "C" fn smoltcp_udp_accepts_checked(h: &mut UdpHandle, cx: &Cx, packet: &[u8]) -> i64
+pub extern "C" fn smoltcp_udp_accepts_nonnull(h: &mut UdpHandle, cx: &Cx, packet: &[u8]) -> i64
     ensures context { is_context cx.entry.now ≡ false → result ≡ error_context }
     ensures answer { is_context cx.entry.now ≡ true
         → Tells (IsForUdp (facts_in cx.entry.now) h.old.socket packet.now) result }
@@ -67,7 +67,7 @@ fn datagram(packet: &[u8]) -> Option<(IpRepr, UdpRepr, &[u8])>
 /// `NOT_ACCEPTED` where the packet is no whole UDP datagram or is not for this socket, `ERROR_CONTEXT`. Nothing changes
 /// then.
 #[unsafe(no_mangle)]
-pub extern "C" fn smoltcp_udp_process_checked(h: &mut UdpHandle, cx: &Cx, packet: &[u8]) -> i64
+pub extern "C" fn smoltcp_udp_process_nonnull(h: &mut UdpHandle, cx: &Cx, packet: &[u8]) -> i64
     ensures context { is_context cx.entry.now ≡ false → (result ≡ error_context) × (h.new ≡ h.old) }
     ensures broken { is_context cx.entry.now ≡ true → carried_datagram packet.now ≡ None
         → (result ≡ not_accepted) × (h.new ≡ h.old) }
@@ -107,7 +107,7 @@ fn heard_by_udp(
 /// its version. It leaves too. `ERROR_ROOM` where `out` is too short for it: the next call gives it again.
 /// `ERROR_CONTEXT`.
 #[unsafe(no_mangle)]
-pub extern "C" fn smoltcp_udp_dispatch_checked(h: &mut UdpHandle, cx: &Cx, out: &mut [u8]) -> i64
+pub extern "C" fn smoltcp_udp_dispatch_nonnull(h: &mut UdpHandle, cx: &Cx, out: &mut [u8]) -> i64
     ensures context { is_context cx.entry.now ≡ false
         → (result ≡ error_context) × (h.new ≡ h.old) × (out.new ≡ out.old) }
     ensures table { is_context cx.entry.now ≡ true
@@ -163,7 +163,7 @@ fn told_unsent(waits: bool, answer: i64) -> i64
 /// When the socket wants its next dispatch: where a place of the transmit queue is taken, writes the context's moment
 /// into `at`, and answers 0; else 1. `at` is then as it was, as with the error `ERROR_CONTEXT`.
 #[unsafe(no_mangle)]
-pub extern "C" fn smoltcp_udp_poll_at_checked(h: &mut UdpHandle, cx: &Cx, at: &mut i64) -> i64
+pub extern "C" fn smoltcp_udp_poll_at_nonnull(h: &mut UdpHandle, cx: &Cx, at: &mut i64) -> i64
     ensures told { TellsPoll cx.entry.now (poll_moment h.old.socket.tx_buffer) at.old result at.new }
     ensures at { h.new.at ≡ h.old.at }
     ensures same { h.new.socket ≡ h.old.socket }
@@ -174,7 +174,7 @@ pub extern "C" fn smoltcp_udp_poll_at_checked(h: &mut UdpHandle, cx: &Cx, at: &m
 
 /// Whether `process` takes an IP packet: 1 where it carries a message for the socket, else 0; `ERROR_CONTEXT`.
 #[unsafe(no_mangle)]
-pub extern "C" fn smoltcp_icmp_accepts_checked(h: &mut IcmpHandle, cx: &Cx, packet: &[u8]) -> i64
+pub extern "C" fn smoltcp_icmp_accepts_nonnull(h: &mut IcmpHandle, cx: &Cx, packet: &[u8]) -> i64
     ensures context { is_context cx.entry.now ≡ false → result ≡ error_context }
     ensures answer { is_context cx.entry.now ≡ true
         → Tells (IsForIcmp (facts_in cx.entry.now) h.old.socket packet.now) result }
@@ -200,7 +200,7 @@ fn is_for_icmp(socket: &icmp::Socket<'_>, moment: &Moment, packet: &[u8]) -> boo
 /// `NOT_ACCEPTED` where the packet is no whole ICMP message or is not for this socket, `ERROR_CONTEXT`. Nothing changes
 /// then.
 #[unsafe(no_mangle)]
-pub extern "C" fn smoltcp_icmp_process_checked(h: &mut IcmpHandle, cx: &Cx, packet: &[u8]) -> i64
+pub extern "C" fn smoltcp_icmp_process_nonnull(h: &mut IcmpHandle, cx: &Cx, packet: &[u8]) -> i64
     ensures context { is_context cx.entry.now ≡ false → (result ≡ error_context) × (h.new ≡ h.old) }
     ensures broken { is_context cx.entry.now ≡ true → carried_message packet.now ≡ None
         → (result ≡ not_accepted) × (h.new ≡ h.old) }
@@ -242,7 +242,7 @@ fn queue(socket: &mut icmp::Socket<'_>, moment: &Moment, found: &Packet<'_>)
 /// `ERROR_ADDRESS` where the context has no address of the first's version: it leaves too. `ERROR_ROOM` where `out` is
 /// too short for it: the next call gives it again. `ERROR_CONTEXT`.
 #[unsafe(no_mangle)]
-pub extern "C" fn smoltcp_icmp_dispatch_checked(h: &mut IcmpHandle, cx: &Cx, out: &mut [u8]) -> i64
+pub extern "C" fn smoltcp_icmp_dispatch_nonnull(h: &mut IcmpHandle, cx: &Cx, out: &mut [u8]) -> i64
     ensures context { is_context cx.entry.now ≡ false
         → (result ≡ error_context) × (h.new ≡ h.old) × (out.new ≡ out.old) }
     ensures table { is_context cx.entry.now ≡ true
@@ -294,7 +294,7 @@ fn emitted_by_icmp(socket: &mut icmp::Socket<'_>, wire: &mut Wire<'_>) -> Result
 
 /// When the socket wants its next dispatch, as of a UDP socket.
 #[unsafe(no_mangle)]
-pub extern "C" fn smoltcp_icmp_poll_at_checked(h: &mut IcmpHandle, cx: &Cx, at: &mut i64) -> i64
+pub extern "C" fn smoltcp_icmp_poll_at_nonnull(h: &mut IcmpHandle, cx: &Cx, at: &mut i64) -> i64
     ensures told { TellsPoll cx.entry.now (poll_moment h.old.socket.tx_buffer) at.old result at.new }
     ensures at { h.new.at ≡ h.old.at }
     ensures same { h.new.socket ≡ h.old.socket }
@@ -305,7 +305,7 @@ pub extern "C" fn smoltcp_icmp_poll_at_checked(h: &mut IcmpHandle, cx: &Cx, at: 
 
 /// Whether `process` takes an IP packet: 1 where it is whole and for the socket, else 0.
 #[unsafe(no_mangle)]
-pub extern "C" fn smoltcp_raw_accepts_checked(h: &mut RawHandle, packet: &[u8]) -> i64
+pub extern "C" fn smoltcp_raw_accepts_nonnull(h: &mut RawHandle, packet: &[u8]) -> i64
     ensures answer { Tells (IsForRaw h.old.socket packet.now) result }
     ensures at { h.new.at ≡ h.old.at }
     ensures same { h.new.socket ≡ h.old.socket }
@@ -335,7 +335,7 @@ fn whole(packet: &[u8]) -> Option<(IpRepr, &[u8])>
 /// `NOT_ACCEPTED` where the packet is not whole, as a fragment, or is not for this socket, `ERROR_CONTEXT`. Nothing
 /// changes then.
 #[unsafe(no_mangle)]
-pub extern "C" fn smoltcp_raw_process_checked(h: &mut RawHandle, cx: &Cx, packet: &[u8]) -> i64
+pub extern "C" fn smoltcp_raw_process_nonnull(h: &mut RawHandle, cx: &Cx, packet: &[u8]) -> i64
     ensures context { is_context cx.entry.now ≡ false → (result ≡ error_context) × (h.new ≡ h.old) }
     ensures broken { is_context cx.entry.now ≡ true → carried_packet packet.now ≡ None
         → (result ≡ not_accepted) × (h.new ≡ h.old) }
@@ -366,7 +366,7 @@ fn heard_by_raw(socket: &mut raw::Socket<'_>, moment: &Moment, ip: &IpRepr, payl
 /// protocol: it leaves too. `ERROR_ROOM` where `out` is too short for it: the next call gives it again.
 /// `ERROR_CONTEXT`.
 #[unsafe(no_mangle)]
-pub extern "C" fn smoltcp_raw_dispatch_checked(h: &mut RawHandle, cx: &Cx, out: &mut [u8]) -> i64
+pub extern "C" fn smoltcp_raw_dispatch_nonnull(h: &mut RawHandle, cx: &Cx, out: &mut [u8]) -> i64
     ensures context { is_context cx.entry.now ≡ false
         → (result ≡ error_context) × (h.new ≡ h.old) × (out.new ≡ out.old) }
     ensures table { is_context cx.entry.now ≡ true
@@ -401,7 +401,7 @@ fn emitted_by_raw(socket: &mut raw::Socket<'_>, wire: &mut Wire<'_>) -> Result<(
 
 /// When the socket wants its next dispatch, as of a UDP socket.
 #[unsafe(no_mangle)]
-pub extern "C" fn smoltcp_raw_poll_at_checked(h: &mut RawHandle, cx: &Cx, at: &mut i64) -> i64
+pub extern "C" fn smoltcp_raw_poll_at_nonnull(h: &mut RawHandle, cx: &Cx, at: &mut i64) -> i64
     ensures told { TellsPoll cx.entry.now (poll_moment h.old.socket.tx_buffer) at.old result at.new }
     ensures at { h.new.at ≡ h.old.at }
     ensures same { h.new.socket ≡ h.old.socket }

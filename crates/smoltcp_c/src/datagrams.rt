@@ -34,7 +34,7 @@ use sock_dgram::{icmp, raw, udp};
 
 /// Makes a place of a queue in the room: nothing stands in it. Answers 0.
 #[unsafe(no_mangle)]
-pub extern "C" fn smoltcp_udp_place_checked(room: &mut UdpPlaceRoom) -> i64
+pub extern "C" fn smoltcp_udp_place_nonnull(room: &mut UdpPlaceRoom) -> i64
     requires empty { room.old.made ≡ None }
     ensures answer { result ≡ pos 0 }
     ensures at { room.new.at ≡ room.old.at }
@@ -47,7 +47,7 @@ pub extern "C" fn smoltcp_udp_place_checked(room: &mut UdpPlaceRoom) -> i64
 /// Makes a socket that is not open in the room. Each of its two queues has places for so many datagrams, and at most
 /// 2^30 bytes for their payloads. The five pieces of memory are the socket's for good. Answers 0.
 #[unsafe(no_mangle)]
-pub extern "C" fn smoltcp_udp_init_checked(
+pub extern "C" fn smoltcp_udp_init_nonnull(
     rx_places: UdpPlaces,
     rx: Bytes,
     tx_places: UdpPlaces,
@@ -73,7 +73,7 @@ pub extern "C" fn smoltcp_udp_init_checked(
 /// Opens the socket for datagrams to this port, and to this address where one is given. 0, or an error:
 /// `ERROR_ADDRESS` where the port is 0, else `ERROR_STATE` where the socket is open. The socket is as it was then.
 #[unsafe(no_mangle)]
-pub extern "C" fn smoltcp_udp_bind_checked(h: &mut UdpHandle, endpoint: &Endpoint) -> i64
+pub extern "C" fn smoltcp_udp_bind_nonnull(h: &mut UdpHandle, endpoint: &Endpoint) -> i64
     ensures answer { result ≡ bind_answer (answer_of_udp h.old.socket (listen_in endpoint.now)) }
     ensures socket { h.new ≡ with_udp h.old (after_bind (answer_of_udp h.old.socket (listen_in endpoint.now))
         h.old.socket (listen_in endpoint.now)) }
@@ -84,7 +84,7 @@ pub extern "C" fn smoltcp_udp_bind_checked(h: &mut UdpHandle, endpoint: &Endpoin
 
 /// Closes the socket: it is bound to nothing, and both queues are empty. Answers 0.
 #[unsafe(no_mangle)]
-pub extern "C" fn smoltcp_udp_close_checked(h: &mut UdpHandle) -> i64
+pub extern "C" fn smoltcp_udp_close_nonnull(h: &mut UdpHandle) -> i64
     ensures answer { result ≡ pos 0 }
     ensures closed { h.new ≡ with_udp h.old (closed h.old.socket) }
 {
@@ -95,7 +95,7 @@ pub extern "C" fn smoltcp_udp_close_checked(h: &mut UdpHandle) -> i64
 /// Writes what the socket is bound to into `out`: its port is 0 where it is not open, its version 0 where it has no
 /// address. Answers 0.
 #[unsafe(no_mangle)]
-pub extern "C" fn smoltcp_udp_endpoint_checked(h: &mut UdpHandle, out: &mut Endpoint) -> i64
+pub extern "C" fn smoltcp_udp_endpoint_nonnull(h: &mut UdpHandle, out: &mut Endpoint) -> i64
     ensures answer { result ≡ pos 0 }
     ensures told { out.new ≡ listen_told h.old.socket.endpoint }
     ensures at { h.new.at ≡ h.old.at }
@@ -107,7 +107,7 @@ pub extern "C" fn smoltcp_udp_endpoint_checked(h: &mut UdpHandle, out: &mut Endp
 
 /// Sets the hop limit of what is sent, or 64 where the number is 0. Answers 0.
 #[unsafe(no_mangle)]
-pub extern "C" fn smoltcp_udp_set_hop_limit_checked(h: &mut UdpHandle, hop_limit: u8) -> i64
+pub extern "C" fn smoltcp_udp_set_hop_limit_nonnull(h: &mut UdpHandle, hop_limit: u8) -> i64
     ensures answer { result ≡ pos 0 }
     ensures set { h.new ≡ with_udp h.old (record h.old.socket { hop_limit = byte_or_none hop_limit }) }
 {
@@ -121,7 +121,7 @@ pub extern "C" fn smoltcp_udp_set_hop_limit_checked(h: &mut UdpHandle, hop_limit
 /// (the address given, else the bound one) is of another version of IP; `ERROR_ROOM` where the queue has no room for
 /// it, or its packet would have more than 65535 bytes. Nothing changes then.
 #[unsafe(no_mangle)]
-pub extern "C" fn smoltcp_udp_send_checked(h: &mut UdpHandle, meta: &UdpNumbers, data: &[u8]) -> i64
+pub extern "C" fn smoltcp_udp_send_nonnull(h: &mut UdpHandle, meta: &UdpNumbers, data: &[u8]) -> i64
     ensures long { is_packet (metadata_in meta.now) (length «data».now) ≡ false
         → (result ≡ error_room) × (h.new ≡ h.old) }
     ensures answer { is_packet (metadata_in meta.now) (length «data».now) ≡ true
@@ -161,7 +161,7 @@ fn longest_payload(dst: IpAddress) -> usize
 /// With both `meta` and `data` are as they were.
 #[unsafe(no_mangle)]
 #[tactic(auto, using(crate::proofs::Copied::copied_within))]
-pub extern "C" fn smoltcp_udp_recv_checked(
+pub extern "C" fn smoltcp_udp_recv_nonnull(
     h: &mut UdpHandle,
     meta: &mut UdpNumbers,
     data: &mut [u8],
@@ -180,7 +180,7 @@ pub extern "C" fn smoltcp_udp_recv_checked(
 /// Copies the payload of the first datagram of the receive queue as `recv` does; the datagram stays.
 #[unsafe(no_mangle)]
 #[tactic(auto, using(crate::proofs::Copied::copied_within))]
-pub extern "C" fn smoltcp_udp_peek_checked(
+pub extern "C" fn smoltcp_udp_peek_nonnull(
     h: &mut UdpHandle,
     meta: &mut UdpNumbers,
     data: &mut [u8],
@@ -256,7 +256,7 @@ fn icmp_endpoint_in(n: &IcmpEndpoint) -> icmp::Endpoint
 
 /// Makes a place of a queue in the room: nothing stands in it. Answers 0.
 #[unsafe(no_mangle)]
-pub extern "C" fn smoltcp_icmp_place_checked(room: &mut IcmpPlaceRoom) -> i64
+pub extern "C" fn smoltcp_icmp_place_nonnull(room: &mut IcmpPlaceRoom) -> i64
     requires empty { room.old.made ≡ None }
     ensures answer { result ≡ pos 0 }
     ensures at { room.new.at ≡ room.old.at }
@@ -269,7 +269,7 @@ pub extern "C" fn smoltcp_icmp_place_checked(room: &mut IcmpPlaceRoom) -> i64
 /// Makes a socket that is not open in the room. Each of its two queues has places for so many messages, and at most
 /// 2^30 bytes for them. The five pieces of memory are the socket's for good. Answers 0.
 #[unsafe(no_mangle)]
-pub extern "C" fn smoltcp_icmp_init_checked(
+pub extern "C" fn smoltcp_icmp_init_nonnull(
     rx_places: IcmpPlaces,
     rx: Bytes,
     tx_places: IcmpPlaces,
@@ -295,7 +295,7 @@ pub extern "C" fn smoltcp_icmp_init_checked(
 /// Opens the socket for these messages. 0, or an error: `ERROR_ADDRESS` where it names none or has no port, else
 /// `ERROR_STATE` where the socket is open. The socket is as it was then.
 #[unsafe(no_mangle)]
-pub extern "C" fn smoltcp_icmp_bind_checked(h: &mut IcmpHandle, endpoint: &IcmpEndpoint) -> i64
+pub extern "C" fn smoltcp_icmp_bind_nonnull(h: &mut IcmpHandle, endpoint: &IcmpEndpoint) -> i64
     ensures answer { result ≡ bind_answer (answer_of_icmp h.old.socket (icmp_endpoint_in endpoint.now)) }
     ensures socket { h.new ≡ with_icmp h.old (after_bind (answer_of_icmp h.old.socket (icmp_endpoint_in endpoint.now))
         h.old.socket (icmp_endpoint_in endpoint.now)) }
@@ -306,7 +306,7 @@ pub extern "C" fn smoltcp_icmp_bind_checked(h: &mut IcmpHandle, endpoint: &IcmpE
 
 /// Sets the hop limit of what is sent, or 64 where the number is 0. Answers 0.
 #[unsafe(no_mangle)]
-pub extern "C" fn smoltcp_icmp_set_hop_limit_checked(h: &mut IcmpHandle, hop_limit: u8) -> i64
+pub extern "C" fn smoltcp_icmp_set_hop_limit_nonnull(h: &mut IcmpHandle, hop_limit: u8) -> i64
     ensures answer { result ≡ pos 0 }
     ensures set { h.new ≡ with_icmp h.old (record h.old.socket { hop_limit = byte_or_none hop_limit }) }
 {
@@ -320,7 +320,7 @@ pub extern "C" fn smoltcp_icmp_set_hop_limit_checked(h: &mut IcmpHandle, hop_lim
 /// than 65495 bytes. Nothing changes then. One that is no echo and no error of the address's version leaves the queue
 /// without a packet. The socket need not be open.
 #[unsafe(no_mangle)]
-pub extern "C" fn smoltcp_icmp_send_checked(
+pub extern "C" fn smoltcp_icmp_send_nonnull(
     h: &mut IcmpHandle,
     remote: &Address,
     data: &[u8],
@@ -346,7 +346,7 @@ pub extern "C" fn smoltcp_icmp_send_checked(
 /// `remote` and `data` are as they were.
 #[unsafe(no_mangle)]
 #[tactic(auto, using(crate::proofs::Copied::copied_within))]
-pub extern "C" fn smoltcp_icmp_recv_checked(
+pub extern "C" fn smoltcp_icmp_recv_nonnull(
     h: &mut IcmpHandle,
     remote: &mut Address,
     data: &mut [u8],
@@ -385,7 +385,7 @@ fn tell_message(
 
 /// Makes a place of a queue in the room: nothing stands in it. Answers 0.
 #[unsafe(no_mangle)]
-pub extern "C" fn smoltcp_raw_place_checked(room: &mut RawPlaceRoom) -> i64
+pub extern "C" fn smoltcp_raw_place_nonnull(room: &mut RawPlaceRoom) -> i64
     requires empty { room.old.made ≡ None }
     ensures answer { result ≡ pos 0 }
     ensures at { room.new.at ≡ room.old.at }
@@ -399,7 +399,7 @@ pub extern "C" fn smoltcp_raw_place_checked(room: &mut RawPlaceRoom) -> i64
 /// and at most 2^30 bytes for them. The five pieces of memory are the socket's for good. 0, or `ERROR_RANGE` where the
 /// filter's version is not 0, 4 or 6: then no socket is made.
 #[unsafe(no_mangle)]
-pub extern "C" fn smoltcp_raw_init_checked(
+pub extern "C" fn smoltcp_raw_init_nonnull(
     rx_places: RawPlaces,
     rx: Bytes,
     tx_places: RawPlaces,
@@ -432,7 +432,7 @@ pub extern "C" fn smoltcp_raw_init_checked(
 ///
 /// `ERROR_ROOM` where the queue has no room for it, or it has more than 65535 bytes. Nothing changes then.
 #[unsafe(no_mangle)]
-pub extern "C" fn smoltcp_raw_send_checked(h: &mut RawHandle, data: &[u8]) -> i64
+pub extern "C" fn smoltcp_raw_send_nonnull(h: &mut RawHandle, data: &[u8]) -> i64
     ensures long { 65535 < length «data».now → (result ≡ error_room) × (h.new ≡ h.old) }
     ensures answer { length «data».now ≤ 65535
         → result ≡ packet_answer (send_answer_raw h.old.socket (length «data».now)) }
@@ -463,7 +463,7 @@ fn packet_answer(answer: Result<(), raw::SendError>) -> i64
 /// `data` is as it was.
 #[unsafe(no_mangle)]
 #[tactic(auto, using(crate::proofs::Copied::bytes_within))]
-pub extern "C" fn smoltcp_raw_recv_checked(h: &mut RawHandle, data: &mut [u8]) -> i64
+pub extern "C" fn smoltcp_raw_recv_nonnull(h: &mut RawHandle, data: &mut [u8]) -> i64
     ensures answer { result ≡ copied_answer (copy_answer (first_packet h.old.socket.rx_buffer) (length «data».old)) }
     ensures bytes { «data».new ≡ copied (first_packet h.old.socket.rx_buffer) «data».old }
     ensures queue { Dequeues h.old.socket.rx_buffer h.new.socket.rx_buffer }
@@ -476,7 +476,7 @@ pub extern "C" fn smoltcp_raw_recv_checked(h: &mut RawHandle, data: &mut [u8]) -
 /// Copies the first packet of the receive queue as `recv` does; the packet stays.
 #[unsafe(no_mangle)]
 #[tactic(auto, using(crate::proofs::Copied::bytes_within))]
-pub extern "C" fn smoltcp_raw_peek_checked(h: &mut RawHandle, data: &mut [u8]) -> i64
+pub extern "C" fn smoltcp_raw_peek_nonnull(h: &mut RawHandle, data: &mut [u8]) -> i64
     ensures answer { result ≡ copied_answer (copy_answer (first_packet h.old.socket.rx_buffer) (length «data».old)) }
     ensures bytes { «data».new ≡ copied (first_packet h.old.socket.rx_buffer) «data».old }
     ensures same { h.new

@@ -32,7 +32,7 @@ const LONGEST_REPLY: usize = 100;
 /// `NOT_ACCEPTED` where the packet is no whole TCP segment or is not for this socket; `ERROR_ROOM` where `reply` has
 /// less than 100 bytes, `ERROR_CONTEXT`. The socket is as it was then.
 #[unsafe(no_mangle)]
-pub extern "C" fn smoltcp_tcp_process_checked(
+pub extern "C" fn smoltcp_tcp_process_nonnull(
     h: &mut TcpHandle,
     cx: &Cx,
     packet: &[u8],
@@ -170,7 +170,7 @@ fn put_reply(answer: &Option<Reply>, out: &mut [u8]) -> i64
 /// Writes the packet that is due into `out`, and answers its length, or 0 where none is. `ERROR_ROOM` where `out` is
 /// too short for it: the next call gives it again. `ERROR_CONTEXT`.
 #[unsafe(no_mangle)]
-pub extern "C" fn smoltcp_tcp_dispatch_checked(h: &mut TcpHandle, cx: &Cx, out: &mut [u8]) -> i64
+pub extern "C" fn smoltcp_tcp_dispatch_nonnull(h: &mut TcpHandle, cx: &Cx, out: &mut [u8]) -> i64
     ensures context { is_context cx.entry.now ≡ false
         → RefusesFor error_context h.old out.old result h.new out.new }
     ensures table { is_context cx.entry.now ≡ true
@@ -214,7 +214,7 @@ fn emitted(socket: &mut Socket<'_, Clock>, wire: &mut Wire<'_>) -> Result<(), Fu
 /// and answers its length. 0 where the packet is an RST; `NOT_ACCEPTED` where it is no whole TCP segment; `ERROR_ROOM`
 /// where `reply` has less than 100 bytes. `reply` is as it was then.
 #[unsafe(no_mangle)]
-pub extern "C" fn smoltcp_tcp_reset_checked(packet: &[u8], reply: &mut [u8]) -> i64
+pub extern "C" fn smoltcp_tcp_reset_nonnull(packet: &[u8], reply: &mut [u8]) -> i64
     ensures room { length reply.old < 100 → (result ≡ error_room) × (reply.new ≡ reply.old) }
     ensures broken { 100 ≤ length reply.old → tcp_packet_parsed (all_checksums Both) packet.now ≡ None
         → (result ≡ not_accepted) × (reply.new ≡ reply.old) }

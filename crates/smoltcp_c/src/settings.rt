@@ -103,7 +103,7 @@ fn rules_by(rules: u32) -> Option<Rules>
 /// Sets the user timeout in microseconds (RFC 9293, section 3.9.1), or none where the number is below 0. 0, or
 /// `ERROR_RANGE` above 2^61, where nothing changes.
 #[unsafe(no_mangle)]
-pub extern "C" fn smoltcp_tcp_set_timeout_checked(h: &mut TcpHandle, micros: i64) -> i64
+pub extern "C" fn smoltcp_tcp_set_timeout_nonnull(h: &mut TcpHandle, micros: i64) -> i64
     ensures far { lasting micros ≡ None → Refuses error_range h.old result h.new }
     ensures set { (d : Option Duration) → lasting micros ≡ Some d
         → Sets h.old (record (view h.old) { timeout = d }) result h.new }
@@ -118,7 +118,7 @@ pub extern "C" fn smoltcp_tcp_set_timeout_checked(h: &mut TcpHandle, micros: i64
 /// Sets the interval of keep-alives in microseconds (RFC 9293, section 3.8.4), or none where it is below 0. 0, or
 /// `ERROR_RANGE` above 2^61, where nothing changes.
 #[unsafe(no_mangle)]
-pub extern "C" fn smoltcp_tcp_set_keep_alive_checked(h: &mut TcpHandle, micros: i64) -> i64
+pub extern "C" fn smoltcp_tcp_set_keep_alive_nonnull(h: &mut TcpHandle, micros: i64) -> i64
     ensures far { lasting micros ≡ None → Refuses error_range h.old result h.new }
     ensures set { (d : Option Duration) → lasting micros ≡ Some d
         → Sets h.old (keep_alive_set (view h.old) d) result h.new }
@@ -133,7 +133,7 @@ pub extern "C" fn smoltcp_tcp_set_keep_alive_checked(h: &mut TcpHandle, micros: 
 /// Sets how long an acknowledgement may wait, in microseconds, or lets none wait where it is below 0. 0, or
 /// `ERROR_RANGE` above 2^61, where nothing changes.
 #[unsafe(no_mangle)]
-pub extern "C" fn smoltcp_tcp_set_ack_delay_checked(h: &mut TcpHandle, micros: i64) -> i64
+pub extern "C" fn smoltcp_tcp_set_ack_delay_nonnull(h: &mut TcpHandle, micros: i64) -> i64
     ensures far { lasting micros ≡ None → Refuses error_range h.old result h.new }
     ensures set { (d : Option Duration) → lasting micros ≡ Some d
         → Sets h.old (record (view h.old) { ack_delay = d }) result h.new }
@@ -147,7 +147,7 @@ pub extern "C" fn smoltcp_tcp_set_ack_delay_checked(h: &mut TcpHandle, micros: i
 
 /// Lets small segments wait while bytes are in flight (RFC 9293, section 3.7.4) where the number is not 0. Answers 0.
 #[unsafe(no_mangle)]
-pub extern "C" fn smoltcp_tcp_set_nagle_enabled_checked(h: &mut TcpHandle, enabled: u8) -> i64
+pub extern "C" fn smoltcp_tcp_set_nagle_enabled_nonnull(h: &mut TcpHandle, enabled: u8) -> i64
     ensures set { Sets h.old (record (view h.old) { nagle = flag_in enabled }) result h.new }
 {
     h.socket().set_nagle_enabled(flag_in(enabled));
@@ -156,7 +156,7 @@ pub extern "C" fn smoltcp_tcp_set_nagle_enabled_checked(h: &mut TcpHandle, enabl
 
 /// Sets the hop limit of what is sent, or 64 where the number is 0. Answers 0.
 #[unsafe(no_mangle)]
-pub extern "C" fn smoltcp_tcp_set_hop_limit_checked(h: &mut TcpHandle, hop_limit: u8) -> i64
+pub extern "C" fn smoltcp_tcp_set_hop_limit_nonnull(h: &mut TcpHandle, hop_limit: u8) -> i64
     ensures set { Sets h.old (record (view h.old) { hop_limit = byte_or_none hop_limit }) result h.new }
 {
     h.socket().set_hop_limit(byte_or_none(hop_limit));
@@ -165,7 +165,7 @@ pub extern "C" fn smoltcp_tcp_set_hop_limit_checked(h: &mut TcpHandle, hop_limit
 
 /// Lets a SYN|ACK wait where the number is not 0, else go out; as smoltcp. Answers 0.
 #[unsafe(no_mangle)]
-pub extern "C" fn smoltcp_tcp_pause_synack_checked(h: &mut TcpHandle, pause: u8) -> i64
+pub extern "C" fn smoltcp_tcp_pause_synack_nonnull(h: &mut TcpHandle, pause: u8) -> i64
     ensures set { Sets h.old (record (view h.old) { synack_paused = flag_in pause }) result h.new }
 {
     h.socket().pause_synack(flag_in(pause));
@@ -175,7 +175,7 @@ pub extern "C" fn smoltcp_tcp_pause_synack_checked(h: &mut TcpHandle, pause: u8)
 /// Puts in a new controller of this kind, also where there is one of the kind: 0 for none, 1 for Reno (RFC 5681),
 /// which a new socket has. 0, or `ERROR_RANGE` for another number, where nothing changes.
 #[unsafe(no_mangle)]
-pub extern "C" fn smoltcp_tcp_set_congestion_control_checked(h: &mut TcpHandle, kind: u32) -> i64
+pub extern "C" fn smoltcp_tcp_set_congestion_control_nonnull(h: &mut TcpHandle, kind: u32) -> i64
     ensures other { control_by kind ≡ None → Refuses error_range h.old result h.new }
     ensures set { (k : CongestionControl) → control_by kind ≡ Some k
         → Sets h.old (record (view h.old) { congestion_controller = of_kind k }) result h.new }
@@ -191,7 +191,7 @@ pub extern "C" fn smoltcp_tcp_set_congestion_control_checked(h: &mut TcpHandle, 
 /// outside of the receive window (sections 3.4 and 3.10.7.4). 0; or `ERROR_STATE` where the socket is open, or
 /// `ERROR_RANGE` for another number, where nothing changes.
 #[unsafe(no_mangle)]
-pub extern "C" fn smoltcp_tcp_set_rules_checked(h: &mut TcpHandle, rules: u32) -> i64
+pub extern "C" fn smoltcp_tcp_set_rules_nonnull(h: &mut TcpHandle, rules: u32) -> i64
     ensures other { rules_by rules ≡ None → Refuses error_range h.old result h.new }
     ensures set { (r : Rules) → rules_by rules ≡ Some r → SetsRules h.old r result h.new }
 {
@@ -207,7 +207,7 @@ pub extern "C" fn smoltcp_tcp_set_rules_checked(h: &mut TcpHandle, rules: u32) -
 /// Lets timestamps be sent (RFC 7323) where the number is not 0, at the clock of each call's context. A SYN without
 /// one that opens a connection ends them. Answers 0.
 #[unsafe(no_mangle)]
-pub extern "C" fn smoltcp_tcp_set_timestamps_checked(h: &mut TcpHandle, enabled: u8) -> i64
+pub extern "C" fn smoltcp_tcp_set_timestamps_nonnull(h: &mut TcpHandle, enabled: u8) -> i64
     ensures answer { result ≡ pos 0 }
     ensures set { IsBoth h.old (record (view h.old) { stamps = flag_in enabled }) (clock_set (flag_in enabled) 0)
         h.new }

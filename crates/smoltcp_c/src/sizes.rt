@@ -23,7 +23,7 @@ pub struct Sizes {
 
 /// Writes the sizes into `out`. Answers 0.
 #[unsafe(no_mangle)]
-pub extern "C" fn smoltcp_sizes_checked(out: &mut Sizes) -> i64
+pub extern "C" fn smoltcp_sizes_nonnull(out: &mut Sizes) -> i64
     ensures answer { result ≡ pos 0 }
     ensures told { out.new ≡ sizes }
 {

@@ -15,7 +15,7 @@ use sock_tcp::{RecvError, Socket};
 /// Puts as many bytes of a beginning of `data` into the transmit queue as fit, and answers how many. `ERROR_STATE`
 /// where the state does not let bytes be sent; nothing changes then.
 #[unsafe(no_mangle)]
-pub extern "C" fn smoltcp_tcp_send_checked(h: &mut TcpHandle, data: &[u8]) -> i64
+pub extern "C" fn smoltcp_tcp_send_nonnull(h: &mut TcpHandle, data: &[u8]) -> i64
     ensures table { Answers send_answer (λ r. Sends (view h.old) «data».now r (view h.new)) result }
     ensures same { IsView h.old (view h.new) h.new }
 {
@@ -28,7 +28,7 @@ pub extern "C" fn smoltcp_tcp_send_checked(h: &mut TcpHandle, data: &[u8]) -> i6
 /// where the peer has closed and all that it sent was read; `ERROR_STATE` where no bytes can come. Nothing changes
 /// then.
 #[unsafe(no_mangle)]
-pub extern "C" fn smoltcp_tcp_recv_checked(h: &mut TcpHandle, data: &mut [u8]) -> i64
+pub extern "C" fn smoltcp_tcp_recv_nonnull(h: &mut TcpHandle, data: &mut [u8]) -> i64
     ensures table { Answers recv_answer (λ r. Reads (view h.old) «data».old r (view h.new) «data».new) result }
     ensures same { IsView h.old (view h.new) h.new }
 {
@@ -40,7 +40,7 @@ pub extern "C" fn smoltcp_tcp_recv_checked(h: &mut TcpHandle, data: &mut [u8]) -
 /// Copies as many bytes from the front of the receive queue into `data` as fit, and answers how many. The bytes stay.
 /// Refused as `recv`; nothing changes then.
 #[unsafe(no_mangle)]
-pub extern "C" fn smoltcp_tcp_peek_slice_checked(h: &mut TcpHandle, data: &mut [u8]) -> i64
+pub extern "C" fn smoltcp_tcp_peek_slice_nonnull(h: &mut TcpHandle, data: &mut [u8]) -> i64
     ensures table { Answers recv_answer (λ r. PeeksInto (view h.old) «data».old r «data».new) result }
     ensures at { h.new.at ≡ h.old.at }
     ensures same { h.new.socket ≡ h.old.socket }
@@ -54,7 +54,7 @@ pub extern "C" fn smoltcp_tcp_peek_slice_checked(h: &mut TcpHandle, data: &mut [
 /// bytes lie and how many they are, and answers how many. Refused as `recv`; `out` is as it was then. The bytes stay:
 /// they may be read until the next call on the socket, and `consume` drops them.
 #[unsafe(no_mangle)]
-pub extern "C" fn smoltcp_tcp_peek_checked(h: &mut TcpHandle, size: usize, out: &mut Place) -> i64
+pub extern "C" fn smoltcp_tcp_peek_nonnull(h: &mut TcpHandle, size: usize, out: &mut Place) -> i64
     ensures told { LendsQueue (view h.old) size out.old result out.new }
     ensures at { h.new.at ≡ h.old.at }
     ensures same { h.new.socket ≡ h.old.socket }
@@ -81,7 +81,7 @@ fn tell_place(bytes: Result<&[u8], RecvError>, out: &mut Place) -> i64
 /// Drops so many bytes from the front of the receive queue, and answers how many. `ERROR_RANGE` where they are more
 /// than `peek` lends; refused as `recv`. Nothing changes then.
 #[unsafe(no_mangle)]
-pub extern "C" fn smoltcp_tcp_consume_checked(h: &mut TcpHandle, count: usize) -> i64
+pub extern "C" fn smoltcp_tcp_consume_nonnull(h: &mut TcpHandle, count: usize) -> i64
     ensures table { Consumes (view h.old) count result (view h.new) }
     ensures same { IsView h.old (view h.new) h.new }
 {
@@ -92,7 +92,7 @@ pub extern "C" fn smoltcp_tcp_consume_checked(h: &mut TcpHandle, count: usize) -
 /// many they are, and answers how many. `ERROR_STATE` where the state does not let bytes be sent; nothing changes then.
 /// Bytes may be written there until the next call on the socket, and `commit` sends them.
 #[unsafe(no_mangle)]
-pub extern "C" fn smoltcp_tcp_reserve_checked(h: &mut TcpHandle, out: &mut Place) -> i64
+pub extern "C" fn smoltcp_tcp_reserve_nonnull(h: &mut TcpHandle, out: &mut Place) -> i64
     ensures table { LendsFree (view h.old) out.old result out.new (view h.new) }
     ensures same { IsView h.old (view h.new) h.new }
 {
@@ -102,7 +102,7 @@ pub extern "C" fn smoltcp_tcp_reserve_checked(h: &mut TcpHandle, out: &mut Place
 /// Puts the first `count` bytes of what `reserve` lends into the transmit queue, as they stand there, and answers how
 /// many. `ERROR_RANGE` where it lends fewer, with the queue as it was; `ERROR_STATE` as `reserve`.
 #[unsafe(no_mangle)]
-pub extern "C" fn smoltcp_tcp_commit_checked(h: &mut TcpHandle, count: usize) -> i64
+pub extern "C" fn smoltcp_tcp_commit_nonnull(h: &mut TcpHandle, count: usize) -> i64
     ensures table { Commits (view h.old) count result (view h.new) }
     ensures same { IsView h.old (view h.new) h.new }
 {

@@ -23,7 +23,7 @@ use sock_tcp::Socket;
 /// Makes a closed socket over the two buffers, of at most 2^30 bytes each, in the room. The socket has no source of
 /// timestamps. The three pieces of memory are the socket's for good. Answers 0.
 #[unsafe(no_mangle)]
-pub extern "C" fn smoltcp_tcp_init_checked(room: &mut TcpRoom, rx: Bytes, tx: Bytes) -> i64
+pub extern "C" fn smoltcp_tcp_init_nonnull(room: &mut TcpRoom, rx: Bytes, tx: Bytes) -> i64
     requires empty { room.old.made ≡ None }
     requires rx { rx.len ≤ 2 ^ 30 }
     requires tx { tx.len ≤ 2 ^ 30 }
@@ -53,7 +53,7 @@ fn closed_over(rx: RingBuffer<'static, u8>, tx: RingBuffer<'static, u8>) -> Sock
 /// Waits for a peer on this endpoint. 0, or an error: `ERROR_ADDRESS` where the port is 0, `ERROR_STATE` where the
 /// socket is open but does not listen on this endpoint.
 #[unsafe(no_mangle)]
-pub extern "C" fn smoltcp_tcp_listen_checked(h: &mut TcpHandle, endpoint: &Endpoint) -> i64
+pub extern "C" fn smoltcp_tcp_listen_nonnull(h: &mut TcpHandle, endpoint: &Endpoint) -> i64
     ensures table { Answers listen_answer (λ r. Listens (view h.old) (listen_in endpoint.now) r (view h.new)) result }
     ensures same { IsView h.old (view h.new) h.new }
 {
@@ -63,7 +63,7 @@ pub extern "C" fn smoltcp_tcp_listen_checked(h: &mut TcpHandle, endpoint: &Endpo
 
 /// Closes the transmit half: nothing more can be sent, and a FIN follows what was. Answers 0.
 #[unsafe(no_mangle)]
-pub extern "C" fn smoltcp_tcp_close_checked(h: &mut TcpHandle) -> i64
+pub extern "C" fn smoltcp_tcp_close_nonnull(h: &mut TcpHandle) -> i64
     ensures answer { result ≡ pos 0 }
     ensures closed { IsView h.old (closed (view h.old)) h.new }
 {
@@ -74,7 +74,7 @@ pub extern "C" fn smoltcp_tcp_close_checked(h: &mut TcpHandle) -> i64
 /// Ends the connection at once: the socket is CLOSED, and where it has a peer, the next dispatch sends an RST.
 /// Answers 0.
 #[unsafe(no_mangle)]
-pub extern "C" fn smoltcp_tcp_abort_checked(h: &mut TcpHandle) -> i64
+pub extern "C" fn smoltcp_tcp_abort_nonnull(h: &mut TcpHandle) -> i64
     ensures answer { result ≡ pos 0 }
     ensures aborted { IsView h.old (aborted (view h.old)) h.new }
 {
@@ -84,7 +84,7 @@ pub extern "C" fn smoltcp_tcp_abort_checked(h: &mut TcpHandle) -> i64
 
 /// Writes the own endpoint into `out`, where there is a peer, and answers 1; else 0, with `out` as it was.
 #[unsafe(no_mangle)]
-pub extern "C" fn smoltcp_tcp_local_endpoint_checked(h: &mut TcpHandle, out: &mut Endpoint) -> i64
+pub extern "C" fn smoltcp_tcp_local_endpoint_nonnull(h: &mut TcpHandle, out: &mut Endpoint) -> i64
     ensures told { TellsEnd (option_map (λ t. t.local) (view h.old).tuple) out.old result out.new }
     ensures at { h.new.at ≡ h.old.at }
     ensures same { h.new.socket ≡ h.old.socket }
@@ -94,7 +94,7 @@ pub extern "C" fn smoltcp_tcp_local_endpoint_checked(h: &mut TcpHandle, out: &mu
 
 /// Writes the peer's endpoint into `out`, where there is a peer, and answers 1; else 0, with `out` as it was.
 #[unsafe(no_mangle)]
-pub extern "C" fn smoltcp_tcp_remote_endpoint_checked(h: &mut TcpHandle, out: &mut Endpoint) -> i64
+pub extern "C" fn smoltcp_tcp_remote_endpoint_nonnull(h: &mut TcpHandle, out: &mut Endpoint) -> i64
     ensures told { TellsEnd (option_map (λ t. t.remote) (view h.old).tuple) out.old result out.new }
     ensures at { h.new.at ≡ h.old.at }
     ensures same { h.new.socket ≡ h.old.socket }
@@ -118,7 +118,7 @@ fn tell_end(end: Option<IpEndpoint>, out: &mut Endpoint) -> i64
 /// Writes the endpoint on which the socket listens, or listened last, into `out`: its port is 0 where there is none,
 /// its version 0 where it has no address. Answers 0.
 #[unsafe(no_mangle)]
-pub extern "C" fn smoltcp_tcp_listen_endpoint_checked(h: &mut TcpHandle, out: &mut Endpoint) -> i64
+pub extern "C" fn smoltcp_tcp_listen_endpoint_nonnull(h: &mut TcpHandle, out: &mut Endpoint) -> i64
     ensures answer { result ≡ pos 0 }
     ensures told { out.new ≡ listen_told (view h.old).listen_endpoint }
     ensures at { h.new.at ≡ h.old.at }

@@ -173,6 +173,18 @@ impl<'a> ReceiveBuffer<'a> {
         self.ring.dequeue_slice(out)
     }
 
+    /// Drops the queue's first bytes, as many as there are but at most `count`, and answers how many.
+    #[tactic(auto, using(crate::proofs::ReceiveBuffers::is_handed_out, crate::proofs::ReceiveBuffers::handed_out_room))]
+    pub fn consume(&mut self, count: usize) -> usize
+        ensures count { result ≡ min «count» (length self.old.bytes) }
+        ensures after { self.new ≡ handed_out self.old result }
+        ensures room { room_of self.new ≡ room_of self.old }
+    {
+        let count = count.min(self.ring.len());
+        self.ring.dequeue_allocated(count);
+        count
+    }
+
     /// Lends `f` the queue, up to the slice's end. `f` answers how many of these bytes to remove, from the first on;
     /// its answer is passed on.
     #[tactic(auto, using(crate::proofs::ReceiveBuffers::reads_room))]

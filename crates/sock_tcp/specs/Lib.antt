@@ -27,3 +27,5 @@ pub mod Poll
 pub mod Texts
 pub mod Outgoing
 pub mod Work
+pub mod Ended
+pub mod Negotiated

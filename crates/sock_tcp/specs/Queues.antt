@@ -129,6 +129,11 @@ pub record Reads (v : View) (bs : List ℕ) (r : Result ℕ RecvError) (w : View
   pub read : IfOk r (λ n. bs' ≡ take n v.rx_buffer.bytes ++ drop n bs)
   pub refused : OnErr r (bs' ≡ bs)
 
+-- the first n bytes of the receive queue leave, or all where it has fewer
+pub record Drops (v : View) (n : ℕ) (r : Result ℕ RecvError) (w : View) : Type 0 where
+  pub answer : r ≡ (if may_recv v then Ok (readable v n) else Err (recv_refusal v))
+  pub view : w ≡ (if may_recv v then read_off v (readable v n) else v)
+
 -- f was lent the receive queue as far as it stands in one piece; as many bytes leave as it answered
 pub record TakesQueued {R : Type 0} (called : List ℕ → ℕ × R → Type 0) (v : View) (x : R) (w : View) : Type 0 where
   pub size : ℕ

@@ -1,8 +1,10 @@
 //! Closing a connection (RFC 9293, sections 3.10.4 and 3.10.5).
 ghost use Rattle.std.specs.Prelude.{◌≡◌};
 ghost use Rattle.sock_tcp.specs.Closing.{closed, aborted};
+ghost use Rattle.sock_tcp.specs.Ended.{ended_by_abort, ended_by_close};
 
 use crate::control_block::ControlBlock;
+use crate::ended::{Ended, by_close};
 use crate::socket::Socket;
 use crate::state::State;
 
@@ -36,7 +38,9 @@ impl<'a, G> Socket<'a, G> {
     pub fn close(&mut self)
         ensures control_block { self.new.control_block ≡ closed self.old.control_block }
         ensures generator { self.new.tsval_generator ≡ self.old.tsval_generator }
+        ensures ended { self.new.ended ≡ ended_by_close self.old.control_block.state self.old.ended }
     {
+        self.ended = by_close(self.control_block.state, self.ended);
         self.control_block.close();
     }
 
@@ -45,7 +49,11 @@ impl<'a, G> Socket<'a, G> {
     pub fn abort(&mut self)
         ensures control_block { self.new.control_block ≡ aborted self.old.control_block }
         ensures generator { self.new.tsval_generator ≡ self.old.tsval_generator }
+        ensures ended { self.new.ended ≡ ended_by_abort self.old.control_block.state self.old.ended }
     {
+        if !self.control_block.state.is_closed() {
+            self.ended = Some(Ended::Aborted);
+        }
         self.control_block.abort();
     }
 }

@@ -5,12 +5,15 @@ ghost use Rattle.sock_core.specs.Bounds.{IsMoment};
 ghost use Rattle.sock_tcp.specs.Sent.{emitted_as, after_any, after_probe, snd_nxt_moved, sending_timed};
 ghost use Rattle.sock_tcp.specs.Sent.{after_sending, after_emit};
 ghost use Rattle.sock_tcp.specs.Dispatch.{EmitsIf, Dispatches};
+ghost use Rattle.sock_tcp.specs.Ended.{ended_by_dispatch};
 
 use crate::content::NO_HEADER;
 use crate::control_block::ControlBlock;
 use crate::emission::{Emitted, Kind};
+use crate::ended::by_dispatch;
 use crate::generator::TsvalSource;
 use crate::socket::Socket;
+use crate::state::State;
 use crate::timer::AckDelayTimer;
 use control_wire::TcpRepr;
 use ip_wire::IpRepr;
@@ -152,11 +155,49 @@ impl<'a, G: TsvalSource> Socket<'a, G> {
         ensures table { Dispatches F.FnOnce emit (C.facts cx.old) G.tells self.old.tsval_generator
             self.old.control_block cx.old result self.new.control_block cx.new }
         ensures generator { self.new.tsval_generator ≡ self.old.tsval_generator }
+        ensures ended { self.new.ended ≡ ended_by_dispatch self.old.control_block.state self.new.control_block.state
+            (is_some self.new.control_block.remote_last_ts) self.old.ended }
+    {
+        let before = self.control_block.state;
+        let result = self.emit_next(cx, emit);
+        self.note_end(before);
+        result
+    }
+
+    // As `dispatch`, but for why a connection ended.
+    #[inline(always)]
+    fn emit_next<C: Context, E, F: FnOnce(&mut C, (IpRepr, TcpRepr<'_>)) -> Result<(), E>>(
+        &mut self,
+        cx: &mut C,
+        emit: F,
+    ) -> Result<(), E>
+        requires callable { F.IsAlwaysCallable emit }
+        ensures table { Dispatches F.FnOnce emit (C.facts cx.old) G.tells self.old.tsval_generator
+            self.old.control_block cx.old result self.new.control_block cx.new }
+        ensures generator { self.new.tsval_generator ≡ self.old.tsval_generator }
+        ensures ended { self.new.ended ≡ self.old.ended }
     {
         if !self.control_block.before_emit(cx) {
             return Ok(());
         }
         let stamp = self.tsval();
         self.control_block.emit_due(cx, stamp, emit)
+    }
+
+    // Why the connection ended, where it did in a dispatch that began in this state.
+    #[inline(always)]
+    fn note_end(&mut self, before: State)
+        ensures control_block { self.new.control_block ≡ self.old.control_block }
+        ensures generator { self.new.tsval_generator ≡ self.old.tsval_generator }
+        ensures ended { self.new.ended ≡ ended_by_dispatch before self.old.control_block.state
+            (is_some self.old.control_block.remote_last_ts) self.old.ended }
+    {
+        let block = &self.control_block;
+        self.ended = by_dispatch(
+            before,
+            block.state,
+            block.remote_last_ts.is_some(),
+            self.ended,
+        );
     }
 }

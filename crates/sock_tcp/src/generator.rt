@@ -65,6 +65,7 @@ impl<'a> Socket<'a> {
         ensures control_block { self.new.control_block
             ≡ record self.old.control_block { stamps = is_some generator } }
         ensures generator { option_map (λ g. g.call) self.new.tsval_generator ≡ generator }
+        ensures ended { self.new.ended ≡ self.old.ended }
     {
         self.control_block.stamps = generator.is_some();
         self.tsval_generator = match generator {
@@ -91,6 +92,7 @@ impl<'a, G: TsvalSource> Socket<'a, G> {
     pub fn set_tsval_source(&mut self, source: Option<G>)
         ensures control_block { self.new.control_block ≡ record self.old.control_block { stamps = is_some source } }
         ensures generator { self.new.tsval_generator ≡ source }
+        ensures ended { self.new.ended ≡ self.old.ended }
     {
         self.control_block.stamps = source.is_some();
         self.tsval_generator = source;

@@ -3,7 +3,7 @@ ghost use Rattle.std.specs.Prelude.{◌≡◌, ◌≤◌, ◌^◌, ℕ, List, le
 ghost use Rattle.std.specs.Fn.{FnOnceReturnsAt, FnOnceReturnsAtMut};
 ghost use Rattle.sock_tcp.specs.Queues.{may_send, can_send, receives, may_recv, can_recv};
 ghost use Rattle.sock_tcp.specs.Queues.{last_ts_from, timer_after, queued, written, Sends, SendsWith};
-ghost use Rattle.sock_tcp.specs.Queues.{recv_check, read_off, Reads, ReadsWith, lent_bytes, Peeks, PeeksInto};
+ghost use Rattle.sock_tcp.specs.Queues.{recv_check, read_off, Drops, Reads, ReadsWith, lent_bytes, Peeks, PeeksInto};
 
 use crate::control_block::ControlBlock;
 use crate::error::{RecvError, SendError};
@@ -138,6 +138,17 @@ impl<'a> ControlBlock<'a> {
         let (count, result) = self.rx_buffer.dequeue_many_with(f);
         self.remote_seq_no = self.remote_seq_no.plus(count);
         Ok(result)
+    }
+
+    #[tactic(auto, unfolding(crate::specs::Queues::read_off))]
+    pub(crate) fn consume(&mut self, count: usize) -> Result<usize, RecvError>
+        ensures table { Drops self.old count result self.new }
+        ensures stamps { self.new.stamps ≡ self.old.stamps }
+    {
+        self.check_recv()?;
+        let count = self.rx_buffer.consume(count);
+        self.remote_seq_no = self.remote_seq_no.plus(count);
+        Ok(count)
     }
 
     pub(crate) fn peek(&self, size: usize) -> Result<&[u8], RecvError>

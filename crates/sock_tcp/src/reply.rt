@@ -118,6 +118,7 @@ impl<'a> ControlBlock<'a> {
     #[tactic(auto, unfolding(crate::specs::Replies::ack_segment, crate::specs::Replies::ack_kept))]
     pub(crate) fn ack_reply(&mut self, repr: &TcpRepr<'_>) -> TcpRepr<'static>
         ensures view { self.new ≡ ack_kept self.old }
+        ensures state { self.new.state ≡ self.old.state }
         ensures stamps { self.new.stamps ≡ self.old.stamps }
         ensures segment { segment_of result ≡ ack_segment self.old (segment_of repr.now) }
         ensures bare { result.payload.now ≡ [] }
@@ -171,7 +172,9 @@ impl<'a, G: TsvalSource> Socket<'a, G> {
         requires { length repr.now.payload.now ≤ 65535 }
         ensures view { self.new.control_block
             ≡ (answered answer self.old.control_block (segment_of repr.now)).view }
+        ensures state { self.new.control_block.state ≡ self.old.control_block.state }
         ensures generator { self.new.tsval_generator ≡ self.old.tsval_generator }
+        ensures ended { self.new.ended ≡ self.old.ended }
         ensures answer { Answers (IsReplyStamp G.tells self.old.tsval_generator repr.now.timestamp) ip_repr.now
             (answered answer self.old.control_block (segment_of repr.now)).reply (option_map reply_of result) }
         ensures bare { ForSome result (λ r. r.1.payload.now ≡ []) }

@@ -43,6 +43,7 @@ impl<'a, G> Socket<'a, G> {
         ensures answer { result ≡ rules_answer self.old.control_block }
         ensures control_block { self.new.control_block ≡ rules_set self.old.control_block rules }
         ensures generator { self.new.tsval_generator ≡ self.old.tsval_generator }
+        ensures ended { self.new.ended ≡ self.old.ended }
     {
         if self.control_block.is_open() {
             return Err(RulesError::InvalidState);

@@ -73,6 +73,7 @@ impl<'a, G> Socket<'a, G> {
         ensures control_block { self.new.control_block
             ≡ record self.old.control_block { congestion_controller = of_kind congestion_control } }
         ensures generator { self.new.tsval_generator ≡ self.old.tsval_generator }
+        ensures ended { self.new.ended ≡ self.old.ended }
     {
         self.control_block.congestion_controller = congestion_control.controller();
     }
@@ -90,6 +91,7 @@ impl<'a, G> Socket<'a, G> {
         requires { IsShort duration }
         ensures control_block { self.new.control_block ≡ record self.old.control_block { timeout = duration } }
         ensures generator { self.new.tsval_generator ≡ self.old.tsval_generator }
+        ensures ended { self.new.ended ≡ self.old.ended }
     {
         self.control_block.timeout = duration;
     }
@@ -106,6 +108,7 @@ impl<'a, G> Socket<'a, G> {
         requires { IsShort duration }
         ensures control_block { self.new.control_block ≡ record self.old.control_block { ack_delay = duration } }
         ensures generator { self.new.tsval_generator ≡ self.old.tsval_generator }
+        ensures ended { self.new.ended ≡ self.old.ended }
     {
         self.control_block.ack_delay = duration;
     }
@@ -121,6 +124,7 @@ impl<'a, G> Socket<'a, G> {
     pub fn set_nagle_enabled(&mut self, enabled: bool)
         ensures control_block { self.new.control_block ≡ record self.old.control_block { nagle = enabled } }
         ensures generator { self.new.tsval_generator ≡ self.old.tsval_generator }
+        ensures ended { self.new.ended ≡ self.old.ended }
     {
         self.control_block.nagle = enabled;
     }
@@ -138,6 +142,7 @@ impl<'a, G> Socket<'a, G> {
         requires { IsShort interval }
         ensures control_block { self.new.control_block ≡ keep_alive_set self.old.control_block interval }
         ensures generator { self.new.tsval_generator ≡ self.old.tsval_generator }
+        ensures ended { self.new.ended ≡ self.old.ended }
     {
         self.control_block.set_keep_alive(interval);
     }
@@ -155,6 +160,7 @@ impl<'a, G> Socket<'a, G> {
         requires { hop_limit ≡ Some 0 → ⊥ }
         ensures control_block { self.new.control_block ≡ record self.old.control_block { hop_limit = hop_limit } }
         ensures generator { self.new.tsval_generator ≡ self.old.tsval_generator }
+        ensures ended { self.new.ended ≡ self.old.ended }
     {
         self.control_block.hop_limit = hop_limit;
     }
@@ -163,6 +169,7 @@ impl<'a, G> Socket<'a, G> {
     pub fn pause_synack(&mut self, pause: bool)
         ensures control_block { self.new.control_block ≡ record self.old.control_block { synack_paused = pause } }
         ensures generator { self.new.tsval_generator ≡ self.old.tsval_generator }
+        ensures ended { self.new.ended ≡ self.old.ended }
     {
         self.control_block.synack_paused = pause;
     }

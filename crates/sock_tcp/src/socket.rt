@@ -9,13 +9,15 @@ ghost use Rattle.sock_tcp.specs.View.{fresh, moment_of, FinSays};
 ghost use Rattle.sock_tcp.specs.Opening.{is_listening, is_open, is_active, Listens, Connects};
 ghost use Rattle.sock_tcp.specs.Queues.{may_send, can_send, may_recv, can_recv};
 ghost use Rattle.sock_tcp.specs.Queues.{written, Sends, SendsWith, Writes, Reads, ReadsWith, lent_bytes, Peeks};
-ghost use Rattle.sock_tcp.specs.Queues.{PeeksInto};
+ghost use Rattle.sock_tcp.specs.Queues.{Drops, PeeksInto};
+ghost use Rattle.sock_tcp.specs.Ended.{ended_by_opening, ended_by_segment};
 ghost use Rattle.sock_tcp.specs.Draw.{draws, Draws};
 ghost use Rattle.sock_tcp.specs.Process.{Accepts, Processes, answered, processed, source_kept};
 ghost use Rattle.sock_tcp.specs.Verdict.{verdict_of};
 ghost use Rattle.sock_tcp.specs.Replies.{IsReplyStamp};
 
 use crate::control_block::ControlBlock;
+use crate::ended::{Ended, by_segment};
 use crate::error::{ConnectError, ListenError, RecvError, SendError};
 use crate::generator::{Generator, TsvalSource};
 use crate::process::Answer;
@@ -39,6 +41,8 @@ pub type SocketBuffer<'a> = RingBuffer<'a, u8>;
 pub struct Socket<'a, G = Generator> {
     pub(crate) control_block: ControlBlock<'a>,
     pub(crate) tsval_generator: Option<G>,
+    // why it is CLOSED, if it was open before
+    pub(crate) ended: Option<Ended>,
     pub ghost stamped: { is_some tsval_generator ≡ control_block.stamps },
 }
 
@@ -50,10 +54,12 @@ impl<'a> Socket<'a> {
         requires tx { length tx_buffer.queue + length tx_buffer.spare ≤ 2 ^ 30 }
         ensures control_block { result.control_block ≡ fresh (receiving rx_buffer.entry) (queue_of tx_buffer.entry) }
         ensures generator { result.tsval_generator ≡ None }
+        ensures ended { result.ended ≡ None }
     {
         Socket {
             control_block: ControlBlock::new(rx_buffer, tx_buffer),
             tsval_generator: None,
+            ended: None,
         }
     }
 }
@@ -72,12 +78,14 @@ impl<'a, G> Socket<'a, G> {
               stamps = is_some tsval_generator;
             } }
         ensures generator { result.tsval_generator ≡ tsval_generator }
+        ensures ended { result.ended ≡ None }
     {
         let mut control_block = ControlBlock::new(rx_buffer, tx_buffer);
         control_block.stamps = tsval_generator.is_some();
         Socket {
             control_block,
             tsval_generator,
+            ended: None,
         }
     }
 
@@ -118,8 +126,13 @@ impl<'a, G> Socket<'a, G> {
     pub fn listen(&mut self, local_endpoint: IpListenEndpoint) -> Result<(), ListenError>
         ensures table { Listens self.old.control_block local_endpoint result self.new.control_block }
         ensures generator { self.new.tsval_generator ≡ self.old.tsval_generator }
+        ensures ended { self.new.ended ≡ ended_by_opening result self.old.ended }
     {
-        self.control_block.listen(local_endpoint)
+        let result = self.control_block.listen(local_endpoint);
+        if result.is_ok() {
+            self.ended = None;
+        }
+        result
     }
 
     /// Opens a connection to `remote_endpoint`, from the local address given, else from the context's source address.
@@ -137,9 +150,15 @@ impl<'a, G> Socket<'a, G> {
         ensures table { Connects C.facts C.word_at self.old.control_block cx.old remote_endpoint local_endpoint
             result self.new.control_block cx.new }
         ensures generator { self.new.tsval_generator ≡ self.old.tsval_generator }
+        ensures ended { self.new.ended ≡ ended_by_opening result self.old.ended }
     {
-        self.control_block
-            .connect(cx, remote_endpoint, local_endpoint)
+        let result = self
+            .control_block
+            .connect(cx, remote_endpoint, local_endpoint);
+        if result.is_ok() {
+            self.ended = None;
+        }
+        result
     }
 
     /// Whether the socket waits for a peer.
@@ -216,6 +235,7 @@ impl<'a, G> Socket<'a, G> {
         ensures table { Sends self.old.control_block «data».now result self.new.control_block }
         ensures small { length self.new.control_block.tx_buffer.bytes ≤ 2 ^ 30 }
         ensures generator { self.new.tsval_generator ≡ self.old.tsval_generator }
+        ensures ended { self.new.ended ≡ self.old.ended }
     {
         self.control_block.send_slice(data)
     }
@@ -231,6 +251,7 @@ impl<'a, G> Socket<'a, G> {
         ensures table { SendsWith (FnOnceReturnsAtMut F.FnOnce f) self.old.control_block result self.new.control_block }
         ensures small { length self.new.control_block.tx_buffer.bytes ≤ 2 ^ 30 }
         ensures generator { self.new.tsval_generator ≡ self.old.tsval_generator }
+        ensures ended { self.new.ended ≡ self.old.ended }
     {
         self.control_block.send(f)
     }
@@ -241,6 +262,7 @@ impl<'a, G> Socket<'a, G> {
     pub fn recv_slice(&mut self, data: &mut [u8]) -> Result<usize, RecvError>
         ensures table { Reads self.old.control_block «data».old result self.new.control_block «data».new }
         ensures generator { self.new.tsval_generator ≡ self.old.tsval_generator }
+        ensures ended { self.new.ended ≡ self.old.ended }
     {
         self.control_block.recv_slice(data)
     }
@@ -255,8 +277,19 @@ impl<'a, G> Socket<'a, G> {
         requires sized { (s : List ℕ) (r : _) → FnOnceReturnsAt F.FnOnce f s r → r.0 ≤ length s }
         ensures table { ReadsWith (FnOnceReturnsAt F.FnOnce f) self.old.control_block result self.new.control_block }
         ensures generator { self.new.tsval_generator ≡ self.old.tsval_generator }
+        ensures ended { self.new.ended ≡ self.old.ended }
     {
         self.control_block.recv(f)
+    }
+
+    /// Drops as many bytes from the front of the receive queue as are there, but at most `count`, and answers how many.
+    /// Refused as `recv`. smoltcp has no such call: its `recv` drops what lies in one piece.
+    pub fn consume(&mut self, count: usize) -> Result<usize, RecvError>
+        ensures table { Drops self.old.control_block count result self.new.control_block }
+        ensures generator { self.new.tsval_generator ≡ self.old.tsval_generator }
+        ensures ended { self.new.ended ≡ self.old.ended }
+    {
+        self.control_block.consume(count)
     }
 
     /// Lends the receive queue up to the end of its ring's storage, but at most `size` bytes. The bytes stay. Refused
@@ -310,6 +343,13 @@ fn keep_source<G: TsvalSource>(source: &mut Option<G>, stamps: bool)
     }
 }
 
+#[inline(always)]
+fn note_end(place: &mut Option<Ended>, ended: Option<Ended>)
+    ensures { place.new ≡ ended }
+{
+    *place = ended;
+}
+
 impl<'a, G: TsvalSource> Socket<'a, G> {
     // What a segment changes, and how it is answered.
     #[inline(always)]
@@ -328,10 +368,15 @@ impl<'a, G: TsvalSource> Socket<'a, G> {
             self.old.control_block.state repr.now.control) C.facts C.word_at cx.old cx.new }
         ensures generator { self.new.tsval_generator
             ≡ source_kept self.new.control_block.stamps self.old.tsval_generator }
+        ensures ended { self.new.ended ≡ ended_by_segment self.old.control_block.state repr.now.control
+            self.new.control_block.state self.old.ended }
     {
+        let (before, ended) = (self.control_block.state, self.ended);
         let answer = self.control_block.process(cx, ip_repr, repr);
         let stamps = self.control_block.stamps();
+        let after = self.control_block.state();
         keep_source(&mut self.tsval_generator, stamps);
+        note_end(&mut self.ended, by_segment(before, repr.control, after, ended));
         answer
     }
 
@@ -355,6 +400,8 @@ impl<'a, G: TsvalSource> Socket<'a, G> {
             ip_repr.now (segment_of repr.now) result self.new.control_block cx.new }
         ensures generator { self.new.tsval_generator
             ≡ source_kept self.new.control_block.stamps self.old.tsval_generator }
+        ensures ended { self.new.ended ≡ ended_by_segment self.old.control_block.state repr.now.control
+            self.new.control_block.state self.old.ended }
     {
         match self.take_segment(cx, ip_repr, repr) {
             Answer::Nothing => None,
@@ -373,6 +420,7 @@ impl<'a, G> fmt::Write for Socket<'a, G> {
         ensures ok { IsOk result → Writes self.old.control_block s.now true self.new.control_block }
         ensures table { Writes self.old.control_block s.now (is_ok result) self.new.control_block }
         ensures generator { self.new.tsval_generator ≡ self.old.tsval_generator }
+        ensures ended { self.new.ended ≡ self.old.ended }
     {
         match self.send_slice(s.as_bytes()) {
             Ok(count) if count == s.len() => Ok(()),

@@ -1,7 +1,7 @@
 use Rattle.std.proofs.Common.{◌≡◌, refl, rules, sym, to_z, of_z, w64}
 use Rattle.smoltcp_c.specs.Context.{facts_in}
 use Rattle.smoltcp_c.specs.Icmp.{DispatchesMessage}
-use Rattle.smoltcp_c.proofs.datagram_packets.smoltcp_icmp_dispatch_checked.Goals as goal
+use Rattle.smoltcp_c.proofs.datagram_packets.smoltcp_icmp_dispatch_nonnull.Goals as goal
 
 pub returns-clause-table : goal.returns-clause-table
 returns-clause-table c = λ k.

@@ -5,7 +5,7 @@ use Rattle.sock_tcp.specs.Process.{Accepts}
 use Rattle.smoltcp_c.specs.Ports.{has_ports}
 use Rattle.smoltcp_c.specs.Tcp.{clock, view}
 use Rattle.smoltcp_c.proofs.Foreign.{foreign}
-use Rattle.smoltcp_c.proofs.packets.smoltcp_tcp_process_checked.Goals as goal
+use Rattle.smoltcp_c.proofs.packets.smoltcp_tcp_process_nonnull.Goals as goal
 
 pub returns-then-not-has_ports-clause-table : goal.returns-then-not-has_ports-clause-table
 returns-then-not-has_ports-clause-table c = λ p k n x.

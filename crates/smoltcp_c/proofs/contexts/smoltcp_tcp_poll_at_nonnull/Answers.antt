@@ -3,7 +3,7 @@ use Rattle.sock_tcp.specs.Poll.{poll_moment}
 use Rattle.smoltcp_c.specs.Context.{facts_in}
 use Rattle.smoltcp_c.specs.Packets.{poll_answer, poll_written}
 use Rattle.smoltcp_c.specs.Tcp.{view}
-use Rattle.smoltcp_c.proofs.contexts.smoltcp_tcp_poll_at_checked.Goals as goal
+use Rattle.smoltcp_c.proofs.contexts.smoltcp_tcp_poll_at_nonnull.Goals as goal
 
 pub returns-clause-told : goal.returns-clause-told
 returns-clause-told c =

@@ -1,6 +1,6 @@
 use Rattle.std.proofs.Common.{rules}
 use Rattle.smoltcp_c.proofs.Refused.{icmp_stays}
-use Rattle.smoltcp_c.proofs.datagrams.smoltcp_icmp_send_checked.Goals as goal
+use Rattle.smoltcp_c.proofs.datagrams.smoltcp_icmp_send_nonnull.Goals as goal
 
 pub returns-clause-refused : goal.returns-clause-refused
 returns-clause-refused c = λ refuses.

@@ -2,7 +2,7 @@ use Rattle.std.proofs.Common.{◌≡◌, refl, rules, sym, ◌∙◌, to_z, of_z
 use Rattle.std.proofs.lemmas.Option.{same_Some}
 use Rattle.smoltcp_c.specs.Context.{facts_in}
 use Rattle.smoltcp_c.specs.Icmp.{HearsMessage, icmp_packet_of}
-use Rattle.smoltcp_c.proofs.datagram_packets.smoltcp_icmp_process_checked.Goals as goal
+use Rattle.smoltcp_c.proofs.datagram_packets.smoltcp_icmp_process_nonnull.Goals as goal
 
 pub returns-clause-table : goal.returns-clause-table
 returns-clause-table c = λ p k x.

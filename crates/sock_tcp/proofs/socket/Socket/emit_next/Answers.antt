@@ -1,7 +1,7 @@
 use Rattle.std.proofs.Common.{rules, ◌≡◌, true, false}
 use Rattle.sock_tcp.proofs.Beginning.{goes_on, goes_not}
 use Rattle.sock_tcp.proofs.Emitting.{quiet, due}
-use Rattle.sock_tcp.proofs.socket.Socket.dispatch.Goals as goal
+use Rattle.sock_tcp.proofs.socket.Socket.emit_next.Goals as goal
 
 pub returns-then-not-before_emit-clause-table : goal.returns-then-not-before_emit-clause-table
 returns-then-not-before_emit-clause-table g c =

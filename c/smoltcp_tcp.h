@@ -1,0 +1,295 @@
+/* TCP sockets (RFC 9293). Part of smoltcp_socket.h, which says what holds of every call. */
+#ifndef SMOLTCP_TCP_H
+#define SMOLTCP_TCP_H
+
+#include "smoltcp_types.h"
+
+#ifdef __cplusplus
+extern "C" {
+#endif
+
+/* What a socket answers to one of the numbers above.
+ *
+ * Errors: SMOLTCP_ERROR_RANGE, SMOLTCP_ERROR_NULL. */
+int64_t smoltcp_tcp_ask(const struct smoltcp_tcp *s, uint32_t what);
+
+/* Makes a closed socket in the memory, over the two buffers, of at most 2^30 bytes each (else SMOLTCP_ERROR_RANGE, with
+ * nothing changed). The memory and the buffers are the socket's for good: what is proved of the calls says nothing of a
+ * program that uses them for something else later, though the library keeps nothing of them.
+ *
+ * Errors: SMOLTCP_ERROR_RANGE, SMOLTCP_ERROR_VERSION, SMOLTCP_ERROR_NULL. */
+int64_t smoltcp_tcp_init(struct smoltcp_tcp *s, uint8_t *rx, size_t rx_len, uint8_t *tx, size_t tx_len);
+
+/* The same, told the size of the memory, which in C and C++ the macro tells for smoltcp_tcp_init: SMOLTCP_ERROR_VERSION
+ * where it is not the library's, with nothing changed. */
+int64_t smoltcp_tcp_init_sized(struct smoltcp_tcp *s, size_t size, uint8_t *rx, size_t rx_len, uint8_t *tx,
+                               size_t tx_len);
+#define smoltcp_tcp_init(s, ...) smoltcp_tcp_init_sized((s), sizeof *(s), __VA_ARGS__)
+
+/* Waits for a peer on this endpoint, whose address may be none. SMOLTCP_ERROR_ADDRESS where the port is 0, else
+ * SMOLTCP_ERROR_STATE where the socket is open and does not listen there.
+ *
+ * Errors: SMOLTCP_ERROR_ADDRESS, SMOLTCP_ERROR_STATE, SMOLTCP_ERROR_NULL. */
+int64_t smoltcp_tcp_listen(struct smoltcp_tcp *s, const struct smoltcp_endpoint *endpoint);
+
+/* Opens a connection to remote, from local, whose address may be none: then the interface's is taken. The word of the
+ * context is its initial sequence number. SMOLTCP_ERROR_STATE where the socket is open, SMOLTCP_ERROR_ADDRESS where a
+ * port is 0, an address is unspecified, the two are of different versions, or the interface has none of the version.
+ *
+ * Errors: SMOLTCP_ERROR_CONTEXT, SMOLTCP_ERROR_STATE, SMOLTCP_ERROR_ADDRESS, SMOLTCP_ERROR_NULL. */
+int64_t smoltcp_tcp_connect(struct smoltcp_tcp *s, const struct smoltcp_context *cx,
+                            const struct smoltcp_endpoint *remote, const struct smoltcp_endpoint *local);
+
+/* Closes the transmit half: a FIN follows what was sent.
+ *
+ * Errors: SMOLTCP_ERROR_NULL. */
+int64_t smoltcp_tcp_close(struct smoltcp_tcp *s);
+
+/* Ends the connection at once, by an RST in the next dispatch.
+ *
+ * Errors: SMOLTCP_ERROR_NULL. */
+int64_t smoltcp_tcp_abort(struct smoltcp_tcp *s);
+
+/* Takes as many of the bytes as fit, and answers how many. SMOLTCP_ERROR_STATE where smoltcp_tcp_may_send is 0.
+ *
+ * Errors: SMOLTCP_ERROR_STATE, SMOLTCP_ERROR_NULL. */
+int64_t smoltcp_tcp_send(struct smoltcp_tcp *s, const uint8_t *data, size_t len);
+
+/* Gives as many bytes as are there and fit, and answers how many. Where smoltcp_tcp_may_recv is 0,
+ * SMOLTCP_ERROR_FINISHED if the peer has closed, else SMOLTCP_ERROR_STATE. When TIME-WAIT ends, ten seconds behind both
+ * FINs, bytes that came and were not read are gone: read them before.
+ *
+ * Errors: SMOLTCP_ERROR_FINISHED, SMOLTCP_ERROR_STATE, SMOLTCP_ERROR_NULL. */
+int64_t smoltcp_tcp_recv(struct smoltcp_tcp *s, uint8_t *data, size_t len);
+
+/* The same, and the bytes stay.
+ *
+ * Errors: SMOLTCP_ERROR_FINISHED, SMOLTCP_ERROR_STATE, SMOLTCP_ERROR_NULL. */
+int64_t smoltcp_tcp_peek_slice(const struct smoltcp_tcp *s, uint8_t *data, size_t len);
+
+/* Lends the receive queue as far as it lies in one piece, but at most size bytes of it: where they lie in at, and how
+ * many they are as the answer. They may be read until the next call on the socket. Refused as recv.
+ *
+ * Errors: SMOLTCP_ERROR_FINISHED, SMOLTCP_ERROR_STATE, SMOLTCP_ERROR_NULL. */
+int64_t smoltcp_tcp_peek(const struct smoltcp_tcp *s, size_t size, const uint8_t **at);
+
+/* Drops so many bytes from the front of the receive queue; SMOLTCP_ERROR_RANGE where peek lends fewer.
+ *
+ * Errors: SMOLTCP_ERROR_FINISHED, SMOLTCP_ERROR_STATE, SMOLTCP_ERROR_RANGE, SMOLTCP_ERROR_NULL. */
+int64_t smoltcp_tcp_consume(struct smoltcp_tcp *s, size_t count);
+
+/* Lends the free places behind the transmit queue that lie in one piece: where they lie in at, and how many they are as
+ * the answer. They may be written until the next call on the socket, which should be commit. Refused as send.
+ *
+ * Errors: SMOLTCP_ERROR_STATE, SMOLTCP_ERROR_NULL. */
+int64_t smoltcp_tcp_reserve(struct smoltcp_tcp *s, uint8_t **at);
+
+/* Sends the first count of these bytes as they stand there; SMOLTCP_ERROR_RANGE where reserve lends fewer.
+ *
+ * Errors: SMOLTCP_ERROR_STATE, SMOLTCP_ERROR_RANGE, SMOLTCP_ERROR_NULL. */
+int64_t smoltcp_tcp_commit(struct smoltcp_tcp *s, size_t count);
+
+/* The state, as above.
+ *
+ * Errors: SMOLTCP_ERROR_NULL. */
+int64_t smoltcp_tcp_state(const struct smoltcp_tcp *s);
+
+/* 1 where the socket waits for a peer, else 0.
+ *
+ * Errors: SMOLTCP_ERROR_NULL. */
+int64_t smoltcp_tcp_is_listening(const struct smoltcp_tcp *s);
+
+/* 1 where it is in any state but CLOSED and TIME-WAIT, else 0.
+ *
+ * Errors: SMOLTCP_ERROR_NULL. */
+int64_t smoltcp_tcp_is_open(const struct smoltcp_tcp *s);
+
+/* 1 where it is open and has a peer, else 0.
+ *
+ * Errors: SMOLTCP_ERROR_NULL. */
+int64_t smoltcp_tcp_is_active(const struct smoltcp_tcp *s);
+
+/* 1 where the connection has something left to do, as bytes to send, else 0.
+ *
+ * Errors: SMOLTCP_ERROR_NULL. */
+int64_t smoltcp_tcp_has_work(const struct smoltcp_tcp *s);
+
+/* 1 where the state lets bytes be sent, else 0.
+ *
+ * Errors: SMOLTCP_ERROR_NULL. */
+int64_t smoltcp_tcp_may_send(const struct smoltcp_tcp *s);
+
+/* 1 where bytes may come or are there, else 0.
+ *
+ * Errors: SMOLTCP_ERROR_NULL. */
+int64_t smoltcp_tcp_may_recv(const struct smoltcp_tcp *s);
+
+/* 1 where send would take at least one byte, else 0.
+ *
+ * Errors: SMOLTCP_ERROR_NULL. */
+int64_t smoltcp_tcp_can_send(const struct smoltcp_tcp *s);
+
+/* 1 where recv would give at least one byte, else 0.
+ *
+ * Errors: SMOLTCP_ERROR_NULL. */
+int64_t smoltcp_tcp_can_recv(const struct smoltcp_tcp *s);
+
+/* How many bytes were sent and are not acknowledged.
+ *
+ * Errors: SMOLTCP_ERROR_NULL. */
+int64_t smoltcp_tcp_send_queue(const struct smoltcp_tcp *s);
+
+/* How many bytes came and were not read.
+ *
+ * Errors: SMOLTCP_ERROR_NULL. */
+int64_t smoltcp_tcp_recv_queue(const struct smoltcp_tcp *s);
+
+/* How many bytes the transmit buffer holds.
+ *
+ * Errors: SMOLTCP_ERROR_NULL. */
+int64_t smoltcp_tcp_send_capacity(const struct smoltcp_tcp *s);
+
+/* How many bytes the receive buffer holds.
+ *
+ * Errors: SMOLTCP_ERROR_NULL. */
+int64_t smoltcp_tcp_recv_capacity(const struct smoltcp_tcp *s);
+
+/* Writes the own endpoint into out, and answers 1; 0 where there is no peer.
+ *
+ * Errors: SMOLTCP_ERROR_NULL. */
+int64_t smoltcp_tcp_local_endpoint(const struct smoltcp_tcp *s, struct smoltcp_endpoint *out);
+
+/* Writes the peer's endpoint into out, and answers 1; 0 where there is no peer.
+ *
+ * Errors: SMOLTCP_ERROR_NULL. */
+int64_t smoltcp_tcp_remote_endpoint(const struct smoltcp_tcp *s, struct smoltcp_endpoint *out);
+
+/* Writes the endpoint on which the socket listens, or listened last, into out: port 0 where there is none.
+ *
+ * Errors: SMOLTCP_ERROR_NULL. */
+int64_t smoltcp_tcp_listen_endpoint(const struct smoltcp_tcp *s, struct smoltcp_endpoint *out);
+
+/* Ends the connection where nothing was heard for so long while something is owed, in microseconds, at most 2^61; below
+ * 0: never, as in a new socket (RFC 9293, section 3.9.1). Without it a connection can wait for ever: docs/STALLS.md.
+ *
+ * Errors: SMOLTCP_ERROR_RANGE, SMOLTCP_ERROR_NULL. */
+int64_t smoltcp_tcp_set_timeout(struct smoltcp_tcp *s, int64_t micros);
+
+/* Asks an idle peer whether it is there every so many microseconds, at most 2^61; below 0: never, as in a new socket
+ * (RFC 9293, section 3.8.4). Shorter than the timeout, by a factor of four, say, and never 0.
+ *
+ * Errors: SMOLTCP_ERROR_RANGE, SMOLTCP_ERROR_NULL. */
+int64_t smoltcp_tcp_set_keep_alive(struct smoltcp_tcp *s, int64_t micros);
+
+/* How long an acknowledgement may wait for data to go with, in microseconds, at most 2^61; below 0: not at all. 10,000
+ * in a new socket.
+ *
+ * Errors: SMOLTCP_ERROR_RANGE, SMOLTCP_ERROR_NULL. */
+int64_t smoltcp_tcp_set_ack_delay(struct smoltcp_tcp *s, int64_t micros);
+
+/* Whether small segments wait while bytes are in flight (RFC 9293, section 3.7.4), as they do in a new socket.
+ *
+ * Errors: SMOLTCP_ERROR_NULL. */
+int64_t smoltcp_tcp_set_nagle_enabled(struct smoltcp_tcp *s, uint8_t enabled);
+
+/* The hop limit of what is sent; 0: 64, as in a new socket.
+ *
+ * Errors: SMOLTCP_ERROR_NULL. */
+int64_t smoltcp_tcp_set_hop_limit(struct smoltcp_tcp *s, uint8_t hop_limit);
+
+/* Lets a SYN|ACK wait, or go out.
+ *
+ * Errors: SMOLTCP_ERROR_NULL. */
+int64_t smoltcp_tcp_pause_synack(struct smoltcp_tcp *s, uint8_t pause);
+
+/* Puts in a new controller of this kind, also where there is one of the kind. A new socket has Reno.
+ *
+ * Errors: SMOLTCP_ERROR_RANGE, SMOLTCP_ERROR_NULL. */
+int64_t smoltcp_tcp_set_congestion_control(struct smoltcp_tcp *s, uint32_t kind);
+
+/* Chooses the rules of a socket that is not open: a new one has smoltcp's. SMOLTCP_ERROR_STATE where it is open.
+ *
+ * Errors: SMOLTCP_ERROR_RANGE, SMOLTCP_ERROR_STATE, SMOLTCP_ERROR_NULL. */
+int64_t smoltcp_tcp_set_rules(struct smoltcp_tcp *s, uint32_t rules);
+
+/* Whether timestamps are sent (RFC 7323), at the clock of each call's context; not in a new socket. Set it while the
+ * socket is closed.
+ *
+ * Errors: SMOLTCP_ERROR_NULL. */
+int64_t smoltcp_tcp_set_timestamps(struct smoltcp_tcp *s, uint8_t enabled);
+
+/* The user timeout in microseconds, or -1 for none.
+ *
+ * Errors: SMOLTCP_ERROR_NULL. */
+int64_t smoltcp_tcp_timeout(const struct smoltcp_tcp *s);
+
+/* The interval of keep-alives in microseconds, or -1 for none.
+ *
+ * Errors: SMOLTCP_ERROR_NULL. */
+int64_t smoltcp_tcp_keep_alive(const struct smoltcp_tcp *s);
+
+/* How long an acknowledgement may wait in microseconds, or -1.
+ *
+ * Errors: SMOLTCP_ERROR_NULL. */
+int64_t smoltcp_tcp_ack_delay(const struct smoltcp_tcp *s);
+
+/* 1 where small segments wait, else 0.
+ *
+ * Errors: SMOLTCP_ERROR_NULL. */
+int64_t smoltcp_tcp_nagle_enabled(const struct smoltcp_tcp *s);
+
+/* The hop limit, or 0 where none is set, for 64.
+ *
+ * Errors: SMOLTCP_ERROR_NULL. */
+int64_t smoltcp_tcp_hop_limit(const struct smoltcp_tcp *s);
+
+/* The kind of congestion control.
+ *
+ * Errors: SMOLTCP_ERROR_NULL. */
+int64_t smoltcp_tcp_congestion_control(const struct smoltcp_tcp *s);
+
+/* The rules.
+ *
+ * Errors: SMOLTCP_ERROR_NULL. */
+int64_t smoltcp_tcp_rules(const struct smoltcp_tcp *s);
+
+/* 1 where timestamps are sent, else 0.
+ *
+ * Errors: SMOLTCP_ERROR_NULL. */
+int64_t smoltcp_tcp_timestamp_enabled(const struct smoltcp_tcp *s);
+
+/* Takes an IP packet. The length of the packet that answers it, in reply, or 0; SMOLTCP_NOT_ACCEPTED where it is no
+ * whole TCP segment or is not for this socket. reply has SMOLTCP_REPLY_ROOM bytes or more, else SMOLTCP_ERROR_ROOM.
+ *
+ * Errors: SMOLTCP_ERROR_CONTEXT, SMOLTCP_ERROR_ROOM, SMOLTCP_NOT_ACCEPTED, SMOLTCP_ERROR_NULL. */
+int64_t smoltcp_tcp_process(struct smoltcp_tcp *s, const struct smoltcp_context *cx, const uint8_t *packet, size_t len,
+                            uint8_t *reply, size_t cap);
+
+/* The length of the packet that is due, in out, or 0 for none. SMOLTCP_ERROR_ROOM where out is too short for it: what
+ * the timers ask for is done then, and the next call gives the packet again.
+ *
+ * Call it a limited number of times a round, 64 say: a peer that acknowledges a FIN with a window of 0 while a probe is
+ * due makes FIN-WAIT-2 emit an acknowledgement at every dispatch, and poll_at answers a moment that has passed. Wait at
+ * least a millisecond between rounds that only such sockets asked for, and abort one that stays in FIN-WAIT-2 for long
+ * (c/echo.c: a minute).
+ *
+ * Errors: SMOLTCP_ERROR_CONTEXT, SMOLTCP_ERROR_ROOM, SMOLTCP_ERROR_NULL. */
+int64_t smoltcp_tcp_dispatch(struct smoltcp_tcp *s, const struct smoltcp_context *cx, uint8_t *out, size_t cap);
+
+/* The moment of the next dispatch in microseconds; INT64_MAX: none before a packet comes; INT64_MIN: an error.
+ *
+ * Errors: INT64_MIN, where the context's moment or its MTU is out of range, or a pointer is null. */
+int64_t smoltcp_tcp_poll_at(const struct smoltcp_tcp *s, const struct smoltcp_context *cx);
+
+/* Answers a TCP segment that no socket takes: the length of an RST, in reply; 0 for an RST, which has no answer;
+ * SMOLTCP_NOT_ACCEPTED where the packet is no whole TCP segment. reply has SMOLTCP_REPLY_ROOM bytes or more, else
+ * SMOLTCP_ERROR_ROOM.
+ *
+ * Errors: SMOLTCP_ERROR_ROOM, SMOLTCP_NOT_ACCEPTED, SMOLTCP_ERROR_NULL. */
+int64_t smoltcp_tcp_reset(const uint8_t *packet, size_t len, uint8_t *reply, size_t cap);
+
+#ifdef __cplusplus
+}
+#endif
+
+#endif
