@@ -1,42 +1,46 @@
 -- What a socket lends of its queues, and more than that.
 use Rattle.std.proofs.Common.{◌≡◌, ℕ, pos, ◌<◌, ◌≤◌, ◌-◌, ◌^◌, min, Bool, true, false, List, [], length, refl, sym, ap, ◌∙◌, arith, length-take}
-use Rattle.std.specs.Prelude.{Ok, nat_le, nat_lt, if◌then◌else◌}
+use Rattle.std.specs.Prelude.{Result, Ok, Err, nat_le, if◌then◌else◌}
 use Rattle.std.specs.Borrow.{MutBor}
 use Rattle.std.specs.Fn.{FnOnceReturnsAtMut, Once}
 use Rattle.std.proofs.lemmas.Bool.Decides.{nat_tests}
-use Rattle.net_base.specs.Ring.{in_one_piece}
-use Rattle.sock_core.specs.Received.{first_piece}
 use Rattle.sock_tcp.specs.Queue.{free_piece}
-use Rattle.sock_tcp.specs.Queues.{PeeksIf, SendsWith, SendsWithIf, may_recv, may_send, queued}
+use Rattle.sock_tcp.specs.Queues.{Drops, SendsWith, SendsWithIf, may_recv, may_send, queued, read_off, readable, recv_refusal}
 use Rattle.sock_tcp.specs.View.{View}
-use Rattle.smoltcp_c.specs.Answers.{error_range}
+use Rattle.sock_tcp.specs.declared.error.RecvError.{RecvError}
+use Rattle.smoltcp_c.specs.Answers.{error_range, recv_answer}
 use Rattle.smoltcp_c.specs.Streams.{Commits, Consumes, LendsFree, taken_of}
 use Rattle.smoltcp_c.specs.declared.memory.Place.{Place}
 
 differ : true ≡ false → ⊥
 differ e = absurd cc
 
--- a piece is no longer than the queue
-piece_within : (e n : ℕ) → in_one_piece e n 0 ≤ n
-unfolding in_one_piece
-piece_within e n = by_test (nat_lt 0 e)
-  where
-    by_test : (b : Bool) → (if b then min n e else n) - 0 ≤ n
-    by_test true = omega arith
-    by_test false = omega arith
-
-pub beyond_queue : (v : View) (n : ℕ) (bs : List ℕ) → PeeksIf (may_recv v) v n (Ok bs) → length bs < n → Consumes v n error_range v
-beyond_queue v n bs h short = go (may_recv v) refl h
-  where
-    go : (b : Bool) → may_recv v ≡ b → PeeksIf b v n (Ok bs) → Consumes v n error_range v
-    go false e h = absurd h
-    go true e h = record {
-      refused = λ f. absurd (differ (sym e ∙ f));
+-- more bytes than the queue has
+pub beyond_queue : (v : View) (n : ℕ) → may_recv v ≡ true → length v.rx_buffer.bytes < n → Consumes v n error_range v
+beyond_queue v n may short =
+    record {
+      refused = λ f. absurd (differ (sym may ∙ f));
       beyond = λ t m. (refl, refl);
-      done = λ t le.
-          let whole : first_piece v.rx_buffer ≤ length v.rx_buffer.bytes = piece_within v.rx_buffer.until_end (length v.rx_buffer.bytes) in
-          absurd (omega (arith, short, ap length h, length-take (min n (first_piece v.rx_buffer)) v.rx_buffer.bytes, le, whole));
+      done = λ t le. absurd (omega (arith, short, le));
     }
+
+-- as many as it has at most
+pub dropped : (v : View) (n : ℕ) (r : Result ℕ RecvError) (w : View) → Drops v n r w → (may_recv v ≡ true → n ≤ length v.rx_buffer.bytes) → Consumes v n (recv_answer r) w
+dropped v n r w h fits = go (may_recv v) refl h.answer h.view
+  where
+    go : (b : Bool) → may_recv v ≡ b → r ≡ (if b then Ok (readable v n) else Err (recv_refusal v)) → w ≡ (if b then read_off v (readable v n) else v) → Consumes v n (recv_answer r) w
+    go false e a k = record {
+      refused = λ f. (ap recv_answer a, k);
+      beyond = λ t m. absurd (differ (sym t ∙ e));
+      done = λ t m. absurd (differ (sym t ∙ e));
+    }
+    go true e a k =
+        let all : readable v n ≡ n = omega (arith, fits e) in
+        record {
+          refused = λ f. absurd (differ (sym e ∙ f));
+          beyond = λ t m. absurd (omega (arith, m, fits e));
+          done = λ t m. (ap recv_answer a ∙ ap pos all, k ∙ ap (read_off v) all);
+        }
 
 -- no byte joins the queue
 none_queued : (v : View) (n : ℕ) (bs : List ℕ) → n ≡ 0 → queued v n bs ≡ queued v 0 []

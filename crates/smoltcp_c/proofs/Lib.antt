@@ -1,6 +1,7 @@
 mod Copied
 mod Counts
 mod Emitting
+mod Endings
 mod Filling
 mod Foreign
 mod IcmpSending

@@ -1,6 +1,7 @@
 pub mod Answers
 pub mod Asked
 pub mod Context
+pub mod Ends
 pub mod Heard
 pub mod Icmp
 pub mod Memory

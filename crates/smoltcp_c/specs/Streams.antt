@@ -3,7 +3,6 @@ use Rattle.std.specs.Prelude.{ℕ, ℤ, pos, ◌≡◌, ◌≤◌, ◌<◌, ◌^
 use Rattle.std.specs.Prelude.{false, if◌then◌else◌}
 use Rattle.std.specs.Borrow.{Bor}
 use Rattle.std.specs.Ptr.{as_ptr}
-use Rattle.sock_core.specs.Received.{first_piece}
 use Rattle.sock_tcp.specs.Queue.{free_piece}
 use Rattle.sock_tcp.specs.Queues.{Peeks, lent_bytes, may_recv, may_send, queued, read_off, recv_refusal}
 use Rattle.sock_tcp.specs.View.{View}
@@ -23,11 +22,11 @@ pub record LendsQueue (v : View) (n : ℕ) (out : Place) (result : ℤ) (out' : 
   pub peeks : Peeks v n (lent_bytes lent)
   pub told : TellsPlace lent out result out'
 
--- the first n bytes of the receive queue leave, where it has as many in one piece
+-- the first n bytes of the receive queue leave, where it has as many
 pub record Consumes (v : View) (n : ℕ) (result : ℤ) (w : View) : Type 0 where
   pub refused : may_recv v ≡ false → (result ≡ recv_answer (Err (recv_refusal v))) × (w ≡ v)
-  pub beyond : may_recv v ≡ true → first_piece v.rx_buffer < n → (result ≡ error_range) × (w ≡ v)
-  pub done : may_recv v ≡ true → n ≤ first_piece v.rx_buffer → (result ≡ pos n) × (w ≡ read_off v n)
+  pub beyond : may_recv v ≡ true → length v.rx_buffer.bytes < n → (result ≡ error_range) × (w ≡ v)
+  pub done : may_recv v ≡ true → n ≤ length v.rx_buffer.bytes → (result ≡ pos n) × (w ≡ read_off v n)
 
 -- the free places behind the transmit queue, as far as they stand in one piece, are lent: no byte joins the queue
 pub record LendsFree (v : View) (out : Place) (result : ℤ) (out' : Place) (w : View) : Type 0 where

@@ -6,6 +6,7 @@ use Rattle.sock_tcp.specs.declared.rules.Rules.TheVariants as rules
 use Rattle.sock_tcp.specs.declared.settings.CongestionControl.{CongestionControl}
 use Rattle.sock_tcp.specs.declared.settings.CongestionControl.TheVariants as congestion
 use Rattle.smoltcp_c.specs.declared.clock.Clock.{Clock}
+use Rattle.sock_tcp.specs.declared.ended.Ended.{Ended}
 use Rattle.sock_tcp.specs.Opening.{is_open, rules_set}
 use Rattle.sock_tcp.specs.View.{View}
 use Rattle.smoltcp_c.specs.Answers.{error_state}
@@ -17,11 +18,19 @@ view h = h.socket.control_block
 abbrev pub clock : TcpHandle → Option Clock
 clock h = h.socket.tsval_generator
 
--- the same handle, at the same place, whose socket became v, with this clock
-pub record IsBoth (h : TcpHandle) (v : View) (c : Option Clock) (h' : TcpHandle) : Type 0 where
+abbrev pub ended : TcpHandle → Option Ended
+ended h = h.socket.ended
+
+-- the same handle, at the same place, whose socket became v, with this clock and this end
+pub record IsSocket (h : TcpHandle) (v : View) (c : Option Clock) (e : Option Ended) (h' : TcpHandle) : Type 0 where
   pub at : h'.at ≡ h.at
   pub view : h'.socket.control_block ≡ v
   pub clock : h'.socket.tsval_generator ≡ c
+  pub ended : h'.socket.ended ≡ e
+
+-- with the end that it told
+abbrev pub IsBoth : TcpHandle → View → Option Clock → TcpHandle → Type 0
+IsBoth h v c h' = IsSocket h v c (ended h) h'
 
 -- with the clock that it had
 abbrev pub IsView : TcpHandle → View → TcpHandle → Type 0

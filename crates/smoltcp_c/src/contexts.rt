@@ -6,7 +6,8 @@ ghost use Rattle.smoltcp_c.specs.Answers.{connect_answer, error_context};
 ghost use Rattle.smoltcp_c.specs.Context.{facts_in, is_context};
 ghost use Rattle.smoltcp_c.specs.Heard.{TellsPoll};
 ghost use Rattle.smoltcp_c.specs.Packets.{ends_in, poll_answer, poll_written};
-ghost use Rattle.smoltcp_c.specs.Tcp.{Refuses, clock, view, IsView};
+ghost use Rattle.smoltcp_c.specs.Ends.{ended_by_answer};
+ghost use Rattle.smoltcp_c.specs.Tcp.{Refuses, clock, ended, view, IsSocket};
 
 use crate::answers::{OK, connect_answer};
 use crate::clock::Clock;
@@ -29,14 +30,16 @@ pub extern "C" fn smoltcp_tcp_connect_nonnull(
     ensures context { is_context cx.entry.now ≡ false → Refuses error_context h.old result h.new }
     ensures answer { is_context cx.entry.now ≡ true
         → result ≡ connect_answer (answer_of (ends_in cx.entry.now remote.now local.now (view h.old))) }
-    ensures socket { is_context cx.entry.now ≡ true → IsView h.old
-        (after_connect (ends_in cx.entry.now remote.now local.now (view h.old)) (view h.old) cx.entry.now.word) h.new }
+    ensures socket { is_context cx.entry.now ≡ true → IsSocket h.old
+        (after_connect (ends_in cx.entry.now remote.now local.now (view h.old)) (view h.old) cx.entry.now.word)
+        (clock h.old) (ended_by_answer result (ended h.old)) h.new }
 {
     let moment = in_context!(cx);
     opened(h.socket(), &moment, remote, local)
 }
 
 // Opens the connection.
+#[tactic(auto, using(crate::proofs::Endings::by_connect))]
 fn opened(
     socket: &mut Socket<'_, Clock>,
     moment: &Moment,
@@ -49,6 +52,7 @@ fn opened(
         ≡ after_connect (ends_in moment.now.cx remote.now local.now socket.old.control_block)
         socket.old.control_block moment.now.cx.word }
     ensures clock { socket.new.tsval_generator ≡ socket.old.tsval_generator }
+    ensures ended { socket.new.ended ≡ ended_by_answer result socket.old.ended }
 {
     let mut cx = *moment;
     connect_answer(socket.connect(&mut cx, endpoint_in(remote), listen_in(local)))

@@ -10,6 +10,7 @@ pub mod contexts;
 pub mod datagram_packets;
 pub mod datagrams;
 pub mod endpoints;
+pub mod ends;
 pub mod handles;
 pub mod lends;
 pub mod memory;

@@ -1,5 +1,5 @@
 //! The calls of a TCP socket that take and give packets.
-ghost use Rattle.std.specs.Prelude.{◌≡◌, ◌<◌, ◌≤◌, pos, [], length, None, Some, true, false, option_map, IsTrue};
+ghost use Rattle.std.specs.Prelude.{◌≡◌, ◌<◌, ◌≤◌, pos, [], length, None, Some, true, false, is_some, option_map, IsTrue};
 ghost use Rattle.std.specs.Option.{ForSome};
 ghost use Rattle.ip_wire.specs.Checksum.{all_checksums};
 ghost use Rattle.ip_wire.specs.declared.checksum.Checksum.TheVariants.{Both};
@@ -7,12 +7,13 @@ ghost use Rattle.control_wire.specs.Fits.{FitsPacket};
 ghost use Rattle.control_wire.specs.Segment.{segment_of};
 ghost use Rattle.segment_wire.specs.Packet.{TcpPacket, tcp_packet_parsed, with_segment};
 ghost use Rattle.segment_wire.specs.Tcp.{filled};
+ghost use Rattle.sock_tcp.specs.Ended.{ended_by_dispatch, ended_by_segment};
 ghost use Rattle.sock_tcp.specs.Process.{Accepts, reply_of, source_kept};
 ghost use Rattle.smoltcp_c.specs.Answers.{sent_answer, error_context, error_room, not_accepted};
 ghost use Rattle.smoltcp_c.specs.Context.{is_context};
 ghost use Rattle.smoltcp_c.specs.Packets.{size_of, written_over, outcome_in, reply_in, reset_of, Hears, DispatchesInto};
 ghost use Rattle.smoltcp_c.specs.Wire.{Writes};
-ghost use Rattle.smoltcp_c.specs.Tcp.{RefusesFor, clock, clock_at, view};
+ghost use Rattle.smoltcp_c.specs.Tcp.{RefusesFor, clock, clock_at, ended, view};
 
 use crate::answers::{ERROR_ROOM, NOT_ACCEPTED, OK};
 use crate::clock::Clock;
@@ -49,6 +50,9 @@ pub extern "C" fn smoltcp_tcp_process_nonnull(
         → tcp_packet_parsed (all_checksums Both) packet.now ≡ Some p
         → Hears cx.entry.now (clock h.old) (view h.old) p.ip p.segment reply.old result (view h.new) (clock h.new)
         reply.new }
+    ensures ended { (p : TcpPacket) → is_context cx.entry.now ≡ true → 100 ≤ length reply.old
+        → tcp_packet_parsed (all_checksums Both) packet.now ≡ Some p
+        → ended h.new ≡ ended_by_segment (view h.old).state p.segment.control (view h.new).state (ended h.old) }
     ensures at { h.new.at ≡ h.old.at }
 {
     let moment = in_context!(cx);
@@ -103,6 +107,7 @@ fn read<'a>(packet: &'a [u8], ip: &mut IpRepr, repr: &mut TcpRepr<'a>) -> bool
 fn set_clock(socket: &mut Socket<'_, Clock>, tsval: u32)
     ensures view { socket.new.control_block ≡ socket.old.control_block }
     ensures clock { socket.new.tsval_generator ≡ clock_at socket.old.tsval_generator tsval }
+    ensures ended { socket.new.ended ≡ socket.old.ended }
 {
     if socket.timestamp_enabled() {
         socket.set_tsval_source(Some(Clock { tsval }));
@@ -110,6 +115,7 @@ fn set_clock(socket: &mut Socket<'_, Clock>, tsval: u32)
 }
 
 // Gives the segment to the socket, and writes the reply.
+#[tactic(auto, using(crate::proofs::Endings::stays))]
 fn heard(
     socket: &mut Socket<'_, Clock>,
     moment: &Moment,
@@ -119,8 +125,10 @@ fn heard(
 ) -> i64
     requires short { length repr.now.payload.now ≤ 65535 }
     requires room { 100 ≤ length reply.old }
-    ensures { Hears moment.now.cx socket.old.tsval_generator socket.old.control_block ip.now (segment_of repr.now)
-        reply.old result socket.new.control_block socket.new.tsval_generator reply.new }
+    ensures table { Hears moment.now.cx socket.old.tsval_generator socket.old.control_block ip.now
+        (segment_of repr.now) reply.old result socket.new.control_block socket.new.tsval_generator reply.new }
+    ensures ended { socket.new.ended ≡ ended_by_segment socket.old.control_block.state repr.now.control
+        socket.new.control_block.state socket.old.ended }
 {
     if !socket.accepts(moment, ip, repr) {
         return NOT_ACCEPTED;
@@ -144,6 +152,8 @@ fn processed(
         ≡ (outcome_in moment.now.cx socket.old.control_block ip.now (segment_of repr.now)).view }
     ensures clock { socket.new.tsval_generator
         ≡ source_kept socket.new.control_block.stamps socket.old.tsval_generator }
+    ensures ended { socket.new.ended ≡ ended_by_segment socket.old.control_block.state repr.now.control
+        socket.new.control_block.state socket.old.ended }
     ensures reply { option_map reply_of result ≡ reply_in moment.now.cx socket.old.tsval_generator
         socket.old.control_block ip.now (segment_of repr.now) }
     ensures bare { ForSome result (λ r. r.1.payload.now ≡ []) }
@@ -177,6 +187,8 @@ pub extern "C" fn smoltcp_tcp_dispatch_nonnull(h: &mut TcpHandle, cx: &Cx, out: 
         → DispatchesInto cx.entry.now (clock_at (clock h.old) cx.entry.now.tsval) (view h.old) out.old result
         (view h.new) out.new }
     ensures clock { is_context cx.entry.now ≡ true → clock h.new ≡ clock_at (clock h.old) cx.entry.now.tsval }
+    ensures ended { is_context cx.entry.now ≡ true → ended h.new ≡ ended_by_dispatch (view h.old).state
+        (view h.new).state (is_some (view h.new).remote_last_ts) (ended h.old) }
     ensures at { h.new.at ≡ h.old.at }
 {
     let moment = in_context!(cx);
@@ -190,6 +202,8 @@ fn sent(socket: &mut Socket<'_, Clock>, moment: &Moment, out: &mut [u8]) -> i64
     ensures table { DispatchesInto moment.now.cx socket.old.tsval_generator socket.old.control_block out.old result
         socket.new.control_block out.new }
     ensures clock { socket.new.tsval_generator ≡ socket.old.tsval_generator }
+    ensures ended { socket.new.ended ≡ ended_by_dispatch socket.old.control_block.state
+        socket.new.control_block.state (is_some socket.new.control_block.remote_last_ts) socket.old.ended }
 {
     sent!(emitted, socket, moment, out)
 }
@@ -200,6 +214,8 @@ fn emitted(socket: &mut Socket<'_, Clock>, wire: &mut Wire<'_>) -> Result<(), Fu
     ensures table { DispatchesInto wire.old.moment.cx socket.old.tsval_generator socket.old.control_block
         wire.old.out.now (sent_answer result wire.new.len) socket.new.control_block wire.new.out.now }
     ensures clock { socket.new.tsval_generator ≡ socket.old.tsval_generator }
+    ensures ended { socket.new.ended ≡ ended_by_dispatch socket.old.control_block.state
+        socket.new.control_block.state (is_some socket.new.control_block.remote_last_ts) socket.old.ended }
     ensures same_buffer { wire.new.out.ghost_name ≡ wire.old.out.ghost_name }
 {
     socket.dispatch(

@@ -78,8 +78,8 @@ fn tell_place(bytes: Result<&[u8], RecvError>, out: &mut Place) -> i64
     }
 }
 
-/// Drops so many bytes from the front of the receive queue, and answers how many. `ERROR_RANGE` where they are more
-/// than `peek` lends; refused as `recv`. Nothing changes then.
+/// Drops so many bytes from the front of the receive queue, and answers how many. `ERROR_RANGE` where it has fewer;
+/// refused as `recv`. Nothing changes then.
 #[unsafe(no_mangle)]
 pub extern "C" fn smoltcp_tcp_consume_nonnull(h: &mut TcpHandle, count: usize) -> i64
     ensures table { Consumes (view h.old) count result (view h.new) }
@@ -110,33 +110,24 @@ pub extern "C" fn smoltcp_tcp_commit_nonnull(h: &mut TcpHandle, count: usize) ->
 }
 
 // Drops the bytes, where they are there.
+#[tactic(auto, using(crate::proofs::Lent::beyond_queue, crate::proofs::Lent::dropped))]
 fn consumed(socket: &mut Socket<'_, Clock>, count: usize) -> i64
     ensures table { Consumes socket.old.control_block count result socket.new.control_block }
     ensures clock { socket.new.tsval_generator ≡ socket.old.tsval_generator }
+    ensures ended { socket.new.ended ≡ socket.old.ended }
 {
-    socket.recv_queue();
-    let there = match socket.peek(count) {
-        Err(error) => return recv_answer(Err(error)),
-        Ok(bytes) => bytes.len(),
-    };
-    if there < count {
+    if socket.may_recv() && socket.recv_queue() < count {
         return ERROR_RANGE;
     }
-    let taken = socket.recv(
-        move |bytes: &[u8]| -> (usize, usize)
-            ensures { (result.0 ≡ min count (length bytes.now)) × (result.1 ≡ result.0) }
-        {
-            let size = count.min(bytes.len());
-            (size, size)
-        },
-    );
-    recv_answer(taken)
+    socket.recv_queue();
+    recv_answer(socket.consume(count))
 }
 
 // Writes where the free places lie, where bytes may be sent.
 fn reserved(socket: &mut Socket<'_, Clock>, out: &mut Place) -> i64
     ensures table { LendsFree socket.old.control_block out.old result out.new socket.new.control_block }
     ensures clock { socket.new.tsval_generator ≡ socket.old.tsval_generator }
+    ensures ended { socket.new.ended ≡ socket.old.ended }
 {
     socket.send_queue();
     let lent = socket.send(
@@ -157,6 +148,7 @@ fn reserved(socket: &mut Socket<'_, Clock>, out: &mut Place) -> i64
 fn committed(socket: &mut Socket<'_, Clock>, count: usize) -> i64
     ensures table { Commits socket.old.control_block count result socket.new.control_block }
     ensures clock { socket.new.tsval_generator ≡ socket.old.tsval_generator }
+    ensures ended { socket.new.ended ≡ socket.old.ended }
 {
     socket.send_queue();
     let sent = socket.send(

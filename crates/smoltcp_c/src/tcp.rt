@@ -9,7 +9,9 @@ ghost use Rattle.sock_tcp.specs.Closing.{closed, aborted};
 ghost use Rattle.sock_tcp.specs.Opening.{Listens};
 ghost use Rattle.sock_tcp.specs.Queue.{queue_of};
 ghost use Rattle.sock_tcp.specs.View.{fresh};
-ghost use Rattle.smoltcp_c.specs.Tcp.{Answers, clock, view, IsView};
+ghost use Rattle.sock_tcp.specs.Ended.{ended_by_abort, ended_by_close};
+ghost use Rattle.smoltcp_c.specs.Ends.{ended_by_answer};
+ghost use Rattle.smoltcp_c.specs.Tcp.{Answers, clock, ended, view, IsSocket};
 
 use crate::answers::{OK, listen_answer};
 use crate::clock::Clock;
@@ -32,6 +34,7 @@ pub extern "C" fn smoltcp_tcp_init_nonnull(room: &mut TcpRoom, rx: Bytes, tx: By
     ensures made { ForSome room.new.made (λ s. s.control_block
         ≡ fresh (receiving (empty_ring rx.bytes)) (queue_of (empty_ring tx.bytes))) }
     ensures clock { ForSome room.new.made (λ s. s.tsval_generator ≡ None) }
+    ensures ended { ForSome room.new.made (λ s. s.ended ≡ None) }
 {
     let rx = RingBuffer::new(rx.lend());
     let tx = RingBuffer::new(tx.lend());
@@ -46,6 +49,7 @@ fn closed_over(rx: RingBuffer<'static, u8>, tx: RingBuffer<'static, u8>) -> Sock
     requires tx { length tx.queue + length tx.spare ≤ 2 ^ 30 }
     ensures socket { result.control_block ≡ fresh (receiving rx.entry) (queue_of tx.entry) }
     ensures clock { result.tsval_generator ≡ None }
+    ensures ended { result.ended ≡ None }
 {
     Socket::closed(rx, tx, None)
 }
@@ -53,9 +57,10 @@ fn closed_over(rx: RingBuffer<'static, u8>, tx: RingBuffer<'static, u8>) -> Sock
 /// Waits for a peer on this endpoint. 0, or an error: `ERROR_ADDRESS` where the port is 0, `ERROR_STATE` where the
 /// socket is open but does not listen on this endpoint.
 #[unsafe(no_mangle)]
+#[tactic(auto, using(crate::proofs::Endings::by_listen))]
 pub extern "C" fn smoltcp_tcp_listen_nonnull(h: &mut TcpHandle, endpoint: &Endpoint) -> i64
     ensures table { Answers listen_answer (λ r. Listens (view h.old) (listen_in endpoint.now) r (view h.new)) result }
-    ensures same { IsView h.old (view h.new) h.new }
+    ensures same { IsSocket h.old (view h.new) (clock h.old) (ended_by_answer result (ended h.old)) h.new }
 {
     let endpoint = listen_in(endpoint);
     listen_answer(h.socket().listen(endpoint))
@@ -65,7 +70,8 @@ pub extern "C" fn smoltcp_tcp_listen_nonnull(h: &mut TcpHandle, endpoint: &Endpo
 #[unsafe(no_mangle)]
 pub extern "C" fn smoltcp_tcp_close_nonnull(h: &mut TcpHandle) -> i64
     ensures answer { result ≡ pos 0 }
-    ensures closed { IsView h.old (closed (view h.old)) h.new }
+    ensures closed { IsSocket h.old (closed (view h.old)) (clock h.old)
+        (ended_by_close (view h.old).state (ended h.old)) h.new }
 {
     h.socket().close();
     OK
@@ -76,7 +82,8 @@ pub extern "C" fn smoltcp_tcp_close_nonnull(h: &mut TcpHandle) -> i64
 #[unsafe(no_mangle)]
 pub extern "C" fn smoltcp_tcp_abort_nonnull(h: &mut TcpHandle) -> i64
     ensures answer { result ≡ pos 0 }
-    ensures aborted { IsView h.old (aborted (view h.old)) h.new }
+    ensures aborted { IsSocket h.old (aborted (view h.old)) (clock h.old)
+        (ended_by_abort (view h.old).state (ended h.old)) h.new }
 {
     h.socket().abort();
     OK
