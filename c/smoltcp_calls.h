@@ -50,6 +50,19 @@ SMOLTCP_INLINE const char *smoltcp_state_name(int64_t state) {
     }
 }
 
+SMOLTCP_INLINE const char *smoltcp_end_name(int64_t end) {
+    switch (end) {
+    case SMOLTCP_END_NONE: return "not ended";
+    case SMOLTCP_END_FINISHED: return "closed by both sides";
+    case SMOLTCP_END_REFUSED: return "refused by the peer";
+    case SMOLTCP_END_RESET: return "reset by the peer";
+    case SMOLTCP_END_TIMED_OUT: return "timed out";
+    case SMOLTCP_END_ABORTED: return "aborted";
+    case SMOLTCP_END_ADDRESS: return "own address gone";
+    default: return "unknown";
+    }
+}
+
 SMOLTCP_INLINE struct smoltcp_sizes smoltcp_sizes(void) {
     struct smoltcp_sizes sizes;
     smoltcp_sizes_nonnull(&sizes);

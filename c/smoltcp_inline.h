@@ -58,6 +58,12 @@ SMOLTCP_INLINE int64_t smoltcp_tcp_dispatch(struct smoltcp_tcp *s, const struct 
     return smoltcp_tcp_dispatch_nonnull(&h, cx, out, cap);
 }
 
+SMOLTCP_INLINE int64_t smoltcp_tcp_ended(const struct smoltcp_tcp *s) {
+    struct smoltcp_tcp_handle h = {SMOLTCP_AT(s)};
+    if (!s) return SMOLTCP_ERROR_NULL;
+    return smoltcp_tcp_ended_nonnull(&h);
+}
+
 SMOLTCP_INLINE int64_t smoltcp_tcp_listen(struct smoltcp_tcp *s, const struct smoltcp_endpoint *endpoint) {
     struct smoltcp_tcp_handle h = {SMOLTCP_AT(s)};
     if (!s || !endpoint) return SMOLTCP_ERROR_NULL;
@@ -80,6 +86,12 @@ SMOLTCP_INLINE int64_t smoltcp_tcp_may_send(const struct smoltcp_tcp *s) {
     struct smoltcp_tcp_handle h = {SMOLTCP_AT(s)};
     if (!s) return SMOLTCP_ERROR_NULL;
     return smoltcp_tcp_may_send_nonnull(&h);
+}
+
+SMOLTCP_INLINE int64_t smoltcp_tcp_negotiated(const struct smoltcp_tcp *s, struct smoltcp_negotiated *out) {
+    struct smoltcp_tcp_handle h = {SMOLTCP_AT(s)};
+    if (!s || !out) return SMOLTCP_ERROR_NULL;
+    return smoltcp_tcp_negotiated_nonnull(&h, out);
 }
 
 SMOLTCP_INLINE int64_t smoltcp_tcp_pause_synack(struct smoltcp_tcp *s, uint8_t pause) {
@@ -216,6 +228,13 @@ SMOLTCP_INLINE int64_t smoltcp_udp_endpoint(const struct smoltcp_udp *s, struct 
     return smoltcp_udp_endpoint_nonnull(&h, out);
 }
 
+SMOLTCP_INLINE int64_t smoltcp_udp_peek(struct smoltcp_udp *s, struct smoltcp_udp_metadata *meta, uint8_t *data,
+                                        size_t cap) {
+    struct smoltcp_udp_handle h = {SMOLTCP_AT(s)};
+    if (!s || !meta || !data) return SMOLTCP_ERROR_NULL;
+    return smoltcp_udp_peek_nonnull(&h, meta, data, cap);
+}
+
 SMOLTCP_INLINE int64_t smoltcp_udp_process(struct smoltcp_udp *s, const struct smoltcp_context *cx,
                                            const uint8_t *packet, size_t len) {
     struct smoltcp_udp_handle h = {SMOLTCP_AT(s)};
@@ -260,6 +279,12 @@ SMOLTCP_INLINE int64_t smoltcp_raw_dispatch(struct smoltcp_raw *s, const struct 
     struct smoltcp_raw_handle h = {SMOLTCP_AT(s)};
     if (!s || !cx || !out) return SMOLTCP_ERROR_NULL;
     return smoltcp_raw_dispatch_nonnull(&h, cx, out, cap);
+}
+
+SMOLTCP_INLINE int64_t smoltcp_raw_peek(struct smoltcp_raw *s, uint8_t *data, size_t cap) {
+    struct smoltcp_raw_handle h = {SMOLTCP_AT(s)};
+    if (!s || !data) return SMOLTCP_ERROR_NULL;
+    return smoltcp_raw_peek_nonnull(&h, data, cap);
 }
 
 SMOLTCP_INLINE int64_t smoltcp_raw_process(struct smoltcp_raw *s, const struct smoltcp_context *cx,

@@ -28,6 +28,7 @@ _Static_assert(sizeof(struct smoltcp_context) == 40, "context");
 _Static_assert(sizeof(struct smoltcp_endpoint) == 24, "endpoint");
 _Static_assert(sizeof(struct smoltcp_icmp_endpoint) == 28, "icmp_endpoint");
 _Static_assert(sizeof(struct smoltcp_icmp_handle) == 8, "icmp_handle");
+_Static_assert(sizeof(struct smoltcp_negotiated) == 24, "negotiated");
 _Static_assert(sizeof(struct smoltcp_place) == 16, "place");
 _Static_assert(sizeof(struct smoltcp_places) == 16, "places");
 _Static_assert(sizeof(struct smoltcp_raw_filter) == 3, "raw_filter");
@@ -57,11 +58,13 @@ int64_t smoltcp_tcp_connect_nonnull(struct smoltcp_tcp_handle *h, const struct s
 int64_t smoltcp_tcp_consume_nonnull(struct smoltcp_tcp_handle *h, size_t count);
 int64_t smoltcp_tcp_dispatch_nonnull(struct smoltcp_tcp_handle *h, const struct smoltcp_context *cx, uint8_t *out,
                                      size_t cap);
+int64_t smoltcp_tcp_ended_nonnull(struct smoltcp_tcp_handle *h);
 int64_t smoltcp_tcp_init_nonnull(struct smoltcp_tcp_handle *room, struct smoltcp_bytes rx, struct smoltcp_bytes tx);
 int64_t smoltcp_tcp_listen_nonnull(struct smoltcp_tcp_handle *h, const struct smoltcp_endpoint *endpoint);
 int64_t smoltcp_tcp_listen_endpoint_nonnull(struct smoltcp_tcp_handle *h, struct smoltcp_endpoint *out);
 int64_t smoltcp_tcp_local_endpoint_nonnull(struct smoltcp_tcp_handle *h, struct smoltcp_endpoint *out);
 int64_t smoltcp_tcp_may_send_nonnull(struct smoltcp_tcp_handle *h);
+int64_t smoltcp_tcp_negotiated_nonnull(struct smoltcp_tcp_handle *h, struct smoltcp_negotiated *out);
 int64_t smoltcp_tcp_pause_synack_nonnull(struct smoltcp_tcp_handle *h, uint8_t pause);
 int64_t smoltcp_tcp_peek_nonnull(struct smoltcp_tcp_handle *h, size_t size, struct smoltcp_place *out);
 int64_t smoltcp_tcp_peek_slice_nonnull(struct smoltcp_tcp_handle *h, uint8_t *data, size_t cap);

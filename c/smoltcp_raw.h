@@ -92,7 +92,7 @@ int64_t smoltcp_raw_recv(struct smoltcp_raw *s, uint8_t *data, size_t cap);
 /* The same, and the packet stays.
  *
  * Errors: SMOLTCP_ERROR_EMPTY, SMOLTCP_ERROR_ROOM, SMOLTCP_ERROR_NULL. */
-int64_t smoltcp_raw_peek(const struct smoltcp_raw *s, uint8_t *data, size_t cap);
+int64_t smoltcp_raw_peek(struct smoltcp_raw *s, uint8_t *data, size_t cap);
 
 /* 1 where the IP packet is whole and for the socket, so that process takes it, else 0.
  *

@@ -8,7 +8,7 @@
 extern "C" {
 #endif
 
-/* What a socket answers to one of the numbers above.
+/* What a socket answers to one of the numbers SMOLTCP_ASK_CAN_SEND and so on.
  *
  * Errors: SMOLTCP_ERROR_RANGE, SMOLTCP_ERROR_NULL. */
 int64_t smoltcp_tcp_ask(const struct smoltcp_tcp *s, uint32_t what);
@@ -50,6 +50,18 @@ int64_t smoltcp_tcp_close(struct smoltcp_tcp *s);
  * Errors: SMOLTCP_ERROR_NULL. */
 int64_t smoltcp_tcp_abort(struct smoltcp_tcp *s);
 
+/* Why the last connection ended, or the wait for one, by what the calls since the last listen or connect did that was
+ * not refused: one of SMOLTCP_END_NONE and the names behind it. So SMOLTCP_ERROR_STATE of recv means: not yet, where
+ * this is SMOLTCP_END_NONE, and else the end that this tells.
+ *
+ * Errors: SMOLTCP_ERROR_NULL. */
+int64_t smoltcp_tcp_ended(const struct smoltcp_tcp *s);
+
+/* Writes what was agreed into out, and answers 1; 0 in CLOSED, LISTEN and SYN-SENT, with out as it was.
+ *
+ * Errors: SMOLTCP_ERROR_NULL. */
+int64_t smoltcp_tcp_negotiated(const struct smoltcp_tcp *s, struct smoltcp_negotiated *out);
+
 /* Takes as many of the bytes as fit, and answers how many. SMOLTCP_ERROR_STATE where smoltcp_tcp_may_send is 0.
  *
  * Errors: SMOLTCP_ERROR_STATE, SMOLTCP_ERROR_NULL. */
@@ -73,7 +85,8 @@ int64_t smoltcp_tcp_peek_slice(const struct smoltcp_tcp *s, uint8_t *data, size_
  * Errors: SMOLTCP_ERROR_FINISHED, SMOLTCP_ERROR_STATE, SMOLTCP_ERROR_NULL. */
 int64_t smoltcp_tcp_peek(const struct smoltcp_tcp *s, size_t size, const uint8_t **at);
 
-/* Drops so many bytes from the front of the receive queue; SMOLTCP_ERROR_RANGE where peek lends fewer.
+/* Drops so many bytes from the front of the receive queue, also past the piece that peek lends; SMOLTCP_ERROR_RANGE
+ * where it has fewer.
  *
  * Errors: SMOLTCP_ERROR_FINISHED, SMOLTCP_ERROR_STATE, SMOLTCP_ERROR_RANGE, SMOLTCP_ERROR_NULL. */
 int64_t smoltcp_tcp_consume(struct smoltcp_tcp *s, size_t count);

@@ -36,6 +36,14 @@ enum {
     SMOLTCP_FIN_WAIT_2, SMOLTCP_CLOSE_WAIT, SMOLTCP_CLOSING, SMOLTCP_LAST_ACK, SMOLTCP_TIME_WAIT
 };
 
+/* Why a TCP connection ended, as smoltcp_tcp_ended tells: not yet, or never begun; both sides closed, and the own FIN
+ * was acknowledged; the peer answered the SYN by an RST; the peer sent an RST; the user timeout was over; abort, or
+ * close before there was a peer; the interface has the own address no longer. */
+enum {
+    SMOLTCP_END_NONE, SMOLTCP_END_FINISHED, SMOLTCP_END_REFUSED, SMOLTCP_END_RESET, SMOLTCP_END_TIMED_OUT,
+    SMOLTCP_END_ABORTED, SMOLTCP_END_ADDRESS
+};
+
 /* Kinds of congestion control: none, or Reno (RFC 5681). */
 enum { SMOLTCP_CONGESTION_NONE = 0, SMOLTCP_CONGESTION_RENO = 1 };
 
@@ -47,6 +55,15 @@ enum { SMOLTCP_RULES_SMOLTCP = 0, SMOLTCP_RULES_RFC = 1 };
 struct smoltcp_address { uint8_t version; uint8_t v4[4]; uint8_t v6[16]; };
 
 struct smoltcp_endpoint { struct smoltcp_address addr; uint16_t port; };
+
+/* What the two SYNs of a connection agreed on: the longest payload of a segment that the peer takes, in bytes, options
+ * included (RFC 9293, section 3.7.1); whether window fields are shifted, and by how many bits the peer's and the own
+ * are (RFC 7323, section 2); whether segments carry timestamps (its section 3); whether the peer permits SACK (RFC
+ * 2018). Beside that the peer's window, in bytes. Flags are 1 or 0. */
+struct smoltcp_negotiated {
+    size_t remote_mss, remote_window;
+    uint8_t win_scale, remote_win_scale, local_win_scale, timestamps, sack;
+};
 
 /* Room for a reply of smoltcp_tcp_process or smoltcp_tcp_reset, in bytes: none is longer. */
 enum { SMOLTCP_REPLY_ROOM = 100 };
@@ -74,7 +91,7 @@ struct smoltcp_context {
 
 /* Memory for a TCP socket, for these calls alone. It may lie in an array, in another struct or on the stack; from
  * smoltcp_tcp_init on it stays where it is. */
-enum { SMOLTCP_TCP_SIZE = 512 };
+enum { SMOLTCP_TCP_SIZE = 520 };
 struct smoltcp_tcp { uint64_t opaque[SMOLTCP_TCP_SIZE / 8]; };
 
 /* The size of each kind of socket, and of a place of its queues, in bytes. */
@@ -150,6 +167,9 @@ const char *smoltcp_strerror(int64_t answer);
 
 /* The name of a state, as smoltcp_tcp_state answers it, in the words of RFC 9293; "UNKNOWN" of another number. */
 const char *smoltcp_state_name(int64_t state);
+
+/* Why a connection ended, as smoltcp_tcp_ended answers it, in a few words; "unknown" of another number. */
+const char *smoltcp_end_name(int64_t end);
 
 /* The sizes that the library has. */
 struct smoltcp_sizes smoltcp_sizes(void);

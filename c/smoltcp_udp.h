@@ -115,7 +115,7 @@ int64_t smoltcp_udp_recv(struct smoltcp_udp *s, struct smoltcp_udp_metadata *met
 /* The same, and the datagram stays.
  *
  * Errors: SMOLTCP_ERROR_EMPTY, SMOLTCP_ERROR_ROOM, SMOLTCP_ERROR_NULL. */
-int64_t smoltcp_udp_peek(const struct smoltcp_udp *s, struct smoltcp_udp_metadata *meta, uint8_t *data, size_t cap);
+int64_t smoltcp_udp_peek(struct smoltcp_udp *s, struct smoltcp_udp_metadata *meta, uint8_t *data, size_t cap);
 
 /* 1 where the IP packet carries a whole datagram (RFC 768) for the socket, so that process takes it, else 0.
  *

@@ -48,6 +48,18 @@ pub struct IcmpHandle {
 }
 
 #[repr(C)]
+#[derive(Clone, Copy, Default)]
+pub struct Negotiated {
+    pub remote_mss: usize,
+    pub remote_window: usize,
+    pub win_scale: u8,
+    pub remote_win_scale: u8,
+    pub local_win_scale: u8,
+    pub timestamps: u8,
+    pub sack: u8,
+}
+
+#[repr(C)]
 pub struct Place {
     pub at: *const u8,
     pub len: usize,
@@ -113,7 +125,7 @@ pub const ERROR_EMPTY: i64 = -11;
 pub const NOT_ACCEPTED: i64 = -8;
 
 // The sizes of sockets, and of places of their queues, in bytes.
-pub const TCP_SIZE: usize = 512;
+pub const TCP_SIZE: usize = 520;
 pub const UDP_SIZE: usize = 160;
 pub const UDP_PLACE_SIZE: usize = 48;
 pub const RAW_SIZE: usize = 136;
@@ -129,6 +141,7 @@ const _: () = {
     assert!(size_of::<Endpoint>() == 24);
     assert!(size_of::<IcmpEndpoint>() == 28);
     assert!(size_of::<IcmpHandle>() == 8);
+    assert!(size_of::<Negotiated>() == 24);
     assert!(size_of::<Place>() == 16);
     assert!(size_of::<Places>() == 16);
     assert!(size_of::<RawFilter>() == 3);
@@ -182,11 +195,13 @@ unsafe extern "C" {
     pub fn smoltcp_tcp_connect_nonnull(h: &mut TcpHandle, cx: &Context, remote: &Endpoint, local: &Endpoint) -> i64;
     pub fn smoltcp_tcp_consume_nonnull(h: &mut TcpHandle, count: usize) -> i64;
     pub fn smoltcp_tcp_dispatch_nonnull(h: &mut TcpHandle, cx: &Context, out: *mut u8, cap: usize) -> i64;
+    pub fn smoltcp_tcp_ended_nonnull(h: &mut TcpHandle) -> i64;
     pub fn smoltcp_tcp_init_nonnull(room: &mut TcpHandle, rx: Bytes, tx: Bytes) -> i64;
     pub fn smoltcp_tcp_listen_nonnull(h: &mut TcpHandle, endpoint: &Endpoint) -> i64;
     pub fn smoltcp_tcp_listen_endpoint_nonnull(h: &mut TcpHandle, out: &mut Endpoint) -> i64;
     pub fn smoltcp_tcp_local_endpoint_nonnull(h: &mut TcpHandle, out: &mut Endpoint) -> i64;
     pub fn smoltcp_tcp_may_send_nonnull(h: &mut TcpHandle) -> i64;
+    pub fn smoltcp_tcp_negotiated_nonnull(h: &mut TcpHandle, out: &mut Negotiated) -> i64;
     pub fn smoltcp_tcp_pause_synack_nonnull(h: &mut TcpHandle, pause: u8) -> i64;
     pub fn smoltcp_tcp_peek_nonnull(h: &mut TcpHandle, size: usize, out: &mut Place) -> i64;
     pub fn smoltcp_tcp_peek_slice_nonnull(h: &mut TcpHandle, data: *mut u8, cap: usize) -> i64;
