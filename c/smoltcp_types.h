@@ -84,7 +84,8 @@ struct smoltcp_context {
     uint32_t word;   /* a random word, never used twice */
     uint32_t tsval;  /* the clock of timestamps (RFC 7323, section 5.4), for a socket that sends them: one that ticks
                       * once in 1 to 1,000 milliseconds, milliseconds say, from any number on, and wraps */
-    uint32_t ip_mtu; /* the largest IP packet, from 576 to 65535 bytes */
+    uint32_t ip_mtu; /* the largest IP packet, from 68 to 65535 bytes; over IPv6 less than 576 counts as that, and its
+                      * links have 1280 (RFC 8200, section 5) */
     uint8_t v4[4];   /* the interface's addresses; zeros where it has none of the version */
     uint8_t v6[16];
 };

@@ -58,11 +58,11 @@ impl Environment {
     }
 
     pub(crate) fn set_mtu(&mut self, mtu: usize)
-        ensures mtu { self.new.mtu ≡ max 576 (min mtu 65535) }
+        ensures mtu { self.new.mtu ≡ max 68 (min mtu 65535) }
         ensures same { (self.new.addresses ≡ self.old.addresses) × (self.new.now ≡ self.old.now)
             × (self.new.checksums ≡ self.old.checksums) }
     {
-        self.mtu = mtu.min(65535).max(576);
+        self.mtu = mtu.min(65535).max(68);
     }
 
     pub(crate) fn has_ip_addr(&self, addr: &IpAddress) -> bool

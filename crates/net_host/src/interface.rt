@@ -178,9 +178,10 @@ impl<W> Interface<W> {
         self.counters
     }
 
-    /// Sets the largest IP packet, in bytes: 576 to 65535, and the nearest of these for any other.
+    /// Sets the largest IP packet, in bytes: 68 to 65535, and the nearest of these for any other. Over IPv6 less than 576
+    /// counts as that (RFC 8200, section 5: its links carry 1280).
     pub fn set_mtu(&mut self, mtu: usize)
-        ensures mtu { self.new.inner.environment.mtu ≡ max 576 (min mtu 65535) }
+        ensures mtu { self.new.inner.environment.mtu ≡ max 68 (min mtu 65535) }
         ensures same { (self.new.inner.environment.addresses ≡ self.old.inner.environment.addresses)
             × (self.new.inner.environment.now ≡ self.old.inner.environment.now)
             × (self.new.inner.environment.checksums ≡ self.old.inner.environment.checksums)

@@ -1,6 +1,6 @@
 //! The context of one call.
 ghost use Rattle.std.specs.Prelude.{◌≡◌, ◌<◌, ◌^◌};
-ghost use Rattle.sock_core.specs.Bounds.{IsMoment, IsMtu};
+ghost use Rattle.sock_core.specs.Bounds.{IsMoment, IsHostMtu};
 
 use ip_wire::{ChecksumCapabilities, IpAddress, Ipv4Address, Ipv6Address};
 use net_base::time::Instant;
@@ -18,7 +18,7 @@ pub struct Moment {
     /// The length of the largest IP packet in bytes, from 576 to 65535.
     pub ip_mtu: usize,
     pub ghost moment: { IsMoment now.micros },
-    pub ghost mtu: { IsMtu ip_mtu },
+    pub ghost mtu: { IsHostMtu ip_mtu },
     pub ghost fits: { word < 2 ^ 32 },
 }
 
@@ -26,7 +26,7 @@ impl Moment {
     /// The context of a call at `now`, which is within 2^61 microseconds of zero; `ip_mtu` is from 576 to 65535 bytes.
     pub fn new(now: Instant, word: u32, has_address: bool, ip_mtu: usize) -> Moment
         requires moment { IsMoment now.micros }
-        requires mtu { IsMtu ip_mtu }
+        requires mtu { IsHostMtu ip_mtu }
         ensures now { result.now ≡ now }
         ensures word { result.word ≡ word }
         ensures address { result.has_address ≡ has_address }

@@ -8,7 +8,7 @@ use Rattle.control_wire.specs.Segment.{segment_len}
 use Rattle.sock_core.specs.Facts.{Facts}
 use Rattle.sock_tcp.proofs.Lending.{lent_at_most}
 use Rattle.sock_tcp.specs.Content.{asked, carries_data, is_probing, offset_of}
-use Rattle.sock_tcp.specs.Due.{effective_mss, flight, ip_header_len, timestamp_room}
+use Rattle.sock_tcp.specs.Due.{effective_mss, flight, ip_header_len, mtu_for, timestamp_room}
 use Rattle.sock_tcp.specs.Queue.{IsLent, Queue}
 use Rattle.sock_tcp.specs.View.{View, moment_of}
 use Rattle.sock_tcp.specs.declared.tuple.Tuple.{Tuple}
@@ -24,16 +24,16 @@ lent_some q o n bs lent some within = go (in_one_piece q.until_end (length q.byt
         let long : length bs ≡ min (min n (in_one_piece q.until_end (length q.bytes) o)) (length (drop o q.bytes)) = ap (λ (l : List ℕ). length l) lent ∙ length-take (min n (in_one_piece q.until_end (length q.bytes) o)) (drop o q.bytes) in
         omega (arith, long, z, some, within, length-drop o q.bytes)
 
-pub mss_some : (v : View) (t : Tuple) (f : Facts) → 576 ≤ f.mtu → 48 ≤ v.remote_mss → 0 < effective_mss v t f
+pub mss_some : (v : View) (t : Tuple) (f : Facts) → 68 ≤ f.mtu → 48 ≤ v.remote_mss → 0 < effective_mss v t f
 mss_some v t f mtu mss = go t.local.addr v.stamps
   where
-    go : (a : IpAddress) (b : Bool) → 0 < min (f.mtu - ip_header_len a - 20) v.remote_mss - timestamp_room b
+    go : (a : IpAddress) (b : Bool) → 0 < min (mtu_for a f.mtu - ip_header_len a - 20) v.remote_mss - timestamp_room b
     go (address.Ipv4 a) true = omega (arith, mtu, mss)
     go (address.Ipv4 a) false = omega (arith, mtu, mss)
     go (address.Ipv6 a) true = omega (arith, mtu, mss)
     go (address.Ipv6 a) false = omega (arith, mtu, mss)
 
-module _ (u : View) (p : Tuple) (f : Facts) (stamp : Option ℕ) (bytes : List ℕ) (mtu : 576 ≤ f.mtu) (mss : 48 ≤ u.remote_mss) (carries : carries_data u.state ≡ true) (lent : IsLent u.tx_buffer (offset_of u) (asked u p f) bytes) where
+module _ (u : View) (p : Tuple) (f : Facts) (stamp : Option ℕ) (bytes : List ℕ) (mtu : 68 ≤ f.mtu) (mss : 48 ≤ u.remote_mss) (carries : carries_data u.state ≡ true) (lent : IsLent u.tx_buffer (offset_of u) (asked u p f) bytes) where
   room : 0 < effective_mss u p f
   room = mss_some u p f mtu mss
 

@@ -12,11 +12,11 @@ use Rattle.ip_wire.specs.declared.checksum.Checksum.TheVariants as checksum
 use Rattle.sock_core.specs.Facts.{Facts}
 use Rattle.smoltcp_c.specs.declared.context.Cx.{Cx}
 
--- the moment lies within 2^61 microseconds of zero, and the MTU from 576 to 65535 bytes
+-- the moment lies within 2^61 microseconds of zero, and the MTU from 68 to 65535 bytes
 abbrev pub is_context : Cx → Bool
 is_context cx =
     int_le (negsuc 2305843009213693951) cx.now && (int_le cx.now (pos 2305843009213693952)
-    && (nat_le 576 cx.ip_mtu && nat_le cx.ip_mtu 65535))
+    && (nat_le 68 cx.ip_mtu && nat_le cx.ip_mtu 65535))
 
 -- an address of zeros was never set: it is no address of the interface
 abbrev pub own_v4 : Cx → Option Ipv4Address

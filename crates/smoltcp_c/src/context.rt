@@ -11,7 +11,7 @@ use sock_core::Context;
 // In microseconds: moments lie within this of zero.
 const FAR: i64 = 1 << 61;
 
-const LEAST_MTU: u32 = 576;
+const LEAST_MTU: u32 = 68;
 
 const LARGEST_MTU: u32 = 65535;
 
@@ -25,7 +25,7 @@ pub struct Cx {
     pub word: u32,
     /// The value of the timestamps' clock (RFC 7323).
     pub tsval: u32,
-    /// The largest IP packet, from 576 to 65535 bytes.
+    /// The largest IP packet, from 68 to 65535 bytes; over IPv6 less than 576 counts as that.
     pub ip_mtu: u32,
     /// The interface's IPv4 address; all zeros where it has none.
     pub v4: [u8; 4],

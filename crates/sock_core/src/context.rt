@@ -46,7 +46,8 @@ pub trait Context {
     fn is_broadcast(&self, addr: &IpAddress) -> bool
         ensures { result ≡ (facts self.now).broadcast addr.now };
 
-    /// The largest IP packet, in octets: from 576 to 65535.
+    /// The largest IP packet, in octets: from 68 to 65535. Over IPv6 less than 576 counts as that: its links carry 1280
+    /// (RFC 8200, section 5).
     fn ip_mtu(&self) -> usize
         ensures value { result ≡ (facts self.now).mtu }
         ensures lawful { IsLawful (facts self.now) };

@@ -1,5 +1,5 @@
 -- What a dispatch emits fits a packet.
-use Rattle.std.proofs.Common.{◌≡◌, ℕ, ◌+◌, ◌-◌, ◌*◌, ◌/◌, ◌≤◌, List, [], ◌∷◌, Bool, true, false, Option, Some, None, is_some, refl, sym, ap, subst, length, min, arith}
+use Rattle.std.proofs.Common.{◌≡◌, ℕ, ◌+◌, ◌-◌, ◌*◌, ◌/◌, ◌≤◌, List, [], ◌∷◌, Bool, true, false, Option, Some, None, is_some, refl, sym, ap, subst, length, max, min, arith}
 use Rattle.std.specs.Prelude.{count_by, option_map, if◌then◌else◌, MatchOption}
 use Rattle.std.specs.Option.{ForSome}
 use Rattle.std.proofs.lemmas.Option.{none-some, same_Some}
@@ -13,7 +13,7 @@ use Rattle.control_wire.specs.Segment.{Segment, options_len, segment_header_len}
 use Rattle.sock_core.specs.Bounds.{IsMtu}
 use Rattle.sock_core.specs.Facts.{Facts}
 use Rattle.sock_tcp.specs.Content.{carries_data, Sending, is_probing, window_left, size_of, asked, filled, emission_kind, of_kind, hop_limit_of, plain_segment, sent_as, content, scale_back}
-use Rattle.sock_tcp.specs.Due.{congestion_left, effective_mss, ip_header_len}
+use Rattle.sock_tcp.specs.Due.{congestion_left, effective_mss, ip_header_len, mtu_for}
 use Rattle.sock_tcp.specs.View.{View, moment_of}
 use Rattle.sock_tcp.specs.declared.emission.Kind.{Kind}
 use Rattle.sock_tcp.specs.declared.emission.Kind.TheVariants as kind
@@ -122,31 +122,31 @@ module _ (v : View) (t : Tuple) (f : Facts) (small : v.remote_win_shift ≤ 14) 
 
 -- ---- with the IP header
 
-packet_of_room : (a b : IpAddress) (mtu hops : ℕ) (s : Segment) → SameVersion a b → IsMtu mtu → FitsRoom (mtu - ip_header_len a) s → FitsPacket (ip_header a b protocol.Tcp (segment_header_len s + length s.payload) hops) s
+packet_of_room : (a b : IpAddress) (mtu hops : ℕ) (s : Segment) → SameVersion a b → IsMtu mtu → FitsRoom (max mtu 576 - ip_header_len a) s → FitsPacket (ip_header a b protocol.Tcp (segment_header_len s + length s.payload) hops) s
 packet_of_room (address.Ipv4 a) (address.Ipv4 b) mtu hops s same m h = record { header = h.header; protocol = refl; octets = refl; total = omega (arith, m.0, m.1, h.size) }
 packet_of_room (address.Ipv6 a) (address.Ipv6 b) mtu hops s same m h = record { header = h.header; protocol = refl; octets = refl; total = omega (arith, m.0, m.1, h.size) }
 packet_of_room (address.Ipv4 a) (address.Ipv6 b) mtu hops s same m h = absurd cc
 packet_of_room (address.Ipv6 a) (address.Ipv4 b) mtu hops s same m h = absurd cc
 
-at_least : (a : IpAddress) (mtu : ℕ) → 576 ≤ mtu → 536 ≤ mtu - ip_header_len a
-at_least (address.Ipv4 a) mtu m = omega arith
-at_least (address.Ipv6 a) mtu m = omega arith
+at_least : (a : IpAddress) (mtu : ℕ) → 536 ≤ max mtu 576 - ip_header_len a
+at_least (address.Ipv4 a) mtu = omega arith
+at_least (address.Ipv6 a) mtu = omega arith
 
-data_room : (a : IpAddress) (mtu mss n : ℕ) (stamps : Bool) → 576 ≤ mtu → n ≤ min (mtu - ip_header_len a - 20) mss - (if stamps then 12 else 0) → (if stamps then 32 else 20) + n ≤ mtu - ip_header_len a
+data_room : (a : IpAddress) (mtu mss n : ℕ) (stamps : Bool) → 68 ≤ mtu → n ≤ min (mtu_for a mtu - ip_header_len a - 20) mss - (if stamps then 12 else 0) → (if stamps then 32 else 20) + n ≤ max mtu 576 - ip_header_len a
 data_room (address.Ipv4 a) mtu mss n true m h = omega arith
 data_room (address.Ipv4 a) mtu mss n false m h = omega arith
 data_room (address.Ipv6 a) mtu mss n true m h = omega arith
 data_room (address.Ipv6 a) mtu mss n false m h = omega arith
 
-sent_fits : (v : View) (t : Tuple) (f : Facts) (o : Option Segment) → v.remote_win_shift ≤ 14 → SameVersion t.local.addr t.remote.addr → IsMtu f.mtu → InRoom (f.mtu - ip_header_len t.local.addr) o → ForSome (option_map (λ s. sent_as v t (emission_kind v (moment_of f) s) s) o) (λ s. FitsPacket s.ip s.segment)
+sent_fits : (v : View) (t : Tuple) (f : Facts) (o : Option Segment) → v.remote_win_shift ≤ 14 → SameVersion t.local.addr t.remote.addr → IsMtu f.mtu → InRoom (max f.mtu 576 - ip_header_len t.local.addr) o → ForSome (option_map (λ s. sent_as v t (emission_kind v (moment_of f) s) s) o) (λ s. FitsPacket s.ip s.segment)
 sent_fits v t f None small same m h x e = absurd (none-some x e)
 sent_fits v t f (Some s) small same m h x e =
     let k = emission_kind v (moment_of f) s in
-    subst (λ (y : Sending). FitsPacket y.ip y.segment) (same_Some _ x e) (packet_of_room t.local.addr t.remote.addr f.mtu (hop_limit_of v.hop_limit) (of_kind k v s) same m (of_kind_fits v t f small (f.mtu - ip_header_len t.local.addr) (at_least t.local.addr f.mtu m.0) k s h))
+    subst (λ (y : Sending). FitsPacket y.ip y.segment) (same_Some _ x e) (packet_of_room t.local.addr t.remote.addr f.mtu (hop_limit_of v.hop_limit) (of_kind k v s) same m (of_kind_fits v t f small (max f.mtu 576 - ip_header_len t.local.addr) (at_least t.local.addr f.mtu) k s h))
 
 pub content_fits : (v : View) (t : Tuple) (f : Facts) (stamp : Option ℕ) (bytes : List ℕ) → v.remote_win_shift ≤ 14 → SameVersion t.local.addr t.remote.addr → IsMtu f.mtu → is_some stamp ≡ v.stamps → length bytes ≤ asked v t f → ForSome (content v t f stamp bytes) (λ s. FitsPacket s.ip s.segment)
 unfolding content
 content_fits v t f stamp bytes small same m stamped h =
     let a : length bytes ≤ effective_mss v t f = omega (arith, h, asked_mss v t f) in
-    let b = subst (λ x. (if x then 32 else 20) + length bytes ≤ f.mtu - ip_header_len t.local.addr) (sym stamped) (data_room t.local.addr f.mtu v.remote_mss (length bytes) v.stamps m.0 a) in
-    sent_fits v t f (filled v.state v t f bytes (plain_segment v t stamp)) small same m (filled_fits v t f small (f.mtu - ip_header_len t.local.addr) (at_least t.local.addr f.mtu m.0) v.state stamp bytes b)
+    let b = subst (λ x. (if x then 32 else 20) + length bytes ≤ max f.mtu 576 - ip_header_len t.local.addr) (sym stamped) (data_room t.local.addr f.mtu v.remote_mss (length bytes) v.stamps m.0 a) in
+    sent_fits v t f (filled v.state v t f bytes (plain_segment v t stamp)) small same m (filled_fits v t f small (max f.mtu 576 - ip_header_len t.local.addr) (at_least t.local.addr f.mtu) v.state stamp bytes b)

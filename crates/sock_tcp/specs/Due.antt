@@ -1,5 +1,5 @@
 -- Whether a dispatch has anything to send.
-use Rattle.std.specs.Prelude.{ℕ, ◌-◌, ◌*◌, ◌/◌, ◌^◌, nat_lt, nat_le, length, min, Option, Some, None, Bool, true}
+use Rattle.std.specs.Prelude.{ℕ, ◌-◌, ◌*◌, ◌/◌, ◌^◌, nat_lt, nat_le, length, max, min, Option, Some, None, Bool, true}
 use Rattle.std.specs.Prelude.{false, not, ◌==◌, ◌&&◌, ◌||◌, if◌then◌else◌}
 use Rattle.ip_wire.specs.declared.address.IpAddress.{IpAddress}
 use Rattle.ip_wire.specs.declared.address.IpAddress.TheVariants as address
@@ -51,9 +51,14 @@ abbrev pub ip_header_len : IpAddress → ℕ
 ip_header_len (address.Ipv4 a) = 20
 ip_header_len (address.Ipv6 a) = 40
 
+-- the largest packet between addresses of this version: over IPv6 less than 576 counts as that
+abbrev pub mtu_for : IpAddress → ℕ → ℕ
+mtu_for (address.Ipv4 a) n = n
+mtu_for (address.Ipv6 a) n = max n 576
+
 -- the MSS that this side may receive
 abbrev pub own_mss : Facts → Tuple → ℕ
-own_mss f t = f.mtu - ip_header_len t.local.addr - 20
+own_mss f t = mtu_for t.local.addr f.mtu - ip_header_len t.local.addr - 20
 
 -- a timestamp option takes 12 octets of each segment
 abbrev pub timestamp_room : Bool → ℕ

@@ -18,16 +18,19 @@ use sock_core::{Context, PollAt};
 // How much of each segment a timestamp takes.
 const TIMESTAMP_ROOM: usize = 12;
 
+// Over IPv6 less counts as this: its links carry 1280 bytes (RFC 8200, section 5).
+const LEAST_IPV6_MTU: usize = 576;
+
 // The MSS that this side may receive (RFC 6691).
 pub(crate) fn own_mss<C: Context>(cx: &C, tuple: &Tuple) -> usize
     ensures value { result ≡ own_mss (C.facts cx.now) tuple.now }
     ensures small { result ≤ 65535 }
 {
-    let header = match tuple.local.addr {
-        IpAddress::Ipv4(_) => 20,
-        IpAddress::Ipv6(_) => 40,
-    };
-    cx.ip_mtu() - header - 20
+    let mtu = cx.ip_mtu();
+    match tuple.local.addr {
+        IpAddress::Ipv4(_) => mtu - 20 - 20,
+        IpAddress::Ipv6(_) => mtu.max(LEAST_IPV6_MTU) - 40 - 20,
+    }
 }
 
 impl<'a> ControlBlock<'a> {

@@ -376,7 +376,10 @@ impl<'a, G: TsvalSource> Socket<'a, G> {
         let stamps = self.control_block.stamps();
         let after = self.control_block.state();
         keep_source(&mut self.tsval_generator, stamps);
-        note_end(&mut self.ended, by_segment(before, repr.control, after, ended));
+        note_end(
+            &mut self.ended,
+            by_segment(before, repr.control, after, ended),
+        );
         answer
     }
 

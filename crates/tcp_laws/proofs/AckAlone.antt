@@ -15,7 +15,7 @@ use Rattle.control_wire.specs.declared.tcp.TcpControl.TheVariants as control
 use Rattle.sock_core.specs.Facts.{Facts, IsLawful}
 use Rattle.sock_tcp.specs.Begin.{last_ts_set, last_ts_set_at, told_ready, readied, retransmission_begun, fast_retransmission_marked, after_timer, after_timers, begun, begun_to, unless_paused, ended, by_due, before_emit, before_emit_to, peer_of}
 use Rattle.sock_tcp.specs.Content.{asked, carries_data, data_control, filled, is_probing, offset_of, plain_segment, size_of, window_left, with_data}
-use Rattle.sock_tcp.specs.Due.{congestion_left, effective_mss, flight, ip_header_len, is_closing, is_due, is_opening, sendable, timestamp_room, window_field}
+use Rattle.sock_tcp.specs.Due.{congestion_left, effective_mss, flight, ip_header_len, mtu_for, is_closing, is_due, is_opening, sendable, timestamp_room, window_field}
 use Rattle.sock_tcp.specs.Opening.{renewed}
 use Rattle.sock_tcp.specs.Polls.{is_reached, timeout_poll}
 use Rattle.sock_tcp.specs.Queue.{IsLent, Queue}
@@ -148,16 +148,14 @@ pub record AckOf (u : View) (b : Segment) : Type 0 where
 abbrev pub RstOrAck : View → Segment → Type 0
 RstOrAck u b = ((u.state ≡ state.Closed) × (b.control ≡ control.Rst)) ⊎ AckOf u b
 
-mss_some : (v : View) (t : Tuple) (f : Facts) → 576 ≤ f.mtu → 48 ≤ v.remote_mss → 0 < effective_mss v t f
+mss_some : (v : View) (t : Tuple) (f : Facts) → 68 ≤ f.mtu → 48 ≤ v.remote_mss → 0 < effective_mss v t f
 mss_some v t f mtu mss = go t.local.addr v.stamps
   where
-    room : (h : ℕ) (b : Bool) → h ≤ 40 → 0 < min (f.mtu - h - 20) v.remote_mss - (if b then 12 else 0)
-    room h true e = omega (arith, mtu, mss, e)
-    room h false e = omega (arith, mtu, mss, e)
-
-    go : (a : IpAddress) (b : Bool) → 0 < min (f.mtu - ip_header_len a - 20) v.remote_mss - timestamp_room b
-    go (address.Ipv4 a) b = room 20 b (omega arith)
-    go (address.Ipv6 a) b = room 40 b (omega arith)
+    go : (a : IpAddress) (b : Bool) → 0 < min (mtu_for a f.mtu - ip_header_len a - 20) v.remote_mss - timestamp_room b
+    go (address.Ipv4 a) true = omega (arith, mtu, mss)
+    go (address.Ipv4 a) false = omega (arith, mtu, mss)
+    go (address.Ipv6 a) true = omega (arith, mtu, mss)
+    go (address.Ipv6 a) false = omega (arith, mtu, mss)
 
 fin_len : (c : Bool) (m n : ℕ) → c ≡ true → m ≡ n → control_len (if m == n then (if c then control.Fin else control.None) else control.None) ≡ 1
 fin_len c m n e i = rw (e, i, eq_same n) refl
