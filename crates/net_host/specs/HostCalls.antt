@@ -21,6 +21,7 @@ pub record MovesTo {W : Type 0} (at : Instant) (i j : Interface W) : Type 0 wher
   pub words : j.inner.words ≡ i.inner.words
   pub turn : j.turn ≡ i.turn
   pub resets : j.resets ≡ i.resets
+  pub errors : j.errors ≡ i.errors
   pub counters : j.counters ≡ i.counters
 
 module _ {W G : Type 0} (is : IpAddress → IpAddress → Bool) where
@@ -42,4 +43,5 @@ module _ {W G : Type 0} (is : IpAddress → IpAddress → Bool) where
     pub spoken : Speaks (facts_by is moved.inner.environment) tells seen moved.turn out r ts j.turn out'
     pub inner : j.inner ≡ moved.inner
     pub resets : j.resets ≡ i.resets
+    pub errors : j.errors ≡ i.errors
     pub counters : j.counters ≡ i.counters

@@ -16,5 +16,6 @@ pub mod Sheets
 pub mod Slots
 pub mod Speaking
 pub mod Turns
+pub mod Unreachable
 pub mod Walks
 pub mod Wire

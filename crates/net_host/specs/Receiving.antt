@@ -18,6 +18,7 @@ use Rattle.net_host.specs.Facts.{facts_by}
 use Rattle.net_host.specs.Messages.{AnyMail, Copies, answer_len, echoed, if_short, mail_in, with_answer}
 use Rattle.net_host.specs.RawCopies.{CopiesPacket}
 use Rattle.net_host.specs.Segments.{AnswersSegment, IsTaker}
+use Rattle.net_host.specs.Unreachable.{TellsOf}
 use Rattle.net_host.specs.Walks.{ChangesEach, Finds}
 use Rattle.net_host.specs.declared.arrival.Kind.{Kind}
 use Rattle.net_host.specs.declared.arrival.Kind.TheVariants as kind
@@ -28,7 +29,9 @@ use Rattle.net_host.specs.declared.inner.InterfaceInner.{InterfaceInner}
 use Rattle.net_host.specs.declared.interface.Interface.{Interface}
 use Rattle.net_host.specs.declared.segments.Taker.{Taker}
 use Rattle.net_host.specs.declared.segments.Taker.TheVariants as taker
+use Rattle.net_host.specs.declared.limit.Limit.{Limit}
 use Rattle.net_host.specs.declared.slot.Slot.{Slot}
+use Rattle.net_host.specs.declared.unreachable.Unmet.TheVariants as unmet
 
 -- a segment that no socket takes is counted
 abbrev pub counted_for : Taker → Counters → Counters
@@ -67,6 +70,7 @@ module _ {W G : Type 0} (is : IpAddress → IpAddress → Bool) (word_at : W →
     pub answers : AnswersSegment facts_of words_of tells taker ss i.inner i.resets ip s out n ts j.inner j.resets out'
     pub counters : j.counters ≡ counted_for taker i.counters
     pub turn : j.turn ≡ i.turn
+    pub errors : j.errors ≡ i.errors
 
   -- no segment has a payload of more than 65535 octets
   abbrev pub IfShort : Bool → IpRepr → Segment → Interface W → List (Slot G) → List ℕ → ℕ → Interface W → List (Slot G)
@@ -86,28 +90,38 @@ module _ {W G : Type 0} (is : IpAddress → IpAddress → Bool) (word_at : W →
       BySegment ip (tcp_parsed (is_received i.inner.environment.checksums.tcp) (src_addr_of ip) (dst_addr_of ip) octets)
       i
 
-  -- the same, where nothing is said of a reply
-  pub record Misses (why : Reason) (i : Interface W) (ss : List (Slot G)) (j : Interface W) (ts : List (Slot G))
-      : Type 0 where
-    pub interface : j ≡ record i { counters = counted why i.counters }
-    pub sockets : ts ≡ ss
+  -- the sender is told, where no socket takes the datagram
+  abbrev pub TellsIf : Option ℕ → Facts → IpRepr → List ℕ → List (Slot G) → Limit → List ℕ → ℕ → Limit → List ℕ
+      → Type 0
+  TellsIf None f ip octets ss l out n l' out' = TellsOf f unmet.Port ip octets ss l out n l' out'
+  TellsIf (Some k) f ip octets ss l out n l' out' = (n ≡ 0) × (l' ≡ l) × (out' ≡ out)
 
   -- the datagram goes to the first socket that takes it, if any
-  pub record TakesDatagramOf (ip : IpRepr) (d : Datagram) (i : Interface W) (ss : List (Slot G)) (j : Interface W)
-      (ts : List (Slot G)) : Type 0 where
+  pub record TakesDatagramOf (ip : IpRepr) (octets : List ℕ) (d : Datagram) (i : Interface W) (ss : List (Slot G))
+      (out : List ℕ) (n : ℕ) (j : Interface W) (ts : List (Slot G)) (out' : List ℕ) : Type 0 where
     pub found : Option ℕ
     pub finds : Finds (TakesDatagram (facts_of i.inner) ip d.header) ss found
     pub heard : HeardBy found ss ip d.header d.payload ts
-    pub interface : j ≡ record i { counters = counted_if found i.counters }
+    pub told : TellsIf found (facts_of i.inner) ip octets ts i.errors out n j.errors out'
+    pub interface : j ≡ record i { counters = counted_if found i.counters; errors = j.errors }
 
-  abbrev pub ByDatagram : IpRepr → Option Datagram → Interface W → List (Slot G) → Interface W → List (Slot G) → Type 0
-  ByDatagram ip None i ss j ts = Misses reason.Datagram i ss j ts
-  ByDatagram ip (Some d) i ss j ts = TakesDatagramOf ip d i ss j ts
+  abbrev pub ByDatagram : IpRepr → List ℕ → Option Datagram → Interface W → List (Slot G) → List ℕ → ℕ → Interface W
+      → List (Slot G) → List ℕ → Type 0
+  ByDatagram ip octets None i ss out n j ts out' = Drops reason.Datagram i ss out n j ts out'
+  ByDatagram ip octets (Some d) i ss out n j ts out' = TakesDatagramOf ip octets d i ss out n j ts out'
 
   -- what stands behind the header, as a UDP datagram
-  abbrev pub TakesUdp : IpRepr → List ℕ → Interface W → List (Slot G) → Interface W → List (Slot G) → Type 0
+  abbrev pub TakesUdp : IpRepr → List ℕ → Interface W → List (Slot G) → List ℕ → ℕ → Interface W → List (Slot G)
+      → List ℕ → Type 0
   TakesUdp ip octets i =
-      ByDatagram ip (datagram_in i.inner.environment.checksums ip octets) i
+      ByDatagram ip octets (datagram_in i.inner.environment.checksums ip octets) i
+
+  -- another protocol is counted, and the sender told
+  pub record TakesOther (ip : IpRepr) (octets : List ℕ) (i : Interface W) (ss : List (Slot G)) (out : List ℕ) (n : ℕ)
+      (j : Interface W) (ts : List (Slot G)) (out' : List ℕ) : Type 0 where
+    pub told : TellsOf (facts_of i.inner) unmet.Protocol ip octets ss i.errors out n j.errors out'
+    pub interface : j ≡ record i { counters = counted reason.Protocol i.counters; errors = j.errors }
+    pub sockets : ts ≡ ss
 
   -- each ICMP socket that accepts the message takes a copy, and an echo request is answered
   pub record TakesMail (m : AnyMail) (i : Interface W) (ss : List (Slot G)) (out : List ℕ) (n : ℕ) (j : Interface W)
@@ -132,9 +146,9 @@ module _ {W G : Type 0} (is : IpAddress → IpAddress → Bool) (word_at : W →
   abbrev pub ByKind : Kind → IpRepr → List ℕ → Interface W → List (Slot G) → List ℕ → ℕ → Interface W
       → List (Slot G) → List ℕ → Type 0
   ByKind kind.Tcp ip octets i ss out n j ts out' = TakesTcp ip octets i ss out n j ts out'
-  ByKind kind.Udp ip octets i ss out n j ts out' = TakesUdp ip octets i ss j ts × (n ≡ 0) × (out' ≡ out)
+  ByKind kind.Udp ip octets i ss out n j ts out' = TakesUdp ip octets i ss out n j ts out'
   ByKind kind.Icmp ip octets i ss out n j ts out' = TakesIcmp ip octets i ss out n j ts out'
-  ByKind kind.Other ip octets i ss out n j ts out' = Drops reason.Protocol i ss out n j ts out'
+  ByKind kind.Other ip octets i ss out n j ts out' = TakesOther ip octets i ss out n j ts out'
   ByKind kind.Foreign ip octets i ss out n j ts out' = Drops reason.Destination i ss out n j ts out'
 
   -- each raw socket that accepts the packet takes a copy, and then it is looked at

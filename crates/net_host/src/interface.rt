@@ -31,6 +31,8 @@ pub struct Interface<W> {
     // the place of the socket whose turn it is
     pub(crate) turn: usize,
     pub(crate) resets: Limit,
+    // ICMP errors that go out
+    pub(crate) errors: Limit,
     pub(crate) counters: Counters,
 }
 
@@ -41,10 +43,12 @@ impl<W: Words> Interface<W> {
     /// The first row that fits: a packet that is malformed, or has a source that no single other host has, or another
     /// destination than an address of the interface or a broadcast, is dropped and counted. Of any other each raw
     /// socket that accepts it takes a copy. Then a broadcast that carries no UDP datagram is dropped, and another
-    /// protocol than TCP, UDP and ICMP. A segment goes to the first connection that accepts it, in the order of
+    /// protocol than TCP, UDP and ICMP, of which the sender is told over IPv4 (RFC 1122, section 3.2.2.1). A segment goes to the first connection that accepts it, in the order of
     /// handles, else to the first socket that listens and accepts it. One for no socket is answered by an RST (RFC
     /// 9293, section 3.10.7.1), unless it is one, at most `ANSWERS_A_SECOND` times a second. A datagram goes to the
-    /// first UDP socket that accepts it. Of an ICMP message each ICMP socket that accepts it takes a copy, and an echo
+    /// first UDP socket that accepts it; of one that none does the sender is told by an ICMP error (RFC 1122, section
+    /// 4.1.3.1; RFC 4443, section 3.1). Errors go out for packets to an own address that no raw socket takes, at most
+    /// `ANSWERS_A_SECOND` times a second, and fit the MTU. Of an ICMP message each ICMP socket that accepts it takes a copy, and an echo
     /// request is answered (RFC 792; RFC 4443, section 4.2), by at most as many bytes as the MTU. No other socket
     /// changes.
     ///
@@ -160,6 +164,7 @@ impl<W> Interface<W> {
             },
             turn: 0,
             resets: Limit::new(),
+            errors: Limit::new(),
             counters: Counters::default(),
         }
     }
@@ -186,7 +191,8 @@ impl<W> Interface<W> {
             × (self.new.inner.environment.now ≡ self.old.inner.environment.now)
             × (self.new.inner.environment.checksums ≡ self.old.inner.environment.checksums)
             × (self.new.inner.words ≡ self.old.inner.words) × (self.new.turn ≡ self.old.turn)
-            × (self.new.resets ≡ self.old.resets) × (self.new.counters ≡ self.old.counters) }
+            × (self.new.resets ≡ self.old.resets) × (self.new.errors ≡ self.old.errors)
+            × (self.new.counters ≡ self.old.counters) }
     {
         self.inner.environment.set_mtu(mtu);
     }
@@ -198,7 +204,8 @@ impl<W> Interface<W> {
             × (self.new.inner.environment.now ≡ self.old.inner.environment.now)
             × (self.new.inner.environment.mtu ≡ self.old.inner.environment.mtu)
             × (self.new.inner.words ≡ self.old.inner.words) × (self.new.turn ≡ self.old.turn)
-            × (self.new.resets ≡ self.old.resets) × (self.new.counters ≡ self.old.counters) }
+            × (self.new.resets ≡ self.old.resets) × (self.new.errors ≡ self.old.errors)
+            × (self.new.counters ≡ self.old.counters) }
     {
         self.inner.environment.checksums = checksums;
     }

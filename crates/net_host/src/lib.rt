@@ -20,6 +20,7 @@ pub mod set;
 pub mod slot;
 pub mod speak;
 pub mod turn;
+pub mod unreachable;
 pub mod wire;
 
 pub use cidr::IpCidr;

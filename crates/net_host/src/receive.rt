@@ -3,7 +3,7 @@ ghost use Rattle.std.specs.Prelude.{◌≡◌, ◌≤◌, nat_le, length, option
 ghost use Rattle.segment_wire.specs.Udp.{datagram_of};
 ghost use Rattle.control_wire.specs.Segment.{segment_of};
 ghost use Rattle.net_host.specs.Counts.{counted};
-ghost use Rattle.net_host.specs.Receiving.{ByAddresses, ByKind, IfShort, TakesDatagramOf, TakesPacket};
+ghost use Rattle.net_host.specs.Receiving.{ByAddresses, ByKind, IfShort, TakesOther, TakesPacket, TellsIf};
 ghost use Rattle.net_host.specs.Receiving.{TakesCarried, TakesIcmp, TakesMail, TakesSegment, TakesTcp, TakesUdp, counted_for, counted_if, datagram_in};
 ghost use Rattle.net_host.specs.Messages.{mail_of};
 ghost use Rattle.net_host.specs.Arrivals.{refusal};
@@ -17,6 +17,7 @@ use crate::messages::{Mail, copy_to_all, echoed, mail_in, put_answer};
 use crate::raw_copies::copy_packet_to_all;
 use crate::segments::{Taker, hear_segment};
 use crate::slot::Slot;
+use crate::unreachable::{Unmet, tell_sender};
 use host_context::Words;
 use segment_wire::packet::carried;
 use segment_wire::{tcp, udp};
@@ -104,40 +105,85 @@ impl<W: Words> Interface<W> {
     {
         match kind {
             Kind::Tcp => self.take_tcp(slots, ip, bytes, out),
-            Kind::Udp => {
-                self.take_udp(slots, ip, bytes);
-                0
-            }
+            Kind::Udp => self.take_udp(slots, ip, bytes, out),
             Kind::Icmp => self.take_icmp(slots, ip, bytes, out),
-            Kind::Other => self.drop_packet(Reason::Protocol),
+            Kind::Other => self.take_other(slots, ip, bytes, out),
             Kind::Foreign => self.drop_packet(Reason::Destination),
         }
     }
 
-    fn take_udp<G: TsvalSource>(&mut self, slots: &mut Vec<Slot<'_, G>>, ip: &IpRepr, bytes: &[u8])
-        ensures { TakesUdp ⟦<IpAddress as PartialEq>⟧.eq W.word_at G.tells ip.now bytes.now self.old slots.old.items
-            self.new
-            slots.new.items }
-    {
-        let caps = self.inner.checksum_caps();
-        match datagram_in(&caps, ip, bytes) {
-            None => self.counters.count(Reason::Datagram),
-            Some((repr, payload)) => self.take_datagram(slots, ip, &repr, payload),
-        }
-    }
-
-    fn take_datagram<G: TsvalSource>(
+    fn take_other<G: TsvalSource>(
         &mut self,
         slots: &mut Vec<Slot<'_, G>>,
         ip: &IpRepr,
-        repr: &UdpRepr,
-        payload: &[u8],
-    )
-        ensures { TakesDatagramOf ⟦<IpAddress as PartialEq>⟧.eq W.word_at G.tells ip.now
-            (record { header = repr.now; payload = payload.now }) self.old slots.old.items self.new slots.new.items }
+        bytes: &[u8],
+        out: &mut [u8],
+    ) -> usize
+        ensures within { result ≤ length out.old }
+        ensures table { TakesOther ⟦<IpAddress as PartialEq>⟧.eq W.word_at G.tells ip.now bytes.now self.old
+            slots.old.items out.old result self.new slots.new.items out.new }
     {
-        let found = hear_datagram(slots, &self.inner, ip, repr, payload);
-        count_found(&mut self.counters, found);
+        self.counters.count(Reason::Protocol);
+        tell_sender(
+            slots,
+            &self.inner,
+            &mut self.errors,
+            Unmet::Protocol,
+            ip,
+            bytes,
+            out,
+        )
+    }
+
+    fn take_udp<G: TsvalSource>(
+        &mut self,
+        slots: &mut Vec<Slot<'_, G>>,
+        ip: &IpRepr,
+        bytes: &[u8],
+        out: &mut [u8],
+    ) -> usize
+        ensures within { result ≤ length out.old }
+        ensures table { TakesUdp ⟦<IpAddress as PartialEq>⟧.eq W.word_at G.tells ip.now bytes.now self.old
+            slots.old.items out.old result self.new slots.new.items out.new }
+    {
+        let caps = self.inner.checksum_caps();
+        match datagram_in(&caps, ip, bytes) {
+            None => self.drop_packet(Reason::Datagram),
+            Some((repr, payload)) => {
+                let found = hear_datagram(slots, &self.inner, ip, &repr, payload);
+                count_found(&mut self.counters, found);
+                self.tell_if(slots, found, ip, bytes, out)
+            }
+        }
+    }
+
+    // The sender is told, where no socket takes the datagram.
+    fn tell_if<G: TsvalSource>(
+        &mut self,
+        slots: &[Slot<'_, G>],
+        found: Option<usize>,
+        ip: &IpRepr,
+        bytes: &[u8],
+        out: &mut [u8],
+    ) -> usize
+        ensures within { result ≤ length out.old }
+        ensures told { TellsIf ⟦<IpAddress as PartialEq>⟧.eq W.word_at G.tells found
+            (facts_by ⟦<IpAddress as PartialEq>⟧.eq self.old.inner.environment) ip.now bytes.now slots.now
+            self.old.errors out.old result self.new.errors out.new }
+        ensures interface { self.new ≡ record self.old { errors = self.new.errors } }
+    {
+        match found {
+            Some(_) => 0,
+            None => tell_sender(
+                slots,
+                &self.inner,
+                &mut self.errors,
+                Unmet::Port,
+                ip,
+                bytes,
+                out,
+            ),
+        }
     }
 
     fn take_icmp<G: TsvalSource>(

@@ -12,5 +12,6 @@ returns-clause-table g c = record {
   spoken = c.speak.ensures.table;
   inner = refl;
   resets = c.set_now.ensures.resets;
+  errors = c.set_now.ensures.errors;
   counters = c.set_now.ensures.counters;
 }

@@ -1,0 +1,161 @@
+//! What tells a sender that nobody takes its packet.
+ghost use Rattle.std.specs.Prelude.{◌≡◌, ◌≤◌, ◌↔◌, IsTrue, length, min, option_map};
+ghost use Rattle.net_host.specs.Limits.{allows};
+ghost use Rattle.net_host.specs.Messages.{answer_len, if_short, mail_of, with_answer};
+ghost use Rattle.net_host.specs.Unreachable.{SomeRaw, TakesRaw, TellsOf, error_of, error_v4, error_v6, quoted_v4, quoted_v6};
+ghost use Rattle.net_host.specs.Unreachable.{spent_for, told_within, wanted};
+
+use crate::limit::Limit;
+use crate::messages::{Mail, put_answer};
+use crate::slot::Slot;
+use smoltcp_socket::time::Instant;
+use smoltcp_socket::wire::{
+    ChecksumCapabilities, Icmpv4Repr, Icmpv6Repr, IpProtocol, IpRepr, Ipv4Repr, Ipv6Repr,
+};
+use smoltcp_socket::{Context, Socket};
+use sock_tcp::TsvalSource;
+
+// The longest errors, in bytes (RFC 1812, section 4.3.2.3; RFC 4443, section 2.4 c).
+const LONGEST_V4: usize = 576;
+
+const LONGEST_V6: usize = 1280;
+
+/// What nobody takes.
+#[derive(Clone, Copy)]
+pub enum Unmet {
+    /// A datagram to this port (RFC 1122, section 4.1.3.1; RFC 4443, section 3.1).
+    Port,
+    /// A packet of this protocol (RFC 1122, section 3.2.2.1). Over IPv6 that would be a parameter problem, which is not
+    /// among the messages that are written here.
+    Protocol,
+}
+
+// What an error quotes behind the header: as much as the longest error leaves.
+fn quoted_v4(bytes: &[u8], mtu: usize) -> &[u8]
+    ensures { result.now ≡ quoted_v4 bytes.now mtu }
+{
+    let room = mtu.min(LONGEST_V4).saturating_sub(48);
+    &bytes[..room.min(bytes.len())]
+}
+
+fn quoted_v6(bytes: &[u8], mtu: usize) -> &[u8]
+    ensures { result.now ≡ quoted_v6 bytes.now mtu }
+{
+    let room = mtu.min(LONGEST_V6).saturating_sub(88);
+    &bytes[..room.min(bytes.len())]
+}
+
+fn error_v4<'p>(reason: u8, ip: &Ipv4Repr, body: &'p [u8]) -> Mail<'p>
+    requires { length body.now ≤ 528 }
+    ensures { mail_of result ≡ error_v4 reason ip.now body.now }
+{
+    let header = Ipv4Repr {
+        src_addr: ip.dst_addr,
+        dst_addr: ip.src_addr,
+        next_header: IpProtocol::Icmp,
+        payload_len: 28 + body.len(),
+        hop_limit: 64,
+    };
+    let repr = Icmpv4Repr::DstUnreachable {
+        reason,
+        header: *ip,
+        body,
+    };
+    Mail::V4(header, repr)
+}
+
+fn error_v6<'p>(reason: u8, ip: &Ipv6Repr, body: &'p [u8]) -> Mail<'p>
+    requires { length body.now ≤ 1192 }
+    ensures { mail_of result ≡ error_v6 reason ip.now body.now }
+{
+    let header = Ipv6Repr {
+        src_addr: ip.dst_addr,
+        dst_addr: ip.src_addr,
+        next_header: IpProtocol::Icmpv6,
+        payload_len: 48 + body.len(),
+        hop_limit: 64,
+    };
+    let repr = Icmpv6Repr::DstUnreachable {
+        reason,
+        header: *ip,
+        body,
+    };
+    Mail::V6(header, repr)
+}
+
+// The error for a packet that nobody takes.
+fn error_of<'p>(unmet: Unmet, ip: &IpRepr, bytes: &'p [u8], mtu: usize) -> Option<Mail<'p>>
+    ensures { option_map mail_of result ≡ error_of unmet ip.now bytes.now mtu }
+{
+    match (unmet, ip) {
+        (Unmet::Port, IpRepr::Ipv4(ip)) => Some(error_v4(3, ip, quoted_v4(bytes, mtu))),
+        (Unmet::Protocol, IpRepr::Ipv4(ip)) => Some(error_v4(2, ip, quoted_v4(bytes, mtu))),
+        (Unmet::Port, IpRepr::Ipv6(ip)) => Some(error_v6(4, ip, quoted_v6(bytes, mtu))),
+        (Unmet::Protocol, IpRepr::Ipv6(_)) => None,
+    }
+}
+
+impl<'a, G: TsvalSource> Slot<'a, G> {
+    fn takes_raw(&self, ip: &IpRepr) -> bool
+        ensures { IsTrue result ↔ TakesRaw ip.now self.now }
+    {
+        match &self.socket {
+            Some(Socket::Raw(raw)) => raw.accepts(ip),
+            _ => false,
+        }
+    }
+}
+
+// Whether a raw socket takes the packet.
+fn some_raw<G: TsvalSource>(slots: &[Slot<'_, G>], ip: &IpRepr) -> bool
+    ensures { SomeRaw ip.now slots.now result }
+{
+    for slot in slots.iter() {
+        if slot.takes_raw(ip) {
+            return true;
+        }
+    }
+    false
+}
+
+// The error, for a packet to an own address that no raw socket takes.
+fn wanted<'p>(own: bool, raw: bool, error: Option<Mail<'p>>) -> Option<Mail<'p>>
+    ensures { option_map mail_of result ≡ wanted own raw (option_map mail_of error.entry) }
+{
+    if own && !raw { error } else { None }
+}
+
+// The error, where the limit allows it.
+fn within_limit<'p>(limit: &mut Limit, now: Instant, error: Option<Mail<'p>>) -> Option<Mail<'p>>
+    ensures told { option_map mail_of result ≡ told_within limit.old now (option_map mail_of error.entry) }
+    ensures limit { limit.new ≡ spent_for (option_map mail_of error.entry) limit.old now }
+{
+    match error {
+        None => None,
+        Some(mail) => if limit.take(now) { Some(mail) } else { None },
+    }
+}
+
+/// Tells the sender of a packet that nobody takes: writes the error at the beginning of `out`, and answers its length.
+/// 0 where the packet is not to an own address, a raw socket takes it, the limit allows no more, there is no such error,
+/// or it does not fit the MTU or the buffer.
+pub(crate) fn tell_sender<C: Context, G: TsvalSource>(
+    slots: &[Slot<'_, G>],
+    cx: &C,
+    limit: &mut Limit,
+    unmet: Unmet,
+    ip: &IpRepr,
+    bytes: &[u8],
+    out: &mut [u8],
+) -> usize
+    ensures within { result ≤ length out.old }
+    ensures told { TellsOf (C.facts cx.now) unmet ip.now bytes.now slots.now limit.old out.old result limit.new
+        out.new }
+{
+    let raw = some_raw(slots, ip);
+    let mtu = cx.ip_mtu();
+    let own = cx.has_ip_addr(ip.dst_addr());
+    let error = wanted(own, raw, error_of(unmet, ip, bytes, mtu));
+    let answer = within_limit(limit, cx.now(), error);
+    put_answer(&answer, mtu, out, &cx.checksum_caps())
+}
