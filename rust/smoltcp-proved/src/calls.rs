@@ -2,10 +2,11 @@
 //! "What C has to keep", cited below as "C.md":
 //!
 //! - *socket*: a socket is memory that `init` made, not moved, copied or written since. `Tcp::new`, `Udp::new` and so
-//!   on make it in memory that is borrowed for `'a`, the value is never copied, and nothing but the calls gets at the
-//!   memory before it ends.
+//!   on make it in memory that is borrowed for `'a`, or that is on the heap and the value's own; the value is never
+//!   copied, and nothing but the calls gets at the memory before it ends.
 //! - *one call*: of one socket one call runs at a time. A socket is not `Sync`, and no call takes a closure.
-//! - *buffers*: they are the socket's own, borrowed for `'a`, and by that overlap nothing that a call is given.
+//! - *buffers*: they are the socket's own, borrowed for `'a` or on the heap, and by that overlap nothing that a call is
+//!   given.
 //! - *bytes*: a pointer leads to memory of the length given. Both are those of one slice.
 //!
 //! A contract of `init` takes the memory and the buffers for good. That they are free again where a socket ends rests
@@ -18,6 +19,10 @@ use core::mem::MaybeUninit;
 use core::ptr::{NonNull, null};
 use core::slice;
 
+mod slots;
+use slots::Own;
+pub use slots::Slots;
+
 /// Memory for a TCP socket.
 #[repr(C, align(8))]
 pub struct Memory([MaybeUninit<u8>; ffi::TCP_SIZE]);
@@ -28,15 +33,17 @@ impl Memory {
     }
 }
 
-/// A buffer that is lent to a socket.
-struct Lent {
+/// A buffer of a socket.
+struct Buffer {
     at: NonNull<u8>,
     len: usize,
+    _own: Own<u8>,
 }
 
-impl Lent {
-    fn new(bytes: &mut [u8]) -> Lent {
-        Lent { at: NonNull::from(&mut *bytes).cast(), len: bytes.len() }
+impl Buffer {
+    fn new(bytes: Slots<'_, u8>) -> Buffer {
+        let (at, len, own) = bytes.taken();
+        Buffer { at, len, _own: own }
     }
 
     /// Where `len` bytes from a place on begin in this buffer: where they lie is in no contract, so it is tested. No
@@ -51,11 +58,12 @@ impl Lent {
     }
 }
 
-/// A TCP socket in memory that is borrowed for `'a`, as are its buffers.
+/// A TCP socket in memory that is borrowed for `'a`, as are its buffers, or in its own.
 pub struct Tcp<'a> {
     at: NonNull<u8>,
-    rx: Lent,
-    tx: Lent,
+    rx: Buffer,
+    tx: Buffer,
+    _own: Own<Memory>,
     borrowed: PhantomData<&'a mut [u8]>,
 }
 
@@ -120,16 +128,18 @@ pub use datagrams::*;
 
 impl<'a> Tcp<'a> {
     /// Makes a closed socket. The buffers have at most 2^30 bytes.
-    pub fn new(memory: &'a mut Memory, rx: &'a mut [u8], tx: &'a mut [u8]) -> Tcp<'a> {
+    pub fn new(memory: Slots<'a, Memory>, rx: Slots<'a, u8>, tx: Slots<'a, u8>) -> Tcp<'a> {
         assert!(ffi::sizes().tcp <= size_of::<Memory>(), "a library with larger sockets");
         assert!(rx.len() <= crate::LONGEST_BUFFER, "receiving buffer too large, cannot exceed 1 GiB");
         assert!(tx.len() <= crate::LONGEST_BUFFER, "transmitting buffer too large, cannot exceed 1 GiB");
-        let at = NonNull::from(memory).cast();
-        let made = Tcp { at, rx: Lent::new(rx), tx: Lent::new(tx), borrowed: PhantomData };
+        assert!(memory.len() == 1, "memory for one socket");
+        let (at, _, own) = memory.taken();
+        let (rx, tx) = (Buffer::new(rx), Buffer::new(tx));
+        let made = Tcp { at: at.cast(), rx, tx, _own: own, borrowed: PhantomData };
         let rx = ffi::Bytes { at: made.rx.at.as_ptr(), len: made.rx.len };
         let tx = ffi::Bytes { at: made.tx.at.as_ptr(), len: made.tx.len };
         // SAFETY: C.md: buffers, bytes. The memory has the size and the alignment of `struct smoltcp_tcp`, and holds no
-        // socket that is used: it is borrowed for 'a by this one alone. The lengths were tested.
+        // socket that is used: it is this one's alone, for 'a or for good. The lengths were tested.
         unsafe { ffi::smoltcp_tcp_init_checked(&mut made.handle(), rx, tx) };
         made
     }
@@ -267,16 +277,16 @@ pub fn reset(packet: &[u8], reply: &mut [u8]) -> i64 {
 #[cfg(test)]
 mod tests {
     extern crate std;
-    use super::Lent;
+    use super::{Buffer, Slots};
     use crate::ffi::Place;
 
     /// Whether `len` bytes that begin so far behind a buffer's beginning are found in it, which has ten.
     fn found(behind: isize, len: usize) -> bool {
         let mut bytes = [0; 10];
-        let lent = Lent::new(&mut bytes);
-        let place = Place { at: lent.at.as_ptr().wrapping_offset(behind), len };
-        let start = std::panic::catch_unwind(|| Lent { at: lent.at, len: lent.len }.find(&place, len));
-        start.is_ok_and(|start| len == 0 || start == behind as usize)
+        let buffer = Buffer::new(Slots::Lent(&mut bytes));
+        let place = Place { at: buffer.at.as_ptr().wrapping_offset(behind), len };
+        let find = std::panic::AssertUnwindSafe(|| buffer.find(&place, len));
+        std::panic::catch_unwind(find).is_ok_and(|start| len == 0 || start == behind as usize)
     }
 
     #[test]

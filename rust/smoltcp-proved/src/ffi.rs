@@ -109,6 +109,8 @@ pub const ERROR_STATE: i64 = -1;
 pub const ERROR_ADDRESS: i64 = -2;
 pub const ERROR_FINISHED: i64 = -3;
 pub const ERROR_ROOM: i64 = -6;
+pub const NOT_ACCEPTED: i64 = -8;
+pub const ERROR_EMPTY: i64 = -11;
 
 /// The sizes of `struct smoltcp_tcp`, `struct smoltcp_udp`, `struct smoltcp_udp_place` and so on in bytes.
 pub const TCP_SIZE: usize = 512;

@@ -95,6 +95,8 @@
 #![no_std]
 #![deny(missing_docs, unsafe_code, unsafe_op_in_unsafe_fn, clippy::undocumented_unsafe_blocks)]
 
+#[cfg(feature = "alloc")]
+extern crate alloc;
 #[cfg(feature = "std")]
 extern crate std;
 
@@ -104,9 +106,12 @@ mod context;
 #[allow(unsafe_code)]
 mod ffi;
 mod numbers;
+mod room;
+mod wakers;
 
 pub mod icmp;
 pub mod raw;
+pub mod socket;
 pub mod tcp;
 pub mod time;
 pub mod udp;

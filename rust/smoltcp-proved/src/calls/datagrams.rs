@@ -1,4 +1,5 @@
 //! The calls of UDP, raw and ICMP sockets. What they ask of a caller is cited as in `calls`.
+use super::{Own, Slots};
 use crate::ffi;
 use core::marker::PhantomData;
 use core::mem::MaybeUninit;
@@ -29,32 +30,36 @@ macro_rules! queue_memory {
 
         /// The memory of a queue.
         pub struct $buffer<'a> {
-            places: &'a mut [$place],
-            bytes: &'a mut [u8],
+            places: Slots<'a, $place>,
+            bytes: Slots<'a, u8>,
         }
 
         impl<'a> $buffer<'a> {
             /// At most 2^30 places, and as many bytes.
-            pub fn new(places: &'a mut [$place], bytes: &'a mut [u8]) -> $buffer<'a> {
+            pub fn new(places: Slots<'a, $place>, bytes: Slots<'a, u8>) -> $buffer<'a> {
                 assert!(places.len() <= crate::LONGEST_BUFFER, "more than 2^30 places");
                 assert!(bytes.len() <= crate::LONGEST_BUFFER, "more than 2^30 bytes");
                 $buffer { places, bytes }
             }
 
-            /// What the library is handed of it: each place is made before.
-            fn lent(self) -> (ffi::Places, ffi::Bytes) {
-                for place in self.places.iter_mut() {
+            /// What the library is handed of it, and what frees it: each place is made before.
+            fn taken(mut self) -> (ffi::Places, ffi::Bytes, OwnQueue<$place>) {
+                for place in self.places.items() {
                     let at = NonNull::from(place).cast().as_ptr();
-                    // SAFETY: the memory has the size and the alignment of a place, and is borrowed.
+                    // SAFETY: the memory has the size and the alignment of a place, and is this queue's alone.
                     unsafe { ffi::$make(&mut ffi::$handle { at }) };
                 }
-                let (places, bytes) = (self.places.as_mut_ptr().cast(), self.bytes.as_mut_ptr());
-                let places = ffi::Places { at: places, len: self.places.len() };
-                (places, ffi::Bytes { at: bytes, len: self.bytes.len() })
+                let (places, count, own_places) = self.places.taken();
+                let (bytes, len, own_bytes) = self.bytes.taken();
+                let places = ffi::Places { at: places.cast().as_ptr(), len: count };
+                (places, ffi::Bytes { at: bytes.as_ptr(), len }, (own_places, own_bytes))
             }
         }
     };
 }
+
+/// What frees the places and the bytes of a queue.
+type OwnQueue<P> = (Own<P>, Own<u8>);
 
 queue_memory!(UdpMemory, UdpPlace, UdpBuffer, UdpHandle, UDP_SIZE, UDP_PLACE_SIZE, smoltcp_udp_place_checked);
 
@@ -70,9 +75,10 @@ queue_memory!(
     smoltcp_icmp_place_checked
 );
 
-/// A UDP socket in memory that is borrowed for `'a`, as are its buffers.
+/// A UDP socket in memory that is borrowed for `'a`, as are its buffers, or in its own.
 pub struct Udp<'a> {
     at: NonNull<u8>,
+    _own: (Own<UdpMemory>, OwnQueue<UdpPlace>, OwnQueue<UdpPlace>),
     borrowed: PhantomData<&'a mut [u8]>,
 }
 
@@ -81,14 +87,16 @@ unsafe impl Send for Udp<'_> {}
 
 impl<'a> Udp<'a> {
     /// Makes a socket that is not open.
-    pub fn new(memory: &'a mut UdpMemory, rx: UdpBuffer<'a>, tx: UdpBuffer<'a>) -> Udp<'a> {
+    pub fn new(memory: Slots<'a, UdpMemory>, rx: UdpBuffer<'a>, tx: UdpBuffer<'a>) -> Udp<'a> {
         assert!(ffi::sizes().udp <= size_of::<UdpMemory>(), "a library with larger sockets");
         assert!(ffi::sizes().udp_place == size_of::<UdpPlace>(), "a library with other places");
-        let made = Udp { at: NonNull::from(memory).cast(), borrowed: PhantomData };
-        let ((rx_places, rx), (tx_places, tx)) = (rx.lent(), tx.lent());
+        assert!(memory.len() == 1, "memory for one socket");
+        let (at, _, own) = memory.taken();
+        let ((rx_places, rx, own_rx), (tx_places, tx, own_tx)) = (rx.taken(), tx.taken());
+        let made = Udp { at: at.cast(), _own: (own, own_rx, own_tx), borrowed: PhantomData };
         // SAFETY: C.md: buffers, bytes. The memory has the size and the alignment of `struct smoltcp_udp`, and holds no
-        // socket that is used: it is borrowed for 'a by this one alone. The lengths were tested, and `lent` made the
-        // places.
+        // socket that is used: it is this one's alone, for 'a or for good. The lengths were tested, and `taken` made
+        // the places.
         unsafe { ffi::smoltcp_udp_init_checked(rx_places, rx, tx_places, tx, &mut made.handle()) };
         made
     }
@@ -164,9 +172,10 @@ impl<'a> Udp<'a> {
     }
 }
 
-/// A raw socket in memory that is borrowed for `'a`, as are its buffers.
+/// A raw socket in memory that is borrowed for `'a`, as are its buffers, or in its own.
 pub struct Raw<'a> {
     at: NonNull<u8>,
+    _own: (Own<RawMemory>, OwnQueue<RawPlace>, OwnQueue<RawPlace>),
     borrowed: PhantomData<&'a mut [u8]>,
 }
 
@@ -176,18 +185,20 @@ unsafe impl Send for Raw<'_> {}
 impl<'a> Raw<'a> {
     /// Makes a socket for the packets of the filter, whose version is 0, 4 or 6.
     pub fn new(
-        memory: &'a mut RawMemory,
+        memory: Slots<'a, RawMemory>,
         filter: &ffi::RawFilter,
         rx: RawBuffer<'a>,
         tx: RawBuffer<'a>,
     ) -> Raw<'a> {
         assert!(ffi::sizes().raw <= size_of::<RawMemory>(), "a library with larger sockets");
         assert!(ffi::sizes().raw_place == size_of::<RawPlace>(), "a library with other places");
-        let made = Raw { at: NonNull::from(memory).cast(), borrowed: PhantomData };
-        let ((rx_places, rx), (tx_places, tx)) = (rx.lent(), tx.lent());
+        assert!(memory.len() == 1, "memory for one socket");
+        let (at, _, own) = memory.taken();
+        let ((rx_places, rx, own_rx), (tx_places, tx, own_tx)) = (rx.taken(), tx.taken());
+        let made = Raw { at: at.cast(), _own: (own, own_rx, own_tx), borrowed: PhantomData };
         // SAFETY: C.md: buffers, bytes. The memory has the size and the alignment of `struct smoltcp_raw`, and holds no
-        // socket that is used: it is borrowed for 'a by this one alone. The lengths were tested, and `lent` made the
-        // places.
+        // socket that is used: it is this one's alone, for 'a or for good. The lengths were tested, and `taken` made
+        // the places.
         let answer = unsafe {
             ffi::smoltcp_raw_init_checked(rx_places, rx, tx_places, tx, filter, &mut made.handle())
         };
@@ -249,9 +260,10 @@ impl<'a> Raw<'a> {
     }
 }
 
-/// An ICMP socket in memory that is borrowed for `'a`, as are its buffers.
+/// An ICMP socket in memory that is borrowed for `'a`, as are its buffers, or in its own.
 pub struct Icmp<'a> {
     at: NonNull<u8>,
+    _own: (Own<IcmpMemory>, OwnQueue<IcmpPlace>, OwnQueue<IcmpPlace>),
     borrowed: PhantomData<&'a mut [u8]>,
 }
 
@@ -260,14 +272,16 @@ unsafe impl Send for Icmp<'_> {}
 
 impl<'a> Icmp<'a> {
     /// Makes a socket that is not open.
-    pub fn new(memory: &'a mut IcmpMemory, rx: IcmpBuffer<'a>, tx: IcmpBuffer<'a>) -> Icmp<'a> {
+    pub fn new(memory: Slots<'a, IcmpMemory>, rx: IcmpBuffer<'a>, tx: IcmpBuffer<'a>) -> Icmp<'a> {
         assert!(ffi::sizes().icmp <= size_of::<IcmpMemory>(), "a library with larger sockets");
         assert!(ffi::sizes().icmp_place == size_of::<IcmpPlace>(), "a library with other places");
-        let made = Icmp { at: NonNull::from(memory).cast(), borrowed: PhantomData };
-        let ((rx_places, rx), (tx_places, tx)) = (rx.lent(), tx.lent());
+        assert!(memory.len() == 1, "memory for one socket");
+        let (at, _, own) = memory.taken();
+        let ((rx_places, rx, own_rx), (tx_places, tx, own_tx)) = (rx.taken(), tx.taken());
+        let made = Icmp { at: at.cast(), _own: (own, own_rx, own_tx), borrowed: PhantomData };
         // SAFETY: C.md: buffers, bytes. The memory has the size and the alignment of `struct smoltcp_icmp`, and holds
-        // no socket that is used: it is borrowed for 'a by this one alone. The lengths were tested, and `lent` made the
-        // places.
+        // no socket that is used: it is this one's alone, for 'a or for good. The lengths were tested, and `taken` made
+        // the places.
         unsafe { ffi::smoltcp_icmp_init_checked(rx_places, rx, tx_places, tx, &mut made.handle()) };
         made
     }
