@@ -3,7 +3,7 @@ use smoltcp_proved::wire::{
     Error, Icmpv4DstUnreachable, Icmpv4Repr, Icmpv4TimeExceeded, Icmpv6DstUnreachable, Icmpv6ParamProblem,
     Icmpv6Repr, Icmpv6TimeExceeded, IpAddress, IpProtocol, Ipv4Address, Ipv4Repr, Ipv6Address, Ipv6Repr,
 };
-use smoltcp_proved::{Context, icmp};
+use smoltcp_proved::{Context, NotAccepted, icmp};
 
 /// A request whose checksum was worked out by hand: the sum of its words is 0x7101.
 const ECHO: [u8; 12] = [0x08, 0x00, 0x8e, 0xfe, 0x12, 0x34, 0xab, 0xcd, 0xaa, 0x00, 0x00, 0xff];
@@ -238,4 +238,15 @@ fn as_the_library_has_them() {
     let mut bytes = [0; 100];
     let (len, from) = socket.recv_slice(&mut bytes).expect("a message");
     assert_eq!((Icmpv4Repr::parse(&bytes[..len]), from), (Ok(error), IpAddress::Ipv4(B4)));
+    // and over IPv6, where a wrong checksum is not taken
+    let [_, _, error, ..] = messages_v6();
+    let len = 40 + error.buffer_len();
+    let (next_header, payload_len) = (IpProtocol::Icmpv6, error.buffer_len());
+    Ipv6Repr { src_addr: B6, dst_addr: A6, next_header, payload_len, hop_limit: 64 }.emit(&mut packet);
+    error.emit_unsummed(&mut packet[40..]);
+    assert_eq!(socket.process(&cx, &packet[..len]), Err(NotAccepted));
+    error.emit(&B6, &A6, &mut packet[40..]);
+    assert_eq!(socket.process(&cx, &packet[..len]), Ok(()));
+    let (len, from) = socket.recv_slice(&mut bytes).expect("a message");
+    assert_eq!((Icmpv6Repr::parse_unsummed(&bytes[..len]), from), (Ok(error), IpAddress::Ipv6(B6)));
 }
