@@ -188,7 +188,8 @@ impl<'a> Socket<'a> {
     /// is said behind `f`.
     ///
     /// # Panics
-    /// Where `f` answers more bytes than it was lent, as in smoltcp; nothing is sent then.
+    /// Where `f` answers more bytes than it was lent, as in smoltcp; without the feature `alloc`, where no room was
+    /// lent. Nothing is sent then.
     pub fn send_with<F>(&mut self, max_size: usize, f: F) -> Result<usize, SendError>
     where
         F: FnOnce(&mut [u8]) -> usize,
@@ -196,17 +197,15 @@ impl<'a> Socket<'a> {
         if !self.can_send() || max_size > self.payload_send_capacity() {
             return Err(SendError::BufferFull);
         }
-        let room = self.room.of(max_size);
-        if room.len() < max_size {
-            return Err(SendError::BufferFull);
-        }
-        let size = f(room);
-        assert!(size <= max_size, "more bytes sent than there is room for");
-        sent(self.calls.send(&room[..size])).map(|()| size)
+        let bytes = self.room.written(max_size, f).ok_or(SendError::BufferFull)?;
+        sent(self.calls.send(bytes)).map(|()| bytes.len())
     }
 
     /// Takes the first packet, which lies in the socket's room ([`lend_room`](Socket::lend_room)) then. Where it finds
     /// no room there, it is lost, as with [`recv_slice`](Socket::recv_slice); room of the heap is long enough for all.
+    ///
+    /// # Panics
+    /// Without the feature `alloc`, where no room was lent.
     pub fn recv(&mut self) -> Result<&[u8], RecvError> {
         let most = self.payload_recv_capacity().min(LONGEST_PACKET);
         let room = self.room.of(most);

@@ -43,4 +43,15 @@ impl<'a> Room<'a> {
             }
         }
     }
+
+    /// What `f` writes into so many bytes: the first of them, as many as it answers. None where the room has fewer.
+    pub fn written(&mut self, max_size: usize, f: impl FnOnce(&mut [u8]) -> usize) -> Option<&[u8]> {
+        let room = self.of(max_size);
+        if room.len() < max_size {
+            return None;
+        }
+        let size = f(room);
+        assert!(size <= max_size, "more bytes sent than there is room for");
+        Some(&room[..size])
+    }
 }

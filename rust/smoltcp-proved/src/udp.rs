@@ -228,7 +228,8 @@ impl<'a> Socket<'a> {
     /// that is said behind `f`.
     ///
     /// # Panics
-    /// Where `f` answers more bytes than it was lent, as in smoltcp; nothing is sent then.
+    /// Where `f` answers more bytes than it was lent, as in smoltcp; without the feature `alloc`, where no room was
+    /// lent. Nothing is sent then.
     pub fn send_with<F>(
         &mut self,
         max_size: usize,
@@ -245,18 +246,16 @@ impl<'a> Socket<'a> {
         if !self.can_send() || max_size > self.payload_send_capacity() {
             return Err(SendError::BufferFull);
         }
-        let room = self.room.of(max_size);
-        if room.len() < max_size {
-            return Err(SendError::BufferFull);
-        }
-        let size = f(room);
-        assert!(size <= max_size, "more bytes sent than there is room for");
-        sent(self.calls.send(&meta_of(meta), &room[..size])).map(|()| size)
+        let bytes = self.room.written(max_size, f).ok_or(SendError::BufferFull)?;
+        sent(self.calls.send(&meta_of(meta), bytes)).map(|()| bytes.len())
     }
 
     /// Takes the first datagram, which lies in the socket's room ([`lend_room`](Socket::lend_room)) then, and where it
     /// came from. Where it finds no room there, it is lost, as with [`recv_slice`](Socket::recv_slice); room of the
     /// heap is long enough for all.
+    ///
+    /// # Panics
+    /// Without the feature `alloc`, where no room was lent.
     pub fn recv(&mut self) -> Result<(&[u8], UdpMetadata), RecvError> {
         let most = self.payload_recv_capacity().min(LONGEST_PACKET);
         let (room, mut from) = (self.room.of(most), ffi::UdpMetadata::default());
