@@ -129,7 +129,7 @@ impl Default for Memory {
 /// A place of a queue: a message takes one.
 pub use crate::calls::IcmpPlace as PacketMetadata;
 
-/// A queue of messages over borrowed places and bytes.
+/// A queue of messages over borrowed places and bytes, or its own.
 pub struct PacketBuffer<'a>(calls::IcmpBuffer<'a>);
 
 impl<'a> PacketBuffer<'a> {
@@ -153,8 +153,8 @@ impl<'a> PacketBuffer<'a> {
     }
 }
 
-/// An ICMP socket in borrowed memory, over two borrowed queues. The value may be moved: it is a reference to the
-/// socket.
+/// An ICMP socket in borrowed memory, over two borrowed queues, or in its own (`owned`, behind the feature `alloc`).
+/// The value may be moved: it is a reference to the socket.
 pub struct Socket<'a> {
     calls: Icmp<'a>,
     room: Room<'a>,

@@ -5,6 +5,9 @@
 //! A socket borrows its memory and its two buffers, takes IP packets as bytes by `process`, and emits them by
 //! `dispatch`. There is no interface layer, no heap, no clock: the program that calls has them.
 //!
+//! Features, of which none is on: `alloc`, sockets and queues that own their memory (`tcp::Socket::owned`), and room of
+//! the heap for datagrams in place; `std`, that and moments of the system's clocks.
+//!
 //! ```
 //! use smoltcp_proved::{Context, tcp, wire::IpAddress};
 //!

@@ -48,7 +48,7 @@ impl Default for Memory {
 /// A place of a queue: a packet takes one.
 pub use crate::calls::RawPlace as PacketMetadata;
 
-/// A queue of packets over borrowed places and bytes.
+/// A queue of packets over borrowed places and bytes, or its own.
 pub struct PacketBuffer<'a>(calls::RawBuffer<'a>);
 
 impl<'a> PacketBuffer<'a> {
@@ -72,7 +72,8 @@ impl<'a> PacketBuffer<'a> {
     }
 }
 
-/// A raw socket in borrowed memory, over two borrowed queues. The value may be moved: it is a reference to the socket.
+/// A raw socket in borrowed memory, over two borrowed queues, or in its own (`owned`, behind the feature `alloc`). The
+/// value may be moved: it is a reference to the socket.
 pub struct Socket<'a> {
     calls: Raw<'a>,
     room: Room<'a>,

@@ -49,10 +49,11 @@ impl Default for Memory {
     }
 }
 
-/// A TCP socket in borrowed memory, over two borrowed buffers. The value may be moved: it is a reference to the socket.
-/// It is `Send`, as the library has no data of its own nor of a thread, and not `Sync`, as of one socket one call runs
-/// at a time. Nothing has to be done where it ends: the library keeps nothing of it. That a connection ends is not part
-/// of that: call [`close`](Socket::close) or [`abort`](Socket::abort), and dispatch, before.
+/// A TCP socket in borrowed memory, over two borrowed buffers, or in memory of its own (`owned`, behind the feature
+/// `alloc`). The value may be moved: it is a reference to the socket. It is `Send`, as the library has no data of its
+/// own nor of a thread, and not `Sync`, as of one socket one call runs at a time. Nothing has to be done where it ends:
+/// the library keeps nothing of it. That a connection ends is not part of that: call [`close`](Socket::close) or
+/// [`abort`](Socket::abort), and dispatch, before.
 pub struct Socket<'a> {
     calls: Tcp<'a>,
     wakers: Wakers,

@@ -77,7 +77,7 @@ impl Default for Memory {
 /// A place of a queue: a datagram takes one.
 pub use crate::calls::UdpPlace as PacketMetadata;
 
-/// A queue of datagrams over borrowed places and bytes.
+/// A queue of datagrams over borrowed places and bytes, or its own.
 pub struct PacketBuffer<'a>(calls::UdpBuffer<'a>);
 
 impl<'a> PacketBuffer<'a> {
@@ -101,7 +101,8 @@ impl<'a> PacketBuffer<'a> {
     }
 }
 
-/// A UDP socket in borrowed memory, over two borrowed queues. The value may be moved: it is a reference to the socket.
+/// A UDP socket in borrowed memory, over two borrowed queues, or in its own (`owned`, behind the feature `alloc`). The
+/// value may be moved: it is a reference to the socket.
 pub struct Socket<'a> {
     calls: Udp<'a>,
     room: Room<'a>,
