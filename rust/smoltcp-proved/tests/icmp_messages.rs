@@ -24,6 +24,9 @@ fn header_v6() -> Ipv6Repr {
 
 const QUOTED: [u8; 8] = [0xc0, 0x00, 0, 53, 0, 8, 0, 0];
 
+/// Over IPv6 a datagram has a checksum (RFC 8200, section 8.1): the sum without it is 0xba5b.
+const QUOTED_V6: [u8; 8] = [0xc0, 0x00, 0, 53, 0, 8, 0x45, 0xa4];
+
 fn messages_v4() -> [Icmpv4Repr<'static>; 4] {
     let header = header_v4();
     [
@@ -35,7 +38,7 @@ fn messages_v4() -> [Icmpv4Repr<'static>; 4] {
 }
 
 fn messages_v6() -> [Icmpv6Repr<'static>; 6] {
-    let (header, data) = (header_v6(), &QUOTED);
+    let (header, data) = (header_v6(), &QUOTED_V6);
     [
         Icmpv6Repr::EchoRequest { ident: 7, seq_no: 1, data: b"ping" },
         Icmpv6Repr::EchoReply { ident: 7, seq_no: 1, data: b"" },
