@@ -5,7 +5,7 @@ use crate::numbers::{count_in, flag_in, not_in_contract};
 use crate::room::{LONGEST_PACKET, Room};
 use crate::tcp::poll_in;
 use crate::wakers::{Wakers, registers};
-use crate::wire::IpVersion;
+use crate::wire::{IpProtocol, IpVersion};
 use crate::{Context, NotAccepted, PollAt, TooShort, ffi};
 #[cfg(feature = "alloc")]
 use alloc::vec::Vec;
@@ -81,12 +81,12 @@ pub struct Socket<'a> {
 }
 
 impl<'a> Socket<'a> {
-    /// Makes a socket for the packets of this version of IP, or of both, and of the protocol with this number, or of
-    /// any. (smoltcp has two buffers, and no memory; and names for protocols.)
+    /// Makes a socket for the packets of this version of IP, or of both, and of this protocol, or of any. (smoltcp has
+    /// two buffers, and no memory.)
     pub fn new(
         memory: &'a mut Memory,
         ip_version: Option<IpVersion>,
-        ip_protocol: Option<u8>,
+        ip_protocol: Option<IpProtocol>,
         rx: PacketBuffer<'a>,
         tx: PacketBuffer<'a>,
     ) -> Socket<'a> {
@@ -99,7 +99,7 @@ impl<'a> Socket<'a> {
     #[cfg(feature = "alloc")]
     pub fn owned(
         ip_version: Option<IpVersion>,
-        ip_protocol: Option<u8>,
+        ip_protocol: Option<IpProtocol>,
         rx: PacketBuffer<'a>,
         tx: PacketBuffer<'a>,
     ) -> Socket<'a> {
@@ -128,11 +128,11 @@ impl<'a> Socket<'a> {
         }
     }
 
-    /// The number of the protocol of the socket's packets; none for any.
-    pub fn ip_protocol(&self) -> Option<u8> {
+    /// The protocol of the socket's packets; none for any.
+    pub fn ip_protocol(&self) -> Option<IpProtocol> {
         match self.calls.ip_protocol() {
             ANY_PROTOCOL => None,
-            answer => Some(u8::try_from(answer).unwrap_or_else(|_| not_in_contract(answer))),
+            answer => Some(u8::try_from(answer).unwrap_or_else(|_| not_in_contract(answer)).into()),
         }
     }
 
@@ -293,13 +293,13 @@ fn copied(answer: i64) -> Result<usize, RecvError> {
 /// What a socket answers that takes packets of any protocol.
 const ANY_PROTOCOL: i64 = 256;
 
-fn filter_of(ip_version: Option<IpVersion>, ip_protocol: Option<u8>) -> ffi::RawFilter {
+fn filter_of(ip_version: Option<IpVersion>, ip_protocol: Option<IpProtocol>) -> ffi::RawFilter {
     let version = match ip_version {
         None => 0,
         Some(IpVersion::Ipv4) => 4,
         Some(IpVersion::Ipv6) => 6,
     };
-    let (any_protocol, protocol) = (u8::from(ip_protocol.is_none()), ip_protocol.unwrap_or(0));
+    let (any_protocol, protocol) = (u8::from(ip_protocol.is_none()), ip_protocol.map_or(0, u8::from));
     ffi::RawFilter { version, any_protocol, protocol }
 }
 

@@ -107,7 +107,7 @@ fn messages() {
 
 #[test]
 fn packets() {
-    socket!(raw, socket(None, Some(IpProtocol::Unknown(200).into())), m);
+    socket!(raw, socket(None, Some(IpProtocol::Unknown(200))), m);
     let mut room = [0; 100];
     socket.lend_room(&mut room);
     let (src_addr, dst_addr) = ([10, 0, 0, 1].into(), [10, 0, 0, 2].into());
