@@ -309,6 +309,21 @@ impl<'a> Socket<'a> {
     /// came from. Where it finds no room there, it is lost, as with [`recv_slice`](Socket::recv_slice); room of the
     /// heap is long enough for all.
     ///
+    /// ```
+    /// use smoltcp_proved::icmp::Socket;
+    /// use smoltcp_proved::wire::{Icmpv4Repr, IpAddress};
+    ///
+    /// /// Who has answered which request.
+    /// fn answered(socket: &mut Socket) -> Option<(IpAddress, u16)> {
+    ///     let (message, from) = socket.recv().ok()?;
+    ///     match Icmpv4Repr::parse_unsummed(message) {
+    ///         Ok(Icmpv4Repr::EchoReply { seq_no, .. }) => Some((from, seq_no)),
+    ///         _ => None,
+    ///     }
+    /// }
+    /// # let _ = answered;
+    /// ```
+    ///
     /// # Panics
     /// Without the feature `alloc`, where no room was lent.
     pub fn recv(&mut self) -> Result<(&[u8], IpAddress), RecvError> {

@@ -12,6 +12,7 @@
 //! }
 //! assert!(matches!(&sockets[0], Socket::Tcp(socket) if socket.is_listening()));
 //! ```
+use crate::{Context, DispatchError, NotAccepted, PollAt, TooShort, Words};
 pub use crate::{icmp, raw, tcp, udp};
 
 /// A socket of any kind.
@@ -25,6 +26,49 @@ pub enum Socket<'a> {
     Udp(udp::Socket<'a>),
     /// Of a connection.
     Tcp(tcp::Socket<'a>),
+}
+
+/// The calls that each kind has, and with which a host serves all of its sockets.
+impl Socket<'_> {
+    /// Takes an IP packet, where it is for the socket, and answers the length of the one that answers it, at the
+    /// beginning of `reply`: only a TCP socket has one.
+    ///
+    /// # Panics
+    /// Where the socket is of TCP and `reply` has less than [`REPLY_LEN`](tcp::REPLY_LEN) bytes; nothing has changed
+    /// then.
+    pub fn process<W: Words>(
+        &mut self,
+        cx: &mut Context<W>,
+        packet: &[u8],
+        reply: &mut [u8],
+    ) -> Result<Option<usize>, NotAccepted> {
+        match self {
+            Socket::Raw(socket) => socket.process(cx, packet).map(|()| None),
+            Socket::Icmp(socket) => socket.process(cx, packet).map(|()| None),
+            Socket::Udp(socket) => socket.process(cx, packet).map(|()| None),
+            Socket::Tcp(socket) => socket.process(cx, packet, reply),
+        }
+    }
+
+    /// Writes the packet that is due to the beginning of `out`, and answers its length, if one is.
+    pub fn dispatch<W>(&mut self, cx: &Context<W>, out: &mut [u8]) -> Result<Option<usize>, DispatchError> {
+        match self {
+            Socket::Raw(socket) => socket.dispatch(cx, out).map_err(|TooShort| DispatchError::TooShort),
+            Socket::Icmp(socket) => socket.dispatch(cx, out),
+            Socket::Udp(socket) => socket.dispatch(cx, out),
+            Socket::Tcp(socket) => socket.dispatch(cx, out).map_err(|TooShort| DispatchError::TooShort),
+        }
+    }
+
+    /// When the next `dispatch` is wanted.
+    pub fn poll_at<W>(&self, cx: &Context<W>) -> PollAt {
+        match self {
+            Socket::Raw(socket) => socket.poll_at(cx),
+            Socket::Icmp(socket) => socket.poll_at(cx),
+            Socket::Udp(socket) => socket.poll_at(cx),
+            Socket::Tcp(socket) => socket.poll_at(cx),
+        }
+    }
 }
 
 /// A kind of socket, or a socket of any kind, as smoltcp's.

@@ -35,6 +35,7 @@ fn datagrams() {
     for size in [101, usize::MAX] {
         assert_eq!(a.send_with(size, (B, 53), |_| panic!("written")), Err(SendError::BufferFull));
     }
+    assert_eq!(b.send_with(13, (A, 53), |_| panic!("written")), Err(SendError::BufferFull)); // b's room has 12
     let other = UdpMetadata { endpoint: (B, 53).into(), local_address: Some(Ipv6Address::LOCALHOST.into()) };
     assert_eq!(a.send_with(5, other, |bytes| bytes.len()), Err(SendError::Unaddressable));
     // as many bytes as the closure answers, of those that it was lent
