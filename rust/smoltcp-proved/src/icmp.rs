@@ -5,6 +5,7 @@ use crate::numbers::{
     address_of, address_told, count_in, done, flag_in, hop_limit_in, hop_limit_of, listen_of, not_in_contract,
 };
 use crate::room::{LONGEST_PACKET, Room};
+use crate::shown::shown;
 use crate::tcp::poll_in;
 use crate::wakers::{Wakers, registers};
 use crate::wire::{IpAddress, IpListenEndpoint};
@@ -125,6 +126,8 @@ impl Default for Memory {
         Memory::new()
     }
 }
+
+shown!();
 
 /// A place of a queue: a message takes one.
 pub use crate::calls::IcmpPlace as PacketMetadata;

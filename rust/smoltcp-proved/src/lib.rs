@@ -96,7 +96,13 @@
 //! sent(Socket::new(&mut memory, &mut rx, &mut tx));
 //! ```
 #![no_std]
-#![deny(missing_docs, unsafe_code, unsafe_op_in_unsafe_fn, clippy::undocumented_unsafe_blocks)]
+#![deny(
+    missing_docs,
+    missing_debug_implementations,
+    unsafe_code,
+    unsafe_op_in_unsafe_fn,
+    clippy::undocumented_unsafe_blocks
+)]
 
 #[cfg(feature = "alloc")]
 extern crate alloc;
@@ -110,6 +116,7 @@ mod context;
 mod ffi;
 mod numbers;
 mod room;
+mod shown;
 mod wakers;
 
 pub mod icmp;

@@ -3,6 +3,7 @@
 use crate::calls::{self, Raw, Slots};
 use crate::numbers::{count_in, flag_in, not_in_contract};
 use crate::room::{LONGEST_PACKET, Room};
+use crate::shown::shown;
 use crate::tcp::poll_in;
 use crate::wakers::{Wakers, registers};
 use crate::wire::{IpProtocol, IpVersion};
@@ -44,6 +45,8 @@ impl Default for Memory {
         Memory::new()
     }
 }
+
+shown!();
 
 /// A place of a queue: a packet takes one.
 pub use crate::calls::RawPlace as PacketMetadata;

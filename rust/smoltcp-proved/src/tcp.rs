@@ -49,6 +49,12 @@ impl Default for Memory {
     }
 }
 
+impl fmt::Debug for Memory {
+    fn fmt(&self, f: &mut fmt::Formatter<'_>) -> fmt::Result {
+        f.debug_struct("Memory").finish_non_exhaustive()
+    }
+}
+
 /// A TCP socket in borrowed memory, over two borrowed buffers, or in memory of its own (`owned`, behind the feature
 /// `alloc`). The value may be moved: it is a reference to the socket. It is `Send`, as the library has no data of its
 /// own nor of a thread, and not `Sync`, as of one socket one call runs at a time. Nothing has to be done where it ends:

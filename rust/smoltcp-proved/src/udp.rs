@@ -5,6 +5,7 @@ use crate::numbers::{
     listen_in, listen_of, not_in_contract,
 };
 use crate::room::{LONGEST_PACKET, Room};
+use crate::shown::shown;
 use crate::tcp::poll_in;
 use crate::wakers::{Wakers, registers};
 use crate::wire::{IpAddress, IpEndpoint, IpListenEndpoint};
@@ -73,6 +74,8 @@ impl Default for Memory {
         Memory::new()
     }
 }
+
+shown!();
 
 /// A place of a queue: a datagram takes one.
 pub use crate::calls::UdpPlace as PacketMetadata;

@@ -120,3 +120,11 @@ fn half_of_it() {
     let socket = udp::Socket::new(&mut memory, owned(), owned());
     assert_eq!(socket.packet_recv_capacity(), 8);
 }
+
+#[test]
+fn shown() {
+    let queue = || udp::PacketBuffer::owned(vec![udp::PacketMetadata::EMPTY; 8], vec![0; 1024]);
+    assert_eq!(format!("{:?}", queue()), "PacketBuffer { places: 8, bytes: 1024 }");
+    assert_eq!(format!("{:?}", udp::PacketMetadata::EMPTY), "PacketMetadata { .. }");
+    assert!(format!("{:?}", udp::Socket::owned(queue(), queue())).starts_with("Socket { endpoint: "));
+}

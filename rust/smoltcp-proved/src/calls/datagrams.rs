@@ -1,6 +1,7 @@
 //! The calls of UDP, raw and ICMP sockets. What they ask of a caller is cited as in `calls`.
 use super::{Own, Slots};
 use crate::ffi;
+use core::fmt;
 use core::marker::PhantomData;
 use core::mem::MaybeUninit;
 use core::ptr::NonNull;
@@ -28,6 +29,12 @@ macro_rules! queue_memory {
             pub const EMPTY: $place = $place([MaybeUninit::uninit(); ffi::$place_size]);
         }
 
+        impl fmt::Debug for $place {
+            fn fmt(&self, f: &mut fmt::Formatter<'_>) -> fmt::Result {
+                f.debug_struct("PacketMetadata").finish_non_exhaustive()
+            }
+        }
+
         /// The memory of a queue.
         pub struct $buffer<'a> {
             places: Slots<'a, $place>,
@@ -40,6 +47,11 @@ macro_rules! queue_memory {
                 assert!(places.len() <= crate::LONGEST_BUFFER, "more than 2^30 places");
                 assert!(bytes.len() <= crate::LONGEST_BUFFER, "more than 2^30 bytes");
                 $buffer { places, bytes }
+            }
+
+            /// How many places and bytes it has.
+            pub fn counts(&self) -> (usize, usize) {
+                (self.places.len(), self.bytes.len())
             }
 
             /// What the library is handed of it, and what frees it: each place is made before.
