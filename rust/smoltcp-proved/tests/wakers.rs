@@ -2,11 +2,15 @@
 mod common;
 use common::*;
 use smoltcp_proved::tcp::{ListenError, Memory, Socket, State};
+use smoltcp_proved::time::Duration;
 use smoltcp_proved::wire::{IpAddress, Ipv6Address};
 use smoltcp_proved::{DispatchError, icmp, raw, tcp, udp};
+use std::cell::RefCell;
+use std::future::{Future, poll_fn};
+use std::pin::Pin;
 use std::sync::Arc;
 use std::sync::atomic::{AtomicUsize, Ordering};
-use std::task::{Wake, Waker};
+use std::task::{Poll, Wake, Waker};
 
 /// A task that counts how often it was woken since it was asked last.
 #[derive(Default)]
@@ -70,7 +74,7 @@ fn tcp_connections() {
     let data = a.emit().expect("a segment");
     assert_eq!(of_a.woken(), (0, 0));
     assert_eq!((b.take(&data), of_b.woken()), (None, (1, 0)));
-    b.cx.set_now(b.cx.now() + smoltcp_proved::time::Duration::from_millis(100));
+    b.cx.set_now(b.cx.now() + Duration::from_millis(100));
     let ack = b.emit().expect("an acknowledgement");
     assert_eq!((a.take(&ack), of_a.woken()), (None, (0, 1)));
     wait!(of_a, a.socket);
@@ -163,4 +167,93 @@ fn messages_and_packets() {
     assert_eq!((socket.dispatch(&cx, &mut out), tasks.woken()), (Ok(None), (0, 1)));
     wait!(tasks, socket);
     assert_eq!((socket.dispatch(&cx, &mut out), tasks.woken()), (Ok(None), (0, 0)));
+}
+
+/// A future, whether it is to be polled, and what it has come to.
+struct Run<'f, T> {
+    future: Pin<Box<dyn Future<Output = T> + 'f>>,
+    task: Arc<Task>,
+    done: Option<T>,
+}
+
+impl<'f, T> Run<'f, T> {
+    fn new(future: impl Future<Output = T> + 'f) -> Run<'f, T> {
+        let task = Arc::new(Task(AtomicUsize::new(1)));
+        Run { future: Box::pin(future), task, done: None }
+    }
+
+    /// Polls it where it was woken.
+    fn turn(&mut self) {
+        if self.done.is_none() && self.task.0.swap(0, Ordering::Relaxed) > 0 {
+            let waker = self.task.clone().into();
+            if let Poll::Ready(value) = self.future.as_mut().poll(&mut std::task::Context::from_waker(&waker))
+            {
+                self.done = Some(value);
+            }
+        }
+    }
+}
+
+/// A task that writes more than the buffers hold, and one that reads to the end: each is polled only where it was woken,
+/// so that a waker that is not woken leaves the transfer unfinished.
+#[test]
+fn tasks_wait_for_each_other() {
+    let (mut memory, mut bytes) = ([Memory::new(), Memory::new()], [[0; 64]; 4]);
+    let ([m, n], [p, q, r, s]) = (&mut memory, &mut bytes);
+    let a = RefCell::new(Host { socket: Socket::new(m, p, q), cx: context(1, 1000) });
+    let b = RefCell::new(Host { socket: Socket::new(n, r, s), cx: context(2, 5000) });
+    let text: Vec<u8> = (0..5000_u32).map(|n| (n * 7 / 5) as u8).collect();
+    let begin = |host: &mut Host| host.socket.connect(&mut host.cx, (B, 80), 49152);
+    begin(&mut a.borrow_mut()).expect("a closed socket connects");
+    let mut writer = Run::new(async {
+        let mut rest = &text[..];
+        while !rest.is_empty() {
+            let count = poll_fn(|task| {
+                let socket = &mut a.borrow_mut().socket;
+                match socket.send_slice(rest) {
+                    Ok(count) if count > 0 => Poll::Ready(count),
+                    _ => {
+                        socket.register_send_waker(task.waker());
+                        Poll::Pending
+                    }
+                }
+            })
+            .await;
+            rest = &rest[count..];
+        }
+        a.borrow_mut().socket.close();
+    });
+    b.borrow_mut().socket.listen(80).expect("a closed socket listens");
+    let mut reader = Run::new(async {
+        let mut came = Vec::new();
+        loop {
+            let piece = poll_fn(|task| {
+                let socket = &mut b.borrow_mut().socket;
+                match socket.recv(|bytes| (bytes.len(), bytes.to_vec())) {
+                    Ok(bytes) if !bytes.is_empty() => Poll::Ready(Some(bytes)),
+                    Err(tcp::RecvError::Finished) => Poll::Ready(None),
+                    _ => {
+                        socket.register_recv_waker(task.waker());
+                        Poll::Pending
+                    }
+                }
+            })
+            .await;
+            match piece {
+                Some(bytes) => came.extend(bytes),
+                None => return came,
+            }
+        }
+    });
+    for _ in 0..10_000 {
+        writer.turn();
+        reader.turn();
+        let (a, b) = (&mut *a.borrow_mut(), &mut *b.borrow_mut());
+        let now = a.cx.now() + Duration::from_millis(10);
+        a.cx.set_now(now);
+        b.cx.set_now(now);
+        carry(a, b);
+        carry(b, a);
+    }
+    assert!(writer.done.is_some() && reader.done.as_ref() == Some(&text));
 }
