@@ -260,4 +260,7 @@ unsafe extern "C" {
     pub fn smoltcp_icmp_recv_nonnull(h: &mut IcmpHandle, remote: &mut Address, data: *mut u8, cap: usize) -> i64;
     pub fn smoltcp_icmp_send_nonnull(h: &mut IcmpHandle, remote: &Address, data: *const u8, len: usize) -> i64;
     pub fn smoltcp_icmp_set_hop_limit_nonnull(h: &mut IcmpHandle, hop_limit: u8) -> i64;
+    // Texts that end with a zero, and stay.
+    pub safe fn smoltcp_version() -> *const core::ffi::c_char;
+    pub safe fn smoltcp_build() -> *const core::ffi::c_char;
 }
