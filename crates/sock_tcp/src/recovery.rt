@@ -1,4 +1,4 @@
-//! Loss by the rules of the RFCs: recovery (RFC 6582), duplicates (RFC 5681) and the retransmission timer (RFC 6298).
+//! Loss by the rules of the RFCs: recovery (RFC 6582), duplicates (RFC 5681, RFC 5827) and the retransmission timer (RFC 6298).
 ghost use Rattle.std.specs.Prelude.{◌≡◌, length};
 ghost use Rattle.control_wire.specs.Segment.{segment_of};
 ghost use Rattle.sock_core.specs.Bounds.{IsMoment};
@@ -6,9 +6,9 @@ ghost use Rattle.sock_tcp.specs.Due.{flight};
 ghost use Rattle.sock_tcp.specs.Rfc.Recovery.{before_of, begins, controller_after, duplicates_after, estimator_after};
 ghost use Rattle.sock_tcp.specs.Rfc.Recovery.{gone_on, gone_on_from, has_timer, highest_of, is_bare_control, is_called};
 ghost use Rattle.sock_tcp.specs.Rfc.Recovery.{is_fast, is_grown, is_last, is_news, is_opened, is_over, is_partial};
-ghost use Rattle.sock_tcp.specs.Rfc.Recovery.{is_third, is_unheard, may_resend, recovered, recovered_if};
+ghost use Rattle.sock_tcp.specs.Rfc.Recovery.{is_counted, is_early, is_unheard, may_resend, recovered, recovered_if};
 ghost use Rattle.sock_tcp.specs.Rfc.Recovery.{recovery_after, repeats_by, resends, running, timed_out_by, timer_after};
-ghost use Rattle.sock_tcp.specs.Rfc.Recovery.{waited_for};
+ghost use Rattle.sock_tcp.specs.Rfc.Recovery.{segments_out, tells_loss, waited_for};
 ghost use Rattle.sock_tcp.specs.Timers.{IsTimer};
 
 use crate::control_block::ControlBlock;
@@ -160,11 +160,30 @@ impl Before {
         is_fast(after.timer) && !is_fast(self.timer)
     }
 
-    // The third duplicate.
-    fn is_third(&self, after: &ControlBlock<'_>) -> bool
-        ensures { result ≡ is_third self.now after.now }
+    // It was counted as a duplicate by smoltcp's rules.
+    fn is_counted(&self, after: &ControlBlock<'_>) -> bool
+        ensures { result ≡ is_counted self.now after.now }
     {
-        self.is_called(after) || self.is_grown(after) && self.duplicates == 2
+        self.repeats
+            && (self.window == after.remote_win_len && self.duplicates < after.local_rx_dup_acks)
+    }
+
+    // One duplicate less than the segments that are out, where these are few and all that is queued was sent.
+    fn is_early(&self, after: &ControlBlock<'_>) -> bool
+        ensures { result ≡ is_early self.now after.now }
+    {
+        let out = after.segments_out();
+        let duplicates = after.local_rx_dup_acks as usize;
+        self.is_counted(after)
+            && (after.tx_buffer.len() <= after.flight() && (out < 4 && duplicates + 1 == out))
+    }
+
+    // The third duplicate, or an earlier one that suffices.
+    fn tells_loss(&self, after: &ControlBlock<'_>) -> bool
+        ensures { result ≡ tells_loss self.now after.now }
+    {
+        let third = self.is_grown(after) && self.duplicates == 2;
+        self.is_called(after) || (third || self.is_early(after))
     }
 
     // Of new bytes, but not of all that was sent before a fast retransmission.
@@ -177,11 +196,11 @@ impl Before {
         }
     }
 
-    // The third duplicate begins a recovery, where none goes on.
+    // Duplicates begin a recovery, where none goes on.
     fn begins(&self, after: &ControlBlock<'_>) -> bool
         ensures { result ≡ begins self.now after.now }
     {
-        after.may_resend() && (self.is_third(after) && self.recovery.is_over())
+        after.may_resend() && (self.tells_loss(after) && self.recovery.is_over())
     }
 
     // The segment at SND.UNA goes out again.
@@ -289,6 +308,12 @@ impl<'a> ControlBlock<'a> {
                 is_bare(repr.control) && self.is_duplicate(ack, repr.payload.len(), false)
             }
         }
+    }
+
+    fn segments_out(&self) -> usize
+        ensures { result ≡ segments_out self.now }
+    {
+        self.flight().div_ceil(self.remote_mss.max(1))
     }
 
     // There are bytes to send again.

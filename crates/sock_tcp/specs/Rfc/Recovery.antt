@@ -1,7 +1,8 @@
 -- What the RFCs' rules do of loss, once a segment was heard as by either rules: recovery by partial acknowledgements
--- (RFC 6582), duplicates (RFC 5681, section 3.2), and the retransmission timer (RFC 6298, section 5).
-use Rattle.std.specs.Prelude.{ℕ, nat_lt, ◌+◌, length, min, Option, Some, None, Bool, true, false, not, ◌==◌, ◌&&◌, ◌||◌}
+-- (RFC 6582), duplicates (RFC 5681, section 3.2; RFC 5827), and the retransmission timer (RFC 6298, section 5).
+use Rattle.std.specs.Prelude.{ℕ, nat_lt, nat_le, ◌+◌, length, max, min, Option, Some, None, Bool, true, false, not, ◌==◌, ◌&&◌, ◌||◌}
 use Rattle.std.specs.Prelude.{if◌then◌else◌}
+use Rattle.std.specs.Int.{div_ceil}
 use Rattle.net_base.specs.declared.time.Duration.{Duration}
 use Rattle.net_base.specs.declared.time.Instant.{Instant}
 use Rattle.control_wire.specs.Segment.{Segment}
@@ -69,9 +70,24 @@ is_fast _ = false
 abbrev pub is_called : Before → View → Bool
 is_called b w = is_fast w.timer && not (is_fast b.timer)
 
--- the third duplicate
-abbrev pub is_third : Before → View → Bool
-is_third b w = is_called b w || (is_grown b w && (b.duplicates == 2))
+-- how many segments are out
+abbrev pub segments_out : View → ℕ
+segments_out w = div_ceil (flight w) (max w.remote_mss 1)
+
+-- it was counted as one by smoltcp's rules
+abbrev pub is_counted : Before → View → Bool
+is_counted b w = b.repeats && ((b.window == w.remote_win_len) && nat_lt b.duplicates w.local_rx_dup_acks)
+
+-- one duplicate less than the segments that are out, where these are fewer than four and all that is queued was sent
+-- (RFC 5827, section 3.1)
+abbrev pub is_early : Before → View → Bool
+is_early b w =
+    is_counted b w && (nat_le (length w.tx_buffer.bytes) (flight w)
+    && (nat_lt (segments_out w) 4 && (w.local_rx_dup_acks + 1 == segments_out w)))
+
+-- the third duplicate, or an earlier one that suffices
+abbrev pub tells_loss : Before → View → Bool
+tells_loss b w = is_called b w || ((is_grown b w && (b.duplicates == 2)) || is_early b w)
 
 abbrev pub duplicates_after : Before → View → ℕ
 duplicates_after b w = if is_grown b w then min (b.duplicates + 1) 255 else w.local_rx_dup_acks
@@ -98,9 +114,9 @@ is_over _ = false
 abbrev pub may_resend : View → Bool
 may_resend w = carries_data w.state && not (length w.tx_buffer.bytes == 0)
 
--- the third duplicate begins a recovery, where none goes on
+-- duplicates begin a recovery, where none goes on
 abbrev pub begins : Before → View → Bool
-begins b w = may_resend w && (is_third b w && is_over b.recovery)
+begins b w = may_resend w && (tells_loss b w && is_over b.recovery)
 
 -- the segment at SND.UNA goes out again: a recovery begins, or a partial acknowledgement shows the next hole
 abbrev pub resends : Before → View → Bool
