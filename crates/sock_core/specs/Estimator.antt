@@ -53,7 +53,8 @@ timeout_of least s = min (max least (s.srtt + max 5 (4 * s.rttvar))) 60000
 -- cut at 2 ^ 28
 unfoldable pub sampled : Estimator → ℕ → Estimator
 sampled e x =
-    let s = smoothed_by e.smoothed (min x (2 ^ 28)) in record e { smoothed = Some s; rto = timeout_of e.least s; backoffs = 0 }
+    let s = smoothed_by e.smoothed (min x (2 ^ 28)) in
+    record e { smoothed = Some s; rto = timeout_of e.least s; backoffs = 0 }
 
 -- ---- the other calls
 

@@ -47,8 +47,8 @@ pub struct Timing {
 /// Estimates how long a segment and its acknowledgement travel, and from that how long to wait for an acknowledgement
 /// before a segment is sent again (RFC 6298).
 ///
-/// The timeout is between 1,000 and 60,000 milliseconds, unless another lowest one is set. One number at a time is timed,
-/// and none that was sent again.
+/// The timeout is between 1,000 and 60,000 milliseconds, unless another lowest one is set. One number at a time is
+/// timed, and none that was sent again.
 #[derive(Debug, Clone, Copy)]
 pub struct RttEstimator {
     smoothed: Option<Smoothed>,

@@ -1,4 +1,5 @@
-//! Loss by the rules of the RFCs: recovery (RFC 6582), duplicates (RFC 5681, RFC 5827) and the retransmission timer (RFC 6298).
+//! Loss by the rules of the RFCs: recovery (RFC 6582), duplicates (RFC 5681, RFC 5827) and the retransmission timer
+//! (RFC 6298).
 ghost use Rattle.std.specs.Prelude.{◌≡◌, length};
 ghost use Rattle.control_wire.specs.Segment.{segment_of};
 ghost use Rattle.sock_core.specs.Bounds.{IsMoment};

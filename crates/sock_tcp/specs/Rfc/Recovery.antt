@@ -1,7 +1,7 @@
 -- What the RFCs' rules do of loss, once a segment was heard as by either rules: recovery by partial acknowledgements
 -- (RFC 6582), duplicates (RFC 5681, section 3.2; RFC 5827), and the retransmission timer (RFC 6298, section 5).
-use Rattle.std.specs.Prelude.{ℕ, nat_lt, nat_le, ◌+◌, length, max, min, Option, Some, None, Bool, true, false, not, ◌==◌, ◌&&◌, ◌||◌}
-use Rattle.std.specs.Prelude.{if◌then◌else◌}
+use Rattle.std.specs.Prelude.{ℕ, nat_lt, nat_le, ◌+◌, length, max, min, Option, Some, None, Bool, true, false, not}
+use Rattle.std.specs.Prelude.{◌==◌, ◌&&◌, ◌||◌, if◌then◌else◌}
 use Rattle.std.specs.Int.{div_ceil}
 use Rattle.net_base.specs.declared.time.Duration.{Duration}
 use Rattle.net_base.specs.declared.time.Instant.{Instant}
