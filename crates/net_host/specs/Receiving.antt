@@ -32,9 +32,9 @@ use Rattle.net_host.specs.declared.slot.Slot.{Slot}
 
 -- a segment that no socket takes is counted
 abbrev pub counted_for : Taker → Counters → Counters
-counted_for (taker.Connection i) k = k
-counted_for (taker.Listener i) k = k
+counted_for taker.Busy k = counted reason.Busy k
 counted_for taker.Nobody k = counted reason.Nobody k
+counted_for _ k = k
 
 abbrev pub counted_if : Option ℕ → Counters → Counters
 counted_if None k = counted reason.Nobody k
@@ -67,6 +67,7 @@ module _ {W G : Type 0} (is : IpAddress → IpAddress → Bool) (word_at : W →
     pub answers : AnswersSegment facts_of words_of tells taker ss i.inner i.resets ip s out n ts j.inner j.resets out'
     pub counters : j.counters ≡ counted_for taker i.counters
     pub turn : j.turn ≡ i.turn
+    pub guards : j.guards ≡ i.guards
 
   -- no segment has a payload of more than 65535 octets
   abbrev pub IfShort : Bool → IpRepr → Segment → Interface W → List (Slot G) → List ℕ → ℕ → Interface W → List (Slot G)
