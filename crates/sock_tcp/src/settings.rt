@@ -125,6 +125,7 @@ impl<'a, G> Socket<'a, G> {
           rtte = bounded_below self.old.control_block.rtte (least_timeout_of duration);
         } }
         ensures generator { self.new.tsval_generator ≡ self.old.tsval_generator }
+        ensures ended { self.new.ended ≡ self.old.ended }
     {
         self.control_block
             .rtte

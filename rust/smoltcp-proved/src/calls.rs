@@ -201,6 +201,7 @@ impl<'a> Tcp<'a> {
         nagle_enabled => NAGLE_ENABLED;
         hop_limit => HOP_LIMIT;
         congestion_control => CONGESTION_CONTROL;
+        min_rto => MIN_RTO;
         rules => RULES;
         timestamp_enabled => TIMESTAMP_ENABLED;
     }
@@ -213,6 +214,7 @@ impl<'a> Tcp<'a> {
         set_hop_limit(u8) => smoltcp_tcp_set_hop_limit_nonnull;
         pause_synack(u8) => smoltcp_tcp_pause_synack_nonnull;
         set_congestion_control(u32) => smoltcp_tcp_set_congestion_control_nonnull;
+        set_min_rto(i64) => smoltcp_tcp_set_min_rto_nonnull;
         set_rules(u32) => smoltcp_tcp_set_rules_nonnull;
         set_timestamps(u8) => smoltcp_tcp_set_timestamps_nonnull;
         consume(usize) => smoltcp_tcp_consume_nonnull;

@@ -19,6 +19,18 @@ impl Socket<'_> {
         done(self.calls.set_timeout(duration_of(duration)));
     }
 
+    /// The lowest retransmission timeout.
+    pub fn min_rto(&self) -> Duration {
+        Duration::from_micros(self.calls.min_rto().unsigned_abs())
+    }
+
+    /// Sets the lowest retransmission timeout, in whole milliseconds: less than one counts as one, more than a minute
+    /// as a minute. A second in a new socket (RFC 6298, section 2.4); Linux has 200 milliseconds. (smoltcp has no such
+    /// call.)
+    pub fn set_min_rto(&mut self, duration: Duration) {
+        done(self.calls.set_min_rto(duration_of(Some(duration))));
+    }
+
     /// The interval of keep-alives, if they go out.
     pub fn keep_alive(&self) -> Option<Duration> {
         duration_in(self.calls.keep_alive())
