@@ -160,6 +160,12 @@ SMOLTCP_INLINE int64_t smoltcp_tcp_set_keep_alive(struct smoltcp_tcp *s, int64_t
     return smoltcp_tcp_set_keep_alive_nonnull(&h, micros);
 }
 
+SMOLTCP_INLINE int64_t smoltcp_tcp_set_min_rto(struct smoltcp_tcp *s, int64_t micros) {
+    struct smoltcp_tcp_handle h = {SMOLTCP_AT(s)};
+    if (!s) return SMOLTCP_ERROR_NULL;
+    return smoltcp_tcp_set_min_rto_nonnull(&h, micros);
+}
+
 SMOLTCP_INLINE int64_t smoltcp_tcp_set_nagle_enabled(struct smoltcp_tcp *s, uint8_t enabled) {
     struct smoltcp_tcp_handle h = {SMOLTCP_AT(s)};
     if (!s) return SMOLTCP_ERROR_NULL;
@@ -397,6 +403,10 @@ SMOLTCP_INLINE int64_t smoltcp_tcp_recv_capacity(const struct smoltcp_tcp *s) {
 
 SMOLTCP_INLINE int64_t smoltcp_tcp_timeout(const struct smoltcp_tcp *s) {
     return smoltcp_tcp_ask(s, SMOLTCP_ASK_TIMEOUT);
+}
+
+SMOLTCP_INLINE int64_t smoltcp_tcp_min_rto(const struct smoltcp_tcp *s) {
+    return smoltcp_tcp_ask(s, SMOLTCP_ASK_MIN_RTO);
 }
 
 SMOLTCP_INLINE int64_t smoltcp_tcp_keep_alive(const struct smoltcp_tcp *s) {

@@ -188,6 +188,12 @@ int64_t smoltcp_tcp_listen_endpoint(const struct smoltcp_tcp *s, struct smoltcp_
  * Errors: SMOLTCP_ERROR_RANGE, SMOLTCP_ERROR_NULL. */
 int64_t smoltcp_tcp_set_timeout(struct smoltcp_tcp *s, int64_t micros);
 
+/* The lowest retransmission timeout in microseconds, in whole milliseconds: less than one counts as one, more than a
+ * minute as a minute. A second in a new socket (RFC 6298, section 2.4); Linux has 200,000.
+ *
+ * Errors: SMOLTCP_ERROR_RANGE, below 0 and above 2^61, SMOLTCP_ERROR_NULL. */
+int64_t smoltcp_tcp_set_min_rto(struct smoltcp_tcp *s, int64_t micros);
+
 /* Asks an idle peer whether it is there every so many microseconds, at most 2^61; below 0: never, as in a new socket
  * (RFC 9293, section 3.8.4). Shorter than the timeout, by a factor of four, say, and never 0.
  *
@@ -235,6 +241,11 @@ int64_t smoltcp_tcp_set_timestamps(struct smoltcp_tcp *s, uint8_t enabled);
  *
  * Errors: SMOLTCP_ERROR_NULL. */
 int64_t smoltcp_tcp_timeout(const struct smoltcp_tcp *s);
+
+/* The lowest retransmission timeout in microseconds.
+ *
+ * Errors: SMOLTCP_ERROR_NULL. */
+int64_t smoltcp_tcp_min_rto(const struct smoltcp_tcp *s);
 
 /* The interval of keep-alives in microseconds, or -1 for none.
  *

@@ -5,3 +5,5 @@ pub mod Emitting
 pub mod Turning
 pub mod Measure
 pub mod Steps
+pub mod Oldest
+pub mod Again

@@ -12,7 +12,8 @@ use Rattle.sock_core.specs.declared.context.PollAt.TheVariants as poll
 use Rattle.sock_tcp.specs.Polls.{is_reached}
 use Rattle.sock_tcp.specs.Timers.{after, is_over}
 use Rattle.sock_tcp.specs.View.{moment_of}
-use Rattle.host_guard.specs.Guarding.{may_dispatch, not_before, taken_after, taken_at}
+use Rattle.host_guard.specs.Guarding.{not_before, taken_after, taken_at}
+use Rattle.net_host.specs.Guards.{may_in}
 use Rattle.net_host.specs.Speaking.{Due, TurnAt}
 use Rattle.net_host.specs.Turns.{TakesTurn, asked_of, delayed, is_due, may_speak}
 use Rattle.net_host.specs.Walks.{IsNext}
@@ -36,7 +37,7 @@ may_if true now asked h = refl
 may_if false now asked h = let no : true ≡ false = sym h ∙ not_reached now asked in cc
 
 pub due_may : {G : Type 0} (f : Facts) (s : Slot G) → is_due f s ≡ true → may_speak s (moment_of f) ≡ true
-due_may f s h = may_if (may_speak s (moment_of f)) (moment_of f) (asked_of s.guard.since s.guard.last s.socket f) h
+due_may f s h = may_if (may_speak s (moment_of f)) (moment_of f) (asked_of s.guard.phase s.guard.end s.guard.last s.socket f) h
 
 -- how many turns a socket has left at a moment
 abbrev pub left_in : {G : Type 0} → Instant → Slot G → ℕ
@@ -55,8 +56,8 @@ turn_spends : {G : Type 0} (f : Facts) (tells : G → ℕ → Type 0) (before af
 turn_spends f tells before after out out' r n due h =
     let may : may_speak before (moment_of f) ≡ true = due_may f before due in
     let k : ℕ = taken_at before.guard.moment before.guard.taken (moment_of f) in
-    let below : k < 64 = grind (arith, (and_parts (nat_lt k 64) (may_dispatch before.guard.since before.guard.last (moment_of f)) may).0) in
-    let is : taken_at after.guard.moment after.guard.taken (moment_of f) ≡ k + 1 = ap (λ m. taken_at m after.guard.taken (moment_of f)) h.moment ∙ spent_at (moment_of f) after.guard.taken ∙ h.taken ∙ ap (λ b. taken_after b k) may in
+    let below : k < 64 = grind (arith, (and_parts (nat_lt k 64) (may_in before.guard.phase before.guard.last (moment_of f)) may).0) in
+    let is : taken_at after.guard.moment after.guard.taken (moment_of f) ≡ k + 1 = ap (λ m. taken_at m after.guard.taken (moment_of f)) h.asked.moment ∙ spent_at (moment_of f) after.guard.taken ∙ h.asked.taken ∙ ap (λ b. taken_after b k) may in
     omega (arith, is, below)
 
 pub turn_decreases : {G : Type 0} (f : Facts) (tells : G → ℕ → Type 0) (ss ts : List (Slot G)) (turn i : ℕ) (out out' : List ℕ) (r : Result (Unit {0}) TooShort) (n : ℕ) → IsNext (Due f) ss turn i → TurnAt f tells ss i out r n ts out' → left_turns (moment_of f) ts < left_turns (moment_of f) ss

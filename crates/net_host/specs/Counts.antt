@@ -15,4 +15,5 @@ counted reason.Protocol k = record k { protocol = next k.protocol }
 counted reason.Segment k = record k { segment = next k.segment }
 counted reason.Datagram k = record k { datagram = next k.datagram }
 counted reason.Message k = record k { message = next k.message }
+counted reason.Busy k = record k { busy = next k.busy }
 counted reason.Nobody k = record k { nobody = next k.nobody }

@@ -23,6 +23,7 @@ pub record MovesTo {W : Type 0} (at : Instant) (i j : Interface W) : Type 0 wher
   pub resets : j.resets ≡ i.resets
   pub errors : j.errors ≡ i.errors
   pub counters : j.counters ≡ i.counters
+  pub guards : j.guards ≡ i.guards
 
 module _ {W G : Type 0} (is : IpAddress → IpAddress → Bool) where
   -- it is at the moment, and takes the packet
@@ -39,9 +40,10 @@ module _ {W G : Type 0} (is : IpAddress → IpAddress → Bool) where
     pub moved : Interface W
     pub moves : MovesTo now i moved
     pub seen : List (Slot G)
-    pub looked : ChangesEach (Watches moved.inner.environment.now) ss seen
+    pub looked : ChangesEach (Watches i.guards moved.inner.environment.now) ss seen
     pub spoken : Speaks (facts_by is moved.inner.environment) tells seen moved.turn out r ts j.turn out'
     pub inner : j.inner ≡ moved.inner
     pub resets : j.resets ≡ i.resets
     pub errors : j.errors ≡ i.errors
     pub counters : j.counters ≡ i.counters
+    pub guards : j.guards ≡ i.guards

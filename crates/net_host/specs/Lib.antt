@@ -4,12 +4,14 @@ pub mod Counts
 pub mod Datagrams
 pub mod Emissions
 pub mod Facts
+pub mod Guards
 pub mod HostCalls
 pub mod Limits
 pub mod Messages
 pub mod Moments
 pub mod RawCopies
 pub mod Receiving
+pub mod Resting
 pub mod Segments
 pub mod SheetOf
 pub mod Sheets
@@ -18,4 +20,5 @@ pub mod Speaking
 pub mod Turns
 pub mod Unreachable
 pub mod Walks
+pub mod Watching
 pub mod Wire

@@ -35,9 +35,9 @@ use Rattle.net_host.specs.declared.unreachable.Unmet.TheVariants as unmet
 
 -- a segment that no socket takes is counted
 abbrev pub counted_for : Taker → Counters → Counters
-counted_for (taker.Connection i) k = k
-counted_for (taker.Listener i) k = k
+counted_for taker.Busy k = counted reason.Busy k
 counted_for taker.Nobody k = counted reason.Nobody k
+counted_for _ k = k
 
 abbrev pub counted_if : Option ℕ → Counters → Counters
 counted_if None k = counted reason.Nobody k
@@ -71,6 +71,7 @@ module _ {W G : Type 0} (is : IpAddress → IpAddress → Bool) (word_at : W →
     pub counters : j.counters ≡ counted_for taker i.counters
     pub turn : j.turn ≡ i.turn
     pub errors : j.errors ≡ i.errors
+    pub guards : j.guards ≡ i.guards
 
   -- no segment has a payload of more than 65535 octets
   abbrev pub IfShort : Bool → IpRepr → Segment → Interface W → List (Slot G) → List ℕ → ℕ → Interface W → List (Slot G)

@@ -1,5 +1,5 @@
 -- Which socket takes a TCP segment, and what becomes of it.
-use Rattle.std.specs.Prelude.{ℕ, ◌≡◌, List, Option, Some, None, option_map, Bool, true, false}
+use Rattle.std.specs.Prelude.{ℕ, ◌≡◌, List, Option, Some, None, IfSome, option_map, slice_get, Bool, true, false}
 use Rattle.ip_wire.specs.declared.repr.IpRepr.{IpRepr}
 use Rattle.net_base.specs.declared.time.Instant.{Instant}
 use Rattle.control_wire.specs.Segment.{Segment}
@@ -10,11 +10,12 @@ use Rattle.sock_core.specs.Facts.{Facts}
 use Rattle.sock_tcp.specs.Opening.{is_listening}
 use Rattle.sock_tcp.specs.Process.{Accepts, Processes, reply_of, source_kept}
 use Rattle.sock_tcp.specs.Replies.{IsReplyStamp, rst_segment, with_header}
-use Rattle.sock_tcp.specs.View.{moment_of}
+use Rattle.sock_tcp.specs.View.{View, moment_of}
 use Rattle.smoltcp_socket.specs.declared.socket.Socket.{Socket}
 use Rattle.smoltcp_socket.specs.declared.socket.Socket.TheVariants as socket
 use Rattle.net_host.specs.Limits.{allows, spent}
-use Rattle.net_host.specs.Walks.{ChangesAt, IsFirst, Nowhere}
+use Rattle.net_host.specs.Resting.{FindsOldest, IsOldest, Reopens, Serves, anew, is_opening}
+use Rattle.net_host.specs.Walks.{ChangesAt, IsAt, IsFirst, Nowhere}
 use Rattle.net_host.specs.Wire.{reply_len, with_reply}
 use Rattle.net_host.specs.declared.limit.Limit.{Limit}
 use Rattle.net_host.specs.declared.segments.Taker.{Taker}
@@ -35,37 +36,51 @@ TakesIn (Some (socket.Tcp x)) listening ip s =
 abbrev pub TakesSegment : {G : Type 0} → Bool → IpRepr → Segment → Slot G → Type 0
 TakesSegment listening ip s slot = TakesIn slot.socket listening ip s
 
--- a connection comes before a listener, and of each the first in the order of handles
-abbrev pub IsTaker : {G : Type 0} → List (Slot G) → IpRepr → Segment → Taker → Type 0
-IsTaker ss ip s (taker.Connection i) = IsFirst (TakesSegment false ip s) ss i
-IsTaker ss ip s (taker.Listener i) = Nowhere (TakesSegment false ip s) ss × IsFirst (TakesSegment true ip s) ss i
-IsTaker ss ip s taker.Nobody = Nowhere (TakesSegment false ip s) ss × Nowhere (TakesSegment true ip s) ss
+-- neither a connection nor a listener
+abbrev pub NoneTakes : {G : Type 0} → List (Slot G) → IpRepr → Segment → Type 0
+NoneTakes ss ip s = Nowhere (TakesSegment false ip s) ss × Nowhere (TakesSegment true ip s) ss
 
-abbrev pub listener_of : Option ℕ → Taker
-listener_of None = taker.Nobody
-listener_of (Some i) = taker.Listener i
+-- A connection comes before a listener, and of each the first in the order of handles. A SYN above the number of a
+-- connection in TIME-WAIT opens it again. A SYN that finds no listener goes to the socket in TIME-WAIT that has rested
+-- longest and may listen again, else it finds nobody free where some socket serves its port, else nobody.
+abbrev pub IsTaker : {G : Type 0} → List (Slot G) → IpRepr → Segment → Taker → Type 0
+IsTaker ss ip s (taker.Connection i) =
+    IsFirst (TakesSegment false ip s) ss i × IfSome (slice_get ss i) (λ x. Reopens ip s x → ⊥)
+IsTaker ss ip s (taker.Reopened i) = IsFirst (TakesSegment false ip s) ss i × IfSome (slice_get ss i) (Reopens ip s)
+IsTaker ss ip s (taker.Listener i) = Nowhere (TakesSegment false ip s) ss × IsFirst (TakesSegment true ip s) ss i
+IsTaker ss ip s (taker.Reused i) = NoneTakes ss ip s × (is_opening s ≡ true) × IsOldest ip s ss i
+IsTaker ss ip s taker.Busy =
+    NoneTakes ss ip s × (is_opening s ≡ true) × FindsOldest ip s ss None × ((k : ℕ) × IsAt (Serves ip s) ss k)
+IsTaker ss ip s taker.Nobody =
+    NoneTakes ss ip s
+    × (is_opening s ≡ true → FindsOldest ip s ss None × Nowhere (Serves ip s) ss)
 
 -- ---- what becomes of it
 
 module _ {C G : Type 0} (facts : C → Facts) (word_at : C → ℕ → ℕ) (tells : G → ℕ → Type 0) where
-  -- the call of the socket
-  abbrev pub SocketHears : Option (Socket G) → C → IpRepr → Segment → Option (IpRepr × TcpRepr) → Option (Socket G) → C
-      → Type 0
-  SocketHears (Some (socket.Tcp x)) cx ip s r (Some (socket.Tcp y)) cx' =
-      Processes facts word_at (IsReplyStamp tells y.tsval_generator s.timestamp) x.control_block cx ip s r
+  -- the call of the socket, which was made ready for it
+  abbrev pub SocketHears : (View → View) → Option (Socket G) → C → IpRepr → Segment → Option (IpRepr × TcpRepr)
+      → Option (Socket G) → C → Type 0
+  SocketHears ready (Some (socket.Tcp x)) cx ip s r (Some (socket.Tcp y)) cx' =
+      Processes facts word_at (IsReplyStamp tells y.tsval_generator s.timestamp) (ready x.control_block) cx ip s r
       y.control_block cx'
       × (y.tsval_generator ≡ source_kept y.control_block.stamps x.tsval_generator)
-  SocketHears _ cx ip s r _ cx' = ⊥
+  SocketHears ready _ cx ip s r _ cx' = ⊥
 
-  pub record Hears (before : Slot G) (cx : C) (ip : IpRepr) (s : Segment) (r : Option (IpRepr × TcpRepr))
-      (after : Slot G) (cx' : C) : Type 0 where
+  pub record Hears (ready : View → View) (before : Slot G) (cx : C) (ip : IpRepr) (s : Segment)
+      (r : Option (IpRepr × TcpRepr)) (after : Slot G) (cx' : C) : Type 0 where
     pub generation : after.generation ≡ before.generation
     pub guard : after.guard ≡ before.guard
-    pub heard : SocketHears before.socket cx ip s r after.socket cx'
+    pub heard : SocketHears ready before.socket cx ip s r after.socket cx'
 
   -- the slot at i hears the segment, and no other changes
-  abbrev pub HearsAt : List (Slot G) → ℕ → C → IpRepr → Segment → Option (IpRepr × TcpRepr) → List (Slot G) → C → Type 0
-  HearsAt ss i cx ip s r ts cx' = ChangesAt (λ before after. Hears before cx ip s r after cx') ss i ts
+  abbrev pub HearsAt : (View → View) → List (Slot G) → ℕ → C → IpRepr → Segment → Option (IpRepr × TcpRepr)
+      → List (Slot G) → C → Type 0
+  HearsAt ready ss i cx ip s r ts cx' = ChangesAt (λ before after. Hears ready before cx ip s r after cx') ss i ts
+
+-- as it is
+abbrev pub as_is : View → View
+as_is v = v
 
 -- ---- a segment for nobody
 
@@ -93,8 +108,15 @@ module _ {C G : Type 0} (facts : C → Facts) (word_at : C → ℕ → ℕ) (tel
   -- with this taker
   abbrev pub TakenBy : Taker → List (Slot G) → C → Limit → IpRepr → Segment → Option (IpRepr × TcpRepr)
       → List (Slot G) → C → Limit → Type 0
-  TakenBy (taker.Connection i) ss cx l ip s r ts cx' l' = HearsAt facts word_at tells ss i cx ip s r ts cx' × (l' ≡ l)
-  TakenBy (taker.Listener i) ss cx l ip s r ts cx' l' = HearsAt facts word_at tells ss i cx ip s r ts cx' × (l' ≡ l)
+  TakenBy (taker.Connection i) ss cx l ip s r ts cx' l' =
+      HearsAt facts word_at tells as_is ss i cx ip s r ts cx' × (l' ≡ l)
+  TakenBy (taker.Reopened i) ss cx l ip s r ts cx' l' =
+      HearsAt facts word_at tells anew ss i cx ip s r ts cx' × (l' ≡ l)
+  TakenBy (taker.Listener i) ss cx l ip s r ts cx' l' =
+      HearsAt facts word_at tells as_is ss i cx ip s r ts cx' × (l' ≡ l)
+  TakenBy (taker.Reused i) ss cx l ip s r ts cx' l' =
+      HearsAt facts word_at tells anew ss i cx ip s r ts cx' × (l' ≡ l)
+  TakenBy taker.Busy ss cx l ip s r ts cx' l' = (ts ≡ ss) × (cx' ≡ cx) × (r ≡ None) × (l' ≡ l)
   TakenBy taker.Nobody ss cx l ip s r ts cx' l' =
       (ts ≡ ss) × (cx' ≡ cx) × Refuses l (moment_of (facts cx)) ip s r l'
 

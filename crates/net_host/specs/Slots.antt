@@ -6,6 +6,7 @@ use Rattle.sock_dgram.specs.Icmp as icmp
 use Rattle.sock_dgram.specs.Raw as raw
 use Rattle.sock_dgram.specs.Udp as udp
 use Rattle.sock_tcp.specs.declared.socket.Socket as tcp
+use Rattle.net_host.specs.declared.guard.Phase.TheVariants.{Free}
 use Rattle.net_host.specs.declared.slot.Slot.{Slot}
 use Rattle.net_host.specs.declared.slot.SocketHandle.{SocketHandle}
 
@@ -67,7 +68,9 @@ pub record Fills {G : Type 0} (put : Socket G) (h : SocketHandle) (before after 
   pub handle : h.generation ≡ before.generation
   pub generation : after.generation ≡ before.generation
   pub socket : after.socket ≡ Some put
+  pub phase : after.guard.phase ≡ Free
   pub since : after.guard.since ≡ None
+  pub end : after.guard.end ≡ None
   pub last : after.guard.last ≡ None
   pub moment : after.guard.moment ≡ None
 

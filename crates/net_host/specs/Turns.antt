@@ -7,43 +7,42 @@ use Rattle.sock_core.specs.declared.context.PollAt.TheVariants as poll
 use Rattle.sock_tcp.specs.Polls.{is_reached}
 use Rattle.sock_tcp.specs.Timers.{after}
 use Rattle.sock_tcp.specs.View.{moment_of}
-use Rattle.host_guard.specs.Guarding.{guarded_poll, last_after, last_in, may_take, not_before, since_in, taken_after}
-use Rattle.host_guard.specs.Guarding.{taken_at, watched}
-use Rattle.host_guard.specs.declared.guard.Guard.{Guard}
+use Rattle.host_guard.specs.Guarding.{not_before}
 use Rattle.smoltcp_socket.specs.Kinds.{polls}
 use Rattle.smoltcp_socket.specs.declared.socket.Socket.{Socket}
 use Rattle.smoltcp_socket.specs.declared.socket.Socket.TheVariants as socket
 use Rattle.net_host.specs.Emissions.{DispatchesDatagram, DispatchesMessage, DispatchesRaw, DispatchesSegment}
+use Rattle.net_host.specs.Guards.{guarded_poll}
+use Rattle.net_host.specs.Watching.{Asks, Looks, may_turn}
+use Rattle.net_host.specs.declared.guard.Guard.{Guard}
+use Rattle.net_host.specs.declared.guard.GuardSettings.{GuardSettings}
+use Rattle.net_host.specs.declared.guard.Phase.{Phase}
 use Rattle.net_host.specs.declared.slot.Slot.{Slot}
 use Rattle.net_host.specs.declared.wire.TooShort.{TooShort}
 
 -- ---- the guard looks at the socket
 
-abbrev pub WatchesIn : {G : Type 0} → Instant → Option (Socket G) → Guard → Option (Socket G) → Guard → Type 0
-WatchesIn now (Some (socket.Tcp x)) g (Some (socket.Tcp y)) h =
-    (h.since ≡ since_in x.control_block.state g.since now)
-    × (h.last ≡ last_in x.control_block.state g.last)
-    × (h.moment ≡ g.moment)
-    × (h.taken ≡ g.taken)
-    × (y.control_block ≡ watched h.since x.control_block now)
-    × (y.tsval_generator ≡ x.tsval_generator)
-WatchesIn now (Some (socket.Tcp x)) g _ h = ⊥
-WatchesIn now s g t h = (t ≡ s) × (h ≡ g)
+abbrev pub WatchesIn : {G : Type 0} → GuardSettings → Instant → Option (Socket G) → Guard → Option (Socket G) → Guard
+    → Type 0
+WatchesIn st now (Some (socket.Tcp x)) g (Some (socket.Tcp y)) h =
+    Looks st now x.control_block g h y.control_block × (y.tsval_generator ≡ x.tsval_generator)
+WatchesIn st now (Some (socket.Tcp x)) g _ h = ⊥
+WatchesIn st now s g t h = (t ≡ s) × (h ≡ g)
 
-pub record Watches {G : Type 0} (now : Instant) (before after : Slot G) : Type 0 where
+pub record Watches {G : Type 0} (st : GuardSettings) (now : Instant) (before after : Slot G) : Type 0 where
   pub generation : after.generation ≡ before.generation
-  pub looked : WatchesIn now before.socket before.guard after.socket after.guard
+  pub looked : WatchesIn st now before.socket before.guard after.socket after.guard
 
 -- ---- when it wants to speak
 
 -- as the socket asks, and its guard allows
-abbrev pub asked_of : {G : Type 0} → Option Instant → Option Instant → Option (Socket G) → Facts → PollAt
-asked_of since last None f = poll.Ingress
-asked_of since last (Some s) f = guarded_poll since last (polls s f)
+abbrev pub asked_of : {G : Type 0} → Phase → Option Instant → Option Instant → Option (Socket G) → Facts → PollAt
+asked_of p end last None f = poll.Ingress
+asked_of p end last (Some s) f = guarded_poll p end last (polls s f)
 
 -- whether its guard allows it to speak now
 abbrev pub may_speak : {G : Type 0} → Slot G → Instant → Bool
-may_speak s now = may_take (taken_at s.guard.moment s.guard.taken now) s.guard.since s.guard.last now
+may_speak s now = may_turn s.guard now
 
 -- else it waits for a microsecond
 abbrev pub delayed : Bool → Instant → PollAt → PollAt
@@ -51,7 +50,7 @@ delayed true now asked = asked
 delayed false now asked = not_before (after now (record { micros = 1 })) asked
 
 abbrev pub slot_poll : {G : Type 0} → Slot G → Facts → PollAt
-slot_poll s f = delayed (may_speak s (moment_of f)) (moment_of f) (asked_of s.guard.since s.guard.last s.socket f)
+slot_poll s f = delayed (may_speak s (moment_of f)) (moment_of f) (asked_of s.guard.phase s.guard.end s.guard.last s.socket f)
 
 abbrev pub is_due : {G : Type 0} → Facts → Slot G → Bool
 is_due f s = is_reached (slot_poll s f) (moment_of f)
@@ -85,10 +84,5 @@ module _ {G : Type 0} (facts : Facts) (tells : G → ℕ → Type 0) where
   pub record TakesTurn (before : Slot G) (out : List ℕ) (r : Result (Unit {0}) TooShort) (n : ℕ) (after : Slot G)
       (out' : List ℕ) : Type 0 where
     pub generation : after.generation ≡ before.generation
-    pub since : after.guard.since ≡ before.guard.since
-    pub last : after.guard.last ≡ last_after (may_speak before (moment_of facts)) before.guard.since before.guard.last
-        (moment_of facts)
-    pub moment : after.guard.moment ≡ Some (moment_of facts)
-    pub taken : after.guard.taken ≡ taken_after (may_speak before (moment_of facts))
-        (taken_at before.guard.moment before.guard.taken (moment_of facts))
+    pub asked : Asks (moment_of facts) before.guard after.guard
     pub emits : EmitsIf (may_speak before (moment_of facts)) before.socket out r n after.socket out'

@@ -19,6 +19,8 @@ pub enum Reason {
     Datagram,
     /// It carries an ICMP message with a wrong form or checksum, or of the other version of IP.
     Message,
+    /// It carries a SYN for a port that is served, while no socket is free for it.
+    Busy,
     /// It carries a segment or a datagram that no socket takes.
     Nobody,
 }
@@ -33,6 +35,7 @@ pub struct Counters {
     pub segment: u64,
     pub datagram: u64,
     pub message: u64,
+    pub busy: u64,
     pub nobody: u64,
 }
 
@@ -49,6 +52,7 @@ impl Counters {
             Reason::Segment => self.segment = next(self.segment),
             Reason::Datagram => self.datagram = next(self.datagram),
             Reason::Message => self.message = next(self.message),
+            Reason::Busy => self.busy = next(self.busy),
             Reason::Nobody => self.nobody = next(self.nobody),
         }
     }

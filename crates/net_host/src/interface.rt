@@ -1,6 +1,7 @@
 //! An interface: what arrives goes to the sockets that it is for, and what they have to say goes out.
 ghost use Rattle.std.specs.Prelude.{◌≡◌, ◌↔◌, ◌<◌, ◌≤◌, IsTrue, IfOk, Ok, is_err, length, max, min, pos};
 ghost use Rattle.net_host.specs.Facts.{facts_by};
+ghost use Rattle.net_host.specs.Guards.{usual};
 ghost use Rattle.net_host.specs.HostCalls.{EmitsAt, MovesTo, ReceivesAt};
 ghost use Rattle.net_host.specs.Speaking.{Due, earliest};
 ghost use Rattle.net_host.specs.Walks.{Nowhere};
@@ -10,6 +11,7 @@ ghost use Rattle.ip_wire.specs.declared.checksum.Checksum.TheVariants.{Both};
 use crate::cidr::IpCidr;
 use crate::counters::Counters;
 use crate::environment::Environment;
+use crate::guard::GuardSettings;
 use crate::inner::InterfaceInner;
 use crate::limit::Limit;
 use crate::set::SocketSet;
@@ -34,6 +36,7 @@ pub struct Interface<W> {
     // ICMP errors that go out
     pub(crate) errors: Limit,
     pub(crate) counters: Counters,
+    pub(crate) guards: GuardSettings,
 }
 
 impl<W: Words> Interface<W> {
@@ -130,7 +133,7 @@ impl<W: Words> Interface<W> {
             self.new.inner.environment)) slots.new.items }
     {
         self.set_now(now);
-        watch_all(slots, self.inner.environment.moment());
+        watch_all(slots, &self.guards, self.inner.environment.moment());
         speak(slots, &mut self.turn, &self.inner, out)
     }
 }
@@ -156,6 +159,7 @@ impl<W> Interface<W> {
         ensures mtu { result.inner.environment.mtu ≡ 1500 }
         ensures checksums { result.inner.environment.checksums ≡ all_checksums Both }
         ensures words { result.inner.words ≡ words }
+        ensures guards { result.guards ≡ usual }
     {
         Interface {
             inner: InterfaceInner {
@@ -166,6 +170,7 @@ impl<W> Interface<W> {
             resets: Limit::new(),
             errors: Limit::new(),
             counters: Counters::default(),
+            guards: GuardSettings::new(),
         }
     }
 
@@ -183,8 +188,18 @@ impl<W> Interface<W> {
         self.counters
     }
 
-    /// Sets the largest IP packet, in bytes: 68 to 65535, and the nearest of these for any other. Over IPv6 less than 576
-    /// counts as that (RFC 8200, section 5: its links carry 1280).
+    /// Sets how long a peer may leave a TCP connection of a set waiting. In a new interface as `GuardSettings::new`.
+    pub fn set_guards(&mut self, guards: GuardSettings)
+        ensures guards { self.new.guards ≡ guards }
+        ensures same { (self.new.inner ≡ self.old.inner) × (self.new.turn ≡ self.old.turn)
+            × (self.new.resets ≡ self.old.resets) × (self.new.errors ≡ self.old.errors)
+            × (self.new.counters ≡ self.old.counters) }
+    {
+        self.guards = guards;
+    }
+
+    /// Sets the largest IP packet, in bytes: 68 to 65535, and the nearest of these for any other. Over IPv6 less than
+    /// 576 counts as that (RFC 8200, section 5: its links carry 1280).
     pub fn set_mtu(&mut self, mtu: usize)
         ensures mtu { self.new.inner.environment.mtu ≡ max 68 (min mtu 65535) }
         ensures same { (self.new.inner.environment.addresses ≡ self.old.inner.environment.addresses)
@@ -192,7 +207,7 @@ impl<W> Interface<W> {
             × (self.new.inner.environment.checksums ≡ self.old.inner.environment.checksums)
             × (self.new.inner.words ≡ self.old.inner.words) × (self.new.turn ≡ self.old.turn)
             × (self.new.resets ≡ self.old.resets) × (self.new.errors ≡ self.old.errors)
-            × (self.new.counters ≡ self.old.counters) }
+            × (self.new.counters ≡ self.old.counters) × (self.new.guards ≡ self.old.guards) }
     {
         self.inner.environment.set_mtu(mtu);
     }
@@ -205,7 +220,7 @@ impl<W> Interface<W> {
             × (self.new.inner.environment.mtu ≡ self.old.inner.environment.mtu)
             × (self.new.inner.words ≡ self.old.inner.words) × (self.new.turn ≡ self.old.turn)
             × (self.new.resets ≡ self.old.resets) × (self.new.errors ≡ self.old.errors)
-            × (self.new.counters ≡ self.old.counters) }
+            × (self.new.counters ≡ self.old.counters) × (self.new.guards ≡ self.old.guards) }
     {
         self.inner.environment.checksums = checksums;
     }

@@ -284,8 +284,9 @@ fn count_taker(counters: &mut Counters, taker: Taker)
     ensures { counters.new ≡ counted_for taker counters.old }
 {
     match taker {
-        Taker::Connection(_) | Taker::Listener(_) => {}
+        Taker::Busy => counters.count(Reason::Busy),
         Taker::Nobody => counters.count(Reason::Nobody),
+        _ => {}
     }
 }
 

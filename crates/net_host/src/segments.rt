@@ -1,14 +1,17 @@
 //! Which socket takes a TCP segment, and what becomes of it.
-ghost use Rattle.std.specs.Prelude.{◌≡◌, ◌↔◌, ◌<◌, ◌≤◌, IsTrue, IfSome, length, [], option_map, slice_get};
+ghost use Rattle.std.specs.Prelude.{◌≡◌, ◌↔◌, ◌<◌, ◌≤◌, IsTrue, IfSome, length, [], option_map, slice_get, true, false};
 ghost use Rattle.std.specs.Option.{ForSome};
 ghost use Rattle.control_wire.specs.Fits.{FitsPacket};
 ghost use Rattle.control_wire.specs.Segment.{segment_of};
 ghost use Rattle.sock_tcp.specs.Process.{reply_of};
-ghost use Rattle.net_host.specs.Segments.{AnswersSegment, Hears, HearsAt, IsTaker, Refuses, TakenBy, listener_of, TakesSegment};
-ghost use Rattle.net_host.specs.Walks.{Finds};
+ghost use Rattle.net_host.specs.Resting.{Rests, anew, is_opening};
+ghost use Rattle.net_host.specs.Segments.{AnswersSegment, Hears, HearsAt, IsTaker, NoneTakes, Refuses, TakenBy};
+ghost use Rattle.net_host.specs.Segments.{TakesSegment, as_is};
+ghost use Rattle.net_host.specs.Walks.{Finds, Nowhere};
 
 use crate::limit::Limit;
 use crate::replies::put_reply;
+use crate::rest::{any_server, oldest, opens};
 use crate::slot::Slot;
 use smoltcp_socket::time::Instant;
 use smoltcp_socket::wire::{IpRepr, TcpControl, TcpRepr};
@@ -20,8 +23,14 @@ use sock_tcp::{Reply, TsvalSource};
 pub enum Taker {
     /// A connection.
     Connection(usize),
+    /// A connection in TIME-WAIT, which a later SYN opens again.
+    Reopened(usize),
     /// A socket that listens.
     Listener(usize),
+    /// A socket in TIME-WAIT, which listens again as no other does.
+    Reused(usize),
+    /// No socket now, though the port is served.
+    Busy,
     /// No socket.
     Nobody,
 }
@@ -53,13 +62,38 @@ impl<'a, G: TsvalSource> Slot<'a, G> {
     ) -> Option<Reply>
         requires accepted { TakesSegment listening ip.now (segment_of repr.now) self.old }
         requires small { length repr.now.payload.now ≤ 65535 }
-        ensures heard { Hears C.facts C.word_at G.tells self.old cx.old ip.now (segment_of repr.now) result
+        ensures heard { Hears C.facts C.word_at G.tells as_is self.old cx.old ip.now (segment_of repr.now) result
             self.new cx.new }
         ensures bare { ForSome result (λ r. r.1.payload.now ≡ []) }
         ensures fits { ForSome (option_map reply_of result) (λ r. FitsPacket r.0 r.1) }
     {
         match &mut self.socket {
             Some(Socket::Tcp(tcp)) => tcp.process(cx, ip, repr),
+            _ => None,
+        }
+    }
+
+    // It listens again on its endpoint, and hears the SYN.
+    #[tactic(auto, unfolding(sock_tcp::specs::Opening::listened, sock_tcp::specs::Opening::renewed))]
+    fn hear_anew<C: Context>(
+        &mut self,
+        cx: &mut C,
+        ip: &IpRepr,
+        repr: &TcpRepr<'_>,
+    ) -> Option<Reply>
+        requires opening { is_opening (segment_of repr.now) ≡ true }
+        requires rests { Rests ip.now (segment_of repr.now) self.old }
+        requires small { length repr.now.payload.now ≤ 65535 }
+        ensures heard { Hears C.facts C.word_at G.tells anew self.old cx.old ip.now (segment_of repr.now) result
+            self.new cx.new }
+        ensures bare { ForSome result (λ r. r.1.payload.now ≡ []) }
+        ensures fits { ForSome (option_map reply_of result) (λ r. FitsPacket r.0 r.1) }
+    {
+        match &mut self.socket {
+            Some(Socket::Tcp(tcp)) => {
+                let _ = tcp.listen(tcp.listen_endpoint());
+                tcp.process(cx, ip, repr)
+            }
             _ => None,
         }
     }
@@ -83,7 +117,7 @@ fn first_taker<C: Context, G: TsvalSource>(
     None
 }
 
-/// Who takes the segment: a connection, else a socket that listens, of each the first in the order of handles.
+/// Who takes the segment, as `IsTaker` says.
 pub(crate) fn who_takes<C: Context, G: TsvalSource>(
     slots: &[Slot<'_, G>],
     cx: &C,
@@ -93,17 +127,55 @@ pub(crate) fn who_takes<C: Context, G: TsvalSource>(
     ensures { IsTaker slots.now ip.now (segment_of repr.now) result }
 {
     match first_taker(slots, cx, false, ip, repr) {
-        Some(i) => Taker::Connection(i),
-        None => listener(first_taker(slots, cx, true, ip, repr)),
+        Some(i) => {
+            if slots[i].reopens(ip, repr) {
+                Taker::Reopened(i)
+            } else {
+                Taker::Connection(i)
+            }
+        }
+        None => listener(slots, cx, ip, repr),
     }
 }
 
-fn listener(found: Option<usize>) -> Taker
-    ensures { result ≡ listener_of found }
+// Who takes a segment that is for no connection.
+fn listener<C: Context, G: TsvalSource>(
+    slots: &[Slot<'_, G>],
+    cx: &C,
+    ip: &IpRepr,
+    repr: &TcpRepr<'_>,
+) -> Taker
+    requires { Nowhere (TakesSegment false ip.now (segment_of repr.now)) slots.now }
+    ensures { IsTaker slots.now ip.now (segment_of repr.now) result }
 {
-    match found {
+    match first_taker(slots, cx, true, ip, repr) {
         Some(i) => Taker::Listener(i),
-        None => Taker::Nobody,
+        None => {
+            if opens(repr) {
+                rested(slots, ip, repr)
+            } else {
+                Taker::Nobody
+            }
+        }
+    }
+}
+
+// Who takes a SYN for which no socket listens.
+fn rested<G: TsvalSource>(
+    slots: &[Slot<'_, G>],
+    ip: &IpRepr,
+    repr: &TcpRepr<'_>,
+) -> Taker
+    requires none { NoneTakes slots.now ip.now (segment_of repr.now) }
+    requires opening { is_opening (segment_of repr.now) ≡ true }
+    ensures { IsTaker slots.now ip.now (segment_of repr.now) result }
+{
+    match oldest(slots, ip, repr) {
+        Some((i, _)) => Taker::Reused(i),
+        None => match any_server(slots, ip, repr) {
+            Some(_) => Taker::Busy,
+            None => Taker::Nobody,
+        },
     }
 }
 
@@ -119,12 +191,32 @@ fn hear_at<C: Context, G: TsvalSource>(
     requires within { i < length slots.old.items }
     requires accepted { IfSome (slice_get slots.old.items i) (TakesSegment listening ip.now (segment_of repr.now)) }
     requires small { length repr.now.payload.now ≤ 65535 }
-    ensures heard { HearsAt C.facts C.word_at G.tells slots.old.items i cx.old ip.now (segment_of repr.now) result
+    ensures heard { HearsAt C.facts C.word_at G.tells as_is slots.old.items i cx.old ip.now (segment_of repr.now) result
         slots.new.items cx.new }
     ensures bare { ForSome result (λ r. r.1.payload.now ≡ []) }
     ensures fits { ForSome (option_map reply_of result) (λ r. FitsPacket r.0 r.1) }
 {
     slots[i].hear(cx, listening, ip, repr)
+}
+
+/// The socket at this place listens again, and takes the SYN.
+fn hear_anew_at<C: Context, G: TsvalSource>(
+    slots: &mut Vec<Slot<'_, G>>,
+    i: usize,
+    cx: &mut C,
+    ip: &IpRepr,
+    repr: &TcpRepr<'_>,
+) -> Option<Reply>
+    requires within { i < length slots.old.items }
+    requires opening { is_opening (segment_of repr.now) ≡ true }
+    requires rests { IfSome (slice_get slots.old.items i) (Rests ip.now (segment_of repr.now)) }
+    requires small { length repr.now.payload.now ≤ 65535 }
+    ensures heard { HearsAt C.facts C.word_at G.tells anew slots.old.items i cx.old ip.now (segment_of repr.now) result
+        slots.new.items cx.new }
+    ensures bare { ForSome result (λ r. r.1.payload.now ≡ []) }
+    ensures fits { ForSome (option_map reply_of result) (λ r. FitsPacket r.0 r.1) }
+{
+    slots[i].hear_anew(cx, ip, repr)
 }
 
 /// The RST that answers a segment for no socket, unless it is one itself, where the limit allows it.
@@ -159,6 +251,8 @@ pub(crate) fn take_segment<C: Context, G: TsvalSource>(
     match taker {
         Taker::Connection(i) => hear_at(slots, i, cx, false, ip, repr),
         Taker::Listener(i) => hear_at(slots, i, cx, true, ip, repr),
+        Taker::Reopened(i) | Taker::Reused(i) => hear_anew_at(slots, i, cx, ip, repr),
+        Taker::Busy => None,
         Taker::Nobody => refuse(limit, cx.now(), ip, repr),
     }
 }

@@ -5,7 +5,6 @@ ghost use Rattle.net_host.specs.Slots.{Empties, Fills, IsFree, handle_at, icmp_a
 ghost use Rattle.net_host.specs.Walks.{Finds, ChangesAt};
 
 use crate::slot::{Slot, SocketHandle};
-use host_guard::Guard;
 use smoltcp_socket::{Socket, icmp, raw, tcp, udp};
 use sock_tcp::{Generator, TsvalSource};
 use std::alloc::{AllocError, Global};

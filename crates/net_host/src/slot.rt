@@ -2,7 +2,7 @@
 ghost use Rattle.std.specs.Prelude.{◌≡◌, ◌↔◌, IsTrue, IfSome, IfNone, Some, None};
 ghost use Rattle.net_host.specs.Slots.{IsFree, Fills, Empties, held};
 
-use host_guard::Guard;
+use crate::guard::Guard;
 use smoltcp_socket::Socket;
 use sock_tcp::{Generator, TsvalSource};
 

@@ -8,6 +8,7 @@ ghost use Rattle.net_host.specs.Turns.{Watches, is_due};
 ghost use Rattle.net_host.specs.Walks.{ChangesEach, FindsIn, FindsNext, Nowhere};
 
 use crate::environment::Environment;
+use crate::guard::GuardSettings;
 use crate::inner::InterfaceInner;
 use crate::slot::Slot;
 use crate::wire::TooShort;
@@ -18,12 +19,16 @@ use smoltcp_socket::{Context, PollAt};
 use sock_tcp::TsvalSource;
 
 /// The guard of each TCP socket looks at it.
-pub(crate) fn watch_all<G: TsvalSource>(slots: &mut Vec<Slot<'_, G>>, now: Instant)
+pub(crate) fn watch_all<G: TsvalSource>(
+    slots: &mut Vec<Slot<'_, G>>,
+    settings: &GuardSettings,
+    now: Instant,
+)
     requires { IsMoment now.micros }
-    ensures { ChangesEach (Watches now) slots.old.items slots.new.items }
+    ensures { ChangesEach (Watches settings.now now) slots.old.items slots.new.items }
 {
     for i in 0..slots.len() {
-        slots[i].watch(now);
+        slots[i].watch(settings, now);
     }
 }
 

@@ -2,13 +2,14 @@
 ghost use Rattle.std.specs.Prelude.{◌≡◌, ◌≤◌, length};
 ghost use Rattle.sock_core.specs.Bounds.{IsMoment};
 ghost use Rattle.net_host.specs.Facts.{facts_by};
-ghost use Rattle.host_guard.specs.Guarding.{not_before};
 ghost use Rattle.sock_tcp.specs.Polls.{is_reached};
 ghost use Rattle.net_host.specs.Turns.{SlotEmits, TakesTurn, Watches, asked_of, delayed, is_due, slot_poll};
 
 use crate::emission::{emit_icmp, emit_raw, emit_tcp, emit_udp};
 use crate::environment::Environment;
+use crate::guard::GuardSettings;
 use crate::slot::Slot;
+use crate::watching::not_before;
 use crate::wire::TooShort;
 use smoltcp_socket::time::{Duration, Instant};
 use smoltcp_socket::wire::IpAddress;
@@ -20,12 +21,12 @@ const NEXT: Duration = Duration { micros: 1 };
 
 impl<'a, G: TsvalSource> Slot<'a, G> {
     /// The guard of a TCP socket looks at it, as `Guard::watch`.
-    pub(crate) fn watch(&mut self, now: Instant)
+    pub(crate) fn watch(&mut self, settings: &GuardSettings, now: Instant)
         requires { IsMoment now.micros }
-        ensures { Watches now self.old self.new }
+        ensures { Watches settings.now now self.old self.new }
     {
         match &mut self.socket {
-            Some(Socket::Tcp(tcp)) => self.guard.watch(tcp, now),
+            Some(Socket::Tcp(tcp)) => self.guard.watch(settings, tcp, now),
             _ => {}
         }
     }
@@ -40,7 +41,8 @@ impl<'a, G: TsvalSource> Slot<'a, G> {
     }
 
     fn asked<C: Context>(&self, cx: &C) -> PollAt
-        ensures { result ≡ asked_of self.now.guard.since self.now.guard.last self.now.socket (C.facts cx.now) }
+        ensures { result ≡ asked_of self.now.guard.phase self.now.guard.end self.now.guard.last self.now.socket
+            (C.facts cx.now) }
     {
         match &self.socket {
             Some(socket) => self.guard.poll_at(socket.poll_at(cx)),
@@ -101,20 +103,6 @@ fn delayed(may: bool, now: Instant, asked: PollAt) -> PollAt
         return asked;
     }
     not_before(now + NEXT, asked)
-}
-
-fn not_before(moment: Instant, asked: PollAt) -> PollAt
-    ensures { result ≡ not_before moment asked }
-{
-    match asked {
-        PollAt::Now => PollAt::Time(moment),
-        PollAt::Time(at) => PollAt::Time(if moment.micros <= at.micros {
-            at
-        } else {
-            moment
-        }),
-        PollAt::Ingress => PollAt::Ingress,
-    }
 }
 
 fn is_reached(poll: PollAt, now: Instant) -> bool

@@ -23,6 +23,7 @@ use Rattle.sock_tcp.specs.Window.{next_ack, receive_window, is_inside, cut_of, c
 use Rattle.sock_tcp.specs.Acked.{syn_place, acked_places, acked_at, acked_of, nothing_acked}
 use Rattle.sock_tcp.specs.Advance.{advanced, advance_in, counted_control, dropped, fallen_back, fin_counted, moved_to, opened_state, options_taken, syn_answered, syn_received, waiting}
 use Rattle.sock_tcp.specs.Process.{Outcome, stopped, tuple_of, after_table, after_advance, has_window, challenged, outside, bytes_taken, processed_inside, cut_inside, tested, by_verdict, processed, processed_by, Accepts, AcceptsIn}
+use Rattle.sock_tcp.specs.Rfc.Recovery.{before_of, recovered}
 use Rattle.sock_tcp.specs.Rfc.Refused.{is_fin as rfc_fin}
 use Rattle.sock_tcp.specs.Steps.{heard}
 use Rattle.sock_tcp.specs.declared.acked.Acked.{Acked}
@@ -50,6 +51,7 @@ use Rattle.pair_core.proofs.ShownWindow.{FinCounts, before_shown, comes, cut_hea
 use Rattle.pair_core.proofs.StreamTables.{passes_heard}
 use Rattle.sock_tcp.specs.Rfc.Refused.{is_plain_control, refused}
 use Rattle.sock_tcp.specs.declared.rules.Rules.{Rules}
+use Rattle.sock_tcp.proofs.Recovering.{recovered_as}
 use Rattle.sock_tcp.proofs.Refusing.{counts_fin, fin_is_plain, heard_alone, refused_as}
 
 fin_is : (c : TcpControl) → rfc_fin c ≡ true → is_fin c ≡ true
@@ -575,6 +577,11 @@ module _ (v : View) (now : Instant) (word : ℕ) (ip : IpRepr) (s : Segment) (at
   no_ack : v.state ≡ state.Listen → s.ack_number ≡ None
   no_ack es = (subst (λ st. AcceptsIn st v ip s) es accepted).0.no_ack
 
+  -- what is done of loss then is not shown
+  recovered_effect : (o : Outcome) → IsEffect o → IsEffect (record { view = recovered (before_of v s) o.view now; reply = o.reply })
+  unfolding recovered
+  recovered_effect o h = h
+
   by_the_verdict : (x : Verdict) → verdict_of v s.control s.ack_number ≡ x → word < 2 ^ 32 → IsEffect (by_verdict v.rules x v (arrival now (tuple_of ip s) word s))
   by_the_verdict verdicts.Drop e small_word = silent v refl
   by_the_verdict verdicts.Reset e small_word =
@@ -586,7 +593,7 @@ module _ (v : View) (now : Instant) (word : ℕ) (ip : IpRepr) (s : Segment) (at
         ends = inl refl;
       }
   by_the_verdict verdicts.Challenge e small_word = answered (challenge_says v.state s.control s.ack_number v.local_seq_no queued no_ack e) (challenged v now s) (challenged_there s now v (shown v) refl)
-  by_the_verdict verdicts.Pass e small_word = is_tested (has_window v.state) refl e small_word
+  by_the_verdict verdicts.Pass e small_word = let h = is_tested (has_window v.state) refl e small_word in recovered_as IsEffect v.rules v now s _ h (recovered_effect _ h) h
 
   pub hears : word < 2 ^ 32 → IsEffect (processed v now word ip s)
   unfolding processed_by

@@ -13,6 +13,9 @@ use Rattle.control_wire.specs.declared.tcp.TcpControl.{TcpControl}
 use Rattle.sock_tcp.specs.Arrival.{arrival}
 use Rattle.sock_tcp.specs.View.{View}
 use Rattle.sock_core.specs.Seq.{is_before, later_of}
+use Rattle.sock_tcp.proofs.Recovering.{recovered_as}
+use Rattle.sock_tcp.specs.declared.verdict.Verdict.TheVariants as verdicts
+use Rattle.sock_tcp.specs.Rfc.Recovery.{before_of, recovered}
 use Rattle.sock_tcp.specs.Rfc.Refused.{refused}
 use Rattle.sock_tcp.specs.Window.{next_ack, receive_window, cut_of}
 use Rattle.sock_tcp.specs.declared.window.Cut.{Cut}
@@ -76,6 +79,14 @@ module _ (v : View) (now : Instant) (word : ℕ) (ip : IpRepr) (s : Segment) (i 
   is_cut : tested (has_window v.state) v (arrival now (tuple_of ip s) word s) ≡ cut_inside (receive_window v) the_cut v (arrival now (tuple_of ip s) word s)
   is_cut = ap (λ b. tested b v (arrival now (tuple_of ip s) word s)) i.window ∙ ap (λ b. if b then cut_inside (receive_window v) the_cut v (arrival now (tuple_of ip s) word s) else refused v.rules v (arrival now (tuple_of ip s) word s)) i.inside
 
+  -- whatever is done of loss then
+  recovered_queues : (o : Outcome) → Queues o → Queues (record { view = recovered (before_of v s) o.view now; reply = o.reply })
+  unfolding recovered
+  recovered_queues o h = h
+
+  passed : Queues (by_verdict v.rules verdicts.Pass v (arrival now (tuple_of ip s) word s))
+  passed = let h = subst Queues (sym is_cut) inside in recovered_as Queues v.rules v now s (tested (has_window v.state) v (arrival now (tuple_of ip s) word s)) h (recovered_queues (tested (has_window v.state) v (arrival now (tuple_of ip s) word s)) h) h
+
   pub queued_at_once : JoinsAtOnce v.rx_buffer (processed v now word ip s).view.rx_buffer (in_window v s)
   unfolding processed_by
-  queued_at_once = subst Queues (sym (ap (λ x. by_verdict v.rules x v (arrival now (tuple_of ip s) word s)) i.passes ∙ is_cut)) inside
+  queued_at_once = subst Queues (sym (ap (λ x. by_verdict v.rules x v (arrival now (tuple_of ip s) word s)) i.passes)) passed

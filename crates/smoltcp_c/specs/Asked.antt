@@ -1,5 +1,5 @@
 -- What a socket is asked by a number: the numbers are the same for all kinds of sockets.
-use Rattle.std.specs.Prelude.{ℕ, ℤ, pos, ◌==◌, ◌^◌, min, length, if◌then◌else◌}
+use Rattle.std.specs.Prelude.{ℕ, ℤ, pos, Some, ◌==◌, ◌*◌, ◌^◌, min, length, if◌then◌else◌}
 use Rattle.net_base.specs.Packets.{Packets, taken}
 use Rattle.sock_core.specs.Received.{room_of}
 use Rattle.sock_dgram.specs.Datagrams.{has_entry, has_place}
@@ -52,6 +52,7 @@ setting_told n v =
     else if n == 22 then kind_told (kind_of v.congestion_controller)
     else if n == 23 then flag_answer v.stamps
     else if n == 24 then rules_told v.rules
+    else if n == 25 then micros_told (Some (record { micros = v.rtte.least * 1000 }))
     else error_range
 
 -- a TCP socket

@@ -3,7 +3,8 @@ ghost use Rattle.std.specs.Prelude.{◌≡◌, ◌==◌, pos, None, Option, Some
 ghost use Rattle.std.specs.Option.{IfSome};
 ghost use Rattle.net_base.specs.declared.time.Duration.{Duration};
 ghost use Rattle.sock_tcp.specs.Closing.{keep_alive_set};
-ghost use Rattle.sock_tcp.specs.Settings.{of_kind};
+ghost use Rattle.sock_core.specs.Estimator.{bounded_below};
+ghost use Rattle.sock_tcp.specs.Settings.{least_timeout_of, of_kind};
 ghost use Rattle.sock_tcp.specs.View.{IsShort};
 ghost use Rattle.sock_tcp.specs.declared.rules.Rules.{Rules};
 ghost use Rattle.sock_tcp.specs.declared.settings.CongestionControl.{CongestionControl};
@@ -112,6 +113,24 @@ pub extern "C" fn smoltcp_tcp_set_timeout_nonnull(h: &mut TcpHandle, micros: i64
         return ERROR_RANGE;
     };
     h.socket().set_timeout(duration);
+    OK
+}
+
+/// Sets the lowest retransmission timeout in microseconds, in whole milliseconds: less than one counts as one, and more
+/// than a minute as a minute (RFC 6298, section 2.4). A new socket has a second. 0, or `ERROR_RANGE` below 0 and above
+/// 2^61, where nothing changes.
+#[unsafe(no_mangle)]
+pub extern "C" fn smoltcp_tcp_set_min_rto_nonnull(h: &mut TcpHandle, micros: i64) -> i64
+    ensures far { lasting micros ≡ None → Refuses error_range h.old result h.new }
+    ensures below { lasting micros ≡ Some None → Refuses error_range h.old result h.new }
+    ensures set { (d : Duration) → lasting micros ≡ Some (Some d)
+        → Sets h.old (record (view h.old) { rtte = bounded_below (view h.old).rtte (least_timeout_of d) }) result
+        h.new }
+{
+    let Some(Some(duration)) = lasting(micros) else {
+        return ERROR_RANGE;
+    };
+    h.socket().set_min_rto(duration);
     OK
 }
 

@@ -1,5 +1,5 @@
 -- The estimator of the retransmission timeout.
-use Rattle.std.proofs.Common.{◌≡◌, ℕ, ◌^◌, Bool, true, false, cond, List, [], ◌∷◌, Option, Some, None, ap, arith}
+use Rattle.std.proofs.Common.{◌≡◌, ℕ, ◌^◌, Bool, true, false, refl, cond, List, [], ◌∷◌, Option, Some, None, ap, arith}
 use Rattle.std.specs.Prelude.{min}
 use Rattle.net_base.specs.declared.time.Instant.{Instant}
 use Rattle.control_wire.specs.declared.seq_number.TcpSeqNumber.{TcpSeqNumber}
@@ -13,54 +13,58 @@ pub sampled_cut : (e : Estimator) (x : ℕ) → sampled e (min x 268435456) ≡ 
 unfolding sampled
 sampled_cut e x =
     let same : min (min x 268435456) 268435456 ≡ min x 268435456 = omega arith in
-    ap (λ n. let s = smoothed_by e.smoothed n in record e { smoothed = Some s; rto = timeout_of s; backoffs = 0 }) same
+    ap (λ n. let s = smoothed_by e.smoothed n in record e { smoothed = Some s; rto = timeout_of e.least s; backoffs = 0 }) same
 
-in_range : (s : Smoothed) → IsTimeout (timeout_of s)
-in_range s = (omega arith, omega arith)
+-- what the law says of an estimator whose lowest timeout was not set
+abbrev pub IsUnset : Estimator → Type 0
+IsUnset e = IsTimeout e.rto × (e.least ≡ 1000)
 
-after_sample : (e : Estimator) (x : ℕ) → IsTimeout (sampled e x).rto
+in_range : (least : ℕ) (s : Smoothed) → least ≡ 1000 → IsTimeout (timeout_of least s)
+in_range least s e = (omega (arith, e), omega (arith, e))
+
+after_sample : (e : Estimator) (x : ℕ) → IsUnset e → IsUnset (sampled e x)
 unfolding sampled
-after_sample e x = in_range (smoothed_by e.smoothed (min x (2 ^ 28)))
+after_sample e x h = (in_range e.least (smoothed_by e.smoothed (min x (2 ^ 28))) h.1, h.1)
 
-after_send : (e : Estimator) (now : Instant) (n : TcpSeqNumber) → IsTimeout e.rto → IsTimeout (sent e now n).rto
+after_send : (e : Estimator) (now : Instant) (n : TcpSeqNumber) → IsUnset e → IsUnset (sent e now n)
 unfolding sent
 after_send e now n h = go (is_highest e.highest n)
   where
-    go : (t : Bool) → IsTimeout (cond t (record e { highest = Some n; timing = timed_from e.timing now n }) e).rto
+    go : (t : Bool) → IsUnset (cond t (record e { highest = Some n; timing = timed_from e.timing now n }) e)
     go true = h
     go false = h
 
-after_ack : (e : Estimator) (now : Instant) (n : TcpSeqNumber) → IsTimeout e.rto → IsTimeout (acked e now n).rto
+after_ack : (e : Estimator) (now : Instant) (n : TcpSeqNumber) → IsUnset e → IsUnset (acked e now n)
 unfolding acked
 after_ack e now n h = timed e.timing
   where
-    timed : (t : Option Timing) → IsTimeout (acked_at t e now n).rto
+    timed : (t : Option Timing) → IsUnset (acked_at t e now n)
     timed None = h
     timed (Some t) = go (is_before n t.number)
       where
-        go : (b : Bool) → IsTimeout (cond b e (record (sampled e (millis_between now t.at)) { timing = None })).rto
+        go : (b : Bool) → IsUnset (cond b e (record (sampled e (millis_between now t.at)) { timing = None }))
         go true = h
-        go false = after_sample e (millis_between now t.at)
+        go false = after_sample e (millis_between now t.at) h
 
-after_backoff : (e : Estimator) → IsTimeout e.rto → IsTimeout (backed_off e).rto
+after_backoff : (e : Estimator) → IsUnset e → IsUnset (backed_off e)
 unfolding backed_off
-after_backoff e h = (omega (arith, h.0), omega arith)
+after_backoff e h = ((omega (arith, h.0.0), omega arith), h.1)
 
-after_retransmit : (e : Estimator) → IsTimeout e.rto → IsTimeout (retransmitted e).rto
+after_retransmit : (e : Estimator) → IsUnset e → IsUnset (retransmitted e)
 unfolding retransmitted
 after_retransmit e h = h
 
-after_one : (c : Call) (e : Estimator) → IsTimeout e.rto → IsTimeout (after_call c e).rto
-after_one (Sample x) e h = after_sample e x
+after_one : (c : Call) (e : Estimator) → IsUnset e → IsUnset (after_call c e)
+after_one (Sample x) e h = after_sample e x h
 after_one (OnSend now n) e h = after_send e now n h
 after_one (OnAck now n) e h = after_ack e now n h
 after_one OnRto e h = after_backoff e h
 after_one OnRetransmit e h = after_retransmit e h
 
 -- from any estimator whose timeout is in range
-pub stays_in_range : (calls : List Call) (e : Estimator) → IsTimeout e.rto → IsTimeout (after_calls calls e).rto
+pub stays_in_range : (calls : List Call) (e : Estimator) → IsUnset e → IsUnset (after_calls calls e)
 stays_in_range [] e h = h
 stays_in_range (c ∷ cs) e h = stays_in_range cs (after_call c e) (after_one c e h)
 
 pub fresh_stays_in_range : (calls : List Call) → IsTimeout (after_calls calls fresh_estimator).rto
-fresh_stays_in_range calls = stays_in_range calls fresh_estimator (omega arith, omega arith)
+fresh_stays_in_range calls = (stays_in_range calls fresh_estimator ((omega arith, omega arith), refl)).0

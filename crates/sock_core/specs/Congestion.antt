@@ -60,6 +60,15 @@ reno_lost r flight =
       in_recovery = true;
     }
 
+-- n bytes less, and a segment more where that many were acknowledged, but at least a segment
+abbrev pub deflated : RenoNumbers → ℕ → ℕ
+deflated r n = max r.mss (capped (r.cwnd - n + (if nat_lt n r.mss then 0 else r.mss)))
+
+-- n bytes are acknowledged, but not all that was sent before a loss: a fast recovery goes on (RFC 6582, section 3.2,
+-- step 3)
+unfoldable pub reno_partially_acked : RenoNumbers → ℕ → RenoNumbers
+reno_partially_acked r n = if r.in_recovery then record r { cwnd = deflated r n } else reno_acked r n
+
 unfoldable pub reno_timed_out : RenoNumbers → ℕ → RenoNumbers
 reno_timed_out r flight =
     record r {
@@ -80,6 +89,9 @@ reno_with_remote_window r window = record r { rwnd = max r.rwnd window }
 
 unfoldable pub reno_on_ack : RenoNumbers → Instant → ℕ → ℕ → Estimator → RenoNumbers
 reno_on_ack r now len flight rtte = reno_acked r len
+
+unfoldable pub reno_on_partial_ack : RenoNumbers → Instant → ℕ → RenoNumbers
+reno_on_partial_ack r now len = reno_partially_acked r len
 
 unfoldable pub reno_on_dup_ack : RenoNumbers → Instant → ℕ → ℕ → RenoNumbers
 reno_on_dup_ack r now len flight = reno_dup_acked r len
@@ -107,6 +119,10 @@ congestion_window (controller.Reno r) = r.cwnd
 unfoldable pub acked : AnyController → Instant → ℕ → ℕ → Estimator → AnyController
 acked (controller.None n) now len flight rtte = controller.None n
 acked (controller.Reno r) now len flight rtte = controller.Reno (reno_on_ack r now len flight rtte)
+
+unfoldable pub partially_acked : AnyController → Instant → ℕ → AnyController
+partially_acked (controller.None n) now len = controller.None n
+partially_acked (controller.Reno r) now len = controller.Reno (reno_on_partial_ack r now len)
 
 unfoldable pub dup_acked : AnyController → Instant → ℕ → ℕ → AnyController
 dup_acked (controller.None n) now len flight = controller.None n

@@ -1,6 +1,6 @@
 -- The estimator of round-trip times and of the retransmission timeout (RFC 6298), in milliseconds.
-use Rattle.std.specs.Prelude.{ℕ, ◌+◌, ◌*◌, ◌/◌, ◌^◌, ◌≤◌, ◌==◌, max, min, Bool, true, if◌then◌else◌}
-use Rattle.std.specs.Prelude.{List, [], ◌∷◌, Option, None, Some, ◌-ℤ◌, unsigned_abs}
+use Rattle.std.specs.Prelude.{ℕ, ◌+◌, ◌*◌, ◌/◌, ◌^◌, ◌≤◌, ◌==◌, nat_lt, max, min, Bool, true, ◌&&◌, if◌then◌else◌}
+use Rattle.std.specs.Prelude.{List, [], ◌∷◌, Option, None, Some, is_none, ◌-ℤ◌, unsigned_abs}
 use Rattle.std.specs.Int.{div_ceil, abs_diff}
 use Rattle.net_base.specs.declared.time.Instant.{Instant}
 use Rattle.control_wire.specs.declared.seq_number.TcpSeqNumber.{TcpSeqNumber}
@@ -14,24 +14,30 @@ pub record Estimator : Type 0 where
   pub timing : Option Timing  -- the number whose acknowledgement is waited for, and when it was sent
   pub highest : Option TcpSeqNumber  -- the highest number that was sent
   pub backoffs : ℕ  -- the timeouts since the last sample, or since the measurement was cleared
+  pub least : ℕ  -- the lowest timeout that a sample makes
 
 -- a second, and no measurement
 abbrev pub fresh_estimator : Estimator
-fresh_estimator = record { smoothed = None; rto = 1000; timing = None; highest = None; backoffs = 0 }
+fresh_estimator = record { smoothed = None; rto = 1000; timing = None; highest = None; backoffs = 0; least = 1000 }
 
 -- between a second and a minute
 abbrev pub IsTimeout : ℕ → Type 0
 IsTimeout n = (1000 ≤ n) × (n ≤ 60000)
+
+-- between a millisecond and a minute
+abbrev pub IsWait : ℕ → Type 0
+IsWait n = (1 ≤ n) × (n ≤ 60000)
 
 -- at most 2 ^ 28 milliseconds, which is three days
 abbrev pub AreSmall : Option Smoothed → Type 0
 AreSmall None = Unit {0}
 AreSmall (Some s) = (s.srtt ≤ 2 ^ 28) × (s.rttvar ≤ 2 ^ 28)
 
-pub record IsEstimator (smoothed : Option Smoothed) (rto backoffs : ℕ) : Type 0 where
+pub record IsEstimator (smoothed : Option Smoothed) (rto backoffs least : ℕ) : Type 0 where
   pub small : AreSmall smoothed
-  pub timeout : IsTimeout rto
+  pub timeout : IsWait rto
   pub few : backoffs ≤ 2
+  pub lowest : IsWait least
 
 -- ---- a sample of x milliseconds
 
@@ -40,13 +46,15 @@ smoothed_by None x = record { srtt = x; rttvar = x / 2 }
 smoothed_by (Some s) x =
     record { srtt = div_ceil (7 * s.srtt + x) 8; rttvar = div_ceil (3 * s.rttvar + abs_diff s.srtt x) 4 }
 
-abbrev pub timeout_of : Smoothed → ℕ
-timeout_of s = max 1000 (min (s.srtt + max 5 (4 * s.rttvar)) 60000)
+-- at least so long
+abbrev pub timeout_of : ℕ → Smoothed → ℕ
+timeout_of least s = min (max least (s.srtt + max 5 (4 * s.rttvar))) 60000
 
 -- cut at 2 ^ 28
 unfoldable pub sampled : Estimator → ℕ → Estimator
 sampled e x =
-    let s = smoothed_by e.smoothed (min x (2 ^ 28)) in record e { smoothed = Some s; rto = timeout_of s; backoffs = 0 }
+    let s = smoothed_by e.smoothed (min x (2 ^ 28)) in
+    record e { smoothed = Some s; rto = timeout_of e.least s; backoffs = 0 }
 
 -- ---- the other calls
 
@@ -89,6 +97,22 @@ backed_off e =
 -- what is sent again is not timed (Karn's algorithm, RFC 6298, section 3)
 unfoldable pub retransmitted : Estimator → Estimator
 retransmitted e = record e { timing = None }
+
+-- samples make no lower timeout from now on
+unfoldable pub bounded_below : Estimator → ℕ → Estimator
+bounded_below e n = record e { least = n }
+
+-- a new one with this lowest timeout
+abbrev pub begun_with : ℕ → Estimator
+begun_with n = record fresh_estimator { least = n }
+
+-- nothing was measured, and the timer ran out
+abbrev pub is_backed_off : Estimator → Bool
+is_backed_off e = is_none e.smoothed && nat_lt 1000 e.rto
+
+-- bytes begin to go out: where the SYN was sent again, the timeout begins anew with three seconds (RFC 6298, rule 5.7)
+unfoldable pub begun_anew : Estimator → Estimator
+begun_anew e = if is_backed_off e then record e { rto = 3000; backoffs = 0 } else e
 
 -- what the getters answer: 0 without a measurement
 abbrev pub srtt_of : Option Smoothed → ℕ

@@ -3,7 +3,8 @@ ghost use Rattle.std.specs.Prelude.{◌≡◌, ℕ, ◌-◌, ◌^◌, ◌<◌, �
 ghost use Rattle.sock_core.specs.Reno.{RenoNumbers};
 ghost use Rattle.sock_core.specs.Congestion.{fresh_reno, bounded, growth, halved, capped};
 ghost use Rattle.sock_core.specs.Congestion.{reno_acked, reno_on_ack, reno_on_dup_ack, reno_on_loss, reno_on_rto};
-ghost use Rattle.sock_core.specs.Congestion.{reno_pre_transmit, reno_post_transmit};
+ghost use Rattle.sock_core.specs.Congestion.{deflated, reno_on_partial_ack, reno_partially_acked};
+ghost use Rattle.sock_core.specs.Congestion.{reno_pre_transmit, reno_post_transmit, partially_acked};
 ghost use Rattle.sock_core.specs.Congestion.{reno_with_mss, reno_with_remote_window};
 ghost use Rattle.sock_core.specs.Congestion.{congestion_window, acked, dup_acked, lost, timed_out};
 ghost use Rattle.sock_core.specs.Congestion.{pre_transmitted, post_transmitted};
@@ -29,6 +30,8 @@ pub trait Controller {
 
     ghost after_ack: { Self → Instant → ℕ → ℕ → Estimator → Self };
 
+    ghost after_partial_ack: { Self → Instant → ℕ → Self };
+
     ghost after_dup_ack: { Self → Instant → ℕ → ℕ → Self };
 
     ghost after_rto: { Self → Instant → ℕ → Self };
@@ -52,6 +55,11 @@ pub trait Controller {
     /// An acknowledgement that is no duplicate came, of `len` bytes, after which `in_flight` are unacknowledged.
     fn on_ack(&mut self, now: Instant, len: usize, in_flight: usize, rtt: &RttEstimator)
         ensures { self.new ≡ after_ack self.old now len in_flight rtt.now };
+
+    /// An acknowledgement of `len` bytes came in a fast recovery, but not of all that was sent before it: the recovery
+    /// goes on (RFC 6582, section 3.2).
+    fn on_partial_ack(&mut self, now: Instant, len: usize)
+        ensures { self.new ≡ after_partial_ack self.old now len };
 
     /// A duplicate acknowledgement came, which tells that `len` bytes, a segment, left the network.
     fn on_dup_ack(&mut self, now: Instant, len: usize, in_flight: usize)
@@ -196,6 +204,46 @@ impl Reno {
     {
         (in_flight / 2).max(self.mss.saturating_mul(2))
     }
+
+    // The window of a fast recovery that goes on once `len` bytes are acknowledged (RFC 6582, section 3.2, step 3).
+    fn deflated(&self, len: usize) -> usize
+        ensures { result ≡ deflated self.now len }
+    {
+        let more = if len < self.mss { 0 } else { self.mss };
+        self.cwnd
+            .saturating_sub(len)
+            .saturating_add(more)
+            .max(self.mss)
+    }
+
+    // An acknowledgement of `len` bytes, but not of all that was sent before a loss.
+    #[tactic(auto, unfolding(crate::specs::Congestion::reno_partially_acked))]
+    fn gain_in_part(&mut self, len: usize)
+        ensures { self.new ≡ reno_partially_acked self.old len }
+    {
+        if self.in_recovery {
+            self.cwnd = self.deflated(len);
+        } else {
+            self.gain(len);
+        }
+    }
+
+    // An acknowledgement of `len` bytes ends a time of timeouts and a fast recovery.
+    #[tactic(auto, unfolding(crate::specs::Congestion::reno_acked))]
+    fn gain(&mut self, len: usize)
+        ensures { self.new ≡ reno_acked self.old len }
+    {
+        if len == 0 {
+            return;
+        }
+        self.cwnd = if self.in_recovery {
+            self.ssthresh
+        } else {
+            self.bounded(self.cwnd.saturating_add(self.growth(len)))
+        };
+        self.in_timeout = false;
+        self.in_recovery = false;
+    }
 }
 
 impl Controller for Reno {
@@ -204,6 +252,8 @@ impl Controller for Reno {
     ghost after_remote_window = { reno_with_remote_window };
 
     ghost after_ack = { reno_on_ack };
+
+    ghost after_partial_ack = { reno_on_partial_ack };
 
     ghost after_dup_ack = { reno_on_dup_ack };
 
@@ -225,18 +275,14 @@ impl Controller for Reno {
         self.rwnd = self.rwnd.max(remote_window);
     }
 
-    #[tactic(auto, unfolding(crate::specs::Congestion::reno_on_ack, crate::specs::Congestion::reno_acked))]
+    #[tactic(auto, unfolding(crate::specs::Congestion::reno_on_ack))]
     fn on_ack(&mut self, _now: Instant, len: usize, _in_flight: usize, _rtt: &RttEstimator) {
-        if len == 0 {
-            return;
-        }
-        self.cwnd = if self.in_recovery {
-            self.ssthresh
-        } else {
-            self.bounded(self.cwnd.saturating_add(self.growth(len)))
-        };
-        self.in_timeout = false;
-        self.in_recovery = false;
+        self.gain(len);
+    }
+
+    #[tactic(auto, unfolding(crate::specs::Congestion::reno_on_partial_ack))]
+    fn on_partial_ack(&mut self, _now: Instant, len: usize) {
+        self.gain_in_part(len);
     }
 
     #[tactic(auto, unfolding(crate::specs::Congestion::reno_on_dup_ack, crate::specs::Congestion::reno_dup_acked))]
@@ -287,6 +333,8 @@ impl Controller for NoControl {
 
     ghost after_ack = { λ c now len flight rtt. c };
 
+    ghost after_partial_ack = { λ c now len. c };
+
     ghost after_dup_ack = { λ c now len flight. c };
 
     ghost after_rto = { λ c now flight. c };
@@ -307,6 +355,8 @@ impl Controller for NoControl {
 
     fn on_ack(&mut self, _now: Instant, _len: usize, _in_flight: usize, _rtt: &RttEstimator) {}
 
+    fn on_partial_ack(&mut self, _now: Instant, _len: usize) {}
+
     fn on_dup_ack(&mut self, _now: Instant, _len: usize, _in_flight: usize) {}
 
     fn on_rto(&mut self, _now: Instant, _in_flight: usize) {}
@@ -326,6 +376,8 @@ impl Controller for AnyController {
     ghost after_remote_window = { with_remote_window };
 
     ghost after_ack = { acked };
+
+    ghost after_partial_ack = { partially_acked };
 
     ghost after_dup_ack = { dup_acked };
 
@@ -359,6 +411,14 @@ impl Controller for AnyController {
         match self {
             AnyController::None(none) => none.on_ack(now, len, in_flight, rtt),
             AnyController::Reno(reno) => reno.on_ack(now, len, in_flight, rtt),
+        }
+    }
+
+    #[tactic(auto, unfolding(crate::specs::Congestion::partially_acked))]
+    fn on_partial_ack(&mut self, now: Instant, len: usize) {
+        match self {
+            AnyController::None(none) => none.on_partial_ack(now, len),
+            AnyController::Reno(reno) => reno.on_partial_ack(now, len),
         }
     }
 

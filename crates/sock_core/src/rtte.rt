@@ -1,6 +1,7 @@
 //! The estimator of round-trip times and of the retransmission timeout (RFC 6298).
 ghost use Rattle.std.specs.Prelude.{◌≡◌, ◌*◌, ◌≤◌, List, true, if◌then◌else◌};
 ghost use Rattle.sock_core.specs.Estimator.{fresh_estimator, sampled, sent, acked, backed_off, retransmitted};
+ghost use Rattle.sock_core.specs.Estimator.{begun_anew, begun_with, bounded_below, is_backed_off, IsWait};
 ghost use Rattle.sock_core.specs.Estimator.{smoothed_by, timeout_of, AreSmall, IsTimeout, srtt_of, rttvar_of};
 ghost use Rattle.sock_core.specs.Estimator.{Call, after_calls};
 
@@ -13,6 +14,8 @@ use std::marker::Model;
 const INITIAL_TIMEOUT: u32 = 1_000;
 
 const LEAST_TIMEOUT: u32 = 1_000;
+
+const TIMEOUT_AFTER_LOST_SYN: u32 = 3_000;
 
 const LONGEST_TIMEOUT: u32 = 60_000;
 
@@ -44,7 +47,8 @@ pub struct Timing {
 /// Estimates how long a segment and its acknowledgement travel, and from that how long to wait for an acknowledgement
 /// before a segment is sent again (RFC 6298).
 ///
-/// The timeout is between 1,000 and 60,000 milliseconds. One number at a time is timed, and none that was sent again.
+/// The timeout is between 1,000 and 60,000 milliseconds, unless another lowest one is set. One number at a time is
+/// timed, and none that was sent again.
 #[derive(Debug, Clone, Copy)]
 pub struct RttEstimator {
     smoothed: Option<Smoothed>,
@@ -52,6 +56,7 @@ pub struct RttEstimator {
     timing: Option<Timing>,
     highest: Option<TcpSeqNumber>,
     backoffs: u8,
+    least: u32,
 }
 
 impl Model for RttEstimator {
@@ -65,9 +70,10 @@ impl Model for RttEstimator {
       timing = e.timing;
       highest = e.highest;
       backoffs = e.backoffs;
+      least = e.least;
     } };
 
-    ghost invariant = { λ e. IsEstimator e.smoothed e.rto e.backoffs };
+    ghost invariant = { λ e. IsEstimator e.smoothed e.rto e.backoffs e.least };
 
     ghost inverse = { λ e. record {
       smoothed = e.smoothed;
@@ -75,6 +81,7 @@ impl Model for RttEstimator {
       timing = e.timing;
       highest = e.highest;
       backoffs = e.backoffs;
+      least = e.least;
     } };
 }
 
@@ -89,6 +96,7 @@ impl Default for RttEstimator {
             timing: None,
             highest: None,
             backoffs: 0,
+            least: LEAST_TIMEOUT,
         }
     }
 }
@@ -102,7 +110,7 @@ impl RttEstimator {
     /// How long to wait for an acknowledgement.
     pub fn retransmission_timeout(&self) -> Duration
         ensures value { result.micros ≡ self.now.rto * 1000 }
-        ensures range { IsTimeout self.now.rto }
+        ensures range { IsWait self.now.rto }
     {
         Duration::from_millis(self.rto as u64)
     }
@@ -134,7 +142,7 @@ impl RttEstimator {
     {
         let smoothed = smoothed_by(self.smoothed, new_rtt.min(LONGEST_SAMPLE));
         self.smoothed = Some(smoothed);
-        self.rto = timeout_of(smoothed);
+        self.rto = timeout_of(self.least, smoothed);
         self.backoffs = 0;
     }
 
@@ -193,6 +201,46 @@ impl RttEstimator {
     {
         self.timing = None;
     }
+
+    /// The lowest timeout that a sample makes, in milliseconds.
+    pub fn least_timeout(&self) -> u32
+        ensures value { result ≡ self.now.least }
+        ensures range { IsWait result }
+    {
+        self.least
+    }
+
+    /// Sets the lowest timeout that a sample makes, 1 to 60,000 milliseconds: 1,000 in a new estimator, as RFC 6298,
+    /// section 2.4, recommends. The timeout stays as it is until the next sample.
+    #[tactic(auto, unfolding(crate::specs::Estimator::bounded_below))]
+    pub fn set_least_timeout(&mut self, least: u32)
+        requires { IsWait least }
+        ensures { self.new ≡ bounded_below self.old least }
+    {
+        self.least = least;
+    }
+
+    /// A new one with the same lowest timeout.
+    pub fn renewed(&self) -> RttEstimator
+        ensures { result ≡ begun_with self.now.least }
+    {
+        RttEstimator {
+            least: self.least,
+            ..RttEstimator::default()
+        }
+    }
+
+    /// Bytes begin to go out, once the SYN is acknowledged: where it was sent again, the timeout is three seconds,
+    /// however long the SYN was waited for (RFC 6298, rule 5.7).
+    #[tactic(auto, unfolding(crate::specs::Estimator::begun_anew))]
+    pub fn begin_anew(&mut self)
+        ensures { self.new ≡ begun_anew self.old }
+    {
+        if self.smoothed.is_none() && self.rto > INITIAL_TIMEOUT {
+            self.rto = TIMEOUT_AFTER_LOST_SYN;
+            self.backoffs = 0;
+        }
+    }
 }
 
 // The measurement with one more sample.
@@ -215,11 +263,12 @@ fn smoothed_by(smoothed: Option<Smoothed>, sample: u32) -> Smoothed
 }
 
 // The timeout of a measurement.
-fn timeout_of(smoothed: Smoothed) -> u32
-    requires { AreSmall (Some smoothed) }
-    ensures value { result ≡ timeout_of smoothed }
-    ensures range { IsTimeout result }
+fn timeout_of(least: u32, smoothed: Smoothed) -> u32
+    requires small { AreSmall (Some smoothed) }
+    requires least { IsWait least }
+    ensures value { result ≡ timeout_of least smoothed }
+    ensures range { IsWait result }
 {
     let margin = LEAST_MARGIN.max(4 * smoothed.rttvar);
-    (smoothed.srtt + margin).clamp(LEAST_TIMEOUT, LONGEST_TIMEOUT)
+    (smoothed.srtt + margin).max(least).min(LONGEST_TIMEOUT)
 }

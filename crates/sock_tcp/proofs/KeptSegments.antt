@@ -13,6 +13,7 @@ use Rattle.sock_tcp.specs.Advance.{advance_in, advanced, counted_control, droppe
 use Rattle.sock_tcp.specs.Arrival.{Arrival, arrival}
 use Rattle.sock_tcp.specs.Process.{stopped, ack_sent, challenged, close_restarted, outside_by, outside, gap_answered, bytes_taken, tuple_of, after_advance, processed_inside, has_window, cut_inside, tested_by, by_verdict, processed_by}
 use Rattle.sock_tcp.specs.Replies.{ack_kept}
+use Rattle.sock_tcp.specs.Rfc.Recovery.{before_of, recovered, recovered_by}
 use Rattle.sock_tcp.specs.Rfc.Refused.{refused}
 use Rattle.sock_tcp.specs.Steps.{ack_delayed, ack_heard, acknowledged, heard, is_duplicate, is_window_changed, joined, released, timer_set, timestamp_taken, window_taken}
 use Rattle.sock_tcp.specs.Timers.{after, challenge_interval}
@@ -28,6 +29,7 @@ use Rattle.sock_tcp.specs.declared.state.State.TheVariants as state
 use Rattle.sock_tcp.specs.declared.tuple.Tuple.{Tuple}
 use Rattle.sock_tcp.specs.declared.verdict.Verdict.{Verdict}
 use Rattle.sock_tcp.specs.declared.verdict.Verdict.TheVariants as verdicts
+use Rattle.sock_tcp.proofs.Recovering.{recovered_as}
 use Rattle.sock_tcp.proofs.Refusing.{heard_alone, refused_as}
 
 -- what holds of what is heard of a segment, whether it is a duplicate or not
@@ -147,6 +149,7 @@ pub record KeptBySegments (P : View → Type 0) (now : Instant) (word : ℕ) (s 
   pub rows : KeptByRows P now word s
   pub joins : (w : View) (o : ℕ) (bs : List ℕ) → P w → P (ack_delayed (joined w o bs) now)
   pub hears : (u : View) (a : Acked) → P u → P (heard u now a s)
+  pub recovers : (v w : View) → P v → P w → P (recovered (before_of v s) w now)
 
 module _ (P : View → Type 0) (now : Instant) (word : ℕ) (ip : IpRepr) (s : Segment) (k : KeptBySegments P now word s) where
   abbrev come : Arrival
@@ -185,6 +188,10 @@ module _ (P : View → Type 0) (now : Instant) (word : ℕ) (ip : IpRepr) (s : S
       go false = refused_kept r v h
       go true = inside_kept (record v { local_rx_last_seq = Some s.seq_number }) (counted_control s.control (receive_window v) s.seq_number (length s.payload)) _ _ (k.numbers v s.seq_number h)
 
+  -- and where it has recovered, by either rules
+  pub passed_kept : (r : Rules) (v : View) → P v → (b : Bool) → P (recovered_by r v now s (tested_by r b v come)).view
+  passed_kept r v h b = let i = tested_kept r v h b in recovered_as (λ o. P o.view) r v now s (tested_by r b v come) i (k.recovers v (tested_by r b v come).view h i) i
+
   pub process_kept : (r : Rules) (v : View) → P v → P (processed_by r v now word ip s).view
   unfolding processed_by
   process_kept r v h = by (verdict_of v s.control s.ack_number)
@@ -193,4 +200,4 @@ module _ (P : View → Type 0) (now : Instant) (word : ℕ) (ip : IpRepr) (s : S
       by verdicts.Drop = h
       by verdicts.Reset = h
       by verdicts.Challenge = challenged_kept P now s k.answers v h
-      by verdicts.Pass = tested_kept r v h (has_window v.state)
+      by verdicts.Pass = passed_kept r v h (has_window v.state)

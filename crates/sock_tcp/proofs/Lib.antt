@@ -1,5 +1,6 @@
 pub mod Acking
 pub mod Refusing
+pub mod Recovering
 pub mod KeptSegments
 pub mod Stamping
 pub mod Windows

@@ -8,12 +8,13 @@ use Rattle.sock_tcp.specs.Advance.{fallen_back, fin_counted, options_taken, syn_
 use Rattle.sock_tcp.specs.Arrival.{arrival}
 use Rattle.sock_tcp.specs.Process.{Outcome, answered, close_restarted, source_kept, tested, tuple_of}
 use Rattle.sock_tcp.specs.Replies.{ack_kept}
+use Rattle.sock_tcp.specs.Rfc.Recovery.{recovered, recovered_by}
 use Rattle.sock_tcp.specs.Steps.{ack_counted, ack_delayed, duplicate_counted, heard, joined, released, timer_set, timestamp_taken, una_advanced, window_taken}
 use Rattle.sock_tcp.specs.View.{View}
 use Rattle.sock_tcp.specs.declared.acked.Acked.{Acked}
 use Rattle.sock_tcp.specs.declared.process.Answer.{Answer}
 use Rattle.sock_tcp.specs.declared.process.Answer.TheVariants as answers
-use Rattle.sock_tcp.proofs.KeptSegments.{KeptByAnswers, KeptByRows, KeptBySegments, heard_kept, tested_kept}
+use Rattle.sock_tcp.proofs.KeptSegments.{KeptByAnswers, KeptByRows, KeptBySegments, heard_kept, passed_kept}
 
 first_holds : (a b : Bool) → (a && b) ≡ true → a ≡ true
 first_holds true b e = refl
@@ -44,7 +45,7 @@ module _ (v : View) where
   hears_fall now s u a h = heard_kept Falls now s u a h (λ k. h) (λ k. h)
 
   segments_fall : (now : Instant) (word : ℕ) (s : Segment) → KeptBySegments Falls now word s
-  unfolding close_restarted joined ack_delayed
+  unfolding close_restarted joined ack_delayed recovered
   segments_fall now word s = record {
     answers = answers_fall;
     restarts = λ w h. h;
@@ -52,6 +53,7 @@ module _ (v : View) where
     rows = rows_fall now word s;
     joins = λ w o bs h. h;
     hears = hears_fall now s;
+    recovers = λ u w h i. i;
   }
 
 answer_keeps : (r : Answer) (v : View) (s : Segment) → (answered r v s).view.stamps ≡ v.stamps
@@ -60,8 +62,8 @@ answer_keeps answers.Nothing v s = refl
 answer_keeps answers.Ack v s = refl
 answer_keeps answers.Rst v s = refl
 
-pub stamps_fall : (r : Answer) (v w : View) (now : Instant) (word : ℕ) (ip : IpRepr) (s : Segment) (b : Bool) → answered r w s ≡ tested b v (arrival now (tuple_of ip s) word s) → IsTrue w.stamps → IsTrue v.stamps
-stamps_fall r v w now word ip s b e h = tested_kept (Falls v) now word ip s (segments_fall v now word s) v.rules v (λ i. i) b (sym (ap (λ (o : Outcome). o.view.stamps) e) ∙ answer_keeps r w s ∙ h)
+pub stamps_fall : (r : Answer) (v w : View) (now : Instant) (word : ℕ) (ip : IpRepr) (s : Segment) (b : Bool) → answered r w s ≡ recovered_by v.rules v now s (tested b v (arrival now (tuple_of ip s) word s)) → IsTrue w.stamps → IsTrue v.stamps
+stamps_fall r v w now word ip s b e h = passed_kept (Falls v) now word ip s (segments_fall v now word s) v.rules v (λ i. i) b (sym (ap (λ (o : Outcome). o.view.stamps) e) ∙ answer_keeps r w s ∙ h)
 
 -- so the source that is kept is there exactly where they are
 pub still_stamped : {G : Type 0} (g : Option G) (old new : Bool) → is_some g ≡ old → (IsTrue new → IsTrue old) → is_some (source_kept new g) ≡ new

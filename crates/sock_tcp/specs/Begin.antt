@@ -7,6 +7,7 @@ use Rattle.sock_core.specs.Facts.{Facts}
 use Rattle.sock_tcp.specs.Due.{flight, is_due}
 use Rattle.sock_tcp.specs.Opening.{renewed}
 use Rattle.sock_tcp.specs.Polls.{is_reached, timeout_poll}
+use Rattle.sock_tcp.specs.Rfc.Recovery.{timed_out_by}
 use Rattle.sock_tcp.specs.Timers.{is_over, idle_from, is_close_over}
 use Rattle.sock_tcp.specs.View.{View, moment_of}
 use Rattle.sock_tcp.specs.declared.state.State.{State}
@@ -58,6 +59,7 @@ retransmission_begun v now =
       remote_last_seq = v.local_seq_no;
       rtte = retransmitted (backed_off v.rtte);
       timer = idle_from now v.keep_alive;
+      recovery = timed_out_by v.rules v.recovery v.remote_last_seq;
     }
 
 -- a fast retransmission: the segment at SND.UNA is marked to be sent again (RFC 5681, section 3.2)

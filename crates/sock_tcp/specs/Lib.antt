@@ -14,6 +14,7 @@ pub mod Acked
 pub mod Arrival
 pub mod Advance
 pub mod Steps
+pub mod Ends
 pub mod Inside
 pub mod Rfc
 pub mod Process

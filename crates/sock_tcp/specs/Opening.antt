@@ -6,6 +6,7 @@ use Rattle.ip_wire.specs.declared.address.IpAddress.{IpAddress}
 use Rattle.ip_wire.specs.declared.endpoint.IpEndpoint.{IpEndpoint}
 use Rattle.ip_wire.specs.declared.endpoint.IpListenEndpoint.{IpListenEndpoint}
 use Rattle.control_wire.specs.Seq.{seq_of}
+use Rattle.sock_core.specs.Estimator.{begun_with}
 use Rattle.sock_core.specs.Facts.{Facts}
 use Rattle.sock_core.specs.Received.{cleared}
 use Rattle.sock_tcp.specs.Draw.{Draws}
@@ -51,6 +52,7 @@ renewed v =
       synack_paused = v.synack_paused;
       stamps = v.stamps;
       rules = v.rules;
+      rtte = begun_with v.rtte.least;
       congestion_controller = of_kind (kind_of v.congestion_controller);
       remote_has_sack = v.remote_has_sack;
       local_rx_last_seq = v.local_rx_last_seq;

@@ -19,6 +19,7 @@ use Rattle.sock_tcp.specs.Draw.{draws, Draws}
 pub use Rattle.sock_tcp.specs.Inside.{Outcome, stopped, ack_sent, rst_sent, answered, timer_restarted, outside_by}
 pub use Rattle.sock_tcp.specs.Inside.{tuple_of, gap_answered, after_advance, after_table, acked_by}
 unfoldable pub use Rattle.sock_tcp.specs.Inside.{challenged, close_restarted, outside, bytes_taken, processed_inside}
+use Rattle.sock_tcp.specs.Rfc.Recovery.{recovered_by}
 use Rattle.sock_tcp.specs.Rfc.Refused.{refused}
 use Rattle.sock_tcp.specs.View.{View, moment_of}
 use Rattle.sock_tcp.specs.Verdict.{verdict_of}
@@ -70,7 +71,8 @@ Accepts v ip s = AcceptsIn v.state v ip s
 -- ---- process
 -- Each definition stands below those that it names, so the rules are read from the end, in this order: `processed`
 -- asks for the verdict; `by_verdict` drops, resets, challenges or lets pass; `tested` tests the receive window, in a
--- state that has one; `cut_inside` cuts what lies inside, and `refused` (`Rfc/Refused.antt`) does by the socket's rules
+-- state that has one, and `recovered_by` (`Rfc/Recovery.antt`) does by the socket's rules what is done of loss then;
+-- `cut_inside` cuts what lies inside, and `refused` (`Rfc/Refused.antt`) does by the socket's rules
 -- what is done outside. The rest stands in `Inside.antt`: `outside` answers a segment; `processed_inside` goes through
 -- the state table; `after_advance` stops, challenges or hears the acknowledgement; `bytes_taken` takes the bytes and
 -- answers a gap.
@@ -104,7 +106,7 @@ abbrev pub by_verdict : Rules → Verdict → View → Arrival → Outcome
 by_verdict r verdicts.Drop v a = stopped v
 by_verdict r verdicts.Reset v a = rst_sent v a.segment
 by_verdict r verdicts.Challenge v a = challenged v a.now a.segment
-by_verdict r verdicts.Pass v a = tested_by r (has_window v.state) v a
+by_verdict r verdicts.Pass v a = recovered_by r v a.now a.segment (tested_by r (has_window v.state) v a)
 
 unfoldable pub processed_by : Rules → View → Instant → ℕ → IpRepr → Segment → Outcome
 processed_by r v now word ip s =

@@ -1,5 +1,5 @@
 -- What a user may set, and what is seen of it.
-use Rattle.std.specs.Prelude.{pos, Option, Some, None}
+use Rattle.std.specs.Prelude.{ℕ, pos, max, min, ◌/◌, Option, Some, None}
 use Rattle.net_base.specs.declared.time.Duration.{Duration}
 use Rattle.sock_core.specs.Congestion.{fresh_reno}
 use Rattle.sock_core.specs.declared.congestion.AnyController.{AnyController}
@@ -19,6 +19,12 @@ kind_of (controller.Reno r) = kind.Reno
 abbrev pub of_kind : CongestionControl → AnyController
 of_kind kind.None = controller.None (record {})
 of_kind kind.Reno = controller.Reno fresh_reno
+
+-- ---- the lowest retransmission timeout
+
+-- in whole milliseconds, between one and a minute
+abbrev pub least_timeout_of : Duration → ℕ
+least_timeout_of d = max 1 (min (d.micros / 1000) 60000)
 
 -- ---- keep-alives
 

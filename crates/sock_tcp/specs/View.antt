@@ -20,6 +20,8 @@ use Rattle.sock_tcp.specs.declared.timer.AckDelayTimer.{AckDelayTimer}
 use Rattle.sock_tcp.specs.declared.timer.AckDelayTimer.TheVariants as ack_delay
 use Rattle.sock_tcp.specs.declared.timer.Timer.{Timer}
 use Rattle.sock_tcp.specs.declared.timer.Timer.TheVariants as timer
+use Rattle.sock_tcp.specs.declared.recovery.Recovery.{Recovery}
+use Rattle.sock_tcp.specs.declared.recovery.Recovery.TheVariants as recovery
 use Rattle.sock_tcp.specs.declared.rules.Rules.{Rules}
 use Rattle.sock_tcp.specs.declared.rules.Rules.TheVariants as rules
 use Rattle.sock_tcp.specs.declared.state.State.{State}
@@ -63,6 +65,7 @@ pub record View : Type 0 where
   pub synack_paused : Bool  -- a SYN|ACK waits
   pub stamps : Bool  -- segments carry a timestamp (RFC 7323, section 3)
   pub rules : Rules  -- where smoltcp's differ from the RFCs'
+  pub recovery : Recovery  -- what goes on of a loss, by the RFCs' rules
 
 -- the moment that a context tells
 abbrev pub moment_of : Facts → Instant
@@ -140,4 +143,5 @@ fresh rx tx =
       synack_paused = false;
       stamps = false;
       rules = rules.Smoltcp;
+      recovery = recovery.Open;
     }

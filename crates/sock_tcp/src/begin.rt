@@ -58,6 +58,7 @@ impl<'a> ControlBlock<'a> {
     {
         let flight = self.flight();
         self.congestion_controller.on_rto(now, flight);
+        self.recovery = self.recovery.timed_out(self.rules, self.remote_last_seq);
         self.remote_last_seq = self.local_seq_no;
         self.rtte.on_rto();
         self.rtte.on_retransmit();

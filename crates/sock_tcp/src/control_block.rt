@@ -1,5 +1,6 @@
 //! The transmission control block (RFC 9293, section 3.3.1), and the value that contracts see.
 
+use crate::recovery::Recovery;
 use crate::rules::Rules;
 use crate::state::State;
 use crate::timer::{AckDelayTimer, Timer};
@@ -86,6 +87,8 @@ pub struct ControlBlock<'a> {
     pub(crate) stamps: bool,
     // where smoltcp's differ from the RFCs'
     pub(crate) rules: Rules,
+    // what goes on of a loss, by the RFCs' rules
+    pub(crate) recovery: Recovery,
 }
 
 impl<'a> Model for ControlBlock<'a> {
@@ -130,6 +133,7 @@ impl<'a> Model for ControlBlock<'a> {
       synack_paused = s.synack_paused;
       stamps = s.stamps;
       rules = s.rules;
+      recovery = s.recovery;
     } };
 
     ghost invariant = { λ s. IsSound s.rx_buffer (queue_of s.tx_buffer) s.tuple

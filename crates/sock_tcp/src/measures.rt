@@ -2,9 +2,13 @@
 ghost use Rattle.std.specs.Prelude.{◌≡◌, ◌*◌};
 ghost use Rattle.sock_core.specs.Congestion.{congestion_window};
 ghost use Rattle.sock_core.specs.Estimator.{srtt_of};
+ghost use Rattle.sock_tcp.specs.Ends.{close_end};
+ghost use Rattle.sock_tcp.specs.Window.{next_ack};
 
 use crate::socket::Socket;
-use net_base::time::Duration;
+use crate::timer::Timer;
+use control_wire::TcpSeqNumber;
+use net_base::time::{Duration, Instant};
 use sock_core::congestion::Controller;
 
 impl<'a, G> Socket<'a, G> {
@@ -13,6 +17,30 @@ impl<'a, G> Socket<'a, G> {
         ensures { result ≡ self.now.control_block.remote_win_len }
     {
         self.control_block.remote_win_len
+    }
+
+    /// The number of the first byte that the peer has not acknowledged (SND.UNA; RFC 9293, section 3.3.1).
+    pub fn send_unacknowledged(&self) -> TcpSeqNumber
+        ensures { result ≡ self.now.control_block.local_seq_no }
+    {
+        self.control_block.local_seq_no
+    }
+
+    /// The number of the next byte that is expected of the peer (RCV.NXT; RFC 9293, section 3.3.1).
+    pub fn receive_next(&self) -> TcpSeqNumber
+        ensures { result ≡ next_ack self.now.control_block }
+    {
+        self.control_block.next_ack()
+    }
+
+    /// When TIME-WAIT ends, in this state (RFC 9293, section 3.4.2).
+    pub fn time_wait_end(&self) -> Option<Instant>
+        ensures { result ≡ close_end self.now.control_block.timer }
+    {
+        match self.control_block.timer {
+            Timer::Close { expires_at } => Some(expires_at),
+            _ => None,
+        }
     }
 
     /// How many bytes congestion control lets be in flight (RFC 5681, section 3.1); 2^64 - 1 without a controller.

@@ -10,6 +10,7 @@ ghost use Rattle.sock_tcp.specs.Opening.{Connects};
 
 use crate::control_block::ControlBlock;
 use crate::error::{ConnectError, ListenError};
+use crate::recovery::Recovery;
 use crate::rules::Rules;
 use crate::state::State;
 use crate::timer::{AckDelayTimer, Timer};
@@ -81,6 +82,7 @@ impl<'a> ControlBlock<'a> {
             synack_paused: false,
             stamps: false,
             rules: Rules::Smoltcp,
+            recovery: Recovery::Open,
         }
     }
 
@@ -92,7 +94,7 @@ impl<'a> ControlBlock<'a> {
     {
         self.state = State::Closed;
         self.timer = IDLE;
-        self.rtte = RttEstimator::default();
+        self.rtte = self.rtte.renewed();
         self.rx_buffer.clear();
         self.rx_fin_received = false;
         self.tx_buffer.clear();
@@ -113,6 +115,7 @@ impl<'a> ControlBlock<'a> {
         self.ack_delay_timer = AckDelayTimer::Idle;
         self.challenge_ack_timer = Instant::ZERO;
         self.congestion_controller = self.congestion_control().controller();
+        self.recovery = Recovery::Open;
     }
 
     pub(crate) fn is_open(&self) -> bool

@@ -9,11 +9,14 @@ ghost use Rattle.sock_tcp.specs.View.{moment_of};
 ghost use Rattle.sock_tcp.specs.Arrival.{arrival};
 ghost use Rattle.sock_tcp.specs.Process.{IsToListener, IsAddressed, Opens, Accepts, tuple_of, has_window};
 ghost use Rattle.sock_tcp.specs.Process.{answered, challenged, close_restarted, outside, bytes_taken};
-ghost use Rattle.sock_tcp.specs.Process.{processed_inside, tested, processed};
+ghost use Rattle.sock_tcp.specs.Process.{by_verdict, processed_inside, tested, processed};
 ghost use Rattle.sock_tcp.specs.Draw.{draws, Draws};
+ghost use Rattle.sock_tcp.specs.Rfc.Recovery.{recovered_by};
+ghost use Rattle.sock_tcp.specs.declared.rules.Rules.TheVariants.{Rfc};
 
 use crate::advance::Next;
 use crate::control_block::ControlBlock;
+use crate::rules::Rules;
 use crate::state::State;
 use crate::timer::{CHALLENGE_INTERVAL, Timer, after};
 use crate::tuple::Tuple;
@@ -227,6 +230,53 @@ impl<'a> ControlBlock<'a> {
         self.process_inside(cx, now, taken, ip_repr, repr)
     }
 
+    // By the RFCs' rules: what is done of loss comes behind.
+    #[inline(never)]
+    #[tactic(auto, using(crate::proofs::Recovering::said_then))]
+    fn process_and_recover<C: Context>(
+        &mut self,
+        cx: &mut C,
+        now: Instant,
+        ip_repr: &IpRepr,
+        repr: &TcpRepr<'_>,
+    ) -> Answer
+        requires moment { IsMoment now.micros }
+        requires passed { verdict_of self.old repr.now.control repr.now.ack_number ≡ Pass }
+        requires small { length repr.now.payload.now ≤ 65535 }
+        ensures table { answered result self.new (segment_of repr.now)
+            ≡ recovered_by Rfc self.old now (segment_of repr.now) (tested (has_window self.old.state) self.old
+            (arrival now (tuple_of ip_repr.now (segment_of repr.now)) (C.word_at cx.old 0) (segment_of repr.now))) }
+        ensures context { Draws (draws Pass self.old.state repr.now.control) C.facts C.word_at cx.old cx.new }
+    {
+        let before = self.before(repr);
+        let answer = self.process_passed(cx, now, ip_repr, repr);
+        self.recover(&before, now);
+        answer
+    }
+
+    // By the socket's rules.
+    #[inline(always)]
+    fn process_by_rules<C: Context>(
+        &mut self,
+        cx: &mut C,
+        now: Instant,
+        ip_repr: &IpRepr,
+        repr: &TcpRepr<'_>,
+    ) -> Answer
+        requires moment { IsMoment now.micros }
+        requires passed { verdict_of self.old repr.now.control repr.now.ack_number ≡ Pass }
+        requires small { length repr.now.payload.now ≤ 65535 }
+        ensures table { answered result self.new (segment_of repr.now)
+            ≡ by_verdict self.old.rules Pass self.old (arrival now (tuple_of ip_repr.now (segment_of repr.now))
+            (C.word_at cx.old 0) (segment_of repr.now)) }
+        ensures context { Draws (draws Pass self.old.state repr.now.control) C.facts C.word_at cx.old cx.new }
+    {
+        match self.rules {
+            Rules::Smoltcp => self.process_passed(cx, now, ip_repr, repr),
+            Rules::Rfc => self.process_and_recover(cx, now, ip_repr, repr),
+        }
+    }
+
     #[inline(never)]
     #[tactic(auto, unfolding(crate::specs::Process::processed_by))]
     pub(crate) fn process<C: Context>(
@@ -247,7 +297,7 @@ impl<'a> ControlBlock<'a> {
             Verdict::Drop => Answer::Nothing,
             Verdict::Reset => Answer::Rst,
             Verdict::Challenge => self.challenge(now),
-            Verdict::Pass => self.process_passed(cx, now, ip_repr, repr),
+            Verdict::Pass => self.process_by_rules(cx, now, ip_repr, repr),
         }
     }
 }

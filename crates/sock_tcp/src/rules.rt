@@ -10,9 +10,17 @@ use std::fmt;
 pub enum Rules {
     /// smoltcp's case tables, whole: a new socket has these.
     Smoltcp,
-    /// The same, but for what lies outside of the receive window (RFC 9293, sections 3.4 and 3.10.7.4): a FIN at
+    /// The same, but for two things. Outside of the receive window (RFC 9293, sections 3.4 and 3.10.7.4) a FIN at
     /// RCV.NXT is taken, wherever the bytes before it lie; and acknowledgements and windows are heard of a peer whose
     /// number lies near the window, as of one that counts the byte of its probe of a window of 0.
+    ///
+    /// Of loss: a duplicate acknowledgement counts though its window grew (RFC 5681, section 3.2), and one or two
+    /// suffice where two or three segments are out and none waits (RFC 5827). From a fast retransmission on, an
+    /// acknowledgement of a part of what was sent before lets the segment at SND.UNA go out again at once, and the
+    /// congestion controller is told of one loss (RFC 6582). After a retransmission timeout duplicates do not count
+    /// until what was sent before is acknowledged. Where a segment comes while something is in flight the
+    /// retransmission timer runs, also where a keep-alive was to come, and no window is probed with nothing to send;
+    /// after a handshake with a lost SYN it begins anew with three seconds (RFC 6298, rules 5.1 and 5.7).
     Rfc,
 }
 

@@ -1,6 +1,7 @@
 //! What a user may set.
-ghost use Rattle.std.specs.Prelude.{◌≡◌, Some};
-ghost use Rattle.sock_tcp.specs.Settings.{kind_of, of_kind, keep_alive_timer};
+ghost use Rattle.std.specs.Prelude.{◌≡◌, ◌*◌, Some};
+ghost use Rattle.sock_core.specs.Estimator.{bounded_below, IsWait};
+ghost use Rattle.sock_tcp.specs.Settings.{kind_of, of_kind, keep_alive_timer, least_timeout_of};
 ghost use Rattle.sock_tcp.specs.Closing.{keep_alive_set};
 ghost use Rattle.sock_tcp.specs.View.{IsShort};
 
@@ -17,6 +18,17 @@ pub enum CongestionControl {
     None,
     /// Reno (RFC 5681).
     Reno,
+}
+
+// The longest that the lowest retransmission timeout may be, in milliseconds.
+const LONGEST: u64 = 60_000;
+
+// In whole milliseconds, between one and a minute.
+fn least_timeout(duration: Duration) -> u32
+    ensures value { result ≡ least_timeout_of duration }
+    ensures range { IsWait result }
+{
+    duration.total_millis().min(LONGEST).max(1) as u32
 }
 
 impl CongestionControl {
@@ -94,6 +106,30 @@ impl<'a, G> Socket<'a, G> {
         ensures ended { self.new.ended ≡ self.old.ended }
     {
         self.control_block.timeout = duration;
+    }
+
+    /// The lowest retransmission timeout that a measured round trip makes: a second in a new socket (RFC 6298, section
+    /// 2.4).
+    pub fn min_rto(&self) -> Duration
+        ensures { result.micros ≡ self.now.control_block.rtte.least * 1000 }
+    {
+        Duration::from_millis(self.control_block.rtte.least_timeout() as u64)
+    }
+
+    /// Sets the lowest retransmission timeout, for all connections from now on: in whole milliseconds, where less than
+    /// one counts as one, and more than a minute as a minute. It counts from the next measured round trip on; before
+    /// the first the timeout is a second, or three (RFC 6298, sections 2.1 and 5.7). Linux has 200 milliseconds.
+    /// smoltcp has no such call.
+    pub fn set_min_rto(&mut self, duration: Duration)
+        ensures control_block { self.new.control_block ≡ record self.old.control_block {
+          rtte = bounded_below self.old.control_block.rtte (least_timeout_of duration);
+        } }
+        ensures generator { self.new.tsval_generator ≡ self.old.tsval_generator }
+        ensures ended { self.new.ended ≡ self.old.ended }
+    {
+        self.control_block
+            .rtte
+            .set_least_timeout(least_timeout(duration));
     }
 
     /// How long an acknowledgement may wait for data to go with: 10 milliseconds in a new socket.

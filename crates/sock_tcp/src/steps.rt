@@ -52,7 +52,7 @@ impl<'a> ControlBlock<'a> {
         self.tx_buffer.dequeue_allocated(count);
     }
 
-    fn is_duplicate(&self, ack: TcpSeqNumber, length: usize, changed: bool) -> bool
+    pub(crate) fn is_duplicate(&self, ack: TcpSeqNumber, length: usize, changed: bool) -> bool
         ensures { result ≡ is_duplicate self.now ack length changed }
     {
         let is_last = match self.local_rx_last_ack {

@@ -204,7 +204,7 @@ step_keeps_places v w k j c (RecvSlice bs bs' r h is) b = calm_keeps v w k j (Re
 step_keeps_places v w k j c (Recv r h is) b = calm_keeps v w k j (Recv r h is) refl (record { joined = ap (λ (c : Counts). c.joined) is; held = closure_held (may_recv v) v w r h })
 step_keeps_places v w k j c (Close h is) b = calm_keeps v w k j (Close h is) refl (calm_rx v w k j (same_joined k j is) (ap (λ (x : View). x.rx_buffer) h))
 step_keeps_places v w k j c (Abort h is) b = calm_keeps v w k j (Abort h is) refl (calm_rx v w k j (same_joined k j is) (ap (λ (x : View). x.rx_buffer) h))
-step_keeps_places v w k j c (Set h is) b = calm_keeps v w k j (Set h is) refl (calm_rx v w k j (same_joined k j is) (setting_leaves (λ u. u.rx_buffer ≡ v.rx_buffer) v w (λ x. refl) (λ x. refl) (λ timeout delay nagle hops paused is_there rules. refl) h))
+step_keeps_places v w k j c (Set h is) b = calm_keeps v w k j (Set h is) refl (calm_rx v w k j (same_joined k j is) (setting_leaves (λ u. u.rx_buffer ≡ v.rx_buffer) v w (λ x. refl) (λ x. refl) (λ timeout delay nagle hops paused is_there rules estimator. refl) h))
 step_keeps_places v w k j c (Process r now word ip s small numbered short bare h is) b =
     let m : MayTake v s w = subst (MayTake v s) (sym h) (only_appends r v now word ip s c.room numbered.seq_number short) in
     segment_keeps v w k j (Process r now word ip s small numbered short bare h is) s m (no_start (listens_again v.state w.state) w (with_segment k v w) j b is) (λ o bs x. x)

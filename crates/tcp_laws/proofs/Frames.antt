@@ -28,8 +28,10 @@ use Rattle.sock_tcp.specs.declared.tuple.Tuple.{Tuple}
 use Rattle.sock_tcp.specs.declared.verdict.Verdict.{Verdict}
 use Rattle.sock_tcp.specs.declared.verdict.Verdict.TheVariants as verdicts
 use Rattle.tcp_laws.proofs.Kept.{KeptByAnswers, KeptByRows, challenged_kept, outside_kept, rows_kept}
+use Rattle.sock_tcp.specs.Rfc.Recovery.{before_of, recovered}
 use Rattle.sock_tcp.specs.Rfc.Refused.{refused}
 use Rattle.sock_tcp.specs.declared.rules.Rules.{Rules}
+use Rattle.sock_tcp.proofs.Recovering.{recovered_as}
 use Rattle.sock_tcp.proofs.Refusing.{heard_alone, refused_as}
 
 -- the receive buffer is b, and the rest is as it was
@@ -309,11 +311,15 @@ module _ (v : View) (now : Instant) (word : ℕ) (ip : IpRepr) (s : Segment) whe
           there w (inl h) = inl h
           there w (inr h) = inr (e, h)
 
+  recovered_brings : (w : View) → Brings w → Brings (recovered (before_of v s) w now)
+  unfolding recovered
+  recovered_brings w h = record { listen = h.listen; rx = h.rx }
+
   by_verdict_brings : (r : Rules) (x : Verdict) → Brings (by_verdict r x v (arrival now (tuple_of ip s) word s)).view
   by_verdict_brings r verdicts.Drop = kept v (same v)
   by_verdict_brings r verdicts.Reset = kept v (same v)
   by_verdict_brings r verdicts.Challenge = kept _ (challenged_keeps s now v)
-  by_verdict_brings r verdicts.Pass = tested_brings r (has_window v.state)
+  by_verdict_brings r verdicts.Pass = let h = tested_brings r (has_window v.state) in recovered_as (λ o. Brings o.view) r v now s _ h (recovered_brings _ h) h
 
   pub process_brings : (r : Rules) → Brings (processed_by r v now word ip s).view
   unfolding processed_by
@@ -358,11 +364,15 @@ module _ (v : View) (now : Instant) (word : ℕ) (ip : IpRepr) (s : Segment) whe
       go false = refused_peers r p
       go true = inside_peers numbered (counted_control s.control (receive_window v) s.seq_number (length s.payload)) offset_in bytes_in p
 
+  recovered_peers : (w : View) → Peered w → Peered (recovered (before_of v s) w now)
+  unfolding recovered
+  recovered_peers w h = h
+
   by_verdict_peers : (r : Rules) (x : Verdict) → Peered v → Peered (by_verdict r x v (arrival now (tuple_of ip s) word s)).view
   by_verdict_peers r verdicts.Drop p = p
   by_verdict_peers r verdicts.Reset p = p
   by_verdict_peers r verdicts.Challenge p = kept_peered _ (challenged_keeps s now v) p
-  by_verdict_peers r verdicts.Pass p = tested_peers r (has_window v.state) p
+  by_verdict_peers r verdicts.Pass p = let h = tested_peers r (has_window v.state) p in recovered_as (λ o. Peered o.view) r v now s _ h (recovered_peers _ h) h
 
   pub process_peers : (r : Rules) → Peered v → Peered (processed_by r v now word ip s).view
   unfolding processed_by
@@ -395,7 +405,7 @@ module _ (v : View) (now : Instant) (word : ℕ) (ip : IpRepr) (s : Segment) whe
   by_verdict_back r verdicts.Drop = tt
   by_verdict_back r verdicts.Reset = (refl, refl)
   by_verdict_back r verdicts.Challenge = challenged_back s now v
-  by_verdict_back r verdicts.Pass = tested_back r (has_window v.state)
+  by_verdict_back r verdicts.Pass = let h = tested_back r (has_window v.state) in recovered_as (λ o. GoesBack s o.reply) r v now s _ h h h
 
   pub process_back : (r : Rules) → GoesBack s (processed_by r v now word ip s).reply
   unfolding processed_by

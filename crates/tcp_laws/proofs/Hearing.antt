@@ -1,11 +1,11 @@
 -- What a segment tells a socket that waits for its peer.
 use Rattle.std.proofs.Common.{◌≡◌, ℕ, ◌+◌, ◌-◌, ◌<◌, ◌≤◌, ◌^◌, ◌*◌, ◌⊎◌, inl, inr, Bool, true, false, refl, sym, ap, subst, ◌∙◌, List, [], length, Option, Some, None, arith}
 use Rattle.std.specs.Prelude.{if◌then◌else◌, ◌==◌}
-use Rattle.std.proofs.lemmas.Bool.{and_parts, eqb-true}
+use Rattle.std.proofs.lemmas.Bool.{and_parts, eq-eqb, eqb-true}
 use Rattle.std.proofs.Math.Nat.{mul-pos}
 use Rattle.std.proofs.lemmas.Nat.{pow_pos}
 use Rattle.net_base.specs.declared.time.Duration.{Duration}
-use Rattle.control_wire.specs.Seq.{seq_sub}
+use Rattle.control_wire.specs.Seq.{seq_eq, seq_sub}
 use Rattle.sock_core.specs.Seq.{is_before, is_not_after}
 use Rattle.ip_wire.specs.declared.repr.IpRepr.{IpRepr}
 use Rattle.net_base.specs.declared.time.Instant.{Instant}
@@ -34,14 +34,19 @@ use Rattle.sock_tcp.specs.declared.verdict.Verdict.TheVariants as verdicts
 use Rattle.sock_tcp.specs.declared.window.Cut.{Cut}
 use Rattle.sock_tcp.specs.declared.window.Window.{Window}
 use Rattle.sock_tcp.proofs.Windows.{far, not_after}
-use Rattle.tcp_laws.specs.Waking.{AcksNothing, HeardNothing, LastAckHearsNothing, TellsWindow, ThirdDuplicateWakes, WindowWakes, hears_window}
+use Rattle.tcp_laws.specs.Waking.{AcksNothing, HeardNothing, LastAckHearsNothing, Resends, TellsWindow, ThirdDuplicateWakes, WindowWakes, hears_window}
 use Rattle.tcp_laws.proofs.Ordered.{IsOrdered, Row}
 use Rattle.tcp_laws.proofs.Kept.{KeptByAnswers, bytes_kept, challenged_kept, heard_kept, outside_kept}
 use Rattle.tcp_laws.proofs.OrderedCalls.{reached_ordered}
 use Rattle.tcp_laws.proofs.OrderedSegments.{process_ordered}
 use Rattle.tcp_laws.proofs.Sleeping.{window_sends}
+use Rattle.sock_tcp.specs.Rfc.Recovery.{before_of, is_unheard, recovered, recovered_by, recovered_if}
 use Rattle.sock_tcp.specs.Rfc.Refused.{refused}
+use Rattle.sock_tcp.specs.Timers.{idle_from}
+use Rattle.sock_tcp.specs.declared.recovery.Before.{Before}
 use Rattle.sock_tcp.specs.declared.rules.Rules.{Rules}
+use Rattle.sock_tcp.specs.declared.rules.Rules.TheVariants as rules
+use Rattle.sock_tcp.proofs.Recovering.{recovered_as, timer_as}
 use Rattle.sock_tcp.proofs.Refusing.{heard_alone, refused_as}
 
 unheard : (v : View) → HeardNothing v v
@@ -104,6 +109,36 @@ module _ (now : Instant) (s : Segment) where
   unfolding heard window_taken released timestamp_taken timer_set acknowledged duplicate_counted ack_counted una_advanced
   heard_third u a k e all none two dup win = rw (e, dup, two, all, none, win) refl
 
+-- ---- what is done of loss behind the tables
+
+same_number_eq : (m n : TcpSeqNumber) → n ≡ m → seq_eq m n ≡ true
+same_number_eq m n e = eq-eqb m.0 n.0 (ap (λ (x : TcpSeqNumber). x.0) (sym e))
+
+-- nothing in LAST-ACK, where SND.UNA has not moved
+stays_unheard : (P : View → Type 0) (r : Rules) (v : View) (now : Instant) (s : Segment) (o : Outcome) → v.state ≡ state.LastAck → o.view.local_seq_no ≡ v.local_seq_no → P o.view → P (recovered_by r v now s o).view
+unfolding before_of
+stays_unheard P rules.Smoltcp v now s o is una h = h
+stays_unheard P rules.Rfc v now s o is una h = subst (λ b. P (recovered_if b (before_of v s) o.view now)) (sym unheard) h
+  where
+    unheard : is_unheard (before_of v s) o.view ≡ true
+    unheard = rw (is, same_number_eq v.local_seq_no o.view.local_seq_no una) refl
+
+-- a fast retransmission that the tables call for
+fast_or_timed : (b : Before) (w : View) (now : Instant) → w.timer ≡ timer.FastRetransmit → Resends rules.Rfc (recovered b w now).timer
+unfolding recovered
+fast_or_timed b w now e = timer_as (Resends rules.Rfc) b w now (inl e) (inl refl) (λ at i. inr refl) (inr refl) no_probe
+  where
+    no_probe : (at : Instant) (delay : Duration) → w.timer ≡ timer.ZeroWindowProbe at delay → Resends rules.Rfc (idle_from now w.keep_alive)
+    no_probe at delay i = let no : timer.FastRetransmit ≡ timer.ZeroWindowProbe at delay = sym e ∙ i in absurd cc
+
+fast_resends : (r : Rules) (v : View) (now : Instant) (s : Segment) (o : Outcome) → o.view.timer ≡ timer.FastRetransmit → Resends r (recovered_by r v now s o).view.timer
+fast_resends rules.Smoltcp v now s o e = e
+fast_resends rules.Rfc v now s o e = by (is_unheard (before_of v s) o.view)
+  where
+    by : (b : Bool) → Resends rules.Rfc (recovered_if b (before_of v s) o.view now).timer
+    by true = inl e
+    by false = fast_or_timed (before_of v s) o.view now e
+
 -- ---- a segment that passes and lies in the window
 
 scaled : (n k : ℕ) → 0 < n → 0 < n * 2 ^ k
@@ -133,7 +168,7 @@ module _ (v : View) (now : Instant) (word : ℕ) (ip : IpRepr) (s : Segment) whe
   inside_as st b = after_table (advance_in st b a.fin u (arrival now (tuple_of ip s) word s) a.len) (arrival now (tuple_of ip s) word s) a cut.offset (cut_bytes cut s.payload)
 
   -- behind the tests of the verdict and of the window
-  in_window : (r : Rules) → verdict_of v s.control s.ack_number ≡ verdicts.Pass → has_window v.state ≡ true → is_inside (receive_window v) s.seq_number (length s.payload) ≡ true → processed_by r v now word ip s ≡ inside_as v.state c
+  in_window : (r : Rules) → verdict_of v s.control s.ack_number ≡ verdicts.Pass → has_window v.state ≡ true → is_inside (receive_window v) s.seq_number (length s.payload) ≡ true → processed_by r v now word ip s ≡ recovered_by r v now s (inside_as v.state c)
   unfolding processed_by processed_inside advanced
   in_window r p has i = rw (p, has, i) refl
 
@@ -168,7 +203,7 @@ module _ (v : View) (now : Instant) (word : ℕ) (ip : IpRepr) (s : Segment) whe
   last_ack r is h verdicts.Drop = unheard v
   last_ack r is h verdicts.Reset = unheard v
   last_ack r is h verdicts.Challenge = challenged_unheard now s v
-  last_ack r is h verdicts.Pass = subst (λ st. HeardNothing v (tested_by r (has_window st) v (arrival now (tuple_of ip s) word s)).view) (sym is) (last_ack_by r is h (is_inside (receive_window v) s.seq_number (length s.payload)))
+  last_ack r is h verdicts.Pass = let i = subst (λ st. HeardNothing v (tested_by r (has_window st) v come).view) (sym is) (last_ack_by r is h (is_inside (receive_window v) s.seq_number (length s.payload))) in stays_unheard (HeardNothing v) r v now s (tested_by r (has_window v.state) v come) is i.una i
 
   -- ---- the states that hear a window
 
@@ -194,8 +229,12 @@ module _ (v : View) (now : Instant) (word : ℕ) (ip : IpRepr) (s : Segment) whe
   row_tells state.Closing false h = taken_tells u refl
   row_tells _ fin h = absurd cc
 
+  recovered_tells : (o : Outcome) → Tells o → Tells (record { view = recovered (before_of v s) o.view now; reply = o.reply })
+  unfolding recovered
+  recovered_tells o h = h
+
   tells : TellsWindow v s → Tells (processed v now word ip s)
-  tells h = rw (in_window v.rules h.passes (has v.state h.hears) h.inside, h.no_bit) (row_tells v.state a.fin h.hears)
+  tells h = let t : Tells (inside_as v.state c) = rw h.no_bit (row_tells v.state a.fin h.hears) in rw (in_window v.rules h.passes (has v.state h.hears) h.inside) (recovered_as Tells v.rules v now s (inside_as v.state c) t (recovered_tells (inside_as v.state c) t) t)
 
   abbrev Fast : Outcome → Type 0
   Fast x = x.view.timer ≡ timer.FastRetransmit
@@ -296,4 +335,5 @@ third_duplicate_wakes v now word ip s k r numbered h d =
     let n = not_all v.remote_last_seq k v.local_seq_no o.nxt_small (numbered.ack_number k d.number) o.una_small (omega (arith, i, o.room)) z b in
     let all : (acked_of v s.control s.ack_number).all ≡ false = ap (λ (x : Acked). x.all) e ∙ all_sent v.state s.control k v.local_seq_no v.remote_last_seq (length v.tx_buffer.bytes) n in
     let timer = heard_third now s (u v now word ip s) (a v now word ip s) k d.number all d.nothing.bytes d.two_before d.duplicate (not_zero _ (some_window s.control s.window_len v.remote_win_scale h.window)) in
-    rw (in_window v now word ip s v.rules h.passes (has v now word ip s v.state h.hears) h.inside, h.no_bit, d.nothing.fin) (row_fast v now word ip s v.state h.hears timer)
+    let fast : Fast v now word ip s (inside_as v now word ip s v.state (c v now word ip s)) = rw (h.no_bit, d.nothing.fin) (row_fast v now word ip s v.state h.hears timer) in
+    rw (in_window v now word ip s v.rules h.passes (has v now word ip s v.state h.hears) h.inside) (fast_resends v.rules v now s (inside_as v now word ip s v.state (c v now word ip s)) fast)

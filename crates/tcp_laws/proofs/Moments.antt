@@ -1,12 +1,12 @@
 -- Moments that lie within a bound of the latest moment told, and the timers that hold them.
-use Rattle.std.proofs.Common.{◌≡◌, ◌≤◌, Bool, true, false, ◌&&◌, refl, Option, Some, None, arith}
+use Rattle.std.proofs.Common.{◌≡◌, ℕ, ◌≤◌, Bool, true, false, ◌&&◌, refl, Option, Some, None, arith}
 use Rattle.std.specs.Prelude.{if◌then◌else◌, ◌==◌, nat_le, ◌≤ℤ◌, ◌*◌}
 use Rattle.std.proofs.lemmas.Int.{ints}
 use Rattle.std.proofs.lemmas.Bool.{and_parts, le-leb, leb-true}
 use Rattle.net_base.specs.declared.time.Duration.{Duration}
 use Rattle.net_base.specs.declared.time.Instant.{Instant}
 use Rattle.control_wire.specs.declared.seq_number.TcpSeqNumber.{TcpSeqNumber}
-use Rattle.sock_core.specs.Estimator.{Estimator, acked, timed_from, acked_at as sample_at, backed_off, is_highest, millis_between, retransmitted, sampled, sent}
+use Rattle.sock_core.specs.Estimator.{Estimator, acked, timed_from, acked_at as sample_at, backed_off, begun_anew, bounded_below, is_backed_off, is_highest, millis_between, retransmitted, sampled, sent}
 use Rattle.sock_core.specs.declared.rtte.Timing.{Timing}
 use Rattle.sock_core.specs.Seq.{is_before}
 use Rattle.sock_tcp.specs.Process.{timer_restarted}
@@ -108,6 +108,22 @@ pub fast_short : (e : Estimator) → e.rto ≤ 60000 → (retransmitted e).rto �
 unfolding retransmitted
 fast_short e h = h
 
+pub bounded_short : (e : Estimator) (n : ℕ) → e.rto ≤ 60000 → (bounded_below e n).rto ≤ 60000
+unfolding bounded_below
+bounded_short e n h = h
+
+anew_short : (e : Estimator) → e.rto ≤ 60000 → (begun_anew e).rto ≤ 60000
+unfolding begun_anew
+anew_short e h = go (is_backed_off e)
+  where
+    go : (b : Bool) → (if b then record e { rto = 3000; backoffs = 0 } else e).rto ≤ 60000
+    go true = omega arith
+    go false = h
+
+pub opened_short : (b : Bool) (e : Estimator) → e.rto ≤ 60000 → (if b then begun_anew e else e).rto ≤ 60000
+opened_short true e h = anew_short e h
+opened_short false e h = h
+
 module _ (most : Duration) (minute : 60000000 ≤ most.micros) where
   -- ---- timers that are set now
 
@@ -119,7 +135,7 @@ module _ (most : Duration) (minute : 60000000 ≤ most.micros) where
     idle_by None h = refl
     idle_by (Some d) h = soon d (leb-true d.micros most.micros h)
 
-    rto_by : (e : Estimator) → e.rto ≤ 60000 → is_by now most (after now (rto_of e)) ≡ true
+    pub rto_by : (e : Estimator) → e.rto ≤ 60000 → is_by now most (after now (rto_of e)) ≡ true
     rto_by e h = soon (rto_of e) (omega (arith, h, minute))
 
     probe_by : (e : Estimator) → e.rto ≤ 60000 → is_timer_by now most (probe_from now e) ≡ true

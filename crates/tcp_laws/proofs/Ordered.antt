@@ -195,6 +195,14 @@ module _ (r : RenoNumbers) (h : RenoOpen r) where
       go true = h
       go false = record { cwnd = window r.in_recovery; mss = h.mss; ssthresh = h.ssthresh }
 
+  reno_partially_open : (n : ℕ) → RenoOpen (congestion.reno_partially_acked r n)
+  unfolding congestion.reno_partially_acked
+  reno_partially_open n = go r.in_recovery
+    where
+      go : (b : Bool) → RenoOpen (if b then record r { cwnd = congestion.deflated r n } else congestion.reno_acked r n)
+      go true = record { cwnd = omega (arith, h.mss); mss = h.mss; ssthresh = h.ssthresh }
+      go false = reno_acked_open n
+
   reno_dup_open : (n : ℕ) → RenoOpen (congestion.reno_dup_acked r n)
   unfolding congestion.reno_dup_acked
   reno_dup_open n = go r.in_recovery
@@ -223,6 +231,11 @@ pub acked_open : (c : AnyController) (now : Instant) (n flight : ℕ) (rtte : Es
 unfolding congestion.acked congestion.reno_on_ack
 acked_open (controller.None x) now n flight rtte h = tt
 acked_open (controller.Reno r) now n flight rtte h = reno_acked_open r h n
+
+pub partially_acked_open : (c : AnyController) (now : Instant) (n : ℕ) → IsOpen c → IsOpen (congestion.partially_acked c now n)
+unfolding congestion.partially_acked congestion.reno_on_partial_ack
+partially_acked_open (controller.None x) now n h = tt
+partially_acked_open (controller.Reno r) now n h = reno_partially_open r h n
 
 pub dup_acked_open : (c : AnyController) (now : Instant) (n flight : ℕ) → IsOpen c → IsOpen (congestion.dup_acked c now n flight)
 unfolding congestion.dup_acked congestion.reno_on_dup_ack

@@ -208,7 +208,7 @@ module _ (v w : View) (h : IsOrdered v) where
   setting_ordered = setting_leaves IsOrdered v w
       (λ x. record { una_small = h.una_small; nxt_small = h.nxt_small; room = h.room; congestion = kind_open x; peered = h.peered; row = h.row })
       (λ x. record { una_small = h.una_small; nxt_small = h.nxt_small; room = h.room; congestion = h.congestion; peered = h.peered; row = keep_row v.state x v.timer v.keep_alive _ _ h.row })
-      (λ timeout delay nagle hops paused is_there rules. h)
+      (λ timeout delay nagle hops paused is_there rules estimator. h)
 
   -- ---- closing
 

@@ -33,9 +33,14 @@ use Rattle.sock_tcp.specs.declared.verdict.Verdict.{Verdict}
 use Rattle.sock_tcp.specs.declared.verdict.Verdict.TheVariants as verdicts
 use Rattle.sock_tcp.proofs.Acking.{acked_fits, none_acked, between, fin_place_le, one_place, passes, two_guards}
 use Rattle.tcp_laws.proofs.Kept.{KeptByAnswers, bytes_kept, challenged_kept, outside_kept}
-use Rattle.tcp_laws.proofs.Ordered.{HasMoment, IsOpen, IsOrdered, IsPeeredIn, Row, is_close, acked_open, close_stays, dup_acked_open, later_small, left_in_flight, less_in_flight, set_has_moment, taken_open, window_open}
+use Rattle.tcp_laws.proofs.Ordered.{HasMoment, IsOpen, IsOrdered, IsPeeredIn, Row, is_close, acked_open, close_stays, dup_acked_open, idle_has_moment, later_small, partially_acked_open, left_in_flight, less_in_flight, set_has_moment, taken_open, window_open}
+use Rattle.sock_core.specs.Congestion.{dup_acked, partially_acked, with_remote_window}
+use Rattle.sock_tcp.specs.Due.{flight as flight_of}
+use Rattle.sock_tcp.specs.Rfc.Recovery.{before_of, controller_after, has_timer, is_grown, is_partial, recovered, waited_for}
 use Rattle.sock_tcp.specs.Rfc.Refused.{is_plain_control, refused}
+use Rattle.sock_tcp.specs.declared.recovery.Before.{Before}
 use Rattle.sock_tcp.specs.declared.rules.Rules.{Rules}
+use Rattle.sock_tcp.proofs.Recovering.{recovered_as, waited_as}
 use Rattle.sock_tcp.proofs.Refusing.{fin_is_plain, heard_alone, plain_is_no_rst, refused_as}
 
 -- ---- what a segment that passes acknowledges
@@ -435,6 +440,40 @@ module _ (now : Instant) (word : ℕ) (ip : IpRepr) (s : Segment) (small : word 
       go false = refused_ordered r v h bare p
       go true = inside_ordered (record v { local_rx_last_seq = Some s.seq_number }) (counted_control s.control (receive_window v) s.seq_number (length s.payload)) _ _ h bare (λ e. rst_counts _ e (receive_window v) s.seq_number (length s.payload)) p
 
+  -- ---- where it has recovered
+
+  controller_open : (b : Before) (w : View) → IsOpen b.controller → IsOpen w.congestion_controller → IsOpen (controller_after b w now)
+  controller_open b w h i = by (is_partial b w) (is_grown b w)
+    where
+      by : (p g : Bool) → IsOpen (if p then partially_acked (with_remote_window b.controller w.remote_win_len) now (seq_sub w.local_seq_no b.una) else (if g then dup_acked w.congestion_controller now w.remote_mss (flight_of w) else w.congestion_controller))
+      by true g = partially_acked_open _ now _ (window_open b.controller w.remote_win_len h)
+      by false true = dup_acked_open w.congestion_controller now w.remote_mss (flight_of w) i
+      by false false = i
+
+  row_recovers : (st : State) (waited t : Timer) (keep : Option Duration) (f q : ℕ) → (HasMoment t keep → HasMoment waited keep) → Row st t keep f q → Row st (if has_timer st then waited else t) keep f q
+  row_recovers state.Closed waited t keep f q m h = tt
+  row_recovers state.Listen waited t keep f q m h = h
+  row_recovers state.SynSent waited t keep f q m h = h
+  row_recovers state.TimeWait waited t keep f q m h = h
+  row_recovers state.SynReceived waited t keep f q m h = (m h.0, h.1, h.2)
+  row_recovers state.Established waited t keep f q m h = (m h.0, h.1)
+  row_recovers state.CloseWait waited t keep f q m h = (m h.0, h.1)
+  row_recovers state.FinWait1 waited t keep f q m h = (m h.0, h.1)
+  row_recovers state.Closing waited t keep f q m h = (m h.0, h.1)
+  row_recovers state.LastAck waited t keep f q m h = (m h.0, h.1)
+  row_recovers state.FinWait2 waited t keep f q m h = (m h.0, h.1, h.2)
+
+  recovered_ordered : (v w : View) → IsOrdered v → IsOrdered w → IsOrdered (recovered (before_of v s) w now)
+  unfolding recovered before_of
+  recovered_ordered v w h i = record {
+    una_small = i.una_small;
+    nxt_small = i.nxt_small;
+    room = i.room;
+    congestion = controller_open (before_of v s) w h.congestion i.congestion;
+    peered = i.peered;
+    row = row_recovers w.state (waited_for (before_of v s) w now) w.timer w.keep_alive (seq_sub w.remote_last_seq w.local_seq_no) (length w.tx_buffer.bytes) (λ m. waited_as (λ t. HasMoment t w.keep_alive) (before_of v s) w now m tt (λ at e. tt) tt (λ at delay e. idle_has_moment now w.keep_alive)) i.row;
+  }
+
   pub process_ordered : (r : Rules) (v : View) → IsOrdered v → (v.state ≡ state.Listen → s.ack_number ≡ None) → IsOrdered (processed_by r v now word ip s).view
   unfolding processed_by
   process_ordered r v h bare = by (verdict_of v s.control s.ack_number) refl
@@ -443,4 +482,4 @@ module _ (now : Instant) (word : ℕ) (ip : IpRepr) (s : Segment) (small : word 
       by verdicts.Drop e = h
       by verdicts.Reset e = h
       by verdicts.Challenge e = challenged_ordered s now v h
-      by verdicts.Pass e = tested_ordered r v h bare e (has_window v.state)
+      by verdicts.Pass e = let i = tested_ordered r v h bare e (has_window v.state) in recovered_as (λ o. IsOrdered o.view) r v now s _ i (recovered_ordered v _ h i) i

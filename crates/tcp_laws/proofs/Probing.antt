@@ -13,6 +13,7 @@ use Rattle.sock_tcp.specs.Opening.{connected, listened, renewed}
 use Rattle.sock_tcp.specs.Process.{close_restarted, timer_restarted}
 use Rattle.sock_tcp.specs.Queues.{first_probe, queued, read_off}
 use Rattle.sock_tcp.specs.Replies.{ack_kept}
+use Rattle.sock_tcp.specs.Rfc.Recovery.{before_of, recovered}
 use Rattle.sock_tcp.specs.Sent.{after_any, after_probe, snd_nxt_moved}
 use Rattle.sock_tcp.specs.Settings.{keep_alive_timer}
 use Rattle.sock_tcp.specs.Steps.{window_taken, released, ack_heard, duplicate_counted, ack_counted, una_advanced, timestamp_taken, timer_set, timer_acked, probe_ended, probe_set, begins_probe, heard, joined, ack_delayed}
@@ -25,6 +26,7 @@ use Rattle.sock_tcp.specs.declared.timer.Timer.{Timer}
 use Rattle.sock_tcp.specs.declared.timer.Timer.TheVariants as timer
 use Rattle.tcp_laws.specs.Polling.{IsReached}
 use Rattle.tcp_laws.specs.SocketRun.{Sets}
+use Rattle.sock_tcp.proofs.Recovering.{timer_as}
 use Rattle.tcp_laws.proofs.Kept.{Kept, KeptByBeginnings, KeptByCalls, KeptByRows, KeptBySegments, KeptBySending, acked_view, before_kept, heard_kept, process_kept, reached_kept, sends_kept, timer_then}
 use Rattle.tcp_laws.proofs.SocketSteps.{same_number, setting_leaves}
 
@@ -125,7 +127,7 @@ module _ (s : Segment) (now : Instant) where
   }
 
   segments_probing : (word : ℕ) → KeptBySegments IsProbing now word s
-  unfolding ack_kept close_restarted joined ack_delayed
+  unfolding ack_kept close_restarted joined ack_delayed recovered
   segments_probing word = record {
     answers = record { challenges = λ w at h. h; acks = λ w h. h };
     restarts = λ w h. record { window = restarted_probes now w.state w.timer w.remote_win_len h.window; mss = h.mss };
@@ -133,6 +135,7 @@ module _ (s : Segment) (now : Instant) where
     rows = rows_probing word;
     joins = λ w o bs h. h;
     hears = λ u a h. heard_probing u a h;
+    recovers = λ v w h i. record { window = timer_as (λ t. ProbesIn t w.remote_win_len) (before_of v s) w now i.window tt (λ at e. tt) tt (λ at delay e. idle_probes now w.keep_alive w.remote_win_len); mss = i.mss };
   }
 
 -- ---- a dispatch
@@ -198,7 +201,7 @@ module _ (v w : View) (h : IsProbing v) where
       number f = same_number (f w) (f v) (λ d. n (λ e. d (ap f e)))
 
   setting_probing : Sets v w → IsProbing w
-  setting_probing = setting_leaves IsProbing v w (λ x. h) (λ x. record { window = kept_probes x v.timer v.remote_win_len h.window; mss = h.mss }) (λ timeout delay nagle hops paused is_there rules. h)
+  setting_probing = setting_leaves IsProbing v w (λ x. h) (λ x. record { window = kept_probes x v.timer v.remote_win_len h.window; mss = h.mss }) (λ timeout delay nagle hops paused is_there rules estimator. h)
 
 calls_probing : KeptByCalls IsProbing (λ d. Unit {0})
 unfolding read_off connected listened

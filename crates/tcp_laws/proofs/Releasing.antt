@@ -24,8 +24,10 @@ use Rattle.sock_tcp.specs.declared.tuple.Tuple.{Tuple}
 use Rattle.sock_tcp.specs.declared.verdict.Verdict.{Verdict}
 use Rattle.sock_tcp.specs.declared.verdict.Verdict.TheVariants as verdicts
 use Rattle.tcp_laws.proofs.Kept.{KeptByAnswers, KeptByRows, bytes_kept, challenged_kept, outside_kept, rows_kept}
+use Rattle.sock_tcp.specs.Rfc.Recovery.{before_of, recovered}
 use Rattle.sock_tcp.specs.Rfc.Refused.{refused}
 use Rattle.sock_tcp.specs.declared.rules.Rules.{Rules}
+use Rattle.sock_tcp.proofs.Recovering.{recovered_as}
 use Rattle.sock_tcp.proofs.Refusing.{heard_alone, refused_as}
 use Rattle.control_wire.specs.declared.tcp.TcpControl.TheVariants as control
 
@@ -138,11 +140,15 @@ module _ (v : View) (now : Instant) (word : ℕ) (ip : IpRepr) (s : Segment) whe
         go false = refused_releases r
         go true = let r = inside_releases (record v { local_rx_last_seq = Some s.seq_number }) (counted_control s.control (receive_window v) s.seq_number (length s.payload)) (cut_of (receive_window v) s.seq_number (length s.payload)).offset (cut_bytes (cut_of (receive_window v) s.seq_number (length s.payload)) s.payload) in record { count = r.count; tx = r.tx; una = r.una }
 
+    recovered_releases : (w : View) → Releases v w → Releases v (recovered (before_of v s) w now)
+    unfolding recovered
+    recovered_releases w h = record { count = h.count; tx = h.tx; una = h.una }
+
     by_verdict_releases : (r : Rules) (x : Verdict) → Releases v (by_verdict r x v (arrival now (tuple_of ip s) word s)).view
     by_verdict_releases r verdicts.Drop = none_leave v v (same v)
     by_verdict_releases r verdicts.Reset = none_leave v v (same v)
     by_verdict_releases r verdicts.Challenge = none_leave v (challenged v now s).view (challenged_kept (Same v) now s (answers_same s now v) v (same v))
-    by_verdict_releases r verdicts.Pass = tested_releases r (has_window v.state)
+    by_verdict_releases r verdicts.Pass = let h = tested_releases r (has_window v.state) in recovered_as (λ o. Releases v o.view) r v now s _ h (recovered_releases _ h) h
 
     pub process_releases : (r : Rules) → Releases v (processed_by r v now word ip s).view
     unfolding processed_by

@@ -13,6 +13,7 @@ use Rattle.sock_tcp.specs.Opening.{connected, listened, renewed}
 use Rattle.sock_tcp.specs.Process.{close_restarted}
 use Rattle.sock_tcp.specs.Queues.{queued, read_off}
 use Rattle.sock_tcp.specs.Replies.{ack_kept}
+use Rattle.sock_tcp.specs.Rfc.Recovery.{recovered}
 use Rattle.sock_tcp.specs.Sent.{after_any, after_probe, snd_nxt_moved}
 use Rattle.sock_tcp.specs.Steps.{window_taken, released, duplicate_counted, ack_counted, una_advanced, timestamp_taken, timer_set, heard, joined, ack_delayed}
 use Rattle.sock_tcp.specs.View.{View, fresh, moment_of}
@@ -93,7 +94,7 @@ module _ (s : Segment) (now : Instant) where
   }
 
   segments_scaled : (word : ℕ) → KeptBySegments IsScaled now word s
-  unfolding ack_kept close_restarted joined ack_delayed
+  unfolding ack_kept close_restarted joined ack_delayed recovered
   segments_scaled word = record {
     answers = record { challenges = λ w at h. h; acks = λ w h. h };
     restarts = λ w h. h;
@@ -101,6 +102,7 @@ module _ (s : Segment) (now : Instant) where
     rows = rows_scaled word;
     joins = λ w o bs h. omega (arith, h, taken_room w.rx_buffer o bs);
     hears = λ u a h. heard_scaled u a h;
+    recovers = λ v w h i. i;
   }
 
 -- ---- a dispatch
@@ -142,7 +144,7 @@ calls_scaled = record {
   decided = λ v w is n h. same_scaled v w h n;
   closes = λ v h. h;
   aborts = λ v h. h;
-  sets = λ v w x m h. setting_leaves IsScaled v w (λ x. h) (λ x. h) (λ timeout delay nagle hops paused is_there rules. h) x;
+  sets = λ v w x m h. setting_leaves IsScaled v w (λ x. h) (λ x. h) (λ timeout delay nagle hops paused is_there rules estimator. h) x;
 }
 
 kept_scaled : Kept (λ at. IsScaled) (λ at. Unit {0}) (λ last now. Unit {0}) (λ d. Unit {0})

@@ -28,6 +28,7 @@ use Rattle.sock_tcp.specs.declared.advance.Next.TheVariants as next
 use Rattle.sock_tcp.specs.declared.tuple.Tuple.{Tuple}
 use Rattle.sock_tcp.specs.declared.verdict.Verdict.{Verdict}
 use Rattle.sock_tcp.specs.declared.verdict.Verdict.TheVariants as verdicts
+use Rattle.sock_tcp.specs.Rfc.Recovery.{recovered_by}
 use Rattle.sock_tcp.specs.Rfc.Refused.{answered_if_not, is_heard_outside, refused, rfc_refused, then_answered}
 use Rattle.sock_tcp.specs.declared.rules.Rules.{Rules}
 use Rattle.sock_tcp.specs.declared.rules.Rules.TheVariants as rules
@@ -90,7 +91,7 @@ module _ (now : Instant) (m n : ℕ) (ip : IpRepr) (s : Segment) where
   verdict_alike r v verdicts.Drop e = refl
   verdict_alike r v verdicts.Reset e = refl
   verdict_alike r v verdicts.Challenge e = refl
-  verdict_alike r v verdicts.Pass e = tested_alike r v (has_window v.state) refl e
+  verdict_alike r v verdicts.Pass e = ap (recovered_by r v now s) (tested_alike r v (has_window v.state) refl e)
 
   processed_alike : (r : Rules) (v : View) → draws (verdict_of v s.control s.ack_number) v.state s.control ≡ false → processed_by r v now m ip s ≡ processed_by r v now n ip s
   unfolding processed_by

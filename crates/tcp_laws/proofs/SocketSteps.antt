@@ -13,6 +13,7 @@ use Rattle.net_base.specs.declared.time.Duration.{Duration}
 use Rattle.control_wire.specs.Segment.{Segment}
 use Rattle.control_wire.specs.Seq.{seq_sub}
 use Rattle.control_wire.specs.declared.seq_number.TcpSeqNumber.{TcpSeqNumber}
+use Rattle.sock_core.specs.Estimator.{Estimator, bounded_below}
 use Rattle.sock_core.specs.Facts.{Facts}
 use Rattle.sock_core.specs.Received.{Received, byte_at, cleared, handed_out, merged, receiving, room_of}
 use Rattle.sock_tcp.proofs.Lending.{first_within}
@@ -25,7 +26,7 @@ use Rattle.sock_tcp.specs.Process.{processed_by}
 use Rattle.sock_tcp.specs.Queue.{Queue, queue_of}
 use Rattle.sock_tcp.specs.Queues.{Reads, ReadsWithIf, Sends, SendsWithIf, fitting, may_recv, may_send, queued, read_off, readable, recv_refusal}
 use Rattle.tcp_laws.specs.SocketRun.{Counts, Dispatched, IsNumbered, IsPart, Promised, Run, SendsTo, Sets, Step, accepted, any_filling, any_taking, filled_in, handed_slice, is_reset, listens_again, opens_listener, starting, starting_if, taken_out, with_handed, with_segment, with_sent}
-use Rattle.tcp_laws.specs.SocketRun.{Listen, Connect, SendSlice, Send, WriteStr, RecvSlice, Recv, Close, Abort, Set, Process, Dispatch, SetCongestionControl, SetTimeout, SetAckDelay, SetNagle, SetKeepAlive, SetHopLimit, PauseSynAck, SetTsvalGenerator, SetRules, Ends, Then}
+use Rattle.tcp_laws.specs.SocketRun.{Listen, Connect, SendSlice, Send, WriteStr, RecvSlice, Recv, Close, Abort, Set, Process, Dispatch, SetCongestionControl, SetTimeout, SetAckDelay, SetNagle, SetKeepAlive, SetHopLimit, PauseSynAck, SetTsvalGenerator, SetRules, SetMinRto, Ends, Then}
 use Rattle.sock_tcp.specs.Settings.{of_kind}
 use Rattle.sock_tcp.specs.View.{View, fresh}
 use Rattle.sock_tcp.specs.declared.emission.Kind.TheVariants as kind
@@ -165,16 +166,17 @@ closure_read false v w k (Err e) h c = subst (Holds w) (sym (none_read k)) (unch
 -- ---- the setters
 
 -- what holds of v with any settings holds after a setting; the controller and the interval of keep-alives change more
-pub setting_leaves : (P : View → Type 0) (v w : View) → ((x : CongestionControl) → P (record v { congestion_controller = of_kind x })) → ((x : Option Duration) → P (keep_alive_set v x)) → ((timeout delay : Option Duration) (nagle : Bool) (hops : Option ℕ) (paused is_there : Bool) (rules : Rules) → P (record v { timeout = timeout; ack_delay = delay; nagle = nagle; hop_limit = hops; synack_paused = paused; stamps = is_there; rules = rules })) → Sets v w → P w
+pub setting_leaves : (P : View → Type 0) (v w : View) → ((x : CongestionControl) → P (record v { congestion_controller = of_kind x })) → ((x : Option Duration) → P (keep_alive_set v x)) → ((timeout delay : Option Duration) (nagle : Bool) (hops : Option ℕ) (paused is_there : Bool) (rules : Rules) (estimator : Estimator) → P (record v { timeout = timeout; ack_delay = delay; nagle = nagle; hop_limit = hops; synack_paused = paused; stamps = is_there; rules = rules; rtte = estimator })) → Sets v w → P w
 setting_leaves P v w c k o (SetCongestionControl x e) = subst P (sym e) (c x)
-setting_leaves P v w c k o (SetTimeout x e) = subst P (sym e) (o x v.ack_delay v.nagle v.hop_limit v.synack_paused v.stamps v.rules)
-setting_leaves P v w c k o (SetAckDelay x e) = subst P (sym e) (o v.timeout x v.nagle v.hop_limit v.synack_paused v.stamps v.rules)
-setting_leaves P v w c k o (SetNagle x e) = subst P (sym e) (o v.timeout v.ack_delay x v.hop_limit v.synack_paused v.stamps v.rules)
+setting_leaves P v w c k o (SetTimeout x e) = subst P (sym e) (o x v.ack_delay v.nagle v.hop_limit v.synack_paused v.stamps v.rules v.rtte)
+setting_leaves P v w c k o (SetAckDelay x e) = subst P (sym e) (o v.timeout x v.nagle v.hop_limit v.synack_paused v.stamps v.rules v.rtte)
+setting_leaves P v w c k o (SetNagle x e) = subst P (sym e) (o v.timeout v.ack_delay x v.hop_limit v.synack_paused v.stamps v.rules v.rtte)
 setting_leaves P v w c k o (SetKeepAlive x e) = subst P (sym e) (k x)
-setting_leaves P v w c k o (SetHopLimit x e) = subst P (sym e) (o v.timeout v.ack_delay v.nagle x v.synack_paused v.stamps v.rules)
-setting_leaves P v w c k o (PauseSynAck x e) = subst P (sym e) (o v.timeout v.ack_delay v.nagle v.hop_limit x v.stamps v.rules)
-setting_leaves P v w c k o (SetTsvalGenerator x e) = subst P (sym e) (o v.timeout v.ack_delay v.nagle v.hop_limit v.synack_paused x v.rules)
-setting_leaves P v w c k o (SetRules x e) = subst P (sym e) (o v.timeout v.ack_delay v.nagle v.hop_limit v.synack_paused v.stamps x)
+setting_leaves P v w c k o (SetHopLimit x e) = subst P (sym e) (o v.timeout v.ack_delay v.nagle x v.synack_paused v.stamps v.rules v.rtte)
+setting_leaves P v w c k o (PauseSynAck x e) = subst P (sym e) (o v.timeout v.ack_delay v.nagle v.hop_limit x v.stamps v.rules v.rtte)
+setting_leaves P v w c k o (SetTsvalGenerator x e) = subst P (sym e) (o v.timeout v.ack_delay v.nagle v.hop_limit v.synack_paused x v.rules v.rtte)
+setting_leaves P v w c k o (SetRules x e) = subst P (sym e) (o v.timeout v.ack_delay v.nagle v.hop_limit v.synack_paused v.stamps x v.rtte)
+setting_leaves P v w c k o (SetMinRto x e) = subst P (sym e) (o v.timeout v.ack_delay v.nagle v.hop_limit v.synack_paused v.stamps v.rules (bounded_below v.rtte x))
 
 -- ---- connect
 
@@ -324,7 +326,7 @@ step_keeps v w k j (RecvSlice bs bs' r h is) c = subst (Holds w) (sym is) (slice
 step_keeps v w k j (Recv r h is) c = subst (Holds w) (sym is) (closure_read (may_recv v) v w k r h c)
 step_keeps v w k j (Close h is) c = subst (Holds w) (sym is) (subst (λ u. Holds u k) (sym h) c)
 step_keeps v w k j (Abort h is) c = subst (Holds w) (sym is) (subst (λ u. Holds u k) (sym h) c)
-step_keeps v w k j (Set h is) c = subst (Holds w) (sym is) (setting_leaves (λ u. Holds u k) v w (λ x. c) (λ x. c) (λ timeout delay nagle hops paused is_there rules. c) h)
+step_keeps v w k j (Set h is) c = subst (Holds w) (sym is) (setting_leaves (λ u. Holds u k) v w (λ x. c) (λ x. c) (λ timeout delay nagle hops paused is_there rules estimator. c) h)
 step_keeps v w k j (Process x now word ip s small numbered short bare h is) c = subst (Holds w) (sym is) (process_kept x v w k now word ip s c small numbered short h)
 step_keeps v w k j (Dispatch f out h is) c = subst (Holds w) (sym is) (dispatch_kept v w k f out c h)
 

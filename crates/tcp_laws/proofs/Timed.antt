@@ -13,6 +13,7 @@ use Rattle.sock_tcp.specs.Opening.{connected, listened, renewed}
 use Rattle.sock_tcp.specs.Process.{close_restarted}
 use Rattle.sock_tcp.specs.Queues.{first_probe, queued, read_off}
 use Rattle.sock_tcp.specs.Replies.{ack_kept}
+use Rattle.sock_tcp.specs.Rfc.Recovery.{before_of, is_opened, recovered}
 use Rattle.sock_tcp.specs.Sent.{after_any, after_probe, snd_nxt_moved}
 use Rattle.sock_tcp.specs.Settings.{keep_alive_timer}
 use Rattle.sock_tcp.specs.Steps.{is_duplicate, is_window_changed, window_taken, released, ack_heard, duplicate_counted, ack_counted, una_advanced, acknowledged, timestamp_taken, timer_set, timer_acked, heard, joined, ack_delayed}
@@ -23,11 +24,12 @@ use Rattle.sock_tcp.specs.declared.timer.Timer.{Timer}
 use Rattle.sock_tcp.specs.declared.timer.Timer.TheVariants as timer
 use Rattle.tcp_laws.specs.Clocks.{IsAtMost, interval_set}
 use Rattle.tcp_laws.specs.SocketRun.{Sets}
-use Rattle.tcp_laws.specs.SocketRun.{SetCongestionControl, SetTimeout, SetAckDelay, SetNagle, SetKeepAlive, SetHopLimit, PauseSynAck, SetTsvalGenerator, SetRules}
+use Rattle.tcp_laws.specs.SocketRun.{SetCongestionControl, SetTimeout, SetAckDelay, SetNagle, SetKeepAlive, SetHopLimit, PauseSynAck, SetTsvalGenerator, SetRules, SetMinRto}
+use Rattle.sock_tcp.proofs.Recovering.{timer_as}
 use Rattle.tcp_laws.proofs.Kept.{Kept, KeptByBeginnings, KeptByCalls, KeptByRows, KeptBySegments, KeptBySending, process_kept, sends_kept}
 use Rattle.tcp_laws.proofs.SocketSteps.{same_number}
 use Rattle.tcp_laws.proofs.OrderedCalls.{same_flag}
-use Rattle.tcp_laws.proofs.Moments.{IsTimed, acked_by, acked_short, again_short, and_true, close_by, delayed_by, doubled_by, fast_short, idle_by, is_by, is_delay_by, is_short, is_timer_by, later_timed, renewed_by, restarted_by, sent_short, set_by, timed_by}
+use Rattle.tcp_laws.proofs.Moments.{IsTimed, acked_by, acked_short, again_short, and_true, bounded_short, close_by, delayed_by, doubled_by, fast_short, idle_by, is_by, is_delay_by, is_short, is_timer_by, later_timed, opened_short, renewed_by, restarted_by, rto_by, sent_short, set_by, timed_by}
 
 module _ (most : Duration) (minute : 60000000 ≤ most.micros) where
   -- ---- a segment
@@ -76,7 +78,7 @@ module _ (most : Duration) (minute : 60000000 ≤ most.micros) where
     }
 
     segments_timed : (word : ℕ) → KeptBySegments (IsTimed now most) now word s
-    unfolding ack_kept close_restarted
+    unfolding ack_kept close_restarted recovered before_of
     segments_timed word = record {
       answers = record { challenges = λ w at h. h; acks = λ w h. h };
       restarts = λ w h. record { timer = restarted_by most minute now w.state w.timer h.timer; waits = h.waits; timeout = h.timeout; keep_short = h.keep_short; delay_short = h.delay_short };
@@ -84,6 +86,7 @@ module _ (most : Duration) (minute : 60000000 ≤ most.micros) where
       rows = rows_timed word;
       joins = λ w o bs h. delayed_timed w o bs h;
       hears = λ u a h. heard_timed u a h;
+      recovers = λ v w h i. record { timer = timer_as (λ t. is_timer_by now most t ≡ true) (before_of v s) w now i.timer refl (λ at e. sym (ap (is_timer_by now most) e) ∙ h.timer) (rto_by most minute now w.rtte i.timeout) (λ at delay e. idle_by most minute now w.keep_alive i.keep_short); waits = i.waits; timeout = opened_short (is_opened (before_of v s) w) w.rtte i.timeout; keep_short = i.keep_short; delay_short = i.delay_short };
     }
 
   -- ---- a reset
@@ -168,6 +171,7 @@ module _ (most : Duration) (minute : 60000000 ≤ most.micros) where
       setting_timed (PauseSynAck x e) m = subst Now (sym e) h
       setting_timed (SetTsvalGenerator x e) m = subst Now (sym e) h
       setting_timed (SetRules x e) m = subst Now (sym e) h
+      setting_timed (SetMinRto x e) m = subst Now (sym e) (record { timer = h.timer; waits = h.waits; timeout = bounded_short v.rtte x h.timeout; keep_short = h.keep_short; delay_short = h.delay_short })
 
     calls_timed : KeptByCalls Now (λ d. IsAtMost d most)
     unfolding read_off connected listened

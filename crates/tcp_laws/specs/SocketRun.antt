@@ -11,6 +11,7 @@ use Rattle.net_base.specs.declared.time.Instant.{Instant}
 use Rattle.control_wire.specs.Segment.{Segment}
 use Rattle.control_wire.specs.Seq.{seq_sub}
 use Rattle.sock_core.specs.Emission.{Emits}
+use Rattle.sock_core.specs.Estimator.{bounded_below}
 use Rattle.sock_core.specs.Facts.{Facts}
 use Rattle.sock_core.specs.Received.{byte_at}
 use Rattle.sock_tcp.specs.Begin.{before_emit, begun, peer_of}
@@ -155,6 +156,7 @@ pub data Sets (v w : View) : Type 0 where
   PauseSynAck : (x : Bool) → w ≡ record v { synack_paused = x } → Sets v w
   SetTsvalGenerator : (is_there : Bool) → w ≡ record v { stamps = is_there } → Sets v w
   SetRules : (x : Rules) → w ≡ record v { rules = x } → Sets v w
+  SetMinRto : (x : ℕ) → w ≡ record v { rtte = bounded_below v.rtte x } → Sets v w
 
 -- the socket v sends out, or nothing, and becomes w, whether the emit answers Ok or an error
 pub record SendsDue (f : Facts) (t : Tuple) (v : View) (out : Option Sending) (w : View) : Type 0 where

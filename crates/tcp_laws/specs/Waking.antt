@@ -17,6 +17,9 @@ use Rattle.sock_tcp.specs.View.{View}
 use Rattle.sock_tcp.specs.Window.{receive_window, is_inside}
 use Rattle.sock_tcp.specs.declared.state.State.TheVariants as state
 use Rattle.sock_tcp.specs.declared.state.State.{State}
+use Rattle.sock_tcp.specs.declared.rules.Rules.{Rules}
+use Rattle.sock_tcp.specs.declared.rules.Rules.TheVariants as rules
+use Rattle.sock_tcp.specs.declared.timer.Timer.{Timer}
 use Rattle.sock_tcp.specs.declared.timer.Timer.TheVariants as timer
 use Rattle.sock_tcp.specs.declared.tuple.Tuple.{Tuple}
 use Rattle.sock_tcp.specs.declared.verdict.Verdict.TheVariants as verdicts
@@ -98,6 +101,16 @@ pub record IsThirdDuplicate (v : View) (s : Segment) (ack : TcpSeqNumber) : Type
   pub duplicate : is_duplicate v ack (length s.payload) (is_window_changed v s.control s.window_len) ≡ true
   pub two_before : v.local_rx_dup_acks ≡ 2
 
+abbrev pub is_retransmission : Timer → Bool
+is_retransmission (timer.Retransmit at) = true
+is_retransmission _ = false
+
+-- the segment at SND.UNA goes out again at once; by the RFCs' rules, which begin no second recovery in one that goes on
+-- and send no FIN again so (RFC 6582, section 3.2), else when the retransmission timer is over
+abbrev pub Resends : Rules → Timer → Type 0
+Resends rules.Smoltcp t = t ≡ timer.FastRetransmit
+Resends rules.Rfc t = (t ≡ timer.FastRetransmit) ⊎ (is_retransmission t ≡ true)
+
 -- where something is in flight, the third duplicate makes a fast retransmission due
 abbrev pub ThirdDuplicateWakes : Type 0
 ThirdDuplicateWakes = (v : View) (now : Instant) (word : ℕ) (ip : IpRepr) (s : Segment) (ack : TcpSeqNumber)
@@ -105,4 +118,4 @@ ThirdDuplicateWakes = (v : View) (now : Instant) (word : ℕ) (ip : IpRepr) (s :
     → IsNumbered s
     → TellsWindow v s
     → IsThirdDuplicate v s ack
-    → (processed v now word ip s).view.timer ≡ timer.FastRetransmit
+    → Resends v.rules (processed v now word ip s).view.timer

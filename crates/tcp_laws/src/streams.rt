@@ -7,6 +7,7 @@ ghost use Rattle.net_base.specs.Ring.{Ring};
 ghost use Rattle.net_base.specs.declared.time.Duration.{Duration};
 ghost use Rattle.net_base.specs.declared.time.Instant.{Instant};
 ghost use Rattle.control_wire.specs.Segment.{Segment, segment_of};
+ghost use Rattle.sock_core.specs.Estimator.{bounded_below};
 ghost use Rattle.sock_core.specs.Received.{receiving, room_of};
 ghost use Rattle.sock_tcp.specs.Closing.{aborted, closed, keep_alive_set};
 ghost use Rattle.tcp_laws.specs.Laws.{MayTake};
@@ -207,4 +208,5 @@ pub fn settings_are_calls()
     ensures pause { (v : View) (k : Counts) (x : Bool) → Step v k (record v { synack_paused = x }) k }
     ensures generator { (v : View) (k : Counts) (x : Bool) → Step v k (record v { stamps = x }) k }
     ensures rules { (v : View) (k : Counts) (x : Rules) → Step v k (record v { rules = x }) k }
+    ensures min_rto { (v : View) (k : Counts) (x : ℕ) → Step v k (record v { rtte = bounded_below v.rtte x }) k }
 {}

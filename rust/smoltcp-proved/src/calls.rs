@@ -2,10 +2,11 @@
 //! "What C has to keep", cited below as "C.md":
 //!
 //! - *socket*: a socket is memory that `init` made, not moved, copied or written since. `Tcp::new`, `Udp::new` and so
-//!   on make it in memory that is borrowed for `'a`, the value is never copied, and nothing but the calls gets at the
-//!   memory before it ends.
+//!   on make it in memory that is borrowed for `'a`, or that is on the heap and the value's own; the value is never
+//!   copied, and nothing but the calls gets at the memory before it ends.
 //! - *one call*: of one socket one call runs at a time. A socket is not `Sync`, and no call takes a closure.
-//! - *buffers*: they are the socket's own, borrowed for `'a`, and by that overlap nothing that a call is given.
+//! - *buffers*: they are the socket's own, borrowed for `'a` or on the heap, and by that overlap nothing that a call is
+//!   given.
 //! - *bytes*: a pointer leads to memory of the length given. Both are those of one slice.
 //!
 //! A contract of `init` takes the memory and the buffers for good. That they are free again where a socket ends rests
@@ -18,6 +19,10 @@ use core::mem::MaybeUninit;
 use core::ptr::{NonNull, null};
 use core::slice;
 
+mod slots;
+use slots::Own;
+pub use slots::Slots;
+
 /// Memory for a TCP socket.
 #[repr(C, align(8))]
 pub struct Memory([MaybeUninit<u8>; ffi::TCP_SIZE]);
@@ -28,15 +33,17 @@ impl Memory {
     }
 }
 
-/// A buffer that is lent to a socket.
-struct Lent {
+/// A buffer of a socket.
+struct Buffer {
     at: NonNull<u8>,
     len: usize,
+    _own: Own<u8>,
 }
 
-impl Lent {
-    fn new(bytes: &mut [u8]) -> Lent {
-        Lent { at: NonNull::from(&mut *bytes).cast(), len: bytes.len() }
+impl Buffer {
+    fn new(bytes: Slots<'_, u8>) -> Buffer {
+        let (at, len, own) = bytes.taken();
+        Buffer { at, len, _own: own }
     }
 
     /// Where `len` bytes from a place on begin in this buffer: where they lie is in no contract, so it is tested. No
@@ -51,11 +58,12 @@ impl Lent {
     }
 }
 
-/// A TCP socket in memory that is borrowed for `'a`, as are its buffers.
+/// A TCP socket in memory that is borrowed for `'a`, as are its buffers, or in its own.
 pub struct Tcp<'a> {
     at: NonNull<u8>,
-    rx: Lent,
-    tx: Lent,
+    rx: Buffer,
+    tx: Buffer,
+    _own: Own<Memory>,
     borrowed: PhantomData<&'a mut [u8]>,
 }
 
@@ -118,19 +126,44 @@ macro_rules! tells {
 mod datagrams;
 pub use datagrams::*;
 
+/// The sizes that the library has.
+pub fn sizes() -> ffi::Sizes {
+    let mut sizes = ffi::Sizes::default();
+    ffi::smoltcp_sizes_nonnull(&mut sizes);
+    sizes
+}
+
+/// A text of the library's.
+fn text(at: *const core::ffi::c_char) -> &'static str {
+    // SAFETY: the library's texts end with a zero, and stay as they are (c/smoltcp_calls.c).
+    unsafe { core::ffi::CStr::from_ptr(at) }.to_str().expect("the library's texts are ASCII")
+}
+
+/// The library's version.
+pub fn version() -> &'static str {
+    text(ffi::smoltcp_version())
+}
+
+/// Where the library comes from.
+pub fn build() -> &'static str {
+    text(ffi::smoltcp_build())
+}
+
 impl<'a> Tcp<'a> {
     /// Makes a closed socket. The buffers have at most 2^30 bytes.
-    pub fn new(memory: &'a mut Memory, rx: &'a mut [u8], tx: &'a mut [u8]) -> Tcp<'a> {
-        assert!(ffi::sizes().tcp <= size_of::<Memory>(), "a library with larger sockets");
+    pub fn new(memory: Slots<'a, Memory>, rx: Slots<'a, u8>, tx: Slots<'a, u8>) -> Tcp<'a> {
+        assert!(sizes().tcp <= size_of::<Memory>(), "a library with larger sockets");
         assert!(rx.len() <= crate::LONGEST_BUFFER, "receiving buffer too large, cannot exceed 1 GiB");
         assert!(tx.len() <= crate::LONGEST_BUFFER, "transmitting buffer too large, cannot exceed 1 GiB");
-        let at = NonNull::from(memory).cast();
-        let made = Tcp { at, rx: Lent::new(rx), tx: Lent::new(tx), borrowed: PhantomData };
+        assert!(memory.len() == 1, "memory for one socket");
+        let (at, _, own) = memory.taken();
+        let (rx, tx) = (Buffer::new(rx), Buffer::new(tx));
+        let made = Tcp { at: at.cast(), rx, tx, _own: own, borrowed: PhantomData };
         let rx = ffi::Bytes { at: made.rx.at.as_ptr(), len: made.rx.len };
         let tx = ffi::Bytes { at: made.tx.at.as_ptr(), len: made.tx.len };
         // SAFETY: C.md: buffers, bytes. The memory has the size and the alignment of `struct smoltcp_tcp`, and holds no
-        // socket that is used: it is borrowed for 'a by this one alone. The lengths were tested.
-        unsafe { ffi::smoltcp_tcp_init_checked(&mut made.handle(), rx, tx) };
+        // socket that is used: it is this one's alone, for 'a or for good. The lengths were tested.
+        unsafe { ffi::smoltcp_tcp_init_nonnull(&mut made.handle(), rx, tx) };
         made
     }
 
@@ -139,19 +172,20 @@ impl<'a> Tcp<'a> {
     }
 
     acts! {
-        close => smoltcp_tcp_close_checked;
-        abort => smoltcp_tcp_abort_checked;
+        close => smoltcp_tcp_close_nonnull;
+        abort => smoltcp_tcp_abort_nonnull;
     }
 
     looks! {
-        state => smoltcp_tcp_state_checked;
-        may_send => smoltcp_tcp_may_send_checked;
-        can_send => smoltcp_tcp_can_send_checked;
-        can_recv => smoltcp_tcp_can_recv_checked;
+        ended => smoltcp_tcp_ended_nonnull;
+        state => smoltcp_tcp_state_nonnull;
+        may_send => smoltcp_tcp_may_send_nonnull;
+        can_send => smoltcp_tcp_can_send_nonnull;
+        can_recv => smoltcp_tcp_can_recv_nonnull;
     }
 
     asks! {
-        smoltcp_tcp_ask_checked:
+        smoltcp_tcp_ask_nonnull:
         is_listening => IS_LISTENING;
         is_open => IS_OPEN;
         is_active => IS_ACTIVE;
@@ -167,60 +201,69 @@ impl<'a> Tcp<'a> {
         nagle_enabled => NAGLE_ENABLED;
         hop_limit => HOP_LIMIT;
         congestion_control => CONGESTION_CONTROL;
+        min_rto => MIN_RTO;
         rules => RULES;
         timestamp_enabled => TIMESTAMP_ENABLED;
     }
 
     sets! {
-        set_timeout(i64) => smoltcp_tcp_set_timeout_checked;
-        set_keep_alive(i64) => smoltcp_tcp_set_keep_alive_checked;
-        set_ack_delay(i64) => smoltcp_tcp_set_ack_delay_checked;
-        set_nagle_enabled(u8) => smoltcp_tcp_set_nagle_enabled_checked;
-        set_hop_limit(u8) => smoltcp_tcp_set_hop_limit_checked;
-        pause_synack(u8) => smoltcp_tcp_pause_synack_checked;
-        set_congestion_control(u32) => smoltcp_tcp_set_congestion_control_checked;
-        set_rules(u32) => smoltcp_tcp_set_rules_checked;
-        set_timestamps(u8) => smoltcp_tcp_set_timestamps_checked;
-        consume(usize) => smoltcp_tcp_consume_checked;
-        commit(usize) => smoltcp_tcp_commit_checked;
+        set_timeout(i64) => smoltcp_tcp_set_timeout_nonnull;
+        set_keep_alive(i64) => smoltcp_tcp_set_keep_alive_nonnull;
+        set_ack_delay(i64) => smoltcp_tcp_set_ack_delay_nonnull;
+        set_nagle_enabled(u8) => smoltcp_tcp_set_nagle_enabled_nonnull;
+        set_hop_limit(u8) => smoltcp_tcp_set_hop_limit_nonnull;
+        pause_synack(u8) => smoltcp_tcp_pause_synack_nonnull;
+        set_congestion_control(u32) => smoltcp_tcp_set_congestion_control_nonnull;
+        set_min_rto(i64) => smoltcp_tcp_set_min_rto_nonnull;
+        set_rules(u32) => smoltcp_tcp_set_rules_nonnull;
+        set_timestamps(u8) => smoltcp_tcp_set_timestamps_nonnull;
+        consume(usize) => smoltcp_tcp_consume_nonnull;
+        commit(usize) => smoltcp_tcp_commit_nonnull;
     }
 
     tells! {
-        local_endpoint => smoltcp_tcp_local_endpoint_checked;
-        remote_endpoint => smoltcp_tcp_remote_endpoint_checked;
-        listen_endpoint => smoltcp_tcp_listen_endpoint_checked;
+        local_endpoint => smoltcp_tcp_local_endpoint_nonnull;
+        remote_endpoint => smoltcp_tcp_remote_endpoint_nonnull;
+        listen_endpoint => smoltcp_tcp_listen_endpoint_nonnull;
     }
 
     pub fn listen(&mut self, at: &ffi::Endpoint) -> i64 {
         // SAFETY: C.md: socket, one call, buffers.
-        unsafe { ffi::smoltcp_tcp_listen_checked(&mut self.handle(), at) }
+        unsafe { ffi::smoltcp_tcp_listen_nonnull(&mut self.handle(), at) }
     }
 
     pub fn connect(&mut self, cx: &ffi::Context, remote: &ffi::Endpoint, local: &ffi::Endpoint) -> i64 {
         // SAFETY: C.md: socket, one call, buffers.
-        unsafe { ffi::smoltcp_tcp_connect_checked(&mut self.handle(), cx, remote, local) }
+        unsafe { ffi::smoltcp_tcp_connect_nonnull(&mut self.handle(), cx, remote, local) }
+    }
+
+    pub fn negotiated(&self) -> (i64, ffi::Negotiated) {
+        let mut out = ffi::Negotiated::default();
+        // SAFETY: C.md: socket, one call, buffers.
+        let answer = unsafe { ffi::smoltcp_tcp_negotiated_nonnull(&mut self.handle(), &mut out) };
+        (answer, out)
     }
 
     pub fn send(&mut self, data: &[u8]) -> i64 {
         // SAFETY: C.md: socket, one call, buffers, bytes.
-        unsafe { ffi::smoltcp_tcp_send_checked(&mut self.handle(), data.as_ptr(), data.len()) }
+        unsafe { ffi::smoltcp_tcp_send_nonnull(&mut self.handle(), data.as_ptr(), data.len()) }
     }
 
     pub fn recv(&mut self, data: &mut [u8]) -> i64 {
         // SAFETY: C.md: socket, one call, buffers, bytes.
-        unsafe { ffi::smoltcp_tcp_recv_checked(&mut self.handle(), data.as_mut_ptr(), data.len()) }
+        unsafe { ffi::smoltcp_tcp_recv_nonnull(&mut self.handle(), data.as_mut_ptr(), data.len()) }
     }
 
     pub fn peek_slice(&self, data: &mut [u8]) -> i64 {
         // SAFETY: C.md: socket, one call, buffers, bytes.
-        unsafe { ffi::smoltcp_tcp_peek_slice_checked(&mut self.handle(), data.as_mut_ptr(), data.len()) }
+        unsafe { ffi::smoltcp_tcp_peek_slice_nonnull(&mut self.handle(), data.as_mut_ptr(), data.len()) }
     }
 
     /// The front of the receive queue, or what the call answered.
     pub fn peek(&mut self, size: usize) -> Result<&[u8], i64> {
         let mut place = ffi::Place { at: null(), len: 0 };
         // SAFETY: C.md: socket, one call, buffers.
-        let answer = unsafe { ffi::smoltcp_tcp_peek_checked(&mut self.handle(), size, &mut place) };
+        let answer = unsafe { ffi::smoltcp_tcp_peek_nonnull(&mut self.handle(), size, &mut place) };
         let len = usize::try_from(answer).map_err(|_| answer)?;
         let start = self.rx.find(&place, len);
         // SAFETY: C.md: "What `peek` and `reserve` lend may be used until the next call on the socket", and none is
@@ -233,7 +276,7 @@ impl<'a> Tcp<'a> {
     pub fn reserve(&mut self) -> Result<&mut [u8], i64> {
         let mut place = ffi::Place { at: null(), len: 0 };
         // SAFETY: C.md: socket, one call, buffers.
-        let answer = unsafe { ffi::smoltcp_tcp_reserve_checked(&mut self.handle(), &mut place) };
+        let answer = unsafe { ffi::smoltcp_tcp_reserve_nonnull(&mut self.handle(), &mut place) };
         let len = usize::try_from(answer).map_err(|_| answer)?;
         let start = self.tx.find(&place, len);
         // SAFETY: C.md, as for `peek`: the places may be written until the next call on the socket. They lie in the
@@ -244,39 +287,39 @@ impl<'a> Tcp<'a> {
     pub fn process(&mut self, cx: &ffi::Context, packet: &[u8], reply: &mut [u8]) -> i64 {
         let (at, len, to, cap) = (packet.as_ptr(), packet.len(), reply.as_mut_ptr(), reply.len());
         // SAFETY: C.md: socket, one call, buffers, bytes.
-        unsafe { ffi::smoltcp_tcp_process_checked(&mut self.handle(), cx, at, len, to, cap) }
+        unsafe { ffi::smoltcp_tcp_process_nonnull(&mut self.handle(), cx, at, len, to, cap) }
     }
 
     pub fn dispatch(&mut self, cx: &ffi::Context, out: &mut [u8]) -> i64 {
         // SAFETY: C.md: socket, one call, buffers, bytes.
-        unsafe { ffi::smoltcp_tcp_dispatch_checked(&mut self.handle(), cx, out.as_mut_ptr(), out.len()) }
+        unsafe { ffi::smoltcp_tcp_dispatch_nonnull(&mut self.handle(), cx, out.as_mut_ptr(), out.len()) }
     }
 
     pub fn poll_at(&self, cx: &ffi::Context, at: &mut i64) -> i64 {
         // SAFETY: C.md: socket, one call, buffers.
-        unsafe { ffi::smoltcp_tcp_poll_at_checked(&mut self.handle(), cx, at) }
+        unsafe { ffi::smoltcp_tcp_poll_at_nonnull(&mut self.handle(), cx, at) }
     }
 }
 
 pub fn reset(packet: &[u8], reply: &mut [u8]) -> i64 {
     let (at, len, to, cap) = (packet.as_ptr(), packet.len(), reply.as_mut_ptr(), reply.len());
     // SAFETY: C.md: bytes.
-    unsafe { ffi::smoltcp_tcp_reset_checked(at, len, to, cap) }
+    unsafe { ffi::smoltcp_tcp_reset_nonnull(at, len, to, cap) }
 }
 
 #[cfg(test)]
 mod tests {
     extern crate std;
-    use super::Lent;
+    use super::{Buffer, Slots};
     use crate::ffi::Place;
 
     /// Whether `len` bytes that begin so far behind a buffer's beginning are found in it, which has ten.
     fn found(behind: isize, len: usize) -> bool {
         let mut bytes = [0; 10];
-        let lent = Lent::new(&mut bytes);
-        let place = Place { at: lent.at.as_ptr().wrapping_offset(behind), len };
-        let start = std::panic::catch_unwind(|| Lent { at: lent.at, len: lent.len }.find(&place, len));
-        start.is_ok_and(|start| len == 0 || start == behind as usize)
+        let buffer = Buffer::new(Slots::Lent(&mut bytes));
+        let place = Place { at: buffer.at.as_ptr().wrapping_offset(behind), len };
+        let find = std::panic::AssertUnwindSafe(|| buffer.find(&place, len));
+        std::panic::catch_unwind(find).is_ok_and(|start| len == 0 || start == behind as usize)
     }
 
     #[test]

@@ -47,11 +47,12 @@ pub struct Context<W = NoWords> {
 const FAR: i64 = 1 << 61;
 
 impl Context {
-    /// A context with this MTU of IP packets, in bytes: none below 576; above 65535 it counts as that. The moment is 0,
+    /// A context with this MTU of IP packets, in bytes: none below 68; above 65535 it counts as that. Over IPv6
+    /// less than 576 counts as that: its links have 1280 (RFC 8200, section 5). The moment is 0,
     /// the addresses are unspecified, and there are no random words: connections are opened with
     /// [`with_words`](Context::with_words).
     pub fn new(ip_mtu: usize) -> Option<Context> {
-        if ip_mtu < 576 {
+        if ip_mtu < 68 {
             return None;
         }
         let ip_mtu = ip_mtu.min(65535) as u32;

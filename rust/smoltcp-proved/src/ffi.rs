@@ -179,6 +179,7 @@ pub mod ask {
     pub const CONGESTION_CONTROL: u32 = 22;
     pub const TIMESTAMP_ENABLED: u32 = 23;
     pub const RULES: u32 = 24;
+    pub const MIN_RTO: u32 = 25;
 }
 
 // SAFETY: names, arguments and widths are the crate's. What each pointer has to lead to is docs/C.md,
@@ -217,6 +218,7 @@ unsafe extern "C" {
     pub fn smoltcp_tcp_set_congestion_control_nonnull(h: &mut TcpHandle, kind: u32) -> i64;
     pub fn smoltcp_tcp_set_hop_limit_nonnull(h: &mut TcpHandle, hop_limit: u8) -> i64;
     pub fn smoltcp_tcp_set_keep_alive_nonnull(h: &mut TcpHandle, micros: i64) -> i64;
+    pub fn smoltcp_tcp_set_min_rto_nonnull(h: &mut TcpHandle, micros: i64) -> i64;
     pub fn smoltcp_tcp_set_nagle_enabled_nonnull(h: &mut TcpHandle, enabled: u8) -> i64;
     pub fn smoltcp_tcp_set_rules_nonnull(h: &mut TcpHandle, rules: u32) -> i64;
     pub fn smoltcp_tcp_set_timeout_nonnull(h: &mut TcpHandle, micros: i64) -> i64;
@@ -260,4 +262,7 @@ unsafe extern "C" {
     pub fn smoltcp_icmp_recv_nonnull(h: &mut IcmpHandle, remote: &mut Address, data: *mut u8, cap: usize) -> i64;
     pub fn smoltcp_icmp_send_nonnull(h: &mut IcmpHandle, remote: &Address, data: *const u8, len: usize) -> i64;
     pub fn smoltcp_icmp_set_hop_limit_nonnull(h: &mut IcmpHandle, hop_limit: u8) -> i64;
+    // Texts that end with a zero, and stay.
+    pub safe fn smoltcp_version() -> *const core::ffi::c_char;
+    pub safe fn smoltcp_build() -> *const core::ffi::c_char;
 }

@@ -1,11 +1,19 @@
 //! ICMP sockets (RFC 792, RFC 4443). Each call of a [`Socket`] is one call of the library, which is proved. smoltcp's
 //! names and texts.
-use crate::calls::{self, Icmp};
-use crate::numbers::{address_in, address_of, count_in, hop_limit_in, hop_limit_of, listen_of};
+use crate::calls::{self, Icmp, Slots};
+use crate::numbers::{
+    address_of, address_told, count_in, done, flag_in, hop_limit_in, hop_limit_of, listen_of, not_in_contract,
+};
+use crate::room::{LONGEST_PACKET, Room};
+use crate::shown::shown;
 use crate::tcp::poll_in;
+use crate::wakers::{Wakers, registers};
 use crate::wire::{IpAddress, IpListenEndpoint};
 use crate::{Context, DispatchError, NotAccepted, PollAt, ffi};
+#[cfg(feature = "alloc")]
+use alloc::vec::Vec;
 use core::fmt;
+use core::task::Waker;
 
 /// An error of `bind`.
 #[derive(Debug, PartialEq, Eq, Clone, Copy)]
@@ -119,10 +127,12 @@ impl Default for Memory {
     }
 }
 
+shown!();
+
 /// A place of a queue: a message takes one.
 pub use crate::calls::IcmpPlace as PacketMetadata;
 
-/// A queue of messages over borrowed places and bytes.
+/// A queue of messages over borrowed places and bytes, or its own.
 pub struct PacketBuffer<'a>(calls::IcmpBuffer<'a>);
 
 impl<'a> PacketBuffer<'a> {
@@ -131,23 +141,56 @@ impl<'a> PacketBuffer<'a> {
     /// # Panics
     /// Where there are more than 2^30 places or bytes.
     pub fn new(places: &'a mut [PacketMetadata], bytes: &'a mut [u8]) -> PacketBuffer<'a> {
+        PacketBuffer(calls::IcmpBuffer::new(Slots::Lent(places), Slots::Lent(bytes)))
+    }
+
+    /// An empty queue over places and bytes of its own, freed where the socket over it ends. Behind the feature
+    /// `alloc`. (smoltcp's `new`.)
+    ///
+    /// # Panics
+    /// Where there are more than 2^30 places or bytes.
+    #[cfg(feature = "alloc")]
+    pub fn owned(places: Vec<PacketMetadata>, bytes: Vec<u8>) -> PacketBuffer<'static> {
+        let (places, bytes) = (Slots::Given(places.into()), Slots::Given(bytes.into()));
         PacketBuffer(calls::IcmpBuffer::new(places, bytes))
     }
 }
 
-/// An ICMP socket in borrowed memory, over two borrowed queues. The value may be moved: it is a reference to the
-/// socket.
-pub struct Socket<'a>(Icmp<'a>);
+/// An ICMP socket in borrowed memory, over two borrowed queues, or in its own (`owned`, behind the feature `alloc`).
+/// The value may be moved: it is a reference to the socket.
+pub struct Socket<'a> {
+    calls: Icmp<'a>,
+    room: Room<'a>,
+    wakers: Wakers,
+}
 
 impl<'a> Socket<'a> {
     /// Makes a socket that is not open. (smoltcp has two buffers, and no memory.)
     pub fn new(memory: &'a mut Memory, rx: PacketBuffer<'a>, tx: PacketBuffer<'a>) -> Socket<'a> {
-        Socket(Icmp::new(&mut memory.0, rx.0, tx.0))
+        Socket::over(Icmp::new(Slots::lent(&mut memory.0), rx.0, tx.0))
+    }
+
+    /// Makes a socket in memory of its own, which is freed where it ends. Behind the feature `alloc`. (smoltcp's
+    /// `new`.)
+    #[cfg(feature = "alloc")]
+    pub fn owned(rx: PacketBuffer<'a>, tx: PacketBuffer<'a>) -> Socket<'a> {
+        Socket::over(Icmp::new(Slots::given(calls::IcmpMemory::new()), rx.0, tx.0))
+    }
+
+    fn over(calls: Icmp<'a>) -> Socket<'a> {
+        Socket { calls, room: Room::none(), wakers: Wakers::none() }
+    }
+
+    /// Lends room for one message to [`recv`](Socket::recv) and [`send_with`](Socket::send_with). With the
+    /// feature `alloc`, a socket that was lent none takes it from the heap at the first such call; without, those calls
+    /// panic before. (Not in smoltcp, which lends a message where it lies.)
+    pub fn lend_room(&mut self, room: &'a mut [u8]) {
+        self.room = Room::Lent(room);
     }
 
     /// The hop limit of what is sent; none for 64.
     pub fn hop_limit(&self) -> Option<u8> {
-        hop_limit_in(count_in(self.0.hop_limit()) as u8)
+        hop_limit_in(self.calls.hop_limit())
     }
 
     /// Sets the hop limit of what is sent from now on.
@@ -155,116 +198,213 @@ impl<'a> Socket<'a> {
     /// # Panics
     /// Where it is 0, as in smoltcp.
     pub fn set_hop_limit(&mut self, hop_limit: Option<u8>) {
-        self.0.set_hop_limit(hop_limit_of(hop_limit));
+        done(self.calls.set_hop_limit(hop_limit_of(hop_limit)));
     }
 
     /// Opens the socket for these messages. It stays open, as in smoltcp.
     pub fn bind<T: Into<Endpoint>>(&mut self, endpoint: T) -> Result<(), BindError> {
-        match self.0.bind(&endpoint_of(endpoint.into())) {
-            ffi::OK => Ok(()),
+        match self.calls.bind(&endpoint_of(endpoint.into())) {
+            ffi::OK => {
+                self.wakers.wake_both();
+                Ok(())
+            }
             ffi::ERROR_STATE => Err(BindError::InvalidState),
-            _ => Err(BindError::Unaddressable),
+            ffi::ERROR_ADDRESS => Err(BindError::Unaddressable),
+            answer => not_in_contract(answer),
         }
     }
 
     /// Whether it is bound.
     pub fn is_open(&self) -> bool {
-        self.0.is_open() == 1
+        flag_in(self.calls.is_open())
     }
 
     /// Whether the transmit queue has a free place.
     pub fn can_send(&self) -> bool {
-        self.0.can_send() == 1
+        flag_in(self.calls.can_send())
     }
 
     /// Whether a place of the receive queue is taken.
     pub fn can_recv(&self) -> bool {
-        self.0.can_recv() == 1
+        flag_in(self.calls.can_recv())
     }
 
     /// How many messages the transmit queue has places for.
     pub fn packet_send_capacity(&self) -> usize {
-        count_in(self.0.packet_send_capacity())
+        count_in(self.calls.packet_send_capacity())
     }
 
     /// How many messages the receive queue has places for.
     pub fn packet_recv_capacity(&self) -> usize {
-        count_in(self.0.packet_recv_capacity())
+        count_in(self.calls.packet_recv_capacity())
     }
 
     /// How many bytes of messages the transmit queue holds.
     pub fn payload_send_capacity(&self) -> usize {
-        count_in(self.0.payload_send_capacity())
+        count_in(self.calls.payload_send_capacity())
     }
 
     /// How many bytes of messages the receive queue holds.
     pub fn payload_recv_capacity(&self) -> usize {
-        count_in(self.0.payload_recv_capacity())
+        count_in(self.calls.payload_recv_capacity())
     }
 
     /// How many bytes of the transmit queue are taken, padding included.
     pub fn send_queue(&self) -> usize {
-        count_in(self.0.send_queue())
+        count_in(self.calls.send_queue())
     }
 
     /// How many bytes of the receive queue are taken, padding included.
     pub fn recv_queue(&self) -> usize {
-        count_in(self.0.recv_queue())
+        count_in(self.calls.recv_queue())
     }
 
     /// Puts an ICMP message into the transmit queue; `dispatch` computes its checksum. Where the bytes are no echo and
     /// no error of the address's version, `dispatch` drops them, as in smoltcp. The socket need not be open.
     pub fn send_slice(&mut self, data: &[u8], endpoint: IpAddress) -> Result<(), SendError> {
-        match self.0.send(&address_of(Some(endpoint)), data) {
-            ffi::OK => Ok(()),
-            ffi::ERROR_ROOM => Err(SendError::BufferFull),
-            _ => Err(SendError::Unaddressable),
+        sent(self.calls.send(&address_of(Some(endpoint)), data))
+    }
+
+    /// Puts a message into the transmit queue that `f` writes: into so many bytes of the socket's room
+    /// ([`lend_room`](Socket::lend_room)), the first of which are the message, as many as it answers. Answers how many.
+    ///
+    /// `BufferFull` also where the room is shorter. Where the queue has bytes free, but fewer than the message has,
+    /// that is said behind `f`.
+    ///
+    /// ```
+    /// use smoltcp_proved::icmp::{Memory, PacketBuffer, PacketMetadata, SendError, Socket};
+    /// use smoltcp_proved::wire::{Icmpv4Repr, IpAddress};
+    ///
+    /// fn ping(socket: &mut Socket, to: IpAddress, seq_no: u16) -> Result<usize, SendError> {
+    ///     let request = Icmpv4Repr::EchoRequest { ident: 7, seq_no, data: b"ping" };
+    ///     socket.send_with(request.buffer_len(), to, |bytes| {
+    ///         request.emit(bytes);
+    ///         request.buffer_len()
+    ///     })
+    /// }
+    ///
+    /// let (mut memory, mut room) = (Memory::new(), [0; 1480]);
+    /// let (mut places, mut bytes) = ([[PacketMetadata::EMPTY; 4]; 2], [[0; 256]; 2]);
+    /// let ([p, q], [r, s]) = (&mut places, &mut bytes);
+    /// let mut socket = Socket::new(&mut memory, PacketBuffer::new(p, r), PacketBuffer::new(q, s));
+    /// socket.lend_room(&mut room);
+    /// assert_eq!(ping(&mut socket, IpAddress::v4(10, 0, 0, 2), 1), Ok(12));
+    /// ```
+    ///
+    /// # Panics
+    /// Where `f` answers more bytes than it was lent, as in smoltcp; without the feature `alloc`, where no room was
+    /// lent. Nothing is sent then.
+    pub fn send_with<F>(&mut self, max_size: usize, endpoint: IpAddress, f: F) -> Result<usize, SendError>
+    where
+        F: FnOnce(&mut [u8]) -> usize,
+    {
+        if endpoint.is_unspecified() {
+            return Err(SendError::Unaddressable);
         }
+        if !self.can_send() || max_size > self.payload_send_capacity() {
+            return Err(SendError::BufferFull);
+        }
+        let bytes = self.room.written(max_size, f).ok_or(SendError::BufferFull)?;
+        sent(self.calls.send(&address_of(Some(endpoint)), bytes)).map(|()| bytes.len())
+    }
+
+    /// Takes the first message, which lies in the socket's room ([`lend_room`](Socket::lend_room)) then, and where it
+    /// came from. Where it finds no room there, it is lost, as with [`recv_slice`](Socket::recv_slice); room of the
+    /// heap is long enough for all.
+    ///
+    /// ```
+    /// use smoltcp_proved::icmp::Socket;
+    /// use smoltcp_proved::wire::{Icmpv4Repr, IpAddress};
+    ///
+    /// /// Who has answered which request.
+    /// fn answered(socket: &mut Socket) -> Option<(IpAddress, u16)> {
+    ///     let (message, from) = socket.recv().ok()?;
+    ///     match Icmpv4Repr::parse_unsummed(message) {
+    ///         Ok(Icmpv4Repr::EchoReply { seq_no, .. }) => Some((from, seq_no)),
+    ///         _ => None,
+    ///     }
+    /// }
+    /// # let _ = answered;
+    /// ```
+    ///
+    /// # Panics
+    /// Without the feature `alloc`, where no room was lent.
+    pub fn recv(&mut self) -> Result<(&[u8], IpAddress), RecvError> {
+        let most = self.payload_recv_capacity().min(LONGEST_PACKET);
+        let (room, mut from) = (self.room.of(most), ffi::Address::default());
+        let (len, from) = copied(self.calls.recv(&mut from, room), &from)?;
+        Ok((&room[..len], from))
     }
 
     /// Takes the first message: how many bytes it has, at the beginning of `data`, and where it came from. Where they
     /// find no room, it is lost, as in smoltcp.
     pub fn recv_slice(&mut self, data: &mut [u8]) -> Result<(usize, IpAddress), RecvError> {
         let mut from = ffi::Address::default();
-        match self.0.recv(&mut from, data) {
-            ffi::ERROR_ROOM => Err(RecvError::Truncated),
-            len if len < 0 => Err(RecvError::Exhausted),
-            len => Ok((count_in(len), address_in(&from).ok_or(RecvError::Exhausted)?)),
-        }
+        let answer = self.calls.recv(&mut from, data);
+        copied(answer, &from)
     }
 
     /// Whether `process` takes an IP packet.
     pub fn accepts<W>(&self, cx: &Context<W>, packet: &[u8]) -> bool {
-        self.0.accepts(&cx.raw, packet) == 1
+        flag_in(self.calls.accepts(&cx.raw, packet))
     }
 
     /// Takes an IP packet, where it carries a message for the socket: that is dropped where it finds no room, as in
     /// smoltcp.
     pub fn process<W>(&mut self, cx: &Context<W>, packet: &[u8]) -> Result<(), NotAccepted> {
-        match self.0.process(&cx.raw, packet) {
-            ffi::OK => Ok(()),
-            _ => Err(NotAccepted),
+        match self.calls.process(&cx.raw, packet) {
+            ffi::OK => {
+                self.wakers.wake_recv();
+                Ok(())
+            }
+            ffi::NOT_ACCEPTED => Err(NotAccepted),
+            answer => not_in_contract(answer),
         }
     }
 
     /// Writes the packet of the first message that was sent to the beginning of `out`, and answers its length, if
     /// there is one. Where it finds no room, it stays the first; where it has no source, it is dropped.
     pub fn dispatch<W>(&mut self, cx: &Context<W>, out: &mut [u8]) -> Result<Option<usize>, DispatchError> {
-        match self.0.dispatch(&cx.raw, out) {
+        let waits = self.wakers.sends() && self.poll_at(cx) == PollAt::Now;
+        let answer = self.calls.dispatch(&cx.raw, out);
+        if waits && answer != ffi::ERROR_ROOM {
+            self.wakers.wake_send();
+        }
+        match answer {
+            ffi::OK => Ok(None),
             ffi::ERROR_ROOM => Err(DispatchError::TooShort),
             ffi::ERROR_ADDRESS => Err(DispatchError::Unaddressable),
-            len if len > 0 => Ok(Some(count_in(len))),
-            _ => Ok(None),
+            len => Ok(Some(count_in(len))),
         }
     }
 
     /// When the next `dispatch` is wanted.
     pub fn poll_at<W>(&self, cx: &Context<W>) -> PollAt {
         let mut at = 0;
-        let answer = self.0.poll_at(&cx.raw, &mut at);
+        let answer = self.calls.poll_at(&cx.raw, &mut at);
         poll_in(answer, at, cx)
     }
 }
+
+fn sent(answer: i64) -> Result<(), SendError> {
+    match answer {
+        ffi::OK => Ok(()),
+        ffi::ERROR_ROOM => Err(SendError::BufferFull),
+        ffi::ERROR_ADDRESS => Err(SendError::Unaddressable),
+        _ => not_in_contract(answer),
+    }
+}
+
+/// What a call that copies a message answered.
+fn copied(answer: i64, from: &ffi::Address) -> Result<(usize, IpAddress), RecvError> {
+    match answer {
+        ffi::ERROR_ROOM => Err(RecvError::Truncated),
+        ffi::ERROR_EMPTY => Err(RecvError::Exhausted),
+        len => Ok((count_in(len), address_told(from))),
+    }
+}
+
+registers!("a message");
 
 impl fmt::Debug for Socket<'_> {
     fn fmt(&self, f: &mut fmt::Formatter<'_>) -> fmt::Result {

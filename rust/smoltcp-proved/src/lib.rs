@@ -5,11 +5,14 @@
 //! A socket borrows its memory and its two buffers, takes IP packets as bytes by `process`, and emits them by
 //! `dispatch`. There is no interface layer, no heap, no clock: the program that calls has them.
 //!
+//! Features, of which none is on: `alloc`, sockets and queues that own their memory (`tcp::Socket::owned`), and room of
+//! the heap for datagrams in place; `std`, that and moments of the system's clocks.
+//!
 //! ```
 //! use smoltcp_proved::{Context, tcp, wire::IpAddress};
 //!
 //! let (mut memory, mut rx, mut tx) = (tcp::Memory::new(), [0; 1024], [0; 1024]);
-//! let cx = Context::new(1500).expect("an MTU of 576 or more");
+//! let cx = Context::new(1500).expect("an MTU of 68 or more");
 //! let mut cx = cx.with_words(|| 0x1234_5678); // a program takes a source of words that nobody can guess
 //! cx.set_ipv4_addr([10, 0, 0, 1].into());
 //! let mut socket = tcp::Socket::new(&mut memory, &mut rx, &mut tx);
@@ -93,8 +96,16 @@
 //! sent(Socket::new(&mut memory, &mut rx, &mut tx));
 //! ```
 #![no_std]
-#![deny(missing_docs, unsafe_code, unsafe_op_in_unsafe_fn, clippy::undocumented_unsafe_blocks)]
+#![deny(
+    missing_docs,
+    missing_debug_implementations,
+    unsafe_code,
+    unsafe_op_in_unsafe_fn,
+    clippy::undocumented_unsafe_blocks
+)]
 
+#[cfg(feature = "alloc")]
+extern crate alloc;
 #[cfg(feature = "std")]
 extern crate std;
 
@@ -104,9 +115,13 @@ mod context;
 #[allow(unsafe_code)]
 mod ffi;
 mod numbers;
+mod room;
+mod shown;
+mod wakers;
 
 pub mod icmp;
 pub mod raw;
+pub mod socket;
 pub mod tcp;
 pub mod time;
 pub mod udp;
@@ -116,6 +131,17 @@ pub use context::{Context, NoWords, Words};
 
 use core::fmt;
 use time::Instant;
+
+/// The library's version, as the crate's own.
+pub fn version() -> &'static str {
+    calls::version()
+}
+
+/// Where the library comes from: the commit and the prover's kit, as "commit 1a80906 kit rattle-kit-13f logic ..", each
+/// "unknown" where the build could not tell.
+pub fn build() -> &'static str {
+    calls::build()
+}
 
 /// The longest buffer of a socket, in bytes.
 pub const LONGEST_BUFFER: usize = 1 << 30;

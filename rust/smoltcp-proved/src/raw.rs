@@ -1,11 +1,17 @@
 //! Raw sockets: whole IP packets, headers included, go in and out. Each call of a [`Socket`] is one call of the
 //! library, which is proved. smoltcp's names.
-use crate::calls::{self, Raw};
-use crate::numbers::count_in;
+use crate::calls::{self, Raw, Slots};
+use crate::numbers::{count_in, flag_in, not_in_contract};
+use crate::room::{LONGEST_PACKET, Room};
+use crate::shown::shown;
 use crate::tcp::poll_in;
-use crate::wire::IpVersion;
+use crate::wakers::{Wakers, registers};
+use crate::wire::{IpProtocol, IpVersion};
 use crate::{Context, NotAccepted, PollAt, TooShort, ffi};
+#[cfg(feature = "alloc")]
+use alloc::vec::Vec;
 use core::fmt;
+use core::task::Waker;
 
 pub use crate::icmp::RecvError;
 
@@ -40,10 +46,12 @@ impl Default for Memory {
     }
 }
 
+shown!();
+
 /// A place of a queue: a packet takes one.
 pub use crate::calls::RawPlace as PacketMetadata;
 
-/// A queue of packets over borrowed places and bytes.
+/// A queue of packets over borrowed places and bytes, or its own.
 pub struct PacketBuffer<'a>(calls::RawBuffer<'a>);
 
 impl<'a> PacketBuffer<'a> {
@@ -52,134 +60,227 @@ impl<'a> PacketBuffer<'a> {
     /// # Panics
     /// Where there are more than 2^30 places or bytes.
     pub fn new(places: &'a mut [PacketMetadata], bytes: &'a mut [u8]) -> PacketBuffer<'a> {
+        PacketBuffer(calls::RawBuffer::new(Slots::Lent(places), Slots::Lent(bytes)))
+    }
+
+    /// An empty queue over places and bytes of its own, freed where the socket over it ends. Behind the feature
+    /// `alloc`. (smoltcp's `new`.)
+    ///
+    /// # Panics
+    /// Where there are more than 2^30 places or bytes.
+    #[cfg(feature = "alloc")]
+    pub fn owned(places: Vec<PacketMetadata>, bytes: Vec<u8>) -> PacketBuffer<'static> {
+        let (places, bytes) = (Slots::Given(places.into()), Slots::Given(bytes.into()));
         PacketBuffer(calls::RawBuffer::new(places, bytes))
     }
 }
 
-/// A raw socket in borrowed memory, over two borrowed queues. The value may be moved: it is a reference to the socket.
-pub struct Socket<'a>(Raw<'a>);
+/// A raw socket in borrowed memory, over two borrowed queues, or in its own (`owned`, behind the feature `alloc`). The
+/// value may be moved: it is a reference to the socket.
+pub struct Socket<'a> {
+    calls: Raw<'a>,
+    room: Room<'a>,
+    wakers: Wakers,
+}
 
 impl<'a> Socket<'a> {
-    /// Makes a socket for the packets of this version of IP, or of both, and of the protocol with this number, or of
-    /// any. (smoltcp has two buffers, and no memory; and names for protocols.)
+    /// Makes a socket for the packets of this version of IP, or of both, and of this protocol, or of any. (smoltcp has
+    /// two buffers, and no memory.)
     pub fn new(
         memory: &'a mut Memory,
         ip_version: Option<IpVersion>,
-        ip_protocol: Option<u8>,
+        ip_protocol: Option<IpProtocol>,
         rx: PacketBuffer<'a>,
         tx: PacketBuffer<'a>,
     ) -> Socket<'a> {
-        let version = match ip_version {
-            None => 0,
-            Some(IpVersion::Ipv4) => 4,
-            Some(IpVersion::Ipv6) => 6,
-        };
-        let (any_protocol, protocol) = (u8::from(ip_protocol.is_none()), ip_protocol.unwrap_or(0));
-        let filter = ffi::RawFilter { version, any_protocol, protocol };
-        Socket(Raw::new(&mut memory.0, &filter, rx.0, tx.0))
+        let filter = filter_of(ip_version, ip_protocol);
+        Socket::over(Raw::new(Slots::lent(&mut memory.0), &filter, rx.0, tx.0))
+    }
+
+    /// Makes a socket in memory of its own, which is freed where it ends. Behind the feature `alloc`. (smoltcp's
+    /// `new`.)
+    #[cfg(feature = "alloc")]
+    pub fn owned(
+        ip_version: Option<IpVersion>,
+        ip_protocol: Option<IpProtocol>,
+        rx: PacketBuffer<'a>,
+        tx: PacketBuffer<'a>,
+    ) -> Socket<'a> {
+        let filter = filter_of(ip_version, ip_protocol);
+        Socket::over(Raw::new(Slots::given(calls::RawMemory::new()), &filter, rx.0, tx.0))
+    }
+
+    fn over(calls: Raw<'a>) -> Socket<'a> {
+        Socket { calls, room: Room::none(), wakers: Wakers::none() }
+    }
+
+    /// Lends room for one packet to [`recv`](Socket::recv), [`peek`](Socket::peek) and
+    /// [`send_with`](Socket::send_with). With the feature `alloc`, a socket that was lent none takes it from the heap
+    /// at the first such call; without, those calls panic before. (Not in smoltcp, which lends a packet where it lies.)
+    pub fn lend_room(&mut self, room: &'a mut [u8]) {
+        self.room = Room::Lent(room);
     }
 
     /// The version of IP of the socket's packets; none for both.
     pub fn ip_version(&self) -> Option<IpVersion> {
-        match self.0.ip_version() {
+        match self.calls.ip_version() {
+            0 => None,
             4 => Some(IpVersion::Ipv4),
             6 => Some(IpVersion::Ipv6),
-            _ => None,
+            answer => not_in_contract(answer),
         }
     }
 
-    /// The number of the protocol of the socket's packets; none for any.
-    pub fn ip_protocol(&self) -> Option<u8> {
-        u8::try_from(self.0.ip_protocol()).ok()
+    /// The protocol of the socket's packets; none for any.
+    pub fn ip_protocol(&self) -> Option<IpProtocol> {
+        match self.calls.ip_protocol() {
+            ANY_PROTOCOL => None,
+            answer => Some(u8::try_from(answer).unwrap_or_else(|_| not_in_contract(answer)).into()),
+        }
     }
 
     /// Whether the transmit queue has a free place.
     pub fn can_send(&self) -> bool {
-        self.0.can_send() == 1
+        flag_in(self.calls.can_send())
     }
 
     /// Whether a place of the receive queue is taken.
     pub fn can_recv(&self) -> bool {
-        self.0.can_recv() == 1
+        flag_in(self.calls.can_recv())
     }
 
     /// How many packets the transmit queue has places for.
     pub fn packet_send_capacity(&self) -> usize {
-        count_in(self.0.packet_send_capacity())
+        count_in(self.calls.packet_send_capacity())
     }
 
     /// How many packets the receive queue has places for.
     pub fn packet_recv_capacity(&self) -> usize {
-        count_in(self.0.packet_recv_capacity())
+        count_in(self.calls.packet_recv_capacity())
     }
 
     /// How many bytes the transmit queue holds.
     pub fn payload_send_capacity(&self) -> usize {
-        count_in(self.0.payload_send_capacity())
+        count_in(self.calls.payload_send_capacity())
     }
 
     /// How many bytes the receive queue holds.
     pub fn payload_recv_capacity(&self) -> usize {
-        count_in(self.0.payload_recv_capacity())
+        count_in(self.calls.payload_recv_capacity())
     }
 
     /// How many bytes of the transmit queue are taken, padding included.
     pub fn send_queue(&self) -> usize {
-        count_in(self.0.send_queue())
+        count_in(self.calls.send_queue())
     }
 
     /// How many bytes of the receive queue are taken, padding included.
     pub fn recv_queue(&self) -> usize {
-        count_in(self.0.recv_queue())
+        count_in(self.calls.recv_queue())
     }
 
     /// Puts a packet, its IP header first, into the transmit queue.
     pub fn send_slice(&mut self, data: &[u8]) -> Result<(), SendError> {
-        match self.0.send(data) {
-            ffi::OK => Ok(()),
-            _ => Err(SendError::BufferFull),
+        sent(self.calls.send(data))
+    }
+
+    /// Puts a packet, its IP header first, into the transmit queue that `f` writes: into so many bytes of the socket's
+    /// room ([`lend_room`](Socket::lend_room)), the first of which are the packet, as many as it answers. Answers how
+    /// many.
+    ///
+    /// `BufferFull` also where the room is shorter. Where the queue has bytes free, but fewer than the packet has, that
+    /// is said behind `f`.
+    ///
+    /// # Panics
+    /// Where `f` answers more bytes than it was lent, as in smoltcp; without the feature `alloc`, where no room was
+    /// lent. Nothing is sent then.
+    pub fn send_with<F>(&mut self, max_size: usize, f: F) -> Result<usize, SendError>
+    where
+        F: FnOnce(&mut [u8]) -> usize,
+    {
+        if !self.can_send() || max_size > self.payload_send_capacity() {
+            return Err(SendError::BufferFull);
         }
+        let bytes = self.room.written(max_size, f).ok_or(SendError::BufferFull)?;
+        sent(self.calls.send(bytes)).map(|()| bytes.len())
+    }
+
+    /// Takes the first packet, which lies in the socket's room ([`lend_room`](Socket::lend_room)) then. Where it finds
+    /// no room there, it is lost, as with [`recv_slice`](Socket::recv_slice); room of the heap is long enough for all.
+    ///
+    /// # Panics
+    /// Without the feature `alloc`, where no room was lent.
+    pub fn recv(&mut self) -> Result<&[u8], RecvError> {
+        let most = self.payload_recv_capacity().min(LONGEST_PACKET);
+        let room = self.room.of(most);
+        let len = copied(self.calls.recv(room))?;
+        Ok(&room[..len])
+    }
+
+    /// The same, and the packet stays.
+    pub fn peek(&mut self) -> Result<&[u8], RecvError> {
+        let most = self.payload_recv_capacity().min(LONGEST_PACKET);
+        let room = self.room.of(most);
+        let len = copied(self.calls.peek(room))?;
+        Ok(&room[..len])
     }
 
     /// Takes the first packet: how many bytes it has, at the beginning of `data`. Where they find no room, it is lost,
     /// as in smoltcp.
     pub fn recv_slice(&mut self, data: &mut [u8]) -> Result<usize, RecvError> {
-        copied(self.0.recv(data))
+        copied(self.calls.recv(data))
     }
 
     /// The same, and the packet stays.
     pub fn peek_slice(&mut self, data: &mut [u8]) -> Result<usize, RecvError> {
-        copied(self.0.peek(data))
+        copied(self.calls.peek(data))
     }
 
     /// Whether `process` takes an IP packet.
     pub fn accepts(&self, packet: &[u8]) -> bool {
-        self.0.accepts(packet) == 1
+        flag_in(self.calls.accepts(packet))
     }
 
     /// Takes an IP packet that is whole and for the socket: it is dropped where it finds no room, as in smoltcp.
     pub fn process<W>(&mut self, cx: &Context<W>, packet: &[u8]) -> Result<(), NotAccepted> {
-        match self.0.process(&cx.raw, packet) {
-            ffi::OK => Ok(()),
-            _ => Err(NotAccepted),
+        match self.calls.process(&cx.raw, packet) {
+            ffi::OK => {
+                self.wakers.wake_recv();
+                Ok(())
+            }
+            ffi::NOT_ACCEPTED => Err(NotAccepted),
+            answer => not_in_contract(answer),
         }
     }
 
     /// Writes the first packet that was sent to the beginning of `out`, and answers its length, if there is one. Where
     /// it finds no room, it stays the first.
     pub fn dispatch<W>(&mut self, cx: &Context<W>, out: &mut [u8]) -> Result<Option<usize>, TooShort> {
-        match self.0.dispatch(&cx.raw, out) {
+        let waits = self.wakers.sends() && self.poll_at(cx) == PollAt::Now;
+        let answer = self.calls.dispatch(&cx.raw, out);
+        if waits && answer != ffi::ERROR_ROOM {
+            self.wakers.wake_send();
+        }
+        match answer {
+            ffi::OK => Ok(None),
             ffi::ERROR_ROOM => Err(TooShort),
-            len if len > 0 => Ok(Some(count_in(len))),
-            _ => Ok(None),
+            len => Ok(Some(count_in(len))),
         }
     }
 
     /// When the next `dispatch` is wanted.
     pub fn poll_at<W>(&self, cx: &Context<W>) -> PollAt {
         let mut at = 0;
-        let answer = self.0.poll_at(&cx.raw, &mut at);
+        let answer = self.calls.poll_at(&cx.raw, &mut at);
         poll_in(answer, at, cx)
+    }
+}
+
+fn sent(answer: i64) -> Result<(), SendError> {
+    match answer {
+        ffi::OK => Ok(()),
+        ffi::ERROR_ROOM => Err(SendError::BufferFull),
+        _ => not_in_contract(answer),
     }
 }
 
@@ -187,10 +288,25 @@ impl<'a> Socket<'a> {
 fn copied(answer: i64) -> Result<usize, RecvError> {
     match answer {
         ffi::ERROR_ROOM => Err(RecvError::Truncated),
-        len if len < 0 => Err(RecvError::Exhausted),
+        ffi::ERROR_EMPTY => Err(RecvError::Exhausted),
         len => Ok(count_in(len)),
     }
 }
+
+/// What a socket answers that takes packets of any protocol.
+const ANY_PROTOCOL: i64 = 256;
+
+fn filter_of(ip_version: Option<IpVersion>, ip_protocol: Option<IpProtocol>) -> ffi::RawFilter {
+    let version = match ip_version {
+        None => 0,
+        Some(IpVersion::Ipv4) => 4,
+        Some(IpVersion::Ipv6) => 6,
+    };
+    let (any_protocol, protocol) = (u8::from(ip_protocol.is_none()), ip_protocol.map_or(0, u8::from));
+    ffi::RawFilter { version, any_protocol, protocol }
+}
+
+registers!("a packet");
 
 impl fmt::Debug for Socket<'_> {
     fn fmt(&self, f: &mut fmt::Formatter<'_>) -> fmt::Result {

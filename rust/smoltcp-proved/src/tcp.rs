@@ -1,13 +1,22 @@
 //! TCP sockets. Each call of a [`Socket`] is one call of the library, which is proved: what it does, when it refuses,
 //! and what it leaves. smoltcp's names and texts; where a signature differs, its documentation says so.
-use crate::calls::{self, Tcp};
-use crate::numbers::{count_in, endpoint_in, endpoint_of, hop_limit_in, hop_limit_of, listen_in, listen_of};
-use crate::time::{Duration, Instant};
+use crate::calls::{self, Slots, Tcp};
+use crate::numbers::{
+    count_in, done, endpoint_of, endpoint_told, flag_in, listen_in, listen_of, not_in_contract,
+};
+use crate::time::Instant;
+use crate::wakers::Wakers;
 use crate::wire::{IpEndpoint, IpListenEndpoint};
 use crate::{Context, NotAccepted, PollAt, TooShort, Words, ffi};
 use core::fmt;
 
+mod ends;
 mod kinds;
+#[cfg(feature = "alloc")]
+mod owned;
+mod settings;
+mod wakes;
+pub use ends::{Ended, Negotiated};
 use kinds::STATES;
 pub use kinds::{
     CongestionControl, ConnectError, ListenError, RecvError, Rules, RulesError, SendError, State,
@@ -16,10 +25,7 @@ pub use kinds::{
 /// The length of the longest reply to a segment, in bytes: an IPv6 header and the longest TCP header.
 pub const REPLY_LEN: usize = 100;
 
-// The longest length of time that the library takes, in microseconds.
-const LONGEST: u64 = 1 << 61;
-
-/// Memory for one socket at a time: 512 bytes, in an array, in a struct, on the stack or in a static. It is free again
+/// Memory for one socket at a time: 520 bytes, in an array, in a struct, on the stack or in a static. It is free again
 /// where its socket ends.
 ///
 /// ```
@@ -45,11 +51,21 @@ impl Default for Memory {
     }
 }
 
-/// A TCP socket in borrowed memory, over two borrowed buffers. The value may be moved: it is a reference to the socket.
-/// It is `Send`, as the library has no data of its own nor of a thread, and not `Sync`, as of one socket one call runs
-/// at a time. Nothing has to be done where it ends: the library keeps nothing of it. That a connection ends is not part
-/// of that: call [`close`](Socket::close) or [`abort`](Socket::abort), and dispatch, before.
-pub struct Socket<'a>(Tcp<'a>);
+impl fmt::Debug for Memory {
+    fn fmt(&self, f: &mut fmt::Formatter<'_>) -> fmt::Result {
+        f.debug_struct("Memory").finish_non_exhaustive()
+    }
+}
+
+/// A TCP socket in borrowed memory, over two borrowed buffers, or in memory of its own (`owned`, behind the feature
+/// `alloc`). The value may be moved: it is a reference to the socket. It is `Send`, as the library has no data of its
+/// own nor of a thread, and not `Sync`, as of one socket one call runs at a time. Nothing has to be done where it ends:
+/// the library keeps nothing of it. That a connection ends is not part of that: call [`close`](Socket::close) or
+/// [`abort`](Socket::abort), and dispatch, before.
+pub struct Socket<'a> {
+    calls: Tcp<'a>,
+    wakers: Wakers,
+}
 
 impl<'a> Socket<'a> {
     /// Makes a closed socket. (smoltcp has two buffers, and no memory.)
@@ -57,15 +73,18 @@ impl<'a> Socket<'a> {
     /// # Panics
     /// Where a buffer has more than 2^30 bytes, as in smoltcp.
     pub fn new(memory: &'a mut Memory, rx_buffer: &'a mut [u8], tx_buffer: &'a mut [u8]) -> Socket<'a> {
-        Socket(Tcp::new(&mut memory.0, rx_buffer, tx_buffer))
+        let (rx, tx) = (Slots::Lent(rx_buffer), Slots::Lent(tx_buffer));
+        Socket { calls: Tcp::new(Slots::lent(&mut memory.0), rx, tx), wakers: Wakers::none() }
     }
 
     /// Waits for a peer on this endpoint: a port, or a port at one of the interface's addresses.
     pub fn listen<T: Into<IpListenEndpoint>>(&mut self, local_endpoint: T) -> Result<(), ListenError> {
-        match self.0.listen(&listen_of(local_endpoint.into())) {
+        let at = listen_of(local_endpoint.into());
+        match self.watched(|calls| calls.listen(&at)) {
             ffi::OK => Ok(()),
             ffi::ERROR_STATE => Err(ListenError::InvalidState),
-            _ => Err(ListenError::Unaddressable),
+            ffi::ERROR_ADDRESS => Err(ListenError::Unaddressable),
+            answer => not_in_contract(answer),
         }
     }
 
@@ -81,29 +100,30 @@ impl<'a> Socket<'a> {
             return Err(ConnectError::NoWords);
         }
         let (remote, local) = (endpoint_of(remote.into()), listen_of(local.into()));
-        match self.0.connect(&cx.raw, &remote, &local) {
+        match self.watched(|calls| calls.connect(&cx.raw, &remote, &local)) {
             ffi::OK => {
                 cx.spend();
                 Ok(())
             }
             ffi::ERROR_STATE => Err(ConnectError::InvalidState),
-            _ => Err(ConnectError::Unaddressable),
+            ffi::ERROR_ADDRESS => Err(ConnectError::Unaddressable),
+            answer => not_in_contract(answer),
         }
     }
 
     /// Closes the transmit half: a FIN follows what was sent.
     pub fn close(&mut self) {
-        self.0.close();
+        done(self.watched(Tcp::close));
     }
 
     /// Ends the connection at once, by an RST in the next dispatch.
     pub fn abort(&mut self) {
-        self.0.abort();
+        done(self.watched(Tcp::abort));
     }
 
     /// Takes as many bytes as fit, and answers how many.
     pub fn send_slice(&mut self, data: &[u8]) -> Result<usize, SendError> {
-        sent(self.0.send(data))
+        sent(self.calls.send(data))
     }
 
     /// Calls `f` with the free places behind the transmit queue that lie in one piece, and sends as many of them as it
@@ -115,17 +135,17 @@ impl<'a> Socket<'a> {
     where
         F: FnOnce(&mut [u8]) -> (usize, R),
     {
-        let places = self.0.reserve().map_err(|_| SendError::InvalidState)?;
+        let places = self.calls.reserve().map_err(unsent)?;
         let there = places.len();
         let (count, result) = f(places);
         assert!(count <= there, "more bytes sent than there are places");
-        sent(self.0.commit(count)).map(|_| result)
+        sent(self.calls.commit(count)).map(|_| result)
     }
 
     /// Gives as many bytes as are there and fit, and answers how many. When TIME-WAIT ends, bytes that were not read
     /// are gone: read them before.
     pub fn recv_slice(&mut self, data: &mut [u8]) -> Result<usize, RecvError> {
-        received(self.0.recv(data))
+        received(self.calls.recv(data))
     }
 
     /// Calls `f` with the front of the receive queue that lies in one piece, and drops as many bytes as it answers. (In
@@ -137,202 +157,104 @@ impl<'a> Socket<'a> {
     where
         F: FnOnce(&[u8]) -> (usize, R),
     {
-        let bytes = self.0.peek(usize::MAX).map_err(refused)?;
+        let bytes = self.calls.peek(usize::MAX).map_err(refused)?;
         let there = bytes.len();
         let (count, result) = f(bytes);
         assert!(count <= there, "more bytes read than there are");
-        received(self.0.consume(count)).map(|_| result)
+        received(self.calls.consume(count)).map(|_| result)
     }
 
     /// The front of the receive queue that lies in one piece, at most so many bytes. They stay.
     pub fn peek(&mut self, size: usize) -> Result<&[u8], RecvError> {
-        self.0.peek(size).map_err(refused)
+        self.calls.peek(size).map_err(refused)
     }
 
     /// Copies as many bytes as are there and fit, which stay, and answers how many. Refused as `recv_slice`, where
     /// smoltcp answers 0.
     pub fn peek_slice(&mut self, data: &mut [u8]) -> Result<usize, RecvError> {
-        received(self.0.peek_slice(data))
+        received(self.calls.peek_slice(data))
     }
 
     /// The state.
     pub fn state(&self) -> State {
-        STATES[count_in(self.0.state())].0
+        STATES[count_in(self.calls.state())].0
     }
 
     /// Whether it waits for a peer.
     pub fn is_listening(&self) -> bool {
-        self.0.is_listening() == 1
+        flag_in(self.calls.is_listening())
     }
 
     /// Whether it is in any state but CLOSED and TIME-WAIT.
     pub fn is_open(&self) -> bool {
-        self.0.is_open() == 1
+        flag_in(self.calls.is_open())
     }
 
     /// Whether it is open and has a peer.
     pub fn is_active(&self) -> bool {
-        self.0.is_active() == 1
+        flag_in(self.calls.is_active())
     }
 
     /// Whether the connection has something left to do, as bytes to send. (Not in smoltcp.)
     pub fn has_work(&self) -> bool {
-        self.0.has_work() == 1
+        flag_in(self.calls.has_work())
     }
 
     /// Whether the state lets bytes be sent.
     pub fn may_send(&self) -> bool {
-        self.0.may_send() == 1
+        flag_in(self.calls.may_send())
     }
 
     /// Whether bytes may come or are there.
     pub fn may_recv(&self) -> bool {
-        self.0.may_recv() == 1
+        flag_in(self.calls.may_recv())
     }
 
     /// Whether `send_slice` would take at least one byte.
     pub fn can_send(&self) -> bool {
-        self.0.can_send() == 1
+        flag_in(self.calls.can_send())
     }
 
     /// Whether `recv_slice` would give at least one byte.
     pub fn can_recv(&self) -> bool {
-        self.0.can_recv() == 1
+        flag_in(self.calls.can_recv())
     }
 
     /// How many bytes were sent and are not acknowledged.
     pub fn send_queue(&self) -> usize {
-        count_in(self.0.send_queue())
+        count_in(self.calls.send_queue())
     }
 
     /// How many bytes came and were not read.
     pub fn recv_queue(&self) -> usize {
-        count_in(self.0.recv_queue())
+        count_in(self.calls.recv_queue())
     }
 
     /// How many bytes the transmit buffer holds.
     pub fn send_capacity(&self) -> usize {
-        count_in(self.0.send_capacity())
+        count_in(self.calls.send_capacity())
     }
 
     /// How many bytes the receive buffer holds.
     pub fn recv_capacity(&self) -> usize {
-        count_in(self.0.recv_capacity())
+        count_in(self.calls.recv_capacity())
     }
 
     /// The own endpoint, where there is a peer.
     pub fn local_endpoint(&self) -> Option<IpEndpoint> {
-        let (told, at) = self.0.local_endpoint();
-        if told == 1 { endpoint_in(&at) } else { None }
+        let (told, at) = self.calls.local_endpoint();
+        flag_in(told).then(|| endpoint_told(&at))
     }
 
     /// The peer's endpoint, where there is a peer.
     pub fn remote_endpoint(&self) -> Option<IpEndpoint> {
-        let (told, at) = self.0.remote_endpoint();
-        if told == 1 { endpoint_in(&at) } else { None }
+        let (told, at) = self.calls.remote_endpoint();
+        flag_in(told).then(|| endpoint_told(&at))
     }
 
     /// The endpoint on which the socket listens, or listened last; port 0 where there is none.
     pub fn listen_endpoint(&self) -> IpListenEndpoint {
-        listen_in(&self.0.listen_endpoint().1)
-    }
-
-    /// How long a peer may be silent while something is owed (RFC 9293, section 3.9.1), if there is a limit.
-    pub fn timeout(&self) -> Option<Duration> {
-        duration_in(self.0.timeout())
-    }
-
-    /// Ends the connection where nothing was heard for so long while something is owed. Without it, and without
-    /// keep-alives, a connection can wait for ever. A length above 2^61 microseconds counts as that.
-    pub fn set_timeout(&mut self, duration: Option<Duration>) {
-        self.0.set_timeout(duration_of(duration));
-    }
-
-    /// The interval of keep-alives, if they go out.
-    pub fn keep_alive(&self) -> Option<Duration> {
-        duration_in(self.0.keep_alive())
-    }
-
-    /// Asks an idle peer so often whether it is there (RFC 9293, section 3.8.4): shorter than the timeout, by a factor
-    /// of four, say, and never 0. A length above 2^61 microseconds counts as that.
-    pub fn set_keep_alive(&mut self, interval: Option<Duration>) {
-        self.0.set_keep_alive(duration_of(interval));
-    }
-
-    /// How long an acknowledgement may wait for data to go with, if it may.
-    pub fn ack_delay(&self) -> Option<Duration> {
-        duration_in(self.0.ack_delay())
-    }
-
-    /// Sets how long an acknowledgement may wait: 10 ms in a new socket. A length above 2^61 microseconds counts as
-    /// that.
-    pub fn set_ack_delay(&mut self, duration: Option<Duration>) {
-        self.0.set_ack_delay(duration_of(duration));
-    }
-
-    /// Whether small segments wait while bytes are in flight.
-    pub fn nagle_enabled(&self) -> bool {
-        self.0.nagle_enabled() == 1
-    }
-
-    /// Lets small segments wait while bytes are in flight (RFC 9293, section 3.7.4), as in a new socket, or not.
-    pub fn set_nagle_enabled(&mut self, enabled: bool) {
-        self.0.set_nagle_enabled(enabled as u8);
-    }
-
-    /// The hop limit of what is sent; none for 64.
-    pub fn hop_limit(&self) -> Option<u8> {
-        hop_limit_in(count_in(self.0.hop_limit()) as u8)
-    }
-
-    /// Sets the hop limit of what is sent.
-    ///
-    /// # Panics
-    /// Where it is 0, as in smoltcp.
-    pub fn set_hop_limit(&mut self, hop_limit: Option<u8>) {
-        self.0.set_hop_limit(hop_limit_of(hop_limit));
-    }
-
-    /// Lets a SYN|ACK wait, or go out.
-    pub fn pause_synack(&mut self, pause: bool) {
-        self.0.pause_synack(pause as u8);
-    }
-
-    /// The kind of congestion control.
-    pub fn congestion_control(&self) -> CongestionControl {
-        if self.0.congestion_control() == 0 { CongestionControl::None } else { CongestionControl::Reno }
-    }
-
-    /// Puts in a new controller of this kind, also where there is one of the kind.
-    pub fn set_congestion_control(&mut self, congestion_control: CongestionControl) {
-        self.0.set_congestion_control(match congestion_control {
-            CongestionControl::None => 0,
-            CongestionControl::Reno => 1,
-        });
-    }
-
-    /// The rules.
-    pub fn rules(&self) -> Rules {
-        if self.0.rules() == 0 { Rules::Smoltcp } else { Rules::Rfc }
-    }
-
-    /// Chooses the rules of a socket that is not open. (smoltcp has no such call.)
-    pub fn set_rules(&mut self, rules: Rules) -> Result<(), RulesError> {
-        match self.0.set_rules(rules as u32) {
-            ffi::OK => Ok(()),
-            _ => Err(RulesError::InvalidState),
-        }
-    }
-
-    /// Whether timestamps are sent.
-    pub fn timestamp_enabled(&self) -> bool {
-        self.0.timestamp_enabled() == 1
-    }
-
-    /// Sends timestamps (RFC 7323), at the clock of each call's context, or none, as a new socket. To be set while the
-    /// socket is closed. (In place of smoltcp's `set_tsval_generator`.)
-    pub fn set_timestamps(&mut self, enabled: bool) {
-        self.0.set_timestamps(enabled as u8);
+        listen_in(&self.calls.listen_endpoint().1)
     }
 
     /// Takes an IP packet, and answers the length of the one that answers it, at the beginning of `reply`, if one does.
@@ -352,7 +274,7 @@ impl<'a> Socket<'a> {
         if listened && !cx.draw() {
             return Err(NotAccepted);
         }
-        let answer = self.0.process(&cx.raw, packet, reply);
+        let answer = self.watched(|calls| calls.process(&cx.raw, packet, reply));
         if listened && !self.is_listening() {
             cx.spend();
         }
@@ -366,17 +288,17 @@ impl<'a> Socket<'a> {
     /// dispatch. Wait at least a millisecond between rounds that only such sockets asked for, and abort one that stays
     /// in FIN-WAIT-2 for long (`examples/tun_echo.rs`: a minute).
     pub fn dispatch<W>(&mut self, cx: &Context<W>, out: &mut [u8]) -> Result<Option<usize>, TooShort> {
-        match self.0.dispatch(&cx.raw, out) {
+        match self.watched(|calls| calls.dispatch(&cx.raw, out)) {
             ffi::OK => Ok(None),
-            len if len > 0 => Ok(Some(count_in(len))),
-            _ => Err(TooShort),
+            ffi::ERROR_ROOM => Err(TooShort),
+            len => Ok(Some(count_in(len))),
         }
     }
 
     /// When the next `dispatch` is wanted. A moment that has come is `Now`.
     pub fn poll_at<W>(&self, cx: &Context<W>) -> PollAt {
         let mut at = 0;
-        let answer = self.0.poll_at(&cx.raw, &mut at);
+        let answer = self.calls.poll_at(&cx.raw, &mut at);
         poll_in(answer, at, cx)
     }
 }
@@ -410,7 +332,7 @@ pub(crate) fn poll_in<W>(answer: i64, at: i64, cx: &Context<W>) -> PollAt {
         ffi::OK => PollAt::Time(Instant::from_micros(at)),
         NO_MOMENT => PollAt::Ingress,
         // a context's moment and MTU are in their ranges
-        _ => unreachable!("poll_at answered {answer}"),
+        _ => not_in_contract(answer),
     }
 }
 
@@ -425,7 +347,14 @@ impl fmt::Write for Socket<'_> {
 }
 
 fn sent(answer: i64) -> Result<usize, SendError> {
-    usize::try_from(answer).map_err(|_| SendError::InvalidState)
+    usize::try_from(answer).map_err(|_| unsent(answer))
+}
+
+fn unsent(answer: i64) -> SendError {
+    match answer {
+        ffi::ERROR_STATE => SendError::InvalidState,
+        _ => not_in_contract(answer),
+    }
 }
 
 fn received(answer: i64) -> Result<usize, RecvError> {
@@ -433,21 +362,17 @@ fn received(answer: i64) -> Result<usize, RecvError> {
 }
 
 fn refused(answer: i64) -> RecvError {
-    if answer == ffi::ERROR_FINISHED { RecvError::Finished } else { RecvError::InvalidState }
+    match answer {
+        ffi::ERROR_STATE => RecvError::InvalidState,
+        ffi::ERROR_FINISHED => RecvError::Finished,
+        _ => not_in_contract(answer),
+    }
 }
 
 fn replied(answer: i64) -> Result<Option<usize>, NotAccepted> {
     match answer {
         ffi::OK => Ok(None),
-        len if len > 0 => Ok(Some(count_in(len))),
-        _ => Err(NotAccepted),
+        ffi::NOT_ACCEPTED => Err(NotAccepted),
+        len => Ok(Some(count_in(len))),
     }
-}
-
-fn duration_of(duration: Option<Duration>) -> i64 {
-    duration.map_or(-1, |duration| duration.total_micros().min(LONGEST) as i64)
-}
-
-fn duration_in(answer: i64) -> Option<Duration> {
-    u64::try_from(answer).ok().map(Duration::from_micros)
 }

@@ -86,6 +86,14 @@ impl From<std::time::SystemTime> for Instant {
     }
 }
 
+/// How long ago that moment was, as smoltcp: an earlier one is farther.
+#[cfg(feature = "std")]
+impl From<std::time::Instant> for Instant {
+    fn from(other: std::time::Instant) -> Instant {
+        Instant::ZERO + Duration::from(other.elapsed())
+    }
+}
+
 /// Behind the beginning of 1970, or before it.
 #[cfg(feature = "std")]
 impl From<Instant> for std::time::SystemTime {
@@ -255,6 +263,42 @@ impl ops::Div<u32> for Duration {
 impl ops::DivAssign<u32> for Duration {
     fn div_assign(&mut self, parts: u32) {
         *self = *self / parts;
+    }
+}
+
+/// As many times doubled, as smoltcp.
+///
+/// # Panics
+/// In a build with overflow checks, where the shift is 64 or more.
+impl ops::Shl<u32> for Duration {
+    type Output = Duration;
+
+    fn shl(self, by: u32) -> Duration {
+        Duration { micros: self.micros << by }
+    }
+}
+
+impl ops::ShlAssign<u32> for Duration {
+    fn shl_assign(&mut self, by: u32) {
+        *self = *self << by;
+    }
+}
+
+/// As many times halved, as smoltcp.
+///
+/// # Panics
+/// In a build with overflow checks, where the shift is 64 or more.
+impl ops::Shr<u32> for Duration {
+    type Output = Duration;
+
+    fn shr(self, by: u32) -> Duration {
+        Duration { micros: self.micros >> by }
+    }
+}
+
+impl ops::ShrAssign<u32> for Duration {
+    fn shr_assign(&mut self, by: u32) {
+        *self = *self >> by;
     }
 }
 

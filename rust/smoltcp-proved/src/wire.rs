@@ -1,11 +1,21 @@
-//! Addresses, endpoints and prefixes, as smoltcp's.
+//! Addresses, endpoints, prefixes, headers of IP and ICMP messages, as smoltcp's.
 mod cidr;
+mod icmp;
+mod ip;
+mod numbered;
+mod reasons;
+mod sum;
 
 pub use cidr::{IpCidr, Ipv4Cidr, Ipv6Cidr};
 use core::fmt;
 use core::net::{IpAddr, SocketAddr, SocketAddrV4, SocketAddrV6};
 pub use core::net::{Ipv4Addr as Ipv4Address, Ipv6Addr as Ipv6Address};
 use core::str::FromStr;
+pub use icmp::{Icmpv4Repr, Icmpv6Repr};
+pub use ip::{Error, IpProtocol, Ipv4Repr, Ipv6Repr};
+pub use reasons::{
+    Icmpv4DstUnreachable, Icmpv4TimeExceeded, Icmpv6DstUnreachable, Icmpv6ParamProblem, Icmpv6TimeExceeded,
+};
 
 /// A version of IP.
 #[derive(Debug, PartialEq, Eq, PartialOrd, Ord, Hash, Clone, Copy)]
@@ -14,6 +24,34 @@ pub enum IpVersion {
     Ipv4,
     /// IPv6.
     Ipv6,
+}
+
+impl IpVersion {
+    /// The version of an IP packet, by its first four bits.
+    pub const fn of_packet(packet: &[u8]) -> Result<IpVersion, Error> {
+        match packet {
+            [first, ..] if *first / 16 == 4 => Ok(IpVersion::Ipv4),
+            [first, ..] if *first / 16 == 6 => Ok(IpVersion::Ipv6),
+            _ => Err(Error),
+        }
+    }
+
+    /// How many bytes its header has at least: 20, or 40.
+    pub const fn header_len(&self) -> usize {
+        match self {
+            IpVersion::Ipv4 => 20,
+            IpVersion::Ipv6 => 40,
+        }
+    }
+}
+
+impl fmt::Display for IpVersion {
+    fn fmt(&self, f: &mut fmt::Formatter<'_>) -> fmt::Result {
+        f.write_str(match self {
+            IpVersion::Ipv4 => "IPv4",
+            IpVersion::Ipv6 => "IPv6",
+        })
+    }
 }
 
 /// An address of either version.
@@ -72,6 +110,15 @@ impl IpAddress {
             IpAddress::Ipv4(addr) => addr.is_loopback(),
             IpAddress::Ipv6(addr) => addr.is_loopback(),
         }
+    }
+
+    /// How many bits the prefix has that it is a mask of: its ones stand before its zeros. None where it is no mask.
+    pub fn prefix_len(&self) -> Option<u8> {
+        let (ones, all) = match self {
+            IpAddress::Ipv4(addr) => (addr.to_bits().leading_ones(), addr.to_bits().count_ones()),
+            IpAddress::Ipv6(addr) => (addr.to_bits().leading_ones(), addr.to_bits().count_ones()),
+        };
+        (ones == all).then_some(ones as u8)
     }
 
     /// Whether all its octets are 0.
@@ -144,6 +191,11 @@ impl IpEndpoint {
     /// The endpoint of both.
     pub const fn new(addr: IpAddress, port: u16) -> IpEndpoint {
         IpEndpoint { addr, port }
+    }
+
+    /// Whether its address is specified, and its port is not 0.
+    pub fn is_specified(&self) -> bool {
+        !self.addr.is_unspecified() && self.port != 0
     }
 }
 
@@ -242,6 +294,19 @@ impl<T: Into<IpAddress>> From<(T, u16)> for IpListenEndpoint {
 
 impl From<SocketAddr> for IpListenEndpoint {
     fn from(at: SocketAddr) -> IpListenEndpoint {
+        IpEndpoint::from(at).into()
+    }
+}
+
+impl From<SocketAddrV4> for IpListenEndpoint {
+    fn from(at: SocketAddrV4) -> IpListenEndpoint {
+        IpEndpoint::from(at).into()
+    }
+}
+
+/// Without its flow and its scope.
+impl From<SocketAddrV6> for IpListenEndpoint {
+    fn from(at: SocketAddrV6) -> IpListenEndpoint {
         IpEndpoint::from(at).into()
     }
 }

@@ -3,7 +3,7 @@ mod common;
 use common::*;
 use smoltcp_proved::udp::{BindError, RecvError, UdpMetadata};
 use smoltcp_proved::wire::Ipv6Address;
-use smoltcp_proved::wire::{IpAddress, IpEndpoint, IpVersion};
+use smoltcp_proved::wire::{IpAddress, IpEndpoint, IpProtocol, IpVersion};
 use smoltcp_proved::{Context, DispatchError, NotAccepted, PollAt, TooShort, icmp, raw, tcp, udp};
 
 /// Memory for a UDP socket with two places and 100 bytes each way.
@@ -124,8 +124,8 @@ fn raw_packets() {
         (raw::Memory::new(), [[raw::PacketMetadata::EMPTY; 2]; 2], [[0; 100]; 2]);
     let (cx, [rx_places, tx_places], [rx, tx]) = (context(2, 0), &mut places, &mut bytes);
     let (rx, tx) = (raw::PacketBuffer::new(rx_places, rx), raw::PacketBuffer::new(tx_places, tx));
-    let mut socket = raw::Socket::new(&mut memory, Some(IpVersion::Ipv4), Some(17), rx, tx);
-    assert_eq!((socket.ip_version(), socket.ip_protocol()), (Some(IpVersion::Ipv4), Some(17)));
+    let mut socket = raw::Socket::new(&mut memory, Some(IpVersion::Ipv4), Some(IpProtocol::Udp), rx, tx);
+    assert_eq!((socket.ip_version(), socket.ip_protocol()), (Some(IpVersion::Ipv4), Some(IpProtocol::Udp)));
     assert_eq!((socket.packet_recv_capacity(), socket.payload_send_capacity()), (2, 100));
     let mut other = packet.clone();
     other[9] = 1; // another protocol, with the checksum 16 more

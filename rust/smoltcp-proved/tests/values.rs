@@ -1,9 +1,9 @@
 //! Addresses, endpoints, prefixes and times, beside what the standard library says of them.
 use smoltcp_proved::time::{Duration, Instant};
 use smoltcp_proved::wire::{
-    IpAddress, IpCidr, IpEndpoint, IpListenEndpoint, IpVersion, Ipv4Address, Ipv4Cidr,
+    self, IpAddress, IpCidr, IpEndpoint, IpListenEndpoint, IpVersion, Ipv4Address, Ipv4Cidr, Ipv6Cidr,
 };
-use std::net::{IpAddr, SocketAddr};
+use std::net::{IpAddr, SocketAddr, SocketAddrV4, SocketAddrV6};
 
 #[test]
 fn addresses_go_both_ways() {
@@ -29,6 +29,26 @@ fn addresses_go_both_ways() {
     }
     assert_eq!("10.0.0".parse::<IpAddress>(), Err(()));
     assert_eq!(IpAddress::v6(0xfd00, 0, 0, 0, 0, 0, 0, 1).to_string(), "fd00::1");
+    for (mask, len) in
+        [("255.255.240.0", Some(20)), ("::", Some(0)), ("ffff:f800::", Some(21)), ("255.0.255.0", None)]
+    {
+        assert_eq!(mask.parse::<IpAddress>().map(|mask| mask.prefix_len()), Ok(len));
+    }
+}
+
+/// RFC 791 and RFC 8200: the first four bits.
+#[test]
+fn versions() {
+    assert_eq!(IpVersion::of_packet(&[0x45, 0]), Ok(IpVersion::Ipv4));
+    assert_eq!(IpVersion::of_packet(&[0x60]), Ok(IpVersion::Ipv6));
+    for packet in [&[][..], &[0x05], &[0x54], &[0xff; 40]] {
+        assert_eq!(IpVersion::of_packet(packet), Err(wire::Error));
+    }
+    assert_eq!((IpVersion::Ipv4.header_len(), IpVersion::Ipv6.header_len()), (20, 40));
+    assert_eq!(
+        (IpVersion::Ipv4.to_string(), wire::Error.to_string()),
+        ("IPv4".into(), "malformed packet".into())
+    );
 }
 
 #[test]
@@ -40,6 +60,12 @@ fn endpoints_go_both_ways() {
         assert!(IpListenEndpoint::from(std).is_specified());
     }
     assert!(!IpListenEndpoint::from(80).is_specified());
+    assert!(!IpEndpoint::new(IpAddress::v4(0, 0, 0, 0), 80).is_specified());
+    assert!(!IpEndpoint::new(IpAddress::v4(10, 0, 0, 1), 0).is_specified());
+    let (v4, v6) = (SocketAddrV4::new([10, 0, 0, 1].into(), 80), SocketAddrV6::new(1.into(), 443, 9, 9));
+    assert_eq!(IpEndpoint::from(v4).to_string(), "10.0.0.1:80");
+    assert_eq!(IpListenEndpoint::from(v4), IpEndpoint::from(v4).into());
+    assert_eq!(IpListenEndpoint::from(v6).to_string(), "[::1]:443");
     assert_eq!("10.0.0.1".parse::<IpEndpoint>(), Err(()));
 }
 
@@ -60,6 +86,9 @@ fn prefixes() {
     assert_eq!(Ipv4Cidr::from_netmask(v4.address(), v4.netmask()), Some(v4));
     assert_eq!(Ipv4Cidr::from_netmask(v4.address(), Ipv4Address::new(255, 0, 255, 0)), None);
     assert_eq!(Ipv4Cidr::new(v4.address(), 31).broadcast(), None);
+    assert_eq!("192.168.1.10/24".parse(), Ok(v4));
+    assert_eq!("fd00::/8".parse::<Ipv6Cidr>().map(|cidr| cidr.prefix_len()), Ok(8));
+    assert_eq!(("fd00::/8".parse::<Ipv4Cidr>(), "10.0.0.1/8".parse::<Ipv6Cidr>()), (Err(()), Err(())));
     for text in ["10.0.0.1", "10.0.0.1/33", "fd00::/129", "10.0.0.1/-1", "/8"] {
         assert_eq!(text.parse::<IpCidr>(), Err(()));
     }
@@ -70,6 +99,10 @@ fn times() {
     let (second, milli) = (Duration::from_secs(1), Duration::from_millis(1));
     assert_eq!(second + milli - milli, second);
     assert_eq!((second * 3) / 2, Duration::from_millis(1500));
+    let mut length = second << 3 >> 1;
+    length <<= 1;
+    length >>= 2;
+    assert_eq!(length, second * 2);
     assert_eq!(Duration::MAX + second, Duration::MAX);
     assert_eq!(
         (Duration::from_micros(1_234_567).millis(), Duration::from_micros(1_234_567).micros()),
@@ -94,4 +127,8 @@ fn the_system_clock() {
     let lengths = Instant::now() - Instant::from(std);
     assert!(lengths < Duration::from_secs(60));
     assert_eq!(Instant::from(std::time::SystemTime::from(Instant::from_secs(-5))), Instant::from_secs(-5));
+    let early = std::time::Instant::now();
+    std::thread::sleep(std::time::Duration::from_millis(2));
+    let ago = Instant::from(early); // how long ago it was
+    assert!(ago >= Instant::from_millis(2) && ago < Instant::from_secs(60));
 }

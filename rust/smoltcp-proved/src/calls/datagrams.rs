@@ -1,5 +1,7 @@
 //! The calls of UDP, raw and ICMP sockets. What they ask of a caller is cited as in `calls`.
+use super::{Own, Slots};
 use crate::ffi;
+use core::fmt;
 use core::marker::PhantomData;
 use core::mem::MaybeUninit;
 use core::ptr::NonNull;
@@ -27,38 +29,53 @@ macro_rules! queue_memory {
             pub const EMPTY: $place = $place([MaybeUninit::uninit(); ffi::$place_size]);
         }
 
+        impl fmt::Debug for $place {
+            fn fmt(&self, f: &mut fmt::Formatter<'_>) -> fmt::Result {
+                f.debug_struct("PacketMetadata").finish_non_exhaustive()
+            }
+        }
+
         /// The memory of a queue.
         pub struct $buffer<'a> {
-            places: &'a mut [$place],
-            bytes: &'a mut [u8],
+            places: Slots<'a, $place>,
+            bytes: Slots<'a, u8>,
         }
 
         impl<'a> $buffer<'a> {
             /// At most 2^30 places, and as many bytes.
-            pub fn new(places: &'a mut [$place], bytes: &'a mut [u8]) -> $buffer<'a> {
+            pub fn new(places: Slots<'a, $place>, bytes: Slots<'a, u8>) -> $buffer<'a> {
                 assert!(places.len() <= crate::LONGEST_BUFFER, "more than 2^30 places");
                 assert!(bytes.len() <= crate::LONGEST_BUFFER, "more than 2^30 bytes");
                 $buffer { places, bytes }
             }
 
-            /// What the library is handed of it: each place is made before.
-            fn lent(self) -> (ffi::Places, ffi::Bytes) {
-                for place in self.places.iter_mut() {
+            /// How many places and bytes it has.
+            pub fn counts(&self) -> (usize, usize) {
+                (self.places.len(), self.bytes.len())
+            }
+
+            /// What the library is handed of it, and what frees it: each place is made before.
+            fn taken(mut self) -> (ffi::Places, ffi::Bytes, OwnQueue<$place>) {
+                for place in self.places.items() {
                     let at = NonNull::from(place).cast().as_ptr();
-                    // SAFETY: the memory has the size and the alignment of a place, and is borrowed.
+                    // SAFETY: the memory has the size and the alignment of a place, and is this queue's alone.
                     unsafe { ffi::$make(&mut ffi::$handle { at }) };
                 }
-                let (places, bytes) = (self.places.as_mut_ptr().cast(), self.bytes.as_mut_ptr());
-                let places = ffi::Places { at: places, len: self.places.len() };
-                (places, ffi::Bytes { at: bytes, len: self.bytes.len() })
+                let (places, count, own_places) = self.places.taken();
+                let (bytes, len, own_bytes) = self.bytes.taken();
+                let places = ffi::Places { at: places.cast().as_ptr(), len: count };
+                (places, ffi::Bytes { at: bytes.as_ptr(), len }, (own_places, own_bytes))
             }
         }
     };
 }
 
-queue_memory!(UdpMemory, UdpPlace, UdpBuffer, UdpHandle, UDP_SIZE, UDP_PLACE_SIZE, smoltcp_udp_place_checked);
+/// What frees the places and the bytes of a queue.
+type OwnQueue<P> = (Own<P>, Own<u8>);
 
-queue_memory!(RawMemory, RawPlace, RawBuffer, RawHandle, RAW_SIZE, RAW_PLACE_SIZE, smoltcp_raw_place_checked);
+queue_memory!(UdpMemory, UdpPlace, UdpBuffer, UdpHandle, UDP_SIZE, UDP_PLACE_SIZE, smoltcp_udp_place_nonnull);
+
+queue_memory!(RawMemory, RawPlace, RawBuffer, RawHandle, RAW_SIZE, RAW_PLACE_SIZE, smoltcp_raw_place_nonnull);
 
 queue_memory!(
     IcmpMemory,
@@ -67,12 +84,13 @@ queue_memory!(
     IcmpHandle,
     ICMP_SIZE,
     ICMP_PLACE_SIZE,
-    smoltcp_icmp_place_checked
+    smoltcp_icmp_place_nonnull
 );
 
-/// A UDP socket in memory that is borrowed for `'a`, as are its buffers.
+/// A UDP socket in memory that is borrowed for `'a`, as are its buffers, or in its own.
 pub struct Udp<'a> {
     at: NonNull<u8>,
+    _own: (Own<UdpMemory>, OwnQueue<UdpPlace>, OwnQueue<UdpPlace>),
     borrowed: PhantomData<&'a mut [u8]>,
 }
 
@@ -81,15 +99,17 @@ unsafe impl Send for Udp<'_> {}
 
 impl<'a> Udp<'a> {
     /// Makes a socket that is not open.
-    pub fn new(memory: &'a mut UdpMemory, rx: UdpBuffer<'a>, tx: UdpBuffer<'a>) -> Udp<'a> {
-        assert!(ffi::sizes().udp <= size_of::<UdpMemory>(), "a library with larger sockets");
-        assert!(ffi::sizes().udp_place == size_of::<UdpPlace>(), "a library with other places");
-        let made = Udp { at: NonNull::from(memory).cast(), borrowed: PhantomData };
-        let ((rx_places, rx), (tx_places, tx)) = (rx.lent(), tx.lent());
+    pub fn new(memory: Slots<'a, UdpMemory>, rx: UdpBuffer<'a>, tx: UdpBuffer<'a>) -> Udp<'a> {
+        assert!(super::sizes().udp <= size_of::<UdpMemory>(), "a library with larger sockets");
+        assert!(super::sizes().udp_place == size_of::<UdpPlace>(), "a library with other places");
+        assert!(memory.len() == 1, "memory for one socket");
+        let (at, _, own) = memory.taken();
+        let ((rx_places, rx, own_rx), (tx_places, tx, own_tx)) = (rx.taken(), tx.taken());
+        let made = Udp { at: at.cast(), _own: (own, own_rx, own_tx), borrowed: PhantomData };
         // SAFETY: C.md: buffers, bytes. The memory has the size and the alignment of `struct smoltcp_udp`, and holds no
-        // socket that is used: it is borrowed for 'a by this one alone. The lengths were tested, and `lent` made the
-        // places.
-        unsafe { ffi::smoltcp_udp_init_checked(rx_places, rx, tx_places, tx, &mut made.handle()) };
+        // socket that is used: it is this one's alone, for 'a or for good. The lengths were tested, and `taken` made
+        // the places.
+        unsafe { ffi::smoltcp_udp_init_nonnull(rx_places, rx, tx_places, tx, &mut made.handle()) };
         made
     }
 
@@ -98,11 +118,11 @@ impl<'a> Udp<'a> {
     }
 
     acts! {
-        close => smoltcp_udp_close_checked;
+        close => smoltcp_udp_close_nonnull;
     }
 
     asks! {
-        smoltcp_udp_ask_checked:
+        smoltcp_udp_ask_nonnull:
         is_open => IS_OPEN;
         can_send => CAN_SEND;
         can_recv => CAN_RECV;
@@ -116,57 +136,58 @@ impl<'a> Udp<'a> {
     }
 
     sets! {
-        set_hop_limit(u8) => smoltcp_udp_set_hop_limit_checked;
+        set_hop_limit(u8) => smoltcp_udp_set_hop_limit_nonnull;
     }
 
     tells! {
-        endpoint => smoltcp_udp_endpoint_checked;
+        endpoint => smoltcp_udp_endpoint_nonnull;
     }
 
     pub fn bind(&mut self, at: &ffi::Endpoint) -> i64 {
         // SAFETY: C.md: socket, one call, buffers.
-        unsafe { ffi::smoltcp_udp_bind_checked(&mut self.handle(), at) }
+        unsafe { ffi::smoltcp_udp_bind_nonnull(&mut self.handle(), at) }
     }
 
     pub fn send(&mut self, to: &ffi::UdpMetadata, data: &[u8]) -> i64 {
         // SAFETY: C.md: socket, one call, buffers, bytes.
-        unsafe { ffi::smoltcp_udp_send_checked(&mut self.handle(), to, data.as_ptr(), data.len()) }
+        unsafe { ffi::smoltcp_udp_send_nonnull(&mut self.handle(), to, data.as_ptr(), data.len()) }
     }
 
     pub fn recv(&mut self, from: &mut ffi::UdpMetadata, data: &mut [u8]) -> i64 {
         // SAFETY: C.md: socket, one call, buffers, bytes.
-        unsafe { ffi::smoltcp_udp_recv_checked(&mut self.handle(), from, data.as_mut_ptr(), data.len()) }
+        unsafe { ffi::smoltcp_udp_recv_nonnull(&mut self.handle(), from, data.as_mut_ptr(), data.len()) }
     }
 
     pub fn peek(&mut self, from: &mut ffi::UdpMetadata, data: &mut [u8]) -> i64 {
         // SAFETY: C.md: socket, one call, buffers, bytes.
-        unsafe { ffi::smoltcp_udp_peek_checked(&mut self.handle(), from, data.as_mut_ptr(), data.len()) }
+        unsafe { ffi::smoltcp_udp_peek_nonnull(&mut self.handle(), from, data.as_mut_ptr(), data.len()) }
     }
 
     pub fn accepts(&self, cx: &ffi::Context, packet: &[u8]) -> i64 {
         // SAFETY: C.md: socket, one call, buffers, bytes.
-        unsafe { ffi::smoltcp_udp_accepts_checked(&mut self.handle(), cx, packet.as_ptr(), packet.len()) }
+        unsafe { ffi::smoltcp_udp_accepts_nonnull(&mut self.handle(), cx, packet.as_ptr(), packet.len()) }
     }
 
     pub fn process(&mut self, cx: &ffi::Context, packet: &[u8]) -> i64 {
         // SAFETY: C.md: socket, one call, buffers, bytes.
-        unsafe { ffi::smoltcp_udp_process_checked(&mut self.handle(), cx, packet.as_ptr(), packet.len()) }
+        unsafe { ffi::smoltcp_udp_process_nonnull(&mut self.handle(), cx, packet.as_ptr(), packet.len()) }
     }
 
     pub fn dispatch(&mut self, cx: &ffi::Context, out: &mut [u8]) -> i64 {
         // SAFETY: C.md: socket, one call, buffers, bytes.
-        unsafe { ffi::smoltcp_udp_dispatch_checked(&mut self.handle(), cx, out.as_mut_ptr(), out.len()) }
+        unsafe { ffi::smoltcp_udp_dispatch_nonnull(&mut self.handle(), cx, out.as_mut_ptr(), out.len()) }
     }
 
     pub fn poll_at(&self, cx: &ffi::Context, at: &mut i64) -> i64 {
         // SAFETY: C.md: socket, one call, buffers.
-        unsafe { ffi::smoltcp_udp_poll_at_checked(&mut self.handle(), cx, at) }
+        unsafe { ffi::smoltcp_udp_poll_at_nonnull(&mut self.handle(), cx, at) }
     }
 }
 
-/// A raw socket in memory that is borrowed for `'a`, as are its buffers.
+/// A raw socket in memory that is borrowed for `'a`, as are its buffers, or in its own.
 pub struct Raw<'a> {
     at: NonNull<u8>,
+    _own: (Own<RawMemory>, OwnQueue<RawPlace>, OwnQueue<RawPlace>),
     borrowed: PhantomData<&'a mut [u8]>,
 }
 
@@ -176,20 +197,22 @@ unsafe impl Send for Raw<'_> {}
 impl<'a> Raw<'a> {
     /// Makes a socket for the packets of the filter, whose version is 0, 4 or 6.
     pub fn new(
-        memory: &'a mut RawMemory,
+        memory: Slots<'a, RawMemory>,
         filter: &ffi::RawFilter,
         rx: RawBuffer<'a>,
         tx: RawBuffer<'a>,
     ) -> Raw<'a> {
-        assert!(ffi::sizes().raw <= size_of::<RawMemory>(), "a library with larger sockets");
-        assert!(ffi::sizes().raw_place == size_of::<RawPlace>(), "a library with other places");
-        let made = Raw { at: NonNull::from(memory).cast(), borrowed: PhantomData };
-        let ((rx_places, rx), (tx_places, tx)) = (rx.lent(), tx.lent());
+        assert!(super::sizes().raw <= size_of::<RawMemory>(), "a library with larger sockets");
+        assert!(super::sizes().raw_place == size_of::<RawPlace>(), "a library with other places");
+        assert!(memory.len() == 1, "memory for one socket");
+        let (at, _, own) = memory.taken();
+        let ((rx_places, rx, own_rx), (tx_places, tx, own_tx)) = (rx.taken(), tx.taken());
+        let made = Raw { at: at.cast(), _own: (own, own_rx, own_tx), borrowed: PhantomData };
         // SAFETY: C.md: buffers, bytes. The memory has the size and the alignment of `struct smoltcp_raw`, and holds no
-        // socket that is used: it is borrowed for 'a by this one alone. The lengths were tested, and `lent` made the
-        // places.
+        // socket that is used: it is this one's alone, for 'a or for good. The lengths were tested, and `taken` made
+        // the places.
         let answer = unsafe {
-            ffi::smoltcp_raw_init_checked(rx_places, rx, tx_places, tx, filter, &mut made.handle())
+            ffi::smoltcp_raw_init_nonnull(rx_places, rx, tx_places, tx, filter, &mut made.handle())
         };
         assert!(answer == ffi::OK, "no version of IP");
         made
@@ -200,7 +223,7 @@ impl<'a> Raw<'a> {
     }
 
     asks! {
-        smoltcp_raw_ask_checked:
+        smoltcp_raw_ask_nonnull:
         ip_version => IP_VERSION;
         ip_protocol => IP_PROTOCOL;
         can_send => CAN_SEND;
@@ -215,43 +238,44 @@ impl<'a> Raw<'a> {
 
     pub fn send(&mut self, data: &[u8]) -> i64 {
         // SAFETY: C.md: socket, one call, buffers, bytes.
-        unsafe { ffi::smoltcp_raw_send_checked(&mut self.handle(), data.as_ptr(), data.len()) }
+        unsafe { ffi::smoltcp_raw_send_nonnull(&mut self.handle(), data.as_ptr(), data.len()) }
     }
 
     pub fn recv(&mut self, data: &mut [u8]) -> i64 {
         // SAFETY: C.md: socket, one call, buffers, bytes.
-        unsafe { ffi::smoltcp_raw_recv_checked(&mut self.handle(), data.as_mut_ptr(), data.len()) }
+        unsafe { ffi::smoltcp_raw_recv_nonnull(&mut self.handle(), data.as_mut_ptr(), data.len()) }
     }
 
     pub fn peek(&mut self, data: &mut [u8]) -> i64 {
         // SAFETY: C.md: socket, one call, buffers, bytes.
-        unsafe { ffi::smoltcp_raw_peek_checked(&mut self.handle(), data.as_mut_ptr(), data.len()) }
+        unsafe { ffi::smoltcp_raw_peek_nonnull(&mut self.handle(), data.as_mut_ptr(), data.len()) }
     }
 
     pub fn accepts(&self, packet: &[u8]) -> i64 {
         // SAFETY: C.md: socket, one call, buffers, bytes.
-        unsafe { ffi::smoltcp_raw_accepts_checked(&mut self.handle(), packet.as_ptr(), packet.len()) }
+        unsafe { ffi::smoltcp_raw_accepts_nonnull(&mut self.handle(), packet.as_ptr(), packet.len()) }
     }
 
     pub fn process(&mut self, cx: &ffi::Context, packet: &[u8]) -> i64 {
         // SAFETY: C.md: socket, one call, buffers, bytes.
-        unsafe { ffi::smoltcp_raw_process_checked(&mut self.handle(), cx, packet.as_ptr(), packet.len()) }
+        unsafe { ffi::smoltcp_raw_process_nonnull(&mut self.handle(), cx, packet.as_ptr(), packet.len()) }
     }
 
     pub fn dispatch(&mut self, cx: &ffi::Context, out: &mut [u8]) -> i64 {
         // SAFETY: C.md: socket, one call, buffers, bytes.
-        unsafe { ffi::smoltcp_raw_dispatch_checked(&mut self.handle(), cx, out.as_mut_ptr(), out.len()) }
+        unsafe { ffi::smoltcp_raw_dispatch_nonnull(&mut self.handle(), cx, out.as_mut_ptr(), out.len()) }
     }
 
     pub fn poll_at(&self, cx: &ffi::Context, at: &mut i64) -> i64 {
         // SAFETY: C.md: socket, one call, buffers.
-        unsafe { ffi::smoltcp_raw_poll_at_checked(&mut self.handle(), cx, at) }
+        unsafe { ffi::smoltcp_raw_poll_at_nonnull(&mut self.handle(), cx, at) }
     }
 }
 
-/// An ICMP socket in memory that is borrowed for `'a`, as are its buffers.
+/// An ICMP socket in memory that is borrowed for `'a`, as are its buffers, or in its own.
 pub struct Icmp<'a> {
     at: NonNull<u8>,
+    _own: (Own<IcmpMemory>, OwnQueue<IcmpPlace>, OwnQueue<IcmpPlace>),
     borrowed: PhantomData<&'a mut [u8]>,
 }
 
@@ -260,15 +284,17 @@ unsafe impl Send for Icmp<'_> {}
 
 impl<'a> Icmp<'a> {
     /// Makes a socket that is not open.
-    pub fn new(memory: &'a mut IcmpMemory, rx: IcmpBuffer<'a>, tx: IcmpBuffer<'a>) -> Icmp<'a> {
-        assert!(ffi::sizes().icmp <= size_of::<IcmpMemory>(), "a library with larger sockets");
-        assert!(ffi::sizes().icmp_place == size_of::<IcmpPlace>(), "a library with other places");
-        let made = Icmp { at: NonNull::from(memory).cast(), borrowed: PhantomData };
-        let ((rx_places, rx), (tx_places, tx)) = (rx.lent(), tx.lent());
+    pub fn new(memory: Slots<'a, IcmpMemory>, rx: IcmpBuffer<'a>, tx: IcmpBuffer<'a>) -> Icmp<'a> {
+        assert!(super::sizes().icmp <= size_of::<IcmpMemory>(), "a library with larger sockets");
+        assert!(super::sizes().icmp_place == size_of::<IcmpPlace>(), "a library with other places");
+        assert!(memory.len() == 1, "memory for one socket");
+        let (at, _, own) = memory.taken();
+        let ((rx_places, rx, own_rx), (tx_places, tx, own_tx)) = (rx.taken(), tx.taken());
+        let made = Icmp { at: at.cast(), _own: (own, own_rx, own_tx), borrowed: PhantomData };
         // SAFETY: C.md: buffers, bytes. The memory has the size and the alignment of `struct smoltcp_icmp`, and holds
-        // no socket that is used: it is borrowed for 'a by this one alone. The lengths were tested, and `lent` made the
-        // places.
-        unsafe { ffi::smoltcp_icmp_init_checked(rx_places, rx, tx_places, tx, &mut made.handle()) };
+        // no socket that is used: it is this one's alone, for 'a or for good. The lengths were tested, and `taken` made
+        // the places.
+        unsafe { ffi::smoltcp_icmp_init_nonnull(rx_places, rx, tx_places, tx, &mut made.handle()) };
         made
     }
 
@@ -277,7 +303,7 @@ impl<'a> Icmp<'a> {
     }
 
     asks! {
-        smoltcp_icmp_ask_checked:
+        smoltcp_icmp_ask_nonnull:
         is_open => IS_OPEN;
         can_send => CAN_SEND;
         can_recv => CAN_RECV;
@@ -291,41 +317,41 @@ impl<'a> Icmp<'a> {
     }
 
     sets! {
-        set_hop_limit(u8) => smoltcp_icmp_set_hop_limit_checked;
+        set_hop_limit(u8) => smoltcp_icmp_set_hop_limit_nonnull;
     }
 
     pub fn bind(&mut self, at: &ffi::IcmpEndpoint) -> i64 {
         // SAFETY: C.md: socket, one call, buffers.
-        unsafe { ffi::smoltcp_icmp_bind_checked(&mut self.handle(), at) }
+        unsafe { ffi::smoltcp_icmp_bind_nonnull(&mut self.handle(), at) }
     }
 
     pub fn send(&mut self, to: &ffi::Address, data: &[u8]) -> i64 {
         // SAFETY: C.md: socket, one call, buffers, bytes.
-        unsafe { ffi::smoltcp_icmp_send_checked(&mut self.handle(), to, data.as_ptr(), data.len()) }
+        unsafe { ffi::smoltcp_icmp_send_nonnull(&mut self.handle(), to, data.as_ptr(), data.len()) }
     }
 
     pub fn recv(&mut self, from: &mut ffi::Address, data: &mut [u8]) -> i64 {
         // SAFETY: C.md: socket, one call, buffers, bytes.
-        unsafe { ffi::smoltcp_icmp_recv_checked(&mut self.handle(), from, data.as_mut_ptr(), data.len()) }
+        unsafe { ffi::smoltcp_icmp_recv_nonnull(&mut self.handle(), from, data.as_mut_ptr(), data.len()) }
     }
 
     pub fn accepts(&self, cx: &ffi::Context, packet: &[u8]) -> i64 {
         // SAFETY: C.md: socket, one call, buffers, bytes.
-        unsafe { ffi::smoltcp_icmp_accepts_checked(&mut self.handle(), cx, packet.as_ptr(), packet.len()) }
+        unsafe { ffi::smoltcp_icmp_accepts_nonnull(&mut self.handle(), cx, packet.as_ptr(), packet.len()) }
     }
 
     pub fn process(&mut self, cx: &ffi::Context, packet: &[u8]) -> i64 {
         // SAFETY: C.md: socket, one call, buffers, bytes.
-        unsafe { ffi::smoltcp_icmp_process_checked(&mut self.handle(), cx, packet.as_ptr(), packet.len()) }
+        unsafe { ffi::smoltcp_icmp_process_nonnull(&mut self.handle(), cx, packet.as_ptr(), packet.len()) }
     }
 
     pub fn dispatch(&mut self, cx: &ffi::Context, out: &mut [u8]) -> i64 {
         // SAFETY: C.md: socket, one call, buffers, bytes.
-        unsafe { ffi::smoltcp_icmp_dispatch_checked(&mut self.handle(), cx, out.as_mut_ptr(), out.len()) }
+        unsafe { ffi::smoltcp_icmp_dispatch_nonnull(&mut self.handle(), cx, out.as_mut_ptr(), out.len()) }
     }
 
     pub fn poll_at(&self, cx: &ffi::Context, at: &mut i64) -> i64 {
         // SAFETY: C.md: socket, one call, buffers.
-        unsafe { ffi::smoltcp_icmp_poll_at_checked(&mut self.handle(), cx, at) }
+        unsafe { ffi::smoltcp_icmp_poll_at_nonnull(&mut self.handle(), cx, at) }
     }
 }

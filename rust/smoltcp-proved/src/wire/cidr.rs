@@ -218,3 +218,27 @@ impl FromStr for IpCidr {
         if len > longest { Err(()) } else { Ok(IpCidr::new(addr, len)) }
     }
 }
+
+/// As of `IpCidr`.
+impl FromStr for Ipv4Cidr {
+    type Err = ();
+
+    fn from_str(text: &str) -> Result<Ipv4Cidr, ()> {
+        match text.parse()? {
+            IpCidr::Ipv4(cidr) => Ok(cidr),
+            IpCidr::Ipv6(_) => Err(()),
+        }
+    }
+}
+
+/// As of `IpCidr`.
+impl FromStr for Ipv6Cidr {
+    type Err = ();
+
+    fn from_str(text: &str) -> Result<Ipv6Cidr, ()> {
+        match text.parse()? {
+            IpCidr::Ipv4(_) => Err(()),
+            IpCidr::Ipv6(cidr) => Ok(cidr),
+        }
+    }
+}

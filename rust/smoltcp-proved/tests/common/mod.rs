@@ -28,7 +28,7 @@ impl Words for Numbers {
 pub type Told = Context<Numbers>;
 
 pub fn context(last: u8, word: u32) -> Told {
-    let mut cx = Context::new(1500).expect("an MTU of 576 or more").with_source(Numbers(word));
+    let mut cx = Context::new(1500).expect("an MTU of 68 or more").with_source(Numbers(word));
     cx.set_ipv4_addr([10, 0, 0, last].into());
     cx
 }

@@ -1,7 +1,12 @@
-use Rattle.std.proofs.Common.{◌∙◌, ap, option_map}
+use Rattle.std.proofs.Common.{◌∙◌, ap, subst, option_map}
+use Rattle.control_wire.specs.Segment.{segment_of}
 use Rattle.sock_tcp.specs.Process.{reply_of}
+use Rattle.net_host.specs.Segments.{IsTaker}
 use Rattle.net_host.specs.Wire.{with_reply}
 use Rattle.net_host.proofs.segments.hear_segment.Goals as goal
+
+pub returns-clause-taker : goal.returns-clause-taker
+returns-clause-taker g c = subst (λ xs. IsTaker xs c.args.ip.now (segment_of c.args.repr.now) c.who_takes-taker.result) c.deref.ensures.value c.who_takes-taker.ensures
 
 pub returns-clause-heard : goal.returns-clause-heard
 returns-clause-heard g c = record {

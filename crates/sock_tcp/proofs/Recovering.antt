@@ -1,0 +1,108 @@
+-- What is done of loss behind the tables: whatever it leaves alone.
+use Rattle.std.proofs.Common.{◌≡◌, ℕ, Bool, true, false, ◌&&◌, refl, sym, ◌∙◌, ap, length, Some}
+use Rattle.std.specs.Prelude.{if◌then◌else◌, ◌==◌}
+use Rattle.net_base.specs.declared.time.Duration.{Duration}
+use Rattle.net_base.specs.declared.time.Instant.{Instant}
+use Rattle.control_wire.specs.Segment.{Segment}
+use Rattle.ip_wire.specs.declared.repr.IpRepr.{IpRepr}
+use Rattle.sock_tcp.specs.Arrival.{arrival}
+use Rattle.sock_tcp.specs.Process.{Outcome, ack_sent, answered, by_verdict, processed_by, rst_sent, stopped, tuple_of}
+use Rattle.sock_tcp.specs.Replies.{ack_kept, ack_segment, sack_range}
+use Rattle.sock_tcp.specs.Rfc.Recovery.{before_of, gone_on_from, has_timer, is_called, is_unheard, recovered, recovered_by, recovered_if, resends, running, timer_after, waited_for}
+use Rattle.sock_tcp.specs.Due.{flight}
+use Rattle.sock_tcp.specs.Timers.{idle_from, retransmit_from}
+use Rattle.sock_tcp.specs.Verdict.{verdict_of}
+use Rattle.sock_tcp.specs.View.{View}
+use Rattle.sock_tcp.specs.declared.process.Answer.{Answer}
+use Rattle.sock_tcp.specs.declared.process.Answer.TheVariants as answers
+use Rattle.sock_tcp.specs.declared.recovery.Before.{Before}
+use Rattle.sock_tcp.specs.declared.rules.Rules.{Rules}
+use Rattle.sock_tcp.specs.declared.rules.Rules.TheVariants as rules
+use Rattle.sock_tcp.specs.declared.timer.Timer.{Timer}
+use Rattle.sock_tcp.specs.declared.timer.Timer.TheVariants as timer
+use Rattle.sock_tcp.specs.declared.verdict.Verdict.TheVariants as verdicts
+
+-- an answer is the same before and after it
+module _ (b : Before) (u : View) (s : Segment) (now : Instant) where
+  abbrev behind : Bool → Outcome → Outcome
+  behind unheard o = record { view = recovered_if unheard b o.view now; reply = o.reply }
+
+  kept_view : ack_kept (recovered b u now) ≡ recovered b (ack_kept u) now
+  unfolding recovered ack_kept
+  kept_view = refl
+
+  kept_reply : ack_segment (recovered b u now) s ≡ ack_segment u s
+  unfolding recovered ack_segment sack_range
+  kept_reply = refl
+
+  ack_then : (unheard : Bool) → ack_sent (recovered_if unheard b u now) s ≡ behind unheard (ack_sent u s)
+  ack_then true = refl
+  ack_then false = λ i. record { view = kept_view i; reply = Some (kept_reply i) }
+
+  said : (x : Answer) → answered x (recovered_if (is_unheard b u) b u now) s ≡ behind (is_unheard b (answered x u s).view) (answered x u s)
+  unfolding ack_kept
+  said answers.Nothing = refl
+  said answers.Ack = ack_then (is_unheard b u)
+  said answers.Rst = refl
+
+pub said_then : (x : Answer) (b : Before) (v u w : View) (s : Segment) (now : Instant) (o : Outcome) → b ≡ before_of v s → answered x u s ≡ o → w ≡ recovered_if (is_unheard b u) b u now → answered x w s ≡ recovered_by rules.Rfc v now s o
+said_then x b v u w s now o is e h =
+    ap (λ y. answered x y s) h ∙ said b u s now x ∙ ap (λ (y : Outcome). record { view = recovered_if (is_unheard b y.view) b y.view now; reply = y.reply }) e ∙ ap (λ c. record { view = recovered_if (is_unheard c o.view) c o.view now; reply = o.reply }) is
+
+-- ---- by either rules
+
+-- what holds of an outcome, and of one whose socket has recovered as well
+pub recovered_as : (Q : Outcome → Type 0) (r : Rules) (v : View) (now : Instant) (s : Segment) (o : Outcome) → Q o → Q (record { view = recovered (before_of v s) o.view now; reply = o.reply }) → Q (record { view = o.view; reply = o.reply }) → Q (recovered_by r v now s o)
+recovered_as Q rules.Smoltcp v now s o h k i = h
+recovered_as Q rules.Rfc v now s o h k i = by (is_unheard (before_of v s) o.view)
+  where
+    by : (unheard : Bool) → Q (record { view = recovered_if unheard (before_of v s) o.view now; reply = o.reply })
+    by true = i
+    by false = k
+
+-- ---- a segment that passes
+
+pub passes : (o : Outcome) (r : Rules) (v : View) (now : Instant) (word : ℕ) (ip : IpRepr) (s : Segment) → verdict_of v s.control s.ack_number ≡ verdicts.Pass → o ≡ by_verdict r verdicts.Pass v (arrival now (tuple_of ip s) word s) → o ≡ processed_by r v now word ip s
+unfolding processed_by
+passes o r v now word ip s p h = h ∙ ap (λ x. by_verdict r x v (arrival now (tuple_of ip s) word s)) (sym p)
+
+-- ---- the timer that is left: as it was, a fast retransmission's, one that went on, a new one, or that of keep-alives
+-- where it was a probe's
+
+module _ (Q : Timer → Type 0) (b : Before) (w : View) (now : Instant) (same : Q w.timer) (fast : Q timer.FastRetransmit) (kept : (at : Instant) → b.timer ≡ timer.Retransmit at → Q (timer.Retransmit at)) (new : Q (retransmit_from now w.rtte)) (idle : (at : Instant) (delay : Duration) → w.timer ≡ timer.ZeroWindowProbe at delay → Q (idle_from now w.keep_alive)) where
+  goes : (t : Timer) → b.timer ≡ t → Q (gone_on_from t now w.rtte)
+  goes (timer.Retransmit at) e = kept at e
+  goes (timer.Idle at) e = new
+  goes timer.FastRetransmit e = new
+  goes (timer.ZeroWindowProbe at delay) e = new
+  goes (timer.Close at) e = new
+
+  runs : (t : Timer) → w.timer ≡ t → Q t → Q (running t (flight w) (length w.tx_buffer.bytes) w.keep_alive w.rtte now)
+  runs (timer.Idle at) e h = by (flight w == 0)
+    where
+      by : (z : Bool) → Q (if z then timer.Idle at else retransmit_from now w.rtte)
+      by true = h
+      by false = new
+  runs (timer.ZeroWindowProbe at delay) e h = by ((flight w == 0) && (length w.tx_buffer.bytes == 0))
+    where
+      by : (z : Bool) → Q (if z then idle_from now w.keep_alive else timer.ZeroWindowProbe at delay)
+      by true = idle at delay e
+      by false = h
+  runs (timer.Retransmit at) e h = h
+  runs timer.FastRetransmit e h = h
+  runs (timer.Close at) e h = h
+
+  pub waited_as : Q (waited_for b w now)
+  waited_as = by (resends b w) (is_called b w)
+    where
+      by : (r c : Bool) → Q (if r then timer.FastRetransmit else (if c then gone_on_from b.timer now w.rtte else running w.timer (flight w) (length w.tx_buffer.bytes) w.keep_alive w.rtte now))
+      by true c = fast
+      by false true = goes b.timer refl
+      by false false = runs w.timer refl same
+
+  pub timer_as : Q (timer_after b w now)
+  timer_as = by (has_timer w.state)
+    where
+      by : (h : Bool) → Q (if h then waited_for b w now else w.timer)
+      by true = waited_as
+      by false = same

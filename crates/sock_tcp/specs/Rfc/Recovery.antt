@@ -1,0 +1,229 @@
+-- What the RFCs' rules do of loss, once a segment was heard as by either rules: recovery by partial acknowledgements
+-- (RFC 6582), duplicates (RFC 5681, section 3.2; RFC 5827), and the retransmission timer (RFC 6298, section 5).
+use Rattle.std.specs.Prelude.{ℕ, nat_lt, nat_le, ◌+◌, length, max, min, Option, Some, None, Bool, true, false, not}
+use Rattle.std.specs.Prelude.{◌==◌, ◌&&◌, ◌||◌, if◌then◌else◌}
+use Rattle.std.specs.Int.{div_ceil}
+use Rattle.net_base.specs.declared.time.Duration.{Duration}
+use Rattle.net_base.specs.declared.time.Instant.{Instant}
+use Rattle.control_wire.specs.Segment.{Segment}
+use Rattle.control_wire.specs.Seq.{seq_eq, seq_sub}
+use Rattle.control_wire.specs.declared.seq_number.TcpSeqNumber.{TcpSeqNumber}
+use Rattle.control_wire.specs.declared.tcp.TcpControl.{TcpControl}
+use Rattle.control_wire.specs.declared.tcp.TcpControl.TheVariants as control
+use Rattle.sock_core.specs.Congestion.{dup_acked, partially_acked, with_remote_window}
+use Rattle.sock_core.specs.Estimator.{Estimator, begun_anew}
+use Rattle.sock_core.specs.Seq.{is_before, later_of}
+use Rattle.sock_core.specs.declared.congestion.AnyController.{AnyController}
+use Rattle.sock_tcp.specs.Content.{carries_data}
+use Rattle.sock_tcp.specs.Due.{flight, is_opening}
+use Rattle.sock_tcp.specs.Inside.{Outcome}
+use Rattle.sock_tcp.specs.Steps.{is_duplicate}
+use Rattle.sock_tcp.specs.Timers.{idle_from, retransmit_from}
+use Rattle.sock_tcp.specs.View.{View}
+use Rattle.sock_tcp.specs.declared.recovery.Before.{Before}
+use Rattle.sock_tcp.specs.declared.recovery.Recovery.{Recovery}
+use Rattle.sock_tcp.specs.declared.recovery.Recovery.TheVariants as recovery
+use Rattle.sock_tcp.specs.declared.rules.Rules.{Rules}
+use Rattle.sock_tcp.specs.declared.rules.Rules.TheVariants as rules
+use Rattle.sock_tcp.specs.declared.state.State.{State}
+use Rattle.sock_tcp.specs.declared.state.State.TheVariants as state
+use Rattle.sock_tcp.specs.declared.timer.Timer.{Timer}
+use Rattle.sock_tcp.specs.declared.timer.Timer.TheVariants as timer
+
+-- ---- what is kept of the socket as it was before the segment
+
+-- neither a SYN, an RST nor a FIN
+abbrev pub is_bare_control : TcpControl → Bool
+is_bare_control control.None = true
+is_bare_control control.Psh = true
+is_bare_control _ = false
+
+-- a duplicate acknowledgement, whatever its window (RFC 5681, section 2)
+abbrev pub repeats_by : Option TcpSeqNumber → View → TcpControl → ℕ → Bool
+repeats_by None v c n = false
+repeats_by (Some ack) v c n = is_bare_control c && is_duplicate v ack n false
+
+unfoldable pub before_of : View → Segment → Before
+before_of v s =
+    record {
+      state = v.state;
+      timer = v.timer;
+      una = v.local_seq_no;
+      window = v.remote_win_len;
+      duplicates = v.local_rx_dup_acks;
+      recovery = v.recovery;
+      controller = v.congestion_controller;
+      repeats = repeats_by s.ack_number v s.control (length s.payload);
+    }
+
+-- ---- duplicates
+
+-- a duplicate that tells a larger window, which smoltcp's rules do not count as one
+abbrev pub is_grown : Before → View → Bool
+is_grown b w = b.repeats && nat_lt b.window w.remote_win_len
+
+abbrev pub is_fast : Timer → Bool
+is_fast timer.FastRetransmit = true
+is_fast _ = false
+
+-- smoltcp's rules call for a fast retransmission
+abbrev pub is_called : Before → View → Bool
+is_called b w = is_fast w.timer && not (is_fast b.timer)
+
+-- how many segments are out
+abbrev pub segments_out : View → ℕ
+segments_out w = div_ceil (flight w) (max w.remote_mss 1)
+
+-- it was counted as one by smoltcp's rules
+abbrev pub is_counted : Before → View → Bool
+is_counted b w = b.repeats && ((b.window == w.remote_win_len) && nat_lt b.duplicates w.local_rx_dup_acks)
+
+-- one duplicate less than the segments that are out, where these are fewer than four and all that is queued was sent
+-- (RFC 5827, section 3.1)
+abbrev pub is_early : Before → View → Bool
+is_early b w =
+    is_counted b w && (nat_le (length w.tx_buffer.bytes) (flight w)
+    && (nat_lt (segments_out w) 4 && (w.local_rx_dup_acks + 1 == segments_out w)))
+
+-- the third duplicate, or an earlier one that suffices
+abbrev pub tells_loss : Before → View → Bool
+tells_loss b w = is_called b w || ((is_grown b w && (b.duplicates == 2)) || is_early b w)
+
+abbrev pub duplicates_after : Before → View → ℕ
+duplicates_after b w = if is_grown b w then min (b.duplicates + 1) 255 else w.local_rx_dup_acks
+
+-- ---- recovery (RFC 6582, section 3.2)
+
+-- SND.UNA has moved
+abbrev pub is_news : Before → View → Bool
+is_news b w = not (seq_eq b.una w.local_seq_no)
+
+-- of new bytes, but not of all that was sent before a fast retransmission
+abbrev pub is_partial_in : Recovery → Bool → TcpSeqNumber → Bool
+is_partial_in (recovery.Fast point) news una = news && is_before una point
+is_partial_in _ news una = false
+
+abbrev pub is_partial : Before → View → Bool
+is_partial b w = is_partial_in b.recovery (is_news b w) w.local_seq_no
+
+abbrev pub is_over : Recovery → Bool
+is_over recovery.Open = true
+is_over _ = false
+
+-- there are bytes to send again
+abbrev pub may_resend : View → Bool
+may_resend w = carries_data w.state && not (length w.tx_buffer.bytes == 0)
+
+-- duplicates begin a recovery, where none goes on
+abbrev pub begins : Before → View → Bool
+begins b w = may_resend w && (tells_loss b w && is_over b.recovery)
+
+-- the segment at SND.UNA goes out again: a recovery begins, or a partial acknowledgement shows the next hole
+abbrev pub resends : Before → View → Bool
+resends b w = begins b w || (may_resend w && is_partial b w)
+
+-- an acknowledgement of all that was sent before ends it
+abbrev pub reached_by : TcpSeqNumber → Recovery → TcpSeqNumber → Recovery
+reached_by una r point = if is_before una point then r else recovery.Open
+
+abbrev pub gone_on : Recovery → TcpSeqNumber → Recovery
+gone_on recovery.Open una = recovery.Open
+gone_on (recovery.Fast point) una = reached_by una (recovery.Fast point) point
+gone_on (recovery.Timeout point) una = reached_by una (recovery.Timeout point) point
+
+abbrev pub recovery_after : Before → View → Recovery
+recovery_after b w =
+    if carries_data w.state
+    then (if begins b w then recovery.Fast w.remote_last_seq else gone_on b.recovery w.local_seq_no)
+    else recovery.Open
+
+-- ---- the congestion controller
+
+-- of a partial acknowledgement it hears that, and not that all was acknowledged
+abbrev pub controller_after : Before → View → Instant → AnyController
+controller_after b w now =
+    if is_partial b w
+    then partially_acked (with_remote_window b.controller w.remote_win_len) now (seq_sub w.local_seq_no b.una)
+    else (if is_grown b w then dup_acked w.congestion_controller now w.remote_mss (flight w)
+    else w.congestion_controller)
+
+-- ---- the timer
+
+-- states whose timer is one for acknowledgements
+abbrev pub has_timer : State → Bool
+has_timer state.SynReceived = true
+has_timer state.FinWait2 = true
+has_timer st = carries_data st
+
+-- where no fast retransmission is to come, the retransmission timer goes on as it was
+abbrev pub gone_on_from : Timer → Instant → Estimator → Timer
+gone_on_from (timer.Retransmit at) now e = timer.Retransmit at
+gone_on_from t now e = retransmit_from now e
+
+-- with so much in flight and so many bytes in the transmit queue: it runs whenever something is in flight (rule 5.1),
+-- and with nothing to send no window is probed (RFC 9293, section 3.8.6.1)
+abbrev pub running : Timer → ℕ → ℕ → Option Duration → Estimator → Instant → Timer
+running (timer.Idle at) sent queued keep e now = if sent == 0 then timer.Idle at else retransmit_from now e
+running (timer.ZeroWindowProbe at delay) sent queued keep e now =
+    if (sent == 0) && (queued == 0) then idle_from now keep else timer.ZeroWindowProbe at delay
+running t sent queued keep e now = t
+
+abbrev pub waited_for : Before → View → Instant → Timer
+waited_for b w now =
+    if resends b w then timer.FastRetransmit
+    else (if is_called b w then gone_on_from b.timer now w.rtte
+    else running w.timer (flight w) (length w.tx_buffer.bytes) w.keep_alive w.rtte now)
+
+abbrev pub timer_after : Before → View → Instant → Timer
+timer_after b w now = if has_timer w.state then waited_for b w now else w.timer
+
+-- bytes begin to go out: the SYN is acknowledged (rule 5.7)
+abbrev pub is_opened : Before → View → Bool
+is_opened b w = is_opening b.state && not (is_opening w.state)
+
+abbrev pub estimator_after : Before → View → Estimator
+estimator_after b w = if is_opened b w then begun_anew w.rtte else w.rtte
+
+-- ---- the whole
+
+unfoldable pub recovered : Before → View → Instant → View
+recovered b w now =
+    record w {
+      timer = timer_after b w now;
+      rtte = estimator_after b w;
+      local_rx_dup_acks = duplicates_after b w;
+      congestion_controller = controller_after b w now;
+      recovery = recovery_after b w;
+    }
+
+-- in LAST-ACK a segment that acknowledges nothing is not heard
+abbrev pub is_last : State → Bool
+is_last state.LastAck = true
+is_last _ = false
+
+abbrev pub is_unheard : Before → View → Bool
+is_unheard b w = is_last b.state && not (is_news b w)
+
+abbrev pub recovered_if : Bool → Before → View → Instant → View
+recovered_if unheard b w now = if unheard then w else recovered b w now
+
+-- smoltcp's rules do nothing more
+abbrev pub recovered_by : Rules → View → Instant → Segment → Outcome → Outcome
+recovered_by rules.Smoltcp v now s o = o
+recovered_by rules.Rfc v now s o =
+    record {
+      view = recovered_if (is_unheard (before_of v s) o.view) (before_of v s) o.view now;
+      reply = o.reply;
+    }
+
+-- ---- the retransmission timer is over (RFC 6582, section 4): what was sent until now is to be acknowledged before
+-- duplicates count again
+
+abbrev pub highest_of : Recovery → TcpSeqNumber → TcpSeqNumber
+highest_of recovery.Open nxt = nxt
+highest_of (recovery.Fast point) nxt = later_of nxt point
+highest_of (recovery.Timeout point) nxt = later_of nxt point
+
+abbrev pub timed_out_by : Rules → Recovery → TcpSeqNumber → Recovery
+timed_out_by rules.Smoltcp r nxt = r
+timed_out_by rules.Rfc r nxt = recovery.Timeout (highest_of r nxt)

@@ -1,0 +1,387 @@
+//! Loss by the rules of the RFCs: recovery (RFC 6582), duplicates (RFC 5681, RFC 5827) and the retransmission timer
+//! (RFC 6298).
+ghost use Rattle.std.specs.Prelude.{◌≡◌, length};
+ghost use Rattle.control_wire.specs.Segment.{segment_of};
+ghost use Rattle.sock_core.specs.Bounds.{IsMoment};
+ghost use Rattle.sock_tcp.specs.Due.{flight};
+ghost use Rattle.sock_tcp.specs.Rfc.Recovery.{before_of, begins, controller_after, duplicates_after, estimator_after};
+ghost use Rattle.sock_tcp.specs.Rfc.Recovery.{gone_on, gone_on_from, has_timer, highest_of, is_bare_control, is_called};
+ghost use Rattle.sock_tcp.specs.Rfc.Recovery.{is_fast, is_grown, is_last, is_news, is_opened, is_over, is_partial};
+ghost use Rattle.sock_tcp.specs.Rfc.Recovery.{is_counted, is_early, is_unheard, may_resend, recovered, recovered_if};
+ghost use Rattle.sock_tcp.specs.Rfc.Recovery.{recovery_after, repeats_by, resends, running, timed_out_by, timer_after};
+ghost use Rattle.sock_tcp.specs.Rfc.Recovery.{segments_out, tells_loss, waited_for};
+ghost use Rattle.sock_tcp.specs.Timers.{IsTimer};
+
+use crate::control_block::ControlBlock;
+use crate::rules::Rules;
+use crate::state::State;
+use crate::timer::Timer;
+use control_wire::{TcpControl, TcpRepr, TcpSeqNumber};
+use net_base::time::Instant;
+use sock_core::congestion::{AnyController, Controller};
+use sock_core::rtte::RttEstimator;
+use sock_core::seq::{before, later};
+
+/// What goes on of a loss. Smoltcp's rules keep it `Open`.
+#[derive(Debug, Clone, Copy)]
+pub enum Recovery {
+    /// Nothing.
+    Open,
+    /// A fast retransmission went out, and not all that was sent before it is acknowledged (RFC 6582, section 3.2).
+    Fast {
+        /// The number behind what was sent before it.
+        point: TcpSeqNumber,
+    },
+    /// The retransmission timer was over, and not all that was sent before that is acknowledged.
+    Timeout {
+        /// The number behind what was sent before it.
+        point: TcpSeqNumber,
+    },
+}
+
+/// What is kept of a socket while a segment is heard.
+#[derive(Clone, Copy)]
+pub struct Before {
+    /// Its state.
+    pub state: State,
+    /// Its timer.
+    pub timer: Timer,
+    /// SND.UNA.
+    pub una: TcpSeqNumber,
+    /// SND.WND.
+    pub window: usize,
+    /// How many duplicate acknowledgements had come.
+    pub duplicates: u8,
+    /// What went on of a loss.
+    pub recovery: Recovery,
+    /// The congestion controller.
+    pub controller: AnyController,
+    /// Whether the segment is a duplicate acknowledgement, whatever its window.
+    pub repeats: bool,
+}
+
+// Neither a SYN, an RST nor a FIN.
+fn is_bare(control: TcpControl) -> bool
+    ensures { result ≡ is_bare_control control }
+{
+    matches!(control, TcpControl::None | TcpControl::Psh)
+}
+
+fn is_fast(timer: Timer) -> bool
+    ensures { result ≡ is_fast timer }
+{
+    matches!(timer, Timer::FastRetransmit)
+}
+
+// Where no fast retransmission is to come, the retransmission timer goes on as it was.
+fn gone_on_from(timer: Timer, now: Instant, rtte: &RttEstimator) -> Timer
+    requires { IsMoment now.micros }
+    ensures value { result ≡ gone_on_from timer now rtte.now }
+    ensures lawful { IsTimer result }
+{
+    match timer {
+        Timer::Retransmit { .. } => timer,
+        _ => Timer::retransmit(now, rtte),
+    }
+}
+
+impl Recovery {
+    fn is_over(self) -> bool
+        ensures { result ≡ is_over self }
+    {
+        matches!(self, Recovery::Open)
+    }
+
+    // An acknowledgement of all that was sent before ends it.
+    fn gone_on(self, una: TcpSeqNumber) -> Recovery
+        ensures { result ≡ gone_on self una }
+    {
+        match self {
+            Recovery::Open => self,
+            Recovery::Fast { point } | Recovery::Timeout { point } => {
+                if before(una, point) {
+                    self
+                } else {
+                    Recovery::Open
+                }
+            }
+        }
+    }
+
+    // The number behind all that was sent, where SND.NXT is this one.
+    fn highest(self, next: TcpSeqNumber) -> TcpSeqNumber
+        ensures { result ≡ highest_of self next }
+    {
+        match self {
+            Recovery::Open => next,
+            Recovery::Fast { point } | Recovery::Timeout { point } => later(next, point),
+        }
+    }
+
+    // The retransmission timer is over, with SND.NXT there.
+    #[inline(always)]
+    pub(crate) fn timed_out(self, rules: Rules, next: TcpSeqNumber) -> Recovery
+        ensures { result ≡ timed_out_by rules self next }
+    {
+        match rules {
+            Rules::Smoltcp => self,
+            Rules::Rfc => Recovery::Timeout {
+                point: self.highest(next),
+            },
+        }
+    }
+}
+
+impl Before {
+    // SND.UNA has moved.
+    fn is_news(&self, after: &ControlBlock<'_>) -> bool
+        ensures { result ≡ is_news self.now after.now }
+    {
+        self.una != after.local_seq_no
+    }
+
+    // In LAST-ACK a segment that acknowledges nothing is not heard.
+    fn is_unheard(&self, after: &ControlBlock<'_>) -> bool
+        ensures { result ≡ is_unheard self.now after.now }
+    {
+        matches!(self.state, State::LastAck) && !self.is_news(after)
+    }
+
+    // A duplicate that tells a larger window.
+    fn is_grown(&self, after: &ControlBlock<'_>) -> bool
+        ensures { result ≡ is_grown self.now after.now }
+    {
+        self.repeats && self.window < after.remote_win_len
+    }
+
+    // Smoltcp's rules call for a fast retransmission.
+    fn is_called(&self, after: &ControlBlock<'_>) -> bool
+        ensures { result ≡ is_called self.now after.now }
+    {
+        is_fast(after.timer) && !is_fast(self.timer)
+    }
+
+    // It was counted as a duplicate by smoltcp's rules.
+    fn is_counted(&self, after: &ControlBlock<'_>) -> bool
+        ensures { result ≡ is_counted self.now after.now }
+    {
+        self.repeats
+            && (self.window == after.remote_win_len && self.duplicates < after.local_rx_dup_acks)
+    }
+
+    // One duplicate less than the segments that are out, where these are few and all that is queued was sent.
+    fn is_early(&self, after: &ControlBlock<'_>) -> bool
+        ensures { result ≡ is_early self.now after.now }
+    {
+        let out = after.segments_out();
+        let duplicates = after.local_rx_dup_acks as usize;
+        self.is_counted(after)
+            && (after.tx_buffer.len() <= after.flight() && (out < 4 && duplicates + 1 == out))
+    }
+
+    // The third duplicate, or an earlier one that suffices.
+    fn tells_loss(&self, after: &ControlBlock<'_>) -> bool
+        ensures { result ≡ tells_loss self.now after.now }
+    {
+        let third = self.is_grown(after) && self.duplicates == 2;
+        self.is_called(after) || (third || self.is_early(after))
+    }
+
+    // Of new bytes, but not of all that was sent before a fast retransmission.
+    fn is_partial(&self, after: &ControlBlock<'_>) -> bool
+        ensures { result ≡ is_partial self.now after.now }
+    {
+        match self.recovery {
+            Recovery::Fast { point } => self.is_news(after) && before(after.local_seq_no, point),
+            _ => false,
+        }
+    }
+
+    // Duplicates begin a recovery, where none goes on.
+    fn begins(&self, after: &ControlBlock<'_>) -> bool
+        ensures { result ≡ begins self.now after.now }
+    {
+        after.may_resend() && (self.tells_loss(after) && self.recovery.is_over())
+    }
+
+    // The segment at SND.UNA goes out again.
+    fn resends(&self, after: &ControlBlock<'_>) -> bool
+        ensures { result ≡ resends self.now after.now }
+    {
+        self.begins(after) || after.may_resend() && self.is_partial(after)
+    }
+
+    fn recovery_after(&self, after: &ControlBlock<'_>) -> Recovery
+        ensures { result ≡ recovery_after self.now after.now }
+    {
+        if !after.state.carries_data() {
+            return Recovery::Open;
+        }
+        if self.begins(after) {
+            return Recovery::Fast {
+                point: after.remote_last_seq,
+            };
+        }
+        self.recovery.gone_on(after.local_seq_no)
+    }
+
+    fn duplicates_after(&self, after: &ControlBlock<'_>) -> u8
+        ensures { result ≡ duplicates_after self.now after.now }
+    {
+        if self.is_grown(after) {
+            self.duplicates.saturating_add(1)
+        } else {
+            after.local_rx_dup_acks
+        }
+    }
+
+    // What the congestion controller is told.
+    fn controller_after(&self, after: &ControlBlock<'_>, now: Instant) -> AnyController
+        ensures { result ≡ controller_after self.now after.now now }
+    {
+        if self.is_partial(after) {
+            let mut controller = self.controller;
+            controller.set_remote_window(after.remote_win_len);
+            controller.on_partial_ack(now, after.local_seq_no.since(self.una));
+            return controller;
+        }
+        let mut controller = after.congestion_controller;
+        if self.is_grown(after) {
+            controller.on_dup_ack(now, after.remote_mss, after.flight());
+        }
+        controller
+    }
+
+    fn waited_for(&self, after: &ControlBlock<'_>, now: Instant) -> Timer
+        requires { IsMoment now.micros }
+        ensures value { result ≡ waited_for self.now after.now now }
+        ensures lawful { IsTimer result }
+    {
+        if self.resends(after) {
+            return Timer::FastRetransmit;
+        }
+        if self.is_called(after) {
+            return gone_on_from(self.timer, now, &after.rtte);
+        }
+        after.running(now)
+    }
+
+    fn timer_after(&self, after: &ControlBlock<'_>, now: Instant) -> Timer
+        requires { IsMoment now.micros }
+        ensures value { result ≡ timer_after self.now after.now now }
+        ensures lawful { IsTimer result }
+    {
+        if after.state.has_timer() {
+            self.waited_for(after, now)
+        } else {
+            after.timer
+        }
+    }
+
+    fn estimator_after(&self, after: &ControlBlock<'_>) -> RttEstimator
+        ensures { result ≡ estimator_after self.now after.now }
+    {
+        let mut rtte = after.rtte;
+        if self.state.is_opening() && !after.state.is_opening() {
+            rtte.begin_anew();
+        }
+        rtte
+    }
+}
+
+impl State {
+    // Its timer is one for acknowledgements.
+    fn has_timer(self) -> bool
+        ensures { result ≡ has_timer self }
+    {
+        matches!(self, State::SynReceived | State::FinWait2) || self.carries_data()
+    }
+}
+
+impl<'a> ControlBlock<'a> {
+    // Whether it is a duplicate acknowledgement, whatever its window.
+    fn repeats(&self, repr: &TcpRepr<'_>) -> bool
+        ensures { result ≡ repeats_by repr.now.ack_number self.now repr.now.control (length repr.now.payload.now) }
+    {
+        match repr.ack_number {
+            None => false,
+            Some(ack) => {
+                is_bare(repr.control) && self.is_duplicate(ack, repr.payload.len(), false)
+            }
+        }
+    }
+
+    fn segments_out(&self) -> usize
+        ensures { result ≡ segments_out self.now }
+    {
+        self.flight().div_ceil(self.remote_mss.max(1))
+    }
+
+    // There are bytes to send again.
+    fn may_resend(&self) -> bool
+        ensures { result ≡ may_resend self.now }
+    {
+        self.state.carries_data() && !self.tx_buffer.is_empty()
+    }
+
+    // A timer runs whenever something is in flight, and none for a window while there is nothing to send.
+    fn running(&self, now: Instant) -> Timer
+        requires { IsMoment now.micros }
+        ensures value { result ≡ running self.now.timer (flight self.now) (length self.now.tx_buffer.bytes)
+            self.now.keep_alive self.now.rtte now }
+        ensures lawful { IsTimer result }
+    {
+        match self.timer {
+            Timer::Idle { .. } if self.flight() != 0 => Timer::retransmit(now, &self.rtte),
+            Timer::ZeroWindowProbe { .. } if self.flight() == 0 && self.tx_buffer.is_empty() => {
+                Timer::idle(now, self.keep_alive)
+            }
+            timer => timer,
+        }
+    }
+
+    // What is kept of the socket while this segment is heard.
+    #[tactic(auto, unfolding(crate::specs::Rfc::Recovery::before_of))]
+    pub(crate) fn before(&self, repr: &TcpRepr<'_>) -> Before
+        ensures { result ≡ before_of self.now (segment_of repr.now) }
+    {
+        Before {
+            state: self.state,
+            timer: self.timer,
+            una: self.local_seq_no,
+            window: self.remote_win_len,
+            duplicates: self.local_rx_dup_acks,
+            recovery: self.recovery,
+            controller: self.congestion_controller,
+            repeats: self.repeats(repr),
+        }
+    }
+
+    // What is done of loss, once a segment was heard.
+    #[tactic(auto, unfolding(crate::specs::Rfc::Recovery::recovered))]
+    fn recover_heard(&mut self, before: &Before, now: Instant)
+        requires { IsMoment now.micros }
+        ensures { self.new ≡ recovered before.now self.old now }
+    {
+        let timer = before.timer_after(self, now);
+        let rtte = before.estimator_after(self);
+        let duplicates = before.duplicates_after(self);
+        let controller = before.controller_after(self, now);
+        let recovery = before.recovery_after(self);
+        self.timer = timer;
+        self.rtte = rtte;
+        self.local_rx_dup_acks = duplicates;
+        self.congestion_controller = controller;
+        self.recovery = recovery;
+    }
+
+    pub(crate) fn recover(&mut self, before: &Before, now: Instant)
+        requires { IsMoment now.micros }
+        ensures { self.new ≡ recovered_if (is_unheard before.now self.old) before.now self.old now }
+    {
+        if before.is_unheard(self) {
+            return;
+        }
+        self.recover_heard(before, now);
+    }
+}
