@@ -24,6 +24,7 @@ use Rattle.progress_laws.specs.BothWays.{window_told}
 use Rattle.progress_laws.specs.InStep.{Move, told}
 use Rattle.progress_laws.specs.ShutWindows.{width}
 use Rattle.progress_laws.specs.Speech.{DispatchesOk}
+use Rattle.sock_tcp.specs.declared.rules.Rules.TheVariants as rules
 
 -- ---- the one that speaks
 
@@ -48,6 +49,7 @@ pub record IsSpeaker (d : Duration) (t : Tuple) (v : View) : Type 0 where
   pub carries : carries_data v.state ≡ true
   pub peer : v.tuple ≡ Some t
   pub no_timeout : v.timeout ≡ None
+  pub smoltcp : v.rules ≡ rules.Smoltcp
   pub keep_alive : v.keep_alive ≡ Some d
   pub waits : Waits v
 

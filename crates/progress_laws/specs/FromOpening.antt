@@ -26,6 +26,7 @@ use Rattle.progress_laws.specs.InStep.{told}
 use Rattle.progress_laws.specs.Opening.{Acknowledges, AnswersSyn, Completes, TakesSyn}
 use Rattle.progress_laws.specs.Speech.{DispatchesOk}
 use Rattle.progress_laws.specs.Stamped.{IsAnswerStamp, stamped}
+use Rattle.sock_tcp.specs.declared.rules.Rules.TheVariants as rules
 
 -- ---- in step from the start
 
@@ -35,6 +36,7 @@ pub record IsUnopened (v : View) : Type 0 where
   pub reached : IsReached v
   pub not_open : is_open v.state ≡ false
   pub no_timeout : v.timeout ≡ None
+  pub smoltcp : v.rules ≡ rules.Smoltcp
   pub interval : ForSome v.keep_alive (λ d. 0 < d.micros)
   pub not_paused : v.synack_paused ≡ false
   pub some : 0 < room_of v.rx_buffer

@@ -25,6 +25,7 @@ use Rattle.sock_tcp.specs.declared.tuple.Tuple.{Tuple}
 use Rattle.tcp_laws.specs.Polling.{IsReached}
 use Rattle.progress_laws.specs.Speech.{DispatchesOk}
 use Rattle.progress_laws.specs.Stamped.{IsAnswerStamp, stamped}
+use Rattle.sock_tcp.specs.declared.rules.Rules.TheVariants as rules
 
 -- ---- in step
 
@@ -55,6 +56,7 @@ pub record IsSenderIn (states : State → Bool) (d : Option Duration) (t : Tuple
   pub state : states v.state ≡ true
   pub peer : v.tuple ≡ Some t
   pub no_timeout : v.timeout ≡ None
+  pub smoltcp : v.rules ≡ rules.Smoltcp
   pub keep_alive : v.keep_alive ≡ d
   pub nothing_marked : v.pending_fast_retransmit ≡ false
   pub rests : Rests v
@@ -76,6 +78,7 @@ pub record IsReceiver (s : Tuple) (w : View) : Type 0 where
   pub state : takes_bytes w.state ≡ true
   pub peer : w.tuple ≡ Some s
   pub no_timeout : w.timeout ≡ None
+  pub smoltcp : w.rules ≡ rules.Smoltcp
   pub interval : ForSome w.keep_alive (λ e. 0 < e.micros)
   pub moment : Option Instant
   pub timer : w.timer ≡ timer.Idle moment

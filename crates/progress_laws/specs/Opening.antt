@@ -16,6 +16,7 @@ use Rattle.sock_tcp.specs.declared.state.State.TheVariants as state
 use Rattle.sock_tcp.specs.declared.tuple.Tuple.{Tuple}
 use Rattle.progress_laws.specs.InStep.{told}
 use Rattle.progress_laws.specs.Speech.{DispatchesOk}
+use Rattle.sock_tcp.specs.declared.rules.Rules.TheVariants as rules
 
 -- ---- the parts of the handshake
 
@@ -68,7 +69,9 @@ pub record CanMeet (t : Tuple) (f : Facts) (number word : ℕ) (a b : View) : Ty
   pub number_small : number < 2 ^ 32
   pub word_small : word < 2 ^ 32
   pub no_timeout_a : a.timeout ≡ None
+  pub smoltcp_a : a.rules ≡ rules.Smoltcp
   pub no_timeout_b : b.timeout ≡ None
+  pub smoltcp_b : b.rules ≡ rules.Smoltcp
   pub not_paused_a : a.synack_paused ≡ false
   pub not_paused_b : b.synack_paused ≡ false
 
