@@ -43,7 +43,7 @@ pub data Waits (v : View) : Type 0 where
       → Waits v
 
 -- The speaker v, with the peer t, is what some list of calls makes of a new socket, in ESTABLISHED, CLOSE-WAIT,
--- FIN-WAIT-1, CLOSING or LAST-ACK, without a user timeout, and with the keep-alive interval d
+-- FIN-WAIT-1, CLOSING or LAST-ACK, with smoltcp's rules, without a user timeout, and with the keep-alive interval d
 pub record IsSpeaker (d : Duration) (t : Tuple) (v : View) : Type 0 where
   pub reached : IsReached v
   pub carries : carries_data v.state ≡ true

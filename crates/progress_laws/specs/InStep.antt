@@ -50,7 +50,7 @@ pub data Rests (v : View) : Type 0 where
       → Rests v
 
 -- The socket v, with the peer t, is what some list of calls makes of a new one. It is in one of these states, without a
--- user timeout, with the keep-alive interval d, or with none
+-- user timeout, with smoltcp's rules, with the keep-alive interval d, or with none
 pub record IsSenderIn (states : State → Bool) (d : Option Duration) (t : Tuple) (v : View) : Type 0 where
   pub reached : IsReached v
   pub state : states v.state ≡ true
@@ -71,7 +71,7 @@ takes_bytes state.Established = true
 takes_bytes state.FinWait2 = true
 takes_bytes _ = false
 
--- The receiver w, with the peer s, is in one of these, without a user timeout, with a keep-alive interval that is not 0
+-- The receiver w, with the peer s and smoltcp's rules, is in one of these, without a user timeout, with a keep-alive interval that is not 0
 -- or with none, and has nothing to send: all that it took was read, and it holds nothing. What it acknowledged last
 -- lies not far behind that. It has room for as many bytes, at least for one unit of its window field
 pub record IsReceiver (s : Tuple) (w : View) : Type 0 where

@@ -85,7 +85,7 @@ SpeaksWithin (suc n) v t =
 
 -- ---- the law
 
--- With a keep-alive interval, and bytes or a FIN that are not acknowledged
+-- With smoltcp's rules, a keep-alive interval, and bytes or a FIN that are not acknowledged
 abbrev pub SpeaksPastItsTimers : Type 0
 SpeaksPastItsTimers = (v : View) (t : Tuple) (d : Duration)
     → IsReached v

@@ -218,8 +218,8 @@ recovered_by rules.Rfc v now s o =
       reply = o.reply;
     }
 
--- ---- the retransmission timer is over: where the peer has no window and bytes wait, it is probed for, with the byte at
--- SND.UNA (RFC 9293, section 3.8.6.1)
+-- ---- the retransmission timer is over: where the peer has no window and bytes wait, it is probed for, with the byte
+-- at SND.UNA (RFC 9293, section 3.8.6.1)
 
 abbrev pub begun_by : Rules → ℕ → ℕ → Instant → Option Duration → Estimator → Timer
 begun_by rules.Smoltcp window queued now keep e = idle_from now keep
