@@ -30,8 +30,9 @@ use Rattle.sock_tcp.specs.declared.rules.Rules.TheVariants as rules
 
 -- ---- in step from the start
 
--- A socket to be opened: what some list of calls makes of a new one, not open, with smoltcp's rules, without a user timeout, with a
--- keep-alive interval that is not 0 or with none, with a place in its receive buffer, and its SYN|ACK is not paused
+-- A socket to be opened: what some list of calls makes of a new one, not open, with smoltcp's rules, without a user
+-- timeout, with a keep-alive interval that is not 0 or with none, with a place in its receive buffer, and its SYN|ACK
+-- is not paused
 pub record IsUnopened (v : View) : Type 0 where
   pub reached : IsReached v
   pub not_open : is_open v.state ≡ false

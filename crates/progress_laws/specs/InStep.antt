@@ -71,9 +71,10 @@ takes_bytes state.Established = true
 takes_bytes state.FinWait2 = true
 takes_bytes _ = false
 
--- The receiver w, with the peer s and smoltcp's rules, is in one of these, without a user timeout, with a keep-alive interval that is not 0
--- or with none, and has nothing to send: all that it took was read, and it holds nothing. What it acknowledged last
--- lies not far behind that. It has room for as many bytes, at least for one unit of its window field
+-- The receiver w, with the peer s and smoltcp's rules, is in one of these, without a user timeout, with a keep-alive
+-- interval that is not 0 or with none, and has nothing to send: all that it took was read, and it holds nothing. What
+-- it acknowledged last lies not far behind that. It has room for as many bytes, at least for one unit of its window
+-- field
 pub record IsReceiver (s : Tuple) (w : View) : Type 0 where
   pub state : takes_bytes w.state ≡ true
   pub peer : w.tuple ≡ Some s

@@ -60,8 +60,8 @@ pub record Establishes (f : Facts) (now : Instant) (word : ℕ) (v w : View) : T
   pub answer : AnswersSyn f now syn.sent syn.received
 
 -- The one as `connect` leaves a socket a, with the endpoints t and this number; the other as `listen` leaves a socket
--- b, which draws word as its number, and whose SYN|ACK is not paused. Both have smoltcp's rules and no user timeout, in a context
--- that has both addresses
+-- b, which draws word as its number, and whose SYN|ACK is not paused. Both have smoltcp's rules and no user timeout, in
+-- a context that has both addresses
 pub record CanMeet (t : Tuple) (f : Facts) (number word : ℕ) (a b : View) : Type 0 where
   pub versions : SameVersion t.local.addr t.remote.addr
   pub here : f.has_address t.local.addr ≡ true
