@@ -32,7 +32,7 @@ module _ (v : View) (n : ℕ) (bs : List ℕ) (some : 0 < v.remote_win_len) wher
   side_then : (d : Option Duration) (t : Tuple) → IsReached (queued v n bs) → IsSide d t v → IsSide d t (queued v n bs)
   unfolding queued
   side_then d t reached s = record {
-    sender = record { reached = reached; state = s.sender.state; peer = s.sender.peer; no_timeout = s.sender.no_timeout; keep_alive = s.sender.keep_alive; nothing_marked = s.sender.nothing_marked; rests = rests_then s.sender.rests };
+    sender = record { reached = reached; state = s.sender.state; peer = s.sender.peer; no_timeout = s.sender.no_timeout; smoltcp = s.sender.smoltcp; keep_alive = s.sender.keep_alive; nothing_marked = s.sender.nothing_marked; rests = rests_then s.sender.rests };
     established = s.established;
     read = s.read;
     room = s.room;

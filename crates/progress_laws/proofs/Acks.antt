@@ -62,9 +62,9 @@ Stays z u = Rest z u × (u.rx_buffer ≡ z.rx_buffer)
 outside_stays : (z : View) (now : Instant) (s : Segment) → is_synchronized z.state ≡ true → Stays z (outside z now s).view
 unfolding ack_kept close_restarted
 outside_stays z now s sync = outside_kept (Stays z) now s (record {
-  challenges = λ w at k. (record { state = k.0.state; fin = k.0.fin; una = k.0.una; nxt = k.0.nxt; tx = k.0.tx; rcv = k.0.rcv; shift = k.0.shift; peer = k.0.peer; timeout = k.0.timeout; keep_alive = k.0.keep_alive; marked = k.0.marked; timer = k.0.timer }, k.1);
-  acks = λ w k. (record { state = k.0.state; fin = k.0.fin; una = k.0.una; nxt = k.0.nxt; tx = k.0.tx; rcv = k.0.rcv; shift = k.0.shift; peer = k.0.peer; timeout = k.0.timeout; keep_alive = k.0.keep_alive; marked = k.0.marked; timer = k.0.timer }, k.1);
-}) (λ w k. (record { state = k.0.state; fin = k.0.fin; una = k.0.una; nxt = k.0.nxt; tx = k.0.tx; rcv = k.0.rcv; shift = k.0.shift; peer = k.0.peer; timeout = k.0.timeout; keep_alive = k.0.keep_alive; marked = k.0.marked; timer = ap (λ st. timer_restarted st w.timer now) k.0.state ∙ synchronized_stays z.state w.timer now sync ∙ k.0.timer }, k.1)) z (record { state = refl; fin = refl; una = refl; nxt = refl; tx = refl; rcv = refl; shift = refl; peer = refl; timeout = refl; keep_alive = refl; marked = refl; timer = refl }, refl)
+  challenges = λ w at k. (record { state = k.0.state; fin = k.0.fin; una = k.0.una; nxt = k.0.nxt; tx = k.0.tx; rcv = k.0.rcv; shift = k.0.shift; peer = k.0.peer; timeout = k.0.timeout; same_rules = k.0.same_rules; keep_alive = k.0.keep_alive; marked = k.0.marked; timer = k.0.timer }, k.1);
+  acks = λ w k. (record { state = k.0.state; fin = k.0.fin; una = k.0.una; nxt = k.0.nxt; tx = k.0.tx; rcv = k.0.rcv; shift = k.0.shift; peer = k.0.peer; timeout = k.0.timeout; same_rules = k.0.same_rules; keep_alive = k.0.keep_alive; marked = k.0.marked; timer = k.0.timer }, k.1);
+}) (λ w k. (record { state = k.0.state; fin = k.0.fin; una = k.0.una; nxt = k.0.nxt; tx = k.0.tx; rcv = k.0.rcv; shift = k.0.shift; peer = k.0.peer; timeout = k.0.timeout; same_rules = k.0.same_rules; keep_alive = k.0.keep_alive; marked = k.0.marked; timer = ap (λ st. timer_restarted st w.timer now) k.0.state ∙ synchronized_stays z.state w.timer now sync ∙ k.0.timer }, k.1)) z (record { state = refl; fin = refl; una = refl; nxt = refl; tx = refl; rcv = refl; shift = refl; peer = refl; timeout = refl; same_rules = refl; keep_alive = refl; marked = refl; timer = refl }, refl)
 
 row_waits : (st : State) (u : View) → st ≡ state.FinWait1 → Row st u.timer u.keep_alive (seq_sub u.remote_last_seq u.local_seq_no) (length u.tx_buffer.bytes) → seq_sub u.remote_last_seq u.local_seq_no ≤ length u.tx_buffer.bytes + 1
 row_waits st u e r = (subst (λ st. Row st u.timer u.keep_alive (seq_sub u.remote_last_seq u.local_seq_no) (length u.tx_buffer.bytes)) e r).1

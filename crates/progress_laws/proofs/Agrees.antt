@@ -101,7 +101,7 @@ later_reach v w x r e (inr p) =
     inr (subst (λ m. seq_sub m (next_ack v) < width v) (sym stays) p.0, subst (λ m. seq_sub m (next_ack v) < window_told v) (sym stays) p.1)
 
 pub left_speaks : (d : Duration) (t : Tuple) (v u : View) → IsSpeaker d t v → Left v u → IsReached u → Waits u → IsSpeaker d t u
-left_speaks d t v u s l r waits = record { reached = r; carries = ap carries_data l.same.state ∙ s.carries; peer = l.same.peer ∙ s.peer; no_timeout = l.same.timeout ∙ s.no_timeout; keep_alive = l.same.keep_alive ∙ s.keep_alive; waits = waits }
+left_speaks d t v u s l r waits = record { reached = r; carries = ap carries_data l.same.state ∙ s.carries; peer = l.same.peer ∙ s.peer; no_timeout = l.same.timeout ∙ s.no_timeout; smoltcp = l.same.same_rules ∙ s.smoltcp; keep_alive = l.same.keep_alive ∙ s.keep_alive; waits = waits }
 
 module _ (d : Duration) (t : Tuple) (v w : View) (n h : ℕ) (i : Agreement d t v w n h) where
   -- ---- the speaker dispatched
@@ -242,7 +242,7 @@ module _ (d : Duration) (t : Tuple) (v w : View) (n h : ℕ) (i : Agreement d t 
 
     pub hears_agrees : Agreement d t then_heard w 0 h
     hears_agrees = record {
-      speaker = record { reached = reached_then; carries = ap carries_data h_as.state ∙ i.speaker.carries; peer = h_as.peer ∙ i.speaker.peer; no_timeout = h_as.timeout ∙ i.speaker.no_timeout; keep_alive = h_as.keep_alive ∙ i.speaker.keep_alive; waits = waits_then };
+      speaker = record { reached = reached_then; carries = ap carries_data h_as.state ∙ i.speaker.carries; peer = h_as.peer ∙ i.speaker.peer; no_timeout = h_as.timeout ∙ i.speaker.no_timeout; smoltcp = h_as.same_rules ∙ i.speaker.smoltcp; keep_alive = h_as.keep_alive ∙ i.speaker.keep_alive; waits = waits_then };
       taker = i.taker;
       taken_within = omega arith;
       there = sym (same_seq (seq_add then_heard.local_seq_no 0) (next_ack w) (omega (arith, ap (λ (m : TcpSeqNumber). m.0) h_as.una)));

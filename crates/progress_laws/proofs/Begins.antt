@@ -12,6 +12,7 @@ use Rattle.control_wire.specs.Segment.{Segment, control_len, is_empty_segment, i
 use Rattle.control_wire.specs.declared.seq_number.TcpSeqNumber.{TcpSeqNumber}
 use Rattle.control_wire.specs.declared.tcp.TcpControl.{TcpControl}
 use Rattle.control_wire.specs.declared.tcp.TcpControl.TheVariants as control
+use Rattle.sock_core.specs.Estimator.{backed_off, retransmitted}
 use Rattle.sock_core.specs.Facts.{Facts}
 use Rattle.sock_tcp.specs.Begin.{Begun, last_ts_set, last_ts_set_at, told_ready, readied, retransmission_begun, fast_retransmission_marked, after_timer, after_timers, is_paused, begun, begun_to, unless_paused, nothing_due, by_due, before_emit, before_emit_to, going_on, peer_of}
 use Rattle.sock_tcp.specs.Content.{Sending, asked, carries_data, content, data_control, emission_kind, filled, offset_of, plain_segment, sent_as, with_data}
@@ -19,6 +20,8 @@ use Rattle.sock_tcp.specs.Due.{is_closing, is_due}
 use Rattle.sock_tcp.specs.Process.{Outcome}
 use Rattle.progress_laws.specs.Smoltcp.{processed}
 use Rattle.sock_tcp.specs.Polls.{is_reached, timeout_poll}
+use Rattle.sock_tcp.specs.Rfc.Recovery.{begun_by}
+use Rattle.sock_tcp.proofs.Recovering.{begun_as}
 use Rattle.sock_tcp.specs.Sent.{left_by}
 use Rattle.sock_tcp.specs.Timers.{idle_from, is_close_over, is_over}
 use Rattle.sock_tcp.specs.View.{View, moment_of}
@@ -88,6 +91,7 @@ pub record Same (v x : View) : Type 0 where
   pub state : x.state ≡ v.state
   pub peer : x.tuple ≡ v.tuple
   pub timeout : x.timeout ≡ v.timeout
+  pub same_rules : x.rules ≡ v.rules
   pub keep_alive : x.keep_alive ≡ v.keep_alive
   pub una : x.local_seq_no ≡ v.local_seq_no
   pub tx : x.tx_buffer ≡ v.tx_buffer
@@ -99,14 +103,19 @@ pub record Same (v x : View) : Type 0 where
   pub paused : x.synack_paused ≡ v.synack_paused
 
 pub same_self : (v : View) → Same v v
-same_self v = record { state = refl; peer = refl; timeout = refl; keep_alive = refl; una = refl; tx = refl; rx = refl; rcv = refl; window = refl; scale = refl; shift = refl; paused = refl }
+same_self v = record { state = refl; peer = refl; timeout = refl; same_rules = refl; keep_alive = refl; una = refl; tx = refl; rx = refl; rcv = refl; window = refl; scale = refl; shift = refl; paused = refl }
 
 pub same_then : {u v x : View} → Same u v → Same v x → Same u x
-same_then a b = record { state = b.state ∙ a.state; peer = b.peer ∙ a.peer; timeout = b.timeout ∙ a.timeout; keep_alive = b.keep_alive ∙ a.keep_alive; una = b.una ∙ a.una; tx = b.tx ∙ a.tx; rx = b.rx ∙ a.rx; rcv = b.rcv ∙ a.rcv; window = b.window ∙ a.window; scale = b.scale ∙ a.scale; shift = b.shift ∙ a.shift; paused = b.paused ∙ a.paused }
+same_then a b = record { state = b.state ∙ a.state; peer = b.peer ∙ a.peer; timeout = b.timeout ∙ a.timeout; same_rules = b.same_rules ∙ a.same_rules; keep_alive = b.keep_alive ∙ a.keep_alive; una = b.una ∙ a.una; tx = b.tx ∙ a.tx; rx = b.rx ∙ a.rx; rcv = b.rcv ∙ a.rcv; window = b.window ∙ a.window; scale = b.scale ∙ a.scale; shift = b.shift ∙ a.shift; paused = b.paused ∙ a.paused }
+
+-- the timer is idle then, by smoltcp's rules
+pub begun_idle : (x : View) (now : Instant) → x.rules ≡ rules.Smoltcp → (retransmission_begun x now).timer ≡ idle_from now x.keep_alive
+unfolding retransmission_begun
+begun_idle x now e = ap (λ r. begun_by r x.remote_win_len (length x.tx_buffer.bytes) now x.keep_alive (retransmitted (backed_off x.rtte))) e
 
 pub same_again : (x : View) (now : Instant) → Same x (retransmission_begun x now)
 unfolding retransmission_begun
-same_again x now = record { state = refl; peer = refl; timeout = refl; keep_alive = refl; una = refl; tx = refl; rx = refl; rcv = refl; window = refl; scale = refl; shift = refl; paused = refl }
+same_again x now = record { state = refl; peer = refl; timeout = refl; same_rules = refl; keep_alive = refl; una = refl; tx = refl; rx = refl; rcv = refl; window = refl; scale = refl; shift = refl; paused = refl }
 
 -- and all else that matters here
 pub record Alike (v x : View) : Type 0 where
@@ -124,8 +133,8 @@ unfolding readied last_ts_set
 readied_alike v now = go v.remote_last_ts
   where
     same : (o : Option Instant) → Same v (told_ready (last_ts_set_at o v now) now)
-    same None = record { state = refl; peer = refl; timeout = refl; keep_alive = refl; una = refl; tx = refl; rx = refl; rcv = refl; window = refl; scale = refl; shift = refl; paused = refl }
-    same (Some at) = record { state = refl; peer = refl; timeout = refl; keep_alive = refl; una = refl; tx = refl; rx = refl; rcv = refl; window = refl; scale = refl; shift = refl; paused = refl }
+    same None = record { state = refl; peer = refl; timeout = refl; same_rules = refl; keep_alive = refl; una = refl; tx = refl; rx = refl; rcv = refl; window = refl; scale = refl; shift = refl; paused = refl }
+    same (Some at) = record { state = refl; peer = refl; timeout = refl; same_rules = refl; keep_alive = refl; una = refl; tx = refl; rx = refl; rcv = refl; window = refl; scale = refl; shift = refl; paused = refl }
 
     go : (o : Option Instant) → Alike v (told_ready (last_ts_set_at o v now) now)
     go None = record { same = same None; timer = refl; nxt = refl; last_ack = refl; last_win = refl; marked = refl; mss = refl; delay = refl }
@@ -152,7 +161,7 @@ unfolding retransmission_begun fast_retransmission_marked
 timer_no_end (timer.Retransmit at) x now is e = go (is_over at now)
   where
     go : (b : Bool) → is_close_over (if b then retransmission_begun x now else x).timer now ≡ false
-    go true = idle_is_no_end now x.keep_alive
+    go true = begun_as (λ t. is_close_over t now ≡ false) x.rules x.remote_win_len (length x.tx_buffer.bytes) now x.keep_alive (retransmitted (backed_off x.rtte)) (idle_is_no_end now x.keep_alive) (λ z some. refl)
     go false = ap (λ t. is_close_over t now) is ∙ e
 timer_no_end timer.FastRetransmit x now is e = idle_is_no_end now x.keep_alive
 timer_no_end (timer.Idle at) x now is e = ap (λ t. is_close_over t now) is ∙ e

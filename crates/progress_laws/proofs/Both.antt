@@ -106,7 +106,7 @@ module _ (d e : Option Duration) (t s : Tuple) (f : Facts) (at now : Instant) (s
   side_then =
       let k = p.bytes.speaks.waits in
       record {
-        sender = record { reached = k.reached; state = ap may_send k.same.state ∙ vs.state; peer = k.same.peer ∙ vs.peer; no_timeout = k.same.timeout ∙ vs.no_timeout; keep_alive = k.same.keep_alive ∙ vs.keep_alive; nothing_marked = k.nothing_marked; rests = ForAnswer p.at p.timer };
+        sender = record { reached = k.reached; state = ap may_send k.same.state ∙ vs.state; peer = k.same.peer ∙ vs.peer; no_timeout = k.same.timeout ∙ vs.no_timeout; smoltcp = k.same.same_rules ∙ vs.smoltcp; keep_alive = k.same.keep_alive ∙ vs.keep_alive; nothing_marked = k.nothing_marked; rests = ForAnswer p.at p.timer };
         established = k.same.state ∙ i.here.established;
         read = ap (λ (b : Received). b.bytes) k.same.rx ∙ i.here.read;
         room = i.here.room;

@@ -141,6 +141,7 @@ module _ (d e : Option Duration) (t s : Tuple) (f : Facts) (w v : View) (i : Bot
     state = ap (λ st. is_closing (closed_from st)) h.state;
     peer = h.peer ∙ i.here.sender.peer;
     no_timeout = h.timeout ∙ i.here.sender.no_timeout;
+    smoltcp = h.same_rules ∙ i.here.sender.smoltcp;
     keep_alive = h.keep_alive ∙ i.here.sender.keep_alive;
     nothing_marked = h.marked ∙ i.here.sender.nothing_marked;
     rests = closed_rests y (idle_rests y now e (timer_is ∙ ap (idle_from now) i.here.sender.keep_alive) (h.nxt ∙ later_all w.remote_last_seq k all_so ∙ sym h.una) (subst (λ m. 0 < m) (sym h.window) told_there));

@@ -90,7 +90,7 @@ module _ (d e : Duration) (t s : Tuple) (f : Facts) (at : Instant) (v w : View) 
     speaker : IsSpeaker e s y
     speaker =
         let p = spoken.0 in
-        record { reached = q.reached_there; carries = ap carries_data q.rest.state ∙ p.carries; peer = q.rest.peer ∙ p.peer; no_timeout = q.rest.timeout ∙ p.no_timeout; keep_alive = q.rest.keep_alive ∙ p.keep_alive; waits = rest_waits z y q.rest p.waits }
+        record { reached = q.reached_there; carries = ap carries_data q.rest.state ∙ p.carries; peer = q.rest.peer ∙ p.peer; no_timeout = q.rest.timeout ∙ p.no_timeout; smoltcp = q.rest.same_rules ∙ p.smoltcp; keep_alive = q.rest.keep_alive ∙ p.keep_alive; waits = rest_waits z y q.rest p.waits }
 
     held_then : (k b : ℕ) → byte_at x.rx_buffer.held k ≡ Some b → slice_get y.tx_buffer.bytes (0 + k) ≡ Some b
     unfolding read_off

@@ -74,6 +74,7 @@ closer_of d t v s = record {
   state = sends_closing v.state s.state;
   peer = s.peer;
   no_timeout = s.no_timeout;
+  smoltcp = s.smoltcp;
   keep_alive = s.keep_alive;
   nothing_marked = s.nothing_marked;
   rests = closed_rests v s.rests;
@@ -90,7 +91,7 @@ module _ (d : Option Duration) (t : Tuple) (c : View) (f : Facts) (now : Instant
   carries = carries_runs c.state c.synack_paused (closing_carries c.state waits)
 
   start : Begins t f c now
-  start = begins t f c now s.reached s.no_timeout s.rests (no_probe_left c s.rests none_left) over
+  start = begins t f c now s.reached s.no_timeout s.smoltcp s.rests (no_probe_left c s.rests none_left) over
 
   on : GoesOn c t fa
   on = record { peer = s.peer; address = here; alive = rw s.no_timeout refl; no_end = start.no_end }

@@ -290,6 +290,7 @@ module _ (d : Option Duration) (t : Tuple) (f : Facts) (at now : Instant) (since
             state = ap is_closing h.state ∙ p.closer.state;
             peer = h.peer ∙ p.closer.peer;
             no_timeout = h.timeout ∙ p.closer.no_timeout;
+            smoltcp = h.same_rules ∙ p.closer.smoltcp;
             keep_alive = h.keep_alive ∙ p.closer.keep_alive;
             nothing_marked = h.marked ∙ p.closer.nothing_marked;
             rests = rests;

@@ -67,7 +67,7 @@ module _ (d : Option Duration) (t : Tuple) (v : View) (f : Facts) (now : Instant
   runs = carries_runs v.state v.synack_paused (closing_carries v.state s.state)
 
   start : Begins t f v now
-  start = begins t f v now s.reached s.no_timeout s.rests other over
+  start = begins t f v now s.reached s.no_timeout s.smoltcp s.rests other over
 
   on : GoesOn v t fa
   on = record { peer = s.peer; address = here; alive = rw s.no_timeout refl; no_end = start.no_end }
@@ -157,6 +157,7 @@ module _ (d : Option Duration) (t : Tuple) (v : View) (f : Facts) (now : Instant
           state = ap is_closing l.same.state ∙ closing;
           peer = l.same.peer ∙ fr.same.peer ∙ s.peer;
           no_timeout = l.same.timeout ∙ fr.same.timeout ∙ s.no_timeout;
+          smoltcp = l.same.same_rules ∙ fr.same.same_rules ∙ s.smoltcp;
           keep_alive = l.same.keep_alive ∙ fr.same.keep_alive ∙ s.keep_alive;
           nothing_marked = l.marked ∙ ap (λ m. m && not (carries_data u.state)) ft.nothing_marked;
           rests = ForAnswer (moment_after now (rto_of u.rtte)) again;

@@ -184,7 +184,7 @@ module _ (d : Duration) (t : Tuple) (f : Facts) (at : Instant) (v w : View) (got
         speaks = λ e r sp within field.
             let p' : IsSpeaker e r o.view × (o.view.state ≡ w.state) = speaks e r sp within (subst (λ m. 0 < m) (sym same_field) field) in
             let q = p'.0 in
-            (record { reached = (reads_agree d t u o.view (n + length run) 0 j).taker.reached; carries = q.carries; peer = q.peer; no_timeout = q.no_timeout; keep_alive = q.keep_alive; waits = kept_waits q.waits }, omega arith, p'.1);
+            (record { reached = (reads_agree d t u o.view (n + length run) 0 j).taker.reached; carries = q.carries; peer = q.peer; no_timeout = q.no_timeout; smoltcp = q.smoltcp; keep_alive = q.keep_alive; waits = kept_waits q.waits }, omega arith, p'.1);
         whole = append_assoc got o.view.rx_buffer.bytes (drop (n + length run) u.tx_buffer.bytes) ∙ (λ i. got ++ (is i ++ drop (n + length run) ((p.left.same.tx i).bytes))) ∙ ap (λ (l : List ℕ). got ++ l) whole ∙ ap (λ (q : Queue). got ++ drop n q.bytes) p.earlier.same.tx;
         nothing_lost = tx;
       }) same_tx (omega (arith, some))
@@ -238,7 +238,7 @@ module _ (d : Duration) (t : Tuple) (f : Facts) (at : Instant) (v w : View) (got
         next = same_seq (next_ack z) (next_ack o.view) (omega (arith, ap (λ (l : List ℕ). length l) none));
         tx = refl;
         reached = λ r. reads_reached o.view (length o.view.rx_buffer.bytes) (may o.view some) (omega arith) r;
-        speaks = λ e r q s. record { reached = q; carries = s.carries; peer = s.peer; no_timeout = s.no_timeout; keep_alive = s.keep_alive; waits = kept_waits s.waits };
+        speaks = λ e r q s. record { reached = q; carries = s.carries; peer = s.peer; no_timeout = s.no_timeout; smoltcp = s.smoltcp; keep_alive = s.keep_alive; waits = kept_waits s.waits };
       })
 
   ended : is_closing x.state ≡ true → receives o.view.state ≡ false → o.view.rx_fin_received ≡ true → o.view.rx_buffer.bytes ≡ drop n x.tx_buffer.bytes → Stopped x w h o.view → Round d t f at v w got n h
@@ -284,7 +284,7 @@ module _ (d : Duration) (t : Tuple) (f : Facts) (at : Instant) (v w : View) (got
 
     y_speaks : (e : Duration) (r : Tuple) → IsSpeaker e r w → h ≤ length w.tx_buffer.bytes → IsSpeaker e r y × (h ≤ length y.tx_buffer.bytes) × (y.state ≡ w.state)
     unfolding ack_kept
-    y_speaks e r sp within = (record { reached = j.taker.reached; carries = sp.carries; peer = sp.peer; no_timeout = sp.no_timeout; keep_alive = sp.keep_alive; waits = by sp.waits }, within, refl)
+    y_speaks e r sp within = (record { reached = j.taker.reached; carries = sp.carries; peer = sp.peer; no_timeout = sp.no_timeout; smoltcp = sp.smoltcp; keep_alive = sp.keep_alive; waits = by sp.waits }, within, refl)
       where
         by : Waits w → Waits y
         by (ForAnswer at e) = ForAnswer at e

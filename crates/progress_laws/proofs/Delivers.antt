@@ -181,11 +181,12 @@ module _ (d : Duration) (t : Tuple) (v w : View) (n h : ℕ) (i : Agreement d t 
         shift = r.shift ∙ g.shift ∙ l.shift;
         peer = r.peer ∙ g.peer ∙ l.peer;
         timeout = r.timeout ∙ g.timeout ∙ l.timeout;
+        same_rules = r.same_rules ∙ g.same_rules ∙ l.same_rules;
         keep_alive = r.keep_alive ∙ g.keep_alive ∙ l.keep_alive;
       }
 
-  like : (y : View) → y.remote_last_seq ≡ w.remote_last_seq → y.tx_buffer ≡ w.tx_buffer → y.remote_win_shift ≡ w.remote_win_shift → y.tuple ≡ w.tuple → y.timeout ≡ w.timeout → y.keep_alive ≡ w.keep_alive → Like w y
-  like y nxt tx shift peer timeout keep = record { nxt = nxt; tx = tx; shift = shift; peer = peer; timeout = timeout; keep_alive = keep }
+  like : (y : View) → y.remote_last_seq ≡ w.remote_last_seq → y.tx_buffer ≡ w.tx_buffer → y.remote_win_shift ≡ w.remote_win_shift → y.tuple ≡ w.tuple → y.timeout ≡ w.timeout → y.rules ≡ w.rules → y.keep_alive ≡ w.keep_alive → Like w y
+  like y nxt tx shift peer timeout ruled keep = record { nxt = nxt; tx = tx; shift = shift; peer = peer; timeout = timeout; same_rules = ruled; keep_alive = keep }
 
   abbrev table : TcpControl → Outcome
   table c = after_table (advance_in w.state c a.fin x (arrival now (tuple_of ip s) 0 s) a.len) (arrival now (tuple_of ip s) 0 s) a cut.offset bs
@@ -205,7 +206,7 @@ module _ (d : Duration) (t : Tuple) (v w : View) (n h : ℕ) (i : Agreement d t 
       window = mul-pos (subst (λ m. 0 < m) (sym q.field) field) (pow_pos (scale_of y.remote_win_scale))
 
   waits_on_then : WaitsOn (bytes_taken (heard x now a s) now cut.offset bs s).view
-  waits_on_then waits within field = ((took x (like x refl refl refl refl refl refl)).state, waits_from x (by waits) refl refl within field)
+  waits_on_then waits within field = ((took x (like x refl refl refl refl refl refl refl)).state, waits_from x (by waits) refl refl within field)
     where
       by : Waits w → Waits x
       by (ForAnswer at e) = ForAnswer at e
@@ -214,14 +215,14 @@ module _ (d : Duration) (t : Tuple) (v w : View) (n h : ℕ) (i : Agreement d t 
       by (ForProbe at delay e f) = ForProbe at delay e f
 
   on : Goes (bytes_taken (heard x now a s) now cut.offset bs s).view
-  on = (w.state, i.taker.state, took x (like x refl refl refl refl refl refl), waits_on_then)
+  on = (w.state, i.taker.state, took x (like x refl refl refl refl refl refl refl), waits_on_then)
 
   no_own_fin : a.fin ≡ true → h ≤ length w.tx_buffer.bytes → ⊥
   no_own_fin e within = true≢false (sym e ∙ ap (λ (m : Acked). m.fin) places ∙ not_fin w.state (length w.tx_buffer.bytes) h within)
 
   goes_rows : (st : State) → receives st ≡ true → (fin : Bool) → a.fin ≡ fin → Goes (after_table (advance_in st control.None fin x (arrival now (tuple_of ip s) 0 s) a.len) (arrival now (tuple_of ip s) 0 s) a cut.offset bs).view
   goes_rows state.Established e fin f = on
-  goes_rows state.FinWait1 e true f = (state.FinWait2, refl, took (moved_to state.FinWait2 x) (like (moved_to state.FinWait2 x) refl refl refl refl refl refl), λ waits within field. absurd (no_own_fin f within))
+  goes_rows state.FinWait1 e true f = (state.FinWait2, refl, took (moved_to state.FinWait2 x) (like (moved_to state.FinWait2 x) refl refl refl refl refl refl refl), λ waits within field. absurd (no_own_fin f within))
   goes_rows state.FinWait1 e false f = on
   goes_rows state.FinWait2 e fin f = on
   goes_rows _ e fin f = absurd cc
@@ -240,7 +241,7 @@ module _ (d : Duration) (t : Tuple) (v w : View) (n h : ℕ) (i : Agreement d t 
   counts_on : (st : State) → has_counted st ≡ true → is_closing st ≡ is_closing w.state → (st ≡ state.LastAck → ⊥) → StopsOn (after_fin (fin_counted st x))
   unfolding fin_counted
   counts_on st counted same apart c waits within field =
-      let g : Took w k h (after_fin (fin_counted st x)) st (seq_add w.remote_seq_no 1) true = took (fin_counted st x) (like (fin_counted st x) refl refl refl refl refl refl) in
+      let g : Took w k h (after_fin (fin_counted st x)) st (seq_add w.remote_seq_no 1) true = took (fin_counted st x) (like (fin_counted st x) refl refl refl refl refl refl refl) in
       (waits_from (fin_counted st x) (by waits) refl refl within field, ap has_counted g.state ∙ counted, ap is_closing g.state ∙ same, λ l. apart (sym g.state ∙ l))
     where
       by : Waits w → Waits (fin_counted st x)
@@ -251,10 +252,10 @@ module _ (d : Duration) (t : Tuple) (v w : View) (n h : ℕ) (i : Agreement d t 
 
   stops_rows : (st : State) → w.state ≡ st → receives st ≡ true → (fin : Bool) → a.fin ≡ fin → Stops (after_table (advance_in st control.Fin fin x (arrival now (tuple_of ip s) 0 s) a.len) (arrival now (tuple_of ip s) 0 s) a cut.offset bs).view
   unfolding fin_counted
-  stops_rows state.Established is e fin f = (state.CloseWait, refl, took (fin_counted state.CloseWait x) (like (fin_counted state.CloseWait x) refl refl refl refl refl refl), counts_on state.CloseWait refl (sym (ap is_closing is)) (λ l. absurd cc))
-  stops_rows state.FinWait1 is e true f = (state.TimeWait, refl, took (waiting now (fin_counted state.TimeWait x)) (like (waiting now (fin_counted state.TimeWait x)) refl refl refl refl refl refl), λ c waits within field. absurd (no_own_fin f within))
-  stops_rows state.FinWait1 is e false f = (state.Closing, refl, took (fin_counted state.Closing x) (like (fin_counted state.Closing x) refl refl refl refl refl refl), counts_on state.Closing refl (sym (ap is_closing is)) (λ l. absurd cc))
-  stops_rows state.FinWait2 is e fin f = (state.TimeWait, refl, took (waiting now (fin_counted state.TimeWait x)) (like (waiting now (fin_counted state.TimeWait x)) refl refl refl refl refl refl), λ c waits within field. absurd (true≢false (sym (ap carries_data (sym is) ∙ c))))
+  stops_rows state.Established is e fin f = (state.CloseWait, refl, took (fin_counted state.CloseWait x) (like (fin_counted state.CloseWait x) refl refl refl refl refl refl refl), counts_on state.CloseWait refl (sym (ap is_closing is)) (λ l. absurd cc))
+  stops_rows state.FinWait1 is e true f = (state.TimeWait, refl, took (waiting now (fin_counted state.TimeWait x)) (like (waiting now (fin_counted state.TimeWait x)) refl refl refl refl refl refl refl), λ c waits within field. absurd (no_own_fin f within))
+  stops_rows state.FinWait1 is e false f = (state.Closing, refl, took (fin_counted state.Closing x) (like (fin_counted state.Closing x) refl refl refl refl refl refl refl), counts_on state.Closing refl (sym (ap is_closing is)) (λ l. absurd cc))
+  stops_rows state.FinWait2 is e fin f = (state.TimeWait, refl, took (waiting now (fin_counted state.TimeWait x)) (like (waiting now (fin_counted state.TimeWait x)) refl refl refl refl refl refl refl), λ c waits within field. absurd (true≢false (sym (ap carries_data (sym is) ∙ c))))
   stops_rows _ is e fin f = absurd cc
 
   reached_then : IsReached u
@@ -269,7 +270,7 @@ module _ (d : Duration) (t : Tuple) (v w : View) (n h : ℕ) (i : Agreement d t 
     tx = g.2.tx;
     speaks = λ e r sp within field.
         let z : Waits u × (has_counted u.state ≡ true) × (is_closing u.state ≡ is_closing w.state) × (u.state ≡ state.LastAck → ⊥) = g.3 sp.carries sp.waits within field in
-        (record { reached = reached_then; carries = counted_carries u.state z.1; peer = g.2.peer ∙ sp.peer; no_timeout = g.2.timeout ∙ sp.no_timeout; keep_alive = g.2.keep_alive ∙ sp.keep_alive; waits = z.0 }, z.1, z.2, z.3);
+        (record { reached = reached_then; carries = counted_carries u.state z.1; peer = g.2.peer ∙ sp.peer; no_timeout = g.2.timeout ∙ sp.no_timeout; smoltcp = g.2.same_rules ∙ sp.smoltcp; keep_alive = g.2.keep_alive ∙ sp.keep_alive; waits = z.0 }, z.1, z.2, z.3);
   }
 
   abbrev counted : TcpControl
@@ -346,7 +347,7 @@ module _ (d : Duration) (t : Tuple) (v w : View) (n h : ℕ) (i : Agreement d t 
       speaks : Goes u → SpeaksOn v w h u
       speaks g e r sp within field =
           let z : (u.state ≡ w.state) × Waits u = g.3 sp.waits within field in
-          (record { reached = (agrees g).taker.reached; carries = ap carries_data z.0 ∙ sp.carries; peer = g.2.peer ∙ sp.peer; no_timeout = g.2.timeout ∙ sp.no_timeout; keep_alive = g.2.keep_alive ∙ sp.keep_alive; waits = z.1 }, z.0)
+          (record { reached = (agrees g).taker.reached; carries = ap carries_data z.0 ∙ sp.carries; peer = g.2.peer ∙ sp.peer; no_timeout = g.2.timeout ∙ sp.no_timeout; smoltcp = g.2.same_rules ∙ sp.smoltcp; keep_alive = g.2.keep_alive ∙ sp.keep_alive; waits = z.1 }, z.0)
 
       goes_on : counted ≡ control.None → Arrived d t v w n h s o
       goes_on e =

@@ -148,8 +148,8 @@ module _ (t : Tuple) (f : Facts) (number word : ℕ) (a b : View) (m : CanMeet t
 
 pub crossed_syns_come_again : CrossedSynsComeAgain
 crossed_syns_come_again t f at last from since number word a b v w p c here there mtu l k =
-    let m : CanMeet t f number word a b = record { versions = same_versions t a p.context p.remote p.local p.ends; here = here; there = there; number_small = p.small; word_small = c.small; no_timeout_a = p.unopened.no_timeout; no_timeout_b = c.unopened.no_timeout; not_paused_a = p.unopened.not_paused; not_paused_b = c.unopened.not_paused } in
-    let back : CanMeet (mirrored t) f word number b a = record { versions = same_versions (mirrored t) b c.context c.remote c.local c.ends; here = there; there = here; number_small = c.small; word_small = p.small; no_timeout_a = c.unopened.no_timeout; no_timeout_b = p.unopened.no_timeout; not_paused_a = c.unopened.not_paused; not_paused_b = p.unopened.not_paused } in
+    let m : CanMeet t f number word a b = record { versions = same_versions t a p.context p.remote p.local p.ends; here = here; there = there; number_small = p.small; word_small = c.small; no_timeout_a = p.unopened.no_timeout; smoltcp_a = p.unopened.smoltcp; no_timeout_b = c.unopened.no_timeout; smoltcp_b = c.unopened.smoltcp; not_paused_a = p.unopened.not_paused; not_paused_b = c.unopened.not_paused } in
+    let back : CanMeet (mirrored t) f word number b a = record { versions = same_versions (mirrored t) b c.context c.remote c.local c.ends; here = there; there = here; number_small = c.small; word_small = p.small; no_timeout_a = c.unopened.no_timeout; smoltcp_a = c.unopened.smoltcp; no_timeout_b = p.unopened.no_timeout; smoltcp_b = p.unopened.smoltcp; not_paused_a = c.unopened.not_paused; not_paused_b = p.unopened.not_paused } in
     let rv = losses_keep state.SynSent t f (connected a t number) (can t f number word a b m) at last (connected a t number) v l (begins t f number word a b m) (connected_reached t p.context number a p.remote p.local p.unopened.reached p.small p.ends) in
     let rk = losses_keep state.SynSent (mirrored t) f (connected b (mirrored t) word) (can (mirrored t) f word number b a back) from since (connected b (mirrored t) word) w k (begins (mirrored t) f word number b a back) (connected_reached (mirrored t) c.context word b c.remote c.local c.unopened.reached c.small c.ends) in
     let both = later_moment last since in

@@ -147,7 +147,7 @@ module _ (t : Tuple) (f g : Facts) (number word : ℕ) (a b : View) (remote : Ip
   reached_l = step_reached b (listened b e) (starting_if (opens_listener b e) (listened b e) o.across.reached.counts) o.across.reached (Listen e (Ok tt) (listens_so b e o.across.not_open o.port) refl)
 
   pub meets : CanMeet t f number word a b
-  meets = record { versions = same_versions t a g remote own o.ends; here = o.has_local; there = o.has_remote; number_small = o.number_small; word_small = o.word_small; no_timeout_a = o.here.no_timeout; no_timeout_b = o.across.no_timeout; not_paused_a = o.here.not_paused; not_paused_b = o.across.not_paused }
+  meets = record { versions = same_versions t a g remote own o.ends; here = o.has_local; there = o.has_remote; number_small = o.number_small; word_small = o.word_small; no_timeout_a = o.here.no_timeout; smoltcp_a = o.here.smoltcp; no_timeout_b = o.across.no_timeout; smoltcp_b = o.across.smoltcp; not_paused_a = o.here.not_paused; not_paused_b = o.across.not_paused }
 
 -- the SYN that comes has numbers
 pub numbered_first : (t : Tuple) (f : Facts) (number word : ℕ) (a b : View) (m : CanMeet t f number word a b) (now : Instant) (v : View) (r : Repeats (connected a t number) v) → IsNumbered (first t f number word a b m now v r)

@@ -191,6 +191,7 @@ pub record HeardAs (u : View) (k : TcpSeqNumber) (n win : ℕ) (x : View) : Type
   pub state : x.state ≡ u.state
   pub peer : x.tuple ≡ u.tuple
   pub timeout : x.timeout ≡ u.timeout
+  pub same_rules : x.rules ≡ u.rules
   pub keep_alive : x.keep_alive ≡ u.keep_alive
   pub scale : x.remote_win_scale ≡ u.remote_win_scale
   pub shift : x.remote_win_shift ≡ u.remote_win_shift
@@ -215,8 +216,8 @@ heard_any u now a s k number = subst (λ o. HeardAs u k a.len (window_of s.contr
     changed = is_window_changed u s.control s.window_len
 
     either : (b : Bool) → HeardAs u k a.len (window_of s.control s.window_len u.remote_win_scale) (timer_set (timestamp_taken (ack_heard b x now k a.len) s.timestamp) now a)
-    either true = record { state = refl; peer = refl; timeout = refl; keep_alive = refl; scale = refl; shift = refl; rx = refl; rcv = refl; last_ack = refl; last_win = refl; marked = refl; una = refl; nxt = refl; tx = refl; window = refl }
-    either false = record { state = refl; peer = refl; timeout = refl; keep_alive = refl; scale = refl; shift = refl; rx = refl; rcv = refl; last_ack = refl; last_win = refl; marked = refl; una = refl; nxt = refl; tx = refl; window = refl }
+    either true = record { state = refl; peer = refl; timeout = refl; same_rules = refl; keep_alive = refl; scale = refl; shift = refl; rx = refl; rcv = refl; last_ack = refl; last_win = refl; marked = refl; una = refl; nxt = refl; tx = refl; window = refl }
+    either false = record { state = refl; peer = refl; timeout = refl; same_rules = refl; keep_alive = refl; scale = refl; shift = refl; rx = refl; rcv = refl; last_ack = refl; last_win = refl; marked = refl; una = refl; nxt = refl; tx = refl; window = refl }
 
 pub heard_as : (u : View) (now : Instant) (a : Acked) (s : Segment) (k : TcpSeqNumber) → s.ack_number ≡ Some k → IsSaid s.control → HeardAs u k a.len (s.window_len * 2 ^ scale_of u.remote_win_scale) (heard u now a s)
 heard_as u now a s k number bit = subst (λ n. HeardAs u k a.len n (heard u now a s)) (scaled s.control s.window_len u.remote_win_scale bit) (heard_any u now a s k number)

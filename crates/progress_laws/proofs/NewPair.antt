@@ -26,6 +26,7 @@ use Rattle.progress_laws.proofs.Edges.{is_not_before, same_seq}
 use Rattle.progress_laws.proofs.Taking.{blank}
 use Rattle.progress_laws.proofs.Widths.{unit}
 use Rattle.tcp_laws.proofs.Scaled.{shift_within}
+use Rattle.sock_tcp.specs.declared.rules.Rules.TheVariants as rules
 
 -- ---- what a SYN tells of a window, which it does not shift
 
@@ -76,6 +77,7 @@ pub record IsNew (d : Option Duration) (t : Tuple) (room : ℕ) (v : View) : Typ
   pub established : v.state ≡ state.Established
   pub peer : v.tuple ≡ Some t
   pub no_timeout : v.timeout ≡ None
+  pub smoltcp : v.rules ≡ rules.Smoltcp
   pub keep_alive : v.keep_alive ≡ d
   pub nothing_marked : v.pending_fast_retransmit ≡ false
   pub moment : Option Instant
@@ -108,7 +110,7 @@ module _ (d : Option Duration) (t : Tuple) (room : ℕ) (v : View) (n : IsNew d 
 
   side : 0 < v.remote_win_len → IsSide d t v
   side some = record {
-    sender = record { reached = n.reached; state = ap may_send n.established; peer = n.peer; no_timeout = n.no_timeout; keep_alive = n.keep_alive; nothing_marked = n.nothing_marked; rests = idle_any v n.moment n.timer n.nxt some };
+    sender = record { reached = n.reached; state = ap may_send n.established; peer = n.peer; no_timeout = n.no_timeout; smoltcp = n.smoltcp; keep_alive = n.keep_alive; nothing_marked = n.nothing_marked; rests = idle_any v n.moment n.timer n.nxt some };
     established = n.established;
     read = n.read;
     room = room;

@@ -57,11 +57,11 @@ module _ (t : Tuple) (f : Facts) (number word : ℕ) (a b : View) (m : CanMeet t
 
   pub can : SendsSyn state.SynSent t f x
   unfolding connected renewed
-  can = record { opening = refl; state = refl; peer = refl; address = m.here; no_timeout = m.no_timeout_a; not_paused = m.not_paused_a; una_small = m.number_small }
+  can = record { opening = refl; state = refl; peer = refl; address = m.here; no_timeout = m.no_timeout_a; smoltcp = m.smoltcp_a; not_paused = m.not_paused_a; una_small = m.number_small }
 
   pub begins : Repeats x x
   unfolding connected renewed fresh
-  begins = record { same = record { state = refl; peer = refl; timeout = refl; keep_alive = refl; una = refl; tx = refl; rx = refl; rcv = refl; window = refl; scale = refl; shift = refl; paused = refl }; marked = refl; waits = NotSent None refl refl }
+  begins = record { same = record { state = refl; peer = refl; timeout = refl; same_rules = refl; keep_alive = refl; una = refl; tx = refl; rx = refl; rcv = refl; window = refl; scale = refl; shift = refl; paused = refl }; marked = refl; waits = NotSent None refl refl }
 
   pub begins_now : (now : Instant) → SynGoesOut x begins.waits now
   unfolding begins
@@ -130,7 +130,7 @@ module _ (t : Tuple) (f : Facts) (number word : ℕ) (a b : View) (m : CanMeet t
     -- ---- the other took it, and z, which it is after some dispatches, sends its SYN|ACK
 
     pub may_answer : (s : Tuple) (received : View) → f.has_address s.local.addr ≡ true → HasTakenSyn b received s word first → SendsSyn state.SynReceived s f received
-    may_answer s received there q = record { opening = refl; state = q.state; peer = q.peer; address = there; no_timeout = q.timeout ∙ m.no_timeout_b; not_paused = q.not_paused ∙ m.not_paused_b; una_small = subst (λ (n : TcpSeqNumber). n.0 < 2 ^ 32) (sym q.una) m.word_small }
+    may_answer s received there q = record { opening = refl; state = q.state; peer = q.peer; address = there; no_timeout = q.timeout ∙ m.no_timeout_b; smoltcp = q.same_rules ∙ m.smoltcp_b; not_paused = q.not_paused ∙ m.not_paused_b; una_small = subst (λ (n : TcpSeqNumber). n.0 < 2 ^ 32) (sym q.una) m.word_small }
 
     module _ (s : Tuple) (received : View) (there_s : f.has_address s.local.addr ≡ true) (q : HasTakenSyn b received s word first) (then : Instant) (z : View) (rz : Repeats received z) where
       abbrev can_z : SendsSyn state.SynReceived s f received
@@ -269,6 +269,7 @@ module _ (t : Tuple) (f : Facts) (number word : ℕ) (a b : View) (m : CanMeet t
           state = ap takes_bytes (h.state ∙ established_so);
           peer = h.peer ∙ ss.same.peer ∙ can.peer;
           no_timeout = h.timeout ∙ ss.same.timeout ∙ can.no_timeout;
+          smoltcp = h.same_rules ∙ ss.same.same_rules ∙ can.smoltcp;
           interval = subst (λ q. ForSome q (λ d. 0 < d.micros)) (sym (h.keep_alive ∙ s_keep)) interval;
           moment = idle_moment then a.keep_alive;
           timer = e_timer ∙ idle_is then a.keep_alive;
@@ -447,11 +448,11 @@ module _ (t : Tuple) (f : Facts) (number word : ℕ) (a b : View) (m : CanMeet t
 
           side_here : IsNew a.keep_alive t (room_of a.rx_buffer) settled
           unfolding cleared syn_answered options_taken
-          side_here = let c = tell.receiver in record { reached = dispatch_reached (told f then) established (Some ack_out) settled reached_e sends_ack; established = settled_state; peer = c.peer; no_timeout = c.no_timeout; keep_alive = kept.keep_alive ∙ h.keep_alive ∙ s_keep; nothing_marked = c.nothing_marked; moment = c.moment; timer = c.timer; nxt = c.nothing_in_flight; read = c.read; nothing_held = ap (λ (q : Received). q.held) (kept.rx ∙ e_rx); some = some; shift = tell.shift ∙ e_shift }
+          side_here = let c = tell.receiver in record { reached = dispatch_reached (told f then) established (Some ack_out) settled reached_e sends_ack; established = settled_state; peer = c.peer; no_timeout = c.no_timeout; smoltcp = c.smoltcp; keep_alive = kept.keep_alive ∙ h.keep_alive ∙ s_keep; nothing_marked = c.nothing_marked; moment = c.moment; timer = c.timer; nxt = c.nothing_in_flight; read = c.read; nothing_held = ap (λ (q : Received). q.held) (kept.rx ∙ e_rx); some = some; shift = tell.shift ∙ e_shift }
 
           side_across : IsNew b.keep_alive s (room_of b.rx_buffer) across
           unfolding cleared
-          side_across = record { reached = reached_across; established = o.state; peer = o.peer ∙ ans.same.peer ∙ q.peer; no_timeout = o.timeout ∙ ans.same.timeout ∙ can_z.no_timeout; keep_alive = o.keep_alive ∙ ans.same.keep_alive ∙ q.keep_alive; nothing_marked = o.marked ∙ ans.marked; moment = idle_moment then answered.keep_alive; timer = a_timer ∙ idle_is then answered.keep_alive; nxt = o.nxt ∙ ap (λ n. later_of n (next_ack settled)) a_nxt ∙ later_stays (next_ack settled) (next_ack settled) (is_not_before (next_ack settled) (next_ack settled) (omega arith)) ∙ sym o.una; read = ap (λ (q : Received). q.bytes) (o.rx ∙ answered_rx); nothing_held = ap (λ (q : Received). q.held) (o.rx ∙ answered_rx); some = some_b; shift = o.shift ∙ ans.same.shift ∙ q.shift ∙ ap window_shift wide_b }
+          side_across = record { reached = reached_across; established = o.state; peer = o.peer ∙ ans.same.peer ∙ q.peer; no_timeout = o.timeout ∙ ans.same.timeout ∙ can_z.no_timeout; smoltcp = o.same_rules ∙ ans.same.same_rules ∙ can_z.smoltcp; keep_alive = o.keep_alive ∙ ans.same.keep_alive ∙ q.keep_alive; nothing_marked = o.marked ∙ ans.marked; moment = idle_moment then answered.keep_alive; timer = a_timer ∙ idle_is then answered.keep_alive; nxt = o.nxt ∙ ap (λ n. later_of n (next_ack settled)) a_nxt ∙ later_stays (next_ack settled) (next_ack settled) (is_not_before (next_ack settled) (next_ack settled) (omega arith)) ∙ sym o.una; read = ap (λ (q : Received). q.bytes) (o.rx ∙ answered_rx); nothing_held = ap (λ (q : Received). q.held) (o.rx ∙ answered_rx); some = some_b; shift = o.shift ∙ ans.same.shift ∙ q.shift ∙ ap window_shift wide_b }
 
           agree : Agree (room_of a.rx_buffer) (room_of b.rx_buffer) settled across
           agree = record {

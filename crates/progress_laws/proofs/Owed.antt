@@ -166,6 +166,7 @@ module _ (s : Tuple) (w : View) (room n : ℕ) (y : View) (f : Facts) (now : Ins
           state = ap takes_bytes l.same.state ∙ takes_on;
           peer = l.same.peer ∙ al.same.peer ∙ o.peer;
           no_timeout = l.same.timeout ∙ al.same.timeout ∙ o.no_timeout;
+          smoltcp = l.same.same_rules ∙ al.same.same_rules ∙ o.smoltcp;
           interval = subst (λ q. ForSome q (λ e. 0 < e.micros)) (sym (l.same.keep_alive ∙ al.same.keep_alive)) o.interval;
           moment = idle_moment now y.keep_alive;
           timer = new_timer ∙ idle_is now y.keep_alive;
@@ -264,6 +265,7 @@ module _ (s : Tuple) (w : View) (room n : ℕ) (y : View) (f : Facts) (now : Ins
             state = ap takes_bytes l.same.state ∙ takes_on;
             peer = l.same.peer ∙ al.same.peer ∙ o.peer;
             no_timeout = l.same.timeout ∙ al.same.timeout ∙ o.no_timeout;
+            smoltcp = l.same.same_rules ∙ al.same.same_rules ∙ o.smoltcp;
             interval = subst (λ q. ForSome q (λ e. 0 < e.micros)) (sym (l.same.keep_alive ∙ al.same.keep_alive)) o.interval;
             moment = idle_moment now u.keep_alive;
             timer = plain_timer u s now b opens true (rw long refl) ∙ ap (λ tm. keep_alive_renewed tm now u.keep_alive) idle ∙ idle_is now u.keep_alive;

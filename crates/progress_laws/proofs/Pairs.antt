@@ -61,7 +61,7 @@ open_or_closing _ c = absurd cc
 
 module _ {G : Type 0} (h o : HostView G) (i : IsHost h) (peer : HasPeer h o.endpoint) where
   speaker : (d : Duration) → MaySpeak d h → IsSpeaker d (tuple_to h o.endpoint) h.control_block
-  speaker d s = record { reached = i.reached; carries = s.carries; peer = peered h.control_block.state h.control_block.tuple (tuple_to h o.endpoint) s.carries peer; no_timeout = s.no_timeout; keep_alive = s.keep_alive; waits = s.waits }
+  speaker d s = record { reached = i.reached; carries = s.carries; peer = peered h.control_block.state h.control_block.tuple (tuple_to h o.endpoint) s.carries peer; no_timeout = s.no_timeout; smoltcp = s.smoltcp; keep_alive = s.keep_alive; waits = s.waits }
 
   taker : MayTake h → IsTaking h.control_block
   taker s = record { reached = i.reached; state = s.receives; room = s.place }

@@ -101,7 +101,7 @@ from_end e = record { addr = Some e.addr; port = e.port }
 
 unopened : IsUnopened start
 unfolding fresh
-unopened = record { reached = start_reached; not_open = refl; no_timeout = refl; interval = λ d e. subst (λ (q : Duration). 0 < q.micros) (same_Some interval d e) (omega arith); not_paused = refl; some = omega arith }
+unopened = record { reached = start_reached; not_open = refl; no_timeout = refl; smoltcp = refl; interval = λ d e. subst (λ (q : Duration). 0 < q.micros) (same_Some interval d e) (omega arith); not_paused = refl; some = omega arith }
 
 opened : AreOpened ends context context 1000 5000 start start (end 2 80) (from_end (end 1 49152)) (from_end (end 2 80))
 unfolding fresh
@@ -193,11 +193,11 @@ due = record { micros = pos 15000000 }
 
 here_speaks : IsSpeaker interval ends here
 unfolding connected renewed fresh processed_by verdict_at processed_inside advanced syn_answered options_taken acked_at heard window_taken released duplicate_counted ack_counted una_advanced acknowledged timestamp_taken timer_set bytes_taken later_of is_before number_is_before number_distance cleared
-here_speaks = record { reached = here_reached; carries = refl; peer = refl; no_timeout = refl; keep_alive = refl; waits = ForKeepAlive (Some due) refl (inr refl) }
+here_speaks = record { reached = here_reached; carries = refl; peer = refl; no_timeout = refl; smoltcp = refl; keep_alive = refl; waits = ForKeepAlive (Some due) refl (inr refl) }
 
 across_speaks : IsSpeaker interval (mirrored ends) across
 unfolding connected renewed fresh processed_by verdict_at processed_inside advanced syn_answered options_taken acked_at heard window_taken released duplicate_counted ack_counted una_advanced acknowledged timestamp_taken timer_set bytes_taken later_of is_before number_is_before number_distance cleared
-across_speaks = record { reached = across_reached; carries = refl; peer = refl; no_timeout = refl; keep_alive = refl; waits = ForKeepAlive (Some due) refl (inr refl) }
+across_speaks = record { reached = across_reached; carries = refl; peer = refl; no_timeout = refl; smoltcp = refl; keep_alive = refl; waits = ForKeepAlive (Some due) refl (inr refl) }
 
 here_takes : IsTaking here
 unfolding connected renewed fresh processed_by verdict_at processed_inside advanced syn_answered options_taken acked_at heard window_taken released duplicate_counted ack_counted una_advanced acknowledged timestamp_taken timer_set bytes_taken later_of is_before number_is_before number_distance cleared
@@ -234,11 +234,11 @@ side v e = record (new_host v e None) { control_block = v }
 
 here_may_speak : MaySpeak interval (side here ends.local)
 unfolding connected renewed fresh processed_by verdict_at processed_inside advanced syn_answered options_taken acked_at heard window_taken released duplicate_counted ack_counted una_advanced acknowledged timestamp_taken timer_set bytes_taken later_of is_before number_is_before number_distance cleared
-here_may_speak = record { carries = refl; closed = λ e. absurd (true≢false (sym e)); no_timeout = refl; keep_alive = refl; waits = here_speaks.waits }
+here_may_speak = record { carries = refl; closed = λ e. absurd (true≢false (sym e)); no_timeout = refl; smoltcp = refl; keep_alive = refl; waits = here_speaks.waits }
 
 across_may_speak : MaySpeak interval (side across ends.remote)
 unfolding connected renewed fresh processed_by verdict_at processed_inside advanced syn_answered options_taken acked_at heard window_taken released duplicate_counted ack_counted una_advanced acknowledged timestamp_taken timer_set bytes_taken later_of is_before number_is_before number_distance cleared
-across_may_speak = record { carries = refl; closed = λ e. absurd (true≢false (sym e)); no_timeout = refl; keep_alive = refl; waits = across_speaks.waits }
+across_may_speak = record { carries = refl; closed = λ e. absurd (true≢false (sym e)); no_timeout = refl; smoltcp = refl; keep_alive = refl; waits = across_speaks.waits }
 
 here_may_take : MayTake (side here ends.local)
 unfolding connected renewed fresh processed_by verdict_at processed_inside advanced syn_answered options_taken acked_at heard window_taken released duplicate_counted ack_counted una_advanced acknowledged timestamp_taken timer_set bytes_taken later_of is_before number_is_before number_distance cleared

@@ -28,6 +28,7 @@ use Rattle.progress_laws.proofs.Hears.{HeardAs, IsData, all_no_duplicate, data_i
 use Rattle.progress_laws.proofs.States.{flat_steady, is_steady, takes_flat}
 use Rattle.progress_laws.proofs.Taking.{at_once, blank, blank_holds_nothing, read_bytes, read_held, take_all, taken_bytes, taken_held}
 use Rattle.progress_laws.proofs.Widths.{start_is, told_window, unit_some}
+use Rattle.sock_tcp.specs.declared.rules.Rules.TheVariants as rules
 
 -- ---- what is told
 
@@ -48,6 +49,7 @@ pub record Owes (s : Tuple) (w : View) (room n : ℕ) (y : View) : Type 0 where
   pub state : takes_bytes y.state ≡ true
   pub peer : y.tuple ≡ Some s
   pub no_timeout : y.timeout ≡ None
+  pub smoltcp : y.rules ≡ rules.Smoltcp
   pub interval : ForSome y.keep_alive (λ e. 0 < e.micros)
   pub moment : Option Instant
   pub timer : y.timer ≡ timer.Idle moment
@@ -124,6 +126,7 @@ module _ (s : Tuple) (w : View) (r : IsReceiver s w) where
             state = r.state;
             peer = r.peer;
             no_timeout = r.no_timeout;
+            smoltcp = r.smoltcp;
             interval = r.interval;
             moment = r.moment;
             timer = r.timer;
@@ -220,6 +223,7 @@ module _ (s : Tuple) (w : View) (r : IsReceiver s w) where
         state = ap takes_bytes hears.state ∙ r.state;
         peer = hears.peer ∙ r.peer;
         no_timeout = hears.timeout ∙ r.no_timeout;
+        smoltcp = hears.same_rules ∙ r.smoltcp;
         interval = subst (λ o. ForSome o (λ e. 0 < e.micros)) (sym hears.keep_alive) r.interval;
         moment = idle_moment now w.keep_alive;
         timer = heard_rests_empty (seen w now 0 ip g w.local_seq_no flat ack bit) now (covered w now 0 ip g w.local_seq_no flat ack bit) g w.local_seq_no ack (data_is_said g.control bit) (all_no_duplicate (seen w now 0 ip g w.local_seq_no flat ack bit) now (covered w now 0 ip g w.local_seq_no flat ack bit) g w.local_seq_no (is_not_before w.local_seq_no w.remote_last_seq (omega (arith, una_small, ap (λ (n : TcpSeqNumber). n.0) r.nothing_in_flight)))) r.moment r.timer r.nothing_to_send ∙ idle_is now w.keep_alive;

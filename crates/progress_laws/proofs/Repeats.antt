@@ -23,10 +23,11 @@ use Rattle.sock_tcp.specs.declared.timer.Timer.TheVariants as timer
 use Rattle.sock_tcp.specs.declared.tuple.Tuple.{Tuple}
 use Rattle.progress_laws.specs.InStep.{told}
 use Rattle.progress_laws.specs.Speech.{DispatchesOk, GoesOn}
-use Rattle.progress_laws.proofs.Begins.{Alike, Goes, Same, and_no, beginning, goes, lent_for, readied_alike, same_again, same_then, sends_so, stamp_for, stamp_is}
+use Rattle.progress_laws.proofs.Begins.{Alike, Goes, Same, and_no, beginning, begun_idle, goes, lent_for, readied_alike, same_again, same_then, sends_so, stamp_for, stamp_is}
 use Rattle.progress_laws.proofs.Edges.{is_earlier, is_not_before, later_is, later_stays}
 use Rattle.progress_laws.proofs.Hears.{idle_is, idle_moment}
 use Rattle.progress_laws.proofs.Sends.{SentOf, left, plain_sent, plain_timer, plain_told}
+use Rattle.sock_tcp.specs.declared.rules.Rules.TheVariants as rules
 
 -- ---- the states in which a SYN is sent
 
@@ -104,6 +105,7 @@ pub record SendsSyn (st : State) (t : Tuple) (f : Facts) (x : View) : Type 0 whe
   pub peer : x.tuple ≡ Some t
   pub address : f.has_address t.local.addr ≡ true
   pub no_timeout : x.timeout ≡ None
+  pub smoltcp : x.rules ≡ rules.Smoltcp
   pub not_paused : x.synack_paused ≡ false
   pub una_small : x.local_seq_no.0 < 2 ^ 32
 
@@ -144,7 +146,7 @@ module _ (st : State) (t : Tuple) (f : Facts) (x : View) (c : SendsSyn st t f x)
 
   anew_so : Repeats x (retransmission_begun z now)
   unfolding retransmission_begun
-  anew_so = record { same = same_then readied_so.same (same_again z now); marked = readied_so.marked; waits = NotSent (idle_moment now z.keep_alive) (idle_is now z.keep_alive) refl }
+  anew_so = record { same = same_then readied_so.same (same_again z now); marked = readied_so.marked; waits = NotSent (idle_moment now z.keep_alive) (begun_idle z now (al.same.same_rules ∙ r.same.same_rules ∙ c.smoltcp) ∙ idle_is now z.keep_alive) refl }
 
   anew_nxt : (retransmission_begun z now).remote_last_seq ≡ (retransmission_begun z now).local_seq_no
   unfolding retransmission_begun

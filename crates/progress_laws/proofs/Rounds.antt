@@ -302,6 +302,7 @@ module _ (d : Option Duration) (t s : Tuple) (f : Facts) (mtu : IsMtu f.mtu) (he
         state = ap may_send q.waits.same.state ∙ i.sender.state;
         peer = q.waits.same.peer ∙ i.sender.peer;
         no_timeout = q.waits.same.timeout ∙ i.sender.no_timeout;
+        smoltcp = q.waits.same.same_rules ∙ i.sender.smoltcp;
         keep_alive = q.waits.same.keep_alive ∙ i.sender.keep_alive;
         nothing_marked = q.waits.nothing_marked;
         rests = ForKeepAlive q.moment q.timer q.nxt;

@@ -32,13 +32,15 @@ use Rattle.tcp_laws.proofs.Probing.{IsProbing, ProbesIn, before_probing, reached
 use Rattle.tcp_laws.proofs.Repeating.{empty_parts}
 use Rattle.progress_laws.specs.Speech.{DispatchesOk, FromUna, IsPastTimer, KeepsAlive, Probes, Says, SendsOk, SpeaksPastItsTimers, SpeaksWithin, Speech}
 use Rattle.progress_laws.proofs.Lends.{marked_some, probe_byte}
-use Rattle.progress_laws.proofs.Begins.{Goes, Alike, and_no, beginning, carries_runs, content_is, dispatch_reached, goes, not_empty, not_zero, readied_alike, segment_for}
+use Rattle.sock_tcp.specs.declared.rules.Rules.TheVariants as rules
+use Rattle.progress_laws.proofs.Begins.{Goes, Alike, and_no, beginning, begun_idle, carries_runs, content_is, dispatch_reached, goes, not_empty, not_zero, readied_alike, segment_for}
 
 -- ---- a socket that has to say something
 
 pub record HasToSay (d : Duration) (v : View) : Type 0 where
   pub reached : IsReached v
   pub keep_alive : v.keep_alive ≡ Some d
+  pub smoltcp : v.rules ≡ rules.Smoltcp
   pub carries : carries_data v.state ≡ true
   pub waits : HasToSend v
 
@@ -106,6 +108,7 @@ record LeftOf (u w : View) : Type 0 where
   state : w.state ≡ u.state
   tx : w.tx_buffer ≡ u.tx_buffer
   keep_alive : w.keep_alive ≡ u.keep_alive
+  ruled : w.rules ≡ u.rules
   una : w.local_seq_no ≡ u.local_seq_no
 
 module _ (u : View) (p : Tuple) (now : Instant) (s : Segment) where
@@ -123,8 +126,8 @@ module _ (u : View) (p : Tuple) (now : Instant) (s : Segment) where
       x = snd_nxt_moved (after_any u now) e
 
       go : (z : Bool) → LeftOf u (if z then x else record x { rtte = sent x.rtte now e.end; timer = retransmit_unless_set x.timer now x.rtte; congestion_controller = post_transmitted x.congestion_controller now e.len })
-      go true = record { state = refl; tx = refl; keep_alive = refl; una = refl }
-      go false = record { state = refl; tx = refl; keep_alive = refl; una = refl }
+      go true = record { state = refl; tx = refl; keep_alive = refl; ruled = refl; una = refl }
+      go false = record { state = refl; tx = refl; keep_alive = refl; ruled = refl; una = refl }
 
   -- with a byte or a FIN
   timed : 0 < segment_len s → plain_left.timer ≡ retransmit_unless_set (keep_alive_renewed u.timer now u.keep_alive) now u.rtte
@@ -145,10 +148,11 @@ not_after_itself a b e = go (is_before a b)
     go false = refl
 
 -- what a dispatch that goes on leaves still has to be said
-still_says : (d : Duration) (f : Facts) (v : View) (out : Option Sending) (w : View) → HasToSay d v → DispatchesOk f v out w → w.state ≡ v.state → w.tx_buffer ≡ v.tx_buffer → w.keep_alive ≡ v.keep_alive → HasToSay d w
-still_says d f v out w s k state tx keep = record {
+still_says : (d : Duration) (f : Facts) (v : View) (out : Option Sending) (w : View) → HasToSay d v → DispatchesOk f v out w → w.state ≡ v.state → w.tx_buffer ≡ v.tx_buffer → w.keep_alive ≡ v.keep_alive → w.rules ≡ v.rules → HasToSay d w
+still_says d f v out w s k state tx keep ruled = record {
   reached = dispatch_reached f v out w s.reached k;
   keep_alive = keep ∙ s.keep_alive;
+  smoltcp = ruled ∙ s.smoltcp;
   carries = ap carries_data state ∙ s.carries;
   waits = by s.waits;
 }
@@ -186,7 +190,7 @@ probe_due u t f e = by (data_due u t f || is_reached (ack_poll u) (moment_of f) 
 
 module _ (d : Duration) (t : Tuple) where
   -- what goes out of u, where v had to say something
-  module _ (f : Facts) (v u : View) (out : Option Sending) (w : View) (s : HasToSay d v) (k : DispatchesOk f v out w) (o : SendsOk f t u out w) (state : u.state ≡ v.state) (tx : u.tx_buffer ≡ v.tx_buffer) (keep : u.keep_alive ≡ v.keep_alive) where
+  module _ (f : Facts) (v u : View) (out : Option Sending) (w : View) (s : HasToSay d v) (k : DispatchesOk f v out w) (o : SendsOk f t u out w) (state : u.state ≡ v.state) (tx : u.tx_buffer ≡ v.tx_buffer) (keep : u.keep_alive ≡ v.keep_alive) (ruled : u.rules ≡ v.rules) where
     abbrev g : Segment
     g = segment_for u t o.stamp o.bytes
 
@@ -207,7 +211,7 @@ module _ (d : Duration) (t : Tuple) where
     plain_says e =
         let l = left_of u t (moment_of f) g in
         let is = left_plain e in
-        still_says d f v out w s k (ap (λ (x : View). x.state) is ∙ l.state ∙ state) (ap (λ (x : View). x.tx_buffer) is ∙ l.tx ∙ tx) (ap (λ (x : View). x.keep_alive) is ∙ l.keep_alive ∙ keep)
+        still_says d f v out w s k (ap (λ (x : View). x.state) is ∙ l.state ∙ state) (ap (λ (x : View). x.tx_buffer) is ∙ l.tx ∙ tx) (ap (λ (x : View). x.keep_alive) is ∙ l.keep_alive ∙ keep) (ap (λ (x : View). x.rules) is ∙ l.ruled ∙ ruled)
 
     waits : HasToSend u
     waits = by s.waits
@@ -259,9 +263,9 @@ module _ (d : Duration) (t : Tuple) where
 
       sends : SendsOk f t u out w → Says v out
       sends o = elim (says_or_ack v u t f o.stamp o.bytes still.same.una at_front (idle_quiet v at is f h)) [
-        | inl h ↦ said f v u out w s k o still.same.state still.same.tx still.same.keep_alive h
+        | inl h ↦ said f v u out w s k o still.same.state still.same.tx still.same.keep_alive still.same.same_rules h
         | inr q ↦ elim (keeps_or_bytes v u t f o.stamp o.bytes still.same.una (idle_quiet v at is f h) (idle_over v at is f h)) [
-          | inl h ↦ said f v u out w s k o still.same.state still.same.tx still.same.keep_alive h
+          | inl h ↦ said f v u out w s k o still.same.state still.same.tx still.same.keep_alive still.same.same_rules h
           | inr r ↦ absurd (omega (arith, q.1, r.1))
         ]
       ]
@@ -286,11 +290,14 @@ module _ (d : Duration) (t : Tuple) where
       u_is : beginning v t f h.on (carries_runs v.state v.synack_paused s.carries) ≡ u
       u_is = ap (λ tm. after_timer tm x (moment_of f)) is ∙ ap (λ c. if c then u else x) over
 
+      idle_now : u.timer ≡ idle_from (moment_of f) x.keep_alive
+      idle_now = begun_idle x (moment_of f) (still.same.same_rules ∙ s.smoltcp)
+
       kept : u.timer ≡ timer.Idle (Some (after (moment_of f) d))
-      kept = ap (λ o. idle_from (moment_of f) o) (still.same.keep_alive ∙ s.keep_alive)
+      kept = idle_now ∙ ap (λ o. idle_from (moment_of f) o) (still.same.keep_alive ∙ s.keep_alive)
 
       no_probing : is_probing u (moment_of f) ≡ false
-      no_probing = no_probe u (moment_of f) (idle_no_probe (moment_of f) x.keep_alive)
+      no_probing = no_probe u (moment_of f) (ap (λ tm. is_probe_over tm (moment_of f)) idle_now ∙ idle_no_probe (moment_of f) x.keep_alive)
 
       small : v.local_seq_no.0 < 2 ^ 32
       small = (reached_ordered v s.reached).una_small
@@ -299,23 +306,23 @@ module _ (d : Duration) (t : Tuple) where
       next y q e a = front_says n y (after (moment_of f) d) q e a
 
       quiet : w ≡ u → SpeaksWithin (suc n) w t
-      quiet e = next w (still_says d f v out w s k (ap (λ (y : View). y.state) e ∙ still.same.state) (ap (λ (y : View). y.tx_buffer) e ∙ still.same.tx) (ap (λ (y : View). y.keep_alive) e ∙ still.same.keep_alive)) (ap (λ (y : View). y.timer) e ∙ kept) (inr (ap (λ (y : View). y.remote_last_seq) e ∙ ap (λ (y : View). y.local_seq_no) (sym e)))
+      quiet e = next w (still_says d f v out w s k (ap (λ (y : View). y.state) e ∙ still.same.state) (ap (λ (y : View). y.tx_buffer) e ∙ still.same.tx) (ap (λ (y : View). y.keep_alive) e ∙ still.same.keep_alive) (ap (λ (y : View). y.rules) e ∙ still.same.same_rules)) (ap (λ (y : View). y.timer) e ∙ kept) (inr (ap (λ (y : View). y.remote_last_seq) e ∙ ap (λ (y : View). y.local_seq_no) (sym e)))
 
       -- an acknowledgement alone leaves SND.NXT at SND.UNA
       acked : (o : SendsOk f t u out w) → emission_kind u (moment_of f) (segment_for u t o.stamp o.bytes) ≡ kind.Plain → segment_len (segment_for u t o.stamp o.bytes) ≡ 0 → SpeaksWithin (suc n) w t
       acked o e none =
           let b = segment_for u t o.stamp o.bytes in
           let y : View = snd_nxt_moved (after_any u (moment_of f)) (emitted_as kind.Plain b) in
-          let w_is : w ≡ y = left_plain f v u out w s k o still.same.state still.same.tx still.same.keep_alive e ∙ untimed u t (moment_of f) b none in
+          let w_is : w ≡ y = left_plain f v u out w s k o still.same.state still.same.tx still.same.keep_alive still.same.same_rules e ∙ untimed u t (moment_of f) b none in
           let number : b.seq_number ≡ u.local_seq_no = front_number u.pending_fast_retransmit u.local_seq_no u.remote_last_seq (inr refl) in
           let here : seq_add b.seq_number (segment_len b) ≡ u.local_seq_no = ap₂ seq_add number none ∙ ap (λ m. record { 0 = m }) (omega (arith, small, ap (λ (m : TcpSeqNumber). m.0) still.same.una)) in
-          next w (plain_says f v u out w s k o still.same.state still.same.tx still.same.keep_alive e)
-          (ap (λ (z : View). z.timer) w_is ∙ ap (λ tm. keep_alive_renewed tm (moment_of f) x.keep_alive) kept ∙ kept)
+          next w (plain_says f v u out w s k o still.same.state still.same.tx still.same.keep_alive still.same.same_rules e)
+          (ap (λ (z : View). z.timer) w_is ∙ ap (λ tm. keep_alive_renewed tm (moment_of f) x.keep_alive) kept ∙ ap (λ o. idle_from (moment_of f) o) (still.same.keep_alive ∙ s.keep_alive))
           (inr (ap (λ (z : View). z.remote_last_seq) w_is ∙ not_after_itself u.local_seq_no (seq_add b.seq_number (segment_len b)) here ∙ ap (λ (z : View). z.local_seq_no) (sym w_is)))
 
       sends : SendsOk f t u out w → Says v out ⊎ SpeaksWithin (suc n) w t
       sends o = elim (says_or_ack v u t f o.stamp o.bytes still.same.una (inr refl) no_probing) [
-        | inl h ↦ inl (said f v u out w s k o still.same.state still.same.tx still.same.keep_alive h)
+        | inl h ↦ inl (said f v u out w s k o still.same.state still.same.tx still.same.keep_alive still.same.same_rules h)
         | inr q ↦ inr (acked o q.0 q.1)
       ]
 
@@ -338,8 +345,8 @@ module _ (d : Duration) (t : Tuple) where
 
       sends : SendsOk f t u out w → Says v out ⊎ SpeaksWithin (suc (suc n)) w t
       sends o = elim (keeps_or_bytes v u t f o.stamp o.bytes still.same.una (idle_quiet v at is f h) (idle_over v at is f h)) [
-        | inl h ↦ inl (said f v u out w s k o still.same.state still.same.tx still.same.keep_alive h)
-        | inr q ↦ inr (again_says n w (after (moment_of f) (rto_of u.rtte)) (plain_says f v u out w s k o still.same.state still.same.tx still.same.keep_alive q.0) (ap (λ (z : View). z.timer) (left_plain f v u out w s k o still.same.state still.same.tx still.same.keep_alive q.0) ∙ timed u t (moment_of f) (segment_for u t o.stamp o.bytes) q.1 ∙ ap (λ tm. retransmit_unless_set tm (moment_of f) u.rtte) waited_for))
+        | inl h ↦ inl (said f v u out w s k o still.same.state still.same.tx still.same.keep_alive still.same.same_rules h)
+        | inr q ↦ inr (again_says n w (after (moment_of f) (rto_of u.rtte)) (plain_says f v u out w s k o still.same.state still.same.tx still.same.keep_alive still.same.same_rules q.0) (ap (λ (z : View). z.timer) (left_plain f v u out w s k o still.same.state still.same.tx still.same.keep_alive still.same.same_rules q.0) ∙ timed u t (moment_of f) (segment_for u t o.stamp o.bytes) q.1 ∙ ap (λ tm. retransmit_unless_set tm (moment_of f) u.rtte) waited_for))
       ]
 
   -- a fast retransmission stands at SND.UNA, or its mark is left for the next segment
@@ -363,12 +370,12 @@ module _ (d : Duration) (t : Tuple) where
       no_probing = no_probe u (moment_of f) (idle_no_probe (moment_of f) x.keep_alive)
 
       quiet : w ≡ u → SpeaksWithin (suc n) w t
-      quiet e = front_says n w (after (moment_of f) d) (still_says d f v out w s k (ap (λ (y : View). y.state) e ∙ still.same.state) (ap (λ (y : View). y.tx_buffer) e ∙ still.same.tx) (ap (λ (y : View). y.keep_alive) e ∙ still.same.keep_alive)) (ap (λ (y : View). y.timer) e ∙ ap (λ o. idle_from (moment_of f) o) (still.same.keep_alive ∙ s.keep_alive)) (inl (ap (λ (y : View). y.pending_fast_retransmit) e))
+      quiet e = front_says n w (after (moment_of f) d) (still_says d f v out w s k (ap (λ (y : View). y.state) e ∙ still.same.state) (ap (λ (y : View). y.tx_buffer) e ∙ still.same.tx) (ap (λ (y : View). y.keep_alive) e ∙ still.same.keep_alive) (ap (λ (y : View). y.rules) e ∙ still.same.same_rules)) (ap (λ (y : View). y.timer) e ∙ ap (λ o. idle_from (moment_of f) o) (still.same.keep_alive ∙ s.keep_alive)) (inl (ap (λ (y : View). y.pending_fast_retransmit) e))
 
       sends : (o : SendsOk f t u out w) → IsProbing u → Says v out
       sends o i = elim (says_or_ack v u t f o.stamp o.bytes still.same.una (inl refl) no_probing) [
-        | inl h ↦ said f v u out w s k o still.same.state still.same.tx still.same.keep_alive h
-        | inr q ↦ let some = marked_some u t f o.stamp o.bytes lawful.1.0 i.mss (ap carries_data still.same.state ∙ s.carries) o.lent refl (waits f v u out w s k o still.same.state still.same.tx still.same.keep_alive) in absurd (omega (arith, some, q.1))
+        | inl h ↦ said f v u out w s k o still.same.state still.same.tx still.same.keep_alive still.same.same_rules h
+        | inr q ↦ let some = marked_some u t f o.stamp o.bytes lawful.1.0 i.mss (ap carries_data still.same.state ∙ s.carries) o.lent refl (waits f v u out w s k o still.same.state still.same.tx still.same.keep_alive still.same.same_rules) in absurd (omega (arith, some, q.1))
       ]
 
       by : Goes v t f h.on (carries_runs v.state v.synack_paused s.carries) out w → Says v out ⊎ SpeaksWithin (suc n) w t
@@ -411,13 +418,13 @@ module _ (d : Duration) (t : Tuple) where
 
           marked : (m : Bool) → u.pending_fast_retransmit ≡ m → Says v out
           marked true m = elim (says_or_ack v u t f o.stamp o.bytes still.same.una (inl m) (rw (carries_on, m) refl)) [
-            | inl h ↦ said f v u out w s k o still.same.state still.same.tx still.same.keep_alive h
-            | inr q ↦ let some = marked_some u t f o.stamp o.bytes lawful.1.0 i.mss carries_on o.lent m (waits f v u out w s k o still.same.state still.same.tx still.same.keep_alive) in absurd (omega (arith, some, q.1))
+            | inl h ↦ said f v u out w s k o still.same.state still.same.tx still.same.keep_alive still.same.same_rules h
+            | inr q ↦ let some = marked_some u t f o.stamp o.bytes lawful.1.0 i.mss carries_on o.lent m (waits f v u out w s k o still.same.state still.same.tx still.same.keep_alive still.same.same_rules) in absurd (omega (arith, some, q.1))
           ]
           marked false m =
               let probing : is_probing u (moment_of f) ≡ true = rw (carries_on, m, shut, over) refl in
               let b = segment_for u t o.stamp o.bytes in
-              said f v u out w s k o still.same.state still.same.tx still.same.keep_alive (as_kind v u t f o.stamp o.bytes still.same.una kind.Probe (rw probing refl) (probed o m (probe_byte u t f o.stamp o.bytes lawful.1.0 i.mss carries_on o.lent m probing)))
+              said f v u out w s k o still.same.state still.same.tx still.same.keep_alive still.same.same_rules (as_kind v u t f o.stamp o.bytes still.same.una kind.Probe (rw probing refl) (probed o m (probe_byte u t f o.stamp o.bytes lawful.1.0 i.mss carries_on o.lent m probing)))
 
       by : Goes v t f h.on (carries_runs v.state v.synack_paused s.carries) out w → Says v out
       by (inl o) = sends (subst (λ y. SendsOk f t y out w) u_is o.0) (subst IsProbing (o.1 ∙ u_is) (before_probing f v (reached_probing v s.reached)))
@@ -434,10 +441,10 @@ sooner (suc n) v t h = λ f out w lawful past k. by w out (h f out w lawful past
     by w out (inr r) more = inr (more r)
 
 pub speaks_past_its_timers : SpeaksPastItsTimers
-speaks_past_its_timers v t d r keep c w = by v.timer refl
+speaks_past_its_timers v t d r keep ruled c w = by v.timer refl
   where
     s : HasToSay d v
-    s = record { reached = r; keep_alive = keep; carries = c; waits = w }
+    s = record { reached = r; keep_alive = keep; smoltcp = ruled; carries = c; waits = w }
 
     by : (tm : Timer) → v.timer ≡ tm → SpeaksWithin 3 v t
     by (timer.Idle None) is = λ f out w lawful h k. absurd (true≢false (sym h.over ∙ ap (λ tm. is_reached (timer_poll tm) (moment_of f)) is))

@@ -76,8 +76,8 @@ module _ (u : View) (p : Tuple) (now : Instant) (s : Segment) (not_closed : is_c
       peer = ap (λ b. if b then None else u.tuple) not_closed
 
       go : (z : Bool) → SentOf u (timed_if z)
-      go true = record { same = record { state = refl; peer = peer; timeout = refl; keep_alive = refl; una = refl; tx = refl; rx = refl; rcv = refl; window = refl; scale = refl; shift = refl; paused = refl }; marked = refl }
-      go false = record { same = record { state = refl; peer = peer; timeout = refl; keep_alive = refl; una = refl; tx = refl; rx = refl; rcv = refl; window = refl; scale = refl; shift = refl; paused = refl }; marked = refl }
+      go true = record { same = record { state = refl; peer = peer; timeout = refl; same_rules = refl; keep_alive = refl; una = refl; tx = refl; rx = refl; rcv = refl; window = refl; scale = refl; shift = refl; paused = refl }; marked = refl }
+      go false = record { same = record { state = refl; peer = peer; timeout = refl; same_rules = refl; keep_alive = refl; una = refl; tx = refl; rx = refl; rcv = refl; window = refl; scale = refl; shift = refl; paused = refl }; marked = refl }
 
   pub plain_told : TellsAs u s (left kind.Plain)
   unfolding after_sending sending_timed snd_nxt_moved after_any
@@ -94,7 +94,7 @@ module _ (u : View) (p : Tuple) (now : Instant) (s : Segment) (not_closed : is_c
 
   pub probe_sent : SentOf u (left kind.Probe)
   unfolding after_sending after_any after_probe
-  probe_sent = record { same = record { state = refl; peer = refl; timeout = refl; keep_alive = refl; una = refl; tx = refl; rx = refl; rcv = refl; window = refl; scale = refl; shift = refl; paused = refl }; marked = refl }
+  probe_sent = record { same = record { state = refl; peer = refl; timeout = refl; same_rules = refl; keep_alive = refl; una = refl; tx = refl; rx = refl; rcv = refl; window = refl; scale = refl; shift = refl; paused = refl }; marked = refl }
 
   pub probe_untold : Untold u (left kind.Probe)
   unfolding after_sending after_any after_probe
@@ -110,7 +110,7 @@ module _ (u : View) (p : Tuple) (now : Instant) (s : Segment) (not_closed : is_c
 
   pub kept_sent : SentOf u (left kind.KeepAlive)
   unfolding after_sending after_any
-  kept_sent = record { same = record { state = refl; peer = refl; timeout = refl; keep_alive = refl; una = refl; tx = refl; rx = refl; rcv = refl; window = refl; scale = refl; shift = refl; paused = refl }; marked = refl }
+  kept_sent = record { same = record { state = refl; peer = refl; timeout = refl; same_rules = refl; keep_alive = refl; una = refl; tx = refl; rx = refl; rcv = refl; window = refl; scale = refl; shift = refl; paused = refl }; marked = refl }
 
   pub kept_nxt : (left kind.KeepAlive).remote_last_seq ≡ u.remote_last_seq
   unfolding after_sending after_any

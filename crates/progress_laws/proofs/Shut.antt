@@ -234,7 +234,7 @@ module _ (d e : Option Duration) (t s : Tuple) (f : Facts) (at now : Instant) (s
       side_then =
           let h = p.speaks.waits in
           record {
-            sender = record { reached = h.reached; state = ap may_send h.same.state ∙ i.here.sender.state; peer = h.same.peer ∙ i.here.sender.peer; no_timeout = h.same.timeout ∙ i.here.sender.no_timeout; keep_alive = h.same.keep_alive ∙ i.here.sender.keep_alive; nothing_marked = h.nothing_marked; rests = ForProbe later delay again nxt_then some_then };
+            sender = record { reached = h.reached; state = ap may_send h.same.state ∙ i.here.sender.state; peer = h.same.peer ∙ i.here.sender.peer; no_timeout = h.same.timeout ∙ i.here.sender.no_timeout; smoltcp = h.same.same_rules ∙ i.here.sender.smoltcp; keep_alive = h.same.keep_alive ∙ i.here.sender.keep_alive; nothing_marked = h.nothing_marked; rests = ForProbe later delay again nxt_then some_then };
             established = h.same.state ∙ i.here.established;
             read = ap (λ (q : Received). q.bytes) h.same.rx ∙ i.here.read;
             room = i.here.room;
@@ -380,7 +380,7 @@ module _ (d e : Option Duration) (t s : Tuple) (f : Facts) (mtu : IsMtu f.mtu) (
         let h = q.waits in
         record {
           here = record {
-            sender = record { reached = h.reached; state = ap may_send h.same.state ∙ i.here.sender.state; peer = h.same.peer ∙ i.here.sender.peer; no_timeout = h.same.timeout ∙ i.here.sender.no_timeout; keep_alive = h.same.keep_alive ∙ i.here.sender.keep_alive; nothing_marked = h.nothing_marked; rests = ForKeepAlive q.moment q.timer q.nxt };
+            sender = record { reached = h.reached; state = ap may_send h.same.state ∙ i.here.sender.state; peer = h.same.peer ∙ i.here.sender.peer; no_timeout = h.same.timeout ∙ i.here.sender.no_timeout; smoltcp = h.same.same_rules ∙ i.here.sender.smoltcp; keep_alive = h.same.keep_alive ∙ i.here.sender.keep_alive; nothing_marked = h.nothing_marked; rests = ForKeepAlive q.moment q.timer q.nxt };
             established = h.same.state ∙ i.here.established;
             read = ap (λ (b : Received). b.bytes) h.same.rx ∙ i.here.read;
             room = i.here.room;

@@ -124,6 +124,7 @@ module _ (d e : Option Duration) (t s : Tuple) (f : Facts) (now : Instant) (v w 
             state = ap may_send (h.state ∙ k.same.state) ∙ a.sender.state;
             peer = h.peer ∙ k.same.peer ∙ a.sender.peer;
             no_timeout = h.timeout ∙ k.same.timeout ∙ a.sender.no_timeout;
+            smoltcp = h.same_rules ∙ k.same.same_rules ∙ a.sender.smoltcp;
             keep_alive = h.keep_alive ∙ k.same.keep_alive ∙ a.sender.keep_alive;
             nothing_marked = h.marked ∙ k.nothing_marked;
             rests = idle_rests l.view now x.keep_alive l.timer l.nothing_in_flight l.window;
@@ -135,7 +136,7 @@ module _ (d e : Option Duration) (t s : Tuple) (f : Facts) (now : Instant) (v w 
           room_at_least = subst (λ m. 2 ^ m ≤ a.room) (sym (h.shift ∙ shift)) a.room_at_least;
         };
         across = record {
-          sender = record { reached = reached; state = b.sender.state; peer = b.sender.peer; no_timeout = b.sender.no_timeout; keep_alive = b.sender.keep_alive; nothing_marked = b.sender.nothing_marked; rests = kept_rests w b.sender.rests };
+          sender = record { reached = reached; state = b.sender.state; peer = b.sender.peer; no_timeout = b.sender.no_timeout; smoltcp = b.sender.smoltcp; keep_alive = b.sender.keep_alive; nothing_marked = b.sender.nothing_marked; rests = kept_rests w b.sender.rests };
           established = b.established;
           read = b.read;
           room = b.room;
@@ -195,7 +196,7 @@ module _ (e : Option Duration) (s : Tuple) (f : Facts) (now : Instant) (v x w : 
         view = read_off w1 (length fresh);
         took = h;
         side = record {
-          sender = record { reached = r; state = ap may_send h.state ∙ b.sender.state; peer = h.peer ∙ b.sender.peer; no_timeout = h.timeout ∙ b.sender.no_timeout; keep_alive = h.keep_alive ∙ b.sender.keep_alive; nothing_marked = h.marked ∙ b.sender.nothing_marked; rests = took_rests w k n b.room now out.ip out.segment c bit ack j m np win b.sender.rests };
+          sender = record { reached = r; state = ap may_send h.state ∙ b.sender.state; peer = h.peer ∙ b.sender.peer; no_timeout = h.timeout ∙ b.sender.no_timeout; smoltcp = h.same_rules ∙ b.sender.smoltcp; keep_alive = h.keep_alive ∙ b.sender.keep_alive; nothing_marked = h.marked ∙ b.sender.nothing_marked; rests = took_rests w k n b.room now out.ip out.segment c bit ack j m np win b.sender.rests };
           established = h.state ∙ b.established;
           read = h.read;
           room = b.room;

@@ -13,6 +13,7 @@ use Rattle.sock_tcp.proofs.Lending.{lent_at_most, lent_beginning}
 use Rattle.sock_tcp.specs.Begin.{after_timer, after_timers, is_paused, readied, retransmission_begun}
 use Rattle.sock_tcp.specs.Content.{Sending, asked, carries_data, emission_kind, is_probing, offset_of, sent_as, window_left}
 use Rattle.sock_tcp.specs.Due.{congestion_left, data_due, effective_mss, flight, is_closed, is_due, window_field}
+use Rattle.sock_tcp.specs.declared.rules.Rules.TheVariants as rules
 use Rattle.sock_tcp.specs.Polls.{is_reached, timeout_poll}
 use Rattle.sock_tcp.specs.Queue.{Queue}
 use Rattle.sock_tcp.specs.Queues.{may_send}
@@ -31,7 +32,7 @@ use Rattle.tcp_laws.proofs.Sleeping.{window_sends}
 use Rattle.tcp_laws.proofs.Probing.{reached_probing}
 use Rattle.progress_laws.specs.InStep.{ForAnswer, ForKeepAlive, ForNothing, ForProbe, IsSender, Rests, told}
 use Rattle.progress_laws.specs.Speech.{DispatchesOk, GoesOn}
-use Rattle.progress_laws.proofs.Begins.{Same, beginning, carries_runs, dispatch_reached, lent_for, not_zero, quiet_so, readied_alike, same_again, same_then, segment_for, sends_as, stamp_for}
+use Rattle.progress_laws.proofs.Begins.{Same, beginning, begun_idle, carries_runs, dispatch_reached, lent_for, not_zero, quiet_so, readied_alike, same_again, same_then, segment_for, sends_as, stamp_for}
 use Rattle.progress_laws.proofs.Edges.{is_earlier, is_not_before, later_is, later_stays}
 use Rattle.progress_laws.proofs.Hears.{IsData, IsOpenTimer, idle_is, idle_moment}
 use Rattle.progress_laws.proofs.Lends.{lent_some, mss_some}
@@ -137,11 +138,11 @@ begins_again x now at none waits over = ap (λ b. if b then record x { state = s
     alive = ap (λ o. is_reached (timeout_poll o x.remote_last_ts) now) none
 
 -- once the retransmission timer is over
-again_front : (v : View) (now at : Instant) → IsReached v → v.timeout ≡ None → v.timer ≡ timer.Retransmit at → is_over at now ≡ true → Front v (retransmission_begun (readied v now) now)
+again_front : (v : View) (now at : Instant) → IsReached v → v.timeout ≡ None → v.rules ≡ rules.Smoltcp → v.timer ≡ timer.Retransmit at → is_over at now ≡ true → Front v (retransmission_begun (readied v now) now)
 unfolding retransmission_begun
-again_front v now at r no_timeout waits over =
+again_front v now at r no_timeout smoltcp waits over =
     let al = readied_alike v now in
-    record { same = same_then al.same (same_again (readied v now) now); nxt = al.same.una; untold = record { last_ack = al.last_ack; last_win = al.last_win }; marked = al.marked; mss = al.mss; moment = idle_moment now (readied v now).keep_alive; idle = idle_is now (readied v now).keep_alive; ordered = subst IsOrdered (begins_again (readied v now) now at (al.same.timeout ∙ no_timeout) (al.timer ∙ waits) over) (timers_ordered (readied v now) now (readied_ordered v now (reached_ordered v r))) }
+    record { same = same_then al.same (same_again (readied v now) now); nxt = al.same.una; untold = record { last_ack = al.last_ack; last_win = al.last_win }; marked = al.marked; mss = al.mss; moment = idle_moment now (readied v now).keep_alive; idle = begun_idle (readied v now) now (al.same.same_rules ∙ smoltcp) ∙ idle_is now (readied v now).keep_alive; ordered = subst IsOrdered (begins_again (readied v now) now at (al.same.timeout ∙ no_timeout) (al.timer ∙ waits) over) (timers_ordered (readied v now) now (readied_ordered v now (reached_ordered v r))) }
 
 -- nothing is in flight then, nothing is marked, and no probe goes out
 pub record FromFront (u : View) (now : Instant) : Type 0 where
@@ -395,23 +396,23 @@ pub record Begins (t : Tuple) (f : Facts) (v : View) (now : Instant) : Type 0 wh
   pub no_end : is_close_over v.timer now ≡ false
   pub is : (on : GoesOn v t (told f now)) (carries : is_paused v.state v.synack_paused ≡ false) → beginning v t (told f now) on carries ≡ view
 
-pub begins : (t : Tuple) (f : Facts) (v : View) (now : Instant) → IsReached v → v.timeout ≡ None → (r : Rests v) → IsNoProbe r → is_over (wakes r) now ≡ true → Begins t f v now
-begins t f v now r none (ForProbe at delay probes nxt some) other over = absurd other
-begins t f v now r none (ForKeepAlive at idle nxt) other over = record {
+pub begins : (t : Tuple) (f : Facts) (v : View) (now : Instant) → IsReached v → v.timeout ≡ None → v.rules ≡ rules.Smoltcp → (r : Rests v) → IsNoProbe r → is_over (wakes r) now ≡ true → Begins t f v now
+begins t f v now r none ruled (ForProbe at delay probes nxt some) other over = absurd other
+begins t f v now r none ruled (ForKeepAlive at idle nxt) other over = record {
   view = readied v now;
   front = idle_front v now (Some at) r idle nxt;
   no_end = rw idle refl;
   is = λ on carries. ap (λ tm. after_timer tm (readied v now) now) idle;
 }
-begins t f v now r none (ForNothing idle nxt some) other over = record {
+begins t f v now r none ruled (ForNothing idle nxt some) other over = record {
   view = readied v now;
   front = idle_front v now None r idle nxt;
   no_end = rw idle refl;
   is = λ on carries. ap (λ tm. after_timer tm (readied v now) now) idle;
 }
-begins t f v now r none (ForAnswer at again) other over = record {
+begins t f v now r none ruled (ForAnswer at again) other over = record {
   view = retransmission_begun (readied v now) now;
-  front = again_front v now at r none again over;
+  front = again_front v now at r none ruled again over;
   no_end = rw again refl;
   is = λ on carries. ap (λ tm. after_timer tm (readied v now) now) again ∙ ap (λ c. if c then retransmission_begun (readied v now) now else readied v now) over;
 }
@@ -424,13 +425,13 @@ module _ (d : Option Duration) (t : Tuple) (v : View) (f : Facts) (now : Instant
   goes_on e = record { peer = s.peer; address = address; alive = rw s.no_timeout refl; no_end = e }
 
   pub says_bytes : (r : Rests v) → IsNoProbe r → is_over (wakes r) now ≡ true → 0 < v.remote_win_len → 0 < length v.tx_buffer.bytes → SpeaksBytes (told f now) v
-  says_bytes r other over win queue = let b = begins t f v now s.reached s.no_timeout r other over in speaks_bytes d t v f now mtu s (goes_on b.no_end) carries_so b.view b.front (b.is (goes_on b.no_end) carries_so) win queue
+  says_bytes r other over win queue = let b = begins t f v now s.reached s.no_timeout s.smoltcp r other over in speaks_bytes d t v f now mtu s (goes_on b.no_end) carries_so b.view b.front (b.is (goes_on b.no_end) carries_so) win queue
 
   pub says_plain : (r : Rests v) → IsNoProbe r → is_over (wakes r) now ≡ true → 0 < v.remote_win_len → 0 < length v.tx_buffer.bytes → SpeaksPlain (told f now) v
-  says_plain r other over win queue = let b = begins t f v now s.reached s.no_timeout r other over in speaks_plain d t v f now mtu s (goes_on b.no_end) carries_so b.view b.front (b.is (goes_on b.no_end) carries_so) win queue
+  says_plain r other over win queue = let b = begins t f v now s.reached s.no_timeout s.smoltcp r other over in speaks_plain d t v f now mtu s (goes_on b.no_end) carries_so b.view b.front (b.is (goes_on b.no_end) carries_so) win queue
 
   pub says_nothing : (at : Instant) → v.timer ≡ timer.Idle (Some at) → v.remote_last_seq ≡ v.local_seq_no → is_over at now ≡ true → v.remote_win_len ≡ 0 → SpeaksNothing (told f now) v
   says_nothing at idle nxt over win = speaks_nothing d t v f now mtu s (goes_on (rw idle refl)) carries_so (readied v now) (idle_front v now (Some at) s.reached idle nxt) (ap (λ tm. after_timer tm (readied v now) now) idle) win (ap (λ tm. is_keep_alive_over tm now) ((readied_alike v now).timer ∙ idle) ∙ over)
 
   pub falls_silent : (e : Duration) → v.keep_alive ≡ Some e → (r : Rests v) → IsNoProbe r → is_over (wakes r) now ≡ true → v.remote_win_len ≡ 0 → FallsSilent (told f now) v
-  falls_silent e keeps r other over win = let b = begins t f v now s.reached s.no_timeout r other over in silent d t v f now mtu s (goes_on b.no_end) carries_so b.view b.front (b.is (goes_on b.no_end) carries_so) e keeps win
+  falls_silent e keeps r other over win = let b = begins t f v now s.reached s.no_timeout s.smoltcp r other over in silent d t v f now mtu s (goes_on b.no_end) carries_so b.view b.front (b.is (goes_on b.no_end) carries_so) e keeps win

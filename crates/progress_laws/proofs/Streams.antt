@@ -116,7 +116,7 @@ module _ (v : View) where
 
   pub speaks_then : (e : Duration) (r : Tuple) → receives v.state ≡ true → IsSpeaker e r v → IsSpeaker e r v'
   unfolding read_off
-  speaks_then e r takes sp = record { reached = reads_reached v (length v.rx_buffer.bytes) (receives_may v takes) (omega arith) sp.reached; carries = sp.carries; peer = sp.peer; no_timeout = sp.no_timeout; keep_alive = sp.keep_alive; waits = waits_then sp.waits }
+  speaks_then e r takes sp = record { reached = reads_reached v (length v.rx_buffer.bytes) (receives_may v takes) (omega arith) sp.reached; carries = sp.carries; peer = sp.peer; no_timeout = sp.no_timeout; smoltcp = sp.smoltcp; keep_alive = sp.keep_alive; waits = waits_then sp.waits }
 
 -- ---- the one, and then the other
 

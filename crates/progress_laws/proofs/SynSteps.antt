@@ -123,6 +123,7 @@ pub record HasTakenSyn (b x : View) (t : Tuple) (number : ℕ) (g : Segment) : T
   pub state : x.state ≡ state.SynReceived
   pub peer : x.tuple ≡ Some t
   pub timeout : x.timeout ≡ b.timeout
+  pub same_rules : x.rules ≡ b.rules
   pub keep_alive : x.keep_alive ≡ b.keep_alive
   pub not_paused : x.synack_paused ≡ b.synack_paused
   pub una : x.local_seq_no ≡ seq_of number
@@ -142,7 +143,7 @@ pub record IsNewListener (b x : View) (t : Tuple) (number : ℕ) (g : Segment) :
 pub received_so : (b : View) (e : IpListenEndpoint) (now : Instant) (t : Tuple) (word : ℕ) (g : Segment) → g.ack_number ≡ None → IsNewListener b (heard (syn_received (listened b e) now t word g) now nothing_acked g) t word g
 unfolding heard acknowledged window_taken released timestamp_taken timer_set syn_received options_taken listened renewed fresh
 received_so b e now t word g bare = subst (λ o. IsNewListener b (timer_set (timestamp_taken (acknowledged x o now 0 (length g.payload) changed) g.timestamp) now nothing_acked) t word g) (sym bare) (record {
-  taken = record { state = refl; peer = refl; timeout = refl; keep_alive = refl; not_paused = refl; una = refl; rcv = refl; rx = refl; no_bytes = refl; fits = omega arith; scale = refl; shift = refl; repeats = record { same = same_self _; marked = refl; waits = NotSent (idle_moment now b.keep_alive) waits refl } };
+  taken = record { state = refl; peer = refl; timeout = refl; same_rules = refl; keep_alive = refl; not_paused = refl; una = refl; rcv = refl; rx = refl; no_bytes = refl; fits = omega arith; scale = refl; shift = refl; repeats = record { same = same_self _; marked = refl; waits = NotSent (idle_moment now b.keep_alive) waits refl } };
   due = λ now. tt;
 })
   where
@@ -173,6 +174,7 @@ module _ (b w : View) (t : Tuple) (word : ℕ) (now : Instant) (g : Segment) (ba
     state = ap opened_state bare;
     peer = r.same.peer;
     timeout = r.same.timeout;
+    same_rules = r.same.same_rules;
     keep_alive = r.same.keep_alive;
     not_paused = r.same.paused;
     una = r.same.una;

@@ -42,6 +42,7 @@ pub record Rest (z u : View) : Type 0 where
   pub shift : u.remote_win_shift ≡ z.remote_win_shift
   pub peer : u.tuple ≡ z.tuple
   pub timeout : u.timeout ≡ z.timeout
+  pub same_rules : u.rules ≡ z.rules
   pub keep_alive : u.keep_alive ≡ z.keep_alive
   pub marked : u.pending_fast_retransmit ≡ z.pending_fast_retransmit
   pub timer : u.timer ≡ z.timer
@@ -49,9 +50,9 @@ pub record Rest (z u : View) : Type 0 where
 pub bytes_rest : (now : Instant) (s : Segment) (z : View) (o : ℕ) (bs : List ℕ) → Rest z (bytes_taken z now o bs s).view
 unfolding ack_kept joined ack_delayed
 bytes_rest now s z o bs = bytes_kept (Rest z) now s (record {
-  challenges = λ w at r. record { state = r.state; fin = r.fin; una = r.una; nxt = r.nxt; tx = r.tx; rcv = r.rcv; shift = r.shift; peer = r.peer; timeout = r.timeout; keep_alive = r.keep_alive; marked = r.marked; timer = r.timer };
-  acks = λ w r. record { state = r.state; fin = r.fin; una = r.una; nxt = r.nxt; tx = r.tx; rcv = r.rcv; shift = r.shift; peer = r.peer; timeout = r.timeout; keep_alive = r.keep_alive; marked = r.marked; timer = r.timer };
-}) (λ w o bs r. record { state = r.state; fin = r.fin; una = r.una; nxt = r.nxt; tx = r.tx; rcv = r.rcv; shift = r.shift; peer = r.peer; timeout = r.timeout; keep_alive = r.keep_alive; marked = r.marked; timer = r.timer }) z o bs (record { state = refl; fin = refl; una = refl; nxt = refl; tx = refl; rcv = refl; shift = refl; peer = refl; timeout = refl; keep_alive = refl; marked = refl; timer = refl })
+  challenges = λ w at r. record { state = r.state; fin = r.fin; una = r.una; nxt = r.nxt; tx = r.tx; rcv = r.rcv; shift = r.shift; peer = r.peer; timeout = r.timeout; same_rules = r.same_rules; keep_alive = r.keep_alive; marked = r.marked; timer = r.timer };
+  acks = λ w r. record { state = r.state; fin = r.fin; una = r.una; nxt = r.nxt; tx = r.tx; rcv = r.rcv; shift = r.shift; peer = r.peer; timeout = r.timeout; same_rules = r.same_rules; keep_alive = r.keep_alive; marked = r.marked; timer = r.timer };
+}) (λ w o bs r. record { state = r.state; fin = r.fin; una = r.una; nxt = r.nxt; tx = r.tx; rcv = r.rcv; shift = r.shift; peer = r.peer; timeout = r.timeout; same_rules = r.same_rules; keep_alive = r.keep_alive; marked = r.marked; timer = r.timer }) z o bs (record { state = refl; fin = refl; una = refl; nxt = refl; tx = refl; rcv = refl; shift = refl; peer = refl; timeout = refl; same_rules = refl; keep_alive = refl; marked = refl; timer = refl })
 
 pub rest_waits : (z u : View) → Rest z u → Waits z → Waits u
 rest_waits z u r (ForAnswer at e) = ForAnswer at (r.timer ∙ e)
@@ -90,6 +91,7 @@ pub record Took (w : View) (k : TcpSeqNumber) (h : ℕ) (u : View) (st : State) 
   pub shift : u.remote_win_shift ≡ w.remote_win_shift
   pub peer : u.tuple ≡ w.tuple
   pub timeout : u.timeout ≡ w.timeout
+  pub same_rules : u.rules ≡ w.rules
   pub keep_alive : u.keep_alive ≡ w.keep_alive
 
 -- y is as w but for the state, the timer and what of the peer's stream was counted
@@ -99,6 +101,7 @@ pub record Like (w y : View) : Type 0 where
   pub shift : y.remote_win_shift ≡ w.remote_win_shift
   pub peer : y.tuple ≡ w.tuple
   pub timeout : y.timeout ≡ w.timeout
+  pub same_rules : y.rules ≡ w.rules
   pub keep_alive : y.keep_alive ≡ w.keep_alive
 
 pub faces_so : (d : Duration) (t : Tuple) (v w : View) (n h : ℕ) → Agreement d t v w n h → Faces w (next_ack v)

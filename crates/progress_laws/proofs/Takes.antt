@@ -55,6 +55,7 @@ pub record Took (w : View) (k : TcpSeqNumber) (n room m win : ℕ) (now : Instan
   pub state : y.state ≡ w.state
   pub peer : y.tuple ≡ w.tuple
   pub timeout : y.timeout ≡ w.timeout
+  pub same_rules : y.rules ≡ w.rules
   pub keep_alive : y.keep_alive ≡ w.keep_alive
   pub scale : y.remote_win_scale ≡ w.remote_win_scale
   pub shift : y.remote_win_shift ≡ w.remote_win_shift
@@ -172,6 +173,7 @@ module _ (w : View) (k : TcpSeqNumber) (n room : ℕ) (now : Instant) (ip : IpRe
       state = hears.state;
       peer = hears.peer;
       timeout = hears.timeout;
+      same_rules = hears.same_rules;
       keep_alive = hears.keep_alive;
       scale = hears.scale;
       shift = hears.shift;

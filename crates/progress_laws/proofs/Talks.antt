@@ -31,7 +31,7 @@ use Rattle.tcp_laws.proofs.Repeating.{empty_parts}
 use Rattle.progress_laws.specs.Agreement.{ForAnswer, ForKeepAlive, ForProbe, ForRepeat, IsSpeaker, Waits}
 use Rattle.progress_laws.specs.InStep.{told}
 use Rattle.progress_laws.specs.Speech.{DispatchesOk, GoesOn}
-use Rattle.progress_laws.proofs.Begins.{Alike, Same, and_no, beginning, carries_runs, fin_len, lent_for, not_empty, not_zero, quiet_so, readied_alike, same_again, same_then, segment_for, sends_as, some_or_none, timers_are, stamp_for}
+use Rattle.progress_laws.proofs.Begins.{Alike, Same, and_no, beginning, begun_idle, carries_runs, fin_len, lent_for, not_empty, not_zero, quiet_so, readied_alike, same_again, same_then, segment_for, sends_as, some_or_none, timers_are, stamp_for}
 use Rattle.progress_laws.proofs.Edges.{is_not_before, later_stays}
 use Rattle.progress_laws.proofs.Lends.{lent_some, marked_some, mss_some, probe_byte}
 use Rattle.progress_laws.proofs.Says.{AtFront, front_number, keep_alive_due, no_probe, probe_due}
@@ -331,13 +331,13 @@ module _ (d : Duration) (t : Tuple) (f : Facts) (v : View) (now : Instant) (s : 
   unfolding retransmission_begun fast_retransmission_marked
   begins (ForAnswer at is) = record {
     view = retransmission_begun x now;
-    started = record { same = same_then al.same (same_again x now); untold = record { last_ack = al.last_ack; last_win = al.last_win }; front = inr refl; ready = IsIdle (after now d) (ap (idle_from now) (al.same.keep_alive ∙ s.keep_alive)); mss = mss; quiet = λ e. ap (λ tm. is_keep_alive_over tm now) is };
+    started = record { same = same_then al.same (same_again x now); untold = record { last_ack = al.last_ack; last_win = al.last_win }; front = inr refl; ready = IsIdle (after now d) (begun_idle x now (al.same.same_rules ∙ s.smoltcp) ∙ ap (idle_from now) (al.same.keep_alive ∙ s.keep_alive)); mss = mss; quiet = λ e. ap (λ tm. is_keep_alive_over tm now) is };
     no_end = ap (λ tm. is_close_over tm now) is;
     is = λ on runs. ap (λ tm. after_timer tm x now) is ∙ ap (λ c. if c then retransmission_begun x now else x) (subst (λ tm. is_reached (timer_poll tm) now ≡ true) is over);
   }
   begins (ForRepeat is) = record {
     view = fast_retransmission_marked x now;
-    started = record { same = same_then al.same (record { state = refl; peer = refl; timeout = refl; keep_alive = refl; una = refl; tx = refl; rx = refl; rcv = refl; window = refl; scale = refl; shift = refl; paused = refl }); untold = record { last_ack = al.last_ack; last_win = al.last_win }; front = inl refl; ready = IsIdle (after now d) (ap (idle_from now) (al.same.keep_alive ∙ s.keep_alive)); mss = mss; quiet = λ e. ap (λ tm. is_keep_alive_over tm now) is };
+    started = record { same = same_then al.same (record { state = refl; peer = refl; timeout = refl; same_rules = refl; keep_alive = refl; una = refl; tx = refl; rx = refl; rcv = refl; window = refl; scale = refl; shift = refl; paused = refl }); untold = record { last_ack = al.last_ack; last_win = al.last_win }; front = inl refl; ready = IsIdle (after now d) (ap (idle_from now) (al.same.keep_alive ∙ s.keep_alive)); mss = mss; quiet = λ e. ap (λ tm. is_keep_alive_over tm now) is };
     no_end = ap (λ tm. is_close_over tm now) is;
     is = λ on runs. ap (λ tm. after_timer tm x now) is;
   }

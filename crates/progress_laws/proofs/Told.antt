@@ -52,6 +52,7 @@ module _ (d : Option Duration) (t s : Tuple) (v w x w' : View) (now : Instant) (
           state = ap may_send (h.state ∙ wait.same.state) ∙ i.sender.state;
           peer = h.peer ∙ wait.same.peer ∙ i.sender.peer;
           no_timeout = h.timeout ∙ wait.same.timeout ∙ i.sender.no_timeout;
+          smoltcp = h.same_rules ∙ wait.same.same_rules ∙ i.sender.smoltcp;
           keep_alive = h.keep_alive ∙ keep;
           nothing_marked = h.marked ∙ wait.nothing_marked;
           rests = idle_rests learns.view now d (learns.timer ∙ ap (idle_from now) keep) learns.nothing_in_flight learns.window;

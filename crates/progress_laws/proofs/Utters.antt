@@ -115,7 +115,7 @@ module _ (d : Duration) (t : Tuple) (f : Facts) (mtu : IsMtu f.mtu) (here : f.ha
             mid = at;
             sender = v;
             before = NoMore at v w got;
-            earlier = record { same = record { state = refl; peer = refl; timeout = refl; keep_alive = refl; una = refl; tx = refl; rx = refl; rcv = refl; window = refl; scale = refl; shift = refl; paused = refl }; told = inl (record { last_ack = refl; last_win = refl }) };
+            earlier = record { same = record { state = refl; peer = refl; timeout = refl; same_rules = refl; keep_alive = refl; una = refl; tx = refl; rx = refl; rcv = refl; window = refl; scale = refl; shift = refl; paused = refl }; told = inl (record { last_ack = refl; last_win = refl }) };
             speaker = s;
             now = z.0;
             since = let a = z.1 in grind (arith, ints, a, later);

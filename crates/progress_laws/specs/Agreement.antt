@@ -24,6 +24,7 @@ use Rattle.progress_laws.specs.BothWays.{window_told}
 use Rattle.progress_laws.specs.InStep.{Move, told}
 use Rattle.progress_laws.specs.ShutWindows.{width}
 use Rattle.progress_laws.specs.Speech.{DispatchesOk}
+use Rattle.sock_tcp.specs.declared.rules.Rules.TheVariants as rules
 
 -- ---- the one that speaks
 
@@ -42,12 +43,13 @@ pub data Waits (v : View) : Type 0 where
       → Waits v
 
 -- The speaker v, with the peer t, is what some list of calls makes of a new socket, in ESTABLISHED, CLOSE-WAIT,
--- FIN-WAIT-1, CLOSING or LAST-ACK, without a user timeout, and with the keep-alive interval d
+-- FIN-WAIT-1, CLOSING or LAST-ACK, with smoltcp's rules, without a user timeout, and with the keep-alive interval d
 pub record IsSpeaker (d : Duration) (t : Tuple) (v : View) : Type 0 where
   pub reached : IsReached v
   pub carries : carries_data v.state ≡ true
   pub peer : v.tuple ≡ Some t
   pub no_timeout : v.timeout ≡ None
+  pub smoltcp : v.rules ≡ rules.Smoltcp
   pub keep_alive : v.keep_alive ≡ Some d
   pub waits : Waits v
 

@@ -26,15 +26,18 @@ use Rattle.progress_laws.specs.InStep.{told}
 use Rattle.progress_laws.specs.Opening.{Acknowledges, AnswersSyn, Completes, TakesSyn}
 use Rattle.progress_laws.specs.Speech.{DispatchesOk}
 use Rattle.progress_laws.specs.Stamped.{IsAnswerStamp, stamped}
+use Rattle.sock_tcp.specs.declared.rules.Rules.TheVariants as rules
 
 -- ---- in step from the start
 
--- A socket to be opened: what some list of calls makes of a new one, not open, without a user timeout, with a
--- keep-alive interval that is not 0 or with none, with a place in its receive buffer, and its SYN|ACK is not paused
+-- A socket to be opened: what some list of calls makes of a new one, not open, with smoltcp's rules, without a user
+-- timeout, with a keep-alive interval that is not 0 or with none, with a place in its receive buffer, and its SYN|ACK
+-- is not paused
 pub record IsUnopened (v : View) : Type 0 where
   pub reached : IsReached v
   pub not_open : is_open v.state ≡ false
   pub no_timeout : v.timeout ≡ None
+  pub smoltcp : v.rules ≡ rules.Smoltcp
   pub interval : ForSome v.keep_alive (λ d. 0 < d.micros)
   pub not_paused : v.synack_paused ≡ false
   pub some : 0 < room_of v.rx_buffer

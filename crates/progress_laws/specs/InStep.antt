@@ -25,6 +25,7 @@ use Rattle.sock_tcp.specs.declared.tuple.Tuple.{Tuple}
 use Rattle.tcp_laws.specs.Polling.{IsReached}
 use Rattle.progress_laws.specs.Speech.{DispatchesOk}
 use Rattle.progress_laws.specs.Stamped.{IsAnswerStamp, stamped}
+use Rattle.sock_tcp.specs.declared.rules.Rules.TheVariants as rules
 
 -- ---- in step
 
@@ -49,12 +50,13 @@ pub data Rests (v : View) : Type 0 where
       → Rests v
 
 -- The socket v, with the peer t, is what some list of calls makes of a new one. It is in one of these states, without a
--- user timeout, with the keep-alive interval d, or with none
+-- user timeout, with smoltcp's rules, with the keep-alive interval d, or with none
 pub record IsSenderIn (states : State → Bool) (d : Option Duration) (t : Tuple) (v : View) : Type 0 where
   pub reached : IsReached v
   pub state : states v.state ≡ true
   pub peer : v.tuple ≡ Some t
   pub no_timeout : v.timeout ≡ None
+  pub smoltcp : v.rules ≡ rules.Smoltcp
   pub keep_alive : v.keep_alive ≡ d
   pub nothing_marked : v.pending_fast_retransmit ≡ false
   pub rests : Rests v
@@ -69,13 +71,15 @@ takes_bytes state.Established = true
 takes_bytes state.FinWait2 = true
 takes_bytes _ = false
 
--- The receiver w, with the peer s, is in one of these, without a user timeout, with a keep-alive interval that is not 0
--- or with none, and has nothing to send: all that it took was read, and it holds nothing. What it acknowledged last
--- lies not far behind that. It has room for as many bytes, at least for one unit of its window field
+-- The receiver w, with the peer s and smoltcp's rules, is in one of these, without a user timeout, with a keep-alive
+-- interval that is not 0 or with none, and has nothing to send: all that it took was read, and it holds nothing. What
+-- it acknowledged last lies not far behind that. It has room for as many bytes, at least for one unit of its window
+-- field
 pub record IsReceiver (s : Tuple) (w : View) : Type 0 where
   pub state : takes_bytes w.state ≡ true
   pub peer : w.tuple ≡ Some s
   pub no_timeout : w.timeout ≡ None
+  pub smoltcp : w.rules ≡ rules.Smoltcp
   pub interval : ForSome w.keep_alive (λ e. 0 < e.micros)
   pub moment : Option Instant
   pub timer : w.timer ≡ timer.Idle moment

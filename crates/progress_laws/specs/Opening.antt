@@ -16,6 +16,7 @@ use Rattle.sock_tcp.specs.declared.state.State.TheVariants as state
 use Rattle.sock_tcp.specs.declared.tuple.Tuple.{Tuple}
 use Rattle.progress_laws.specs.InStep.{told}
 use Rattle.progress_laws.specs.Speech.{DispatchesOk}
+use Rattle.sock_tcp.specs.declared.rules.Rules.TheVariants as rules
 
 -- ---- the parts of the handshake
 
@@ -59,8 +60,8 @@ pub record Establishes (f : Facts) (now : Instant) (word : ℕ) (v w : View) : T
   pub answer : AnswersSyn f now syn.sent syn.received
 
 -- The one as `connect` leaves a socket a, with the endpoints t and this number; the other as `listen` leaves a socket
--- b, which draws word as its number, and whose SYN|ACK is not paused. Both are without a user timeout, in a context
--- that has both addresses
+-- b, which draws word as its number, and whose SYN|ACK is not paused. Both have smoltcp's rules and no user timeout, in
+-- a context that has both addresses
 pub record CanMeet (t : Tuple) (f : Facts) (number word : ℕ) (a b : View) : Type 0 where
   pub versions : SameVersion t.local.addr t.remote.addr
   pub here : f.has_address t.local.addr ≡ true
@@ -68,7 +69,9 @@ pub record CanMeet (t : Tuple) (f : Facts) (number word : ℕ) (a b : View) : Ty
   pub number_small : number < 2 ^ 32
   pub word_small : word < 2 ^ 32
   pub no_timeout_a : a.timeout ≡ None
+  pub smoltcp_a : a.rules ≡ rules.Smoltcp
   pub no_timeout_b : b.timeout ≡ None
+  pub smoltcp_b : b.rules ≡ rules.Smoltcp
   pub not_paused_a : a.synack_paused ≡ false
   pub not_paused_b : b.synack_paused ≡ false
 

@@ -15,16 +15,18 @@ use Rattle.sock_tcp.specs.declared.state.State.TheVariants as state
 use Rattle.pair_core.specs.PairInvariant.{IsSocket}
 use Rattle.pair_core.specs.PairViews.{HostView}
 use Rattle.progress_laws.specs.Agreement.{EitherWays, Exchanges, InReach, Waits}
+use Rattle.sock_tcp.specs.declared.rules.Rules.TheVariants as rules
 
 -- ---- the sides
 
--- The side h, with the keep-alive interval d and without a user timeout, is in ESTABLISHED, CLOSE-WAIT, FIN-WAIT-1,
--- CLOSING or LAST-ACK; where it was closed, that was after its SYN was acknowledged. How it waits is that of `Waits`
--- (`stall_empty_probe` in docs/STALLS.md)
+-- The side h, with smoltcp's rules, the keep-alive interval d and without a user timeout, is in ESTABLISHED,
+-- CLOSE-WAIT, FIN-WAIT-1, CLOSING or LAST-ACK; where it was closed, that was after its SYN was acknowledged. How it
+-- waits is that of `Waits` (`stall_empty_probe` in docs/STALLS.md)
 pub record MaySpeak {G : Type 0} (d : Duration) (h : HostView G) : Type 0 where
   pub carries : carries_data h.control_block.state ≡ true
   pub closed : is_closing h.control_block.state ≡ true → h.closed ≡ true
   pub no_timeout : h.control_block.timeout ≡ None
+  pub smoltcp : h.control_block.rules ≡ rules.Smoltcp
   pub keep_alive : h.control_block.keep_alive ≡ Some d
   pub waits : Waits h.control_block
 

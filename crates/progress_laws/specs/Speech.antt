@@ -7,6 +7,7 @@ use Rattle.sock_core.specs.Facts.{Facts, IsLawful}
 use Rattle.sock_tcp.specs.Begin.{before_emit, readied, peer_of}
 use Rattle.sock_tcp.specs.Content.{Sending, asked, carries_data, content, offset_of}
 use Rattle.sock_tcp.specs.Due.{flight}
+use Rattle.sock_tcp.specs.declared.rules.Rules.TheVariants as rules
 use Rattle.sock_tcp.specs.Polls.{is_reached, timeout_poll, timer_poll}
 use Rattle.sock_tcp.specs.Queue.{IsLent}
 use Rattle.sock_tcp.specs.Sent.{left_by}
@@ -84,11 +85,12 @@ SpeaksWithin (suc n) v t =
 
 -- ---- the law
 
--- With a keep-alive interval, and bytes or a FIN that are not acknowledged
+-- With smoltcp's rules, a keep-alive interval, and bytes or a FIN that are not acknowledged
 abbrev pub SpeaksPastItsTimers : Type 0
 SpeaksPastItsTimers = (v : View) (t : Tuple) (d : Duration)
     → IsReached v
     → v.keep_alive ≡ Some d
+    → v.rules ≡ rules.Smoltcp
     → carries_data v.state ≡ true
     → HasToSend v
     → SpeaksWithin 3 v t

@@ -35,11 +35,11 @@ pub fn work_wakes_or_sleeps()
     ensures { WorkWakesOrSleeps }
 {}
 
-/// Of three dispatches of a socket with a keep-alive interval, and with bytes or a FIN that are not acknowledged, one
-/// says so, each being at or after the moment of the timer that stands then and none of their emits failing: a segment
-/// from SND.UNA on, with a byte of the stream or the FIN; a probe of the peer's window (RFC 9293, section 3.8.6.1); or
-/// a keep-alive (RFC 1122, section 4.2.3.6). After any list of calls on a new socket over any two buffers of at most
-/// 2^30 bytes, in ESTABLISHED, FIN-WAIT-1, CLOSE-WAIT, CLOSING and LAST-ACK.
+/// Of three dispatches of a socket with smoltcp's rules, a keep-alive interval, and bytes or a FIN that are not
+/// acknowledged, one says so, each being at or after the moment of the timer that stands then and none of their emits
+/// failing: a segment from SND.UNA on, with a byte of the stream or the FIN; a probe of the peer's window (RFC 9293,
+/// section 3.8.6.1); or a keep-alive (RFC 1122, section 4.2.3.6). After any list of calls on a new socket over any two
+/// buffers of at most 2^30 bytes, in ESTABLISHED, FIN-WAIT-1, CLOSE-WAIT, CLOSING and LAST-ACK.
 pub fn speaks_past_its_timers()
     ensures { SpeaksPastItsTimers }
 {}

@@ -1,6 +1,7 @@
 -- What is done of loss behind the tables: whatever it leaves alone.
-use Rattle.std.proofs.Common.{◌≡◌, ℕ, Bool, true, false, ◌&&◌, refl, sym, ◌∙◌, ap, length, Some}
-use Rattle.std.specs.Prelude.{if◌then◌else◌, ◌==◌}
+use Rattle.std.proofs.Common.{◌≡◌, ℕ, Bool, true, false, not, ◌&&◌, refl, sym, ◌∙◌, ap, length, Option, Some}
+use Rattle.std.specs.Prelude.{if◌then◌else◌, ◌==◌, nat_le}
+use Rattle.std.proofs.lemmas.Bool.{eqb-true}
 use Rattle.net_base.specs.declared.time.Duration.{Duration}
 use Rattle.net_base.specs.declared.time.Instant.{Instant}
 use Rattle.control_wire.specs.Segment.{Segment}
@@ -8,9 +9,10 @@ use Rattle.ip_wire.specs.declared.repr.IpRepr.{IpRepr}
 use Rattle.sock_tcp.specs.Arrival.{arrival}
 use Rattle.sock_tcp.specs.Process.{Outcome, ack_sent, answered, by_verdict, processed_by, rst_sent, stopped, tuple_of}
 use Rattle.sock_tcp.specs.Replies.{ack_kept, ack_segment, sack_range}
-use Rattle.sock_tcp.specs.Rfc.Recovery.{before_of, gone_on_from, has_timer, is_called, is_unheard, recovered, recovered_by, recovered_if, resends, running, timer_after, waited_for}
+use Rattle.sock_tcp.specs.Rfc.Recovery.{before_of, begun_by, gone_on_from, has_timer, is_called, is_unheard, recovered, recovered_by, recovered_if, resends, running, timer_after, waited_for}
 use Rattle.sock_tcp.specs.Due.{flight}
-use Rattle.sock_tcp.specs.Timers.{idle_from, retransmit_from}
+use Rattle.sock_core.specs.Estimator.{Estimator}
+use Rattle.sock_tcp.specs.Timers.{idle_from, probe_from, retransmit_from}
 use Rattle.sock_tcp.specs.Verdict.{verdict_of}
 use Rattle.sock_tcp.specs.View.{View}
 use Rattle.sock_tcp.specs.declared.process.Answer.{Answer}
@@ -83,11 +85,12 @@ module _ (Q : Timer → Type 0) (b : Before) (w : View) (now : Instant) (same : 
       by : (z : Bool) → Q (if z then timer.Idle at else retransmit_from now w.rtte)
       by true = h
       by false = new
-  runs (timer.ZeroWindowProbe at delay) e h = by ((flight w == 0) && (length w.tx_buffer.bytes == 0))
+  runs (timer.ZeroWindowProbe at delay) e h = by (nat_le (length w.tx_buffer.bytes) (flight w)) (flight w == 0)
     where
-      by : (z : Bool) → Q (if z then idle_from now w.keep_alive else timer.ZeroWindowProbe at delay)
-      by true = idle at delay e
-      by false = h
+      by : (y z : Bool) → Q (if y then (if z then idle_from now w.keep_alive else retransmit_from now w.rtte) else timer.ZeroWindowProbe at delay)
+      by true true = idle at delay e
+      by true false = new
+      by false z = h
   runs (timer.Retransmit at) e h = h
   runs timer.FastRetransmit e h = h
   runs (timer.Close at) e h = h
@@ -106,3 +109,13 @@ module _ (Q : Timer → Type 0) (b : Before) (w : View) (now : Instant) (same : 
       by : (h : Bool) → Q (if h then waited_for b w now else w.timer)
       by true = waited_as
       by false = same
+
+-- the timer that is left once that of a retransmission is over: a probe's, without a window and with bytes, or an idle one
+pub begun_as : (Q : Timer → Type 0) (r : Rules) (window queued : ℕ) (now : Instant) (keep : Option Duration) (e : Estimator) → Q (idle_from now keep) → (window ≡ 0 → (queued == 0) ≡ false → Q (probe_from now e)) → Q (begun_by r window queued now keep e)
+begun_as Q rules.Smoltcp window queued now keep e idle probe = idle
+begun_as Q rules.Rfc window queued now keep e idle probe = by (window == 0) refl (queued == 0) refl
+  where
+    by : (y : Bool) → (window == 0) ≡ y → (z : Bool) → (queued == 0) ≡ z → Q (if y && not z then probe_from now e else idle_from now keep)
+    by true n false i = probe (eqb-true window 0 n) i
+    by true n true i = idle
+    by false n z i = idle

@@ -1,5 +1,5 @@
 -- How a dispatch begins: what comes before the reasons to send.
-use Rattle.std.specs.Prelude.{Option, Some, None, Bool, true, false, not, if◌then◌else◌}
+use Rattle.std.specs.Prelude.{length, Option, Some, None, Bool, true, false, not, if◌then◌else◌}
 use Rattle.net_base.specs.declared.time.Instant.{Instant}
 use Rattle.sock_core.specs.Congestion.{lost, pre_transmitted, timed_out}
 use Rattle.sock_core.specs.Estimator.{backed_off, retransmitted}
@@ -7,7 +7,7 @@ use Rattle.sock_core.specs.Facts.{Facts}
 use Rattle.sock_tcp.specs.Due.{flight, is_due}
 use Rattle.sock_tcp.specs.Opening.{renewed}
 use Rattle.sock_tcp.specs.Polls.{is_reached, timeout_poll}
-use Rattle.sock_tcp.specs.Rfc.Recovery.{timed_out_by}
+use Rattle.sock_tcp.specs.Rfc.Recovery.{begun_by, timed_out_by}
 use Rattle.sock_tcp.specs.Timers.{is_over, idle_from, is_close_over}
 use Rattle.sock_tcp.specs.View.{View, moment_of}
 use Rattle.sock_tcp.specs.declared.state.State.{State}
@@ -58,7 +58,9 @@ retransmission_begun v now =
       congestion_controller = timed_out v.congestion_controller now (flight v);
       remote_last_seq = v.local_seq_no;
       rtte = retransmitted (backed_off v.rtte);
-      timer = idle_from now v.keep_alive;
+      timer =
+          begun_by v.rules v.remote_win_len (length v.tx_buffer.bytes) now v.keep_alive
+          (retransmitted (backed_off v.rtte));
       recovery = timed_out_by v.rules v.recovery v.remote_last_seq;
     }
 

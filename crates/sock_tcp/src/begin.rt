@@ -48,8 +48,9 @@ impl<'a> ControlBlock<'a> {
         self.congestion_controller.pre_transmit(now);
     }
 
-    // All behind SND.UNA is sent again. The timer is idle until a segment goes out, and not over any longer: where the
-    // window lets nothing out now, a timer that stays over would want the next dispatch at once, again and again.
+    // All behind SND.UNA is sent again. The timer is idle until a segment goes out, or by the RFCs' rules a window is
+    // probed for; it is not over any longer: where the window lets nothing out now, a timer that stays over would want
+    // the next dispatch at once, again and again.
     #[tactic(auto, unfolding(crate::specs::Begin::retransmission_begun))]
     fn begin_retransmission(&mut self, now: Instant)
         requires { IsMoment now.micros }
@@ -62,7 +63,7 @@ impl<'a> ControlBlock<'a> {
         self.remote_last_seq = self.local_seq_no;
         self.rtte.on_rto();
         self.rtte.on_retransmit();
-        self.timer = Timer::idle(now, self.keep_alive);
+        self.timer = self.timer_begun(now);
     }
 
     // The segment at SND.UNA is marked to be sent again.

@@ -4,7 +4,8 @@ ghost use Rattle.std.specs.Prelude.{◌≡◌, length};
 ghost use Rattle.control_wire.specs.Segment.{segment_of};
 ghost use Rattle.sock_core.specs.Bounds.{IsMoment};
 ghost use Rattle.sock_tcp.specs.Due.{flight};
-ghost use Rattle.sock_tcp.specs.Rfc.Recovery.{before_of, begins, controller_after, duplicates_after, estimator_after};
+ghost use Rattle.sock_tcp.specs.Rfc.Recovery.{before_of, begins, begun_by, controller_after, duplicates_after};
+ghost use Rattle.sock_tcp.specs.Rfc.Recovery.{estimator_after};
 ghost use Rattle.sock_tcp.specs.Rfc.Recovery.{gone_on, gone_on_from, has_timer, highest_of, is_bare_control, is_called};
 ghost use Rattle.sock_tcp.specs.Rfc.Recovery.{is_fast, is_grown, is_last, is_news, is_opened, is_over, is_partial};
 ghost use Rattle.sock_tcp.specs.Rfc.Recovery.{is_counted, is_early, is_unheard, may_resend, recovered, recovered_if};
@@ -324,6 +325,22 @@ impl<'a> ControlBlock<'a> {
         self.state.carries_data() && !self.tx_buffer.is_empty()
     }
 
+    // The timer once that of a retransmission is over: a window is probed for where there is none, and bytes wait.
+    #[inline(always)]
+    pub(crate) fn timer_begun(&self, now: Instant) -> Timer
+        requires { IsMoment now.micros }
+        ensures value { result ≡ begun_by self.now.rules self.now.remote_win_len (length self.now.tx_buffer.bytes) now
+            self.now.keep_alive self.now.rtte }
+        ensures lawful { IsTimer result }
+    {
+        match self.rules {
+            Rules::Rfc if self.remote_win_len == 0 && !self.tx_buffer.is_empty() => {
+                Timer::probe(now, &self.rtte)
+            }
+            _ => Timer::idle(now, self.keep_alive),
+        }
+    }
+
     // A timer runs whenever something is in flight, and none for a window while there is nothing to send.
     fn running(&self, now: Instant) -> Timer
         requires { IsMoment now.micros }
@@ -333,8 +350,12 @@ impl<'a> ControlBlock<'a> {
     {
         match self.timer {
             Timer::Idle { .. } if self.flight() != 0 => Timer::retransmit(now, &self.rtte),
-            Timer::ZeroWindowProbe { .. } if self.flight() == 0 && self.tx_buffer.is_empty() => {
-                Timer::idle(now, self.keep_alive)
+            Timer::ZeroWindowProbe { .. } if self.tx_buffer.len() <= self.flight() => {
+                if self.flight() == 0 {
+                    Timer::idle(now, self.keep_alive)
+                } else {
+                    Timer::retransmit(now, &self.rtte)
+                }
             }
             timer => timer,
         }

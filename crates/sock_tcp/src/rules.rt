@@ -19,8 +19,9 @@ pub enum Rules {
     /// acknowledgement of a part of what was sent before lets the segment at SND.UNA go out again at once, and the
     /// congestion controller is told of one loss (RFC 6582). After a retransmission timeout duplicates do not count
     /// until what was sent before is acknowledged. Where a segment comes while something is in flight the
-    /// retransmission timer runs, also where a keep-alive was to come, and no window is probed with nothing to send;
-    /// after a handshake with a lost SYN it begins anew with three seconds (RFC 6298, rules 5.1 and 5.7).
+    /// retransmission timer runs, also where a keep-alive was to come; after a handshake with a lost SYN it begins anew
+    /// with three seconds (RFC 6298, rules 5.1 and 5.7). Where it is over while the peer has no window, the window is
+    /// probed for with the byte at SND.UNA, and no window is probed with nothing to send (RFC 9293, section 3.8.6.1).
     Rfc,
 }
 

@@ -29,6 +29,8 @@ use Rattle.sock_tcp.specs.declared.timer.Timer.TheVariants as timer
 use Rattle.sock_tcp.specs.declared.tuple.Tuple.{Tuple}
 use Rattle.tcp_laws.proofs.Ordered.{IsOrdered, Row}
 use Rattle.tcp_laws.proofs.Probing.{IsProbing}
+use Rattle.sock_core.specs.Estimator.{backed_off, retransmitted}
+use Rattle.sock_tcp.proofs.Recovering.{begun_as}
 
 -- ---- how the dispatch begins
 
@@ -52,7 +54,7 @@ unfolding retransmission_begun fast_retransmission_marked
 timer_settles (timer.Retransmit at) x now is known e = go (is_over at now) refl
   where
     go : (b : Bool) → is_over at now ≡ b → Settled (if b then retransmission_begun x now else x) now
-    go true o = record { known = known; alive = inr (e, idle_set now x.keep_alive) }
+    go true o = record { known = known; alive = inr (e, begun_as (λ t. IsSet t now) x.rules x.remote_win_len (length x.tx_buffer.bytes) now x.keep_alive (retransmitted (backed_off x.rtte)) (idle_set now x.keep_alive) (λ z some. tt)) }
     go false o = record { known = known; alive = inr (e, subst (λ t. IsSet t now) (sym is) o) }
 timer_settles timer.FastRetransmit x now is known e = record { known = known; alive = inr (e, idle_set now x.keep_alive) }
 timer_settles (timer.Idle at) x now is known e = record { known = known; alive = inr (e, subst (λ t. IsSet t now) (sym is) tt) }

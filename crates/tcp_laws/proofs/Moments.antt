@@ -138,7 +138,7 @@ module _ (most : Duration) (minute : 60000000 ≤ most.micros) where
     pub rto_by : (e : Estimator) → e.rto ≤ 60000 → is_by now most (after now (rto_of e)) ≡ true
     rto_by e h = soon (rto_of e) (omega (arith, h, minute))
 
-    probe_by : (e : Estimator) → e.rto ≤ 60000 → is_timer_by now most (probe_from now e) ≡ true
+    pub probe_by : (e : Estimator) → e.rto ≤ 60000 → is_timer_by now most (probe_from now e) ≡ true
     probe_by e h = and_true (is_by now most (after now (rto_of e))) (nat_le (e.rto * 1000) 60000000) (rto_by e h) (le-leb (e.rto * 1000) 60000000 (omega (arith, h)))
 
     pub close_by : is_timer_by now most (close_from now) ≡ true

@@ -1,11 +1,13 @@
 -- Any call keeps the order of SND.UNA, SND.NXT, the transmit queue and the timer.
-use Rattle.std.proofs.Common.{◌≡◌, ℕ, ◌+◌, ◌<◌, ◌≤◌, ◌^◌, Bool, true, false, not, ◌&&◌, refl, sym, ap, subst, ◌∙◌, List, length, take, Option, Some, None, is_none, arith, length-append, length-take}
+use Rattle.std.proofs.Common.{◌≡◌, ℕ, ◌+◌, ◌<◌, ◌≤◌, ◌^◌, Bool, true, false, true≢false, not, ◌&&◌, refl, sym, ap, subst, ◌∙◌, List, length, take, Option, Some, None, is_none, arith, length-append, length-take}
 use Rattle.std.specs.Prelude.{if◌then◌else◌, ◌==◌}
+use Rattle.std.proofs.lemmas.Bool.{eq-eqb}
 use Rattle.ip_wire.specs.declared.endpoint.IpListenEndpoint.{IpListenEndpoint}
 use Rattle.net_base.specs.Ring.{Ring}
 use Rattle.net_base.specs.declared.time.Duration.{Duration}
 use Rattle.net_base.specs.declared.time.Instant.{Instant}
 use Rattle.control_wire.specs.Seq.{seq_sub}
+use Rattle.sock_core.specs.Estimator.{Estimator, backed_off, retransmitted}
 use Rattle.sock_core.specs.Facts.{Facts}
 use Rattle.sock_core.specs.Received.{receiving}
 use Rattle.sock_core.specs.declared.congestion.AnyController.{AnyController}
@@ -18,7 +20,10 @@ use Rattle.sock_tcp.specs.Queue.{capacity, queue_of}
 use Rattle.sock_tcp.specs.Queues.{first_probe, may_send, queued, read_off}
 use Rattle.sock_tcp.specs.Settings.{keep_alive_timer}
 use Rattle.tcp_laws.specs.SocketRun.{Sets}
-use Rattle.sock_tcp.specs.Timers.{idle_from, is_idle}
+use Rattle.sock_tcp.proofs.Recovering.{begun_as}
+use Rattle.sock_tcp.specs.Rfc.Recovery.{begun_by}
+use Rattle.sock_tcp.specs.Timers.{idle_from, is_idle, probe_from}
+use Rattle.sock_tcp.specs.declared.rules.Rules.{Rules}
 use Rattle.sock_tcp.specs.View.{View, fresh, moment_of}
 use Rattle.tcp_laws.specs.Polling.{IsReached}
 use Rattle.sock_tcp.specs.declared.settings.CongestionControl.TheVariants as kinds
@@ -67,6 +72,24 @@ again_row state.LastAck t keep now flight n r = (idle_has_moment now keep, omega
 again_row state.FinWait2 t keep now flight n r = (idle_has_moment now keep, r.1, refl)
 again_row state.TimeWait t keep now flight n r = absurd cc
 
+-- or that of probes
+probe_row : (st : State) (keep : Option Duration) (now : Instant) (e : Estimator) (flight n : ℕ) → (n == 0) ≡ false → Row st (idle_from now keep) keep flight n → Row st (probe_from now e) keep flight n
+probe_row state.Closed keep now e flight n some r = tt
+probe_row state.Listen keep now e flight n some r = r
+probe_row state.SynSent keep now e flight n some r = absurd (true≢false (sym (eq-eqb n 0 r.1) ∙ some))
+probe_row state.SynReceived keep now e flight n some r = (tt, r.1, r.2)
+probe_row state.Established keep now e flight n some r = (tt, r.1)
+probe_row state.CloseWait keep now e flight n some r = (tt, r.1)
+probe_row state.FinWait1 keep now e flight n some r = (tt, r.1)
+probe_row state.Closing keep now e flight n some r = (tt, r.1)
+probe_row state.LastAck keep now e flight n some r = (tt, r.1)
+probe_row state.FinWait2 keep now e flight n some r = (tt, r.1, r.2)
+probe_row state.TimeWait None now e flight n some r = absurd (true≢false (sym r.0))
+probe_row state.TimeWait (Some d) now e flight n some r = absurd (true≢false (sym r.0))
+
+begun_row : (rs : Rules) (window : ℕ) (st : State) (keep : Option Duration) (now : Instant) (e : Estimator) (flight n : ℕ) → Row st (idle_from now keep) keep flight n → Row st (begun_by rs window n now keep e) keep flight n
+begun_row rs window st keep now e flight n r = begun_as (λ t. Row st t keep flight n) rs window n now keep e r (λ z some. probe_row st keep now e flight n some r)
+
 -- the timer alone is idle
 fast_row : (st : State) (keep : Option Duration) (now : Instant) (flight n : ℕ) → Row st timer.FastRetransmit keep flight n → Row st (idle_from now keep) keep flight n
 fast_row state.Closed keep now flight n r = tt
@@ -93,7 +116,7 @@ begins_ordered now = record {
     room = h.room;
     congestion = timed_out_open v.congestion_controller _ _ h.congestion;
     peered = h.peered;
-    row = subst (λ i. Row v.state (idle_from now v.keep_alive) v.keep_alive i (length v.tx_buffer.bytes)) (sym (no_distance v.local_seq_no h.una_small)) (again_row v.state at v.keep_alive now _ _ (subst (λ x. Row v.state x v.keep_alive (seq_sub v.remote_last_seq v.local_seq_no) (length v.tx_buffer.bytes)) e h.row));
+    row = begun_row v.rules v.remote_win_len v.state v.keep_alive now (retransmitted (backed_off v.rtte)) _ (length v.tx_buffer.bytes) (subst (λ i. Row v.state (idle_from now v.keep_alive) v.keep_alive i (length v.tx_buffer.bytes)) (sym (no_distance v.local_seq_no h.una_small)) (again_row v.state at v.keep_alive now _ _ (subst (λ x. Row v.state x v.keep_alive (seq_sub v.remote_last_seq v.local_seq_no) (length v.tx_buffer.bytes)) e h.row)));
   };
   marks = λ v e h. record {
     una_small = h.una_small;

@@ -1,11 +1,11 @@
 -- Any call keeps two facts: a probe timer runs only while the peer has no window, and its MSS is at least 48.
-use Rattle.std.proofs.Common.{◌≡◌, ℕ, ◌≤◌, Bool, true, false, not, ◌&&◌, refl, ap, ◌∙◌, List, max, Option, Some, None, arith}
+use Rattle.std.proofs.Common.{◌≡◌, ℕ, ◌≤◌, Bool, true, false, not, ◌&&◌, refl, ap, ◌∙◌, List, length, max, Option, Some, None, arith}
 use Rattle.std.specs.Prelude.{if◌then◌else◌, ◌==◌}
 use Rattle.std.proofs.lemmas.Bool.{and_parts, eqb-true}
 use Rattle.net_base.specs.declared.time.Duration.{Duration}
 use Rattle.net_base.specs.declared.time.Instant.{Instant}
 use Rattle.control_wire.specs.Segment.{Segment}
-use Rattle.sock_core.specs.Estimator.{Estimator}
+use Rattle.sock_core.specs.Estimator.{Estimator, backed_off, retransmitted}
 use Rattle.sock_core.specs.Facts.{Facts}
 use Rattle.sock_tcp.specs.Advance.{fallen_back, fin_counted, mss_taken, options_taken, syn_answered, syn_received}
 use Rattle.sock_tcp.specs.Begin.{retransmission_begun, fast_retransmission_marked, before_emit}
@@ -26,7 +26,7 @@ use Rattle.sock_tcp.specs.declared.timer.Timer.{Timer}
 use Rattle.sock_tcp.specs.declared.timer.Timer.TheVariants as timer
 use Rattle.tcp_laws.specs.Polling.{IsReached}
 use Rattle.tcp_laws.specs.SocketRun.{Sets}
-use Rattle.sock_tcp.proofs.Recovering.{timer_as}
+use Rattle.sock_tcp.proofs.Recovering.{begun_as, timer_as}
 use Rattle.tcp_laws.proofs.Kept.{Kept, KeptByBeginnings, KeptByCalls, KeptByRows, KeptBySegments, KeptBySending, acked_view, before_kept, heard_kept, process_kept, reached_kept, sends_kept, timer_then}
 use Rattle.tcp_laws.proofs.SocketSteps.{same_number, setting_leaves}
 
@@ -151,7 +151,7 @@ module _ (now : Instant) where
     remembers = λ v h. h;
     tells = λ v h. h;
     times_out = λ v h. h;
-    begins_again = λ v at e h. record { window = idle_probes now v.keep_alive v.remote_win_len; mss = h.mss };
+    begins_again = λ v at e h. record { window = begun_as (λ t. ProbesIn t v.remote_win_len) v.rules v.remote_win_len (length v.tx_buffer.bytes) now v.keep_alive (retransmitted (backed_off v.rtte)) (idle_probes now v.keep_alive v.remote_win_len) (λ z some. z); mss = h.mss };
     marks = λ v e h. record { window = idle_probes now v.keep_alive v.remote_win_len; mss = h.mss };
   }
 

@@ -25,11 +25,12 @@ use Rattle.sock_tcp.specs.declared.timer.Timer.TheVariants as timer
 use Rattle.tcp_laws.specs.Clocks.{IsAtMost, interval_set}
 use Rattle.tcp_laws.specs.SocketRun.{Sets}
 use Rattle.tcp_laws.specs.SocketRun.{SetCongestionControl, SetTimeout, SetAckDelay, SetNagle, SetKeepAlive, SetHopLimit, PauseSynAck, SetTsvalGenerator, SetRules, SetMinRto}
-use Rattle.sock_tcp.proofs.Recovering.{timer_as}
+use Rattle.sock_core.specs.Estimator.{backed_off, retransmitted}
+use Rattle.sock_tcp.proofs.Recovering.{begun_as, timer_as}
 use Rattle.tcp_laws.proofs.Kept.{Kept, KeptByBeginnings, KeptByCalls, KeptByRows, KeptBySegments, KeptBySending, process_kept, sends_kept}
 use Rattle.tcp_laws.proofs.SocketSteps.{same_number}
 use Rattle.tcp_laws.proofs.OrderedCalls.{same_flag}
-use Rattle.tcp_laws.proofs.Moments.{IsTimed, acked_by, acked_short, again_short, and_true, bounded_short, close_by, delayed_by, doubled_by, fast_short, idle_by, is_by, is_delay_by, is_short, is_timer_by, later_timed, opened_short, renewed_by, restarted_by, rto_by, sent_short, set_by, timed_by}
+use Rattle.tcp_laws.proofs.Moments.{IsTimed, acked_by, acked_short, again_short, and_true, bounded_short, close_by, delayed_by, doubled_by, fast_short, idle_by, is_by, is_delay_by, is_short, is_timer_by, later_timed, opened_short, probe_by, renewed_by, restarted_by, rto_by, sent_short, set_by, timed_by}
 
 module _ (most : Duration) (minute : 60000000 ≤ most.micros) where
   -- ---- a segment
@@ -104,7 +105,7 @@ module _ (most : Duration) (minute : 60000000 ≤ most.micros) where
       remembers = λ v h. h;
       tells = λ v h. h;
       times_out = λ v h. h;
-      begins_again = λ v at e h. record { timer = idle_by most minute now v.keep_alive h.keep_short; waits = h.waits; timeout = again_short v.rtte h.timeout; keep_short = h.keep_short; delay_short = h.delay_short };
+      begins_again = λ v at e h. record { timer = begun_as (λ t. is_timer_by now most t ≡ true) v.rules v.remote_win_len (length v.tx_buffer.bytes) now v.keep_alive (retransmitted (backed_off v.rtte)) (idle_by most minute now v.keep_alive h.keep_short) (λ z some. probe_by most minute now (retransmitted (backed_off v.rtte)) (again_short v.rtte h.timeout)); waits = h.waits; timeout = again_short v.rtte h.timeout; keep_short = h.keep_short; delay_short = h.delay_short };
       marks = λ v e h. record { timer = idle_by most minute now v.keep_alive h.keep_short; waits = h.waits; timeout = fast_short v.rtte h.timeout; keep_short = h.keep_short; delay_short = h.delay_short };
     }
 

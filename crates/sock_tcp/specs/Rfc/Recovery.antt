@@ -18,7 +18,7 @@ use Rattle.sock_tcp.specs.Content.{carries_data}
 use Rattle.sock_tcp.specs.Due.{flight, is_opening}
 use Rattle.sock_tcp.specs.Inside.{Outcome}
 use Rattle.sock_tcp.specs.Steps.{is_duplicate}
-use Rattle.sock_tcp.specs.Timers.{idle_from, retransmit_from}
+use Rattle.sock_tcp.specs.Timers.{idle_from, probe_from, retransmit_from}
 use Rattle.sock_tcp.specs.View.{View}
 use Rattle.sock_tcp.specs.declared.recovery.Before.{Before}
 use Rattle.sock_tcp.specs.declared.recovery.Recovery.{Recovery}
@@ -161,11 +161,13 @@ gone_on_from (timer.Retransmit at) now e = timer.Retransmit at
 gone_on_from t now e = retransmit_from now e
 
 -- with so much in flight and so many bytes in the transmit queue: it runs whenever something is in flight (rule 5.1),
--- and with nothing to send no window is probed (RFC 9293, section 3.8.6.1)
+-- with nothing to send no window is probed, and a probe has a byte: else what is in flight is waited for first (RFC
+-- 9293, section 3.8.6.1)
 abbrev pub running : Timer → ℕ → ℕ → Option Duration → Estimator → Instant → Timer
 running (timer.Idle at) sent queued keep e now = if sent == 0 then timer.Idle at else retransmit_from now e
 running (timer.ZeroWindowProbe at delay) sent queued keep e now =
-    if (sent == 0) && (queued == 0) then idle_from now keep else timer.ZeroWindowProbe at delay
+    if nat_le queued sent then (if sent == 0 then idle_from now keep else retransmit_from now e)
+    else timer.ZeroWindowProbe at delay
 running t sent queued keep e now = t
 
 abbrev pub waited_for : Before → View → Instant → Timer
@@ -215,6 +217,14 @@ recovered_by rules.Rfc v now s o =
       view = recovered_if (is_unheard (before_of v s) o.view) (before_of v s) o.view now;
       reply = o.reply;
     }
+
+-- ---- the retransmission timer is over: where the peer has no window and bytes wait, it is probed for, with the byte
+-- at SND.UNA (RFC 9293, section 3.8.6.1)
+
+abbrev pub begun_by : Rules → ℕ → ℕ → Instant → Option Duration → Estimator → Timer
+begun_by rules.Smoltcp window queued now keep e = idle_from now keep
+begun_by rules.Rfc window queued now keep e =
+    if (window == 0) && not (queued == 0) then probe_from now e else idle_from now keep
 
 -- ---- the retransmission timer is over (RFC 6582, section 4): what was sent until now is to be acknowledged before
 -- duplicates count again
