@@ -14,6 +14,7 @@ mod Reading
 mod Refused
 mod Replies
 mod Sending
+mod Taking
 mod Told
 mod Unsent
 mod UdpSending

@@ -1,5 +1,5 @@
 //! Sockets and bytes lent from the memory that C gave: the functions with raw pointers, proved by hand.
-ghost use Rattle.std.specs.Prelude.{◌≡◌, ◌≤◌, ◌^◌, length, None, Some};
+ghost use Rattle.std.specs.Prelude.{◌≡◌, ◌≤◌, ◌^◌, length, None, Some, is_some, true};
 ghost use Rattle.std.specs.Borrow.{follows};
 ghost use Rattle.std.specs.Ptr.{as_ptr};
 ghost use denote.Signature.{static_lft};
@@ -43,6 +43,15 @@ impl TcpRoom {
         unsafe {
             (self.at as *mut Socket<'static, Clock>).write(socket);
         }
+    }
+
+    /// Moves the socket out, and leaves room for another.
+    pub fn take(&mut self) -> Socket<'static, Clock>
+        requires there { is_some self.old.made ≡ true }
+        ensures socket { self.old.made ≡ Some result }
+        ensures empty { self.new ≡ record self.old { made = None } }
+    {
+        unsafe { (self.at as *mut Socket<'static, Clock>).read() }
     }
 }
 
