@@ -76,6 +76,15 @@ impl IcmpRoom {
             (self.at as *mut icmp::Socket<'static>).write(socket);
         }
     }
+
+    /// Moves the socket out, and leaves room for another.
+    pub fn take(&mut self) -> icmp::Socket<'static>
+        requires there { is_some self.old.made ≡ true }
+        ensures socket { self.old.made ≡ Some result }
+        ensures empty { self.new ≡ record self.old { made = None } }
+    {
+        unsafe { (self.at as *mut icmp::Socket<'static>).read() }
+    }
 }
 
 impl IcmpPlaceRoom {
@@ -122,6 +131,15 @@ impl UdpRoom {
             (self.at as *mut udp::Socket<'static>).write(socket);
         }
     }
+
+    /// Moves the socket out, and leaves room for another.
+    pub fn take(&mut self) -> udp::Socket<'static>
+        requires there { is_some self.old.made ≡ true }
+        ensures socket { self.old.made ≡ Some result }
+        ensures empty { self.new ≡ record self.old { made = None } }
+    {
+        unsafe { (self.at as *mut udp::Socket<'static>).read() }
+    }
 }
 
 impl UdpPlaceRoom {
@@ -167,6 +185,15 @@ impl RawRoom {
         unsafe {
             (self.at as *mut raw::Socket<'static>).write(socket);
         }
+    }
+
+    /// Moves the socket out, and leaves room for another.
+    pub fn take(&mut self) -> raw::Socket<'static>
+        requires there { is_some self.old.made ≡ true }
+        ensures socket { self.old.made ≡ Some result }
+        ensures empty { self.new ≡ record self.old { made = None } }
+    {
+        unsafe { (self.at as *mut raw::Socket<'static>).read() }
     }
 }
 

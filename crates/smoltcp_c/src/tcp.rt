@@ -1,9 +1,8 @@
 //! The calls of a TCP socket that take no context and no packet.
-ghost use Rattle.std.specs.Prelude.{◌≡◌, ◌+◌, ◌≤◌, ◌^◌, pos, length, None, is_some, true, option_map};
+ghost use Rattle.std.specs.Prelude.{◌≡◌, ◌+◌, ◌≤◌, ◌^◌, pos, length, None, option_map};
 ghost use Rattle.std.specs.Option.{ForSome};
 ghost use Rattle.smoltcp_c.specs.Answers.{listen_answer};
 ghost use Rattle.smoltcp_c.specs.Numbers.{TellsEnd, listen_in, listen_told};
-ghost use Rattle.smoltcp_c.specs.Release.{left_by_release, may_release, release_answer};
 ghost use Rattle.net_base.specs.Ring.{empty_ring};
 ghost use Rattle.sock_core.specs.Received.{receiving};
 ghost use Rattle.sock_tcp.specs.Closing.{closed, aborted};
@@ -14,14 +13,14 @@ ghost use Rattle.sock_tcp.specs.Ended.{ended_by_abort, ended_by_close};
 ghost use Rattle.smoltcp_c.specs.Ends.{ended_by_answer};
 ghost use Rattle.smoltcp_c.specs.Tcp.{Answers, clock, ended, view, IsSocket};
 
-use crate::answers::{ERROR_STATE, OK, listen_answer};
+use crate::answers::{OK, listen_answer};
 use crate::clock::Clock;
 use crate::endpoints::{Endpoint, endpoint_of, listen_in, listen_of};
 use crate::handles::{TcpHandle, TcpRoom};
 use crate::memory::Bytes;
 use ip_wire::IpEndpoint;
 use net_base::ring_buffer::RingBuffer;
-use sock_tcp::{Socket, State};
+use sock_tcp::Socket;
 
 /// Makes a closed socket over the two buffers, of at most 2^30 bytes each, in the room. The socket has no source of
 /// timestamps. The three pieces of memory are the socket's for good. Answers 0.
@@ -53,31 +52,6 @@ fn closed_over(rx: RingBuffer<'static, u8>, tx: RingBuffer<'static, u8>) -> Sock
     ensures ended { result.ended ≡ None }
 {
     Socket::closed(rx, tx, None)
-}
-
-/// Lets go of the socket in the room: there is room for another then, or for anything. 0, or `ERROR_STATE` where the
-/// socket is not CLOSED, TIME-WAIT being none that is, or a peer has yet to be told so by an RST; nothing changes then.
-/// What the socket still had to read is gone.
-#[unsafe(no_mangle)]
-pub extern "C" fn smoltcp_tcp_release_nonnull(room: &mut TcpRoom) -> i64
-    requires there { is_some room.old.made ≡ true }
-    ensures answer { result ≡ release_answer room.old.made }
-    ensures at { room.new.at ≡ room.old.at }
-    ensures made { room.new.made ≡ left_by_release room.old.made }
-{
-    let socket = room.take();
-    if may_release(&socket) {
-        return OK;
-    }
-    room.fill(socket);
-    ERROR_STATE
-}
-
-// Whether the socket is CLOSED, and no peer has yet to be told so.
-fn may_release(socket: &Socket<'_, Clock>) -> bool
-    ensures { result ≡ may_release socket.now.control_block }
-{
-    matches!(socket.state(), State::Closed) && socket.remote_endpoint().is_none()
 }
 
 /// Waits for a peer on this endpoint. 0, or an error: `ERROR_ADDRESS` where the port is 0, `ERROR_STATE` where the
