@@ -13,6 +13,7 @@ mod Placing
 mod Reading
 mod Refused
 mod Replies
+mod Returned
 mod Sending
 mod Taking
 mod Told

@@ -19,7 +19,7 @@ use crate::handles::{
     IcmpHandle, IcmpPlaceRoom, IcmpPlaces, IcmpRoom, RawHandle, RawPlaceRoom, RawPlaces, RawRoom,
     TcpHandle, TcpRoom, UdpHandle, UdpPlaceRoom, UdpPlaces, UdpRoom,
 };
-use crate::memory::{Bytes, Place};
+use crate::memory::{Bytes, GivenBack, Place};
 use sock_dgram::{icmp, raw, udp};
 use sock_tcp::Socket;
 
@@ -229,6 +229,17 @@ impl Bytes {
     {
         let Bytes { at, len } = self;
         unsafe { std::slice::from_raw_parts_mut(at, len) }
+    }
+}
+
+/// Bytes that were lent for good, and that nothing uses any more.
+pub fn given_back(bytes: &'static mut [u8]) -> GivenBack
+    ensures len { result.len ≡ length bytes.old }
+    ensures bytes { result.bytes ≡ Some bytes.old }
+{
+    GivenBack {
+        at: bytes.as_mut_ptr(),
+        len: bytes.len(),
     }
 }
 
