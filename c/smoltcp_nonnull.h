@@ -72,6 +72,7 @@ int64_t smoltcp_tcp_poll_at_nonnull(struct smoltcp_tcp_handle *h, const struct s
 int64_t smoltcp_tcp_process_nonnull(struct smoltcp_tcp_handle *h, const struct smoltcp_context *cx,
                                     const uint8_t *packet, size_t len, uint8_t *reply, size_t cap);
 int64_t smoltcp_tcp_recv_nonnull(struct smoltcp_tcp_handle *h, uint8_t *data, size_t cap);
+int64_t smoltcp_tcp_release_nonnull(struct smoltcp_tcp_handle *room);
 int64_t smoltcp_tcp_remote_endpoint_nonnull(struct smoltcp_tcp_handle *h, struct smoltcp_endpoint *out);
 int64_t smoltcp_tcp_reserve_nonnull(struct smoltcp_tcp_handle *h, struct smoltcp_place *out);
 int64_t smoltcp_tcp_reset_nonnull(const uint8_t *packet, size_t len, uint8_t *reply, size_t cap);

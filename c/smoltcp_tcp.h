@@ -14,8 +14,7 @@ extern "C" {
 int64_t smoltcp_tcp_ask(const struct smoltcp_tcp *s, uint32_t what);
 
 /* Makes a closed socket in the memory, over the two buffers, of at most 2^30 bytes each (else SMOLTCP_ERROR_RANGE, with
- * nothing changed). The memory and the buffers are the socket's for good: what is proved of the calls says nothing of a
- * program that uses them for something else later, though the library keeps nothing of them.
+ * nothing changed). The memory and the buffers are the socket's until smoltcp_tcp_release has answered SMOLTCP_OK.
  *
  * Errors: SMOLTCP_ERROR_RANGE, SMOLTCP_ERROR_VERSION, SMOLTCP_ERROR_NULL. */
 int64_t smoltcp_tcp_init(struct smoltcp_tcp *s, uint8_t *rx, size_t rx_len, uint8_t *tx, size_t tx_len);
@@ -25,6 +24,14 @@ int64_t smoltcp_tcp_init(struct smoltcp_tcp *s, uint8_t *rx, size_t rx_len, uint
 int64_t smoltcp_tcp_init_sized(struct smoltcp_tcp *s, size_t size, uint8_t *rx, size_t rx_len, uint8_t *tx,
                                size_t tx_len);
 #define smoltcp_tcp_init(s, ...) smoltcp_tcp_init_sized((s), sizeof *(s), __VA_ARGS__)
+
+/* Lets go of the socket. Its memory and its buffers are the program's again, to be freed, or used for anything: also by
+ * smoltcp_tcp_init, before which no other call may be made on it. SMOLTCP_ERROR_STATE, with nothing changed, where the
+ * socket is in any state but CLOSED, TIME-WAIT among them, or a peer has yet to be told by an RST: after
+ * smoltcp_tcp_abort, smoltcp_tcp_dispatch emits that. Bytes that came and were not read are gone.
+ *
+ * Errors: SMOLTCP_ERROR_STATE, SMOLTCP_ERROR_NULL. */
+int64_t smoltcp_tcp_release(struct smoltcp_tcp *s);
 
 /* Waits for a peer on this endpoint, whose address may be none. SMOLTCP_ERROR_ADDRESS where the port is 0, else
  * SMOLTCP_ERROR_STATE where the socket is open and does not listen there.

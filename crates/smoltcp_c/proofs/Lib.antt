@@ -13,7 +13,9 @@ mod Placing
 mod Reading
 mod Refused
 mod Replies
+mod Returned
 mod Sending
+mod Taking
 mod Told
 mod Unsent
 mod UdpSending

@@ -10,6 +10,7 @@ pub mod Packets
 pub mod Places
 pub mod Ports
 pub mod Raw
+pub mod Release
 pub mod Sends
 pub mod Sizes
 pub mod Streams

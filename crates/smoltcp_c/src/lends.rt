@@ -1,5 +1,5 @@
 //! Sockets and bytes lent from the memory that C gave: the functions with raw pointers, proved by hand.
-ghost use Rattle.std.specs.Prelude.{◌≡◌, ◌≤◌, ◌^◌, length, None, Some};
+ghost use Rattle.std.specs.Prelude.{◌≡◌, ◌≤◌, ◌^◌, length, None, Some, is_some, true};
 ghost use Rattle.std.specs.Borrow.{follows};
 ghost use Rattle.std.specs.Ptr.{as_ptr};
 ghost use denote.Signature.{static_lft};
@@ -19,7 +19,7 @@ use crate::handles::{
     IcmpHandle, IcmpPlaceRoom, IcmpPlaces, IcmpRoom, RawHandle, RawPlaceRoom, RawPlaces, RawRoom,
     TcpHandle, TcpRoom, UdpHandle, UdpPlaceRoom, UdpPlaces, UdpRoom,
 };
-use crate::memory::{Bytes, Place};
+use crate::memory::{Bytes, GivenBack, Place};
 use sock_dgram::{icmp, raw, udp};
 use sock_tcp::Socket;
 
@@ -44,6 +44,15 @@ impl TcpRoom {
             (self.at as *mut Socket<'static, Clock>).write(socket);
         }
     }
+
+    /// Moves the socket out, and leaves room for another.
+    pub fn take(&mut self) -> Socket<'static, Clock>
+        requires there { is_some self.old.made ≡ true }
+        ensures socket { self.old.made ≡ Some result }
+        ensures empty { self.new ≡ record self.old { made = None } }
+    {
+        unsafe { (self.at as *mut Socket<'static, Clock>).read() }
+    }
 }
 
 impl IcmpHandle {
@@ -66,6 +75,15 @@ impl IcmpRoom {
         unsafe {
             (self.at as *mut icmp::Socket<'static>).write(socket);
         }
+    }
+
+    /// Moves the socket out, and leaves room for another.
+    pub fn take(&mut self) -> icmp::Socket<'static>
+        requires there { is_some self.old.made ≡ true }
+        ensures socket { self.old.made ≡ Some result }
+        ensures empty { self.new ≡ record self.old { made = None } }
+    {
+        unsafe { (self.at as *mut icmp::Socket<'static>).read() }
     }
 }
 
@@ -113,6 +131,15 @@ impl UdpRoom {
             (self.at as *mut udp::Socket<'static>).write(socket);
         }
     }
+
+    /// Moves the socket out, and leaves room for another.
+    pub fn take(&mut self) -> udp::Socket<'static>
+        requires there { is_some self.old.made ≡ true }
+        ensures socket { self.old.made ≡ Some result }
+        ensures empty { self.new ≡ record self.old { made = None } }
+    {
+        unsafe { (self.at as *mut udp::Socket<'static>).read() }
+    }
 }
 
 impl UdpPlaceRoom {
@@ -159,6 +186,15 @@ impl RawRoom {
             (self.at as *mut raw::Socket<'static>).write(socket);
         }
     }
+
+    /// Moves the socket out, and leaves room for another.
+    pub fn take(&mut self) -> raw::Socket<'static>
+        requires there { is_some self.old.made ≡ true }
+        ensures socket { self.old.made ≡ Some result }
+        ensures empty { self.new ≡ record self.old { made = None } }
+    {
+        unsafe { (self.at as *mut raw::Socket<'static>).read() }
+    }
 }
 
 impl RawPlaceRoom {
@@ -193,6 +229,17 @@ impl Bytes {
     {
         let Bytes { at, len } = self;
         unsafe { std::slice::from_raw_parts_mut(at, len) }
+    }
+}
+
+/// Bytes that were lent for good, and that nothing uses any more.
+pub fn given_back(bytes: &'static mut [u8]) -> GivenBack
+    ensures len { result.len ≡ length bytes.old }
+    ensures bytes { result.bytes ≡ Some bytes.old }
+{
+    GivenBack {
+        at: bytes.as_mut_ptr(),
+        len: bytes.len(),
     }
 }
 

@@ -18,6 +18,7 @@ pub mod message;
 pub mod packets;
 pub mod ports;
 pub mod raw_filter;
+pub mod release;
 pub mod settings;
 pub mod sizes;
 pub mod streams;

@@ -1,5 +1,5 @@
 //! Memory that C gives a socket for good.
-ghost use Rattle.std.specs.Prelude.{ℕ, List};
+ghost use Rattle.std.specs.Prelude.{ℕ, List, Option};
 
 use std::marker::Model;
 
@@ -21,6 +21,21 @@ impl Model for Bytes {
     ghost use denote.Builtin.{u8};
 
     ghost also_owns = { λ m. lies_at (Array u8 m.len) full_share m.at m.bytes };
+}
+
+/// Bytes that were a socket's and are C's again, or none yet.
+#[repr(C)]
+#[derive(Drop)]
+pub struct GivenBack {
+    pub at: *mut u8,
+    pub len: usize,
+    pub ghost bytes: { Option (List ℕ) },
+}
+
+impl Model for GivenBack {
+    ghost use Rattle.smoltcp_c.specs.Memory.{given_at};
+
+    ghost also_owns = { λ m. given_at m.at m.len m.bytes };
 }
 
 /// Where some bytes of a socket's buffer lie, and how many they are.

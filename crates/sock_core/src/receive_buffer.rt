@@ -79,6 +79,16 @@ impl<'a> ReceiveBuffer<'a> {
         }
     }
 
+    /// The ring, whose queue is the buffer's. What was held behind it is not told any more.
+    #[tactic(auto, using(crate::proofs::ReceiveBuffers::room_is))]
+    pub fn into_ring(self) -> RingBuffer<'a, u8>
+        ensures queue { result.queue ≡ self.entry.bytes }
+        ensures places { capacity_of result ≡ room_of self.entry }
+    {
+        let ReceiveBuffer { ring, ranges: _ } = self;
+        ring
+    }
+
     /// What is always so: there are at most 2^30 places and four ranges, and the place behind the queue is free.
     #[tactic(auto, using(crate::proofs::ReceiveBuffers::bounds))]
     pub fn keeps_bounds(&self)

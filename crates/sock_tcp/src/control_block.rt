@@ -1,4 +1,8 @@
 //! The transmission control block (RFC 9293, section 3.3.1), and the value that contracts see.
+ghost use Rattle.std.specs.Prelude.{◌≡◌};
+ghost use Rattle.net_base.specs.Ring.{capacity_of};
+ghost use Rattle.sock_core.specs.Received.{room_of};
+ghost use Rattle.sock_tcp.specs.Queue.{queue_of};
 
 use crate::recovery::Recovery;
 use crate::rules::Rules;
@@ -139,4 +143,20 @@ impl<'a> Model for ControlBlock<'a> {
     ghost invariant = { λ s. IsSound s.rx_buffer (queue_of s.tx_buffer) s.tuple
         s.remote_win_shift s.remote_win_scale
         s.remote_mss s.timeout s.keep_alive s.ack_delay s.remote_last_ts s.timer s.state s.rx_fin_received };
+}
+
+impl<'a> ControlBlock<'a> {
+    // Both rings.
+    pub(crate) fn into_buffers(self) -> (RingBuffer<'a, u8>, RingBuffer<'a, u8>)
+        ensures received { result.0.queue ≡ self.entry.rx_buffer.bytes }
+        ensures places { capacity_of result.0 ≡ room_of self.entry.rx_buffer }
+        ensures sent { queue_of result.1 ≡ self.entry.tx_buffer }
+    {
+        let ControlBlock {
+            rx_buffer,
+            tx_buffer,
+            ..
+        } = self;
+        (rx_buffer.into_ring(), tx_buffer)
+    }
 }

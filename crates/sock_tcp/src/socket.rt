@@ -3,6 +3,7 @@ ghost use Rattle.std.specs.Prelude.{◌≡◌, ◌≤◌, ◌^◌, ◌+◌, ◌�
 ghost use Rattle.std.specs.Prelude.{None, is_some};
 ghost use Rattle.std.specs.Fn.{FnOnceReturnsAt, FnOnceReturnsAtMut};
 ghost use Rattle.control_wire.specs.Segment.{segment_of};
+ghost use Rattle.net_base.specs.Ring.{capacity_of};
 ghost use Rattle.sock_core.specs.Received.{receiving, room_of};
 ghost use Rattle.sock_tcp.specs.Queue.{queue_of, capacity};
 ghost use Rattle.sock_tcp.specs.View.{fresh, moment_of, FinSays};
@@ -61,6 +62,22 @@ impl<'a> Socket<'a> {
             tsval_generator: None,
             ended: None,
         }
+    }
+}
+
+impl<'a, G: Drop> Socket<'a, G> {
+    /// The two buffers: received bytes that were not read, and sent ones that were not acknowledged, are their queues.
+    pub fn into_buffers(self) -> (SocketBuffer<'a>, SocketBuffer<'a>)
+        ensures received { result.0.queue ≡ self.entry.control_block.rx_buffer.bytes }
+        ensures places { capacity_of result.0 ≡ room_of self.entry.control_block.rx_buffer }
+        ensures sent { queue_of result.1 ≡ self.entry.control_block.tx_buffer }
+    {
+        let Socket {
+            control_block,
+            tsval_generator: _,
+            ended: _,
+        } = self;
+        control_block.into_buffers()
     }
 }
 

@@ -210,6 +210,7 @@ unsafe extern "C" {
     pub fn smoltcp_tcp_process_nonnull(h: &mut TcpHandle, cx: &Context, packet: *const u8, len: usize, reply: *mut u8,
                                        cap: usize) -> i64;
     pub fn smoltcp_tcp_recv_nonnull(h: &mut TcpHandle, data: *mut u8, cap: usize) -> i64;
+    pub fn smoltcp_tcp_release_nonnull(room: &mut TcpHandle) -> i64;
     pub fn smoltcp_tcp_remote_endpoint_nonnull(h: &mut TcpHandle, out: &mut Endpoint) -> i64;
     pub fn smoltcp_tcp_reserve_nonnull(h: &mut TcpHandle, out: &mut Place) -> i64;
     pub fn smoltcp_tcp_reset_nonnull(packet: *const u8, len: usize, reply: *mut u8, cap: usize) -> i64;

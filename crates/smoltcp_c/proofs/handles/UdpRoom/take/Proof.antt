@@ -1,0 +1,19 @@
+-- `take` moves the socket out of the room. Assumes `Logic`.
+use Rattle.sock_dgram.specs.contracts.udp.socket.Socket.{the_row}
+use Rattle.sock_dgram.proofs.udp.socket.Socket.TheLaws.{the_row_laws}
+use Rattle.smoltcp_c.specs.declared.handles.UdpRoom.{UdpRoom}
+use Rattle.smoltcp_c.specs.contracts.handles.UdpRoom.{the_type}
+use Rattle.smoltcp_c.specs.contracts.handles.UdpRoom.take as f
+use Rattle.smoltcp_c.specs.contracts.handles.UdpRoom.take.Key.{name}
+use Rattle.smoltcp_c.proofs.Taking.{take_met}
+use Rattle.smoltcp_c.proofs.Owned.{None, entered, refl, static_lft, tables, tables_of, triple_of}
+use Rattle.smoltcp_c.proofs.handles.UdpRoom.take.Statement.{statement}
+use Rattle.smoltcp_c.proofs.handles.UdpRoom.take.Code as code
+
+pub take_spec : {M : Type 1} → statement M
+unfolding tables_of
+take_spec 𝓤 𝓛 𝓜 𝓡 wired =
+    let 𝓣 = tables 𝓤 𝓛.H 𝓜 𝓡 𝓡.env in
+    entered 𝓤 𝓛.H (triple_of 𝓛 f.signature (f.spec 𝓛 𝓜.mem 𝓡.returns)) 𝓣.C 𝓣.Λ name code.function (code.unfolded 𝓤 𝓛.H 𝓜 𝓡 wired)
+    (take_met (the_type).name UdpRoom (λ d. d.at) (the_type).coded (the_type).exit (the_type).shr_at (the_row static_lft) (λ d. d.made) (λ d. record d { made = None }) (λ d. refl) (λ d. refl)
+    (the_row_laws static_lft) 𝓛 (tables_of 𝓤 𝓛.H 𝓜 𝓣) code.function _ _ _ _ _ refl refl refl refl)
