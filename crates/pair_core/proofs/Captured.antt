@@ -1,5 +1,5 @@
 -- From the one call of `emit` to what a host records of a dispatch.
-use Rattle.std.proofs.Common.{◌≡◌, ℕ, ◌+◌, ◌<◌, ◌≤◌, List, [], ◌++◌, length, min, max, Bool, true, false, Option, Some, None, refl, sym, ◌∙◌, ap, subst, arith}
+use Rattle.std.proofs.Common.{◌≡◌, ℕ, ◌+◌, ◌-◌, ◌<◌, ◌≤◌, List, [], ◌++◌, length, min, max, Bool, true, false, Option, Some, None, refl, sym, ◌∙◌, ap, subst, arith}
 use Rattle.std.specs.Prelude.{Result, Ok, Err, OnOk, OnErr, is_ok, not, IsTrue, vec_len, vec_capacity, if◌then◌else◌, option_map, IsSomeAnd}
 use Rattle.std.proofs.lemmas.Option.{none-some, same_Some}
 use Rattle.std.specs.Borrow.{MutBor}
@@ -17,7 +17,9 @@ use Rattle.sock_tcp.specs.View.{View, fresh, moment_of}
 use Rattle.sock_tcp.specs.Begin.{before_emit, fast_retransmission_marked, retransmission_begun, peer_of}
 use Rattle.sock_tcp.specs.Opening.{renewed}
 use Rattle.tcp_laws.proofs.Kept.{before_kept}
-use Rattle.sock_tcp.specs.Due.{congestion_left, effective_mss}
+use Rattle.ip_wire.specs.declared.address.IpAddress.{IpAddress}
+use Rattle.ip_wire.specs.declared.address.IpAddress.TheVariants as address
+use Rattle.sock_tcp.specs.Due.{congestion_left, effective_mss, ip_header_len, mtu_for, timestamp_room}
 use Rattle.sock_tcp.specs.Content.{Sending, asked, offset_of, is_probing, content, filled, emission_kind, of_kind, sent_as, carries_data, window_left, plain_segment}
 use Rattle.sock_core.specs.Emission.{Emits, EmitsAt}
 use Rattle.sock_tcp.specs.Outgoing.{packet_of}
@@ -59,18 +61,28 @@ content_len v t f stamp bytes n h one s e = go (filled v.state v t f bytes (plai
         let q : sent_as v t (emission_kind v (moment_of f) x) x ≡ s = same_Some (sent_as v t (emission_kind v (moment_of f) x) x) s e in
         subst (λ (y : Sending). length y.segment.payload ≤ n) q (kind_len v (moment_of f) x n (omega (arith, le, h)) one)
 
-asked_len : (v : View) (t : Tuple) (f : Facts) → asked v t f ≤ f.mtu
-unfolding asked
-asked_len v t f = go (carries_data v.state) v.pending_fast_retransmit (is_probing v (moment_of f))
+mss_len : (v : View) (t : Tuple) (f : Facts) → 576 ≤ f.mtu → effective_mss v t f ≤ f.mtu
+mss_len v t f long = go t.local.addr
   where
+    go : (a : IpAddress) → min (mtu_for a f.mtu - ip_header_len a - 20) v.remote_mss - timestamp_room v.stamps ≤ f.mtu
+    go (address.Ipv4 a) = omega arith
+    go (address.Ipv6 a) = omega (arith, long)
+
+asked_len : (v : View) (t : Tuple) (f : Facts) → 576 ≤ f.mtu → asked v t f ≤ f.mtu
+unfolding asked
+asked_len v t f long = go (carries_data v.state) v.pending_fast_retransmit (is_probing v (moment_of f))
+  where
+    m : effective_mss v t f ≤ f.mtu
+    m = mss_len v t f long
+
     go : (a b p : Bool) → (if a then (if b then effective_mss v t f else (if p then min 1 (effective_mss v t f) else min (min (window_left v) (effective_mss v t f)) (congestion_left v))) else 0) ≤ f.mtu
-    go true true p = omega arith
-    go true false true = omega arith
-    go true false false = omega arith
+    go true true p = m
+    go true false true = omega (arith, m)
+    go true false false = omega (arith, m)
     go false b p = omega arith
 
-pub payload_at_most : (v : View) (t : Tuple) (f : Facts) (stamp : Option ℕ) (bytes : List ℕ) (s : Sending) → 1 ≤ f.mtu → IsLent v.tx_buffer (offset_of v) (asked v t f) bytes → content v t f stamp bytes ≡ Some s → length s.segment.payload ≤ min f.mtu (max 1 (length v.tx_buffer.bytes))
-payload_at_most v t f stamp bytes s one lent e = content_len v t f stamp bytes (min f.mtu (max 1 (length v.tx_buffer.bytes))) (omega (arith, asked_len v t f, lent_at_most v.tx_buffer (offset_of v) (asked v t f) bytes lent)) (omega (arith, one)) s e
+pub payload_at_most : (v : View) (t : Tuple) (f : Facts) (stamp : Option ℕ) (bytes : List ℕ) (s : Sending) → 576 ≤ f.mtu → IsLent v.tx_buffer (offset_of v) (asked v t f) bytes → content v t f stamp bytes ≡ Some s → length s.segment.payload ≤ min f.mtu (max 1 (length v.tx_buffer.bytes))
+payload_at_most v t f stamp bytes s one lent e = content_len v t f stamp bytes (min f.mtu (max 1 (length v.tx_buffer.bytes))) (omega (arith, asked_len v t f one, lent_at_most v.tx_buffer (offset_of v) (asked v t f) bytes lent)) (omega (arith, one)) s e
 
 -- a dispatch finds no more bytes queued when it emits than when it begins
 queue_at_most : (v : View) (f : Facts) (n : ℕ) → length v.tx_buffer.bytes ≤ n → length (before_emit v f).view.tx_buffer.bytes ≤ n
@@ -137,7 +149,7 @@ module _ {F : Type 0} (g : Once F (MutBor Capture × ((IpRepr × TcpRepr) × Uni
           (went u x (held (kept_at (Ok u) x).1), left (Ok u) x)
       go false b (Err d) x = absurd (full b d x)
 
-  pub socket_dispatched : {G : Type 0} (tells : G → ℕ → Type 0) (clock : Option G) (c c' : Capture) (v new : View) (facts : Facts) (r : Result (Unit {0}) EmitFailed) → IsReady c → 1 ≤ facts.mtu → min facts.mtu (max 1 (length v.tx_buffer.bytes)) ≤ mtu → Dispatches g f facts tells clock v c r new c' → SocketDispatches tells clock v facts fail (sent_of r c') new
+  pub socket_dispatched : {G : Type 0} (tells : G → ℕ → Type 0) (clock : Option G) (c c' : Capture) (v new : View) (facts : Facts) (r : Result (Unit {0}) EmitFailed) → IsReady c → 576 ≤ facts.mtu → min facts.mtu (max 1 (length v.tx_buffer.bytes)) ≤ mtu → Dispatches g f facts tells clock v c r new c' → SocketDispatches tells clock v facts fail (sent_of r c') new
   unfolding Dispatches SocketDispatches
   socket_dispatched tells clock c c' v new facts r ready one small h = to (peer_of (before_emit v facts)) h
     where
