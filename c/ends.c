@@ -1,6 +1,7 @@
-/* Why a connection ended, what was agreed, and bytes past the end of a ring, on two sockets whose packets are handed
- * from one to the other. Expected values are RFC 9293's, 7323's and 2018's. */
+/* Why a connection ended, what was agreed, bytes past the end of a ring, and when memory is the program's again, on two
+ * sockets whose packets are handed from one to the other. Expected values are RFC 9293's, 7323's and 2018's. */
 #include <stdio.h>
+#include <stdlib.h>
 #include <string.h>
 
 #include "smoltcp_socket.h"
@@ -39,29 +40,36 @@ static void begin(void) {
     }
 }
 
-static void connect_to_80(void) {
+static void connect_from(struct smoltcp_tcp *client) {
     struct smoltcp_endpoint peer = endpoint(2, 80), own = endpoint(1, 50000);
-    want("connect", smoltcp_tcp_connect(&s[0], &cx[0], &peer, &own), SMOLTCP_OK);
+    want("connect", smoltcp_tcp_connect(client, &cx[0], &peer, &own), SMOLTCP_OK);
 }
+
+static void connect_to_80(void) { connect_from(&s[0]); }
 
 static void listen_at_80(void) {
     struct smoltcp_endpoint own = endpoint(2, 80);
     want("listen", smoltcp_tcp_listen(&s[1], &own), SMOLTCP_OK);
 }
 
-/* Hands packets over, in both directions, until none is due. */
-static void exchange(void) {
+/* Hands packets over between a client and a server, in both directions, until none is due. */
+static void exchange_with(struct smoltcp_tcp *client, struct smoltcp_tcp *server) {
+    struct smoltcp_tcp *side[2];
     uint8_t packet[MTU], reply[SMOLTCP_REPLY_ROOM];
     int rounds, i;
+    side[0] = client;
+    side[1] = server;
     for (rounds = 0; rounds < 20; rounds++) {
         for (i = 0; i < 2; i++) {
-            int64_t len = smoltcp_tcp_dispatch(&s[i], &cx[i], packet, sizeof packet);
+            int64_t len = smoltcp_tcp_dispatch(side[i], &cx[i], packet, sizeof packet);
             if (len <= 0) continue;
-            len = smoltcp_tcp_process(&s[1 - i], &cx[1 - i], packet, (size_t)len, reply, sizeof reply);
-            if (len > 0) smoltcp_tcp_process(&s[i], &cx[i], reply, (size_t)len, packet, sizeof packet);
+            len = smoltcp_tcp_process(side[1 - i], &cx[1 - i], packet, (size_t)len, reply, sizeof reply);
+            if (len > 0) smoltcp_tcp_process(side[i], &cx[i], reply, (size_t)len, packet, sizeof packet);
         }
     }
 }
+
+static void exchange(void) { exchange_with(&s[0], &s[1]); }
 
 static void open_both(void) {
     begin();
@@ -155,6 +163,64 @@ static void past_the_end(void) {
     want("its bytes", memcmp(back, bytes + 50, 40), 0);
 }
 
+/* A socket in memory of the heap: where it may be let go of, what its memory and its buffers serve for then, and that
+ * nothing is written there any more. */
+static void released(void) {
+    struct smoltcp_tcp *client = malloc(sizeof *client);
+    uint8_t *in = malloc(ROOM), *out = malloc(ROOM), *lent_in = NULL, *lent_out = NULL, byte = 7;
+    int i, same = 1;
+    if (!client || !in || !out) exit(1);
+    begin();
+    at(1);
+    want("init", smoltcp_tcp_init(client, in, ROOM, out, ROOM), SMOLTCP_OK);
+    listen_at_80();
+    want("a listener is released", smoltcp_tcp_release(&s[1], &lent_in, NULL), SMOLTCP_ERROR_STATE);
+    want("nothing is told", lent_in == NULL, 1);
+    connect_from(client);
+    exchange_with(client, &s[1]);
+    want("an open socket is released", smoltcp_tcp_release(client, NULL, NULL), SMOLTCP_ERROR_STATE);
+    want("it is open", smoltcp_tcp_state(client), SMOLTCP_ESTABLISHED);
+    smoltcp_tcp_abort(client);
+    want("an RST is due", smoltcp_tcp_release(client, NULL, NULL), SMOLTCP_ERROR_STATE);
+    exchange_with(client, &s[1]);
+    want("the peer was told", smoltcp_tcp_ended(&s[1]), SMOLTCP_END_RESET);
+    want("the peer is released", smoltcp_tcp_release(&s[1], &lent_in, NULL), SMOLTCP_OK);
+    want("its buffer", lent_in == rx[1], 1);
+    want("an aborted socket is released", smoltcp_tcp_release(client, &lent_in, &lent_out), SMOLTCP_OK);
+    want("its buffers", lent_in == in && lent_out == out, 1);
+
+    want("made anew", smoltcp_tcp_init(client, lent_out, ROOM, lent_in, ROOM), SMOLTCP_OK);
+    want("init", smoltcp_tcp_init(&s[1], rx[1], ROOM, tx[1], ROOM), SMOLTCP_OK);
+    listen_at_80();
+    cx[0].word += 70000;
+    connect_from(client);
+    exchange_with(client, &s[1]);
+    want("send", smoltcp_tcp_send(client, &byte, 1), 1);
+    smoltcp_tcp_close(client);
+    exchange_with(client, &s[1]);
+    byte = 0;
+    want("recv", smoltcp_tcp_recv(&s[1], &byte, 1), 1);
+    want("the byte", byte, 7);
+    smoltcp_tcp_close(&s[1]);
+    exchange_with(client, &s[1]);
+    want("TIME-WAIT is released", smoltcp_tcp_release(client, NULL, NULL), SMOLTCP_ERROR_STATE);
+    at(12);
+    exchange_with(client, &s[1]);
+    want("released", smoltcp_tcp_release(client, NULL, NULL), SMOLTCP_OK);
+    memset(client, 0xa5, sizeof *client);
+    memset(in, 0xa5, ROOM);
+    memset(out, 0xa5, ROOM);
+    connect_to_80();
+    listen_at_80();
+    exchange();
+    for (i = 0; i < ROOM; i++) same &= in[i] == 0xa5 && out[i] == 0xa5;
+    want("nothing is written there", same, 1);
+    free(client);
+    free(in);
+    free(out);
+    want("no socket", smoltcp_tcp_release(NULL, NULL, NULL), SMOLTCP_ERROR_NULL);
+}
+
 /* Memory of another size, as a program would have that was compiled with another header. */
 static void another_size(void) {
     struct smoltcp_tcp socket;
@@ -170,6 +236,7 @@ int main(void) {
     agreed();
     ends();
     past_the_end();
+    released();
     another_size();
     printf(failed ? "FAILED\n" : "ends: passed\n");
     return failed;

@@ -16,10 +16,11 @@ ghost use Rattle.sock_dgram.specs.contracts.udp.socket.Socket.{the_row as udp_ro
 
 use crate::clock::Clock;
 use crate::handles::{
-    IcmpHandle, IcmpPlaceRoom, IcmpPlaces, IcmpRoom, RawHandle, RawPlaceRoom, RawPlaces, RawRoom,
-    TcpHandle, TcpRoom, UdpHandle, UdpPlaceRoom, UdpPlaces, UdpRoom,
+    IcmpHandle, IcmpPlaceRoom, IcmpPlaces, IcmpPlacesBack, IcmpRoom, RawHandle, RawPlaceRoom,
+    RawPlaces, RawPlacesBack, RawRoom, TcpHandle, TcpRoom, UdpHandle, UdpPlaceRoom, UdpPlaces,
+    UdpPlacesBack, UdpRoom,
 };
-use crate::memory::{Bytes, GivenBack, Place};
+use crate::memory::{Bytes, BytesBack, Place};
 use sock_dgram::{icmp, raw, udp};
 use sock_tcp::Socket;
 
@@ -110,6 +111,19 @@ impl IcmpPlaces {
     }
 }
 
+impl IcmpPlacesBack {
+    /// Of places that were lent for good, and that nothing uses any more.
+    pub fn of(places: &'static mut [icmp::PacketMetadata]) -> IcmpPlacesBack
+        ensures len { result.len ≡ length places.old }
+        ensures given { result.given ≡ true }
+    {
+        IcmpPlacesBack {
+            at: places.as_mut_ptr() as *mut u8,
+            len: places.len(),
+        }
+    }
+}
+
 impl UdpHandle {
     /// The socket: what is done to it is done to the handle's.
     pub fn socket(&mut self) -> &mut udp::Socket<'static>
@@ -162,6 +176,19 @@ impl UdpPlaces {
     {
         let UdpPlaces { at, len } = self;
         unsafe { std::slice::from_raw_parts_mut(at as *mut udp::PacketMetadata, len) }
+    }
+}
+
+impl UdpPlacesBack {
+    /// Of places that were lent for good, and that nothing uses any more.
+    pub fn of(places: &'static mut [udp::PacketMetadata]) -> UdpPlacesBack
+        ensures len { result.len ≡ length places.old }
+        ensures given { result.given ≡ true }
+    {
+        UdpPlacesBack {
+            at: places.as_mut_ptr() as *mut u8,
+            len: places.len(),
+        }
     }
 }
 
@@ -220,6 +247,19 @@ impl RawPlaces {
     }
 }
 
+impl RawPlacesBack {
+    /// Of places that were lent for good, and that nothing uses any more.
+    pub fn of(places: &'static mut [raw::PacketMetadata]) -> RawPlacesBack
+        ensures len { result.len ≡ length places.old }
+        ensures given { result.given ≡ true }
+    {
+        RawPlacesBack {
+            at: places.as_mut_ptr() as *mut u8,
+            len: places.len(),
+        }
+    }
+}
+
 impl Bytes {
     /// The bytes, for good.
     pub fn lend(self) -> &'static mut [u8]
@@ -232,14 +272,16 @@ impl Bytes {
     }
 }
 
-/// Bytes that were lent for good, and that nothing uses any more.
-pub fn given_back(bytes: &'static mut [u8]) -> GivenBack
-    ensures len { result.len ≡ length bytes.old }
-    ensures bytes { result.bytes ≡ Some bytes.old }
-{
-    GivenBack {
-        at: bytes.as_mut_ptr(),
-        len: bytes.len(),
+impl BytesBack {
+    /// Of bytes that were lent for good, and that nothing uses any more.
+    pub fn of(bytes: &'static mut [u8]) -> BytesBack
+        ensures len { result.len ≡ length bytes.old }
+        ensures given { result.given ≡ true }
+    {
+        BytesBack {
+            at: bytes.as_mut_ptr(),
+            len: bytes.len(),
+        }
     }
 }
 
