@@ -221,6 +221,82 @@ static void released(void) {
     want("no socket", smoltcp_tcp_release(NULL, NULL, NULL), SMOLTCP_ERROR_NULL);
 }
 
+#define WANT_BACK(back, was) \
+    want("a buffer comes back", (back).places == (was).places && (back).count == (was).count \
+                                && (back).bytes == (was).bytes && (back).len == (was).len, 1)
+
+/* UDP, raw and ICMP sockets are let go of in any state, and their buffers, here of the heap, serve again. */
+static void udp_released(void) {
+    struct smoltcp_udp_place *places = malloc(2 * sizeof *places);
+    uint8_t *bytes = malloc(2 * ROOM);
+    struct smoltcp_udp_buffer rx = {places, 1, bytes, ROOM}, tx = {NULL, 1, NULL, ROOM}, rx_back, tx_back;
+    struct smoltcp_udp_metadata meta;
+    struct smoltcp_endpoint own = endpoint(1, 5353);
+    struct smoltcp_udp socket;
+    if (!places || !bytes) exit(1);
+    tx.places = places + 1;
+    tx.bytes = bytes + ROOM;
+    memset(&meta, 0, sizeof meta);
+    meta.endpoint = endpoint(2, 53);
+    want("init", smoltcp_udp_init(&socket, rx, tx), SMOLTCP_OK);
+    want("bind", smoltcp_udp_bind(&socket, &own), SMOLTCP_OK);
+    want("send", smoltcp_udp_send(&socket, &meta, (const uint8_t *)"ask", 3), SMOLTCP_OK);
+    want("released", smoltcp_udp_release(&socket, &rx_back, &tx_back), SMOLTCP_OK);
+    WANT_BACK(rx_back, rx);
+    WANT_BACK(tx_back, tx);
+    memset(&socket, 0xa5, sizeof socket);
+    want("made anew", smoltcp_udp_init(&socket, tx_back, rx_back), SMOLTCP_OK);
+    want("bound to nothing", smoltcp_udp_is_open(&socket), 0);
+    want("nothing waits", smoltcp_udp_send_queue(&socket), 0);
+    want("bind", smoltcp_udp_bind(&socket, &own), SMOLTCP_OK);
+    want("released", smoltcp_udp_release(&socket, NULL, NULL), SMOLTCP_OK);
+    free(places);
+    free(bytes);
+    want("no socket", smoltcp_udp_release(NULL, NULL, NULL), SMOLTCP_ERROR_NULL);
+}
+
+static void raw_released(void) {
+    struct smoltcp_raw_place places[3];
+    uint8_t bytes[2][ROOM];
+    struct smoltcp_raw_buffer rx = {NULL, 1, NULL, ROOM}, tx = {NULL, 2, NULL, ROOM}, rx_back, tx_back;
+    struct smoltcp_raw_filter udp = {4, 0, 17}, any = {0, 1, 0};
+    struct smoltcp_raw socket;
+    rx.places = places;
+    rx.bytes = bytes[0];
+    tx.places = places + 1;
+    tx.bytes = bytes[1];
+    want("init", smoltcp_raw_init(&socket, &udp, rx, tx), SMOLTCP_OK);
+    want("released", smoltcp_raw_release(&socket, &rx_back, &tx_back), SMOLTCP_OK);
+    WANT_BACK(rx_back, rx);
+    WANT_BACK(tx_back, tx);
+    want("made anew", smoltcp_raw_init(&socket, &any, rx_back, tx_back), SMOLTCP_OK);
+    want("another filter", smoltcp_raw_ip_protocol(&socket), SMOLTCP_RAW_ANY);
+    want("no socket", smoltcp_raw_release(NULL, NULL, NULL), SMOLTCP_ERROR_NULL);
+}
+
+static void icmp_released(void) {
+    struct smoltcp_icmp_place places[3];
+    uint8_t bytes[2][ROOM];
+    struct smoltcp_icmp_buffer rx = {NULL, 2, NULL, ROOM}, tx = {NULL, 1, NULL, ROOM}, rx_back, tx_back;
+    struct smoltcp_icmp_endpoint echoes;
+    struct smoltcp_icmp socket;
+    memset(&echoes, 0, sizeof echoes);
+    echoes.kind = SMOLTCP_ICMP_IDENT;
+    echoes.ident = 7;
+    rx.places = places;
+    rx.bytes = bytes[0];
+    tx.places = places + 2;
+    tx.bytes = bytes[1];
+    want("init", smoltcp_icmp_init(&socket, rx, tx), SMOLTCP_OK);
+    want("bind", smoltcp_icmp_bind(&socket, &echoes), SMOLTCP_OK);
+    want("released", smoltcp_icmp_release(&socket, &rx_back, &tx_back), SMOLTCP_OK);
+    WANT_BACK(rx_back, rx);
+    WANT_BACK(tx_back, tx);
+    want("made anew", smoltcp_icmp_init(&socket, rx_back, tx_back), SMOLTCP_OK);
+    want("bound anew", smoltcp_icmp_bind(&socket, &echoes), SMOLTCP_OK);
+    want("no socket", smoltcp_icmp_release(NULL, NULL, NULL), SMOLTCP_ERROR_NULL);
+}
+
 /* Memory of another size, as a program would have that was compiled with another header. */
 static void another_size(void) {
     struct smoltcp_tcp socket;
@@ -237,6 +313,9 @@ int main(void) {
     ends();
     past_the_end();
     released();
+    udp_released();
+    raw_released();
+    icmp_released();
     another_size();
     printf(failed ? "FAILED\n" : "ends: passed\n");
     return failed;

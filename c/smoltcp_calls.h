@@ -219,6 +219,7 @@ SMOLTCP_INLINE int64_t smoltcp_raw_init_sized(struct smoltcp_raw *s, size_t size
     size_t i;
     if (!s || !filter || !rx.places || !rx.bytes || !tx.places || !tx.bytes) return SMOLTCP_ERROR_NULL;
     if (size != smoltcp_sizes().raw) return SMOLTCP_ERROR_VERSION;
+    if (filter->version != 0 && filter->version != 4 && filter->version != 6) return SMOLTCP_ERROR_RANGE;
     if (rx.count > SMOLTCP_LONGEST_BUFFER || rx.len > SMOLTCP_LONGEST_BUFFER) return SMOLTCP_ERROR_RANGE;
     if (tx.count > SMOLTCP_LONGEST_BUFFER || tx.len > SMOLTCP_LONGEST_BUFFER) return SMOLTCP_ERROR_RANGE;
     for (i = 0; i < rx.count; i++) {

@@ -101,7 +101,7 @@ impl IcmpPlaceRoom {
 }
 
 impl IcmpPlaces {
-    /// The places, for good.
+    /// The places, as a borrow that never ends.
     pub fn lend(self) -> &'static mut [icmp::PacketMetadata]
         requires short { self.len ≤ 2 ^ 30 }
         ensures len { self.len ≡ length result.now }
@@ -112,7 +112,7 @@ impl IcmpPlaces {
 }
 
 impl IcmpPlacesBack {
-    /// Of places that were lent for good, and that nothing uses any more.
+    /// Of places that were lent so, and that nothing else uses any more.
     pub fn of(places: &'static mut [icmp::PacketMetadata]) -> IcmpPlacesBack
         ensures len { result.len ≡ length places.old }
         ensures given { result.given ≡ true }
@@ -169,7 +169,7 @@ impl UdpPlaceRoom {
 }
 
 impl UdpPlaces {
-    /// The places, for good.
+    /// The places, as a borrow that never ends.
     pub fn lend(self) -> &'static mut [udp::PacketMetadata]
         requires short { self.len ≤ 2 ^ 30 }
         ensures len { self.len ≡ length result.now }
@@ -180,7 +180,7 @@ impl UdpPlaces {
 }
 
 impl UdpPlacesBack {
-    /// Of places that were lent for good, and that nothing uses any more.
+    /// Of places that were lent so, and that nothing else uses any more.
     pub fn of(places: &'static mut [udp::PacketMetadata]) -> UdpPlacesBack
         ensures len { result.len ≡ length places.old }
         ensures given { result.given ≡ true }
@@ -237,7 +237,7 @@ impl RawPlaceRoom {
 }
 
 impl RawPlaces {
-    /// The places, for good.
+    /// The places, as a borrow that never ends.
     pub fn lend(self) -> &'static mut [raw::PacketMetadata]
         requires short { self.len ≤ 2 ^ 30 }
         ensures len { self.len ≡ length result.now }
@@ -248,7 +248,7 @@ impl RawPlaces {
 }
 
 impl RawPlacesBack {
-    /// Of places that were lent for good, and that nothing uses any more.
+    /// Of places that were lent so, and that nothing else uses any more.
     pub fn of(places: &'static mut [raw::PacketMetadata]) -> RawPlacesBack
         ensures len { result.len ≡ length places.old }
         ensures given { result.given ≡ true }
@@ -261,7 +261,7 @@ impl RawPlacesBack {
 }
 
 impl Bytes {
-    /// The bytes, for good.
+    /// The bytes, as a borrow that never ends.
     pub fn lend(self) -> &'static mut [u8]
         requires short { self.len ≤ 2 ^ 30 }
         ensures bytes { result.now ≡ self.bytes }
@@ -273,7 +273,7 @@ impl Bytes {
 }
 
 impl BytesBack {
-    /// Of bytes that were lent for good, and that nothing uses any more.
+    /// Of bytes that were lent so, and that nothing else uses any more.
     pub fn of(bytes: &'static mut [u8]) -> BytesBack
         ensures len { result.len ≡ length bytes.old }
         ensures given { result.given ≡ true }

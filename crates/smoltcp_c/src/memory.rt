@@ -1,4 +1,4 @@
-//! Memory that C gives a socket for good.
+//! Memory that C gives a socket, and has back.
 ghost use Rattle.std.specs.Prelude.{ℕ, List, Bool};
 
 use std::marker::Model;
