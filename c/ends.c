@@ -27,9 +27,20 @@ static struct smoltcp_endpoint endpoint(int last, int port) {
 /* The moment of both sides, in seconds. */
 static void at(int64_t seconds) { cx[0].now = cx[1].now = seconds * 1000000; }
 
+/* Ends what a socket does, so that its memory may be used anew. */
+static void let_go(int i) {
+    uint8_t packet[MTU];
+    smoltcp_tcp_abort(&s[i]);
+    smoltcp_tcp_dispatch(&s[i], &cx[i], packet, sizeof packet);
+    want("let go", smoltcp_tcp_release(&s[i], NULL, NULL), SMOLTCP_OK);
+}
+
 /* Two closed sockets, a client and a server. */
 static void begin(void) {
+    static int begun;
     int i;
+    for (i = 0; i < 2 && begun; i++) let_go(i);
+    begun = 1;
     for (i = 0; i < 2; i++) {
         struct smoltcp_address own = smoltcp_ipv4(10, 0, 0, (uint8_t)(i + 1));
         memset(&cx[i], 0, sizeof cx[i]);
