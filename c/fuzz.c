@@ -5,7 +5,8 @@
  *
  * It checks that each answer is one that the header names, that nothing is written behind what was answered, that a
  * refused call changes no byte of a socket or of a place of its queues, that nothing goes out from an address that was
- * never set, and that the bytes read are those that were sent. */
+ * never set, that the bytes read are those that were sent, and that a TCP socket may go exactly where it is CLOSED and
+ * its peer was told. */
 #define _DEFAULT_SOURCE
 #include <stdio.h>
 #include <stdlib.h>
@@ -22,6 +23,7 @@ enum { PAGE = 4096, LONGEST = 3 * PAGE, MTU = 1500, KEPT = 8, WRITTEN = 1 << 16,
  * send since it was opened, and how much of the other's was read, where the connection was never broken. */
 struct end {
     struct smoltcp_tcp tcp;
+    uint8_t *rx, *tx;
     struct smoltcp_udp udp;
     struct smoltcp_udp_place places[2][PLACES];
     struct smoltcp_raw raw;
@@ -86,9 +88,36 @@ static struct smoltcp_icmp_buffer icmp_queue(struct smoltcp_icmp_place *places, 
     return buffer;
 }
 
+/* A refused call changes no byte of the socket, nor a refused send of the places of its transmit queue. */
+static void kept(const char *what, int64_t answer, const void *was, const void *is, size_t size) {
+    if (answer < 0 && memcmp(was, is, size) != 0) fail(what, answer);
+}
+
+/* All sockets of an end are let go of: TCP's at once where it is CLOSED and its peer was told, and else after that. */
+static void let_go(struct end *e) {
+    struct smoltcp_tcp was = e->tcp;
+    uint8_t *rx = NULL, *tx = NULL;
+    int64_t state_was = smoltcp_tcp_state(&e->tcp);
+    int64_t answer = named("release", smoltcp_tcp_release(&e->tcp, &rx, &tx), 0);
+    kept("release", answer, &was, &e->tcp, sizeof was);
+    if (answer != SMOLTCP_OK) {
+        if (answer != SMOLTCP_ERROR_STATE || rx || tx) fail("release", answer);
+        smoltcp_tcp_abort(&e->tcp);
+        smoltcp_tcp_dispatch(&e->tcp, &e->cx, before_guard(4, MTU), MTU);
+        answer = smoltcp_tcp_release(&e->tcp, &rx, &tx);
+    } else if (state_was != SMOLTCP_CLOSED) fail("release", answer);
+    if (answer != SMOLTCP_OK || rx != e->rx || tx != e->tx) fail("release", answer);
+    if (smoltcp_udp_release(&e->udp, NULL, NULL)) fail("udp_release", 0);
+    if (smoltcp_raw_release(&e->raw, NULL, NULL)) fail("raw_release", 0);
+    if (smoltcp_icmp_release(&e->icmp, NULL, NULL)) fail("icmp_release", 0);
+}
+
 /* Both ends anew, over buffers of any length. */
 static void begin(void) {
+    static int begun;
     int i;
+    for (i = 0; i < 2 && begun; i++) let_go(&ends[i]);
+    begun = 1;
     for (i = 0; i < 2; i++) {
         struct end *e = &ends[i];
         size_t rx = draw(4) ? 1 + draw(LONGEST) : draw(3), tx = draw(4) ? 1 + draw(LONGEST) : draw(3);
@@ -100,7 +129,9 @@ static void begin(void) {
         e->cx.ip_mtu = 576 + draw(MTU - 575);
         e->cx.v4[0] = 10;
         e->cx.v4[3] = (uint8_t)(i + 1);
-        if (smoltcp_tcp_init(&e->tcp, before_guard(2 * i, rx), rx, before_guard(2 * i + 1, tx), tx)) fail("init", 0);
+        e->rx = before_guard(2 * i, rx);
+        e->tx = before_guard(2 * i + 1, tx);
+        if (smoltcp_tcp_init(&e->tcp, e->rx, rx, e->tx, tx)) fail("init", 0);
         if (smoltcp_udp_init(&e->udp, queue(e->places[0], 5 + 2 * i), queue(e->places[1], 6 + 2 * i))) fail("init", 1);
         if (smoltcp_raw_init(&e->raw, &filter, raw_queue(e->raw_places[0], 9 + 2 * i),
                              raw_queue(e->raw_places[1], 10 + 2 * i))) fail("init", 2);
@@ -219,11 +250,6 @@ static void recv_bytes(struct end *e, struct end *from) {
     if (smoltcp_tcp_consume(&e->tcp, (size_t)1 << 40) != SMOLTCP_ERROR_RANGE) fail("consume of too many", n);
     check_read(e, from, place, n);
     if (smoltcp_tcp_consume(&e->tcp, (size_t)n) != n) fail("consume", n);
-}
-
-/* A refused send changes no byte of the socket, nor of the places of its transmit queue. */
-static void kept(const char *what, int64_t answer, const void *was, const void *is, size_t size) {
-    if (answer < 0 && memcmp(was, is, size) != 0) fail(what, answer);
 }
 
 /* The context of an end, or the same without an address: then nothing is written. */

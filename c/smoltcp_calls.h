@@ -112,6 +112,17 @@ SMOLTCP_INLINE int64_t (smoltcp_tcp_init)(struct smoltcp_tcp *s, uint8_t *rx, si
     return smoltcp_tcp_init_sized(s, sizeof *s, rx, rx_len, tx, tx_len);
 }
 
+SMOLTCP_INLINE int64_t smoltcp_tcp_release(struct smoltcp_tcp *s, uint8_t **rx, uint8_t **tx) {
+    struct smoltcp_tcp_handle h = {SMOLTCP_AT(s)};
+    struct smoltcp_bytes of_rx = {NULL, 0}, of_tx = {NULL, 0};
+    int64_t answer;
+    if (!s) return SMOLTCP_ERROR_NULL;
+    answer = smoltcp_tcp_release_nonnull(&h, &of_rx, &of_tx);
+    if (answer == SMOLTCP_OK && rx) *rx = of_rx.at;
+    if (answer == SMOLTCP_OK && tx) *tx = of_tx.at;
+    return answer;
+}
+
 SMOLTCP_INLINE int64_t smoltcp_tcp_peek(const struct smoltcp_tcp *s, size_t size, const uint8_t **at) {
     struct smoltcp_tcp_handle h = {SMOLTCP_AT(s)};
     struct smoltcp_place place = {NULL, 0};
@@ -167,6 +178,29 @@ SMOLTCP_INLINE int64_t (smoltcp_udp_init)(struct smoltcp_udp *s, struct smoltcp_
     return smoltcp_udp_init_sized(s, sizeof *s, rx, tx);
 }
 
+SMOLTCP_INLINE int64_t smoltcp_udp_release(struct smoltcp_udp *s, struct smoltcp_udp_buffer *rx,
+                                           struct smoltcp_udp_buffer *tx) {
+    struct smoltcp_udp_handle h = {SMOLTCP_AT(s)};
+    struct smoltcp_places rx_places = {NULL, 0}, tx_places = {NULL, 0};
+    struct smoltcp_bytes of_rx = {NULL, 0}, of_tx = {NULL, 0};
+    int64_t answer;
+    if (!s) return SMOLTCP_ERROR_NULL;
+    answer = smoltcp_udp_release_nonnull(&h, &rx_places, &of_rx, &tx_places, &of_tx);
+    if (rx) {
+        rx->places = (struct smoltcp_udp_place *)(void *)rx_places.at;
+        rx->count = rx_places.len;
+        rx->bytes = of_rx.at;
+        rx->len = of_rx.len;
+    }
+    if (tx) {
+        tx->places = (struct smoltcp_udp_place *)(void *)tx_places.at;
+        tx->count = tx_places.len;
+        tx->bytes = of_tx.at;
+        tx->len = of_tx.len;
+    }
+    return answer;
+}
+
 SMOLTCP_INLINE int64_t smoltcp_udp_poll_at(const struct smoltcp_udp *s, const struct smoltcp_context *cx) {
     struct smoltcp_udp_handle h = {SMOLTCP_AT(s)};
     int64_t at = 0, answer;
@@ -185,6 +219,7 @@ SMOLTCP_INLINE int64_t smoltcp_raw_init_sized(struct smoltcp_raw *s, size_t size
     size_t i;
     if (!s || !filter || !rx.places || !rx.bytes || !tx.places || !tx.bytes) return SMOLTCP_ERROR_NULL;
     if (size != smoltcp_sizes().raw) return SMOLTCP_ERROR_VERSION;
+    if (filter->version != 0 && filter->version != 4 && filter->version != 6) return SMOLTCP_ERROR_RANGE;
     if (rx.count > SMOLTCP_LONGEST_BUFFER || rx.len > SMOLTCP_LONGEST_BUFFER) return SMOLTCP_ERROR_RANGE;
     if (tx.count > SMOLTCP_LONGEST_BUFFER || tx.len > SMOLTCP_LONGEST_BUFFER) return SMOLTCP_ERROR_RANGE;
     for (i = 0; i < rx.count; i++) {
@@ -201,6 +236,29 @@ SMOLTCP_INLINE int64_t smoltcp_raw_init_sized(struct smoltcp_raw *s, size_t size
 SMOLTCP_INLINE int64_t (smoltcp_raw_init)(struct smoltcp_raw *s, const struct smoltcp_raw_filter *filter,
                                           struct smoltcp_raw_buffer rx, struct smoltcp_raw_buffer tx) {
     return smoltcp_raw_init_sized(s, sizeof *s, filter, rx, tx);
+}
+
+SMOLTCP_INLINE int64_t smoltcp_raw_release(struct smoltcp_raw *s, struct smoltcp_raw_buffer *rx,
+                                           struct smoltcp_raw_buffer *tx) {
+    struct smoltcp_raw_handle h = {SMOLTCP_AT(s)};
+    struct smoltcp_places rx_places = {NULL, 0}, tx_places = {NULL, 0};
+    struct smoltcp_bytes of_rx = {NULL, 0}, of_tx = {NULL, 0};
+    int64_t answer;
+    if (!s) return SMOLTCP_ERROR_NULL;
+    answer = smoltcp_raw_release_nonnull(&h, &rx_places, &of_rx, &tx_places, &of_tx);
+    if (rx) {
+        rx->places = (struct smoltcp_raw_place *)(void *)rx_places.at;
+        rx->count = rx_places.len;
+        rx->bytes = of_rx.at;
+        rx->len = of_rx.len;
+    }
+    if (tx) {
+        tx->places = (struct smoltcp_raw_place *)(void *)tx_places.at;
+        tx->count = tx_places.len;
+        tx->bytes = of_tx.at;
+        tx->len = of_tx.len;
+    }
+    return answer;
 }
 
 SMOLTCP_INLINE int64_t smoltcp_raw_ip_protocol(const struct smoltcp_raw *s) {
@@ -241,6 +299,29 @@ SMOLTCP_INLINE int64_t smoltcp_icmp_init_sized(struct smoltcp_icmp *s, size_t si
 SMOLTCP_INLINE int64_t (smoltcp_icmp_init)(struct smoltcp_icmp *s, struct smoltcp_icmp_buffer rx,
                                            struct smoltcp_icmp_buffer tx) {
     return smoltcp_icmp_init_sized(s, sizeof *s, rx, tx);
+}
+
+SMOLTCP_INLINE int64_t smoltcp_icmp_release(struct smoltcp_icmp *s, struct smoltcp_icmp_buffer *rx,
+                                            struct smoltcp_icmp_buffer *tx) {
+    struct smoltcp_icmp_handle h = {SMOLTCP_AT(s)};
+    struct smoltcp_places rx_places = {NULL, 0}, tx_places = {NULL, 0};
+    struct smoltcp_bytes of_rx = {NULL, 0}, of_tx = {NULL, 0};
+    int64_t answer;
+    if (!s) return SMOLTCP_ERROR_NULL;
+    answer = smoltcp_icmp_release_nonnull(&h, &rx_places, &of_rx, &tx_places, &of_tx);
+    if (rx) {
+        rx->places = (struct smoltcp_icmp_place *)(void *)rx_places.at;
+        rx->count = rx_places.len;
+        rx->bytes = of_rx.at;
+        rx->len = of_rx.len;
+    }
+    if (tx) {
+        tx->places = (struct smoltcp_icmp_place *)(void *)tx_places.at;
+        tx->count = tx_places.len;
+        tx->bytes = of_tx.at;
+        tx->len = of_tx.len;
+    }
+    return answer;
 }
 
 SMOLTCP_INLINE int64_t smoltcp_icmp_poll_at(const struct smoltcp_icmp *s, const struct smoltcp_context *cx) {

@@ -14,7 +14,7 @@ extern "C" {
 int64_t smoltcp_icmp_ask(const struct smoltcp_icmp *s, uint32_t what);
 
 /* Makes an ICMP socket that is not open in the memory, over the two buffers, of at most 2^30 places and 2^30 bytes each
- * (else SMOLTCP_ERROR_RANGE, with nothing changed). As with a TCP socket, all of it is the socket's for good.
+ * (else SMOLTCP_ERROR_RANGE, with nothing changed). All of it is the socket's until smoltcp_icmp_release.
  *
  * Errors: SMOLTCP_ERROR_RANGE, SMOLTCP_ERROR_VERSION, SMOLTCP_ERROR_NULL. */
 int64_t smoltcp_icmp_init(struct smoltcp_icmp *s, struct smoltcp_icmp_buffer rx, struct smoltcp_icmp_buffer tx);
@@ -24,6 +24,12 @@ int64_t smoltcp_icmp_init(struct smoltcp_icmp *s, struct smoltcp_icmp_buffer rx,
 int64_t smoltcp_icmp_init_sized(struct smoltcp_icmp *s, size_t size, struct smoltcp_icmp_buffer rx,
                                 struct smoltcp_icmp_buffer tx);
 #define smoltcp_icmp_init(s, ...) smoltcp_icmp_init_sized((s), sizeof *(s), __VA_ARGS__)
+
+/* Lets go of the socket in any state: its memory and its buffers are the program's again, as with smoltcp_tcp_release.
+ * Where the buffers lie is written into rx and tx, of which each may be NULL. The messages in its queues are gone.
+ *
+ * Errors: SMOLTCP_ERROR_NULL. */
+int64_t smoltcp_icmp_release(struct smoltcp_icmp *s, struct smoltcp_icmp_buffer *rx, struct smoltcp_icmp_buffer *tx);
 
 /* Opens an ICMP socket for these messages. SMOLTCP_ERROR_ADDRESS where there are none or a port is missing, else
  * SMOLTCP_ERROR_STATE where it is open. It stays open.

@@ -119,12 +119,6 @@ SMOLTCP_INLINE int64_t smoltcp_tcp_recv(struct smoltcp_tcp *s, uint8_t *data, si
     return smoltcp_tcp_recv_nonnull(&h, data, cap);
 }
 
-SMOLTCP_INLINE int64_t smoltcp_tcp_release(struct smoltcp_tcp *s) {
-    struct smoltcp_tcp_handle h = {SMOLTCP_AT(s)};
-    if (!s) return SMOLTCP_ERROR_NULL;
-    return smoltcp_tcp_release_nonnull(&h);
-}
-
 SMOLTCP_INLINE int64_t smoltcp_tcp_remote_endpoint(const struct smoltcp_tcp *s, struct smoltcp_endpoint *out) {
     struct smoltcp_tcp_handle h = {SMOLTCP_AT(s)};
     if (!s || !out) return SMOLTCP_ERROR_NULL;

@@ -10,7 +10,7 @@
 extern "C" {
 #endif
 
-/* What the library is handed: where a socket lies, or room for one; bytes and places that are a socket's;
+/* What the library is handed: where a socket lies, or room for one; bytes and places that are a socket's, or were;
  * some bytes of a buffer. */
 struct smoltcp_tcp_handle { uint8_t *at; };
 struct smoltcp_udp_handle { uint8_t *at; };
@@ -72,7 +72,8 @@ int64_t smoltcp_tcp_poll_at_nonnull(struct smoltcp_tcp_handle *h, const struct s
 int64_t smoltcp_tcp_process_nonnull(struct smoltcp_tcp_handle *h, const struct smoltcp_context *cx,
                                     const uint8_t *packet, size_t len, uint8_t *reply, size_t cap);
 int64_t smoltcp_tcp_recv_nonnull(struct smoltcp_tcp_handle *h, uint8_t *data, size_t cap);
-int64_t smoltcp_tcp_release_nonnull(struct smoltcp_tcp_handle *room);
+int64_t smoltcp_tcp_release_nonnull(struct smoltcp_tcp_handle *room, struct smoltcp_bytes *rx,
+                                    struct smoltcp_bytes *tx);
 int64_t smoltcp_tcp_remote_endpoint_nonnull(struct smoltcp_tcp_handle *h, struct smoltcp_endpoint *out);
 int64_t smoltcp_tcp_reserve_nonnull(struct smoltcp_tcp_handle *h, struct smoltcp_place *out);
 int64_t smoltcp_tcp_reset_nonnull(const uint8_t *packet, size_t len, uint8_t *reply, size_t cap);
@@ -106,6 +107,9 @@ int64_t smoltcp_udp_process_nonnull(struct smoltcp_udp_handle *h, const struct s
                                     const uint8_t *packet, size_t len);
 int64_t smoltcp_udp_recv_nonnull(struct smoltcp_udp_handle *h, struct smoltcp_udp_metadata *meta, uint8_t *data,
                                  size_t cap);
+int64_t smoltcp_udp_release_nonnull(struct smoltcp_udp_handle *room, struct smoltcp_places *rx_places,
+                                    struct smoltcp_bytes *rx, struct smoltcp_places *tx_places,
+                                    struct smoltcp_bytes *tx);
 int64_t smoltcp_udp_send_nonnull(struct smoltcp_udp_handle *h, const struct smoltcp_udp_metadata *meta,
                                  const uint8_t *data, size_t len);
 int64_t smoltcp_udp_set_hop_limit_nonnull(struct smoltcp_udp_handle *h, uint8_t hop_limit);
@@ -122,6 +126,9 @@ int64_t smoltcp_raw_poll_at_nonnull(struct smoltcp_raw_handle *h, const struct s
 int64_t smoltcp_raw_process_nonnull(struct smoltcp_raw_handle *h, const struct smoltcp_context *cx,
                                     const uint8_t *packet, size_t len);
 int64_t smoltcp_raw_recv_nonnull(struct smoltcp_raw_handle *h, uint8_t *data, size_t cap);
+int64_t smoltcp_raw_release_nonnull(struct smoltcp_raw_handle *room, struct smoltcp_places *rx_places,
+                                    struct smoltcp_bytes *rx, struct smoltcp_places *tx_places,
+                                    struct smoltcp_bytes *tx);
 int64_t smoltcp_raw_send_nonnull(struct smoltcp_raw_handle *h, const uint8_t *data, size_t len);
 int64_t smoltcp_icmp_accepts_nonnull(struct smoltcp_icmp_handle *h, const struct smoltcp_context *cx,
                                      const uint8_t *packet, size_t len);
@@ -138,6 +145,9 @@ int64_t smoltcp_icmp_process_nonnull(struct smoltcp_icmp_handle *h, const struct
                                      const uint8_t *packet, size_t len);
 int64_t smoltcp_icmp_recv_nonnull(struct smoltcp_icmp_handle *h, struct smoltcp_address *remote, uint8_t *data,
                                   size_t cap);
+int64_t smoltcp_icmp_release_nonnull(struct smoltcp_icmp_handle *room, struct smoltcp_places *rx_places,
+                                     struct smoltcp_bytes *rx, struct smoltcp_places *tx_places,
+                                     struct smoltcp_bytes *tx);
 int64_t smoltcp_icmp_send_nonnull(struct smoltcp_icmp_handle *h, const struct smoltcp_address *remote,
                                   const uint8_t *data, size_t len);
 int64_t smoltcp_icmp_set_hop_limit_nonnull(struct smoltcp_icmp_handle *h, uint8_t hop_limit);

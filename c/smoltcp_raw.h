@@ -14,8 +14,8 @@ extern "C" {
 int64_t smoltcp_raw_ask(const struct smoltcp_raw *s, uint32_t what);
 
 /* Makes a raw socket in the memory, for the packets of the filter, over the two buffers, of at most 2^30 places and
- * 2^30 bytes each (else SMOLTCP_ERROR_RANGE, as for a version that is not 0, 4 or 6; the memory is then no socket). As
- * with a TCP socket, all of it is the socket's for good.
+ * 2^30 bytes each (else SMOLTCP_ERROR_RANGE, as for a version that is not 0, 4 or 6, with nothing changed). All of it is
+ * the socket's until smoltcp_raw_release.
  *
  * Errors: SMOLTCP_ERROR_RANGE, SMOLTCP_ERROR_VERSION, SMOLTCP_ERROR_NULL. */
 int64_t smoltcp_raw_init(struct smoltcp_raw *s, const struct smoltcp_raw_filter *filter, struct smoltcp_raw_buffer rx,
@@ -26,6 +26,12 @@ int64_t smoltcp_raw_init(struct smoltcp_raw *s, const struct smoltcp_raw_filter 
 int64_t smoltcp_raw_init_sized(struct smoltcp_raw *s, size_t size, const struct smoltcp_raw_filter *filter,
                                struct smoltcp_raw_buffer rx, struct smoltcp_raw_buffer tx);
 #define smoltcp_raw_init(s, ...) smoltcp_raw_init_sized((s), sizeof *(s), __VA_ARGS__)
+
+/* Lets go of the socket in any state: its memory and its buffers are the program's again, as with smoltcp_tcp_release.
+ * Where the buffers lie is written into rx and tx, of which each may be NULL. The packets in its queues are gone.
+ *
+ * Errors: SMOLTCP_ERROR_NULL. */
+int64_t smoltcp_raw_release(struct smoltcp_raw *s, struct smoltcp_raw_buffer *rx, struct smoltcp_raw_buffer *tx);
 
 /* The version of IP of the socket's packets: 4, 6, or 0 for both.
  *

@@ -5,9 +5,9 @@
  * see dispatch and recv of each kind.
  *
  * What the caller has to keep, which nothing tests: a socket is memory that its init made and that has not been moved,
- * copied or written since; of one socket one call runs at a time; its buffers are its own from init on, and overlap
- * neither the socket, nor each other, nor what a call is given; a pointer leads to memory of the length given, and a
- * length is one: the (size_t)-1 of a failed read is none.
+ * copied or written since; of one socket one call runs at a time; its buffers are its own from init to release, and
+ * overlap neither the socket, nor each other, nor what a call is given; a pointer leads to memory of the length given,
+ * and a length is one: the (size_t)-1 of a failed read is none.
  *
  * A host looks at a packet before a socket sees it: it refuses a destination that is not its own (multicast and
  * broadcast too), and a source that is multicast, broadcast or its own; it offers a packet to the sockets that have a

@@ -25,13 +25,14 @@ int64_t smoltcp_tcp_init_sized(struct smoltcp_tcp *s, size_t size, uint8_t *rx, 
                                size_t tx_len);
 #define smoltcp_tcp_init(s, ...) smoltcp_tcp_init_sized((s), sizeof *(s), __VA_ARGS__)
 
-/* Lets go of the socket. Its memory and its buffers are the program's again, to be freed, or used for anything: also by
- * smoltcp_tcp_init, before which no other call may be made on it. SMOLTCP_ERROR_STATE, with nothing changed, where the
- * socket is in any state but CLOSED, TIME-WAIT among them, or a peer has yet to be told by an RST: after
- * smoltcp_tcp_abort, smoltcp_tcp_dispatch emits that. Bytes that came and were not read are gone.
+/* Lets go of the socket: its memory and its buffers are the program's again, to be freed, or used for anything. Where
+ * the buffers lie is written into rx and tx, of which each may be NULL. No call may be made on the socket then before
+ * smoltcp_tcp_init made one there anew. Bytes that came and were not read are gone. SMOLTCP_ERROR_STATE, with nothing
+ * changed, where it is in any state but CLOSED, as in TIME-WAIT, or a peer has yet to be told by an RST: after
+ * smoltcp_tcp_abort the next smoltcp_tcp_dispatch emits that.
  *
  * Errors: SMOLTCP_ERROR_STATE, SMOLTCP_ERROR_NULL. */
-int64_t smoltcp_tcp_release(struct smoltcp_tcp *s);
+int64_t smoltcp_tcp_release(struct smoltcp_tcp *s, uint8_t **rx, uint8_t **tx);
 
 /* Waits for a peer on this endpoint, whose address may be none. SMOLTCP_ERROR_ADDRESS where the port is 0, else
  * SMOLTCP_ERROR_STATE where the socket is open and does not listen there.

@@ -14,7 +14,7 @@ extern "C" {
 int64_t smoltcp_udp_ask(const struct smoltcp_udp *s, uint32_t what);
 
 /* Makes a UDP socket that is not open in the memory, over the two buffers, of at most 2^30 places and 2^30 bytes each
- * (else SMOLTCP_ERROR_RANGE, with nothing changed). As with a TCP socket, all of it is the socket's for good.
+ * (else SMOLTCP_ERROR_RANGE, with nothing changed). All of it is the socket's until smoltcp_udp_release.
  *
  * Errors: SMOLTCP_ERROR_RANGE, SMOLTCP_ERROR_VERSION, SMOLTCP_ERROR_NULL. */
 int64_t smoltcp_udp_init(struct smoltcp_udp *s, struct smoltcp_udp_buffer rx, struct smoltcp_udp_buffer tx);
@@ -24,6 +24,12 @@ int64_t smoltcp_udp_init(struct smoltcp_udp *s, struct smoltcp_udp_buffer rx, st
 int64_t smoltcp_udp_init_sized(struct smoltcp_udp *s, size_t size, struct smoltcp_udp_buffer rx,
                                struct smoltcp_udp_buffer tx);
 #define smoltcp_udp_init(s, ...) smoltcp_udp_init_sized((s), sizeof *(s), __VA_ARGS__)
+
+/* Lets go of the socket in any state: its memory and its buffers are the program's again, as with smoltcp_tcp_release.
+ * Where the buffers lie is written into rx and tx, of which each may be NULL. The datagrams in its queues are gone.
+ *
+ * Errors: SMOLTCP_ERROR_NULL. */
+int64_t smoltcp_udp_release(struct smoltcp_udp *s, struct smoltcp_udp_buffer *rx, struct smoltcp_udp_buffer *tx);
 
 /* Opens a UDP socket for datagrams to this port, and to this address where one is given. SMOLTCP_ERROR_ADDRESS where
  * the port is 0, else SMOLTCP_ERROR_STATE where it is open.

@@ -117,6 +117,10 @@ module _ {X : Type 0} where
   capacity_is : (k n : ℕ) (xs : List X) (r : Ring X) → ring_of k n xs ≡ r → capacity_of r ≡ length xs
   capacity_is k n xs r is = sym (length-append r.queue r.spare) ∙ ap (λ (l : List X). length l) (all_places k n xs r is) ∙ length_around k xs
 
+  -- the slice of a ring has as many places as the ring
+  pub storage_is : (k n : ℕ) (xs : List X) (r : Ring X) → ring_of k n xs ≡ r → length xs ≡ capacity_of r
+  storage_is k n xs r is = sym (capacity_is k n xs r is)
+
   pub length-queue : (k n : ℕ) (xs : List X) (r : Ring X) → ring_of k n xs ≡ r → k ≤ length xs → n ≤ length xs → length r.queue ≡ n
   length-queue k n xs r is k_within n_within =
       let len = length-cells k xs k_within in

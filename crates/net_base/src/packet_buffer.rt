@@ -87,6 +87,22 @@ impl<'a, H: Copy> PacketBuffer<'a, H> {
         }
     }
 
+    /// The two slices: what stands in the places is not told any more.
+    #[tactic(auto, using(crate::proofs::Cells::storage_is))]
+    pub fn into_slices(self) -> (&'a mut [PacketMetadata<H>], &'a mut [u8])
+        ensures places { length result.0.now ≡ self.entry.places }
+        ensures payload { result.1.now ≡ self.entry.storage }
+    {
+        let PacketBuffer {
+            payload,
+            metadata,
+            start: _,
+            length: _,
+        } = self;
+        let (places, _, _) = metadata.into_parts();
+        (places, payload)
+    }
+
     /// Removes all packets.
     pub fn reset(&mut self)
         ensures { self.new ≡ packets_with [] self.old.places self.old.storage 0 }

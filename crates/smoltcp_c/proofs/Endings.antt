@@ -1,5 +1,5 @@
 -- Why a connection ended, as C is told it.
-use Rattle.std.proofs.Common.{◌≡◌, refl, Option, Some, None, Result, Ok, Err}
+use Rattle.std.proofs.Common.{◌≡◌, refl, Option, Result, Ok, Err}
 use Rattle.control_wire.specs.declared.tcp.TcpControl.{TcpControl}
 use Rattle.sock_tcp.specs.Ended.{ended_by_opening, ended_by_segment}
 use Rattle.sock_tcp.specs.declared.ended.Ended.{Ended}

@@ -13,7 +13,7 @@ mod Placing
 mod Reading
 mod Refused
 mod Replies
-mod Returned
+mod Returning
 mod Sending
 mod Taking
 mod Told

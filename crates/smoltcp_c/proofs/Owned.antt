@@ -19,7 +19,7 @@ pub use denote.Exit.{no, yes}
 pub use denote.Signature.{static_lft}
 pub use denote.Triple.Spec.{triple_of}
 pub use denote.Triple.Table.{entered}
-pub use Rattle.std.specs.Prelude.{None, Some}
+pub use Rattle.std.specs.Prelude.{None, Some, true}
 
 abbrev pub owning : (name : Sym) (D : Type 0) → Coded D → (Kept → Exit D) → (D → ℕ → ℕ → Lft → Fml) → (parts : List Field) → (D → Values parts) → (D → Fml) → Owning
 owning name D coded exit shared parts as_values heap = record { name = name; args = []; types = []; parts = parts; D = D; as_values = as_values; coded = coded; heap = heap; exit = exit; shr_at = shared }

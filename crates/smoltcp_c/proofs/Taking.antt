@@ -9,12 +9,11 @@ use Prim.Native.Nat.{ℕ}
 use mathlib.Core.List.{List, [], ◌∷◌, ◌++◌}
 use mathlib.Core.Option.{some as has}
 use seplogic.Ra.Ura.{Ura}
-use lib.Dec.{T}
 use base.Fraction.{full_share}
 use base.Stored.{Coded}
 use mir.Raw.{raw as raw_ty}
 use mir.Syntax.{Fn, Sym, Ty, named, mut, ty_ptr, ty_ref, local, value_local, seq, block, assign, return, place, deref, field, rv_opd, copy}
-use mir.Val.{Val, vptr, vstruct, vnil, vcons, of_list, has_ty, WT}
+use mir.Val.{Val, vptr, vstruct, vnil, vcons, of_list}
 use base.Logic.{SProp, ent, sep, id⊢, never}
 use base.Fml.{Lft, GName, Share, Fml, ftrue, fat, froom, flft, fobs, fbor}
 use contract.Monad.{fact}

@@ -45,7 +45,7 @@ pub extern "C" fn smoltcp_udp_place_nonnull(room: &mut UdpPlaceRoom) -> i64
 }
 
 /// Makes a socket that is not open in the room. Each of its two queues has places for so many datagrams, and at most
-/// 2^30 bytes for their payloads. The five pieces of memory are the socket's for good. Answers 0.
+/// 2^30 bytes for their payloads. The five pieces of memory are the socket's until it is released. Answers 0.
 #[unsafe(no_mangle)]
 pub extern "C" fn smoltcp_udp_init_nonnull(
     rx_places: UdpPlaces,
@@ -267,7 +267,7 @@ pub extern "C" fn smoltcp_icmp_place_nonnull(room: &mut IcmpPlaceRoom) -> i64
 }
 
 /// Makes a socket that is not open in the room. Each of its two queues has places for so many messages, and at most
-/// 2^30 bytes for them. The five pieces of memory are the socket's for good. Answers 0.
+/// 2^30 bytes for them. The five pieces of memory are the socket's until it is released. Answers 0.
 #[unsafe(no_mangle)]
 pub extern "C" fn smoltcp_icmp_init_nonnull(
     rx_places: IcmpPlaces,
@@ -396,8 +396,8 @@ pub extern "C" fn smoltcp_raw_place_nonnull(room: &mut RawPlaceRoom) -> i64
 }
 
 /// Makes a socket in the room, for the packets of the filter. Each of its two queues has places for so many packets,
-/// and at most 2^30 bytes for them. The five pieces of memory are the socket's for good. 0, or `ERROR_RANGE` where the
-/// filter's version is not 0, 4 or 6: then no socket is made.
+/// and at most 2^30 bytes for them. The five pieces of memory are the socket's until it is released. 0, or
+/// `ERROR_RANGE` where the filter's version is not 0, 4 or 6: then no socket is made, and what the buffers lie in is lost.
 #[unsafe(no_mangle)]
 pub extern "C" fn smoltcp_raw_init_nonnull(
     rx_places: RawPlaces,

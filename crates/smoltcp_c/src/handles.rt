@@ -1,5 +1,5 @@
 //! Sockets and places of their queues in the memory of the caller.
-ghost use Rattle.std.specs.Prelude.{Option};
+ghost use Rattle.std.specs.Prelude.{Bool, Option};
 ghost use Rattle.std.specs.Borrow.{full_share};
 ghost use Rattle.std.specs.Coded.{coded_option};
 ghost use Rattle.std.specs.Ptr.{lies_at};
@@ -18,7 +18,7 @@ ghost use Rattle.sock_dgram.specs.declared.udp.socket.Socket.{the_code as udp_co
 ghost use Rattle.sock_dgram.specs.declared.udp.socket.UdpMetadata.{UdpMetadata};
 ghost use Rattle.sock_tcp.specs.contracts.socket.Socket.{the_row as tcp_row};
 ghost use Rattle.sock_tcp.specs.declared.socket.Socket.{Socket};
-ghost use Rattle.smoltcp_c.specs.Memory.{held_at, items_at};
+ghost use Rattle.smoltcp_c.specs.Memory.{held_at, items_at, items_if};
 ghost use Rattle.smoltcp_c.specs.Places.{icmp_place_row, raw_place_row, udp_place_row};
 ghost use Rattle.smoltcp_c.specs.contracts.clock.Clock.{the_row as clock_row};
 ghost use Rattle.smoltcp_c.specs.declared.clock.Clock.{Clock};
@@ -91,6 +91,19 @@ impl Model for UdpPlaces {
     ghost also_owns = { λ p. items_at udp_place_row p.at p.len };
 }
 
+/// Places that were a socket's and are C's again, or none yet.
+#[repr(C)]
+#[derive(Drop)]
+pub struct UdpPlacesBack {
+    pub at: *mut u8,
+    pub len: usize,
+    pub ghost given: { Bool },
+}
+
+impl Model for UdpPlacesBack {
+    ghost also_owns = { λ p. items_if udp_place_row p.at p.len p.given };
+}
+
 /// An ICMP socket that lies at `at`.
 #[repr(C)]
 pub struct IcmpHandle {
@@ -135,6 +148,19 @@ impl Model for IcmpPlaces {
     ghost also_owns = { λ p. items_at icmp_place_row p.at p.len };
 }
 
+/// Places that were a socket's and are C's again, or none yet.
+#[repr(C)]
+#[derive(Drop)]
+pub struct IcmpPlacesBack {
+    pub at: *mut u8,
+    pub len: usize,
+    pub ghost given: { Bool },
+}
+
+impl Model for IcmpPlacesBack {
+    ghost also_owns = { λ p. items_if icmp_place_row p.at p.len p.given };
+}
+
 /// A raw socket that lies at `at`.
 #[repr(C)]
 pub struct RawHandle {
@@ -177,4 +203,17 @@ pub struct RawPlaces {
 
 impl Model for RawPlaces {
     ghost also_owns = { λ p. items_at raw_place_row p.at p.len };
+}
+
+/// Places that were a socket's and are C's again, or none yet.
+#[repr(C)]
+#[derive(Drop)]
+pub struct RawPlacesBack {
+    pub at: *mut u8,
+    pub len: usize,
+    pub ghost given: { Bool },
+}
+
+impl Model for RawPlacesBack {
+    ghost also_owns = { λ p. items_if raw_place_row p.at p.len p.given };
 }

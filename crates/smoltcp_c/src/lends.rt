@@ -16,10 +16,11 @@ ghost use Rattle.sock_dgram.specs.contracts.udp.socket.Socket.{the_row as udp_ro
 
 use crate::clock::Clock;
 use crate::handles::{
-    IcmpHandle, IcmpPlaceRoom, IcmpPlaces, IcmpRoom, RawHandle, RawPlaceRoom, RawPlaces, RawRoom,
-    TcpHandle, TcpRoom, UdpHandle, UdpPlaceRoom, UdpPlaces, UdpRoom,
+    IcmpHandle, IcmpPlaceRoom, IcmpPlaces, IcmpPlacesBack, IcmpRoom, RawHandle, RawPlaceRoom,
+    RawPlaces, RawPlacesBack, RawRoom, TcpHandle, TcpRoom, UdpHandle, UdpPlaceRoom, UdpPlaces,
+    UdpPlacesBack, UdpRoom,
 };
-use crate::memory::{Bytes, GivenBack, Place};
+use crate::memory::{Bytes, BytesBack, Place};
 use sock_dgram::{icmp, raw, udp};
 use sock_tcp::Socket;
 
@@ -100,13 +101,26 @@ impl IcmpPlaceRoom {
 }
 
 impl IcmpPlaces {
-    /// The places, for good.
+    /// The places, as a borrow that never ends.
     pub fn lend(self) -> &'static mut [icmp::PacketMetadata]
         requires short { self.len ≤ 2 ^ 30 }
         ensures len { self.len ≡ length result.now }
     {
         let IcmpPlaces { at, len } = self;
         unsafe { std::slice::from_raw_parts_mut(at as *mut icmp::PacketMetadata, len) }
+    }
+}
+
+impl IcmpPlacesBack {
+    /// Of places that were lent so, and that nothing else uses any more.
+    pub fn of(places: &'static mut [icmp::PacketMetadata]) -> IcmpPlacesBack
+        ensures len { result.len ≡ length places.old }
+        ensures given { result.given ≡ true }
+    {
+        IcmpPlacesBack {
+            at: places.as_mut_ptr() as *mut u8,
+            len: places.len(),
+        }
     }
 }
 
@@ -155,13 +169,26 @@ impl UdpPlaceRoom {
 }
 
 impl UdpPlaces {
-    /// The places, for good.
+    /// The places, as a borrow that never ends.
     pub fn lend(self) -> &'static mut [udp::PacketMetadata]
         requires short { self.len ≤ 2 ^ 30 }
         ensures len { self.len ≡ length result.now }
     {
         let UdpPlaces { at, len } = self;
         unsafe { std::slice::from_raw_parts_mut(at as *mut udp::PacketMetadata, len) }
+    }
+}
+
+impl UdpPlacesBack {
+    /// Of places that were lent so, and that nothing else uses any more.
+    pub fn of(places: &'static mut [udp::PacketMetadata]) -> UdpPlacesBack
+        ensures len { result.len ≡ length places.old }
+        ensures given { result.given ≡ true }
+    {
+        UdpPlacesBack {
+            at: places.as_mut_ptr() as *mut u8,
+            len: places.len(),
+        }
     }
 }
 
@@ -210,7 +237,7 @@ impl RawPlaceRoom {
 }
 
 impl RawPlaces {
-    /// The places, for good.
+    /// The places, as a borrow that never ends.
     pub fn lend(self) -> &'static mut [raw::PacketMetadata]
         requires short { self.len ≤ 2 ^ 30 }
         ensures len { self.len ≡ length result.now }
@@ -220,8 +247,21 @@ impl RawPlaces {
     }
 }
 
+impl RawPlacesBack {
+    /// Of places that were lent so, and that nothing else uses any more.
+    pub fn of(places: &'static mut [raw::PacketMetadata]) -> RawPlacesBack
+        ensures len { result.len ≡ length places.old }
+        ensures given { result.given ≡ true }
+    {
+        RawPlacesBack {
+            at: places.as_mut_ptr() as *mut u8,
+            len: places.len(),
+        }
+    }
+}
+
 impl Bytes {
-    /// The bytes, for good.
+    /// The bytes, as a borrow that never ends.
     pub fn lend(self) -> &'static mut [u8]
         requires short { self.len ≤ 2 ^ 30 }
         ensures bytes { result.now ≡ self.bytes }
@@ -232,14 +272,16 @@ impl Bytes {
     }
 }
 
-/// Bytes that were lent for good, and that nothing uses any more.
-pub fn given_back(bytes: &'static mut [u8]) -> GivenBack
-    ensures len { result.len ≡ length bytes.old }
-    ensures bytes { result.bytes ≡ Some bytes.old }
-{
-    GivenBack {
-        at: bytes.as_mut_ptr(),
-        len: bytes.len(),
+impl BytesBack {
+    /// Of bytes that were lent so, and that nothing else uses any more.
+    pub fn of(bytes: &'static mut [u8]) -> BytesBack
+        ensures len { result.len ≡ length bytes.old }
+        ensures given { result.given ≡ true }
+    {
+        BytesBack {
+            at: bytes.as_mut_ptr(),
+            len: bytes.len(),
+        }
     }
 }
 

@@ -1,5 +1,5 @@
-//! Memory that C gives a socket for good.
-ghost use Rattle.std.specs.Prelude.{ℕ, List, Option};
+//! Memory that C gives a socket, and has back.
+ghost use Rattle.std.specs.Prelude.{ℕ, List, Bool};
 
 use std::marker::Model;
 
@@ -26,16 +26,17 @@ impl Model for Bytes {
 /// Bytes that were a socket's and are C's again, or none yet.
 #[repr(C)]
 #[derive(Drop)]
-pub struct GivenBack {
+pub struct BytesBack {
     pub at: *mut u8,
     pub len: usize,
-    pub ghost bytes: { Option (List ℕ) },
+    pub ghost given: { Bool },
 }
 
-impl Model for GivenBack {
-    ghost use Rattle.smoltcp_c.specs.Memory.{given_at};
+impl Model for BytesBack {
+    ghost use denote.Builtin.{u8};
+    ghost use Rattle.smoltcp_c.specs.Memory.{items_if};
 
-    ghost also_owns = { λ m. given_at m.at m.len m.bytes };
+    ghost also_owns = { λ b. items_if u8 b.at b.len b.given };
 }
 
 /// Where some bytes of a socket's buffer lie, and how many they are.

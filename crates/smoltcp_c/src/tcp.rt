@@ -23,7 +23,7 @@ use net_base::ring_buffer::RingBuffer;
 use sock_tcp::Socket;
 
 /// Makes a closed socket over the two buffers, of at most 2^30 bytes each, in the room. The socket has no source of
-/// timestamps. The three pieces of memory are the socket's for good. Answers 0.
+/// timestamps. The three pieces of memory are the socket's until it is released. Answers 0.
 #[unsafe(no_mangle)]
 pub extern "C" fn smoltcp_tcp_init_nonnull(room: &mut TcpRoom, rx: Bytes, tx: Bytes) -> i64
     requires empty { room.old.made ≡ None }

@@ -9,8 +9,8 @@
 //!   given.
 //! - *bytes*: a pointer leads to memory of the length given. Both are those of one slice.
 //!
-//! A contract of `init` takes the memory and the buffers for good. That they are free again where a socket ends rests
-//! on this: the library keeps nothing of them. It has no writable data of its own, starts no thread, and asks for
+//! A contract of `init` takes the memory and the buffers, and `release`, which would give them back, is not called where
+//! a socket ends here, as it is refused of an open one. That they are free again rests on this: the library keeps nothing of them. It has no writable data of its own, starts no thread, and asks for
 //! nothing but `memcpy`, `memmove` and `memset` (`live/rust` and `live/header` look at its symbols), so that it gets at
 //! a socket only in a call that is given it; and there is no such call any more.
 use crate::ffi;

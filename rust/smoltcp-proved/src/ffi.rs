@@ -210,7 +210,7 @@ unsafe extern "C" {
     pub fn smoltcp_tcp_process_nonnull(h: &mut TcpHandle, cx: &Context, packet: *const u8, len: usize, reply: *mut u8,
                                        cap: usize) -> i64;
     pub fn smoltcp_tcp_recv_nonnull(h: &mut TcpHandle, data: *mut u8, cap: usize) -> i64;
-    pub fn smoltcp_tcp_release_nonnull(room: &mut TcpHandle) -> i64;
+    pub fn smoltcp_tcp_release_nonnull(room: &mut TcpHandle, rx: &mut Bytes, tx: &mut Bytes) -> i64;
     pub fn smoltcp_tcp_remote_endpoint_nonnull(h: &mut TcpHandle, out: &mut Endpoint) -> i64;
     pub fn smoltcp_tcp_reserve_nonnull(h: &mut TcpHandle, out: &mut Place) -> i64;
     pub fn smoltcp_tcp_reset_nonnull(packet: *const u8, len: usize, reply: *mut u8, cap: usize) -> i64;
@@ -238,6 +238,8 @@ unsafe extern "C" {
     pub fn smoltcp_udp_poll_at_nonnull(h: &mut UdpHandle, cx: &Context, at: &mut i64) -> i64;
     pub fn smoltcp_udp_process_nonnull(h: &mut UdpHandle, cx: &Context, packet: *const u8, len: usize) -> i64;
     pub fn smoltcp_udp_recv_nonnull(h: &mut UdpHandle, meta: &mut UdpMetadata, data: *mut u8, cap: usize) -> i64;
+    pub fn smoltcp_udp_release_nonnull(room: &mut UdpHandle, rx_places: &mut Places, rx: &mut Bytes,
+                                       tx_places: &mut Places, tx: &mut Bytes) -> i64;
     pub fn smoltcp_udp_send_nonnull(h: &mut UdpHandle, meta: &UdpMetadata, data: *const u8, len: usize) -> i64;
     pub fn smoltcp_udp_set_hop_limit_nonnull(h: &mut UdpHandle, hop_limit: u8) -> i64;
     pub fn smoltcp_raw_accepts_nonnull(h: &mut RawHandle, packet: *const u8, len: usize) -> i64;
@@ -250,6 +252,8 @@ unsafe extern "C" {
     pub fn smoltcp_raw_poll_at_nonnull(h: &mut RawHandle, cx: &Context, at: &mut i64) -> i64;
     pub fn smoltcp_raw_process_nonnull(h: &mut RawHandle, cx: &Context, packet: *const u8, len: usize) -> i64;
     pub fn smoltcp_raw_recv_nonnull(h: &mut RawHandle, data: *mut u8, cap: usize) -> i64;
+    pub fn smoltcp_raw_release_nonnull(room: &mut RawHandle, rx_places: &mut Places, rx: &mut Bytes,
+                                       tx_places: &mut Places, tx: &mut Bytes) -> i64;
     pub fn smoltcp_raw_send_nonnull(h: &mut RawHandle, data: *const u8, len: usize) -> i64;
     pub fn smoltcp_icmp_accepts_nonnull(h: &mut IcmpHandle, cx: &Context, packet: *const u8, len: usize) -> i64;
     pub fn smoltcp_icmp_ask_nonnull(h: &mut IcmpHandle, what: u32) -> i64;
@@ -261,6 +265,8 @@ unsafe extern "C" {
     pub fn smoltcp_icmp_poll_at_nonnull(h: &mut IcmpHandle, cx: &Context, at: &mut i64) -> i64;
     pub fn smoltcp_icmp_process_nonnull(h: &mut IcmpHandle, cx: &Context, packet: *const u8, len: usize) -> i64;
     pub fn smoltcp_icmp_recv_nonnull(h: &mut IcmpHandle, remote: &mut Address, data: *mut u8, cap: usize) -> i64;
+    pub fn smoltcp_icmp_release_nonnull(room: &mut IcmpHandle, rx_places: &mut Places, rx: &mut Bytes,
+                                        tx_places: &mut Places, tx: &mut Bytes) -> i64;
     pub fn smoltcp_icmp_send_nonnull(h: &mut IcmpHandle, remote: &Address, data: *const u8, len: usize) -> i64;
     pub fn smoltcp_icmp_set_hop_limit_nonnull(h: &mut IcmpHandle, hop_limit: u8) -> i64;
     // Texts that end with a zero, and stay.

@@ -55,6 +55,20 @@ impl<'a> Socket<'a> {
         }
     }
 
+    /// The two buffers, with what stands in their queues: the receive buffer first.
+    pub fn into_buffers(self) -> (PacketBuffer<'a>, PacketBuffer<'a>)
+        ensures received { result.0 ≡ self.entry.rx_buffer }
+        ensures sent { result.1 ≡ self.entry.tx_buffer }
+    {
+        let Socket {
+            ip_version: _,
+            ip_protocol: _,
+            rx_buffer,
+            tx_buffer,
+        } = self;
+        (rx_buffer, tx_buffer)
+    }
+
     /// The version of IP of the socket's packets; `None` for both.
     pub fn ip_version(&self) -> Option<IpVersion>
         ensures { result ≡ self.now.ip_version }

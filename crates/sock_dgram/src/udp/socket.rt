@@ -85,6 +85,20 @@ impl<'a> Socket<'a> {
         }
     }
 
+    /// The two buffers, with what stands in their queues: the receive buffer first.
+    pub fn into_buffers(self) -> (PacketBuffer<'a>, PacketBuffer<'a>)
+        ensures received { result.0 ≡ self.entry.rx_buffer }
+        ensures sent { result.1 ≡ self.entry.tx_buffer }
+    {
+        let Socket {
+            endpoint: _,
+            rx_buffer,
+            tx_buffer,
+            hop_limit: _,
+        } = self;
+        (rx_buffer, tx_buffer)
+    }
+
     /// Opens the socket for datagrams to this port, and to this address where one is given.
     ///
     /// `Unaddressable` where the port is zero; else `InvalidState` where the socket is open. A refusal changes nothing.
