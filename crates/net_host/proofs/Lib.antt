@@ -7,3 +7,11 @@ pub mod Measure
 pub mod Steps
 pub mod Oldest
 pub mod Again
+pub mod Ordered
+pub mod Runs
+pub mod Moments
+pub mod Places
+pub mod Keyed
+pub mod Rested
+pub mod Each
+pub mod KeptKeys

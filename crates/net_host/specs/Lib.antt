@@ -3,9 +3,13 @@ pub mod Arrivals
 pub mod Counts
 pub mod Datagrams
 pub mod Emissions
+pub mod Entries
 pub mod Facts
+pub mod Filing
+pub mod Finding
 pub mod Guards
 pub mod HostCalls
+pub mod Indexing
 pub mod Limits
 pub mod Messages
 pub mod Moments
@@ -15,6 +19,7 @@ pub mod Resting
 pub mod Segments
 pub mod SheetOf
 pub mod Sheets
+pub mod Sides
 pub mod Slots
 pub mod Speaking
 pub mod Turns

@@ -15,7 +15,7 @@ use Rattle.smoltcp_socket.specs.declared.socket.Socket.{Socket}
 use Rattle.smoltcp_socket.specs.declared.socket.Socket.TheVariants as socket
 use Rattle.net_host.specs.Limits.{allows, spent}
 use Rattle.net_host.specs.Resting.{FindsOldest, IsOldest, Reopens, Serves, anew, is_opening}
-use Rattle.net_host.specs.Walks.{ChangesAt, IsAt, IsFirst, Nowhere}
+use Rattle.net_host.specs.Walks.{ChangesAt, IsFirst, Nowhere}
 use Rattle.net_host.specs.Wire.{reply_len, with_reply}
 use Rattle.net_host.specs.declared.limit.Limit.{Limit}
 use Rattle.net_host.specs.declared.segments.Taker.{Taker}
@@ -50,7 +50,7 @@ IsTaker ss ip s (taker.Reopened i) = IsFirst (TakesSegment false ip s) ss i × I
 IsTaker ss ip s (taker.Listener i) = Nowhere (TakesSegment false ip s) ss × IsFirst (TakesSegment true ip s) ss i
 IsTaker ss ip s (taker.Reused i) = NoneTakes ss ip s × (is_opening s ≡ true) × IsOldest ip s ss i
 IsTaker ss ip s taker.Busy =
-    NoneTakes ss ip s × (is_opening s ≡ true) × FindsOldest ip s ss None × ((k : ℕ) × IsAt (Serves ip s) ss k)
+    NoneTakes ss ip s × (is_opening s ≡ true) × FindsOldest ip s ss None × ((k : ℕ) × IsFirst (Serves ip s) ss k)
 IsTaker ss ip s taker.Nobody =
     NoneTakes ss ip s
     × (is_opening s ≡ true → FindsOldest ip s ss None × Nowhere (Serves ip s) ss)

@@ -13,7 +13,7 @@ use Rattle.smoltcp_socket.specs.declared.socket.Socket.{Socket}
 use Rattle.smoltcp_socket.specs.declared.socket.Socket.TheVariants as socket
 use Rattle.net_host.specs.Emissions.{DispatchesDatagram, DispatchesMessage, DispatchesRaw, DispatchesSegment}
 use Rattle.net_host.specs.Guards.{guarded_poll}
-use Rattle.net_host.specs.Watching.{Asks, Looks, may_turn}
+use Rattle.net_host.specs.Watching.{Asks, Looks, is_over_for, may_turn}
 use Rattle.net_host.specs.declared.guard.Guard.{Guard}
 use Rattle.net_host.specs.declared.guard.GuardSettings.{GuardSettings}
 use Rattle.net_host.specs.declared.guard.Phase.{Phase}
@@ -32,6 +32,14 @@ WatchesIn st now s g t h = (t ≡ s) × (h ≡ g)
 pub record Watches {G : Type 0} (st : GuardSettings) (now : Instant) (before after : Slot G) : Type 0 where
   pub generation : after.generation ≡ before.generation
   pub looked : WatchesIn st now before.socket before.guard after.socket after.guard
+
+-- whether the guard ends what its socket has lasted in
+abbrev pub ends_in : {G : Type 0} → GuardSettings → Instant → Option (Socket G) → Guard → Bool
+ends_in st now (Some (socket.Tcp x)) g = is_over_for st g x.control_block now
+ends_in st now s g = false
+
+abbrev pub ends : {G : Type 0} → GuardSettings → Instant → Slot G → Bool
+ends st now s = ends_in st now s.socket s.guard
 
 -- ---- when it wants to speak
 

@@ -22,10 +22,6 @@ pub record IsAt {X : Type 0} (P : X → Type 0) (xs : List X) (i : ℕ) : Type 0
   pub within : i < length xs
   pub holds : IfSome (slice_get xs i) P
 
-abbrev pub FindsAny : {X : Type 0} → (X → Type 0) → List X → Option ℕ → Type 0
-FindsAny P xs None = Nowhere P xs
-FindsAny P xs (Some i) = IsAt P xs i
-
 -- where a walk through the list finds P first
 abbrev pub Finds : {X : Type 0} → (X → Type 0) → List X → Option ℕ → Type 0
 Finds P xs None = Nowhere P xs

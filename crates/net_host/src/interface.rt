@@ -15,7 +15,6 @@ use crate::guard::GuardSettings;
 use crate::inner::InterfaceInner;
 use crate::limit::Limit;
 use crate::set::SocketSet;
-use crate::slot::Slot;
 use crate::speak::{earliest, speak, watch_all};
 use crate::wire::TooShort;
 use host_context::Words;
@@ -73,12 +72,12 @@ impl<W: Words> Interface<W> {
         if reply.len() < self.inner.environment.mtu {
             return Err(TooShort);
         }
-        Ok(self.receive_at(&mut sockets.slots, now, packet, reply))
+        Ok(self.receive_at(sockets, now, packet, reply))
     }
 
     fn receive_at<G: TsvalSource>(
         &mut self,
-        slots: &mut Vec<Slot<'_, G>>,
+        sockets: &mut SocketSet<'_, G>,
         now: Instant,
         packet: &[u8],
         reply: &mut [u8],
@@ -86,11 +85,11 @@ impl<W: Words> Interface<W> {
         requires { 100 ≤ length reply.old }
         ensures within { result ≤ length reply.old }
         ensures table { ReceivesAt ⟦<IpAddress as PartialEq>⟧.eq W.word_at G.tells now packet.now self.old
-            slots.old.items
-            reply.old result self.new slots.new.items reply.new }
+            sockets.old.slots.items
+            reply.old result self.new sockets.new.slots.items reply.new }
     {
         self.set_now(now);
-        self.take_packet(slots, packet, reply)
+        self.take_packet(sockets, packet, reply)
     }
 
     fn set_now(&mut self, now: Instant)
@@ -117,24 +116,24 @@ impl<W: Words> Interface<W> {
         ensures quiet { result ≡ Ok 0 → Nowhere (Due (facts_by ⟦<IpAddress as PartialEq>⟧.eq
             self.new.inner.environment)) sockets.new.slots.items }
     {
-        self.emit_at(&mut sockets.slots, now, out)
+        self.emit_at(sockets, now, out)
     }
 
     fn emit_at<G: TsvalSource>(
         &mut self,
-        slots: &mut Vec<Slot<'_, G>>,
+        sockets: &mut SocketSet<'_, G>,
         now: Instant,
         out: &mut [u8],
     ) -> Result<usize, TooShort>
-        ensures table { EmitsAt ⟦<IpAddress as PartialEq>⟧.eq G.tells now self.old slots.old.items out.old result
-            self.new slots.new.items out.new }
+        ensures table { EmitsAt ⟦<IpAddress as PartialEq>⟧.eq G.tells now self.old sockets.old.slots.items out.old result
+            self.new sockets.new.slots.items out.new }
         ensures within { IfOk result (λ n. n ≤ length out.old) }
         ensures quiet { result ≡ Ok 0 → Nowhere (Due (facts_by ⟦<IpAddress as PartialEq>⟧.eq
-            self.new.inner.environment)) slots.new.items }
+            self.new.inner.environment)) sockets.new.slots.items }
     {
         self.set_now(now);
-        watch_all(slots, &self.guards, self.inner.environment.moment());
-        speak(slots, &mut self.turn, &self.inner, out)
+        watch_all(sockets, &self.guards, self.inner.environment.moment());
+        speak(sockets, &mut self.turn, &self.inner, out)
     }
 }
 

@@ -3,17 +3,26 @@
 
 pub mod arrival;
 pub mod cidr;
+pub mod copies;
 pub mod counters;
 pub mod datagrams;
 pub mod emission;
 pub mod environment;
+pub mod filed;
+pub mod filing;
+pub mod find;
 pub mod guard;
+pub mod index;
 pub mod inner;
 pub mod interface;
+pub mod key;
+pub mod lent_turns;
 pub mod limit;
+pub mod lookup;
 pub mod messages;
 pub mod raw_copies;
 pub mod receive;
+pub mod refiling;
 pub mod replies;
 pub mod rest;
 pub mod secret;

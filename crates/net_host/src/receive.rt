@@ -11,11 +11,11 @@ ghost use Rattle.net_host.specs.Facts.{facts_by};
 
 use crate::arrival::{Kind, kind_in, refusal};
 use crate::counters::{Counters, Reason};
-use crate::datagrams::hear_datagram;
 use crate::interface::Interface;
-use crate::messages::{Mail, copy_to_all, echoed, mail_in, put_answer};
-use crate::raw_copies::copy_packet_to_all;
+use crate::messages::{Mail, echoed, mail_in, put_answer};
+use crate::copies::{copy_mail, copy_packet, hear_datagram_of};
 use crate::segments::{Taker, hear_segment};
+use crate::set::SocketSet;
 use crate::slot::Slot;
 use crate::unreachable::{Unmet, tell_sender};
 use host_context::Words;
@@ -29,20 +29,20 @@ impl<W: Words> Interface<W> {
     // The first row that fits.
     pub(crate) fn take_packet<G: TsvalSource>(
         &mut self,
-        slots: &mut Vec<Slot<'_, G>>,
+        sockets: &mut SocketSet<'_, G>,
         packet: &[u8],
         out: &mut [u8],
     ) -> usize
         requires { 100 ≤ length out.old }
         ensures within { result ≤ length out.old }
-        ensures table { TakesPacket ⟦<IpAddress as PartialEq>⟧.eq W.word_at G.tells packet.now self.old slots.old.items
+        ensures table { TakesPacket ⟦<IpAddress as PartialEq>⟧.eq W.word_at G.tells packet.now self.old sockets.old.slots.items
             out.old
-            result self.new slots.new.items out.new }
+            result self.new sockets.new.slots.items out.new }
     {
         let caps = self.inner.checksum_caps();
         match carried(packet, &caps) {
             None => self.drop_packet(Reason::Malformed),
-            Some((ip, bytes)) => self.take_carried(slots, &ip, bytes, out),
+            Some((ip, bytes)) => self.take_carried(sockets, &ip, bytes, out),
         }
     }
 
@@ -56,7 +56,7 @@ impl<W: Words> Interface<W> {
 
     fn take_carried<G: TsvalSource>(
         &mut self,
-        slots: &mut Vec<Slot<'_, G>>,
+        sockets: &mut SocketSet<'_, G>,
         ip: &IpRepr,
         bytes: &[u8],
         out: &mut [u8],
@@ -65,17 +65,17 @@ impl<W: Words> Interface<W> {
         ensures within { result ≤ length out.old }
         ensures table { ByAddresses ⟦<IpAddress as PartialEq>⟧.eq W.word_at G.tells
             (refusal (facts_by ⟦<IpAddress as PartialEq>⟧.eq self.old.inner.environment) ip.now) ip.now bytes.now
-            self.old slots.old.items out.old result self.new slots.new.items out.new }
+            self.old sockets.old.slots.items out.old result self.new sockets.new.slots.items out.new }
     {
         match refusal(&self.inner, ip) {
             Some(reason) => self.drop_packet(reason),
-            None => self.take_looked_at(slots, ip, bytes, out),
+            None => self.take_looked_at(sockets, ip, bytes, out),
         }
     }
 
     fn take_looked_at<G: TsvalSource>(
         &mut self,
-        slots: &mut Vec<Slot<'_, G>>,
+        sockets: &mut SocketSet<'_, G>,
         ip: &IpRepr,
         bytes: &[u8],
         out: &mut [u8],
@@ -83,16 +83,16 @@ impl<W: Words> Interface<W> {
         requires { 100 ≤ length out.old }
         ensures within { result ≤ length out.old }
         ensures table { TakesCarried ⟦<IpAddress as PartialEq>⟧.eq W.word_at G.tells ip.now bytes.now self.old
-            slots.old.items out.old result self.new slots.new.items out.new }
+            sockets.old.slots.items out.old result self.new sockets.new.slots.items out.new }
     {
-        copy_packet_to_all(slots, &self.inner, ip, bytes);
+        copy_packet(sockets, &self.inner, ip, bytes);
         let kind = kind_in(&self.inner, ip);
-        self.take_kind(slots, kind, ip, bytes, out)
+        self.take_kind(sockets, kind, ip, bytes, out)
     }
 
     fn take_kind<G: TsvalSource>(
         &mut self,
-        slots: &mut Vec<Slot<'_, G>>,
+        sockets: &mut SocketSet<'_, G>,
         kind: Kind,
         ip: &IpRepr,
         bytes: &[u8],
@@ -101,31 +101,31 @@ impl<W: Words> Interface<W> {
         requires { 100 ≤ length out.old }
         ensures within { result ≤ length out.old }
         ensures table { ByKind ⟦<IpAddress as PartialEq>⟧.eq W.word_at G.tells kind ip.now bytes.now self.old
-            slots.old.items out.old result self.new slots.new.items out.new }
+            sockets.old.slots.items out.old result self.new sockets.new.slots.items out.new }
     {
         match kind {
-            Kind::Tcp => self.take_tcp(slots, ip, bytes, out),
-            Kind::Udp => self.take_udp(slots, ip, bytes, out),
-            Kind::Icmp => self.take_icmp(slots, ip, bytes, out),
-            Kind::Other => self.take_other(slots, ip, bytes, out),
+            Kind::Tcp => self.take_tcp(sockets, ip, bytes, out),
+            Kind::Udp => self.take_udp(sockets, ip, bytes, out),
+            Kind::Icmp => self.take_icmp(sockets, ip, bytes, out),
+            Kind::Other => self.take_other(sockets, ip, bytes, out),
             Kind::Foreign => self.drop_packet(Reason::Destination),
         }
     }
 
     fn take_other<G: TsvalSource>(
         &mut self,
-        slots: &mut Vec<Slot<'_, G>>,
+        sockets: &mut SocketSet<'_, G>,
         ip: &IpRepr,
         bytes: &[u8],
         out: &mut [u8],
     ) -> usize
         ensures within { result ≤ length out.old }
         ensures table { TakesOther ⟦<IpAddress as PartialEq>⟧.eq W.word_at G.tells ip.now bytes.now self.old
-            slots.old.items out.old result self.new slots.new.items out.new }
+            sockets.old.slots.items out.old result self.new sockets.new.slots.items out.new }
     {
         self.counters.count(Reason::Protocol);
         tell_sender(
-            slots,
+            &sockets.slots,
             &self.inner,
             &mut self.errors,
             Unmet::Protocol,
@@ -137,22 +137,22 @@ impl<W: Words> Interface<W> {
 
     fn take_udp<G: TsvalSource>(
         &mut self,
-        slots: &mut Vec<Slot<'_, G>>,
+        sockets: &mut SocketSet<'_, G>,
         ip: &IpRepr,
         bytes: &[u8],
         out: &mut [u8],
     ) -> usize
         ensures within { result ≤ length out.old }
         ensures table { TakesUdp ⟦<IpAddress as PartialEq>⟧.eq W.word_at G.tells ip.now bytes.now self.old
-            slots.old.items out.old result self.new slots.new.items out.new }
+            sockets.old.slots.items out.old result self.new sockets.new.slots.items out.new }
     {
         let caps = self.inner.checksum_caps();
         match datagram_in(&caps, ip, bytes) {
             None => self.drop_packet(Reason::Datagram),
             Some((repr, payload)) => {
-                let found = hear_datagram(slots, &self.inner, ip, &repr, payload);
+                let found = hear_datagram_of(sockets, &self.inner, ip, &repr, payload);
                 count_found(&mut self.counters, found);
-                self.tell_if(slots, found, ip, bytes, out)
+                self.tell_if(&sockets.slots, found, ip, bytes, out)
             }
         }
     }
@@ -188,33 +188,33 @@ impl<W: Words> Interface<W> {
 
     fn take_icmp<G: TsvalSource>(
         &mut self,
-        slots: &mut Vec<Slot<'_, G>>,
+        sockets: &mut SocketSet<'_, G>,
         ip: &IpRepr,
         bytes: &[u8],
         out: &mut [u8],
     ) -> usize
         ensures within { result ≤ length out.old }
         ensures table { TakesIcmp ⟦<IpAddress as PartialEq>⟧.eq W.word_at G.tells ip.now bytes.now self.old
-            slots.old.items out.old result self.new slots.new.items out.new }
+            sockets.old.slots.items out.old result self.new sockets.new.slots.items out.new }
     {
         let caps = self.inner.checksum_caps();
         match mail_in(&caps, ip, bytes) {
             None => self.drop_packet(Reason::Message),
-            Some(mail) => self.take_mail(slots, &mail, out),
+            Some(mail) => self.take_mail(sockets, &mail, out),
         }
     }
 
     fn take_mail<G: TsvalSource>(
         &self,
-        slots: &mut Vec<Slot<'_, G>>,
+        sockets: &mut SocketSet<'_, G>,
         mail: &Mail<'_>,
         out: &mut [u8],
     ) -> usize
         ensures within { result ≤ length out.old }
         ensures table { TakesMail ⟦<IpAddress as PartialEq>⟧.eq W.word_at G.tells (mail_of mail.now) self.now
-            slots.old.items out.old result self.now slots.new.items out.new }
+            sockets.old.slots.items out.old result self.now sockets.new.slots.items out.new }
     {
-        copy_to_all(slots, &self.inner, mail);
+        copy_mail(sockets, &self.inner, mail);
         let answer = echoed(mail);
         let caps = self.inner.checksum_caps();
         put_answer(&answer, self.inner.ip_mtu(), out, &caps)
@@ -222,7 +222,7 @@ impl<W: Words> Interface<W> {
 
     fn take_tcp<G: TsvalSource>(
         &mut self,
-        slots: &mut Vec<Slot<'_, G>>,
+        sockets: &mut SocketSet<'_, G>,
         ip: &IpRepr,
         bytes: &[u8],
         out: &mut [u8],
@@ -230,19 +230,19 @@ impl<W: Words> Interface<W> {
         requires { 100 ≤ length out.old }
         ensures within { result ≤ length out.old }
         ensures table { TakesTcp ⟦<IpAddress as PartialEq>⟧.eq W.word_at G.tells ip.now bytes.now self.old
-            slots.old.items
-            out.old result self.new slots.new.items out.new }
+            sockets.old.slots.items
+            out.old result self.new sockets.new.slots.items out.new }
     {
         let caps = self.inner.checksum_caps();
         match tcp::parse(bytes, &ip.src_addr(), &ip.dst_addr(), &caps) {
             Err(_) => self.drop_packet(Reason::Segment),
-            Ok(repr) => self.take_short(slots, ip, &repr, out),
+            Ok(repr) => self.take_short(sockets, ip, &repr, out),
         }
     }
 
     fn take_short<G: TsvalSource>(
         &mut self,
-        slots: &mut Vec<Slot<'_, G>>,
+        sockets: &mut SocketSet<'_, G>,
         ip: &IpRepr,
         repr: &TcpRepr<'_>,
         out: &mut [u8],
@@ -251,10 +251,10 @@ impl<W: Words> Interface<W> {
         ensures within { result ≤ length out.old }
         ensures table { IfShort ⟦<IpAddress as PartialEq>⟧.eq W.word_at G.tells (nat_le (length repr.now.payload.now)
             65535)
-            ip.now (segment_of repr.now) self.old slots.old.items out.old result self.new slots.new.items out.new }
+            ip.now (segment_of repr.now) self.old sockets.old.slots.items out.old result self.new sockets.new.slots.items out.new }
     {
         if repr.payload.len() <= 65535 {
-            self.take_segment(slots, ip, repr, out)
+            self.take_segment(sockets, ip, repr, out)
         } else {
             self.drop_packet(Reason::Segment)
         }
@@ -262,7 +262,7 @@ impl<W: Words> Interface<W> {
 
     fn take_segment<G: TsvalSource>(
         &mut self,
-        slots: &mut Vec<Slot<'_, G>>,
+        sockets: &mut SocketSet<'_, G>,
         ip: &IpRepr,
         repr: &TcpRepr<'_>,
         out: &mut [u8],
@@ -272,9 +272,9 @@ impl<W: Words> Interface<W> {
         ensures within { result ≤ length out.old }
         ensures table { TakesSegment ⟦<IpAddress as PartialEq>⟧.eq W.word_at G.tells ip.now (segment_of repr.now)
             self.old
-            slots.old.items out.old result self.new slots.new.items out.new }
+            sockets.old.slots.items out.old result self.new sockets.new.slots.items out.new }
     {
-        let (taker, len) = hear_segment(slots, &mut self.inner, &mut self.resets, ip, repr, out);
+        let (taker, len) = hear_segment(sockets, &mut self.inner, &mut self.resets, ip, repr, out);
         count_taker(&mut self.counters, taker);
         len
     }

@@ -1,17 +1,20 @@
 //! Connections in TIME-WAIT that give way to a SYN, and sockets that serve a port.
-ghost use Rattle.std.specs.Prelude.{◌≡◌, ◌↔◌, IsTrue};
+ghost use Rattle.std.specs.Prelude.{◌≡◌, ◌↔◌, IsTrue, None};
 ghost use Rattle.control_wire.specs.Segment.{segment_of};
 ghost use Rattle.sock_tcp.specs.Process.{IsToListener};
 ghost use Rattle.net_host.specs.Resting.{FindsOldest, OnlyOf, Reopens, RestsFor, RestsUntil, Serves, earlier_of, is_above, is_opening};
 ghost use Rattle.net_host.specs.Resting.{is_serving};
-ghost use Rattle.net_host.specs.Walks.{FindsAny};
+ghost use Rattle.net_host.specs.Walks.{Finds};
 
+use crate::filing::server_key;
+use crate::find::{Sought, earliest_in, first_in};
+use crate::set::SocketSet;
 use crate::slot::Slot;
 use control_wire::TcpSeqNumber;
 use smoltcp_socket::tcp::State;
 use smoltcp_socket::time::Instant;
 use smoltcp_socket::wire::{IpListenEndpoint, IpRepr, TcpControl, TcpRepr};
-use smoltcp_socket::{Socket, tcp};
+use smoltcp_socket::{Context, Socket, tcp};
 use sock_tcp::TsvalSource;
 
 /// Whether the segment is a SYN without an ACK.
@@ -71,7 +74,7 @@ impl<'a, G: TsvalSource> Slot<'a, G> {
     }
 
     // Until when the socket rests that may listen again for the segment.
-    fn rests_until(&self, ip: &IpRepr, repr: &TcpRepr<'_>) -> Option<Instant>
+    pub(crate) fn rests_until(&self, ip: &IpRepr, repr: &TcpRepr<'_>) -> Option<Instant>
         ensures { OnlyOf (λ t. RestsUntil ip.now (segment_of repr.now) t self.now) result }
     {
         match &self.socket {
@@ -86,7 +89,7 @@ impl<'a, G: TsvalSource> Slot<'a, G> {
         }
     }
 
-    fn serves(&self, ip: &IpRepr, repr: &TcpRepr<'_>) -> bool
+    pub(crate) fn serves(&self, ip: &IpRepr, repr: &TcpRepr<'_>) -> bool
         ensures { IsTrue result ↔ Serves ip.now (segment_of repr.now) self.now }
     {
         match &self.socket {
@@ -100,6 +103,21 @@ impl<'a, G: TsvalSource> Slot<'a, G> {
 
 /// The socket that has rested longest, of those that may listen again for the segment, and until when it rests.
 pub(crate) fn oldest<G: TsvalSource>(
+    sockets: &SocketSet<'_, G>,
+    ip: &IpRepr,
+    repr: &TcpRepr<'_>,
+) -> Option<(usize, Instant)>
+    requires { sockets.now.lent ≡ None }
+    ensures { FindsOldest ip.now (segment_of repr.now) sockets.now.slots.items result }
+{
+    if sockets.complete {
+        earliest_in(&sockets.slots, &sockets.index, ip, repr)
+    } else {
+        walk_for_oldest(&sockets.slots, ip, repr)
+    }
+}
+
+fn walk_for_oldest<G: TsvalSource>(
     slots: &[Slot<'_, G>],
     ip: &IpRepr,
     repr: &TcpRepr<'_>,
@@ -127,13 +145,30 @@ fn earlier(
     }
 }
 
-/// A socket that serves the port of the segment.
-pub(crate) fn any_server<G: TsvalSource>(
+/// A socket with a connection that was opened on the port of the segment.
+pub(crate) fn any_server<C: Context, G: TsvalSource>(
+    sockets: &SocketSet<'_, G>,
+    cx: &C,
+    ip: &IpRepr,
+    repr: &TcpRepr<'_>,
+) -> Option<usize>
+    requires { sockets.now.lent ≡ None }
+    ensures { Finds (Serves ip.now (segment_of repr.now)) sockets.now.slots.items result }
+{
+    if sockets.complete {
+        let key = server_key(repr.dst_port);
+        first_in(&sockets.slots, &sockets.index, key, cx, Sought::Server, ip, repr)
+    } else {
+        walk_for_server(&sockets.slots, ip, repr)
+    }
+}
+
+fn walk_for_server<G: TsvalSource>(
     slots: &[Slot<'_, G>],
     ip: &IpRepr,
     repr: &TcpRepr<'_>,
 ) -> Option<usize>
-    ensures { FindsAny (Serves ip.now (segment_of repr.now)) slots.now result }
+    ensures { Finds (Serves ip.now (segment_of repr.now)) slots.now result }
 {
     for (i, slot) in slots.iter().enumerate() {
         if slot.serves(ip, repr) {

@@ -1,5 +1,5 @@
 //! Which socket takes a TCP segment, and what becomes of it.
-ghost use Rattle.std.specs.Prelude.{◌≡◌, ◌↔◌, ◌<◌, ◌≤◌, IsTrue, IfSome, length, [], option_map, slice_get, true, false};
+ghost use Rattle.std.specs.Prelude.{◌≡◌, ◌↔◌, ◌<◌, ◌≤◌, IsTrue, IfSome, length, [], option_map, slice_get, true, false, None};
 ghost use Rattle.std.specs.Option.{ForSome};
 ghost use Rattle.control_wire.specs.Fits.{FitsPacket};
 ghost use Rattle.control_wire.specs.Segment.{segment_of};
@@ -10,8 +10,11 @@ ghost use Rattle.net_host.specs.Segments.{TakesSegment, as_is};
 ghost use Rattle.net_host.specs.Walks.{Finds, Nowhere};
 
 use crate::limit::Limit;
+use crate::filing::{connection_key, listener_key};
+use crate::find::{Sought, first_in};
 use crate::replies::put_reply;
 use crate::rest::{any_server, oldest, opens};
+use crate::set::SocketSet;
 use crate::slot::Slot;
 use smoltcp_socket::time::Instant;
 use smoltcp_socket::wire::{IpRepr, TcpControl, TcpRepr};
@@ -36,7 +39,7 @@ pub enum Taker {
 }
 
 impl<'a, G: TsvalSource> Slot<'a, G> {
-    fn takes_segment<C: Context>(
+    pub(crate) fn takes_segment<C: Context>(
         &self,
         cx: &C,
         listening: bool,
@@ -101,6 +104,44 @@ impl<'a, G: TsvalSource> Slot<'a, G> {
 
 // The first socket that takes the segment, of those that listen or of the others.
 fn first_taker<C: Context, G: TsvalSource>(
+    sockets: &SocketSet<'_, G>,
+    cx: &C,
+    listening: bool,
+    ip: &IpRepr,
+    repr: &TcpRepr<'_>,
+) -> Option<usize>
+    requires { sockets.now.lent ≡ None }
+    ensures { Finds (TakesSegment listening ip.now (segment_of repr.now)) sockets.now.slots.items result }
+{
+    if sockets.complete {
+        found_taker(sockets, cx, listening, ip, repr)
+    } else {
+        walk_for_taker(&sockets.slots, cx, listening, ip, repr)
+    }
+}
+
+// By the index.
+fn found_taker<C: Context, G: TsvalSource>(
+    sockets: &SocketSet<'_, G>,
+    cx: &C,
+    listening: bool,
+    ip: &IpRepr,
+    repr: &TcpRepr<'_>,
+) -> Option<usize>
+    requires settled { sockets.now.lent ≡ None }
+    requires complete { sockets.now.complete ≡ true }
+    ensures { Finds (TakesSegment listening ip.now (segment_of repr.now)) sockets.now.slots.items result }
+{
+    if listening {
+        let key = listener_key(repr.dst_port);
+        first_in(&sockets.slots, &sockets.index, key, cx, Sought::Listener, ip, repr)
+    } else {
+        let key = connection_key(&ip.src_addr(), repr.dst_port, repr.src_port);
+        first_in(&sockets.slots, &sockets.index, key, cx, Sought::Connection, ip, repr)
+    }
+}
+
+fn walk_for_taker<C: Context, G: TsvalSource>(
     slots: &[Slot<'_, G>],
     cx: &C,
     listening: bool,
@@ -119,40 +160,42 @@ fn first_taker<C: Context, G: TsvalSource>(
 
 /// Who takes the segment, as `IsTaker` says.
 pub(crate) fn who_takes<C: Context, G: TsvalSource>(
-    slots: &[Slot<'_, G>],
+    sockets: &SocketSet<'_, G>,
     cx: &C,
     ip: &IpRepr,
     repr: &TcpRepr<'_>,
 ) -> Taker
-    ensures { IsTaker slots.now ip.now (segment_of repr.now) result }
+    requires { sockets.now.lent ≡ None }
+    ensures { IsTaker sockets.now.slots.items ip.now (segment_of repr.now) result }
 {
-    match first_taker(slots, cx, false, ip, repr) {
+    match first_taker(sockets, cx, false, ip, repr) {
         Some(i) => {
-            if slots[i].reopens(ip, repr) {
+            if sockets.slots[i].reopens(ip, repr) {
                 Taker::Reopened(i)
             } else {
                 Taker::Connection(i)
             }
         }
-        None => listener(slots, cx, ip, repr),
+        None => listener(sockets, cx, ip, repr),
     }
 }
 
 // Who takes a segment that is for no connection.
 fn listener<C: Context, G: TsvalSource>(
-    slots: &[Slot<'_, G>],
+    sockets: &SocketSet<'_, G>,
     cx: &C,
     ip: &IpRepr,
     repr: &TcpRepr<'_>,
 ) -> Taker
-    requires { Nowhere (TakesSegment false ip.now (segment_of repr.now)) slots.now }
-    ensures { IsTaker slots.now ip.now (segment_of repr.now) result }
+    requires settled { sockets.now.lent ≡ None }
+    requires none { Nowhere (TakesSegment false ip.now (segment_of repr.now)) sockets.now.slots.items }
+    ensures { IsTaker sockets.now.slots.items ip.now (segment_of repr.now) result }
 {
-    match first_taker(slots, cx, true, ip, repr) {
+    match first_taker(sockets, cx, true, ip, repr) {
         Some(i) => Taker::Listener(i),
         None => {
             if opens(repr) {
-                rested(slots, ip, repr)
+                rested(sockets, cx, ip, repr)
             } else {
                 Taker::Nobody
             }
@@ -161,26 +204,28 @@ fn listener<C: Context, G: TsvalSource>(
 }
 
 // Who takes a SYN for which no socket listens.
-fn rested<G: TsvalSource>(
-    slots: &[Slot<'_, G>],
+fn rested<C: Context, G: TsvalSource>(
+    sockets: &SocketSet<'_, G>,
+    cx: &C,
     ip: &IpRepr,
     repr: &TcpRepr<'_>,
 ) -> Taker
-    requires none { NoneTakes slots.now ip.now (segment_of repr.now) }
+    requires settled { sockets.now.lent ≡ None }
+    requires none { NoneTakes sockets.now.slots.items ip.now (segment_of repr.now) }
     requires opening { is_opening (segment_of repr.now) ≡ true }
-    ensures { IsTaker slots.now ip.now (segment_of repr.now) result }
+    ensures { IsTaker sockets.now.slots.items ip.now (segment_of repr.now) result }
 {
-    match oldest(slots, ip, repr) {
+    match oldest(sockets, ip, repr) {
         Some((i, _)) => Taker::Reused(i),
-        None => match any_server(slots, ip, repr) {
+        None => match any_server(sockets, cx, ip, repr) {
             Some(_) => Taker::Busy,
             None => Taker::Nobody,
         },
     }
 }
 
-/// The socket at this place takes the segment.
-fn hear_at<C: Context, G: TsvalSource>(
+// The socket at this place takes the segment.
+fn hear_there<C: Context, G: TsvalSource>(
     slots: &mut Vec<Slot<'_, G>>,
     i: usize,
     cx: &mut C,
@@ -199,8 +244,8 @@ fn hear_at<C: Context, G: TsvalSource>(
     slots[i].hear(cx, listening, ip, repr)
 }
 
-/// The socket at this place listens again, and takes the SYN.
-fn hear_anew_at<C: Context, G: TsvalSource>(
+// The socket at this place listens again, and takes the SYN.
+fn hear_anew_there<C: Context, G: TsvalSource>(
     slots: &mut Vec<Slot<'_, G>>,
     i: usize,
     cx: &mut C,
@@ -219,6 +264,48 @@ fn hear_anew_at<C: Context, G: TsvalSource>(
     slots[i].hear_anew(cx, ip, repr)
 }
 
+/// The socket at this place takes the segment.
+fn hear_at<C: Context, G: TsvalSource>(
+    sockets: &mut SocketSet<'_, G>,
+    i: usize,
+    cx: &mut C,
+    listening: bool,
+    ip: &IpRepr,
+    repr: &TcpRepr<'_>,
+) -> Option<Reply>
+    requires within { i < length sockets.old.slots.items }
+    requires accepted { IfSome (slice_get sockets.old.slots.items i) (TakesSegment listening ip.now (segment_of repr.now)) }
+    requires small { length repr.now.payload.now ≤ 65535 }
+    ensures heard { HearsAt C.facts C.word_at G.tells as_is sockets.old.slots.items i cx.old ip.now (segment_of repr.now) result
+        sockets.new.slots.items cx.new }
+    ensures bare { ForSome result (λ r. r.1.payload.now ≡ []) }
+    ensures fits { ForSome (option_map reply_of result) (λ r. FitsPacket r.0 r.1) }
+{
+    sockets.lend(i);
+    hear_there(&mut sockets.slots, i, cx, listening, ip, repr)
+}
+
+/// The socket at this place listens again, and takes the SYN.
+fn hear_anew_at<C: Context, G: TsvalSource>(
+    sockets: &mut SocketSet<'_, G>,
+    i: usize,
+    cx: &mut C,
+    ip: &IpRepr,
+    repr: &TcpRepr<'_>,
+) -> Option<Reply>
+    requires within { i < length sockets.old.slots.items }
+    requires opening { is_opening (segment_of repr.now) ≡ true }
+    requires rests { IfSome (slice_get sockets.old.slots.items i) (Rests ip.now (segment_of repr.now)) }
+    requires small { length repr.now.payload.now ≤ 65535 }
+    ensures heard { HearsAt C.facts C.word_at G.tells anew sockets.old.slots.items i cx.old ip.now (segment_of repr.now) result
+        sockets.new.slots.items cx.new }
+    ensures bare { ForSome result (λ r. r.1.payload.now ≡ []) }
+    ensures fits { ForSome (option_map reply_of result) (λ r. FitsPacket r.0 r.1) }
+{
+    sockets.lend(i);
+    hear_anew_there(&mut sockets.slots, i, cx, ip, repr)
+}
+
 /// The RST that answers a segment for no socket, unless it is one itself, where the limit allows it.
 fn refuse(limit: &mut Limit, now: Instant, ip: &IpRepr, repr: &TcpRepr<'_>) -> Option<Reply>
     requires { length repr.now.payload.now ≤ 65535 }
@@ -234,24 +321,24 @@ fn refuse(limit: &mut Limit, now: Instant, ip: &IpRepr, repr: &TcpRepr<'_>) -> O
 
 /// The segment goes to its taker, or is refused.
 pub(crate) fn take_segment<C: Context, G: TsvalSource>(
-    slots: &mut Vec<Slot<'_, G>>,
+    sockets: &mut SocketSet<'_, G>,
     cx: &mut C,
     limit: &mut Limit,
     taker: Taker,
     ip: &IpRepr,
     repr: &TcpRepr<'_>,
 ) -> Option<Reply>
-    requires taker { IsTaker slots.old.items ip.now (segment_of repr.now) taker }
+    requires taker { IsTaker sockets.old.slots.items ip.now (segment_of repr.now) taker }
     requires small { length repr.now.payload.now ≤ 65535 }
-    ensures taken { TakenBy C.facts C.word_at G.tells taker slots.old.items cx.old limit.old ip.now
-        (segment_of repr.now) result slots.new.items cx.new limit.new }
+    ensures taken { TakenBy C.facts C.word_at G.tells taker sockets.old.slots.items cx.old limit.old ip.now
+        (segment_of repr.now) result sockets.new.slots.items cx.new limit.new }
     ensures bare { ForSome result (λ r. r.1.payload.now ≡ []) }
     ensures fits { ForSome (option_map reply_of result) (λ r. FitsPacket r.0 r.1) }
 {
     match taker {
-        Taker::Connection(i) => hear_at(slots, i, cx, false, ip, repr),
-        Taker::Listener(i) => hear_at(slots, i, cx, true, ip, repr),
-        Taker::Reopened(i) | Taker::Reused(i) => hear_anew_at(slots, i, cx, ip, repr),
+        Taker::Connection(i) => hear_at(sockets, i, cx, false, ip, repr),
+        Taker::Listener(i) => hear_at(sockets, i, cx, true, ip, repr),
+        Taker::Reopened(i) | Taker::Reused(i) => hear_anew_at(sockets, i, cx, ip, repr),
         Taker::Busy => None,
         Taker::Nobody => refuse(limit, cx.now(), ip, repr),
     }
@@ -259,7 +346,7 @@ pub(crate) fn take_segment<C: Context, G: TsvalSource>(
 
 /// A segment arrives: who took it, and the length of the packet that answers it, at the beginning of `out`, or 0.
 pub(crate) fn hear_segment<C: Context, G: TsvalSource>(
-    slots: &mut Vec<Slot<'_, G>>,
+    sockets: &mut SocketSet<'_, G>,
     cx: &mut C,
     limit: &mut Limit,
     ip: &IpRepr,
@@ -269,13 +356,14 @@ pub(crate) fn hear_segment<C: Context, G: TsvalSource>(
     requires small { length repr.now.payload.now ≤ 65535 }
     requires room { 100 ≤ length out.old }
     ensures within { result.1 ≤ length out.old }
-    ensures taker { IsTaker slots.old.items ip.now (segment_of repr.now) result.0 }
-    ensures heard { AnswersSegment C.facts C.word_at G.tells result.0 slots.old.items cx.old limit.old ip.now
-        (segment_of repr.now) out.old result.1 slots.new.items cx.new limit.new out.new }
+    ensures taker { IsTaker sockets.old.slots.items ip.now (segment_of repr.now) result.0 }
+    ensures heard { AnswersSegment C.facts C.word_at G.tells result.0 sockets.old.slots.items cx.old limit.old ip.now
+        (segment_of repr.now) out.old result.1 sockets.new.slots.items cx.new limit.new out.new }
 {
     let caps = cx.checksum_caps();
-    let taker = who_takes(slots, cx, ip, repr);
-    let reply = take_segment(slots, cx, limit, taker, ip, repr);
+    sockets.settle();
+    let taker = who_takes(sockets, cx, ip, repr);
+    let reply = take_segment(sockets, cx, limit, taker, ip, repr);
     let len = put_reply(&reply, out, &caps);
     (taker, len)
 }

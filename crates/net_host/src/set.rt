@@ -4,6 +4,8 @@ ghost use Rattle.std.specs.List.{All};
 ghost use Rattle.net_host.specs.Slots.{Empties, Fills, IsFree, handle_at, icmp_at, raw_at, socket_at, tcp_at, udp_at};
 ghost use Rattle.net_host.specs.Walks.{Finds, ChangesAt};
 
+use crate::filed::Filed;
+use crate::index::Index;
 use crate::slot::{Slot, SocketHandle};
 use smoltcp_socket::{Socket, icmp, raw, tcp, udp};
 use sock_tcp::{Generator, TsvalSource};
@@ -12,13 +14,13 @@ use std::alloc::{AllocError, Global};
 /// Sockets of all kinds, each under a handle. As smoltcp's, but that its room is made once.
 ///
 /// `G` is the type of a TCP socket's source of timestamps, and is left out.
-#[derive(Drop)]
-pub struct SocketSet<'a, G = Generator> {
-    pub(crate) slots: Vec<Slot<'a, G>>,
-}
+pub type SocketSet<'a, G = Generator> = Filed<Slot<'a, G>>;
 
-impl<'a, G: TsvalSource> SocketSet<'a, G> {
-    /// A set with room for so many sockets. Nothing is allocated afterwards.
+// How many keys a socket has at most.
+const KEYS: usize = 2;
+
+impl<'a, G: TsvalSource> Filed<Slot<'a, G>> {
+    /// A set with room for so many sockets. Nothing is allocated afterwards. Its index takes 64 bytes a socket.
     pub fn new(alloc: Global, capacity: usize) -> Result<SocketSet<'a, G>, AllocError>
         ensures capacity { IfOk result (λ s. length s.slots.items ≡ capacity) }
         ensures free { IfOk result (λ s. All IsFree s.slots.items) }
@@ -27,7 +29,8 @@ impl<'a, G: TsvalSource> SocketSet<'a, G> {
         for _ in 0..capacity {
             slots.push(Slot::free())?;
         }
-        Ok(SocketSet { slots })
+        let index = Index::new(alloc, capacity.saturating_mul(KEYS))?;
+        Ok(Filed::of_free(slots, index))
     }
 
     /// How many sockets it has room for.
@@ -61,7 +64,10 @@ impl<'a, G: TsvalSource> SocketSet<'a, G> {
     {
         match first_free(&self.slots) {
             None => Err(socket),
-            Some(index) => Ok(fill(&mut self.slots, index, socket)),
+            Some(index) => {
+                self.lend(index);
+                Ok(fill(&mut self.slots, index, socket))
+            }
         }
     }
 
@@ -72,6 +78,7 @@ impl<'a, G: TsvalSource> SocketSet<'a, G> {
             (λ s. ChangesAt (Empties s) self.old.slots.items handle.index self.new.slots.items) }
         ensures stale { IfNone result (self.new.slots.items ≡ self.old.slots.items) }
     {
+        self.lend(handle.index);
         take_at(&mut self.slots, handle)
     }
 
@@ -90,7 +97,7 @@ impl<'a, G: TsvalSource> SocketSet<'a, G> {
     pub fn get_mut(&mut self, handle: SocketHandle) -> Option<&mut Socket<'a, G>>
         ensures { option_map (λ s. s.now) result ≡ socket_at self.old.slots.items handle }
     {
-        let slot = self.slots.get_mut(handle.index)?;
+        let slot = self.place_mut(handle.index)?;
         if slot.generation != handle.generation {
             return None;
         }
@@ -99,7 +106,7 @@ impl<'a, G: TsvalSource> SocketSet<'a, G> {
 }
 
 /// The sockets of one kind.
-impl<'a, G: TsvalSource> SocketSet<'a, G> {
+impl<'a, G: TsvalSource> Filed<Slot<'a, G>> {
     /// The TCP socket of this handle, lent with every call of it; none where the handle's socket is of another kind.
     pub fn tcp_mut(&mut self, handle: SocketHandle) -> Option<&mut tcp::Socket<'a, G>>
         ensures { option_map (λ s. s.now) result ≡ tcp_at self.old.slots.items handle }

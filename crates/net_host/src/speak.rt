@@ -10,6 +10,8 @@ ghost use Rattle.net_host.specs.Walks.{ChangesEach, FindsIn, FindsNext, Nowhere}
 use crate::environment::Environment;
 use crate::guard::GuardSettings;
 use crate::inner::InterfaceInner;
+use crate::lent_turns::{turn_there, watch_at};
+use crate::set::SocketSet;
 use crate::slot::Slot;
 use crate::wire::TooShort;
 use host_context::Words;
@@ -20,15 +22,15 @@ use sock_tcp::TsvalSource;
 
 /// The guard of each TCP socket looks at it.
 pub(crate) fn watch_all<G: TsvalSource>(
-    slots: &mut Vec<Slot<'_, G>>,
+    sockets: &mut SocketSet<'_, G>,
     settings: &GuardSettings,
     now: Instant,
 )
     requires { IsMoment now.micros }
-    ensures { ChangesEach (Watches settings.now now) slots.old.items slots.new.items }
+    ensures { ChangesEach (Watches settings.now now) sockets.old.slots.items sockets.new.slots.items }
 {
-    for i in 0..slots.len() {
-        slots[i].watch(settings, now);
+    for i in 0..sockets.slots.len() {
+        watch_at(sockets, i, settings, now);
     }
 }
 
@@ -68,51 +70,52 @@ pub(crate) fn next_due<C: Context, G: TsvalSource>(
 
 // The socket at this place has its turn.
 fn turn_at<G: TsvalSource>(
-    slots: &mut Vec<Slot<'_, G>>,
+    sockets: &mut SocketSet<'_, G>,
     i: usize,
     environment: &Environment,
     out: &mut [u8],
 ) -> (Result<(), TooShort>, usize)
-    requires { i < length slots.old.items }
+    requires { i < length sockets.old.slots.items }
     ensures within { result.1 ≤ length out.old }
-    ensures table { TurnAt (facts_by ⟦<IpAddress as PartialEq>⟧.eq environment.entry.now) G.tells slots.old.items i
+    ensures table { TurnAt (facts_by ⟦<IpAddress as PartialEq>⟧.eq environment.entry.now) G.tells sockets.old.slots.items i
         out.old
-        result.0 result.1 slots.new.items out.new }
+        result.0 result.1 sockets.new.slots.items out.new }
 {
-    slots[i].take_turn(environment, out)
+    sockets.lend(i);
+    turn_there(&mut sockets.slots, i, environment, out)
 }
 
 /// The sockets that are due have their turns, from the place whose turn it is on, until one of them has written a
 /// packet: its length, or 0 where none is due. `TooShort` where the packet does not fit; its socket offers it again.
 pub(crate) fn speak<W: Words, G: TsvalSource>(
-    slots: &mut Vec<Slot<'_, G>>,
+    sockets: &mut SocketSet<'_, G>,
     turn: &mut usize,
     cx: &InterfaceInner<W>,
     out: &mut [u8],
 ) -> Result<usize, TooShort>
-    ensures table { Speaks (facts_by ⟦<IpAddress as PartialEq>⟧.eq cx.now.environment) G.tells slots.old.items turn.old
-        out.old result slots.new.items turn.new out.new }
+    ensures table { Speaks (facts_by ⟦<IpAddress as PartialEq>⟧.eq cx.now.environment) G.tells sockets.old.slots.items turn.old
+        out.old result sockets.new.slots.items turn.new out.new }
     ensures within { IfOk result (λ n. n ≤ length out.old) }
     ensures quiet { result ≡ Ok 0 → Nowhere (Due (facts_by ⟦<IpAddress as PartialEq>⟧.eq cx.now.environment))
-        slots.new.items }
+        sockets.new.slots.items }
 {
-    speak_on(slots, turn, cx, out)
+    speak_on(sockets, turn, cx, out)
 }
 
 fn speak_on<W: Words, G: TsvalSource>(
-    slots: &mut Vec<Slot<'_, G>>,
+    sockets: &mut SocketSet<'_, G>,
     turn: &mut usize,
     cx: &InterfaceInner<W>,
     out: &mut [u8],
 ) -> Result<usize, TooShort>
     ensures within { IfOk result (λ n. n ≤ length out.old) }
-    ensures table { Speaks (facts_by ⟦<IpAddress as PartialEq>⟧.eq cx.now.environment) G.tells slots.old.items turn.old
+    ensures table { Speaks (facts_by ⟦<IpAddress as PartialEq>⟧.eq cx.now.environment) G.tells sockets.old.slots.items turn.old
         out.old
-        result slots.new.items turn.new out.new }
+        result sockets.new.slots.items turn.new out.new }
 {
-    while let Some(i) = next_due(slots, cx, *turn) {
+    while let Some(i) = next_due(&sockets.slots, cx, *turn) {
         *turn = i + 1;
-        let (answer, len) = turn_at(slots, i, &cx.environment, out);
+        let (answer, len) = turn_at(sockets, i, &cx.environment, out);
         if answer.is_err() {
             return Err(TooShort);
         }

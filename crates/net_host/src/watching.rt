@@ -8,7 +8,7 @@ ghost use Rattle.host_guard.specs.Guarding.{not_before, taken_at};
 ghost use Rattle.net_host.specs.Guards.{end_of, ended_if, given_up, guarded_poll, has_ended, last_left, lawful_limit};
 ghost use Rattle.net_host.specs.Guards.{limit_of, may_in, moment_left, no_limits, phase_in, phase_left, phase_of};
 ghost use Rattle.net_host.specs.Guards.{same_phase, since_by, since_in, stuck_by, usual, with_timeout};
-ghost use Rattle.net_host.specs.Watching.{Asks, Looks, may_turn};
+ghost use Rattle.net_host.specs.Watching.{Asks, Looks, is_over_for, may_turn};
 ghost use Rattle.net_host.specs.declared.guard.Phase.TheVariants.{Free};
 
 use crate::guard::{Guard, GuardSettings, PACE, Phase, TURNS};
@@ -103,6 +103,16 @@ impl Guard {
         set_timeout(socket, lawful(settings.timeout));
         end_if(over, phase, socket);
         self.note(over, phase, since, end);
+    }
+
+    /// Whether `watch` would end what the socket has lasted in.
+    pub fn is_over<G>(&self, settings: &GuardSettings, socket: &Socket<'_, G>, now: Instant) -> bool
+        requires { IsMoment now.micros }
+        ensures { result ≡ is_over_for settings.now self.now socket.now.control_block now }
+    {
+        let phase = phase_of(socket);
+        let since = since_in(phase, self.phase, self.since, now);
+        has_ended(end_of(settings.limit_of(phase), since), now)
     }
 
     fn note(

@@ -1,15 +1,14 @@
-use Rattle.std.proofs.Common.{◌≡◌, ◌+◌, length, sym, subst, arith}
+use Rattle.std.proofs.Common.{◌∙◌, ◌+◌, ◌*◌, true, false, ap, subst}
+use Rattle.ip_wire.specs.IpHeader.{src_addr_of}
 use Rattle.control_wire.specs.Segment.{segment_of}
+use Rattle.net_host.specs.Filing.{keys_of, rest_major}
+use Rattle.net_host.specs.Entries.{FindsEarliestListed}
 use Rattle.net_host.specs.Resting.{RestsUntil}
-use Rattle.net_host.proofs.Oldest.{SoFar, step, whole}
+use Rattle.net_host.proofs.Places.{all_filed}
+use Rattle.net_host.proofs.Rested.{found_earliest}
 use Rattle.net_host.proofs.rest.oldest.Goals as goal
 
-pub loop-i-preserved : goal.loop-i-preserved
-loop-i-preserved g c =
-    subst (λ found. SoFar (λ t x. RestsUntil c.args.ip.now (segment_of c.args.repr.now) t x) c.args.slots.now (c.loop-i.i + 1) found) (sym c.earlier-found.ensures)
-    (step (λ t x. RestsUntil c.args.ip.now (segment_of c.args.repr.now) t x) c.args.slots.now c.loop-i.i c.index-slots-i.result (omega arith) c.index-slots-i.is c.loop-i.found c.rests_until.result c.rests_until.ensures c.loop-i.invariant)
-
-pub returns : goal.returns
-returns g c =
-    let is : c.loop-i.i ≡ length c.args.slots.now = omega arith in
-    whole (λ t x. RestsUntil c.args.ip.now (segment_of c.args.repr.now) t x) c.args.slots.now c.loop-i.found (subst (λ n. SoFar (λ t x. RestsUntil c.args.ip.now (segment_of c.args.repr.now) t x) c.args.slots.now n c.loop-i.found) is c.loop-i.invariant)
+pub returns-then-sockets : goal.returns-then-sockets
+returns-then-sockets g c =
+    found_earliest c.args.sockets.now.slots.items c.args.sockets.now.index.entries.items c.args.ip.now (segment_of c.args.repr.now) (all_filed (λ s. keys_of s) c.args.sockets.now.complete c.args.sockets.now.lent c.args.sockets.now.slots.items c.args.sockets.now.index.entries.items c.if-sockets.true c.requires c.args.sockets.now.indexed) c.earliest_in.result
+    (subst (λ xs. FindsEarliestListed (λ t x. RestsUntil c.args.ip.now (segment_of c.args.repr.now) t x) xs c.args.sockets.now.index.entries.items (rest_major c.args.repr.now.dst_port) c.earliest_in.result) c.deref.ensures.value c.earliest_in.ensures)

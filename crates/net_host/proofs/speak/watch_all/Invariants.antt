@@ -6,7 +6,7 @@ use Rattle.net_host.proofs.speak.watch_all.Given as goal
 
 abbrev pub invariant-loop-i : goal.invariant-loop-i
 invariant-loop-i g l = record {
-  len : length l.slots.items ≡ length l.fn.slots.items;
-  done : (k : ℕ) → k < l.i → Both (Watches l.settings l.now) (slice_get l.fn.slots.items k) (slice_get l.slots.items k);
-  left : (k : ℕ) → l.i ≤ k → slice_get l.slots.items k ≡ slice_get l.fn.slots.items k;
+  len : length l.sockets.slots.items ≡ length l.fn.sockets.slots.items;
+  done : (k : ℕ) → k < l.i → Both (Watches l.settings l.now) (slice_get l.fn.sockets.slots.items k) (slice_get l.sockets.slots.items k);
+  left : (k : ℕ) → l.i ≤ k → slice_get l.sockets.slots.items k ≡ slice_get l.fn.sockets.slots.items k;
 }

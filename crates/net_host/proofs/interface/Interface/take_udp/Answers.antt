@@ -5,6 +5,6 @@ use Rattle.net_host.proofs.interface.Interface.take_udp.Goals as goal
 
 pub returns-in-Some : goal.returns-in-Some
 returns-in-Some g c =
-    subst (λ o. ByDatagram eq-value.it g.W.Words.word_at g.G.TsvalSource.tells c.args.ip.now o c.args.self.now c.args.slots.now.items c.take_datagram.new.self c.take_datagram.new.slots.items)
+    subst (λ o. ByDatagram eq-value.it g.W.Words.word_at g.G.TsvalSource.tells c.args.ip.now o c.args.self.now c.args.sockets.now.slots.items c.take_datagram.new.self c.take_datagram.new.sockets.slots.items)
     (c.in-Some.ensures ∙ ap (λ caps. datagram_in caps c.args.ip.now c.args.bytes.now) c.checksum_caps-caps.ensures)
     c.take_datagram.ensures

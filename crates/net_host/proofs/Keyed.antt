@@ -1,0 +1,123 @@
+-- A socket that takes a segment is filed under the key of the segment.
+use Rattle.std.proofs.Common.{◌≡◌, ◌∙◌, ℕ, ◌+◌, ◌*◌, ◌<◌, List, length, Bool, true, false, Option, Some, None, refl, sym, subst, ap, arith, ◌⊎◌, inl, inr}
+use Rattle.std.specs.Prelude.{IfSome, slice_get, ◌&&◌}
+use Rattle.std.proofs.lemmas.Bool.{and_parts}
+use Rattle.ip_wire.specs.IpHeader.{src_addr_of}
+use Rattle.ip_wire.specs.declared.endpoint.IpListenEndpoint.{IpListenEndpoint}
+use Rattle.ip_wire.specs.declared.repr.IpRepr.{IpRepr}
+use Rattle.net_base.specs.declared.time.Instant.{Instant}
+use Rattle.control_wire.specs.Segment.{Segment}
+use Rattle.sock_tcp.specs.Ends.{close_end}
+use Rattle.sock_tcp.specs.Opening.{is_listening}
+use Rattle.sock_tcp.specs.Process.{AcceptsIn, IsAddressed, IsBetween, IsToListener}
+use Rattle.sock_tcp.specs.View.{View}
+use Rattle.sock_tcp.specs.declared.state.State.{State}
+use Rattle.sock_tcp.specs.declared.state.State.TheVariants as state
+use Rattle.sock_tcp.specs.declared.tuple.Tuple.{Tuple}
+use Rattle.smoltcp_socket.specs.declared.socket.Socket.{Socket}
+use Rattle.smoltcp_socket.specs.declared.socket.Socket.TheVariants as socket
+use Rattle.net_host.specs.declared.index.Entry.{Entry}
+use Rattle.net_host.specs.declared.key.Key.{Key}
+use Rattle.net_host.specs.declared.key.Key.TheVariants as key
+use Rattle.net_host.specs.declared.slot.Slot.{Slot}
+use Rattle.net_host.specs.Entries.{FindsListed, entry_at, has}
+use Rattle.net_host.specs.Filing.{connection_key, first_by, keys_in, keys_of, listener_key, number_of}
+use Rattle.net_host.specs.Indexing.{are_filed, is_filed, is_under}
+use Rattle.net_host.specs.Finding.{key_of_segment}
+use Rattle.net_host.specs.Segments.{TakesIn, TakesSegment}
+use Rattle.net_host.specs.Walks.{Finds}
+
+no_truth : false ≡ true → ⊥
+no_truth e = cc
+
+module _ (es : List Entry) (k : ℕ) (ip : IpRepr) (s : Segment) where
+  -- ---- a connection
+
+  between : (t : Tuple) → IsBetween t ip s → is_under es k (key.Under (connection_key t)) ≡ true → has es (entry_at (key_of_segment ip s) k) ≡ true
+  between t h f =
+      subst (λ a. has es (record { major = number_of a; minor = s.dst_port * 65536 + s.src_port; place = k }) ≡ true) (sym h.remote_addr)
+      (subst (λ p. has es (record { major = number_of t.remote.addr; minor = p * 65536 + s.src_port; place = k }) ≡ true) (sym h.local_port)
+      (subst (λ q. has es (record { major = number_of t.remote.addr; minor = t.local.port * 65536 + q; place = k }) ≡ true) (sym h.remote_port) f))
+
+  addressed : (st : State) (t : Option Tuple) (e : IpListenEndpoint) → is_listening st ≡ false → IsAddressed t e ip s → is_under es k (first_by st t e.port) ≡ true → (st ≡ state.Closed → ⊥) → has es (entry_at (key_of_segment ip s) k) ≡ true
+  addressed state.Closed t e l h f isnt = absurd (isnt refl)
+  addressed state.Listen t e l h f isnt = absurd (no_truth (sym l))
+  addressed state.SynSent None e l h f isnt = absurd (no_truth f)
+  addressed state.SynSent (Some t) e l h f isnt = between t h f
+  addressed state.SynReceived None e l h f isnt = absurd (no_truth f)
+  addressed state.SynReceived (Some t) e l h f isnt = between t h f
+  addressed state.Established None e l h f isnt = absurd (no_truth f)
+  addressed state.Established (Some t) e l h f isnt = between t h f
+  addressed state.FinWait1 None e l h f isnt = absurd (no_truth f)
+  addressed state.FinWait1 (Some t) e l h f isnt = between t h f
+  addressed state.FinWait2 None e l h f isnt = absurd (no_truth f)
+  addressed state.FinWait2 (Some t) e l h f isnt = between t h f
+  addressed state.CloseWait None e l h f isnt = absurd (no_truth f)
+  addressed state.CloseWait (Some t) e l h f isnt = between t h f
+  addressed state.Closing None e l h f isnt = absurd (no_truth f)
+  addressed state.Closing (Some t) e l h f isnt = between t h f
+  addressed state.LastAck None e l h f isnt = absurd (no_truth f)
+  addressed state.LastAck (Some t) e l h f isnt = between t h f
+  addressed state.TimeWait None e l h f isnt = absurd (no_truth f)
+  addressed state.TimeWait (Some t) e l h f isnt = between t h f
+
+  accepted : (st : State) (v : View) → is_listening st ≡ false → AcceptsIn st v ip s → is_under es k (first_by st v.tuple v.listen_endpoint.port) ≡ true → has es (entry_at (key_of_segment ip s) k) ≡ true
+  accepted state.Closed v l h f = absurd h
+  accepted state.Listen v l h f = absurd (no_truth (sym l))
+  accepted state.SynSent v l h f = addressed state.SynSent v.tuple v.listen_endpoint l h f (λ e. cc)
+  accepted state.SynReceived v l h f = addressed state.SynReceived v.tuple v.listen_endpoint l h f (λ e. cc)
+  accepted state.Established v l h f = addressed state.Established v.tuple v.listen_endpoint l h f (λ e. cc)
+  accepted state.FinWait1 v l h f = addressed state.FinWait1 v.tuple v.listen_endpoint l h f (λ e. cc)
+  accepted state.FinWait2 v l h f = addressed state.FinWait2 v.tuple v.listen_endpoint l h f (λ e. cc)
+  accepted state.CloseWait v l h f = addressed state.CloseWait v.tuple v.listen_endpoint l h f (λ e. cc)
+  accepted state.Closing v l h f = addressed state.Closing v.tuple v.listen_endpoint l h f (λ e. cc)
+  accepted state.LastAck v l h f = addressed state.LastAck v.tuple v.listen_endpoint l h f (λ e. cc)
+  accepted state.TimeWait v l h f = addressed state.TimeWait v.tuple v.listen_endpoint l h f (λ e. cc)
+
+  pub connection_in : {G : Type 0} (x : Option (Socket G)) → are_filed es k (keys_in x) ≡ true → TakesIn x false ip s → has es (entry_at (key_of_segment ip s) k) ≡ true
+  connection_in None f h = absurd h
+  connection_in (Some (socket.Raw x)) f h = absurd h
+  connection_in (Some (socket.Icmp x)) f h = absurd h
+  connection_in (Some (socket.Udp x)) f h = absurd h
+  connection_in (Some (socket.Tcp x)) f h = accepted x.control_block.state x.control_block h.0 h.1 (and_parts _ _ f).0
+
+  -- ---- a listener
+
+  listening : (t : Option Tuple) (e : IpListenEndpoint) → IsAddressed t e ip s → is_under es k (first_by state.Listen t e.port) ≡ true → has es (entry_at (listener_key s.dst_port) k) ≡ true
+  listening None e h f = subst (λ p. has es (record { major = 0; minor = p; place = k }) ≡ true) (sym h.port) f
+  listening (Some t) e h f = absurd (no_truth f)
+
+  listens : (st : State) (v : View) → is_listening st ≡ true → AcceptsIn st v ip s → is_under es k (first_by st v.tuple v.listen_endpoint.port) ≡ true → has es (entry_at (listener_key s.dst_port) k) ≡ true
+  listens state.Listen v l h f = listening v.tuple v.listen_endpoint h.1 f
+  listens state.Closed v l h f = absurd (no_truth l)
+  listens state.SynSent v l h f = absurd (no_truth l)
+  listens state.SynReceived v l h f = absurd (no_truth l)
+  listens state.Established v l h f = absurd (no_truth l)
+  listens state.FinWait1 v l h f = absurd (no_truth l)
+  listens state.FinWait2 v l h f = absurd (no_truth l)
+  listens state.CloseWait v l h f = absurd (no_truth l)
+  listens state.Closing v l h f = absurd (no_truth l)
+  listens state.LastAck v l h f = absurd (no_truth l)
+  listens state.TimeWait v l h f = absurd (no_truth l)
+
+  pub listener_in : {G : Type 0} (x : Option (Socket G)) → are_filed es k (keys_in x) ≡ true → TakesIn x true ip s → has es (entry_at (listener_key s.dst_port) k) ≡ true
+  listener_in None f h = absurd h
+  listener_in (Some (socket.Raw x)) f h = absurd h
+  listener_in (Some (socket.Icmp x)) f h = absurd h
+  listener_in (Some (socket.Udp x)) f h = absurd h
+  listener_in (Some (socket.Tcp x)) f h = listens x.control_block.state x.control_block h.0 h.1 (and_parts _ _ f).0
+
+-- ---- what is found under a key is what a walk finds
+
+module _ {G : Type 0} (P : Slot G → Type 0) (ss : List (Slot G)) (es : List Entry) (key : Entry) (filed : (k : ℕ) → is_filed (λ s. keys_of s) es k (slice_get ss k) ≡ true) (listed : (k : ℕ) (x : Slot G) → are_filed es k (keys_of x) ≡ true → P x → has es (entry_at key k) ≡ true) where
+  none_at : (k : ℕ) (o : Option (Slot G)) → is_filed (λ s. keys_of s) es k o ≡ true → (has es (entry_at key k) ≡ true → IfSome o (λ x. P x → ⊥)) → IfSome o (λ x. P x → ⊥)
+  none_at k None f h = tt
+  none_at k (Some x) f h = λ p. h (listed k x f p) p
+
+  pub found : (r : Option ℕ) → FindsListed P ss es key r → Finds P ss r
+  found None h = λ k. none_at k (slice_get ss k) (filed k) (h k)
+  found (Some i) h = record {
+    within = h.within;
+    holds = h.holds;
+    before = λ k less. none_at k (slice_get ss k) (filed k) (h.before k less);
+  }

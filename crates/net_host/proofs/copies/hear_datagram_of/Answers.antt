@@ -1,0 +1,7 @@
+use Rattle.net_host.proofs.KeptKeys.{heard_keeps}
+use Rattle.net_host.proofs.copies.hear_datagram_of.Goals as goal
+
+pub invariant_of-sockets : goal.invariant_of-sockets
+invariant_of-sockets g c = record {
+  indexed = heard_keeps c.hear_datagram.result c.args.ip.now c.args.repr.now c.args.payload.now c.args.sockets.now.complete c.args.sockets.now.lent c.args.sockets.now.slots.items c.hear_datagram.new.slots.items c.args.sockets.now.index.entries.items c.hear_datagram.ensures.heard c.args.sockets.now.indexed;
+}

@@ -1,0 +1,25 @@
+use Rattle.std.proofs.Common.{◌∙◌, ◌+◌, ◌*◌, true, false, ap, sym, subst}
+use Rattle.ip_wire.specs.IpHeader.{src_addr_of}
+use Rattle.control_wire.specs.Segment.{segment_of}
+use Rattle.net_host.specs.Filing.{keys_of, listener_key, number_of}
+use Rattle.net_host.specs.Entries.{FindsListed}
+use Rattle.net_host.specs.Finding.{key_of_segment}
+use Rattle.net_host.specs.Segments.{TakesSegment}
+use Rattle.net_host.specs.Walks.{Finds}
+use Rattle.net_host.proofs.Keyed.{connection_in, found, listener_in}
+use Rattle.net_host.proofs.Places.{all_filed}
+use Rattle.net_host.proofs.segments.found_taker.Goals as goal
+
+pub returns-then-listening : goal.returns-then-listening
+returns-then-listening g c =
+    subst (λ b. Finds (λ x. TakesSegment b c.args.ip.now (segment_of c.args.repr.now) x) c.args.sockets.now.slots.items c.first_in.result) (sym c.if-listening.true)
+    (found (λ x. TakesSegment true c.args.ip.now (segment_of c.args.repr.now) x) c.args.sockets.now.slots.items c.args.sockets.now.index.entries.items (listener_key c.args.repr.now.dst_port) (all_filed (λ s. keys_of s) c.args.sockets.now.complete c.args.sockets.now.lent c.args.sockets.now.slots.items c.args.sockets.now.index.entries.items c.requires.complete c.requires.settled c.args.sockets.now.indexed) (λ k x f h. listener_in c.args.sockets.now.index.entries.items k c.args.ip.now (segment_of c.args.repr.now) x.socket f h) c.first_in.result
+    (subst (λ key. FindsListed (λ x. TakesSegment true c.args.ip.now (segment_of c.args.repr.now) x) c.args.sockets.now.slots.items c.args.sockets.now.index.entries.items key c.first_in.result) c.listener_key-key.ensures
+    (subst (λ xs. FindsListed (λ x. TakesSegment true c.args.ip.now (segment_of c.args.repr.now) x) xs c.args.sockets.now.index.entries.items c.listener_key-key.result c.first_in.result) c.deref.ensures.value c.first_in.ensures)))
+
+pub returns-else-listening : goal.returns-else-listening
+returns-else-listening g c =
+    subst (λ b. Finds (λ x. TakesSegment b c.args.ip.now (segment_of c.args.repr.now) x) c.args.sockets.now.slots.items c.first_in-else-listening.result) (sym c.if-listening.false)
+    (found (λ x. TakesSegment false c.args.ip.now (segment_of c.args.repr.now) x) c.args.sockets.now.slots.items c.args.sockets.now.index.entries.items (key_of_segment c.args.ip.now (segment_of c.args.repr.now)) (all_filed (λ s. keys_of s) c.args.sockets.now.complete c.args.sockets.now.lent c.args.sockets.now.slots.items c.args.sockets.now.index.entries.items c.requires.complete c.requires.settled c.args.sockets.now.indexed) (λ k x f h. connection_in c.args.sockets.now.index.entries.items k c.args.ip.now (segment_of c.args.repr.now) x.socket f h) c.first_in-else-listening.result
+    (subst (λ key. FindsListed (λ x. TakesSegment false c.args.ip.now (segment_of c.args.repr.now) x) c.args.sockets.now.slots.items c.args.sockets.now.index.entries.items key c.first_in-else-listening.result) (c.connection_key-key.ensures ∙ ap (λ a. record { major = number_of a; minor = c.args.repr.now.dst_port * 65536 + c.args.repr.now.src_port; place = 0 }) c.src_addr.ensures)
+    (subst (λ xs. FindsListed (λ x. TakesSegment false c.args.ip.now (segment_of c.args.repr.now) x) xs c.args.sockets.now.index.entries.items c.connection_key-key.result c.first_in-else-listening.result) c.deref-else-listening.ensures.value c.first_in-else-listening.ensures)))

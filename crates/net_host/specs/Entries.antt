@@ -1,0 +1,89 @@
+-- The entries of an index, in order.
+use Rattle.std.specs.Prelude.{ℕ, ◌≡◌, ◌<◌, ◌≤◌, ◌+◌, ◌*◌, ◌^◌, ◌&&◌, ◌||◌, Bool, true, false, nat_eq, unsigned_abs, int_le, ℤ, pos, negsuc, ◌+ℤ◌, ◌≤ℤ◌, ◌<ℤ◌, List, length, [], ◌∷◌, get_or, Option, Some, None, IfSome, slice_get, if◌then◌else◌}
+use Rattle.net_base.specs.declared.time.Instant.{Instant}
+use Rattle.net_host.specs.declared.index.Entry.{Entry}
+
+abbrev pub nothing : Entry
+nothing = record { major = 0; minor = 0; place = 0 }
+
+-- their order
+abbrev pub rank : Entry → ℕ
+rank e = (e.major * 2 ^ 64 + e.minor) * 2 ^ 64 + e.place
+
+abbrev pub rank_at : List Entry → ℕ → ℕ
+rank_at es k = rank (get_or es k (nothing))
+
+abbrev pub IsSortedByRank : List Entry → Type 0
+IsSortedByRank es = (i j : ℕ) → i < j → j < length es → rank_at es i ≤ rank_at es j
+
+abbrev pub is_entry : Entry → Entry → Bool
+is_entry a b = nat_eq a.major b.major && (nat_eq a.minor b.minor && nat_eq a.place b.place)
+
+-- whether it is among them
+unfoldable pub has : List Entry → Entry → Bool
+has [] x = false
+has (e ∷ es) x = is_entry e x || has es x
+
+-- where entries of a rank would begin
+pub record Splits (es : List Entry) (n : ℕ) (p : ℕ) : Type 0 where
+  pub within : p ≤ length es
+  pub below : (k : ℕ) → k < p → rank_at es k < n
+  pub above : (k : ℕ) → p ≤ k → k < length es → n ≤ rank_at es k
+
+-- what was among them still is
+abbrev pub Keeps : List Entry → List Entry → Type 0
+Keeps es fs = (x : Entry) → has es x ≡ true → has fs x ≡ true
+
+-- but for this one
+abbrev pub KeepsBut : Entry → List Entry → List Entry → Type 0
+KeepsBut e es fs = (x : Entry) → is_entry e x ≡ false → has es x ≡ true → has fs x ≡ true
+
+-- the entry of a place under the key of another
+abbrev pub entry_at : Entry → ℕ → Entry
+entry_at key k = record { major = key.major; minor = key.minor; place = k }
+
+-- ---- a walk through the entries under a key
+
+-- among the places with an entry under the key, the first whose element P holds of
+pub record IsFirstListed {X : Type 0} (P : X → Type 0) (xs : List X) (es : List Entry) (key : Entry) (i : ℕ) : Type 0 where
+  pub holds : IfSome (slice_get xs i) P
+  pub within : i < length xs
+  pub before : (k : ℕ) → k < i → has es (entry_at key k) ≡ true → IfSome (slice_get xs k) (λ x. P x → ⊥)
+
+abbrev pub FindsListed : {X : Type 0} → (X → Type 0) → List X → List Entry → Entry → Option ℕ → Type 0
+FindsListed P xs es key None = (k : ℕ) → has es (entry_at key k) ≡ true → IfSome (slice_get xs k) (λ x. P x → ⊥)
+FindsListed P xs es key (Some i) = IsFirstListed P xs es key i
+
+-- ---- a walk through the entries of one major, by moments
+
+-- moments within 2^61 microseconds of zero, in their order
+abbrev pub order_of : Instant → ℕ
+order_of t = unsigned_abs (t.micros +ℤ pos 2305843009213693952)
+
+abbrev pub is_ordered : Instant → Bool
+is_ordered t = int_le (negsuc 2305843009213693951) t.micros && int_le t.micros (pos 2305843009213693952)
+
+abbrev pub ordered : Instant → Option ℕ
+ordered t = if is_ordered t then Some (order_of t) else None
+
+abbrev pub entry_of : ℕ → Instant → ℕ → Entry
+entry_of major t k = record { major = major; minor = order_of t; place = k }
+
+abbrev pub IsListedOf : List Entry → ℕ → Instant → ℕ → Type 0
+IsListedOf es major u k = (is_ordered u ≡ true) × (has es (entry_of major u k) ≡ true)
+
+-- R of the element at i and this moment, and of none that is listed with an earlier one
+pub record IsEarliestListed {X : Type 0} (R : Instant → X → Type 0) (xs : List X) (es : List Entry) (major : ℕ) (i : ℕ)
+    (t : Instant) : Type 0 where
+  pub within : i < length xs
+  pub holds : IfSome (slice_get xs i) (R t)
+  pub others : (k : ℕ) (u : Instant) → IsListedOf es major u k
+      → IfSome (slice_get xs k) (λ x. R u x → t.micros ≤ℤ u.micros)
+  pub before : (k : ℕ) (u : Instant) → k < i → IsListedOf es major u k
+      → IfSome (slice_get xs k) (λ x. R u x → t.micros <ℤ u.micros)
+
+abbrev pub FindsEarliestListed : {X : Type 0} → (Instant → X → Type 0) → List X → List Entry → ℕ
+    → Option (ℕ × Instant) → Type 0
+FindsEarliestListed R xs es major None =
+    (k : ℕ) (u : Instant) → IsListedOf es major u k → IfSome (slice_get xs k) (λ x. R u x → ⊥)
+FindsEarliestListed R xs es major (Some p) = IsEarliestListed R xs es major p.0 p.1

@@ -1,0 +1,89 @@
+-- Under which keys the socket of a place is filed.
+use Rattle.std.specs.Prelude.{ℕ, ◌+◌, ◌*◌, Option, Some, None}
+use Rattle.std.specs.Int.{from_be_bytes, w32, w128}
+use Rattle.ip_wire.specs.declared.address.IpAddress.{IpAddress}
+use Rattle.ip_wire.specs.declared.address.IpAddress.TheVariants as address
+use Rattle.net_base.specs.declared.time.Instant.{Instant}
+use Rattle.sock_tcp.specs.Ends.{close_end}
+use Rattle.sock_tcp.specs.View.{View}
+use Rattle.sock_tcp.specs.declared.state.State.{State}
+use Rattle.sock_tcp.specs.declared.state.State.TheVariants as state
+use Rattle.sock_tcp.specs.declared.tuple.Tuple.{Tuple}
+use Rattle.smoltcp_socket.specs.declared.socket.Socket.{Socket}
+use Rattle.smoltcp_socket.specs.declared.socket.Socket.TheVariants as socket
+use Rattle.net_host.specs.Entries.{ordered}
+use Rattle.net_host.specs.Indexing.{no_keys}
+use Rattle.net_host.specs.declared.key.Key.{Key}
+use Rattle.net_host.specs.declared.key.Key.TheVariants as key
+use Rattle.net_host.specs.declared.key.Keys.{Keys}
+use Rattle.net_host.specs.declared.index.Entry.{Entry}
+use Rattle.net_host.specs.declared.slot.Slot.{Slot}
+
+-- ---- keys
+
+-- an address as a number; one of IPv4 as if it were mapped (RFC 4291, section 2.5.5.2)
+unfoldable pub number_of : IpAddress → ℕ
+number_of (address.Ipv4 a) = from_be_bytes w32 a.0 + 281470681743360
+number_of (address.Ipv6 a) = from_be_bytes w128 a.0
+
+abbrev pub connection_key : Tuple → Entry
+connection_key t = record {
+  major = number_of t.remote.addr;
+  minor = t.local.port * 65536 + t.remote.port;
+  place = 0;
+}
+
+-- of a socket that listens on a port, of one that did, and of one in TIME-WAIT that did
+abbrev pub listener_key : ℕ → Entry
+listener_key port = record { major = 0; minor = port; place = 0 }
+
+abbrev pub server_key : ℕ → Entry
+server_key port = record { major = 1; minor = port; place = 0 }
+
+-- of raw and of ICMP sockets
+abbrev pub raw_key : Entry
+raw_key = record { major = 2; minor = 0; place = 0 }
+
+abbrev pub icmp_key : Entry
+icmp_key = record { major = 2; minor = 1; place = 0 }
+
+abbrev pub rest_major : ℕ → ℕ
+rest_major port = port + 65536
+
+abbrev pub rest_by : Option ℕ → ℕ → Key
+rest_by (Some n) port = key.Under (record { major = rest_major port; minor = n; place = 0 })
+rest_by None port = key.Unknown
+
+-- ---- the keys of a TCP socket
+
+abbrev pub first_by : State → Option Tuple → ℕ → Key
+first_by state.Closed t port = key.Nothing
+first_by state.Listen None port = key.Under (listener_key port)
+first_by state.Listen (Some t) port = key.Unknown
+first_by _ None port = key.Unknown
+first_by _ (Some t) port = key.Under (connection_key t)
+
+abbrev pub second_by : State → Option Instant → ℕ → Key
+second_by state.Closed end port = key.Nothing
+second_by state.Listen end port = key.Nothing
+second_by state.TimeWait (Some t) port = rest_by (ordered t) port
+second_by _ end port = key.Under (server_key port)
+
+abbrev pub keys_by : View → Keys
+keys_by v = record {
+  first = first_by v.state v.tuple v.listen_endpoint.port;
+  second = second_by v.state (close_end v.timer) v.listen_endpoint.port;
+}
+
+abbrev pub one_key : Entry → Keys
+one_key e = record { first = key.Under e; second = key.Nothing }
+
+abbrev pub keys_in : {G : Type 0} → Option (Socket G) → Keys
+keys_in (Some (socket.Tcp x)) = keys_by x.control_block
+keys_in (Some (socket.Raw x)) = one_key raw_key
+keys_in (Some (socket.Icmp x)) = one_key icmp_key
+keys_in (Some (socket.Udp x)) = no_keys
+keys_in None = no_keys
+
+abbrev pub keys_of : {G : Type 0} → Slot G → Keys
+keys_of s = keys_in s.socket

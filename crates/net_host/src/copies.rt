@@ -1,0 +1,75 @@
+//! What sockets of the other kinds take, in a set with an index.
+ghost use Rattle.std.specs.Prelude.{◌≡◌, None, true};
+ghost use Rattle.net_host.specs.Entries.{FindsListed};
+ghost use Rattle.net_host.specs.Finding.{IsThere};
+ghost use Rattle.net_host.specs.Datagrams.{HeardBy, TakesDatagram};
+ghost use Rattle.net_host.specs.Messages.{Copies, mail_of};
+ghost use Rattle.net_host.specs.RawCopies.{CopiesPacket};
+ghost use Rattle.net_host.specs.Walks.{ChangesEach, Finds};
+
+use crate::datagrams::hear_datagram;
+use crate::filing::{icmp_key, raw_key};
+use crate::find::lists_none;
+use crate::index::Entry;
+use crate::messages::{Mail, copy_to_all};
+use crate::raw_copies::copy_packet_to_all;
+use crate::set::SocketSet;
+use smoltcp_socket::Context;
+use smoltcp_socket::wire::{IpRepr, UdpRepr};
+use sock_tcp::TsvalSource;
+
+// Whether no place is under the key, as far as is known.
+fn knows_none<G: TsvalSource>(sockets: &SocketSet<'_, G>, key: Entry) -> bool
+    requires { key.place ≡ 0 }
+    ensures { result ≡ true → (sockets.now.complete ≡ true)
+        × FindsListed (λ s. IsThere s) sockets.now.slots.items sockets.now.index.entries.items key None }
+{
+    sockets.complete && lists_none(&sockets.slots, &sockets.index, key)
+}
+
+/// Each raw socket that accepts the packet takes a copy.
+pub(crate) fn copy_packet<C: Context, G: TsvalSource>(
+    sockets: &mut SocketSet<'_, G>,
+    cx: &C,
+    ip: &IpRepr,
+    payload: &[u8],
+)
+    ensures { ChangesEach (CopiesPacket (C.facts cx.now) ip.now payload.now) sockets.old.slots.items
+        sockets.new.slots.items }
+{
+    sockets.settle();
+    if knows_none(sockets, raw_key()) {
+        return;
+    }
+    copy_packet_to_all(&mut sockets.slots, cx, ip, payload);
+}
+
+/// Each ICMP socket that accepts the message takes a copy.
+pub(crate) fn copy_mail<C: Context, G: TsvalSource>(
+    sockets: &mut SocketSet<'_, G>,
+    cx: &C,
+    mail: &Mail<'_>,
+)
+    ensures { ChangesEach (Copies (C.facts cx.now) (mail_of mail.now)) sockets.old.slots.items
+        sockets.new.slots.items }
+{
+    sockets.settle();
+    if knows_none(sockets, icmp_key()) {
+        return;
+    }
+    copy_to_all(&mut sockets.slots, cx, mail);
+}
+
+/// A datagram arrives: the place of the first socket that takes it, if any.
+pub(crate) fn hear_datagram_of<C: Context, G: TsvalSource>(
+    sockets: &mut SocketSet<'_, G>,
+    cx: &C,
+    ip: &IpRepr,
+    repr: &UdpRepr,
+    payload: &[u8],
+) -> Option<usize>
+    ensures finds { Finds (TakesDatagram (C.facts cx.now) ip.now repr.now) sockets.old.slots.items result }
+    ensures heard { HeardBy result sockets.old.slots.items ip.now repr.now payload.now sockets.new.slots.items }
+{
+    hear_datagram(&mut sockets.slots, cx, ip, repr, payload)
+}

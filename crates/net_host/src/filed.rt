@@ -1,0 +1,105 @@
+//! Places that are filed in an index under their keys.
+ghost use Rattle.std.specs.Prelude.{◌≡◌, ◌&&◌, ◌<◌, IfSome, IsSome, length, get_or, slice_get, true, None};
+ghost use Rattle.std.specs.List.{All};
+ghost use Rattle.net_host.specs.Indexing.{IsIndexed, KeepsOthers, are_filed, is_filed, lent_of, no_keys};
+ghost use Rattle.net_host.specs.declared.key.Keys.{Keys};
+
+use crate::index::Index;
+use crate::key::{Keys, Lent};
+use crate::refiling::refile;
+
+/// What has keys.
+pub trait Keyed {
+    ghost keys_of: { Self → Keys };
+
+    /// Under which keys it is filed.
+    fn keys(&self) -> Keys
+        ensures { result ≡ keys_of self.now };
+}
+
+/// Places, and an index of them. One place at a time is lent, and may be changed; it is filed anew before the next use
+/// of the index.
+#[derive(Drop)]
+pub struct Filed<T: Keyed> {
+    pub(crate) slots: Vec<T>,
+    pub(crate) index: Index,
+    // whether each place is filed, but for the one that was lent, which is filed as it was before
+    pub(crate) complete: bool,
+    pub(crate) lent: Option<Lent>,
+    pub ghost indexed: { IsIndexed T.keys_of complete lent slots.items index.entries.items },
+}
+
+impl<T: Keyed> Filed<T> {
+    /// Places without keys.
+    pub(crate) fn of_free(slots: Vec<T>, index: Index) -> Filed<T>
+        requires { All (λ s. T.keys_of s ≡ no_keys) slots.items }
+        ensures { result.slots ≡ slots }
+    {
+        Filed {
+            slots,
+            index,
+            complete: true,
+            lent: None,
+        }
+    }
+
+    /// The place that was lent, if one was, is filed as it is now.
+    pub(crate) fn settle(&mut self)
+        ensures slots { self.new.slots ≡ self.old.slots }
+        ensures settled { self.new.lent ≡ None }
+    {
+        if let Some(lent) = self.lent {
+            let filed = refile_lent(&self.slots, &mut self.index, &lent);
+            self.complete = both(self.complete, filed);
+            self.lent = None;
+        }
+    }
+
+    /// This place may change: it will be filed as it is then.
+    pub(crate) fn lend(&mut self, place: usize)
+        ensures slots { self.new.slots ≡ self.old.slots }
+        ensures lent { self.new.lent ≡ lent_of T.keys_of place (slice_get self.old.slots.items place) }
+    {
+        self.settle();
+        self.lent = lent_at(&self.slots, place);
+    }
+
+    /// What stands at this place, lent.
+    pub(crate) fn place_mut(&mut self, place: usize) -> Option<&mut T>
+        ensures there { IsSome result → place < length self.old.slots.items }
+        ensures beyond { place < length self.old.slots.items → IsSome result }
+        ensures value { IfSome result (λ s. s.now ≡ get_or self.old.slots.items place s.now) }
+    {
+        self.lend(place);
+        self.slots.get_mut(place)
+    }
+}
+
+fn both(a: bool, b: bool) -> bool
+    ensures { result ≡ a && b }
+{
+    a && b
+}
+
+fn lent_at<T: Keyed>(slots: &[T], place: usize) -> Option<Lent>
+    ensures { result ≡ lent_of T.keys_of place (slice_get slots.now place) }
+{
+    match slots.get(place) {
+        Some(slot) => Some(Lent {
+            place,
+            keys: slot.keys(),
+        }),
+        None => None,
+    }
+}
+
+fn refile_lent<T: Keyed>(slots: &[T], index: &mut Index, lent: &Lent) -> bool
+    ensures filed { result ≡ true → are_filed index.old.entries.items lent.now.place lent.now.keys ≡ true
+        → is_filed T.keys_of index.new.entries.items lent.now.place (slice_get slots.now lent.now.place) ≡ true }
+    ensures others { KeepsOthers lent.now.place index.old.entries.items index.new.entries.items }
+{
+    match slots.get(lent.place) {
+        Some(slot) => refile(index, lent.place, &lent.keys, &slot.keys()),
+        None => true,
+    }
+}

@@ -1,0 +1,182 @@
+//! Under which keys the socket of a place is filed.
+ghost use Rattle.std.specs.Prelude.{◌≡◌, ◌+◌, ◌*◌, true};
+ghost use Rattle.net_host.specs.declared.key.Key.TheVariants.{Nothing};
+ghost use Rattle.net_host.specs.Entries.{ordered};
+ghost use Rattle.net_host.specs.Filing.{first_by, icmp_key, keys_by, keys_of, listener_key, number_of, raw_key, rest_by};
+ghost use Rattle.net_host.specs.Filing.{rest_major, second_by, server_key};
+
+use crate::filed::Keyed;
+use crate::index::Entry;
+use crate::key::{Key, Keys};
+use crate::slot::Slot;
+use smoltcp_socket::tcp::State;
+use smoltcp_socket::time::Instant;
+use smoltcp_socket::wire::IpAddress;
+use smoltcp_socket::{Socket, tcp};
+use sock_tcp::tuple::Tuple;
+
+// An address as a number.
+#[tactic(auto, unfolding(crate::specs::Filing::number_of))]
+pub(crate) fn number_of(addr: &IpAddress) -> u128
+    ensures { result ≡ number_of addr.now }
+{
+    match addr {
+        IpAddress::Ipv4(addr) => u128::from(u32::from_be_bytes(addr.0)) + 0xffff_0000_0000,
+        IpAddress::Ipv6(addr) => u128::from_be_bytes(addr.0),
+    }
+}
+
+/// The key of a connection.
+pub(crate) fn connection_key(remote: &IpAddress, local_port: u16, remote_port: u16) -> Entry
+    ensures { result ≡ record { major = number_of remote.now; minor = local_port * 65536 + remote_port; place = 0 } }
+{
+    Entry {
+        major: number_of(remote),
+        minor: u64::from(local_port) * 65536 + u64::from(remote_port),
+        place: 0,
+    }
+}
+
+/// The key of the sockets that listen on a port.
+pub(crate) fn listener_key(port: u16) -> Entry
+    ensures { result ≡ listener_key port }
+{
+    Entry {
+        major: 0,
+        minor: u64::from(port),
+        place: 0,
+    }
+}
+
+/// The key of the sockets that were opened on a port.
+pub(crate) fn server_key(port: u16) -> Entry
+    ensures { result ≡ server_key port }
+{
+    Entry {
+        major: 1,
+        minor: u64::from(port),
+        place: 0,
+    }
+}
+
+/// The key of the raw sockets.
+pub(crate) fn raw_key() -> Entry
+    ensures { result ≡ raw_key }
+{
+    Entry {
+        major: 2,
+        minor: 0,
+        place: 0,
+    }
+}
+
+/// The key of the ICMP sockets.
+pub(crate) fn icmp_key() -> Entry
+    ensures { result ≡ icmp_key }
+{
+    Entry {
+        major: 2,
+        minor: 1,
+        place: 0,
+    }
+}
+
+/// The first part of the keys of those in TIME-WAIT.
+pub(crate) fn rest_major(port: u16) -> u128
+    ensures { result ≡ rest_major port }
+{
+    u128::from(port) + 65536
+}
+
+// No moment of a timer is further from zero, in microseconds.
+const FARTHEST: i64 = 1 << 61;
+
+/// The moment as a number of the same order, where it is within 2^61 microseconds of zero.
+pub(crate) fn order(moment: Instant) -> Option<u64>
+    ensures { result ≡ ordered moment }
+{
+    if moment.micros < -FARTHEST || FARTHEST < moment.micros {
+        return None;
+    }
+    Some((moment.micros + FARTHEST).unsigned_abs())
+}
+
+fn rest_by(minor: Option<u64>, port: u16) -> Key
+    ensures { result ≡ rest_by minor port }
+{
+    match minor {
+        Some(minor) => Key::Under(Entry {
+            major: rest_major(port),
+            minor,
+            place: 0,
+        }),
+        None => Key::Unknown,
+    }
+}
+
+fn tuple_of<G>(tcp: &tcp::Socket<'_, G>) -> Option<Tuple>
+    ensures { result ≡ tcp.now.control_block.tuple }
+{
+    match (tcp.local_endpoint(), tcp.remote_endpoint()) {
+        (Some(local), Some(remote)) => Some(Tuple { local, remote }),
+        _ => None,
+    }
+}
+
+fn first_by(state: State, tuple: &Option<Tuple>, port: u16) -> Key
+    ensures { result ≡ first_by state tuple.now port }
+{
+    match (state, tuple) {
+        (State::Closed, _) => Key::Nothing,
+        (State::Listen, None) => Key::Under(listener_key(port)),
+        (State::Listen, Some(_)) | (_, None) => Key::Unknown,
+        (_, Some(tuple)) => Key::Under(connection_key(
+            &tuple.remote.addr,
+            tuple.local.port,
+            tuple.remote.port,
+        )),
+    }
+}
+
+fn second_by(state: State, end: Option<Instant>, port: u16) -> Key
+    ensures { result ≡ second_by state end port }
+{
+    match (state, end) {
+        (State::Closed | State::Listen, _) => Key::Nothing,
+        (State::TimeWait, Some(end)) => rest_by(order(end), port),
+        _ => Key::Under(server_key(port)),
+    }
+}
+
+fn keys_by<G>(tcp: &tcp::Socket<'_, G>) -> Keys
+    ensures { result ≡ keys_by tcp.now.control_block }
+{
+    let state = tcp.state();
+    let port = tcp.listen_endpoint().port;
+    Keys {
+        first: first_by(state, &tuple_of(tcp), port),
+        second: second_by(state, tcp.time_wait_end(), port),
+    }
+}
+
+fn one_key(first: Key) -> Keys
+    ensures { result ≡ record { first = first; second = Nothing } }
+{
+    Keys {
+        first,
+        second: Key::Nothing,
+    }
+}
+
+impl<'a, G> Keyed for Slot<'a, G> {
+    ghost keys_of = { λ s. keys_of s };
+
+    fn keys(&self) -> Keys {
+        match &self.socket {
+            Some(Socket::Tcp(tcp)) => keys_by(tcp),
+            Some(Socket::Raw(_)) => one_key(Key::Under(raw_key())),
+            Some(Socket::Icmp(_)) => one_key(Key::Under(icmp_key())),
+            _ => one_key(Key::Nothing),
+        }
+    }
+}

@@ -1,0 +1,199 @@
+//! Walks through the places under a key.
+ghost use Rattle.std.specs.Prelude.{◌≡◌, ◌↔◌, IsTrue, None, true};
+ghost use Rattle.control_wire.specs.Segment.{segment_of};
+ghost use Rattle.net_host.specs.Entries.{FindsEarliestListed, FindsListed};
+ghost use Rattle.net_host.specs.Filing.{rest_major};
+ghost use Rattle.net_host.specs.Finding.{Fits, IsThere, RestsAt, with_minor};
+ghost use Rattle.net_host.specs.Resting.{RestsUntil};
+ghost use Rattle.net_host.specs.Sides.{IsSide, IsSideOf};
+ghost use Rattle.net_host.specs.Walks.{IsAt};
+
+use crate::filing::{order, rest_major};
+use crate::index::{Entry, Index};
+use crate::slot::Slot;
+use smoltcp_socket::Context;
+use smoltcp_socket::time::Instant;
+use smoltcp_socket::wire::{IpRepr, TcpRepr};
+use sock_tcp::TsvalSource;
+
+/// What is looked for, for a segment.
+#[derive(Debug, Clone, Copy, PartialEq, Eq)]
+pub enum Sought {
+    /// A connection that accepts it.
+    Connection,
+    /// A socket that listens and accepts it.
+    Listener,
+    /// A socket that serves its port.
+    Server,
+}
+
+/// Where an entry stands, seen from those under a key.
+#[derive(Debug, Clone, Copy, PartialEq, Eq)]
+pub enum Side {
+    Before,
+    Under,
+    Behind,
+}
+
+fn stands(entry: Entry, key: Entry) -> Side
+    requires { key.place ≡ 0 }
+    ensures { IsSide entry key result }
+{
+    if entry.major < key.major || entry.major == key.major && entry.minor < key.minor {
+        return Side::Before;
+    }
+    if entry.major == key.major && entry.minor == key.minor {
+        return Side::Under;
+    }
+    Side::Behind
+}
+
+fn stands_of(entry: Entry, major: u128) -> Side
+    ensures { IsSideOf entry major result }
+{
+    if entry.major < major {
+        return Side::Before;
+    }
+    if entry.major == major {
+        return Side::Under;
+    }
+    Side::Behind
+}
+
+impl<'a, G: TsvalSource> Slot<'a, G> {
+    pub(crate) fn fits<C: Context>(
+        &self,
+        cx: &C,
+        sought: Sought,
+        ip: &IpRepr,
+        repr: &TcpRepr<'_>,
+    ) -> bool
+        ensures { IsTrue result ↔ Fits sought ip.now (segment_of repr.now) self.now }
+    {
+        match sought {
+            Sought::Connection => self.takes_segment(cx, false, ip, repr),
+            Sought::Listener => self.takes_segment(cx, true, ip, repr),
+            Sought::Server => self.serves(ip, repr),
+        }
+    }
+}
+
+fn fits_at<C: Context, G: TsvalSource>(
+    slots: &[Slot<'_, G>],
+    place: usize,
+    cx: &C,
+    sought: Sought,
+    ip: &IpRepr,
+    repr: &TcpRepr<'_>,
+) -> bool
+    ensures { IsTrue result ↔ IsAt (Fits sought ip.now (segment_of repr.now)) slots.now place }
+{
+    match slots.get(place) {
+        Some(slot) => slot.fits(cx, sought, ip, repr),
+        None => false,
+    }
+}
+
+/// The first place under the key whose socket fits.
+pub(crate) fn first_in<C: Context, G: TsvalSource>(
+    slots: &[Slot<'_, G>],
+    index: &Index,
+    key: Entry,
+    cx: &C,
+    sought: Sought,
+    ip: &IpRepr,
+    repr: &TcpRepr<'_>,
+) -> Option<usize>
+    requires { key.place ≡ 0 }
+    ensures { FindsListed (Fits sought ip.now (segment_of repr.now)) slots.now index.now.entries.items key result }
+{
+    let _count = slots.len(); // for its bound
+    for p in index.lower(key)..index.entries.len() {
+        let entry = index.entries[p];
+        match stands(entry, key) {
+            Side::Before => {}
+            Side::Under => {
+                if fits_at(slots, entry.place, cx, sought, ip, repr) {
+                    return Some(entry.place);
+                }
+            }
+            Side::Behind => return None,
+        }
+    }
+    None
+}
+
+/// The place that rests until the earliest moment, of those in TIME-WAIT that listened for the segment.
+pub(crate) fn earliest_in<G: TsvalSource>(
+    slots: &[Slot<'_, G>],
+    index: &Index,
+    ip: &IpRepr,
+    repr: &TcpRepr<'_>,
+) -> Option<(usize, Instant)>
+    ensures { FindsEarliestListed (λ t x. RestsUntil ip.now (segment_of repr.now) t x) slots.now
+        index.now.entries.items (rest_major repr.now.dst_port) result }
+{
+    let _count = slots.len(); // for its bound
+    let major = rest_major(repr.dst_port);
+    let key = Entry {
+        major,
+        minor: 0,
+        place: 0,
+    };
+    for p in index.lower(key)..index.entries.len() {
+        let entry = index.entries[p];
+        match stands_of(entry, major) {
+            Side::Before => {}
+            Side::Under => {
+                if let Some(until) = rests_at(slots, entry, ip, repr) {
+                    return Some((entry.place, until));
+                }
+            }
+            Side::Behind => return None,
+        }
+    }
+    None
+}
+
+// Until when the socket rests that the entry leads to, where the entry says the same.
+fn rests_at<G: TsvalSource>(
+    slots: &[Slot<'_, G>],
+    entry: Entry,
+    ip: &IpRepr,
+    repr: &TcpRepr<'_>,
+) -> Option<Instant>
+    ensures { RestsAt ip.now (segment_of repr.now) slots.now entry result }
+{
+    match slots.get(entry.place) {
+        None => None,
+        Some(slot) => match slot.rests_until(ip, repr) {
+            None => None,
+            Some(until) => has_minor(order(until), entry.minor, until),
+        },
+    }
+}
+
+/// Whether no place is under the key.
+pub(crate) fn lists_none<G>(slots: &[Slot<'_, G>], index: &Index, key: Entry) -> bool
+    requires { key.place ≡ 0 }
+    ensures { result ≡ true → FindsListed (λ s. IsThere s) slots.now index.now.entries.items key None }
+{
+    let _count = slots.len(); // for its bound
+    let p = index.lower(key);
+    if index.entries.len() <= p {
+        return true;
+    }
+    match stands(index.entries[p], key) {
+        Side::Behind => true,
+        _ => false,
+    }
+}
+
+fn has_minor(order: Option<u64>, minor: u64, until: Instant) -> Option<Instant>
+    ensures { result ≡ with_minor order minor until }
+{
+    match order {
+        Some(order) if order == minor => Some(until),
+        _ => None,
+    }
+}

@@ -1,0 +1,29 @@
+//! The keys of a place.
+use crate::index::Entry;
+
+/// What a place is filed under.
+#[derive(Debug, Clone, Copy, PartialEq, Eq)]
+pub enum Key {
+    /// It takes no segment.
+    Nothing,
+    /// Its state is none that a TCP socket comes into: it may take any.
+    Unknown,
+    /// This key, whose place is 0.
+    Under(Entry),
+}
+
+/// The keys of a place.
+#[derive(Debug, Clone, Copy, PartialEq, Eq)]
+pub struct Keys {
+    /// By the segments that it takes.
+    pub first: Key,
+    /// By the port that it was opened on.
+    pub second: Key,
+}
+
+/// A place that was lent, and the keys under which it is filed.
+#[derive(Debug, Clone, Copy, PartialEq, Eq)]
+pub struct Lent {
+    pub place: usize,
+    pub keys: Keys,
+}
