@@ -122,6 +122,7 @@ module _ {G : Type 0} (ss : List (Slot G)) (es : List Entry) (filed : (k : ℕ) 
       same k s (Some (socket.Udp x)) e h nay = refl
       same k s (Some (socket.Icmp x)) e h nay = refl
       same k s None e h nay = refl
+
       by : (k : ℕ) (o : Option (Slot G)) → slice_get ss k ≡ o → is_filed (λ s. keys_of s) es k o ≡ true → Both (λ b a. raw_copies.CopiesPacket f ip payload b a) o o
       by k None e h = tt
       by k (Some s) e h = record { generation = refl; guard = refl; copied = same k s s.socket refl (first_of k s h) (listed_once k raw_key none s e) }
@@ -135,6 +136,7 @@ module _ {G : Type 0} (ss : List (Slot G)) (es : List Entry) (filed : (k : ℕ) 
       same k s (Some (socket.Udp x)) e h nay = refl
       same k s (Some (socket.Raw x)) e h nay = refl
       same k s None e h nay = refl
+
       by : (k : ℕ) (o : Option (Slot G)) → slice_get ss k ≡ o → is_filed (λ s. keys_of s) es k o ≡ true → Both (λ b a. messages.Copies f m b a) o o
       by k None e h = tt
       by k (Some s) e h = record { generation = refl; guard = refl; copied = same k s s.socket refl (first_of k s h) (listed_once k icmp_key none s e) }

@@ -148,6 +148,7 @@ module _ {X : Type 0} (keys_of : X → Keys) where
     where
       before : IsIndexed keys_of complete None ss es
       before = subst (λ l. IsIndexed keys_of complete l ss es) none h
+
       go : (o : Option X) → slice_get ss i ≡ o → IsIndexed keys_of complete (lent_of keys_of i o) ss es
       go None e = before
       go (Some s) e = lent_one complete i s ss es e before
@@ -175,6 +176,7 @@ module _ {X : Type 0} (keys_of : X → Keys) where
       itself : (o : Option X) → Both (λ before after. keys_of after ≡ keys_of before) o o
       itself None = tt
       itself (Some s) = refl
+
       by : (c : Bool) → nat_eq k i ≡ c → Both (λ before after. keys_of after ≡ keys_of before) (slice_get ss k) (slice_get (slice_set ss i a) k)
       by true e =
           let at : k ≡ i = grind (arith, e) in

@@ -95,6 +95,7 @@ has_number (Some n) true t u minor e is h = go (n == minor) refl h
       where
         out : Some n ≡ Some (order_of t) → n ≡ order_of t
         out q = cc
+
     go : (c : Bool) → (n == minor) ≡ c → (if c then Some t else None) ≡ Some u → (u ≡ t) × (is_ordered t ≡ true) × (minor ≡ order_of t)
     go true q w = (sym (out w), e, (let r : n ≡ minor = grind (arith, q) in sym r ∙ m))
       where
@@ -113,6 +114,7 @@ no_number (Some n) true t minor e is h o m = go (n == minor) refl h
       where
         out : Some n ≡ Some (order_of t) → n ≡ order_of t
         out q = cc
+
     go : (c : Bool) → (n == minor) ≡ c → (if c then Some t else None) ≡ None → ⊥
     go true q w = cc
     go false q w = absurd (grind (arith, q, same))

@@ -10,10 +10,10 @@ ghost use Rattle.net_host.specs.Arrivals.{refusal};
 ghost use Rattle.net_host.specs.Facts.{facts_by};
 
 use crate::arrival::{Kind, kind_in, refusal};
+use crate::copies::{copy_mail, copy_packet, hear_datagram_of};
 use crate::counters::{Counters, Reason};
 use crate::interface::Interface;
 use crate::messages::{Mail, echoed, mail_in, put_answer};
-use crate::copies::{copy_mail, copy_packet, hear_datagram_of};
 use crate::segments::{Taker, hear_segment};
 use crate::set::SocketSet;
 use crate::slot::Slot;
