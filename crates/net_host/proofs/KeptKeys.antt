@@ -1,6 +1,6 @@
 -- What leaves the keys of a place as they are.
-use Rattle.std.proofs.Common.{◌≡◌, ◌∙◌, ℕ, ◌<◌, List, length, Bool, true, false, Option, Some, None, refl, sym, subst, ap}
-use Rattle.std.specs.Prelude.{IfSome, IfNone, slice_get}
+use Rattle.std.proofs.Common.{◌≡◌, ◌∙◌, ℕ, List, Bool, true, false, Option, Some, None, refl, sym, subst, ap}
+use Rattle.std.specs.Prelude.{IfSome, slice_get}
 use Rattle.std.proofs.lemmas.Bool.{and_parts}
 use Rattle.ip_wire.specs.declared.repr.IpRepr.{IpRepr}
 use Rattle.control_wire.specs.declared.udp.UdpRepr.{UdpRepr}
@@ -21,7 +21,7 @@ use Rattle.net_host.specs.Entries.{FindsListed, entry_at, has}
 use Rattle.net_host.specs.Filing.{icmp_key, keys_by, keys_in, keys_of, raw_key}
 use Rattle.net_host.specs.Indexing.{IsIndexed, is_filed, is_under}
 use Rattle.net_host.specs.Finding.{IsThere}
-use Rattle.net_host.specs.Guards.{ended_if, lawful_limit, phase_of, watched, with_timeout}
+use Rattle.net_host.specs.Guards.{ended_if, lawful_limit, phase_of, with_timeout}
 use Rattle.net_host.specs.Messages as messages
 use Rattle.net_host.specs.Messages.{AnyMail}
 use Rattle.net_host.specs.RawCopies as raw_copies
@@ -122,6 +122,7 @@ module _ {G : Type 0} (ss : List (Slot G)) (es : List Entry) (filed : (k : ℕ) 
       same k s (Some (socket.Udp x)) e h nay = refl
       same k s (Some (socket.Icmp x)) e h nay = refl
       same k s None e h nay = refl
+
       by : (k : ℕ) (o : Option (Slot G)) → slice_get ss k ≡ o → is_filed (λ s. keys_of s) es k o ≡ true → Both (λ b a. raw_copies.CopiesPacket f ip payload b a) o o
       by k None e h = tt
       by k (Some s) e h = record { generation = refl; guard = refl; copied = same k s s.socket refl (first_of k s h) (listed_once k raw_key none s e) }
@@ -135,6 +136,7 @@ module _ {G : Type 0} (ss : List (Slot G)) (es : List Entry) (filed : (k : ℕ) 
       same k s (Some (socket.Udp x)) e h nay = refl
       same k s (Some (socket.Raw x)) e h nay = refl
       same k s None e h nay = refl
+
       by : (k : ℕ) (o : Option (Slot G)) → slice_get ss k ≡ o → is_filed (λ s. keys_of s) es k o ≡ true → Both (λ b a. messages.Copies f m b a) o o
       by k None e h = tt
       by k (Some s) e h = record { generation = refl; guard = refl; copied = same k s s.socket refl (first_of k s h) (listed_once k icmp_key none s e) }

@@ -1,10 +1,9 @@
 -- Entries in order, with one more or one fewer.
-use Rattle.std.proofs.Common.{◌≡◌, ◌∙◌, ℕ, ◌+◌, ◌-◌, ◌*◌, ◌^◌, ◌<◌, ◌≤◌, List, [], ◌∷◌, length, get_or, Bool, true, false, nat_lt, nat_eq, suc, zero, refl, sym, subst, ap, arith}
-use Rattle.std.specs.Prelude.{◌&&◌, ◌||◌, if◌then◌else◌}
+use Rattle.std.proofs.Common.{◌≡◌, ◌∙◌, ℕ, ◌+◌, ◌-◌, ◌<◌, ◌≤◌, List, [], ◌∷◌, length, get_or, Bool, true, false, nat_lt, nat_eq, suc, zero, refl, sym, subst, ap, arith}
+use Rattle.std.specs.Prelude.{◌||◌, if◌then◌else◌}
 use Rattle.std.specs.List.{insert, remove}
 use Rattle.std.proofs.lemmas.List.{get_or_default}
 use Rattle.std.proofs.lemmas.List.Edits.{get_or-insert_above, get_or-insert_at, get_or-insert_below, get_or-remove_above, get_or-remove_below, length-insert, length-remove}
-use Rattle.std.proofs.lemmas.Bool.{and_parts}
 use Rattle.net_host.specs.declared.index.Entry.{Entry}
 use Rattle.net_host.specs.Entries.{IsSortedByRank, Keeps, KeepsBut, Splits, has, is_entry, nothing, rank, rank_at}
 
@@ -85,6 +84,7 @@ module _ (es : List Entry) (e : Entry) (p : ℕ) (s : Splits es (rank e) p) wher
         where
           len : length (insert es p e) ≡ length es + 1
           len = length-insert es p e s.within
+
           by : (b : Bool) → nat_lt i.place p ≡ b → has (insert es p e) x ≡ true
           by true q = has_in (insert es p e) x i.place (let w = i.within in omega (arith, len, w)) (get_or-insert_below es p e nothing i.place (grind (arith, q)) s.within ∙ i.is)
           by false q = has_in (insert es p e) x (i.place + 1) (let w = i.within in omega (arith, len, w)) (get_or-insert_above es p e nothing i.place (grind (arith, q)) s.within ∙ i.is)
@@ -105,6 +105,7 @@ module _ (es : List Entry) (e : Entry) (p : ℕ) (s : Splits es (rank e) p) wher
     where
       len : length (insert es p e) ≡ length es + 1
       len = length-insert es p e s.within
+
       go : (a : Bool) → nat_lt i p ≡ a → (b : Bool) → nat_lt j p ≡ b → (c : Bool) → nat_eq i p ≡ c → (d : Bool) → nat_eq j p ≡ d → rank_at (insert es p e) i ≤ rank_at (insert es p e) j
       go true u true v c w d x =
           let q : rank_at es i ≤ rank_at es j = sorted i j before (let f : j < p = grind (arith, v) in let g = s.within in omega (arith, f, g)) in

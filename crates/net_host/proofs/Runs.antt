@@ -1,5 +1,5 @@
 -- A walk through the entries under a key.
-use Rattle.std.proofs.Common.{◌≡◌, ◌∙◌, ℕ, ◌+◌, ◌-◌, ◌*◌, ◌^◌, ◌<◌, ◌≤◌, List, length, get_or, Bool, true, false, nat_lt, nat_eq, Option, Some, None, refl, sym, subst, ap, arith}
+use Rattle.std.proofs.Common.{◌≡◌, ◌∙◌, ℕ, ◌+◌, ◌^◌, ◌<◌, ◌≤◌, List, length, get_or, Bool, true, false, nat_lt, nat_eq, Option, Some, None, refl, sym, subst, ap, arith}
 use Rattle.std.specs.Prelude.{IfSome, slice_get}
 use Rattle.std.proofs.lemmas.Option.{slice_get_past, slice_get_within}
 use Rattle.net_host.specs.declared.index.Entry.{Entry}
@@ -75,12 +75,14 @@ module _ {X : Type 0} (P : X → Type 0) (xs : List X) (es : List Entry) (key : 
     where
       at : rank_at es p ≡ rank e
       at = sym (ap rank is)
+
       go : (k : ℕ) → has es (entry_at key k) ≡ true → (b : Bool) → nat_lt k (length xs) ≡ b → IfSome (slice_get xs k) (λ x. P x → ⊥)
       go k h false q = subst (λ o. IfSome o (λ x. P x → ⊥)) (sym (slice_get_past xs k (grind (arith, q)))) tt
       go k h true q = none_if p k zero before (λ j from inside same. by j from inside (ap rank same) (nat_eq p j) refl) h
         where
           less : k < 2 ^ 64
           less = let l : k < length xs = grind (arith, q) in omega (arith, l, small)
+
           by : (j : ℕ) → p ≤ j → j < length es → rank_at es j ≡ rank (entry_at key k) → (b : Bool) → nat_eq p j ≡ b → ⊥
           by j from inside r true w =
               let s : p ≡ j = grind (arith, w) in
@@ -101,8 +103,10 @@ module _ {X : Type 0} (P : X → Type 0) (xs : List X) (es : List Entry) (key : 
     where
       at : rank_at es p ≡ rank e
       at = sym (ap rank is)
+
       under : rank e ≡ rank (entry_at key e.place)
       under = ap (λ a. rank (record { major = a; minor = e.minor; place = e.place })) major ∙ ap (λ b. rank (record { major = key.major; minor = b; place = e.place })) minor
+
       by : (k : ℕ) → k < e.place → (j : ℕ) → p ≤ j → j < length es → rank_at es j ≡ rank (entry_at key k) → (b : Bool) → nat_eq p j ≡ b → ⊥
       by k less j from in_list r true w =
           let s : p ≡ j = grind (arith, w) in

@@ -1,8 +1,8 @@
 //! Limits that a host sets its TCP connections, so that no peer keeps it busy for ever or keeps its sockets taken.
 ghost use Rattle.sock_tcp.specs.Timers.{IsLastTs};
 
-use net_base::time::{Duration, Instant};
 use control_wire::TcpSeqNumber;
+use net_base::time::{Duration, Instant};
 
 /// How long after a dispatch in FIN-WAIT-2 there is none. Nothing but acknowledgements is left to send in this state,
 /// and with a probe timer that is left over every dispatch emits one: so they are 50 in a second at most.

@@ -104,4 +104,3 @@ pub(crate) fn turn_there<G: TsvalSource>(
 {
     slots[i].take_turn(environment, out)
 }
-

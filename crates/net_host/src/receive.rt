@@ -10,10 +10,10 @@ ghost use Rattle.net_host.specs.Arrivals.{refusal};
 ghost use Rattle.net_host.specs.Facts.{facts_by};
 
 use crate::arrival::{Kind, kind_in, refusal};
+use crate::copies::{copy_mail, copy_packet, hear_datagram_of};
 use crate::counters::{Counters, Reason};
 use crate::interface::Interface;
 use crate::messages::{Mail, echoed, mail_in, put_answer};
-use crate::copies::{copy_mail, copy_packet, hear_datagram_of};
 use crate::segments::{Taker, hear_segment};
 use crate::set::SocketSet;
 use host_context::Words;
@@ -113,7 +113,12 @@ impl<W: Words> Interface<W> {
         }
     }
 
-    fn take_udp<G: TsvalSource>(&mut self, sockets: &mut SocketSet<'_, G>, ip: &IpRepr, bytes: &[u8])
+    fn take_udp<G: TsvalSource>(
+        &mut self,
+        sockets: &mut SocketSet<'_, G>,
+        ip: &IpRepr,
+        bytes: &[u8],
+    )
         ensures { TakesUdp ⟦<IpAddress as PartialEq>⟧.eq W.word_at G.tells ip.now bytes.now self.old sockets.old.slots.items
             self.new
             sockets.new.slots.items }

@@ -157,7 +157,15 @@ pub(crate) fn any_server<C: Context, G: TsvalSource>(
 {
     if sockets.complete {
         let key = server_key(repr.dst_port);
-        first_in(&sockets.slots, &sockets.index, key, cx, Sought::Server, ip, repr)
+        first_in(
+            &sockets.slots,
+            &sockets.index,
+            key,
+            cx,
+            Sought::Server,
+            ip,
+            repr,
+        )
     } else {
         walk_for_server(&sockets.slots, ip, repr)
     }

@@ -9,9 +9,9 @@ ghost use Rattle.net_host.specs.Segments.{AnswersSegment, Hears, HearsAt, IsTake
 ghost use Rattle.net_host.specs.Segments.{TakesSegment, as_is};
 ghost use Rattle.net_host.specs.Walks.{Finds, Nowhere};
 
-use crate::limit::Limit;
 use crate::filing::{connection_key, listener_key};
 use crate::find::{Sought, first_in};
+use crate::limit::Limit;
 use crate::replies::put_reply;
 use crate::rest::{any_server, oldest, opens};
 use crate::set::SocketSet;
@@ -134,10 +134,26 @@ fn found_taker<C: Context, G: TsvalSource>(
 {
     if listening {
         let key = listener_key(repr.dst_port);
-        first_in(&sockets.slots, &sockets.index, key, cx, Sought::Listener, ip, repr)
+        first_in(
+            &sockets.slots,
+            &sockets.index,
+            key,
+            cx,
+            Sought::Listener,
+            ip,
+            repr,
+        )
     } else {
         let key = connection_key(&ip.src_addr(), repr.dst_port, repr.src_port);
-        first_in(&sockets.slots, &sockets.index, key, cx, Sought::Connection, ip, repr)
+        first_in(
+            &sockets.slots,
+            &sockets.index,
+            key,
+            cx,
+            Sought::Connection,
+            ip,
+            repr,
+        )
     }
 }
 

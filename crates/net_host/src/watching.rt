@@ -12,8 +12,8 @@ ghost use Rattle.net_host.specs.Watching.{Asks, Looks, is_over_for, may_turn};
 ghost use Rattle.net_host.specs.declared.guard.Phase.TheVariants.{Free};
 
 use crate::guard::{Guard, GuardSettings, PACE, Phase, TURNS};
-use net_base::time::{Duration, Instant};
 use control_wire::TcpSeqNumber;
+use net_base::time::{Duration, Instant};
 use smoltcp_socket::PollAt;
 use sock_tcp::{Socket, State};
 
@@ -26,7 +26,9 @@ impl GuardSettings {
         GuardSettings {
             handshake: Some(Duration { micros: 30_000_000 }),
             closing: Some(Duration { micros: 60_000_000 }),
-            window: Some(Duration { micros: 120_000_000 }),
+            window: Some(Duration {
+                micros: 120_000_000,
+            }),
             timeout: Some(Duration { micros: 60_000_000 }),
         }
     }
@@ -115,13 +117,7 @@ impl Guard {
         has_ended(end_of(settings.limit_of(phase), since), now)
     }
 
-    fn note(
-        &mut self,
-        over: bool,
-        phase: Phase,
-        since: Option<Instant>,
-        end: Option<Instant>,
-    )
+    fn note(&mut self, over: bool, phase: Phase, since: Option<Instant>, end: Option<Instant>)
         requires { IsLastTs since }
         ensures phase { self.new.phase ≡ phase_left over phase }
         ensures since { self.new.since ≡ moment_left over since }

@@ -26,6 +26,6 @@ loop-p-preserved g c =
     let within : c.loop-p.p < length c.args.index.now.entries.items = omega arith in
     let is : c.index-entry.result.now ≡ get_or c.args.index.now.entries.items c.loop-p.p nothing = c.index-entry.ensures ∙ get_or_default c.args.index.now.entries.items c.loop-p.p c.index-entry.result.now nothing within in
     elim c.match-stands_of.branch [
-      in-Before w ↦ before_all (λ t x. RestsUntil c.args.ip.now (segment_of c.args.repr.now) t x) c.args.slots.now c.args.index.now.entries.items (rest_major c.args.repr.now.dst_port) c.loop-p.p c.index-entry.result.now c.loop-p.invariant is (subst (λ m. rank c.index-entry.result.now < (m * 2 ^ 64) * 2 ^ 64) c.rest_major-major.ensures w.in-Before.ensures)
-    | in-Under+in_default w ↦ steps (λ t x. RestsUntil c.args.ip.now (segment_of c.args.repr.now) t x) c.args.slots.now c.args.index.now.entries.items (rest_major c.args.repr.now.dst_port) c.loop-p.p c.index-entry.result.now c.loop-p.invariant is w.in_default.ensures
+      | in-Before w ↦ before_all (λ t x. RestsUntil c.args.ip.now (segment_of c.args.repr.now) t x) c.args.slots.now c.args.index.now.entries.items (rest_major c.args.repr.now.dst_port) c.loop-p.p c.index-entry.result.now c.loop-p.invariant is (subst (λ m. rank c.index-entry.result.now < (m * 2 ^ 64) * 2 ^ 64) c.rest_major-major.ensures w.in-Before.ensures)
+      | in-Under+in_default w ↦ steps (λ t x. RestsUntil c.args.ip.now (segment_of c.args.repr.now) t x) c.args.slots.now c.args.index.now.entries.items (rest_major c.args.repr.now.dst_port) c.loop-p.p c.index-entry.result.now c.loop-p.invariant is w.in_default.ensures
     ]

@@ -1,4 +1,4 @@
-use Rattle.std.proofs.Common.{◌≡◌, ◌∙◌, ◌≤◌, ◌<◌, ◌^◌, length, get_or, refl, true, false, arith}
+use Rattle.std.proofs.Common.{◌≡◌, ◌∙◌, ◌<◌, length, get_or, refl, true, false, arith}
 use Rattle.std.proofs.lemmas.List.{get_or_default}
 use Rattle.net_host.specs.Entries.{nothing}
 use Rattle.control_wire.specs.Segment.{segment_of}
@@ -25,8 +25,8 @@ loop-p-preserved g c =
     let within : c.loop-p.p < length c.args.index.now.entries.items = omega arith in
     let is : c.index-entry.result.now ≡ get_or c.args.index.now.entries.items c.loop-p.p nothing = c.index-entry.ensures ∙ get_or_default c.args.index.now.entries.items c.loop-p.p c.index-entry.result.now nothing within in
     elim c.match-stands.branch [
-      in-Before w ↦ before_key (Fits c.args.sought c.args.ip.now (segment_of c.args.repr.now)) c.args.slots.now c.args.index.now.entries.items c.args.key c.loop-p.p c.index-entry.result.now c.loop-p.invariant is w.in-Before.ensures
-    | in-Under+else-fits_at w ↦ passes (Fits c.args.sought c.args.ip.now (segment_of c.args.repr.now)) c.args.slots.now c.args.index.now.entries.items c.args.key c.loop-p.p c.index-entry.result.now c.loop-p.invariant is (not_there (Fits c.args.sought c.args.ip.now (segment_of c.args.repr.now)) c.args.slots.now c.index-entry.result.now.place (λ h. no_truth (w.if-fits_at.ensures.1 h)))
+      | in-Before w ↦ before_key (Fits c.args.sought c.args.ip.now (segment_of c.args.repr.now)) c.args.slots.now c.args.index.now.entries.items c.args.key c.loop-p.p c.index-entry.result.now c.loop-p.invariant is w.in-Before.ensures
+      | in-Under+else-fits_at w ↦ passes (Fits c.args.sought c.args.ip.now (segment_of c.args.repr.now)) c.args.slots.now c.args.index.now.entries.items c.args.key c.loop-p.p c.index-entry.result.now c.loop-p.invariant is (not_there (Fits c.args.sought c.args.ip.now (segment_of c.args.repr.now)) c.args.slots.now c.index-entry.result.now.place (λ h. no_truth (w.if-fits_at.ensures.1 h)))
     ]
 
 pub returns : goal.returns
