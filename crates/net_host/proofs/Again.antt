@@ -1,5 +1,5 @@
 -- A socket in TIME-WAIT that listens again accepts the SYN.
-use Rattle.std.proofs.Common.{◌≡◌, ◌<◌, ◌∙◌, Bool, true, false, Option, Some, None, refl, sym, subst, ap}
+use Rattle.std.proofs.Common.{◌≡◌, ◌<◌, ◌∙◌, true, false, Option, Some, None, refl, sym, subst, ap}
 use Rattle.std.specs.Prelude.{Result}
 use Rattle.ip_wire.specs.declared.endpoint.IpListenEndpoint.{IpListenEndpoint}
 use Rattle.ip_wire.specs.declared.repr.IpRepr.{IpRepr}

@@ -1,6 +1,6 @@
 -- What leaves the keys of a place as they are.
-use Rattle.std.proofs.Common.{◌≡◌, ◌∙◌, ℕ, ◌<◌, List, length, Bool, true, false, Option, Some, None, refl, sym, subst, ap}
-use Rattle.std.specs.Prelude.{IfSome, IfNone, slice_get}
+use Rattle.std.proofs.Common.{◌≡◌, ◌∙◌, ℕ, List, Bool, true, false, Option, Some, None, refl, sym, subst, ap}
+use Rattle.std.specs.Prelude.{IfSome, slice_get}
 use Rattle.std.proofs.lemmas.Bool.{and_parts}
 use Rattle.ip_wire.specs.declared.repr.IpRepr.{IpRepr}
 use Rattle.control_wire.specs.declared.udp.UdpRepr.{UdpRepr}
@@ -21,7 +21,7 @@ use Rattle.net_host.specs.Entries.{FindsListed, entry_at, has}
 use Rattle.net_host.specs.Filing.{icmp_key, keys_by, keys_in, keys_of, raw_key}
 use Rattle.net_host.specs.Indexing.{IsIndexed, is_filed, is_under}
 use Rattle.net_host.specs.Finding.{IsThere}
-use Rattle.net_host.specs.Guards.{ended_if, lawful_limit, phase_of, watched, with_timeout}
+use Rattle.net_host.specs.Guards.{ended_if, lawful_limit, phase_of, with_timeout}
 use Rattle.net_host.specs.Messages as messages
 use Rattle.net_host.specs.Messages.{AnyMail}
 use Rattle.net_host.specs.RawCopies as raw_copies

@@ -1,15 +1,12 @@
 -- A socket that takes a segment is filed under the key of the segment.
-use Rattle.std.proofs.Common.{◌≡◌, ◌∙◌, ℕ, ◌+◌, ◌*◌, ◌<◌, List, length, Bool, true, false, Option, Some, None, refl, sym, subst, ap, arith, ◌⊎◌, inl, inr}
-use Rattle.std.specs.Prelude.{IfSome, slice_get, ◌&&◌}
+use Rattle.std.proofs.Common.{◌≡◌, ℕ, ◌+◌, ◌*◌, List, true, false, Option, Some, None, sym, subst}
+use Rattle.std.specs.Prelude.{IfSome, slice_get}
 use Rattle.std.proofs.lemmas.Bool.{and_parts}
-use Rattle.ip_wire.specs.IpHeader.{src_addr_of}
 use Rattle.ip_wire.specs.declared.endpoint.IpListenEndpoint.{IpListenEndpoint}
 use Rattle.ip_wire.specs.declared.repr.IpRepr.{IpRepr}
-use Rattle.net_base.specs.declared.time.Instant.{Instant}
 use Rattle.control_wire.specs.Segment.{Segment}
-use Rattle.sock_tcp.specs.Ends.{close_end}
 use Rattle.sock_tcp.specs.Opening.{is_listening}
-use Rattle.sock_tcp.specs.Process.{AcceptsIn, IsAddressed, IsBetween, IsToListener}
+use Rattle.sock_tcp.specs.Process.{AcceptsIn, IsAddressed, IsBetween}
 use Rattle.sock_tcp.specs.View.{View}
 use Rattle.sock_tcp.specs.declared.state.State.{State}
 use Rattle.sock_tcp.specs.declared.state.State.TheVariants as state
@@ -17,14 +14,13 @@ use Rattle.sock_tcp.specs.declared.tuple.Tuple.{Tuple}
 use Rattle.smoltcp_socket.specs.declared.socket.Socket.{Socket}
 use Rattle.smoltcp_socket.specs.declared.socket.Socket.TheVariants as socket
 use Rattle.net_host.specs.declared.index.Entry.{Entry}
-use Rattle.net_host.specs.declared.key.Key.{Key}
 use Rattle.net_host.specs.declared.key.Key.TheVariants as key
 use Rattle.net_host.specs.declared.slot.Slot.{Slot}
 use Rattle.net_host.specs.Entries.{FindsListed, entry_at, has}
-use Rattle.net_host.specs.Filing.{connection_key, first_by, keys_in, keys_of, listener_key, number_of}
+use Rattle.net_host.specs.Filing.{connection_by, connection_key, first_by, listener_by, keys_in, keys_of, listener_key, number_of}
 use Rattle.net_host.specs.Indexing.{are_filed, is_filed, is_under}
 use Rattle.net_host.specs.Finding.{key_of_segment}
-use Rattle.net_host.specs.Segments.{TakesIn, TakesSegment}
+use Rattle.net_host.specs.Segments.{TakesIn}
 use Rattle.net_host.specs.Walks.{Finds}
 
 no_truth : false ≡ true → ⊥
@@ -39,40 +35,22 @@ module _ (es : List Entry) (k : ℕ) (ip : IpRepr) (s : Segment) where
       (subst (λ p. has es (record { major = number_of t.remote.addr; minor = p * 65536 + s.src_port; place = k }) ≡ true) (sym h.local_port)
       (subst (λ q. has es (record { major = number_of t.remote.addr; minor = t.local.port * 65536 + q; place = k }) ≡ true) (sym h.remote_port) f))
 
-  addressed : (st : State) (t : Option Tuple) (e : IpListenEndpoint) → is_listening st ≡ false → IsAddressed t e ip s → is_under es k (first_by st t e.port) ≡ true → (st ≡ state.Closed → ⊥) → has es (entry_at (key_of_segment ip s) k) ≡ true
-  addressed state.Closed t e l h f isnt = absurd (isnt refl)
-  addressed state.Listen t e l h f isnt = absurd (no_truth (sym l))
-  addressed state.SynSent None e l h f isnt = absurd (no_truth f)
-  addressed state.SynSent (Some t) e l h f isnt = between t h f
-  addressed state.SynReceived None e l h f isnt = absurd (no_truth f)
-  addressed state.SynReceived (Some t) e l h f isnt = between t h f
-  addressed state.Established None e l h f isnt = absurd (no_truth f)
-  addressed state.Established (Some t) e l h f isnt = between t h f
-  addressed state.FinWait1 None e l h f isnt = absurd (no_truth f)
-  addressed state.FinWait1 (Some t) e l h f isnt = between t h f
-  addressed state.FinWait2 None e l h f isnt = absurd (no_truth f)
-  addressed state.FinWait2 (Some t) e l h f isnt = between t h f
-  addressed state.CloseWait None e l h f isnt = absurd (no_truth f)
-  addressed state.CloseWait (Some t) e l h f isnt = between t h f
-  addressed state.Closing None e l h f isnt = absurd (no_truth f)
-  addressed state.Closing (Some t) e l h f isnt = between t h f
-  addressed state.LastAck None e l h f isnt = absurd (no_truth f)
-  addressed state.LastAck (Some t) e l h f isnt = between t h f
-  addressed state.TimeWait None e l h f isnt = absurd (no_truth f)
-  addressed state.TimeWait (Some t) e l h f isnt = between t h f
+  addressed : (t : Option Tuple) (e : IpListenEndpoint) → IsAddressed t e ip s → is_under es k (connection_by t) ≡ true → has es (entry_at (key_of_segment ip s) k) ≡ true
+  addressed None e h f = absurd (no_truth f)
+  addressed (Some t) e h f = between t h f
 
   accepted : (st : State) (v : View) → is_listening st ≡ false → AcceptsIn st v ip s → is_under es k (first_by st v.tuple v.listen_endpoint.port) ≡ true → has es (entry_at (key_of_segment ip s) k) ≡ true
   accepted state.Closed v l h f = absurd h
   accepted state.Listen v l h f = absurd (no_truth (sym l))
-  accepted state.SynSent v l h f = addressed state.SynSent v.tuple v.listen_endpoint l h f (λ e. cc)
-  accepted state.SynReceived v l h f = addressed state.SynReceived v.tuple v.listen_endpoint l h f (λ e. cc)
-  accepted state.Established v l h f = addressed state.Established v.tuple v.listen_endpoint l h f (λ e. cc)
-  accepted state.FinWait1 v l h f = addressed state.FinWait1 v.tuple v.listen_endpoint l h f (λ e. cc)
-  accepted state.FinWait2 v l h f = addressed state.FinWait2 v.tuple v.listen_endpoint l h f (λ e. cc)
-  accepted state.CloseWait v l h f = addressed state.CloseWait v.tuple v.listen_endpoint l h f (λ e. cc)
-  accepted state.Closing v l h f = addressed state.Closing v.tuple v.listen_endpoint l h f (λ e. cc)
-  accepted state.LastAck v l h f = addressed state.LastAck v.tuple v.listen_endpoint l h f (λ e. cc)
-  accepted state.TimeWait v l h f = addressed state.TimeWait v.tuple v.listen_endpoint l h f (λ e. cc)
+  accepted state.SynSent v l h f = addressed v.tuple v.listen_endpoint h f
+  accepted state.SynReceived v l h f = addressed v.tuple v.listen_endpoint h f
+  accepted state.Established v l h f = addressed v.tuple v.listen_endpoint h f
+  accepted state.FinWait1 v l h f = addressed v.tuple v.listen_endpoint h f
+  accepted state.FinWait2 v l h f = addressed v.tuple v.listen_endpoint h f
+  accepted state.CloseWait v l h f = addressed v.tuple v.listen_endpoint h f
+  accepted state.Closing v l h f = addressed v.tuple v.listen_endpoint h f
+  accepted state.LastAck v l h f = addressed v.tuple v.listen_endpoint h f
+  accepted state.TimeWait v l h f = addressed v.tuple v.listen_endpoint h f
 
   pub connection_in : {G : Type 0} (x : Option (Socket G)) → are_filed es k (keys_in x) ≡ true → TakesIn x false ip s → has es (entry_at (key_of_segment ip s) k) ≡ true
   connection_in None f h = absurd h
@@ -83,7 +61,7 @@ module _ (es : List Entry) (k : ℕ) (ip : IpRepr) (s : Segment) where
 
   -- ---- a listener
 
-  listening : (t : Option Tuple) (e : IpListenEndpoint) → IsAddressed t e ip s → is_under es k (first_by state.Listen t e.port) ≡ true → has es (entry_at (listener_key s.dst_port) k) ≡ true
+  listening : (t : Option Tuple) (e : IpListenEndpoint) → IsAddressed t e ip s → is_under es k (listener_by t e.port) ≡ true → has es (entry_at (listener_key s.dst_port) k) ≡ true
   listening None e h f = subst (λ p. has es (record { major = 0; minor = p; place = k }) ≡ true) (sym h.port) f
   listening (Some t) e h f = absurd (no_truth f)
 

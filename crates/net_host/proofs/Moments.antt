@@ -1,12 +1,11 @@
 -- A walk through the entries of one major, by moments.
-use Rattle.std.proofs.Common.{◌≡◌, ◌∙◌, ℕ, ◌+◌, ◌-◌, ◌*◌, ◌^◌, ◌<◌, ◌≤◌, List, length, get_or, Bool, true, false, nat_lt, nat_eq, Option, Some, None, refl, sym, subst, ap, arith}
-use Rattle.std.specs.Prelude.{IfSome, slice_get, ℤ, pos, negsuc, ◌+ℤ◌, ◌≤ℤ◌, ◌<ℤ◌, int_le, unsigned_abs}
+use Rattle.std.proofs.Common.{◌≡◌, ◌∙◌, ℕ, ◌+◌, ◌*◌, ◌^◌, ◌<◌, ◌≤◌, List, length, get_or, Bool, true, false, nat_lt, nat_eq, Option, Some, None, refl, sym, subst, ap, arith}
+use Rattle.std.specs.Prelude.{IfSome, slice_get, ◌≤ℤ◌, ◌<ℤ◌}
 use Rattle.std.proofs.lemmas.Int.{ints}
-use Rattle.std.proofs.lemmas.Bool.{and_parts}
 use Rattle.std.proofs.lemmas.Option.{slice_get_past}
 use Rattle.net_host.specs.declared.index.Entry.{Entry}
 use Rattle.net_base.specs.declared.time.Instant.{Instant}
-use Rattle.net_host.specs.Entries.{FindsEarliestListed, IsEarliestListed, IsListedOf, IsSortedByRank, Splits, entry_of, has, is_ordered, nothing, order_of, rank, rank_at}
+use Rattle.net_host.specs.Entries.{FindsEarliestListed, IsEarliestListed, IsListedOf, IsSortedByRank, Splits, entry_of, is_ordered, nothing, order_of, rank, rank_at}
 use Rattle.net_host.proofs.Ordered.{IsIn, find_in}
 use Rattle.net_host.proofs.Runs.{always, place_at, weaker}
 

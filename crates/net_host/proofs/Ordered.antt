@@ -1,10 +1,9 @@
 -- Entries in order, with one more or one fewer.
-use Rattle.std.proofs.Common.{◌≡◌, ◌∙◌, ℕ, ◌+◌, ◌-◌, ◌*◌, ◌^◌, ◌<◌, ◌≤◌, List, [], ◌∷◌, length, get_or, Bool, true, false, nat_lt, nat_eq, suc, zero, refl, sym, subst, ap, arith}
-use Rattle.std.specs.Prelude.{◌&&◌, ◌||◌, if◌then◌else◌}
+use Rattle.std.proofs.Common.{◌≡◌, ◌∙◌, ℕ, ◌+◌, ◌-◌, ◌<◌, ◌≤◌, List, [], ◌∷◌, length, get_or, Bool, true, false, nat_lt, nat_eq, suc, zero, refl, sym, subst, ap, arith}
+use Rattle.std.specs.Prelude.{◌||◌, if◌then◌else◌}
 use Rattle.std.specs.List.{insert, remove}
 use Rattle.std.proofs.lemmas.List.{get_or_default}
 use Rattle.std.proofs.lemmas.List.Edits.{get_or-insert_above, get_or-insert_at, get_or-insert_below, get_or-remove_above, get_or-remove_below, length-insert, length-remove}
-use Rattle.std.proofs.lemmas.Bool.{and_parts}
 use Rattle.net_host.specs.declared.index.Entry.{Entry}
 use Rattle.net_host.specs.Entries.{IsSortedByRank, Keeps, KeepsBut, Splits, has, is_entry, nothing, rank, rank_at}
 

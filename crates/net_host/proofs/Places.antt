@@ -1,6 +1,6 @@
 -- Each place is filed, whatever is done to one of them.
 use Rattle.std.proofs.Common.{◌≡◌, ◌∙◌, ℕ, ◌<◌, List, [], ◌∷◌, length, Bool, true, false, nat_eq, suc, zero, Option, Some, None, refl, sym, subst, ap, arith}
-use Rattle.std.specs.Prelude.{IfSome, IfNone, slice_get, slice_set, ◌&&◌, ◌||◌, not, if◌then◌else◌}
+use Rattle.std.specs.Prelude.{IfSome, IfNone, slice_get, slice_set, ◌&&◌, if◌then◌else◌}
 use Rattle.std.specs.List.{All}
 use Rattle.std.proofs.lemmas.Bool.{and_parts}
 use Rattle.std.proofs.lemmas.List.Elements.{All-get_or}
@@ -10,8 +10,8 @@ use Rattle.net_host.specs.declared.key.Key.{Key}
 use Rattle.net_host.specs.declared.key.Key.TheVariants as key
 use Rattle.net_host.specs.declared.key.Keys.{Keys}
 use Rattle.net_host.specs.declared.key.Lent.{Lent}
-use Rattle.net_host.specs.Entries.{Keeps, KeepsBut, entry_at, has, is_entry}
-use Rattle.net_host.specs.Indexing.{IsIndexed, KeepsOthers, are_filed, is_filed, is_filed_at, is_under, lent_of, no_keys, same_key}
+use Rattle.net_host.specs.Entries.{Keeps, entry_at, has, is_entry}
+use Rattle.net_host.specs.Indexing.{IsIndexed, KeepsOthers, are_filed, is_filed, is_under, lent_of, no_keys, same_key}
 use Rattle.net_host.specs.Walks.{Both, ChangesAt, ChangesEach}
 use Rattle.net_host.proofs.Each.{elsewhere}
 

@@ -1,6 +1,6 @@
 -- A socket in TIME-WAIT that listened for a segment, and one that serves its port, are filed under its port.
-use Rattle.std.proofs.Common.{◌≡◌, ◌∙◌, ℕ, ◌+◌, ◌*◌, ◌<◌, List, length, Bool, true, false, Option, Some, None, refl, sym, subst, ap, arith}
-use Rattle.std.specs.Prelude.{IfSome, slice_get, ◌&&◌, ◌≤ℤ◌, ◌<ℤ◌, ◌==◌, if◌then◌else◌}
+use Rattle.std.proofs.Common.{◌≡◌, ◌∙◌, ℕ, List, Bool, true, false, Option, Some, None, refl, sym, subst, ap, arith}
+use Rattle.std.specs.Prelude.{IfSome, slice_get, ◌≤ℤ◌, ◌<ℤ◌, ◌==◌, if◌then◌else◌}
 use Rattle.std.proofs.lemmas.Bool.{and_parts}
 use Rattle.ip_wire.specs.declared.repr.IpRepr.{IpRepr}
 use Rattle.net_base.specs.declared.time.Instant.{Instant}
@@ -12,7 +12,7 @@ use Rattle.smoltcp_socket.specs.declared.socket.Socket.{Socket}
 use Rattle.smoltcp_socket.specs.declared.socket.Socket.TheVariants as socket
 use Rattle.net_host.specs.declared.index.Entry.{Entry}
 use Rattle.net_host.specs.declared.slot.Slot.{Slot}
-use Rattle.net_host.specs.Entries.{FindsEarliestListed, IsListedOf, entry_at, entry_of, has, is_ordered, order_of, ordered}
+use Rattle.net_host.specs.Entries.{FindsEarliestListed, IsListedOf, entry_at, has, is_ordered, order_of, ordered}
 use Rattle.std.proofs.lemmas.Option.{slice_get_within}
 use Rattle.net_host.specs.Finding.{RestsAt, with_minor}
 use Rattle.net_host.specs.Filing.{keys_in, keys_of, rest_by, rest_major, second_by, server_key}

@@ -1,5 +1,5 @@
 -- The entries of an index, in order.
-use Rattle.std.specs.Prelude.{ℕ, ◌≡◌, ◌<◌, ◌≤◌, ◌+◌, ◌*◌, ◌^◌, ◌&&◌, ◌||◌, Bool, true, false, nat_eq, unsigned_abs, int_le, ℤ, pos, negsuc, ◌+ℤ◌, ◌≤ℤ◌, ◌<ℤ◌, List, length, [], ◌∷◌, get_or, Option, Some, None, IfSome, slice_get, if◌then◌else◌}
+use Rattle.std.specs.Prelude.{ℕ, ◌≡◌, ◌<◌, ◌≤◌, ◌+◌, ◌*◌, ◌^◌, ◌&&◌, ◌||◌, Bool, true, false, nat_eq, unsigned_abs, int_le, pos, negsuc, ◌+ℤ◌, ◌≤ℤ◌, ◌<ℤ◌, List, length, [], ◌∷◌, get_or, Option, Some, None, IfSome, slice_get, if◌then◌else◌}
 use Rattle.net_base.specs.declared.time.Instant.{Instant}
 use Rattle.net_host.specs.declared.index.Entry.{Entry}
 

@@ -56,12 +56,18 @@ rest_by None port = key.Unknown
 
 -- ---- the keys of a TCP socket
 
+abbrev pub listener_by : Option Tuple → ℕ → Key
+listener_by None port = key.Under (listener_key port)
+listener_by (Some t) port = key.Unknown
+
+abbrev pub connection_by : Option Tuple → Key
+connection_by None = key.Unknown
+connection_by (Some t) = key.Under (connection_key t)
+
 abbrev pub first_by : State → Option Tuple → ℕ → Key
 first_by state.Closed t port = key.Nothing
-first_by state.Listen None port = key.Under (listener_key port)
-first_by state.Listen (Some t) port = key.Unknown
-first_by _ None port = key.Unknown
-first_by _ (Some t) port = key.Under (connection_key t)
+first_by state.Listen t port = listener_by t port
+first_by _ t port = connection_by t
 
 abbrev pub second_by : State → Option Instant → ℕ → Key
 second_by state.Closed end port = key.Nothing

@@ -1,5 +1,5 @@
 -- What a guard remembers of its socket, and what it allows.
-use Rattle.std.specs.Prelude.{◌≡◌, Bool, Option, Some}
+use Rattle.std.specs.Prelude.{◌≡◌, Bool, Some}
 use Rattle.net_base.specs.declared.time.Instant.{Instant}
 use Rattle.host_guard.specs.Guarding.{taken_after, taken_at}
 use Rattle.sock_tcp.specs.View.{View}

@@ -7,7 +7,7 @@ ghost use Rattle.net_host.specs.Sheets.{Writes, WritesDatagram, WritesMessage, W
 ghost use Rattle.ip_wire.specs.Checksum.{is_sent};
 ghost use Rattle.sock_dgram.specs.RawDispatch as raw_dispatch;
 ghost use Rattle.sock_dgram.specs.UdpDispatch.{Dispatched};
-ghost use Rattle.net_host.specs.SheetOf.{sheet_of};
+ghost use Rattle.net_host.specs.SheetOf.{KeepsWire, sheet_of};
 ghost use Rattle.net_host.specs.Emissions.{DispatchesDatagram, DispatchesMessage, DispatchesRaw, DispatchesSegment};
 ghost use Rattle.sock_dgram.specs.IcmpDispatch as icmp_dispatch;
 ghost use Rattle.sock_dgram.specs.IcmpDispatch.{any_message};
@@ -27,19 +27,14 @@ fn emit_segment<G: TsvalSource>(
         (facts_by ⟦<IpAddress as PartialEq>⟧.eq wire.old.environment.now) G.tells socket.old.tsval_generator
         socket.old.control_block (sheet_of wire.old) result socket.new.control_block (sheet_of wire.new) }
     ensures generator { socket.new.tsval_generator ≡ socket.old.tsval_generator }
-    ensures within { wire.old.len ≤ length wire.old.out.now → wire.new.len ≤ length wire.old.out.now }
-    ensures same_buffer { wire.new.out.ghost_name ≡ wire.old.out.ghost_name }
-    ensures environment { wire.new.environment ≡ wire.old.environment }
+    ensures kept { KeepsWire wire.old wire.new }
 {
     socket.dispatch(
         wire,
         move |cx: &mut Wire<'_>, sent: (IpRepr, TcpRepr<'_>)| -> Result<(), TooShort>
             ensures written { Writes sent.entry.0 (segment_of sent.entry.1)
                 (sheet_of cx.entry.now) result (sheet_of cx.exit.now) }
-            ensures same_buffer { cx.exit.now.out.ghost_name ≡ cx.entry.now.out.ghost_name }
-            ensures environment { cx.exit.now.environment ≡ cx.entry.now.environment }
-            ensures within { cx.entry.now.len ≤ length cx.entry.now.out.now → cx.exit.now.len ≤ length
-                cx.entry.now.out.now }
+            ensures kept { KeepsWire cx.entry.now cx.exit.now }
         { cx.write_segment(&sent.0, &sent.1) },
     )
 }
@@ -71,19 +66,14 @@ fn emit_datagram(socket: &mut udp::Socket<'_>, wire: &mut Wire<'_>) -> Result<()
     ensures table { Dispatched writing_datagram tt socket.old
         (facts_by ⟦<IpAddress as PartialEq>⟧.eq wire.old.environment.now) (sheet_of wire.old) result
         (sheet_of wire.new) socket.new }
-    ensures within { wire.old.len ≤ length wire.old.out.now → wire.new.len ≤ length wire.old.out.now }
-    ensures same_buffer { wire.new.out.ghost_name ≡ wire.old.out.ghost_name }
-    ensures environment { wire.new.environment ≡ wire.old.environment }
+    ensures kept { KeepsWire wire.old wire.new }
 {
     socket.dispatch(
         wire,
         move |cx: &mut Wire<'_>, sent: (IpRepr, UdpRepr, &[u8])| -> Result<(), TooShort>
             ensures written { WritesDatagram sent.entry.0 sent.entry.1 sent.entry.2.now (sheet_of cx.entry.now) result
                 (sheet_of cx.exit.now) }
-            ensures same_buffer { cx.exit.now.out.ghost_name ≡ cx.entry.now.out.ghost_name }
-            ensures environment { cx.exit.now.environment ≡ cx.entry.now.environment }
-            ensures within { cx.entry.now.len ≤ length cx.entry.now.out.now
-                → cx.exit.now.len ≤ length cx.entry.now.out.now }
+            ensures kept { KeepsWire cx.entry.now cx.exit.now }
         { cx.write_datagram(&sent.0, &sent.1, sent.2) },
     )
 }
@@ -112,19 +102,14 @@ fn emit_message(socket: &mut icmp::Socket<'_>, wire: &mut Wire<'_>) -> Result<()
     ensures table { icmp_dispatch.Dispatched writing_message tt socket.old
         (facts_by ⟦<IpAddress as PartialEq>⟧.eq wire.old.environment.now) (sheet_of wire.old) result
         (sheet_of wire.new) socket.new }
-    ensures within { wire.old.len ≤ length wire.old.out.now → wire.new.len ≤ length wire.old.out.now }
-    ensures same_buffer { wire.new.out.ghost_name ≡ wire.old.out.ghost_name }
-    ensures environment { wire.new.environment ≡ wire.old.environment }
+    ensures kept { KeepsWire wire.old wire.new }
 {
     socket.dispatch(
         wire,
         move |cx: &mut Wire<'_>, sent: (IpRepr, IcmpRepr<'_>)| -> Result<(), TooShort>
             ensures written { WritesMessage sent.entry.0 (any_message sent.entry.1) (sheet_of cx.entry.now) result
                 (sheet_of cx.exit.now) }
-            ensures same_buffer { cx.exit.now.out.ghost_name ≡ cx.entry.now.out.ghost_name }
-            ensures environment { cx.exit.now.environment ≡ cx.entry.now.environment }
-            ensures within { cx.entry.now.len ≤ length cx.entry.now.out.now
-                → cx.exit.now.len ≤ length cx.entry.now.out.now }
+            ensures kept { KeepsWire cx.entry.now cx.exit.now }
         { cx.write_message(&sent.0, &sent.1) },
     )
 }
@@ -152,19 +137,14 @@ pub(crate) fn emit_icmp(
 fn emit_packet(socket: &mut raw::Socket<'_>, wire: &mut Wire<'_>) -> Result<(), TooShort>
     ensures table { raw_dispatch.Dispatched writing_raw tt (is_sent wire.old.environment.now.checksums.ipv4) socket.old
         (sheet_of wire.old) result (sheet_of wire.new) socket.new }
-    ensures within { wire.old.len ≤ length wire.old.out.now → wire.new.len ≤ length wire.old.out.now }
-    ensures same_buffer { wire.new.out.ghost_name ≡ wire.old.out.ghost_name }
-    ensures environment { wire.new.environment ≡ wire.old.environment }
+    ensures kept { KeepsWire wire.old wire.new }
 {
     socket.dispatch(
         wire,
         move |cx: &mut Wire<'_>, sent: (IpRepr, &[u8])| -> Result<(), TooShort>
             ensures written { WritesRaw sent.entry.0 sent.entry.1.now (sheet_of cx.entry.now) result
                 (sheet_of cx.exit.now) }
-            ensures same_buffer { cx.exit.now.out.ghost_name ≡ cx.entry.now.out.ghost_name }
-            ensures environment { cx.exit.now.environment ≡ cx.entry.now.environment }
-            ensures within { cx.entry.now.len ≤ length cx.entry.now.out.now
-                → cx.exit.now.len ≤ length cx.entry.now.out.now }
+            ensures kept { KeepsWire cx.entry.now cx.exit.now }
         { cx.write_raw(&sent.0, sent.1) },
     )
 }

@@ -2,8 +2,8 @@
 ghost use Rattle.std.specs.Prelude.{◌≡◌, ◌+◌, ◌*◌, true};
 ghost use Rattle.net_host.specs.declared.key.Key.TheVariants.{Nothing};
 ghost use Rattle.net_host.specs.Entries.{ordered};
-ghost use Rattle.net_host.specs.Filing.{first_by, icmp_key, keys_by, keys_of, listener_key, number_of, raw_key, rest_by};
-ghost use Rattle.net_host.specs.Filing.{rest_major, second_by, server_key};
+ghost use Rattle.net_host.specs.Filing.{connection_by, first_by, icmp_key, keys_by, keys_of, listener_by, listener_key};
+ghost use Rattle.net_host.specs.Filing.{number_of, raw_key, rest_by, rest_major, second_by, server_key};
 
 use crate::filed::Keyed;
 use crate::index::Entry;
@@ -123,18 +123,35 @@ fn tuple_of<G>(tcp: &tcp::Socket<'_, G>) -> Option<Tuple>
     }
 }
 
-fn first_by(state: State, tuple: &Option<Tuple>, port: u16) -> Key
-    ensures { result ≡ first_by state tuple.now port }
+fn listener_by(tuple: &Option<Tuple>, port: u16) -> Key
+    ensures { result ≡ listener_by tuple.now port }
 {
-    match (state, tuple) {
-        (State::Closed, _) => Key::Nothing,
-        (State::Listen, None) => Key::Under(listener_key(port)),
-        (State::Listen, Some(_)) | (_, None) => Key::Unknown,
-        (_, Some(tuple)) => Key::Under(connection_key(
+    match tuple {
+        None => Key::Under(listener_key(port)),
+        Some(_) => Key::Unknown,
+    }
+}
+
+fn connection_by(tuple: &Option<Tuple>) -> Key
+    ensures { result ≡ connection_by tuple.now }
+{
+    match tuple {
+        None => Key::Unknown,
+        Some(tuple) => Key::Under(connection_key(
             &tuple.remote.addr,
             tuple.local.port,
             tuple.remote.port,
         )),
+    }
+}
+
+fn first_by(state: State, tuple: &Option<Tuple>, port: u16) -> Key
+    ensures { result ≡ first_by state tuple.now port }
+{
+    match state {
+        State::Closed => Key::Nothing,
+        State::Listen => listener_by(tuple, port),
+        _ => connection_by(tuple),
     }
 }
 

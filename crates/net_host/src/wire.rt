@@ -6,7 +6,7 @@ ghost use Rattle.net_host.specs.Facts.{facts_by};
 ghost use Rattle.net_host.specs.Sheets.{Writes, WritesDatagram, WritesMessage, WritesRaw};
 ghost use Rattle.sock_dgram.specs.IcmpDispatch.{Counts, any_message};
 ghost use Rattle.net_host.specs.Wire.{CountsDatagram, IsCounted, raw_len};
-ghost use Rattle.net_host.specs.SheetOf.{sheet_of};
+ghost use Rattle.net_host.specs.SheetOf.{KeepsWire, sheet_of};
 
 use crate::environment::Environment;
 use crate::inner::{source_v4, source_v6};
@@ -68,9 +68,7 @@ impl<'w> Wire<'w> {
     /// Writes an IP packet with this payload at the beginning of the buffer, where it fits.
     pub(crate) fn write_raw(&mut self, ip: &IpRepr, payload: &[u8]) -> Result<(), TooShort>
         ensures written { WritesRaw ip.now payload.now (sheet_of self.old) result (sheet_of self.new) }
-        ensures same_buffer { self.new.out.ghost_name ≡ self.old.out.ghost_name }
-        ensures environment { self.new.environment ≡ self.old.environment }
-        ensures within { self.old.len ≤ length self.old.out.now → self.new.len ≤ length self.old.out.now }
+        ensures kept { KeepsWire self.old self.new }
     {
         if self.out.len() < ip.header_len() || self.out.len() - ip.header_len() < payload.len() {
             return Err(TooShort);
@@ -83,9 +81,7 @@ impl<'w> Wire<'w> {
     /// Writes the message as an IP packet at the beginning of the buffer, where it fits.
     pub(crate) fn write_message(&mut self, ip: &IpRepr, repr: &IcmpRepr<'_>) -> Result<(), TooShort>
         ensures written { WritesMessage ip.now (any_message repr.now) (sheet_of self.old) result (sheet_of self.new) }
-        ensures same_buffer { self.new.out.ghost_name ≡ self.old.out.ghost_name }
-        ensures environment { self.new.environment ≡ self.old.environment }
-        ensures within { self.old.len ≤ length self.old.out.now → self.new.len ≤ length self.old.out.now }
+        ensures kept { KeepsWire self.old self.new }
     {
         if !counts_message(ip, repr)
             || self.out.len() < ip.header_len()
@@ -106,9 +102,7 @@ impl<'w> Wire<'w> {
         payload: &[u8],
     ) -> Result<(), TooShort>
         ensures written { WritesDatagram ip.now repr.now payload.now (sheet_of self.old) result (sheet_of self.new) }
-        ensures same_buffer { self.new.out.ghost_name ≡ self.old.out.ghost_name }
-        ensures environment { self.new.environment ≡ self.old.environment }
-        ensures within { self.old.len ≤ length self.old.out.now → self.new.len ≤ length self.old.out.now }
+        ensures kept { KeepsWire self.old self.new }
     {
         if !counts_datagram(ip, payload) || self.out.len() < ip.header_len() + ip.payload_len() {
             return Err(TooShort);
@@ -122,9 +116,7 @@ impl<'w> Wire<'w> {
     pub(crate) fn write_segment(&mut self, ip: &IpRepr, repr: &TcpRepr<'_>) -> Result<(), TooShort>
         ensures written { Writes ip.now (segment_of repr.now) (sheet_of self.old) result
             (sheet_of self.new) }
-        ensures same_buffer { self.new.out.ghost_name ≡ self.old.out.ghost_name }
-        ensures environment { self.new.environment ≡ self.old.environment }
-        ensures within { self.old.len ≤ length self.old.out.now → self.new.len ≤ length self.old.out.now }
+        ensures kept { KeepsWire self.old self.new }
     {
         if !is_counted(ip, repr) || self.out.len() < ip.header_len() + ip.payload_len() {
             return Err(TooShort);

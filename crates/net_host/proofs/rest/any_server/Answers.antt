@@ -1,5 +1,4 @@
-use Rattle.std.proofs.Common.{◌∙◌, ◌+◌, ◌*◌, true, false, ap, subst}
-use Rattle.ip_wire.specs.IpHeader.{src_addr_of}
+use Rattle.std.proofs.Common.{subst}
 use Rattle.control_wire.specs.Segment.{segment_of}
 use Rattle.net_host.specs.Filing.{keys_of, server_key}
 use Rattle.net_host.specs.Entries.{FindsListed}

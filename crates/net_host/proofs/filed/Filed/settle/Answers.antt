@@ -1,4 +1,4 @@
-use Rattle.std.proofs.Common.{◌≡◌, true, None, Some, sym, subst}
+use Rattle.std.proofs.Common.{◌≡◌, true, None, sym, subst}
 use Rattle.std.specs.Prelude.{slice_get}
 use Rattle.net_host.specs.Indexing.{IsIndexed, are_filed, is_filed}
 use Rattle.net_host.proofs.Places.{settled}
