@@ -82,6 +82,7 @@ static void make(struct connection *c, int port) {
     c->port = port;
     smoltcp_tcp_init(&c->tcp, c->rx, ROOM, c->tx, ROOM);
     smoltcp_tcp_set_keep_alive(&c->tcp, SILENT / 4 * (int64_t)MICROS);
+    smoltcp_tcp_set_rules(&c->tcp, SMOLTCP_RULES_RFC); /* for peers that are not smoltcp, and a wire that loses */
 }
 
 /* Sees the state change: the timeout is short before the connection stands. A peer that keeps one in FIN-WAIT-2,

@@ -47,8 +47,9 @@ enum {
 /* Kinds of congestion control: none, or Reno (RFC 5681). */
 enum { SMOLTCP_CONGESTION_NONE = 0, SMOLTCP_CONGESTION_RENO = 1 };
 
-/* Rules of a TCP socket: smoltcp's, or those of RFC 9293 outside of the receive window, so that the FIN of a peer is
- * taken that sends old bytes with it, and a peer is heard that counts the byte of its probe. */
+/* Rules of a TCP socket: smoltcp's, or the RFCs' where they differ (docs/RULES.md). By these the FIN of a peer is taken
+ * that sends old bytes with it, a peer is heard that counts the byte of its probe, and a further loss of one window
+ * costs a round trip and not a second. */
 enum { SMOLTCP_RULES_SMOLTCP = 0, SMOLTCP_RULES_RFC = 1 };
 
 /* An address: none where version is 0, v4 where it is 4, v6 where it is 6. In network order. */

@@ -65,6 +65,8 @@ impl<'a> Connection<'a> {
     fn new(room: &'a mut Room, port: u16, now: Instant) -> Connection<'a> {
         let mut socket = Socket::new(&mut room.memory, &mut room.rx, &mut room.tx);
         socket.set_keep_alive(Some(Duration::from_secs(SILENT.secs() / 4)));
+        // For peers that are not smoltcp, and a wire that loses.
+        socket.set_rules(tcp::Rules::Rfc).expect("a new socket is not open");
         Connection { socket, kept: VecDeque::new(), port, state: State::Closed, since: now, not_before: now }
     }
 

@@ -131,8 +131,9 @@ pub enum CongestionControl {
 pub enum Rules {
     /// smoltcp's: a new socket has these.
     Smoltcp = 0,
-    /// The same, but for what lies outside of the receive window (RFC 9293, sections 3.4 and 3.10.7.4): the FIN of a
-    /// peer is taken that sends old bytes with it, and a peer is heard that counts the byte of its probe.
+    /// The RFCs' where they differ (docs/RULES.md of the repository): the FIN of a peer is taken that sends old bytes
+    /// with it, and a peer is heard that counts the byte of its probe (RFC 9293, sections 3.4 and 3.10.7.4); a further
+    /// loss of one window costs a round trip and not a second (RFC 6582).
     Rfc = 1,
 }
 
