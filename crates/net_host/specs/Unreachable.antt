@@ -1,5 +1,5 @@
 -- What tells a sender that nobody takes its packet.
-use Rattle.std.specs.Prelude.{ℕ, ◌≡◌, ◌+◌, ◌-◌, min, Bool, true, false, not, ◌&&◌, if◌then◌else◌, List, length, take, Option, Some, None}
+use Rattle.std.specs.Prelude.{ℕ, ◌≡◌, ◌+◌, ◌-◌, min, Bool, true, false, not, ◌&&◌, if◌then◌else◌, List, length, take, Option, Some, None, is_some}
 use Rattle.ip_wire.specs.IpHeader.{dst_addr_of}
 use Rattle.ip_wire.specs.declared.protocol.IpProtocol.TheVariants as protocol
 use Rattle.ip_wire.specs.declared.repr.IpRepr.{IpRepr}
@@ -15,7 +15,7 @@ use Rattle.smoltcp_socket.specs.declared.socket.Socket.{Socket}
 use Rattle.smoltcp_socket.specs.declared.socket.Socket.TheVariants as socket
 use Rattle.net_host.specs.Limits.{allows, spent}
 use Rattle.net_host.specs.Messages.{AnyMail, OverV4, OverV6, answer_len, if_short, with_answer}
-use Rattle.net_host.specs.Walks.{Nowhere, Somewhere}
+use Rattle.net_host.specs.Walks.{Finds}
 use Rattle.net_host.specs.declared.limit.Limit.{Limit}
 use Rattle.net_host.specs.declared.slot.Slot.{Slot}
 use Rattle.net_host.specs.declared.unreachable.Unmet.{Unmet}
@@ -68,11 +68,6 @@ RawTakes _ ip = ⊥
 abbrev pub TakesRaw : {G : Type 0} → IpRepr → Slot G → Type 0
 TakesRaw ip slot = RawTakes slot.socket ip
 
--- whether a raw socket takes the packet
-abbrev pub SomeRaw : {G : Type 0} → IpRepr → List (Slot G) → Bool → Type 0
-SomeRaw ip ss true = Somewhere (TakesRaw ip) ss
-SomeRaw ip ss false = Nowhere (TakesRaw ip) ss
-
 -- the sender of a packet to an own address that no raw socket takes
 abbrev pub wanted : Bool → Bool → Option AnyMail → Option AnyMail
 wanted own raw error = if own && not raw then error else None
@@ -90,11 +85,11 @@ spent_for (Some m) l now = spent l now
 
 pub record TellsOf {G : Type 0} (f : Facts) (what : Unmet) (ip : IpRepr) (octets : List ℕ) (ss : List (Slot G))
     (l : Limit) (out : List ℕ) (n : ℕ) (l' : Limit) (out' : List ℕ) : Type 0 where
-  pub raw : Bool
-  pub looked : SomeRaw ip ss raw
+  pub raw : Option ℕ
+  pub looked : Finds (TakesRaw ip) ss raw
   pub len : n ≡ answer_len (if_short (min f.mtu (length out)) (told_within l (moment_of f)
-      (wanted (f.has_address (dst_addr_of ip)) raw (error_of what ip octets f.mtu))))
+      (wanted (f.has_address (dst_addr_of ip)) (is_some raw) (error_of what ip octets f.mtu))))
   pub octets_are : out' ≡ with_answer f.checksums (if_short (min f.mtu (length out)) (told_within l (moment_of f)
-      (wanted (f.has_address (dst_addr_of ip)) raw (error_of what ip octets f.mtu)))) out
-  pub limit : l' ≡ spent_for (wanted (f.has_address (dst_addr_of ip)) raw (error_of what ip octets f.mtu)) l
+      (wanted (f.has_address (dst_addr_of ip)) (is_some raw) (error_of what ip octets f.mtu)))) out
+  pub limit : l' ≡ spent_for (wanted (f.has_address (dst_addr_of ip)) (is_some raw) (error_of what ip octets f.mtu)) l
       (moment_of f)

@@ -5,12 +5,6 @@ use Rattle.std.specs.Prelude.{ℕ, ◌≡◌, ◌<◌, ◌≤◌, ◌&&◌, ◌|
 abbrev pub Nowhere : {X : Type 0} → (X → Type 0) → List X → Type 0
 Nowhere P xs = (k : ℕ) → IfSome (slice_get xs k) (λ x. P x → ⊥)
 
--- P holds of some element
-pub record Somewhere {X : Type 0} (P : X → Type 0) (xs : List X) : Type 0 where
-  pub at : ℕ
-  pub within : at < length xs
-  pub holds : IfSome (slice_get xs at) P
-
 -- P holds of the element at i, and of none before it
 pub record IsFirst {X : Type 0} (P : X → Type 0) (xs : List X) (i : ℕ) : Type 0 where
   pub within : i < length xs

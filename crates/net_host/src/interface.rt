@@ -14,6 +14,7 @@ use crate::environment::Environment;
 use crate::guard::GuardSettings;
 use crate::inner::InterfaceInner;
 use crate::limit::Limit;
+use crate::replies::LONGEST_REPLY;
 use crate::set::SocketSet;
 use crate::speak::{earliest, speak, watch_all};
 use crate::wire::TooShort;
@@ -54,7 +55,8 @@ impl<W: Words> Interface<W> {
     /// request is answered (RFC 792; RFC 4443, section 4.2), by at most as many bytes as the MTU. No other socket
     /// changes.
     ///
-    /// `TooShort` where `reply` is shorter than the MTU; nothing happens then.
+    /// `TooShort` where `reply` is shorter than the MTU, or than the 100 bytes of the longest reply of a TCP socket;
+    /// nothing happens then.
     pub fn receive<G: TsvalSource>(
         &mut self,
         sockets: &mut SocketSet<'_, G>,
@@ -62,14 +64,14 @@ impl<W: Words> Interface<W> {
         packet: &[u8],
         reply: &mut [u8],
     ) -> Result<usize, TooShort>
-        ensures short { length reply.old < self.old.inner.environment.mtu
+        ensures short { length reply.old < max self.old.inner.environment.mtu 100
             → (self.new ≡ self.old) × (sockets.new ≡ sockets.old) × (reply.new ≡ reply.old) }
-        ensures refused { IsTrue (is_err result) ↔ (length reply.old < self.old.inner.environment.mtu) }
+        ensures refused { IsTrue (is_err result) ↔ (length reply.old < max self.old.inner.environment.mtu 100) }
         ensures within { IfOk result (λ n. n ≤ length reply.old) }
         ensures taken { IfOk result (λ n. ReceivesAt ⟦<IpAddress as PartialEq>⟧.eq W.word_at G.tells now packet.now
             self.old sockets.old.slots.items reply.old n self.new sockets.new.slots.items reply.new) }
     {
-        if reply.len() < self.inner.environment.mtu {
+        if reply.len() < self.inner.environment.mtu.max(LONGEST_REPLY) {
             return Err(TooShort);
         }
         Ok(self.receive_at(sockets, now, packet, reply))

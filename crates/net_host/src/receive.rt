@@ -3,7 +3,8 @@ ghost use Rattle.std.specs.Prelude.{◌≡◌, ◌≤◌, nat_le, length, option
 ghost use Rattle.segment_wire.specs.Udp.{datagram_of};
 ghost use Rattle.control_wire.specs.Segment.{segment_of};
 ghost use Rattle.net_host.specs.Counts.{counted};
-ghost use Rattle.net_host.specs.Receiving.{ByAddresses, ByKind, IfShort, TakesOther, TakesPacket, TellsIf};
+ghost use Rattle.net_host.specs.Receiving.{ByAddresses, ByKind, IfShort, TakesDatagramOf, TakesOther, TakesPacket};
+ghost use Rattle.net_host.specs.Receiving.{TellsIf};
 ghost use Rattle.net_host.specs.Receiving.{TakesCarried, TakesIcmp, TakesMail, TakesSegment, TakesTcp, TakesUdp, counted_for, counted_if, datagram_in};
 ghost use Rattle.net_host.specs.Messages.{mail_of};
 ghost use Rattle.net_host.specs.Arrivals.{refusal};
@@ -149,12 +150,27 @@ impl<W: Words> Interface<W> {
         let caps = self.inner.checksum_caps();
         match datagram_in(&caps, ip, bytes) {
             None => self.drop_packet(Reason::Datagram),
-            Some((repr, payload)) => {
-                let found = hear_datagram_of(sockets, &self.inner, ip, &repr, payload);
-                count_found(&mut self.counters, found);
-                self.tell_if(&sockets.slots, found, ip, bytes, out)
-            }
+            Some((repr, payload)) => self.take_datagram(sockets, ip, bytes, &repr, payload, out),
         }
+    }
+
+    fn take_datagram<G: TsvalSource>(
+        &mut self,
+        sockets: &mut SocketSet<'_, G>,
+        ip: &IpRepr,
+        bytes: &[u8],
+        repr: &UdpRepr,
+        payload: &[u8],
+        out: &mut [u8],
+    ) -> usize
+        ensures within { result ≤ length out.old }
+        ensures table { TakesDatagramOf ⟦<IpAddress as PartialEq>⟧.eq W.word_at G.tells ip.now bytes.now
+            (record { header = repr.now; payload = payload.now }) self.old sockets.old.slots.items out.old result
+            self.new sockets.new.slots.items out.new }
+    {
+        let found = hear_datagram_of(sockets, &self.inner, ip, repr, payload);
+        count_found(&mut self.counters, found);
+        self.tell_if(&sockets.slots, found, ip, bytes, out)
     }
 
     // The sender is told, where no socket takes the datagram.

@@ -2,7 +2,8 @@
 ghost use Rattle.std.specs.Prelude.{◌≡◌, ◌≤◌, ◌↔◌, IsTrue, length, min, option_map};
 ghost use Rattle.net_host.specs.Limits.{allows};
 ghost use Rattle.net_host.specs.Messages.{answer_len, if_short, mail_of, with_answer};
-ghost use Rattle.net_host.specs.Unreachable.{SomeRaw, TakesRaw, TellsOf, error_of, error_v4, error_v6, quoted_v4, quoted_v6};
+ghost use Rattle.net_host.specs.Unreachable.{TakesRaw, TellsOf, error_of, error_v4, error_v6, quoted_v4, quoted_v6};
+ghost use Rattle.net_host.specs.Walks.{Finds};
 ghost use Rattle.net_host.specs.Unreachable.{spent_for, told_within, wanted};
 
 use crate::limit::Limit;
@@ -106,16 +107,16 @@ impl<'a, G: TsvalSource> Slot<'a, G> {
     }
 }
 
-// Whether a raw socket takes the packet.
-fn some_raw<G: TsvalSource>(slots: &[Slot<'_, G>], ip: &IpRepr) -> bool
-    ensures { SomeRaw ip.now slots.now result }
+// The first raw socket that takes the packet.
+fn first_raw<G: TsvalSource>(slots: &[Slot<'_, G>], ip: &IpRepr) -> Option<usize>
+    ensures { Finds (TakesRaw ip.now) slots.now result }
 {
-    for slot in slots.iter() {
+    for (i, slot) in slots.iter().enumerate() {
         if slot.takes_raw(ip) {
-            return true;
+            return Some(i);
         }
     }
-    false
+    None
 }
 
 // The error, for a packet to an own address that no raw socket takes.
@@ -152,10 +153,10 @@ pub(crate) fn tell_sender<C: Context, G: TsvalSource>(
     ensures told { TellsOf (C.facts cx.now) unmet ip.now bytes.now slots.now limit.old out.old result limit.new
         out.new }
 {
-    let raw = some_raw(slots, ip);
+    let raw = first_raw(slots, ip);
     let mtu = cx.ip_mtu();
     let own = cx.has_ip_addr(ip.dst_addr());
-    let error = wanted(own, raw, error_of(unmet, ip, bytes, mtu));
+    let error = wanted(own, raw.is_some(), error_of(unmet, ip, bytes, mtu));
     let answer = within_limit(limit, cx.now(), error);
     put_answer(&answer, mtu, out, &cx.checksum_caps())
 }

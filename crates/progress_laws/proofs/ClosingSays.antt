@@ -26,7 +26,7 @@ use Rattle.progress_laws.specs.InStep.{ForAnswer, told}
 use Rattle.progress_laws.specs.Speech.{DispatchesOk, GoesOn}
 use Rattle.progress_laws.proofs.Begins.{and_no, carries_runs, dispatch_reached, lent_for, not_zero, segment_for, sends_as, stamp_for}
 use Rattle.progress_laws.proofs.Hears.{IsData}
-use Rattle.progress_laws.proofs.Lends.{lent_some, mss_some}
+use Rattle.progress_laws.proofs.Lends.{lent_some, mss_short, mss_some}
 use Rattle.progress_laws.proofs.Sends.{left, open_window, plain_sent, plain_timer, plain_told}
 use Rattle.progress_laws.proofs.Speaks.{Begins, FromFront, Front, IsNoProbe, asked_so, begins, from_front, lent_few, wakes}
 use Rattle.progress_laws.proofs.Spoken.{IsSaid, data_said}
@@ -150,7 +150,7 @@ module _ (d : Option Duration) (t : Tuple) (v : View) (f : Facts) (now : Instant
         some = some;
         fits = omega (arith, lent_few u t fa, asked_is, fr.same.window);
         queued = omega (arith, lent_few u t fa, same);
-        short = omega (arith, lent_few u t fa, asked_is, mtu.1);
+        short = omega (arith, lent_few u t fa, asked_is, mss_short u t fa mtu.1);
         first = lent_beginning u.tx_buffer (offset_of u) (asked u t fa) bytes refl ∙ ap (λ o. take (length bytes) (drop o u.tx_buffer.bytes)) ft.start ∙ ap (λ (q : Queue). take (length bytes) q.bytes) fr.same.tx;
         closer = record {
           reached = dispatch_reached fa v (Some (sent_as u t kind.Plain b)) after s.reached goes;

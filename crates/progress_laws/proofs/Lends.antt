@@ -33,6 +33,16 @@ mss_some v t f mtu mss = go t.local.addr v.stamps
     go (address.Ipv6 a) true = omega (arith, mtu, mss)
     go (address.Ipv6 a) false = omega (arith, mtu, mss)
 
+-- a payload is no longer than the longest packet
+pub mss_short : (v : View) (t : Tuple) (f : Facts) → f.mtu ≤ 65535 → effective_mss v t f ≤ 65535
+mss_short v t f mtu = go t.local.addr v.stamps
+  where
+    go : (a : IpAddress) (b : Bool) → min (mtu_for a f.mtu - ip_header_len a - 20) v.remote_mss - timestamp_room b ≤ 65535
+    go (address.Ipv4 a) true = omega (arith, mtu)
+    go (address.Ipv4 a) false = omega (arith, mtu)
+    go (address.Ipv6 a) true = omega (arith, mtu)
+    go (address.Ipv6 a) false = omega (arith, mtu)
+
 module _ (u : View) (p : Tuple) (f : Facts) (stamp : Option ℕ) (bytes : List ℕ) (mtu : 68 ≤ f.mtu) (mss : 48 ≤ u.remote_mss) (carries : carries_data u.state ≡ true) (lent : IsLent u.tx_buffer (offset_of u) (asked u p f) bytes) where
   room : 0 < effective_mss u p f
   room = mss_some u p f mtu mss

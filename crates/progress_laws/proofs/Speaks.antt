@@ -35,7 +35,7 @@ use Rattle.progress_laws.specs.Speech.{DispatchesOk, GoesOn}
 use Rattle.progress_laws.proofs.Begins.{Same, beginning, begun_idle, carries_runs, dispatch_reached, lent_for, not_zero, quiet_so, readied_alike, same_again, same_then, segment_for, sends_as, stamp_for}
 use Rattle.progress_laws.proofs.Edges.{is_earlier, is_not_before, later_is, later_stays}
 use Rattle.progress_laws.proofs.Hears.{IsData, IsOpenTimer, idle_is, idle_moment}
-use Rattle.progress_laws.proofs.Lends.{lent_some, mss_some}
+use Rattle.progress_laws.proofs.Lends.{lent_some, mss_short, mss_some}
 use Rattle.progress_laws.proofs.Says.{keep_alive_due, no_probe}
 use Rattle.progress_laws.proofs.States.{flat_open, is_flat, row_moment, sends_data, sends_flat}
 use Rattle.progress_laws.proofs.Sends.{HasTold, SentOf, Untold, kept_nxt, kept_sent, kept_timer, kept_untold, left, open_window, plain_sent, plain_timer, plain_told, segment_ack, segment_bit, segment_length, segment_number, segment_window, with_bytes, without_bytes}
@@ -264,7 +264,7 @@ module _ (d : Option Duration) (t : Tuple) (v : View) (f : Facts) (now : Instant
       record {
         bytes = speaks_bytes win queue;
         fits = omega (arith, lent_few u t fa, asked_is, fr.same.window);
-        short = omega (arith, lent_few u t fa, asked_is, mtu.1);
+        short = omega (arith, lent_few u t fa, asked_is, mss_short u t fa mtu.1);
         field = told_field;
         at = moment_after now (rto_of u.rtte);
         timer = plain_timer u t now b opens false (not_zero (segment_len b) (omega (arith, long, some))) ∙ ap (λ tm. retransmit_unless_set tm now u.rtte) renewed ∙ waits_again u.keep_alive;

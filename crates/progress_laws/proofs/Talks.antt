@@ -33,7 +33,7 @@ use Rattle.progress_laws.specs.InStep.{told}
 use Rattle.progress_laws.specs.Speech.{DispatchesOk, GoesOn}
 use Rattle.progress_laws.proofs.Begins.{Alike, Same, and_no, beginning, begun_idle, carries_runs, fin_len, lent_for, not_empty, not_zero, quiet_so, readied_alike, same_again, same_then, segment_for, sends_as, some_or_none, timers_are, stamp_for}
 use Rattle.progress_laws.proofs.Edges.{is_not_before, later_stays}
-use Rattle.progress_laws.proofs.Lends.{lent_some, marked_some, mss_some, probe_byte}
+use Rattle.progress_laws.proofs.Lends.{lent_some, marked_some, mss_short, mss_some, probe_byte}
 use Rattle.progress_laws.proofs.Says.{AtFront, front_number, keep_alive_due, no_probe, probe_due}
 use Rattle.progress_laws.proofs.Sends.{HasTold, Untold, kept_nxt, kept_sent, kept_timer, kept_untold, left, open_window, plain_sent, plain_timer, plain_told, probe_nxt, probe_sent, probe_timer, probe_untold}
 
@@ -131,12 +131,12 @@ module _ (d : Duration) (t : Tuple) (v : View) (f : Facts) (now : Instant) (mtu 
 
   short : length bytes ≤ 65535
   unfolding asked
-  short = omega (arith, lent_at_most b.tx_buffer (offset_of b) (asked b t fa) bytes refl, ap (λ c. if c then size_of b t fa else 0) carries, few b.pending_fast_retransmit (is_probing b now), mtu.1)
+  short = omega (arith, lent_at_most b.tx_buffer (offset_of b) (asked b t fa) bytes refl, ap (λ c. if c then size_of b t fa else 0) carries, few b.pending_fast_retransmit (is_probing b now))
     where
-      few : (m p : Bool) → (if m then effective_mss b t fa else (if p then min 1 (effective_mss b t fa) else min (min (window_left b) (effective_mss b t fa)) (congestion_left b))) ≤ f.mtu
-      few true p = omega arith
-      few false true = omega arith
-      few false false = omega arith
+      few : (m p : Bool) → (if m then effective_mss b t fa else (if p then min 1 (effective_mss b t fa) else min (min (window_left b) (effective_mss b t fa)) (congestion_left b))) ≤ 65535
+      few true p = mss_short b t fa mtu.1
+      few false true = omega (arith, mss_short b t fa mtu.1)
+      few false false = omega (arith, mss_short b t fa mtu.1)
 
   keeps : idle_from now b.keep_alive ≡ timer.Idle (Some (after now d))
   keeps = ap (idle_from now) (st.same.keep_alive ∙ s.keep_alive)
