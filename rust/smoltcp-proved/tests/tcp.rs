@@ -309,7 +309,7 @@ fn ipv6_and_timestamps() {
 
 #[test]
 fn contexts() {
-    assert!(Context::new(575).is_none());
+    assert!(Context::new(67).is_none());
     let mut cx = Context::new(70_000).expect("an MTU").with_words(|| 7);
     assert_eq!(cx.ip_mtu(), 65535);
     cx.set_now(Instant::from_micros(i64::MIN));
