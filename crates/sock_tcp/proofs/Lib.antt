@@ -1,9 +1,11 @@
 pub mod Acking
 pub mod Refusing
+pub mod Telling
 pub mod Recovering
 pub mod KeptSegments
 pub mod Stamping
 pub mod Windows
+pub mod Holes
 pub mod Fitting
 pub mod FittingReplies
 pub mod Beginning

@@ -8,6 +8,7 @@ use Rattle.sock_tcp.specs.Due.{flight, is_due}
 use Rattle.sock_tcp.specs.Opening.{renewed}
 use Rattle.sock_tcp.specs.Polls.{is_reached, timeout_poll}
 use Rattle.sock_tcp.specs.Rfc.Recovery.{begun_by, timed_out_by}
+use Rattle.sock_tcp.specs.Rfc.Scoreboard.{nothing_told}
 use Rattle.sock_tcp.specs.Timers.{is_over, idle_from, is_close_over}
 use Rattle.sock_tcp.specs.View.{View, moment_of}
 use Rattle.sock_tcp.specs.declared.state.State.{State}
@@ -51,7 +52,8 @@ readied v now = told_ready (last_ts_set v now) now
 
 -- ---- the timers
 
--- the retransmission timer is over: all behind SND.UNA is sent again (RFC 6298, section 5)
+-- the retransmission timer is over: all behind SND.UNA is sent again (RFC 6298, section 5), also what was told by SACK,
+-- which the peer may have given up (RFC 2018, section 8)
 unfoldable pub retransmission_begun : View → Instant → View
 retransmission_begun v now =
     record v {
@@ -62,9 +64,10 @@ retransmission_begun v now =
           begun_by v.rules v.remote_win_len (length v.tx_buffer.bytes) now v.keep_alive
           (retransmitted (backed_off v.rtte));
       recovery = timed_out_by v.rules v.recovery v.remote_last_seq;
+      sacked = nothing_told;
     }
 
--- a fast retransmission: the segment at SND.UNA is marked to be sent again (RFC 5681, section 3.2)
+-- a fast retransmission is marked (RFC 5681, section 3.2)
 unfoldable pub fast_retransmission_marked : View → Instant → View
 fast_retransmission_marked v now =
     record v {

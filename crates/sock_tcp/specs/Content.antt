@@ -6,17 +6,26 @@ use Rattle.ip_wire.specs.declared.protocol.IpProtocol.TheVariants as protocol
 use Rattle.ip_wire.specs.declared.repr.IpRepr.{IpRepr}
 use Rattle.net_base.specs.declared.time.Instant.{Instant}
 use Rattle.control_wire.specs.Segment.{Segment, bare_segment, segment_header_len, is_empty_segment}
-use Rattle.control_wire.specs.Seq.{seq_minus}
+use Rattle.control_wire.specs.Seq.{seq_minus, seq_sub}
+use Rattle.control_wire.specs.declared.seq_number.TcpSeqNumber.{TcpSeqNumber}
 use Rattle.control_wire.specs.declared.tcp.TcpControl.{TcpControl}
 use Rattle.control_wire.specs.declared.tcp.TcpControl.TheVariants as control
 use Rattle.control_wire.specs.declared.tcp.TcpTimestampRepr.{TcpTimestampRepr}
 use Rattle.sock_core.specs.Facts.{Facts}
+use Rattle.sock_core.specs.Seq.{is_before}
 use Rattle.sock_tcp.specs.Due.{is_closing, own_mss, effective_mss, flight, congestion_left}
+use Rattle.sock_tcp.specs.Rfc.Scoreboard.{hole_behind, hole_number, hole_size, hole_start}
 use Rattle.sock_tcp.specs.Timers.{is_keep_alive_over, is_probe_over}
 use Rattle.sock_tcp.specs.View.{View, moment_of}
 use Rattle.sock_tcp.specs.Window.{next_ack}
 use Rattle.sock_tcp.specs.declared.emission.Kind.{Kind}
 use Rattle.sock_tcp.specs.declared.emission.Kind.TheVariants as kind
+use Rattle.sock_tcp.specs.declared.recovery.Recovery.{Recovery}
+use Rattle.sock_tcp.specs.declared.recovery.Recovery.TheVariants as recovery
+use Rattle.sock_tcp.specs.declared.rules.Rules.{Rules}
+use Rattle.sock_tcp.specs.declared.rules.Rules.TheVariants as rules
+use Rattle.sock_tcp.specs.declared.scoreboard.Hole.{Hole}
+use Rattle.sock_tcp.specs.declared.scoreboard.Scoreboard.{Scoreboard}
 use Rattle.sock_tcp.specs.declared.state.State.{State}
 use Rattle.sock_tcp.specs.declared.state.State.TheVariants as state
 use Rattle.sock_tcp.specs.declared.tuple.Tuple.{Tuple}
@@ -38,16 +47,41 @@ abbrev pub is_probing : View → Instant → Bool
 is_probing v now =
     carries_data v.state && not v.pending_fast_retransmit && (window_left v == 0) && is_probe_over v.timer now
 
--- a fast retransmission keeps to neither window, a probe is one byte, and other data keeps to both windows
+-- from which byte behind SND.UNA on nothing was sent again in this recovery
+abbrev pub again_from : TcpSeqNumber → TcpSeqNumber → ℕ
+again_from high_rxt una = if is_before una high_rxt then seq_sub high_rxt una else 0
+
+-- the next hole to be sent again (RFC 6675, section 4, NextSeg)
+abbrev pub next_hole : Recovery → Scoreboard → TcpSeqNumber → Option Hole
+next_hole (recovery.Fast point high_rxt) k una = hole_behind k (again_from high_rxt una)
+next_hole r k una = None
+
+abbrev pub hole_by : Rules → Recovery → Scoreboard → TcpSeqNumber → Option Hole
+hole_by rules.Smoltcp r k una = None
+hole_by rules.Rfc r k una = next_hole r k una
+
+-- what a fast retransmission sends again; where there is none, the segment at SND.UNA
+abbrev pub hole_of : View → Option Hole
+hole_of v = hole_by v.rules v.recovery v.sacked v.local_seq_no
+
+-- a fast retransmission keeps to neither window and to the hole, a probe is one byte, and other data keeps to both
+-- windows
 abbrev pub size_of : View → Tuple → Facts → ℕ
 size_of v t f =
-    if v.pending_fast_retransmit then effective_mss v t f
+    if v.pending_fast_retransmit then hole_size (hole_of v) (length v.tx_buffer.bytes) (effective_mss v t f)
     else (if is_probing v (moment_of f) then min 1 (effective_mss v t f)
     else min (min (window_left v) (effective_mss v t f)) (congestion_left v))
 
--- where in the transmit queue the payload begins: at SND.UNA in a fast retransmission, else at SND.NXT
+-- where in the transmit queue the payload begins: at the hole or SND.UNA in a fast retransmission, else at SND.NXT
 abbrev pub offset_of : View → ℕ
-offset_of v = if v.pending_fast_retransmit then 0 else flight v
+offset_of v =
+    if v.pending_fast_retransmit then hole_start (hole_of v) (length v.tx_buffer.bytes) else flight v
+
+-- its number
+abbrev pub number_of : View → TcpSeqNumber
+number_of v =
+    if v.pending_fast_retransmit then hole_number (hole_of v) (length v.tx_buffer.bytes) v.local_seq_no
+    else v.remote_last_seq
 
 -- how much of the transmit queue, from there on, is asked of the ring
 unfoldable pub asked : View → Tuple → Facts → ℕ
@@ -94,7 +128,7 @@ data_control v n =
 abbrev pub with_data : View → List ℕ → Segment → Segment
 with_data v bytes s =
     record s {
-      seq_number = if v.pending_fast_retransmit then v.local_seq_no else v.remote_last_seq;
+      seq_number = number_of v;
       control = data_control v (length bytes);
       payload = bytes;
     }

@@ -3,9 +3,10 @@ use Rattle.std.specs.Prelude.{Option, Some, None, Bool, true, false, not, ◌==�
 use Rattle.net_base.specs.declared.time.Instant.{Instant}
 use Rattle.control_wire.specs.Seq.{seq_add}
 use Rattle.control_wire.specs.Segment.{Segment, segment_len}
+use Rattle.control_wire.specs.declared.seq_number.TcpSeqNumber.{TcpSeqNumber}
 use Rattle.sock_core.specs.Congestion.{post_transmitted}
 use Rattle.sock_core.specs.Estimator.{sent}
-use Rattle.sock_core.specs.Seq.{later_of}
+use Rattle.sock_core.specs.Seq.{is_before, later_of}
 use Rattle.sock_tcp.specs.Content.{carries_data, Sending}
 use Rattle.sock_tcp.specs.Due.{is_closed}
 use Rattle.sock_tcp.specs.Timers.{keep_alive_renewed, probe_doubled, retransmit_unless_set}
@@ -13,6 +14,8 @@ use Rattle.sock_tcp.specs.View.{View}
 use Rattle.sock_tcp.specs.declared.emission.Kind.{Kind}
 use Rattle.sock_tcp.specs.declared.emission.Kind.TheVariants as kind
 use Rattle.sock_tcp.specs.declared.emission.Emitted.{Emitted}
+use Rattle.sock_tcp.specs.declared.recovery.Recovery.{Recovery}
+use Rattle.sock_tcp.specs.declared.recovery.Recovery.TheVariants as recovery
 use Rattle.sock_tcp.specs.declared.timer.AckDelayTimer.TheVariants as ack_delay
 
 -- what is kept of a segment once it went out
@@ -20,6 +23,7 @@ abbrev pub emitted_as : Kind → Segment → Emitted
 emitted_as k s =
     record {
       kind = k;
+      seq_number = s.seq_number;
       len = segment_len s;
       end = seq_add s.seq_number (segment_len s);
       ack_number = s.ack_number;
@@ -39,12 +43,19 @@ after_any v now =
 unfoldable pub after_probe : View → Instant → View
 after_probe v now = record v { timer = probe_doubled v.timer now }
 
+-- what begins before SND.NXT is sent again: HighRxt of a recovery moves behind it (RFC 6675, section 2)
+abbrev pub resent_by : Recovery → TcpSeqNumber → Emitted → Recovery
+resent_by (recovery.Fast point high_rxt) nxt s =
+    recovery.Fast point (if is_before s.seq_number nxt then later_of high_rxt s.end else high_rxt)
+resent_by r nxt s = r
+
 -- SND.NXT moves behind the segment, its acknowledgement and window are the last sent, and the RST of a closed socket
 -- ends it
 unfoldable pub snd_nxt_moved : View → Emitted → View
 snd_nxt_moved v s =
     record v {
       remote_last_seq = later_of v.remote_last_seq s.end;
+      recovery = resent_by v.recovery v.remote_last_seq s;
       remote_last_ack = s.ack_number;
       remote_last_win = s.window_len;
       tuple = if is_closed v.state then None else v.tuple;

@@ -22,8 +22,10 @@ use Rattle.sock_tcp.specs.declared.timer.Timer.{Timer}
 use Rattle.sock_tcp.specs.declared.timer.Timer.TheVariants as timer
 use Rattle.sock_tcp.specs.declared.recovery.Recovery.{Recovery}
 use Rattle.sock_tcp.specs.declared.recovery.Recovery.TheVariants as recovery
+use Rattle.sock_tcp.specs.Rfc.Scoreboard.{nothing_told}
 use Rattle.sock_tcp.specs.declared.rules.Rules.{Rules}
 use Rattle.sock_tcp.specs.declared.rules.Rules.TheVariants as rules
+use Rattle.sock_tcp.specs.declared.scoreboard.Scoreboard.{Scoreboard}
 use Rattle.sock_tcp.specs.declared.state.State.{State}
 use Rattle.sock_tcp.specs.declared.state.State.TheVariants as state
 use Rattle.sock_tcp.specs.declared.tuple.Tuple.{Tuple}
@@ -55,7 +57,7 @@ pub record View : Type 0 where
   pub local_rx_last_seq : Option TcpSeqNumber  -- the number of the last segment in the window
   pub local_rx_last_ack : Option TcpSeqNumber  -- the last acknowledgement that was no duplicate
   pub local_rx_dup_acks : ℕ  -- how many duplicates of it came
-  pub pending_fast_retransmit : Bool  -- the segment at SND.UNA goes out again
+  pub pending_fast_retransmit : Bool  -- the segment at SND.UNA goes out again, or by the RFCs' rules the next hole
   pub ack_delay : Option Duration  -- how long an acknowledgement may wait for data to go with
   pub ack_delay_timer : AckDelayTimer
   pub challenge_ack_timer : Instant  -- before this moment no further challenge ACK goes out
@@ -66,6 +68,7 @@ pub record View : Type 0 where
   pub stamps : Bool  -- segments carry a timestamp (RFC 7323, section 3)
   pub rules : Rules  -- where smoltcp's differ from the RFCs'
   pub recovery : Recovery  -- what goes on of a loss, by the RFCs' rules
+  pub sacked : Scoreboard  -- what the peer told by SACK, by the RFCs' rules
 
 -- the moment that a context tells
 abbrev pub moment_of : Facts → Instant
@@ -144,4 +147,5 @@ fresh rx tx =
       stamps = false;
       rules = rules.Smoltcp;
       recovery = recovery.Open;
+      sacked = nothing_told;
     }

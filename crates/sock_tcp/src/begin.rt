@@ -9,6 +9,7 @@ ghost use Rattle.sock_tcp.specs.Begin.{is_paused, begun, nothing_due, before_emi
 
 use crate::control_block::ControlBlock;
 use crate::poll::{is_reached, timeout_poll};
+use crate::scoreboard::NOTHING_TOLD;
 use crate::state::State;
 use crate::timer::{Timer, is_over};
 use crate::tuple::Tuple;
@@ -48,7 +49,7 @@ impl<'a> ControlBlock<'a> {
         self.congestion_controller.pre_transmit(now);
     }
 
-    // All behind SND.UNA is sent again. The timer is idle until a segment goes out, or by the RFCs' rules a window is
+    // All behind SND.UNA is sent again, also what was told by SACK. The timer is idle until a segment goes out, or by the RFCs' rules a window is
     // probed for; it is not over any longer: where the window lets nothing out now, a timer that stays over would want
     // the next dispatch at once, again and again.
     #[tactic(auto, unfolding(crate::specs::Begin::retransmission_begun))]
@@ -60,6 +61,7 @@ impl<'a> ControlBlock<'a> {
         let flight = self.flight();
         self.congestion_controller.on_rto(now, flight);
         self.recovery = self.recovery.timed_out(self.rules, self.remote_last_seq);
+        self.sacked = NOTHING_TOLD;
         self.remote_last_seq = self.local_seq_no;
         self.rtte.on_rto();
         self.rtte.on_retransmit();

@@ -9,16 +9,18 @@ ghost use Rattle.control_wire.specs.Segment.{segment_of};
 ghost use Rattle.sock_core.specs.Facts.{IsLawful};
 ghost use Rattle.sock_tcp.specs.Queue.{IsLent};
 ghost use Rattle.sock_tcp.specs.Due.{flight, window_field};
-ghost use Rattle.sock_tcp.specs.Content.{window_left, is_probing, size_of, offset_of, asked};
+ghost use Rattle.sock_tcp.specs.Content.{window_left, is_probing, hole_of, size_of, offset_of, number_of, asked};
 ghost use Rattle.sock_tcp.specs.Content.{timestamp_of, plain_segment, with_syn, syn, syn_ack, data_control, with_data};
 ghost use Rattle.sock_tcp.specs.Content.{filled, emission_kind, of_kind, hop_limit_of, sending, finished, content};
 
 use crate::control_block::ControlBlock;
 use crate::due::own_mss;
 use crate::emission::Kind;
+use crate::rules::Rules;
+use crate::scoreboard::{Hole, hole_number, hole_size, hole_start};
 use crate::state::State;
 use crate::tuple::Tuple;
-use control_wire::{TcpControl, TcpRepr, TcpTimestampRepr};
+use control_wire::{TcpControl, TcpRepr, TcpSeqNumber, TcpTimestampRepr};
 use ip_wire::{IpAddress, IpProtocol, IpRepr, Ipv4Address, Ipv4Repr, Ipv6Repr};
 use net_base::time::Instant;
 use sock_core::Context;
@@ -51,6 +53,16 @@ impl<'a> ControlBlock<'a> {
             && self.timer.is_probe_over(now)
     }
 
+    // What a fast retransmission sends again; where there is none, the segment at SND.UNA.
+    fn hole(&self) -> Option<Hole>
+        ensures { result ≡ hole_of self.now }
+    {
+        match self.rules {
+            Rules::Smoltcp => None,
+            Rules::Rfc => self.recovery.next_hole(&self.sacked, self.local_seq_no),
+        }
+    }
+
     // How many bytes of the transmit queue are to go out.
     fn size<C: Context>(&self, cx: &C, tuple: &Tuple) -> usize
         ensures value { result ≡ size_of self.now tuple.now (C.facts cx.now) }
@@ -58,7 +70,7 @@ impl<'a> ControlBlock<'a> {
     {
         let mss = self.effective_mss(cx, tuple);
         if self.pending_fast_retransmit {
-            mss
+            hole_size(&self.hole(), self.tx_buffer.len(), mss)
         } else if self.is_probing(cx.now()) {
             mss.min(1)
         } else {
@@ -72,9 +84,20 @@ impl<'a> ControlBlock<'a> {
         ensures small { result < 2 ^ 32 }
     {
         if self.pending_fast_retransmit {
-            0
+            hole_start(&self.hole(), self.tx_buffer.len())
         } else {
             self.flight()
+        }
+    }
+
+    // Their number.
+    fn number(&self) -> TcpSeqNumber
+        ensures { result ≡ number_of self.now }
+    {
+        if self.pending_fast_retransmit {
+            hole_number(&self.hole(), self.tx_buffer.len(), self.local_seq_no)
+        } else {
+            self.remote_last_seq
         }
     }
 
@@ -159,11 +182,7 @@ impl<'a> ControlBlock<'a> {
         ensures payload { length repr.new.payload.now ≡ length payload.now }
     {
         repr.control = self.data_control(payload.len());
-        repr.seq_number = if self.pending_fast_retransmit {
-            self.local_seq_no
-        } else {
-            self.remote_last_seq
-        };
+        repr.seq_number = self.number();
         repr.payload = payload;
     }
 

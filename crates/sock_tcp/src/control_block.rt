@@ -6,6 +6,7 @@ ghost use Rattle.sock_tcp.specs.Queue.{queue_of};
 
 use crate::recovery::Recovery;
 use crate::rules::Rules;
+use crate::scoreboard::Scoreboard;
 use crate::state::State;
 use crate::timer::{AckDelayTimer, Timer};
 use crate::tuple::Tuple;
@@ -71,7 +72,7 @@ pub struct ControlBlock<'a> {
     pub(crate) local_rx_last_ack: Option<TcpSeqNumber>,
     // how many duplicates of it came
     pub(crate) local_rx_dup_acks: u8,
-    // the segment at SND.UNA goes out again
+    // the segment at SND.UNA goes out again, or by the RFCs' rules the next hole
     pub(crate) pending_fast_retransmit: bool,
     // how long an acknowledgement may wait for data to go with
     pub(crate) ack_delay: Option<Duration>,
@@ -93,6 +94,8 @@ pub struct ControlBlock<'a> {
     pub(crate) rules: Rules,
     // what goes on of a loss, by the RFCs' rules
     pub(crate) recovery: Recovery,
+    // what the peer told by SACK, by the RFCs' rules
+    pub(crate) sacked: Scoreboard,
 }
 
 impl<'a> Model for ControlBlock<'a> {
@@ -138,6 +141,7 @@ impl<'a> Model for ControlBlock<'a> {
       stamps = s.stamps;
       rules = s.rules;
       recovery = s.recovery;
+      sacked = s.sacked;
     } };
 
     ghost invariant = { λ s. IsSound s.rx_buffer (queue_of s.tx_buffer) s.tuple

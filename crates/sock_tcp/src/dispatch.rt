@@ -49,6 +49,7 @@ impl<'a> ControlBlock<'a> {
         ensures view { self.new ≡ snd_nxt_moved self.old emitted }
         ensures stamps { self.new.stamps ≡ self.old.stamps }
     {
+        self.recovery = self.recovery.resent(self.remote_last_seq, &emitted);
         self.remote_last_seq = later(self.remote_last_seq, emitted.end);
         self.remote_last_ack = emitted.ack_number;
         self.remote_last_win = emitted.window_len;

@@ -21,6 +21,8 @@ pub enum Kind {
 pub struct Emitted {
     /// What it was emitted for.
     pub kind: Kind,
+    /// Its sequence number.
+    pub seq_number: TcpSeqNumber,
     /// How many sequence numbers it takes.
     pub len: usize,
     /// The sequence number behind them.
@@ -40,6 +42,7 @@ impl Emitted {
         let len = repr.segment_len();
         Emitted {
             kind,
+            seq_number: repr.seq_number,
             len,
             end: repr.seq_number.plus(len),
             ack_number: repr.ack_number,

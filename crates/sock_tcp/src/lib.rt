@@ -35,6 +35,7 @@ pub mod recovery;
 mod refused;
 mod reply;
 pub mod rules;
+pub mod scoreboard;
 pub mod settings;
 pub mod socket;
 pub mod state;

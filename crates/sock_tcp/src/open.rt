@@ -12,6 +12,7 @@ use crate::control_block::ControlBlock;
 use crate::error::{ConnectError, ListenError};
 use crate::recovery::Recovery;
 use crate::rules::Rules;
+use crate::scoreboard::NOTHING_TOLD;
 use crate::state::State;
 use crate::timer::{AckDelayTimer, Timer};
 use crate::tuple::Tuple;
@@ -83,6 +84,7 @@ impl<'a> ControlBlock<'a> {
             stamps: false,
             rules: Rules::Smoltcp,
             recovery: Recovery::Open,
+            sacked: NOTHING_TOLD,
         }
     }
 
@@ -116,6 +118,7 @@ impl<'a> ControlBlock<'a> {
         self.challenge_ack_timer = Instant::ZERO;
         self.congestion_controller = self.congestion_control().controller();
         self.recovery = Recovery::Open;
+        self.sacked = NOTHING_TOLD;
     }
 
     pub(crate) fn is_open(&self) -> bool

@@ -1,8 +1,9 @@
-//! Loss by the rules of the RFCs: recovery (RFC 6582), duplicates (RFC 5681, RFC 5827) and the retransmission timer
-//! (RFC 6298).
-ghost use Rattle.std.specs.Prelude.{◌≡◌, length};
+//! Loss by the rules of the RFCs: recovery (RFC 6675, RFC 6582), duplicates (RFC 5681, RFC 5827) and the retransmission
+//! timer (RFC 6298).
+ghost use Rattle.std.specs.Prelude.{◌≡◌, ◌≤◌, ◌<◌, ◌^◌, ◌&&◌, length};
 ghost use Rattle.control_wire.specs.Segment.{segment_of};
 ghost use Rattle.sock_core.specs.Bounds.{IsMoment};
+ghost use Rattle.sock_tcp.specs.Content.{next_hole};
 ghost use Rattle.sock_tcp.specs.Due.{flight};
 ghost use Rattle.sock_tcp.specs.Rfc.Recovery.{before_of, begins, begun_by, controller_after, duplicates_after};
 ghost use Rattle.sock_tcp.specs.Rfc.Recovery.{estimator_after};
@@ -10,11 +11,15 @@ ghost use Rattle.sock_tcp.specs.Rfc.Recovery.{gone_on, gone_on_from, has_timer, 
 ghost use Rattle.sock_tcp.specs.Rfc.Recovery.{is_fast, is_grown, is_last, is_news, is_opened, is_over, is_partial};
 ghost use Rattle.sock_tcp.specs.Rfc.Recovery.{is_counted, is_early, is_unheard, may_resend, recovered, recovered_if};
 ghost use Rattle.sock_tcp.specs.Rfc.Recovery.{recovery_after, repeats_by, resends, running, timed_out_by, timer_after};
-ghost use Rattle.sock_tcp.specs.Rfc.Recovery.{segments_out, tells_loss, waited_for};
+ghost use Rattle.sock_tcp.specs.Rfc.Recovery.{is_sent_again, is_telling, is_uncounted, lets_out, sacked_after};
+ghost use Rattle.sock_tcp.specs.Rfc.Recovery.{sacked_by, segments_out, sent_of, shows_hole, tells_loss, waited_for};
+ghost use Rattle.sock_tcp.specs.Sent.{resent_by};
 ghost use Rattle.sock_tcp.specs.Timers.{IsTimer};
 
 use crate::control_block::ControlBlock;
+use crate::emission::Emitted;
 use crate::rules::Rules;
+use crate::scoreboard::{Hole, NOTHING_TOLD, Scoreboard};
 use crate::state::State;
 use crate::timer::Timer;
 use control_wire::{TcpControl, TcpRepr, TcpSeqNumber};
@@ -32,6 +37,8 @@ pub enum Recovery {
     Fast {
         /// The number behind what was sent before it.
         point: TcpSeqNumber,
+        /// The number behind what was sent again since, HighRxt (RFC 6675, section 2).
+        high_rxt: TcpSeqNumber,
     },
     /// The retransmission timer was over, and not all that was sent before that is acknowledged.
     Timeout {
@@ -59,6 +66,10 @@ pub struct Before {
     pub controller: AnyController,
     /// Whether the segment is a duplicate acknowledgement, whatever its window.
     pub repeats: bool,
+    /// Whether it tells something new by SACK.
+    pub telling: bool,
+    /// What was told by SACK, with what it tells.
+    pub sacked: Scoreboard,
 }
 
 // Neither a SYN, an RST nor a FIN.
@@ -99,7 +110,7 @@ impl Recovery {
     {
         match self {
             Recovery::Open => self,
-            Recovery::Fast { point } | Recovery::Timeout { point } => {
+            Recovery::Fast { point, .. } | Recovery::Timeout { point } => {
                 if before(una, point) {
                     self
                 } else {
@@ -115,7 +126,56 @@ impl Recovery {
     {
         match self {
             Recovery::Open => next,
-            Recovery::Fast { point } | Recovery::Timeout { point } => later(next, point),
+            Recovery::Fast { point, .. } | Recovery::Timeout { point } => later(next, point),
+        }
+    }
+
+    // The next hole to be sent again, of what was told by SACK, with SND.UNA there.
+    pub(crate) fn next_hole(self, sacked: &Scoreboard, una: TcpSeqNumber) -> Option<Hole>
+        ensures { result ≡ next_hole self sacked.now una }
+    {
+        match self {
+            Recovery::Fast { high_rxt, .. } => {
+                let from = if before(una, high_rxt) {
+                    high_rxt.since(una)
+                } else {
+                    0
+                };
+                sacked.hole_behind(from)
+            }
+            _ => None,
+        }
+    }
+
+    // Whether the segment at SND.UNA was sent again in this recovery.
+    fn is_sent_again(self, una: TcpSeqNumber) -> bool
+        ensures { result ≡ is_sent_again self una }
+    {
+        match self {
+            Recovery::Fast { high_rxt, .. } => before(una, high_rxt),
+            _ => false,
+        }
+    }
+
+    // Whether a partial acknowledgement shows a hole that was not sent again.
+    fn shows_hole(self, sacked: &Scoreboard, una: TcpSeqNumber) -> bool
+        ensures { result ≡ shows_hole self sacked.now una }
+    {
+        self.next_hole(sacked, una).is_some() || sacked.is_blank() || !self.is_sent_again(una)
+    }
+
+    // A segment went out, with SND.NXT there: one that begins before that was sent again.
+    pub(crate) fn resent(self, next: TcpSeqNumber, emitted: &Emitted) -> Recovery
+        ensures { result ≡ resent_by self next emitted.now }
+    {
+        match self {
+            Recovery::Fast { point, high_rxt } if before(emitted.seq_number, next) => {
+                Recovery::Fast {
+                    point,
+                    high_rxt: later(high_rxt, emitted.end),
+                }
+            }
+            _ => self,
         }
     }
 
@@ -155,6 +215,14 @@ impl Before {
         self.repeats && self.window < after.remote_win_len
     }
 
+    // A duplicate that smoltcp's rules do not count: its window has grown, or it tells something new by SACK.
+    fn is_uncounted(&self, after: &ControlBlock<'_>) -> bool
+        ensures { result ≡ is_uncounted self.now after.now }
+    {
+        let counted = self.repeats && self.window == after.remote_win_len;
+        self.is_grown(after) || self.telling && (!self.is_news(after) && !counted)
+    }
+
     // Smoltcp's rules call for a fast retransmission.
     fn is_called(&self, after: &ControlBlock<'_>) -> bool
         ensures { result ≡ is_called self.now after.now }
@@ -184,7 +252,7 @@ impl Before {
     fn tells_loss(&self, after: &ControlBlock<'_>) -> bool
         ensures { result ≡ tells_loss self.now after.now }
     {
-        let third = self.is_grown(after) && self.duplicates == 2;
+        let third = self.is_uncounted(after) && self.duplicates == 2;
         self.is_called(after) || (third || self.is_early(after))
     }
 
@@ -193,7 +261,9 @@ impl Before {
         ensures { result ≡ is_partial self.now after.now }
     {
         match self.recovery {
-            Recovery::Fast { point } => self.is_news(after) && before(after.local_seq_no, point),
+            Recovery::Fast { point, .. } => {
+                self.is_news(after) && before(after.local_seq_no, point)
+            }
             _ => false,
         }
     }
@@ -205,11 +275,48 @@ impl Before {
         after.may_resend() && (self.tells_loss(after) && self.recovery.is_over())
     }
 
-    // The segment at SND.UNA goes out again.
+    // What the peer told by SACK, from SND.UNA on.
+    fn sacked_after(&self, after: &ControlBlock<'_>) -> Scoreboard
+        ensures { result ≡ sacked_after self.now after.now }
+    {
+        if after.state.carries_data() {
+            self.sacked.moved(after.local_seq_no.since(self.una))
+        } else {
+            NOTHING_TOLD
+        }
+    }
+
+    // What is told anew, and acknowledges nothing, lets out the next hole.
+    fn lets_out(&self, after: &ControlBlock<'_>) -> bool
+        ensures { result ≡ lets_out self.now after.now }
+    {
+        if !self.telling || self.is_news(after) {
+            return false;
+        }
+        let sacked = self.sacked_after(after);
+        self.recovery
+            .next_hole(&sacked, after.local_seq_no)
+            .is_some()
+    }
+
+    // A partial acknowledgement shows a hole that was not sent again.
+    fn shows_hole(&self, after: &ControlBlock<'_>) -> bool
+        ensures { result ≡ (is_partial self.now after.now
+            && shows_hole self.now.recovery (sacked_after self.now after.now) after.now.local_seq_no) }
+    {
+        if !self.is_partial(after) {
+            return false;
+        }
+        let sacked = self.sacked_after(after);
+        self.recovery.shows_hole(&sacked, after.local_seq_no)
+    }
+
+    // A hole goes out again, or the segment at SND.UNA.
     fn resends(&self, after: &ControlBlock<'_>) -> bool
         ensures { result ≡ resends self.now after.now }
     {
-        self.begins(after) || after.may_resend() && self.is_partial(after)
+        self.begins(after)
+            || after.may_resend() && (self.shows_hole(after) || self.lets_out(after))
     }
 
     fn recovery_after(&self, after: &ControlBlock<'_>) -> Recovery
@@ -221,6 +328,7 @@ impl Before {
         if self.begins(after) {
             return Recovery::Fast {
                 point: after.remote_last_seq,
+                high_rxt: after.local_seq_no,
             };
         }
         self.recovery.gone_on(after.local_seq_no)
@@ -229,7 +337,7 @@ impl Before {
     fn duplicates_after(&self, after: &ControlBlock<'_>) -> u8
         ensures { result ≡ duplicates_after self.now after.now }
     {
-        if self.is_grown(after) {
+        if self.is_uncounted(after) {
             self.duplicates.saturating_add(1)
         } else {
             after.local_rx_dup_acks
@@ -246,8 +354,13 @@ impl Before {
             controller.on_partial_ack(now, after.local_seq_no.since(self.una));
             return controller;
         }
+        if self.lets_out(after) {
+            let mut controller = self.controller;
+            controller.set_remote_window(after.remote_win_len);
+            return controller;
+        }
         let mut controller = after.congestion_controller;
-        if self.is_grown(after) {
+        if self.is_uncounted(after) {
             controller.on_dup_ack(now, after.remote_mss, after.flight());
         }
         controller
@@ -312,6 +425,43 @@ impl<'a> ControlBlock<'a> {
         }
     }
 
+    // How many bytes behind SND.UNA were sent.
+    fn sent(&self) -> usize
+        ensures value { result ≡ sent_of self.now }
+        ensures small { result < 2 ^ 32 }
+    {
+        self.recovery
+            .highest(self.remote_last_seq)
+            .since(self.local_seq_no)
+    }
+
+    // Whether the segment tells something new by SACK: the peer said that it tells, and it lies in the window.
+    #[tactic(auto, unfolding(crate::specs::Rfc::Recovery::is_telling))]
+    fn is_telling(&self, repr: &TcpRepr<'_>) -> bool
+        requires { length repr.now.payload.now ≤ 65535 }
+        ensures { result ≡ is_telling self.now (segment_of repr.now) }
+    {
+        let news = self
+            .sacked
+            .any_news(self.sent(), self.local_seq_no, &repr.sack_ranges);
+        news && (self.remote_has_sack
+            && self
+                .receive_window()
+                .is_inside(repr.seq_number, repr.payload.len()))
+    }
+
+    // What was told by SACK, with what the segment tells.
+    fn sacked_by(&self, telling: bool, repr: &TcpRepr<'_>) -> Scoreboard
+        ensures { result ≡ sacked_by telling self.now (segment_of repr.now) }
+    {
+        if telling {
+            self.sacked
+                .all_told(self.sent(), self.local_seq_no, &repr.sack_ranges)
+        } else {
+            self.sacked
+        }
+    }
+
     fn segments_out(&self) -> usize
         ensures { result ≡ segments_out self.now }
     {
@@ -364,8 +514,10 @@ impl<'a> ControlBlock<'a> {
     // What is kept of the socket while this segment is heard.
     #[tactic(auto, unfolding(crate::specs::Rfc::Recovery::before_of))]
     pub(crate) fn before(&self, repr: &TcpRepr<'_>) -> Before
+        requires { length repr.now.payload.now ≤ 65535 }
         ensures { result ≡ before_of self.now (segment_of repr.now) }
     {
+        let telling = self.is_telling(repr);
         Before {
             state: self.state,
             timer: self.timer,
@@ -375,6 +527,8 @@ impl<'a> ControlBlock<'a> {
             recovery: self.recovery,
             controller: self.congestion_controller,
             repeats: self.repeats(repr),
+            telling,
+            sacked: self.sacked_by(telling, repr),
         }
     }
 
@@ -389,11 +543,13 @@ impl<'a> ControlBlock<'a> {
         let duplicates = before.duplicates_after(self);
         let controller = before.controller_after(self, now);
         let recovery = before.recovery_after(self);
+        let sacked = before.sacked_after(self);
         self.timer = timer;
         self.rtte = rtte;
         self.local_rx_dup_acks = duplicates;
         self.congestion_controller = controller;
         self.recovery = recovery;
+        self.sacked = sacked;
     }
 
     pub(crate) fn recover(&mut self, before: &Before, now: Instant)

@@ -1,6 +1,7 @@
--- What the RFCs' rules do of loss, once a segment was heard as by either rules: recovery by partial acknowledgements
--- (RFC 6582), duplicates (RFC 5681, section 3.2; RFC 5827), and the retransmission timer (RFC 6298, section 5).
-use Rattle.std.specs.Prelude.{ℕ, nat_lt, nat_le, ◌+◌, length, max, min, Option, Some, None, Bool, true, false, not}
+-- What the RFCs' rules do of loss, once a segment was heard as by either rules: recovery by SACK (RFC 6675) and by
+-- partial acknowledgements (RFC 6582), duplicates (RFC 5681, section 3.2; RFC 5827), and the retransmission timer (RFC
+-- 6298, section 5).
+use Rattle.std.specs.Prelude.{ℕ, nat_lt, nat_le, ◌+◌, length, max, min, Option, Some, None, is_some, Bool, true, false, not}
 use Rattle.std.specs.Prelude.{◌==◌, ◌&&◌, ◌||◌, if◌then◌else◌}
 use Rattle.std.specs.Int.{div_ceil}
 use Rattle.net_base.specs.declared.time.Duration.{Duration}
@@ -14,17 +15,20 @@ use Rattle.sock_core.specs.Congestion.{dup_acked, partially_acked, with_remote_w
 use Rattle.sock_core.specs.Estimator.{Estimator, begun_anew}
 use Rattle.sock_core.specs.Seq.{is_before, later_of}
 use Rattle.sock_core.specs.declared.congestion.AnyController.{AnyController}
-use Rattle.sock_tcp.specs.Content.{carries_data}
+use Rattle.sock_tcp.specs.Content.{carries_data, next_hole}
 use Rattle.sock_tcp.specs.Due.{flight, is_opening}
 use Rattle.sock_tcp.specs.Inside.{Outcome}
+use Rattle.sock_tcp.specs.Rfc.Scoreboard.{all_told, any_news, is_blank, moved, nothing_told}
 use Rattle.sock_tcp.specs.Steps.{is_duplicate}
 use Rattle.sock_tcp.specs.Timers.{idle_from, probe_from, retransmit_from}
 use Rattle.sock_tcp.specs.View.{View}
+use Rattle.sock_tcp.specs.Window.{is_inside, receive_window}
 use Rattle.sock_tcp.specs.declared.recovery.Before.{Before}
 use Rattle.sock_tcp.specs.declared.recovery.Recovery.{Recovery}
 use Rattle.sock_tcp.specs.declared.recovery.Recovery.TheVariants as recovery
 use Rattle.sock_tcp.specs.declared.rules.Rules.{Rules}
 use Rattle.sock_tcp.specs.declared.rules.Rules.TheVariants as rules
+use Rattle.sock_tcp.specs.declared.scoreboard.Scoreboard.{Scoreboard}
 use Rattle.sock_tcp.specs.declared.state.State.{State}
 use Rattle.sock_tcp.specs.declared.state.State.TheVariants as state
 use Rattle.sock_tcp.specs.declared.timer.Timer.{Timer}
@@ -43,6 +47,28 @@ abbrev pub repeats_by : Option TcpSeqNumber → View → TcpControl → ℕ → 
 repeats_by None v c n = false
 repeats_by (Some ack) v c n = is_bare_control c && is_duplicate v ack n false
 
+-- the highest number that was sent, and not before SND.NXT
+abbrev pub highest_of : Recovery → TcpSeqNumber → TcpSeqNumber
+highest_of recovery.Open nxt = nxt
+highest_of (recovery.Fast point high_rxt) nxt = later_of nxt point
+highest_of (recovery.Timeout point) nxt = later_of nxt point
+
+-- how many bytes behind SND.UNA were sent, whether SND.NXT went back or not
+abbrev pub sent_of : View → ℕ
+sent_of v = seq_sub (highest_of v.recovery v.remote_last_seq) v.local_seq_no
+
+-- the peer said that it tells, and the segment lies in the receive window
+abbrev pub may_tell : View → Segment → Bool
+may_tell v s = v.remote_has_sack && is_inside (receive_window v) s.seq_number (length s.payload)
+
+-- the segment has a block with something new
+unfoldable pub is_telling : View → Segment → Bool
+is_telling v s = any_news v.sacked (sent_of v) v.local_seq_no s.sack_ranges && may_tell v s
+
+abbrev pub sacked_by : Bool → View → Segment → Scoreboard
+sacked_by false v s = v.sacked
+sacked_by true v s = all_told v.sacked (sent_of v) v.local_seq_no s.sack_ranges
+
 unfoldable pub before_of : View → Segment → Before
 before_of v s =
     record {
@@ -54,6 +80,8 @@ before_of v s =
       recovery = v.recovery;
       controller = v.congestion_controller;
       repeats = repeats_by s.ack_number v s.control (length s.payload);
+      telling = is_telling v s;
+      sacked = sacked_by (is_telling v s) v s;
     }
 
 -- ---- duplicates
@@ -65,6 +93,16 @@ is_grown b w = b.repeats && nat_lt b.window w.remote_win_len
 abbrev pub is_fast : Timer → Bool
 is_fast timer.FastRetransmit = true
 is_fast _ = false
+
+-- SND.UNA has moved
+abbrev pub is_news : Before → View → Bool
+is_news b w = not (seq_eq b.una w.local_seq_no)
+
+-- one that tells something new by SACK is a duplicate with any window and payload (RFC 6675, section 2), though
+-- smoltcp's rules count none
+abbrev pub is_uncounted : Before → View → Bool
+is_uncounted b w =
+    is_grown b w || (b.telling && (not (is_news b w) && not (b.repeats && (b.window == w.remote_win_len))))
 
 -- smoltcp's rules call for a fast retransmission
 abbrev pub is_called : Before → View → Bool
@@ -87,20 +125,16 @@ is_early b w =
 
 -- the third duplicate, or an earlier one that suffices
 abbrev pub tells_loss : Before → View → Bool
-tells_loss b w = is_called b w || ((is_grown b w && (b.duplicates == 2)) || is_early b w)
+tells_loss b w = is_called b w || ((is_uncounted b w && (b.duplicates == 2)) || is_early b w)
 
 abbrev pub duplicates_after : Before → View → ℕ
-duplicates_after b w = if is_grown b w then min (b.duplicates + 1) 255 else w.local_rx_dup_acks
+duplicates_after b w = if is_uncounted b w then min (b.duplicates + 1) 255 else w.local_rx_dup_acks
 
--- ---- recovery (RFC 6582, section 3.2)
-
--- SND.UNA has moved
-abbrev pub is_news : Before → View → Bool
-is_news b w = not (seq_eq b.una w.local_seq_no)
+-- ---- recovery (RFC 6582, section 3.2; RFC 6675, section 5)
 
 -- of new bytes, but not of all that was sent before a fast retransmission
 abbrev pub is_partial_in : Recovery → Bool → TcpSeqNumber → Bool
-is_partial_in (recovery.Fast point) news una = news && is_before una point
+is_partial_in (recovery.Fast point high_rxt) news una = news && is_before una point
 is_partial_in _ news una = false
 
 abbrev pub is_partial : Before → View → Bool
@@ -118,9 +152,34 @@ may_resend w = carries_data w.state && not (length w.tx_buffer.bytes == 0)
 abbrev pub begins : Before → View → Bool
 begins b w = may_resend w && (tells_loss b w && is_over b.recovery)
 
--- the segment at SND.UNA goes out again: a recovery begins, or a partial acknowledgement shows the next hole
+-- what the peer told, from SND.UNA on
+abbrev pub sacked_after : Before → View → Scoreboard
+sacked_after b w =
+    if carries_data w.state then moved b.sacked (seq_sub w.local_seq_no b.una) else nothing_told
+
+-- there is a hole that was not sent again in this recovery
+abbrev pub has_hole : Recovery → Scoreboard → TcpSeqNumber → Bool
+has_hole r k una = is_some (next_hole r k una)
+
+-- the segment at SND.UNA was sent again in this recovery
+abbrev pub is_sent_again : Recovery → TcpSeqNumber → Bool
+is_sent_again (recovery.Fast point high_rxt) una = is_before una high_rxt
+is_sent_again _ una = false
+
+-- a partial acknowledgement shows the next hole, which may be at SND.UNA; without a word of SACK it is there
+abbrev pub shows_hole : Recovery → Scoreboard → TcpSeqNumber → Bool
+shows_hole r k una = has_hole r k una || (is_blank k || not (is_sent_again r una))
+
+-- what is told anew, and acknowledges nothing, lets out the next hole
+abbrev pub lets_out : Before → View → Bool
+lets_out b w = b.telling && (not (is_news b w) && has_hole b.recovery (sacked_after b w) w.local_seq_no)
+
+-- a hole goes out again, or the segment at SND.UNA: a recovery begins, or goes on
 abbrev pub resends : Before → View → Bool
-resends b w = begins b w || (may_resend w && is_partial b w)
+resends b w =
+    begins b w
+    || (may_resend w
+    && ((is_partial b w && shows_hole b.recovery (sacked_after b w) w.local_seq_no) || lets_out b w))
 
 -- an acknowledgement of all that was sent before ends it
 abbrev pub reached_by : TcpSeqNumber → Recovery → TcpSeqNumber → Recovery
@@ -128,24 +187,26 @@ reached_by una r point = if is_before una point then r else recovery.Open
 
 abbrev pub gone_on : Recovery → TcpSeqNumber → Recovery
 gone_on recovery.Open una = recovery.Open
-gone_on (recovery.Fast point) una = reached_by una (recovery.Fast point) point
+gone_on (recovery.Fast point high_rxt) una = reached_by una (recovery.Fast point high_rxt) point
 gone_on (recovery.Timeout point) una = reached_by una (recovery.Timeout point) point
 
 abbrev pub recovery_after : Before → View → Recovery
 recovery_after b w =
     if carries_data w.state
-    then (if begins b w then recovery.Fast w.remote_last_seq else gone_on b.recovery w.local_seq_no)
+    then (if begins b w then recovery.Fast w.remote_last_seq w.local_seq_no else gone_on b.recovery w.local_seq_no)
     else recovery.Open
 
 -- ---- the congestion controller
 
--- of a partial acknowledgement it hears that, and not that all was acknowledged
+-- of a partial acknowledgement it hears that, and not that all was acknowledged; of a duplicate that lets out a hole
+-- no more than the window, since the hole goes in place of new bytes
 abbrev pub controller_after : Before → View → Instant → AnyController
 controller_after b w now =
     if is_partial b w
     then partially_acked (with_remote_window b.controller w.remote_win_len) now (seq_sub w.local_seq_no b.una)
-    else (if is_grown b w then dup_acked w.congestion_controller now w.remote_mss (flight w)
-    else w.congestion_controller)
+    else (if lets_out b w then with_remote_window b.controller w.remote_win_len
+    else (if is_uncounted b w then dup_acked w.congestion_controller now w.remote_mss (flight w)
+    else w.congestion_controller))
 
 -- ---- the timer
 
@@ -196,6 +257,7 @@ recovered b w now =
       local_rx_dup_acks = duplicates_after b w;
       congestion_controller = controller_after b w now;
       recovery = recovery_after b w;
+      sacked = sacked_after b w;
     }
 
 -- in LAST-ACK a segment that acknowledges nothing is not heard
@@ -228,11 +290,6 @@ begun_by rules.Rfc window queued now keep e =
 
 -- ---- the retransmission timer is over (RFC 6582, section 4): what was sent until now is to be acknowledged before
 -- duplicates count again
-
-abbrev pub highest_of : Recovery → TcpSeqNumber → TcpSeqNumber
-highest_of recovery.Open nxt = nxt
-highest_of (recovery.Fast point) nxt = later_of nxt point
-highest_of (recovery.Timeout point) nxt = later_of nxt point
 
 abbrev pub timed_out_by : Rules → Recovery → TcpSeqNumber → Recovery
 timed_out_by rules.Smoltcp r nxt = r
