@@ -8,6 +8,7 @@ use crate::slot::Slot;
 use host_context::Seeded;
 use pcap::stream::{Format, HEADER, LONGEST, PcapError, RECORD, Record, stream_header};
 use smoltcp_socket::storage::{PacketBuffer, RingBuffer};
+use smoltcp_socket::time::Duration;
 use smoltcp_socket::wire::{IpListenEndpoint, Ipv4Address};
 use smoltcp_socket::{tcp, udp};
 use std::alloc::Global;
@@ -18,6 +19,9 @@ const SOCKETS: usize = 32;
 
 // The size of each buffer of a TCP socket, in bytes.
 const BUFFER: usize = 65536;
+
+// The lowest retransmission timeout, as Linux's.
+const LEAST_TIMEOUT: Duration = Duration::from_millis(200);
 
 // The UDP port of the echo service (RFC 862).
 const ECHO: IpListenEndpoint = IpListenEndpoint {
@@ -65,7 +69,10 @@ fn with_buffers<R: Read, W: Write>(
         if rx.len() != BUFFER || tx.len() != BUFFER {
             break;
         }
-        let socket = tcp::Socket::new(RingBuffer::new(rx), RingBuffer::new(tx));
+        let mut socket = tcp::Socket::new(RingBuffer::new(rx), RingBuffer::new(tx));
+        // for peers that are not smoltcp, and a wire that loses
+        let _ = socket.set_rules(tcp::Rules::Rfc);
+        socket.set_min_rto(LEAST_TIMEOUT);
         if slots.push(Slot::new(alloc, socket)).is_err() {
             return Err(Fault::Memory);
         }
