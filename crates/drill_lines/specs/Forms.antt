@@ -7,7 +7,7 @@ use Rattle.ip_wire.specs.declared.protocol.IpProtocol.{IpProtocol}
 use Rattle.ip_wire.specs.declared.protocol.IpVersion.{IpVersion}
 use Rattle.ip_wire.specs.Protocol.{protocol_of as protocol_numbered}
 use Rattle.sock_dgram.specs.declared.icmp.endpoint.Endpoint.TheVariants as messages
-use Rattle.sock_pair.specs.ScriptWords.{Word, number_of, switch_of, is_text, one_of, two_of, three_of, five_of}
+use Rattle.sock_pair.specs.ScriptWords.{Word, number_of, switch_of, is_text, rules_of, one_of, two_of, three_of, five_of}
 use Rattle.sock_pair.specs.declared.script.error.ScriptError.{ScriptError}
 use Rattle.sock_pair.specs.declared.script.error.ScriptError.TheVariants as fault
 use Rattle.drill_lines.specs.declared.request.Bytes.{Bytes}
@@ -37,7 +37,7 @@ use Rattle.drill_lines.specs.Requests.{plain, switch, counted, optional, bytes}
 use Rattle.drill_lines.specs.Requests.{listen, bind, congestion, rules, checksums, ends}
 use Rattle.drill_lines.specs.Requests.{take as taken, state, poll, example, make}
 use Rattle.drill_lines.specs.Requests.{clock, word, call, deliver, line, expect}
-use Rattle.drill_lines.specs.Words.{checksum_of, congestion_of, rules_of, version_of}
+use Rattle.drill_lines.specs.Words.{checksum_of, congestion_of, version_of}
 
 -- the largest number of such a line
 abbrev pub most_of : Counted → ℕ

@@ -4,8 +4,6 @@ use Rattle.ip_wire.specs.declared.protocol.IpVersion.{IpVersion}
 use Rattle.ip_wire.specs.declared.protocol.IpVersion.TheVariants as version
 use Rattle.ip_wire.specs.declared.checksum.Checksum.{Checksum}
 use Rattle.ip_wire.specs.declared.checksum.Checksum.TheVariants as checksum
-use Rattle.sock_tcp.specs.declared.rules.Rules.{Rules}
-use Rattle.sock_tcp.specs.declared.rules.Rules.TheVariants as rules
 use Rattle.sock_tcp.specs.declared.settings.CongestionControl.{CongestionControl}
 use Rattle.sock_tcp.specs.declared.settings.CongestionControl.TheVariants as congestion
 use Rattle.sock_pair.specs.ScriptWords.{Word}
@@ -22,12 +20,6 @@ unfoldable pub congestion_of : Word → Option CongestionControl
 congestion_of word =
     if bytes_eq word (codes "reno") then Some congestion.Reno
     else (if bytes_eq word (codes "none") then Some congestion.None else None)
-
--- `rfc` or `smoltcp`
-unfoldable pub rules_of : Word → Option Rules
-rules_of word =
-    if bytes_eq word (codes "rfc") then Some rules.Rfc
-    else (if bytes_eq word (codes "smoltcp") then Some rules.Smoltcp else None)
 
 -- `both`, `rx`, `tx` or `none`
 unfoldable pub checksum_of : Word → Option Checksum

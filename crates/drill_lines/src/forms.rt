@@ -11,7 +11,7 @@ ghost use Rattle.drill_lines.specs.Names.{is_free_in, words_in};
 ghost use Rattle.drill_lines.specs.Reads.{Reads, or_word};
 ghost use Rattle.drill_lines.specs.Requests.{call_value, request_value};
 ghost use Rattle.drill_lines.specs.Shapes.{form_of};
-ghost use Rattle.drill_lines.specs.Words.{checksum_of, congestion_of, rules_of, version_of};
+ghost use Rattle.drill_lines.specs.Words.{checksum_of, congestion_of, version_of};
 ghost use Rattle.sock_pair.specs.ScriptText.{words_of};
 ghost use Rattle.sock_pair.specs.ScriptWords.{number_of};
 
@@ -24,10 +24,10 @@ use crate::shapes::Form;
 use crate::wrong::{Read, Wrong, counted, meant};
 use ip_wire::{Checksum, IpProtocol, IpVersion};
 use smoltcp_socket::icmp;
-use smoltcp_socket::tcp::{CongestionControl, Rules};
+use smoltcp_socket::tcp::CongestionControl;
 use sock_pair::script::ScriptError;
 use sock_pair::script::lines::Line;
-use sock_pair::script::values::{is_text, number, switch};
+use sock_pair::script::values::{is_text, number, rules, switch};
 use sock_pair::script::words::{five_words, one_word, split_word, three_words, two_words};
 
 /// The largest moment, in milliseconds.
@@ -401,17 +401,6 @@ fn behind<'t>(word: &'t [u8], beginning: &[u8]) -> Option<&'t [u8]>
     ensures { option_copied result ≡ behind beginning.now word.now }
 {
     word.strip_prefix(beginning)
-}
-
-#[tactic(auto, unfolding(crate::specs::Words::rules_of))]
-fn rules(word: &[u8]) -> Option<Rules>
-    ensures { result ≡ rules_of word.now }
-{
-    match word {
-        word if word == b"rfc".as_slice() => Some(Rules::Rfc),
-        word if word == b"smoltcp".as_slice() => Some(Rules::Smoltcp),
-        _ => None,
-    }
 }
 
 #[tactic(auto, unfolding(crate::specs::Words::congestion_of))]

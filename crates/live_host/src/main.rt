@@ -1,7 +1,8 @@
 //! An IP host on a stream of packets: it reads packets as a pcap stream and writes its own as another. The time is
 //! that of the records, so it needs neither a clock nor a device, and a recorded session can be replayed.
 //!
-//! `live_host ADDRESS [SEED]`: its IPv4 address, and what its initial sequence numbers are made of.
+//! `live_host ADDRESS [SEED [RULES]]`: its IPv4 address, what its initial sequence numbers are made of, and the rules of
+//! its TCP sockets.
 #![tactic(auto)]
 
 mod fault;
@@ -19,6 +20,7 @@ mod slot;
 use crate::fault::Fault;
 use crate::host::Counts;
 use crate::run::{Setup, run};
+use smoltcp_socket::tcp::Rules;
 use smoltcp_socket::wire::Ipv4Address;
 use std::io::BufReader;
 use std::process::ExitCode;
@@ -26,14 +28,16 @@ use std::{env, io};
 
 // What `--help` prints.
 const HELP: &str = "\
-usage: live_host ADDRESS [SEED]
+usage: live_host ADDRESS [SEED [RULES]]
 
 Is a host of this IPv4 address, as 10.9.0.2, and of the IPv6 address fd00::
 that ends in it. Reads the packets that come to it as a pcap stream (raw IP)
 on standard input, and writes its own as another on standard output.
 
-SEED  what its initial sequence numbers are made of: 0 to 2^64 - 1, 1 where
-      it is left out
+SEED   what its initial sequence numbers are made of: 0 to 2^64 - 1, 1 where
+       it is left out
+RULES  rfc, for peers that are not smoltcp and a wire that loses, or smoltcp,
+       which it is where it is left out
 ";
 
 fn main(rt: HostRuntime) -> ExitCode {
@@ -80,8 +84,8 @@ fn task_of(rt: &HostRuntime) -> Result<Task, Fault> {
         return Err(Fault::Memory);
     };
     let _program = args.next();
-    let (addr, seed, more) = (args.next(), args.next(), args.next());
-    if more.is_some() {
+    let (addr, seed, rules) = (args.next(), args.next(), args.next());
+    if args.next().is_some() {
         return Err(Fault::Usage);
     }
     if is_help(&addr) && seed.is_none() {
@@ -90,7 +94,7 @@ fn task_of(rt: &HostRuntime) -> Result<Task, Fault> {
     let Some(addr) = addr else {
         return Err(Fault::Usage);
     };
-    Ok(Task::Run(setup(addr.as_str(), seed)?))
+    Ok(Task::Run(setup(addr.as_str(), seed, rules)?))
 }
 
 fn is_help(word: &Option<String>) -> bool {
@@ -100,14 +104,26 @@ fn is_help(word: &Option<String>) -> bool {
     }
 }
 
-fn setup(addr: &str, seed: Option<String>) -> Result<Setup, Fault> {
+fn setup(addr: &str, seed: Option<String>, rules: Option<String>) -> Result<Setup, Fault> {
     let seed = match seed {
         None => Some(1),
         Some(text) => text.as_str().parse::<u64>().ok(),
     };
-    match (address(addr), seed) {
-        (Some(addr), Some(seed)) => Ok(Setup { addr, seed }),
+    let rules = match rules {
+        None => Some(Rules::Smoltcp),
+        Some(word) => rules_of(word.as_str()),
+    };
+    match (address(addr), seed, rules) {
+        (Some(addr), Some(seed), Some(rules)) => Ok(Setup { addr, seed, rules }),
         _ => Err(Fault::Usage),
+    }
+}
+
+fn rules_of(word: &str) -> Option<Rules> {
+    match word {
+        "rfc" => Some(Rules::Rfc),
+        "smoltcp" => Some(Rules::Smoltcp),
+        _ => None,
     }
 }
 

@@ -8,6 +8,8 @@ use crate::slot::Slot;
 use host_context::Seeded;
 use pcap::stream::{Format, HEADER, LONGEST, PcapError, RECORD, Record, stream_header};
 use smoltcp_socket::storage::{PacketBuffer, RingBuffer};
+use smoltcp_socket::tcp::Rules;
+use smoltcp_socket::time::Duration;
 use smoltcp_socket::wire::{IpListenEndpoint, Ipv4Address};
 use smoltcp_socket::{tcp, udp};
 use std::alloc::Global;
@@ -19,19 +21,24 @@ const SOCKETS: usize = 32;
 // The size of each buffer of a TCP socket, in bytes.
 const BUFFER: usize = 65536;
 
+// The lowest retransmission timeout by the RFCs' rules, as Linux's.
+const LEAST_TIMEOUT: Duration = Duration { micros: 200_000 };
+
 // The UDP port of the echo service (RFC 862).
 const ECHO: IpListenEndpoint = IpListenEndpoint {
     addr: None,
     port: 7,
 };
 
-/// The host's address, and what its random words are made of.
+/// The host's address, what its random words are made of, and the rules of its sockets.
 #[derive(Debug, Clone, Copy)]
 pub struct Setup {
     /// The IPv4 address; the IPv6 address ends in it.
     pub addr: Ipv4Address,
     /// The seed.
     pub seed: u64,
+    /// The rules of each TCP socket.
+    pub rules: Rules,
 }
 
 /// Runs a host until its input ends.
@@ -65,7 +72,11 @@ fn with_buffers<R: Read, W: Write>(
         if rx.len() != BUFFER || tx.len() != BUFFER {
             break;
         }
-        let socket = tcp::Socket::new(RingBuffer::new(rx), RingBuffer::new(tx));
+        let mut socket = tcp::Socket::new(RingBuffer::new(rx), RingBuffer::new(tx));
+        if setup.rules == Rules::Rfc {
+            let _ = socket.set_rules(Rules::Rfc);
+            socket.set_min_rto(LEAST_TIMEOUT);
+        }
         if slots.push(Slot::new(alloc, socket)).is_err() {
             return Err(Fault::Memory);
         }

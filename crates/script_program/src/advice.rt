@@ -2,7 +2,7 @@
 
 use sock_pair::script::ScriptError;
 use sock_pair::script::lines::{Line, Lines};
-use sock_pair::script::values::{is_text, limit, number, side, switch};
+use sock_pair::script::values::{is_text, limit, number, rules, side, switch};
 use sock_pair::script::words::split_word;
 use std::fmt;
 
@@ -11,6 +11,7 @@ use std::fmt;
 enum Form {
     Side,
     Switch,
+    Rules,
     Limit,
     Text,
     Number(usize),
@@ -29,6 +30,7 @@ impl Form {
         match self {
             Form::Side => side(word).is_some(),
             Form::Switch => switch(word).is_some(),
+            Form::Rules => rules(word).is_some(),
             Form::Limit => limit(word).is_some(),
             Form::Text => is_text(word),
             Form::Number(most) => number(word, most).is_some(),
@@ -41,6 +43,7 @@ impl fmt::Display for Form {
         match self {
             Form::Side => f.write_str("a or b"),
             Form::Switch => f.write_str("on or off"),
+            Form::Rules => f.write_str("rfc or smoltcp"),
             Form::Limit => f.write_str("-, or 1 to 10 digits that write at most 536870911"),
             Form::Text => f.write_str("printable ASCII characters"),
             Form::Number(most) => write!(f, "1 to 10 digits that write at most {most}"),
@@ -66,6 +69,7 @@ const EVENTS: &[Shape] = &[
     Shape("close", "S", &[Form::Side]),
     Shape("abort", "S", &[Form::Side]),
     Shape("nagle", "S on, or nagle S off", &[Form::Side, Form::Switch]),
+    Shape("rules", "S rfc, or rules S smoltcp", &[Form::Side, Form::Rules]),
     Shape("dispatch", "S MS", &[Form::Side, MILLIS]),
     Shape("fail", "S MS", &[Form::Side, MILLIS]),
     Shape("gone", "S MS", &[Form::Side, MILLIS]),

@@ -44,7 +44,7 @@ const TEXTS: &[(&str, &str)] = &[
     ),
     (
         "pair 1 1 1 1 -\nj\"p a",
-        "word 1 is \"j\\\"p\"; right is one of: listen connect send recv close abort nagle dispatch fail gone deliver",
+        "word 1 is \"j\\\"p\"; right is one of: listen connect send recv close abort nagle rules dispatch fail gone deliver",
     ),
     ("pair 1 1 1 1 -\nclose", "right is: close S"),
     (

@@ -74,6 +74,39 @@ fn falls_asleep(
     Ok(())
 }
 
+// By the RFCs' rules of both sides a moment of its own wakes the side at the end of the lines.
+fn stays_awake(
+    rt: &(impl Abort),
+    pair: &mut Pair<'_>,
+    alloc: Global,
+    lines: (&str, &str),
+    side: Side,
+) -> Result<(), Fail> {
+    let text = format!(in alloc; "pair 1 1 1 1 -\nrules a rfc\nrules b rfc\n{}{}", lines.0, lines.1)?;
+    plays(pair, alloc, text.as_str())?;
+    let socket = pair.socket(side);
+    assert!(rt; socket.has_work() && socket.poll_at(&at(1000)) != PollAt::Ingress);
+    Ok(())
+}
+
+// RFC 6298, rule 5.1; RFC 9293, section 3.8.6.1.
+#[test]
+fn no_stall_sleeps_by_the_rules_of_the_rfcs(rt: HostRuntime) -> Result<(), Fail> {
+    let stalls = [
+        (64, OPENING, FIN, Side::B),
+        (4, OPENING, WINDOW, Side::A),
+        (8, OPENING, PROBE, Side::A),
+        (64, "", SYN, Side::A),
+        (4, OPENING, LAST_ACK, Side::A),
+    ];
+    for (window, opening, lines, side) in stalls {
+        let mut room = Room::new();
+        let mut pair = room.narrow_pair(rt.alloc(), window);
+        stays_awake(&rt, &mut pair, rt.alloc(), (opening, lines), side)?;
+    }
+    Ok(())
+}
+
 fn second() -> Interval {
     Interval::new(Some(Duration::from_secs(1)))
 }

@@ -7,7 +7,7 @@ use Rattle.sock_core.specs.Estimator.{Estimator}
 use Rattle.sock_core.specs.Reno.{RenoNumbers}
 use Rattle.sock_core.specs.declared.congestion.AnyController.{AnyController}
 use Rattle.sock_core.specs.declared.congestion.AnyController.TheVariants as controller
-use Rattle.sock_core.specs.Congestion.{bounded, growth, halved, reno_gains, reno_acked, reno_on_ack, reno_dup_acked, reno_lost, reno_timed_out, reno_with_mss, reno_with_remote_window, acked, Call, SetRemoteWindow, OnAck, OnDupAck, OnRto, OnLoss, SetMss, after_calls, AcksNothing, KeepsThreshold}
+use Rattle.sock_core.specs.Congestion.{bounded, growth, halved, reno_grows, reno_acked, reno_on_ack, reno_dup_acked, reno_lost, reno_timed_out, reno_with_mss, reno_with_remote_window, acked, Call, SetRemoteWindow, OnAck, OnDupAck, OnRto, OnLoss, SetMss, after_calls, AcksNothing, KeepsThreshold}
 
 pub nothing_acked : (c : AnyController) (now : Instant) (flight : ℕ) (rtte : Estimator) → acked c now 0 flight rtte ≡ c
 unfolding acked reno_on_ack reno_acked
@@ -61,6 +61,6 @@ holds_a_segment r n some low = new_data (n == 0) refl
     gained true = low
     gained false = omega arith
 
-    new_data : (b : Bool) → (n == 0) ≡ b → r.mss ≤ (cond b r (reno_gains r n)).cwnd
+    new_data : (b : Bool) → (n == 0) ≡ b → r.mss ≤ (cond b r (reno_grows r (growth r n))).cwnd
     new_data true e = absurd (grind (arith, nat_tests, e, some))
     new_data false e = gained r.in_recovery

@@ -1,6 +1,6 @@
 -- The congestion controllers: what each call leaves, as functions on numbers. Counts are bytes.
 use Rattle.std.specs.Prelude.{ℕ, ◌≡◌, ◌+◌, ◌-◌, ◌*◌, ◌/◌, ◌^◌, ◌==◌, nat_lt, max, min}
-use Rattle.std.specs.Prelude.{true, false, List, [], ◌∷◌, if◌then◌else◌}
+use Rattle.std.specs.Prelude.{Bool, true, false, List, [], ◌∷◌, if◌then◌else◌}
 use Rattle.net_base.specs.declared.time.Instant.{Instant}
 use Rattle.sock_core.specs.Estimator.{Estimator}
 use Rattle.sock_core.specs.Reno.{RenoNumbers}
@@ -32,21 +32,44 @@ bounded r n = max r.mss (min (capped n) r.rwnd)
 abbrev pub growth : RenoNumbers → ℕ → ℕ
 growth r n = if nat_lt r.cwnd r.ssthresh then min n r.mss else max 1 (capped (r.mss * r.mss) / max 1 r.cwnd)
 
+-- the same counted in bytes (RFC 3465): in slow start by at most two segments, or by one after a timeout, then by a
+-- segment in a window of bytes
+abbrev pub most_growth : RenoNumbers → Bool → ℕ
+most_growth r careful = if careful then r.mss else capped (r.mss * 2)
+
+abbrev pub growth_in_bytes : RenoNumbers → ℕ → Bool → ℕ
+growth_in_bytes r n careful =
+    if nat_lt r.cwnd r.ssthresh then min n (most_growth r careful)
+    else max 1 (capped (r.mss * min n r.cwnd) / max 1 r.cwnd)
+
+-- ten segments, but no more than 14600 bytes, or two segments where these are more (RFC 6928, section 2)
+abbrev pub initial_window : RenoNumbers → ℕ
+initial_window r = min (capped (r.mss * 10)) (max (capped (r.mss * 2)) 14600)
+
 -- half of what is in flight, and at least two segments
 abbrev pub halved : RenoNumbers → ℕ → ℕ
 halved r flight = max (flight / 2) (capped (r.mss * 2))
 
--- n bytes are acknowledged. This ends a time of timeouts and a fast recovery
-abbrev pub reno_gains : RenoNumbers → ℕ → RenoNumbers
-reno_gains r n =
+-- bytes are acknowledged, and open the window so far. This ends a time of timeouts and a fast recovery
+abbrev pub reno_grows : RenoNumbers → ℕ → RenoNumbers
+reno_grows r more =
     record r {
       in_timeout = false;
       in_recovery = false;
-      cwnd = if r.in_recovery then r.ssthresh else bounded r (r.cwnd + growth r n);
+      cwnd = if r.in_recovery then r.ssthresh else bounded r (r.cwnd + more);
     }
 
+-- n bytes are acknowledged
 unfoldable pub reno_acked : RenoNumbers → ℕ → RenoNumbers
-reno_acked r n = if n == 0 then r else reno_gains r n
+reno_acked r n = if n == 0 then r else reno_grows r (growth r n)
+
+-- the same counted in bytes
+unfoldable pub reno_counted : RenoNumbers → ℕ → Bool → RenoNumbers
+reno_counted r n careful = if n == 0 then r else reno_grows r (growth_in_bytes r n careful)
+
+-- a connection was opened
+unfoldable pub reno_opened : RenoNumbers → RenoNumbers
+reno_opened r = record r { cwnd = initial_window r }
 
 unfoldable pub reno_dup_acked : RenoNumbers → ℕ → RenoNumbers
 reno_dup_acked r n = if r.in_recovery then record r { cwnd = bounded r (r.cwnd + n) } else r
@@ -93,6 +116,9 @@ reno_on_ack r now len flight rtte = reno_acked r len
 unfoldable pub reno_on_partial_ack : RenoNumbers → Instant → ℕ → RenoNumbers
 reno_on_partial_ack r now len = reno_partially_acked r len
 
+unfoldable pub reno_on_bytes_acked : RenoNumbers → Instant → ℕ → Bool → RenoNumbers
+reno_on_bytes_acked r now len careful = reno_counted r len careful
+
 unfoldable pub reno_on_dup_ack : RenoNumbers → Instant → ℕ → ℕ → RenoNumbers
 reno_on_dup_ack r now len flight = reno_dup_acked r len
 
@@ -123,6 +149,14 @@ acked (controller.Reno r) now len flight rtte = controller.Reno (reno_on_ack r n
 unfoldable pub partially_acked : AnyController → Instant → ℕ → AnyController
 partially_acked (controller.None n) now len = controller.None n
 partially_acked (controller.Reno r) now len = controller.Reno (reno_on_partial_ack r now len)
+
+unfoldable pub bytes_acked : AnyController → Instant → ℕ → Bool → AnyController
+bytes_acked (controller.None n) now len careful = controller.None n
+bytes_acked (controller.Reno r) now len careful = controller.Reno (reno_on_bytes_acked r now len careful)
+
+unfoldable pub opened : AnyController → AnyController
+opened (controller.None n) = controller.None n
+opened (controller.Reno r) = controller.Reno (reno_opened r)
 
 unfoldable pub dup_acked : AnyController → Instant → ℕ → ℕ → AnyController
 dup_acked (controller.None n) now len flight = controller.None n

@@ -1,25 +1,22 @@
 //! Congestion control: how many bytes may be in flight (RFC 5681). As smoltcp's Reno, or none.
-ghost use Rattle.std.specs.Prelude.{◌≡◌, ℕ, ◌-◌, ◌^◌, ◌<◌, ◌≤◌, List};
+ghost use Rattle.std.specs.Prelude.{◌≡◌, ℕ, ◌-◌, ◌^◌, ◌<◌, ◌≤◌, Bool, List};
 ghost use Rattle.sock_core.specs.Reno.{RenoNumbers};
-ghost use Rattle.sock_core.specs.Congestion.{fresh_reno, bounded, growth, halved, capped};
-ghost use Rattle.sock_core.specs.Congestion.{reno_acked, reno_on_ack, reno_on_dup_ack, reno_on_loss, reno_on_rto};
-ghost use Rattle.sock_core.specs.Congestion.{deflated, reno_on_partial_ack, reno_partially_acked};
-ghost use Rattle.sock_core.specs.Congestion.{reno_pre_transmit, reno_post_transmit, partially_acked};
-ghost use Rattle.sock_core.specs.Congestion.{reno_with_mss, reno_with_remote_window};
-ghost use Rattle.sock_core.specs.Congestion.{congestion_window, acked, dup_acked, lost, timed_out};
-ghost use Rattle.sock_core.specs.Congestion.{pre_transmitted, post_transmitted};
+ghost use Rattle.sock_core.specs.Congestion.{fresh_reno, reno_acked};
+ghost use Rattle.sock_core.specs.Congestion.{bytes_acked, congestion_window, acked, dup_acked, lost, opened, timed_out};
+ghost use Rattle.sock_core.specs.Congestion.{partially_acked, pre_transmitted, post_transmitted};
 ghost use Rattle.sock_core.specs.Estimator.{Estimator};
 ghost use Rattle.net_base.specs.declared.time.Instant.{Instant};
 ghost use Rattle.sock_core.specs.Congestion.{with_mss, with_remote_window, Call, AcksNothing, KeepsThreshold};
 
+pub use crate::reno::Reno;
 use crate::rtte::RttEstimator;
 use net_base::time::Instant;
-use std::marker::Model;
 
 /// Decides how many bytes may be in flight. Counts are bytes.
 ///
 /// What each call leaves depends on the controller as it was and on what the call is told, as in smoltcp's trait.
 pub trait Controller {
+    ghost use Rattle.std.specs.Prelude.{Bool};
     ghost use Rattle.net_base.specs.declared.time.Instant.{Instant};
     ghost use Rattle.sock_core.specs.Estimator.{Estimator};
 
@@ -31,6 +28,10 @@ pub trait Controller {
     ghost after_ack: { Self → Instant → ℕ → ℕ → Estimator → Self };
 
     ghost after_partial_ack: { Self → Instant → ℕ → Self };
+
+    ghost after_bytes_acked: { Self → Instant → ℕ → Bool → Self };
+
+    ghost after_open: { Self → Self };
 
     ghost after_dup_ack: { Self → Instant → ℕ → ℕ → Self };
 
@@ -61,6 +62,15 @@ pub trait Controller {
     fn on_partial_ack(&mut self, now: Instant, len: usize)
         ensures { self.new ≡ after_partial_ack self.old now len };
 
+    /// An acknowledgement of `len` new bytes came, and the window is to grow by bytes, not by acknowledgements (RFC
+    /// 3465). `careful` says that not all that was sent before a timeout is acknowledged yet.
+    fn on_bytes_acked(&mut self, now: Instant, len: usize, careful: bool)
+        ensures { self.new ≡ after_bytes_acked self.old now len careful };
+
+    /// A connection was opened: the initial window is that of RFC 6928.
+    fn open(&mut self)
+        ensures { self.new ≡ after_open self.old };
+
     /// A duplicate acknowledgement came, which tells that `len` bytes, a segment, left the network.
     fn on_dup_ack(&mut self, now: Instant, len: usize, in_flight: usize)
         ensures { self.new ≡ after_dup_ack self.old now len in_flight };
@@ -89,41 +99,6 @@ pub trait Controller {
 /// No congestion control: any number of bytes may be in flight.
 #[derive(Debug, Clone, Copy)]
 pub struct NoControl;
-
-/// Reno: slow start, congestion avoidance, fast retransmit and fast recovery (RFC 5681).
-#[derive(Debug, Clone, Copy)]
-pub struct Reno {
-    cwnd: usize,
-    mss: usize,
-    rwnd: usize,
-    ssthresh: usize,
-    in_timeout: bool,
-    in_recovery: bool,
-}
-
-impl Model for Reno {
-    ghost use Rattle.sock_core.specs.Reno.{RenoNumbers};
-
-    ghost Value = { RenoNumbers };
-
-    ghost view = { λ r. record {
-      cwnd = r.cwnd;
-      mss = r.mss;
-      rwnd = r.rwnd;
-      ssthresh = r.ssthresh;
-      in_timeout = r.in_timeout;
-      in_recovery = r.in_recovery;
-    } };
-
-    ghost inverse = { λ r. record {
-      cwnd = r.cwnd;
-      mss = r.mss;
-      rwnd = r.rwnd;
-      ssthresh = r.ssthresh;
-      in_timeout = r.in_timeout;
-      in_recovery = r.in_recovery;
-    } };
-}
 
 /// A controller of either kind.
 #[derive(Debug, Clone, Copy)]
@@ -158,174 +133,6 @@ pub fn window_holds_a_segment()
     ensures { (r : RenoNumbers) (n : ℕ) → 0 < n → r.mss ≤ r.ssthresh → r.mss ≤ (reno_acked r n).cwnd }
 {}
 
-impl Reno {
-    /// A window of 2048 bytes, segments of 1024, and no threshold yet.
-    pub fn new() -> Reno
-        ensures { result ≡ fresh_reno }
-    {
-        Reno {
-            cwnd: 2048,
-            mss: 1024,
-            rwnd: 65536,
-            ssthresh: usize::MAX,
-            in_timeout: false,
-            in_recovery: false,
-        }
-    }
-
-    /// The window, in bytes, at which slow start ends.
-    pub fn ssthresh(&self) -> usize
-        ensures { result ≡ self.now.ssthresh }
-    {
-        self.ssthresh
-    }
-
-    // At most the peer's window, and at least a segment.
-    fn bounded(&self, window: usize) -> usize
-        ensures { result ≡ bounded self.now window }
-    {
-        window.min(self.rwnd).max(self.mss)
-    }
-
-    // How far an acknowledgement of `len` bytes opens the window.
-    fn growth(&self, len: usize) -> usize
-        ensures { result ≡ growth self.now len }
-    {
-        if self.cwnd < self.ssthresh {
-            len.min(self.mss)
-        } else {
-            (self.mss.saturating_mul(self.mss) / self.cwnd.max(1)).max(1)
-        }
-    }
-
-    // Half of the bytes that are sent and not yet acknowledged, and at least two segments (RFC 5681, section 3.1).
-    fn halved(&self, in_flight: usize) -> usize
-        ensures { result ≡ halved self.now in_flight }
-    {
-        (in_flight / 2).max(self.mss.saturating_mul(2))
-    }
-
-    // The window of a fast recovery that goes on once `len` bytes are acknowledged (RFC 6582, section 3.2, step 3).
-    fn deflated(&self, len: usize) -> usize
-        ensures { result ≡ deflated self.now len }
-    {
-        let more = if len < self.mss { 0 } else { self.mss };
-        self.cwnd
-            .saturating_sub(len)
-            .saturating_add(more)
-            .max(self.mss)
-    }
-
-    // An acknowledgement of `len` bytes, but not of all that was sent before a loss.
-    #[tactic(auto, unfolding(crate::specs::Congestion::reno_partially_acked))]
-    fn gain_in_part(&mut self, len: usize)
-        ensures { self.new ≡ reno_partially_acked self.old len }
-    {
-        if self.in_recovery {
-            self.cwnd = self.deflated(len);
-        } else {
-            self.gain(len);
-        }
-    }
-
-    // An acknowledgement of `len` bytes ends a time of timeouts and a fast recovery.
-    #[tactic(auto, unfolding(crate::specs::Congestion::reno_acked))]
-    fn gain(&mut self, len: usize)
-        ensures { self.new ≡ reno_acked self.old len }
-    {
-        if len == 0 {
-            return;
-        }
-        self.cwnd = if self.in_recovery {
-            self.ssthresh
-        } else {
-            self.bounded(self.cwnd.saturating_add(self.growth(len)))
-        };
-        self.in_timeout = false;
-        self.in_recovery = false;
-    }
-}
-
-impl Controller for Reno {
-    ghost window_of = { λ r. r.cwnd };
-
-    ghost after_remote_window = { reno_with_remote_window };
-
-    ghost after_ack = { reno_on_ack };
-
-    ghost after_partial_ack = { reno_on_partial_ack };
-
-    ghost after_dup_ack = { reno_on_dup_ack };
-
-    ghost after_rto = { reno_on_rto };
-
-    ghost after_loss = { reno_on_loss };
-
-    ghost after_pre_transmit = { reno_pre_transmit };
-
-    ghost after_post_transmit = { reno_post_transmit };
-
-    ghost after_mss = { reno_with_mss };
-
-    fn window(&self) -> usize {
-        self.cwnd
-    }
-
-    fn set_remote_window(&mut self, remote_window: usize) {
-        self.rwnd = self.rwnd.max(remote_window);
-    }
-
-    #[tactic(auto, unfolding(crate::specs::Congestion::reno_on_ack))]
-    fn on_ack(&mut self, _now: Instant, len: usize, _in_flight: usize, _rtt: &RttEstimator) {
-        self.gain(len);
-    }
-
-    #[tactic(auto, unfolding(crate::specs::Congestion::reno_on_partial_ack))]
-    fn on_partial_ack(&mut self, _now: Instant, len: usize) {
-        self.gain_in_part(len);
-    }
-
-    #[tactic(auto, unfolding(crate::specs::Congestion::reno_on_dup_ack, crate::specs::Congestion::reno_dup_acked))]
-    fn on_dup_ack(&mut self, _now: Instant, len: usize, _in_flight: usize) {
-        if self.in_recovery {
-            self.cwnd = self.bounded(self.cwnd.saturating_add(len));
-        }
-    }
-
-    #[tactic(auto, unfolding(crate::specs::Congestion::reno_on_rto, crate::specs::Congestion::reno_timed_out))]
-    fn on_rto(&mut self, _now: Instant, in_flight: usize) {
-        if !self.in_timeout {
-            self.ssthresh = self.halved(in_flight);
-        }
-        self.cwnd = self.mss;
-        self.in_timeout = true;
-        self.in_recovery = false;
-    }
-
-    #[tactic(auto, unfolding(crate::specs::Congestion::reno_on_loss, crate::specs::Congestion::reno_lost))]
-    fn on_loss(&mut self, _now: Instant, in_flight: usize) {
-        if self.in_recovery {
-            return;
-        }
-        let ssthresh = self.halved(in_flight);
-        self.ssthresh = ssthresh;
-        self.cwnd = ssthresh
-            .min(self.rwnd)
-            .saturating_add(self.mss.saturating_mul(3));
-        self.in_recovery = true;
-    }
-
-    #[tactic(auto, unfolding(crate::specs::Congestion::reno_pre_transmit))]
-    fn pre_transmit(&mut self, _now: Instant) {}
-
-    #[tactic(auto, unfolding(crate::specs::Congestion::reno_post_transmit))]
-    fn post_transmit(&mut self, _now: Instant, _len: usize) {}
-
-    fn set_mss(&mut self, mss: usize) {
-        self.mss = mss;
-    }
-}
-
 impl Controller for NoControl {
     ghost window_of = { λ c. 2 ^ 64 - 1 };
 
@@ -334,6 +141,10 @@ impl Controller for NoControl {
     ghost after_ack = { λ c now len flight rtt. c };
 
     ghost after_partial_ack = { λ c now len. c };
+
+    ghost after_bytes_acked = { λ c now len careful. c };
+
+    ghost after_open = { λ c. c };
 
     ghost after_dup_ack = { λ c now len flight. c };
 
@@ -357,6 +168,10 @@ impl Controller for NoControl {
 
     fn on_partial_ack(&mut self, _now: Instant, _len: usize) {}
 
+    fn on_bytes_acked(&mut self, _now: Instant, _len: usize, _careful: bool) {}
+
+    fn open(&mut self) {}
+
     fn on_dup_ack(&mut self, _now: Instant, _len: usize, _in_flight: usize) {}
 
     fn on_rto(&mut self, _now: Instant, _in_flight: usize) {}
@@ -378,6 +193,10 @@ impl Controller for AnyController {
     ghost after_ack = { acked };
 
     ghost after_partial_ack = { partially_acked };
+
+    ghost after_bytes_acked = { bytes_acked };
+
+    ghost after_open = { opened };
 
     ghost after_dup_ack = { dup_acked };
 
@@ -419,6 +238,22 @@ impl Controller for AnyController {
         match self {
             AnyController::None(none) => none.on_partial_ack(now, len),
             AnyController::Reno(reno) => reno.on_partial_ack(now, len),
+        }
+    }
+
+    #[tactic(auto, unfolding(crate::specs::Congestion::bytes_acked))]
+    fn on_bytes_acked(&mut self, now: Instant, len: usize, careful: bool) {
+        match self {
+            AnyController::None(none) => none.on_bytes_acked(now, len, careful),
+            AnyController::Reno(reno) => reno.on_bytes_acked(now, len, careful),
+        }
+    }
+
+    #[tactic(auto, unfolding(crate::specs::Congestion::opened))]
+    fn open(&mut self) {
+        match self {
+            AnyController::None(none) => none.open(),
+            AnyController::Reno(reno) => reno.open(),
         }
     }
 

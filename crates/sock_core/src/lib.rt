@@ -7,6 +7,7 @@ pub mod context;
 pub mod places;
 pub mod ranges;
 pub mod receive_buffer;
+mod reno;
 pub mod rtte;
 pub mod seq;
 

@@ -8,13 +8,14 @@ use Rattle.sock_pair.specs.declared.script.keyword.Keyword.{Keyword}
 use Rattle.sock_pair.specs.declared.script.keyword.Keyword.TheVariants as keyword
 use Rattle.sock_pair.specs.declared.script.pair_line.PairLine.{PairLine}
 use Rattle.sock_pair.specs.declared.script.Script.{Script}
+use Rattle.sock_tcp.specs.declared.rules.Rules.{Rules}
 use Rattle.pair_core.specs.declared.setting.Setting.TheVariants as setting
 use Rattle.pair_core.specs.declared.side.Side.{Side}
 use Rattle.pair_core.specs.EventValue.{MomentValue, EventValue, listen, connect, close, abort, send_slice, recv_slice}
 use Rattle.pair_core.specs.EventValue.{set, dispatch, deliver, event_value}
 use Rattle.sock_pair.specs.ScriptText.{lines_left, lines_of, numbered_from}
 use Rattle.sock_pair.specs.ScriptWords.{Word, side_of, switch_of, number_of, limit_of, text_of, keyword_of, one_of}
-use Rattle.sock_pair.specs.ScriptWords.{two_of, three_of, five_of, one_and_text_of}
+use Rattle.sock_pair.specs.ScriptWords.{rules_of, two_of, three_of, five_of, one_and_text_of}
 
 -- the context at so many milliseconds, with this word and with the own address or without; the MTU is 1500
 abbrev pub moment_at : Bool → ℕ → ℕ → MomentValue
@@ -40,6 +41,10 @@ recv_event _ _ = None
 abbrev pub nagle_event : Option Side → Option Bool → Option EventValue
 nagle_event (Some side) (Some on) = Some (set side (setting.Nagle on))
 nagle_event _ _ = None
+
+abbrev pub rules_event : Option Side → Option Rules → Option EventValue
+rules_event (Some side) (Some x) = Some (set side (setting.Rules x))
+rules_event _ _ = None
 
 abbrev pub dispatch_event : Bool → Bool → Option Side → Option ℕ → Option EventValue
 dispatch_event has_address fail (Some side) (Some millis) =
@@ -85,6 +90,10 @@ unfoldable pub nagle_line : ℕ → List Word → Result EventValue ScriptError
 nagle_line n values =
     by_words n (λ (side, switch). nagle_event (side_of side) (switch_of switch)) (two_of values)
 
+unfoldable pub rules_line : ℕ → List Word → Result EventValue ScriptError
+rules_line n values =
+    by_words n (λ (side, word). rules_event (side_of side) (rules_of word)) (two_of values)
+
 unfoldable pub dispatch_line : Bool → Bool → ℕ → List Word → Result EventValue ScriptError
 dispatch_line has_address fail n values =
     by_words n (λ (side, millis). dispatch_event has_address fail (side_of side) (number_of 1000000000 millis))
@@ -107,6 +116,7 @@ values_mean n (Some keyword.Abort) values = abort_line n values
 values_mean n (Some keyword.Send) values = send_line n values
 values_mean n (Some keyword.Recv) values = recv_line n values
 values_mean n (Some keyword.Nagle) values = nagle_line n values
+values_mean n (Some keyword.Rules) values = rules_line n values
 values_mean n (Some keyword.Dispatch) values = dispatch_line true false n values
 values_mean n (Some keyword.Fail) values = dispatch_line true true n values
 values_mean n (Some keyword.Gone) values = dispatch_line false false n values

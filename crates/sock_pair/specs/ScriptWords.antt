@@ -5,6 +5,8 @@ use Rattle.std.specs.List.{list_all}
 use Rattle.std.specs.Char.{is_ascii_digit}
 use Rattle.pair_core.specs.declared.side.Side.{Side}
 use Rattle.pair_core.specs.declared.side.Side.TheVariants as side
+use Rattle.sock_tcp.specs.declared.rules.Rules.{Rules}
+use Rattle.sock_tcp.specs.declared.rules.Rules.TheVariants as rules
 use Rattle.sock_pair.specs.declared.script.keyword.Keyword.{Keyword}
 use Rattle.sock_pair.specs.declared.script.keyword.Keyword.TheVariants as keyword
 
@@ -22,6 +24,12 @@ unfoldable pub switch_of : Word → Option Bool
 switch_of word =
     if bytes_eq word (codes "on") then Some true
     else (if bytes_eq word (codes "off") then Some false else None)
+
+-- `rfc` or `smoltcp`
+unfoldable pub rules_of : Word → Option Rules
+rules_of word =
+    if bytes_eq word (codes "rfc") then Some rules.Rfc
+    else (if bytes_eq word (codes "smoltcp") then Some rules.Smoltcp else None)
 
 -- 1 to 10 decimal digits
 unfoldable pub is_number : Word → Bool
@@ -62,8 +70,8 @@ keyword_of =
     named
     ((codes "listen", keyword.Listen) ∷ (codes "connect", keyword.Connect) ∷ (codes "close", keyword.Close)
     ∷ (codes "abort", keyword.Abort) ∷ (codes "send", keyword.Send) ∷ (codes "recv", keyword.Recv)
-    ∷ (codes "nagle", keyword.Nagle) ∷ (codes "dispatch", keyword.Dispatch) ∷ (codes "fail", keyword.Fail)
-    ∷ (codes "gone", keyword.Gone) ∷ (codes "deliver", keyword.Deliver) ∷ [])
+    ∷ (codes "nagle", keyword.Nagle) ∷ (codes "rules", keyword.Rules) ∷ (codes "dispatch", keyword.Dispatch)
+    ∷ (codes "fail", keyword.Fail) ∷ (codes "gone", keyword.Gone) ∷ (codes "deliver", keyword.Deliver) ∷ [])
 
 -- the words, where there are just so many
 abbrev pub one_of : List Word → Option Word

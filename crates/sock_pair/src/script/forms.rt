@@ -4,12 +4,12 @@ ghost use Rattle.pair_core.specs.EventValue.{event_value, moment_value};
 ghost use Rattle.sock_pair.specs.ScriptText.{line_words, words_of};
 ghost use Rattle.sock_pair.specs.ScriptLines.{Gives, abort_line, close_line, connect_line, deliver_line};
 ghost use Rattle.sock_pair.specs.ScriptLines.{dispatch_line, event_of, listen_line, moment_at, nagle_line, recv_line};
-ghost use Rattle.sock_pair.specs.ScriptLines.{send_line};
+ghost use Rattle.sock_pair.specs.ScriptLines.{rules_line, send_line};
 
 use crate::script::error::ScriptError;
 use crate::script::keyword::Keyword;
 use crate::script::lines::Line;
-use crate::script::values::{is_text, number, side, switch};
+use crate::script::values::{is_text, number, rules, side, switch};
 use crate::script::words::{one_word, one_word_and_text, three_words, two_words};
 use net_base::time::Instant;
 use pair_core::{Event, Moment, Setting};
@@ -43,6 +43,7 @@ pub fn event(alloc: Global, line: &Line<'_>) -> Result<Event, ScriptError>
         Keyword::Send => send(alloc, number, line.values),
         Keyword::Recv => recv(number, line.values),
         Keyword::Nagle => nagle(number, line.values),
+        Keyword::Rules => set_rules(number, line.values),
         Keyword::Dispatch => dispatch(number, line.values, true, false),
         Keyword::Fail => dispatch(number, line.values, true, true),
         Keyword::Gone => dispatch(number, line.values, false, false),
@@ -138,6 +139,21 @@ fn nagle(line: usize, values: &[u8]) -> Result<Event, ScriptError>
         (Some(side), Some(on)) => Ok(Event::Set {
             side,
             setting: Setting::Nagle(on),
+        }),
+        _ => Err(ScriptError::BadWord { line }),
+    }
+}
+
+// `rules S rfc`, or `rules S smoltcp`
+#[tactic(auto, unfolding(crate::specs::ScriptLines::rules_line))]
+fn set_rules(line: usize, values: &[u8]) -> Result<Event, ScriptError>
+    ensures { Gives event_value (rules_line line (words_of values.now)) result }
+{
+    let (who, word) = two_words(values).ok_or(ScriptError::WrongNumberOfWords { line })?;
+    match (side(who), rules(word)) {
+        (Some(side), Some(rules)) => Ok(Event::Set {
+            side,
+            setting: Setting::Rules(rules),
         }),
         _ => Err(ScriptError::BadWord { line }),
     }

@@ -3,10 +3,12 @@ ghost use Rattle.std.specs.Prelude.{◌≡◌, ◌≤◌, ◌^◌, ◌<◌, ◌&
 ghost use Rattle.std.specs.Char.{is_ascii_digit};
 ghost use Rattle.std.specs.List.{list_all};
 ghost use Rattle.pair_core.specs.NetworkInvariant.{IsLimit};
-ghost use Rattle.sock_pair.specs.ScriptWords.{is_number, is_text, limit_of, number_of, side_of, switch_of, value_of};
+ghost use Rattle.sock_pair.specs.ScriptWords.{is_number, is_text, limit_of, number_of, rules_of, side_of, switch_of};
+ghost use Rattle.sock_pair.specs.ScriptWords.{value_of};
 
 use crate::script::lanes::{LANES, lanes_are_text};
 use pair_core::Side;
+use sock_tcp::Rules;
 
 /// `a` or `b`; none for any other word.
 #[tactic(auto, unfolding(crate::specs::ScriptWords::side_of))]
@@ -28,6 +30,18 @@ pub fn switch(word: &[u8]) -> Option<bool>
     match word {
         b"on" => Some(true),
         b"off" => Some(false),
+        _ => None,
+    }
+}
+
+/// The rules that a word names, `rfc` or `smoltcp`; none for any other word.
+#[tactic(auto, unfolding(crate::specs::ScriptWords::rules_of))]
+pub fn rules(word: &[u8]) -> Option<Rules>
+    ensures { result ≡ rules_of word.now }
+{
+    match word {
+        b"rfc" => Some(Rules::Rfc),
+        b"smoltcp" => Some(Rules::Smoltcp),
         _ => None,
     }
 }

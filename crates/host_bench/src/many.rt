@@ -1,0 +1,119 @@
+//! Many connections on one host, of which a few at a time ask and are answered.
+
+use crate::draw::{Digest, Draw};
+use crate::side::{CLIENT, Host, PACKET, SERVER, Side};
+use smoltcp_socket::time::Instant;
+use std::alloc::{AllocError, Global};
+
+// The size of each buffer.
+const BUFFER: usize = 1024;
+
+// At most so many connections.
+const MOST: usize = 20_000;
+
+// How many questions are asked in the whole job.
+const QUESTIONS: u32 = 200_000;
+
+// Every so many questions a connection is ended and opened anew.
+const ANEW: u32 = 200;
+
+// The port of the first client.
+const FIRST_PORT: u16 = 10_000;
+
+// At most so many packets go out at one moment.
+const PACKETS: u32 = 64;
+
+/// Opens so many connections between two hosts, and lets clients that are drawn at random ask and be answered.
+pub fn many(
+    alloc: Global,
+    sockets: usize,
+    share: u32,
+    draw: &mut Draw,
+) -> Result<Digest, AllocError> {
+    let count = sockets.clamp(1, MOST);
+    let mut bytes_a = vec![in alloc; 0u8; count * 2 * BUFFER]?;
+    let mut bytes_b = vec![in alloc; 0u8; count * 2 * BUFFER]?;
+    let client = Host::new(alloc, CLIENT, bytes_a.as_mut_slice(), BUFFER, count)?;
+    let server = Host::new(alloc, SERVER, bytes_b.as_mut_slice(), BUFFER, count)?;
+    let questions = share.min(1000) * (QUESTIONS / 1000);
+    Ok(run(client, server, count as u32, questions, draw))
+}
+
+fn run(
+    mut client: Side<'_>,
+    mut server: Side<'_>,
+    count: u32,
+    questions: u32,
+    draw: &mut Draw,
+) -> Digest {
+    let mut digest = Digest::new();
+    let mut now = 0;
+    for i in 0..count {
+        open(&mut client, &mut server, i, now);
+        now = now.wrapping_add(1);
+    }
+    for question in 0..questions {
+        let i = draw.below(count.max(1));
+        if question % ANEW == ANEW - 1 {
+            client.abort(i as usize);
+            exchange(&mut client, &mut server, now);
+            open(&mut client, &mut server, i, now);
+        }
+        ask(&mut client, &mut server, i as usize, now, draw, &mut digest);
+        now = now.wrapping_add(1);
+    }
+    digest.took(now);
+    digest
+}
+
+// The client connects to the server's socket of the same number.
+fn open(client: &mut Side<'_>, server: &mut Side<'_>, i: u32, now: u32) {
+    server.listen(i as usize);
+    client.connect(i as usize, FIRST_PORT.wrapping_add(i as u16));
+    exchange(client, server, now);
+}
+
+// A question of 20 to 500 bytes, and an answer of the same length.
+fn ask(
+    client: &mut Side<'_>,
+    server: &mut Side<'_>,
+    i: usize,
+    now: u32,
+    draw: &mut Draw,
+    digest: &mut Digest,
+) {
+    let text = [b'q'; 500];
+    let len = 20 + draw.below(481) as usize;
+    client.send(i, &text[..len.min(500)]);
+    exchange(client, server, now);
+    let came = server.read(i, digest).min(500);
+    server.send(i, &text[..came]);
+    exchange(client, server, now);
+    client.read(i, digest);
+}
+
+// What is due on both sides arrives, until nothing is.
+fn exchange(client: &mut Side<'_>, server: &mut Side<'_>, millis: u32) {
+    let now = Instant::from_micros(i64::from(millis) * 1000);
+    for _ in 0..PACKETS {
+        let went = pass(client, server, now);
+        let came = pass(server, client, now);
+        if !went && !came {
+            break;
+        }
+    }
+}
+
+// A packet that is due arrives, and so does what answers it; whether there was one.
+fn pass(from: &mut Side<'_>, to: &mut Side<'_>, now: Instant) -> bool {
+    let (mut packet, mut reply) = ([0u8; PACKET], [0u8; PACKET]);
+    let len = from.emit(now, &mut packet);
+    if len == 0 {
+        return false;
+    }
+    let answered = to.receive(now, &packet[..len.min(PACKET)], &mut reply);
+    if answered > 0 {
+        from.receive(now, &reply[..answered.min(PACKET)], &mut packet);
+    }
+    true
+}
