@@ -230,13 +230,20 @@ impl RttEstimator {
         }
     }
 
+    /// Whether a SYN was sent again, and nothing was measured since.
+    pub fn is_backed_off(&self) -> bool
+        ensures { result ≡ is_backed_off self.now }
+    {
+        self.smoothed.is_none() && self.rto > INITIAL_TIMEOUT
+    }
+
     /// Bytes begin to go out, once the SYN is acknowledged: where it was sent again, the timeout is three seconds,
     /// however long the SYN was waited for (RFC 6298, rule 5.7).
     #[tactic(auto, unfolding(crate::specs::Estimator::begun_anew))]
     pub fn begin_anew(&mut self)
         ensures { self.new ≡ begun_anew self.old }
     {
-        if self.smoothed.is_none() && self.rto > INITIAL_TIMEOUT {
+        if self.is_backed_off() {
             self.rto = TIMEOUT_AFTER_LOST_SYN;
             self.backoffs = 0;
         }

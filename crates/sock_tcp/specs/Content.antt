@@ -53,7 +53,7 @@ again_from high_rxt una = if is_before una high_rxt then seq_sub high_rxt una el
 
 -- the next hole to be sent again (RFC 6675, section 4, NextSeg)
 abbrev pub next_hole : Recovery → Scoreboard → TcpSeqNumber → Option Hole
-next_hole (recovery.Fast point high_rxt) k una = hole_behind k (again_from high_rxt una)
+next_hole (recovery.Fast point high_rxt resent_at) k una = hole_behind k (again_from high_rxt una)
 next_hole r k una = None
 
 abbrev pub hole_by : Rules → Recovery → Scoreboard → TcpSeqNumber → Option Hole

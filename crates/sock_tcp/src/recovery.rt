@@ -3,7 +3,7 @@
 ghost use Rattle.std.specs.Prelude.{◌≡◌, ◌≤◌, ◌<◌, ◌^◌, ◌&&◌, length};
 ghost use Rattle.control_wire.specs.Segment.{segment_of};
 ghost use Rattle.sock_core.specs.Bounds.{IsMoment};
-ghost use Rattle.sock_tcp.specs.Content.{next_hole};
+ghost use Rattle.sock_tcp.specs.Content.{again_from, next_hole};
 ghost use Rattle.sock_tcp.specs.Due.{flight};
 ghost use Rattle.sock_tcp.specs.Rfc.Recovery.{before_of, begins, begun_by, controller_after, duplicates_after};
 ghost use Rattle.sock_tcp.specs.Rfc.Recovery.{estimator_after};
@@ -13,6 +13,8 @@ ghost use Rattle.sock_tcp.specs.Rfc.Recovery.{is_counted, is_early, is_unheard, 
 ghost use Rattle.sock_tcp.specs.Rfc.Recovery.{recovery_after, repeats_by, resends, running, timed_out_by, timer_after};
 ghost use Rattle.sock_tcp.specs.Rfc.Recovery.{is_sent_again, is_telling, is_uncounted, lets_out, sacked_after};
 ghost use Rattle.sock_tcp.specs.Rfc.Recovery.{sacked_by, segments_out, sent_of, shows_hole, tells_loss, waited_for};
+ghost use Rattle.sock_tcp.specs.Rfc.Recovery.{again, again_by, before_it, is_lost_again, is_lost_in, is_timed_out};
+ghost use Rattle.sock_tcp.specs.Rfc.Recovery.{only_tells, told_of_bytes};
 ghost use Rattle.sock_tcp.specs.Sent.{resent_by};
 ghost use Rattle.sock_tcp.specs.Timers.{IsTimer};
 
@@ -39,6 +41,8 @@ pub enum Recovery {
         point: TcpSeqNumber,
         /// The number behind what was sent again since, HighRxt (RFC 6675, section 2).
         high_rxt: TcpSeqNumber,
+        /// The number behind all that was sent when SND.UNA moved last, or holes began to go out again.
+        resent_at: TcpSeqNumber,
     },
     /// The retransmission timer was over, and not all that was sent before that is acknowledged.
     Timeout {
@@ -97,6 +101,18 @@ fn gone_on_from(timer: Timer, now: Instant, rtte: &RttEstimator) -> Timer
     }
 }
 
+// Where a number stands from SND.UNA on, 0 where it is none behind it.
+fn offset_from(number: TcpSeqNumber, una: TcpSeqNumber) -> usize
+    ensures value { result ≡ again_from number una }
+    ensures small { result < 2 ^ 32 }
+{
+    if before(una, number) {
+        number.since(una)
+    } else {
+        0
+    }
+}
+
 impl Recovery {
     fn is_over(self) -> bool
         ensures { result ≡ is_over self }
@@ -136,12 +152,7 @@ impl Recovery {
     {
         match self {
             Recovery::Fast { high_rxt, .. } => {
-                let from = if before(una, high_rxt) {
-                    high_rxt.since(una)
-                } else {
-                    0
-                };
-                sacked.hole_behind(from)
+                sacked.hole_behind(offset_from(high_rxt, una))
             }
             _ => None,
         }
@@ -164,17 +175,64 @@ impl Recovery {
         self.next_hole(sacked, una).is_some() || sacked.is_blank() || !self.is_sent_again(una)
     }
 
+    // Whether the segment at SND.UNA was sent again, and lost again.
+    fn is_lost(self, sacked: &Scoreboard, una: TcpSeqNumber, mss: usize) -> bool
+        requires { mss ≤ 65535 }
+        ensures { result ≡ is_lost_in self sacked.now una mss }
+    {
+        match self {
+            Recovery::Fast {
+                high_rxt,
+                resent_at,
+                ..
+            } => {
+                before(una, high_rxt)
+                    && offset_from(resent_at, una) + 2 * mss < sacked.highest_told() as usize
+            }
+            _ => false,
+        }
+    }
+
+    // SND.UNA has moved, or a segment was lost again, or neither, with SND.UNA and SND.NXT there.
+    fn again(self, news: bool, lost: bool, una: TcpSeqNumber, next: TcpSeqNumber) -> Recovery
+        ensures { result ≡ again_by news lost self una next }
+    {
+        let resent_at = self.highest(next);
+        match (news, lost, self) {
+            (true, _, Recovery::Fast { point, high_rxt, .. }) => Recovery::Fast {
+                point,
+                high_rxt,
+                resent_at,
+            },
+            (false, true, Recovery::Fast { point, .. }) => Recovery::Fast {
+                point,
+                high_rxt: una,
+                resent_at,
+            },
+            _ => self,
+        }
+    }
+
+    fn is_timed_out(self) -> bool
+        ensures { result ≡ is_timed_out self }
+    {
+        matches!(self, Recovery::Timeout { .. })
+    }
+
     // A segment went out, with SND.NXT there: one that begins before that was sent again.
     pub(crate) fn resent(self, next: TcpSeqNumber, emitted: &Emitted) -> Recovery
         ensures { result ≡ resent_by self next emitted.now }
     {
         match self {
-            Recovery::Fast { point, high_rxt } if before(emitted.seq_number, next) => {
-                Recovery::Fast {
-                    point,
-                    high_rxt: later(high_rxt, emitted.end),
-                }
-            }
+            Recovery::Fast {
+                point,
+                high_rxt,
+                resent_at,
+            } if before(emitted.seq_number, next) => Recovery::Fast {
+                point,
+                high_rxt: later(high_rxt, emitted.end),
+                resent_at,
+            },
             _ => self,
         }
     }
@@ -286,15 +344,46 @@ impl Before {
         }
     }
 
-    // What is told anew, and acknowledges nothing, lets out the next hole.
-    fn lets_out(&self, after: &ControlBlock<'_>) -> bool
-        ensures { result ≡ lets_out self.now after.now }
+    // It tells something new, and acknowledges nothing.
+    fn only_tells(&self, after: &ControlBlock<'_>) -> bool
+        ensures { result ≡ only_tells self.now after.now }
     {
-        if !self.telling || self.is_news(after) {
+        self.telling && !self.is_news(after)
+    }
+
+    // The segment at SND.UNA was sent again, and lost again.
+    fn is_lost_again(&self, after: &ControlBlock<'_>) -> bool
+        ensures { result ≡ is_lost_again self.now after.now }
+    {
+        if !self.only_tells(after) {
             return false;
         }
         let sacked = self.sacked_after(after);
         self.recovery
+            .is_lost(&sacked, after.local_seq_no, after.remote_mss)
+    }
+
+    // The recovery as what is told next is measured, and from where holes go out again.
+    fn again(&self, after: &ControlBlock<'_>) -> Recovery
+        ensures { result ≡ again self.now after.now }
+    {
+        self.recovery.again(
+            self.is_news(after),
+            self.is_lost_again(after),
+            after.local_seq_no,
+            after.remote_last_seq,
+        )
+    }
+
+    // What is told anew, and acknowledges nothing, lets out the next hole.
+    fn lets_out(&self, after: &ControlBlock<'_>) -> bool
+        ensures { result ≡ lets_out self.now after.now }
+    {
+        if !self.only_tells(after) {
+            return false;
+        }
+        let sacked = self.sacked_after(after);
+        self.again(after)
             .next_hole(&sacked, after.local_seq_no)
             .is_some()
     }
@@ -302,13 +391,13 @@ impl Before {
     // A partial acknowledgement shows a hole that was not sent again.
     fn shows_hole(&self, after: &ControlBlock<'_>) -> bool
         ensures { result ≡ (is_partial self.now after.now
-            && shows_hole self.now.recovery (sacked_after self.now after.now) after.now.local_seq_no) }
+            && shows_hole (again self.now after.now) (sacked_after self.now after.now) after.now.local_seq_no) }
     {
         if !self.is_partial(after) {
             return false;
         }
         let sacked = self.sacked_after(after);
-        self.recovery.shows_hole(&sacked, after.local_seq_no)
+        self.again(after).shows_hole(&sacked, after.local_seq_no)
     }
 
     // A hole goes out again, or the segment at SND.UNA.
@@ -329,9 +418,10 @@ impl Before {
             return Recovery::Fast {
                 point: after.remote_last_seq,
                 high_rxt: after.local_seq_no,
+                resent_at: after.remote_last_seq,
             };
         }
-        self.recovery.gone_on(after.local_seq_no)
+        self.again(after).gone_on(after.local_seq_no)
     }
 
     fn duplicates_after(&self, after: &ControlBlock<'_>) -> u8
@@ -344,26 +434,59 @@ impl Before {
         }
     }
 
+    // Bytes begin to go out.
+    fn is_opened(&self, after: &ControlBlock<'_>) -> bool
+        ensures { result ≡ is_opened self.now after.now }
+    {
+        self.state.is_opening() && !after.state.is_opening()
+    }
+
+    // The controller as it was, with the window that came.
+    fn controller_before(&self, after: &ControlBlock<'_>) -> AnyController
+        ensures { result ≡ before_it self.now after.now }
+    {
+        let mut controller = self.controller;
+        controller.set_remote_window(after.remote_win_len);
+        controller
+    }
+
+    // The controller is told of the bytes that are acknowledged, or that the connection is open.
+    fn told_of_bytes(&self, after: &ControlBlock<'_>, now: Instant) -> AnyController
+        ensures { result ≡ told_of_bytes self.now after.now now }
+    {
+        let is_opened = self.is_opened(after);
+        if is_opened && !after.rtte.is_backed_off() {
+            let mut controller = after.congestion_controller;
+            controller.open();
+            return controller;
+        }
+        if self.is_news(after) && !is_opened {
+            let mut controller = self.controller_before(after);
+            let count = after.local_seq_no.since(self.una);
+            controller.on_bytes_acked(now, count, self.recovery.is_timed_out());
+            return controller;
+        }
+        after.congestion_controller
+    }
+
     // What the congestion controller is told.
     fn controller_after(&self, after: &ControlBlock<'_>, now: Instant) -> AnyController
         ensures { result ≡ controller_after self.now after.now now }
     {
         if self.is_partial(after) {
-            let mut controller = self.controller;
-            controller.set_remote_window(after.remote_win_len);
+            let mut controller = self.controller_before(after);
             controller.on_partial_ack(now, after.local_seq_no.since(self.una));
             return controller;
         }
         if self.lets_out(after) {
-            let mut controller = self.controller;
-            controller.set_remote_window(after.remote_win_len);
+            return self.controller_before(after);
+        }
+        if self.is_uncounted(after) {
+            let mut controller = after.congestion_controller;
+            controller.on_dup_ack(now, after.remote_mss, after.flight());
             return controller;
         }
-        let mut controller = after.congestion_controller;
-        if self.is_uncounted(after) {
-            controller.on_dup_ack(now, after.remote_mss, after.flight());
-        }
-        controller
+        self.told_of_bytes(after, now)
     }
 
     fn waited_for(&self, after: &ControlBlock<'_>, now: Instant) -> Timer
@@ -396,7 +519,7 @@ impl Before {
         ensures { result ≡ estimator_after self.now after.now }
     {
         let mut rtte = after.rtte;
-        if self.state.is_opening() && !after.state.is_opening() {
+        if self.is_opened(after) {
             rtte.begin_anew();
         }
         rtte

@@ -1,6 +1,7 @@
 //! The scoreboard of a sender: what the peer told by SACK that it has (RFC 2018, section 5; RFC 6675, section 4).
 ghost use Rattle.std.specs.Prelude.{◌≡◌, ◌<◌, ◌^◌, length};
 ghost use Rattle.control_wire.specs.Seq.{seq_sub};
+ghost use Rattle.sock_tcp.specs.Rfc.Scoreboard.{highest_told};
 ghost use Rattle.sock_tcp.specs.Rfc.Scoreboard.{added, all_told, any_news, block_from, block_moved, hole_behind};
 ghost use Rattle.sock_tcp.specs.Rfc.Scoreboard.{hole_between, hole_number, hole_size, hole_start, is_blank};
 ghost use Rattle.sock_tcp.specs.Rfc.Scoreboard.{is_credible, is_known, is_news_of, is_none, is_within, joined};
@@ -300,6 +301,14 @@ impl Scoreboard {
         let best = self.second.sooner(place, best);
         let best = self.third.sooner(place, best);
         self.oldest.sooner(place, best)
+    }
+
+    /// Where what was told ends, counted from SND.UNA, and 0 where nothing was.
+    pub fn highest_told(&self) -> u32
+        ensures { result ≡ highest_told self.now }
+    {
+        let newer = self.newest.end.max(self.second.end);
+        newer.max(self.third.end.max(self.oldest.end))
     }
 
     /// The first hole from a place on, counted from SND.UNA: bytes that the peer lacks, before some that it told

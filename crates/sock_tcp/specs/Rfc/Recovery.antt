@@ -1,7 +1,7 @@
 -- What the RFCs' rules do of loss, once a segment was heard as by either rules: recovery by SACK (RFC 6675) and by
 -- partial acknowledgements (RFC 6582), duplicates (RFC 5681, section 3.2; RFC 5827), and the retransmission timer (RFC
 -- 6298, section 5).
-use Rattle.std.specs.Prelude.{ℕ, nat_lt, nat_le, ◌+◌, length, max, min, Option, Some, None, is_some, Bool, true, false, not}
+use Rattle.std.specs.Prelude.{ℕ, nat_lt, nat_le, ◌+◌, ◌*◌, length, max, min, Option, Some, None, is_some, Bool, true, false, not}
 use Rattle.std.specs.Prelude.{◌==◌, ◌&&◌, ◌||◌, if◌then◌else◌}
 use Rattle.std.specs.Int.{div_ceil}
 use Rattle.net_base.specs.declared.time.Duration.{Duration}
@@ -11,14 +11,14 @@ use Rattle.control_wire.specs.Seq.{seq_eq, seq_sub}
 use Rattle.control_wire.specs.declared.seq_number.TcpSeqNumber.{TcpSeqNumber}
 use Rattle.control_wire.specs.declared.tcp.TcpControl.{TcpControl}
 use Rattle.control_wire.specs.declared.tcp.TcpControl.TheVariants as control
-use Rattle.sock_core.specs.Congestion.{dup_acked, partially_acked, with_remote_window}
-use Rattle.sock_core.specs.Estimator.{Estimator, begun_anew}
+use Rattle.sock_core.specs.Congestion.{bytes_acked, dup_acked, opened, partially_acked, with_remote_window}
+use Rattle.sock_core.specs.Estimator.{Estimator, begun_anew, is_backed_off}
 use Rattle.sock_core.specs.Seq.{is_before, later_of}
 use Rattle.sock_core.specs.declared.congestion.AnyController.{AnyController}
-use Rattle.sock_tcp.specs.Content.{carries_data, next_hole}
+use Rattle.sock_tcp.specs.Content.{again_from, carries_data, next_hole}
 use Rattle.sock_tcp.specs.Due.{flight, is_opening}
 use Rattle.sock_tcp.specs.Inside.{Outcome}
-use Rattle.sock_tcp.specs.Rfc.Scoreboard.{all_told, any_news, is_blank, moved, nothing_told}
+use Rattle.sock_tcp.specs.Rfc.Scoreboard.{all_told, any_news, highest_told, is_blank, moved, nothing_told}
 use Rattle.sock_tcp.specs.Steps.{is_duplicate}
 use Rattle.sock_tcp.specs.Timers.{idle_from, probe_from, retransmit_from}
 use Rattle.sock_tcp.specs.View.{View}
@@ -50,7 +50,7 @@ repeats_by (Some ack) v c n = is_bare_control c && is_duplicate v ack n false
 -- the highest number that was sent, and not before SND.NXT
 abbrev pub highest_of : Recovery → TcpSeqNumber → TcpSeqNumber
 highest_of recovery.Open nxt = nxt
-highest_of (recovery.Fast point high_rxt) nxt = later_of nxt point
+highest_of (recovery.Fast point high_rxt resent_at) nxt = later_of nxt point
 highest_of (recovery.Timeout point) nxt = later_of nxt point
 
 -- how many bytes behind SND.UNA were sent, whether SND.NXT went back or not
@@ -134,7 +134,7 @@ duplicates_after b w = if is_uncounted b w then min (b.duplicates + 1) 255 else 
 
 -- of new bytes, but not of all that was sent before a fast retransmission
 abbrev pub is_partial_in : Recovery → Bool → TcpSeqNumber → Bool
-is_partial_in (recovery.Fast point high_rxt) news una = news && is_before una point
+is_partial_in (recovery.Fast point high_rxt resent_at) news una = news && is_before una point
 is_partial_in _ news una = false
 
 abbrev pub is_partial : Before → View → Bool
@@ -163,23 +163,49 @@ has_hole r k una = is_some (next_hole r k una)
 
 -- the segment at SND.UNA was sent again in this recovery
 abbrev pub is_sent_again : Recovery → TcpSeqNumber → Bool
-is_sent_again (recovery.Fast point high_rxt) una = is_before una high_rxt
+is_sent_again (recovery.Fast point high_rxt resent_at) una = is_before una high_rxt
 is_sent_again _ una = false
 
 -- a partial acknowledgement shows the next hole, which may be at SND.UNA; without a word of SACK it is there
 abbrev pub shows_hole : Recovery → Scoreboard → TcpSeqNumber → Bool
 shows_hole r k una = has_hole r k una || (is_blank k || not (is_sent_again r una))
 
+-- it tells something new, and acknowledges nothing
+abbrev pub only_tells : Before → View → Bool
+only_tells b w = b.telling && not (is_news b w)
+
+-- the segment at SND.UNA was sent again, and lost again: more than two segments of what was sent behind it were told (as
+-- IsLost of RFC 6675, section 4, which is of what was sent once)
+abbrev pub is_lost_in : Recovery → Scoreboard → TcpSeqNumber → ℕ → Bool
+is_lost_in (recovery.Fast point high_rxt resent_at) k una mss =
+    is_before una high_rxt && nat_lt (again_from resent_at una + 2 * mss) (highest_told k)
+is_lost_in _ k una mss = false
+
+abbrev pub is_lost_again : Before → View → Bool
+is_lost_again b w = only_tells b w && is_lost_in b.recovery (sacked_after b w) w.local_seq_no w.remote_mss
+
+-- where SND.UNA has moved, what is told next is measured from now on; where a segment was lost again, holes go out
+-- again from SND.UNA on
+abbrev pub again_by : Bool → Bool → Recovery → TcpSeqNumber → TcpSeqNumber → Recovery
+again_by true lost (recovery.Fast point high_rxt resent_at) una nxt =
+    recovery.Fast point high_rxt (highest_of (recovery.Fast point high_rxt resent_at) nxt)
+again_by false true (recovery.Fast point high_rxt resent_at) una nxt =
+    recovery.Fast point una (highest_of (recovery.Fast point high_rxt resent_at) nxt)
+again_by _ _ r una nxt = r
+
+abbrev pub again : Before → View → Recovery
+again b w = again_by (is_news b w) (is_lost_again b w) b.recovery w.local_seq_no w.remote_last_seq
+
 -- what is told anew, and acknowledges nothing, lets out the next hole
 abbrev pub lets_out : Before → View → Bool
-lets_out b w = b.telling && (not (is_news b w) && has_hole b.recovery (sacked_after b w) w.local_seq_no)
+lets_out b w = only_tells b w && has_hole (again b w) (sacked_after b w) w.local_seq_no
 
 -- a hole goes out again, or the segment at SND.UNA: a recovery begins, or goes on
 abbrev pub resends : Before → View → Bool
 resends b w =
     begins b w
     || (may_resend w
-    && ((is_partial b w && shows_hole b.recovery (sacked_after b w) w.local_seq_no) || lets_out b w))
+    && ((is_partial b w && shows_hole (again b w) (sacked_after b w) w.local_seq_no) || lets_out b w))
 
 -- an acknowledgement of all that was sent before ends it
 abbrev pub reached_by : TcpSeqNumber → Recovery → TcpSeqNumber → Recovery
@@ -187,26 +213,53 @@ reached_by una r point = if is_before una point then r else recovery.Open
 
 abbrev pub gone_on : Recovery → TcpSeqNumber → Recovery
 gone_on recovery.Open una = recovery.Open
-gone_on (recovery.Fast point high_rxt) una = reached_by una (recovery.Fast point high_rxt) point
+gone_on (recovery.Fast point high_rxt resent_at) una =
+    reached_by una (recovery.Fast point high_rxt resent_at) point
 gone_on (recovery.Timeout point) una = reached_by una (recovery.Timeout point) point
 
 abbrev pub recovery_after : Before → View → Recovery
 recovery_after b w =
     if carries_data w.state
-    then (if begins b w then recovery.Fast w.remote_last_seq w.local_seq_no else gone_on b.recovery w.local_seq_no)
+    then (if begins b w then recovery.Fast w.remote_last_seq w.local_seq_no w.remote_last_seq
+    else gone_on (again b w) w.local_seq_no)
     else recovery.Open
 
 -- ---- the congestion controller
+
+-- bytes begin to go out: the SYN is acknowledged (RFC 6298, rule 5.7)
+abbrev pub is_opened : Before → View → Bool
+is_opened b w = is_opening b.state && not (is_opening w.state)
+
+-- the SYN was not sent again
+abbrev pub opens_well : Before → View → Bool
+opens_well b w = is_opened b w && not (is_backed_off w.rtte)
+
+-- not all that was sent before a timeout is acknowledged
+abbrev pub is_timed_out : Recovery → Bool
+is_timed_out (recovery.Timeout point) = true
+is_timed_out _ = false
+
+-- the controller as it was, with the window that came
+abbrev pub before_it : Before → View → AnyController
+before_it b w = with_remote_window b.controller w.remote_win_len
+
+-- of new bytes it hears how many they are (RFC 5681, section 3.1; RFC 3465), and at the opening, unless a SYN was lost,
+-- that it may send more (RFC 6928)
+abbrev pub told_of_bytes : Before → View → Instant → AnyController
+told_of_bytes b w now =
+    if opens_well b w then opened w.congestion_controller
+    else (if is_news b w && not (is_opened b w)
+    then bytes_acked (before_it b w) now (seq_sub w.local_seq_no b.una) (is_timed_out b.recovery)
+    else w.congestion_controller)
 
 -- of a partial acknowledgement it hears that, and not that all was acknowledged; of a duplicate that lets out a hole
 -- no more than the window, since the hole goes in place of new bytes
 abbrev pub controller_after : Before → View → Instant → AnyController
 controller_after b w now =
-    if is_partial b w
-    then partially_acked (with_remote_window b.controller w.remote_win_len) now (seq_sub w.local_seq_no b.una)
-    else (if lets_out b w then with_remote_window b.controller w.remote_win_len
+    if is_partial b w then partially_acked (before_it b w) now (seq_sub w.local_seq_no b.una)
+    else (if lets_out b w then before_it b w
     else (if is_uncounted b w then dup_acked w.congestion_controller now w.remote_mss (flight w)
-    else w.congestion_controller))
+    else told_of_bytes b w now))
 
 -- ---- the timer
 
@@ -239,10 +292,6 @@ waited_for b w now =
 
 abbrev pub timer_after : Before → View → Instant → Timer
 timer_after b w now = if has_timer w.state then waited_for b w now else w.timer
-
--- bytes begin to go out: the SYN is acknowledged (rule 5.7)
-abbrev pub is_opened : Before → View → Bool
-is_opened b w = is_opening b.state && not (is_opening w.state)
 
 abbrev pub estimator_after : Before → View → Estimator
 estimator_after b w = if is_opened b w then begun_anew w.rtte else w.rtte

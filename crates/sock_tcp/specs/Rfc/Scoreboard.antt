@@ -134,6 +134,10 @@ hole_between p e = if e == 0 then None else Some (record { start = p; end = e })
 abbrev pub hole_behind : Scoreboard → ℕ → Option Hole
 hole_behind k p = hole_between (untold k p) (next_told k (untold k p))
 
+-- where what was told ends, and 0 where nothing was
+abbrev pub highest_told : Scoreboard → ℕ
+highest_told k = max (max k.newest.end k.second.end) (max k.third.end k.oldest.end)
+
 -- ---- what goes out of it, of n bytes that are queued
 
 abbrev pub hole_start : Option Hole → ℕ → ℕ
