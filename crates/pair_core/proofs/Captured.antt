@@ -13,6 +13,7 @@ use Rattle.control_wire.specs.declared.tcp.TcpRepr.{TcpRepr}
 use Rattle.sock_core.specs.Facts.{Facts}
 use Rattle.sock_tcp.proofs.Lending.{lent_at_most}
 use Rattle.sock_tcp.specs.Queue.{IsLent}
+use Rattle.sock_tcp.specs.Rfc.Scoreboard.{hole_size}
 use Rattle.sock_tcp.specs.View.{View, fresh, moment_of}
 use Rattle.sock_tcp.specs.Begin.{before_emit, fast_retransmission_marked, retransmission_begun, peer_of}
 use Rattle.sock_tcp.specs.Opening.{renewed}
@@ -20,7 +21,8 @@ use Rattle.tcp_laws.proofs.Kept.{before_kept}
 use Rattle.ip_wire.specs.declared.address.IpAddress.{IpAddress}
 use Rattle.ip_wire.specs.declared.address.IpAddress.TheVariants as address
 use Rattle.sock_tcp.specs.Due.{congestion_left, effective_mss, ip_header_len, mtu_for, timestamp_room}
-use Rattle.sock_tcp.specs.Content.{Sending, asked, offset_of, is_probing, content, filled, emission_kind, of_kind, sent_as, carries_data, window_left, plain_segment}
+use Rattle.sock_tcp.proofs.Holes.{size_at_most}
+use Rattle.sock_tcp.specs.Content.{Sending, asked, hole_of, offset_of, is_probing, content, filled, emission_kind, of_kind, sent_as, carries_data, window_left, plain_segment}
 use Rattle.sock_core.specs.Emission.{Emits, EmitsAt}
 use Rattle.sock_tcp.specs.Outgoing.{packet_of}
 use Rattle.sock_tcp.specs.Sent.{left_by}
@@ -75,8 +77,11 @@ asked_len v t f long = go (carries_data v.state) v.pending_fast_retransmit (is_p
     m : effective_mss v t f ≤ f.mtu
     m = mss_len v t f long
 
-    go : (a b p : Bool) → (if a then (if b then effective_mss v t f else (if p then min 1 (effective_mss v t f) else min (min (window_left v) (effective_mss v t f)) (congestion_left v))) else 0) ≤ f.mtu
-    go true true p = m
+    few : hole_size (hole_of v) (length v.tx_buffer.bytes) (effective_mss v t f) ≤ effective_mss v t f
+    few = size_at_most (hole_of v) (length v.tx_buffer.bytes) (effective_mss v t f)
+
+    go : (a b p : Bool) → (if a then (if b then hole_size (hole_of v) (length v.tx_buffer.bytes) (effective_mss v t f) else (if p then min 1 (effective_mss v t f) else min (min (window_left v) (effective_mss v t f)) (congestion_left v))) else 0) ≤ f.mtu
+    go true true p = omega (arith, m, few)
     go true false true = omega (arith, m)
     go true false false = omega (arith, m)
     go false b p = omega arith

@@ -1,5 +1,5 @@
 -- What a dispatch emits may be sent, and ends where SND.NXT may move.
-use Rattle.std.proofs.Common.{◌≡◌, ℕ, ◌+◌, ◌-◌, ◌%◌, ◌^◌, ◌<◌, ◌≤◌, ◌⊎◌, Bool, true, false, cond, ◌&&◌, List, [], ◌++◌, length, take, drop, Option, Some, None, refl, sym, ap, subst, ◌∙◌, arith, inl, inr}
+use Rattle.std.proofs.Common.{◌≡◌, ℕ, ◌+◌, ◌-◌, ◌%◌, ◌^◌, ◌<◌, ◌≤◌, ◌⊎◌, Bool, true, false, cond, ◌&&◌, List, [], ◌++◌, length, take, drop, min, Option, Some, None, refl, sym, ap, subst, ◌∙◌, arith, inl, inr}
 use Rattle.std.specs.Prelude.{◌==◌, option_map, if◌then◌else◌}
 use Rattle.std.proofs.lemmas.Bool.{eqb-true}
 use Rattle.std.proofs.lemmas.List.{take-append-drop}
@@ -12,10 +12,12 @@ use Rattle.control_wire.specs.declared.tcp.TcpControl.{TcpControl}
 use Rattle.control_wire.specs.declared.tcp.TcpControl.TheVariants as control
 use Rattle.sock_core.specs.Facts.{Facts}
 use Rattle.sock_core.specs.Streams.{IsPrefix}
-use Rattle.sock_tcp.specs.Content.{Sending, asked, offset_of, is_probing, plain_segment, with_data, data_control, syn, syn_ack, filled, emission_kind, of_kind, sent_as, content}
+use Rattle.sock_tcp.specs.Content.{Sending, asked, hole_of, number_of, offset_of, is_probing, plain_segment, with_data, data_control, syn, syn_ack, filled, emission_kind, of_kind, sent_as, content}
 use Rattle.sock_tcp.specs.Due.{flight, is_closing}
+use Rattle.sock_tcp.proofs.Holes.{number_at, start_within}
 use Rattle.sock_tcp.proofs.Lending.{lent_at_most, lent_beginning}
 use Rattle.sock_tcp.specs.Queue.{IsLent}
+use Rattle.sock_tcp.specs.Rfc.Scoreboard.{hole_number, hole_start}
 use Rattle.sock_tcp.specs.Timers.{is_keep_alive_over}
 use Rattle.sock_tcp.specs.View.{View, moment_of}
 use Rattle.sock_tcp.specs.Window.{next_ack}
@@ -82,18 +84,18 @@ module _ (v : View) (released taken : ℕ) where
 
   module _ (b : HasSendingBounds (shown v)) (iss : HasIss (phase_of v.state)) where
     -- where a segment of data begins
-    offset_shows : (cond v.pending_fast_retransmit v.local_seq_no v.remote_last_seq).0 ≡ (v.local_seq_no.0 + offset_of v) % 2 ^ 32
+    offset_shows : (number_of v).0 ≡ (v.local_seq_no.0 + offset_of v) % 2 ^ 32
     offset_shows = go v.pending_fast_retransmit
       where
-        go : (m : Bool) → (cond m v.local_seq_no v.remote_last_seq).0 ≡ (v.local_seq_no.0 + cond m 0 (flight v)) % 2 ^ 32
-        go true = omega (arith, b.snd_una)
+        go : (m : Bool) → (cond m (hole_number (hole_of v) (length v.tx_buffer.bytes) v.local_seq_no) v.remote_last_seq).0 ≡ (v.local_seq_no.0 + cond m (hole_start (hole_of v) (length v.tx_buffer.bytes)) (flight v)) % 2 ^ 32
+        go true = number_at (hole_of v) (length v.tx_buffer.bytes) v.local_seq_no (omega (arith, b.snd_una))
         go false = omega (arith, b.snd_una, b.snd_nxt, b.flight_le, b.room)
 
     offset_le : offset_of v ≤ length v.tx_buffer.bytes + 1
     offset_le = go v.pending_fast_retransmit
       where
-        go : (m : Bool) → cond m 0 (flight v) ≤ length v.tx_buffer.bytes + 1
-        go true = omega arith
+        go : (m : Bool) → cond m (hole_start (hole_of v) (length v.tx_buffer.bytes)) (flight v) ≤ length v.tx_buffer.bytes + 1
+        go true = let i : hole_start (hole_of v) (length v.tx_buffer.bytes) ≤ min (length v.tx_buffer.bytes - 1) (2 ^ 30) = start_within (hole_of v) (length v.tx_buffer.bytes) in omega (arith, i)
         go false = omega (arith, b.snd_una, b.snd_nxt, b.flight_le, b.room)
 
     -- an acknowledgement is RCV.NXT
@@ -138,13 +140,13 @@ module _ (v : View) (released taken : ℕ) where
         (λ e. let no : true ≡ false = sym e ∙ c.syn in absurd cc)
         (offset_of v + length bytes + (if is_fin (data_control v (length bytes)) then 1 else 0))
         (reach_le (is_fin (data_control v (length bytes))) fin ole short)
-        (ap (λ n. ((cond v.pending_fast_retransmit v.local_seq_no v.remote_last_seq).0 + (length bytes + n)) % 2 ^ 32) c.len ∙ ends_at (if is_fin (data_control v (length bytes)) then 1 else 0) offset_shows)
+        (ap (λ n. ((number_of v).0 + (length bytes + n)) % 2 ^ 32) c.len ∙ ends_at (if is_fin (data_control v (length bytes)) then 1 else 0) offset_shows)
       where
         reach_le : (e : Bool) → (e ≡ true → (phase_of v.state ≡ FinQueued) × (offset_of v + length bytes ≡ length v.tx_buffer.bytes)) → offset_of v ≤ length v.tx_buffer.bytes + 1 → length bytes ≤ length v.tx_buffer.bytes - offset_of v → offset_of v + length bytes + (if e then 1 else 0) ≤ length v.tx_buffer.bytes + 1
         reach_le true fin ole short = omega (arith, (fin refl).1)
         reach_le false fin ole short = omega (arith, ole, short)
 
-        ends_at : (n : ℕ) → (cond v.pending_fast_retransmit v.local_seq_no v.remote_last_seq).0 ≡ (v.local_seq_no.0 + offset_of v) % 2 ^ 32 → ((cond v.pending_fast_retransmit v.local_seq_no v.remote_last_seq).0 + (length bytes + n)) % 2 ^ 32 ≡ (v.local_seq_no.0 + (offset_of v + length bytes + n)) % 2 ^ 32
+        ends_at : (n : ℕ) → (number_of v).0 ≡ (v.local_seq_no.0 + offset_of v) % 2 ^ 32 → ((number_of v).0 + (length bytes + n)) % 2 ^ 32 ≡ (v.local_seq_no.0 + (offset_of v + length bytes + n)) % 2 ^ 32
         ends_at n e = omega (arith, e)
 
     -- an acknowledgement at SND.NXT

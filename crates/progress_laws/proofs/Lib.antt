@@ -1,3 +1,4 @@
+pub mod Again
 pub mod Wakes
 pub mod Begins
 pub mod Stamped

@@ -30,6 +30,7 @@ use Rattle.tcp_laws.specs.Waking.{HasToSend}
 use Rattle.tcp_laws.proofs.OrderedCalls.{reached_ordered}
 use Rattle.tcp_laws.proofs.Probing.{IsProbing, ProbesIn, before_probing, reached_probing}
 use Rattle.tcp_laws.proofs.Repeating.{empty_parts}
+use Rattle.progress_laws.proofs.Again.{number_again}
 use Rattle.progress_laws.specs.Speech.{DispatchesOk, FromUna, IsPastTimer, KeepsAlive, Probes, Says, SendsOk, SpeaksPastItsTimers, SpeaksWithin, Speech}
 use Rattle.progress_laws.proofs.Lends.{marked_some, probe_byte}
 use Rattle.sock_tcp.specs.declared.rules.Rules.TheVariants as rules
@@ -59,7 +60,7 @@ front_number false una nxt (inr e) = e
 plain_kind : kind.Plain ≡ kind.KeepAlive → ⊥
 plain_kind e = cc
 
-module _ (v u : View) (p : Tuple) (f : Facts) (stamp : Option ℕ) (bytes : List ℕ) (una : u.local_seq_no ≡ v.local_seq_no) where
+module _ (v u : View) (p : Tuple) (f : Facts) (stamp : Option ℕ) (bytes : List ℕ) (una : u.local_seq_no ≡ v.local_seq_no) (ruled : u.rules ≡ rules.Smoltcp) where
   abbrev now : Instant
   now = moment_of f
 
@@ -71,7 +72,7 @@ module _ (v u : View) (p : Tuple) (f : Facts) (stamp : Option ℕ) (bytes : List
 
   front : AtFront u → 0 < segment_len b → Speech v (sent_as u p kind.Plain b)
   unfolding plain_segment
-  front at some = FromUna (λ e. absurd (plain_kind e)) (front_number u.pending_fast_retransmit u.local_seq_no u.remote_last_seq at ∙ una) some
+  front at some = FromUna (λ e. absurd (plain_kind e)) (number_again u ruled ∙ front_number u.pending_fast_retransmit u.local_seq_no u.remote_last_seq at ∙ una) some
 
   as_kind : (k : Kind) → emission_kind u now b ≡ k → Speech v (sent_as u p k b) → Speech v (sent_as u p (emission_kind u now b) b)
   as_kind k e h = subst (λ k. Speech v (sent_as u p k b)) (sym e) h
@@ -262,9 +263,9 @@ module _ (d : Duration) (t : Tuple) where
           by (inr e) = inr (still.nxt ∙ e ∙ sym still.same.una)
 
       sends : SendsOk f t u out w → Says v out
-      sends o = elim (says_or_ack v u t f o.stamp o.bytes still.same.una at_front (idle_quiet v at is f h)) [
+      sends o = elim (says_or_ack v u t f o.stamp o.bytes still.same.una (still.same.same_rules ∙ s.smoltcp) at_front (idle_quiet v at is f h)) [
         | inl h ↦ said f v u out w s k o still.same.state still.same.tx still.same.keep_alive still.same.same_rules h
-        | inr q ↦ elim (keeps_or_bytes v u t f o.stamp o.bytes still.same.una (idle_quiet v at is f h) (idle_over v at is f h)) [
+        | inr q ↦ elim (keeps_or_bytes v u t f o.stamp o.bytes still.same.una (still.same.same_rules ∙ s.smoltcp) (idle_quiet v at is f h) (idle_over v at is f h)) [
           | inl h ↦ said f v u out w s k o still.same.state still.same.tx still.same.keep_alive still.same.same_rules h
           | inr r ↦ absurd (omega (arith, q.1, r.1))
         ]
@@ -314,14 +315,14 @@ module _ (d : Duration) (t : Tuple) where
           let b = segment_for u t o.stamp o.bytes in
           let y : View = snd_nxt_moved (after_any u (moment_of f)) (emitted_as kind.Plain b) in
           let w_is : w ≡ y = left_plain f v u out w s k o still.same.state still.same.tx still.same.keep_alive still.same.same_rules e ∙ untimed u t (moment_of f) b none in
-          let number : b.seq_number ≡ u.local_seq_no = front_number u.pending_fast_retransmit u.local_seq_no u.remote_last_seq (inr refl) in
+          let number : b.seq_number ≡ u.local_seq_no = number_again u (still.same.same_rules ∙ s.smoltcp) ∙ front_number u.pending_fast_retransmit u.local_seq_no u.remote_last_seq (inr refl) in
           let here : seq_add b.seq_number (segment_len b) ≡ u.local_seq_no = ap₂ seq_add number none ∙ ap (λ m. record { 0 = m }) (omega (arith, small, ap (λ (m : TcpSeqNumber). m.0) still.same.una)) in
           next w (plain_says f v u out w s k o still.same.state still.same.tx still.same.keep_alive still.same.same_rules e)
           (ap (λ (z : View). z.timer) w_is ∙ ap (λ tm. keep_alive_renewed tm (moment_of f) x.keep_alive) kept ∙ ap (λ o. idle_from (moment_of f) o) (still.same.keep_alive ∙ s.keep_alive))
           (inr (ap (λ (z : View). z.remote_last_seq) w_is ∙ not_after_itself u.local_seq_no (seq_add b.seq_number (segment_len b)) here ∙ ap (λ (z : View). z.local_seq_no) (sym w_is)))
 
       sends : SendsOk f t u out w → Says v out ⊎ SpeaksWithin (suc n) w t
-      sends o = elim (says_or_ack v u t f o.stamp o.bytes still.same.una (inr refl) no_probing) [
+      sends o = elim (says_or_ack v u t f o.stamp o.bytes still.same.una (still.same.same_rules ∙ s.smoltcp) (inr refl) no_probing) [
         | inl h ↦ inl (said f v u out w s k o still.same.state still.same.tx still.same.keep_alive still.same.same_rules h)
         | inr q ↦ inr (acked o q.0 q.1)
       ]
@@ -344,7 +345,7 @@ module _ (d : Duration) (t : Tuple) where
       waited_for = ap (λ tm. keep_alive_renewed tm (moment_of f) u.keep_alive) (idle_at v at is f h) ∙ ap (λ o. idle_from (moment_of f) o) (still.same.keep_alive ∙ s.keep_alive)
 
       sends : SendsOk f t u out w → Says v out ⊎ SpeaksWithin (suc (suc n)) w t
-      sends o = elim (keeps_or_bytes v u t f o.stamp o.bytes still.same.una (idle_quiet v at is f h) (idle_over v at is f h)) [
+      sends o = elim (keeps_or_bytes v u t f o.stamp o.bytes still.same.una (still.same.same_rules ∙ s.smoltcp) (idle_quiet v at is f h) (idle_over v at is f h)) [
         | inl h ↦ inl (said f v u out w s k o still.same.state still.same.tx still.same.keep_alive still.same.same_rules h)
         | inr q ↦ inr (again_says n w (after (moment_of f) (rto_of u.rtte)) (plain_says f v u out w s k o still.same.state still.same.tx still.same.keep_alive still.same.same_rules q.0) (ap (λ (z : View). z.timer) (left_plain f v u out w s k o still.same.state still.same.tx still.same.keep_alive still.same.same_rules q.0) ∙ timed u t (moment_of f) (segment_for u t o.stamp o.bytes) q.1 ∙ ap (λ tm. retransmit_unless_set tm (moment_of f) u.rtte) waited_for))
       ]
@@ -373,7 +374,7 @@ module _ (d : Duration) (t : Tuple) where
       quiet e = front_says n w (after (moment_of f) d) (still_says d f v out w s k (ap (λ (y : View). y.state) e ∙ still.same.state) (ap (λ (y : View). y.tx_buffer) e ∙ still.same.tx) (ap (λ (y : View). y.keep_alive) e ∙ still.same.keep_alive) (ap (λ (y : View). y.rules) e ∙ still.same.same_rules)) (ap (λ (y : View). y.timer) e ∙ ap (λ o. idle_from (moment_of f) o) (still.same.keep_alive ∙ s.keep_alive)) (inl (ap (λ (y : View). y.pending_fast_retransmit) e))
 
       sends : (o : SendsOk f t u out w) → IsProbing u → Says v out
-      sends o i = elim (says_or_ack v u t f o.stamp o.bytes still.same.una (inl refl) no_probing) [
+      sends o i = elim (says_or_ack v u t f o.stamp o.bytes still.same.una (still.same.same_rules ∙ s.smoltcp) (inl refl) no_probing) [
         | inl h ↦ said f v u out w s k o still.same.state still.same.tx still.same.keep_alive still.same.same_rules h
         | inr q ↦ let some = marked_some u t f o.stamp o.bytes lawful.1.0 i.mss (ap carries_data still.same.state ∙ s.carries) o.lent refl (waits f v u out w s k o still.same.state still.same.tx still.same.keep_alive still.same.same_rules) in absurd (omega (arith, some, q.1))
       ]
@@ -408,7 +409,7 @@ module _ (d : Duration) (t : Tuple) where
       same_flight = ap₂ seq_sub still.nxt still.same.una
 
       probed : (o : SendsOk f t u out w) → u.pending_fast_retransmit ≡ false → (flight u < length u.tx_buffer.bytes → length o.bytes ≡ 1) → Speech v (sent_as u t kind.Probe (segment_for u t o.stamp o.bytes))
-      probed o m byte = Probes refl (ap (λ c. if c then u.local_seq_no else u.remote_last_seq) m ∙ still.nxt) (subst (λ q. q < length v.tx_buffer.bytes → length o.bytes ≡ 1) same_flight (subst (λ (q : Queue). flight u < length q.bytes → length o.bytes ≡ 1) still.same.tx byte))
+      probed o m byte = Probes refl (number_again u (still.same.same_rules ∙ s.smoltcp) ∙ ap (λ c. if c then u.local_seq_no else u.remote_last_seq) m ∙ still.nxt) (subst (λ q. q < length v.tx_buffer.bytes → length o.bytes ≡ 1) same_flight (subst (λ (q : Queue). flight u < length q.bytes → length o.bytes ≡ 1) still.same.tx byte))
 
       sends : (o : SendsOk f t u out w) → IsProbing u → Says v out
       sends o i = marked u.pending_fast_retransmit refl
@@ -417,14 +418,14 @@ module _ (d : Duration) (t : Tuple) where
           shut = let z : u.remote_win_len ≡ 0 = subst (λ tm. ProbesIn tm u.remote_win_len) probes i.window in eq-eqb (window_left u) 0 (omega (arith, z))
 
           marked : (m : Bool) → u.pending_fast_retransmit ≡ m → Says v out
-          marked true m = elim (says_or_ack v u t f o.stamp o.bytes still.same.una (inl m) (rw (carries_on, m) refl)) [
+          marked true m = elim (says_or_ack v u t f o.stamp o.bytes still.same.una (still.same.same_rules ∙ s.smoltcp) (inl m) (rw (carries_on, m) refl)) [
             | inl h ↦ said f v u out w s k o still.same.state still.same.tx still.same.keep_alive still.same.same_rules h
             | inr q ↦ let some = marked_some u t f o.stamp o.bytes lawful.1.0 i.mss carries_on o.lent m (waits f v u out w s k o still.same.state still.same.tx still.same.keep_alive still.same.same_rules) in absurd (omega (arith, some, q.1))
           ]
           marked false m =
               let probing : is_probing u (moment_of f) ≡ true = rw (carries_on, m, shut, over) refl in
               let b = segment_for u t o.stamp o.bytes in
-              said f v u out w s k o still.same.state still.same.tx still.same.keep_alive still.same.same_rules (as_kind v u t f o.stamp o.bytes still.same.una kind.Probe (rw probing refl) (probed o m (probe_byte u t f o.stamp o.bytes lawful.1.0 i.mss carries_on o.lent m probing)))
+              said f v u out w s k o still.same.state still.same.tx still.same.keep_alive still.same.same_rules (as_kind v u t f o.stamp o.bytes still.same.una (still.same.same_rules ∙ s.smoltcp) kind.Probe (rw probing refl) (probed o m (probe_byte u t f o.stamp o.bytes lawful.1.0 i.mss carries_on o.lent m probing)))
 
       by : Goes v t f h.on (carries_runs v.state v.synack_paused s.carries) out w → Says v out
       by (inl o) = sends (subst (λ y. SendsOk f t y out w) u_is o.0) (subst IsProbing (o.1 ∙ u_is) (before_probing f v (reached_probing v s.reached)))

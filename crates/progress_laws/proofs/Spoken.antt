@@ -1,5 +1,5 @@
 -- What a socket says, number by number, and what stays of it.
-use Rattle.std.proofs.Common.{◌≡◌, ℕ, zero, suc, ◌+◌, ◌/◌, min, ◌<◌, ◌≤◌, ◌^◌, Bool, true, false, refl, sym, ap, subst, ◌∙◌, List, length, take, drop, Some, arith}
+use Rattle.std.proofs.Common.{◌≡◌, ℕ, zero, suc, ◌+◌, ◌-◌, ◌/◌, ◌%◌, min, ◌<◌, ◌≤◌, ◌^◌, Bool, true, false, refl, sym, ap, subst, ◌∙◌, List, length, take, drop, Some, arith}
 use Rattle.std.specs.Prelude.{if◌then◌else◌, ◌==◌}
 use Rattle.std.proofs.lemmas.Bool.{eqb-true}
 use Rattle.std.proofs.lemmas.Option.{same_Some}
@@ -14,11 +14,13 @@ use Rattle.sock_core.specs.Estimator.{sent}
 use Rattle.sock_core.specs.Facts.{Facts}
 use Rattle.sock_tcp.proofs.Lending.{lent_at_most, lent_beginning}
 use Rattle.sock_tcp.specs.Begin.{after_timer, fast_retransmission_marked, readied, retransmission_begun}
-use Rattle.sock_tcp.specs.Content.{Sending, asked, carries_data, data_control, emission_kind, offset_of, plain_segment, sent_as}
+use Rattle.sock_tcp.specs.Content.{Sending, asked, carries_data, data_control, emission_kind, hole_of, offset_of, plain_segment, sent_as}
 use Rattle.sock_tcp.specs.Due.{flight, is_closing, window_field}
 use Rattle.sock_tcp.specs.Queue.{Queue}
 use Rattle.sock_tcp.specs.Sent.{after_any, after_kind, after_probe, after_sending, emitted_as, sending_timed, snd_nxt_moved}
 use Rattle.sock_tcp.specs.Timers.{is_over, retransmit_unless_set}
+use Rattle.sock_tcp.proofs.Holes.{number_at, start_within}
+use Rattle.sock_tcp.specs.Rfc.Scoreboard.{hole_number, hole_start}
 use Rattle.sock_tcp.specs.View.{View, moment_of}
 use Rattle.sock_tcp.specs.Window.{next_ack}
 use Rattle.sock_tcp.specs.declared.emission.Emitted.{Emitted}
@@ -222,14 +224,23 @@ module _ (t : Tuple) (f : Facts) (v : View) (out : Sending) (u : View) (h : HasS
     at_front : offset_of b ≡ 0
     at_front = by b.pending_fast_retransmit refl
       where
+        n : ℕ
+        n = length b.tx_buffer.bytes
+
         here : g.seq_number ≡ v.local_seq_no
         here = sym (ap (λ (s : Segment). s.seq_number) is) ∙ number
 
         by : (m : Bool) → b.pending_fast_retransmit ≡ m → offset_of b ≡ 0
-        by true e = rw e refl
+        by true e =
+            let first : hole_number (hole_of b) n b.local_seq_no ≡ v.local_seq_no = ap (λ m. if m then hole_number (hole_of b) n b.local_seq_no else b.remote_last_seq) (sym e) ∙ here in
+            let una : b.local_seq_no.0 ≡ v.local_seq_no.0 = ap (λ (m : TcpSeqNumber). m.0) begun_still.una in
+            let at : (hole_number (hole_of b) n b.local_seq_no).0 ≡ (b.local_seq_no.0 + hole_start (hole_of b) n) % 2 ^ 32 = number_at (hole_of b) n b.local_seq_no (omega (arith, una, una_small)) in
+            let within : hole_start (hole_of b) n ≤ min (n - 1) (2 ^ 30) = start_within (hole_of b) n in
+            let zero : hole_start (hole_of b) n ≡ 0 = omega (arith, ap (λ (m : TcpSeqNumber). m.0) first, una, una_small, at, within) in
+            rw e zero
         by false e =
-            let nxt : b.remote_last_seq ≡ v.local_seq_no = ap (λ m. if m then b.local_seq_no else b.remote_last_seq) (sym e) ∙ here in
-            ap (λ m. if m then 0 else flight b) e ∙ (λ i. seq_sub (nxt i) (begun_still.una i)) ∙ no_distance v.local_seq_no una_small
+            let nxt : b.remote_last_seq ≡ v.local_seq_no = ap (λ m. if m then hole_number (hole_of b) n b.local_seq_no else b.remote_last_seq) (sym e) ∙ here in
+            ap (λ m. if m then hole_start (hole_of b) n else flight b) e ∙ (λ i. seq_sub (nxt i) (begun_still.una i)) ∙ no_distance v.local_seq_no una_small
 
     same_bytes : out.segment.payload ≡ o.bytes
     same_bytes = ap (λ (s : Segment). s.payload) is

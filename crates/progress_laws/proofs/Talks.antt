@@ -11,7 +11,7 @@ use Rattle.sock_core.specs.Facts.{Facts}
 use Rattle.sock_core.specs.Seq.{later_of}
 use Rattle.sock_tcp.proofs.Lending.{lent_at_most}
 use Rattle.sock_tcp.specs.Begin.{after_timer, fast_retransmission_marked, is_paused, readied, retransmission_begun}
-use Rattle.sock_tcp.specs.Content.{Sending, asked, carries_data, emission_kind, is_probing, offset_of, plain_segment, sent_as, size_of, window_left}
+use Rattle.sock_tcp.specs.Content.{Sending, asked, carries_data, emission_kind, hole_of, is_probing, offset_of, plain_segment, sent_as, size_of, window_left}
 use Rattle.sock_tcp.specs.Due.{congestion_left, effective_mss, flight, is_closed, is_closing, is_due}
 use Rattle.sock_tcp.specs.Polls.{is_reached, timer_poll}
 use Rattle.sock_tcp.specs.Queue.{Queue}
@@ -28,6 +28,9 @@ use Rattle.tcp_laws.proofs.Ordered.{IsOrdered, no_distance}
 use Rattle.tcp_laws.proofs.OrderedCalls.{readied_ordered, reached_ordered, timers_ordered}
 use Rattle.tcp_laws.proofs.Probing.{ProbesIn, reached_probing}
 use Rattle.tcp_laws.proofs.Repeating.{empty_parts}
+use Rattle.progress_laws.proofs.Again.{number_again}
+use Rattle.sock_tcp.proofs.Holes.{size_at_most}
+use Rattle.sock_tcp.specs.Rfc.Scoreboard.{hole_size}
 use Rattle.progress_laws.specs.Agreement.{ForAnswer, ForKeepAlive, ForProbe, ForRepeat, IsSpeaker, Waits}
 use Rattle.progress_laws.specs.InStep.{told}
 use Rattle.progress_laws.specs.Speech.{DispatchesOk, GoesOn}
@@ -133,8 +136,8 @@ module _ (d : Duration) (t : Tuple) (v : View) (f : Facts) (now : Instant) (mtu 
   unfolding asked
   short = omega (arith, lent_at_most b.tx_buffer (offset_of b) (asked b t fa) bytes refl, ap (λ c. if c then size_of b t fa else 0) carries, few b.pending_fast_retransmit (is_probing b now))
     where
-      few : (m p : Bool) → (if m then effective_mss b t fa else (if p then min 1 (effective_mss b t fa) else min (min (window_left b) (effective_mss b t fa)) (congestion_left b))) ≤ 65535
-      few true p = mss_short b t fa mtu.1
+      few : (m p : Bool) → (if m then hole_size (hole_of b) (length b.tx_buffer.bytes) (effective_mss b t fa) else (if p then min 1 (effective_mss b t fa) else min (min (window_left b) (effective_mss b t fa)) (congestion_left b))) ≤ 65535
+      few true p = omega (arith, mss_short b t fa mtu.1, size_at_most (hole_of b) (length b.tx_buffer.bytes) (effective_mss b t fa))
       few false true = omega (arith, mss_short b t fa mtu.1)
       few false false = omega (arith, mss_short b t fa mtu.1)
 
@@ -142,7 +145,7 @@ module _ (d : Duration) (t : Tuple) (v : View) (f : Facts) (now : Instant) (mtu 
   keeps = ap (idle_from now) (st.same.keep_alive ∙ s.keep_alive)
 
   number : g.seq_number ≡ v.local_seq_no
-  number = front_number b.pending_fast_retransmit b.local_seq_no b.remote_last_seq st.front ∙ st.same.una
+  number = number_again b (st.same.same_rules ∙ s.smoltcp) ∙ front_number b.pending_fast_retransmit b.local_seq_no b.remote_last_seq st.front ∙ st.same.una
 
   tells : HasTold v (left b t now g opens kind.Plain)
   unfolding plain_segment

@@ -1,8 +1,8 @@
 //! The scoreboard of a sender: what the peer told by SACK that it has (RFC 2018, section 5; RFC 6675, section 4).
 ghost use Rattle.std.specs.Prelude.{◌≡◌, ◌<◌, ◌^◌, length};
 ghost use Rattle.control_wire.specs.Seq.{seq_sub};
-ghost use Rattle.sock_tcp.specs.Rfc.Scoreboard.{highest_told};
-ghost use Rattle.sock_tcp.specs.Rfc.Scoreboard.{added, all_told, any_news, block_from, block_moved, hole_behind};
+ghost use Rattle.sock_tcp.specs.Rfc.Scoreboard.{added, all_told, any_news, begins_in, block_from, block_moved};
+ghost use Rattle.sock_tcp.specs.Rfc.Scoreboard.{highest_told, hole_behind};
 ghost use Rattle.sock_tcp.specs.Rfc.Scoreboard.{hole_between, hole_number, hole_size, hole_start, is_blank};
 ghost use Rattle.sock_tcp.specs.Rfc.Scoreboard.{is_credible, is_known, is_news_of, is_none, is_within, joined};
 ghost use Rattle.sock_tcp.specs.Rfc.Scoreboard.{joined_all, moved, next_told, no_block, nothing_told, passed, pushed};
@@ -327,13 +327,22 @@ impl Scoreboard {
     }
 }
 
+impl Hole {
+    // Whether it begins in a transmit queue of so many bytes, which are at most 2^30.
+    fn begins_in(self, queued: usize) -> bool
+        ensures { result ≡ begins_in self queued }
+    {
+        (self.start as usize) < queued.min(0x4000_0000)
+    }
+}
+
 /// Where in a transmit queue of so many bytes the retransmission begins: at the hole, or at SND.UNA.
 pub fn hole_start(hole: &Option<Hole>, queued: usize) -> usize
     ensures value { result ≡ hole_start hole.now queued }
     ensures small { result < 2 ^ 32 }
 {
     match hole {
-        Some(hole) if (hole.start as usize) < queued => hole.start as usize,
+        Some(hole) if hole.begins_in(queued) => hole.start as usize,
         _ => 0,
     }
 }
@@ -343,7 +352,7 @@ pub fn hole_size(hole: &Option<Hole>, queued: usize, most: usize) -> usize
     ensures { result ≡ hole_size hole.now queued most }
 {
     match hole {
-        Some(hole) if (hole.start as usize) < queued => {
+        Some(hole) if hole.begins_in(queued) => {
             most.min((hole.end.saturating_sub(hole.start) as usize).max(1))
         }
         _ => most,

@@ -1,5 +1,5 @@
 -- A segment that takes no sequence number, and the socket just before it goes out.
-use Rattle.std.proofs.Common.{◌≡◌, ℕ, zero, suc, ◌+◌, ◌-◌, ◌<◌, ◌≤◌, ◌^◌, ◌⊎◌, inl, inr, Bool, true, false, true≢false, refl, sym, ap, subst, ◌∙◌, List, length, drop, min, Option, Some, None, is_none, arith, length-take, length-drop}
+use Rattle.std.proofs.Common.{◌≡◌, ℕ, zero, suc, ◌+◌, ◌-◌, ◌<◌, ◌≤◌, ◌%◌, ◌^◌, ◌⊎◌, inl, inr, Bool, true, false, true≢false, refl, sym, ap, subst, ◌∙◌, List, length, drop, min, Option, Some, None, is_none, arith, length-take, length-drop}
 use Rattle.std.specs.Prelude.{if◌then◌else◌, ◌==◌}
 use Rattle.std.proofs.lemmas.Bool.{eq-eqb}
 use Rattle.std.proofs.lemmas.Option.{none-some, same_Some}
@@ -9,17 +9,20 @@ use Rattle.net_base.specs.declared.time.Duration.{Duration}
 use Rattle.net_base.specs.declared.time.Instant.{Instant}
 use Rattle.ip_wire.specs.declared.address.IpAddress.{IpAddress}
 use Rattle.ip_wire.specs.declared.address.IpAddress.TheVariants as address
-use Rattle.control_wire.specs.Seq.{seq_add}
+use Rattle.control_wire.specs.Seq.{seq_add, seq_of}
 use Rattle.control_wire.specs.Segment.{Segment, control_len, segment_len}
 use Rattle.control_wire.specs.declared.tcp.TcpControl.TheVariants as control
 use Rattle.sock_core.specs.Facts.{Facts, IsLawful}
 use Rattle.sock_tcp.specs.Begin.{last_ts_set, last_ts_set_at, told_ready, readied, retransmission_begun, fast_retransmission_marked, after_timer, after_timers, begun, begun_to, unless_paused, ended, by_due, before_emit, before_emit_to, peer_of}
-use Rattle.sock_tcp.specs.Content.{asked, carries_data, data_control, filled, is_probing, offset_of, plain_segment, size_of, window_left, with_data}
+use Rattle.sock_tcp.specs.Content.{asked, carries_data, data_control, filled, hole_of, is_probing, offset_of, plain_segment, size_of, window_left, with_data}
 use Rattle.sock_tcp.specs.Due.{congestion_left, effective_mss, flight, ip_header_len, mtu_for, is_closing, is_due, is_opening, sendable, timestamp_room, window_field}
 use Rattle.sock_tcp.specs.Opening.{renewed}
 use Rattle.sock_tcp.specs.Polls.{is_reached, timeout_poll}
 use Rattle.sock_tcp.specs.Queue.{IsLent, Queue}
+use Rattle.sock_tcp.specs.Rfc.Scoreboard.{hole_number, hole_size, hole_start}
 use Rattle.sock_tcp.specs.Timers.{idle_from, is_over}
+use Rattle.sock_tcp.specs.declared.scoreboard.Hole.{Hole}
+use Rattle.sock_tcp.proofs.Holes.{size_some, start_within}
 use Rattle.sock_tcp.specs.View.{View, moment_of}
 use Rattle.sock_tcp.specs.Window.{next_ack}
 use Rattle.sock_tcp.specs.declared.state.State.{State}
@@ -197,14 +200,17 @@ module _ (u : View) (p : Tuple) (f : Facts) (stamp : Option ℕ) (bytes : List �
       by : (b : Bool) → u.pending_fast_retransmit ≡ b → NoData
       by true e = again either
         where
-          whole : asked u p f ≡ effective_mss u p f
+          whole : asked u p f ≡ hole_size (hole_of u) n (effective_mss u p f)
           whole = size ∙ rw e refl
 
-          start : offset_of u ≡ 0
-          start = rw e refl
+          some : 0 < hole_size (hole_of u) n (effective_mss u p f)
+          some = size_some (hole_of u) n (effective_mss u p f) mss
+
+          start : offset_of u ≤ min (n - 1) (2 ^ 30)
+          start = rw e (start_within (hole_of u) n)
 
           again : (asked u p f ≡ 0) ⊎ (n ≤ offset_of u) → NoData
-          again (inl z) = absurd (omega (arith, z, whole, mss))
+          again (inl z) = absurd (omega (arith, z, whole, some))
           again (inr i) = record { all = omega (arith, i, start); again = λ m. omega (arith, i, start); fin = λ d k. omega (arith, i, start) }
       by false e = ahead either
         where
@@ -240,14 +246,24 @@ module _ (u : View) (p : Tuple) (f : Facts) (stamp : Option ℕ) (bytes : List �
           opened = shut;
           no_fin = λ e k. absurd (fin_is e (d.fin e k) z);
         };
-        tells = record { ack = refl; window = refl; number = numbered u.pending_fast_retransmit; empty = none };
+        tells = record { ack = refl; window = refl; number = numbered u.pending_fast_retransmit d.again; empty = none };
         sends = inr (inr c);
         within = within;
       }
     where
-      numbered : (b : Bool) → ((if b then u.local_seq_no else u.remote_last_seq) ≡ u.remote_last_seq) ⊎ ((if b then u.local_seq_no else u.remote_last_seq) ≡ u.local_seq_no)
-      numbered true = inr refl
-      numbered false = inl refl
+      at_una : n ≡ 0 → hole_number (hole_of u) n u.local_seq_no ≡ u.local_seq_no
+      at_una none = by (hole_of u)
+        where
+          by : (h : Option Hole) → hole_number h n u.local_seq_no ≡ u.local_seq_no
+          by None = refl
+          by (Some h) =
+              let i : hole_start (Some h) n ≤ min (n - 1) (2 ^ 30) = start_within (Some h) n in
+              let z : (u.local_seq_no.0 + hole_start (Some h) n) % 2 ^ 32 ≡ u.local_seq_no.0 = omega (arith, none, i, o.una_small) in
+              ap seq_of z
+
+      numbered : (b : Bool) → (b ≡ true → n ≡ 0) → ((if b then hole_number (hole_of u) n u.local_seq_no else u.remote_last_seq) ≡ u.remote_last_seq) ⊎ ((if b then hole_number (hole_of u) n u.local_seq_no else u.remote_last_seq) ≡ u.local_seq_no)
+      numbered true none = inr (at_una (none refl))
+      numbered false none = inl refl
 
       fin_is : is_closing u.state ≡ true → offset_of u ≡ n → length bytes ≡ 0 → ⊥
       fin_is e k z =

@@ -1,5 +1,5 @@
 -- What a dispatch sends keeps the order of SND.UNA, SND.NXT, the transmit queue and the timer.
-use Rattle.std.proofs.Common.{◌≡◌, ℕ, ◌+◌, ◌-◌, ◌<◌, ◌≤◌, ◌^◌, ◌⊎◌, inl, inr, Bool, true, false, true≢false, refl, sym, ap, subst, ◌∙◌, List, length, Option, Some, None, arith}
+use Rattle.std.proofs.Common.{◌≡◌, ℕ, ◌+◌, ◌-◌, ◌<◌, ◌≤◌, ◌%◌, ◌^◌, max, min, ◌⊎◌, inl, inr, Bool, true, false, true≢false, refl, sym, ap, subst, ◌∙◌, List, length, Option, Some, None, arith}
 use Rattle.std.specs.Prelude.{if◌then◌else◌, ◌==◌, option_map}
 use Rattle.std.proofs.lemmas.Bool.{eqb-true}
 use Rattle.net_base.specs.declared.time.Duration.{Duration}
@@ -12,9 +12,11 @@ use Rattle.sock_core.specs.Facts.{Facts}
 use Rattle.sock_core.specs.Congestion.{post_transmitted}
 use Rattle.sock_core.specs.Estimator.{Estimator, sent}
 use Rattle.sock_core.specs.Seq.{later_of}
+use Rattle.sock_tcp.proofs.Holes.{number_at, start_within}
 use Rattle.sock_tcp.proofs.Lending.{lent_at_most}
-use Rattle.sock_tcp.specs.Content.{Sending, content, data_control, filled, emission_kind, offset_of, of_kind, plain_segment, sent_as, with_data}
+use Rattle.sock_tcp.specs.Content.{Sending, content, data_control, filled, emission_kind, hole_of, number_of, offset_of, of_kind, plain_segment, sent_as, with_data}
 use Rattle.sock_tcp.specs.Due.{flight, is_closed, is_closing}
+use Rattle.sock_tcp.specs.Rfc.Scoreboard.{hole_number, hole_start}
 use Rattle.sock_tcp.specs.Sent.{emitted_as, after_any, after_probe, snd_nxt_moved, sending_timed, after_sending, left_by}
 use Rattle.tcp_laws.specs.SocketRun.{SendsTo}
 use Rattle.sock_tcp.specs.Timers.{keep_alive_renewed, probe_doubled, retransmit_unless_set}
@@ -135,17 +137,28 @@ control_is closing o m n = go (o + m == n) refl
     go false e = inl refl
 
 module _ (u : View) (bytes : List ℕ) (una_small : u.local_seq_no.0 < 2 ^ 32) (nxt_small : u.remote_last_seq.0 < 2 ^ 32) (short : length u.tx_buffer.bytes ≤ 2 ^ 30) (within : flight u ≤ length u.tx_buffer.bytes + 1) (fits : length bytes ≤ length u.tx_buffer.bytes - offset_of u) where
-  -- with the length of the control bit
-  data_end : (b : Bool) (k : ℕ) → k ≤ 1 → length bytes ≤ length u.tx_buffer.bytes - (if b then 0 else flight u)
-      → seq_sub (seq_add (if b then u.local_seq_no else u.remote_last_seq) (length bytes + k)) u.local_seq_no ≡ (if b then 0 else flight u) + length bytes + k
-  data_end true k one m = omega (arith, una_small, short, m, one)
-  data_end false k one m = omega (arith, una_small, nxt_small, short, within, m, one)
+  abbrev at_hole : ℕ
+  at_hole = hole_start (hole_of u) (length u.tx_buffer.bytes)
 
-  offset_le : offset_of u ≤ flight u
+  -- with the length of the control bit
+  data_end : (k : ℕ) → k ≤ 1 → seq_sub (seq_add (number_of u) (length bytes + k)) u.local_seq_no ≡ offset_of u + length bytes + k
+  data_end k one = go u.pending_fast_retransmit fits
+    where
+      number : TcpSeqNumber
+      number = hole_number (hole_of u) (length u.tx_buffer.bytes) u.local_seq_no
+
+      go : (b : Bool) → length bytes ≤ length u.tx_buffer.bytes - (if b then at_hole else flight u) → seq_sub (seq_add (if b then number else u.remote_last_seq) (length bytes + k)) u.local_seq_no ≡ (if b then at_hole else flight u) + length bytes + k
+      go true m =
+          let n : number.0 ≡ (u.local_seq_no.0 + at_hole) % 2 ^ 32 = number_at (hole_of u) (length u.tx_buffer.bytes) u.local_seq_no una_small in
+          let i : at_hole ≤ min (length u.tx_buffer.bytes - 1) (2 ^ 30) = start_within (hole_of u) (length u.tx_buffer.bytes) in
+          omega (arith, una_small, short, n, i, m, one)
+      go false m = omega (arith, una_small, nxt_small, short, within, m, one)
+
+  offset_le : offset_of u ≤ max (flight u) (length u.tx_buffer.bytes)
   offset_le = go u.pending_fast_retransmit
     where
-      go : (b : Bool) → (if b then 0 else flight u) ≤ flight u
-      go true = omega arith
+      go : (b : Bool) → (if b then at_hole else flight u) ≤ max (flight u) (length u.tx_buffer.bytes)
+      go true = let i : at_hole ≤ min (length u.tx_buffer.bytes - 1) (2 ^ 30) = start_within (hole_of u) (length u.tx_buffer.bytes) in omega (arith, i)
       go false = omega arith
 
   -- a socket that is not closed
@@ -156,7 +169,7 @@ module _ (u : View) (bytes : List ℕ) (una_small : u.local_seq_no.0 < 2 ^ 32) (
       k = control_len (data_control u (length bytes))
 
       go : (k ≡ 0) ⊎ ((is_closing u.state ≡ true) × (offset_of u + length bytes ≡ length u.tx_buffer.bytes) × (k ≡ 1)) → seq_sub (seq_add (with_data u bytes s).seq_number (length bytes + k)) u.local_seq_no ≤ length u.tx_buffer.bytes
-      go (inl z) = omega (arith, z, inside, offset_le, fits, data_end u.pending_fast_retransmit k (omega (arith, z)) fits)
+      go (inl z) = omega (arith, z, inside, offset_le, fits, data_end k (omega (arith, z)))
       go (inr z) = absurd (true≢false (sym z.0 ∙ nc))
 
   fin_within : (s : Segment) → seq_sub (seq_add (with_data u bytes s).seq_number (segment_len (with_data u bytes s))) u.local_seq_no ≤ length u.tx_buffer.bytes + 1
@@ -166,8 +179,8 @@ module _ (u : View) (bytes : List ℕ) (una_small : u.local_seq_no.0 < 2 ^ 32) (
       k = control_len (data_control u (length bytes))
 
       go : (k ≡ 0) ⊎ ((is_closing u.state ≡ true) × (offset_of u + length bytes ≡ length u.tx_buffer.bytes) × (k ≡ 1)) → seq_sub (seq_add (with_data u bytes s).seq_number (length bytes + k)) u.local_seq_no ≤ length u.tx_buffer.bytes + 1
-      go (inl z) = omega (arith, z, within, offset_le, fits, data_end u.pending_fast_retransmit k (omega (arith, z)) fits)
-      go (inr z) = omega (arith, z.1, z.2, data_end u.pending_fast_retransmit k (omega (arith, z.2)) fits)
+      go (inl z) = omega (arith, z, within, offset_le, fits, data_end k (omega (arith, z)))
+      go (inr z) = omega (arith, z.1, z.2, data_end k (omega (arith, z.2)))
 
 abbrev EndsIf : State → View → Option Segment → Type 0
 EndsIf st u None = Unit {0}

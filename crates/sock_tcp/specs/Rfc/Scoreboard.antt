@@ -1,6 +1,6 @@
 -- What the peer told by SACK that it has (RFC 2018), and what is missing before that (RFC 6675, section 4). Bytes are
 -- counted from SND.UNA on.
-use Rattle.std.specs.Prelude.{ℕ, ◌-◌, nat_lt, nat_le, max, min, Option, Some, None, Bool, false, not}
+use Rattle.std.specs.Prelude.{ℕ, ◌-◌, ◌^◌, nat_lt, nat_le, max, min, Option, Some, None, Bool, false, not}
 use Rattle.std.specs.Prelude.{◌==◌, ◌&&◌, ◌||◌, List, [], ◌∷◌, if◌then◌else◌}
 use Rattle.control_wire.specs.Seq.{seq_add, seq_of, seq_sub}
 use Rattle.control_wire.specs.declared.seq_number.TcpSeqNumber.{TcpSeqNumber}
@@ -140,14 +140,18 @@ highest_told k = max (max k.newest.end k.second.end) (max k.third.end k.oldest.e
 
 -- ---- what goes out of it, of n bytes that are queued
 
+-- a queue has at most 2^30 bytes
+abbrev pub begins_in : Hole → ℕ → Bool
+begins_in h n = nat_lt h.start (min n (2 ^ 30))
+
 abbrev pub hole_start : Option Hole → ℕ → ℕ
 hole_start None n = 0
-hole_start (Some h) n = if nat_lt h.start n then h.start else 0
+hole_start (Some h) n = if begins_in h n then h.start else 0
 
 -- at most m bytes, and no byte behind its end
 abbrev pub hole_size : Option Hole → ℕ → ℕ → ℕ
 hole_size None n m = m
-hole_size (Some h) n m = if nat_lt h.start n then min m (max 1 (h.end - h.start)) else m
+hole_size (Some h) n m = if begins_in h n then min m (max 1 (h.end - h.start)) else m
 
 abbrev pub hole_number : Option Hole → ℕ → TcpSeqNumber → TcpSeqNumber
 hole_number None n una = una
