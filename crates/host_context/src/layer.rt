@@ -6,7 +6,7 @@ ghost use Rattle.control_wire.specs.Segment.{segment_of};
 ghost use Rattle.segment_wire.specs.Packet.{TcpPacket, tcp_packet_parsed};
 ghost use Rattle.sock_tcp.specs.Dispatch.{Dispatches};
 ghost use Rattle.sock_tcp.specs.Process.{Accepts, reply_of, source_kept};
-ghost use Rattle.sock_tcp.specs.Replies.{IsReplyStamp};
+ghost use Rattle.sock_tcp.specs.Replies.{IsReplyStamp, echoed};
 ghost use Rattle.host_context.specs.Layer.{Hears, IsFor, PutsTcp, Refuses, puts_tcp, with_reply};
 ghost use Rattle.host_context.specs.Outbox.{octets};
 
@@ -75,8 +75,8 @@ pub fn receive_tcp<W: Words, G: TsvalSource>(
     ensures table { (p : TcpPacket) → tcp_packet_parsed interface.old.checksums bytes.now ≡ Some p
         → IsFor socket.old.control_block p
         → Hears ⟦<Interface<W, Outbox> as Context>⟧.facts ⟦<Interface<W, Outbox> as Context>⟧.word_at
-        (IsReplyStamp G.tells socket.new.tsval_generator p.segment.timestamp) socket.old.control_block interface.old p
-        result socket.new.control_block interface.new }
+        (IsReplyStamp G.tells socket.new.tsval_generator (echoed socket.new.control_block p.segment.timestamp))
+        socket.old.control_block interface.old p result socket.new.control_block interface.new }
     ensures kept { OnErr result (interface.new.outbox.packets.items ≡ interface.old.outbox.packets.items) }
     ensures generator { (p : TcpPacket) → tcp_packet_parsed interface.old.checksums bytes.now ≡ Some p
         → IsFor socket.old.control_block p → socket.new.tsval_generator
@@ -104,8 +104,8 @@ fn hear<W: Words, G: TsvalSource>(
     requires small { length repr.now.payload.now ≤ 65535 }
     ensures table { (p : TcpPacket) → record { ip = ip.now; segment = segment_of repr.now } ≡ p
         → Hears ⟦<Interface<W, Outbox> as Context>⟧.facts ⟦<Interface<W, Outbox> as Context>⟧.word_at
-        (IsReplyStamp G.tells socket.new.tsval_generator p.segment.timestamp) socket.old.control_block interface.old p
-        result socket.new.control_block interface.new }
+        (IsReplyStamp G.tells socket.new.tsval_generator (echoed socket.new.control_block p.segment.timestamp))
+        socket.old.control_block interface.old p result socket.new.control_block interface.new }
     ensures kept { OnErr result (interface.new.outbox.packets.items ≡ interface.old.outbox.packets.items) }
     ensures generator { socket.new.tsval_generator
         ≡ source_kept socket.new.control_block.stamps socket.old.tsval_generator }

@@ -9,7 +9,7 @@ use Rattle.control_wire.specs.declared.tcp.TcpRepr.{TcpRepr}
 use Rattle.sock_core.specs.Facts.{Facts}
 use Rattle.sock_tcp.specs.Opening.{is_listening}
 use Rattle.sock_tcp.specs.Process.{Accepts, Processes, reply_of, source_kept}
-use Rattle.sock_tcp.specs.Replies.{IsReplyStamp, rst_segment, with_header}
+use Rattle.sock_tcp.specs.Replies.{IsReplyStamp, echoed, rst_segment, with_header}
 use Rattle.sock_tcp.specs.View.{View, moment_of}
 use Rattle.smoltcp_socket.specs.declared.socket.Socket.{Socket}
 use Rattle.smoltcp_socket.specs.declared.socket.Socket.TheVariants as socket
@@ -62,8 +62,8 @@ module _ {C G : Type 0} (facts : C → Facts) (word_at : C → ℕ → ℕ) (tel
   abbrev pub SocketHears : (View → View) → Option (Socket G) → C → IpRepr → Segment → Option (IpRepr × TcpRepr)
       → Option (Socket G) → C → Type 0
   SocketHears ready (Some (socket.Tcp x)) cx ip s r (Some (socket.Tcp y)) cx' =
-      Processes facts word_at (IsReplyStamp tells y.tsval_generator s.timestamp) (ready x.control_block) cx ip s r
-      y.control_block cx'
+      Processes facts word_at (IsReplyStamp tells y.tsval_generator (echoed y.control_block s.timestamp))
+      (ready x.control_block) cx ip s r y.control_block cx'
       × (y.tsval_generator ≡ source_kept y.control_block.stamps x.tsval_generator)
   SocketHears ready _ cx ip s r _ cx' = ⊥
 

@@ -3,7 +3,7 @@ use Rattle.std.proofs.Common.{◌≡◌, Bool, true, false, List, Some, None, re
 use Rattle.std.specs.Prelude.{ℕ, slice_get}
 use Rattle.control_wire.specs.declared.tcp.TcpControl.{TcpControl}
 use Rattle.control_wire.specs.declared.tcp.TcpControl.TheVariants as control
-use Rattle.sock_tcp.specs.Replies.{IsReplyStamp, rst_segment}
+use Rattle.sock_tcp.specs.Replies.{IsReplyStamp, echoed, rst_segment}
 use Rattle.tcp_laws.proofs.Frames.{process_back}
 use Rattle.pair_core.specs.Holding.{kept_at}
 use Rattle.pair_core.specs.Moments.{facts_of}
@@ -41,7 +41,7 @@ deliver_all {G} tells false s p m t o k ts i g d = go d.accepted d.does
 
     go : (b : Bool) → DeliversIf tells b s m t o h p.segments k ts → AllGo (endpoint_at p) ts
     go true x = subst (AllGo (endpoint_at p)) (sym x.stored) (all_append (endpoint_at p) p.segments _ i.segments
-        (reply_goes (endpoint_at p) s t (version_at s p i) g (IsReplyStamp tells (delivered_to h m t).source t.segment.timestamp) (processed_by h m t).reply x.reply (delivered_to h m t).released (delivered_to h m t).taken (process_back h.control_block (record { micros = m.now.micros }) m.word t.ip t.segment h.control_block.rules) x.is_reply))
+        (reply_goes (endpoint_at p) s t (version_at s p i) g (IsReplyStamp tells (delivered_to h m t).source (echoed (delivered_to h m t).control_block t.segment.timestamp)) (processed_by h m t).reply x.reply (delivered_to h m t).released (delivered_to h m t).taken (process_back h.control_block (record { micros = m.now.micros }) m.word t.ip t.segment h.control_block.rules) x.is_reply))
     go false x = subst (AllGo (endpoint_at p)) (sym x.stored) (all_append (endpoint_at p) p.segments _ i.segments (refusal_goes s p t t.segment.control h.released h.taken i g))
 
 -- a segment of the other side goes to this one

@@ -20,7 +20,7 @@ use Rattle.control_wire.specs.declared.tcp.TcpControl.TheVariants as control
 use Rattle.control_wire.specs.declared.tcp.TcpTimestampRepr.{TcpTimestampRepr}
 use Rattle.sock_tcp.specs.Closing.{closed_from}
 use Rattle.sock_tcp.specs.Process.{Accepts}
-use Rattle.sock_tcp.specs.Replies.{Answers, IsReplyStamp, rst_segment, with_header}
+use Rattle.sock_tcp.specs.Replies.{Answers, IsReplyStamp, echoed, rst_segment, with_header}
 use Rattle.sock_tcp.specs.declared.state.State.{State}
 use Rattle.sock_tcp.specs.declared.state.State.TheVariants as state
 use Rattle.sock_tcp.specs.declared.tuple.Tuple.{Tuple}
@@ -98,7 +98,7 @@ reply_stamped e (Some x) a is =
     let same : stream_segment x.1 e.released e.taken ≡ a = cc in
     subst (IsStamped e) same (record { released = omega arith; taken = omega arith })
 
-module _ {G : Type 0} (s : Side) (h o : HostView G) (ks : List StoredView) (limit : Option ℕ) (m : Moment) (t : StoredView) (w : m.word < 2 ^ 32) (small : IsSmall t.segment) (there : Contains ks t) (from_other : t.emitter ≡ other_side s) (sock : IsSocket h.control_block) (young : is_old o t ≡ false) (accepted : Accepts h.control_block t.ip t.segment) (reply : Option (IpRepr × Segment)) (tells : G → ℕ → Type 0) (is_reply : Answers (IsReplyStamp tells (delivered_to h m t).source t.segment.timestamp) t.ip (processed_by h m t).reply reply) where
+module _ {G : Type 0} (s : Side) (h o : HostView G) (ks : List StoredView) (limit : Option ℕ) (m : Moment) (t : StoredView) (w : m.word < 2 ^ 32) (small : IsSmall t.segment) (there : Contains ks t) (from_other : t.emitter ≡ other_side s) (sock : IsSocket h.control_block) (young : is_old o t ≡ false) (accepted : Accepts h.control_block t.ip t.segment) (reply : Option (IpRepr × Segment)) (tells : G → ℕ → Type 0) (is_reply : Answers (IsReplyStamp tells (delivered_to h m t).source (echoed (delivered_to h m t).control_block t.segment.timestamp)) t.ip (processed_by h m t).reply reply) where
   -- the segments, once the reply is stored
   abbrev with_reply : List StoredView
   with_reply = ks ++ kept_at s reply (delivered_to h m t).released (delivered_to h m t).taken
@@ -111,7 +111,7 @@ module _ {G : Type 0} (s : Side) (h o : HostView G) (ks : List StoredView) (limi
       let come : Arrives n (shown_segment t) = record { sent = sent_has (other_side s) ks t there from_other; may = inr (may_arrive limit o t young) } in
       let does : ProcessEffect b (shown h.control_block) (shown (processed_by h m t).view) (shown_segment t) (shown_reply k.released k.taken reply) =
       subst (λ x. ProcessEffect x (shown h.control_block) (shown (processed_by h m t).view) (shown_segment t) (shown_reply k.released k.taken reply)) e
-      (subst (λ r. ProcessEffect (is_passive h.control_block) (shown h.control_block) (shown (processed_by h m t).view) (shown_segment t) r) (reply_shows (IsReplyStamp tells (delivered_to h m t).source t.segment.timestamp) t.ip (processed_by h m t).reply reply k.released k.taken is_reply)
+      (subst (λ r. ProcessEffect (is_passive h.control_block) (shown h.control_block) (shown (processed_by h m t).view) (shown_segment t) r) (reply_shows (IsReplyStamp tells (delivered_to h m t).source (echoed (delivered_to h m t).control_block t.segment.timestamp)) t.ip (processed_by h m t).reply reply k.released k.taken is_reply)
       (process_heard h.control_block (record { micros = m.now.micros }) m.word t.ip t.segment t.released_at t.taken_at k.released k.taken w small sock.receive sock.fin (bounded s h b h.control_block o ks limit i) accepted)) in
       subst (Reaches n) (stored_reply s (opened k b (processed_by h m t).view) (endpoint_of o) ks limit reply k.released k.taken)
       (delivery_reaches n (shown_segment t) come (shown (processed_by h m t).view) (shown_reply k.released k.taken reply) does

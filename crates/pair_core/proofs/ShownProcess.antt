@@ -51,6 +51,7 @@ use Rattle.pair_core.proofs.ShownWindow.{FinCounts, before_shown, comes, cut_hea
 use Rattle.pair_core.proofs.StreamTables.{passes_heard}
 use Rattle.sock_tcp.specs.Rfc.Refused.{is_plain_control, refused}
 use Rattle.sock_tcp.specs.declared.rules.Rules.{Rules}
+use Rattle.sock_tcp.proofs.Checking.{verdict_as}
 use Rattle.sock_tcp.proofs.Recovering.{recovered_as}
 use Rattle.sock_tcp.proofs.Refusing.{counts_fin, fin_is_plain, heard_alone, refused_as}
 
@@ -582,6 +583,10 @@ module _ (v : View) (now : Instant) (word : ℕ) (ip : IpRepr) (s : Segment) (at
   unfolding recovered
   recovered_effect o h = h
 
+  -- in a state with a window
+  challenged_in : has_window v.state ≡ true → IsEffect (challenged v now s)
+  challenged_in w = answered w (challenged v now s) (challenged_there s now v (shown v) refl)
+
   by_the_verdict : (x : Verdict) → verdict_of v s.control s.ack_number ≡ x → word < 2 ^ 32 → IsEffect (by_verdict v.rules x v (arrival now (tuple_of ip s) word s))
   by_the_verdict verdicts.Drop e small_word = silent v refl
   by_the_verdict verdicts.Reset e small_word =
@@ -592,12 +597,12 @@ module _ (v : View) (now : Instant) (word : ℕ) (ip : IpRepr) (s : Segment) (at
         answers = ResetReply r.ack.0 refl r.plain (⊎_elim (λ h. inl (ap phase_of h)) (λ h. inr (ap phase_of h)) r.opening) (acks r.ack r.is) (λ h. grind (arith, nat_tests, r.other, h));
         ends = inl refl;
       }
-  by_the_verdict verdicts.Challenge e small_word = answered (challenge_says v.state s.control s.ack_number v.local_seq_no queued no_ack e) (challenged v now s) (challenged_there s now v (shown v) refl)
+  by_the_verdict verdicts.Challenge e small_word = challenged_in (challenge_says v.state s.control s.ack_number v.local_seq_no queued no_ack e)
   by_the_verdict verdicts.Pass e small_word = let h = is_tested (has_window v.state) refl e small_word in recovered_as IsEffect v.rules v now s _ h (recovered_effect _ h) h
 
   pub hears : word < 2 ^ 32 → IsEffect (processed v now word ip s)
   unfolding processed_by
-  hears small_word = by_the_verdict (verdict_of v s.control s.ack_number) refl small_word
+  hears small_word = verdict_as (λ x. IsEffect (by_verdict v.rules x v (arrival now (tuple_of ip s) word s))) v.rules v now s (λ w. silent v refl) challenged_in (by_the_verdict (verdict_of v s.control s.ack_number) refl small_word)
 
 pub process_heard : (v : View) (now : Instant) (word : ℕ) (ip : IpRepr) (s : Segment) (released taken released_then taken_then : ℕ) → word < 2 ^ 32 → IsSmall s → room_of v.rx_buffer ≤ 2 ^ 30 → FinSays v.state v.rx_fin_received → IsBounded v → Accepts v ip s
     → ProcessEffect (is_passive v) (shown v) (shown (processed v now word ip s).view) (stream_segment s released taken) (option_map (λ (r : Segment). stream_segment r released_then taken_then) (processed v now word ip s).reply)

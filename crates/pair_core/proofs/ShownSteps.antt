@@ -197,7 +197,7 @@ module _ (now : Instant) (a : Acked) (s : Segment) (o : ℕ) (bs : List ℕ) whe
   brought_view w = shown (record w { rx_buffer = brought w.rx_buffer o bs })
 
   abbrev counted_with : Option TcpSeqNumber → View → Bool → View
-  counted_with k w changed = timer_set (timestamp_taken (acknowledged w k now a.len (length s.payload) changed) s.timestamp) now a
+  counted_with k w changed = timer_set (timestamp_taken (acknowledged w k now a.len (length s.payload) changed) s) now a
 
   counted_shown : (k : Option TcpSeqNumber) (u : View) (changed : Bool) → brought_view (counted_with k (released (window_taken u now s.control s.window_len) a.len) changed) ≡ brought_view (acked_view u a.len k)
   unfolding window_taken released acknowledged duplicate_counted ack_counted una_advanced timestamp_taken timer_set
@@ -207,7 +207,7 @@ module _ (now : Instant) (a : Acked) (s : Segment) (o : ℕ) (bs : List ℕ) whe
       w : View
       w = released (window_taken u now s.control s.window_len) a.len
 
-      go : (b : Bool) → brought_view (timer_set (timestamp_taken (ack_heard b w now k a.len) s.timestamp) now a) ≡ brought_view (acked_view u a.len (Some k))
+      go : (b : Bool) → brought_view (timer_set (timestamp_taken (ack_heard b w now k a.len) s) now a) ≡ brought_view (acked_view u a.len (Some k))
       go true = refl
       go false = refl
 

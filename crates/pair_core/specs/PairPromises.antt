@@ -11,7 +11,7 @@ use Rattle.sock_tcp.specs.Arrival.{arrival}
 use Rattle.sock_tcp.specs.Acked.{acked_of}
 use Rattle.sock_tcp.specs.Advance.{Advance, advanced, counted_control}
 use Rattle.sock_tcp.specs.Process.{has_window, tuple_of}
-use Rattle.sock_tcp.specs.Verdict.{verdict_of}
+use Rattle.sock_tcp.specs.Rfc.Checks.{verdict_by}
 use Rattle.sock_tcp.specs.View.{View}
 use Rattle.sock_tcp.specs.Window.{next_ack, receive_window, is_inside, cut_of, cut_bytes}
 use Rattle.sock_tcp.specs.declared.advance.Next.TheVariants as next
@@ -90,7 +90,7 @@ table_for v now word ip s =
 -- before it
 pub record IsInOrder (v : View) (now : Instant) (word : ℕ) (ip : IpRepr) (s : Segment) : Type 0 where
   pub window : has_window v.state ≡ true
-  pub passes : verdict_of v s.control s.ack_number ≡ verdicts.Pass
+  pub passes : verdict_by v.rules v now s ≡ verdicts.Pass
   pub inside : is_inside (receive_window v) s.seq_number (length s.payload) ≡ true
   pub goes_on : (table_for v now word ip s).next ≡ next.Continue
   pub starts : is_before (next_ack v) s.seq_number ≡ false

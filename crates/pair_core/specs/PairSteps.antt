@@ -7,7 +7,7 @@ use Rattle.control_wire.specs.declared.tcp.TcpControl.{TcpControl}
 use Rattle.control_wire.specs.declared.tcp.TcpControl.TheVariants as control
 use Rattle.sock_tcp.specs.Process.{Accepts, Outcome as Processed, processed, source_kept}
 use Rattle.sock_tcp.specs.View.{View}
-use Rattle.sock_tcp.specs.Replies.{Answers, IsReplyStamp, rst_segment, with_header}
+use Rattle.sock_tcp.specs.Replies.{Answers, IsReplyStamp, echoed, rst_segment, with_header}
 use Rattle.pair_core.specs.Moments.{facts_of}
 use Rattle.pair_core.specs.PairViews.{HostView, StoredView, PairView, host_of, with_host}
 use Rattle.pair_core.specs.Holding.{stored_segment, kept_at}
@@ -106,8 +106,8 @@ IsUnchanged h ks h' ks' = (h' ≡ h) × (ks' ≡ ks)
 pub record IsProcessed {G : Type 0} (tells : G → ℕ → Type 0) (s : Side) (m : Moment) (t : StoredView) (o : Outcome)
     (h : HostView G) (ks : List StoredView) (h' : HostView G) (ks' : List StoredView) : Type 0 where
   pub reply : Option (IpRepr × Segment)
-  pub is_reply : Answers (IsReplyStamp tells (delivered_to h m t).source t.segment.timestamp) t.ip
-      (processed_by h m t).reply reply
+  pub is_reply : Answers (IsReplyStamp tells (delivered_to h m t).source
+      (echoed (delivered_to h m t).control_block t.segment.timestamp)) t.ip (processed_by h m t).reply reply
   pub answer : o ≡ outcome.Delivered (reply_index (length ks) reply)
   pub host : h' ≡ delivered_to h m t
   pub stored : ks' ≡ ks ++ kept_at s reply (delivered_to h m t).released (delivered_to h m t).taken

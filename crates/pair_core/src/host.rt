@@ -9,7 +9,7 @@ ghost use Rattle.sock_core.specs.Received.{receiving};
 ghost use Rattle.sock_tcp.specs.View.{fresh};
 ghost use Rattle.sock_tcp.specs.Queue.{queue_of};
 ghost use Rattle.sock_tcp.specs.Process.{Accepts, processed, reply_of, source_kept};
-ghost use Rattle.sock_tcp.specs.Replies.{Answers, IsReplyStamp};
+ghost use Rattle.sock_tcp.specs.Replies.{Answers, IsReplyStamp, echoed};
 ghost use Rattle.pair_core.specs.Moments.{facts_of};
 ghost use Rattle.pair_core.specs.Holding.{stored_of};
 ghost use Rattle.pair_core.specs.PairSteps.{ReadTakesMemory, processed_at};
@@ -386,7 +386,8 @@ impl<'a, G: TsvalSource> Host<'a, G> {
         ensures view { self.new ≡ delivered_to self.old moment.entry.now (stored_of segment.now) }
         ensures bare { ForSome result (λ r. r.1.payload.now ≡ []) }
         ensures fits { ForSome (option_map reply_of result) (λ r. FitsPacket r.0 r.1) }
-        ensures reply { Answers (IsReplyStamp G.tells self.new.source (stored_of segment.now).segment.timestamp)
+        ensures reply { Answers (IsReplyStamp G.tells self.new.source
+            (echoed self.new.control_block (stored_of segment.now).segment.timestamp))
             (stored_of segment.now).ip (processed_by self.old moment.entry.now (stored_of segment.now)).reply
             (option_map reply_of result) }
     {
@@ -415,7 +416,8 @@ fn process<G: TsvalSource>(
     ensures bare { ForSome result (λ r. r.1.payload.now ≡ []) }
     ensures fits { ForSome (option_map reply_of result) (λ r. FitsPacket r.0 r.1) }
     ensures reply { Answers
-        (IsReplyStamp G.tells socket.new.tsval_generator (stored_of segment.now).segment.timestamp)
+        (IsReplyStamp G.tells socket.new.tsval_generator
+        (echoed socket.new.control_block (stored_of segment.now).segment.timestamp))
         (stored_of segment.now).ip
         (processed_at socket.old.control_block moment.entry.now (stored_of segment.now)).reply
         (option_map reply_of result) }

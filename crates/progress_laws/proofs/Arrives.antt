@@ -131,11 +131,11 @@ heard_so u now a s = by s.ack_number
     changed : Bool
     changed = is_window_changed u s.control s.window_len
 
-    either : (b : Bool) (k : TcpSeqNumber) → HeardSo u a s (timer_set (timestamp_taken (ack_heard b x now k a.len) s.timestamp) now a)
+    either : (b : Bool) (k : TcpSeqNumber) → HeardSo u a s (timer_set (timestamp_taken (ack_heard b x now k a.len) s) now a)
     either true k = record { state = refl; fin = refl; rcv = refl; rx = refl; tx = refl; window = refl }
     either false k = record { state = refl; fin = refl; rcv = refl; rx = refl; tx = refl; window = refl }
 
-    by : (o : Option TcpSeqNumber) → HeardSo u a s (timer_set (timestamp_taken (acknowledged x o now a.len (length s.payload) changed) s.timestamp) now a)
+    by : (o : Option TcpSeqNumber) → HeardSo u a s (timer_set (timestamp_taken (acknowledged x o now a.len (length s.payload) changed) s) now a)
     by None = record { state = refl; fin = refl; rcv = refl; rx = refl; tx = refl; window = refl }
     by (Some k) = either (is_duplicate x k (length s.payload) changed) k
 

@@ -207,7 +207,7 @@ pub record HeardAs (u : View) (k : TcpSeqNumber) (n win : ℕ) (x : View) : Type
 
 pub heard_any : (u : View) (now : Instant) (a : Acked) (s : Segment) (k : TcpSeqNumber) → s.ack_number ≡ Some k → HeardAs u k a.len (window_of s.control s.window_len u.remote_win_scale) (heard u now a s)
 unfolding heard acknowledged window_taken released duplicate_counted ack_counted una_advanced timestamp_taken timer_set
-heard_any u now a s k number = subst (λ o. HeardAs u k a.len (window_of s.control s.window_len u.remote_win_scale) (timer_set (timestamp_taken (acknowledged x o now a.len (length s.payload) changed) s.timestamp) now a)) (sym number) (either (is_duplicate x k (length s.payload) changed))
+heard_any u now a s k number = subst (λ o. HeardAs u k a.len (window_of s.control s.window_len u.remote_win_scale) (timer_set (timestamp_taken (acknowledged x o now a.len (length s.payload) changed) s) now a)) (sym number) (either (is_duplicate x k (length s.payload) changed))
   where
     x : View
     x = released (window_taken u now s.control s.window_len) a.len
@@ -215,7 +215,7 @@ heard_any u now a s k number = subst (λ o. HeardAs u k a.len (window_of s.contr
     changed : Bool
     changed = is_window_changed u s.control s.window_len
 
-    either : (b : Bool) → HeardAs u k a.len (window_of s.control s.window_len u.remote_win_scale) (timer_set (timestamp_taken (ack_heard b x now k a.len) s.timestamp) now a)
+    either : (b : Bool) → HeardAs u k a.len (window_of s.control s.window_len u.remote_win_scale) (timer_set (timestamp_taken (ack_heard b x now k a.len) s) now a)
     either true = record { state = refl; peer = refl; timeout = refl; same_rules = refl; keep_alive = refl; scale = refl; shift = refl; rx = refl; rcv = refl; last_ack = refl; last_win = refl; marked = refl; una = refl; nxt = refl; tx = refl; window = refl }
     either false = record { state = refl; peer = refl; timeout = refl; same_rules = refl; keep_alive = refl; scale = refl; shift = refl; rx = refl; rcv = refl; last_ack = refl; last_win = refl; marked = refl; una = refl; nxt = refl; tx = refl; window = refl }
 
@@ -229,7 +229,7 @@ pub data ThenWaits (now : Instant) (keep : Option Duration) (all : Bool) (t : Ti
 
 pub heard_waits : (u : View) (now : Instant) (a : Acked) (s : Segment) (k : TcpSeqNumber) (at : Instant) → s.ack_number ≡ Some k → IsSaid s.control → u.timer ≡ timer.Retransmit at → 0 < a.len → 0 < s.window_len * 2 ^ scale_of u.remote_win_scale → ThenWaits now u.keep_alive a.all (heard u now a s).timer
 unfolding heard acknowledged window_taken released duplicate_counted ack_counted una_advanced timestamp_taken timer_set
-heard_waits u now a s k at number bit waits some win = subst (λ o. ThenWaits now u.keep_alive a.all (timer_set (timestamp_taken (acknowledged x o now a.len (length s.payload) changed) s.timestamp) now a).timer) (sym number) (either (is_duplicate x k (length s.payload) changed))
+heard_waits u now a s k at number bit waits some win = subst (λ o. ThenWaits now u.keep_alive a.all (timer_set (timestamp_taken (acknowledged x o now a.len (length s.payload) changed) s) now a).timer) (sym number) (either (is_duplicate x k (length s.payload) changed))
   where
     x : View
     x = released (window_taken u now s.control s.window_len) a.len
@@ -266,9 +266,9 @@ heard_waits u now a s k at number bit waits some win = subst (λ o. ThenWaits no
     fast true = inr refl
     fast false = inl waits
 
-    either : (b : Bool) → ThenWaits now u.keep_alive a.all (timer_set (timestamp_taken (ack_heard b x now k a.len) s.timestamp) now a).timer
-    either true = ends (timestamp_taken (ack_heard true x now k a.len) s.timestamp) (timer_acked (if u.local_rx_dup_acks == 2 then timer.FastRetransmit else u.timer) (timestamp_taken (ack_heard true x now k a.len) s.timestamp) now a) open_ (acked (if u.local_rx_dup_acks == 2 then timer.FastRetransmit else u.timer) (timestamp_taken (ack_heard true x now k a.len) s.timestamp) refl (fast (u.local_rx_dup_acks == 2)))
-    either false = ends (timestamp_taken (ack_heard false x now k a.len) s.timestamp) (timer_acked u.timer (timestamp_taken (ack_heard false x now k a.len) s.timestamp) now a) open_ (acked u.timer (timestamp_taken (ack_heard false x now k a.len) s.timestamp) refl (inl waits))
+    either : (b : Bool) → ThenWaits now u.keep_alive a.all (timer_set (timestamp_taken (ack_heard b x now k a.len) s) now a).timer
+    either true = ends (timestamp_taken (ack_heard true x now k a.len) s) (timer_acked (if u.local_rx_dup_acks == 2 then timer.FastRetransmit else u.timer) (timestamp_taken (ack_heard true x now k a.len) s) now a) open_ (acked (if u.local_rx_dup_acks == 2 then timer.FastRetransmit else u.timer) (timestamp_taken (ack_heard true x now k a.len) s) refl (fast (u.local_rx_dup_acks == 2)))
+    either false = ends (timestamp_taken (ack_heard false x now k a.len) s) (timer_acked u.timer (timestamp_taken (ack_heard false x now k a.len) s) now a) open_ (acked u.timer (timestamp_taken (ack_heard false x now k a.len) s) refl (inl waits))
 
 -- it is no duplicate where it acknowledges all that was sent, and where it brings bytes
 abbrev pub IsNoDuplicate : View → Instant → Acked → Segment → TcpSeqNumber → Type 0
@@ -290,11 +290,11 @@ module _ (u : View) (now : Instant) (a : Acked) (s : Segment) (k : TcpSeqNumber)
   changed = is_window_changed u s.control s.window_len
 
   abbrev y : View
-  y = timestamp_taken (ack_heard false x now k a.len) s.timestamp
+  y = timestamp_taken (ack_heard false x now k a.len) s
 
   heard_is : heard u now a s ≡ timer_set y now a
   unfolding heard acknowledged window_taken released
-  heard_is = ap (λ o. timer_set (timestamp_taken (acknowledged x o now a.len (length s.payload) changed) s.timestamp) now a) number ∙ ap (λ b. timer_set (timestamp_taken (ack_heard b x now k a.len) s.timestamp) now a) no_duplicate
+  heard_is = ap (λ o. timer_set (timestamp_taken (acknowledged x o now a.len (length s.payload) changed) s) now a) number ∙ ap (λ b. timer_set (timestamp_taken (ack_heard b x now k a.len) s) now a) no_duplicate
 
   pub heard_rests : IsOpenTimer u.timer → a.all ≡ true → 0 < s.window_len * 2 ^ scale_of u.remote_win_scale → (heard u now a s).timer ≡ idle_from now u.keep_alive
   unfolding window_taken released timestamp_taken timer_set ack_counted una_advanced

@@ -76,7 +76,7 @@ module _ (x : View) (now : Instant) (a : Acked) (s : Segment) (k : TcpSeqNumber)
 
   heard_timer : TimerThen (AtFront x) a.all heard_view.timer
   unfolding heard acknowledged window_taken released duplicate_counted ack_counted una_advanced timestamp_taken timer_set
-  heard_timer = subst (λ o. TimerThen (AtFront x) a.all (timer_set (timestamp_taken (acknowledged z o now a.len (length s.payload) changed) s.timestamp) now a).timer) (sym number) (either (is_duplicate z k (length s.payload) changed))
+  heard_timer = subst (λ o. TimerThen (AtFront x) a.all (timer_set (timestamp_taken (acknowledged z o now a.len (length s.payload) changed) s) now a).timer) (sym number) (either (is_duplicate z k (length s.payload) changed))
     where
       z : View
       z = released (window_taken x now s.control s.window_len) a.len
@@ -91,9 +91,9 @@ module _ (x : View) (now : Instant) (a : Acked) (s : Segment) (k : TcpSeqNumber)
       third true = tt
       third false = asks_front x waits
 
-      either : (b : Bool) → TimerThen (AtFront x) a.all (timer_set (timestamp_taken (ack_heard b z now k a.len) s.timestamp) now a).timer
-      either true = timer_then (AtFront x) (timestamp_taken (ack_heard true z now k a.len) s.timestamp) now a open_ (if x.local_rx_dup_acks == 2 then timer.FastRetransmit else x.timer) (third (x.local_rx_dup_acks == 2))
-      either false = timer_then (AtFront x) (timestamp_taken (ack_heard false z now k a.len) s.timestamp) now a open_ x.timer (asks_front x waits)
+      either : (b : Bool) → TimerThen (AtFront x) a.all (timer_set (timestamp_taken (ack_heard b z now k a.len) s) now a).timer
+      either true = timer_then (AtFront x) (timestamp_taken (ack_heard true z now k a.len) s) now a open_ (if x.local_rx_dup_acks == 2 then timer.FastRetransmit else x.timer) (third (x.local_rx_dup_acks == 2))
+      either false = timer_then (AtFront x) (timestamp_taken (ack_heard false z now k a.len) s) now a open_ x.timer (asks_front x waits)
 
   -- where k acknowledges what lies not far behind SND.UNA
   pub waits_on : (a.all ≡ true → is_not_after x.remote_last_seq k ≡ true) → x.local_seq_no.0 < 2 ^ 32 → k.0 < 2 ^ 32 → seq_sub k x.local_seq_no ≤ 2 ^ 30 → Waits heard_view

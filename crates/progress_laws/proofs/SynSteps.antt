@@ -66,23 +66,23 @@ module _ (x : View) (now : Instant) (a : Acked) (g : Segment) (k : TcpSeqNumber)
 
   pub heard_delay : (heard x now a g).ack_delay_timer ≡ x.ack_delay_timer
   unfolding heard acknowledged window_taken released duplicate_counted ack_counted una_advanced timestamp_taken timer_set
-  heard_delay = subst (λ o. (timer_set (timestamp_taken (acknowledged took o now a.len (length g.payload) differs) g.timestamp) now a).ack_delay_timer ≡ x.ack_delay_timer) (sym number) (either (is_duplicate took k (length g.payload) differs))
+  heard_delay = subst (λ o. (timer_set (timestamp_taken (acknowledged took o now a.len (length g.payload) differs) g) now a).ack_delay_timer ≡ x.ack_delay_timer) (sym number) (either (is_duplicate took k (length g.payload) differs))
     where
-      either : (b : Bool) → (timer_set (timestamp_taken (ack_heard b took now k a.len) g.timestamp) now a).ack_delay_timer ≡ x.ack_delay_timer
+      either : (b : Bool) → (timer_set (timestamp_taken (ack_heard b took now k a.len) g) now a).ack_delay_timer ≡ x.ack_delay_timer
       either true = refl
       either false = refl
 
   pub heard_idle : (at : Instant) → x.timer ≡ timer.Retransmit at → a.all ≡ true → length x.tx_buffer.bytes ≡ 0 → is_before k x.remote_last_seq ≡ false → (heard x now a g).timer ≡ idle_from now x.keep_alive
   unfolding heard acknowledged window_taken released ack_counted una_advanced timestamp_taken timer_set
   heard_idle at waits all none last =
-      ap (λ o. (timer_set (timestamp_taken (acknowledged took o now a.len (length g.payload) differs) g.timestamp) now a).timer) number
-      ∙ ap (λ b. (timer_set (timestamp_taken (ack_heard b took now k a.len) g.timestamp) now a).timer) (all_no_duplicate x now a g k last)
+      ap (λ o. (timer_set (timestamp_taken (acknowledged took o now a.len (length g.payload) differs) g) now a).timer) number
+      ∙ ap (λ b. (timer_set (timestamp_taken (ack_heard b took now k a.len) g) now a).timer) (all_no_duplicate x now a g k last)
       ∙ ap (λ t. probe_set (timer_acked t y now a) y now a) waits
       ∙ ap (λ t. probe_set t y now a) ends
       ∙ rests_empty y now a None (omega (arith, length-drop a.len x.tx_buffer.bytes, none))
     where
       y : View
-      y = timestamp_taken (ack_heard false took now k a.len) g.timestamp
+      y = timestamp_taken (ack_heard false took now k a.len) g
 
       ends : timer_acked (timer.Retransmit at) y now a ≡ idle_from now y.keep_alive
       ends = rw all refl
@@ -142,7 +142,7 @@ pub record IsNewListener (b x : View) (t : Tuple) (number : ℕ) (g : Segment) :
 
 pub received_so : (b : View) (e : IpListenEndpoint) (now : Instant) (t : Tuple) (word : ℕ) (g : Segment) → g.ack_number ≡ None → IsNewListener b (heard (syn_received (listened b e) now t word g) now nothing_acked g) t word g
 unfolding heard acknowledged window_taken released timestamp_taken timer_set syn_received options_taken listened renewed fresh
-received_so b e now t word g bare = subst (λ o. IsNewListener b (timer_set (timestamp_taken (acknowledged x o now 0 (length g.payload) changed) g.timestamp) now nothing_acked) t word g) (sym bare) (record {
+received_so b e now t word g bare = subst (λ o. IsNewListener b (timer_set (timestamp_taken (acknowledged x o now 0 (length g.payload) changed) g) now nothing_acked) t word g) (sym bare) (record {
   taken = record { state = refl; peer = refl; timeout = refl; same_rules = refl; keep_alive = refl; not_paused = refl; una = refl; rcv = refl; rx = refl; no_bytes = refl; fits = omega arith; scale = refl; shift = refl; repeats = record { same = same_self _; marked = refl; waits = NotSent (idle_moment now b.keep_alive) waits refl } };
   due = λ now. tt;
 })
@@ -154,7 +154,7 @@ received_so b e now t word g bare = subst (λ o. IsNewListener b (timer_set (tim
     changed = is_window_changed (syn_received (listened b e) now t word g) g.control g.window_len
 
     y : View
-    y = timestamp_taken x g.timestamp
+    y = timestamp_taken x g
 
     waits : (timer_set y now nothing_acked).timer ≡ timer.Idle (idle_moment now b.keep_alive)
     waits = ap (λ tm. (timer_set (record y { timer = tm }) now nothing_acked).timer) (idle_is now b.keep_alive) ∙ rests_empty (record y { timer = timer.Idle (idle_moment now b.keep_alive) }) now nothing_acked (idle_moment now b.keep_alive) refl ∙ idle_is now b.keep_alive
@@ -170,7 +170,7 @@ module _ (b w : View) (t : Tuple) (word : ℕ) (now : Instant) (g : Segment) (ba
 
   pub crossed_so : HasTakenSyn b crossed t word g
   unfolding heard acknowledged window_taken released timestamp_taken timer_set syn_answered options_taken connected renewed fresh
-  crossed_so = subst (λ o. HasTakenSyn b (timer_set (timestamp_taken (acknowledged x o now 0 (length g.payload) changed) g.timestamp) now nothing_acked) t word g) (sym bare) (record {
+  crossed_so = subst (λ o. HasTakenSyn b (timer_set (timestamp_taken (acknowledged x o now 0 (length g.payload) changed) g) now nothing_acked) t word g) (sym bare) (record {
     state = ap opened_state bare;
     peer = r.same.peer;
     timeout = r.same.timeout;
@@ -194,7 +194,7 @@ module _ (b w : View) (t : Tuple) (word : ℕ) (now : Instant) (g : Segment) (ba
       changed = is_window_changed (syn_answered w g) g.control g.window_len
 
       y : View
-      y = timestamp_taken x g.timestamp
+      y = timestamp_taken x g
 
       empty : length y.tx_buffer.bytes ≡ 0
       empty = ap (λ (q : Queue). length q.bytes) r.same.tx

@@ -9,7 +9,7 @@ use Rattle.sock_tcp.specs.Replies.{Answers, IsReplyStamp, with_header}
 use Rattle.smoltcp_c.specs.Packets.{replied, reply_stamp}
 use Rattle.smoltcp_c.specs.declared.clock.Clock.{Clock}
 
-stamp_is : (clock : Option Clock) (came : Option TcpTimestampRepr) (c : TcpControl) (stamp : Option TcpTimestampRepr) → IsReplyStamp (λ (k : Clock) (t : ℕ). t ≡ k.tsval) clock came c stamp → stamp ≡ reply_stamp clock came c
+stamp_is : (clock : Option Clock) (came : Option ℕ) (c : TcpControl) (stamp : Option TcpTimestampRepr) → IsReplyStamp (λ (k : Clock) (t : ℕ). t ≡ k.tsval) clock came c stamp → stamp ≡ reply_stamp clock came c
 stamp_is (Some k) (Some r) control.None (Some t) h = λ i. Some (record { tsval = h.0 i; tsecr = h.1 i })
 stamp_is (Some k) (Some r) control.None None h = absurd h
 stamp_is (Some k) (Some r) control.Psh stamp h = h
@@ -19,7 +19,7 @@ stamp_is (Some k) (Some r) control.Rst stamp h = h
 stamp_is (Some k) None c stamp h = h
 stamp_is None came c stamp h = h
 
-pub reply_is : (clock : Option Clock) (came : Option TcpTimestampRepr) (ip : IpRepr) (o : Option Segment) (r : Option (IpRepr × Segment)) → Answers (IsReplyStamp (λ (k : Clock) (t : ℕ). t ≡ k.tsval) clock came) ip o r → r ≡ replied clock came ip o
+pub reply_is : (clock : Option Clock) (came : Option ℕ) (ip : IpRepr) (o : Option Segment) (r : Option (IpRepr × Segment)) → Answers (IsReplyStamp (λ (k : Clock) (t : ℕ). t ≡ k.tsval) clock came) ip o r → r ≡ replied clock came ip o
 reply_is clock came ip None None h = refl
 reply_is clock came ip None (Some x) h = absurd h
 reply_is clock came ip (Some s) None h = absurd h

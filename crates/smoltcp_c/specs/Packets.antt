@@ -15,7 +15,7 @@ use Rattle.sock_tcp.specs.Dispatch.{packet_in}
 use Rattle.sock_tcp.specs.Opening.{endpoints}
 use Rattle.sock_tcp.specs.Process.{Accepts, Outcome, processed, source_kept}
 use Rattle.sock_tcp.specs.Queue.{IsLent}
-use Rattle.sock_tcp.specs.Replies.{rst_segment, with_header}
+use Rattle.sock_tcp.specs.Replies.{echoed, rst_segment, with_header}
 use Rattle.sock_tcp.specs.Sent.{left_by}
 use Rattle.sock_tcp.specs.View.{View, moment_of}
 use Rattle.sock_tcp.specs.declared.error.ConnectError.{ConnectError}
@@ -67,15 +67,15 @@ has_room (Some p) out = nat_le (packet_len p.0) (length out)
 
 -- ---- process
 
--- the timestamp of a reply: an acknowledgement has one where the segment had one and the socket has a clock
-abbrev pub reply_stamp : Option Clock → Option TcpTimestampRepr → TcpControl → Option TcpTimestampRepr
-reply_stamp (Some c) (Some came) control.None = Some (record { tsval = c.tsval; tsecr = came.tsval })
-reply_stamp clock came c = None
+-- the timestamp of a reply: an acknowledgement has one where there is a value to echo and the socket has a clock
+abbrev pub reply_stamp : Option Clock → Option ℕ → TcpControl → Option TcpTimestampRepr
+reply_stamp (Some c) (Some echo) control.None = Some (record { tsval = c.tsval; tsecr = echo })
+reply_stamp clock echo c = None
 
 -- a reply with its timestamp and its header
-abbrev pub replied : Option Clock → Option TcpTimestampRepr → IpRepr → Option Segment → Option (IpRepr × Segment)
-replied clock came ip None = None
-replied clock came ip (Some s) = Some (with_header ip (record s { timestamp = reply_stamp clock came s.control }))
+abbrev pub replied : Option Clock → Option ℕ → IpRepr → Option Segment → Option (IpRepr × Segment)
+replied clock echo ip None = None
+replied clock echo ip (Some s) = Some (with_header ip (record s { timestamp = reply_stamp clock echo s.control }))
 
 -- the socket and the reply after a segment
 abbrev pub outcome_in : Cx → View → IpRepr → Segment → Outcome
@@ -83,7 +83,8 @@ outcome_in cx v ip s = processed v (moment_of (facts_in cx)) cx.word ip s
 
 -- the packet that answers it
 abbrev pub reply_in : Cx → Option Clock → View → IpRepr → Segment → Option (IpRepr × Segment)
-reply_in cx clock v ip s = replied (source_kept (outcome_in cx v ip s).view.stamps clock) s.timestamp ip
+reply_in cx clock v ip s =
+    replied (source_kept (outcome_in cx v ip s).view.stamps clock) (echoed (outcome_in cx v ip s).view s.timestamp) ip
     (outcome_in cx v ip s).reply
 
 -- a segment that is not for the socket changes nothing; else the socket, its clock and the reply are those of

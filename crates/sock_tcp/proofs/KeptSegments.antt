@@ -17,7 +17,7 @@ use Rattle.sock_tcp.specs.Rfc.Recovery.{before_of, recovered, recovered_by}
 use Rattle.sock_tcp.specs.Rfc.Refused.{refused}
 use Rattle.sock_tcp.specs.Steps.{ack_delayed, ack_heard, acknowledged, heard, is_duplicate, is_window_changed, joined, released, timer_set, timestamp_taken, window_taken}
 use Rattle.sock_tcp.specs.Timers.{after, challenge_interval}
-use Rattle.sock_tcp.specs.Verdict.{verdict_of}
+use Rattle.sock_tcp.specs.Rfc.Checks.{verdict_by}
 use Rattle.sock_tcp.specs.View.{View}
 use Rattle.sock_tcp.specs.Window.{receive_window, is_inside, cut_of}
 use Rattle.sock_tcp.specs.declared.acked.Acked.{Acked}
@@ -38,7 +38,7 @@ module _ (P : View → Type 0) (now : Instant) (s : Segment) (u : View) (a : Ack
   acked_view = released (window_taken u now s.control s.window_len) a.len
 
   abbrev pub timer_then : View → View
-  timer_then y = timer_set (timestamp_taken y s.timestamp) now a
+  timer_then y = timer_set (timestamp_taken y s) now a
 
   pub heard_kept : P (timer_then acked_view) → ((k : TcpSeqNumber) → P (timer_then (ack_heard true acked_view now k a.len))) → ((k : TcpSeqNumber) → P (timer_then (ack_heard false acked_view now k a.len))) → P (heard u now a s)
   unfolding heard acknowledged
@@ -194,7 +194,7 @@ module _ (P : View → Type 0) (now : Instant) (word : ℕ) (ip : IpRepr) (s : S
 
   pub process_kept : (r : Rules) (v : View) → P v → P (processed_by r v now word ip s).view
   unfolding processed_by
-  process_kept r v h = by (verdict_of v s.control s.ack_number)
+  process_kept r v h = by (verdict_by r v now s)
     where
       by : (x : Verdict) → P (by_verdict r x v come).view
       by verdicts.Drop = h

@@ -1,4 +1,5 @@
 pub mod Acking
+pub mod Checking
 pub mod Refusing
 pub mod Telling
 pub mod Recovering

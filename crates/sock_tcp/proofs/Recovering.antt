@@ -7,13 +7,13 @@ use Rattle.net_base.specs.declared.time.Instant.{Instant}
 use Rattle.control_wire.specs.Segment.{Segment}
 use Rattle.ip_wire.specs.declared.repr.IpRepr.{IpRepr}
 use Rattle.sock_tcp.specs.Arrival.{arrival}
-use Rattle.sock_tcp.specs.Process.{Outcome, ack_sent, answered, by_verdict, processed_by, rst_sent, stopped, tuple_of}
+use Rattle.sock_tcp.specs.Process.{Outcome, ack_sent, answered, by_verdict, processed_by, tuple_of}
 use Rattle.sock_tcp.specs.Replies.{ack_kept, ack_segment, sack_range}
 use Rattle.sock_tcp.specs.Rfc.Recovery.{before_of, begun_by, gone_on_from, has_timer, is_called, is_unheard, recovered, recovered_by, recovered_if, resends, running, timer_after, waited_for}
 use Rattle.sock_tcp.specs.Due.{flight}
 use Rattle.sock_core.specs.Estimator.{Estimator}
 use Rattle.sock_tcp.specs.Timers.{idle_from, probe_from, retransmit_from}
-use Rattle.sock_tcp.specs.Verdict.{verdict_of}
+use Rattle.sock_tcp.specs.Rfc.Checks.{verdict_by}
 use Rattle.sock_tcp.specs.View.{View}
 use Rattle.sock_tcp.specs.declared.process.Answer.{Answer}
 use Rattle.sock_tcp.specs.declared.process.Answer.TheVariants as answers
@@ -64,7 +64,7 @@ recovered_as Q rules.Rfc v now s o h k i = by (is_unheard (before_of v s) o.view
 
 -- ---- a segment that passes
 
-pub passes : (o : Outcome) (r : Rules) (v : View) (now : Instant) (word : ℕ) (ip : IpRepr) (s : Segment) → verdict_of v s.control s.ack_number ≡ verdicts.Pass → o ≡ by_verdict r verdicts.Pass v (arrival now (tuple_of ip s) word s) → o ≡ processed_by r v now word ip s
+pub passes : (o : Outcome) (r : Rules) (v : View) (now : Instant) (word : ℕ) (ip : IpRepr) (s : Segment) → verdict_by r v now s ≡ verdicts.Pass → o ≡ by_verdict r verdicts.Pass v (arrival now (tuple_of ip s) word s) → o ≡ processed_by r v now word ip s
 unfolding processed_by
 passes o r v now word ip s p h = h ∙ ap (λ x. by_verdict r x v (arrival now (tuple_of ip s) word s)) (sym p)
 

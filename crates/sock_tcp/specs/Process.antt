@@ -19,15 +19,16 @@ use Rattle.sock_tcp.specs.Draw.{draws, Draws}
 pub use Rattle.sock_tcp.specs.Inside.{Outcome, stopped, ack_sent, rst_sent, answered, timer_restarted, outside_by}
 pub use Rattle.sock_tcp.specs.Inside.{tuple_of, gap_answered, after_advance, after_table, acked_by}
 unfoldable pub use Rattle.sock_tcp.specs.Inside.{challenged, close_restarted, outside, bytes_taken, processed_inside}
+use Rattle.sock_tcp.specs.Rfc.Checks.{verdict_by}
 use Rattle.sock_tcp.specs.Rfc.Recovery.{recovered_by}
 use Rattle.sock_tcp.specs.Rfc.Refused.{refused}
 use Rattle.sock_tcp.specs.View.{View, moment_of}
 use Rattle.sock_tcp.specs.Verdict.{verdict_of}
+pub use Rattle.sock_tcp.specs.Window.{has_window}
 use Rattle.sock_tcp.specs.Window.{receive_window, is_inside, cut_of, cut_bytes}
 use Rattle.sock_tcp.specs.declared.window.Cut.{Cut}
 use Rattle.sock_tcp.specs.declared.window.Window.{Window}
 use Rattle.sock_tcp.specs.Replies.{Answers}
-use Rattle.sock_tcp.specs.Timers.{after}
 use Rattle.sock_tcp.specs.declared.rules.Rules.{Rules}
 use Rattle.sock_tcp.specs.declared.state.State.{State}
 use Rattle.sock_tcp.specs.declared.state.State.TheVariants as state
@@ -70,18 +71,12 @@ Accepts v ip s = AcceptsIn v.state v ip s
 
 -- ---- process
 -- Each definition stands below those that it names, so the rules are read from the end, in this order: `processed`
--- asks for the verdict; `by_verdict` drops, resets, challenges or lets pass; `tested` tests the receive window, in a
--- state that has one, and `recovered_by` (`Rfc/Recovery.antt`) does by the socket's rules what is done of loss then;
--- `cut_inside` cuts what lies inside, and `refused` (`Rfc/Refused.antt`) does by the socket's rules
--- what is done outside. The rest stands in `Inside.antt`: `outside` answers a segment; `processed_inside` goes through
--- the state table; `after_advance` stops, challenges or hears the acknowledgement; `bytes_taken` takes the bytes and
--- answers a gap.
-
--- LISTEN and SYN-SENT have no receive window, and take no bytes
-abbrev pub has_window : State → Bool
-has_window state.Listen = false
-has_window state.SynSent = false
-has_window _ = true
+-- asks for the verdict, which is by the socket's rules (`Rfc/Checks.antt`); `by_verdict` drops, resets, challenges or
+-- lets pass; `tested` tests the receive window, in a state that has one, and `recovered_by` (`Rfc/Recovery.antt`) does
+-- by the socket's rules what is done of loss then; `cut_inside` cuts what lies inside, and `refused`
+-- (`Rfc/Refused.antt`) does by the socket's rules what is done outside. The rest stands in `Inside.antt`: `outside`
+-- answers a segment; `processed_inside` goes through the state table; `after_advance` stops, challenges or hears the
+-- acknowledgement; `bytes_taken` takes the bytes and answers a gap.
 
 -- a segment inside the window is cut to it, and its number is remembered
 abbrev pub cut_inside : Window → Cut → View → Arrival → Outcome
@@ -110,7 +105,7 @@ by_verdict r verdicts.Pass v a = recovered_by r v a.now a.segment (tested_by r (
 
 unfoldable pub processed_by : Rules → View → Instant → ℕ → IpRepr → Segment → Outcome
 processed_by r v now word ip s =
-    by_verdict r (verdict_of v s.control s.ack_number) v (arrival now (tuple_of ip s) word s)
+    by_verdict r (verdict_by r v now s) v (arrival now (tuple_of ip s) word s)
 
 -- by the socket's own rules
 abbrev pub processed : View → Instant → ℕ → IpRepr → Segment → Outcome

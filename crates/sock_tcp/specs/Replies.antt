@@ -14,6 +14,8 @@ use Rattle.net_base.specs.Ranges.{edges}
 use Rattle.sock_core.specs.Received.{ranges_of, range_around}
 use Rattle.sock_tcp.specs.Content.{window_field}
 use Rattle.sock_tcp.specs.View.{View}
+use Rattle.sock_tcp.specs.declared.rules.Rules.{Rules}
+use Rattle.sock_tcp.specs.declared.rules.Rules.TheVariants as rules
 use Rattle.sock_tcp.specs.Window.{next_ack}
 
 -- the header of a reply: the addresses the other way round, and as many octets as the reply takes
@@ -84,13 +86,26 @@ ack_kept v = record v { remote_last_ack = Some (next_ack v); remote_last_win = w
 
 -- ---- the reply as it goes out
 
--- an acknowledgement has a timestamp where the segment had one and the socket has a clock: the clock's value, and the
--- one that came. An RST has none
-abbrev pub IsReplyStamp : {G : Type 0} → (G → ℕ → Type 0) → Option G → Option TcpTimestampRepr
+abbrev pub value_of : Option TcpTimestampRepr → Option ℕ
+value_of None = None
+value_of (Some t) = Some t.tsval
+
+-- what a timestamp echoes: by smoltcp's rules the value that came; by the RFCs', TS.Recent (RFC 7323, section 4.3)
+abbrev pub echoed_by : Rules → ℕ → Option TcpTimestampRepr → Option ℕ
+echoed_by rules.Smoltcp recent came = value_of came
+echoed_by rules.Rfc recent came = Some recent
+
+-- of a socket w that a segment with this timestamp left
+abbrev pub echoed : View → Option TcpTimestampRepr → Option ℕ
+echoed w came = echoed_by w.rules w.last_remote_tsval came
+
+-- an acknowledgement has a timestamp where there is a value to echo and the socket has a clock: the clock's value, and
+-- that one. An RST has none
+abbrev pub IsReplyStamp : {G : Type 0} → (G → ℕ → Type 0) → Option G → Option ℕ
     → TcpControl → Option TcpTimestampRepr → Type 0
-IsReplyStamp tells (Some g) (Some came) control.None (Some t) = tells g t.tsval × (t.tsecr ≡ came.tsval)
-IsReplyStamp tells (Some g) (Some came) control.None None = ⊥
-IsReplyStamp tells g came c stamp = stamp ≡ None
+IsReplyStamp tells (Some g) (Some echo) control.None (Some t) = tells g t.tsval × (t.tsecr ≡ echo)
+IsReplyStamp tells (Some g) (Some echo) control.None None = ⊥
+IsReplyStamp tells g echo c stamp = stamp ≡ None
 
 -- with its header, and with a timestamp or none
 pub record IsSentAs (stamped : TcpControl → Option TcpTimestampRepr → Type 0) (ip : IpRepr) (s : Segment)

@@ -1,3 +1,4 @@
+pub mod Checks
 pub mod Refused
 pub mod Scoreboard
 pub mod Recovery

@@ -11,7 +11,7 @@ use Rattle.control_wire.specs.declared.tcp.TcpControl.TheVariants as control
 use Rattle.control_wire.specs.declared.tcp.TcpTimestampRepr.{TcpTimestampRepr}
 use Rattle.sock_core.specs.Congestion as congestion
 use Rattle.sock_core.specs.Estimator as estimator
-use Rattle.sock_core.specs.Seq.{is_before, later_of}
+use Rattle.sock_core.specs.Seq.{is_before, is_not_after, later_of}
 use Rattle.sock_core.specs.Received.{taken_in}
 use Rattle.sock_tcp.specs.Due.{flight}
 use Rattle.sock_tcp.specs.Queue.{shortened}
@@ -19,6 +19,8 @@ use Rattle.sock_tcp.specs.Timers.{after, idle_from, retransmit_from, probe_from,
 use Rattle.sock_tcp.specs.View.{View}
 use Rattle.sock_tcp.specs.Window.{next_ack}
 use Rattle.sock_tcp.specs.declared.acked.Acked.{Acked}
+use Rattle.sock_tcp.specs.declared.rules.Rules.{Rules}
+use Rattle.sock_tcp.specs.declared.rules.Rules.TheVariants as rules
 use Rattle.sock_tcp.specs.declared.timer.AckDelayTimer.{AckDelayTimer}
 use Rattle.sock_tcp.specs.declared.timer.AckDelayTimer.TheVariants as ack_delay
 use Rattle.sock_tcp.specs.declared.timer.Timer.{Timer}
@@ -106,8 +108,21 @@ abbrev pub tsval_of : ℕ → Option TcpTimestampRepr → ℕ
 tsval_of old None = old
 tsval_of old (Some t) = t.tsval
 
-unfoldable pub timestamp_taken : View → Option TcpTimestampRepr → View
-timestamp_taken v t = record v { last_remote_tsval = tsval_of v.last_remote_tsval t }
+-- its number lies not behind the acknowledgement that was sent last, or it is a SYN
+abbrev pub moves_recent : TcpControl → Option TcpSeqNumber → TcpSeqNumber → Bool
+moves_recent control.Syn last number = true
+moves_recent c None number = true
+moves_recent c (Some last) number = is_not_after number last
+
+-- TS.Recent: by smoltcp's rules of any segment, by the RFCs' of those that move it (RFC 7323, section 4.3)
+abbrev pub recent_by : Rules → View → Segment → ℕ
+recent_by rules.Smoltcp v s = tsval_of v.last_remote_tsval s.timestamp
+recent_by rules.Rfc v s =
+    if moves_recent s.control v.remote_last_ack s.seq_number then tsval_of v.last_remote_tsval s.timestamp
+    else v.last_remote_tsval
+
+unfoldable pub timestamp_taken : View → Segment → View
+timestamp_taken v s = record v { last_remote_tsval = recent_by v.rules v s }
 
 -- ---- the timer
 
@@ -144,7 +159,7 @@ timer_set v now a = record v { timer = probe_set (timer_acked v.timer v now a) v
 -- the last three: once the acknowledged bytes have left
 abbrev pub counted : View → Bool → Instant → Acked → Segment → View
 counted v changed now a s =
-    timer_set (timestamp_taken (acknowledged v s.ack_number now a.len (length s.payload) changed) s.timestamp) now a
+    timer_set (timestamp_taken (acknowledged v s.ack_number now a.len (length s.payload) changed) s) now a
 
 unfoldable pub heard : View → Instant → Acked → Segment → View
 heard v now a s =

@@ -4,8 +4,8 @@
 //!
 //! - `advance_in` in `Advance.antt`: the state table, a row for each state and control bit.
 //! - `processed` and what stands above it in `Process.antt`, read from the end: the rules of `process` in their order.
-//! - `rfc_refused` in `Rfc/Refused.antt`, `recovered` in `Rfc/Recovery.antt`: what `Rules::Rfc` does in place of a row
-//!   of `processed`, and after it.
+//! - `checked_in` in `Rfc/Checks.antt`, `rfc_refused` in `Rfc/Refused.antt`, `recovered` in `Rfc/Recovery.antt`: what
+//!   `Rules::Rfc` does before `processed`, in place of a row of it, and after it.
 //! - `Accepts` in `Process.antt` and `verdict_of` in `Verdict.antt`: which segments get that far.
 //! - `content` in `Content.antt` and `before_emit` in `Begin.antt`: what `dispatch` sends, and what it does before.
 //! - `View` in `View.antt`: the fields that all of these speak of.
@@ -16,6 +16,7 @@
 pub mod acked;
 pub mod advance;
 mod begin;
+mod checks;
 mod close;
 mod content;
 pub mod control_block;

@@ -293,7 +293,7 @@ impl<'a> ControlBlock<'a> {
         ensures stamps { IsTrue self.new.stamps → IsTrue self.old.stamps }
     {
         let now = cx.now();
-        match self.verdict(repr.control, repr.ack_number) {
+        match self.verdict_by_rules(now, repr) {
             Verdict::Drop => Answer::Nothing,
             Verdict::Reset => Answer::Rst,
             Verdict::Challenge => self.challenge(now),

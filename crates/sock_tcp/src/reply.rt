@@ -10,11 +10,12 @@ ghost use Rattle.net_base.specs.Ranges.{edges};
 ghost use Rattle.sock_tcp.specs.Window.{next_ack};
 ghost use Rattle.sock_tcp.specs.Replies.{reply_ip, bare_reply, rst_ack, rst_number, rst_segment, with_header};
 ghost use Rattle.sock_tcp.specs.Replies.{chosen_range, wire_edges, sack_range, ack_segment, ack_kept};
-ghost use Rattle.sock_tcp.specs.Replies.{IsReplyStamp, IsSentAs, Answers};
+ghost use Rattle.sock_tcp.specs.Replies.{Answers, IsReplyStamp, IsSentAs, echoed};
 
 use crate::control_block::ControlBlock;
 use crate::generator::TsvalSource;
 use crate::process::Answer;
+use crate::rules::Rules;
 use crate::socket::Socket;
 use control_wire::{TcpControl, TcpRepr, TcpSeqNumber, TcpTimestampRepr};
 use ip_wire::{IpProtocol, IpRepr};
@@ -134,14 +135,29 @@ impl<'a> ControlBlock<'a> {
     }
 }
 
+impl<'a> ControlBlock<'a> {
+    // What the timestamp of a reply echoes: what came, or by the RFCs' rules TS.Recent (RFC 7323, section 4.3).
+    fn echoed(&self, came: Option<TcpTimestampRepr>) -> Option<u32>
+        ensures { result ≡ echoed self.now came }
+    {
+        match (self.rules, came) {
+            (Rules::Rfc, _) => Some(self.last_remote_tsval),
+            (Rules::Smoltcp, Some(came)) => Some(came.tsval),
+            (Rules::Smoltcp, None) => None,
+        }
+    }
+}
+
 impl<'a, G: TsvalSource> Socket<'a, G> {
     // The timestamp of a reply to this segment.
     fn stamp(&self, control: TcpControl, repr: &TcpRepr<'_>) -> Option<TcpTimestampRepr>
-        ensures { IsReplyStamp G.tells self.now.tsval_generator repr.now.timestamp control result }
+        ensures { IsReplyStamp G.tells self.now.tsval_generator (echoed self.now.control_block repr.now.timestamp)
+            control result }
     {
-        match (control, repr.timestamp, &self.tsval_generator) {
-            (TcpControl::None, Some(came), Some(generator)) => {
-                Some(TcpTimestampRepr::new(generator.tsval(), came.tsval))
+        let echo = self.control_block.echoed(repr.timestamp);
+        match (control, echo, &self.tsval_generator) {
+            (TcpControl::None, Some(echo), Some(generator)) => {
+                Some(TcpTimestampRepr::new(generator.tsval(), echo))
             }
             _ => None,
         }
@@ -150,8 +166,9 @@ impl<'a, G: TsvalSource> Socket<'a, G> {
     // The reply as it goes out.
     fn answer(&self, ip_repr: &IpRepr, repr: &TcpRepr<'_>, reply: TcpRepr<'static>) -> Reply
         requires { reply.payload.now ≡ [] }
-        ensures sent { IsSentAs (IsReplyStamp G.tells self.now.tsval_generator repr.now.timestamp) ip_repr.now
-            (segment_of reply.entry) (reply_of result) }
+        ensures sent { IsSentAs (IsReplyStamp G.tells self.now.tsval_generator
+            (echoed self.now.control_block repr.now.timestamp)) ip_repr.now (segment_of reply.entry)
+            (reply_of result) }
         ensures bare { result.1.payload.now ≡ [] }
     {
         let mut reply = reply;
@@ -175,7 +192,8 @@ impl<'a, G: TsvalSource> Socket<'a, G> {
         ensures state { self.new.control_block.state ≡ self.old.control_block.state }
         ensures generator { self.new.tsval_generator ≡ self.old.tsval_generator }
         ensures ended { self.new.ended ≡ self.old.ended }
-        ensures answer { Answers (IsReplyStamp G.tells self.old.tsval_generator repr.now.timestamp) ip_repr.now
+        ensures answer { Answers (IsReplyStamp G.tells self.old.tsval_generator
+            (echoed self.new.control_block repr.now.timestamp)) ip_repr.now
             (answered answer self.old.control_block (segment_of repr.now)).reply (option_map reply_of result) }
         ensures bare { ForSome result (λ r. r.1.payload.now ≡ []) }
         ensures fits { ForSome (option_map reply_of result) (λ r. FitsPacket r.0 r.1) }

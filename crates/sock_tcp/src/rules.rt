@@ -10,7 +10,7 @@ use std::fmt;
 pub enum Rules {
     /// smoltcp's case tables, whole: a new socket has these.
     Smoltcp,
-    /// The same, but for two things. Outside of the receive window (RFC 9293, sections 3.4 and 3.10.7.4) a FIN at
+    /// The same, but for what follows. Outside of the receive window (RFC 9293, sections 3.4 and 3.10.7.4) a FIN at
     /// RCV.NXT is taken, wherever the bytes before it lie; and acknowledgements and windows are heard of a peer whose
     /// number lies near the window, as of one that counts the byte of its probe of a window of 0.
     ///
@@ -22,6 +22,15 @@ pub enum Rules {
     /// retransmission timer runs, also where a keep-alive was to come; after a handshake with a lost SYN it begins anew
     /// with three seconds (RFC 6298, rules 5.1 and 5.7). Where it is over while the peer has no window, the window is
     /// probed for with the byte at SND.UNA, and no window is probed with nothing to send (RFC 9293, section 3.8.6.1).
+    ///
+    /// Of attacks: an RST counts at RCV.NXT alone; elsewhere in the window it is answered by a challenge ACK, at most
+    /// one a second, and so is a SYN once the own one is acknowledged (RFC 5961, sections 3.2, 4.2 and 7). TIME-WAIT
+    /// ignores RSTs (RFC 1337).
+    ///
+    /// Of timestamps, where both sides agreed on them: a segment without one is dropped, unless it is an RST; one with
+    /// an older one than TS.Recent is answered by a challenge ACK, until 24 days have passed without a segment; and
+    /// each acknowledgement has one, which echoes TS.Recent: the last of a segment whose number is not behind the last
+    /// acknowledgement sent (RFC 7323, sections 3.2, 4.3 and 5).
     Rfc,
 }
 

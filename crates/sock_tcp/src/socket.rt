@@ -15,7 +15,7 @@ ghost use Rattle.sock_tcp.specs.Ended.{ended_by_opening, ended_by_segment};
 ghost use Rattle.sock_tcp.specs.Draw.{draws, Draws};
 ghost use Rattle.sock_tcp.specs.Process.{Accepts, Processes, answered, processed, source_kept};
 ghost use Rattle.sock_tcp.specs.Verdict.{verdict_of};
-ghost use Rattle.sock_tcp.specs.Replies.{IsReplyStamp};
+ghost use Rattle.sock_tcp.specs.Replies.{IsReplyStamp, echoed};
 
 use crate::control_block::ControlBlock;
 use crate::ended::{Ended, by_segment};
@@ -416,8 +416,8 @@ impl<'a, G: TsvalSource> Socket<'a, G> {
         requires accepted { Accepts self.old.control_block ip_repr.now (segment_of repr.now) }
         requires small { length repr.now.payload.now ≤ 65535 }
         ensures table { Processes C.facts C.word_at
-            (IsReplyStamp G.tells self.new.tsval_generator repr.now.timestamp) self.old.control_block cx.old
-            ip_repr.now (segment_of repr.now) result self.new.control_block cx.new }
+            (IsReplyStamp G.tells self.new.tsval_generator (echoed self.new.control_block repr.now.timestamp))
+            self.old.control_block cx.old ip_repr.now (segment_of repr.now) result self.new.control_block cx.new }
         ensures generator { self.new.tsval_generator
             ≡ source_kept self.new.control_block.stamps self.old.tsval_generator }
         ensures ended { self.new.ended ≡ ended_by_segment self.old.control_block.state repr.now.control

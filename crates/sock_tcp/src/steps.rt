@@ -8,16 +8,17 @@ ghost use Rattle.sock_tcp.specs.Window.{next_ack};
 ghost use Rattle.sock_tcp.specs.Steps.{window_taken, is_window_changed, released, is_duplicate, duplicate_counted};
 ghost use Rattle.sock_tcp.specs.Steps.{ack_counted, una_advanced, acknowledged, timestamp_taken};
 ghost use Rattle.sock_tcp.specs.Steps.{timer_acked, begins_probe, probe_set, timer_set, heard, joined, is_ack_owed};
-ghost use Rattle.sock_tcp.specs.Steps.{ack_delayed};
+ghost use Rattle.sock_tcp.specs.Steps.{ack_delayed, moves_recent};
 ghost use Rattle.sock_tcp.specs.Timers.{IsTimer};
 
 use crate::acked::Acked;
 use crate::control_block::ControlBlock;
+use crate::rules::Rules;
 use crate::timer::{AckDelayTimer, Timer, after};
-use control_wire::{TcpControl, TcpRepr, TcpSeqNumber, TcpTimestampRepr};
+use control_wire::{TcpControl, TcpRepr, TcpSeqNumber};
 use net_base::time::Instant;
 use sock_core::congestion::Controller;
-use sock_core::seq::{before, later};
+use sock_core::seq::{before, later, not_after};
 
 // As many duplicates of an acknowledgement call for a fast retransmission (RFC 5681, section 3.2).
 const DUPLICATES: u8 = 3;
@@ -123,13 +124,25 @@ impl<'a> ControlBlock<'a> {
         self.advance_una(ack);
     }
 
+    // Whether it is a SYN, or its number lies not behind the acknowledgement that was sent last.
+    fn moves_recent(&self, repr: &TcpRepr<'_>) -> bool
+        ensures { result ≡ moves_recent repr.now.control self.now.remote_last_ack repr.now.seq_number }
+    {
+        match (repr.control, self.remote_last_ack) {
+            (TcpControl::Syn, _) | (_, None) => true,
+            (_, Some(last)) => not_after(repr.seq_number, last),
+        }
+    }
+
     #[tactic(auto, unfolding(crate::specs::Steps::timestamp_taken))]
-    fn take_timestamp(&mut self, timestamp: Option<TcpTimestampRepr>)
-        ensures view { self.new ≡ timestamp_taken self.old timestamp }
+    fn take_timestamp(&mut self, repr: &TcpRepr<'_>)
+        ensures view { self.new ≡ timestamp_taken self.old (segment_of repr.now) }
         ensures received { self.new.rx_buffer ≡ self.old.rx_buffer }
     {
-        if let Some(timestamp) = timestamp {
-            self.last_remote_tsval = timestamp.tsval;
+        match (repr.timestamp, self.rules) {
+            (None, _) => {}
+            (Some(_), Rules::Rfc) if !self.moves_recent(repr) => {}
+            (Some(timestamp), _) => self.last_remote_tsval = timestamp.tsval,
         }
     }
 
@@ -196,7 +209,7 @@ impl<'a> ControlBlock<'a> {
         let changed = self.take_window(now, repr.control, repr.window_len);
         self.release(acked.len);
         self.acknowledge(repr.ack_number, now, acked.len, repr.payload.len(), changed);
-        self.take_timestamp(repr.timestamp);
+        self.take_timestamp(repr);
         self.set_timer(now, acked);
     }
 

@@ -63,7 +63,7 @@ impl Window {
     }
 
     // Whether a number lies from the left edge on, and before the right one.
-    fn starts_inside(&self, number: TcpSeqNumber) -> bool
+    pub(crate) fn starts_inside(&self, number: TcpSeqNumber) -> bool
         ensures { result ≡ starts_inside self.now number }
     {
         not_after(self.start, number) && before(number, self.end)

@@ -10,7 +10,7 @@ use Rattle.control_wire.specs.declared.tcp.TcpControl.TheVariants as control
 use Rattle.sock_core.specs.Received.{Received, received, written, gathered, taken_in, makes_fifth_range, holds_nothing}
 use Rattle.sock_tcp.specs.Arrival.{arrival}
 use Rattle.sock_tcp.specs.View.{View}
-use Rattle.sock_tcp.specs.Verdict.{verdict_of}
+use Rattle.sock_tcp.specs.Rfc.Checks.{verdict_by}
 use Rattle.sock_tcp.specs.Window.{receive_window, is_inside, cut_of, cut_bytes}
 use Rattle.sock_tcp.specs.Acked.{acked_of}
 use Rattle.sock_tcp.specs.Advance.{Advance, advance_in, advanced, counted_control, fallen_back, fin_counted, opened_state, options_taken, syn_answered, syn_received}
@@ -323,7 +323,7 @@ module _ (v : View) (now : Instant) (word : ℕ) (ip : IpRepr) (s : Segment) whe
 
   pub process_brings : (r : Rules) → Brings (processed_by r v now word ip s).view
   unfolding processed_by
-  process_brings r = by_verdict_brings r (verdict_of v s.control s.ack_number)
+  process_brings r = by_verdict_brings r (verdict_by r v now s)
 
   -- ---- the peer
 
@@ -376,7 +376,7 @@ module _ (v : View) (now : Instant) (word : ℕ) (ip : IpRepr) (s : Segment) whe
 
   pub process_peers : (r : Rules) → Peered v → Peered (processed_by r v now word ip s).view
   unfolding processed_by
-  process_peers r p = by_verdict_peers r (verdict_of v s.control s.ack_number) p
+  process_peers r p = by_verdict_peers r (verdict_by r v now s) p
 
   -- ---- the reply
 
@@ -409,4 +409,4 @@ module _ (v : View) (now : Instant) (word : ℕ) (ip : IpRepr) (s : Segment) whe
 
   pub process_back : (r : Rules) → GoesBack s (processed_by r v now word ip s).reply
   unfolding processed_by
-  process_back r = by_verdict_back r (verdict_of v s.control s.ack_number)
+  process_back r = by_verdict_back r (verdict_by r v now s)

@@ -1,5 +1,5 @@
 -- What a segment tells a socket that waits for its peer.
-use Rattle.std.proofs.Common.{◌≡◌, ℕ, ◌+◌, ◌-◌, ◌<◌, ◌≤◌, ◌^◌, ◌*◌, ◌⊎◌, inl, inr, Bool, true, false, refl, sym, ap, subst, ◌∙◌, List, [], length, Option, Some, None, arith}
+use Rattle.std.proofs.Common.{◌≡◌, ℕ, ◌+◌, ◌-◌, ◌<◌, ◌≤◌, ◌^◌, ◌*◌, ◌⊎◌, inl, inr, Bool, true, false, refl, sym, ap, subst, ◌∙◌, List, [], length, Option, Some, arith}
 use Rattle.std.specs.Prelude.{if◌then◌else◌, ◌==◌}
 use Rattle.std.proofs.lemmas.Bool.{and_parts, eq-eqb, eqb-true}
 use Rattle.std.proofs.Math.Nat.{mul-pos}
@@ -20,7 +20,7 @@ use Rattle.sock_tcp.specs.Due.{flight}
 use Rattle.sock_tcp.specs.Process.{Outcome, challenged, close_restarted, outside, bytes_taken, tuple_of, after_table, processed_inside, has_window, tested_by, by_verdict, processed, processed_by}
 use Rattle.sock_tcp.specs.Replies.{ack_kept}
 use Rattle.sock_tcp.specs.Steps.{scale_of, window_of, window_taken, released, is_duplicate, is_last_ack, is_window_changed, duplicate_counted, ack_counted, una_advanced, acknowledged, timestamp_taken, timer_set, heard, joined, ack_delayed}
-use Rattle.sock_tcp.specs.Verdict.{verdict_of}
+use Rattle.sock_tcp.specs.Rfc.Checks.{verdict_by}
 use Rattle.sock_tcp.specs.View.{View}
 use Rattle.sock_tcp.specs.Window.{receive_window, is_inside, cut_of, cut_bytes}
 use Rattle.sock_tcp.specs.declared.acked.Acked.{Acked}
@@ -168,7 +168,7 @@ module _ (v : View) (now : Instant) (word : ℕ) (ip : IpRepr) (s : Segment) whe
   inside_as st b = after_table (advance_in st b a.fin u (arrival now (tuple_of ip s) word s) a.len) (arrival now (tuple_of ip s) word s) a cut.offset (cut_bytes cut s.payload)
 
   -- behind the tests of the verdict and of the window
-  in_window : (r : Rules) → verdict_of v s.control s.ack_number ≡ verdicts.Pass → has_window v.state ≡ true → is_inside (receive_window v) s.seq_number (length s.payload) ≡ true → processed_by r v now word ip s ≡ recovered_by r v now s (inside_as v.state c)
+  in_window : (r : Rules) → verdict_by r v now s ≡ verdicts.Pass → has_window v.state ≡ true → is_inside (receive_window v) s.seq_number (length s.payload) ≡ true → processed_by r v now word ip s ≡ recovered_by r v now s (inside_as v.state c)
   unfolding processed_by processed_inside advanced
   in_window r p has i = rw (p, has, i) refl
 
@@ -233,7 +233,7 @@ module _ (v : View) (now : Instant) (word : ℕ) (ip : IpRepr) (s : Segment) whe
   unfolding recovered
   recovered_tells o h = h
 
-  tells : TellsWindow v s → Tells (processed v now word ip s)
+  tells : TellsWindow v now s → Tells (processed v now word ip s)
   tells h = let t : Tells (inside_as v.state c) = rw h.no_bit (row_tells v.state a.fin h.hears) in rw (in_window v.rules h.passes (has v.state h.hears) h.inside) (recovered_as Tells v.rules v now s (inside_as v.state c) t (recovered_tells (inside_as v.state c) t) t)
 
   abbrev Fast : Outcome → Type 0
@@ -259,7 +259,7 @@ not_listening _ h e = absurd cc
 
 pub last_ack_hears_nothing : LastAckHearsNothing
 unfolding processed_by
-last_ack_hears_nothing v now word ip s is h = last_ack v now word ip s v.rules is h (verdict_of v s.control s.ack_number)
+last_ack_hears_nothing v now word ip s is h = last_ack v now word ip s v.rules is h (verdict_by v.rules v now s)
 
 pub window_wakes : WindowWakes
 window_wakes v now word ip s t f r small numbered h z send =

@@ -41,6 +41,7 @@ use Rattle.sock_tcp.specs.Rfc.Refused.{is_plain_control, refused}
 use Rattle.sock_tcp.specs.declared.recovery.Before.{Before}
 use Rattle.sock_tcp.specs.declared.rules.Rules.{Rules}
 use Rattle.sock_tcp.proofs.Recovering.{recovered_as, waited_as}
+use Rattle.sock_tcp.proofs.Checking.{verdict_as}
 use Rattle.sock_tcp.proofs.Refusing.{fin_is_plain, heard_alone, plain_is_no_rst, refused_as}
 
 -- ---- what a segment that passes acknowledges
@@ -151,7 +152,7 @@ module _ (s : Segment) (now : Instant) where
 
     hears_nothing : (u : View) → s.ack_number ≡ None → Hears u → LeavesRow u (seq_sub u.remote_last_seq u.local_seq_no) (length u.tx_buffer.bytes - a.len) → IsOrdered (heard u now a s)
     unfolding heard window_taken released timestamp_taken timer_set acknowledged
-    hears_nothing u e h leaves = subst (λ o. IsOrdered (timer_set (timestamp_taken (acknowledged x o now a.len (length s.payload) changed) s.timestamp) now a)) (sym e) by_none
+    hears_nothing u e h leaves = subst (λ o. IsOrdered (timer_set (timestamp_taken (acknowledged x o now a.len (length s.payload) changed) s) now a)) (sym e) by_none
       where
         x : View
         x = released (window_taken u now s.control s.window_len) a.len
@@ -160,7 +161,7 @@ module _ (s : Segment) (now : Instant) where
         changed = is_window_changed u s.control s.window_len
 
         y : View
-        y = timestamp_taken x s.timestamp
+        y = timestamp_taken x s
 
         t : Timer
         t = probe_set (timer_acked u.timer y now a) y now a
@@ -171,7 +172,7 @@ module _ (s : Segment) (now : Instant) where
         row : Row st t u.keep_alive (seq_sub u.remote_last_seq u.local_seq_no) (length (drop a.len u.tx_buffer.bytes))
         row = subst (λ n. Row st t u.keep_alive (seq_sub u.remote_last_seq u.local_seq_no) n) (sym long) (leaves t (set_has_moment now a u.timer y) (λ c f z. close_stays now a u.timer y c (long ∙ z)))
 
-        by_none : IsOrdered (timer_set (timestamp_taken (acknowledged x None now a.len (length s.payload) changed) s.timestamp) now a)
+        by_none : IsOrdered (timer_set (timestamp_taken (acknowledged x None now a.len (length s.payload) changed) s) now a)
         by_none = record {
           una_small = h.una_small;
           nxt_small = h.nxt_small;
@@ -184,7 +185,7 @@ module _ (s : Segment) (now : Instant) where
     hears : (u : View) (k : TcpSeqNumber) → s.ack_number ≡ Some k → k.0 < 2 ^ 32 → Hears u → seq_sub u.remote_last_seq u.local_seq_no < 2 ^ 31 → seq_sub k u.local_seq_no < 2 ^ 31
         → LeavesRow u (seq_sub u.remote_last_seq u.local_seq_no - seq_sub k u.local_seq_no) (length u.tx_buffer.bytes - a.len) → IsOrdered (heard u now a s)
     unfolding heard window_taken released timestamp_taken timer_set acknowledged duplicate_counted ack_counted una_advanced
-    hears u k e small h fn fk leaves = subst (λ o. IsOrdered (timer_set (timestamp_taken (acknowledged x o now a.len (length s.payload) changed) s.timestamp) now a)) (sym e) (by (is_duplicate x k (length s.payload) changed) refl)
+    hears u k e small h fn fk leaves = subst (λ o. IsOrdered (timer_set (timestamp_taken (acknowledged x o now a.len (length s.payload) changed) s) now a)) (sym e) (by (is_duplicate x k (length s.payload) changed) refl)
       where
         x : View
         x = released (window_taken u now s.control s.window_len) a.len
@@ -211,10 +212,10 @@ module _ (s : Segment) (now : Instant) where
         peered = subst (λ z. IsPeeredIn z u.tuple) (sym h.state) h.peered
 
         after_duplicate : View
-        after_duplicate = timestamp_taken (una_advanced (duplicate_counted x now) k) s.timestamp
+        after_duplicate = timestamp_taken (una_advanced (duplicate_counted x now) k) s
 
         after_ack : View
-        after_ack = timestamp_taken (una_advanced (ack_counted x now k a.len) k) s.timestamp
+        after_ack = timestamp_taken (una_advanced (ack_counted x now k a.len) k) s
 
         in_order : is_duplicate x k (length s.payload) changed ≡ true → flight ≡ 0 → ⊥
         in_order d f =
@@ -223,7 +224,7 @@ module _ (s : Segment) (now : Instant) where
             let l : seq_sub k u.local_seq_no < seq_sub u.remote_last_seq u.local_seq_no = less_in_flight k u.remote_last_seq u.local_seq_no small h.nxt_small h.una_small fn fk b.0 in
             omega (arith, l, f)
 
-        by : (b : Bool) → is_duplicate x k (length s.payload) changed ≡ b → IsOrdered (timer_set (timestamp_taken (ack_heard b x now k a.len) s.timestamp) now a)
+        by : (b : Bool) → is_duplicate x k (length s.payload) changed ≡ b → IsOrdered (timer_set (timestamp_taken (ack_heard b x now k a.len) s) now a)
         by true d = record {
           una_small = small;
           nxt_small = later_small u.remote_last_seq k h.nxt_small small;
@@ -477,7 +478,7 @@ module _ (now : Instant) (word : ℕ) (ip : IpRepr) (s : Segment) (small : word 
 
   pub process_ordered : (r : Rules) (v : View) → IsOrdered v → (v.state ≡ state.Listen → s.ack_number ≡ None) → IsOrdered (processed_by r v now word ip s).view
   unfolding processed_by
-  process_ordered r v h bare = by (verdict_of v s.control s.ack_number) refl
+  process_ordered r v h bare = verdict_as (λ x. IsOrdered (by_verdict r x v (arrival now (tuple_of ip s) word s)).view) r v now s (λ w. h) (λ w. challenged_ordered s now v h) (by (verdict_of v s.control s.ack_number) refl)
     where
       by : (x : Verdict) → verdict_of v s.control s.ack_number ≡ x → IsOrdered (by_verdict r x v (arrival now (tuple_of ip s) word s)).view
       by verdicts.Drop e = h

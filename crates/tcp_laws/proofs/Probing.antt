@@ -112,7 +112,7 @@ module _ (s : Segment) (now : Instant) where
       x = acked_view IsProbing now s u a
 
       probes : (y : View) → 48 ≤ y.remote_mss → IsProbing (timer_then IsProbing now s u a y)
-      probes y mss = let z = timestamp_taken y s.timestamp in record { window = set_probes now (timer_acked z.timer z now a) z a; mss = mss }
+      probes y mss = let z = timestamp_taken y s in record { window = set_probes now (timer_acked z.timer z now a) z a; mss = mss }
 
   rows_probing : (word : ℕ) → KeptByRows IsProbing now word s
   unfolding fallen_back syn_received syn_answered options_taken fin_counted

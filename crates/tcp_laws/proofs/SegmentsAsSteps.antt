@@ -32,6 +32,7 @@ use Rattle.sock_tcp.specs.Rfc.Recovery.{recovered_by}
 use Rattle.sock_tcp.specs.Rfc.Refused.{answered_if_not, is_heard_outside, refused, rfc_refused, then_answered}
 use Rattle.sock_tcp.specs.declared.rules.Rules.{Rules}
 use Rattle.sock_tcp.specs.declared.rules.Rules.TheVariants as rules
+use Rattle.sock_tcp.proofs.Checking.{verdict_as}
 use Rattle.sock_tcp.proofs.Refusing.{counts_fin, heard_alone}
 
 -- ---- a segment that draws no word
@@ -95,7 +96,7 @@ module _ (now : Instant) (m n : ℕ) (ip : IpRepr) (s : Segment) where
 
   processed_alike : (r : Rules) (v : View) → draws (verdict_of v s.control s.ack_number) v.state s.control ≡ false → processed_by r v now m ip s ≡ processed_by r v now n ip s
   unfolding processed_by
-  processed_alike r v e = verdict_alike r v (verdict_of v s.control s.ack_number) e
+  processed_alike r v e = verdict_as (λ x. by_verdict r x v (arrival now (tuple_of ip s) m s) ≡ by_verdict r x v (arrival now (tuple_of ip s) n s)) r v now s (λ w. refl) (λ w. refl) (verdict_alike r v (verdict_of v s.control s.ack_number) e)
 
 -- ---- the calls
 

@@ -41,9 +41,9 @@ module _ (most : Duration) (minute : 60000000 ≤ most.micros) where
     delayed_timed w o bs h = record { timer = h.timer; waits = delayed_by most minute now w.ack_delay (joined w o bs) h.delay_short h.waits; timeout = h.timeout; keep_short = h.keep_short; delay_short = h.delay_short }
 
     -- a timer that is set at the end
-    set_timed : (y : View) (a : Acked) → IsTimed now most y → IsTimed now most (timer_set (timestamp_taken y s.timestamp) now a)
+    set_timed : (y : View) (a : Acked) → IsTimed now most y → IsTimed now most (timer_set (timestamp_taken y s) now a)
     unfolding timer_set timestamp_taken
-    set_timed y a h = record { timer = set_by most minute now (timer_acked y.timer (timestamp_taken y s.timestamp) now a) (timestamp_taken y s.timestamp) a h.keep_short h.timeout (acked_by most minute now y.timer (timestamp_taken y s.timestamp) a h.keep_short h.timeout h.timer); waits = h.waits; timeout = h.timeout; keep_short = h.keep_short; delay_short = h.delay_short }
+    set_timed y a h = record { timer = set_by most minute now (timer_acked y.timer (timestamp_taken y s) now a) (timestamp_taken y s) a h.keep_short h.timeout (acked_by most minute now y.timer (timestamp_taken y s) a h.keep_short h.timeout h.timer); waits = h.waits; timeout = h.timeout; keep_short = h.keep_short; delay_short = h.delay_short }
 
     counted_timed : (x : View) (o : Option TcpSeqNumber) (n payload : ℕ) (changed : Bool) → IsTimed now most x → IsTimed now most (acknowledged x o now n payload changed)
     unfolding acknowledged duplicate_counted ack_counted una_advanced

@@ -12,7 +12,7 @@ use Rattle.sock_tcp.specs.Due.{data_due, flight, is_closing}
 use Rattle.sock_tcp.specs.Polls.{is_reached, timeout_poll}
 use Rattle.sock_tcp.specs.Process.{processed}
 use Rattle.sock_tcp.specs.Steps.{is_duplicate, is_window_changed}
-use Rattle.sock_tcp.specs.Verdict.{verdict_of}
+use Rattle.sock_tcp.specs.Rfc.Checks.{verdict_by}
 use Rattle.sock_tcp.specs.View.{View}
 use Rattle.sock_tcp.specs.Window.{receive_window, is_inside}
 use Rattle.sock_tcp.specs.declared.state.State.TheVariants as state
@@ -71,9 +71,9 @@ hears_window state.Closing = true
 hears_window _ = false
 
 -- a segment that passes, lies in the receive window, counts as one without a control bit, and tells a window
-pub record TellsWindow (v : View) (s : Segment) : Type 0 where
+pub record TellsWindow (v : View) (now : Instant) (s : Segment) : Type 0 where
   pub hears : hears_window v.state ≡ true
-  pub passes : verdict_of v s.control s.ack_number ≡ verdicts.Pass
+  pub passes : verdict_by v.rules v now s ≡ verdicts.Pass
   pub inside : is_inside (receive_window v) s.seq_number (length s.payload) ≡ true
   pub no_bit : counted_control s.control (receive_window v) s.seq_number (length s.payload) ≡ control.None
   pub window : 0 < s.window_len
@@ -88,7 +88,7 @@ WindowWakes = (v : View) (now : Instant) (word : ℕ) (ip : IpRepr) (s : Segment
     → IsReached v
     → word < 2 ^ 32
     → IsNumbered s
-    → TellsWindow v s
+    → TellsWindow v now s
     → flight (processed v now word ip s).view ≡ 0
     → HasToSend (processed v now word ip s).view
     → data_due (processed v now word ip s).view t f ≡ true
@@ -116,6 +116,6 @@ abbrev pub ThirdDuplicateWakes : Type 0
 ThirdDuplicateWakes = (v : View) (now : Instant) (word : ℕ) (ip : IpRepr) (s : Segment) (ack : TcpSeqNumber)
     → IsReached v
     → IsNumbered s
-    → TellsWindow v s
+    → TellsWindow v now s
     → IsThirdDuplicate v s ack
     → Resends v.rules (processed v now word ip s).view.timer

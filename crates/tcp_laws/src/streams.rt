@@ -20,7 +20,7 @@ ghost use Rattle.tcp_laws.specs.SocketBytes.{begins, KeepsPlaces};
 ghost use Rattle.tcp_laws.specs.SocketRun.{Counts, Step, Run, Promised, starting, DispatchesOut};
 ghost use Rattle.tcp_laws.specs.SocketRun.{any_filling, answer_of, any_taking, read_answer_of};
 ghost use Rattle.tcp_laws.specs.SocketRun.{IsNumbered, after_segment, opens_listener, starting_if};
-ghost use Rattle.sock_tcp.specs.Replies.{IsReplyStamp};
+ghost use Rattle.sock_tcp.specs.Replies.{IsReplyStamp, echoed};
 ghost use Rattle.sock_tcp.specs.Settings.{of_kind};
 ghost use Rattle.sock_tcp.specs.View.{View, fresh};
 ghost use Rattle.sock_tcp.specs.declared.rules.Rules.{Rules};
@@ -184,7 +184,8 @@ pub fn process_receives<G: TsvalSource, C: Context>(
 ) -> Option<Reply>
     requires accepted { Accepts socket.old.control_block ip_repr.now (segment_of repr.now) }
     requires small { length repr.now.payload.now ≤ 65535 }
-    ensures table { Processes C.facts C.word_at (IsReplyStamp G.tells socket.new.tsval_generator repr.now.timestamp)
+    ensures table { Processes C.facts C.word_at
+        (IsReplyStamp G.tells socket.new.tsval_generator (echoed socket.new.control_block repr.now.timestamp))
         socket.old.control_block cx.old ip_repr.now (segment_of repr.now) result socket.new.control_block cx.new }
     ensures generator { socket.new.tsval_generator
         ≡ source_kept socket.new.control_block.stamps socket.old.tsval_generator }

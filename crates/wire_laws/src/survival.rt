@@ -10,7 +10,7 @@ ghost use Rattle.control_wire.specs.Fits.{FitsPacket};
 ghost use Rattle.control_wire.specs.Segment.{segment_of};
 ghost use Rattle.sock_tcp.specs.Dispatch.{Dispatches};
 ghost use Rattle.sock_tcp.specs.Process.{Accepts, Processes, reply_of};
-ghost use Rattle.sock_tcp.specs.Replies.{IsReplyStamp, bare_reply, rst_segment, with_header};
+ghost use Rattle.sock_tcp.specs.Replies.{IsReplyStamp, bare_reply, echoed, rst_segment, with_header};
 ghost use Rattle.wire_laws.specs.Survival.{DispatchesSurviving, Survives, SurvivesWithPorts};
 
 use crate::widths::has_widths;
@@ -62,8 +62,8 @@ pub fn process_answers_a_packet<G: TsvalSource, C: Context>(
     requires accepted { Accepts socket.old.control_block ip_repr.now (segment_of repr.now) }
     requires small { length repr.now.payload.now ≤ 65535 }
     ensures call { Processes C.facts C.word_at
-        (IsReplyStamp G.tells socket.new.tsval_generator repr.now.timestamp) socket.old.control_block cx.old
-        ip_repr.now (segment_of repr.now) result socket.new.control_block cx.new }
+        (IsReplyStamp G.tells socket.new.tsval_generator (echoed socket.new.control_block repr.now.timestamp))
+        socket.old.control_block cx.old ip_repr.now (segment_of repr.now) result socket.new.control_block cx.new }
     ensures survives { ForSome (option_map reply_of result) (λ r. SurvivesWithPorts r.0 r.1) }
 {
     let reply = socket.process(cx, ip_repr, repr);

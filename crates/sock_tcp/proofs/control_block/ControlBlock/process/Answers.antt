@@ -9,4 +9,4 @@ pub returns-in-Pass-clause-stamps : goal.returns-in-Pass-clause-stamps
 returns-in-Pass-clause-stamps g c = stamps_fall c.process_by_rules.result c.args.self.now c.process_by_rules.new.self _ _ c.args.ip_repr.now (segment_of c.args.repr.now) _ c.process_by_rules.ensures.table
 
 pub returns-in-Pass-clause-table : goal.returns-in-Pass-clause-table
-returns-in-Pass-clause-table g c = passes _ c.args.self.now.rules c.args.self.now c.now-now.result (g.C.Context.word_at c.args.cx.now 0) c.args.ip_repr.now (segment_of c.args.repr.now) (sym c.verdict.ensures ∙ c.in-Pass.is) c.process_by_rules.ensures.table ∙ (λ i. processed_by c.args.self.now.rules c.args.self.now (record { micros = c.now-now.ensures.value i }) (g.C.Context.word_at c.args.cx.now 0) c.args.ip_repr.now (segment_of c.args.repr.now))
+returns-in-Pass-clause-table g c = passes _ c.args.self.now.rules c.args.self.now c.now-now.result (g.C.Context.word_at c.args.cx.now 0) c.args.ip_repr.now (segment_of c.args.repr.now) (sym c.verdict_by_rules.ensures.value ∙ c.in-Pass.is) c.process_by_rules.ensures.table ∙ (λ i. processed_by c.args.self.now.rules c.args.self.now (record { micros = c.now-now.ensures.value i }) (g.C.Context.word_at c.args.cx.now 0) c.args.ip_repr.now (segment_of c.args.repr.now))

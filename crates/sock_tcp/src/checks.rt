@@ -1,0 +1,112 @@
+//! What the RFCs' rules ask of a segment before its acknowledgement (RFC 5961, sections 3.2 and 4.2; RFC 1337; RFC
+//! 7323, sections 3.2 and 5).
+ghost use Rattle.std.specs.Prelude.{◌≡◌};
+ghost use Rattle.control_wire.specs.Segment.{segment_of};
+ghost use Rattle.sock_tcp.specs.Draw.{draws};
+ghost use Rattle.sock_tcp.specs.Rfc.Checks.{checked, is_forgotten, is_older, rst_checked, stamp_checked};
+ghost use Rattle.sock_tcp.specs.Rfc.Checks.{verdict_by};
+ghost use Rattle.sock_tcp.specs.Verdict.{verdict_of};
+ghost use Rattle.sock_tcp.specs.declared.rules.Rules.TheVariants.{Rfc};
+ghost use Rattle.sock_tcp.specs.declared.verdict.Verdict.TheVariants.{Pass};
+
+use crate::advance::Next;
+use crate::control_block::ControlBlock;
+use crate::rules::Rules;
+use crate::state::State;
+use crate::timer::{after, is_over};
+use crate::verdict::Verdict;
+use crate::window::Window;
+use control_wire::{TcpControl, TcpRepr, TcpSeqNumber, TcpTimestampRepr};
+use net_base::time::{Duration, Instant};
+use sock_core::seq::before;
+
+// For so long a timestamp counts without a segment: 24 days.
+const RECENT_LIFE: Duration = Duration {
+    micros: 2_073_600_000_000,
+};
+
+// An RST counts at RCV.NXT alone.
+fn check_rst(window: Window, number: TcpSeqNumber) -> Next
+    ensures { result ≡ rst_checked window number }
+{
+    if number == window.start {
+        Next::Continue
+    } else if window.starts_inside(number) {
+        Next::Challenge
+    } else {
+        Next::Stop
+    }
+}
+
+// Whether `tsval` lies before the timestamp `recent`.
+fn is_older(tsval: u32, recent: u32) -> bool
+    ensures { result ≡ is_older tsval recent }
+{
+    before(TcpSeqNumber(tsval), TcpSeqNumber(recent))
+}
+
+impl<'a> ControlBlock<'a> {
+    // Whether no segment came for so long that the last timestamp says nothing.
+    fn is_forgotten(&self, now: Instant) -> bool
+        ensures { result ≡ is_forgotten self.now.remote_last_ts now }
+    {
+        match self.remote_last_ts {
+            None => true,
+            Some(at) => is_over(after(at, RECENT_LIFE), now),
+        }
+    }
+
+    // Where timestamps were agreed, a segment without one is dropped, and one with an older one is answered.
+    fn check_stamp(&self, now: Instant, timestamp: Option<TcpTimestampRepr>) -> Next
+        ensures { result ≡ stamp_checked self.now now timestamp }
+    {
+        match (self.stamps, timestamp) {
+            (true, None) => Next::Stop,
+            (true, Some(came)) if is_older(came.tsval, self.last_remote_tsval) && !self.is_forgotten(now) => {
+                Next::Challenge
+            }
+            _ => Next::Continue,
+        }
+    }
+
+    // By state and control bit.
+    #[tactic(auto, unfolding(crate::specs::Rfc::Checks::checked))]
+    fn check(&self, now: Instant, repr: &TcpRepr<'_>) -> Next
+        ensures { result ≡ checked self.now now (segment_of repr.now) }
+    {
+        match (self.state, repr.control) {
+            (State::Listen | State::SynSent, _) => Next::Continue,
+            (State::TimeWait, TcpControl::Rst) => Next::Stop,
+            (_, TcpControl::Rst) => check_rst(self.receive_window(), repr.seq_number),
+            (State::SynReceived, TcpControl::Syn) => self.check_stamp(now, repr.timestamp),
+            (_, TcpControl::Syn) => Next::Challenge,
+            _ => self.check_stamp(now, repr.timestamp),
+        }
+    }
+
+    // By the RFCs' rules.
+    #[inline(never)]
+    fn checked_verdict(&self, now: Instant, repr: &TcpRepr<'_>) -> Verdict
+        ensures { result ≡ verdict_by Rfc self.now now (segment_of repr.now) }
+    {
+        match self.check(now, repr) {
+            Next::Stop => Verdict::Drop,
+            Next::Challenge => Verdict::Challenge,
+            Next::Continue => self.verdict(repr.control, repr.ack_number),
+        }
+    }
+
+    // By the socket's rules.
+    #[inline(always)]
+    pub(crate) fn verdict_by_rules(&self, now: Instant, repr: &TcpRepr<'_>) -> Verdict
+        ensures value { result ≡ verdict_by self.now.rules self.now now (segment_of repr.now) }
+        ensures passes { result ≡ Pass → verdict_of self.now repr.now.control repr.now.ack_number ≡ Pass }
+        ensures draws { draws (verdict_of self.now repr.now.control repr.now.ack_number) self.now.state repr.now.control
+            ≡ draws result self.now.state repr.now.control }
+    {
+        match self.rules {
+            Rules::Smoltcp => self.verdict(repr.control, repr.ack_number),
+            Rules::Rfc => self.checked_verdict(now, repr),
+        }
+    }
+}
