@@ -67,9 +67,15 @@ reno_acked r n = if n == 0 then r else reno_grows r (growth r n)
 unfoldable pub reno_counted : RenoNumbers → ℕ → Bool → RenoNumbers
 reno_counted r n careful = if n == 0 then r else reno_grows r (growth_in_bytes r n careful)
 
--- a connection was opened
-unfoldable pub reno_opened : RenoNumbers → RenoNumbers
-reno_opened r = record r { cwnd = initial_window r }
+abbrev pub reno_with_mss : RenoNumbers → ℕ → RenoNumbers
+reno_with_mss r mss = record r { mss = mss }
+
+-- a connection was opened, to a peer with this maximum segment size
+abbrev pub with_initial_window : RenoNumbers → RenoNumbers
+with_initial_window r = record r { cwnd = initial_window r }
+
+unfoldable pub reno_opened : RenoNumbers → ℕ → RenoNumbers
+reno_opened r mss = with_initial_window (reno_with_mss r (max mss 1))
 
 unfoldable pub reno_dup_acked : RenoNumbers → ℕ → RenoNumbers
 reno_dup_acked r n = if r.in_recovery then record r { cwnd = bounded r (r.cwnd + n) } else r
@@ -100,9 +106,6 @@ reno_timed_out r flight =
       in_timeout = true;
       in_recovery = false;
     }
-
-abbrev pub reno_with_mss : RenoNumbers → ℕ → RenoNumbers
-reno_with_mss r mss = record r { mss = mss }
 
 abbrev pub reno_with_remote_window : RenoNumbers → ℕ → RenoNumbers
 reno_with_remote_window r window = record r { rwnd = max r.rwnd window }
@@ -154,9 +157,9 @@ unfoldable pub bytes_acked : AnyController → Instant → ℕ → Bool → AnyC
 bytes_acked (controller.None n) now len careful = controller.None n
 bytes_acked (controller.Reno r) now len careful = controller.Reno (reno_on_bytes_acked r now len careful)
 
-unfoldable pub opened : AnyController → AnyController
-opened (controller.None n) = controller.None n
-opened (controller.Reno r) = controller.Reno (reno_opened r)
+unfoldable pub opened : AnyController → ℕ → AnyController
+opened (controller.None n) mss = controller.None n
+opened (controller.Reno r) mss = controller.Reno (reno_opened r mss)
 
 unfoldable pub dup_acked : AnyController → Instant → ℕ → ℕ → AnyController
 dup_acked (controller.None n) now len flight = controller.None n

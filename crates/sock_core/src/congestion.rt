@@ -31,7 +31,7 @@ pub trait Controller {
 
     ghost after_bytes_acked: { Self → Instant → ℕ → Bool → Self };
 
-    ghost after_open: { Self → Self };
+    ghost after_open: { Self → ℕ → Self };
 
     ghost after_dup_ack: { Self → Instant → ℕ → ℕ → Self };
 
@@ -67,9 +67,9 @@ pub trait Controller {
     fn on_bytes_acked(&mut self, now: Instant, len: usize, careful: bool)
         ensures { self.new ≡ after_bytes_acked self.old now len careful };
 
-    /// A connection was opened: the initial window is that of RFC 6928.
-    fn open(&mut self)
-        ensures { self.new ≡ after_open self.old };
+    /// A connection was opened to a peer with this maximum segment size: the initial window is that of RFC 6928.
+    fn open(&mut self, mss: usize)
+        ensures { self.new ≡ after_open self.old mss };
 
     /// A duplicate acknowledgement came, which tells that `len` bytes, a segment, left the network.
     fn on_dup_ack(&mut self, now: Instant, len: usize, in_flight: usize)
@@ -144,7 +144,7 @@ impl Controller for NoControl {
 
     ghost after_bytes_acked = { λ c now len careful. c };
 
-    ghost after_open = { λ c. c };
+    ghost after_open = { λ c mss. c };
 
     ghost after_dup_ack = { λ c now len flight. c };
 
@@ -170,7 +170,7 @@ impl Controller for NoControl {
 
     fn on_bytes_acked(&mut self, _now: Instant, _len: usize, _careful: bool) {}
 
-    fn open(&mut self) {}
+    fn open(&mut self, _mss: usize) {}
 
     fn on_dup_ack(&mut self, _now: Instant, _len: usize, _in_flight: usize) {}
 
@@ -250,10 +250,10 @@ impl Controller for AnyController {
     }
 
     #[tactic(auto, unfolding(crate::specs::Congestion::opened))]
-    fn open(&mut self) {
+    fn open(&mut self, mss: usize) {
         match self {
-            AnyController::None(none) => none.open(),
-            AnyController::Reno(reno) => reno.open(),
+            AnyController::None(none) => none.open(mss),
+            AnyController::Reno(reno) => reno.open(mss),
         }
     }
 

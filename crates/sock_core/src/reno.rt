@@ -226,7 +226,8 @@ impl Controller for Reno {
     }
 
     #[tactic(auto, unfolding(crate::specs::Congestion::reno_opened))]
-    fn open(&mut self) {
+    fn open(&mut self, mss: usize) {
+        self.mss = mss.max(1);
         self.cwnd = self.initial_window();
     }
 

@@ -457,7 +457,7 @@ impl Before {
         let is_opened = self.is_opened(after);
         if is_opened && !after.rtte.is_backed_off() {
             let mut controller = after.congestion_controller;
-            controller.open();
+            controller.open(after.remote_mss);
             return controller;
         }
         if self.is_news(after) && !is_opened {

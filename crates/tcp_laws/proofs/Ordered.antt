@@ -183,17 +183,25 @@ module _ (r : RenoNumbers) (h : RenoOpen r) where
   halved_open : (flight : ℕ) → 0 < congestion.halved r flight
   halved_open flight = omega (arith, h.mss)
 
+  reno_grows_open : (b : Bool) (more : ℕ) → RenoOpen (if b then r else congestion.reno_grows r more)
+  reno_grows_open true more = h
+  reno_grows_open false more = record { cwnd = window r.in_recovery; mss = h.mss; ssthresh = h.ssthresh }
+    where
+      window : (b : Bool) → 0 < (if b then r.ssthresh else congestion.bounded r (r.cwnd + more))
+      window true = h.ssthresh
+      window false = bounded_open (r.cwnd + more)
+
   reno_acked_open : (n : ℕ) → RenoOpen (congestion.reno_acked r n)
   unfolding congestion.reno_acked
-  reno_acked_open n = go (n == 0)
-    where
-      window : (b : Bool) → 0 < (if b then r.ssthresh else congestion.bounded r (r.cwnd + congestion.growth r n))
-      window true = h.ssthresh
-      window false = bounded_open (r.cwnd + congestion.growth r n)
+  reno_acked_open n = reno_grows_open (n == 0) (congestion.growth r n)
 
-      go : (b : Bool) → RenoOpen (if b then r else congestion.reno_gains r n)
-      go true = h
-      go false = record { cwnd = window r.in_recovery; mss = h.mss; ssthresh = h.ssthresh }
+  reno_counted_open : (n : ℕ) (careful : Bool) → RenoOpen (congestion.reno_counted r n careful)
+  unfolding congestion.reno_counted
+  reno_counted_open n careful = reno_grows_open (n == 0) (congestion.growth_in_bytes r n careful)
+
+  reno_opened_open : (mss : ℕ) → RenoOpen (congestion.reno_opened r mss)
+  unfolding congestion.reno_opened
+  reno_opened_open mss = record { cwnd = omega arith; mss = omega arith; ssthresh = h.ssthresh }
 
   reno_partially_open : (n : ℕ) → RenoOpen (congestion.reno_partially_acked r n)
   unfolding congestion.reno_partially_acked
@@ -231,6 +239,16 @@ pub acked_open : (c : AnyController) (now : Instant) (n flight : ℕ) (rtte : Es
 unfolding congestion.acked congestion.reno_on_ack
 acked_open (controller.None x) now n flight rtte h = tt
 acked_open (controller.Reno r) now n flight rtte h = reno_acked_open r h n
+
+pub bytes_acked_open : (c : AnyController) (now : Instant) (n : ℕ) (careful : Bool) → IsOpen c → IsOpen (congestion.bytes_acked c now n careful)
+unfolding congestion.bytes_acked congestion.reno_on_bytes_acked
+bytes_acked_open (controller.None x) now n careful h = tt
+bytes_acked_open (controller.Reno r) now n careful h = reno_counted_open r h n careful
+
+pub opened_open : (c : AnyController) (mss : ℕ) → IsOpen c → IsOpen (congestion.opened c mss)
+unfolding congestion.opened
+opened_open (controller.None x) mss h = tt
+opened_open (controller.Reno r) mss h = reno_opened_open r h mss
 
 pub partially_acked_open : (c : AnyController) (now : Instant) (n : ℕ) → IsOpen c → IsOpen (congestion.partially_acked c now n)
 unfolding congestion.partially_acked congestion.reno_on_partial_ack

@@ -33,10 +33,10 @@ use Rattle.sock_tcp.specs.declared.verdict.Verdict.{Verdict}
 use Rattle.sock_tcp.specs.declared.verdict.Verdict.TheVariants as verdicts
 use Rattle.sock_tcp.proofs.Acking.{acked_fits, none_acked, between, fin_place_le, one_place, passes, two_guards}
 use Rattle.tcp_laws.proofs.Kept.{KeptByAnswers, bytes_kept, challenged_kept, outside_kept}
-use Rattle.tcp_laws.proofs.Ordered.{HasMoment, IsOpen, IsOrdered, IsPeeredIn, Row, is_close, acked_open, close_stays, dup_acked_open, idle_has_moment, later_small, partially_acked_open, left_in_flight, less_in_flight, set_has_moment, taken_open, window_open}
-use Rattle.sock_core.specs.Congestion.{dup_acked, partially_acked, with_remote_window}
+use Rattle.tcp_laws.proofs.Ordered.{HasMoment, IsOpen, IsOrdered, IsPeeredIn, Row, is_close, acked_open, bytes_acked_open, close_stays, dup_acked_open, idle_has_moment, later_small, opened_open, partially_acked_open, left_in_flight, less_in_flight, set_has_moment, taken_open, window_open}
+use Rattle.sock_core.specs.Congestion.{bytes_acked, dup_acked, opened, partially_acked, with_remote_window}
 use Rattle.sock_tcp.specs.Due.{flight as flight_of}
-use Rattle.sock_tcp.specs.Rfc.Recovery.{before_of, controller_after, has_timer, is_partial, is_uncounted, lets_out, recovered, waited_for}
+use Rattle.sock_tcp.specs.Rfc.Recovery.{before_it, before_of, controller_after, has_timer, is_news, is_opened, is_partial, is_timed_out, is_uncounted, lets_out, opens_well, recovered, told_of_bytes, waited_for}
 use Rattle.sock_tcp.specs.Rfc.Refused.{is_plain_control, refused}
 use Rattle.sock_tcp.specs.declared.recovery.Before.{Before}
 use Rattle.sock_tcp.specs.declared.rules.Rules.{Rules}
@@ -446,11 +446,19 @@ module _ (now : Instant) (word : ℕ) (ip : IpRepr) (s : Segment) (small : word 
   controller_open : (b : Before) (w : View) → IsOpen b.controller → IsOpen w.congestion_controller → IsOpen (controller_after b w now)
   controller_open b w h i = by (is_partial b w) (lets_out b w) (is_uncounted b w)
     where
-      by : (p o g : Bool) → IsOpen (if p then partially_acked (with_remote_window b.controller w.remote_win_len) now (seq_sub w.local_seq_no b.una) else (if o then with_remote_window b.controller w.remote_win_len else (if g then dup_acked w.congestion_controller now w.remote_mss (flight_of w) else w.congestion_controller)))
-      by true o g = partially_acked_open _ now _ (window_open b.controller w.remote_win_len h)
-      by false true g = window_open b.controller w.remote_win_len h
+      before : IsOpen (before_it b w)
+      before = window_open b.controller w.remote_win_len h
+
+      told : (o n : Bool) → IsOpen (if o then opened w.congestion_controller w.remote_mss else (if n then bytes_acked (before_it b w) now (seq_sub w.local_seq_no b.una) (is_timed_out b.recovery) else w.congestion_controller))
+      told true n = opened_open w.congestion_controller w.remote_mss i
+      told false true = bytes_acked_open _ now _ (is_timed_out b.recovery) before
+      told false false = i
+
+      by : (p o g : Bool) → IsOpen (if p then partially_acked (before_it b w) now (seq_sub w.local_seq_no b.una) else (if o then before_it b w else (if g then dup_acked w.congestion_controller now w.remote_mss (flight_of w) else told_of_bytes b w now)))
+      by true o g = partially_acked_open _ now _ before
+      by false true g = before
       by false false true = dup_acked_open w.congestion_controller now w.remote_mss (flight_of w) i
-      by false false false = i
+      by false false false = told (opens_well b w) (is_news b w && not (is_opened b w))
 
   row_recovers : (st : State) (waited t : Timer) (keep : Option Duration) (f q : ℕ) → (HasMoment t keep → HasMoment waited keep) → Row st t keep f q → Row st (if has_timer st then waited else t) keep f q
   row_recovers state.Closed waited t keep f q m h = tt

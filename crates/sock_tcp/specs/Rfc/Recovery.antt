@@ -247,7 +247,7 @@ before_it b w = with_remote_window b.controller w.remote_win_len
 -- that it may send more (RFC 6928)
 abbrev pub told_of_bytes : Before → View → Instant → AnyController
 told_of_bytes b w now =
-    if opens_well b w then opened w.congestion_controller
+    if opens_well b w then opened w.congestion_controller w.remote_mss
     else (if is_news b w && not (is_opened b w)
     then bytes_acked (before_it b w) now (seq_sub w.local_seq_no b.una) (is_timed_out b.recovery)
     else w.congestion_controller)
