@@ -1,7 +1,7 @@
 -- How a dispatch begins: what comes before the reasons to send.
-use Rattle.std.specs.Prelude.{length, Option, Some, None, Bool, true, false, not, if◌then◌else◌}
+use Rattle.std.specs.Prelude.{ℕ, length, min, Option, Some, None, Bool, true, false, not, if◌then◌else◌}
 use Rattle.net_base.specs.declared.time.Instant.{Instant}
-use Rattle.sock_core.specs.Congestion.{lost, pre_transmitted, timed_out}
+use Rattle.sock_core.specs.Congestion.{congestion_window, lost, pre_transmitted, timed_out}
 use Rattle.sock_core.specs.Estimator.{backed_off, retransmitted}
 use Rattle.sock_core.specs.Facts.{Facts}
 use Rattle.sock_tcp.specs.Due.{flight, is_due}
@@ -11,6 +11,8 @@ use Rattle.sock_tcp.specs.Rfc.Recovery.{begun_by, timed_out_by}
 use Rattle.sock_tcp.specs.Rfc.Scoreboard.{nothing_told}
 use Rattle.sock_tcp.specs.Timers.{is_over, idle_from, is_close_over}
 use Rattle.sock_tcp.specs.View.{View, moment_of}
+use Rattle.sock_tcp.specs.declared.rules.Rules.{Rules}
+use Rattle.sock_tcp.specs.declared.rules.Rules.TheVariants as rules
 use Rattle.sock_tcp.specs.declared.state.State.{State}
 use Rattle.sock_tcp.specs.declared.state.State.TheVariants as state
 use Rattle.sock_tcp.specs.declared.timer.Timer.{Timer}
@@ -67,11 +69,19 @@ retransmission_begun v now =
       sacked = nothing_told;
     }
 
+-- what was in flight when a loss is told: by the RFCs' rules without what the first two duplicates let out beyond the
+-- congestion window (RFC 5681, section 3.2, step 2)
+abbrev pub flight_lost : Rules → ℕ → ℕ → ℕ
+flight_lost rules.Smoltcp flight window = flight
+flight_lost rules.Rfc flight window = min flight window
+
 -- a fast retransmission is marked (RFC 5681, section 3.2)
 unfoldable pub fast_retransmission_marked : View → Instant → View
 fast_retransmission_marked v now =
     record v {
-      congestion_controller = lost v.congestion_controller now (flight v);
+      congestion_controller =
+          lost v.congestion_controller now
+          (flight_lost v.rules (flight v) (congestion_window v.congestion_controller));
       pending_fast_retransmit = true;
       rtte = retransmitted v.rtte;
       timer = idle_from now v.keep_alive;

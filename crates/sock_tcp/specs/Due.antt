@@ -14,6 +14,10 @@ use Rattle.sock_tcp.specs.Polls.{is_reached, delay_poll}
 use Rattle.sock_tcp.specs.Timers.{is_keep_alive_over, is_probe_over}
 use Rattle.sock_tcp.specs.View.{View, moment_of}
 use Rattle.sock_tcp.specs.Window.{next_ack}
+use Rattle.sock_tcp.specs.declared.recovery.Recovery.{Recovery}
+use Rattle.sock_tcp.specs.declared.recovery.Recovery.TheVariants as recovery
+use Rattle.sock_tcp.specs.declared.rules.Rules.{Rules}
+use Rattle.sock_tcp.specs.declared.rules.Rules.TheVariants as rules
 use Rattle.sock_tcp.specs.declared.state.State.{State}
 use Rattle.sock_tcp.specs.declared.state.State.TheVariants as state
 use Rattle.sock_tcp.specs.declared.tuple.Tuple.{Tuple}
@@ -72,9 +76,17 @@ effective_mss v t f = min (own_mss f t) v.remote_mss - timestamp_room v.stamps
 abbrev pub flight : View → ℕ
 flight v = seq_sub v.remote_last_seq v.local_seq_no
 
+-- what the first two duplicates let out beyond the congestion window: a segment each (RFC 3042)
+abbrev pub limited_by : Rules → Recovery → ℕ → ℕ → ℕ
+limited_by rules.Rfc recovery.Open duplicates mss = min duplicates 2 * mss
+limited_by _ r duplicates mss = 0
+
+abbrev pub limited : View → ℕ
+limited v = limited_by v.rules v.recovery v.local_rx_dup_acks v.remote_mss
+
 -- what the congestion window leaves
 abbrev pub congestion_left : View → ℕ
-congestion_left v = congestion_window v.congestion_controller - flight v
+congestion_left v = congestion_window v.congestion_controller - (flight v - limited v)
 
 -- what of the transmit queue both windows let go out behind SND.NXT
 abbrev pub sendable : View → ℕ

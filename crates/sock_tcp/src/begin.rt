@@ -2,13 +2,15 @@
 ghost use Rattle.std.specs.Prelude.{◌≡◌};
 ghost use Rattle.sock_core.specs.Bounds.{IsMoment};
 ghost use Rattle.sock_tcp.specs.View.{moment_of};
-ghost use Rattle.sock_tcp.specs.Due.{is_due};
+ghost use Rattle.sock_tcp.specs.Due.{flight, is_due};
 ghost use Rattle.sock_tcp.specs.Begin.{last_ts_set, readied, retransmission_begun, fast_retransmission_marked};
-ghost use Rattle.sock_tcp.specs.Begin.{after_timers};
+ghost use Rattle.sock_core.specs.Congestion.{congestion_window};
+ghost use Rattle.sock_tcp.specs.Begin.{after_timers, flight_lost};
 ghost use Rattle.sock_tcp.specs.Begin.{is_paused, begun, nothing_due, before_emit_to, before_emit};
 
 use crate::control_block::ControlBlock;
 use crate::poll::{is_reached, timeout_poll};
+use crate::rules::Rules;
 use crate::scoreboard::NOTHING_TOLD;
 use crate::state::State;
 use crate::timer::{Timer, is_over};
@@ -68,14 +70,25 @@ impl<'a> ControlBlock<'a> {
         self.timer = self.timer_begun(now);
     }
 
-    // The segment at SND.UNA is marked to be sent again.
+    // What was in flight when a loss is told: by the RFCs' rules without what went out beyond the congestion window.
+    fn flight_lost(&self) -> usize
+        ensures { result ≡ flight_lost self.now.rules (flight self.now)
+            (congestion_window self.now.congestion_controller) }
+    {
+        match self.rules {
+            Rules::Smoltcp => self.flight(),
+            Rules::Rfc => self.flight().min(self.congestion_controller.window()),
+        }
+    }
+
+    // A fast retransmission is marked.
     #[tactic(auto, unfolding(crate::specs::Begin::fast_retransmission_marked))]
     fn mark_fast_retransmission(&mut self, now: Instant)
         requires { IsMoment now.micros }
         ensures table { self.new ≡ fast_retransmission_marked self.old now }
         ensures stamps { self.new.stamps ≡ self.old.stamps }
     {
-        let flight = self.flight();
+        let flight = self.flight_lost();
         self.congestion_controller.on_loss(now, flight);
         self.pending_fast_retransmit = true;
         self.rtte.on_retransmit();

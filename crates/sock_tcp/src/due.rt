@@ -3,10 +3,12 @@ ghost use Rattle.std.specs.Prelude.{◌≡◌, ◌≤◌, ◌<◌, ◌^◌};
 ghost use Rattle.sock_core.specs.Bounds.{IsMoment};
 ghost use Rattle.sock_tcp.specs.View.{moment_of};
 ghost use Rattle.sock_tcp.specs.Due.{control_due, own_mss, effective_mss};
-ghost use Rattle.sock_tcp.specs.Due.{flight, congestion_left, sendable, is_held_back, data_due, ack_due, ack_poll};
+ghost use Rattle.sock_tcp.specs.Due.{flight, limited, congestion_left, sendable, is_held_back, data_due, ack_due, ack_poll};
 ghost use Rattle.sock_tcp.specs.Due.{edge_sent, field_left, is_doubled, window_doubled, is_due};
 
 use crate::control_block::ControlBlock;
+use crate::recovery::Recovery;
+use crate::rules::Rules;
 use crate::poll::is_reached;
 use crate::tuple::Tuple;
 use control_wire::TcpSeqNumber;
@@ -50,13 +52,25 @@ impl<'a> ControlBlock<'a> {
         self.remote_last_seq.since(self.local_seq_no)
     }
 
+    // What the first two duplicates let out beyond the congestion window: a segment each (RFC 3042).
+    fn limited(&self) -> usize
+        ensures { result ≡ limited self.now }
+    {
+        match (self.rules, self.recovery) {
+            (Rules::Rfc, Recovery::Open) => {
+                (self.local_rx_dup_acks.min(2) as usize) * self.remote_mss
+            }
+            _ => 0,
+        }
+    }
+
     // What the congestion window leaves.
     pub(crate) fn congestion_left(&self) -> usize
         ensures { result ≡ congestion_left self.now }
     {
         self.congestion_controller
             .window()
-            .saturating_sub(self.flight())
+            .saturating_sub(self.flight().saturating_sub(self.limited()))
     }
 
     // What of the transmit queue both windows let go out.
