@@ -9,6 +9,7 @@ ghost use Rattle.sock_tcp.specs.Begin.{is_paused, begun, nothing_due, before_emi
 
 use crate::control_block::ControlBlock;
 use crate::poll::{is_reached, timeout_poll};
+use crate::rules::Rules;
 use crate::state::State;
 use crate::timer::{Timer, is_over};
 use crate::tuple::Tuple;
@@ -136,7 +137,11 @@ impl<'a> ControlBlock<'a> {
         ensures stamps { self.new.stamps ≡ self.old.stamps }
     {
         if self.timer.is_close_over(now) {
-            self.reset();
+            match self.rules {
+                Rules::Smoltcp => self.reset(),
+                // What was received can be read.
+                Rules::Rfc => self.drop_connection(),
+            }
         }
     }
 
