@@ -32,7 +32,7 @@ const MIN_MSS: usize = 48;
 // The largest shift of a window (RFC 7323, section 2.3).
 const MAX_SCALE: u8 = 14;
 
-/// What comes after the state table.
+/// What comes after the state table, or after the checks before it.
 #[derive(Clone, Copy)]
 pub enum Next {
     /// The other steps.
