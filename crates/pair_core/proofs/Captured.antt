@@ -94,7 +94,7 @@ queue_at_most : (v : View) (f : Facts) (n : ℕ) → length v.tx_buffer.bytes �
 unfolding retransmission_begun fast_retransmission_marked renewed fresh
 queue_at_most v f n h =
     before_kept (λ w. length w.tx_buffer.bytes ≤ n) f
-    (record { remembers = λ w k. k; tells = λ w k. k; times_out = λ w k. k; begins_again = λ w at e k. k; marks = λ w e k. k })
+    (record { remembers = λ w k. k; tells = λ w k. k; times_out = λ w k. k; forgets = λ w k. k; begins_again = λ w at e k. k; marks = λ w e k. k })
     (λ w k. omega arith) v h
 
 -- ---- the emit's answer

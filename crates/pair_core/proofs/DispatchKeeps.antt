@@ -46,6 +46,7 @@ beginnings_keep v now = record {
   remembers = λ w k. record { listener = k.listener; peer = k.peer };
   tells = λ w k. record { listener = k.listener; peer = k.peer };
   times_out = λ w k. in_turn v w _ k (record { listener = λ n. absurd (n refl); peer = λ t p. closed_peer w.state w.tuple t p });
+  forgets = λ w k. in_turn v w _ k (record { listener = λ n. absurd (n refl); peer = λ t p. inl refl });
   begins_again = λ w at e k. record { listener = k.listener; peer = k.peer };
   marks = λ w e k. record { listener = k.listener; peer = k.peer };
 }

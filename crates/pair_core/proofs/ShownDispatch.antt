@@ -10,7 +10,8 @@ use Rattle.sock_core.specs.Places.{later_number}
 use Rattle.sock_core.specs.Received.{cleared}
 use Rattle.sock_core.specs.Seq.{later_of}
 use Rattle.sock_core.specs.Congestion.{post_transmitted}
-use Rattle.sock_tcp.specs.Begin.{last_ts_set, last_ts_set_at, told_ready, readied, retransmission_begun, fast_retransmission_marked, after_timer, after_timers, unless_paused, ended, begun, begun_to, nothing_due, by_due, before_emit, before_emit_to, peer_of}
+use Rattle.sock_tcp.specs.Advance.{dropped}
+use Rattle.sock_tcp.specs.Begin.{last_ts_set, last_ts_set_at, told_ready, readied, retransmission_begun, fast_retransmission_marked, after_timer, after_timers, unless_paused, ended, begun, begun_to, nothing_due, by_due, before_emit, before_emit_to, peer_of, time_wait_ended}
 use Rattle.sock_tcp.specs.Content.{Sending, asked, offset_of, content}
 use Rattle.sock_tcp.specs.Due.{is_due}
 use Rattle.sock_tcp.specs.Opening.{renewed}
@@ -28,6 +29,8 @@ use Rattle.sock_tcp.specs.declared.timer.Timer.TheVariants as timer
 use Rattle.sock_tcp.specs.declared.tuple.Tuple.{Tuple}
 use Rattle.pair_core.specs.PairLaws.{IsBounded, MayEmit}
 use Rattle.pair_core.specs.PairNetwork.{phase_of, shown}
+use Rattle.sock_tcp.specs.declared.rules.Rules.{Rules}
+use Rattle.sock_tcp.specs.declared.rules.Rules.TheVariants as rules
 use Rattle.pair_core.specs.StreamCalls.{DispatchEffect, Same, MovesSndNxt, IsOver}
 use Rattle.pair_core.specs.StreamEffects.{SndNxtWithin}
 use Rattle.pair_core.specs.StreamTables.{HasSendingBounds}
@@ -95,14 +98,24 @@ begins v f bounds = go v.tuple
     go None = Same refl
     go (Some t) = two t (f.has_address t.local.addr)
 
+-- CLOSED, with the receive queue as it is
+forgotten_shows : (z : SocketView) (u : View) → DispatchEffect z (shown u) → DispatchEffect z (shown (dropped u))
+forgotten_shows z u (Same e) = IsOver (record { phase = refl; receive_queue = inl (ap (λ (w : SocketView). w.receive_queue) e); fin = λ c. (sym (ap (λ (w : SocketView). w.fin_counted) e) ∙ c, ap (λ (w : SocketView). w.receive_queue) e) })
+forgotten_shows z u (MovesSndNxt n within e) = IsOver (record { phase = refl; receive_queue = inl (ap (λ (w : SocketView). w.receive_queue) e); fin = λ c. (sym (ap (λ (w : SocketView). w.fin_counted) e) ∙ c, ap (λ (w : SocketView). w.receive_queue) e) })
+forgotten_shows z u (IsOver e) = IsOver (record { phase = refl; receive_queue = e.receive_queue; fin = e.fin })
+
 -- where nothing is due TIME-WAIT may be over
 reasons_show : (o : Option Tuple) (z : SocketView) (u : View) (f : Facts) → DispatchEffect z (shown u) → DispatchEffect z (shown (before_emit_to o u f).view)
 unfolding nothing_due
 reasons_show None z u f e = e
 reasons_show (Some t) z u f e = go (is_due u t f)
   where
-    over : (b : Bool) → DispatchEffect z (shown (cond b (renewed u) u))
-    over true = reset_shows z u
+    by_rules : (r : Rules) → DispatchEffect z (shown (time_wait_ended r u))
+    by_rules rules.Smoltcp = reset_shows z u
+    by_rules rules.Rfc = forgotten_shows z u e
+
+    over : (b : Bool) → DispatchEffect z (shown (cond b (time_wait_ended u.rules u) u))
+    over true = by_rules u.rules
     over false = e
 
     go : (b : Bool) → DispatchEffect z (shown (by_due b u f).view)

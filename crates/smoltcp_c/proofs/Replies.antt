@@ -5,7 +5,9 @@ use Rattle.control_wire.specs.Segment.{Segment}
 use Rattle.control_wire.specs.declared.tcp.TcpControl.{TcpControl}
 use Rattle.control_wire.specs.declared.tcp.TcpControl.TheVariants as control
 use Rattle.control_wire.specs.declared.tcp.TcpTimestampRepr.{TcpTimestampRepr}
-use Rattle.sock_tcp.specs.Replies.{Answers, IsReplyStamp, with_header}
+use Rattle.sock_tcp.specs.Process.{Outcome, source_kept}
+use Rattle.sock_tcp.specs.Replies.{Answers, IsReplyStamp, echoed, with_header}
+use Rattle.sock_tcp.specs.View.{View}
 use Rattle.smoltcp_c.specs.Packets.{replied, reply_stamp}
 use Rattle.smoltcp_c.specs.declared.clock.Clock.{Clock}
 
@@ -19,8 +21,12 @@ stamp_is (Some k) (Some r) control.Rst stamp h = h
 stamp_is (Some k) None c stamp h = h
 stamp_is None came c stamp h = h
 
-pub reply_is : (clock : Option Clock) (came : Option ℕ) (ip : IpRepr) (o : Option Segment) (r : Option (IpRepr × Segment)) → Answers (IsReplyStamp (λ (k : Clock) (t : ℕ). t ≡ k.tsval) clock came) ip o r → r ≡ replied clock came ip o
+reply_is : (clock : Option Clock) (came : Option ℕ) (ip : IpRepr) (o : Option Segment) (r : Option (IpRepr × Segment)) → Answers (IsReplyStamp (λ (k : Clock) (t : ℕ). t ≡ k.tsval) clock came) ip o r → r ≡ replied clock came ip o
 reply_is clock came ip None None h = refl
 reply_is clock came ip None (Some x) h = absurd h
 reply_is clock came ip (Some s) None h = absurd h
 reply_is clock came ip (Some s) (Some x) h = ap Some (h.is ∙ ap (λ stamp. with_header ip (record s { timestamp = stamp })) (stamp_is clock came s.control h.stamp h.is_stamp))
+
+-- of the socket w that an outcome x leaves
+pub reply_from : (clock k : Option Clock) (w : View) (x : Outcome) (came : Option TcpTimestampRepr) (ip : IpRepr) (r : Option (IpRepr × Segment)) → clock ≡ source_kept w.stamps k → w ≡ x.view → Answers (IsReplyStamp (λ (k : Clock) (t : ℕ). t ≡ k.tsval) clock (echoed w came)) ip x.reply r → r ≡ replied (source_kept x.view.stamps k) (echoed x.view came) ip x.reply
+reply_from clock k w x came ip r c v h = reply_is clock (echoed w came) ip x.reply r h ∙ ap (λ y. replied y (echoed w came) ip x.reply) c ∙ ap (λ (u : View). replied (source_kept u.stamps k) (echoed u came) ip x.reply) v

@@ -139,7 +139,6 @@ fn heard(
 }
 
 // The reply to a segment that is for the socket.
-#[tactic(auto, using(crate::proofs::Replies::reply_is))]
 fn processed(
     socket: &mut Socket<'_, Clock>,
     moment: &Moment,

@@ -4,6 +4,7 @@ use Rattle.net_base.specs.declared.time.Instant.{Instant}
 use Rattle.sock_core.specs.Congestion.{congestion_window, lost, pre_transmitted, timed_out}
 use Rattle.sock_core.specs.Estimator.{backed_off, retransmitted}
 use Rattle.sock_core.specs.Facts.{Facts}
+use Rattle.sock_tcp.specs.Advance.{dropped}
 use Rattle.sock_tcp.specs.Due.{flight, is_due}
 use Rattle.sock_tcp.specs.Opening.{renewed}
 use Rattle.sock_tcp.specs.Polls.{is_reached, timeout_poll}
@@ -121,9 +122,15 @@ begun v f = begun_to v.tuple v f
 
 -- ---- the beginning and the reasons
 
--- nothing is due: where TIME-WAIT is over the socket is reset
+-- TIME-WAIT is over: by smoltcp's rules the socket is reset; by the RFCs' it is CLOSED as after LAST-ACK, so that what
+-- was received can be read (RFC 9293, section 3.10.4)
+abbrev pub time_wait_ended : Rules → View → View
+time_wait_ended rules.Smoltcp v = renewed v
+time_wait_ended rules.Rfc v = dropped v
+
+-- nothing is due: TIME-WAIT may be over
 unfoldable pub nothing_due : View → Instant → View
-nothing_due v now = if is_close_over v.timer now then renewed v else v
+nothing_due v now = if is_close_over v.timer now then time_wait_ended v.rules v else v
 
 abbrev pub by_due : Bool → View → Facts → Begun
 by_due true v f = going_on v

@@ -32,7 +32,7 @@ const MIN_MSS: usize = 48;
 // The largest shift of a window (RFC 7323, section 2.3).
 const MAX_SCALE: u8 = 14;
 
-/// What comes after the state table.
+/// What comes after the state table, or after the checks before it.
 #[derive(Clone, Copy)]
 pub enum Next {
     /// The other steps.
@@ -84,12 +84,19 @@ impl<'a> ControlBlock<'a> {
         Next::Stop
     }
 
-    fn drop_connection(&mut self, next: Next) -> Next
+    // CLOSED, and what was received can be read.
+    pub(crate) fn drop_connection(&mut self)
         ensures view { self.new ≡ dropped self.old }
-        ensures next { result ≡ next }
     {
         self.state = State::Closed;
         self.tuple = None;
+    }
+
+    fn end(&mut self, next: Next) -> Next
+        ensures view { self.new ≡ dropped self.old }
+        ensures next { result ≡ next }
+    {
+        self.drop_connection();
         next
     }
 
@@ -191,7 +198,7 @@ impl<'a> ControlBlock<'a> {
     {
         match (self.state, control, acked.fin) {
             (State::SynReceived, TcpControl::Rst, _) => self.fall_back(),
-            (_, TcpControl::Rst, _) => self.drop_connection(Next::Stop),
+            (_, TcpControl::Rst, _) => self.end(Next::Stop),
             (State::Listen, TcpControl::Syn, _) => {
                 let word = cx.rand_u32();
                 self.receive_syn(now, Tuple::of_segment(ip_repr, repr), word, repr)
@@ -210,7 +217,7 @@ impl<'a> ControlBlock<'a> {
             (State::CloseWait, TcpControl::None, _) => Next::Continue,
             (State::Closing, TcpControl::None, true) => self.wait(now),
             (State::Closing, TcpControl::None, false) => Next::Continue,
-            (State::LastAck, TcpControl::None, true) => self.drop_connection(Next::Continue),
+            (State::LastAck, TcpControl::None, true) => self.end(Next::Continue),
             (State::LastAck, TcpControl::None, false) if acked.len == 0 => Next::Challenge,
             (State::LastAck, TcpControl::None, false) => Next::Continue,
             _ => Next::Stop,

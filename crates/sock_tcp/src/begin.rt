@@ -151,7 +151,11 @@ impl<'a> ControlBlock<'a> {
         ensures stamps { self.new.stamps ≡ self.old.stamps }
     {
         if self.timer.is_close_over(now) {
-            self.reset();
+            match self.rules {
+                Rules::Smoltcp => self.reset(),
+                // What was received can be read.
+                Rules::Rfc => self.drop_connection(),
+            }
         }
     }
 

@@ -62,7 +62,8 @@ impl<'a> ControlBlock<'a> {
     {
         match (self.stamps, timestamp) {
             (true, None) => Next::Stop,
-            (true, Some(came)) if is_older(came.tsval, self.last_remote_tsval) && !self.is_forgotten(now) => {
+            (true, Some(came))
+                if is_older(came.tsval, self.last_remote_tsval) && !self.is_forgotten(now) => {
                 Next::Challenge
             }
             _ => Next::Continue,

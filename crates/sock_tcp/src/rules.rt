@@ -25,7 +25,7 @@ pub enum Rules {
     ///
     /// Of attacks: an RST counts at RCV.NXT alone; elsewhere in the window it is answered by a challenge ACK, at most
     /// one a second, and so is a SYN once the own one is acknowledged (RFC 5961, sections 3.2, 4.2 and 7). TIME-WAIT
-    /// ignores RSTs (RFC 1337).
+    /// ignores RSTs (RFC 1337). When it is over, what was received can still be read (RFC 9293, section 3.10.4).
     ///
     /// Of timestamps, where both sides agreed on them: a segment without one is dropped, unless it is an RST; one with
     /// an older one than TS.Recent is answered by a challenge ACK, until 24 days have passed without a segment; and

@@ -5,12 +5,14 @@ use Rattle.std.proofs.lemmas.List.{length-replicate}
 use Rattle.net_base.specs.declared.time.Instant.{Instant}
 use Rattle.sock_core.specs.Facts.{Facts}
 use Rattle.sock_core.specs.Received.{Received, room_of, cleared}
-use Rattle.sock_tcp.specs.Begin.{Begun, ended, readied, retransmission_begun, fast_retransmission_marked, after_timers, unless_paused, begun_to, begun, nothing_due, by_due, before_emit_to, before_emit, peer_of}
+use Rattle.sock_tcp.specs.Begin.{Begun, ended, readied, retransmission_begun, fast_retransmission_marked, after_timers, unless_paused, begun_to, begun, nothing_due, by_due, before_emit_to, before_emit, peer_of, time_wait_ended}
 use Rattle.sock_tcp.specs.Content.{Sending}
 use Rattle.sock_tcp.specs.Due.{is_due}
 use Rattle.sock_tcp.specs.Opening.{renewed}
 use Rattle.sock_tcp.specs.Sent.{after_any, after_probe, snd_nxt_moved}
-use Rattle.tcp_laws.specs.SocketRun.{SendsTo, is_address_lost, is_wait_over, is_reset}
+use Rattle.sock_tcp.specs.declared.rules.Rules.{Rules}
+use Rattle.sock_tcp.specs.declared.rules.Rules.TheVariants as rules
+use Rattle.tcp_laws.specs.SocketRun.{SendsTo, is_address_lost, is_smoltcp, is_wait_over, is_reset}
 use Rattle.sock_tcp.specs.Timers.{is_close_over}
 use Rattle.sock_tcp.specs.View.{View, moment_of}
 use Rattle.sock_tcp.specs.declared.tuple.Tuple.{Tuple}
@@ -36,6 +38,7 @@ beginnings_keep v now = record {
   remembers = λ w k. record { tx = k.tx; rx = k.rx; una = k.una };
   tells = λ w k. record { tx = k.tx; rx = k.rx; una = k.una };
   times_out = λ w k. record { tx = k.tx; rx = k.rx; una = k.una };
+  forgets = λ w k. record { tx = k.tx; rx = k.rx; una = k.una };
   begins_again = λ w at e k. record { tx = k.tx; rx = k.rx; una = k.una };
   marks = λ w e k. record { tx = k.tx; rx = k.rx; una = k.una };
 }
@@ -65,27 +68,29 @@ module _ (f : Facts) where
       go true e = absurd cc
       go false e = refl
 
-  nothing_keeps : (u : View) → is_close_over u.timer (moment_of f) ≡ false → Keeps u (nothing_due u (moment_of f))
+  nothing_keeps : (u : View) → (is_close_over u.timer (moment_of f) && is_smoltcp u.rules) ≡ false → Keeps u (nothing_due u (moment_of f))
   unfolding nothing_due
-  nothing_keeps u e = go (is_close_over u.timer (moment_of f)) e
+  nothing_keeps u e = go (is_close_over u.timer (moment_of f)) u.rules e
     where
-      go : (c : Bool) → c ≡ false → Keeps u (if c then renewed u else u)
-      go true e = absurd cc
-      go false e = same u
+      go : (c : Bool) (r : Rules) → (c && is_smoltcp r) ≡ false → Keeps u (if c then time_wait_ended r u else u)
+      go true rules.Smoltcp e = absurd cc
+      go true rules.Rfc e = record { tx = refl; rx = refl; una = refl }
+      go false r e = same u
 
-  nothing_resets : (u : View) → is_close_over u.timer (moment_of f) ≡ true → nothing_due u (moment_of f) ≡ renewed u
+  nothing_resets : (u : View) → (is_close_over u.timer (moment_of f) && is_smoltcp u.rules) ≡ true → nothing_due u (moment_of f) ≡ renewed u
   unfolding nothing_due
-  nothing_resets u e = go (is_close_over u.timer (moment_of f)) e
+  nothing_resets u e = go (is_close_over u.timer (moment_of f)) u.rules e
     where
-      go : (c : Bool) → c ≡ true → (if c then renewed u else u) ≡ renewed u
-      go true e = refl
-      go false e = absurd cc
+      go : (c : Bool) (r : Rules) → (c && is_smoltcp r) ≡ true → (if c then time_wait_ended r u else u) ≡ renewed u
+      go true rules.Smoltcp e = refl
+      go true rules.Rfc e = absurd cc
+      go false r e = absurd cc
 
   ends_keeps : (o : Option Tuple) (u : View) → is_wait_over o u f ≡ false → Keeps u (before_emit_to o u f).view
   ends_keeps None u e = same u
   ends_keeps (Some t) u e = go (is_due u t f) e
     where
-      go : (b : Bool) → (not b && is_close_over u.timer (moment_of f)) ≡ false → Keeps u (by_due b u f).view
+      go : (b : Bool) → (not b && (is_close_over u.timer (moment_of f) && is_smoltcp u.rules)) ≡ false → Keeps u (by_due b u f).view
       go true e = same u
       go false e = nothing_keeps u e
 
@@ -93,7 +98,7 @@ module _ (f : Facts) where
   ends_resets None u e = absurd cc
   ends_resets (Some t) u e = go (is_due u t f) e
     where
-      go : (b : Bool) → (not b && is_close_over u.timer (moment_of f)) ≡ true → by_due b u f ≡ ended (renewed u)
+      go : (b : Bool) → (not b && (is_close_over u.timer (moment_of f) && is_smoltcp u.rules)) ≡ true → by_due b u f ≡ ended (renewed u)
       go true e = absurd cc
       go false e = ap ended (nothing_resets u e)
 

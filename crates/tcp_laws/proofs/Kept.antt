@@ -15,7 +15,8 @@ use Rattle.sock_core.specs.Facts.{Facts}
 use Rattle.sock_core.specs.Received.{receiving}
 use Rattle.sock_tcp.proofs.Lending.{free_within}
 pub use Rattle.sock_tcp.proofs.KeptSegments.{acked_view, timer_then, heard_kept, KeptByAnswers, challenged_kept, outside_kept, bytes_kept, KeptByRows, rows_kept, KeptBySegments, process_kept}
-use Rattle.sock_tcp.specs.Begin.{last_ts_set, last_ts_set_at, told_ready, readied, retransmission_begun, fast_retransmission_marked, after_timer, after_timers, begun, begun_to, unless_paused, ended, nothing_due, by_due, before_emit, before_emit_to, peer_of}
+use Rattle.sock_tcp.specs.Advance.{dropped}
+use Rattle.sock_tcp.specs.Begin.{last_ts_set, last_ts_set_at, told_ready, readied, retransmission_begun, fast_retransmission_marked, after_timer, after_timers, begun, begun_to, unless_paused, ended, nothing_due, by_due, before_emit, before_emit_to, peer_of, time_wait_ended}
 use Rattle.sock_tcp.specs.Closing.{aborted, closed}
 use Rattle.sock_tcp.specs.Content.{Sending}
 use Rattle.sock_tcp.specs.Due.{is_due}
@@ -44,6 +45,7 @@ use Rattle.tcp_laws.specs.Polling.{IsReached}
 use Rattle.tcp_laws.specs.SocketRun.{Counts, IsNumbered, Run, SendsTo, Sets, Step, any_filling, any_taking}
 use Rattle.tcp_laws.specs.SocketRun.{Listen, Connect, SendSlice, Send, WriteStr, RecvSlice, Recv, Close, Abort, Set, Process, Dispatch, Ends, Then}
 use Rattle.sock_tcp.specs.declared.rules.Rules.{Rules}
+use Rattle.sock_tcp.specs.declared.rules.Rules.TheVariants as rules
 
 -- ---- what a test says
 
@@ -62,6 +64,7 @@ pub record KeptByBeginnings (P : View → Type 0) (now : Instant) : Type 0 where
   pub remembers : (v : View) → P v → P (record v { remote_last_ts = Some now })
   pub tells : (v : View) → P v → P (told_ready v now)
   pub times_out : (v : View) → P v → P (record v { state = state.Closed })
+  pub forgets : (v : View) → P v → P (dropped v)
   pub begins_again : (v : View) (at : Instant) → v.timer ≡ timer.Retransmit at → P v → P (retransmission_begun v now)
   pub marks : (v : View) → v.timer ≡ timer.FastRetransmit → P v → P (fast_retransmission_marked v now)
 
@@ -109,8 +112,12 @@ module _ (P : View → Type 0) (f : Facts) (k : KeptByBeginnings P (moment_of f)
   ends_kept None u h = h
   ends_kept (Some t) u h = go (is_due u t f)
     where
-      over : (b : Bool) → P (if b then renewed u else u)
-      over true = resets u h
+      by_rules : (r : Rules) → P (time_wait_ended r u)
+      by_rules rules.Smoltcp = resets u h
+      by_rules rules.Rfc = k.forgets u h
+
+      over : (b : Bool) → P (if b then time_wait_ended u.rules u else u)
+      over true = by_rules u.rules
       over false = h
 
       go : (b : Bool) → P (by_due b u f).view

@@ -110,6 +110,7 @@ begins_ordered now = record {
   remembers = λ v h. h;
   tells = λ v h. record { una_small = h.una_small; nxt_small = h.nxt_small; room = h.room; congestion = pre_transmitted_open _ _ h.congestion; peered = h.peered; row = h.row };
   times_out = λ v h. record { una_small = h.una_small; nxt_small = h.nxt_small; room = h.room; congestion = h.congestion; peered = tt; row = tt };
+  forgets = λ v h. record { una_small = h.una_small; nxt_small = h.nxt_small; room = h.room; congestion = h.congestion; peered = tt; row = tt };
   begins_again = λ v at e h. record {
     una_small = h.una_small;
     nxt_small = h.una_small;

@@ -151,6 +151,7 @@ module _ (now : Instant) where
     remembers = λ v h. h;
     tells = λ v h. h;
     times_out = λ v h. h;
+    forgets = λ v h. h;
     begins_again = λ v at e h. record { window = begun_as (λ t. ProbesIn t v.remote_win_len) v.rules v.remote_win_len (length v.tx_buffer.bytes) now v.keep_alive (retransmitted (backed_off v.rtte)) (idle_probes now v.keep_alive v.remote_win_len) (λ z some. z); mss = h.mss };
     marks = λ v e h. record { window = idle_probes now v.keep_alive v.remote_win_len; mss = h.mss };
   }

@@ -117,6 +117,7 @@ begins_scaled now = record {
   remembers = λ v h. h;
   tells = λ v h. h;
   times_out = λ v h. h;
+  forgets = λ v h. h;
   begins_again = λ v at e h. h;
   marks = λ v e h. h;
 }

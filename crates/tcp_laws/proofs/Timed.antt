@@ -105,6 +105,7 @@ module _ (most : Duration) (minute : 60000000 ≤ most.micros) where
       remembers = λ v h. h;
       tells = λ v h. h;
       times_out = λ v h. h;
+      forgets = λ v h. h;
       begins_again = λ v at e h. record { timer = begun_as (λ t. is_timer_by now most t ≡ true) v.rules v.remote_win_len (length v.tx_buffer.bytes) now v.keep_alive (retransmitted (backed_off v.rtte)) (idle_by most minute now v.keep_alive h.keep_short) (λ z some. probe_by most minute now (retransmitted (backed_off v.rtte)) (again_short v.rtte h.timeout)); waits = h.waits; timeout = again_short v.rtte h.timeout; keep_short = h.keep_short; delay_short = h.delay_short };
       marks = λ v e h. record { timer = idle_by most minute now v.keep_alive h.keep_short; waits = h.waits; timeout = fast_short v.rtte h.timeout; keep_short = h.keep_short; delay_short = h.delay_short };
     }

@@ -36,6 +36,7 @@ use Rattle.sock_tcp.specs.declared.error.RecvError.{RecvError}
 use Rattle.sock_tcp.specs.declared.error.SendError.{SendError}
 use Rattle.sock_tcp.specs.declared.settings.CongestionControl.{CongestionControl}
 use Rattle.sock_tcp.specs.declared.rules.Rules.{Rules}
+use Rattle.sock_tcp.specs.declared.rules.Rules.TheVariants as rules
 use Rattle.sock_tcp.specs.declared.state.State.{State}
 use Rattle.sock_tcp.specs.declared.state.State.TheVariants as state
 use Rattle.sock_tcp.specs.declared.tuple.Tuple.{Tuple}
@@ -135,10 +136,14 @@ abbrev pub is_address_lost : Option Tuple → Facts → Bool
 is_address_lost None f = false
 is_address_lost (Some t) f = not (f.has_address t.local.addr)
 
--- and so does one with nothing to send once TIME-WAIT is over
+abbrev pub is_smoltcp : Rules → Bool
+is_smoltcp rules.Smoltcp = true
+is_smoltcp rules.Rfc = false
+
+-- and so does one with nothing to send once TIME-WAIT is over, by smoltcp's rules
 abbrev pub is_wait_over : Option Tuple → View → Facts → Bool
 is_wait_over None v f = false
-is_wait_over (Some t) v f = not (is_due v t f) && is_close_over v.timer (moment_of f)
+is_wait_over (Some t) v f = not (is_due v t f) && (is_close_over v.timer (moment_of f) && is_smoltcp v.rules)
 
 abbrev pub is_reset : View → Facts → Bool
 is_reset v f = is_address_lost v.tuple f || is_wait_over (peer_of (begun v f)) (begun v f).view f
