@@ -35,6 +35,7 @@ pub mod recovery;
 mod refused;
 mod reply;
 pub mod rules;
+mod sacked;
 pub mod scoreboard;
 pub mod settings;
 pub mod socket;

@@ -1,9 +1,8 @@
 //! Loss by the rules of the RFCs: recovery (RFC 6675, RFC 6582), duplicates (RFC 5681, RFC 5827) and the retransmission
 //! timer (RFC 6298).
-ghost use Rattle.std.specs.Prelude.{◌≡◌, ◌≤◌, ◌<◌, ◌^◌, ◌&&◌, length};
+ghost use Rattle.std.specs.Prelude.{◌≡◌, ◌≤◌, length};
 ghost use Rattle.control_wire.specs.Segment.{segment_of};
 ghost use Rattle.sock_core.specs.Bounds.{IsMoment};
-ghost use Rattle.sock_tcp.specs.Content.{next_hole};
 ghost use Rattle.sock_tcp.specs.Due.{flight};
 ghost use Rattle.sock_tcp.specs.Rfc.Recovery.{before_of, begins, begun_by, controller_after, duplicates_after};
 ghost use Rattle.sock_tcp.specs.Rfc.Recovery.{estimator_after};
@@ -11,15 +10,13 @@ ghost use Rattle.sock_tcp.specs.Rfc.Recovery.{gone_on, gone_on_from, has_timer, 
 ghost use Rattle.sock_tcp.specs.Rfc.Recovery.{is_fast, is_grown, is_last, is_news, is_opened, is_over, is_partial};
 ghost use Rattle.sock_tcp.specs.Rfc.Recovery.{is_counted, is_early, is_unheard, may_resend, recovered, recovered_if};
 ghost use Rattle.sock_tcp.specs.Rfc.Recovery.{recovery_after, repeats_by, resends, running, timed_out_by, timer_after};
-ghost use Rattle.sock_tcp.specs.Rfc.Recovery.{is_sent_again, is_telling, is_uncounted, lets_out, sacked_after};
-ghost use Rattle.sock_tcp.specs.Rfc.Recovery.{sacked_by, segments_out, sent_of, shows_hole, tells_loss, waited_for};
-ghost use Rattle.sock_tcp.specs.Sent.{resent_by};
+ghost use Rattle.sock_tcp.specs.Rfc.Recovery.{is_uncounted};
+ghost use Rattle.sock_tcp.specs.Rfc.Recovery.{segments_out, tells_loss, waited_for};
 ghost use Rattle.sock_tcp.specs.Timers.{IsTimer};
 
 use crate::control_block::ControlBlock;
-use crate::emission::Emitted;
 use crate::rules::Rules;
-use crate::scoreboard::{Hole, NOTHING_TOLD, Scoreboard};
+use crate::scoreboard::Scoreboard;
 use crate::state::State;
 use crate::timer::Timer;
 use control_wire::{TcpControl, TcpRepr, TcpSeqNumber};
@@ -79,7 +76,7 @@ fn is_bare(control: TcpControl) -> bool
     matches!(control, TcpControl::None | TcpControl::Psh)
 }
 
-fn is_fast(timer: Timer) -> bool
+pub(crate) fn is_fast(timer: Timer) -> bool
     ensures { result ≡ is_fast timer }
 {
     matches!(timer, Timer::FastRetransmit)
@@ -121,61 +118,12 @@ impl Recovery {
     }
 
     // The number behind all that was sent, where SND.NXT is this one.
-    fn highest(self, next: TcpSeqNumber) -> TcpSeqNumber
+    pub(crate) fn highest(self, next: TcpSeqNumber) -> TcpSeqNumber
         ensures { result ≡ highest_of self next }
     {
         match self {
             Recovery::Open => next,
             Recovery::Fast { point, .. } | Recovery::Timeout { point } => later(next, point),
-        }
-    }
-
-    // The next hole to be sent again, of what was told by SACK, with SND.UNA there.
-    pub(crate) fn next_hole(self, sacked: &Scoreboard, una: TcpSeqNumber) -> Option<Hole>
-        ensures { result ≡ next_hole self sacked.now una }
-    {
-        match self {
-            Recovery::Fast { high_rxt, .. } => {
-                let from = if before(una, high_rxt) {
-                    high_rxt.since(una)
-                } else {
-                    0
-                };
-                sacked.hole_behind(from)
-            }
-            _ => None,
-        }
-    }
-
-    // Whether the segment at SND.UNA was sent again in this recovery.
-    fn is_sent_again(self, una: TcpSeqNumber) -> bool
-        ensures { result ≡ is_sent_again self una }
-    {
-        match self {
-            Recovery::Fast { high_rxt, .. } => before(una, high_rxt),
-            _ => false,
-        }
-    }
-
-    // Whether a partial acknowledgement shows a hole that was not sent again.
-    fn shows_hole(self, sacked: &Scoreboard, una: TcpSeqNumber) -> bool
-        ensures { result ≡ shows_hole self sacked.now una }
-    {
-        self.next_hole(sacked, una).is_some() || sacked.is_blank() || !self.is_sent_again(una)
-    }
-
-    // A segment went out, with SND.NXT there: one that begins before that was sent again.
-    pub(crate) fn resent(self, next: TcpSeqNumber, emitted: &Emitted) -> Recovery
-        ensures { result ≡ resent_by self next emitted.now }
-    {
-        match self {
-            Recovery::Fast { point, high_rxt } if before(emitted.seq_number, next) => {
-                Recovery::Fast {
-                    point,
-                    high_rxt: later(high_rxt, emitted.end),
-                }
-            }
-            _ => self,
         }
     }
 
@@ -195,7 +143,7 @@ impl Recovery {
 
 impl Before {
     // SND.UNA has moved.
-    fn is_news(&self, after: &ControlBlock<'_>) -> bool
+    pub(crate) fn is_news(&self, after: &ControlBlock<'_>) -> bool
         ensures { result ≡ is_news self.now after.now }
     {
         self.una != after.local_seq_no
@@ -257,7 +205,7 @@ impl Before {
     }
 
     // Of new bytes, but not of all that was sent before a fast retransmission.
-    fn is_partial(&self, after: &ControlBlock<'_>) -> bool
+    pub(crate) fn is_partial(&self, after: &ControlBlock<'_>) -> bool
         ensures { result ≡ is_partial self.now after.now }
     {
         match self.recovery {
@@ -275,48 +223,11 @@ impl Before {
         after.may_resend() && (self.tells_loss(after) && self.recovery.is_over())
     }
 
-    // What the peer told by SACK, from SND.UNA on.
-    fn sacked_after(&self, after: &ControlBlock<'_>) -> Scoreboard
-        ensures { result ≡ sacked_after self.now after.now }
-    {
-        if after.state.carries_data() {
-            self.sacked.moved(after.local_seq_no.since(self.una))
-        } else {
-            NOTHING_TOLD
-        }
-    }
-
-    // What is told anew, and acknowledges nothing, lets out the next hole.
-    fn lets_out(&self, after: &ControlBlock<'_>) -> bool
-        ensures { result ≡ lets_out self.now after.now }
-    {
-        if !self.telling || self.is_news(after) {
-            return false;
-        }
-        let sacked = self.sacked_after(after);
-        self.recovery
-            .next_hole(&sacked, after.local_seq_no)
-            .is_some()
-    }
-
-    // A partial acknowledgement shows a hole that was not sent again.
-    fn shows_hole(&self, after: &ControlBlock<'_>) -> bool
-        ensures { result ≡ (is_partial self.now after.now
-            && shows_hole self.now.recovery (sacked_after self.now after.now) after.now.local_seq_no) }
-    {
-        if !self.is_partial(after) {
-            return false;
-        }
-        let sacked = self.sacked_after(after);
-        self.recovery.shows_hole(&sacked, after.local_seq_no)
-    }
-
     // A hole goes out again, or the segment at SND.UNA.
     fn resends(&self, after: &ControlBlock<'_>) -> bool
         ensures { result ≡ resends self.now after.now }
     {
-        self.begins(after)
-            || after.may_resend() && (self.shows_hole(after) || self.lets_out(after))
+        self.begins(after) || after.may_resend() && (self.shows_hole(after) || self.lets_out(after))
     }
 
     fn recovery_after(&self, after: &ControlBlock<'_>) -> Recovery
@@ -422,43 +333,6 @@ impl<'a> ControlBlock<'a> {
             Some(ack) => {
                 is_bare(repr.control) && self.is_duplicate(ack, repr.payload.len(), false)
             }
-        }
-    }
-
-    // How many bytes behind SND.UNA were sent.
-    fn sent(&self) -> usize
-        ensures value { result ≡ sent_of self.now }
-        ensures small { result < 2 ^ 32 }
-    {
-        self.recovery
-            .highest(self.remote_last_seq)
-            .since(self.local_seq_no)
-    }
-
-    // Whether the segment tells something new by SACK: the peer said that it tells, and it lies in the window.
-    #[tactic(auto, unfolding(crate::specs::Rfc::Recovery::is_telling))]
-    fn is_telling(&self, repr: &TcpRepr<'_>) -> bool
-        requires { length repr.now.payload.now ≤ 65535 }
-        ensures { result ≡ is_telling self.now (segment_of repr.now) }
-    {
-        let news = self
-            .sacked
-            .any_news(self.sent(), self.local_seq_no, &repr.sack_ranges);
-        news && (self.remote_has_sack
-            && self
-                .receive_window()
-                .is_inside(repr.seq_number, repr.payload.len()))
-    }
-
-    // What was told by SACK, with what the segment tells.
-    fn sacked_by(&self, telling: bool, repr: &TcpRepr<'_>) -> Scoreboard
-        ensures { result ≡ sacked_by telling self.now (segment_of repr.now) }
-    {
-        if telling {
-            self.sacked
-                .all_told(self.sent(), self.local_seq_no, &repr.sack_ranges)
-        } else {
-            self.sacked
         }
     }
 

@@ -170,9 +170,11 @@ is_sent_again _ una = false
 abbrev pub shows_hole : Recovery → Scoreboard → TcpSeqNumber → Bool
 shows_hole r k una = has_hole r k una || (is_blank k || not (is_sent_again r una))
 
--- what is told anew, and acknowledges nothing, lets out the next hole
+-- what is told anew, and acknowledges nothing, lets out the next hole, unless one is still to go out
 abbrev pub lets_out : Before → View → Bool
-lets_out b w = b.telling && (not (is_news b w) && has_hole b.recovery (sacked_after b w) w.local_seq_no)
+lets_out b w =
+    (b.telling && not (is_fast b.timer))
+    && (not (is_news b w) && has_hole b.recovery (sacked_after b w) w.local_seq_no)
 
 -- a hole goes out again, or the segment at SND.UNA: a recovery begins, or goes on
 abbrev pub resends : Before → View → Bool
