@@ -7,9 +7,9 @@ ghost use Rattle.sock_tcp.specs.Due.{flight, limited, congestion_left, sendable,
 ghost use Rattle.sock_tcp.specs.Due.{edge_sent, field_left, is_doubled, window_doubled, is_due};
 
 use crate::control_block::ControlBlock;
+use crate::poll::is_reached;
 use crate::recovery::Recovery;
 use crate::rules::Rules;
-use crate::poll::is_reached;
 use crate::tuple::Tuple;
 use control_wire::TcpSeqNumber;
 use ip_wire::IpAddress;

@@ -36,6 +36,7 @@ pub mod recovery;
 mod refused;
 mod reply;
 pub mod rules;
+mod sacked;
 pub mod scoreboard;
 pub mod settings;
 pub mod socket;

@@ -1,9 +1,8 @@
 //! Loss by the rules of the RFCs: recovery (RFC 6675, RFC 6582), duplicates (RFC 5681, RFC 5827) and the retransmission
 //! timer (RFC 6298).
-ghost use Rattle.std.specs.Prelude.{◌≡◌, ◌≤◌, ◌<◌, ◌^◌, ◌&&◌, length};
+ghost use Rattle.std.specs.Prelude.{◌≡◌, ◌≤◌, length};
 ghost use Rattle.control_wire.specs.Segment.{segment_of};
 ghost use Rattle.sock_core.specs.Bounds.{IsMoment};
-ghost use Rattle.sock_tcp.specs.Content.{again_from, next_hole};
 ghost use Rattle.sock_tcp.specs.Due.{flight};
 ghost use Rattle.sock_tcp.specs.Rfc.Recovery.{before_of, begins, begun_by, controller_after, duplicates_after};
 ghost use Rattle.sock_tcp.specs.Rfc.Recovery.{estimator_after};
@@ -11,17 +10,13 @@ ghost use Rattle.sock_tcp.specs.Rfc.Recovery.{gone_on, gone_on_from, has_timer, 
 ghost use Rattle.sock_tcp.specs.Rfc.Recovery.{is_fast, is_grown, is_last, is_news, is_opened, is_over, is_partial};
 ghost use Rattle.sock_tcp.specs.Rfc.Recovery.{is_counted, is_early, is_unheard, may_resend, recovered, recovered_if};
 ghost use Rattle.sock_tcp.specs.Rfc.Recovery.{recovery_after, repeats_by, resends, running, timed_out_by, timer_after};
-ghost use Rattle.sock_tcp.specs.Rfc.Recovery.{is_sent_again, is_telling, is_uncounted, lets_out, sacked_after};
-ghost use Rattle.sock_tcp.specs.Rfc.Recovery.{sacked_by, segments_out, sent_of, shows_hole, tells_loss, waited_for};
-ghost use Rattle.sock_tcp.specs.Rfc.Recovery.{again, again_by, before_it, is_lost_again, is_lost_in, is_timed_out};
-ghost use Rattle.sock_tcp.specs.Rfc.Recovery.{only_tells, told_of_bytes};
-ghost use Rattle.sock_tcp.specs.Sent.{resent_by};
+ghost use Rattle.sock_tcp.specs.Rfc.Recovery.{before_it, is_timed_out, is_uncounted, told_of_bytes};
+ghost use Rattle.sock_tcp.specs.Rfc.Recovery.{segments_out, tells_loss, waited_for};
 ghost use Rattle.sock_tcp.specs.Timers.{IsTimer};
 
 use crate::control_block::ControlBlock;
-use crate::emission::Emitted;
 use crate::rules::Rules;
-use crate::scoreboard::{Hole, NOTHING_TOLD, Scoreboard};
+use crate::scoreboard::Scoreboard;
 use crate::state::State;
 use crate::timer::Timer;
 use control_wire::{TcpControl, TcpRepr, TcpSeqNumber};
@@ -83,7 +78,7 @@ fn is_bare(control: TcpControl) -> bool
     matches!(control, TcpControl::None | TcpControl::Psh)
 }
 
-fn is_fast(timer: Timer) -> bool
+pub(crate) fn is_fast(timer: Timer) -> bool
     ensures { result ≡ is_fast timer }
 {
     matches!(timer, Timer::FastRetransmit)
@@ -98,18 +93,6 @@ fn gone_on_from(timer: Timer, now: Instant, rtte: &RttEstimator) -> Timer
     match timer {
         Timer::Retransmit { .. } => timer,
         _ => Timer::retransmit(now, rtte),
-    }
-}
-
-// Where a number stands from SND.UNA on, 0 where it is none behind it.
-fn offset_from(number: TcpSeqNumber, una: TcpSeqNumber) -> usize
-    ensures value { result ≡ again_from number una }
-    ensures small { result < 2 ^ 32 }
-{
-    if before(una, number) {
-        number.since(una)
-    } else {
-        0
     }
 }
 
@@ -137,7 +120,7 @@ impl Recovery {
     }
 
     // The number behind all that was sent, where SND.NXT is this one.
-    fn highest(self, next: TcpSeqNumber) -> TcpSeqNumber
+    pub(crate) fn highest(self, next: TcpSeqNumber) -> TcpSeqNumber
         ensures { result ≡ highest_of self next }
     {
         match self {
@@ -146,95 +129,10 @@ impl Recovery {
         }
     }
 
-    // The next hole to be sent again, of what was told by SACK, with SND.UNA there.
-    pub(crate) fn next_hole(self, sacked: &Scoreboard, una: TcpSeqNumber) -> Option<Hole>
-        ensures { result ≡ next_hole self sacked.now una }
-    {
-        match self {
-            Recovery::Fast { high_rxt, .. } => {
-                sacked.hole_behind(offset_from(high_rxt, una))
-            }
-            _ => None,
-        }
-    }
-
-    // Whether the segment at SND.UNA was sent again in this recovery.
-    fn is_sent_again(self, una: TcpSeqNumber) -> bool
-        ensures { result ≡ is_sent_again self una }
-    {
-        match self {
-            Recovery::Fast { high_rxt, .. } => before(una, high_rxt),
-            _ => false,
-        }
-    }
-
-    // Whether a partial acknowledgement shows a hole that was not sent again.
-    fn shows_hole(self, sacked: &Scoreboard, una: TcpSeqNumber) -> bool
-        ensures { result ≡ shows_hole self sacked.now una }
-    {
-        self.next_hole(sacked, una).is_some() || sacked.is_blank() || !self.is_sent_again(una)
-    }
-
-    // Whether the segment at SND.UNA was sent again, and lost again.
-    fn is_lost(self, sacked: &Scoreboard, una: TcpSeqNumber, mss: usize) -> bool
-        requires { mss ≤ 65535 }
-        ensures { result ≡ is_lost_in self sacked.now una mss }
-    {
-        match self {
-            Recovery::Fast {
-                high_rxt,
-                resent_at,
-                ..
-            } => {
-                before(una, high_rxt)
-                    && offset_from(resent_at, una) + 2 * mss < sacked.highest_told() as usize
-            }
-            _ => false,
-        }
-    }
-
-    // SND.UNA has moved, or a segment was lost again, or neither, with SND.UNA and SND.NXT there.
-    fn again(self, news: bool, lost: bool, una: TcpSeqNumber, next: TcpSeqNumber) -> Recovery
-        ensures { result ≡ again_by news lost self una next }
-    {
-        let resent_at = self.highest(next);
-        match (news, lost, self) {
-            (true, _, Recovery::Fast { point, high_rxt, .. }) => Recovery::Fast {
-                point,
-                high_rxt,
-                resent_at,
-            },
-            (false, true, Recovery::Fast { point, .. }) => Recovery::Fast {
-                point,
-                high_rxt: una,
-                resent_at,
-            },
-            _ => self,
-        }
-    }
-
     fn is_timed_out(self) -> bool
         ensures { result ≡ is_timed_out self }
     {
         matches!(self, Recovery::Timeout { .. })
-    }
-
-    // A segment went out, with SND.NXT there: one that begins before that was sent again.
-    pub(crate) fn resent(self, next: TcpSeqNumber, emitted: &Emitted) -> Recovery
-        ensures { result ≡ resent_by self next emitted.now }
-    {
-        match self {
-            Recovery::Fast {
-                point,
-                high_rxt,
-                resent_at,
-            } if before(emitted.seq_number, next) => Recovery::Fast {
-                point,
-                high_rxt: later(high_rxt, emitted.end),
-                resent_at,
-            },
-            _ => self,
-        }
     }
 
     // The retransmission timer is over, with SND.NXT there.
@@ -253,7 +151,7 @@ impl Recovery {
 
 impl Before {
     // SND.UNA has moved.
-    fn is_news(&self, after: &ControlBlock<'_>) -> bool
+    pub(crate) fn is_news(&self, after: &ControlBlock<'_>) -> bool
         ensures { result ≡ is_news self.now after.now }
     {
         self.una != after.local_seq_no
@@ -315,7 +213,7 @@ impl Before {
     }
 
     // Of new bytes, but not of all that was sent before a fast retransmission.
-    fn is_partial(&self, after: &ControlBlock<'_>) -> bool
+    pub(crate) fn is_partial(&self, after: &ControlBlock<'_>) -> bool
         ensures { result ≡ is_partial self.now after.now }
     {
         match self.recovery {
@@ -333,79 +231,11 @@ impl Before {
         after.may_resend() && (self.tells_loss(after) && self.recovery.is_over())
     }
 
-    // What the peer told by SACK, from SND.UNA on.
-    fn sacked_after(&self, after: &ControlBlock<'_>) -> Scoreboard
-        ensures { result ≡ sacked_after self.now after.now }
-    {
-        if after.state.carries_data() {
-            self.sacked.moved(after.local_seq_no.since(self.una))
-        } else {
-            NOTHING_TOLD
-        }
-    }
-
-    // It tells something new, and acknowledges nothing.
-    fn only_tells(&self, after: &ControlBlock<'_>) -> bool
-        ensures { result ≡ only_tells self.now after.now }
-    {
-        self.telling && !self.is_news(after)
-    }
-
-    // The segment at SND.UNA was sent again, and lost again.
-    fn is_lost_again(&self, after: &ControlBlock<'_>) -> bool
-        ensures { result ≡ is_lost_again self.now after.now }
-    {
-        if !self.only_tells(after) {
-            return false;
-        }
-        let sacked = self.sacked_after(after);
-        self.recovery
-            .is_lost(&sacked, after.local_seq_no, after.remote_mss)
-    }
-
-    // The recovery as what is told next is measured, and from where holes go out again.
-    fn again(&self, after: &ControlBlock<'_>) -> Recovery
-        ensures { result ≡ again self.now after.now }
-    {
-        self.recovery.again(
-            self.is_news(after),
-            self.is_lost_again(after),
-            after.local_seq_no,
-            after.remote_last_seq,
-        )
-    }
-
-    // What is told anew, and acknowledges nothing, lets out the next hole.
-    fn lets_out(&self, after: &ControlBlock<'_>) -> bool
-        ensures { result ≡ lets_out self.now after.now }
-    {
-        if !self.only_tells(after) {
-            return false;
-        }
-        let sacked = self.sacked_after(after);
-        self.again(after)
-            .next_hole(&sacked, after.local_seq_no)
-            .is_some()
-    }
-
-    // A partial acknowledgement shows a hole that was not sent again.
-    fn shows_hole(&self, after: &ControlBlock<'_>) -> bool
-        ensures { result ≡ (is_partial self.now after.now
-            && shows_hole (again self.now after.now) (sacked_after self.now after.now) after.now.local_seq_no) }
-    {
-        if !self.is_partial(after) {
-            return false;
-        }
-        let sacked = self.sacked_after(after);
-        self.again(after).shows_hole(&sacked, after.local_seq_no)
-    }
-
     // A hole goes out again, or the segment at SND.UNA.
     fn resends(&self, after: &ControlBlock<'_>) -> bool
         ensures { result ≡ resends self.now after.now }
     {
-        self.begins(after)
-            || after.may_resend() && (self.shows_hole(after) || self.lets_out(after))
+        self.begins(after) || after.may_resend() && (self.shows_hole(after) || self.lets_out(after))
     }
 
     fn recovery_after(&self, after: &ControlBlock<'_>) -> Recovery
@@ -545,43 +375,6 @@ impl<'a> ControlBlock<'a> {
             Some(ack) => {
                 is_bare(repr.control) && self.is_duplicate(ack, repr.payload.len(), false)
             }
-        }
-    }
-
-    // How many bytes behind SND.UNA were sent.
-    fn sent(&self) -> usize
-        ensures value { result ≡ sent_of self.now }
-        ensures small { result < 2 ^ 32 }
-    {
-        self.recovery
-            .highest(self.remote_last_seq)
-            .since(self.local_seq_no)
-    }
-
-    // Whether the segment tells something new by SACK: the peer said that it tells, and it lies in the window.
-    #[tactic(auto, unfolding(crate::specs::Rfc::Recovery::is_telling))]
-    fn is_telling(&self, repr: &TcpRepr<'_>) -> bool
-        requires { length repr.now.payload.now ≤ 65535 }
-        ensures { result ≡ is_telling self.now (segment_of repr.now) }
-    {
-        let news = self
-            .sacked
-            .any_news(self.sent(), self.local_seq_no, &repr.sack_ranges);
-        news && (self.remote_has_sack
-            && self
-                .receive_window()
-                .is_inside(repr.seq_number, repr.payload.len()))
-    }
-
-    // What was told by SACK, with what the segment tells.
-    fn sacked_by(&self, telling: bool, repr: &TcpRepr<'_>) -> Scoreboard
-        ensures { result ≡ sacked_by telling self.now (segment_of repr.now) }
-    {
-        if telling {
-            self.sacked
-                .all_told(self.sent(), self.local_seq_no, &repr.sack_ranges)
-        } else {
-            self.sacked
         }
     }
 

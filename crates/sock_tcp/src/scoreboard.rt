@@ -240,12 +240,7 @@ impl Scoreboard {
 
     /// Whether one of a segment's blocks tells something new, where `sent` bytes behind SND.UNA were sent: none that
     /// tells of other bytes is believed (RFC 6675, section 2).
-    pub fn any_news(
-        &self,
-        sent: usize,
-        una: TcpSeqNumber,
-        ranges: &[Option<(u32, u32)>; 3],
-    ) -> bool
+    pub fn any_news(&self, sent: usize, una: TcpSeqNumber, ranges: &[Option<(u32, u32)>; 3]) -> bool
         ensures { result ≡ any_news self.now sent una ranges.now }
     {
         let [first, second, third] = *ranges;

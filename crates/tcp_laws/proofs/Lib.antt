@@ -26,3 +26,4 @@ pub mod Moments
 pub mod Timed
 pub mod Clocks
 pub mod Speaking
+pub mod LossSaid

@@ -267,7 +267,7 @@ module _ (u : View) (now : Instant) (b : Segment) (a : AckOf u b) (o : IsOrdered
   limited_stays : (r : Rules) (c : Recovery) → limited_by r (resent_by c u.remote_last_seq (emitted_as kind.Plain b)) u.local_rx_dup_acks u.remote_mss ≡ limited_by r c u.local_rx_dup_acks u.remote_mss
   limited_stays rules.Smoltcp c = refl
   limited_stays rules.Rfc recovery.Open = refl
-  limited_stays rules.Rfc (recovery.Fast point high_rxt) = refl
+  limited_stays rules.Rfc (recovery.Fast point high_rxt resent_at) = refl
   limited_stays rules.Rfc (recovery.Timeout point) = refl
 
   left_as : LeftAs u plain_left now

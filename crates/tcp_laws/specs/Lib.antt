@@ -6,3 +6,4 @@ pub mod Waking
 pub mod Repeating
 pub mod Clocks
 pub mod Speaking
+pub mod Loss

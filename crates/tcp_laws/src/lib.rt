@@ -4,5 +4,6 @@
 //! holds after any list of calls. What is promised of two sockets is in `docs/THEOREM.md`.
 #![tactic(auto)]
 
+pub mod loss;
 pub mod poll;
 pub mod streams;

@@ -196,9 +196,10 @@ again_by _ _ r una nxt = r
 abbrev pub again : Before → View → Recovery
 again b w = again_by (is_news b w) (is_lost_again b w) b.recovery w.local_seq_no w.remote_last_seq
 
--- what is told anew, and acknowledges nothing, lets out the next hole
+-- what is told anew, and acknowledges nothing, lets out the next hole, unless one is still to go out
 abbrev pub lets_out : Before → View → Bool
-lets_out b w = only_tells b w && has_hole (again b w) (sacked_after b w) w.local_seq_no
+lets_out b w =
+    only_tells b w && (not (is_fast b.timer) && has_hole (again b w) (sacked_after b w) w.local_seq_no)
 
 -- a hole goes out again, or the segment at SND.UNA: a recovery begins, or goes on
 abbrev pub resends : Before → View → Bool

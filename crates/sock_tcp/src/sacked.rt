@@ -1,0 +1,222 @@
+//! What the peer tells by SACK (RFC 2018, section 5), and which hole it lets out (RFC 6675, sections 4 and 5).
+ghost use Rattle.std.specs.Prelude.{◌≡◌, ◌≤◌, ◌<◌, ◌^◌, ◌&&◌, length};
+ghost use Rattle.control_wire.specs.Segment.{segment_of};
+ghost use Rattle.sock_tcp.specs.Content.{again_from, next_hole};
+ghost use Rattle.sock_tcp.specs.Rfc.Recovery.{is_partial, is_sent_again, is_telling, lets_out, sacked_after, sacked_by};
+ghost use Rattle.sock_tcp.specs.Rfc.Recovery.{again, again_by, is_lost_again, is_lost_in, only_tells, sent_of};
+ghost use Rattle.sock_tcp.specs.Rfc.Recovery.{shows_hole};
+ghost use Rattle.sock_tcp.specs.Sent.{resent_by};
+
+use crate::control_block::ControlBlock;
+use crate::emission::Emitted;
+use crate::recovery::{Before, Recovery, is_fast};
+use crate::scoreboard::{Hole, NOTHING_TOLD, Scoreboard};
+use control_wire::{TcpRepr, TcpSeqNumber};
+use sock_core::seq::{before, later};
+
+// Where a number stands from SND.UNA on, 0 where it is none behind it.
+fn offset_from(number: TcpSeqNumber, una: TcpSeqNumber) -> usize
+    ensures value { result ≡ again_from number una }
+    ensures small { result < 2 ^ 32 }
+{
+    if before(una, number) {
+        number.since(una)
+    } else {
+        0
+    }
+}
+
+impl Recovery {
+    // The next hole to be sent again, of what was told by SACK, with SND.UNA there.
+    pub(crate) fn next_hole(self, sacked: &Scoreboard, una: TcpSeqNumber) -> Option<Hole>
+        ensures { result ≡ next_hole self sacked.now una }
+    {
+        match self {
+            Recovery::Fast { high_rxt, .. } => {
+                sacked.hole_behind(offset_from(high_rxt, una))
+            }
+            _ => None,
+        }
+    }
+
+    // Whether the segment at SND.UNA was sent again in this recovery.
+    fn is_sent_again(self, una: TcpSeqNumber) -> bool
+        ensures { result ≡ is_sent_again self una }
+    {
+        match self {
+            Recovery::Fast { high_rxt, .. } => before(una, high_rxt),
+            _ => false,
+        }
+    }
+
+    // Whether a partial acknowledgement shows a hole that was not sent again.
+    fn shows_hole(self, sacked: &Scoreboard, una: TcpSeqNumber) -> bool
+        ensures { result ≡ shows_hole self sacked.now una }
+    {
+        self.next_hole(sacked, una).is_some() || sacked.is_blank() || !self.is_sent_again(una)
+    }
+
+    // Whether the segment at SND.UNA was sent again, and lost again.
+    fn is_lost(self, sacked: &Scoreboard, una: TcpSeqNumber, mss: usize) -> bool
+        requires { mss ≤ 65535 }
+        ensures { result ≡ is_lost_in self sacked.now una mss }
+    {
+        match self {
+            Recovery::Fast {
+                high_rxt,
+                resent_at,
+                ..
+            } => {
+                before(una, high_rxt)
+                    && offset_from(resent_at, una) + 2 * mss < sacked.highest_told() as usize
+            }
+            _ => false,
+        }
+    }
+
+    // SND.UNA has moved, or a segment was lost again, or neither, with SND.UNA and SND.NXT there.
+    fn again(self, news: bool, lost: bool, una: TcpSeqNumber, next: TcpSeqNumber) -> Recovery
+        ensures { result ≡ again_by news lost self una next }
+    {
+        let resent_at = self.highest(next);
+        match (news, lost, self) {
+            (true, _, Recovery::Fast { point, high_rxt, .. }) => Recovery::Fast {
+                point,
+                high_rxt,
+                resent_at,
+            },
+            (false, true, Recovery::Fast { point, .. }) => Recovery::Fast {
+                point,
+                high_rxt: una,
+                resent_at,
+            },
+            _ => self,
+        }
+    }
+
+    // A segment went out, with SND.NXT there: one that begins before that was sent again.
+    pub(crate) fn resent(self, next: TcpSeqNumber, emitted: &Emitted) -> Recovery
+        ensures { result ≡ resent_by self next emitted.now }
+    {
+        match self {
+            Recovery::Fast {
+                point,
+                high_rxt,
+                resent_at,
+            } if before(emitted.seq_number, next) => Recovery::Fast {
+                point,
+                high_rxt: later(high_rxt, emitted.end),
+                resent_at,
+            },
+            _ => self,
+        }
+    }
+}
+
+impl Before {
+    // What the peer told by SACK, from SND.UNA on.
+    pub(crate) fn sacked_after(&self, after: &ControlBlock<'_>) -> Scoreboard
+        ensures { result ≡ sacked_after self.now after.now }
+    {
+        if after.state.carries_data() {
+            self.sacked.moved(after.local_seq_no.since(self.una))
+        } else {
+            NOTHING_TOLD
+        }
+    }
+
+    // It tells something new, and acknowledges nothing.
+    fn only_tells(&self, after: &ControlBlock<'_>) -> bool
+        ensures { result ≡ only_tells self.now after.now }
+    {
+        self.telling && !self.is_news(after)
+    }
+
+    // The segment at SND.UNA was sent again, and lost again.
+    fn is_lost_again(&self, after: &ControlBlock<'_>) -> bool
+        ensures { result ≡ is_lost_again self.now after.now }
+    {
+        if !self.only_tells(after) {
+            return false;
+        }
+        let sacked = self.sacked_after(after);
+        self.recovery
+            .is_lost(&sacked, after.local_seq_no, after.remote_mss)
+    }
+
+    // The recovery as what is told next is measured, and from where holes go out again.
+    pub(crate) fn again(&self, after: &ControlBlock<'_>) -> Recovery
+        ensures { result ≡ again self.now after.now }
+    {
+        self.recovery.again(
+            self.is_news(after),
+            self.is_lost_again(after),
+            after.local_seq_no,
+            after.remote_last_seq,
+        )
+    }
+
+    // What is told anew, and acknowledges nothing, lets out the next hole, unless one is still to go out.
+    pub(crate) fn lets_out(&self, after: &ControlBlock<'_>) -> bool
+        ensures { result ≡ lets_out self.now after.now }
+    {
+        if !self.only_tells(after) || is_fast(self.timer) {
+            return false;
+        }
+        let sacked = self.sacked_after(after);
+        self.again(after)
+            .next_hole(&sacked, after.local_seq_no)
+            .is_some()
+    }
+
+    // A partial acknowledgement shows a hole that was not sent again.
+    pub(crate) fn shows_hole(&self, after: &ControlBlock<'_>) -> bool
+        ensures { result ≡ (is_partial self.now after.now
+            && shows_hole (again self.now after.now) (sacked_after self.now after.now) after.now.local_seq_no) }
+    {
+        if !self.is_partial(after) {
+            return false;
+        }
+        let sacked = self.sacked_after(after);
+        self.again(after).shows_hole(&sacked, after.local_seq_no)
+    }
+}
+
+impl<'a> ControlBlock<'a> {
+    // How many bytes behind SND.UNA were sent.
+    fn sent(&self) -> usize
+        ensures value { result ≡ sent_of self.now }
+        ensures small { result < 2 ^ 32 }
+    {
+        self.recovery
+            .highest(self.remote_last_seq)
+            .since(self.local_seq_no)
+    }
+
+    // Whether the segment tells something new by SACK: the peer said that it tells, and it lies in the window.
+    #[tactic(auto, unfolding(crate::specs::Rfc::Recovery::is_telling))]
+    pub(crate) fn is_telling(&self, repr: &TcpRepr<'_>) -> bool
+        requires { length repr.now.payload.now ≤ 65535 }
+        ensures { result ≡ is_telling self.now (segment_of repr.now) }
+    {
+        let news = self
+            .sacked
+            .any_news(self.sent(), self.local_seq_no, &repr.sack_ranges);
+        news && (self.remote_has_sack
+            && self
+                .receive_window()
+                .is_inside(repr.seq_number, repr.payload.len()))
+    }
+
+    // What was told by SACK, with what the segment tells.
+    pub(crate) fn sacked_by(&self, telling: bool, repr: &TcpRepr<'_>) -> Scoreboard
+        ensures { result ≡ sacked_by telling self.now (segment_of repr.now) }
+    {
+        if telling {
+            self.sacked
+                .all_told(self.sent(), self.local_seq_no, &repr.sack_ranges)
+        } else {
+            self.sacked
+        }
+    }
+}
