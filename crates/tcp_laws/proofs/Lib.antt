@@ -17,6 +17,7 @@ pub mod OrderedSendings
 pub mod OrderedCalls
 pub mod Sleeping
 pub mod Hearing
+pub mod Blind
 pub mod TimingOut
 pub mod Probing
 pub mod Scaled

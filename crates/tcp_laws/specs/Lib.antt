@@ -3,6 +3,7 @@ pub mod SocketRun
 pub mod SocketBytes
 pub mod Polling
 pub mod Waking
+pub mod Blind
 pub mod Repeating
 pub mod Clocks
 pub mod Speaking

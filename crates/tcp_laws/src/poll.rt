@@ -5,6 +5,7 @@ ghost use Rattle.sock_tcp.specs.View.{moment_of};
 ghost use Rattle.sock_tcp.specs.Polls.{IsLater};
 ghost use Rattle.sock_tcp.specs.Dispatch.{Dispatches};
 ghost use Rattle.sock_tcp.specs.Poll.{poll_moment};
+ghost use Rattle.tcp_laws.specs.Blind.{BlindSegmentsChangeNothing};
 ghost use Rattle.tcp_laws.specs.Clocks.{KeepAliveIsBounded, WakeUpIsBounded};
 ghost use Rattle.tcp_laws.specs.Repeating.{AcksRepeatOnlySo};
 ghost use Rattle.tcp_laws.specs.Speaking.{DueDataGoesOut, RetransmissionBegins};
@@ -93,6 +94,13 @@ pub fn timeout_ends<
 /// window, nor the timer: so it puts the user timeout off no further, and wakes nothing.
 pub fn last_ack_hears_nothing()
     ensures { LastAckHearsNothing }
+{}
+
+/// By the RFCs' rules a segment of one who does not know the numbers of a connection changes nothing, but that it may
+/// be answered: an RST whose number is not RCV.NXT, and any in TIME-WAIT; a SYN, once the own one is acknowledged; and
+/// where timestamps were agreed whatever else has none or an older one.
+pub fn blind_segments_change_nothing()
+    ensures { BlindSegmentsChangeNothing }
 {}
 
 /// In ESTABLISHED, FIN-WAIT-1, CLOSE-WAIT and CLOSING a segment that passes and tells a window, as the answer to a
