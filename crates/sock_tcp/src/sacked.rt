@@ -32,9 +32,7 @@ impl Recovery {
         ensures { result ≡ next_hole self sacked.now una }
     {
         match self {
-            Recovery::Fast { high_rxt, .. } => {
-                sacked.hole_behind(offset_from(high_rxt, una))
-            }
+            Recovery::Fast { high_rxt, .. } => { sacked.hole_behind(offset_from(high_rxt, una)) }
             _ => None,
         }
     }
@@ -80,7 +78,15 @@ impl Recovery {
     {
         let resent_at = self.highest(next);
         match (news, lost, self) {
-            (true, _, Recovery::Fast { point, high_rxt, .. }) => Recovery::Fast {
+            (
+                true,
+                _,
+                Recovery::Fast {
+                    point,
+                    high_rxt,
+                    ..
+                },
+            ) => Recovery::Fast {
                 point,
                 high_rxt,
                 resent_at,
