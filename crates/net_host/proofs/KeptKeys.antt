@@ -26,7 +26,8 @@ use Rattle.net_host.specs.Messages as messages
 use Rattle.net_host.specs.Messages.{AnyMail}
 use Rattle.net_host.specs.RawCopies as raw_copies
 use Rattle.net_host.specs.Turns.{Watches, WatchesIn, ends, ends_in}
-use Rattle.net_host.specs.Walks.{Both, ChangesAt, ChangesEach}
+use Rattle.net_host.specs.Unreachable.{RawTakes, TakesRaw}
+use Rattle.net_host.specs.Walks.{Both, ChangesAt, ChangesEach, Nowhere}
 use Rattle.net_host.specs.Watching.{is_over_for}
 use Rattle.net_host.proofs.Places.{each_keeps, keeps_keys}
 
@@ -140,3 +141,17 @@ module _ {G : Type 0} (ss : List (Slot G)) (es : List Entry) (filed : (k : ℕ) 
       by : (k : ℕ) (o : Option (Slot G)) → slice_get ss k ≡ o → is_filed (λ s. keys_of s) es k o ≡ true → Both (λ b a. messages.Copies f m b a) o o
       by k None e h = tt
       by k (Some s) e h = record { generation = refl; guard = refl; copied = same k s s.socket refl (first_of k s h) (listed_once k icmp_key none s e) }
+
+  pub none_takes_raw : (ip : IpRepr) → FindsListed (λ (s : Slot G). IsThere s) ss es raw_key None → Nowhere (TakesRaw ip) ss
+  none_takes_raw ip none = λ k. by k (slice_get ss k) refl (filed k)
+    where
+      not_raw : (k : ℕ) (o : Option (Socket G)) → is_under es k (keys_in o).first ≡ true → (has es (entry_at raw_key k) ≡ true → ⊥) → RawTakes o ip → ⊥
+      not_raw k (Some (socket.Raw x)) h nay r = absurd (nay h)
+      not_raw k (Some (socket.Tcp x)) h nay r = r
+      not_raw k (Some (socket.Udp x)) h nay r = r
+      not_raw k (Some (socket.Icmp x)) h nay r = r
+      not_raw k None h nay r = r
+
+      by : (k : ℕ) (o : Option (Slot G)) → slice_get ss k ≡ o → is_filed (λ s. keys_of s) es k o ≡ true → IfSome o (λ s. TakesRaw ip s → ⊥)
+      by k None e h = tt
+      by k (Some s) e h = not_raw k s.socket (first_of k s h) (listed_once k raw_key none s e)

@@ -2,6 +2,7 @@ pub mod Changes
 pub mod Sources
 pub mod Bare
 pub mod Emitting
+pub mod Raws
 pub mod Told
 pub mod Turning
 pub mod Measure

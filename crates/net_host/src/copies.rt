@@ -18,8 +18,8 @@ use smoltcp_socket::Context;
 use smoltcp_socket::wire::{IpRepr, UdpRepr};
 use sock_tcp::TsvalSource;
 
-// Whether no place is under the key, as far as is known.
-fn knows_none<G: TsvalSource>(sockets: &SocketSet<'_, G>, key: Entry) -> bool
+/// Whether no place is under the key, as far as is known.
+pub(crate) fn knows_none<G: TsvalSource>(sockets: &SocketSet<'_, G>, key: Entry) -> bool
     requires { key.place ≡ 0 }
     ensures { result ≡ true → (sockets.now.complete ≡ true)
         × FindsListed (λ s. IsThere s) sockets.now.slots.items sockets.now.index.entries.items key None }
