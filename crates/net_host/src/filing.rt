@@ -4,6 +4,7 @@ ghost use Rattle.net_host.specs.declared.key.Key.TheVariants.{Nothing};
 ghost use Rattle.net_host.specs.Entries.{ordered};
 ghost use Rattle.net_host.specs.Filing.{connection_by, first_by, icmp_key, keys_by, keys_of, listener_by, listener_key};
 ghost use Rattle.net_host.specs.Filing.{number_of, raw_key, rest_by, rest_major, second_by, server_key};
+ghost use Rattle.net_host.specs.Looking.{sleeps};
 
 use crate::filed::Keyed;
 use crate::index::Entry;
@@ -187,6 +188,8 @@ fn one_key(first: Key) -> Keys
 
 impl<'a, G> Keyed for Slot<'a, G> {
     ghost keys_of = { λ s. keys_of s };
+
+    ghost sleeps = { λ t b s. sleeps t b s };
 
     fn keys(&self) -> Keys {
         match &self.socket {

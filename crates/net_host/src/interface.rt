@@ -3,6 +3,7 @@ ghost use Rattle.std.specs.Prelude.{◌≡◌, ◌↔◌, ◌<◌, ◌≤◌, Is
 ghost use Rattle.net_host.specs.Facts.{facts_by};
 ghost use Rattle.net_host.specs.Guards.{usual};
 ghost use Rattle.net_host.specs.HostCalls.{EmitsAt, MovesTo, ReceivesAt};
+ghost use Rattle.net_host.specs.Looking.{Unseen};
 ghost use Rattle.net_host.specs.Speaking.{Due, earliest};
 ghost use Rattle.net_host.specs.Walks.{Nowhere};
 ghost use Rattle.ip_wire.specs.Checksum.{all_checksums};
@@ -16,7 +17,8 @@ use crate::inner::InterfaceInner;
 use crate::limit::Limit;
 use crate::replies::LONGEST_REPLY;
 use crate::set::SocketSet;
-use crate::speak::{earliest, speak, watch_all};
+use crate::speak::{earliest, speak};
+use crate::terms::Terms;
 use crate::wire::TooShort;
 use host_context::Words;
 use smoltcp_socket::PollAt;
@@ -103,8 +105,9 @@ impl<W: Words> Interface<W> {
     /// Writes the next packet of a socket that is due at this moment into `out`, and answers its length; 0 where no
     /// socket is due. The turn goes round: it begins behind the socket that spoke last.
     ///
-    /// First the guard of each TCP socket looks at it, as `Guard::watch`. A socket that is due and has nothing to say
-    /// after all has had its turn. Where `out` is too short for the packet, `TooShort`: its socket offers it again.
+    /// Before its turn the guard of a TCP socket looks at it, as `Guard::watch`; and where no socket is due, the guard of
+    /// each has looked at it as it is. Sockets that were not lent, have taken no segment and ask for a later moment are
+    /// not asked again, however many they are. A socket that is due and has nothing to say after all has had its turn. Where `out` is too short for the packet, `TooShort`: its socket offers it again.
     pub fn emit<G: TsvalSource>(
         &mut self,
         sockets: &mut SocketSet<'_, G>,
@@ -117,6 +120,7 @@ impl<W: Words> Interface<W> {
         ensures within { IfOk result (λ n. n ≤ length out.old) }
         ensures quiet { result ≡ Ok 0 → Nowhere (Due (facts_by ⟦<IpAddress as PartialEq>⟧.eq
             self.new.inner.environment)) sockets.new.slots.items }
+        ensures seen { result ≡ Ok 0 → Nowhere (Unseen self.old.guards) sockets.new.slots.items }
     {
         self.emit_at(sockets, now, out)
     }
@@ -132,9 +136,13 @@ impl<W: Words> Interface<W> {
         ensures within { IfOk result (λ n. n ≤ length out.old) }
         ensures quiet { result ≡ Ok 0 → Nowhere (Due (facts_by ⟦<IpAddress as PartialEq>⟧.eq
             self.new.inner.environment)) sockets.new.slots.items }
+        ensures seen { result ≡ Ok 0 → Nowhere (Unseen self.old.guards) sockets.new.slots.items }
     {
         self.set_now(now);
-        watch_all(sockets, &self.guards, self.inner.environment.moment());
+        sockets.heed(Terms {
+            mtu: self.inner.environment.mtu,
+            guards: self.guards,
+        });
         speak(sockets, &mut self.turn, &self.inner, out)
     }
 }
@@ -189,7 +197,8 @@ impl<W> Interface<W> {
         self.counters
     }
 
-    /// Sets how long a peer may leave a TCP connection of a set waiting. In a new interface as `GuardSettings::new`.
+    /// Sets how long a peer may leave a TCP connection of a set waiting, from the next `emit` on, for each of its sockets.
+    /// In a new interface as `GuardSettings::new`.
     pub fn set_guards(&mut self, guards: GuardSettings)
         ensures guards { self.new.guards ≡ guards }
         ensures same { (self.new.inner ≡ self.old.inner) × (self.new.turn ≡ self.old.turn)
