@@ -8,6 +8,7 @@ use Rattle.net_base.specs.declared.time.Duration.{Duration}
 use Rattle.net_base.specs.declared.time.Instant.{Instant}
 use Rattle.sock_core.specs.Facts.{Facts}
 use Rattle.sock_tcp.specs.View.{View}
+use Rattle.sock_dgram.specs.Udp as udp
 use Rattle.smoltcp_socket.specs.declared.socket.Socket.{Socket}
 use Rattle.smoltcp_socket.specs.declared.socket.Socket.TheVariants as socket
 use Rattle.net_host.specs.declared.guard.Guard.{Guard}
@@ -18,7 +19,7 @@ use Rattle.net_host.specs.declared.key.Lent.{Lent}
 use Rattle.net_host.specs.declared.slot.Slot.{Slot}
 use Rattle.net_host.specs.Datagrams as datagrams
 use Rattle.net_host.specs.Entries.{FindsListed, entry_at, has}
-use Rattle.net_host.specs.Filing.{icmp_key, keys_by, keys_in, keys_of, raw_key}
+use Rattle.net_host.specs.Filing.{icmp_key, keys_by, keys_in, keys_of, one_key, raw_key, udp_key}
 use Rattle.net_host.specs.Indexing.{IsIndexed, is_filed, is_under}
 use Rattle.net_host.specs.Finding.{IsThere}
 use Rattle.net_host.specs.Guards.{ended_if, lawful_limit, phase_of, with_timeout}
@@ -91,7 +92,7 @@ pub mails_keep : {G : Type 0} (f : Facts) (m : AnyMail) (complete : Bool) (lent 
 mails_keep f m complete lent ss ts es c h = each_keeps (λ s. keys_of s) (λ b a. messages.Copies f m b a) complete lent ss ts es (λ b a w. mail_keeps f m b.socket a.socket w.copied) c h
 
 datagram_keeps : {G : Type 0} (ip : IpRepr) (u : UdpRepr) (payload : List ℕ) (s t : Option (Socket G)) → datagrams.SocketHears s ip u payload t → keys_in t ≡ keys_in s
-datagram_keeps ip u payload (Some (socket.Udp x)) (Some (socket.Udp y)) h = refl
+datagram_keeps ip u payload (Some (socket.Udp x)) (Some (socket.Udp y)) h = ap (λ (v : udp.View). one_key (udp_key v.endpoint.port)) h.0
 datagram_keeps ip u payload (Some (socket.Udp x)) (Some (socket.Tcp y)) h = absurd h
 datagram_keeps ip u payload (Some (socket.Udp x)) (Some (socket.Icmp y)) h = absurd h
 datagram_keeps ip u payload (Some (socket.Udp x)) (Some (socket.Raw y)) h = absurd h

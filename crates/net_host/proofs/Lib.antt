@@ -19,5 +19,6 @@ pub mod Places
 pub mod Keyed
 pub mod Rested
 pub mod Each
+pub mod Firsts
 pub mod KeptKeys
 pub mod KeptSleep

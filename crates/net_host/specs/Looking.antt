@@ -76,6 +76,12 @@ is_bound b poll.Now = int_le b at_once
 is_bound b (poll.Time t) = int_le b t.micros && int_lt b never
 is_bound b poll.Ingress = true
 
+-- an answer that is not after a moment, and not at once
+abbrev pub is_at_most : PollAt → ℤ → Bool
+is_at_most poll.Now least = false
+is_at_most (poll.Time t) least = int_le t.micros least
+is_at_most poll.Ingress least = int_le never least
+
 -- of what a context answers, a socket asks for the MTU alone when it says when it wants to be asked
 abbrev pub facts_under : ℕ → Facts
 facts_under mtu = record {

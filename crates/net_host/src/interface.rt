@@ -1,5 +1,7 @@
 //! An interface: what arrives goes to the sockets that it is for, and what they have to say goes out.
-ghost use Rattle.std.specs.Prelude.{◌≡◌, ◌↔◌, ◌<◌, ◌≤◌, IsTrue, IfOk, Ok, is_err, length, max, min, pos};
+ghost use Rattle.std.specs.Prelude.{◌≡◌, ◌↔◌, ◌<◌, ◌≤◌, IsTrue, IfOk, Ok, is_err, length, max, min, pos, false};
+ghost use Rattle.sock_tcp.specs.Polls.{is_reached};
+ghost use Rattle.sock_tcp.specs.View.{moment_of};
 ghost use Rattle.net_host.specs.Facts.{facts_by};
 ghost use Rattle.net_host.specs.Guards.{usual};
 ghost use Rattle.net_host.specs.HostCalls.{EmitsAt, MovesTo, ReceivesAt};
@@ -15,9 +17,10 @@ use crate::environment::Environment;
 use crate::guard::GuardSettings;
 use crate::inner::InterfaceInner;
 use crate::limit::Limit;
+use crate::polling::earliest;
 use crate::replies::LONGEST_REPLY;
 use crate::set::SocketSet;
-use crate::speak::{earliest, speak};
+use crate::speak::speak;
 use crate::terms::Terms;
 use crate::wire::TooShort;
 use host_context::Words;
@@ -121,6 +124,9 @@ impl<W: Words> Interface<W> {
         ensures quiet { result ≡ Ok 0 → Nowhere (Due (facts_by ⟦<IpAddress as PartialEq>⟧.eq
             self.new.inner.environment)) sockets.new.slots.items }
         ensures seen { result ≡ Ok 0 → Nowhere (Unseen self.old.guards) sockets.new.slots.items }
+        ensures later { result ≡ Ok 0 → is_reached (earliest (facts_by ⟦<IpAddress as PartialEq>⟧.eq
+            self.new.inner.environment) sockets.new.slots.items) (moment_of (facts_by ⟦<IpAddress as PartialEq>⟧.eq
+            self.new.inner.environment)) ≡ false }
     {
         self.emit_at(sockets, now, out)
     }
@@ -156,7 +162,7 @@ impl<W: Words> Interface<W> {
         ensures { result ≡ earliest (facts_by ⟦<IpAddress as PartialEq>⟧.eq self.now.inner.environment)
             sockets.now.slots.items }
     {
-        earliest(&sockets.slots, &self.inner)
+        earliest(sockets, &self.inner)
     }
 }
 

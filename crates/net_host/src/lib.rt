@@ -21,6 +21,7 @@ pub mod limit;
 pub mod looking;
 pub mod lookup;
 pub mod messages;
+pub mod polling;
 pub mod raw_copies;
 pub mod receive;
 pub mod refiling;

@@ -1,8 +1,7 @@
 //! Who speaks next.
 ghost use Rattle.std.specs.Prelude.{◌≡◌, ◌<◌, ◌≤◌, ◌+◌, IfOk, Ok, length};
 ghost use Rattle.net_host.specs.Facts.{facts_by};
-ghost use Rattle.net_host.specs.Speaking.{Due, Speaks, TurnAt, earliest};
-ghost use Rattle.sock_tcp.specs.Polls.{earlier};
+ghost use Rattle.net_host.specs.Speaking.{Due, Speaks, TurnAt};
 ghost use Rattle.net_host.specs.Looking.{Unseen};
 ghost use Rattle.net_host.specs.Walks.{Nowhere};
 
@@ -11,11 +10,9 @@ use crate::inner::InterfaceInner;
 use crate::lent_turns::turn_there;
 use crate::looking::next_due;
 use crate::set::SocketSet;
-use crate::slot::Slot;
 use crate::wire::TooShort;
 use host_context::Words;
 use smoltcp_socket::wire::IpAddress;
-use smoltcp_socket::{Context, PollAt};
 use sock_tcp::TsvalSource;
 
 // The socket at this place has its turn.
@@ -80,28 +77,4 @@ fn speak_on<W: Words, G: TsvalSource>(
         }
     }
     Ok(0)
-}
-
-/// When the first of the sockets wants to speak.
-pub(crate) fn earliest<C: Context, G: TsvalSource>(slots: &[Slot<'_, G>], cx: &C) -> PollAt
-    ensures { result ≡ earliest (C.facts cx.now) slots.now }
-{
-    slots
-        .iter()
-        .fold(PollAt::Ingress, |first: PollAt, slot: &Slot<'_, G>| {
-            earlier(first, slot.poll_at(cx))
-        })
-}
-
-fn earlier(poll: PollAt, other: PollAt) -> PollAt
-    ensures { result ≡ earlier poll other }
-{
-    match (poll, other) {
-        (PollAt::Now, _) | (_, PollAt::Now) => PollAt::Now,
-        (PollAt::Ingress, _) => other,
-        (_, PollAt::Ingress) => poll,
-        (PollAt::Time(at), PollAt::Time(then)) => {
-            PollAt::Time(if at.micros <= then.micros { at } else { then })
-        }
-    }
 }
