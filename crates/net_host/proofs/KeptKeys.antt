@@ -8,6 +8,7 @@ use Rattle.net_base.specs.declared.time.Duration.{Duration}
 use Rattle.net_base.specs.declared.time.Instant.{Instant}
 use Rattle.sock_core.specs.Facts.{Facts}
 use Rattle.sock_tcp.specs.View.{View}
+use Rattle.sock_dgram.specs.Udp as udp
 use Rattle.smoltcp_socket.specs.declared.socket.Socket.{Socket}
 use Rattle.smoltcp_socket.specs.declared.socket.Socket.TheVariants as socket
 use Rattle.net_host.specs.declared.guard.Guard.{Guard}
@@ -18,7 +19,7 @@ use Rattle.net_host.specs.declared.key.Lent.{Lent}
 use Rattle.net_host.specs.declared.slot.Slot.{Slot}
 use Rattle.net_host.specs.Datagrams as datagrams
 use Rattle.net_host.specs.Entries.{FindsListed, entry_at, has}
-use Rattle.net_host.specs.Filing.{icmp_key, keys_by, keys_in, keys_of, raw_key}
+use Rattle.net_host.specs.Filing.{icmp_key, keys_by, keys_in, keys_of, one_key, raw_key, udp_key}
 use Rattle.net_host.specs.Indexing.{IsIndexed, is_filed, is_under}
 use Rattle.net_host.specs.Finding.{IsThere}
 use Rattle.net_host.specs.Guards.{ended_if, lawful_limit, phase_of, with_timeout}
@@ -26,7 +27,8 @@ use Rattle.net_host.specs.Messages as messages
 use Rattle.net_host.specs.Messages.{AnyMail}
 use Rattle.net_host.specs.RawCopies as raw_copies
 use Rattle.net_host.specs.Turns.{Watches, WatchesIn, ends, ends_in}
-use Rattle.net_host.specs.Walks.{Both, ChangesAt, ChangesEach}
+use Rattle.net_host.specs.Unreachable.{RawTakes, TakesRaw}
+use Rattle.net_host.specs.Walks.{Both, ChangesAt, ChangesEach, Nowhere}
 use Rattle.net_host.specs.Watching.{is_over_for}
 use Rattle.net_host.proofs.Places.{each_keeps, keeps_keys}
 
@@ -90,7 +92,7 @@ pub mails_keep : {G : Type 0} (f : Facts) (m : AnyMail) (complete : Bool) (lent 
 mails_keep f m complete lent ss ts es c h = each_keeps (λ s. keys_of s) (λ b a. messages.Copies f m b a) complete lent ss ts es (λ b a w. mail_keeps f m b.socket a.socket w.copied) c h
 
 datagram_keeps : {G : Type 0} (ip : IpRepr) (u : UdpRepr) (payload : List ℕ) (s t : Option (Socket G)) → datagrams.SocketHears s ip u payload t → keys_in t ≡ keys_in s
-datagram_keeps ip u payload (Some (socket.Udp x)) (Some (socket.Udp y)) h = refl
+datagram_keeps ip u payload (Some (socket.Udp x)) (Some (socket.Udp y)) h = ap (λ (v : udp.View). one_key (udp_key v.endpoint.port)) h.0
 datagram_keeps ip u payload (Some (socket.Udp x)) (Some (socket.Tcp y)) h = absurd h
 datagram_keeps ip u payload (Some (socket.Udp x)) (Some (socket.Icmp y)) h = absurd h
 datagram_keeps ip u payload (Some (socket.Udp x)) (Some (socket.Raw y)) h = absurd h
@@ -140,3 +142,17 @@ module _ {G : Type 0} (ss : List (Slot G)) (es : List Entry) (filed : (k : ℕ) 
       by : (k : ℕ) (o : Option (Slot G)) → slice_get ss k ≡ o → is_filed (λ s. keys_of s) es k o ≡ true → Both (λ b a. messages.Copies f m b a) o o
       by k None e h = tt
       by k (Some s) e h = record { generation = refl; guard = refl; copied = same k s s.socket refl (first_of k s h) (listed_once k icmp_key none s e) }
+
+  pub none_takes_raw : (ip : IpRepr) → FindsListed (λ (s : Slot G). IsThere s) ss es raw_key None → Nowhere (TakesRaw ip) ss
+  none_takes_raw ip none = λ k. by k (slice_get ss k) refl (filed k)
+    where
+      not_raw : (k : ℕ) (o : Option (Socket G)) → is_under es k (keys_in o).first ≡ true → (has es (entry_at raw_key k) ≡ true → ⊥) → RawTakes o ip → ⊥
+      not_raw k (Some (socket.Raw x)) h nay r = absurd (nay h)
+      not_raw k (Some (socket.Tcp x)) h nay r = r
+      not_raw k (Some (socket.Udp x)) h nay r = r
+      not_raw k (Some (socket.Icmp x)) h nay r = r
+      not_raw k None h nay r = r
+
+      by : (k : ℕ) (o : Option (Slot G)) → slice_get ss k ≡ o → is_filed (λ s. keys_of s) es k o ≡ true → IfSome o (λ s. TakesRaw ip s → ⊥)
+      by k None e h = tt
+      by k (Some s) e h = not_raw k s.socket (first_of k s h) (listed_once k raw_key none s e)

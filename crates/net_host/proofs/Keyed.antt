@@ -5,6 +5,8 @@ use Rattle.std.proofs.lemmas.Bool.{and_parts}
 use Rattle.ip_wire.specs.declared.endpoint.IpListenEndpoint.{IpListenEndpoint}
 use Rattle.ip_wire.specs.declared.repr.IpRepr.{IpRepr}
 use Rattle.control_wire.specs.Segment.{Segment}
+use Rattle.control_wire.specs.declared.udp.UdpRepr.{UdpRepr}
+use Rattle.sock_core.specs.Facts.{Facts}
 use Rattle.sock_tcp.specs.Opening.{is_listening}
 use Rattle.sock_tcp.specs.Process.{AcceptsIn, IsAddressed, IsBetween}
 use Rattle.sock_tcp.specs.View.{View}
@@ -16,8 +18,9 @@ use Rattle.smoltcp_socket.specs.declared.socket.Socket.TheVariants as socket
 use Rattle.net_host.specs.declared.index.Entry.{Entry}
 use Rattle.net_host.specs.declared.key.Key.TheVariants as key
 use Rattle.net_host.specs.declared.slot.Slot.{Slot}
+use Rattle.net_host.specs.Datagrams as datagrams
 use Rattle.net_host.specs.Entries.{FindsListed, entry_at, has}
-use Rattle.net_host.specs.Filing.{connection_by, connection_key, first_by, listener_by, keys_in, keys_of, listener_key, number_of}
+use Rattle.net_host.specs.Filing.{connection_by, connection_key, first_by, listener_by, keys_in, keys_of, listener_key, number_of, udp_key}
 use Rattle.net_host.specs.Indexing.{are_filed, is_filed, is_under}
 use Rattle.net_host.specs.Finding.{key_of_segment}
 use Rattle.net_host.specs.Segments.{TakesIn}
@@ -99,3 +102,12 @@ module _ {G : Type 0} (P : Slot G → Type 0) (ss : List (Slot G)) (es : List En
     holds = h.holds;
     before = λ k less. none_at k (slice_get ss k) (filed k) (h.before k less);
   }
+
+-- ---- a UDP socket
+
+pub datagram_in : {G : Type 0} (es : List Entry) (k : ℕ) (f : Facts) (ip : IpRepr) (u : UdpRepr) (x : Option (Socket G)) → are_filed es k (keys_in x) ≡ true → datagrams.TakesIn f x ip u → has es (entry_at (udp_key u.dst_port) k) ≡ true
+datagram_in es k f ip u None e h = absurd h
+datagram_in es k f ip u (Some (socket.Raw x)) e h = absurd h
+datagram_in es k f ip u (Some (socket.Icmp x)) e h = absurd h
+datagram_in es k f ip u (Some (socket.Tcp x)) e h = absurd h
+datagram_in es k f ip u (Some (socket.Udp x)) e h = subst (λ p. has es (entry_at (udp_key p) k) ≡ true) h.port (and_parts (has es (entry_at (udp_key x.endpoint.port) k)) true e).0

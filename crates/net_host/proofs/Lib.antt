@@ -1,9 +1,13 @@
 pub mod Changes
+pub mod Sleepers
 pub mod Sources
+pub mod Asking
 pub mod Bare
 pub mod Emitting
+pub mod Raws
 pub mod Told
 pub mod Turning
+pub mod Walking
 pub mod Measure
 pub mod Steps
 pub mod Oldest
@@ -15,4 +19,6 @@ pub mod Places
 pub mod Keyed
 pub mod Rested
 pub mod Each
+pub mod Firsts
 pub mod KeptKeys
+pub mod KeptSleep

@@ -27,7 +27,7 @@ later_not_over : (b : Bool) (t u now : Instant) → int_le t.micros u.micros ≡
 later_not_over true t u now e h = grind (arith, ints)
 later_not_over false t u now e h = h
 
-not_reached : (now : Instant) (asked : PollAt) → is_reached (not_before (after now (record { micros = 1 })) asked) now ≡ false
+pub not_reached : (now : Instant) (asked : PollAt) → is_reached (not_before (after now (record { micros = 1 })) asked) now ≡ false
 not_reached now poll.Now = not_over now
 not_reached now (poll.Time u) = later_not_over (int_le (after now (record { micros = 1 })).micros u.micros) (after now (record { micros = 1 })) u now refl (not_over now)
 not_reached now poll.Ingress = refl

@@ -47,6 +47,10 @@ raw_key = record { major = 2; minor = 0; place = 0 }
 abbrev pub icmp_key : Entry
 icmp_key = record { major = 2; minor = 1; place = 0 }
 
+-- of a UDP socket that is bound to a port
+abbrev pub udp_key : ℕ → Entry
+udp_key port = record { major = 3; minor = port; place = 0 }
+
 abbrev pub rest_major : ℕ → ℕ
 rest_major port = port + 65536
 
@@ -88,7 +92,7 @@ abbrev pub keys_in : {G : Type 0} → Option (Socket G) → Keys
 keys_in (Some (socket.Tcp x)) = keys_by x.control_block
 keys_in (Some (socket.Raw x)) = one_key raw_key
 keys_in (Some (socket.Icmp x)) = one_key icmp_key
-keys_in (Some (socket.Udp x)) = no_keys
+keys_in (Some (socket.Udp x)) = one_key (udp_key x.endpoint.port)
 keys_in None = no_keys
 
 abbrev pub keys_of : {G : Type 0} → Slot G → Keys

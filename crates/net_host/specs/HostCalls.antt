@@ -6,8 +6,6 @@ use Rattle.net_host.specs.Facts.{facts_by}
 use Rattle.net_host.specs.Moments.{lawful_micros}
 use Rattle.net_host.specs.Receiving.{TakesPacket}
 use Rattle.net_host.specs.Speaking.{Speaks}
-use Rattle.net_host.specs.Turns.{Watches}
-use Rattle.net_host.specs.Walks.{ChangesEach}
 use Rattle.net_host.specs.declared.interface.Interface.{Interface}
 use Rattle.net_host.specs.declared.slot.Slot.{Slot}
 use Rattle.net_host.specs.declared.wire.TooShort.{TooShort}
@@ -34,14 +32,12 @@ module _ {W G : Type 0} (is : IpAddress → IpAddress → Bool) where
     pub moves : MovesTo now i moved
     pub takes : TakesPacket is word_at tells packet moved ss out n j ts out'
 
-  -- it is at the moment, the guard of each TCP socket looks at it, and moved they speak in turn
+  -- it is at the moment, and the sockets that are due speak in turn
   pub record EmitsAt (tells : G → ℕ → Type 0) (now : Instant) (i : Interface W) (ss : List (Slot G)) (out : List ℕ)
       (r : Result ℕ TooShort) (j : Interface W) (ts : List (Slot G)) (out' : List ℕ) : Type 0 where
     pub moved : Interface W
     pub moves : MovesTo now i moved
-    pub seen : List (Slot G)
-    pub looked : ChangesEach (Watches i.guards moved.inner.environment.now) ss seen
-    pub spoken : Speaks (facts_by is moved.inner.environment) tells seen moved.turn out r ts j.turn out'
+    pub spoken : Speaks (facts_by is moved.inner.environment) tells i.guards ss moved.turn out r ts j.turn out'
     pub inner : j.inner ≡ moved.inner
     pub resets : j.resets ≡ i.resets
     pub errors : j.errors ≡ i.errors

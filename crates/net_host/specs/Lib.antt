@@ -11,6 +11,7 @@ pub mod Guards
 pub mod HostCalls
 pub mod Indexing
 pub mod Limits
+pub mod Looking
 pub mod Messages
 pub mod Moments
 pub mod RawCopies
@@ -20,6 +21,7 @@ pub mod Segments
 pub mod SheetOf
 pub mod Sheets
 pub mod Sides
+pub mod Sleeping
 pub mod Slots
 pub mod Speaking
 pub mod Turns

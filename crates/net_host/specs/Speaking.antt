@@ -1,12 +1,15 @@
 -- Who speaks next.
-use Rattle.std.specs.Prelude.{ℕ, ◌≡◌, ◌+◌, ◌<◌, List, true, Result, Ok, Err}
+use Rattle.std.specs.Prelude.{ℕ, ◌≡◌, ◌+◌, ◌<◌, List, true, Result, Ok, Err, slice_get}
 use Rattle.sock_core.specs.Facts.{Facts}
 use Rattle.sock_core.specs.declared.context.PollAt.{PollAt}
 use Rattle.sock_core.specs.declared.context.PollAt.TheVariants as poll
 use Rattle.sock_tcp.specs.Polls.{earlier}
+use Rattle.sock_tcp.specs.View.{moment_of}
 use Rattle.std.specs.List.{fold}
-use Rattle.net_host.specs.Turns.{TakesTurn, is_due, slot_poll}
-use Rattle.net_host.specs.Walks.{ChangesAt, IsNext, Nowhere}
+use Rattle.net_host.specs.Looking.{MayLook, Unseen}
+use Rattle.net_host.specs.Turns.{TakesTurn, Watches, is_due, slot_poll}
+use Rattle.net_host.specs.Walks.{Both, ChangesAt, ChangesEach, IsNext, Nowhere}
+use Rattle.net_host.specs.declared.guard.GuardSettings.{GuardSettings}
 use Rattle.net_host.specs.declared.slot.Slot.{Slot}
 use Rattle.net_host.specs.declared.wire.TooShort.{TooShort}
 
@@ -22,17 +25,32 @@ module _ {G : Type 0} (facts : Facts) (tells : G → ℕ → Type 0) where
   abbrev pub TurnAt : List (Slot G) → ℕ → List ℕ → Result (Unit {0}) TooShort → ℕ → List (Slot G) → List ℕ → Type 0
   TurnAt ss i out r n ts out' = ChangesAt (λ before after. TakesTurn facts tells before out r n after out') ss i ts
 
+module _ {G : Type 0} (facts : Facts) (st : GuardSettings) where
+  -- Guards look at some of the sockets. Then the socket at i is due, its own guard has looked at it, and it is the first
+  -- such from the place whose turn it is.
+  pub record Readies (ss : List (Slot G)) (turn i : ℕ) (seen : List (Slot G)) : Type 0 where
+    pub changed : ChangesEach (MayLook st (moment_of facts)) ss seen
+    pub next : IsNext (Due facts) seen turn i
+    pub looked : Both (Watches st (moment_of facts)) (slice_get ss i) (slice_get seen i)
+
+  -- Guards look at some of the sockets. Then none is due, and each guard has looked at its socket as it is.
+  pub record Quiets (ss seen : List (Slot G)) : Type 0 where
+    pub changed : ChangesEach (MayLook st (moment_of facts)) ss seen
+    pub none : Nowhere (Due facts) seen
+    pub all : Nowhere (Unseen st) seen
+
+module _ {G : Type 0} (facts : Facts) (tells : G → ℕ → Type 0) (st : GuardSettings) where
   -- From the place whose turn it is, the sockets that are due have their turns one after the other, until one of them
   -- has written a packet or its packet does not fit, or none is due; the next turn is that of the place behind.
   pub data Speaks : List (Slot G) → ℕ → List ℕ → Result ℕ TooShort → List (Slot G) → ℕ → List ℕ → Type 0 where
-    Quiet : (ss : List (Slot G)) (turn : ℕ) (out : List ℕ)
-        → Nowhere (Due facts) ss → Speaks ss turn out (Ok 0) ss turn out
-    Packet : (ss ts : List (Slot G)) (turn i n : ℕ) (out out' : List ℕ)
-        → IsNext (Due facts) ss turn i → TurnAt ss i out (Ok tt) n ts out' → 0 < n
+    Quiet : (ss seen : List (Slot G)) (turn : ℕ) (out : List ℕ)
+        → Quiets facts st ss seen → Speaks ss turn out (Ok 0) seen turn out
+    Packet : (ss seen ts : List (Slot G)) (turn i n : ℕ) (out out' : List ℕ)
+        → Readies facts st ss turn i seen → TurnAt facts tells seen i out (Ok tt) n ts out' → 0 < n
         → Speaks ss turn out (Ok n) ts (i + 1) out'
-    Short : (ss ts : List (Slot G)) (turn i n : ℕ) (out out' : List ℕ) (e : TooShort)
-        → IsNext (Due facts) ss turn i → TurnAt ss i out (Err e) n ts out'
+    Short : (ss seen ts : List (Slot G)) (turn i n : ℕ) (out out' : List ℕ) (e : TooShort)
+        → Readies facts st ss turn i seen → TurnAt facts tells seen i out (Err e) n ts out'
         → Speaks ss turn out (Err e) ts (i + 1) out'
-    Silent : (ss us ts : List (Slot G)) (turn i turn' : ℕ) (out mid out' : List ℕ) (r : Result ℕ TooShort)
-        → IsNext (Due facts) ss turn i → TurnAt ss i out (Ok tt) 0 us mid → Speaks us (i + 1) mid r ts turn' out'
-        → Speaks ss turn out r ts turn' out'
+    Silent : (ss seen us ts : List (Slot G)) (turn i turn' : ℕ) (out mid out' : List ℕ) (r : Result ℕ TooShort)
+        → Readies facts st ss turn i seen → TurnAt facts tells seen i out (Ok tt) 0 us mid
+        → Speaks us (i + 1) mid r ts turn' out' → Speaks ss turn out r ts turn' out'

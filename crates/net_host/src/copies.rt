@@ -7,8 +7,8 @@ ghost use Rattle.net_host.specs.Messages.{Copies, mail_of};
 ghost use Rattle.net_host.specs.RawCopies.{CopiesPacket};
 ghost use Rattle.net_host.specs.Walks.{ChangesEach, Finds};
 
-use crate::datagrams::hear_datagram;
-use crate::filing::{icmp_key, raw_key};
+use crate::datagrams::{first_for_datagram, first_under, hear_found};
+use crate::filing::{icmp_key, raw_key, udp_key};
 use crate::find::lists_none;
 use crate::index::Entry;
 use crate::messages::{Mail, copy_to_all};
@@ -18,8 +18,8 @@ use smoltcp_socket::Context;
 use smoltcp_socket::wire::{IpRepr, UdpRepr};
 use sock_tcp::TsvalSource;
 
-// Whether no place is under the key, as far as is known.
-fn knows_none<G: TsvalSource>(sockets: &SocketSet<'_, G>, key: Entry) -> bool
+/// Whether no place is under the key, as far as is known.
+pub(crate) fn knows_none<G: TsvalSource>(sockets: &SocketSet<'_, G>, key: Entry) -> bool
     requires { key.place ≡ 0 }
     ensures { result ≡ true → (sockets.now.complete ≡ true)
         × FindsListed (λ s. IsThere s) sockets.now.slots.items sockets.now.index.entries.items key None }
@@ -60,6 +60,24 @@ pub(crate) fn copy_mail<C: Context, G: TsvalSource>(
     copy_to_all(&mut sockets.slots, cx, mail);
 }
 
+// The first socket that takes the datagram, by the index where it is complete.
+fn datagram_taker<C: Context, G: TsvalSource>(
+    sockets: &SocketSet<'_, G>,
+    cx: &C,
+    ip: &IpRepr,
+    repr: &UdpRepr,
+) -> Option<usize>
+    requires { sockets.now.lent ≡ None }
+    ensures { Finds (TakesDatagram (C.facts cx.now) ip.now repr.now) sockets.now.slots.items result }
+{
+    if sockets.complete {
+        let key = udp_key(repr.dst_port);
+        first_under(&sockets.slots, &sockets.index, key, cx, ip, repr)
+    } else {
+        first_for_datagram(&sockets.slots, cx, ip, repr)
+    }
+}
+
 /// A datagram arrives: the place of the first socket that takes it, if any.
 pub(crate) fn hear_datagram_of<C: Context, G: TsvalSource>(
     sockets: &mut SocketSet<'_, G>,
@@ -71,5 +89,8 @@ pub(crate) fn hear_datagram_of<C: Context, G: TsvalSource>(
     ensures finds { Finds (TakesDatagram (C.facts cx.now) ip.now repr.now) sockets.old.slots.items result }
     ensures heard { HeardBy result sockets.old.slots.items ip.now repr.now payload.now sockets.new.slots.items }
 {
-    hear_datagram(&mut sockets.slots, cx, ip, repr, payload)
+    sockets.settle();
+    let found = datagram_taker(sockets, cx, ip, repr);
+    hear_found(&mut sockets.slots, found, cx, ip, repr, payload);
+    found
 }

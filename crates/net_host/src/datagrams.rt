@@ -1,8 +1,11 @@
 //! Which socket takes a UDP datagram, and what becomes of it.
 ghost use Rattle.std.specs.Prelude.{◌≡◌, ◌↔◌, ◌<◌, IsTrue, IfSome, length, slice_get, Some};
 ghost use Rattle.net_host.specs.Datagrams.{HeardBy, Hears, TakesDatagram};
-ghost use Rattle.net_host.specs.Walks.{Finds};
+ghost use Rattle.net_host.specs.Entries.{FindsListed};
+ghost use Rattle.net_host.specs.Walks.{Finds, IsAt};
 
+use crate::find::{Side, stands};
+use crate::index::{Entry, Index};
 use crate::slot::Slot;
 use smoltcp_socket::wire::{IpRepr, UdpRepr};
 use smoltcp_socket::{Context, Socket};
@@ -30,7 +33,7 @@ impl<'a, G: TsvalSource> Slot<'a, G> {
 }
 
 /// The first socket that takes the datagram, in the order of handles.
-fn first_for_datagram<C: Context, G: TsvalSource>(
+pub(crate) fn first_for_datagram<C: Context, G: TsvalSource>(
     slots: &[Slot<'_, G>],
     cx: &C,
     ip: &IpRepr,
@@ -61,20 +64,63 @@ fn hear_datagram_at<C: Context, G: TsvalSource>(
     slots[i].hear_datagram(cx, ip, repr, payload);
 }
 
-/// A datagram arrives: the place of the first socket that takes it, if any.
-pub(crate) fn hear_datagram<C: Context, G: TsvalSource>(
+/// The datagram goes to the first socket that takes it, if any.
+pub(crate) fn hear_found<C: Context, G: TsvalSource>(
     slots: &mut Vec<Slot<'_, G>>,
+    found: Option<usize>,
     cx: &C,
     ip: &IpRepr,
     repr: &UdpRepr,
     payload: &[u8],
-) -> Option<usize>
-    ensures finds { Finds (TakesDatagram (C.facts cx.now) ip.now repr.now) slots.old.items result }
-    ensures heard { HeardBy result slots.old.items ip.now repr.now payload.now slots.new.items }
+)
+    requires { Finds (TakesDatagram (C.facts cx.now) ip.now repr.now) slots.old.items found }
+    ensures { HeardBy found slots.old.items ip.now repr.now payload.now slots.new.items }
 {
-    let found = first_for_datagram(slots, cx, ip, repr);
     if let Some(i) = found {
         hear_datagram_at(slots, i, cx, ip, repr, payload);
     }
-    found
+}
+
+fn takes_at<C: Context, G: TsvalSource>(
+    slots: &[Slot<'_, G>],
+    place: usize,
+    cx: &C,
+    ip: &IpRepr,
+    repr: &UdpRepr,
+) -> bool
+    ensures { IsTrue result ↔ IsAt (TakesDatagram (C.facts cx.now) ip.now repr.now) slots.now place }
+{
+    match slots.get(place) {
+        Some(slot) => slot.takes_datagram(cx, ip, repr),
+        None => false,
+    }
+}
+
+/// The first place under the key whose socket takes the datagram.
+pub(crate) fn first_under<C: Context, G: TsvalSource>(
+    slots: &[Slot<'_, G>],
+    index: &Index,
+    key: Entry,
+    cx: &C,
+    ip: &IpRepr,
+    repr: &UdpRepr,
+) -> Option<usize>
+    requires { key.place ≡ 0 }
+    ensures { FindsListed (TakesDatagram (C.facts cx.now) ip.now repr.now) slots.now index.now.entries.items key
+        result }
+{
+    let _count = slots.len(); // for its bound
+    for p in index.lower(key)..index.entries.len() {
+        let entry = index.entries[p];
+        match stands(entry, key) {
+            Side::Before => {}
+            Side::Under => {
+                if takes_at(slots, entry.place, cx, ip, repr) {
+                    return Some(entry.place);
+                }
+            }
+            Side::Behind => return None,
+        }
+    }
+    None
 }

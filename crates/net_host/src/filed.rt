@@ -1,16 +1,25 @@
 //! Places that are filed in an index under their keys.
-ghost use Rattle.std.specs.Prelude.{◌≡◌, ◌&&◌, ◌<◌, IfSome, IsSome, length, get_or, slice_get, true, None};
+ghost use Rattle.std.specs.Prelude.{ℤ, Bool, ◌≡◌, ◌&&◌, ◌<◌, IfSome, IsSome, length, get_or, slice_get, true, None};
 ghost use Rattle.std.specs.List.{All};
 ghost use Rattle.net_host.specs.Indexing.{IsIndexed, KeepsOthers, are_filed, is_filed, lent_of, no_keys};
+ghost use Rattle.host_bounds.specs.Bounding.{at_once, bound_at};
+ghost use Rattle.net_host.specs.Sleeping.{AreAsleep};
 ghost use Rattle.net_host.specs.declared.key.Keys.{Keys};
+ghost use Rattle.net_host.specs.declared.terms.Terms.{Terms};
 
+use crate::guard::GuardSettings;
 use crate::index::Index;
 use crate::key::{Keys, Lent};
 use crate::refiling::refile;
+use crate::terms::Terms;
+use host_bounds::Bounds;
 
 /// What has keys.
 pub trait Keyed {
     ghost keys_of: { Self → Keys };
+
+    // whether it need not be asked before a moment
+    ghost sleeps: { Terms → ℤ → Self → Bool };
 
     /// Under which keys it is filed.
     fn keys(&self) -> Keys
@@ -26,13 +35,20 @@ pub struct Filed<T: Keyed> {
     // whether each place is filed, but for the one that was lent, which is filed as it was before
     pub(crate) complete: bool,
     pub(crate) lent: Option<Lent>,
+    // before which moment each place need not be asked, under these terms; the least where it may have changed
+    pub(crate) bounds: Bounds,
+    pub(crate) terms: Terms,
     pub ghost indexed: { IsIndexed T.keys_of complete lent slots.items index.entries.items },
+    pub ghost asleep: { AreAsleep T.sleeps terms bounds slots.items },
+    pub ghost as_many: { length bounds ≡ length slots.items },
 }
 
 impl<T: Keyed> Filed<T> {
-    /// Places without keys.
-    pub(crate) fn of_free(slots: Vec<T>, index: Index) -> Filed<T>
-        requires { All (λ s. T.keys_of s ≡ no_keys) slots.items }
+    /// Places without keys, each to be asked at once.
+    pub(crate) fn of_free(slots: Vec<T>, index: Index, bounds: Bounds) -> Filed<T>
+        requires free { All (λ s. T.keys_of s ≡ no_keys) slots.items }
+        requires as_many { length bounds ≡ length slots.items }
+        requires marked { All (λ b. b ≡ at_once) bounds }
         ensures { result.slots ≡ slots }
     {
         Filed {
@@ -40,6 +56,11 @@ impl<T: Keyed> Filed<T> {
             index,
             complete: true,
             lent: None,
+            bounds,
+            terms: Terms {
+                mtu: 0,
+                guards: GuardSettings::off(),
+            },
         }
     }
 
@@ -47,6 +68,7 @@ impl<T: Keyed> Filed<T> {
     pub(crate) fn settle(&mut self)
         ensures slots { self.new.slots ≡ self.old.slots }
         ensures settled { self.new.lent ≡ None }
+        ensures terms { self.new.terms ≡ self.old.terms }
     {
         if let Some(lent) = self.lent {
             let filed = refile_lent(&self.slots, &mut self.index, &lent);
@@ -55,13 +77,27 @@ impl<T: Keyed> Filed<T> {
         }
     }
 
-    /// This place may change: it will be filed as it is then.
+    /// This place may change: it will be filed as it is then, and is to be asked at once.
     pub(crate) fn lend(&mut self, place: usize)
         ensures slots { self.new.slots ≡ self.old.slots }
         ensures lent { self.new.lent ≡ lent_of T.keys_of place (slice_get self.old.slots.items place) }
+        ensures marked { bound_at self.new.bounds place ≡ at_once }
+        ensures terms { self.new.terms ≡ self.old.terms }
     {
         self.settle();
         self.lent = lent_at(&self.slots, place);
+        self.bounds.set(place, i64::MIN);
+    }
+
+    /// The places are asked under these terms from now on: all of them at once, where the terms are others than before.
+    pub(crate) fn heed(&mut self, terms: Terms)
+        ensures slots { self.new.slots ≡ self.old.slots }
+        ensures terms { self.new.terms ≡ terms }
+    {
+        if !self.terms.are(&terms) {
+            self.bounds.reset();
+            self.terms = terms;
+        }
     }
 
     /// What stands at this place, lent.

@@ -4,6 +4,8 @@ ghost use Rattle.net_host.specs.declared.key.Key.TheVariants.{Nothing};
 ghost use Rattle.net_host.specs.Entries.{ordered};
 ghost use Rattle.net_host.specs.Filing.{connection_by, first_by, icmp_key, keys_by, keys_of, listener_by, listener_key};
 ghost use Rattle.net_host.specs.Filing.{number_of, raw_key, rest_by, rest_major, second_by, server_key};
+ghost use Rattle.net_host.specs.Filing.{udp_key};
+ghost use Rattle.net_host.specs.Looking.{sleeps};
 
 use crate::filed::Keyed;
 use crate::index::Entry;
@@ -77,6 +79,17 @@ pub(crate) fn icmp_key() -> Entry
     Entry {
         major: 2,
         minor: 1,
+        place: 0,
+    }
+}
+
+/// The key of the UDP sockets that are bound to a port.
+pub(crate) fn udp_key(port: u16) -> Entry
+    ensures { result ≡ udp_key port }
+{
+    Entry {
+        major: 3,
+        minor: u64::from(port),
         place: 0,
     }
 }
@@ -188,12 +201,15 @@ fn one_key(first: Key) -> Keys
 impl<'a, G> Keyed for Slot<'a, G> {
     ghost keys_of = { λ s. keys_of s };
 
+    ghost sleeps = { λ t b s. sleeps t b s };
+
     fn keys(&self) -> Keys {
         match &self.socket {
             Some(Socket::Tcp(tcp)) => keys_by(tcp),
             Some(Socket::Raw(_)) => one_key(Key::Under(raw_key())),
             Some(Socket::Icmp(_)) => one_key(Key::Under(icmp_key())),
-            _ => one_key(Key::Nothing),
+            Some(Socket::Udp(udp)) => one_key(Key::Under(udp_key(udp.endpoint().port))),
+            None => one_key(Key::Nothing),
         }
     }
 }

@@ -35,7 +35,7 @@ pub enum Side {
     Behind,
 }
 
-fn stands(entry: Entry, key: Entry) -> Side
+pub(crate) fn stands(entry: Entry, key: Entry) -> Side
     requires { key.place ≡ 0 }
     ensures { IsSide entry key result }
 {

@@ -1,8 +1,11 @@
 //! An interface: what arrives goes to the sockets that it is for, and what they have to say goes out.
-ghost use Rattle.std.specs.Prelude.{◌≡◌, ◌↔◌, ◌<◌, ◌≤◌, IsTrue, IfOk, Ok, is_err, length, max, min, pos};
+ghost use Rattle.std.specs.Prelude.{◌≡◌, ◌↔◌, ◌<◌, ◌≤◌, IsTrue, IfOk, Ok, is_err, length, max, min, pos, false};
+ghost use Rattle.sock_tcp.specs.Polls.{is_reached};
+ghost use Rattle.sock_tcp.specs.View.{moment_of};
 ghost use Rattle.net_host.specs.Facts.{facts_by};
 ghost use Rattle.net_host.specs.Guards.{usual};
 ghost use Rattle.net_host.specs.HostCalls.{EmitsAt, MovesTo, ReceivesAt};
+ghost use Rattle.net_host.specs.Looking.{Unseen};
 ghost use Rattle.net_host.specs.Speaking.{Due, earliest};
 ghost use Rattle.net_host.specs.Walks.{Nowhere};
 ghost use Rattle.ip_wire.specs.Checksum.{all_checksums};
@@ -14,9 +17,11 @@ use crate::environment::Environment;
 use crate::guard::GuardSettings;
 use crate::inner::InterfaceInner;
 use crate::limit::Limit;
+use crate::polling::earliest;
 use crate::replies::LONGEST_REPLY;
 use crate::set::SocketSet;
-use crate::speak::{earliest, speak, watch_all};
+use crate::speak::speak;
+use crate::terms::Terms;
 use crate::wire::TooShort;
 use host_context::Words;
 use smoltcp_socket::PollAt;
@@ -103,8 +108,9 @@ impl<W: Words> Interface<W> {
     /// Writes the next packet of a socket that is due at this moment into `out`, and answers its length; 0 where no
     /// socket is due. The turn goes round: it begins behind the socket that spoke last.
     ///
-    /// First the guard of each TCP socket looks at it, as `Guard::watch`. A socket that is due and has nothing to say
-    /// after all has had its turn. Where `out` is too short for the packet, `TooShort`: its socket offers it again.
+    /// Before its turn the guard of a TCP socket looks at it, as `Guard::watch`; and where no socket is due, the guard of
+    /// each has looked at it as it is. Sockets that were not lent, have taken no segment and ask for a later moment are
+    /// not asked again, however many they are. A socket that is due and has nothing to say after all has had its turn. Where `out` is too short for the packet, `TooShort`: its socket offers it again.
     pub fn emit<G: TsvalSource>(
         &mut self,
         sockets: &mut SocketSet<'_, G>,
@@ -117,6 +123,10 @@ impl<W: Words> Interface<W> {
         ensures within { IfOk result (λ n. n ≤ length out.old) }
         ensures quiet { result ≡ Ok 0 → Nowhere (Due (facts_by ⟦<IpAddress as PartialEq>⟧.eq
             self.new.inner.environment)) sockets.new.slots.items }
+        ensures seen { result ≡ Ok 0 → Nowhere (Unseen self.old.guards) sockets.new.slots.items }
+        ensures later { result ≡ Ok 0 → is_reached (earliest (facts_by ⟦<IpAddress as PartialEq>⟧.eq
+            self.new.inner.environment) sockets.new.slots.items) (moment_of (facts_by ⟦<IpAddress as PartialEq>⟧.eq
+            self.new.inner.environment)) ≡ false }
     {
         self.emit_at(sockets, now, out)
     }
@@ -132,9 +142,13 @@ impl<W: Words> Interface<W> {
         ensures within { IfOk result (λ n. n ≤ length out.old) }
         ensures quiet { result ≡ Ok 0 → Nowhere (Due (facts_by ⟦<IpAddress as PartialEq>⟧.eq
             self.new.inner.environment)) sockets.new.slots.items }
+        ensures seen { result ≡ Ok 0 → Nowhere (Unseen self.old.guards) sockets.new.slots.items }
     {
         self.set_now(now);
-        watch_all(sockets, &self.guards, self.inner.environment.moment());
+        sockets.heed(Terms {
+            mtu: self.inner.environment.mtu,
+            guards: self.guards,
+        });
         speak(sockets, &mut self.turn, &self.inner, out)
     }
 }
@@ -148,7 +162,7 @@ impl<W: Words> Interface<W> {
         ensures { result ≡ earliest (facts_by ⟦<IpAddress as PartialEq>⟧.eq self.now.inner.environment)
             sockets.now.slots.items }
     {
-        earliest(&sockets.slots, &self.inner)
+        earliest(sockets, &self.inner)
     }
 }
 
@@ -189,7 +203,8 @@ impl<W> Interface<W> {
         self.counters
     }
 
-    /// Sets how long a peer may leave a TCP connection of a set waiting. In a new interface as `GuardSettings::new`.
+    /// Sets how long a peer may leave a TCP connection of a set waiting, from the next `emit` on, for each of its sockets.
+    /// In a new interface as `GuardSettings::new`.
     pub fn set_guards(&mut self, guards: GuardSettings)
         ensures guards { self.new.guards ≡ guards }
         ensures same { (self.new.inner ≡ self.old.inner) × (self.new.turn ≡ self.old.turn)

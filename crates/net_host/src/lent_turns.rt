@@ -50,7 +50,8 @@ fn watch_lent<G: TsvalSource>(
 )
     requires within { i < length sockets.old.slots.items }
     requires moment { IsMoment now.micros }
-    ensures { ChangesAt (Watches settings.now now) sockets.old.slots.items i sockets.new.slots.items }
+    ensures looked { ChangesAt (Watches settings.now now) sockets.old.slots.items i sockets.new.slots.items }
+    ensures terms { sockets.new.terms ≡ sockets.old.terms }
 {
     sockets.lend(i);
     watch_there(&mut sockets.slots, i, settings, now);
@@ -66,8 +67,10 @@ fn watch_kept<G: TsvalSource>(
     requires within { i < length sockets.old.slots.items }
     requires moment { IsMoment now.micros }
     requires kept { IfSome (slice_get sockets.old.slots.items i) (λ s. ends settings.now now s ≡ false) }
-    ensures { ChangesAt (Watches settings.now now) sockets.old.slots.items i sockets.new.slots.items }
+    ensures looked { ChangesAt (Watches settings.now now) sockets.old.slots.items i sockets.new.slots.items }
+    ensures terms { sockets.new.terms ≡ sockets.old.terms }
 {
+    sockets.bounds.set(i, i64::MIN);
     watch_there(&mut sockets.slots, i, settings, now);
 }
 
@@ -80,7 +83,8 @@ pub(crate) fn watch_at<G: TsvalSource>(
 )
     requires within { i < length sockets.old.slots.items }
     requires moment { IsMoment now.micros }
-    ensures { ChangesAt (Watches settings.now now) sockets.old.slots.items i sockets.new.slots.items }
+    ensures looked { ChangesAt (Watches settings.now now) sockets.old.slots.items i sockets.new.slots.items }
+    ensures terms { sockets.new.terms ≡ sockets.old.terms }
 {
     if sockets.slots[i].ends(settings, now) {
         watch_lent(sockets, i, settings, now);

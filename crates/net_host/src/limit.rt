@@ -38,6 +38,13 @@ impl Limit {
         true
     }
 
+    /// Whether one more answer may go out.
+    pub fn allows(&self, now: Instant) -> bool
+        ensures { result ≡ allows self.now now }
+    {
+        1_000_000 <= (now - self.since).micros || self.left != 0
+    }
+
     fn renew(&mut self, now: Instant)
         ensures { self.new ≡ renewed self.old now }
     {

@@ -17,7 +17,6 @@ use crate::interface::Interface;
 use crate::messages::{Mail, echoed, mail_in, put_answer};
 use crate::segments::{Taker, hear_segment};
 use crate::set::SocketSet;
-use crate::slot::Slot;
 use crate::unreachable::{Unmet, tell_sender};
 use host_context::Words;
 use segment_wire::packet::carried;
@@ -126,7 +125,7 @@ impl<W: Words> Interface<W> {
     {
         self.counters.count(Reason::Protocol);
         tell_sender(
-            &sockets.slots,
+            sockets,
             &self.inner,
             &mut self.errors,
             Unmet::Protocol,
@@ -170,28 +169,29 @@ impl<W: Words> Interface<W> {
     {
         let found = hear_datagram_of(sockets, &self.inner, ip, repr, payload);
         count_found(&mut self.counters, found);
-        self.tell_if(&sockets.slots, found, ip, bytes, out)
+        self.tell_if(sockets, found, ip, bytes, out)
     }
 
     // The sender is told, where no socket takes the datagram.
     fn tell_if<G: TsvalSource>(
         &mut self,
-        slots: &[Slot<'_, G>],
+        sockets: &mut SocketSet<'_, G>,
         found: Option<usize>,
         ip: &IpRepr,
         bytes: &[u8],
         out: &mut [u8],
     ) -> usize
+        ensures slots { sockets.new.slots ≡ sockets.old.slots }
         ensures within { result ≤ length out.old }
         ensures told { TellsIf ⟦<IpAddress as PartialEq>⟧.eq W.word_at G.tells found
-            (facts_by ⟦<IpAddress as PartialEq>⟧.eq self.old.inner.environment) ip.now bytes.now slots.now
-            self.old.errors out.old result self.new.errors out.new }
+            (facts_by ⟦<IpAddress as PartialEq>⟧.eq self.old.inner.environment) ip.now bytes.now
+            sockets.old.slots.items self.old.errors out.old result self.new.errors out.new }
         ensures interface { self.new ≡ record self.old { errors = self.new.errors } }
     {
         match found {
             Some(_) => 0,
             None => tell_sender(
-                slots,
+                sockets,
                 &self.inner,
                 &mut self.errors,
                 Unmet::Port,

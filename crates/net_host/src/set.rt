@@ -7,6 +7,7 @@ ghost use Rattle.net_host.specs.Walks.{Finds, ChangesAt};
 use crate::filed::Filed;
 use crate::index::Index;
 use crate::slot::{Slot, SocketHandle};
+use host_bounds::Bounds;
 use smoltcp_socket::{Socket, icmp, raw, tcp, udp};
 use sock_tcp::{Generator, TsvalSource};
 use std::alloc::{AllocError, Global};
@@ -20,7 +21,7 @@ pub type SocketSet<'a, G = Generator> = Filed<Slot<'a, G>>;
 const KEYS: usize = 2;
 
 impl<'a, G: TsvalSource> Filed<Slot<'a, G>> {
-    /// A set with room for so many sockets. Nothing is allocated afterwards. Its index takes 64 bytes a socket.
+    /// A set with room for so many sockets. Nothing is allocated afterwards. Beside the sockets it takes 73 bytes for each.
     pub fn new(alloc: Global, capacity: usize) -> Result<SocketSet<'a, G>, AllocError>
         ensures capacity { IfOk result (λ s. length s.slots.items ≡ capacity) }
         ensures free { IfOk result (λ s. All IsFree s.slots.items) }
@@ -30,7 +31,8 @@ impl<'a, G: TsvalSource> Filed<Slot<'a, G>> {
             slots.push(Slot::free())?;
         }
         let index = Index::new(alloc, capacity.saturating_mul(KEYS))?;
-        Ok(Filed::of_free(slots, index))
+        let bounds = Bounds::new(alloc, capacity)?;
+        Ok(Filed::of_free(slots, index, bounds))
     }
 
     /// How many sockets it has room for.

@@ -3,7 +3,7 @@ ghost use Rattle.std.specs.Prelude.{◌≡◌, ◌≤◌, length};
 ghost use Rattle.sock_core.specs.Bounds.{IsMoment};
 ghost use Rattle.net_host.specs.Facts.{facts_by};
 ghost use Rattle.sock_tcp.specs.Polls.{is_reached};
-ghost use Rattle.net_host.specs.Turns.{SlotEmits, TakesTurn, Watches, asked_of, delayed, is_due, slot_poll};
+ghost use Rattle.net_host.specs.Turns.{SlotEmits, TakesTurn, Watches, asked_of, delayed, slot_poll};
 
 use crate::emission::{emit_icmp, emit_raw, emit_tcp, emit_udp};
 use crate::environment::Environment;
@@ -40,7 +40,8 @@ impl<'a, G: TsvalSource> Slot<'a, G> {
         delayed(self.guard.may_take_turn(now), now, asked)
     }
 
-    fn asked<C: Context>(&self, cx: &C) -> PollAt
+    /// When it wants to speak at the earliest.
+    pub(crate) fn asked<C: Context>(&self, cx: &C) -> PollAt
         ensures { result ≡ asked_of self.now.guard.phase self.now.guard.end self.now.guard.last self.now.socket
             (C.facts cx.now) }
     {
@@ -48,13 +49,6 @@ impl<'a, G: TsvalSource> Slot<'a, G> {
             Some(socket) => self.guard.poll_at(socket.poll_at(cx)),
             None => PollAt::Ingress,
         }
-    }
-
-    /// Whether it wants to speak now.
-    pub(crate) fn is_due<C: Context>(&self, cx: &C) -> bool
-        ensures { result ≡ is_due (C.facts cx.now) self.now }
-    {
-        is_reached(self.poll_at(cx), cx.now())
     }
 
     /// Lets it speak, where its guard allows it.
@@ -94,8 +88,8 @@ impl<'a, G: TsvalSource> Slot<'a, G> {
     }
 }
 
-// Not before the next moment, where the socket may not speak at this one.
-fn delayed(may: bool, now: Instant, asked: PollAt) -> PollAt
+/// Not before the next moment, where the socket may not speak at this one.
+pub(crate) fn delayed(may: bool, now: Instant, asked: PollAt) -> PollAt
     requires { IsMoment now.micros }
     ensures { result ≡ delayed may now asked }
 {
@@ -105,7 +99,8 @@ fn delayed(may: bool, now: Instant, asked: PollAt) -> PollAt
     not_before(now + NEXT, asked)
 }
 
-fn is_reached(poll: PollAt, now: Instant) -> bool
+/// Whether the moment is now or was before.
+pub(crate) fn is_reached(poll: PollAt, now: Instant) -> bool
     ensures { result ≡ is_reached poll now }
 {
     match poll {

@@ -1,13 +1,16 @@
 //! What tells a sender that nobody takes its packet.
-ghost use Rattle.std.specs.Prelude.{◌≡◌, ◌≤◌, ◌↔◌, IsTrue, length, min, option_map};
+ghost use Rattle.std.specs.Prelude.{◌≡◌, ◌≤◌, ◌↔◌, ◌&&◌, IsTrue, is_some, length, min, option_map};
 ghost use Rattle.net_host.specs.Limits.{allows};
 ghost use Rattle.net_host.specs.Messages.{answer_len, if_short, mail_of, with_answer};
 ghost use Rattle.net_host.specs.Unreachable.{TakesRaw, TellsOf, error_of, error_v4, error_v6, quoted_v4, quoted_v6};
 ghost use Rattle.net_host.specs.Walks.{Finds};
 ghost use Rattle.net_host.specs.Unreachable.{spent_for, told_within, wanted};
 
+use crate::copies::knows_none;
+use crate::filing::raw_key;
 use crate::limit::Limit;
 use crate::messages::{Mail, put_answer};
+use crate::set::SocketSet;
 use crate::slot::Slot;
 use smoltcp_socket::time::Instant;
 use smoltcp_socket::wire::{
@@ -108,7 +111,7 @@ impl<'a, G: TsvalSource> Slot<'a, G> {
 }
 
 // The first raw socket that takes the packet.
-fn first_raw<G: TsvalSource>(slots: &[Slot<'_, G>], ip: &IpRepr) -> Option<usize>
+fn walk_for_raw<G: TsvalSource>(slots: &[Slot<'_, G>], ip: &IpRepr) -> Option<usize>
     ensures { Finds (TakesRaw ip.now) slots.now result }
 {
     for (i, slot) in slots.iter().enumerate() {
@@ -117,6 +120,18 @@ fn first_raw<G: TsvalSource>(slots: &[Slot<'_, G>], ip: &IpRepr) -> Option<usize
         }
     }
     None
+}
+
+// The same, with no walk where no raw socket is there.
+fn first_raw<G: TsvalSource>(sockets: &mut SocketSet<'_, G>, ip: &IpRepr) -> Option<usize>
+    ensures slots { sockets.new.slots ≡ sockets.old.slots }
+    ensures finds { Finds (TakesRaw ip.now) sockets.old.slots.items result }
+{
+    sockets.settle();
+    if knows_none(sockets, raw_key()) {
+        return None;
+    }
+    walk_for_raw(&sockets.slots, ip)
 }
 
 // The error, for a packet to an own address that no raw socket takes.
@@ -137,11 +152,18 @@ fn within_limit<'p>(limit: &mut Limit, now: Instant, error: Option<Mail<'p>>) ->
     }
 }
 
+// Whether the sender is told, where no raw socket takes the packet.
+fn may_tell(own: bool, error: &Option<Mail<'_>>, limit: &Limit, now: Instant) -> bool
+    ensures { result ≡ own && (is_some (option_map mail_of error.now) && allows limit.now now) }
+{
+    own && error.is_some() && limit.allows(now)
+}
+
 /// Tells the sender of a packet that nobody takes: writes the error at the beginning of `out`, and answers its length.
 /// 0 where the packet is not to an own address, a raw socket takes it, the limit allows no more, there is no such error,
-/// or it does not fit the MTU or the buffer.
+/// or it does not fit the MTU or the buffer. Whether a raw socket takes it is asked last, since that may need a walk.
 pub(crate) fn tell_sender<C: Context, G: TsvalSource>(
-    slots: &[Slot<'_, G>],
+    sockets: &mut SocketSet<'_, G>,
     cx: &C,
     limit: &mut Limit,
     unmet: Unmet,
@@ -149,14 +171,19 @@ pub(crate) fn tell_sender<C: Context, G: TsvalSource>(
     bytes: &[u8],
     out: &mut [u8],
 ) -> usize
+    ensures slots { sockets.new.slots ≡ sockets.old.slots }
     ensures within { result ≤ length out.old }
-    ensures told { TellsOf (C.facts cx.now) unmet ip.now bytes.now slots.now limit.old out.old result limit.new
-        out.new }
+    ensures told { TellsOf (C.facts cx.now) unmet ip.now bytes.now sockets.old.slots.items limit.old out.old result
+        limit.new out.new }
 {
-    let raw = first_raw(slots, ip);
     let mtu = cx.ip_mtu();
     let own = cx.has_ip_addr(ip.dst_addr());
-    let error = wanted(own, raw.is_some(), error_of(unmet, ip, bytes, mtu));
+    let error = error_of(unmet, ip, bytes, mtu);
+    if !may_tell(own, &error, limit, cx.now()) {
+        return 0;
+    }
+    let raw = first_raw(sockets, ip);
+    let error = wanted(own, raw.is_some(), error);
     let answer = within_limit(limit, cx.now(), error);
     put_answer(&answer, mtu, out, &cx.checksum_caps())
 }

@@ -1,3 +1,6 @@
+use Rattle.std.proofs.Common.{◌∙◌, sym}
+use Rattle.net_host.proofs.Sleepers.{each_len}
+use Rattle.net_host.proofs.KeptSleep.{mails_sleep}
 use Rattle.std.proofs.Common.{None, subst}
 use Rattle.net_host.specs.Filing.{keys_of}
 use Rattle.net_host.specs.Entries.{FindsListed}
@@ -18,4 +21,6 @@ returns-then-knows_none g c =
 pub invariant_of-sockets : goal.invariant_of-sockets
 invariant_of-sockets g c = record {
   indexed = mails_keep (g.C.Context.facts c.args.cx.now) (mail_of c.args.mail.now) c.settle.new.self.complete c.settle.new.self.lent c.settle.new.self.slots.items c.copy_to_all.new.slots.items c.settle.new.self.index.entries.items c.copy_to_all.ensures c.settle.new.self.indexed;
+  asleep = mails_sleep c.settle.new.self.terms c.settle.new.self.bounds c.settle.new.self.slots.items c.copy_to_all.new.slots.items (g.C.Context.facts c.args.cx.now) (mail_of c.args.mail.now) c.copy_to_all.ensures c.settle.new.self.asleep;
+  as_many = c.settle.new.self.as_many ∙ sym (each_len _ c.settle.new.self.slots.items c.copy_to_all.new.slots.items c.copy_to_all.ensures);
 }

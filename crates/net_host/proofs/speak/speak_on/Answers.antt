@@ -1,27 +1,49 @@
-use Rattle.std.proofs.Common.{◌∙◌, sym, subst, arith}
+use Rattle.std.proofs.Common.{◌∙◌, ◌<◌, Some, None, sym, subst, arith}
 use Rattle.ip_wire.specs.contracts.address.IpAddressPartialEq.TheImpl.{eq-value}
+use Rattle.sock_tcp.specs.View.{moment_of}
 use Rattle.net_host.specs.Facts.{facts_by}
-use Rattle.net_host.specs.Speaking.{Due, Quiet}
-use Rattle.net_host.specs.Walks.{IsNext, Nowhere}
-use Rattle.net_host.proofs.Measure.{turn_decreases}
-use Rattle.net_host.proofs.Steps.{short, packet, silent}
+use Rattle.net_host.specs.Looking.{LooksNext}
+use Rattle.net_host.specs.Speaking.{Quiet}
+use Rattle.net_host.proofs.Measure.{left_turns, turn_decreases}
+use Rattle.net_host.proofs.Steps.{short, packet, quiets, readies, silent}
+use Rattle.net_host.proofs.Walking.{looks_keep, next_due}
 use Rattle.net_host.proofs.speak.speak_on.Goals as goal
 
 pub returns-then-is_err-clause-table : goal.returns-then-is_err-clause-table
 returns-then-is_err-clause-table g c =
-    c.loop-i.invariant _ _ _ _ (short (facts_by eq-value.it c.args.cx.now.environment) g.G.TsvalSource.tells c.loop-i.sockets.slots.items c.turn_at-answer.new.sockets.slots.items c.loop-i.turn c.in-Some.i c.turn_at-answer.result.1 c.loop-i.out c.turn_at-answer.new.out c.turn_at-answer.result.0 (subst (λ xs. IsNext (Due (facts_by eq-value.it c.args.cx.now.environment)) xs c.loop-i.turn c.in-Some.i) c.deref.ensures.value c.in-Some.ensures) c.turn_at-answer.ensures.table (sym c.is_err.ensures.value ∙ c.if-is_err.true))
+    let f = facts_by eq-value.it c.args.cx.now.environment in
+    let st = c.args.sockets.now.terms.guards in
+    let l : LooksNext f st c.loop-i.turn c.loop-i.sockets.slots.items (Some c.in-Some.i) c.next_due.new.sockets.slots.items = subst (λ t. LooksNext f t.guards c.loop-i.turn c.loop-i.sockets.slots.items (Some c.in-Some.i) c.next_due.new.sockets.slots.items) c.loop-i.invariant.terms c.in-Some.ensures.looked in
+    c.loop-i.invariant.rest _ _ _ _ (short f g.G.TsvalSource.tells st c.loop-i.sockets.slots.items c.next_due.new.sockets.slots.items c.turn_at-answer.new.sockets.slots.items c.loop-i.turn c.in-Some.i c.turn_at-answer.result.1 c.loop-i.out c.turn_at-answer.new.out c.turn_at-answer.result.0 (readies f st c.loop-i.sockets.slots.items c.next_due.new.sockets.slots.items c.loop-i.turn c.in-Some.i l) c.turn_at-answer.ensures.table (sym c.is_err.ensures.value ∙ c.if-is_err.true))
 
 pub returns-then-len-gt0-clause-table : goal.returns-then-len-gt0-clause-table
 returns-then-len-gt0-clause-table g c =
-    c.loop-i.invariant _ _ _ _ (packet (facts_by eq-value.it c.args.cx.now.environment) g.G.TsvalSource.tells c.loop-i.sockets.slots.items c.turn_at-answer.new.sockets.slots.items c.loop-i.turn c.in-Some.i c.turn_at-answer.result.1 c.loop-i.out c.turn_at-answer.new.out c.turn_at-answer.result.0 (subst (λ xs. IsNext (Due (facts_by eq-value.it c.args.cx.now.environment)) xs c.loop-i.turn c.in-Some.i) c.deref.ensures.value c.in-Some.ensures) c.turn_at-answer.ensures.table (sym c.is_err.ensures.value ∙ c.if-is_err.false) c.if-len-gt0.true)
+    let f = facts_by eq-value.it c.args.cx.now.environment in
+    let st = c.args.sockets.now.terms.guards in
+    let l : LooksNext f st c.loop-i.turn c.loop-i.sockets.slots.items (Some c.in-Some.i) c.next_due.new.sockets.slots.items = subst (λ t. LooksNext f t.guards c.loop-i.turn c.loop-i.sockets.slots.items (Some c.in-Some.i) c.next_due.new.sockets.slots.items) c.loop-i.invariant.terms c.in-Some.ensures.looked in
+    c.loop-i.invariant.rest _ _ _ _ (packet f g.G.TsvalSource.tells st c.loop-i.sockets.slots.items c.next_due.new.sockets.slots.items c.turn_at-answer.new.sockets.slots.items c.loop-i.turn c.in-Some.i c.turn_at-answer.result.1 c.loop-i.out c.turn_at-answer.new.out c.turn_at-answer.result.0 (readies f st c.loop-i.sockets.slots.items c.next_due.new.sockets.slots.items c.loop-i.turn c.in-Some.i l) c.turn_at-answer.ensures.table (sym c.is_err.ensures.value ∙ c.if-is_err.false) c.if-len-gt0.true)
 
 pub loop-i-smaller : goal.loop-i-smaller
 loop-i-smaller g c =
-    turn_decreases (facts_by eq-value.it c.args.cx.now.environment) g.G.TsvalSource.tells c.loop-i.sockets.slots.items c.turn_at-answer.new.sockets.slots.items c.loop-i.turn c.in-Some.i c.loop-i.out c.turn_at-answer.new.out c.turn_at-answer.result.0 c.turn_at-answer.result.1 (subst (λ xs. IsNext (Due (facts_by eq-value.it c.args.cx.now.environment)) xs c.loop-i.turn c.in-Some.i) c.deref.ensures.value c.in-Some.ensures) c.turn_at-answer.ensures.table
+    let f = facts_by eq-value.it c.args.cx.now.environment in
+    let st = c.args.sockets.now.terms.guards in
+    let l : LooksNext f st c.loop-i.turn c.loop-i.sockets.slots.items (Some c.in-Some.i) c.next_due.new.sockets.slots.items = subst (λ t. LooksNext f t.guards c.loop-i.turn c.loop-i.sockets.slots.items (Some c.in-Some.i) c.next_due.new.sockets.slots.items) c.loop-i.invariant.terms c.in-Some.ensures.looked in
+    let fewer : left_turns (moment_of f) c.turn_at-answer.new.sockets.slots.items < left_turns (moment_of f) c.next_due.new.sockets.slots.items = turn_decreases f g.G.TsvalSource.tells c.next_due.new.sockets.slots.items c.turn_at-answer.new.sockets.slots.items c.loop-i.turn c.in-Some.i c.loop-i.out c.turn_at-answer.new.out c.turn_at-answer.result.0 c.turn_at-answer.result.1 (next_due f st c.loop-i.turn c.in-Some.i c.loop-i.sockets.slots.items c.next_due.new.sockets.slots.items l) c.turn_at-answer.ensures.table in
+    subst (λ n. left_turns (moment_of f) c.turn_at-answer.new.sockets.slots.items < n) (looks_keep st (moment_of f) (moment_of f) c.loop-i.sockets.slots.items c.next_due.new.sockets.slots.items l.changed) fewer
 
 pub loop-i-preserved : goal.loop-i-preserved
-loop-i-preserved g c = λ q ts turn out rest.
-    c.loop-i.invariant q ts turn out (silent (facts_by eq-value.it c.args.cx.now.environment) g.G.TsvalSource.tells c.loop-i.sockets.slots.items c.turn_at-answer.new.sockets.slots.items c.loop-i.turn c.in-Some.i c.turn_at-answer.result.1 c.loop-i.out c.turn_at-answer.new.out c.turn_at-answer.result.0 (subst (λ xs. IsNext (Due (facts_by eq-value.it c.args.cx.now.environment)) xs c.loop-i.turn c.in-Some.i) c.deref.ensures.value c.in-Some.ensures) c.turn_at-answer.ensures.table (sym c.is_err.ensures.value ∙ c.if-is_err.false) (omega arith) q ts turn out rest)
+loop-i-preserved g c =
+    let f = facts_by eq-value.it c.args.cx.now.environment in
+    let st = c.args.sockets.now.terms.guards in
+    let l : LooksNext f st c.loop-i.turn c.loop-i.sockets.slots.items (Some c.in-Some.i) c.next_due.new.sockets.slots.items = subst (λ t. LooksNext f t.guards c.loop-i.turn c.loop-i.sockets.slots.items (Some c.in-Some.i) c.next_due.new.sockets.slots.items) c.loop-i.invariant.terms c.in-Some.ensures.looked in
+    record {
+      terms = c.turn_at-answer.ensures.terms ∙ c.in-Some.ensures.terms ∙ c.loop-i.invariant.terms;
+      rest = λ q ts turn out rest. c.loop-i.invariant.rest q ts turn out (silent f g.G.TsvalSource.tells st c.loop-i.sockets.slots.items c.next_due.new.sockets.slots.items c.turn_at-answer.new.sockets.slots.items c.loop-i.turn c.in-Some.i c.turn_at-answer.result.1 c.loop-i.out c.turn_at-answer.new.out c.turn_at-answer.result.0 (readies f st c.loop-i.sockets.slots.items c.next_due.new.sockets.slots.items c.loop-i.turn c.in-Some.i l) c.turn_at-answer.ensures.table (sym c.is_err.ensures.value ∙ c.if-is_err.false) (omega arith) q ts turn out rest);
+    }
 
 pub returns-clause-table : goal.returns-clause-table
-returns-clause-table g c = c.loop-i.invariant _ _ _ _ (Quiet c.loop-i.sockets.slots.items c.loop-i.turn c.loop-i.out (subst (λ xs. Nowhere (Due (facts_by eq-value.it c.args.cx.now.environment)) xs) c.deref.ensures.value c.in_default.ensures))
+returns-clause-table g c =
+    let f = facts_by eq-value.it c.args.cx.now.environment in
+    let st = c.args.sockets.now.terms.guards in
+    let l : LooksNext f st c.loop-i.turn c.loop-i.sockets.slots.items None c.next_due.new.sockets.slots.items = subst (λ t. LooksNext f t.guards c.loop-i.turn c.loop-i.sockets.slots.items None c.next_due.new.sockets.slots.items) c.loop-i.invariant.terms c.in_default.ensures.looked in
+    c.loop-i.invariant.rest _ _ _ _ (Quiet c.loop-i.sockets.slots.items c.next_due.new.sockets.slots.items c.loop-i.turn c.loop-i.out (quiets f st c.loop-i.sockets.slots.items c.next_due.new.sockets.slots.items c.loop-i.turn l))

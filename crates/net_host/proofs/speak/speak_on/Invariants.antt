@@ -1,4 +1,4 @@
-use Rattle.std.proofs.Common.{ℕ, List}
+use Rattle.std.proofs.Common.{◌≡◌, ℕ, List}
 use Rattle.std.specs.Prelude.{Result}
 use Rattle.ip_wire.specs.contracts.address.IpAddressPartialEq.TheImpl.{eq-value}
 use Rattle.sock_tcp.specs.View.{moment_of}
@@ -10,7 +10,10 @@ use Rattle.net_host.proofs.Measure.{left_turns}
 use Rattle.net_host.proofs.speak.speak_on.Given as goal
 
 abbrev pub invariant-loop-i : goal.invariant-loop-i
-invariant-loop-i g l = (r : Result ℕ TooShort) (ts : List (Slot g.row.G.Denot)) (turn : ℕ) (out : List ℕ) → Speaks (facts_by eq-value.it l.cx.environment) g.G.TsvalSource.tells l.sockets.slots.items l.turn l.out r ts turn out → Speaks (facts_by eq-value.it l.cx.environment) g.G.TsvalSource.tells l.fn.sockets.slots.items l.fn.turn l.fn.out r ts turn out
+invariant-loop-i g l = record {
+  terms : l.sockets.terms ≡ l.fn.sockets.terms;
+  rest : (r : Result ℕ TooShort) (ts : List (Slot g.row.G.Denot)) (turn : ℕ) (out : List ℕ) → Speaks (facts_by eq-value.it l.cx.environment) g.G.TsvalSource.tells l.fn.sockets.terms.guards l.sockets.slots.items l.turn l.out r ts turn out → Speaks (facts_by eq-value.it l.cx.environment) g.G.TsvalSource.tells l.fn.sockets.terms.guards l.fn.sockets.slots.items l.fn.turn l.fn.out r ts turn out;
+}
 
 abbrev pub decreases-loop-i : goal.decreases-loop-i
 decreases-loop-i g l = left_turns (moment_of (facts_by eq-value.it l.cx.environment)) l.sockets.slots.items

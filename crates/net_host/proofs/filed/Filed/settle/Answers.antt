@@ -11,4 +11,6 @@ invariant_of-self g c = record {
       (subst (λ l. IsIndexed g.T.Keyed.keys_of c.args.self.now.complete l c.args.self.now.slots.items c.args.self.now.index.entries.items) c.in-Some.is c.args.self.now.indexed)
       c.refile_lent-filed.ensures.others
       (subst (λ xs. c.refile_lent-filed.result ≡ true → are_filed c.args.self.now.index.entries.items c.in-Some.lent.place c.in-Some.lent.keys ≡ true → is_filed g.T.Keyed.keys_of c.refile_lent-filed.new.index.entries.items c.in-Some.lent.place (slice_get xs c.in-Some.lent.place) ≡ true) c.deref.ensures.value c.refile_lent-filed.ensures.filed));
+  asleep = c.args.self.now.asleep;
+  as_many = c.args.self.now.as_many;
 }

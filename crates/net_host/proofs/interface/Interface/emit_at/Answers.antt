@@ -1,15 +1,16 @@
 use Rattle.std.proofs.Common.{refl, subst}
-use Rattle.net_host.specs.Turns.{Watches}
-use Rattle.net_host.specs.Walks.{ChangesEach}
+use Rattle.ip_wire.specs.contracts.address.IpAddressPartialEq.TheImpl.{eq-value}
+use Rattle.net_host.specs.Facts.{facts_by}
+use Rattle.net_host.specs.Speaking.{Speaks}
 use Rattle.net_host.proofs.interface.Interface.emit_at.Goals as goal
 
 pub returns-clause-table : goal.returns-clause-table
 returns-clause-table g c = record {
   moved = c.set_now.new.self;
   moves = c.set_now.ensures;
-  seen = c.watch_all.new.sockets.slots.items;
-  looked = subst (λ q. ChangesEach (Watches q c.set_now.new.self.inner.environment.now) c.args.sockets.now.slots.items c.watch_all.new.sockets.slots.items) c.set_now.ensures.guards (subst (λ t. ChangesEach (Watches c.set_now.new.self.guards t) c.args.sockets.now.slots.items c.watch_all.new.sockets.slots.items) c.moment.ensures.value c.watch_all.ensures);
-  spoken = c.speak.ensures.table;
+  spoken = subst (λ st. Speaks (facts_by eq-value.it c.set_now.new.self.inner.environment) g.G.TsvalSource.tells st c.args.sockets.now.slots.items c.set_now.new.self.turn c.args.out.now c.speak.result c.speak.new.sockets.slots.items c.speak.new.turn c.speak.new.out) c.set_now.ensures.guards
+      (subst (λ ss. Speaks (facts_by eq-value.it c.set_now.new.self.inner.environment) g.G.TsvalSource.tells c.set_now.new.self.guards ss.items c.set_now.new.self.turn c.args.out.now c.speak.result c.speak.new.sockets.slots.items c.speak.new.turn c.speak.new.out) c.heed.ensures.slots
+      (subst (λ t. Speaks (facts_by eq-value.it c.set_now.new.self.inner.environment) g.G.TsvalSource.tells t.guards c.heed.new.self.slots.items c.set_now.new.self.turn c.args.out.now c.speak.result c.speak.new.sockets.slots.items c.speak.new.turn c.speak.new.out) c.heed.ensures.terms c.speak.ensures.table));
   inner = refl;
   resets = c.set_now.ensures.resets;
   errors = c.set_now.ensures.errors;

@@ -12,5 +12,8 @@ loop-preserved g c = record {
   free = subst (All (λ s. IsFree s)) (sym c.in_ok-push.ensures.items) (All-push (λ s. IsFree s) c.loop.slots.items c.free.result c.loop.invariant.free c.free.ensures);
 }
 
-pub of_free-requires : goal.of_free-requires
-of_free-requires g c = All-weaker (λ s. IsFree s) (λ s. keys_of s ≡ no_keys) (λ s h. ap keys_in h) c.loop.slots.items c.loop.invariant.free
+pub of_free-requires-clause-free : goal.of_free-requires-clause-free
+of_free-requires-clause-free g c = All-weaker (λ s. IsFree s) (λ s. keys_of s ≡ no_keys) (λ s h. ap keys_in h) c.loop.slots.items c.loop.invariant.free
+
+pub returns-clause-free : goal.returns-clause-free
+returns-clause-free g c = subst (λ v. All (λ s. IsFree s) v.items) (sym c.of_free.ensures) c.loop.invariant.free

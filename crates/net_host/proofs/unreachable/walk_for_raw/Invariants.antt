@@ -1,7 +1,7 @@
 use Rattle.std.proofs.Common.{◌<◌, ℕ}
 use Rattle.std.specs.Prelude.{slice_get, IfSome}
 use Rattle.net_host.specs.Unreachable.{TakesRaw}
-use Rattle.net_host.proofs.unreachable.first_raw.Given as goal
+use Rattle.net_host.proofs.unreachable.walk_for_raw.Given as goal
 
 abbrev pub invariant-loop-i : goal.invariant-loop-i
 invariant-loop-i g l = (k : ℕ) → k < l.i → IfSome (slice_get l.slots k) (λ x. TakesRaw l.ip x → ⊥)

@@ -1,0 +1,54 @@
+-- Lower bounds of the moments at which places want to be asked.
+use Rattle.std.specs.Prelude.{ℕ, ℤ, negsuc, ◌≡◌, ◌/◌, ◌<◌, ◌≤◌, ◌≤ℤ◌, ◌<ℤ◌, nat_eq, false, List, length, get_or, Option, Some, None}
+
+-- now, whatever the moment
+abbrev pub at_once : ℤ
+at_once = negsuc 9223372036854775807
+
+-- the bound of a place; a place that is not there has the least
+abbrev pub bound_at : List ℤ → ℕ → ℤ
+bound_at bs k = get_or bs k at_once
+
+-- ---- what is found
+
+-- the first place from one on, and before another, whose bound is not after now
+pub record IsReachedFirst (bs : List ℤ) (start end : ℕ) (now : ℤ) (i : ℕ) : Type 0 where
+  pub behind : start ≤ i
+  pub within : i < end
+  pub reached : bound_at bs i ≤ℤ now
+  pub before : (k : ℕ) → start ≤ k → k < i → now <ℤ bound_at bs k
+
+abbrev pub FindsReached : List ℤ → (start end : ℕ) → ℤ → Option ℕ → Type 0
+FindsReached bs start end now None = (k : ℕ) → start ≤ k → k < end → now <ℤ bound_at bs k
+FindsReached bs start end now (Some i) = IsReachedFirst bs start end now i
+
+-- no bound is less
+abbrev pub IsBelowAll : ℤ → List ℤ → Type 0
+IsBelowAll m bs = (k : ℕ) → k < length bs → m ≤ℤ bound_at bs k
+
+-- the same of some places
+abbrev pub IsBelow : ℤ → List ℤ → (start end : ℕ) → Type 0
+IsBelow m bs start end = (k : ℕ) → start ≤ k → k < end → m ≤ℤ bound_at bs k
+
+-- ---- levels: 32 bounds of one have one of the next, which none of them is less than
+
+abbrev pub Reaches : List ℤ → List ℤ → Type 0
+Reaches low high = (k : ℕ) → k < length low → k / 32 < length high
+
+abbrev pub Covers : List ℤ → List ℤ → Type 0
+Covers low high = (k : ℕ) → k < length low → bound_at high (k / 32) ≤ℤ bound_at low k
+
+-- but for this place
+abbrev pub CoversBut : ℕ → List ℤ → List ℤ → Type 0
+CoversBut place low high =
+    (k : ℕ) → k < length low → nat_eq k place ≡ false → bound_at high (k / 32) ≤ℤ bound_at low k
+
+pub record KeepsBut (i : ℕ) (bs cs : List ℤ) : Type 0 where
+  pub len : length cs ≡ length bs
+  pub others : (k : ℕ) → nat_eq k i ≡ false → bound_at cs k ≡ bound_at bs k
+
+pub record IsLayered (places blocks groups : List ℤ) : Type 0 where
+  pub blocks_reach : Reaches places blocks
+  pub groups_reach : Reaches blocks groups
+  pub blocks_cover : Covers places blocks
+  pub groups_cover : Covers blocks groups

@@ -1,0 +1,126 @@
+//! Lower bounds of the moments at which places want to be asked.
+ghost use Rattle.std.specs.Prelude.{ℕ, ◌≡◌, ◌≤◌, ◌<◌, ◌<ℤ◌, ◌≤ℤ◌, IfOk, length, slice_set};
+ghost use Rattle.std.specs.List.{All};
+ghost use Rattle.host_bounds.specs.Bounding.{FindsReached, IsBelowAll, IsLayered, at_once, bound_at};
+
+use crate::levels::{FAN_OUT, least_between, least_bounds, lower_all, mend};
+use std::alloc::{AllocError, Global};
+use std::marker::Model;
+
+/// For each of many places a moment, in microseconds, before which it need not be asked: `i64::MIN` where it is to be
+/// asked at once, `i64::MAX` where never.
+#[derive(Drop)]
+pub struct Bounds {
+    places: Vec<i64>,
+    // of each 32 places, none of which has a lower one
+    blocks: Vec<i64>,
+    // of each 32 blocks
+    groups: Vec<i64>,
+}
+
+impl Model for Bounds {
+    ghost use Rattle.std.specs.Prelude.{ℤ, List};
+    ghost use Rattle.host_bounds.specs.Bounding.{IsLayered};
+
+    ghost Value = { List ℤ };
+
+    ghost view = { λ b. b.places.items };
+
+    ghost invariant = { λ b. IsLayered b.places.items b.blocks.items b.groups.items };
+}
+
+impl Bounds {
+    /// Bounds of so many places, each of which is to be asked at once. They take 8.3 bytes a place.
+    pub fn new(alloc: Global, count: usize) -> Result<Bounds, AllocError>
+        ensures len { IfOk result (λ b. length b ≡ count) }
+        ensures least { IfOk result (λ b. All (λ m. m ≡ at_once) b) }
+    {
+        let blocks = count / FAN_OUT + 1;
+        Ok(Bounds {
+            places: least_bounds(alloc, count)?,
+            blocks: least_bounds(alloc, blocks)?,
+            groups: least_bounds(alloc, blocks / FAN_OUT + 1)?,
+        })
+    }
+
+    /// How many places there are.
+    pub fn len(&self) -> usize
+        ensures { result ≡ length self.now }
+    {
+        self.places.len()
+    }
+
+    /// Sets the bound of a place; of none where it is not there.
+    pub fn set(&mut self, place: usize, bound: i64)
+        ensures { self.new ≡ slice_set self.old place bound }
+    {
+        if place < self.places.len() {
+            self.set_there(place, bound);
+        }
+    }
+
+    fn set_there(&mut self, place: usize, bound: i64)
+        requires { place < length self.old }
+        ensures { self.new ≡ slice_set self.old place bound }
+    {
+        let was = self.places[place];
+        self.places[place] = bound;
+        let was = mend(&self.places, &mut self.blocks, place, was);
+        mend(&self.blocks, &mut self.groups, place / FAN_OUT, was);
+    }
+
+    /// Each place is to be asked at once.
+    pub fn reset(&mut self)
+        ensures len { length self.new ≡ length self.old }
+        ensures least { All (λ m. m ≡ at_once) self.new }
+    {
+        lower_all(&mut self.places);
+        lower_all(&mut self.blocks);
+        lower_all(&mut self.groups);
+    }
+
+    // The next place that may want to be asked by now: this one, or one before which none does.
+    fn skip(&self, place: usize, now: i64) -> usize
+        requires { place < length self.now }
+        ensures behind { place ≤ result }
+        ensures reached { result ≡ place → bound_at self.now place ≤ℤ now }
+        ensures before { (k : ℕ) → place ≤ k → k < result → k < length self.now → now <ℤ bound_at self.now k }
+    {
+        let block = place / FAN_OUT;
+        let group = block / FAN_OUT;
+        if now < self.groups[group] {
+            return (group + 1) * FAN_OUT * FAN_OUT;
+        }
+        if now < self.blocks[block] {
+            return (block + 1) * FAN_OUT;
+        }
+        if now < self.places[place] {
+            place + 1
+        } else {
+            place
+        }
+    }
+
+    /// The first place that may want to be asked by now, from one on and before another.
+    pub fn next(&self, start: usize, end: usize, now: i64) -> Option<usize>
+        requires { end ≤ length self.now }
+        ensures { FindsReached self.now start end now result }
+    {
+        let mut place = start;
+        while place < end {
+            let next = self.skip(place, now);
+            if next == place {
+                return Some(place);
+            }
+            place = next;
+        }
+        None
+    }
+
+    /// A moment before which no place need be asked.
+    pub fn least(&self) -> i64
+        ensures { IsBelowAll result self.now }
+    {
+        least_between(&self.groups, 0, self.groups.len())
+    }
+}

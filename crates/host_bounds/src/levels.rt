@@ -1,0 +1,71 @@
+//! Bounds of 32 places each, above those of the places.
+ghost use Rattle.std.specs.Prelude.{ℕ, ◌≡◌, ◌≤◌, ◌≤ℤ◌, ◌<◌, ◌/◌, IfOk, length};
+ghost use Rattle.std.specs.List.{All};
+ghost use Rattle.host_bounds.specs.Bounding.{Covers, CoversBut, IsBelow, KeepsBut, Reaches, at_once, bound_at};
+
+use std::alloc::{AllocError, Global};
+
+/// How many places have one bound above them.
+pub const FAN_OUT: usize = 32;
+
+/// So many bounds, all the least.
+pub(crate) fn least_bounds(alloc: Global, count: usize) -> Result<Vec<i64>, AllocError>
+    ensures len { IfOk result (λ v. length v.items ≡ count) }
+    ensures least { IfOk result (λ v. All (λ b. b ≡ at_once) v.items) }
+{
+    let mut bounds = Vec::with_capacity(alloc, count)?;
+    for _ in 0..count {
+        bounds.push(i64::MIN)?;
+    }
+    Ok(bounds)
+}
+
+/// All are the least now.
+pub(crate) fn lower_all(bounds: &mut Vec<i64>)
+    ensures len { length bounds.new.items ≡ length bounds.old.items }
+    ensures least { All (λ b. b ≡ at_once) bounds.new.items }
+{
+    bounds.fill(i64::MIN);
+}
+
+/// The least of these bounds.
+pub(crate) fn least_between(bounds: &[i64], start: usize, end: usize) -> i64
+    requires { end ≤ length bounds.now }
+    ensures { IsBelow result bounds.now start end }
+{
+    let mut least = i64::MAX;
+    for i in start..end {
+        if bounds[i] < least {
+            least = bounds[i];
+        }
+    }
+    least
+}
+
+// The least bound of the 32 places that this one is among.
+fn least_beside(bounds: &[i64], place: usize) -> i64
+    requires { place < length bounds.now }
+    ensures { (k : ℕ) → k < length bounds.now → k / 32 ≡ place / 32 → result ≤ℤ bound_at bounds.now k }
+{
+    let start = place - place % FAN_OUT;
+    let end = bounds.len().min(start + FAN_OUT);
+    least_between(bounds, start, end)
+}
+
+/// The bound of a place was changed: the one above it is made to bound it again. What that was.
+pub(crate) fn mend(low: &[i64], high: &mut Vec<i64>, place: usize, was: i64) -> i64
+    requires within { place < length low.now }
+    requires reaches { Reaches low.now high.old.items }
+    requires others { CoversBut place low.now high.old.items }
+    ensures covers { Covers low.now high.new.items }
+    ensures kept { KeepsBut (place / 32) high.old.items high.new.items }
+{
+    let above = place / FAN_OUT;
+    let old = high[above];
+    if low[place] < old {
+        high[above] = low[place];
+    } else if was == old {
+        high[above] = least_beside(low, place);
+    }
+    old
+}

@@ -1,0 +1,7 @@
+//! Which of many places want to be asked by now, found without a look at each.
+#![tactic(auto)]
+
+pub mod bounds;
+pub mod levels;
+
+pub use bounds::Bounds;

@@ -1,0 +1,24 @@
+use Rattle.std.proofs.Common.{rules, ◌≡◌, ◌∙◌, length, sym, ap, subst, to_z, of_z, w64}
+use Rattle.std.specs.Prelude.{IfSome, slice_get}
+use Rattle.std.proofs.lemmas.List.{length-set}
+use Rattle.net_host.specs.Looking.{sleeps}
+use Rattle.net_host.specs.Sleeping.{AreAsleep}
+use Rattle.net_host.specs.Turns.{asked_of, is_due}
+use Rattle.net_host.proofs.Asking.{noted}
+use Rattle.net_host.proofs.Sleepers.{bound_set}
+use Rattle.net_host.proofs.looking.note_at.Goals as goal
+
+pub invariant_of-sockets : goal.invariant_of-sockets
+invariant_of-sockets g c =
+    let same : to_z w64 (of_z w64 c.bound_of.result) ≡ c.bound_of.result = search rules in
+    record {
+      indexed = c.args.sockets.now.indexed;
+      asleep = subst (λ bs. AreAsleep (λ u b s. sleeps u b s) c.args.sockets.now.terms bs c.args.sockets.now.slots.items) (sym c.set.ensures)
+          (bound_set (λ u b s. sleeps u b s) c.args.sockets.now.terms c.args.sockets.now.bounds c.args.sockets.now.slots.items c.args.i (to_z w64 (of_z w64 c.bound_of.result))
+          (noted (g.C.Context.facts c.args.cx.now) c.args.sockets.now.terms c.asks_at-asked.result.0 (to_z w64 (of_z w64 c.bound_of.result)) (slice_get c.args.sockets.now.slots.items c.args.i) (same ∙ c.bound_of.ensures) c.requires.mtu (subst (λ xs. IfSome (slice_get xs c.args.i) (λ s. c.asks_at-asked.result.0 ≡ asked_of s.guard.phase s.guard.end s.guard.last s.socket (g.C.Context.facts c.args.cx.now))) c.deref.ensures.value c.asks_at-asked.ensures.asked) c.requires.seen)
+          c.args.sockets.now.asleep);
+      as_many = ap length c.set.ensures ∙ length-set c.args.sockets.now.bounds c.args.i (to_z w64 (of_z w64 c.bound_of.result)) ∙ c.args.sockets.now.as_many;
+    }
+
+pub returns-clause-due : goal.returns-clause-due
+returns-clause-due g c = subst (λ xs. IfSome (slice_get xs c.args.i) (λ s. c.asks_at-asked.result.1 ≡ is_due (g.C.Context.facts c.args.cx.now) s)) c.deref.ensures.value c.asks_at-asked.ensures.due

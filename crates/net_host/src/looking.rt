@@ -1,0 +1,127 @@
+//! Guards look at sockets that may want to be asked by now, up to the first that is due.
+ghost use Rattle.std.specs.Prelude.{◌≡◌, ◌<◌, ◌≤◌, IfSome, length, slice_get, true};
+ghost use Rattle.host_bounds.specs.Bounding.{at_once};
+ghost use Rattle.sock_tcp.specs.View.{moment_of};
+ghost use Rattle.net_host.specs.Looking.{LooksIn, LooksNext, bound_of, is_seen};
+ghost use Rattle.net_host.specs.Turns.{Watches, asked_of, is_due};
+ghost use Rattle.net_host.specs.Walks.{ChangesAt};
+
+use crate::lent_turns::watch_at;
+use crate::set::SocketSet;
+use crate::slot::Slot;
+use crate::turn::{delayed, is_reached};
+use smoltcp_socket::{Context, PollAt};
+use sock_tcp::TsvalSource;
+
+/// A moment before which a socket need not be asked that asks for this one.
+pub(crate) fn bound_of(poll: PollAt) -> i64
+    ensures { result ≡ bound_of poll }
+{
+    match poll {
+        PollAt::Now => i64::MIN,
+        PollAt::Time(at) => {
+            if at.micros < i64::MAX {
+                at.micros
+            } else {
+                i64::MAX - 1
+            }
+        }
+        PollAt::Ingress => i64::MAX,
+    }
+}
+
+impl<'a, G: TsvalSource> Slot<'a, G> {
+    // When the socket wants to speak, and whether it may and wants to now.
+    fn asks<C: Context>(&self, cx: &C) -> (PollAt, bool)
+        ensures asked { result.0 ≡ asked_of self.now.guard.phase self.now.guard.end self.now.guard.last
+            self.now.socket (C.facts cx.now) }
+        ensures due { result.1 ≡ is_due (C.facts cx.now) self.now }
+    {
+        let now = cx.now();
+        let asked = self.asked(cx);
+        let poll = delayed(self.guard.may_take_turn(now), now, asked);
+        (asked, is_reached(poll, now))
+    }
+}
+
+fn asks_at<C: Context, G: TsvalSource>(slots: &[Slot<'_, G>], i: usize, cx: &C) -> (PollAt, bool)
+    requires { i < length slots.now }
+    ensures asked { IfSome (slice_get slots.now i) (λ s. result.0 ≡ asked_of s.guard.phase s.guard.end s.guard.last
+        s.socket (C.facts cx.now)) }
+    ensures due { IfSome (slice_get slots.now i) (λ s. result.1 ≡ is_due (C.facts cx.now) s) }
+{
+    slots[i].asks(cx)
+}
+
+// The guard at this place has looked: it need not be asked before the moment that its socket asks for. Whether that is
+// due.
+fn note_at<C: Context, G: TsvalSource>(sockets: &mut SocketSet<'_, G>, i: usize, cx: &C) -> bool
+    requires within { i < length sockets.old.slots.items }
+    requires mtu { sockets.old.terms.mtu ≡ (C.facts cx.now).mtu }
+    requires seen { IfSome (slice_get sockets.old.slots.items i) (λ s. is_seen sockets.old.terms.guards s ≡ true) }
+    ensures slots { sockets.new.slots ≡ sockets.old.slots }
+    ensures terms { sockets.new.terms ≡ sockets.old.terms }
+    ensures due { IfSome (slice_get sockets.old.slots.items i) (λ s. result ≡ is_due (C.facts cx.now) s) }
+{
+    let (asked, due) = asks_at(&sockets.slots, i, cx);
+    sockets.bounds.set(i, bound_of(asked));
+    due
+}
+
+// The guard at this place looks. Whether its socket is due then.
+fn look_at<C: Context, G: TsvalSource>(sockets: &mut SocketSet<'_, G>, i: usize, cx: &C) -> bool
+    requires within { i < length sockets.old.slots.items }
+    requires mtu { sockets.old.terms.mtu ≡ (C.facts cx.now).mtu }
+    ensures looked { ChangesAt (Watches sockets.old.terms.guards (moment_of (C.facts cx.now))) sockets.old.slots.items
+        i sockets.new.slots.items }
+    ensures terms { sockets.new.terms ≡ sockets.old.terms }
+    ensures due { IfSome (slice_get sockets.new.slots.items i) (λ s. result ≡ is_due (C.facts cx.now) s) }
+{
+    let guards = sockets.terms.guards;
+    watch_at(sockets, i, &guards, cx.now());
+    note_at(sockets, i, cx)
+}
+
+// Guards look at the sockets that may want to be asked by now, from one place on and before another, up to the first
+// that is due.
+fn due_between<C: Context, G: TsvalSource>(
+    sockets: &mut SocketSet<'_, G>,
+    cx: &C,
+    start: usize,
+    end: usize,
+) -> Option<usize>
+    requires within { end ≤ length sockets.old.slots.items }
+    requires mtu { sockets.old.terms.mtu ≡ (C.facts cx.now).mtu }
+    ensures looked { LooksIn (C.facts cx.now) sockets.old.terms.guards start end sockets.old.slots.items result
+        sockets.new.slots.items }
+    ensures terms { sockets.new.terms ≡ sockets.old.terms }
+{
+    let now = cx.now().micros;
+    let mut from = start;
+    while let Some(i) = sockets.bounds.next(from, end, now) {
+        if look_at(sockets, i, cx) {
+            return Some(i);
+        }
+        from = i + 1;
+    }
+    None
+}
+
+/// The same in turn: from the place whose turn it is on, and then before it.
+pub(crate) fn next_due<C: Context, G: TsvalSource>(
+    sockets: &mut SocketSet<'_, G>,
+    cx: &C,
+    turn: usize,
+) -> Option<usize>
+    requires { sockets.old.terms.mtu ≡ (C.facts cx.now).mtu }
+    ensures looked { LooksNext (C.facts cx.now) sockets.old.terms.guards turn sockets.old.slots.items result
+        sockets.new.slots.items }
+    ensures terms { sockets.new.terms ≡ sockets.old.terms }
+{
+    let count = sockets.slots.len();
+    let start = turn.min(count);
+    match due_between(sockets, cx, start, count) {
+        Some(i) => Some(i),
+        None => due_between(sockets, cx, 0, start),
+    }
+}

@@ -1,0 +1,94 @@
+//! When the first of the sockets wants to speak.
+ghost use Rattle.std.specs.Prelude.{◌≡◌, ◌<◌, ◌<ℤ◌, IfSome, length, slice_get};
+ghost use Rattle.host_bounds.specs.Bounding.{IsBelowAll, at_once};
+ghost use Rattle.sock_tcp.specs.Polls.{earlier};
+ghost use Rattle.net_host.specs.Looking.{is_at_most};
+ghost use Rattle.net_host.specs.Speaking.{earliest};
+ghost use Rattle.net_host.specs.Turns.{slot_poll};
+
+use crate::set::SocketSet;
+use crate::slot::Slot;
+use smoltcp_socket::{Context, PollAt};
+use sock_tcp::TsvalSource;
+
+/// When the first of the sockets wants to speak.
+pub(crate) fn earliest<C: Context, G: TsvalSource>(sockets: &SocketSet<'_, G>, cx: &C) -> PollAt
+    ensures { result ≡ earliest (C.facts cx.now) sockets.now.slots.items }
+{
+    match by_bounds(sockets, cx) {
+        Some(poll) => poll,
+        None => walk_for_earliest(&sockets.slots, cx),
+    }
+}
+
+// What a socket with the least bound asks for, where that is the bound itself: none asks for an earlier moment.
+fn by_bounds<C: Context, G: TsvalSource>(sockets: &SocketSet<'_, G>, cx: &C) -> Option<PollAt>
+    ensures { IfSome result (λ p. p ≡ earliest (C.facts cx.now) sockets.now.slots.items) }
+{
+    let least = sockets.bounds.least();
+    if least == i64::MIN || sockets.terms.mtu != cx.ip_mtu() {
+        return None;
+    }
+    let i = sockets.bounds.next(0, sockets.bounds.len(), least)?;
+    at_bound(sockets, i, least, cx)
+}
+
+fn poll_there<C: Context, G: TsvalSource>(slots: &[Slot<'_, G>], i: usize, cx: &C) -> PollAt
+    requires { i < length slots.now }
+    ensures { IfSome (slice_get slots.now i) (λ s. result ≡ slot_poll s (C.facts cx.now)) }
+{
+    slots[i].poll_at(cx)
+}
+
+// The same of the place with the least bound.
+fn at_bound<C: Context, G: TsvalSource>(
+    sockets: &SocketSet<'_, G>,
+    i: usize,
+    least: i64,
+    cx: &C,
+) -> Option<PollAt>
+    requires within { i < length sockets.now.slots.items }
+    requires mtu { sockets.now.terms.mtu ≡ (C.facts cx.now).mtu }
+    requires clear { at_once <ℤ least }
+    requires least { IsBelowAll least sockets.now.bounds }
+    ensures { IfSome result (λ p. p ≡ earliest (C.facts cx.now) sockets.now.slots.items) }
+{
+    let poll = poll_there(&sockets.slots, i, cx);
+    if is_at_most(poll, least) {
+        return Some(poll);
+    }
+    None
+}
+
+fn is_at_most(poll: PollAt, least: i64) -> bool
+    ensures { result ≡ is_at_most poll least }
+{
+    match poll {
+        PollAt::Now => false,
+        PollAt::Time(at) => at.micros <= least,
+        PollAt::Ingress => i64::MAX <= least,
+    }
+}
+
+fn walk_for_earliest<C: Context, G: TsvalSource>(slots: &[Slot<'_, G>], cx: &C) -> PollAt
+    ensures { result ≡ earliest (C.facts cx.now) slots.now }
+{
+    slots
+        .iter()
+        .fold(PollAt::Ingress, |first: PollAt, slot: &Slot<'_, G>| {
+            earlier(first, slot.poll_at(cx))
+        })
+}
+
+fn earlier(poll: PollAt, other: PollAt) -> PollAt
+    ensures { result ≡ earlier poll other }
+{
+    match (poll, other) {
+        (PollAt::Now, _) | (_, PollAt::Now) => PollAt::Now,
+        (PollAt::Ingress, _) => other,
+        (_, PollAt::Ingress) => poll,
+        (PollAt::Time(at), PollAt::Time(then)) => {
+            PollAt::Time(if at.micros <= then.micros { at } else { then })
+        }
+    }
+}
