@@ -7,7 +7,8 @@ use Rattle.ip_wire.specs.declared.protocol.IpProtocol.{IpProtocol}
 use Rattle.ip_wire.specs.declared.protocol.IpVersion.{IpVersion}
 use Rattle.ip_wire.specs.Protocol.{protocol_of as protocol_numbered}
 use Rattle.sock_dgram.specs.declared.icmp.endpoint.Endpoint.TheVariants as messages
-use Rattle.sock_pair.specs.ScriptWords.{Word, number_of, switch_of, is_text, rules_of, one_of, two_of, three_of, five_of}
+use Rattle.sock_pair.specs.ScriptWords.{Word, number_of, switch_of, is_text, rules_of, one_of, two_of, three_of}
+use Rattle.sock_pair.specs.ScriptWords.{five_of}
 use Rattle.sock_pair.specs.declared.script.error.ScriptError.{ScriptError}
 use Rattle.sock_pair.specs.declared.script.error.ScriptError.TheVariants as fault
 use Rattle.drill_lines.specs.declared.request.Bytes.{Bytes}

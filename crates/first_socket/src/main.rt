@@ -19,7 +19,8 @@ const SERVER: IpAddress = IpAddress::Ipv4(Ipv4Address([10, 0, 0, 2]));
 // The program ends after so many milliseconds of its own time, whatever is left to do.
 const LONGEST: u32 = 60_000;
 
-// A host with one socket. The set is a type parameter, as the check does not yet state a struct that has one in a field.
+// A host with one socket. The set is a type parameter, as the check does not yet state a struct that has one in a
+// field.
 #[derive(Drop)]
 struct Host<S> {
     interface: Interface<Secret>,

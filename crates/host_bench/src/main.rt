@@ -1,7 +1,7 @@
 //! The jobs of a host of many sockets, and of a link that loses, on inputs made from a seed.
 //!
-//! `host_bench many SOCKETS SEED SHARE` and `host_bench recovery SEED SHARE` print a digest of what came of the job, and
-//! no times.
+//! `host_bench many SOCKETS SEED SHARE` and `host_bench recovery SEED SHARE` print a digest of what came of the job,
+//! and no times.
 #![tactic(auto)]
 
 mod draw;

@@ -24,8 +24,8 @@ const PORT: u16 = 7;
 // The lowest retransmission timeout, as Linux's.
 const LEAST_TIMEOUT: Duration = Duration { micros: 200_000 };
 
-/// A host and the handles of its sockets. The set is a type parameter, as the check does not yet state a struct that has
-/// one in a field.
+/// A host and the handles of its sockets. The set is a type parameter, as the check does not yet state a struct that
+/// has one in a field.
 #[derive(Drop)]
 pub struct Host<S> {
     interface: Interface<Secret>,

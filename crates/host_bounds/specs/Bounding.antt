@@ -1,5 +1,6 @@
 -- Lower bounds of the moments at which places want to be asked.
-use Rattle.std.specs.Prelude.{ℕ, ℤ, negsuc, ◌≡◌, ◌/◌, ◌<◌, ◌≤◌, ◌≤ℤ◌, ◌<ℤ◌, nat_eq, false, List, length, get_or, Option, Some, None}
+use Rattle.std.specs.Prelude.{ℕ, ℤ, negsuc, ◌≡◌, ◌/◌, ◌<◌, ◌≤◌, ◌≤ℤ◌, ◌<ℤ◌, nat_eq, false, List, length, get_or, Option}
+use Rattle.std.specs.Prelude.{Some, None}
 
 -- now, whatever the moment
 abbrev pub at_once : ℤ

@@ -110,8 +110,8 @@ impl<W, O> Interface<W, O> {
         (self.micros / 1000).min(4_294_967_295) as u32
     }
 
-    /// Sets the largest IP packet, in bytes: 68 to 65535, and the nearest of these for any other. Over IPv6 less than 576
-    /// counts as that (RFC 8200, section 5: its links carry 1280).
+    /// Sets the largest IP packet, in bytes: 68 to 65535, and the nearest of these for any other. Over IPv6 less than
+    /// 576 counts as that (RFC 8200, section 5: its links carry 1280).
     pub fn set_mtu(&mut self, mtu: usize)
         ensures mtu { self.new.mtu ≡ max 68 (min mtu 65535) }
         ensures same { (self.new.v4 ≡ self.old.v4) × (self.new.v6 ≡ self.old.v6) × (self.new.micros ≡ self.old.micros)

@@ -1,8 +1,8 @@
 //! An IP host on a stream of packets: it reads packets as a pcap stream and writes its own as another. The time is
 //! that of the records, so it needs neither a clock nor a device, and a recorded session can be replayed.
 //!
-//! `live_host ADDRESS [SEED [RULES]]`: its IPv4 address, what its initial sequence numbers are made of, and the rules of
-//! its TCP sockets.
+//! `live_host ADDRESS [SEED [RULES]]`: its IPv4 address, what its initial sequence numbers are made of, and the rules
+//! of its TCP sockets.
 #![tactic(auto)]
 
 mod fault;

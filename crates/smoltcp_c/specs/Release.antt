@@ -1,5 +1,6 @@
 -- What C has back of a socket's memory after it asked for it.
-use Rattle.std.specs.Prelude.{ℕ, ℤ, pos, Bool, true, false, ◌&&◌, if◌then◌else◌, Option, Some, None, is_none, ◌≡◌, length}
+use Rattle.std.specs.Prelude.{ℕ, ℤ, pos, Bool, true, false, ◌&&◌, if◌then◌else◌, Option, Some, None, is_none, ◌≡◌}
+use Rattle.std.specs.Prelude.{length}
 use Rattle.net_base.specs.Packets.{Packets}
 use Rattle.sock_core.specs.Received.{room_of}
 use Rattle.sock_tcp.specs.Due.{is_closed}

@@ -397,7 +397,8 @@ pub extern "C" fn smoltcp_raw_place_nonnull(room: &mut RawPlaceRoom) -> i64
 
 /// Makes a socket in the room, for the packets of the filter. Each of its two queues has places for so many packets,
 /// and at most 2^30 bytes for them. The five pieces of memory are the socket's until it is released. 0, or
-/// `ERROR_RANGE` where the filter's version is not 0, 4 or 6: then no socket is made, and what the buffers lie in is lost.
+/// `ERROR_RANGE` where the filter's version is not 0, 4 or 6: then no socket is made, and what the buffers lie in is
+/// lost.
 #[unsafe(no_mangle)]
 pub extern "C" fn smoltcp_raw_init_nonnull(
     rx_places: RawPlaces,

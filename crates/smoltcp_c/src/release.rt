@@ -16,8 +16,8 @@ use sock_tcp::{Socket, State};
 /// Lets go of the socket, which leaves room for another, and writes into `rx` and `tx` where its buffers lie, which are
 /// the caller's again. Answers 0. Bytes that were not read are gone.
 ///
-/// `ERROR_STATE` where the socket is not CLOSED (in TIME-WAIT it is not), or a peer has yet to be told by an RST. Nothing
-/// changes then.
+/// `ERROR_STATE` where the socket is not CLOSED (in TIME-WAIT it is not), or a peer has yet to be told by an RST.
+/// Nothing changes then.
 #[unsafe(no_mangle)]
 pub extern "C" fn smoltcp_tcp_release_nonnull(
     room: &mut TcpRoom,

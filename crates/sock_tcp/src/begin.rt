@@ -51,9 +51,9 @@ impl<'a> ControlBlock<'a> {
         self.congestion_controller.pre_transmit(now);
     }
 
-    // All behind SND.UNA is sent again, also what was told by SACK. The timer is idle until a segment goes out, or by the RFCs' rules a window is
-    // probed for; it is not over any longer: where the window lets nothing out now, a timer that stays over would want
-    // the next dispatch at once, again and again.
+    // All behind SND.UNA is sent again, also what was told by SACK. The timer is idle until a segment goes out, or by
+    // the RFCs' rules a window is probed for; it is not over any longer: where the window lets nothing out now, a timer
+    // that stays over would want the next dispatch at once, again and again.
     #[tactic(auto, unfolding(crate::specs::Begin::retransmission_begun))]
     fn begin_retransmission(&mut self, now: Instant)
         requires { IsMoment now.micros }

@@ -3,7 +3,8 @@ ghost use Rattle.std.specs.Prelude.{◌≡◌, ◌≤◌, ◌<◌, ◌^◌};
 ghost use Rattle.sock_core.specs.Bounds.{IsMoment};
 ghost use Rattle.sock_tcp.specs.View.{moment_of};
 ghost use Rattle.sock_tcp.specs.Due.{control_due, own_mss, effective_mss};
-ghost use Rattle.sock_tcp.specs.Due.{flight, limited, congestion_left, sendable, is_held_back, data_due, ack_due, ack_poll};
+ghost use Rattle.sock_tcp.specs.Due.{flight, limited, congestion_left, sendable, is_held_back, data_due, ack_due};
+ghost use Rattle.sock_tcp.specs.Due.{ack_poll};
 ghost use Rattle.sock_tcp.specs.Due.{edge_sent, field_left, is_doubled, window_doubled, is_due};
 
 use crate::control_block::ControlBlock;

@@ -14,14 +14,21 @@ pub enum Rules {
     /// RCV.NXT is taken, wherever the bytes before it lie; and acknowledgements and windows are heard of a peer whose
     /// number lies near the window, as of one that counts the byte of its probe of a window of 0.
     ///
-    /// Of loss: a duplicate acknowledgement counts though its window grew (RFC 5681, section 3.2), and one or two
-    /// suffice where two or three segments are out and none waits (RFC 5827). From a fast retransmission on, an
-    /// acknowledgement of a part of what was sent before lets the segment at SND.UNA go out again at once, and the
-    /// congestion controller is told of one loss (RFC 6582). After a retransmission timeout duplicates do not count
-    /// until what was sent before is acknowledged. Where a segment comes while something is in flight the
-    /// retransmission timer runs, also where a keep-alive was to come; after a handshake with a lost SYN it begins anew
-    /// with three seconds (RFC 6298, rules 5.1 and 5.7). Where it is over while the peer has no window, the window is
-    /// probed for with the byte at SND.UNA, and no window is probed with nothing to send (RFC 9293, section 3.8.6.1).
+    /// Of loss: a duplicate acknowledgement counts though its window grew (RFC 5681, section 3.2), the first two let
+    /// out a segment each beyond the congestion window (RFC 3042), and one or two suffice where two or three segments
+    /// are out and none waits (RFC 5827). What the peer tells by SACK is kept, four blocks of it (RFC 2018), and one
+    /// with something new counts as a duplicate. From a fast retransmission on, each acknowledgement of a part of what
+    /// was sent before, and each that tells something new, lets the next hole go out again, or where nothing is told
+    /// the segment at SND.UNA, and the congestion controller is told of one loss (RFC 6582; RFC 6675). Where more than
+    /// two segments that were sent later are told, the holes go out once more. After a retransmission timeout
+    /// duplicates do not count until what was sent before is acknowledged. Where a segment comes while something is in
+    /// flight the retransmission timer runs, also where a keep-alive was to come; after a handshake with a lost SYN it
+    /// begins anew with three seconds (RFC 6298, rules 5.1 and 5.7). Where it is over while the peer has no window, the
+    /// window is probed for with the byte at SND.UNA, and no window is probed with nothing to send (RFC 9293, section
+    /// 3.8.6.1).
+    ///
+    /// The congestion window begins with ten segments (RFC 6928), and grows by the bytes that are acknowledged (RFC
+    /// 3465).
     ///
     /// Of attacks: an RST counts at RCV.NXT alone; elsewhere in the window it is answered by a challenge ACK, at most
     /// one a second, and so is a SYN once the own one is acknowledged (RFC 5961, sections 3.2, 4.2 and 7). TIME-WAIT

@@ -1,7 +1,8 @@
 -- What the RFCs' rules do of loss, once a segment was heard as by either rules: recovery by SACK (RFC 6675) and by
 -- partial acknowledgements (RFC 6582), duplicates (RFC 5681, section 3.2; RFC 5827), and the retransmission timer (RFC
 -- 6298, section 5).
-use Rattle.std.specs.Prelude.{ℕ, nat_lt, nat_le, ◌+◌, ◌*◌, length, max, min, Option, Some, None, is_some, Bool, true, false, not}
+use Rattle.std.specs.Prelude.{ℕ, nat_lt, nat_le, ◌+◌, ◌*◌, length, max, min, Option, Some, None, is_some, Bool, true}
+use Rattle.std.specs.Prelude.{false, not}
 use Rattle.std.specs.Prelude.{◌==◌, ◌&&◌, ◌||◌, if◌then◌else◌}
 use Rattle.std.specs.Int.{div_ceil}
 use Rattle.net_base.specs.declared.time.Duration.{Duration}
@@ -174,8 +175,8 @@ shows_hole r k una = has_hole r k una || (is_blank k || not (is_sent_again r una
 abbrev pub only_tells : Before → View → Bool
 only_tells b w = b.telling && not (is_news b w)
 
--- the segment at SND.UNA was sent again, and lost again: more than two segments of what was sent behind it were told (as
--- IsLost of RFC 6675, section 4, which is of what was sent once)
+-- the segment at SND.UNA was sent again, and lost again: more than two segments of what was sent behind it were told
+-- (as IsLost of RFC 6675, section 4, which is of what was sent once)
 abbrev pub is_lost_in : Recovery → Scoreboard → TcpSeqNumber → ℕ → Bool
 is_lost_in (recovery.Fast point high_rxt resent_at) k una mss =
     is_before una high_rxt && nat_lt (again_from resent_at una + 2 * mss) (highest_told k)
