@@ -12,6 +12,7 @@ use crate::control_block::ControlBlock;
 use crate::emission::{Emitted, Kind};
 use crate::ended::by_dispatch;
 use crate::generator::TsvalSource;
+use crate::recovery::Recovery;
 use crate::socket::Socket;
 use crate::state::State;
 use crate::timer::AckDelayTimer;
@@ -49,7 +50,9 @@ impl<'a> ControlBlock<'a> {
         ensures view { self.new ≡ snd_nxt_moved self.old emitted }
         ensures stamps { self.new.stamps ≡ self.old.stamps }
     {
-        self.recovery = self.recovery.resent(self.remote_last_seq, &emitted);
+        if let Recovery::Fast { .. } = self.recovery {
+            self.recovery = self.recovery.resent(self.remote_last_seq, &emitted);
+        }
         self.remote_last_seq = later(self.remote_last_seq, emitted.end);
         self.remote_last_ack = emitted.ack_number;
         self.remote_last_win = emitted.window_len;

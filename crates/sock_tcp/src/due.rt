@@ -69,9 +69,11 @@ impl<'a> ControlBlock<'a> {
     pub(crate) fn congestion_left(&self) -> usize
         ensures { result ≡ congestion_left self.now }
     {
-        self.congestion_controller
-            .window()
-            .saturating_sub(self.flight().saturating_sub(self.limited()))
+        let window = self.congestion_controller.window();
+        match self.rules {
+            Rules::Smoltcp => window.saturating_sub(self.flight()),
+            Rules::Rfc => window.saturating_sub(self.flight().saturating_sub(self.limited())),
+        }
     }
 
     // What of the transmit queue both windows let go out.
