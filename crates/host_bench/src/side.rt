@@ -3,11 +3,11 @@ ghost use Rattle.std.specs.Prelude.{◌≤◌, ◌^◌, length};
 
 use crate::draw::Digest;
 use net_host::{Interface, IpCidr, Secret, SocketHandle, SocketSet};
+use smoltcp_socket::Socket;
 use smoltcp_socket::storage::RingBuffer;
 use smoltcp_socket::tcp::{self, CongestionControl, Rules, State};
 use smoltcp_socket::time::{Duration, Instant};
 use smoltcp_socket::wire::{IpAddress, IpEndpoint, IpListenEndpoint, Ipv4Address};
-use smoltcp_socket::Socket;
 use std::alloc::{AllocError, Global};
 
 /// The longest packet, and the longest reply.

@@ -69,7 +69,11 @@ const EVENTS: &[Shape] = &[
     Shape("close", "S", &[Form::Side]),
     Shape("abort", "S", &[Form::Side]),
     Shape("nagle", "S on, or nagle S off", &[Form::Side, Form::Switch]),
-    Shape("rules", "S rfc, or rules S smoltcp", &[Form::Side, Form::Rules]),
+    Shape(
+        "rules",
+        "S rfc, or rules S smoltcp",
+        &[Form::Side, Form::Rules],
+    ),
     Shape("dispatch", "S MS", &[Form::Side, MILLIS]),
     Shape("fail", "S MS", &[Form::Side, MILLIS]),
     Shape("gone", "S MS", &[Form::Side, MILLIS]),

@@ -82,7 +82,10 @@ fn stays_awake(
     lines: (&str, &str),
     side: Side,
 ) -> Result<(), Fail> {
-    let text = format!(in alloc; "pair 1 1 1 1 -\nrules a rfc\nrules b rfc\n{}{}", lines.0, lines.1)?;
+    let text = format!(in alloc;
+        "pair 1 1 1 1 -\nrules a rfc\nrules b rfc\n{}{}",
+        lines.0, lines.1
+    )?;
     plays(pair, alloc, text.as_str())?;
     let socket = pair.socket(side);
     assert!(rt; socket.has_work() && socket.poll_at(&at(1000)) != PollAt::Ingress);

@@ -101,7 +101,11 @@ impl Reno {
     fn most_growth(&self, careful: bool) -> usize
         ensures { result ≡ most_growth self.now careful }
     {
-        if careful { self.mss } else { self.mss.saturating_mul(2) }
+        if careful {
+            self.mss
+        } else {
+            self.mss.saturating_mul(2)
+        }
     }
 
     // RFC 6928, section 2.
