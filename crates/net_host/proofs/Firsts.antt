@@ -1,6 +1,6 @@
 -- The first moment at which a socket wants to be asked.
 use Rattle.std.proofs.Common.{◌≡◌, ◌∙◌, ℕ, ℤ, ◌<◌, List, [], ◌∷◌, length, Bool, true, false, suc, zero, Option, Some, None, refl, sym, subst, ap, arith}
-use Rattle.std.specs.Prelude.{IfSome, slice_get, int_le, int_lt, ◌<ℤ◌, ◌≤ℤ◌, ◌&&◌, ◌||◌, if◌then◌else◌}
+use Rattle.std.specs.Prelude.{IfSome, slice_get, int_le, int_lt, ◌<ℤ◌, ◌≤ℤ◌, ◌||◌, if◌then◌else◌}
 use Rattle.std.specs.List.{fold}
 use Rattle.std.proofs.lemmas.Bool.{and_parts}
 use Rattle.std.proofs.lemmas.Int.{ints}

@@ -1,6 +1,6 @@
 -- What arrives for a socket that is none of TCP leaves it asking for the same moment.
 use Rattle.std.proofs.Common.{◌≡◌, ◌∙◌, ℕ, ℤ, List, length, Bool, true, false, Option, Some, None, refl, sym, subst, ap}
-use Rattle.std.specs.Prelude.{IfSome, IfNone, slice_get, ◌&&◌}
+use Rattle.std.specs.Prelude.{◌&&◌}
 use Rattle.ip_wire.specs.declared.repr.IpRepr.{IpRepr}
 use Rattle.control_wire.specs.declared.udp.UdpRepr.{UdpRepr}
 use Rattle.sock_core.specs.Facts.{Facts}
@@ -23,7 +23,7 @@ use Rattle.net_host.specs.Walks.{ChangesEach}
 use Rattle.net_host.specs.declared.guard.Guard.{Guard}
 use Rattle.net_host.specs.declared.slot.Slot.{Slot}
 use Rattle.net_host.specs.declared.terms.Terms.{Terms}
-use Rattle.net_host.proofs.Sleepers.{changed_len, each_len, each_sleeps, one_sleeps}
+use Rattle.net_host.proofs.Sleepers.{changed_len, each_sleeps, one_sleeps}
 
 -- either way
 stable : (a b : Bool) → ((a ≡ b → ⊥) → ⊥) → a ≡ b

@@ -1,5 +1,5 @@
 -- Whether a raw socket takes a packet is decided without a walk that runs.
-use Rattle.std.proofs.Common.{◌≡◌, ◌∙◌, ℕ, ◌+◌, ◌-◌, zero, suc, List, [], ◌∷◌, Bool, true, false, nat_eq, Option, Some, None, refl, sym, subst, ap, inl, inr, arith, ◌⊎◌, ◌<◌, length}
+use Rattle.std.proofs.Common.{◌≡◌, ◌∙◌, ℕ, zero, suc, List, [], ◌∷◌, Bool, true, false, nat_eq, Option, Some, None, refl, sym, ap, inl, inr, arith, ◌⊎◌, ◌<◌}
 use Rattle.std.specs.Prelude.{IfSome, slice_get}
 use Rattle.ip_wire.specs.IpHeader.{header_version, next_header_of}
 use Rattle.ip_wire.specs.declared.protocol.IpProtocol.{IpProtocol}
@@ -12,7 +12,7 @@ use Rattle.smoltcp_socket.specs.declared.socket.Socket.{Socket}
 use Rattle.smoltcp_socket.specs.declared.socket.Socket.TheVariants as socket
 use Rattle.net_host.specs.declared.slot.Slot.{Slot}
 use Rattle.net_host.specs.Unreachable.{RawTakes, TakesRaw}
-use Rattle.net_host.specs.Walks.{Finds, IsFirst}
+use Rattle.net_host.specs.Walks.{Finds}
 
 abbrev Decided : Type 0 → Type 0
 Decided P = P ⊎ (P → ⊥)

@@ -50,7 +50,8 @@ has_timeout (Some d) None = false
 -- the guard waits for what the peer alone can end, and from when it was first seen on as long as is set
 abbrev pub seen_with : GuardSettings → Phase → Option Instant → Option Instant → View → Bool
 seen_with st p since end v =
-    is_phase p (phase_of v) && (is_moment end (end_of (limit_of st p) since) && has_timeout (lawful_limit st.timeout) v.timeout)
+    is_phase p (phase_of v)
+    && (is_moment end (end_of (limit_of st p) since) && has_timeout (lawful_limit st.timeout) v.timeout)
 
 abbrev pub seen_in : {G : Type 0} → GuardSettings → Option (Socket G) → Guard → Bool
 seen_in st (Some (socket.Tcp x)) g = seen_with st g.phase g.since g.end x.control_block
@@ -127,8 +128,8 @@ DueAt f st ss None ts = Unit {0}
 DueAt f st ss (Some i) ts =
     Both (Watches st (moment_of f)) (slice_get ss i) (slice_get ts i) × IfSome (slice_get ts i) (λ s. is_due f s ≡ true)
 
--- Guards look at some of the sockets from one place on and before another, up to the first that is due after that. Those
--- before it rest.
+-- Guards look at some of the sockets from one place on and before another, up to the first that is due after that.
+-- Those before it rest.
 pub record LooksIn {G : Type 0} (f : Facts) (st : GuardSettings) (start end : ℕ) (ss : List (Slot G)) (r : Option ℕ)
     (ts : List (Slot G)) : Type 0 where
   pub changed : ChangesEach (MayLook st (moment_of f)) ss ts

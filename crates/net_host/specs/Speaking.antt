@@ -26,8 +26,8 @@ module _ {G : Type 0} (facts : Facts) (tells : G → ℕ → Type 0) where
   TurnAt ss i out r n ts out' = ChangesAt (λ before after. TakesTurn facts tells before out r n after out') ss i ts
 
 module _ {G : Type 0} (facts : Facts) (st : GuardSettings) where
-  -- Guards look at some of the sockets. Then the socket at i is due, its own guard has looked at it, and it is the first
-  -- such from the place whose turn it is.
+  -- Guards look at some of the sockets. Then the socket at i is due, its own guard has looked at it, and it is the
+  -- first such from the place whose turn it is.
   pub record Readies (ss : List (Slot G)) (turn i : ℕ) (seen : List (Slot G)) : Type 0 where
     pub changed : ChangesEach (MayLook st (moment_of facts)) ss seen
     pub next : IsNext (Due facts) seen turn i

@@ -108,9 +108,11 @@ impl<W: Words> Interface<W> {
     /// Writes the next packet of a socket that is due at this moment into `out`, and answers its length; 0 where no
     /// socket is due. The turn goes round: it begins behind the socket that spoke last.
     ///
-    /// Before its turn the guard of a TCP socket looks at it, as `Guard::watch`; and where no socket is due, the guard of
-    /// each has looked at it as it is. Sockets that were not lent, have taken no segment and ask for a later moment are
-    /// not asked again, however many they are. A socket that is due and has nothing to say after all has had its turn. Where `out` is too short for the packet, `TooShort`: its socket offers it again.
+    /// Before its turn the guard of a TCP socket looks at it, as `Guard::watch`. Where the answer is 0, the guard of each
+    /// has looked at it as it is, so that what only the peer can end comes to its end in time. A socket that was not
+    /// lent, took no segment and asks for a later moment is not asked, so a call costs no more for it; after another MTU
+    /// or other guards each is asked once. A socket that is due and has nothing to say after all has had its turn.
+    /// Where `out` is too short for the packet, `TooShort`: its socket offers it again.
     pub fn emit<G: TsvalSource>(
         &mut self,
         sockets: &mut SocketSet<'_, G>,
@@ -157,7 +159,8 @@ impl<W: Words> Interface<W> {
 impl<W: Words> Interface<W> {
     /// When `emit` next has something to do: the earliest moment at which a socket is due, as its guard allows. The
     /// moment is that of the last `emit` or `receive`, and the guards are as they were left there: so ask after an
-    /// `emit` that answered 0.
+    /// `emit` that answered 0. The answer lies after its moment then, and no other socket is asked than the one that it
+    /// comes from; else it may take a walk.
     pub fn poll_at<G: TsvalSource>(&self, sockets: &SocketSet<'_, G>) -> PollAt
         ensures { result ≡ earliest (facts_by ⟦<IpAddress as PartialEq>⟧.eq self.now.inner.environment)
             sockets.now.slots.items }
@@ -203,8 +206,8 @@ impl<W> Interface<W> {
         self.counters
     }
 
-    /// Sets how long a peer may leave a TCP connection of a set waiting, from the next `emit` on, for each of its sockets.
-    /// In a new interface as `GuardSettings::new`.
+    /// Sets how long a peer may leave a TCP connection of a set waiting: from the next `emit` on, for each of its
+    /// sockets. In a new interface as `GuardSettings::new`.
     pub fn set_guards(&mut self, guards: GuardSettings)
         ensures guards { self.new.guards ≡ guards }
         ensures same { (self.new.inner ≡ self.old.inner) × (self.new.turn ≡ self.old.turn)

@@ -24,9 +24,8 @@ fn turn_at<G: TsvalSource>(
 ) -> (Result<(), TooShort>, usize)
     requires { i < length sockets.old.slots.items }
     ensures within { result.1 ≤ length out.old }
-    ensures table { TurnAt (facts_by ⟦<IpAddress as PartialEq>⟧.eq environment.entry.now) G.tells sockets.old.slots.items i
-        out.old
-        result.0 result.1 sockets.new.slots.items out.new }
+    ensures table { TurnAt (facts_by ⟦<IpAddress as PartialEq>⟧.eq environment.entry.now) G.tells
+        sockets.old.slots.items i out.old result.0 result.1 sockets.new.slots.items out.new }
     ensures terms { sockets.new.terms ≡ sockets.old.terms }
 {
     sockets.lend(i);

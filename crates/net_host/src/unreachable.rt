@@ -160,8 +160,9 @@ fn may_tell(own: bool, error: &Option<Mail<'_>>, limit: &Limit, now: Instant) ->
 }
 
 /// Tells the sender of a packet that nobody takes: writes the error at the beginning of `out`, and answers its length.
-/// 0 where the packet is not to an own address, a raw socket takes it, the limit allows no more, there is no such error,
-/// or it does not fit the MTU or the buffer. Whether a raw socket takes it is asked last, since that may need a walk.
+/// 0 where the packet is not to an own address, a raw socket takes it, the limit allows no more, there is no such
+/// error, or it does not fit the MTU or the buffer. Whether a raw socket takes it is asked last, since that may need a
+/// walk.
 pub(crate) fn tell_sender<C: Context, G: TsvalSource>(
     sockets: &mut SocketSet<'_, G>,
     cx: &C,

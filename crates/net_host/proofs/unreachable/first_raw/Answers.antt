@@ -1,4 +1,4 @@
-use Rattle.std.proofs.Common.{None, subst, ap, ◌∙◌}
+use Rattle.std.proofs.Common.{None, subst}
 use Rattle.net_host.specs.Filing.{keys_of}
 use Rattle.net_host.specs.Entries.{FindsListed}
 use Rattle.net_host.specs.Finding.{IsThere}
