@@ -1,5 +1,6 @@
 -- Whether a packet is looked at, by its addresses.
-use Rattle.std.specs.Prelude.{ℕ, ◌==◌, ◌&&◌, ◌||◌, nat_le, Bool, true, false, List, slice_index, slice_range, Option, Some, None}
+use Rattle.std.specs.Prelude.{ℕ, ◌==◌, ◌&&◌, ◌||◌, nat_le, Bool, true, false, List, slice_index, slice_range, Option}
+use Rattle.std.specs.Prelude.{Some, None}
 use Rattle.std.specs.Prelude.{if◌then◌else◌}
 use Rattle.ip_wire.specs.Address.{all_zero, is_multicast}
 use Rattle.ip_wire.specs.IpHeader.{dst_addr_of, src_addr_of}

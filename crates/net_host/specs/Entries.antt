@@ -1,5 +1,7 @@
 -- The entries of an index, in order.
-use Rattle.std.specs.Prelude.{ℕ, ◌≡◌, ◌<◌, ◌≤◌, ◌+◌, ◌*◌, ◌^◌, ◌&&◌, ◌||◌, Bool, true, false, nat_eq, unsigned_abs, int_le, pos, negsuc, ◌+ℤ◌, ◌≤ℤ◌, ◌<ℤ◌, List, length, [], ◌∷◌, get_or, Option, Some, None, IfSome, slice_get, if◌then◌else◌}
+use Rattle.std.specs.Prelude.{ℕ, ◌≡◌, ◌<◌, ◌≤◌, ◌+◌, ◌*◌, ◌^◌, ◌&&◌, ◌||◌, Bool, true, false, nat_eq, unsigned_abs}
+use Rattle.std.specs.Prelude.{int_le, pos, negsuc, ◌+ℤ◌, ◌≤ℤ◌, ◌<ℤ◌, List, length, [], ◌∷◌, get_or, Option, Some, None}
+use Rattle.std.specs.Prelude.{IfSome, slice_get, if◌then◌else◌}
 use Rattle.net_base.specs.declared.time.Instant.{Instant}
 use Rattle.net_host.specs.declared.index.Entry.{Entry}
 
@@ -45,7 +47,8 @@ entry_at key k = record { major = key.major; minor = key.minor; place = k }
 -- ---- a walk through the entries under a key
 
 -- among the places with an entry under the key, the first whose element P holds of
-pub record IsFirstListed {X : Type 0} (P : X → Type 0) (xs : List X) (es : List Entry) (key : Entry) (i : ℕ) : Type 0 where
+pub record IsFirstListed {X : Type 0} (P : X → Type 0) (xs : List X) (es : List Entry) (key : Entry) (i : ℕ)
+    : Type 0 where
   pub holds : IfSome (slice_get xs i) P
   pub within : i < length xs
   pub before : (k : ℕ) → k < i → has es (entry_at key k) ≡ true → IfSome (slice_get xs k) (λ x. P x → ⊥)

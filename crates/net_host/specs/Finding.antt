@@ -1,5 +1,6 @@
 -- What is looked for in an index, for a segment.
-use Rattle.std.specs.Prelude.{ℕ, ◌≡◌, ◌+◌, ◌*◌, ◌<◌, true, false, List, length, Option, Some, None, IfSome, slice_get, ⊤, ◌==◌, if◌then◌else◌}
+use Rattle.std.specs.Prelude.{ℕ, ◌≡◌, ◌+◌, ◌*◌, ◌<◌, true, false, List, length, Option, Some, None, IfSome, slice_get}
+use Rattle.std.specs.Prelude.{⊤, ◌==◌, if◌then◌else◌}
 use Rattle.ip_wire.specs.IpHeader.{src_addr_of}
 use Rattle.ip_wire.specs.declared.repr.IpRepr.{IpRepr}
 use Rattle.net_base.specs.declared.time.Instant.{Instant}
@@ -31,7 +32,8 @@ with_minor None minor t = None
 with_minor (Some n) minor t = if n == minor then Some t else None
 
 -- the socket that an entry leads to rests until this moment, which the entry has
-pub record RestsSo {G : Type 0} (ip : IpRepr) (s : Segment) (ss : List (Slot G)) (e : Entry) (t : Instant) : Type 0 where
+pub record RestsSo {G : Type 0} (ip : IpRepr) (s : Segment) (ss : List (Slot G)) (e : Entry) (t : Instant)
+    : Type 0 where
   pub within : e.place < length ss
   pub holds : IfSome (slice_get ss e.place) (RestsUntil ip s t)
   pub ordered : is_ordered t ≡ true

@@ -1,5 +1,6 @@
 -- Places that are filed in an index under their keys.
-use Rattle.std.specs.Prelude.{ℕ, ◌≡◌, ◌&&◌, ◌||◌, not, nat_eq, Bool, true, false, List, Option, Some, None, slice_get, if◌then◌else◌}
+use Rattle.std.specs.Prelude.{ℕ, ◌≡◌, ◌&&◌, ◌||◌, not, nat_eq, Bool, true, false, List, Option, Some, None, slice_get}
+use Rattle.std.specs.Prelude.{if◌then◌else◌}
 use Rattle.net_host.specs.Entries.{entry_at, has, is_entry}
 use Rattle.net_host.specs.declared.index.Entry.{Entry}
 use Rattle.net_host.specs.declared.key.Key.{Key}

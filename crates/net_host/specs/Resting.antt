@@ -1,5 +1,6 @@
 -- Connections in TIME-WAIT that give way to a SYN, and sockets that serve a port.
-use Rattle.std.specs.Prelude.{ℕ, ◌≡◌, ◌<◌, ◌&&◌, nat_lt, int_lt, ◌≤ℤ◌, ◌<ℤ◌, List, length, Bool, true, false, Option, Some, None, IfSome, slice_get}
+use Rattle.std.specs.Prelude.{ℕ, ◌≡◌, ◌<◌, ◌&&◌, nat_lt, int_lt, ◌≤ℤ◌, ◌<ℤ◌, List, length, Bool, true, false, Option}
+use Rattle.std.specs.Prelude.{Some, None, IfSome, slice_get}
 use Rattle.ip_wire.specs.declared.repr.IpRepr.{IpRepr}
 use Rattle.net_base.specs.declared.time.Instant.{Instant}
 use Rattle.control_wire.specs.Segment.{Segment}

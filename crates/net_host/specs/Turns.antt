@@ -58,7 +58,9 @@ delayed true now asked = asked
 delayed false now asked = not_before (after now (record { micros = 1 })) asked
 
 abbrev pub slot_poll : {G : Type 0} → Slot G → Facts → PollAt
-slot_poll s f = delayed (may_speak s (moment_of f)) (moment_of f) (asked_of s.guard.phase s.guard.end s.guard.last s.socket f)
+slot_poll s f =
+    delayed (may_speak s (moment_of f)) (moment_of f)
+    (asked_of s.guard.phase s.guard.end s.guard.last s.socket f)
 
 abbrev pub is_due : {G : Type 0} → Facts → Slot G → Bool
 is_due f s = is_reached (slot_poll s f) (moment_of f)

@@ -1,5 +1,6 @@
 -- What tells a sender that nobody takes its packet.
-use Rattle.std.specs.Prelude.{ℕ, ◌≡◌, ◌+◌, ◌-◌, min, Bool, not, ◌&&◌, if◌then◌else◌, List, length, take, Option, Some, None, is_some}
+use Rattle.std.specs.Prelude.{ℕ, ◌≡◌, ◌+◌, ◌-◌, min, Bool, not, ◌&&◌, if◌then◌else◌, List, length, take, Option, Some}
+use Rattle.std.specs.Prelude.{None, is_some}
 use Rattle.ip_wire.specs.IpHeader.{dst_addr_of}
 use Rattle.ip_wire.specs.declared.protocol.IpProtocol.TheVariants as protocol
 use Rattle.ip_wire.specs.declared.repr.IpRepr.{IpRepr}

@@ -1,6 +1,7 @@
 //! An address of an interface, with the length of its prefix.
 ghost use Rattle.std.specs.Prelude.{◌≡◌, ◌≤◌, ◌-◌, ◌%◌, ◌^◌, ◌==◌};
-ghost use Rattle.net_host.specs.Addresses.{agree, covers, covers_by, all_ones_behind, is_directed, is_limited, number_v4};
+ghost use Rattle.net_host.specs.Addresses.{agree, covers, covers_by, all_ones_behind, is_directed, is_limited};
+ghost use Rattle.net_host.specs.Addresses.{number_v4};
 ghost use Rattle.net_host.specs.Addresses.{number_v6};
 
 use smoltcp_socket::wire::{IpAddress, Ipv4Address, Ipv6Address};

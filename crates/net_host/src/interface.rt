@@ -51,14 +51,14 @@ impl<W: Words> Interface<W> {
     /// The first row that fits: a packet that is malformed, or has a source that no single other host has, or another
     /// destination than an address of the interface or a broadcast, is dropped and counted. Of any other each raw
     /// socket that accepts it takes a copy. Then a broadcast that carries no UDP datagram is dropped, and another
-    /// protocol than TCP, UDP and ICMP, of which the sender is told over IPv4 (RFC 1122, section 3.2.2.1). A segment goes to the first connection that accepts it, in the order of
-    /// handles, else to the first socket that listens and accepts it. One for no socket is answered by an RST (RFC
-    /// 9293, section 3.10.7.1), unless it is one, at most `ANSWERS_A_SECOND` times a second. A datagram goes to the
-    /// first UDP socket that accepts it; of one that none does the sender is told by an ICMP error (RFC 1122, section
-    /// 4.1.3.1; RFC 4443, section 3.1). Errors go out for packets to an own address that no raw socket takes, at most
-    /// `ANSWERS_A_SECOND` times a second, and fit the MTU. Of an ICMP message each ICMP socket that accepts it takes a copy, and an echo
-    /// request is answered (RFC 792; RFC 4443, section 4.2), by at most as many bytes as the MTU. No other socket
-    /// changes.
+    /// protocol than TCP, UDP and ICMP, of which the sender is told over IPv4 (RFC 1122, section 3.2.2.1). A segment
+    /// goes to the first connection that accepts it, in the order of handles, else to the first socket that listens and
+    /// accepts it. One for no socket is answered by an RST (RFC 9293, section 3.10.7.1), unless it is one, at most
+    /// `ANSWERS_A_SECOND` times a second. A datagram goes to the first UDP socket that accepts it; of one that none
+    /// does the sender is told by an ICMP error (RFC 1122, section 4.1.3.1; RFC 4443, section 3.1). Errors go out for
+    /// packets to an own address that no raw socket takes, at most `ANSWERS_A_SECOND` times a second, and fit the MTU.
+    /// Of an ICMP message each ICMP socket that accepts it takes a copy, and an echo request is answered (RFC 792; RFC
+    /// 4443, section 4.2), by at most as many bytes as the MTU. No other socket changes.
     ///
     /// `TooShort` where `reply` is shorter than the MTU, or than the 100 bytes of the longest reply of a TCP socket;
     /// nothing happens then.
@@ -108,11 +108,11 @@ impl<W: Words> Interface<W> {
     /// Writes the next packet of a socket that is due at this moment into `out`, and answers its length; 0 where no
     /// socket is due. The turn goes round: it begins behind the socket that spoke last.
     ///
-    /// Before its turn the guard of a TCP socket looks at it, as `Guard::watch`. Where the answer is 0, the guard of each
-    /// has looked at it as it is, so that what only the peer can end comes to its end in time. A socket that was not
-    /// lent, took no segment and asks for a later moment is not asked, so a call costs no more for it; after another MTU
-    /// or other guards each is asked once. A socket that is due and has nothing to say after all has had its turn.
-    /// Where `out` is too short for the packet, `TooShort`: its socket offers it again.
+    /// Before its turn the guard of a TCP socket looks at it, as `Guard::watch`. Where the answer is 0, the guard of
+    /// each has looked at it as it is, so that what only the peer can end comes to its end in time. A socket that was
+    /// not lent, took no segment and asks for a later moment is not asked, so a call costs no more for it; after
+    /// another MTU or other guards each is asked once. A socket that is due and has nothing to say after all has had
+    /// its turn. Where `out` is too short for the packet, `TooShort`: its socket offers it again.
     pub fn emit<G: TsvalSource>(
         &mut self,
         sockets: &mut SocketSet<'_, G>,
@@ -139,7 +139,8 @@ impl<W: Words> Interface<W> {
         now: Instant,
         out: &mut [u8],
     ) -> Result<usize, TooShort>
-        ensures table { EmitsAt ⟦<IpAddress as PartialEq>⟧.eq G.tells now self.old sockets.old.slots.items out.old result
+        ensures table { EmitsAt ⟦<IpAddress as PartialEq>⟧.eq G.tells now self.old sockets.old.slots.items out.old
+            result
             self.new sockets.new.slots.items out.new }
         ensures within { IfOk result (λ n. n ≤ length out.old) }
         ensures quiet { result ≡ Ok 0 → Nowhere (Due (facts_by ⟦<IpAddress as PartialEq>⟧.eq

@@ -5,7 +5,8 @@ ghost use Rattle.control_wire.specs.Segment.{segment_of};
 ghost use Rattle.net_host.specs.Counts.{counted};
 ghost use Rattle.net_host.specs.Receiving.{ByAddresses, ByKind, IfShort, TakesDatagramOf, TakesOther, TakesPacket};
 ghost use Rattle.net_host.specs.Receiving.{TellsIf};
-ghost use Rattle.net_host.specs.Receiving.{TakesCarried, TakesIcmp, TakesMail, TakesSegment, TakesTcp, TakesUdp, counted_for, counted_if, datagram_in};
+ghost use Rattle.net_host.specs.Receiving.{TakesCarried, TakesIcmp, TakesMail, TakesSegment, TakesTcp, TakesUdp};
+ghost use Rattle.net_host.specs.Receiving.{counted_for, counted_if, datagram_in};
 ghost use Rattle.net_host.specs.Messages.{mail_of};
 ghost use Rattle.net_host.specs.Arrivals.{refusal};
 ghost use Rattle.net_host.specs.Facts.{facts_by};
@@ -35,7 +36,8 @@ impl<W: Words> Interface<W> {
     ) -> usize
         requires { 100 ≤ length out.old }
         ensures within { result ≤ length out.old }
-        ensures table { TakesPacket ⟦<IpAddress as PartialEq>⟧.eq W.word_at G.tells packet.now self.old sockets.old.slots.items
+        ensures table { TakesPacket ⟦<IpAddress as PartialEq>⟧.eq W.word_at G.tells packet.now self.old
+            sockets.old.slots.items
             out.old
             result self.new sockets.new.slots.items out.new }
     {
@@ -267,7 +269,8 @@ impl<W: Words> Interface<W> {
         ensures within { result ≤ length out.old }
         ensures table { IfShort ⟦<IpAddress as PartialEq>⟧.eq W.word_at G.tells (nat_le (length repr.now.payload.now)
             65535)
-            ip.now (segment_of repr.now) self.old sockets.old.slots.items out.old result self.new sockets.new.slots.items out.new }
+            ip.now (segment_of repr.now) self.old sockets.old.slots.items out.old result self.new
+            sockets.new.slots.items out.new }
     {
         if repr.payload.len() <= 65535 {
             self.take_segment(sockets, ip, repr, out)

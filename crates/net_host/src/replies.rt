@@ -6,7 +6,8 @@ ghost use Rattle.ip_wire.specs.Packet.{header_octets};
 ghost use Rattle.control_wire.specs.Fits.{FitsPacket};
 ghost use Rattle.control_wire.specs.Segment.{segment_of};
 ghost use Rattle.sock_tcp.specs.Process.{reply_of};
-ghost use Rattle.net_host.specs.Wire.{CountsDatagram, IsCounted, packet_len, raw_len, reply_len, with_datagram, with_raw, with_reply, with_segment};
+ghost use Rattle.net_host.specs.Wire.{CountsDatagram, IsCounted, packet_len, raw_len, reply_len, with_datagram};
+ghost use Rattle.net_host.specs.Wire.{with_raw, with_reply, with_segment};
 
 use segment_wire::packet::{emit_tcp, emit_udp};
 use smoltcp_socket::wire::{ChecksumCapabilities, IpRepr, TcpRepr, UdpRepr};

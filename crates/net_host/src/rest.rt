@@ -2,7 +2,8 @@
 ghost use Rattle.std.specs.Prelude.{◌≡◌, ◌↔◌, IsTrue, None};
 ghost use Rattle.control_wire.specs.Segment.{segment_of};
 ghost use Rattle.sock_tcp.specs.Process.{IsToListener};
-ghost use Rattle.net_host.specs.Resting.{FindsOldest, OnlyOf, Reopens, RestsFor, RestsUntil, Serves, earlier_of, is_above, is_opening};
+ghost use Rattle.net_host.specs.Resting.{FindsOldest, OnlyOf, Reopens, RestsFor, RestsUntil, Serves, earlier_of};
+ghost use Rattle.net_host.specs.Resting.{is_above, is_opening};
 ghost use Rattle.net_host.specs.Resting.{is_serving};
 ghost use Rattle.net_host.specs.Walks.{Finds};
 

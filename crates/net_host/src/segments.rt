@@ -1,5 +1,6 @@
 //! Which socket takes a TCP segment, and what becomes of it.
-ghost use Rattle.std.specs.Prelude.{◌≡◌, ◌↔◌, ◌<◌, ◌≤◌, IsTrue, IfSome, length, [], option_map, slice_get, true, false, None};
+ghost use Rattle.std.specs.Prelude.{◌≡◌, ◌↔◌, ◌<◌, ◌≤◌, IsTrue, IfSome, length, [], option_map, slice_get, true, false};
+ghost use Rattle.std.specs.Prelude.{None};
 ghost use Rattle.std.specs.Option.{ForSome};
 ghost use Rattle.control_wire.specs.Fits.{FitsPacket};
 ghost use Rattle.control_wire.specs.Segment.{segment_of};
@@ -290,9 +291,11 @@ fn hear_at<C: Context, G: TsvalSource>(
     repr: &TcpRepr<'_>,
 ) -> Option<Reply>
     requires within { i < length sockets.old.slots.items }
-    requires accepted { IfSome (slice_get sockets.old.slots.items i) (TakesSegment listening ip.now (segment_of repr.now)) }
+    requires accepted { IfSome (slice_get sockets.old.slots.items i)
+        (TakesSegment listening ip.now (segment_of repr.now)) }
     requires small { length repr.now.payload.now ≤ 65535 }
-    ensures heard { HearsAt C.facts C.word_at G.tells as_is sockets.old.slots.items i cx.old ip.now (segment_of repr.now) result
+    ensures heard { HearsAt C.facts C.word_at G.tells as_is sockets.old.slots.items i cx.old ip.now
+        (segment_of repr.now) result
         sockets.new.slots.items cx.new }
     ensures bare { ForSome result (λ r. r.1.payload.now ≡ []) }
     ensures fits { ForSome (option_map reply_of result) (λ r. FitsPacket r.0 r.1) }
@@ -313,7 +316,8 @@ fn hear_anew_at<C: Context, G: TsvalSource>(
     requires opening { is_opening (segment_of repr.now) ≡ true }
     requires rests { IfSome (slice_get sockets.old.slots.items i) (Rests ip.now (segment_of repr.now)) }
     requires small { length repr.now.payload.now ≤ 65535 }
-    ensures heard { HearsAt C.facts C.word_at G.tells anew sockets.old.slots.items i cx.old ip.now (segment_of repr.now) result
+    ensures heard { HearsAt C.facts C.word_at G.tells anew sockets.old.slots.items i cx.old ip.now
+        (segment_of repr.now) result
         sockets.new.slots.items cx.new }
     ensures bare { ForSome result (λ r. r.1.payload.now ≡ []) }
     ensures fits { ForSome (option_map reply_of result) (λ r. FitsPacket r.0 r.1) }
