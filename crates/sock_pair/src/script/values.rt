@@ -40,8 +40,8 @@ pub fn rules(word: &[u8]) -> Option<Rules>
     ensures { result ≡ rules_of word.now }
 {
     match word {
-        b"rfc" => Some(Rules::Rfc),
-        b"smoltcp" => Some(Rules::Smoltcp),
+        word if word == b"rfc".as_slice() => Some(Rules::Rfc),
+        word if word == b"smoltcp".as_slice() => Some(Rules::Smoltcp),
         _ => None,
     }
 }
