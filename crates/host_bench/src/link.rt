@@ -56,7 +56,8 @@ impl Link {
     pub fn arrived(&mut self) -> Vec<Vec<u8>> {
         let empty = Vec::new(self.alloc);
         let at = self.at;
-        self.at = if at + 1 < self.lanes.len() { at + 1 } else { 0 };
+        let next = at.wrapping_add(1);
+        self.at = if next < self.lanes.len() { next } else { 0 };
         match self.lanes.get_mut(at) {
             Some(lane) => mem::replace(lane, empty),
             None => empty,

@@ -69,7 +69,7 @@ fn run(
 // The client connects to the server's socket of the same number.
 fn open(client: &mut Side<'_>, server: &mut Side<'_>, i: u32, now: u32) {
     server.listen(i as usize);
-    client.connect(i as usize, FIRST_PORT.wrapping_add(i as u16));
+    client.connect(i as usize, FIRST_PORT.wrapping_add((i % 50_000) as u16));
     exchange(client, server, now);
 }
 
