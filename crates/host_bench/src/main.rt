@@ -4,6 +4,7 @@
 //! and no times.
 #![tactic(auto)]
 
+mod clock;
 mod draw;
 mod link;
 mod many;

@@ -1,6 +1,7 @@
 //! A host with TCP sockets, and what its application does with one of them.
 ghost use Rattle.std.specs.Prelude.{◌≤◌, ◌^◌, length};
 
+use crate::clock::Clock;
 use crate::draw::Digest;
 use net_host::{Interface, IpCidr, Secret, SocketHandle, SocketSet};
 use smoltcp_socket::Socket;
@@ -34,9 +35,9 @@ pub struct Host<S> {
 }
 
 /// A host with TCP sockets.
-pub type Side<'a> = Host<SocketSet<'a>>;
+pub type Side<'a> = Host<SocketSet<'a, Clock>>;
 
-impl<'a> Host<SocketSet<'a>> {
+impl<'a> Host<SocketSet<'a, Clock>> {
     /// A host with as many sockets as the bytes have pairs of buffers of this size.
     pub fn new(
         alloc: Global,
@@ -73,7 +74,7 @@ impl<'a> Host<SocketSet<'a>> {
         if rx.len() > 1 << 30 || tx.len() > 1 << 30 {
             return Err(AllocError);
         }
-        let mut socket = tcp::Socket::new(RingBuffer::new(rx), RingBuffer::new(tx));
+        let mut socket = tcp::Socket::closed(RingBuffer::new(rx), RingBuffer::new(tx), None);
         let _ = socket.set_rules(Rules::Rfc);
         socket.set_min_rto(LEAST_TIMEOUT);
         socket.set_congestion_control(CongestionControl::Reno);
@@ -86,7 +87,7 @@ impl<'a> Host<SocketSet<'a>> {
         }
     }
 
-    fn socket(&mut self, i: usize) -> Option<&mut tcp::Socket<'a>> {
+    fn socket(&mut self, i: usize) -> Option<&mut tcp::Socket<'a, Clock>> {
         let handle = *self.handles.get(i)?;
         self.sockets.tcp_mut(handle)
     }
